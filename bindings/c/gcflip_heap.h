@@ -12,7 +12,7 @@
  * - a flip happens only if its certificate holds, and the flip of a ready collection passes. That each flip asks a checker is
  *   proved one layer below, for CollectedHeap::flip_along and flip in crates/gc_core;
  * - no step lacks room if the new space is at least as large as the heap;
- * - only open, step_begin, step_begin_sized, step_flip, check, work, work_sized, work_within and work_paced can return GCFLIP_NO_MEMORY, and,
+ * - only open, touch, step_begin, step_begin_sized, step_flip, check, work, work_sized, work_within and work_paced can return GCFLIP_NO_MEMORY, and,
  *   while a collection is open, put, put_number, put_nil, raw_write, copy_fields, new_pair, new_from and new_with.
  *
  * What the caller owes, since nothing checks C code:
@@ -86,9 +86,14 @@ static inline gcflip_options gcflip_options_default(uint32_t size, uint8_t mutat
 }
 
 /* Opens an empty heap with these options. All slots and all extra roots hold nil. A record of another size is out of range. A checker that
- * goes along has tables of 6 bytes for each word, which open allocates. Where the system provides pages only when they are first written,
+ * goes along has tables of 2.625 bytes for each word, which open allocates. Where the system provides pages only when they are first written,
  * these tables take memory only for words in use. */
 uint32_t gcflip_heap_open(gcflip_heap *heap, const gcflip_options *options);
+
+/* Writes to all memory of both spaces and of the checker's tables once: GCFLIP_DONE. So no later call meets a page of theirs for the first time,
+ * which can take as long as 1,000 commands. Allocates the space of the first collection, unless one has begun. Changes nothing else. While a
+ * collection is open, its new space is left out. */
+uint32_t gcflip_heap_touch(gcflip_heap *heap);
 
 /* Frees the heap. The handle then has none. */
 uint32_t gcflip_heap_close(gcflip_heap *heap);
@@ -401,9 +406,18 @@ uint32_t gcflip_heap_raw_read(const gcflip_heap *heap, uint8_t m, uint8_t s, uin
 uint32_t gcflip_heap_raw_write(gcflip_heap *heap, uint8_t m, uint8_t s, uint16_t first, uint8_t t, const uint64_t *words, size_t count);
 
 /* Writes the address of the object that slot s refers to: GCFLIP_DONE, or GCFLIP_NO_OBJECT if it refers to none, and `address`
- * keeps what it holds. An object keeps its address until the next flip, which gives it another one. gcflip_heap_counts does not
- * show that a flip happened, so a program that keeps a table by address makes it anew after each flip. */
+ * keeps what it holds. An object keeps its address until the next flip, which gives it another one. The number of flips is the sum of both
+ * counts of gcflip_heap_flip_checks. A program with a table by address compares that sum with the one that it saw before, and looks up
+ * each address of its table by gcflip_heap_moved if the sum has risen by 1. */
 uint32_t gcflip_heap_address(const gcflip_heap *heap, uint8_t m, uint8_t s, uint32_t *address);
+
+/* Writes the address to which the last flip moved the object that had the address `old` before that flip: GCFLIP_DONE, or
+ * GCFLIP_NO_OBJECT if the object died, and `address` keeps what it holds. It does so from a flip until the next collection begins. At any other
+ * time it returns GCFLIP_OUT_OF_RANGE: so a program looks up its table before its next call that may begin a
+ * collection. A call of work begins none after a flip, since it ends with the flip. If no object had the address `old`, the call may return
+ * any of these, and may write any number. It takes constant time, and a flip does nothing for it: the old space stays in memory until a
+ * collection begins, and its links tell where the objects are. */
+uint32_t gcflip_heap_moved(const gcflip_heap *heap, uint32_t old, uint32_t *address);
 
 /* Copies the words of the open collection's new space. The count must be exactly `new_end` of gcflip_counts. A
  * replica's link is its original's address. If no collection is open, no count is right: GCFLIP_OUT_OF_RANGE. */

@@ -17,22 +17,24 @@ static gcflip_heap heap = GCFLIP_NO_HEAP;
 static gcflip_counts counts;
 static gcflip_work work;
 static uint64_t number;
-/* The blocks that share memory, and the words in use by which the sizes of the checker's tables are known. */
-static size_t blocks, end;
+/* The blocks that share memory. */
+static size_t blocks;
 
 static struct {
     void *at;
     size_t size;
 } mapped[MOST_BLOCKS];
 
-/* Returns the bytes that a large allocation has for each word of the heap. */
-static size_t width_of(size_t size)
+/* Returns how many bits a large block has for each word of the heap: a space 64; the standing checker's originals 16, its codes 2 and its starts 1. */
+static size_t bits_of(size_t size)
 {
-    for (size_t width = 1; width <= 8; width *= 2)
-        if (size == width * UINT32_MAX)
-            return width;
-    EXPECT(size == end || size == 4 * end);
-    return size / end;
+    size_t bits = 16;
+    if (size == sizeof(uint64_t) * UINT32_MAX)
+        return 64;
+    while (bits > 0 && size != bits << 29)
+        bits = bits == 16 ? 2 : bits - 1;
+    EXPECT(bits > 0);
+    return bits;
 }
 
 static void map(char *at, size_t size, int flags, int file)
@@ -42,7 +44,7 @@ static void map(char *at, size_t size, int flags, int file)
 
 static void *large(size_t size)
 {
-    size_t width = width_of(size), shared = SHARED * WORDS_OF_BLOCK * width, all = blocks * WORDS_OF_BLOCK * width, slot = 0;
+    size_t bits = bits_of(size), shared = SHARED * WORDS_OF_BLOCK / 8 * bits, all = blocks * WORDS_OF_BLOCK / 8 * bits, slot = 0;
     char *at = mmap(NULL, size, PROT_NONE, MAP_PRIVATE | MAP_ANONYMOUS | MAP_NORESERVE, -1, 0);
     int file = memfd_create("blocks", 0);
     EXPECT(at != MAP_FAILED && file >= 0 && ftruncate(file, (off_t)shared) == 0);
@@ -127,7 +129,7 @@ int main(int count, char **words)
     }
     EXPECT(gcflip_heap_set_nil(&heap, 0, CELL) == GCFLIP_DONE);
     EXPECT(gcflip_heap_counts(&heap, &counts) == GCFLIP_DONE);
-    end = counts.end;
+    const size_t end = counts.end;
     EXPECT(end == 1 + blocks * WORDS_OF_BLOCK + 4 * CELLS);
     expect_list(CELLS - 1);
 

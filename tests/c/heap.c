@@ -174,6 +174,51 @@ static void raws(void)
     EXPECT(row[0] == 9223372036854775800u && address == 7);
 }
 
+/* Tests where a flip moved each object, by the standing checker and by the check of both spaces whole. */
+static void moves(void)
+{
+    for (uint8_t checking = 0; checking < 2; checking++) {
+        gcflip_options options = gcflip_options_default(32, 1);
+        uint32_t address = 77;
+        options.checking = checking;
+        EXPECT(gcflip_heap_moved(&heap, 1, &address) == GCFLIP_CLOSED);
+        EXPECT(gcflip_heap_open(&heap, &options) == GCFLIP_DONE);
+        for (uint32_t flips = 0; flips < 3; flips++) {
+            /* an object that dies, and one that stays: it comes to the front */
+            REPLIES(gcflip_heap_new_object(&heap, 0, 0, KIND, 2), GCFLIP_MADE);
+            REPLIES(gcflip_heap_new_object(&heap, 0, 1, KIND, 3), GCFLIP_MADE);
+            uint32_t dies = 0, stays = 0;
+            REPLIES(gcflip_heap_address(&heap, 0, 0, &dies), GCFLIP_DONE);
+            REPLIES(gcflip_heap_address(&heap, 0, 1, &stays), GCFLIP_DONE);
+            REPLIES(gcflip_heap_set_nil(&heap, 0, 0), GCFLIP_DONE);
+            do {
+                if (work.last == GCFLIP_BEGUN || flips == 0)
+                    REPLIES(gcflip_heap_moved(&heap, stays, &address), GCFLIP_OUT_OF_RANGE);
+                EXPECT(gcflip_heap_work(&heap, 1, &work) == GCFLIP_DONE);
+            } while (work.last != GCFLIP_FLIPPED);
+            EXPECT(address == 77);
+            REPLIES(gcflip_heap_moved(&heap, dies, &address), GCFLIP_NO_OBJECT);
+            EXPECT(address == 77);
+            REPLIES(gcflip_heap_set_number(&heap, 0, 0, 5), GCFLIP_DONE); /* commands change no answer */
+            REPLIES(gcflip_heap_moved(&heap, stays, &address), GCFLIP_DONE);
+            EXPECT(address == 1);
+            gcflip_flip_checks checks = {77, 77};
+            EXPECT(gcflip_heap_flip_checks(&heap, &checks) == GCFLIP_DONE && checks.along + checks.whole == flips + 1);
+            address = 77;
+            /* a number at which no object started gets some answer */
+            (void)gcflip_heap_moved(&heap, 0, &address);
+            (void)gcflip_heap_moved(&heap, 4294967295u, &address);
+            address = 77;
+        }
+        REPLIES(gcflip_heap_step_begin_sized(&heap, 16), GCFLIP_BEGUN);
+        REPLIES(gcflip_heap_moved(&heap, 1, &address), GCFLIP_OUT_OF_RANGE);
+        REPLIES(gcflip_heap_step_give_up(&heap), GCFLIP_DROPPED);
+        REPLIES(gcflip_heap_moved(&heap, 1, &address), GCFLIP_OUT_OF_RANGE);
+        EXPECT(address == 77);
+        close_heap();
+    }
+}
+
 /* Tests copies of several fields at once: between objects with references and raw ones, within one object, and each refusal. */
 static void copies(void)
 {
@@ -778,6 +823,7 @@ int main(void)
     closed();
     commands();
     raws();
+    moves();
     copies();
     mixed();
     steps();

@@ -1,6 +1,6 @@
 /* Performs the calls on standard input, a line each, and prints a line for each: random_calls [RECORD].
-   Compiled with -DRECORD, it records the run into RECORD. Compiled with -DBASIC, it has neither paced work nor extra roots, which the heap in
-   plain C lacks. tests/program/random_calls.py makes the calls and knows the lines.
+   Compiled with -DRECORD, it records the run into RECORD. Compiled with -DBASIC, it has no paced work, no extra roots and no moved addresses,
+   which the heap in plain C lacks. tests/program/random_calls.py makes the calls and knows the lines.
 
    Outputs that a call must leave alone are compared with what they held before. */
 #ifdef RECORD
@@ -292,6 +292,19 @@ static void address(void)
         printf("%s\n", reply(answer));
 }
 
+#ifndef BASIC
+static void moved(void)
+{
+    uint32_t found = 77;
+    uint32_t answer = gcflip_heap_moved(&heap, (uint32_t)a[0], &found);
+    EXPECT(answer == GCFLIP_DONE || found == 77);
+    if (answer == GCFLIP_DONE)
+        printf("moved %u\n", found);
+    else
+        printf("%s\n", reply(answer));
+}
+#endif
+
 #define IS(text) (strcmp(name, text) == 0)
 
 static uint32_t open_heap(void)
@@ -351,6 +364,7 @@ static void perform(const char *name)
     else if (IS("raw_read")) raw_read();
     else if (IS("address")) address();
 #ifndef BASIC
+    else if (IS("moved")) moved();
     else if (IS("work_sized")) work((uint32_t)a[0], a[1], NO_BOUND);
     else if (IS("work_within")) work((uint32_t)a[0], NO_BOUND, a[1]);
     else if (IS("pace")) set_pace();

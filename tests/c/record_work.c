@@ -7,6 +7,14 @@
 
 static gcflip_heap at_once = GCFLIP_NO_HEAP;
 
+/* The options of both heaps. Their flips allocate, since they check both spaces whole. */
+static gcflip_options options_of_both(void)
+{
+    gcflip_options options = gcflip_options_default(64, 2);
+    options.checking = GCFLIP_AT_FLIP;
+    return options;
+}
+
 /* Performs the work in one call. Comes before the include that records. */
 static uint32_t work_at_once(uint32_t most, gcflip_work *work)
 {
@@ -15,7 +23,7 @@ static uint32_t work_at_once(uint32_t most, gcflip_work *work)
 
 static void open_at_once(void)
 {
-    const gcflip_options options = gcflip_options_default(64, 2);
+    const gcflip_options options = options_of_both();
     EXPECT(gcflip_heap_open(&at_once, &options) == GCFLIP_DONE);
     EXPECT(gcflip_heap_new_object(&at_once, 0, 16, 1, 2) == GCFLIP_MADE);
     EXPECT(gcflip_heap_new_object(&at_once, 1, 0, 2, 1) == GCFLIP_MADE);
@@ -33,7 +41,6 @@ static void close_at_once(void)
 }
 
 #include "gcflip_record.h"
-#include "open_heap.h"
 
 FILE *gcflip_trace;
 
@@ -54,11 +61,12 @@ static void work(uint32_t most, uint32_t last, long failing)
 int main(int count, char **names)
 {
     static const uint8_t fields[] = {6, 16, 7};
+    const gcflip_options options = options_of_both();
     gcflip_work none;
     EXPECT(count == 2);
     gcflip_trace = fopen(names[1], "w");
     EXPECT(gcflip_heap_work(&heap, 1, &none) == GCFLIP_CLOSED);
-    EXPECT(open_plain_heap(&heap, 64, 2) == GCFLIP_DONE);
+    EXPECT(gcflip_heap_open(&heap, &options) == GCFLIP_DONE);
     EXPECT(gcflip_heap_work(&heap, 0, &none) == GCFLIP_OUT_OF_RANGE);
     open_at_once();
     gcflip_heap_new_object(&heap, 0, 16, 1, 2);

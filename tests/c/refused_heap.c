@@ -86,6 +86,7 @@ static void set_up_ready(void)
 static uint32_t begin(void) { return gcflip_heap_step_begin(&heap); }
 static uint32_t begin_sized(void) { return gcflip_heap_step_begin_sized(&heap, 64); }
 static uint32_t begin_larger(void) { return gcflip_heap_step_begin_sized(&heap, 2 * WORDS); }
+static uint32_t touch(void) { return gcflip_heap_touch(&heap); }
 static uint32_t put(void) { return gcflip_heap_put(&heap, 0, 0, 0, 0); }
 static uint32_t put_number(void) { return gcflip_heap_put_number(&heap, 0, 0, 0, 1, 5); }
 static uint32_t put_nil(void) { return gcflip_heap_put_nil(&heap, 0, 0, 0, 1); }
@@ -173,18 +174,24 @@ static void opening(int wanted)
     free_all();
 }
 
-/* Checks that `work` reports the steps before a failure, and that the next call meets the failure. */
+/* Checks that `work` reports the steps before a failure, and that the next call meets the failure. A flip that the standing checker accepts
+   allocates nothing, so that no step fails. */
 static void work_before_a_failure(void)
 {
     set_up();
     EXPECT(gcflip_heap_work(&heap, 1, &work) == GCFLIP_DONE && work.last == GCFLIP_BEGUN);
     fail_allocation(1);
     EXPECT(gcflip_heap_work(&heap, 1000, &work) == GCFLIP_DONE);
-    EXPECT(work.steps == 3 && work.copied == 3 && work.last == GCFLIP_PASSED && has_failed());
-    fail_allocation(1);
-    EXPECT(gcflip_heap_work(&heap, 1000, &work) == GCFLIP_NO_MEMORY);
-    fail_allocation(0);
-    EXPECT(gcflip_heap_work(&heap, 1000, &work) == GCFLIP_DONE && work.steps == 1 && work.last == GCFLIP_FLIPPED);
+    if (checking == GCFLIP_ALONG) {
+        EXPECT(work.steps == 4 && work.copied == 3 && work.last == GCFLIP_FLIPPED && !has_failed());
+        fail_allocation(0);
+    } else {
+        EXPECT(work.steps == 3 && work.copied == 3 && work.last == GCFLIP_PASSED && has_failed());
+        fail_allocation(1);
+        EXPECT(gcflip_heap_work(&heap, 1000, &work) == GCFLIP_NO_MEMORY);
+        fail_allocation(0);
+        EXPECT(gcflip_heap_work(&heap, 1000, &work) == GCFLIP_DONE && work.steps == 1 && work.last == GCFLIP_FLIPPED);
+    }
     free_all();
 }
 
@@ -212,6 +219,7 @@ static void read_all(void)
     EXPECT(gcflip_heap_log_entry(&heap, 0, 0, &entry) == GCFLIP_DONE);
     EXPECT(gcflip_heap_raw_read(&heap, 0, 2, 0, numbers, COUNT(numbers)) == GCFLIP_DONE);
     EXPECT(gcflip_heap_address(&heap, 0, 2, &address) == GCFLIP_DONE);
+    EXPECT(gcflip_heap_moved(&heap, address, &address) == GCFLIP_OUT_OF_RANGE);
     EXPECT(gcflip_heap_pace(&heap, &pace) == GCFLIP_DONE);
     EXPECT(gcflip_heap_useful(&heap, &step) == GCFLIP_DONE);
     EXPECT(gcflip_heap_flip_checks(&heap, &checks) == GCFLIP_DONE);
@@ -259,11 +267,27 @@ static void set_up_ready_again(void)
     EXPECT(gcflip_heap_work(&heap, 4, &work) == GCFLIP_DONE && work.last == GCFLIP_PASSED);
 }
 
-/* Checks how many allocations of each call can fail. `tables` is how many tables the checker has between two calls, `flipping` how many
-   allocations the first flip makes, `again` how many a second one makes, and `room` how many the begin between them. */
-static void allocations(int tables, int flipping, int again, int room)
+/* A begin that fails leaves the old space of the last flip, which goes on telling addresses. */
+static void failed_begin(void)
 {
-    opening(3 + tables); /* the words, the roots, and the heap itself */
+    uint32_t address = 77;
+    set_up_flipped();
+    fail_allocation(1);
+    EXPECT(gcflip_heap_moved(&heap, 1, &address) == GCFLIP_DONE && address == 1 && !has_failed());
+    EXPECT(begin_sized() == GCFLIP_NO_MEMORY && has_failed());
+    EXPECT(gcflip_heap_moved(&heap, 1, &address) == GCFLIP_DONE && address == 1);
+    fail_allocation(0);
+    free_all();
+}
+
+/* What a call allocates where its memory is there. */
+enum { NONE = 0 };
+
+/* Checks how many allocations of each call can fail. `tables` is how many tables the checker has between two calls, and `flipping` how many
+   allocations a flip makes. */
+static void allocations(int tables, int flipping)
+{
+    opening(4 + tables); /* the words, the roots, the row for moved roots, and the heap itself */
     EXPECT(failures(set_up, begin) == 2); /* the new space, and the list of logs */
     EXPECT(failures(set_up, begin_sized) == 2);
     EXPECT(failures(set_up, begin_larger) == 2 + tables); /* the tables grow, too */
@@ -293,19 +317,23 @@ static void allocations(int tables, int flipping, int again, int room)
     EXPECT(failures(set_up, work_of_a_word) == 2);
     EXPECT(failures(set_up_ready, work_of_a_word) == flipping);
     EXPECT(failures(set_up_ready, paced_work) == flipping);
-    EXPECT(failures(set_up_flipped, begin) == room);
+    EXPECT(failures(set_up_flipped, begin) == NONE);
     EXPECT(failures(set_up_flipped, begin_sized) == 2); /* another size takes no room that is left */
     EXPECT(failures(set_up_ready_again, check) == 5);
-    EXPECT(failures(set_up_ready_again, flip) == again);
+    EXPECT(failures(set_up_ready_again, flip) == flipping);
+    EXPECT(failures(set_up, touch) == 2); /* the space of the next collection, and the list of its logs */
+    EXPECT(failures(set_up_open, touch) == NONE);
+    EXPECT(failures(set_up_flipped, touch) == NONE);
     work_before_a_failure();
     calls_that_do_not_allocate();
+    failed_begin();
 }
 
 int main(void)
 {
     checking = GCFLIP_ALONG;
-    allocations(3, 1, 0, 0); /* the row for the moved roots, which stays, as the old space does */
+    allocations(4, 0);
     checking = GCFLIP_AT_FLIP;
-    allocations(0, 5, 5, 2); /* the certificate, the moved roots, and the checker's three tables */
+    allocations(0, 5); /* the certificate, its roots, and the checker's three tables */
     return 0;
 }

@@ -232,7 +232,7 @@ def reads_of_roots(folder, words):
 def root_reads(_program, folder):
     """Counts how often a whole collection reads roots. Searches read an extra root at most twice, and a slot at most once for each command that wrote
     a slot. The flip reads each root twice, and each moved one once: it moves the root, and its checker compares both.
-    A flip along reads each moved one once more, when it writes it into the heap."""
+    A flip reads each moved one once more, when it writes it into the heap, and one that is checked whole moves the roots twice."""
     built = library(folder)
     if built is None:
         return
@@ -247,7 +247,7 @@ def root_reads(_program, folder):
         case = "checking %s, %s" % (checking, commands or "no commands")
         yield "reads of roots by searches, %s" % case, None if EXTRA_ROOTS <= searched <= most else "%d reads, at most %d" % (searched, most)
         flipped = reads_of_roots(folder, [path, checking, FLIPPED, *commands])[1] - searched
-        wanted = (4 if checking == ALONG else 3) * (EXTRA_ROOTS + ROOT_SLOTS)
+        wanted = (4 if checking == ALONG else 5) * (EXTRA_ROOTS + ROOT_SLOTS)
         yield "reads of roots by the flip, %s" % case, None if flipped == wanted else "%d reads, wanted %d" % (flipped, wanted)
 
 
@@ -362,6 +362,16 @@ def live_and_far(_program, folder):
     yield "far.c", why or difference(done([path, "2048"]), Outcome(wanted))
 
 
+def pages(_program, folder):
+    """Tests that a heap that was touched meets no new page, and that old spaces of another size are given back in slices."""
+    built = library(folder)
+    if built is None:
+        return
+    path, why = built.build(["gcc", "-O1"], "pages.c", built.archive())
+    for part in ("touch", "slices"):
+        yield "pages.c, %s" % part, why or difference(done([path, part]), Outcome())
+
+
 # What docs/EMBEDDING.md tells in its table of limits, in the order of the arguments of limits.c.
 LIMITS = [r"words of a space \| (\d+),", r"mutators \| (\d+)", r"slots \| (\d+) of each mutator", r"slots \| .* and (\d+) that all share", r"extra roots \| (\d+);",
           r"fields of an object \| (\d+);", r"kinds \| (\d+)", r"numbers \| below 2\^(\d+)", r"bytes of a pair text, of a trace \| (\d+), "]
@@ -419,5 +429,5 @@ def work_remembers(_program, folder):
     yield "instructions of a useful step", why_few or why_many or told
 
 
-GROUPS = [example_programs, long_objects, pauses, programs, musl, images, large_heaps, live_and_far, limits, work_remembers, rebuilt, pkg_config, texts, plays, recorded_work, recording_that_ends, root_reads,
+GROUPS = [example_programs, long_objects, pauses, programs, musl, images, large_heaps, live_and_far, pages, limits, work_remembers, rebuilt, pkg_config, texts, plays, recorded_work, recording_that_ends, root_reads,
           long_run, short_soak]

@@ -63,6 +63,8 @@ class Model:
         self.logs = []
         self.scan_place = self.scan_field = 0
         self.flips = []
+        # Where the last flip moved each object of its old space, or 0 for one that died; None if a collection has begun since.
+        self.former = None
         # The numbers of a pace that the program chooses, and those that it remembers.
         self.factor, self.rate, self.least = 200, 0, 65536
         self.left, self.end, self.logged = 1, 1, 0
@@ -164,6 +166,7 @@ class Model:
         if self.new:
             return "busy"
         self.new = Space(self.space.size if size is None else size)
+        self.former = None
         self.logs = [[] for _ in range(self.mutators)]
         self.scan_place, self.scan_field = 1, 0
         return "begun"
@@ -221,6 +224,7 @@ class Model:
         pairs = [(self.new.words[at + 1], at) for at in self.new.starts()]
         self.roots = [word if word == 0 or word % 2 == 1 else 2 * self.space.words[word // 2 + 1] for word in self.roots]
         self.flips.append((old, (list(self.new.words), list(self.roots), self.new.size), pairs))
+        self.former = {at: self.space.words[at + 1] for at in self.space.starts()}
         self.space, self.new, self.logs = self.new, None, []
         self.unlink()
         return "flipped %d" % len(pairs)

@@ -12,7 +12,7 @@ import time
 from .c_builds import SANITIZERS, SOURCES, WARNINGS, done, library
 from .harness import Outcome, difference, file_of, run
 from .python import TESTS, Python, content_of
-from .random_calls import FRAMES, LOOSE, PACED, random_calls, traces_of
+from .random_calls import FRAMES, LOOSE, MOVES, PACED, random_calls, traces_of
 from .rust import prepared
 
 STARTED = int(time.time())
@@ -79,7 +79,7 @@ def c_calls(_program, folder):
     if built is None:
         return
     driver, why = built_driver(built, "plain", [])
-    for name, calls in lists("C", PACED, LOOSE, FRAMES):
+    for name, calls in lists("C", PACED, LOOSE, FRAMES, MOVES):
         yield name, why or played([driver], calls, wanted_by_c(calls))
 
 
@@ -107,7 +107,7 @@ def python_calls(_program, folder):
         return
     python = Python(built, folder)
     yield "the Python package is built", python.why
-    for name, calls in lists("Python", PACED, LOOSE):
+    for name, calls in lists("Python", PACED, LOOSE, MOVES):
         yield name, played([sys.executable, os.path.join(TESTS, "random_calls.py")], calls, calls.printed, env=python.environment)
 
 

@@ -102,6 +102,8 @@ def performed(heap, name, numbers):
         return worked(heap.work(*numbers))
     if name == "work_within":
         return worked(heap.work_within(*numbers))
+    if name == "moved":
+        return "moved %d" % heap.moved(*numbers)
     if name == "useful":
         return "useful " + " ".join(str(part) for part in heap.useful() if part is not None)
     if name == "flip":

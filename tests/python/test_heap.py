@@ -391,6 +391,38 @@ class Readings(unittest.TestCase):
                 pass
             self.assertEqual(mutator.address(own(1)), 1)
 
+    def test_moved_addresses(self):
+        with Heap(32) as heap:
+            mutator = heap.mutator(0)
+            mutator.new(own(0), 1, 3)
+            mutator.new(own(1), 1, 0)
+            mutator.nil(own(0))
+            while True:
+                with self.assertRaises(gcflip.OutOfRange):
+                    heap.moved(6)
+                if heap.work(1).last == gcflip.Step.FLIPPED:
+                    break
+            self.assertEqual((sum(heap.flip_checks()), heap.moved(6)), (1, 1))
+            with self.assertRaises(gcflip.NoObject):
+                heap.moved(1)
+            heap.begin()
+            with self.assertRaises(gcflip.OutOfRange):
+                heap.moved(6)
+
+    def test_touched_heaps_stay_as_they_are(self):
+        with Heap(64, extra_roots=2) as heap:
+            heap.touch()
+            heap.mutator(0).new(own(0), 1, 3)
+            image = heap.image()
+            heap.touch()
+            self.assertEqual(heap.image(), image)
+            heap.begin()
+            heap.touch()
+            while heap.work(1).last != gcflip.Step.FLIPPED:
+                pass
+            heap.touch()
+            self.assertEqual(heap.moved(1), 1)
+
     def test_images_can_be_checked(self):
         with Heap(16) as heap:
             heap.mutator(0).new(own(0), 1, 0)

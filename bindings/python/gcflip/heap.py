@@ -296,6 +296,11 @@ class Heap:
         """Frees the new space and the logs: DROPPED. Raises Idle."""
         return self._step("give_up")
 
+    def touch(self) -> None:
+        """Writes to all memory of both spaces and of the checker's tables once, so that no later call meets a page of theirs for the first
+        time. While a collection is open, its new space is left out. Raises OutOfMemory."""
+        self._call("touch")
+
     def flip_checks(self) -> FlipChecks:
         """Returns how many flips each checker has accepted since the heap was opened."""
         checks = library.RawFlipChecks()
@@ -393,6 +398,14 @@ class Heap:
             return words
 
         return self._turn.take(copied)
+
+    def moved(self, old: int) -> int:
+        """Returns the address to which the last flip moved the object that had the address `old` before it. Raises NoObject if the object
+        died, and OutOfRange if a collection has begun since the flip, or if no flip has been. If no object had that
+        address, it may raise either, or return any number."""
+        address = ctypes.c_uint32()
+        self._call("moved", old, address)
+        return address.value
 
     def _counts(self) -> library.Counts:
         """Reads the counts. The caller has the turn, so they stay true until it ends."""

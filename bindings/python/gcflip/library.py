@@ -147,6 +147,7 @@ CHECKS: Dict[str, List[Any]] = {
 }
 HEAP: Dict[str, List[Any]] = {
     "open": [POINTER(Options)],
+    "touch": [],
     "close": [],
     "new_object": [MUTATOR, SLOT, c_uint8, c_uint16],
     "new_raw": [MUTATOR, SLOT, c_uint8, c_uint16],
@@ -189,6 +190,7 @@ HEAP: Dict[str, List[Any]] = {
     "raw_read": [MUTATOR, SLOT, c_uint16, c_void_p, c_size_t],
     "raw_write": [MUTATOR, SLOT, c_uint16, SLOT, c_void_p, c_size_t],
     "address": [MUTATOR, SLOT, POINTER(c_uint32)],
+    "moved": [c_uint32, POINTER(c_uint32)],
 }
 
 

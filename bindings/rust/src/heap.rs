@@ -465,6 +465,16 @@ impl Heap {
         replied(self.handle.give_up()).map(drop)
     }
 
+    /// Writes to all memory of both spaces and of the checker's tables once, so that no later call meets a page of theirs for the first time.
+    /// While a collection is open, its new space is left out.
+    ///
+    /// # Errors
+    ///
+    /// Returns `NoMemory` if the space of the first collection cannot be allocated.
+    pub fn touch(&self) -> Result<()> {
+        replied(self.handle.touch()).map(drop)
+    }
+
     /// Returns how many flips each checker has accepted since the heap was opened.
     pub fn flip_checks(&self) -> FlipChecks {
         self.handle.flip_checks().1
@@ -647,6 +657,21 @@ impl Heap {
         let answer = self.handle.new_words(&mut words);
         assert_eq!(answer, sys::GCFLIP_DONE, "the length is that of the new space");
         Ok(words)
+    }
+
+    /// Returns the address to which the last flip moved the object that had the address `old` before it, or `None` if the object died. If no
+    /// object had that address, any answer may come.
+    ///
+    /// # Errors
+    ///
+    /// Returns `OutOfRange` if a collection has begun since the last flip, or if no flip has been.
+    pub fn moved(&self, old: u32) -> Result<Option<u32>> {
+        let (answer, address) = self.handle.moved(old);
+        match replied(answer) {
+            Ok(_) => Ok(Some(address)),
+            Err(Error::NoObject) => Ok(None),
+            Err(error) => Err(error),
+        }
     }
 }
 

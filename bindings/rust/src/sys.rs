@@ -275,6 +275,7 @@ calls! {
         *mut Pair, usize, *mut usize, *mut RawVerdict);
     gcflip_path(u32, u32, bool, *const u64, usize, *const u64, usize, u32, *mut u64, *mut u64, usize, *mut usize);
     gcflip_heap_open(*mut RawHeap, *const RawOptions);
+    gcflip_heap_touch(*mut RawHeap);
     gcflip_heap_close(*mut RawHeap);
     gcflip_heap_new_object(*mut RawHeap, u8, u8, u8, u16);
     gcflip_heap_new_raw(*mut RawHeap, u8, u8, u8, u16);
@@ -320,6 +321,7 @@ calls! {
     gcflip_heap_raw_read(*const RawHeap, u8, u8, u16, *mut u64, usize);
     gcflip_heap_raw_write(*mut RawHeap, u8, u8, u16, u8, *const u64, usize);
     gcflip_heap_address(*const RawHeap, u8, u8, *mut u32);
+    gcflip_heap_moved(*const RawHeap, u32, *mut u32);
 }
 
 // ---- The checker
@@ -445,6 +447,7 @@ macro_rules! results {
 
 answers! {
     open: gcflip_heap_open(options: &RawOptions);
+    touch: gcflip_heap_touch();
     make: gcflip_heap_new_object(m: u8, d: u8, kind: u8, count: u16);
     make_raw: gcflip_heap_new_raw(m: u8, d: u8, kind: u8, count: u16);
     num: gcflip_heap_set_number(m: u8, d: u8, n: u64);
@@ -485,6 +488,7 @@ results! {
     log_length: gcflip_heap_log_length(m: u8) -> usize;
     log_entry: gcflip_heap_log_entry(m: u8, k: usize) -> LogEntry;
     address: gcflip_heap_address(m: u8, s: u8) -> u32;
+    moved: gcflip_heap_moved(old: u32) -> u32;
 }
 
 impl Handle {

@@ -90,6 +90,38 @@ fn numbers_at_once_and_addresses() {
 }
 
 #[test]
+fn objects_are_found_after_a_flip() {
+    let heap = prepared();
+    let mutator = heap.mutator(0).unwrap();
+    mutator.make(A, 1, 0).unwrap();
+    let (shared, own) = (mutator.address(SHARED).unwrap(), mutator.address(A).unwrap());
+    mutator.nil(SHARED);
+    assert_eq!(heap.moved(own), Err(Error::OutOfRange));
+    while !matches!(heap.work(1).unwrap().last, Step::Flipped { .. }) {
+        assert_eq!(heap.moved(own), Err(Error::OutOfRange));
+    }
+    assert_eq!((heap.moved(own), heap.moved(shared)), (Ok(mutator.address(A)), Ok(None)));
+    mutator.make(B, 1, 0).unwrap();
+    assert_eq!(heap.moved(own), Ok(mutator.address(A)));
+    heap.begin().unwrap();
+    assert_eq!(heap.moved(own), Err(Error::OutOfRange));
+}
+
+#[test]
+fn touched_heaps_stay_as_they_are() {
+    let heap = prepared();
+    heap.mutator(0).unwrap().make(A, 1, 3).unwrap();
+    let image = heap.image();
+    heap.touch().unwrap();
+    assert_eq!(heap.image(), image);
+    heap.begin().unwrap();
+    heap.touch().unwrap();
+    while !matches!(heap.work(1).unwrap().last, Step::Flipped { .. }) {}
+    heap.touch().unwrap();
+    assert_eq!(heap.moved(1), Ok(Some(1)));
+}
+
+#[test]
 fn numbers_are_written_at_once() {
     let heap = prepared();
     let mutator = heap.mutator(0).unwrap();

@@ -1,7 +1,7 @@
 //! Tests calls whose allocations fail. This program defines the three functions from which the archive gets memory, and makes one allocation
 //! fail. `docs/EMBEDDING.md` says what the three functions owe.
 
-use gcflip::{check, Error, Frame, Heap, Image, Options, Pair, Refusal, Slot, Step, Value};
+use gcflip::{check, Checking, Error, Frame, Heap, Image, Options, Pair, Refusal, Slot, Step, Value};
 use std::alloc::{alloc, dealloc, realloc, Layout};
 use std::cell::Cell;
 
@@ -112,7 +112,7 @@ fn steps() {
     assert!(refused(Error::NoMemory, || heap.begin()) > 0);
     assert_eq!(heap.work(3).unwrap().last, Step::Passed);
     assert!(refused(Error::NoMemory, || heap.check()) > 0);
-    assert!(refused(Error::NoMemory, || heap.flip()) > 0);
+    assert_eq!(refused(Error::NoMemory, || heap.flip()), 0, "a flip along allocates nothing");
     assert!(refused(Error::NoMemory, || heap.begin_sized(128)) > 0);
     heap.give_up().unwrap();
     assert!(refused(Error::NoMemory, || heap.work(1)) > 0);
@@ -121,6 +121,14 @@ fn steps() {
     assert_eq!(heap.log_length(0), Ok(1), "a failed write is not logged");
     heap.collect().unwrap();
     assert_eq!(mutator.get(SLOT, SLOT, 0), Ok(Value::Object { kind: 1, fields: 1 }));
+}
+
+#[test]
+fn flips_that_are_checked_whole() {
+    let heap = Heap::open_with(Options::new(64, 1).checking(Checking::AtFlip)).unwrap();
+    assert!(refused(Error::NoMemory, || heap.touch()) > 0);
+    heap.begin().unwrap();
+    assert!(refused(Error::NoMemory, || heap.flip()) > 0);
 }
 
 #[test]

@@ -1,9 +1,9 @@
 -- A collection that has just begun belongs to its heap.
-use Rattle.std.proofs.Common.{◌≡◌, ℕ, ◌≤◌, Bool, List, [], map, length, replicate, sym, ◌∙◌, ap, subst, arith}
+use Rattle.std.proofs.Common.{◌≡◌, ℕ, ◌≤◌, ◌<◌, Bool, List, [], map, length, replicate, sym, ◌∙◌, ap, subst, arith}
 use Rattle.std.proofs.lemmas.List.{length-map, length-replicate}
 use Rattle.gc_words.specs.Image.{blocks}
 use Rattle.gc_words.specs.Spelling.{link_at}
-use Rattle.gc_words.specs.Space.{SpaceWords, empty_space}
+use Rattle.gc_words.specs.Space.{SpaceWords, IsSpace, empty_space}
 use Rattle.gc_heap.specs.Heap.{HeapWords, graph_in}
 use Rattle.gc_plan.specs.State.{Collection}
 use Rattle.gc_plan.specs.Steps.{fresh_collection}
@@ -11,7 +11,6 @@ use Rattle.gc_plan.specs.Linked.{old_links}
 use Rattle.gc_plan.specs.Belonging.{Belongs}
 use Rattle.gc_copy.specs.Words.{Log, IsCollection, replicas_in, entries_of, collection_in, HasNoLinks, LinksNothing, BelongsTo}
 use Rattle.gc_plan.specs.Members.{In}
-use Rattle.gc_copy.specs.Internal.Words.{IsRoom}
 use Rattle.gc_plan.proofs.Public.{begun_belongs}
 use Rattle.gc_copy.proofs.Words.{words_numbers}
 
@@ -31,12 +30,13 @@ begun heap space logs size marked none low empty entries = record {
     same = λ i. record { size = (empty i).size; replicas = replicas_in (empty i).words; logs = entries i; scan_place = 1; scan_field = 0 }
 
 -- a collection in an empty space
-pub begun_sound : (space : SpaceWords) (logs : List Log) (marked : Bool) → IsRoom space logs → IsCollection (record { space = space; logs = logs; scan_place = 1; scan_field = 0; marked = marked }) × (0 ≡ length (blocks space.words))
-begun_sound space logs marked room = (
+pub begun_sound : (space : SpaceWords) (logs : List Log) (size : ℕ) (marked : Bool) → IsSpace space → space ≡ empty_space size → length logs < 256
+    → IsCollection (record { space = space; logs = logs; scan_place = 1; scan_field = 0; marked = marked }) × (0 ≡ length (blocks space.words))
+begun_sound space logs size marked shaped empty few = (
   record {
-    space = room.shaped;
-    logs = room.few;
-    originals = λ r l. absurd (subst (λ (s : SpaceWords). In r (replicas_in s.words)) room.empty l);
+    space = shaped;
+    logs = few;
+    originals = λ r l. absurd (subst (λ (s : SpaceWords). In r (replicas_in s.words)) empty l);
   },
-  ap (λ (s : SpaceWords). length (blocks s.words)) (sym room.empty),
+  ap (λ (s : SpaceWords). length (blocks s.words)) (sym empty),
 )

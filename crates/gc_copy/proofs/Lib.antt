@@ -14,6 +14,7 @@ pub mod Flipping
 pub mod LinkedImages
 pub mod Dropping
 pub mod Lowering
+pub mod Moves
 pub mod Mutating
 pub mod Opening
 pub mod LargeSpaces

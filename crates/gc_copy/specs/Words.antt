@@ -1,6 +1,7 @@
 -- A collection as contracts see it: a new space whose links are the originals' addresses, logs with spare capacity, and the scan
 -- pointer.
-use Rattle.std.specs.Prelude.{◌≡◌, ℕ, ◌-◌, ◌<◌, ◌^◌, Bool, if◌then◌else◌, List, ◌++◌, drop, length, map, replicate, slice_get, IsTrue, Option, Some, None}
+use Rattle.std.specs.Prelude.{◌≡◌, ◌↔◌, ℕ, ◌-◌, ◌%◌, ◌<◌, ◌^◌, ◌==◌, Bool, if◌then◌else◌, List, ◌++◌, drop, length, map, replicate, slice_get, IsTrue, IsSome, Option, Some, None}
+use Rattle.gc_graph.specs.Graph.{Graph, lookup}
 use Rattle.gc_words.specs.Word.{word_of}
 use Rattle.gc_words.specs.Image.{Block, blocks, is_start, object_of_block}
 use Rattle.gc_words.specs.Spelling.{link_at}
@@ -24,10 +25,13 @@ pub record CollectionWords : Type 0 where
   pub scan_field : ℕ
   pub marked : Bool
 
--- the memory of a collection: the size of an empty space, and the number of empty logs
+-- The memory of a collection: the size of its space, and the number of empty logs. Until a collection begins in it, the space has the words
+-- of the heap before the last flip, and `marked` says whether the links of originals have a mark.
 pub record RoomWords : Type 0 where
   pub size : ℕ
   pub mutators : ℕ
+  pub former : List ℕ
+  pub marked : Bool
 
 -- ---- the collection that the words represent
 
@@ -106,3 +110,17 @@ spare_in (Some log) = log.spare
 
 abbrev pub spare_of : CollectionWords → ℕ → ℕ
 spare_of c m = spare_in (slice_get c.logs m)
+
+-- ---- where objects went
+
+-- the place that a link leads to: none if it is 0
+abbrev pub place_told : ℕ → Option ℕ
+place_told link = if link == 0 then None else Some link
+
+-- where the object at this address of the former words went: the low 32 bits of what its link has above the mark
+abbrev pub moved_in : RoomWords → ℕ → Option ℕ
+moved_in room a = place_told ((link_at room.former a - mark_of room.marked) % 2 ^ 32)
+
+-- The room tells b of an object a of this graph exactly if (a, b) is one of these pairs.
+abbrev pub TellsMoves : Graph → List (ℕ × ℕ) → RoomWords → Type 0
+TellsMoves graph pairs room = (a b : ℕ) → IsSome (lookup graph.objects a) → (moved_in room a ≡ Some b) ↔ In {X = ℕ × ℕ} (a, b) pairs

@@ -130,10 +130,10 @@ none_copied old m to from count d s t reply is other =
 -- ---- what is known of the roots
 
 pub copies_know : (count : ℕ) (known : KnownRoots) (s : State) (m i j : ℕ) (d from t : SlotName) → t.index < 16 → m < s.mutators → KnowsRoots known s
-    → KnowsRoots (record { slots = 0; extra = known.extra; used = known.used }) (copy_step s m d i from j t count)
+    → KnowsRoots (record { slots = 0; extra = known.extra; used = known.used; count = known.count }) (copy_step s m d i from j t count)
 copies_know zero known s m i j d from t low less k = forgotten known s k
 copies_know (suc count) known s m i j d from t low less k =
-    let after : KnownRoots = record { slots = 0; extra = known.extra; used = known.used } in
+    let after : KnownRoots = record { slots = 0; extra = known.extra; used = known.used; count = known.count } in
     let one = mutate s m (Get t from j) in
     let two = mutate one.1 m (Put d i t) in
     let below : WritesBelow (roots_of s.mutators) m (Get t from j) = λ q. one_below (place t m) q (roots_of s.mutators) (slot_below t m s.mutators low less) in

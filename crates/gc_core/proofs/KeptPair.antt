@@ -1,4 +1,4 @@
--- The pair that a flip returns, put together from its parts.
+-- The pair that a flip returns, put together from its parts, and the room that it leaves.
 use Rattle.std.proofs.Common.{◌≡◌, ℕ, Bool, true, false, List, Option, Some, refl, sym, subst}
 use Rattle.std.specs.Option.{option_map}
 use Rattle.gc_words.specs.Image.{Image}
@@ -6,8 +6,8 @@ use Rattle.gc_words.specs.Certificate.{Certified}
 use Rattle.gc_heap.specs.Heap.{HeapWords, graph_in}
 use Rattle.gc_cert.specs.Grammar.{CertifiedPair}
 use Rattle.std.specs.Prelude.{IfSome}
-use Rattle.gc_plan.specs.State.{State}
-use Rattle.gc_copy.specs.Words.{CollectionWords, collection_in, state_of, open_state}
+use Rattle.gc_plan.specs.State.{State, pairs_of}
+use Rattle.gc_copy.specs.Words.{CollectionWords, RoomWords, TellsMoves, collection_in, state_of, open_state}
 use Rattle.gc_plan.specs.declared.step.StepReply.{StepReply}
 use Rattle.gc_plan.specs.declared.step.StepReply.TheVariants.{Flipped}
 use Rattle.gc_plan.specs.Steps.{is_ready}
@@ -37,6 +37,13 @@ pub pair_now : (says : CertifiedPair → Type 0) (heap : HeapWords) (was : Optio
 pair_now says heap was c now is view h =
     subst (λ (s : State). IfSome s.collection (λ d. says (flip_pair s d))) view
     (subst (λ o. IfSome (option_map collection_in o) (λ d. says (flip_pair (state_of heap (option_map collection_in o)) d))) (sym is) h)
+
+-- a room that tells the pairs of the open collection
+pub room_now : (heap : HeapWords) (was : Option CollectionWords) (c : CollectionWords) (now : State) (room : RoomWords) → was ≡ Some c → state_of heap (option_map collection_in was) ≡ now
+    → TellsMoves (graph_in heap) (pairs_of (collection_in c)) room → IfSome now.collection (λ d. TellsMoves now.heap.graph (pairs_of d) room)
+room_now heap was c now room is view h =
+    subst (λ (s : State). IfSome s.collection (λ d. TellsMoves s.heap.graph (pairs_of d) room)) view
+    (subst (λ o. IfSome (option_map collection_in o) (λ d. TellsMoves (graph_in heap) (pairs_of d) room)) (sym is) h)
 
 -- a checker that is sure of a ready collection of this state is sure of the one that is open
 pub sure_then : (sure : ImageOutline → ImageOutline → Type 0) (heap : HeapWords) (was : Option CollectionWords) (c : CollectionWords) (now : State) → was ≡ Some c → state_of heap (option_map collection_in was) ≡ now

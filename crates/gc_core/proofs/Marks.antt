@@ -1,6 +1,6 @@
 -- What commands and steps leave of the marks of a collected heap.
-use Rattle.std.proofs.Common.{◌≡◌, ◌≢◌, ⊎_elim, ℕ, zero, suc, ◌+◌, ◌-◌, ◌<◌, ◌≤◌, nat_lt, List, [], ◌∷◌, length, slice_get, replicate, Option, Some, None, refl, sym, ap, ◌∙◌, subst, arith}
-use Rattle.std.specs.Prelude.{IfSome, slice_set, min, max}
+use Rattle.std.proofs.Common.{◌≡◌, ◌≢◌, ⊎_elim, ℕ, zero, suc, ◌+◌, ◌-◌, ◌<◌, ◌≤◌, nat_lt, List, [], ◌∷◌, length, map, slice_get, replicate, Option, Some, None, refl, sym, ap, ◌∙◌, subst, arith}
+use Rattle.std.specs.Prelude.{IfSome, slice_index, slice_set, false, min, max}
 use Rattle.std.specs.Option.{option_map}
 use Rattle.std.proofs.lemmas.Bool.{cond_both, cond-true, cond-false, cases_lt, cases_eq, lt-ltb, le-ltb, ltb-true}
 use Rattle.gc_graph.specs.Slots.{SlotName, place, roots_of}
@@ -12,13 +12,13 @@ use Rattle.gc_heap.proofs.Public.{extra_place}
 use Rattle.gc_core.specs.ExtraRoots.{clear_step}
 use Rattle.std.proofs.lemmas.List.{length-map, length-replicate}
 use Rattle.gc_words.specs.Word.{value_of}
-use Rattle.gc_heap.specs.Heap.{HeapWords, graph_in}
+use Rattle.gc_heap.specs.Heap.{HeapWords, empty_heap, graph_in}
 use Rattle.gc_graph.specs.declared.command.Op.{Op}
 use Rattle.gc_graph.specs.declared.command.Op.TheVariants as ops
 use Rattle.gc_graph.specs.declared.reply.Reply.{Reply}
 use Rattle.gc_graph.specs.declared.reply.Reply.TheVariants as replies
 use Rattle.gc_plan.specs.State.{Collection, State}
-use Rattle.gc_copy.specs.Opening.{opening_state_with}
+use Rattle.gc_copy.specs.Words.{LinksNothing, state_of}
 use Rattle.gc_plan.specs.Staying.{HasReplicaOf, KnowsRoot, root_written}
 use Rattle.gc_plan.specs.Steps.{mutate, collect, collect_with, with_collection, root_target, copy_root, place_replica, if_room}
 use Rattle.gc_plan.specs.declared.step.Step.{Step}
@@ -31,6 +31,10 @@ use Rattle.gc_plan.proofs.Public.{steps_stay, collect_stays, mutate_stays, root_
 use Rattle.gc_core.specs.CollectedHeap.{fill_step, filled, new_from_step}
 use Rattle.gc_core.specs.Internal.KnownRoots.{KnowsRoots, FindsFirst, next_place}
 use Rattle.gc_core.specs.declared.known.KnownRoots.{KnownRoots}
+
+-- what is known of a heap and its marks, with the room of the row for moved roots
+pub with_row : {A B C : Type 0} → C → A × B → A × B × C
+with_row c pair = (pair.0, pair.1, c)
 
 -- ---- roots in use
 
@@ -64,11 +68,12 @@ not_this end m op p below le e = let less = below p e in absurd (omega (arith, l
 
 -- a command that writes at most a slot
 pub slot_command : (known : KnownRoots) (s : State) (m : ℕ) (op : Op) → WritesBelow (roots_of s.mutators) m op → KnowsRoots known s
-    → KnowsRoots (record { slots = 0; extra = known.extra; used = known.used }) (mutate s m op).1
+    → KnowsRoots (record { slots = 0; extra = known.extra; used = known.used; count = known.count }) (mutate s m op).1
 slot_command known s m op below k = record {
   slots_high = omega arith;
   extra_high = k.extra_high;
   used_high = omega (arith, roots_counted s m op, k.used_high);
+  counted = omega (arith, roots_counted s m op, k.counted);
   slots = λ p less. absurd (omega (arith, less));
   extra = λ i less. mutate_stays s m op (roots_of s.mutators + i) (not_this (roots_of s.mutators) m op (roots_of s.mutators + i) below (omega arith)) (k.extra i less);
   unused = λ i le. root_kept s m op (roots_of s.mutators + i) (not_this (roots_of s.mutators) m op (roots_of s.mutators + i) below (omega arith)) ∙ k.unused i le;
@@ -80,6 +85,7 @@ quiet_command known s m op none k = record {
   slots_high = k.slots_high;
   extra_high = k.extra_high;
   used_high = omega (arith, roots_counted s m op, k.used_high);
+  counted = omega (arith, roots_counted s m op, k.counted);
   slots = λ p less. mutate_stays s m op p (other p) (k.slots p less);
   extra = λ i less. mutate_stays s m op (roots_of s.mutators + i) (other (roots_of s.mutators + i)) (k.extra i less);
   unused = λ i le. root_kept s m op (roots_of s.mutators + i) (other (roots_of s.mutators + i)) ∙ k.unused i le;
@@ -90,11 +96,12 @@ quiet_command known s m op none k = record {
 
 -- a command that writes extra root i
 pub stored_command : (known : KnownRoots) (s : State) (m i : ℕ) (op : Op) → root_written m op ≡ Some (roots_of s.mutators + i) → roots_of s.mutators + i < length s.heap.graph.roots → KnowsRoots known s
-    → KnowsRoots (record { slots = known.slots; extra = min known.extra i; used = max known.used (i + 1) }) (mutate s m op).1
+    → KnowsRoots (record { slots = known.slots; extra = min known.extra i; used = max known.used (i + 1); count = known.count }) (mutate s m op).1
 stored_command known s m i op at within k = record {
   slots_high = k.slots_high;
   extra_high = omega (arith, k.extra_high);
   used_high = omega (arith, roots_counted s m op, k.used_high, within);
+  counted = omega (arith, roots_counted s m op, k.counted);
   slots = λ p less. mutate_stays s m op p (other p (omega (arith, less, k.slots_high))) (k.slots p less);
   extra = λ j less. mutate_stays s m op (roots_of s.mutators + j) (other (roots_of s.mutators + j) (omega (arith, less))) (k.extra j (omega (arith, less)));
   unused = λ j le. root_kept s m op (roots_of s.mutators + j) (other (roots_of s.mutators + j) (omega (arith, le))) ∙ k.unused j (omega (arith, le));
@@ -119,6 +126,7 @@ step_knows known s c step is other k =
       slots_high = k.slots_high;
       extra_high = k.extra_high;
       used_high = k.used_high;
+      counted = k.counted;
       slots = λ p less. subst (λ (t : State). KnowsRoot t p) stays (collect_stays p s c step is (k.slots p less));
       extra = λ i less. subst (λ (t : State). KnowsRoot t (roots_of s.mutators + i)) stays (collect_stays (roots_of s.mutators + i) s c step is (k.extra i less));
       unused = k.unused;
@@ -197,26 +205,26 @@ filled_knows known replies.Yes made m d fields k = fill_knows known made m d 0 f
 filled_knows known replies.No made m d fields k = fill_knows known made m d 0 fields k
 
 pub from_knows : (known : KnownRoots) (s new : State) (m kind : ℕ) (d : SlotName) (fields : List SlotName) (reply : Reply) → d.index < 16 → m < s.mutators → new_from_step s m d kind fields ≡ (reply, new) → KnowsRoots known s
-    → KnowsRoots (record { slots = 0; extra = known.extra; used = known.used }) new
+    → KnowsRoots (record { slots = 0; extra = known.extra; used = known.used; count = known.count }) new
 from_knows known s new m kind d fields reply low less steps k =
     let op = ops.New d kind (length fields) in
-    let after : KnownRoots = record { slots = 0; extra = known.extra; used = known.used } in
+    let after : KnownRoots = record { slots = 0; extra = known.extra; used = known.used; count = known.count } in
     let below : WritesBelow (roots_of s.mutators) m op = λ q. one_below (place d m) q (roots_of s.mutators) (slot_below d m s.mutators low less) in
     subst (KnowsRoots after) (ap (λ (x : Reply × State). x.1) steps)
     (filled_knows after (mutate s m op).0 (mutate s m op).1 m d fields (slot_command known s m op below k))
 
 pub number_knows : (known : KnownRoots) (s one new : State) (m i n : ℕ) (d t : SlotName) (first reply : Reply) → t.index < 16 → m < s.mutators → mutate s m (ops.Num t n) ≡ (first, one) → mutate one m (ops.Put d i t) ≡ (reply, new) → KnowsRoots known s
-    → KnowsRoots (record { slots = 0; extra = known.extra; used = known.used }) new
+    → KnowsRoots (record { slots = 0; extra = known.extra; used = known.used; count = known.count }) new
 number_knows known s one new m i n d t first reply low less a b k =
-    let after : KnownRoots = record { slots = 0; extra = known.extra; used = known.used } in
+    let after : KnownRoots = record { slots = 0; extra = known.extra; used = known.used; count = known.count } in
     let below : WritesBelow (roots_of s.mutators) m (ops.Num t n) = λ q. one_below (place t m) q (roots_of s.mutators) (slot_below t m s.mutators low less) in
     let numbered : KnowsRoots after one = subst (KnowsRoots after) (ap (λ (x : Reply × State). x.1) a) (slot_command known s m (ops.Num t n) below k) in
     subst (KnowsRoots after) (ap (λ (x : Reply × State). x.1) b) (quiet_command after one m (ops.Put d i t) refl numbered)
 
 pub nil_put_knows : (known : KnownRoots) (s one new : State) (m i : ℕ) (d t : SlotName) (first reply : Reply) → t.index < 16 → m < s.mutators → mutate s m (ops.Nil t) ≡ (first, one) → mutate one m (ops.Put d i t) ≡ (reply, new) → KnowsRoots known s
-    → KnowsRoots (record { slots = 0; extra = known.extra; used = known.used }) new
+    → KnowsRoots (record { slots = 0; extra = known.extra; used = known.used; count = known.count }) new
 nil_put_knows known s one new m i d t first reply low less a b k =
-    let after : KnownRoots = record { slots = 0; extra = known.extra; used = known.used } in
+    let after : KnownRoots = record { slots = 0; extra = known.extra; used = known.used; count = known.count } in
     let below : WritesBelow (roots_of s.mutators) m (ops.Nil t) = λ q. one_below (place t m) q (roots_of s.mutators) (slot_below t m s.mutators low less) in
     let emptied : KnowsRoots after one = subst (KnowsRoots after) (ap (λ (x : Reply × State). x.1) a) (slot_command known s m (ops.Nil t) below k) in
     subst (KnowsRoots after) (ap (λ (x : Reply × State). x.1) b) (quiet_command after one m (ops.Put d i t) refl emptied)
@@ -267,6 +275,7 @@ clears_knows known s i k =
       slots_high = k.slots_high;
       extra_high = k.extra_high;
       used_high = omega (arith, roots_counted s 0 op, k.used_high);
+      counted = omega (arith, roots_counted s 0 op, k.counted);
       slots = λ p less. knows p (k.slots p less);
       extra = λ j less. knows (roots_of s.mutators + j) (k.extra j less);
       unused = λ j le. nil_stays s i (roots_of s.mutators + j) (k.unused j le);
@@ -294,11 +303,12 @@ clear_next s i j n count e f = ap (clear_step s i) e ∙ ap (λ q. clear_step (C
 -- ---- moving the marks
 
 pub lowered : (known : KnownRoots) (s : State) (from to : ℕ) → from ≤ known.used → known.used ≤ to → KnowsRoots known s
-    → ((i : ℕ) → from ≤ i → i < to → root s.heap.graph (roots_of s.mutators + i) ≡ Nil) → KnowsRoots (record { slots = known.slots; extra = min known.extra from; used = from }) s
+    → ((i : ℕ) → from ≤ i → i < to → root s.heap.graph (roots_of s.mutators + i) ≡ Nil) → KnowsRoots (record { slots = known.slots; extra = min known.extra from; used = from; count = known.count }) s
 lowered known s from to low high k nil = record {
   slots_high = k.slots_high;
   extra_high = omega arith;
   used_high = omega (arith, k.used_high, low);
+  counted = k.counted;
   slots = k.slots;
   extra = λ i less. k.extra i (omega (arith, less));
   unused = λ i le. ⊎_elim (λ l. nil i le l) (λ l. k.unused i (omega (arith, l, high))) (cases_lt i to);
@@ -310,10 +320,35 @@ next_slot slots known less = cond-true (nat_lt known.slots slots) known.slots (s
 
 -- ---- opening, beginning and flipping
 
-nil_replicate : (n p : ℕ) → value_or_nil (slice_get (replicate n Nil) p) ≡ Nil
-nil_replicate zero p = refl
-nil_replicate (suc n) zero = refl
-nil_replicate (suc n) (suc p) = nil_replicate n p
+nil_words : (n p : ℕ) → value_or_nil (slice_get (map value_of (replicate n 0)) p) ≡ Nil
+nil_words zero p = refl
+nil_words (suc n) zero = refl
+nil_words (suc n) (suc p) = nil_words n p
+
+no_word : (a : ℕ) → slice_index (0 ∷ []) (a + 1) - 0 ≡ 0
+no_word zero = refl
+no_word (suc a) = let past : suc (suc a) ≡ suc a + 1 = omega arith in subst (λ n. slice_index (0 ∷ []) n - 0 ≡ 0) past refl
+
+-- a heap that was just opened has no links
+pub no_links : (options : HeapOptions) (heap : HeapWords) → heap ≡ empty_heap options → LinksNothing false heap
+no_links options heap empty = subst (LinksNothing false) (sym empty) (λ a start. no_word a)
+
+-- all roots of a heap that was just opened are nil
+pub opening_knows : (options : HeapOptions) (heap : HeapWords) (known : KnownRoots) (count : ℕ) → heap ≡ empty_heap options → count ≡ length heap.roots → known ≡ record { slots = 0; extra = 0; used = 0; count = count }
+    → KnowsRoots known (state_of heap None)
+opening_knows options heap known count empty all_of new =
+    let all = roots_of options.mutators + options.extra_roots in
+    let opened : KnowsRoots (record { slots = 0; extra = 0; used = 0; count = length (empty_heap options).roots }) (state_of (empty_heap options) None) = record {
+      slots_high = omega arith;
+      extra_high = omega arith;
+      used_high = omega (arith, length-map (empty_heap options).roots value_of, length-replicate {A = ℕ} all 0);
+      counted = length-map (empty_heap options).roots value_of;
+      slots = λ p less. absurd (omega (arith, less));
+      extra = λ i less. absurd (omega (arith, less));
+      unused = λ i le. nil_words all (roots_of options.mutators + i);
+    } in
+    subst (λ (k : KnownRoots). KnowsRoots k (state_of heap None)) (sym (new ∙ ap (λ (n : ℕ). record { slots = 0; extra = 0; used = 0; count = n }) all_of))
+    (subst (λ (h : HeapWords). KnowsRoots (record { slots = 0; extra = 0; used = 0; count = length h.roots }) (state_of h None)) (sym empty) opened)
 
 -- after a flip no collection is open
 pub flipped_knows : (known : KnownRoots) (s t : State) (reply : StepReply) → t.collection ≡ None → t.mutators ≡ s.mutators → collect s steps.Flip ≡ (reply, t) → KnowsRoots known s → KnowsRoots known t
@@ -325,6 +360,7 @@ flipped_knows known s t reply none count steps_to k =
       slots_high = subst (λ n. known.slots ≤ roots_of n) (sym count) k.slots_high;
       extra_high = k.extra_high;
       used_high = omega (arith, count, length_is, k.used_high);
+      counted = omega (arith, length_is, k.counted);
       slots = λ p less. idle p;
       extra = λ i less. idle (roots_of t.mutators + i);
       unused = λ i le. subst (λ n. root t.heap.graph (roots_of n + i) ≡ Nil) (sym count)

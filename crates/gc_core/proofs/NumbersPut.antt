@@ -21,22 +21,23 @@ use Rattle.gc_core.proofs.Marks.{number_knows}
 
 -- ---- what is known of the roots
 
-pub forgotten : (known : KnownRoots) (s : State) → KnowsRoots known s → KnowsRoots (record { slots = 0; extra = known.extra; used = known.used }) s
+pub forgotten : (known : KnownRoots) (s : State) → KnowsRoots known s → KnowsRoots (record { slots = 0; extra = known.extra; used = known.used; count = known.count }) s
 forgotten known s k = record {
   slots_high = omega arith;
   extra_high = k.extra_high;
   used_high = k.used_high;
+  counted = k.counted;
   slots = λ p less. absurd (omega arith);
   extra = k.extra;
   unused = k.unused;
 }
 
-pub numbers_know : (numbers : List ℕ) (known : KnownRoots) (s : State) (m i : ℕ) (d t : SlotName) → t.index < 16 → m < s.mutators → KnowsRoots known s → KnowsRoots (record { slots = 0; extra = known.extra; used = known.used }) (numbers_step s m d t i numbers)
+pub numbers_know : (numbers : List ℕ) (known : KnownRoots) (s : State) (m i : ℕ) (d t : SlotName) → t.index < 16 → m < s.mutators → KnowsRoots known s → KnowsRoots (record { slots = 0; extra = known.extra; used = known.used; count = known.count }) (numbers_step s m d t i numbers)
 numbers_know [] known s m i d t low less k = forgotten known s k
 numbers_know (n ∷ rest) known s m i d t low less k =
     let one = mutate s m (ops.Num t n) in
     let two = mutate one.1 m (ops.Put d i t) in
-    numbers_know rest (record { slots = 0; extra = known.extra; used = known.used }) two.1 m (suc i) d t low less (number_knows known s one.1 two.1 m i n d t one.0 two.0 low less refl refl k)
+    numbers_know rest (record { slots = 0; extra = known.extra; used = known.used; count = known.count }) two.1 m (suc i) d t low less (number_knows known s one.1 two.1 m i n d t one.0 two.0 low less refl refl k)
 
 -- ---- while no collection is open
 

@@ -44,20 +44,20 @@ mutated marked heap new o m op reply is none performs fits = performed heap new 
 
 -- afterwards nothing is known of the slots
 pub fits_after : (marked : Bool) (known : KnownRoots) (heap new : HeapWords) (o : Option CollectionWords) (m : ℕ) (op : Op) (reply : Reply) → IsHeap heap → ¬ WritesField op → Performs heap m op reply new → WritesBelow (roots_of heap.mutators) m op → Fits marked heap o
-    → KnowsRoots known (state_of heap (option_map collection_in o)) → Fits marked new o × KnowsRoots (record { slots = 0; extra = known.extra; used = known.used }) (state_of new (option_map collection_in o))
+    → KnowsRoots known (state_of heap (option_map collection_in o)) → Fits marked new o × KnowsRoots (record { slots = 0; extra = known.extra; used = known.used; count = known.count }) (state_of new (option_map collection_in o))
 fits_after marked known heap new o m op reply is none performs below fits k = (
   still_fits marked heap new o m op reply is none performs fits,
-  subst (KnowsRoots (record { slots = 0; extra = known.extra; used = known.used })) (ap (λ (x : Reply × State). x.1) (mutated marked heap new o m op reply is none performs fits))
+  subst (KnowsRoots (record { slots = 0; extra = known.extra; used = known.used; count = known.count })) (ap (λ (x : Reply × State). x.1) (mutated marked heap new o m op reply is none performs fits))
       (slot_command known (state_of heap (option_map collection_in o)) m op below k),
 )
 
 -- afterwards the marks are those for an extra root that was written
 pub fits_stored : (marked : Bool) (known : KnownRoots) (heap new : HeapWords) (o : Option CollectionWords) (m i : ℕ) (op : Op) (reply : Reply) → IsHeap heap → ¬ WritesField op → Performs heap m op reply new → root_written m op ≡ Some (roots_of heap.mutators + i)
     → roots_of heap.mutators + i < length (graph_in heap).roots → Fits marked heap o
-    → KnowsRoots known (state_of heap (option_map collection_in o)) → Fits marked new o × KnowsRoots (record { slots = known.slots; extra = min known.extra i; used = max known.used (i + 1) }) (state_of new (option_map collection_in o))
+    → KnowsRoots known (state_of heap (option_map collection_in o)) → Fits marked new o × KnowsRoots (record { slots = known.slots; extra = min known.extra i; used = max known.used (i + 1); count = known.count }) (state_of new (option_map collection_in o))
 fits_stored marked known heap new o m i op reply is none performs at within fits k = (
   still_fits marked heap new o m op reply is none performs fits,
-  subst (KnowsRoots (record { slots = known.slots; extra = min known.extra i; used = max known.used (i + 1) })) (ap (λ (x : Reply × State). x.1) (mutated marked heap new o m op reply is none performs fits))
+  subst (KnowsRoots (record { slots = known.slots; extra = min known.extra i; used = max known.used (i + 1); count = known.count })) (ap (λ (x : Reply × State). x.1) (mutated marked heap new o m op reply is none performs fits))
       (stored_command known (state_of heap (option_map collection_in o)) m i op at within k),
 )
 

@@ -39,7 +39,7 @@ full_with old made m kind count d t fields reply same first full =
 -- ---- what is known of the roots
 
 abbrev forgetting : KnownRoots → KnownRoots
-forgetting known = record { slots = 0; extra = known.extra; used = known.used }
+forgetting known = record { slots = 0; extra = known.extra; used = known.used; count = known.count }
 
 source_knows : (known : KnownRoots) (s : State) (m i : ℕ) (d t : SlotName) (source : FieldSource) → t.index < 16 → m < s.mutators → KnowsRoots (forgetting known) s → KnowsRoots (forgetting known) (source_step s m d t i source)
 source_knows known s m i d t sources.Nil low less k = k
@@ -74,7 +74,7 @@ mixed_knows known replies.Yes made m d t fields low less k = sources_know fields
 mixed_knows known replies.No made m d t fields low less k = sources_know fields known made m 0 d t low less k
 
 pub with_knows : (known : KnownRoots) (s new : State) (m kind : ℕ) (d t : SlotName) (fields : List FieldSource) (reply : Reply) → d.index < 16 → t.index < 16 → m < s.mutators → new_with_step s m d kind t fields ≡ (reply, new) → KnowsRoots known s
-    → KnowsRoots (record { slots = 0; extra = known.extra; used = known.used }) new
+    → KnowsRoots (record { slots = 0; extra = known.extra; used = known.used; count = known.count }) new
 with_knows known s new m kind d t fields reply high low less steps k =
     let op = New d kind (length fields) in
     let below : WritesBelow (roots_of s.mutators) m op = λ q. one_below (place d m) q (roots_of s.mutators) (slot_below d m s.mutators high less) in

@@ -1,13 +1,14 @@
 -- What a flip shows its checker, and the pair of heaps that the checker accepts.
-use Rattle.std.specs.Prelude.{◌≡◌, ◌≢◌, ◌≤◌, ℕ, length, Option, Some, None, IfSome, IsTrue}
+use Rattle.std.specs.Prelude.{◌≡◌, ◌≢◌, ◌≤◌, ℕ, length, Option, Some, None, IfSome, IsSomeAnd, IsTrue}
 use Rattle.gc_words.specs.Certificate.{Certified}
 use Rattle.gc_along.specs.Outline.{ImageOutline, outline_of}
 use Rattle.gc_cert.specs.Grammar.{CertifiedPair}
 use Rattle.gc_plan.specs.State.{State, Collection, pairs_of}
 use Rattle.gc_plan.specs.Steps.{is_ready}
 use Rattle.gc_plan.specs.Linked.{old_image, new_image}
+use Rattle.gc_copy.specs.Words.{RoomWords, TellsMoves}
 use Rattle.gc_plan.specs.declared.step.StepReply.{StepReply}
-use Rattle.gc_plan.specs.declared.step.StepReply.TheVariants.{NoRoom, Flipped}
+use Rattle.gc_plan.specs.declared.step.StepReply.TheVariants.{Begun, NoRoom, Flipped}
 
 -- ---- the pair of a flip
 
@@ -52,3 +53,16 @@ HasAccepted accepted pair = accepted (outline_of pair.old) (outline_of pair.new)
 -- if the open collection is ready, a checker that went along is sure of the outlines of its pair's images
 abbrev pub IsSureIfReady : (ImageOutline → ImageOutline → Type 0) → State → Type 0
 IsSureIfReady sure s = IfSome s.collection (λ c. IsTrue (is_ready c s.heap.graph) → HasAccepted sure (flip_pair s c))
+
+-- ---- the old space of the last flip
+
+-- the room tells the pairs of the collection that is open in this state
+abbrev pub TellsOpen : State → Option RoomWords → Type 0
+TellsOpen s room = IfSome s.collection (λ c. IsSomeAnd room (TellsMoves s.heap.graph (pairs_of c)))
+
+-- What is left of the last flip's old space after a step that gets this reply in this state. A flip leaves its own, and a begin none.
+-- Any other step leaves it as it was.
+abbrev pub FormerAfter : State → Option RoomWords → StepReply → Option RoomWords → Type 0
+FormerAfter s old (Flipped pairs) new = TellsOpen s new
+FormerAfter s old Begun new = new ≡ None
+FormerAfter s old reply new = new ≡ old

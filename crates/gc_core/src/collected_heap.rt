@@ -1,5 +1,5 @@
 use crate::known::KnownRoots;
-use gc_copy::{Collection, Room};
+use gc_copy::Collection;
 use gc_graph::NoMemory;
 use gc_heap::{Heap, HeapOptions};
 use std::alloc::Global;
@@ -19,13 +19,12 @@ pub struct CollectedHeap {
     pub(crate) known: KnownRoots,
     /// Whether objects may have links of an earlier collection, so that those of the next one are marked.
     pub(crate) marked: bool,
-    /// What the last flip left for the next collection.
-    pub(crate) room: Option<Room>,
-    /// A row for the moved roots, so that a flip need not ask for one.
+    /// A row with room for all moved roots, so that a flip need not ask for one.
     pub(crate) roots: Vec<u64>,
 }
 
 impl Model for CollectedHeap {
+    ghost use Rattle.std.specs.Prelude.{◌≤◌, vec_capacity};
     ghost use Rattle.std.specs.Option.{option_map};
     ghost use Rattle.gc_plan.specs.State.{State};
     ghost use Rattle.gc_copy.specs.Words.{collection_in, state_of};
@@ -36,7 +35,8 @@ impl Model for CollectedHeap {
 
     ghost view = { λ h. state_of h.heap (option_map collection_in h.collection) };
 
-    ghost invariant = { λ h. Fits h.marked h.heap h.collection × KnowsRoots h.known (state_of h.heap (option_map collection_in h.collection)) };
+    ghost invariant = { λ h. Fits h.marked h.heap h.collection × KnowsRoots h.known (state_of h.heap (option_map collection_in h.collection))
+        × (h.known.count ≤ vec_capacity h.roots) };
 }
 
 impl CollectedHeap {
@@ -65,14 +65,15 @@ impl CollectedHeap {
         ensures { IfOk result (λ heap. heap ≡ opening_state_with options.now) }
     {
         let heap = Heap::open_with(alloc, options)?;
+        let count = heap.roots().len();
+        let roots = Vec::with_capacity(alloc, count)?;
         Ok(CollectedHeap {
             alloc,
             heap,
             collection: None,
-            known: KnownRoots::new(),
+            known: KnownRoots::new(count),
             marked: false,
-            room: None,
-            roots: Vec::new(alloc),
+            roots,
         })
     }
 
@@ -81,6 +82,13 @@ impl CollectedHeap {
         ensures { roomy_in result.now ≡ self.now.heap }
     {
         &self.heap
+    }
+
+    /// Writes to all memory of the mutators' space once, so that no later write meets a page for the first time. The heap stays as it is.
+    pub fn touch(&mut self)
+        ensures { self.new ≡ self.old }
+    {
+        self.heap.touch();
     }
 
     /// Returns the number of mutators, 1 to 16.

@@ -7,7 +7,7 @@ ghost use Rattle.gc_core.specs.Internal.Flip.{IsDraft, AreCopies};
 ghost use Rattle.gc_core.specs.declared.flip.Keep.{Keep};
 
 use gc_cert::PairFile;
-use gc_copy::{Collection, StepReply};
+use gc_copy::{Collection, Room, StepReply};
 use gc_graph::NoMemory;
 use gc_heap::Heap;
 use gc_words::Pair;
@@ -31,11 +31,13 @@ pub struct Flip {
 }
 
 /// The outcome of a flip that asks the checker that went along first.
-#[derive(Clone, Copy, Debug, Drop, PartialEq, Eq)]
+#[derive(Debug, Drop)]
 pub struct AlongFlip {
     pub reply: StepReply,
     /// Whether the other checker was asked, about both spaces whole.
     pub whole: bool,
+    /// If it flipped, the old space, which tells where each object went, as room for the next collection.
+    pub room: Option<Room>,
 }
 
 /// What the checker sees in addition to the two spaces and the old roots: the certificate and the moved roots.

@@ -1,4 +1,4 @@
-ghost use Rattle.std.specs.Prelude.{◌≡◌, ◌≢◌, ◌<◌, ◌^◌, Some, None, IfOk, IfSome, IsSome, IsTrue, IsFalse, false, OnErr, length};
+ghost use Rattle.std.specs.Prelude.{◌≡◌, ◌≢◌, ◌<◌, ◌^◌, Some, None, IfOk, IfSome, IsSome, IsSomeAnd, IsOkAnd, IsTrue, IsFalse, false, OnErr, length};
 ghost use Rattle.std.specs.Option.{option_map};
 ghost use Rattle.gc_cert.specs.Views.{pair_in};
 ghost use Rattle.gc_heap.specs.Heap.{graph_in};
@@ -10,13 +10,14 @@ ghost use Rattle.gc_plan.specs.declared.step.StepReply.{StepReply};
 ghost use Rattle.gc_core.specs.Flip.{HasAccepted, flip_pair, IsCertified};
 ghost use Rattle.gc_core.specs.Internal.Flip.{IsDraft, AreCopies};
 
+use crate::checking::Finding;
 use crate::collected_heap::CollectedHeap;
 use crate::flip::{AlongFlip, Copies, Draft, Flip, Keep};
 use crate::known::search;
 use gc_along::{Outline, Watcher};
 use gc_cert::{Image, PairFile};
 use gc_check::{CheckFault, Checks};
-use gc_copy::{Collection, StepReply, heaps_have_addresses_as_names, images_show_links};
+use gc_copy::{Collection, Room, StepReply, heaps_have_addresses_as_names, images_show_links};
 use gc_graph::{NoMemory, root_count};
 use gc_heap::Heap;
 use gc_words::no_fault_where_certified;
@@ -24,7 +25,7 @@ use std::alloc::Global;
 
 impl CollectedHeap {
     ghost use Rattle.gc_core.specs.CollectedHeap.{Allocates};
-    ghost use Rattle.gc_core.specs.Flip.{FlipsOnly, IsSureIfReady, PassesIfReady, kept_after, replaced};
+    ghost use Rattle.gc_core.specs.Flip.{FlipsOnly, FormerAfter, IsSureIfReady, PassesIfReady, kept_after, replaced};
     ghost use Rattle.gc_cert.specs.Grammar.{CertifiedPair};
     ghost use Rattle.std.specs.Prelude.{Option};
     ghost use Rattle.gc_core.specs.declared.flip.Keep.{Keep};
@@ -74,7 +75,7 @@ impl CollectedHeap {
     }
 
     /// Flips if the open collection is ready, and a checker that went along accepts the outlines of both images, or else this checker
-    /// the certificate. No pair is kept.
+    /// the certificate. No pair is kept, but the old space is, as room for the next collection.
     #[inline(never)]
     pub fn flip_along<W: Watcher, C: Checks>(
         &mut self,
@@ -88,8 +89,9 @@ impl CollectedHeap {
         ensures asked { IfOk result (λ flip. IsTrue flip.whole → FlipsOnly (C.says_yes checker.now) self.old flip.reply) }
         // What the other checker accepted is certified.
         ensures sound { IfOk result (λ flip. IsTrue flip.whole → FlipsOnly IsCertified self.old flip.reply) }
-        // Where the one that went along does not refuse, the other is not asked.
-        ensures alone { IsSureIfReady (W.sure along.now) self.old → IfOk result (λ flip. IsFalse flip.whole) }
+        ensures room { IfOk result (λ flip. FormerAfter self.old None flip.reply flip.room) }
+        // Where the one that went along does not refuse, the other is not asked, and the flip asks for no memory.
+        ensures alone { IsSureIfReady (W.sure along.now) self.old → IsOkAnd result (λ flip. IsFalse flip.whole) }
         // A ready collection passes, so no flip is refused.
         ensures passes { IfOk result (λ flip. PassesIfReady self.old flip.reply) }
         ensures never_refused { IfOk result (λ flip. flip.reply ≢ StepReply.Refused) }
@@ -99,26 +101,26 @@ impl CollectedHeap {
         ensures mutators { self.new.mutators ≡ self.old.mutators }
     {
         let Some(collection) = &self.collection else {
-            return Ok(unasked(StepReply::Idle));
+            return Ok(unflipped(StepReply::Idle, false));
         };
         let roots_done = search(collection, &self.heap, self.known).missing.is_none();
         let is_ready = collection.ready_with(&self.heap, roots_done);
         if !is_ready {
-            return Ok(unasked(StepReply::NotReady));
+            return Ok(unflipped(StepReply::NotReady, false));
         }
         let in_use = root_count(self.heap.mutators()) + self.known.used;
-        collection.move_roots(&self.heap, in_use, &mut self.roots)?;
+        collection.move_roots(&self.heap, in_use, &mut self.roots);
         if !is_accepted(along, &self.heap, collection, &self.roots) {
             return self.flip_whole(checker);
         }
         let collection = self.collection.take().unwrap();
         let (room, pairs) = collection.flip_marked(&mut self.heap, &self.roots);
         self.marked = true;
-        self.room = Some(room);
-        Ok(unasked(StepReply::Flipped { pairs }))
+        Ok(flipped(pairs, room, false))
     }
 
-    /// Flips if the open collection is ready and the checker accepts its certificate, as `flip` does. No pair is kept.
+    /// Flips if the open collection is ready and the checker accepts its certificate, as `flip` does. No pair is kept, but the old space is,
+    /// as room for the next collection.
     #[inline(never)]
     pub fn flip_whole<C: Checks>(&mut self, checker: &C) -> Result<AlongFlip, NoMemory>
         requires { C.can_check checker.now }
@@ -126,27 +128,63 @@ impl CollectedHeap {
         ensures whole { IfOk result (λ flip. IsTrue flip.whole) }
         ensures asked { IfOk result (λ flip. FlipsOnly (C.says_yes checker.now) self.old flip.reply) }
         ensures sound { IfOk result (λ flip. FlipsOnly IsCertified self.old flip.reply) }
+        ensures room { IfOk result (λ flip. FormerAfter self.old None flip.reply flip.room) }
         ensures passes { IfOk result (λ flip. PassesIfReady self.old flip.reply) }
         ensures never_refused { IfOk result (λ flip. flip.reply ≢ StepReply.Refused) }
         ensures refused { OnErr result (self.new ≡ self.old) }
         ensures allocates { OnErr result (Allocates self.old Step.Flip) }
         ensures mutators { self.new.mutators ≡ self.old.mutators }
     {
-        let flip = self.flip(checker, Keep::Nothing)?;
-        Ok(AlongFlip {
-            reply: flip.reply,
-            whole: true,
-        })
+        let reply = match self.check(checker)? {
+            Finding::Idle => StepReply::Idle,
+            Finding::NotReady => StepReply::NotReady,
+            Finding::Refused(_) => StepReply::Refused,
+            Finding::Holds { .. } => return Ok(self.flip_accepted()),
+        };
+        Ok(unflipped(reply, true))
+    }
+
+    // Flips the open collection, which is ready. The checker of both spaces whole has accepted its certificate.
+    fn flip_accepted(&mut self) -> AlongFlip
+        requires { IsSomeAnd self.old.collection (λ c. IsTrue (is_ready c self.old.heap.graph)) }
+        ensures step { collect self.old Step.Flip ≡ (result.reply, self.new) }
+        ensures whole { IsTrue result.whole }
+        ensures room { FormerAfter self.old None result.reply result.room }
+        ensures passes { PassesIfReady self.old result.reply }
+        ensures never_refused { result.reply ≢ StepReply.Refused }
+        ensures mutators { self.new.mutators ≡ self.old.mutators }
+    {
+        let Some(collection) = &self.collection else {
+            return unflipped(StepReply::Idle, true);
+        };
+        let in_use = root_count(self.heap.mutators()) + self.known.used;
+        collection.move_roots(&self.heap, in_use, &mut self.roots);
+        let collection = self.collection.take().unwrap();
+        let (room, pairs) = collection.flip_marked(&mut self.heap, &self.roots);
+        self.marked = true;
+        flipped(pairs, room, true)
     }
 }
 
-// Returns the outcome of a step for which the other checker was not asked.
-fn unasked(reply: StepReply) -> AlongFlip
-    ensures { result ≡ record { reply = reply; whole = false } }
+// Returns the outcome of a flip of so many pairs that left this room. The other checker was asked or not.
+fn flipped(pairs: u32, room: Room, whole: bool) -> AlongFlip
+    ensures { result ≡ record { reply = StepReply.Flipped pairs; whole = whole; room = Some room } }
+{
+    AlongFlip {
+        reply: StepReply::Flipped { pairs },
+        whole,
+        room: Some(room),
+    }
+}
+
+// Returns the outcome of a step that did not flip, for which the other checker was asked or not.
+fn unflipped(reply: StepReply, whole: bool) -> AlongFlip
+    ensures { result ≡ record { reply = reply; whole = whole; room = None } }
 {
     AlongFlip {
         reply,
-        whole: false,
+        whole,
+        room: None,
     }
 }
 

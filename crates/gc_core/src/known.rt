@@ -30,35 +30,40 @@ pub(crate) struct KnownRoots {
     pub(crate) extra: usize,
     /// The extra roots from this one on are nil.
     pub(crate) used: usize,
+    /// The number of all roots.
+    pub(crate) count: usize,
 }
 
 impl KnownRoots {
-    /// Returns the marks of a heap whose extra roots are all nil.
-    pub(crate) fn new() -> KnownRoots
-        ensures { result ≡ record { slots = 0; extra = 0; used = 0 } }
+    /// Returns the marks of a heap with so many roots, whose extra roots are all nil.
+    pub(crate) fn new(count: usize) -> KnownRoots
+        ensures { result ≡ record { slots = 0; extra = 0; used = 0; count = count } }
     {
         KnownRoots {
             slots: 0,
             extra: 0,
             used: 0,
+            count,
         }
     }
 
     /// Returns the marks after a command that wrote extra root `k`.
     pub(crate) fn stored(self, k: u32) -> KnownRoots
-        ensures { result ≡ record { slots = self.slots; extra = min self.extra k; used = max self.used (k + 1) } }
+        ensures { result ≡ record { slots = self.slots; extra = min self.extra k; used = max self.used (k + 1); count = self.count } }
     {
         KnownRoots {
             slots: self.slots,
             extra: min(self.extra, k as usize),
             used: max(self.used, k as usize + 1),
+            count: self.count,
         }
     }
 
     /// Returns the marks after the extra roots from `from` on, and below `to`, became nil.
     pub(crate) fn cleared(self, from: u32, to: u32) -> KnownRoots
-        ensures { (s : State) → KnowsRoots self s
+        ensures knows { (s : State) → KnowsRoots self s
             → ((k : ℕ) → from ≤ k → k < to → root s.heap.graph (roots_of s.mutators + k) ≡ Nil) → KnowsRoots result s }
+        ensures count { result.count ≡ self.count }
     {
         let from = from as usize;
         if (to as usize) < self.used || self.used <= from {
@@ -68,26 +73,30 @@ impl KnownRoots {
             slots: self.slots,
             extra: min(self.extra, from),
             used: from,
+            count: self.count,
         }
     }
 
     /// Returns the marks after the target of the next root got a replica, where `slots` is the number of slots.
     pub(crate) fn advanced(self, slots: usize) -> KnownRoots
         requires { next_place slots self < slots + self.used }
-        ensures { (s : State) → slots ≡ roots_of s.mutators → KnowsRoots self s
+        ensures knows { (s : State) → slots ≡ roots_of s.mutators → KnowsRoots self s
             → KnowsRoot s (next_place slots self) → KnowsRoots result s }
+        ensures count { result.count ≡ self.count }
     {
         if self.slots < slots {
             KnownRoots {
                 slots: self.slots + 1,
                 extra: self.extra,
                 used: self.used,
+                count: self.count,
             }
         } else {
             KnownRoots {
                 slots: self.slots,
                 extra: self.extra + 1,
                 used: self.used,
+                count: self.count,
             }
         }
     }
@@ -105,6 +114,7 @@ pub(crate) fn search(collection: &Collection, heap: &Heap, known: KnownRoots) ->
     requires belongs { BelongsTo heap.now collection.now }
     requires knows { KnowsRoots known (open_state heap.now collection.now) }
     ensures knows { KnowsRoots result.known (open_state heap.now collection.now) }
+    ensures count { result.known.count ≡ known.count }
     ensures first { option_map (λ r. r.target.0) result.missing ≡ root_target (collection_in collection.now) (graph_in heap.now) }
     ensures next { IfSome result.missing (FindsFirst result.known (open_state heap.now collection.now)) }
     ensures start { IfSome result.missing (λ r. IsTrue (is_start heap.now.space.words r.target.0)) }
@@ -116,6 +126,7 @@ pub(crate) fn search(collection: &Collection, heap: &Heap, known: KnownRoots) ->
                 slots: missing.place,
                 extra: known.extra,
                 used: known.used,
+                count: known.count,
             },
             missing: Some(missing),
         };
@@ -126,6 +137,7 @@ pub(crate) fn search(collection: &Collection, heap: &Heap, known: KnownRoots) ->
                 slots,
                 extra: missing.place - slots,
                 used: known.used,
+                count: known.count,
             },
             missing: Some(missing),
         };
@@ -135,6 +147,7 @@ pub(crate) fn search(collection: &Collection, heap: &Heap, known: KnownRoots) ->
             slots,
             extra: known.used,
             used: known.used,
+            count: known.count,
         },
         missing: None,
     }

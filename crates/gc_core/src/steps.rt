@@ -1,4 +1,4 @@
-ghost use Rattle.std.specs.Prelude.{◌≡◌, ◌≤◌, IfOk, not, if◌then◌else◌};
+ghost use Rattle.std.specs.Prelude.{◌≡◌, ◌≤◌, IfOk, OnErr, not, if◌then◌else◌};
 ghost use Rattle.gc_plan.specs.Steps.{scan_done, apply_or_flip, first_log};
 ghost use Rattle.gc_copy.specs.Words.{collection_in};
 ghost use Rattle.gc_plan.specs.declared.step.Step.{Step};
@@ -14,11 +14,11 @@ use gc_plan::root_replicas_stay;
 use std::alloc::Global;
 
 impl CollectedHeap {
-    ghost use Rattle.std.specs.Prelude.{◌≢◌, ◌<◌, ◌≤◌, IfOk, OnErr};
+    ghost use Rattle.std.specs.Prelude.{◌≢◌, ◌<◌, ◌≤◌, ◌⊎◌, IfOk, OnErr};
     ghost use Rattle.gc_plan.specs.Steps.{collect, useful_step};
     ghost use Rattle.gc_plan.specs.Runs.{IsStep};
     ghost use Rattle.gc_plan.specs.declared.step.StepReply.{StepReply};
-    ghost use Rattle.gc_core.specs.Flip.{FlipsOnly, IsCertified, PassesIfReady, HasRoomIfLarge};
+    ghost use Rattle.gc_core.specs.Flip.{FlipsOnly, FormerAfter, IsCertified, PassesIfReady, HasRoomIfLarge};
     ghost use Rattle.gc_core.specs.CollectedHeap.{Allocates};
 
     /// Performs one collector step. A flip happens only if the checker accepts the certificate; its pair is not
@@ -61,10 +61,25 @@ impl CollectedHeap {
         ensures allocates { OnErr result (Allocates self.old (Step.BeginSized size)) }
         ensures mutators { self.new.mutators ≡ self.old.mutators }
     {
+        self.begin_in(size, &mut None)
+    }
+
+    /// Opens a collection as `begin_sized` does, in the room that a flip left if that has `size` words. Frees any other room once it has
+    /// allocated. Unless it opens a collection, the room stays.
+    pub fn begin_in(&mut self, size: u32, left: &mut Option<Room>) -> Result<StepReply, NoMemory>
+        requires low { 1 ≤ size }
+        ensures step { IfOk result (λ reply. collect self.old (Step.BeginSized size) ≡ (reply, self.new)) }
+        ensures reply { IfOk result (λ reply. (reply ≡ StepReply.Begun) ⊎ (reply ≡ StepReply.Busy)) }
+        ensures left { IfOk result (λ reply. FormerAfter self.old left.old reply left.new) }
+        ensures refused { OnErr result ((self.new ≡ self.old) × (left.new ≡ left.old)) }
+        ensures allocates { OnErr result (Allocates self.old (Step.BeginSized size)) }
+        ensures mutators { self.new.mutators ≡ self.old.mutators }
+    {
         if self.collection.is_some() {
             return Ok(StepReply::Busy);
         }
-        let room = room_for(self.alloc, &self.heap, size, self.room.take())?;
+        let room = room_for(self.alloc, &self.heap, size, left)?;
+        *left = None;
         self.collection = Some(Collection::begin_in(room, &self.heap, self.marked));
         self.known.slots = 0;
         self.known.extra = 0;
@@ -181,17 +196,27 @@ impl CollectedHeap {
     }
 }
 
-/// Returns the room that a collection was left if it has this size, and otherwise new room.
-fn room_for(alloc: Global, heap: &Heap, size: u32, left: Option<Room>) -> Result<Room, NoMemory>
+/// Takes the room that a flip left if it has this size, and otherwise allocates room.
+fn room_for(
+    alloc: Global,
+    heap: &Heap,
+    size: u32,
+    left: &mut Option<Room>,
+) -> Result<Room, NoMemory>
     requires { 1 ≤ size }
-    ensures { IfOk result (λ room. room ≡ record { size = size; mutators = heap.now.mutators }) }
+    ensures size { IfOk result (λ room. room.size ≡ size) }
+    ensures mutators { IfOk result (λ room. room.mutators ≡ heap.now.mutators) }
+    ensures refused { OnErr result (left.new ≡ left.old) }
 {
-    if let Some(room) = left {
-        if room.size() == size && room.mutators() == usize::from(heap.mutators()) {
-            return Ok(room);
+    match left.take() {
+        Some(room) if room.size() == size && room.mutators() == usize::from(heap.mutators()) => {
+            Ok(room)
+        }
+        other => {
+            *left = other;
+            Room::new(alloc, size, heap.mutators())
         }
     }
-    Room::new(alloc, size, heap.mutators())
 }
 
 /// Returns the useful step of a collection that has a replica of each root's target.

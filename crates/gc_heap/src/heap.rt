@@ -126,6 +126,13 @@ impl Heap {
         &self.space
     }
 
+    /// Writes to all of the space's memory once, so that no later write meets a page for the first time. The heap stays as it is.
+    pub fn touch(&mut self)
+        ensures { self.new ≡ self.old }
+    {
+        self.space.touch();
+    }
+
     /// Returns the root words: those of the shared slots first, then those of each mutator, and then the extra ones.
     pub fn roots(&self) -> &[u64]
         ensures value { result.now ≡ self.now.roots }

@@ -1,8 +1,9 @@
 ghost use Rattle.std.specs.Prelude.{◌≡◌};
 
+use crate::rooms::begin_in_room;
 use gc_along::Standing;
 use gc_check::Checks;
-use gc_copy::{LogEntry, Step, StepReply};
+use gc_copy::{LogEntry, Room, Step, StepReply};
 use gc_core::{AlongFlip, CollectedHeap, Finding, NewSpace, SlotRow};
 use gc_graph::{NoMemory, Number, Op, Reply, Slot};
 use gc_heap::{Fetched, Heap, HeapOptions};
@@ -91,6 +92,10 @@ pub struct LiveHeap {
     along: bool,
     checks: FlipChecks,
     turn: Turn,
+    /// Room for the next collection if no flip has left any.
+    pub(crate) spare: Option<Room>,
+    /// Room of another size than the heap's. Its memory is given back in slices.
+    pub(crate) leaving: Option<Room>,
 }
 
 impl Model for LiveHeap {
@@ -107,7 +112,7 @@ impl Model for LiveHeap {
 }
 
 impl LiveHeap {
-    ghost use Rattle.std.specs.Prelude.{◌≡◌, ◌≤◌, IfOk, is_some, ◌<◌, ◌∷◌, [], OnErr, IsSome, length, map, ◌≢◌, ◌-◌, slice_get};
+    ghost use Rattle.std.specs.Prelude.{◌≡◌, ◌≤◌, ◌⊎◌, IfOk, None, is_some, ◌<◌, ◌∷◌, [], OnErr, IsSome, length, map, ◌≢◌, ◌-◌, slice_get};
     ghost use Rattle.gc_graph.specs.Limits.{most_mutators};
     ghost use Rattle.gc_plan.specs.State.{opening_state, extra_roots_of, heap_end};
     ghost use Rattle.gc_copy.specs.Opening.{opening_state_with};
@@ -125,7 +130,7 @@ impl LiveHeap {
     ghost use Rattle.gc_plan.specs.declared.step.Step.{Step};
     ghost use Rattle.gc_plan.specs.declared.step.StepReply.{StepReply};
     ghost use Rattle.gc_live.specs.Sure.{IsSure};
-    ghost use Rattle.gc_core.specs.Flip.{FlipsOnly, IsCertified, PassesIfReady, HasRoomIfLarge};
+    ghost use Rattle.gc_core.specs.Flip.{FlipsOnly, FormerAfter, IsCertified, PassesIfReady, HasRoomIfLarge};
     ghost use Rattle.gc_core.specs.Checking.{finding, HoldsOnly};
     ghost use Rattle.std.specs.Option.{option_map};
     ghost use Rattle.gc_words.specs.Views.{image_of};
@@ -165,6 +170,8 @@ impl LiveHeap {
             along,
             checks: FlipChecks { along: 0, whole: 0 },
             turn: Turn { each, since: 0 },
+            spare: None,
+            leaving: None,
         })
     }
 
@@ -471,12 +478,15 @@ impl LiveHeap {
         self.inner.look(m, s)
     }
 
-    /// Opens a collection whose new space has `size` words, at least 1. Returns `Begun`, or `Busy` if one is already open. On
-    /// `NoMemory` nothing has changed, and none is open.
-    pub fn begin_sized(&mut self, size: u32) -> Result<StepReply, NoMemory>
+    /// Opens a collection whose new space has `size` words, at least 1, in the room that a flip left if that has so many. Returns `Begun`, or
+    /// `Busy` if a collection is already open. On `NoMemory` and `Busy` nothing has changed, and the room stays. The memory of room of another
+    /// size is given back by later calls of `give_back`.
+    pub fn begin_in(&mut self, size: u32, left: &mut Option<Room>) -> Result<StepReply, NoMemory>
         requires low { 1 ≤ size }
         ensures step { IfOk result (λ reply. collect self.old (Step.BeginSized size) ≡ (reply, self.new)) }
-        ensures refused { OnErr result (self.new ≡ self.old) }
+        ensures reply { IfOk result (λ reply. (reply ≡ StepReply.Begun) ⊎ (reply ≡ StepReply.Busy)) }
+        ensures left { IfOk result (λ reply. FormerAfter self.old left.old reply left.new) }
+        ensures refused { OnErr result ((self.new ≡ self.old) × (left.new ≡ left.old)) }
         ensures allocates { OnErr result (Allocates self.old (Step.BeginSized size)) }
         ensures mutators { self.new.mutators ≡ self.old.mutators }
     {
@@ -485,23 +495,16 @@ impl LiveHeap {
         }
         self.inner.is_sound();
         self.watch.reserve(larger(size, self.inner.size()))?;
-        let reply = self.inner.begin_sized(size)?;
+        let reply = begin_in_room(
+            &mut self.inner,
+            size,
+            left,
+            &mut self.spare,
+            &mut self.leaving,
+        )?;
         self.inner.is_sound();
         self.watch.begun(self.inner.image().words);
         Ok(reply)
-    }
-
-    /// Opens a collection whose new space is as large as the heap. Returns `Begun`, or `Busy` if one is already open.
-    /// On `NoMemory` nothing has changed, and none is open.
-    pub fn begin(&mut self) -> Result<StepReply, NoMemory>
-        ensures step { IfOk result (λ reply. collect self.old Step.Begin ≡ (reply, self.new)) }
-        ensures refused { OnErr result (self.new ≡ self.old) }
-        ensures allocates { OnErr result (Allocates self.old Step.Begin) }
-        ensures mutators { self.new.mutators ≡ self.old.mutators }
-    {
-        self.inner.is_sound();
-        let size = self.inner.size();
-        self.begin_sized(size)
     }
 
     /// Replicates the target of the first root whose target has no replica. Returns `Copied` or `NoRoom`, `Clean` if
@@ -704,32 +707,6 @@ impl LiveHeap {
         self.inner.new_words()
     }
 
-    /// Performs one collector step.
-    #[inline(always)]
-    pub fn collect<C: Checks>(&mut self, checker: &C, step: Step) -> Result<StepReply, NoMemory>
-        requires can { C.can_check checker.now }
-        requires step { IsStep self.old.mutators step }
-        ensures step { IfOk result (λ reply. collect self.old step ≡ (reply, self.new)) }
-        // A flip happens only if the certificate holds.
-        ensures sound { IfOk result (FlipsOnly IsCertified self.old) }
-        ensures passes { step ≡ Step.Flip → IfOk result (PassesIfReady self.old) }
-        ensures never_refused { IfOk result (λ reply. reply ≢ StepReply.Refused) }
-        ensures room { IfOk result (HasRoomIfLarge self.old) }
-        ensures refused { OnErr result (self.new ≡ self.old) }
-        ensures allocates { OnErr result (Allocates self.old step) }
-        ensures mutators { self.new.mutators ≡ self.old.mutators }
-    {
-        match step {
-            Step::Begin => self.begin(),
-            Step::BeginSized(size) => self.begin_sized(size),
-            Step::Roots => Ok(self.roots()),
-            Step::Scan => Ok(self.scan()),
-            Step::Apply(m) => Ok(self.apply_log(m)),
-            Step::Flip => self.flip(checker),
-            Step::Drop => Ok(self.give_up()),
-        }
-    }
-
     /// Checks the certificate of the open collection, if that is ready, by both spaces whole. The heap stays as it is. Allocates what a flip
     /// that is checked whole does, and frees it before it returns.
     pub fn check<C: Checks>(&mut self, checker: &C) -> Result<Finding, NoMemory>
@@ -746,16 +723,18 @@ impl LiveHeap {
     }
 
     /// Flips if the open collection is ready and a checker accepts it: the standing checker, or the one that is given, which looks at both
-    /// spaces whole. That one is asked where the standing checker is lost or absent, and where `whole_each` says so.
-    pub fn flip<C: Checks>(&mut self, checker: &C) -> Result<StepReply, NoMemory>
+    /// spaces whole. That one is asked where the standing checker is lost or absent, and where `whole_each` says so. Returns the old space as
+    /// room for the next collection.
+    pub fn flip<C: Checks>(&mut self, checker: &C) -> Result<AlongFlip, NoMemory>
         requires { C.can_check checker.now }
-        ensures step { IfOk result (λ reply. collect self.old Step.Flip ≡ (reply, self.new)) }
+        ensures step { IfOk result (λ flip. collect self.old Step.Flip ≡ (flip.reply, self.new)) }
         // A flip happens only if the certificate holds, as the standing checker knows, or this checker said yes.
-        ensures asked { IfOk result (FlipsOnly (IsSure (C.says_yes checker.now)) self.old) }
+        ensures asked { IfOk result (λ flip. FlipsOnly (IsSure (C.says_yes checker.now)) self.old flip.reply) }
         // A flip happens only if the certificate holds.
-        ensures sound { IfOk result (FlipsOnly IsCertified self.old) }
-        ensures passes { IfOk result (PassesIfReady self.old) }
-        ensures never_refused { IfOk result (λ reply. reply ≢ StepReply.Refused) }
+        ensures sound { IfOk result (λ flip. FlipsOnly IsCertified self.old flip.reply) }
+        ensures room { IfOk result (λ flip. FormerAfter self.old None flip.reply flip.room) }
+        ensures passes { IfOk result (λ flip. PassesIfReady self.old flip.reply) }
+        ensures never_refused { IfOk result (λ flip. flip.reply ≢ StepReply.Refused) }
         ensures refused { OnErr result (self.new ≡ self.old) }
         // Only the flip of a ready collection allocates.
         ensures allocates { OnErr result (Allocates self.old Step.Flip) }
@@ -773,11 +752,11 @@ impl LiveHeap {
             self.turn = self.turn.after(flip.whole);
             self.watch.flipped();
         }
-        Ok(flip.reply)
+        Ok(flip)
     }
 }
 
-ghost use Rattle.std.specs.Prelude.{◌≤◌, ◌≢◌, IfOk, OnErr, IsTrue, IsFalse};
+ghost use Rattle.std.specs.Prelude.{◌≤◌, ◌≢◌, None, IfOk, IsOkAnd, OnErr, IsTrue, IsFalse};
 ghost use Rattle.gc_along.specs.Events.{absent_tables, opening_tables};
 ghost use Rattle.gc_along.specs.Tables.{CertifiedBy};
 ghost use Rattle.gc_beside.specs.Internal.Live.{IsLive, IsNeverLost};
@@ -785,7 +764,7 @@ ghost use Rattle.gc_plan.specs.Steps.{collect};
 ghost use Rattle.gc_plan.specs.declared.step.Step.{Step};
 ghost use Rattle.gc_plan.specs.declared.step.StepReply.{StepReply};
 ghost use Rattle.gc_core.specs.CollectedHeap.{Allocates};
-ghost use Rattle.gc_core.specs.Flip.{FlipsOnly, HasAccepted, IsCertified, PassesIfReady};
+ghost use Rattle.gc_core.specs.Flip.{FlipsOnly, FormerAfter, HasAccepted, IsCertified, PassesIfReady};
 
 // The standing checker of a heap of this size, or an absent one.
 fn standing(alloc: Global, size: u32, along: bool) -> Result<Standing, NoMemory>
@@ -820,9 +799,10 @@ fn flip_checked<C: Checks>(
     ensures along { IfOk result (λ flip. IsFalse flip.whole → FlipsOnly (HasAccepted (CertifiedBy watch.now)) heap.old flip.reply) }
     ensures asked { IfOk result (λ flip. IsTrue flip.whole → FlipsOnly (C.says_yes checker.now) heap.old flip.reply) }
     ensures sound { IfOk result (λ flip. IsTrue flip.whole → FlipsOnly IsCertified heap.old flip.reply) }
+    ensures room { IfOk result (λ flip. FormerAfter heap.old None flip.reply flip.room) }
     ensures due { IsTrue whole → IfOk result (λ flip. IsTrue flip.whole) }
-    // A standing checker that is never lost is asked alone.
-    ensures alone { IsFalse whole → IsLive heap.old watch.now → IsNeverLost heap.old watch.now → IfOk result (λ flip. IsFalse flip.whole) }
+    // A standing checker that is never lost is asked alone, and then no memory is asked for.
+    ensures alone { IsFalse whole → IsLive heap.old watch.now → IsNeverLost heap.old watch.now → IsOkAnd result (λ flip. IsFalse flip.whole) }
     ensures passes { IfOk result (λ flip. PassesIfReady heap.old flip.reply) }
     ensures never_refused { IfOk result (λ flip. flip.reply ≢ StepReply.Refused) }
     ensures refused { OnErr result (heap.new ≡ heap.old) }

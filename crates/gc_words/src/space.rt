@@ -60,6 +60,26 @@ impl Space {
         Space { size, words }
     }
 
+    /// Writes to all of the space's memory once, so that no later write meets a page for the first time. The space stays as it is.
+    pub fn touch(&mut self)
+        ensures { self.new ≡ self.old }
+    {
+        let end = self.words.len();
+        // There is room, so this cannot fail.
+        self.words.resize(self.size as usize, 0).unwrap();
+        self.words.truncate(end);
+    }
+
+    /// Makes the space smaller, and frees the memory of the words that it loses, of which no object may take one. Allocates nothing.
+    pub fn shrink(&mut self, size: u32)
+        requires room { end_of self.old ≤ size }
+        requires less { size ≤ self.old.size }
+        ensures { self.new ≡ record self.old { size = size } }
+    {
+        self.words.shrink_to(size as usize);
+        self.size = size;
+    }
+
     /// Returns the size in words.
     pub fn size(&self) -> u32
         ensures value { result ≡ self.now.size }

@@ -3,13 +3,14 @@ use Rattle.std.proofs.Common.{◌≡◌, refl, true, false, Option, Some, None, 
 use mathlib.Core.List.{[]}
 use mir.Syntax.{impl, tnil, dnil}
 use denote.RattleType.{RattleType}
+use Rattle.gc_plan.specs.State.{State}
 use denote.Signature.{Slot, plain}
-use Rattle.std_alloc.proofs.BoxSteps.Form.{Bx, X}
+use Rattle.std_alloc.proofs.BoxSteps.Form.{Bx}
 use Rattle.std.specs.contracts.alloc.Global as Global
 use Rattle.std.specs.contracts.impls.GlobalAllocator.TheImpl.{ghosts, dict}
 use Rattle.std.proofs.alloc.Global.TheLaws as global
-use Rattle.gc_live.specs.contracts.live_heap.LiveHeap as Heap
-use Rattle.gc_live.proofs.live_heap.LiveHeap.TheLaws as heap
+use Rattle.gc_live.specs.contracts.kept_heap.KeptHeap as Heap
+use Rattle.gc_live.proofs.kept_heap.KeptHeap.TheLaws as heap
 use Rattle.gcflip_heap_c.specs.contracts.parts.Parts as Parts
 use Rattle.gcflip_heap_c.specs.contracts.handle.GcflipHeap as Handle
 
@@ -27,6 +28,6 @@ abbrev pub its_handle : Slot 0
 its_handle = plain (λ _. Handle.the_row)
 
 -- the state that a handle has
-pub there : (state : Option (X heap_box)) → IsSome state → (heap : X heap_box) × (state ≡ Some heap)
+pub there : (state : Option State) → IsSome state → (live : State) × (state ≡ Some live)
 there None is = absurd (let never : false ≡ true = is in cc)
-there (Some heap) is = (heap, refl)
+there (Some live) is = (live, refl)

@@ -36,11 +36,12 @@ pub extern "C" fn gcflip_heap_flip_checks(
     ensures heap { heap.new.state ≡ heap.old.state }
     ensures silent { result ≡ 3 → checks.new ≡ checks.old }
     ensures closed { (result ≡ 3) ↔ (heap.old.state ≡ None) }
+    ensures former { heap.new.former ≡ heap.old.former }
 {
     if heap.is_empty() {
         return CLOSED;
     }
-    let counted = heap.heap_mut().flip_checks();
+    let counted = heap.kept_mut().live.flip_checks();
     *checks = GcflipFlipChecks {
         along: counted.along,
         whole: counted.whole,
@@ -131,11 +132,12 @@ pub extern "C" fn gcflip_heap_check(heap: &mut GcflipHeap, verdict: &mut GcflipV
     ensures answers { IsRefusal result → (result ≡ 1) ⊎ (result ≡ 3) }
     ensures memory { result ≡ 1 → IsSomeAnd heap.old.state (λ s. Allocates s Step.Flip) }
     ensures closed { (result ≡ 3) ↔ (heap.old.state ≡ None) }
+    ensures former { heap.new.former ≡ heap.old.former }
 {
     if heap.is_empty() {
         return CLOSED;
     }
-    match heap.heap_mut().check(&Sequential) {
+    match heap.kept_mut().live.check(&Sequential) {
         Ok(found) => of_finding(found, verdict),
         Err(NoMemory) => NO_MEMORY,
     }

@@ -26,11 +26,12 @@ pub extern "C" fn gcflip_heap_new_object(
     ensures call { IsCommandCall m (option_map (λ d. Op.New d kind count) (slot_at d))
         (λ reply. result ≡ reply_in_c reply) heap.old.state heap.new.state result }
     ensures memory { result ≢ 1 }
+    ensures former { heap.new.former ≡ heap.old.former }
 {
     if heap.is_empty() {
         return CLOSED;
     }
-    let heap = heap.heap_mut();
+    let heap = &mut heap.kept_mut().live;
     if m >= heap.mutators() {
         return OUT_OF_RANGE;
     }
@@ -52,11 +53,12 @@ pub extern "C" fn gcflip_heap_new_raw(
     ensures call { IsCommandCall m (option_map (λ d. Op.NewRaw d kind count) (slot_at d))
         (λ reply. result ≡ reply_in_c reply) heap.old.state heap.new.state result }
     ensures memory { result ≢ 1 }
+    ensures former { heap.new.former ≡ heap.old.former }
 {
     if heap.is_empty() {
         return CLOSED;
     }
-    let heap = heap.heap_mut();
+    let heap = &mut heap.kept_mut().live;
     if m >= heap.mutators() {
         return OUT_OF_RANGE;
     }
@@ -72,11 +74,12 @@ pub extern "C" fn gcflip_heap_set_number(heap: &mut GcflipHeap, m: u8, d: u8, n:
     ensures call { IsCommandCall m (with_both (slot_at d) (number_in n) Op.Num)
         (λ reply. result ≡ reply_in_c reply) heap.old.state heap.new.state result }
     ensures memory { result ≢ 1 }
+    ensures former { heap.new.former ≡ heap.old.former }
 {
     if heap.is_empty() {
         return CLOSED;
     }
-    let heap = heap.heap_mut();
+    let heap = &mut heap.kept_mut().live;
     if m >= heap.mutators() {
         return OUT_OF_RANGE;
     }
@@ -95,11 +98,12 @@ pub extern "C" fn gcflip_heap_set_nil(heap: &mut GcflipHeap, m: u8, d: u8) -> u3
     ensures call { IsCommandCall m (option_map Op.Nil (slot_at d))
         (λ reply. result ≡ reply_in_c reply) heap.old.state heap.new.state result }
     ensures memory { result ≢ 1 }
+    ensures former { heap.new.former ≡ heap.old.former }
 {
     if heap.is_empty() {
         return CLOSED;
     }
-    let heap = heap.heap_mut();
+    let heap = &mut heap.kept_mut().live;
     if m >= heap.mutators() {
         return OUT_OF_RANGE;
     }
@@ -115,11 +119,12 @@ pub extern "C" fn gcflip_heap_move(heap: &mut GcflipHeap, m: u8, d: u8, s: u8) -
     ensures call { IsCommandCall m (with_both (slot_at d) (slot_at s) Op.Move)
         (λ reply. result ≡ reply_in_c reply) heap.old.state heap.new.state result }
     ensures memory { result ≢ 1 }
+    ensures former { heap.new.former ≡ heap.old.former }
 {
     if heap.is_empty() {
         return CLOSED;
     }
-    let heap = heap.heap_mut();
+    let heap = &mut heap.kept_mut().live;
     if m >= heap.mutators() {
         return OUT_OF_RANGE;
     }
@@ -147,11 +152,12 @@ pub extern "C" fn gcflip_heap_get(
         (λ reply. (result ≡ fetched_in_c (fetched_of reply)) × (number.new ≡ number_after number.old (fetched_of reply))) heap.old.state heap.new.state result }
     ensures silent { IsRefusal result → number.new ≡ number.old }
     ensures memory { result ≢ 1 }
+    ensures former { heap.new.former ≡ heap.old.former }
 {
     if heap.is_empty() {
         return CLOSED;
     }
-    let heap = heap.heap_mut();
+    let heap = &mut heap.kept_mut().live;
     if m >= heap.mutators() {
         return OUT_OF_RANGE;
     }
@@ -171,11 +177,12 @@ pub extern "C" fn gcflip_heap_put(heap: &mut GcflipHeap, m: u8, s: u8, i: u16, t
     ensures call { IsCommandCall m (with_both (slot_at s) (slot_at t) (λ s t. Op.Put s i t))
         (λ reply. result ≡ reply_in_c reply) heap.old.state heap.new.state result }
     ensures memory { result ≡ 1 → IsSomeAnd heap.old.state (λ s. IsSome s.collection) }
+    ensures former { heap.new.former ≡ heap.old.former }
 {
     if heap.is_empty() {
         return CLOSED;
     }
-    let heap = heap.heap_mut();
+    let heap = &mut heap.kept_mut().live;
     if m >= heap.mutators() {
         return OUT_OF_RANGE;
     }
@@ -204,11 +211,12 @@ pub extern "C" fn gcflip_heap_put_number(
 ) -> u32
     ensures call { IsPutNumberCall m (slot_at s) i (slot_at t) (number_in n) heap.old.state heap.new.state result }
     ensures memory { result ≡ 1 → IsSomeAnd heap.old.state (λ s. IsSome s.collection) }
+    ensures former { heap.new.former ≡ heap.old.former }
 {
     if heap.is_empty() {
         return CLOSED;
     }
-    let heap = heap.heap_mut();
+    let heap = &mut heap.kept_mut().live;
     if m >= heap.mutators() {
         return OUT_OF_RANGE;
     }
@@ -233,11 +241,12 @@ pub extern "C" fn gcflip_heap_put_number(
 pub extern "C" fn gcflip_heap_put_nil(heap: &mut GcflipHeap, m: u8, s: u8, i: u16, t: u8) -> u32
     ensures call { IsPutNilCall m (slot_at s) i (slot_at t) heap.old.state heap.new.state result }
     ensures memory { result ≡ 1 → IsSomeAnd heap.old.state (λ s. IsSome s.collection) }
+    ensures former { heap.new.former ≡ heap.old.former }
 {
     if heap.is_empty() {
         return CLOSED;
     }
-    let heap = heap.heap_mut();
+    let heap = &mut heap.kept_mut().live;
     if m >= heap.mutators() {
         return OUT_OF_RANGE;
     }
@@ -267,11 +276,12 @@ pub extern "C" fn gcflip_heap_new_pair(
 ) -> u32
     ensures call { IsNewFromCall m d kind (s ∷ t ∷ []) heap.old.state heap.new.state result }
     ensures memory { result ≡ 1 → IsSomeAnd heap.old.state (λ s. IsSome s.collection) }
+    ensures former { heap.new.former ≡ heap.old.former }
 {
     if heap.is_empty() {
         return CLOSED;
     }
-    let heap = heap.heap_mut();
+    let heap = &mut heap.kept_mut().live;
     if m >= heap.mutators() {
         return OUT_OF_RANGE;
     }
@@ -304,11 +314,12 @@ pub extern "C" fn gcflip_heap_new_from(
 ) -> u32
     ensures call { IsNewFromCall m d kind fields.now heap.old.state heap.new.state result }
     ensures memory { result ≡ 1 → IsSomeAnd heap.old.state (λ s. IsSome s.collection) }
+    ensures former { heap.new.former ≡ heap.old.former }
 {
     if heap.is_empty() {
         return CLOSED;
     }
-    let heap = heap.heap_mut();
+    let heap = &mut heap.kept_mut().live;
     if m >= heap.mutators() {
         return OUT_OF_RANGE;
     }
@@ -331,11 +342,12 @@ pub extern "C" fn gcflip_heap_same(heap: &mut GcflipHeap, m: u8, s: u8, t: u8) -
     ensures call { IsCommandCall m (with_both (slot_at s) (slot_at t) Op.Same)
         (λ reply. result ≡ reply_in_c reply) heap.old.state heap.new.state result }
     ensures memory { result ≢ 1 }
+    ensures former { heap.new.former ≡ heap.old.former }
 {
     if heap.is_empty() {
         return CLOSED;
     }
-    let heap = heap.heap_mut();
+    let heap = &mut heap.kept_mut().live;
     if m >= heap.mutators() {
         return OUT_OF_RANGE;
     }
@@ -360,11 +372,12 @@ pub extern "C" fn gcflip_heap_look(
         (λ reply. (result ≡ reply_in_c reply) × (view.new ≡ view_after view.old reply)) heap.old.state heap.new.state result }
     ensures silent { IsRefusal result → view.new ≡ view.old }
     ensures memory { result ≢ 1 }
+    ensures former { heap.new.former ≡ heap.old.former }
 {
     if heap.is_empty() {
         return CLOSED;
     }
-    let heap = heap.heap_mut();
+    let heap = &mut heap.kept_mut().live;
     if m >= heap.mutators() {
         return OUT_OF_RANGE;
     }

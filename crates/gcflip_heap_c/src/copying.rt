@@ -25,11 +25,12 @@ pub extern "C" fn gcflip_heap_copy_fields(
 ) -> u32
     ensures call { IsCopyCall m d to s from t count heap.old.state heap.new.state result }
     ensures memory { result ≡ 1 → IsSomeAnd heap.old.state (λ s. IsSome s.collection) }
+    ensures former { heap.new.former ≡ heap.old.former }
 {
     if heap.is_empty() {
         return CLOSED;
     }
-    let heap = heap.heap_mut();
+    let heap = &mut heap.kept_mut().live;
     if m >= heap.mutators() || t == d || t == s {
         return OUT_OF_RANGE;
     }

@@ -34,11 +34,12 @@ fn is_frame(heap: &LiveHeap, frame: &GcflipFrame) -> bool
 pub extern "C" fn gcflip_heap_root_load(heap: &mut GcflipHeap, m: u8, d: u8, k: u32) -> u32
     ensures call { IsLoadCall m (slot_at d) k heap.old.state heap.new.state result }
     ensures memory { result ≢ 1 }
+    ensures former { heap.new.former ≡ heap.old.former }
 {
     if heap.is_empty() {
         return CLOSED;
     }
-    let heap = heap.heap_mut();
+    let heap = &mut heap.kept_mut().live;
     if m >= heap.mutators() || k >= heap.extra_roots() {
         return OUT_OF_RANGE;
     }
@@ -53,11 +54,12 @@ pub extern "C" fn gcflip_heap_root_load(heap: &mut GcflipHeap, m: u8, d: u8, k: 
 pub extern "C" fn gcflip_heap_root_store(heap: &mut GcflipHeap, m: u8, k: u32, s: u8) -> u32
     ensures call { IsStoreCall m k (slot_at s) heap.old.state heap.new.state result }
     ensures memory { result ≢ 1 }
+    ensures former { heap.new.former ≡ heap.old.former }
 {
     if heap.is_empty() {
         return CLOSED;
     }
-    let heap = heap.heap_mut();
+    let heap = &mut heap.kept_mut().live;
     if m >= heap.mutators() || k >= heap.extra_roots() {
         return OUT_OF_RANGE;
     }
@@ -72,11 +74,12 @@ pub extern "C" fn gcflip_heap_root_store(heap: &mut GcflipHeap, m: u8, k: u32, s
 pub extern "C" fn gcflip_heap_root_clear(heap: &mut GcflipHeap, from: u32, to: u32) -> u32
     ensures call { IsClearCall from to heap.old.state heap.new.state result }
     ensures memory { result ≢ 1 }
+    ensures former { heap.new.former ≡ heap.old.former }
 {
     if heap.is_empty() {
         return CLOSED;
     }
-    let heap = heap.heap_mut();
+    let heap = &mut heap.kept_mut().live;
     if from > to || to > heap.extra_roots() {
         return OUT_OF_RANGE;
     }
@@ -92,12 +95,13 @@ pub extern "C" fn gcflip_heap_frame_push(
     s: u8,
     frame: &mut GcflipFrame,
 ) -> u32
-    ensures { IsPushCall m (slot_at s) heap.old.state heap.new.state frame.old frame.new result }
+    ensures call { IsPushCall m (slot_at s) heap.old.state heap.new.state frame.old frame.new result }
+    ensures former { heap.new.former ≡ heap.old.former }
 {
     if heap.is_empty() {
         return CLOSED;
     }
-    let heap = heap.heap_mut();
+    let heap = &mut heap.kept_mut().live;
     if m >= heap.mutators() || !is_frame(heap, frame) {
         return OUT_OF_RANGE;
     }
@@ -121,12 +125,13 @@ pub extern "C" fn gcflip_heap_frame_pop(
     d: u8,
     frame: &mut GcflipFrame,
 ) -> u32
-    ensures { IsPopCall m (slot_at d) heap.old.state heap.new.state frame.old frame.new result }
+    ensures call { IsPopCall m (slot_at d) heap.old.state heap.new.state frame.old frame.new result }
+    ensures former { heap.new.former ≡ heap.old.former }
 {
     if heap.is_empty() {
         return CLOSED;
     }
-    let heap = heap.heap_mut();
+    let heap = &mut heap.kept_mut().live;
     if m >= heap.mutators() || !is_frame(heap, frame) {
         return OUT_OF_RANGE;
     }

@@ -3,26 +3,29 @@
 ghost use Rattle.std.specs.Prelude.{◌≡◌, Option, Some, None, IsSome, MatchBool, MatchOption};
 ghost use Rattle.std.specs.Borrow.{sem};
 ghost use Rattle.gc_plan.specs.State.{State};
-ghost use Rattle.gcflip_heap_c.specs.Handle.{owns_heap, coded_heap};
+ghost use Rattle.gc_copy.specs.Words.{RoomWords};
+ghost use Rattle.gcflip_heap_c.specs.Handle.{owns_heap, coded_state, coded_former};
 
 use crate::parts::Parts;
-use gc_live::LiveHeap;
+use gc_live::KeptHeap;
 use std::alloc::Global;
 use std::marker::Model;
 use std::mem::replace;
 use std::ptr::null_mut;
 
-/// A handle: a pointer to a heap, or null. Contracts see the state of the heap, if there is one.
+/// A handle: a pointer to a heap, or null. Contracts see the state of the heap, if there is one, and the old space of its last flip, until a
+/// collection begins.
 #[repr(C)]
 #[derive(Drop)]
 pub struct GcflipHeap {
     at: *mut u8,
     alloc: Global,
-    ghost state: { Option State } by { coded_heap },
+    ghost state: { Option State } by { coded_state },
+    ghost former: { Option RoomWords } by { coded_former },
 }
 
 impl Model for GcflipHeap {
-    ghost also_owns = { λ handle. owns_heap handle.alloc handle.at handle.state };
+    ghost also_owns = { λ handle. owns_heap handle.alloc handle.at handle.state handle.former };
 }
 
 impl GcflipHeap {
@@ -44,25 +47,26 @@ impl GcflipHeap {
     }
 
     /// Lends the heap.
-    pub(crate) fn heap_mut(&mut self) -> &mut LiveHeap
+    pub(crate) fn kept_mut(&mut self) -> &mut KeptHeap
         requires { IsSome self.old.state }
         ensures* writes_back { sem 𝓛 (LendsHeap self.entry result) }
-        ensures value { self.old.state ≡ Some result.now }
+        ensures value { (self.old.state ≡ Some result.now.live) × (self.old.former ≡ result.now.former) }
     {
-        let at = self.at as *mut LiveHeap;
+        let at = self.at as *mut KeptHeap;
         unsafe { &mut *at }
     }
 
     /// Returns a handle that has this heap.
-    pub(crate) fn full(heap: Box<LiveHeap>) -> GcflipHeap
-        ensures { result.state ≡ Some heap.value }
+    pub(crate) fn full(heap: Box<KeptHeap>) -> GcflipHeap
+        ensures state { result.state ≡ Some heap.value.live }
+        ensures former { result.former ≡ heap.value.former }
     {
         GcflipHeap::of_parts(Parts::of(heap))
     }
 
     /// Takes the heap out of the handle, if it has one.
-    pub(crate) fn take(&mut self, alloc: Global) -> Option<Box<LiveHeap>>
-        ensures heap { MatchOption result (self.old.state ≡ None) (λ heap. self.old.state ≡ Some heap.value) }
+    pub(crate) fn take(&mut self, alloc: Global) -> Option<Box<KeptHeap>>
+        ensures heap { MatchOption result (self.old.state ≡ None) (λ heap. self.old.state ≡ Some heap.value.live) }
         ensures empty { self.new.state ≡ None }
     {
         if self.is_empty() {
@@ -75,20 +79,20 @@ impl GcflipHeap {
         )
     }
 
-    fn of_parts(parts: Parts<LiveHeap, Global>) -> GcflipHeap
-        ensures { result.state ≡ Some parts.value }
+    fn of_parts(parts: Parts<KeptHeap, Global>) -> GcflipHeap
+        ensures { (result.state ≡ Some parts.value.live) × (result.former ≡ parts.value.former) }
     {
         let Parts { at, alloc } = parts;
         let at = at as *mut u8;
         GcflipHeap { at, alloc }
     }
 
-    fn into_parts(self) -> Parts<LiveHeap, Global>
+    fn into_parts(self) -> Parts<KeptHeap, Global>
         requires { IsSome self.state }
-        ensures { Some result.value ≡ self.state }
+        ensures { (Some result.value.live ≡ self.state) × (result.value.former ≡ self.former) }
     {
         let GcflipHeap { at, alloc } = self;
-        let at = at as *mut LiveHeap;
+        let at = at as *mut KeptHeap;
         Parts { at, alloc }
     }
 }

@@ -9,6 +9,7 @@ mod frame;
 mod handle;
 mod laws;
 mod mixed;
+mod moved;
 mod opening;
 mod pace;
 mod parts;
@@ -34,6 +35,7 @@ pub use frame::{
 pub use handle::GcflipHeap;
 pub use laws::paced_work_bounds_logs;
 pub use mixed::{GcflipField, gcflip_heap_new_with};
+pub use moved::gcflip_heap_moved;
 pub use opening::{GcflipOptions, gcflip_heap_close, gcflip_heap_open};
 pub use pace::{GcflipPace, gcflip_heap_pace, gcflip_heap_work_paced, gcflip_pace_due};
 pub use raws::{gcflip_heap_address, gcflip_heap_raw_read, gcflip_heap_raw_write};

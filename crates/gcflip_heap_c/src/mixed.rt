@@ -93,11 +93,12 @@ pub extern "C" fn gcflip_heap_new_with(
 ) -> u32
     ensures call { IsNewWithCall m d kind t fields.now heap.old.state heap.new.state result }
     ensures memory { result ≡ 1 → IsSomeAnd heap.old.state (λ s. IsSome s.collection) }
+    ensures former { heap.new.former ≡ heap.old.former }
 {
     if heap.is_empty() {
         return CLOSED;
     }
-    let heap = heap.heap_mut();
+    let heap = &mut heap.kept_mut().live;
     if m >= heap.mutators() || t == d {
         return OUT_OF_RANGE;
     }

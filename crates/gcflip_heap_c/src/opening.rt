@@ -11,7 +11,7 @@ use crate::answer::{CLOSED, DONE, NO_MEMORY, OPEN, OUT_OF_RANGE};
 use crate::handle::GcflipHeap;
 use gc_graph::{MOST_MUTATORS, NoMemory};
 use gc_heap::{HeapOptions, MOST_EXTRA_ROOTS};
-use gc_live::{Checking, LiveHeap};
+use gc_live::{Checking, KeptHeap};
 use std::alloc::Global;
 
 /// The number of bytes of `GcflipOptions`.
@@ -52,7 +52,9 @@ pub extern "C" fn gcflip_heap_open(
 ) -> u32
     ensures answers { (result ≤ 2) ⊎ (result ≡ 4) }
     ensures done { result ≡ 0 → heap.new.state ≡ Some (opening_state_with (options_in options.now)) }
-    ensures refused { 1 ≤ result → heap.new.state ≡ heap.old.state }
+    // No flip has been.
+    ensures former { result ≡ 0 → heap.new.former ≡ None }
+    ensures refused { 1 ≤ result → (heap.new.state ≡ heap.old.state) × (heap.new.former ≡ heap.old.former) }
     ensures open { (result ≡ 4) ↔ IsSome heap.old.state }
     ensures outside { (result ≡ 2) ↔ ((heap.old.state ≡ None) × (¬ CanOpenWith options.now)) }
 {
@@ -73,6 +75,25 @@ pub extern "C" fn gcflip_heap_open(
             *heap = GcflipHeap::full(boxed);
             DONE
         }
+        Err(NoMemory) => NO_MEMORY,
+    }
+}
+
+/// Writes to all memory of both spaces once, so that no later call meets a page of theirs for the first time. If a collection is open, its new
+/// space is left out. Allocates the space for the next collection, unless a flip has left one. Returns 0, or 3 if the handle has no heap,
+/// and 1 if the allocation fails. The heap stays as it is.
+#[unsafe(no_mangle)]
+pub extern "C" fn gcflip_heap_touch(alloc: Global, heap: &mut GcflipHeap) -> u32
+    ensures answers { (result ≤ 1) ⊎ (result ≡ 3) }
+    ensures heap { heap.new.state ≡ heap.old.state }
+    ensures former { heap.new.former ≡ heap.old.former }
+    ensures closed { (result ≡ 3) ↔ (heap.old.state ≡ None) }
+{
+    if heap.is_empty() {
+        return CLOSED;
+    }
+    match heap.kept_mut().touch(alloc) {
+        Ok(()) => DONE,
         Err(NoMemory) => NO_MEMORY,
     }
 }
@@ -107,11 +128,12 @@ fn boxed_heap(
     alloc: Global,
     options: &HeapOptions,
     checking: Checking,
-) -> Result<Box<LiveHeap>, NoMemory>
+) -> Result<Box<KeptHeap>, NoMemory>
     requires { heaps.CanOpen options.now }
-    ensures { IfOk result (λ heap. heap.value ≡ opening_state_with options.now) }
+    ensures state { IfOk result (λ heap. heap.value.live ≡ opening_state_with options.now) }
+    ensures former { IfOk result (λ heap. heap.value.former ≡ None) }
 {
-    let opened = LiveHeap::open_with(alloc, options, checking)?;
+    let opened = KeptHeap::open_with(alloc, options, checking)?;
     Ok(Box::new(alloc, opened)?)
 }
 

@@ -6,6 +6,7 @@ ghost use Rattle.gc_core.specs.CollectedHeap.{Allocates};
 ghost use Rattle.gcflip_heap_c.specs.Readings as readings;
 ghost use Rattle.gcflip_heap_c.specs.Pace as paces;
 ghost use Rattle.gcflip_heap_c.specs.Pace.{IsPace, IsPacedWork, IsPacedCall};
+ghost use Rattle.gcflip_heap_c.specs.Former.{LeavesAfter};
 ghost use Rattle.gcflip_heap_c.specs.Work.{IsWork};
 
 use crate::answer::{CLOSED, DONE, NO_MEMORY, OUT_OF_RANGE};
@@ -13,7 +14,7 @@ use crate::handle::GcflipHeap;
 use crate::reading::{GcflipCounts, counts_of};
 use crate::work::{GcflipWork, work_on};
 use gc_graph::NoMemory;
-use gc_live::LiveHeap;
+use gc_live::KeptHeap;
 
 /// The lowest factor of a pace, in hundredths.
 const LOWEST_FACTOR: u32 = 100;
@@ -152,6 +153,7 @@ pub extern "C" fn gcflip_heap_pace(heap: &mut GcflipHeap, pace: &mut GcflipPace)
     ensures silent { 1 ≤ result → pace.new ≡ pace.old }
     ensures outside { (result ≡ 2) ↔ IsSomeAnd heap.old.state (λ s. ¬ IsPace pace.old) }
     ensures closed { (result ≡ 3) ↔ (heap.old.state ≡ None) }
+    ensures former { heap.new.former ≡ heap.old.former }
 {
     if heap.is_empty() {
         return CLOSED;
@@ -159,7 +161,7 @@ pub extern "C" fn gcflip_heap_pace(heap: &mut GcflipHeap, pace: &mut GcflipPace)
     if !is_fit(pace) {
         return OUT_OF_RANGE;
     }
-    let counts = counts_of(heap.heap_mut());
+    let counts = counts_of(&heap.kept_mut().live);
     pace.left = counts.end;
     pace.end = counts.end;
     pace.logged = counts.logged;
@@ -192,11 +194,12 @@ fn pace_after(pace: &GcflipPace, work: &GcflipWork, counts: &GcflipCounts) -> Gc
 }
 
 /// Performs this many useful steps, or none.
-fn work_due(heap: &mut LiveHeap, due: u32) -> Result<GcflipWork, NoMemory>
+fn work_due(heap: &mut KeptHeap, due: u32) -> Result<GcflipWork, NoMemory>
     ensures none { due ≡ 0 → IfOk result (λ work. (heap.new ≡ heap.old) × (work ≡ paces.no_work)) }
-    ensures some { 1 ≤ due → IfOk result (IsWork None due heap.old heap.new) }
+    ensures some { 1 ≤ due → IfOk result (IsWork None due heap.old.live heap.new.live) }
+    ensures former { IfOk result (λ work. LeavesAfter None work.steps heap.old.live heap.old.former heap.new.former) }
     ensures refused { OnErr result (heap.new ≡ heap.old) }
-    ensures allocates { OnErr result (Allocates heap.old (useful_step heap.old)) }
+    ensures allocates { OnErr result (Allocates heap.old.live (useful_step heap.old.live)) }
 {
     if due == 0 {
         return Ok(GcflipWork {
@@ -210,16 +213,17 @@ fn work_due(heap: &mut LiveHeap, due: u32) -> Result<GcflipWork, NoMemory>
 }
 
 /// Performs the useful steps that are due.
-fn work_at_pace(heap: &mut LiveHeap, pace: &GcflipPace, wanted: u32) -> Result<Paced, NoMemory>
-    ensures done { IfOk result (λ made. IsPacedWork wanted heap.old heap.new pace.now made.pace made.work) }
+fn work_at_pace(heap: &mut KeptHeap, pace: &GcflipPace, wanted: u32) -> Result<Paced, NoMemory>
+    ensures done { IfOk result (λ made. IsPacedWork wanted heap.old.live heap.new.live pace.now made.pace made.work) }
+    ensures former { IfOk result (λ made. LeavesAfter None made.work.steps heap.old.live heap.old.former heap.new.former) }
     ensures refused { OnErr result (heap.new ≡ heap.old) }
-    ensures allocates { OnErr result (Allocates heap.old (useful_step heap.old)) }
+    ensures allocates { OnErr result (Allocates heap.old.live (useful_step heap.old.live)) }
 {
-    heap.is_sound();
-    let due = gcflip_pace_due(pace, &counts_of(heap), wanted);
+    heap.live.is_sound();
+    let due = gcflip_pace_due(pace, &counts_of(&heap.live), wanted);
     let work = work_due(heap, due)?;
-    heap.is_sound();
-    let pace = pace_after(pace, &work, &counts_of(heap));
+    heap.live.is_sound();
+    let pace = pace_after(pace, &work, &counts_of(&heap.live));
     Ok(Paced { work, pace })
 }
 
@@ -232,7 +236,9 @@ pub extern "C" fn gcflip_heap_work_paced(
     wanted: u32,
     work: &mut GcflipWork,
 ) -> u32
-    ensures { IsPacedCall wanted heap.old.state heap.new.state pace.old pace.new work.old work.new result }
+    ensures call { IsPacedCall wanted heap.old.state heap.new.state pace.old pace.new work.old work.new result }
+    ensures former { result ≡ 0 → IsSomeAnd heap.old.state (λ s. LeavesAfter None work.new.steps s heap.old.former heap.new.former) }
+    ensures kept { 1 ≤ result → heap.new.former ≡ heap.old.former }
 {
     if heap.is_empty() {
         return CLOSED;
@@ -240,7 +246,7 @@ pub extern "C" fn gcflip_heap_work_paced(
     if !is_fit(pace) {
         return OUT_OF_RANGE;
     }
-    match work_at_pace(heap.heap_mut(), pace, wanted) {
+    match work_at_pace(heap.kept_mut(), pace, wanted) {
         Ok(made) => {
             *work = made.work;
             *pace = made.pace;

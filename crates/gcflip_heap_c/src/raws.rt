@@ -45,11 +45,12 @@ pub extern "C" fn gcflip_heap_raw_read(
     ensures read { result ≡ 0 → Reads heap.old.state m (slot_at s) first (length words.old) words.new }
     ensures heap { heap.new.state ≡ heap.old.state }
     ensures silent { 1 ≤ result → words.new ≡ words.old }
+    ensures former { heap.new.former ≡ heap.old.former }
 {
     if heap.is_empty() {
         return CLOSED;
     }
-    let heap = heap.heap_mut();
+    let heap = &mut heap.kept_mut().live;
     let Some(s) = slot(s) else {
         return OUT_OF_RANGE;
     };
@@ -73,11 +74,12 @@ pub extern "C" fn gcflip_heap_raw_write(
 ) -> u32
     ensures call { IsRawWriteCall m s first t words.now heap.old.state heap.new.state result }
     ensures memory { result ≡ 1 → IsSomeAnd heap.old.state (λ s. IsSome s.collection) }
+    ensures former { heap.new.former ≡ heap.old.former }
 {
     if heap.is_empty() {
         return CLOSED;
     }
-    let heap = heap.heap_mut();
+    let heap = &mut heap.kept_mut().live;
     if m >= heap.mutators() || s == t {
         return OUT_OF_RANGE;
     }
@@ -114,11 +116,12 @@ pub extern "C" fn gcflip_heap_address(heap: &mut GcflipHeap, m: u8, s: u8, addre
     ensures answer { result ≡ answer_at heap.old.state m (slot_at s) (λ state slot. address_answer (address_in state slot m)) }
     ensures address { address.new ≡ address_written heap.old.state m (slot_at s) address.old }
     ensures heap { heap.new.state ≡ heap.old.state }
+    ensures former { heap.new.former ≡ heap.old.former }
 {
     if heap.is_empty() {
         return CLOSED;
     }
-    let heap = heap.heap_mut();
+    let heap = &mut heap.kept_mut().live;
     let Some(s) = slot(s) else {
         return OUT_OF_RANGE;
     };

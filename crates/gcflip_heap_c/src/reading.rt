@@ -92,11 +92,12 @@ pub extern "C" fn gcflip_heap_counts(heap: &mut GcflipHeap, counts: &mut GcflipC
     ensures heap { heap.new.state ≡ heap.old.state }
     ensures silent { result ≡ 3 → counts.new ≡ counts.old }
     ensures closed { (result ≡ 3) ↔ (heap.old.state ≡ None) }
+    ensures former { heap.new.former ≡ heap.old.former }
 {
     if heap.is_empty() {
         return CLOSED;
     }
-    *counts = counts_of(heap.heap_mut());
+    *counts = counts_of(&heap.kept_mut().live);
     DONE
 }
 
@@ -109,11 +110,12 @@ pub extern "C" fn gcflip_heap_log_length(heap: &mut GcflipHeap, m: u8, count: &m
     ensures silent { 1 ≤ result → count.new ≡ count.old }
     ensures outside { (result ≡ 2) ↔ IsSomeAnd heap.old.state (λ s. s.mutators ≤ m) }
     ensures closed { (result ≡ 3) ↔ (heap.old.state ≡ None) }
+    ensures former { heap.new.former ≡ heap.old.former }
 {
     if heap.is_empty() {
         return CLOSED;
     }
-    let heap = heap.heap_mut();
+    let heap = &mut heap.kept_mut().live;
     if m >= heap.mutators() {
         return OUT_OF_RANGE;
     }
@@ -153,11 +155,12 @@ pub extern "C" fn gcflip_heap_log_entry(
     ensures silent { 1 ≤ result → entry.new ≡ entry.old }
     ensures outside { (result ≡ 2) ↔ IsSomeAnd heap.old.state (λ s. entry_at s m k ≡ None) }
     ensures closed { (result ≡ 3) ↔ (heap.old.state ≡ None) }
+    ensures former { heap.new.former ≡ heap.old.former }
 {
     if heap.is_empty() {
         return CLOSED;
     }
-    if copy_entry(heap.heap_mut(), m, k, entry) {
+    if copy_entry(&heap.kept_mut().live, m, k, entry) {
         DONE
     } else {
         OUT_OF_RANGE
@@ -194,11 +197,12 @@ pub extern "C" fn gcflip_heap_image(
     ensures silent { 1 ≤ result → (words.new ≡ words.old) × (roots.new ≡ roots.old) }
     ensures outside { (result ≡ 2) ↔ IsSomeAnd heap.old.state (λ s. ¬ FitsImage words.old roots.old s) }
     ensures closed { (result ≡ 3) ↔ (heap.old.state ≡ None) }
+    ensures former { heap.new.former ≡ heap.old.former }
 {
     if heap.is_empty() {
         return CLOSED;
     }
-    if copy_image(heap.heap_mut(), words, roots) {
+    if copy_image(&heap.kept_mut().live, words, roots) {
         DONE
     } else {
         OUT_OF_RANGE
@@ -231,11 +235,12 @@ pub extern "C" fn gcflip_heap_new_words(heap: &mut GcflipHeap, words: &mut [u64]
     ensures silent { 1 ≤ result → words.new ≡ words.old }
     ensures outside { (result ≡ 2) ↔ IsSomeAnd heap.old.state (λ s. ¬ FitsNew words.old (new_words s)) }
     ensures closed { (result ≡ 3) ↔ (heap.old.state ≡ None) }
+    ensures former { heap.new.former ≡ heap.old.former }
 {
     if heap.is_empty() {
         return CLOSED;
     }
-    if copy_new_words(heap.heap_mut(), words) {
+    if copy_new_words(&heap.kept_mut().live, words) {
         DONE
     } else {
         OUT_OF_RANGE

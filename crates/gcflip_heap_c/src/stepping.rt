@@ -5,6 +5,7 @@ ghost use Rattle.gc_plan.specs.declared.step.Step.{Step};
 ghost use Rattle.gc_plan.specs.Steps.{useful_step};
 ghost use Rattle.gcflip_heap_c.specs.Steps.{IsStepCall, Flips, LacksNoRoom, step_in_c};
 ghost use Rattle.gcflip_heap_c.specs.Replies.{IsRefusal, step_reply_in_c, pairs_after};
+ghost use Rattle.gcflip_heap_c.specs.Former.{Leaves};
 
 use crate::answer::{CLOSED, DONE, NO_MEMORY, OUT_OF_RANGE};
 use crate::handle::GcflipHeap;
@@ -47,23 +48,27 @@ pub extern "C" fn gcflip_heap_useful(heap: &mut GcflipHeap, step: &mut GcflipSte
     ensures heap { heap.new.state ≡ heap.old.state }
     ensures silent { result ≡ 3 → step.new ≡ step.old }
     ensures closed { (result ≡ 3) ↔ (heap.old.state ≡ None) }
+    ensures former { heap.new.former ≡ heap.old.former }
 {
     if heap.is_empty() {
         return CLOSED;
     }
-    *step = of_useful(heap.heap_mut().next_useful_step());
+    *step = of_useful(heap.kept_mut().live.next_useful_step());
     DONE
 }
 
 /// Opens a collection whose new space is as large as the heap. Allocates the new space and the logs.
 #[unsafe(no_mangle)]
 pub extern "C" fn gcflip_heap_step_begin(heap: &mut GcflipHeap) -> u32
-    ensures { IsStepCall Step.Begin (λ reply. result ≡ step_reply_in_c reply) heap.old.state heap.new.state result }
+    ensures call { IsStepCall Step.Begin (λ reply. result ≡ step_reply_in_c reply) heap.old.state heap.new.state result }
+    // The old space of the last flip stays until a collection begins.
+    ensures former { ¬ IsRefusal result → Leaves heap.old.state heap.old.former result heap.new.former }
+    ensures kept { IsRefusal result → heap.new.former ≡ heap.old.former }
 {
     if heap.is_empty() {
         return CLOSED;
     }
-    match heap.heap_mut().begin() {
+    match heap.kept_mut().begin() {
         Ok(begun) => of_step(begun),
         Err(NoMemory) => NO_MEMORY,
     }
@@ -72,7 +77,10 @@ pub extern "C" fn gcflip_heap_step_begin(heap: &mut GcflipHeap) -> u32
 /// Opens a collection whose new space has `size` words, at least 1. Allocates the new space and the logs.
 #[unsafe(no_mangle)]
 pub extern "C" fn gcflip_heap_step_begin_sized(heap: &mut GcflipHeap, size: u32) -> u32
-    ensures { IsStepCall (Step.BeginSized size) (λ reply. result ≡ step_reply_in_c reply) heap.old.state heap.new.state result }
+    ensures call { IsStepCall (Step.BeginSized size) (λ reply. result ≡ step_reply_in_c reply) heap.old.state heap.new.state result }
+    // The old space of the last flip stays until a collection begins.
+    ensures former { ¬ IsRefusal result → Leaves heap.old.state heap.old.former result heap.new.former }
+    ensures kept { IsRefusal result → heap.new.former ≡ heap.old.former }
 {
     if heap.is_empty() {
         return CLOSED;
@@ -80,7 +88,7 @@ pub extern "C" fn gcflip_heap_step_begin_sized(heap: &mut GcflipHeap, size: u32)
     if size < 1 {
         return OUT_OF_RANGE;
     }
-    match heap.heap_mut().begin_sized(size) {
+    match heap.kept_mut().begin_sized(size) {
         Ok(begun) => of_step(begun),
         Err(NoMemory) => NO_MEMORY,
     }
@@ -91,11 +99,12 @@ pub extern "C" fn gcflip_heap_step_begin_sized(heap: &mut GcflipHeap, size: u32)
 pub extern "C" fn gcflip_heap_step_roots(heap: &mut GcflipHeap) -> u32
     ensures call { IsStepCall Step.Roots (λ reply. result ≡ step_reply_in_c reply) heap.old.state heap.new.state result }
     ensures room { ¬ IsRefusal result → LacksNoRoom heap.old.state result }
+    ensures former { heap.new.former ≡ heap.old.former }
 {
     if heap.is_empty() {
         return CLOSED;
     }
-    of_step(heap.heap_mut().roots())
+    of_step(heap.kept_mut().live.roots())
 }
 
 /// Brings the field at the scan pointer up to date, or moves on to the next replica.
@@ -103,11 +112,12 @@ pub extern "C" fn gcflip_heap_step_roots(heap: &mut GcflipHeap) -> u32
 pub extern "C" fn gcflip_heap_step_scan(heap: &mut GcflipHeap) -> u32
     ensures call { IsStepCall Step.Scan (λ reply. result ≡ step_reply_in_c reply) heap.old.state heap.new.state result }
     ensures room { ¬ IsRefusal result → LacksNoRoom heap.old.state result }
+    ensures former { heap.new.former ≡ heap.old.former }
 {
     if heap.is_empty() {
         return CLOSED;
     }
-    of_step(heap.heap_mut().scan())
+    of_step(heap.kept_mut().live.scan())
 }
 
 /// Applies the oldest entry of mutator `m`'s log.
@@ -115,11 +125,12 @@ pub extern "C" fn gcflip_heap_step_scan(heap: &mut GcflipHeap) -> u32
 pub extern "C" fn gcflip_heap_step_apply(heap: &mut GcflipHeap, m: u8) -> u32
     ensures call { IsStepCall (Step.Apply m) (λ reply. result ≡ step_reply_in_c reply) heap.old.state heap.new.state result }
     ensures room { ¬ IsRefusal result → LacksNoRoom heap.old.state result }
+    ensures former { heap.new.former ≡ heap.old.former }
 {
     if heap.is_empty() {
         return CLOSED;
     }
-    let heap = heap.heap_mut();
+    let heap = &mut heap.kept_mut().live;
     if m >= heap.mutators() {
         return OUT_OF_RANGE;
     }
@@ -134,12 +145,15 @@ pub extern "C" fn gcflip_heap_step_flip(heap: &mut GcflipHeap, pairs: &mut u32) 
         (λ reply. (result ≡ step_reply_in_c reply) × (pairs.new ≡ pairs_after pairs.old reply)) heap.old.state heap.new.state result }
     // It flips only if the certificate holds. It is not refused, and a ready collection flips.
     ensures flips { ¬ IsRefusal result → Flips heap.old.state heap.new.state result }
+    // The old space stays, and tells the pairs of that certificate.
+    ensures former { ¬ IsRefusal result → Leaves heap.old.state heap.old.former result heap.new.former }
+    ensures kept { IsRefusal result → heap.new.former ≡ heap.old.former }
     ensures silent { IsRefusal result → pairs.new ≡ pairs.old }
 {
     if heap.is_empty() {
         return CLOSED;
     }
-    match heap.heap_mut().flip(&Sequential) {
+    match heap.kept_mut().flip(&Sequential) {
         Ok(reply) => {
             *pairs = pairs_of(reply, *pairs);
             of_step(reply)
@@ -151,10 +165,11 @@ pub extern "C" fn gcflip_heap_step_flip(heap: &mut GcflipHeap, pairs: &mut u32) 
 /// Frees the new space and the logs of the open collection.
 #[unsafe(no_mangle)]
 pub extern "C" fn gcflip_heap_step_give_up(heap: &mut GcflipHeap) -> u32
-    ensures { IsStepCall Step.Drop (λ reply. result ≡ step_reply_in_c reply) heap.old.state heap.new.state result }
+    ensures call { IsStepCall Step.Drop (λ reply. result ≡ step_reply_in_c reply) heap.old.state heap.new.state result }
+    ensures former { heap.new.former ≡ heap.old.former }
 {
     if heap.is_empty() {
         return CLOSED;
     }
-    of_step(heap.heap_mut().give_up())
+    of_step(heap.kept_mut().live.give_up())
 }

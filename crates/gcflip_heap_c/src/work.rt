@@ -1,6 +1,6 @@
 //! Many useful steps in one call.
 
-ghost use Rattle.std.specs.Prelude.{◌≡◌, ◌⊎◌, ◌<◌, ◌≤◌, ◌-◌, ℕ, suc, true, false, ⊤, Option, Some, None, IfSome, IsTrue, ◌↔◌, Ok, IfOk, OnErr};
+ghost use Rattle.std.specs.Prelude.{◌≡◌, ◌⊎◌, ◌<◌, ◌≤◌, ◌-◌, ℕ, suc, true, false, ⊤, Option, Some, None, IfSome, IsSomeAnd, IsTrue, ◌↔◌, Ok, IfOk, OnErr};
 ghost use Rattle.gc_plan.specs.State.{State};
 ghost use Rattle.gc_plan.specs.Steps.{collect};
 ghost use Rattle.gc_plan.specs.Runs.{IsStep};
@@ -9,6 +9,8 @@ ghost use Rattle.gc_plan.specs.declared.step.StepReply.{StepReply};
 ghost use Rattle.gc_core.specs.CollectedHeap.{Allocates};
 ghost use Rattle.gcflip_heap_c.specs.Internal.Leaving.{LeavesLess};
 ghost use Rattle.gcflip_heap_c.specs.Replies.{step_reply_in_c, pairs_after};
+ghost use Rattle.gc_core.specs.Flip.{FormerAfter};
+ghost use Rattle.gcflip_heap_c.specs.Former.{LeavesAfter};
 ghost use Rattle.gcflip_heap_c.specs.Work.{IsSoundReply, IsRun, IsWork, IsWorkCall, IsWorkWithin, IsWithinCall, with_size, sized_step, after_useful, useful_reply, goes_on, end_in, end_after};
 
 use crate::answer::{CLOSED, DONE, NO_MEMORY, OUT_OF_RANGE};
@@ -17,7 +19,7 @@ use crate::reply::{of_step, pairs_of};
 use gc_check::Sequential;
 use gc_copy::{Step, StepReply};
 use gc_graph::NoMemory;
-use gc_live::LiveHeap;
+use gc_live::{KeptHeap, LiveHeap};
 use gc_plan::useful_steps_end;
 
 /// What a call of work did, as C sees it.
@@ -55,17 +57,18 @@ fn sized(step: Step, size: Option<u32>) -> Step
 
 /// Performs the useful step. If that is a begin, the new space gets `size` words, or as many as the heap has.
 #[inline(always)]
-fn one_step(heap: &mut LiveHeap, size: Option<u32>) -> Result<StepReply, NoMemory>
+fn one_step(heap: &mut KeptHeap, size: Option<u32>) -> Result<StepReply, NoMemory>
     requires { IfSome size (λ words. 1 ≤ words) }
-    ensures step { IfOk result (λ reply. collect heap.old (sized_step size heap.old) ≡ (reply, heap.new)) }
-    ensures sound { IfOk result (IsSoundReply heap.old) }
-    ensures leaves { IfOk result (LeavesLess heap.old heap.new) }
+    ensures step { IfOk result (λ reply. collect heap.old.live (sized_step size heap.old.live) ≡ (reply, heap.new.live)) }
+    ensures sound { IfOk result (IsSoundReply heap.old.live) }
+    ensures former { IfOk result (λ reply. FormerAfter heap.old.live heap.old.former reply heap.new.former) }
+    ensures leaves { IfOk result (LeavesLess heap.old.live heap.new.live) }
     ensures refused { OnErr result (heap.new ≡ heap.old) }
-    ensures allocates { OnErr result (Allocates heap.old (sized_step size heap.old)) }
+    ensures allocates { OnErr result (Allocates heap.old.live (sized_step size heap.old.live)) }
 {
-    heap.is_sound();
+    heap.live.is_sound();
     useful_steps_end();
-    let step = sized(heap.next_useful_step(), size);
+    let step = sized(heap.live.next_useful_step(), size);
     heap.collect(&Sequential, step)
 }
 
@@ -81,14 +84,15 @@ trait Performs {
     // Holds of the state after a step with this reply if that is not enough.
     ghost short: { Self → State → StepReply → Type 0 };
 
-    fn perform(&self, heap: &mut LiveHeap, size: Option<u32>) -> Result<StepReply, NoMemory>
+    fn perform(&self, heap: &mut KeptHeap, size: Option<u32>) -> Result<StepReply, NoMemory>
         requires { IfSome size (λ words. 1 ≤ words) }
-        ensures step { IfOk result (λ reply. collect heap.old (sized_step size heap.old) ≡ (reply, heap.new)) }
-        ensures sound { IfOk result (IsSoundReply heap.old) }
-        ensures leaves { IfOk result (LeavesLess heap.old heap.new) }
+        ensures step { IfOk result (λ reply. collect heap.old.live (sized_step size heap.old.live) ≡ (reply, heap.new.live)) }
+        ensures sound { IfOk result (IsSoundReply heap.old.live) }
+        ensures former { IfOk result (λ reply. FormerAfter heap.old.live heap.old.former reply heap.new.former) }
+        ensures leaves { IfOk result (LeavesLess heap.old.live heap.new.live) }
         ensures refused { OnErr result (heap.new ≡ heap.old) }
-        ensures failed { OnErr result (failed self.now size heap.old) }
-        ensures stops { OnErr result ((reply : StepReply) → stops self.now size heap.old reply) };
+        ensures failed { OnErr result (failed self.now size heap.old.live) }
+        ensures stops { OnErr result ((reply : StepReply) → stops self.now size heap.old.live reply) };
 
     fn has_enough(&self, heap: &LiveHeap, reply: StepReply) -> bool
         ensures stops { result ≡ true → (size : Option ℕ) → stops self.now size heap.now reply }
@@ -106,7 +110,7 @@ impl Performs for Useful {
     ghost short = { λ _ _ _. ⊤ };
 
     #[inline(always)]
-    fn perform(&self, heap: &mut LiveHeap, size: Option<u32>) -> Result<StepReply, NoMemory> {
+    fn perform(&self, heap: &mut KeptHeap, size: Option<u32>) -> Result<StepReply, NoMemory> {
         one_step(heap, size)
     }
 
@@ -131,7 +135,7 @@ impl Performs for Within {
     ghost short = { λ w s reply. end_after s reply - w.start < w.words };
 
     #[inline(always)]
-    fn perform(&self, heap: &mut LiveHeap, size: Option<u32>) -> Result<StepReply, NoMemory> {
+    fn perform(&self, heap: &mut KeptHeap, size: Option<u32>) -> Result<StepReply, NoMemory> {
         one_step(heap, size)
     }
 
@@ -152,32 +156,33 @@ fn can_go_on(reply: StepReply) -> bool
 /// allocation fails, it stops before that step, and returns `NoMemory` only if that was the first step.
 fn useful_steps<P: Performs>(
     performs: &P,
-    heap: &mut LiveHeap,
+    heap: &mut KeptHeap,
     size: Option<u32>,
     most: u32,
 ) -> Result<Run, NoMemory>
     requires size { IfSome size (λ words. 1 ≤ words) }
     requires some { 1 ≤ most }
-    ensures run { IfOk result (λ run. IsRun size run.steps heap.old heap.new run.reply) }
+    ensures run { IfOk result (λ run. IsRun size run.steps heap.old.live heap.new.live run.reply) }
+    ensures former { IfOk result (λ run. LeavesAfter size run.steps heap.old.live heap.old.former heap.new.former) }
     ensures within { IfOk result (λ run. run.steps ≤ most) }
     // It stops early only after such a reply, or because a step failed for lack of memory.
     ensures ended { IfOk result (λ run. run.steps < most
-        → (goes_on run.reply ≡ false) ⊎ P.stops performs.now size heap.new run.reply) }
+        → (goes_on run.reply ≡ false) ⊎ P.stops performs.now size heap.new.live run.reply) }
     // It makes no more than the steps that are left, so as many lead to such an end.
-    ensures enough { IfOk result (λ run. work_left heap.old ≤ most
-        → (goes_on run.reply ≡ false) ⊎ P.stops performs.now size heap.new run.reply) }
+    ensures enough { IfOk result (λ run. work_left heap.old.live ≤ most
+        → (goes_on run.reply ≡ false) ⊎ P.stops performs.now size heap.new.live run.reply) }
     // No step before the last one was enough.
     ensures short { IfOk result (λ run. (k : ℕ) → suc k < run.steps
-        → P.short performs.now (after_useful size (suc k) heap.old) (useful_reply size k heap.old)) }
+        → P.short performs.now (after_useful size (suc k) heap.old.live) (useful_reply size k heap.old.live)) }
     ensures refused { OnErr result (heap.new ≡ heap.old) }
-    ensures failed { OnErr result (P.failed performs.now size heap.old) }
+    ensures failed { OnErr result (P.failed performs.now size heap.old.live) }
 {
     let mut reply = performs.perform(heap, size)?;
     for steps in 1..most {
         if !can_go_on(reply) {
             return Ok(Run { steps, reply });
         }
-        if performs.has_enough(heap, reply) {
+        if performs.has_enough(&heap.live, reply) {
             return Ok(Run { steps, reply });
         }
         match performs.perform(heap, size) {
@@ -227,31 +232,37 @@ fn report(heap: &LiveHeap, start: u32, run: Run) -> GcflipWork
 
 /// Performs useful steps and reports them.
 pub(crate) fn work_on(
-    heap: &mut LiveHeap,
+    heap: &mut KeptHeap,
     size: Option<u32>,
     most: u32,
 ) -> Result<GcflipWork, NoMemory>
     requires size { IfSome size (λ words. 1 ≤ words) }
     requires some { 1 ≤ most }
-    ensures work { IfOk result (IsWork size most heap.old heap.new) }
+    ensures work { IfOk result (IsWork size most heap.old.live heap.new.live) }
+    ensures former { IfOk result (λ work. LeavesAfter size work.steps heap.old.live heap.old.former heap.new.former) }
     ensures refused { OnErr result (heap.new ≡ heap.old) }
-    ensures allocates { OnErr result (Allocates heap.old (sized_step size heap.old)) }
+    ensures allocates { OnErr result (Allocates heap.old.live (sized_step size heap.old.live)) }
 {
-    let start = end_of_new(heap);
+    let start = end_of_new(&heap.live);
     let run = useful_steps(&Useful, heap, size, most)?;
-    Ok(report(heap, start, run))
+    let work = report(&heap.live, start, run);
+    heap.live.give_back();
+    Ok(work)
 }
 
 /// Performs useful steps until replicas have taken `words` words, and reports them.
-fn work_within_on(heap: &mut LiveHeap, most: u32, words: u32) -> Result<GcflipWork, NoMemory>
+fn work_within_on(heap: &mut KeptHeap, most: u32, words: u32) -> Result<GcflipWork, NoMemory>
     requires { 1 ≤ most }
-    ensures work { IfOk result (IsWorkWithin most words heap.old heap.new) }
+    ensures work { IfOk result (IsWorkWithin most words heap.old.live heap.new.live) }
+    ensures former { IfOk result (λ work. LeavesAfter None work.steps heap.old.live heap.old.former heap.new.former) }
     ensures refused { OnErr result (heap.new ≡ heap.old) }
-    ensures allocates { OnErr result (Allocates heap.old (sized_step None heap.old)) }
+    ensures allocates { OnErr result (Allocates heap.old.live (sized_step None heap.old.live)) }
 {
-    let start = end_of_new(heap);
+    let start = end_of_new(&heap.live);
     let run = useful_steps(&Within { start, words }, heap, None, most)?;
-    Ok(report(heap, start, run))
+    let work = report(&heap.live, start, run);
+    heap.live.give_back();
+    Ok(work)
 }
 
 // Returns whether work can perform this many steps with a begin of this size.
@@ -263,7 +274,9 @@ fn is_fit(size: Option<u32>, most: u32) -> bool
 
 // Performs at most `most` useful steps, unless an argument is out of range.
 fn work_sized(heap: &mut GcflipHeap, size: Option<u32>, most: u32, work: &mut GcflipWork) -> u32
-    ensures { IsWorkCall size most heap.old.state heap.new.state work.old work.new result }
+    ensures call { IsWorkCall size most heap.old.state heap.new.state work.old work.new result }
+    ensures former { result ≡ 0 → IsSomeAnd heap.old.state (λ s. LeavesAfter size work.new.steps s heap.old.former heap.new.former) }
+    ensures kept { 1 ≤ result → heap.new.former ≡ heap.old.former }
 {
     if heap.is_empty() {
         return CLOSED;
@@ -271,7 +284,7 @@ fn work_sized(heap: &mut GcflipHeap, size: Option<u32>, most: u32, work: &mut Gc
     if !is_fit(size, most) {
         return OUT_OF_RANGE;
     }
-    match work_on(heap.heap_mut(), size, most) {
+    match work_on(heap.kept_mut(), size, most) {
         Ok(made) => {
             *work = made;
             DONE
@@ -284,7 +297,9 @@ fn work_sized(heap: &mut GcflipHeap, size: Option<u32>, most: u32, work: &mut Gc
 /// that finds no room. If an allocation fails, stops before that step, and returns 1 only if that was the first step.
 #[unsafe(no_mangle)]
 pub extern "C" fn gcflip_heap_work(heap: &mut GcflipHeap, most: u32, work: &mut GcflipWork) -> u32
-    ensures { IsWorkCall None most heap.old.state heap.new.state work.old work.new result }
+    ensures call { IsWorkCall None most heap.old.state heap.new.state work.old work.new result }
+    ensures former { result ≡ 0 → IsSomeAnd heap.old.state (λ s. LeavesAfter None work.new.steps s heap.old.former heap.new.former) }
+    ensures kept { 1 ≤ result → heap.new.former ≡ heap.old.former }
 {
     work_sized(heap, None, most, work)
 }
@@ -297,7 +312,9 @@ pub extern "C" fn gcflip_heap_work_sized(
     size: u32,
     work: &mut GcflipWork,
 ) -> u32
-    ensures { IsWorkCall (Some size) most heap.old.state heap.new.state work.old work.new result }
+    ensures call { IsWorkCall (Some size) most heap.old.state heap.new.state work.old work.new result }
+    ensures former { result ≡ 0 → IsSomeAnd heap.old.state (λ s. LeavesAfter (Some size) work.new.steps s heap.old.former heap.new.former) }
+    ensures kept { 1 ≤ result → heap.new.former ≡ heap.old.former }
 {
     work_sized(heap, Some(size), most, work)
 }
@@ -310,7 +327,9 @@ pub extern "C" fn gcflip_heap_work_within(
     words: u32,
     work: &mut GcflipWork,
 ) -> u32
-    ensures { IsWithinCall most words heap.old.state heap.new.state work.old work.new result }
+    ensures call { IsWithinCall most words heap.old.state heap.new.state work.old work.new result }
+    ensures former { result ≡ 0 → IsSomeAnd heap.old.state (λ s. LeavesAfter None work.new.steps s heap.old.former heap.new.former) }
+    ensures kept { 1 ≤ result → heap.new.former ≡ heap.old.former }
 {
     if heap.is_empty() {
         return CLOSED;
@@ -318,7 +337,7 @@ pub extern "C" fn gcflip_heap_work_within(
     if most == 0 {
         return OUT_OF_RANGE;
     }
-    match work_within_on(heap.heap_mut(), most, words) {
+    match work_within_on(heap.kept_mut(), most, words) {
         Ok(made) => {
             *work = made;
             DONE

@@ -2,7 +2,7 @@
 use Rattle.std.specs.Prelude.{◌≡◌, ℕ, ◌<◌, if◌then◌else◌, List, [], map, length, replicate}
 use Rattle.gc_words.specs.Word.{value_of}
 use Rattle.gc_words.specs.Image.{Block, fresh_block, blocks}
-use Rattle.gc_words.specs.Space.{SpaceWords, IsSpace, empty_space}
+use Rattle.gc_words.specs.Space.{SpaceWords, IsSpace}
 use Rattle.gc_heap.specs.Heap.{HeapWords, roomy_in}
 use Rattle.gc_plan.specs.State.{Collection}
 use Rattle.gc_plan.specs.Staying.{HasReplicaOf}
@@ -31,9 +31,8 @@ pub record KeepsRest (old new : CollectionWords) : Type 0 where
   pub scan_field : new.scan_field ≡ old.scan_field
   pub marked : new.marked ≡ old.marked
 
--- an empty space, and at most 255 empty logs
+-- a space, and at most 255 empty logs
 pub record IsRoom (space : SpaceWords) (each : List Log) : Type 0 where
   pub shaped : IsSpace space
-  pub empty : space ≡ empty_space space.size
   pub logs : map entries_of each ≡ replicate (length each) []
   pub few : length each < 256

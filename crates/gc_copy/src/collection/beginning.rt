@@ -32,7 +32,7 @@ impl Collection {
         Ok(Collection::begin_in(room, heap, false))
     }
 
-    /// Opens a collection of this heap in this room, whose links are marked or not. Does not allocate.
+    /// Opens a collection of this heap in this room, of which it keeps no word. Its links are marked or not. Does not allocate.
     pub fn begin_in(room: Room, heap: &Heap, marked: bool) -> Collection
         requires links { LinksNothing marked heap.now }
         requires mutators { room.mutators ≡ heap.now.mutators }
@@ -40,9 +40,9 @@ impl Collection {
         ensures belongs { BelongsTo heap.now result }
         ensures marked { result.marked ≡ marked }
     {
-        let Room { space, logs } = room;
+        let Room { space, logs, .. } = room;
         Collection {
-            space,
+            space: space.emptied(),
             logs,
             scan_place: Addr(1),
             scan_field: 0,

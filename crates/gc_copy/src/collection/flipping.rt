@@ -6,7 +6,7 @@ ghost use Rattle.gc_words.specs.Views.{image_of as image_in, addresses};
 ghost use Rattle.gc_heap.specs.Heap.{IsHeap, graph_in};
 ghost use Rattle.gc_plan.specs.State.{pairs_of};
 ghost use Rattle.gc_plan.specs.Steps.{collect, is_ready};
-ghost use Rattle.gc_copy.specs.Words.{IsCollection, AreMoved, collection_in, idle_state, open_state, BelongsTo, HasNoLinks, LinksNothing, new_root_words};
+ghost use Rattle.gc_copy.specs.Words.{IsCollection, AreMoved, collection_in, idle_state, open_state, BelongsTo, HasNoLinks, LinksNothing, TellsMoves, new_root_words};
 ghost use Rattle.gc_copy.specs.Internal.Words.{KeepsGraph};
 ghost use Rattle.gc_plan.specs.declared.step.Step.{Step};
 ghost use Rattle.gc_plan.specs.declared.step.StepReply.{StepReply};
@@ -67,7 +67,8 @@ impl Collection {
 
     /// Switches the mutators to the new space, and writes these roots, which `move_roots` wrote, over the first roots of the heap. Clears no
     /// link: the new space keeps those of the replicas, which lead nowhere in a collection whose links are marked. Returns the room of this
-    /// collection's heap for the next one, and the number of pairs. The time depends on the number of these roots alone.
+    /// collection's heap for the next one, and the number of pairs. The room tells where each object went. The time depends on the number of
+    /// these roots alone.
     pub fn flip_marked(self, heap: &mut Heap, roots: &[u64]) -> (Room, u32)
         requires belongs { BelongsTo heap.old self }
         requires ready { IsTrue (is_ready (collection_in self) (graph_in heap.old)) }
@@ -76,7 +77,8 @@ impl Collection {
             ≡ (StepReply.Flipped (length (pairs_of (collection_in self))), idle_state heap.new) }
         ensures heap { heap.new ≡ record heap.old { space = self.space; roots = new_root_words heap.old (collection_in self) } }
         ensures links { LinksNothing true heap.new }
-        ensures room { result.0 ≡ record { size = heap.old.space.size; mutators = heap.old.mutators } }
+        ensures room { (result.0.size ≡ heap.old.space.size) × (result.0.mutators ≡ heap.old.mutators) }
+        ensures moves { TellsMoves (graph_in heap.old) (pairs_of (collection_in self)) result.0 }
         ensures count { result.1 ≡ length (pairs_of (collection_in self)) }
         ensures sound { IsHeap heap.new }
     {
@@ -85,13 +87,15 @@ impl Collection {
         let Collection {
             space,
             logs,
+            marked,
             replicas,
             ..
         } = self;
-        let old_space = heap.replace_first(space, roots);
+        let space = heap.replace_first(space, roots);
         let room = Room {
-            space: old_space.emptied(),
+            space,
             logs,
+            marked,
         };
         (room, replicas)
     }

@@ -1,18 +1,23 @@
-ghost use Rattle.std.specs.Prelude.{◌≡◌, ◌≤◌, [], IfOk, map, replicate};
-ghost use Rattle.gc_copy.specs.Words.{RoomWords, entries_of};
+ghost use Rattle.std.specs.Prelude.{◌≡◌, ◌≤◌, ◌+◌, [], IfOk, IfSome, map, replicate};
+ghost use Rattle.std.specs.Option.{option_map};
+ghost use Rattle.gc_copy.specs.Words.{entries_of, moved_in};
 
+use super::copying::link_mark;
 use crate::log::MutationLog;
 use gc_graph::NoMemory;
-use gc_words::Space;
+use gc_words::{NewAddr, OldAddr, Space};
 use std::alloc::Global;
 use std::marker::Model;
 
-/// The memory that a collection takes: an empty space, and an empty log for each mutator. A flip gives it back, so that the next collection
-/// need not ask for any.
+/// The memory that a collection takes: a space, and an empty log for each mutator. A flip gives it back, so that the next collection
+/// need not ask for any. Until a collection begins in it, its space keeps the words that the heap had before the flip. Their links say
+/// where each object went.
 #[derive(Debug, Drop)]
 pub struct Room {
     pub(super) space: Space,
     pub(super) logs: Vec<MutationLog>,
+    // Whether the links of originals have a mark in addition to the places of their replicas.
+    pub(super) marked: bool,
 }
 
 impl Model for Room {
@@ -22,7 +27,7 @@ impl Model for Room {
 
     ghost Value = { RoomWords };
 
-    ghost view = { λ r. record { size = r.space.size; mutators = length r.logs.items } };
+    ghost view = { λ r. record { size = r.space.size; mutators = length r.logs.items; former = r.space.words; marked = r.marked } };
 
     ghost invariant = { λ r. IsRoom r.space r.logs.items };
 }
@@ -31,11 +36,42 @@ impl Room {
     /// Returns room for a collection whose new space has `size` words, at least 1, of a heap with so many mutators.
     pub fn new(alloc: Global, size: u32, mutators: u8) -> Result<Room, NoMemory>
         requires low { 1 ≤ size }
-        ensures { IfOk result (λ room. room ≡ record { size = size; mutators = mutators }) }
+        ensures size { IfOk result (λ room. room.size ≡ size) }
+        ensures mutators { IfOk result (λ room. room.mutators ≡ mutators) }
     {
         let space = Space::new(alloc, size)?;
         let logs = empty_logs(alloc, mutators)?;
-        Ok(Room { space, logs })
+        Ok(Room {
+            space,
+            logs,
+            marked: false,
+        })
+    }
+
+    /// Writes to all of the space's memory once, so that no later write meets a page for the first time.
+    pub fn touch(&mut self)
+        ensures { self.new ≡ self.old }
+    {
+        self.space.touch();
+    }
+
+    /// Frees the memory of the last `words` words of the space, of which the room then keeps none. Returns the rest, or `None` if there is no
+    /// other word. Allocates nothing.
+    pub fn without(self, words: u32) -> Option<Room>
+        ensures { IfSome result (λ room. room.size + words ≡ self.size) }
+    {
+        let Room { space, logs, .. } = self;
+        let left = space.size().saturating_sub(words);
+        if left == 0 {
+            return None;
+        }
+        let mut space = space.emptied();
+        space.shrink(left);
+        Some(Room {
+            space,
+            logs,
+            marked: false,
+        })
     }
 
     /// Returns the number of words of the space.
@@ -50,6 +86,22 @@ impl Room {
         ensures { result ≡ self.now.mutators }
     {
         self.logs.len()
+    }
+
+    /// Returns the address to which the last flip moved the object that was at this address before it, or `None` if it moved none. For an
+    /// address at which no object started, any answer may come. Takes constant time.
+    pub fn moved(&self, original: OldAddr) -> Option<NewAddr>
+        ensures { option_map (λ a. a.0) result ≡ moved_in self.now original.0 }
+    {
+        let words = self.space.words();
+        let at = original.0 as usize + 1;
+        let link = if at < words.len() { words[at] } else { 0 };
+        let place = (link.saturating_sub(link_mark(self.marked)) % link_mark(true)) as u32;
+        if place == 0 {
+            None
+        } else {
+            Some(NewAddr(place))
+        }
     }
 }
 

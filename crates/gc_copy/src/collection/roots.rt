@@ -1,4 +1,4 @@
-ghost use Rattle.std.specs.Prelude.{IfSome, ◌≡◌, ◌≤◌, ◌<◌, ℕ, IfOk, OnOk, IsTrue, length, None};
+ghost use Rattle.std.specs.Prelude.{IfSome, ◌≡◌, ◌≤◌, ◌<◌, ℕ, IfOk, IsTrue, length, None, vec_capacity};
 ghost use Rattle.std.specs.Option.{option_map};
 ghost use Rattle.gc_words.specs.Word.{value_of};
 ghost use Rattle.gc_graph.specs.Graph.{Nil, names_of, root};
@@ -82,26 +82,26 @@ impl Collection {
         requires done { IsTrue (roots_done_in (collection_in self.now) (graph_in heap.now)) }
         ensures { IfOk result (λ words. words.items ≡ new_root_words heap.now (collection_in self.now)) }
     {
-        let mut roots = Vec::new(alloc);
-        self.move_roots(heap, heap.roots().len(), &mut roots)?;
+        let mut roots = Vec::with_capacity(alloc, heap.roots().len())?;
+        self.move_roots(heap, heap.roots().len(), &mut roots);
         Ok(roots)
     }
 
-    /// Writes the first `in_use` of the same root words into a row, in the place of what is in it. The other roots have to be nil, so that
-    /// they stay as they are. Allocates at most once, for all roots of the heap, and not at all if the row has room for them.
-    pub fn move_roots(&self, heap: &Heap, in_use: usize, row: &mut Vec<u64>) -> Result<(), NoMemory>
+    /// Writes the first `in_use` of the same root words into a row that has room for them, in the place of what is in it. The other roots
+    /// have to be nil, so that they stay as they are. Does not allocate.
+    pub fn move_roots(&self, heap: &Heap, in_use: usize, row: &mut Vec<u64>)
         requires belongs { BelongsTo heap.now self.now }
         requires done { IsTrue (roots_done_in (collection_in self.now) (graph_in heap.now)) }
         requires within { in_use ≤ length heap.now.roots }
         requires nils { (p : ℕ) → in_use ≤ p → root (graph_in heap.now) p ≡ Nil }
-        ensures count { OnOk result (length row.new.items ≡ in_use) }
-        ensures moved { OnOk result (AreMoved row.new.items heap.now (collection_in self.now)) }
+        requires room { in_use ≤ vec_capacity row.old }
+        ensures count { length row.new.items ≡ in_use }
+        ensures moved { AreMoved row.new.items heap.now (collection_in self.now) }
+        ensures capacity { vec_capacity row.old ≤ vec_capacity row.new }
     {
         row.clear();
-        row.reserve_exact(heap.roots().len())?;
         for word in &heap.roots()[..in_use] {
-            row.push(self.moved_word(heap, *word))?;
+            row.push_reserved(self.moved_word(heap, *word));
         }
-        Ok(())
     }
 }

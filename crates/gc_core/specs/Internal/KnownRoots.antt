@@ -7,12 +7,13 @@ use Rattle.gc_plan.specs.Staying.{KnowsRoot}
 use Rattle.gc_copy.specs.declared.collection.roots.MissingRoot.{MissingRoot}
 use Rattle.gc_core.specs.declared.known.KnownRoots.{KnownRoots}
 
--- If a collection is open, it has replicas of the targets of the first `slots` roots and of the first `extra` extra ones. The
--- extra roots from `used` on are nil.
+-- There are `count` roots. If a collection is open, it has replicas of the targets of the first `slots` roots and of the first `extra` extra
+-- ones. The extra roots from `used` on are nil.
 pub record KnowsRoots (known : KnownRoots) (s : State) : Type 0 where
   pub slots_high : known.slots ≤ roots_of s.mutators
   pub extra_high : known.extra ≤ known.used
   pub used_high : roots_of s.mutators + known.used ≤ length s.heap.graph.roots
+  pub counted : length s.heap.graph.roots ≡ known.count
   pub slots : (p : ℕ) → p < known.slots → KnowsRoot s p
   pub extra : (k : ℕ) → k < known.extra → KnowsRoot s (roots_of s.mutators + k)
   pub unused : (k : ℕ) → known.used ≤ k → root s.heap.graph (roots_of s.mutators + k) ≡ Nil

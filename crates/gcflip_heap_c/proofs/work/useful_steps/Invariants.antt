@@ -1,10 +1,12 @@
 -- So many useful steps were performed, the last got this reply, and none before it was enough.
 use Rattle.std.proofs.Common.{ℕ, suc, ◌<◌}
+use Rattle.gcflip_heap_c.specs.Former.{LeavesAfter}
 use Rattle.gcflip_heap_c.specs.Work.{IsRun, after_useful, useful_reply}
 use Rattle.gcflip_heap_c.proofs.work.useful_steps.Given as goal
 
 -- this many useful steps were performed, the last got this reply, and none before it was enough
 abbrev pub invariant-loop-steps : goal.invariant-loop-steps
 invariant-loop-steps g l =
-    IsRun l.fn.size l.steps l.fn.heap l.heap l.reply
-    × ((k : ℕ) → suc k < l.steps → g.P.Performs.short l.performs (after_useful l.fn.size (suc k) l.fn.heap) (useful_reply l.fn.size k l.fn.heap))
+    IsRun l.fn.size l.steps l.fn.heap.live l.heap.live l.reply
+    × ((k : ℕ) → suc k < l.steps → g.P.Performs.short l.performs (after_useful l.fn.size (suc k) l.fn.heap.live) (useful_reply l.fn.size k l.fn.heap.live))
+    × LeavesAfter l.fn.size l.steps l.fn.heap.live l.fn.heap.former l.heap.former

@@ -1,9 +1,10 @@
--- The new space keeps links that lead nowhere, as none is above the mark, and all logs are empty because the collection was ready.
+-- The new space keeps links that lead nowhere, as none is above the mark, all logs are empty because the collection was ready, and the
+-- links of the old words tell its pairs.
 use Rattle.std.proofs.Common.{◌≡◌, ℕ, List, [], ◌∷◌, ◌++◌, true, false, drop, map, length, replicate, refl, sym, ap, ◌∙◌, subst}
 use Rattle.std.specs.List.{list_all}
 use Rattle.std.proofs.lemmas.Bool.{and_parts}
 use Rattle.std.specs.Prelude.{IsTrue}
-use Rattle.gc_words.specs.Space.{SpaceWords, empty_space}
+use Rattle.gc_words.specs.Space.{SpaceWords, IsSpace}
 use Rattle.gc_heap.specs.Heap.{HeapWords, IsHeap, graph_in}
 use Rattle.gc_plan.specs.State.{pairs_of}
 use Rattle.gc_plan.specs.Steps.{is_ready, is_empty}
@@ -12,6 +13,7 @@ use Rattle.gc_plan.specs.declared.step.StepReply.TheVariants.{Flipped}
 use Rattle.gc_plan.proofs.Public.{ready_parts}
 use Rattle.gc_copy.proofs.Flipping.{flipped_sound, flip_is, with_its_links, below_the_mark}
 use Rattle.gc_copy.proofs.RootWalks.{moved_over, moved_within}
+use Rattle.gc_copy.proofs.Moves.{moves_told}
 use Rattle.gc_copy.proofs.collection.Collection.flip_marked.Goals as goal
 
 -- a ready collection has only empty logs
@@ -41,17 +43,17 @@ sound_over : (heap : HeapWords) (c : CollectionWords) (space : SpaceWords) (root
     → IsHeap (record { space = space; roots = roots ++ drop (length roots) heap.roots; mutators = heap.mutators })
 sound_over heap c space roots is whole belongs ready moved same = sound heap c space (roots ++ drop (length roots) heap.roots) is whole belongs ready (moved_over heap (collection_in c) roots moved) same
 
-pub replace_first-old_space-requires-clause-within : goal.replace_first-old_space-requires-clause-within
-replace_first-old_space-requires-clause-within c = moved_within c.args.heap.now (collection_in c.args.self) c.args.roots.now c.requires.roots
+pub replace_first-space-requires-clause-within : goal.replace_first-space-requires-clause-within
+replace_first-space-requires-clause-within c = moved_within c.args.heap.now (collection_in c.args.self) c.args.roots.now c.requires.roots
 
-pub replace_first-old_space-requires-clause-sound : goal.replace_first-old_space-requires-clause-sound
-replace_first-old_space-requires-clause-sound c =
+pub replace_first-space-requires-clause-sound : goal.replace_first-space-requires-clause-sound
+replace_first-space-requires-clause-sound c =
     sound_over c.args.heap.now c.args.self c.self.inside.space c.args.roots.now c.space.ensures.sound (subst IsCollection c.self.view_is c.self.invariant.0) c.requires.belongs c.requires.ready c.requires.roots
     (ap (λ (y : CollectionWords). y.space) c.self.view_is)
 
 pub returns-clause-sound : goal.returns-clause-sound
 returns-clause-sound c =
-    subst IsHeap (sym c.replace_first-old_space.ensures.heap)
+    subst IsHeap (sym c.replace_first-space.ensures.heap)
     (sound_over c.args.heap.now c.args.self c.self.inside.space c.args.roots.now c.space.ensures.sound (subst IsCollection c.self.view_is c.self.invariant.0) c.requires.belongs c.requires.ready c.requires.roots
     (ap (λ (y : CollectionWords). y.space) c.self.view_is))
 
@@ -59,7 +61,7 @@ pub returns-clause-heap : goal.returns-clause-heap
 returns-clause-heap c =
     let space : c.self.inside.space ≡ c.args.self.space = ap (λ (y : CollectionWords). y.space) c.self.view_is in
     let roots = moved_over c.args.heap.now (collection_in c.args.self) c.args.roots.now c.requires.roots in
-    c.replace_first-old_space.ensures.heap ∙ (λ i. record { space = space i; roots = roots i; mutators = c.args.heap.now.mutators })
+    c.replace_first-space.ensures.heap ∙ (λ i. record { space = space i; roots = roots i; mutators = c.args.heap.now.mutators })
 
 pub returns-clause-step : goal.returns-clause-step
 returns-clause-step c =
@@ -68,18 +70,23 @@ returns-clause-step c =
     let roots = moved_over c.args.heap.now (collection_in c.args.self) c.args.roots.now c.requires.roots in
     flip_is c.args.heap.now c.args.self c.args.self.space c.space.ensures.sound sound c.requires.belongs c.requires.ready (with_its_links c.args.self.space sound.space)
     ∙ (λ i. (Flipped (length (pairs_of (collection_in c.args.self))), idle_state (record { space = sym space i; roots = sym roots i; mutators = c.args.heap.now.mutators })))
-    ∙ ap (λ (h : HeapWords). (Flipped (length (pairs_of (collection_in c.args.self))), idle_state h)) (sym c.replace_first-old_space.ensures.heap)
+    ∙ ap (λ (h : HeapWords). (Flipped (length (pairs_of (collection_in c.args.self))), idle_state h)) (sym c.replace_first-space.ensures.heap)
 
 pub returns-clause-links : goal.returns-clause-links
 returns-clause-links c =
     let sound : IsCollection c.args.self = subst IsCollection c.self.view_is c.self.invariant.0 in
     let space : c.self.inside.space ≡ c.args.self.space = ap (λ (y : CollectionWords). y.space) c.self.view_is in
-    subst (LinksNothing true) (sym c.replace_first-old_space.ensures.heap) (subst (λ s. LinksNothing true (record { space = s; roots = c.args.roots.now ++ drop (length c.args.roots.now) c.args.heap.now.roots; mutators = c.args.heap.now.mutators })) (sym space) (below_the_mark c.args.self sound))
+    subst (LinksNothing true) (sym c.replace_first-space.ensures.heap) (subst (λ s. LinksNothing true (record { space = s; roots = c.args.roots.now ++ drop (length c.args.roots.now) c.args.heap.now.roots; mutators = c.args.heap.now.mutators })) (sym space) (below_the_mark c.args.self sound))
 
 pub invariant_of-room : goal.invariant_of-room
 invariant_of-room c = record {
-  shaped = c.emptied.ensures.shaped;
-  empty = c.emptied.ensures.empty ∙ ap empty_space (sym (ap (λ (s : SpaceWords). s.size) c.emptied.ensures.empty));
+  shaped = subst IsSpace (sym c.replace_first-space.ensures.space) c.space.ensures.sound.space;
   logs = empty_logs c.self.inside.logs.items (logs_empty _ c.args.self c.args.heap.now c.self.view_is c.requires.ready);
   few = c.self.invariant.0.logs;
 }
+
+pub returns-clause-moves : goal.returns-clause-moves
+returns-clause-moves c =
+    moves_told c.args.heap.now c.args.self (subst IsCollection c.self.view_is c.self.invariant.0) c.requires.belongs
+    (record { size = c.replace_first-space.result.size; mutators = length c.self.inside.logs.items; former = c.replace_first-space.result.words; marked = c.self.inside.marked })
+    (ap (λ (s : SpaceWords). s.words) c.replace_first-space.ensures.space) (ap (λ (y : CollectionWords). y.marked) c.self.view_is)

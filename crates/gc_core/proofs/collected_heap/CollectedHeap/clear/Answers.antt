@@ -7,20 +7,21 @@ use Rattle.gc_plan.specs.State.{State}
 use Rattle.gc_copy.specs.Words.{collection_in, state_of}
 use Rattle.gc_core.specs.Internal.KnownRoots.{KnowsRoots}
 use Rattle.gc_core.proofs.OtherCommands.{it_belongs}
-use Rattle.gc_core.proofs.Marks.{cleared_knows, cleared_nil}
+use Rattle.gc_core.proofs.Marks.{cleared_knows, cleared_nil, with_row}
 use Rattle.gc_core.proofs.collected_heap.CollectedHeap.clear.Goals as goal
 
 pub invariant_of-self : goal.invariant_of-self
-invariant_of-self c =
+invariant_of-self c = with_row (omega (arith, c.cleared-self-inside.ensures.count, c.self.invariant.2)) (
     let before = state_of c.self.inside.heap (option_map collection_in c.self.inside.collection) in
     let after = state_of c.clear_each.new.heap (option_map collection_in c.self.inside.collection) in
     let from = c.args.from in
     let count = c.args.to - c.args.from in (
       c.clear_each.ensures.fits c.self.inside.marked c.self.invariant.0,
-      c.cleared-self-inside.ensures after
+      c.cleared-self-inside.ensures.knows after
           (subst (KnowsRoots c.self.inside.known) c.clear_each.ensures.step (cleared_knows c.self.inside.known before from count c.self.invariant.1))
           (λ i low high. subst (λ n. root after.heap.graph (roots_of n + i) ≡ Nil) (sym c.clear_each.ensures.mutators)
           (subst (λ (s : State). root s.heap.graph (roots_of c.self.inside.heap.mutators + i) ≡ Nil) c.clear_each.ensures.step (cleared_nil before from count i low (omega (arith, low, high))))),
+    )
     )
 
 pub clear_each-requires-clause-belongs : goal.clear_each-requires-clause-belongs

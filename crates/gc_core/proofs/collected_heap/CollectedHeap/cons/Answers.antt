@@ -11,7 +11,7 @@ use Rattle.gc_copy.specs.Words.{collection_in, state_of, open_state}
 use Rattle.gc_copy.proofs.Public.{open_left}
 use Rattle.gc_core.specs.Internal.CollectedHeap.{Fits}
 use Rattle.gc_core.specs.Internal.KnownRoots.{KnowsRoots}
-use Rattle.gc_core.proofs.Marks.{from_knows}
+use Rattle.gc_core.proofs.Marks.{from_knows, with_row}
 use Rattle.gc_core.specs.CollectedHeap.{new_from_step}
 use Rattle.gc_core.proofs.NewFrom.{made_from, full_from, filled_two, opened_at}
 use Rattle.gc_core.proofs.OtherCommands.{idle_mutated}
@@ -35,7 +35,7 @@ returns-in_default c =
     }
 
 pub invariant_of-self-in-Full-made : goal.invariant_of-self-in-Full-made
-invariant_of-self-in-Full-made c =
+invariant_of-self-in-Full-made c = with_row c.self.invariant.2 (
     let made = open_left c.self.inside.heap c.new_object-made-2.new.self c.reserve_more.new.self c.args.m (New c.args.d c.args.kind 2) c.new_object-made-2.result c.space.ensures.sound
     (c.in_ok-reserve_more.ensures.belongs c.self.inside.heap (subst (Fits c.self.inside.marked c.self.inside.heap) c.in-Some.is c.self.invariant.0)) (λ none. none) c.new_object-made-2.ensures.performs in
     let less : c.args.m < c.self.inside.heap.mutators = subst (λ (s : State). c.args.m < s.mutators) (sym c.self.view_is) c.requires in
@@ -45,6 +45,7 @@ invariant_of-self-in-Full-made c =
       from_knows c.self.inside.known (open_state c.self.inside.heap c.reserve_more.new.self) after c.args.m c.args.kind c.args.d (c.args.s ∷ c.args.t ∷ []) c.new_object-made-2.result (omega (arith, c.index.ensures.value, c.index.ensures.bound)) less
           (full_from (open_state c.self.inside.heap c.reserve_more.new.self) after c.args.m c.args.kind c.args.d (c.args.s ∷ c.args.t ∷ []) c.new_object-made-2.result made.0 c.in-Full-made.is)
           (subst (KnowsRoots c.self.inside.known) (sym before) c.self.invariant.1),
+    )
     )
 
 pub returns-in-Full-made-clause-step : goal.returns-in-Full-made-clause-step
@@ -85,7 +86,7 @@ returns c =
     }
 
 pub invariant_of-self-in_default : goal.invariant_of-self-in_default
-invariant_of-self-in_default c =
+invariant_of-self-in_default c = with_row c.self.invariant.2 (
     let o = c.self.inside.collection in
     let state : HeapWords → State = λ h. state_of h (option_map collection_in c.self.inside.collection) in
     let less : c.args.m < c.self.inside.heap.mutators = subst (λ (s : State). c.args.m < s.mutators) (sym c.self.view_is) c.requires in
@@ -99,9 +100,10 @@ invariant_of-self-in_default c =
           (filled_two (state new.new.self) (state c.fill_field-first.new.self) (state c.fill_field-second.new.self) c.args.m c.args.d c.args.s c.args.t c.fill_field-first.result c.fill_field-second.result two.0 three.0))
           c.self.invariant.1,
     )
+    )
 
 pub invariant_of-self-2 : goal.invariant_of-self-2
-invariant_of-self-2 c =
+invariant_of-self-2 c = with_row c.self.invariant.2 (
     let less : c.args.m < c.self.inside.heap.mutators = subst (λ (s : State). c.args.m < s.mutators) (sym c.self.view_is) c.requires in
     let made = open_left c.self.inside.heap c.new_object-made-2.new.self c.reserve_more.new.self c.args.m (New c.args.d c.args.kind 2) c.new_object-made-2.result c.space.ensures.sound
     (c.in_ok-reserve_more.ensures.belongs c.self.inside.heap (subst (Fits c.self.inside.marked c.self.inside.heap) c.in-Some.is c.self.invariant.0)) (λ none. none) c.new_object-made-2.ensures.performs in
@@ -115,8 +117,10 @@ invariant_of-self-2 c =
           (filled_two (open_state c.new_object-made-2.new.self c.reserve_more.new.self) (open_state one.new.heap one.new.self) after c.args.m c.args.d c.args.s c.args.t one.result two.result one.ensures.step two.ensures.step))
           (subst (KnowsRoots c.self.inside.known) (sym before) c.self.invariant.1),
     )
+    )
 
 pub invariant_of-self-in_err-reserve_more : goal.invariant_of-self-in_err-reserve_more
-invariant_of-self-in_err-reserve_more c =
+invariant_of-self-in_err-reserve_more c = with_row c.self.invariant.2 (
     let before = opened_at c.self.inside.heap c.self.inside.collection c.in-Some.collection c.reserve_more.new.self (state_of c.self.inside.heap (option_map collection_in c.self.inside.collection)) c.in-Some.is c.in_err-reserve_more.ensures.collection refl in
     (c.in_err-reserve_more.ensures.belongs c.self.inside.heap (subst (Fits c.self.inside.marked c.self.inside.heap) c.in-Some.is c.self.invariant.0), subst (KnowsRoots c.self.inside.known) (sym before) c.self.invariant.1)
+    )

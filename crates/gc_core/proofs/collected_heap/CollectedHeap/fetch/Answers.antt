@@ -6,15 +6,16 @@ use Rattle.gc_graph.specs.declared.command.Op.TheVariants.{Get}
 use Rattle.gc_plan.specs.State.{State}
 use Rattle.gc_plan.specs.Steps.{mutate}
 use Rattle.gc_copy.specs.Words.{collection_in, state_of}
-use Rattle.gc_core.proofs.Marks.{one_below, slot_below}
+use Rattle.gc_core.proofs.Marks.{one_below, slot_below, with_row}
 use Rattle.gc_core.proofs.OtherCommands.{fits_after, mutated}
 use Rattle.gc_core.proofs.collected_heap.CollectedHeap.fetch.Goals as goal
 
 pub invariant_of-self : goal.invariant_of-self
-invariant_of-self c =
+invariant_of-self c = with_row c.self.invariant.2 (
     let f = c.fetch.ensures.fetches in
     let less : c.args.m < c.self.inside.heap.mutators = subst (λ (s : State). c.args.m < s.mutators) (sym c.self.view_is) c.requires in
     fits_after c.self.inside.marked c.self.inside.known c.self.inside.heap c.fetch.new.self c.self.inside.collection c.args.m (Get c.args.d c.args.s c.args.i) f.0 c.space.ensures.sound (λ none. none) f.1 (λ q. one_below (place c.args.d c.args.m) q (roots_of c.self.inside.heap.mutators) (slot_below c.args.d c.args.m c.self.inside.heap.mutators (omega (arith, c.index.ensures.value, c.index.ensures.bound)) less)) c.self.invariant.0 c.self.invariant.1
+    )
 
 pub returns-clause-fetches : goal.returns-clause-fetches
 returns-clause-fetches c =

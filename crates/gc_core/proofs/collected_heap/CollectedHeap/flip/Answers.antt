@@ -10,7 +10,7 @@ use Rattle.gc_core.specs.Flip.{IsCertified, kept_after, replaced}
 use Rattle.gc_copy.proofs.Public.{unlinked}
 use Rattle.gc_core.specs.Internal.CollectedHeap.{Fits}
 use Rattle.gc_core.specs.Internal.KnownRoots.{KnowsRoots}
-use Rattle.gc_core.proofs.Marks.{flipped_knows}
+use Rattle.gc_core.proofs.Marks.{flipped_knows, with_row}
 use Rattle.gc_core.proofs.KeptPair.{kept_open, pair_now, same_pair}
 use Rattle.gc_core.proofs.collected_heap.CollectedHeap.flip.Goals as goal
 
@@ -43,7 +43,7 @@ returns-clause-step g c =
     (ap (λ (d : CollectionWords). collect (open_state c.unmark.new.heap d) steps.Flip) one ∙ c.carry_out.ensures.step ∙ ap (λ o. (c.carry_out.result.reply, state_of c.carry_out.new.heap (option_map collection_in o))) (sym c.take.ensures.after))
 
 pub invariant_of-self-2 : goal.invariant_of-self-2
-invariant_of-self-2 g c =
+invariant_of-self-2 g c = with_row c.self.invariant.2 (
     let heap = c.self.inside.heap in
     let new = c.carry_out.new.heap in
     let known = c.self.inside.known in
@@ -52,3 +52,4 @@ invariant_of-self-2 g c =
     let before = subst (KnowsRoots known) same c.self.invariant.1 in
     subst (λ o. Fits c.self.inside.marked new o × KnowsRoots known (state_of new (option_map collection_in o))) (sym c.take.ensures.after)
     (unlinked new c.self.inside.marked c.carry_out.ensures.links, flipped_knows known (open_state c.unmark.new.heap c.unwrap-collection.result) (idle_state new) c.carry_out.result.reply refl c.carry_out.ensures.mutators c.carry_out.ensures.step before)
+    )

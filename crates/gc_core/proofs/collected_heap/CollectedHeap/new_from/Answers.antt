@@ -10,13 +10,13 @@ use Rattle.gc_core.specs.declared.known.KnownRoots.{KnownRoots}
 use Rattle.gc_copy.proofs.Public.{idle_left, open_left, still_unlinked}
 use Rattle.gc_core.specs.Internal.CollectedHeap.{Fits}
 use Rattle.gc_core.specs.Internal.KnownRoots.{KnowsRoots}
-use Rattle.gc_core.proofs.Marks.{from_knows}
+use Rattle.gc_core.proofs.Marks.{from_knows, with_row}
 use Rattle.gc_core.specs.CollectedHeap.{new_from_step}
 use Rattle.gc_core.proofs.NewFrom.{counted, made_from, full_from, opened_at}
 use Rattle.gc_core.proofs.collected_heap.CollectedHeap.new_from.Goals as goal
 
 pub invariant_of-self-in-Full-made : goal.invariant_of-self-in-Full-made
-invariant_of-self-in-Full-made g c =
+invariant_of-self-in-Full-made g c = with_row c.self.invariant.2 (
     let made = open_left c.self.inside.heap c.new_object-made-2.new.self c.reserve_more.new.self c.args.m _ c.new_object-made-2.result c.space.ensures.sound
     (c.in_ok-reserve_more.ensures.belongs c.self.inside.heap (subst (Fits c.self.inside.marked c.self.inside.heap) c.in-Some.is c.self.invariant.0)) (λ none. none) c.new_object-made-2.ensures.performs in
     let less : c.args.m < c.self.inside.heap.mutators = subst (λ (s : State). c.args.m < s.mutators) (sym c.self.view_is) c.requires.mutator in
@@ -28,6 +28,7 @@ invariant_of-self-in-Full-made g c =
       from_knows c.self.inside.known (open_state c.self.inside.heap c.reserve_more.new.self) after c.args.m c.args.kind c.args.d fields c.new_object-made-2.result (omega (arith, c.index.ensures.value, c.index.ensures.bound)) less
           (full_from (open_state c.self.inside.heap c.reserve_more.new.self) after c.args.m c.args.kind c.args.d fields c.new_object-made-2.result first c.in-Full-made.is)
           (subst (KnowsRoots c.self.inside.known) (sym before) c.self.invariant.1),
+    )
     )
 
 pub returns-in-Full-made-clause-step : goal.returns-in-Full-made-clause-step
@@ -73,7 +74,7 @@ returns g c =
     }
 
 pub invariant_of-self-2 : goal.invariant_of-self-2
-invariant_of-self-2 g c =
+invariant_of-self-2 g c = with_row c.self.invariant.2 (
     let less : c.args.m < c.self.inside.heap.mutators = subst (λ (s : State). c.args.m < s.mutators) (sym c.self.view_is) c.requires.mutator in
     let made = open_left c.self.inside.heap c.new_object-made-2.new.self c.reserve_more.new.self c.args.m _ c.new_object-made-2.result c.space.ensures.sound
     (c.in_ok-reserve_more.ensures.belongs c.self.inside.heap (subst (Fits c.self.inside.marked c.self.inside.heap) c.in-Some.is c.self.invariant.0)) (λ none. none) c.new_object-made-2.ensures.performs in
@@ -87,9 +88,10 @@ invariant_of-self-2 g c =
           (made_from (open_state c.self.inside.heap c.reserve_more.new.self) (open_state c.new_object-made-2.new.self c.reserve_more.new.self) after c.args.m c.args.kind c.args.d fields c.new_object-made-2.result first c.in_default-made-2.not-Full filled.ensures.step)
           (subst (KnowsRoots c.self.inside.known) (sym before) c.self.invariant.1),
     )
+    )
 
 pub invariant_of-self-in_default : goal.invariant_of-self-in_default
-invariant_of-self-in_default g c =
+invariant_of-self-in_default g c = with_row c.self.invariant.2 (
     let heap = c.self.inside.heap in
     let new = c.new_object-made in
     let less : c.args.m < heap.mutators = subst (λ (s : State). c.args.m < s.mutators) (sym c.self.view_is) c.requires.mutator in
@@ -97,15 +99,17 @@ invariant_of-self-in_default g c =
     let one = idle_left heap new.new.self c.args.m _ new.result c.space.ensures.sound new.ensures.performs in
     let fields = g.R.SlotRow.slots c.args.fields.now in
     let first = counted (idle_state heap) (idle_state new.new.self) c.args.m c.args.kind c.count-count.result c.args.d fields new.result c.count-count.ensures one in
-    let after : KnownRoots = record { slots = 0; extra = c.self.inside.known.extra; used = c.self.inside.known.used } in
+    let after : KnownRoots = record { slots = 0; extra = c.self.inside.known.extra; used = c.self.inside.known.used; count = c.self.inside.known.count } in
     subst (λ o. Fits c.self.inside.marked c.fill.new.heap o × KnowsRoots after (state_of c.fill.new.heap (option_map collection_in o))) (sym none) (
       c.fill.ensures.links c.self.inside.marked (still_unlinked c.self.inside.marked heap new.new.self c.args.m _ new.result new.ensures.performs (subst (Fits c.self.inside.marked heap) none c.self.invariant.0)),
       from_knows c.self.inside.known (idle_state heap) (idle_state c.fill.new.heap) c.args.m c.args.kind c.args.d fields new.result (omega (arith, c.index.ensures.value, c.index.ensures.bound)) less
           (made_from (idle_state heap) (idle_state new.new.self) (idle_state c.fill.new.heap) c.args.m c.args.kind c.args.d fields new.result first c.in_default-made.not-Full c.fill.ensures.step)
           (subst (λ o. KnowsRoots c.self.inside.known (state_of heap (option_map collection_in o))) none c.self.invariant.1),
     )
+    )
 
 pub invariant_of-self-in_err-reserve_more : goal.invariant_of-self-in_err-reserve_more
-invariant_of-self-in_err-reserve_more g c =
+invariant_of-self-in_err-reserve_more g c = with_row c.self.invariant.2 (
     let before = opened_at c.self.inside.heap c.self.inside.collection c.in-Some.collection c.reserve_more.new.self (state_of c.self.inside.heap (option_map collection_in c.self.inside.collection)) c.in-Some.is c.in_err-reserve_more.ensures.collection refl in
     (c.in_err-reserve_more.ensures.belongs c.self.inside.heap (subst (Fits c.self.inside.marked c.self.inside.heap) c.in-Some.is c.self.invariant.0), subst (KnowsRoots c.self.inside.known) (sym before) c.self.invariant.1)
+    )

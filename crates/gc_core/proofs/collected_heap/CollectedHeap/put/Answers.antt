@@ -7,30 +7,33 @@ use Rattle.gc_plan.specs.State.{State}
 use Rattle.gc_plan.specs.Steps.{mutate}
 use Rattle.gc_core.specs.Internal.CollectedHeap.{Fits}
 use Rattle.gc_core.specs.Internal.KnownRoots.{KnowsRoots}
-use Rattle.gc_core.proofs.Marks.{put_knows}
+use Rattle.gc_core.proofs.Marks.{put_knows, with_row}
 use Rattle.gc_core.proofs.NewFrom.{opened_at}
 use Rattle.gc_core.proofs.OtherCommands.{idle_mutated}
 use Rattle.gc_core.proofs.collected_heap.CollectedHeap.put.Goals as goal
 
 pub invariant_of-self : goal.invariant_of-self
-invariant_of-self c =
+invariant_of-self c = with_row c.self.invariant.2 (
     let o = option_map collection_in c.self.inside.collection in
     let put = idle_mutated c.self.inside.marked c.self.inside.heap c.put.new.self c.self.inside.collection c.args.m (Put c.args.s c.args.i c.args.t) c.put.result c.space.ensures.sound c.in_default.not-Some c.put.ensures.performs c.self.invariant.0 in
     (put.1, put_knows c.self.inside.known (state_of c.self.inside.heap o) (state_of c.put.new.self o) c.args.m c.args.i c.args.s c.args.t c.put.result put.0 c.self.invariant.1)
+    )
 
 pub invariant_of-self-2 : goal.invariant_of-self-2
-invariant_of-self-2 c =
+invariant_of-self-2 c = with_row c.self.invariant.2 (
     let now = state_of c.self.inside.heap (option_map collection_in c.self.inside.collection) in
     let before = opened_at c.self.inside.heap c.self.inside.collection c.in-Some.collection c.reserve.new.self now c.in-Some.is c.in_ok-reserve.ensures.collection refl in (
       c.put-2.ensures.belongs,
       put_knows c.self.inside.known (open_state c.self.inside.heap c.reserve.new.self) (open_state c.put-2.new.heap c.put-2.new.self) c.args.m c.args.i c.args.s c.args.t c.put-2.result c.put-2.ensures.step
           (subst (KnowsRoots c.self.inside.known) (sym before) c.self.invariant.1),
     )
+    )
 
 pub invariant_of-self-in_err-reserve : goal.invariant_of-self-in_err-reserve
-invariant_of-self-in_err-reserve c =
+invariant_of-self-in_err-reserve c = with_row c.self.invariant.2 (
     let before = opened_at c.self.inside.heap c.self.inside.collection c.in-Some.collection c.reserve.new.self (state_of c.self.inside.heap (option_map collection_in c.self.inside.collection)) c.in-Some.is c.in_err-reserve.ensures.collection refl in
     (c.in_err-reserve.ensures.belongs c.self.inside.heap (subst (Fits c.self.inside.marked c.self.inside.heap) c.in-Some.is c.self.invariant.0), subst (KnowsRoots c.self.inside.known) (sym before) c.self.invariant.1)
+    )
 
 pub put-requires-2-clause-belongs : goal.put-requires-2-clause-belongs
 put-requires-2-clause-belongs c = c.in_ok-reserve.ensures.belongs c.self.inside.heap (subst (Fits c.self.inside.marked c.self.inside.heap) c.in-Some.is c.self.invariant.0)

@@ -8,7 +8,7 @@ use Rattle.gc_plan.specs.Steps.{mutate}
 use Rattle.gc_copy.specs.Words.{BelongsTo, collection_in, state_of, open_state}
 use Rattle.gc_core.specs.Internal.CollectedHeap.{Fits}
 use Rattle.gc_core.specs.Internal.KnownRoots.{KnowsRoots}
-use Rattle.gc_core.proofs.Marks.{nil_put_knows}
+use Rattle.gc_core.proofs.Marks.{nil_put_knows, with_row}
 use Rattle.gc_core.proofs.NewFrom.{opened_at}
 use Rattle.gc_core.proofs.OtherCommands.{idle_mutated}
 use Rattle.gc_core.proofs.collected_heap.CollectedHeap.put_nil.Goals as goal
@@ -32,7 +32,7 @@ returns-clause-step c =
     (subst (λ s. mutate s c.args.m (Put c.args.s c.args.i c.args.t) ≡ (c.put-2.result, after)) (sym (ap (λ (x : Reply × State). x.1) left.0)) c.put-2.ensures.step)
 
 pub invariant_of-self : goal.invariant_of-self
-invariant_of-self c =
+invariant_of-self c = with_row c.self.invariant.2 (
     let heap = c.self.inside.heap in
     let o = c.self.inside.collection in
     let less : c.args.m < heap.mutators = subst (λ (s : State). c.args.m < s.mutators) (sym c.self.view_is) c.requires in
@@ -42,9 +42,10 @@ invariant_of-self c =
       nil_put_knows c.self.inside.known (state_of heap (option_map collection_in o)) (state_of c.nil-done.new.self (option_map collection_in o)) (state_of c.put.new.self (option_map collection_in o)) c.args.m c.args.i c.args.s c.args.t
           c.nil-done.result c.put.result (omega (arith, c.index.ensures.value, c.index.ensures.bound)) less one.0 two.0 c.self.invariant.1,
     )
+    )
 
 pub invariant_of-self-2 : goal.invariant_of-self-2
-invariant_of-self-2 c =
+invariant_of-self-2 c = with_row c.self.invariant.2 (
     let heap = c.self.inside.heap in
     let less : c.args.m < heap.mutators = subst (λ (s : State). c.args.m < s.mutators) (sym c.self.view_is) c.requires in
     let fits : BelongsTo heap c.in-Some.collection = subst (Fits c.self.inside.marked heap) c.in-Some.is c.self.invariant.0 in
@@ -55,8 +56,10 @@ invariant_of-self-2 c =
       nil_put_knows c.self.inside.known (open_state heap c.reserve.new.self) (open_state c.nil-done-2.new.self c.reserve.new.self) (open_state c.put-2.new.heap c.put-2.new.self) c.args.m c.args.i c.args.s c.args.t
           c.nil-done-2.result c.put-2.result (omega (arith, c.index.ensures.value, c.index.ensures.bound)) less left.0 c.put-2.ensures.step (subst (KnowsRoots c.self.inside.known) (sym before) c.self.invariant.1),
     )
+    )
 
 pub invariant_of-self-in_err-reserve : goal.invariant_of-self-in_err-reserve
-invariant_of-self-in_err-reserve c =
+invariant_of-self-in_err-reserve c = with_row c.self.invariant.2 (
     let before = opened_at c.self.inside.heap c.self.inside.collection c.in-Some.collection c.reserve.new.self (state_of c.self.inside.heap (option_map collection_in c.self.inside.collection)) c.in-Some.is c.in_err-reserve.ensures.collection refl in
     (c.in_err-reserve.ensures.belongs c.self.inside.heap (subst (Fits c.self.inside.marked c.self.inside.heap) c.in-Some.is c.self.invariant.0), subst (KnowsRoots c.self.inside.known) (sym before) c.self.invariant.1)
+    )

@@ -1,5 +1,5 @@
 -- The step removes no replica, and after a `Copied` the root that the search found has one too.
-use Rattle.std.proofs.Common.{refl, sym, ◌∙◌, ap, subst}
+use Rattle.std.proofs.Common.{refl, sym, ◌∙◌, ap, subst, arith}
 use Rattle.gc_graph.specs.Slots.{roots_of}
 use Rattle.gc_plan.specs.State.{State}
 use Rattle.gc_copy.specs.Words.{collection_in, open_state}
@@ -25,7 +25,11 @@ invariant_of-self-2 c =
             let copied = copied_knows known before after (collection_in c.in-Some.collection) c.search-missing.result.missing refl c.search-missing.ensures.first c.search-missing.ensures.next
             (c.replicate_root-reply.ensures.step ∙ ap (λ (r : StepReply). (r, after)) w.in-Copied.is) in
             subst (λ (k : KnownRoots). KnowsRoots k after) (sym w.self-is)
-            (w.advanced-self-inside.ensures after slots knows (subst (λ n. KnowsRoot after (next_place n known)) (sym (slots ∙ ap roots_of c.replicate_root-reply.ensures.mutators)) copied)))
+            (w.advanced-self-inside.ensures.knows after slots knows (subst (λ n. KnowsRoot after (next_place n known)) (sym (slots ∙ ap roots_of c.replicate_root-reply.ensures.mutators)) copied)))
         | in_default-reply w ↦ subst (λ (k : KnownRoots). KnowsRoots k after) (sym w.self-is) knows
+      ],
+      elim c.match-reply.branch [
+        | in-Copied w ↦ omega (arith, ap (λ (k : KnownRoots). k.count) w.self-is, w.advanced-self-inside.ensures.count, c.search-missing.ensures.count, c.self.invariant.2)
+        | in_default-reply w ↦ omega (arith, ap (λ (k : KnownRoots). k.count) w.self-is, c.search-missing.ensures.count, c.self.invariant.2)
       ],
     )

@@ -13,10 +13,11 @@ use Rattle.gc_core.specs.Internal.CollectedHeap.{Fits}
 use Rattle.gc_core.specs.Internal.KnownRoots.{KnowsRoots}
 use Rattle.gc_core.specs.declared.known.KnownRoots.{KnownRoots}
 use Rattle.gc_core.proofs.OtherCommands.{fits_stored, mutated}
+use Rattle.gc_core.proofs.Marks.{with_row}
 use Rattle.gc_core.proofs.collected_heap.CollectedHeap.store.Goals as goal
 
 pub invariant_of-self : goal.invariant_of-self
-invariant_of-self c =
+invariant_of-self c = with_row (omega (arith, ap (λ (known : KnownRoots). known.count) c.stored-self-inside.ensures, c.self.invariant.2)) (
     let heap = c.self.inside.heap in
     let o = c.self.inside.collection in
     let less : c.args.m < heap.mutators = subst (λ (s : State). c.args.m < s.mutators) (sym c.self.view_is) c.requires.mutator in
@@ -24,6 +25,7 @@ invariant_of-self c =
     subst (λ (known : KnownRoots). Fits c.self.inside.marked c.store.new.self o × KnowsRoots known (state_of c.store.new.self (option_map collection_in o))) (sym c.stored-self-inside.ensures)
     (fits_stored c.self.inside.marked c.self.inside.known heap c.store.new.self o c.args.m c.args.k (Move (extra_slot heap.mutators c.args.m c.args.k) c.args.s) c.store.result c.space.ensures.sound (λ none. none) c.store.ensures.performs
     (ap Some (extra_place heap.mutators c.args.m c.args.k (omega (arith, less)))) (omega (arith, there)) c.self.invariant.0 c.self.invariant.1)
+    )
 
 pub returns-clause-step : goal.returns-clause-step
 returns-clause-step c =

@@ -40,8 +40,8 @@ weaker P Q s reply f h pairs is = go s.collection (h pairs is)
     go None a = tt
     go (Some c) a = f (flip_pair s c) a
 
-pub returns-in-Flipped-clause-asked : goal.returns-in-Flipped-clause-asked
-returns-in-Flipped-clause-asked g c = subst (λ (s : State). FlipsOnly (IsSure says) s c.in_ok-flip.flip.reply) c.self.view_is (⊎_elim
+pub returns-clause-asked : goal.returns-clause-asked
+returns-clause-asked g c = subst (λ (s : State). FlipsOnly (IsSure says) s c.in_ok-flip.flip.reply) c.self.view_is (⊎_elim
     (λ whole. weaker says (IsSure says) c.self.inside.inner c.in_ok-flip.flip.reply (λ pair x. inr x) (c.in_ok-flip.ensures.asked whole))
     (λ along. weaker IsCertified (IsSure says) c.self.inside.inner c.in_ok-flip.flip.reply (λ pair x. inl x) (certified c.self.inside.inner c.self.inside.watch c.in_ok-flip.flip.reply c.self.invariant.0 c.is_watched.ensures (c.in_ok-flip.ensures.along along)))
     (cases_Bool c.in_ok-flip.flip.whole))
@@ -49,8 +49,8 @@ returns-in-Flipped-clause-asked g c = subst (λ (s : State). FlipsOnly (IsSure s
     says : CertifiedPair → Type 0
     says = g.C.Checks.says_yes c.args.checker.now
 
-pub returns-in-Flipped-clause-sound : goal.returns-in-Flipped-clause-sound
-returns-in-Flipped-clause-sound g c = subst (λ (s : State). FlipsOnly IsCertified s c.in_ok-flip.flip.reply) c.self.view_is (⊎_elim
+pub returns-clause-sound : goal.returns-clause-sound
+returns-clause-sound g c = subst (λ (s : State). FlipsOnly IsCertified s c.in_ok-flip.flip.reply) c.self.view_is (⊎_elim
     (λ whole. c.in_ok-flip.ensures.sound whole)
     (λ along. certified c.self.inside.inner c.self.inside.watch c.in_ok-flip.flip.reply c.self.invariant.0 c.is_watched.ensures (c.in_ok-flip.ensures.along along))
     (cases_Bool c.in_ok-flip.flip.whole))

@@ -12,16 +12,18 @@ use Rattle.std.proofs.Crossing.{frees}
 use Rattle.std_alloc.proofs.SendSync.{quiet, lies}
 use Rattle.std.proofs.alloc.Global.TheSendSync as handle
 use Rattle.gcflip_heap_c.specs.Handle.{owns_heap}
-use Rattle.gc_live.specs.contracts.live_heap.LiveHeap as Row
-use Rattle.gc_live.proofs.live_heap.LiveHeap.TheSendSync.{the_send as heap_send}
+use Rattle.gc_plan.specs.State.{State}
+use Rattle.gc_copy.specs.Words.{RoomWords}
+use Rattle.gc_live.specs.contracts.kept_heap.KeptHeap as Row
+use Rattle.gc_live.proofs.kept_heap.KeptHeap.TheSendSync.{the_send as heap_send}
 use Rattle.gcflip_heap_c.specs.contracts.handle.GcflipHeap.{the_row, the_type}
 
-keyless : (alloc : Global) (at : Ptr) (row : Option Row.the_row.Denot) → Keyless (owns_heap alloc at row)
-keyless alloc at None = tt
-keyless alloc at (Some row) = (lies Row.the_row heap_send at row, frees.frees alloc (raw (lone Row.the_row.mir)) at)
+keyless : (alloc : Global) (at : Ptr) (state : Option State) (former : Option RoomWords) → Keyless (owns_heap alloc at state former)
+keyless alloc at None former = tt
+keyless alloc at (Some state) former = (lies Row.the_row heap_send at (record { live = state; former = former }), frees.frees alloc (raw (lone Row.the_row.mir)) at)
 
 pub send : IsSend the_row
 send =
     let all : AllSend (fields the_type) = (search sendable, (handle.the_field_send, tt)) in
-    owning_send the_type all (λ h. keyless h.alloc h.at h.state)
+    owning_send the_type all (λ h. keyless h.alloc h.at h.state h.former)
     (λ k. quiet (to the_type) (exits_of k (fields the_type)) ((struct_send (shape the_type) all).leaving k))

@@ -14,6 +14,7 @@ use denote.Exit.{yes}
 use denote.Steps.{heard, nothing}
 use denote.Triple.Walked.{Stays, walk_of, says, stay_dropped, Goes-dropped, ends_at}
 use Rattle.std.proofs.raw_atomic.Walks.{proved_at}
+use Rattle.gc_plan.specs.State.{State}
 use Rattle.std_alloc.proofs.BoxSteps.Form.{D, X, B, word, box_typed}
 use Rattle.std_alloc.proofs.BoxSteps.Steps.{box_out, box_in}
 use Rattle.gcflip_heap_c.proofs.HeapBox.{heap_box, its_handle, Held, there}
@@ -33,15 +34,16 @@ into_parts_spec 𝓤 𝓛 𝓜 𝓡 wired =
     let handle = y.0.3.0 in
     qed 𝓛 ((‵ ftrue ⊛ ‵ (fsep (Handle.own_val handle y.0.4.0) ftrue)) ∷ raw (fact 𝓤 (IsSome handle.state)) ∷ []) ∵
     move ! (1 ∷ []) $ heard ! _ (λ is. let heap = there handle.state is in
-    let boxed : D heap_box = record { ptr = handle.at; alloc = handle.alloc; value = heap.0 } in
-    let made : Held.Denot = record { at = handle.at; alloc = handle.alloc; value = heap.0 } in
+    let kept : X heap_box = record { live = heap.0; former = handle.former } in
+    let boxed : D heap_box = record { ptr = handle.at; alloc = handle.alloc; value = kept } in
+    let made : Held.Denot = record { at = handle.at; alloc = handle.alloc; value = kept } in
     split ! $ drop ! $ fsplit ! $
-    rewrite ! 0 (λ (state : Option (X heap_box)). ‵ (Handle.own_val (record handle { state = state }) y.0.4.0)) heap.1 refl $
+    rewrite ! 0 (λ (state : Option State). ‵ (Handle.own_val (record handle { state = state }) y.0.4.0)) heap.1 refl $
     use1 𝓛 (‵ ((B heap_box).own_val boxed y.0.4.0)) (id⊢ 𝓤 _) $
     box_out heap_box ! boxed y.0.4.0 (λ b o bits place words typed.
     let held = word heap_box bits b o in
     regoal ! (λ (vs : List Val). prop (WpFn 𝓤 𝓛.H 𝓣.C 𝓣.Λ code.function (vs ++ []) (W.post y))) words refl $
-    box_in heap_box ! boxed b o heap.0 place refl $ use1 𝓛 (‵ (Held.own_val made (held ∷ []))) (id⊢ 𝓤 _) $
+    box_in heap_box ! boxed b o kept place refl $ use1 𝓛 (‵ (Held.own_val made (held ∷ []))) (id⊢ 𝓤 _) $
     move ! (1 ∷ []) $ drop ! $
     -- [what the parts own; the locals]
     enter ! _ _ _ _ _ $ alloc_all ! (λ l. pass_all ! refl (box_typed heap_box bits b o typed, tt) $
@@ -50,5 +52,5 @@ into_parts_spec 𝓤 𝓛 𝓜 𝓡 wired =
     sets ! (of_opd ! (get ! refl)) refl (tt, tt) $
     sets ! (agg ! (and_then ! (get ! refl) (and_then ! (get ! refl) (no_more !)))) refl (box_typed heap_box bits b o typed) $
     returns ! (look_at ! 0 refl) $ free_all ! refl $
-    suffices ! _ (ends_at 𝓛 f.ended stayed c y held made (tt, tt) (tt, tt)) $ says ! (sym heap.1) $
+    suffices ! _ (ends_at 𝓛 f.ended stayed c y held made (tt, tt) (tt, tt)) $ says ! (sym heap.1, refl) $
     nothing ! $ nothing ! $ fjoin ! $ join ! $ nothing ! $ join ! $ done !))))

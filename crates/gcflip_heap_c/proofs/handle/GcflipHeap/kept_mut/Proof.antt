@@ -27,12 +27,13 @@ use Rattle.std.proofs.raw_atomic.Walks.{proved}
 use Rattle.std_alloc.proofs.BoxSteps.Form.{D, X, B, R, τ, word, handle}
 use Rattle.std_alloc.proofs.BoxSteps.Steps.{box_out, box_in}
 use Rattle.gcflip_heap_c.proofs.HeapBox.{heap_box, there}
-use Rattle.gc_live.specs.contracts.live_heap.LiveHeap as Heap
+use Rattle.gc_plan.specs.State.{State}
+use Rattle.gc_live.specs.contracts.kept_heap.KeptHeap as Heap
 use Rattle.gcflip_heap_c.specs.Internal.Lending.{with_heap}
-use Rattle.gcflip_heap_c.specs.contracts.handle.GcflipHeap.heap_mut as f
+use Rattle.gcflip_heap_c.specs.contracts.handle.GcflipHeap.kept_mut as f
 use Rattle.gcflip_heap_c.specs.contracts.handle.GcflipHeap.{the_row as Handle}
-use Rattle.gcflip_heap_c.proofs.handle.GcflipHeap.heap_mut.Statement.{statement}
-use Rattle.gcflip_heap_c.proofs.handle.GcflipHeap.heap_mut.Code as code
+use Rattle.gcflip_heap_c.proofs.handle.GcflipHeap.kept_mut.Statement.{statement}
+use Rattle.gcflip_heap_c.proofs.handle.GcflipHeap.kept_mut.Code as code
 
 abbrev stayed : Stays f.ended.signature.params f.ended.kept
 stayed = (stay_dropped (mut_ref_to (0 ∷ []) tt (plain (λ _. Handle))) no, tt)
@@ -52,8 +53,8 @@ module _ (h : Handle.Denot) (rb ro b o : ℕ) (bits : Val) where
         box_in heap_box ! boxed b o w place refl $ use1 𝓛 (‵ (Handle.own_val (with_heap h w) (held ∷ []))) (id⊢ 𝓤 _) $ move ! (1 ∷ 0 ∷ []) $ fjoin ! $
         fpack ! (List Val) (λ us. fsep (cell_at full_share Handle.mir us rb ro) (Handle.own_val (with_heap h w) us)) (held ∷ []) $ done !
 
-pub heap_mut_spec : {M : Type 1} → statement M
-heap_mut_spec 𝓤 𝓛 𝓜 𝓡 wired =
+pub kept_mut_spec : {M : Type 1} → statement M
+kept_mut_spec 𝓤 𝓛 𝓜 𝓡 wired =
     let c = f.clauses 𝓛 𝓜.mem 𝓡.returns in let W = walk_of 𝓛 f.ended stayed c in let 𝓣 = tables 𝓤 𝓛.H 𝓜 𝓡 𝓡.env in
     proved 𝓛 f.ended stayed c 𝓜 𝓡 (Goes-spent_ref 𝓛 1 (0 ∷ []) tt (plain (λ _. Handle)), tt)
     f.Key.name code.function (code.unfolded 𝓤 𝓛.H 𝓜 𝓡 wired)
@@ -62,11 +63,12 @@ heap_mut_spec 𝓤 𝓛 𝓜 𝓡 wired =
     let y : W.Ghost = ((κs, qs, bounds, a, (vs, tt)), tt) in
     qed 𝓛 (((‵ (flft κ q) ⊛ ‵ ftrue) ⊛ ‵ ((MutRef (named 0) κ Handle).own_val a.0 vs) ⊛ ‵ ftrue) ∷ raw (fact 𝓤 (IsSome h.state)) ∷ []) ∵
     move ! (1 ∷ []) $ heard ! _ (λ is. let heap = there h.state is in
-    let boxed : D heap_box = record { ptr = h.at; alloc = h.alloc; value = heap.0 } in
+    let kept : X heap_box = record { live = heap.0; former = h.former } in
+    let boxed : D heap_box = record { ptr = h.at; alloc = h.alloc; value = kept } in
     split ! $ split ! $ move ! (2 ∷ []) $ split ! $ keep ! (0 ∷ 2 ∷ []) $
     enter ! _ _ _ _ _ $ alloc_all ! (λ l. pass_all ! refl ((tt, tt), tt) $
     fsplit3 ! $ move ! (1 ∷ 2 ∷ 3 ∷ []) $ opens ! tt Handle {h = h} rb ro (λ us. move ! (1 ∷ []) $
-    rewrite ! 0 (λ (state : Option (X heap_box)). ‵ (Handle.own_val (record h { state = state }) us)) heap.1 refl $
+    rewrite ! 0 (λ (state : Option State). ‵ (Handle.own_val (record h { state = state }) us)) heap.1 refl $
     use1 𝓛 (‵ ((B heap_box).own_val boxed us)) (id⊢ 𝓤 _) $
     box_out heap_box ! boxed us (λ b o bits place words typed.
     let held = word heap_box bits b o in
@@ -78,9 +80,9 @@ heap_mut_spec 𝓤 𝓛 𝓜 𝓡 wired =
     exec ! 𝓣.C 𝓣.Λ (env code.Mir.locals l) code.Mir.t-4 (at_ret _ (W.post y)) $
     sets ! (of_opd ! (get ! refl)) refl (tt, tt) $
     move ! (1 ∷ 2 ∷ []) $ fjoin ! $ move ! (0 ∷ 2 ∷ []) $ fjoin ! $ move ! (2 ∷ 3 ∷ 4 ∷ 1 ∷ 0 ∷ []) $ group ! 5 $
-    use1 𝓛 (later (some (λ (δ : GName). raw (Part 𝓛 Handle Heap.the_row (with_heap h) (named 0) κ q rb ro b o γ (sem 𝓛 (Rest h rb ro b o bits)) (back h rb ro b o bits 𝓛 place) heap.0 δ))))
-    (lends_Part 𝓛 Handle Heap.the_row (with_heap h) (named 0) κ q rb ro b o γ (sem 𝓛 (Rest h rb ro b o bits)) (back h rb ro b o bits 𝓛 place) (Handle.coded.code h) (Handle.coded.code h) heap.0) $ await ! tt $ pick ! (λ δ.
+    use1 𝓛 (later (some (λ (δ : GName). raw (Part 𝓛 Handle Heap.the_row (with_heap h) (named 0) κ q rb ro b o γ (sem 𝓛 (Rest h rb ro b o bits)) (back h rb ro b o bits 𝓛 place) kept δ))))
+    (lends_Part 𝓛 Handle Heap.the_row (with_heap h) (named 0) κ q rb ro b o γ (sem 𝓛 (Rest h rb ro b o bits)) (back h rb ro b o bits 𝓛 place) (Handle.coded.code h) (Handle.coded.code h) kept) $ await ! tt $ pick ! (λ δ.
     returns ! (look_at ! 0 refl) $ free_all ! refl $ keep ! (0 ∷ []) $
-    use1 𝓛 (‵ ((MutRef (named 0) κ Heap.the_row).own_val (record { ref_ptr = (b, o); ghost_name = δ; now = heap.0 }) (vptr b o ∷ [])) ⊛ ‵ (flft κ q) ⊛ ‵ (follows Handle Heap.the_row γ δ (with_heap h))) (id⊢ 𝓤 _) $ split ! $ move ! (1 ∷ []) $ split ! $ move ! (2 ∷ 0 ∷ 1 ∷ []) $
-    suffices ! _ (ends_at 𝓛 f.ended stayed c y (vptr b o) (record { ref_ptr = (b, o); ghost_name = δ; now = heap.0 }) (tt, tt) (tt, tt)) $
-    nothing ! $ nothing ! $ fjoin ! $ join ! $ nothing ! $ move ! (2 ∷ 0 ∷ []) $ join ! $ join ! $ frame ! $ says ! heap.1 $ done !))))))
+    use1 𝓛 (‵ ((MutRef (named 0) κ Heap.the_row).own_val (record { ref_ptr = (b, o); ghost_name = δ; now = kept }) (vptr b o ∷ [])) ⊛ ‵ (flft κ q) ⊛ ‵ (follows Handle Heap.the_row γ δ (with_heap h))) (id⊢ 𝓤 _) $ split ! $ move ! (1 ∷ []) $ split ! $ move ! (2 ∷ 0 ∷ 1 ∷ []) $
+    suffices ! _ (ends_at 𝓛 f.ended stayed c y (vptr b o) (record { ref_ptr = (b, o); ghost_name = δ; now = kept }) (tt, tt) (tt, tt)) $
+    nothing ! $ nothing ! $ fjoin ! $ join ! $ nothing ! $ move ! (2 ∷ 0 ∷ []) $ join ! $ join ! $ frame ! $ says ! (heap.1, refl) $ done !))))))

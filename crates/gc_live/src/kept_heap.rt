@@ -1,0 +1,133 @@
+//! A live heap that keeps the old space of a flip until the next begin.
+
+ghost use Rattle.std.specs.Prelude.{◌≡◌, ◌≢◌, ◌≤◌, None, IfOk, OnErr};
+ghost use Rattle.gc_heap.specs.ExtraRoots.{CanOpen};
+ghost use Rattle.gc_copy.specs.Opening.{opening_state_with};
+ghost use Rattle.gc_plan.specs.Steps.{collect};
+ghost use Rattle.gc_plan.specs.Runs.{IsStep};
+ghost use Rattle.gc_plan.specs.declared.step.Step.{Step};
+ghost use Rattle.gc_plan.specs.declared.step.StepReply.{StepReply};
+ghost use Rattle.gc_core.specs.CollectedHeap.{Allocates};
+ghost use Rattle.gc_core.specs.Flip.{FlipsOnly, FormerAfter, IsCertified, PassesIfReady, HasRoomIfLarge};
+
+use crate::live_heap::{Checking, LiveHeap};
+use gc_check::Checks;
+use gc_copy::{Room, Step, StepReply};
+use gc_core::AlongFlip;
+use gc_graph::NoMemory;
+use gc_heap::HeapOptions;
+use std::alloc::Global;
+
+/// A live heap with the old space of its last flip, until the next collection begins in that. The old space tells where each object went.
+/// A flip makes no pass for this: it leaves the links of the old space as they are.
+#[derive(Debug, Drop)]
+pub struct KeptHeap {
+    /// The heap. Commands need no more than this.
+    pub live: LiveHeap,
+    /// The old space of the last flip, if no collection has begun since.
+    pub former: Option<Room>,
+}
+
+impl KeptHeap {
+    /// Returns an empty heap with these options, whose flips are checked in this way. All roots are nil, and no flip has been.
+    pub fn open_with(
+        alloc: Global,
+        options: &HeapOptions,
+        checking: Checking,
+    ) -> Result<KeptHeap, NoMemory>
+        requires { CanOpen options.now }
+        ensures live { IfOk result (λ heap. heap.live ≡ opening_state_with options.now) }
+        ensures former { IfOk result (λ heap. heap.former ≡ None) }
+    {
+        let live = LiveHeap::open_with(alloc, options, checking)?;
+        Ok(KeptHeap { live, former: None })
+    }
+
+    /// Writes to all memory of both spaces and of the standing checker's tables once, so that no later write meets a page for the first time. If
+    /// a collection is open, its new space is left out. Allocates the space for the next collection, unless a flip has left one. On
+    /// `NoMemory` nothing has changed.
+    pub fn touch(&mut self, alloc: Global) -> Result<(), NoMemory>
+        ensures live { self.new.live ≡ self.old.live }
+        ensures former { self.new.former ≡ self.old.former }
+    {
+        if let Some(former) = &mut self.former {
+            former.touch();
+        } else {
+            self.live.touch_spare(alloc)?;
+        }
+        self.live.touch();
+        Ok(())
+    }
+
+    /// Opens a collection whose new space has `size` words, at least 1. Returns `Begun`, or `Busy` if one is already open. On `NoMemory`
+    /// nothing has changed, and none is open. The memory of an old space of another size is given back by later calls of `LiveHeap::give_back`.
+    pub fn begin_sized(&mut self, size: u32) -> Result<StepReply, NoMemory>
+        requires low { 1 ≤ size }
+        ensures step { IfOk result (λ reply. collect self.old.live (Step.BeginSized size) ≡ (reply, self.new.live)) }
+        ensures former { IfOk result (λ reply. FormerAfter self.old.live self.old.former reply self.new.former) }
+        ensures refused { OnErr result (self.new ≡ self.old) }
+        ensures allocates { OnErr result (Allocates self.old.live (Step.BeginSized size)) }
+    {
+        self.live.begin_in(size, &mut self.former)
+    }
+
+    /// Opens a collection whose new space is as large as the heap. Returns `Begun`, or `Busy` if one is already open. On `NoMemory`
+    /// nothing has changed, and none is open.
+    pub fn begin(&mut self) -> Result<StepReply, NoMemory>
+        ensures step { IfOk result (λ reply. collect self.old.live Step.Begin ≡ (reply, self.new.live)) }
+        ensures former { IfOk result (λ reply. FormerAfter self.old.live self.old.former reply self.new.former) }
+        ensures refused { OnErr result (self.new ≡ self.old) }
+        ensures allocates { OnErr result (Allocates self.old.live Step.Begin) }
+    {
+        self.live.is_sound();
+        let size = self.live.size();
+        self.begin_sized(size)
+    }
+
+    /// Flips if the open collection is ready and a checker accepts it, as `LiveHeap::flip` does, and keeps the old space.
+    pub fn flip<C: Checks>(&mut self, checker: &C) -> Result<StepReply, NoMemory>
+        requires { C.can_check checker.now }
+        ensures step { IfOk result (λ reply. collect self.old.live Step.Flip ≡ (reply, self.new.live)) }
+        // A flip happens only if the certificate holds.
+        ensures sound { IfOk result (FlipsOnly IsCertified self.old.live) }
+        // The old space tells the pairs of that certificate.
+        ensures former { IfOk result (λ reply. FormerAfter self.old.live self.old.former reply self.new.former) }
+        ensures passes { IfOk result (PassesIfReady self.old.live) }
+        ensures never_refused { IfOk result (λ reply. reply ≢ StepReply.Refused) }
+        ensures refused { OnErr result (self.new ≡ self.old) }
+        // Only the flip of a ready collection allocates.
+        ensures allocates { OnErr result (Allocates self.old.live Step.Flip) }
+    {
+        let AlongFlip { reply, room, .. } = self.live.flip(checker)?;
+        if let StepReply::Flipped { .. } = reply {
+            self.former = room;
+        }
+        Ok(reply)
+    }
+
+    /// Performs one collector step.
+    #[inline(always)]
+    pub fn collect<C: Checks>(&mut self, checker: &C, step: Step) -> Result<StepReply, NoMemory>
+        requires can { C.can_check checker.now }
+        requires step { IsStep self.old.live.mutators step }
+        ensures step { IfOk result (λ reply. collect self.old.live step ≡ (reply, self.new.live)) }
+        // A flip happens only if the certificate holds.
+        ensures sound { IfOk result (FlipsOnly IsCertified self.old.live) }
+        ensures former { IfOk result (λ reply. FormerAfter self.old.live self.old.former reply self.new.former) }
+        ensures passes { step ≡ Step.Flip → IfOk result (PassesIfReady self.old.live) }
+        ensures never_refused { IfOk result (λ reply. reply ≢ StepReply.Refused) }
+        ensures room { IfOk result (HasRoomIfLarge self.old.live) }
+        ensures refused { OnErr result (self.new ≡ self.old) }
+        ensures allocates { OnErr result (Allocates self.old.live step) }
+    {
+        match step {
+            Step::Begin => self.begin(),
+            Step::BeginSized(size) => self.begin_sized(size),
+            Step::Roots => Ok(self.live.roots()),
+            Step::Scan => Ok(self.live.scan()),
+            Step::Apply(m) => Ok(self.live.apply_log(m)),
+            Step::Flip => self.flip(checker),
+            Step::Drop => Ok(self.live.give_up()),
+        }
+    }
+}

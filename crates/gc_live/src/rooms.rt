@@ -1,0 +1,102 @@
+//! The memory of the next collection, and memory that is given back.
+
+ghost use Rattle.std.specs.Prelude.{◌≡◌, ◌≤◌, ◌⊎◌, IfOk, OnErr};
+ghost use Rattle.gc_plan.specs.Steps.{collect};
+ghost use Rattle.gc_plan.specs.declared.step.Step.{Step};
+ghost use Rattle.gc_plan.specs.declared.step.StepReply.{StepReply};
+ghost use Rattle.gc_core.specs.CollectedHeap.{Allocates};
+ghost use Rattle.gc_core.specs.Flip.{FormerAfter};
+
+use crate::live_heap::LiveHeap;
+use gc_copy::{Room, StepReply};
+use gc_core::CollectedHeap;
+use gc_graph::NoMemory;
+use std::alloc::Global;
+
+/// How many words of memory one call gives back: 256 KiB.
+const SLICE: u32 = 32768;
+
+impl LiveHeap {
+    /// Writes to all memory of the mutators' space and of the standing checker's tables once, so that no later write meets a page for the first
+    /// time. The heap stays as it is.
+    pub fn touch(&mut self)
+        ensures { self.new ≡ self.old }
+    {
+        self.inner.touch();
+        self.watch.touch();
+    }
+
+    /// Does the same with the space of the next collection, unless one is open. Allocates that space. On `NoMemory` nothing has changed.
+    pub fn touch_spare(&mut self, alloc: Global) -> Result<(), NoMemory>
+        ensures { self.new ≡ self.old }
+    {
+        self.inner.is_sound();
+        if self.inner.is_open() {
+            return Ok(());
+        }
+        let mut room = Room::new(alloc, self.inner.size(), self.inner.mutators())?;
+        room.touch();
+        self.spare = Some(room);
+        Ok(())
+    }
+
+    /// Frees some of the memory that no collection will use, if there is any: at most 32,768 words of it. The heap stays as it is.
+    #[inline(always)]
+    pub fn give_back(&mut self)
+        ensures { self.new ≡ self.old }
+    {
+        if self.leaving.is_some() {
+            self.free_slice();
+        }
+    }
+
+    // Frees the next slice.
+    fn free_slice(&mut self)
+        ensures { self.new ≡ self.old }
+    {
+        if let Some(room) = self.leaving.take() {
+            self.leaving = room.without(SLICE);
+        }
+    }
+}
+
+/// Opens a collection in the room that the last flip left, or else in the spare room, if that has this size. Room of another size leaves from
+/// then on. If no collection begins, all room stays.
+pub(crate) fn begin_in_room(
+    heap: &mut CollectedHeap,
+    size: u32,
+    left: &mut Option<Room>,
+    spare: &mut Option<Room>,
+    leaving: &mut Option<Room>,
+) -> Result<StepReply, NoMemory>
+    requires low { 1 ≤ size }
+    ensures step { IfOk result (λ reply. collect heap.old (Step.BeginSized size) ≡ (reply, heap.new)) }
+    ensures reply { IfOk result (λ reply. (reply ≡ StepReply.Begun) ⊎ (reply ≡ StepReply.Busy)) }
+    ensures left { IfOk result (λ reply. FormerAfter heap.old left.old reply left.new) }
+    ensures refused { OnErr result ((heap.new ≡ heap.old) × (left.new ≡ left.old)) }
+    ensures allocates { OnErr result (Allocates heap.old (Step.BeginSized size)) }
+    ensures mutators { heap.new.mutators ≡ heap.old.mutators }
+{
+    if is_of_size(left, size) {
+        return heap.begin_in(size, left);
+    }
+    if left.is_none() && is_of_size(spare, size) {
+        return heap.begin_in(size, spare);
+    }
+    let reply = heap.begin_in(size, &mut None)?;
+    if let StepReply::Begun = reply {
+        *leaving = match left.take() {
+            None => spare.take(),
+            former => former,
+        };
+    }
+    Ok(reply)
+}
+
+// Whether there is room of so many words.
+fn is_of_size(room: &Option<Room>, size: u32) -> bool {
+    match room {
+        None => false,
+        Some(room) => room.size() == size,
+    }
+}

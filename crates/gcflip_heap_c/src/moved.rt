@@ -1,0 +1,44 @@
+//! The export that tells where the last flip moved an object, for a table by address.
+
+ghost use Rattle.std.specs.Prelude.{◌≡◌};
+ghost use Rattle.gc_copy.specs.Words.{moved_in};
+ghost use Rattle.gcflip_heap_c.specs.Former.{moved_answer, moved_address};
+ghost use Rattle.gcflip_heap_c.specs.Raws.{address_answer, address_after};
+
+use crate::answer::{CLOSED, DONE, NO_OBJECT, OUT_OF_RANGE};
+use crate::handle::GcflipHeap;
+use gc_copy::Room;
+use gc_words::OldAddr;
+
+/// Writes the address to which the last flip moved the object that was at the address `old` before it, if it did not die. Returns whether.
+fn read_moved(former: &Room, old: u32, address: &mut u32) -> u32
+    ensures answer { result ≡ address_answer (moved_in former.now old) }
+    ensures address { address.new ≡ address_after address.old (moved_in former.now old) }
+{
+    match former.moved(OldAddr(old)) {
+        None => NO_OBJECT,
+        Some(at) => {
+            *address = at.0;
+            DONE
+        }
+    }
+}
+
+/// Writes the address to which the last flip moved the object that was at the address `old` before it. Returns 18 if the object died, and 2
+/// if a collection has begun since the flip, or no flip has been. For an `old` at which no object started, any of these may come. Calls
+/// nothing back, and takes constant time.
+#[unsafe(no_mangle)]
+pub extern "C" fn gcflip_heap_moved(heap: &mut GcflipHeap, old: u32, address: &mut u32) -> u32
+    ensures answer { result ≡ moved_answer heap.old.state heap.old.former old }
+    ensures address { address.new ≡ moved_address address.old heap.old.state heap.old.former old }
+    ensures heap { heap.new.state ≡ heap.old.state }
+    ensures former { heap.new.former ≡ heap.old.former }
+{
+    if heap.is_empty() {
+        return CLOSED;
+    }
+    match &heap.kept_mut().former {
+        None => OUT_OF_RANGE,
+        Some(former) => read_moved(former, old, address),
+    }
+}

@@ -1,0 +1,116 @@
+/* Pages of memory: pages touch|slices. A heap that was touched meets no page for the first time in its first collection. A heap that became smaller
+ * gives its old space back in slices. */
+#define _GNU_SOURCE
+#include "expect.h"
+#include "gcflip_heap.h"
+#include <string.h>
+#include <sys/prctl.h>
+#include <sys/resource.h>
+#include <unistd.h>
+
+enum { LARGE = 1 << 21, SMALL = 1 << 12, CELL_WORDS = 4, PAGE_WORDS = 512, SLICE_PAGES = 64, FEW = 64 };
+
+static gcflip_heap heap = GCFLIP_NO_HEAP;
+
+static long faults(void)
+{
+    struct rusage usage;
+    EXPECT(getrusage(RUSAGE_SELF, &usage) == 0);
+    return usage.ru_minflt;
+}
+
+/* The pages of memory that the process has. */
+static long resident(void)
+{
+    long all = 0, here = 0;
+    FILE *file = fopen("/proc/self/statm", "r");
+    EXPECT(file != NULL && fscanf(file, "%ld %ld", &all, &here) == 2);
+    fclose(file);
+    return here;
+}
+
+static void open_heap(uint32_t words)
+{
+    const gcflip_options options = gcflip_options_default(words, 1);
+    EXPECT(gcflip_heap_open(&heap, &options) == GCFLIP_DONE);
+}
+
+/* Keeps so many cells in a list. */
+static void keep_cells(uint32_t cells)
+{
+    for (uint32_t k = 0; k < cells; k++) {
+        EXPECT(gcflip_heap_new_pair(&heap, 0, 2, 1, 0, 1) == GCFLIP_MADE);
+        EXPECT(gcflip_heap_move(&heap, 0, 0, 2) == GCFLIP_DONE);
+    }
+}
+
+/* Performs calls of work up to the flip, and returns the largest number of pages that one of them gave back. */
+static long collect(uint32_t size)
+{
+    gcflip_work work = {0, 0, 0, 0};
+    long most = 0;
+    while (work.last != GCFLIP_FLIPPED) {
+        long before = resident();
+        EXPECT(gcflip_heap_work_sized(&heap, 16, size, &work) == GCFLIP_DONE && work.last != GCFLIP_NO_ROOM);
+        long given = before - resident();
+        most = given > most ? given : most;
+    }
+    return most;
+}
+
+/* How many pages the first collection of a heap with half a million words alive meets for the first time. */
+static long met(int is_touched)
+{
+    uint32_t address = 7;
+    open_heap(LARGE);
+    if (is_touched)
+        EXPECT(gcflip_heap_touch(&heap) == GCFLIP_DONE);
+    EXPECT(gcflip_heap_moved(&heap, 1, &address) == GCFLIP_OUT_OF_RANGE && address == 7);
+    keep_cells(LARGE / 4 / CELL_WORDS);
+    long before = faults();
+    collect(LARGE);
+    long found = faults() - before;
+    EXPECT(gcflip_heap_touch(&heap) == GCFLIP_DONE);
+    EXPECT(gcflip_heap_moved(&heap, 1, &address) == GCFLIP_DONE || address == 7);
+    EXPECT(gcflip_heap_step_begin(&heap) == GCFLIP_BEGUN && gcflip_heap_touch(&heap) == GCFLIP_DONE);
+    EXPECT(gcflip_heap_close(&heap) == GCFLIP_DONE);
+    return found;
+}
+
+static void touch(void)
+{
+    long pages = LARGE / 4 / PAGE_WORDS;
+    EXPECT(gcflip_heap_touch(&heap) == GCFLIP_CLOSED);
+    EXPECT(met(0) >= pages);
+    EXPECT(met(1) <= FEW);
+}
+
+static void slices(void)
+{
+    gcflip_work work = {0, 0, 0, 0};
+    open_heap(LARGE);
+    EXPECT(gcflip_heap_touch(&heap) == GCFLIP_DONE);
+    keep_cells(FEW);
+    collect(SMALL); /* the heap is small from here on, and its old space is large */
+    keep_cells(FEW);
+    long before = resident();
+    EXPECT(gcflip_heap_work_sized(&heap, 1, SMALL, &work) == GCFLIP_DONE && work.last == GCFLIP_BEGUN);
+    for (long slice = 0; slice < 2 * LARGE / PAGE_WORDS / SLICE_PAGES; slice++) {
+        long now = resident();
+        EXPECT(gcflip_heap_work_sized(&heap, 1, SMALL, &work) == GCFLIP_DONE);
+        EXPECT(now - resident() <= SLICE_PAGES + FEW);
+    }
+    EXPECT(before - resident() >= LARGE / PAGE_WORDS - FEW);
+    EXPECT(gcflip_heap_close(&heap) == GCFLIP_DONE);
+}
+
+int main(int count, char **words)
+{
+    EXPECT(count == 2);
+    EXPECT(prctl(PR_SET_THP_DISABLE, 1, 0, 0, 0) == 0); /* else one fault brings many pages */
+    if (strcmp(words[1], "touch") == 0)
+        touch();
+    else
+        slices();
+    return 0;
+}
