@@ -1,12 +1,11 @@
-ghost use Rattle.std.specs.Prelude.{◌≡◌, ◌≢◌, ◌↔◌, true, IfSome, IfOk, OnErr, Err};
-ghost use Rattle.std.specs.Io.KnownBytes.{Appends};
-ghost use Rattle.gc_graph.specs.Streams.{bytes_left, bytes_written, source_failed, sink_failed};
+ghost use Rattle.std.specs.Prelude.{◌≡◌, ℕ, List, Option, IfSome, IfOk};
+ghost use Rattle.gc_graph.specs.Streams.{bytes_left, bytes_written, source_failed, SendsFront};
 ghost use Rattle.gc_cert.specs.Grammar.{CertifiedPair, HasText};
-ghost use Rattle.gc_cert.specs.Faults.{IsReadAsPair, MayFail};
+ghost use Rattle.gc_cert.specs.Faults.{IsReadAsPair};
 ghost use Rattle.gc_cert.specs.Views.{pair_in};
 ghost use Rattle.gc_check.specs.Verdict.{verdict_line};
-ghost use Rattle.gc_check.specs.Texts.{verdict_on, OnYes, Promises, IsVerdictOn, TellsFront};
-ghost use Rattle.gc_cert.specs.declared.fault.PairFault.{PairFault};
+ghost use Rattle.gc_check.specs.Texts.{verdict_on, OnYes, Promises, TellsFront, IsTextCheck};
+ghost use Rattle.gc_check.specs.declared.verdict.Verdict.{Verdict};
 
 use crate::checks::{Checks, Sequential};
 use crate::verdict::{CheckFault, RunFault, Verdict};
@@ -24,26 +23,8 @@ pub fn check_text<R: Read, W: Write>(
     reader: &mut Source<R>,
     writer: &mut Sink<W>,
 ) -> Result<Verdict, RunFault>
-    ensures verdict { IfOk result (λ verdict. IfSome (bytes_left R.remaining reader.old)
-        (λ text. IsVerdictOn text verdict)) }
-    // The verdict's line, and nothing else.
-    ensures line { IfOk result (λ verdict. Appends
-        (bytes_written W.contents writer.old) (bytes_written W.contents writer.new) (verdict_line verdict)) }
-    // The soundness theorem for the images that the text spells.
-    ensures replicated { IfOk result (λ verdict. IfSome (bytes_left R.remaining reader.old)
-        (λ text. (pair : CertifiedPair) → IsReadAsPair pair text → Promises verdict pair)) }
-
-    // The first fault of a bad text.
-    ensures fault { (fault : PairFault) → result ≡ Err (RunFault.Pair fault) →
-        IfSome (bytes_left R.remaining reader.old) (λ text. MayFail fault text) }
-    ensures memory { result ≢ Err (RunFault.Pair PairFault.NoMemory) }
-    ensures unread { (result ≡ Err (RunFault.Pair PairFault.Read))
-        ↔ (source_failed reader.new ≡ true) }
-    ensures unwritten { result ≡ Err RunFault.Write → sink_failed writer.new ≡ true }
-    ensures silent { OnErr result (result ≢ Err RunFault.Write → writer.new ≡ writer.old) }
-    // What went out is a prefix of the verdict's line.
-    ensures front { result ≡ Err RunFault.Write → TellsFront (bytes_left R.remaining reader.old)
-        (bytes_written W.contents writer.old) (bytes_written W.contents writer.new) }
+    ensures { IsTextCheck (bytes_left R.remaining reader.old) (source_failed reader.new)
+        (bytes_written W.contents) writer.old writer.new result }
 {
     check_text_by(&Sequential, alloc, reader, writer)
 }
@@ -61,38 +42,45 @@ pub fn check_text_by<C: Checks, R: Read, W: Write>(
     // This checker said yes to the images that the text spells.
     ensures asked { IfOk result (λ verdict. IfSome (bytes_left R.remaining reader.old)
         (λ text. (pair : CertifiedPair) → IsReadAsPair pair text → OnYes (C.says_yes checker.now) verdict pair)) }
-    ensures verdict { IfOk result (λ verdict. IfSome (bytes_left R.remaining reader.old)
-        (λ text. IsVerdictOn text verdict)) }
-    // The verdict's line, and nothing else.
-    ensures line { IfOk result (λ verdict. Appends
-        (bytes_written W.contents writer.old) (bytes_written W.contents writer.new) (verdict_line verdict)) }
-    // The soundness theorem for the images that the text spells.
-    ensures replicated { IfOk result (λ verdict. IfSome (bytes_left R.remaining reader.old)
-        (λ text. (pair : CertifiedPair) → IsReadAsPair pair text → Promises verdict pair)) }
-
-    // The first fault of a bad text.
-    ensures fault { (fault : PairFault) → result ≡ Err (RunFault.Pair fault) →
-        IfSome (bytes_left R.remaining reader.old) (λ text. MayFail fault text) }
-    ensures memory { result ≢ Err (RunFault.Pair PairFault.NoMemory) }
-    ensures unread { (result ≡ Err (RunFault.Pair PairFault.Read))
-        ↔ (source_failed reader.new ≡ true) }
-    ensures unwritten { result ≡ Err RunFault.Write → sink_failed writer.new ≡ true }
-    ensures silent { OnErr result (result ≢ Err RunFault.Write → writer.new ≡ writer.old) }
-    // What went out is a prefix of the verdict's line.
-    ensures front { result ≡ Err RunFault.Write → TellsFront (bytes_left R.remaining reader.old)
-        (bytes_written W.contents writer.old) (bytes_written W.contents writer.new) }
+    ensures checked { IsTextCheck (bytes_left R.remaining reader.old) (source_failed reader.new)
+        (bytes_written W.contents) writer.old writer.new result }
 {
-    texts_have_one_reading();
+    fronts_tell_verdicts();
     let file = match read_pair(alloc, reader) {
         Ok(file) => file,
         Err(PairFault::NoMemory) => return Err(RunFault::NoMemory),
         Err(fault) => return Err(RunFault::Pair(fault)),
     };
-    let verdict = verdict_of(checker, alloc, &file)?;
+    let verdict = verdict_on_text(checker, alloc, &file)?;
     match write_verdict(writer, &verdict) {
         Ok(()) => Ok(verdict),
         Err(_) => Err(RunFault::Write),
     }
+}
+
+// If the text spells the pair that was read, a prefix of the line of the verdict on that pair is one of the verdict on the text.
+fn fronts_tell_verdicts()
+    ensures { (text : Option (List ℕ)) (verdict : Verdict) (file : CertifiedPair) (old new : Option (List ℕ))
+        → IfSome text (λ text. IsReadAsPair file text) → verdict ≡ verdict_on file → SendsFront old new (verdict_line verdict)
+        → TellsFront text old new }
+{}
+
+// Returns the checker's answer as a verdict. If a text spells this pair, the answer is about each pair that the text spells.
+fn verdict_on_text<C: Checks>(
+    checker: &C,
+    alloc: Global,
+    file: &PairFile,
+) -> Result<Verdict, NoMemory>
+    requires can { C.can_check checker.now }
+    requires text { HasText (pair_in file.now) }
+    ensures asked { IfOk result (λ verdict. (text : Option (List ℕ)) → IfSome text (λ text. IsReadAsPair (pair_in file.now) text)
+        → IfSome text (λ text. (pair : CertifiedPair) → IsReadAsPair pair text → OnYes (C.says_yes checker.now) verdict pair)) }
+    ensures verdict { IfOk result (λ verdict. verdict ≡ verdict_on (pair_in file.now)) }
+    ensures promised { IfOk result (λ verdict. (text : Option (List ℕ)) → IfSome text (λ text. IsReadAsPair (pair_in file.now) text)
+        → IfSome text (λ text. (pair : CertifiedPair) → IsReadAsPair pair text → Promises verdict pair)) }
+{
+    texts_have_one_reading();
+    verdict_of(checker, alloc, file)
 }
 
 // Returns the checker's answer as a verdict.

@@ -1,17 +1,17 @@
 -- Lemmas about receipts that stand, and about the marks of their places.
-use Rattle.std.proofs.Common.{◌≡◌, ◌≢◌, ℕ, zero, suc, ◌+◌, ◌<◌, ◌≤◌, ◌==◌, Bool, true, false, cond, List, [], ◌∷◌, ◌++◌, length, take, map, get_or, set, refl, sym, ap, ◌∙◌, arith, count_by, Some, All, length-append, length-set, get_or-set_same, get_or-set_other, add-one, append_assoc, ⊎_elim}
+use Rattle.std.proofs.Common.{◌≡◌, ◌≢◌, ℕ, zero, suc, ◌+◌, ◌<◌, ◌≤◌, ◌==◌, Bool, true, false, cond, List, [], ◌∷◌, ◌++◌, length, take, map, get_or, set, refl, sym, ap, ◌∙◌, arith, count_by, All, length-append, length-set, get_or-set_same, get_or-set_other, add-one, append_assoc, ⊎_elim}
 use Rattle.std.proofs.lemmas.List.{take_more}
 use Rattle.std.specs.List.Sorted.{IsStrictlyIncreasing}
 use Rattle.std.proofs.lemmas.Bool.{cases_eq, cases_Bool}
-use Rattle.std.proofs.lemmas.Option.{slice_get_within, slice_get-get_or}
+use Rattle.std.proofs.lemmas.Option.{slice_get_within}
 use Rattle.std.proofs.lemmas.Bool.Decides.{nat_tests}
 use Rattle.std.proofs.lemmas.List.Sums.{sum_by-append, sum_by-cons, sum_by-set, count_by-le-length}
 use Rattle.gc_world.specs.declared.entry.Entry.{Entry}
 use Rattle.gc_shared.specs.declared.seat.Receipt.{Receipt}
 use Rattle.gc_shared.specs.Seats.{SeatValue}
 use Rattle.gc_shared.specs.Receipts.{IsRecorded, times_at}
-use Rattle.gc_shared.specs.Closing.{floor_of, Stands, AllStand, IsFirstTorn, SeatsStand, receipts_of, receipts_below}
-use Rattle.gc_shared.specs.Internal.Marks.{IsMarked, IsFree, AgreeByNumber}
+use Rattle.gc_shared.specs.Closing.{Stands, AllStand, IsFirstTorn, SeatsStand, receipts_of, receipts_below}
+use Rattle.gc_shared.specs.Internal.Marks.{floor_of, IsMarked, IsFree, AgreeByNumber}
 
 floor_of-snoc : (low : ℕ) (rs : List Receipt) (r : Receipt) → floor_of low (rs ++ r ∷ []) ≡ r.place + 1
 floor_of-snoc low [] r = refl
@@ -21,6 +21,11 @@ floor_of-snoc low (q ∷ rs) r = floor_of-snoc (q.place + 1) rs r
 AllStand-snoc : (history : List Entry) (earlier : List Receipt) (low : ℕ) (rs : List Receipt) (r : Receipt) → AllStand history earlier low rs → Stands history earlier (floor_of low rs) r → AllStand history earlier low (rs ++ r ∷ [])
 AllStand-snoc history earlier low [] r all one = (one, tt)
 AllStand-snoc history earlier low (q ∷ rs) r all one = (all.0, AllStand-snoc history earlier (q.place + 1) rs r all.1 one)
+
+-- the last of receipts that stand is at or above the floor of those before it
+last_stands : (history : List Entry) (earlier : List Receipt) (low : ℕ) (rs : List Receipt) (r : Receipt) → AllStand history earlier low (rs ++ r ∷ []) → Stands history earlier (floor_of low rs) r
+last_stands history earlier low [] r all = all.0
+last_stands history earlier low (q ∷ rs) r all = last_stands history earlier (q.place + 1) rs r all.1
 
 floor_above : (history : List Entry) (earlier : List Receipt) (low : ℕ) (rs : List Receipt) → AllStand history earlier low rs → low ≤ floor_of low rs
 floor_above history earlier low [] all = omega arith
@@ -133,10 +138,11 @@ step history earlier rs marks low n r lt at is all marked within free =
 -- the receipt at n is the first that does not stand
 pub torn_here : (history : List Entry) (earlier rs : List Receipt) (marks : List Bool) (low n : ℕ) (r : Receipt) → n < length rs → r ≡ get_or rs n r → length marks ≡ length history → low ≡ floor_of 0 (take n rs) → AllStand history earlier 0 (take n rs) → IsMarked marks (earlier ++ take n rs) → (IsFree history marks low r → ⊥) → IsFirstTorn history earlier rs n
 torn_here history earlier rs marks low n r lt at len is all marked taken = record {
-  which = r;
-  here = slice_get-get_or rs n r lt ∙ ap Some (sym at);
   before = all;
-  torn = λ stands. taken (rw is (free_if_stands history earlier (take n rs) marks r all marked len stands));
+  torn = λ more.
+      let one_more : take (n + 1) rs ≡ take n rs ++ r ∷ [] = take_more rs n r lt ∙ ap (λ (x : Receipt). take n rs ++ x ∷ []) (sym at) in
+      let stands = last_stands history earlier 0 (take n rs) r (rw one_more at more) in
+      taken (rw is (free_if_stands history earlier (take n rs) marks r all marked len stands));
 }
 
 -- if all receipts stand and every place is marked, the receipts agree

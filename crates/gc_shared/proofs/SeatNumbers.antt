@@ -1,5 +1,5 @@
 -- Seats by number, and in the order in which they were passed to `close`.
-use Rattle.std.proofs.Common.{◌≡◌, ◌≢◌, ℕ, zero, suc, ◌+◌, ◌<◌, ◌==◌, Bool, true, false, cond, List, [], ◌∷◌, length, refl, sym, ap, ◌∙◌, arith, count_by, sum_by, eqb, ltb, Option, Some, None, ⊎_elim, subst, All, get_or, MatchOption}
+use Rattle.std.proofs.Common.{◌≡◌, ◌≢◌, ℕ, zero, suc, ◌+◌, ◌<◌, ◌==◌, Bool, true, false, cond, List, [], ◌∷◌, length, refl, sym, ap, ◌∙◌, arith, count_by, sum_by, eqb, ltb, Option, Some, None, ⊎_elim, subst, All, get_or, map, MatchOption}
 use Rattle.std.specs.List.{find, flat_map}
 use Rattle.std.specs.Option.{option_map_or}
 use Rattle.std.specs.List.Sorted.{IsStrictlyIncreasing}
@@ -12,9 +12,9 @@ use Rattle.gc_world.specs.World.{Past}
 use Rattle.gc_shared.specs.declared.fault.CloseKind.{CloseKind}
 use Rattle.gc_shared.specs.declared.fault.CloseKind.TheVariants.{Seats, Torn, Extra, NoMemory}
 use Rattle.gc_shared.specs.Seats.{SeatValue, Opening, count_of_seats}
-use Rattle.gc_shared.specs.Receipts.{IsRecorded, times_at, places_of, ReceiptsAgree}
-use Rattle.gc_shared.specs.Closing.{HasEachOnce, IsSeated, IsWhole, IsFirstCloseFault, receipts_of, receipts_below}
-use Rattle.gc_shared.specs.Internal.Marks.{AgreeByNumber, IsFault}
+use Rattle.gc_shared.specs.Receipts.{IsRecorded, times_at, ReceiptsAgree}
+use Rattle.gc_shared.specs.Closing.{IsSeated, IsWhole, IsFirstCloseFault, receipts_of, receipts_below}
+use Rattle.gc_shared.specs.Internal.Marks.{HasEachOnce, AgreeByNumber, IsFault}
 use Rattle.gc_shared.proofs.ReceiptMarks.{times_at-append, every_counted}
 
 abbrev below : (SeatValue → ℕ) → ℕ → SeatValue → ℕ
@@ -159,7 +159,7 @@ agree_as_handed_in history seats count len once agree = record {
 pub agree_by_number : (history : List Entry) (seats : List SeatValue) (count : ℕ) → length seats ≡ count → HasEachOnce seats count → ReceiptsAgree history seats → AgreeByNumber history seats count
 agree_by_number history seats count len once agree = record {
   recorded = λ n lt. of_number (λ rs. All (IsRecorded history) rs) n seats (λ k d lt. absurd (omega arith)) agree.recorded;
-  rising = λ n lt. of_number (λ rs. IsStrictlyIncreasing (places_of rs)) n seats (λ k lt. absurd (omega arith)) agree.rising;
+  rising = λ n lt. of_number (λ rs. IsStrictlyIncreasing (map (λ r. r.place) rs)) n seats (λ k lt. absurd (omega arith)) agree.rising;
   once = λ p lt. together count p seats len once ∙ agree.once p lt;
 }
 

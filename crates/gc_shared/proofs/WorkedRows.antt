@@ -1,11 +1,11 @@
 -- The worked examples hold.
-use Rattle.std.proofs.Common.{◌≡◌, ℕ, zero, suc, ◌<◌, [], ◌∷◌, refl, arith, All}
+use Rattle.std.proofs.Common.{◌≡◌, ℕ, zero, suc, ◌<◌, [], ◌∷◌, map, refl, arith, All}
 use Rattle.std.specs.List.{flat_map}
 use Rattle.std.specs.List.Sorted.{IsStrictlyIncreasing}
 use Rattle.gc_shared.specs.Seats.{SeatValue}
-use Rattle.gc_shared.specs.Receipts.{IsRecorded, times_at, places_of}
+use Rattle.gc_shared.specs.Receipts.{IsRecorded, times_at}
 use Rattle.gc_shared.specs.Closing.{AllStand, SeatsStand}
-use Rattle.gc_shared.specs.Rows.{Rows, history, first, second, collector, cleared}
+use Rattle.gc_shared.specs.Rows.{Rows, history, first, second, collector}
 use Rattle.gc_shared.proofs.ReceiptMarks.{all_recorded, rising}
 
 first_stands : AllStand history [] 0 first.receipts
@@ -39,7 +39,7 @@ pub rows : Rows
 rows = record {
   agree = record {
     recorded = of_three (λ seat. All (IsRecorded history) seat.receipts) (all_recorded history [] 0 collector.receipts collector_stands) (all_recorded history [] 0 first.receipts first_stands) (all_recorded history [] 0 second.receipts second_stands);
-    rising = of_three (λ seat. IsStrictlyIncreasing (places_of seat.receipts)) (rising history [] 0 collector.receipts collector_stands) (rising history [] 0 first.receipts first_stands) (rising history [] 0 second.receipts second_stands);
+    rising = of_three (λ seat. IsStrictlyIncreasing (map (λ r. r.place) seat.receipts)) (rising history [] 0 collector.receipts collector_stands) (rising history [] 0 first.receipts first_stands) (rising history [] 0 second.receipts second_stands);
     once = each_once;
   };
   left_out = λ agree. let none : 0 ≡ 1 = agree.once 1 (omega arith) in absurd (omega arith);
@@ -47,16 +47,14 @@ rows = record {
   stranger = record {
     within = omega arith;
     before = λ n lt. absurd (omega arith);
-    first = record { which = cleared 0; here = refl; before = tt; torn = λ stands. let none = stands.recorded in cc };
+    first = record { before = tt; torn = λ stand. let none = stand.0.recorded in cc };
   };
   falling = record {
     within = omega arith;
     before = λ n lt. absurd (omega arith);
     first = record {
-      which = cleared 0;
-      here = refl;
       before = (record { recorded = refl; above = omega arith; apart = refl }, tt);
-      torn = λ stands. absurd (omega (arith, stands.above));
+      torn = λ stand. absurd (omega (arith, stand.1.0.above));
     };
   };
   extra = record { all = alone first_stands; fewer = omega arith };

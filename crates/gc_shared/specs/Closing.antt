@@ -1,5 +1,5 @@
 -- The result of closing a world. Seats are compared by number, and the receipts of each seat in order.
-use Rattle.std.specs.Prelude.{◌≡◌, ℕ, zero, suc, ◌+◌, ◌<◌, ◌≤◌, ◌==◌, ⊤, List, [], ◌∷◌, ◌++◌, length, take, Some, slice_get, count_by}
+use Rattle.std.specs.Prelude.{◌≡◌, ℕ, zero, suc, ◌+◌, ◌<◌, ◌≤◌, ◌==◌, ⊤, List, [], ◌∷◌, ◌++◌, length, take, count_by}
 use Rattle.std.specs.List.{find}
 use Rattle.std.specs.Option.{option_map_or}
 use Rattle.gc_world.specs.declared.entry.Entry.{Entry}
@@ -21,16 +21,12 @@ abbrev pub receipts_below : List SeatValue → ℕ → List Receipt
 receipts_below seats zero = []
 receipts_below seats (suc n) = receipts_below seats n ++ receipts_of seats n
 
--- each number below `count` belongs to exactly one seat
-abbrev pub HasEachOnce : List SeatValue → ℕ → Type 0
-HasEachOnce seats count = (n : ℕ) → n < count → count_by (λ seat. seat.number == n) seats ≡ 1
-
 -- each seat number of the opening occurs once, and the world has the opening's size and number of mutators
 pub record IsSeated (o : Opening) (w : Past) (seats : List SeatValue) : Type 0 where
   pub size : w.size ≡ o.size
   pub mutators : w.mutators ≡ o.mutators
   pub count : length seats ≡ count_of_seats o
-  pub once : HasEachOnce seats (count_of_seats o)
+  pub once : (n : ℕ) → n < count_of_seats o → count_by (λ seat. seat.number == n) seats ≡ 1
 
 -- ---- receipts in order
 
@@ -50,17 +46,10 @@ AllStand history earlier low (r ∷ rs) = Stands history earlier low r × AllSta
 abbrev pub SeatsStand : List Entry → List SeatValue → ℕ → Type 0
 SeatsStand history seats count = (n : ℕ) → n < count → AllStand history (receipts_below seats n) 0 (receipts_of seats n)
 
--- one above the place of the last receipt, or `low` if there is none
-abbrev pub floor_of : ℕ → List Receipt → ℕ
-floor_of low [] = low
-floor_of low (r ∷ rs) = floor_of (r.place + 1) rs
-
 -- receipt n is the first one that does not stand
 pub record IsFirstTorn (history : List Entry) (earlier rs : List Receipt) (n : ℕ) : Type 0 where
-  pub which : Receipt
-  pub here : slice_get rs n ≡ Some which
   pub before : AllStand history earlier 0 (take n rs)
-  pub torn : Stands history earlier (floor_of 0 (take n rs)) which → ⊥
+  pub torn : AllStand history earlier 0 (take (n + 1) rs) → ⊥
 
 -- ---- answers
 

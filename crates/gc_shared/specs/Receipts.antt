@@ -15,12 +15,9 @@ IsRecorded history r = slice_get history r.place ≡ Some (entry_of r.event r.an
 abbrev pub times_at : ℕ → List Receipt → ℕ
 times_at place rs = count_by (λ r. r.place == place) rs
 
-abbrev pub places_of : List Receipt → List ℕ
-places_of rs = map (λ r. r.place) rs
-
 -- Each receipt has the event and answer that the history has at its place. The places on a seat's receipts rise. Each
 -- place of the history is on exactly one receipt of all seats together.
 pub record ReceiptsAgree (history : List Entry) (seats : List SeatValue) : Type 0 where
   pub recorded : All (λ seat. All (IsRecorded history) seat.receipts) seats
-  pub rising : All (λ seat. IsStrictlyIncreasing (places_of seat.receipts)) seats
+  pub rising : All (λ seat. IsStrictlyIncreasing (map (λ r. r.place) seat.receipts)) seats
   pub once : (place : ℕ) → place < length history → times_at place (flat_map (λ seat. seat.receipts) seats) ≡ 1

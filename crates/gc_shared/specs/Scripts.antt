@@ -7,7 +7,7 @@ use Rattle.gc_world.specs.declared.entry.Entry.{Entry}
 use Rattle.gc_plan.specs.declared.event.Event.{Event}
 use Rattle.gc_plan.specs.declared.event.Event.TheVariants.{Mutate, Collect}
 use Rattle.gc_plan.specs.declared.event.Answer.{Answer}
-use Rattle.gc_plan.specs.declared.event.Answer.TheVariants.{Mutator, Collector, Useful}
+use Rattle.gc_plan.specs.declared.event.Answer.TheVariants.{Useful}
 use Rattle.gc_plan.specs.Runs.{commands_of}
 use Rattle.gc_world.specs.History.{events_of}
 use Rattle.gc_world.specs.World.{Past}
@@ -20,10 +20,8 @@ script_at scripts m = slice_index_or (map (λ script. script.items) scripts) m [
 
 -- a collector step whose answer is marked `Useful`
 abbrev pub IsUsefulStep : Event → Answer → Type 0
-IsUsefulStep (Mutate m op) answer = ⊥
-IsUsefulStep (Collect step) (Mutator reply) = ⊥
-IsUsefulStep (Collect step) (Collector reply) = ⊥
 IsUsefulStep (Collect step) (Useful reply) = ⊤
+IsUsefulStep event answer = ⊥
 
 -- ---- in a history
 

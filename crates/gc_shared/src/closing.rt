@@ -4,8 +4,8 @@ ghost use Rattle.std.specs.Option.{option_copied};
 ghost use Rattle.gc_world.specs.World.{entry_of};
 ghost use Rattle.gc_shared.specs.Seats.{opened_with};
 ghost use Rattle.gc_shared.specs.Receipts.{IsRecorded};
-ghost use Rattle.gc_shared.specs.Closing.{IsSeated, IsWhole, IsFirstCloseFault, IsFirstTorn, AllStand, HasEachOnce, receipts_of, receipts_below};
-ghost use Rattle.gc_shared.specs.Internal.Marks.{IsMarked, IsFree, IsFault, AgreeByNumber};
+ghost use Rattle.gc_shared.specs.Closing.{IsSeated, IsWhole, IsFirstCloseFault, IsFirstTorn, AllStand, receipts_of, receipts_below};
+ghost use Rattle.gc_shared.specs.Internal.Marks.{HasEachOnce, IsMarked, IsFree, IsFault, AgreeByNumber};
 
 use crate::fault::{CloseFault, CloseKind};
 use crate::seat::{Receipt, Seat};

@@ -1,8 +1,8 @@
 -- The pairs of a run's flips.
-use Rattle.std.proofs.Common.{◌≡◌, ℕ, suc, ◌+◌, ◌<◌, ◌≤◌, List, ◌∷◌, drop, length, map, get_or, refl, sym, ap, ◌∙◌, arith, subst, Option, Some, None, inl, inr, ◌⊎◌}
+use Rattle.std.proofs.Common.{◌≡◌, ℕ, suc, ◌+◌, ◌<◌, ◌≤◌, List, ◌∷◌, ◌++◌, drop, length, map, get_or, refl, sym, ap, ◌∙◌, arith, subst, Option, Some, None, inl, inr, ◌⊎◌}
 use Rattle.std.specs.Prelude.{slice_get, IfSome}
 use Rattle.gc_graph.specs.Limits.{most_words}
-use Rattle.std.specs.Option.{option_map}
+use Rattle.std.specs.Option.{option_map, option_to_list}
 use Rattle.std.proofs.lemmas.List.{drop_more, length-map}
 use Rattle.gc_cert.specs.Grammar.{CertifiedPair}
 use Rattle.gc_cert.specs.Counts.{HasCounts}
@@ -20,7 +20,7 @@ use Rattle.gc_core.specs.Flip.{flip_pair, open_pair, kept_after, IsCertified}
 use Rattle.gc_plan.specs.declared.event.Event.{Event}
 use Rattle.gc_plan.specs.declared.event.Event.TheVariants.{Mutate, Collect}
 use Rattle.gc_core.specs.Performing.{flip_at}
-use Rattle.gc_trace.specs.Flips.{with_flip, flips}
+use Rattle.gc_trace.specs.Flips.{flips}
 
 -- ---- what is kept
 
@@ -75,18 +75,18 @@ counts_of_kept s event (Some file) ok sizes small few is certified = flip_counts
 abbrev pub flips_from : State → List Event → ℕ → ℕ → Option CertifiedPair
 flips_from s events i before = slice_get (flips s (drop i events)) before
 
-flips_more : (s : State) (events : List Event) (i : ℕ) (event : Event) → i < length events → event ≡ get_or events i event → flips s (drop i events) ≡ with_flip (flip_at s event) (flips (after s event) (drop (i + 1) events))
+flips_more : (s : State) (events : List Event) (i : ℕ) (event : Event) → i < length events → event ≡ get_or events i event → flips s (drop i events) ≡ option_to_list (flip_at s event) ++ flips (after s event) (drop (i + 1) events)
 flips_more s events i event lt is = ap (flips s) (drop_more events i event lt ∙ ap (λ (e : Event). e ∷ drop (i + 1) events) (sym is))
 
 -- the event does not flip
 no_flip : (s : State) (events : List Event) (i before : ℕ) (event : Event) → i < length events → event ≡ get_or events i event → flip_at s event ≡ None → flips_from (after s event) events (i + 1) before ≡ flips_from s events i before
 no_flip s events i before event lt is none =
-    sym (ap (λ (ps : List CertifiedPair). slice_get ps before) (flips_more s events i event lt is ∙ ap (λ (o : Option CertifiedPair). with_flip o (flips (after s event) (drop (i + 1) events))) none))
+    sym (ap (λ (ps : List CertifiedPair). slice_get ps before) (flips_more s events i event lt is ∙ ap (λ (o : Option CertifiedPair). option_to_list o ++ flips (after s event) (drop (i + 1) events)) none))
 
 -- the event is an earlier flip
 other_flip : (s : State) (events : List Event) (i before : ℕ) (event : Event) (pair : CertifiedPair) → i < length events → event ≡ get_or events i event → flip_at s event ≡ Some pair → flips_from (after s event) events (i + 1) before ≡ flips_from s events i (suc before)
 other_flip s events i before event pair lt is some =
-    sym (ap (λ (ps : List CertifiedPair). slice_get ps (suc before)) (flips_more s events i event lt is ∙ ap (λ (o : Option CertifiedPair). with_flip o (flips (after s event) (drop (i + 1) events))) some))
+    sym (ap (λ (ps : List CertifiedPair). slice_get ps (suc before)) (flips_more s events i event lt is ∙ ap (λ (o : Option CertifiedPair). option_to_list o ++ flips (after s event) (drop (i + 1) events)) some))
 
 -- the event does not flip, and the same number of flips is left to skip; or it flips, and one fewer is left
 abbrev pub Counted : Option CertifiedPair → ℕ → ℕ → Type 0

@@ -10,7 +10,7 @@ use Rattle.gc_plan.specs.declared.event.Event.{Event}
 use Rattle.gc_world.specs.History.{unmarked, answers_of, IsHistory}
 use Rattle.gc_world.specs.declared.entry.Entry.{Entry}
 use Rattle.gc_trace.specs.declared.report.Report.{Report}
-use Rattle.gc_trace.specs.Report.{is_made, tells_full, tells_begun, is_copied, is_scanned, is_applied, is_flip, is_dropped, is_refused, flipped_pairs, report_of}
+use Rattle.gc_trace.specs.Report.{counted_in, flipped_pairs, report_of}
 use Rattle.gc_trace.specs.Internal.Report.{one_more_if, with_answer, FitsU64}
 use Rattle.gc_trace.proofs.PairsPlaced.{few_pairs, run_places}
 
@@ -27,16 +27,16 @@ count_push is answers answer = sum_by_push (λ a. cond (is a) 1 0) answers answe
 pub report_push : (answers : List Answer) (answer : Answer) (s : State) → with_answer (report_of answers s) answer ≡ report_of (answers ++ answer ∷ []) s
 report_push answers answer s =
     let events : length (answers ++ answer ∷ []) ≡ length answers + 1 = length-append answers (answer ∷ []) in
-    let made = count_push is_made answers answer in
-    let full = count_push tells_full answers answer in
-    let begun = count_push tells_begun answers answer in
-    let copied = count_push is_copied answers answer in
-    let scanned = count_push is_scanned answers answer in
-    let applied = count_push is_applied answers answer in
-    let flips = count_push is_flip answers answer in
+    let made = count_push (counted_in 2) answers answer in
+    let full = count_push (counted_in 3) answers answer in
+    let begun = count_push (counted_in 4) answers answer in
+    let copied = count_push (counted_in 5) answers answer in
+    let scanned = count_push (counted_in 6) answers answer in
+    let applied = count_push (counted_in 7) answers answer in
+    let flips = count_push (counted_in 8) answers answer in
     let pairs = sum_by_push flipped_pairs answers answer in
-    let dropped = count_push is_dropped answers answer in
-    let refused = count_push is_refused answers answer in
+    let dropped = count_push (counted_in 10) answers answer in
+    let refused = count_push (counted_in 11) answers answer in
     cc
 
 -- before the first answer
@@ -55,16 +55,16 @@ next_counted items i entry r s lt is so_far =
 report_fits : (answers : List Answer) (s : State) → length answers < 2 ^ 64 → sum_by flipped_pairs answers < 2 ^ 64 → FitsU64 (report_of answers s)
 report_fits answers s few few_pairs = record {
   events = few;
-  made = omega (arith, few, count_by-le-length is_made answers);
-  full = omega (arith, few, count_by-le-length tells_full answers);
-  begun = omega (arith, few, count_by-le-length tells_begun answers);
-  copied = omega (arith, few, count_by-le-length is_copied answers);
-  scanned = omega (arith, few, count_by-le-length is_scanned answers);
-  applied = omega (arith, few, count_by-le-length is_applied answers);
-  flips = omega (arith, few, count_by-le-length is_flip answers);
+  made = omega (arith, few, count_by-le-length (counted_in 2) answers);
+  full = omega (arith, few, count_by-le-length (counted_in 3) answers);
+  begun = omega (arith, few, count_by-le-length (counted_in 4) answers);
+  copied = omega (arith, few, count_by-le-length (counted_in 5) answers);
+  scanned = omega (arith, few, count_by-le-length (counted_in 6) answers);
+  applied = omega (arith, few, count_by-le-length (counted_in 7) answers);
+  flips = omega (arith, few, count_by-le-length (counted_in 8) answers);
   pairs = few_pairs;
-  dropped = omega (arith, few, count_by-le-length is_dropped answers);
-  refused = omega (arith, few, count_by-le-length is_refused answers);
+  dropped = omega (arith, few, count_by-le-length (counted_in 10) answers);
+  refused = omega (arith, few, count_by-le-length (counted_in 11) answers);
 }
 
 -- a prefix of a history has no more answers or pairs

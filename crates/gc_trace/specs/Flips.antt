@@ -1,5 +1,5 @@
 -- The flips of a trace's run, and the pairs that they keep.
-use Rattle.std.specs.Prelude.{◌≡◌, ℕ, ◌-◌, List, [], ◌∷◌, Option, Some, None, slice_get}
+use Rattle.std.specs.Prelude.{◌≡◌, ℕ, ◌-◌, List, [], ◌∷◌, ◌++◌, Option, Some, None, option_to_list, slice_get}
 use Rattle.std.specs.Io.KnownBytes.{Appends}
 use Rattle.gc_graph.specs.Streams.{SendsFront}
 use Rattle.gc_cert.specs.Grammar as pairs
@@ -11,14 +11,10 @@ use Rattle.gc_plan.specs.declared.event.Event.{Event}
 use Rattle.gc_trace.specs.Grammar.{Recording}
 use Rattle.gc_trace.specs.Plays.{IsTraceFrom, trace_opening}
 
-abbrev pub with_flip : Option CertifiedPair → List CertifiedPair → List CertifiedPair
-with_flip None more = more
-with_flip (Some pair) more = pair ∷ more
-
 -- the pairs of all flips from this state on, in order
 abbrev pub flips : State → List Event → List CertifiedPair
 flips s [] = []
-flips s (event ∷ events) = with_flip (flip_at s event) (flips (after s event) events)
+flips s (event ∷ events) = option_to_list (flip_at s event) ++ flips (after s event) events
 
 -- the pair of the trace's n-th flip, counted from 1
 abbrev pub nth_flip : ℕ → Recording → Option CertifiedPair

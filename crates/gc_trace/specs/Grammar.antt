@@ -25,13 +25,9 @@ pub record Recording : Type 0 where
 unfoldable pub slot : SlotName → List ℕ
 slot s = (if s.shared then 103 else 114) ∷ decimal s.index
 
--- the tokens of a new object, raw or not: its slot, its kind and its length
-abbrev pub object_tokens : SlotName → ℕ → ℕ → List (List ℕ)
-object_tokens d kind len = slot d ∷ decimal kind ∷ decimal len ∷ []
-
 unfoldable pub op_tokens : Op → List (List ℕ)
-op_tokens (ops.New d kind len) = codes "new" ∷ object_tokens d kind len
-op_tokens (ops.NewRaw d kind len) = codes "raw" ∷ object_tokens d kind len
+op_tokens (ops.New d kind len) = codes "new" ∷ slot d ∷ decimal kind ∷ decimal len ∷ []
+op_tokens (ops.NewRaw d kind len) = codes "raw" ∷ slot d ∷ decimal kind ∷ decimal len ∷ []
 op_tokens (ops.Num d n) = codes "num" ∷ slot d ∷ decimal n ∷ []
 op_tokens (ops.Nil d) = codes "nil" ∷ slot d ∷ []
 op_tokens (ops.Move d s) = codes "move" ∷ slot d ∷ slot s ∷ []

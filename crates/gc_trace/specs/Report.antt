@@ -1,5 +1,5 @@
 -- The report of a run.
-use Rattle.std.specs.Prelude.{ℕ, Bool, true, false, List, [], ◌∷◌, length, codes, count_by, sum_by}
+use Rattle.std.specs.Prelude.{ℕ, ◌==◌, Bool, List, [], ◌∷◌, length, codes, count_by, sum_by}
 use Rattle.std.specs.List.{flat_map}
 use Rattle.std.specs.Fmt.{decimal}
 use Rattle.gc_graph.specs.Lines.{line}
@@ -12,41 +12,22 @@ use Rattle.gc_trace.specs.declared.report.Report.{Report}
 
 -- ---- answers that are counted
 
-abbrev pub is_made : Answer → Bool
-is_made (Mutator replies.Made) = true
-is_made answer = false
+-- the line of the report that counts the answer, by its number; 0 if only line 1 does, which counts all answers
+abbrev pub counting_line : Answer → ℕ
+counting_line (Mutator replies.Made) = 2
+counting_line (Mutator replies.Full) = 3
+counting_line (Collector steps.Begun) = 4
+counting_line (Collector steps.Copied) = 5
+counting_line (Collector steps.Scanned) = 6
+counting_line (Collector steps.Applied) = 7
+counting_line (Collector (steps.Flipped pairs)) = 8
+counting_line (Collector steps.Dropped) = 10
+counting_line (Collector steps.Refused) = 11
+counting_line answer = 0
 
-abbrev pub tells_full : Answer → Bool
-tells_full (Mutator replies.Full) = true
-tells_full answer = false
-
-abbrev pub tells_begun : Answer → Bool
-tells_begun (Collector steps.Begun) = true
-tells_begun answer = false
-
-abbrev pub is_copied : Answer → Bool
-is_copied (Collector steps.Copied) = true
-is_copied answer = false
-
-abbrev pub is_scanned : Answer → Bool
-is_scanned (Collector steps.Scanned) = true
-is_scanned answer = false
-
-abbrev pub is_applied : Answer → Bool
-is_applied (Collector steps.Applied) = true
-is_applied answer = false
-
-abbrev pub is_flip : Answer → Bool
-is_flip (Collector (steps.Flipped pairs)) = true
-is_flip answer = false
-
-abbrev pub is_dropped : Answer → Bool
-is_dropped (Collector steps.Dropped) = true
-is_dropped answer = false
-
-abbrev pub is_refused : Answer → Bool
-is_refused (Collector steps.Refused) = true
-is_refused answer = false
+-- line n of the report counts the answer
+abbrev pub counted_in : ℕ → Answer → Bool
+counted_in n answer = counting_line answer == n
 
 -- the number of pairs, if the answer is a flip's
 abbrev pub flipped_pairs : Answer → ℕ
@@ -59,16 +40,16 @@ flipped_pairs answer = 0
 abbrev pub report_of : List Answer → State → Report
 report_of answers s = record {
   events = length answers;
-  made = count_by is_made answers;
-  full = count_by tells_full answers;
-  begun = count_by tells_begun answers;
-  copied = count_by is_copied answers;
-  scanned = count_by is_scanned answers;
-  applied = count_by is_applied answers;
-  flips = count_by is_flip answers;
+  made = count_by (counted_in 2) answers;
+  full = count_by (counted_in 3) answers;
+  begun = count_by (counted_in 4) answers;
+  copied = count_by (counted_in 5) answers;
+  scanned = count_by (counted_in 6) answers;
+  applied = count_by (counted_in 7) answers;
+  flips = count_by (counted_in 8) answers;
   pairs = sum_by flipped_pairs answers;
-  dropped = count_by is_dropped answers;
-  refused = count_by is_refused answers;
+  dropped = count_by (counted_in 10) answers;
+  refused = count_by (counted_in 11) answers;
   end = heap_end s;
   free = s.heap.free;
 }

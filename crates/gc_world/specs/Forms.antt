@@ -1,12 +1,11 @@
 -- The event and the answer that each form of an entry stands for.
-use Rattle.std.specs.Prelude.{ℕ, true, false}
+use Rattle.std.specs.Prelude.{true, false}
 use Rattle.gc_graph.specs.declared.command.Op.{Op}
 use Rattle.gc_graph.specs.declared.command.Op.TheVariants as ops
 use Rattle.gc_graph.specs.declared.reply.Reply.{Reply}
 use Rattle.gc_graph.specs.declared.reply.Reply.TheVariants as replies
 use Rattle.gc_graph.specs.declared.reply.View.TheVariants as views
 use Rattle.gc_plan.specs.declared.event.Event.TheVariants.{Mutate, Collect}
-use Rattle.gc_plan.specs.declared.event.Answer.{Answer}
 use Rattle.gc_plan.specs.declared.event.Answer.TheVariants.{Mutator, Collector, Useful}
 use Rattle.gc_world.specs.Entries.{EntryValue}
 use Rattle.gc_world.specs.declared.bare.BareOp.{BareOp}
@@ -39,12 +38,9 @@ reply_of (bare_replies.SawRawObj kind len) = replies.Saw (views.RawObj kind len)
 reply_of bare_replies.Yes = replies.Yes
 reply_of bare_replies.No = replies.No
 
-abbrev shown : ℕ → Answer
-shown n = Mutator (replies.Saw (views.Num n))
-
 abbrev pub meaning : Form → EntryValue
 meaning (Command m reply op) = record { event = Mutate m op; answer = Mutator (reply_of reply) }
-meaning (Shown m op n) = record { event = Mutate m (op_of op); answer = shown n }
-meaning (GivenAndShown m d given n) = record { event = Mutate m (ops.Num d given); answer = shown n }
+meaning (Shown m op n) = record { event = Mutate m (op_of op); answer = Mutator (replies.Saw (views.Num n)) }
+meaning (GivenAndShown m d given n) = record { event = Mutate m (ops.Num d given); answer = Mutator (replies.Saw (views.Num n)) }
 meaning (Step false step reply) = record { event = Collect step; answer = Collector reply }
 meaning (Step true step reply) = record { event = Collect step; answer = Useful reply }

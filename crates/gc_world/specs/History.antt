@@ -19,9 +19,8 @@ events_of entries = map (λ entry. entry.event) entries
 
 -- the same answer without the mark `Useful`, which a run does not set
 abbrev pub unmarked : Answer → Answer
-unmarked (Mutator reply) = Mutator reply
-unmarked (Collector reply) = Collector reply
 unmarked (Useful reply) = Collector reply
+unmarked answer = answer
 
 abbrev pub answers_of : List Entry → List Answer
 answers_of entries = map (λ entry. unmarked entry.answer) entries
@@ -32,9 +31,6 @@ answers_of entries = map (λ entry. unmarked entry.answer) entries
 abbrev pub RunsFrom : State → List Entry → Type 0
 RunsFrom s entries = answers_of entries ≡ runs.answers s (events_of entries)
 
-abbrev pub IsCoreRun : ℕ → ℕ → List Entry → Type 0
-IsCoreRun size mutators entries = RunsFrom (opening_state size mutators) entries
-
 -- the state that a history leads to from an empty heap of this many words and mutators
 abbrev pub state_after : ℕ → ℕ → List Entry → State
 state_after size mutators entries = runs.state_after (opening_state size mutators) (events_of entries)
@@ -43,10 +39,8 @@ state_after size mutators entries = runs.state_after (opening_state size mutator
 
 -- a step whose answer is marked `Useful` is the useful step
 abbrev pub IsUseful : State → Event → Answer → Type 0
-IsUseful s (Mutate m op) answer = ⊤
-IsUseful s (Collect step) (Mutator reply) = ⊤
-IsUseful s (Collect step) (Collector reply) = ⊤
 IsUseful s (Collect step) (Useful reply) = step ≡ useful_step s
+IsUseful s event answer = ⊤
 
 abbrev pub UsefulFrom : State → List Entry → Type 0
 UsefulFrom s [] = ⊤
@@ -61,16 +55,14 @@ pub record IsHistory (size mutators : ℕ) (entries : List Entry) : Type 0 where
   pub some : 1 ≤ mutators
   pub few : mutators ≤ most_mutators
   pub events : runs.AreEventsWithin most_words mutators (events_of entries)
-  pub run : IsCoreRun size mutators entries
+  pub run : RunsFrom (opening_state size mutators) entries
   pub useful : UsefulFrom (opening_state size mutators) entries
 
 -- ---- the replies that mutators got
 
 abbrev pub told_by : Event → Answer → List Told
 told_by (Mutate m op) (Mutator reply) = record { m = m; op = op; reply = reply } ∷ []
-told_by (Mutate m op) (Collector reply) = []
-told_by (Mutate m op) (Useful reply) = []
-told_by (Collect step) answer = []
+told_by event answer = []
 
 abbrev pub told_of : List Entry → List Told
 told_of entries = flat_map (λ entry. told_by entry.event entry.answer) entries

@@ -1,5 +1,5 @@
 -- What clap's definitions find in the program's arguments.
-use Rattle.std.proofs.Common.{◌≡◌, ◌==◌, ◌∙◌, List, [], ◌∷◌, refl, sym, ap, codes, drop, Bool, true, false, Option, Some, None, option_map, subst, IfSome}
+use Rattle.std.proofs.Common.{◌≡◌, ◌==◌, ◌∙◌, List, [], ◌∷◌, refl, sym, ap, codes, drop, Bool, true, false, Option, Some, None, option_map, IfSome}
 use Rattle.std.specs.Borrow.{Bor}
 use Rattle.std.specs.Box.{box_value}
 use Rattle.std.specs.Prelude.{Box}
@@ -12,7 +12,7 @@ use Rattle.clap.proofs.OnLiterals.{clap_on_literals}
 use Rattle.clap.proofs.WalkLemmas.{first_value-rows}
 use Rattle.clap.specs.declared.builder.command.Command.{Command}
 use Rattle.clap.specs.declared.builder.command.Command.TheViews.{out-Command}
-use Rattle.gcflip.specs.CommandLine.{command_line, Finds, FindsFile, IsAskedBy, IsFor, HasNumberInRange, IsPlainArgument}
+use Rattle.gcflip.specs.CommandLine.{command_line, file_of, IsAskedBy, IsFor, HasNumberInRange, IsPlainArgument}
 use Rattle.gcflip.specs.declared.task.Task.{Task}
 
 -- ---- no arguments after the program's name
@@ -25,10 +25,6 @@ pub no_arguments_taken : (arguments : List Text) → drop 1 arguments ≡ [] →
 no_arguments_taken arguments e = ap (λ (rest : List Text). takes command_line ([] ∷ rest)) e ∙ none_taken
 
 -- ---- a subcommand and a path
-
--- the subcommand with the FILE that was found for it
-abbrev pub file_of : Option (Text × List Row) → Option (Text × Option Text)
-file_of = option_map (λ p. (p.0, first_of (codes "FILE") p.1))
 
 not_two_hyphens : (path : Text) → IsPlainArgument path → bytes_eq path (45 ∷ 45 ∷ []) ≡ false
 not_two_hyphens [] plain = refl
@@ -133,14 +129,15 @@ names_of_rows : {Z : Type 0} (s : Option (Box SubCommand Z)) → option_map (λ 
 names_of_rows None = refl
 names_of_rows (Some b) = refl
 
-finds_file : (o : Option (Text × List Row)) (name file : Text) (rows : List Row) → Some name ≡ option_map (λ p. p.0) o → Some rows ≡ option_map (λ p. p.1) o → first_of (codes "FILE") rows ≡ Some file → FindsFile name file o
+finds_file : (o : Option (Text × List Row)) (name file : Text) (rows : List Row) → Some name ≡ option_map (λ p. p.0) o → Some rows ≡ option_map (λ p. p.1) o → first_of (codes "FILE") rows ≡ Some file → Some (name, Some file) ≡ file_of o
 finds_file None name file rows is_name is_rows first = cc
 finds_file (Some p) name file rows is_name is_rows first =
-    let name_is : p.0 ≡ name = cc in
+    let name_is : name ≡ p.0 = cc in
     let rows_are : p.1 ≡ rows = cc in
-    (name_is, ap (first_of (codes "FILE")) rows_are ∙ first)
+    let first_is : Some file ≡ first_of (codes "FILE") p.1 = sym (ap (first_of (codes "FILE")) rows_are ∙ first) in
+    λ i. Some (name_is i, first_is i)
 
-pub matches_find_file : (m found : ArgMatches) (name file : Text) → Some name ≡ subcommand_name_of m → Some (rows_of (found_of found)) ≡ option_map (λ p. p.1) (subcommand_rows_of m) → first_value (found_of found) (codes "FILE") ≡ Some file → FindsFile name file (subcommand_rows_of m)
+pub matches_find_file : (m found : ArgMatches) (name file : Text) → Some name ≡ subcommand_name_of m → Some (rows_of (found_of found)) ≡ option_map (λ p. p.1) (subcommand_rows_of m) → first_value (found_of found) (codes "FILE") ≡ Some file → Some (name, Some file) ≡ file_of (subcommand_rows_of m)
 matches_find_file m found name file is_name is_rows first =
     finds_file (subcommand_rows_of m) name file (rows_of (found_of found)) (is_name ∙ names_of_rows (out-ArgMatches m).subcommand) is_rows
     (sym (first_value-rows (found_of found) (codes "FILE")) ∙ first)
@@ -158,9 +155,9 @@ present_has_text (Some r) s v text is same found = let both : r ≡ s = cc in cc
 -- ---- a subcommand with a number
 
 -- a task for this subcommand and file is the one that its rows ask for
-pub number_task_asked : (o : Option Task) (name file : Text) (found : Option (Text × List Row)) → IfSome o (λ task. IsFor name file task × HasNumberInRange task) → FindsFile name file found → IfSome o (IsAskedBy found)
+pub number_task_asked : (o : Option Task) (name file : Text) (found : Option (Text × List Row)) → IfSome o (λ task. IsFor name file task × HasNumberInRange task) → Some (name, Some file) ≡ file_of found → IfSome o (IsAskedBy found)
 number_task_asked None name file found is finds = tt
-number_task_asked (Some task) name file found is finds = let P = λ (wanted : Option (Text × Text)). Finds wanted found in subst P (sym is.0) finds
+number_task_asked (Some task) name file found is finds = is.0 ∙ finds
 
 -- ---- how the command line is put together
 

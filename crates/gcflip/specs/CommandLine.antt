@@ -1,5 +1,5 @@
 -- The command line in terms of clap's definitions, and the tasks that arguments ask for.
-use Rattle.std.specs.Prelude.{◌≡◌, ℕ, ◌≤◌, ⊤, pos, true, List, Option, Some, None, codes}
+use Rattle.std.specs.Prelude.{◌≡◌, ℕ, ◌≤◌, ⊤, pos, true, List, Option, Some, None, option_map, codes}
 use Rattle.clap.specs.Lexer.{strip_byte}
 use Rattle.clap.specs.Words.{App, Row, Rule, first_of, new_app, new_rule, with_rule, with_subcommand}
 use Rattle.clap.specs.declared.builder.value_parser.ValueParser.{ValueParser}
@@ -48,36 +48,28 @@ IsPlainArgument argument = strip_byte 45 argument ≡ None
 -- ---- tasks
 
 -- the subcommand and the FILE of a task
-abbrev pub asked : Task → Option (List ℕ × List ℕ)
+abbrev pub asked : Task → Option (List ℕ × Option (List ℕ))
 asked PlayInput = None
-asked (Play file) = Some (codes "play", file.now)
-asked (Check file) = Some (codes "check", file.now)
-asked (Report file) = Some (codes "report", file.now)
-asked (Pair file n) = Some (codes "pair", file.now)
-asked (Threads file turns) = Some (codes "threads", file.now)
+asked (Play file) = Some (codes "play", Some file.now)
+asked (Check file) = Some (codes "check", Some file.now)
+asked (Report file) = Some (codes "report", Some file.now)
+asked (Pair file n) = Some (codes "pair", Some file.now)
+asked (Threads file turns) = Some (codes "threads", Some file.now)
 
 -- the task is that of this subcommand with this file
 abbrev pub IsFor : List ℕ → List ℕ → Task → Type 0
-IsFor name path task = asked task ≡ Some (name, path)
+IsFor name path task = asked task ≡ Some (name, Some path)
 
 -- the number of the task is in range; flips are counted from 1
 abbrev pub HasNumberInRange : Task → Type 0
-HasNumberInRange PlayInput = ⊤
-HasNumberInRange (Play file) = ⊤
-HasNumberInRange (Check file) = ⊤
-HasNumberInRange (Report file) = ⊤
 HasNumberInRange (Pair file n) = 1 ≤ n
 HasNumberInRange (Threads file turns) = turns ≤ 1000000
+HasNumberInRange task = ⊤
 
--- clap found the subcommand with this name, and this path as its FILE
-abbrev pub FindsFile : List ℕ → List ℕ → Option (List ℕ × List Row) → Type 0
-FindsFile name path None = ⊥
-FindsFile name path (Some found) = (found.0 ≡ name) × (first_of (codes "FILE") found.1 ≡ Some path)
-
-abbrev pub Finds : Option (List ℕ × List ℕ) → Option (List ℕ × List Row) → Type 0
-Finds None found = found ≡ None
-Finds (Some wanted) found = FindsFile wanted.0 wanted.1 found
+-- the subcommand that clap found, and its FILE
+abbrev pub file_of : Option (List ℕ × List Row) → Option (List ℕ × Option (List ℕ))
+file_of found = option_map (λ f. (f.0, first_of (codes "FILE") f.1)) found
 
 -- the task is the one that the subcommand found by clap asks for
 abbrev pub IsAskedBy : Option (List ℕ × List Row) → Task → Type 0
-IsAskedBy found task = Finds (asked task) found
+IsAskedBy found task = asked task ≡ file_of found

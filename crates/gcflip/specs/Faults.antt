@@ -1,6 +1,5 @@
--- The line that the program writes to standard error for a fault.
+-- The texts of the faults, which the program writes to standard error.
 use Rattle.std.specs.Prelude.{ℕ, List, codes}
-use Rattle.gc_graph.specs.Lines.{ended}
 use Rattle.gc_check.specs.FaultTexts.{run_fault_text}
 use Rattle.gc_shared.specs.FaultTexts.{threads_fault_text}
 use Rattle.gc_trace.specs.FaultTexts.{trace_fault_text, play_fault_text}
@@ -21,7 +20,3 @@ fault_text NoMemory = codes "no memory"
 fault_text (Play fault) = play_fault_text fault
 fault_text (Check fault) = run_fault_text fault
 fault_text (Threads fault) = threads_run_fault_text fault
-
--- the line on standard error
-abbrev pub line_of : Fault → List ℕ
-line_of fault = ended (fault_text fault)

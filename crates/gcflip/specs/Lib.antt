@@ -2,7 +2,6 @@ pub mod CommandLine
 pub mod Faults
 pub mod Internal
 pub mod Outcomes
-pub mod Plays
 pub mod Statuses
 pub mod ThreadedRuns
 pub mod Verdicts

@@ -32,11 +32,8 @@ verdict_status (verdict.Refused refusal) = 1
 
 abbrev pub trace_fault_status : TraceFault → ℕ
 trace_fault_status trace.Read = 4
-trace_fault_status trace.TooLarge = 3
-trace_fault_status trace.BadHeader = 3
-trace_fault_status (trace.BadLine n) = 3
-trace_fault_status (trace.NoSuchMutator n) = 3
 trace_fault_status trace.NoMemory = 5
+trace_fault_status fault = 3
 
 abbrev pub play_fault_status : PlayFault → ℕ
 play_fault_status (play.Trace fault) = trace_fault_status fault
@@ -46,10 +43,8 @@ play_fault_status play.Write = 4
 
 abbrev pub pair_fault_status : PairFault → ℕ
 pair_fault_status pair.Read = 4
-pair_fault_status pair.TooLarge = 3
-pair_fault_status (pair.BadLine n) = 3
-pair_fault_status pair.EndsEarly = 3
 pair_fault_status pair.NoMemory = 5
+pair_fault_status fault = 3
 
 abbrev pub run_fault_status : RunFault → ℕ
 run_fault_status (check.Pair fault) = pair_fault_status fault
@@ -57,16 +52,13 @@ run_fault_status check.NoMemory = 5
 run_fault_status check.Write = 4
 
 abbrev pub close_kind_status : CloseKind → ℕ
-close_kind_status close.Seats = 6
-close_kind_status (close.Torn seat n) = 6
-close_kind_status close.Extra = 6
 close_kind_status close.NoMemory = 5
+close_kind_status kind = 6
 
 abbrev pub threads_fault_status : ThreadsFault → ℕ
-threads_fault_status threads.NotStarted = 6
-threads_fault_status (threads.Gate seat n) = 6
 threads_fault_status threads.NoMemory = 5
 threads_fault_status (threads.Close kind) = close_kind_status kind
+threads_fault_status fault = 6
 
 abbrev pub threads_run_fault_status : ThreadsRunFault → ℕ
 threads_run_fault_status (run.Trace fault) = trace_fault_status fault

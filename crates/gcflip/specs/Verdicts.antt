@@ -3,7 +3,6 @@ use Rattle.std.specs.Prelude.{◌≡◌, ℕ, List, Option}
 use Rattle.std.specs.Io.KnownBytes.{Appends}
 use Rattle.gc_cert.specs.Grammar.{CertifiedPair}
 use Rattle.gc_cert.specs.Faults.{IsReadAsPair}
-use Rattle.gc_check.specs.Headline.{Replicated}
 use Rattle.gc_check.specs.Texts.{verdict_on}
 use Rattle.gc_check.specs.Verdict.{verdict_line}
 use Rattle.gcflip.specs.Statuses.{verdict_status}
@@ -14,7 +13,3 @@ pub record TellsVerdict (text : List ℕ) (status : ℕ) (old new : Option (List
   pub read : IsReadAsPair pair text
   pub status_is : status ≡ verdict_status (verdict_on pair)
   pub line : Appends old new (verdict_line (verdict_on pair))
-
--- the soundness theorem holds of the pair that the text spells
-abbrev pub SpellsReplicated : List ℕ → Type 0
-SpellsReplicated text = (pair : CertifiedPair) → IsReadAsPair pair text → Replicated pair.old pair.new pair.pairs

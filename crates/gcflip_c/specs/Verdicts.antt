@@ -8,9 +8,6 @@ use Rattle.gc_check.specs.declared.verdict.Verdict.TheVariants as verdict
 use Rattle.gcflip_c.specs.Answers.{yes, refused}
 use Rattle.gcflip_c.specs.declared.verdict.GcflipVerdict.{GcflipVerdict}
 
-abbrev pub yes_in_c : ℕ → GcflipVerdict
-yes_in_c pairs = record { refusal = 0; pairs = pairs; place = 0; field = 0 }
-
 abbrev pub refused_in_c : ℕ → ℕ → ℕ → GcflipVerdict
 refused_in_c refusal place field = record { refusal = refusal; pairs = 0; place = place; field = field }
 
@@ -27,25 +24,13 @@ refusal_in_c (HeaderDiffers k) = refused_in_c 8 k 0
 refusal_in_c (FieldDiffers k i) = refused_in_c 9 k i
 refusal_in_c (RootDiffers slot) = refused_in_c 10 slot 0
 
-abbrev pub verdict_in_c : Verdict → GcflipVerdict
-verdict_in_c (verdict.Yes pairs) = yes_in_c pairs
-verdict_in_c (verdict.Refused refusal) = refusal_in_c refusal
-
-abbrev pub answer_to : Verdict → ℕ
-answer_to (verdict.Yes pairs) = yes
-answer_to (verdict.Refused refusal) = refused
-
--- a call returned this answer and wrote this verdict
-pub record IsReported (verdict : Verdict) (answer : ℕ) (written : GcflipVerdict) : Type 0 where
-  pub answer_is : answer ≡ answer_to verdict
-  pub written_is : written ≡ verdict_in_c verdict
+-- the answer that a call returned, and what it wrote, report this verdict
+abbrev pub IsReported : Verdict → ℕ → GcflipVerdict → Type 0
+IsReported (verdict.Yes pairs) answer written = (answer ≡ yes) × (written ≡ record { refusal = 0; pairs = pairs; place = 0; field = 0 })
+IsReported (verdict.Refused refusal) answer written = (answer ≡ refused) × (written ≡ refusal_in_c refusal)
 
 -- the same for the verdict on the pair that the text spells
 pub record IsReportedOf (text : List ℕ) (answer : ℕ) (written : GcflipVerdict) : Type 0 where
   pub verdict : Verdict
   pub about : IsVerdictOn text verdict
   pub reported : IsReported verdict answer written
-
--- the report of a bad line: its number as the place
-abbrev pub line_in_c : ℕ → GcflipVerdict
-line_in_c line = refused_in_c 0 line 0

@@ -4,7 +4,7 @@ ghost use Rattle.gc_cert.specs.Faults.{IsReadAsPair, IsPairFaultOf};
 ghost use Rattle.gc_cert.specs.declared.fault.PairFault.{PairFault};
 ghost use Rattle.gc_check.specs.Headline.{Replicated};
 ghost use Rattle.gcflip_c.specs.Answers.{yes, no_memory, too_large, bad_line, ends_early, IsRefusal, IsVerdict};
-ghost use Rattle.gcflip_c.specs.Verdicts.{IsReportedOf, line_in_c};
+ghost use Rattle.gcflip_c.specs.Verdicts.{IsReportedOf, refused_in_c};
 
 use crate::answer::{BAD_LINE, ENDS_EARLY, NO_MEMORY, TOO_LARGE, answer};
 use crate::verdict::GcflipVerdict;
@@ -26,7 +26,7 @@ pub extern "C" fn gcflip_check_text(alloc: Global, text: &[u8], verdict: &mut Gc
         → Replicated pair.old pair.new pair.pairs }
     // A bad text gives its first fault.
     ensures large { result ≡ too_large → IsPairFaultOf PairFault.TooLarge text.now }
-    ensures line { result ≡ bad_line → (verdict.new ≡ line_in_c verdict.new.place)
+    ensures line { result ≡ bad_line → (verdict.new ≡ refused_in_c 0 verdict.new.place 0)
         × IsPairFaultOf (PairFault.BadLine verdict.new.place) text.now }
     ensures early { result ≡ ends_early → IsPairFaultOf PairFault.EndsEarly text.now }
 {

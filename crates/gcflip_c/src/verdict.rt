@@ -18,11 +18,11 @@ pub struct GcflipVerdict {
 }
 
 impl GcflipVerdict {
-    ghost use Rattle.gcflip_c.specs.Verdicts.{yes_in_c, refusal_in_c, line_in_c};
+    ghost use Rattle.gcflip_c.specs.Verdicts.{refusal_in_c};
 
     /// Returns the verdict of a yes about this many pairs.
     pub(crate) fn of_yes(pairs: u32) -> GcflipVerdict
-        ensures { result ≡ yes_in_c pairs }
+        ensures { result ≡ record { refusal = 0; pairs = pairs; place = 0; field = 0 } }
     {
         GcflipVerdict {
             refusal: 0,
@@ -34,7 +34,7 @@ impl GcflipVerdict {
 
     /// Returns the report of a text in which the line with this number is bad.
     pub(crate) fn of_line(line: u64) -> GcflipVerdict
-        ensures { result ≡ line_in_c line }
+        ensures { result ≡ refused_in_c 0 line 0 }
     {
         refused(0, line, 0)
     }

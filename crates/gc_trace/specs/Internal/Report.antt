@@ -2,7 +2,7 @@
 use Rattle.std.specs.Prelude.{ℕ, ◌+◌, ◌<◌, ◌^◌, Bool, if◌then◌else◌}
 use Rattle.gc_plan.specs.declared.event.Answer.{Answer}
 use Rattle.gc_trace.specs.declared.report.Report.{Report}
-use Rattle.gc_trace.specs.Report.{is_made, tells_full, tells_begun, is_copied, is_scanned, is_applied, is_flip, is_dropped, is_refused, flipped_pairs}
+use Rattle.gc_trace.specs.Report.{counted_in, flipped_pairs}
 
 abbrev pub one_more_if : Bool → ℕ → ℕ
 one_more_if is n = if is then n + 1 else n
@@ -10,16 +10,16 @@ one_more_if is n = if is then n + 1 else n
 abbrev pub with_answer : Report → Answer → Report
 with_answer r answer = record r {
   events = r.events + 1;
-  made = one_more_if (is_made answer) r.made;
-  full = one_more_if (tells_full answer) r.full;
-  begun = one_more_if (tells_begun answer) r.begun;
-  copied = one_more_if (is_copied answer) r.copied;
-  scanned = one_more_if (is_scanned answer) r.scanned;
-  applied = one_more_if (is_applied answer) r.applied;
-  flips = one_more_if (is_flip answer) r.flips;
+  made = one_more_if (counted_in 2 answer) r.made;
+  full = one_more_if (counted_in 3 answer) r.full;
+  begun = one_more_if (counted_in 4 answer) r.begun;
+  copied = one_more_if (counted_in 5 answer) r.copied;
+  scanned = one_more_if (counted_in 6 answer) r.scanned;
+  applied = one_more_if (counted_in 7 answer) r.applied;
+  flips = one_more_if (counted_in 8 answer) r.flips;
   pairs = r.pairs + flipped_pairs answer;
-  dropped = one_more_if (is_dropped answer) r.dropped;
-  refused = one_more_if (is_refused answer) r.refused;
+  dropped = one_more_if (counted_in 10 answer) r.dropped;
+  refused = one_more_if (counted_in 11 answer) r.refused;
 }
 
 -- each count fits in a `u64`

@@ -1,10 +1,12 @@
 ghost use Rattle.std.specs.Prelude.{◌≡◌, ◌≢◌, ◌↔◌, ◌⊎◌, true, IfSome, IfOk, IfErr, OnErr, Ok, Err};
 ghost use Rattle.gc_graph.specs.Streams.{bytes_left, bytes_written, source_failed, sink_failed};
-ghost use Rattle.gc_cert.specs.Faults.{MayFail};
+ghost use Rattle.gc_cert.specs.Grammar.{CertifiedPair};
+ghost use Rattle.gc_cert.specs.Faults.{IsReadAsPair, MayFail};
 ghost use Rattle.gc_cert.specs.declared.fault.PairFault.{PairFault};
+ghost use Rattle.gc_check.specs.Headline.{Replicated};
 ghost use Rattle.gc_check.specs.Texts.{TellsFront};
 ghost use Rattle.gc_check.specs.declared.verdict.RunFault.{RunFault};
-ghost use Rattle.gcflip.specs.Verdicts.{TellsVerdict, SpellsReplicated};
+ghost use Rattle.gcflip.specs.Verdicts.{TellsVerdict};
 ghost use Rattle.gcflip.specs.Outcomes.{IsOfCheck};
 ghost use Rattle.gcflip.specs.Statuses.{verdict_status};
 
@@ -38,7 +40,8 @@ pub fn check_from<R: Read, W: Write>(
         text status (bytes_written W.contents writer.old) (bytes_written W.contents writer.new))) }
     ensures statuses { IfOk result (λ status. (status ≡ 0) ⊎ (status ≡ 1)) }
     // The soundness theorem for the heaps that the text spells.
-    ensures replicated { result ≡ Ok 0 → IfSome (bytes_left R.remaining reader.old) SpellsReplicated }
+    ensures replicated { result ≡ Ok 0 → IfSome (bytes_left R.remaining reader.old)
+        (λ text. (pair : CertifiedPair) → IsReadAsPair pair text → Replicated pair.old pair.new pair.pairs) }
 
     // A bad text gives its first fault.
     ensures fault { (fault : PairFault) → result ≡ Err (Fault.Check (RunFault.Pair fault)) →

@@ -1,8 +1,9 @@
 ghost use Rattle.std.specs.Prelude.{◌≡◌, ◌≤◌, IfOk, IfErr, OnOk};
 ghost use Rattle.gc_graph.specs.Streams.{bytes_left, bytes_written};
 ghost use Rattle.gc_trace.specs.Flips.{PlaysPair};
+ghost use Rattle.gc_trace.specs.Plays.{Plays, Reports};
+ghost use Rattle.gc_trace.specs.declared.report.Report.{Report};
 ghost use Rattle.gcflip.specs.Outcomes.{IsOfPlay};
-ghost use Rattle.gcflip.specs.Plays.{WritesReplies, WritesReport};
 
 use crate::faults::Fault;
 use gc_graph::{Sink, Source};
@@ -16,7 +17,7 @@ pub fn play_from<R: Read, W: Write>(
     writer: &mut Sink<W>,
 ) -> Result<u8, Fault>
     // All reply lines are written, and nothing else.
-    ensures played { OnOk result (WritesReplies (bytes_left R.remaining reader.old)
+    ensures played { OnOk result ((report : Report) × Plays (bytes_left R.remaining reader.old) report
         (bytes_written W.contents writer.old) (bytes_written W.contents writer.new)) }
     ensures statuses { IfOk result (λ status. status ≡ 0) }
     ensures player { IfErr result IsOfPlay }
@@ -32,7 +33,7 @@ pub fn report_from<R: Read, W: Write>(
     writer: &mut Sink<W>,
 ) -> Result<u8, Fault>
     // The whole text of the report is written, and nothing else.
-    ensures reported { OnOk result (WritesReport (bytes_left R.remaining reader.old)
+    ensures reported { OnOk result ((report : Report) × Reports (bytes_left R.remaining reader.old) report
         (bytes_written W.contents writer.old) (bytes_written W.contents writer.new)) }
     ensures statuses { IfOk result (λ status. status ≡ 0) }
     ensures player { IfErr result IsOfPlay }

@@ -70,13 +70,14 @@ impl From<PlayFault> for Fault {
 ghost use Rattle.std.specs.Prelude.{◌≡◌, [], false};
 ghost use Rattle.std.specs.Io.KnownBytes.{Appends};
 ghost use Rattle.gc_graph.specs.Streams.{bytes_written, sink_failed, SendsFront};
-ghost use Rattle.gcflip.specs.Faults.{line_of};
+ghost use Rattle.gc_graph.specs.Lines.{ended};
+ghost use Rattle.gcflip.specs.Faults.{fault_text};
 ghost use Rattle.gcflip.specs.Statuses.{status_of};
 
 /// Appends the fault's line to an empty printer.
 fn print_line(printer: &mut Printer, fault: &Fault)
     requires { printer.old ≡ [] }
-    ensures { printer.new ≡ line_of fault.now }
+    ensures { printer.new ≡ ended (fault_text fault.now) }
 {
     fault.message().print(printer);
     printer.bytes(b"\n");
@@ -85,9 +86,9 @@ fn print_line(printer: &mut Printer, fault: &Fault)
 /// Writes the fault's line, and returns the fault's status. If the writer fails, a prefix of the line went out.
 pub fn write_fault<W: Write>(writer: &mut Sink<W>, fault: &Fault) -> u8
     ensures status { result ≡ status_of fault.now }
-    ensures front { SendsFront (bytes_written W.contents writer.old) (bytes_written W.contents writer.new) (line_of fault.now) }
+    ensures front { SendsFront (bytes_written W.contents writer.old) (bytes_written W.contents writer.new) (ended (fault_text fault.now)) }
     ensures whole { sink_failed writer.new ≡ false →
-        Appends (bytes_written W.contents writer.old) (bytes_written W.contents writer.new) (line_of fault.now) }
+        Appends (bytes_written W.contents writer.old) (bytes_written W.contents writer.new) (ended (fault_text fault.now)) }
 {
     let mut printer = Printer::new();
     print_line(&mut printer, fault);

@@ -1,7 +1,7 @@
 -- The receipts of this seat so far stand, and the marks are at exactly their places and those of the earlier seats.
 use Rattle.std.proofs.Common.{◌≡◌, ◌++◌, length, take}
-use Rattle.gc_shared.specs.Closing.{AllStand, floor_of, receipts_below, receipts_of}
-use Rattle.gc_shared.specs.Internal.Marks.{IsMarked}
+use Rattle.gc_shared.specs.Closing.{AllStand, receipts_below, receipts_of}
+use Rattle.gc_shared.specs.Internal.Marks.{IsMarked, floor_of}
 use Rattle.gc_shared.proofs.closing.first_torn.Given as goal
 
 abbrev pub invariant-loop-n : goal.invariant-loop-n

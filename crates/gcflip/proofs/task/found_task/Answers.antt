@@ -14,11 +14,11 @@ returns-in_err-file-clause-check c rows path is first =
 
 pub returns-in-play-clause-play : goal.returns-in-play-clause-play
 returns-in-play-clause-play c rows path is first =
-    ap (λ (text : List ℕ). Some (codes "play", text)) (present_has_text c.get_str.result c.in_ok-file.file _ path (search rules) c.get_str.ensures (found_file c.in-Some.matches.now _ rows _ path c.in-Some.ensures.rows is first))
+    ap (λ (text : List ℕ). Some (codes "play", Some text)) (present_has_text c.get_str.result c.in_ok-file.file _ path (search rules) c.get_str.ensures (found_file c.in-Some.matches.now _ rows _ path c.in-Some.ensures.rows is first))
 
 pub returns-in-check-clause-check : goal.returns-in-check-clause-check
 returns-in-check-clause-check c rows path is first =
-    ap (λ (text : List ℕ). Some (codes "check", text)) (present_has_text c.get_str.result c.in_ok-file.file _ path (search rules) c.get_str.ensures (found_file c.in-Some.matches.now _ rows _ path c.in-Some.ensures.rows is first))
+    ap (λ (text : List ℕ). Some (codes "check", Some text)) (present_has_text c.get_str.result c.in_ok-file.file _ path (search rules) c.get_str.ensures (found_file c.in-Some.matches.now _ rows _ path c.in-Some.ensures.rows is first))
 
 pub returns-in-play-clause-asked : goal.returns-in-play-clause-asked
 returns-in-play-clause-asked c =
@@ -38,7 +38,7 @@ returns-in_err-file-clause-report c rows path is first =
 
 pub returns-in-report-clause-report : goal.returns-in-report-clause-report
 returns-in-report-clause-report c rows path is first =
-    ap (λ (text : List ℕ). Some (codes "report", text)) (present_has_text c.get_str.result c.in_ok-file.file _ path (search rules) c.get_str.ensures (found_file c.in-Some.matches.now _ rows _ path c.in-Some.ensures.rows is first))
+    ap (λ (text : List ℕ). Some (codes "report", Some text)) (present_has_text c.get_str.result c.in_ok-file.file _ path (search rules) c.get_str.ensures (found_file c.in-Some.matches.now _ rows _ path c.in-Some.ensures.rows is first))
 
 pub returns-in-report-clause-asked : goal.returns-in-report-clause-asked
 returns-in-report-clause-asked c =
