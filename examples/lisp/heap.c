@@ -24,6 +24,7 @@ static uint32_t writes; /* writes since the last payment */
 static bool was_full;   /* an allocation ended in an error */
 
 static gcflip_frame stack; /* all extra roots */
+static void (*after_flip)(void);
 
 /* Ends the program after a call that the Lisp must not make. */
 static void stop(const char *call)
@@ -243,6 +244,35 @@ void put_word(enum slot object, uint32_t field, uint64_t word)
     writes++;
 }
 
+void copy_all_fields(enum slot to, enum slot from)
+{
+    uint32_t fields = field_count(from);
+    EXPECT_REPLY(GCFLIP_DONE, copy_fields, MUTATOR, (uint8_t)to, 0, (uint8_t)from, 0, WORD, (uint16_t)fields);
+    writes += fields;
+}
+
+/* ---- Addresses */
+
+uint32_t address_of(enum slot object)
+{
+    uint32_t address = 0;
+    EXPECT_REPLY(GCFLIP_DONE, address, MUTATOR, (uint8_t)object, &address);
+    return address;
+}
+
+bool follow(uint32_t *address)
+{
+    uint32_t answer;
+    CALL_HEAP(answer, moved, *address, address);
+    check_reply(answer == GCFLIP_DONE || answer == GCFLIP_NO_OBJECT, "moved");
+    return answer == GCFLIP_DONE;
+}
+
+void after_each_flip(void (*function)(void))
+{
+    after_flip = function;
+}
+
 /* ---- Collecting */
 
 static gcflip_counts read_counts(void)
@@ -269,6 +299,8 @@ static enum progress work(uint32_t most)
     check_reply(made.last != GCFLIP_NO_ROOM && made.last != GCFLIP_FLIP_REFUSED, "work");
     totals.collections += flipped;
     totals.pairs += flipped ? made.pairs : 0;
+    if (flipped && after_flip != NULL)
+        after_flip();
     return flipped ? FLIPPED : GOES_ON;
 }
 

@@ -76,6 +76,20 @@ uint64_t get_word(enum slot object, uint32_t field);
 
 void put_word(enum slot object, uint32_t field, uint64_t word);
 
+/* Copies all fields of an object into the first fields of another one. */
+void copy_all_fields(enum slot to, enum slot from);
+
+/* ---- Addresses: the identity of an object, until the next flip */
+
+uint32_t address_of(enum slot object);
+
+/* Puts the address to which the last flip moved the object that was at this one. Returns false if it died. Call it in a function for
+ * `after_each_flip`. */
+bool follow(uint32_t *address);
+
+/* Sets the function that is called after each flip. It may change no slot, and make no object. */
+void after_each_flip(void (*function)(void));
+
 /* ---- Room */
 
 /* Sets aside room for the REPL: from now on, allocations leave it free. Returns whether there is that much room. */

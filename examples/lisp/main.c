@@ -5,6 +5,7 @@
 #define _POSIX_C_SOURCE 200809L
 #include "errors.h"
 #include "evaluate.h"
+#include "hashtables.h"
 #include "heap.h"
 #include "objects.h"
 #include "pauses.h"
@@ -150,6 +151,7 @@ static bool make_lisp(void)
     make_constants();
     make_keywords();
     make_primitives();
+    make_finalizers();
     struct source source = source_of_string(prelude, "prelude");
     return run(&source) == ENDED && reserve_room();
 }

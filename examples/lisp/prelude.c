@@ -26,4 +26,6 @@ const char prelude[] =
     "(define (modulo n d)\n"
     "  (let ((r (remainder n d))) (if (or (= r 0) (eq? (< r 0) (< d 0))) r (+ r d))))\n"
     "(define (cadr items) (car (cdr items)))\n"
-    "(define (cddr items) (cdr (cdr items)))\n";
+    "(define (cddr items) (cdr (cdr items)))\n"
+    "(define (run-finalizers)\n"
+    "  (let ((function (next-finalizer))) (cond (function (function) (run-finalizers)))))\n";

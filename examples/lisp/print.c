@@ -74,6 +74,8 @@ static void print_atom(FILE *file, enum slot value, bool quoted, size_t most)
         print_closure(file, value, most);
     else if (type == PRIMITIVE)
         fprintf(file, "#<function %s>", name_of_primitive(value));
+    else if (type == HASHTABLE)
+        fputs("#<hashtable>", file);
     else
         fputs(type == EMPTY ? "()" : type == TRUE ? "#t" : type == FALSE ? "#f" : "#<no value>", file);
 }

@@ -32,6 +32,9 @@ enum slot {
     FALSE_VALUE,
     NO_VALUE,
 
+    /* The table of functions that wait for the death of an object. */
+    FINALIZERS,
+
     /* For the rewriting of let. */
     BINDINGS,
     BODY,
@@ -60,6 +63,8 @@ enum type {
     NOTHING, /* stands for no value, for example of a variable that is not set yet */
     SCOPE,   /* the variables of a function that was called */
     TABLE,   /* of symbols */
+    HASHTABLE,
+    CELLS,   /* of a hashtable: its keys and values */
     OPEN,    /* a list that is being read */
     LOCAL,   /* a variable in a program: the value of a scope */
     GLOBAL,  /* the same: the value of a symbol */

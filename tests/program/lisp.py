@@ -23,6 +23,7 @@ DOCUMENT = os.path.join("examples", "lisp", "README.md")
 # The programs by name, with the heap sizes for their runs. The strings need 32771 words for one string.
 HEAPS = {
     "churn": [20000],
+    "identity": [24000, 262144],
     "nqueens": [6000, 262144],
     "primes": [8000, 1048576],
     "queue": [20000, 262144],
@@ -68,6 +69,12 @@ EVALUATED = {
         "(define (counter) (let ((n 0)) (lambda () (set! n (+ n 1)) n))) (define a (counter)) (define b (counter)) (a) (a) (b)", "1|2|1"),
     "comments and quotes": ("; nothing\n'a ''a '(a . (b)) ; behind\n#t #f", "a|(quote a)|(a b)|#t|#f"),
     "a list that contains itself": ("(define x (list 1)) (set-cdr! x x) (car (cdr (cdr x)))", "1"),
+    "hashtables": (
+        "(define t (make-eq-hashtable)) (hashtable-set! t 'a 1) (hashtable-set! t 'a 2) (hashtable-set! t \"a\" 3) (hashtable-ref t 'a 0) (hashtable-ref t \"a\" 7)"
+        " (hashtable-size t) (hashtable-delete! t 'a) (hashtable-delete! t 'a) (hashtable-size t) (hashtable-ref t 'a 8) t (hashtable? t) (hashtable? 'a)",
+        "2|7|2|1|8|#<hashtable>|#t|#f"),
+    "tables as keys": ("(define t (make-weak-eq-hashtable)) (hashtable-set! t t t) (hashtable-ref t t 0) (hashtable-set! t #f '()) (hashtable-ref t #f 0)",
+                       "#<hashtable>|()"),
     "exit": ("1 (exit) 2", "1"),
 }
 
@@ -83,6 +90,9 @@ WRONG = [
     ("(letrec ((x y) (y 1)) x)", "input, line 1, column 13: no value yet for y"),
     ("((lambda (x) x))", "input, line 1, column 1: expected 1 argument, but found 0, for #<function>"),
     ("(define (f x y . z) x) (f 1)", "input, line 1, column 24: expected at least 2 arguments, but found 1, for #<function f>"),
+    ("(hashtable-ref 1 'a 0)", "input, line 1, column 1: hashtable-ref expects a hashtable, but found 1"),
+    ("(hashtable-set! (make-eq-hashtable) 5 1)", "input, line 1, column 1: hashtable-set! expects an object with an identity, but found 5"),
+    ("(finalize! '() car)", "input, line 1, column 1: finalize! expects an object with an identity, but found ()"),
     ("(cons 1)", "input, line 1, column 1: expected 2 arguments, but found 1, for cons"),
     ("(5 6)", "input, line 1, column 1: expected a function to call, but found 5"),
     ("(length '(1 . 2))", "input, line 1, column 1: length expects a list, but found (1 . ...)"),
@@ -337,12 +347,28 @@ def limits(_program, _folder):
         # 209715 waiting calls take five values each, which leaves one; the next frame is that of (- n 1).
         full = b"error: input, line 1, column 43: the stack is full: it has 1048576 values (--heap WORDS makes it larger)\n"
         yield "a full stack, %s" % way, difference(overflow, Outcome(b"100\n", full))
+        for made in ("make-eq-hashtable", "make-weak-eq-hashtable"):
+            found = lisp.run(LARGE_TABLE % made, "--heap", "1000000", "--pauses")
+            # One entry too many, and then an entry whose key the table has.
+            full = b"error: input, line 4, column 16: a hashtable has at most 16384 entries\n"
+            yield "16384 entries of %s, %s" % (made, way), None if found.stderr.startswith(full) else found.stderr[:200]
+            yield "entries of %s, %s" % (made, way), None if found.stdout == b"16384\n134209536\n16384\n1\n" and totals(found)[1] > 5 else "printed %r" % found.stdout
         nested = "(" * 30000 + ")" * 30000
         yield "30000 lists deep, %s" % way, difference(lisp.run("'" + nested, "--heap", "1048576"), Outcome(nested.encode() + b"\n"))
         equal = "(define (nest n x) (if (= n 0) x (nest (- n 1) (list x)))) (equal? (nest 10000 1) (nest 10000 1))"
         yield "10000 lists deep are equal, %s" % way, difference(lisp.run(equal), Outcome(b"#t\n"))
         circle = lisp.run("(define x (list 1)) (set-cdr! x x) x (car x)\n").stdout
         yield "a circle is printed, %s" % way, None if circle.startswith(b"(1 1 1") and circle.endswith(b" ...\n1\n") else circle[-40:]
+
+
+# Each key is told by its own number, whatever the collector moves meanwhile. 16384 * 16383 / 2 = 134209536.
+LARGE_TABLE = """(define t (%s))
+(define keys (map list (iota 16384)))
+(for-each (lambda (key) (iota 20) (hashtable-set! t key (car key))) keys)
+(define (more) (hashtable-set! t (list 0) 0)) (hashtable-size t) (fold (lambda (key sum) (iota 20) (+ sum (hashtable-ref t key 'lost))) 0 keys)
+(more)
+(hashtable-size t) (hashtable-set! t (car keys) 1) (hashtable-ref t (car keys) 0)
+"""
 
 
 REFUSED_TEXT = """(define (build n) (if (= n 0) '() (cons n (build (- n 1)))))
