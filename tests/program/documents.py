@@ -729,6 +729,11 @@ def products(_program, _folder):
     shown = [line.strip("| ").split(" | ") for line in table.split("\n")[1:]]
     wrong = [row for row in counted if row not in shown] + [row for row in shown if row not in counted]
     yield "lines of definitions by product", None if status == 0 and counted and not wrong else "the tool or docs/ARCHITECTURE.md alone has %s" % wrong
+    for calls, lines in re.findall(r"(?m)^\|[^|]*\|((?: `\w+`,?)+) \| (\d+) \|$", text_of("docs/ARCHITECTURE.md")):
+        names = re.findall(r"\w+", calls)
+        product = "gcflip_c" if {"gcflip_infer", "gcflip_path"} & set(names) else "gcflip_heap_c"
+        added = sum(lines_by_file(printed_by_definitions("--products", product, *names)[1]).values())
+        yield "lines of definitions that only %s adds" % names[0], None if added == int(lines) else "they are %d" % added
     reached = lines_by_file(printed_by_definitions("--products", "gcflip_c")[1])
     wanted = lines_by_file(printed_by_definitions("--of", "Replicated")[1])
     wanted.update(lines_by_file(printed_by_definitions("--of", "IsPairFaultOf")[1]))

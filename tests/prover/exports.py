@@ -84,7 +84,7 @@ class Code:
         return None if root is None else {name for used in re.findall(r"(?ms)^pub use ([^;]*);", root) for name in re.findall(r"\w+", used)}
 
     def exported(self, crate):
-        """Yields the signature and the contract of each exported function of a crate."""
+        """Yields each exported function of a crate: its name, with its type if it is a method, and what its signature and its contract name."""
         names = self.exported_names(crate)
         for (owner_crate, path), text in self.files.items():
             for item in items_of(path, text) if owner_crate == crate else []:
@@ -92,7 +92,8 @@ class Code:
                 is_exported = names is None or "no_mangle" in body or names & set(owner or [item.name])
                 if item.name and PUBLIC.match(without_comments(body)) and is_exported:
                     signature = re.split(r"(?m)^ *(?:requires|ensures)\b|\{ *$|\{\}$", without_comments(body))[0]
-                    yield Part(crate, path, text, "\n".join(contract_of(text, item)), types_named(signature) | set(owner))
+                    part = Part(crate, path, text, "\n".join(contract_of(text, item)), types_named(signature) | set(owner))
+                    yield "::".join(owner + [item.name]), part
 
     def type_named(self, part, name):
         """Returns the (crate, name) of the type or the trait that a name means in a part, or None if it is none of ours."""
@@ -125,9 +126,10 @@ class Code:
         for name in sorted(part.types):
             yield "type", self.type_named(part, name)
 
-    def reached_by(self, crates):
-        """Returns the definitions that the contracts of the exported functions of these crates reach. Worked rows do not count."""
-        queue = [node for crate in crates for part in self.exported(crate) for node in self.nodes_of(part)]
+    def reached_by(self, crates, left_out=()):
+        """Returns the definitions that the contracts of the exported functions of these crates reach, without the functions of these names.
+        Worked rows do not count."""
+        queue = [node for crate in crates for name, part in self.exported(crate) if name not in left_out for node in self.nodes_of(part)]
         reached = set()
         while queue:
             kind, key = node = queue.pop()
