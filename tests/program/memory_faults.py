@@ -44,7 +44,7 @@ PLACES = {
     "gcflip_heap_c/src/copying.rt": {("gcflip_heap_copy_fields", BY_ARM): 1},
     "gcflip_heap_c/src/mixed.rt": {("gcflip_heap_new_with", BY_ARM): 1},
     "gcflip_heap_c/src/raws.rt": {("gcflip_heap_raw_write", BY_ARM): 1},
-    "gcflip_heap_c/src/opening.rt": {("gcflip_heap_open", BY_ARM): 1},
+    "gcflip_heap_c/src/opening.rt": {("gcflip_heap_open", BY_ARM): 1, ("gcflip_heap_touch", BY_ARM): 1},
     "gcflip_heap_c/src/stepping.rt": {("gcflip_heap_step_begin", BY_ARM): 1, ("gcflip_heap_step_begin_sized", BY_ARM): 1, ("gcflip_heap_step_flip", BY_ARM): 1},
     "gcflip_heap_c/src/pace.rt": {("gcflip_heap_work_paced", BY_ARM): 1},
     "gcflip_heap_c/src/work.rt": {("work_sized", BY_ARM): 1, ("gcflip_heap_work_within", BY_ARM): 1},
