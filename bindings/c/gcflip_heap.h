@@ -91,8 +91,8 @@ static inline gcflip_options gcflip_options_default(uint32_t size, uint8_t mutat
 uint32_t gcflip_heap_open(gcflip_heap *heap, const gcflip_options *options);
 
 /* Writes to all memory of both spaces and of the checker's tables once: GCFLIP_DONE. So no later call meets a page of theirs for the first time,
- * which can take as long as 1,000 commands. Allocates the space of the first collection, unless one has begun. Changes nothing else. While a
- * collection is open, its new space is left out. */
+ * which takes about 2 microseconds for each page. Allocates the space of the first collection, unless one has begun or an earlier call did so.
+ * Changes nothing else. While a collection is open, its new space is left out. */
 uint32_t gcflip_heap_touch(gcflip_heap *heap);
 
 /* Frees the heap. The handle then has none. */
@@ -208,8 +208,8 @@ uint32_t gcflip_heap_frame_pop(gcflip_heap *heap, uint8_t m, uint8_t d, gcflip_f
 /* ---- Collector steps */
 
 /* Opens a collection whose new space is as large as the heap, or has `size` words, at least 1: GCFLIP_BEGUN, or
- * GCFLIP_BUSY if one is open. If the new space is larger than any before, the tables of a checker that goes along grow. After a flip
- * whose checker went along, a collection of the same size takes the old space, and allocates nothing. */
+ * GCFLIP_BUSY if one is open. If the new space is larger than any before, the tables of a checker that goes along grow. After a flip,
+ * a collection of the same size takes the old space, and allocates nothing. */
 uint32_t gcflip_heap_step_begin(gcflip_heap *heap);
 uint32_t gcflip_heap_step_begin_sized(gcflip_heap *heap, uint32_t size);
 
@@ -225,8 +225,8 @@ uint32_t gcflip_heap_step_scan(gcflip_heap *heap);
 uint32_t gcflip_heap_step_apply(gcflip_heap *heap, uint8_t m);
 
 /* Flips if the collection is ready and a checker accepts it: GCFLIP_FLIPPED, GCFLIP_NOT_READY or GCFLIP_IDLE. If it flipped, it writes the
- * number of pairs of the certificate. A flip whose checker went along looks at the roots alone; only the first one of a heap allocates, a row
- * for the moved roots. Any other flip passes over both spaces, and allocates the certificate and the checker's tables too. */
+ * number of pairs of the certificate. A flip whose checker went along looks at the roots alone, and allocates nothing. Any other flip passes
+ * over both spaces, and allocates the certificate and the checker's tables. */
 uint32_t gcflip_heap_step_flip(gcflip_heap *heap, uint32_t *pairs);
 
 /* Frees the new space and the logs: GCFLIP_DROPPED or GCFLIP_IDLE. */

@@ -1,5 +1,5 @@
-/* Pages of memory: pages touch|slices. A heap that was touched meets no page for the first time in its first collection. A heap that became smaller
- * gives its old space back in slices. */
+/* Pages of memory: pages touch|slices|rest. A heap that was touched meets no page for the first time in its first collection. A heap that became
+ * smaller gives its old space back in slices, or what is left of it where a collection begins or a flip checks both spaces whole. */
 #define _GNU_SOURCE
 #include "expect.h"
 #include "gcflip_heap.h"
@@ -29,10 +29,16 @@ static long resident(void)
     return here;
 }
 
+static void open_checked(uint32_t words, uint32_t checking)
+{
+    gcflip_options options = gcflip_options_default(words, 1);
+    options.checking = checking;
+    EXPECT(gcflip_heap_open(&heap, &options) == GCFLIP_DONE);
+}
+
 static void open_heap(uint32_t words)
 {
-    const gcflip_options options = gcflip_options_default(words, 1);
-    EXPECT(gcflip_heap_open(&heap, &options) == GCFLIP_DONE);
+    open_checked(words, GCFLIP_ALONG);
 }
 
 /* Keeps so many cells in a list. */
@@ -77,10 +83,22 @@ static long met(int is_touched)
     return found;
 }
 
+/* A heap that is touched twice meets no page the second time. */
+static void touch_twice(void)
+{
+    open_heap(LARGE);
+    EXPECT(gcflip_heap_touch(&heap) == GCFLIP_DONE);
+    long pages = resident(), before = faults();
+    EXPECT(gcflip_heap_touch(&heap) == GCFLIP_DONE);
+    EXPECT(resident() - pages <= FEW && faults() - before <= FEW);
+    EXPECT(gcflip_heap_close(&heap) == GCFLIP_DONE);
+}
+
 static void touch(void)
 {
     long pages = LARGE / 4 / PAGE_WORDS;
     EXPECT(gcflip_heap_touch(&heap) == GCFLIP_CLOSED);
+    touch_twice();
     EXPECT(met(0) >= pages);
     EXPECT(met(1) <= FEW);
 }
@@ -104,13 +122,53 @@ static void slices(void)
     EXPECT(gcflip_heap_close(&heap) == GCFLIP_DONE);
 }
 
+/* A small heap whose large old space leaves from here on, in a collection that has begun. */
+static void begin_small(uint32_t checking)
+{
+    open_checked(LARGE, checking);
+    EXPECT(gcflip_heap_touch(&heap) == GCFLIP_DONE);
+    keep_cells(FEW);
+    collect(SMALL);
+    EXPECT(gcflip_heap_step_begin_sized(&heap, SMALL) == GCFLIP_BEGUN);
+}
+
+/* Performs single steps, none of which gives memory back in slices, until the collection is ready. */
+static void make_ready(void)
+{
+    while (gcflip_heap_step_roots(&heap) != GCFLIP_CLEAN)
+        ;
+    while (gcflip_heap_step_scan(&heap) != GCFLIP_CLEAN)
+        ;
+}
+
+static void rest(void)
+{
+    begin_small(GCFLIP_ALONG);
+    long before = resident();
+    EXPECT(gcflip_heap_step_give_up(&heap) == GCFLIP_DROPPED);
+    EXPECT(before - resident() <= FEW);
+    EXPECT(gcflip_heap_step_begin_sized(&heap, SMALL) == GCFLIP_BEGUN);
+    EXPECT(before - resident() >= LARGE / PAGE_WORDS - FEW);
+    EXPECT(gcflip_heap_close(&heap) == GCFLIP_DONE);
+
+    uint32_t pairs = 0;
+    begin_small(GCFLIP_AT_FLIP);
+    make_ready();
+    before = resident();
+    EXPECT(gcflip_heap_step_flip(&heap, &pairs) == GCFLIP_FLIPPED && pairs == FEW);
+    EXPECT(before - resident() >= LARGE / PAGE_WORDS - FEW);
+    EXPECT(gcflip_heap_close(&heap) == GCFLIP_DONE);
+}
+
 int main(int count, char **words)
 {
     EXPECT(count == 2);
     EXPECT(prctl(PR_SET_THP_DISABLE, 1, 0, 0, 0) == 0); /* else one fault brings many pages */
     if (strcmp(words[1], "touch") == 0)
         touch();
-    else
+    else if (strcmp(words[1], "slices") == 0)
         slices();
+    else
+        rest();
     return 0;
 }

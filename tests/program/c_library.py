@@ -363,12 +363,12 @@ def live_and_far(_program, folder):
 
 
 def pages(_program, folder):
-    """Tests that a heap that was touched meets no new page, and that old spaces of another size are given back in slices."""
+    """Tests that a heap that was touched meets no new page, and that old spaces of another size are given back, in slices or at a begin."""
     built = library(folder)
     if built is None:
         return
     path, why = built.build(["gcc", "-O1"], "pages.c", built.archive())
-    for part in ("touch", "slices"):
+    for part in ("touch", "slices", "rest"):
         yield "pages.c, %s" % part, why or difference(done([path, part]), Outcome())
 
 

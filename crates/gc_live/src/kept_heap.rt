@@ -10,7 +10,8 @@ ghost use Rattle.gc_plan.specs.declared.step.StepReply.{StepReply};
 ghost use Rattle.gc_core.specs.CollectedHeap.{Allocates};
 ghost use Rattle.gc_core.specs.Flip.{FlipsOnly, FormerAfter, IsCertified, PassesIfReady, HasRoomIfLarge};
 
-use crate::live_heap::{Checking, LiveHeap};
+use crate::checking::Checking;
+use crate::live_heap::LiveHeap;
 use gc_check::Checks;
 use gc_copy::{Room, Step, StepReply};
 use gc_core::AlongFlip;
@@ -60,7 +61,8 @@ impl KeptHeap {
     }
 
     /// Opens a collection whose new space has `size` words, at least 1. Returns `Begun`, or `Busy` if one is already open. On `NoMemory`
-    /// nothing has changed, and none is open. The memory of an old space of another size is given back by later calls of `LiveHeap::give_back`.
+    /// nothing has changed, and none is open. The memory of an old space of another size is given back by later calls of `LiveHeap::give_back`, or
+    /// else by the next begin.
     pub fn begin_sized(&mut self, size: u32) -> Result<StepReply, NoMemory>
         requires low { 1 ≤ size }
         ensures step { IfOk result (λ reply. collect self.old.live (Step.BeginSized size) ≡ (reply, self.new.live)) }

@@ -1,10 +1,17 @@
 //! A collected heap whose checker goes along with the collection.
 #![tactic(auto)]
 
+mod checking;
+mod commands;
+mod extra_roots;
+mod flipping;
 mod kept_heap;
 mod live_heap;
+mod reading;
 mod rooms;
+mod steps;
 mod writing;
 
+pub use checking::{Checking, FlipChecks};
 pub use kept_heap::KeptHeap;
-pub use live_heap::{Checking, FlipChecks, LiveHeap};
+pub use live_heap::LiveHeap;

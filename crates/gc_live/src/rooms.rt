@@ -26,7 +26,8 @@ impl LiveHeap {
         self.watch.touch();
     }
 
-    /// Does the same with the space of the next collection, unless one is open. Allocates that space. On `NoMemory` nothing has changed.
+    /// Does the same with the space of the next collection, unless one is open. Allocates that space if there is none. On `NoMemory` nothing has
+    /// changed.
     pub fn touch_spare(&mut self, alloc: Global) -> Result<(), NoMemory>
         ensures { self.new ≡ self.old }
     {
@@ -34,10 +35,9 @@ impl LiveHeap {
         if self.inner.is_open() {
             return Ok(());
         }
-        let mut room = Room::new(alloc, self.inner.size(), self.inner.mutators())?;
-        room.touch();
-        self.spare = Some(room);
-        Ok(())
+        let size = self.inner.size();
+        let mutators = self.inner.mutators();
+        touch_room(alloc, &mut self.spare, size, mutators)
     }
 
     /// Frees some of the memory that no collection will use, if there is any: at most 32,768 words of it. The heap stays as it is.
@@ -57,6 +57,31 @@ impl LiveHeap {
         if let Some(room) = self.leaving.take() {
             self.leaving = room.without(SLICE);
         }
+    }
+}
+
+// Writes to all memory of this room, or of new room where this one has another size. On `NoMemory` nothing has changed.
+fn touch_room(
+    alloc: Global,
+    room: &mut Option<Room>,
+    size: u32,
+    mutators: u8,
+) -> Result<(), NoMemory>
+    requires low { 1 ≤ size }
+{
+    if !is_of_size(room, size) {
+        *room = Some(Room::new(alloc, size, mutators)?);
+    }
+    if let Some(room) = room {
+        room.touch();
+    }
+    Ok(())
+}
+
+/// Frees this room at once, if that is due.
+pub(crate) fn free_if(room: &mut Option<Room>, due: bool) {
+    if due {
+        *room = None;
     }
 }
 
