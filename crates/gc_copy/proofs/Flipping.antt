@@ -12,15 +12,14 @@ use Rattle.gc_words.specs.Image.{field_in, block_at, Block, blocks, block_in, is
 use Rattle.gc_words.specs.Spelling.{link_at}
 use Rattle.gc_words.specs.Space.{SpaceWords, IsSpace, end_of, free_in, without_links}
 use Rattle.gc_words.specs.Closed.{IsWordOfField, RefersToStart, IsRootWord, IsFieldWord, HasFieldWords}
-use Rattle.gc_words.proofs.Public.{object_found, graph_cleared, meaning_back, cleared, link_cleared, end_cleared, closed_field_read, closed_objects}
+use Rattle.gc_words.proofs.Public.{object_found, meaning_back, cleared, link_cleared, end_cleared, closed_field_read, closed_objects}
 use Rattle.gc_heap.specs.Heap.{HeapWords, IsHeap, graph_in}
 use Rattle.gc_plan.specs.State.{Collection, State, new_objects, new_end, new_free, new_graph, moved, pairs_of}
-use Rattle.gc_plan.specs.Steps.{is_ready, flip, flipped, with_collection}
+use Rattle.gc_plan.specs.Steps.{is_ready, flip, flipped}
 use Rattle.gc_plan.specs.Members.{In}
 use Rattle.gc_plan.specs.Belonging.{IsSmall, IsNamed, RefersTo, IsSpaceGraph}
-use Rattle.gc_copy.specs.Words.{CollectionWords, IsCollection, collection_in, idle_state, open_state, mark_of, replica_entry, BelongsTo, HasNoLinks, new_root_words}
-use Rattle.gc_plan.specs.declared.step.StepReply.{StepReply}
-use Rattle.gc_plan.specs.declared.step.StepReply.TheVariants.{Flipped, Dropped}
+use Rattle.gc_copy.specs.Words.{CollectionWords, IsCollection, collection_in, idle_state, open_state, mark_of, replica_entry, BelongsTo, new_root_words}
+use Rattle.gc_plan.specs.declared.step.StepReply.TheVariants.{Flipped}
 use Rattle.gc_copy.proofs.Words.{heap_graph, block_found_in}
 use Rattle.gc_copy.proofs.Spaces.{in_start, new_objects_are, new_end_is}
 use Rattle.gc_copy.proofs.OpenCollection.{opened}

@@ -1,5 +1,5 @@
 -- A new space of words has room for all replicas, if it is as large as the old one.
-use Rattle.std.proofs.Common.{◌≢◌, ◌≤◌, ℕ, refl, ◌∙◌}
+use Rattle.std.proofs.Common.{◌≢◌, ◌≤◌, refl, ◌∙◌}
 use Rattle.std.proofs.lemmas.List.{length-map}
 use Rattle.gc_heap.specs.Heap.{HeapWords, IsHeap}
 use Rattle.gc_plan.specs.Steps.{collect}

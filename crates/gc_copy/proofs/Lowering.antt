@@ -1,12 +1,12 @@
 -- The loop that takes the mark from links: it goes over the objects of the heap, whose links it changes.
-use Rattle.std.proofs.Common.{◌≡◌, ◌⊎◌, ⊎_elim, inl, inr, ℕ, ◌+◌, ◌-◌, ◌<◌, ◌≤◌, ◌==◌, Bool, true, false, List, [], ◌∷◌, ◌++◌, length, drop, Some, Result, refl, ap, sym, ◌∙◌, subst, arith, length-set}
-use Rattle.std.specs.Prelude.{IsOk, slice_set}
+use Rattle.std.proofs.Common.{◌≡◌, ◌⊎◌, ⊎_elim, inl, inr, ℕ, ◌+◌, ◌-◌, ◌<◌, ◌≤◌, true, List, [], ◌∷◌, ◌++◌, length, drop, Some, Result, refl, ap, sym, ◌∙◌, subst, arith, length-set}
+use Rattle.std.specs.Prelude.{IsOk}
 use Rattle.std.proofs.lemmas.Bool.{cases_eq}
 use Rattle.std.proofs.lemmas.List.{drop-set-lt}
 use Rattle.gc_words.specs.Image.{Block, walk, blocks, is_start, ok_or_nil}
 use Rattle.gc_words.specs.Layout.{link_place}
 use Rattle.gc_words.specs.Spelling.{link_at}
-use Rattle.gc_words.specs.Space.{IsSpace, with_word}
+use Rattle.gc_words.specs.Space.{with_word}
 use Rattle.gc_words.specs.Walking.{next_of, walk_from, block_from}
 use Rattle.gc_words.proofs.Public.{Behind, behind, at_end, link_written, link_written_there, link_written_beside}
 use Rattle.gc_heap.specs.Heap.{HeapWords, IsHeap}
@@ -14,7 +14,7 @@ use Rattle.gc_plan.specs.Members.{In}
 use Rattle.gc_copy.specs.Internal.Words.{KeepsGraph}
 use Rattle.gc_copy.proofs.Words.{block_found_in}
 use Rattle.gc_copy.proofs.ObjectWalks.{Met, met_none, Passing, passing, start_met}
-use Rattle.gc_copy.proofs.OpenCollection.{linked_heap, same_graph, start_kept}
+use Rattle.gc_copy.proofs.OpenCollection.{linked_heap, same_graph}
 use Rattle.gc_copy.proofs.Dropping.{then_kept}
 
 -- ---- the loop's invariant

@@ -1,5 +1,5 @@
 -- A heap that was opened with extra roots is well formed, and so is every state that a run leads it to.
-use Rattle.std.proofs.Common.{◌≡◌, ℕ, ◌+◌, ◌≤◌, List, [], Option, Some, None, refl, subst, arith}
+use Rattle.std.proofs.Common.{◌≡◌, ◌+◌, ◌≤◌, List, [], Some, None, refl, subst, arith}
 use Rattle.std.proofs.lemmas.List.{length-replicate}
 use Rattle.gc_graph.specs.Slots.{roots_of}
 use Rattle.gc_graph.specs.Graph.{Nil}

@@ -4,6 +4,7 @@ use Rattle.std.specs.Prelude.{slice_get, slice_set}
 use Rattle.gc_heap.specs.Heap.{graph_in}
 use Rattle.gc_plan.specs.State.{State}
 use Rattle.gc_plan.specs.Steps.{log_at, apply_entry, apply_log}
+use Rattle.gc_copy.specs.contracts.collection.Collection.{the_view}
 use Rattle.gc_copy.specs.Words.{CollectionWords, IsCollection, collection_in, open_state, BelongsTo}
 use Rattle.gc_copy.specs.Internal.Words.{KeepsRest}
 use Rattle.gc_plan.specs.declared.step.Step.TheVariants as steps
@@ -15,15 +16,15 @@ use Rattle.gc_copy.proofs.collection.Collection.apply_log.Goals as goal
 
 pub apply_entry-requires-clause-field : goal.apply_entry-requires-clause-field
 apply_entry-requires-clause-field c =
-    let x : CollectionWords = record { space = c.self.inside.space; logs = c.self.inside.logs.items; scan_place = c.self.inside.scan_place.0; scan_field = c.self.inside.scan_field; marked = c.self.inside.marked } in
+    let x : CollectionWords = the_view c.self.inside in
     let there : slice_get x.logs c.args.m ≡ Some c.index.result.now = there_in x c.args.self.now c.args.m c.index.result.now c.self.view_is (subst (λ n. c.args.m < n) (sym (c.requires.belongs).logs) c.requires.mutator) c.index.ensures in
     field_there c.args.heap.now x c.args.m c.index.result.now there (c.in-Some.entry.object.0, c.in-Some.entry.field) c.in-Some.ensures (subst (BelongsTo c.args.heap.now) (sym c.self.view_is) c.requires.belongs)
 
 pub returns-in-Ok-clause-step : goal.returns-in-Ok-clause-step
 returns-in-Ok-clause-step c =
-    let x : CollectionWords = record { space = c.self.inside.space; logs = c.self.inside.logs.items; scan_place = c.self.inside.scan_place.0; scan_field = c.self.inside.scan_field; marked = c.self.inside.marked } in
+    let x : CollectionWords = the_view c.self.inside in
     let there : slice_get x.logs c.args.m ≡ Some c.index.result.now = there_in x c.args.self.now c.args.m c.index.result.now c.self.view_is (subst (λ n. c.args.m < n) (sym (c.requires.belongs).logs) c.requires.mutator) c.index.ensures in
-    let after : CollectionWords = record { space = c.self-2.inside.space; logs = c.self-2.inside.logs.items; scan_place = c.self-2.inside.scan_place.0; scan_field = c.self-2.inside.scan_field; marked = c.self-2.inside.marked } in
+    let after : CollectionWords = the_view c.self-2.inside in
     let rest : KeepsRest x after = subst (λ y. KeepsRest y after) (sym c.self.view_is) (subst (KeepsRest c.args.self.now) (sym c.self-2.view_is) c.in-Ok.ensures.rest) in
     let done : apply_entry (collection_in x) (graph_in c.args.heap.now) (c.in-Some.entry.object.0, c.in-Some.entry.field) ≡ Some (collection_in after) = ap (λ (y : CollectionWords). apply_entry (collection_in y) (graph_in c.args.heap.now) (c.in-Some.entry.object.0, c.in-Some.entry.field)) c.self.view_is ∙ c.in-Ok.ensures.applied ∙ ap (λ (y : CollectionWords). Some (collection_in y)) (sym c.self-2.view_is) in
     let less : c.args.m < length after.logs = (let n : length after.logs ≡ length x.logs = ap length rest.logs in let p : c.args.m < length x.logs = subst (λ (y : CollectionWords). c.args.m < length y.logs) (sym c.self.view_is) (subst (λ n. c.args.m < n) (sym (c.requires.belongs).logs) c.requires.mutator) in omega (arith, n, p)) in
@@ -33,9 +34,9 @@ returns-in-Ok-clause-step c =
 
 pub returns-in-Ok-clause-belongs : goal.returns-in-Ok-clause-belongs
 returns-in-Ok-clause-belongs c =
-    let x : CollectionWords = record { space = c.self.inside.space; logs = c.self.inside.logs.items; scan_place = c.self.inside.scan_place.0; scan_field = c.self.inside.scan_field; marked = c.self.inside.marked } in
+    let x : CollectionWords = the_view c.self.inside in
     let there : slice_get x.logs c.args.m ≡ Some c.index.result.now = there_in x c.args.self.now c.args.m c.index.result.now c.self.view_is (subst (λ n. c.args.m < n) (sym (c.requires.belongs).logs) c.requires.mutator) c.index.ensures in
-    let after : CollectionWords = record { space = c.self-2.inside.space; logs = c.self-2.inside.logs.items; scan_place = c.self-2.inside.scan_place.0; scan_field = c.self-2.inside.scan_field; marked = c.self-2.inside.marked } in
+    let after : CollectionWords = the_view c.self-2.inside in
     let rest : KeepsRest x after = subst (λ y. KeepsRest y after) (sym c.self.view_is) (subst (KeepsRest c.args.self.now) (sym c.self-2.view_is) c.in-Ok.ensures.rest) in
     let done : apply_entry (collection_in x) (graph_in c.args.heap.now) (c.in-Some.entry.object.0, c.in-Some.entry.field) ≡ Some (collection_in after) = ap (λ (y : CollectionWords). apply_entry (collection_in y) (graph_in c.args.heap.now) (c.in-Some.entry.object.0, c.in-Some.entry.field)) c.self.view_is ∙ c.in-Ok.ensures.applied ∙ ap (λ (y : CollectionWords). Some (collection_in y)) (sym c.self-2.view_is) in
     let less : c.args.m < length after.logs = (let n : length after.logs ≡ length x.logs = ap length rest.logs in let p : c.args.m < length x.logs = subst (λ (y : CollectionWords). c.args.m < length y.logs) (sym c.self.view_is) (subst (λ n. c.args.m < n) (sym (c.requires.belongs).logs) c.requires.mutator) in omega (arith, n, p)) in
@@ -45,7 +46,7 @@ returns-in-Ok-clause-belongs c =
 
 pub returns-in-Err-clause-step : goal.returns-in-Err-clause-step
 returns-in-Err-clause-step c =
-    let x : CollectionWords = record { space = c.self.inside.space; logs = c.self.inside.logs.items; scan_place = c.self.inside.scan_place.0; scan_field = c.self.inside.scan_field; marked = c.self.inside.marked } in
+    let x : CollectionWords = the_view c.self.inside in
     let there : slice_get x.logs c.args.m ≡ Some c.index.result.now = there_in x c.args.self.now c.args.m c.index.result.now c.self.view_is (subst (λ n. c.args.m < n) (sym (c.requires.belongs).logs) c.requires.mutator) c.index.ensures in
     let full = c.in-Err.ensures.full in
     let none : apply_entry (collection_in x) (graph_in c.args.heap.now) (c.in-Some.entry.object.0, c.in-Some.entry.field) ≡ None = ap (λ (y : CollectionWords). apply_entry (collection_in y) (graph_in c.args.heap.now) (c.in-Some.entry.object.0, c.in-Some.entry.field)) c.self.view_is ∙ full.0 in

@@ -2,6 +2,7 @@
 use Rattle.std.proofs.Common.{ap}
 use Rattle.gc_words.specs.Image.{blocks}
 use Rattle.gc_words.specs.Space.{SpaceWords}
+use Rattle.gc_copy.specs.contracts.collection.Collection.{the_view}
 use Rattle.gc_copy.specs.Words.{CollectionWords}
 use Rattle.gc_copy.proofs.FieldWords.{read_in_heap}
 use Rattle.gc_copy.proofs.Spaces.{count_written}
@@ -12,9 +13,9 @@ pub set_field-requires : goal.set_field-requires
 set_field-requires c = raw_present c.args.heap.now c.args.self.now _ c.args.original.0 c.args.field c.field-word.result c.args.replica.0 c.space.ensures.sound c.requires.raw c.self.invariant.0 c.self.view_is
     c.requires.belongs (read_in_heap c.args.heap.now _ _ _ _ c.space.ensures.value c.field-word.ensures) c.requires.replica
 
-done : (c : goal.After-set_field) → Brought c.args.heap.now c.args.heap.now c.args.self.now (record { space = c.set_field.new.self; logs = c.self.inside.logs.items; scan_place = c.self.inside.scan_place.0; scan_field = c.self.inside.scan_field; marked = c.self.inside.marked }) c.args.original.0 c.args.field
+done : (c : goal.After-set_field) → Brought c.args.heap.now c.args.heap.now c.args.self.now (record (the_view c.self.inside) { space = c.set_field.new.self }) c.args.original.0 c.args.field
 done c =
-    let x : CollectionWords = record { space = c.self.inside.space; logs = c.self.inside.logs.items; scan_place = c.self.inside.scan_place.0; scan_field = c.self.inside.scan_field; marked = c.self.inside.marked } in
+    let x : CollectionWords = the_view c.self.inside in
     copied_words c.args.heap.now c.args.self.now x c.args.original.0 c.args.field c.field-word.result c.args.replica.0 c.space.ensures.sound c.requires.raw c.self.invariant.0 c.self.view_is
     c.requires.belongs (read_in_heap c.args.heap.now _ _ _ _ c.space.ensures.value c.field-word.ensures) c.requires.replica
     (record x { space = c.set_field.new.self }) (ap (λ (s : SpaceWords). record x { space = s }) c.set_field.ensures.words)

@@ -4,6 +4,7 @@ use Rattle.gc_words.specs.Word.{value_of}
 use Rattle.gc_words.specs.Image.{blocks}
 use Rattle.gc_words.specs.Space.{SpaceWords}
 use Rattle.gc_heap.specs.Heap.{graph_in}
+use Rattle.gc_copy.specs.contracts.collection.Collection.{the_view}
 use Rattle.gc_copy.specs.Words.{CollectionWords, collection_in}
 use Rattle.gc_copy.proofs.FieldWords.{read_in_heap}
 use Rattle.gc_copy.proofs.Spaces.{count_written}
@@ -28,9 +29,9 @@ set_field-requires c = present c.args.heap.now c.replicate_target.new.heap c.arg
     c.in_ok-replicate_target.ensures.belongs c.in_ok-replicate_target.ensures.graph c.in_ok-replicate_target.ensures.rest (read_in_heap c.args.heap.now _ _ _ _ c.space.ensures.value c.field-word.ensures)
     c.in_ok-replicate_target.ensures.placed c.in_ok-replicate_target.ensures.replica c.requires.replica
 
-done : (c : goal.After-set_field) → Brought c.args.heap.now c.replicate_target.new.heap c.args.self.now (record { space = c.set_field.new.self; logs = c.self.inside.logs.items; scan_place = c.self.inside.scan_place.0; scan_field = c.self.inside.scan_field; marked = c.self.inside.marked }) c.args.original.0 c.args.field
+done : (c : goal.After-set_field) → Brought c.args.heap.now c.replicate_target.new.heap c.args.self.now (record (the_view c.self.inside) { space = c.set_field.new.self }) c.args.original.0 c.args.field
 done c =
-    let x : CollectionWords = record { space = c.self.inside.space; logs = c.self.inside.logs.items; scan_place = c.self.inside.scan_place.0; scan_field = c.self.inside.scan_field; marked = c.self.inside.marked } in
+    let x : CollectionWords = the_view c.self.inside in
     brought_words c.args.heap.now c.replicate_target.new.heap c.args.self.now c.replicate_target.new.self x c.args.original.0 c.args.field c.field-word.result c.args.replica.0 c.space.ensures.sound c.requires.plain c.self.invariant.0 c.self.view_is
     c.in_ok-replicate_target.ensures.belongs c.in_ok-replicate_target.ensures.graph c.in_ok-replicate_target.ensures.rest (read_in_heap c.args.heap.now _ _ _ _ c.space.ensures.value c.field-word.ensures)
     c.in_ok-replicate_target.ensures.placed c.in_ok-replicate_target.ensures.replica c.requires.replica

@@ -1,5 +1,5 @@
 -- The roots are done, so each root word's target has a replica and can be moved; the row becomes the first moved roots, and those behind are nil.
-use Rattle.std.proofs.Common.{arith, take, ap}
+use Rattle.std.proofs.Common.{take, ap}
 use Rattle.gc_copy.specs.Words.{collection_in}
 use Rattle.gc_copy.proofs.RootWalks.{first_has_replica, moved_first}
 use Rattle.gc_copy.proofs.collection.Collection.move_roots.Goals as goal

@@ -2,13 +2,14 @@
 use Rattle.std.proofs.Common.{◌≡◌, ◌∷◌, [], ◌++◌, length, ap, ◌∙◌, length-set}
 use Rattle.std.specs.Prelude.{slice_set}
 use Rattle.gc_plan.specs.Steps.{with_log, log_at}
+use Rattle.gc_copy.specs.contracts.collection.Collection.{the_view}
 use Rattle.gc_copy.specs.Words.{CollectionWords, collection_in}
 use Rattle.gc_copy.proofs.Logs.{there_in, entry_noted, noted_belongs}
 use Rattle.gc_copy.proofs.collection.Collection.note.Goals as goal
 
-made : (c : goal.After-self-1) → collection_in (record (record { space = c.self.inside.space; logs = c.self.inside.logs.items; scan_place = c.self.inside.scan_place.0; scan_field = c.self.inside.scan_field; marked = c.self.inside.marked }) { logs = slice_set c.self.inside.logs.items c.args.m c.note.new.self }) ≡ with_log (collection_in c.args.self.now) c.args.m (log_at (collection_in c.args.self.now) c.args.m ++ (c.args.object.0, c.args.field) ∷ [])
+made : (c : goal.After-self-1) → collection_in (record (the_view c.self.inside) { logs = slice_set c.self.inside.logs.items c.args.m c.note.new.self }) ≡ with_log (collection_in c.args.self.now) c.args.m (log_at (collection_in c.args.self.now) c.args.m ++ (c.args.object.0, c.args.field) ∷ [])
 made c =
-    let x : CollectionWords = (record { space = c.self.inside.space; logs = c.self.inside.logs.items; scan_place = c.self.inside.scan_place.0; scan_field = c.self.inside.scan_field; marked = c.self.inside.marked }) in
+    let x : CollectionWords = the_view c.self.inside in
     entry_noted x c.args.m c.args.object.0 c.args.field c.index_mut.result.now c.note.new.self (there_in x c.args.self.now c.args.m c.index_mut.result.now c.self.view_is c.requires.log c.index_mut.ensures.value) c.note.ensures.entries
     ∙ ap (λ (y : CollectionWords). with_log (collection_in y) c.args.m (log_at (collection_in y) c.args.m ++ (c.args.object.0, c.args.field) ∷ [])) c.self.view_is
 
@@ -17,5 +18,5 @@ returns-clause-collection c = made c
 
 pub returns-clause-belongs : goal.returns-clause-belongs
 returns-clause-belongs c = λ heap field k.
-    noted_belongs heap c.args.self.now (record (record { space = c.self.inside.space; logs = c.self.inside.logs.items; scan_place = c.self.inside.scan_place.0; scan_field = c.self.inside.scan_field; marked = c.self.inside.marked }) { logs = slice_set c.self.inside.logs.items c.args.m c.note.new.self }) c.args.m c.args.object.0 c.args.field c.requires.log (made c)
+    noted_belongs heap c.args.self.now (record (the_view c.self.inside) { logs = slice_set c.self.inside.logs.items c.args.m c.note.new.self }) c.args.m c.args.object.0 c.args.field c.requires.log (made c)
     (ap (λ (y : CollectionWords). y.marked) c.self.view_is) (length-set c.self.inside.logs.items c.args.m c.note.new.self ∙ ap (λ (y : CollectionWords). length y.logs) c.self.view_is) field k

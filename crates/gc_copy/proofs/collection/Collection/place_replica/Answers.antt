@@ -7,6 +7,7 @@ use Rattle.gc_words.specs.Space.{HasRoomFor}
 use Rattle.gc_heap.specs.Heap.{graph_in}
 use Rattle.gc_plan.specs.State.{replica_of}
 use Rattle.gc_plan.specs.Steps.{place_replica}
+use Rattle.gc_copy.specs.contracts.collection.Collection.{the_view}
 use Rattle.gc_copy.specs.Words.{CollectionWords, collection_in, BelongsTo}
 use Rattle.gc_copy.specs.Internal.Words.{KeepsRest}
 use Rattle.gc_copy.proofs.Spaces.{count_small}
@@ -18,7 +19,7 @@ same_header words a g h e f = (let both : Some g ≡ Some h = sym e ∙ f in cc)
 
 pub returns-then-not-has_room-clause-full : goal.returns-then-not-has_room-clause-full
 returns-then-not-has_room-clause-full c =
-    let x : CollectionWords = record { space = c.self.inside.space; logs = c.self.inside.logs.items; scan_place = c.self.inside.scan_place.0; scan_field = c.self.inside.scan_field; marked = c.self.inside.marked } in
+    let x : CollectionWords = the_view c.self.inside in
     let header : header_at c.args.heap.now.space.words c.args.original.0 ≡ Some c.header-header.result = subst (λ (s : Rattle.gc_words.specs.Space.SpaceWords). header_at s.words c.args.original.0 ≡ Some c.header-header.result) c.space.ensures.value c.header-header.ensures in
     let none : HasRoomFor x.space c.header-header.result.len → ⊥ = λ r. (let no : false ≡ true = sym c.if-not-has_room.true ∙ c.has_room.ensures.1 (subst (HasRoomFor x.space) (sym c.len.ensures) r) in absurd cc) in
     (subst (λ y. place_replica (collection_in y) c.args.original.0 (lookup (graph_in c.args.heap.now).objects c.args.original.0) ≡ None) c.self.view_is (full c.args.heap.now x c.args.original.0 c.header-header.result c.space.ensures.sound c.self.invariant.0 header none), refl, refl)
@@ -29,10 +30,10 @@ set_link-requires c =
     (λ h e. subst (HasRoomFor c.self.inside.space) (ap (λ (g : Header). g.len) (same_header c.args.heap.now.space.words c.args.original.0 c.header-header.result h (subst (λ (s : Rattle.gc_words.specs.Space.SpaceWords). header_at s.words c.args.original.0 ≡ Some c.header-header.result) c.space.ensures.value c.header-header.ensures) e)) (subst (HasRoomFor c.self.inside.space) c.len.ensures (c.has_room.ensures.0 c.if-not-has_room.false)))
     c.place_fresh-replica.ensures.words c.place_fresh-replica.ensures.at
 
-made : (c : goal.After-set_link_word) → Placing c.args.heap.now c.set_link_word.new.self (record { space = c.self.inside.space; logs = c.self.inside.logs.items; scan_place = c.self.inside.scan_place.0; scan_field = c.self.inside.scan_field; marked = c.self.inside.marked })
-    (record { space = c.set_link.new.self; logs = c.self.inside.logs.items; scan_place = c.self.inside.scan_place.0; scan_field = c.self.inside.scan_field; marked = c.self.inside.marked }) c.args.original.0
+made : (c : goal.After-set_link_word) → Placing c.args.heap.now c.set_link_word.new.self (the_view c.self.inside)
+    (record (the_view c.self.inside) { space = c.set_link.new.self }) c.args.original.0
 made c =
-    let x : CollectionWords = record { space = c.self.inside.space; logs = c.self.inside.logs.items; scan_place = c.self.inside.scan_place.0; scan_field = c.self.inside.scan_field; marked = c.self.inside.marked } in
+    let x : CollectionWords = the_view c.self.inside in
     let header : header_at c.args.heap.now.space.words c.args.original.0 ≡ Some c.header-header.result = subst (λ (s : Rattle.gc_words.specs.Space.SpaceWords). header_at s.words c.args.original.0 ≡ Some c.header-header.result) c.space.ensures.value c.header-header.ensures in
     let room : HasRoomFor x.space c.header-header.result.len = subst (HasRoomFor x.space) c.len.ensures (c.has_room.ensures.0 c.if-not-has_room.false) in
     placing_done c.args.heap.now c.set_link_word.new.self x (record x { space = c.set_link.new.self }) c.args.original.0 c.place_fresh-replica.result.0 c.from.result _ c.header-header.result c.place_fresh-replica.new.space
@@ -51,7 +52,7 @@ overflow_add-self c =
     omega arith
 
 pub returns-clause-placed : goal.returns-clause-placed
-returns-clause-placed c = let m = made c in subst (λ y. place_replica (collection_in y) c.args.original.0 (lookup (graph_in c.args.heap.now).objects c.args.original.0) ≡ Some (collection_in (record { space = c.set_link.new.self; logs = c.self.inside.logs.items; scan_place = c.self.inside.scan_place.0; scan_field = c.self.inside.scan_field; marked = c.self.inside.marked }))) c.self.view_is m.placed
+returns-clause-placed c = let m = made c in subst (λ y. place_replica (collection_in y) c.args.original.0 (lookup (graph_in c.args.heap.now).objects c.args.original.0) ≡ Some (collection_in (record (the_view c.self.inside) { space = c.set_link.new.self }))) c.self.view_is m.placed
 
 pub returns-clause-belongs : goal.returns-clause-belongs
 returns-clause-belongs c = (made c).belongs
@@ -62,4 +63,4 @@ returns-clause-graph c = (made c).graph
 pub returns-clause-rest : goal.returns-clause-rest
 returns-clause-rest c =
     let m = made c in
-    subst (λ y. KeepsRest y (record { space = c.set_link.new.self; logs = c.self.inside.logs.items; scan_place = c.self.inside.scan_place.0; scan_field = c.self.inside.scan_field; marked = c.self.inside.marked })) c.self.view_is m.rest
+    subst (λ y. KeepsRest y (record (the_view c.self.inside) { space = c.set_link.new.self })) c.self.view_is m.rest

@@ -8,6 +8,7 @@ use Rattle.gc_words.specs.Spelling.{link_at}
 use Rattle.gc_heap.specs.Heap.{HeapWords, graph_in}
 use Rattle.gc_plan.specs.State.{Replica, State, replica_of}
 use Rattle.gc_plan.specs.Steps.{scan_done, scan, bring_up_to_date}
+use Rattle.gc_copy.specs.contracts.collection.Collection.{the_view}
 use Rattle.gc_copy.specs.Words.{CollectionWords, IsCollection, collection_in, open_state, BelongsTo}
 use Rattle.gc_copy.specs.Internal.Words.{KeepsRest}
 use Rattle.gc_plan.specs.declared.step.Step.TheVariants as steps
@@ -27,21 +28,21 @@ not_scanned false field len e = (refl, eqb-false field len e)
 
 pub header-header-requires : goal.header-header-requires
 header-header-requires c =
-    let x : CollectionWords = record { space = c.self.inside.space; logs = c.self.inside.logs.items; scan_place = c.self.inside.scan_place.0; scan_field = c.self.inside.scan_field; marked = c.self.inside.marked } in
+    let x : CollectionWords = the_view c.self.inside in
     let k : BelongsTo c.args.heap.now x = subst (BelongsTo c.args.heap.now) (sym c.self.view_is) c.requires in
     let more : scan_done (collection_in x) ≡ false = ap (λ (y : CollectionWords). scan_done (collection_in y)) c.self.view_is ∙ sym c.scan_done.ensures ∙ c.if-scan_done.false in
     start c.args.heap.now x c.self.invariant.0 k more
 
 pub next_start-self-inside-requires : goal.next_start-self-inside-requires
 next_start-self-inside-requires c =
-    let x : CollectionWords = record { space = c.self.inside.space; logs = c.self.inside.logs.items; scan_place = c.self.inside.scan_place.0; scan_field = c.self.inside.scan_field; marked = c.self.inside.marked } in
+    let x : CollectionWords = the_view c.self.inside in
     let k : BelongsTo c.args.heap.now x = subst (BelongsTo c.args.heap.now) (sym c.self.view_is) c.requires in
     let more : scan_done (collection_in x) ≡ false = ap (λ (y : CollectionWords). scan_done (collection_in y)) c.self.view_is ∙ sym c.scan_done.ensures ∙ c.if-scan_done.false in
     start c.args.heap.now x c.self.invariant.0 k more
 
 pub returns-then-is_scanned-clause-step : goal.returns-then-is_scanned-clause-step
 returns-then-is_scanned-clause-step c =
-    let x : CollectionWords = record { space = c.self.inside.space; logs = c.self.inside.logs.items; scan_place = c.self.inside.scan_place.0; scan_field = c.self.inside.scan_field; marked = c.self.inside.marked } in
+    let x : CollectionWords = the_view c.self.inside in
     let k : BelongsTo c.args.heap.now x = subst (BelongsTo c.args.heap.now) (sym c.self.view_is) c.requires in
     let more : scan_done (collection_in x) ≡ false = ap (λ (y : CollectionWords). scan_done (collection_in y)) c.self.view_is ∙ sym c.scan_done.ensures ∙ c.if-scan_done.false in
     subst (λ y. scan (open_state c.args.heap.now y) (collection_in y) ≡ (Passed, open_state c.args.heap.now (record x { scan_place = c.next_start-self-inside.result.0; scan_field = 0 }))) c.self.view_is
@@ -49,14 +50,14 @@ returns-then-is_scanned-clause-step c =
 
 pub returns-then-is_scanned-clause-belongs : goal.returns-then-is_scanned-clause-belongs
 returns-then-is_scanned-clause-belongs c =
-    let x : CollectionWords = record { space = c.self.inside.space; logs = c.self.inside.logs.items; scan_place = c.self.inside.scan_place.0; scan_field = c.self.inside.scan_field; marked = c.self.inside.marked } in
+    let x : CollectionWords = the_view c.self.inside in
     let k : BelongsTo c.args.heap.now x = subst (BelongsTo c.args.heap.now) (sym c.self.view_is) c.requires in
     let more : scan_done (collection_in x) ≡ false = ap (λ (y : CollectionWords). scan_done (collection_in y)) c.self.view_is ∙ sym c.scan_done.ensures ∙ c.if-scan_done.false in
     passed_belongs c.args.heap.now x c.self.invariant.0 k more c.header-header.result c.header-header.ensures (scanned_by c.header-header.result.raw c.self.inside.scan_field c.header-header.result.len (sym c.is_scanned.ensures ∙ c.if-is_scanned.true)) c.next_start-self-inside.result.0 (c.next_start-self-inside.ensures.place c.header-header.result c.header-header.ensures)
 
 pub overflow_cast-original : goal.overflow_cast-original
 overflow_cast-original c =
-    let x : CollectionWords = record { space = c.self.inside.space; logs = c.self.inside.logs.items; scan_place = c.self.inside.scan_place.0; scan_field = c.self.inside.scan_field; marked = c.self.inside.marked } in
+    let x : CollectionWords = the_view c.self.inside in
     let k : BelongsTo c.args.heap.now x = subst (BelongsTo c.args.heap.now) (sym c.self.view_is) c.requires in
     let more : scan_done (collection_in x) ≡ false = ap (λ (y : CollectionWords). scan_done (collection_in y)) c.self.view_is ∙ sym c.scan_done.ensures ∙ c.if-scan_done.false in
     let fits : c.link.result < 2 ^ 32 = subst (λ n. n < 2 ^ 32) (sym c.link.ensures) (small c.args.heap.now x c.self.invariant.0 k more) in
@@ -64,7 +65,7 @@ overflow_cast-original c =
 
 pub bring_up_to_date-requires-clause-field : goal.bring_up_to_date-requires-clause-field
 bring_up_to_date-requires-clause-field c =
-    let x : CollectionWords = record { space = c.self.inside.space; logs = c.self.inside.logs.items; scan_place = c.self.inside.scan_place.0; scan_field = c.self.inside.scan_field; marked = c.self.inside.marked } in
+    let x : CollectionWords = the_view c.self.inside in
     let k : BelongsTo c.args.heap.now x = subst (BelongsTo c.args.heap.now) (sym c.self.view_is) c.requires in
     let more : scan_done (collection_in x) ≡ false = ap (λ (y : CollectionWords). scan_done (collection_in y)) c.self.view_is ∙ sym c.scan_done.ensures ∙ c.if-scan_done.false in
     subst (λ a. IsSome (field_at c.args.heap.now.space.words a c.self.inside.scan_field)) (sym c.link.ensures)
@@ -72,7 +73,7 @@ bring_up_to_date-requires-clause-field c =
 
 pub bring_up_to_date-requires-clause-replica : goal.bring_up_to_date-requires-clause-replica
 bring_up_to_date-requires-clause-replica c =
-    let x : CollectionWords = record { space = c.self.inside.space; logs = c.self.inside.logs.items; scan_place = c.self.inside.scan_place.0; scan_field = c.self.inside.scan_field; marked = c.self.inside.marked } in
+    let x : CollectionWords = the_view c.self.inside in
     let k : BelongsTo c.args.heap.now x = subst (BelongsTo c.args.heap.now) (sym c.self.view_is) c.requires in
     let more : scan_done (collection_in x) ≡ false = ap (λ (y : CollectionWords). scan_done (collection_in y)) c.self.view_is ∙ sym c.scan_done.ensures ∙ c.if-scan_done.false in
     subst (λ y. option_map (λ (r : Replica). r.place) (replica_of (collection_in y) c.link.result) ≡ Some c.self.inside.scan_place.0) c.self.view_is
@@ -80,7 +81,7 @@ bring_up_to_date-requires-clause-replica c =
 
 pub overflow_add-self : goal.overflow_add-self
 overflow_add-self c =
-    let x : CollectionWords = record { space = c.self.inside.space; logs = c.self.inside.logs.items; scan_place = c.self.inside.scan_place.0; scan_field = c.self.inside.scan_field; marked = c.self.inside.marked } in
+    let x : CollectionWords = the_view c.self.inside in
     let k : BelongsTo c.args.heap.now x = subst (BelongsTo c.args.heap.now) (sym c.self.view_is) c.requires in
     let more : scan_done (collection_in x) ≡ false = ap (λ (y : CollectionWords). scan_done (collection_in y)) c.self.view_is ∙ sym c.scan_done.ensures ∙ c.if-scan_done.false in
     let most = next_small c.args.heap.now x c.self.invariant.0 k more c.header-header.result c.header-header.ensures (not_scanned c.header-header.result.raw c.self.inside.scan_field c.header-header.result.len (sym c.is_scanned.ensures ∙ c.if-is_scanned.false)).1 in
@@ -97,11 +98,11 @@ brought_here heap x c after one a link i e f g b =
 
 pub returns-in-Ok-clause-step : goal.returns-in-Ok-clause-step
 returns-in-Ok-clause-step c =
-    let x : CollectionWords = record { space = c.self.inside.space; logs = c.self.inside.logs.items; scan_place = c.self.inside.scan_place.0; scan_field = c.self.inside.scan_field; marked = c.self.inside.marked } in
+    let x : CollectionWords = the_view c.self.inside in
     let k : BelongsTo c.args.heap.now x = subst (BelongsTo c.args.heap.now) (sym c.self.view_is) c.requires in
     let more : scan_done (collection_in x) ≡ false = ap (λ (y : CollectionWords). scan_done (collection_in y)) c.self.view_is ∙ sym c.scan_done.ensures ∙ c.if-scan_done.false in
     let left = not_scanned c.header-header.result.raw c.self.inside.scan_field c.header-header.result.len (sym c.is_scanned.ensures ∙ c.if-is_scanned.false) in
-    let after : CollectionWords = record { space = c.self-2.inside.space; logs = c.self-2.inside.logs.items; scan_place = c.self-2.inside.scan_place.0; scan_field = c.self-2.inside.scan_field; marked = c.self-2.inside.marked } in
+    let after : CollectionWords = the_view c.self-2.inside in
     let rest : KeepsRest x after = kept x c.args.self.now after c.bring_up_to_date.new.self c.self.view_is c.self-2.view_is c.in-Ok.ensures.rest in
     let brought = brought_here c.args.heap.now x c.args.self.now after c.bring_up_to_date.new.self c.link.result (link_at x.space.words x.scan_place) x.scan_field c.self.view_is c.self-2.view_is c.link.ensures c.in-Ok.ensures.brought in
     subst (λ y. scan (open_state c.args.heap.now y) (collection_in y) ≡ (Scanned, open_state c.bring_up_to_date.new.heap (record after { scan_field = c.self.inside.scan_field + 1 }))) c.self.view_is
@@ -109,11 +110,11 @@ returns-in-Ok-clause-step c =
 
 pub returns-in-Ok-clause-belongs : goal.returns-in-Ok-clause-belongs
 returns-in-Ok-clause-belongs c =
-    let x : CollectionWords = record { space = c.self.inside.space; logs = c.self.inside.logs.items; scan_place = c.self.inside.scan_place.0; scan_field = c.self.inside.scan_field; marked = c.self.inside.marked } in
+    let x : CollectionWords = the_view c.self.inside in
     let k : BelongsTo c.args.heap.now x = subst (BelongsTo c.args.heap.now) (sym c.self.view_is) c.requires in
     let more : scan_done (collection_in x) ≡ false = ap (λ (y : CollectionWords). scan_done (collection_in y)) c.self.view_is ∙ sym c.scan_done.ensures ∙ c.if-scan_done.false in
     let left = not_scanned c.header-header.result.raw c.self.inside.scan_field c.header-header.result.len (sym c.is_scanned.ensures ∙ c.if-is_scanned.false) in
-    let after : CollectionWords = record { space = c.self-2.inside.space; logs = c.self-2.inside.logs.items; scan_place = c.self-2.inside.scan_place.0; scan_field = c.self-2.inside.scan_field; marked = c.self-2.inside.marked } in
+    let after : CollectionWords = the_view c.self-2.inside in
     let rest : KeepsRest x after = kept x c.args.self.now after c.bring_up_to_date.new.self c.self.view_is c.self-2.view_is c.in-Ok.ensures.rest in
     let brought = brought_here c.args.heap.now x c.args.self.now after c.bring_up_to_date.new.self c.link.result (link_at x.space.words x.scan_place) x.scan_field c.self.view_is c.self-2.view_is c.link.ensures c.in-Ok.ensures.brought in
     scanned_belongs c.args.heap.now x c.self.invariant.0 k more c.header-header.result c.header-header.ensures left.0 left.1 c.bring_up_to_date.new.heap after c.in-Ok.ensures.graph rest
@@ -121,7 +122,7 @@ returns-in-Ok-clause-belongs c =
 
 pub returns-in-Err-clause-step : goal.returns-in-Err-clause-step
 returns-in-Err-clause-step c =
-    let x : CollectionWords = record { space = c.self.inside.space; logs = c.self.inside.logs.items; scan_place = c.self.inside.scan_place.0; scan_field = c.self.inside.scan_field; marked = c.self.inside.marked } in
+    let x : CollectionWords = the_view c.self.inside in
     let k : BelongsTo c.args.heap.now x = subst (BelongsTo c.args.heap.now) (sym c.self.view_is) c.requires in
     let more : scan_done (collection_in x) ≡ false = ap (λ (y : CollectionWords). scan_done (collection_in y)) c.self.view_is ∙ sym c.scan_done.ensures ∙ c.if-scan_done.false in
     let left = not_scanned c.header-header.result.raw c.self.inside.scan_field c.header-header.result.len (sym c.is_scanned.ensures ∙ c.if-is_scanned.false) in
