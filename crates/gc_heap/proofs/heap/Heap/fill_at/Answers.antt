@@ -1,6 +1,7 @@
 -- The object is known to take the value, so one written word is what the machine's `Put` leaves, and no link changes.
 use Rattle.std.proofs.Common.{◌≡◌, ◌<◌, length, sym, subst}
 use Rattle.std.specs.Prelude.{slice_index}
+use Rattle.gc_heap.specs.contracts.heap.Heap.{the_view}
 use Rattle.gc_heap.specs.Heap.{HeapWords}
 use Rattle.gc_heap.specs.Filling.{TakesFields}
 use Rattle.gc_heap.proofs.Commands.{read_root}
@@ -8,9 +9,9 @@ use Rattle.gc_heap.proofs.Filling.{Fills, fills}
 use Rattle.gc_heap.proofs.heap.Heap.fill_at.Goals as goal
 
 -- the heap after the write
-filled : (c : goal.After-set_field) → Fills c.args.self.now c.args.s c.args.object.0 c.args.i c.args.t c.index.result.now (record { space = c.set_field.new.self; roots = c.self.inside.roots.items; mutators = c.self.inside.mutators })
+filled : (c : goal.After-set_field) → Fills c.args.self.now c.args.s c.args.object.0 c.args.i c.args.t c.index.result.now (record (the_view c.self.inside) { space = c.set_field.new.self })
 filled c =
-    let h : HeapWords = record { space = c.self.inside.space; roots = c.self.inside.roots.items; mutators = c.self.inside.mutators } in
+    let h : HeapWords = the_view c.self.inside in
     let len = c.requires.field.0 in
     let takes : TakesFields h c.args.s c.args.object.0 len = subst (λ h. TakesFields h c.args.s c.args.object.0 len) (sym c.self.view_is) c.requires.field.1 in
     let less : c.args.t < length h.roots = subst (λ (h : HeapWords). c.args.t < length h.roots) (sym c.self.view_is) c.requires.giver in

@@ -2,14 +2,15 @@
 use Rattle.std.proofs.Common.{◌<◌, ◌≤◌, ◌+◌, ◌-◌, ◌*◌, length, subst, sym, arith}
 use Rattle.std.specs.Prelude.{get_or, slice_set}
 use Rattle.gc_graph.specs.Slots.{roots_of}
+use Rattle.gc_heap.specs.contracts.heap.Heap.{the_view}
 use Rattle.gc_heap.specs.Heap.{HeapWords}
 use Rattle.gc_heap.proofs.Numbers.{Leaves, all_left}
 use Rattle.gc_heap.proofs.heap.Heap.fill_numbers.Goals as goal
 
 -- what the call leaves, if there are numbers
-left : (c : goal.After-self-then-numbers-gt0-1) → Leaves c.args.self.now c.args.m c.args.s c.args.t c.args.object.0 c.args.first c.args.numbers.now (record { space = c.write_fields.new.space; roots = slice_set c.self.inside.roots.items c.place.result (2 * get_or c.args.numbers.now (length c.args.numbers.now - 1) 0 + 1); mutators = c.self.inside.mutators })
+left : (c : goal.After-self-then-numbers-gt0-1) → Leaves c.args.self.now c.args.m c.args.s c.args.t c.args.object.0 c.args.first c.args.numbers.now (record (the_view c.self.inside) { space = c.write_fields.new.space; roots = slice_set c.self.inside.roots.items c.place.result (2 * get_or c.args.numbers.now (length c.args.numbers.now - 1) 0 + 1) })
 left c =
-    let h : HeapWords = record { space = c.self.inside.space; roots = c.self.inside.roots.items; mutators = c.self.inside.mutators } in
+    let h : HeapWords = the_view c.self.inside in
     let mutator : c.args.m < h.mutators = subst (λ (g : HeapWords). c.args.m < g.mutators) (sym c.self.view_is) c.requires.mutator in
     let roots : roots_of h.mutators ≤ length h.roots = c.self.invariant.roots in
     let inside : c.place.result < length h.roots = omega (arith, c.place.ensures.bound, mutator, roots) in

@@ -5,6 +5,7 @@ use Rattle.gc_graph.specs.Graph.{Ref}
 use Rattle.gc_words.specs.Word.{word_of}
 use Rattle.gc_words.specs.Space.{SpaceWords, CanPlace, end_of, with_object}
 use Rattle.gc_words.specs.declared.header.Header.{Header}
+use Rattle.gc_heap.specs.contracts.heap.Heap.{the_view}
 use Rattle.gc_heap.specs.Heap.{HeapWords, IsHeap, KeepsLinks}
 use Rattle.gc_heap.specs.Filling.{TakesFields}
 use Rattle.gc_heap.proofs.Commands.{made_heap}
@@ -21,7 +22,7 @@ invariant_of-self c =
     let can : CanPlace s header = record { shaped = c.self.invariant.space; header = record { kind = omega arith; len = omega arith }; room = c.has_room.ensures.0 c.if-not-has_room.false } in
     let space : c.place-at.new.self ≡ with_object s header = c.place-at.ensures.words ∙ ap (with_object s) c.header_of.ensures in
     let word : c.encode.result ≡ word_of (Ref (end_of s)) = c.encode.ensures.word ∙ ap (λ n. 2 * n) c.place-at.ensures.at in
-    let h : HeapWords = record { space = s; roots = c.self.inside.roots.items; mutators = c.self.inside.mutators } in
+    let h : HeapWords = record (the_view c.self.inside) { space = s } in
     let made : IsHeap (record { space = with_object s header; roots = slice_set h.roots c.args.place (word_of (Ref (end_of s))); mutators = h.mutators })
     = made_heap h c.args.place header c.self.invariant can in
     subst (λ x. IsHeap (record { space = x; roots = slice_set h.roots c.args.place c.encode.result; mutators = h.mutators })) (sym space)
@@ -34,7 +35,7 @@ returns-clause-sound c =
     let can : CanPlace s header = record { shaped = c.self.invariant.space; header = record { kind = omega arith; len = omega arith }; room = c.has_room.ensures.0 c.if-not-has_room.false } in
     let space : c.place-at.new.self ≡ with_object s header = c.place-at.ensures.words ∙ ap (with_object s) c.header_of.ensures in
     let word : c.encode.result ≡ word_of (Ref (end_of s)) = c.encode.ensures.word ∙ ap (λ n. 2 * n) c.place-at.ensures.at in
-    let h : HeapWords = record { space = s; roots = c.self.inside.roots.items; mutators = c.self.inside.mutators } in
+    let h : HeapWords = record (the_view c.self.inside) { space = s } in
     let made : IsHeap (record { space = with_object s header; roots = slice_set h.roots c.args.place (word_of (Ref (end_of s))); mutators = h.mutators })
     = made_heap h c.args.place header c.self.invariant can in
     subst (λ x. IsHeap (record { space = x; roots = slice_set h.roots c.args.place c.encode.result; mutators = h.mutators })) (sym space)
@@ -56,7 +57,7 @@ returns-clause-step c =
     let can : CanPlace s header = record { shaped = c.self.invariant.space; header = record { kind = omega arith; len = omega arith }; room = c.has_room.ensures.0 c.if-not-has_room.false } in
     let space : c.place-at.new.self ≡ with_object s header = c.place-at.ensures.words ∙ ap (with_object s) c.header_of.ensures in
     let word : c.encode.result ≡ word_of (Ref (end_of s)) = c.encode.ensures.word ∙ ap (λ n. 2 * n) c.place-at.ensures.at in
-    let h : HeapWords = record { space = s; roots = c.self.inside.roots.items; mutators = c.self.inside.mutators } in
+    let h : HeapWords = record (the_view c.self.inside) { space = s } in
     let after : HeapWords = record { space = c.place-at.new.self; roots = slice_set h.roots c.args.place c.encode.result; mutators = h.mutators } in
     let is : with_new h c.args.place header ≡ after = λ i. record { space = sym space i; roots = slice_set h.roots c.args.place (sym word i); mutators = h.mutators } in
     subst (λ h. MakesAtEnd h c.args.place c.args.raw c.args.kind c.args.len Made after) c.self.view_is
@@ -69,7 +70,7 @@ returns-clause-fields c = λ made plain.
     let can : CanPlace s header = record { shaped = c.self.invariant.space; header = record { kind = omega arith; len = omega arith }; room = c.has_room.ensures.0 c.if-not-has_room.false } in
     let space : c.place-at.new.self ≡ with_object s header = c.place-at.ensures.words ∙ ap (with_object s) c.header_of.ensures in
     let word : c.encode.result ≡ word_of (Ref (end_of s)) = c.encode.ensures.word ∙ ap (λ n. 2 * n) c.place-at.ensures.at in
-    let h : HeapWords = record { space = s; roots = c.self.inside.roots.items; mutators = c.self.inside.mutators } in
+    let h : HeapWords = record (the_view c.self.inside) { space = s } in
     let after : HeapWords = record { space = c.place-at.new.self; roots = slice_set h.roots c.args.place c.encode.result; mutators = h.mutators } in
     let is : with_new h c.args.place header ≡ after = λ i. record { space = sym space i; roots = slice_set h.roots c.args.place (sym word i); mutators = h.mutators } in
     let inside : c.args.place < length h.roots = subst (λ (h : HeapWords). c.args.place < length h.roots) (sym c.self.view_is) c.requires in

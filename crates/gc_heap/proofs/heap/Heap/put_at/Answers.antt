@@ -10,6 +10,7 @@ use Rattle.gc_words.specs.Image.{field_at}
 use Rattle.gc_words.specs.Layout.{field_place}
 use Rattle.gc_words.specs.Space.{with_word}
 use Rattle.gc_words.specs.Closed.{IsRootWord, IsFieldWord}
+use Rattle.gc_heap.specs.contracts.heap.Heap.{the_view}
 use Rattle.gc_heap.specs.Heap.{HeapWords, IsHeap, KeepsLinks, graph_in}
 use Rattle.gc_heap.proofs.Commands.{Points, points, read_root, root_word, at_root, not_there, header_is, put_no_field, put_refused, put_done, written_heap}
 use Rattle.gc_heap.proofs.Links.{links_written}
@@ -17,7 +18,7 @@ use Rattle.gc_heap.proofs.heap.Heap.put_at.Goals as goal
 
 pub returns-then-not-has_field-clause-graph : goal.returns-then-not-has_field-clause-graph
 returns-then-not-has_field-clause-graph c =
-    let h : HeapWords = record { space = c.self.inside.space; roots = c.self.inside.roots.items; mutators = c.self.inside.mutators } in
+    let h : HeapWords = the_view c.self.inside in
     let less : c.args.s < length h.roots = subst (λ (h : HeapWords). c.args.s < length h.roots) (sym c.self.view_is) c.requires.target in
     let p : Points h c.args.s c.in-Some.at.0 = points h c.args.s c.in-Some.at.0 _ c.self.invariant less (read_root h h.roots c.args.s _ (λ i. h.roots) less c.index-target.ensures) c.in-Some.ensures in
     let G : HeapWords → Type 0 = λ h. (let object = object_of (graph_in h).objects (root (graph_in h) c.args.s) in
@@ -30,14 +31,14 @@ no_word (Some x) none = absurd (none x refl)
 
 pub field_word-requires : goal.field_word-requires
 field_word-requires c =
-    let h : HeapWords = record { space = c.self.inside.space; roots = c.self.inside.roots.items; mutators = c.self.inside.mutators } in
+    let h : HeapWords = the_view c.self.inside in
     let less' : c.args.t < length h.roots = subst (λ (h : HeapWords). c.args.t < length h.roots) (sym c.self.view_is) c.requires.giver in
     let read' : c.index.result.now ≡ slice_index h.roots c.args.t = read_root h h.roots c.args.t _ (λ i. h.roots) less' c.index.ensures in
     subst (IsRootWord h.space.words) (sym read') (root_word h c.args.t c.self.invariant less')
 
 pub returns-in_default-field_word-clause-graph : goal.returns-in_default-field_word-clause-graph
 returns-in_default-field_word-clause-graph c =
-    let h : HeapWords = record { space = c.self.inside.space; roots = c.self.inside.roots.items; mutators = c.self.inside.mutators } in
+    let h : HeapWords = the_view c.self.inside in
     let less : c.args.s < length h.roots = subst (λ (h : HeapWords). c.args.s < length h.roots) (sym c.self.view_is) c.requires.target in
     let less' : c.args.t < length h.roots = subst (λ (h : HeapWords). c.args.t < length h.roots) (sym c.self.view_is) c.requires.giver in
     let read' : c.index.result.now ≡ slice_index h.roots c.args.t = read_root h h.roots c.args.t _ (λ i. h.roots) less' c.index.ensures in
@@ -53,7 +54,7 @@ returns-in_default-field_word-clause-graph c =
 
 pub invariant_of-self : goal.invariant_of-self
 invariant_of-self c =
-    let h : HeapWords = record { space = c.self.inside.space; roots = c.self.inside.roots.items; mutators = c.self.inside.mutators } in
+    let h : HeapWords = the_view c.self.inside in
     let less : c.args.s < length h.roots = subst (λ (h : HeapWords). c.args.s < length h.roots) (sym c.self.view_is) c.requires.target in
     let p : Points h c.args.s c.in-Some.at.0 = points h c.args.s c.in-Some.at.0 _ c.self.invariant less (read_root h h.roots c.args.s _ (λ i. h.roots) less c.index-target.ensures) c.in-Some.ensures in
     let header : p.block.header ≡ c.header-header.result = header_is h c.args.s c.in-Some.at.0 c.header-header.result p c.header-header.ensures in
@@ -63,7 +64,7 @@ invariant_of-self c =
 
 pub returns-clause-sound : goal.returns-clause-sound
 returns-clause-sound c =
-    let h : HeapWords = record { space = c.self.inside.space; roots = c.self.inside.roots.items; mutators = c.self.inside.mutators } in
+    let h : HeapWords = the_view c.self.inside in
     let less : c.args.s < length h.roots = subst (λ (h : HeapWords). c.args.s < length h.roots) (sym c.self.view_is) c.requires.target in
     let p : Points h c.args.s c.in-Some.at.0 = points h c.args.s c.in-Some.at.0 _ c.self.invariant less (read_root h h.roots c.args.s _ (λ i. h.roots) less c.index-target.ensures) c.in-Some.ensures in
     let header : p.block.header ≡ c.header-header.result = header_is h c.args.s c.in-Some.at.0 c.header-header.result p c.header-header.ensures in
@@ -73,14 +74,14 @@ returns-clause-sound c =
 
 pub returns-clause-links : goal.returns-clause-links
 returns-clause-links c =
-    let h : HeapWords = record { space = c.self.inside.space; roots = c.self.inside.roots.items; mutators = c.self.inside.mutators } in
+    let h : HeapWords = the_view c.self.inside in
     let some : is_some (field_at h.space.words c.in-Some.at.0 c.args.i) ≡ true = c.has_field.ensures.0 c.if-not-has_field.false in
     subst (λ (h : HeapWords). KeepsLinks h.space.words c.set_field.new.self.words) c.self.view_is
     (subst (λ s. KeepsLinks h.space.words s.words) (sym c.set_field.ensures.words) (links_written h.space c.in-Some.at.0 c.args.i c.in-Some-field_word.word c.self.invariant.space some))
 
 pub returns-clause-graph : goal.returns-clause-graph
 returns-clause-graph c =
-    let h : HeapWords = record { space = c.self.inside.space; roots = c.self.inside.roots.items; mutators = c.self.inside.mutators } in
+    let h : HeapWords = the_view c.self.inside in
     let less : c.args.s < length h.roots = subst (λ (h : HeapWords). c.args.s < length h.roots) (sym c.self.view_is) c.requires.target in
     let less' : c.args.t < length h.roots = subst (λ (h : HeapWords). c.args.t < length h.roots) (sym c.self.view_is) c.requires.giver in
     let read' : c.index.result.now ≡ slice_index h.roots c.args.t = read_root h h.roots c.args.t _ (λ i. h.roots) less' c.index.ensures in

@@ -6,13 +6,14 @@ use Rattle.gc_graph.specs.Machine.{same}
 use Rattle.gc_graph.specs.declared.reply.Reply.TheVariants.{Yes, No}
 use Rattle.gc_words.specs.Word.{value_of}
 use Rattle.gc_words.specs.Closed.{IsRootWord}
+use Rattle.gc_heap.specs.contracts.heap.Heap.{the_view}
 use Rattle.gc_heap.specs.Heap.{HeapWords, graph_in}
 use Rattle.gc_heap.proofs.Commands.{read_root, root_word, at_root, same_words, other_words}
 use Rattle.gc_heap.proofs.heap.Heap.same_at.Goals as goal
 
 pub returns-then-index : goal.returns-then-index
 returns-then-index c =
-    let h : HeapWords = record { space = c.self.inside.space; roots = c.self.inside.roots.items; mutators = c.self.inside.mutators } in
+    let h : HeapWords = the_view c.self.inside in
     let less : c.args.s < length h.roots = subst (λ (h : HeapWords). c.args.s < length h.roots) (sym c.self.view_is) c.requires.one in
     let less' : c.args.t < length h.roots = subst (λ (h : HeapWords). c.args.t < length h.roots) (sym c.self.view_is) c.requires.other in
     let read : c.index.result.now ≡ slice_index h.roots c.args.s = read_root h h.roots c.args.s _ (λ i. h.roots) less c.index.ensures in
@@ -26,7 +27,7 @@ returns-then-index c =
 
 pub returns-else-index : goal.returns-else-index
 returns-else-index c =
-    let h : HeapWords = record { space = c.self.inside.space; roots = c.self.inside.roots.items; mutators = c.self.inside.mutators } in
+    let h : HeapWords = the_view c.self.inside in
     let less : c.args.s < length h.roots = subst (λ (h : HeapWords). c.args.s < length h.roots) (sym c.self.view_is) c.requires.one in
     let less' : c.args.t < length h.roots = subst (λ (h : HeapWords). c.args.t < length h.roots) (sym c.self.view_is) c.requires.other in
     let read : c.index.result.now ≡ slice_index h.roots c.args.s = read_root h h.roots c.args.s _ (λ i. h.roots) less c.index.ensures in

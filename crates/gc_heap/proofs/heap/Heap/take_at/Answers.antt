@@ -10,13 +10,14 @@ use Rattle.gc_words.specs.Image.{header_at, field_at}
 use Rattle.gc_words.specs.declared.header.Header.{Header}
 use Rattle.gc_words.specs.Closed.{IsFieldWord}
 use Rattle.gc_words.proofs.Public.{closed_field_read}
+use Rattle.gc_heap.specs.contracts.heap.Heap.{the_view}
 use Rattle.gc_heap.specs.Heap.{HeapWords, IsHeap, graph_in}
 use Rattle.gc_heap.proofs.Commands.{Points, points, header_is, read_root, not_there, got_no_field, got, taken_heap}
 use Rattle.gc_heap.proofs.heap.Heap.take_at.Goals as goal
 
 pub returns-then-not-has_field-clause-graph : goal.returns-then-not-has_field-clause-graph
 returns-then-not-has_field-clause-graph c =
-    let h : HeapWords = record { space = c.self.inside.space; roots = c.self.inside.roots.items; mutators = c.self.inside.mutators } in
+    let h : HeapWords = the_view c.self.inside in
     let less : c.args.s < length h.roots = subst (λ (h : HeapWords). c.args.s < length h.roots) (sym c.self.view_is) c.requires.giver in
     let p : Points h c.args.s c.in-Some.at.0 = points h c.args.s c.in-Some.at.0 _ c.self.invariant less (read_root h h.roots c.args.s _ (λ i. h.roots) less c.index-target.ensures) c.in-Some.ensures in
     let G : HeapWords → Type 0 = λ h. (let object = object_of (graph_in h).objects (root (graph_in h) c.args.s) in ◌≡◌ {A = Reply × Graph} (NoField, graph_in h) (get_field (graph_in h) c.args.d object (field_of object c.args.i))) in
@@ -28,19 +29,19 @@ taken h s a i f g p heap header read = subst (λ g. IsFieldWord h.space.words g 
 
 pub root_word-word-requires : goal.root_word-word-requires
 root_word-word-requires c =
-    let h : HeapWords = record { space = c.self.inside.space; roots = c.self.inside.roots.items; mutators = c.self.inside.mutators } in
+    let h : HeapWords = the_view c.self.inside in
     let less : c.args.s < length h.roots = subst (λ (h : HeapWords). c.args.s < length h.roots) (sym c.self.view_is) c.requires.giver in
     let p : Points h c.args.s c.in-Some.at.0 = points h c.args.s c.in-Some.at.0 _ c.self.invariant less (read_root h h.roots c.args.s _ (λ i. h.roots) less c.index-target.ensures) c.in-Some.ensures in
     taken h c.args.s c.in-Some.at.0 c.args.i c.field-field.result c.header-header.result p c.self.invariant c.header-header.ensures c.field-field.ensures
 
 pub invariant_of-self : goal.invariant_of-self
 invariant_of-self c =
-    let h : HeapWords = record { space = c.self.inside.space; roots = c.self.inside.roots.items; mutators = c.self.inside.mutators } in
+    let h : HeapWords = the_view c.self.inside in
     taken_heap h c.args.d c.root_word-word.result c.self.invariant c.root_word-word.ensures.word
 
 pub returns-clause-graph : goal.returns-clause-graph
 returns-clause-graph c =
-    let h : HeapWords = record { space = c.self.inside.space; roots = c.self.inside.roots.items; mutators = c.self.inside.mutators } in
+    let h : HeapWords = the_view c.self.inside in
     let less : c.args.s < length h.roots = subst (λ (h : HeapWords). c.args.s < length h.roots) (sym c.self.view_is) c.requires.giver in
     let p : Points h c.args.s c.in-Some.at.0 = points h c.args.s c.in-Some.at.0 _ c.self.invariant less (read_root h h.roots c.args.s _ (λ i. h.roots) less c.index-target.ensures) c.in-Some.ensures in
     let after : HeapWords = record h { roots = slice_set h.roots c.args.d c.root_word-word.result } in
@@ -51,5 +52,5 @@ returns-clause-graph c =
 
 pub returns-clause-sound : goal.returns-clause-sound
 returns-clause-sound c =
-    let h : HeapWords = record { space = c.self.inside.space; roots = c.self.inside.roots.items; mutators = c.self.inside.mutators } in
+    let h : HeapWords = the_view c.self.inside in
     taken_heap h c.args.d c.root_word-word.result c.self.invariant c.root_word-word.ensures.word
