@@ -75,12 +75,12 @@ impl CollectedHeap {
 fn are_numbers(words: &[u64]) -> bool
     ensures { result ≡ list_all is_number_word words.now }
 {
+    // A loop without a branch for each word, which the compiler turns into vector code.
+    let mut so_far = true;
     for k in 0..words.len() {
-        if words[k] >= 1 << 63 {
-            return false;
-        }
+        so_far &= words[k] < 1 << 63;
     }
-    true
+    so_far
 }
 
 // Writes the numbers to the object in `s`, which has `count` fields, and logs each field. `reserve_more` makes room for the entries beforehand.
