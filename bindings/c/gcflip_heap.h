@@ -316,15 +316,16 @@ typedef struct gcflip_pace {
     uint32_t factor; /* a collection begins where the heap's end is this many hundredths of `left`: 100 to 10000 */
     uint32_t rate;   /* the steps for each word allocated and each entry logged; 0: the counts decide */
     uint32_t least;  /* no collection begins while the heap's end is below this, unless half of the room that the last flip left is used up */
-    uint32_t words;  /* a call ends once its replicas took this many words in the new space; 0: the steps alone bound it */
+    uint32_t words;  /* a call ends once it performed this many steps, or its replicas took this many words; 0: it performs all steps due */
     uint32_t left;   /* the heap's end after the last flip */
     uint32_t end;    /* the heap's end after the last call */
     uint32_t logged; /* the log entries after the last call */
-    uint32_t owed;   /* the steps that were due at the last call, and that it left because it took its words first */
+    uint32_t owed;   /* the steps that were due at the last call, and that `words` kept it from */
 } gcflip_pace;
 
 /* Returns the pace for a heap that was just opened. It begins a collection where the heap has twice the words that the last flip left,
- * but at least 65536, or where half of the room that the flip left is used up. A call ends once it has copied 1024 words, which is 8 KiB. */
+ * but at least 65536, or where half of the room that the flip left is used up. A call ends once it has performed 1024 steps, or copied 1024
+ * words. */
 static inline gcflip_pace gcflip_pace_default(void)
 {
     gcflip_pace pace = {200, 0, 65536, 1024, 1, 1, 0, 0};
@@ -350,21 +351,21 @@ uint32_t gcflip_heap_pace(const gcflip_heap *heap, gcflip_pace *pace);
  * Quotients are rounded down. It returns at most UINT32_MAX. */
 uint32_t gcflip_pace_due(const gcflip_pace *pace, const gcflip_counts *counts, uint32_t wanted);
 
-/* Performs the useful steps that are due before the program allocates `wanted` words, and writes its report to `work`: as gcflip_heap_work
- * does if pace->words is 0, and otherwise as gcflip_heap_work_within does with that number. If none is due, all members of the report are 0.
- * `wanted` may be 0. It returns GCFLIP_DONE, GCFLIP_OUT_OF_RANGE if the factor is out of range, or GCFLIP_NO_MEMORY if an allocation of the
- * first step fails; then nothing has changed, nor has the pace.
+/* Performs the useful steps that are due before the program allocates `wanted` words, and writes its report to `work`. If pace->words is 0, it
+ * does what gcflip_heap_work does with these steps. Otherwise it does what gcflip_heap_work_within does with at most pace->words of them, and
+ * with pace->words. If none is due, all members of the report are 0. `wanted` may be 0. It returns GCFLIP_DONE, GCFLIP_OUT_OF_RANGE if the
+ * factor is out of range, or GCFLIP_NO_MEMORY if an allocation of the first step fails; then nothing has changed, nor has the pace.
  *
- * After GCFLIP_DONE, the pace remembers the counts. The call owes the steps that it left because it took its words: if work->copied >=
- * pace->words > 0, and the last step neither flipped nor found no room, `owed` becomes the steps that were due less work->steps. Otherwise it
- * becomes 0. The next call adds them to the steps that are due. So with a bound, a call that finds no room for `wanted` words may end before
- * its flip too, and the program calls it again.
+ * After GCFLIP_DONE, the pace remembers the counts, and owes the steps that pace->words kept the call from: if that is above 0, work->steps or
+ * work->copied is as much or more, and the last step neither flipped nor found no room, `owed` becomes the steps that were due less
+ * work->steps. Otherwise it becomes 0. The next call adds them to the steps that are due. So with a bound, a call that finds no room for
+ * `wanted` words may end before its flip, and the program calls it again.
  *
  * With the counts before the call and those after it:
  *
  *     logged after + work->steps <= steps left before
  *
- * So many steps are enough for the flip, unless one finds no room, an allocation fails, or the call takes its words first.
+ * So many steps are enough for the flip, unless one finds no room, an allocation fails, or pace->words ends the call first.
  *
  * The work that is left is a number above `logged`, and at most `steps left`. Each step lowers it, and a command raises it by the words that it
  * allocates and the entries that it logs. The call that begins a collection leaves at most `end` of it. While that collection is open, no

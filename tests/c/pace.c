@@ -185,7 +185,7 @@ static void begin_with_four(uint32_t size, uint32_t words)
     EXPECT(gcflip_heap_pace(&heap, &pace) == GCFLIP_DONE && is_pace(41, 41, 0));
 }
 
-/* Calls that end by their words leave the other steps to the next calls, each step once. */
+/* Calls that are bounded leave the other steps to the next calls, each step once. */
 static void calls_that_owe(void)
 {
     begin_with_four(200, 10);
@@ -196,9 +196,12 @@ static void calls_that_owe(void)
     EXPECT(gcflip_heap_put_number(&heap, 0, 0, 0, 4, 5) == GCFLIP_DONE); /* 1 times 2 more */
     expect_call(0, 1, 10, GCFLIP_COPIED, 39);
     EXPECT(is_pace(41, 41, 1));
-    expect_call(0, 38, 0, GCFLIP_FLIPPED, 0); /* 36 for the fields and behind them, 1 for the entry, and the flip */
+    expect_call(0, 10, 0, GCFLIP_SCANNED, 29); /* 36 steps for the fields and behind them, 1 for the entry, and the flip */
+    expect_call(0, 10, 0, GCFLIP_SCANNED, 19);
+    expect_call(0, 10, 0, GCFLIP_SCANNED, 9);
+    expect_call(0, 8, 0, GCFLIP_FLIPPED, 0);
     EXPECT(work.pairs == 4 && is_pace(41, 41, 0));
-    /* a whole collection for want of room, in calls that end by their words */
+    /* a whole collection for want of room, in three calls */
     expect_call(159, 2, 10, GCFLIP_COPIED, 40);
     pace.words = 11;
     expect_call(159, 2, 20, GCFLIP_COPIED, 39);
@@ -222,6 +225,12 @@ static void calls_that_owe(void)
     EXPECT(gcflip_heap_close(&heap) == GCFLIP_DONE);
 }
 
+/* Returns whether the call was bounded by the words of the pace: it performed as many steps, or copied as many words. */
+static bool took_its_words(void)
+{
+    return pace.words > 0 && (work.steps >= pace.words || work.copied >= pace.words);
+}
+
 /* Performs paced work, and checks that it performs or owes as many steps as are due, unless it flipped, and that it leaves no more log entries
  * than it promises. */
 static void paced(uint32_t wanted)
@@ -234,10 +243,10 @@ static void paced(uint32_t wanted)
     steps = gcflip_pace_due(&pace, &counts, wanted);
     EXPECT(gcflip_heap_work_paced(&heap, &pace, wanted, &work) == GCFLIP_DONE && work.last != GCFLIP_NO_ROOM);
     EXPECT(work.steps + pace.owed == steps || (work.last == GCFLIP_FLIPPED && work.steps < steps && pace.owed == 0));
-    EXPECT(pace.owed == 0 || (pace.words > 0 && work.copied >= pace.words));
+    EXPECT(pace.owed == 0 || took_its_words());
     flips += work.last == GCFLIP_FLIPPED;
     if (steps > 0 && wanted >= counts.free)
-        EXPECT(work.last == GCFLIP_FLIPPED || work.copied >= pace.words); /* the steps that are left are enough */
+        EXPECT(work.last == GCFLIP_FLIPPED || took_its_words()); /* the steps that are left are enough */
     read_counts();
     EXPECT(counts.logged + work.steps <= left);
 }
@@ -350,17 +359,17 @@ static void paced_by_hand(uint32_t wanted)
     steps = gcflip_pace_due(&pace, &counts, wanted);
     work = none;
     if (steps > 0)
-        EXPECT(gcflip_heap_work_within(&heap, steps, pace.words, &work) == GCFLIP_DONE);
+        EXPECT(gcflip_heap_work_within(&heap, steps < pace.words ? steps : pace.words, pace.words, &work) == GCFLIP_DONE);
     read_counts();
     if (work.last == GCFLIP_FLIPPED)
         pace.left = counts.end;
     pace.end = counts.end;
     pace.logged = counts.logged;
-    pace.owed = work.last != GCFLIP_FLIPPED && work.copied >= pace.words ? steps - work.steps : 0;
+    pace.owed = took_its_words() && work.last != GCFLIP_FLIPPED ? steps - work.steps : 0;
 }
 
-/* A program that keeps an array of long arrays, and makes garbage. In each call that may copy, the replicas take at most one array more than
- * the pace allows, and the collection flips before the room is used up. The calls of the second run are made by hand, and report the same. */
+/* A program that keeps an array of long arrays, and makes garbage. No call performs more steps than the pace allows, its replicas take at most one
+ * array more, and the collection flips before the room is used up. The calls of the second run are made by hand, and report the same. */
 static void long_objects(void (*perform)(uint32_t wanted), bool is_first)
 {
     uint32_t ends_by_words = 0;
@@ -376,7 +385,7 @@ static void long_objects(void (*perform)(uint32_t wanted), bool is_first)
     flips = most_owed = 0;
     for (calls = 0; calls < CALLS; calls++) {
         perform(GARBAGE + 2);
-        EXPECT(work.copied < BOUND + ARRAY);
+        EXPECT(work.steps <= BOUND && work.copied < BOUND + ARRAY);
         ends_by_words += work.copied >= BOUND;
         if (pace.owed > most_owed)
             most_owed = pace.owed;

@@ -280,7 +280,7 @@ class Model:
         last = made[-1][1] if made else ""
         self.left = len(self.space.words) if last.startswith("flipped") else self.left
         self.end, self.logged = len(self.space.words), self.entries()
-        took = copied >= self.words > 0 and not last.startswith("flipped") and last != "no room"
+        took = max(len(made), copied) >= self.words > 0 and not last.startswith("flipped") and last != "no room"
         self.owed = due - len(made) if took else 0
 
     def steps_due(self, wanted):

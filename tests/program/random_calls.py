@@ -340,7 +340,7 @@ class Calls:
     def add_work_paced(self):
         model, wanted = self.model, self.chance.choice([0, 0, 1, 5, 30, self.model.space.size, (1 << 32) - 1])
         due = model.steps_due(wanted)
-        made, report = self.worked(due, words=model.words or None) if due else ([], "nothing")
+        made, report = self.worked(min(due, model.words or due), words=model.words or None) if due else ([], "nothing")
         model.remember_work(due, made, int(report.split()[2]) if made else 0)
         remembered = "%d %d %d %d" % (model.left, model.end, model.logged, model.owed)
         self.call(["work_paced", wanted], "%s, %s" % (report, remembered), [line for line, _ in made], [reply for _, reply in made])

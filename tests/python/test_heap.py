@@ -710,7 +710,7 @@ class Paced(unittest.TestCase):
             self.assertEqual((pace.owed, heap.steps_due(pace)), (40, 40))
             self.assertEqual([heap.work_paced(pace) for _ in range(3)], [(1, 10, Step.COPIED, 0)] * 3)
             self.assertEqual(pace.owed, 37)
-            self.assertEqual(heap.work_paced(pace), (37, 0, Step.FLIPPED, 4))
+            self.assertEqual([heap.work_paced(pace) for _ in range(4)], [(10, 0, Step.SCANNED, 0)] * 3 + [(7, 0, Step.FLIPPED, 4)])
             self.assertEqual((pace.owed, heap.work_paced(pace)), (0, None))
 
     def test_refusals(self):

@@ -131,7 +131,7 @@ class Pace:
 
     A collection begins where the heap has `factor` hundredths, 100 to 10000, of the words that the last flip left, but at least `least` words,
     or where half of the room that the flip left is used up. `rate` steps are due for each word allocated and each entry logged; with 0
-    the counts decide. A call ends once it has copied `words` words, as `work_within` does; with 0 only its steps bound it.
+    the counts decide. A call ends once it has performed `words` steps, or copied `words` words; with 0 it performs all steps that are due.
     """
 
     def __init__(self, factor: int = 200, rate: int = 0, least: int = 65536, words: int = 1024) -> None:
@@ -139,8 +139,7 @@ class Pace:
 
     @property
     def owed(self) -> int:
-        """The steps that were due at the last call, and that it left because it had copied its words first. The next call adds them to those
-        that are due."""
+        """The steps that were due at the last call, and that its words kept it from. The next call adds them to those that are due."""
         return int(self._raw.owed)
 
 
@@ -350,8 +349,8 @@ class Heap:
 
     def work_paced(self, pace: Pace, wanted: int = 0) -> Work | None:
         """Performs the useful steps that are due before the program allocates `wanted` words, and remembers the heap in the pace. Returns None
-        if none is due. Ends early for the reasons of `work`, and once it has copied as many words as the pace allows; the pace then owes the
-        other steps. Raises OutOfRange if the pace's factor is out of range, and OutOfMemory if an allocation of the first step fails; then
+        if none is due. Ends early for the reasons of `work`, and once it has performed as many steps, or copied as many words, as the
+        pace allows; the pace then owes the other steps. Raises OutOfRange if the pace's factor is out of range, and OutOfMemory if an allocation of the first step fails; then
         nothing has changed."""
         work = library.Work()
         self._call("work_paced", pace._raw, wanted, work)

@@ -1,7 +1,7 @@
 -- What paced work leaves in the logs, and that it stays ahead of the mutators, but for the steps that it owes.
 use Rattle.std.proofs.Common.{◌≡◌, ◌≢◌, ◌⊎◌, inl, inr, ⊎_elim, ℕ, zero, suc, ◌+◌, ◌≤◌, true, false, Option, Some, None, refl, ap, ◌∙◌, subst, arith}
 use Rattle.std.specs.Prelude.{min, IsTrue}
-use Rattle.std.proofs.lemmas.Bool.{and_from, le-leb}
+use Rattle.std.proofs.lemmas.Bool.{and_from, or_left, or_right, le-leb, cases_lt}
 use Rattle.gc_plan.specs.State.{Collection, State, heap_end}
 use Rattle.gc_plan.specs.Belonging.{IsSpaceGraph, IsOpen}
 use Rattle.gc_plan.specs.Progress.{work_with, work_left}
@@ -10,7 +10,7 @@ use Rattle.gc_plan.specs.declared.step.StepReply.TheVariants as replies
 use Rattle.gc_plan.proofs.Public.{left_bounded}
 use Rattle.gcflip_heap_c.specs.Replies.{step_reply_in_c}
 use Rattle.gcflip_heap_c.specs.Readings.{counts_with, counts_of}
-use Rattle.gcflip_heap_c.specs.Work.{IsRun, IsEnd, IsWork, IsWorkWithin, goes_on}
+use Rattle.gcflip_heap_c.specs.Work.{IsRun, IsEnd, IsWork, IsEndWithin, IsWorkWithin, goes_on}
 use Rattle.gcflip_heap_c.specs.Pace.{steps_left, spent, steps_due, Pays, took_its_words, owed_after, pace_after, no_work, CountsAll, HasEnded, IsPacedWork}
 use Rattle.gcflip_heap_c.specs.declared.pace.GcflipPace.{GcflipPace}
 use Rattle.gcflip_heap_c.specs.declared.reading.GcflipCounts.{GcflipCounts}
@@ -59,11 +59,12 @@ pub record IsDueWork (before : GcflipPace) (due : ℕ) (s t : State) (work : Gcf
   pub last : work.last ≡ step_reply_in_c reply
   pub enough : work_left s ≤ due → IsEnd None t reply ⊎ IsTrue (took_its_words before work)
 
-took : (before : GcflipPace) (work : GcflipWork) → 1 ≤ before.words → before.words ≤ work.copied → IsTrue (took_its_words before work)
-took before work some many = and_from _ _ (le-leb 1 before.words some) (le-leb before.words work.copied many)
+took : (before : GcflipPace) (work : GcflipWork) → 1 ≤ before.words → (before.words ≤ work.steps) ⊎ (before.words ≤ work.copied) → IsTrue (took_its_words before work)
+took before work some many = and_from _ _ (le-leb 1 before.words some)
+    (⊎_elim (λ steps. or_left _ _ (le-leb before.words work.steps steps)) (λ words. or_right _ _ (le-leb before.words work.copied words)) many)
 
 pub due_work : (before : GcflipPace) (due : ℕ) (s t : State) (work : GcflipWork)
-    → (before.words ≡ 0 → IsWork None due s t work) → (1 ≤ before.words → IsWorkWithin due before.words s t work) → IsDueWork before due s t work
+    → (before.words ≡ 0 → IsWork None due s t work) → (1 ≤ before.words → IsWorkWithin (min due before.words) before.words s t work) → IsDueWork before due s t work
 due_work before due s t work whole within = go before.words refl
   where
     go : (n : ℕ) → before.words ≡ n → IsDueWork before due s t work
@@ -75,8 +76,17 @@ due_work before due s t work whole within = go before.words refl
           reply = done.reply;
           run = done.run;
           last = done.last;
-          enough = λ low. ⊎_elim (λ off. inl (inl off)) (λ rest. ⊎_elim (λ fails. inl (inr fails)) (λ many. inr (took before work some many)) rest) (done.enough low);
+          enough = λ low. ⊎_elim
+              (λ early. ends done.reply some (done.ended early))
+              (λ all. ⊎_elim
+              (λ few. ends done.reply some (done.enough (omega (arith, few, low))))
+              (λ many. inr (took before work some (inl (omega (arith, all, many)))))
+              (cases_lt due before.words))
+              (cases_lt work.steps (min due before.words));
         }
+      where
+        ends : (reply : StepReply) → 1 ≤ before.words → IsEndWithin before.words t reply work → IsEnd None t reply ⊎ IsTrue (took_its_words before work)
+        ends reply some ended = ⊎_elim (λ off. inl (inl off)) (λ rest. ⊎_elim (λ fails. inl (inr fails)) (λ many. inr (took before work some (inr many))) rest) ended
 
 -- the steps lowered the work that is left by their number
 work_falls : (before : GcflipPace) (due : ℕ) (s t : State) (work : GcflipWork) → IsDueWork before due s t work → work.last ≢ 43 → work.last ≢ 36 → work_left t + work.steps ≤ work_left s
@@ -139,7 +149,7 @@ pub paced_work : (wanted : ℕ) (s t : State) (before after : GcflipPace) (work 
     → IsSpaceGraph s.size s.heap.free s.heap.graph → IsOpen s s.collection → IsOpen t t.collection
     → (steps_due before (counts_of s) wanted ≡ 0 → (t ≡ s) × (work ≡ no_work))
     → (1 ≤ steps_due before (counts_of s) wanted → before.words ≡ 0 → IsWork None (steps_due before (counts_of s) wanted) s t work)
-    → (1 ≤ steps_due before (counts_of s) wanted → 1 ≤ before.words → IsWorkWithin (steps_due before (counts_of s) wanted) before.words s t work)
+    → (1 ≤ steps_due before (counts_of s) wanted → 1 ≤ before.words → IsWorkWithin (min (steps_due before (counts_of s) wanted) before.words) before.words s t work)
     → Pays before (counts_of s) (steps_due before (counts_of s) wanted) → after ≡ pace_after before (steps_due before (counts_of s) wanted) work (counts_of t)
     → IsPacedWork wanted s t before after work
 paced_work wanted s t before after work heap opened still none some within paid pace = record {
@@ -168,7 +178,7 @@ paced_work wanted s t before after work heap opened still none some within paid 
 -- the same, as the call finds the counts and the steps that are due
 pub paced_call : (wanted due : ℕ) (s t : State) (before after : GcflipPace) (work : GcflipWork) (counts later : GcflipCounts)
     → due ≡ steps_due before counts wanted → Pays before counts due
-    → (due ≡ 0 → (t ≡ s) × (work ≡ no_work)) → (1 ≤ due → before.words ≡ 0 → IsWork None due s t work) → (1 ≤ due → 1 ≤ before.words → IsWorkWithin due before.words s t work)
+    → (due ≡ 0 → (t ≡ s) × (work ≡ no_work)) → (1 ≤ due → before.words ≡ 0 → IsWork None due s t work) → (1 ≤ due → 1 ≤ before.words → IsWorkWithin (min due before.words) before.words s t work)
     → after ≡ pace_after before due work later
     → counts ≡ counts_of s → later ≡ counts_of t
     → IsSpaceGraph s.size s.heap.free s.heap.graph → IsOpen s s.collection → IsOpen t t.collection
@@ -178,6 +188,6 @@ paced_call wanted due s t before after work counts later is pays none some withi
     paced_work wanted s t before after work heap opened still
     (subst (λ (n : ℕ). n ≡ 0 → (t ≡ s) × (work ≡ no_work)) same none)
     (subst (λ (n : ℕ). 1 ≤ n → before.words ≡ 0 → IsWork None n s t work) same some)
-    (subst (λ (n : ℕ). 1 ≤ n → 1 ≤ before.words → IsWorkWithin n before.words s t work) same within)
+    (subst (λ (n : ℕ). 1 ≤ n → 1 ≤ before.words → IsWorkWithin (min n before.words) before.words s t work) same within)
     (subst (λ (n : ℕ). Pays before (counts_of s) n) same (subst (λ (n : GcflipCounts). Pays before n due) at pays))
     (pace ∙ (ap (λ (n : ℕ). pace_after before n work later) same ∙ ap (pace_after before (steps_due before (counts_of s) wanted) work) then))

@@ -56,9 +56,9 @@ Pays pace counts due = 1 ≤ counts.is_open → min (min (pace.owed + spent pace
 abbrev pub pace_from : GcflipPace → GcflipCounts → GcflipPace
 pace_from pace counts = record pace { left = counts.end; end = counts.end; logged = counts.logged; owed = 0 }
 
--- the pace bounds the words of a call, and this call's replicas took as many
+-- the pace bounds the words of a call, and this call performed as many steps, or its replicas took as many words
 abbrev pub took_its_words : GcflipPace → GcflipWork → Bool
-took_its_words pace work = nat_lt 0 pace.words && nat_le pace.words work.copied
+took_its_words pace work = nat_lt 0 pace.words && (nat_le pace.words work.steps || nat_le pace.words work.copied)
 
 -- The steps that are owed after this work: those of the steps due that it left because it took its words. A call that flipped, which 43
 -- stands for, or found no room, which 36 stands for, owes none.
@@ -104,8 +104,8 @@ IsAhead most pace s = work_left s ≤ most + pace.owed + spent pace (counts_of s
 pub record IsPacedWork (wanted : ℕ) (s t : State) (before after : GcflipPace) (work : GcflipWork) : Type 0 where
   pub none : steps_due before (counts_of s) wanted ≡ 0 → (t ≡ s) × (work ≡ no_work)
   pub some : 1 ≤ steps_due before (counts_of s) wanted → before.words ≡ 0 → IsWork None (steps_due before (counts_of s) wanted) s t work
-  -- the same, but where the pace bounds the words, the steps end once replicas took as many
-  pub within : 1 ≤ steps_due before (counts_of s) wanted → 1 ≤ before.words → IsWorkWithin (steps_due before (counts_of s) wanted) before.words s t work
+  -- the same, but where the pace bounds the words, the steps end once there were as many, or replicas took as many words
+  pub within : 1 ≤ steps_due before (counts_of s) wanted → 1 ≤ before.words → IsWorkWithin (min (steps_due before (counts_of s) wanted) before.words) before.words s t work
   pub paid : Pays before (counts_of s) (steps_due before (counts_of s) wanted)
   pub pace : after ≡ pace_after before (steps_due before (counts_of s) wanted) work (counts_of t)
   -- the entries that remain in all logs, and the steps performed, are at most the steps that were left

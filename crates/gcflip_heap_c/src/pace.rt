@@ -38,7 +38,7 @@ pub struct GcflipPace {
     pub rate: u32,
     /// The words in use below which no collection begins, unless little room is left.
     pub least: u32,
-    /// A call ends once its replicas took this many words in the new space, or 0 if only the steps bound it.
+    /// A call ends once it performed this many steps, or its replicas took this many words; or 0 if it performs all steps that are due.
     pub words: u32,
     /// The heap's end after the last flip.
     pub left: u32,
@@ -46,7 +46,7 @@ pub struct GcflipPace {
     pub end: u32,
     /// The number of log entries after the last call.
     pub logged: u32,
-    /// The steps that were due at the last call, and that it left because it took its words first.
+    /// The steps that were due at the last call, and that `words` kept it from.
     pub owed: u32,
 }
 
@@ -184,11 +184,11 @@ struct Paced {
     pace: GcflipPace,
 }
 
-/// Returns whether the pace bounds the words of a call, and this call's replicas took as many.
+/// Returns whether the pace bounds the words of a call, and this call performed as many steps, or its replicas took as many words.
 fn took_its_words(pace: &GcflipPace, work: &GcflipWork) -> bool
     ensures { result ≡ paces.took_its_words pace.now work.now }
 {
-    pace.words > 0 && work.copied >= pace.words
+    pace.words > 0 && (work.steps >= pace.words || work.copied >= pace.words)
 }
 
 /// Returns the steps that are owed after this work, for which so many were due.
@@ -225,11 +225,11 @@ fn pace_after(pace: &GcflipPace, due: u32, work: &GcflipWork, counts: &GcflipCou
     }
 }
 
-/// Performs this many useful steps, or none. Ends once replicas took `words` words, unless that is 0.
+/// Performs this many useful steps, or none. Ends once it performed `words` steps, or replicas took `words` words, unless that is 0.
 fn work_due(heap: &mut KeptHeap, words: u32, due: u32) -> Result<GcflipWork, NoMemory>
     ensures none { due ≡ 0 → IfOk result (λ work. (heap.new ≡ heap.old) × (work ≡ paces.no_work)) }
     ensures some { 1 ≤ due → words ≡ 0 → IfOk result (IsWork None due heap.old.live heap.new.live) }
-    ensures within { 1 ≤ due → 1 ≤ words → IfOk result (IsWorkWithin due words heap.old.live heap.new.live) }
+    ensures within { 1 ≤ due → 1 ≤ words → IfOk result (IsWorkWithin (min due words) words heap.old.live heap.new.live) }
     ensures former { IfOk result (λ work. LeavesAfter None work.steps heap.old.live heap.old.former heap.new.former) }
     ensures refused { OnErr result (heap.new ≡ heap.old) }
     ensures allocates { OnErr result (Allocates heap.old.live (useful_step heap.old.live)) }
@@ -245,7 +245,7 @@ fn work_due(heap: &mut KeptHeap, words: u32, due: u32) -> Result<GcflipWork, NoM
     if words == 0 {
         return work_on(heap, None, due);
     }
-    work_within_on(heap, due, words)
+    work_within_on(heap, due.min(words), words)
 }
 
 /// Performs the useful steps that are due.
@@ -264,8 +264,8 @@ fn work_at_pace(heap: &mut KeptHeap, pace: &GcflipPace, wanted: u32) -> Result<P
 }
 
 /// Performs the useful steps that are due before the program allocates `wanted` words, and writes a report of them to `work`. Stops early
-/// for the reasons of `gcflip_heap_work` and, if the pace bounds the words, for those of `gcflip_heap_work_within`. The pace keeps the steps
-/// that are left in the second case.
+/// for the reasons of `gcflip_heap_work` and, if the pace bounds the words, once it performed as many steps, or its replicas took as many
+/// words. The pace keeps the steps that are left then.
 #[unsafe(no_mangle)]
 pub extern "C" fn gcflip_heap_work_paced(
     heap: &mut GcflipHeap,
