@@ -310,28 +310,31 @@ uint32_t gcflip_heap_counts(const gcflip_heap *heap, gcflip_counts *counts);
 
 /* ---- Pace: as many useful steps as keep a collection ahead of the program
  *
- * A program keeps one gcflip_pace for a heap. Its first three members say what the program wants; the calls write the others. */
+ * A program keeps one gcflip_pace for a heap. Its first four members say what the program wants; the calls write the others. */
 
 typedef struct gcflip_pace {
     uint32_t factor; /* a collection begins where the heap's end is this many hundredths of `left`: 100 to 10000 */
     uint32_t rate;   /* the steps for each word allocated and each entry logged; 0: the counts decide */
     uint32_t least;  /* no collection begins while the heap's end is below this, unless half of the room that the last flip left is used up */
+    uint32_t words;  /* a call ends once it performed this many steps, or its replicas took this many words; 0: it performs all steps due */
     uint32_t left;   /* the heap's end after the last flip */
     uint32_t end;    /* the heap's end after the last call */
     uint32_t logged; /* the log entries after the last call */
+    uint32_t owed;   /* the steps that were due at the last call, and that `words` kept it from */
 } gcflip_pace;
 
 /* Returns the pace for a heap that was just opened. It begins a collection where the heap has twice the words that the last flip left,
- * but at least 65536, or where half of the room that the flip left is used up. */
+ * but at least 65536, or where half of the room that the flip left is used up. A call ends once it has performed 1024 steps, or copied 1024
+ * words. */
 static inline gcflip_pace gcflip_pace_default(void)
 {
-    gcflip_pace pace = {200, 0, 65536, 1, 1, 0};
+    gcflip_pace pace = {200, 0, 65536, 1024, 1, 1, 0, 0};
 
     return pace;
 }
 
 /* Makes the pace remember the heap as it is, as if the heap had just flipped. A program calls it before the first paced work on a heap that is
- * in use, and after a flip by another call. If the factor is out of range, it returns GCFLIP_OUT_OF_RANGE. */
+ * in use, and after a flip by another call. No step is owed then. If the factor is out of range, it returns GCFLIP_OUT_OF_RANGE. */
 uint32_t gcflip_heap_pace(const gcflip_heap *heap, gcflip_pace *pace);
 
 /* Returns the number of steps that are due before the program allocates `wanted` words. It is a function of its arguments alone, and
@@ -343,30 +346,32 @@ uint32_t gcflip_heap_pace(const gcflip_heap *heap, gcflip_pace *pace);
  *
  *     no room:              steps left, which is enough for the flip, also with the begin
  *     no collection open:   1, a begin, if end >= min(max(pace->least, pace->factor * pace->left / 100), (pace->left + size) / 2); else 0
- *     a collection open:    min(steps left, spent * rate), where rate is pace->rate or else 2 + steps left / room
+ *     a collection open:    min(steps left, pace->owed + spent * rate), where rate is pace->rate or else 2 + steps left / room
  *
  * Quotients are rounded down. It returns at most UINT32_MAX. */
 uint32_t gcflip_pace_due(const gcflip_pace *pace, const gcflip_counts *counts, uint32_t wanted);
 
-/* Performs the useful steps that are due before the program allocates `wanted` words, as gcflip_heap_work does, and writes its report to
- * `work`. If none is due, all members of the report are 0. `wanted` may be 0. It returns GCFLIP_DONE, GCFLIP_OUT_OF_RANGE if the factor
- * is out of range, or GCFLIP_NO_MEMORY if an allocation of the first step fails; then nothing has changed, nor has the pace.
+/* Performs the useful steps that are due before the program allocates `wanted` words, and writes its report to `work`. If pace->words is 0, it
+ * does what gcflip_heap_work does with these steps. Otherwise it does what gcflip_heap_work_within does with at most pace->words of them, and
+ * with pace->words. If none is due, all members of the report are 0. `wanted` may be 0. It returns GCFLIP_DONE, GCFLIP_OUT_OF_RANGE if the
+ * factor is out of range, or GCFLIP_NO_MEMORY if an allocation of the first step fails; then nothing has changed, nor has the pace.
+ *
+ * After GCFLIP_DONE, the pace remembers the counts, and owes the steps that pace->words kept the call from: if that is above 0, work->steps or
+ * work->copied is as much or more, and the last step neither flipped nor found no room, `owed` becomes the steps that were due less
+ * work->steps. Otherwise it becomes 0. The next call adds them to the steps that are due. So with a bound, a call that finds no room for
+ * `wanted` words may end before its flip, and the program calls it again.
  *
  * With the counts before the call and those after it:
  *
  *     logged after + work->steps <= steps left before
  *
- * So many steps are enough for the flip, unless one finds no room or an allocation fails.
+ * So many steps are enough for the flip, unless one finds no room, an allocation fails, or pace->words ends the call first.
  *
  * The work that is left is a number above `logged`, and at most `steps left`. Each step lowers it, and a command raises it by the words that it
  * allocates and the entries that it logs. The call that begins a collection leaves at most `end` of it. While that collection is open, no
- * call leaves more than the call before, if each performs the steps that are due and finds room. So after each such call all logs
- * together have fewer entries than `end` was at the begin. All this holds while `logged` is below UINT32_MAX, and if at most UINT32_MAX words
- * and entries are spent between two calls.
- *
- * The steps that are due may copy many long objects. A program that bounds its calls by words performs the steps that gcflip_pace_due returns
- * by gcflip_heap_work_within. If a call ends before all of them are performed, the pace stays as it is, so that the next call pays for the rest.
- * Otherwise gcflip_heap_pace makes the pace remember the heap; unless the last step flipped, the program then writes the former `left` back. */
+ * call leaves more than the call before, besides the steps that it owes, if each performs or owes the steps that are due and finds room. So
+ * after each such call all logs together have fewer entries than `end` was at the begin, and what is owed. All this holds while `logged` is
+ * below UINT32_MAX, and if at most UINT32_MAX words, entries and steps are spent and owed between two calls. */
 uint32_t gcflip_heap_work_paced(gcflip_heap *heap, gcflip_pace *pace, uint32_t wanted, gcflip_work *work);
 
 /* Reads the length of mutator m's log, which is 0 while no collection is open. */

@@ -470,24 +470,31 @@ static inline uint32_t gcflip_record_work_within(gcflip_heap *heap, uint32_t mos
     return gcflip_record_steps(heap, most, 0, words, work);
 }
 
-/* A closed heap and a factor out of range are refused as gcflip_heap_pace refuses them. */
+/* A closed heap and a factor out of range are refused as gcflip_heap_pace refuses them. What is owed afterwards is as gcflip_heap_work_paced
+ * tells. */
 static inline uint32_t gcflip_record_work_paced(gcflip_heap *heap, gcflip_pace *pace, uint32_t wanted, gcflip_work *work)
 {
     gcflip_counts counts = {0, 0, 0, 0, 0, 0, 0, 0, 0, 0, 0};
     gcflip_pace after = *pace;
-    uint32_t due, answer = gcflip_heap_pace(heap, &after);
+    uint32_t is_bounded, due, answer = gcflip_heap_pace(heap, &after);
     if (answer != GCFLIP_DONE)
         return answer;
     gcflip_heap_counts(heap, &counts);
     due = gcflip_pace_due(pace, &counts, wanted);
     if (due == 0)
         return gcflip_heap_work_paced(heap, pace, wanted, work);
-    answer = gcflip_record_steps(heap, due, 0, UINT64_MAX, work);
+    if (pace->words)
+        answer = gcflip_record_steps(heap, due < pace->words ? due : pace->words, 0, pace->words, work);
+    else
+        answer = gcflip_record_steps(heap, due, 0, UINT64_MAX, work);
     if (answer != GCFLIP_DONE)
         return answer;
     gcflip_heap_pace(heap, &after);
     if (work->last != GCFLIP_FLIPPED)
         after.left = pace->left;
+    is_bounded = pace->words && (work->steps >= pace->words || work->copied >= pace->words);
+    if (is_bounded && work->last != GCFLIP_FLIPPED && work->last != GCFLIP_NO_ROOM)
+        after.owed = due - work->steps;
     *pace = after;
     return GCFLIP_DONE;
 }

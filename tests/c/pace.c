@@ -19,9 +19,10 @@ static void read_counts(void)
     EXPECT(gcflip_heap_counts(&heap, &counts) == GCFLIP_DONE);
 }
 
+/* A pace that does not bound the words of a call. */
 static gcflip_pace pace_of(uint32_t factor, uint32_t rate, uint32_t least, uint32_t left, uint32_t end, uint32_t logged)
 {
-    gcflip_pace made = {factor, rate, least, left, end, logged};
+    gcflip_pace made = {factor, rate, least, 0, left, end, logged, 0};
     return made;
 }
 
@@ -72,10 +73,28 @@ static void rates(void)
     EXPECT(due(pace_of(200, 0, 10, 30, 50, 3), 40, true, 1, 4, 0) == 2);
 }
 
+/* The same counts with steps that are owed: they are due as well while a collection is open and there is room. */
+static void debts(void)
+{
+    gcflip_pace of = {200, 0, 10, 64, 30, 50, 3, 7};
+    EXPECT(due(of, 51, true, 41, 5, 0) == 13);    /* 7 + 3 times 2 */
+    EXPECT(due(of, 51, true, 41, 5, 144) == 16);  /* 7 + 3 times 2 + 16 / 5, and no more than are left */
+    EXPECT(due(of, 50, true, 41, 3, 0) == 7);     /* nothing spent */
+    EXPECT(due(of, 50, true, 48, 3, 0) == 6);     /* 2 words, 3 entries and the flip are left */
+    EXPECT(due(of, 51, true, 41, 5, 149) == 16);  /* no room */
+    EXPECT(due(of, 59, false, 0, 0, 0) == 0);
+    EXPECT(due(of, 60, false, 0, 0, 0) == 1);
+    EXPECT(due(of, 59, false, 0, 0, 141) == 60);
+    of.rate = 1;
+    EXPECT(due(of, 51, true, 41, 5, 0) == 10);
+    of.owed = UINT32_MAX;
+    EXPECT(due(of, 51, true, 41, 5, 0) == 16);
+}
+
 /* The largest counts: no sum or product wraps, and the result is cut off. */
 static void largest_counts(void)
 {
-    const gcflip_pace all = {10000, UINT32_MAX, UINT32_MAX, UINT32_MAX, 0, 0};
+    const gcflip_pace all = {10000, UINT32_MAX, UINT32_MAX, UINT32_MAX, UINT32_MAX, 0, 0, UINT32_MAX};
     gcflip_counts c = {UINT32_MAX, UINT32_MAX, 0, 16, 0, 1, UINT32_MAX, 1, 1, 0, UINT32_MAX};
     EXPECT(gcflip_pace_due(&all, &c, 0) == UINT32_MAX);
     c.free = 1;
@@ -97,7 +116,7 @@ static void one_collection(void)
     const gcflip_work none = {0, 0, 0, 0};
     EXPECT(open_plain_heap(&heap, 11, 2) == GCFLIP_DONE);
     pace = gcflip_pace_default();
-    EXPECT(pace.factor == 200 && pace.rate == 0 && is_pace(1, 1, 0));
+    EXPECT(pace.factor == 200 && pace.rate == 0 && pace.least == 65536 && pace.words == 1024 && pace.owed == 0 && is_pace(1, 1, 0));
     EXPECT(gcflip_heap_new_object(&heap, 0, G0, KIND, 1) == GCFLIP_MADE);
     EXPECT(gcflip_heap_work_paced(&heap, &pace, 0, &work) == GCFLIP_DONE && memcmp(&work, &none, sizeof work) == 0);
     EXPECT(is_pace(1, 4, 0));
@@ -121,7 +140,7 @@ static void one_collection(void)
 
 static void refusals(void)
 {
-    const gcflip_pace wrong[] = {{99, 0, 0, 1, 1, 0}, {10001, 0, 0, 1, 1, 0}, {0, 0, 0, 1, 1, 0}, {UINT32_MAX, 0, 0, 1, 1, 0}};
+    const gcflip_pace wrong[] = {{99, 0, 0, 5, 1, 1, 0, 2}, {10001, 0, 0, 5, 1, 1, 0, 2}, {0, 0, 0, 5, 1, 1, 0, 2}, {UINT32_MAX, 0, 0, 5, 1, 1, 0, 2}};
     const gcflip_work before = {77, 77, 77, 77};
     work = before;
     pace = wrong[0];
@@ -137,15 +156,83 @@ static void refusals(void)
     }
     EXPECT(gcflip_heap_step_give_up(&heap) == GCFLIP_IDLE);
     pace = pace_of(100, 1, 2, 77, 77, 77);
+    pace.words = 3;
+    pace.owed = 77;
     EXPECT(gcflip_heap_pace(&heap, &pace) == GCFLIP_DONE && pace.factor == 100 && pace.rate == 1 && pace.least == 2 && is_pace(4, 4, 0));
+    EXPECT(pace.words == 3 && pace.owed == 0);
     pace.factor = 10000;
     EXPECT(gcflip_heap_step_begin(&heap) == GCFLIP_BEGUN && gcflip_heap_put(&heap, 0, G0, 0, 1) == GCFLIP_DONE);
     EXPECT(gcflip_heap_pace(&heap, &pace) == GCFLIP_DONE && is_pace(4, 4, 1));
     EXPECT(gcflip_heap_close(&heap) == GCFLIP_DONE);
 }
 
-/* Performs paced work, and checks that it performs as many steps as are due, unless it flipped, and that it leaves no more log entries than
- * it promises. */
+/* Expects a call that left so many of the steps that were due. */
+static void expect_call(uint32_t wanted, uint32_t steps, uint32_t copied, uint32_t last, uint32_t owed)
+{
+    EXPECT(gcflip_heap_work_paced(&heap, &pace, wanted, &work) == GCFLIP_DONE);
+    EXPECT(work.steps == steps && work.copied == copied && work.last == last && pace.owed == owed);
+}
+
+/* Opens a heap of 200 words with four objects of ten words, and a collection on it, whose new space has this many words: 41 steps are left. */
+static void begin_with_four(uint32_t size, uint32_t words)
+{
+    EXPECT(open_plain_heap(&heap, 200, 1) == GCFLIP_DONE);
+    for (uint8_t slot = 0; slot < 4; slot++)
+        EXPECT(gcflip_heap_new_object(&heap, 0, slot, KIND, 8) == GCFLIP_MADE);
+    EXPECT(gcflip_heap_step_begin_sized(&heap, size) == GCFLIP_BEGUN);
+    pace = gcflip_pace_default();
+    pace.words = words;
+    EXPECT(gcflip_heap_pace(&heap, &pace) == GCFLIP_DONE && is_pace(41, 41, 0));
+}
+
+/* Calls that are bounded leave the other steps to the next calls, each step once. */
+static void calls_that_owe(void)
+{
+    begin_with_four(200, 10);
+    expect_call(0, 0, 0, 0, 0);
+    expect_call(159, 1, 10, GCFLIP_COPIED, 40); /* no room: all 41 are due */
+    expect_call(0, 1, 10, GCFLIP_COPIED, 39);
+    expect_call(0, 1, 10, GCFLIP_COPIED, 38);
+    EXPECT(gcflip_heap_put_number(&heap, 0, 0, 0, 4, 5) == GCFLIP_DONE); /* 1 times 2 more */
+    expect_call(0, 1, 10, GCFLIP_COPIED, 39);
+    EXPECT(is_pace(41, 41, 1));
+    expect_call(0, 10, 0, GCFLIP_SCANNED, 29); /* 36 steps for the fields and behind them, 1 for the entry, and the flip */
+    expect_call(0, 10, 0, GCFLIP_SCANNED, 19);
+    expect_call(0, 10, 0, GCFLIP_SCANNED, 9);
+    expect_call(0, 8, 0, GCFLIP_FLIPPED, 0);
+    EXPECT(work.pairs == 4 && is_pace(41, 41, 0));
+    /* a whole collection for want of room, in three calls */
+    expect_call(159, 2, 10, GCFLIP_COPIED, 40);
+    pace.words = 11;
+    expect_call(159, 2, 20, GCFLIP_COPIED, 39);
+    pace.words = 0;
+    expect_call(0, 38, 10, GCFLIP_FLIPPED, 0);
+    EXPECT(gcflip_heap_close(&heap) == GCFLIP_DONE);
+    /* a new debt takes the place of the one before */
+    begin_with_four(200, 1);
+    pace.owed = 3;
+    expect_call(0, 1, 10, GCFLIP_COPIED, 2);
+    expect_call(0, 1, 10, GCFLIP_COPIED, 1);
+    expect_call(0, 1, 10, GCFLIP_COPIED, 0);
+    expect_call(0, 0, 0, 0, 0);
+    pace.owed = 5;
+    EXPECT(gcflip_heap_step_give_up(&heap) == GCFLIP_DROPPED);
+    expect_call(0, 0, 0, 0, 0);
+    EXPECT(gcflip_heap_close(&heap) == GCFLIP_DONE);
+    /* the third object finds no room */
+    begin_with_four(30, 21);
+    expect_call(159, 3, 20, GCFLIP_NO_ROOM, 0);
+    EXPECT(gcflip_heap_close(&heap) == GCFLIP_DONE);
+}
+
+/* Returns whether the call was bounded by the words of the pace: it performed as many steps, or copied as many words. */
+static bool took_its_words(void)
+{
+    return pace.words > 0 && (work.steps >= pace.words || work.copied >= pace.words);
+}
+
+/* Performs paced work, and checks that it performs or owes as many steps as are due, unless it flipped, and that it leaves no more log entries
+ * than it promises. */
 static void paced(uint32_t wanted)
 {
     uint32_t steps, left;
@@ -155,10 +242,11 @@ static void paced(uint32_t wanted)
         most_logged = counts.logged;
     steps = gcflip_pace_due(&pace, &counts, wanted);
     EXPECT(gcflip_heap_work_paced(&heap, &pace, wanted, &work) == GCFLIP_DONE && work.last != GCFLIP_NO_ROOM);
-    EXPECT(work.steps == steps || (work.last == GCFLIP_FLIPPED && work.steps < steps));
+    EXPECT(work.steps + pace.owed == steps || (work.last == GCFLIP_FLIPPED && work.steps < steps && pace.owed == 0));
+    EXPECT(pace.owed == 0 || took_its_words());
     flips += work.last == GCFLIP_FLIPPED;
     if (steps > 0 && wanted >= counts.free)
-        EXPECT(work.last == GCFLIP_FLIPPED); /* the steps that are left are enough */
+        EXPECT(work.last == GCFLIP_FLIPPED || took_its_words()); /* the steps that are left are enough */
     read_counts();
     EXPECT(counts.logged + work.steps <= left);
 }
@@ -255,10 +343,68 @@ static void no_room_anywhere(void)
     EXPECT(gcflip_heap_close(&heap) == GCFLIP_DONE);
 }
 
+/* ---- Long objects */
+
+enum { ARRAYS = 200, ARRAY = 500, BOUND = 64, GARBAGE = 3, CALLS = 40000 };
+
+static gcflip_work reports[CALLS];
+static uint32_t calls, most_owed;
+
+/* Does what gcflip_heap_work_paced does, by the calls that the header names. */
+static void paced_by_hand(uint32_t wanted)
+{
+    const gcflip_work none = {0, 0, 0, 0};
+    uint32_t steps;
+    read_counts();
+    steps = gcflip_pace_due(&pace, &counts, wanted);
+    work = none;
+    if (steps > 0)
+        EXPECT(gcflip_heap_work_within(&heap, steps < pace.words ? steps : pace.words, pace.words, &work) == GCFLIP_DONE);
+    read_counts();
+    if (work.last == GCFLIP_FLIPPED)
+        pace.left = counts.end;
+    pace.end = counts.end;
+    pace.logged = counts.logged;
+    pace.owed = took_its_words() && work.last != GCFLIP_FLIPPED ? steps - work.steps : 0;
+}
+
+/* A program that keeps an array of long arrays, and makes garbage. No call performs more steps than the pace allows, its replicas take at most one
+ * array more, and the collection flips before the room is used up. The calls of the second run are made by hand, and report the same. */
+static void long_objects(void (*perform)(uint32_t wanted), bool is_first)
+{
+    uint32_t ends_by_words = 0;
+    EXPECT(open_plain_heap(&heap, 5 * ARRAYS * ARRAY / 2, 1) == GCFLIP_DONE);
+    EXPECT(gcflip_heap_new_object(&heap, 0, 0, KIND, ARRAYS) == GCFLIP_MADE);
+    for (uint16_t i = 0; i < ARRAYS; i++) {
+        EXPECT(gcflip_heap_new_object(&heap, 0, 1, KIND, ARRAY - 2) == GCFLIP_MADE);
+        EXPECT(gcflip_heap_put_number(&heap, 0, 1, ARRAY - 3, 2, i) == GCFLIP_DONE && gcflip_heap_put(&heap, 0, 0, i, 1) == GCFLIP_DONE);
+    }
+    pace = gcflip_pace_default();
+    pace.words = BOUND;
+    EXPECT(gcflip_heap_pace(&heap, &pace) == GCFLIP_DONE);
+    flips = most_owed = 0;
+    for (calls = 0; calls < CALLS; calls++) {
+        perform(GARBAGE + 2);
+        EXPECT(work.steps <= BOUND && work.copied < BOUND + ARRAY);
+        ends_by_words += work.copied >= BOUND;
+        if (pace.owed > most_owed)
+            most_owed = pace.owed;
+        if (is_first)
+            reports[calls] = work;
+        EXPECT(memcmp(&reports[calls], &work, sizeof work) == 0);
+        EXPECT(gcflip_heap_new_object(&heap, 0, 2, KIND, GARBAGE) == GCFLIP_MADE); /* there is room */
+        EXPECT(gcflip_heap_get(&heap, 0, 1, 0, (uint16_t)(calls % ARRAYS), &number) == GCFLIP_OBJECT);
+        EXPECT(gcflip_heap_put(&heap, 0, 0, (uint16_t)(calls % ARRAYS), 1) == GCFLIP_DONE);
+    }
+    EXPECT(ends_by_words >= ARRAYS && most_owed > 0);
+    EXPECT(gcflip_heap_close(&heap) == GCFLIP_DONE);
+}
+
 int main(void)
 {
     beginnings();
     rates();
+    debts();
     largest_counts();
     refusals();
     one_collection();
@@ -271,5 +417,9 @@ int main(void)
     put_again_and_again(gcflip_pace_default());
     put_again_and_again(pace_of(200, 2, 0, 1, 1, 0));
     no_room_anywhere();
+    calls_that_owe();
+    long_objects(paced, true);
+    EXPECT(flips >= 2);
+    long_objects(paced_by_hand, false);
     return 0;
 }

@@ -66,8 +66,8 @@ class Model:
         # Where the last flip moved each object of its old space, or 0 for one that died; None if a collection has begun since.
         self.former = None
         # The numbers of a pace that the program chooses, and those that it remembers.
-        self.factor, self.rate, self.least = 200, 0, 65536
-        self.left, self.end, self.logged = 1, 1, 0
+        self.factor, self.rate, self.least, self.words = 200, 0, 65536, 1024
+        self.left, self.end, self.logged, self.owed = 1, 1, 0, 0
 
     # ---- slots: a number below 16 is the mutator's own, and one from 16 to 31 is shared
 
@@ -273,11 +273,15 @@ class Model:
     def remember(self):
         """Makes the pace remember the heap as it is, as after a flip."""
         self.left = self.end = len(self.space.words)
-        self.logged = self.entries()
+        self.logged, self.owed = self.entries(), 0
 
-    def remember_work(self, flipped):
-        self.left = len(self.space.words) if flipped else self.left
+    def remember_work(self, due, made, copied):
+        """Makes the pace remember work that made these steps, each with its line and its reply, and copied so many words."""
+        last = made[-1][1] if made else ""
+        self.left = len(self.space.words) if last.startswith("flipped") else self.left
         self.end, self.logged = len(self.space.words), self.entries()
+        took = max(len(made), copied) >= self.words > 0 and not last.startswith("flipped") and last != "no room"
+        self.owed = due - len(made) if took else 0
 
     def steps_due(self, wanted):
         """Returns the steps that are due before the program allocates so many words."""
@@ -288,7 +292,7 @@ class Model:
         if not self.new:
             return int(end >= min(max(self.least, self.factor * self.left // 100), (self.left + self.space.size) // 2))
         spent = max(0, end - self.end) + max(0, self.entries() - self.logged)
-        return min(steps_left, spent * (self.rate or 2 + steps_left // room))
+        return min(steps_left, self.owed + spent * (self.rate or 2 + steps_left // room))
 
     # ---- what the calls that read write
 

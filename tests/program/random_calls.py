@@ -330,18 +330,20 @@ class Calls:
     def add_pace(self):
         """Adds a call that sets what the pace remembers, with other numbers of the program's."""
         factor, rate, least = self.chance.choice([100, 120, 200, 10000]), self.chance.choice([0, 0, 1, 3, 50]), self.chance.choice([0, 10, 50, 65536])
+        words = self.chance.choice([0, 0, 1, 3, 10, 40, 1024, (1 << 32) - 1])
         if self.chance.random() < 0.1:
-            self.call(["pace", self.chance.choice([0, 99, 10001]), rate, least], OUT_OF_RANGE)
-        self.model.factor, self.model.rate, self.model.least = factor, rate, least
+            self.call(["pace", self.chance.choice([0, 99, 10001]), rate, least, words], OUT_OF_RANGE)
+        self.model.factor, self.model.rate, self.model.least, self.model.words = factor, rate, least, words
         self.model.remember()
-        self.call(["pace", factor, rate, least], "done")
+        self.call(["pace", factor, rate, least, words], "done")
 
     def add_work_paced(self):
         model, wanted = self.model, self.chance.choice([0, 0, 1, 5, 30, self.model.space.size, (1 << 32) - 1])
         due = model.steps_due(wanted)
-        made, report = self.worked(due) if due else ([], "nothing")
-        model.remember_work(bool(made) and made[-1][1].startswith("flipped"))
-        self.call(["work_paced", wanted], "%s, %d %d %d" % (report, model.left, model.end, model.logged), [line for line, _ in made], [reply for _, reply in made])
+        made, report = self.worked(min(due, model.words or due), words=model.words or None) if due else ([], "nothing")
+        model.remember_work(due, made, int(report.split()[2]) if made else 0)
+        remembered = "%d %d %d %d" % (model.left, model.end, model.logged, model.owed)
+        self.call(["work_paced", wanted], "%s, %s" % (report, remembered), [line for line, _ in made], [reply for _, reply in made])
 
     # ---- extra roots
 

@@ -77,8 +77,9 @@ def paced(heap, wanted):
     pace = paces[-1]
     due = heap.steps_due(pace, wanted)
     work = heap.work_paced(pace, wanted)
-    assert (work is None) == (due == 0) and (work is None or work.steps == due or work.last in (Step.FLIPPED, Step.NO_ROOM))
-    return "%s, %d %d %d" % (worked(work) if work else "nothing", pace._raw.left, pace._raw.end, pace._raw.logged)
+    assert (work is None) == (due == 0)
+    assert work is None or work.steps + pace.owed == due or work.last in (Step.FLIPPED, Step.NO_ROOM)
+    return "%s, %d %d %d %d" % (worked(work) if work else "nothing", pace._raw.left, pace._raw.end, pace._raw.logged, pace.owed)
 
 
 def performed(heap, name, numbers):

@@ -698,13 +698,28 @@ class Paced(unittest.TestCase):
             heap.remember(pace)
             self.assertIsNone(heap.work_paced(pace))
 
+    def test_words(self):
+        with gcflip.Heap(200, 1) as heap:
+            pace = gcflip.Pace(least=8, words=10)
+            for slot in range(4):
+                heap.mutator(0).new(gcflip.own(slot), 1, 8)
+            self.assertEqual(heap.work_paced(pace), (1, 0, Step.BEGUN, 0))
+            # A program that wants all 159 free words waits for the flip, but the first object takes ten words.
+            self.assertEqual(heap.steps_due(pace, 159), 41)
+            self.assertEqual(heap.work_paced(pace, 159), (1, 10, Step.COPIED, 0))
+            self.assertEqual((pace.owed, heap.steps_due(pace)), (40, 40))
+            self.assertEqual([heap.work_paced(pace) for _ in range(3)], [(1, 10, Step.COPIED, 0)] * 3)
+            self.assertEqual(pace.owed, 37)
+            self.assertEqual([heap.work_paced(pace) for _ in range(4)], [(10, 0, Step.SCANNED, 0)] * 3 + [(7, 0, Step.FLIPPED, 4)])
+            self.assertEqual((pace.owed, heap.work_paced(pace)), (0, None))
+
     def test_refusals(self):
         with gcflip.Heap(100, 1) as heap:
             for pace in (gcflip.Pace(factor=99), gcflip.Pace(factor=10001)):
                 for call in (lambda: heap.work_paced(pace), lambda: heap.remember(pace)):
                     with self.assertRaises(gcflip.OutOfRange):
                         call()
-            for call in (lambda: gcflip.Pace(factor=-1), lambda: heap.work_paced(gcflip.Pace(), -1), lambda: heap.steps_due(gcflip.Pace(), 1 << 32)):
+            for call in (lambda: gcflip.Pace(factor=-1), lambda: gcflip.Pace(words=1 << 32), lambda: heap.work_paced(gcflip.Pace(), -1), lambda: heap.steps_due(gcflip.Pace(), 1 << 32)):
                 with self.assertRaises(gcflip.OutOfRange):
                     call()
             heap.close()

@@ -131,11 +131,16 @@ class Pace:
 
     A collection begins where the heap has `factor` hundredths, 100 to 10000, of the words that the last flip left, but at least `least` words,
     or where half of the room that the flip left is used up. `rate` steps are due for each word allocated and each entry logged; with 0
-    the counts decide.
+    the counts decide. A call ends once it has performed `words` steps, or copied `words` words; with 0 it performs all steps that are due.
     """
 
-    def __init__(self, factor: int = 200, rate: int = 0, least: int = 65536) -> None:
-        self._raw = library.RawPace(*in_range((factor, rate, least), [ctypes.c_uint32] * 3), 1, 1, 0)
+    def __init__(self, factor: int = 200, rate: int = 0, least: int = 65536, words: int = 1024) -> None:
+        self._raw = library.RawPace(*in_range((factor, rate, least, words), [ctypes.c_uint32] * 4), 1, 1, 0, 0)
+
+    @property
+    def owed(self) -> int:
+        """The steps that were due at the last call, and that its words kept it from. The next call adds them to those that are due."""
+        return int(self._raw.owed)
 
 
 class Counts(NamedTuple):
@@ -344,8 +349,9 @@ class Heap:
 
     def work_paced(self, pace: Pace, wanted: int = 0) -> Work | None:
         """Performs the useful steps that are due before the program allocates `wanted` words, and remembers the heap in the pace. Returns None
-        if none is due. Ends early for the reasons of `work`. Raises OutOfRange if the pace's factor is out of range, and OutOfMemory if an
-        allocation of the first step fails; then nothing has changed."""
+        if none is due. Ends early for the reasons of `work`, and once it has performed as many steps, or copied as many words, as the
+        pace allows; the pace then owes the other steps. Raises OutOfRange if the pace's factor is out of range, and OutOfMemory if an allocation of the first step fails; then
+        nothing has changed."""
         work = library.Work()
         self._call("work_paced", pace._raw, wanted, work)
         return _work_of(work) if work.steps else None

@@ -118,7 +118,7 @@ class Field(ctypes.Structure):
 
 
 class RawPace(ctypes.Structure):
-    _fields_ = [(name, c_uint32) for name in ("factor", "rate", "least", "left", "end", "logged")]
+    _fields_ = [(name, c_uint32) for name in ("factor", "rate", "least", "words", "left", "end", "logged", "owed")]
 
 
 class Options(ctypes.Structure):

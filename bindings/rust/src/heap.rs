@@ -322,9 +322,10 @@ pub struct Heap {
 
 impl Default for Pace {
     /// Returns the pace of a heap that was just opened: a collection begins where the heap has twice the words that the last flip left, but at
-    /// least 65,536, or where half of the room that the flip left is used up.
+    /// least 65,536, or where half of the room that the flip left is used up. A call of paced work ends once it has performed 1,024 steps, or
+    /// copied 1,024 words.
     fn default() -> Pace {
-        Pace { factor: 200, rate: 0, least: 65536, left: 1, end: 1, logged: 0 }
+        Pace { factor: 200, rate: 0, least: 65536, words: 1024, left: 1, end: 1, logged: 0, owed: 0 }
     }
 }
 
@@ -342,6 +343,17 @@ impl Pace {
     /// No collection begins below this many words, unless half of the room that the last flip left is used up.
     pub fn least(self, least: u32) -> Pace {
         Pace { least, ..self }
+    }
+
+    /// Ends a call of paced work once it has performed this many steps, or copied this many words; with 0 it performs all steps that are due.
+    pub fn words(self, words: u32) -> Pace {
+        Pace { words, ..self }
+    }
+
+    /// Returns the number of steps that were due at the last call, and that its words kept it from. The next call adds them to those that are
+    /// due.
+    pub fn owed(&self) -> u32 {
+        self.owed
     }
 }
 
@@ -545,7 +557,8 @@ impl Heap {
     }
 
     /// Performs the useful steps that are due before the program allocates `wanted` words, which may be 0, and remembers the heap in the pace.
-    /// Returns `None` if no step is due. Ends early for the reasons of [`Heap::work`].
+    /// Returns `None` if no step is due. Ends early for the reasons of [`Heap::work`], and once it has performed as many steps, or copied as many
+    /// words, as the pace allows. The pace then owes the other steps.
     ///
     /// # Errors
     ///

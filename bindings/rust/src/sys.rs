@@ -168,9 +168,11 @@ pub struct Pace {
     pub(crate) factor: u32,
     pub(crate) rate: u32,
     pub(crate) least: u32,
+    pub(crate) words: u32,
     pub(crate) left: u32,
     pub(crate) end: u32,
     pub(crate) logged: u32,
+    pub(crate) owed: u32,
 }
 
 /// A handle of C: the address of the heap.

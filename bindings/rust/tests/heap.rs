@@ -544,3 +544,22 @@ fn paced_work_begins_at_twice_what_was_left() {
     heap.remember(&mut pace).unwrap();
     assert_eq!(heap.work_paced(&mut pace, 0).unwrap(), None);
 }
+
+#[test]
+fn paced_work_owes_the_steps_that_its_words_keep_back() {
+    let heap = Heap::open(200, 1).unwrap();
+    let mutator = heap.mutator(0).unwrap();
+    for slot in 0..4 {
+        mutator.make(Slot::own(slot), 1, 8).unwrap();
+    }
+    let mut pace = Pace::default().least(8).words(10);
+    assert_eq!(heap.work_paced(&mut pace, 0).unwrap().unwrap().last, Step::Begun);
+    // 159 words are free, and a program that wants them all waits for the flip, but the first object takes ten words.
+    assert_eq!(heap.steps_due(&pace, 159), 41);
+    let copied = heap.work_paced(&mut pace, 159).unwrap().unwrap();
+    assert_eq!((copied.steps, copied.copied, copied.last, pace.owed()), (1, 10, Step::Copied, 40));
+    assert_eq!(heap.steps_due(&pace, 0), 40);
+    let mut unbounded = pace.words(0);
+    let last = heap.work_paced(&mut unbounded, 0).unwrap().unwrap();
+    assert_eq!((last.steps, last.last, unbounded.owed()), (40, Step::Flipped { pairs: 4 }, 0));
+}

@@ -1,6 +1,7 @@
--- What paced work leaves in the logs, and that it stays ahead of the mutators.
+-- What paced work leaves in the logs, and that it stays ahead of the mutators, but for the steps that it owes.
 use Rattle.std.proofs.Common.{◌≡◌, ◌≢◌, ◌⊎◌, inl, inr, ⊎_elim, ℕ, zero, suc, ◌+◌, ◌≤◌, true, false, Option, Some, None, refl, ap, ◌∙◌, subst, arith}
-use Rattle.std.specs.Prelude.{min}
+use Rattle.std.specs.Prelude.{min, IsTrue}
+use Rattle.std.proofs.lemmas.Bool.{and_from, or_left, or_right, le-leb, cases_lt}
 use Rattle.gc_plan.specs.State.{Collection, State, heap_end}
 use Rattle.gc_plan.specs.Belonging.{IsSpaceGraph, IsOpen}
 use Rattle.gc_plan.specs.Progress.{work_with, work_left}
@@ -9,8 +10,8 @@ use Rattle.gc_plan.specs.declared.step.StepReply.TheVariants as replies
 use Rattle.gc_plan.proofs.Public.{left_bounded}
 use Rattle.gcflip_heap_c.specs.Replies.{step_reply_in_c}
 use Rattle.gcflip_heap_c.specs.Readings.{counts_with, counts_of}
-use Rattle.gcflip_heap_c.specs.Work.{IsWork, goes_on}
-use Rattle.gcflip_heap_c.specs.Pace.{steps_left, spent, steps_due, Pays, pace_after, no_work, CountsAll, HasEnded, IsPacedWork}
+use Rattle.gcflip_heap_c.specs.Work.{IsRun, IsEnd, IsWork, IsEndWithin, IsWorkWithin, goes_on}
+use Rattle.gcflip_heap_c.specs.Pace.{steps_left, spent, steps_due, Pays, took_its_words, owed_after, pace_after, no_work, CountsAll, HasEnded, IsPacedWork}
 use Rattle.gcflip_heap_c.specs.declared.pace.GcflipPace.{GcflipPace}
 use Rattle.gcflip_heap_c.specs.declared.reading.GcflipCounts.{GcflipCounts}
 use Rattle.gcflip_heap_c.specs.declared.work.GcflipWork.{GcflipWork}
@@ -51,14 +52,50 @@ off_of replies.Dropped off = absurd cc
 
 -- ---- the work of one call
 
--- the steps lowered the work that is left by their number
-work_falls : (size : Option ℕ) (most : ℕ) (s t : State) (work : GcflipWork) → IsWork size most s t work → work.last ≢ 43 → work.last ≢ 36 → work_left t + work.steps ≤ work_left s
-work_falls size most s t work done flip room = done.run.falls (on_of done.reply (λ e. flip (done.last ∙ e)) (λ e. room (done.last ∙ e)))
+-- the useful steps that were due, whether the pace bounds their words or not
+pub record IsDueWork (before : GcflipPace) (due : ℕ) (s t : State) (work : GcflipWork) : Type 0 where
+  pub reply : StepReply
+  pub run : IsRun None work.steps s t reply
+  pub last : work.last ≡ step_reply_in_c reply
+  pub enough : work_left s ≤ due → IsEnd None t reply ⊎ IsTrue (took_its_words before work)
 
-work_ends : (most : ℕ) (s t : State) (work : GcflipWork) → IsWork None most s t work → work_left s ≤ most → HasEnded t work
-work_ends most s t work done low = ⊎_elim
-    (λ off. inl (⊎_elim (λ e. inl (done.last ∙ e)) (λ e. inr (done.last ∙ e)) (off_of done.reply off)))
-    (λ fails. inr fails)
+took : (before : GcflipPace) (work : GcflipWork) → 1 ≤ before.words → (before.words ≤ work.steps) ⊎ (before.words ≤ work.copied) → IsTrue (took_its_words before work)
+took before work some many = and_from _ _ (le-leb 1 before.words some)
+    (⊎_elim (λ steps. or_left _ _ (le-leb before.words work.steps steps)) (λ words. or_right _ _ (le-leb before.words work.copied words)) many)
+
+pub due_work : (before : GcflipPace) (due : ℕ) (s t : State) (work : GcflipWork)
+    → (before.words ≡ 0 → IsWork None due s t work) → (1 ≤ before.words → IsWorkWithin (min due before.words) before.words s t work) → IsDueWork before due s t work
+due_work before due s t work whole within = go before.words refl
+  where
+    go : (n : ℕ) → before.words ≡ n → IsDueWork before due s t work
+    go zero e = let done = whole e in record { reply = done.reply; run = done.run; last = done.last; enough = λ low. inl (done.enough low) }
+    go (suc n) e =
+        let some : 1 ≤ before.words = omega arith in
+        let done = within some in
+        record {
+          reply = done.reply;
+          run = done.run;
+          last = done.last;
+          enough = λ low. ⊎_elim
+              (λ early. ends done.reply some (done.ended early))
+              (λ all. ⊎_elim
+              (λ few. ends done.reply some (done.enough (omega (arith, few, low))))
+              (λ many. inr (took before work some (inl (omega (arith, all, many)))))
+              (cases_lt due before.words))
+              (cases_lt work.steps (min due before.words));
+        }
+      where
+        ends : (reply : StepReply) → 1 ≤ before.words → IsEndWithin before.words t reply work → IsEnd None t reply ⊎ IsTrue (took_its_words before work)
+        ends reply some ended = ⊎_elim (λ off. inl (inl off)) (λ rest. ⊎_elim (λ fails. inl (inr fails)) (λ many. inr (took before work some (inr many))) rest) ended
+
+-- the steps lowered the work that is left by their number
+work_falls : (before : GcflipPace) (due : ℕ) (s t : State) (work : GcflipWork) → IsDueWork before due s t work → work.last ≢ 43 → work.last ≢ 36 → work_left t + work.steps ≤ work_left s
+work_falls before due s t work done flip room = done.run.falls (on_of done.reply (λ e. flip (done.last ∙ e)) (λ e. room (done.last ∙ e)))
+
+work_ends : (before : GcflipPace) (due : ℕ) (s t : State) (work : GcflipWork) → IsDueWork before due s t work → work_left s ≤ due → HasEnded t work ⊎ IsTrue (took_its_words before work)
+work_ends before due s t work done low = ⊎_elim
+    (λ ended. inl (⊎_elim (λ off. inl (⊎_elim (λ e. inl (done.last ∙ e)) (λ e. inr (done.last ∙ e)) (off_of done.reply off))) (λ fails. inr fails) ended))
+    (λ many. inr many)
     (done.enough low)
 
 idle_left : (s : State) → (counts_of s).is_open ≡ 0 → work_left s ≡ heap_end s + 1
@@ -70,7 +107,7 @@ idle_left s idle = go s.collection idle
 
 module _ (s t : State) (before : GcflipPace) (work : GcflipWork) (due : ℕ)
     (heap : IsSpaceGraph s.size s.heap.free s.heap.graph) (opened : IsOpen s s.collection) (still : IsOpen t t.collection)
-    (none : due ≡ 0 → (t ≡ s) × (work ≡ no_work)) (some : 1 ≤ due → IsWork None due s t work) where
+    (none : due ≡ 0 → (t ≡ s) × (work ≡ no_work)) (some : 1 ≤ due → IsDueWork before due s t work) where
   -- no step was due, or some were performed
   split : (due ≡ 0) ⊎ (1 ≤ due)
   split = go due refl
@@ -91,55 +128,66 @@ module _ (s t : State) (before : GcflipPace) (work : GcflipWork) (due : ℕ)
       (λ busy. let run = (some busy).run.logs in omega (arith, run, logged_low t still, bound all))
       split
 
-  enough_of : CountsAll (counts_of s) → steps_left (counts_of s) ≤ due → HasEnded t work
-  enough_of all most = work_ends due s t work (some (omega (arith, most, some_left s, bound all))) (omega (arith, most, bound all))
+  enough_of : CountsAll (counts_of s) → steps_left (counts_of s) ≤ due → HasEnded t work ⊎ IsTrue (took_its_words before work)
+  enough_of all most = work_ends before due s t work (some (omega (arith, most, some_left s, bound all))) (omega (arith, most, bound all))
 
   begun_of : (counts_of s).is_open ≡ 0 → 1 ≤ work.steps → work.last ≢ 43 → work.last ≢ 36 → work_left t ≤ (counts_of s).end
   begun_of idle steps flip room = ⊎_elim
       (λ quiet. let none_made : work.steps ≡ 0 = ap (λ (w : GcflipWork). w.steps) (none quiet).1 in absurd (omega (arith, steps)))
-      (λ busy. omega (arith, work_falls None due s t work (some busy) flip room, steps, idle_left s idle, end_at s))
+      (λ busy. omega (arith, work_falls before due s t work (some busy) flip room, steps, idle_left s idle, end_at s))
       split
 
-  -- the work after the call
-  ahead_of : (most gone : ℕ) → min (min gone (steps_left (counts_of s))) 4294967295 ≤ due → gone ≤ 4294967295 → CountsAll (counts_of s) → work.steps ≡ due → work.last ≢ 43 → work.last ≢ 36
-      → work_left s ≤ most + gone → work_left t ≤ most
-  ahead_of most gone pays few all made flip room low = ⊎_elim
+  -- the work after the call, which owes so many steps
+  ahead_of : (most gone owed : ℕ) → min (min gone (steps_left (counts_of s))) 4294967295 ≤ due → gone ≤ 4294967295 → CountsAll (counts_of s) → work.steps + owed ≡ due → work.last ≢ 43 → work.last ≢ 36
+      → work_left s ≤ most + gone → work_left t ≤ most + owed
+  ahead_of most gone owed pays few all made flip room low = ⊎_elim
       (λ quiet. let same : work_left t ≡ work_left s = ap work_left (none quiet).0 in omega (arith, low, quiet, pays, few, some_left s, bound all))
-      (λ busy. omega (arith, work_falls None due s t work (some busy) flip room, low, made, pays, few, some_left t, bound all))
+      (λ busy. omega (arith, work_falls before due s t work (some busy) flip room, low, made, pays, few, some_left t, bound all))
       split
 
 pub paced_work : (wanted : ℕ) (s t : State) (before after : GcflipPace) (work : GcflipWork)
     → IsSpaceGraph s.size s.heap.free s.heap.graph → IsOpen s s.collection → IsOpen t t.collection
     → (steps_due before (counts_of s) wanted ≡ 0 → (t ≡ s) × (work ≡ no_work))
-    → (1 ≤ steps_due before (counts_of s) wanted → IsWork None (steps_due before (counts_of s) wanted) s t work)
-    → Pays before (counts_of s) (steps_due before (counts_of s) wanted) → after ≡ pace_after before work (counts_of t)
+    → (1 ≤ steps_due before (counts_of s) wanted → before.words ≡ 0 → IsWork None (steps_due before (counts_of s) wanted) s t work)
+    → (1 ≤ steps_due before (counts_of s) wanted → 1 ≤ before.words → IsWorkWithin (min (steps_due before (counts_of s) wanted) before.words) before.words s t work)
+    → Pays before (counts_of s) (steps_due before (counts_of s) wanted) → after ≡ pace_after before (steps_due before (counts_of s) wanted) work (counts_of t)
     → IsPacedWork wanted s t before after work
-paced_work wanted s t before after work heap opened still none some paid pace = record {
+paced_work wanted s t before after work heap opened still none some within paid pace = record {
   none = none;
   some = some;
+  within = within;
   paid = paid;
   pace = pace;
-  logs = logs_of s t before work (steps_due before (counts_of s) wanted) heap opened still none some;
-  enough = enough_of s t before work (steps_due before (counts_of s) wanted) heap opened still none some;
-  begun = begun_of s t before work (steps_due before (counts_of s) wanted) heap opened still none some;
+  logs = logs_of s t before work due heap opened still none performed;
+  enough = enough_of s t before work due heap opened still none performed;
+  begun = begun_of s t before work due heap opened still none performed;
   ahead = λ most on low.
-      let left = ahead_of s t before work (steps_due before (counts_of s) wanted) heap opened still none some most (spent before (counts_of s)) (paid on.collecting) on.few on.counted on.performed on.unflipped on.roomy low in
-      omega (arith, left);
+      let owes : after.owed ≡ owed_after before due work = ap (λ (p : GcflipPace). p.owed) pace in
+      let left = ahead_of s t before work due heap opened still none performed most (before.owed + spent before (counts_of s)) (owed_after before due work) (paid on.collecting) on.few on.counted
+      on.performed on.unflipped on.roomy (omega (arith, low)) in
+      omega (arith, left, owes);
   fewer = omega (arith, logged_low t still, entries_low t);
 }
+  where
+    due : ℕ
+    due = steps_due before (counts_of s) wanted
+
+    performed : 1 ≤ due → IsDueWork before due s t work
+    performed busy = due_work before due s t work (some busy) (within busy)
 
 -- the same, as the call finds the counts and the steps that are due
 pub paced_call : (wanted due : ℕ) (s t : State) (before after : GcflipPace) (work : GcflipWork) (counts later : GcflipCounts)
     → due ≡ steps_due before counts wanted → Pays before counts due
-    → (due ≡ 0 → (t ≡ s) × (work ≡ no_work)) → (1 ≤ due → IsWork None due s t work)
-    → after ≡ pace_after before work later
+    → (due ≡ 0 → (t ≡ s) × (work ≡ no_work)) → (1 ≤ due → before.words ≡ 0 → IsWork None due s t work) → (1 ≤ due → 1 ≤ before.words → IsWorkWithin (min due before.words) before.words s t work)
+    → after ≡ pace_after before due work later
     → counts ≡ counts_of s → later ≡ counts_of t
     → IsSpaceGraph s.size s.heap.free s.heap.graph → IsOpen s s.collection → IsOpen t t.collection
     → IsPacedWork wanted s t before after work
-paced_call wanted due s t before after work counts later is pays none some pace at then heap opened still =
+paced_call wanted due s t before after work counts later is pays none some within pace at then heap opened still =
     let same : due ≡ steps_due before (counts_of s) wanted = is ∙ ap (λ (n : GcflipCounts). steps_due before n wanted) at in
     paced_work wanted s t before after work heap opened still
     (subst (λ (n : ℕ). n ≡ 0 → (t ≡ s) × (work ≡ no_work)) same none)
-    (subst (λ (n : ℕ). 1 ≤ n → IsWork None n s t work) same some)
+    (subst (λ (n : ℕ). 1 ≤ n → before.words ≡ 0 → IsWork None n s t work) same some)
+    (subst (λ (n : ℕ). 1 ≤ n → 1 ≤ before.words → IsWorkWithin (min n before.words) before.words s t work) same within)
     (subst (λ (n : ℕ). Pays before (counts_of s) n) same (subst (λ (n : GcflipCounts). Pays before n due) at pays))
-    (pace ∙ ap (pace_after before work) then)
+    (pace ∙ (ap (λ (n : ℕ). pace_after before n work later) same ∙ ap (pace_after before (steps_due before (counts_of s) wanted) work) then))

@@ -1,4 +1,4 @@
--- Each word allocated and each entry logged is paid for by a step, unless fewer steps are left.
+-- Each step owed, each word allocated and each entry logged is paid for by a step, unless fewer steps are left.
 use Rattle.std.proofs.Common.{◌≡◌, ℕ, zero, suc, ◌+◌, ◌-◌, ◌*◌, ◌/◌, ◌≤◌, ◌==◌, nat_lt, Bool, true, false, cond, refl, arith}
 use Rattle.std.specs.Prelude.{min}
 use Rattle.std.proofs.lemmas.Bool.{eqb-true}
@@ -31,8 +31,8 @@ paid pace counts wanted is_open = go (room == 0) (counts.is_open == 0) refl
     enough = times (spent pace counts) (rate_of pace counts room) (some_rate pace counts room)
 
     go : (full idle : Bool) → (counts.is_open == 0) ≡ idle
-        → min (min (spent pace counts) (steps_left counts)) 4294967295
-        ≤ min (cond full (steps_left counts) (cond idle (cond (nat_lt counts.end (beginning pace counts)) 0 1) (min (steps_left counts) (spent pace counts * rate_of pace counts room)))) 4294967295
+        → min (min (pace.owed + spent pace counts) (steps_left counts)) 4294967295
+        ≤ min (cond full (steps_left counts) (cond idle (cond (nat_lt counts.end (beginning pace counts)) 0 1) (min (steps_left counts) (pace.owed + spent pace counts * rate_of pace counts room)))) 4294967295
     go true idle e = omega arith
     go false true e = absurd (omega (arith, is_open, eqb-true counts.is_open 0 e))
     go false false e = omega (arith, enough)

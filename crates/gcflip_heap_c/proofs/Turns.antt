@@ -1,6 +1,6 @@
--- Paced work stays ahead of the mutators through many calls.
-use Rattle.std.proofs.Common.{◌≡◌, ℕ, zero, suc, ◌+◌, ◌-◌, ◌<◌, ◌≤◌, nat_lt, List, [], ◌∷◌, ◌++◌, set, slice_get, Option, Some, None, refl, ap, sym, subst, arith}
-use Rattle.std.proofs.lemmas.Bool.{cond_both}
+-- Paced work stays ahead of the mutators through many calls, but for the steps that it owes.
+use Rattle.std.proofs.Common.{◌≡◌, ℕ, zero, suc, ◌+◌, ◌-◌, ◌<◌, ◌≤◌, nat_lt, List, [], ◌∷◌, ◌++◌, ◌==◌, ◌||◌, set, slice_get, Option, Some, None, refl, ap, sym, ◌∙◌, subst, arith}
+use Rattle.std.proofs.lemmas.Bool.{cond_both, and_parts, leb-true}
 use Rattle.std.proofs.lemmas.List.{length-append}
 use Rattle.gc_graph.specs.Machine.{Roomy, words_taken}
 use Rattle.gc_graph.specs.declared.command.Op.{Op}
@@ -12,11 +12,12 @@ use Rattle.gc_plan.specs.Progress.{entries_in, work_left, entries_with, entries_
 use Rattle.gc_plan.proofs.Public.{collect_keeps, mutate_keeps, useful_ranges, command_raises}
 use Rattle.gcflip_heap_c.specs.Readings.{counts_of}
 use Rattle.gcflip_heap_c.specs.Work.{after_useful}
-use Rattle.gcflip_heap_c.specs.Pace.{steps_due, CountsAll, IsAhead, IsPacedWork}
-use Rattle.gcflip_heap_c.specs.Turns.{Turn, after_commands, AreCommands, AreTurns, after_turns, Remembers}
+use Rattle.gcflip_heap_c.specs.Pace.{steps_due, CountsAll, took_its_words, owed_after, IsAhead, IsPacedWork}
+use Rattle.gcflip_heap_c.specs.Turns.{Turn, after_commands, AreCommands, AreTurns, after_turns, last_pace, Remembers}
 use Rattle.gcflip_heap_c.specs.declared.pace.GcflipPace.{GcflipPace}
 use Rattle.gcflip_heap_c.specs.declared.work.GcflipWork.{GcflipWork}
 use Rattle.gcflip_heap_c.proofs.Left.{entries_low, end_at, logged_low, logged_all}
+use Rattle.gcflip_heap_c.proofs.Paced.{due_work}
 
 -- ---- commands take no word and no entry away
 
@@ -53,7 +54,7 @@ raised s (command ∷ rest) h k =
     let later_work = later.work in
     record { state = later.state; end = omega arith; entries = omega arith; work = omega arith }
 
-ahead_before : (s t : State) (pace : GcflipPace) (most : ℕ) → IsState s → IsRaised s t → Remembers pace s → CountsAll (counts_of t) → work_left s ≤ most → IsAhead most pace t
+ahead_before : (s t : State) (pace : GcflipPace) (most : ℕ) → IsState s → IsRaised s t → Remembers pace s → CountsAll (counts_of t) → work_left s ≤ most + pace.owed → IsAhead most pace t
 ahead_before s t pace most h k remembers all low =
     let end = remembers.end in
     let logged = remembers.logged in
@@ -77,7 +78,10 @@ call_keeps wanted s t before after work paced h = go (steps_due before (counts_o
   where
     go : (n : ℕ) → steps_due before (counts_of s) wanted ≡ n → IsState t
     go zero e = subst IsState (sym (paced.none e).0) h
-    go (suc n) e = let done = paced.some (omega (arith, e)) in subst IsState (sym (done.run).state) (useful_keep work.steps s h)
+    go (suc n) e =
+        let busy : 1 ≤ steps_due before (counts_of s) wanted = omega arith in
+        let done = due_work before (steps_due before (counts_of s) wanted) s t work (paced.some busy) (paced.within busy) in
+        subst IsState (sym (done.run).state) (useful_keep work.steps s h)
 
 call_remembers : (wanted : ℕ) (s t : State) (before after : GcflipPace) (work : GcflipWork) → IsPacedWork wanted s t before after work → Remembers after t
 call_remembers wanted s t before after work paced = record {
@@ -85,7 +89,8 @@ call_remembers wanted s t before after work paced = record {
   logged = ap (λ (p : GcflipPace). p.logged) paced.pace;
 }
 
-pub turns_ahead : (s : State) (pace : GcflipPace) (turns : List Turn) (most : ℕ) → IsState s → Remembers pace s → AreTurns s pace turns → work_left s ≤ most → IsState (after_turns s turns) × (work_left (after_turns s turns) ≤ most)
+pub turns_ahead : (s : State) (pace : GcflipPace) (turns : List Turn) (most : ℕ) → IsState s → Remembers pace s → AreTurns s pace turns → work_left s ≤ most + pace.owed
+    → IsState (after_turns s turns) × (work_left (after_turns s turns) ≤ most + (last_pace pace turns).owed)
 turns_ahead s pace [] most h remembers k low = (h, low)
 turns_ahead s pace (turn ∷ turns) most h remembers k low =
     let one = k.0 in
@@ -98,10 +103,31 @@ turns_ahead s pace (turn ∷ turns) most h remembers k low =
     (call_keeps turn.wanted (after_commands s turn.commands) turn.state pace turn.pace turn.work one.work now.state)
     kept k.1 (omega (arith, ahead))
 
-pub turns_work : (s : State) (pace : GcflipPace) (turns : List Turn) (most : ℕ) → IsState s → Remembers pace s → AreTurns s pace turns → work_left s ≤ most → work_left (after_turns s turns) ≤ most
+pub turns_work : (s : State) (pace : GcflipPace) (turns : List Turn) (most : ℕ) → IsState s → Remembers pace s → AreTurns s pace turns → work_left s ≤ most + pace.owed
+    → work_left (after_turns s turns) ≤ most + (last_pace pace turns).owed
 turns_work s pace turns most h remembers k low = (turns_ahead s pace turns most h remembers k low).1
 
-pub turns_logs : (s : State) (pace : GcflipPace) (turns : List Turn) (most : ℕ) → IsState s → Remembers pace s → AreTurns s pace turns → work_left s ≤ most → (counts_of (after_turns s turns)).logged < most
+pub turns_logs : (s : State) (pace : GcflipPace) (turns : List Turn) (most : ℕ) → IsState s → Remembers pace s → AreTurns s pace turns → work_left s ≤ most + pace.owed
+    → (counts_of (after_turns s turns)).logged < most + (last_pace pace turns).owed
 turns_logs s pace turns most h remembers k low =
     let last = turns_ahead s pace turns most h remembers k low in
     omega (arith, last.1, logged_low (after_turns s turns) (last.0).collection, entries_low (after_turns s turns))
+
+-- ---- where words are not bounded, no step is owed
+
+call_owes : (wanted : ℕ) (s t : State) (before after : GcflipPace) (work : GcflipWork) → IsPacedWork wanted s t before after work → before.words ≡ 0 → (after.words ≡ 0) × (after.owed ≡ 0)
+call_owes wanted s t before after work paced free = (
+  ap (λ (p : GcflipPace). p.words) paced.pace ∙ free,
+  ap (λ (p : GcflipPace). p.owed) paced.pace ∙ nothing,
+)
+  where
+    nothing : owed_after before (steps_due before (counts_of s) wanted) work ≡ 0
+    nothing = cond_both ((work.last == 43) || (work.last == 36)) _ _ (λ (n : ℕ). n ≡ 0) (λ ended. refl)
+        (λ on. cond_both (took_its_words before work) _ _ (λ (n : ℕ). n ≡ 0)
+        (λ many. absurd (omega (arith, free, leb-true 1 before.words (and_parts _ _ many).0))) (λ few. refl))
+
+pub turns_owe : (s : State) (pace : GcflipPace) (turns : List Turn) → AreTurns s pace turns → pace.words ≡ 0 → pace.owed ≡ 0 → (last_pace pace turns).owed ≡ 0
+turns_owe s pace [] k free none = none
+turns_owe s pace (turn ∷ turns) k free none =
+    let call = call_owes turn.wanted (after_commands s turn.commands) turn.state pace turn.pace turn.work (k.0).work free in
+    turns_owe turn.state turn.pace turns k.1 call.0 call.1

@@ -1,11 +1,11 @@
 -- The steps that are due at a call of paced work: a function of the heap's counts and of a pace, which remembers counts of the call before.
-use Rattle.std.specs.Prelude.{◌≡◌, ◌≢◌, ◌⊎◌, ℕ, ◌+◌, ◌-◌, ◌*◌, ◌/◌, ◌<◌, ◌≤◌, ◌↔◌, ◌==◌, nat_lt, min, max, if◌then◌else◌, Option, Some, None, IsSomeAnd}
+use Rattle.std.specs.Prelude.{◌≡◌, ◌≢◌, ◌⊎◌, ℕ, ◌+◌, ◌-◌, ◌*◌, ◌/◌, ◌<◌, ◌≤◌, ◌↔◌, ◌==◌, ◌&&◌, ◌||◌, nat_lt, nat_le, min, max, if◌then◌else◌, IsTrue, Bool, Option, Some, None, IsSomeAnd}
 use Rattle.gc_plan.specs.State.{State}
 use Rattle.gc_plan.specs.Steps.{useful_step}
 use Rattle.gc_plan.specs.Progress.{work_left}
 use Rattle.gc_core.specs.CollectedHeap.{Allocates}
 use Rattle.gcflip_heap_c.specs.Readings.{counts_of}
-use Rattle.gcflip_heap_c.specs.Work.{IsWork}
+use Rattle.gcflip_heap_c.specs.Work.{IsWork, IsWorkWithin}
 use Rattle.gcflip_heap_c.specs.declared.pace.GcflipPace.{GcflipPace}
 use Rattle.gcflip_heap_c.specs.declared.reading.GcflipCounts.{GcflipCounts}
 use Rattle.gcflip_heap_c.specs.declared.work.GcflipWork.{GcflipWork}
@@ -39,26 +39,39 @@ abbrev pub due_with : GcflipPace → GcflipCounts → ℕ → ℕ
 due_with pace counts room =
     if room == 0 then steps_left counts
     else if counts.is_open == 0 then (if nat_lt counts.end (beginning pace counts) then 0 else 1)
-    else min (steps_left counts) (spent pace counts * rate_of pace counts room)
+    else min (steps_left counts) (pace.owed + spent pace counts * rate_of pace counts room)
 
 -- the steps that are due before the program allocates this many words; a call performs fewer than 2^32
 abbrev pub steps_due : GcflipPace → GcflipCounts → ℕ → ℕ
 steps_due pace counts wanted = min (due_with pace counts (counts.free - wanted)) 4294967295
 
--- While a collection is open, each word allocated and each entry logged since the call before is paid for by a step, unless fewer
--- are left.
+-- While a collection is open, the steps owed are due, and each word allocated and each entry logged since the call before is paid for by
+-- a step more, unless fewer are left.
 abbrev pub Pays : GcflipPace → GcflipCounts → ℕ → Type 0
-Pays pace counts due = 1 ≤ counts.is_open → min (min (spent pace counts) (steps_left counts)) 4294967295 ≤ due
+Pays pace counts due = 1 ≤ counts.is_open → min (min (pace.owed + spent pace counts) (steps_left counts)) 4294967295 ≤ due
 
 -- ---- what the pace remembers
 
--- the pace of a heap with these counts, where nothing was allocated yet
+-- the pace of a heap with these counts, where nothing was allocated yet and no step is owed
 abbrev pub pace_from : GcflipPace → GcflipCounts → GcflipPace
-pace_from pace counts = record pace { left = counts.end; end = counts.end; logged = counts.logged }
+pace_from pace counts = record pace { left = counts.end; end = counts.end; logged = counts.logged; owed = 0 }
 
--- the pace after this work, which led to these counts; 43 stands for a flip
-abbrev pub pace_after : GcflipPace → GcflipWork → GcflipCounts → GcflipPace
-pace_after pace work counts = record pace { left = (if work.last == 43 then counts.end else pace.left); end = counts.end; logged = counts.logged }
+-- the pace bounds the words of a call, and this call performed as many steps, or its replicas took as many words
+abbrev pub took_its_words : GcflipPace → GcflipWork → Bool
+took_its_words pace work = nat_lt 0 pace.words && (nat_le pace.words work.steps || nat_le pace.words work.copied)
+
+-- The steps that are owed after this work: those of the steps due that it left because it took its words. A call that flipped, which 43
+-- stands for, or found no room, which 36 stands for, owes none.
+abbrev pub owed_after : GcflipPace → ℕ → GcflipWork → ℕ
+owed_after pace due work =
+    if (work.last == 43) || (work.last == 36) then 0
+    else if took_its_words pace work then due - work.steps
+    else 0
+
+-- the pace after this work, for which so many steps were due, and which led to these counts
+abbrev pub pace_after : GcflipPace → ℕ → GcflipWork → GcflipCounts → GcflipPace
+pace_after pace due work counts =
+    record pace { left = (if work.last == 43 then counts.end else pace.left); end = counts.end; logged = counts.logged; owed = owed_after pace due work }
 
 -- ---- paced work
 
@@ -73,31 +86,34 @@ CountsAll counts = counts.logged < 4294967295
 abbrev pub HasEnded : State → GcflipWork → Type 0
 HasEnded t work = ((work.last ≡ 43) ⊎ (work.last ≡ 36)) ⊎ Allocates t (useful_step t)
 
--- a collection was open, the call performed the steps that were due, neither flipped nor lacked room, and the counts are exact
+-- A collection was open, and each step that was due was performed or is owed. The call neither flipped nor lacked room, and the counts are
+-- exact.
 pub record GoesOn (wanted : ℕ) (s : State) (before : GcflipPace) (work : GcflipWork) : Type 0 where
   pub collecting : 1 ≤ (counts_of s).is_open
   pub counted : CountsAll (counts_of s)
-  pub few : spent before (counts_of s) ≤ 4294967295
-  pub performed : work.steps ≡ steps_due before (counts_of s) wanted
+  pub few : before.owed + spent before (counts_of s) ≤ 4294967295
+  pub performed : work.steps + owed_after before (steps_due before (counts_of s) wanted) work ≡ steps_due before (counts_of s) wanted
   pub unflipped : work.last ≢ 43
   pub roomy : work.last ≢ 36
 
--- besides what was spent since the call before, at most this much work is left
+-- besides the steps owed, and what was spent since the call before, at most this much work is left
 abbrev pub IsAhead : ℕ → GcflipPace → State → Type 0
-IsAhead most pace s = work_left s ≤ most + spent pace (counts_of s)
+IsAhead most pace s = work_left s ≤ most + pace.owed + spent pace (counts_of s)
 
 -- the useful steps that are due, in order, or none
 pub record IsPacedWork (wanted : ℕ) (s t : State) (before after : GcflipPace) (work : GcflipWork) : Type 0 where
   pub none : steps_due before (counts_of s) wanted ≡ 0 → (t ≡ s) × (work ≡ no_work)
-  pub some : 1 ≤ steps_due before (counts_of s) wanted → IsWork None (steps_due before (counts_of s) wanted) s t work
+  pub some : 1 ≤ steps_due before (counts_of s) wanted → before.words ≡ 0 → IsWork None (steps_due before (counts_of s) wanted) s t work
+  -- the same, but where the pace bounds the words, the steps end once there were as many, or replicas took as many words
+  pub within : 1 ≤ steps_due before (counts_of s) wanted → 1 ≤ before.words → IsWorkWithin (min (steps_due before (counts_of s) wanted) before.words) before.words s t work
   pub paid : Pays before (counts_of s) (steps_due before (counts_of s) wanted)
-  pub pace : after ≡ pace_after before work (counts_of t)
+  pub pace : after ≡ pace_after before (steps_due before (counts_of s) wanted) work (counts_of t)
   -- the entries that remain in all logs, and the steps performed, are at most the steps that were left
   pub logs : CountsAll (counts_of s) → (counts_of t).logged + work.steps ≤ steps_left (counts_of s)
-  -- as many steps as are left end the collection
-  pub enough : CountsAll (counts_of s) → steps_left (counts_of s) ≤ steps_due before (counts_of s) wanted → HasEnded t work
-  -- The call that begins a collection leaves at most as much work as the heap's end. From then on, no call leaves more than the call before.
-  -- All logs together have fewer entries than that.
+  -- as many steps as are left end the collection, unless the call took its words first
+  pub enough : CountsAll (counts_of s) → steps_left (counts_of s) ≤ steps_due before (counts_of s) wanted → HasEnded t work ⊎ IsTrue (took_its_words before work)
+  -- The call that begins a collection leaves at most as much work as the heap's end. From then on, no call leaves more than the call before,
+  -- besides the steps that it owes. All logs together have fewer entries than the work that is left.
   pub begun : (counts_of s).is_open ≡ 0 → 1 ≤ work.steps → work.last ≢ 43 → work.last ≢ 36 → work_left t ≤ (counts_of s).end
   pub ahead : (most : ℕ) → GoesOn wanted s before work → IsAhead most before s → IsAhead most after t
   pub fewer : (counts_of t).logged < work_left t

@@ -40,6 +40,10 @@ abbrev pub after_turns : State → List Turn → State
 after_turns s [] = s
 after_turns s (turn ∷ turns) = after_turns turn.state turns
 
+abbrev pub last_pace : GcflipPace → List Turn → GcflipPace
+last_pace pace [] = pace
+last_pace pace (turn ∷ turns) = last_pace turn.pace turns
+
 -- the pace remembers the counts of this state
 pub record Remembers (pace : GcflipPace) (s : State) : Type 0 where
   pub end : pace.end ≡ (counts_of s).end

@@ -1,18 +1,18 @@
 //! The pace of collector steps: how many are due, as a function of counts, and the exports that perform them.
 
-ghost use Rattle.std.specs.Prelude.{◌≡◌, ◌⊎◌, ◌<◌, ◌≤◌, ◌↔◌, ◌^◌, ◌*◌, min, None, IsSomeAnd, IsTrue, IfOk, OnErr};
+ghost use Rattle.std.specs.Prelude.{◌≡◌, ◌⊎◌, ◌<◌, ◌≤◌, ◌↔◌, ◌^◌, ◌+◌, ◌*◌, min, None, IsSomeAnd, IsTrue, IfOk, OnErr};
 ghost use Rattle.gc_plan.specs.Steps.{useful_step};
 ghost use Rattle.gc_core.specs.CollectedHeap.{Allocates};
 ghost use Rattle.gcflip_heap_c.specs.Readings as readings;
 ghost use Rattle.gcflip_heap_c.specs.Pace as paces;
 ghost use Rattle.gcflip_heap_c.specs.Pace.{IsPace, IsPacedWork, IsPacedCall};
 ghost use Rattle.gcflip_heap_c.specs.Former.{LeavesAfter};
-ghost use Rattle.gcflip_heap_c.specs.Work.{IsWork};
+ghost use Rattle.gcflip_heap_c.specs.Work.{IsWork, IsWorkWithin};
 
 use crate::answer::{CLOSED, DONE, NO_MEMORY, OUT_OF_RANGE};
 use crate::handle::GcflipHeap;
 use crate::reading::{GcflipCounts, counts_of};
-use crate::work::{GcflipWork, work_on};
+use crate::work::{GcflipWork, work_on, work_within_on};
 use gc_graph::NoMemory;
 use gc_live::KeptHeap;
 
@@ -25,6 +25,9 @@ const HIGHEST_FACTOR: u32 = 10_000;
 /// The number that stands for a flip, as the reply to a step.
 const FLIPPED: u32 = 43;
 
+/// The number that stands for a step that found no room.
+const NO_ROOM: u32 = 36;
+
 /// When a collection begins and how fast it goes on, and what paced work remembers of the call before, as C sees it.
 #[repr(C)]
 #[derive(Clone, Copy, Debug, Drop, PartialEq, Eq)]
@@ -35,12 +38,16 @@ pub struct GcflipPace {
     pub rate: u32,
     /// The words in use below which no collection begins, unless little room is left.
     pub least: u32,
+    /// A call ends once it performed this many steps, or its replicas took this many words; or 0 if it performs all steps that are due.
+    pub words: u32,
     /// The heap's end after the last flip.
     pub left: u32,
     /// The heap's end after the last call.
     pub end: u32,
     /// The number of log entries after the last call.
     pub logged: u32,
+    /// The steps that were due at the last call, and that `words` kept it from.
+    pub owed: u32,
 }
 
 /// Returns an upper bound on the useful steps that are left until the flip, if no mutator acts.
@@ -91,12 +98,13 @@ fn rate(pace: &GcflipPace, counts: &GcflipCounts, room: u32) -> u64
 /// Returns the number of steps that are due while a collection is open.
 fn due_while_open(pace: &GcflipPace, counts: &GcflipCounts, room: u32) -> u64
     requires { 1 ≤ room }
-    ensures { result ≡ min (paces.steps_left counts.now) (paces.spent pace.now counts.now * paces.rate_of pace.now counts.now room) }
+    ensures { result ≡ min (paces.steps_left counts.now) (pace.now.owed + paces.spent pace.now counts.now * paces.rate_of pace.now counts.now room) }
 {
+    let _pace = *pace;
     let left = steps_left(counts);
     let paid = u128::from(spent(pace, counts)) * u128::from(rate(pace, counts, room));
     if paid < u128::from(left) {
-        paid as u64
+        left.min(u64::from(pace.owed) + paid as u64)
     } else {
         left
     }
@@ -165,6 +173,7 @@ pub extern "C" fn gcflip_heap_pace(heap: &mut GcflipHeap, pace: &mut GcflipPace)
     pace.left = counts.end;
     pace.end = counts.end;
     pace.logged = counts.logged;
+    pace.owed = 0;
     DONE
 }
 
@@ -175,14 +184,36 @@ struct Paced {
     pace: GcflipPace,
 }
 
-/// Returns the pace after this work, which led to these counts.
-fn pace_after(pace: &GcflipPace, work: &GcflipWork, counts: &GcflipCounts) -> GcflipPace
-    ensures { result ≡ paces.pace_after pace.now work.now counts.now }
+/// Returns whether the pace bounds the words of a call, and this call performed as many steps, or its replicas took as many words.
+fn took_its_words(pace: &GcflipPace, work: &GcflipWork) -> bool
+    ensures { result ≡ paces.took_its_words pace.now work.now }
+{
+    pace.words > 0 && (work.steps >= pace.words || work.copied >= pace.words)
+}
+
+/// Returns the steps that are owed after this work, for which so many were due.
+fn owed_after(pace: &GcflipPace, due: u32, work: &GcflipWork) -> u32
+    ensures { result ≡ paces.owed_after pace.now due work.now }
+{
+    if work.last == FLIPPED || work.last == NO_ROOM {
+        return 0;
+    }
+    if took_its_words(pace, work) {
+        due.saturating_sub(work.steps)
+    } else {
+        0
+    }
+}
+
+/// Returns the pace after this work, for which so many steps were due, and which led to these counts.
+fn pace_after(pace: &GcflipPace, due: u32, work: &GcflipWork, counts: &GcflipCounts) -> GcflipPace
+    ensures { result ≡ paces.pace_after pace.now due work.now counts.now }
 {
     GcflipPace {
         factor: pace.factor,
         rate: pace.rate,
         least: pace.least,
+        words: pace.words,
         left: if work.last == FLIPPED {
             counts.end
         } else {
@@ -190,13 +221,15 @@ fn pace_after(pace: &GcflipPace, work: &GcflipWork, counts: &GcflipCounts) -> Gc
         },
         end: counts.end,
         logged: counts.logged,
+        owed: owed_after(pace, due, work),
     }
 }
 
-/// Performs this many useful steps, or none.
-fn work_due(heap: &mut KeptHeap, due: u32) -> Result<GcflipWork, NoMemory>
+/// Performs this many useful steps, or none. Ends once it performed `words` steps, or replicas took `words` words, unless that is 0.
+fn work_due(heap: &mut KeptHeap, words: u32, due: u32) -> Result<GcflipWork, NoMemory>
     ensures none { due ≡ 0 → IfOk result (λ work. (heap.new ≡ heap.old) × (work ≡ paces.no_work)) }
-    ensures some { 1 ≤ due → IfOk result (IsWork None due heap.old.live heap.new.live) }
+    ensures some { 1 ≤ due → words ≡ 0 → IfOk result (IsWork None due heap.old.live heap.new.live) }
+    ensures within { 1 ≤ due → 1 ≤ words → IfOk result (IsWorkWithin (min due words) words heap.old.live heap.new.live) }
     ensures former { IfOk result (λ work. LeavesAfter None work.steps heap.old.live heap.old.former heap.new.former) }
     ensures refused { OnErr result (heap.new ≡ heap.old) }
     ensures allocates { OnErr result (Allocates heap.old.live (useful_step heap.old.live)) }
@@ -209,7 +242,10 @@ fn work_due(heap: &mut KeptHeap, due: u32) -> Result<GcflipWork, NoMemory>
             pairs: 0,
         });
     }
-    work_on(heap, None, due)
+    if words == 0 {
+        return work_on(heap, None, due);
+    }
+    work_within_on(heap, due.min(words), words)
 }
 
 /// Performs the useful steps that are due.
@@ -221,14 +257,15 @@ fn work_at_pace(heap: &mut KeptHeap, pace: &GcflipPace, wanted: u32) -> Result<P
 {
     heap.live.is_sound();
     let due = gcflip_pace_due(pace, &counts_of(&heap.live), wanted);
-    let work = work_due(heap, due)?;
+    let work = work_due(heap, pace.words, due)?;
     heap.live.is_sound();
-    let pace = pace_after(pace, &work, &counts_of(&heap.live));
+    let pace = pace_after(pace, due, &work, &counts_of(&heap.live));
     Ok(Paced { work, pace })
 }
 
 /// Performs the useful steps that are due before the program allocates `wanted` words, and writes a report of them to `work`. Stops early
-/// for the reasons of `gcflip_heap_work`.
+/// for the reasons of `gcflip_heap_work` and, if the pace bounds the words, once it performed as many steps, or its replicas took as many
+/// words. The pace keeps the steps that are left then.
 #[unsafe(no_mangle)]
 pub extern "C" fn gcflip_heap_work_paced(
     heap: &mut GcflipHeap,

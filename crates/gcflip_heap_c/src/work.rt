@@ -251,7 +251,11 @@ pub(crate) fn work_on(
 }
 
 /// Performs useful steps until replicas have taken `words` words, and reports them.
-fn work_within_on(heap: &mut KeptHeap, most: u32, words: u32) -> Result<GcflipWork, NoMemory>
+pub(crate) fn work_within_on(
+    heap: &mut KeptHeap,
+    most: u32,
+    words: u32,
+) -> Result<GcflipWork, NoMemory>
     requires { 1 ≤ most }
     ensures work { IfOk result (IsWorkWithin most words heap.old.live heap.new.live) }
     ensures former { IfOk result (λ work. LeavesAfter None work.steps heap.old.live heap.old.former heap.new.former) }
