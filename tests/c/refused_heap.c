@@ -195,6 +195,27 @@ static void work_before_a_failure(void)
     free_all();
 }
 
+/* Checks that paced work owes no step because of a failure, and that a call whose first step fails leaves what the pace owes. */
+static void paced_work_before_a_failure(void)
+{
+    gcflip_pace pace = gcflip_pace_default();
+    if (checking == GCFLIP_ALONG)
+        return; /* no step of an open collection fails */
+    set_up_open();
+    pace.words = 4;
+    EXPECT(gcflip_heap_pace(&heap, &pace) == GCFLIP_DONE);
+    pace.owed = 7;
+    fail_allocation(1);
+    EXPECT(gcflip_heap_work_paced(&heap, &pace, 0, &work) == GCFLIP_DONE);
+    EXPECT(work.steps == 3 && work.copied == 3 && work.last == GCFLIP_PASSED && has_failed() && pace.owed == 0);
+    pace.owed = 7;
+    fail_allocation(1);
+    EXPECT(gcflip_heap_work_paced(&heap, &pace, 0, &work) == GCFLIP_NO_MEMORY && pace.owed == 7);
+    fail_allocation(0);
+    EXPECT(gcflip_heap_work_paced(&heap, &pace, 0, &work) == GCFLIP_DONE && work.last == GCFLIP_FLIPPED && pace.owed == 0);
+    free_all();
+}
+
 /* Makes the moves of extra roots. */
 static void move_roots(void)
 {
@@ -325,6 +346,7 @@ static void allocations(int tables, int flipping)
     EXPECT(failures(set_up_open, touch) == NONE);
     EXPECT(failures(set_up_flipped, touch) == NONE);
     work_before_a_failure();
+    paced_work_before_a_failure();
     calls_that_do_not_allocate();
     failed_begin();
 }
