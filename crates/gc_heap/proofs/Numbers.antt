@@ -1,8 +1,8 @@
 -- Numbers that are written to a raw object, one by one.
-use Rattle.std.proofs.Common.{◌≡◌, ◌<◌, ◌≤◌, ◌+◌, ◌-◌, ◌*◌, ◌^◌, ℕ, suc, List, [], ◌∷◌, length, map, drop, Some, None, Bool, cond, true, false, refl, sym, ap, subst, ◌∙◌, arith}
+use Rattle.std.proofs.Common.{◌≡◌, ◌<◌, ◌≤◌, ◌+◌, ◌-◌, ◌*◌, ◌^◌, ℕ, suc, List, [], ◌∷◌, length, map, Some, None, Bool, cond, true, false, refl, sym, ap, subst, ◌∙◌, arith}
 use Rattle.std.specs.Prelude.{get_or, slice_set, IsSome, not, ◌&&◌}
 use Rattle.std.specs.List.{All}
-use Rattle.std.proofs.lemmas.List.{drop_more, length-set, length-map, get_or-set_same}
+use Rattle.std.proofs.lemmas.List.{length-set, length-map, get_or-set_same}
 use Rattle.gc_words.specs.declared.header.Header.{Header}
 use Rattle.gc_heap.specs.Raws.{number_of, numbers_in, raw_numbers}
 use Rattle.gc_graph.specs.Graph.{Num, root, name_of}
@@ -13,7 +13,7 @@ use Rattle.gc_graph.specs.declared.reply.Reply.TheVariants.{Done}
 use Rattle.gc_words.specs.Word.{value_of, word_of, field_value}
 use Rattle.gc_words.specs.Image.{Block, field_at, field_in}
 use Rattle.gc_words.specs.Layout.{field_place}
-use Rattle.gc_words.specs.Space.{SpaceWords, IsSpace, with_field_at}
+use Rattle.gc_words.specs.Space.{SpaceWords, with_field_at, with_fields}
 use Rattle.gc_words.specs.Space.{end_of, free_in}
 use Rattle.gc_words.specs.Closed.{IsWordOfField, IsFieldWord}
 use Rattle.gc_words.proofs.Public.{field_block, object_found, root_value, value_read_back, value_refers, fields_counted}
@@ -26,35 +26,12 @@ use Rattle.std.proofs.lemmas.List.Elements.{All-head, All-tail}
 use Rattle.gc_heap.specs.Heap.{HeapWords, IsHeap, graph_in, roomy_in}
 use Rattle.gc_heap.specs.Commands.{Performs}
 use Rattle.gc_heap.specs.Filling.{TakesNumbers, WritesNumbers}
-use Rattle.gc_heap.specs.Internal.Written.{HasFields, with_fields}
 use Rattle.gc_words.specs.Image.{header_at}
 use Rattle.gc_heap.proofs.Commands.{Points, points, read_root, header_is, at_root, put_done, written_heap, taken_heap}
 use Rattle.gc_heap.proofs.Links.{links_written}
 use Rattle.gc_heap.proofs.Steps.{took_root}
 use Rattle.gc_heap.proofs.Views.{meaning}
 use Rattle.gc_heap.proofs.Filling.{some_at}
-
-pub there_at : (s : SpaceWords) (at first count i : ℕ) → HasFields s at first count → i < first + count → IsSome (field_at s.words at i)
-there_at s at first count i has less = subst (λ o. IsSome (field_in o i)) (sym has.found) (some_at has.block.fields i (omega (arith, has.long, less)))
-
--- the object still has its fields when one is written
-pub has_still : (s : SpaceWords) (at first count i w : ℕ) → IsSpace s → HasFields s at first count → i < first + count → HasFields (with_field_at s at i w) at first count
-has_still s at first count i w space has less = record {
-  block = record has.block { fields = slice_set has.block.fields i w };
-  found = field_block s at i w has.block space (there_at s at first count i has less) has.found;
-  long = subst (λ n. first + count ≤ n) (sym (length-set has.block.fields i w)) has.long;
-}
-
--- one more word is written
-pub one_more : (s next all : SpaceWords) (at first k d : ℕ) (words : List ℕ) → IsSpace s → k < length words → HasFields s at first (length words)
-    → next ≡ with_field_at s at (first + k) (get_or words k d) → with_fields s at (first + k) (drop k words) ≡ all
-    → (with_fields next at (first + (k + 1)) (drop (k + 1) words) ≡ all) × HasFields next at first (length words)
-one_more s next all at first k d words space less has is rest = (
-  ap (λ x. with_fields x at (first + (k + 1)) (drop (k + 1) words)) is
-      ∙ ap (λ n. with_fields (with_field_at s at (first + k) (get_or words k d)) at n (drop (k + 1) words)) (let e : first + (k + 1) ≡ suc (first + k) = omega arith in e)
-      ∙ sym (ap (with_fields s at (first + k)) (drop_more words k d less)) ∙ rest,
-  subst (λ x. HasFields x at first (length words)) (sym is) (has_still s at first (length words) (first + k) (get_or words k d) space has (omega (arith, less))),
-)
 
 -- ---- one number is set and put
 

@@ -8,6 +8,7 @@ pub mod Bodies
 pub mod Blocks
 pub mod Fields
 pub mod Ends
+pub mod Spliced
 pub mod Links
 pub mod Graphs
 pub mod References

@@ -1,9 +1,9 @@
 -- Spaces as contracts see them, and what calls do to them.
-use Rattle.std.specs.Prelude.{ℕ, true, ◌-◌, ◌≤◌, List, [], ◌∷◌, ◌++◌, length, slice_set}
+use Rattle.std.specs.Prelude.{◌≡◌, ℕ, suc, true, ◌+◌, ◌-◌, ◌≤◌, List, [], ◌∷◌, ◌++◌, length, slice_set, Some}
 use Rattle.gc_graph.specs.Machine.{object_words}
 use Rattle.gc_words.specs.Layout.{link_place, field_place}
 use Rattle.gc_words.specs.Word.{IsHeader}
-use Rattle.gc_words.specs.Image.{Image, Block, HasShape, blocks, fresh_block}
+use Rattle.gc_words.specs.Image.{Image, Block, HasShape, blocks, block_at, fresh_block}
 use Rattle.gc_words.specs.Spelling.{block_words, spelled, no_links}
 use Rattle.gc_words.specs.declared.header.Header.{Header}
 
@@ -52,6 +52,17 @@ with_word space place w = record space { words = slice_set space.words place w }
 -- the space with this word as field i, or as the link, of the object that starts at this address
 abbrev pub with_field_at : SpaceWords → ℕ → ℕ → ℕ → SpaceWords
 with_field_at space start i w = with_word space (field_place start i) w
+
+-- the space with these words as the fields from i on of the object that starts at this address
+abbrev pub with_fields : SpaceWords → ℕ → ℕ → List ℕ → SpaceWords
+with_fields space start i [] = space
+with_fields space start i (w ∷ rest) = with_fields (with_field_at space start i w) start (suc i) rest
+
+-- an object starts at this address that has `count` fields from field i on
+pub record HasFields (space : SpaceWords) (start i count : ℕ) : Type 0 where
+  pub block : Block
+  pub found : block_at space.words start ≡ Some block
+  pub long : i + count ≤ length block.fields
 
 abbrev pub with_link : SpaceWords → ℕ → ℕ → SpaceWords
 with_link space start w = with_word space (link_place start) w

@@ -29,13 +29,13 @@ impl Model for Space {
 }
 
 impl Space {
-    ghost use Rattle.std.specs.Prelude.{◌≡◌, ◌<◌, ◌≤◌, ◌+◌, ◌∷◌, ◌++◌, [], ◌↔◌, Some, IsTrue, IsSome, IfOk};
+    ghost use Rattle.std.specs.Prelude.{◌≡◌, ◌<◌, ◌≤◌, ◌+◌, ◌∷◌, ◌++◌, [], ◌↔◌, length, Some, IsTrue, IsSome, IfOk};
     ghost use Rattle.gc_words.specs.Image.{Block, blocks, block_at, is_start, header_at, field_at, set_block, fresh_block};
     ghost use Rattle.gc_words.specs.Spelling.{link_at};
     ghost use Rattle.gc_words.specs.Layout.{next_place};
     ghost use Rattle.gc_words.specs.Walking.{next_of};
     ghost use Rattle.gc_words.specs.declared.header.Header.{Header};
-    ghost use Rattle.gc_words.specs.Space.{IsSpace, empty_space, end_of, free_in, HasRoomFor, with_block, with_object, with_field_at, with_link, without_links, image_with};
+    ghost use Rattle.gc_words.specs.Space.{IsSpace, empty_space, end_of, free_in, HasRoomFor, HasFields, with_block, with_object, with_field_at, with_fields, with_link, without_links, image_with};
     ghost use Rattle.gc_words.specs.Views.{image_of};
 
     /// Returns an empty space of `size` words, at least 1.
@@ -209,6 +209,15 @@ impl Space {
         self.words[field_index(at, i)] = word;
     }
 
+    /// Writes these words to the fields of the object that starts here, from field `first` on.
+    pub fn set_fields(&mut self, at: Addr, first: u16, words: &[u64])
+        requires { HasFields self.old at.0 first (length words.now) }
+        ensures words { self.new ≡ with_fields self.old at.0 first words.now }
+        ensures shaped { IsSpace self.new }
+    {
+        overwrite(&mut self.words, field_index(at, first), words);
+    }
+
     /// Returns the link word of the object that starts here. The collector uses it to find an object's replica or original;
     /// no command reads it.
     pub fn link(&self, at: Addr) -> u64
@@ -259,4 +268,16 @@ impl Space {
         let Space { size: _, words } = self;
         words
     }
+}
+
+ghost use Rattle.std.specs.Prelude.{◌≡◌, ◌≤◌, ◌+◌, ◌++◌, take, drop, length, vec_capacity};
+
+// Writes these words over the words of a row from `from` on.
+fn overwrite(row: &mut Vec<u64>, from: usize, words: &[u64])
+    requires { from + length words.now ≤ length row.old.items }
+    ensures items { row.new.items ≡ take from row.old.items ++ words.now ++ drop (from + length words.now) row.old.items }
+    ensures capacity { vec_capacity row.new ≡ vec_capacity row.old }
+{
+    let to = from + words.len();
+    row[from..to].copy_from_slice(words);
 }

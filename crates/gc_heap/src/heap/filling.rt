@@ -8,13 +8,11 @@ ghost use Rattle.gc_graph.specs.Slots.{place};
 ghost use Rattle.gc_graph.specs.declared.command.Op.{Op};
 ghost use Rattle.gc_heap.specs.Heap.{IsHeap, KeepsLinks, graph_in};
 ghost use Rattle.gc_heap.specs.Commands.{Performs};
-ghost use Rattle.gc_words.specs.Space.{IsSpace};
 ghost use Rattle.gc_heap.specs.Filling.{TakesFields, TakesNumbers, WritesNumbers};
-ghost use Rattle.gc_heap.specs.Internal.Written.{HasFields, with_fields};
 
 use super::Heap;
 use gc_graph::{Reply, Slot};
-use gc_words::{Addr, OldAddr, Space};
+use gc_words::{Addr, OldAddr};
 
 impl Heap {
     /// Performs a `Put` of `t` into field `i` of the object that `d` refers to. The object is known to take it, so neither `d` nor
@@ -75,22 +73,10 @@ impl Heap {
     {
         // Here the prover learns how many roots there are.
         let _ = &self.roots;
-        write_fields(&mut self.space, Addr(object.0), first, numbers);
+        self.space.set_fields(Addr(object.0), first, numbers);
         if numbers.len() > 0 {
             let last = numbers[numbers.len() - 1];
             self.roots[t.place(m)] = 2 * last + 1;
         }
-    }
-}
-
-// Writes these words to the fields of the object that starts here, from field `first` on.
-fn write_fields(space: &mut Space, at: Addr, first: u16, words: &[u64])
-    requires shaped { IsSpace space.old }
-    requires fields { HasFields space.old at.0 first (length words.now) }
-    requires few { first + length words.now ≤ 65535 }
-    ensures { space.new ≡ with_fields space.old at.0 first words.now }
-{
-    for k in 0..words.len() {
-        space.set_field(at, first + k as u16, words[k]);
     }
 }
