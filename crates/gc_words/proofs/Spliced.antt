@@ -35,8 +35,8 @@ fields_shaped [] s at first space has = space
 fields_shaped (w ∷ words) s at first space has =
     let less : first < first + suc (length words) = omega arith in
     fields_shaped words (with_field_at s at first w) at (suc first)
-        (field_written s at first w space (there_at s at first (suc (length words)) first has less)).0
-        (has_rest _ at first (length words) (has_still s at first (suc (length words)) first w space has less))
+    (field_written s at first w space (there_at s at first (suc (length words)) first has less)).0
+    (has_rest _ at first (length words) (has_still s at first (suc (length words)) first w space has less))
 
 -- ---- all at once
 
@@ -51,7 +51,7 @@ row_is (w ∷ words) row p fits =
     let inside : p < length row = omega arith in
     let front : take (suc p) (slice_set row p w) ≡ take p row ++ w ∷ [] = ap (λ n. take n (slice_set row p w)) (let e : suc p ≡ p + 1 = omega arith in e) ∙ take_more_set row p w inside in
     let behind : drop (suc p + length words) (slice_set row p w) ≡ drop (p + length (w ∷ words)) row =
-        drop-set-lt (suc p + length words) row p w (omega arith) ∙ ap (λ n. drop n row) (let e : suc p + length words ≡ p + suc (length words) = omega arith in e) in
+    drop-set-lt (suc p + length words) row p w (omega arith) ∙ ap (λ n. drop n row) (let e : suc p + length words ≡ p + suc (length words) = omega arith in e) in
     ap (λ x. x ++ drop (p + length (w ∷ words)) row) (sym (append_assoc (take p row) (w ∷ []) words))
     ∙ sym (λ i. front i ++ words ++ behind i)
     ∙ row_is words (slice_set row p w) (suc p) (subst (λ n. suc p + length words ≤ n) (sym (length-set row p w)) (omega arith))
@@ -81,6 +81,6 @@ pub written_at_once : (s t : SpaceWords) (at first p : ℕ) (words row : List �
 written_at_once s t at first p words row same space place has is =
     let own : HasFields s at first (length words) = subst (λ s. HasFields s at first (length words)) (sym same) has in
     let at_place : row ≡ set_row s.words (field_place at first) words =
-        is ∙ ap (λ p. take p s.words ++ words ++ drop (p + length words) s.words) place ∙ row_is words s.words (field_place at first) (fields_within s at first (length words) space own) in
+    is ∙ ap (λ p. take p s.words ++ words ++ drop (p + length words) s.words) place ∙ row_is words s.words (field_place at first) (fields_within s at first (length words) space own) in
     let all : record s { words = row } ≡ with_fields s at first words = ap (λ row. record s { words = row }) at_place ∙ fields_are words s at first in
     (subst IsSpace (sym all) (fields_shaped words s at first space own), all ∙ ap (λ s. with_fields s at first words) same)
