@@ -425,14 +425,34 @@ def edits_in_ci(_program, _folder):
         yield "the list %s" % names, None if found == wanted else "found %s" % found
 
 
+def unproved_in(texts):
+    """Yields what would go unproved if CI runs the tests of a crate without a proof, given the texts of its source: code of a library that has tests alone
+    there, and tests that stand elsewhere than in the module that CI leaves out of its proof."""
+    root = next(path for path in ("src/main.rt", "src/lib.rt") if path in texts)
+    if not texts[root].endswith("\n#[cfg(test)]\nmod tests;\n"):
+        yield "its module of tests does not end %s" % root
+    others = {path: text for path, text in texts.items() if not path.startswith("src/tests")}
+    yield from sorted("a test in %s" % path for path, text in others.items() if len(re.findall(r"cfg\(test\)|#\[test\]", text)) > (path == root))
+    if root == "src/lib.rt":
+        yield from sorted("code in %s" % path for path, text in others.items() if re.search(r"\bfn\b", text))
+
+
+# The root of a crate's source and another file, and what is found in them.
+TRIED = [("src/main.rt", "fn main() {}\n\n#[cfg(test)]\nmod tests;\n", "fn a() {}\n", []),
+         ("src/main.rt", "fn main() {}\n\n#[cfg(test)]\nmod tests;\n", "#[test]\nfn a() {}\n", ["a test in src/one.rt"]),
+         ("src/main.rt", "mod tests;\n\nfn main() {}\n", "fn a() {}\n", ["its module of tests does not end src/main.rt"]),
+         ("src/lib.rt", "\n#[cfg(test)]\nmod tests;\n", "fn a() {}\n", ["code in src/one.rt"])]
+
+
 def crates_tried(_program, _folder):
-    """Checks that the crates that CI runs without a proof have tests alone, so that no other code goes unproved."""
+    """Checks the crates whose tests CI runs without a proof: all else of them is proved."""
     for crate in text_of("tests/crates_tried.txt").split():
-        folder = os.path.join("crates", crate)
-        others = [os.path.relpath(path, os.path.join(TOP, folder)) for path in glob.glob(os.path.join(TOP, folder, "src", "**", "*.rt"), recursive=True)]
-        others = sorted(path for path in others if not path.startswith("src/tests") and re.search(r"\bfn\b", text_of(os.path.join(folder, path))))
-        is_behind_tests = re.search(r"#\[cfg\(test\)\]\nmod tests;", text_of(os.path.join(folder, "src", "lib.rt")))
-        yield "code of %s" % crate, ", ".join(others) or None if is_behind_tests else "its module of tests is in every build"
+        folder = os.path.join(TOP, "crates", crate)
+        paths = [os.path.relpath(path, folder) for path in glob.glob(os.path.join(folder, "src", "**", "*.rt"), recursive=True)]
+        yield "code of %s" % crate, ", ".join(unproved_in({path: text_of(os.path.join("crates", crate, path)) for path in paths})) or None
+    for root, text, other, wanted in TRIED:
+        found = list(unproved_in({root: text, "src/one.rt": other}))
+        yield "a crate with %r and %r" % (text, other), None if found == wanted else "found %s" % found
 
 
 # ---- what proofs cite of other crates

@@ -17,6 +17,7 @@ ERROR = re.compile(r"\./(proofs/([\w+/]+)/(\w+)\.antt):(\d+):\d+: error: (.*)")
 LOST = re.compile(r"has no field|can be named|is not in scope|has no `|is no name")
 # What rests on another error.
 FOLLOWS = re.compile(r"was not admitted|was rejected")
+PROVED = re.compile(r"(?m)^fn \S+: proved$")
 DECLARED = re.compile(r"(?:pub )?([\w-]+) :")
 # The prover found values for which the goal does not hold, or for which what an answer cites holds and its goal does not.
 IS_FALSE = "allow values at which this goal is false"
@@ -84,6 +85,8 @@ class Checks:
         self.crate, self.kept = crate, kept
         # The number of checks so far, and their processor time.
         self.count, self.seconds = 0, 0.0
+        # How many functions were proved in checks with edits that left other functions open.
+        self.proved_beside = 0
         self.words = over_built("check", crate, listed) + ["--incremental", kept]
 
     def call(self, words, folder):
@@ -116,4 +119,5 @@ class Checks:
             found = found_in(output, folder, [item for edit in edits for item in edit.items if item])
             if not found:
                 raise BadEdit("the prover refused it, but at no goal: " + first_error)
+            self.proved_beside += len(PROVED.findall(output)) if edits else 0
             return found

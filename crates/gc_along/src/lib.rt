@@ -8,8 +8,6 @@ mod origin_row;
 mod outline;
 mod standing;
 mod telling;
-#[cfg(test)]
-mod tests;
 mod watcher;
 mod zeros;
 

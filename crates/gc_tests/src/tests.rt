@@ -1,3 +1,4 @@
+mod along;
 mod cert;
 mod check;
 mod collected;

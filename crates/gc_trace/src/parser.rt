@@ -1,7 +1,8 @@
 ghost use Rattle.std.specs.Prelude.{◌≡◌, ◌≤◌, None, Some, MatchOption, IfSome};
 ghost use Rattle.gc_graph.specs.Lines.{tokens_of};
-ghost use Rattle.gc_graph.specs.Tokens.{if_all_taken};
-ghost use Rattle.gc_trace.specs.Internal.Parsers.{slot_of, slot_at, positive_at, op_at, begin_at, step_at, event_of, version_at, sizes_at};
+ghost use Rattle.gc_graph.specs.Tokens.{if_all_taken, number_at};
+ghost use Rattle.gc_graph.specs.declared.command.Op.TheVariants as ops;
+ghost use Rattle.gc_trace.specs.Internal.Parsers.{slot_of, slot_at, positive_at, with, since, op_at, begin_at, step_at, event_of, version_at, sizes_at};
 
 use gc_graph::text::{Tokens, number};
 use gc_graph::{Number, Op, Slot};
@@ -63,6 +64,76 @@ fn whole_step(tokens: &Tokens<'_>, step: Step) -> Option<Step>
     if tokens.is_empty() { Some(step) } else { None }
 }
 
+/// Parses what follows `new`.
+fn new_op(mut tokens: Tokens<'_>) -> Option<Op>
+    ensures { result ≡ with slot_at (λ d. with (number_at 255) (λ kind. with (number_at 65535) (λ len. if_all_taken (ops.New d kind len)))) tokens.entry }
+{
+    let d = slot(&mut tokens)?;
+    let kind = tokens.number(255)? as u8;
+    let len = tokens.number(65535)? as u16;
+    whole(&tokens, Op::New { d, kind, len })
+}
+
+/// Parses what follows `raw`.
+fn raw_op(version: u8, mut tokens: Tokens<'_>) -> Option<Op>
+    ensures { result ≡ since 3 version (with slot_at (λ d. with (number_at 255) (λ kind. with (number_at 65535) (λ len. if_all_taken (ops.NewRaw d kind len))))) tokens.entry }
+{
+    if version < RAW {
+        return None;
+    }
+    let d = slot(&mut tokens)?;
+    let kind = tokens.number(255)? as u8;
+    let len = tokens.number(65535)? as u16;
+    whole(&tokens, Op::NewRaw { d, kind, len })
+}
+
+/// Parses what follows `num`.
+fn num_op(mut tokens: Tokens<'_>) -> Option<Op>
+    ensures { result ≡ with slot_at (λ d. with (number_at 9223372036854775807) (λ n. if_all_taken (ops.Num d n))) tokens.entry }
+{
+    let d = slot(&mut tokens)?;
+    let n = Number::new(tokens.number(9223372036854775807)?)?;
+    whole(&tokens, Op::Num { d, n })
+}
+
+/// Parses what follows `move`.
+fn move_op(mut tokens: Tokens<'_>) -> Option<Op>
+    ensures { result ≡ with slot_at (λ d. with slot_at (λ s. if_all_taken (ops.Move d s))) tokens.entry }
+{
+    let d = slot(&mut tokens)?;
+    let s = slot(&mut tokens)?;
+    whole(&tokens, Op::Move { d, s })
+}
+
+/// Parses what follows `get`.
+fn get_op(mut tokens: Tokens<'_>) -> Option<Op>
+    ensures { result ≡ with slot_at (λ d. with slot_at (λ s. with (number_at 65535) (λ i. if_all_taken (ops.Get d s i)))) tokens.entry }
+{
+    let d = slot(&mut tokens)?;
+    let s = slot(&mut tokens)?;
+    let i = tokens.number(65535)? as u16;
+    whole(&tokens, Op::Get { d, s, i })
+}
+
+/// Parses what follows `put`.
+fn put_op(mut tokens: Tokens<'_>) -> Option<Op>
+    ensures { result ≡ with slot_at (λ s. with (number_at 65535) (λ i. with slot_at (λ t. if_all_taken (ops.Put s i t)))) tokens.entry }
+{
+    let s = slot(&mut tokens)?;
+    let i = tokens.number(65535)? as u16;
+    let t = slot(&mut tokens)?;
+    whole(&tokens, Op::Put { s, i, t })
+}
+
+/// Parses what follows `same`.
+fn same_op(mut tokens: Tokens<'_>) -> Option<Op>
+    ensures { result ≡ with slot_at (λ s. with slot_at (λ t. if_all_taken (ops.Same s t))) tokens.entry }
+{
+    let s = slot(&mut tokens)?;
+    let t = slot(&mut tokens)?;
+    whole(&tokens, Op::Same { s, t })
+}
+
 /// Parses a command.
 #[tactic(auto, unfolding(crate::specs::Internal::Parsers::op_at))]
 fn op(version: u8, mut tokens: Tokens<'_>) -> Option<Op>
@@ -70,43 +141,22 @@ fn op(version: u8, mut tokens: Tokens<'_>) -> Option<Op>
 {
     let name = tokens.next_token()?;
     if name == b"new".as_slice() {
-        let d = slot(&mut tokens)?;
-        let kind = tokens.number(255)? as u8;
-        let len = tokens.number(65535)? as u16;
-        whole(&tokens, Op::New { d, kind, len })
+        new_op(tokens)
     } else if name == b"raw".as_slice() {
-        if version < RAW {
-            return None;
-        }
-        let d = slot(&mut tokens)?;
-        let kind = tokens.number(255)? as u8;
-        let len = tokens.number(65535)? as u16;
-        whole(&tokens, Op::NewRaw { d, kind, len })
+        raw_op(version, tokens)
     } else if name == b"num".as_slice() {
-        let d = slot(&mut tokens)?;
-        let n = Number::new(tokens.number(9223372036854775807)?)?;
-        whole(&tokens, Op::Num { d, n })
+        num_op(tokens)
     } else if name == b"nil".as_slice() {
         let d = slot(&mut tokens)?;
         whole(&tokens, Op::Nil { d })
     } else if name == b"move".as_slice() {
-        let d = slot(&mut tokens)?;
-        let s = slot(&mut tokens)?;
-        whole(&tokens, Op::Move { d, s })
+        move_op(tokens)
     } else if name == b"get".as_slice() {
-        let d = slot(&mut tokens)?;
-        let s = slot(&mut tokens)?;
-        let i = tokens.number(65535)? as u16;
-        whole(&tokens, Op::Get { d, s, i })
+        get_op(tokens)
     } else if name == b"put".as_slice() {
-        let s = slot(&mut tokens)?;
-        let i = tokens.number(65535)? as u16;
-        let t = slot(&mut tokens)?;
-        whole(&tokens, Op::Put { s, i, t })
+        put_op(tokens)
     } else if name == b"same".as_slice() {
-        let s = slot(&mut tokens)?;
-        let t = slot(&mut tokens)?;
-        whole(&tokens, Op::Same { s, t })
+        same_op(tokens)
     } else if name == b"look".as_slice() {
         let s = slot(&mut tokens)?;
         whole(&tokens, Op::Look { s })

@@ -1,6 +1,6 @@
 //! Tests of the standing checker: collectors that are wrong, and what it says of them.
 
-use crate::{Outline, Standing};
+use gc_along::{Outline, Standing};
 use std::alloc::Global;
 use std::process::Abort;
 use std::test::Fail;
