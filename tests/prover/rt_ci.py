@@ -55,6 +55,9 @@ def with_archives(rt):
 
 def main():
     rt = command()
+    if not (hasattr(rt, "main") and all(hasattr(getattr(rt, "Crate", None), name) for name in ("ci", "words", "prove"))):
+        print("This kit's 'rt' has no such function to replace, so 'tests/archives' proves the static libraries once more.", flush=True)
+        return subprocess.run(["rt", "ci"]).returncode
     with_archives(rt)
     return rt.main(["ci"])
 
