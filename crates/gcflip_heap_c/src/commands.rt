@@ -10,6 +10,9 @@ ghost use Rattle.gcflip_heap_c.specs.Slots.{slot_at};
 
 use crate::answer::{CLOSED, NO_MEMORY, OUT_OF_RANGE};
 use crate::handle::GcflipHeap;
+use crate::rare::{
+    SHORT, new_long, new_long_raw, new_pair_while_open, put_number_while_open, put_while_open,
+};
 use crate::reply::{GcflipView, of_fetched, of_look, of_reply};
 use crate::slots::{NumberedSlots, are_slots, slot};
 use gc_graph::{NoMemory, Number};
@@ -34,6 +37,9 @@ pub extern "C" fn gcflip_heap_new_object(
     let heap = &mut heap.kept_mut().live;
     if m >= heap.mutators() {
         return OUT_OF_RANGE;
+    }
+    if count > SHORT {
+        return new_long(heap, m, d, kind, count);
     }
     let Some(d) = slot(d) else {
         return OUT_OF_RANGE;
@@ -61,6 +67,9 @@ pub extern "C" fn gcflip_heap_new_raw(
     let heap = &mut heap.kept_mut().live;
     if m >= heap.mutators() {
         return OUT_OF_RANGE;
+    }
+    if count > SHORT {
+        return new_long_raw(heap, m, d, kind, count);
     }
     let Some(d) = slot(d) else {
         return OUT_OF_RANGE;
@@ -186,6 +195,9 @@ pub extern "C" fn gcflip_heap_put(heap: &mut GcflipHeap, m: u8, s: u8, i: u16, t
     if m >= heap.mutators() {
         return OUT_OF_RANGE;
     }
+    if heap.is_open() {
+        return put_while_open(heap, m, s, i, t);
+    }
     let Some(s) = slot(s) else {
         return OUT_OF_RANGE;
     };
@@ -219,6 +231,9 @@ pub extern "C" fn gcflip_heap_put_number(
     let heap = &mut heap.kept_mut().live;
     if m >= heap.mutators() {
         return OUT_OF_RANGE;
+    }
+    if heap.is_open() {
+        return put_number_while_open(heap, m, s, i, t, n);
     }
     let Some(s) = slot(s) else {
         return OUT_OF_RANGE;
@@ -284,6 +299,9 @@ pub extern "C" fn gcflip_heap_new_pair(
     let heap = &mut heap.kept_mut().live;
     if m >= heap.mutators() {
         return OUT_OF_RANGE;
+    }
+    if heap.is_open() {
+        return new_pair_while_open(heap, m, d, kind, s, t);
     }
     let Some(d) = slot(d) else {
         return OUT_OF_RANGE;
