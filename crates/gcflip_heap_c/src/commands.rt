@@ -14,7 +14,7 @@ use crate::rare::{
     SHORT, new_long, new_long_raw, new_pair_while_open, put_number_while_open, put_while_open,
 };
 use crate::reply::{GcflipView, of_fetched, of_look, of_reply};
-use crate::slots::{NumberedSlots, are_slots, slot};
+use crate::slots::{NumberedSlots, SLOT_NUMBERS, are_slots, numbered_slot, slot};
 use gc_graph::{NoMemory, Number};
 
 /// Makes an object of this kind with `count` fields, all nil, and puts a reference to it into slot `d`.
@@ -235,12 +235,10 @@ pub extern "C" fn gcflip_heap_put_number(
     if heap.is_open() {
         return put_number_while_open(heap, m, s, i, t, n);
     }
-    let Some(s) = slot(s) else {
+    if s >= SLOT_NUMBERS || t >= SLOT_NUMBERS {
         return OUT_OF_RANGE;
-    };
-    let Some(t) = slot(t) else {
-        return OUT_OF_RANGE;
-    };
+    }
+    let (s, t) = (numbered_slot(s), numbered_slot(t));
     let Some(n) = Number::new(n) else {
         return OUT_OF_RANGE;
     };
@@ -303,15 +301,10 @@ pub extern "C" fn gcflip_heap_new_pair(
     if heap.is_open() {
         return new_pair_while_open(heap, m, d, kind, s, t);
     }
-    let Some(d) = slot(d) else {
+    if d >= SLOT_NUMBERS || s >= SLOT_NUMBERS || t >= SLOT_NUMBERS {
         return OUT_OF_RANGE;
-    };
-    let Some(s) = slot(s) else {
-        return OUT_OF_RANGE;
-    };
-    let Some(t) = slot(t) else {
-        return OUT_OF_RANGE;
-    };
+    }
+    let (d, s, t) = (numbered_slot(d), numbered_slot(s), numbered_slot(t));
     match heap.cons(m, d, kind, s, t) {
         Ok(reply) => of_reply(&reply),
         Err(NoMemory) => NO_MEMORY,
