@@ -43,6 +43,7 @@ PLACES = {
                                       ("gcflip_heap_new_pair", BY_ARM): 1, ("gcflip_heap_new_from", BY_ARM): 1},
     "gcflip_heap_c/src/copying.rt": {("gcflip_heap_copy_fields", BY_ARM): 1},
     "gcflip_heap_c/src/mixed.rt": {("gcflip_heap_new_with", BY_ARM): 1},
+    "gcflip_heap_c/src/rare.rt": {("put_while_open", BY_ARM): 1, ("put_number_while_open", BY_ARM): 1, ("new_pair_while_open", BY_ARM): 1},
     "gcflip_heap_c/src/raws.rt": {("gcflip_heap_raw_write", BY_ARM): 1},
     "gcflip_heap_c/src/opening.rt": {("gcflip_heap_open", BY_ARM): 1, ("gcflip_heap_touch", BY_ARM): 1},
     "gcflip_heap_c/src/stepping.rt": {("gcflip_heap_step_begin", BY_ARM): 1, ("gcflip_heap_step_begin_sized", BY_ARM): 1, ("gcflip_heap_step_flip", BY_ARM): 1},

@@ -16,7 +16,7 @@ codes_at words len place inside = get_or-map-range_with_len (code_at words) 0 le
 
 -- the word of a place is there
 pub word_within : (words : List ℕ) (len place : ℕ) → HasCodes words len → place < len → place / 32 < length words
-word_within words len place h inside = let count : length words ≡ (len + 31) / 32 = h.count in omega arith
+word_within words len place h inside = let count : (len + 31) / 32 ≤ length words = h.count in omega arith
 
 -- ---- zeros
 
@@ -70,7 +70,8 @@ codes_set words len place code word h inside w =
 
 pub has_codes_set : (words : List ℕ) (len place code word : ℕ) → HasCodes words len → place < len → IsWith words place code word → HasCodes (set words (place / 32) word) len
 has_codes_set words len place code word h inside w = record {
-  count = length-set words (place / 32) word ∙ h.count;
+  count = omega (arith, h.count, length-set words (place / 32) word);
+  few = omega (arith, h.few, length-set words (place / 32) word);
   rest = λ other past. other_at words place code word other (word_within words len place h inside) w (λ e. omega arith) ∙ h.rest other past;
 }
 
@@ -93,9 +94,10 @@ codes_more words len n places h =
       | inr past ↦ get_or_past (codes_in words len) place 0 (omega (arith, length-codes words len)) ∙ sym (h.rest place past)
     ]
 
-pub has_codes_more : (words : List ℕ) (len n places : ℕ) → HasCodes words len → length words + n ≡ (len + places + 31) / 32 → HasCodes (words ++ replicate n 0) (len + places)
-has_codes_more words len n places h count = record {
-  count = length-append words (replicate n 0) ∙ ap (λ k. length words + k) (length-replicate {A = ℕ} n 0) ∙ count;
+pub has_codes_more : (words : List ℕ) (len n places : ℕ) → HasCodes words len → (len + places + 31) / 32 ≤ length words + n → length words + n ≤ 134217728 → HasCodes (words ++ replicate n 0) (len + places)
+has_codes_more words len n places h count few = record {
+  count = let l : length (words ++ replicate n 0) ≡ length words + n = length-append words (replicate n 0) ∙ ap (λ k. length words + k) (length-replicate {A = ℕ} n 0) in omega (arith, count);
+  few = let l : length (words ++ replicate n 0) ≡ length words + n = length-append words (replicate n 0) ∙ ap (λ k. length words + k) (length-replicate {A = ℕ} n 0) in omega (arith, few);
   rest = λ place past. more_at words n place ∙ h.rest place (omega arith);
 }
 
@@ -107,7 +109,7 @@ one_zero (suc i) = refl
 
 pub has_one : HasCodes (0 ∷ []) 1
 unfolding code_at
-has_one = record { count = refl; rest = λ place past. ap (λ n. code_in n (place % 32)) (one_zero (place / 32)) ∙ no_code (place % 32) }
+has_one = record { count = omega arith; few = omega arith; rest = λ place past. ap (λ n. code_in n (place % 32)) (one_zero (place / 32)) ∙ no_code (place % 32) }
 
 pub one_code : codes_in (0 ∷ []) 1 ≡ 0 ∷ []
 unfolding code_at codes_in
@@ -115,7 +117,7 @@ one_code = refl
 
 pub has_none : HasCodes [] 0
 unfolding code_at
-has_none = record { count = refl; rest = λ place past. no_code (place % 32) }
+has_none = record { count = omega arith; few = omega arith; rest = λ place past. no_code (place % 32) }
 
 pub no_codes : codes_in [] 0 ≡ []
 unfolding codes_in
@@ -190,7 +192,7 @@ pub record IsAdded (words words' : List ℕ) (len len' code more : ℕ) : Type 0
   pub codes : codes_in words' len' ≡ codes_in words len ++ code ∷ replicate more 0
 
 -- the place is behind the last, so its code is 0
-pub none_behind : (words grown : List ℕ) (len len' n word : ℕ) → HasCodes words len → grown ≡ words ++ replicate n 0 → len < len' → length words + n ≡ (len' + 31) / 32
+pub none_behind : (words grown : List ℕ) (len len' n word : ℕ) → HasCodes words len → grown ≡ words ++ replicate n 0 → len < len' → (len' + 31) / 32 ≤ length words + n
     → word ≡ get_or grown (len / 32) word → code_in word (len % 32) ≡ 0
 unfolding code_at
 none_behind words grown len len' n word has grown_is more count read =
@@ -198,13 +200,13 @@ none_behind words grown len len' n word has grown_is more count read =
     ap (λ word. code_in word (len % 32)) (read ∙ get_or_default grown (len / 32) word 0 inside ∙ ap (λ row. get_or row (len / 32) 0) grown_is ∙ zeros_behind words n (len / 32))
     ∙ has.rest len (omega arith)
 
-pub added : (words grown : List ℕ) (len len' code more n word with : ℕ) → HasCodes words len → grown ≡ words ++ replicate n 0 → len' ≡ len + suc more → length words + n ≡ (len' + 31) / 32
+pub added : (words grown : List ℕ) (len len' code more n word with : ℕ) → HasCodes words len → grown ≡ words ++ replicate n 0 → len' ≡ len + suc more → (len' + 31) / 32 ≤ length words + n → length words + n ≤ 134217728
     → word ≡ get_or grown (len / 32) word → code_in with (len % 32) ≡ code → ((k : ℕ) → k ≢ len % 32 → code_in with k ≡ code_in word k)
     → IsAdded words (set grown (len / 32) with) len len' code more
-added words grown len len' code more n word with has grown_is len_is count read here others =
+added words grown len len' code more n word with has grown_is len_is count few read here others =
     let row : List ℕ = words ++ replicate n 0 in
-    let count_is : length words + n ≡ (len + suc more + 31) / 32 = count ∙ ap (λ l. (l + 31) / 32) len_is in
-    let has_row : HasCodes row (len + suc more) = has_codes_more words len n (suc more) has count_is in
+    let count_is : (len + suc more + 31) / 32 ≤ length words + n = omega (arith, count, len_is) in
+    let has_row : HasCodes row (len + suc more) = has_codes_more words len n (suc more) has count_is few in
     let inside : len / 32 < length row = omega (arith, has_row.count) in
     let read_row : word ≡ get_or row (len / 32) word = read ∙ ap (λ row. get_or row (len / 32) word) grown_is in
     let w : IsWith row len code with = is_with row len code with word read_row inside here others in
@@ -256,7 +258,8 @@ kept_at words from count word place inside f out = elim (cases_eq (from / 32) (p
 
 pub has_codes_filled : (words : List ℕ) (len from count word : ℕ) → HasCodes words len → from / 32 < length words → from + count ≤ len → IsFilled words from count word → HasCodes (set words (from / 32) word) len
 has_codes_filled words len from count word h inside within f = record {
-  count = length-set words (from / 32) word ∙ h.count;
+  count = omega (arith, h.count, length-set words (from / 32) word);
+  few = omega (arith, h.few, length-set words (from / 32) word);
   rest = λ place past. kept_at words from count word place inside f (inr (omega arith)) ∙ h.rest place past;
 }
 

@@ -9,6 +9,12 @@ use std::marker::Model;
 /// The number of codes in a word.
 const PER_WORD: usize = 32;
 
+/// A row that grows gets so many words more than its places take, if there is room for them.
+const AHEAD: usize = 64;
+
+/// A row has no more words than this, so that an address can name the last of their places.
+const MOST_WORDS: usize = 1 << 27;
+
 /// The codes of places, which are below 4. Contracts see the codes, and for how many places there is room.
 #[derive(Debug, Drop)]
 pub(crate) struct CodeRow {
@@ -28,7 +34,7 @@ impl Model for CodeRow {
 }
 
 impl CodeRow {
-    ghost use Rattle.std.specs.Prelude.{◌≡◌, ◌+◌, ◌<◌, ◌≤◌, ◌∷◌, ◌++◌, ◌-◌, [], IfOk, OnOk, length, replicate, take, slice_index, slice_set, ◌⊎◌, ◌%◌, ℕ};
+    ghost use Rattle.std.specs.Prelude.{◌≡◌, ◌+◌, ◌<◌, ◌≤◌, ◌∷◌, ◌++◌, ◌-◌, [], IfOk, OnOk, IsTrue, length, replicate, take, slice_index, slice_set, ◌⊎◌, ◌%◌, ℕ};
 
     /// Returns a row of place 0 alone, whose code is 0, with room for so many places. Allocates once.
     pub(crate) fn new(alloc: Global, places: u32) -> Result<CodeRow, NoMemory>
@@ -114,6 +120,15 @@ impl CodeRow {
         code_in(word, place % PER_WORD)
     }
 
+    /// Returns whether so many places, and one more, have their words already.
+    #[inline(always)]
+    pub(crate) fn covers(&self, places: usize) -> bool
+        ensures room { IsTrue result → places ≤ self.now.room }
+        ensures few { IsTrue result → places ≤ 4294967295 }
+    {
+        places / PER_WORD < self.words.len()
+    }
+
     /// Adds a place with this code, and so many behind it with code 0.
     #[inline(always)]
     pub(crate) fn add(&mut self, code: u8, more: usize)
@@ -123,8 +138,28 @@ impl CodeRow {
         ensures room { self.old.room ≤ self.new.room }
     {
         let place = self.len;
+        let len = place + (more + 1);
+        if len / PER_WORD >= self.words.len() {
+            self.add_behind(code, more);
+            return;
+        }
+        let at = place / PER_WORD;
+        self.words[at] = with_first(self.words[at], place % PER_WORD, code);
+        self.len = len;
+    }
+
+    // The same where the places may need further words.
+    #[cold]
+    #[inline(never)]
+    fn add_behind(&mut self, code: u8, more: usize)
+        requires code { code < 4 }
+        requires room { length self.old.codes + (more + 1) ≤ self.old.room }
+        ensures codes { self.new.codes ≡ self.old.codes ++ code ∷ replicate more 0 }
+        ensures room { self.old.room ≤ self.new.room }
+    {
+        let place = self.len;
         let len = place + more + 1;
-        add_words(&mut self.words, words_of(len));
+        cover(&mut self.words, words_of(len));
         let at = place / PER_WORD;
         self.words[at] = with_first(self.words[at], place % PER_WORD, code);
         self.len = len;
@@ -162,7 +197,7 @@ impl CodeRow {
     }
 }
 
-ghost use Rattle.std.specs.Prelude.{◌≡◌, ◌≢◌, ◌⊎◌, ℕ, ◌+◌, ◌/◌, ◌<◌, ◌≤◌};
+ghost use Rattle.std.specs.Prelude.{◌≡◌, ◌≢◌, ◌⊎◌, ℕ, ◌+◌, ◌-◌, ◌/◌, ◌<◌, ◌≤◌, ◌++◌, replicate, vec_len, vec_capacity};
 ghost use Rattle.gc_along.specs.Internal.InWords.{code_in};
 
 // The number of words for so many places.
@@ -172,6 +207,27 @@ fn words_of(places: usize) -> usize
     ensures { result ≡ (places + 31) / 32 }
 {
     (places + 31) / PER_WORD
+}
+
+// Adds zeros where there are fewer words than these, and further ones, so that the next objects find theirs.
+fn cover(words: &mut Vec<u64>, count: usize)
+    requires room { count ≤ vec_capacity words.old }
+    requires few { count ≤ 134217728 }
+    ensures items { words.new.items ≡ words.old.items ++ replicate (vec_len words.new - vec_len words.old) 0 }
+    ensures some { count ≤ vec_len words.new }
+    ensures more { vec_len words.old ≤ vec_len words.new }
+    ensures few { vec_len words.old ≤ 134217728 → vec_len words.new ≤ 134217728 }
+    ensures capacity { vec_capacity words.old ≤ vec_capacity words.new }
+{
+    let room = min(words.capacity(), MOST_WORDS);
+    let wanted = if room - count < AHEAD {
+        room
+    } else {
+        count + AHEAD
+    };
+    if words.len() < wanted {
+        add_words(words, wanted);
+    }
 }
 
 // The code at this place of a word.

@@ -58,7 +58,7 @@ impl Model for Standing {
 }
 
 impl Standing {
-    ghost use Rattle.std.specs.Prelude.{◌≡◌, ◌<◌, ◌≤◌, ◌==◌, ◌%◌, ◌^◌, ◌↔◌, ◌∷◌, [], ℕ, true, IsTrue, IsFalse, ◌⊎◌, IfOk, IfSome, OnOk, OnErr, MatchOption, length, slice_index, slice_index_or};
+    ghost use Rattle.std.specs.Prelude.{◌≡◌, ◌<◌, ◌≤◌, ◌==◌, ◌%◌, ◌^◌, ◌↔◌, ◌∷◌, ◌++◌, ◌+◌, [], ℕ, true, IsTrue, IsFalse, ◌⊎◌, IfOk, IfSome, OnOk, OnErr, MatchOption, length, slice_index, slice_index_or};
     ghost use Rattle.gc_graph.specs.Correspond.{paired};
     ghost use Rattle.gc_words.specs.Word.{words_correspond, field_words_correspond};
     ghost use Rattle.gc_words.specs.declared.header.Header.{Header};
@@ -68,7 +68,7 @@ impl Standing {
     ghost use Rattle.gc_along.specs.Watch.{RootsCorrespond};
     ghost use Rattle.gc_along.specs.Tables.{CertifiedBy};
     ghost use Rattle.gc_along.specs.Telling.{Tells};
-    ghost use Rattle.gc_along.specs.Events.{Made, Placed, Looked, Wrote, Applied, Freed, WalkedAnew, IsFieldOf, HasNoReplica, absent_tables, opening_tables, flipped_tables, with_due};
+    ghost use Rattle.gc_along.specs.Events.{Made, Placed, Looked, Wrote, Applied, Freed, WalkedAnew, IsFieldOf, HasNoReplica, object_codes, absent_tables, opening_tables, flipped_tables, with_due};
     ghost use Rattle.gc_along.specs.Claims.{Accepts, CanApply, CanLook, CanMake, CanPlace, CanWrite, IsLinked, OwesNone};
 
     /// Returns a checker for spaces of up to `size` words, at least 1.
@@ -173,11 +173,32 @@ impl Standing {
         if at >= old.len() {
             return;
         }
-        let Some(header) = next_header(old, at, self.room) else {
+        let Some(header) = next_within(old, at) else {
             self.lost = true;
             return;
         };
+        let end = at + (usize::from(header.len()) + 2);
+        if !self.olds.covers(end) {
+            self.made_behind(header.len(), end);
+            return;
+        }
         add_codes(&mut self.olds, header.len(), false);
+    }
+
+    // The walk over the old space goes on by an object that ends here, if there is room for its codes. They may need further words.
+    #[cold]
+    #[inline(never)]
+    fn made_behind(&mut self, len: u16, end: usize)
+        requires found { IsFalse self.old.lost }
+        requires end { end ≡ length self.old.olds + (len + 2) }
+        ensures made { IsFalse self.new.lost → (end ≤ 4294967295) × (self.new ≡ record self.old { olds = self.old.olds ++ object_codes len 0 }) }
+        ensures stays { end ≤ self.old.room → IsFalse self.new.lost }
+    {
+        if end > self.room as usize {
+            self.lost = true;
+            return;
+        }
+        add_codes(&mut self.olds, len, false);
     }
 
     /// The walk over the new space goes on by one object, if there is one: the replica of the object that its link claims.
@@ -502,12 +523,32 @@ impl Watcher for Standing {
 ghost use Rattle.gc_along.specs.Outline.{outline_in};
 ghost use Rattle.std.specs.Prelude.{◌≡◌, ◌⊎◌, ◌↔◌, ◌≤◌, ◌<◌, ◌+◌, ◌==◌, ◌++◌, ℕ, IsTrue, MatchOption, length, slice_index, slice_index_or};
 ghost use Rattle.gc_words.specs.Layout.{fields_place, link_place};
+ghost use Rattle.gc_words.specs.Word.{read_header};
 ghost use Rattle.gc_words.specs.declared.header.Header.{Header};
-ghost use Rattle.std.specs.Prelude.{if◌then◌else◌};
+ghost use Rattle.std.specs.Prelude.{if◌then◌else◌, Some};
 ghost use Rattle.gc_along.specs.Watch.{IsNext, IsSized, bit};
 ghost use Rattle.gc_along.specs.Events.{IsCopy, object_codes, code_of};
 
-// The header of the next object of a walk, if there is one, and room for its codes.
+// The header of the next object of a walk, if there is one.
+#[inline(always)]
+fn next_within(words: &[u64], at: usize) -> Option<Header>
+    requires { at < length words.now }
+    ensures { MatchOption result ((h : Header) → IsNext at words.now h → ⊥)
+        (λ h. (read_header (slice_index words.now at) ≡ Some h) × (at + (h.len + 2) ≤ length words.now)) }
+{
+    let word = words[at];
+    // The length is the same for both kinds of headers, so it is decoded after this test.
+    if Header::read(word).is_none() {
+        return None;
+    }
+    let header = Header::of_word(word);
+    if usize::from(header.len()) + 2 > words.len() - at {
+        return None;
+    }
+    Some(header)
+}
+
+// The same, if there is room for its codes.
 #[inline(always)]
 fn next_header(words: &[u64], at: usize, room: u32) -> Option<Header>
     requires at { at < length words.now }
@@ -515,12 +556,8 @@ fn next_header(words: &[u64], at: usize, room: u32) -> Option<Header>
     ensures { MatchOption result ((h : Header) → IsNext at words.now h → at + (h.len + 2) ≤ room → ⊥)
         (λ h. IsNext at words.now h × (at + (h.len + 2) ≤ room)) }
 {
-    let header = Header::read(words[at])?;
-    let taken = usize::from(header.len()) + 2;
-    if taken > words.len() - at {
-        return None;
-    }
-    if at + taken > room as usize {
+    let header = next_within(words, at)?;
+    if at + (usize::from(header.len()) + 2) > room as usize {
         return None;
     }
     Some(header)

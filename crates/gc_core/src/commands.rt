@@ -36,6 +36,7 @@ impl CollectedHeap {
 
     /// Makes an object of this kind with `len` fields, all nil, and sets `d` to a reference to it. Returns `Made`, or
     /// `Full` if there is no room; then nothing has changed. Does not allocate.
+    #[inline(always)]
     pub fn new_object(&mut self, m: u8, d: Slot, kind: u8, len: u16) -> Reply
         requires { m < self.old.mutators }
         ensures step { mutate self.old m (Op.New d kind len) ≡ (result, self.new) }
@@ -49,6 +50,7 @@ impl CollectedHeap {
     }
 
     /// Makes a raw object, as `new_object` makes an object. Its fields are plain numbers, all 0. Does not allocate.
+    #[inline(always)]
     pub fn new_raw(&mut self, m: u8, d: Slot, kind: u8, len: u16) -> Reply
         requires { m < self.old.mutators }
         ensures step { mutate self.old m (Op.NewRaw d kind len) ≡ (result, self.new) }
@@ -152,6 +154,7 @@ impl CollectedHeap {
     /// Performs a `num` and a `put` in one call: sets `t` to the number, and then writes it to field `i` of the object
     /// that `s` refers to. Returns the reply to the `put`. Returns `NoMemory` only while a collection is open; the heap
     /// is then unchanged.
+    #[inline(always)]
     pub fn put_number(
         &mut self,
         m: u8,
@@ -210,6 +213,7 @@ impl CollectedHeap {
     /// it. This is a `new_object` followed by two `put`s, in one call. Returns `Made`, or `Full` if there is no room;
     /// then nothing has changed. `d` is set first, so a field filled from slot `d` refers to the object itself. Returns
     /// `NoMemory` only while a collection is open; the heap is then unchanged.
+    #[inline(always)]
     pub fn cons(&mut self, m: u8, d: Slot, kind: u8, s: Slot, t: Slot) -> Result<Reply, NoMemory>
         requires { m < self.old.mutators }
         ensures step { IfOk result (λ reply. new_from_step self.old m d kind (s ∷ t ∷ []) ≡ (reply, self.new)) }
@@ -246,6 +250,7 @@ impl CollectedHeap {
     /// what that slot holds. This is a `new_object` followed by a `put` for each field, in one call. Returns `Made`, or
     /// `Full` if there is no room; then nothing has changed. `d` is set first, so a field filled from slot `d` refers to
     /// the object itself. Returns `NoMemory` only while a collection is open; the heap is then unchanged.
+    #[inline(always)]
     pub fn new_from<R: SlotRow>(
         &mut self,
         m: u8,

@@ -266,6 +266,7 @@ impl Heap {
     }
 
     /// Makes a new object and sets the root at `place` to a reference to it, if there is room.
+    #[inline(always)]
     fn make_at(&mut self, place: usize, raw: bool, kind: u8, len: u16) -> Reply
         requires { place < length self.old.roots }
         ensures step { (result, roomy_in self.new) ≡ make_object (roomy_in self.old) place raw kind len (end_of self.old.space) }
@@ -322,6 +323,7 @@ impl Heap {
     }
 
     /// Writes the value of root `t` to field `i` of the object that root `s` refers to.
+    #[inline(always)]
     fn put_at(&mut self, s: usize, i: u16, t: usize) -> Reply
         requires target { s < length self.old.roots }
         requires giver { t < length self.old.roots }

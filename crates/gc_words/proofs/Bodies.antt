@@ -1,8 +1,8 @@
 -- What the code of a space's calls reads and writes.
-use Rattle.std.proofs.Common.{◌≡◌, ℕ, suc, ◌+◌, ◌-◌, ◌<◌, ◌≤◌, true, cond, List, [], ◌∷◌, ◌++◌, length, get_or, take, drop, replicate, Some, None, Result, Ok, is_ok, sym, ◌∙◌, ap, subst, arith, length-append, append_assoc}
+use Rattle.std.proofs.Common.{◌≡◌, ℕ, suc, ◌+◌, ◌-◌, ◌<◌, ◌≤◌, true, List, [], ◌∷◌, ◌++◌, length, get_or, take, drop, replicate, Some, None, sym, ◌∙◌, ap, subst, arith, append_assoc}
 use Rattle.std.specs.Prelude.{slice_index, IsSome, IsOk, nat_le}
 use Rattle.std.proofs.lemmas.Bool.{cond-true, le-leb}
-use Rattle.std.proofs.lemmas.List.{get_or_read, take_all, take_at}
+use Rattle.std.proofs.lemmas.List.{get_or_read, take_at}
 use Rattle.gc_words.specs.Word.{IsHeader, header_word}
 use Rattle.gc_words.specs.Image.{Block, walk_words, header_of, header_at, fresh_block, blocks, block_at, is_start, field_at, set_block}
 use Rattle.gc_words.specs.Spelling.{block_words, spelled, no_links}
@@ -80,22 +80,15 @@ pub record Places (s t : SpaceWords) (h : Header) : Type 0 where
   pub object : block_at s.words (end_of t) ≡ Some (fresh_block h)
   pub words : s ≡ with_object t h
 
-room_filled : {E : Type 0} (r : Result (Unit {0}) E) (u : Unit {0}) (old pushed new : List ℕ) (h : Header) (n l : ℕ) → r ≡ Ok u → pushed ≡ old ++ header_word h ∷ [] → n ≡ length old + object_words h.len → l ≡ length old + 1
-    → new ≡ cond (is_ok r) (take n pushed ++ replicate (n - l) 0) pushed → new ≡ old ++ block_words 0 (fresh_block h)
-room_filled r u old pushed new h n l ok push total one made =
-    let count : length pushed ≡ length old + 1 = ap length push ∙ length-append old (header_word h ∷ []) in
-    let more : n - l ≡ suc h.len = omega arith in
-    let all : take n pushed ≡ pushed = take_all n pushed (omega arith) in
-    made ∙ ap (λ r. cond (is_ok r) (take n pushed ++ replicate (n - l) 0) pushed) ok
-    ∙ (λ i. all i ++ replicate (more i) 0)
-    ∙ ap (λ xs. xs ++ 0 ∷ replicate h.len 0) push
-    ∙ append_assoc old (header_word h ∷ []) (0 ∷ replicate h.len 0)
+zeros_added : (old pushed new : List ℕ) (h : Header) (n : ℕ) → pushed ≡ old ++ header_word h ∷ [] → n ≡ h.len + 1 → new ≡ pushed ++ replicate n 0 → new ≡ old ++ block_words 0 (fresh_block h)
+zeros_added old pushed new h n push count made =
+    let more : n ≡ suc h.len = omega arith in
+    made ∙ (λ i. push i ++ replicate (more i) 0) ∙ append_assoc old (header_word h ∷ []) (0 ∷ replicate h.len 0)
 
-pub object_placed : {E : Type 0} (r : Result (Unit {0}) E) (u : Unit {0}) (s t : SpaceWords) (pushed new : List ℕ) (h : Header) (n l : ℕ) → s ≡ t → IsSpace s → IsHeader h → HasRoomFor t h.len
-    → r ≡ Ok u → pushed ≡ s.words ++ header_word h ∷ [] → n ≡ end_of s + object_words h.len → l ≡ end_of s + 1 → new ≡ cond (is_ok r) (take n pushed ++ replicate (n - l) 0) pushed
-    → Places (record { size = s.size; words = new }) t h
-object_placed r u s t pushed new h n l same space is room ok push total one made =
-    let filled : new ≡ s.words ++ block_words 0 (fresh_block h) = room_filled r u s.words pushed new h n l ok push total one made in
+pub object_placed : (s t : SpaceWords) (pushed new : List ℕ) (h : Header) (n : ℕ) → s ≡ t → IsSpace s → IsHeader h → HasRoomFor t h.len
+    → pushed ≡ s.words ++ header_word h ∷ [] → n ≡ h.len + 1 → new ≡ pushed ++ replicate n 0 → Places (record { size = s.size; words = new }) t h
+object_placed s t pushed new h n same space is room push count made =
+    let filled : new ≡ s.words ++ block_words 0 (fresh_block h) = zeros_added s.words pushed new h n push count made in
     let can : CanPlace s h = record { shaped = space; header = is; room = subst (λ (s : SpaceWords). HasRoomFor s h.len) (sym same) room } in
     let done : IsSpace (with_object s h) × (blocks (with_object s h).words ≡ blocks s.words ++ (end_of s, fresh_block h) ∷ []) = placed s h can in
     subst (λ words. Places (record { size = s.size; words = words }) t h) (sym filled)

@@ -10,6 +10,7 @@ mod refusal;
 mod shape;
 mod space;
 mod value;
+mod zeros;
 
 pub use gc_graph::MOST_WORDS;
 pub use header::Header;

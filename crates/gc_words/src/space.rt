@@ -3,6 +3,7 @@ use crate::image::ImageRef;
 use crate::layout::{clear_links, field_index, has_start, link_index};
 use crate::shape::next_start;
 use crate::value::Addr;
+use crate::zeros::add_zeros;
 use gc_graph::{NoMemory, object_words};
 use std::alloc::Global;
 use std::marker::Model;
@@ -128,6 +129,7 @@ impl Space {
     }
 
     /// Places an object at the end, with link 0 and all field words 0, and returns its address.
+    #[inline(always)]
     pub fn place(&mut self, header: Header) -> Addr
         requires { HasRoomFor self.old header.len }
         ensures at { result.0 ≡ end_of self.old }
@@ -138,10 +140,8 @@ impl Space {
         ensures shaped { IsSpace self.new }
     {
         let start = self.words.len();
-        let end = start + object_words(header.len()) as usize;
         self.words.push_reserved(header.word());
-        // `new` has made the room, so this cannot fail.
-        self.words.resize(end, 0).unwrap();
+        add_zeros(&mut self.words, usize::from(header.len()) + 1);
         Addr(start as u32)
     }
 

@@ -10,8 +10,11 @@ ghost use Rattle.gcflip_heap_c.specs.Slots.{slot_at};
 
 use crate::answer::{CLOSED, NO_MEMORY, OUT_OF_RANGE};
 use crate::handle::GcflipHeap;
+use crate::rare::{
+    SHORT, new_long, new_long_raw, new_pair_while_open, put_number_while_open, put_while_open,
+};
 use crate::reply::{GcflipView, of_fetched, of_look, of_reply};
-use crate::slots::{NumberedSlots, are_slots, slot};
+use crate::slots::{NumberedSlots, SLOT_NUMBERS, are_slots, numbered_slot, slot};
 use gc_graph::{NoMemory, Number};
 
 /// Makes an object of this kind with `count` fields, all nil, and puts a reference to it into slot `d`.
@@ -34,6 +37,9 @@ pub extern "C" fn gcflip_heap_new_object(
     let heap = &mut heap.kept_mut().live;
     if m >= heap.mutators() {
         return OUT_OF_RANGE;
+    }
+    if count > SHORT {
+        return new_long(heap, m, d, kind, count);
     }
     let Some(d) = slot(d) else {
         return OUT_OF_RANGE;
@@ -61,6 +67,9 @@ pub extern "C" fn gcflip_heap_new_raw(
     let heap = &mut heap.kept_mut().live;
     if m >= heap.mutators() {
         return OUT_OF_RANGE;
+    }
+    if count > SHORT {
+        return new_long_raw(heap, m, d, kind, count);
     }
     let Some(d) = slot(d) else {
         return OUT_OF_RANGE;
@@ -186,6 +195,9 @@ pub extern "C" fn gcflip_heap_put(heap: &mut GcflipHeap, m: u8, s: u8, i: u16, t
     if m >= heap.mutators() {
         return OUT_OF_RANGE;
     }
+    if heap.is_open() {
+        return put_while_open(heap, m, s, i, t);
+    }
     let Some(s) = slot(s) else {
         return OUT_OF_RANGE;
     };
@@ -220,12 +232,13 @@ pub extern "C" fn gcflip_heap_put_number(
     if m >= heap.mutators() {
         return OUT_OF_RANGE;
     }
-    let Some(s) = slot(s) else {
+    if heap.is_open() {
+        return put_number_while_open(heap, m, s, i, t, n);
+    }
+    if s >= SLOT_NUMBERS || t >= SLOT_NUMBERS {
         return OUT_OF_RANGE;
-    };
-    let Some(t) = slot(t) else {
-        return OUT_OF_RANGE;
-    };
+    }
+    let (s, t) = (numbered_slot(s), numbered_slot(t));
     let Some(n) = Number::new(n) else {
         return OUT_OF_RANGE;
     };
@@ -285,15 +298,13 @@ pub extern "C" fn gcflip_heap_new_pair(
     if m >= heap.mutators() {
         return OUT_OF_RANGE;
     }
-    let Some(d) = slot(d) else {
+    if heap.is_open() {
+        return new_pair_while_open(heap, m, d, kind, s, t);
+    }
+    if d >= SLOT_NUMBERS || s >= SLOT_NUMBERS || t >= SLOT_NUMBERS {
         return OUT_OF_RANGE;
-    };
-    let Some(s) = slot(s) else {
-        return OUT_OF_RANGE;
-    };
-    let Some(t) = slot(t) else {
-        return OUT_OF_RANGE;
-    };
+    }
+    let (d, s, t) = (numbered_slot(d), numbered_slot(s), numbered_slot(t));
     match heap.cons(m, d, kind, s, t) {
         Ok(reply) => of_reply(&reply),
         Err(NoMemory) => NO_MEMORY,

@@ -13,6 +13,7 @@ mod moved;
 mod opening;
 mod pace;
 mod parts;
+mod rare;
 mod raws;
 mod reading;
 mod reply;

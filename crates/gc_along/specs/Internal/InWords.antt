@@ -26,9 +26,10 @@ codes_in words len = map (code_at words) (range_with_len 0 len)
 abbrev pub room_of : ℕ → ℕ
 room_of words = min (32 * words) 4294967295
 
--- there are as many words as the places take, and all codes behind them are 0
+-- there are as many words as the places take, or more, as far as an address tells their places, and all codes behind them are 0
 pub record HasCodes (words : List ℕ) (len : ℕ) : Type 0 where
-  pub count : length words ≡ (len + 31) / 32
+  pub count : (len + 31) / 32 ≤ length words
+  pub few : length words ≤ 134217728
   pub rest : (place : ℕ) → len ≤ place → code_at words place ≡ 0
 
 -- ---- originals, of four bytes for two places

@@ -18,6 +18,7 @@ use gc_words::{Value, encode};
 
 impl Heap {
     /// Makes an object of this kind with `len` fields, all nil, and sets `d` to a reference to it: `Made`, or `Full`.
+    #[inline(always)]
     pub fn new_object(&mut self, m: u8, d: Slot, kind: u8, len: u16) -> Reply
         requires { m < self.old.mutators }
         ensures performs { Performs self.old m (Op.New d kind len) result self.new }
@@ -31,6 +32,7 @@ impl Heap {
     }
 
     /// Makes a raw object, as `new_object` makes others: its fields are plain numbers, all 0.
+    #[inline(always)]
     pub fn new_raw(&mut self, m: u8, d: Slot, kind: u8, len: u16) -> Reply
         requires { m < self.old.mutators }
         ensures performs { Performs self.old m (Op.NewRaw d kind len) result self.new }
@@ -159,6 +161,7 @@ impl Heap {
     }
 
     /// Writes the value of `t` to field `i` of the object that `s` refers to: `Done`, `NoObject`, `NoField` or `NoNumber`.
+    #[inline(always)]
     pub fn put(&mut self, m: u8, s: Slot, i: u16, t: Slot) -> Reply
         requires { m < self.old.mutators }
         ensures performs { Performs self.old m (Op.Put s i t) result self.new }

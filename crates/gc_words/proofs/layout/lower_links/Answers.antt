@@ -1,5 +1,5 @@
 -- A turn lowers the link of one object and leaves the words behind it, so their links are still those of the start.
-use Rattle.std.proofs.Common.{◌≡◌, ◌+◌, ◌-◌, ◌≤◌, ◌<◌, ℕ, Some, get_or, length, sym, ◌∙◌, ap, subst, arith}
+use Rattle.std.proofs.Common.{◌≡◌, ◌+◌, ◌-◌, ℕ, Some, get_or, sym, ◌∙◌, ap, subst, arith}
 use Rattle.std.specs.Prelude.{slice_set, IsOk}
 use Rattle.std.proofs.lemmas.List.{get_or-set_other}
 use Rattle.gc_words.specs.Spelling.{link_at}

@@ -1,0 +1,101 @@
+//! Commands in the rarer cases: long objects, and writes while a collection is open. They are functions of their own, which an export calls
+//! last. So the common case of the export calls nothing, and saves no registers.
+
+ghost use Rattle.std.specs.Prelude.{◌≡◌, ◌≢◌, ◌<◌, ◌∷◌, [], Some, IsSome};
+ghost use Rattle.std.specs.Option.{option_map};
+ghost use Rattle.gc_graph.specs.declared.command.Op.{Op};
+ghost use Rattle.gcflip_heap_c.specs.Commands.{number_in, with_both, IsCommandCall, IsPutNumberCall, IsNewFromCall};
+ghost use Rattle.gcflip_heap_c.specs.Replies.{reply_in_c};
+ghost use Rattle.gcflip_heap_c.specs.Slots.{slot_at};
+
+use crate::answer::{NO_MEMORY, OUT_OF_RANGE};
+use crate::reply::of_reply;
+use crate::slots::{SLOT_NUMBERS, numbered_slot, slot};
+use gc_graph::{NoMemory, Number};
+use gc_live::LiveHeap;
+
+/// An object with more fields than this is filled by a call.
+pub(crate) const SHORT: u16 = 9;
+
+/// Makes a long object, as `gcflip_heap_new_object` does.
+#[inline(never)]
+pub(crate) fn new_long(heap: &mut LiveHeap, m: u8, d: u8, kind: u8, count: u16) -> u32
+    requires { m < heap.old.mutators }
+    ensures call { IsCommandCall m (option_map (λ d. Op.New d kind count) (slot_at d))
+        (λ reply. result ≡ reply_in_c reply) (Some heap.old) (Some heap.new) result }
+    ensures memory { result ≢ 1 }
+{
+    let Some(d) = slot(d) else {
+        return OUT_OF_RANGE;
+    };
+    of_reply(&heap.new_object(m, d, kind, count))
+}
+
+/// Makes a long raw object, as `gcflip_heap_new_raw` does.
+#[inline(never)]
+pub(crate) fn new_long_raw(heap: &mut LiveHeap, m: u8, d: u8, kind: u8, count: u16) -> u32
+    requires { m < heap.old.mutators }
+    ensures call { IsCommandCall m (option_map (λ d. Op.NewRaw d kind count) (slot_at d))
+        (λ reply. result ≡ reply_in_c reply) (Some heap.old) (Some heap.new) result }
+    ensures memory { result ≢ 1 }
+{
+    let Some(d) = slot(d) else {
+        return OUT_OF_RANGE;
+    };
+    of_reply(&heap.new_raw(m, d, kind, count))
+}
+
+/// Performs `gcflip_heap_put` while a collection is open.
+#[inline(never)]
+pub(crate) fn put_while_open(heap: &mut LiveHeap, m: u8, s: u8, i: u16, t: u8) -> u32
+    requires { m < heap.old.mutators }
+    ensures call { IsCommandCall m (with_both (slot_at s) (slot_at t) (λ s t. Op.Put s i t))
+        (λ reply. result ≡ reply_in_c reply) (Some heap.old) (Some heap.new) result }
+    ensures memory { result ≡ 1 → IsSome heap.old.collection }
+{
+    if s >= SLOT_NUMBERS || t >= SLOT_NUMBERS {
+        return OUT_OF_RANGE;
+    }
+    let (s, t) = (numbered_slot(s), numbered_slot(t));
+    match heap.put(m, s, i, t) {
+        Ok(reply) => of_reply(&reply),
+        Err(NoMemory) => NO_MEMORY,
+    }
+}
+
+/// Performs `gcflip_heap_put_number` while a collection is open.
+#[inline(never)]
+pub(crate) fn put_number_while_open(heap: &mut LiveHeap, m: u8, s: u8, i: u16, t: u8, n: u64) -> u32
+    requires { m < heap.old.mutators }
+    ensures call { IsPutNumberCall m (slot_at s) i (slot_at t) (number_in n) (Some heap.old) (Some heap.new) result }
+    ensures memory { result ≡ 1 → IsSome heap.old.collection }
+{
+    if s >= SLOT_NUMBERS || t >= SLOT_NUMBERS {
+        return OUT_OF_RANGE;
+    }
+    let (s, t) = (numbered_slot(s), numbered_slot(t));
+    let Some(n) = Number::new(n) else {
+        return OUT_OF_RANGE;
+    };
+    match heap.put_number(m, s, i, t, n) {
+        Ok(reply) => of_reply(&reply),
+        Err(NoMemory) => NO_MEMORY,
+    }
+}
+
+/// Performs `gcflip_heap_new_pair` while a collection is open.
+#[inline(never)]
+pub(crate) fn new_pair_while_open(heap: &mut LiveHeap, m: u8, d: u8, kind: u8, s: u8, t: u8) -> u32
+    requires { m < heap.old.mutators }
+    ensures call { IsNewFromCall m d kind (s ∷ t ∷ []) (Some heap.old) (Some heap.new) result }
+    ensures memory { result ≡ 1 → IsSome heap.old.collection }
+{
+    if d >= SLOT_NUMBERS || s >= SLOT_NUMBERS || t >= SLOT_NUMBERS {
+        return OUT_OF_RANGE;
+    }
+    let (d, s, t) = (numbered_slot(d), numbered_slot(s), numbered_slot(t));
+    match heap.cons(m, d, kind, s, t) {
+        Ok(reply) => of_reply(&reply),
+        Err(NoMemory) => NO_MEMORY,
+    }
+}
