@@ -91,8 +91,8 @@ static inline gcflip_options gcflip_options_default(uint32_t size, uint8_t mutat
 uint32_t gcflip_heap_open(gcflip_heap *heap, const gcflip_options *options);
 
 /* Writes to all memory of both spaces and of the checker's tables once: GCFLIP_DONE. So no later call meets a page of theirs for the first time,
- * which takes about 2 microseconds for each page. Allocates the space of the first collection, unless one has begun or an earlier call did so.
- * Changes nothing else. While a collection is open, its new space is left out. */
+ * which takes about 2 microseconds for each page. Allocates the space of the next collection, which it takes to be as large as the heap,
+ * unless a flip or an earlier call has left it. Changes nothing else. While a collection is open, its new space is left out. */
 uint32_t gcflip_heap_touch(gcflip_heap *heap);
 
 /* Frees the heap. The handle then has none. */
@@ -356,10 +356,10 @@ uint32_t gcflip_pace_due(const gcflip_pace *pace, const gcflip_counts *counts, u
  * with pace->words. If none is due, all members of the report are 0. `wanted` may be 0. It returns GCFLIP_DONE, GCFLIP_OUT_OF_RANGE if the
  * factor is out of range, or GCFLIP_NO_MEMORY if an allocation of the first step fails; then nothing has changed, nor has the pace.
  *
- * After GCFLIP_DONE, the pace remembers the counts, and owes the steps that pace->words kept the call from: if that is above 0, work->steps or
- * work->copied is as much or more, and the last step neither flipped nor found no room, `owed` becomes the steps that were due less
- * work->steps. Otherwise it becomes 0. The next call adds them to the steps that are due. So with a bound, a call that finds no room for
- * `wanted` words may end before its flip, and the program calls it again.
+ * After GCFLIP_DONE, the pace remembers the counts. `owed` becomes the steps that were due less work->steps if the bound ended the call:
+ * pace->words is above 0, and work->steps or work->copied has reached it. It becomes 0 if the bound did not end the call, or the last step
+ * flipped or found no room. The next call adds `owed` to the steps that are due. So with a bound, a call that finds no room for `wanted` words
+ * may end before its flip, and the program calls it again.
  *
  * With the counts before the call and those after it:
  *
@@ -370,7 +370,7 @@ uint32_t gcflip_pace_due(const gcflip_pace *pace, const gcflip_counts *counts, u
  * The work that is left is a number above `logged`, and at most `steps left`. Each step lowers it, and a command raises it by the words that it
  * allocates and the entries that it logs. The call that begins a collection leaves at most `end` of it. While that collection is open, no
  * call leaves more than the call before, besides the steps that it owes, if each performs or owes the steps that are due and finds room. So
- * after each such call all logs together have fewer entries than `end` was at the begin, and what is owed. All this holds while `logged` is
+ * after each such call all logs together have fewer entries than `end` was at the begin, plus what is owed. All this holds while `logged` is
  * below UINT32_MAX, and if at most UINT32_MAX words, entries and steps are spent and owed between two calls. */
 uint32_t gcflip_heap_work_paced(gcflip_heap *heap, gcflip_pace *pace, uint32_t wanted, gcflip_work *work);
 

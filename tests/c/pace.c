@@ -331,6 +331,7 @@ static void no_room_anywhere(void)
 {
     EXPECT(open_plain_heap(&heap, 3000, 2) == GCFLIP_DONE);
     pace = gcflip_pace_default();
+    pace.words = 0; /* no bound: one call is enough */
     make_list(20);
     for (uint32_t steps = 1; steps < 110; steps++) {
         EXPECT(gcflip_heap_work(&heap, steps, &work) == GCFLIP_DONE);

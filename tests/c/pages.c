@@ -83,6 +83,21 @@ static long met(int is_touched)
     return found;
 }
 
+/* The same for a heap that grew in a collection before, and was touched then. The old space of that collection is too small for the next one. */
+static long met_after_growth(void)
+{
+    open_heap(LARGE / 2);
+    keep_cells(FEW);
+    collect(LARGE);
+    EXPECT(gcflip_heap_touch(&heap) == GCFLIP_DONE);
+    keep_cells(LARGE / 4 / CELL_WORDS);
+    long before = faults();
+    collect(LARGE);
+    long found = faults() - before;
+    EXPECT(gcflip_heap_close(&heap) == GCFLIP_DONE);
+    return found;
+}
+
 /* A heap that is touched twice meets no page the second time. */
 static void touch_twice(void)
 {
@@ -101,6 +116,7 @@ static void touch(void)
     touch_twice();
     EXPECT(met(0) >= pages);
     EXPECT(met(1) <= FEW);
+    EXPECT(met_after_growth() <= FEW);
 }
 
 static void slices(void)

@@ -142,7 +142,7 @@ static void make_steps(bool is_recorded)
     REPLIES(gcflip_heap_work(&heap, 1, &work), GCFLIP_DONE, is_recorded);
     REPLIES(gcflip_heap_work_sized(&heap, 1, 128, &work), GCFLIP_DONE, is_recorded);
     REPLIES(gcflip_heap_work_within(&heap, 1, 128, &work), GCFLIP_DONE, is_recorded);
-    REPLIES(gcflip_heap_work_paced(&heap, &pace, UINT32_MAX, &work), GCFLIP_DONE, is_recorded); /* there is no room, so it flips */
+    REPLIES(gcflip_heap_work_paced(&heap, &pace, UINT32_MAX, &work), GCFLIP_DONE, is_recorded); /* no room, and fewer than 1,024 steps left: it flips */
     EXPECT(work.last == GCFLIP_FLIPPED && work.pairs == 4);
 }
 

@@ -139,7 +139,7 @@ class Pace:
 
     @property
     def owed(self) -> int:
-        """The steps that were due at the last call, and that its words kept it from. The next call adds them to those that are due."""
+        """The number of steps that were due at the last call and that its bound left undone. The next call adds them to those that are due."""
         return int(self._raw.owed)
 
 
@@ -350,14 +350,14 @@ class Heap:
     def work_paced(self, pace: Pace, wanted: int = 0) -> Work | None:
         """Performs the useful steps that are due before the program allocates `wanted` words, and remembers the heap in the pace. Returns None
         if none is due. Ends early for the reasons of `work`, and once it has performed as many steps, or copied as many words, as the
-        pace allows; the pace then owes the other steps. Raises OutOfRange if the pace's factor is out of range, and OutOfMemory if an allocation of the first step fails; then
-        nothing has changed."""
+        pace allows; the pace then owes the other steps. Raises OutOfRange if the pace's factor is out of range, and OutOfMemory if an
+        allocation of the first step fails; then nothing has changed."""
         work = library.Work()
         self._call("work_paced", pace._raw, wanted, work)
         return _work_of(work) if work.steps else None
 
     def steps_due(self, pace: Pace, wanted: int = 0) -> int:
-        """Returns the number of steps that `work_paced` would perform, if none of them ends it early."""
+        """Returns the number of steps that are due. `work_paced` performs them, unless a step or the pace's bound ends it early."""
         wanted, = in_range((wanted,), [ctypes.c_uint32])
         return int(LIBRARY.gcflip_pace_due(pace._raw, self._turn.take(self._counts), wanted))
 

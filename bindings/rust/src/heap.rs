@@ -350,7 +350,7 @@ impl Pace {
         Pace { words, ..self }
     }
 
-    /// Returns the number of steps that were due at the last call, and that its words kept it from. The next call adds them to those that are
+    /// Returns the number of steps that were due at the last call and that its bound left undone. The next call adds them to those that are
     /// due.
     pub fn owed(&self) -> u32 {
         self.owed
@@ -482,7 +482,7 @@ impl Heap {
     ///
     /// # Errors
     ///
-    /// Returns `NoMemory` if the space of the first collection cannot be allocated.
+    /// Returns `NoMemory` if the space of the next collection cannot be allocated.
     pub fn touch(&self) -> Result<()> {
         replied(self.handle.touch()).map(drop)
     }
@@ -570,7 +570,7 @@ impl Heap {
         Ok((work.steps > 0).then(|| work_of(&work)))
     }
 
-    /// Returns the number of steps that `work_paced` would perform now, if none of them ends it early.
+    /// Returns the number of steps that are due now. `work_paced` performs them, unless a step or the pace's bound ends it early.
     pub fn steps_due(&self, pace: &Pace, wanted: u32) -> u32 {
         let (_, counts) = self.handle.counts();
         sys::pace_due(pace, &counts, wanted)

@@ -53,7 +53,7 @@ pub(crate) struct Turn {
 }
 
 impl Turn {
-    // That of a heap that was just opened.
+    // Returns the turn of a heap that was just opened.
     pub(crate) fn at_open(checking: Checking) -> Turn {
         let each = match checking {
             Checking::AtFlip => 1,

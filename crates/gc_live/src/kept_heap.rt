@@ -12,6 +12,7 @@ ghost use Rattle.gc_core.specs.Flip.{FlipsOnly, FormerAfter, IsCertified, Passes
 
 use crate::checking::Checking;
 use crate::live_heap::LiveHeap;
+use crate::rooms::touch_if;
 use gc_check::Checks;
 use gc_copy::{Room, Step, StepReply};
 use gc_core::AlongFlip;
@@ -45,15 +46,13 @@ impl KeptHeap {
     }
 
     /// Writes to all memory of both spaces and of the standing checker's tables once, so that no later write meets a page for the first time. If
-    /// a collection is open, its new space is left out. Allocates the space for the next collection, unless a flip has left one. On
-    /// `NoMemory` nothing has changed.
+    /// a collection is open, its new space is left out. Allocates the space of the next collection, unless a flip or an earlier call has left it.
+    /// That collection is taken to be as large as the heap. On `NoMemory` nothing has changed.
     pub fn touch(&mut self, alloc: Global) -> Result<(), NoMemory>
         ensures live { self.new.live ≡ self.old.live }
         ensures former { self.new.former ≡ self.old.former }
     {
-        if let Some(former) = &mut self.former {
-            former.touch();
-        } else {
+        if !touch_if(&mut self.former, self.live.size()) {
             self.live.touch_spare(alloc)?;
         }
         self.live.touch();

@@ -1,6 +1,6 @@
 //! The memory of the next collection, and memory that is given back.
 
-ghost use Rattle.std.specs.Prelude.{◌≡◌, ◌≤◌, ◌⊎◌, IfOk, OnErr};
+ghost use Rattle.std.specs.Prelude.{◌≡◌, ◌≤◌, ◌⊎◌, None, IfOk, OnErr};
 ghost use Rattle.gc_plan.specs.Steps.{collect};
 ghost use Rattle.gc_plan.specs.declared.step.Step.{Step};
 ghost use Rattle.gc_plan.specs.declared.step.StepReply.{StepReply};
@@ -60,6 +60,19 @@ impl LiveHeap {
     }
 }
 
+/// Writes to all memory of this room, if there is room of this size. Returns whether there is.
+pub(crate) fn touch_if(room: &mut Option<Room>, size: u32) -> bool
+    ensures { room.new ≡ room.old }
+{
+    match room {
+        Some(room) if room.size() == size => {
+            room.touch();
+            true
+        }
+        _ => false,
+    }
+}
+
 // Writes to all memory of this room, or of new room where this one has another size. On `NoMemory` nothing has changed.
 fn touch_room(
     alloc: Global,
@@ -105,17 +118,28 @@ pub(crate) fn begin_in_room(
     if is_of_size(left, size) {
         return heap.begin_in(size, left);
     }
-    if left.is_none() && is_of_size(spare, size) {
-        return heap.begin_in(size, spare);
+    if is_of_size(spare, size) {
+        let reply = heap.begin_in(size, spare)?;
+        if let StepReply::Begun = reply {
+            leave(left, spare, leaving);
+        }
+        return Ok(reply);
     }
     let reply = heap.begin_in(size, &mut None)?;
     if let StepReply::Begun = reply {
-        *leaving = match left.take() {
-            None => spare.take(),
-            former => former,
-        };
+        leave(left, spare, leaving);
     }
     Ok(reply)
+}
+
+// Has the room leave that a begin did not take: what is left of the last flip's old space, or else the spare room.
+fn leave(left: &mut Option<Room>, spare: &mut Option<Room>, leaving: &mut Option<Room>)
+    ensures { left.new ≡ None }
+{
+    *leaving = match left.take() {
+        None => spare.take(),
+        former => former,
+    };
 }
 
 // Whether there is room of so many words.

@@ -40,6 +40,7 @@ abbrev pub after_turns : State → List Turn → State
 after_turns s [] = s
 after_turns s (turn ∷ turns) = after_turns turn.state turns
 
+-- the pace after the last of these turns, or this pace if there is none
 abbrev pub last_pace : GcflipPace → List Turn → GcflipPace
 last_pace pace [] = pace
 last_pace pace (turn ∷ turns) = last_pace turn.pace turns

@@ -11,7 +11,8 @@ ghost use Rattle.gcflip_heap_c.specs.Slots.{slot_at};
 use crate::answer::{CLOSED, NO_MEMORY, OUT_OF_RANGE};
 use crate::handle::GcflipHeap;
 use crate::rare::{
-    SHORT, new_long, new_long_raw, new_pair_while_open, put_number_while_open, put_while_open,
+    MOST_IN_LINE, new_long, new_long_raw, new_pair_while_open, put_number_while_open,
+    put_while_open,
 };
 use crate::reply::{GcflipView, of_fetched, of_look, of_reply};
 use crate::slots::{NumberedSlots, SLOT_NUMBERS, are_slots, numbered_slot, slot};
@@ -38,7 +39,7 @@ pub extern "C" fn gcflip_heap_new_object(
     if m >= heap.mutators() {
         return OUT_OF_RANGE;
     }
-    if count > SHORT {
+    if count > MOST_IN_LINE {
         return new_long(heap, m, d, kind, count);
     }
     let Some(d) = slot(d) else {
@@ -68,7 +69,7 @@ pub extern "C" fn gcflip_heap_new_raw(
     if m >= heap.mutators() {
         return OUT_OF_RANGE;
     }
-    if count > SHORT {
+    if count > MOST_IN_LINE {
         return new_long_raw(heap, m, d, kind, count);
     }
     let Some(d) = slot(d) else {

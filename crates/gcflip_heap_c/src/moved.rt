@@ -11,7 +11,7 @@ use gc_copy::Room;
 use gc_words::OldAddr;
 
 /// Writes the address to which the last flip moved the object that was at the address `old` before it, if it did not die.
-/// Returns 0 if it did not, or else 18.
+/// Returns 0, or 18 if the object died.
 fn read_moved(former: &Room, old: u32, address: &mut u32) -> u32
     ensures answer { result ≡ address_answer (moved_in former.now old) }
     ensures address { address.new ≡ address_after address.old (moved_in former.now old) }

@@ -46,7 +46,7 @@ pub struct GcflipPace {
     pub end: u32,
     /// The number of log entries after the last call.
     pub logged: u32,
-    /// The steps that were due at the last call, and that `words` kept it from.
+    /// The number of steps that were due at the last call and that its bound left undone.
     pub owed: u32,
 }
 

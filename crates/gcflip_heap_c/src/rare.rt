@@ -1,5 +1,5 @@
 //! Commands in the rarer cases: long objects, and writes while a collection is open. They are functions of their own, which an export calls
-//! last. So the common case of the export calls nothing, and saves no registers.
+//! last. So the common case of the export calls at most what makes the standing checker's rows longer, and saves fewer registers.
 
 ghost use Rattle.std.specs.Prelude.{◌≡◌, ◌≢◌, ◌<◌, ◌∷◌, [], Some, IsSome};
 ghost use Rattle.std.specs.Option.{option_map};
@@ -14,8 +14,8 @@ use crate::slots::{SLOT_NUMBERS, numbered_slot, slot};
 use gc_graph::{NoMemory, Number};
 use gc_live::LiveHeap;
 
-/// An object with more fields than this is filled by a call.
-pub(crate) const SHORT: u16 = 9;
+/// The most fields of an object that is filled in line: gc_words writes a link and so many fields without a call.
+pub(crate) const MOST_IN_LINE: u16 = 9;
 
 /// Makes a long object, as `gcflip_heap_new_object` does.
 #[inline(never)]
