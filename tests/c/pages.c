@@ -3,6 +3,7 @@
 #define _GNU_SOURCE
 #include "expect.h"
 #include "gcflip_heap.h"
+#include <malloc.h>
 #include <string.h>
 #include <sys/prctl.h>
 #include <sys/resource.h>
@@ -180,6 +181,7 @@ int main(int count, char **words)
 {
     EXPECT(count == 2);
     EXPECT(prctl(PR_SET_THP_DISABLE, 1, 0, 0, 0) == 0); /* else one fault brings many pages */
+    EXPECT(mallopt(M_MMAP_THRESHOLD, 1 << 20) == 1);    /* else glibc keeps large blocks once one was freed */
     if (strcmp(words[1], "touch") == 0)
         touch();
     else if (strcmp(words[1], "slices") == 0)
