@@ -8,6 +8,7 @@ mod origin_row;
 mod outline;
 mod standing;
 mod telling;
+mod walking;
 mod watcher;
 mod zeros;
 

@@ -1,6 +1,9 @@
 use crate::code_row::CodeRow;
 use crate::origin_row::OriginRow;
 use crate::outline::Outline;
+use crate::walking::{
+    DUE, START, TAKEN, add_codes, claim_in, code_of, is_copy, next_header, next_within,
+};
 use crate::watcher::Watcher;
 use crate::{origins_tell_pairs, what_is_seen_is_certified};
 use gc_graph::NoMemory;
@@ -9,13 +12,6 @@ use std::alloc::Global;
 use std::cmp::max;
 use std::marker::Model;
 use std::mem::swap;
-
-/// An object starts here. In the old table: no replica of it was seen.
-const START: u8 = 1;
-/// In the old table: a start whose replica was seen.
-const TAKEN: u8 = 2;
-/// In the new table: a field that has yet to be compared.
-const DUE: u8 = 3;
 
 /// A link modulo this number, which is its low 32 bits, is the place that it claims. The checker does not read the other bits.
 const PLACES: u64 = 1 << 32;
@@ -128,8 +124,8 @@ impl Standing {
         self.origins.touch();
     }
 
-    /// A collection begins. If the checker is lost, it walks over the old space anew, unless it is absent or the space is larger than its
-    /// room.
+    /// A collection begins. If the checker is lost, it walks over the old space anew, unless it is absent or its tables have no room for
+    /// the space.
     pub fn begun(&mut self, old: &[u64])
         ensures kept { IsFalse self.old.lost → self.new ≡ self.old }
         ensures anew { IsTrue self.old.lost → IsFalse self.new.lost → WalkedAnew old.now self.new }
@@ -520,114 +516,9 @@ impl Watcher for Standing {
     }
 }
 
+ghost use Rattle.std.specs.Prelude.{◌≡◌, ◌⊎◌, ◌↔◌, ◌≤◌, ◌+◌, ℕ, IsTrue, if◌then◌else◌, length, slice_index_or};
 ghost use Rattle.gc_along.specs.Outline.{outline_in};
-ghost use Rattle.std.specs.Prelude.{◌≡◌, ◌⊎◌, ◌↔◌, ◌≤◌, ◌<◌, ◌+◌, ◌==◌, ◌++◌, ℕ, IsTrue, MatchOption, length, slice_index, slice_index_or};
-ghost use Rattle.gc_words.specs.Layout.{fields_place, link_place};
-ghost use Rattle.gc_words.specs.Word.{read_header};
-ghost use Rattle.gc_words.specs.declared.header.Header.{Header};
-ghost use Rattle.std.specs.Prelude.{if◌then◌else◌, Some};
-ghost use Rattle.gc_along.specs.Watch.{IsNext, IsSized, bit};
-ghost use Rattle.gc_along.specs.Events.{IsCopy, object_codes, code_of};
-
-// The header of the next object of a walk, if there is one.
-#[inline(always)]
-fn next_within(words: &[u64], at: usize) -> Option<Header>
-    requires { at < length words.now }
-    ensures { MatchOption result ((h : Header) → IsNext at words.now h → ⊥)
-        (λ h. (read_header (slice_index words.now at) ≡ Some h) × (at + (h.len + 2) ≤ length words.now)) }
-{
-    let word = words[at];
-    // The length is the same for both kinds of headers, so it is decoded after this test.
-    if Header::read(word).is_none() {
-        return None;
-    }
-    let header = Header::of_word(word);
-    if usize::from(header.len()) + 2 > words.len() - at {
-        return None;
-    }
-    Some(header)
-}
-
-// The same, if there is room for its codes.
-#[inline(always)]
-fn next_header(words: &[u64], at: usize, room: u32) -> Option<Header>
-    requires at { at < length words.now }
-    requires room { room ≤ 4294967295 }
-    ensures { MatchOption result ((h : Header) → IsNext at words.now h → at + (h.len + 2) ≤ room → ⊥)
-        (λ h. IsNext at words.now h × (at + (h.len + 2) ≤ room)) }
-{
-    let header = next_within(words, at)?;
-    if at + (usize::from(header.len()) + 2) > room as usize {
-        return None;
-    }
-    Some(header)
-}
-
-// The original that the link of the object at `at` claims, if it is one: it starts an object that was seen and has no replica,
-// with an equal header word.
-#[inline(always)]
-fn claim_in(old: &[u64], new: &[u64], olds: &CodeRow, at: usize) -> Option<u32>
-    requires { link_place at < length new.now }
-    ensures { MatchOption result ((a : ℕ) → slice_index new.now (link_place at) ≡ a → 1 ≤ a → a < 4294967295 → a < length old.now
-        → slice_index_or olds.now.codes a 0 ≡ 1 → slice_index old.now a ≡ slice_index new.now at → ⊥)
-        (λ a. (slice_index new.now (link_place at) ≡ a) × (1 ≤ a) × (a < length old.now) × (a < length olds.now.codes)
-        × (slice_index_or olds.now.codes a 0 ≡ 1) × (slice_index old.now a ≡ slice_index new.now at)) }
-{
-    let claim = new[at + 1];
-    if claim < 1 {
-        return None;
-    }
-    if claim >= u64::from(u32::MAX) {
-        return None;
-    }
-    let original = claim as u32;
-    let from = original as usize;
-    if from >= olds.len() {
-        return None;
-    }
-    if olds.get(from) != START {
-        return None;
-    }
-    if from >= old.len() {
-        return None;
-    }
-    if old[from] != new[at] {
-        return None;
-    }
-    Some(original)
-}
-
-// Whether the object at `at` is raw, and its field words are those of its original.
-#[inline(always)]
-fn is_copy(header: Header, old: &[u64], new: &[u64], original: u32, at: usize) -> bool
-    requires { at + (header.len + 2) ≤ length new.now }
-    ensures copy { IsTrue result → IsCopy old.now new.now header original at }
-    ensures whole { IsCopy old.now new.now header original at → fields_place original + header.len ≤ length old.now → IsTrue result }
-{
-    if !header.is_raw() {
-        return false;
-    }
-    let len = usize::from(header.len());
-    let from = original as usize + 2;
-    if from + len > old.len() {
-        return false;
-    }
-    let first = at + 2;
-    old[from..from + len] == new[first..first + len]
-}
-
-// Adds the codes of an object.
-#[inline(always)]
-fn add_codes(row: &mut CodeRow, len: u16, due: bool)
-    requires { length row.old.codes + (len + 2) ≤ row.old.room }
-    ensures codes { row.new.codes ≡ row.old.codes ++ object_codes len (code_of due) }
-    ensures room { row.old.room ≤ row.new.room }
-{
-    row.add(START, usize::from(len) + 1);
-    if due {
-        row.fill(usize::from(len));
-    }
-}
+ghost use Rattle.gc_along.specs.Watch.{IsSized, bit};
 
 // The originals have no replicas any more.
 fn free_originals(olds: &mut CodeRow, origins: &OriginRow)
@@ -674,10 +565,4 @@ fn due_words(len: u16, due: bool) -> usize
     ensures { result ≡ (if due then len else 0) }
 {
     if due { usize::from(len) } else { 0 }
-}
-
-fn code_of(due: bool) -> u8
-    ensures { result ≡ code_of due }
-{
-    if due { DUE } else { 0 }
 }

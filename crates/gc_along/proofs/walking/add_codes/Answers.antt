@@ -2,7 +2,7 @@
 use Rattle.std.proofs.Common.{◌++◌, sym, ◌∙◌, ap}
 use Rattle.gc_along.specs.Events.{code_of, object_codes}
 use Rattle.gc_along.proofs.Packed.{object_coded, object_due}
-use Rattle.gc_along.proofs.standing.add_codes.Goals as goal
+use Rattle.gc_along.proofs.walking.add_codes.Goals as goal
 
 pub returns-then-due-clause-codes : goal.returns-then-due-clause-codes
 returns-then-due-clause-codes c =
