@@ -9,8 +9,8 @@ use Rattle.gc_plan.proofs.Public.{all_replicated}
 use Rattle.gc_core.proofs.Marks.{slots_have, extra_have, all_have}
 use Rattle.gc_core.proofs.known.search.Goals as goal
 
-pub returns-in-tell_all-clause-first : goal.returns-in-tell_all-clause-first
-returns-in-tell_all-clause-first c =
+pub returns-then-tell_all-clause-first : goal.returns-then-tell_all-clause-first
+returns-then-tell_all-clause-first c =
     let collection = collection_in c.args.collection.now in
     let state = open_state c.args.heap.now c.args.collection.now in
     let count : c.root_count.result ≡ roots_of c.args.heap.now.mutators = c.root_count.ensures ∙ ap roots_of c.mutators.ensures.value in
