@@ -1,5 +1,5 @@
 /* A collection of many extra roots, for a tool that counts the reads of the blocks with the roots: root_reads CHECKING END [COMMANDS]. Performs all
- * steps before the flip by calls of one step each; with a third argument, a command writes slot 0 before each. Then END says whether the
+ * steps before the flip by calls of one step each. COMMANDS says what writes slot 0 before each: `moves` or `numbers`. Then END says whether the
  * collection is given up (0) or flips (1). Prints how often `work` was called, and how often a command read a root. */
 #include "expect.h"
 #include "gcflip_heap.h"
@@ -26,7 +26,9 @@ int main(int count, char **words)
     }
     EXPECT(gcflip_heap_step_begin(&heap) == GCFLIP_BEGUN);
     for (; calls < 2 * MANY; calls++) { /* each object is copied by one step and passed by another */
-        if (count > 3) {
+        if (count > 3 && words[3][0] == 'n')
+            EXPECT(gcflip_heap_set_number(&heap, 0, 0, calls) == GCFLIP_DONE && gcflip_heap_set_nil(&heap, 0, 1) == GCFLIP_DONE);
+        else if (count > 3) {
             EXPECT(gcflip_heap_move(&heap, 0, 0, 1) == GCFLIP_DONE);
             reads++;
         }

@@ -63,7 +63,7 @@ impl Standing {
     ghost use Rattle.gc_along.specs.Outline.{outline_in};
     ghost use Rattle.gc_along.specs.Watch.{RootsCorrespond};
     ghost use Rattle.gc_along.specs.Tables.{CertifiedBy};
-    ghost use Rattle.gc_along.specs.Telling.{Tells};
+    ghost use Rattle.gc_along.specs.Telling.{IsMark, Tells};
     ghost use Rattle.gc_along.specs.Events.{Made, Placed, Looked, Wrote, Applied, Freed, WalkedAnew, IsFieldOf, HasNoReplica, object_codes, absent_tables, opening_tables, flipped_tables, with_due};
     ghost use Rattle.gc_along.specs.Claims.{Accepts, CanApply, CanLook, CanMake, CanPlace, CanWrite, IsLinked, OwesNone};
 
@@ -337,6 +337,18 @@ impl Standing {
     {
         let from = a as usize;
         from < self.olds.len() && self.olds.get(from) == TAKEN
+    }
+
+    /// Returns whether the row of the old space has the mark of a start at `a`. Takes constant time.
+    pub fn starts_at(&self, a: u32) -> bool
+        ensures { IsTrue result ↔ IsMark (slice_index_or self.now.olds a 0) }
+    {
+        let from = a as usize;
+        if from >= self.olds.len() {
+            return false;
+        }
+        let code = self.olds.get(from);
+        code == START || code == TAKEN
     }
 
     // The replica of the object at `a`, if the low 32 bits of its link tell it.

@@ -1,9 +1,9 @@
 -- The tables of a standing checker know the heap through the mutators' commands, and it is not lost at any.
-use Rattle.std.proofs.Common.{◌≡◌, ◌≢◌, ◌⊎◌, inl, inr, ⊎_elim, ℕ, zero, suc, ◌+◌, ◌-◌, ◌<◌, ◌≤◌, ◌&&◌, not, nat_lt, Bool, true, false, List, [], ◌∷◌, ◌++◌, map, length, get_or, set, replicate, Option, Some, None, refl, ap, sym, ◌∙◌, subst, arith}
+use Rattle.std.proofs.Common.{◌≡◌, ◌≢◌, ◌⊎◌, inl, inr, ⊎_elim, ℕ, zero, suc, ◌+◌, ◌-◌, ◌<◌, ◌≤◌, ◌==◌, ◌&&◌, not, nat_lt, Bool, true, false, List, [], ◌∷◌, ◌++◌, map, length, get_or, set, replicate, Option, Some, None, refl, ap, sym, ◌∙◌, subst, arith}
 use Rattle.std.specs.Prelude.{slice_get, slice_set, slice_index}
 use Rattle.std.proofs.lemmas.Bool.{cases_Bool, cases_eq, cond_both, ltb-true, ltb-false}
 use Rattle.std.proofs.lemmas.List.{get_or-append_right, get_or-set_same, get_or-set_other}
-use Rattle.gc_graph.specs.Graph.{Value, Nil, Num, Ref, Object, Graph, root, set_field, new_object, lookup}
+use Rattle.gc_graph.specs.Graph.{Value, Nil, Num, Ref, Object, Graph, root, set_field, with_field, new_object, lookup}
 use Rattle.gc_graph.specs.Machine.{Roomy, get_field, put_field, is_number, step, roomy_step, words_taken}
 use Rattle.gc_graph.specs.Slots.{place}
 use Rattle.gc_graph.specs.declared.command.Op.{Op}
@@ -73,6 +73,39 @@ names_step g m (ops.Put s i t) name a h = inl (names_put g (root g (place s m)) 
 names_step g m (ops.Same s t) name a h = inl h
 names_step g m (ops.Look s) name a h = inl h
 
+-- ---- names stay
+
+kept_set : (name i : ℕ) (v : Value) (objects : List (ℕ × Object)) (a : ℕ) → IsNamed objects a → IsNamed (set_field objects name i v) a
+kept_set name i v [] a (o, l) = absurd l
+kept_set name i v (e ∷ rest) a (o, l) = cond_both (e.0 == name) _ _ (λ (objects : List (ℕ × Object)). IsNamed objects a)
+    (λ t. ⊎_elim (λ k. (with_field e.1 i v, inl (ap (λ (d : ℕ × Object). (d.0, with_field e.1 i v)) k))) (λ k. (o, inr k)) l)
+    (λ f. ⊎_elim (λ k. (o, inl k)) (λ k. (let r = kept_set name i v rest a (o, k) in (r.0, inr r.1))) l)
+
+kept_put : (g : Graph) (v : Value) (target : Option Object) (found : Option Value) (i : ℕ) (w : Value) (a : ℕ) → IsNamed g.objects a → IsNamed (put_field g v target found i w).1.objects a
+kept_put g Nil target found i w a h = h
+kept_put g (Num n) target found i w a h = h
+kept_put g (Ref b) None found i w a h = h
+kept_put g (Ref b) (Some o) None i w a h = h
+kept_put g (Ref b) (Some o) (Some before) i w a h = cond_both (o.raw && not (is_number w)) _ _ (λ (next : Reply × Graph). IsNamed next.1.objects a)
+    (λ t. h)
+    (λ t. kept_set b i w g.objects a h)
+
+kept_get : (g : Graph) (d : ℕ) (target : Option Object) (found : Option Value) (a : ℕ) → IsNamed g.objects a → IsNamed (get_field g d target found).1.objects a
+kept_get g d None found a h = h
+kept_get g d (Some o) None a h = h
+kept_get g d (Some o) (Some v) a h = h
+
+kept_step : (g : Graph) (m : ℕ) (op : Op) (name a : ℕ) → IsNamed g.objects a → IsNamed (step g m op name).1.objects a
+kept_step g m (ops.New d kind len) name a h = (h.0, in_left {X = ℕ × Object} (a, h.0) g.objects ((name, new_object false kind len) ∷ []) h.1)
+kept_step g m (ops.NewRaw d kind len) name a h = (h.0, in_left {X = ℕ × Object} (a, h.0) g.objects ((name, new_object true kind len) ∷ []) h.1)
+kept_step g m (ops.Num d n) name a h = h
+kept_step g m (ops.Nil d) name a h = h
+kept_step g m (ops.Move d s) name a h = h
+kept_step g m (ops.Get d s i) name a h = kept_get g (place d m) _ _ a h
+kept_step g m (ops.Put s i t) name a h = kept_put g (root g (place s m)) _ _ i (root g (place t m)) a h
+kept_step g m (ops.Same s t) name a h = h
+kept_step g m (ops.Look s) name a h = h
+
 -- ---- what goes on through commands
 
 -- the same collection but for entries more
@@ -92,19 +125,20 @@ SameOpen None (Some d) = ⊥
 SameOpen (Some c) None = ⊥
 SameOpen (Some c) (Some d) = SameBut c d
 
--- commands led from one state to another, and no objects but these were made
+-- commands led from one state to another, no objects but these were made, and none is gone
 pub record Continues (s s' : State) (New : ℕ → Type 0) : Type 0 where
   pub mutators : s'.mutators ≡ s.mutators
   pub size : s'.size ≡ s.size
   pub collection : SameOpen s.collection s'.collection
   pub names : (a : ℕ) → IsNamed s'.heap.graph.objects a → IsNamed s.heap.graph.objects a ⊎ New a
+  pub kept : (a : ℕ) → IsNamed s.heap.graph.objects a → IsNamed s'.heap.graph.objects a
 
 same_open : (o : Option Collection) → SameOpen o o
 same_open None = tt
 same_open (Some c) = same_but c
 
 pub continues_same : (s : State) (New : ℕ → Type 0) → Continues s s New
-continues_same s New = record { mutators = refl; size = refl; collection = same_open s.collection; names = λ a n. inl n }
+continues_same s New = record { mutators = refl; size = refl; collection = same_open s.collection; names = λ a n. inl n; kept = λ a n. n }
 
 open_trans : (o p q : Option Collection) → SameOpen o p → SameOpen p q → SameOpen o q
 open_trans None None None h k = tt
@@ -126,6 +160,7 @@ continues_on s mid s' One Two All f g h k = record {
   size = k.size ∙ h.size;
   collection = open_trans s.collection mid.collection s'.collection h.collection k.collection;
   names = λ a n. ⊎_elim (λ m. ⊎_elim (λ l. inl l) (λ l. inr (f a l)) (h.names a m)) (λ m. inr (g a m)) (k.names a n);
+  kept = λ a n. k.kept a (h.kept a n);
 }
 
 -- entries behind those of a log
@@ -153,6 +188,9 @@ continues_one s s' m op reply said = subst (λ (x : Reply × State). Continues s
   names = λ a. cond_both (nat_lt s.heap.free (words_taken op)) _ _ (λ (next : Reply × Roomy). IsNamed next.1.graph.objects a → IsNamed s.heap.graph.objects a ⊎ NewName s op a)
       (λ full n. inl n)
       (λ fits n. names_step s.heap.graph m op (heap_end s) a n);
+  kept = λ a n. cond_both (nat_lt s.heap.free (words_taken op)) _ _ (λ (next : Reply × Roomy). IsNamed next.1.graph.objects a)
+      (λ full. n)
+      (λ fits. kept_step s.heap.graph m op (heap_end s) a n);
 })
 
 -- a field that was written is logged
@@ -184,14 +222,16 @@ due_on c d same raw p a i x = ⊎_elim
     x
 
 -- the marks of the later objects are all that is asked of them
-known_on : (s s' : State) (c d : Collection) (t : Tables) → SameBut c d → s'.size ≡ s.size → ((a : ℕ) → IsNamed s'.heap.graph.objects a → IsMark (get_or t.olds a 0)) → Knows s c t → Knows s' d t
-known_on s s' c d t same size marked k = record {
+known_on : (s s' : State) (c d : Collection) (t : Tables) → SameBut c d → s'.size ≡ s.size → ((a : ℕ) → IsNamed s'.heap.graph.objects a → IsMark (get_or t.olds a 0)) → ((a : ℕ) → IsNamed s.heap.graph.objects a → IsNamed s'.heap.graph.objects a) → Knows s c t → Knows s' d t
+known_on s s' c d t same size marked stays k = record {
   kept = k.kept;
   due = λ place x. let f = k.due place x in (f.0, subst (In f.0) (sym same.replicas) f.1, f.2, f.3, f.4, due_on c d same f.0.object.raw f.0.place f.0.original f.2 f.5);
   marks = record {
     olds = marked;
+    starts = λ a mark. stays a (k.marks.starts a mark);
     taken = λ a e. (let r = k.marks.taken a e in (r.0, subst (In r.0) (sym same.replicas) r.1, r.2));
     news = λ r l. k.marks.news r (subst (In r) same.replicas l);
+    places = λ b e. (let r = k.marks.places b e in (r.0, subst (In r.0) (sym same.replicas) r.1, r.2));
     free = k.marks.free;
   };
   old_room = subst (λ n. n ≤ t.room) (sym size) k.old_room;
@@ -200,7 +240,7 @@ known_on s s' c d t same size marked k = record {
 
 pub quiet_known : (s s' : State) (t : Tables) (New : ℕ → Type 0) → Continues s s' New → ((a : ℕ) → New a → ⊥) → KnowsAll s t → KnowsAll s' t
 quiet_known s s' t New on none k = known_on s s' (open_or_fresh s s.collection) (open_or_fresh s' s'.collection) t (open_same s s' s.collection s'.collection on.mutators on.collection) on.size
-    (λ a n. ⊎_elim (λ l. k.marks.olds a l) (λ l. absurd (none a l)) (on.names a n)) k
+    (λ a n. ⊎_elim (λ l. k.marks.olds a l) (λ l. absurd (none a l)) (on.names a n)) on.kept k
 
 -- ---- an object made
 
@@ -222,6 +262,17 @@ no_mark n (suc (suc k)) e = zeros n k e
     zeros zero k e = absurd (let no : 0 ≡ 2 = e in omega arith)
     zeros (suc n) zero e = absurd (let no : 0 ≡ 2 = e in omega arith)
     zeros (suc n) (suc k) e = zeros n k e
+
+-- only the first word of a new object has a mark
+only_first : (n k : ℕ) → IsMark (get_or (object_codes n 0) k 0) → k ≡ 0
+only_first n zero mark = refl
+only_first n (suc zero) mark = absurd (⊎_elim (λ e. (let no : 0 ≡ 1 = e in omega arith)) (λ e. (let no : 0 ≡ 2 = e in omega arith)) mark)
+only_first n (suc (suc k)) mark = absurd (none n k mark)
+  where
+    none : (n k : ℕ) → (let nil : ℕ = 0 in IsMark (get_or (replicate n nil) k nil) → ⊥)
+    none zero k mark = ⊎_elim (λ e. (let no : 0 ≡ 1 = e in omega arith)) (λ e. (let no : 0 ≡ 2 = e in omega arith)) mark
+    none (suc n) zero mark = ⊎_elim (λ e. (let no : 0 ≡ 1 = e in omega arith)) (λ e. (let no : 0 ≡ 2 = e in omega arith)) mark
+    none (suc n) (suc k) mark = none n k mark
 
 module _ (s s' : State) (t : Tables) (links : ℕ → ℕ) (later : IsSpaceGraph s'.size s'.heap.free s'.heap.graph) (more : EndsMore s s') (on : Continues s s' (λ a. a ≡ heap_end s)) (seen : length t.olds ≡ heap_end s) (k : KnowsAll s t) where
   count : length (heap_words links s') ≡ heap_end s'
@@ -250,10 +301,10 @@ module _ (s s' : State) (t : Tables) (links : ℕ → ℕ) (later : IsSpaceGraph
 
   pub made_known : (after : Tables) → Made (heap_words links s') t after → KnowsAll s' after
   made_known after is = elim (cases_Bool (nat_lt (length t.olds) (length (heap_words links s')))) [
-    | inl y ↦ (let m = is.more (ltb-true (length t.olds) (length (heap_words links s')) y) in subst (KnowsAll s') (sym m.2) (one_more m.0))
+    | inl y ↦ (let m = is.more (ltb-true (length t.olds) (length (heap_words links s')) y) in subst (KnowsAll s') (sym m.2) (one_more (ltb-true (length t.olds) (length (heap_words links s')) y) m.0))
     | inr n ↦ (let past : length (heap_words links s') ≤ length t.olds = ltb-false (length t.olds) (length (heap_words links s')) n in
         subst (KnowsAll s') (sym (is.at_end past)) (known_on s s' (open_or_fresh s s.collection) (open_or_fresh s' s'.collection) t same on.size
-        (λ a l. ⊎_elim (λ old. k.marks.olds a old) (λ new. absurd (none_behind a l (omega (arith, count)))) (on.names a l)) k))
+        (λ a l. ⊎_elim (λ old. k.marks.olds a old) (λ new. absurd (none_behind a l (omega (arith, count)))) (on.names a l)) on.kept k))
   ]
     where
       same : SameBut (open_or_fresh s s.collection) (open_or_fresh s' s'.collection)
@@ -262,8 +313,15 @@ module _ (s s' : State) (t : Tables) (links : ℕ → ℕ) (later : IsSpaceGraph
       none_behind : (a : ℕ) → IsNamed s'.heap.graph.objects a → heap_end s' ≤ a → ⊥
       none_behind a (o, l) past = let range = laid_range 1 s'.heap.graph.objects (heap_end s') (a, o) later.laid l in let high : a + (length o.fields + 2) ≤ heap_end s' = range.1 in absurd (omega arith)
 
-      one_more : (h : Header) → KnowsAll s' (old_added t h)
-      one_more h = record {
+      -- the object that the walk came to
+      new_name : length t.olds < length (heap_words links s') → IsNamed s'.heap.graph.objects (length t.olds)
+      new_name less = ⊎_elim
+          (λ (same : heap_end s ≡ heap_end s'). absurd (omega (arith, count)))
+          (λ (one : (e : Object) × (In (heap_end s, e) s'.heap.graph.objects × (heap_end s + (length e.fields + 2) ≡ heap_end s'))). (one.0, subst (λ n. In {X = ℕ × Object} (n, one.0) s'.heap.graph.objects) (sym seen) one.1.0))
+          more
+
+      one_more : length t.olds < length (heap_words links s') → (h : Header) → KnowsAll s' (old_added t h)
+      one_more less h = record {
         kept = kept_old t h k.kept;
         due = λ place x. (let f = k.due place x in (f.0, subst (In f.0) (sym same.replicas) f.1, f.2, f.3, f.4, due_on (open_or_fresh s s.collection) (open_or_fresh s' s'.collection) same f.0.object.raw f.0.place f.0.original f.2 f.5));
         marks = record {
@@ -271,11 +329,19 @@ module _ (s s' : State) (t : Tables) (links : ℕ → ℕ) (later : IsSpaceGraph
               (λ old. mark_in_front t.olds (object_codes h.len 0) a (k.marks.olds a old))
               (λ new. inl (get_or-append_right t.olds (object_codes h.len 0) (length t.olds) a 0 refl (omega arith) ∙ ap (λ n. get_or (object_codes h.len 0) n 0) (let z : a - length t.olds ≡ 0 = omega arith in z)))
               (on.names a l);
+          starts = λ a mark. elim (cases_Bool (nat_lt a (length t.olds))) [
+            | inl y ↦ on.kept a (k.marks.starts a (subst IsMark (at_front t.olds (object_codes h.len 0) a (ltb-true a (length t.olds) y)) mark))
+            | inr n ↦ (let past : length t.olds ≤ a = ltb-false a (length t.olds) n in
+                let first : a - length t.olds ≡ 0 = only_first h.len (a - length t.olds) (subst IsMark (get_or-append_right t.olds (object_codes h.len 0) (length t.olds) a 0 refl past) mark) in
+                let here : length t.olds ≡ a = omega arith in
+                subst (IsNamed s'.heap.graph.objects) here (new_name less))
+          ];
           taken = λ a e. elim (cases_Bool (nat_lt a (length t.olds))) [
             | inl y ↦ (let r = k.marks.taken a (sym (at_front t.olds (object_codes h.len 0) a (ltb-true a (length t.olds) y)) ∙ e) in (r.0, subst (In r.0) (sym same.replicas) r.1, r.2))
             | inr n ↦ absurd (no_mark h.len (a - length t.olds) (sym (get_or-append_right t.olds (object_codes h.len 0) (length t.olds) a 0 refl (ltb-false a (length t.olds) n)) ∙ e))
           ];
           news = λ r l. k.marks.news r (subst (In r) same.replicas l);
+          places = λ b e. (let r = k.marks.places b e in (r.0, subst (In r.0) (sym same.replicas) r.1, r.2));
           free = k.marks.free;
         };
         old_room = subst (λ n. n ≤ t.room) (sym on.size) k.old_room;
@@ -323,8 +389,13 @@ module _ (s : State) (d : Collection) (links : ℕ → ℕ) (heap : IsSpaceGraph
           ];
           marks = record {
             olds = k.marks.olds;
+            starts = k.marks.starts;
             taken = k.marks.taken;
             news = λ r l. get_or-set_other t.news (field_place b i) r.place 3 0 (apart q.0 q.1 name place r l) ∙ k.marks.news r l;
+            places = λ p e. elim (cases_eq p (field_place b i)) [
+              | inl here ↦ absurd (let no : 3 ≡ 1 = sym (ap (λ n. get_or (set t.news (field_place b i) 3) n 0) here ∙ get_or-set_same t.news (field_place b i) 3 0 within) ∙ e in omega arith)
+              | inr other ↦ k.marks.places p (sym (get_or-set_other t.news (field_place b i) p 3 0 other) ∙ e)
+            ];
             free = λ p e. elim (cases_eq p (field_place b i)) [
               | inl here ↦ absurd (let no : 3 ≡ 2 = sym (ap (λ n. get_or (set t.news (field_place b i) 3) n 0) here ∙ get_or-set_same t.news (field_place b i) 3 0 within) ∙ e in omega arith)
               | inr other ↦ k.marks.free p (sym (get_or-set_other t.news (field_place b i) p 3 0 other) ∙ e)

@@ -1,11 +1,11 @@
 -- The tables of a standing checker know the heap where a collection begins, is given up, or ends in a flip.
-use Rattle.std.proofs.Common.{◌≡◌, ◌≢◌, inl, ⊎_elim, ℕ, zero, suc, ◌≤◌, false, true, [], ◌∷◌, length, get_or, None, refl, ap, sym, ◌∙◌, subst, arith}
+use Rattle.std.proofs.Common.{◌≡◌, ◌≢◌, inl, inr, ⊎_elim, ℕ, zero, suc, ◌≤◌, false, true, [], ◌∷◌, length, map, get_or, None, refl, ap, sym, ◌∙◌, subst, arith}
 use Rattle.gc_graph.specs.Graph.{Object}
 use Rattle.gc_plan.specs.State.{Collection, State, heap_end}
 use Rattle.gc_plan.specs.Steps.{flipped, fresh_collection}
 use Rattle.gc_plan.specs.Members.{In}
 use Rattle.gc_plan.specs.Belonging.{IsNamed, IsOpened, IsSpaceGraph}
-use Rattle.gc_plan.proofs.Public.{laid_range, lookup_in, in_map_from, placed}
+use Rattle.gc_plan.proofs.Public.{laid_range, lookup_in, in_map, in_map_from, placed}
 use Rattle.gc_along.specs.Events.{Freed, flipped_tables, opening_tables}
 use Rattle.gc_along.specs.Tables.{Tables, IsKept, watch_of}
 use Rattle.gc_along.specs.Telling.{IsMark}
@@ -37,14 +37,17 @@ kept_alone t news origins missing = record {
 
 -- tables of an empty new space know a collection that is just begun
 pub knows_fresh : (s : State) (size : ℕ) (t : Tables) → t.news ≡ 0 ∷ [] → t.origins ≡ 0 ∷ [] → t.missing ≡ 0
-    → ((a : ℕ) → IsNamed s.heap.graph.objects a → IsMark (get_or t.olds a 0)) → ((a : ℕ) → get_or t.olds a 0 ≢ 2) → s.size ≤ t.room → size ≤ t.room → Knows s (fresh_collection s.mutators size) t
-knows_fresh s size t news origins missing marked free old_room new_room = record {
+    → ((a : ℕ) → IsNamed s.heap.graph.objects a → IsMark (get_or t.olds a 0)) → ((a : ℕ) → IsMark (get_or t.olds a 0) → IsNamed s.heap.graph.objects a) → ((a : ℕ) → get_or t.olds a 0 ≢ 2)
+    → s.size ≤ t.room → size ≤ t.room → Knows s (fresh_collection s.mutators size) t
+knows_fresh s size t news origins missing marked starts free old_room new_room = record {
   kept = kept_alone t news origins missing;
   due = λ place d. absurd (none_due place (subst (λ row. Rattle.std.specs.Prelude.slice_index_or (Rattle.gc_along.specs.Tables.due_in row) place false ≡ true) news d));
   marks = record {
     olds = marked;
+    starts = starts;
     taken = λ a e. absurd (free a e);
     news = λ r l. absurd l;
+    places = λ b e. absurd (only_zero b 0 (sym (ap (λ row. get_or row b 0) news) ∙ e));
     free = λ b e. only_zero b 1 (sym (ap (λ row. get_or row b 0) news) ∙ e);
   };
   old_room = old_room;
@@ -54,14 +57,14 @@ knows_fresh s size t news origins missing marked free old_room new_room = record
 -- a heap without objects
 pub opened_known : (s : State) (size : ℕ) → s.heap.graph.objects ≡ [] → s.collection ≡ None → s.size ≤ size → 1 ≤ size → KnowsAll s (opening_tables size)
 opened_known s size empty closed room low = subst (λ o. Knows s (open_or_fresh s o) (opening_tables size)) (sym closed)
-    (knows_fresh s 1 (opening_tables size) refl refl refl (λ a n. absurd (subst (λ os. In {X = ℕ × Object} (a, n.0) os) empty n.1)) (λ a e. only_zero a 1 e) room low)
+    (knows_fresh s 1 (opening_tables size) refl refl refl (λ a n. absurd (subst (λ os. In {X = ℕ × Object} (a, n.0) os) empty n.1)) (λ a m. ⊎_elim (λ e. absurd (only_zero a 0 e)) (λ e. absurd (only_zero a 1 e)) m) (λ a e. only_zero a 1 e) room low)
 
 -- a larger or smaller space is begun
 pub begun_known : (s : State) (before size : ℕ) (t after : Tables) → after ≡ record t { room = after.room } → s.size ≤ after.room → size ≤ after.room → Knows s (fresh_collection s.mutators before) t → Knows s (fresh_collection s.mutators size) after
 begun_known s before size t after more old_room new_room knows = record {
   kept = subst IsKept (sym more) (record { counted = knows.kept.counted; few = knows.kept.few; rows = knows.kept.rows; taken = knows.kept.taken });
   due = λ place d. absurd (knows.due place (subst (λ (x : Tables). is_due_at (watch_of x) place ≡ true) more d)).1;
-  marks = subst (λ (x : Tables). Marks s.heap.graph.objects [] x) (sym more) (record { olds = knows.marks.olds; taken = knows.marks.taken; news = knows.marks.news; free = knows.marks.free });
+  marks = subst (λ (x : Tables). Marks s.heap.graph.objects [] x) (sym more) (record { olds = knows.marks.olds; starts = knows.marks.starts; taken = knows.marks.taken; news = knows.marks.news; places = knows.marks.places; free = knows.marks.free });
   old_room = old_room;
   new_room = new_room;
 }
@@ -69,12 +72,15 @@ begun_known s before size t after more old_room new_room knows = record {
 -- the collection is given up
 pub dropped_known : (s : State) (c : Collection) (t after : Tables) → IsSpaceGraph s.size s.heap.free s.heap.graph → IsOpened s c → Goes s c (watch_of t) → Knows s c t → 1 ≤ t.room → Freed t after → Knows s (fresh_collection s.mutators 1) after
 dropped_known s c t after heap opened goes knows low freed =
-    knows_fresh s 1 after (ap (λ (x : Tables). x.news) freed.rest) (ap (λ (x : Tables). x.origins) freed.rest) (ap (λ (x : Tables). x.missing) freed.rest) marked free
+    knows_fresh s 1 after (ap (λ (x : Tables). x.news) freed.rest) (ap (λ (x : Tables). x.origins) freed.rest) (ap (λ (x : Tables). x.missing) freed.rest) marked starts free
     (let room : after.room ≡ t.room = ap (λ (x : Tables). x.room) freed.rest in let r : s.size ≤ t.room = knows.old_room in omega arith)
     (let room : after.room ≡ t.room = ap (λ (x : Tables). x.room) freed.rest in omega arith)
   where
     marked : (a : ℕ) → IsNamed s.heap.graph.objects a → IsMark (get_or after.olds a 0)
     marked a named = ⊎_elim (λ same. subst IsMark (sym same) (knows.marks.olds a named)) (λ h. inl h.1) (freed.codes a)
+
+    starts : (a : ℕ) → IsMark (get_or after.olds a 0) → IsNamed s.heap.graph.objects a
+    starts a mark = knows.marks.starts a (⊎_elim (λ same. subst IsMark same mark) (λ h. inr h.0) (freed.codes a))
 
     free : (a : ℕ) → get_or after.olds a 0 ≢ 2
     free a e =
@@ -93,4 +99,8 @@ pub flipped_known : (s : State) (c : Collection) (t : Tables) → IsOpened s c �
 flipped_known s c t opened knows low =
     knows_fresh (flipped s c) 1 (flipped_tables t) refl refl refl
     (λ a named. (let r = in_map_from placed (a, named.0) c.replicas named.1 in inl (ap (λ n. get_or t.news n 0) (sym (ap (λ (e : ℕ × Object). e.0) r.2)) ∙ knows.marks.news r.0 r.1)))
+    (λ a mark. ⊎_elim
+    (λ e. (let r = knows.marks.places a e in (r.0.object, subst (λ n. In {X = ℕ × Object} (n, r.0.object) (map placed c.replicas)) r.2 (in_map placed r.0 c.replicas r.1))))
+    (λ e. absurd (knows.marks.free a e))
+    mark)
     knows.marks.free knows.new_room low

@@ -57,6 +57,13 @@ no_two n due (suc zero) e = absurd (let no : 0 ≡ 2 = e in omega arith)
 no_two n true (suc (suc j)) e = absurd (⊎_elim (λ h. (let no : 3 ≡ 2 = sym h.0 ∙ e in omega arith)) (λ h. (let no : 0 ≡ 2 = sym h ∙ e in omega arith)) (repeated n 3 j))
 no_two n false (suc (suc j)) e = absurd (⊎_elim (λ h. (let no : 0 ≡ 2 = sym h.0 ∙ e in omega arith)) (λ h. (let no : 0 ≡ 2 = sym h ∙ e in omega arith)) (repeated n 0 j))
 
+-- only the first word of an object has the mark of a start
+one_first : (n : ℕ) (due : Bool) (k : ℕ) → get_or (object_codes n (code_of due)) k 0 ≡ 1 → k ≡ 0
+one_first n due zero e = refl
+one_first n due (suc zero) e = absurd (let no : 0 ≡ 1 = e in omega arith)
+one_first n true (suc (suc j)) e = absurd (⊎_elim (λ h. (let no : 3 ≡ 1 = sym h.0 ∙ e in omega arith)) (λ h. (let no : 0 ≡ 1 = sym h ∙ e in omega arith)) (repeated n 3 j))
+one_first n false (suc (suc j)) e = absurd (⊎_elim (λ h. (let no : 0 ≡ 1 = sym h.0 ∙ e in omega arith)) (λ h. (let no : 0 ≡ 1 = sym h ∙ e in omega arith)) (repeated n 0 j))
+
 -- ---- a replica more, or none
 
 -- what tables know of a collection, where fields are due in another sense
@@ -107,16 +114,21 @@ module _ (s : State) (c next : Collection) (t : Tables) (links : ℕ → ℕ) (h
   old_taken : (a : ℕ) → get_or t.olds a 0 ≡ 2 → (r : Replica) × In r next.replicas × (r.original ≡ a)
   old_taken a e = let r = knows.marks.taken a e in let k = kin r.0 r.1 in (k.0, k.1, k.2.original ∙ r.2)
 
+  old_places : (b : ℕ) → get_or t.news b 0 ≡ 1 → (r : Replica) × In r next.replicas × (r.place ≡ b)
+  old_places b e = let r = knows.marks.places b e in let k = kin r.0 r.1 in (k.0, k.1, k.2.place ∙ r.2)
+
   none_more : HasSame c next → KnowsBy (IsDue c) s next t
   none_more h = record {
     kept = knows.kept;
     due = λ place d. old_field place (knows.due place d);
     marks = record {
       olds = knows.marks.olds;
+      starts = knows.marks.starts;
       taken = old_taken;
       news = λ r l.
           let p = in_map_from pair (pair r) c.replicas (subst (In (pair r)) h.pairs (in_map pair r next.replicas l)) in
           subst (λ n. get_or t.news n 0 ≡ 1) (ap (λ (p : ℕ × ℕ). p.1) p.2) (knows.marks.news p.0 p.1);
+      places = old_places;
       free = knows.marks.free;
     };
   }
@@ -163,6 +175,10 @@ module _ (s : State) (c next : Collection) (t : Tables) (links : ℕ → ℕ) (h
           | inl same ↦ inr (ap (λ n. get_or (set t.olds q.original 2) n 0) same ∙ get_or-set_same t.olds q.original 2 0 (within_row t.olds q.original 0 start))
           | inr other ↦ subst IsMark (sym (get_or-set_other t.olds q.original a 2 0 other)) (knows.marks.olds a named)
         ];
+        starts = λ a mark. elim (cases_eq a q.original) [
+          | inl same ↦ knows.marks.starts a (inl (ap (λ n. get_or t.olds n 0) same ∙ start))
+          | inr other ↦ knows.marks.starts a (subst IsMark (get_or-set_other t.olds q.original a 2 0 other) mark)
+        ];
         taken = λ a e. elim (cases_eq a q.original) [
           | inl same ↦ (q, added.there, sym same)
           | inr other ↦ old_taken a (sym (get_or-set_other t.olds q.original a 2 0 other) ∙ e)
@@ -174,6 +190,12 @@ module _ (s : State) (c next : Collection) (t : Tables) (links : ℕ → ℕ) (h
             let none : r.place - length t.news ≡ 0 = omega arith in
             at_back t.news codes r.place (omega arith) ∙ ap (λ n. get_or codes n 0) none))
             (in_push (pair r) (q.original, new_end c) (map pair c.replicas) (subst (In (pair r)) added.pairs (in_map pair r next.replicas l)));
+        places = λ b e. elim (cases_Bool (Rattle.std.proofs.Common.nat_lt b (length t.news))) [
+          | inl y ↦ old_places b (sym (at_front t.news codes b (Rattle.std.proofs.lemmas.Bool.ltb-true b (length t.news) y)) ∙ e)
+          | inr n ↦ (let l : length t.news ≤ b = Rattle.std.proofs.lemmas.Bool.ltb-false b (length t.news) n in
+              let first : b - length t.news ≡ 0 = one_first h.len due (b - length t.news) (sym (at_back t.news codes b l) ∙ e) in
+              let p : length t.news ≡ q.place = place_is in (q, added.there, omega arith))
+        ];
         free = λ b e. elim (cases_Bool (Rattle.std.proofs.Common.nat_lt b (length t.news))) [
           | inl y ↦ knows.marks.free b (sym (at_front t.news codes b (Rattle.std.proofs.lemmas.Bool.ltb-true b (length t.news) y)) ∙ e)
           | inr n ↦ no_two h.len due (b - length t.news) (sym (at_back t.news codes b (Rattle.std.proofs.lemmas.Bool.ltb-false b (length t.news) n)) ∙ e)
@@ -269,8 +291,13 @@ module _ (Due : Bool → ℕ → ℕ → ℕ → Type 0) (s : State) (next : Col
         ];
     marks = record {
       olds = knows.marks.olds;
+      starts = knows.marks.starts;
       taken = knows.marks.taken;
       news = λ r k. get_or-set_other mid.news (field_place q.place i) r.place 0 0 (apart r k) ∙ knows.marks.news r k;
+      places = λ b e. elim (cases_eq b (field_place q.place i)) [
+        | inl same ↦ absurd (let no : 0 ≡ 1 = sym (ap (λ n. get_or (set mid.news (field_place q.place i) 0) n 0) same ∙ get_or-set_same mid.news (field_place q.place i) 0 0 in_row) ∙ e in omega arith)
+        | inr other ↦ knows.marks.places b (sym (get_or-set_other mid.news (field_place q.place i) b 0 0 other) ∙ e)
+      ];
       free = λ b e. elim (cases_eq b (field_place q.place i)) [
         | inl same ↦ absurd (let no : 0 ≡ 2 = sym (ap (λ n. get_or (set mid.news (field_place q.place i) 0) n 0) same ∙ get_or-set_same mid.news (field_place q.place i) 0 0 in_row) ∙ e in omega arith)
         | inr other ↦ knows.marks.free b (sym (get_or-set_other mid.news (field_place q.place i) b 0 0 other) ∙ e)

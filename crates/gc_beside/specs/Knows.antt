@@ -19,11 +19,13 @@ IsDueField Due replicas place = (r : Replica) × In r replicas × (i : ℕ) × (
 abbrev pub DueOnly : Collection → Watch → Type 0
 DueOnly c w = (place : ℕ) → IsTrue (is_due_at w place) → IsDueField (IsDue c) c.replicas place
 
--- each object of the heap has its mark, which tells whether it has a replica, and so has each replica
+-- each object of the heap has its mark, which tells whether it has a replica, and so has each replica; there are no other marks
 pub record Marks (objects : List (ℕ × Object)) (replicas : List Replica) (t : Tables) : Type 0 where
   pub olds : (a : ℕ) → IsNamed objects a → IsMark (slice_index_or t.olds a 0)
+  pub starts : (a : ℕ) → IsMark (slice_index_or t.olds a 0) → IsNamed objects a
   pub taken : (a : ℕ) → slice_index_or t.olds a 0 ≡ 2 → (r : Replica) × In r replicas × (r.original ≡ a)
   pub news : (r : Replica) → In r replicas → slice_index_or t.news r.place 0 ≡ 1
+  pub places : (b : ℕ) → slice_index_or t.news b 0 ≡ 1 → (r : Replica) × In r replicas × (r.place ≡ b)
   pub free : (b : ℕ) → slice_index_or t.news b 0 ≢ 2
 
 -- the tables know this collection of the heap, and there is room for both spaces

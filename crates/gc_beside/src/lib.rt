@@ -2,7 +2,7 @@
 //! the words of both spaces.
 #![tactic(auto)]
 
-ghost use Rattle.std.specs.Prelude.{◌≡◌, ◌≤◌, ◌∷◌, [], ℕ, List, length, Some, None, IsFalse, IsSome, IsTrue};
+ghost use Rattle.std.specs.Prelude.{◌≡◌, ◌≤◌, ◌↔◌, ◌∷◌, [], ℕ, List, length, slice_index_or, Some, None, IsFalse, IsSome, IsTrue};
 ghost use Rattle.gc_graph.specs.Graph.{Object};
 ghost use Rattle.gc_graph.specs.Machine.{MakesObject};
 ghost use Rattle.gc_graph.specs.declared.command.Op.{Op};
@@ -12,13 +12,14 @@ ghost use Rattle.gc_heap.specs.Heap.{HeapWords, IsHeap, graph_in};
 ghost use Rattle.gc_plan.specs.Members.{In};
 ghost use Rattle.gc_plan.specs.State.{State, Collection, Replica, heap_end, new_end, replica_at};
 ghost use Rattle.gc_plan.specs.Steps.{collect, mutate, written, log_at, root_target, copy_root, scan, apply_log, flipped, fresh_collection, is_ready, with_collection};
-ghost use Rattle.gc_plan.specs.Belonging.{IsLogged, IsOpened, IsSpaceGraph};
+ghost use Rattle.gc_plan.specs.Belonging.{IsLogged, IsNamed, IsOpened, IsSpaceGraph};
 ghost use Rattle.gc_plan.specs.Linked.{LeadsTo, linked_image, old_image, new_image};
 ghost use Rattle.gc_copy.specs.Words.{CollectionWords, IsCollection, BelongsTo, collection_in};
 ghost use Rattle.gc_plan.specs.declared.step.StepReply.{StepReply};
 ghost use Rattle.gc_along.specs.Watch.{Watch, Watches, opening};
 ghost use Rattle.gc_along.specs.Outline.{outline_of};
 ghost use Rattle.gc_along.specs.Tables.{Tables, watch_of};
+ghost use Rattle.gc_along.specs.Telling.{IsMark};
 ghost use Rattle.gc_along.specs.Claims.{Accepts, CanApply, CanLook, CanMake, CanPlace, CanWrite, OwesNone};
 ghost use Rattle.gc_along.specs.Events.{Applied, Freed, Looked, Made, Placed, Wrote, flipped_tables, opening_tables};
 ghost use Rattle.gc_beside.specs.Knows.{Knows, KnowsAll};
@@ -62,6 +63,11 @@ pub fn watches_go_along()
         → Fits (heap_end after) next later
         → MarksWritten (λ a i. In {X = ℕ × ℕ} (a, i) (written s.heap.graph m op reply)) w c later
         → GoesAlong after.heap.graph.objects (heap_end after) next later }
+{}
+
+/// The marks of tables that know a heap tell where its objects start.
+pub fn marks_tell_starts()
+    ensures { (s : State) (t : Tables) (a : ℕ) → KnowsAll s t → IsMark (slice_index_or t.olds a 0) ↔ IsNamed s.heap.graph.objects a }
 {}
 
 /// What a standing checker is told of a collection that its tables know is true, so it is not lost, and then its tables know the later

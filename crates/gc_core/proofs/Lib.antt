@@ -10,5 +10,6 @@ mod NewFrom
 mod NumbersPut
 mod OtherCommands
 pub mod Public
+mod Referred
 mod Shown
 mod SourcesPut

@@ -2,9 +2,9 @@
 use Rattle.std.proofs.Common.{◌≡◌, ◌≢◌, ⊎_elim, ℕ, zero, suc, ◌+◌, ◌-◌, ◌<◌, ◌≤◌, nat_lt, List, [], ◌∷◌, length, map, slice_get, replicate, Option, Some, None, refl, sym, ap, ◌∙◌, subst, arith}
 use Rattle.std.specs.Prelude.{IfSome, slice_index, slice_set, false, min, max}
 use Rattle.std.specs.Option.{option_map}
-use Rattle.std.proofs.lemmas.Bool.{cond_both, cond-true, cond-false, cases_lt, cases_eq, lt-ltb, le-ltb, ltb-true}
+use Rattle.std.proofs.lemmas.Bool.{cond_both, cond-true, cases_lt, cases_eq, lt-ltb, ltb-true}
 use Rattle.gc_graph.specs.Slots.{SlotName, place, roots_of}
-use Rattle.gc_graph.specs.Graph.{Graph, Value, Nil, Ref, lookup, root, value_or_nil, set_root}
+use Rattle.gc_graph.specs.Graph.{Graph, Value, Nil, Num, Ref, lookup, root, value_or_nil, set_root}
 use Rattle.gc_graph.specs.Machine.{Roomy}
 use Rattle.gc_heap.specs.ExtraRoots.{extra_slot}
 use Rattle.gc_heap.specs.declared.options.HeapOptions.{HeapOptions}
@@ -93,6 +93,83 @@ quiet_command known s m op none k = record {
   where
     other : (p : ℕ) → root_written m op ≢ Some p
     other p e = absurd (let no : None ≡ Some p = sym none ∙ e in cc)
+
+-- a value that refers to no object
+abbrev pub RefersNot : Value → Type 0
+RefersNot Nil = Unit {0}
+RefersNot (Num n) = Unit {0}
+RefersNot (Ref a) = ⊥
+
+-- the command sets a slot to such a value
+abbrev pub SetsPlain : Op → Type 0
+SetsPlain (ops.New d kind len) = ⊥
+SetsPlain (ops.NewRaw d kind len) = ⊥
+SetsPlain (ops.Num d n) = Unit {0}
+SetsPlain (ops.Nil d) = Unit {0}
+SetsPlain (ops.Move d s) = ⊥
+SetsPlain (ops.Get d s i) = ⊥
+SetsPlain (ops.Put s i t) = ⊥
+SetsPlain (ops.Same s t) = ⊥
+SetsPlain (ops.Look s) = ⊥
+
+plain_known : (s : State) (p : ℕ) → RefersNot (root s.heap.graph p) → KnowsRoot s p
+plain_known s p plain = go s.collection (root s.heap.graph p) plain
+  where
+    go : (o : Option Collection) (v : Value) → RefersNot v → IfSome o (λ c. HasReplicaOf c v)
+    go None v plain = tt
+    go (Some c) Nil plain = tt
+    go (Some c) (Num n) plain = tt
+    go (Some c) (Ref a) plain = absurd plain
+
+set_plain : (vs : List Value) (q : ℕ) (v : Value) → RefersNot v → RefersNot (value_or_nil (slice_get (slice_set vs q v) q))
+set_plain [] q v plain = tt
+set_plain (x ∷ vs) zero v plain = plain
+set_plain (x ∷ vs) (suc q) v plain = set_plain vs q v plain
+
+-- the root that it sets, and that it refers to no object afterwards
+plain_set : (s : State) (m : ℕ) (op : Op) → SetsPlain op → (q : ℕ) × (root_written m op ≡ Some q) × RefersNot (root (mutate s m op).1.heap.graph q)
+plain_set s m (ops.New d kind len) plain = absurd plain
+plain_set s m (ops.NewRaw d kind len) plain = absurd plain
+plain_set s m (ops.Num d n) plain = (
+  place d m,
+  refl,
+  cond_both (nat_lt s.heap.free 0) _ _ (λ (x : Reply × Roomy). RefersNot (root x.1.graph (place d m)))
+      (λ t. absurd (let no = ltb-true s.heap.free 0 t in omega (arith, no)))
+      (λ t. set_plain s.heap.graph.roots (place d m) (Num n) tt),
+)
+plain_set s m (ops.Nil d) plain = (
+  place d m,
+  refl,
+  cond_both (nat_lt s.heap.free 0) _ _ (λ (x : Reply × Roomy). RefersNot (root x.1.graph (place d m)))
+      (λ t. absurd (let no = ltb-true s.heap.free 0 t in omega (arith, no)))
+      (λ t. set_plain s.heap.graph.roots (place d m) Nil tt),
+)
+plain_set s m (ops.Move d t) plain = absurd plain
+plain_set s m (ops.Get d t i) plain = absurd plain
+plain_set s m (ops.Put t i u) plain = absurd plain
+plain_set s m (ops.Same t u) plain = absurd plain
+plain_set s m (ops.Look t) plain = absurd plain
+
+-- a command that sets a slot to nil or a number, which needs no replica
+pub plain_command : (known : KnownRoots) (s : State) (m : ℕ) (op : Op) → SetsPlain op → WritesBelow (roots_of s.mutators) m op → KnowsRoots known s → KnowsRoots known (mutate s m op).1
+plain_command known s m op plain below k = record {
+  slots_high = k.slots_high;
+  extra_high = k.extra_high;
+  used_high = omega (arith, roots_counted s m op, k.used_high);
+  counted = omega (arith, roots_counted s m op, k.counted);
+  slots = λ p less. knows p (k.slots p less);
+  extra = λ i less. knows (roots_of s.mutators + i) (k.extra i less);
+  unused = λ i le. root_kept s m op (roots_of s.mutators + i) (not_this (roots_of s.mutators) m op (roots_of s.mutators + i) below (omega arith)) ∙ k.unused i le;
+}
+  where
+    there : (q : ℕ) × (root_written m op ≡ Some q) × RefersNot (root (mutate s m op).1.heap.graph q)
+    there = plain_set s m op plain
+
+    knows : (p : ℕ) → KnowsRoot s p → KnowsRoot (mutate s m op).1 p
+    knows p has = ⊎_elim
+        (λ same. plain_known (mutate s m op).1 p (subst (λ q. RefersNot (root (mutate s m op).1.heap.graph q)) (sym same) there.2))
+        (λ other. mutate_stays s m op p (λ e. (let same : there.0 ≡ p = cc (sym there.1 ∙ e) in other (sym same))) has)
+        (cases_eq p there.0)
 
 -- a command that writes extra root i
 pub stored_command : (known : KnownRoots) (s : State) (m i : ℕ) (op : Op) → root_written m op ≡ Some (roots_of s.mutators + i) → roots_of s.mutators + i < length s.heap.graph.roots → KnowsRoots known s
@@ -214,20 +291,18 @@ from_knows known s new m kind d fields reply low less steps k =
     (filled_knows after (mutate s m op).0 (mutate s m op).1 m d fields (slot_command known s m op below k))
 
 pub number_knows : (known : KnownRoots) (s one new : State) (m i n : ℕ) (d t : SlotName) (first reply : Reply) → t.index < 16 → m < s.mutators → mutate s m (ops.Num t n) ≡ (first, one) → mutate one m (ops.Put d i t) ≡ (reply, new) → KnowsRoots known s
-    → KnowsRoots (record { slots = 0; extra = known.extra; used = known.used; count = known.count }) new
+    → KnowsRoots known new
 number_knows known s one new m i n d t first reply low less a b k =
-    let after : KnownRoots = record { slots = 0; extra = known.extra; used = known.used; count = known.count } in
     let below : WritesBelow (roots_of s.mutators) m (ops.Num t n) = λ q. one_below (place t m) q (roots_of s.mutators) (slot_below t m s.mutators low less) in
-    let numbered : KnowsRoots after one = subst (KnowsRoots after) (ap (λ (x : Reply × State). x.1) a) (slot_command known s m (ops.Num t n) below k) in
-    subst (KnowsRoots after) (ap (λ (x : Reply × State). x.1) b) (quiet_command after one m (ops.Put d i t) refl numbered)
+    let numbered : KnowsRoots known one = subst (KnowsRoots known) (ap (λ (x : Reply × State). x.1) a) (plain_command known s m (ops.Num t n) tt below k) in
+    subst (KnowsRoots known) (ap (λ (x : Reply × State). x.1) b) (quiet_command known one m (ops.Put d i t) refl numbered)
 
 pub nil_put_knows : (known : KnownRoots) (s one new : State) (m i : ℕ) (d t : SlotName) (first reply : Reply) → t.index < 16 → m < s.mutators → mutate s m (ops.Nil t) ≡ (first, one) → mutate one m (ops.Put d i t) ≡ (reply, new) → KnowsRoots known s
-    → KnowsRoots (record { slots = 0; extra = known.extra; used = known.used; count = known.count }) new
+    → KnowsRoots known new
 nil_put_knows known s one new m i d t first reply low less a b k =
-    let after : KnownRoots = record { slots = 0; extra = known.extra; used = known.used; count = known.count } in
     let below : WritesBelow (roots_of s.mutators) m (ops.Nil t) = λ q. one_below (place t m) q (roots_of s.mutators) (slot_below t m s.mutators low less) in
-    let emptied : KnowsRoots after one = subst (KnowsRoots after) (ap (λ (x : Reply × State). x.1) a) (slot_command known s m (ops.Nil t) below k) in
-    subst (KnowsRoots after) (ap (λ (x : Reply × State). x.1) b) (quiet_command after one m (ops.Put d i t) refl emptied)
+    let emptied : KnowsRoots known one = subst (KnowsRoots known) (ap (λ (x : Reply × State). x.1) a) (plain_command known s m (ops.Nil t) tt below k) in
+    subst (KnowsRoots known) (ap (λ (x : Reply × State). x.1) b) (quiet_command known one m (ops.Put d i t) refl emptied)
 
 pub put_knows : (known : KnownRoots) (s new : State) (m i : ℕ) (d t : SlotName) (reply : Reply) → mutate s m (ops.Put d i t) ≡ (reply, new) → KnowsRoots known s → KnowsRoots known new
 put_knows known s new m i d t reply steps k = subst (KnowsRoots known) (ap (λ (x : Reply × State). x.1) steps) (quiet_command known s m (ops.Put d i t) refl k)

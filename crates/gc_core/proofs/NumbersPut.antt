@@ -32,12 +32,12 @@ forgotten known s k = record {
   unused = k.unused;
 }
 
-pub numbers_know : (numbers : List ℕ) (known : KnownRoots) (s : State) (m i : ℕ) (d t : SlotName) → t.index < 16 → m < s.mutators → KnowsRoots known s → KnowsRoots (record { slots = 0; extra = known.extra; used = known.used; count = known.count }) (numbers_step s m d t i numbers)
-numbers_know [] known s m i d t low less k = forgotten known s k
+pub numbers_know : (numbers : List ℕ) (known : KnownRoots) (s : State) (m i : ℕ) (d t : SlotName) → t.index < 16 → m < s.mutators → KnowsRoots known s → KnowsRoots known (numbers_step s m d t i numbers)
+numbers_know [] known s m i d t low less k = k
 numbers_know (n ∷ rest) known s m i d t low less k =
     let one = mutate s m (ops.Num t n) in
     let two = mutate one.1 m (ops.Put d i t) in
-    numbers_know rest (record { slots = 0; extra = known.extra; used = known.used; count = known.count }) two.1 m (suc i) d t low less (number_knows known s one.1 two.1 m i n d t one.0 two.0 low less refl refl k)
+    numbers_know rest known two.1 m (suc i) d t low less (number_knows known s one.1 two.1 m i n d t one.0 two.0 low less refl refl k)
 
 -- ---- while no collection is open
 

@@ -15,7 +15,7 @@ use Rattle.gc_plan.specs.Staying.{root_written}
 use Rattle.gc_core.specs.Internal.CollectedHeap.{Fits}
 use Rattle.gc_core.specs.Internal.KnownRoots.{KnowsRoots}
 use Rattle.gc_core.specs.declared.known.KnownRoots.{KnownRoots}
-use Rattle.gc_core.proofs.Marks.{WritesBelow, slot_command, stored_command}
+use Rattle.gc_core.proofs.Marks.{WritesBelow, SetsPlain, slot_command, plain_command, stored_command}
 
 pub still_fits : (marked : Bool) (heap new : HeapWords) (o : Option CollectionWords) (m : ℕ) (op : Op) (reply : Reply) → IsHeap heap → ¬ WritesField op → Performs heap m op reply new → Fits marked heap o → Fits marked new o
 still_fits marked heap new None m op reply is none performs fits = still_unlinked marked heap new m op reply performs fits
@@ -49,6 +49,15 @@ fits_after marked known heap new o m op reply is none performs below fits k = (
   still_fits marked heap new o m op reply is none performs fits,
   subst (KnowsRoots (record { slots = 0; extra = known.extra; used = known.used; count = known.count })) (ap (λ (x : Reply × State). x.1) (mutated marked heap new o m op reply is none performs fits))
       (slot_command known (state_of heap (option_map collection_in o)) m op below k),
+)
+
+-- a slot that is set to nil or a number needs no replica, so the marks stay
+pub fits_plain : (marked : Bool) (known : KnownRoots) (heap new : HeapWords) (o : Option CollectionWords) (m : ℕ) (op : Op) (reply : Reply) → IsHeap heap → ¬ WritesField op → Performs heap m op reply new → SetsPlain op → WritesBelow (roots_of heap.mutators) m op → Fits marked heap o
+    → KnowsRoots known (state_of heap (option_map collection_in o)) → Fits marked new o × KnowsRoots known (state_of new (option_map collection_in o))
+fits_plain marked known heap new o m op reply is none performs plain below fits k = (
+  still_fits marked heap new o m op reply is none performs fits,
+  subst (KnowsRoots known) (ap (λ (x : Reply × State). x.1) (mutated marked heap new o m op reply is none performs fits))
+      (plain_command known (state_of heap (option_map collection_in o)) m op plain below k),
 )
 
 -- afterwards the marks are those for an extra root that was written

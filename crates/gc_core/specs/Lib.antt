@@ -7,5 +7,6 @@ pub mod Internal
 pub mod Mixed
 pub mod Performing
 pub mod Readings
+pub mod Referring
 pub mod Replies
 pub mod Writing

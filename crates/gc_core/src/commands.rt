@@ -72,7 +72,6 @@ impl CollectedHeap {
         // Here the prover learns that the heap is sound, and the slot in range.
         let _ = self.heap.space();
         let _ = d.index();
-        self.known.slots = 0;
         self.heap.num(m, d, n)
     }
 
@@ -85,7 +84,6 @@ impl CollectedHeap {
         // Here the prover learns that the heap is sound, and the slot in range.
         let _ = self.heap.space();
         let _ = d.index();
-        self.known.slots = 0;
         self.heap.nil(m, d)
     }
 
@@ -174,12 +172,10 @@ impl CollectedHeap {
         let _ = self.heap.space();
         let _ = t.index();
         let Some(collection) = &mut self.collection else {
-            self.known.slots = 0;
             let _done = self.heap.num(m, t, n);
             return Ok(self.heap.put(m, s, i, t));
         };
         collection.reserve(m)?;
-        self.known.slots = 0;
         let _done = self.heap.num(m, t, n);
         Ok(collection.put(&mut self.heap, m, s, i, t))
     }
@@ -199,12 +195,10 @@ impl CollectedHeap {
         let _ = self.heap.space();
         let _ = t.index();
         let Some(collection) = &mut self.collection else {
-            self.known.slots = 0;
             let _done = self.heap.nil(m, t);
             return Ok(self.heap.put(m, s, i, t));
         };
         collection.reserve(m)?;
-        self.known.slots = 0;
         let _done = self.heap.nil(m, t);
         Ok(collection.put(&mut self.heap, m, s, i, t))
     }

@@ -14,6 +14,7 @@ mod laws;
 mod mixed;
 mod performing;
 mod reading;
+mod referring;
 mod steps;
 mod watching;
 mod writing;

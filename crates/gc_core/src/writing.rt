@@ -50,12 +50,10 @@ impl CollectedHeap {
             return Ok(Reply::NoNumber);
         }
         let Some(collection) = &mut self.collection else {
-            self.known.slots = 0;
             self.heap.fill_numbers(m, s, object, first, t, words);
             return Ok(Reply::Done);
         };
         collection.reserve_more(m, words.len())?;
-        self.known.slots = 0;
         fill_and_log(
             collection,
             &mut self.heap,

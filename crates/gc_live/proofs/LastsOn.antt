@@ -45,6 +45,7 @@ quiet_one s s' m op reply said none = let on = continues_one s s' m op reply sai
   size = on.size;
   collection = on.collection;
   names = λ a n. ⊎_elim (λ l. inl l) (λ new. absurd (let some : 1 ≤ words_taken op = new.0 in omega arith)) (on.names a n);
+  kept = on.kept;
 }
 
 pub lasts_quiet : (s s' : State) (m : ℕ) (op : Op) (reply : Reply) (t : Tables) → mutate s m op ≡ (reply, s') → words_taken op ≡ 0 → IsNeverLost s t → IsNeverLost s' t
@@ -86,7 +87,7 @@ lasts_made s s' t after links old later is more on stays made live k =
     record { found = found; knows = made_known s s' t links later more on seen k.knows after (subst (λ ws. Made ws t after) is (made found)) }
 
 pub new_end : (s s' : State) (op : Op) → Continues s s' (NewName s op) → Continues s s' (NewEnd s)
-new_end s s' op on = record { mutators = on.mutators; size = on.size; collection = on.collection; names = λ a n. ⊎_elim (λ l. inl l) (λ new. inr new.1) (on.names a n) }
+new_end s s' op on = record { mutators = on.mutators; size = on.size; collection = on.collection; names = λ a n. ⊎_elim (λ l. inl l) (λ new. inr new.1) (on.names a n); kept = on.kept }
 
 pub lasts_new : (s s' : State) (m : ℕ) (op : Op) (reply : Reply) (t after : Tables) (raw : Rattle.std.proofs.Common.Bool) (d : SlotName) (kind len : ℕ) (links : ℕ → ℕ) (old : List ℕ) → op ≡ new_op raw d kind len
     → mutate s m op ≡ (reply, s') → IsSpaceGraph s.size s.heap.free s.heap.graph → IsSpaceGraph s'.size s'.heap.free s'.heap.graph → old ≡ heap_words links s'

@@ -10,3 +10,4 @@ pub mod LastsOn
 pub mod LastsNumbers
 pub mod LastsCopies
 pub mod LastsMixed
+pub mod Starts

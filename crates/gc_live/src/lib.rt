@@ -8,6 +8,7 @@ mod flipping;
 mod kept_heap;
 mod live_heap;
 mod reading;
+mod referring;
 mod rooms;
 mod steps;
 mod writing;

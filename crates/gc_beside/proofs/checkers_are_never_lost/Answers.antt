@@ -39,7 +39,7 @@ one_more s s' m (ops.Same x t) reply before said makes = absurd makes
 one_more s s' m (ops.Look x) reply before said makes = absurd makes
 
 new_only : (s s' : State) (op : Op) → Continues s s' (NewName s op) → Continues s s' (λ a. a ≡ heap_end s)
-new_only s s' op on = record { mutators = on.mutators; size = on.size; collection = on.collection; names = λ a n. Rattle.std.proofs.Common.⊎_elim (λ l. Rattle.std.proofs.Common.inl l) (λ l. Rattle.std.proofs.Common.inr l.1) (on.names a n) }
+new_only s s' op on = record { mutators = on.mutators; size = on.size; collection = on.collection; names = λ a n. Rattle.std.proofs.Common.⊎_elim (λ l. Rattle.std.proofs.Common.inl l) (λ l. Rattle.std.proofs.Common.inr l.1) (on.names a n); kept = on.kept }
 
 some_room : (s : State) (t : Tables) → IsSpaceGraph s.size s.heap.free s.heap.graph → s.size ≤ t.room → 1 ≤ t.room
 some_room s t heap room = let less : s.heap.free < s.size = heap.room in omega arith

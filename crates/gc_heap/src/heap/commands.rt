@@ -1,12 +1,14 @@
 //! One call for each mutator command, with that command's contract. `Heap::apply` calls them. None allocates.
 
-ghost use Rattle.std.specs.Prelude.{◌≡◌, ◌≢◌, ◌<◌, ◌+◌};
+ghost use Rattle.std.specs.Prelude.{◌≡◌, ◌≢◌, ◌<◌, ◌+◌, IsTrue};
+ghost use Rattle.gc_graph.specs.Graph.{Ref, set_root};
 ghost use Rattle.gc_graph.specs.Slots.{roots_of, place};
 ghost use Rattle.gc_graph.specs.declared.command.Op.{Op};
+ghost use Rattle.gc_words.specs.Image.{is_start};
 ghost use Rattle.gc_words.specs.Space.{end_of};
 ghost use Rattle.gc_heap.specs.ExtraRoots.{extra_slot};
 ghost use Rattle.gc_heap.specs.Filling.{TakesFields};
-ghost use Rattle.gc_heap.specs.Heap.{IsHeap, extra_roots_in};
+ghost use Rattle.gc_heap.specs.Heap.{IsHeap, graph_in, extra_roots_in};
 ghost use Rattle.gc_heap.specs.Commands.{Performs, Fetches};
 ghost use Rattle.gc_heap.specs.Internal.Taken.{taken_reply, IsTakenWord};
 
@@ -14,7 +16,7 @@ use super::Heap;
 use crate::reading::{fetched, view};
 use crate::taken::{Fetched, Taken};
 use gc_graph::{Number, Reply, Slot, root_count};
-use gc_words::{Value, encode};
+use gc_words::{Addr, OldAddr, Value, encode};
 
 impl Heap {
     /// Makes an object of this kind with `len` fields, all nil, and sets `d` to a reference to it: `Made`, or `Full`.
@@ -112,6 +114,20 @@ impl Heap {
         // Here the prover learns how many roots there are.
         let _ = &self.roots;
         self.set_at(self.extra_place(k), encode(Value::Nil))
+    }
+
+    /// Sets `d` to a reference to the object that starts at `a`. This is no command of a mutator: none of these names an address.
+    pub fn refer(&mut self, m: u8, d: Slot, a: OldAddr)
+        requires mutator { m < self.old.mutators }
+        requires start { IsTrue (is_start self.old.space.words a.0) }
+        ensures space { self.new.space ≡ self.old.space }
+        ensures graph { graph_in self.new ≡ set_root (graph_in self.old) (place d m) (Ref a.0) }
+        ensures mutators { self.new.mutators ≡ self.old.mutators }
+        ensures sound { IsHeap self.new }
+    {
+        // Here the prover learns how many roots there are.
+        let _ = &self.roots;
+        let _done = self.set_at(d.place(m), encode(Value::Ref(Addr(a.0))));
     }
 
     // Returns the place of extra root `k` in the list of roots.

@@ -1,4 +1,4 @@
--- A `Nil` writes one slot and no field, so an open collection stays, and what is known of extra roots is still true.
+-- A `Nil` writes one slot and no field, so an open collection stays, and the slot needs no replica: what is known of all roots is still true.
 use Rattle.std.proofs.Common.{◌≡◌, ◌<◌, sym, subst, arith}
 use Rattle.gc_graph.specs.Slots.{place, roots_of}
 use Rattle.gc_graph.specs.declared.command.Op.TheVariants.{Nil}
@@ -7,13 +7,13 @@ use Rattle.gc_copy.specs.Words.{collection_in, state_of}
 use Rattle.gc_plan.specs.State.{State}
 use Rattle.gc_plan.specs.Steps.{mutate}
 use Rattle.gc_core.proofs.Marks.{one_below, slot_below, with_row}
-use Rattle.gc_core.proofs.OtherCommands.{fits_after, mutated}
+use Rattle.gc_core.proofs.OtherCommands.{fits_plain, mutated}
 use Rattle.gc_core.proofs.collected_heap.CollectedHeap.nil.Goals as goal
 
 pub invariant_of-self : goal.invariant_of-self
 invariant_of-self c = with_row c.self.invariant.2 (
     let less : c.args.m < c.self.inside.heap.mutators = subst (λ (s : State). c.args.m < s.mutators) (sym c.self.view_is) c.requires in
-    fits_after c.self.inside.marked c.self.inside.known c.self.inside.heap c.nil.new.self c.self.inside.collection c.args.m (Nil c.args.d) c.nil.result c.space.ensures.sound (λ none. none) c.nil.ensures.performs (λ q. one_below (place c.args.d c.args.m) q (roots_of c.self.inside.heap.mutators) (slot_below c.args.d c.args.m c.self.inside.heap.mutators (omega (arith, c.index.ensures.value, c.index.ensures.bound)) less)) c.self.invariant.0 c.self.invariant.1
+    fits_plain c.self.inside.marked c.self.inside.known c.self.inside.heap c.nil.new.self c.self.inside.collection c.args.m (Nil c.args.d) c.nil.result c.space.ensures.sound (λ none. none) c.nil.ensures.performs tt (λ q. one_below (place c.args.d c.args.m) q (roots_of c.self.inside.heap.mutators) (slot_below c.args.d c.args.m c.self.inside.heap.mutators (omega (arith, c.index.ensures.value, c.index.ensures.bound)) less)) c.self.invariant.0 c.self.invariant.1
     )
 
 pub returns-clause-step : goal.returns-clause-step

@@ -7,7 +7,6 @@ use Rattle.gc_graph.specs.declared.reply.Reply.TheVariants.{Done}
 use Rattle.gc_core.specs.Writing.{put_numbers_step}
 use Rattle.gc_core.specs.Internal.CollectedHeap.{Fits}
 use Rattle.gc_core.specs.Internal.KnownRoots.{KnowsRoots}
-use Rattle.gc_core.specs.declared.known.KnownRoots.{KnownRoots}
 use Rattle.gc_core.proofs.NewFrom.{opened_at}
 use Rattle.gc_core.proofs.NumbersPut.{numbers_know, idle_written, numbers_done}
 use Rattle.gc_core.proofs.Marks.{with_row}
@@ -19,10 +18,9 @@ invariant_of-self c = with_row c.self.invariant.2 (
     let none : c.self.inside.collection ≡ None = c.in_default-collection.is in
     let less : c.args.m < heap.mutators = subst (λ (s : State). c.args.m < s.mutators) (sym c.self.view_is) c.requires.mutator in
     let all = idle_written c.self.inside.marked c.args.words.now heap c.fill_numbers.new.self c.args.m c.args.first c.args.s c.args.t c.space.ensures.sound (subst (Fits c.self.inside.marked heap) none c.self.invariant.0) c.fill_numbers.ensures.writes in
-    let after : KnownRoots = record { slots = 0; extra = c.self.inside.known.extra; used = c.self.inside.known.used; count = c.self.inside.known.count } in
-    subst (λ o. Fits c.self.inside.marked c.fill_numbers.new.self o × KnowsRoots after (state_of c.fill_numbers.new.self (option_map collection_in o))) (sym none) (
+    subst (λ o. Fits c.self.inside.marked c.fill_numbers.new.self o × KnowsRoots c.self.inside.known (state_of c.fill_numbers.new.self (option_map collection_in o))) (sym none) (
       all.1,
-      subst (KnowsRoots after) all.0 (numbers_know c.args.words.now c.self.inside.known (idle_state heap) c.args.m c.args.first c.args.s c.args.t (omega (arith, c.index.ensures.value, c.index.ensures.bound)) less
+      subst (KnowsRoots c.self.inside.known) all.0 (numbers_know c.args.words.now c.self.inside.known (idle_state heap) c.args.m c.args.first c.args.s c.args.t (omega (arith, c.index.ensures.value, c.index.ensures.bound)) less
           (subst (λ o. KnowsRoots c.self.inside.known (state_of heap (option_map collection_in o))) none c.self.invariant.1)),
     )
     )
@@ -52,9 +50,8 @@ pub invariant_of-self-2 : goal.invariant_of-self-2
 invariant_of-self-2 c = with_row c.self.invariant.2 (
     let heap = c.self.inside.heap in
     let less : c.args.m < heap.mutators = subst (λ (s : State). c.args.m < s.mutators) (sym c.self.view_is) c.requires.mutator in
-    let before = opened_at heap c.self.inside.collection c.in-Some-collection.collection c.reserve_more.new.self (state_of heap (option_map collection_in c.self.inside.collection)) c.in-Some-collection.is c.in_ok-reserve_more.ensures.collection refl in
-    let after : KnownRoots = record { slots = 0; extra = c.self.inside.known.extra; used = c.self.inside.known.used; count = c.self.inside.known.count } in (
+    let before = opened_at heap c.self.inside.collection c.in-Some-collection.collection c.reserve_more.new.self (state_of heap (option_map collection_in c.self.inside.collection)) c.in-Some-collection.is c.in_ok-reserve_more.ensures.collection refl in (
       c.fill_and_log.ensures.belongs,
-      subst (KnowsRoots after) c.fill_and_log.ensures.step (numbers_know c.args.words.now c.self.inside.known (open_state heap c.reserve_more.new.self) c.args.m c.args.first c.args.s c.args.t (omega (arith, c.index.ensures.value, c.index.ensures.bound)) less (subst (KnowsRoots c.self.inside.known) (sym before) c.self.invariant.1)),
+      subst (KnowsRoots c.self.inside.known) c.fill_and_log.ensures.step (numbers_know c.args.words.now c.self.inside.known (open_state heap c.reserve_more.new.self) c.args.m c.args.first c.args.s c.args.t (omega (arith, c.index.ensures.value, c.index.ensures.bound)) less (subst (KnowsRoots c.self.inside.known) (sym before) c.self.invariant.1)),
     )
     )
