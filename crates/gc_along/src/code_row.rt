@@ -172,6 +172,21 @@ impl CodeRow {
         ensures codes { self.new.codes ≡ take (length self.old.codes - places) self.old.codes ++ replicate places 3 }
         ensures room { self.old.room ≤ self.new.room }
     {
+        let from = self.len - places;
+        if places >= 1 && from % PER_WORD + places <= PER_WORD {
+            self.fill_in_word(from, places);
+            return;
+        }
+        self.fill_words(places);
+    }
+
+    // The same, word by word.
+    #[inline(never)]
+    fn fill_words(&mut self, places: usize)
+        requires { places ≤ length self.old.codes }
+        ensures codes { self.new.codes ≡ take (length self.old.codes - places) self.old.codes ++ replicate places 3 }
+        ensures room { self.old.room ≤ self.new.room }
+    {
         let len = self.len;
         let mut from = len - places;
         while from < len {

@@ -394,6 +394,7 @@ impl Standing {
 
     // Whether the words are fields that stand for each other, of objects with this header. The words of raw objects have to be
     // equal, even if they look like a pair's addresses.
+    #[inline(always)]
     fn is_alike(&self, header: Header, old: u64, new: u64) -> bool
         ensures { result ≡ field_words_correspond header (pairs_in self.now.origins) old new }
     {
@@ -404,6 +405,7 @@ impl Standing {
     }
 
     // Whether the words are values that stand for each other.
+    #[inline(always)]
     fn is_correspondence(&self, old: u64, new: u64) -> bool
         ensures { result ≡ words_correspond (pairs_in self.now.origins) old new }
     {
@@ -427,6 +429,7 @@ impl Standing {
     }
 
     // Whether the addresses are a pair.
+    #[inline(always)]
     fn is_partner(&self, old: Addr, new: Addr) -> bool
         requires { 1 ≤ old.0 }
         ensures { result ≡ paired (pairs_in self.now.origins) old.0 new.0 }
@@ -436,6 +439,7 @@ impl Standing {
     }
 
     // The original of the replica that starts here, or 0.
+    #[inline(always)]
     fn origin_at(&self, at: u32) -> u32
         ensures { result ≡ slice_index_or self.now.origins at 0 }
     {

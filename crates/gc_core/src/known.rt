@@ -1,6 +1,6 @@
 //! How far the search for roots whose targets have no replicas has come.
 
-ghost use Rattle.std.specs.Prelude.{◌≡◌, ◌↔◌, ◌<◌, ◌≤◌, ◌+◌, ℕ, IfSome, IsTrue, min, max};
+ghost use Rattle.std.specs.Prelude.{◌≡◌, ◌↔◌, ◌<◌, ◌≤◌, ◌+◌, ℕ, IfSome, IsTrue, None, min, max};
 ghost use Rattle.std.specs.Option.{option_map};
 ghost use Rattle.gc_graph.specs.Graph.{root, Nil};
 ghost use Rattle.gc_graph.specs.Slots.{roots_of};
@@ -117,29 +117,18 @@ pub(crate) struct Searched {
     pub(crate) missing: Option<MissingRoot>,
 }
 
-/// Searches the roots that are not known to have replicas of their targets, up to the first without. Reads no other root.
+/// Returns whether all roots are known: the target of each has a replica. Reads no root.
 #[inline(always)]
-pub(crate) fn search(collection: &Collection, heap: &Heap, known: KnownRoots) -> Searched
+pub(crate) fn all_known(collection: &Collection, heap: &Heap, known: KnownRoots) -> bool
     requires belongs { BelongsTo heap.now collection.now }
     requires knows { KnowsRoots known (open_state heap.now collection.now) }
-    ensures knows { KnowsRoots result.known (open_state heap.now collection.now) }
-    ensures count { result.known.count ≡ known.count }
-    ensures first { option_map (λ r. r.target.0) result.missing ≡ root_target (collection_in collection.now) (graph_in heap.now) }
-    ensures next { IfSome result.missing (FindsFirst result.known (open_state heap.now collection.now)) }
-    ensures start { IfSome result.missing (λ r. IsTrue (is_start heap.now.space.words r.target.0)) }
+    ensures { IsTrue result → root_target (collection_in collection.now) (graph_in heap.now) ≡ None }
 {
-    if known.tell_all(root_count(heap.mutators())) {
-        return Searched {
-            known,
-            missing: None,
-        };
-    }
-    search_others(collection, heap, known)
+    known.tell_all(root_count(heap.mutators()))
 }
 
-// The same where some roots are not known to have replicas of their targets. Reads each of them once, up to the first without.
-#[inline(never)]
-fn search_others(collection: &Collection, heap: &Heap, known: KnownRoots) -> Searched
+/// Searches the roots that are not known to have replicas of their targets. Reads each of them once, up to the first without.
+pub(crate) fn search(collection: &Collection, heap: &Heap, known: KnownRoots) -> Searched
     requires belongs { BelongsTo heap.now collection.now }
     requires knows { KnowsRoots known (open_state heap.now collection.now) }
     ensures knows { KnowsRoots result.known (open_state heap.now collection.now) }

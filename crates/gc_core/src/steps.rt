@@ -5,7 +5,7 @@ ghost use Rattle.gc_plan.specs.declared.step.Step.{Step};
 
 use crate::collected_heap::CollectedHeap;
 use crate::flip::Keep;
-use crate::known::{Searched, search};
+use crate::known::{Searched, all_known, search};
 use gc_check::Checks;
 use gc_copy::{Collection, Room, Step, StepReply};
 use gc_graph::{NoMemory, root_count};
@@ -187,6 +187,9 @@ impl CollectedHeap {
         let Some(collection) = &self.collection else {
             return Step::Begin;
         };
+        if all_known(collection, &self.heap, self.known) {
+            return step_after_roots(collection);
+        }
         let Searched { known, missing } = search(collection, &self.heap, self.known);
         self.known = known;
         if missing.is_some() {

@@ -1,23 +1,51 @@
--- Where the marks tell of all roots, each has a replica of its target.
-use Rattle.std.proofs.Common.{◌≡◌, ℕ, ◌+◌, ◌<◌, refl, sym, ◌∙◌, ap, arith}
+-- The known roots need no search, and a root beyond the used ones is nil, so the root that is found is the first missing one of all.
+use Rattle.std.proofs.Common.{◌≡◌, ℕ, ◌+◌, ◌<◌, suc, refl, sym, ◌∙◌, ap, arith}
 use Rattle.gc_graph.specs.Slots.{roots_of}
 use Rattle.gc_graph.specs.Graph.{root}
 use Rattle.gc_heap.specs.Heap.{graph_in}
 use Rattle.gc_plan.specs.Staying.{HasReplicaOf}
 use Rattle.gc_copy.specs.Words.{collection_in, open_state}
-use Rattle.gc_plan.proofs.Public.{all_replicated}
+use Rattle.gc_plan.proofs.Public.{first_missing, all_replicated}
 use Rattle.gc_core.proofs.Marks.{slots_have, extra_have, all_have}
 use Rattle.gc_core.proofs.known.search.Goals as goal
 
-pub returns-then-tell_all-clause-first : goal.returns-then-tell_all-clause-first
-returns-then-tell_all-clause-first c =
+pub returns-in-Some-clause-first : goal.returns-in-Some-clause-first
+returns-in-Some-clause-first c =
+    let collection = collection_in c.args.collection.now in
+    let found = c.in-Some.ensures.first in
+    sym (first_missing collection (graph_in c.args.heap.now) (suc c.in-Some.missing.place) c.in-Some.missing.place c.in-Some.missing.target.0 (record {
+      low = omega arith;
+      high = omega arith;
+      before = λ p low less. slots_have c.args.known (open_state c.args.heap.now c.args.collection.now) collection refl c.requires.knows c.in-Some.missing.place found.before p less;
+      target = found.target;
+      missing = found.missing;
+    }))
+
+pub returns-in-Some-missing_root-clause-first : goal.returns-in-Some-missing_root-clause-first
+returns-in-Some-missing_root-clause-first c =
     let collection = collection_in c.args.collection.now in
     let state = open_state c.args.heap.now c.args.collection.now in
-    let count : c.root_count.result ≡ roots_of c.args.heap.now.mutators = c.root_count.ensures ∙ ap roots_of c.mutators.ensures.value in
-    let marks = c.tell_all.ensures.0 c.if-tell_all.true in
+    let count : c.root_count-slots.result ≡ roots_of c.args.heap.now.mutators = c.root_count-slots.ensures ∙ ap roots_of c.mutators.ensures.value in
+    let missing = c.in-Some-missing_root.missing in
+    let found = c.in-Some-missing_root.ensures.first in
     let slots : (p : ℕ) → p < roots_of c.args.heap.now.mutators → HasReplicaOf collection (root (graph_in c.args.heap.now) p) =
-    slots_have c.args.known state collection refl c.requires.knows (roots_of c.args.heap.now.mutators) (λ p low less. absurd (omega (arith, low, less, marks.0, count))) in
+    slots_have c.args.known state collection refl c.requires.knows (roots_of c.args.heap.now.mutators) (λ p low less. c.missing_root.ensures.none c.in_default.is p low (omega (arith, less, count))) in
+    sym (first_missing collection (graph_in c.args.heap.now) (suc missing.place) missing.place missing.target.0 (record {
+      low = omega arith;
+      high = omega arith;
+      before = λ p low less. extra_have c.args.known state collection refl c.requires.knows missing.place slots (λ q from below. found.before q (omega (arith, from, count)) below) p less;
+      target = found.target;
+      missing = found.missing;
+    }))
+
+pub returns-clause-first : goal.returns-clause-first
+returns-clause-first c =
+    let collection = collection_in c.args.collection.now in
+    let state = open_state c.args.heap.now c.args.collection.now in
+    let count : c.root_count-slots.result ≡ roots_of c.args.heap.now.mutators = c.root_count-slots.ensures ∙ ap roots_of c.mutators.ensures.value in
+    let slots : (p : ℕ) → p < roots_of c.args.heap.now.mutators → HasReplicaOf collection (root (graph_in c.args.heap.now) p) =
+    slots_have c.args.known state collection refl c.requires.knows (roots_of c.args.heap.now.mutators) (λ p low less. c.missing_root.ensures.none c.in_default.is p low (omega (arith, less, count))) in
     let extra : (p : ℕ) → p < roots_of c.args.heap.now.mutators + c.args.known.used → HasReplicaOf collection (root (graph_in c.args.heap.now) p) =
     extra_have c.args.known state collection refl c.requires.knows (roots_of c.args.heap.now.mutators + c.args.known.used) slots
-    (λ q from below. absurd (omega (arith, from, below, marks.1))) in
+    (λ q from below. c.missing_root-2.ensures.none c.in_default-missing_root.is q (omega (arith, from, count)) (omega (arith, below, count))) in
     sym (all_replicated collection (graph_in c.args.heap.now) (λ p less. all_have c.args.known state collection refl c.requires.knows extra p))

@@ -1,6 +1,6 @@
 -- From the first of the last places on, the places before this one have code 3, and all others what they had.
 use Rattle.std.proofs.Common.{◌≡◌, ℕ, ◌-◌, ◌<◌, ◌≤◌, length, get_or}
-use Rattle.gc_along.proofs.code_row.CodeRow.fill.Given as goal
+use Rattle.gc_along.proofs.code_row.CodeRow.fill_words.Given as goal
 
 abbrev pub invariant-loop-from : goal.invariant-loop-from
 invariant-loop-from l = record {
