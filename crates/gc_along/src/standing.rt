@@ -208,10 +208,22 @@ impl Standing {
         if self.lost {
             return;
         }
-        let at = self.news.len();
-        if at >= new.len() {
+        if self.news.len() >= new.len() {
             return;
         }
+        self.place_next(old, new);
+    }
+
+    // The walk over the new space goes on by the next object.
+    #[inline(never)]
+    fn place_next(&mut self, old: &[u64], new: &[u64])
+        requires found { IsFalse self.old.lost }
+        requires more { length self.old.news < length new.now }
+        ensures placed { IsFalse self.new.lost → Placed old.now new.now self.old self.new }
+        ensures copied { IsFalse self.new.lost → OwesNone old.now new.now self.old self.new }
+        ensures stays { CanPlace old.now new.now self.old → IsFalse self.new.lost }
+    {
+        let at = self.news.len();
         let Some(header) = next_header(new, at, self.room) else {
             self.lost = true;
             return;
@@ -404,9 +416,23 @@ impl Standing {
         self.is_correspondence(old, new)
     }
 
-    // Whether the words are values that stand for each other.
+    // Whether the words are values that stand for each other. Equal numbers and nils, and two references, need not be decoded.
     #[inline(always)]
     fn is_correspondence(&self, old: u64, new: u64) -> bool
+        ensures { result ≡ words_correspond (pairs_in self.now.origins) old new }
+    {
+        if old == new && is_plain(old) {
+            return true;
+        }
+        if let (Some(address), Some(other)) = (reference_in(old), reference_in(new)) {
+            return self.is_partner(address, other);
+        }
+        self.is_other_correspondence(old, new)
+    }
+
+    // The same of any words.
+    #[inline(never)]
+    fn is_other_correspondence(&self, old: u64, new: u64) -> bool
         ensures { result ≡ words_correspond (pairs_in self.now.origins) old new }
     {
         let Some(old) = decode_wide(old) else {
@@ -532,7 +558,9 @@ impl Watcher for Standing {
     }
 }
 
-ghost use Rattle.std.specs.Prelude.{◌≡◌, ◌⊎◌, ◌↔◌, ◌≤◌, ◌+◌, ℕ, IsTrue, if◌then◌else◌, length, slice_index_or};
+ghost use Rattle.std.specs.Prelude.{◌≡◌, ◌⊎◌, ◌↔◌, ◌≤◌, ◌+◌, ℕ, List, true, IsTrue, IfSome, Some, if◌then◌else◌, length, slice_index_or};
+ghost use Rattle.gc_graph.specs.Graph.{Ref};
+ghost use Rattle.gc_words.specs.Word.{read_value, words_correspond};
 ghost use Rattle.gc_along.specs.Outline.{outline_in};
 ghost use Rattle.gc_along.specs.Watch.{IsSized, bit};
 
@@ -551,6 +579,25 @@ fn free_originals(olds: &mut CodeRow, origins: &OriginRow)
             let _ = olds.replace(from, START);
         }
     }
+}
+
+// Whether the word is nil or a number.
+#[inline(always)]
+fn is_plain(word: u64) -> bool
+    ensures { IsTrue result → (pairs : List (ℕ × ℕ)) → words_correspond pairs word word ≡ true }
+{
+    word == 0 || word % 2 == 1
+}
+
+// The address that the word refers to, if it is a reference.
+#[inline(always)]
+fn reference_in(word: u64) -> Option<Addr>
+    ensures { IfSome result (λ a. (read_value word ≡ Some (Ref a.0)) × (1 ≤ a.0)) }
+{
+    if word == 0 || word % 2 == 1 || word >= 2 * u64::from(u32::MAX) {
+        return None;
+    }
+    Some(Addr((word / 2) as u32))
 }
 
 // Whether the numbers of an image fit the number of its words.

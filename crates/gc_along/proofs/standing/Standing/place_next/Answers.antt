@@ -6,11 +6,11 @@ use Rattle.gc_along.specs.Watch.{IsNext}
 use Rattle.gc_along.specs.Tables.{Tables, IsKept}
 use Rattle.gc_along.specs.Events.{code_of, object_codes, IsClaim, IsCopy}
 use Rattle.gc_along.proofs.Kept.{kept_of, few_missing, kept_replica, replica_written, placed_at, owes_none}
-use Rattle.gc_along.proofs.standing.Standing.placed.Goals as goal
+use Rattle.gc_along.proofs.standing.Standing.place_next.Goals as goal
 
 pub overflow_add-self : goal.overflow_add-self
 overflow_add-self c =
-    let few : c.self.inside.missing ≤ 4294967295 = few_missing _ (kept_of _ c.self.invariant.5 c.if-self.false) in
+    let few : c.self.inside.missing ≤ 4294967295 = few_missing _ (kept_of _ c.self.invariant.5 (ap (λ (t : Tables). t.lost) c.self.view_is ∙ c.requires.found)) in
     let len : c.due_words.result ≤ c.len-3.result = at_most (not c.is_copy-due.result) c.len-3.result c.due_words.result c.due_words.ensures in
     let l : c.len-3.result < 65536 = c.len-3.type_inv in
     omega arith
@@ -21,7 +21,7 @@ overflow_add-self c =
 
 pub invariant_of-self-2 : goal.invariant_of-self-2
 invariant_of-self-2 c =
-    let kept = kept_of _ c.self.invariant.5 c.if-self.false in
+    let kept = kept_of _ c.self.invariant.5 (ap (λ (t : Tables). t.lost) c.self.view_is ∙ c.requires.found) in
     let h = c.in-Some.header in
     let next : IsNext c.len-at.result c.args.new.now h = c.in-Some.ensures.0 in
     let bound : length c.self.inside.news.codes + (h.len + 2) ≤ 4294967295 = omega (arith, next.bound, c.len-at.ensures) in
@@ -41,7 +41,7 @@ invariant_of-self-2 c =
 
 pub returns : goal.returns
 returns c =
-    let kept = kept_of _ c.self.invariant.5 c.if-self.false in
+    let kept = kept_of _ c.self.invariant.5 (ap (λ (t : Tables). t.lost) c.self.view_is ∙ c.requires.found) in
     let h = c.in-Some.header in
     let at : c.len-at.result ≡ length c.self.inside.news.codes = c.len-at.ensures in
     let next : IsNext c.len-at.result c.args.new.now h = c.in-Some.ensures.0 in
@@ -61,15 +61,14 @@ returns c =
     (c.add.ensures.origins ∙ ap (λ n. c.self.inside.origins.origins ++ a ∷ 0 ∷ replicate n 0) c.len.ensures)
     refl (c.due_words.ensures ∙ ap (λ n. if due then n else 0) c.len-3.ensures) in
     record {
-      lost = λ t. ap (λ (t : Tables). t.lost) c.self.view_is ∙ t;
       placed = λ found.
           placed_at c.args.old.now c.args.new.now _ _ _ h a c.is_copy-due.result c.self.view_is
-          (let l : c.len-at.result < length c.args.new.now = c.if-at-new.false in omega arith)
+          (let l : length c.self.inside.news.codes < length c.args.new.now = subst (λ n. n < length c.args.new.now) (sym (ap (λ (t : Tables). length t.news) c.self.view_is)) c.requires.more in l)
           claim
           (λ t. subst (λ n. IsCopy c.args.old.now c.args.new.now h a n) at (c.is_copy-due.ensures.copy t))
           is;
       copied = λ found. owes_none c.args.old.now c.args.new.now _ _ _ h a c.is_copy-due.result c.self.view_is claim
           (λ copy fits. c.is_copy-due.ensures.whole (subst (λ n. IsCopy c.args.old.now c.args.new.now h a n) (sym at) copy) fits)
           is;
-      stays = λ found can. ap (λ (t : Tables). t.lost) c.self.view_is ∙ found;
+      stays = λ can. ap (λ (t : Tables). t.lost) c.self.view_is ∙ c.requires.found;
     }
