@@ -424,6 +424,14 @@ uint32_t gcflip_heap_address(const gcflip_heap *heap, uint8_t m, uint8_t s, uint
  * collection begins, and its links tell where the objects are. */
 uint32_t gcflip_heap_moved(const gcflip_heap *heap, uint32_t old, uint32_t *address);
 
+/* Puts a reference to the object that starts at `address` into slot d: GCFLIP_DONE, or GCFLIP_NO_OBJECT if no object starts there, and the
+ * slot keeps what it holds. Any number may be given. This is what weak references need: a program keeps an address, follows it by
+ * gcflip_heap_moved after each flip, and makes a reference of it again. An object to which nothing refers any more can be found in this way until a
+ * flip, and stays if the reference is there when its collection ends. The call takes constant time with GCFLIP_ALONG. With GCFLIP_AT_FLIP it
+ * walks over all objects before the address, so its time grows with the heap. No mutator's command names an address: a recording ends at a
+ * call that makes a reference. */
+uint32_t gcflip_heap_refer(gcflip_heap *heap, uint8_t m, uint8_t d, uint32_t address);
+
 /* Copies the words of the open collection's new space. The count must be exactly `new_end` of gcflip_counts. A
  * replica's link is its original's address. If no collection is open, no count is right: GCFLIP_OUT_OF_RANGE. */
 uint32_t gcflip_heap_new_words(const gcflip_heap *heap, uint64_t *words, size_t word_count);

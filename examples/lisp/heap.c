@@ -9,7 +9,7 @@
 /* The recorder performs `work` by single steps. If nothing is recorded, one call does it. */
 #undef gcflip_heap_work
 
-enum { MUTATOR = 0, STEPS_PER_WORD = 5, WORDS_PER_ROOT = 2, MOST_ROOTS = 1048576 };
+enum { MUTATOR = 0, STEPS_PER_WORD = 5, WORDS_PER_ROOT = 2, MOST_ROOTS = 1048576, MOST_AFTER_FLIP = 2 };
 
 _Static_assert(WORD < SYMBOLS && SLOTS <= 32, "a mutator has 16 slots of its own and 16 shared ones");
 
@@ -24,7 +24,8 @@ static uint32_t writes; /* writes since the last payment */
 static bool was_full;   /* an allocation ended in an error */
 
 static gcflip_frame stack; /* all extra roots */
-static void (*after_flip)(void);
+static void (*after_flip[MOST_AFTER_FLIP])(void);
+static int after_flips; /* how many of these functions there are */
 
 /* Ends the program after a call that the Lisp must not make. */
 static void stop(const char *call)
@@ -268,9 +269,15 @@ bool follow(uint32_t *address)
     return answer == GCFLIP_DONE;
 }
 
+void refer(enum slot to, uint32_t address)
+{
+    EXPECT_REPLY(GCFLIP_DONE, refer, MUTATOR, (uint8_t)to, address);
+}
+
 void after_each_flip(void (*function)(void))
 {
-    after_flip = function;
+    check_reply(after_flips < MOST_AFTER_FLIP, "after_each_flip");
+    after_flip[after_flips++] = function;
 }
 
 /* ---- Collecting */
@@ -299,8 +306,8 @@ static enum progress work(uint32_t most)
     check_reply(made.last != GCFLIP_NO_ROOM && made.last != GCFLIP_FLIP_REFUSED, "work");
     totals.collections += flipped;
     totals.pairs += flipped ? made.pairs : 0;
-    if (flipped && after_flip != NULL)
-        after_flip();
+    for (int i = 0; flipped && i < after_flips; i++)
+        after_flip[i]();
     return flipped ? FLIPPED : GOES_ON;
 }
 

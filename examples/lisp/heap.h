@@ -87,7 +87,11 @@ uint32_t address_of(enum slot object);
  * `after_each_flip`. */
 bool follow(uint32_t *address);
 
-/* Sets the function that is called after each flip. It may change no slot, and make no object. */
+/* Puts a reference to the object at this address into the slot. Since the last flip, the address has been told or followed. The object may be one that
+ * nothing else refers to: it stays if the slot, or an object that can be reached, refers to it at the next flip. */
+void refer(enum slot to, uint32_t address);
+
+/* Adds a function that is called after each flip. It may change no slot, and make no object. */
 void after_each_flip(void (*function)(void));
 
 /* ---- Room */

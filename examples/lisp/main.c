@@ -14,6 +14,7 @@
 #include "print.h"
 #include "read.h"
 #include "syntax.h"
+#include "weak_pairs.h"
 #include <errno.h>
 #include <inttypes.h>
 #include <signal.h>
@@ -152,6 +153,7 @@ static bool make_lisp(void)
     make_keywords();
     make_primitives();
     make_finalizers();
+    follow_weak_pairs();
     struct source source = source_of_string(prelude, "prelude");
     return run(&source) == ENDED && reserve_room();
 }

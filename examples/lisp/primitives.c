@@ -4,7 +4,7 @@
 #include "heap.h"
 #include "objects.h"
 
-static const struct primitive *const families[] = {list_primitives, integer_primitives, text_primitives, hashtable_primitives, other_primitives};
+static const struct primitive *const families[] = {list_primitives, integer_primitives, text_primitives, hashtable_primitives, weak_pair_primitives, other_primitives};
 
 enum { FAMILIES = sizeof families / sizeof families[0], MOST_OF_A_FAMILY = 64 };
 

@@ -20,7 +20,7 @@ struct primitive {
 enum { ANY_NUMBER = 65535 - FIRST_VALUE };
 
 /* The functions, each list with an empty one at its end. */
-extern const struct primitive list_primitives[], integer_primitives[], text_primitives[], hashtable_primitives[], other_primitives[];
+extern const struct primitive list_primitives[], integer_primitives[], text_primitives[], hashtable_primitives[], weak_pair_primitives[], other_primitives[];
 
 /* Makes the functions, and sets the variables of their names. */
 void make_primitives(void);

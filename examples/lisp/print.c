@@ -76,6 +76,8 @@ static void print_atom(FILE *file, enum slot value, bool quoted, size_t most)
         fprintf(file, "#<function %s>", name_of_primitive(value));
     else if (type == HASHTABLE)
         fputs("#<hashtable>", file);
+    else if (type == WEAK_PAIR)
+        fputs("#<weak pair>", file);
     else
         fputs(type == EMPTY ? "()" : type == TRUE ? "#t" : type == FALSE ? "#f" : "#<no value>", file);
 }

@@ -65,6 +65,7 @@ enum type {
     TABLE,   /* of symbols */
     HASHTABLE,
     CELLS,   /* of a hashtable: its keys and values */
+    WEAK_PAIR,
     OPEN,    /* a list that is being read */
     LOCAL,   /* a variable in a program: the value of a scope */
     GLOBAL,  /* the same: the value of a symbol */

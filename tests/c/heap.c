@@ -219,6 +219,73 @@ static void moves(void)
     }
 }
 
+/* Tests references by address in mutator 0's slot 2. Objects start only at `first` and `second`, and only the latter is raw. */
+static void refer_everywhere(uint32_t first, uint32_t second)
+{
+    for (uint32_t at = 0; at < 70; at++) {
+        bool starts = at == first || at == second;
+        REPLIES(gcflip_heap_set_number(&heap, 0, 2, 5), GCFLIP_DONE);
+        REPLIES(gcflip_heap_refer(&heap, 0, 2, at), starts ? GCFLIP_DONE : GCFLIP_NO_OBJECT);
+        if (starts)
+            LOOKS(gcflip_heap_look(&heap, 0, 2, &view), at == second ? GCFLIP_RAW_OBJECT : GCFLIP_OBJECT, KIND, at == second ? 3u : 2u, 0);
+        else
+            LOOKS(gcflip_heap_look(&heap, 0, 2, &view), GCFLIP_NUMBER, 0, 0, 5);
+    }
+    REPLIES(gcflip_heap_refer(&heap, 0, 2, 4294967295u), GCFLIP_NO_OBJECT);
+    REPLIES(gcflip_heap_refer(&heap, 0, 2, 2147483648u + first), GCFLIP_NO_OBJECT);
+    REPLIES(gcflip_heap_refer(&heap, 2, 2, first), GCFLIP_OUT_OF_RANGE);
+    REPLIES(gcflip_heap_refer(&heap, 0, 32, first), GCFLIP_OUT_OF_RANGE);
+    LOOKS(gcflip_heap_look(&heap, 0, 2, &view), GCFLIP_NUMBER, 0, 0, 5);
+}
+
+/* Tests weak references: with a standing checker, whose marks tell where objects start, and with a walk. */
+static void references(void)
+{
+    for (uint8_t checking = 0; checking < 2; checking++) {
+        gcflip_options options = gcflip_options_default(64, 2);
+        uint32_t address = 77;
+        options.checking = checking;
+        EXPECT(gcflip_heap_refer(&heap, 0, 0, 1) == GCFLIP_CLOSED);
+        EXPECT(gcflip_heap_open(&heap, &options) == GCFLIP_DONE);
+        refer_everywhere(UINT32_MAX, UINT32_MAX); /* without an object */
+        REPLIES(gcflip_heap_new_object(&heap, 1, 3, KIND, 2), GCFLIP_MADE); /* at 1 */
+        REPLIES(gcflip_heap_new_raw(&heap, 1, G0, KIND, 3), GCFLIP_MADE);   /* at 5 */
+        refer_everywhere(1, 5);
+        /* an object that nothing refers to is found until the flip at which it dies; the raw one moves to its place */
+        REPLIES(gcflip_heap_set_nil(&heap, 1, 3), GCFLIP_DONE);
+        refer_everywhere(1, 5);
+        while (gcflip_heap_work(&heap, 1, &work) == GCFLIP_DONE && work.last != GCFLIP_FLIPPED)
+            ;
+        EXPECT(work.last == GCFLIP_FLIPPED && work.pairs == 1);
+        REPLIES(gcflip_heap_moved(&heap, 1, &address), GCFLIP_NO_OBJECT);
+        refer_everywhere(UINT32_MAX, 1);
+        /* one that is fetched after all roots have replicas survives */
+        REPLIES(gcflip_heap_new_object(&heap, 1, 3, KIND, 2), GCFLIP_MADE); /* at 6 */
+        REPLIES(gcflip_heap_put_number(&heap, 1, 3, 1, 0, 9), GCFLIP_DONE);
+        REPLIES(gcflip_heap_set_nil(&heap, 1, 3), GCFLIP_DONE);
+        REPLIES(gcflip_heap_step_begin(&heap), GCFLIP_BEGUN);
+        refer_everywhere(6, 1);
+        EXPECT(gcflip_heap_work(&heap, 1, &work) == GCFLIP_DONE && work.last == GCFLIP_COPIED);
+        REPLIES(gcflip_heap_step_roots(&heap), GCFLIP_CLEAN);
+        EXPECT(gcflip_heap_work(&heap, 1, &work) == GCFLIP_DONE && work.last == GCFLIP_PASSED); /* a raw replica is copied whole */
+        REPLIES(gcflip_heap_refer(&heap, 1, 4, 6), GCFLIP_DONE);
+        while (gcflip_heap_work(&heap, 1, &work) == GCFLIP_DONE && work.last != GCFLIP_FLIPPED)
+            ;
+        EXPECT(work.last == GCFLIP_FLIPPED && work.pairs == 2);
+        REPLIES(gcflip_heap_moved(&heap, 6, &address), GCFLIP_DONE);
+        EXPECT(address == 6);
+        GETS(gcflip_heap_get(&heap, 1, 5, 4, 1, &number), GCFLIP_NUMBER, 9);
+        refer_everywhere(6, 1);
+        /* a collection that is given up leaves all objects where they are */
+        REPLIES(gcflip_heap_step_begin_sized(&heap, 16), GCFLIP_BEGUN);
+        REPLIES(gcflip_heap_step_roots(&heap), GCFLIP_COPIED);
+        refer_everywhere(6, 1);
+        REPLIES(gcflip_heap_step_give_up(&heap), GCFLIP_DROPPED);
+        refer_everywhere(6, 1);
+        close_heap();
+    }
+}
+
 /* Tests copies of several fields at once: between objects with references and raw ones, within one object, and each refusal. */
 static void copies(void)
 {
@@ -824,6 +891,7 @@ int main(void)
     commands();
     raws();
     moves();
+    references();
     copies();
     mixed();
     steps();

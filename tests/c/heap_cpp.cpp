@@ -92,6 +92,24 @@ void single_roots()
     EXPECT(gcflip_heap_look(&heap.handle, 0, 1, &view) == GCFLIP_NIL);
 }
 
+// Keeps addresses across a flip, and makes references of them.
+void weak_references()
+{
+    Heap heap(32, 1);
+    gcflip_work work = {};
+    uint32_t kept = 0, lost = 0;
+    EXPECT(gcflip_heap_new_object(&heap.handle, 0, 1, 1, 1) == GCFLIP_MADE && gcflip_heap_address(&heap.handle, 0, 1, &lost) == GCFLIP_DONE);
+    EXPECT(gcflip_heap_new_object(&heap.handle, 0, 0, 1, 0) == GCFLIP_MADE && gcflip_heap_address(&heap.handle, 0, 0, &kept) == GCFLIP_DONE);
+    EXPECT(gcflip_heap_move(&heap.handle, 0, 1, 0) == GCFLIP_DONE);
+    EXPECT(gcflip_heap_refer(&heap.handle, 0, 2, lost) == GCFLIP_DONE && gcflip_heap_same(&heap.handle, 0, 0, 2) == GCFLIP_NOT_SAME);
+    EXPECT(gcflip_heap_refer(&heap.handle, 0, 2, kept) == GCFLIP_DONE && gcflip_heap_same(&heap.handle, 0, 0, 2) == GCFLIP_SAME);
+    EXPECT(gcflip_heap_refer(&heap.handle, 0, 1, lost + 1) == GCFLIP_NO_OBJECT && gcflip_heap_same(&heap.handle, 0, 0, 1) == GCFLIP_SAME);
+    EXPECT(gcflip_heap_refer(&heap.handle, 1, 1, lost) == GCFLIP_OUT_OF_RANGE && gcflip_heap_refer(&heap.handle, 0, 32, lost) == GCFLIP_OUT_OF_RANGE);
+    EXPECT(gcflip_heap_work(&heap.handle, 100, &work) == GCFLIP_DONE && work.last == GCFLIP_FLIPPED && work.pairs == 1);
+    EXPECT(gcflip_heap_moved(&heap.handle, lost, &lost) == GCFLIP_NO_OBJECT && gcflip_heap_moved(&heap.handle, kept, &kept) == GCFLIP_DONE);
+    EXPECT(gcflip_heap_refer(&heap.handle, 0, 3, kept) == GCFLIP_DONE && gcflip_heap_same(&heap.handle, 0, 0, 3) == GCFLIP_SAME);
+}
+
 } // namespace
 
 int main()
@@ -123,6 +141,7 @@ int main()
     EXPECT(gcflip_heap_work(&large.handle, UINT32_MAX, &work) == GCFLIP_DONE && work.last == GCFLIP_FLIPPED && work.pairs == 2);
     EXPECT(gcflip_heap_counts(&large.handle, &counts) == GCFLIP_DONE && counts.end == 1 + 65537 + 3);
     single_roots();
+    weak_references();
     stack_of_many();
     return 0;
 }

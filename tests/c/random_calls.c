@@ -1,6 +1,6 @@
 /* Performs the calls on standard input, a line each, and prints a line for each: random_calls [RECORD].
-   Compiled with -DRECORD, it records the run into RECORD. Compiled with -DBASIC, it has no paced work, no extra roots and no moved addresses,
-   which the heap in plain C lacks. tests/program/random_calls.py makes the calls and knows the lines.
+   Compiled with -DRECORD, it records the run into RECORD. Compiled with -DBASIC, it has no paced work, no extra roots, no moved addresses and
+   no references by address, which the heap in plain C lacks. tests/program/random_calls.py makes the calls and knows the lines.
 
    Outputs that a call must leave alone are compared with what they held before. */
 #ifdef RECORD
@@ -341,6 +341,7 @@ static uint32_t plain(const char *name)
     if (IS("root_load")) return gcflip_heap_root_load(&heap, m, d, (uint32_t)a[2]);
     if (IS("root_store")) return gcflip_heap_root_store(&heap, m, (uint32_t)a[1], (uint8_t)a[2]);
     if (IS("root_clear")) return gcflip_heap_root_clear(&heap, (uint32_t)a[0], (uint32_t)a[1]);
+    if (IS("refer")) return gcflip_heap_refer(&heap, m, d, (uint32_t)a[2]);
 #endif
     EXPECT(IS("drop"));
     return gcflip_heap_step_give_up(&heap);

@@ -1,5 +1,5 @@
 /* Records a run until a size that no trace has: record_ends RECORD. The heap goes on without its trace. Then records heaps with extra
- * roots: a recording ends at the first call that names one. Where nothing is recorded, because a recording has ended or because there is no
+ * roots: a recording ends at the first call that names one, or that makes a reference of an address. Where nothing is recorded, because a recording has ended or because there is no
  * stream, each call replies as ever and writes nothing. */
 #include "expect.h"
 #include "gcflip_record.h"
@@ -44,10 +44,10 @@ static void open_heaps(void)
     gcflip_trace = NULL;
 }
 
-/* Opens a heap with extra roots, and names one by each call in turn. */
+/* Opens a heap with extra roots, and names one by each call in turn. Last, it makes a reference of an address. */
 static void name_roots(void)
 {
-    for (int call = 0; call < 5; call++) {
+    for (int call = 0; call < 6; call++) {
         gcflip_options options = gcflip_options_default(64, 1);
         gcflip_frame frame = {0, 4, 0};
         long lines;
@@ -55,7 +55,9 @@ static void name_roots(void)
         gcflip_trace = tmpfile();
         EXPECT(gcflip_trace != NULL);
         EXPECT(gcflip_heap_open(&heap, &options) == GCFLIP_DONE && gcflip_trace_ended == 0);
+        EXPECT(gcflip_heap_new_object(&heap, 0, 2, 1, 0) == GCFLIP_MADE);
         EXPECT(gcflip_heap_set_number(&heap, 0, 0, 7) == GCFLIP_DONE);
+        EXPECT(gcflip_heap_refer(&heap, 0, 2, 2) == GCFLIP_NO_OBJECT);
         EXPECT(gcflip_heap_root_store(&heap, 0, 4, 0) == GCFLIP_OUT_OF_RANGE);
         EXPECT(gcflip_heap_frame_pop(&heap, 0, 0, &frame) == GCFLIP_FRAME_EMPTY && gcflip_trace_ended == 0);
         lines = ftell(gcflip_trace);
@@ -72,6 +74,8 @@ static void name_roots(void)
             frame.top = 2;
             EXPECT(gcflip_heap_frame_pop(&heap, 0, 1, &frame) == GCFLIP_DONE && frame.top == 1);
         }
+        if (call == 5)
+            EXPECT(gcflip_heap_refer(&heap, 0, 3, 1) == GCFLIP_DONE);
         EXPECT(gcflip_trace_ended == 1);
         EXPECT(gcflip_heap_set_number(&heap, 0, 0, 8) == GCFLIP_DONE && ftell(gcflip_trace) == lines);
         EXPECT(gcflip_heap_close(&heap) == GCFLIP_DONE);
@@ -146,7 +150,7 @@ static void make_steps(bool is_recorded)
     EXPECT(work.last == GCFLIP_FLIPPED && work.pairs == 4);
 }
 
-/* Makes the calls that name an extra root. None of them has a line. */
+/* Makes the calls that name an extra root, and a reference by address. None of them has a line. */
 static void make_moves_of_roots(void)
 {
     gcflip_frame frame = {0, 4, 0};
@@ -155,6 +159,7 @@ static void make_moves_of_roots(void)
     REPLIES(gcflip_heap_root_clear(&heap, 0, 4), GCFLIP_DONE, false);
     REPLIES(gcflip_heap_frame_push(&heap, 0, 0, &frame), GCFLIP_DONE, false);
     REPLIES(gcflip_heap_frame_pop(&heap, 0, 0, &frame), GCFLIP_DONE, false);
+    REPLIES(gcflip_heap_refer(&heap, 0, 1, 1), GCFLIP_DONE, false);
 }
 
 /* Makes each call that a recording knows: while it records, after it has ended, and without a stream. */

@@ -264,6 +264,9 @@ static void calls_that_do_not_allocate(void)
     EXPECT(gcflip_heap_set_nil(&heap, 0, 4) == GCFLIP_DONE);
     EXPECT(gcflip_heap_same(&heap, 0, 3, 4) == GCFLIP_NOT_SAME);
     EXPECT(gcflip_heap_look(&heap, 0, 3, &view) == GCFLIP_NUMBER);
+    EXPECT(gcflip_heap_refer(&heap, 0, 4, 1) == GCFLIP_DONE);
+    EXPECT(gcflip_heap_refer(&heap, 0, 4, 2) == GCFLIP_NO_OBJECT);
+    EXPECT(gcflip_heap_set_nil(&heap, 0, 4) == GCFLIP_DONE);
     move_roots();
     read_all();
     EXPECT(gcflip_heap_step_roots(&heap) == GCFLIP_COPIED);

@@ -114,6 +114,12 @@ class Model:
         self.set(m, d, self.value(m, s))
         return "done"
 
+    def refer(self, m, d, at):
+        if at not in self.space.starts():
+            return "no object"
+        self.set(m, d, 2 * at)
+        return "done"
+
     def get(self, m, d, s, i):
         at = self.target(m, s)
         if at is None:

@@ -29,6 +29,7 @@ HEAPS = {
     "queue": [20000, 262144],
     "strings": [262144],
     "tak": [5000, 262144],
+    "weak": [24000, 262144],
 }
 
 # The input, and the printed values, with | or spaces between them.
@@ -75,6 +76,10 @@ EVALUATED = {
         "2|7|2|1|8|#<hashtable>|#t|#f"),
     "tables as keys": ("(define t (make-weak-eq-hashtable)) (hashtable-set! t t t) (hashtable-ref t t 0) (hashtable-set! t #f '()) (hashtable-ref t #f 0)",
                        "#<hashtable>|()"),
+    "weak pairs": (
+        "(define k (list 1)) (define p (weak-cons k '(2))) p (weak-pair? p) (weak-pair? k) (pair? p) (weak-car p) (eq? (weak-car p) k) (weak-cdr p)"
+        " (weak-car (weak-cons 5 6)) (weak-car (weak-cons '() 6)) (weak-car (weak-cons #f 6)) (weak-cdr (weak-cons 5 6)) (weak-pair/car? p) (weak-pair/car? (weak-cons 5 6)) (define q (weak-cons p p)) (eq? (weak-car q) p)",
+        "#<weak pair>|#t|#f|#f|(1)|#t|(2)|5|()|#f|6|#t|#t|#t"),
     "exit": ("1 (exit) 2", "1"),
 }
 
@@ -93,6 +98,8 @@ WRONG = [
     ("(hashtable-ref 1 'a 0)", "input, line 1, column 1: hashtable-ref expects a hashtable, but found 1"),
     ("(hashtable-set! (make-eq-hashtable) 5 1)", "input, line 1, column 1: hashtable-set! expects an object with an identity, but found 5"),
     ("(finalize! '() car)", "input, line 1, column 1: finalize! expects an object with an identity, but found ()"),
+    ("(weak-car (cons 1 2))", "input, line 1, column 1: weak-car expects a weak pair, but found (1 . ...)"),
+    ("(weak-cdr 7)", "input, line 1, column 1: weak-cdr expects a weak pair, but found 7"),
     ("(cons 1)", "input, line 1, column 1: expected 2 arguments, but found 1, for cons"),
     ("(5 6)", "input, line 1, column 1: expected a function to call, but found 5"),
     ("(length '(1 . 2))", "input, line 1, column 1: length expects a list, but found (1 . ...)"),

@@ -12,11 +12,11 @@ OUT_OF_RANGE, CLOSED, OPEN = "out of range", "closed", "open"
 WEIGHTS = {"new": 8, "raw": 4, "num": 5, "nil": 2, "move": 6, "get": 9, "put": 10, "put_number": 5, "put_nil": 3, "raw_write": 4, "raw_read": 3, "copy_fields": 5, "address": 2, "cons": 4, "new_from": 4, "new_with": 4, "same": 4, "look": 5,
            "begin": 2, "begin_sized": 1, "roots": 7, "scan": 14, "apply": 5, "flip": 4, "drop": 0.4, "work": 4, "useful": 4, "counts": 3, "log": 2,
            "image": 2, "new_words": 2, "wrong": 4, "session": 0.7}
-# Calls that not every driver has: paced work, extra roots, for which a trace has no lines, and where a flip moved objects.
+# Calls that not every driver has: paced work, extra roots, where a flip moved objects, and references by address. A trace has no lines for the last three.
 PACED = {"work_sized": 2, "work_within": 3, "pace": 0.7, "work_paced": 6}
 LOOSE = {"root_load": 5, "root_store": 6, "root_clear": 1}
 FRAMES = {"frame_push": 4, "frame_pop": 4}
-MOVES = {"moved": 4}
+MOVES = {"moved": 4, "refer": 6}
 COMMANDS = ("new", "raw", "num", "nil", "move", "get", "put", "same", "look")
 
 
@@ -203,6 +203,14 @@ class Calls:
             dead = [at for at in former if former[at] == 0]
             old = self.chance.choice(dead if dead and self.chance.random() < 0.5 else list(former))
             self.call(["moved", old], "moved %d" % former[old] if former[old] else "no object")
+
+    def add_refer(self):
+        """Adds a reference by address: mostly to an object, which may be one that nothing refers to, else by some number."""
+        m, d, starts = self.mutator(), self.slot(), self.model.space.starts()
+        end = len(self.model.space.words)
+        other = self.chance.choice([0, end, end - 1, self.chance.randrange(end + 2), 1 << 31, (1 << 32) - 1, self.chance.randrange(1 << 32)])
+        at = self.chance.choice(starts) if starts and self.chance.random() < 0.7 else other
+        self.call(["refer", m, d, at], self.model.refer(m, d, at))
 
     def add_raw_write(self):
         m = self.mutator()

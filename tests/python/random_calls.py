@@ -10,7 +10,7 @@ REPLIES = {gcflip.Full: "full", gcflip.NoObject: "no object", gcflip.NoField: "n
 # What the binding calls some of the calls.
 NAMES = {"root_load": "load", "root_store": "store"}
 DONE = {"new": "made", "raw": "made", "cons": "made", "num": "done", "nil": "done", "move": "done", "put": "done", "put_number": "done",
-        "put_nil": "done", "copy_fields": "done", "root_load": "done", "root_store": "done"}
+        "put_nil": "done", "copy_fields": "done", "root_load": "done", "root_store": "done", "refer": "done"}
 
 
 def seen(value):

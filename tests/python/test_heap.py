@@ -409,6 +409,29 @@ class Readings(unittest.TestCase):
             with self.assertRaises(gcflip.OutOfRange):
                 heap.moved(6)
 
+    def test_references_by_address(self):
+        for checking in gcflip.Checking:
+            with Heap(32, checking=checking) as heap:
+                mutator = heap.mutator(0)
+                mutator.new(own(0), 7, 3)
+                mutator.new(own(1), 1, 0)
+                mutator.nil(own(0))
+                for address in (0, 2, 5, 7, 8, 2**32 - 1):
+                    with self.assertRaises(gcflip.NoObject):
+                        mutator.refer(own(2), address)
+                with self.assertRaises(gcflip.OutOfRange):
+                    mutator.refer(own(2), 2**32)
+                self.assertIsNone(mutator.look(own(2)))
+                mutator.refer(own(2), 1)
+                self.assertEqual(mutator.look(own(2)).kind, 7)
+                mutator.nil(own(2))
+                while heap.work(1).last != gcflip.Step.FLIPPED:
+                    pass
+                with self.assertRaises(gcflip.NoObject):
+                    heap.moved(1)
+                mutator.refer(own(2), heap.moved(6))
+                self.assertTrue(mutator.same(own(1), own(2)))
+
     def test_touched_heaps_stay_as_they_are(self):
         with Heap(64, extra_roots=2) as heap:
             heap.touch()

@@ -557,6 +557,12 @@ class Mutator:
         self._call("address", slot, address)
         return address.value
 
+    def refer(self, slot: int, address: int) -> None:
+        """Puts a reference to the object that starts at this address into the slot, for a table of weak references that follows its addresses by
+        `Heap.moved`. Any number may be given. Raises NoObject if no object starts there; the slot then keeps its value. Takes constant time
+        with a standing checker; otherwise it walks over the objects before the address."""
+        self._call("refer", slot, address)
+
     def put(self, slot: int, field: int, source: int) -> None:
         """Writes the value of slot `source` into a field of the object that the slot refers to. Raises NoObject, NoField, NoNumber,
         and OutOfMemory while a collection is open."""

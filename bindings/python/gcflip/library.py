@@ -191,6 +191,7 @@ HEAP: Dict[str, List[Any]] = {
     "raw_write": [MUTATOR, SLOT, c_uint16, SLOT, c_void_p, c_size_t],
     "address": [MUTATOR, SLOT, POINTER(c_uint32)],
     "moved": [c_uint32, POINTER(c_uint32)],
+    "refer": [MUTATOR, SLOT, c_uint32],
 }
 
 

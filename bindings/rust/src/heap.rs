@@ -909,6 +909,17 @@ impl Mutator<'_> {
             Err(error) => unreachable!("{error}"),
         }
     }
+
+    /// Puts a reference to the object that starts at this address into the slot, for a table of weak references that follows its addresses by
+    /// [`Heap::moved`]. Any number may be given. Takes constant time with [`Checking::Along`]; otherwise it walks over the objects before the
+    /// address.
+    ///
+    /// # Errors
+    ///
+    /// Returns `NoObject` if no object starts there. The slot then keeps its value.
+    pub fn refer(&self, to: Slot, address: u32) -> Result<()> {
+        replied(self.heap.handle.refer(self.number, to.0, address)).map(drop)
+    }
 }
 
 // ---- What the library returns

@@ -16,6 +16,7 @@ mod parts;
 mod rare;
 mod raws;
 mod reading;
+mod referring;
 mod reply;
 mod slots;
 mod stepping;
@@ -44,6 +45,7 @@ pub use reading::{
     GcflipCounts, GcflipLogEntry, gcflip_heap_counts, gcflip_heap_image, gcflip_heap_log_entry,
     gcflip_heap_log_length, gcflip_heap_new_words,
 };
+pub use referring::gcflip_heap_refer;
 pub use reply::GcflipView;
 pub use stepping::{
     GcflipStep, gcflip_heap_step_apply, gcflip_heap_step_begin, gcflip_heap_step_begin_sized,

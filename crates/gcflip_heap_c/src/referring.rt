@@ -1,0 +1,32 @@
+//! The export that makes a reference of an address, for a table of weak references.
+
+ghost use Rattle.std.specs.Prelude.{◌≡◌, ◌≢◌};
+ghost use Rattle.gcflip_heap_c.specs.Referring.{IsReferCall};
+ghost use Rattle.gcflip_heap_c.specs.Slots.{slot_at};
+
+use crate::answer::{CLOSED, OUT_OF_RANGE};
+use crate::handle::GcflipHeap;
+use crate::reply::of_reply;
+use crate::slots::slot;
+use gc_words::OldAddr;
+
+/// Puts a reference to the object that starts at this address into slot `d`. Returns 18 if no object starts there; the slot then keeps its
+/// value. Takes constant time where the standing checker goes along, and else walks over the objects before the address.
+#[unsafe(no_mangle)]
+pub extern "C" fn gcflip_heap_refer(heap: &mut GcflipHeap, m: u8, d: u8, address: u32) -> u32
+    ensures call { IsReferCall m (slot_at d) address heap.old.state heap.new.state result }
+    ensures memory { result ≢ 1 }
+    ensures former { heap.new.former ≡ heap.old.former }
+{
+    if heap.is_empty() {
+        return CLOSED;
+    }
+    let heap = &mut heap.kept_mut().live;
+    if m >= heap.mutators() {
+        return OUT_OF_RANGE;
+    }
+    let Some(d) = slot(d) else {
+        return OUT_OF_RANGE;
+    };
+    of_reply(&heap.refer(m, d, OldAddr(address)))
+}
