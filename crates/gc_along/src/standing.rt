@@ -215,7 +215,7 @@ impl Standing {
     }
 
     // The walk over the new space goes on by the next object.
-    #[inline(never)]
+    #[inline(always)]
     fn place_next(&mut self, old: &[u64], new: &[u64])
         requires found { IsFalse self.old.lost }
         requires more { length self.old.news < length new.now }
