@@ -31,7 +31,7 @@ enum gcflip_answer {
     /* replies to commands */
     GCFLIP_MADE = 16,      /* the object was made */
     GCFLIP_FULL = 17,      /* the heap has no room for the object; nothing changed */
-    GCFLIP_NO_OBJECT = 18, /* the slot does not refer to an object; nothing changed, except slot t of put_number and put_nil */
+    GCFLIP_NO_OBJECT = 18, /* the slot does not refer to an object, or none is at the address; nothing changed, except slot t of put_number and put_nil */
     GCFLIP_NO_FIELD = 19,  /* the object has no such field; nothing changed, except slot t of put_number and put_nil */
     GCFLIP_NO_NUMBER = 20, /* the object is raw and the value is not a number; nothing changed, except slot t of put_nil */
     GCFLIP_SAME = 21,      /* both slots hold nil, equal numbers, or references to one object */

@@ -377,3 +377,15 @@ fn what_is_lost_walks_anew(rt: HostRuntime) -> Result<(), Fail> {
     assert!(rt; says(&standing, &OLD, &NEW, 2));
     Ok(())
 }
+
+#[test]
+fn marks_tell_where_objects_start(rt: HostRuntime) -> Result<(), Fail> {
+    let standing = looked(rt.alloc(), &OLD, &NEW)?;
+    for at in [1, 5] {
+        assert!(rt; standing.starts_at(at));
+    }
+    for at in [0, 2, 6, 7, u32::MAX] {
+        assert!(rt; !standing.starts_at(at));
+    }
+    Ok(())
+}

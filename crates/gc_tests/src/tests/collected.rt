@@ -5,7 +5,7 @@ ghost use Rattle.std.specs.Prelude.{◌≡◌, IfOk};
 use gc_check::Sequential;
 use gc_copy::{LogEntry, Step, StepReply};
 use gc_core::{CollectedHeap, Keep, NewSpace};
-use gc_graph::{NoMemory, Reply};
+use gc_graph::{NoMemory, Reply, View};
 use gc_test_kit::commands::{get, new, num, own, put, saw};
 use gc_words::{NewAddr, OldAddr, Pair};
 use rows::{Row, play};
@@ -193,6 +193,37 @@ fn a_command_makes_the_roots_be_tested_again(rt: HostRuntime) -> Result<(), Fail
         Row::NextUseful(Step::Scan),
         Row::Command(new(r1, 1, 0), Reply::Made),
         Row::NextUseful(Step::Roots),
+    ];
+    play(&rt, &mut heap, &rows)?;
+    Ok(())
+}
+
+#[test]
+fn a_reference_is_made_of_an_address(rt: HostRuntime) -> Result<(), Fail> {
+    let _named = View::Nil;
+    let r0 = own(0);
+    let r1 = own(1);
+    let at = OldAddr(1);
+    let mut heap = CollectedHeap::open(rt.alloc(), 16, 1)?;
+    assert!(rt; !heap.has_object(at));
+    let rows = [
+        Row::Command(new(r0, 7, 2), Reply::Made),
+        Row::Command(num(r0, 9), Reply::Done),
+        Row::Step(Step::Begin, StepReply::Begun),
+        Row::NextUseful(Step::Flip),
+    ];
+    play(&rt, &mut heap, &rows)?;
+    assert!(rt; !heap.has_object(OldAddr(0)));
+    assert!(rt; !heap.has_object(OldAddr(2)));
+    assert!(rt; !heap.has_object(OldAddr(5)));
+    assert!(rt; 0 < heap.mutators());
+    assert!(rt; heap.has_object(at));
+    heap.refer(0, r1, at);
+    assert!(rt; 0 < heap.mutators());
+    assert_eq!(rt; heap.look(0, r1), Reply::Saw(View::Obj { kind: 7, len: 2 }));
+    let rows = [
+        Row::NextUseful(Step::Roots),
+        Row::Step(Step::Roots, StepReply::Copied),
     ];
     play(&rt, &mut heap, &rows)?;
     Ok(())
