@@ -1,6 +1,6 @@
 /* Performs each command of a mutator 1,000 times in a function of its own, so that a profiler can tell how many instructions one call takes,
- * with the loop around it. count_commands counts them, for the library and for plain_c.c. tests/run --only command_costs compares them with
- * commands.txt. */
+ * with the loop around it, and 1,000 steps of a collection in one call. count_commands counts them, for the library and for plain_c.c.
+ * tests/run --only command_costs compares them with commands.txt. */
 #include "gcflip_heap.h"
 #include <stdint.h>
 #include <stdio.h>
@@ -19,6 +19,7 @@ enum { OBJECT = 1, OTHER = 2, RAW = 3, NUMBER = 4, TO = 5, MADE = 6, EIGHT = 7, 
 static gcflip_heap heap = GCFLIP_NO_HEAP;
 static uint64_t number;
 static gcflip_view view;
+static gcflip_work done;
 static uint32_t answers;
 static const uint64_t numbers[LONG] = {7};
 static const uint8_t four[] = {OBJECT, OTHER, NUMBER, TO};
@@ -54,6 +55,12 @@ COMMAND(raw_write_8_open, gcflip_heap_raw_write(&heap, 0, RAW, 0, NUMBER, number
 COMMAND(raw_write_512, gcflip_heap_raw_write(&heap, 0, RAW, 0, NUMBER, numbers, LONG))
 COMMAND(raw_write_512_open, gcflip_heap_raw_write(&heap, 0, RAW, 0, NUMBER, numbers, LONG))
 
+/* Performs as many steps of a collection in one call. */
+static __attribute__((noinline)) void step(void)
+{
+    answers += gcflip_heap_work(&heap, TIMES, &done);
+}
+
 static void must(uint32_t answer, uint32_t wanted)
 {
     if (answer != wanted)
@@ -74,6 +81,18 @@ static void prepare(void)
     must(gcflip_heap_put_number(&heap, 0, OBJECT, 1, NUMBER, 7), GCFLIP_DONE);
 }
 
+/* Ends the open collection, makes a list of pairs, and begins another collection. */
+static void begin_with_list(void)
+{
+    must(gcflip_heap_work(&heap, UINT32_MAX, &done), GCFLIP_DONE);
+    must(gcflip_heap_set_nil(&heap, 0, TO), GCFLIP_DONE);
+    for (int k = 0; k < TIMES; k++) {
+        must(gcflip_heap_new_pair(&heap, 0, MADE, 1, TO, NUMBER), GCFLIP_MADE);
+        must(gcflip_heap_move(&heap, 0, TO, MADE), GCFLIP_DONE);
+    }
+    must(gcflip_heap_step_begin(&heap), GCFLIP_BEGUN);
+}
+
 int main(void)
 {
     static void (*const closed[])(void) = {get_object, get_number, put, put_number, set_number, set_nil, move, same, look, new_2, new_20, new_pair,
@@ -86,6 +105,8 @@ int main(void)
     raw_write_8_open();
     raw_write_512_open();
     copy_fields_8_open();
+    begin_with_list();
+    step();
     must(gcflip_heap_close(&heap), GCFLIP_DONE);
     printf("%u\n", answers);
     return 0;
