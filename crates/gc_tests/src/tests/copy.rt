@@ -60,6 +60,8 @@ fn play_and_drop(
     ensures mutators { heap.new.mutators ≡ heap.old.mutators }
 {
     play(rt, &mut collection, heap, rows)?;
+    // `begin` and `begin_sized` leave links unmarked, so dropping the collection clears them all.
+    assert!(rt; !collection.is_marked());
     collection.drop_into(heap);
     Ok(())
 }
