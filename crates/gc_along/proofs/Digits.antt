@@ -1,5 +1,6 @@
 -- A word as a row of codes of two bits each, of which one changes at a time.
-use Rattle.std.proofs.Common.{◌≡◌, ◌≢◌, ◌⊎◌, inl, inr, ℕ, zero, suc, ◌+◌, ◌-◌, ◌*◌, ◌/◌, ◌%◌, ◌^◌, ◌<◌, ◌≤◌, refl, sym, ◌∙◌, ap, arith, bit_or, bit_xor}
+use Rattle.std.proofs.lemmas.Grind.{common_steps}
+use Rattle.std.proofs.Common.{◌≡◌, ◌≢◌, ◌⊎◌, ℕ, zero, suc, ◌+◌, ◌-◌, ◌*◌, ◌/◌, ◌%◌, ◌^◌, ◌<◌, ◌≤◌, refl, sym, ◌∙◌, ap, arith, bit_or, bit_xor}
 use Rattle.std.proofs.lemmas.Nat.{shr-shr, shl_whole, pow-add, pow_pos, or_shr, or_mod, xor_shr, xor_mod, xor_lt}
 use Rattle.std.specs.Int.Bits.{xor_assoc, xor_self, xor_zero_l, xor_zero_r}
 use Rattle.std.proofs.lemmas.Nat.Bits.{ones_shr}
@@ -74,8 +75,7 @@ alone_is : (k code : ℕ) → k < 32 → code < 4 → code * 2 ^ (2 * k) % 18446
 alone_is k code within few = shl_whole code 2 (2 * k) 64 few (omega arith) ∙ ap (λ q. code * q) (sym (quad_is k))
 
 changed : (word k j code digits : ℕ) → k < 32 → code < 4 → digit (code * quad k) j ≡ digits → code_in (with_first word k code) j ≡ bit_xor (code_in word j) digits
-changed word k j code digits within few is =
-    ap (λ n. code_in (bit_xor word n) j) (alone_is k code within few) ∙ code_xor word (code * quad k) j ∙ ap (bit_xor (code_in word j)) (sym (digit_is (code * quad k) j) ∙ is)
+changed word k j code digits within few is = grind (arith, common_steps, alone_is, code_xor, quad, digit_is)
 
 pub with_first_here : (word k code : ℕ) → k < 32 → code < 4 → code_in word k ≡ 0 → code_in (with_first word k code) k ≡ code
 with_first_here word k code within few none = changed word k k code code within few (alone_here k code few) ∙ ap (λ n. bit_xor n code) none ∙ xor_zero_l code
@@ -91,13 +91,10 @@ xor_back : (x y : ℕ) → bit_xor x (bit_xor x y) ≡ y
 xor_back x y = sym (xor_assoc x x y) ∙ ap (λ n. bit_xor n y) (xor_self x) ∙ xor_zero_l y
 
 pub with_code_here : (word k code : ℕ) → k < 32 → code < 4 → code_in (with_code word k code) k ≡ code
-with_code_here word k code within few =
-    let small : bit_xor (code_in word k) code < 4 = xor_few (code_in word k) code (omega arith) few in
-    changed word k k (bit_xor (code_in word k) code) (bit_xor (code_in word k) code) within small (alone_here k (bit_xor (code_in word k) code) small) ∙ xor_back (code_in word k) code
+with_code_here word k code within few = grind (arith, common_steps, xor_few, changed, alone_here, xor_back)
 
 pub with_code_beside : (word k code other : ℕ) → k < 32 → code < 4 → other ≢ k → code_in (with_code word k code) other ≡ code_in word other
-with_code_beside word k code other within few differs =
-    with_first_beside word k (bit_xor (code_in word k) code) other within (xor_few (code_in word k) code (omega arith) few) differs
+with_code_beside word k code other within few differs = grind (arith, common_steps, with_first_beside, xor_few)
 
 -- ---- a run of threes
 
@@ -149,18 +146,10 @@ code_or : (a b k : ℕ) → code_in (bit_or a b) k ≡ bit_or (code_in a k) (cod
 code_or a b k = ap (λ n. n % 4) (or_shr a b (2 * k)) ∙ or_mod (a / 2 ^ (2 * k)) (b / 2 ^ (2 * k)) 2
 
 or_three : (x : ℕ) → x < 4 → bit_or x 3 ≡ 3
-or_three zero few = refl
-or_three (suc zero) few = refl
-or_three (suc (suc zero)) few = refl
-or_three (suc (suc (suc zero))) few = refl
-or_three (suc (suc (suc (suc x)))) few = absurd (omega arith)
+or_three x few = grind (arith, common_steps)
 
 or_nought : (x : ℕ) → x < 4 → bit_or x 0 ≡ x
-or_nought zero few = refl
-or_nought (suc zero) few = refl
-or_nought (suc (suc zero)) few = refl
-or_nought (suc (suc (suc zero))) few = refl
-or_nought (suc (suc (suc (suc x)))) few = absurd (omega arith)
+or_nought x few = grind (arith, common_steps)
 
 -- as the code writes it
 abbrev pub filled : ℕ → ℕ → ℕ → ℕ
@@ -177,12 +166,10 @@ mask_is place count within =
     ∙ (λ i. (sym (quad_is count) i - 1) * sym (quad_is place) i)
 
 filled_code : (word place count k code : ℕ) → place + count ≤ 32 → digit (mask count place) k ≡ code → code_in (filled word place count) k ≡ bit_or (code_in word k) code
-filled_code word place count k code within is =
-    ap (λ m. code_in (bit_or word m) k) (mask_is place count within) ∙ code_or word (mask count place) k ∙ ap (bit_or (code_in word k)) (sym (digit_is (mask count place) k) ∙ is)
+filled_code word place count k code within is = grind (arith, common_steps, mask_is, code_or, mask, digit_is)
 
 pub filled_inside : (word place count k : ℕ) → place + count ≤ 32 → place ≤ k → k < place + count → code_in (filled word place count) k ≡ 3
 filled_inside word place count k within low high = filled_code word place count k 3 within (mask_inside count place k low high) ∙ or_three (code_in word k) (omega arith)
 
 pub filled_outside : (word place count k : ℕ) → place + count ≤ 32 → (k < place) ⊎ (place + count ≤ k) → code_in (filled word place count) k ≡ code_in word k
-filled_outside word place count k within (inl low) = filled_code word place count k 0 within (mask_below count place k low) ∙ or_nought (code_in word k) (omega arith)
-filled_outside word place count k within (inr high) = filled_code word place count k 0 within (mask_above count place k high) ∙ or_nought (code_in word k) (omega arith)
+filled_outside word place count k within h = grind (arith, common_steps, filled_code, mask_below, or_nought, mask_above)

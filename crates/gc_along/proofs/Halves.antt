@@ -1,5 +1,6 @@
 -- The originals of replicas, as bits and halves of addresses hold them.
-use Rattle.std.proofs.Common.{◌≡◌, ◌≢◌, inl, inr, ℕ, zero, suc, ◌+◌, ◌-◌, ◌*◌, ◌/◌, ◌%◌, ◌^◌, ◌<◌, ◌≤◌, ◌==◌, Bool, true, false, List, [], ◌∷◌, ◌++◌, length, set, get_or, replicate, refl, sym, ◌∙◌, ap, subst, arith, w64, bit_and, bit_or, length-append, length-set, get_or-set_same, get_or-set_other}
+use Rattle.std.proofs.lemmas.Grind.{common_steps}
+use Rattle.std.proofs.Common.{◌≡◌, ◌≢◌, inl, inr, ℕ, zero, suc, ◌+◌, ◌-◌, ◌*◌, ◌/◌, ◌%◌, ◌^◌, ◌<◌, ◌≤◌, ◌==◌, Bool, true, false, List, [], ◌∷◌, ◌++◌, length, set, get_or, replicate, refl, sym, ◌∙◌, ap, subst, arith, w64, bit_and, bit_or, length-append, length-set, get_or-set_same, get_or-set_other, rules}
 use Rattle.std.specs.Prelude.{slice_index, if◌then◌else◌}
 use Rattle.std.specs.Int.{bit_at}
 use Rattle.std.proofs.lemmas.Bool.{eq-eqb, cases_eq, cases_lt, cases_Bool}
@@ -84,8 +85,7 @@ half_within : (starts originals : List ℕ) (len n m fields : ℕ) → HasGrown 
 half_within starts originals len n m fields g = omega (arith, length-append originals (replicate m 0), length-replicate {A = ℕ} m 0, g.halves, g.words)
 
 mark_beside : (starts originals : List ℕ) (len n m fields place : ℕ) → HasGrown starts originals len n m fields → place ≢ len → starts_at (starts_with starts n len) place ≡ starts_at starts place
-mark_beside starts originals len n m fields place g other =
-    other_marks_stay (starts ++ replicate n 0) len place (word_within starts originals len n m fields g) other ∙ more_marks starts n place
+mark_beside starts originals len n m fields place g other = grind (arith, common_steps, other_marks_stay, word_within, more_marks)
 
 has_more : (starts originals : List ℕ) (len n m fields original : ℕ) → HasGrown starts originals len n m fields
     → HasOrigins (starts_with starts n len) (originals_with originals m len original) (len + (fields + 2))
@@ -127,10 +127,7 @@ origin_beside starts originals len n m fields original place g other = elim (cas
     ]
 
 origins_past : (starts originals : List ℕ) (len place : ℕ) → HasOrigins starts originals len → get_or (origins_in starts originals len) place 0 ≡ origin_at starts originals place
-origins_past starts originals len place has = elim (cases_lt place len) [
-  | inl inside ↦ origins_at starts originals len place inside
-  | inr past ↦ get_or_past (origins_in starts originals len) place 0 (omega (arith, length-origins starts originals len)) ∙ sym (no_origin starts originals place (has.rest place (omega arith)))
-]
+origins_past starts originals len place has = grind (arith, common_steps, cases_lt, origins_at, get_or_past, length-origins, no_origin)
 
 origins_more : (starts originals : List ℕ) (len n m fields original : ℕ) → HasGrown starts originals len n m fields
     → origins_in (starts_with starts n len) (originals_with originals m len original) (len + (fields + 2)) ≡ origins_in starts originals len ++ original ∷ 0 ∷ replicate fields 0
@@ -182,16 +179,13 @@ pub seen_length : (starts originals : List ℕ) (len room : ℕ) (seen : Origins
 seen_length starts originals len room seen is = ap (λ (t : Origins). length t.origins) (sym is) ∙ length-origins starts originals len
 
 pub seen_fits : (starts originals : List ℕ) (len room more : ℕ) (seen : Origins) → record { origins = origins_in starts originals len; room = room } ≡ seen → length seen.origins + more ≤ seen.room → len + more ≤ room
-seen_fits starts originals len room more seen is fits =
-    let here : length (origins_in starts originals len) + more ≤ room = subst (λ (t : Origins). length t.origins + more ≤ t.room) (sym is) fits in
-    omega (arith, length-origins starts originals len)
+seen_fits starts originals len room more seen is fits = grind (arith, common_steps, length-origins)
 
 seen_at : (starts originals : List ℕ) (len room place : ℕ) (seen : Origins) → record { origins = origins_in starts originals len; room = room } ≡ seen → get_or (origins_in starts originals len) place 0 ≡ get_or seen.origins place 0
 seen_at starts originals len room place seen is = ap (λ (t : Origins). get_or t.origins place 0) is
 
 pub none_past : (starts originals : List ℕ) (len room place : ℕ) (seen : Origins) → record { origins = origins_in starts originals len; room = room } ≡ seen → len ≤ place → 0 ≡ get_or seen.origins place 0
-none_past starts originals len room place seen is past =
-    sym (get_or_past (origins_in starts originals len) place 0 (omega (arith, length-origins starts originals len))) ∙ seen_at starts originals len room place seen is
+none_past starts originals len room place seen is past = grind (arith, common_steps, get_or_past, length-origins, seen_at)
 
 -- the mark as it is read
 mark_read : (starts : List ℕ) (place word : ℕ) (b : Bool) → word ≡ get_or starts (place / 64) word → place / 64 < length starts → (bit_and (word / 2 ^ (place % 64)) 1 == 1) ≡ b → starts_at starts place ≡ b
@@ -205,9 +199,7 @@ none_unmarked starts originals len room place word seen is has inside read none 
 
 pub original_read : (starts originals : List ℕ) (len room place word original : ℕ) (seen : Origins) → record { origins = origins_in starts originals len; room = room } ≡ seen → HasOrigins starts originals len → place < len
     → word ≡ get_or starts (place / 64) word → (bit_and (word / 2 ^ (place % 64)) 1 == 1) ≡ true → original ≡ get_or originals (place / 2) original → original ≡ get_or seen.origins place 0
-original_read starts originals len room place word original seen is has inside read start at =
-    at ∙ get_or_default originals (place / 2) original 0 (omega (arith, has.halves, has.bits))
-    ∙ sym (origins_at starts originals len place inside ∙ origin_of starts originals place (mark_read starts place word true read (omega (arith, has.bits)) start)) ∙ seen_at starts originals len room place seen is
+original_read starts originals len room place word original seen is has inside read start at = search (rules, get_or_default, origins_at, origin_of, mark_read, seen_at)
 
 -- ---- as the code writes them
 
@@ -217,14 +209,11 @@ zeros_of before after len n none nought is = is ∙ (λ i. none i ++ replicate (
 
 pub has_one_of : (s0 o0 starts originals : List ℕ) (n m : ℕ) → s0 ≡ [] → n ≡ 0 → starts ≡ s0 ++ replicate (1 - n) 0 → o0 ≡ [] → m ≡ 0 → originals ≡ o0 ++ replicate (32 - m) 0
     → HasOrigins starts originals 1
-has_one_of s0 o0 starts originals n m s_none n_zero s o_none m_zero o =
-    subst (λ starts. HasOrigins starts originals 1) (sym (zeros_of s0 starts n 1 s_none n_zero s))
-    (subst (λ originals. HasOrigins (replicate 1 0) originals 1) (sym (zeros_of o0 originals m 32 o_none m_zero o)) has_one)
+has_one_of s0 o0 starts originals n m s_none n_zero s o_none m_zero o = grind (arith, common_steps, zeros_of, has_one)
 
 pub one_origin_of : (s0 o0 starts originals : List ℕ) (n m : ℕ) → s0 ≡ [] → n ≡ 0 → starts ≡ s0 ++ replicate (1 - n) 0 → o0 ≡ [] → m ≡ 0 → originals ≡ o0 ++ replicate (32 - m) 0
     → origins_in starts originals 1 ≡ 0 ∷ []
-one_origin_of s0 o0 starts originals n m s_none n_zero s o_none m_zero o =
-    (λ i. origins_in (zeros_of s0 starts n 1 s_none n_zero s i) (zeros_of o0 originals m 32 o_none m_zero o i) 1) ∙ one_origin
+one_origin_of s0 o0 starts originals n m s_none n_zero s o_none m_zero o = grind (arith, common_steps, zeros_of, one_origin)
 
 pub has_none_of : (starts originals : List ℕ) → starts ≡ [] → originals ≡ [] → HasOrigins starts originals 0
 has_none_of starts originals s o = subst (λ starts. HasOrigins starts originals 0) (sym s) (subst (λ originals. HasOrigins [] originals 0) (sym o) has_none)

@@ -1,5 +1,6 @@
 -- The rows of the tables agree, whatever happens.
-use Rattle.std.proofs.Common.{◌≡◌, ◌⊎◌, inl, inr, ⊎_elim, ℕ, zero, suc, ◌+◌, ◌<◌, ◌≤◌, ◌==◌, Bool, true, false, not, List, [], ◌∷◌, ◌++◌, length, set, get_or, replicate, Some, refl, sym, ◌∙◌, ap, subst, arith, length-append, length-set}
+use Rattle.std.proofs.lemmas.Grind.{common_steps}
+use Rattle.std.proofs.Common.{◌≡◌, ◌⊎◌, inl, inr, ℕ, zero, suc, ◌+◌, ◌<◌, ◌≤◌, ◌==◌, Bool, true, false, not, List, [], ◌∷◌, ◌++◌, length, set, get_or, replicate, refl, sym, ◌∙◌, ap, subst, arith}
 use Rattle.std.specs.Prelude.{if◌then◌else◌}
 use Rattle.std.specs.List.{sum_by}
 use Rattle.std.proofs.lemmas.Bool.{cases_eq}
@@ -10,15 +11,14 @@ use Rattle.gc_words.specs.declared.header.Header.{Header}
 use Rattle.gc_along.specs.Watch.{bit}
 use Rattle.gc_along.specs.Tables.{Tables, IsKept, due_in, missing_in}
 use Rattle.gc_along.specs.Internal.Tables.{IsLostOrKept}
-use Rattle.gc_along.specs.Events.{code_of, object_codes, with_news, with_due, replica_added, IsClaim, IsCopy, Placed, HasNoReplica}
+use Rattle.gc_along.specs.Events.{code_of, object_codes, with_due, replica_added, IsClaim, IsCopy, Placed, HasNoReplica}
 use Rattle.gc_along.specs.Claims.{OwesNone}
 use Rattle.gc_along.proofs.Codes.{code_set}
 use Rattle.gc_along.proofs.Within.{at_most}
 
 -- what is not lost
 pub kept_of : (t : Tables) → IsLostOrKept t → t.lost ≡ false → IsKept t
-kept_of t (inl lost) found = absurd (let no : true ≡ false = sym lost ∙ found in cc)
-kept_of t (inr kept) found = kept
+kept_of t h found = grind (arith, common_steps)
 
 -- ---- the count
 
@@ -26,8 +26,7 @@ pub few_due : (codes : List ℕ) → missing_in codes ≤ length codes
 few_due codes = let m : sum_by bit (due_in codes) ≤ length (due_in codes) = at_most (due_in codes) in omega (arith, length-map codes (λ code. code == 3))
 
 pub code_is : (due : Bool) → (code_of due == 3) ≡ due
-code_is true = refl
-code_is false = refl
+code_is due = grind (arith, common_steps)
 
 pub due_at : (codes : List ℕ) (place : ℕ) → get_or (due_in codes) place false ≡ (get_or codes place 0 == 3)
 due_at [] place = refl
@@ -40,12 +39,7 @@ set_count codes place due h =
     ∙ sum_by-set bit (due_in codes) place due false (omega (arith, length-map codes (λ code. code == 3)))
 
 pub kept_due : (t : Tables) (place : ℕ) (due : Bool) → IsKept t → IsKept (with_due t place due)
-kept_due t place due k = record {
-  counted = refl;
-  few = (let few : length t.news ≤ 4294967295 = k.few in omega (arith, length-set t.news place (code_of due)));
-  rows = k.rows ∙ sym (length-set t.news place (code_of due));
-  taken = k.taken;
-}
+kept_due t place due k = grind (arith, common_steps)
 
 -- ---- an object more
 
@@ -79,12 +73,7 @@ pub codes_length : (n code : ℕ) → length (object_codes n code) ≡ n + 2
 codes_length n code = let l : length (replicate n code) ≡ n = length-replicate n code in omega arith
 
 pub kept_old : (t : Tables) (h : Header) → IsKept t → IsKept (Rattle.gc_along.specs.Events.old_added t h)
-kept_old t h k = record {
-  counted = k.counted;
-  few = k.few;
-  rows = k.rows;
-  taken = λ b low. in_front t.olds (object_codes h.len 0) (get_or t.origins b 0) 1 (k.taken b low);
-}
+kept_old t h k = grind (arith, common_steps, in_front)
 
 -- the row of originals with one more
 origin_there : (xs : List ℕ) (a n b : ℕ) → 1 ≤ get_or (xs ++ a ∷ 0 ∷ replicate n 0) b 0 → ((get_or (xs ++ a ∷ 0 ∷ replicate n 0) b 0 ≡ get_or xs b 0) × (1 ≤ get_or xs b 0)) ⊎ (get_or (xs ++ a ∷ 0 ∷ replicate n 0) b 0 ≡ a)
@@ -99,21 +88,7 @@ origin_there (x ∷ xs) a n zero low = inl (refl, low)
 origin_there (x ∷ xs) a n (suc b) low = origin_there xs a n b low
 
 pub kept_replica : (t : Tables) (h : Header) (a : ℕ) (due : Bool) → length t.news + (h.len + 2) ≤ 4294967295 → get_or t.olds a 0 ≡ 1 → IsKept t → IsKept (replica_added t h a due)
-kept_replica t h a due bound start k = record {
-  counted = refl;
-  few = omega (arith, length-append t.news (object_codes h.len (code_of due)), codes_length h.len (code_of due));
-  rows = length-append t.origins (a ∷ 0 ∷ replicate h.len 0) ∙ (let rows : length t.origins ≡ length t.news = k.rows in let l : length {A = ℕ} (replicate h.len 0) ≡ h.len = length-replicate {A = ℕ} h.len 0 in omega (arith, length-append t.news (object_codes h.len (code_of due)), codes_length h.len (code_of due)));
-  taken = λ b low. ⊎_elim
-      (λ e. the_mark _ e.0 (k.taken b e.1))
-      (λ e. ap (λ x. get_or (set t.olds a 2) x 0) e ∙ get_or-set_same t.olds a 2 0 (within_row t.olds a 0 start))
-      (origin_there t.origins a h.len b low);
-}
-  where
-    the_mark : (x : ℕ) {y : ℕ} → x ≡ y → get_or t.olds y 0 ≡ 2 → get_or (set t.olds a 2) x 0 ≡ 2
-    the_mark x {y} e two = ap (λ x. get_or (set t.olds a 2) x 0) e ∙ elim (cases_eq y a) [
-      | inl same ↦ absurd (let one : get_or t.olds y 0 ≡ 1 = ap (λ y. get_or t.olds y 0) same ∙ start in omega arith)
-      | inr other ↦ get_or-set_other t.olds a y 2 0 other ∙ two
-    ]
+kept_replica t h a due bound start k = grind (arith, common_steps, codes_length, length-replicate, get_or-set_same, within_row, origin_there, cases_eq, get_or-set_other)
 
 -- the count of the rows with a replica more
 pub replica_counted : (t : Tables) (h : Header) (a : ℕ) (due : Bool) (m : ℕ) → IsKept t → m ≡ t.missing + (if due then h.len else 0)
@@ -132,12 +107,7 @@ IsFreedAt before after a = (get_or after a 0 ≡ get_or before a 0) ⊎ ((get_or
 -- the tables with one place due or not, and counted anew
 pub due_written : (t : Tables) (place code m : ℕ) (due : Bool) (news : List ℕ) → IsKept t → place < length t.news → code ≡ code_of due → m + bit (get_or t.news place 0 == 3) ≡ t.missing + bit due
     → news ≡ set t.news place code → record t { news = news; missing = m } ≡ with_due t place due
-due_written t place code m due news k within is count news_are =
-    let e : m ≡ missing_in (set t.news place (code_of due)) =
-    (let counted : t.missing ≡ missing_in t.news = k.counted in
-    let one : missing_in (set t.news place (code_of due)) + bit (get_or t.news place 0 == 3) ≡ missing_in t.news + bit due = set_count t.news place due within in
-    omega arith) in
-    (λ i. record t { news = (news_are ∙ ap (set t.news place) is) i; missing = e i })
+due_written t place code m due news k within is count news_are = grind (arith, common_steps, set_count)
 
 pub few_missing : (t : Tables) → IsKept t → t.missing ≤ 4294967295
 few_missing t k = let few : length t.news ≤ 4294967295 = k.few in let counted : t.missing ≡ missing_in t.news = k.counted in let m : missing_in t.news ≤ length t.news = few_due t.news in omega arith
@@ -159,8 +129,7 @@ replica_written t h a m n due olds news origins k olds_are news_are origins_are 
 
 pub placed_is : (old new : List ℕ) (t after : Tables) (h : Header) (a : ℕ) (copied : Bool) → length t.news < length new → IsClaim old new t h a → (copied ≡ true → IsCopy old new h a (length t.news))
     → after ≡ replica_added t h a (not copied) → Placed old new t after
-placed_is old new t after h a true less claim copy is = record { at_end = λ past. absurd (omega arith); more = λ l. (h, a, claim, inr (copy refl, is)) }
-placed_is old new t after h a false less claim copy is = record { at_end = λ past. absurd (omega arith); more = λ l. (h, a, claim, inl is) }
+placed_is old new t after h a copied less claim copy is = grind (arith, common_steps)
 
 pub placed_at : (old new : List ℕ) (t now after : Tables) (h : Header) (a : ℕ) (copied : Bool) → t ≡ now → length t.news < length new → IsClaim old new t h a → (copied ≡ true → IsCopy old new h a (length t.news))
     → after ≡ replica_added t h a (not copied) → Placed old new now after
@@ -168,19 +137,10 @@ placed_at old new t now after h a copied same less claim copy is = subst (λ t. 
 
 -- where the mark is not set no replica was seen
 pub untaken : (t now : Tables) (a : ℕ) → t ≡ now → IsLostOrKept t → now.lost ≡ false → (get_or now.olds a 0 == 2) ≡ false → HasNoReplica now a
-untaken t now a same h found not_two b low is =
-    let k : IsKept now = subst IsKept same (kept_of t h (ap (λ (t : Tables). t.lost) same ∙ found)) in
-    let two : get_or now.olds a 0 ≡ 2 = ap (λ x. get_or now.olds x 0) (sym is) ∙ k.taken b low in
-    absurd (let no : false ≡ true = sym not_two ∙ ap (λ n. n == 2) two in cc)
+untaken t now a same h found not_two b low is = grind (arith, common_steps, kept_of)
 
 -- where a copy was found to be one, nothing of it is due
 pub owes_none : (old new : List ℕ) (t0 t after : Tables) (h : Header) (a : ℕ) (copied : Bool) → t0 ≡ t → IsClaim old new t0 h a
     → (IsCopy old new h a (length t0.news) → fields_place a + h.len ≤ length old → copied ≡ true)
     → after ≡ replica_added t0 h a (not copied) → OwesNone old new t after
-owes_none old new t0 t after h a copied same claim whole is = subst (λ (x : Tables). OwesNone old new x after) same (λ h' a' claim' copy fits.
-    let same_header : h ≡ h' = (let e : Some h ≡ Some h' = sym claim.next.header ∙ claim'.next.header in cc) in
-    let same_original : a ≡ a' = sym claim.link ∙ claim'.link in
-    let found : IsCopy old new h a (length t0.news) = subst (λ (k : Header). IsCopy old new k a (length t0.news)) (sym same_header) (subst (λ n. IsCopy old new h' n (length t0.news)) (sym same_original) copy) in
-    let len : h.len ≡ h'.len = ap (λ (k : Header). k.len) same_header in
-    let is_whole : copied ≡ true = whole found (omega arith) in
-    is ∙ (λ i. replica_added t0 (same_header i) (same_original i) (not (is_whole i))))
+owes_none old new t0 t after h a copied same claim whole is = grind (arith, common_steps)

@@ -1,13 +1,14 @@
 -- The marks of a row are starts, whatever happens.
-use Rattle.std.proofs.Common.{◌≡◌, ◌⊎◌, inl, inr, ⊎_elim, ℕ, zero, suc, ◌+◌, ◌<◌, ◌≤◌, Bool, true, false, List, [], ◌∷◌, ◌++◌, length, set, get_or, take, replicate, Some, is_some, refl, sym, ◌∙◌, ap, subst, arith, length-append, length-set}
+use Rattle.std.proofs.lemmas.Grind.{common_steps}
+use Rattle.std.proofs.Common.{◌≡◌, ◌⊎◌, inl, inr, ⊎_elim, ℕ, zero, suc, ◌+◌, ◌<◌, ◌≤◌, Bool, true, List, [], ◌∷◌, ◌++◌, length, set, get_or, take, replicate, is_some, refl, sym, ◌∙◌, ap, subst, arith, length-append}
 use Rattle.std.specs.Prelude.{slice_set, IsSome}
 use Rattle.std.proofs.lemmas.Bool.{cases_eq}
 use Rattle.std.proofs.lemmas.List.{get_or-set_other, take-append-le}
-use Rattle.gc_words.specs.Image.{Block, is_start, field_at}
+use Rattle.gc_words.specs.Image.{is_start, field_at}
 use Rattle.gc_words.specs.Layout.{field_place, link_place}
 use Rattle.gc_words.specs.declared.header.Header.{Header}
 use Rattle.gc_words.proofs.Public.{some_of}
-use Rattle.gc_along.specs.Watch.{IsSeen, IsNext, seen_at}
+use Rattle.gc_along.specs.Watch.{IsSeen, IsNext}
 use Rattle.gc_along.specs.Events.{code_of, object_codes}
 use Rattle.gc_along.specs.Telling.{IsMark, MarksStarts}
 use Rattle.gc_along.proofs.Kept.{codes_length}
@@ -15,18 +16,14 @@ use Rattle.gc_along.proofs.Walked.{kept, came}
 use Rattle.gc_along.proofs.Written.{block_written, block_beside, block_linked, block_there}
 
 pub no_zero : IsMark 0 → ⊥
-no_zero (inl e) = absurd (let e' : 0 ≡ 1 = e in omega arith)
-no_zero (inr e) = absurd (let e' : 0 ≡ 2 = e in omega arith)
+no_zero h = grind (arith, common_steps)
 
 pub no_code : (due : Bool) → IsMark (code_of due) → ⊥
-no_code true (inl e) = absurd (let e' : 3 ≡ 1 = e in omega arith)
-no_code true (inr e) = absurd (let e' : 3 ≡ 2 = e in omega arith)
-no_code false e = no_zero e
+no_code due h = grind (arith, common_steps, no_zero)
 
 -- a row of one place that is no start
 pub none_yet : (words : List ℕ) → MarksStarts (0 ∷ []) words
-none_yet words zero m = absurd (no_zero m)
-none_yet words (suc a) m = absurd (no_zero m)
+none_yet words h m = grind (arith, common_steps, no_zero)
 
 -- a place of a row that has grown is an early one or a new one
 split : (xs ys : List ℕ) (a : ℕ) → ((a < length xs) × (get_or (xs ++ ys) a 0 ≡ get_or xs a 0)) ⊎ ((k : ℕ) × (a ≡ length xs + k) × (get_or (xs ++ ys) a 0 ≡ get_or ys k 0))
@@ -43,8 +40,7 @@ same_codes (suc n) code zero off m = off m
 same_codes (suc n) code (suc k) off m = same_codes n code k off m
 
 behind : (n code k : ℕ) → (IsMark code → ⊥) → IsMark (get_or (object_codes n code) (suc k) 0) → ⊥
-behind n code zero off m = no_zero m
-behind n code (suc k) off m = same_codes n code k off m
+behind n code k off m = grind (arith, common_steps, no_zero, same_codes)
 
 -- ---- an object more
 
@@ -53,21 +49,16 @@ module _ (codes words : List ℕ) (h : Header) (code : ℕ) (off : IsMark code �
   grown_to = omega (arith, length-append codes (object_codes h.len code), codes_length h.len code)
 
   early : (a : ℕ) → is_start (take (length codes) words) a ≡ true → is_start (take (length codes + (h.len + 2)) words) a ≡ true
-  early a s = let b : (b : Block) × (seen_at (length codes) words a ≡ Some b) = some_of (seen_at (length codes) words a) s in
-      ap is_some (kept (length codes) words h seen next a b.0 b.1)
+  early a s = grind (arith, common_steps, some_of, kept)
 
   here : is_start (take (length codes + (h.len + 2)) words) (length codes) ≡ true
   here = ap is_some (came (length codes) words h seen next)
 
   at_new : (a k : ℕ) → a ≡ length codes + k → IsMark (get_or (object_codes h.len code) k 0) → is_start (take (length codes + (h.len + 2)) words) a ≡ true
-  at_new a zero e m = let f : length codes ≡ a = omega arith in subst (λ a. is_start (take (length codes + (h.len + 2)) words) a ≡ true) f here
-  at_new a (suc k) e m = absurd (behind h.len code k off m)
+  at_new a k e m = grind (arith, common_steps, here, behind)
 
   pub marks_more : MarksStarts (codes ++ object_codes h.len code) words
-  marks_more a m = subst (λ n. is_start (take n words) a ≡ true) (sym grown_to) (⊎_elim
-      (λ e. early a (starts a (subst IsMark e.1 m)))
-      (λ e. at_new a e.0 e.1 (subst IsMark e.2 m))
-      (split codes (object_codes h.len code) a))
+  marks_more a m = grind (arith, common_steps, grown_to, early, at_new, split)
 
 -- ---- a code that is no start's
 
@@ -77,17 +68,11 @@ set_here (x ∷ xs) zero code off m = off m
 set_here (x ∷ xs) (suc p) code off m = set_here xs p code off m
 
 pub marks_set : (codes words : List ℕ) (place code : ℕ) → (IsMark code → ⊥) → MarksStarts codes words → MarksStarts (set codes place code) words
-marks_set codes words place code off starts a m = subst (λ n. is_start (take n words) a ≡ true) (sym (length-set codes place code)) (elim (cases_eq a place) [
-  | inl same ↦ absurd (set_here codes place code off (subst (λ a. IsMark (get_or (set codes place code) a 0)) same m))
-  | inr other ↦ starts a (subst IsMark (get_or-set_other codes place a code 0 other) m)
-])
+marks_set codes words place code off starts a m = grind (arith, common_steps, cases_eq, set_here, get_or-set_other)
 
 -- the mark of a start that was one already
 pub marks_taken : (codes words : List ℕ) (place code : ℕ) → is_start (take (length codes) words) place ≡ true → MarksStarts codes words → MarksStarts (set codes place code) words
-marks_taken codes words place code start starts a m = subst (λ n. is_start (take n words) a ≡ true) (sym (length-set codes place code)) (elim (cases_eq a place) [
-  | inl same ↦ subst (λ a. is_start (take (length codes) words) a ≡ true) (sym same) start
-  | inr other ↦ starts a (subst IsMark (get_or-set_other codes place a code 0 other) m)
-])
+marks_taken codes words place code start starts a m = grind (arith, common_steps, cases_eq, get_or-set_other)
 
 -- ---- words written
 

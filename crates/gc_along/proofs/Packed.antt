@@ -1,5 +1,6 @@
 -- The codes of places, as words hold them.
-use Rattle.std.proofs.Common.{◌≡◌, ◌≢◌, ◌⊎◌, inl, inr, ℕ, zero, suc, ◌+◌, ◌-◌, ◌/◌, ◌%◌, ◌<◌, ◌≤◌, List, [], ◌∷◌, ◌++◌, length, take, set, get_or, replicate, refl, sym, ◌∙◌, ap, subst, arith, length-append, length-set, get_or-set_same, get_or-set_other}
+use Rattle.std.proofs.lemmas.Grind.{common_steps}
+use Rattle.std.proofs.Common.{◌≡◌, ◌≢◌, ◌⊎◌, inl, inr, ℕ, zero, suc, ◌+◌, ◌-◌, ◌/◌, ◌%◌, ◌<◌, ◌≤◌, List, [], ◌∷◌, ◌++◌, length, take, set, get_or, replicate, refl, sym, ◌∙◌, ap, subst, arith, length-append, length-set, get_or-set_same, get_or-set_other, rules}
 use Rattle.std.specs.Prelude.{slice_index}
 use Rattle.std.proofs.lemmas.Bool.{cases_eq, cases_lt}
 use Rattle.std.proofs.lemmas.List.{length-replicate, length-take-le, get_or-take, get_or_append_left, get_or-append_right, get_or-replicate, get_or_default, get_or_past, ext_get_or}
@@ -95,17 +96,12 @@ codes_more words len n places h =
     ]
 
 pub has_codes_more : (words : List ℕ) (len n places : ℕ) → HasCodes words len → (len + places + 31) / 32 ≤ length words + n → length words + n ≤ 134217728 → HasCodes (words ++ replicate n 0) (len + places)
-has_codes_more words len n places h count few = record {
-  count = let l : length (words ++ replicate n 0) ≡ length words + n = length-append words (replicate n 0) ∙ ap (λ k. length words + k) (length-replicate {A = ℕ} n 0) in omega (arith, count);
-  few = let l : length (words ++ replicate n 0) ≡ length words + n = length-append words (replicate n 0) ∙ ap (λ k. length words + k) (length-replicate {A = ℕ} n 0) in omega (arith, few);
-  rest = λ place past. more_at words n place ∙ h.rest place (omega arith);
-}
+has_codes_more words len n places h count few = grind (arith, common_steps, length-replicate, more_at)
 
 -- ---- the row of place 0
 
 one_zero : (i : ℕ) → get_or {A = ℕ} (0 ∷ []) i 0 ≡ 0
-one_zero zero = refl
-one_zero (suc i) = refl
+one_zero i = grind (arith, common_steps)
 
 pub has_one : HasCodes (0 ∷ []) 1
 unfolding code_at
@@ -141,15 +137,10 @@ code_read words len room place code n seen is within read inside code_is =
 -- the word that the code makes of a place's word
 pub is_with : (words : List ℕ) (place code word n : ℕ) → n ≡ get_or words (place / 32) n → place / 32 < length words → code_in word (place % 32) ≡ code
     → ((k : ℕ) → k ≢ place % 32 → code_in word k ≡ code_in n k) → IsWith words place code word
-is_with words place code word n read inside here others = record {
-  here = here;
-  others = λ k differs. others k differs ∙ ap (λ n. code_in n k) (read ∙ get_or_default words (place / 32) n 0 inside);
-}
+is_with words place code word n read inside here others = grind (arith, common_steps, get_or_default)
 
 pub seen_len : (words : List ℕ) (len room more : ℕ) (seen : Codes) → record { codes = codes_in words len; room = room } ≡ seen → length seen.codes + more ≤ seen.room → len + more ≤ room
-seen_len words len room more seen is fits =
-    let here : length (codes_in words len) + more ≤ room = subst (λ (t : Codes). length t.codes + more ≤ t.room) (sym is) fits in
-    omega (arith, length-codes words len)
+seen_len words len room more seen is fits = grind (arith, common_steps, length-codes)
 
 pub has_one_of : (words : List ℕ) → words ≡ 0 ∷ [] → HasCodes words 1
 has_one_of words is = subst (λ words. HasCodes words 1) (sym is) has_one
@@ -174,11 +165,7 @@ pub object_coded : (before after : List ℕ) (len more : ℕ) → more ≡ len �
 object_coded before after len more more_is is = is ∙ ap (λ n. before ++ 1 ∷ replicate n 0) (ap (λ n. n + 1) more_is ∙ (let e : len + 1 ≡ suc len = omega arith in e))
 
 pub object_due : (before now after : List ℕ) (len places : ℕ) → now ≡ before ++ 1 ∷ 0 ∷ replicate len 0 → places ≡ len → after ≡ take (length now - places) now ++ replicate places 3 → after ≡ before ++ 1 ∷ 0 ∷ replicate len 3
-object_due before now after len places coded places_is is =
-    is ∙ (λ i. take (length (coded i) - places_is i) (coded i) ++ replicate (places_is i) 3)
-    ∙ fields_filled before len 3 (length (before ++ 1 ∷ 0 ∷ replicate len 0) - len)
-    (let l : length (before ++ 1 ∷ 0 ∷ replicate len 0) ≡ length before + length {A = ℕ} (1 ∷ 0 ∷ replicate len 0) = length-append before (1 ∷ 0 ∷ replicate len 0) in
-    let r : length {A = ℕ} (replicate len 0) ≡ len = length-replicate {A = ℕ} len 0 in omega arith)
+object_due before now after len places coded places_is is = grind (arith, common_steps, fields_filled, length-replicate)
 
 -- ---- a place more with a code
 
@@ -230,11 +217,7 @@ pub record IsFilled (words : List ℕ) (from count word : ℕ) : Type 0 where
 
 pub is_filled : (words : List ℕ) (from count word n : ℕ) → n ≡ get_or words (from / 32) n → from / 32 < length words → from % 32 + count ≤ 32
     → ((k : ℕ) → from % 32 ≤ k → k < from % 32 + count → code_in word k ≡ 3) → ((k : ℕ) → (k < from % 32) ⊎ (from % 32 + count ≤ k) → code_in word k ≡ code_in n k) → IsFilled words from count word
-is_filled words from count word n read inside fits filled others = record {
-  fits = fits;
-  inside = filled;
-  outside = λ k out. others k out ∙ ap (λ n. code_in n k) (read ∙ get_or_default words (from / 32) n 0 inside);
-}
+is_filled words from count word n read inside fits filled others = grind (arith, common_steps, get_or_default)
 
 filled_at : (words : List ℕ) (from count word place : ℕ) → from / 32 < length words → IsFilled words from count word → from ≤ place → place < from + count → code_at (set words (from / 32) word) place ≡ 3
 unfolding code_at
@@ -264,21 +247,15 @@ has_codes_filled words len from count word h inside within f = record {
 }
 
 code_seen : (words : List ℕ) (len place : ℕ) → HasCodes words len → get_or (codes_in words len) place 0 ≡ code_at words place
-code_seen words len place h = elim (cases_lt place len) [
-  | inl inside ↦ codes_at words len place inside
-  | inr past ↦ get_or_past (codes_in words len) place 0 (omega (arith, length-codes words len)) ∙ sym (h.rest place past)
-]
+code_seen words len place h = grind (arith, common_steps, cases_lt, codes_at, get_or_past, length-codes)
 
 pub codes_filled : (words : List ℕ) (len from count word place : ℕ) → HasCodes words len → from / 32 < length words → from + count ≤ len → IsFilled words from count word
     → from ≤ place → place < from + count → get_or (codes_in (set words (from / 32) word) len) place 0 ≡ 3
-codes_filled words len from count word place h inside within f low high =
-    code_seen (set words (from / 32) word) len place (has_codes_filled words len from count word h inside within f) ∙ filled_at words from count word place inside f low high
+codes_filled words len from count word place h inside within f low high = search (rules, code_seen, has_codes_filled, filled_at)
 
 pub codes_kept : (words : List ℕ) (len from count word place : ℕ) → HasCodes words len → from / 32 < length words → from + count ≤ len → IsFilled words from count word
     → (place < from) ⊎ (from + count ≤ place) → get_or (codes_in (set words (from / 32) word) len) place 0 ≡ get_or (codes_in words len) place 0
-codes_kept words len from count word place h inside within f out =
-    code_seen (set words (from / 32) word) len place (has_codes_filled words len from count word h inside within f)
-    ∙ kept_at words from count word place inside f out ∙ sym (code_seen words len place h)
+codes_kept words len from count word place h inside within f out = search (rules, code_seen, has_codes_filled, kept_at)
 
 -- the last places have code 3, and the others what they had
 pub all_filled : (before now : List ℕ) (places : ℕ) → length now ≡ length before → places ≤ length before

@@ -1,4 +1,5 @@
 -- Where all is seen, the certificate holds.
+use Rattle.std.proofs.lemmas.Grind.{common_steps}
 use Rattle.std.proofs.Common.{◌≡◌, ⊎_elim, ℕ, zero, suc, ◌==◌, Bool, true, false, get_or, List, [], ◌∷◌, length, take, Option, Some, None, IsTrue, refl, sym, ◌∙◌, ap, subst, arith}
 use Rattle.std.specs.Prelude.{slice_get}
 use Rattle.std.specs.List.{AllZip, sum_by, list_all}
@@ -20,19 +21,7 @@ pub shape_of : (n : ℕ) (words : List ℕ) → IsSeen n words → n ≡ length 
 shape_of n words seen e = subst (λ ws. HasShape true 4294967295 (length ws) ws) (all_of n words e) seen.space
 
 pub shaped_of : (n : ℕ) (image : Image) → IsSeen n image.words → n ≡ length image.words → IsSized (outline_of image) → IsShaped image
-shaped_of n image seen e sized =
-    let shape = shape_of n image.words seen e in
-    let low = sized.low in
-    let high = sized.high in
-    record {
-      size_low = omega arith;
-      size_high = sized.size;
-      end_low = low;
-      end_high = high;
-      count = sized.count;
-      reserved = shape.reserved;
-      walked = subst (λ r. Rattle.std.specs.Prelude.IsOk (Rattle.gc_words.specs.Image.walk_all r image.words)) (sym sized.raws) shape.walked;
-    }
+shaped_of n image seen e sized = grind (arith, common_steps, shape_of)
 
 pub none_in : (ds : List Bool) → list_all (λ d. bit d == 0) ds ≡ true → (place : ℕ) → get_or ds place false ≡ false
 none_in [] h place = refl

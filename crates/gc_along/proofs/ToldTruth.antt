@@ -1,12 +1,13 @@
 -- The tables tell the truth of the words, whatever happens.
-use Rattle.std.proofs.Common.{◌≡◌, ◌≢◌, inl, inr, ⊎_elim, ℕ, zero, suc, ◌+◌, ◌-◌, ◌<◌, ◌≤◌, ◌==◌, Bool, true, false, not, cond, List, [], ◌∷◌, ◌++◌, length, set, get_or, take, drop, replicate, Option, Some, None, is_some, All, AllPairs, refl, sym, ◌∙◌, ap, subst, arith, length-append, length-set, length-take, set-set}
-use Rattle.std.specs.Prelude.{slice_get, slice_set, slice_index, IsSome}
+use Rattle.std.proofs.lemmas.Grind.{common_steps}
+use Rattle.std.proofs.Common.{◌≡◌, ◌≢◌, inl, inr, ⊎_elim, ℕ, zero, suc, ◌+◌, ◌-◌, ◌<◌, ◌≤◌, ◌==◌, Bool, true, false, not, List, [], ◌∷◌, ◌++◌, length, set, get_or, take, drop, replicate, Option, Some, is_some, All, AllPairs, refl, sym, ◌∙◌, ap, subst, arith, length-append, length-set, length-take, set-set, rules}
+use Rattle.std.specs.Prelude.{slice_set, slice_index, IsSome}
 use Rattle.std.proofs.lemmas.Bool.{cases_eq, cases_lt, eq-eqb}
-use Rattle.std.proofs.lemmas.List.{take-append-le, drop-take, take-take, get_or-take, get_or-append-add, get_or-replicate, get_or_default, get_or-set_same, length-replicate, length-map}
+use Rattle.std.proofs.lemmas.List.{take-append-le, drop-take, take-take, get_or-take, get_or_default, get_or-set_same, length-replicate, length-map}
 use Rattle.std.proofs.lemmas.List.Elements.{All-push}
 use Rattle.std.proofs.lemmas.List.Quantifiers.{all_pairs_push}
 use Rattle.std.proofs.lemmas.Option.{slice_get-get_or}
-use Rattle.gc_words.specs.Word.{read_header, words_correspond, field_words_correspond}
+use Rattle.gc_words.specs.Word.{read_header, field_words_correspond}
 use Rattle.gc_words.specs.Image.{Image, Block, block_at, header_of, header_at, is_start, field_in, field_at}
 use Rattle.gc_words.specs.Walking.{StandsIn, block_from}
 use Rattle.gc_words.specs.Certificate.{Certified}
@@ -17,7 +18,7 @@ use Rattle.gc_along.specs.Watch.{Watch, IsSeen, IsNext, IsWatched, Watches, OldI
 use Rattle.gc_along.specs.Origins.{pairs_in, pairs_from}
 use Rattle.gc_along.specs.Outline.{outline_of}
 use Rattle.gc_along.specs.Tables.{Tables, IsKept, CertifiedBy, watch_of, due_in}
-use Rattle.gc_along.specs.Telling.{IsMark, MarksStarts, Tells}
+use Rattle.gc_along.specs.Telling.{MarksStarts, Tells}
 use Rattle.gc_along.specs.Events.{code_of, object_codes, with_news, with_due, old_added, replica_added, IsClaim, IsCopy, Made, Placed, IsFieldOf, Looked, IsReplicaAt, HasNoReplica, Wrote, Applied, Freed, opening_tables, flipped_tables}
 use Rattle.gc_along.proofs.Codes.{code_set}
 use Rattle.gc_along.proofs.Kept.{kept_due, kept_old, kept_replica, map_append, codes_length, code_is}
@@ -70,28 +71,13 @@ sound old new t tells said = said.1 old new refl refl tells.watches
 -- ---- nothing is seen of a new space
 
 none_kept : (t : Tables) (olds : List ℕ) → IsKept (record t { olds = olds; news = 0 ∷ []; origins = 0 ∷ []; missing = 0 })
-none_kept t olds = record {
-  counted = refl;
-  few = omega arith;
-  rows = refl;
-  taken = λ b low. absurd (none b low);
-}
-  where
-    none : (b : ℕ) → 1 ≤ get_or {A = ℕ} (0 ∷ []) b 0 → ⊥
-    none zero low = absurd (let l : 1 ≤ 0 = low in omega arith)
-    none (suc b) low = absurd (let l : 1 ≤ 0 = low in omega arith)
+none_kept t olds = grind (arith, common_steps)
 
 emptied : (old : List ℕ) (t : Tables) (olds : List ℕ) → IsSeen (length olds) old → MarksStarts olds old → Tells old (0 ∷ []) (record t { olds = olds; news = 0 ∷ []; origins = 0 ∷ []; missing = 0 })
-emptied old t olds seen starts = record {
-  kept = none_kept t olds;
-  watches = begun old (length olds) seen;
-  old_starts = starts;
-  new_starts = none_yet (0 ∷ []);
-}
+emptied old t olds seen starts = grind (arith, common_steps, kept, none_kept, begun, none_yet)
 
 seen_one : (old : List ℕ) → 1 ≤ length old → slice_index old 0 ≡ 0 → IsSeen 1 old
-seen_one [] low reserved = absurd (omega arith)
-seen_one (w ∷ ws) low reserved = record { within = omega arith; space = (space_of 4294967295 (w ∷ []) [] (omega arith) (omega arith) (omega arith) reserved refl).0 }
+seen_one old low reserved = grind (arith, common_steps, space_of)
 
 pub opening_tells : (old : List ℕ) (room : ℕ) → 1 ≤ length old → slice_index old 0 ≡ 0 → Tells old (0 ∷ []) (opening_tables room)
 opening_tells old room low reserved = emptied old (opening_tables room) (0 ∷ []) (seen_one old low reserved) (none_yet old)
@@ -100,14 +86,7 @@ pub flipped_tells : (old new : List ℕ) (t : Tables) → Tells old new t → Te
 flipped_tells old new t tells = emptied new t t.news tells.watches.new_seen tells.new_starts
 
 pub dropped_tells : (old new : List ℕ) (t after : Tables) → Tells old new t → Freed t after → Tells old (0 ∷ []) after
-dropped_tells old new t after tells freed =
-    subst (Tells old (0 ∷ [])) (sym freed.rest) (emptied old t after.olds (subst (λ n. IsSeen n old) (sym freed.count) tells.watches.old_seen) starts)
-  where
-    starts : MarksStarts after.olds old
-    starts a m = subst (λ n. is_start (take n old) a ≡ true) (sym freed.count) (⊎_elim
-        (λ e. tells.old_starts a (subst IsMark e m))
-        (λ e. tells.old_starts a (inr e.0))
-        (freed.codes a))
+dropped_tells old new t after tells freed = grind (arith, common_steps, emptied)
 
 -- ---- an old object more
 
@@ -155,15 +134,7 @@ watch_added t h a due low rows =
 module _ (old new : List ℕ) (w : Watch) (a : ℕ) (h : Header) (is : Watches old new w) (found : header_at (take w.old_seen old) a ≡ Some h) (once : All (λ p. p.0 ≢ a) w.pairs) (next : IsNext w.new_seen new h)
     (raw : h.raw ≡ true) (same : (c : Block) → seen_at w.old_seen old a ≡ Some c → c.fields ≡ take h.len (drop (w.new_seen + 2) new)) where
   the_copy : (o : Option Block) → seen_at w.old_seen old a ≡ o → header_of o ≡ Some h → IsWatched (replicated w a h false) w.new_seen o (Some (block_from new w.new_seen h))
-  the_copy None at e = absurd (let no : None ≡ Some h = e in cc)
-  the_copy (Some c) at e =
-      let header : c.header ≡ h = (let s : Some c.header ≡ Some h = e in cc) in (
-        header,
-        λ i v u k l.
-            let read : slice_get c.fields i ≡ Some u = ap (λ xs. slice_get xs i) (same c at) ∙ l in
-            let equal : v ≡ u = (let s : Some v ≡ Some u = sym k ∙ read in cc) in
-            inr (ap (λ (t : Bool). cond t (v == u) (words_correspond (replicated w a h false).pairs v u)) (ap (λ (h : Header). h.raw) header ∙ raw) ∙ eq-eqb v u equal),
-      )
+  the_copy o at e = grind (arith, common_steps, eq-eqb)
 
   pub copied_next : Watches old new (replicated w a h false)
   copied_next = record {
@@ -195,20 +166,13 @@ module _ (old new : List ℕ) (t : Tables) (h : Header) (a : ℕ) (tells : Tells
   fits = let f : a + (the_block.0.header.len + 2) ≤ length (take (length t.olds) old) = stands_there.fits in omega (arith, length-take (length t.olds) old)
 
   its_header : the_block.0.header ≡ h
-  its_header =
-      let word : get_or (take (length t.olds) old) a 0 ≡ slice_index new (length t.news) = get_or-take (length t.olds) old a 0 (omega (arith, fits)) ∙ claim.header in
-      let s : Some the_block.0.header ≡ Some h = sym stands_there.header ∙ ap read_header word ∙ claim.next.header in
-      cc
+  its_header = grind (arith, common_steps, get_or-take, fits, the_block, stands_there)
 
   found_header : header_at (take (length t.olds) old) a ≡ Some h
   found_header = ap header_of the_block.1 ∙ ap Some its_header
 
   not_paired : All (λ p. p.0 ≢ a) (pairs_in t.origins)
-  not_paired k d l e =
-      let o = origin_of t k d l in
-      let two : get_or t.olds (get_or t.origins (get_or (pairs_in t.origins) k d).1 0) 0 ≡ 2 = tells.kept.taken (get_or (pairs_in t.origins) k d).1 (omega (arith, o.0, o.1)) in
-      let one : get_or t.olds (get_or t.origins (get_or (pairs_in t.origins) k d).1 0) 0 ≡ 1 = ap (λ x. get_or t.olds x 0) (o.1 ∙ e) ∙ claim.start in
-      absurd (omega (arith, two, one))
+  not_paired k d l e = grind (arith, common_steps, origin_of, kept)
 
   bound : length t.news + (h.len + 2) ≤ 4294967295
   bound = claim.next.bound
@@ -217,12 +181,7 @@ module _ (old new : List ℕ) (t : Tables) (h : Header) (a : ℕ) (tells : Tells
   its_kept due = kept_replica t h a due bound claim.start tells.kept
 
   added_tells : (due : Bool) → Watches old new (replicated (watch_of t) a h due) → Tells old new (replica_added t h a due)
-  added_tells due watches = record {
-    kept = its_kept due;
-    watches = subst (Watches old new) (sym (watch_added t h a due claim.low tells.kept.rows)) watches;
-    old_starts = marks_taken t.olds old a 2 start_at tells.old_starts;
-    new_starts = marks_more t.news new h (code_of due) (no_code due) tells.watches.new_seen claim.next tells.new_starts;
-  }
+  added_tells due watches = search (rules, kept, its_kept, watch_added, marks_taken, start_at, marks_more, no_code)
 
   pub due_tells : Tells old new (replica_added t h a true)
   due_tells = added_tells true (paired_next old new (watch_of t) a h tells.watches found_header not_paired claim.next)
@@ -252,19 +211,11 @@ placed_tells old new t after tells is = ⊎_elim
 -- ---- a field due or not
 
 marked_at : (t : Tables) (place : ℕ) (due : Bool) → watch_of (with_due t place due) ≡ mark (watch_of t) place due
-marked_at t place due =
-    let row : due_in (set t.news place (code_of due)) ≡ set (due_in t.news) place due = code_set t.news place (code_of due) ∙ ap (set (due_in t.news) place) (code_is due) in
-    let seen : length (set t.news place (code_of due)) ≡ length t.news = length-set t.news place (code_of due) in
-    λ i. record { pairs = pairs_in t.origins; old_seen = length t.olds; new_seen = seen i; due = row i }
+marked_at t place due = grind (arith, common_steps, code_set, code_is)
 
 -- the words are watched with this mark
 with_mark : (old new : List ℕ) (t : Tables) (place : ℕ) (due : Bool) → Tells old new t → Watches old new (mark (watch_of t) place due) → Tells old new (with_due t place due)
-with_mark old new t place due tells watches = record {
-  kept = kept_due t place due tells.kept;
-  watches = subst (Watches old new) (sym (marked_at t place due)) watches;
-  old_starts = tells.old_starts;
-  new_starts = marks_set t.news new place (code_of due) (no_code due) tells.new_starts;
-}
+with_mark old new t place due tells watches = grind (arith, common_steps, kept, kept_due, marked_at, marks_set, no_code)
 
 due_told : (old new : List ℕ) (t : Tables) (place : ℕ) → Tells old new t → Tells old new (with_due t place true)
 due_told old new t place tells = with_mark old new t place true tells (taken_for_due old new (watch_of t) place tells.watches)
@@ -289,12 +240,7 @@ module _ (old new : List ℕ) (t : Tables) (a b : ℕ) (tells : Tells old new t)
     pub headers : one.header ≡ other.header
 
   its_blocks : Blocks
-  its_blocks = go (seen_at (length t.olds) old a) (seen_at (length t.news) new b) refl refl both_there
-    where
-      go : (o q : Option Block) → seen_at (length t.olds) old a ≡ o → seen_at (length t.news) new b ≡ q → IsWatched (watch_of t) b o q → Blocks
-      go (Some x) (Some y) e f h = record { one = x; other = y; one_at = e; other_at = f; headers = h.0 }
-      go (Some x) None e f h = absurd h
-      go None q e f h = absurd h
+  its_blocks = search (rules, both_there)
 
 -- a field of an object that was seen
 module _ (n : ℕ) (words : List ℕ) (a i : ℕ) (b : Block) (seen : IsSeen n words) (at : seen_at n words a ≡ Some b) where
@@ -344,10 +290,7 @@ module _ (old new : List ℕ) (t : Tables) (h : Header) (a b i : ℕ) (tells : T
       (ap (λ (p : ℕ × ℕ). field_at (take (length t.news) new) p.1 i) at.2 ∙ fu))
 
 pub looked_tells : (old new : List ℕ) (t after : Tables) (b i : ℕ) → Tells old new t → Looked old new b i t after → Tells old new after
-looked_tells old new t after b i tells is =
-    subst (Tells old new) (sym is.5)
-    (with_mark old new t (field_place b i) (not (field_words_correspond is.0 (pairs_in t.origins) (slice_index old (field_place is.1 i)) (slice_index new (field_place b i)))) tells
-    (looked_watches old new t is.0 is.1 b i tells is.2))
+looked_tells old new t after b i tells is = grind (arith, common_steps, with_mark, looked_watches)
 
 pub applied_tells : (old new : List ℕ) (t after : Tables) (a i : ℕ) → Tells old new t → Applied old new a i t after → Tells old new after
 applied_tells old new t after a i tells (inl h) = subst (Tells old new) (sym h.1) tells
@@ -361,12 +304,7 @@ due_here t b i within =
     ∙ get_or-set_same (due_in t.news) (field_place b i) true false (omega (arith, length-map t.news (λ code. code == 3)))
 
 pub due_tells_written : (old new : List ℕ) (t : Tables) (b i x : ℕ) → Tells old new t → IsSome (field_at (take (length t.news) new) b i) → NewIsDue (watch_of t) b i → Tells old (slice_set new (field_place b i) x) t
-due_tells_written old new t b i x tells some due = record {
-  kept = tells.kept;
-  watches = new_field old new (watch_of t) b i x tells.watches some due;
-  old_starts = tells.old_starts;
-  new_starts = marks_written t.news new b i x tells.watches.new_seen some tells.new_starts;
-}
+due_tells_written old new t b i x tells some due = search (rules, kept, new_field, marks_written)
 
 pub brought_tells : (old new : List ℕ) (t after : Tables) (b i x : ℕ) → Tells old new t → Looked old (slice_set new (field_place b i) x) b i t after → Tells old (slice_set new (field_place b i) x) after
 brought_tells old new t after b i x tells is =
@@ -411,28 +349,14 @@ brought_tells old new t after b i x tells is =
         (λ k d l e. due_here t b i is.2.within)
 
 same_once : (pairs : List (ℕ × ℕ)) → AllPairs (λ p q. p.0 ≢ q.0) pairs → (k l : ℕ) (d : ℕ × ℕ) → k < length pairs → l < length pairs → (get_or pairs k d).0 ≡ (get_or pairs l d).0 → k ≡ l
-same_once pairs once k l d m n same =
-    elim (cases_eq k l) [
-      | inl is ↦ is
-      | inr other ↦ elim (cases_lt k l) [
-        | inl less ↦ absurd (once k l d less n same)
-        | inr more ↦ absurd (once l k d (omega arith) m (sym same))
-      ]
-    ]
+same_once pairs once k l d m n same = grind (arith, common_steps, cases_eq, cases_lt)
 
 module _ (old new : List ℕ) (a i x : ℕ) where
   old_written : (t : Tables) → Tells old new t → IsSome (field_at (take (length t.olds) old) a i) → OldIsDue (watch_of t) a i → Tells (slice_set old (field_place a i) x) new t
-  old_written t tells some due = record {
-    kept = tells.kept;
-    watches = old_field old new (watch_of t) a i x tells.watches some due;
-    old_starts = marks_written t.olds old a i x tells.watches.old_seen some tells.old_starts;
-    new_starts = tells.new_starts;
-  }
+  old_written t tells some due = search (rules, kept, old_field, marks_written)
 
   no_replica : (t : Tables) → HasNoReplica t a → OldIsDue (watch_of t) a i
-  no_replica t none k d l e =
-      let o = origin_of t k d l in
-      absurd (none (get_or (pairs_in t.origins) k d).1 (subst (λ n. 1 ≤ n) (sym o.1) o.0) (o.1 ∙ e))
+  no_replica t none k d l e = grind (arith, common_steps, origin_of)
 
   its_replica : (t : Tables) (b : ℕ) → Tells old new t → IsReplicaAt t a b → field_place b i < length t.news → OldIsDue (watch_of (with_due t (field_place b i) true)) a i
   its_replica t b tells at within l d n e =
@@ -449,20 +373,10 @@ module _ (old new : List ℕ) (a i x : ℕ) where
       (old_written (with_due t (field_place b i) true) (due_told old new t (field_place b i) tells) some (its_replica t b tells at within))
 
 pub old_link_tells : (old new : List ℕ) (t : Tables) (a x : ℕ) → Tells old new t → is_start (take (length t.olds) old) a ≡ true → Tells (slice_set old (link_place a) x) new t
-old_link_tells old new t a x tells start = record {
-  kept = tells.kept;
-  watches = old_link old new (watch_of t) a x tells.watches start;
-  old_starts = marks_linked t.olds old a x tells.watches.old_seen start tells.old_starts;
-  new_starts = tells.new_starts;
-}
+old_link_tells old new t a x tells start = search (rules, kept, old_link, marks_linked)
 
 pub new_link_tells : (old new : List ℕ) (t : Tables) (b x : ℕ) → Tells old new t → is_start (take (length t.news) new) b ≡ true → Tells old (slice_set new (link_place b) x) t
-new_link_tells old new t b x tells start = record {
-  kept = tells.kept;
-  watches = new_link old new (watch_of t) b x tells.watches start;
-  old_starts = tells.old_starts;
-  new_starts = marks_linked t.news new b x tells.watches.new_seen start tells.new_starts;
-}
+new_link_tells old new t b x tells start = search (rules, kept, new_link, marks_linked)
 
 -- words behind the last
 module _ (n : ℕ) (words more : List ℕ) (seen : IsSeen n words) where
@@ -470,51 +384,18 @@ module _ (n : ℕ) (words more : List ℕ) (seen : IsSeen n words) where
   same_front = take-append-le n words more seen.within
 
   seen_more : IsSeen n (words ++ more)
-  seen_more = record {
-    within = (let w : n ≤ length words = seen.within in omega (arith, length-append words more));
-    space = subst (λ ws. Rattle.gc_words.specs.Space.IsSpace (record { size = 4294967295; words = ws })) (sym same_front) seen.space;
-  }
+  seen_more = grind (arith, common_steps, same_front)
 
   same_seen : (c : ℕ) → seen_at n words c ≡ seen_at n (words ++ more) c
   same_seen c = ap (λ ws. block_at ws c) (sym same_front)
 
 pub old_more_tells : (old new more : List ℕ) (t : Tables) → Tells old new t → Tells (old ++ more) new t
-old_more_tells old new more t tells = record {
-  kept = tells.kept;
-  watches = record {
-    old_seen = seen_more (length t.olds) old more tells.watches.old_seen;
-    new_seen = tells.watches.new_seen;
-    pairs = λ k d l. let p = get_or (pairs_in t.origins) k d in
-        subst (λ o. IsWatched (watch_of t) p.1 o (seen_at (length t.news) new p.1)) (same_seen (length t.olds) old more tells.watches.old_seen p.0) (tells.watches.pairs k d l);
-    row = tells.watches.row;
-    rising = tells.watches.rising;
-    once = tells.watches.once;
-  };
-  old_starts = marks_behind t.olds old more tells.watches.old_seen.within tells.old_starts;
-  new_starts = tells.new_starts;
-}
+old_more_tells old new more t tells = grind (arith, common_steps, kept, seen_more, same_seen, marks_behind)
 
 pub new_more_tells : (old new more : List ℕ) (t : Tables) → Tells old new t → Tells old (new ++ more) t
-new_more_tells old new more t tells = record {
-  kept = tells.kept;
-  watches = record {
-    old_seen = tells.watches.old_seen;
-    new_seen = seen_more (length t.news) new more tells.watches.new_seen;
-    pairs = λ k d l. let p = get_or (pairs_in t.origins) k d in
-        subst (IsWatched (watch_of t) p.1 (seen_at (length t.olds) old p.0)) (same_seen (length t.news) new more tells.watches.new_seen p.1) (tells.watches.pairs k d l);
-    row = tells.watches.row;
-    rising = tells.watches.rising;
-    once = tells.watches.once;
-  };
-  old_starts = tells.old_starts;
-  new_starts = marks_behind t.news new more tells.watches.new_seen.within tells.new_starts;
-}
+new_more_tells old new more t tells = grind (arith, common_steps, kept, seen_more, same_seen, marks_behind)
 
 -- ---- a walk over the old space anew
 
 pub walked_on : (old : List ℕ) (t after : Tables) → Made old t after → t ≡ record (opening_tables t.room) { olds = t.olds } → after ≡ record (opening_tables after.room) { olds = after.olds }
-walked_on old t after made h = ⊎_elim
-    (λ less. (let m = made.more less in
-    subst (λ (x : Tables). x ≡ record (opening_tables x.room) { olds = x.olds }) (sym m.2) (ap (λ (x : Tables). record x { olds = t.olds ++ object_codes m.0.len 0 }) h)))
-    (λ past. subst (λ (x : Tables). x ≡ record (opening_tables x.room) { olds = x.olds }) (sym (made.at_end (omega arith))) h)
-    (cases_lt (length t.olds) (length old))
+walked_on old t after made h = grind (arith, common_steps, cases_lt)

@@ -1,5 +1,6 @@
 -- The walks gone on, and objects paired.
-use Rattle.std.proofs.Common.{◌≡◌, ◌≢◌, inl, inr, ⊎_elim, ℕ, zero, suc, ◌+◌, ◌<◌, ◌≤◌, ◌==◌, Bool, true, false, cond, ◌||◌, List, [], ◌∷◌, ◌++◌, length, get_or, take, drop, replicate, Option, Some, None, All, Ok, refl, sym, ◌∙◌, ap, subst, arith, length-append, length-take, length-drop}
+use Rattle.std.proofs.lemmas.Grind.{common_steps}
+use Rattle.std.proofs.Common.{◌≡◌, ◌≢◌, inl, inr, ⊎_elim, ℕ, zero, suc, ◌+◌, ◌<◌, ◌≤◌, ◌==◌, Bool, true, false, cond, List, [], ◌∷◌, ◌++◌, length, get_or, take, drop, replicate, Option, Some, None, All, Ok, refl, sym, ◌∙◌, ap, subst, arith, length-append, length-take, length-drop, rules}
 use Rattle.std.specs.Prelude.{slice_index}
 use Rattle.std.specs.List.{list_any}
 use Rattle.std.proofs.lemmas.Bool.{eq-eqb}
@@ -7,9 +8,9 @@ use Rattle.std.proofs.lemmas.List.{drop_more, drop-take, take-append-drop, take-
 use Rattle.std.proofs.lemmas.List.Elements.{All-push}
 use Rattle.std.proofs.lemmas.List.Quantifiers.{all_pairs_push}
 use Rattle.std.proofs.lemmas.Option.{slice_get_within}
-use Rattle.gc_graph.specs.Graph.{Value, Nil, Num, Ref}
+use Rattle.gc_graph.specs.Graph.{Value}
 use Rattle.gc_graph.specs.Correspond.{correspond}
-use Rattle.gc_words.specs.Word.{IsHeader, header_word, read_value, read_correspond, words_correspond, field_words_correspond}
+use Rattle.gc_words.specs.Word.{IsHeader, header_word, read_correspond, field_words_correspond}
 use Rattle.gc_words.specs.Image.{Block, blocks, block_in, block_at, header_of, header_at, walk_words}
 use Rattle.gc_words.specs.Walking.{block_from}
 use Rattle.gc_words.specs.Space.{IsSpace}
@@ -40,16 +41,7 @@ module _ (n : ℕ) (words : List ℕ) (h : Header) (seen : IsSeen n words) (next
   fields = take h.len (drop (n + 2) words)
 
   front_is : take (n + (h.len + 2)) words ≡ take n words ++ header_word h ∷ slice_index words (n + 1) ∷ take h.len (drop (n + 2) words)
-  front_is =
-      let within : n + (h.len + 2) ≤ length words = next.within in
-      let word : header_word h ≡ slice_index words n = (written_back (slice_index words n) h next.header).1 in
-      let two : n + 1 + 1 ≡ n + 2 = omega arith in
-      let size : h.len + 2 ≡ suc (suc h.len) = omega arith in
-      let open_words : drop n words ≡ slice_index words n ∷ slice_index words (n + 1) ∷ drop (n + 2) words
-      = drop_more words n 0 (omega arith) ∙ ap (λ xs. slice_index words n ∷ xs) (drop_more words (n + 1) 0 (omega arith) ∙ ap (λ m. slice_index words (n + 1) ∷ drop m words) two) in
-      take_add n (h.len + 2) words
-      ∙ (λ i. take n words ++ take (size i) (open_words i))
-      ∙ ap (λ v. take n words ++ v ∷ slice_index words (n + 1) ∷ take h.len (drop (n + 2) words)) (sym word)
+  front_is = grind (arith, common_steps, written_back, drop_more, take_add)
 
   both : IsSpace (record { size = 4294967295; words = take n words ++ header_word h ∷ slice_index words (n + 1) ∷ take h.len (drop (n + 2) words) })
       × (blocks (take n words ++ header_word h ∷ slice_index words (n + 1) ∷ take h.len (drop (n + 2) words)) ≡ blocks (take n words) ++ (n, block_from words n h) ∷ [])
@@ -95,9 +87,7 @@ module _ (n : ℕ) (words : List ℕ) (h : Header) (seen : IsSeen n words) (next
 
 -- where more is found
 pub grown : (w : Watch) (b : ℕ) (o q o' q' : Option Block) → ((c : Block) → o ≡ Some c → o' ≡ Some c) → ((d : Block) → q ≡ Some d → q' ≡ Some d) → IsWatched w b o q → IsWatched w b o' q'
-grown w b (Some c) (Some d) o' q' f g h = subst (λ o. IsWatched w b o q') (sym (f c refl)) (subst (IsWatched w b (Some c)) (sym (g d refl)) h)
-grown w b (Some c) None o' q' f g h = absurd h
-grown w b None q o' q' f g h = absurd h
+grown w b o q o' q' f g h = grind (arith, common_steps)
 
 pub true_stays : (ds es : List Bool) (q : ℕ) → get_or ds q false ≡ true → get_or (ds ++ es) q false ≡ true
 true_stays [] es q h = absurd (let no : false ≡ true = h in cc)
@@ -105,45 +95,21 @@ true_stays (d ∷ ds) es zero h = h
 true_stays (d ∷ ds) es (suc q) h = true_stays ds es q h
 
 any_more : (f : ℕ × ℕ → Bool) (xs ys : List (ℕ × ℕ)) → list_any f xs ≡ true → list_any f (xs ++ ys) ≡ true
-any_more f [] ys h = absurd (let no : false ≡ true = h in cc)
-any_more f (x ∷ xs) ys h = elim (f x) as (λ t. (t || list_any f xs) ≡ true → (t || list_any f (xs ++ ys)) ≡ true) [
-  | true ↦ λ g. refl
-  | false ↦ λ g. any_more f xs ys g
-] h
+any_more f xs ys h = search (rules, common_steps)
 
 values_more : (pairs more : List (ℕ × ℕ)) (v u : Value) → correspond pairs v u ≡ true → correspond (pairs ++ more) v u ≡ true
-values_more pairs more Nil Nil h = refl
-values_more pairs more Nil (Num b) h = h
-values_more pairs more Nil (Ref b) h = h
-values_more pairs more (Num a) Nil h = h
-values_more pairs more (Num a) (Num b) h = h
-values_more pairs more (Num a) (Ref b) h = h
-values_more pairs more (Ref a) Nil h = h
-values_more pairs more (Ref a) (Num b) h = h
-values_more pairs more (Ref a) (Ref b) h = any_more _ pairs more h
+values_more pairs more v u h = grind (arith, common_steps, more, any_more)
 
 words_more : (pairs more : List (ℕ × ℕ)) (o q : Option Value) → read_correspond pairs o q ≡ true → read_correspond (pairs ++ more) o q ≡ true
-words_more pairs more None q h = h
-words_more pairs more (Some v) None h = h
-words_more pairs more (Some v) (Some u) h = values_more pairs more v u h
+words_more pairs more o q h = grind (arith, common_steps, more, values_more)
 
 pub fields_more : (h : Header) (pairs more : List (ℕ × ℕ)) (v u : ℕ) → field_words_correspond h pairs v u ≡ true → field_words_correspond h (pairs ++ more) v u ≡ true
-fields_more h pairs more v u = elim h.raw as (λ t. cond t (v == u) (words_correspond pairs v u) ≡ true → cond t (v == u) (words_correspond (pairs ++ more) v u) ≡ true) [
-  | true ↦ λ g. g
-  | false ↦ λ g. words_more pairs more (read_value v) (read_value u) g
-]
+fields_more h pairs more v u = grind (arith, common_steps, more, words_more)
 
 -- ---- the events
 
 pub begun : (old : List ℕ) (n : ℕ) → IsSeen n old → Watches old (0 ∷ []) (opening n)
-begun old n seen = record {
-  old_seen = seen;
-  new_seen = record { within = omega arith; space = (space_of 4294967295 (0 ∷ []) [] (omega arith) (omega arith) (omega arith) refl refl).0 };
-  pairs = λ k d l. absurd (omega arith);
-  row = refl;
-  rising = λ i j d h l. absurd (omega arith);
-  once = λ i j d h l. absurd (omega arith);
-}
+begun old n seen = grind (arith, common_steps, space_of)
 
 pub old_goes_on : (old new : List ℕ) (w : Watch) (h : Header) → Watches old new w → IsNext w.old_seen old h → Watches old new (old_walked w h)
 old_goes_on old new w h is next = record {

@@ -1,5 +1,6 @@
 -- Words written, where the watch allows it.
-use Rattle.std.proofs.Common.{◌≡◌, ◌⊎◌, inl, inr, ⊎_elim, ℕ, zero, suc, ◌+◌, ◌<◌, ◌≤◌, true, List, [], ◌∷◌, length, refl, set, get_or, take, Option, Some, None, IsTrue, sym, ◌∙◌, ap, subst, arith, length-set, length-take}
+use Rattle.std.proofs.lemmas.Grind.{common_steps}
+use Rattle.std.proofs.Common.{◌≡◌, ◌⊎◌, inl, inr, ⊎_elim, ℕ, zero, suc, ◌<◌, true, List, [], ◌∷◌, length, refl, set, get_or, take, Option, Some, None, IsTrue, sym, ◌∙◌, ap, subst, arith, length-set, length-take}
 use Rattle.std.specs.Prelude.{slice_get, slice_set, ◌≢◌, IsSome}
 use Rattle.std.proofs.lemmas.Bool.{cases_eq}
 use Rattle.std.proofs.Math.Seq.{take-set-lt}
@@ -48,10 +49,7 @@ module _ (n : ℕ) (words : List ℕ) (a i x : ℕ) (seen : IsSeen n words) (som
 
 module _ (n : ℕ) (words : List ℕ) (a x : ℕ) (seen : IsSeen n words) (start : is_start (take n words) a ≡ true) where
   link_front : take n (slice_set words (link_place a) x) ≡ slice_set (take n words) (link_place a) x
-  link_front =
-      let r = header_read (take n words) a seen.space.walked start in
-      let p : a + 2 ≤ length (take n words) = r.within in
-      take-set-lt n words (link_place a) x (omega (arith, length-take n words))
+  link_front = grind (arith, common_steps, header_read, take-set-lt)
 
   pub seen_linked : IsSeen n (slice_set words (link_place a) x)
   seen_linked = record {
@@ -129,21 +127,7 @@ new_field old new w b i x h some due = record {
     ]
 
 pub old_link : (old new : List ℕ) (w : Watch) (a x : ℕ) → Watches old new w → is_start (take w.old_seen old) a ≡ true → Watches (slice_set old (link_place a) x) new w
-old_link old new w a x h start = record {
-  old_seen = seen_linked w.old_seen old a x h.old_seen start;
-  new_seen = h.new_seen;
-  pairs = λ k d n. let p = get_or w.pairs k d in subst (λ o. IsWatched w p.1 o (seen_at w.new_seen new p.1)) (sym (block_linked w.old_seen old a x h.old_seen start p.0)) (h.pairs k d n);
-  row = h.row;
-  rising = h.rising;
-  once = h.once;
-}
+old_link old new w a x h start = grind (arith, common_steps, seen_linked, block_linked)
 
 pub new_link : (old new : List ℕ) (w : Watch) (b x : ℕ) → Watches old new w → is_start (take w.new_seen new) b ≡ true → Watches old (slice_set new (link_place b) x) w
-new_link old new w b x h start = record {
-  old_seen = h.old_seen;
-  new_seen = seen_linked w.new_seen new b x h.new_seen start;
-  pairs = λ k d n. let p = get_or w.pairs k d in subst (IsWatched w p.1 (seen_at w.old_seen old p.0)) (sym (block_linked w.new_seen new b x h.new_seen start p.1)) (h.pairs k d n);
-  row = h.row;
-  rising = h.rising;
-  once = h.once;
-}
+new_link old new w b x h start = grind (arith, common_steps, seen_linked, block_linked)

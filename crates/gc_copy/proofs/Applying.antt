@@ -1,13 +1,14 @@
 -- The code that applies a log's oldest entry, and the test whether a collection is ready.
-use Rattle.std.proofs.Common.{◌≡◌, inl, ℕ, suc, ◌+◌, Bool, true, false, cond, ◌&&◌, not, List, [], ◌∷◌, ◌++◌, map, drop, length, Option, Some, None, is_some, refl, ap, sym, ◌∙◌, subst, length-set}
-use Rattle.std.specs.Prelude.{IsSome, nat_lt, slice_get, slice_set}
+use Rattle.std.proofs.lemmas.Grind.{common_steps}
+use Rattle.std.proofs.Common.{◌≡◌, inl, ℕ, suc, Bool, true, false, cond, ◌&&◌, not, List, [], ◌∷◌, map, drop, length, Option, Some, None, is_some, refl, ap, sym, ◌∙◌, subst, length-set, arith}
+use Rattle.std.specs.Prelude.{IsSome, slice_get, slice_set}
 use Rattle.std.specs.List.{list_all}
 use Rattle.std.specs.Option.{option_map}
-use Rattle.gc_graph.specs.Graph.{Value, Nil, Num, Ref, Object, Graph, lookup, field_of}
+use Rattle.gc_graph.specs.Graph.{Value, Object, Graph}
 use Rattle.gc_words.specs.Image.{field_at}
 use Rattle.gc_heap.specs.Heap.{HeapWords, graph_in}
-use Rattle.gc_plan.specs.State.{Collection, new_end, new_free, replica_of, moved}
-use Rattle.gc_plan.specs.Steps.{log_at, with_log, is_empty, first_log, fresh_replica, place_replica, with_replica, write_replica, copy_value, bring_value, bring_up_to_date, apply_entry, apply_log, if_room, scan_done, roots_done, is_ready}
+use Rattle.gc_plan.specs.State.{Collection, moved}
+use Rattle.gc_plan.specs.Steps.{log_at, with_log, is_empty, first_log, place_replica, with_replica, copy_value, bring_up_to_date, apply_entry, apply_log, if_room, scan_done, roots_done, is_ready}
 use Rattle.gc_copy.specs.Internal.Entries.{oldest}
 use Rattle.gc_copy.specs.Words.{Log, CollectionWords, IsCollection, entries_of, collection_in, open_state, BelongsTo}
 use Rattle.gc_copy.specs.Internal.Words.{KeepsGraph, KeepsRest}
@@ -23,52 +24,29 @@ abbrev pub relogged : ℕ → List (ℕ × ℕ) → Option Collection → Option
 relogged m entries o = option_map (λ c. with_log c m entries) o
 
 place_beside : (c : Collection) (m : ℕ) (entries : List (ℕ × ℕ)) (name : ℕ) (o : Option Object) → place_replica (with_log c m entries) name o ≡ relogged m entries (place_replica c name o)
-place_beside c m entries name None = refl
-place_beside c m entries name (Some o) = by (nat_lt (new_free c) (length o.fields + 2))
-  where
-    by : (b : Bool) → cond b None (Some (record (with_log c m entries) { replicas = c.replicas ++ fresh_replica name (new_end c) o ∷ [] })) ≡ relogged m entries (cond b None (Some (record c { replicas = c.replicas ++ fresh_replica name (new_end c) o ∷ [] })))
-    by true = refl
-    by false = refl
+place_beside c m entries name o = grind (arith, common_steps)
 
 with_beside : (c : Collection) (g : Graph) (m : ℕ) (entries : List (ℕ × ℕ)) (v : Value) → with_replica (with_log c m entries) g v ≡ relogged m entries (with_replica c g v)
-with_beside c g m entries Nil = refl
-with_beside c g m entries (Num n) = refl
-with_beside c g m entries (Ref a) = by (is_some (replica_of c a))
-  where
-    by : (b : Bool) → cond b (Some (with_log c m entries)) (place_replica (with_log c m entries) a (lookup g.objects a)) ≡ relogged m entries (cond b (Some c) (place_replica c a (lookup g.objects a)))
-    by true = refl
-    by false = place_beside c m entries a (lookup g.objects a)
+with_beside c g m entries v = grind (arith, common_steps, place_beside)
 
 moved_beside : (c : Collection) (m : ℕ) (entries : List (ℕ × ℕ)) (v : Value) → moved (with_log c m entries) v ≡ moved c v
-moved_beside c m entries Nil = refl
-moved_beside c m entries (Num n) = refl
-moved_beside c m entries (Ref a) = refl
+moved_beside c m entries v = grind (arith, common_steps)
 
 copy_beside : (o : Option Collection) (m : ℕ) (entries : List (ℕ × ℕ)) (name i : ℕ) (v : Value) → copy_value (relogged m entries o) name i v ≡ relogged m entries (copy_value o name i v)
-copy_beside None m entries name i v = refl
-copy_beside (Some c) m entries name i v = ap (λ w. Some (write_replica (with_log c m entries) name i w)) (moved_beside c m entries v)
+copy_beside o m entries name i v = grind (arith, common_steps, moved_beside)
 
 bring_beside : (c : Collection) (g : Graph) (m : ℕ) (entries : List (ℕ × ℕ)) (name i : ℕ) → bring_up_to_date (with_log c m entries) g name i ≡ relogged m entries (bring_up_to_date c g name i)
-bring_beside c g m entries name i = by (field_of (lookup g.objects name) i)
-  where
-    by : (f : Option Value) → bring_value (with_log c m entries) g name i f ≡ relogged m entries (bring_value c g name i f)
-    by None = refl
-    by (Some v) = ap (λ o. copy_value o name i v) (with_beside c g m entries v) ∙ copy_beside (with_replica c g v) m entries name i v
+bring_beside c g m entries name i = grind (arith, common_steps, with_beside, copy_beside)
 
 entry_beside : (c : Collection) (g : Graph) (m : ℕ) (entries : List (ℕ × ℕ)) (entry : ℕ × ℕ) → apply_entry (with_log c m entries) g entry ≡ relogged m entries (apply_entry c g entry)
-entry_beside c g m entries entry = by (is_some (replica_of c entry.0))
-  where
-    by : (b : Bool) → cond b (bring_up_to_date (with_log c m entries) g entry.0 entry.1) (Some (with_log c m entries)) ≡ relogged m entries (cond b (bring_up_to_date c g entry.0 entry.1) (Some c))
-    by true = bring_beside c g m entries entry.0 entry.1
-    by false = refl
+entry_beside c g m entries entry = grind (arith, common_steps, bring_beside)
 
 -- ---- one entry
 
 -- ---- the oldest entry
 
 pub oldest_first : (entries : List (ℕ × ℕ)) (entry : ℕ × ℕ) → Some entry ≡ oldest entries → entries ≡ entry ∷ drop 1 entries
-oldest_first [] entry e = absurd (let no : Some entry ≡ None = e in cc)
-oldest_first (d ∷ rest) entry e = let same : d ≡ entry = (let f : Some entry ≡ Some d = e in cc) in λ i. same i ∷ rest
+oldest_first entries entry e = grind (arith, common_steps)
 
 module _ (heap : HeapWords) (x : CollectionWords) (m : ℕ) (log : Log) (there : slice_get x.logs m ≡ Some log) where
   entries_are : log_at (collection_in x) m ≡ log.entries
@@ -122,9 +100,7 @@ none_first k (log ∷ logs) b e = by (is_empty log) (none_first (suc k) logs b) 
     by false rest e = ap not e
 
 pub ready_where : (c : Collection) (g : Graph) (o : Option ℕ) (r : Bool) → o ≡ first_log 0 c.logs → is_some o ≡ false → scan_done c ≡ true → r ≡ roots_done c g → r ≡ is_ready c g
-ready_where c g o r first none scan roots =
-    let all : list_all is_empty c.logs ≡ true = none_first 0 c.logs false (ap is_some (sym first) ∙ none) in
-    roots ∙ ap (λ b. b && roots_done c g) (sym (ap (λ a. a && scan_done c) all ∙ scan))
+ready_where c g o r first none scan roots = grind (arith, common_steps, none_first)
 
 pub unready_logs : (c : Collection) (g : Graph) (o : Option ℕ) → o ≡ first_log 0 c.logs → is_some o ≡ true → false ≡ is_ready c g
 unready_logs c g o first some =
@@ -132,6 +108,4 @@ unready_logs c g o first some =
     sym (ap (λ a. (a && scan_done c) && roots_done c g) all)
 
 pub unready_scan : (c : Collection) (g : Graph) (o : Option ℕ) → o ≡ first_log 0 c.logs → is_some o ≡ false → scan_done c ≡ false → false ≡ is_ready c g
-unready_scan c g o first none scan =
-    let all : list_all is_empty c.logs ≡ true = none_first 0 c.logs false (ap is_some (sym first) ∙ none) in
-    sym (ap (λ a. (a && scan_done c) && roots_done c g) all ∙ ap (λ b. b && roots_done c g) scan)
+unready_scan c g o first none scan = grind (arith, common_steps, none_first)

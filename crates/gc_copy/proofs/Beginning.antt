@@ -1,4 +1,5 @@
 -- A collection that has just begun belongs to its heap.
+use Rattle.std.proofs.lemmas.Grind.{common_steps}
 use Rattle.std.proofs.Common.{◌≡◌, ℕ, ◌≤◌, ◌<◌, Bool, List, [], map, length, replicate, sym, ◌∙◌, ap, subst, arith}
 use Rattle.std.proofs.lemmas.List.{length-map, length-replicate}
 use Rattle.gc_words.specs.Image.{blocks}
@@ -10,7 +11,6 @@ use Rattle.gc_plan.specs.Steps.{fresh_collection}
 use Rattle.gc_plan.specs.Linked.{old_links}
 use Rattle.gc_plan.specs.Belonging.{Belongs}
 use Rattle.gc_copy.specs.Words.{Log, IsCollection, replicas_in, entries_of, collection_in, HasNoLinks, LinksNothing, BelongsTo}
-use Rattle.gc_plan.specs.Members.{In}
 use Rattle.gc_plan.proofs.Public.{begun_belongs}
 use Rattle.gc_copy.proofs.Words.{words_numbers}
 
@@ -32,11 +32,4 @@ begun heap space logs size marked none low empty entries = record {
 -- a collection in an empty space
 pub begun_sound : (space : SpaceWords) (logs : List Log) (size : ℕ) (marked : Bool) → IsSpace space → space ≡ empty_space size → length logs < 256
     → IsCollection (record { space = space; logs = logs; scan_place = 1; scan_field = 0; marked = marked }) × (0 ≡ length (blocks space.words))
-begun_sound space logs size marked shaped empty few = (
-  record {
-    space = shaped;
-    logs = few;
-    originals = λ r l. absurd (subst (λ (s : SpaceWords). In r (replicas_in s.words)) empty l);
-  },
-  ap (λ (s : SpaceWords). length (blocks s.words)) (sym empty),
-)
+begun_sound space logs size marked shaped empty few = grind (arith, common_steps)

@@ -1,4 +1,5 @@
 -- The loop that drops a collection: it clears the link of each original, to which the replica's link leads.
+use Rattle.std.proofs.lemmas.Grind.{common_steps}
 use Rattle.std.proofs.Common.{◌≡◌, ◌⊎◌, ⊎_elim, inl, inr, ℕ, ◌-◌, ◌<◌, ◌≤◌, ◌==◌, Bool, true, false, List, [], ◌∷◌, length, Option, Some, None, is_some, refl, ap, sym, ◌∙◌, subst, arith}
 use Rattle.std.specs.Prelude.{◌^◌}
 use Rattle.std.specs.Option.{option_map}
@@ -44,13 +45,7 @@ pub record Clears (marked : Bool) (words : List ℕ) (old now : HeapWords) (at :
 -- ---- its steps
 
 pub then_kept : (old now new : HeapWords) → KeepsGraph old now → KeepsGraph now new → KeepsGraph old new
-then_kept old now new k l = record {
-  mutators = l.mutators ∙ k.mutators;
-  size = l.size ∙ k.size;
-  roots = l.roots ∙ k.roots;
-  heap = l.heap ∙ k.heap;
-  blocks = l.blocks ∙ k.blocks;
-}
+then_kept old now new k l = grind (arith, common_steps)
 
 -- at first every replica is ahead
 pub clears_none : (heap : HeapWords) (x c : CollectionWords) → x ≡ c → IsHeap heap → IsCollection x → BelongsTo heap c → Clears x.marked x.space.words heap heap 1
@@ -130,9 +125,7 @@ clears_more marked words old now new at next k less e is sound =
 -- ---- after the last replica
 
 pub none_above : (marked : Bool) (words : List ℕ) (old now : HeapWords) (at : ℕ) → Clears marked words old now at → length words ≤ at → LinksNothing marked now
-none_above marked words old now at k past a start =
-    let there : is_start old.space.words a ≡ true = sym (start_kept old now a k.graph) ∙ start in
-    ⊎_elim (λ zero. zero) (λ ahead. absurd (subst (In ahead.0) (ap ok_or_nil (at_end words at past)) ahead.1)) (k.links a there)
+none_above marked words old now at k past a start = grind (arith, common_steps, start_kept, at_end)
 
 -- the heap without a collection is that of the old one
 pub dropped_state : (marked : Bool) (words : List ℕ) (old now : HeapWords) (at : ℕ) → Clears marked words old now at → idle_state now ≡ idle_state old

@@ -1,9 +1,10 @@
 -- The code of a flip.
+use Rattle.std.proofs.lemmas.Grind.{common_steps}
 use Rattle.gc_plan.proofs.Public.{small_corresponding, placed, in_get, in_map, in_map_from, all_from_in, replica_field, IsReady, ready_parts, new_heap, named_address, flips}
 use Rattle.std.specs.Prelude.{◌^◌}
 use Rattle.std.specs.Option.{option_map}
 use Rattle.gc_words.specs.declared.header.Header.{Header}
-use Rattle.std.proofs.Common.{◌≡◌, ⊎_elim, inl, inr, ℕ, suc, zero, ◌+◌, ◌-◌, ◌*◌, ◌/◌, ◌%◌, ◌<◌, ◌≤◌, ◌==◌, ◌||◌, nat_lt, Bool, true, false, cond, List, [], ◌∷◌, map, length, Option, Some, None, All, refl, ap, sym, ◌∙◌, subst, arith}
+use Rattle.std.proofs.Common.{◌≡◌, inl, inr, ℕ, ◌-◌, ◌/◌, ◌%◌, ◌<◌, ◌≤◌, ◌==◌, ◌||◌, nat_lt, Bool, true, false, cond, List, [], ◌∷◌, map, length, Option, Some, None, refl, ap, sym, ◌∙◌, subst, arith}
 use Rattle.std.proofs.lemmas.Bool.{eqb-true, eqb-false, lt-ltb}
 use Rattle.std.proofs.lemmas.List.{length-map}
 use Rattle.gc_graph.specs.Graph.{lookup, Value, Nil, Num, Ref, Object}
@@ -14,7 +15,7 @@ use Rattle.gc_words.specs.Space.{SpaceWords, IsSpace, end_of, free_in, without_l
 use Rattle.gc_words.specs.Closed.{IsWordOfField, RefersToStart, IsRootWord, IsFieldWord, HasFieldWords}
 use Rattle.gc_words.proofs.Public.{object_found, meaning_back, cleared, link_cleared, end_cleared, closed_field_read, closed_objects}
 use Rattle.gc_heap.specs.Heap.{HeapWords, IsHeap, graph_in}
-use Rattle.gc_plan.specs.State.{Collection, State, new_objects, new_end, new_free, new_graph, moved, pairs_of}
+use Rattle.gc_plan.specs.State.{new_objects, new_free, new_graph, pairs_of}
 use Rattle.gc_plan.specs.Steps.{is_ready, flip, flipped}
 use Rattle.gc_plan.specs.Members.{In}
 use Rattle.gc_plan.specs.Belonging.{IsSmall, IsNamed, RefersTo, IsSpaceGraph}
@@ -156,10 +157,7 @@ module _ (heap : HeapWords) (x : CollectionWords) (space : SpaceWords) (heap_is 
       word_fine x.space.words w address (subst (RefersTo (IsNamed (objects_of x.space.words))) (sym back) refers)
 
   moved_count : length (new_root_words heap (collection_in x)) ≡ length heap.roots
-  moved_count =
-      length-map (new_graph (collection_in x) (graph_in heap).roots).roots word_of
-      ∙ length-map (graph_in heap).roots (moved (collection_in x))
-      ∙ length-map heap.roots value_of
+  moved_count = grind (arith, common_steps, length-map)
 
   pub flipped_sound : IsHeap (record heap { space = space; roots = new_root_words heap (collection_in x) })
   flipped_sound = record {
@@ -173,22 +171,10 @@ module _ (heap : HeapWords) (x : CollectionWords) (space : SpaceWords) (heap_is 
   }
 
   graph_after : graph_in (record heap { space = space; roots = new_root_words heap (collection_in x) }) ≡ new_graph (collection_in x) (graph_in heap).roots
-  graph_after =
-      let objects = new_objects_are x in
-      let here = ap (λ bs. map object_entry bs) same.blocks in
-      let roots = roots_back (new_graph (collection_in x) (graph_in heap).roots).roots (λ v l. here_refers v (new_ok.roots v l)) in
-      (λ i. record { objects = here i; roots = map value_of (new_root_words heap (collection_in x)) })
-      ∙ (λ i. record { objects = sym objects i; roots = roots i })
+  graph_after = grind (arith, common_steps, new_objects_are, roots_back, here_refers, new_ok)
 
   state_after : flipped (open_state heap x) (collection_in x) ≡ idle_state (record heap { space = space; roots = new_root_words heap (collection_in x) })
-  state_after =
-      let graph = graph_after in
-      let end : new_end (collection_in x) ≡ end_of space = new_end_is x is.space ∙ sym same.end in
-      let size = same.size in
-      λ i. record { mutators = heap.mutators; size = sym size i; heap = record { graph = sym graph i; free = sym size i - end i }; collection = None }
+  state_after = grind (arith, common_steps, graph_after, new_end_is)
 
   pub flip_is : flip (open_state heap x) (collection_in x) ≡ (Flipped (length (pairs_of (collection_in x))), idle_state (record heap { space = space; roots = new_root_words heap (collection_in x) }))
-  flip_is =
-      let count : length (pairs_of (collection_in x)) ≡ length (collection_in x).replicas = length-map (collection_in x).replicas (λ (r : Rattle.gc_plan.specs.State.Replica). (r.original, r.place)) in
-      let state = state_after in
-      flips (open_state heap x) (collection_in x) old_ok (opened heap x is k) ready ∙ (λ i. (Flipped (sym count i), state i))
+  flip_is = grind (arith, common_steps, length-map, state_after, flips, old_ok, opened)

@@ -1,4 +1,5 @@
 -- The images that a heap and its collection give the checker, and how commands change them.
+use Rattle.std.proofs.lemmas.Grind.{common_steps}
 use Rattle.std.proofs.Common.{◌≡◌, ⊎_elim, inl, inr, ℕ, ◌-◌, ◌%◌, ◌≤◌, ◌<◌, Bool, true, false, List, [], ◌∷◌, ◌++◌, map, flat_map, length, Option, Some, None, is_some, refl, ap, sym, ◌∙◌, subst, arith}
 use Rattle.std.specs.Option.{option_map}
 use Rattle.std.proofs.lemmas.Bool.{cases_Bool}
@@ -7,7 +8,7 @@ use Rattle.gc_graph.specs.Machine.{Roomy, roomy_step}
 use Rattle.gc_graph.specs.declared.command.Op.{Op}
 use Rattle.gc_graph.specs.declared.reply.Reply.{Reply}
 use Rattle.gc_words.specs.Image.{Block, blocks, block_at, is_start, objects_of, object_of_block}
-use Rattle.gc_words.specs.Spelling.{block_words, spelled, no_links, link_at}
+use Rattle.gc_words.specs.Spelling.{block_words, spelled, link_at}
 use Rattle.gc_words.specs.Space.{SpaceWords, IsSpace, end_of, free_in, image_with}
 use Rattle.gc_words.specs.Certificate.{Certified}
 use Rattle.gc_words.proofs.Public.{length_relinked, object_found, relinked}
@@ -48,22 +49,13 @@ links_told space links is told =
 
 -- links without a mark are what they have above it
 unmarked : (heap : HeapWords) (c : CollectionWords) → BelongsTo heap c → c.marked ≡ false → LinksExactly heap (collection_in c)
-unmarked heap c k plain a start =
-    let above : link_at heap.space.words a - mark_of false ≡ old_links (collection_in c) a = subst (λ m. LinksReplicas m heap (collection_in c)) plain k.links a start in
-    let none : mark_of false ≡ 0 = refl in
-    omega arith
+unmarked heap c k plain a start = grind (arith, common_steps)
 
 pub old_shown : (heap : HeapWords) (c : CollectionWords) → IsHeap heap → BelongsTo heap c → c.marked ≡ false → image_of heap ≡ old_image (open_state heap c) (collection_in c)
-old_shown heap c is k plain =
-    let all = links_told heap.space (old_links (collection_in c)) is.space (λ e l. unmarked heap c k plain e.0 (in_start heap.space.words e l)) in
-    let rs = words_back heap.roots in
-    λ i. record { size = heap.space.size; end = length (all i); words = all i; roots = sym rs i; raws = true }
+old_shown heap c is k plain = grind (arith, common_steps, links_told, unmarked, in_start, words_back)
 
 pub idle_shown : (heap : HeapWords) → IsHeap heap → HasNoLinks heap → image_of heap ≡ image_of_graph heap.space.size (graph_in heap)
-idle_shown heap is none =
-    let all = links_told heap.space no_links is.space (λ e l. none e.0 (in_start heap.space.words e l)) in
-    let rs = words_back heap.roots in
-    λ i. record { size = heap.space.size; end = length (all i); words = all i; roots = sym rs i; raws = true }
+idle_shown heap is none = grind (arith, common_steps, links_told, in_start, words_back)
 
 pub new_shown : (heap : HeapWords) (c : CollectionWords) → IsCollection c → BelongsTo heap c → image_with c.space (new_root_words heap (collection_in c)) ≡ new_image (open_state heap c) (collection_in c)
 new_shown heap c is k =
@@ -114,9 +106,7 @@ other_links heap is links =
 -- a heap's words with its links lowered are its image with the links that they then are
 pub lowered_words : (heap : HeapWords) (links : ℕ → ℕ) (mark : ℕ) → IsHeap heap → ((a : ℕ) → is_start heap.space.words a ≡ true → link_at heap.space.words a - mark ≡ links a)
     → spelled (λ a. link_at heap.space.words a - mark) (blocks heap.space.words) ≡ (linked_image links heap.space.size (graph_in heap)).words
-lowered_words heap links mark is told =
-    ap (λ ws. 0 ∷ ws) (spelled_agree (λ a. link_at heap.space.words a - mark) links (blocks heap.space.words) (λ e l. told e.0 (in_start heap.space.words e l)))
-    ∙ ap (spelled links) (sym (space_blocks heap.space is.space))
+lowered_words heap links mark is told = grind (arith, common_steps, spelled_agree, in_start, space_blocks)
 
 -- ---- commands
 
@@ -138,10 +128,7 @@ no_link heap c a k none = from (replica_of (collection_in c) a) refl
         absent (Some b) e = absurd (let no : true ≡ false = e in cc)
 
 links_kept : (heap new : HeapWords) (c : CollectionWords) → BelongsTo heap c → KeepsLinks heap.space.words new.space.words → LinksReplicas c.marked new (collection_in c)
-links_kept heap new c k kept a there = ⊎_elim
-    (λ t. ap (λ l. l - mark_of c.marked) (kept.kept a t) ∙ k.links a t)
-    (λ f. let fresh : link_at new.space.words a ≡ 0 = kept.fresh a f there in let none : link_at new.space.words a - mark_of c.marked ≡ 0 = omega arith in none ∙ sym (no_link heap c a k f))
-    (cases_Bool (is_start heap.space.words a))
+links_kept heap new c k kept a there = grind (arith, common_steps, no_link, cases_Bool)
 
 pub command_leaves : (heap new : HeapWords) (c : CollectionWords) (m : ℕ) (op : Op) (reply : Reply) → BelongsTo heap c → KeepsLinks heap.space.words new.space.words → new.mutators ≡ heap.mutators
     → roomy_step (roomy_in heap) m op (end_of heap.space) ≡ (reply, roomy_in new) → BelongsToBut (written (graph_in heap) m op reply) new c
@@ -165,7 +152,4 @@ pub no_links_kept : (heap new : HeapWords) → HasNoLinks heap → KeepsLinks he
 no_links_kept heap new none kept a there = ⊎_elim (λ t. kept.kept a t ∙ none a t) (λ f. kept.fresh a f there) (cases_Bool (is_start heap.space.words a))
 
 pub nothing_linked : (heap new : HeapWords) (marked : Bool) → LinksNothing marked heap → KeepsLinks heap.space.words new.space.words → LinksNothing marked new
-nothing_linked heap new marked none kept a there = ⊎_elim
-    (λ t. ap (λ l. l - mark_of marked) (kept.kept a t) ∙ none a t)
-    (λ f. let fresh : link_at new.space.words a ≡ 0 = kept.fresh a f there in omega arith)
-    (cases_Bool (is_start heap.space.words a))
+nothing_linked heap new marked none kept a there = grind (arith, common_steps, cases_Bool)

@@ -1,12 +1,13 @@
 -- The list of mutation logs.
-use Rattle.std.proofs.Common.{◌≡◌, ℕ, suc, zero, ◌+◌, ◌<◌, ◌≤◌, true, false, List, [], ◌∷◌, ◌++◌, map, drop, length, get_or, Option, Some, None, refl, ap, sym, ◌∙◌, subst, arith, inl, inr}
+use Rattle.std.proofs.lemmas.Grind.{common_steps}
+use Rattle.std.proofs.Common.{◌≡◌, ℕ, suc, zero, ◌+◌, ◌<◌, ◌≤◌, true, false, List, [], ◌∷◌, ◌++◌, map, drop, length, get_or, Option, Some, None, refl, ap, sym, ◌∙◌, subst, arith}
 use Rattle.std.specs.Prelude.{slice_get, slice_set}
 use Rattle.std.proofs.lemmas.Option.{slice_get-get_or}
 use Rattle.std.specs.Option.{option_map}
 use Rattle.std.proofs.lemmas.Bool.{cond-true, cond-false}
 use Rattle.std.proofs.lemmas.List.{drop_all, length-map}
 use Rattle.gc_heap.specs.Heap.{HeapWords, graph_in}
-use Rattle.gc_plan.specs.Steps.{log_or_nil, log_at, with_log, is_empty, first_log}
+use Rattle.gc_plan.specs.Steps.{log_at, with_log, is_empty, first_log}
 use Rattle.gc_plan.specs.Belonging.{HasField, Belongs}
 use Rattle.gc_copy.specs.Words.{Log, CollectionWords, entries_of, collection_in, spare_in, spare_of, LinksReplicas, BelongsTo, BelongsToBut}
 use Rattle.gc_graph.specs.Graph.{Object}
@@ -32,9 +33,7 @@ entries_at (l ∷ logs) (suc m) log e = entries_at logs m log e
 
 -- equal entries, whatever room the logs have
 pub room_made : (c : CollectionWords) (m : ℕ) (log later : Log) → slice_get c.logs m ≡ Some log → later.entries ≡ log.entries → collection_in (record c { logs = slice_set c.logs m later }) ≡ collection_in c
-room_made c m log later there same =
-    let logs = entries_set c.logs m later ∙ ap (slice_set (map entries_of c.logs) m) same ∙ set_same c.logs m log there in
-    λ i. record (collection_in c) { logs = logs i }
+room_made c m log later there same = grind (arith, common_steps, entries_set, set_same)
 
 spares_set : (logs : List Log) (m : ℕ) (log later : Log) → slice_get logs m ≡ Some log → log.spare ≤ later.spare → (k : ℕ) → spare_in (slice_get logs k) ≤ spare_in (slice_get (slice_set logs m later) k)
 spares_set [] m log later e more k = omega arith
@@ -49,29 +48,18 @@ room_kept c m log later there more k = spares_set c.logs m log later there more 
 
 pub entry_noted : (c : CollectionWords) (m a f : ℕ) (log later : Log) → slice_get c.logs m ≡ Some log → later.entries ≡ log.entries ++ (a, f) ∷ []
     → collection_in (record c { logs = slice_set c.logs m later }) ≡ with_log (collection_in c) m (log_at (collection_in c) m ++ (a, f) ∷ [])
-entry_noted c m a f log later there more =
-    let was : log_at (collection_in c) m ≡ log.entries = ap log_or_nil (entries_at c.logs m log there) in
-    let logs = entries_set c.logs m later ∙ ap (slice_set (map entries_of c.logs) m) (more ∙ ap (λ (es : List (ℕ × ℕ)). es ++ (a, f) ∷ []) (sym was)) in
-    λ i. record (collection_in c) { logs = logs i }
+entry_noted c m a f log later there more = grind (arith, common_steps, entries_at, entries_set)
 
 pub entry_dropped : (c : CollectionWords) (m : ℕ) (log later : Log) → slice_get c.logs m ≡ Some log → later.entries ≡ drop 1 log.entries
     → collection_in (record c { logs = slice_set c.logs m later }) ≡ with_log (collection_in c) m (drop 1 (log_at (collection_in c) m))
-entry_dropped c m log later there less =
-    let was : log_at (collection_in c) m ≡ log.entries = ap log_or_nil (entries_at c.logs m log there) in
-    let logs = entries_set c.logs m later ∙ ap (slice_set (map entries_of c.logs) m) (less ∙ ap (λ (es : List (ℕ × ℕ)). drop 1 es) (sym was)) in
-    λ i. record (collection_in c) { logs = logs i }
+entry_dropped c m log later there less = grind (arith, common_steps, entries_at, entries_set)
 
 -- a collection still belongs to the heap when a log gains room
 pub same_belongs : (heap : HeapWords) (c next : CollectionWords) → collection_in next ≡ collection_in c → next.marked ≡ c.marked → length next.logs ≡ length c.logs → BelongsTo heap c → BelongsTo heap next
-same_belongs heap c next same marks count k = record {
-  belongs = subst (Belongs (graph_in heap).objects) (sym same) k.belongs;
-  links = subst (λ m. LinksReplicas m heap (collection_in next)) (sym marks) (subst (LinksReplicas c.marked heap) (sym same) k.links);
-  logs = count ∙ k.logs;
-}
+same_belongs heap c next same marks count k = grind (arith, common_steps)
 
 only : (objects : List (ℕ × Object)) (a f : ℕ) → HasField objects a f → (b j : ℕ) → In {X = ℕ × ℕ} (b, j) ((a, f) ∷ []) → HasField objects b j
-only objects a f field b j (inl e) = subst (λ (p : ℕ × ℕ). HasField objects p.0 p.1) e field
-only objects a f field b j (inr none) = absurd none
+only objects a f field b j h = grind (arith, common_steps)
 
 pub noted_belongs : (heap : HeapWords) (c next : CollectionWords) (m a f : ℕ) → m < length c.logs → collection_in next ≡ with_log (collection_in c) m (log_at (collection_in c) m ++ (a, f) ∷ []) → next.marked ≡ c.marked → length next.logs ≡ length c.logs
     → HasField (graph_in heap).objects a f → BelongsToBut ((a, f) ∷ []) heap c → BelongsTo heap next
@@ -91,9 +79,7 @@ first_from logs m = first_log m (map entries_of (drop m logs))
 -- ---- what an index gives
 
 pub there_in : (c outer : CollectionWords) (m : ℕ) (log : Log) → c ≡ outer → m < length outer.logs → log ≡ get_or c.logs m log → slice_get c.logs m ≡ Some log
-there_in c outer m log seen less is =
-    let here : m < length c.logs = subst (λ (y : CollectionWords). m < length y.logs) (sym seen) less in
-    slice_get-get_or c.logs m log here ∙ ap Some (sym is)
+there_in c outer m log seen less is = grind (arith, common_steps, slice_get-get_or)
 
 drop_at : (logs : List Log) (m : ℕ) (log : Log) → slice_get logs m ≡ Some log → drop m logs ≡ log ∷ drop (suc m) logs
 drop_at [] m log e = absurd (let no : None ≡ Some log = e in cc)
@@ -101,9 +87,7 @@ drop_at (l ∷ logs) zero log e = let same : l ≡ log = (let f : Some l ≡ Som
 drop_at (l ∷ logs) (suc m) log e = drop_at logs m log e
 
 pub first_here : (c : CollectionWords) (m : ℕ) (log : Log) → slice_get c.logs m ≡ Some log → is_empty log.entries ≡ false → first_from c.logs m ≡ Some m
-first_here c m log there full =
-    ap (λ ls. first_log m (map entries_of ls)) (drop_at c.logs m log there)
-    ∙ cond-false (is_empty log.entries) (first_log (suc m) (map entries_of (drop (suc m) c.logs))) (Some m) full
+first_here c m log there full = grind (arith, common_steps, drop_at, cond-false)
 
 pub first_later : (c : CollectionWords) (m : ℕ) (log : Log) → slice_get c.logs m ≡ Some log → is_empty log.entries ≡ true → first_from c.logs (m + 1) ≡ first_from c.logs m
 first_later c m log there empty =

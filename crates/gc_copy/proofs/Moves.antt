@@ -1,10 +1,11 @@
 -- The links of originals tell the pairs of a collection.
-use Rattle.std.proofs.Common.{◌≡◌, ◌↔◌, ℕ, ◌-◌, ◌%◌, ◌<◌, ◌==◌, cond, Bool, true, false, List, Option, Some, None, refl, ap, sym, ◌∙◌, subst, arith}
-use Rattle.std.specs.Prelude.{◌^◌, IsSome, is_some}
+use Rattle.std.proofs.lemmas.Grind.{common_steps}
+use Rattle.std.proofs.Common.{◌≡◌, ◌↔◌, ℕ, ◌-◌, ◌%◌, ◌<◌, true, List, Option, Some, None, refl, ap, sym, ◌∙◌, subst, arith}
+use Rattle.std.specs.Prelude.{◌^◌, IsSome}
 use Rattle.std.specs.Option.{option_map}
 use Rattle.std.proofs.lemmas.Bool.{eqb-true, eqb-false}
 use Rattle.gc_graph.specs.Graph.{lookup}
-use Rattle.gc_words.specs.Image.{Block, block_at, is_start, object_of_block, objects_of}
+use Rattle.gc_words.specs.Image.{is_start, objects_of}
 use Rattle.gc_words.specs.Spelling.{link_at}
 use Rattle.gc_words.proofs.Public.{object_found}
 use Rattle.gc_heap.specs.Heap.{HeapWords, graph_in}
@@ -17,19 +18,11 @@ use Rattle.gc_copy.proofs.OpenCollection.{link_tells}
 
 -- an object of the graph starts at its address
 named_start : (words : List ℕ) (a : ℕ) → IsSome (lookup (objects_of words) a) → is_start words a ≡ true
-named_start words a h = go (block_at words a) (subst IsSome (object_found words a) h)
-  where
-    go : (b : Option Block) → IsSome (option_map object_of_block b) → is_some b ≡ true
-    go None k = absurd cc
-    go (Some b) k = refl
+named_start words a h = grind (arith, common_steps, object_found)
 
 -- a place below 2^32 is told as it is
 told_as_it_is : (link : ℕ) (o : Option ℕ) → link < 2 ^ 32 → (link ≡ 0 → o ≡ None) → ((link ≡ 0 → ⊥) → o ≡ Some link) → place_told (link % 2 ^ 32) ≡ o
-told_as_it_is link o small none some = let same : link % 2 ^ 32 ≡ link = omega (arith, small) in ap place_told same ∙ go (link == 0) refl
-  where
-    go : (z : Bool) → (link == 0) ≡ z → cond z None (Some link) ≡ o
-    go true e = sym (none (eqb-true link 0 e))
-    go false e = sym (some (eqb-false link 0 e))
+told_as_it_is link o small none some = grind (arith, common_steps, eqb-true, eqb-false)
 
 module _ (heap : HeapWords) (c : CollectionWords) (is : IsCollection c) (k : BelongsTo heap c) where
   room_tells : (room : RoomWords) (a : ℕ) → room.former ≡ heap.space.words → room.marked ≡ c.marked → IsSome (lookup (graph_in heap).objects a)

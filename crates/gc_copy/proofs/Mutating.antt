@@ -1,5 +1,6 @@
 -- The code of a mutator's command with its write barrier.
-use Rattle.std.proofs.Common.{◌≡◌, ◌≢◌, inl, ℕ, zero, suc, ◌-◌, Bool, List, [], ◌∷◌, ◌++◌, Option, Some, None, refl, ap, sym, ◌∙◌, subst, arith, append-nil}
+use Rattle.std.proofs.lemmas.Grind.{common_steps}
+use Rattle.std.proofs.Common.{◌≡◌, ◌≢◌, inl, ℕ, zero, suc, Bool, List, [], ◌∷◌, ◌++◌, Option, refl, ap, sym, ◌∙◌, subst, arith, append-nil}
 use Rattle.std.specs.Prelude.{slice_get, slice_set}
 use Rattle.std.specs.Option.{option_to_list}
 use Rattle.gc_graph.specs.Machine.{Roomy, roomy_step}
@@ -11,7 +12,7 @@ use Rattle.gc_graph.specs.declared.reply.Reply.TheVariants as replies
 use Rattle.gc_words.specs.Space.{end_of}
 use Rattle.gc_heap.specs.Heap.{HeapWords, IsHeap, KeepsLinks, graph_in, roomy_in}
 use Rattle.gc_heap.specs.Commands.{Performs}
-use Rattle.gc_plan.specs.State.{Collection, State}
+use Rattle.gc_plan.specs.State.{Collection}
 use Rattle.gc_plan.specs.Steps.{log_or_nil, log_at, with_log, WritesField, written, mutate}
 use Rattle.gc_graph.specs.Slots.{SlotName}
 use Rattle.gc_copy.specs.Internal.Entries.{if_done}
@@ -33,47 +34,17 @@ nothing_noted c m = let logs = set_kept c.logs m in λ i. record c { logs = logs
 pub mutate_is : (heap new : HeapWords) (c next : CollectionWords) (m : ℕ) (op : Op) (reply : Reply) (entries : List (ℕ × ℕ)) → IsHeap heap → new.space.size ≡ heap.space.size → new.mutators ≡ heap.mutators
     → roomy_step (roomy_in heap) m op (end_of heap.space) ≡ (reply, roomy_in new) → written (graph_in heap) m op reply ≡ entries → collection_in next ≡ with_log (collection_in c) m (log_at (collection_in c) m ++ entries)
     → mutate (open_state heap c) m op ≡ (reply, open_state new next)
-mutate_is heap new c next m op reply entries is size mutators step wrote noted =
-    let end : heap.space.size - (heap.space.size - end_of heap.space) ≡ end_of heap.space = (let high = (is.space).end_high in omega arith) in
-    let steps : roomy_step (roomy_in heap) m op (heap.space.size - (heap.space.size - end_of heap.space)) ≡ (reply, roomy_in new) = ap (roomy_step (roomy_in heap) m op) end ∙ step in
-    let left : Reply × Roomy → Reply × State = λ x. (x.0, record (open_state heap c) { heap = x.1; collection = Some (with_log (collection_in c) m (log_at (collection_in c) m ++ written (graph_in heap) m op x.0)) }) in
-    ap left steps
-    ∙ (λ i. (reply, record { mutators = sym mutators i; size = sym size i; heap = roomy_in new; collection = Some (with_log (collection_in c) m (log_at (collection_in c) m ++ wrote i)) }))
-    ∙ ap (λ d. (reply, record { mutators = new.mutators; size = new.space.size; heap = roomy_in new; collection = Some d })) (sym noted)
+mutate_is heap new c next m op reply entries is size mutators step wrote noted = grind (arith, common_steps)
 
 -- a `Put` writes only if its reply is `Done`
 nothing_put : (g : Graph) (m : ℕ) (s t : SlotName) (i : ℕ) (reply : Reply) → reply ≢ replies.Done → written g m (ops.Put s i t) reply ≡ []
-nothing_put g m s t i replies.Done other = absurd (other refl)
-nothing_put g m s t i replies.Full other = refl
-nothing_put g m s t i replies.Made other = refl
-nothing_put g m s t i replies.NoObject other = refl
-nothing_put g m s t i replies.NoField other = refl
-nothing_put g m s t i replies.NoNumber other = refl
-nothing_put g m s t i (replies.Saw view) other = refl
-nothing_put g m s t i replies.Yes other = refl
-nothing_put g m s t i replies.No other = refl
+nothing_put g m s t i reply other = grind (arith, common_steps)
 
 nothing : (g : Graph) (m : ℕ) (op : Op) (reply : Reply) → reply ≢ replies.Done → written g m op reply ≡ []
-nothing g m (ops.New d kind len) reply other = refl
-nothing g m (ops.NewRaw d kind len) reply other = refl
-nothing g m (ops.Num d n) reply other = refl
-nothing g m (ops.Nil d) reply other = refl
-nothing g m (ops.Move d s) reply other = refl
-nothing g m (ops.Get d s i) reply other = refl
-nothing g m (ops.Put s i t) reply other = nothing_put g m s t i reply other
-nothing g m (ops.Same s t) reply other = refl
-nothing g m (ops.Look s) reply other = refl
+nothing g m op reply other = grind (arith, common_steps, nothing_put)
 
 wrote_by_reply : (g : Graph) (m : ℕ) (op : Op) (reply : Reply) (o : Option (ℕ × ℕ)) → option_to_list o ≡ written g m op replies.Done → written g m op reply ≡ option_to_list (if_done reply o)
-wrote_by_reply g m op replies.Done o e = sym e
-wrote_by_reply g m op replies.Full o e = nothing g m op replies.Full (λ no. cc no)
-wrote_by_reply g m op replies.Made o e = nothing g m op replies.Made (λ no. cc no)
-wrote_by_reply g m op replies.NoObject o e = nothing g m op replies.NoObject (λ no. cc no)
-wrote_by_reply g m op replies.NoField o e = nothing g m op replies.NoField (λ no. cc no)
-wrote_by_reply g m op replies.NoNumber o e = nothing g m op replies.NoNumber (λ no. cc no)
-wrote_by_reply g m op (replies.Saw view) o e = nothing g m op (replies.Saw view) (λ no. cc no)
-wrote_by_reply g m op replies.Yes o e = nothing g m op replies.Yes (λ no. cc no)
-wrote_by_reply g m op replies.No o e = nothing g m op replies.No (λ no. cc no)
+wrote_by_reply g m op reply o e = grind (arith, common_steps, nothing)
 
 -- the entries to log, from the field that the code found and the reply
 pub wrote : (g : Graph) (m : ℕ) (op : Op) (reply : Reply) (put found : Option (ℕ × ℕ)) → option_to_list put ≡ written g m op replies.Done → found ≡ if_done reply put → written g m op reply ≡ option_to_list found
@@ -94,15 +65,7 @@ one_but heap new c m op reply a f k links mutators step one = (
 -- ---- commands that write no field
 
 no_put : (g : Graph) (m : ℕ) (op : Op) (reply : Reply) → ¬ WritesField op → written g m op reply ≡ []
-no_put g m (ops.New d kind len) reply none = refl
-no_put g m (ops.NewRaw d kind len) reply none = refl
-no_put g m (ops.Num d n) reply none = refl
-no_put g m (ops.Nil d) reply none = refl
-no_put g m (ops.Move d s) reply none = refl
-no_put g m (ops.Get d s i) reply none = refl
-no_put g m (ops.Put s i t) reply none = absurd (none tt)
-no_put g m (ops.Same s t) reply none = refl
-no_put g m (ops.Look s) reply none = refl
+no_put g m op reply none = grind (arith, common_steps)
 
 pub open_left : (heap new : HeapWords) (c : CollectionWords) (m : ℕ) (op : Op) (reply : Reply) → IsHeap heap → BelongsTo heap c → ¬ WritesField op → Performs heap m op reply new
     → (mutate (open_state heap c) m op ≡ (reply, open_state new c)) × BelongsTo new c
@@ -112,23 +75,11 @@ open_left heap new c m op reply is belongs none performs = (
 )
 
 pub idle_left : (heap new : HeapWords) (m : ℕ) (op : Op) (reply : Reply) → IsHeap heap → Performs heap m op reply new → mutate (idle_state heap) m op ≡ (reply, idle_state new)
-idle_left heap new m op reply is performs =
-    let end : heap.space.size - (heap.space.size - end_of heap.space) ≡ end_of heap.space = (let high = (is.space).end_high in omega arith) in
-    let steps : roomy_step (roomy_in heap) m op (heap.space.size - (heap.space.size - end_of heap.space)) ≡ (reply, roomy_in new) = ap (roomy_step (roomy_in heap) m op) end ∙ performs.step in
-    let left : Reply × Roomy → Reply × State = λ x. (x.0, record (idle_state heap) { heap = x.1 }) in
-    ap left steps ∙ (λ i. (reply, record { mutators = sym performs.mutators i; size = sym performs.size i; heap = roomy_in new; collection = None }))
+idle_left heap new m op reply is performs = grind (arith, common_steps)
 
 pub still_unlinked : (marked : Bool) (heap new : HeapWords) (m : ℕ) (op : Op) (reply : Reply) → Performs heap m op reply new → LinksNothing marked heap → LinksNothing marked new
 still_unlinked marked heap new m op reply performs none = nothing_linked heap new marked none performs.links
 
 -- a command other than `Put` writes no field
 pub no_other_writes : (op : Op) → ((s : SlotName) (i : ℕ) (t : SlotName) → op ≡ ops.Put s i t → ⊥) → ¬ WritesField op
-no_other_writes (ops.New d kind len) other = λ none. none
-no_other_writes (ops.NewRaw d kind len) other = λ none. none
-no_other_writes (ops.Num d n) other = λ none. none
-no_other_writes (ops.Nil d) other = λ none. none
-no_other_writes (ops.Move d s) other = λ none. none
-no_other_writes (ops.Get d s i) other = λ none. none
-no_other_writes (ops.Put s i t) other = λ put. other s i t refl
-no_other_writes (ops.Same s t) other = λ none. none
-no_other_writes (ops.Look s) other = λ none. none
+no_other_writes op other = grind (arith, common_steps)

@@ -1,8 +1,9 @@
 -- Loops over the objects of a space.
-use Rattle.std.proofs.Common.{◌≡◌, ℕ, ◌+◌, ◌<◌, ◌≤◌, true, List, [], ◌∷◌, ◌++◌, map, length, Some, refl, ap, sym, ◌∙◌, subst, arith, append_assoc, length-append, length-set, drop, Result, inl}
+use Rattle.std.proofs.lemmas.Grind.{common_steps}
+use Rattle.std.proofs.Common.{◌≡◌, ℕ, ◌+◌, ◌<◌, ◌≤◌, true, List, [], ◌∷◌, ◌++◌, map, length, Some, refl, ap, sym, ◌∙◌, subst, arith, append_assoc, length-append, inl}
 use Rattle.std.specs.Prelude.{◌^◌, IsOk, slice_set}
 use Rattle.std.proofs.lemmas.List.{map-append, length-map, drop-set-lt}
-use Rattle.gc_words.specs.Image.{Block, walk, walk_words, blocks, is_start, ok_or_nil}
+use Rattle.gc_words.specs.Image.{Block, blocks, is_start, ok_or_nil}
 use Rattle.gc_words.specs.Spelling.{link_at}
 use Rattle.gc_words.specs.Space.{SpaceWords, IsSpace}
 use Rattle.gc_words.specs.Views.{addresses}
@@ -25,11 +26,7 @@ pub record Met (words : List ℕ) (at : ℕ) (done : List (ℕ × Block)) : Type
   pub within : at ≤ length words
 
 pub met_none : (space : SpaceWords) → IsSpace space → Met space.words 1 []
-met_none space is = from space.words is.walked is.end_low is.count
-  where
-    from : (words : List ℕ) → IsOk (walk_words words) → 1 ≤ length space.words → length words ≡ length space.words → Met words 1 []
-    from [] walked low same = absurd (omega arith)
-    from (w ∷ ws) walked low same = record { split = refl; walked = walked; few = omega arith; within = omega arith }
+met_none space is = grind (arith, common_steps)
 
 -- the object here, and the walk after it
 pub record Passing (words : List ℕ) (at next : ℕ) (done : List (ℕ × Block)) : Type 0 where
@@ -101,32 +98,12 @@ link_small words at done small m less =
 
 -- there are no more pairs than words
 pub lists_few : (space : SpaceWords) (at : ℕ) (pairs : List Pair) → IsSpace space → Lists space.words at pairs → length pairs < 2 ^ 32
-lists_few space at pairs is k =
-    let count : length pairs ≡ length k.0 = sym (length-map pairs addresses) ∙ ap length k.2 ∙ length-map (map (replica_entry space.words) k.0) pair_of ∙ length-map k.0 (replica_entry space.words) in
-    let few = (k.1).few in
-    let within = (k.1).within in
-    let high = is.end_high in
-    let size = is.size_high in
-    omega (arith, count, few, within)
+lists_few space at pairs is k = grind (arith, common_steps, length-map)
 
 -- the walk so far, when the link of an object that was passed is set
 pub counts_unlinked : (words after : List ℕ) (at next count : ℕ) → after ≡ slice_set words (at + 1) 0 → blocks after ≡ blocks words → at + 1 < next → Counts words next count → Counts after next count
-counts_unlinked words after at next count is objects passed (done, m, counted) =
-    let kept : drop next after ≡ drop next words = ap (drop next) is ∙ drop-set-lt next words (at + 1) 0 passed in
-    let same : walk_from after next ≡ walk_from words next = ap (walk true 0 next) kept in (
-      done,
-      record {
-        split = objects ∙ m.split ∙ ap (λ (r : Result (List (ℕ × Block)) ℕ). done ++ ok_or_nil r) (sym same);
-        walked = subst IsOk (sym same) m.walked;
-        few = m.few;
-        within = subst (λ n. next ≤ n) (sym (ap length is ∙ length-set words (at + 1) 0)) m.within;
-      },
-      counted,
-    )
+counts_unlinked words after at next count is objects passed h = grind (arith, common_steps, drop-set-lt)
 
 -- where an object is passed its link word is passed too
 pub link_passed : (words : List ℕ) (at next count : ℕ) → Counts words at count → at < length words → next_of words at ≡ Some next → at + 1 < next
-link_passed words at next count k less e =
-    let b : Behind words at next = behind words at next less k.1.walked e in
-    let place = b.step.place in
-    omega arith
+link_passed words at next count k less e = grind (arith, common_steps, behind)

@@ -1,20 +1,21 @@
 -- The state of a heap of words with its open collection, and the invariant that ties them together.
+use Rattle.std.proofs.lemmas.Grind.{common_steps}
 use Rattle.gc_words.proofs.Public.{block_there, closed_field_read, stands_in, CanPlaceBlock, some_of, can_place_fresh, link_written, link_written_there, link_written_beside, object_found, field_found, graph_link, meaning_back, block_of_header, fields_counted, end_written, none_of}
-use Rattle.std.proofs.Common.{◌≡◌, ◌≢◌, ⊎_elim, inl, ℕ, ◌+◌, ◌-◌, ◌<◌, ◌≤◌, ◌==◌, nat_lt, Bool, true, false, cond, List, [], ◌∷◌, ◌++◌, length, Option, Some, None, Result, Ok, Err, is_some, refl, ap, sym, ◌∙◌, subst, arith}
+use Rattle.std.proofs.Common.{◌≡◌, ◌≢◌, ⊎_elim, inl, ℕ, ◌+◌, ◌-◌, ◌<◌, ◌≤◌, ◌==◌, nat_lt, Bool, true, false, cond, List, [], ◌∷◌, ◌++◌, length, Option, Some, None, Result, is_some, refl, ap, sym, ◌∙◌, subst, arith}
 use Rattle.std.specs.List.{find}
 use Rattle.std.proofs.lemmas.Bool.{cases_Bool, cases_lt, cond-true, cond-false, cond_both, eqb-true, eqb-false, eq-eqb, ne_eqb, le-ltb, lt-ltb}
 use Rattle.std.proofs.lemmas.List.{length-map}
 use Rattle.std.specs.Option.{option_map}
-use Rattle.std.specs.Prelude.{IsOk, ◌^◌, IsSome, OnOk, OnErr, slice_get}
+use Rattle.std.specs.Prelude.{IsOk, ◌^◌, IsSome, OnOk, OnErr}
 use Rattle.gc_heap.proofs.Public.{named}
 use Rattle.gc_graph.specs.Graph.{Value, Nil, Num, Ref, Object, Graph, lookup, field_of}
 use Rattle.gc_words.specs.Word.{HasAddress, word_of, field_value}
 use Rattle.gc_words.specs.Word.{value_of}
-use Rattle.gc_words.specs.Image.{walk_words, Block, blocks, fresh_block, header_of, block_in, block_at, is_start, header_at, field_in, field_at, object_of_block, objects_of}
+use Rattle.gc_words.specs.Image.{walk_words, Block, blocks, header_of, block_in, block_at, is_start, header_at, field_in, field_at, object_of_block, objects_of}
 use Rattle.gc_words.specs.Spelling.{link_at, IsBlock}
 use Rattle.gc_words.specs.Layout.{link_place, field_place}
 use Rattle.gc_words.specs.Space.{SpaceWords, IsSpace, HasRoomFor, end_of, free_in, with_block, with_word}
-use Rattle.gc_words.specs.Closed.{RefersToStart, IsRootWord, IsWordOfField}
+use Rattle.gc_words.specs.Closed.{IsRootWord, IsWordOfField}
 use Rattle.gc_words.specs.declared.header.Header.{Header}
 use Rattle.gc_words.specs.Walking.{StandsIn}
 use Rattle.gc_graph.specs.Graph.{name_of}
@@ -49,25 +50,11 @@ pub start_kept : (old new : HeapWords) (a : ℕ) → KeepsGraph old new → is_s
 start_kept old new a k = ap (λ bs. is_some (block_in bs a)) k.blocks
 
 pub root_word_kept : (old new : HeapWords) (w : ℕ) → KeepsGraph old new → IsRootWord old.space.words w → IsRootWord new.space.words w
-root_word_kept old new w k is = record { value = is.value; start = by (value_of w) is.start }
-  where
-    by : (v : Value) → RefersToStart old.space.words v → RefersToStart new.space.words v
-    by Nil h = tt
-    by (Num n) h = tt
-    by (Ref a) h = start_kept old new a k ∙ h
+root_word_kept old new w k is = grind (arith, common_steps, start_kept)
 
 -- mutators do not see links
 pub linked_heap : (heap : HeapWords) (name place : ℕ) → IsHeap heap → is_start heap.space.words name ≡ true → KeepsGraph heap (record heap { space = with_word heap.space (link_place name) place })
-linked_heap heap name place is start =
-    let graph = graph_link heap.space name place heap.roots is.space start in
-    let end = end_written heap.space (link_place name) place in
-    record {
-      mutators = refl;
-      size = refl;
-      roots = refl;
-      heap = λ i. record { graph = graph i; free = heap.space.size - end i };
-      blocks = (link_written heap.space name place is.space start).1;
-    }
+linked_heap heap name place is start = grind (arith, common_steps, graph_link, end_written, link_written)
 
 -- ---- the collection as a part of a state
 
@@ -76,11 +63,7 @@ opened heap c is k = record { belongs = k.belongs; size = (is.space).size_high; 
 
 -- a collection belongs to the heap of words if it belongs to the state and the links lead to its replicas
 pub closed : (heap new : HeapWords) (before after : CollectionWords) → KeepsGraph heap new → BelongsTo heap before → length after.logs ≡ length before.logs → IsOpened (open_state heap before) (collection_in after) → LinksReplicas after.marked new (collection_in after) → BelongsTo new after
-closed heap new before after same k count is links = record {
-  belongs = subst (λ (g : Graph). Belongs g.objects (collection_in after)) (sym (graph_kept heap new same)) is.belongs;
-  links = links;
-  logs = count ∙ k.logs ∙ sym same.mutators;
-}
+closed heap new before after same k count is links = grind (arith, common_steps, graph_kept)
 
 -- after a step other than a flip
 pub after_step : (heap new : HeapWords) (c next : CollectionWords) (step : Step) (reply : StepReply) → step ≢ steps.Flip → IsCollection c → BelongsTo heap c → KeepsGraph heap new → length next.logs ≡ length c.logs
@@ -101,17 +84,11 @@ find_push p (x ∷ xs) y none is = ⊎_elim
 
 find_push_other : {X : Type 0} (p : X → Bool) (xs : List X) (y : X) → p y ≡ false → find p (xs ++ y ∷ []) ≡ find p xs
 find_push_other p [] y is = cond-false (p y) (Some y) None is
-find_push_other p (x ∷ xs) y is = ⊎_elim
-    (λ t. cond-true (p x) (Some x) (find p (xs ++ y ∷ [])) t ∙ sym (cond-true (p x) (Some x) (find p xs) t))
-    (λ f. cond-false (p x) (Some x) (find p (xs ++ y ∷ [])) f ∙ find_push_other p xs y is ∙ sym (cond-false (p x) (Some x) (find p xs) f))
-    (cases_Bool (p x))
+find_push_other p (x ∷ xs) y is = grind (arith, common_steps, cond-false, cond-true, cases_Bool, find_push_other p xs y is)
 
 -- a replica is found at the same place after a write
 zero_of_none : (o : Option Replica) (p : Option Replica) → option_map (λ r. r.place) o ≡ option_map (λ (r : Replica). r.place) p → place_or_zero o ≡ place_or_zero p
-zero_of_none None None e = refl
-zero_of_none None (Some q) e = absurd (let no : None ≡ Some q.place = e in cc)
-zero_of_none (Some r) None e = absurd (let no : Some r.place ≡ None = e in cc)
-zero_of_none (Some r) (Some q) e = let s : Some r.place ≡ Some q.place = e in cc
+zero_of_none o p e = grind (arith, common_steps)
 
 -- writing a field does not change the old links
 pub links_written : (c : Collection) (name i a : ℕ) (v : Value) → old_links (write_replica c name i v) a ≡ old_links c a
@@ -136,9 +113,7 @@ links_placed heap marked c r is start links none a there = ⊎_elim
     (cases_Bool (r.original == a))
 
 can_place_replica : (s : SpaceWords) (b : Block) → IsSpace s → IsBlock b → HasRoomFor s b.header.len → CanPlaceBlock s (replica_block b)
-can_place_replica s b shaped whole room = cond_both b.header.raw b (fresh_block b.header) (CanPlaceBlock s)
-    (λ t. record { shaped = shaped; whole = whole; room = room })
-    (λ t. can_place_fresh s b.header (record { shaped = shaped; header = whole.header; room = room }))
+can_place_replica s b shaped whole room = grind (arith, common_steps, cond_both, can_place_fresh)
 
 -- the new replica starts at the old end
 pub placed_start : (s one : SpaceWords) (words : List ℕ) (a place : ℕ) → IsSpace s → IsOk (walk_words words) → is_start words a ≡ true → ((h : Header) → header_at words a ≡ Some h → HasRoomFor s h.len)
@@ -174,10 +149,7 @@ module _ (heap : HeapWords) (c : CollectionWords) (name : ℕ) (h : Header) (hea
   free = ap (λ n. c.space.size - n) (new_end_is c is.space)
 
   pub full : (HasRoomFor c.space h.len → ⊥) → place_replica (collection_in c) name (lookup (graph_in heap).objects name) ≡ None
-  full none =
-      ap (place_replica (collection_in c) name) found
-      ∙ cond-true (nat_lt (new_free (collection_in c)) (length (object_of_block block.0).fields + 2)) None _
-      (lt-ltb _ _ (⊎_elim (λ l. omega (arith, l, count, free)) (λ k. absurd (none (omega (arith, k)))) (cases_lt (free_in c.space) (h.len + 2))))
+  full none = grind (arith, common_steps, found, cond-true, lt-ltb, count, free, cases_lt)
 
   stands : StandsIn heap.space.words name block.0
   stands = stands_in heap.space.words name block.0 (heap_is.space).walked block.1
@@ -237,12 +209,7 @@ module _ (heap : HeapWords) (c : CollectionWords) (name : ℕ) (h : Header) (hea
 
 -- the target already has a replica, or there is no target
 pub replicated_already : (c : Collection) (g : Graph) (w : ℕ) → HasReplicaOf c (value_of w) → with_replica c g (value_of w) ≡ Some c
-replicated_already c g w h = by (value_of w) h
-  where
-    by : (v : Value) → HasReplicaOf c v → with_replica c g v ≡ Some c
-    by Nil h = refl
-    by (Num n) h = refl
-    by (Ref a) h = cond-true (is_some (replica_of c a)) (Some c) (place_replica c a (lookup g.objects a)) h
+replicated_already c g w h = grind (arith, common_steps, cond-true)
 
 -- once placed, the target has a replica
 pub placed_has : (c next : Collection) (a : ℕ) (o : Option Object) → place_replica c a o ≡ Some next → IsSome (replica_of next a)
@@ -294,11 +261,7 @@ bringing objects c name i w place v is belongs found there means = from (replica
 -- ---- fields
 
 block_of_object : (words : List ℕ) (a : ℕ) (o : Object) → lookup (objects_of words) a ≡ Some o → (b : Block) × (block_at words a ≡ Some b) × (object_of_block b ≡ o)
-block_of_object words a o e = from (block_at words a) refl (sym (object_found words a) ∙ e)
-  where
-    from : (x : Option Block) → block_at words a ≡ x → option_map object_of_block x ≡ Some o → (b : Block) × (block_at words a ≡ Some b) × (object_of_block b ≡ o)
-    from None f g = absurd (let no : None ≡ Some o = g in cc)
-    from (Some b) f g = (b, f, (let s : Some (object_of_block b) ≡ Some o = g in cc))
+block_of_object words a o e = grind (arith, common_steps, object_found)
 
 -- an object has as many fields as its words say
 pub field_present : (words : List ℕ) (a i : ℕ) (o : Object) → lookup (objects_of words) a ≡ Some o → i < length o.fields → IsSome (field_at words a i)
@@ -309,17 +272,10 @@ field_present words a i o e less =
     ap is_some (ap (λ x. field_in x i) b.1 ∙ w.1)
 
 pub field_below : (words : List ℕ) (a i : ℕ) (o : Object) → lookup (objects_of words) a ≡ Some o → IsSome (field_at words a i) → i < length o.fields
-field_below words a i o e there =
-    let b = block_of_object words a o e in
-    let count : length o.fields ≡ length b.0.fields = ap (λ (x : Object). length x.fields) (sym b.2) ∙ length-map b.0.fields (field_value b.0.header) in
-    let w : (w : ℕ) × (slice_get b.0.fields i ≡ Some w) = some_of (slice_get b.0.fields i) (subst (λ x. IsSome (field_in x i)) b.1 there) in
-    let less = get_past b.0.fields i w.0 w.1 in
-    omega (arith, count, less)
+field_below words a i o e there = grind (arith, common_steps, block_of_object, count, length-map, some_of, get_past)
 
 pub replica_object : (objects : List (ℕ × Object)) (c : CollectionWords) (r : Replica) → Belongs objects (collection_in c) → In r (replicas_in c.space.words) → lookup (objects_of c.space.words) r.place ≡ Some r.object
-replica_object objects c r belongs l =
-    subst (λ os. lookup os r.place ≡ Some r.object) (new_objects_are c)
-    (lookup_laid 1 (new_objects (collection_in c)) (new_end (collection_in c)) r.place r.object belongs.laid (in_map placed r (replicas_in c.space.words) l))
+replica_object objects c r belongs l = grind (arith, common_steps, object, new_objects_are, lookup_laid, in_map, placed)
 
 -- the replica has every field that the original has
 pub field_of_replica : (heap : HeapWords) (c : CollectionWords) (name i place : ℕ) → Belongs (graph_in heap).objects (collection_in c) → option_map (λ r. r.place) (replica_of (collection_in c) name) ≡ Some place
@@ -395,38 +351,7 @@ not_brought g c name i v field target = ap (bring_value c g name i) field ∙ ap
 
 -- placing one object's replica leaves the others
 pub kept_replica : (c next : Collection) (g : Graph) (v : Value) (a place : ℕ) → with_replica c g v ≡ Some next → option_map (λ r. r.place) (replica_of c a) ≡ Some place → option_map (λ r. r.place) (replica_of next a) ≡ Some place
-kept_replica c next g v a place e found = by v e
-  where
-    same : c ≡ next → option_map (λ r. r.place) (replica_of next a) ≡ Some place
-    same s = subst (λ (d : Collection). option_map (λ (r : Replica). r.place) (replica_of d a) ≡ Some place) s found
-
-    grown : (name : ℕ) (o : Option Object) → replica_of c name ≡ None → place_replica c name o ≡ Some next → option_map (λ r. r.place) (replica_of next a) ≡ Some place
-    grown name None none e = absurd (let no : None ≡ Some next = e in cc)
-    grown name (Some o) none e = at (nat_lt (new_free c) (length o.fields + 2)) e
-      where
-        r : Replica
-        r = fresh_replica name (new_end c) o
-
-        other : (name == a) ≡ false
-        other = ne_eqb name a (λ s.
-            let gone : option_map (λ (r : Replica). r.place) (replica_of c a) ≡ None = ap (option_map (λ (r : Replica). r.place)) (subst (λ n. replica_of c n ≡ None) s none) in
-            let no : None ≡ Some place = sym gone ∙ found in absurd cc)
-
-        at : (b : Bool) → cond b None (Some (record c { replicas = c.replicas ++ r ∷ [] })) ≡ Some next → option_map (λ r. r.place) (replica_of next a) ≡ Some place
-        at true e = absurd (let no : None ≡ Some next = e in cc)
-        at false e =
-            let s : record c { replicas = c.replicas ++ r ∷ [] } ≡ next = (let f : Some (record c { replicas = c.replicas ++ r ∷ [] }) ≡ Some next = e in cc) in
-            subst (λ (d : Collection). option_map (λ (q : Replica). q.place) (replica_of d a) ≡ Some place) s
-            (ap (option_map (λ (q : Replica). q.place)) (find_push_other (λ (q : Replica). q.original == a) c.replicas r other) ∙ found)
-
-    by : (v : Value) → with_replica c g v ≡ Some next → option_map (λ r. r.place) (replica_of next a) ≡ Some place
-    by Nil e = same (let f : Some c ≡ Some next = e in cc)
-    by (Num n) e = same (let f : Some c ≡ Some next = e in cc)
-    by (Ref name) e = at (is_some (replica_of c name)) refl e
-      where
-        at : (b : Bool) → is_some (replica_of c name) ≡ b → cond b (Some c) (place_replica c name (lookup g.objects name)) ≡ Some next → option_map (λ r. r.place) (replica_of next a) ≡ Some place
-        at true t e = same (let f : Some c ≡ Some next = e in cc)
-        at false t e = grown name (lookup g.objects name) (none_of (replica_of c name) t) e
+kept_replica c next g v a place e found = grind (arith, common_steps, found, ne_eqb, find_push_other, none_of)
 
 -- what an object's link has above the mark is its replica's address, or 0
 pub record Tells (c : CollectionWords) (a link : ℕ) : Type 0 where
@@ -466,12 +391,10 @@ placing_done heap new c next name end link place h one heap_is is k start none h
 -- ---- results
 
 pub on_ok : {X Y : Type 0} (P Q : Type 0) (r : Result X Y) → (P → Q) → OnOk r P → OnOk r Q
-on_ok P Q (Ok x) f h = f h
-on_ok P Q (Err e) f h = tt
+on_ok P Q r f h = grind (arith, common_steps)
 
 pub if_err : {X Y : Type 0} (P : Type 0) (r : Result X Y) → P → OnErr r P
-if_err P (Ok x) h = tt
-if_err P (Err e) h = h
+if_err P r h = grind (arith, common_steps)
 
 -- ---- facts about the heap's words
 
@@ -583,9 +506,4 @@ module _ (heap : HeapWords) (c x : CollectionWords) (name i w place : ℕ) (heap
 
 -- a word without a target is copied as it is
 pub unmoved : (c : Collection) (w : ℕ) → None ≡ name_of (value_of w) → w ≡ word_of (moved c (value_of w))
-unmoved c w e = sym (word_back w) ∙ ap word_of (by (value_of w) e)
-  where
-    by : (v : Value) → None ≡ name_of v → v ≡ moved c v
-    by Nil e = refl
-    by (Num n) e = refl
-    by (Ref a) e = absurd (let no : None ≡ Some a = e in cc)
+unmoved c w e = grind (arith, common_steps, word_back)

@@ -1,10 +1,11 @@
 -- Walks over the root words.
-use Rattle.std.proofs.Common.{Option, Some, None, arith, ◌≡◌, ℕ, suc, zero, ◌-◌, ◌/◌, ◌%◌, ◌==◌, ◌<◌, ◌≤◌, Bool, true, false, cond, List, [], ◌∷◌, ◌++◌, map, drop, take, replicate, length, length-take, get_or, slice_get, is_some, refl, ap, sym, ◌∙◌, subst, append-nil, inl, inr}
+use Rattle.std.proofs.lemmas.Grind.{common_steps}
+use Rattle.std.proofs.Common.{Option, Some, None, arith, ◌≡◌, ℕ, suc, zero, ◌-◌, ◌<◌, ◌≤◌, true, List, [], ◌∷◌, ◌++◌, map, drop, take, replicate, length, length-take, get_or, slice_get, refl, ap, sym, ◌∙◌, subst, append-nil, inl, inr}
 use Rattle.std.proofs.lemmas.Bool.{eqb-true}
 use Rattle.std.proofs.lemmas.List.{drop_all, get_or-take, length-append, length-map, map-append, take-append-drop}
 use Rattle.std.specs.Prelude.{IfSome}
 use Rattle.std.specs.Option.{option_map}
-use Rattle.gc_graph.specs.Graph.{Value, Nil, Num, Ref, Graph, root, value_or_nil}
+use Rattle.gc_graph.specs.Graph.{Value, Nil, Graph, root, value_or_nil}
 use Rattle.gc_words.specs.Word.{value_of, word_of}
 use Rattle.gc_heap.specs.Heap.{HeapWords, graph_in}
 use Rattle.gc_plan.specs.State.{Collection, moved}
@@ -42,9 +43,7 @@ get_or_in (w ∷ ws) zero h = inl refl
 get_or_in (w ∷ ws) (suc i) h = inr (get_or_in ws i (omega arith))
 
 has_one : (c : Collection) (v : Value) → HasReplica c v → HasReplicaOf c v
-has_one c Nil h = tt
-has_one c (Num n) h = tt
-has_one c (Ref a) h = ap is_some h.1
+has_one c v h = grind (arith, common_steps)
 
 -- once the roots are done, every target of a root has a replica
 pub root_has_replica : (heap : HeapWords) (c : Collection) (words : List ℕ) (i : ℕ) → words ≡ heap.roots → i < length words → roots_done c (graph_in heap) ≡ true → HasReplicaOf c (value_of (get_or words i 0))
@@ -68,12 +67,7 @@ end_of_all words k h = λ p l. past_all words p (omega arith)
 
 -- only 0 is nil
 nil_word : (w : ℕ) → value_of w ≡ Nil → w ≡ 0
-nil_word w = by (w == 0) refl (w % 2 == 1)
-  where
-    by : (z : Bool) → (w == 0) ≡ z → (o : Bool) → cond z Nil (cond o (Num (w / 2)) (Ref (w / 2))) ≡ Nil → w ≡ 0
-    by true e o h = eqb-true w 0 e
-    by false e true h = absurd (let no : Num (w / 2) ≡ Nil = h in cc)
-    by false e false h = absurd (let no : Ref (w / 2) ≡ Nil = h in cc)
+nil_word w = grind (arith, common_steps, eqb-true)
 
 pub nil_words : (words : List ℕ) (k : ℕ) → EndsAt words k → drop k words ≡ replicate (length words - k) 0
 nil_words [] k h = drop_all k [] (omega arith) ∙ ap (λ n. replicate n 0) (let none : 0 ≡ 0 - k = omega arith in none)
@@ -93,9 +87,7 @@ moved_nils c (suc n) = let rest = moved_nils c n in λ i. 0 ∷ rest i
 
 -- each of the first k targets has a replica
 pub first_has_replica : (heap : HeapWords) (c : Collection) (words : List ℕ) (k i : ℕ) → words ≡ heap.roots → i < length (take k words) → roots_done c (graph_in heap) ≡ true → HasReplicaOf c (value_of (get_or (take k words) i 0))
-first_has_replica heap c words k i same h done =
-    let taken = length-take k words in
-    subst (λ w. HasReplicaOf c (value_of w)) (sym (get_or-take k words i 0 (omega arith))) (root_has_replica heap c words i same (omega arith) done)
+first_has_replica heap c words k i same h done = grind (arith, common_steps, get_or-take, root_has_replica)
 
 -- where k roots are moved, and the others are nil
 pub moved_first : (heap : HeapWords) (c : Collection) (words row : List ℕ) (k i : ℕ) → k ≤ length heap.roots → EndsAt heap.roots k → words ≡ take k heap.roots → length words ≤ i
@@ -123,17 +115,11 @@ moved_first heap c words row k i within ends same past e =
 
 -- where all are
 pub moved_whole : (heap : HeapWords) (c : Collection) (row : List ℕ) → length row ≡ length heap.roots → AreMoved row heap c → row ≡ new_root_words heap c
-moved_whole heap c row same is =
-    sym (append-nil row)
-    ∙ ap (λ n. row ++ replicate n 0) (let none : 0 ≡ length heap.roots - length row = omega arith in none)
-    ∙ is.moved
+moved_whole heap c row same is = grind (arith, common_steps)
 
 -- no more are moved than there are
 pub moved_within : (heap : HeapWords) (c : Collection) (row : List ℕ) → AreMoved row heap c → length row ≤ length heap.roots
-moved_within heap c row is =
-    let all : length (row ++ replicate (length heap.roots - length row) 0) ≡ length (new_root_words heap c) = ap length is.moved in
-    let moved : length (new_root_words heap c) ≡ length heap.roots = ap length (sym (all_moved heap c)) ∙ length-map heap.roots (moved_to c) in
-    omega (arith, length-append row (replicate (length heap.roots - length row) 0))
+moved_within heap c row is = grind (arith, common_steps, all_moved, length-map, length-append)
 
 -- written over the first roots, they are all roots moved
 pub moved_over : (heap : HeapWords) (c : Collection) (row : List ℕ) → AreMoved row heap c → row ++ drop (length row) heap.roots ≡ new_root_words heap c

@@ -1,29 +1,29 @@
 -- The code of the scan.
+use Rattle.std.proofs.lemmas.Grind.{common_steps}
 use Rattle.gc_words.proofs.Public.{stands_in, block_of_header, fields_counted, object_found}
-use Rattle.std.proofs.Common.{◌≡◌, ⊎_elim, ℕ, suc, ◌+◌, ◌<◌, ◌≤◌, ◌==◌, ◌||◌, ◌⊎◌, Bool, true, false, length, Some, None, refl, ap, sym, ◌∙◌, subst, arith}
+use Rattle.std.proofs.Common.{◌≡◌, ⊎_elim, ℕ, ◌+◌, ◌<◌, ◌≤◌, ◌||◌, ◌⊎◌, Bool, true, false, length, Some, None, refl, ap, sym, ◌∙◌, subst, arith}
 use Rattle.std.specs.Prelude.{◌^◌, IsSome}
 use Rattle.std.specs.Option.{option_map}
 use Rattle.std.proofs.lemmas.Bool.{cond-true, cond-false, eq-eqb, ne_eqb, eqb-false, or_left, or_right}
-use Rattle.gc_graph.specs.Graph.{Object, lookup}
+use Rattle.gc_graph.specs.Graph.{lookup}
 use Rattle.gc_words.specs.Image.{Block, block_at, is_start, header_at, field_at, object_of_block, objects_of}
 use Rattle.gc_words.specs.Spelling.{link_at}
 use Rattle.gc_words.specs.declared.header.Header.{Header}
 use Rattle.gc_heap.specs.Heap.{HeapWords, graph_in}
 use Rattle.gc_plan.specs.State.{Replica, new_end, replica_of, replica_at}
-use Rattle.gc_plan.specs.Steps.{scan_done, scan, scan_replica, next_object, next_field, if_room, bring_up_to_date, with_collection}
+use Rattle.gc_plan.specs.Steps.{scan_done, scan, next_object, next_field, if_room, bring_up_to_date, with_collection}
 use Rattle.gc_plan.specs.Members.{In}
 use Rattle.gc_plan.specs.Belonging.{IsDue}
 use Rattle.gc_copy.specs.Words.{CollectionWords, IsCollection, replicas_in, collection_in, open_state, BelongsTo}
 use Rattle.gc_copy.specs.Internal.Words.{KeepsGraph, KeepsRest}
 use Rattle.gc_plan.specs.declared.step.Step.TheVariants as steps
-use Rattle.gc_plan.specs.declared.step.StepReply.TheVariants.{Clean, Passed, Scanned, NoRoom}
+use Rattle.gc_plan.specs.declared.step.StepReply.TheVariants.{Passed, Scanned, NoRoom}
 use Rattle.gc_plan.proofs.Public.{found_by_name, found_by_place}
 use Rattle.gc_copy.proofs.Spaces.{in_start, replica_start}
 use Rattle.gc_copy.proofs.OpenCollection.{state_kept, same_graph, after_step, field_present, replica_object}
 
 neither : (a b : Bool) → a ≡ false → b ≡ false → (a || b) ≡ false
-neither true b e f = absurd cc
-neither false b e f = f
+neither a b e f = grind (arith, common_steps)
 
 module _ (heap : HeapWords) (x : CollectionWords) (is : IsCollection x) (k : BelongsTo heap x) (more : scan_done (collection_in x) ≡ false) where
   -- the replica at the scan pointer
@@ -34,9 +34,7 @@ module _ (heap : HeapWords) (x : CollectionWords) (is : IsCollection x) (k : Bel
   found = subst (λ n. replica_at (collection_in x) n ≡ Some at.0) at.2 (found_by_place (IsDue (collection_in x)) (graph_in heap).objects (collection_in x) k.belongs at.0 at.1)
 
   pub start : is_start x.space.words x.scan_place ≡ true
-  start =
-      let e = replica_start x.space.words at.0 at.1 in
-      subst (λ n. is_start x.space.words n ≡ true) (ap (λ (r : Replica). r.place) e.2 ∙ at.2) (in_start x.space.words e.0 e.1)
+  start = grind (arith, common_steps, replica_start, at, in_start)
 
   original : link_at x.space.words x.scan_place ≡ at.0.original
   original =
@@ -50,9 +48,7 @@ module _ (heap : HeapWords) (x : CollectionWords) (is : IsCollection x) (k : Bel
       (b.0, b.1, b.2, (let s : Some (object_of_block b.0) ≡ Some at.0.object = sym (object_found x.space.words x.scan_place ∙ ap (option_map object_of_block) b.1) ∙ o in cc))
 
   count : (h : Header) → header_at x.space.words x.scan_place ≡ Some h → length at.0.object.fields ≡ h.len
-  count h e =
-      let b = stands_there h e in
-      sym (ap (λ (o : Object). length o.fields) b.3) ∙ fields_counted x.space.words x.scan_place b.0 (is.space).walked b.1 ∙ ap (λ (h : Header). h.len) b.2
+  count h e = grind (arith, common_steps, stands_there, fields_counted)
 
   -- an object's length fits 16 bits, like that of every header
   pub len_small : (h : Header) → header_at x.space.words x.scan_place ≡ Some h → h.len < 65536
@@ -61,9 +57,7 @@ module _ (heap : HeapWords) (x : CollectionWords) (is : IsCollection x) (k : Bel
       subst (λ (h : Header). h.len < 65536) b.2 ((stands_in x.space.words x.scan_place b.0 (is.space).walked b.1).whole.header).len
 
   raw_is : (h : Header) → header_at x.space.words x.scan_place ≡ Some h → at.0.object.raw ≡ h.raw
-  raw_is h e =
-      let b = stands_there h e in
-      sym (ap (λ (o : Object). o.raw) b.3) ∙ ap (λ (h : Header). h.raw) b.2
+  raw_is h e = grind (arith, common_steps, stands_there)
 
   pub small : link_at x.space.words x.scan_place < 2 ^ 32
   small = subst (λ n. n < 2 ^ 32) (sym original) (is.originals at.0 at.1)
@@ -88,29 +82,17 @@ module _ (heap : HeapWords) (x : CollectionWords) (is : IsCollection x) (k : Bel
   next_small h e other = let n = count h e in let most = at.3 in omega (arith, n, other)
 
   passes : (h : Header) → header_at x.space.words x.scan_place ≡ Some h → (h.raw ≡ true) ⊎ (x.scan_field ≡ h.len) → scan (open_state heap x) (collection_in x) ≡ (Passed, with_collection (open_state heap x) (Some (next_object (collection_in x) at.0)))
-  passes h e all =
-      cond-false (scan_done (collection_in x)) (Clean, open_state heap x) (scan_replica (open_state heap x) (collection_in x) (replica_at (collection_in x) x.scan_place)) more
-      ∙ ap (scan_replica (open_state heap x) (collection_in x)) found
-      ∙ cond-true (at.0.object.raw || (x.scan_field == length at.0.object.fields)) _ _ (⊎_elim
-      (λ raw. or_left at.0.object.raw (x.scan_field == length at.0.object.fields) (raw_is h e ∙ raw))
-      (λ same. or_right at.0.object.raw (x.scan_field == length at.0.object.fields) (eq-eqb x.scan_field (length at.0.object.fields) (same ∙ sym (count h e))))
-      all)
+  passes h e all = grind (arith, common_steps, cond-false, found, cond-true, at, or_left, raw_is, or_right, eq-eqb, count)
 
   pub passed : (h : Header) → header_at x.space.words x.scan_place ≡ Some h → (h.raw ≡ true) ⊎ (x.scan_field ≡ h.len) → (place : ℕ) → place ≡ x.scan_place + (h.len + 2)
       → scan (open_state heap x) (collection_in x) ≡ (Passed, open_state heap (record x { scan_place = place; scan_field = 0 }))
-  passed h e all place is_there =
-      let p : x.scan_place + (length at.0.object.fields + 2) ≡ place = ap (λ n. x.scan_place + (n + 2)) (count h e) ∙ sym is_there in
-      passes h e all ∙ ap (λ n. (Passed, open_state heap (record x { scan_place = n; scan_field = 0 }))) p
+  passed h e all place is_there = grind (arith, common_steps, at, count, passes)
 
   pub passed_belongs : (h : Header) → header_at x.space.words x.scan_place ≡ Some h → (h.raw ≡ true) ⊎ (x.scan_field ≡ h.len) → (place : ℕ) → place ≡ x.scan_place + (h.len + 2) → BelongsTo heap (record x { scan_place = place; scan_field = 0 })
   passed_belongs h e all place is_there = after_step heap heap x (record x { scan_place = place; scan_field = 0 }) steps.Scan Passed (λ no. cc no) is k (same_graph heap) refl (passed h e all place is_there) k.links
 
   scans : (h : Header) → header_at x.space.words x.scan_place ≡ Some h → h.raw ≡ false → (x.scan_field ≡ h.len → ⊥) → scan (open_state heap x) (collection_in x) ≡ if_room (open_state heap x) Scanned (next_field (bring_up_to_date (collection_in x) (graph_in heap) (link_at x.space.words x.scan_place) x.scan_field))
-  scans h e plain other =
-      cond-false (scan_done (collection_in x)) (Clean, open_state heap x) (scan_replica (open_state heap x) (collection_in x) (replica_at (collection_in x) x.scan_place)) more
-      ∙ ap (scan_replica (open_state heap x) (collection_in x)) found
-      ∙ cond-false (at.0.object.raw || (x.scan_field == length at.0.object.fields)) _ _ (neither at.0.object.raw (x.scan_field == length at.0.object.fields) (raw_is h e ∙ plain) (ne_eqb x.scan_field (length at.0.object.fields) (λ s. other (s ∙ count h e))))
-      ∙ ap (λ a. if_room (open_state heap x) Scanned (next_field (bring_up_to_date (collection_in x) (graph_in heap) a x.scan_field))) (sym original)
+  scans h e plain other = grind (arith, common_steps, cond-false, found, at, neither, raw_is, ne_eqb, count, original)
 
   pub no_room : (h : Header) → header_at x.space.words x.scan_place ≡ Some h → h.raw ≡ false → (x.scan_field ≡ h.len → ⊥) → bring_up_to_date (collection_in x) (graph_in heap) (link_at x.space.words x.scan_place) x.scan_field ≡ None
       → scan (open_state heap x) (collection_in x) ≡ (NoRoom, open_state heap x)
@@ -120,12 +102,7 @@ module _ (heap : HeapWords) (x : CollectionWords) (is : IsCollection x) (k : Bel
   pub scanned : (h : Header) → header_at x.space.words x.scan_place ≡ Some h → h.raw ≡ false → (x.scan_field ≡ h.len → ⊥) → (new : HeapWords) (after : CollectionWords) → KeepsGraph heap new → KeepsRest x after
       → bring_up_to_date (collection_in x) (graph_in heap) (link_at x.space.words x.scan_place) x.scan_field ≡ Some (collection_in after)
       → scan (open_state heap x) (collection_in x) ≡ (Scanned, open_state new (record after { scan_field = x.scan_field + 1 }))
-  scanned h e plain other new after graph rest brought =
-      let field : suc after.scan_field ≡ x.scan_field + 1 = (let s = rest.scan_field in omega arith) in
-      scans h e plain other
-      ∙ ap (λ o. if_room (open_state heap x) Scanned (next_field o)) brought
-      ∙ ap (λ n. (Scanned, open_state heap (record after { scan_field = n }))) field
-      ∙ ap (λ s. (Scanned, s)) (sym (state_kept heap new (Some (collection_in (record after { scan_field = x.scan_field + 1 }))) graph))
+  scanned h e plain other new after graph rest brought = grind (arith, common_steps, scans, state_kept)
 
   pub scanned_belongs : (h : Header) → header_at x.space.words x.scan_place ≡ Some h → h.raw ≡ false → (x.scan_field ≡ h.len → ⊥) → (new : HeapWords) (after : CollectionWords) → KeepsGraph heap new → KeepsRest x after → BelongsTo new after
       → bring_up_to_date (collection_in x) (graph_in heap) (link_at x.space.words x.scan_place) x.scan_field ≡ Some (collection_in after)

@@ -1,4 +1,5 @@
 -- The entries of a log that lie in segments.
+use Rattle.std.proofs.lemmas.Grind.{common_steps}
 use Rattle.std.proofs.Common.{◌≡◌, ℕ, suc, zero, ◌+◌, ◌-◌, ◌*◌, ◌<◌, ◌≤◌, ◌==◌, ◌⊎◌, List, [], ◌∷◌, ◌++◌, map, drop, length, Option, Some, None, refl, ap, sym, ◌∙◌, subst, arith, inl, inr, ◌^◌, ◌/◌, ◌%◌, get_or, Bor}
 use Rattle.std.specs.Prelude.{slice_get, slice_set}
 use Rattle.std.specs.Vec.{vec_len, vec_capacity}
@@ -30,8 +31,7 @@ slice_get_dropped (suc gone) (x ∷ xs) k = slice_get_dropped gone xs k ∙ ap (
 
 -- what `xs.get(i).copied()` returns
 pub copied : {X : Type 0} (xs : List X) (i : ℕ) (r : Option (Bor X)) → MatchOption r (length xs ≤ i) (λ x. (i < length xs) × HoldsAt (λ y. x.now ≡ y) xs i) → IfSome r (λ x. x.now ≡ get_or xs i x.now) → option_copied r ≡ slice_get xs i
-copied xs i None past same = sym (slice_get_past xs i past)
-copied xs i (Some x) within same = sym (slice_get_read xs (length xs) i x.now refl within.0 same)
+copied xs i r past same = grind (arith, common_steps, slice_get_past, slice_get_read)
 
 noted : (xs : List LogEntry) (gone : ℕ) (entry : LogEntry) → gone ≤ length xs → map entry_in (drop gone (xs ++ entry ∷ [])) ≡ map entry_in (drop gone xs) ++ entry_in entry ∷ []
 noted xs gone entry less = ap (map entry_in) (drop-append-le gone xs (entry ∷ []) less) ∙ map-append entry_in (drop gone xs) (entry ∷ [])
@@ -100,18 +100,8 @@ module _ {Z : Type 0} where
       → slice_get (joined ss ++ tail) (q * segment + r) ≡ slice_get s.items r
   in_full zero ss tail q r s h less e lt = absurd (omega arith)
   in_full (suc full) [] tail q r s h less e lt = absurd h
-  in_full (suc full) (s' ∷ ss) tail zero r s h less e lt =
-      let ok = s'.ok in
-      let same : s' ≡ s = (let f : Some s' ≡ Some s = e in cc) in
-      ap (λ (xs : List LogEntry). slice_get xs (0 * segment + r)) (append_assoc s'.items (joined ss) tail)
-      ∙ slice_get_before s'.items (joined ss ++ tail) (0 * segment + r) (let l = h.0 in omega arith)
-      ∙ (λ i. slice_get (same i).items (let e : 0 * segment + r ≡ r = omega arith in e i))
-  in_full (suc full) (s' ∷ ss) tail (suc q) r s h less e lt =
-      let ok = s'.ok in
-      ap (λ (xs : List LogEntry). slice_get xs (suc q * segment + r)) (append_assoc s'.items (joined ss) tail)
-      ∙ ap (slice_get (s'.items ++ (joined ss ++ tail))) (let e : suc q * segment + r ≡ length s'.items + (q * segment + r) = (let l = h.0 in omega arith) in e)
-      ∙ slice_get_after s'.items (joined ss ++ tail) (q * segment + r)
-      ∙ in_full full ss tail q r s h.2 (omega arith) e lt
+  in_full (suc full) (s' ∷ ss) tail zero r s h less e lt = grind (arith, common_steps, append_assoc, slice_get_before, slice_get_after)
+  in_full (suc full) (s' ∷ ss) tail (suc q) r s h less e lt = grind (arith, common_steps, append_assoc, slice_get_before, slice_get_after, in_full full ss tail q r s h.2 (omega arith) e lt)
 
   module _ (ss : List (Vec LogEntry Z)) (full : ℕ) (last : Vec LogEntry Z) (gone : ℕ) (h : IsLog ss full last gone) where
     at_place : (k : ℕ) → slice_get (left_in ss last gone) k ≡ option_map entry_in (slice_get (joined ss ++ last.items) (gone + k))

@@ -1,16 +1,17 @@
 -- The replicas in the words of a space, and what writes do to them.
-use Rattle.std.proofs.Common.{◌≡◌, ⊎_elim, inl, inr, ℕ, suc, ◌+◌, ◌-◌, ◌<◌, ◌≤◌, ◌==◌, Bool, true, false, cond, length, List, [], ◌∷◌, ◌++◌, map, Option, Some, None, is_some, refl, ap, sym, ◌∙◌, subst, arith, length-append}
+use Rattle.std.proofs.lemmas.Grind.{common_steps}
+use Rattle.std.proofs.Common.{◌≡◌, ⊎_elim, inl, inr, ℕ, suc, ◌+◌, ◌-◌, ◌<◌, ◌≤◌, ◌==◌, Bool, true, false, cond, length, List, [], ◌∷◌, ◌++◌, map, Option, Some, None, is_some, refl, ap, sym, ◌∙◌, subst, arith}
 use Rattle.std.specs.Prelude.{IsSome}
 use Rattle.std.proofs.lemmas.Bool.{cases_Bool, cond-true, cond-false, eq-eqb}
 use Rattle.std.proofs.lemmas.List.{length-map, map-append}
-use Rattle.gc_graph.specs.Graph.{Value, Num, Object, lookup, set_field, new_object}
-use Rattle.gc_words.specs.Word.{value_of, field_value}
-use Rattle.gc_words.specs.Image.{Block, blocks, block_in, block_at, is_start, field_at, fresh_block, with_field_word, set_block, object_of_block, object_entry, objects_of}
-use Rattle.gc_words.specs.Spelling.{block_words, spelled_from, link_at, IsBlock}
+use Rattle.gc_graph.specs.Graph.{Value, Num, Object, lookup, set_field}
+use Rattle.gc_words.specs.Word.{value_of}
+use Rattle.gc_words.specs.Image.{Block, blocks, block_in, block_at, is_start, field_at, set_block, object_of_block, object_entry, objects_of}
+use Rattle.gc_words.specs.Spelling.{spelled_from, link_at, IsBlock}
 use Rattle.gc_words.specs.Layout.{link_place, field_place}
 use Rattle.gc_words.specs.Space.{SpaceWords, IsSpace, end_of, free_in, with_block, with_word}
 use Rattle.gc_words.proofs.Public.{spelled_words, objects_set, CanPlaceBlock, block_placed, field_written, link_written, none_at_end, block_there, link_placed_beside, link_beside_field, link_written_there, link_written_beside, object_found, fresh_object as new_block_object}
-use Rattle.gc_plan.specs.State.{Replica, Collection, new_objects, new_end, replica_of, fresh_object}
+use Rattle.gc_plan.specs.State.{Replica, new_objects, new_end, replica_of, fresh_object}
 use Rattle.gc_plan.specs.Steps.{with_written, write_replica}
 use Rattle.gc_copy.specs.Words.{CollectionWords, replica_entry, replicas_in, collection_in}
 use Rattle.gc_copy.specs.Internal.Words.{replica_block}
@@ -67,10 +68,7 @@ new_end_is c is =
 in_block : (bs : List (ℕ × Block)) (e : ℕ × Block) → In e bs → is_some (block_in bs e.0) ≡ true
 in_block [] e k = absurd k
 in_block (d ∷ bs) e (inl k) = ap is_some (cond-true (d.0 == e.0) (Some d.1) (block_in bs e.0) (eq-eqb d.0 e.0 (ap (λ (x : ℕ × Block). x.0) k)))
-in_block (d ∷ bs) e (inr k) = ⊎_elim
-    (λ t. ap is_some (cond-true (d.0 == e.0) (Some d.1) (block_in bs e.0) t))
-    (λ f. ap is_some (cond-false (d.0 == e.0) (Some d.1) (block_in bs e.0) f) ∙ in_block bs e k)
-    (cases_Bool (d.0 == e.0))
+in_block (d ∷ bs) e (inr k) = grind (arith, common_steps, cond-true, eq-eqb, cond-false, cases_Bool, in_block bs e k)
 
 pub in_start : (words : List ℕ) (e : ℕ × Block) → In e (blocks words) → is_start words e.0 ≡ true
 in_start words e k = in_block (blocks words) e k
@@ -126,15 +124,7 @@ space_placed s b name can = (linked.0, each)
 
 -- the object as which a replica is placed
 pub replica_block_object : (b : Block) → IsBlock b → object_of_block (replica_block b) ≡ fresh_object (object_of_block b)
-replica_block_object b whole = go b.header.raw refl
-  where
-    go : (raw : Bool) → b.header.raw ≡ raw → object_of_block (replica_block b) ≡ fresh_object (object_of_block b)
-    go true is = ap object_of_block (cond-true b.header.raw b (fresh_block b.header) is) ∙ sym (cond-true b.header.raw (object_of_block b) (new_object false b.header.kind (length (object_of_block b).fields)) is)
-    go false is =
-        ap object_of_block (cond-false b.header.raw b (fresh_block b.header) is)
-        ∙ new_block_object b.header
-        ∙ ap (λ raw. new_object raw b.header.kind b.header.len) is
-        ∙ sym (cond-false b.header.raw (object_of_block b) (new_object false b.header.kind (length (object_of_block b).fields)) is ∙ ap (λ n. new_object false b.header.kind n) (length-map b.fields (field_value b.header) ∙ whole.fields))
+replica_block_object b whole = grind (arith, common_steps, cond-true, cond-false, new_block_object, length-map)
 
 -- ---- a field is written
 
@@ -146,9 +136,7 @@ places_set (e ∷ bs) a i w = ⊎_elim
     (cases_Bool (e.0 == a))
 
 in_places : (bs : List (ℕ × Block)) (p : ℕ) → In p (map (λ e. e.0) bs) → is_some (block_in bs p) ≡ true
-in_places bs p k =
-    let e = in_map_from (λ (e : ℕ × Block). e.0) p bs k in
-    subst (λ n. is_some (block_in bs n) ≡ true) e.2 (in_block bs e.0 e.1)
+in_places bs p k = grind (arith, common_steps, in_map_from, in_block)
 
 pub space_written : (Due : Bool → ℕ → ℕ → ℕ → Type 0) (objects : List (ℕ × Object)) (c : CollectionWords) (name i w : ℕ) (r : Replica) (v : Value)
     → IsSpace c.space → BelongsBy Due objects (collection_in c) → replica_of (collection_in c) name ≡ Some r → IsSome (field_at c.space.words r.place i) → cond r.object.raw (Num w) (value_of w) ≡ v
@@ -198,10 +186,7 @@ space_written Due objects c name i w r v is belongs found there means = (done.0,
 
 set_block_keeps_count : (bs : List (ℕ × Block)) (place i w : ℕ) → length (set_block bs place i w) ≡ length bs
 set_block_keeps_count [] place i w = refl
-set_block_keeps_count (e ∷ bs) place i w = ⊎_elim
-    (λ t. ap length (cond-true (e.0 == place) ((e.0, with_field_word e.1 i w) ∷ bs) (e ∷ set_block bs place i w) t))
-    (λ f. ap length (cond-false (e.0 == place) ((e.0, with_field_word e.1 i w) ∷ bs) (e ∷ set_block bs place i w) f) ∙ ap suc (set_block_keeps_count bs place i w))
-    (cases_Bool (e.0 == place))
+set_block_keeps_count (e ∷ bs) place i w = grind (arith, common_steps, cond-true, cond-false, cases_Bool, set_block_keeps_count bs place i w)
 
 -- a written field changes no count
 pub count_written : (n : ℕ) (old new : List (ℕ × Block)) (place i w : ℕ) → n ≡ length old → new ≡ set_block old place i w → n ≡ length new
@@ -209,10 +194,7 @@ count_written n old new place i w counted written = counted ∙ sym (ap length w
 
 two_words_each : (links : ℕ → ℕ) (bs : List (ℕ × Block)) → length bs + length bs ≤ length (spelled_from links bs)
 two_words_each links [] = omega arith
-two_words_each links (e ∷ bs) =
-    let rest : length bs + length bs ≤ length (spelled_from links bs) = two_words_each links bs in
-    let here : length (spelled_from links (e ∷ bs)) ≡ suc (suc (length e.1.fields)) + length (spelled_from links bs) = length-append (block_words (links e.0) e.1) (spelled_from links bs) in
-    omega arith
+two_words_each links (e ∷ bs) = grind (arith, common_steps, two_words_each links bs)
 
 -- each object takes two words at least, and word 0 belongs to none
 pub count_small : (s : SpaceWords) → IsSpace s → length (blocks s.words) + length (blocks s.words) < length s.words
@@ -223,8 +205,4 @@ count_small s is =
 
 -- a replica more
 pub count_placed : (n : ℕ) (old new : List ℕ) (r : Replica) → n ≡ length (blocks old) → replicas_in new ≡ replicas_in old ++ r ∷ [] → n + 1 ≡ length (blocks new)
-count_placed n old new r counted grown =
-    let before : length (replicas_in old) ≡ length (blocks old) = length-map (blocks old) (replica_entry old) in
-    let after : length (replicas_in new) ≡ length (blocks new) = length-map (blocks new) (replica_entry new) in
-    let more : length (replicas_in new) ≡ length (replicas_in old) + 1 = ap length grown ∙ length-append (replicas_in old) (r ∷ []) in
-    omega (arith, counted, before, after, more)
+count_placed n old new r counted grown = grind (arith, common_steps, length-map)

@@ -1,20 +1,19 @@
 -- The heap that words spell.
-use Rattle.std.proofs.Common.{◌≡◌, ⊎_elim, inl, inr, ℕ, ◌+◌, ◌-◌, ◌/◌, ◌%◌, ◌<◌, ◌==◌, Bool, true, false, cond, List, [], ◌∷◌, map, length, get_or, Option, Some, None, is_some, All, refl, ap, sym, ◌∙◌, subst, arith, length-append}
+use Rattle.std.proofs.lemmas.Grind.{common_steps}
+use Rattle.std.proofs.Common.{◌≡◌, ⊎_elim, inl, inr, ℕ, ◌+◌, ◌-◌, ◌<◌, ◌==◌, true, List, [], ◌∷◌, map, length, get_or, Some, is_some, All, refl, ap, sym, ◌∙◌, subst, arith, length-append}
 use Rattle.std.proofs.lemmas.Bool.{cases_Bool, cond-false, eqb-true, eqb-false}
 use Rattle.std.proofs.lemmas.List.{length-map}
 use Rattle.std.proofs.lemmas.Option.{slice_get-get_or}
 use Rattle.gc_graph.specs.Graph.{Value, Nil, Num, Ref, Object}
 use Rattle.gc_words.specs.Word.{value_of, word_of, field_value}
-use Rattle.gc_words.specs.Image.{Block, blocks, block_in, block_at, object_of_block, object_entry, objects_of}
+use Rattle.gc_words.specs.Image.{Block, blocks, block_in, object_of_block, object_entry, objects_of}
 use Rattle.gc_words.specs.Spelling.{block_words, spelled, spelled_from, link_at, IsBlock, LaidOut}
 use Rattle.gc_words.specs.Space.{SpaceWords, IsSpace, free_in}
-use Rattle.gc_words.specs.Closed.{RefersToStart, IsRootWord, IsWordOfField, IsFieldWord, HasFieldWords}
+use Rattle.gc_words.specs.Closed.{RefersToStart, IsRootWord, IsFieldWord, HasFieldWords}
 use Rattle.gc_words.specs.declared.header.Header.{Header}
-use Rattle.std.specs.Option.{option_map}
-use Rattle.gc_graph.specs.Machine.{is_number}
 use Rattle.gc_words.proofs.Public.{object_found, spelled_words, laid_out_words}
 use Rattle.gc_heap.specs.Heap.{HeapWords, IsHeap, image_of, graph_in}
-use Rattle.gc_plan.specs.Linked.{number_of, field_word, object_header, block_entry, linked_image}
+use Rattle.gc_plan.specs.Linked.{field_word, block_entry, linked_image}
 use Rattle.gc_plan.specs.Members.{In}
 use Rattle.gc_plan.specs.Belonging.{Laid, IsNamed, RefersTo, IsObject, HasRawNumbers, IsSpaceGraph}
 use Rattle.gc_plan.proofs.Public.{in_map, in_map_from, in_get, get_past}
@@ -60,8 +59,7 @@ module _ (space : SpaceWords) (is : IsSpace space) where
   spelling = spelled_words space.words is.walked is.end_low is.reserved
 
   pub objects_laid : Laid 1 (objects_of space.words) (space.size - free_in space)
-  objects_laid = laid_objects (link_at space.words) 1 (blocks space.words) (space.size - free_in space) laid
-      (let count = ap length spelling in let low = is.end_low in let high = is.end_high in omega (arith, count))
+  objects_laid = grind (arith, common_steps, laid_objects, laid, spelling)
 
   value_refers : (v : Value) → RefersToStart space.words v → RefersTo (IsNamed (objects_of space.words)) v
   value_refers Nil h = tt
@@ -69,11 +67,7 @@ module _ (space : SpaceWords) (is : IsSpace space) where
   value_refers (Ref a) h = let b = block_found_in (blocks space.words) a h in (object_of_block b.0, in_map object_entry (a, b.0) (blocks space.words) b.1)
 
   field_refers : (h : Header) (w : ℕ) → IsFieldWord space.words h w → RefersTo (IsNamed (objects_of space.words)) (field_value h w)
-  field_refers h w is = go h.raw is
-    where
-      go : (raw : Bool) → IsWordOfField raw space.words w → RefersTo (IsNamed (objects_of space.words)) (cond raw (Num w) (value_of w))
-      go true is = tt
-      go false is = value_refers (value_of w) is.start
+  field_refers h w is = grind (arith, common_steps, value_refers)
 
   block_object : (e : ℕ × Block) → In e (blocks space.words) → HasFieldWords space.words e.1 → IsObject (objects_of space.words) (object_of_block e.1)
   block_object e k words =
@@ -89,40 +83,21 @@ module _ (space : SpaceWords) (is : IsSpace space) where
 
 -- each word is the word of what it means
 pub word_back : (w : ℕ) → word_of (value_of w) ≡ w
-word_back w = by (w == 0) refl (w % 2 == 1) refl
-  where
-    by : (a : Bool) → (w == 0) ≡ a → (b : Bool) → (w % 2 == 1) ≡ b → word_of (cond a Nil (cond b (Num (w / 2)) (Ref (w / 2)))) ≡ w
-    by true e b f = let is : w ≡ 0 = eqb-true w 0 e in omega arith
-    by false e true f = let is : w % 2 ≡ 1 = eqb-true (w % 2) 1 f in omega arith
-    by false e false f = let isnt : w % 2 ≡ 1 → ⊥ = eqb-false (w % 2) 1 f in omega arith
+word_back w = grind (arith, common_steps, eqb-true, eqb-false)
 
 pub words_back : (ws : List ℕ) → map word_of (map value_of ws) ≡ ws
 words_back [] = refl
-words_back (w ∷ ws) =
-    let e = word_back w in
-    let r = words_back ws in
-    λ i. e i ∷ r i
+words_back (w ∷ ws) = grind (arith, common_steps, word_back, words_back ws)
 
 field_word_back : (h : Header) (w : ℕ) → field_word h (field_value h w) ≡ w
-field_word_back h w = go h.raw refl
-  where
-    go : (raw : Bool) → h.raw ≡ raw → field_word h (field_value h w) ≡ w
-    go true is = λ i. cond (is i) (number_of (cond (is i) (Num w) (value_of w))) (word_of (cond (is i) (Num w) (value_of w)))
-    go false is = (λ i. cond (is i) (number_of (cond (is i) (Num w) (value_of w))) (word_of (cond (is i) (Num w) (value_of w)))) ∙ word_back w
+field_word_back h w = grind (arith, common_steps, word_back)
 
 field_words_back : (h : Header) (fields : List ℕ) → map (field_word h) (map (field_value h) fields) ≡ fields
 field_words_back h [] = refl
-field_words_back h (w ∷ ws) =
-    let e = field_word_back h w in
-    let r = field_words_back h ws in
-    λ i. e i ∷ r i
+field_words_back h (w ∷ ws) = grind (arith, common_steps, field_word_back, field_words_back h ws)
 
 block_back : (b : Block) → IsBlock b → (block_entry (0, object_of_block b)).1 ≡ b
-block_back b whole =
-    let len : length (map (field_value b.header) b.fields) ≡ b.header.len = length-map b.fields (field_value b.header) ∙ whole.fields in
-    let same : object_header (object_of_block b) ≡ b.header = λ i. record { raw = b.header.raw; kind = b.header.kind; len = len i } in
-    let fields = field_words_back b.header b.fields in
-    λ i. record { header = same i; fields = fields i }
+block_back b whole = grind (arith, common_steps, length-map, field_words_back)
 
 blocks_back : (bs : List (ℕ × Block)) → ((e : ℕ × Block) → In e bs → IsBlock e.1) → map block_entry (map object_entry bs) ≡ bs
 blocks_back [] whole = refl
@@ -136,25 +111,13 @@ space_blocks space is = blocks_back (blocks space.words) (λ e k. laid_whole 1 (
 
 -- a space's words are those of its objects with their links
 pub space_spelled : (space : SpaceWords) → IsSpace space → space.words ≡ spelled (link_at space.words) (map block_entry (objects_of space.words))
-space_spelled space is =
-    spelled_words space.words is.walked is.end_low is.reserved
-    ∙ ap (spelled (link_at space.words)) (sym (space_blocks space is))
+space_spelled space is = grind (arith, common_steps, spelled_words, space_blocks)
 
 -- ---- a heap of such words
 
 -- the words of raw objects are numbers
 pub words_numbers : (words : List ℕ) → HasRawNumbers (objects_of words)
-words_numbers words a o found raw v k = from (block_at words a) (sym (object_found words a) ∙ found)
-  where
-    number : (h : Header) (w : ℕ) → h.raw ≡ true → is_number (field_value h w) ≡ true
-    number h w is = ap (λ b. is_number (cond b (Num w) (value_of w))) is
-
-    from : (x : Option Block) → option_map object_of_block x ≡ Some o → is_number v ≡ true
-    from None e = absurd (let no : None ≡ Some o = e in cc)
-    from (Some b) e =
-        let same : object_of_block b ≡ o = (let s : Some (object_of_block b) ≡ Some o = e in cc) in
-        let w = in_map_from (field_value b.header) v b.fields (subst (λ (x : Object). In v x.fields) (sym same) k) in
-        subst (λ u. is_number u ≡ true) w.2 (number b.header w.0 (ap (λ (x : Object). x.raw) same ∙ raw))
+words_numbers words a o found raw v k = grind (arith, common_steps, object_found, in_map_from)
 
 pub heap_graph : (heap : HeapWords) → IsHeap heap → IsSpaceGraph heap.space.size (free_in heap.space) (graph_in heap)
 heap_graph heap is = record {
@@ -172,7 +135,4 @@ heap_graph heap is = record {
 }
 
 pub heap_image : (heap : HeapWords) → IsHeap heap → image_of heap ≡ linked_image (link_at heap.space.words) heap.space.size (graph_in heap)
-heap_image heap is =
-    let all = space_spelled heap.space is.space in
-    let rs = words_back heap.roots in
-    λ i. record { size = heap.space.size; end = length (all i); words = all i; roots = sym rs i; raws = true }
+heap_image heap is = grind (arith, common_steps, space_spelled, words_back)

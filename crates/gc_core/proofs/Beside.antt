@@ -1,8 +1,9 @@
 -- A watch that goes along with the open collection watches the words of both images.
-use Rattle.std.proofs.Common.{◌≡◌, ◌-◌, ◌≤◌, ℕ, arith, Bool, List, length, take, All, Option, Some, None, refl, ap, sym, ◌∙◌, subst}
+use Rattle.std.proofs.lemmas.Grind.{common_steps}
+use Rattle.std.proofs.Common.{◌≡◌, ◌-◌, ℕ, arith, Bool, List, length, Option, Some, None, refl, ap, sym, ◌∙◌, subst}
 use Rattle.std.proofs.lemmas.List.{take_all}
 use Rattle.std.specs.Option.{option_map}
-use Rattle.gc_words.specs.Image.{Block, Image, blocks, block_in, block_at}
+use Rattle.gc_words.specs.Image.{Image, blocks}
 use Rattle.gc_words.specs.Space.{IsSpace, end_of}
 use Rattle.gc_heap.specs.Heap.{HeapWords, IsHeap}
 use Rattle.gc_plan.specs.State.{State, Collection, heap_end}
@@ -10,7 +11,7 @@ use Rattle.gc_plan.specs.Linked.{old_links, old_image, new_image}
 use Rattle.gc_copy.specs.Words.{CollectionWords, IsCollection, BelongsTo, collection_in, state_of, open_state}
 use Rattle.gc_copy.proofs.Public.{new_shown, other_links}
 use Rattle.gc_core.specs.Internal.CollectedHeap.{Fits}
-use Rattle.gc_along.specs.Watch.{Watch, Watches, IsWatched, seen_at}
+use Rattle.gc_along.specs.Watch.{Watch, Watches}
 use Rattle.gc_beside.specs.Stays.{GoesAlong}
 use Rattle.gc_beside.proofs.Public.{watches}
 
@@ -20,23 +21,7 @@ end_is heap sound = let a = sound.space.end_high in omega arith
 
 -- a watch that has come to the end of the old space watches it with any links
 relinked : (old other new : List ℕ) (w : Watch) → w.old_seen ≡ length old → length other ≡ length old → blocks other ≡ blocks old → IsSpace (record { size = 4294967295; words = other }) → Watches old new w → Watches other new w
-relinked old other new w end count same space k = record {
-  old_seen = record { within = omega (arith, end, count); space = subst (λ ws. IsSpace (record { size = 4294967295; words = ws })) (sym whole) space };
-  new_seen = k.new_seen;
-  pairs = subst (λ (seen : ℕ → Option Block). All (λ p. IsWatched w p.1 (seen p.0) (seen_at w.new_seen new p.1)) w.pairs) (λ i a. here a i) k.pairs;
-  row = k.row;
-  rising = k.rising;
-  once = k.once;
-}
-  where
-    whole : take w.old_seen other ≡ other
-    whole = take_all w.old_seen other (omega (arith, end, count))
-
-    before : take w.old_seen old ≡ old
-    before = take_all w.old_seen old (omega (arith, end))
-
-    here : (a : ℕ) → seen_at w.old_seen old a ≡ seen_at w.old_seen other a
-    here a = ap (λ ws. block_at ws a) before ∙ ap (λ bs. block_in bs a) (sym same) ∙ ap (λ ws. block_at ws a) (sym whole)
+relinked old other new w end count same space k = grind (arith, common_steps, take_all)
 
 shown : (heap : HeapWords) (col : CollectionWords) (w : Watch) → IsHeap heap → IsCollection col → BelongsTo heap col
     → GoesAlong (open_state heap col).heap.graph.objects (heap_end (open_state heap col)) (collection_in col) w

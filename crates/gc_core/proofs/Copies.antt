@@ -1,16 +1,16 @@
 -- Fields that are copied from one object to another in one call.
-use Rattle.std.proofs.Common.{◌≡◌, ◌<◌, ◌≤◌, ◌+◌, ◌-◌, ℕ, zero, suc, List, [], ◌∷◌, length, map, take, drop, Some, None, Option, true, false, refl, sym, ap, ◌∙◌, arith}
-use Rattle.std.specs.Prelude.{slice_range, not, ◌||◌, Bool, nat_le, cond, ◌&&◌}
+use Rattle.std.proofs.lemmas.Grind.{common_steps}
+use Rattle.std.proofs.Common.{◌≡◌, ◌<◌, ◌≤◌, ◌+◌, ◌-◌, ℕ, zero, suc, List, [], ◌∷◌, length, map, take, drop, Some, None, Option, true, refl, sym, ap, ◌∙◌, arith}
+use Rattle.std.specs.Prelude.{slice_range, not, ◌||◌, Bool, cond, ◌&&◌}
 use Rattle.std.specs.List.{list_all}
-use Rattle.std.specs.Option.{option_map}
 use Rattle.std.proofs.lemmas.Bool.{le-leb}
 use Rattle.std.proofs.lemmas.List.{take-map, drop-map, length-map}
 use Rattle.std.proofs.lemmas.List.Folds.{list_all-map}
 use Rattle.std.proofs.lemmas.Slice.{between_is}
-use Rattle.gc_graph.specs.Graph.{Num, Object, Graph, object_of, root, name_of}
+use Rattle.gc_graph.specs.Graph.{Num, Object, Graph, root, name_of}
 use Rattle.gc_graph.specs.declared.command.Op.TheVariants.{Get, Put}
 use Rattle.gc_graph.specs.declared.reply.Reply.{Reply}
-use Rattle.gc_graph.specs.declared.reply.Reply.TheVariants.{Full, Made, Done, NoObject, NoField, NoNumber, Saw, Yes, No}
+use Rattle.gc_graph.specs.declared.reply.Reply.TheVariants.{Done, NoNumber}
 use Rattle.gc_graph.specs.Machine.{is_number}
 use Rattle.gc_graph.specs.Slots.{SlotName, place, roots_of}
 use Rattle.gc_words.specs.declared.header.Header.{Header}
@@ -23,7 +23,6 @@ use Rattle.gc_plan.specs.State.{State}
 use Rattle.gc_plan.specs.Steps.{mutate}
 use Rattle.gc_core.specs.Internal.KnownRoots.{KnowsRoots}
 use Rattle.gc_core.specs.declared.known.KnownRoots.{KnownRoots}
-use Rattle.gc_core.specs.Writing.{after_reply}
 use Rattle.gc_core.specs.Copying.{object_in, copy_reply, copy_step, copy_fields_step}
 use Rattle.gc_core.proofs.Marks.{WritesBelow, slot_below, one_below, slot_command, put_knows}
 use Rattle.gc_core.proofs.NumbersPut.{forgotten}
@@ -36,15 +35,7 @@ object_with header fields = object_of_block (record { header = header; fields = 
 
 pub object_there : (h : HeapWords) (m a : ℕ) (slot : SlotName) (header : Header) (fields : List ℕ) → Some a ≡ name_of (root (graph_in h) (place slot m)) → header_at h.space.words a ≡ Some header
     → ((b : Block) → block_at h.space.words a ≡ Some b → fields ≡ b.fields) → Some (object_with header fields) ≡ object_in (graph_in h) slot m
-object_there h m a slot header fields name met are = go (block_at h.space.words a) refl
-  where
-    go : (o : Option Block) → block_at h.space.words a ≡ o → Some (object_with header fields) ≡ object_in (graph_in h) slot m
-    go None is = absurd (let no : None ≡ Some header = sym (ap header_of is) ∙ met in cc)
-    go (Some b) is =
-        let same : b.header ≡ header = (let both : Some b.header ≡ Some header = sym (ap header_of is) ∙ met in cc) in
-        let words : fields ≡ b.fields = are b is in
-        sym (ap (object_of (graph_in h).objects) (named (root (graph_in h) (place slot m)) a name) ∙ object_found h.space.words a ∙ ap (option_map object_of_block) is
-        ∙ (λ i. Some (object_with (same i) (sym words i))))
+object_there h m a slot header fields name met are = grind (arith, common_steps, named, object_found)
 
 -- it has as many field words as its header says
 pub fields_there : (h : HeapWords) (a : ℕ) (header : Header) (fields : List ℕ) → IsHeap h → header_at h.space.words a ≡ Some header → ((b : Block) → block_at h.space.words a ≡ Some b → fields ≡ b.fields) → length fields ≡ header.len
@@ -68,26 +59,13 @@ raw_numbers_all header [] raw = refl
 raw_numbers_all header (w ∷ rest) raw = ap (λ b. is_number (cond b (Num w) (value_of w)) && list_all (λ w. is_number (field_value header w)) rest) raw ∙ raw_numbers_all header rest raw
 
 pub raw_taken : (target source : Header) (words : List ℕ) → source.raw ≡ true → true ≡ (not target.raw || list_all (λ w. is_number (field_value source w)) words)
-raw_taken target source words raw = sym (ap (λ b. not target.raw || b) (raw_numbers_all source words raw) ∙ any (not target.raw))
-  where
-    any : (b : Bool) → (b || true) ≡ true
-    any true = refl
-    any false = refl
+raw_taken target source words raw = grind (arith, common_steps, raw_numbers_all)
 
 -- with enough fields in both, the reply says whether the values are taken
 pub fitting_reply : (to from count first last : ℕ) (target source : Header) (old words : List ℕ) (g : Graph) (m : ℕ) (d s : SlotName) (taken : Bool) (reply : Reply)
     → Some (object_with target old) ≡ object_in g d m → Some (object_with source words) ≡ object_in g s m → to + count ≤ length old → first ≡ from → last ≡ from + count → last ≤ length words
     → taken ≡ (not target.raw || list_all (λ w. is_number (field_value source w)) (slice_range words first last)) → reply ≡ cond taken Done NoNumber → reply ≡ copy_reply to from count (object_in g d m) (object_in g s m)
-fitting_reply to from count first last target source old words g m d s taken reply one other low begin at high asks same =
-    let f = field_value source in
-    let values : list_all (λ w. is_number (f w)) (slice_range words first last) ≡ list_all is_number (slice_range (map f words) from (from + count))
-    = ap (λ n. list_all (λ w. is_number (f w)) (slice_range words n last)) begin ∙ sym (list_all-map is_number f (slice_range words from last)) ∙ ap (list_all is_number) (sym (range_of_map f words from last)) ∙ ap (λ n. list_all is_number (slice_range (map f words) from n)) at in
-    let one_fits : nat_le (to + count) (length (map (field_value target) old)) ≡ true = le-leb (to + count) (length (map (field_value target) old)) (omega (arith, low, length-map old (field_value target))) in
-    let other_fits : nat_le (from + count) (length (map f words)) ≡ true = le-leb (from + count) (length (map f words)) (omega (arith, at, high, length-map words f)) in
-    same ∙ ap (λ b. cond b Done NoNumber) (asks ∙ ap (λ b. not target.raw || b) values)
-    ∙ sym (ap (λ b. cond (b && nat_le (from + count) (length (map f words))) (cond (not target.raw || list_all is_number (slice_range (map f words) from (from + count))) Done NoNumber) NoField) one_fits
-    ∙ ap (λ b. cond b (cond (not target.raw || list_all is_number (slice_range (map f words) from (from + count))) Done NoNumber) NoField) other_fits)
-    ∙ (λ i. copy_reply to from count (one i) (other i))
+fitting_reply to from count first last target source old words g m d s taken reply one other low begin at high asks same = grind (arith, common_steps, list_all-map, range_of_map, le-leb, length-map)
 
 -- ---- the commands
 
@@ -105,27 +83,12 @@ one_copied old two first m i j k count d s t less so_far step =
 -- a call that copies all
 pub all_copied : (old new : State) (m to from count : ℕ) (d s t : SlotName) (reply : Reply) → reply ≡ copy_reply to from count (object_in old.heap.graph d m) (object_in old.heap.graph s m) → reply ≡ Done
     → copy_step old m d to s from t count ≡ new → copy_fields_step old m d to s from t count ≡ (reply, new)
-all_copied old new m to from count d s t reply is done steps =
-    ap (λ r. (r, after_reply r old (copy_step old m d to s from t count))) (sym is)
-    ∙ ap (λ r. (reply, after_reply r old (copy_step old m d to s from t count))) done
-    ∙ ap (λ (x : State). (reply, x)) steps
+all_copied old new m to from count d s t reply is done steps = grind (arith, common_steps)
 
 -- a call that copies none
 pub none_copied : (old : State) (m to from count : ℕ) (d s t : SlotName) (reply : Reply) → reply ≡ copy_reply to from count (object_in old.heap.graph d m) (object_in old.heap.graph s m) → (reply ≡ Done → ⊥)
     → copy_fields_step old m d to s from t count ≡ (reply, old)
-none_copied old m to from count d s t reply is other =
-    ap (λ r. (r, after_reply r old (copy_step old m d to s from t count))) (sym is) ∙ ap (λ (x : State). (reply, x)) (kept reply other)
-  where
-    kept : (r : Reply) → (r ≡ Done → ⊥) → after_reply r old (copy_step old m d to s from t count) ≡ old
-    kept Done other = absurd (other refl)
-    kept Full other = refl
-    kept Made other = refl
-    kept NoObject other = refl
-    kept NoField other = refl
-    kept NoNumber other = refl
-    kept (Saw view) other = refl
-    kept Yes other = refl
-    kept No other = refl
+none_copied old m to from count d s t reply is other = grind (arith, common_steps)
 
 -- ---- what is known of the roots
 

@@ -1,22 +1,23 @@
 -- A copy that is done: each of its commands is.
-use Rattle.std.proofs.Common.{◌≡◌, ⊎_elim, inl, inr, ◌<◌, ◌≤◌, ◌+◌, ◌-◌, ℕ, zero, suc, Bool, true, false, cond, List, [], ◌∷◌, length, take, drop, Some, None, Option, refl, sym, ap, subst, ◌∙◌, arith}
-use Rattle.std.specs.Prelude.{slice_get, slice_set, get_or, nat_le, not, ◌&&◌, ◌||◌}
+use Rattle.std.proofs.lemmas.Grind.{common_steps}
+use Rattle.std.proofs.Common.{◌≡◌, ⊎_elim, inl, inr, ◌<◌, ◌≤◌, ◌+◌, ℕ, zero, suc, true, false, cond, List, [], ◌∷◌, length, take, drop, Some, None, sym, ap, subst, ◌∙◌, arith}
+use Rattle.std.specs.Prelude.{slice_get, slice_set, get_or, not, ◌&&◌}
 use Rattle.std.specs.List.{list_all}
 use Rattle.std.proofs.lemmas.Bool.{cases_Bool, cases_eq, leb-true, and_parts}
 use Rattle.std.proofs.lemmas.List.{length-set}
 use Rattle.std.proofs.lemmas.Option.{slice_get-get_or}
-use Rattle.gc_graph.specs.Graph.{Value, Nil, Num, Ref, Object, Graph, object_of, field_of, root, lookup, value_or_nil, set_root, set_field, with_field}
-use Rattle.gc_graph.specs.Machine.{Roomy, step, view_of, is_number, get_field, put_field}
+use Rattle.gc_graph.specs.Graph.{Value, Nil, Ref, Object, Graph, object_of, field_of, root, lookup, value_or_nil, set_root, set_field, with_field}
+use Rattle.gc_graph.specs.Machine.{step, view_of, is_number, put_field}
 use Rattle.gc_graph.specs.Slots.{SlotName, place}
 use Rattle.gc_graph.specs.declared.command.Op.{Op}
 use Rattle.gc_graph.specs.declared.command.Op.TheVariants.{Get, Put}
 use Rattle.gc_graph.specs.declared.reply.Reply.{Reply}
-use Rattle.gc_graph.specs.declared.reply.Reply.TheVariants.{Done, Saw, NoObject, NoField, NoNumber}
+use Rattle.gc_graph.specs.declared.reply.Reply.TheVariants.{Done, Saw, NoNumber}
 use Rattle.gc_graph.proofs.Public.{lookup_set_same, lookup_set_other, with_field_option, in_place, with_free}
 use Rattle.gc_plan.specs.State.{State, heap_end}
 use Rattle.gc_plan.specs.Steps.{mutate}
 use Rattle.gc_plan.proofs.Public.{get_set_same, get_set_other, get_set}
-use Rattle.gc_core.specs.Copying.{object_in, values_in, takes_values, copy_reply, copy_fields_step, IsSaw, AllCopied}
+use Rattle.gc_core.specs.Copying.{object_in, copy_reply, copy_fields_step, IsSaw, AllCopied}
 
 -- so many fields can be copied, from field j on, of the object that root q refers to, to field i and on of that of root p
 pub record CanCopy (g : Graph) (p q i j n : ℕ) : Type 0 where
@@ -92,9 +93,7 @@ value_there g p q i j n c = (let long = c.giver_long in slice_get-get_or c.giver
 
 pub get_sees : (g : Graph) (m name : ℕ) (d src t : SlotName) (i j n : ℕ) (c : CanCopy g (place d m) (place src m) i j (suc n)) (v : Value) → slice_get c.giver.fields j ≡ Some v
     → step g m (Get t src j) name ≡ (Saw (view_of g.objects v), set_root g (place t m) v)
-get_sees g m name d src t i j n c v seen =
-    let object : object_of g.objects (root g (place src m)) ≡ Some c.giver = ap (object_of g.objects) c.source ∙ c.giver_found in
-    ap (λ o. get_field g (place t m) o (field_of o j)) object ∙ ap (get_field g (place t m) (Some c.giver)) seen
+get_sees g m name d src t i j n c v seen = grind (arith, common_steps)
 
 pub put_writes_it : (g : Graph) (m name : ℕ) (d src t : SlotName) (i j n : ℕ) (c : CanCopy g (place d m) (place src m) i j (suc n)) (v : Value) → slice_get c.giver.fields j ≡ Some v
     → (place t m ≡ place d m → ⊥) → place t m < length g.roots
@@ -119,9 +118,7 @@ put_writes_it g m name d src t i j n c v seen apart inside =
 
 -- a command that makes no object leads where the machine's step does
 pub steps_to : (s : State) (m : ℕ) (op : Op) (reply : Reply) (g : Graph) → (Rattle.gc_graph.specs.Machine.MakesObject op → ⊥) → step s.heap.graph m op (heap_end s) ≡ (reply, g) → ((mutate s m op).0 ≡ reply) × ((mutate s m op).1.heap.graph ≡ g)
-steps_to s m op reply g none e =
-    let is = in_place s.heap m op (heap_end s) none ∙ ap (with_free s.heap.free) e in
-    (ap (λ (x : Reply × Roomy). x.0) is, ap (λ (x : Reply × Roomy). x.1.graph) is)
+steps_to s m op reply g none e = grind (arith, common_steps, in_place, with_free)
 
 pub all_done : (n : ℕ) (s : State) (m i j : ℕ) (d src t : SlotName) → (place t m ≡ place d m → ⊥) → (place t m ≡ place src m → ⊥) → place t m < length s.heap.graph.roots → CanCopy s.heap.graph (place d m) (place src m) i j n → AllCopied s m d i src j t n
 all_done zero s m i j d src t apart other inside c = tt
@@ -150,41 +147,10 @@ number_at (x ∷ xs) (suc f) n zero v all low high e = absurd (omega (arith, low
 number_at (x ∷ xs) (suc f) n (suc k) v all low high e = number_at xs f n k v all (omega (arith, low)) (omega (arith, high)) e
 
 refers : (g : Graph) (v : Value) (o : Object) → object_of g.objects v ≡ Some o → (a : ℕ) × (v ≡ Ref a) × (lookup g.objects a ≡ Some o)
-refers g Nil o e = absurd (let no : None ≡ Some o = e in cc)
-refers g (Num n) o e = absurd (let no : None ≡ Some o = e in cc)
-refers g (Ref a) o e = (a, refl, e)
+refers g v o e = grind (arith, common_steps)
 
 pub can_copy : (g : Graph) (m to from n : ℕ) (d src : SlotName) → copy_reply to from n (object_in g d m) (object_in g src m) ≡ Done → CanCopy g (place d m) (place src m) to from n
-can_copy g m to from n d src said = go (object_in g d m) (object_in g src m) refl refl said
-  where
-    both : (taker giver : Object) → object_in g d m ≡ Some taker → object_in g src m ≡ Some giver → (x y w : Bool) → nat_le (to + n) (length taker.fields) ≡ x → nat_le (from + n) (length giver.fields) ≡ y → takes_values taker (values_in giver from n) ≡ w
-        → cond (x && y) (cond w Done NoNumber) NoField ≡ Done → CanCopy g (place d m) (place src m) to from n
-    both taker giver one other false y w fits high taken e = absurd (let no : NoField ≡ Done = e in cc)
-    both taker giver one other true false w fits high taken e = absurd (let no : NoField ≡ Done = e in cc)
-    both taker giver one other true true false fits high taken e = absurd (let no : NoNumber ≡ Done = e in cc)
-    both taker giver one other true true true fits high taken e =
-        let t = refers g (root g (place d m)) taker one in
-        let s = refers g (root g (place src m)) giver other in
-        let same : from + n - from ≡ n = omega arith in
-        record {
-          a = t.0;
-          b = s.0;
-          taker = taker;
-          giver = giver;
-          target = t.1;
-          source = s.1;
-          taker_found = t.2;
-          giver_found = s.2;
-          taker_long = leb-true (to + n) (length taker.fields) fits;
-          giver_long = leb-true (from + n) (length giver.fields) high;
-          numbers = λ raw k v low less e. number_at giver.fields from n k v
-              (ap (λ c. list_all is_number (take c (drop from giver.fields))) (sym same) ∙ (sym (ap (λ b. not b || list_all is_number (values_in giver from n)) raw) ∙ taken)) low less e;
-        }
-
-    go : (o u : Option Object) → object_in g d m ≡ o → object_in g src m ≡ u → copy_reply to from n o u ≡ Done → CanCopy g (place d m) (place src m) to from n
-    go None u one other e = absurd (let no : NoObject ≡ Done = e in cc)
-    go (Some taker) None one other e = absurd (let no : NoObject ≡ Done = e in cc)
-    go (Some taker) (Some giver) one other e = both taker giver one other (nat_le (to + n) (length taker.fields)) (nat_le (from + n) (length giver.fields)) (takes_values taker (values_in giver from n)) refl refl refl e
+can_copy g m to from n d src said = grind (arith, common_steps, refers, leb-true, number_at)
 
 pub each_done : (s : State) (m to from n : ℕ) (d src t : SlotName) → (place t m ≡ place d m → ⊥) → (place t m ≡ place src m → ⊥) → place t m < length s.heap.graph.roots → (copy_fields_step s m d to src from t n).0 ≡ Done → AllCopied s m d to src from t n
 each_done s m to from n d src t apart other inside said = all_done n s m to from d src t apart other inside (can_copy s.heap.graph m to from n d src said)

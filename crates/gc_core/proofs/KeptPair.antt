@@ -1,5 +1,6 @@
 -- The pair that a flip returns, put together from its parts, and the room that it leaves.
-use Rattle.std.proofs.Common.{◌≡◌, ℕ, Bool, true, false, List, Option, Some, refl, sym, subst}
+use Rattle.std.proofs.lemmas.Grind.{common_steps}
+use Rattle.std.proofs.Common.{◌≡◌, ℕ, Bool, true, false, List, Option, Some, sym, subst, arith}
 use Rattle.std.specs.Option.{option_map}
 use Rattle.gc_words.specs.Image.{Image}
 use Rattle.gc_words.specs.Certificate.{Certified}
@@ -19,24 +20,18 @@ pub same_image : (size end s e : ℕ) (words roots w r : List ℕ) (raws : Bool)
 same_image _ _ _ _ _ _ _ _ _ a b c d f = λ i. record { size = a i; end = b i; words = c i; roots = d i; raws = f i }
 
 pub certified_along : (old new : Image) (pairs : List (ℕ × ℕ)) (o n : Image) (ps : List (ℕ × ℕ)) → old ≡ o → new ≡ n → pairs ≡ ps → Certified o n ps → Certified old new pairs
-certified_along old new pairs o n ps a b e h =
-    subst (λ x. Certified x new pairs) (sym a) (subst (λ x. Certified o x pairs) (sym b) (subst (λ x. Certified o n x) (sym e) h))
+certified_along old new pairs o n ps a b e h = grind (arith, common_steps)
 
 -- the pair of the collection that was open is the one that is kept
 pub kept_open : (heap : HeapWords) (was : Option CollectionWords) (c : CollectionWords) (reply : StepReply) (n : ℕ) (pair kept : Option CertifiedPair)
     → was ≡ Some c → reply ≡ Flipped n → pair ≡ Some (flip_pair (open_state heap c) (collection_in c))
     → kept_after kept (state_of heap (option_map collection_in was)) reply ≡ replaced kept pair
-kept_open heap was c reply n pair kept is told e =
-    let here : kept_after kept (open_state heap c) (Flipped n) ≡ replaced kept pair = subst (λ p. kept_after kept (open_state heap c) (Flipped n) ≡ replaced kept p) (sym e) refl in
-    subst (λ r. kept_after kept (state_of heap (option_map collection_in was)) r ≡ replaced kept pair) (sym told)
-    (subst (λ o. kept_after kept (state_of heap (option_map collection_in o)) (Flipped n) ≡ replaced kept pair) (sym is) here)
+kept_open heap was c reply n pair kept is told e = grind (arith, common_steps)
 
 -- what holds of the pair of the collection that is open holds of the pair of this state
 pub pair_now : (says : CertifiedPair → Type 0) (heap : HeapWords) (was : Option CollectionWords) (c : CollectionWords) (now : State) → was ≡ Some c → state_of heap (option_map collection_in was) ≡ now
     → says (flip_pair (open_state heap c) (collection_in c)) → IfSome now.collection (λ d. says (flip_pair now d))
-pair_now says heap was c now is view h =
-    subst (λ (s : State). IfSome s.collection (λ d. says (flip_pair s d))) view
-    (subst (λ o. IfSome (option_map collection_in o) (λ d. says (flip_pair (state_of heap (option_map collection_in o)) d))) (sym is) h)
+pair_now says heap was c now is view h = grind (arith, common_steps)
 
 -- a room that tells the pairs of the open collection
 pub room_now : (heap : HeapWords) (was : Option CollectionWords) (c : CollectionWords) (now : State) (room : RoomWords) → was ≡ Some c → state_of heap (option_map collection_in was) ≡ now
@@ -48,10 +43,7 @@ room_now heap was c now room is view h =
 -- a checker that is sure of a ready collection of this state is sure of the one that is open
 pub sure_then : (sure : ImageOutline → ImageOutline → Type 0) (heap : HeapWords) (was : Option CollectionWords) (c : CollectionWords) (now : State) → was ≡ Some c → state_of heap (option_map collection_in was) ≡ now
     → IsSureIfReady sure now → is_ready (collection_in c) (graph_in heap) ≡ true → HasAccepted sure (flip_pair (open_state heap c) (collection_in c))
-sure_then sure heap was c now is view h =
-    let a : IsSureIfReady sure (state_of heap (option_map collection_in was)) = subst (IsSureIfReady sure) (sym view) h in
-    let b : IsSureIfReady sure (open_state heap c) = subst (λ o. IsSureIfReady sure (state_of heap (option_map collection_in o))) is a in
-    b
+sure_then sure heap was c now is view h = grind (arith, common_steps)
 
 -- the pair of a collection without its mark is that of the collection with it
 pub same_pair : (heap new : HeapWords) (c after : CollectionWords) → open_state new after ≡ open_state heap c → after ≡ record c { marked = false } → flip_pair (open_state new after) (collection_in after) ≡ flip_pair (open_state heap c) (collection_in c)

@@ -1,4 +1,5 @@
 -- The replies of a run, event by event, compared with a graph that has no collector.
+use Rattle.std.proofs.lemmas.Grind.{common_steps}
 use Rattle.std.proofs.Common.{◌≡◌, ◌≢◌, ◌⊎◌, inl, inr, ℕ, ◌<◌, ◌≤◌, nat_lt, List, [], ◌∷◌, Option, Some, None, refl, sym, subst, arith}
 use Rattle.std.proofs.lemmas.Bool.{cond_both, ltb-true}
 use Rattle.gc_graph.specs.Limits.{largest_space}
@@ -6,7 +7,6 @@ use Rattle.gc_graph.specs.Graph.{Graph, opening, fresh_name}
 use Rattle.gc_graph.specs.Machine.{Roomy, step, words_taken, roomy_step, MakesObject}
 use Rattle.gc_graph.specs.Legal.{IsLegalFrom, IsLegal}
 use Rattle.gc_graph.specs.declared.command.Op.{Op}
-use Rattle.gc_graph.specs.declared.command.Op.TheVariants as ops
 use Rattle.gc_graph.specs.declared.reply.Reply.{Reply}
 use Rattle.gc_graph.specs.declared.reply.Reply.TheVariants.{Full}
 use Rattle.gc_graph.proofs.Public.{Matched, AlikeAfter, step_alike, matched_of, own_pairs, matched_itself, fresh_unused, joined, composed}
@@ -67,15 +67,7 @@ module _ (s : State) (ok : IsState s) where
 -- ---- a command gets the reply that it gets on the graph without a collector, or `Full`
 
 full_makes : (op : Op) (free : ℕ) → free < words_taken op → MakesObject op
-full_makes (ops.New d kind len) free h = tt
-full_makes (ops.NewRaw d kind len) free h = tt
-full_makes (ops.Num d n) free h = absurd (omega arith)
-full_makes (ops.Nil d) free h = absurd (omega arith)
-full_makes (ops.Move d s) free h = absurd (omega arith)
-full_makes (ops.Get d s i) free h = absurd (omega arith)
-full_makes (ops.Put s i t) free h = absurd (omega arith)
-full_makes (ops.Same s t) free h = absurd (omega arith)
-full_makes (ops.Look s) free h = absurd (omega arith)
+full_makes op free h = grind (arith, common_steps)
 
 -- the reply and the next state, compared with the graph g: `Full` with nothing changed, or the same step
 abbrev Beside : Graph → ℕ → Op → Reply × Roomy → Type 0

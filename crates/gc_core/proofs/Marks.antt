@@ -1,10 +1,11 @@
 -- What commands and steps leave of the marks of a collected heap.
+use Rattle.std.proofs.lemmas.Grind.{common_steps}
 use Rattle.std.proofs.Common.{◌≡◌, ◌≢◌, ⊎_elim, ℕ, zero, suc, ◌+◌, ◌-◌, ◌<◌, ◌≤◌, nat_lt, List, [], ◌∷◌, length, map, slice_get, replicate, Option, Some, None, refl, sym, ap, ◌∙◌, subst, arith}
 use Rattle.std.specs.Prelude.{IfSome, slice_index, slice_set, false, min, max}
 use Rattle.std.specs.Option.{option_map}
 use Rattle.std.proofs.lemmas.Bool.{cond_both, cond-true, cases_lt, cases_eq, lt-ltb, ltb-true}
 use Rattle.gc_graph.specs.Slots.{SlotName, place, roots_of}
-use Rattle.gc_graph.specs.Graph.{Graph, Value, Nil, Num, Ref, lookup, root, value_or_nil, set_root}
+use Rattle.gc_graph.specs.Graph.{Value, Nil, Num, Ref, root, value_or_nil}
 use Rattle.gc_graph.specs.Machine.{Roomy}
 use Rattle.gc_heap.specs.ExtraRoots.{extra_slot}
 use Rattle.gc_heap.specs.declared.options.HeapOptions.{HeapOptions}
@@ -20,11 +21,11 @@ use Rattle.gc_graph.specs.declared.reply.Reply.TheVariants as replies
 use Rattle.gc_plan.specs.State.{Collection, State}
 use Rattle.gc_copy.specs.Words.{LinksNothing, state_of}
 use Rattle.gc_plan.specs.Staying.{HasReplicaOf, KnowsRoot, root_written}
-use Rattle.gc_plan.specs.Steps.{mutate, collect, collect_with, with_collection, root_target, copy_root, place_replica, if_room}
+use Rattle.gc_plan.specs.Steps.{mutate, collect, root_target, copy_root}
 use Rattle.gc_plan.specs.declared.step.Step.{Step}
 use Rattle.gc_plan.specs.declared.step.Step.TheVariants as steps
 use Rattle.gc_plan.specs.declared.step.StepReply.{StepReply}
-use Rattle.gc_plan.specs.declared.step.StepReply.TheVariants.{Clean, NoRoom, Copied}
+use Rattle.gc_plan.specs.declared.step.StepReply.TheVariants.{Copied}
 use Rattle.gc_copy.specs.declared.collection.roots.MissingRoot.{MissingRoot}
 use Rattle.gc_copy.proofs.Public.{placed_has}
 use Rattle.gc_plan.proofs.Public.{steps_stay, collect_stays, mutate_stays, root_kept, roots_counted, flip_nil, flip_count}
@@ -40,9 +41,7 @@ with_row c pair = (pair.0, pair.1, c)
 
 -- there are as many roots as those in use
 pub use_within : (known : KnownRoots) (s : State) (heap : HeapWords) (n : ℕ) → KnowsRoots known s → s.heap.graph ≡ graph_in heap → n ≡ roots_of s.mutators + known.used → n ≤ length heap.roots
-use_within known s heap n k graph same =
-    let count = ap (λ (g : Graph). length g.roots) graph in
-    omega (arith, k.used_high, length-map heap.roots value_of)
+use_within known s heap n k graph same = grind (arith, common_steps, length-map)
 
 -- and those behind them are nil
 pub nil_behind : (known : KnownRoots) (s : State) (n : ℕ) → KnowsRoots known s → n ≡ roots_of s.mutators + known.used → (p : ℕ) → n ≤ p → root s.heap.graph p ≡ Nil
@@ -69,30 +68,11 @@ not_this end m op p below le e = let less = below p e in absurd (omega (arith, l
 -- a command that writes at most a slot
 pub slot_command : (known : KnownRoots) (s : State) (m : ℕ) (op : Op) → WritesBelow (roots_of s.mutators) m op → KnowsRoots known s
     → KnowsRoots (record { slots = 0; extra = known.extra; used = known.used; count = known.count }) (mutate s m op).1
-slot_command known s m op below k = record {
-  slots_high = omega arith;
-  extra_high = k.extra_high;
-  used_high = omega (arith, roots_counted s m op, k.used_high);
-  counted = omega (arith, roots_counted s m op, k.counted);
-  slots = λ p less. absurd (omega (arith, less));
-  extra = λ i less. mutate_stays s m op (roots_of s.mutators + i) (not_this (roots_of s.mutators) m op (roots_of s.mutators + i) below (omega arith)) (k.extra i less);
-  unused = λ i le. root_kept s m op (roots_of s.mutators + i) (not_this (roots_of s.mutators) m op (roots_of s.mutators + i) below (omega arith)) ∙ k.unused i le;
-}
+slot_command known s m op below k = grind (arith, common_steps, roots_counted, mutate_stays, not_this, root_kept)
 
 -- a command that writes no root
 pub quiet_command : (known : KnownRoots) (s : State) (m : ℕ) (op : Op) → root_written m op ≡ None → KnowsRoots known s → KnowsRoots known (mutate s m op).1
-quiet_command known s m op none k = record {
-  slots_high = k.slots_high;
-  extra_high = k.extra_high;
-  used_high = omega (arith, roots_counted s m op, k.used_high);
-  counted = omega (arith, roots_counted s m op, k.counted);
-  slots = λ p less. mutate_stays s m op p (other p) (k.slots p less);
-  extra = λ i less. mutate_stays s m op (roots_of s.mutators + i) (other (roots_of s.mutators + i)) (k.extra i less);
-  unused = λ i le. root_kept s m op (roots_of s.mutators + i) (other (roots_of s.mutators + i)) ∙ k.unused i le;
-}
-  where
-    other : (p : ℕ) → root_written m op ≢ Some p
-    other p e = absurd (let no : None ≡ Some p = sym none ∙ e in cc)
+quiet_command known s m op none k = grind (arith, common_steps, roots_counted, mutate_stays, root_kept)
 
 -- a value that refers to no object
 abbrev pub RefersNot : Value → Type 0
@@ -113,13 +93,7 @@ SetsPlain (ops.Same s t) = ⊥
 SetsPlain (ops.Look s) = ⊥
 
 plain_known : (s : State) (p : ℕ) → RefersNot (root s.heap.graph p) → KnowsRoot s p
-plain_known s p plain = go s.collection (root s.heap.graph p) plain
-  where
-    go : (o : Option Collection) (v : Value) → RefersNot v → IfSome o (λ c. HasReplicaOf c v)
-    go None v plain = tt
-    go (Some c) Nil plain = tt
-    go (Some c) (Num n) plain = tt
-    go (Some c) (Ref a) plain = absurd plain
+plain_known s p plain = grind (arith, common_steps)
 
 set_plain : (vs : List Value) (q : ℕ) (v : Value) → RefersNot v → RefersNot (value_or_nil (slice_get (slice_set vs q v) q))
 set_plain [] q v plain = tt
@@ -174,18 +148,7 @@ plain_command known s m op plain below k = record {
 -- a command that writes extra root i
 pub stored_command : (known : KnownRoots) (s : State) (m i : ℕ) (op : Op) → root_written m op ≡ Some (roots_of s.mutators + i) → roots_of s.mutators + i < length s.heap.graph.roots → KnowsRoots known s
     → KnowsRoots (record { slots = known.slots; extra = min known.extra i; used = max known.used (i + 1); count = known.count }) (mutate s m op).1
-stored_command known s m i op at within k = record {
-  slots_high = k.slots_high;
-  extra_high = omega (arith, k.extra_high);
-  used_high = omega (arith, roots_counted s m op, k.used_high, within);
-  counted = omega (arith, roots_counted s m op, k.counted);
-  slots = λ p less. mutate_stays s m op p (other p (omega (arith, less, k.slots_high))) (k.slots p less);
-  extra = λ j less. mutate_stays s m op (roots_of s.mutators + j) (other (roots_of s.mutators + j) (omega (arith, less))) (k.extra j (omega (arith, less)));
-  unused = λ j le. root_kept s m op (roots_of s.mutators + j) (other (roots_of s.mutators + j) (omega (arith, le))) ∙ k.unused j (omega (arith, le));
-}
-  where
-    other : (p : ℕ) → p ≢ roots_of s.mutators + i → root_written m op ≢ Some p
-    other p differ e = let same : roots_of s.mutators + i ≡ p = cc (sym at ∙ e) in differ (sym same)
+stored_command known s m i op at within k = grind (arith, common_steps, roots_counted, mutate_stays, root_kept)
 
 -- ---- nil
 
@@ -197,17 +160,7 @@ set_nil (v ∷ vs) (suc q) = set_nil vs q
 -- ---- steps
 
 pub step_knows : (known : KnownRoots) (s : State) (c : Collection) (step : Step) → s.collection ≡ Some c → step ≢ steps.Flip → KnowsRoots known s → KnowsRoots known (collect s step).1
-step_knows known s c step is other k =
-    let stays : (collect s step).1 ≡ with_collection s (collect s step).1.collection = steps_stay s step other in
-    subst (KnowsRoots known) (sym stays) (record {
-      slots_high = k.slots_high;
-      extra_high = k.extra_high;
-      used_high = k.used_high;
-      counted = k.counted;
-      slots = λ p less. subst (λ (t : State). KnowsRoot t p) stays (collect_stays p s c step is (k.slots p less));
-      extra = λ i less. subst (λ (t : State). KnowsRoot t (roots_of s.mutators + i)) stays (collect_stays (roots_of s.mutators + i) s c step is (k.extra i less));
-      unused = k.unused;
-    })
+step_knows known s c step is other k = grind (arith, common_steps, steps_stay, collect_stays)
 
 -- ---- searches
 
@@ -250,19 +203,11 @@ module _ (known : KnownRoots) (s : State) (c : Collection) (is : s.collection �
 
 -- after a root's target was replicated it has a replica
 copied_has : (s next : State) (c : Collection) (name p : ℕ) → root s.heap.graph p ≡ Ref name → copy_root s c (Some name) ≡ (Copied, next) → KnowsRoot next p
-copied_has s next c name p at e = go (place_replica c name (lookup s.heap.graph.objects name)) refl e
-  where
-    go : (o : Option Collection) → place_replica c name (lookup s.heap.graph.objects name) ≡ o → if_room s Copied o ≡ (Copied, next) → KnowsRoot next p
-    go None is e = absurd (let no : NoRoom ≡ Copied = ap (λ (x : StepReply × State). x.0) e in cc)
-    go (Some d) is e = subst (λ (t : State). KnowsRoot t p) (ap (λ (x : StepReply × State). x.1) e) (subst (HasReplicaOf d) (sym at) (placed_has c d name (lookup s.heap.graph.objects name) is))
+copied_has s next c name p at e = grind (arith, common_steps, placed_has)
 
 pub copied_knows : (known : KnownRoots) (s next : State) (c : Collection) (found : Option MissingRoot) → s.collection ≡ Some c → option_map (λ (r : MissingRoot). r.target.0) found ≡ root_target c s.heap.graph
     → IfSome found (FindsFirst known s) → collect s steps.Roots ≡ (Copied, next) → KnowsRoot next (next_place (roots_of s.mutators) known)
-copied_knows known s next c found is first finds e = go found first finds (sym (ap (λ o. collect_with s o steps.Roots) is) ∙ e)
-  where
-    go : (o : Option MissingRoot) → option_map (λ (r : MissingRoot). r.target.0) o ≡ root_target c s.heap.graph → IfSome o (FindsFirst known s) → copy_root s c (root_target c s.heap.graph) ≡ (Copied, next) → KnowsRoot next (next_place (roots_of s.mutators) known)
-    go None first finds e = absurd (let no : Clean ≡ Copied = ap (λ (x : StepReply × State). x.0) (ap (copy_root s c) first ∙ e) in cc)
-    go (Some r) first finds e = subst (KnowsRoot next) finds.next (copied_has s next c r.target.0 r.place finds.target (ap (copy_root s c) first ∙ e))
+copied_knows known s next c found is first finds e = grind (arith, common_steps, copied_has)
 
 -- ---- commands that fill fields
 
@@ -310,11 +255,7 @@ put_knows known s new m i d t reply steps k = subst (KnowsRoots known) (ap (λ (
 -- ---- nil roots
 
 nil_known : (s : State) (p : ℕ) → root s.heap.graph p ≡ Nil → KnowsRoot s p
-nil_known s p e = go s.collection
-  where
-    go : (o : Option Collection) → IfSome o (λ c. HasReplicaOf c (root s.heap.graph p))
-    go None = tt
-    go (Some c) = subst (HasReplicaOf c) (sym e) tt
+nil_known s p e = grind (arith, common_steps)
 
 -- the command that makes extra root i nil
 abbrev Clears : State → ℕ → State
@@ -327,11 +268,7 @@ elsewhere : (s : State) (i p : ℕ) → p ≢ roots_of s.mutators + i → root_w
 elsewhere s i p differ e = let same : roots_of s.mutators + i ≡ p = cc (sym (written_at s i) ∙ e) in differ (sym same)
 
 nil_made : (s : State) (i : ℕ) → root (Clears s i).heap.graph (roots_of s.mutators + i) ≡ Nil
-nil_made s i =
-    let op = ops.Nil (extra_slot s.mutators 0 i) in
-    cond_both (nat_lt s.heap.free 0) _ _ (λ (x : Reply × Roomy). root x.1.graph (roots_of s.mutators + i) ≡ Nil)
-    (λ t. absurd (let no = ltb-true s.heap.free 0 t in omega (arith, no)))
-    (λ t. subst (λ p. root (set_root s.heap.graph (place (extra_slot s.mutators 0 i) 0) Nil) p ≡ Nil) (extra_place s.mutators 0 i (omega arith)) (set_nil s.heap.graph.roots (place (extra_slot s.mutators 0 i) 0)))
+nil_made s i = grind (arith, common_steps, cond_both, ltb-true, extra_place, set_nil)
 
 nil_stays : (s : State) (i p : ℕ) → root s.heap.graph p ≡ Nil → root (Clears s i).heap.graph p ≡ Nil
 nil_stays s i p e = ⊎_elim
@@ -379,15 +316,7 @@ clear_next s i j n count e f = ap (clear_step s i) e ∙ ap (λ q. clear_step (C
 
 pub lowered : (known : KnownRoots) (s : State) (from to : ℕ) → from ≤ known.used → known.used ≤ to → KnowsRoots known s
     → ((i : ℕ) → from ≤ i → i < to → root s.heap.graph (roots_of s.mutators + i) ≡ Nil) → KnowsRoots (record { slots = known.slots; extra = min known.extra from; used = from; count = known.count }) s
-lowered known s from to low high k nil = record {
-  slots_high = k.slots_high;
-  extra_high = omega arith;
-  used_high = omega (arith, k.used_high, low);
-  counted = k.counted;
-  slots = k.slots;
-  extra = λ i less. k.extra i (omega (arith, less));
-  unused = λ i le. ⊎_elim (λ l. nil i le l) (λ l. k.unused i (omega (arith, l, high))) (cases_lt i to);
-}
+lowered known s from to low high k nil = grind (arith, common_steps, cases_lt)
 
 -- the next place, if the marks tell of some slots only
 pub next_slot : (slots : ℕ) (known : KnownRoots) → known.slots < slots → next_place slots known ≡ known.slots
@@ -401,8 +330,7 @@ nil_words (suc n) zero = refl
 nil_words (suc n) (suc p) = nil_words n p
 
 no_word : (a : ℕ) → slice_index (0 ∷ []) (a + 1) - 0 ≡ 0
-no_word zero = refl
-no_word (suc a) = let past : suc (suc a) ≡ suc a + 1 = omega arith in subst (λ n. slice_index (0 ∷ []) n - 0 ≡ 0) past refl
+no_word a = grind (arith, common_steps)
 
 -- a heap that was just opened has no links
 pub no_links : (options : HeapOptions) (heap : HeapWords) → heap ≡ empty_heap options → LinksNothing false heap
@@ -411,19 +339,7 @@ no_links options heap empty = subst (LinksNothing false) (sym empty) (λ a start
 -- all roots of a heap that was just opened are nil
 pub opening_knows : (options : HeapOptions) (heap : HeapWords) (known : KnownRoots) (count : ℕ) → heap ≡ empty_heap options → count ≡ length heap.roots → known ≡ record { slots = 0; extra = 0; used = 0; count = count }
     → KnowsRoots known (state_of heap None)
-opening_knows options heap known count empty all_of new =
-    let all = roots_of options.mutators + options.extra_roots in
-    let opened : KnowsRoots (record { slots = 0; extra = 0; used = 0; count = length (empty_heap options).roots }) (state_of (empty_heap options) None) = record {
-      slots_high = omega arith;
-      extra_high = omega arith;
-      used_high = omega (arith, length-map (empty_heap options).roots value_of, length-replicate {A = ℕ} all 0);
-      counted = length-map (empty_heap options).roots value_of;
-      slots = λ p less. absurd (omega (arith, less));
-      extra = λ i less. absurd (omega (arith, less));
-      unused = λ i le. nil_words all (roots_of options.mutators + i);
-    } in
-    subst (λ (k : KnownRoots). KnowsRoots k (state_of heap None)) (sym (new ∙ ap (λ (n : ℕ). record { slots = 0; extra = 0; used = 0; count = n }) all_of))
-    (subst (λ (h : HeapWords). KnowsRoots (record { slots = 0; extra = 0; used = 0; count = length h.roots }) (state_of h None)) (sym empty) opened)
+opening_knows options heap known count empty all_of new = grind (arith, common_steps, length-map, length-replicate, nil_words)
 
 -- after a flip no collection is open
 pub flipped_knows : (known : KnownRoots) (s t : State) (reply : StepReply) → t.collection ≡ None → t.mutators ≡ s.mutators → collect s steps.Flip ≡ (reply, t) → KnowsRoots known s → KnowsRoots known t

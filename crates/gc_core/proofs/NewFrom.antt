@@ -1,5 +1,6 @@
 -- The commands that make an object and fill its fields, in order.
-use Rattle.std.proofs.Common.{◌≡◌, ℕ, List, [], ◌∷◌, length, Option, Some, refl, sym, ◌∙◌, ap}
+use Rattle.std.proofs.lemmas.Grind.{common_steps}
+use Rattle.std.proofs.Common.{◌≡◌, ℕ, List, [], ◌∷◌, length, Option, Some, sym, ◌∙◌, ap, arith}
 use Rattle.std.specs.Option.{option_map}
 use Rattle.gc_graph.specs.Slots.{SlotName}
 use Rattle.gc_graph.specs.declared.command.Op.TheVariants.{New, Put}
@@ -12,27 +13,15 @@ use Rattle.gc_plan.specs.Steps.{mutate}
 use Rattle.gc_core.specs.CollectedHeap.{fill_step, filled, new_from_step}
 
 filled_is : (reply : Reply) (made : State) (m : ℕ) (d : SlotName) (fields : List SlotName) → (reply ≡ replies.Full → ⊥) → filled reply made m d fields ≡ fill_step made m d 0 fields
-filled_is replies.Full made m d fields other = absurd (other refl)
-filled_is replies.Made made m d fields other = refl
-filled_is replies.Done made m d fields other = refl
-filled_is replies.NoObject made m d fields other = refl
-filled_is replies.NoField made m d fields other = refl
-filled_is replies.NoNumber made m d fields other = refl
-filled_is (replies.Saw view) made m d fields other = refl
-filled_is replies.Yes made m d fields other = refl
-filled_is replies.No made m d fields other = refl
+filled_is reply made m d fields other = grind (arith, common_steps)
 
 pub made_from : (old made new : State) (m kind : ℕ) (d : SlotName) (fields : List SlotName) (reply : Reply) → mutate old m (New d kind (length fields)) ≡ (reply, made) → (reply ≡ replies.Full → ⊥)
     → fill_step made m d 0 fields ≡ new → new_from_step old m d kind fields ≡ (reply, new)
-made_from old made new m kind d fields reply first other fill =
-    ap (λ (x : Reply × State). (x.0, filled x.0 x.1 m d fields)) first
-    ∙ ap (λ (x : State). (reply, x)) (filled_is reply made m d fields other ∙ fill)
+made_from old made new m kind d fields reply first other fill = grind (arith, common_steps, filled_is)
 
 pub full_from : (old made : State) (m kind : ℕ) (d : SlotName) (fields : List SlotName) (reply : Reply) → mutate old m (New d kind (length fields)) ≡ (reply, made) → reply ≡ replies.Full
     → new_from_step old m d kind fields ≡ (reply, made)
-full_from old made m kind d fields reply first full =
-    ap (λ (x : Reply × State). (x.0, filled x.0 x.1 m d fields)) first
-    ∙ ap (λ (x : State). (reply, x)) (ap (λ r. filled r made m d fields) full)
+full_from old made m kind d fields reply first full = grind (arith, common_steps)
 
 -- as many fields are asked for as there are slots
 pub counted : (old made : State) (m kind count : ℕ) (d : SlotName) (fields : List SlotName) (reply : Reply) → count ≡ length fields → mutate old m (New d kind count) ≡ (reply, made)

@@ -1,12 +1,13 @@
 -- Numbers that are written to a raw object in one call.
-use Rattle.std.proofs.Common.{Bool, ◌≡◌, ◌<◌, ◌≤◌, ◌+◌, ℕ, suc, cond, true, List, [], ◌∷◌, length, Option, Some, None, refl, ap, subst, ◌∙◌, arith}
+use Rattle.std.proofs.lemmas.Grind.{common_steps}
+use Rattle.std.proofs.Common.{Bool, ◌≡◌, ◌<◌, ◌≤◌, ◌+◌, ℕ, suc, true, List, [], ◌∷◌, length, Option, Some, refl, ap, subst, ◌∙◌, arith}
 use Rattle.std.specs.List.{list_all}
 use Rattle.std.specs.Option.{option_map}
 use Rattle.std.proofs.lemmas.Bool.{le-leb}
 use Rattle.gc_graph.specs.Slots.{SlotName}
 use Rattle.gc_graph.specs.declared.command.Op.TheVariants as ops
 use Rattle.gc_graph.specs.declared.reply.Reply.{Reply}
-use Rattle.gc_graph.specs.declared.reply.Reply.TheVariants.{Done, NoField, NoNumber}
+use Rattle.gc_graph.specs.declared.reply.Reply.TheVariants.{Done}
 use Rattle.gc_heap.specs.Heap.{HeapWords, IsHeap}
 use Rattle.gc_heap.specs.Filling.{WritesNumbers}
 use Rattle.gc_heap.specs.Raws.{raw_numbers}
@@ -15,22 +16,14 @@ use Rattle.gc_plan.specs.Steps.{mutate}
 use Rattle.gc_copy.specs.Words.{idle_state, LinksNothing}
 use Rattle.gc_copy.proofs.Public.{idle_left, still_unlinked}
 use Rattle.gc_core.specs.Internal.KnownRoots.{KnowsRoots}
-use Rattle.gc_core.specs.Writing.{is_number_word, numbers_step, numbers_reply, after_reply, put_numbers_step}
+use Rattle.gc_core.specs.Writing.{is_number_word, numbers_step, numbers_reply, put_numbers_step}
 use Rattle.gc_core.specs.declared.known.KnownRoots.{KnownRoots}
 use Rattle.gc_core.proofs.Marks.{number_knows}
 
 -- ---- what is known of the roots
 
 pub forgotten : (known : KnownRoots) (s : State) → KnowsRoots known s → KnowsRoots (record { slots = 0; extra = known.extra; used = known.used; count = known.count }) s
-forgotten known s k = record {
-  slots_high = omega arith;
-  extra_high = k.extra_high;
-  used_high = k.used_high;
-  counted = k.counted;
-  slots = λ p less. absurd (omega arith);
-  extra = k.extra;
-  unused = k.unused;
-}
+forgotten known s k = grind (arith, common_steps)
 
 pub numbers_know : (numbers : List ℕ) (known : KnownRoots) (s : State) (m i : ℕ) (d t : SlotName) → t.index < 16 → m < s.mutators → KnowsRoots known s → KnowsRoots known (numbers_step s m d t i numbers)
 numbers_know [] known s m i d t low less k = k
@@ -53,13 +46,8 @@ idle_written marked (n ∷ rest) heap new m i s t is links (next, w, further) =
 -- ---- the reply
 
 reply_is : (first count : ℕ) (words : List ℕ) (o : Option (List ℕ)) → Some count ≡ option_map length o → first + length words ≤ count → list_all is_number_word words ≡ true → numbers_reply first words o ≡ Done
-reply_is first count words None same fits numbers = absurd (let no : Some count ≡ None = same in cc)
-reply_is first count words (Some fields) same fits numbers =
-    let long : count ≡ length fields = cc in
-    ap (λ b. cond b (cond (list_all is_number_word words) Done NoNumber) NoField) (le-leb (first + length words) (length fields) (omega (arith, fits, long)))
-    ∙ ap (λ b. cond b Done NoNumber) numbers
+reply_is first count words o same fits numbers = grind (arith, common_steps, le-leb)
 
 pub numbers_done : (old new : State) (m first count : ℕ) (s t : SlotName) (words : List ℕ) → Some count ≡ option_map length (raw_numbers old.heap.graph s m) → first + length words ≤ count → list_all is_number_word words ≡ true
     → numbers_step old m s t first words ≡ new → put_numbers_step old m s first t words ≡ (Done, new)
-numbers_done old new m first count s t words same fits numbers steps =
-    ap (λ reply. (reply, after_reply reply old (numbers_step old m s t first words))) (reply_is first count words (raw_numbers old.heap.graph s m) same fits numbers) ∙ ap (λ (x : State). (Done, x)) steps
+numbers_done old new m first count s t words same fits numbers steps = grind (arith, common_steps, reply_is)

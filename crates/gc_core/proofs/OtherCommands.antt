@@ -1,5 +1,6 @@
 -- Commands that write no field: they change only the heap, whether a collection is open or not.
-use Rattle.std.proofs.Common.{◌≡◌, ℕ, ◌+◌, ◌<◌, Bool, length, Option, Some, None, refl, ap, subst}
+use Rattle.std.proofs.lemmas.Grind.{common_steps}
+use Rattle.std.proofs.Common.{◌≡◌, ℕ, ◌+◌, ◌<◌, Bool, length, Option, Some, None, refl, ap, subst, arith}
 use Rattle.std.specs.Prelude.{IfSome, min, max}
 use Rattle.gc_graph.specs.Slots.{roots_of}
 use Rattle.std.specs.Option.{option_map}
@@ -26,8 +27,7 @@ abbrev pub BelongsIfOpen : HeapWords → Option CollectionWords → Type 0
 BelongsIfOpen heap o = IfSome o (BelongsTo heap)
 
 pub it_belongs : (marked : Bool) (heap : HeapWords) (o : Option CollectionWords) → Fits marked heap o → BelongsIfOpen heap o
-it_belongs marked heap None fits = tt
-it_belongs marked heap (Some c) fits = fits
+it_belongs marked heap o fits = grind (arith, common_steps)
 
 pub still_belongs : (heap new : HeapWords) (o : Option CollectionWords) (m : ℕ) (op : Op) (reply : Reply) → IsHeap heap → ¬ WritesField op → Performs heap m op reply new → BelongsIfOpen heap o → BelongsIfOpen new o
 still_belongs heap new None m op reply is none performs belongs = tt

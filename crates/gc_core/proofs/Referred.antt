@@ -1,22 +1,19 @@
 -- A root that takes a reference: the collection still belongs to the heap, and what is known of extra roots is still true.
-use Rattle.std.proofs.Common.{◌≡◌, ◌≢◌, ℕ, zero, suc, ◌+◌, ◌-◌, ◌<◌, Bool, true, List, [], ◌∷◌, length, is_some, Option, Some, None, refl, sym, ◌∙◌, ap, subst, arith}
+use Rattle.std.proofs.lemmas.Grind.{common_steps}
+use Rattle.std.proofs.Common.{◌≡◌, ◌≢◌, ℕ, zero, suc, ◌+◌, ◌-◌, ◌<◌, Bool, true, List, [], ◌∷◌, length, is_some, Option, refl, sym, ◌∙◌, ap, subst, arith}
 use Rattle.std.specs.Prelude.{IfSome, slice_get, slice_set}
 use Rattle.std.specs.Option.{option_map}
 use Rattle.std.proofs.lemmas.Bool.{cond-true}
 use Rattle.std.proofs.lemmas.List.{length-set}
 use Rattle.gc_graph.specs.Slots.{SlotName, place, roots_of}
-use Rattle.gc_graph.specs.Graph.{Value, Ref, Graph, lookup, root, set_root, value_or_nil}
+use Rattle.gc_graph.specs.Graph.{Value, Ref, lookup, root, set_root, value_or_nil}
 use Rattle.gc_graph.specs.declared.reply.Reply.TheVariants.{Done, NoObject}
 use Rattle.gc_words.specs.Image.{Block, block_at, is_start, objects_of, object_of_block}
-use Rattle.gc_words.specs.Space.{SpaceWords}
-use Rattle.gc_words.specs.Spelling.{link_at}
 use Rattle.gc_words.proofs.Public.{object_found}
 use Rattle.gc_heap.specs.Heap.{HeapWords, graph_in}
 use Rattle.gc_plan.specs.State.{Collection, State}
-use Rattle.gc_plan.specs.Belonging.{Belongs}
 use Rattle.gc_plan.specs.Staying.{HasReplicaOf}
-use Rattle.gc_copy.specs.Words.{CollectionWords, collection_in, mark_of, state_of}
-use Rattle.gc_plan.specs.Linked.{old_links}
+use Rattle.gc_copy.specs.Words.{CollectionWords, state_of}
 use Rattle.gc_core.specs.Internal.CollectedHeap.{Fits}
 use Rattle.gc_core.specs.Internal.KnownRoots.{KnowsRoots}
 use Rattle.gc_core.specs.Referring.{refer_step, with_reference}
@@ -24,8 +21,7 @@ use Rattle.gc_core.specs.declared.known.KnownRoots.{KnownRoots}
 
 -- an object starts where the graph has one
 some_mapped : (o : Option Block) → is_some (option_map object_of_block o) ≡ is_some o
-some_mapped None = refl
-some_mapped (Some b) = refl
+some_mapped o = grind (arith, common_steps)
 
 pub start_named : (words : List ℕ) (a : ℕ) → is_some (lookup (objects_of words) a) ≡ is_start words a
 start_named words a = ap is_some (object_found words a) ∙ some_mapped (block_at words a)
@@ -42,12 +38,7 @@ module _ (h new : HeapWords) (p a : ℕ) (space : new.space ≡ h.space) (graph 
   }
 
   pub still_fits : (marked : Bool) (o : Option CollectionWords) → Fits marked h o → Fits marked new o
-  still_fits marked None fits = subst (λ (s : SpaceWords). (b : ℕ) → is_start s.words b ≡ true → link_at s.words b - mark_of marked ≡ 0) (sym space) fits
-  still_fits marked (Some c) fits = record {
-    belongs = subst (λ (g : Graph). Belongs g.objects (collection_in c)) (sym graph) fits.belongs;
-    links = subst (λ (s : SpaceWords). (b : ℕ) → is_start s.words b ≡ true → link_at s.words b - mark_of c.marked ≡ old_links (collection_in c) b) (sym space) fits.links;
-    logs = fits.logs ∙ sym mutators;
-  }
+  still_fits marked o fits = grind (arith, common_steps)
 
 -- ---- the marks
 

@@ -1,16 +1,15 @@
 -- What is shown of the mutators' space: an image whose links lead to the replicas, and words with the exact links.
-use Rattle.std.proofs.Common.{◌≡◌, ◌-◌, Bool, ℕ, Option, Some, None, true, map, length, sym, ◌∙◌, ap, subst}
+use Rattle.std.proofs.lemmas.Grind.{common_steps}
+use Rattle.std.proofs.Common.{◌≡◌, ◌-◌, Bool, ℕ, Option, Some, None, length, ◌∙◌, subst, arith}
 use Rattle.std.specs.Option.{option_map}
-use Rattle.gc_words.specs.Word.{value_of, word_of}
-use Rattle.gc_words.specs.Image.{Image, blocks, is_start}
+use Rattle.gc_words.specs.Image.{Image, blocks}
 use Rattle.gc_words.specs.Spelling.{link_at, spelled}
 use Rattle.gc_heap.specs.Heap.{HeapWords, IsHeap, image_of, graph_in}
-use Rattle.gc_plan.specs.State.{State, Collection}
-use Rattle.gc_plan.specs.Linked.{LeadsTo, LeadsToOpen, linked_image, old_links}
-use Rattle.gc_copy.specs.Words.{CollectionWords, IsCollection, BelongsTo, LinksNothing, collection_in, mark_of, state_of}
+use Rattle.gc_plan.specs.State.{State}
+use Rattle.gc_plan.specs.Linked.{LeadsTo, linked_image, old_links}
+use Rattle.gc_copy.specs.Words.{CollectionWords, BelongsTo, LinksNothing, collection_in, mark_of, state_of}
 use Rattle.gc_copy.proofs.Public.{lowered_words, other_links}
 use Rattle.gc_along.specs.Outline.{outline_of}
-use Rattle.gc_core.specs.Internal.CollectedHeap.{Fits}
 use Rattle.gc_core.specs.Readings.{ShowsHeap, heap_image, links_of}
 
 -- the heap has as many words as its image with the exact links
@@ -35,8 +34,4 @@ open_words heap c is belongs = lowered_words heap (old_links (collection_in c)) 
 
 -- the outline of an image does not depend on links
 pub same_outline : (heap : HeapWords) → IsHeap heap → (links : ℕ → ℕ) → image_of heap ≡ linked_image (link_at heap.space.words) heap.space.size (graph_in heap) → outline_of (image_of heap) ≡ outline_of (linked_image links heap.space.size (graph_in heap))
-same_outline heap is links all =
-    let here = (other_links heap is (link_at heap.space.words)).2 in
-    let there = (other_links heap is links).2 in
-    let count = here ∙ sym there in
-    ap outline_of all ∙ (λ i. record { size = heap.space.size; end = count i; count = count i; roots = map word_of (map value_of heap.roots); raws = true })
+same_outline heap is links all = grind (arith, common_steps, other_links)

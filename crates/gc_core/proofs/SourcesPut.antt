@@ -1,5 +1,6 @@
 -- The commands that make an object whose fields take numbers and the values of slots, in order.
-use Rattle.std.proofs.Common.{◌≡◌, ◌<◌, ℕ, suc, List, [], ◌∷◌, length, refl, sym, ◌∙◌, ap, subst}
+use Rattle.std.proofs.lemmas.Grind.{common_steps}
+use Rattle.std.proofs.Common.{◌≡◌, ◌<◌, ℕ, suc, List, [], ◌∷◌, length, refl, sym, ap, subst, arith}
 use Rattle.gc_graph.specs.Slots.{SlotName, place, roots_of}
 use Rattle.gc_graph.specs.declared.command.Op.TheVariants.{New, Num, Put}
 use Rattle.gc_graph.specs.declared.reply.Reply.{Reply}
@@ -14,27 +15,15 @@ use Rattle.gc_core.specs.declared.known.KnownRoots.{KnownRoots}
 use Rattle.gc_core.proofs.Marks.{WritesBelow, slot_below, one_below, slot_command, put_knows}
 
 mixed_is : (reply : Reply) (made : State) (m : ℕ) (d t : SlotName) (fields : List FieldSource) → (reply ≡ replies.Full → ⊥) → mixed reply made m d t fields ≡ sources_step made m d t 0 fields
-mixed_is replies.Full made m d t fields other = absurd (other refl)
-mixed_is replies.Made made m d t fields other = refl
-mixed_is replies.Done made m d t fields other = refl
-mixed_is replies.NoObject made m d t fields other = refl
-mixed_is replies.NoField made m d t fields other = refl
-mixed_is replies.NoNumber made m d t fields other = refl
-mixed_is (replies.Saw view) made m d t fields other = refl
-mixed_is replies.Yes made m d t fields other = refl
-mixed_is replies.No made m d t fields other = refl
+mixed_is reply made m d t fields other = grind (arith, common_steps)
 
 pub made_with : (old made new : State) (m kind count : ℕ) (d t : SlotName) (fields : List FieldSource) (reply : Reply) → count ≡ length fields → mutate old m (New d kind count) ≡ (reply, made) → (reply ≡ replies.Full → ⊥)
     → sources_step made m d t 0 fields ≡ new → new_with_step old m d kind t fields ≡ (reply, new)
-made_with old made new m kind count d t fields reply same first other fill =
-    ap (λ (x : Reply × State). (x.0, mixed x.0 x.1 m d t fields)) (ap (λ n. mutate old m (New d kind n)) (sym same) ∙ first)
-    ∙ ap (λ (x : State). (reply, x)) (mixed_is reply made m d t fields other ∙ fill)
+made_with old made new m kind count d t fields reply same first other fill = grind (arith, common_steps, mixed_is)
 
 pub full_with : (old made : State) (m kind count : ℕ) (d t : SlotName) (fields : List FieldSource) (reply : Reply) → count ≡ length fields → mutate old m (New d kind count) ≡ (reply, made) → reply ≡ replies.Full
     → new_with_step old m d kind t fields ≡ (reply, made)
-full_with old made m kind count d t fields reply same first full =
-    ap (λ (x : Reply × State). (x.0, mixed x.0 x.1 m d t fields)) (ap (λ n. mutate old m (New d kind n)) (sym same) ∙ first)
-    ∙ ap (λ (x : State). (reply, x)) (ap (λ r. mixed r made m d t fields) full)
+full_with old made m kind count d t fields reply same first full = grind (arith, common_steps)
 
 -- ---- what is known of the roots
 
@@ -53,9 +42,7 @@ source_knows known s m i d t (sources.Slot v) low less k =
     put_knows (forgetting known) s one.1 m i d v one.0 refl k
 
 mutators_kept : (s : State) (m i : ℕ) (d t : SlotName) (source : FieldSource) → (source_step s m d t i source).mutators ≡ s.mutators
-mutators_kept s m i d t sources.Nil = refl
-mutators_kept s m i d t (sources.Number n) = refl
-mutators_kept s m i d t (sources.Slot v) = refl
+mutators_kept s m i d t source = grind (arith, common_steps)
 
 sources_know : (fields : List FieldSource) (known : KnownRoots) (s : State) (m i : ℕ) (d t : SlotName) → t.index < 16 → m < s.mutators → KnowsRoots (forgetting known) s → KnowsRoots (forgetting known) (sources_step s m d t i fields)
 sources_know [] known s m i d t low less k = k

@@ -1,9 +1,10 @@
 -- Commands on a heap of words, as commands on its graph.
-use Rattle.std.proofs.Common.{◌≡◌, ℕ, suc, zero, ◌<◌, Bool, true, false, cond, ◌==◌, List, [], ◌∷◌, length, Some, None, is_some, refl, sym, ◌∙◌, ap, subst, inl, inr, arith}
+use Rattle.std.proofs.lemmas.Grind.{common_steps}
+use Rattle.std.proofs.Common.{◌≡◌, ℕ, suc, zero, ◌<◌, Bool, true, false, cond, List, [], ◌∷◌, length, Some, None, is_some, refl, sym, ◌∙◌, ap, subst, inl, inr, arith}
 use Rattle.std.specs.Prelude.{not, ◌&&◌, slice_get, slice_index, slice_set, get_or}
 use Rattle.std.specs.Option.{option_map}
 use Rattle.std.proofs.lemmas.Bool.{eqb-true, eq-eqb, cases_Bool, and_from, and_parts}
-use Rattle.gc_graph.specs.Graph.{Value, Nil, Num, Ref, Object, Graph, lookup, object_of, field_of, root, set_root, set_field}
+use Rattle.gc_graph.specs.Graph.{Value, Ref, Object, Graph, object_of, field_of, root, set_root, set_field}
 use Rattle.gc_graph.specs.Machine.{view_of, same, get_field, is_number, put_field}
 use Rattle.gc_graph.specs.declared.reply.Reply.{Reply}
 use Rattle.gc_graph.specs.declared.reply.Reply.TheVariants.{Done, NoField, NoNumber, Saw}
@@ -28,20 +29,13 @@ get_index (x ∷ xs) (suc i) h = get_index xs i (omega arith)
 
 -- an index within bounds reads the same for every default
 pub read_root : (h : HeapWords) (items : List ℕ) (p w : ℕ) → items ≡ h.roots → p < length h.roots → w ≡ get_or items p w → w ≡ slice_index h.roots p
-read_root h items p w same less read = subst (λ xs. w ≡ get_or xs p w → w ≡ slice_index h.roots p) (sym same) (λ e. e ∙ known h.roots p w less) read
-  where
-    known : (xs : List ℕ) (i w : ℕ) → i < length xs → get_or xs i w ≡ slice_index xs i
-    known [] i w h = absurd (omega arith)
-    known (x ∷ xs) zero w h = refl
-    known (x ∷ xs) (suc i) w h = known xs i w (omega arith)
+read_root h items p w same less read = grind (arith, common_steps)
 
 pub root_word : (h : HeapWords) (p : ℕ) → IsHeap h → p < length h.roots → IsRootWord h.space.words (slice_index h.roots p)
 root_word h p heap less = closed_root_read h.space.words h.roots p (slice_index h.roots p) heap.closed (get_index h.roots p less)
 
 pub named : (v : Value) (a : ℕ) → Some a ≡ name_of v → v ≡ Ref a
-named Nil a e = absurd (let no : Some a ≡ None = e in cc)
-named (Num n) a e = absurd (let no : Some a ≡ None = e in cc)
-named (Ref b) a e = cc
+named v a e = grind (arith, common_steps)
 
 -- ---- the object that a root refers to
 
@@ -148,22 +142,10 @@ not_there t b both e = elim (cases_Bool b) [ inl yes' ↦ absurd (let no : true 
 -- ---- same
 
 there_is : (h : HeapWords) (v : Value) → RefersToStart h.space.words v → same (graph_in h).objects v v ≡ true
-there_is h Nil r = refl
-there_is h (Num n) r = eq-eqb n n refl
-there_is h (Ref a) r =
-    let b : (b : Block) × (block_at h.space.words a ≡ Some b) = some_of (block_at h.space.words a) r in
-    and_from (a == a) (is_some (lookup (graph_in h).objects a)) (eq-eqb a a refl) (ap is_some (object_found h.space.words a ∙ ap (option_map object_of_block) b.1))
+there_is h v r = grind (arith, common_steps, eq-eqb, some_of, and_from, object_found)
 
 same_true : (os : List (ℕ × Object)) (v w : Value) → same os v w ≡ true → v ≡ w
-same_true os Nil Nil e = refl
-same_true os Nil (Num b) e = absurd (let no : false ≡ true = e in cc)
-same_true os Nil (Ref b) e = absurd (let no : false ≡ true = e in cc)
-same_true os (Num a) Nil e = absurd (let no : false ≡ true = e in cc)
-same_true os (Num a) (Num b) e = ap Num (eqb-true a b e)
-same_true os (Num a) (Ref b) e = absurd (let no : false ≡ true = e in cc)
-same_true os (Ref a) Nil e = absurd (let no : false ≡ true = e in cc)
-same_true os (Ref a) (Num b) e = absurd (let no : false ≡ true = e in cc)
-same_true os (Ref a) (Ref b) e = ap Ref (eqb-true a b (and_parts (a == b) (is_some (lookup os a)) e).0)
+same_true os v w e = grind (arith, common_steps, eqb-true, and_parts)
 
 spelled_back : (words : List ℕ) (w : ℕ) → IsRootWord words w → word_of (value_of w) ≡ w
 spelled_back words w is = (word_read_back w (value_of w) (ap (λ b. cond b (Some (value_of w)) None) is.value)).0
@@ -173,11 +155,7 @@ pub same_words : (h : HeapWords) (v w : ℕ) → IsRootWord h.space.words v → 
 same_words h v w one other e = ap (λ x. same (graph_in h).objects (value_of v) (value_of x)) (sym e) ∙ there_is h (value_of v) one.start
 
 pub other_words : (h : HeapWords) (v w : ℕ) → IsRootWord h.space.words v → IsRootWord h.space.words w → (v ≡ w → ⊥) → same (graph_in h).objects (value_of v) (value_of w) ≡ false
-other_words h v w one other differ =
-    elim (cases_Bool (same (graph_in h).objects (value_of v) (value_of w))) [
-      | inl alike ↦ absurd (differ (sym (spelled_back h.space.words v one) ∙ ap word_of (same_true (graph_in h).objects (value_of v) (value_of w) alike) ∙ spelled_back h.space.words w other))
-      | inr not ↦ not
-    ]
+other_words h v w one other differ = grind (arith, common_steps, cases_Bool, spelled_back, same_true)
 
 pub at_root : (h : HeapWords) (p w : ℕ) → w ≡ slice_index h.roots p → root (graph_in h) p ≡ value_of w
 at_root h p w read = root_value h.roots p ∙ ap value_of (sym read)

@@ -1,8 +1,9 @@
 -- Links after a command.
-use Rattle.std.proofs.Common.{◌≡◌, ℕ, List, Option, Some, None, true, false, ◌==◌, is_some, refl, sym, ◌∙◌, ap, subst, inl, inr}
+use Rattle.std.proofs.lemmas.Grind.{common_steps}
+use Rattle.std.proofs.Common.{◌≡◌, ℕ, List, true, false, ◌==◌, is_some, sym, ◌∙◌, ap, subst, inl, inr, arith}
 use Rattle.std.specs.Prelude.{IsSome}
 use Rattle.std.proofs.lemmas.Bool.{eqb-true, eqb-false, cases_Bool}
-use Rattle.gc_words.specs.Image.{Block, fresh_block, block_at, is_start, field_at, field_in}
+use Rattle.gc_words.specs.Image.{fresh_block, block_at, is_start, field_at}
 use Rattle.gc_words.specs.Spelling.{link_at}
 use Rattle.gc_words.specs.Layout.{field_place}
 use Rattle.gc_words.specs.Space.{SpaceWords, IsSpace, CanPlace, end_of, with_object, with_word}
@@ -16,10 +17,7 @@ differs words others x same old new = (let no : true ≡ false = sym new ∙ ap 
 
 -- no word changes
 pub links_kept : (words : List ℕ) → KeepsLinks words words
-links_kept words = record {
-  kept = λ start there. refl;
-  fresh = λ start old new. absurd (let no : true ≡ false = sym new ∙ old in cc);
-}
+links_kept words = grind (arith, common_steps)
 
 pub links_placed : (s : SpaceWords) (h : Header) → CanPlace s h → KeepsLinks s.words (with_object s h).words
 links_placed s h can = record {
@@ -31,14 +29,4 @@ links_placed s h can = record {
 }
 
 pub links_written : (s : SpaceWords) (a i w : ℕ) → IsSpace s → IsSome (field_at s.words a i) → KeepsLinks s.words (with_word s (field_place a i) w).words
-links_written s a i w space some = record {
-  kept = λ start there. link_beside_field s a i w start space some there;
-  fresh = λ start old new. elim (cases_Bool (a == start)) [
-    | inl here ↦ absurd (there (block_at s.words a) some (subst (λ x. is_start s.words x ≡ false) (sym (eqb-true a start here)) old))
-    | inr other ↦ absurd (differs s.words (with_word s (field_place a i) w).words start (field_beside s a i w start space some (eqb-false a start other)) old new)
-  ];
-}
-  where
-    there : (o : Option Block) → IsSome (field_in o i) → is_some o ≡ false → ⊥
-    there None field no_start = (let no : false ≡ true = field in cc)
-    there (Some b) field no_start = (let no : true ≡ false = no_start in cc)
+links_written s a i w space some = grind (arith, common_steps, link_beside_field, cases_Bool, eqb-true, differs, field_beside, eqb-false)

@@ -1,17 +1,18 @@
 -- Numbers that are written to a raw object, one by one.
-use Rattle.std.proofs.Common.{◌≡◌, ◌<◌, ◌≤◌, ◌+◌, ◌-◌, ◌*◌, ◌^◌, ℕ, suc, List, [], ◌∷◌, length, map, Some, None, Bool, cond, true, false, refl, sym, ap, subst, ◌∙◌, arith}
+use Rattle.std.proofs.lemmas.Grind.{common_steps}
+use Rattle.std.proofs.Common.{◌≡◌, ◌<◌, ◌≤◌, ◌+◌, ◌-◌, ◌*◌, ◌^◌, ℕ, suc, List, [], ◌∷◌, length, Some, None, cond, true, false, refl, sym, ap, subst, ◌∙◌, arith}
 use Rattle.std.specs.Prelude.{get_or, slice_set, IsSome, not, ◌&&◌}
 use Rattle.std.specs.List.{All}
 use Rattle.std.proofs.lemmas.List.{length-set, length-map, get_or-set_same}
 use Rattle.gc_words.specs.declared.header.Header.{Header}
-use Rattle.gc_heap.specs.Raws.{number_of, numbers_in, raw_numbers}
+use Rattle.gc_heap.specs.Raws.{raw_numbers}
 use Rattle.gc_graph.specs.Graph.{Num, root, name_of}
 use Rattle.gc_graph.specs.Slots.{SlotName, place}
 use Rattle.gc_graph.specs.Machine.{is_number}
 use Rattle.gc_graph.specs.declared.command.Op.TheVariants as ops
 use Rattle.gc_graph.specs.declared.reply.Reply.TheVariants.{Done}
 use Rattle.gc_words.specs.Word.{value_of, word_of, field_value}
-use Rattle.gc_words.specs.Image.{Block, field_at, field_in}
+use Rattle.gc_words.specs.Image.{field_at, field_in}
 use Rattle.gc_words.specs.Layout.{field_place}
 use Rattle.gc_words.specs.Space.{SpaceWords, with_field_at, with_fields}
 use Rattle.gc_words.specs.Space.{end_of, free_in}
@@ -53,13 +54,7 @@ number_there h p n inside = at_root (numbered h p n) p (word_of (Num n)) (sym (g
 
 -- the object that another root refers to is as it was
 number_beside : (h : HeapWords) (p q n a len : ℕ) → (p ≡ q → ⊥) → TakesNumbers h q a len → TakesNumbers (numbered h p n) q a len
-number_beside h p q n a len apart takes = record {
-  block = takes.block;
-  found = takes.found;
-  raw = takes.raw;
-  long = takes.long;
-  target = root_value (slice_set h.roots p (word_of (Num n))) q ∙ ap value_of (get_or-set_other h.roots p q (word_of (Num n)) 0 (λ e. apart (sym e))) ∙ sym (root_value h.roots q) ∙ takes.target;
-}
+number_beside h p q n a len apart takes = grind (arith, common_steps, root_value, get_or-set_other)
 
 abbrev points_to_raw : (h : HeapWords) (q a len : ℕ) → TakesNumbers h q a len → Points h q a
 points_to_raw h q a len t = record {
@@ -143,14 +138,11 @@ last_left [] roots p n d = refl
 last_left (k ∷ rest) roots p n d = last_left rest (slice_set roots p (word_of (Num n))) p k d ∙ set-set roots p (word_of (Num n)) (word_of (Num (get_or (k ∷ rest) (length rest) d)))
 
 pub last_of : (numbers roots : List ℕ) (p : ℕ) → 1 ≤ length numbers → left_in roots p numbers ≡ slice_set roots p (2 * get_or numbers (length numbers - 1) 0 + 1)
-last_of [] roots p some = absurd (omega arith)
-last_of (n ∷ rest) roots p some = last_left rest roots p n 0 ∙ ap (λ k. slice_set roots p (2 * get_or (n ∷ rest) k 0 + 1)) (let e : length rest ≡ length (n ∷ rest) - 1 = omega arith in e)
+last_of numbers roots p some = grind (arith, common_steps, last_left)
 
 -- an object has one length
 pub one_length : (h : HeapWords) (q a len other : ℕ) → TakesNumbers h q a len → TakesNumbers h q a other → len ≡ other
-one_length h q a len other t u =
-    let same : t.block ≡ u.block = (let both : Some t.block ≡ Some u.block = sym t.found ∙ u.found in cc) in
-    sym t.long ∙ ap (λ (b : Block). length b.fields) same ∙ u.long
+one_length h q a len other t u = grind (arith, common_steps)
 
 -- what the call leaves, if there are numbers
 pub record Leaves (h : HeapWords) (m : ℕ) (s t : SlotName) (a first : ℕ) (numbers : List ℕ) (new : HeapWords) : Type 0 where
@@ -192,21 +184,7 @@ there inside h q p a w header view heap at less read name met =
 
 -- it has as many numbers as fields if it is raw, and else none
 pub counted : (h : HeapWords) (m : ℕ) (slot : SlotName) (a : ℕ) (header : Header) → IsThere h (place slot m) a header → cond header.raw (Some header.len) None ≡ option_map length (raw_numbers (graph_in h) slot m)
-counted h m slot a header is =
-    ap (λ (h : Header). cond h.raw (Some header.len) None) (sym is.same) ∙ ap (λ n. cond is.points.block.header.raw (Some n) None) (sym is.long) ∙ by is.points.block.header.raw ∙ sym (ap (λ o. option_map length (numbers_in o)) is.points.object)
-  where
-    fields : List ℕ
-    fields = is.points.block.fields
-
-    by : (raw : Bool) → cond raw (Some (length fields)) None ≡ option_map length (cond raw (Some (map number_of (map (field_value is.points.block.header) fields))) None)
-    by true = ap Some (sym (length-map (map (field_value is.points.block.header) fields) number_of ∙ length-map fields (field_value is.points.block.header)))
-    by false = refl
+counted h m slot a header is = grind (arith, common_steps, points, length-map)
 
 pub takes_numbers : (h : HeapWords) (q a : ℕ) (header : Header) → header.raw ≡ true → IsThere h q a header → TakesNumbers h q a header.len
-takes_numbers h q a header raw is = record {
-  block = is.points.block;
-  found = is.points.found;
-  raw = ap (λ (h : Header). h.raw) is.same ∙ raw;
-  long = is.long;
-  target = is.points.target;
-}
+takes_numbers h q a header raw is = grind (arith, common_steps, points)

@@ -1,6 +1,7 @@
 -- A standing checker beside a heap, through fields that are copied in one call.
-use Rattle.std.proofs.Common.{◌≡◌, ◌⊎◌, inl, inr, ⊎_elim, ◌≤◌, ℕ, zero, suc, Some, None, refl, sym, ap, subst, ◌∙◌, arith}
-use Rattle.std.specs.Prelude.{Result, Ok, Err, IfOk, OnErr}
+use Rattle.std.proofs.lemmas.Grind.{common_steps}
+use Rattle.std.proofs.Common.{◌≡◌, ◌⊎◌, ⊎_elim, ◌≤◌, ℕ, zero, suc, Some, None, refl, sym, ap, subst, ◌∙◌, arith}
+use Rattle.std.specs.Prelude.{Result, IfOk, OnErr}
 use Rattle.gc_graph.specs.declared.no_memory.NoMemory.{NoMemory}
 use Rattle.gc_graph.specs.Graph.{Ref, root}
 use Rattle.gc_graph.specs.Slots.{SlotName, place}
@@ -11,8 +12,7 @@ use Rattle.gc_plan.specs.State.{State, heap_end}
 use Rattle.gc_plan.specs.Steps.{mutate}
 use Rattle.gc_plan.specs.Belonging.{IsOpen}
 use Rattle.gc_plan.proofs.Public.{WrittenBy, unchanged, root_kept}
-use Rattle.gc_core.specs.Writing.{after_reply}
-use Rattle.gc_core.specs.Copying.{object_in, copy_reply, copy_step, copy_fields_step}
+use Rattle.gc_core.specs.Copying.{copy_step, copy_fields_step}
 use Rattle.gc_along.specs.Watch.{opening}
 use Rattle.gc_along.specs.Tables.{Tables, watch_of}
 use Rattle.gc_beside.specs.Stays.{Fits}
@@ -70,18 +70,7 @@ copies_go (suc count) s m i j d from t =
 -- if the reply is `Done`, all were copied, and else nothing has changed
 pub all_or_none : (s s' : State) (m to from count : ℕ) (d src t : SlotName) (reply : Reply) → copy_fields_step s m d to src from t count ≡ (reply, s')
     → ((reply ≡ replies.Done) × (copy_step s m d to src from t count ≡ s')) ⊎ (s ≡ s')
-all_or_none s s' m to from count d src t reply said = go (copy_reply to from count (object_in s.heap.graph d m) (object_in s.heap.graph src m)) said
-  where
-    go : (r : Reply) → ◌≡◌ {A = Reply × State} (r, after_reply r s (copy_step s m d to src from t count)) (reply, s') → ((reply ≡ replies.Done) × (copy_step s m d to src from t count ≡ s')) ⊎ (s ≡ s')
-    go replies.Done e = inl (sym (ap (λ (x : Reply × State). x.0) e), ap (λ (x : Reply × State). x.1) e)
-    go replies.Full e = inr (ap (λ (x : Reply × State). x.1) e)
-    go replies.Made e = inr (ap (λ (x : Reply × State). x.1) e)
-    go replies.NoObject e = inr (ap (λ (x : Reply × State). x.1) e)
-    go replies.NoField e = inr (ap (λ (x : Reply × State). x.1) e)
-    go replies.NoNumber e = inr (ap (λ (x : Reply × State). x.1) e)
-    go (replies.Saw view) e = inr (ap (λ (x : Reply × State). x.1) e)
-    go replies.Yes e = inr (ap (λ (x : Reply × State). x.1) e)
-    go replies.No e = inr (ap (λ (x : Reply × State). x.1) e)
+all_or_none s s' m to from count d src t reply said = grind (arith, common_steps)
 
 pub lives_copied : (s s' : State) (m to from count a : ℕ) (d src t : SlotName) (w after : Tables) → IsOpen s s.collection → (place t m ≡ place d m → ⊥) → root s.heap.graph (place d m) ≡ Ref a → 1 ≤ a
     → copy_step s m d to src from t count ≡ s' → ToldWritten a to count w after → (s.collection ≡ None → ⊥) → IsLive s w → IsLive s' after
@@ -105,16 +94,11 @@ lives_copied_closed s s' m to from count d src t w is_open is closed live =
 -- the whole call while no collection is open
 pub lives_call_closed : (s s' : State) (m to from count : ℕ) (d src t : SlotName) (w : Tables) (result : Result Reply NoMemory) → IsOpen s s.collection → s.collection ≡ None
     → IfOk result (λ reply. copy_fields_step s m d to src from t count ≡ (reply, s')) → OnErr result (s' ≡ s) → IsLive s w → IsLive s' w
-lives_call_closed s s' m to from count d src t w (Ok reply) is_open closed step refused live = ⊎_elim
-    (λ done. lives_copied_closed s s' m to from count d src t w is_open done.1 closed live)
-    (λ same. subst (λ x. IsLive x w) same live)
-    (all_or_none s s' m to from count d src t reply step)
-lives_call_closed s s' m to from count d src t w (Err e) is_open closed step refused live = subst (λ x. IsLive x w) (sym refused) live
+lives_call_closed s s' m to from count d src t w result is_open closed step refused live = grind (arith, common_steps, lives_copied_closed, all_or_none)
 
 -- the whole call while one is open, if the reply is not `Done`
 pub lives_call_refused : (s s' : State) (m to from count : ℕ) (d src t : SlotName) (w : Tables) (reply : Reply) → copy_fields_step s m d to src from t count ≡ (reply, s') → (reply ≡ replies.Done → ⊥) → IsLive s w → IsLive s' w
 lives_call_refused s s' m to from count d src t w reply step other live = ⊎_elim (λ done. absurd (other done.0)) (λ same. subst (λ x. IsLive x w) same live) (all_or_none s s' m to from count d src t reply step)
 
 pub done_all : (s s' : State) (m to from count : ℕ) (d src t : SlotName) (reply : Reply) → copy_fields_step s m d to src from t count ≡ (reply, s') → reply ≡ replies.Done → copy_step s m d to src from t count ≡ s'
-done_all s s' m to from count d src t reply said done =
-    ap (λ r. after_reply r s (copy_step s m d to src from t count)) (sym (ap (λ (x : Reply × State). x.0) said ∙ done)) ∙ ap (λ (x : Reply × State). x.1) said
+done_all s s' m to from count d src t reply said done = grind (arith, common_steps)

@@ -1,9 +1,10 @@
 -- A standing checker beside a heap stays lost, or goes along: an object made whose fields take the values of slots.
-use Rattle.std.proofs.Common.{◌≡◌, ◌⊎◌, inl, inr, ⊎_elim, ℕ, zero, suc, ◌+◌, ◌-◌, ◌<◌, ◌≤◌, nat_lt, true, false, List, [], ◌∷◌, map, length, refl, ap, sym, ◌∙◌, subst, arith}
+use Rattle.std.proofs.lemmas.Grind.{common_steps}
+use Rattle.std.proofs.Common.{◌≡◌, ◌⊎◌, inl, inr, ⊎_elim, ℕ, zero, suc, ◌+◌, ◌-◌, ◌<◌, ◌≤◌, nat_lt, true, false, List, [], ◌∷◌, length, refl, ap, sym, ◌∙◌, subst, arith}
 use Rattle.std.specs.Prelude.{slice_get, slice_set}
 use Rattle.std.proofs.lemmas.Bool.{cond_both, ltb-false}
 use Rattle.std.proofs.lemmas.List.{length-replicate}
-use Rattle.gc_graph.specs.Graph.{Value, Nil, Ref, Object, root, value_or_nil, names_of, new_object, first_value}
+use Rattle.gc_graph.specs.Graph.{Value, Nil, Ref, Object, root, value_or_nil, new_object, first_value}
 use Rattle.gc_graph.specs.Machine.{Roomy, words_taken}
 use Rattle.gc_graph.specs.Slots.{SlotName, place}
 use Rattle.gc_graph.specs.declared.command.Op.{Op}
@@ -38,11 +39,7 @@ after_set (r ∷ rs) (suc p) v = after_set rs p v
 
 -- a `put` through the slot writes a field of that object
 pub only_of : (s : State) (m : ℕ) (d : SlotName) (i : ℕ) (t : SlotName) (reply : Reply) (a : ℕ) → RefersOnly s m d a → (x j : ℕ) → WrittenBy s.heap.graph m (ops.Put d i t) reply x j → x ≡ a
-only_of s m d i t replies.Done a refers x j w = ⊎_elim
-    (λ is. ⊎_elim (λ (p : (a, i) ≡ (x, j)). sym (ap (λ (p : ℕ × ℕ). p.0) p)) (λ z. absurd z) (subst (λ v. In {X = ℕ × ℕ} (x, j) (map (λ (name : ℕ). (name, i)) (names_of v))) is w))
-    (λ is. absurd (subst (λ v. In {X = ℕ × ℕ} (x, j) (map (λ (name : ℕ). (name, i)) (names_of v))) is w))
-    refers
-only_of s m d i t reply a refers x j w = absurd w
+only_of s m d i t reply a refers x j w = grind (arith, common_steps)
 
 -- the `put`s write fields of that object only, and leave the end
 fill_leads : (fields : List SlotName) (s : State) (m : ℕ) (d : SlotName) (i a : ℕ) → RefersOnly s m d a

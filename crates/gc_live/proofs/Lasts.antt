@@ -1,4 +1,5 @@
 -- A standing checker that is not lost stays so, and its tables go on knowing the heap: the collector's steps.
+use Rattle.std.proofs.lemmas.Grind.{common_steps}
 use Rattle.std.proofs.Common.{◌≡◌, ◌⊎◌, inl, inr, ⊎_elim, ℕ, ◌-◌, ◌<◌, ◌≤◌, ◌==◌, Bool, true, false, cond, List, [], ◌∷◌, length, Option, Some, None, refl, ap, sym, ◌∙◌, subst, arith}
 use Rattle.std.specs.Prelude.{IfSome, IsTrue}
 use Rattle.gc_words.specs.Spelling.{no_links}
@@ -25,8 +26,7 @@ use Rattle.gc_beside.proofs.Public.{opened_known, begun_known, dropped_known, fl
 
 -- a checker that is not lost goes along
 pub goes_of : (s : State) (t : Tables) → IsLive s t → t.lost ≡ false → GoesBeside s s.collection (watch_of t)
-goes_of s t (inl lost) found = absurd (let no : true ≡ false = sym lost ∙ found in cc)
-goes_of s t (inr goes) found = goes
+goes_of s t h found = grind (arith, common_steps)
 
 pub goes_in : (s : State) (c : Collection) (t : Tables) → s.collection ≡ Some c → IsLive s t → t.lost ≡ false → Goes s c (watch_of t)
 goes_in s c t is live found = subst (λ o. GoesBeside s o (watch_of t)) is (goes_of s t live found)
@@ -46,18 +46,7 @@ pub record InOpen (s s' : State) (step : Step) (reply : StepReply) (c next : Col
   pub is : s' ≡ with_collection s (Some next)
 
 pub in_open : (s s' : State) (step : Step) (reply : StepReply) (c next : Collection) → (step ≡ steps.Flip → ⊥) → collect s step ≡ (reply, s') → IsOpen s s.collection → IsOpen s' s'.collection → s.collection ≡ Some c → s'.collection ≡ Some next → InOpen s s' step reply c next
-in_open s s' step reply c next other said is_open is_open' first there = record {
-  before = subst (IsOpen s) first is_open;
-  opened = (let k : IsOpened (with_collection s (Some next)) next = subst (λ (x : State). IsOpened x next) is (subst (IsOpen s') there is_open') in record { belongs = k.belongs; size = k.size; logs = k.logs });
-  said = ap (λ o. collect_with s o step) (sym first) ∙ said;
-  is = is;
-}
-  where
-    stays : s' ≡ with_collection s s'.collection
-    stays = (let st = steps_stay s step other in subst (λ (x : StepReply × State). x.1 ≡ with_collection s x.1.collection) said st)
-
-    is : s' ≡ with_collection s (Some next)
-    is = stays ∙ ap (with_collection s) there
+in_open s s' step reply c next other said is_open is_open' first there = grind (arith, common_steps, steps_stay)
 
 -- where a step has such a reply a collection was open
 pub was_open : (s s' : State) (step : Step) (reply : StepReply) → ((collect_with s None step).0 ≡ reply → ⊥) → collect s step ≡ (reply, s') → (c : Collection) × (s.collection ≡ Some c)
@@ -69,11 +58,7 @@ was_open s s' step reply idle said = go s.collection refl
 
 -- the words that a caller read are those of the open collection
 pub opened_by : (s : State) (words : List ℕ) → AreNew s words → (next : Collection) × (s.collection ≡ Some next) × (words ≡ replica_words next)
-opened_by s words are = go s.collection refl are
-  where
-    go : (o : Option Collection) → s.collection ≡ o → Rattle.std.specs.Option.option_map replica_words o ≡ Some words → (next : Collection) × (s.collection ≡ Some next) × (words ≡ replica_words next)
-    go None e h = absurd (let no : None ≡ Some words = h in cc)
-    go (Some next) e h = (next, e, (let r : Some (replica_words next) ≡ Some words = h in cc))
+opened_by s words are = grind (arith, common_steps)
 
 -- the words that a caller read are those of the mutators' space, with links that lead to the open collection's replicas
 abbrev pub AreOld : State → List ℕ → Type 0
@@ -185,25 +170,11 @@ lasts_apply_other s s' m reply t said other k = lasts_same s s' t (apply_or_same
 
 pub lasts_begun : (s s' : State) (reply : StepReply) (size n : ℕ) (t mid after : Tables) → s.collection ≡ None → collect s (steps.BeginSized size) ≡ (reply, s') → IsSpaceGraph s.size s.heap.free s.heap.graph
     → mid ≡ record t { room = mid.room } → (t.room ≡ 0) ⊎ (n ≤ mid.room) → size ≤ n → s.size ≤ n → (mid.lost ≡ false → after ≡ mid) → IsNeverLost s t → IsNeverLost s' after
-lasts_begun s s' reply size n t mid after none said heap more room new_fits old_fits kept k =
-    let found : mid.lost ≡ false = ap (λ (x : Tables). x.lost) more ∙ k.found in
-    let same : after ≡ mid = kept found in
-    let is : s' ≡ with_collection s (Some (fresh_collection s.mutators size)) = sym (ap (λ (x : StepReply × State). x.1) (ap (λ o. collect_with s o (steps.BeginSized size)) (sym none) ∙ said)) in
-    let old_room : s.size ≤ t.room = k.knows.old_room in
-    let less : s.heap.free < s.size = heap.room in
-    let fits : n ≤ mid.room = ⊎_elim (λ (zero_is : t.room ≡ 0). absurd (omega arith)) (λ (f : n ≤ mid.room). f) room in
-    subst (IsNeverLost s') (sym same) (record { found = found; knows = known_with s s' (fresh_collection s.mutators size) mid is (begun_known s 1 size t mid more (omega arith) (omega arith) (subst (λ o. Knows s (open_or_fresh s o) t) none k.knows)) })
+lasts_begun s s' reply size n t mid after none said heap more room new_fits old_fits kept k = grind (arith, common_steps, known_with, begun_known)
 
 -- more room alone
 pub lasts_reserved : (s : State) (n : ℕ) (t mid : Tables) → s.collection ≡ None → IsSpaceGraph s.size s.heap.free s.heap.graph → mid ≡ record t { room = mid.room } → (t.room ≡ 0) ⊎ (n ≤ mid.room) → s.size ≤ n → IsNeverLost s t → IsNeverLost s mid
-lasts_reserved s n t mid none heap more room fits_old k =
-    let old_room : s.size ≤ t.room = k.knows.old_room in
-    let less : s.heap.free < s.size = heap.room in
-    let fits : n ≤ mid.room = ⊎_elim (λ (zero_is : t.room ≡ 0). absurd (omega arith)) (λ (f : n ≤ mid.room). f) room in
-    record {
-      found = ap (λ (x : Tables). x.lost) more ∙ k.found;
-      knows = subst (λ o. Knows s (open_or_fresh s o) mid) (sym none) (begun_known s 1 1 t mid more (omega arith) (omega arith) (subst (λ o. Knows s (open_or_fresh s o) t) none k.knows));
-    }
+lasts_reserved s n t mid none heap more room fits_old k = grind (arith, common_steps, begun_known)
 
 pub lasts_dropped : (s s' : State) (reply : StepReply) (t after : Tables) → IsSpaceGraph s.size s.heap.free s.heap.graph → IsOpen s s.collection → collect s steps.Drop ≡ (reply, s') → (t.lost ≡ false → after.lost ≡ false) → (after.lost ≡ false → Freed t after)
     → IsLive s t → IsNeverLost s t → IsNeverLost s' after
@@ -240,11 +211,7 @@ lasts_dropped s s' reply t after heap is_open said stays freed live k = go s.col
 
 pub lasts_flipped : (s s' : State) (c : Collection) (t after : Tables) → IsSpaceGraph s.size s.heap.free s.heap.graph → s.collection ≡ Some c → IsOpened s c → s' ≡ flipped s c → (t.lost ≡ false → after.lost ≡ false) → (after.lost ≡ false → after ≡ flipped_tables t)
     → IsNeverLost s t → IsNeverLost s' after
-lasts_flipped s s' c t after heap first opened is stays flips k =
-    let found : after.lost ≡ false = stays k.found in
-    let old_room : s.size ≤ t.room = k.knows.old_room in
-    let less : s.heap.free < s.size = heap.room in
-    record { found = found; knows = subst (λ (x : State). KnowsAll x after) (sym is) (subst (KnowsAll (flipped s c)) (sym (flips found)) (flipped_known s c t opened (knows_in s c t first k) (omega arith))) }
+lasts_flipped s s' c t after heap first opened is stays flips k = grind (arith, common_steps, flipped_known, knows_in)
 
 -- ---- the opening
 

@@ -1,10 +1,11 @@
 -- A standing checker that is not lost stays so, through fields that are copied in one call.
+use Rattle.std.proofs.lemmas.Grind.{common_steps}
 use Rattle.std.proofs.Common.{◌≡◌, inl, inr, ⊎_elim, ◌<◌, ◌≤◌, ◌+◌, ℕ, zero, suc, List, map, Option, Some, None, refl, sym, ap, subst, ◌∙◌, arith}
 use Rattle.std.proofs.lemmas.Bool.{cases_eq}
 use Rattle.std.specs.Prelude.{Result, Ok, Err, IfOk, OnErr}
 use Rattle.std.specs.Option.{option_map}
 use Rattle.gc_graph.specs.declared.no_memory.NoMemory.{NoMemory}
-use Rattle.gc_graph.specs.Graph.{Value, Nil, Num, Ref, Graph, name_of, names_of, object_of, root}
+use Rattle.gc_graph.specs.Graph.{Ref, Graph, name_of, names_of, root}
 use Rattle.gc_graph.specs.Slots.{SlotName, place}
 use Rattle.gc_graph.specs.declared.command.Op.TheVariants as ops
 use Rattle.gc_graph.specs.declared.reply.Reply.{Reply}
@@ -80,9 +81,4 @@ lasts_copy_call s s' m to from count d src t w (Err e) step refused k = subst (�
 
 -- fields that were copied went to an object
 pub copies_refer : (g : Graph) (m to from count : ℕ) (d src : SlotName) (o : Option OldAddr) → copy_reply to from count (object_in g d m) (object_in g src m) ≡ replies.Done → option_map (λ (a : OldAddr). a.0) o ≡ name_of (root g (place d m)) → o ≡ None → ⊥
-copies_refer g m to from count d src o done named none = go (root g (place d m)) refl (ap (option_map (λ (a : OldAddr). a.0)) (sym none) ∙ named)
-  where
-    go : (v : Value) → root g (place d m) ≡ v → None ≡ name_of v → ⊥
-    go Nil e h = absurd (let no : replies.NoObject ≡ replies.Done = sym (ap (λ v. copy_reply to from count (object_of g.objects v) (object_in g src m)) e) ∙ done in cc)
-    go (Num n) e h = absurd (let no : replies.NoObject ≡ replies.Done = sym (ap (λ v. copy_reply to from count (object_of g.objects v) (object_in g src m)) e) ∙ done in cc)
-    go (Ref b) e h = absurd (let no : None ≡ Some b = h in cc)
+copies_refer g m to from count d src o done named none = grind (arith, common_steps)

@@ -1,27 +1,28 @@
 -- A standing checker that is not lost stays so, through numbers that are written to a raw object in one call.
-use Rattle.std.proofs.Common.{◌≡◌, ◌⊎◌, inl, inr, ⊎_elim, ◌<◌, ◌≤◌, ◌+◌, ◌-◌, ◌&&◌, not, ℕ, zero, suc, Bool, true, false, nat_lt, List, [], ◌∷◌, length, map, Option, Some, None, refl, sym, ap, subst, ◌∙◌, arith, length-set}
-use Rattle.std.proofs.lemmas.Bool.{cases_Bool, cases_eq, cond_both, ltb-true, and_parts}
+use Rattle.std.proofs.lemmas.Grind.{common_steps}
+use Rattle.std.proofs.Common.{◌≡◌, inl, inr, ⊎_elim, ◌<◌, ◌≤◌, ◌+◌, ℕ, zero, suc, true, nat_lt, List, [], ◌∷◌, length, map, Option, Some, None, refl, sym, ap, subst, ◌∙◌, arith, length-set}
+use Rattle.std.proofs.lemmas.Bool.{cases_eq, cond_both, ltb-true, and_parts}
 use Rattle.std.proofs.lemmas.List.{length-map}
-use Rattle.std.specs.Prelude.{slice_get, nat_le, Result, Ok, Err, IfOk, OnErr}
-use Rattle.gc_graph.specs.Graph.{Value, Nil, Num, Ref, Graph, Object, name_of, names_of, root, value_or_nil, object_of, field_of, lookup}
-use Rattle.gc_graph.specs.Machine.{Roomy, put_field, is_number}
+use Rattle.std.specs.Prelude.{slice_get, Result, Ok, Err, IfOk, OnErr}
+use Rattle.gc_graph.specs.Graph.{Value, Num, Ref, Graph, Object, name_of, names_of, root, value_or_nil, object_of, field_of, lookup}
+use Rattle.gc_graph.specs.Machine.{Roomy, put_field}
 use Rattle.gc_graph.specs.Slots.{SlotName, place}
 use Rattle.gc_graph.specs.declared.command.Op.TheVariants as ops
 use Rattle.gc_graph.specs.declared.reply.Reply.{Reply}
 use Rattle.gc_graph.specs.declared.reply.Reply.TheVariants as replies
 use Rattle.std.specs.Option.{option_map}
 use Rattle.gc_words.specs.declared.value.OldAddr.{OldAddr}
-use Rattle.gc_heap.specs.Raws.{number_of, numbers_in, raw_numbers}
+use Rattle.gc_heap.specs.Raws.{raw_numbers}
 use Rattle.gc_plan.specs.State.{Collection, State, heap_end}
 use Rattle.gc_plan.specs.Steps.{mutate}
 use Rattle.gc_plan.specs.Members.{In}
 use Rattle.gc_plan.specs.Belonging.{IsLogged, IsSpaceGraph, IsOpened, IsOpen}
 use Rattle.gc_plan.proofs.Public.{WrittenBy, get_within, get_set_same}
-use Rattle.gc_core.specs.Writing.{is_number_word, numbers_step, numbers_reply, put_numbers_step}
+use Rattle.gc_core.specs.Writing.{numbers_step, numbers_reply, put_numbers_step}
 use Rattle.gc_graph.specs.declared.no_memory.NoMemory.{NoMemory}
 use Rattle.gc_along.specs.Tables.{Tables}
 use Rattle.gc_beside.specs.Internal.Live.{IsLive, IsNeverLost}
-use Rattle.gc_beside.proofs.Public.{Continues, SameOpen, continues_same, leads_one, put_roots}
+use Rattle.gc_beside.proofs.Public.{Continues, continues_same, leads_one, put_roots}
 use Rattle.gc_live.specs.Internal.Told.{ToldTruly}
 use Rattle.gc_live.proofs.Lasts.{AreOld}
 use Rattle.gc_live.proofs.LastsOn.{NoName, IsBeside, HasLog, beside, beside_lasts, told_write, open_after, lasts_quietly, log_of_open, log_after, noted, quiet_one, quiet_two}
@@ -30,14 +31,7 @@ use Rattle.gc_live.proofs.NumbersTold.{all_or_none, num_roots, numbers_lead}
 -- ---- each number is written
 
 put_done : (g : Graph) (v : Value) (target : Option Object) (found : Option Value) (i : ℕ) (w : Value) (a : ℕ) (o : Object) (before : Value) (n : ℕ) → v ≡ Ref a → target ≡ Some o → found ≡ Some before → w ≡ Num n → (put_field g v target found i w).0 ≡ replies.Done
-put_done g v target found i w a o before n e f h k =
-    subst (λ v. (put_field g v target found i w).0 ≡ replies.Done) (sym e)
-    (subst (λ target. (put_field g (Ref a) target found i w).0 ≡ replies.Done) (sym f)
-    (subst (λ found. (put_field g (Ref a) (Some o) found i w).0 ≡ replies.Done) (sym h)
-    (subst (λ w. (put_field g (Ref a) (Some o) (Some before) i w).0 ≡ replies.Done) (sym k)
-    (cond_both (o.raw && not (is_number (Num n))) _ _ (λ (next : Reply × Graph). next.0 ≡ replies.Done)
-    (λ t. absurd (let no : false ≡ true = (and_parts o.raw (not (is_number (Num n))) t).1 in cc))
-    (λ f. refl)))))
+put_done g v target found i w a o before n e f h k = grind (arith, common_steps, cond_both, and_parts)
 
 never_full : (n : ℕ) → nat_lt n 0 ≡ true → ⊥
 never_full n t = let l : n < 0 = ltb-true n 0 t in absurd (omega arith)
@@ -53,9 +47,7 @@ put_replies s m i a n d t o at number found less =
     (λ fits. put_done g (root g (place d m)) (object_of g.objects (root g (place d m))) (field_of (object_of g.objects (root g (place d m))) i) i (root g (place t m)) a o before.0 n at target field number)
 
 num_there : (s : State) (m n : ℕ) (t : SlotName) → place t m < length s.heap.graph.roots → root (mutate s m (ops.Num t n)).1.heap.graph (place t m) ≡ Num n
-num_there s m n t less = cond_both (nat_lt s.heap.free 0) _ _ (λ (next : Reply × Roomy). root next.1.graph (place t m) ≡ Num n)
-    (λ full. absurd (never_full s.heap.free full))
-    (λ fits. ap value_or_nil (get_set_same s.heap.graph.roots (place t m) (Num n) less))
+num_there s m n t less = grind (arith, common_steps, cond_both, never_full, get_set_same)
 
 num_length : (s : State) (m n : ℕ) (t : SlotName) → length (mutate s m (ops.Num t n)).1.heap.graph.roots ≡ length s.heap.graph.roots
 num_length s m n t = cond_both (nat_lt s.heap.free 0) _ _ (λ (next : Reply × Roomy). length next.1.graph.roots ≡ length s.heap.graph.roots) (λ full. refl) (λ fits. length-set s.heap.graph.roots (place t m) (Num n))
@@ -71,13 +63,7 @@ numbers_quiet (n ∷ rest) s m i d t =
 
 -- what is logged stays logged
 pub carried : (s s' : State) (a j : ℕ) → Continues s s' NoName → ((d : Collection) → s.collection ≡ Some d → IsLogged d a j) → (e : Collection) → s'.collection ≡ Some e → IsLogged e a j
-carried s s' a j on h e there = go s.collection refl s'.collection there on.collection
-  where
-    go : (o : Option Collection) → s.collection ≡ o → (p : Option Collection) → p ≡ Some e → SameOpen o p → IsLogged e a j
-    go None f None g same = absurd (let no : None ≡ Some e = g in cc)
-    go None f (Some x) g same = absurd same
-    go (Some d) f None g same = absurd same
-    go (Some d) f (Some x) g same = subst (λ (c : Collection). IsLogged c a j) (let is : x ≡ e = cc g in is) (same.logged a j (h d f))
+carried s s' a j on h e there = grind (arith, common_steps)
 
 numbers_logged : (numbers : List ℕ) (s : State) (m i a : ℕ) (d t : SlotName) (o : Object) → (place t m ≡ place d m → ⊥) → root s.heap.graph (place d m) ≡ Ref a → place t m < length s.heap.graph.roots → HasLog s.collection m
     → lookup s.heap.graph.objects a ≡ Some o → i + length numbers ≤ length o.fields → (e : Collection) → (numbers_step s m d t i numbers).collection ≡ Some e → (j : ℕ) → i ≤ j → j < i + length numbers → IsLogged e a j
@@ -115,19 +101,7 @@ told_all (suc n) s d old t after a i there heap opened is logged (next, stays, w
 
 -- the object that takes them
 pub taker : (g : Graph) (m first a : ℕ) (d : SlotName) (words : List ℕ) → root g (place d m) ≡ Ref a → numbers_reply first words (raw_numbers g d m) ≡ replies.Done → (o : Object) × (lookup g.objects a ≡ Some o) × (first + length words ≤ length o.fields)
-taker g m first a d words at done = go (lookup g.objects a) refl (subst (λ v. numbers_reply first words (numbers_in (object_of g.objects v)) ≡ replies.Done) at done)
-  where
-    room : (o : Object) → (b : Bool) → nat_le (first + length words) (length (map number_of o.fields)) ≡ b → Rattle.std.proofs.Common.cond b (Rattle.std.proofs.Common.cond (Rattle.std.specs.List.list_all is_number_word words) replies.Done replies.NoNumber) replies.NoField ≡ replies.Done → first + length words ≤ length o.fields
-    room o true e h = let l : first + length words ≤ length (map number_of o.fields) = Rattle.std.proofs.lemmas.Bool.leb-true (first + length words) (length (map number_of o.fields)) e in omega (arith, length-map o.fields number_of)
-    room o false e h = absurd (let no : replies.NoField ≡ replies.Done = h in cc)
-
-    raw : (o : Object) (b : Bool) → o.raw ≡ b → numbers_reply first words (Rattle.std.proofs.Common.cond b (Some (map number_of o.fields)) None) ≡ replies.Done → first + length words ≤ length o.fields
-    raw o true e h = room o (nat_le (first + length words) (length (map number_of o.fields))) refl h
-    raw o false e h = absurd (let no : replies.NoObject ≡ replies.Done = h in cc)
-
-    go : (x : Option Object) → lookup g.objects a ≡ x → numbers_reply first words (numbers_in x) ≡ replies.Done → (o : Object) × (lookup g.objects a ≡ Some o) × (first + length words ≤ length o.fields)
-    go None e h = absurd (let no : replies.NoObject ≡ replies.Done = h in cc)
-    go (Some o) e h = (o, e, raw o o.raw refl h)
+taker g m first a d words at done = grind (arith, common_steps, length-map)
 
 pub lasts_numbers : (s s' : State) (m first a : ℕ) (d t : SlotName) (words old : List ℕ) (w after : Tables) → IsOpen s s.collection → IsOpen s' s'.collection → IsSpaceGraph s'.size s'.heap.free s'.heap.graph → m < s.mutators
     → (place t m ≡ place d m → ⊥) → root s.heap.graph (place d m) ≡ Ref a → place t m < length s.heap.graph.roots → numbers_reply first words (raw_numbers s.heap.graph d m) ≡ replies.Done
@@ -155,9 +129,4 @@ lasts_call_any s s' m first d t words w (Err e) step refused k = subst (λ (x : 
 
 -- numbers that were put went to an object
 pub numbers_refer : (g : Graph) (m first : ℕ) (d : SlotName) (words : List ℕ) (o : Option OldAddr) → numbers_reply first words (raw_numbers g d m) ≡ replies.Done → option_map (λ (a : OldAddr). a.0) o ≡ name_of (root g (place d m)) → o ≡ None → ⊥
-numbers_refer g m first d words o done named none = go (root g (place d m)) refl (ap (option_map (λ (a : OldAddr). a.0)) (sym none) ∙ named)
-  where
-    go : (v : Value) → root g (place d m) ≡ v → None ≡ name_of v → ⊥
-    go Nil e h = absurd (let no : replies.NoObject ≡ replies.Done = sym (ap (λ v. numbers_reply first words (numbers_in (object_of g.objects v))) e) ∙ done in cc)
-    go (Num n) e h = absurd (let no : replies.NoObject ≡ replies.Done = sym (ap (λ v. numbers_reply first words (numbers_in (object_of g.objects v))) e) ∙ done in cc)
-    go (Ref b) e h = absurd (let no : None ≡ Some b = h in cc)
+numbers_refer g m first d words o done named none = grind (arith, common_steps)

@@ -1,10 +1,11 @@
 -- A standing checker that is not lost stays so, and its tables go on knowing the heap: the mutators' commands.
-use Rattle.std.proofs.Common.{◌≡◌, ◌⊎◌, inl, inr, ⊎_elim, ℕ, zero, suc, ◌+◌, ◌-◌, ◌<◌, ◌≤◌, nat_lt, Bool, true, false, List, [], ◌∷◌, ◌++◌, length, Option, Some, None, refl, ap, sym, ◌∙◌, subst, arith, length-set}
+use Rattle.std.proofs.lemmas.Grind.{common_steps}
+use Rattle.std.proofs.Common.{◌≡◌, ◌⊎◌, inl, inr, ⊎_elim, ℕ, zero, suc, ◌+◌, ◌<◌, ◌≤◌, Bool, true, false, List, [], ◌∷◌, ◌++◌, length, Option, Some, None, refl, ap, sym, ◌∙◌, subst, arith}
 use Rattle.std.specs.Prelude.{Result, Ok, Err, IfOk, OnErr, slice_get, slice_set}
 use Rattle.std.proofs.lemmas.Bool.{cond_both}
 use Rattle.gc_graph.specs.declared.no_memory.NoMemory.{NoMemory}
-use Rattle.gc_graph.specs.Graph.{Value, Nil, Num, Ref, Graph, field_of, name_of, object_of, root}
-use Rattle.gc_graph.specs.Machine.{Roomy, put_field, roomy_step, words_taken}
+use Rattle.gc_graph.specs.Graph.{Ref, Graph, field_of, name_of, object_of, root}
+use Rattle.gc_graph.specs.Machine.{put_field, roomy_step, words_taken}
 use Rattle.gc_graph.specs.Slots.{SlotName, place}
 use Rattle.gc_graph.specs.declared.command.Op.{Op}
 use Rattle.gc_graph.specs.declared.command.Op.TheVariants as ops
@@ -16,7 +17,7 @@ use Rattle.gc_heap.specs.ExtraRoots.{extra_slot}
 use Rattle.gc_plan.specs.State.{Collection, State, heap_end}
 use Rattle.gc_plan.specs.Steps.{log_at, log_or_nil, logged, mutate, with_log, written}
 use Rattle.gc_plan.specs.Members.{In}
-use Rattle.gc_plan.specs.Belonging.{IsLogged, IsNamed, RefersTo, IsSpaceGraph, IsOpened, IsOpen}
+use Rattle.gc_plan.specs.Belonging.{IsLogged, IsSpaceGraph, IsOpened, IsOpen}
 use Rattle.gc_plan.proofs.Public.{WrittenBy, root_fine, laid_range, in_right, pair, replicas_end}
 use Rattle.gc_core.specs.CollectedHeap.{fill_step, filled, new_from_step}
 use Rattle.gc_core.specs.ExtraRoots.{clear_step}
@@ -70,11 +71,7 @@ lasts_cleared s s' k n t is known = lasts_quietly s s' t (subst (λ (x : State).
 -- ---- an object made
 
 seen_of : (s : State) (t : Tables) → IsLive s t → t.lost ≡ false → length t.olds ≡ heap_end s
-seen_of s t live found = go s.collection (goes_of s t live found)
-  where
-    go : (o : Option Collection) → GoesBeside s o (watch_of t) → length t.olds ≡ heap_end s
-    go None w = ap (λ (w : Rattle.gc_along.specs.Watch.Watch). w.old_seen) w
-    go (Some c) g = g.fits.old_seen
+seen_of s t live found = grind (arith, common_steps, goes_of)
 
 abbrev pub NewEnd : State → ℕ → Type 0
 NewEnd s a = a ≡ heap_end s
@@ -170,12 +167,7 @@ module _ (s : State) (d : Collection) (there : s.collection ≡ Some d) (heap : 
 
 -- the open collection after commands
 pub open_after : (s s' : State) → Continues s s' NoName → (s.collection ≡ None → ⊥) → (d : Collection) × (s'.collection ≡ Some d)
-open_after s s' on some = go s.collection refl s'.collection refl on.collection
-  where
-    go : (o : Option Collection) → s.collection ≡ o → (p : Option Collection) → s'.collection ≡ p → SameOpen o p → (d : Collection) × (s'.collection ≡ Some d)
-    go None e p f same = absurd (some e)
-    go (Some c) e None f same = absurd same
-    go (Some c) e (Some d) f same = (d, f)
+open_after s s' on some = grind (arith, common_steps)
 
 -- ---- what is written is logged
 
@@ -185,15 +177,10 @@ HasLog None m = Unit {0}
 HasLog (Some c) m = m < length c.logs
 
 pub log_of_open : (s : State) (m : ℕ) → IsOpen s s.collection → m < s.mutators → HasLog s.collection m
-log_of_open s m is_open less = go s.collection is_open
-  where
-    go : (o : Option Collection) → IsOpen s o → HasLog o m
-    go None k = tt
-    go (Some c) k = let count : length c.logs ≡ s.mutators = k.logs in omega arith
+log_of_open s m is_open less = grind (arith, common_steps)
 
 log_stays : (o : Option Collection) (m n : ℕ) (more : List (ℕ × ℕ)) → HasLog o m → HasLog (logged o n more) m
-log_stays None m n more h = tt
-log_stays (Some c) m n more h = let less : m < length c.logs = h in omega (arith, length-set c.logs n (log_at c n ++ more))
+log_stays o m n more h = grind (arith, common_steps)
 
 pub log_after : (s s' : State) (m n : ℕ) (op : Op) (reply : Reply) → mutate s n op ≡ (reply, s') → HasLog s.collection m → HasLog s'.collection m
 log_after s s' m n op reply said h = subst (λ (x : Reply × State). HasLog x.1.collection m) said (log_stays s.collection m n _ h)
@@ -276,38 +263,17 @@ both_two_undone along s mid s' m op one reply put t is_open first none quiet sec
 
 -- what a caller read of it is its address
 pub refers_to : (g : Graph) (p : ℕ) (o : Option OldAddr) (a : OldAddr) → o ≡ Some a → option_map (λ (a : OldAddr). a.0) o ≡ name_of (root g p) → root g p ≡ Ref a.0
-refers_to g p o a is named = go (root g p) refl (ap (option_map (λ (a : OldAddr). a.0)) (sym is) ∙ named)
-  where
-    go : (v : Value) → root g p ≡ v → Some a.0 ≡ name_of v → root g p ≡ Ref a.0
-    go Nil e h = absurd (let no : Some a.0 ≡ None = h in cc)
-    go (Num n) e h = absurd (let no : Some a.0 ≡ None = h in cc)
-    go (Ref b) e h = e ∙ ap Ref (let same : a.0 ≡ b = cc h in sym same)
+refers_to g p o a is named = grind (arith, common_steps)
 
 -- and is above 0
 pub refers_above : (size free : ℕ) (g : Graph) (p a : ℕ) → IsSpaceGraph size free g → root g p ≡ Ref a → 1 ≤ a
-refers_above size free g p a heap at =
-    let named : IsNamed g.objects a = subst (RefersTo (IsNamed g.objects)) at (root_fine size free g p heap) in
-    (laid_range 1 g.objects (size - free) (a, named.0) heap.laid named.1).0
+refers_above size free g p a heap at = grind (arith, common_steps, root_fine, laid_range)
 
 -- a put that is done goes to an object
 pub done_refers : (g : Graph) (m : ℕ) (d : SlotName) (i : ℕ) (t : SlotName) (o : Option OldAddr) → (put_field g (root g (place d m)) (object_of g.objects (root g (place d m))) (field_of (object_of g.objects (root g (place d m))) i) i (root g (place t m))).0 ≡ replies.Done
     → option_map (λ (a : OldAddr). a.0) o ≡ name_of (root g (place d m)) → o ≡ None → ⊥
-done_refers g m d i t o done named none = go (root g (place d m)) refl (ap (option_map (λ (a : OldAddr). a.0)) (sym none) ∙ named)
-  where
-    go : (v : Value) → root g (place d m) ≡ v → None ≡ name_of v → ⊥
-    go Nil e h = absurd (let no : replies.NoObject ≡ replies.Done = sym (ap (λ v. (put_field g v (object_of g.objects v) (field_of (object_of g.objects v) i) i (root g (place t m))).0) e) ∙ done in cc)
-    go (Num n) e h = absurd (let no : replies.NoObject ≡ replies.Done = sym (ap (λ v. (put_field g v (object_of g.objects v) (field_of (object_of g.objects v) i) i (root g (place t m))).0) e) ∙ done in cc)
-    go (Ref b) e h = absurd (let no : None ≡ Some b = h in cc)
+done_refers g m d i t o done named none = grind (arith, common_steps)
 
 -- the same of the command
 pub put_refers : (s s' : State) (m : ℕ) (d : SlotName) (i : ℕ) (t : SlotName) (o : Option OldAddr) → mutate s m (ops.Put d i t) ≡ (replies.Done, s') → option_map (λ (a : OldAddr). a.0) o ≡ name_of (root s.heap.graph (place d m)) → o ≡ None → ⊥
-put_refers s s' m d i t o said named none = done_refers s.heap.graph m d i t o done named none
-  where
-    replied : (mutate s m (ops.Put d i t)).0 ≡ replies.Done
-    replied = ap (λ (x : Reply × State). x.0) said
-
-    done : (put_field s.heap.graph (root s.heap.graph (place d m)) (object_of s.heap.graph.objects (root s.heap.graph (place d m))) (field_of (object_of s.heap.graph.objects (root s.heap.graph (place d m))) i) i (root s.heap.graph (place t m))).0 ≡ replies.Done
-    done = cond_both (nat_lt s.heap.free 0) _ _ (λ (next : Reply × Roomy). next.0 ≡ replies.Done → (put_field s.heap.graph (root s.heap.graph (place d m)) (object_of s.heap.graph.objects (root s.heap.graph (place d m))) (field_of (object_of s.heap.graph.objects (root s.heap.graph (place d m))) i) i (root s.heap.graph (place t m))).0 ≡ replies.Done)
-        (λ full e. absurd (let no : replies.Full ≡ replies.Done = e in cc))
-        (λ fits e. e)
-        replied
+put_refers s s' m d i t o said named none = grind (arith, common_steps, done_refers, cond_both)

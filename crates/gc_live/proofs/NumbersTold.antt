@@ -1,21 +1,20 @@
 -- A standing checker beside a heap, through numbers that are written to a raw object in one call.
-use Rattle.std.proofs.Common.{◌≡◌, ◌⊎◌, inl, inr, ⊎_elim, ◌<◌, ◌≤◌, ◌+◌, ◌-◌, ℕ, zero, suc, ◌==◌, true, false, nat_lt, List, [], ◌∷◌, length, map, Some, None, refl, sym, ap, subst, ◌∙◌, arith}
+use Rattle.std.proofs.lemmas.Grind.{common_steps}
+use Rattle.std.proofs.Common.{◌≡◌, ◌⊎◌, inl, inr, ⊎_elim, ◌<◌, ◌≤◌, ◌+◌, ◌-◌, ℕ, zero, suc, true, false, List, [], ◌∷◌, length, map, Some, None, refl, sym, ap, subst, ◌∙◌, arith}
 use Rattle.std.proofs.lemmas.Bool.{cases_Bool, cond_both, eqb-true, eq-eqb}
-use Rattle.std.specs.Prelude.{slice_get, Result, Ok, Err, IfOk, OnErr}
+use Rattle.std.specs.Prelude.{slice_get, Result, IfOk, OnErr}
 use Rattle.gc_graph.specs.declared.no_memory.NoMemory.{NoMemory}
-use Rattle.gc_graph.specs.Graph.{Value, Num, Ref, Graph, Object, names_of, root, value_or_nil}
-use Rattle.gc_graph.specs.Machine.{Roomy}
+use Rattle.gc_graph.specs.Graph.{Value, Ref, Graph, Object, root, value_or_nil}
 use Rattle.gc_graph.specs.Slots.{SlotName, place}
 use Rattle.gc_graph.specs.declared.command.Op.TheVariants as ops
 use Rattle.gc_graph.specs.declared.reply.Reply.{Reply}
 use Rattle.gc_graph.specs.declared.reply.Reply.TheVariants as replies
-use Rattle.gc_heap.specs.Raws.{raw_numbers}
 use Rattle.gc_plan.specs.State.{Collection, State, heap_end}
 use Rattle.gc_plan.specs.Steps.{mutate}
-use Rattle.gc_plan.specs.Members.{In, Distinct}
+use Rattle.gc_plan.specs.Members.{Distinct}
 use Rattle.gc_plan.specs.Belonging.{IsOpen}
 use Rattle.gc_plan.proofs.Public.{WrittenBy, unchanged, get_set_other}
-use Rattle.gc_core.specs.Writing.{numbers_step, numbers_reply, after_reply, put_numbers_step}
+use Rattle.gc_core.specs.Writing.{numbers_step, put_numbers_step}
 use Rattle.gc_along.specs.Watch.{opening}
 use Rattle.gc_along.specs.Tables.{Tables, watch_of}
 use Rattle.gc_along.specs.Claims.{CanWrite}
@@ -30,10 +29,7 @@ abbrev pub IsAmong : ℕ → ℕ → ℕ → ℕ → ℕ → Type 0
 IsAmong a i n x j = (x ≡ a) × (i ≤ j) × (j < i + n)
 
 first_or_later : (a i n x j : ℕ) → IsAmong a i (suc n) x j → ((x ≡ a) × (j ≡ i)) ⊎ IsAmong a (suc i) n x j
-first_or_later a i n x j (same, low, high) = elim (cases_Bool (j == i)) [
-  | inl here ↦ inl (same, eqb-true j i here)
-  | inr other ↦ inr (same, (let apart : j ≡ i → ⊥ = (λ e. absurd (let no : true ≡ false = sym (eq-eqb j i e) ∙ other in cc)) in omega (arith, low, apart)), omega (arith, high))
-]
+first_or_later a i n x j h = grind (arith, common_steps, cases_Bool, eqb-true, eq-eqb)
 
 -- ---- one field after the other is told
 
@@ -74,26 +70,10 @@ told_marks (suc n) objects end c t after a i once low (next, lost, wrote, rest) 
 -- ---- what the commands write
 
 pub num_roots : (s : State) (m n : ℕ) (t s' : SlotName) → (place t m ≡ place s' m → ⊥) → root (mutate s m (ops.Num t n)).1.heap.graph (place s' m) ≡ root s.heap.graph (place s' m)
-num_roots s m n t s' apart =
-    cond_both (nat_lt s.heap.free 0) _ _ (λ (next : Reply × Roomy). root next.1.graph (place s' m) ≡ root s.heap.graph (place s' m)) (λ full. refl)
-    (λ fits. ap value_or_nil (get_set_other s.heap.graph.roots (place t m) (place s' m) (Num n) (λ e. apart (sym e))))
+num_roots s m n t s' apart = grind (arith, common_steps, cond_both, get_set_other)
 
 pub put_writes : (g : Graph) (m i a : ℕ) (s t : SlotName) (reply : Reply) (x j : ℕ) → root g (place s m) ≡ Ref a → WrittenBy g m (ops.Put s i t) reply x j → (x ≡ a) × (j ≡ i)
-put_writes g m i a s t reply x j at w = go reply w
-  where
-    one : In {X = ℕ × ℕ} (x, j) (map (λ name. (name, i)) (names_of (root g (place s m)))) → (x ≡ a) × (j ≡ i)
-    one w = ⊎_elim (λ (p : (a, i) ≡ (x, j)). (sym (ap (λ (p : ℕ × ℕ). p.0) p), sym (ap (λ (p : ℕ × ℕ). p.1) p))) (λ z. absurd z) (subst (λ v. In {X = ℕ × ℕ} (x, j) (map (λ name. (name, i)) (names_of v))) at w)
-
-    go : (reply : Reply) → WrittenBy g m (ops.Put s i t) reply x j → (x ≡ a) × (j ≡ i)
-    go replies.Done w = one w
-    go replies.Full w = absurd w
-    go replies.Made w = absurd w
-    go replies.NoObject w = absurd w
-    go replies.NoField w = absurd w
-    go replies.NoNumber w = absurd w
-    go (replies.Saw view) w = absurd w
-    go replies.Yes w = absurd w
-    go replies.No w = absurd w
+put_writes g m i a s t reply x j at w = grind (arith, common_steps)
 
 -- the same objects, but for these fields, and the same end
 abbrev pub Through : State → State → (ℕ → ℕ → Type 0) → Type 0
@@ -139,18 +119,7 @@ numbers_go (n ∷ rest) s m i d t =
 -- if the reply is `Done`, all were written, and else nothing has changed
 pub all_or_none : (s s' : State) (m first : ℕ) (d t : SlotName) (words : List ℕ) (reply : Reply) → put_numbers_step s m d first t words ≡ (reply, s')
     → ((reply ≡ replies.Done) × (numbers_step s m d t first words ≡ s')) ⊎ (s ≡ s')
-all_or_none s s' m first d t words reply said = go (numbers_reply first words (raw_numbers s.heap.graph d m)) said
-  where
-    go : (r : Reply) → ◌≡◌ {A = Reply × State} (r, after_reply r s (numbers_step s m d t first words)) (reply, s') → ((reply ≡ replies.Done) × (numbers_step s m d t first words ≡ s')) ⊎ (s ≡ s')
-    go replies.Done e = inl (sym (ap (λ (x : Reply × State). x.0) e), ap (λ (x : Reply × State). x.1) e)
-    go replies.Full e = inr (ap (λ (x : Reply × State). x.1) e)
-    go replies.Made e = inr (ap (λ (x : Reply × State). x.1) e)
-    go replies.NoObject e = inr (ap (λ (x : Reply × State). x.1) e)
-    go replies.NoField e = inr (ap (λ (x : Reply × State). x.1) e)
-    go replies.NoNumber e = inr (ap (λ (x : Reply × State). x.1) e)
-    go (replies.Saw view) e = inr (ap (λ (x : Reply × State). x.1) e)
-    go replies.Yes e = inr (ap (λ (x : Reply × State). x.1) e)
-    go replies.No e = inr (ap (λ (x : Reply × State). x.1) e)
+all_or_none s s' m first d t words reply said = grind (arith, common_steps)
 
 pub lives_numbers : (s s' : State) (m first a : ℕ) (d t : SlotName) (words : List ℕ) (w after : Tables) → IsOpen s s.collection → (place t m ≡ place d m → ⊥) → root s.heap.graph (place d m) ≡ Ref a → 1 ≤ a
     → numbers_step s m d t first words ≡ s' → ToldWritten a first (length words) w after → (s.collection ≡ None → ⊥) → IsLive s w → IsLive s' after
@@ -174,16 +143,11 @@ lives_numbers_closed s s' m first d t words w is_open is closed live =
 -- the whole call while no collection is open
 pub lives_call_closed : (s s' : State) (m first : ℕ) (d t : SlotName) (words : List ℕ) (w : Tables) (result : Result Reply NoMemory) → IsOpen s s.collection → s.collection ≡ None
     → IfOk result (λ reply. put_numbers_step s m d first t words ≡ (reply, s')) → OnErr result (s' ≡ s) → IsLive s w → IsLive s' w
-lives_call_closed s s' m first d t words w (Ok reply) is_open closed step refused live = ⊎_elim
-    (λ done. lives_numbers_closed s s' m first d t words w is_open done.1 closed live)
-    (λ same. subst (λ x. IsLive x w) same live)
-    (all_or_none s s' m first d t words reply step)
-lives_call_closed s s' m first d t words w (Err e) is_open closed step refused live = subst (λ x. IsLive x w) (sym refused) live
+lives_call_closed s s' m first d t words w result is_open closed step refused live = grind (arith, common_steps, lives_numbers_closed, all_or_none)
 
 -- the whole call while one is open, if the reply is not `Done`
 pub lives_call_refused : (s s' : State) (m first : ℕ) (d t : SlotName) (words : List ℕ) (w : Tables) (reply : Reply) → put_numbers_step s m d first t words ≡ (reply, s') → (reply ≡ replies.Done → ⊥) → IsLive s w → IsLive s' w
 lives_call_refused s s' m first d t words w reply step other live = ⊎_elim (λ done. absurd (other done.0)) (λ same. subst (λ x. IsLive x w) same live) (all_or_none s s' m first d t words reply step)
 
 pub done_all : (s s' : State) (m first : ℕ) (d t : SlotName) (words : List ℕ) (reply : Reply) → put_numbers_step s m d first t words ≡ (reply, s') → reply ≡ replies.Done → numbers_step s m d t first words ≡ s'
-done_all s s' m first d t words reply said done =
-    ap (λ r. after_reply r s (numbers_step s m d t first words)) (sym (ap (λ (x : Reply × State). x.0) said ∙ done)) ∙ ap (λ (x : Reply × State). x.1) said
+done_all s s' m first d t words reply said done = grind (arith, common_steps)

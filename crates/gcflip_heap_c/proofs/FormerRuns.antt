@@ -1,5 +1,6 @@
 -- What useful steps leave of the old space of the last flip.
-use Rattle.std.proofs.Common.{◌≡◌, ℕ, suc, Option, refl, sym, ap, subst}
+use Rattle.std.proofs.lemmas.Grind.{common_steps}
+use Rattle.std.proofs.Common.{◌≡◌, ℕ, suc, Option, refl, sym, ap, subst, arith}
 use Rattle.gc_plan.specs.State.{State}
 use Rattle.gc_plan.specs.Steps.{collect}
 use Rattle.gc_plan.specs.declared.step.StepReply.{StepReply}
@@ -15,6 +16,4 @@ first_left size s u reply old new step left = (old, refl, subst (λ (r : StepRep
 -- after one step more
 pub longer_left : (size : Option ℕ) (s t u : State) (n : ℕ) (before reply : StepReply) (old mid new : Option RoomWords) → IsRun size n s t before → collect t (sized_step size t) ≡ (reply, u)
     → LeavesAfter size n s old mid → FormerAfter t mid reply new → LeavesAfter size (suc n) s old new
-longer_left size s t u n before reply old mid new run step so_far left =
-    let here : FormerAfter t mid (collect t (sized_step size t)).0 new = subst (λ (r : StepReply). FormerAfter t mid r new) (sym (ap (λ (x : StepReply × State). x.0) step)) left in
-    (mid, so_far, subst (λ (x : State). FormerAfter x mid (collect x (sized_step size x)).0 new) run.state here)
+longer_left size s t u n before reply old mid new run step so_far left = grind (arith, common_steps)

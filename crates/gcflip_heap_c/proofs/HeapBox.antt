@@ -1,5 +1,6 @@
 -- A box of a collected heap over the C library's allocator. Its parts own what it owns, and so does a heap's handle.
-use Rattle.std.proofs.Common.{◌≡◌, refl, true, false, Option, Some, None, IsSome}
+use Rattle.std.proofs.lemmas.Grind.{common_steps}
+use Rattle.std.proofs.Common.{◌≡◌, Option, Some, IsSome, arith}
 use mathlib.Core.List.{[]}
 use mir.Syntax.{impl, tnil, dnil}
 use denote.RattleType.{RattleType}
@@ -29,5 +30,4 @@ its_handle = plain (λ _. Handle.the_row)
 
 -- the state that a handle has
 pub there : (state : Option State) → IsSome state → (live : State) × (state ≡ Some live)
-there None is = absurd (let never : false ≡ true = is in cc)
-there (Some live) is = (live, refl)
+there state is = grind (arith, common_steps)

@@ -1,86 +1,54 @@
 -- What a useful step leaves of the work, and what the counts say of it.
-use Rattle.std.proofs.Common.{◌≡◌, ◌≢◌, ◌⊎◌, inl, inr, ⊎_elim, ℕ, zero, suc, ◌+◌, ◌-◌, ◌<◌, ◌≤◌, true, not, List, [], ◌∷◌, length, slice_get, Option, Some, None, Result, Ok, Err, refl, ap, sym, ◌∙◌, subst, arith}
+use Rattle.std.proofs.lemmas.Grind.{common_steps}
+use Rattle.std.proofs.Common.{◌≡◌, ◌≢◌, ◌⊎◌, ℕ, zero, suc, ◌+◌, ◌-◌, ◌<◌, ◌≤◌, true, List, [], ◌∷◌, length, slice_get, Option, Some, None, Result, refl, ap, sym, ◌∙◌, arith}
 use Rattle.std.specs.Prelude.{IfOk}
 use Rattle.std.proofs.lemmas.Bool.{cond_both}
 use Rattle.gc_plan.specs.State.{Collection, State, heap_end}
 use Rattle.gc_plan.specs.Belonging.{IsOpen}
-use Rattle.gc_plan.specs.Progress.{entries_in, work_with, work_left, entries_with, entries_left, ChangesLower, Advances}
-use Rattle.gc_plan.specs.Steps.{log_or_nil, first_log, scan_done, roots_done, apply_or_flip, useful_with, useful_step, collect_with, collect, is_change}
+use Rattle.gc_plan.specs.Progress.{entries_in, work_left, entries_with, entries_left, ChangesLower, Advances}
+use Rattle.gc_plan.specs.Steps.{log_or_nil, useful_with, collect_with, collect, is_change}
 use Rattle.gc_plan.specs.declared.step.Step.{Step}
 use Rattle.gc_plan.specs.declared.step.Step.TheVariants as steps
 use Rattle.gc_plan.specs.declared.step.StepReply.{StepReply}
 use Rattle.gc_plan.specs.declared.step.StepReply.TheVariants.{NoRoom, Flipped}
-use Rattle.gc_core.specs.Readings.{log_in, log_of}
 use Rattle.gcflip_heap_c.specs.Internal.Leaving.{LeavesLess}
 use Rattle.gcflip_heap_c.specs.Work.{with_size, sized_step, goes_on}
 use Rattle.gcflip_heap_c.specs.Readings.{entries_of, logged_in, counts_with, counts_of}
 use Rattle.gcflip_heap_c.specs.Pace.{steps_left, CountsAll}
 
 pub some_left : (s : State) → 1 ≤ work_left s
-some_left s = go s.collection
-  where
-    go : (o : Option Collection) → 1 ≤ work_with s o
-    go None = omega arith
-    go (Some c) = omega arith
+some_left s = grind (arith, common_steps)
 
 -- each entry is work
 pub entries_low : (s : State) → entries_left s < work_left s
-entries_low s = go s.collection
-  where
-    go : (o : Option Collection) → entries_with o < work_with s o
-    go None = omega arith
-    go (Some c) = omega arith
+entries_low s = grind (arith, common_steps)
 
 -- ---- one step
 
 sized_begin : (size : Option ℕ) (s : State) → (with_size size steps.Begin ≢ steps.Flip) × (with_size size steps.Begin ≢ steps.Drop) × (is_change (collect_with s None (with_size size steps.Begin)).0 ≡ true)
-sized_begin None s = ((λ e. cc e), (λ e. cc e), refl)
-sized_begin (Some n) s = ((λ e. cc e), (λ e. cc e), refl)
+sized_begin size s = grind (arith, common_steps)
 
 -- while a collection is open, no begin is useful
 sized_open : (size : Option ℕ) (s : State) (c : Collection) → with_size size (useful_with s (Some c)) ≡ useful_with s (Some c)
-sized_open None s c = refl
-sized_open (Some n) s c = cond_both (not (roots_done c s.heap.graph)) _ _ (λ (step : Step). with_size (Some n) step ≡ step) (λ t. refl)
-    (λ f. cond_both (not (scan_done c)) _ _ (λ (step : Step). with_size (Some n) step ≡ step) (λ t. refl) (λ g. log_open (first_log 0 c.logs)))
-  where
-    log_open : (o : Option ℕ) → with_size (Some n) (apply_or_flip o) ≡ apply_or_flip o
-    log_open None = refl
-    log_open (Some m) = refl
+sized_open size s c = grind (arith, common_steps, cond_both)
 
 abbrev Falls : State → StepReply × State → Type 0
 Falls s next = goes_on next.0 ≡ true → work_left next.1 < work_left s
 
 stops : (reply : StepReply) → (reply ≡ NoRoom) ⊎ ((pairs : ℕ) × (reply ≡ Flipped pairs)) → goes_on reply ≡ true → ⊥
-stops reply (inl none) on = absurd (cc (sym (ap goes_on none) ∙ on))
-stops reply (inr flip) on = absurd (cc (sym (ap goes_on flip.1) ∙ on))
+stops reply h on = grind (arith, common_steps)
 
 step_falls : (size : Option ℕ) (s : State) → ChangesLower s → Advances s → Falls s (collect s (sized_step size s))
-step_falls size s lowers advances = go s.collection refl
-  where
-    go : (o : Option Collection) → s.collection ≡ o → Falls s (collect s (sized_step size s))
-    go None is =
-        let begin = sized_begin size s in
-        let same : sized_step size s ≡ with_size size steps.Begin = ap (λ (o : Option Collection). with_size size (useful_with s o)) is in
-        subst (λ (step : Step). Falls s (collect s step)) (sym same) (λ on.
-        lowers (with_size size steps.Begin) begin.0 begin.1 (subst (λ (o : Option Collection). is_change (collect_with s o (with_size size steps.Begin)).0 ≡ true) (sym is) begin.2))
-    go (Some c) is =
-        let same : sized_step size s ≡ useful_step s =
-        ap (λ (o : Option Collection). with_size size (useful_with s o)) is ∙ (sized_open size s c ∙ sym (ap (useful_with s) is)) in
-        subst (λ (step : Step). Falls s (collect s step)) (sym same) (λ on.
-        ⊎_elim (λ ended. absurd (stops (collect s (useful_step s)).0 ended on)) (λ less. less) advances)
+step_falls size s lowers advances = grind (arith, common_steps, sized_begin, sized_open, stops)
 
 pub leaves_less : (size : Option ℕ) (s t : State) (reply : StepReply) → ChangesLower s → Advances s → entries_left (collect s (sized_step size s)).1 ≤ entries_left s
     → collect s (sized_step size s) ≡ (reply, t) → LeavesLess s t reply
-leaves_less size s t reply lowers advances entries is =
-    subst (λ (next : StepReply × State). LeavesLess s next.1 next.0) is
-    (record { falls = step_falls size s lowers advances; logs = omega (arith, entries, entries_low s) })
+leaves_less size s t reply lowers advances entries is = grind (arith, common_steps, step_falls, entries_low)
 
 -- `now` is the state when the step is performed
 pub leaves_reply : {E : Type 0} (size : Option ℕ) (s now t : State) (step : Step) (r : Result StepReply E) → now ≡ s → step ≡ sized_step size s → ChangesLower s → Advances s
     → ((step : Step) → entries_left (collect s step).1 ≤ entries_left s) → IfOk r (λ reply. collect now step ≡ (reply, t)) → IfOk r (LeavesLess s t)
-leaves_reply size s now t step (Err fault) same is lowers advances entries made = tt
-leaves_reply size s now t step (Ok reply) same is lowers advances entries made =
-    leaves_less size s t reply lowers advances (entries (sized_step size s)) (sym (λ i. collect (same i) (is i)) ∙ made)
+leaves_reply size s now t step r same is lowers advances entries made = grind (arith, common_steps, leaves_less)
 
 -- ---- the counts
 
@@ -99,17 +67,11 @@ all_entries (log ∷ logs) = let first = first_of log logs (length logs) in let 
 
 entries_idle : (s : State) → s.collection ≡ None → (m : ℕ) → entries_of s m ≡ 0
 entries_idle s is zero = refl
-entries_idle s is (suc m) =
-    let others = entries_idle s is m in
-    let none : length (log_of s m) ≡ 0 = ap (λ (o : Option Collection). length (log_in o m)) is in
-    omega arith
+entries_idle s is (suc m) = grind (arith, common_steps, entries_idle s is m)
 
 entries_open : (s : State) (c : Collection) → s.collection ≡ Some c → (m : ℕ) → entries_of s m ≡ first_entries c.logs m
 entries_open s c is zero = refl
-entries_open s c is (suc m) =
-    let others = entries_open s c is m in
-    let one : length (log_of s m) ≡ length (log_or_nil (slice_get c.logs m)) = ap (λ (o : Option Collection). length (log_in o m)) is in
-    omega arith
+entries_open s c is (suc m) = grind (arith, common_steps, entries_open s c is m)
 
 entries_counted : (s : State) → IsOpen s s.collection → entries_of s s.mutators ≡ entries_left s
 entries_counted s k = go s.collection refl k
@@ -119,15 +81,10 @@ entries_counted s k = go s.collection refl k
     go (Some c) is k = entries_open s c is s.mutators ∙ (ap (first_entries c.logs) (sym k.logs) ∙ all_entries c.logs)
 
 logged_at : (s : State) (o : Option Collection) → (counts_with s o).logged ≡ logged_in s
-logged_at s None = refl
-logged_at s (Some c) = refl
+logged_at s o = grind (arith, common_steps)
 
 pub end_at : (s : State) → (counts_of s).end ≡ heap_end s
-end_at s = go s.collection
-  where
-    go : (o : Option Collection) → (counts_with s o).end ≡ heap_end s
-    go None = refl
-    go (Some c) = refl
+end_at s = grind (arith, common_steps)
 
 pub logged_low : (s : State) → IsOpen s s.collection → (counts_of s).logged ≤ entries_left s
 logged_low s k = omega (arith, logged_at s s.collection, entries_counted s k)
@@ -138,16 +95,4 @@ logged_all s k all = omega (arith, all, logged_at s s.collection, entries_counte
 -- the steps that the counts leave are enough for the work
 pub counts_bound : (s : State) → ((c : Collection) → s.collection ≡ Some c → work_left s ≤ (heap_end s - c.scan_place) + entries_in c.logs + 1) → IsOpen s s.collection
     → CountsAll (counts_of s) → work_left s ≤ steps_left (counts_of s)
-counts_bound s bounded k all = go s.collection refl
-  where
-    logged : logged_in s ≡ entries_left s
-    logged = sym (logged_at s s.collection) ∙ logged_all s k all
-
-    go : (o : Option Collection) → s.collection ≡ o → work_left s ≤ steps_left (counts_of s)
-    go None is =
-        subst (λ (o : Option Collection). work_with s o ≤ steps_left (counts_with s o)) (sym is) (omega arith)
-    go (Some c) is =
-        let entries : entries_left s ≡ entries_in c.logs = ap entries_with is in
-        let low = bounded c is in
-        let steps : steps_left (counts_of s) ≡ (heap_end s - c.scan_place) + logged_in s + 1 = ap (λ (o : Option Collection). steps_left (counts_with s o)) is in
-        omega (arith, logged)
+counts_bound s bounded k all = grind (arith, common_steps, logged_at, logged_all)

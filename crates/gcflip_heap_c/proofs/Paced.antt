@@ -1,16 +1,16 @@
 -- What paced work leaves in the logs, and that it stays ahead of the mutators, but for the steps that it owes.
-use Rattle.std.proofs.Common.{◌≡◌, ◌≢◌, ◌⊎◌, inl, inr, ⊎_elim, ℕ, zero, suc, ◌+◌, ◌≤◌, true, false, Option, Some, None, refl, ap, ◌∙◌, subst, arith}
+use Rattle.std.proofs.lemmas.Grind.{common_steps}
+use Rattle.std.proofs.Common.{◌≡◌, ◌≢◌, ◌⊎◌, ℕ, ◌+◌, ◌≤◌, true, false, None, ap, ◌∙◌, subst, arith}
 use Rattle.std.specs.Prelude.{min, IsTrue}
 use Rattle.std.proofs.lemmas.Bool.{and_from, or_left, or_right, le-leb, cases_lt}
-use Rattle.gc_plan.specs.State.{Collection, State, heap_end}
+use Rattle.gc_plan.specs.State.{State, heap_end}
 use Rattle.gc_plan.specs.Belonging.{IsSpaceGraph, IsOpen}
-use Rattle.gc_plan.specs.Progress.{work_with, work_left}
+use Rattle.gc_plan.specs.Progress.{work_left}
 use Rattle.gc_plan.specs.declared.step.StepReply.{StepReply}
-use Rattle.gc_plan.specs.declared.step.StepReply.TheVariants as replies
 use Rattle.gc_plan.proofs.Public.{left_bounded}
 use Rattle.gcflip_heap_c.specs.Replies.{step_reply_in_c}
-use Rattle.gcflip_heap_c.specs.Readings.{counts_with, counts_of}
-use Rattle.gcflip_heap_c.specs.Work.{IsRun, IsEnd, IsWork, IsEndWithin, IsWorkWithin, goes_on}
+use Rattle.gcflip_heap_c.specs.Readings.{counts_of}
+use Rattle.gcflip_heap_c.specs.Work.{IsRun, IsEnd, IsWork, IsWorkWithin, goes_on}
 use Rattle.gcflip_heap_c.specs.Pace.{steps_left, spent, steps_due, Pays, took_its_words, owed_after, pace_after, no_work, CountsAll, HasEnded, IsPacedWork}
 use Rattle.gcflip_heap_c.specs.declared.pace.GcflipPace.{GcflipPace}
 use Rattle.gcflip_heap_c.specs.declared.reading.GcflipCounts.{GcflipCounts}
@@ -21,34 +21,10 @@ use Rattle.gcflip_heap_c.proofs.Left.{some_left, entries_low, end_at, logged_low
 
 -- a reply that is no flip and found room does not end the work
 on_of : (reply : StepReply) → step_reply_in_c reply ≢ 43 → step_reply_in_c reply ≢ 36 → goes_on reply ≡ true
-on_of replies.Busy flip room = refl
-on_of replies.Begun flip room = refl
-on_of replies.Idle flip room = refl
-on_of replies.Clean flip room = refl
-on_of replies.NoRoom flip room = absurd (room refl)
-on_of replies.Copied flip room = refl
-on_of replies.Passed flip room = refl
-on_of replies.Scanned flip room = refl
-on_of replies.Applied flip room = refl
-on_of replies.NotReady flip room = refl
-on_of replies.Refused flip room = refl
-on_of (replies.Flipped pairs) flip room = absurd (flip refl)
-on_of replies.Dropped flip room = refl
+on_of reply flip room = grind (arith, common_steps)
 
 off_of : (reply : StepReply) → goes_on reply ≡ false → (step_reply_in_c reply ≡ 43) ⊎ (step_reply_in_c reply ≡ 36)
-off_of replies.Busy off = absurd cc
-off_of replies.Begun off = absurd cc
-off_of replies.Idle off = absurd cc
-off_of replies.Clean off = absurd cc
-off_of replies.NoRoom off = inr refl
-off_of replies.Copied off = absurd cc
-off_of replies.Passed off = absurd cc
-off_of replies.Scanned off = absurd cc
-off_of replies.Applied off = absurd cc
-off_of replies.NotReady off = absurd cc
-off_of replies.Refused off = absurd cc
-off_of (replies.Flipped pairs) off = inl refl
-off_of replies.Dropped off = absurd cc
+off_of reply off = grind (arith, common_steps)
 
 -- ---- the work of one call
 
@@ -60,90 +36,45 @@ pub record IsDueWork (before : GcflipPace) (due : ℕ) (s t : State) (work : Gcf
   pub enough : work_left s ≤ due → IsEnd None t reply ⊎ IsTrue (took_its_words before work)
 
 took : (before : GcflipPace) (work : GcflipWork) → 1 ≤ before.words → (before.words ≤ work.steps) ⊎ (before.words ≤ work.copied) → IsTrue (took_its_words before work)
-took before work some many = and_from _ _ (le-leb 1 before.words some)
-    (⊎_elim (λ steps. or_left _ _ (le-leb before.words work.steps steps)) (λ words. or_right _ _ (le-leb before.words work.copied words)) many)
+took before work some many = grind (arith, common_steps, and_from, le-leb, or_left, or_right)
 
 pub due_work : (before : GcflipPace) (due : ℕ) (s t : State) (work : GcflipWork)
     → (before.words ≡ 0 → IsWork None due s t work) → (1 ≤ before.words → IsWorkWithin (min due before.words) before.words s t work) → IsDueWork before due s t work
-due_work before due s t work whole within = go before.words refl
-  where
-    go : (n : ℕ) → before.words ≡ n → IsDueWork before due s t work
-    go zero e = let done = whole e in record { reply = done.reply; run = done.run; last = done.last; enough = λ low. inl (done.enough low) }
-    go (suc n) e =
-        let some : 1 ≤ before.words = omega arith in
-        let done = within some in
-        record {
-          reply = done.reply;
-          run = done.run;
-          last = done.last;
-          enough = λ low. ⊎_elim
-              (λ early. ends done.reply some (done.ended early))
-              (λ all. ⊎_elim
-              (λ few. ends done.reply some (done.enough (omega (arith, few, low))))
-              (λ many. inr (took before work some (inl (omega (arith, all, many)))))
-              (cases_lt due before.words))
-              (cases_lt work.steps (min due before.words));
-        }
-      where
-        ends : (reply : StepReply) → 1 ≤ before.words → IsEndWithin before.words t reply work → IsEnd None t reply ⊎ IsTrue (took_its_words before work)
-        ends reply some ended = ⊎_elim (λ off. inl (inl off)) (λ rest. ⊎_elim (λ fails. inl (inr fails)) (λ many. inr (took before work some (inr many))) rest) ended
+due_work before due s t work whole within = grind (arith, common_steps, took, cases_lt)
 
 -- the steps lowered the work that is left by their number
 work_falls : (before : GcflipPace) (due : ℕ) (s t : State) (work : GcflipWork) → IsDueWork before due s t work → work.last ≢ 43 → work.last ≢ 36 → work_left t + work.steps ≤ work_left s
 work_falls before due s t work done flip room = done.run.falls (on_of done.reply (λ e. flip (done.last ∙ e)) (λ e. room (done.last ∙ e)))
 
 work_ends : (before : GcflipPace) (due : ℕ) (s t : State) (work : GcflipWork) → IsDueWork before due s t work → work_left s ≤ due → HasEnded t work ⊎ IsTrue (took_its_words before work)
-work_ends before due s t work done low = ⊎_elim
-    (λ ended. inl (⊎_elim (λ off. inl (⊎_elim (λ e. inl (done.last ∙ e)) (λ e. inr (done.last ∙ e)) (off_of done.reply off))) (λ fails. inr fails) ended))
-    (λ many. inr many)
-    (done.enough low)
+work_ends before due s t work done low = grind (arith, common_steps, off_of)
 
 idle_left : (s : State) → (counts_of s).is_open ≡ 0 → work_left s ≡ heap_end s + 1
-idle_left s idle = go s.collection idle
-  where
-    go : (o : Option Collection) → (counts_with s o).is_open ≡ 0 → work_with s o ≡ heap_end s + 1
-    go None e = refl
-    go (Some c) e = absurd cc
+idle_left s idle = grind (arith, common_steps)
 
 module _ (s t : State) (before : GcflipPace) (work : GcflipWork) (due : ℕ)
     (heap : IsSpaceGraph s.size s.heap.free s.heap.graph) (opened : IsOpen s s.collection) (still : IsOpen t t.collection)
     (none : due ≡ 0 → (t ≡ s) × (work ≡ no_work)) (some : 1 ≤ due → IsDueWork before due s t work) where
   -- no step was due, or some were performed
   split : (due ≡ 0) ⊎ (1 ≤ due)
-  split = go due refl
-    where
-      go : (n : ℕ) → due ≡ n → (due ≡ 0) ⊎ (1 ≤ due)
-      go zero e = inl e
-      go (suc n) e = inr (omega arith)
+  split = grind (arith, common_steps)
 
   bound : CountsAll (counts_of s) → work_left s ≤ steps_left (counts_of s)
   bound all = counts_bound s (λ c is. left_bounded s c heap opened is) opened all
 
   logs_of : CountsAll (counts_of s) → (counts_of t).logged + work.steps ≤ steps_left (counts_of s)
-  logs_of all = ⊎_elim
-      (λ idle. let same = none idle in
-      let steps : work.steps ≡ 0 = ap (λ (w : GcflipWork). w.steps) same.1 in
-      let logged : (counts_of t).logged ≡ (counts_of s).logged = ap (λ (x : State). (counts_of x).logged) same.0 in
-      omega arith)
-      (λ busy. let run = (some busy).run.logs in omega (arith, run, logged_low t still, bound all))
-      split
+  logs_of all = grind (arith, common_steps, logged_low, bound, split)
 
   enough_of : CountsAll (counts_of s) → steps_left (counts_of s) ≤ due → HasEnded t work ⊎ IsTrue (took_its_words before work)
   enough_of all most = work_ends before due s t work (some (omega (arith, most, some_left s, bound all))) (omega (arith, most, bound all))
 
   begun_of : (counts_of s).is_open ≡ 0 → 1 ≤ work.steps → work.last ≢ 43 → work.last ≢ 36 → work_left t ≤ (counts_of s).end
-  begun_of idle steps flip room = ⊎_elim
-      (λ quiet. let none_made : work.steps ≡ 0 = ap (λ (w : GcflipWork). w.steps) (none quiet).1 in absurd (omega (arith, steps)))
-      (λ busy. omega (arith, work_falls before due s t work (some busy) flip room, steps, idle_left s idle, end_at s))
-      split
+  begun_of idle steps flip room = grind (arith, common_steps, work_falls, idle_left, end_at, split)
 
   -- the work after the call, which owes so many steps
   ahead_of : (most gone owed : ℕ) → min (min gone (steps_left (counts_of s))) 4294967295 ≤ due → gone ≤ 4294967295 → CountsAll (counts_of s) → work.steps + owed ≡ due → work.last ≢ 43 → work.last ≢ 36
       → work_left s ≤ most + gone → work_left t ≤ most + owed
-  ahead_of most gone owed pays few all made flip room low = ⊎_elim
-      (λ quiet. let same : work_left t ≡ work_left s = ap work_left (none quiet).0 in omega (arith, low, quiet, pays, few, some_left s, bound all))
-      (λ busy. omega (arith, work_falls before due s t work (some busy) flip room, low, made, pays, few, some_left t, bound all))
-      split
+  ahead_of most gone owed pays few all made flip room low = grind (arith, common_steps, some_left, bound, work_falls, split)
 
 pub paced_work : (wanted : ℕ) (s t : State) (before after : GcflipPace) (work : GcflipWork)
     → IsSpaceGraph s.size s.heap.free s.heap.graph → IsOpen s s.collection → IsOpen t t.collection

@@ -1,4 +1,5 @@
 -- One more useful step.
+use Rattle.std.proofs.lemmas.Grind.{common_steps}
 use Rattle.std.proofs.Common.{◌≡◌, ℕ, suc, ◌+◌, ◌-◌, ◌<◌, Option, true, sym, ap, ◌∙◌, subst, ⊎_elim, arith}
 use Rattle.std.specs.Prelude.{◌≢◌}
 use Rattle.std.proofs.lemmas.Bool.{cases_lt}
@@ -12,9 +13,7 @@ use Rattle.gcflip_heap_c.proofs.Useful.{large_run, finds_room}
 
 made : (size : Option ℕ) (s : State) (n : ℕ) (t u : State) (reply : StepReply) → t ≡ after_useful size n s → collect t (sized_step size t) ≡ (reply, u)
     → (reply ≡ useful_reply size n s) × (u ≡ after_useful size (suc n) s)
-made size s n t u reply is step =
-    let same : (reply, u) ≡ collect (after_useful size n s) (sized_step size (after_useful size n s)) = sym step ∙ ap (λ (x : State). collect x (sized_step size x)) is in
-    (ap (λ (p : StepReply × State). p.0) same, ap (λ (p : StepReply × State). p.1) same)
+made size s n t u reply is step = grind (arith, common_steps)
 
 abbrev SoundBelow : Option ℕ → ℕ → State → Type 0
 SoundBelow size n s = (k : ℕ) → k < n → IsSoundReply (after_useful size k s) (useful_reply size k s)

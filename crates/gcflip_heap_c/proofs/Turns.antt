@@ -1,10 +1,9 @@
 -- Paced work stays ahead of the mutators through many calls, but for the steps that it owes.
-use Rattle.std.proofs.Common.{◌≡◌, ℕ, zero, suc, ◌+◌, ◌-◌, ◌<◌, ◌≤◌, nat_lt, List, [], ◌∷◌, ◌++◌, ◌==◌, ◌||◌, set, slice_get, Option, Some, None, refl, ap, sym, ◌∙◌, subst, arith}
+use Rattle.std.proofs.lemmas.Grind.{common_steps}
+use Rattle.std.proofs.Common.{◌≡◌, ℕ, zero, suc, ◌+◌, ◌<◌, ◌≤◌, List, [], ◌∷◌, ◌++◌, set, slice_get, Option, None, refl, sym, subst, arith}
 use Rattle.std.proofs.lemmas.Bool.{cond_both, and_parts, leb-true}
 use Rattle.std.proofs.lemmas.List.{length-append}
-use Rattle.gc_graph.specs.Machine.{Roomy, words_taken}
 use Rattle.gc_graph.specs.declared.command.Op.{Op}
-use Rattle.gc_graph.specs.declared.reply.Reply.{Reply}
 use Rattle.gc_plan.specs.State.{Collection, State, heap_end}
 use Rattle.gc_plan.specs.Belonging.{IsState}
 use Rattle.gc_plan.specs.Steps.{log_or_nil, logged, written, mutate, useful_step}
@@ -12,7 +11,7 @@ use Rattle.gc_plan.specs.Progress.{entries_in, work_left, entries_with, entries_
 use Rattle.gc_plan.proofs.Public.{collect_keeps, mutate_keeps, useful_ranges, command_raises}
 use Rattle.gcflip_heap_c.specs.Readings.{counts_of}
 use Rattle.gcflip_heap_c.specs.Work.{after_useful}
-use Rattle.gcflip_heap_c.specs.Pace.{steps_due, CountsAll, took_its_words, owed_after, IsAhead, IsPacedWork}
+use Rattle.gcflip_heap_c.specs.Pace.{steps_due, CountsAll, IsAhead, IsPacedWork}
 use Rattle.gcflip_heap_c.specs.Turns.{Turn, after_commands, AreCommands, AreTurns, after_turns, last_pace, Remembers}
 use Rattle.gcflip_heap_c.specs.declared.pace.GcflipPace.{GcflipPace}
 use Rattle.gcflip_heap_c.specs.declared.work.GcflipWork.{GcflipWork}
@@ -27,12 +26,10 @@ entries_more (log ∷ logs) zero more = let len = length-append log more in omeg
 entries_more (log ∷ logs) (suc m) more = let others = entries_more logs m more in omega arith
 
 entries_grow : (o : Option Collection) (m : ℕ) (more : List (ℕ × ℕ)) → entries_with o ≤ entries_with (logged o m more)
-entries_grow None m more = omega arith
-entries_grow (Some c) m more = entries_more c.logs m more
+entries_grow o m more = grind (arith, common_steps, entries_more)
 
 end_grows : (s : State) (m : ℕ) (op : Op) → heap_end s ≤ heap_end (mutate s m op).1
-end_grows s m op = cond_both (nat_lt s.heap.free (words_taken op)) _ _ (λ (next : Reply × Roomy). s.size - s.heap.free ≤ s.size - next.1.free)
-    (λ full. omega arith) (λ fits. omega arith)
+end_grows s m op = grind (arith, common_steps, cond_both)
 
 -- what commands made of the state s
 record IsRaised (s t : State) : Type 0 where
@@ -55,15 +52,7 @@ raised s (command ∷ rest) h k =
     record { state = later.state; end = omega arith; entries = omega arith; work = omega arith }
 
 ahead_before : (s t : State) (pace : GcflipPace) (most : ℕ) → IsState s → IsRaised s t → Remembers pace s → CountsAll (counts_of t) → work_left s ≤ most + pace.owed → IsAhead most pace t
-ahead_before s t pace most h k remembers all low =
-    let end = remembers.end in
-    let logged = remembers.logged in
-    let more = k.end in
-    let entries = k.entries in
-    let work = k.work in
-    let now : (counts_of t).logged ≡ entries_left t = logged_all t (k.state).collection all in
-    let was : (counts_of s).logged ≤ entries_left s = logged_low s h.collection in
-    omega (arith, end_at s, end_at t, low)
+ahead_before s t pace most h k remembers all low = grind (arith, common_steps, logged_all, logged_low, end_at)
 
 -- ---- calls
 
@@ -84,10 +73,7 @@ call_keeps wanted s t before after work paced h = go (steps_due before (counts_o
         subst IsState (sym (done.run).state) (useful_keep work.steps s h)
 
 call_remembers : (wanted : ℕ) (s t : State) (before after : GcflipPace) (work : GcflipWork) → IsPacedWork wanted s t before after work → Remembers after t
-call_remembers wanted s t before after work paced = record {
-  end = ap (λ (p : GcflipPace). p.end) paced.pace;
-  logged = ap (λ (p : GcflipPace). p.logged) paced.pace;
-}
+call_remembers wanted s t before after work paced = grind (arith, common_steps)
 
 pub turns_ahead : (s : State) (pace : GcflipPace) (turns : List Turn) (most : ℕ) → IsState s → Remembers pace s → AreTurns s pace turns → work_left s ≤ most + pace.owed
     → IsState (after_turns s turns) × (work_left (after_turns s turns) ≤ most + (last_pace pace turns).owed)
@@ -116,15 +102,7 @@ turns_logs s pace turns most h remembers k low =
 -- ---- where words are not bounded, no step is owed
 
 call_owes : (wanted : ℕ) (s t : State) (before after : GcflipPace) (work : GcflipWork) → IsPacedWork wanted s t before after work → before.words ≡ 0 → (after.words ≡ 0) × (after.owed ≡ 0)
-call_owes wanted s t before after work paced free = (
-  ap (λ (p : GcflipPace). p.words) paced.pace ∙ free,
-  ap (λ (p : GcflipPace). p.owed) paced.pace ∙ nothing,
-)
-  where
-    nothing : owed_after before (steps_due before (counts_of s) wanted) work ≡ 0
-    nothing = cond_both ((work.last == 43) || (work.last == 36)) _ _ (λ (n : ℕ). n ≡ 0) (λ ended. refl)
-        (λ on. cond_both (took_its_words before work) _ _ (λ (n : ℕ). n ≡ 0)
-        (λ many. absurd (omega (arith, free, leb-true 1 before.words (and_parts _ _ many).0))) (λ few. refl))
+call_owes wanted s t before after work paced free = grind (arith, common_steps, cond_both, leb-true, and_parts)
 
 pub turns_owe : (s : State) (pace : GcflipPace) (turns : List Turn) → AreTurns s pace turns → pace.words ≡ 0 → pace.owed ≡ 0 → (last_pace pace turns).owed ≡ 0
 turns_owe s pace [] k free none = none

@@ -1,5 +1,5 @@
 -- Copying fields from one object to another: the commands of `copy_fields_step`, with its reply.
-use Rattle.std.specs.Prelude.{◌≡◌, ◌≢◌, ◌<◌, ℕ, Option, Some, None}
+use Rattle.std.specs.Prelude.{◌≡◌, ◌≢◌, ◌<◌, ℕ, Option, Some}
 use Rattle.gc_graph.specs.declared.reply.Reply.{Reply}
 use Rattle.gc_plan.specs.State.{State}
 use Rattle.gc_core.specs.Copying.{copy_fields_step}

@@ -1,5 +1,5 @@
 -- New objects whose fields take numbers and the values of slots: the commands of `new_with_step`, with the reply to the first.
-use Rattle.std.specs.Prelude.{◌≡◌, ◌≢◌, ◌<◌, ◌^◌, ◌==◌, ◌&&◌, ◌||◌, ℕ, nat_lt, Bool, IsTrue, if◌then◌else◌, List, length, map, Option, Some, None}
+use Rattle.std.specs.Prelude.{◌≡◌, ◌≢◌, ◌<◌, ◌^◌, ◌==◌, ◌&&◌, ◌||◌, ℕ, nat_lt, Bool, IsTrue, if◌then◌else◌, List, length, map, Option, Some}
 use Rattle.std.specs.List.{AllByRecursion}
 use Rattle.gc_graph.specs.Limits.{lengths}
 use Rattle.gc_graph.specs.declared.reply.Reply.{Reply}

@@ -55,7 +55,6 @@ fn steps_left(counts: &GcflipCounts) -> u64
     ensures value { result ≡ paces.steps_left counts.now }
     ensures bound { result < 2 ^ 34 }
 {
-    let _counts = *counts;
     let unscanned = counts.end.saturating_sub(counts.scan_place);
     u64::from(unscanned) + u64::from(counts.logged) + 1
 }
@@ -65,7 +64,6 @@ fn spent(pace: &GcflipPace, counts: &GcflipCounts) -> u64
     ensures value { result ≡ paces.spent pace.now counts.now }
     ensures bound { result < 2 ^ 34 }
 {
-    let _values = (*pace, *counts);
     let allocated = counts.end.saturating_sub(pace.end);
     let logged = counts.logged.saturating_sub(pace.logged);
     u64::from(allocated) + u64::from(logged)
@@ -75,7 +73,6 @@ fn spent(pace: &GcflipPace, counts: &GcflipCounts) -> u64
 fn beginning(pace: &GcflipPace, counts: &GcflipCounts) -> u64
     ensures { result ≡ paces.beginning pace.now counts.now }
 {
-    let _values = (*pace, *counts);
     let grown = u64::from(pace.factor) * u64::from(pace.left) / 100;
     let halfway = (u64::from(pace.left) + u64::from(counts.size)) / 2;
     grown.max(u64::from(pace.least)).min(halfway)
@@ -87,7 +84,6 @@ fn rate(pace: &GcflipPace, counts: &GcflipCounts, room: u32) -> u64
     ensures value { result ≡ paces.rate_of pace.now counts.now room }
     ensures bound { result < 2 ^ 35 }
 {
-    let _pace = *pace;
     if pace.rate == 0 {
         2 + steps_left(counts) / u64::from(room)
     } else {
@@ -100,7 +96,6 @@ fn due_while_open(pace: &GcflipPace, counts: &GcflipCounts, room: u32) -> u64
     requires { 1 ≤ room }
     ensures { result ≡ min (paces.steps_left counts.now) (pace.now.owed + paces.spent pace.now counts.now * paces.rate_of pace.now counts.now room) }
 {
-    let _pace = *pace;
     let left = steps_left(counts);
     let paid = u128::from(spent(pace, counts)) * u128::from(rate(pace, counts, room));
     if paid < u128::from(left) {

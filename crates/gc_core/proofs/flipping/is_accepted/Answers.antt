@@ -1,9 +1,9 @@
 -- The images of the words have the outlines of the plan's images, because an outline does not depend on links.
-use Rattle.std.proofs.Common.{◌≡◌, ◌++◌, ◌-◌, ℕ, List, take, drop, replicate, length, sym, ◌∙◌, ap, subst}
+use Rattle.std.proofs.Common.{◌≡◌, ◌++◌, ◌-◌, ℕ, List, take, replicate, length, sym, ◌∙◌, ap, subst}
 use Rattle.std.proofs.lemmas.List.{take-append-drop}
 use Rattle.gc_words.specs.Image.{Image}
 use Rattle.gc_words.specs.Space.{SpaceWords, image_with}
-use Rattle.gc_heap.specs.Heap.{HeapWords, IsHeap, image_of}
+use Rattle.gc_heap.specs.Heap.{HeapWords, image_of}
 use Rattle.gc_plan.specs.State.{Collection}
 use Rattle.gc_plan.specs.Linked.{old_links, old_image, new_image}
 use Rattle.gc_copy.specs.Words.{AreMoved, collection_in, open_state}

@@ -1,5 +1,5 @@
 -- Where the marks tell of all roots, each has a replica of its target.
-use Rattle.std.proofs.Common.{◌≡◌, ℕ, ◌+◌, ◌<◌, refl, sym, ◌∙◌, ap, arith}
+use Rattle.std.proofs.Common.{◌≡◌, ℕ, ◌+◌, ◌<◌, refl, ◌∙◌, ap, arith}
 use Rattle.gc_graph.specs.Slots.{roots_of}
 use Rattle.gc_graph.specs.Graph.{root}
 use Rattle.gc_heap.specs.Heap.{graph_in}

@@ -1,5 +1,5 @@
 -- Taking the mark from the links does not change the pair, so what the checker says of it holds of the open collection's pair.
-use Rattle.std.proofs.Common.{Result, Ok, Err, sym, subst}
+use Rattle.std.proofs.Common.{Result, Ok, Err, subst}
 use Rattle.std.specs.Prelude.{IfOk}
 use Rattle.gc_core.specs.Flip.{IsCertified}
 use Rattle.gc_core.proofs.KeptPair.{pair_now, same_pair}

@@ -1,15 +1,13 @@
 -- The copies write fields and one slot, so what is known of extra roots is still true; room in a log changes no state.
-use Rattle.std.proofs.Common.{◌≡◌, ◌<◌, None, refl, ap, ◌∙◌, sym, subst, arith}
+use Rattle.std.proofs.Common.{◌≡◌, ◌<◌, None, refl, sym, subst, arith}
 use Rattle.std.specs.Option.{option_map}
 use Rattle.gc_plan.specs.State.{State}
 use Rattle.gc_copy.specs.Words.{collection_in, state_of, open_state, idle_state}
-use Rattle.gc_graph.specs.declared.reply.Reply.TheVariants.{Done}
-use Rattle.gc_core.specs.Copying.{copy_fields_step}
 use Rattle.gc_core.specs.Internal.CollectedHeap.{Fits}
 use Rattle.gc_core.specs.Internal.KnownRoots.{KnowsRoots}
 use Rattle.gc_core.specs.declared.known.KnownRoots.{KnownRoots}
 use Rattle.gc_core.proofs.NewFrom.{opened_at}
-use Rattle.gc_core.proofs.Copies.{copies_know, all_copied, none_copied}
+use Rattle.gc_core.proofs.Copies.{copies_know}
 use Rattle.gc_core.proofs.Marks.{with_row}
 use Rattle.gc_core.proofs.collected_heap.CollectedHeap.copy_fields.Goals as goal
 

@@ -1,5 +1,5 @@
 -- The checker's yes is about the open collection's pair, which is the one that is kept, and no collection is open after the flip.
-use Rattle.std.proofs.Common.{◌≡◌, Option, Some, None, refl, sym, ◌∙◌, ap, subst}
+use Rattle.std.proofs.Common.{◌≡◌, Option, Some, refl, sym, ◌∙◌, ap, subst}
 use Rattle.std.specs.Option.{option_map}
 use Rattle.gc_cert.specs.Views.{pair_in}
 use Rattle.gc_plan.specs.State.{State}

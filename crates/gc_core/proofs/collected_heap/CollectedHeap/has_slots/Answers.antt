@@ -1,5 +1,5 @@
 -- The graph has as many roots as there are root words, among them the slots of each mutator.
-use Rattle.std.proofs.Common.{◌≡◌, ◌≤◌, length, subst, arith}
+use Rattle.std.proofs.Common.{◌≤◌, length, subst, arith}
 use Rattle.std.proofs.lemmas.List.{length-map}
 use Rattle.gc_graph.specs.Slots.{roots_of}
 use Rattle.gc_words.specs.Word.{value_of}

@@ -1,29 +1,24 @@
 -- A handle may go to another thread: its heap may, and any thread may free the box.
-use Rattle.std.proofs.Common.{Option, Some, None}
+use Rattle.std.proofs.lemmas.Grind.{common_steps}
+use Rattle.std.proofs.Common.{Option, Some, None, arith}
 use mir.Raw.{raw}
 use base.Shift.{Keyless}
 use denote.Memory.{lone}
 use denote.RawPtr.{Ptr}
-use denote.Struct.Struct.{exits_of}
-use denote.Struct.Owning.{shape, fields, to}
-use denote.Param.Send.{IsSend, AllSend, owning_send, struct_send, sendable}
+use denote.Param.Send.{IsSend}
 use Rattle.std.specs.declared.alloc.Global.{Global}
 use Rattle.std.proofs.Crossing.{frees}
 use Rattle.std_alloc.proofs.SendSync.{quiet, lies}
-use Rattle.std.proofs.alloc.Global.TheSendSync as handle
 use Rattle.gcflip_heap_c.specs.Handle.{owns_heap}
 use Rattle.gc_plan.specs.State.{State}
 use Rattle.gc_copy.specs.Words.{RoomWords}
 use Rattle.gc_live.specs.contracts.kept_heap.KeptHeap as Row
 use Rattle.gc_live.proofs.kept_heap.KeptHeap.TheSendSync.{the_send as heap_send}
-use Rattle.gcflip_heap_c.specs.contracts.handle.GcflipHeap.{the_row, the_type}
+use Rattle.gcflip_heap_c.specs.contracts.handle.GcflipHeap.{the_row}
 
 keyless : (alloc : Global) (at : Ptr) (state : Option State) (former : Option RoomWords) → Keyless (owns_heap alloc at state former)
 keyless alloc at None former = tt
 keyless alloc at (Some state) former = (lies Row.the_row heap_send at (record { live = state; former = former }), frees.frees alloc (raw (lone Row.the_row.mir)) at)
 
 pub send : IsSend the_row
-send =
-    let all : AllSend (fields the_type) = (search sendable, (handle.the_field_send, tt)) in
-    owning_send the_type all (λ h. keyless h.alloc h.at h.state h.former)
-    (λ k. quiet (to the_type) (exits_of k (fields the_type)) ((struct_send (shape the_type) all).leaving k))
+send = grind (arith, common_steps, keyless, quiet)
