@@ -1,8 +1,8 @@
 -- Words that correspond as they meet still correspond when more pairs are found.
-use Rattle.std.proofs.Common.{◌≡◌, ℕ, ◌+◌, ◌<◌, ◌≤◌, Bool, true, false, cond, ◌&&◌, ◌||◌, ◌==◌, List, [], ◌∷◌, ◌++◌, length, drop, Option, Some, None, refl, sym, ap, subst, inl, inr, arith}
+use Rattle.std.proofs.Common.{◌≡◌, ℕ, ◌+◌, ◌<◌, ◌≤◌, Bool, true, false, cond, ◌&&◌, ◌==◌, List, [], ◌∷◌, ◌++◌, length, drop, Option, Some, None, refl, sym, ap, subst, inl, inr, arith}
 use Rattle.std.specs.Prelude.{IsTrue}
 use Rattle.std.specs.List.{AllZip}
-use Rattle.std.proofs.lemmas.Bool.{eq-eqb, cases_order, and_parts, or_cases}
+use Rattle.std.proofs.lemmas.Bool.{eq-eqb, cases_order, and_parts, or_cases, or_left, or_right}
 use Rattle.std.proofs.lemmas.List.{drop_all}
 use Rattle.gc_graph.specs.Graph.{Value, Nil, Num, Ref}
 use Rattle.gc_graph.specs.Correspond.{paired}
@@ -15,13 +15,6 @@ use Rattle.gc_check.specs.Internal.Meetings.{met, met_all, met_objects, alike_al
 use Rattle.gc_check.proofs.Forced.{Grows, met_all_grows, met_blocks_grow, same_place}
 
 -- ---- more pairs
-
-pub or_first : (b c : Bool) → b ≡ true → (b || c) ≡ true
-or_first b c e = ap (λ b. b || c) e
-
-pub or_second : (b c : Bool) → c ≡ true → (b || c) ≡ true
-or_second true c e = refl
-or_second false c e = e
 
 module _ (before after : List (ℕ × ℕ)) (more : (a b : ℕ) → paired before a b ≡ true → paired after a b ≡ true) where
   values_more : (o q : Option Value) → read_correspond before o q ≡ true → read_correspond after o q ≡ true
@@ -65,8 +58,8 @@ paired_append : (pairs more : List (ℕ × ℕ)) (a b : ℕ) → paired pairs a 
 paired_append [] more a b e = absurd (let no : false ≡ true = e in cc)
 paired_append (p ∷ pairs) more a b e =
     elim (or_cases ((p.0 == a) && (p.1 == b)) (paired pairs a b) e) [
-      | inl here ↦ or_first _ _ here
-      | inr later ↦ or_second ((p.0 == a) && (p.1 == b)) _ (paired_append pairs more a b later)
+      | inl here ↦ or_left _ _ here
+      | inr later ↦ or_right ((p.0 == a) && (p.1 == b)) _ (paired_append pairs more a b later)
     ]
 
 grows_paired : (before after : List (ℕ × ℕ)) → Grows before after → (a b : ℕ) → paired before a b ≡ true → paired after a b ≡ true

@@ -2,7 +2,7 @@
 use Rattle.std.proofs.Common.{◌≡◌, ℕ, zero, suc, ◌+◌, ◌<◌, ◌≤◌, Bool, true, false, cond, not, ◌&&◌, ◌||◌, ◌==◌, List, [], ◌∷◌, ◌++◌, length, map, Option, Some, None, refl, sym, ◌∙◌, ap, subst, inl, inr, arith}
 use Rattle.std.specs.Prelude.{slice_get, slice_index_or, IsTrue}
 use Rattle.std.specs.List.{All, AllZip, list_any}
-use Rattle.std.proofs.lemmas.Bool.{eqb-true, eq-eqb, cases_order, cases_Bool, and_parts, and_from, or_cases}
+use Rattle.std.proofs.lemmas.Bool.{eqb-true, eq-eqb, cases_order, cases_Bool, and_parts, and_from, or_cases, or_right}
 use Rattle.std.proofs.lemmas.List.{append-nil, append_assoc, get_or_append_left}
 use Rattle.std.proofs.lemmas.List.Elements.{All-push, All-nil}
 use Rattle.std.proofs.lemmas.List.Folds.{list_any-append}
@@ -96,16 +96,12 @@ blocks_met_stay old new before after (Some a) (Some b) g h = λ e f. all_met_sta
 blocks_met_stay old new before after (Some a) None g h = tt
 blocks_met_stay old new before after None q g h = tt
 
-or_true : (b : Bool) → (b || true) ≡ true
-or_true true = refl
-or_true false = refl
-
 pushed_taken : (old new : Image) (pairs : List (ℕ × ℕ)) (a b : ℕ) → is_free old new (pairs ++ (a, b) ∷ []) a b ≡ false
 pushed_taken old new pairs a b =
     elim (cases_Bool (is_free old new (pairs ++ (a, b) ∷ []) a b)) [
       | inl free ↦ (let parts : Free old new (pairs ++ (a, b) ∷ []) a b = free_parts old new (pairs ++ (a, b) ∷ []) a b free in
           let there : list_any (λ q. q.0 == a) (pairs ++ (a, b) ∷ []) ≡ true
-          = list_any-append (λ q. q.0 == a) pairs ((a, b) ∷ []) ∙ ap (λ t. list_any (λ q. q.0 == a) pairs || (t || false)) (eq-eqb a a refl) ∙ or_true (list_any (λ q. q.0 == a) pairs) in
+          = list_any-append (λ q. q.0 == a) pairs ((a, b) ∷ []) ∙ ap (λ t. list_any (λ q. q.0 == a) pairs || (t || false)) (eq-eqb a a refl) ∙ or_right (list_any (λ q. q.0 == a) pairs) true refl in
           absurd (let no : false ≡ true = ap not (sym there) ∙ parts.old_free in cc))
       | inr none ↦ none
     ]

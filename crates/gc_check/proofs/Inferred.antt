@@ -2,7 +2,7 @@
 use Rattle.std.proofs.Common.{◌≡◌, ◌≢◌, ℕ, zero, suc, ◌+◌, ◌<◌, ◌≤◌, Bool, true, false, cond, not, ◌&&◌, ◌||◌, ◌==◌, List, [], ◌∷◌, length, get_or, Option, Some, None, refl, sym, ◌∙◌, ap, subst, inl, inr, arith}
 use Rattle.std.specs.Prelude.{slice_index, slice_index_or}
 use Rattle.std.specs.List.{AllPairs, AllZip, list_any, Any}
-use Rattle.std.proofs.lemmas.Bool.{eqb-true, eq-eqb, ne_eqb, cases_Bool, and_from}
+use Rattle.std.proofs.lemmas.Bool.{eqb-true, eq-eqb, ne_eqb, cases_Bool, and_from, or_right}
 use Rattle.std.specs.Prelude.{is_some}
 use Rattle.std.proofs.lemmas.List.Folds.{Any-from_list_any, list_any_at}
 use Rattle.gc_graph.specs.Graph.{Value, Nil, Num, Ref}
@@ -75,13 +75,9 @@ pub risen_rises : (at : ℕ) (row : List ℕ) → AllPairs (λ p q. p.1 < q.1) (
 risen_rises at [] i j d h l = absurd (omega arith)
 risen_rises at (original ∷ row) i j d h l = rises_next (original == 0) at original row (risen_rises (suc at) row) i j d h l
 
-or_true : (b : Bool) → (b || true) ≡ true
-or_true true = refl
-or_true false = refl
-
 has_next : (b : Bool) (at original : ℕ) (row : List ℕ) (a n : ℕ) → paired (risen (suc at) row) a n ≡ true → paired (next_risen b at original row) a n ≡ true
 has_next true at original row a n e = e
-has_next false at original row a n e = ap (λ t. ((original == a) && (at == n)) || t) e ∙ or_true ((original == a) && (at == n))
+has_next false at original row a n e = ap (λ t. ((original == a) && (at == n)) || t) e ∙ or_right ((original == a) && (at == n)) true refl
 
 after : (at k : ℕ) → suc at + k ≡ at + suc k
 after at k = omega arith
@@ -251,9 +247,3 @@ module _ (old new old_seen new_seen : Image) (found : Found) (cert : List Pair) 
 -- a refusal of these pairs is one of all
 pub refused_of_all : (old new : Image) (pairs : List (ℕ × ℕ)) (refusal : Refusal) → (Certifiable old new → Certified old new pairs) → first_fault old new pairs ≡ Some refusal → Certifiable old new → ⊥
 refused_of_all old new pairs refusal complete e some = let no : None ≡ Some refusal = sym (no_fault_of_certified old new pairs (complete some)) ∙ e in cc
-
-few_pairs : (cert : List Pair) (row : List ℕ) (n : ℕ) → pairs_of cert ≡ risen 0 row → length row < n → length cert < n
-few_pairs cert row n e h =
-    let most : length (risen 0 row) ≤ length row = risen_length 0 row in
-    let same : length (pairs_of cert) ≡ length (risen 0 row) = ap length e in
-    omega (arith, length-map cert addresses, same, most, h)

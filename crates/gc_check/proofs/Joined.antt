@@ -1,12 +1,11 @@
 -- The pairs found, in the order of their new addresses: they have a table of partners, and lead to no further pair.
 use Rattle.std.proofs.Common.{◌≡◌, ℕ, zero, suc, ◌<◌, ◌≤◌, ◌^◌, Bool, true, false, not, ◌&&◌, ◌||◌, ◌==◌, List, [], ◌∷◌, length, get_or, Option, Some, None, refl, sym, ◌∙◌, ap, subst, inl, inr, arith}
-use Rattle.std.specs.Prelude.{slice_index, IsTrue}
+use Rattle.std.specs.Prelude.{slice_index}
 use Rattle.std.specs.List.{All, AllPairs, list_any}
-use Rattle.std.proofs.lemmas.Bool.{eqb-true, eq-eqb, and_from, or_cases}
-use Rattle.std.proofs.lemmas.List.Elements.{length_all_zip}
+use Rattle.std.proofs.lemmas.Bool.{eqb-true, eq-eqb, and_from, or_cases, or_left, or_right}
 use Rattle.std.proofs.lemmas.List.Folds.{list_any_at}
 use Rattle.gc_graph.specs.Correspond.{paired}
-use Rattle.gc_words.specs.Word.{read_value, words_correspond}
+use Rattle.gc_words.specs.Word.{read_value}
 use Rattle.gc_words.specs.Image.{Image, Block, IsShaped, is_start, block_at}
 use Rattle.gc_words.specs.Certificate.{BlocksCorrespond, Certified}
 use Rattle.gc_words.specs.Fault.{at_place, shape_fault, table_fault, first_fault, AreComparable}
@@ -25,7 +24,7 @@ use Rattle.gc_check.specs.declared.verdict.Verdict.{Verdict}
 use Rattle.gc_check.specs.declared.meet.Found.{Found}
 use Rattle.gc_check.specs.declared.verdict.CheckFault.{CheckFault}
 use Rattle.gc_check.specs.declared.verdict.CheckFault.TheVariants.{Refused}
-use Rattle.gc_check.proofs.Alike.{or_first, or_second, all_more, blocks_more}
+use Rattle.gc_check.proofs.Alike.{all_more, blocks_more}
 use Rattle.gc_check.proofs.StartMarks.{low_start}
 use Rattle.gc_check.proofs.ByAddress.{length_by_address}
 use Rattle.gc_check.proofs.Forced.{place_of}
@@ -52,16 +51,16 @@ pair_of_first : (pairs : List (ℕ × ℕ)) (a : ℕ) → list_any (λ q. q.0 ==
 pair_of_first [] a e = absurd (let no : false ≡ true = e in cc)
 pair_of_first (p ∷ pairs) a e =
     elim (or_cases (p.0 == a) (list_any (λ q. q.0 == a) pairs) e) [
-      | inl here ↦ (p.1, or_first _ (paired pairs a p.1) (and_from _ _ here (eq-eqb p.1 p.1 refl)))
-      | inr later ↦ (let found : (b : ℕ) × (paired pairs a b ≡ true) = pair_of_first pairs a later in (found.0, or_second ((p.0 == a) && (p.1 == found.0)) _ found.1))
+      | inl here ↦ (p.1, or_left _ (paired pairs a p.1) (and_from _ _ here (eq-eqb p.1 p.1 refl)))
+      | inr later ↦ (let found : (b : ℕ) × (paired pairs a b ≡ true) = pair_of_first pairs a later in (found.0, or_right ((p.0 == a) && (p.1 == found.0)) _ found.1))
     ]
 
-pair_of_second : (pairs : List (ℕ × ℕ)) (b : ℕ) → list_any (λ q. q.1 == b) pairs ≡ true → (a : ℕ) × (paired pairs a b ≡ true)
+pub pair_of_second : (pairs : List (ℕ × ℕ)) (b : ℕ) → list_any (λ q. q.1 == b) pairs ≡ true → (a : ℕ) × (paired pairs a b ≡ true)
 pair_of_second [] b e = absurd (let no : false ≡ true = e in cc)
 pair_of_second (p ∷ pairs) b e =
     elim (or_cases (p.1 == b) (list_any (λ q. q.1 == b) pairs) e) [
-      | inl here ↦ (p.0, or_first _ (paired pairs p.0 b) (and_from _ _ (eq-eqb p.0 p.0 refl) here))
-      | inr later ↦ (let found : (a : ℕ) × (paired pairs a b ≡ true) = pair_of_second pairs b later in (found.0, or_second ((p.0 == found.0) && (p.1 == b)) _ found.1))
+      | inl here ↦ (p.0, or_left _ (paired pairs p.0 b) (and_from _ _ (eq-eqb p.0 p.0 refl) here))
+      | inr later ↦ (let found : (a : ℕ) × (paired pairs a b ≡ true) = pair_of_second pairs b later in (found.0, or_right ((p.0 == found.0) && (p.1 == b)) _ found.1))
     ]
 
 -- ---- the pairs found, and the same pairs in order
@@ -219,12 +218,6 @@ module _ (old new old_seen new_seen : Image) (found : Found) (cert : List Pair) 
       (found_are_closed old new (pairs_of found.pairs.items) (originals_in new found) (partners_in old found) here.originals here.partners all_met old_low new_low)
 
 -- ---- images that cannot be compared
-
-comparable : (old new : Image) → Certifiable old new → AreComparable old new
-comparable old new some = record { old_shaped = some.1.old_shaped; new_shaped = some.1.new_shaped; roots = same_length }
-  where
-    same_length : length old.roots ≡ length new.roots
-    same_length = length_all_zip (λ v w. IsTrue (words_correspond some.0 v w)) old.roots new.roots some.1.roots
 
 no_refusal : (o : Option ℕ) (place : ℕ → Refusal) (fault : CheckFault) (refusal : Refusal) → o ≡ None → IsRefusalOf (at_place o place) fault → fault ≡ Refused refusal → ⊥
 no_refusal o place fault refusal none is same =

@@ -67,15 +67,6 @@ free_parts old new pairs a b e =
     let s1 : (is_start old.words a ≡ true) × (is_start new.words b ≡ true) = and_parts _ _ s2.0 in
     record { old_start = s1.0; new_start = s1.1; old_free = s2.1; new_free = s3.1 }
 
-false_and : (a b c d : Bool) → a ≡ false → (a && b && c && d) ≡ false
-false_and a b c d e = ap (λ a. a && b && c && d) e
-
-and_false : (a b c d : Bool) → a ≡ true → b ≡ false → (a && b && c && d) ≡ false
-and_false a b c d e f = (λ i. e i && f i && c && d)
-
-and_and_false : (a b c d : Bool) → a ≡ true → b ≡ true → c ≡ false → (a && b && c && d) ≡ false
-and_and_false a b c d e f g = (λ i. e i && f i && g i && d)
-
 and_and_and : (a b c d : Bool) → a ≡ true → b ≡ true → c ≡ true → (a && b && c && d) ≡ d
 and_and_and a b c d e f g = (λ i. e i && f i && g i && d)
 

@@ -2,7 +2,7 @@
 use Rattle.std.proofs.Common.{◌≡◌, ℕ, suc, ◌+◌, ◌<◌, ◌≤◌, Bool, true, false, not, ◌&&◌, ◌||◌, ◌==◌, List, [], ◌∷◌, ◌++◌, length, take, drop, get_or, set, Option, Some, None, refl, sym, ◌∙◌, ap, subst, inl, inr, arith, get_or-set_same, get_or-set_other}
 use Rattle.std.specs.Prelude.{slice_index, nat_le}
 use Rattle.std.specs.List.{list_any}
-use Rattle.std.proofs.lemmas.Bool.{eqb-true, eq-eqb, ne_eqb, cases_eq, cases_Bool, not-false}
+use Rattle.std.proofs.lemmas.Bool.{eqb-true, eq-eqb, ne_eqb, cases_eq, cases_Bool, not-false, or_right}
 use Rattle.std.proofs.lemmas.List.{map_more, at_drop_more, take-map}
 use Rattle.std.proofs.lemmas.List.Folds.{list_any-append}
 use Rattle.gc_graph.specs.Correspond.{paired}
@@ -23,10 +23,6 @@ use Rattle.gc_words.proofs.Public.{or_none, when_none}
 or_false : (b : Bool) → (b || false) ≡ b
 or_false true = refl
 or_false false = refl
-
-or_true : (b : Bool) → (b || true) ≡ true
-or_true true = refl
-or_true false = refl
 
 paired_push : (pairs : List (ℕ × ℕ)) (p : ℕ × ℕ) (a b : ℕ) → paired (pairs ++ p ∷ []) a b ≡ (paired pairs a b || ((p.0 == a) && (p.1 == b)))
 paired_push pairs p a b =
@@ -59,7 +55,7 @@ holds_one row pairs p inside low free h = record { pair = pair; taken = taken }
     taken a =
         elim (cases_eq p.0 a) [
           | inl same ↦ ap (λ m. not (m == 0)) (here a same) ∙ ap not (ne_eqb p.1 0 (λ e. omega arith))
-              ∙ sym (taken_push pairs p a ∙ ap (λ t. list_any (λ q. q.0 == a) pairs || t) (eq-eqb p.0 a same) ∙ or_true (list_any (λ q. q.0 == a) pairs))
+              ∙ sym (taken_push pairs p a ∙ ap (λ t. list_any (λ q. q.0 == a) pairs || t) (eq-eqb p.0 a same) ∙ or_right (list_any (λ q. q.0 == a) pairs) true refl)
           | inr other ↦ ap (λ m. not (m == 0)) (beside a other) ∙ h.taken a
               ∙ sym (taken_push pairs p a ∙ ap (λ t. list_any (λ q. q.0 == a) pairs || t) (ne_eqb p.0 a other) ∙ or_false (list_any (λ q. q.0 == a) pairs))
         ]

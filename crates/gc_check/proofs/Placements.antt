@@ -85,7 +85,7 @@ none_unequal i (w ∷ ws) = none_unequal (suc i) ws ∙ sym (ap (λ t. cond t (f
 
 -- ---- an image that is not shaped is the first fault
 
-refused_first : (x y : Option Refusal) (f : CheckFault) → IsRefusalOf x f → IsRefusalOf (x or_else y) f
+pub refused_first : (x y : Option Refusal) (f : CheckFault) → IsRefusalOf x f → IsRefusalOf (x or_else y) f
 refused_first x y (Refused refusal) is = ap (λ o. o or_else y) is
 refused_first x y NoMemory is = tt
 

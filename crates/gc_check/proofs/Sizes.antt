@@ -9,8 +9,8 @@ use Rattle.gc_words.specs.declared.refusal.Refusal.{Refusal}
 use Rattle.gc_words.specs.declared.refusal.Refusal.TheVariants.{OldShape, NewShape, RootCount}
 use Rattle.gc_check.specs.Verdict.{IsRefusalOf}
 use Rattle.gc_check.specs.declared.verdict.CheckFault.{CheckFault}
-use Rattle.gc_check.specs.declared.verdict.CheckFault.TheVariants.{Refused, NoMemory}
 use Rattle.gc_check.specs.Profile.{small_shape_fault, small_shapes_or_else, first_small_fault, small_table_fault}
+use Rattle.gc_check.proofs.Placements.{refused_first}
 
 shapes_again : {X : Type 0} (a b c d e f : Option X) → ((a or_else b) or_else (a or_else b or_else c or_else d or_else e or_else f)) ≡ (a or_else b or_else c or_else d or_else e or_else f)
 shapes_again (Some x) b c d e f = refl
@@ -47,10 +47,6 @@ small_tables old new pairs a b =
 pub large_old : (old new : Image) (rest : Option Refusal) → most_words < old.size → small_shapes_or_else old new rest ≡ Some (OldShape 0)
 large_old old new rest large =
     ap (λ o. at_place o (λ at. OldShape at) or_else at_place (small_shape_fault new) (λ at. NewShape at) or_else rest) (cond-false (nat_le old.size most_words) (shape_fault old) (Some 0) (lt-leb _ _ large))
-
-refused_first : (a b : Option Refusal) (fault : CheckFault) → IsRefusalOf a fault → IsRefusalOf (a or_else b) fault
-refused_first a b (Refused refusal) is = ap (λ o. o or_else b) is
-refused_first a b NoMemory is = tt
 
 -- the fault of the shape of a small old image
 pub bad_old : (old new : Image) (rest : Option Refusal) (fault : CheckFault) → old.size ≤ most_words → IsRefusalOf (at_place (shape_fault old) (λ at. OldShape at)) fault → IsRefusalOf (small_shapes_or_else old new rest) fault
