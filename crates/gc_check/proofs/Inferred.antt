@@ -1,4 +1,5 @@
 -- If some certificate holds of two images, the pairs that a walk finds are one that holds.
+use Rattle.std.proofs.lemmas.Grind.{common_steps}
 use Rattle.std.proofs.Common.{◌≡◌, ◌≢◌, ℕ, zero, suc, ◌+◌, ◌<◌, ◌≤◌, Bool, true, false, cond, not, ◌&&◌, ◌||◌, ◌==◌, List, [], ◌∷◌, length, get_or, Option, Some, None, refl, sym, ◌∙◌, ap, subst, inl, inr, arith}
 use Rattle.std.specs.Prelude.{slice_index, slice_index_or}
 use Rattle.std.specs.List.{AllPairs, AllZip, list_any, Any}
@@ -13,7 +14,6 @@ use Rattle.gc_words.specs.Certificate.{BlocksCorrespond, Certified}
 use Rattle.gc_words.specs.declared.header.Header.{Header}
 use Rattle.gc_words.proofs.Public.{corresponding, no_fault_of_certified}
 use Rattle.std.proofs.lemmas.List.{length-map}
-use Rattle.gc_words.specs.Views.{addresses}
 use Rattle.gc_words.specs.Fault.{first_fault}
 use Rattle.gc_words.specs.declared.image.Pair.{Pair}
 use Rattle.gc_words.specs.declared.refusal.Refusal.{Refusal}
@@ -33,8 +33,7 @@ abbrev next_risen : Bool → ℕ → ℕ → List ℕ → List (ℕ × ℕ)
 next_risen b at original row = cond b (risen (suc at) row) ((original, at) ∷ risen (suc at) row)
 
 length_next : (b : Bool) (at original : ℕ) (row : List ℕ) → length (risen (suc at) row) ≤ length row → length (next_risen b at original row) ≤ suc (length row)
-length_next true at original row ih = omega arith
-length_next false at original row ih = omega arith
+length_next b at original row ih = grind (arith, common_steps)
 
 pub risen_length : (at : ℕ) (row : List ℕ) → length (risen at row) ≤ length row
 risen_length at [] = omega arith
@@ -57,9 +56,7 @@ abbrev Stand : ℕ → List ℕ → List (ℕ × ℕ) → Type 0
 Stand at row pairs = (k : ℕ) (d : ℕ × ℕ) → k < length pairs → StandsAt at row (get_or pairs k d)
 
 stand_next : (b : Bool) (at original : ℕ) (row : List ℕ) → (original == 0) ≡ b → Stand (suc at) row (risen (suc at) row) → Stand at (original ∷ row) (next_risen b at original row)
-stand_next true at original row e ih k d h = stands_later at original row _ (ih k d h)
-stand_next false at original row e ih zero d h = record { place = 0; there = omega arith; entry = refl; some = λ z. absurd (let no : true ≡ false = sym (eq-eqb original 0 z) ∙ e in cc) }
-stand_next false at original row e ih (suc k) d h = stands_later at original row _ (ih k d (omega arith))
+stand_next b at original row e ih k d h = grind (arith, common_steps, stands_later, eq-eqb)
 
 risen_stand : (at : ℕ) (row : List ℕ) → Stand at row (risen at row)
 risen_stand at [] k d h = absurd (omega arith)
@@ -76,8 +73,7 @@ risen_rises at [] i j d h l = absurd (omega arith)
 risen_rises at (original ∷ row) i j d h l = rises_next (original == 0) at original row (risen_rises (suc at) row) i j d h l
 
 has_next : (b : Bool) (at original : ℕ) (row : List ℕ) (a n : ℕ) → paired (risen (suc at) row) a n ≡ true → paired (next_risen b at original row) a n ≡ true
-has_next true at original row a n e = e
-has_next false at original row a n e = ap (λ t. ((original == a) && (at == n)) || t) e ∙ or_right ((original == a) && (at == n)) true refl
+has_next b at original row a n e = grind (arith, common_steps, or_right)
 
 after : (at k : ℕ) → suc at + k ≡ at + suc k
 after at k = omega arith
@@ -110,12 +106,7 @@ module _ (old new : Image) (pairs : List (ℕ × ℕ)) (row : List ℕ) (held : 
       above (suc n) some = omega arith
 
   pub risen_of_found : (a b : ℕ) → 1 ≤ a → paired pairs a b ≡ true → paired (risen 0 row) a b ≡ true
-  risen_of_found a b low e =
-      let entry : slice_index row b ≡ a = eqb-true _ _ (held.pair b a low ∙ paired_swapped pairs a b ∙ e) in
-      subst (λ n. paired (risen 0 row) a n ≡ true) (from_0 b) (risen_has 0 row b a entry (λ z. omega arith))
-    where
-      from_0 : (n : ℕ) → 0 + n ≡ n
-      from_0 n = omega arith
+  risen_of_found a b low e = grind (arith, common_steps, eqb-true, paired_swapped, risen_has)
 
   module _ (met : MetTo old new pairs (length pairs)) (cert : List (ℕ × ℕ)) (certified : Certified old new cert) (low : (a : ℕ) → is_start old.words a ≡ true → 1 ≤ a) where
     both : Corresponding cert (graph_of old) (graph_of new)
@@ -218,10 +209,7 @@ module _ (old new old_seen new_seen : Image) (found : Found) (cert : List Pair) 
   held_here = subst (λ image. HoldsFound image new found) old_is (subst (λ image. HoldsFound old_seen image found) new_is held)
 
   pub met_here : MetTo old new (pairs_of found.pairs.items) (length (pairs_of found.pairs.items))
-  met_here =
-      subst (λ n. MetTo old new (pairs_of found.pairs.items) n) (sym (length-map found.pairs.items addresses))
-      (subst (λ image. MetTo image new (pairs_of found.pairs.items) (length found.pairs.items)) old_is
-      (subst (λ image. MetTo old_seen image (pairs_of found.pairs.items) (length found.pairs.items)) new_is met))
+  met_here = grind (arith, common_steps, length-map)
 
   pub low_here : (a : ℕ) → is_start old.words a ≡ true → 1 ≤ a
   low_here a start = low_start old.words a held_here.old_entries.walked start

@@ -1,6 +1,6 @@
 -- The pairs found, in the order of their new addresses: they have a table of partners, and lead to no further pair.
-use Rattle.std.proofs.Common.{◌≡◌, ℕ, zero, suc, ◌<◌, ◌≤◌, ◌^◌, Bool, true, false, not, ◌&&◌, ◌||◌, ◌==◌, List, [], ◌∷◌, length, get_or, Option, Some, None, refl, sym, ◌∙◌, ap, subst, inl, inr, arith}
-use Rattle.std.specs.Prelude.{slice_index}
+use Rattle.std.proofs.lemmas.Grind.{common_steps}
+use Rattle.std.proofs.Common.{◌≡◌, ℕ, zero, suc, ◌<◌, ◌≤◌, ◌^◌, Bool, true, false, not, ◌&&◌, ◌||◌, ◌==◌, List, [], ◌∷◌, length, get_or, Option, Some, None, refl, sym, ◌∙◌, ap, subst, inl, inr, arith, rules}
 use Rattle.std.specs.List.{All, AllPairs, list_any}
 use Rattle.std.proofs.lemmas.Bool.{eqb-true, eq-eqb, and_from, or_cases, or_left, or_right}
 use Rattle.std.proofs.lemmas.List.Folds.{list_any_at}
@@ -33,9 +33,7 @@ use Rattle.gc_check.proofs.Inferred.{found_of_risen, risen_of_found, risen_rises
 -- ---- addresses of pairs
 
 same_bools : (b c : Bool) → (b ≡ true → c ≡ true) → (c ≡ true → b ≡ true) → b ≡ c
-same_bools true c to from = sym (to refl)
-same_bools false true to from = from refl
-same_bools false false to from = refl
+same_bools b c to from = grind (arith, common_steps)
 
 first_of : (pairs : List (ℕ × ℕ)) (a b : ℕ) → paired pairs a b ≡ true → list_any (λ q. q.0 == a) pairs ≡ true
 first_of pairs a b e =
@@ -71,9 +69,7 @@ module _ (old new : Image) (pairs : List (ℕ × ℕ)) (row partners : List ℕ)
   now = risen 0 row
 
   starts_at : (a b : ℕ) → paired pairs a b ≡ true → (is_start old.words a ≡ true) × (is_start new.words b ≡ true)
-  starts_at a b e =
-      let k : (k : ℕ) × (k < length pairs) × ((d : ℕ × ℕ) → get_or pairs k d ≡ (a, b)) = place_of pairs a b e in
-      subst (λ (p : ℕ × ℕ). (is_start old.words p.0 ≡ true) × (is_start new.words p.1 ≡ true)) (k.2 (a, b)) (met.starts k.0 (a, b) k.1)
+  starts_at a b e = search (rules, place_of)
 
   to_now : (a b : ℕ) → paired pairs a b ≡ true → paired now a b ≡ true
   to_now a b e = risen_of_found old new pairs row held a b (low a (starts_at a b e).0) e
@@ -87,22 +83,15 @@ module _ (old new : Image) (pairs : List (ℕ × ℕ)) (row partners : List ℕ)
   same_pairs a b = same_bools _ _ (to_now a b) (from_now a b)
 
   same_firsts : (a : ℕ) → list_any (λ q. q.0 == a) pairs ≡ list_any (λ q. q.0 == a) now
-  same_firsts a = same_bools _ _
-      (λ e. let found : (b : ℕ) × (paired pairs a b ≡ true) = pair_of_first pairs a e in first_of now a found.0 (to_now a found.0 found.1))
-      (λ e. let found : (b : ℕ) × (paired now a b ≡ true) = pair_of_first now a e in first_of pairs a found.0 (from_now a found.0 found.1))
+  same_firsts a = grind (arith, common_steps, same_bools, pair_of_first, first_of, to_now, from_now)
 
   same_seconds : (b : ℕ) → list_any (λ q. q.1 == b) pairs ≡ list_any (λ q. q.1 == b) now
-  same_seconds b = same_bools _ _
-      (λ e. let found : (a : ℕ) × (paired pairs a b ≡ true) = pair_of_second pairs b e in second_of now found.0 b (to_now found.0 b found.1))
-      (λ e. let found : (a : ℕ) × (paired now a b ≡ true) = pair_of_second now b e in second_of pairs found.0 b (from_now found.0 b found.1))
+  same_seconds b = grind (arith, common_steps, same_bools, pair_of_second, second_of, to_now, from_now)
 
   -- ---- their table
 
   one_partner : (a b c : ℕ) → paired pairs a b ≡ true → paired pairs a c ≡ true → b ≡ c
-  one_partner a b c e f =
-      let x : slice_index partners a ≡ b = eqb-true _ _ (table.pair a b (new_low b (starts_at a b e).1) ∙ e) in
-      let y : slice_index partners a ≡ c = eqb-true _ _ (table.pair a c (new_low c (starts_at a c f).1) ∙ f) in
-      sym x ∙ y
+  one_partner a b c e f = grind (arith, common_steps, eqb-true, starts_at)
 
   later : AllPairs Later now
   later i j d h l =
@@ -121,12 +110,7 @@ module _ (old new : Image) (pairs : List (ℕ × ℕ)) (row partners : List ℕ)
 
   pub tables_of_found : (entries : List ℕ) → HasEntries old.words entries → by_address old.words entries ≡ partners → shape_fault old ≡ None → shape_fault new ≡ None → length old.roots ≡ length new.roots → length now < 2 ^ 32
       → HasTables (record { old = old; new = new; pairs = now }) entries
-  tables_of_found entries long same old_shaped new_shaped roots few = record {
-    few = few;
-    placed = placed old_shaped new_shaped roots;
-    fits = long;
-    partners = subst (λ row. HoldsPartners row now) (sym same) (record { pair = λ a b one. table.pair a b one ∙ same_pairs a b; taken = λ a. table.taken a ∙ same_firsts a });
-  }
+  tables_of_found entries long same old_shaped new_shaped roots few = grind (arith, common_steps, placed, same_pairs, same_firsts)
 
   -- ---- they hold if all words that have met correspond
 
@@ -147,14 +131,10 @@ module _ (old new : Image) (pairs : List (ℕ × ℕ)) (row partners : List ℕ)
   -- ---- they are closed
 
   one_is_taken : (s t x y : Bool) → s ≡ true → t ≡ true → (s && t && not x && not y) ≡ false → (x || y) ≡ true
-  one_is_taken s t true y e f g = refl
-  one_is_taken s t false true e f g = refl
-  one_is_taken s t false false e f g = absurd (let no : true ≡ false = sym (λ i. e i && f i && true && true) ∙ g in cc)
+  one_is_taken s t x y e f g = grind (arith, common_steps)
 
   taken_now : (a b : ℕ) → is_start old.words a ≡ true → is_start new.words b ≡ true → is_free old new pairs a b ≡ false → is_taken now a b ≡ true
-  taken_now a b s t taken =
-      one_is_taken (is_start old.words a) (is_start new.words b) (list_any (λ q. q.0 == a) now) (list_any (λ q. q.1 == b) now) s t
-      ((λ i. is_start old.words a && is_start new.words b && not (sym (same_firsts a) i) && not (sym (same_seconds b) i)) ∙ taken)
+  taken_now a b s t taken = grind (arith, common_steps, one_is_taken, same_firsts, same_seconds)
 
   lead : (vs ws : List ℕ) → AllMet old new pairs vs ws → LeadsToPairs old new now vs ws
   lead [] ws m i v w e f = absurd (let no : None ≡ Some v = e in cc)
@@ -166,9 +146,7 @@ module _ (old new : Image) (pairs : List (ℕ × ℕ)) (row partners : List ℕ)
   lead (x ∷ vs) (y ∷ ws) m (suc i) v w e f = lead vs ws m.1 i v w e f
 
   objects_lead : (o q : Option Block) → BlocksMet old new pairs o q → ObjectsLeadToPairs old new now o q
-  objects_lead (Some a) (Some b) m = λ same raw. lead a.fields b.fields (m same raw)
-  objects_lead (Some a) None m = tt
-  objects_lead None q m = tt
+  objects_lead o q m = grind (arith, common_steps, lead)
 
   pub found_are_closed : AreClosed old new now
   found_are_closed = record {
@@ -214,15 +192,12 @@ module _ (old new old_seen new_seen : Image) (found : Found) (cert : List Pair) 
           (subst (λ image. AlikeTo old_seen image (pairs_of found.pairs.items) (length found.pairs.items)) new_is alike))
 
   pub pairs_are_closed : AreClosed old new (pairs_of cert)
-  pairs_are_closed = subst (AreClosed old new) (sym rise)
-      (found_are_closed old new (pairs_of found.pairs.items) (originals_in new found) (partners_in old found) here.originals here.partners all_met old_low new_low)
+  pairs_are_closed = grind (arith, common_steps, found_are_closed, here, all_met, old_low, new_low)
 
 -- ---- images that cannot be compared
 
 no_refusal : (o : Option ℕ) (place : ℕ → Refusal) (fault : CheckFault) (refusal : Refusal) → o ≡ None → IsRefusalOf (at_place o place) fault → fault ≡ Refused refusal → ⊥
-no_refusal o place fault refusal none is same =
-    let there : at_place o place ≡ Some refusal = subst (IsRefusalOf (at_place o place)) same is in
-    let no : None ≡ Some refusal = sym (ap (λ o. at_place o place) none) ∙ there in cc
+no_refusal o place fault refusal none is same = grind (arith, common_steps)
 
 pub old_is_shaped : (old new : Image) (fault : CheckFault) (refusal : Refusal) → IsRefusalOf (at_place (shape_fault old) (λ at. OldShape at)) fault → fault ≡ Refused refusal → AreComparable old new → ⊥
 old_is_shaped old new fault refusal is same both = no_refusal (shape_fault old) (λ at. OldShape at) fault refusal (no_shape_fault old both.old_shaped) is same
