@@ -1,9 +1,10 @@
 -- Fields that are written in a row: all at once is one by one, and the space stays shaped.
-use Rattle.std.proofs.Common.{◌≡◌, ℕ, suc, ◌+◌, ◌-◌, ◌<◌, ◌≤◌, List, [], ◌∷◌, ◌++◌, length, get_or, take, drop, Some, refl, sym, ◌∙◌, ap, subst, arith, length-set, length-take, length-drop, append_assoc, append-nil}
-use Rattle.std.specs.Prelude.{slice_set, slice_get, IsSome}
+use Rattle.std.proofs.lemmas.Grind.{common_steps}
+use Rattle.std.proofs.Common.{◌≡◌, ℕ, suc, ◌+◌, ◌-◌, ◌<◌, ◌≤◌, List, [], ◌∷◌, ◌++◌, length, take, drop, refl, sym, ◌∙◌, ap, subst, arith, length-set, length-take, length-drop, append_assoc, append-nil}
+use Rattle.std.specs.Prelude.{slice_set, IsSome}
 use Rattle.std.proofs.lemmas.List.{take-append-drop, take_more_set, drop-set-lt}
 use Rattle.std.proofs.lemmas.Option.{slice_get-get_or}
-use Rattle.gc_words.specs.Image.{Block, block_at, field_in, field_at}
+use Rattle.gc_words.specs.Image.{Block, field_in, field_at}
 use Rattle.gc_words.specs.Layout.{field_place}
 use Rattle.gc_words.specs.Space.{SpaceWords, IsSpace, HasFields, with_field_at, with_fields}
 use Rattle.gc_words.specs.Walking.{StandsIn}
@@ -58,9 +59,7 @@ row_is (w ∷ words) row p fits =
 
 fields_are : (words : List ℕ) (s : SpaceWords) (at first : ℕ) → record s { words = set_row s.words (field_place at first) words } ≡ with_fields s at first words
 fields_are [] s at first = refl
-fields_are (w ∷ words) s at first =
-    ap (λ p. record s { words = set_row (slice_set s.words (field_place at first) w) p words }) (let e : suc (field_place at first) ≡ field_place at (suc first) = omega arith in e)
-    ∙ fields_are words (with_field_at s at first w) at (suc first)
+fields_are (w ∷ words) s at first = grind (arith, common_steps, fields_are words (with_field_at s at first w) at (suc first))
 
 -- the fields lie within the words
 pub fields_within : (s : SpaceWords) (at first count : ℕ) → IsSpace s → HasFields s at first count → field_place at first + count ≤ length s.words
