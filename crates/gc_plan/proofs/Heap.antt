@@ -153,7 +153,7 @@ pushed_last (e ∷ rest) a name o q none h = ⊎_elim
     (cases_Bool (e.0 == a))
 
 -- an entry was there before, or is the one written
-abbrev pub WasEntry : ℕ → ℕ → Value → List (ℕ × Object) → ℕ × Object → Type 0
+abbrev WasEntry : ℕ → ℕ → Value → List (ℕ × Object) → ℕ × Object → Type 0
 WasEntry name i v objects e = (d : ℕ × Object) × In d objects × ((d ≡ e) ⊎ (written_entry name i v d ≡ e))
 
 pub set_from : (name i : ℕ) (v : Value) (objects : List (ℕ × Object)) (e : ℕ × Object) → In e (set_field objects name i v) → WasEntry name i v objects e

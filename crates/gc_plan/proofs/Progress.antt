@@ -156,7 +156,7 @@ or_none a b e = grind (arith, common_steps)
 
 module _ (s : State) (h : IsSpaceGraph s.size s.heap.free s.heap.graph) where
   -- the new space has at most the words in use
-  pub end_low : (c : Collection) → IsOpened s c → new_end c ≤ heap_end s
+  end_low : (c : Collection) → IsOpened s c → new_end c ≤ heap_end s
   end_low c k = replicas_fit s.size s.heap.free c.size s.heap.graph (IsDue c) c.replicas h (its_replicas (IsDue c) s.heap.graph.objects c k.belongs)
 
   scan_low : (c : Collection) → IsOpened s c → c.scan_place ≤ new_end c
@@ -170,7 +170,7 @@ module _ (s : State) (h : IsSpaceGraph s.size s.heap.free s.heap.graph) where
   field_low : (c : Collection) → IsOpened s c → c.scan_field ≤ scans_from c.scan_place c.replicas
   field_low c k = grind (arith, common_steps, scans_have)
 
-  pub work_bounded : (c : Collection) → IsOpened s c → work_of s c ≤ (heap_end s - c.scan_place) + entries_in c.logs + 1
+  work_bounded : (c : Collection) → IsOpened s c → work_of s c ≤ (heap_end s - c.scan_place) + entries_in c.logs + 1
   work_bounded c k = grind (arith, common_steps, scan_low, scans_fit, replicas_end, end_low)
 
   -- ---- steps
@@ -315,7 +315,7 @@ useful_ranges s k = go s.collection k
 some_work : (s : State) → 1 ≤ work_left s
 some_work s = grind (arith, common_steps)
 
-pub ends : (fuel : ℕ) (s : State) → work_left s ≤ fuel → IsState s → Ends s
+ends : (fuel : ℕ) (s : State) → work_left s ≤ fuel → IsState s → Ends s
 ends zero s low h = absurd (omega (arith, low, some_work s))
 ends (suc fuel) s low h = ⊎_elim
     (λ x. (0, some_work s, x))

@@ -101,7 +101,7 @@ number_corresponds : (pairs : List (ℕ × ℕ)) (v : Value) → is_number v ≡
 number_corresponds pairs v h = grind (arith, common_steps, eq-eqb)
 
 -- a fresh replica has its original's size and kind, and is raw exactly if the original is
-pub fresh_length : (o : Object) → length (fresh_object o).fields ≡ length o.fields
+fresh_length : (o : Object) → length (fresh_object o).fields ≡ length o.fields
 fresh_length o = cond_both o.raw o (new_object false o.kind (length o.fields)) (λ (q : Object). length q.fields ≡ length o.fields) (λ t. refl) (λ t. length-replicate (length o.fields) Nil)
 
 pub fresh_kind : (o : Object) → (fresh_object o).kind ≡ o.kind
@@ -207,7 +207,7 @@ pub replica_exists : (c : Collection) (r : Replica) → In r c.replicas → (s :
 replica_exists c r k = find_exists (λ (s : Replica). s.original == r.original) c.replicas r k (eq-eqb r.original r.original refl)
 
 -- a name and its replica are a pair
-pub replica_pair : (c : Collection) (a : ℕ) (r : Replica) → replica_of c a ≡ Some r → In {X = ℕ × ℕ} (a, r.place) (pairs_of c)
+replica_pair : (c : Collection) (a : ℕ) (r : Replica) → replica_of c a ≡ Some r → In {X = ℕ × ℕ} (a, r.place) (pairs_of c)
 replica_pair c a r h = let f = replica_in c a r h in subst (λ n. In {X = ℕ × ℕ} (n, r.place) (pairs_of c)) f.1 (in_map pair r c.replicas f.0)
 
 pub moved_corresponds : (c : Collection) (v : Value) → HasReplica c v → correspond (pairs_of c) v (moved c v) ≡ true

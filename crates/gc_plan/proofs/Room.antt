@@ -55,7 +55,7 @@ replicas_weigh objects at (r ∷ rest) h =
     omega (arith, here, others, sum_by-cons (weight objects) r.original (map (λ (q : Replica). q.original) rest))
 
 -- there is room for a replica of one more object
-pub room_for : (size free new_size : ℕ) (g : Graph) (Due : Bool → ℕ → ℕ → ℕ → Type 0) (replicas : List Replica) (name : ℕ) (o : Object) → IsSpaceGraph size free g → size ≤ new_size → AreReplicas g.objects new_size Due replicas → lookup g.objects name ≡ Some o → (In name (map (λ r. r.original) replicas) → ⊥)
+room_for : (size free new_size : ℕ) (g : Graph) (Due : Bool → ℕ → ℕ → ℕ → Type 0) (replicas : List Replica) (name : ℕ) (o : Object) → IsSpaceGraph size free g → size ≤ new_size → AreReplicas g.objects new_size Due replicas → lookup g.objects name ≡ Some o → (In name (map (λ r. r.original) replicas) → ⊥)
     → replicas_end replicas + (length o.fields + 2) ≤ new_size
 room_for size free new_size g Due replicas name o h larger k found new =
     let fit = weights_fit 1 g.objects (size - free) (name ∷ map (λ (r : Replica). r.original) replicas) h.laid (new, k.once) in

@@ -74,7 +74,7 @@ module _ (most : ℕ) where
   pub event_within : (mutators : ℕ) (s : State) (event : Event) → HasSizesWithin most s → IsEventWithin most mutators event → HasSizesWithin most (after s event)
   event_within mutators s event h r = grind (arith, common_steps, roots_counted, logged_within, step_within)
 
-  pub events_within : (mutators : ℕ) (events : List Event) (s : State) → HasSizesWithin most s → AreEventsWithin most mutators events → HasSizesWithin most (state_after s events)
+  events_within : (mutators : ℕ) (events : List Event) (s : State) → HasSizesWithin most s → AreEventsWithin most mutators events → HasSizesWithin most (state_after s events)
   events_within mutators [] s h r = h
   events_within mutators (event ∷ events) s h r = events_within mutators events (after s event) (event_within mutators s event h r.0) r.1
 
