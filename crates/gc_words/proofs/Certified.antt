@@ -17,10 +17,10 @@ use Rattle.gc_words.specs.declared.header.Header.{Header}
 both_values : (pairs : List (ℕ × ℕ)) (b c : Bool) (v w : Value) → read_correspond pairs (cond b (Some v) None) (cond c (Some w) None) ≡ true → correspond pairs v w ≡ true
 both_values pairs b c v w e = grind (arith, common_steps)
 
-pub values_correspond : (pairs : List (ℕ × ℕ)) (v w : ℕ) → words_correspond pairs v w ≡ true → correspond pairs (value_of v) (value_of w) ≡ true
+values_correspond : (pairs : List (ℕ × ℕ)) (v w : ℕ) → words_correspond pairs v w ≡ true → correspond pairs (value_of v) (value_of w) ≡ true
 values_correspond pairs v w e = both_values pairs (is_value v) (is_value w) (value_of v) (value_of w) e
 
-pub field_values_correspond : (h : Header) (pairs : List (ℕ × ℕ)) (v w : ℕ) → field_words_correspond h pairs v w ≡ true → correspond pairs (field_value h v) (field_value h w) ≡ true
+field_values_correspond : (h : Header) (pairs : List (ℕ × ℕ)) (v w : ℕ) → field_words_correspond h pairs v w ≡ true → correspond pairs (field_value h v) (field_value h w) ≡ true
 field_values_correspond h pairs v w e = grind (arith, common_steps, values_correspond)
 
 zip_of_maps : {A B C D : Type 0} (R : A → B → Type 0) (S : C → D → Type 0) (f : A → C) (g : B → D) (xs : List A) (ys : List B) → ((x : A) (y : B) → R x y → S (f x) (g y)) → AllZip R xs ys → AllZip S (map f xs) (map g ys)

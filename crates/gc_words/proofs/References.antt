@@ -97,7 +97,7 @@ value_refers words v has refers = grind (arith, common_steps, meaning_back)
 
 -- ---- words keep their meaning while starts stay
 
-abbrev pub KeepsStarts : List ℕ → List ℕ → Type 0
+abbrev KeepsStarts : List ℕ → List ℕ → Type 0
 KeepsStarts words others = (a : ℕ) → is_start words a ≡ true → is_start others a ≡ true
 
 kept_reference : (words others : List ℕ) → KeepsStarts words others → (v : Value) → RefersToStart words v → RefersToStart others v
@@ -112,7 +112,7 @@ kept_field words others keeps h w is = grind (arith, common_steps, kept_root)
 kept_block : (words others : List ℕ) → KeepsStarts words others → (b : Block) → HasFieldWords words b → HasFieldWords others b
 kept_block words others keeps b has = All-weaker (IsFieldWord words b.header) (IsFieldWord others b.header) (kept_field words others keeps b.header) b.fields has
 
-abbrev pub Has : List ℕ → ℕ × Block → Type 0
+abbrev Has : List ℕ → ℕ × Block → Type 0
 Has words entry = HasFieldWords words entry.1
 
 kept_blocks : (words others : List ℕ) → KeepsStarts words others → (bs : List (ℕ × Block)) → All (Has words) bs → All (Has others) bs
@@ -157,7 +157,7 @@ module _ (s : SpaceWords) (h : Header) (can : CanPlace s h) where
 
 -- ---- a written field
 
-pub start_set : (bs : List (ℕ × Block)) (a i w x : ℕ) → is_some (block_in (set_block bs a i w) x) ≡ is_some (block_in bs x)
+start_set : (bs : List (ℕ × Block)) (a i w x : ℕ) → is_some (block_in (set_block bs a i w) x) ≡ is_some (block_in bs x)
 start_set [] a i w x = refl
 start_set (entry ∷ bs) a i w x = grind (arith, common_steps, start_set bs a i w x)
 

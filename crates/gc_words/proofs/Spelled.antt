@@ -42,7 +42,7 @@ walk_spelled (entry ∷ rest) links at laid = grind (arith, common_steps, walk_b
 -- ---- walked words are spelled by their objects
 
 -- the links are the words after the starts
-abbrev pub AreLinks : (ℕ → ℕ) → ℕ → List ℕ → Type 0
+abbrev AreLinks : (ℕ → ℕ) → ℕ → List ℕ → Type 0
 AreLinks links at ws = (p : ℕ) → links (at + p) ≡ get_or ws (p + 1) 0
 
 next_links : (links : ℕ → ℕ) (at w : ℕ) (ws : List ℕ) → AreLinks links at (w ∷ ws) → AreLinks links (suc at) ws

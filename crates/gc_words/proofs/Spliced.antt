@@ -15,12 +15,12 @@ use Rattle.gc_words.proofs.Writes.{field_written}
 -- ---- one by one
 
 -- a field of the row is there
-pub there_at : (s : SpaceWords) (at first count i : ℕ) → HasFields s at first count → i < first + count → IsSome (field_at s.words at i)
+there_at : (s : SpaceWords) (at first count i : ℕ) → HasFields s at first count → i < first + count → IsSome (field_at s.words at i)
 there_at s at first count i has less =
     subst (λ o. IsSome (field_in o i)) (sym has.found) (subst IsSome (sym (slice_get-get_or has.block.fields i 0 (omega (arith, has.long, less)))) refl)
 
 -- the object still has its fields when one is written
-pub has_still : (s : SpaceWords) (at first count i w : ℕ) → IsSpace s → HasFields s at first count → i < first + count → HasFields (with_field_at s at i w) at first count
+has_still : (s : SpaceWords) (at first count i w : ℕ) → IsSpace s → HasFields s at first count → i < first + count → HasFields (with_field_at s at i w) at first count
 has_still s at first count i w space has less = record {
   block = record has.block { fields = slice_set has.block.fields i w };
   found = field_block s at i w has.block space (there_at s at first count i has less) has.found;
@@ -62,7 +62,7 @@ fields_are [] s at first = refl
 fields_are (w ∷ words) s at first = grind (arith, common_steps, fields_are words (with_field_at s at first w) at (suc first))
 
 -- the fields lie within the words
-pub fields_within : (s : SpaceWords) (at first count : ℕ) → IsSpace s → HasFields s at first count → field_place at first + count ≤ length s.words
+fields_within : (s : SpaceWords) (at first count : ℕ) → IsSpace s → HasFields s at first count → field_place at first + count ≤ length s.words
 fields_within s at first count space has =
     let b : Block = has.block in
     let stands : StandsIn s.words at b = stands_in s.words at b space.walked has.found in

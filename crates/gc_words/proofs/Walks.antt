@@ -86,7 +86,7 @@ pub header_counted : (raws : Bool) (w : ℕ) (h : Header) → header_in raws w �
 header_counted raws w h e = grind (arith, common_steps, not_raw)
 
 -- a walk that reaches the end without them is also the walk with them
-pub walk_counted : (raws : Bool) (ws : List ℕ) (inside at : ℕ) (bs : List (ℕ × Block)) → walk raws inside at ws ≡ Ok bs → Walked inside at ws bs
+walk_counted : (raws : Bool) (ws : List ℕ) (inside at : ℕ) (bs : List (ℕ × Block)) → walk raws inside at ws ≡ Ok bs → Walked inside at ws bs
 walk_counted raws [] inside at bs e = e
 walk_counted raws (w ∷ ws) (suc inside) at bs e = walk_counted raws ws inside (suc at) bs e
 walk_counted raws (w ∷ ws) zero at bs e = go (header_in raws w) refl e (λ inside rest walked. walk_counted raws ws inside (suc at) rest walked)
