@@ -21,7 +21,7 @@ module _ (before after : List (ℕ × ℕ)) (more : (a b : ℕ) → paired befor
   values_more : (o q : Option Value) → read_correspond before o q ≡ true → read_correspond after o q ≡ true
   values_more o q e = grind (arith, common_steps)
 
-  pub words_more : (v w : ℕ) → words_correspond before v w ≡ true → words_correspond after v w ≡ true
+  words_more : (v w : ℕ) → words_correspond before v w ≡ true → words_correspond after v w ≡ true
   words_more v w e = values_more (read_value v) (read_value w) e
 
   pub all_more : (vs ws : List ℕ) → AllZip (λ v w. words_correspond before v w ≡ true) vs ws → AllZip (λ v w. words_correspond after v w ≡ true) vs ws

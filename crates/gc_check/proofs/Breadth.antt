@@ -25,7 +25,7 @@ use Rattle.gc_check.proofs.Forced.{follow_nil}
 -- ---- references
 
 -- the name of a value, if there is a value
-abbrev pub reference_of : Option Value → Option (Option ℕ)
+abbrev reference_of : Option Value → Option (Option ℕ)
 reference_of None = None
 reference_of (Some v) = Some (name_of v)
 
@@ -81,13 +81,13 @@ raw_refers image a h e raw = go (block_at image.words a) refl e
 -- ---- one more visit
 
 module _ (image : Image) (before after : List Visit) (found : Visit) (pushed : after ≡ before ++ found ∷ []) where
-  pub old_visit : (k : ℕ) → k < length before → visit_at after k ≡ visit_at before k
+  old_visit : (k : ℕ) → k < length before → visit_at after k ≡ visit_at before k
   old_visit k inside = ap (λ visits. visit_at visits k) pushed ∙ get_or_append_left before (found ∷ []) roots_visit k inside
 
-  pub new_visit : visit_at after (length before) ≡ found
+  new_visit : visit_at after (length before) ≡ found
   new_visit = ap (λ visits. visit_at visits (length before)) pushed ∙ get_or_at before found [] roots_visit (length before) refl
 
-  pub longer : length after ≡ suc (length before)
+  longer : length after ≡ suc (length before)
   longer = grind (arith, common_steps, length-append)
 
   -- a visit is old, or the new one
@@ -250,11 +250,11 @@ module _ (image : Image) (visits : List Visit) (at : ℕ) (low : 1 ≤ at) (insi
   by : IsFoundBy image (visit_at visits v.from) v at
   by = are.found at low inside
 
-  pub earlier_visit : v.from < at
+  earlier_visit : v.from < at
   earlier_visit = by.earlier
 
   module _ (place address : ℕ) (fields : List ℕ) where
-    pub back : along (graph_of image) v.node place (reverse fields) ≡ Some (Ref address) → along (graph_of image) (visit_at visits v.from).node v.place (reverse (fields ++ place ∷ [])) ≡ Some (Ref address)
+    back : along (graph_of image) v.node place (reverse fields) ≡ Some (Ref address) → along (graph_of image) (visit_at visits v.from).node v.place (reverse (fields ++ place ∷ [])) ≡ Some (Ref address)
     back e =
         ap (along (graph_of image) (visit_at visits v.from).node v.place) (reverse_push fields place)
         ∙ ap (λ o. follow (graph_of image).objects o (place ∷ reverse fields)) by.refers
@@ -262,7 +262,7 @@ module _ (image : Image) (visits : List Visit) (at : ℕ) (low : 1 ≤ at) (insi
         ∙ ap (λ n. along (graph_of image) n place (reverse fields)) (sym by.object)
         ∙ e
 
-    pub less_deep : (deep : ℕ) → length fields + v.depth ≡ deep → length (fields ++ place ∷ []) + (visit_at visits v.from).depth ≡ deep
+    less_deep : (deep : ℕ) → length fields + v.depth ≡ deep → length (fields ++ place ∷ []) + (visit_at visits v.from).depth ≡ deep
     less_deep deep e = omega (arith, length-append fields (place ∷ []), by.deeper, e)
 
 pub one_back : (image : Image) (visits : List Visit) (at place address : ℕ) (fields : List ℕ) → 1 ≤ at → at < length visits → AreVisits image visits → along (graph_of image) (visit_at visits at).node place (reverse fields) ≡ Some (Ref address)

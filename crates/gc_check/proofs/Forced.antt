@@ -30,7 +30,7 @@ module _ (old new : Image) (P : List (ℕ × ℕ) → Type 0) where
   abbrev Step : (ℕ → ℕ → Type 0) → Type 0
   Step R = (pairs : List (ℕ × ℕ)) (v w a b : ℕ) → R v w → read_value v ≡ Some (Ref a) → read_value w ≡ Some (Ref b) → is_free old new pairs a b ≡ true → P pairs → P (pairs ++ (a, b) ∷ [])
 
-  pub met_keeps : (R : ℕ → ℕ → Type 0) → Step R → (pairs : List (ℕ × ℕ)) (v w : ℕ) → R v w → P pairs → P (met old new pairs v w)
+  met_keeps : (R : ℕ → ℕ → Type 0) → Step R → (pairs : List (ℕ × ℕ)) (v w : ℕ) → R v w → P pairs → P (met old new pairs v w)
   met_keeps R step pairs v w r p = keeps_values pairs (read_value v) (read_value w) p (λ a b e f free. step pairs v w a b r e f free p)
 
   pub met_all_keeps : (R : ℕ → ℕ → Type 0) → Step R → (pairs : List (ℕ × ℕ)) (vs ws : List ℕ) → AllZip R vs ws → P pairs → P (met_all old new pairs vs ws)
@@ -38,7 +38,7 @@ module _ (old new : Image) (P : List (ℕ × ℕ) → Type 0) where
   met_all_keeps R step pairs (v ∷ vs) [] z p = p
   met_all_keeps R step pairs (v ∷ vs) (w ∷ ws) z p = met_all_keeps R step (met old new pairs v w) vs ws z.1 (met_keeps R step pairs v w z.0 p)
 
-  pub met_all_keeps_free : Step (λ v w. ℕ) → (pairs : List (ℕ × ℕ)) (vs ws : List ℕ) → P pairs → P (met_all old new pairs vs ws)
+  met_all_keeps_free : Step (λ v w. ℕ) → (pairs : List (ℕ × ℕ)) (vs ws : List ℕ) → P pairs → P (met_all old new pairs vs ws)
   met_all_keeps_free step pairs [] ws p = p
   met_all_keeps_free step pairs (v ∷ vs) [] p = p
   met_all_keeps_free step pairs (v ∷ vs) (w ∷ ws) p = met_all_keeps_free step (met old new pairs v w) vs ws (met_keeps (λ v w. ℕ) step pairs v w 0 p)
@@ -94,7 +94,7 @@ met_all_met old new pairs (v ∷ vs) (w ∷ ws) =
 
 -- ---- pairs join starts
 
-abbrev pub JoinStarts : Image → Image → List (ℕ × ℕ) → Type 0
+abbrev JoinStarts : Image → Image → List (ℕ × ℕ) → Type 0
 JoinStarts old new pairs = All (λ p. IsTrue (is_start old.words p.0) × IsTrue (is_start new.words p.1)) pairs
 
 met_all_starts : (old new : Image) (pairs : List (ℕ × ℕ)) (vs ws : List ℕ) → JoinStarts old new pairs → JoinStarts old new (met_all old new pairs vs ws)

@@ -141,7 +141,7 @@ module _ (old new : Image) (pairs : List (ℕ × ℕ)) (row : List ℕ) (held : 
         paired_at : (pairs : List (ℕ × ℕ)) (k : ℕ) (p : ℕ × ℕ) (a b : ℕ) → k < length pairs → slice_index_or pairs k p ≡ p → (p.0 == a) ≡ true → (p.1 == b) ≡ true → paired pairs a b ≡ true
         paired_at pairs k p a b h e f g = list_any_at (λ q. (q.0 == a) && (q.1 == b)) pairs k p h (ap (λ (q : ℕ × ℕ). (q.0 == a) && (q.1 == b)) e ∙ and_from _ _ f g)
 
-    abbrev pub now : List (ℕ × ℕ)
+    abbrev now : List (ℕ × ℕ)
     now = risen 0 row
 
     taken_now : (a b : ℕ) → paired cert a b ≡ true → is_free old new pairs a b ≡ false → paired now a b ≡ true
@@ -183,7 +183,7 @@ module _ (old new : Image) (pairs : List (ℕ × ℕ)) (row : List ℕ) (held : 
         blocks_now (block_at old.words a) (block_at new.words b) (paired_objects old new cert a b certified (forced a b e))
         (subst (λ (p : ℕ × ℕ). BlocksMet old new pairs (block_at old.words p.0) (block_at new.words p.1)) (k.2 (0, 0)) (met.objects k.0 k.1 k.1))
 
-    pub certified_now : Certified old new now
+    certified_now : Certified old new now
     certified_now = record {
       old_shaped = certified.old_shaped;
       new_shaped = certified.new_shaped;
@@ -198,7 +198,7 @@ module _ (old new : Image) (pairs : List (ℕ × ℕ)) (row : List ℕ) (held : 
       roots = words_now old.roots new.roots certified.roots met.roots;
     }
 
-    pub forced_now : AreIn cert now
+    forced_now : AreIn cert now
     forced_now k d h = forced (get_or now k d).0 (get_or now k d).1 (found_of_risen k d h)
 
 -- ---- answers
@@ -211,7 +211,7 @@ module _ (old new old_seen new_seen : Image) (found : Found) (cert : List Pair) 
   pub met_here : MetTo old new (pairs_of found.pairs.items) (length (pairs_of found.pairs.items))
   met_here = grind (arith, common_steps, length-map)
 
-  pub low_here : (a : ℕ) → is_start old.words a ≡ true → 1 ≤ a
+  low_here : (a : ℕ) → is_start old.words a ≡ true → 1 ≤ a
   low_here a start = low_start old.words a held_here.old_entries.walked start
 
   pub pairs_are_forced : AreForced old new (pairs_of cert)

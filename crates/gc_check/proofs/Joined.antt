@@ -108,13 +108,13 @@ module _ (old new : Image) (pairs : List (ℕ × ℕ)) (row partners : List ℕ)
       none_or _ _ (none_or _ _ (none_or _ _ (ap (λ o. at_place o (λ at. OldShape at)) old_shaped) (ap (λ o. at_place o (λ at. NewShape at)) new_shaped)) (none_when _ _ (ap not (eq-eqb _ _ roots))))
       (places_hold old new now now [] 0 refl refl later join_starts)
 
-  pub tables_of_found : (entries : List ℕ) → HasEntries old.words entries → by_address old.words entries ≡ partners → shape_fault old ≡ None → shape_fault new ≡ None → length old.roots ≡ length new.roots → length now < 2 ^ 32
+  tables_of_found : (entries : List ℕ) → HasEntries old.words entries → by_address old.words entries ≡ partners → shape_fault old ≡ None → shape_fault new ≡ None → length old.roots ≡ length new.roots → length now < 2 ^ 32
       → HasTables (record { old = old; new = new; pairs = now }) entries
   tables_of_found entries long same old_shaped new_shaped roots few = grind (arith, common_steps, placed, same_pairs, same_firsts)
 
   -- ---- they hold if all words that have met correspond
 
-  pub alike_hold : IsShaped old → IsShaped new → AlikeTo old new pairs (length pairs) → Certified old new now
+  alike_hold : IsShaped old → IsShaped new → AlikeTo old new pairs (length pairs) → Certified old new now
   alike_hold old_shaped new_shaped alike = record {
     old_shaped = old_shaped;
     new_shaped = new_shaped;
@@ -148,7 +148,7 @@ module _ (old new : Image) (pairs : List (ℕ × ℕ)) (row partners : List ℕ)
   objects_lead : (o q : Option Block) → BlocksMet old new pairs o q → ObjectsLeadToPairs old new now o q
   objects_lead o q m = grind (arith, common_steps, lead)
 
-  pub found_are_closed : AreClosed old new now
+  found_are_closed : AreClosed old new now
   found_are_closed = record {
     roots = lead old.roots new.roots met.roots;
     objects = λ k d h.

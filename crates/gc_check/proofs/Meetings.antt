@@ -95,7 +95,7 @@ taken_none (suc n) = taken_none n
 -- ---- room for a pair of each old object
 
 -- each entry that is not 0 stands at a start, from address `at` on
-abbrev pub StandAtStarts : List ℕ → ℕ → List ℕ → Type 0
+abbrev StandAtStarts : List ℕ → ℕ → List ℕ → Type 0
 StandAtStarts words at row = (k : ℕ) → not (slice_index row k == 0) ≡ true → is_start words (at + k) ≡ true
 
 pub few_taken : (words : List ℕ) (at : ℕ) (row : List ℕ) → StandAtStarts words at row → taken_in row ≤ starts_from words at (length row)

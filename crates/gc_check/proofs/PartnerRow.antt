@@ -36,7 +36,7 @@ holds_one row pairs p inside low free h = grind (arith, common_steps, cases_eq, 
 -- ---- new addresses rise
 
 -- the last new address among the pairs, or 0, which is below all starts
-abbrev pub EndsAt : List (ℕ × ℕ) → ℕ → Type 0
+abbrev EndsAt : List (ℕ × ℕ) → ℕ → Type 0
 EndsAt before last = (n : ℕ) → 1 ≤ n → not_above_last before n ≡ nat_le n last
 
 ends_one : (before : List (ℕ × ℕ)) (p : ℕ × ℕ) → EndsAt (before ++ p ∷ []) p.1

@@ -8,7 +8,7 @@ use Rattle.gc_check.specs.Texts.{verdict_on, TellsFront}
 use Rattle.gc_check.specs.declared.verdict.Verdict.{Verdict}
 
 -- a text spells at most one pair
-abbrev pub HasOneReading : Type 0
+abbrev HasOneReading : Type 0
 HasOneReading = (f g : CertifiedPair) (text : List ℕ) → IsTextOf f text → IsTextOf g text → f ≡ g
 
 of_each_reading : HasOneReading → (o : Option (List ℕ)) (P : CertifiedPair → Type 0) (file : CertifiedPair) → IfSome o (λ text. IsReadAsPair file text) → P file
