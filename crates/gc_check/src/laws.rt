@@ -29,7 +29,6 @@ pub fn small_images_mean_the_same()
 {}
 
 /// The worked examples hold of the definitions, by computation.
-#[tactic(auto, unfolding(crate::specs::Verdict::refusal_words, crate::specs::Verdict::verdict_words, std::specs::Fmt::digits))]
 pub fn worked_rows()
     ensures { Rows }
 {}
