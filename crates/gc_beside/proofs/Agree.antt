@@ -1,49 +1,24 @@
--- The words of a field that is up to date agree, as a standing checker compares them. The first two are also in gc_plan's proofs/Flips.
-use Rattle.std.proofs.Common.{◌≡◌, ℕ, ◌+◌, ◌<◌, ◌≤◌, ◌==◌, Bool, true, false, cond, List, map, length, get_or, drop, Some, refl, ap, sym, ◌∙◌, arith}
+-- The words of a field that is up to date agree, as a standing checker compares them.
+use Rattle.std.proofs.Common.{◌≡◌, ℕ, ◌+◌, ◌<◌, ◌≤◌, true, List, map, length, get_or, drop, Some, ap, sym, ◌∙◌, arith}
 use Rattle.std.specs.Prelude.{slice_get, slice_index}
 use Rattle.std.proofs.lemmas.List.{get_or-take, get_or-drop}
 use Rattle.std.proofs.lemmas.Option.{slice_get-get_or}
 use Rattle.std.proofs.lemmas.List.{get_or-map}
-use Rattle.gc_graph.specs.Graph.{Value, Nil, Num, Ref, Object}
-use Rattle.gc_graph.specs.Machine.{is_number}
+use Rattle.gc_graph.specs.Graph.{Value, Object}
 use Rattle.gc_graph.specs.Correspond.{correspond}
-use Rattle.gc_words.specs.Word.{word_of, read_value, read_correspond, words_correspond, field_words_correspond}
+use Rattle.gc_words.specs.Word.{field_words_correspond}
 use Rattle.gc_words.specs.Layout.{field_place, fields_place}
-use Rattle.gc_words.specs.declared.header.Header.{Header}
 use Rattle.gc_plan.specs.State.{Replica, Collection, State, heap_end, new_end, pairs_of}
-use Rattle.gc_plan.specs.Linked.{object_header, number_of, field_word}
+use Rattle.gc_plan.specs.Linked.{object_header, field_word}
 use Rattle.gc_plan.specs.Members.{In}
 use Rattle.gc_plan.specs.Belonging.{IsSpaceGraph, IsOpened, IsNamed, RefersTo}
-use Rattle.gc_plan.proofs.Public.{refers_map, laid_range, lookup_in, IsAddress, read_back, named_address, get_in, get_past, in_map, in_map_from, IsPlace, pair, placed, refers_corresponding}
+use Rattle.gc_plan.proofs.Public.{field_words_of_corresponding, refers_map, laid_range, lookup_in, IsAddress, named_address, get_in, get_past, in_map, in_map_from, IsPlace, pair, placed, refers_corresponding}
 use Rattle.gc_beside.specs.Internal.Live.{heap_words, replica_words}
 use Rattle.gc_beside.proofs.Shown.{AreSized, Shows, shown_at}
 use Rattle.gc_beside.proofs.Told.{ShowsReplicas, shows_replicas}
 
-words_of_corresponding : (pairs : List (ℕ × ℕ)) (v w : Value) → RefersTo IsAddress v → RefersTo IsAddress w → correspond pairs v w ≡ true → words_correspond pairs (word_of v) (word_of w) ≡ true
-words_of_corresponding pairs v w f g h =
-    ap (λ o. read_correspond pairs o (read_value (word_of w))) (read_back v f) ∙ (ap (read_correspond pairs (Some v)) (read_back w g) ∙ h)
-
-field_words_of_corresponding : (h k : Header) (pairs : List (ℕ × ℕ)) (v w : Value) → k.raw ≡ h.raw → (h.raw ≡ true → is_number v ≡ true) → RefersTo IsAddress v → RefersTo IsAddress w → correspond pairs v w ≡ true
-    → field_words_correspond h pairs (field_word h v) (field_word k w) ≡ true
-field_words_of_corresponding h k pairs v w same number f g agree = go h.raw refl
-  where
-    numbers : (v w : Value) → is_number v ≡ true → correspond pairs v w ≡ true → (number_of v == number_of w) ≡ true
-    numbers Nil w n e = absurd cc
-    numbers (Num a) Nil n e = absurd cc
-    numbers (Num a) (Num b) n e = e
-    numbers (Num a) (Ref b) n e = absurd cc
-    numbers (Ref a) w n e = absurd cc
-
-    go : (b : Bool) → h.raw ≡ b → field_words_correspond h pairs (field_word h v) (field_word k w) ≡ true
-    go true is =
-        (λ i. cond (is i) (cond (is i) (number_of v) (word_of v) == cond ((same ∙ is) i) (number_of w) (word_of w)) (words_correspond pairs (cond (is i) (number_of v) (word_of v)) (cond ((same ∙ is) i) (number_of w) (word_of w))))
-        ∙ numbers v w (number is) agree
-    go false is =
-        (λ i. cond (is i) (cond (is i) (number_of v) (word_of v) == cond ((same ∙ is) i) (number_of w) (word_of w)) (words_correspond pairs (cond (is i) (number_of v) (word_of v)) (cond ((same ∙ is) i) (number_of w) (word_of w))))
-        ∙ words_of_corresponding pairs v w f g agree
-
 -- the word of a field
-pub field_shown : (words : List ℕ) (link a : ℕ) (o : Object) (i : ℕ) (v : Value) → Shows words link a o → slice_get o.fields i ≡ Some v → slice_index words (field_place a i) ≡ field_word (object_header o) v
+field_shown : (words : List ℕ) (link a : ℕ) (o : Object) (i : ℕ) (v : Value) → Shows words link a o → slice_get o.fields i ≡ Some v → slice_index words (field_place a i) ≡ field_word (object_header o) v
 field_shown words link a o i v s at =
     let less : i < length o.fields = get_past o.fields i v at in
     let value : get_or o.fields i v ≡ v = (let e : Some (get_or o.fields i v) ≡ Some v = sym (slice_get-get_or o.fields i v less) ∙ at in cc) in
@@ -57,7 +32,7 @@ module _ (s : State) (c : Collection) (links : ℕ → ℕ) (heap : IsSpaceGraph
   sized d l = let o = heap.objects d.0 d.1 l in (o.kind, o.len)
 
   -- an object of the heap, among its words
-  pub object_shown : (a : ℕ) (o : Object) → In (a, o) s.heap.graph.objects → Shows (heap_words links s) (links a) a o
+  object_shown : (a : ℕ) (o : Object) → In (a, o) s.heap.graph.objects → Shows (heap_words links s) (links a) a o
   object_shown a o l = shown_at links s.heap.graph.objects (heap_end s) a o heap.laid sized l
 
   pub original_shown : (r : Replica) (l : In r c.replicas) → Shows (heap_words links s) (links r.original) r.original (opened.belongs.replicas r l).original

@@ -1,4 +1,5 @@
 -- The tables of a standing checker beside a heap's state, through the collector's steps.
+use Rattle.std.proofs.lemmas.Grind.{common_steps}
 use Rattle.std.proofs.Common.{◌≡◌, inl, inr, ⊎_elim, ℕ, suc, ◌==◌, Bool, true, false, cond, ◌||◌, List, ◌∷◌, map, length, Option, Some, None, is_some, refl, ap, sym, ◌∙◌, subst, arith}
 use Rattle.std.proofs.lemmas.Bool.{cases_Bool, cond-true, cond-false, eqb-true}
 use Rattle.gc_plan.specs.State.{Replica, Collection, State, heap_end, new_end, replica_of, replica_at}
@@ -29,10 +30,6 @@ module _ (s : State) (c : Collection) (t : Tables) (heap : IsSpaceGraph s.size s
 
   told_by : (old : List ℕ) (next : Collection) (after : Tables) → IsOpened s next → Adds c next → Placed old (replica_words next) t after → Told (heap_end s) c next t after
   told_by old next after k adds is = told_placed (heap_end s) c next (replica_words next) t goes.fits (shown next k) old after adds is
-
-  -- nothing new
-  pub placed_none : (old : List ℕ) (after : Tables) → Placed old (replica_words c) t after → after ≡ t
-  placed_none old after is = is.at_end (let n = (shown c opened).count in let m : length t.news ≡ new_end c = goes.fits.new_seen in omega (arith, n))
 
   pub roots_go : (old : List ℕ) (after : Tables) (next : Collection) (s' : State) → IsOpened s next → copy_root s c (root_target c s.heap.graph) ≡ (Copied, s') → s'.collection ≡ Some next
       → Placed old (replica_words next) t after → Goes s next (watch_of after)
@@ -79,15 +76,7 @@ module _ (s : State) (c : Collection) (t : Tables) (heap : IsSpaceGraph s.size s
       start false u = at (replica_at c c.scan_place) refl u
 
   pub passed_go : (next : Collection) (s' : State) → scan s c ≡ (Passed, s') → s'.collection ≡ Some next → Goes s next (watch_of t)
-  passed_go next s' said is = start (scan_done c) said
-    where
-      at : (o : Option Replica) → replica_at c c.scan_place ≡ o → scan_replica s c o ≡ (Passed, s') → Goes s next (watch_of t)
-      at None e u = absurd (let no : Clean ≡ Passed = ap (λ (x : StepReply × State). x.0) u in cc)
-      at (Some r) e u = replica_passed s s' c next r (watch_of t) goes e said is
-
-      start : (b : Bool) → cond b (Clean, s) (scan_replica s c (replica_at c c.scan_place)) ≡ (Passed, s') → Goes s next (watch_of t)
-      start true u = absurd (let no : Clean ≡ Passed = ap (λ (x : StepReply × State). x.0) u in cc)
-      start false u = at (replica_at c c.scan_place) refl u
+  passed_go next s' said is = grind (arith, common_steps, replica_passed)
 
   pub apply_go : (old : List ℕ) (mid after : Tables) (m : ℕ) (entry : ℕ × ℕ) (rest : List (ℕ × ℕ)) (next : Collection) (s' : State) → IsOpened s next → apply_log s c m (entry ∷ rest) ≡ (Applied, s') → s'.collection ≡ Some next
       → Placed old (replica_words next) t mid → AppliedTo old (replica_words next) entry.0 entry.1 mid after → Goes s next (watch_of after)

@@ -1,9 +1,10 @@
 -- What a step of the collector leaves as it is, and a replica that it places: if it is raw it is its original.
+use Rattle.std.proofs.lemmas.Grind.{common_steps}
 use Rattle.std.proofs.Common.{◌≡◌, ◌⊎◌, inl, inr, ⊎_elim, ℕ, suc, ◌+◌, ◌≤◌, ◌==◌, nat_lt, Bool, true, false, cond, ◌||◌, List, [], ◌∷◌, ◌++◌, map, length, Option, Some, None, is_some, refl, ap, sym, ◌∙◌, subst, arith}
 use Rattle.std.proofs.lemmas.Bool.{cases_Bool, cond-true, cond-false, eqb-true, or_left, or_right}
 use Rattle.gc_graph.specs.Graph.{Value, Nil, Num, Ref, Object, Graph, lookup, field_of, new_object}
 use Rattle.gc_plan.specs.State.{Replica, Collection, State, new_end, new_free, replica_of, replica_at, moved, fresh_object}
-use Rattle.gc_plan.specs.Steps.{fresh_replica, place_replica, with_replica, with_written, write_replica, copy_value, bring_value, bring_up_to_date, with_collection, if_room, next_field, next_object, root_target, copy_root, scan, scan_done, scan_replica, with_log, apply_entry, apply_log}
+use Rattle.gc_plan.specs.Steps.{fresh_replica, place_replica, with_replica, with_written, write_replica, copy_value, bring_value, bring_up_to_date, if_room, next_object, root_target, copy_root, scan, with_log, apply_log}
 use Rattle.gc_plan.specs.Members.{In}
 use Rattle.gc_plan.specs.Belonging.{Laid}
 use Rattle.gc_plan.specs.declared.step.StepReply.{StepReply}
@@ -129,38 +130,7 @@ pub record FieldScanned (s : State) (c next : Collection) : Type 0 where
   pub is : record mid { scan_field = suc mid.scan_field } ≡ next
 
 pub field_was_scanned : (s s' : State) (c next : Collection) → scan s c ≡ (Scanned, s') → s'.collection ≡ Some next → FieldScanned s c next
-field_was_scanned s s' c next said is = start (scan_done c) said
-  where
-    at_replica : (r : Replica) → replica_at c c.scan_place ≡ Some r → (r.object.raw || (c.scan_field == length r.object.fields)) ≡ false → (o : Option Collection) → bring_up_to_date c s.heap.graph r.original c.scan_field ≡ o → if_room s Scanned (next_field o) ≡ (Scanned, s') → FieldScanned s c next
-    at_replica r found neither None e u = absurd (let no : NoRoom ≡ Scanned = ap (λ (x : StepReply × State). x.0) u in cc)
-    at_replica r found neither (Some d) e u =
-        let came : record d { scan_field = suc d.scan_field } ≡ next = (let a : Some (record d { scan_field = suc d.scan_field }) ≡ s'.collection = ap (λ (x : StepReply × State). x.1.collection) u in cc) in
-        record {
-          replica = r;
-          found = found;
-          plain = elim (cases_Bool r.object.raw) [
-            | inl y ↦ absurd (let no : true ≡ false = sym (or_left r.object.raw (c.scan_field == length r.object.fields) y) ∙ neither in cc)
-            | inr n ↦ n
-          ];
-          more = elim (cases_Bool (c.scan_field == length r.object.fields)) [
-            | inl y ↦ absurd (let no : true ≡ false = sym (or_right r.object.raw (c.scan_field == length r.object.fields) y) ∙ neither in cc)
-            | inr n ↦ n
-          ];
-          mid = d;
-          brought = e;
-          is = came;
-        }
-
-    at : (o : Option Replica) → replica_at c c.scan_place ≡ o → scan_replica s c o ≡ (Scanned, s') → FieldScanned s c next
-    at None e u = absurd (let no : Clean ≡ Scanned = ap (λ (x : StepReply × State). x.0) u in cc)
-    at (Some r) e u = elim (cases_Bool (r.object.raw || (c.scan_field == length r.object.fields))) [
-      | inl y ↦ absurd (let no : Passed ≡ Scanned = ap (λ (x : StepReply × State). x.0) (sym (cond-true _ (Passed, with_collection s (Some (next_object c r))) (if_room s Scanned (next_field (bring_up_to_date c s.heap.graph r.original c.scan_field))) y) ∙ u) in cc)
-      | inr n ↦ at_replica r e n _ refl (sym (cond-false _ (Passed, with_collection s (Some (next_object c r))) (if_room s Scanned (next_field (bring_up_to_date c s.heap.graph r.original c.scan_field))) n) ∙ u)
-    ]
-
-    start : (b : Bool) → cond b (Clean, s) (scan_replica s c (replica_at c c.scan_place)) ≡ (Scanned, s') → FieldScanned s c next
-    start true u = absurd (let no : Clean ≡ Scanned = ap (λ (x : StepReply × State). x.0) u in cc)
-    start false u = at (replica_at c c.scan_place) refl u
+field_was_scanned s s' c next said is = grind (arith, common_steps, cases_Bool, or_left, or_right, cond-true, cond-false)
 
 pub record ReplicaPassed (c next : Collection) : Type 0 where
   pub replica : Replica
@@ -169,46 +139,11 @@ pub record ReplicaPassed (c next : Collection) : Type 0 where
   pub is : next_object c replica ≡ next
 
 pub replica_was_passed : (s s' : State) (c next : Collection) → scan s c ≡ (Passed, s') → s'.collection ≡ Some next → ReplicaPassed c next
-replica_was_passed s s' c next said is = start (scan_done c) said
-  where
-    none_scanned : (o : Option Collection) → if_room s Scanned o ≡ (Passed, s') → ⊥
-    none_scanned None u = absurd (let no : NoRoom ≡ Passed = ap (λ (x : StepReply × State). x.0) u in cc)
-    none_scanned (Some d) u = absurd (let no : Scanned ≡ Passed = ap (λ (x : StepReply × State). x.0) u in cc)
-
-    by : (r : Replica) → replica_at c c.scan_place ≡ Some r → (b : Bool) → (r.object.raw || (c.scan_field == length r.object.fields)) ≡ b
-        → cond b (Passed, with_collection s (Some (next_object c r))) (if_room s Scanned (next_field (bring_up_to_date c s.heap.graph r.original c.scan_field))) ≡ (Passed, s') → ReplicaPassed c next
-    by r found true e u =
-        let came : next_object c r ≡ next = (let a : Some (next_object c r) ≡ s'.collection = ap (λ (x : StepReply × State). x.1.collection) u in cc) in
-        record { replica = r; found = found; done = e; is = came }
-    by r found false e u = absurd (none_scanned _ u)
-
-    at : (o : Option Replica) → replica_at c c.scan_place ≡ o → scan_replica s c o ≡ (Passed, s') → ReplicaPassed c next
-    at None e u = absurd (let no : Clean ≡ Passed = ap (λ (x : StepReply × State). x.0) u in cc)
-    at (Some r) e u = by r e _ refl u
-
-    start : (b : Bool) → cond b (Clean, s) (scan_replica s c (replica_at c c.scan_place)) ≡ (Passed, s') → ReplicaPassed c next
-    start true u = absurd (let no : Clean ≡ Passed = ap (λ (x : StepReply × State). x.0) u in cc)
-    start false u = at (replica_at c c.scan_place) refl u
+replica_was_passed s s' c next said is = grind (arith, common_steps)
 
 -- the entry's field was brought up to date, or its object has no replica
 pub record EntryApplied (s : State) (c next : Collection) (m : ℕ) (entry : ℕ × ℕ) (rest : List (ℕ × ℕ)) : Type 0 where
   pub is : ((r : Replica) × In r c.replicas × (r.original ≡ entry.0) × (bring_up_to_date (with_log c m rest) s.heap.graph entry.0 entry.1 ≡ Some next)) ⊎ ((replica_of c entry.0 ≡ None) × (with_log c m rest ≡ next))
 
 pub entry_was_applied : (s s' : State) (c next : Collection) (m : ℕ) (entry : ℕ × ℕ) (rest : List (ℕ × ℕ)) → apply_log s c m (entry ∷ rest) ≡ (Applied, s') → s'.collection ≡ Some next → EntryApplied s c next m entry rest
-entry_was_applied s s' c next m entry rest said is = at (apply_entry (with_log c m rest) s.heap.graph entry) refl said
-  where
-    c' : Collection
-    c' = with_log c m rest
-
-    go : (d : Collection) → d ≡ next → (b : Bool) → is_some (replica_of c entry.0) ≡ b → cond b (bring_up_to_date c' s.heap.graph entry.0 entry.1) (Some c') ≡ Some d → EntryApplied s c next m entry rest
-    go d same true t f =
-        let r = some_of (replica_of c entry.0) t in
-        let there = replica_in c entry.0 r.0 r.1 in
-        record { is = inl (r.0, there.0, there.1, f ∙ ap Some same) }
-    go d same false t f = record { is = inr (none_of (replica_of c entry.0) t, (let e : c' ≡ d = cc f in e ∙ same)) }
-
-    at : (o : Option Collection) → apply_entry c' s.heap.graph entry ≡ o → if_room s Applied o ≡ (Applied, s') → EntryApplied s c next m entry rest
-    at None e u = absurd (let no : NoRoom ≡ Applied = ap (λ (x : StepReply × State). x.0) u in cc)
-    at (Some d) e u =
-        let came : d ≡ next = (let a : Some d ≡ s'.collection = ap (λ (x : StepReply × State). x.1.collection) u in cc) in
-        go d came (is_some (replica_of c entry.0)) refl e
+entry_was_applied s s' c next m entry rest said is = grind (arith, common_steps, some_of, replica_in, none_of)

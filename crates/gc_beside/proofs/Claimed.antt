@@ -9,7 +9,7 @@ use Rattle.gc_plan.specs.State.{Replica, Collection, State, heap_end, new_end}
 use Rattle.gc_plan.specs.Linked.{LeadsTo, object_header, field_word}
 use Rattle.gc_plan.specs.Members.{In}
 use Rattle.gc_plan.specs.Belonging.{IsDue, IsSpaceGraph, IsOpened}
-use Rattle.gc_plan.proofs.Public.{laid_range, lookup_in, end_is, found_by_name, in_map, pair, placed, in_paired}
+use Rattle.gc_plan.proofs.Public.{laid_range, lookup_in, end_is, found_by_name, in_map, pair, placed, in_paired, same_original}
 use Rattle.gc_along.specs.Claims.{CanPlace, CanLook, CanApply, IsLinked}
 use Rattle.gc_along.specs.Events.{IsClaim, IsCopy}
 use Rattle.gc_along.specs.Origins.{pairs_in}
@@ -22,7 +22,6 @@ use Rattle.gc_beside.proofs.Agree.{original_shown, replicas_shown, same_header}
 use Rattle.gc_beside.proofs.Beside.{pair_stays}
 use Rattle.gc_beside.proofs.Events.{Goes}
 use Rattle.gc_beside.proofs.Growth.{IsAdded, Adds}
-use Rattle.gc_beside.proofs.Told.{same_original}
 
 -- the original that a row has for a replica
 pub origin_is : (end : ℕ) (c : Collection) (t : Tables) (r : Replica) → Fits end c (watch_of t) → In r c.replicas → 1 ≤ r.original → get_or t.origins r.place 0 ≡ r.original
@@ -107,7 +106,7 @@ module _ (s : State) (next : Collection) (links : ℕ → ℕ) (heap : IsSpaceGr
 
 module _ (s : State) (c next : Collection) (t : Tables) (links : ℕ → ℕ) (heap : IsSpaceGraph s.size s.heap.free s.heap.graph) (before : IsOpened s c) (opened : IsOpened s next) (goes : Goes s c (watch_of t)) (knows : Knows s c t) where
   -- a new replica's original had none
-  pub was_free : (q : Replica) → IsAdded c next q → (r : Replica) → In r c.replicas → r.original ≡ q.original → ⊥
+  was_free : (q : Replica) → IsAdded c next q → (r : Replica) → In r c.replicas → r.original ≡ q.original → ⊥
   was_free q added r l same =
       let p = pair_stays c next r (inr (q, added)) l in
       let kin : p.0.original ≡ q.original = ap (λ (p : ℕ × ℕ). p.0) p.2 ∙ same in

@@ -1,8 +1,9 @@
 -- The tables of a standing checker know the heap through the mutators' commands, and it is not lost at any.
+use Rattle.std.proofs.lemmas.Grind.{common_steps}
 use Rattle.std.proofs.Common.{◌≡◌, ◌≢◌, ◌⊎◌, inl, inr, ⊎_elim, ℕ, zero, suc, ◌+◌, ◌-◌, ◌<◌, ◌≤◌, ◌==◌, ◌&&◌, not, nat_lt, Bool, true, false, List, [], ◌∷◌, ◌++◌, map, length, get_or, set, replicate, Option, Some, None, refl, ap, sym, ◌∙◌, subst, arith}
 use Rattle.std.specs.Prelude.{slice_get, slice_set, slice_index}
 use Rattle.std.proofs.lemmas.Bool.{cases_Bool, cases_eq, cond_both, ltb-true, ltb-false}
-use Rattle.std.proofs.lemmas.List.{get_or-append_right, get_or-set_same, get_or-set_other}
+use Rattle.std.proofs.lemmas.List.{get_or_append_left, get_or-append_right, get_or-set_same, get_or-set_other}
 use Rattle.gc_graph.specs.Graph.{Value, Nil, Num, Ref, Object, Graph, root, set_field, with_field, new_object, lookup}
 use Rattle.gc_graph.specs.Machine.{Roomy, get_field, put_field, is_number, step, roomy_step, words_taken}
 use Rattle.gc_graph.specs.Slots.{place}
@@ -13,11 +14,11 @@ use Rattle.gc_words.specs.Word.{read_header}
 use Rattle.gc_words.specs.Layout.{field_place}
 use Rattle.gc_words.specs.declared.header.Header.{Header}
 use Rattle.gc_plan.specs.State.{Replica, Collection, State, heap_end, new_end}
-use Rattle.gc_plan.specs.Steps.{log_at, log_or_nil, with_log, logged, written, mutate, fresh_collection}
+use Rattle.gc_plan.specs.Steps.{log_or_nil, logged, mutate, fresh_collection}
 use Rattle.gc_plan.specs.Linked.{LeadsTo, object_header}
 use Rattle.gc_plan.specs.Members.{In}
-use Rattle.gc_plan.specs.Belonging.{IsDue, IsLogged, IsNamed, IsSpaceGraph, IsOpened, IsOpen}
-use Rattle.gc_plan.proofs.Public.{WrittenBy, set_from, laid_range, laid_apart, end_is, in_left, in_right, in_push, in_map, placed}
+use Rattle.gc_plan.specs.Belonging.{IsDue, IsLogged, IsNamed, IsSpaceGraph, IsOpened}
+use Rattle.gc_plan.proofs.Public.{set_from, laid_range, laid_apart, end_is, in_left, in_push, in_map, placed}
 use Rattle.gc_along.specs.Claims.{CanMake, CanWrite, IsLinked}
 use Rattle.gc_along.specs.Events.{Made, Wrote, object_codes, old_added}
 use Rattle.gc_along.specs.Tables.{Tables, watch_of, due_in}
@@ -51,9 +52,7 @@ names_put g (Ref b) (Some o) (Some before) i w a h = cond_both (o.raw && not (is
     h
 
 names_get : (g : Graph) (d : ℕ) (target : Option Object) (found : Option Value) (a : ℕ) → IsNamed (get_field g d target found).1.objects a → IsNamed g.objects a
-names_get g d None found a h = h
-names_get g d (Some o) None a h = h
-names_get g d (Some o) (Some v) a h = h
+names_get g d target found a h = grind (arith, common_steps)
 
 -- a new object's name, if the command makes one
 abbrev pub NewName : State → Op → ℕ → Type 0
@@ -116,7 +115,7 @@ pub record SameBut (c d : Collection) : Type 0 where
   pub scan_field : d.scan_field ≡ c.scan_field
   pub logged : (a i : ℕ) → IsLogged c a i → IsLogged d a i
 
-pub same_but : (c : Collection) → SameBut c c
+same_but : (c : Collection) → SameBut c c
 same_but c = record { size = refl; replicas = refl; scan_place = refl; scan_field = refl; logged = λ a i l. l }
 
 abbrev pub SameOpen : Option Collection → Option Collection → Type 0
@@ -134,8 +133,7 @@ pub record Continues (s s' : State) (New : ℕ → Type 0) : Type 0 where
   pub kept : (a : ℕ) → IsNamed s.heap.graph.objects a → IsNamed s'.heap.graph.objects a
 
 same_open : (o : Option Collection) → SameOpen o o
-same_open None = tt
-same_open (Some c) = same_but c
+same_open o = grind (arith, common_steps, same_but)
 
 pub continues_same : (s : State) (New : ℕ → Type 0) → Continues s s New
 continues_same s New = record { mutators = refl; size = refl; collection = same_open s.collection; names = λ a n. inl n; kept = λ a n. n }
@@ -171,11 +169,6 @@ log_more (log ∷ logs) zero more (suc k) e l = l
 log_more (log ∷ logs) (suc m) more zero e l = l
 log_more (log ∷ logs) (suc m) more (suc k) e l = log_more logs m more k e l
 
-log_new : (logs : List (List (ℕ × ℕ))) (m : ℕ) (more : List (ℕ × ℕ)) (e : ℕ × ℕ) → m < length logs → In e more → In e (log_or_nil (slice_get (slice_set logs m (log_or_nil (slice_get logs m) ++ more)) m))
-log_new [] m more e less l = absurd (omega arith)
-log_new (log ∷ logs) zero more e less l = in_right e log more l
-log_new (log ∷ logs) (suc m) more e less l = log_new logs m more e (omega arith) l
-
 logged_open : (o : Option Collection) (m : ℕ) (more : List (ℕ × ℕ)) → SameOpen o (logged o m more)
 logged_open None m more = tt
 logged_open (Some c) m more = record { size = refl; replicas = refl; scan_place = refl; scan_field = refl; logged = λ a i l. (l.0, log_more c.logs m more l.0 (a, i) l.1) }
@@ -193,20 +186,6 @@ continues_one s s' m op reply said = subst (λ (x : Reply × State). Continues s
       (λ fits. kept_step s.heap.graph m op (heap_end s) a n);
 })
 
--- a field that was written is logged
-pub written_logged : (s s' : State) (m : ℕ) (op : Op) (reply : Reply) (a i : ℕ) → IsOpen s s.collection → m < s.mutators → mutate s m op ≡ (reply, s') → WrittenBy s.heap.graph m op reply a i → (d : Collection) → s'.collection ≡ Some d → IsLogged d a i
-written_logged s s' m op reply a i is_open less said w d there = go s.collection is_open (ap (λ (x : Reply × State). x.1.collection) said ∙ there)
-  where
-    now : Reply
-    now = (roomy_step s.heap m op (heap_end s)).0
-
-    go : (o : Option Collection) → IsOpen s o → logged o m (written s.heap.graph m op (roomy_step s.heap m op (heap_end s)).0) ≡ Some d → IsLogged d a i
-    go None k e = absurd (let no : None ≡ Some d = e in cc)
-    go (Some c) k e =
-        let is : with_log c m (log_at c m ++ written s.heap.graph m op (roomy_step s.heap m op (heap_end s)).0) ≡ d = cc e in
-        let count : length c.logs ≡ s.mutators = k.logs in
-        subst (λ (d : Collection). IsLogged d a i) is (m, log_new c.logs m _ (a, i) (omega arith) (subst (λ (r : Reply). In {X = ℕ × ℕ} (a, i) (written s.heap.graph m op r)) (sym (ap (λ (x : Reply × State). x.0) said)) w))
-
 -- ---- tables that stay as they are
 
 open_same : (s s' : State) (o p : Option Collection) → s'.mutators ≡ s.mutators → SameOpen o p → SameBut (open_or_fresh s o) (open_or_fresh s' p)
@@ -216,27 +195,11 @@ open_same s s' (Some c) None m h = absurd h
 open_same s s' (Some c) (Some d) m h = h
 
 due_on : (c d : Collection) → SameBut c d → (raw : Bool) (p a i : ℕ) → IsDue c raw p a i → IsDue d raw p a i
-due_on c d same raw p a i x = ⊎_elim
-    (λ u. inl (u.0, unscanned_same c d p i same.scan_place same.scan_field u.1))
-    (λ l. inr (same.logged a i l))
-    x
+due_on c d same raw p a i x = grind (arith, common_steps, unscanned_same)
 
 -- the marks of the later objects are all that is asked of them
 known_on : (s s' : State) (c d : Collection) (t : Tables) → SameBut c d → s'.size ≡ s.size → ((a : ℕ) → IsNamed s'.heap.graph.objects a → IsMark (get_or t.olds a 0)) → ((a : ℕ) → IsNamed s.heap.graph.objects a → IsNamed s'.heap.graph.objects a) → Knows s c t → Knows s' d t
-known_on s s' c d t same size marked stays k = record {
-  kept = k.kept;
-  due = λ place x. let f = k.due place x in (f.0, subst (In f.0) (sym same.replicas) f.1, f.2, f.3, f.4, due_on c d same f.0.object.raw f.0.place f.0.original f.2 f.5);
-  marks = record {
-    olds = marked;
-    starts = λ a mark. stays a (k.marks.starts a mark);
-    taken = λ a e. (let r = k.marks.taken a e in (r.0, subst (In r.0) (sym same.replicas) r.1, r.2));
-    news = λ r l. k.marks.news r (subst (In r) same.replicas l);
-    places = λ b e. (let r = k.marks.places b e in (r.0, subst (In r.0) (sym same.replicas) r.1, r.2));
-    free = k.marks.free;
-  };
-  old_room = subst (λ n. n ≤ t.room) (sym size) k.old_room;
-  new_room = subst (λ n. n ≤ t.room) (sym same.size) k.new_room;
-}
+known_on s s' c d t same size marked stays k = grind (arith, common_steps, due_on)
 
 pub quiet_known : (s s' : State) (t : Tables) (New : ℕ → Type 0) → Continues s s' New → ((a : ℕ) → New a → ⊥) → KnowsAll s t → KnowsAll s' t
 quiet_known s s' t New on none k = known_on s s' (open_or_fresh s s.collection) (open_or_fresh s' s'.collection) t (open_same s s' s.collection s'.collection on.mutators on.collection) on.size
@@ -244,24 +207,11 @@ quiet_known s s' t New on none k = known_on s s' (open_or_fresh s s.collection) 
 
 -- ---- an object made
 
-at_front : (xs ys : List ℕ) (k : ℕ) → k < length xs → get_or (xs ++ ys) k 0 ≡ get_or xs k 0
-at_front [] ys k l = absurd (omega arith)
-at_front (x ∷ xs) ys zero l = refl
-at_front (x ∷ xs) ys (suc k) l = at_front xs ys k (omega arith)
-
 mark_in_front : (xs ys : List ℕ) (k : ℕ) → IsMark (get_or xs k 0) → IsMark (get_or (xs ++ ys) k 0)
-mark_in_front xs ys k (inl one) = inl (in_front xs ys k 0 one)
-mark_in_front xs ys k (inr two) = inr (in_front xs ys k 1 two)
+mark_in_front xs ys k h = grind (arith, common_steps, in_front)
 
 no_mark : (n k : ℕ) → get_or (object_codes n 0) k 0 ≢ 2
-no_mark n zero e = absurd (let no : 1 ≡ 2 = e in omega arith)
-no_mark n (suc zero) e = absurd (let no : 0 ≡ 2 = e in omega arith)
-no_mark n (suc (suc k)) e = zeros n k e
-  where
-    zeros : (n k : ℕ) → (let none : ℕ = 0 in get_or (replicate n none) k none ≢ 2)
-    zeros zero k e = absurd (let no : 0 ≡ 2 = e in omega arith)
-    zeros (suc n) zero e = absurd (let no : 0 ≡ 2 = e in omega arith)
-    zeros (suc n) (suc k) e = zeros n k e
+no_mark n k e = grind (arith, common_steps)
 
 -- only the first word of a new object has a mark
 only_first : (n k : ℕ) → IsMark (get_or (object_codes n 0) k 0) → k ≡ 0
@@ -330,14 +280,14 @@ module _ (s s' : State) (t : Tables) (links : ℕ → ℕ) (later : IsSpaceGraph
               (λ new. inl (get_or-append_right t.olds (object_codes h.len 0) (length t.olds) a 0 refl (omega arith) ∙ ap (λ n. get_or (object_codes h.len 0) n 0) (let z : a - length t.olds ≡ 0 = omega arith in z)))
               (on.names a l);
           starts = λ a mark. elim (cases_Bool (nat_lt a (length t.olds))) [
-            | inl y ↦ on.kept a (k.marks.starts a (subst IsMark (at_front t.olds (object_codes h.len 0) a (ltb-true a (length t.olds) y)) mark))
+            | inl y ↦ on.kept a (k.marks.starts a (subst IsMark (get_or_append_left t.olds (object_codes h.len 0) 0 a (ltb-true a (length t.olds) y)) mark))
             | inr n ↦ (let past : length t.olds ≤ a = ltb-false a (length t.olds) n in
                 let first : a - length t.olds ≡ 0 = only_first h.len (a - length t.olds) (subst IsMark (get_or-append_right t.olds (object_codes h.len 0) (length t.olds) a 0 refl past) mark) in
                 let here : length t.olds ≡ a = omega arith in
                 subst (IsNamed s'.heap.graph.objects) here (new_name less))
           ];
           taken = λ a e. elim (cases_Bool (nat_lt a (length t.olds))) [
-            | inl y ↦ (let r = k.marks.taken a (sym (at_front t.olds (object_codes h.len 0) a (ltb-true a (length t.olds) y)) ∙ e) in (r.0, subst (In r.0) (sym same.replicas) r.1, r.2))
+            | inl y ↦ (let r = k.marks.taken a (sym (get_or_append_left t.olds (object_codes h.len 0) 0 a (ltb-true a (length t.olds) y)) ∙ e) in (r.0, subst (In r.0) (sym same.replicas) r.1, r.2))
             | inr n ↦ absurd (no_mark h.len (a - length t.olds) (sym (get_or-append_right t.olds (object_codes h.len 0) (length t.olds) a 0 refl (ltb-false a (length t.olds) n)) ∙ e))
           ];
           news = λ r l. k.marks.news r (subst (In r) same.replicas l);

@@ -1,73 +1,42 @@
 -- The tables of a standing checker know the heap where a collection begins, is given up, or ends in a flip.
+use Rattle.std.proofs.lemmas.Grind.{common_steps}
 use Rattle.std.proofs.Common.{◌≡◌, ◌≢◌, inl, inr, ⊎_elim, ℕ, zero, suc, ◌≤◌, false, true, [], ◌∷◌, length, map, get_or, None, refl, ap, sym, ◌∙◌, subst, arith}
 use Rattle.gc_graph.specs.Graph.{Object}
 use Rattle.gc_plan.specs.State.{Collection, State, heap_end}
 use Rattle.gc_plan.specs.Steps.{flipped, fresh_collection}
-use Rattle.gc_plan.specs.Members.{In}
 use Rattle.gc_plan.specs.Belonging.{IsNamed, IsOpened, IsSpaceGraph}
 use Rattle.gc_plan.proofs.Public.{laid_range, lookup_in, in_map, in_map_from, placed}
 use Rattle.gc_along.specs.Events.{Freed, flipped_tables, opening_tables}
 use Rattle.gc_along.specs.Tables.{Tables, IsKept, watch_of}
 use Rattle.gc_along.specs.Telling.{IsMark}
 use Rattle.gc_along.specs.Watch.{is_due_at, opening}
-use Rattle.gc_beside.specs.Knows.{Knows, KnowsAll, Marks, open_or_fresh}
+use Rattle.gc_beside.specs.Knows.{Knows, KnowsAll}
 use Rattle.gc_beside.proofs.Claimed.{origin_is}
 use Rattle.gc_beside.proofs.Events.{Goes}
 
 -- where nothing is seen of a new space nothing is due in it, and no object has a replica
 none_due : (place : ℕ) → is_due_at (opening 0) place ≡ true → ⊥
-none_due zero d = absurd (let no : false ≡ true = d in cc)
-none_due (suc place) d = absurd (let no : false ≡ true = d in cc)
+none_due place d = grind (arith, common_steps)
 
 only_zero : (b n : ℕ) → get_or (0 ∷ []) b 0 ≡ suc n → ⊥
-only_zero zero n e = absurd (let no : 0 ≡ suc n = e in omega arith)
-only_zero (suc b) n e = absurd (let no : 0 ≡ suc n = e in omega arith)
+only_zero b n e = grind (arith, common_steps)
 
 kept_alone : (t : Tables) → t.news ≡ 0 ∷ [] → t.origins ≡ 0 ∷ [] → t.missing ≡ 0 → IsKept t
-kept_alone t news origins missing = record {
-  counted = missing ∙ sym (ap Rattle.gc_along.specs.Tables.missing_in news);
-  few = (let l : length t.news ≡ 1 = ap length news in omega arith);
-  rows = ap length origins ∙ sym (ap length news);
-  taken = λ b l. absurd (let none = only_zero b 0 in at_zero b (subst (λ row. 1 ≤ get_or row b 0) origins l));
-}
-  where
-    at_zero : (b : ℕ) → 1 ≤ get_or (0 ∷ []) b 0 → ⊥
-    at_zero zero l = absurd (omega arith)
-    at_zero (suc b) l = absurd (omega arith)
+kept_alone t news origins missing = grind (arith, common_steps, only_zero)
 
 -- tables of an empty new space know a collection that is just begun
 pub knows_fresh : (s : State) (size : ℕ) (t : Tables) → t.news ≡ 0 ∷ [] → t.origins ≡ 0 ∷ [] → t.missing ≡ 0
     → ((a : ℕ) → IsNamed s.heap.graph.objects a → IsMark (get_or t.olds a 0)) → ((a : ℕ) → IsMark (get_or t.olds a 0) → IsNamed s.heap.graph.objects a) → ((a : ℕ) → get_or t.olds a 0 ≢ 2)
     → s.size ≤ t.room → size ≤ t.room → Knows s (fresh_collection s.mutators size) t
-knows_fresh s size t news origins missing marked starts free old_room new_room = record {
-  kept = kept_alone t news origins missing;
-  due = λ place d. absurd (none_due place (subst (λ row. Rattle.std.specs.Prelude.slice_index_or (Rattle.gc_along.specs.Tables.due_in row) place false ≡ true) news d));
-  marks = record {
-    olds = marked;
-    starts = starts;
-    taken = λ a e. absurd (free a e);
-    news = λ r l. absurd l;
-    places = λ b e. absurd (only_zero b 0 (sym (ap (λ row. get_or row b 0) news) ∙ e));
-    free = λ b e. only_zero b 1 (sym (ap (λ row. get_or row b 0) news) ∙ e);
-  };
-  old_room = old_room;
-  new_room = new_room;
-}
+knows_fresh s size t news origins missing marked starts free old_room new_room = grind (arith, common_steps, kept_alone, none_due, only_zero)
 
 -- a heap without objects
 pub opened_known : (s : State) (size : ℕ) → s.heap.graph.objects ≡ [] → s.collection ≡ None → s.size ≤ size → 1 ≤ size → KnowsAll s (opening_tables size)
-opened_known s size empty closed room low = subst (λ o. Knows s (open_or_fresh s o) (opening_tables size)) (sym closed)
-    (knows_fresh s 1 (opening_tables size) refl refl refl (λ a n. absurd (subst (λ os. In {X = ℕ × Object} (a, n.0) os) empty n.1)) (λ a m. ⊎_elim (λ e. absurd (only_zero a 0 e)) (λ e. absurd (only_zero a 1 e)) m) (λ a e. only_zero a 1 e) room low)
+opened_known s size empty closed room low = grind (arith, common_steps, knows_fresh, only_zero)
 
 -- a larger or smaller space is begun
 pub begun_known : (s : State) (before size : ℕ) (t after : Tables) → after ≡ record t { room = after.room } → s.size ≤ after.room → size ≤ after.room → Knows s (fresh_collection s.mutators before) t → Knows s (fresh_collection s.mutators size) after
-begun_known s before size t after more old_room new_room knows = record {
-  kept = subst IsKept (sym more) (record { counted = knows.kept.counted; few = knows.kept.few; rows = knows.kept.rows; taken = knows.kept.taken });
-  due = λ place d. absurd (knows.due place (subst (λ (x : Tables). is_due_at (watch_of x) place ≡ true) more d)).1;
-  marks = subst (λ (x : Tables). Marks s.heap.graph.objects [] x) (sym more) (record { olds = knows.marks.olds; starts = knows.marks.starts; taken = knows.marks.taken; news = knows.marks.news; places = knows.marks.places; free = knows.marks.free });
-  old_room = old_room;
-  new_room = new_room;
-}
+begun_known s before size t after more old_room new_room knows = grind (arith, common_steps)
 
 -- the collection is given up
 pub dropped_known : (s : State) (c : Collection) (t after : Tables) → IsSpaceGraph s.size s.heap.free s.heap.graph → IsOpened s c → Goes s c (watch_of t) → Knows s c t → 1 ≤ t.room → Freed t after → Knows s (fresh_collection s.mutators 1) after

@@ -1,5 +1,6 @@
 -- The core's steps and commands, with what the watch may lose and has to mark at each.
-use Rattle.std.proofs.Common.{◌≡◌, ◌⊎◌, inl, inr, ⊎_elim, ℕ, suc, ◌<◌, ◌≤◌, ◌==◌, nat_lt, Bool, true, false, cond, ◌||◌, List, [], ◌∷◌, length, flat_map, Option, Some, None, is_some, refl, ap, sym, ◌∙◌, subst}
+use Rattle.std.proofs.lemmas.Grind.{common_steps}
+use Rattle.std.proofs.Common.{◌≡◌, ◌⊎◌, inr, ⊎_elim, ℕ, suc, ◌==◌, nat_lt, Bool, true, false, cond, ◌||◌, List, ◌∷◌, length, flat_map, Option, Some, None, is_some, refl, ap, sym, ◌∙◌, subst, arith}
 use Rattle.std.proofs.lemmas.Bool.{cases_Bool, cond-true, cond-false, cond_both}
 use Rattle.gc_graph.specs.Graph.{lookup, names_of}
 use Rattle.gc_graph.specs.Machine.{Roomy, words_taken, roomy_step}
@@ -23,12 +24,7 @@ Goes s c w = GoesAlong s.heap.graph.objects (heap_end s) c w
 
 -- what fits a collection fits one with the same replicas
 refit : (end : ℕ) (c next : Collection) (w : Watch) → next.replicas ≡ c.replicas → Fits end next w → Fits end c w
-refit end c next w same f = record {
-  pairs = f.pairs ∙ ap (Rattle.std.proofs.Common.map Rattle.gc_plan.proofs.Replicas.pair) same;
-  old_seen = f.old_seen;
-  new_seen = f.new_seen ∙ ap Rattle.gc_plan.proofs.Replicas.replicas_end same;
-  row = f.row;
-}
+refit end c next w same f = grind (arith, common_steps)
 
 abbrev Gives : StepReply × State → StepReply → State → Type 0
 Gives x said s' = x ≡ (said, s')
@@ -56,10 +52,7 @@ roots_copied s s' c next w later k h said is fits loses = go (root_target c s.he
 
 scan_before_end : (s s' : State) (c : Collection) (r : Replica) (reply : StepReply) → replica_at c c.scan_place ≡ Some r → (scan_done c ≡ true → Gives (Clean, s) reply s' → ⊥)
     → scan s c ≡ (reply, s') → scan_replica s c (Some r) ≡ (reply, s')
-scan_before_end s s' c r reply found other said = ⊎_elim
-    (λ t. absurd (other t (sym (cond-true (scan_done c) (Clean, s) (scan_replica s c (replica_at c c.scan_place)) t) ∙ said)))
-    (λ f. ap (scan_replica s c) (sym found) ∙ (sym (cond-false (scan_done c) (Clean, s) (scan_replica s c (replica_at c c.scan_place)) f) ∙ said))
-    (cases_Bool (scan_done c))
+scan_before_end s s' c r reply found other said = grind (arith, common_steps, cond-true, cond-false, cases_Bool)
 
 pub field_scanned : (s s' : State) (c next : Collection) (r : Replica) (w later : Watch) → IsOpened s c → Goes s c w
     → replica_at c c.scan_place ≡ Some r → scan s c ≡ (Scanned, s') → s'.collection ≡ Some next
@@ -81,15 +74,7 @@ field_scanned s s' c next r w later k h found said is fits loses = go (r.object.
 
 pub replica_passed : (s s' : State) (c next : Collection) (r : Replica) (w : Watch) → Goes s c w
     → replica_at c c.scan_place ≡ Some r → scan s c ≡ (Passed, s') → s'.collection ≡ Some next → Goes s next w
-replica_passed s s' c next r w h found said is = go (r.object.raw || (c.scan_field == length r.object.fields)) (scan_before_end s s' c r Passed found (λ u t. (let no : Clean ≡ Passed = ap (λ (x : StepReply × State). x.0) t in cc)) said)
-  where
-    at : (o : Option Collection) → if_room s Scanned (next_field o) ≡ (Passed, s') → Goes s next w
-    at None t = absurd (let no : NoRoom ≡ Passed = ap (λ (x : StepReply × State). x.0) t in cc)
-    at (Some n) t = absurd (let no : Scanned ≡ Passed = ap (λ (x : StepReply × State). x.0) t in cc)
-
-    go : (b : Bool) → cond b (Passed, with_collection s (Some (next_object c r))) (if_room s Scanned (next_field (bring_up_to_date c s.heap.graph r.original c.scan_field))) ≡ (Passed, s') → Goes s next w
-    go true t = moved_on s.heap.graph.objects (heap_end s) c next w (sym (ap (λ (x : Collection). x.replicas) (came_of s s' Passed Passed (next_object c r) next t is))) h
-    go false t = at (bring_up_to_date c s.heap.graph r.original c.scan_field) t
+replica_passed s s' c next r w h found said is = grind (arith, common_steps, scan_before_end, moved_on, came_of)
 
 -- ---- `Apply`
 

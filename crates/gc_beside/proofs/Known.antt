@@ -1,10 +1,12 @@
 -- The tables of a standing checker know the collection after a step: a replica more, and a field compared.
-use Rattle.std.proofs.Common.{◌≡◌, ◌≢◌, ◌⊎◌, inl, inr, ⊎_elim, ℕ, zero, suc, ◌+◌, ◌-◌, ◌<◌, ◌≤◌, ◌==◌, Bool, true, false, not, List, [], ◌∷◌, ◌++◌, map, length, get_or, set, replicate, Some, refl, ap, sym, ◌∙◌, subst, arith, length-append}
+use Rattle.std.proofs.lemmas.Grind.{common_steps}
+use Rattle.std.proofs.Common.{◌≡◌, ◌≢◌, ◌⊎◌, inl, inr, ⊎_elim, ℕ, zero, suc, ◌+◌, ◌-◌, ◌<◌, ◌≤◌, ◌==◌, Bool, true, false, List, ◌++◌, map, length, get_or, set, replicate, Some, refl, ap, sym, ◌∙◌, subst, arith}
 use Rattle.std.specs.Prelude.{slice_get, slice_index}
 use Rattle.std.proofs.lemmas.Bool.{cases_Bool, cases_eq, eqb-true, eq-eqb}
-use Rattle.std.proofs.lemmas.List.{get_or-append_right, get_or-set_same, get_or-set_other, length-map}
+use Rattle.std.proofs.Math.Seq.{get_or-append_right}
+use Rattle.std.proofs.lemmas.List.{get_or_append_left, get_or-set_same, get_or-set_other, length-map}
 use Rattle.gc_graph.specs.Graph.{Object, lookup}
-use Rattle.gc_words.specs.Word.{read_header, field_words_correspond}
+use Rattle.gc_words.specs.Word.{field_words_correspond}
 use Rattle.gc_words.specs.Layout.{field_place}
 use Rattle.gc_words.specs.declared.header.Header.{Header}
 use Rattle.gc_plan.specs.State.{Replica, Collection, State, heap_end, new_end, pairs_of}
@@ -14,7 +16,6 @@ use Rattle.gc_plan.specs.Belonging.{IsDue, IsSpaceGraph, IsOpened}
 use Rattle.gc_plan.proofs.Public.{laid_apart, in_map, in_map_from, in_push, get_within, pair, placed, due_at_end}
 use Rattle.gc_along.specs.Claims.{OwesNone}
 use Rattle.gc_along.specs.Events.{code_of, object_codes, with_due, replica_added, Placed, Looked}
-use Rattle.gc_along.specs.Origins.{pairs_in}
 use Rattle.gc_along.specs.Tables.{Tables, IsKept, watch_of, due_in}
 use Rattle.gc_along.specs.Telling.{IsMark}
 use Rattle.gc_along.specs.Watch.{is_due, is_due_at}
@@ -32,30 +33,16 @@ use Rattle.gc_beside.proofs.Told.{marked_at}
 
 -- ---- codes
 
-at_front : (xs ys : List ℕ) (k : ℕ) → k < length xs → get_or (xs ++ ys) k 0 ≡ get_or xs k 0
-at_front [] ys k l = absurd (omega arith)
-at_front (x ∷ xs) ys zero l = refl
-at_front (x ∷ xs) ys (suc k) l = at_front xs ys k (omega arith)
-
-at_back : (xs ys : List ℕ) (k : ℕ) → length xs ≤ k → get_or (xs ++ ys) k 0 ≡ get_or ys (k - length xs) 0
-at_back xs ys k l = get_or-append_right xs ys (length xs) k 0 refl l
-
 repeated : (n x k : ℕ) → ((get_or (replicate n x) k 0 ≡ x) × (k < n)) ⊎ (get_or (replicate n x) k 0 ≡ 0)
 repeated zero x k = inr refl
 repeated (suc n) x zero = inl (refl, omega arith)
 repeated (suc n) x (suc k) = ⊎_elim (λ h. inl (h.0, (let l : k < n = h.1 in omega arith))) (λ h. inr h) (repeated n x k)
 
 due_codes : (n : ℕ) (due : Bool) (k : ℕ) → get_or (object_codes n (code_of due)) k 0 ≡ 3 → (due ≡ true) × (j : ℕ) × (k ≡ suc (suc j)) × (j < n)
-due_codes n due zero e = absurd (let no : 1 ≡ 3 = e in omega arith)
-due_codes n due (suc zero) e = absurd (let no : 0 ≡ 3 = e in omega arith)
-due_codes n true (suc (suc j)) e = (refl, j, refl, ⊎_elim (λ h. h.1) (λ h. absurd (let no : 0 ≡ 3 = sym h ∙ e in omega arith)) (repeated n 3 j))
-due_codes n false (suc (suc j)) e = absurd (let no : 0 ≡ 3 = ⊎_elim (λ h. sym h.0 ∙ e) (λ h. sym h ∙ e) (repeated n 0 j) in omega arith)
+due_codes n due k e = grind (arith, common_steps, repeated)
 
 no_two : (n : ℕ) (due : Bool) (k : ℕ) → get_or (object_codes n (code_of due)) k 0 ≢ 2
-no_two n due zero e = absurd (let no : 1 ≡ 2 = e in omega arith)
-no_two n due (suc zero) e = absurd (let no : 0 ≡ 2 = e in omega arith)
-no_two n true (suc (suc j)) e = absurd (⊎_elim (λ h. (let no : 3 ≡ 2 = sym h.0 ∙ e in omega arith)) (λ h. (let no : 0 ≡ 2 = sym h ∙ e in omega arith)) (repeated n 3 j))
-no_two n false (suc (suc j)) e = absurd (⊎_elim (λ h. (let no : 0 ≡ 2 = sym h.0 ∙ e in omega arith)) (λ h. (let no : 0 ≡ 2 = sym h ∙ e in omega arith)) (repeated n 0 j))
+no_two n due k e = grind (arith, common_steps, repeated)
 
 -- only the first word of an object has the mark of a start
 one_first : (n : ℕ) (due : Bool) (k : ℕ) → get_or (object_codes n (code_of due)) k 0 ≡ 1 → k ≡ 0
@@ -99,17 +86,7 @@ module _ (s : State) (c next : Collection) (t : Tables) (links : ℕ → ℕ) (h
       )
 
   old_field : (place : ℕ) → IsDueField (IsDue c) c.replicas place → IsDueField (IsDue c) next.replicas place
-  old_field place (r, l, i, small, at, d) =
-      let k = kin r l in
-      let is = k.2 in
-      let len : length k.0.object.fields ≡ length r.object.fields = is.len in (
-        k.0,
-        k.1,
-        i,
-        omega arith,
-        at ∙ ap (λ n. field_place n i) (sym is.place),
-        subst (λ raw. IsDue c raw k.0.place k.0.original i) (sym is.raw) (subst (λ n. IsDue c r.object.raw n k.0.original i) (sym is.place) (subst (λ n. IsDue c r.object.raw r.place n i) (sym is.original) d)),
-      )
+  old_field place h = grind (arith, common_steps, kin)
 
   old_taken : (a : ℕ) → get_or t.olds a 0 ≡ 2 → (r : Replica) × In r next.replicas × (r.original ≡ a)
   old_taken a e = let r = knows.marks.taken a e in let k = kin r.0 r.1 in (k.0, k.1, k.2.original ∙ r.2)
@@ -156,9 +133,9 @@ module _ (s : State) (c next : Collection) (t : Tables) (links : ℕ → ℕ) (h
           let three : get_or (t.news ++ codes) place 0 ≡ 3 = eqb-true (get_or (t.news ++ codes) place 0) 3 (sym (due_at (t.news ++ codes) place) ∙ d) in
           elim (cases_Bool (Rattle.std.proofs.Common.nat_lt place (length t.news))) [
             | inl y ↦ (let l : place < length t.news = Rattle.std.proofs.lemmas.Bool.ltb-true place (length t.news) y in
-                old_field place (knows.due place (due_at t.news place ∙ eq-eqb (get_or t.news place 0) 3 (sym (at_front t.news codes place l) ∙ three))))
+                old_field place (knows.due place (due_at t.news place ∙ eq-eqb (get_or t.news place 0) 3 (sym (get_or_append_left t.news codes 0 place l) ∙ three))))
             | inr n ↦ (let l : length t.news ≤ place = Rattle.std.proofs.lemmas.Bool.ltb-false place (length t.news) n in
-                let new = due_codes h.len due (place - length t.news) (sym (at_back t.news codes place l) ∙ three) in
+                let new = due_codes h.len due (place - length t.news) (sym (get_or-append_right t.news codes place 0 l) ∙ three) in
                 let j = new.1 in
                 let k : place - length t.news ≡ suc (suc j) = new.2 in
                 let p : length t.news ≡ q.place = place_is in (
@@ -188,7 +165,7 @@ module _ (s : State) (c next : Collection) (t : Tables) (links : ℕ → ℕ) (h
             subst (λ n. get_or (t.news ++ codes) n 0 ≡ 1) (ap (λ (p : ℕ × ℕ). p.1) p.2) (in_front t.news codes p.0.place 0 (knows.marks.news p.0 p.1))))
             (λ is. (let at : length t.news ≡ r.place = seen ∙ ap (λ (p : ℕ × ℕ). p.1) is in
             let none : r.place - length t.news ≡ 0 = omega arith in
-            at_back t.news codes r.place (omega arith) ∙ ap (λ n. get_or codes n 0) none))
+            get_or-append_right t.news codes r.place 0 (omega arith) ∙ ap (λ n. get_or codes n 0) none))
             (in_push (pair r) (q.original, new_end c) (map pair c.replicas) (subst (In (pair r)) added.pairs (in_map pair r next.replicas l)));
         places = λ b e. elim (cases_Bool (Rattle.std.proofs.Common.nat_lt b (length t.news))) [
           | inl y ↦ old_places b (sym (at_front t.news codes b (Rattle.std.proofs.lemmas.Bool.ltb-true b (length t.news) y)) ∙ e)
@@ -197,8 +174,8 @@ module _ (s : State) (c next : Collection) (t : Tables) (links : ℕ → ℕ) (h
               let p : length t.news ≡ q.place = place_is in (q, added.there, omega arith))
         ];
         free = λ b e. elim (cases_Bool (Rattle.std.proofs.Common.nat_lt b (length t.news))) [
-          | inl y ↦ knows.marks.free b (sym (at_front t.news codes b (Rattle.std.proofs.lemmas.Bool.ltb-true b (length t.news) y)) ∙ e)
-          | inr n ↦ no_two h.len due (b - length t.news) (sym (at_back t.news codes b (Rattle.std.proofs.lemmas.Bool.ltb-false b (length t.news) n)) ∙ e)
+          | inl y ↦ knows.marks.free b (sym (get_or_append_left t.news codes 0 b (Rattle.std.proofs.lemmas.Bool.ltb-true b (length t.news) y)) ∙ e)
+          | inr n ↦ no_two h.len due (b - length t.news) (sym (get_or-append_right t.news codes b 0 (Rattle.std.proofs.lemmas.Bool.ltb-false b (length t.news) n)) ∙ e)
         ];
       };
     }
@@ -241,7 +218,7 @@ module _ (s : State) (c next : Collection) (t : Tables) (links : ℕ → ℕ) (h
 
 module _ (Due : Bool → ℕ → ℕ → ℕ → Type 0) (s : State) (next : Collection) (links : ℕ → ℕ) (heap : IsSpaceGraph s.size s.heap.free s.heap.graph) (opened : IsOpened s next) (mid : Tables) (fits : Fits (heap_end s) next (watch_of mid)) where
   -- the field that was written corresponds, if the collector's step brings it up to date
-  pub agrees : (q : Replica) (i : ℕ) → In q next.replicas → i < length q.object.fields → Goes s next (watch_of (with_due mid (field_place q.place i) false))
+  agrees : (q : Replica) (i : ℕ) → In q next.replicas → i < length q.object.fields → Goes s next (watch_of (with_due mid (field_place q.place i) false))
       → field_words_correspond (object_header q.object) (pairs_of next) (slice_index (heap_words links s) (field_place q.original i)) (slice_index (replica_words next) (field_place q.place i)) ≡ true
   agrees q i l small goes =
       let ok = opened.belongs.replicas q l in
@@ -264,18 +241,7 @@ module _ (Due : Bool → ℕ → ℕ → ℕ → Type 0) (s : State) (next : Col
   -- so a look finds that it is due no more
   pub looked_is : (after : Tables) (q : Replica) (b i : ℕ) → In q next.replicas → q.place ≡ b → 1 ≤ q.original → Goes s next (watch_of (with_due mid (field_place b i) false))
       → get_or mid.origins b 0 ≡ q.original → Looked (heap_words links s) (replica_words next) b i mid after → (after ≡ with_due mid (field_place b i) false) × (i < length q.object.fields)
-  looked_is after q b i l place low goes origin is =
-      let h = is.0 in
-      let header : h ≡ object_header q.object = (let one : Some h ≡ Some (object_header q.object) = sym is.2.header ∙ (ap (λ n. read_header (slice_index (replica_words next) n)) (sym place) ∙ ((replicas_shown s next links heap opened).each q l).header) in cc) in
-      let len : h.len ≡ length q.object.fields = ap (λ (h : Header). h.len) header in
-      let small : i < h.len = is.2.has_field in
-      let less : i < length q.object.fields = omega arith in
-      let name : is.1 ≡ q.original = sym is.2.origin ∙ origin in
-      let pairs : pairs_in mid.origins ≡ pairs_of next = fits.pairs in
-      let yes = agrees q i l less (subst (λ n. Goes s next (watch_of (with_due mid (field_place n i) false))) (sym place) goes) in
-      let same : field_words_correspond h (pairs_in mid.origins) (slice_index (heap_words links s) (field_place is.1 i)) (slice_index (replica_words next) (field_place b i)) ≡ true
-      = (λ j. field_words_correspond (header j) (pairs j) (slice_index (heap_words links s) (field_place (name j) i)) (slice_index (replica_words next) (field_place (sym place j) i))) ∙ yes in
-      (is.5 ∙ ap (λ x. with_due mid (field_place b i) (not x)) same, less)
+  looked_is after q b i l place low goes origin is = grind (arith, common_steps, replicas_shown, agrees)
 
   -- field i of a replica is due no more
   pub looked_known : (q : Replica) (i : ℕ) → In q next.replicas → i < length q.object.fields → KnowsBy Due s next mid

@@ -1,5 +1,4 @@
 -- Lemmas about a standing checker beside a collection: what events do to its watch, what its tables know, and that it goes along.
-pub mod Bringing
 pub mod Stays
 pub mod Words
 pub mod Events

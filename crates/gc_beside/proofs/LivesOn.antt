@@ -1,10 +1,11 @@
 -- A standing checker beside a heap stays lost, or goes along: the mutators' commands.
+use Rattle.std.proofs.lemmas.Grind.{common_steps}
 use Rattle.std.proofs.Common.{◌≡◌, ◌⊎◌, inl, inr, ⊎_elim, ℕ, ◌+◌, ◌-◌, ◌<◌, ◌≤◌, nat_lt, Bool, true, false, [], ◌∷◌, ◌++◌, length, Option, Some, None, refl, ap, sym, ◌∙◌, subst, arith, length-append}
 use Rattle.std.specs.Prelude.{slice_index}
 use Rattle.std.proofs.lemmas.Bool.{cond_both, ltb-false}
 use Rattle.std.proofs.lemmas.List.{length-replicate}
 use Rattle.gc_graph.specs.Graph.{Object, Graph, new_object}
-use Rattle.gc_graph.specs.Machine.{Roomy, words_taken, roomy_step, MakesObject}
+use Rattle.gc_graph.specs.Machine.{Roomy, words_taken, roomy_step}
 use Rattle.gc_graph.specs.declared.command.Op.{Op}
 use Rattle.gc_graph.specs.declared.command.Op.TheVariants as ops
 use Rattle.gc_graph.specs.declared.reply.Reply.{Reply}
@@ -72,7 +73,7 @@ module _ (s s' : State) (m : ℕ) (op : Op) (reply : Reply) (t after : Tables) (
   there c e = sym (ap (λ (x : Reply × State). x.1.collection) said) ∙ ap (λ o. logged o m (written s.heap.graph m op (roomy_step s.heap m op (heap_end s)).0)) e
 
   -- with what holds of the later tables, beside an open collection and beside none
-  pub by_command : (t.lost ≡ true → after.lost ≡ true)
+  by_command : (t.lost ≡ true → after.lost ≡ true)
       → (after.lost ≡ false → s.collection ≡ None → watch_of t ≡ opening (heap_end s) → watch_of after ≡ opening (heap_end s'))
       → (after.lost ≡ false → (c : Collection) → s.collection ≡ Some c → IsOpened s c → Goes s c (watch_of t)
       → Fits (heap_end s') c (watch_of after) × MarksWritten (λ a i. In {X = ℕ × ℕ} (a, i) (written s.heap.graph m op reply)) (watch_of t) c (watch_of after))
@@ -88,21 +89,15 @@ module _ (s s' : State) (m : ℕ) (op : Op) (reply : Reply) (t after : Tables) (
           (record { pairs = h.0.pairs; old_seen = h.0.old_seen; new_seen = h.0.new_seen; row = h.0.row }) h.1)
 
   -- a command that takes no words leaves the end
-  pub end_stays : words_taken op ≡ 0 → heap_end s ≡ heap_end s'
-  end_stays none = (λ i. size_is i - (free ∙ ap (λ (r : Roomy). r.free) heap_is) i)
-    where
-      free : s.heap.free ≡ (roomy_step s.heap m op (heap_end s)).1.free
-      free = cond_both (nat_lt s.heap.free (words_taken op)) _ _ (λ (next : Reply × Roomy). s.heap.free ≡ next.1.free) (λ full. refl) (λ fits. (let e : s.heap.free ≡ s.heap.free - words_taken op = omega arith in e))
+  end_stays : words_taken op ≡ 0 → heap_end s ≡ heap_end s'
+  end_stays none = grind (arith, common_steps, size_is, heap_is, cond_both)
 
   refits : (c : Collection) → words_taken op ≡ 0 → Fits (heap_end s) c (watch_of t) → Fits (heap_end s') c (watch_of t)
   refits c none f = subst (λ n. Fits n c (watch_of t)) (end_stays none) f
 
   -- a command that neither makes an object nor writes a field
   pub lives_quiet : words_taken op ≡ 0 → written s.heap.graph m op reply ≡ [] → after ≡ t → IsLive s t → IsLive s' after
-  lives_quiet none quiet same = by_command (λ y. ap (λ (t : Tables). t.lost) same ∙ y)
-      (λ n e w. ap watch_of same ∙ (w ∙ ap opening (end_stays none)))
-      (λ n c e k g. subst (λ (t' : Tables). Fits (heap_end s') c (watch_of t') × MarksWritten (λ a i. In {X = ℕ × ℕ} (a, i) (written s.heap.graph m op reply)) (watch_of t) c (watch_of t')) (sym same)
-      (refits c none g.fits, λ r l j u. ⊎_elim (λ d. d) (λ w. absurd (subst (λ ws. In {X = ℕ × ℕ} (r.original, j) ws) quiet w))))
+  lives_quiet none quiet same = grind (arith, common_steps, by_command, end_stays, refits)
 
   -- a field written, which was told
   pub lives_written : (a i : ℕ) → words_taken op ≡ 0 → 1 ≤ a → written s.heap.graph m op reply ≡ (a, i) ∷ [] → (s.collection ≡ None → ⊥) → (t.lost ≡ true → after.lost ≡ true) → (after.lost ≡ false → Wrote a i t after) → IsLive s t → IsLive s' after
@@ -113,7 +108,7 @@ module _ (s s' : State) (m : ℕ) (op : Op) (reply : Reply) (t after : Tables) (
       (refits c none g.fits) (wrote n))
 
   -- an object made
-  pub lives_made : (links : ℕ → ℕ) → IsSpaceGraph s.size s.heap.free s.heap.graph → IsSpaceGraph s'.size s'.heap.free s'.heap.graph → (e : Object) → (full : (roomy_step s.heap m op (heap_end s)).1 ≡ s.heap ⊎ (In (heap_end s, e) s'.heap.graph.objects × (heap_end s + (length e.fields + 2) ≡ heap_end s')))
+  lives_made : (links : ℕ → ℕ) → IsSpaceGraph s.size s.heap.free s.heap.graph → IsSpaceGraph s'.size s'.heap.free s'.heap.graph → (e : Object) → (full : (roomy_step s.heap m op (heap_end s)).1 ≡ s.heap ⊎ (In (heap_end s, e) s'.heap.graph.objects × (heap_end s + (length e.fields + 2) ≡ heap_end s')))
       → written s.heap.graph m op reply ≡ [] → (t.lost ≡ true → after.lost ≡ true) → (after.lost ≡ false → Made (heap_words links s') t after) → IsLive s t → IsLive s' after
   lives_made links before later e cases quiet lost made = by_command lost
       (λ n f w. (let seen : length t.olds ≡ heap_end s = ap (λ (w : Watch). w.old_seen) w in let d = grown s s' t after links later one_more seen (made n) in
@@ -182,13 +177,10 @@ lives_new s s' m op reply t after raw d kind len links is is_open said before la
 -- ---- `put`
 
 pub not_done : (g : Graph) (m : ℕ) (op : Op) (reply : Reply) → (reply ≡ replies.Done → ⊥) → written g m op reply ≡ []
-not_done g m (ops.Put s i t) replies.Done n = absurd (n refl)
-not_done g m op reply n = refl
+not_done g m op reply n = grind (arith, common_steps)
 
 pub lives_unopened : (s s' : State) (m : ℕ) (op : Op) (reply : Reply) (t : Tables) → mutate s m op ≡ (reply, s') → words_taken op ≡ 0 → s.collection ≡ None → IsLive s t → IsLive s' t
-lives_unopened s s' m op reply t said none closed live = by_command s s' m op reply t t (subst (IsOpen s) (sym closed) tt) said (λ y. y)
-    (λ n e w. w ∙ ap opening (end_stays s s' m op reply t t (subst (IsOpen s) (sym closed) tt) said none))
-    (λ n c e k g. absurd (let no : None ≡ Some c = sym closed ∙ e in cc)) live
+lives_unopened s s' m op reply t said none closed live = grind (arith, common_steps, by_command, end_stays)
 
 pub lives_put_quiet : (s s' : State) (m : ℕ) (op : Op) (reply : Reply) (t : Tables) → IsOpen s s.collection → mutate s m op ≡ (reply, s') → words_taken op ≡ 0 → (reply ≡ replies.Done → ⊥) → IsLive s t → IsLive s' t
 lives_put_quiet s s' m op reply t is_open said none n live = lives_quiet s s' m op reply t t is_open said none (not_done s.heap.graph m op reply n) refl live

@@ -1,8 +1,9 @@
 -- A standing checker beside a heap stays lost, or goes along: calls that are several commands.
-use Rattle.std.proofs.Common.{◌≡◌, ◌⊎◌, inl, inr, ⊎_elim, ℕ, ◌-◌, ◌≤◌, true, false, arith, ◌&&◌, not, List, [], ◌∷◌, nat_lt, Option, Some, None, refl, ap, sym, ◌∙◌, subst}
+use Rattle.std.proofs.lemmas.Grind.{common_steps}
+use Rattle.std.proofs.Common.{◌≡◌, ◌⊎◌, inl, inr, ⊎_elim, ℕ, ◌≤◌, true, false, arith, List, [], ◌∷◌, Option, Some, None, refl, ap, sym, ◌∙◌, subst}
 use Rattle.std.proofs.lemmas.Bool.{cond_both}
-use Rattle.gc_graph.specs.Graph.{Value, Nil, Num, Ref, Object, Graph}
-use Rattle.gc_graph.specs.Machine.{Roomy, roomy_step, words_taken, put_field, is_number}
+use Rattle.gc_graph.specs.Graph.{Value, Object, Graph}
+use Rattle.gc_graph.specs.Machine.{words_taken, put_field}
 use Rattle.gc_graph.specs.Slots.{SlotName}
 use Rattle.gc_graph.specs.declared.command.Op.{Op}
 use Rattle.gc_graph.specs.declared.command.Op.TheVariants as ops
@@ -23,7 +24,7 @@ use Rattle.gc_beside.proofs.Told.{told_wrote}
 use Rattle.gc_beside.proofs.Lives.{or_lost}
 
 -- the open collections before and after commands have the same replicas
-abbrev pub SameReplicas : Option Collection → Option Collection → Type 0
+abbrev SameReplicas : Option Collection → Option Collection → Type 0
 SameReplicas None None = Unit {0}
 SameReplicas None (Some d) = ⊥
 SameReplicas (Some c) None = ⊥
@@ -35,16 +36,10 @@ pub record Leads (s s' : State) (Written : ℕ → ℕ → Type 0) : Type 0 wher
   pub evolves : Evolves s.heap.graph.objects s'.heap.graph.objects Written
 
 pub same_itself : (o : Option Collection) → SameReplicas o o
-same_itself None = tt
-same_itself (Some c) = refl
+same_itself o = grind (arith, common_steps)
 
 same_trans : (o p q : Option Collection) → SameReplicas o p → SameReplicas p q → SameReplicas o q
-same_trans None None None h k = tt
-same_trans None None (Some d) h k = absurd k
-same_trans None (Some d) q h k = absurd h
-same_trans (Some c) None q h k = absurd h
-same_trans (Some c) (Some d) None h k = absurd k
-same_trans (Some c) (Some d) (Some e) h k = k ∙ h
+same_trans o p q h k = grind (arith, common_steps)
 
 pub leads_on : (s mid s' : State) (One Two All : ℕ → ℕ → Type 0) → ((a i : ℕ) → One a i → All a i) → ((a i : ℕ) → Two a i → All a i) → Leads s mid One → Leads mid s' Two → Leads s s' All
 leads_on s mid s' One Two All f g h k = record {
@@ -63,14 +58,10 @@ leads_on s mid s' One Two All f g h k = record {
 }
 
 logged_same : (o : Option Collection) (m : ℕ) (l : List (ℕ × ℕ)) → SameReplicas o (logged o m l)
-logged_same None m l = tt
-logged_same (Some c) m l = refl
+logged_same o m l = grind (arith, common_steps)
 
 pub leads_one : (s s' : State) (m : ℕ) (op : Op) (reply : Reply) → mutate s m op ≡ (reply, s') → Leads s s' (WrittenBy s.heap.graph m op reply)
-leads_one s s' m op reply said = subst (λ (x : Reply × State). Leads s x.1 (WrittenBy s.heap.graph m op x.0)) said (record {
-  collection = logged_same s.collection m _;
-  evolves = command_evolves s.heap m op (heap_end s);
-})
+leads_one s s' m op reply said = grind (arith, common_steps, logged_same, command_evolves)
 
 pub lives_through : (s s' : State) (t after : Tables) (Written : ℕ → ℕ → Type 0) → IsOpen s s.collection → Leads s s' Written → (t.lost ≡ true → after.lost ≡ true)
     → (after.lost ≡ false → s.collection ≡ None → watch_of t ≡ opening (heap_end s) → watch_of after ≡ opening (heap_end s'))
@@ -90,23 +81,15 @@ lives_through s s' t after Written is_open leads lost none some = or_lost s s' t
 -- ---- a number put
 
 put_roots_in : (g : Graph) (v : Value) (target : Option Object) (found : Option Value) (i : ℕ) (w : Value) → (put_field g v target found i w).1.roots ≡ g.roots
-put_roots_in g Nil target found i w = refl
-put_roots_in g (Num n) target found i w = refl
-put_roots_in g (Ref a) None found i w = refl
-put_roots_in g (Ref a) (Some o) None i w = refl
-put_roots_in g (Ref a) (Some o) (Some before) i w = cond_both (o.raw && not (is_number w)) _ _ (λ (next : Reply × Graph). next.1.roots ≡ g.roots) (λ f. refl) (λ f. refl)
+put_roots_in g v target found i w = grind (arith, common_steps, cond_both)
 
 -- a `put` leaves the roots
 pub put_roots : (s s' : State) (m : ℕ) (d : SlotName) (i : ℕ) (v : SlotName) (reply : Reply) → mutate s m (ops.Put d i v) ≡ (reply, s') → s'.heap.graph.roots ≡ s.heap.graph.roots
-put_roots s s' m d i v reply said = subst (λ (x : Reply × State). x.1.heap.graph.roots ≡ s.heap.graph.roots) said
-    (cond_both (nat_lt s.heap.free 0) _ _ (λ (next : Reply × Roomy). next.1.graph.roots ≡ s.heap.graph.roots) (λ full. refl) (λ fits. put_roots_in s.heap.graph _ _ _ i _))
+put_roots s s' m d i v reply said = grind (arith, common_steps, cond_both, put_roots_in)
 
 -- a command that takes no words leaves the end
 pub end_by : (s s' : State) (m : ℕ) (op : Op) (reply : Reply) → mutate s m op ≡ (reply, s') → words_taken op ≡ 0 → heap_end s ≡ heap_end s'
-end_by s s' m op reply said none = subst (λ (x : Reply × State). heap_end s ≡ heap_end x.1) said (ap (λ n. s.size - n) free)
-  where
-    free : s.heap.free ≡ (roomy_step s.heap m op (heap_end s)).1.free
-    free = cond_both (nat_lt s.heap.free (words_taken op)) _ _ (λ (next : Reply × Roomy). s.heap.free ≡ next.1.free) (λ full. refl) (λ fits. (let e : s.heap.free ≡ s.heap.free - words_taken op = omega arith in e))
+end_by s s' m op reply said none = grind (arith, common_steps, cond_both)
 
 pub lives_number : (s mid s' : State) (m : ℕ) (op : Op) (one reply : Reply) (put : Op) (t after : Tables) (a i : ℕ) → IsOpen s s.collection → mutate s m op ≡ (one, mid) → words_taken op ≡ 0 → written s.heap.graph m op one ≡ []
     → mutate mid m put ≡ (reply, s') → words_taken put ≡ 0 → ((written mid.heap.graph m put reply ≡ []) × (after ≡ t)) ⊎ ((1 ≤ a) × (written mid.heap.graph m put reply ≡ (a, i) ∷ []) × ((t.lost ≡ true → after.lost ≡ true) × (after.lost ≡ false → Wrote a i t after)))
@@ -136,20 +119,8 @@ lives_number s mid s' m op one reply put t after a i is_open first none quiet se
 
 -- while no collection is open
 pub lives_number_closed : (s mid s' : State) (m : ℕ) (op : Op) (one reply : Reply) (put : Op) (t : Tables) → mutate s m op ≡ (one, mid) → words_taken op ≡ 0 → mutate mid m put ≡ (reply, s') → words_taken put ≡ 0 → s'.collection ≡ None → IsLive s t → IsLive s' t
-lives_number_closed s mid s' m op one reply put t first none second none' closed live = or_lost s s' t t (λ y. y) (λ n goes. go s.collection goes (same_trans s.collection mid.collection s'.collection (leads_one s mid m op one first).collection (leads_one mid s' m put reply second).collection)) live
-  where
-    at : (p : Option Collection) → p ≡ None → (o : Option Collection) → GoesBeside s o (watch_of t) → SameReplicas o p → GoesBeside s' None (watch_of t)
-    at p e None w same = w ∙ ap opening (end_by s mid m op one first none ∙ end_by mid s' m put reply second none')
-    at None e (Some c) w same = absurd same
-    at (Some d) e (Some c) w same = absurd (let no : Some d ≡ None = e in cc)
-
-    go : (o : Option Collection) → GoesBeside s o (watch_of t) → SameReplicas o s'.collection → GoesBeside s' s'.collection (watch_of t)
-    go o w same = subst (λ p. GoesBeside s' p (watch_of t)) (sym closed) (at s'.collection closed o w same)
+lives_number_closed s mid s' m op one reply put t first none second none' closed live = grind (arith, common_steps, or_lost, same_trans, leads_one, end_by)
 
 -- where one is open after two commands one was before them
 pub was_open : (s mid s' : State) (m : ℕ) (op : Op) (one reply : Reply) (put : Op) → mutate s m op ≡ (one, mid) → mutate mid m put ≡ (reply, s') → (s'.collection ≡ None → ⊥) → s.collection ≡ None → ⊥
-was_open s mid s' m op one reply put first second later before = later (go s'.collection (subst (λ o. SameReplicas o s'.collection) before (same_trans s.collection mid.collection s'.collection (leads_one s mid m op one first).collection (leads_one mid s' m put reply second).collection)))
-  where
-    go : (p : Option Collection) → SameReplicas None p → p ≡ None
-    go None same = refl
-    go (Some d) same = absurd same
+was_open s mid s' m op one reply put first second later before = grind (arith, common_steps, same_trans, leads_one)

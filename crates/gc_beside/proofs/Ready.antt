@@ -5,7 +5,7 @@ use Rattle.std.specs.List.{AllZip}
 use Rattle.std.proofs.lemmas.Bool.{cases_Bool}
 use Rattle.gc_words.specs.Image.{Image, IsShaped}
 use Rattle.gc_words.specs.Word.{words_correspond}
-use Rattle.gc_plan.specs.State.{Collection, State, heap_end}
+use Rattle.gc_plan.specs.State.{Collection, State}
 use Rattle.gc_plan.specs.Steps.{is_ready}
 use Rattle.gc_plan.specs.Linked.{old_image, new_image, old_links, new_links}
 use Rattle.gc_plan.specs.Belonging.{IsSpaceGraph, IsOpened}

@@ -1,16 +1,16 @@
 -- A watch beside a collection, through the collector's steps and the mutators' commands.
-use Rattle.std.proofs.Common.{◌≡◌, ◌⊎◌, inl, inr, ⊎_elim, ℕ, ◌≤◌, Bool, false, List, map, Some, None, refl, ap, sym, ◌∙◌, subst, arith}
+use Rattle.std.proofs.lemmas.Grind.{common_steps}
+use Rattle.std.proofs.Common.{◌≡◌, ◌⊎◌, inl, inr, ⊎_elim, ℕ, ◌≤◌, Bool, false, List, map, Some, None, refl, arith}
 use Rattle.std.specs.Prelude.{IsTrue}
 use Rattle.std.proofs.lemmas.Bool.{cases_eq}
 use Rattle.gc_graph.specs.Graph.{Object, Graph, lookup}
 use Rattle.gc_plan.specs.State.{Collection, new_objects, new_end, replica_of}
 use Rattle.gc_plan.specs.Steps.{place_replica, bring_up_to_date, fresh_collection}
-use Rattle.gc_plan.specs.Members.{In, Distinct}
-use Rattle.gc_plan.specs.Belonging.{Laid, HasRawNumbers, IsReplica, Belongs}
-use Rattle.gc_plan.proofs.Public.{Evolves, pair, replicas_end, AreReplicas, replicas_due, replicas_evolve}
+use Rattle.gc_plan.specs.Members.{Distinct}
+use Rattle.gc_plan.specs.Belonging.{Laid, HasRawNumbers, Belongs}
+use Rattle.gc_plan.proofs.Public.{Evolves, Grown, placing, bringing, pair, replicas_end, AreReplicas, replicas_due, replicas_evolve}
 use Rattle.gc_along.specs.Watch.{Watch, is_due, opening}
 use Rattle.gc_beside.specs.Stays.{DueFor, Fits, GoesAlong, LosesOnly, LosesNone, MarksWritten}
-use Rattle.gc_beside.proofs.Bringing.{Grown, placing, bringing}
 
 -- what the steps need of a collection, whatever its logs and its scan pointer
 pub record Sound (objects : List (ℕ × Object)) (c : Collection) : Type 0 where
@@ -34,10 +34,7 @@ abbrev But : ℕ → ℕ → (Bool → ℕ → ℕ → ℕ → Type 0) → Bool 
 But name i Due raw p a j = Due raw p a j × ((a ≡ name) × (j ≡ i) → ⊥)
 
 but_less : (name i : ℕ) (Due : Bool → ℕ → ℕ → ℕ → Type 0) (raw : Bool) (p a j : ℕ) → Due raw p a j → ((a ≡ name) × (j ≡ i)) ⊎ But name i Due raw p a j
-but_less name i Due raw p a j d = ⊎_elim
-    (λ x. ⊎_elim (λ y. inl (x, y)) (λ y. inr (d, (λ z. y z.1))) (cases_eq j i))
-    (λ x. inr (d, (λ z. x z.0)))
-    (cases_eq a name)
+but_less name i Due raw p a j d = grind (arith, common_steps, cases_eq)
 
 along : (objects : List (ℕ × Object)) (end : ℕ) (c : Collection) (w : Watch) → Sound objects c → GoesAlong objects end c w → AreReplicas objects c.size (Before (replicas_end c.replicas) w) c.replicas
 along objects end c w k h = replicas_due objects c.size (DueFor w) (Before (replicas_end c.replicas) w) c.replicas (watched objects end c w k h) (λ r l i m d. inr d)
@@ -97,20 +94,9 @@ commanded before after Written end end' c w later k h evolves fits marks = recor
 -- ---- the beginning
 
 pub begun : (objects : List (ℕ × Object)) (end mutators size : ℕ) → GoesAlong objects end (fresh_collection mutators size) (opening end)
-begun objects end mutators size = record {
-  fits = record { pairs = refl; old_seen = refl; new_seen = refl; row = refl };
-  replicas = λ r l. absurd l;
-}
+begun objects end mutators size = grind (arith, common_steps)
 
 -- ---- the scan pointer and the logs do not matter
 
 pub moved_on : (objects : List (ℕ × Object)) (end : ℕ) (c next : Collection) (w : Watch) → next.replicas ≡ c.replicas → GoesAlong objects end c w → GoesAlong objects end next w
-moved_on objects end c next w same h = record {
-  fits = record {
-    pairs = h.fits.pairs ∙ ap (map pair) (sym same);
-    old_seen = h.fits.old_seen;
-    new_seen = h.fits.new_seen ∙ ap replicas_end (sym same);
-    row = h.fits.row;
-  };
-  replicas = λ r l. subst (λ rs. IsReplica objects (map pair rs) (DueFor w) r) (sym same) (h.replicas r (subst (In r) same l));
-}
+moved_on objects end c next w same h = grind (arith, common_steps, pair, replicas_end)

@@ -1,16 +1,17 @@
 -- The tables of a standing checker know the collection through the collector's steps, and it is not lost at any.
-use Rattle.std.proofs.Common.{◌≡◌, ◌≢◌, ◌⊎◌, inl, inr, ⊎_elim, ℕ, suc, ◌+◌, ◌<◌, ◌≤◌, ◌==◌, Bool, true, false, List, [], ◌∷◌, map, length, get_or, Option, Some, None, refl, ap, sym, ◌∙◌, subst, arith}
+use Rattle.std.proofs.lemmas.Grind.{common_steps}
+use Rattle.std.proofs.Common.{◌≡◌, ◌≢◌, ◌⊎◌, inl, inr, ⊎_elim, ℕ, suc, ◌+◌, ◌<◌, ◌≤◌, ◌==◌, Bool, true, false, List, ◌∷◌, map, length, get_or, Some, None, refl, ap, sym, ◌∙◌, subst, arith}
 use Rattle.std.specs.Prelude.{slice_get, slice_set}
 use Rattle.std.proofs.lemmas.Bool.{cases_eq, eqb-true, eq-eqb, or_cases}
 use Rattle.gc_graph.specs.Graph.{Object, lookup}
 use Rattle.gc_words.specs.Layout.{field_place}
-use Rattle.gc_plan.specs.State.{Replica, Collection, State, heap_end, new_end, new_objects}
+use Rattle.gc_plan.specs.State.{Replica, Collection, State, heap_end, new_end}
 use Rattle.gc_plan.specs.Linked.{LeadsTo}
-use Rattle.gc_plan.specs.Steps.{log_at, log_or_nil, with_log, root_target, copy_root, scan, apply_log, next_object}
+use Rattle.gc_plan.specs.Steps.{log_at, log_or_nil, with_log, root_target, copy_root, scan, apply_log}
 use Rattle.gc_plan.specs.Members.{In}
 use Rattle.gc_plan.specs.Belonging.{IsDue, IsLogged, IsUnscanned, IsScanPlace, IsSpaceGraph, IsOpened}
 use Rattle.gc_plan.specs.declared.step.StepReply.TheVariants.{Copied, Passed, Scanned, Applied}
-use Rattle.gc_plan.proofs.Public.{laid_apart, find_some, get_past, get_set_same, get_set_other, in_map, pair, placed, same_place}
+use Rattle.gc_plan.proofs.Public.{laid_apart, find_some, get_past, get_set_same, get_set_other, in_map, pair, placed, same_original, same_place}
 use Rattle.gc_along.specs.Claims.{CanPlace, CanLook, CanApply, OwesNone}
 use Rattle.gc_along.specs.Events.{Placed, Looked, Applied as AppliedTo, with_due}
 use Rattle.gc_along.specs.Tables.{Tables, watch_of}
@@ -24,18 +25,12 @@ use Rattle.gc_beside.proofs.Claimed.{origin_is, is_at, can_place, can_look, can_
 use Rattle.gc_beside.proofs.Events.{Goes, field_scanned, entry_applied}
 use Rattle.gc_beside.proofs.Growth.{Adds, adds_none, adds_placed, adds_brought, adds_alike}
 use Rattle.gc_beside.proofs.Known.{KnowsBy, placed_known, looked_is, looked_known}
-use Rattle.gc_beside.proofs.Told.{Told, told_placed, told_marked, replica_there, same_original}
+use Rattle.gc_beside.proofs.Told.{Told, told_placed, told_marked, replica_there}
 
 -- what is known in one sense is known in another, if each field that is due in the first is in the second
-pub knows_from : (Due : Bool → ℕ → ℕ → ℕ → Type 0) (s : State) (c : Collection) (t : Tables) → KnowsBy Due s c t → s.size ≤ t.room → c.size ≤ t.room
+knows_from : (Due : Bool → ℕ → ℕ → ℕ → Type 0) (s : State) (c : Collection) (t : Tables) → KnowsBy Due s c t → s.size ≤ t.room → c.size ≤ t.room
     → ((r : Replica) → In r c.replicas → (i : ℕ) → i < length r.object.fields → Due r.object.raw r.place r.original i → IsDue c r.object.raw r.place r.original i) → Knows s c t
-knows_from Due s c t h old_room new_room less = record {
-  kept = h.kept;
-  due = λ place d. let f = h.due place d in (f.0, f.1, f.2, f.3, f.4, less f.0 f.1 f.2 f.3 f.5);
-  marks = h.marks;
-  old_room = old_room;
-  new_room = new_room;
-}
+knows_from Due s c t h old_room new_room less = grind (arith, common_steps)
 
 logged_same : (c next : Collection) (a i : ℕ) → next.logs ≡ c.logs → IsLogged c a i → IsLogged next a i
 logged_same c next a i same (k, l) = (k, subst (λ logs. In {X = ℕ × ℕ} (a, i) (log_or_nil (slice_get logs k))) (sym same) l)
@@ -47,20 +42,7 @@ unscanned_same c next p i place field u = ⊎_elim (λ l. inl (omega arith)) (λ
 
 log_out : (logs : List (List (ℕ × ℕ))) (m : ℕ) (entry : ℕ × ℕ) (rest : List (ℕ × ℕ)) (k : ℕ) (e : ℕ × ℕ) → log_or_nil (slice_get logs m) ≡ entry ∷ rest → In e (log_or_nil (slice_get logs k))
     → (entry ≡ e) ⊎ In e (log_or_nil (slice_get (slice_set logs m rest) k))
-log_out logs m entry rest k e is l = elim (cases_eq k m) [
-  | inl same ↦ ⊎_elim
-      (λ here. inl here)
-      (λ later. inr (subst (In e) (sym (ap (λ n. log_or_nil (slice_get (slice_set logs m rest) n)) same ∙ ap log_or_nil (get_set_same logs m rest within))) later))
-      (subst (In e) (ap (λ n. log_or_nil (slice_get logs n)) same ∙ is) l)
-  | inr other ↦ inr (subst (λ o. In e (log_or_nil o)) (sym (get_set_other logs m k rest other)) l)
-]
-  where
-    within : m < length logs
-    within = go (slice_get logs m) refl is
-      where
-        go : (o : Option (List (ℕ × ℕ))) → slice_get logs m ≡ o → log_or_nil o ≡ entry ∷ rest → m < length logs
-        go None f h = absurd (let no : [] ≡ entry ∷ rest = h in cc)
-        go (Some log) f h = get_past logs m log f
+log_out logs m entry rest k e is l = grind (arith, common_steps, cases_eq, get_set_same, get_set_other, get_past)
 
 module _ (s : State) (c next : Collection) (t : Tables) (links : ℕ → ℕ) (heap : IsSpaceGraph s.size s.heap.free s.heap.graph) (before : IsOpened s c) (opened : IsOpened s next) (goes : Goes s c (watch_of t)) (knows : Knows s c t) where
   old : List ℕ

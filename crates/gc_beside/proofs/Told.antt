@@ -1,5 +1,6 @@
 -- What the events of a standing checker say of a watch beside a collection.
-use Rattle.std.proofs.Common.{◌≡◌, inl, inr, ⊎_elim, ℕ, zero, suc, ◌+◌, ◌<◌, ◌≤◌, ◌==◌, Bool, true, false, not, List, [], ◌∷◌, ◌++◌, map, length, get_or, set, replicate, Some, refl, ap, sym, ◌∙◌, subst, arith, length-append, length-set}
+use Rattle.std.proofs.lemmas.Grind.{common_steps}
+use Rattle.std.proofs.Common.{◌≡◌, inl, inr, ⊎_elim, ℕ, zero, suc, ◌+◌, ◌<◌, ◌≤◌, ◌==◌, Bool, true, false, List, [], ◌∷◌, ◌++◌, map, length, get_or, set, replicate, Some, refl, ap, sym, ◌∙◌, subst, arith, length-append, length-set}
 use Rattle.std.specs.Prelude.{slice_index}
 use Rattle.std.proofs.lemmas.List.{length-map, get_or-append-add, get_or-set_other, get_or-set_same}
 use Rattle.std.proofs.lemmas.Bool.{cases_eq, eq-eqb, eqb-true}
@@ -10,8 +11,8 @@ use Rattle.gc_words.specs.declared.header.Header.{Header}
 use Rattle.gc_plan.specs.Linked.{object_header, linked_space, new_links, original_or_zero}
 use Rattle.gc_plan.specs.State.{Replica, Collection, State, new_end, new_objects, pairs_of}
 use Rattle.gc_plan.specs.Members.{In, Distinct}
-use Rattle.gc_plan.specs.Belonging.{Laid, IsOpened, IsState, IsSpaceGraph}
-use Rattle.gc_plan.proofs.Public.{laid_range, laid_apart, lookup_in, found_by_place, in_map, in_map_from, pair, placed, paired_in, in_paired, same_place}
+use Rattle.gc_plan.specs.Belonging.{Laid, IsOpened, IsSpaceGraph}
+use Rattle.gc_plan.proofs.Public.{laid_range, laid_apart, lookup_in, found_by_place, in_map, in_map_from, pair, placed, paired_in, in_paired, same_original, same_place}
 use Rattle.gc_along.specs.Watch.{Watch, is_due}
 use Rattle.gc_beside.specs.Stays.{Fits, LosesOnly, LosesNone, MarksWritten}
 use Rattle.gc_along.specs.Origins.{pairs_in}
@@ -56,14 +57,11 @@ abbrev pub Told : ℕ → Collection → Collection → Tables → Tables → Ty
 Told end c next t after = Fits end next (watch_of after) × LosesNone (new_end c) (watch_of t) next (watch_of after)
 
 module _ (end : ℕ) (c next : Collection) (words : List ℕ) (t : Tables) (fits : Fits end c (watch_of t)) (shows : ShowsReplicas next words) where
-  pub none_behind : (r : Replica) → In r next.replicas → new_end next ≤ r.place → ⊥
+  none_behind : (r : Replica) → In r next.replicas → new_end next ≤ r.place → ⊥
   none_behind r l past = let range = laid_range 1 (map placed next.replicas) (new_end next) (placed r) shows.laid (in_map placed r next.replicas l) in let high = range.1 in omega arith
 
   told_none : HasSame c next → Told end c next t t
-  told_none h = (
-    record { pairs = fits.pairs ∙ sym h.pairs; old_seen = fits.old_seen; new_seen = fits.new_seen ∙ sym h.end; row = fits.row },
-    λ r l j m d. ⊎_elim (λ x. absurd (let behind : new_end c ≤ r.place = x.1 in let e : new_end next ≡ new_end c = h.end in none_behind r l (omega arith))) (λ x. x) d,
-  )
+  told_none h = grind (arith, common_steps, none_behind)
 
   told_one : (old : List ℕ) (q : Replica) (h : Header) (a : ℕ) (due : Bool) → IsAdded c next q → IsClaim old words t h a → (due ≡ false → h.raw ≡ true) → Told end c next t (replica_added t h a due)
   told_one old q h a due added claim whole = (
@@ -145,12 +143,7 @@ pub marked_at : (t : Tables) (place : ℕ) (x : Bool) → due_in (set t.news pla
 marked_at t place x = code_set t.news place (code_of x) ∙ ap (set (due_in t.news) place) (code_is x)
 
 pub fits_marked : (end : ℕ) (c : Collection) (t : Tables) (place : ℕ) (x : Bool) → Fits end c (watch_of t) → Fits end c (watch_of (with_due t place x))
-fits_marked end c t place x f = record {
-  pairs = f.pairs;
-  old_seen = f.old_seen;
-  new_seen = length-set t.news place (code_of x) ∙ f.new_seen;
-  row = length-map (set t.news place (code_of x)) (λ code. code == 3);
-}
+fits_marked end c t place x f = grind (arith, common_steps, length-map)
 
 -- the pair of a replica that was seen
 pub replica_there : (end : ℕ) (c : Collection) (t : Tables) → Fits end c (watch_of t) → (a b : ℕ) → IsReplicaAt t a b → (q : Replica) × In q c.replicas × (pair q ≡ (a, b))
@@ -180,16 +173,10 @@ module _ (end : ℕ) (e : ℕ) (w : Watch) (next : Collection) (words : List ℕ
   -- a field compared, of the replica of this object
   pub told_looked : (old : List ℕ) (t after : Tables) (q : Replica) (b i : ℕ) → In q next.replicas → q.place ≡ b → Fits end next (watch_of t) → LosesNone e w next (watch_of t) → Looked old words b i t after
       → Fits end next (watch_of after) × LosesOnly e q.original i w next (watch_of after)
-  told_looked old t after q b i there at fits loses is =
-      let h = is.0 in
-      let x : Bool = not (Rattle.gc_words.specs.Word.field_words_correspond h (pairs_in t.origins) (slice_index old (field_place is.1 i)) (slice_index words (field_place b i))) in
-      let header : h ≡ object_header q.object = (let one : Some h ≡ Some (object_header q.object) = sym is.2.header ∙ (ap (λ n. read_header (slice_index words n)) (sym at) ∙ (shows.each q there).header) in cc) in
-      let len : h.len ≡ length q.object.fields = ap (λ (h : Header). h.len) header in
-      let small : i < h.len = is.2.has_field in
-      subst (λ (t' : Tables). Fits end next (watch_of t') × LosesOnly e q.original i w next (watch_of t')) (sym is.5) (told_marked t x q b i there at (omega arith) fits loses)
+  told_looked old t after q b i there at fits loses is = grind (arith, common_steps, told_marked)
 
   -- where nothing was compared
-  pub told_same : (name i : ℕ) (t : Tables) → LosesNone e w next (watch_of t) → LosesOnly e name i w next (watch_of t)
+  told_same : (name i : ℕ) (t : Tables) → LosesNone e w next (watch_of t) → LosesOnly e name i w next (watch_of t)
   told_same name i t loses r l j m d = inr (loses r l j m d)
 
   -- an original's pair
@@ -203,13 +190,6 @@ module _ (end : ℕ) (e : ℕ) (w : Watch) (next : Collection) (words : List ℕ
       (told_looked old t after q.0 b i q.1 (ap (λ (p : ℕ × ℕ). p.1) q.2) fits loses looked)
 
 -- ---- a field written
-
-pub same_original : (replicas : List Replica) (r s : Replica) → Distinct (map (λ q. q.original) replicas) → In r replicas → In s replicas → r.original ≡ s.original → r ≡ s
-same_original [] r s h k l e = absurd k
-same_original (q ∷ rest) r s h (inl k) (inl l) e = sym k ∙ l
-same_original (q ∷ rest) r s h (inl k) (inr l) e = absurd (h.0 (subst (λ n. In n (map (λ (q : Replica). q.original) rest)) (sym e ∙ ap (λ (q : Replica). q.original) (sym k)) (in_map (λ (q : Replica). q.original) s rest l)))
-same_original (q ∷ rest) r s h (inr k) (inl l) e = absurd (h.0 (subst (λ n. In n (map (λ (q : Replica). q.original) rest)) (e ∙ ap (λ (q : Replica). q.original) (sym l)) (in_map (λ (q : Replica). q.original) r rest k)))
-same_original (q ∷ rest) r s h (inr k) (inr l) e = same_original rest r s h.1 k l e
 
 pub told_wrote : (objects : List (ℕ × Object)) (end : ℕ) (c : Collection) (t after : Tables) (a i : ℕ) (Written : ℕ → ℕ → Type 0) → Distinct (map (λ r. r.original) c.replicas) → 1 ≤ a
     → ((x j : ℕ) → Written x j → (x ≡ a) × (j ≡ i)) → Fits end c (watch_of t) → Wrote a i t after → Fits end c (watch_of after) × MarksWritten Written (watch_of t) c (watch_of after)

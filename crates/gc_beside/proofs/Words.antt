@@ -1,5 +1,6 @@
 -- A watch that goes along watches the words of both spaces.
-use Rattle.std.proofs.Common.{◌≡◌, ◌≢◌, inl, inr, ⊎_elim, ℕ, zero, suc, ◌+◌, ◌/◌, ◌%◌, ◌<◌, ◌≤◌, ◌==◌, nat_lt, Bool, true, false, cond, List, [], ◌∷◌, map, length, get_or, Option, Some, None, refl, ap, sym, ◌∙◌, subst, arith}
+use Rattle.std.proofs.lemmas.Grind.{common_steps}
+use Rattle.std.proofs.Common.{◌≡◌, ◌≢◌, inl, inr, ⊎_elim, ℕ, ◌+◌, ◌/◌, ◌%◌, ◌<◌, ◌≤◌, ◌==◌, nat_lt, Bool, true, false, cond, List, length, Option, Some, None, refl, ap, sym, ◌∙◌, subst, arith}
 use Rattle.std.specs.Prelude.{slice_get}
 use Rattle.std.specs.Option.{option_map}
 use Rattle.std.specs.List.{All, AllPairs}
@@ -11,13 +12,12 @@ use Rattle.gc_words.specs.Image.{Block, HasShape, block_at, objects_of, object_o
 use Rattle.gc_words.specs.Space.{SpaceWords, IsSpace, end_of}
 use Rattle.gc_words.specs.declared.header.Header.{Header}
 use Rattle.gc_words.proofs.Public.{object_found, fields_counted, stands_in}
-use Rattle.std.proofs.lemmas.Option.{slice_get-map, slice_get-get_or}
+use Rattle.std.proofs.lemmas.Option.{slice_get-map}
 use Rattle.gc_heap.specs.Heap.{HeapWords, IsHeap, graph_in}
 use Rattle.gc_plan.specs.State.{Replica, pairs_of}
-use Rattle.gc_plan.specs.Members.{In, Distinct}
-use Rattle.gc_plan.specs.Belonging.{Laid}
+use Rattle.gc_plan.specs.Members.{In}
 use Rattle.gc_copy.specs.Words.{CollectionWords, IsCollection, collection_in, BelongsTo}
-use Rattle.gc_plan.proofs.Public.{in_map, in_map_from, get_in, all_from_in, pair, placed, replicas_end, paired_in, laid_range}
+use Rattle.gc_plan.proofs.Public.{pairs_rise, pairs_once, in_map_from, all_from_in, pair, replicas_end, paired_in}
 use Rattle.gc_copy.proofs.Public.{replica_object, new_end_is}
 use Rattle.gc_along.specs.Watch.{Watch, IsSeen, IsWatched, Watches, seen_at}
 use Rattle.gc_beside.specs.Stays.{GoesAlong}
@@ -26,26 +26,11 @@ use Rattle.gc_along.proofs.Public.{all_of}
 -- ---- a whole space is seen
 
 whole : (space : SpaceWords) (n : ℕ) → IsSpace space → n ≡ end_of space → IsSeen n space.words
-whole space n is e = record {
-  within = omega arith;
-  space = subst (λ ws. HasShape true 4294967295 (length ws) ws) (sym (all_of n space.words e)) (record {
-    size_low = omega arith;
-    size_high = omega arith;
-    end_low = is.end_low;
-    end_high = (let a = is.end_high in let b = is.size_high in omega arith);
-    count = refl;
-    reserved = is.reserved;
-    walked = is.walked;
-  });
-}
+whole space n is e = grind (arith, common_steps, all_of)
 
 -- the object at an address is a block there
 block_of : (words : List ℕ) (a : ℕ) (o : Object) → lookup (objects_of words) a ≡ Some o → (b : Block) × (block_at words a ≡ Some b) × (object_of_block b ≡ o)
-block_of words a o found = go (block_at words a) refl (sym (object_found words a) ∙ found)
-  where
-    go : (x : Option Block) → block_at words a ≡ x → option_map object_of_block x ≡ Some o → (b : Block) × (block_at words a ≡ Some b) × (object_of_block b ≡ o)
-    go None e h = absurd (let no : None ≡ Some o = h in cc)
-    go (Some b) e h = (b, e, (let s : Some (object_of_block b) ≡ Some o = h in cc))
+block_of words a o found = grind (arith, common_steps, object_found)
 
 -- ---- words whose values correspond
 
@@ -99,30 +84,6 @@ field_words h k pairs v u low same agree = go h.raw refl
         let plain : correspond pairs (value_of v) (value_of u) ≡ true = (λ i. correspond pairs (cond (sym is i) (Num v) (value_of v)) (cond (sym (same ∙ is) i) (Num u) (value_of u))) ∙ agree in
         ap (λ t. cond t (v == u) (words_correspond pairs v u)) is
         ∙ values_read pairs v u (address_is_value v (low_old pairs (value_of v) (value_of u) low plain)) (address_is_value u (low_new pairs (value_of v) (value_of u) low plain)) plain
-
--- ---- the order of the pairs (from gc_plan's proofs/Flips, where these are private)
-
-pairs_rise : (at : ℕ) (replicas : List Replica) (end : ℕ) → Laid at (map placed replicas) end → AllPairs (λ p q. p.1 < q.1) (map pair replicas)
-pairs_rise at [] end h i j d l within = absurd (omega arith)
-pairs_rise at (r ∷ rest) end h i zero d l within = absurd (omega arith)
-pairs_rise at (r ∷ rest) end h zero (suc j) d l within =
-    let q = get_in (get_or (map pair rest) j d) (map pair rest) j (slice_get-get_or (map pair rest) j d (omega arith)) in
-    let s = in_map_from pair (get_or (map pair rest) j d) rest q in
-    let range = laid_range (at + (length r.object.fields + 2)) (map placed rest) end (placed s.0) h.1 (in_map placed s.0 rest s.1) in
-    let e : s.0.place ≡ (get_or (map pair rest) j d).1 = ap (λ (p : ℕ × ℕ). p.1) s.2 in
-    let here = h.0 in
-    omega arith
-pairs_rise at (r ∷ rest) end h (suc i) (suc j) d l within = pairs_rise (at + (length r.object.fields + 2)) rest end h.1 i j d (omega arith) (omega arith)
-
-pairs_once : (replicas : List Replica) → Distinct (map (λ r. r.original) replicas) → AllPairs (λ p q. p.0 ≢ q.0) (map pair replicas)
-pairs_once [] h i j d l within = absurd (omega arith)
-pairs_once (r ∷ rest) h i zero d l within = absurd (omega arith)
-pairs_once (r ∷ rest) h zero (suc j) d l within = λ e.
-    let q = get_in (get_or (map pair rest) j d) (map pair rest) j (slice_get-get_or (map pair rest) j d (omega arith)) in
-    let s = in_map_from pair (get_or (map pair rest) j d) rest q in
-    let same : s.0.original ≡ r.original = ap (λ (p : ℕ × ℕ). p.0) s.2 ∙ sym e in
-    h.0 (subst (λ n. In n (map (λ (x : Replica). x.original) rest)) same (in_map (λ (x : Replica). x.original) s.0 rest s.1))
-pairs_once (r ∷ rest) h (suc i) (suc j) d l within = pairs_once rest h.1 i j d (omega arith) (omega arith)
 
 -- ---- the words of both spaces
 

@@ -1,8 +1,9 @@
 -- Sections of one line, and of several lines of one form.
-use Rattle.std.proofs.Common.{◌≡◌, ◌≢◌, ℕ, suc, zero, ◌-◌, ◌<◌, List, [], ◌∷◌, ◌++◌, length, map, replicate, refl, sym, ap, ◌∙◌, arith, append_assoc, subst, length-append, Option, Some, None}
+use Rattle.std.proofs.lemmas.Grind.{common_steps}
+use Rattle.std.proofs.Common.{◌≡◌, ◌≢◌, ℕ, suc, zero, ◌-◌, ◌<◌, List, [], ◌∷◌, ◌++◌, length, map, replicate, refl, sym, ap, ◌∙◌, arith, subst, length-append, Option, Some, None}
 use Rattle.std.specs.List.{AllByRecursion}
 use Rattle.std.proofs.lemmas.List.{append-nil, map-append, length-map}
-use Rattle.gc_graph.specs.Lines.{newline, HasNo, ended}
+use Rattle.gc_graph.specs.Lines.{newline, HasNo}
 use Rattle.gc_cert.specs.Sections.{Place, IsNext, HasTaken}
 use Rattle.gc_cert.specs.Internal.Sections.{alone, AreAll, Spelled, Begins, IsWrongAt, IsCutIn}
 use Rattle.gc_cert.proofs.Stops.{Delimits, BeginsWith}
@@ -23,14 +24,10 @@ heads : (x y : List ℕ) (xs ys : Lines) → x ∷ xs ≡ y ∷ ys → (x ≡ y)
 heads x y xs ys e = (cc, cc)
 
 pub one_form : {V : Type 0} (InRange : V → Type 0) (line_of : V → List ℕ) (read : List ℕ → Option V) → IsForm InRange line_of read → (v w : V) → InRange v → InRange w → line_of v ≡ line_of w → v ≡ w
-one_form InRange line_of read form v w p q e =
-    let both : Some v ≡ Some w = sym (form.again v p) ∙ ap read e ∙ form.again w q in
-    cc
+one_form InRange line_of read form v w p q e = grind (arith, common_steps)
 
 pub alone_delimits : {V : Type 0} (InRange : V → Type 0) (line_of : V → List ℕ) (read : List ℕ → Option V) → IsForm InRange line_of read → Delimits InRange (alone line_of)
-alone_delimits InRange line_of read form v w x y p q e =
-    let h = heads (line_of v) (line_of w) x y e in
-    (one_form InRange line_of read form v w p q h.0, h.1)
+alone_delimits InRange line_of read form v w x y p q e = grind (arith, common_steps, heads, one_form)
 
 begins_alone : {V : Type 0} (InRange : V → Type 0) (line_of : V → List ℕ) (read : List ℕ → Option V) → IsForm InRange line_of read → Begins (Spelled InRange (alone line_of)) []
 begins_alone InRange line_of read form = (line_of form.some ∷ [], (form.some, form.in_range, refl))
@@ -71,14 +68,7 @@ line_cut InRange line_of read p form none = record {
 
 -- the line of a value was taken
 pub line_taken : {V : Type 0} (InRange : V → Type 0) (line_of : V → List ℕ) (read : List ℕ → Option V) (p q : Place) (line : List ℕ) (v : V) → IsForm InRange line_of read → IsNext line p q → read line ≡ Some v → InRange v × HasTaken (line_of v ∷ []) p q
-line_taken InRange line_of read p q line v form next e =
-    let found = form.found line v e in (
-      found.0,
-      subst (λ (l : List ℕ). HasTaken (l ∷ []) p q) found.1 (record {
-        parts = next.parts ∙ sym (append_assoc line (newline ∷ []) q.rest) ∙ ap (λ (t : List ℕ). t ++ q.rest) (sym (append-nil (ended line)));
-        number = next.number;
-      }),
-    )
+line_taken InRange line_of read p q line v form next e = grind (arith, common_steps, append-nil)
 
 -- ---- a number of lines
 

@@ -1,5 +1,5 @@
 -- Lines that are read from the front of a text.
-use Rattle.std.proofs.Common.{◌≡◌, ◌≢◌, ℕ, ◌≤◌, List, ◌∷◌, ◌++◌, refl, sym, ap, ◌∙◌, arith, append_assoc, Option, Some, None}
+use Rattle.std.proofs.Common.{◌≡◌, ◌≢◌, ℕ, ◌≤◌, List, ◌∷◌, ◌++◌, refl, ap, ◌∙◌, arith, append_assoc, Option, Some, None}
 use Rattle.std.specs.Fmt.{decimal}
 use Rattle.gc_graph.specs.Fronts.{BeginsWithNumber}
 use Rattle.gc_graph.specs.Lines.{newline, space}
@@ -14,15 +14,12 @@ use Rattle.gc_cert.proofs.Forms.{IsForm, line_cut, line_wrong}
 -- ---- words
 
 -- the text does not begin with a number up to this
-abbrev pub HasNoNumber : ℕ → List ℕ → Type 0
+abbrev HasNoNumber : ℕ → List ℕ → Type 0
 HasNoNumber most text = (n : ℕ) (rest : List ℕ) → n ≤ most → ¬ BeginsWithNumber text n rest
 
 -- the text does not begin with this byte
-abbrev pub HasNotFirst : ℕ → List ℕ → Type 0
+abbrev HasNotFirst : ℕ → List ℕ → Type 0
 HasNotFirst byte text = (rest : List ℕ) → text ≢ byte ∷ rest
-
-no_word : (text : List ℕ) → HasNoNumber 18446744073709551615 text → NoneIsFirst IsWord decimal text
-no_word text never w rest fits e = never w (newline ∷ rest) (omega (arith, fits)) (record { small = fits; parts = e; whole = refl })
 
 pub no_word_end : (text more : List ℕ) (n : ℕ) → BeginsWithNumber text n more → HasNotFirst newline more → NoneIsFirst IsWord decimal text
 no_word_end text more n begins never w rest fits e = never rest (one_front text n w more (newline ∷ rest) begins (record { small = fits; parts = e; whole = refl })).1

@@ -9,6 +9,5 @@ pub mod Forms
 pub mod LineForms
 pub mod Parts
 pub mod Total
-pub mod WordLists
 pub mod PrintedLines
 pub mod ReadPieces

@@ -1,4 +1,5 @@
 -- Each line of a pair text has a form, whose value is read back from the line.
+use Rattle.std.proofs.lemmas.Grind.{common_steps}
 use Rattle.std.proofs.Common.{◌≡◌, ℕ, ◌^◌, ◌<◌, ◌≤◌, Bool, true, false, cond, eqb, leb, List, [], ◌∷◌, refl, sym, ap, ◌∙◌, arith, subst, Some, None}
 use Rattle.std.specs.Fmt.{decimal}
 use Rattle.std.specs.Str.{bytes_eq}
@@ -58,12 +59,7 @@ heading_again false = refl
 heading_again true = refl
 
 pub heading_form : IsForm AnyFlag heading raws_in
-heading_form = record {
-  some = false;
-  in_range = tt;
-  found = λ line raws e. (tt, heading_found line raws e);
-  again = λ raws _. heading_again raws;
-}
+heading_form = grind (arith, common_steps, heading_found, heading_again)
 
 pub word_form : IsForm IsWord decimal word_in
 word_form = record {
@@ -96,10 +92,7 @@ count_form name most named small = record {
 }
 
 sizes_checked : (x s : ℕ × ℕ) → cond (eqb x.0 0) None (cond (eqb x.1 0) None (Some x)) ≡ Some s → (1 ≤ x.0) × (1 ≤ x.1) × (x ≡ s)
-sizes_checked x s e =
-    let p = positive x.0 (eqb x.0 0) (cond (eqb x.1 0) None (Some x)) s refl e in
-    let q = positive x.1 (eqb x.1 0) (Some x) s refl p.1 in
-    (p.0, q.0, some_is x s q.1)
+sizes_checked x s e = grind (arith, common_steps, positive, some_is)
 
 sizes_are : (name : List ℕ) (tokens rest : Tokens) (size end : ℕ × Tokens) (x s : ℕ × ℕ) → token_at name tokens ≡ Some rest → number_at 1048576 rest ≡ Some size → number_at 1048576 size.1 ≡ Some end → if_all_taken (size.0, end.0) end.1 ≡ Some x
     → (1 ≤ x.0) × (1 ≤ x.1) × (x ≡ s) → AreSizes s × (tokens ≡ name ∷ decimal s.0 ∷ decimal s.1 ∷ [])

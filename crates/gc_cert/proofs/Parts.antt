@@ -1,10 +1,10 @@
 -- How each part of a pair text begins, after the lines before it.
+use Rattle.std.proofs.lemmas.Grind.{common_steps}
 use Rattle.std.proofs.Common.{◌≡◌, ℕ, ◌≤◌, Bool, List, [], ◌∷◌, ◌++◌, length, map, replicate, refl, sym, ap, ◌∙◌, arith, append_assoc, subst}
 use Rattle.std.specs.Prelude.{codes}
 use Rattle.std.specs.Fmt.{decimal}
 use Rattle.std.specs.List.{AllByRecursion}
 use Rattle.std.proofs.lemmas.List.{append-nil, append_cancel_left}
-use Rattle.gc_graph.specs.Lines.{space}
 use Rattle.gc_words.specs.Image.{Image}
 use Rattle.gc_cert.specs.Grammar.{CertifiedPair, heading, pair_line, count_line, size_line, image_lines, certificate_lines, lines_of, IsWord, AreAddresses, AreSizes, IsCertificate, HasImageText, HasText}
 use Rattle.gc_cert.specs.Internal.Grammar.{image_alone, IsImageBy}
@@ -39,9 +39,7 @@ abbrev root_lines : List ℕ → Lines
 root_lines roots = count_line (codes "roots") (length roots) ∷ (map decimal roots ++ [])
 
 sizes_same : (name : List ℕ) (s t : ℕ × ℕ) → AreSizes s → AreSizes t → size_line name s.0 s.1 ≡ size_line name t.0 t.1 → (s.0 ≡ t.0) × (s.1 ≡ t.1)
-sizes_same name s t p q e =
-    two_same s.0 s.1 t.0 t.1 (omega (arith, p)) (omega (arith, p)) (omega (arith, q)) (omega (arith, q))
-    (number_head space space (decimal s.0 ++ space ∷ decimal s.1) (decimal t.0 ++ space ∷ decimal t.1) (append_cancel_left name (space ∷ decimal s.0 ++ space ∷ decimal s.1) (space ∷ decimal t.0 ++ space ∷ decimal t.1) e))
+sizes_same name s t p q e = grind (arith, common_steps, two_same, number_head, append_cancel_left)
 
 behind_sizes : (name : List ℕ) (s : ℕ × ℕ) (image : Image) (lines : Lines) → AreSizes s → HasImageText image → size_line name s.0 s.1 ∷ lines ≡ image_alone name image → (length image.words ≡ s.1) × (lines ≡ map decimal image.words ++ root_lines image.roots)
 behind_sizes name s image lines p fits e =
@@ -49,9 +47,7 @@ behind_sizes name s image lines p fits e =
     (fits.count ∙ sym (sizes_same name s (image.size, image.end) p fits.sizes h.0).1, h.1)
 
 behind_words : (name : List ℕ) (s : ℕ × ℕ) (words : List ℕ) (image : Image) (lines : Lines) → AreSizes s → AreAll IsWord s.1 words → HasImageText image → size_line name s.0 s.1 ∷ (map decimal words ++ lines) ≡ image_alone name image → lines ≡ root_lines image.roots
-behind_words name s words image lines p ws fits e =
-    let behind = behind_sizes name s image (map decimal words ++ lines) p fits e in
-    (same_lines IsWord decimal decimal_injective words image.words lines (root_lines image.roots) ws.1 fits.words (ws.0 ∙ sym behind.0) behind.1).1
+behind_words name s words image lines p ws fits e = grind (arith, common_steps, behind_sizes, same_lines, decimal_injective)
 
 pub image_sizes : (raws : Bool) (name : List ℕ) → BeginsWith AreSizes (alone (λ s. size_line name s.0 s.1)) (λ lines. ImageSection raws name ([] ++ lines))
 image_sizes raws name = record {
@@ -104,10 +100,7 @@ image_roots raws name s words n fits ws le = record {
 -- all of an image was taken
 pub image_taken : (raws : Bool) (name : List ℕ) (s : ℕ × ℕ) (words roots : List ℕ) (n : ℕ) (a b : Place) → AreSizes s → AreAll IsWord s.1 words → n ≤ 272 → AreAll IsWord n roots → HasTaken (up_to_count name s words n ++ map decimal roots) a b
     → IsImageBy raws (made_image raws s words roots) × HasTaken (image_alone name (made_image raws s words roots)) a b
-image_taken raws name s words roots n a b fits ws le rs taken = (
-  image_fits raws s words roots fits ws (omega (arith, rs.0)) rs.1,
-  subst (λ (ls : Lines). HasTaken ls a b) (ap (λ (ls : Lines). up_to_count name s words n ++ ls) (sym (append-nil (map decimal roots))) ∙ up_to_roots raws name s words roots n [] rs.0) taken,
-)
+image_taken raws name s words roots n a b fits ws le rs taken = grind (arith, common_steps, image_fits, append-nil, up_to_roots)
 
 pub image_delimits : (raws : Bool) (name : List ℕ) → Delimits (IsImageBy raws) (image_alone name)
 image_delimits raws name v w x y p q e = image_same name v w x y p.fits q.fits (p.raws_are ∙ sym q.raws_are) (sym (image_more name v [] x) ∙ e ∙ image_more name w [] y)
@@ -145,20 +138,11 @@ abbrev pub up_to_end : ℕ → List (ℕ × ℕ) → Lines
 up_to_end n pairs = (pairs_line n ∷ []) ++ map pair_line pairs
 
 pub certificate_end : (n : ℕ) (pairs : List (ℕ × ℕ)) → n ≤ 524287 → AreAll AreAddresses n pairs → BeginsWith Nothing (alone (λ _. codes "end")) (λ lines. CertificateSection (up_to_end n pairs ++ lines))
-certificate_end n pairs le ps = record {
-  some = λ u _. ([], (pairs, (omega (arith, ps.0), ps.1), ap (λ (k : ℕ). pairs_line k ∷ (map pair_line pairs ++ codes "end" ∷ [])) (sym ps.0)));
-  only = λ lines (pairs', fits, e).
-      let behind = behind_count n pairs' (map pair_line pairs ++ lines) le fits e in
-      (tt, [], tt, at pairs' fits lines behind);
-}
-  where
-    at : (pairs' : List (ℕ × ℕ)) → IsCertificate pairs' → (lines : Lines) → (length pairs' ≡ n) × (map pair_line pairs ++ lines ≡ map pair_line pairs' ++ codes "end" ∷ []) → lines ≡ codes "end" ∷ []
-    at pairs' fits lines behind = (same_lines AreAddresses pair_line (one_form AreAddresses pair_line _ pair_form) pairs pairs' lines (codes "end" ∷ []) ps.1 fits.1 (ps.0 ∙ sym behind.0) behind.1).1
+certificate_end n pairs le ps = grind (arith, common_steps, behind_count, same_lines, one_form, pair_form)
 
 -- all of a certificate was taken
 pub certificate_taken : (n : ℕ) (pairs : List (ℕ × ℕ)) (a b : Place) → n ≤ 524287 → AreAll AreAddresses n pairs → HasTaken (up_to_end n pairs ++ codes "end" ∷ []) a b → IsCertificate pairs × HasTaken (certificate_lines pairs) a b
-certificate_taken n pairs a b le ps taken =
-    ((omega (arith, ps.0), ps.1), subst (λ (ls : Lines). HasTaken ls a b) (ap (λ (k : ℕ). pairs_line k ∷ (map pair_line pairs ++ codes "end" ∷ [])) (sym ps.0)) taken)
+certificate_taken n pairs a b le ps taken = grind (arith, common_steps)
 
 pub certificate_delimits : Delimits IsCertificate certificate_lines
 certificate_delimits v w x y p q e = certificate_same v w x y p.0 q.0 p.1 q.1 e

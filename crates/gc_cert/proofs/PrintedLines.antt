@@ -1,5 +1,6 @@
 -- Lines that are printed one after the other.
-use Rattle.std.proofs.Common.{◌≡◌, ℕ, List, [], ◌∷◌, ◌++◌, map, take, drop, refl, sym, ap, ◌∙◌, append_assoc, Option, subst, length, ◌+◌, ◌<◌, ◌≤◌, get_or}
+use Rattle.std.proofs.lemmas.Grind.{common_steps}
+use Rattle.std.proofs.Common.{◌≡◌, ℕ, List, [], ◌∷◌, ◌++◌, map, take, drop, refl, sym, ap, ◌∙◌, append_assoc, Option, subst, length, ◌+◌, ◌<◌, ◌≤◌, get_or, arith}
 use Rattle.std.proofs.lemmas.List.{append-nil, take-append-drop, take_all, take_more, map-append}
 use Rattle.std.proofs.lemmas.List.Concat.{flat_map-append}
 use Rattle.std.specs.Io.KnownBytes.{Appends}
@@ -46,9 +47,7 @@ none_printed a before = subst (λ (t : List ℕ). HasSent a a t before) (sym (ap
 -- ---- a line for each value
 
 pub one_printed : {X : Type 0} (f : X → List ℕ) (a b c : Bytes) (xs : List X) (i : ℕ) (d : X) (before mid after : List ℕ) → i < length xs → Prints (map f (take i xs)) a b before mid → Prints (f (get_or xs i d) ∷ []) b c mid after → Prints (map f (take (i + 1) xs)) a c before after
-one_printed f a b c xs i d before mid after lt so_far more =
-    let x = get_or xs i d in
-    subst (λ (ls : Lines). Prints ls a c before after) (sym (ap (map f) (take_more xs i d lt) ∙ map-append f (take i xs) (x ∷ []))) (prints_then a b c (map f (take i xs)) (f x ∷ []) before mid after so_far more)
+one_printed f a b c xs i d before mid after lt so_far more = grind (arith, common_steps, take_more, map-append, prints_then)
 
 pub one_failed : {X : Type 0} (f : X → List ℕ) (a b c : Bytes) (xs : List X) (i : ℕ) (d : X) (before mid : List ℕ) → i < length xs → Prints (map f (take i xs)) a b before mid → PrintsFront (f (get_or xs i d) ∷ []) b c mid → PrintsFront (map f xs) a c before
 one_failed f a b c xs i d before mid lt so_far failed =
@@ -68,8 +67,7 @@ pub printed_out : (a b c : Bytes) (lines : Lines) (before after : List ℕ) → 
 printed_out a b c lines before after none printed out = sent_at_last a b c (text_of lines) after (subst (λ (t : List ℕ). HasSent a b (t ++ text_of lines) after) none printed) out
 
 pub printed_out_front : (a b c : Bytes) (lines : Lines) (before after : List ℕ) → before ≡ [] → Prints lines a b before after → SendsFront b c after → SendsFront a c (text_of lines)
-printed_out_front a b c lines before after none printed failed =
-    subst (SendsFront a c) (append-nil (text_of lines)) (front_sent a b c (text_of lines) after [] (subst (λ (t : List ℕ). HasSent a b (t ++ text_of lines) after) none printed) failed)
+printed_out_front a b c lines before after none printed failed = grind (arith, common_steps, append-nil, front_sent)
 
 pub front_out : (a b : Bytes) (lines : Lines) (before : List ℕ) → before ≡ [] → PrintsFront lines a b before → SendsFront a b (text_of lines)
 front_out a b lines before none failed = subst (λ (t : List ℕ). SendsFront a b (t ++ text_of lines)) none failed

@@ -1,4 +1,5 @@
 -- How much of a pair text a reader has read.
+use Rattle.std.proofs.lemmas.Grind.{common_steps}
 use Rattle.std.proofs.Common.{◌≡◌, ℕ, ◌+◌, ◌-◌, ◌≤◌, true, List, ◌++◌, length, drop, refl, sym, ap, ◌∙◌, arith, append_assoc, Option, Some}
 use Rattle.std.proofs.lemmas.List.{drop_at, length-append}
 use Rattle.gc_graph.specs.Lines.{text_of}
@@ -7,7 +8,7 @@ use Rattle.gc_graph.specs.declared.text.pieces.ReadFault.{ReadFault}
 use Rattle.gc_graph.specs.declared.text.pieces.ReadFault.TheVariants as reading
 use Rattle.gc_cert.specs.Faults.{limit}
 use Rattle.gc_cert.specs.Internal.Faults.{fault_of_reading}
-use Rattle.gc_cert.specs.Internal.Reading.{IsReading, IsAt, CannotRead, GoesOn, MayEnd, MayFailHaving, unread}
+use Rattle.gc_cert.specs.Internal.Reading.{IsAt, CannotRead, GoesOn, MayEnd, MayFailHaving, unread}
 use Rattle.gc_cert.specs.Grammar.{CertifiedPair, HasText, lines_of}
 use Rattle.gc_cert.specs.Internal.Sections.{Section, Spelled, MayStop}
 use Rattle.gc_cert.specs.Sections.{Place, HasTaken, start}
@@ -28,26 +29,14 @@ cannot_read reading.NoMemory most text left is h stops = tt
 
 -- a fault of the reader stops every section
 pub cannot_end : (S : Section) (fault : PairFault) (text : List ℕ) (p : Place) (left : Option (List ℕ)) → CannotRead fault text left → MayEnd S fault text p left
-cannot_end S Read text p left h = tt
-cannot_end S TooLarge text p left h = h
-cannot_end S (BadLine n) text p left h = absurd h
-cannot_end S EndsEarly text p left h = absurd h
-cannot_end S NoMemory text p left h = tt
+cannot_end S fault text p left h = grind (arith, common_steps)
 
 -- the end of the text stops a section
 pub stop_ends : (S : Section) (fault : PairFault) (text : List ℕ) (p : Place) (left : Option (List ℕ)) → MayStop S fault p → length text ≤ limit → MayEnd S fault text p left
-stop_ends S Read text p left h short = absurd h
-stop_ends S TooLarge text p left h short = absurd h
-stop_ends S (BadLine n) text p left h short = (h, short)
-stop_ends S EndsEarly text p left h short = (h, short)
-stop_ends S NoMemory text p left h short = tt
+stop_ends S fault text p left h short = grind (arith, common_steps)
 
 pub cannot_go_on : (fault : PairFault) (text : List ℕ) (p : Place) (left : Option (List ℕ)) → CannotRead fault text left → GoesOn fault text p left
-cannot_go_on Read text p left h = h
-cannot_go_on TooLarge text p left h = h
-cannot_go_on (BadLine n) text p left h = absurd h
-cannot_go_on EndsEarly text p left h = h
-cannot_go_on NoMemory text p left h = h
+cannot_go_on fault text p left h = grind (arith, common_steps)
 
 -- ---- lines that are taken from the buffer
 
@@ -64,9 +53,7 @@ abbrev pub left_at : PairReader → Place → PairReader
 left_at r q = record r { pieces = record r.pieces { waiting = drop (length r.pieces.waiting - length q.rest) r.pieces.waiting }; taken = q.taken }
 
 left_is : (front rest waiting : List ℕ) → waiting ≡ front ++ rest → drop (length waiting - length rest) waiting ≡ rest
-left_is front rest waiting is =
-    let count : length front ≡ length waiting - length rest = omega (arith, ap length is, length-append front rest) in
-    ap (drop (length waiting - length rest)) is ∙ drop_at front rest (length waiting - length rest) count
+left_is front rest waiting is = grind (arith, common_steps, length-append, drop_at)
 
 pub lines_left : (text : List ℕ) (p : Place) (r : PairReader) (left : Option (List ℕ)) (lines : List (List ℕ)) (q : Place) → IsAt text p r left → HasTaken lines (waiting_place r) q → (at : Place) × IsAt text at (left_at r q) left × HasTaken lines p at
 lines_left text p r left lines q h taken =
@@ -91,9 +78,7 @@ at_start text left is = record { within = within_all text _ left is; taken_is = 
 
 -- if the input ends without another byte, the buffer has the rest of the text
 pub place_ends_there : (text : List ℕ) (p : Place) (r : PairReader) (left : Option (List ℕ)) (next : PairReader) (new : Option (List ℕ)) → IsAt text p r left → IsAt text p next new → next.pieces.ended ≡ true → next.pieces.read ≡ r.pieces.read → (p ≡ waiting_place r) × (length text ≤ next.pieces.read)
-place_ends_there text p r left next new h at ended same =
-    let ends = ends_there text p.rest r.pieces next.pieces left new h.within at.within ended same in
-    (ap (λ (l : List ℕ). record p { rest = l }) ends.0 ∙ ap (λ (n : ℕ). record { rest = r.pieces.waiting; taken = n }) h.taken_is, ends.1)
+place_ends_there text p r left next new h at ended same = grind (arith, common_steps, ends_there)
 
 -- ---- sections within sections
 
@@ -107,24 +92,12 @@ end_within InRange lines_of S done text old mid NoMemory left one with taken w =
 
 -- the first fault of a text that ended
 pub ended_text : (text : List ℕ) (fault : PairFault) (left : Option (List ℕ)) → MayEnd TextSection fault text (start text) left → MayFailHaving fault text left
-ended_text text Read left w = (tt, λ e. cc)
-ended_text text TooLarge left w = (w.0, λ e. w.1)
-ended_text text (BadLine n) left w = (stopped text (start text) (BadLine n) refl w.1 w.0, λ e. cc)
-ended_text text EndsEarly left w = (stopped text (start text) EndsEarly refl w.1 w.0, λ e. cc)
-ended_text text NoMemory left w = (tt, λ e. cc)
+ended_text text fault left w = grind (arith, common_steps, stopped)
 
 -- a text whose reader fails
 pub unread_text : (text : List ℕ) (fault : PairFault) (left : Option (List ℕ)) → CannotRead fault text left → MayFailHaving fault text left
-unread_text text Read left w = (tt, λ e. cc)
-unread_text text TooLarge left w = (w.0, λ e. w.1)
-unread_text text (BadLine n) left w = absurd w
-unread_text text EndsEarly left w = absurd w
-unread_text text NoMemory left w = (tt, λ e. cc)
+unread_text text fault left w = grind (arith, common_steps)
 
 -- a text that continues after the last line
 pub text_goes_on : (f : CertifiedPair) (text : List ℕ) (after : Place) (fault : PairFault) (left : Option (List ℕ)) → HasText f × HasTaken (lines_of f) (start text) after → GoesOn fault text after left → MayFailHaving fault text left
-text_goes_on f text after Read left taken w = (tt, λ e. cc)
-text_goes_on f text after TooLarge left taken w = (w.0, λ e. w.1)
-text_goes_on f text after (BadLine n) left taken w = (went_on f text (start text) after (BadLine n) refl w.2 taken (w.0, ap BadLine w.1), λ e. cc)
-text_goes_on f text after EndsEarly left taken w = absurd w
-text_goes_on f text after NoMemory left taken w = (tt, λ e. cc)
+text_goes_on f text after fault left taken w = grind (arith, common_steps, went_on)

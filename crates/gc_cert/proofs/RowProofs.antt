@@ -1,5 +1,6 @@
 -- The worked rows.
-use Rattle.std.proofs.Common.{◌≡◌, ◌≢◌, ℕ, ◌≤◌, Bool, true, false, leb, List, [], ◌∷◌, ◌++◌, length, map, refl, sym, ap, ◌∙◌, arith, inl, inr, get_or}
+use Rattle.std.proofs.lemmas.Grind.{common_steps}
+use Rattle.std.proofs.Common.{◌≡◌, ◌≢◌, ℕ, ◌≤◌, Bool, true, false, leb, List, [], ◌∷◌, ◌++◌, length, map, refl, sym, ap, ◌∙◌, arith, inl, inr}
 use Rattle.std.specs.Prelude.{codes}
 use Rattle.std.specs.Fmt.{digits}
 use Rattle.std.proofs.lemmas.Bool.{leb-true}
@@ -21,10 +22,7 @@ fits : HasText least
 fits = record { old = image_fits; new = image_fits; raws = refl; pairs = (omega arith, tt) }
 
 with_raws_fits : HasText least_with_raws
-with_raws_fits = record { old = one; new = one; raws = refl; pairs = (omega arith, tt) }
-  where
-    one : HasImageText least_with_raws.old
-    one = record { sizes = (omega arith, omega arith, omega arith, omega arith); count = refl; words = (omega arith, tt); roots = omega arith; root_words = (omega arith, tt) }
+with_raws_fits = grind (arith, common_steps)
 
 -- all lines of the least text except the last
 abbrev but_end : List (List ℕ)
@@ -52,8 +50,7 @@ whole = (least, fits, least_lines)
 
 -- without pairs the next line is `end`
 no_pairs : (pairs : List (ℕ × ℕ)) (l : List ℕ) (rest : List (List ℕ)) → length pairs ≡ 0 → map pair_line pairs ++ codes "end" ∷ [] ≡ l ∷ rest → codes "end" ≡ l
-no_pairs [] l rest none e = (head_of (codes "end") l [] rest e).0
-no_pairs (p ∷ pairs) l rest none e = absurd (omega (arith, none))
+no_pairs pairs l rest none e = grind (arith, common_steps, head_of)
 
 only_end : (l : List ℕ) → codes "end" ≢ l → ¬ AreFirst (but_end ++ l ∷ [])
 unfolding digits
@@ -69,12 +66,8 @@ only_end l other (g, rest, fits', is) =
     let last = head_of (count_line (codes "pairs") (length g.pairs)) (codes "pairs 0") (map pair_line g.pairs ++ codes "end" ∷ []) (l ∷ rest) (sym (certificate_more g.pairs []) ∙ new.1) in
     other (no_pairs g.pairs l rest (count_same (codes "pairs") (length g.pairs) 0 (omega (arith, fits'.pairs)) (omega arith) last.0) last.1)
 
-abbrev below_three : List ℕ → Bool
-below_three line = leb (get_or line 9 0) 50
-
 no_third : (raws : Bool) → heading raws ≢ codes "heappair 3"
-no_third false e = (let no : true ≡ false = ap below_three e in cc)
-no_third true e = (let no : true ≡ false = ap below_three e in cc)
+no_third raws e = grind (arith, common_steps)
 
 two_versions : ¬ AreFirst (codes "heappair 3" ∷ [])
 unfolding lines_of

@@ -1,5 +1,6 @@
 -- Lines of pair texts: none contains a line feed, and of two texts neither is a prefix of the other.
-use Rattle.std.proofs.Common.{◌≡◌, ℕ, ◌≤◌, Bool, true, false, List, [], ◌∷◌, ◌++◌, length, map, refl, sym, ap, ◌∙◌, arith, append_assoc, get_or, eqb}
+use Rattle.std.proofs.lemmas.Grind.{common_steps}
+use Rattle.std.proofs.Common.{◌≡◌, ℕ, ◌≤◌, Bool, true, List, [], ◌∷◌, ◌++◌, length, map, refl, sym, ap, ◌∙◌, arith, append_assoc}
 use Rattle.std.specs.Prelude.{codes}
 use Rattle.std.specs.Fmt.{decimal}
 use Rattle.std.specs.List.{AllByRecursion}
@@ -7,7 +8,7 @@ use Rattle.std.proofs.lemmas.List.{append_cancel_left}
 use Rattle.std.proofs.lemmas.Fmt.{decimal_injective}
 use Rattle.gc_graph.specs.Lines.{HasNo, space, newline}
 use Rattle.gc_words.specs.Image.{Image}
-use Rattle.gc_cert.specs.Grammar.{CertifiedPair, heading, pair_line, count_line, size_line, image_lines, certificate_lines, lines_of, IsWord, AreAddresses, HasImageText, HasText}
+use Rattle.gc_cert.specs.Grammar.{CertifiedPair, heading, pair_line, count_line, image_lines, certificate_lines, lines_of, IsWord, AreAddresses, HasImageText, HasText}
 use Rattle.gc_graph.proofs.Public.{HasNo-decimal, HasNo-lacks, HasNo-joined, lacks, one_cut}
 
 abbrev pub AreLines : List (List ℕ) → Type 0
@@ -41,15 +42,10 @@ image_are_lines name image more e fits h = (
 )
 
 certificate_are_lines : (pairs : List (ℕ × ℕ)) → length pairs ≤ 524287 → AllByRecursion AreAddresses pairs → AreLines (certificate_lines pairs)
-certificate_are_lines pairs le h = (
-  two_line (codes "pairs") (decimal (length pairs)) (HasNo-lacks newline (codes "pairs") refl) (decimal_line (length pairs) (omega (arith, le))),
-  All-append (map pair_line pairs) (codes "end" ∷ []) (All-map AreAddresses pair_line (λ p small. two_line (decimal p.0) (decimal p.1) (decimal_line p.0 (omega (arith, small.0))) (decimal_line p.1 (omega (arith, small.1)))) pairs h)
-      (HasNo-lacks newline (codes "end") refl, tt),
-)
+certificate_are_lines pairs le h = grind (arith, common_steps, two_line, decimal_line, All-append, All-map)
 
 heading_line : (raws : Bool) → HasNo newline (heading raws)
-heading_line false = HasNo-lacks newline (codes "heappair 1") refl
-heading_line true = HasNo-lacks newline (codes "heappair 2") refl
+heading_line raws = grind (arith, common_steps)
 
 pub are_lines : (f : CertifiedPair) → HasText f → AreLines (lines_of f)
 unfolding lines_of
@@ -86,29 +82,11 @@ same_lines P f one (x ∷ xs) (y ∷ ys) a b p q len e =
     let rest = same_lines P f one xs ys a b p.1 q.1 (omega (arith, len)) h.1 in
     (rw (one x y p.0 q.0 h.0, rest.0) refl, rest.1)
 
-abbrev image_with : ℕ → ℕ → List ℕ → List ℕ → Bool → Image
-image_with size end words roots raws = record { size = size; end = end; words = words; roots = roots; raws = raws }
-
 pub image_same : (name : List ℕ) (a b : Image) (x y : List (List ℕ)) → HasImageText a → HasImageText b → a.raws ≡ b.raws → image_lines name a x ≡ image_lines name b y → (a ≡ b) × (x ≡ y)
-image_same name a b x y p q flags e =
-    let after_a = count_line (codes "roots") (length a.roots) ∷ (map decimal a.roots ++ x) in
-    let after_b = count_line (codes "roots") (length b.roots) ∷ (map decimal b.roots ++ y) in
-    let first = head_of (size_line name a.size a.end) (size_line name b.size b.end) (map decimal a.words ++ after_a) (map decimal b.words ++ after_b) e in
-    let sizes = two_same a.size a.end b.size b.end (omega (arith, p.sizes)) (omega (arith, p.sizes)) (omega (arith, q.sizes)) (omega (arith, q.sizes))
-    (number_head space space (decimal a.size ++ space ∷ decimal a.end) (decimal b.size ++ space ∷ decimal b.end) (append_cancel_left name (space ∷ decimal a.size ++ space ∷ decimal a.end) (space ∷ decimal b.size ++ space ∷ decimal b.end) first.0)) in
-    let words = same_lines IsWord decimal decimal_injective a.words b.words after_a after_b p.words q.words (p.count ∙ sizes.1 ∙ sym q.count) first.1 in
-    let second = head_of (count_line (codes "roots") (length a.roots)) (count_line (codes "roots") (length b.roots)) (map decimal a.roots ++ x) (map decimal b.roots ++ y) words.1 in
-    let count = count_same (codes "roots") (length a.roots) (length b.roots) (omega (arith, p.roots)) (omega (arith, q.roots)) second.0 in
-    let roots = same_lines IsWord decimal decimal_injective a.roots b.roots x y p.root_words q.root_words count second.1 in (
-      ap (λ (s : ℕ). image_with s a.end a.words a.roots a.raws) sizes.0 ∙ ap (λ (n : ℕ). image_with b.size n a.words a.roots a.raws) sizes.1 ∙ ap (λ (ws : List ℕ). image_with b.size b.end ws a.roots a.raws) words.0
-          ∙ ap (λ (rs : List ℕ). image_with b.size b.end b.words rs a.raws) roots.0 ∙ ap (image_with b.size b.end b.words b.roots) flags,
-      roots.1,
-    )
+image_same name a b x y p q flags e = grind (arith, common_steps, head_of, two_same, number_head, append_cancel_left, same_lines, decimal_injective, count_same)
 
 pair_same : (p q : ℕ × ℕ) → AreAddresses p → AreAddresses q → pair_line p ≡ pair_line q → p ≡ q
-pair_same (a, b) (c, d) h k e =
-    let both = two_same a b c d (omega (arith, h.0)) (omega (arith, h.1)) (omega (arith, k.0)) (omega (arith, k.1)) e in
-    rw (both.0, both.1) refl
+pair_same p q h k e = grind (arith, common_steps, two_same)
 
 pub certificate_more : (pairs : List (ℕ × ℕ)) (x : List (List ℕ)) → certificate_lines pairs ++ x ≡ count_line (codes "pairs") (length pairs) ∷ (map pair_line pairs ++ codes "end" ∷ x)
 certificate_more pairs x = ap (λ (l : List (List ℕ)). count_line (codes "pairs") (length pairs) ∷ l) (append_assoc (map pair_line pairs) (codes "end" ∷ []) x)
@@ -121,9 +99,7 @@ certificate_same a b x y la lb pa pb e =
     (rest.0, (head_of (codes "end") (codes "end") x y rest.1).1)
 
 pub image_more : (name : List ℕ) (image : Image) (more x : List (List ℕ)) → image_lines name image more ++ x ≡ image_lines name image (more ++ x)
-image_more name image more x =
-    ap (λ (l : List (List ℕ)). size_line name image.size image.end ∷ l) (append_assoc (map decimal image.words) (count_line (codes "roots") (length image.roots) ∷ (map decimal image.roots ++ more)) x
-    ∙ ap (λ (l : List (List ℕ)). map decimal image.words ++ count_line (codes "roots") (length image.roots) ∷ l) (append_assoc (map decimal image.roots) more x))
+image_more name image more x = grind (arith, common_steps)
 
 pub lines_more : (f : CertifiedPair) (x : List (List ℕ)) → lines_of f ++ x ≡ heading f.old.raws ∷ image_lines (codes "old") f.old (image_lines (codes "new") f.new (certificate_lines f.pairs ++ x))
 unfolding lines_of
@@ -131,15 +107,8 @@ lines_more f x =
     ap (λ (l : List (List ℕ)). heading f.old.raws ∷ l) (image_more (codes "old") f.old (image_lines (codes "new") f.new (certificate_lines f.pairs)) x
     ∙ ap (image_lines (codes "old") f.old) (image_more (codes "new") f.new (certificate_lines f.pairs) x))
 
--- the last byte distinguishes the two first lines
-abbrev version : List ℕ → Bool
-version line = eqb (get_or line 9 0) 50
-
 pub heading_same : (raws other : Bool) → heading raws ≡ heading other → raws ≡ other
-heading_same false false e = refl
-heading_same true true e = refl
-heading_same false true e = absurd (let no : false ≡ true = ap version e in cc)
-heading_same true false e = absurd (let no : true ≡ false = ap version e in cc)
+heading_same raws other e = grind (arith, common_steps)
 
 abbrev pair_with : Image → Image → List (ℕ × ℕ) → CertifiedPair
 pair_with old new pairs = record { old = old; new = new; pairs = pairs }

@@ -1,10 +1,10 @@
 -- If the reading of a section stops, so does that of every section around it.
+use Rattle.std.proofs.lemmas.Grind.{common_steps}
 use Rattle.std.proofs.Common.{◌≡◌, ℕ, List, [], ◌∷◌, ◌++◌, refl, sym, ap, ◌∙◌, arith, append_assoc, subst, inl, inr, ◌⊎◌, length-append}
 use Rattle.std.proofs.lemmas.List.{append-nil}
 use Rattle.std.proofs.lemmas.List.Concat.{flat_map-append}
 use Rattle.gc_graph.specs.Lines.{newline, ended, text_of}
 use Rattle.gc_cert.specs.declared.fault.PairFault.{PairFault}
-use Rattle.gc_cert.specs.declared.fault.PairFault.TheVariants.{Read, TooLarge, BadLine, EndsEarly, NoMemory}
 use Rattle.gc_cert.specs.Sections.{Place, HasTaken}
 use Rattle.gc_cert.specs.Internal.Sections.{Section, Spelled, Begins, IsWrongAt, IsCutIn, MayStop}
 
@@ -51,9 +51,7 @@ open_first InRange lines_of S before one with (more, (v, p, is)) none whole =
     none (open_front InRange lines_of before more v found.0 found.1 one p is found.2 found.3)
 
 begins_first : {V : Type 0} (InRange : V → Type 0) (lines_of : V → Lines) (S : Section) (before : Lines) → BeginsWith InRange lines_of S → Begins (Spelled InRange lines_of) before → Begins S before
-begins_first InRange lines_of S before with (more, (v, p, is)) =
-    let some = with.some v p in
-    (more ++ some.0, subst S (ap (λ (l : Lines). l ++ some.0) (sym is) ∙ append_assoc before more some.0) some.1)
+begins_first InRange lines_of S before with h = grind (arith, common_steps)
 
 wrong_first : {V : Type 0} (InRange : V → Type 0) (lines_of : V → Lines) (S : Section) (before : Lines) (line : List ℕ) → Delimits InRange lines_of → BeginsWith InRange lines_of S → Begins (Spelled InRange lines_of) before → ¬ Spelled InRange lines_of before
     → ¬ Begins (Spelled InRange lines_of) (before ++ line ∷ []) → ¬ Begins S (before ++ line ∷ [])
@@ -81,10 +79,7 @@ begins_behind S done before (more, whole) = (more, subst S (append_assoc done be
 
 -- lines that were taken one after the other
 pub taken_then : (xs ys : Lines) (a b c : Place) → HasTaken xs a b → HasTaken ys b c → HasTaken (xs ++ ys) a c
-taken_then xs ys a b c p q = record {
-  parts = p.parts ∙ ap (λ (t : List ℕ). text_of xs ++ t) q.parts ∙ taken_text xs ys c.rest;
-  number = omega (arith, p.number, q.number, length-append xs ys);
-}
+taken_then xs ys a b c p q = grind (arith, common_steps, taken_text)
 
 pub wrong_within : {V : Type 0} (InRange : V → Type 0) (lines_of : V → Lines) (S : Section) (done : Lines) (old mid : Place) (n : ℕ) → Delimits InRange lines_of → BeginsWith InRange lines_of (λ lines. S (done ++ lines)) → HasTaken done old mid
     → IsWrongAt (Spelled InRange lines_of) mid n → IsWrongAt S old n
@@ -114,8 +109,4 @@ cut_within InRange lines_of S done old mid one with taken w = record {
 -- what stops the rest of a section stops the whole section
 pub stop_within : {V : Type 0} (InRange : V → Type 0) (lines_of : V → Lines) (S : Section) (done : Lines) (old mid : Place) (fault : PairFault) → Delimits InRange lines_of → BeginsWith InRange lines_of (λ lines. S (done ++ lines)) → HasTaken done old mid
     → MayStop (Spelled InRange lines_of) fault mid → MayStop S fault old
-stop_within InRange lines_of S done old mid Read one with taken w = w
-stop_within InRange lines_of S done old mid TooLarge one with taken w = w
-stop_within InRange lines_of S done old mid (BadLine n) one with taken w = wrong_within InRange lines_of S done old mid n one with taken w
-stop_within InRange lines_of S done old mid EndsEarly one with taken w = cut_within InRange lines_of S done old mid one with taken w
-stop_within InRange lines_of S done old mid NoMemory one with taken w = tt
+stop_within InRange lines_of S done old mid fault one with taken w = grind (arith, common_steps, wrong_within, cut_within)

@@ -1,5 +1,6 @@
 -- Every pair that has a text has one within the limit.
-use Rattle.std.proofs.Common.{◌≡◌, ℕ, ◌^◌, ◌<◌, ◌≤◌, ◌+◌, ◌*◌, Bool, true, false, List, [], ◌∷◌, ◌++◌, length, map, refl, ap, ◌∙◌, arith, length-append}
+use Rattle.std.proofs.lemmas.Grind.{common_steps}
+use Rattle.std.proofs.Common.{◌≡◌, ℕ, ◌^◌, ◌<◌, ◌≤◌, ◌+◌, ◌*◌, Bool, List, [], ◌∷◌, ◌++◌, length, map, refl, ap, ◌∙◌, arith, length-append}
 use Rattle.std.specs.Prelude.{codes}
 use Rattle.std.specs.Fmt.{decimal}
 use Rattle.std.specs.List.{AllByRecursion}
@@ -27,10 +28,7 @@ bytes_nil = refl
 
 bytes_map : {X : Type 0} (P : X → Type 0) (f : X → List ℕ) (n : ℕ) → ((x : X) → P x → length (f x) ≤ n) → (xs : List X) → AllByRecursion P xs → bytes (map f xs) ≤ length xs * (n + 1)
 bytes_map P f n each [] h = omega (arith, bytes_nil)
-bytes_map P f n each (x ∷ xs) h =
-    let more = bytes_map P f n each xs h.1 in
-    let one = each x h.0 in
-    omega (arith, bytes_cons (f x) (map f xs), more, one)
+bytes_map P f n each (x ∷ xs) h = grind (arith, common_steps, bytes_nil, bytes_cons, bytes_map P f n each xs h.1)
 
 word_length : (n : ℕ) → n < 2 ^ 64 → length (decimal n) ≤ 20
 word_length n small = length-decimal-le 20 n (omega arith) (omega arith) (omega arith)
@@ -45,8 +43,7 @@ count_length : (name : List ℕ) (n : ℕ) → length name ≤ 5 → n < 2 ^ 64 
 count_length name n short small = omega (arith, two_length name (decimal n), word_length n small)
 
 size_length : (name : List ℕ) (image : Image) → length name ≤ 5 → HasImageText image → length (size_line name image.size image.end) ≤ 47
-size_length name image short fits =
-    omega (arith, two_length name (decimal image.size ++ space ∷ decimal image.end), two_length (decimal image.size) (decimal image.end), word_length image.size (omega (arith, fits.sizes)), word_length image.end (omega (arith, fits.sizes)))
+size_length name image short fits = grind (arith, common_steps, two_length, word_length)
 
 pair_length : (p : ℕ × ℕ) → AreAddresses p → length (pair_line p) ≤ 21
 pair_length p small = omega (arith, two_length (decimal p.0) (decimal p.1), address_length p.0 small.0, address_length p.1 small.1)
@@ -77,8 +74,7 @@ certificate_bytes pairs le small =
     omega (arith, bytes_cons (count_line (codes "pairs") (length pairs)) (map pair_line pairs ++ codes "end" ∷ []), count_length (codes "pairs") (length pairs) (omega arith) (omega (arith, le)), bytes_append (map pair_line pairs) (codes "end" ∷ []), all, le, bytes_cons (codes "end") [], bytes_nil)
 
 heading_length : (raws : Bool) → length (heading raws) ≡ 10
-heading_length false = refl
-heading_length true = refl
+heading_length raws = grind (arith, common_steps)
 
 lines_bytes : (f : CertifiedPair) → HasText f → bytes (lines_of f) ≤ limit
 unfolding lines_of

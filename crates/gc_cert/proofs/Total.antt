@@ -1,4 +1,5 @@
 -- Each text has a reading: it is a pair of images, or it has a first fault.
+use Rattle.std.proofs.lemmas.Grind.{common_steps}
 use Rattle.std.proofs.Common.{◌≡◌, ◌≢◌, ℕ, suc, zero, ◌+◌, ◌≤◌, Bool, true, false, leb, List, [], ◌∷◌, ◌++◌, length, map, refl, sym, ap, ◌∙◌, arith, subst, inl, inr, ◌⊎◌, length-append, Option, Some, None}
 use Rattle.std.specs.Prelude.{codes}
 use Rattle.std.specs.Fmt.{decimal}
@@ -14,7 +15,7 @@ use Rattle.gc_cert.specs.Sections.{Place, start, IsNext, HasTaken}
 use Rattle.gc_cert.specs.Internal.Sections.{Nothing, AnyFlag, alone, AreAll, Section, Spelled, Begins, IsWrongAt, IsCutIn, MayStop}
 use Rattle.gc_cert.specs.Internal.Parsers.{count_of, sizes_of, pair_of, is_name, is_line, raws_in, word_in}
 use Rattle.gc_cert.specs.declared.fault.PairFault.{PairFault}
-use Rattle.gc_cert.specs.declared.fault.PairFault.TheVariants.{Read, TooLarge, BadLine, EndsEarly, NoMemory}
+use Rattle.gc_cert.specs.declared.fault.PairFault.TheVariants.{TooLarge, BadLine, EndsEarly}
 use Rattle.gc_cert.proofs.Stops.{Delimits, BeginsWith, taken_then, wrong_within, cut_within}
 use Rattle.gc_cert.proofs.Forms.{IsForm, alone_delimits, all_delimit, line_wrong, line_cut, line_taken, begins_with_one, push_taken}
 use Rattle.gc_cert.proofs.LineForms.{fixed_form, heading_form, word_form, count_form, size_form, pair_form}
@@ -113,34 +114,14 @@ all_lines : (lines : List (List ℕ)) → AreWhole lines → TextSection lines
 all_lines lines (f, fits, e) = (f, fits, sym e)
 
 wrong_line : (text : List ℕ) (n : ℕ) → IsWrongAt TextSection (start text) n → HasWrongLine text n
-wrong_line text n w = record {
-  before = w.before;
-  line = w.line;
-  rest = w.after;
-  parts = w.parts;
-  whole_line = w.whole_line;
-  number = omega (arith, w.number);
-  good = first_lines w.before w.good;
-  wrong = λ first. w.wrong (begins_text (w.before ++ w.line ∷ []) first);
-}
+wrong_line text n w = grind (arith, common_steps, first_lines, begins_text)
 
 cut_off : (text : List ℕ) → IsCutIn TextSection (start text) → IsCutOff text
-cut_off text w = record {
-  before = w.before;
-  unfinished = w.unfinished;
-  parts = w.parts;
-  no_line = w.no_line;
-  good = first_lines w.before w.good;
-  not_all = λ whole. w.not_all (all_lines w.before whole);
-}
+cut_off text w = grind (arith, common_steps, first_lines, all_lines)
 
 -- the fault that stopped a reading is the text's first fault, or `NoMemory`
 stop_of_text : (text : List ℕ) (fault : PairFault) → length text ≤ limit → MayStop TextSection fault (start text) → MayFail fault text
-stop_of_text text Read le stop = absurd stop
-stop_of_text text TooLarge le stop = absurd stop
-stop_of_text text (BadLine n) le stop = (le, inl (wrong_line text n stop))
-stop_of_text text EndsEarly le stop = (le, cut_off text stop)
-stop_of_text text NoMemory le stop = tt
+stop_of_text text fault le stop = grind (arith, common_steps, wrong_line, cut_off)
 
 -- all of the text was taken
 whole_text : (f : CertifiedPair) (text : List ℕ) (after : Place) → HasText f → HasTaken (lines_of f) (start text) after → after.rest ≡ [] → IsTextOf f text
@@ -149,14 +130,7 @@ whole_text f text after fits taken none = record { fits = fits; spelled = taken.
 
 -- a byte follows a text
 byte_behind : (f : CertifiedPair) (text : List ℕ) (after : Place) (byte : ℕ) (bytes : List ℕ) → HasText f → HasTaken (lines_of f) (start text) after → after.rest ≡ byte ∷ bytes → HasByteBehind text (after.taken + 1)
-byte_behind f text after byte bytes fits taken some = record {
-  before = lines_of f;
-  byte = byte;
-  rest = bytes;
-  parts = taken.parts ∙ ap (λ (t : List ℕ). text_of (lines_of f) ++ t) some;
-  number = omega (arith, taken.number);
-  whole = (f, fits, refl);
-}
+byte_behind f text after byte bytes fits taken some = grind (arith, common_steps)
 
 -- ---- the same for a reader that began at the start
 
@@ -174,7 +148,7 @@ went_on f text p after fault began le taken (some, is) = subst (λ (g : PairFaul
     at (byte ∷ bytes) more = byte_behind f text after byte bytes taken.0 (subst (λ (q : Place). HasTaken (lines_of f) q after) began taken.1) more
 
 -- a value, or a first fault
-abbrev pub Answered : List ℕ → Type 0
+abbrev Answered : List ℕ → Type 0
 Answered text = ((f : CertifiedPair) × IsReadAsPair f text) ⊎ ((fault : PairFault) × IsPairFaultOf fault text)
 
 answered : (text : List ℕ) → length text ≤ limit → Outcome HasText lines_of (start text) → Answered text

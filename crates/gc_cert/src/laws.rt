@@ -13,11 +13,13 @@ pub fn texts_have_one_reading()
 {}
 
 /// The text of a pair is within the limit and is read back as that pair.
+#[tactic(auto, using(crate::proofs::TextLimit::written_reads))]
 pub fn written_is_read()
     ensures { (f : CertifiedPair) → HasText f → IsReadAsPair f (spelling f) }
 {}
 
 /// The worked examples hold of the definitions, by computation.
+#[tactic(auto, using(crate::proofs::RowProofs::rows))]
 pub fn worked_rows()
     ensures { Rows }
 {}

@@ -1,10 +1,11 @@
 -- Words that correspond as they meet still correspond when more pairs are found.
-use Rattle.std.proofs.Common.{◌≡◌, ℕ, ◌+◌, ◌<◌, ◌≤◌, Bool, true, false, cond, ◌&&◌, ◌||◌, ◌==◌, List, [], ◌∷◌, ◌++◌, length, drop, Option, Some, None, refl, sym, ap, subst, inl, inr, arith}
+use Rattle.std.proofs.lemmas.Grind.{common_steps}
+use Rattle.std.proofs.Common.{◌≡◌, ℕ, ◌+◌, ◌<◌, ◌≤◌, Bool, true, false, cond, ◌&&◌, ◌==◌, List, [], ◌∷◌, ◌++◌, length, drop, Option, Some, None, refl, sym, ap, subst, inl, inr, arith}
 use Rattle.std.specs.Prelude.{IsTrue}
 use Rattle.std.specs.List.{AllZip}
-use Rattle.std.proofs.lemmas.Bool.{eq-eqb, cases_order, and_parts, or_cases}
+use Rattle.std.proofs.lemmas.Bool.{eq-eqb, cases_order, and_parts, or_cases, or_left, or_right}
 use Rattle.std.proofs.lemmas.List.{drop_all}
-use Rattle.gc_graph.specs.Graph.{Value, Nil, Num, Ref}
+use Rattle.gc_graph.specs.Graph.{Value}
 use Rattle.gc_graph.specs.Correspond.{paired}
 use Rattle.gc_words.specs.Word.{read_value, read_correspond, words_correspond, field_words_correspond}
 use Rattle.gc_words.specs.Image.{Image, Block, block_at}
@@ -16,28 +17,11 @@ use Rattle.gc_check.proofs.Forced.{Grows, met_all_grows, met_blocks_grow, same_p
 
 -- ---- more pairs
 
-pub or_first : (b c : Bool) → b ≡ true → (b || c) ≡ true
-or_first b c e = ap (λ b. b || c) e
-
-pub or_second : (b c : Bool) → c ≡ true → (b || c) ≡ true
-or_second true c e = refl
-or_second false c e = e
-
 module _ (before after : List (ℕ × ℕ)) (more : (a b : ℕ) → paired before a b ≡ true → paired after a b ≡ true) where
   values_more : (o q : Option Value) → read_correspond before o q ≡ true → read_correspond after o q ≡ true
-  values_more None q e = e
-  values_more (Some v) None e = e
-  values_more (Some Nil) (Some Nil) e = e
-  values_more (Some Nil) (Some (Num n)) e = e
-  values_more (Some Nil) (Some (Ref b)) e = e
-  values_more (Some (Num m)) (Some Nil) e = e
-  values_more (Some (Num m)) (Some (Num n)) e = e
-  values_more (Some (Num m)) (Some (Ref b)) e = e
-  values_more (Some (Ref a)) (Some Nil) e = e
-  values_more (Some (Ref a)) (Some (Num n)) e = e
-  values_more (Some (Ref a)) (Some (Ref b)) e = more a b e
+  values_more o q e = grind (arith, common_steps)
 
-  pub words_more : (v w : ℕ) → words_correspond before v w ≡ true → words_correspond after v w ≡ true
+  words_more : (v w : ℕ) → words_correspond before v w ≡ true → words_correspond after v w ≡ true
   words_more v w e = values_more (read_value v) (read_value w) e
 
   pub all_more : (vs ws : List ℕ) → AllZip (λ v w. words_correspond before v w ≡ true) vs ws → AllZip (λ v w. words_correspond after v w ≡ true) vs ws
@@ -47,8 +31,7 @@ module _ (before after : List (ℕ × ℕ)) (more : (a b : ℕ) → paired befor
   all_more (v ∷ vs) (w ∷ ws) z = (words_more v w z.0, all_more vs ws z.1)
 
   field_more : (raw : Bool) (v w : ℕ) → cond raw (v == w) (words_correspond before v w) ≡ true → cond raw (v == w) (words_correspond after v w) ≡ true
-  field_more true v w e = e
-  field_more false v w e = words_more v w e
+  field_more raw v w e = grind (arith, common_steps, words_more)
 
   fields_more : (h : Header) (vs ws : List ℕ) → AllZip (λ v w. field_words_correspond h before v w ≡ true) vs ws → AllZip (λ v w. field_words_correspond h after v w ≡ true) vs ws
   fields_more h [] [] z = tt
@@ -65,8 +48,8 @@ paired_append : (pairs more : List (ℕ × ℕ)) (a b : ℕ) → paired pairs a 
 paired_append [] more a b e = absurd (let no : false ≡ true = e in cc)
 paired_append (p ∷ pairs) more a b e =
     elim (or_cases ((p.0 == a) && (p.1 == b)) (paired pairs a b) e) [
-      | inl here ↦ or_first _ _ here
-      | inr later ↦ or_second ((p.0 == a) && (p.1 == b)) _ (paired_append pairs more a b later)
+      | inl here ↦ or_left _ _ here
+      | inr later ↦ or_right ((p.0 == a) && (p.1 == b)) _ (paired_append pairs more a b later)
     ]
 
 grows_paired : (before after : List (ℕ × ℕ)) → Grows before after → (a b : ℕ) → paired before a b ≡ true → paired after a b ≡ true

@@ -1,4 +1,5 @@
 -- A walk in breadth visits each reachable object at its least depth.
+use Rattle.std.proofs.lemmas.Grind.{common_steps}
 use Rattle.std.proofs.Common.{◌≡◌, ◌≢◌, ℕ, zero, suc, ◌+◌, ◌<◌, ◌≤◌, ◌^◌, Bool, true, false, cond, not, ◌==◌, List, [], ◌∷◌, ◌++◌, length, map, reverse, replicate, take, drop, get_or, set, Option, Some, None, refl, sym, ◌∙◌, ap, subst, inl, inr, arith, length-set, get_or-set_same, get_or-set_other}
 use Rattle.std.specs.Prelude.{slice_get, slice_index, vec_capacity, is_some, IsTrue}
 use Rattle.std.proofs.lemmas.Bool.{cases_order, cases_eq}
@@ -24,7 +25,7 @@ use Rattle.gc_check.proofs.Forced.{follow_nil}
 -- ---- references
 
 -- the name of a value, if there is a value
-abbrev pub reference_of : Option Value → Option (Option ℕ)
+abbrev reference_of : Option Value → Option (Option ℕ)
 reference_of None = None
 reference_of (Some v) = Some (name_of v)
 
@@ -34,17 +35,11 @@ named (w ∷ ws) zero = refl
 named (w ∷ ws) (suc i) = named ws i
 
 is_reference : (o : Option Value) (a : ℕ) → reference_of o ≡ Some (Some a) → o ≡ Some (Ref a)
-is_reference None a e = absurd (let no : None ≡ Some (Some a) = e in cc)
-is_reference (Some Nil) a e = absurd (let no : Some None ≡ Some (Some a) = e in cc)
-is_reference (Some (Num n)) a e = absurd (let no : Some None ≡ Some (Some a) = e in cc)
-is_reference (Some (Ref b)) a e = let same : Some (Some b) ≡ Some (Some a) = e in cc
+is_reference o a e = grind (arith, common_steps)
 
 -- the words whose values a node has are its references
 pub refers_by_words : (g : Graph) (n : Node) (ws : List ℕ) → values_of g n ≡ map value_of ws → HasReferences g n ws
-refers_by_words g n ws e = λ i a. (
-  (λ refers. named ws i ∙ ap reference_of (ap (λ vs. slice_get vs i) (sym e) ∙ refers)),
-  (λ named_there. ap (λ vs. slice_get vs i) e ∙ is_reference _ a (sym (named ws i) ∙ named_there)),
-)
+refers_by_words g n ws e = grind (arith, common_steps, named, is_reference)
 
 -- the reference of word i
 pub reference_word : (ws : List ℕ) (i d : ℕ) → i < length ws → slice_get (references ws) i ≡ Some (name_of (value_of (get_or ws i d)))
@@ -86,30 +81,21 @@ raw_refers image a h e raw = go (block_at image.words a) refl e
 -- ---- one more visit
 
 module _ (image : Image) (before after : List Visit) (found : Visit) (pushed : after ≡ before ++ found ∷ []) where
-  pub old_visit : (k : ℕ) → k < length before → visit_at after k ≡ visit_at before k
+  old_visit : (k : ℕ) → k < length before → visit_at after k ≡ visit_at before k
   old_visit k inside = ap (λ visits. visit_at visits k) pushed ∙ get_or_append_left before (found ∷ []) roots_visit k inside
 
-  pub new_visit : visit_at after (length before) ≡ found
+  new_visit : visit_at after (length before) ≡ found
   new_visit = ap (λ visits. visit_at visits (length before)) pushed ∙ get_or_at before found [] roots_visit (length before) refl
 
-  pub longer : length after ≡ suc (length before)
-  longer = ap length pushed ∙ more
-    where
-      more : length (before ++ found ∷ []) ≡ suc (length before)
-      more = omega (arith, length-append before (found ∷ []))
+  longer : length after ≡ suc (length before)
+  longer = grind (arith, common_steps, length-append)
 
   -- a visit is old, or the new one
   by_number : (P : ℕ → Type 0) → ((k : ℕ) → k < length before → P k) → P (length before) → (k : ℕ) → k < length after → P k
-  by_number P old new k inside = elim (cases_order k (length before)) [
-    | inl same ↦ subst P (sym same) new
-    | inr (inl less) ↦ old k less
-    | inr (inr more) ↦ absurd (omega (arith, longer, inside, more))
-  ]
+  by_number P old new k inside = grind (arith, common_steps, cases_order, longer)
 
   pub still_within : (deep : ℕ) → AreWithin before deep → found.depth ≤ deep → AreWithin after deep
-  still_within deep near low = by_number (λ k. (visit_at after k).depth ≤ deep)
-      (λ k inside. subst (λ (v : Visit). v.depth ≤ deep) (sym (old_visit k inside)) (near k inside))
-      (subst (λ (v : Visit). v.depth ≤ deep) (sym new_visit) low)
+  still_within deep near low = grind (arith, common_steps, by_number, old_visit, new_visit)
 
   module _ (visits : AreVisits image before) (a : ℕ) (start : is_start image.words a ≡ true) (from_within : found.from < length before) (is_object : found.node ≡ node.Object a)
       (deeper : found.depth ≡ suc (visit_at before found.from).depth) (near : AreWithin before found.depth) (refers : RefersAt (graph_of image) (visit_at before found.from).node found.place a) where
@@ -196,33 +182,17 @@ few_visits image visits a held start free =
 -- ---- what is visited stays visited
 
 visited_stays : (before after : List Visit) (a deep : ℕ) → Continues before after → Visited before a deep → Visited after a deep
-visited_stays before after a deep c v = record {
-  number = v.number;
-  within = omega (arith, c.more, v.within);
-  object = ap (λ (w : Visit). w.node) (c.same v.number v.within) ∙ v.object;
-  depth = subst (λ (w : Visit). w.depth ≤ deep) (sym (c.same v.number v.within)) v.depth;
-}
+visited_stays before after a deep c v = grind (arith, common_steps)
 
 leads_stays : (image : Image) (before after : List Visit) (k some : ℕ) → k < length before → Continues before after → LeadsToVisits image before k some → LeadsToVisits image after k some
-leads_stays image before after k some inside c leads = λ i a less refers start.
-    let same : visit_at after k ≡ visit_at before k = c.same k inside in
-    subst (λ (v : Visit). Visited after a (suc v.depth)) (sym same)
-    (visited_stays before after a (suc (visit_at before k).depth) c (leads i a less (subst (λ (v : Visit). RefersAt (graph_of image) v.node i a) same refers) start))
+leads_stays image before after k some inside c leads = grind (arith, common_steps, visited_stays)
 
 -- the visit that was read
 pub read_visit : (visits : List Visit) (k : ℕ) (v : Visit) → k < length visits → v ≡ get_or visits k v → visit_at visits k ≡ v
-read_visit visits k v inside e = any_default visits k inside ∙ sym e
-  where
-    any_default : (visits : List Visit) (k : ℕ) → k < length visits → get_or visits k roots_visit ≡ get_or visits k v
-    any_default [] k inside = absurd (omega arith)
-    any_default (x ∷ visits) zero inside = refl
-    any_default (x ∷ visits) (suc k) inside = any_default visits k (omega arith)
+read_visit visits k v inside e = grind (arith, common_steps)
 
 pub continue_on : (before between after : List Visit) → Continues before between → Continues between after → Continues before after
-continue_on before between after c d = record {
-  more = omega (arith, c.more, d.more);
-  same = λ k inside. d.same k (omega (arith, c.more, inside)) ∙ c.same k inside;
-}
+continue_on before between after c d = grind (arith, common_steps)
 
 -- one more word of the node has been looked at
 pub one_more_word : (image : Image) (first before after : List Visit) (k i : ℕ) → k < length first → Continues first before → Continues before after → LeadsToVisits image before k i
@@ -255,10 +225,7 @@ one_more_visit image before after done inside c leads new k some less within = e
 -- no visit is deeper than the next one can lead to
 pub near_next : (image : Image) (before after : List Visit) (done : ℕ) → done < length before → AreVisits image after → Continues before after → AreWithin after (suc (visit_at before done).depth) → done + 1 < length after
     → AreWithin after (suc (visit_at after (done + 1)).depth)
-near_next image before after done inside are c near next j h =
-    let order : (visit_at after done).depth ≤ (visit_at after (done + 1)).depth = are.sorted done (done + 1) (omega arith) next in
-    let same : (visit_at after done).depth ≡ (visit_at before done).depth = ap (λ (v : Visit). v.depth) (c.same done inside) in
-    omega (arith, near j h, order, same)
+near_next image before after done inside are c near next j h = grind (arith, common_steps)
 
 pub low_count : (image : Image) (visits : Visits) → HoldsWalk image visits → length visits.list.items ≤ suc (length image.words)
 low_count image visits held = let few : taken_in (numbers_in image visits) ≤ length (numbers_in image visits) = taken_few (numbers_in image visits) in omega (arith, held.table.count, held.table.len, few)
@@ -266,44 +233,12 @@ low_count image visits held = let few : taken_in (numbers_in image visits) ≤ l
 -- the walk begins with the visit of the roots
 pub begun : (image : Image) (visits : Visits) → HasEntries image.words visits.numbers → length image.words < 2 ^ 32 → visits.list.items ≡ roots_visit ∷ [] → (numbers_in image visits) ≡ replicate (length image.words) 0 → suc (starts_from image.words 0 (length image.words)) ≤ vec_capacity visits.list
     → HoldsWalk image visits
-begun image visits entries few one none room = record {
-  entries = entries;
-  few = few;
-  list = subst (AreVisits image) (sym one) (record {
-    some = omega arith;
-    roots = refl;
-    found = λ j low inside. absurd (omega arith);
-    low = λ j inside. subst (λ j. (visit_at (roots_visit ∷ []) j).depth ≤ j) (first j inside) (omega arith);
-    nodes = λ j inside. subst (λ j. IsNode image (visit_at (roots_visit ∷ []) j).node) (first j inside) tt;
-    sorted = λ i j order inside. subst (λ j. i ≤ j → (visit_at (roots_visit ∷ []) i).depth ≤ (visit_at (roots_visit ∷ []) j).depth) (first j inside)
-        (λ order. subst (λ i. (visit_at (roots_visit ∷ []) i).depth ≤ 0) (lowest i order) (omega arith)) order;
-  });
-  table = record {
-    len = ap length none ∙ length-replicate (length image.words) 0;
-    count = ap length one ∙ ap suc (sym (ap taken_in none ∙ taken_none (length image.words)));
-    starts = λ a some. absurd (nowhere a some);
-    numbers = λ a some. absurd (nowhere a some);
-  };
-  room = room;
-}
-  where
-    first : (j : ℕ) → j < 1 → 0 ≡ j
-    first j inside = omega arith
-
-    lowest : (i : ℕ) → i ≤ 0 → 0 ≡ i
-    lowest i order = omega arith
-
-    nowhere : (a : ℕ) → not (slice_index (numbers_in image visits) a == 0) ≡ true → ⊥
-    nowhere a some = let no : false ≡ true = sym (ap (λ row. not (slice_index row a == 0)) none ∙ ap (λ entry. not (entry == 0)) (nothing_at (length image.words) a)) ∙ some in cc
+begun image visits entries few one none room = grind (arith, common_steps, length-replicate, taken_none, nothing_at)
 
 -- ---- the way back
 
 field_follows : (g : Graph) (a j : ℕ) → field_of (lookup g.objects a) j ≡ slice_get (values_of g (node.Object a)) j
-field_follows g a j = go (lookup g.objects a)
-  where
-    go : (o : Option Object) → field_of o j ≡ slice_get (fields_of o) j
-    go None = refl
-    go (Some object) = refl
+field_follows g a j = grind (arith, common_steps)
 
 reverse_push : (xs : List ℕ) (x : ℕ) → reverse (xs ++ x ∷ []) ≡ x ∷ reverse xs
 reverse_push xs x = reverse-append xs (x ∷ [])
@@ -315,11 +250,11 @@ module _ (image : Image) (visits : List Visit) (at : ℕ) (low : 1 ≤ at) (insi
   by : IsFoundBy image (visit_at visits v.from) v at
   by = are.found at low inside
 
-  pub earlier_visit : v.from < at
+  earlier_visit : v.from < at
   earlier_visit = by.earlier
 
   module _ (place address : ℕ) (fields : List ℕ) where
-    pub back : along (graph_of image) v.node place (reverse fields) ≡ Some (Ref address) → along (graph_of image) (visit_at visits v.from).node v.place (reverse (fields ++ place ∷ [])) ≡ Some (Ref address)
+    back : along (graph_of image) v.node place (reverse fields) ≡ Some (Ref address) → along (graph_of image) (visit_at visits v.from).node v.place (reverse (fields ++ place ∷ [])) ≡ Some (Ref address)
     back e =
         ap (along (graph_of image) (visit_at visits v.from).node v.place) (reverse_push fields place)
         ∙ ap (λ o. follow (graph_of image).objects o (place ∷ reverse fields)) by.refers
@@ -327,7 +262,7 @@ module _ (image : Image) (visits : List Visit) (at : ℕ) (low : 1 ≤ at) (insi
         ∙ ap (λ n. along (graph_of image) n place (reverse fields)) (sym by.object)
         ∙ e
 
-    pub less_deep : (deep : ℕ) → length fields + v.depth ≡ deep → length (fields ++ place ∷ []) + (visit_at visits v.from).depth ≡ deep
+    less_deep : (deep : ℕ) → length fields + v.depth ≡ deep → length (fields ++ place ∷ []) + (visit_at visits v.from).depth ≡ deep
     less_deep deep e = omega (arith, length-append fields (place ∷ []), by.deeper, e)
 
 pub one_back : (image : Image) (visits : List Visit) (at place address : ℕ) (fields : List ℕ) → 1 ≤ at → at < length visits → AreVisits image visits → along (graph_of image) (visit_at visits at).node place (reverse fields) ≡ Some (Ref address)
@@ -343,12 +278,7 @@ found_within image visits at low inside are = omega (arith, earlier_visit image 
 
 -- what a reversal in place leaves
 pub reversed : (items new : List ℕ) (len : ℕ) → len ≡ length items → new ≡ reverse items → take len (new ++ drop (length new) items) ≡ reverse items
-reversed items new len count is =
-    let same : length new ≡ length items = ap length is ∙ length-reverse items in
-    ap (λ rest. take len (new ++ rest)) (drop_all (length new) items (omega (arith, same)))
-    ∙ ap (take len) (append-nil new)
-    ∙ take_all len new (omega (arith, same, count))
-    ∙ is
+reversed items new len count is = grind (arith, common_steps, length-reverse, drop_all, append-nil, take_all)
 
 -- ---- least depths
 

@@ -1,4 +1,5 @@
 -- A number for each object, by half the address at which it starts, is a row by address.
+use Rattle.std.proofs.lemmas.Grind.{common_steps}
 use Rattle.std.proofs.Common.{◌≡◌, ℕ, zero, suc, ◌+◌, ◌/◌, ◌<◌, ◌≤◌, Bool, true, false, cond, ◌==◌, List, [], ◌∷◌, length, set, replicate, Some, is_some, refl, sym, ◌∙◌, ap, subst, inl, inr, arith, length-set, get_or-set_same, get_or-set_other}
 use Rattle.std.specs.Prelude.{slice_index, not, IsOk}
 use Rattle.std.specs.List.{AllByRecursion}
@@ -6,7 +7,7 @@ use Rattle.std.proofs.lemmas.Bool.{ne_eqb, cases_eq, cases_lt, cases_order}
 use Rattle.std.proofs.lemmas.List.{length-replicate, get_or_past, ext_get_or}
 use Rattle.std.proofs.lemmas.List.FromFn.{length-map-range_with_len, get_or-map-range_with_len}
 use Rattle.gc_words.specs.Word.{read_header}
-use Rattle.gc_words.specs.Image.{Block, walk_words, blocks, block_in, is_start}
+use Rattle.gc_words.specs.Image.{Block, walk_words, block_in, is_start}
 use Rattle.gc_words.proofs.Public.{Walked, First, first, fields_in, starts_above, walked_blocks}
 use Rattle.gc_check.specs.Internal.Tables.{HasEntries, entry_at, by_address}
 use Rattle.gc_check.proofs.StartMarks.{nothing_at, start_within, no_start_past}
@@ -41,19 +42,11 @@ apart_in (v ∷ ws) zero at bs a c w s t less =
     ]
 
 apart : (words : List ℕ) (a c : ℕ) → IsOk (walk_words words) → is_start words a ≡ true → is_start words c ≡ true → a < c → a + 2 ≤ c
-apart [] a c ok s t less = absurd (let no : false ≡ true = s in cc)
-apart (v ∷ ws) a c ok s t less = apart_in ws 0 1 (blocks (v ∷ ws)) a c (walked_blocks (v ∷ ws) ok) s t less
+apart words a c ok s t less = grind (arith, common_steps, apart_in, walked_blocks)
 
 -- so half an address tells the object
 half_is_own : (words : List ℕ) (a c : ℕ) → IsOk (walk_words words) → is_start words a ≡ true → is_start words c ≡ true → a / 2 ≡ c / 2 → a ≡ c
-half_is_own words a c ok s t same =
-    elim (cases_order a c) [
-      | inl e ↦ e
-      | inr other ↦ elim other [
-        | inl less ↦ (let two : a + 2 ≤ c = apart words a c ok s t less in absurd (omega arith))
-        | inr less ↦ (let two : c + 2 ≤ a = apart words c a ok t s less in absurd (omega arith))
-      ]
-    ]
+half_is_own words a c ok s t same = grind (arith, common_steps, cases_order, apart)
 
 -- ---- the row by address
 
@@ -72,11 +65,7 @@ entry_is : (words entries : List ℕ) (place : ℕ) → is_start words place ≡
 entry_is words entries place start = ap (λ b. cond b (slice_index entries (place / 2)) 0) start
 
 by_address_at : (words entries : List ℕ) (place : ℕ) → IsOk (walk_words words) → slice_index (by_address words entries) place ≡ entry_at words entries place
-by_address_at words entries place ok =
-    elim (cases_lt place (length words)) [
-      | inl inside ↦ inside_is words entries place inside
-      | inr past ↦ get_or_past (by_address words entries) place 0 (omega (arith, length_by_address words entries)) ∙ sym (no_entry words entries place (no_start_past words place ok past))
-    ]
+by_address_at words entries place ok = grind (arith, common_steps, cases_lt, inside_is, get_or_past, length_by_address, no_entry, no_start_past)
 
 pub entry_within : (words entries : List ℕ) (place : ℕ) → HasEntries words entries → is_start words place ≡ true → place / 2 < length entries
 entry_within words entries place h start = let within : place < length words = start_within words place h.walked start in omega (arith, h.len, within)
@@ -89,19 +78,11 @@ pub no_number : (words entries : List ℕ) (place : ℕ) → HasEntries words en
 no_number words entries place h none = sym (by_address_at words entries place h.walked ∙ no_entry words entries place none)
 
 pub zero_at : (words entries : List ℕ) (place half : ℕ) → HasEntries words entries → place / 2 ≡ half → slice_index entries half ≡ 0 → slice_index (by_address words entries) place ≡ 0
-zero_at words entries place half h same none = by_address_at words entries place h.walked ∙ either (is_start words place)
-  where
-    either : (b : Bool) → cond b (slice_index entries (place / 2)) 0 ≡ 0
-    either true = ap (slice_index entries) same ∙ none
-    either false = refl
+zero_at words entries place half h same none = grind (arith, common_steps, by_address_at)
 
 -- an entry that is not 0 is that of a start
 pub number_starts : (words entries : List ℕ) (place : ℕ) → IsOk (walk_words words) → not (slice_index (by_address words entries) place == 0) ≡ true → is_start words place ≡ true
-number_starts words entries place ok some = from (is_start words place) refl
-  where
-    from : (b : Bool) → is_start words place ≡ b → is_start words place ≡ true
-    from true e = e
-    from false e = absurd (let no : false ≡ true = sym (ap (λ n. not (n == 0)) (by_address_at words entries place ok ∙ no_entry words entries place e)) ∙ some in cc)
+number_starts words entries place ok some = grind (arith, common_steps, by_address_at, no_entry)
 
 pub zeros_by_address : (words entries : List ℕ) (n : ℕ) → entries ≡ replicate n 0 → by_address words entries ≡ replicate (length words) 0
 zeros_by_address words entries n e =

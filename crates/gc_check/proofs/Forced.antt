@@ -1,15 +1,16 @@
 -- A walk over both images finds only pairs that every certificate has, and in the end all references have met.
+use Rattle.std.proofs.lemmas.Grind.{common_steps}
 use Rattle.std.proofs.Common.{◌≡◌, ℕ, zero, suc, ◌+◌, ◌<◌, ◌≤◌, Bool, true, false, cond, not, ◌&&◌, ◌||◌, ◌==◌, List, [], ◌∷◌, ◌++◌, length, map, Option, Some, None, refl, sym, ◌∙◌, ap, subst, inl, inr, arith}
 use Rattle.std.specs.Prelude.{slice_get, slice_index_or, IsTrue}
-use Rattle.std.specs.List.{All, AllZip, list_any}
-use Rattle.std.proofs.lemmas.Bool.{eqb-true, eq-eqb, cases_order, cases_Bool, and_parts, and_from, or_cases}
+use Rattle.std.specs.List.{All, AllZip}
+use Rattle.std.proofs.lemmas.Bool.{eqb-true, eq-eqb, cases_order, cases_Bool, and_parts, and_from, or_cases, or_right}
 use Rattle.std.proofs.lemmas.List.{append-nil, append_assoc, get_or_append_left}
 use Rattle.std.proofs.lemmas.List.Elements.{All-push, All-nil}
 use Rattle.std.proofs.lemmas.List.Folds.{list_any-append}
-use Rattle.gc_graph.specs.Graph.{Value, Nil, Num, Ref, Object, lookup, object_of, field_of, follow, at_path}
+use Rattle.gc_graph.specs.Graph.{Value, Ref, Object, lookup, object_of, field_of, follow, at_path}
 use Rattle.gc_graph.specs.Correspond.{paired}
-use Rattle.gc_words.specs.Word.{is_value, value_of, field_value, read_value, read_correspond, words_correspond, field_words_correspond}
-use Rattle.gc_words.specs.Image.{Image, Block, blocks, is_start, block_at, graph_of}
+use Rattle.gc_words.specs.Word.{is_value, value_of, read_value, read_correspond, words_correspond, field_words_correspond}
+use Rattle.gc_words.specs.Image.{Image, Block, is_start, block_at, graph_of}
 use Rattle.gc_words.specs.Certificate.{BlocksCorrespond, Certified}
 use Rattle.gc_words.specs.Fault.{same_header}
 use Rattle.gc_words.specs.declared.header.Header.{Header}
@@ -17,29 +18,19 @@ use Rattle.gc_words.proofs.Public.{same_header_of, header_same, object_option, l
 use Rattle.gc_check.specs.Infer.{Together, AreTogether}
 use Rattle.gc_check.specs.Tables.{pair_at}
 use Rattle.gc_check.specs.Internal.Meetings.{is_free, met_refs, met_values, met, met_all, met_blocks, met_objects, HaveMet, AllMet, BlocksMet, ObjectsMet, MetTo}
-use Rattle.gc_check.proofs.Meetings.{Free, free_parts}
+use Rattle.gc_check.proofs.Meetings.{free_parts}
 
 -- ---- what is kept when words meet
 
 module _ (old new : Image) (P : List (ℕ × ℕ) → Type 0) where
   keeps_values : (pairs : List (ℕ × ℕ)) (o q : Option Value) → P pairs → ((a b : ℕ) → o ≡ Some (Ref a) → q ≡ Some (Ref b) → is_free old new pairs a b ≡ true → P (pairs ++ (a, b) ∷ [])) → P (met_values old new pairs o q)
-  keeps_values pairs None q p step = p
-  keeps_values pairs (Some Nil) q p step = p
-  keeps_values pairs (Some (Num n)) q p step = p
-  keeps_values pairs (Some (Ref a)) None p step = p
-  keeps_values pairs (Some (Ref a)) (Some Nil) p step = p
-  keeps_values pairs (Some (Ref a)) (Some (Num n)) p step = p
-  keeps_values pairs (Some (Ref a)) (Some (Ref b)) p step =
-      elim (cases_Bool (is_free old new pairs a b)) [
-        | inl free ↦ subst P (sym (ap (λ t. cond t (pairs ++ (a, b) ∷ []) pairs) free)) (step a b refl refl free)
-        | inr none ↦ subst P (sym (ap (λ t. cond t (pairs ++ (a, b) ∷ []) pairs) none)) p
-      ]
+  keeps_values pairs o q p step = grind (arith, common_steps, cases_Bool)
 
   -- what each new pair keeps
   abbrev Step : (ℕ → ℕ → Type 0) → Type 0
   Step R = (pairs : List (ℕ × ℕ)) (v w a b : ℕ) → R v w → read_value v ≡ Some (Ref a) → read_value w ≡ Some (Ref b) → is_free old new pairs a b ≡ true → P pairs → P (pairs ++ (a, b) ∷ [])
 
-  pub met_keeps : (R : ℕ → ℕ → Type 0) → Step R → (pairs : List (ℕ × ℕ)) (v w : ℕ) → R v w → P pairs → P (met old new pairs v w)
+  met_keeps : (R : ℕ → ℕ → Type 0) → Step R → (pairs : List (ℕ × ℕ)) (v w : ℕ) → R v w → P pairs → P (met old new pairs v w)
   met_keeps R step pairs v w r p = keeps_values pairs (read_value v) (read_value w) p (λ a b e f free. step pairs v w a b r e f free p)
 
   pub met_all_keeps : (R : ℕ → ℕ → Type 0) → Step R → (pairs : List (ℕ × ℕ)) (vs ws : List ℕ) → AllZip R vs ws → P pairs → P (met_all old new pairs vs ws)
@@ -47,7 +38,7 @@ module _ (old new : Image) (P : List (ℕ × ℕ) → Type 0) where
   met_all_keeps R step pairs (v ∷ vs) [] z p = p
   met_all_keeps R step pairs (v ∷ vs) (w ∷ ws) z p = met_all_keeps R step (met old new pairs v w) vs ws z.1 (met_keeps R step pairs v w z.0 p)
 
-  pub met_all_keeps_free : Step (λ v w. ℕ) → (pairs : List (ℕ × ℕ)) (vs ws : List ℕ) → P pairs → P (met_all old new pairs vs ws)
+  met_all_keeps_free : Step (λ v w. ℕ) → (pairs : List (ℕ × ℕ)) (vs ws : List ℕ) → P pairs → P (met_all old new pairs vs ws)
   met_all_keeps_free step pairs [] ws p = p
   met_all_keeps_free step pairs (v ∷ vs) [] p = p
   met_all_keeps_free step pairs (v ∷ vs) (w ∷ ws) p = met_all_keeps_free step (met old new pairs v w) vs ws (met_keeps (λ v w. ℕ) step pairs v w 0 p)
@@ -69,19 +60,10 @@ met_all_grows old new pairs vs ws = met_all_keeps_free old new (Grows pairs) (λ
 -- ---- words that have met
 
 not_or : (x y : Bool) → not (x || y) ≡ true → not x ≡ true
-not_or true y e = e
-not_or false y e = refl
+not_or x y e = grind (arith, common_steps)
 
 stays_taken : (old new : Image) (pairs more : List (ℕ × ℕ)) (a b : ℕ) → is_free old new pairs a b ≡ false → is_free old new (pairs ++ more) a b ≡ false
-stays_taken old new pairs more a b e =
-    elim (cases_Bool (is_free old new (pairs ++ more) a b)) [
-      | inl free ↦ (let parts : Free old new (pairs ++ more) a b = free_parts old new (pairs ++ more) a b free in
-          let x : not (list_any (λ q. q.0 == a) pairs) ≡ true = not_or _ _ (ap not (sym (list_any-append (λ q. q.0 == a) pairs more)) ∙ parts.old_free) in
-          let y : not (list_any (λ q. q.1 == b) pairs) ≡ true = not_or _ _ (ap not (sym (list_any-append (λ q. q.1 == b) pairs more)) ∙ parts.new_free) in
-          let still : is_free old new pairs a b ≡ true = and_from _ _ (and_from _ _ (and_from _ _ parts.old_start parts.new_start) x) y in
-          absurd (let no : true ≡ false = sym still ∙ e in cc))
-      | inr none ↦ none
-    ]
+stays_taken old new pairs more a b e = grind (arith, common_steps, cases_Bool, free_parts, not_or, list_any-append, and_from)
 
 met_stays : (old new : Image) (before after : List (ℕ × ℕ)) (v w : ℕ) → Grows before after → HaveMet old new before v w → HaveMet old new after v w
 met_stays old new before after v w g h = λ a b e f. subst (λ pairs. is_free old new pairs a b ≡ false) (sym g.1) (stays_taken old new before g.0 a b (h a b e f))
@@ -92,34 +74,16 @@ all_met_stays old new before after (v ∷ vs) [] g h = tt
 all_met_stays old new before after (v ∷ vs) (w ∷ ws) g h = (met_stays old new before after v w g h.0, all_met_stays old new before after vs ws g h.1)
 
 blocks_met_stay : (old new : Image) (before after : List (ℕ × ℕ)) (o q : Option Block) → Grows before after → BlocksMet old new before o q → BlocksMet old new after o q
-blocks_met_stay old new before after (Some a) (Some b) g h = λ e f. all_met_stays old new before after a.fields b.fields g (h e f)
-blocks_met_stay old new before after (Some a) None g h = tt
-blocks_met_stay old new before after None q g h = tt
-
-or_true : (b : Bool) → (b || true) ≡ true
-or_true true = refl
-or_true false = refl
+blocks_met_stay old new before after o q g h = grind (arith, common_steps, all_met_stays)
 
 pushed_taken : (old new : Image) (pairs : List (ℕ × ℕ)) (a b : ℕ) → is_free old new (pairs ++ (a, b) ∷ []) a b ≡ false
-pushed_taken old new pairs a b =
-    elim (cases_Bool (is_free old new (pairs ++ (a, b) ∷ []) a b)) [
-      | inl free ↦ (let parts : Free old new (pairs ++ (a, b) ∷ []) a b = free_parts old new (pairs ++ (a, b) ∷ []) a b free in
-          let there : list_any (λ q. q.0 == a) (pairs ++ (a, b) ∷ []) ≡ true
-          = list_any-append (λ q. q.0 == a) pairs ((a, b) ∷ []) ∙ ap (λ t. list_any (λ q. q.0 == a) pairs || (t || false)) (eq-eqb a a refl) ∙ or_true (list_any (λ q. q.0 == a) pairs) in
-          absurd (let no : false ≡ true = ap not (sym there) ∙ parts.old_free in cc))
-      | inr none ↦ none
-    ]
+pushed_taken old new pairs a b = grind (arith, common_steps, cases_Bool, free_parts, list_any-append, eq-eqb, or_right)
 
 refs_met : (old new : Image) (pairs : List (ℕ × ℕ)) (a b : ℕ) → is_free old new (met_refs old new pairs a b) a b ≡ false
-refs_met old new pairs a b =
-    elim (cases_Bool (is_free old new pairs a b)) [
-      | inl free ↦ subst (λ now. is_free old new now a b ≡ false) (sym (ap (λ t. cond t (pairs ++ (a, b) ∷ []) pairs) free)) (pushed_taken old new pairs a b)
-      | inr none ↦ subst (λ now. is_free old new now a b ≡ false) (sym (ap (λ t. cond t (pairs ++ (a, b) ∷ []) pairs) none)) none
-    ]
+refs_met old new pairs a b = grind (arith, common_steps, cases_Bool, pushed_taken)
 
 words_met : (old new : Image) (pairs : List (ℕ × ℕ)) (v w : ℕ) → HaveMet old new (met old new pairs v w) v w
-words_met old new pairs v w = λ a b e f.
-    subst (λ now. is_free old new now a b ≡ false) (λ i. met_values old new pairs (sym e i) (sym f i)) (refs_met old new pairs a b)
+words_met old new pairs v w = grind (arith, common_steps, refs_met)
 
 met_all_met : (old new : Image) (pairs : List (ℕ × ℕ)) (vs ws : List ℕ) → AllMet old new (met_all old new pairs vs ws) vs ws
 met_all_met old new pairs [] ws = tt
@@ -130,7 +94,7 @@ met_all_met old new pairs (v ∷ vs) (w ∷ ws) =
 
 -- ---- pairs join starts
 
-abbrev pub JoinStarts : Image → Image → List (ℕ × ℕ) → Type 0
+abbrev JoinStarts : Image → Image → List (ℕ × ℕ) → Type 0
 JoinStarts old new pairs = All (λ p. IsTrue (is_start old.words p.0) × IsTrue (is_start new.words p.1)) pairs
 
 met_all_starts : (old new : Image) (pairs : List (ℕ × ℕ)) (vs ws : List ℕ) → JoinStarts old new pairs → JoinStarts old new (met_all old new pairs vs ws)
@@ -166,19 +130,14 @@ fields_as_values : (h : Header) (pairs : List (ℕ × ℕ)) (vs ws : List ℕ) �
 fields_as_values h pairs vs ws e z = subst (λ b. AllZip (λ v w. cond b (v == w) (words_correspond pairs v w) ≡ true) vs ws) e z
 
 not_true : (b : Bool) → not b ≡ true → b ≡ false
-not_true true e = sym e
-not_true false e = refl
+not_true b e = grind (arith, common_steps)
 
 -- either the fields have met, or the headers differ or the objects are raw
 blocks_cases : (old new : Image) (P : List (ℕ × ℕ) → Type 0) (pairs : List (ℕ × ℕ)) (a b : Block)
     → ((same_header a.header b.header && not a.header.raw) ≡ true → P (met_all old new pairs a.fields b.fields))
     → ((same_header a.header b.header && not a.header.raw) ≡ false → P pairs)
     → P (met_blocks old new pairs (Some a) (Some b))
-blocks_cases old new P pairs a b alike other =
-    elim (cases_Bool (same_header a.header b.header && not a.header.raw)) [
-      | inl e ↦ subst P (sym (ap (λ t. cond t (met_all old new pairs a.fields b.fields) pairs) e)) (alike e)
-      | inr e ↦ subst P (sym (ap (λ t. cond t (met_all old new pairs a.fields b.fields) pairs) e)) (other e)
-    ]
+blocks_cases old new P pairs a b alike other = grind (arith, common_steps, cases_Bool)
 
 pub met_blocks_grow : (old new : Image) (pairs : List (ℕ × ℕ)) (o q : Option Block) → Grows pairs (met_blocks old new pairs o q)
 met_blocks_grow old new pairs (Some a) (Some b) = blocks_cases old new (Grows pairs) pairs a b (λ e. met_all_grows old new pairs a.fields b.fields) (λ e. grows_none pairs)
@@ -197,18 +156,12 @@ met_blocks_forced old new cert pairs (Some a) None c h = h
 met_blocks_forced old new cert pairs None q c h = h
 
 met_blocks_met : (old new : Image) (pairs : List (ℕ × ℕ)) (o q : Option Block) → BlocksMet old new (met_blocks old new pairs o q) o q
-met_blocks_met old new pairs (Some a) (Some b) = λ e raw.
-    subst (λ now. AllMet old new now a.fields b.fields)
-    (sym (ap (λ t. cond t (met_all old new pairs a.fields b.fields) pairs) (and_from (same_header a.header b.header) (not a.header.raw) (same_header_of a.header b.header e) (ap not raw))))
-    (met_all_met old new pairs a.fields b.fields)
-met_blocks_met old new pairs (Some a) None = tt
-met_blocks_met old new pairs None q = tt
+met_blocks_met old new pairs o q = grind (arith, common_steps, and_from, same_header_of, met_all_met)
 
 -- ---- the same path finds both
 
 pub follow_nil : (objects : List (ℕ × Object)) (o : Option Value) → follow objects o [] ≡ o
-follow_nil objects None = refl
-follow_nil objects (Some v) = refl
+follow_nil objects o = grind (arith, common_steps)
 
 follow_push : (objects : List (ℕ × Object)) (fields : List ℕ) (o : Option Value) (a i : ℕ) → follow objects o fields ≡ Some (Ref a) → follow objects o (fields ++ i ∷ []) ≡ field_of (lookup objects a) i
 follow_push objects fields None a i e = absurd (let no : None ≡ Some (Ref a) = e in cc)
@@ -223,8 +176,7 @@ get_map f (y ∷ xs) zero x e = let same : Some y ≡ Some x = e in cc
 get_map f (y ∷ xs) (suc i) x e = get_map f xs i x e
 
 value_read : (b : Bool) (x y : Value) → cond b (Some x) None ≡ Some y → x ≡ y
-value_read true x y e = let same : Some x ≡ Some y = e in cc
-value_read false x y e = absurd (let no : None ≡ Some y = e in cc)
+value_read b x y e = grind (arith, common_steps)
 
 -- some path finds the values of both words
 abbrev SamePath : Image → Image → ℕ → ℕ → Type 0
@@ -246,10 +198,7 @@ roots_together old new = met_all_together old new [] old.roots new.roots
     (λ i v w e f. (i, [], follow_nil (graph_of old).objects _ ∙ get_map value_of old.roots i v e, follow_nil (graph_of new).objects _ ∙ get_map value_of new.roots i w f)) (All-nil (λ p. Together old new p.0 p.1))
 
 field_found : (image : Image) (a i v : ℕ) (b : Block) → block_at image.words a ≡ Some b → b.header.raw ≡ false → slice_get b.fields i ≡ Some v → field_of (lookup (graph_of image).objects a) i ≡ Some (value_of v)
-field_found image a i v b e raw g =
-    ap (λ o. field_of o i) (lookup_of_blocks (blocks image.words) a ∙ ap object_option e)
-    ∙ get_map (field_value b.header) b.fields i v g
-    ∙ ap (λ r. Some (cond r (Num v) (value_of v))) raw
+field_found image a i v b e raw g = grind (arith, common_steps, lookup_of_blocks, object_option, get_map)
 
 met_blocks_together : (old new : Image) (pairs : List (ℕ × ℕ)) (p : ℕ × ℕ) (o q : Option Block) → block_at old.words p.0 ≡ o → block_at new.words p.1 ≡ q → Together old new p.0 p.1 → AreTogether old new pairs → AreTogether old new (met_blocks old new pairs o q)
 met_blocks_together old new pairs p (Some a) (Some b) eo eq t h = blocks_cases old new (AreTogether old new) pairs a b

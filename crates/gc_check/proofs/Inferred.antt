@@ -1,8 +1,9 @@
 -- If some certificate holds of two images, the pairs that a walk finds are one that holds.
+use Rattle.std.proofs.lemmas.Grind.{common_steps}
 use Rattle.std.proofs.Common.{◌≡◌, ◌≢◌, ℕ, zero, suc, ◌+◌, ◌<◌, ◌≤◌, Bool, true, false, cond, not, ◌&&◌, ◌||◌, ◌==◌, List, [], ◌∷◌, length, get_or, Option, Some, None, refl, sym, ◌∙◌, ap, subst, inl, inr, arith}
 use Rattle.std.specs.Prelude.{slice_index, slice_index_or}
 use Rattle.std.specs.List.{AllPairs, AllZip, list_any, Any}
-use Rattle.std.proofs.lemmas.Bool.{eqb-true, eq-eqb, ne_eqb, cases_Bool, and_from}
+use Rattle.std.proofs.lemmas.Bool.{eqb-true, eq-eqb, ne_eqb, cases_Bool, and_from, or_right}
 use Rattle.std.specs.Prelude.{is_some}
 use Rattle.std.proofs.lemmas.List.Folds.{Any-from_list_any, list_any_at}
 use Rattle.gc_graph.specs.Graph.{Value, Nil, Num, Ref}
@@ -13,7 +14,6 @@ use Rattle.gc_words.specs.Certificate.{BlocksCorrespond, Certified}
 use Rattle.gc_words.specs.declared.header.Header.{Header}
 use Rattle.gc_words.proofs.Public.{corresponding, no_fault_of_certified}
 use Rattle.std.proofs.lemmas.List.{length-map}
-use Rattle.gc_words.specs.Views.{addresses}
 use Rattle.gc_words.specs.Fault.{first_fault}
 use Rattle.gc_words.specs.declared.image.Pair.{Pair}
 use Rattle.gc_words.specs.declared.refusal.Refusal.{Refusal}
@@ -33,8 +33,7 @@ abbrev next_risen : Bool → ℕ → ℕ → List ℕ → List (ℕ × ℕ)
 next_risen b at original row = cond b (risen (suc at) row) ((original, at) ∷ risen (suc at) row)
 
 length_next : (b : Bool) (at original : ℕ) (row : List ℕ) → length (risen (suc at) row) ≤ length row → length (next_risen b at original row) ≤ suc (length row)
-length_next true at original row ih = omega arith
-length_next false at original row ih = omega arith
+length_next b at original row ih = grind (arith, common_steps)
 
 pub risen_length : (at : ℕ) (row : List ℕ) → length (risen at row) ≤ length row
 risen_length at [] = omega arith
@@ -57,9 +56,7 @@ abbrev Stand : ℕ → List ℕ → List (ℕ × ℕ) → Type 0
 Stand at row pairs = (k : ℕ) (d : ℕ × ℕ) → k < length pairs → StandsAt at row (get_or pairs k d)
 
 stand_next : (b : Bool) (at original : ℕ) (row : List ℕ) → (original == 0) ≡ b → Stand (suc at) row (risen (suc at) row) → Stand at (original ∷ row) (next_risen b at original row)
-stand_next true at original row e ih k d h = stands_later at original row _ (ih k d h)
-stand_next false at original row e ih zero d h = record { place = 0; there = omega arith; entry = refl; some = λ z. absurd (let no : true ≡ false = sym (eq-eqb original 0 z) ∙ e in cc) }
-stand_next false at original row e ih (suc k) d h = stands_later at original row _ (ih k d (omega arith))
+stand_next b at original row e ih k d h = grind (arith, common_steps, stands_later, eq-eqb)
 
 risen_stand : (at : ℕ) (row : List ℕ) → Stand at row (risen at row)
 risen_stand at [] k d h = absurd (omega arith)
@@ -75,13 +72,8 @@ pub risen_rises : (at : ℕ) (row : List ℕ) → AllPairs (λ p q. p.1 < q.1) (
 risen_rises at [] i j d h l = absurd (omega arith)
 risen_rises at (original ∷ row) i j d h l = rises_next (original == 0) at original row (risen_rises (suc at) row) i j d h l
 
-or_true : (b : Bool) → (b || true) ≡ true
-or_true true = refl
-or_true false = refl
-
 has_next : (b : Bool) (at original : ℕ) (row : List ℕ) (a n : ℕ) → paired (risen (suc at) row) a n ≡ true → paired (next_risen b at original row) a n ≡ true
-has_next true at original row a n e = e
-has_next false at original row a n e = ap (λ t. ((original == a) && (at == n)) || t) e ∙ or_true ((original == a) && (at == n))
+has_next b at original row a n e = grind (arith, common_steps, or_right)
 
 after : (at k : ℕ) → suc at + k ≡ at + suc k
 after at k = omega arith
@@ -114,12 +106,7 @@ module _ (old new : Image) (pairs : List (ℕ × ℕ)) (row : List ℕ) (held : 
       above (suc n) some = omega arith
 
   pub risen_of_found : (a b : ℕ) → 1 ≤ a → paired pairs a b ≡ true → paired (risen 0 row) a b ≡ true
-  risen_of_found a b low e =
-      let entry : slice_index row b ≡ a = eqb-true _ _ (held.pair b a low ∙ paired_swapped pairs a b ∙ e) in
-      subst (λ n. paired (risen 0 row) a n ≡ true) (from_0 b) (risen_has 0 row b a entry (λ z. omega arith))
-    where
-      from_0 : (n : ℕ) → 0 + n ≡ n
-      from_0 n = omega arith
+  risen_of_found a b low e = grind (arith, common_steps, eqb-true, paired_swapped, risen_has)
 
   module _ (met : MetTo old new pairs (length pairs)) (cert : List (ℕ × ℕ)) (certified : Certified old new cert) (low : (a : ℕ) → is_start old.words a ≡ true → 1 ≤ a) where
     both : Corresponding cert (graph_of old) (graph_of new)
@@ -154,7 +141,7 @@ module _ (old new : Image) (pairs : List (ℕ × ℕ)) (row : List ℕ) (held : 
         paired_at : (pairs : List (ℕ × ℕ)) (k : ℕ) (p : ℕ × ℕ) (a b : ℕ) → k < length pairs → slice_index_or pairs k p ≡ p → (p.0 == a) ≡ true → (p.1 == b) ≡ true → paired pairs a b ≡ true
         paired_at pairs k p a b h e f g = list_any_at (λ q. (q.0 == a) && (q.1 == b)) pairs k p h (ap (λ (q : ℕ × ℕ). (q.0 == a) && (q.1 == b)) e ∙ and_from _ _ f g)
 
-    abbrev pub now : List (ℕ × ℕ)
+    abbrev now : List (ℕ × ℕ)
     now = risen 0 row
 
     taken_now : (a b : ℕ) → paired cert a b ≡ true → is_free old new pairs a b ≡ false → paired now a b ≡ true
@@ -196,7 +183,7 @@ module _ (old new : Image) (pairs : List (ℕ × ℕ)) (row : List ℕ) (held : 
         blocks_now (block_at old.words a) (block_at new.words b) (paired_objects old new cert a b certified (forced a b e))
         (subst (λ (p : ℕ × ℕ). BlocksMet old new pairs (block_at old.words p.0) (block_at new.words p.1)) (k.2 (0, 0)) (met.objects k.0 k.1 k.1))
 
-    pub certified_now : Certified old new now
+    certified_now : Certified old new now
     certified_now = record {
       old_shaped = certified.old_shaped;
       new_shaped = certified.new_shaped;
@@ -211,7 +198,7 @@ module _ (old new : Image) (pairs : List (ℕ × ℕ)) (row : List ℕ) (held : 
       roots = words_now old.roots new.roots certified.roots met.roots;
     }
 
-    pub forced_now : AreIn cert now
+    forced_now : AreIn cert now
     forced_now k d h = forced (get_or now k d).0 (get_or now k d).1 (found_of_risen k d h)
 
 -- ---- answers
@@ -222,12 +209,9 @@ module _ (old new old_seen new_seen : Image) (found : Found) (cert : List Pair) 
   held_here = subst (λ image. HoldsFound image new found) old_is (subst (λ image. HoldsFound old_seen image found) new_is held)
 
   pub met_here : MetTo old new (pairs_of found.pairs.items) (length (pairs_of found.pairs.items))
-  met_here =
-      subst (λ n. MetTo old new (pairs_of found.pairs.items) n) (sym (length-map found.pairs.items addresses))
-      (subst (λ image. MetTo image new (pairs_of found.pairs.items) (length found.pairs.items)) old_is
-      (subst (λ image. MetTo old_seen image (pairs_of found.pairs.items) (length found.pairs.items)) new_is met))
+  met_here = grind (arith, common_steps, length-map)
 
-  pub low_here : (a : ℕ) → is_start old.words a ≡ true → 1 ≤ a
+  low_here : (a : ℕ) → is_start old.words a ≡ true → 1 ≤ a
   low_here a start = low_start old.words a held_here.old_entries.walked start
 
   pub pairs_are_forced : AreForced old new (pairs_of cert)
@@ -251,9 +235,3 @@ module _ (old new old_seen new_seen : Image) (found : Found) (cert : List Pair) 
 -- a refusal of these pairs is one of all
 pub refused_of_all : (old new : Image) (pairs : List (ℕ × ℕ)) (refusal : Refusal) → (Certifiable old new → Certified old new pairs) → first_fault old new pairs ≡ Some refusal → Certifiable old new → ⊥
 refused_of_all old new pairs refusal complete e some = let no : None ≡ Some refusal = sym (no_fault_of_certified old new pairs (complete some)) ∙ e in cc
-
-few_pairs : (cert : List Pair) (row : List ℕ) (n : ℕ) → pairs_of cert ≡ risen 0 row → length row < n → length cert < n
-few_pairs cert row n e h =
-    let most : length (risen 0 row) ≤ length row = risen_length 0 row in
-    let same : length (pairs_of cert) ≡ length (risen 0 row) = ap length e in
-    omega (arith, length-map cert addresses, same, most, h)

@@ -1,12 +1,11 @@
 -- The pairs found, in the order of their new addresses: they have a table of partners, and lead to no further pair.
-use Rattle.std.proofs.Common.{◌≡◌, ℕ, zero, suc, ◌<◌, ◌≤◌, ◌^◌, Bool, true, false, not, ◌&&◌, ◌||◌, ◌==◌, List, [], ◌∷◌, length, get_or, Option, Some, None, refl, sym, ◌∙◌, ap, subst, inl, inr, arith}
-use Rattle.std.specs.Prelude.{slice_index, IsTrue}
+use Rattle.std.proofs.lemmas.Grind.{common_steps}
+use Rattle.std.proofs.Common.{◌≡◌, ℕ, zero, suc, ◌<◌, ◌≤◌, ◌^◌, Bool, true, false, not, ◌&&◌, ◌||◌, ◌==◌, List, [], ◌∷◌, length, get_or, Option, Some, None, refl, sym, ◌∙◌, ap, subst, inl, inr, arith, rules}
 use Rattle.std.specs.List.{All, AllPairs, list_any}
-use Rattle.std.proofs.lemmas.Bool.{eqb-true, eq-eqb, and_from, or_cases}
-use Rattle.std.proofs.lemmas.List.Elements.{length_all_zip}
+use Rattle.std.proofs.lemmas.Bool.{eqb-true, eq-eqb, and_from, or_cases, or_left, or_right}
 use Rattle.std.proofs.lemmas.List.Folds.{list_any_at}
 use Rattle.gc_graph.specs.Correspond.{paired}
-use Rattle.gc_words.specs.Word.{read_value, words_correspond}
+use Rattle.gc_words.specs.Word.{read_value}
 use Rattle.gc_words.specs.Image.{Image, Block, IsShaped, is_start, block_at}
 use Rattle.gc_words.specs.Certificate.{BlocksCorrespond, Certified}
 use Rattle.gc_words.specs.Fault.{at_place, shape_fault, table_fault, first_fault, AreComparable}
@@ -25,7 +24,7 @@ use Rattle.gc_check.specs.declared.verdict.Verdict.{Verdict}
 use Rattle.gc_check.specs.declared.meet.Found.{Found}
 use Rattle.gc_check.specs.declared.verdict.CheckFault.{CheckFault}
 use Rattle.gc_check.specs.declared.verdict.CheckFault.TheVariants.{Refused}
-use Rattle.gc_check.proofs.Alike.{or_first, or_second, all_more, blocks_more}
+use Rattle.gc_check.proofs.Alike.{all_more, blocks_more}
 use Rattle.gc_check.proofs.StartMarks.{low_start}
 use Rattle.gc_check.proofs.ByAddress.{length_by_address}
 use Rattle.gc_check.proofs.Forced.{place_of}
@@ -34,9 +33,7 @@ use Rattle.gc_check.proofs.Inferred.{found_of_risen, risen_of_found, risen_rises
 -- ---- addresses of pairs
 
 same_bools : (b c : Bool) → (b ≡ true → c ≡ true) → (c ≡ true → b ≡ true) → b ≡ c
-same_bools true c to from = sym (to refl)
-same_bools false true to from = from refl
-same_bools false false to from = refl
+same_bools b c to from = grind (arith, common_steps)
 
 first_of : (pairs : List (ℕ × ℕ)) (a b : ℕ) → paired pairs a b ≡ true → list_any (λ q. q.0 == a) pairs ≡ true
 first_of pairs a b e =
@@ -52,16 +49,16 @@ pair_of_first : (pairs : List (ℕ × ℕ)) (a : ℕ) → list_any (λ q. q.0 ==
 pair_of_first [] a e = absurd (let no : false ≡ true = e in cc)
 pair_of_first (p ∷ pairs) a e =
     elim (or_cases (p.0 == a) (list_any (λ q. q.0 == a) pairs) e) [
-      | inl here ↦ (p.1, or_first _ (paired pairs a p.1) (and_from _ _ here (eq-eqb p.1 p.1 refl)))
-      | inr later ↦ (let found : (b : ℕ) × (paired pairs a b ≡ true) = pair_of_first pairs a later in (found.0, or_second ((p.0 == a) && (p.1 == found.0)) _ found.1))
+      | inl here ↦ (p.1, or_left _ (paired pairs a p.1) (and_from _ _ here (eq-eqb p.1 p.1 refl)))
+      | inr later ↦ (let found : (b : ℕ) × (paired pairs a b ≡ true) = pair_of_first pairs a later in (found.0, or_right ((p.0 == a) && (p.1 == found.0)) _ found.1))
     ]
 
-pair_of_second : (pairs : List (ℕ × ℕ)) (b : ℕ) → list_any (λ q. q.1 == b) pairs ≡ true → (a : ℕ) × (paired pairs a b ≡ true)
+pub pair_of_second : (pairs : List (ℕ × ℕ)) (b : ℕ) → list_any (λ q. q.1 == b) pairs ≡ true → (a : ℕ) × (paired pairs a b ≡ true)
 pair_of_second [] b e = absurd (let no : false ≡ true = e in cc)
 pair_of_second (p ∷ pairs) b e =
     elim (or_cases (p.1 == b) (list_any (λ q. q.1 == b) pairs) e) [
-      | inl here ↦ (p.0, or_first _ (paired pairs p.0 b) (and_from _ _ (eq-eqb p.0 p.0 refl) here))
-      | inr later ↦ (let found : (a : ℕ) × (paired pairs a b ≡ true) = pair_of_second pairs b later in (found.0, or_second ((p.0 == found.0) && (p.1 == b)) _ found.1))
+      | inl here ↦ (p.0, or_left _ (paired pairs p.0 b) (and_from _ _ (eq-eqb p.0 p.0 refl) here))
+      | inr later ↦ (let found : (a : ℕ) × (paired pairs a b ≡ true) = pair_of_second pairs b later in (found.0, or_right ((p.0 == found.0) && (p.1 == b)) _ found.1))
     ]
 
 -- ---- the pairs found, and the same pairs in order
@@ -72,9 +69,7 @@ module _ (old new : Image) (pairs : List (ℕ × ℕ)) (row partners : List ℕ)
   now = risen 0 row
 
   starts_at : (a b : ℕ) → paired pairs a b ≡ true → (is_start old.words a ≡ true) × (is_start new.words b ≡ true)
-  starts_at a b e =
-      let k : (k : ℕ) × (k < length pairs) × ((d : ℕ × ℕ) → get_or pairs k d ≡ (a, b)) = place_of pairs a b e in
-      subst (λ (p : ℕ × ℕ). (is_start old.words p.0 ≡ true) × (is_start new.words p.1 ≡ true)) (k.2 (a, b)) (met.starts k.0 (a, b) k.1)
+  starts_at a b e = search (rules, place_of)
 
   to_now : (a b : ℕ) → paired pairs a b ≡ true → paired now a b ≡ true
   to_now a b e = risen_of_found old new pairs row held a b (low a (starts_at a b e).0) e
@@ -88,22 +83,15 @@ module _ (old new : Image) (pairs : List (ℕ × ℕ)) (row partners : List ℕ)
   same_pairs a b = same_bools _ _ (to_now a b) (from_now a b)
 
   same_firsts : (a : ℕ) → list_any (λ q. q.0 == a) pairs ≡ list_any (λ q. q.0 == a) now
-  same_firsts a = same_bools _ _
-      (λ e. let found : (b : ℕ) × (paired pairs a b ≡ true) = pair_of_first pairs a e in first_of now a found.0 (to_now a found.0 found.1))
-      (λ e. let found : (b : ℕ) × (paired now a b ≡ true) = pair_of_first now a e in first_of pairs a found.0 (from_now a found.0 found.1))
+  same_firsts a = grind (arith, common_steps, same_bools, pair_of_first, first_of, to_now, from_now)
 
   same_seconds : (b : ℕ) → list_any (λ q. q.1 == b) pairs ≡ list_any (λ q. q.1 == b) now
-  same_seconds b = same_bools _ _
-      (λ e. let found : (a : ℕ) × (paired pairs a b ≡ true) = pair_of_second pairs b e in second_of now found.0 b (to_now found.0 b found.1))
-      (λ e. let found : (a : ℕ) × (paired now a b ≡ true) = pair_of_second now b e in second_of pairs found.0 b (from_now found.0 b found.1))
+  same_seconds b = grind (arith, common_steps, same_bools, pair_of_second, second_of, to_now, from_now)
 
   -- ---- their table
 
   one_partner : (a b c : ℕ) → paired pairs a b ≡ true → paired pairs a c ≡ true → b ≡ c
-  one_partner a b c e f =
-      let x : slice_index partners a ≡ b = eqb-true _ _ (table.pair a b (new_low b (starts_at a b e).1) ∙ e) in
-      let y : slice_index partners a ≡ c = eqb-true _ _ (table.pair a c (new_low c (starts_at a c f).1) ∙ f) in
-      sym x ∙ y
+  one_partner a b c e f = grind (arith, common_steps, eqb-true, starts_at)
 
   later : AllPairs Later now
   later i j d h l =
@@ -120,18 +108,13 @@ module _ (old new : Image) (pairs : List (ℕ × ℕ)) (row partners : List ℕ)
       none_or _ _ (none_or _ _ (none_or _ _ (ap (λ o. at_place o (λ at. OldShape at)) old_shaped) (ap (λ o. at_place o (λ at. NewShape at)) new_shaped)) (none_when _ _ (ap not (eq-eqb _ _ roots))))
       (places_hold old new now now [] 0 refl refl later join_starts)
 
-  pub tables_of_found : (entries : List ℕ) → HasEntries old.words entries → by_address old.words entries ≡ partners → shape_fault old ≡ None → shape_fault new ≡ None → length old.roots ≡ length new.roots → length now < 2 ^ 32
+  tables_of_found : (entries : List ℕ) → HasEntries old.words entries → by_address old.words entries ≡ partners → shape_fault old ≡ None → shape_fault new ≡ None → length old.roots ≡ length new.roots → length now < 2 ^ 32
       → HasTables (record { old = old; new = new; pairs = now }) entries
-  tables_of_found entries long same old_shaped new_shaped roots few = record {
-    few = few;
-    placed = placed old_shaped new_shaped roots;
-    fits = long;
-    partners = subst (λ row. HoldsPartners row now) (sym same) (record { pair = λ a b one. table.pair a b one ∙ same_pairs a b; taken = λ a. table.taken a ∙ same_firsts a });
-  }
+  tables_of_found entries long same old_shaped new_shaped roots few = grind (arith, common_steps, placed, same_pairs, same_firsts)
 
   -- ---- they hold if all words that have met correspond
 
-  pub alike_hold : IsShaped old → IsShaped new → AlikeTo old new pairs (length pairs) → Certified old new now
+  alike_hold : IsShaped old → IsShaped new → AlikeTo old new pairs (length pairs) → Certified old new now
   alike_hold old_shaped new_shaped alike = record {
     old_shaped = old_shaped;
     new_shaped = new_shaped;
@@ -148,14 +131,10 @@ module _ (old new : Image) (pairs : List (ℕ × ℕ)) (row partners : List ℕ)
   -- ---- they are closed
 
   one_is_taken : (s t x y : Bool) → s ≡ true → t ≡ true → (s && t && not x && not y) ≡ false → (x || y) ≡ true
-  one_is_taken s t true y e f g = refl
-  one_is_taken s t false true e f g = refl
-  one_is_taken s t false false e f g = absurd (let no : true ≡ false = sym (λ i. e i && f i && true && true) ∙ g in cc)
+  one_is_taken s t x y e f g = grind (arith, common_steps)
 
   taken_now : (a b : ℕ) → is_start old.words a ≡ true → is_start new.words b ≡ true → is_free old new pairs a b ≡ false → is_taken now a b ≡ true
-  taken_now a b s t taken =
-      one_is_taken (is_start old.words a) (is_start new.words b) (list_any (λ q. q.0 == a) now) (list_any (λ q. q.1 == b) now) s t
-      ((λ i. is_start old.words a && is_start new.words b && not (sym (same_firsts a) i) && not (sym (same_seconds b) i)) ∙ taken)
+  taken_now a b s t taken = grind (arith, common_steps, one_is_taken, same_firsts, same_seconds)
 
   lead : (vs ws : List ℕ) → AllMet old new pairs vs ws → LeadsToPairs old new now vs ws
   lead [] ws m i v w e f = absurd (let no : None ≡ Some v = e in cc)
@@ -167,11 +146,9 @@ module _ (old new : Image) (pairs : List (ℕ × ℕ)) (row partners : List ℕ)
   lead (x ∷ vs) (y ∷ ws) m (suc i) v w e f = lead vs ws m.1 i v w e f
 
   objects_lead : (o q : Option Block) → BlocksMet old new pairs o q → ObjectsLeadToPairs old new now o q
-  objects_lead (Some a) (Some b) m = λ same raw. lead a.fields b.fields (m same raw)
-  objects_lead (Some a) None m = tt
-  objects_lead None q m = tt
+  objects_lead o q m = grind (arith, common_steps, lead)
 
-  pub found_are_closed : AreClosed old new now
+  found_are_closed : AreClosed old new now
   found_are_closed = record {
     roots = lead old.roots new.roots met.roots;
     objects = λ k d h.
@@ -215,21 +192,12 @@ module _ (old new old_seen new_seen : Image) (found : Found) (cert : List Pair) 
           (subst (λ image. AlikeTo old_seen image (pairs_of found.pairs.items) (length found.pairs.items)) new_is alike))
 
   pub pairs_are_closed : AreClosed old new (pairs_of cert)
-  pairs_are_closed = subst (AreClosed old new) (sym rise)
-      (found_are_closed old new (pairs_of found.pairs.items) (originals_in new found) (partners_in old found) here.originals here.partners all_met old_low new_low)
+  pairs_are_closed = grind (arith, common_steps, found_are_closed, here, all_met, old_low, new_low)
 
 -- ---- images that cannot be compared
 
-comparable : (old new : Image) → Certifiable old new → AreComparable old new
-comparable old new some = record { old_shaped = some.1.old_shaped; new_shaped = some.1.new_shaped; roots = same_length }
-  where
-    same_length : length old.roots ≡ length new.roots
-    same_length = length_all_zip (λ v w. IsTrue (words_correspond some.0 v w)) old.roots new.roots some.1.roots
-
 no_refusal : (o : Option ℕ) (place : ℕ → Refusal) (fault : CheckFault) (refusal : Refusal) → o ≡ None → IsRefusalOf (at_place o place) fault → fault ≡ Refused refusal → ⊥
-no_refusal o place fault refusal none is same =
-    let there : at_place o place ≡ Some refusal = subst (IsRefusalOf (at_place o place)) same is in
-    let no : None ≡ Some refusal = sym (ap (λ o. at_place o place) none) ∙ there in cc
+no_refusal o place fault refusal none is same = grind (arith, common_steps)
 
 pub old_is_shaped : (old new : Image) (fault : CheckFault) (refusal : Refusal) → IsRefusalOf (at_place (shape_fault old) (λ at. OldShape at)) fault → fault ≡ Refused refusal → AreComparable old new → ⊥
 old_is_shaped old new fault refusal is same both = no_refusal (shape_fault old) (λ at. OldShape at) fault refusal (no_shape_fault old both.old_shaped) is same

@@ -11,7 +11,7 @@ unfolding is_marked
 marked_is bits place = ap (λ b. b == 1) (shr_and_one (slice_index bits (place / 64)) (place % 64))
 
 -- the bits with the mark of a place
-abbrev pub with_mark : List ℕ → ℕ → List ℕ
+abbrev with_mark : List ℕ → ℕ → List ℕ
 with_mark bits place = set bits (place / 64) (bit_or (slice_index bits (place / 64)) (1 * 2 ^ (place % 64) % 18446744073709551616))
 
 pub mark_is_set : (bits : List ℕ) (place : ℕ) → place / 64 < length bits → is_marked (with_mark bits place) place ≡ true

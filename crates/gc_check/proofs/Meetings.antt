@@ -1,5 +1,6 @@
 -- Two words meet, and perhaps they are one more pair.
-use Rattle.std.proofs.Common.{◌≡◌, ℕ, zero, suc, ◌<◌, ◌≤◌, ◌+◌, Bool, true, false, cond, not, ◌&&◌, ◌||◌, ◌==◌, List, [], ◌∷◌, ◌++◌, length, replicate, get_or, set, refl, sym, ◌∙◌, ap, subst, inl, inr, arith, length-set, get_or-set_other}
+use Rattle.std.proofs.lemmas.Grind.{common_steps}
+use Rattle.std.proofs.Common.{◌≡◌, ℕ, zero, suc, ◌<◌, ◌≤◌, ◌+◌, Bool, true, false, cond, not, ◌&&◌, ◌||◌, ◌==◌, List, [], ◌∷◌, ◌++◌, length, replicate, get_or, set, refl, sym, ◌∙◌, ap, subst, arith, length-set}
 use Rattle.std.specs.Prelude.{slice_index, vec_capacity}
 use Rattle.std.specs.List.{list_any}
 use Rattle.std.proofs.lemmas.Bool.{eqb-true, eq-eqb, ne_eqb, and_parts, cases_Bool, both_ways}
@@ -25,10 +26,7 @@ any_swapped [] b = refl
 any_swapped (p ∷ pairs) b = ap (λ t. (p.1 == b) || t) (any_swapped pairs b)
 
 and_turned : (a b : Bool) → (a && b) ≡ (b && a)
-and_turned true true = refl
-and_turned true false = refl
-and_turned false true = refl
-and_turned false false = refl
+and_turned a b = grind (arith, common_steps)
 
 pub paired_swapped : (pairs : List (ℕ × ℕ)) (a b : ℕ) → paired (swapped pairs) b a ≡ paired pairs a b
 paired_swapped [] a b = refl
@@ -45,8 +43,7 @@ pairs_push (y ∷ cert) x = ap (λ rest. addresses y ∷ rest) (pairs_push cert 
 -- ---- free addresses
 
 turned : (b c : Bool) → not b ≡ c → b ≡ not c
-turned true c e = ap not e
-turned false c e = ap not e
+turned b c e = grind (arith, common_steps)
 
 old_entry : (old new : Image) (f : Found) (a : ℕ) → HoldsFound old new f → (slice_index (partners_in old f) a == 0) ≡ not (list_any (λ q. q.0 == a) (pairs_of f.pairs.items))
 old_entry old new f a held = turned _ _ (held.partners.taken a)
@@ -61,20 +58,7 @@ pub record Free (old new : Image) (pairs : List (ℕ × ℕ)) (a b : ℕ) : Type
   pub new_free : not (list_any (λ q. q.1 == b) pairs) ≡ true
 
 pub free_parts : (old new : Image) (pairs : List (ℕ × ℕ)) (a b : ℕ) → is_free old new pairs a b ≡ true → Free old new pairs a b
-free_parts old new pairs a b e =
-    let s3 : ((is_start old.words a && is_start new.words b && not (list_any (λ q. q.0 == a) pairs)) ≡ true) × (not (list_any (λ q. q.1 == b) pairs) ≡ true) = and_parts _ _ e in
-    let s2 : ((is_start old.words a && is_start new.words b) ≡ true) × (not (list_any (λ q. q.0 == a) pairs) ≡ true) = and_parts _ _ s3.0 in
-    let s1 : (is_start old.words a ≡ true) × (is_start new.words b ≡ true) = and_parts _ _ s2.0 in
-    record { old_start = s1.0; new_start = s1.1; old_free = s2.1; new_free = s3.1 }
-
-false_and : (a b c d : Bool) → a ≡ false → (a && b && c && d) ≡ false
-false_and a b c d e = ap (λ a. a && b && c && d) e
-
-and_false : (a b c d : Bool) → a ≡ true → b ≡ false → (a && b && c && d) ≡ false
-and_false a b c d e f = (λ i. e i && f i && c && d)
-
-and_and_false : (a b c d : Bool) → a ≡ true → b ≡ true → c ≡ false → (a && b && c && d) ≡ false
-and_and_false a b c d e f g = (λ i. e i && f i && g i && d)
+free_parts old new pairs a b e = grind (arith, common_steps, and_parts)
 
 and_and_and : (a b c d : Bool) → a ≡ true → b ≡ true → c ≡ true → (a && b && c && d) ≡ d
 and_and_and a b c d e f g = (λ i. e i && f i && g i && d)
@@ -111,7 +95,7 @@ taken_none (suc n) = taken_none n
 -- ---- room for a pair of each old object
 
 -- each entry that is not 0 stands at a start, from address `at` on
-abbrev pub StandAtStarts : List ℕ → ℕ → List ℕ → Type 0
+abbrev StandAtStarts : List ℕ → ℕ → List ℕ → Type 0
 StandAtStarts words at row = (k : ℕ) → not (slice_index row k == 0) ≡ true → is_start words (at + k) ≡ true
 
 pub few_taken : (words : List ℕ) (at : ℕ) (row : List ℕ) → StandAtStarts words at row → taken_in row ≤ starts_from words at (length row)
@@ -135,11 +119,7 @@ few_taken words at (entry ∷ row) h =
 -- the entries after one more, at a start
 pub starts_one : (words row : List ℕ) (a x : ℕ) → is_start words a ≡ true → ((k : ℕ) → not (slice_index row k == 0) ≡ true → is_start words k ≡ true)
     → (k : ℕ) → not (slice_index (set row a x) k == 0) ≡ true → is_start words k ≡ true
-starts_one words row a x start h k some =
-    elim (cases_Bool (a == k)) [
-      | inl same ↦ subst (λ place. is_start words place ≡ true) (eqb-true a k same) start
-      | inr other ↦ h k (subst (λ entry. not (entry == 0) ≡ true) (get_or-set_other row a k x 0 (λ same. both_ways (a == k) other (eq-eqb a k (sym same)))) some)
-    ]
+starts_one words row a x start h k some = grind (arith, common_steps, cases_Bool, eqb-true, both_ways, eq-eqb)
 
 -- a free pair has room
 pub has_room : (old new : Image) (f : Found) (a b : ℕ) → HoldsFound old new f → is_free old new (pairs_of f.pairs.items) a b ≡ true → length f.pairs.items < vec_capacity f.pairs
@@ -164,57 +144,16 @@ has_room old new f a b held free =
 pub held_one : (old new : Image) (f g : Found) (x : Pair) → HoldsFound old new f → is_free old new (pairs_of f.pairs.items) x.old.0 x.new.0 ≡ true
     → HasEntries old.words g.partners → HasEntries new.words g.originals → partners_in old g ≡ set (partners_in old f) x.old.0 x.new.0 → originals_in new g ≡ set (originals_in new f) x.new.0 x.old.0
     → g.pairs.items ≡ f.pairs.items ++ x ∷ [] → vec_capacity g.pairs ≡ vec_capacity f.pairs → HoldsFound old new g
-held_one old new f g x held free old_entries new_entries e1 e2 e3 e4 =
-    let pairs : List (ℕ × ℕ) = pairs_of f.pairs.items in
-    let partners : List ℕ = partners_in old f in
-    let originals : List ℕ = originals_in new f in
-    let old_len : length partners ≡ length old.words = length_by_address old.words f.partners in
-    let new_len : length originals ≡ length new.words = length_by_address new.words f.originals in
-    let parts : Free old new pairs x.old.0 x.new.0 = free_parts old new pairs x.old.0 x.new.0 free in
-    let old_low : 1 ≤ x.old.0 = low_start old.words x.old.0 old_entries.walked parts.old_start in
-    let new_low : 1 ≤ x.new.0 = low_start new.words x.new.0 new_entries.walked parts.new_start in
-    let old_within : x.old.0 < length old.words = start_within old.words x.old.0 old_entries.walked parts.old_start in
-    let new_within : x.new.0 < length new.words = start_within new.words x.new.0 new_entries.walked parts.new_start in
-    let now : pairs_of g.pairs.items ≡ pairs ++ (x.old.0, x.new.0) ∷ [] = ap pairs_of e3 ∙ pairs_push f.pairs.items x in
-    let old_free : slice_index partners x.old.0 ≡ 0 = eqb-true _ _ (old_entry old new f x.old.0 held ∙ parts.old_free) in
-    let new_free : slice_index originals x.new.0 ≡ 0 = eqb-true _ _ (new_entry old new f x.new.0 held ∙ parts.new_free) in
-    record {
-      old_entries = old_entries;
-      new_entries = new_entries;
-      partners = subst (λ row. HoldsPartners row (pairs_of g.pairs.items)) (sym e1) (subst (HoldsPartners (set partners x.old.0 x.new.0)) (sym now)
-          (holds_one partners pairs (x.old.0, x.new.0) (omega arith) new_low old_free held.partners));
-      originals = subst (λ row. HoldsPartners row (swapped (pairs_of g.pairs.items))) (sym e2) (subst (HoldsPartners (set originals x.new.0 x.old.0)) (sym (ap swapped now ∙ swapped_push pairs (x.old.0, x.new.0)))
-          (holds_one originals (swapped pairs) (x.new.0, x.old.0) (omega arith) old_low new_free held.originals));
-      count = ap length e3 ∙ one_more f.pairs.items (taken_in partners) held.count ∙ sym (ap taken_in e1 ∙ taken_one partners x.old.0 x.new.0 (omega arith) old_free new_low);
-      new_count = ap length e3 ∙ one_more f.pairs.items (taken_in originals) held.new_count ∙ sym (ap taken_in e2 ∙ taken_one originals x.new.0 x.old.0 (omega arith) new_free old_low);
-      room = subst (λ n. starts_from old.words 0 (length old.words) ≤ n) (sym e4) held.room;
-    }
-  where
-    one_more : (cert : List Pair) (n : ℕ) → length cert ≡ n → length (cert ++ x ∷ []) ≡ suc n
-    one_more cert n e = omega (arith, length-append cert (x ∷ []), e)
+held_one old new f g x held free old_entries new_entries e1 e2 e3 e4 = grind (arith, common_steps, length_by_address, free_parts, low_start, start_within, pairs_push, eqb-true, old_entry, new_entry, holds_one, swapped_push, taken_one, length-append)
 
 -- ---- no pairs
 
 holds_none : (row : List ℕ) (n : ℕ) → row ≡ replicate n 0 → HoldsPartners row []
-holds_none row n e = record {
-  pair = λ a b low. ap (λ m. m == b) (empty a) ∙ ne_eqb 0 b (λ e. omega arith);
-  taken = λ a. ap (λ m. not (m == 0)) (empty a);
-}
-  where
-    empty : (a : ℕ) → slice_index row a ≡ 0
-    empty a = ap (λ row. slice_index row a) e ∙ nothing_at n a
+holds_none row n e = grind (arith, common_steps, ne_eqb, nothing_at)
 
 pub held_none : (old new : Image) (f : Found) → HasEntries old.words f.partners → HasEntries new.words f.originals → partners_in old f ≡ replicate (length old.words) 0 → originals_in new f ≡ replicate (length new.words) 0 → f.pairs.items ≡ [] → vec_capacity f.pairs ≡ starts_from old.words 0 (length old.words)
     → HoldsFound old new f
-held_none old new f old_entries new_entries e1 e2 e3 e4 = record {
-  old_entries = old_entries;
-  new_entries = new_entries;
-  partners = subst (λ cert. HoldsPartners (partners_in old f) (pairs_of cert)) (sym e3) (holds_none (partners_in old f) (length old.words) e1);
-  originals = subst (λ cert. HoldsPartners (originals_in new f) (swapped (pairs_of cert))) (sym e3) (holds_none (originals_in new f) (length new.words) e2);
-  count = ap length e3 ∙ sym (ap taken_in e1 ∙ taken_none (length old.words));
-  new_count = ap length e3 ∙ sym (ap taken_in e2 ∙ taken_none (length new.words));
-  room = subst (λ n. starts_from old.words 0 (length old.words) ≤ n) (sym e4) (omega arith);
-}
+held_none old new f old_entries new_entries e1 e2 e3 e4 = grind (arith, common_steps, holds_none, taken_none)
 
 -- no more pairs are found than the old image has words
 pub few_found : (old new : Image) (f : Found) → HoldsFound old new f → length f.pairs.items ≤ length old.words

@@ -1,8 +1,9 @@
 -- Paths through graphs that correspond.
-use Rattle.std.proofs.Common.{◌≡◌, ℕ, suc, zero, true, false, List, [], ◌∷◌, length, take, Option, Some, None, refl, ap, subst}
+use Rattle.std.proofs.lemmas.Grind.{common_steps}
+use Rattle.std.proofs.Common.{◌≡◌, ℕ, suc, zero, true, List, [], ◌∷◌, length, take, Option, Some, None, refl, ap, subst, arith}
 use Rattle.std.specs.Prelude.{slice_get}
 use Rattle.std.specs.List.{AllZip}
-use Rattle.gc_graph.specs.Graph.{Value, Nil, Num, Ref, Object, Graph, lookup, object_of, field_of, follow, at_path, Reachable}
+use Rattle.gc_graph.specs.Graph.{Value, Ref, Object, Graph, object_of, field_of, follow, at_path, Reachable}
 use Rattle.gc_graph.specs.Correspond.{paired, correspond, Agree, EqualFieldByField, Corresponding}
 use Rattle.gc_graph.specs.Machine.{Roomy, roomy_step}
 use Rattle.gc_graph.specs.Runs.{replies}
@@ -18,20 +19,10 @@ module _ (pairs : List (ℕ × ℕ)) (g h : Graph) (c : Corresponding pairs g h)
   get_agrees (v ∷ vs) (w ∷ ws) (suc i) z = get_agrees vs ws i z.1
 
   object_agrees : (o q : Option Object) (i : ℕ) → EqualFieldByField pairs o q → Agree pairs (field_of o i) (field_of q i)
-  object_agrees (Some o) (Some q) i e = get_agrees o.fields q.fields i e.3
-  object_agrees (Some o) None i e = absurd e
-  object_agrees None q i e = absurd e
+  object_agrees o q i e = grind (arith, common_steps, get_agrees)
 
   field_agrees : (v w : Value) (i : ℕ) → correspond pairs v w ≡ true → Agree pairs (field_of (object_of g.objects v) i) (field_of (object_of h.objects w) i)
-  field_agrees Nil Nil i e = tt
-  field_agrees (Num a) (Num b) i e = tt
-  field_agrees (Ref a) (Ref b) i e = object_agrees (lookup g.objects a) (lookup h.objects b) i (c.objects a b e)
-  field_agrees Nil (Num b) i e = absurd (let no : false ≡ true = e in cc)
-  field_agrees Nil (Ref b) i e = absurd (let no : false ≡ true = e in cc)
-  field_agrees (Num a) Nil i e = absurd (let no : false ≡ true = e in cc)
-  field_agrees (Num a) (Ref b) i e = absurd (let no : false ≡ true = e in cc)
-  field_agrees (Ref a) Nil i e = absurd (let no : false ≡ true = e in cc)
-  field_agrees (Ref a) (Num b) i e = absurd (let no : false ≡ true = e in cc)
+  field_agrees v w i e = grind (arith, common_steps, object_agrees)
 
   follow_agrees : (fields : List ℕ) (v w : Option Value) → Agree pairs v w → Agree pairs (follow g.objects v fields) (follow h.objects w fields)
   follow_agrees fields None None a = tt
@@ -46,13 +37,10 @@ module _ (pairs : List (ℕ × ℕ)) (g h : Graph) (c : Corresponding pairs g h)
   -- ---- replicas
 
   value_partner : (a : ℕ) (w : Value) → correspond pairs (Ref a) w ≡ true → (b : ℕ) × (paired pairs a b ≡ true)
-  value_partner a Nil e = absurd (let no : false ≡ true = e in cc)
-  value_partner a (Num n) e = absurd (let no : false ≡ true = e in cc)
-  value_partner a (Ref b) e = (b, e)
+  value_partner a w e = grind (arith, common_steps)
 
   partner : (a : ℕ) (w : Option Value) → Agree pairs (Some (Ref a)) w → (b : ℕ) × (paired pairs a b ≡ true)
-  partner a None e = absurd e
-  partner a (Some w) e = value_partner a w e
+  partner a w e = grind (arith, common_steps, value_partner)
 
   reached_partner : (a : ℕ) → Reachable g a → (b : ℕ) × (paired pairs a b ≡ true)
   reached_partner a r = partner a (at_path h r.0 r.1) (subst (λ v. Agree pairs v (at_path h r.0 r.1)) r.2 (paths_agree r.0 r.1))

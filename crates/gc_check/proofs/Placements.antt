@@ -1,21 +1,20 @@
 -- What follows if the images and the addresses of the pairs have no fault.
+use Rattle.std.proofs.lemmas.Grind.{common_steps}
 use Rattle.std.proofs.Common.{◌≡◌, ℕ, zero, suc, ◌<◌, true, false, cond, ap, not, ◌==◌, List, [], ◌∷◌, length, get_or, take, Option, Some, None, refl, subst, arith, sym, ◌∙◌}
 use Rattle.std.specs.Prelude.{IsOk}
-use Rattle.std.specs.List.{list_any}
 use Rattle.std.proofs.lemmas.Bool.{eqb-true, eq-eqb, not-false}
 use Rattle.std.proofs.lemmas.List.{get_or-map, length-map}
 use Rattle.gc_words.specs.Word.{words_correspond, field_words_correspond}
 use Rattle.gc_words.specs.declared.header.Header.{Header}
 use Rattle.gc_words.specs.Image.{Image, IsShaped, walk_words, is_start}
 use Rattle.gc_words.specs.Views.{addresses}
-use Rattle.gc_words.specs.Fault.{◌or_else◌, when, at_place, shape_fault, first_over_pairs, not_above_last, place_fault, place_faults, table_fault, first_difference}
+use Rattle.gc_words.specs.Fault.{◌or_else◌, when, at_place, shape_fault, first_over_pairs, place_fault, place_faults, table_fault, first_difference}
 use Rattle.gc_words.specs.declared.image.Pair.{Pair}
 use Rattle.gc_words.specs.declared.refusal.Refusal.{Refusal}
-use Rattle.gc_words.specs.declared.refusal.Refusal.TheVariants.{OldShape, NewShape, RootCount, OldNotStart, NewNotStart, NotRising, Twice}
+use Rattle.gc_words.specs.declared.refusal.Refusal.TheVariants.{OldShape, NewShape, RootCount}
 use Rattle.gc_words.proofs.Public.{shaped, or_none, when_none, at_place_none, same_walk}
 use Rattle.gc_check.specs.Verdict.{pairs_of, IsRefusalOf}
 use Rattle.gc_check.specs.declared.verdict.CheckFault.{CheckFault}
-use Rattle.gc_check.specs.declared.verdict.CheckFault.TheVariants.{Refused, NoMemory}
 
 pub record Fits (old new : Image) : Type 0 where
   pub old_shaped : IsShaped old
@@ -34,19 +33,10 @@ image_fault old new =
     or_else when (not (length old.roots == length new.roots)) RootCount
 
 images_fit : (old new : Image) → image_fault old new ≡ None → Fits old new
-images_fit old new e =
-    let s2 : ((at_place (shape_fault old) (λ at. OldShape at) or_else at_place (shape_fault new) (λ at. NewShape at)) ≡ None) × (when (not (length old.roots == length new.roots)) RootCount ≡ None) = or_none _ _ e in
-    let s1 : (at_place (shape_fault old) (λ at. OldShape at) ≡ None) × (at_place (shape_fault new) (λ at. NewShape at) ≡ None) = or_none _ _ s2.0 in
-    record {
-      old_shaped = shaped old (at_place_none (shape_fault old) (λ at. OldShape at) s1.0);
-      new_shaped = shaped new (at_place_none (shape_fault new) (λ at. NewShape at) s1.1);
-      roots = eqb-true _ _ (not-false _ (when_none _ _ s2.1));
-    }
+images_fit old new e = grind (arith, common_steps, or_none, shaped, at_place_none, eqb-true, not-false, when_none)
 
 pub table_parts : (old new : Image) (pairs : List (ℕ × ℕ)) → table_fault old new pairs ≡ None → Fits old new × (place_faults old new pairs ≡ None)
-table_parts old new pairs e =
-    let both : (image_fault old new ≡ None) × (place_faults old new pairs ≡ None) = or_none _ _ e in
-    (images_fit old new both.0, both.1)
+table_parts old new pairs e = grind (arith, common_steps, or_none, images_fit)
 
 -- ---- pairs join starts
 
@@ -54,11 +44,7 @@ abbrev pub JoinsStarts : Image → Image → ℕ × ℕ → Type 0
 JoinsStarts old new p = (is_start old.words p.0 ≡ true) × (is_start new.words p.1 ≡ true)
 
 joins : (old new : Image) (before : List (ℕ × ℕ)) (k : ℕ) (p : ℕ × ℕ) → place_fault old new before k p ≡ None → JoinsStarts old new p
-joins old new before k p e =
-    let s3 : ((when (not (is_start old.words p.0)) (OldNotStart k) or_else when (not (is_start new.words p.1)) (NewNotStart k) or_else when (not_above_last before p.1) (NotRising k)) ≡ None) × (when (list_any (λ q. q.0 == p.0) before) (Twice k) ≡ None) = or_none _ _ e in
-    let s2 : ((when (not (is_start old.words p.0)) (OldNotStart k) or_else when (not (is_start new.words p.1)) (NewNotStart k)) ≡ None) × (when (not_above_last before p.1) (NotRising k) ≡ None) = or_none _ _ s3.0 in
-    let s1 : (when (not (is_start old.words p.0)) (OldNotStart k) ≡ None) × (when (not (is_start new.words p.1)) (NewNotStart k) ≡ None) = or_none _ _ s2.0 in
-    (not-false _ (when_none _ _ s1.0), not-false _ (when_none _ _ s1.1))
+joins old new before k p e = grind (arith, common_steps, or_none, not-false, when_none)
 
 pub all_join : (old new : Image) (all rest : List (ℕ × ℕ)) (k j : ℕ) (d : ℕ × ℕ) → first_over_pairs (λ k. place_fault old new (take k all) k) k rest ≡ None → j < length rest → JoinsStarts old new (get_or rest j d)
 all_join old new all [] k j d e inside = absurd (omega arith)
@@ -85,14 +71,11 @@ none_unequal i (w ∷ ws) = none_unequal (suc i) ws ∙ sym (ap (λ t. cond t (f
 
 -- ---- an image that is not shaped is the first fault
 
-refused_first : (x y : Option Refusal) (f : CheckFault) → IsRefusalOf x f → IsRefusalOf (x or_else y) f
-refused_first x y (Refused refusal) is = ap (λ o. o or_else y) is
-refused_first x y NoMemory is = tt
+pub refused_first : (x y : Option Refusal) (f : CheckFault) → IsRefusalOf x f → IsRefusalOf (x or_else y) f
+refused_first x y f is = grind (arith, common_steps)
 
 pub old_refused : (old new : Image) (pairs : List (ℕ × ℕ)) (f : CheckFault) → IsRefusalOf (at_place (shape_fault old) (λ at. OldShape at)) f → IsRefusalOf (table_fault old new pairs) f
 old_refused old new pairs f is = refused_first _ _ f (refused_first _ _ f (refused_first _ _ f is))
 
 pub new_refused : (old new : Image) (pairs : List (ℕ × ℕ)) (f : CheckFault) → shape_fault old ≡ None → IsRefusalOf (at_place (shape_fault new) (λ at. NewShape at)) f → IsRefusalOf (table_fault old new pairs) f
-new_refused old new pairs f none is =
-    refused_first _ _ f (refused_first _ _ f
-    (subst (λ o. IsRefusalOf (at_place o (λ at. OldShape at) or_else at_place (shape_fault new) (λ at. NewShape at)) f) (sym none) is))
+new_refused old new pairs f none is = grind (arith, common_steps, refused_first)

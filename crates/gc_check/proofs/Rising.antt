@@ -1,5 +1,6 @@
 -- Two places at a time, pairs are appended in the order of their new addresses.
-use Rattle.std.proofs.Common.{◌≡◌, ℕ, suc, ◌+◌, ◌*◌, ◌≤◌, cond, List, ◌∷◌, length, drop, sym, ◌∙◌, ap, inl, inr, arith}
+use Rattle.std.proofs.lemmas.Grind.{common_steps}
+use Rattle.std.proofs.Common.{◌≡◌, ℕ, ◌+◌, ◌*◌, ◌≤◌, List, length, drop, ◌∙◌, ap, arith}
 use Rattle.std.specs.Prelude.{slice_index}
 use Rattle.std.proofs.lemmas.Bool.{eq-eqb, cases_lt}
 use Rattle.std.proofs.lemmas.List.{drop_all, drop_more}
@@ -13,22 +14,7 @@ pub record Passed (row : List ℕ) (place next : ℕ) : Type 0 where
   pub taken_is : taken_in (drop place row) ≡ taken_in (drop next row)
 
 passed : (row : List ℕ) (place : ℕ) → slice_index row place ≡ 0 → Passed row place (place + 1)
-passed row place none =
-    elim (cases_lt place (length row)) [
-      | inl inside ↦ (let rest : List ℕ = drop (place + 1) row in
-          let open_row : drop place row ≡ slice_index row place ∷ rest = drop_more row place 0 inside in
-          record {
-            risen_is = ap (risen place) open_row ∙ ap (λ b. cond b (risen (suc place) rest) ((slice_index row place, place) ∷ risen (suc place) rest)) (eq-eqb _ 0 none) ∙ ap (λ n. risen n rest) next_is;
-            taken_is = ap taken_in open_row ∙ ap (λ b. cond b (taken_in rest) (suc (taken_in rest))) (eq-eqb _ 0 none);
-          })
-      | inr past ↦ record {
-        risen_is = ap (risen place) (drop_all place row past) ∙ sym (ap (risen (place + 1)) (drop_all (place + 1) row (omega arith)));
-        taken_is = ap taken_in (drop_all place row past) ∙ sym (ap taken_in (drop_all (place + 1) row (omega arith)));
-      }
-    ]
-  where
-    next_is : suc place ≡ place + 1
-    next_is = omega arith
+passed row place none = grind (arith, common_steps, cases_lt, drop_more, eq-eqb, drop_all)
 
 -- an entry that is 0 has no pair at either place
 pub both_passed : (words entries : List ℕ) (half : ℕ) → HasEntries words entries → slice_index entries half ≡ 0 → Passed (by_address words entries) (2 * half) (2 * (half + 1))

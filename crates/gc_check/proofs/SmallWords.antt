@@ -1,13 +1,14 @@
 -- Small images mean the same if only words of small spaces are values: words, certificates and first faults.
-use Rattle.std.proofs.Common.{◌≡◌, ◌⊎◌, inl, inr, ℕ, ◌/◌, ◌%◌, ◌<◌, ◌≤◌, ◌==◌, nat_lt, Bool, true, false, cond, List, [], ◌∷◌, Option, Some, None, refl, sym, ap, ◌∙◌, subst, arith}
+use Rattle.std.proofs.lemmas.Grind.{common_steps}
+use Rattle.std.proofs.Common.{◌≡◌, ◌⊎◌, inl, inr, ℕ, ◌/◌, ◌<◌, ◌≤◌, ◌==◌, true, false, cond, List, [], ◌∷◌, Option, Some, None, refl, sym, ap, ◌∙◌, subst, arith}
 use Rattle.std.specs.List.{All, AllZip}
-use Rattle.std.specs.Prelude.{◌↔◌, nat_le, is_some, IsTrue, IsOk}
+use Rattle.std.specs.Prelude.{◌↔◌, is_some, IsTrue, IsOk}
 use Rattle.std.proofs.lemmas.Bool.{cases_Bool, cond-true, cond-false, or_cases, or_left, or_right, or_parts, ltb-true, leb-true, lt-ltb, ltb-false, ne_eqb, false_from_ne_true}
 use Rattle.std.proofs.lemmas.List.Elements.{All-head, All-tail, All-weaker}
-use Rattle.gc_graph.specs.Graph.{Value, Nil, Num, Ref}
+use Rattle.gc_graph.specs.Graph.{Value, Ref}
 use Rattle.gc_graph.specs.Correspond.{paired}
 use Rattle.gc_graph.proofs.Public.{paired_cases}
-use Rattle.gc_words.specs.Word.{value_of, is_value_within, is_value, read_value_within, read_value, read_correspond, words_correspond}
+use Rattle.gc_words.specs.Word.{is_value_within, is_value, read_value_within, read_value, read_correspond, words_correspond}
 use Rattle.gc_words.specs.Image.{Image, Block, IsShaped, walk_words, block_at, is_start}
 use Rattle.gc_words.specs.Walking.{StandsIn}
 use Rattle.gc_words.proofs.Public.{stands_in, same_walk, some_of, or_none, at_place_none}
@@ -25,57 +26,26 @@ abbrev Reads : ℕ → Type 0
 Reads w = (read_value_within 1048576 w ≡ read_value w) ⊎ ((read_value_within 1048576 w ≡ None) × (read_value w ≡ Some (Ref (w / 2))) × (1048576 ≤ w / 2))
 
 wider : (w : ℕ) → is_value_within 1048576 w ≡ true → is_value w ≡ true
-wider w small = elim (or_cases (w % 2 == 1) (nat_lt w 2097152) small) [
-  | inl odd ↦ or_left (w % 2 == 1) (nat_lt w 8589934590) odd
-  | inr low ↦ or_right (w % 2 == 1) (nat_lt w 8589934590) (let less : w < 2097152 = ltb-true _ _ low in lt-ltb _ _ (omega (arith, less)))
-]
+wider w small = grind (arith, common_steps, or_cases, or_left, or_right, ltb-true, lt-ltb)
 
 far : (w : ℕ) → is_value_within 1048576 w ≡ false → is_value w ≡ true → Reads w
-far w large wide =
-    let parts : ((w % 2 == 1) ≡ false) × (nat_lt w 2097152 ≡ false) = or_parts (w % 2 == 1) (nat_lt w 2097152) large in
-    let high : 2097152 ≤ w = ltb-false _ _ parts.1 in
-    let some : (w == 0) ≡ false = ne_eqb w 0 (λ e. omega (arith, high, e)) in
-    inr (
-      cond-false (is_value_within 1048576 w) (Some (value_of w)) None large,
-      cond-true (is_value w) (Some (value_of w)) None wide ∙ ap (λ b. Some (cond b Nil (cond (w % 2 == 1) (Num (w / 2)) (Ref (w / 2))))) some ∙ ap (λ b. Some (cond b (Num (w / 2)) (Ref (w / 2)))) parts.0,
-      omega (arith, high),
-    )
+far w large wide = grind (arith, common_steps, or_parts, ltb-false, ne_eqb, cond-false, cond-true)
 
 reads : (w : ℕ) → Reads w
-reads w = elim (cases_Bool (is_value_within 1048576 w)) [
-  | inl small ↦ inl (cond-true (is_value_within 1048576 w) (Some (value_of w)) None small ∙ sym (cond-true (is_value w) (Some (value_of w)) None (wider w small)))
-  | inr large ↦ elim (cases_Bool (is_value w)) [
-    | inl wide ↦ far w large wide
-    | inr none ↦ inl (cond-false (is_value_within 1048576 w) (Some (value_of w)) None large ∙ sym (cond-false (is_value w) (Some (value_of w)) None none))
-  ]
-]
+reads w = grind (arith, common_steps, cases_Bool, cond-true, wider, far, cond-false)
 
 none_right : (pairs : List (ℕ × ℕ)) (o : Option Value) → read_correspond pairs o None ≡ false
-none_right pairs None = refl
-none_right pairs (Some v) = refl
+none_right pairs o = grind (arith, common_steps)
 
 module _ (pairs : List (ℕ × ℕ)) (below : (a b : ℕ) → paired pairs a b ≡ true → (a < 1048576) × (b < 1048576)) where
   far_left : (a : ℕ) (o : Option Value) → 1048576 ≤ a → read_correspond pairs (Some (Ref a)) o ≡ false
-  far_left a None high = refl
-  far_left a (Some Nil) high = refl
-  far_left a (Some (Num n)) high = refl
-  far_left a (Some (Ref b)) high = false_from_ne_true (paired pairs a b) (λ t. omega (arith, high, (below a b t).0))
+  far_left a o high = grind (arith, common_steps, false_from_ne_true)
 
   far_right : (o : Option Value) (b : ℕ) → 1048576 ≤ b → read_correspond pairs o (Some (Ref b)) ≡ false
-  far_right None b high = refl
-  far_right (Some Nil) b high = refl
-  far_right (Some (Num n)) b high = refl
-  far_right (Some (Ref a)) b high = false_from_ne_true (paired pairs a b) (λ t. omega (arith, high, (below a b t).1))
+  far_right o b high = grind (arith, common_steps, false_from_ne_true)
 
   same_words : (v w : ℕ) → small_words_correspond pairs v w ≡ words_correspond pairs v w
-  same_words v w = go (reads v) (reads w)
-    where
-      go : Reads v → Reads w → small_words_correspond pairs v w ≡ words_correspond pairs v w
-      go (inr beyond) other = ap (λ o. read_correspond pairs o (read_value_within 1048576 w)) beyond.0 ∙ sym (ap (λ o. read_correspond pairs o (read_value w)) beyond.1 ∙ far_left (v / 2) (read_value w) beyond.2)
-      go (inl near) (inl also) = λ i. read_correspond pairs (near i) (also i)
-      go (inl near) (inr beyond) =
-          ap (read_correspond pairs (read_value_within 1048576 v)) beyond.0 ∙ none_right pairs (read_value_within 1048576 v)
-          ∙ sym (ap (read_correspond pairs (read_value v)) beyond.1 ∙ far_right (read_value v) (w / 2) beyond.2)
+  same_words v w = grind (arith, common_steps, reads, far_left, none_right, far_right)
 
 -- ---- pairs
 
@@ -115,14 +85,10 @@ module _ (old new : Image) (pairs : List (ℕ × ℕ)) where
   Wide p = BlocksCorrespond pairs (block_at old.words p.0) (block_at new.words p.1)
 
   both_small : (o q : Option Block) → SmallBlocksCorrespond pairs o q → (is_some o ≡ true) × (is_some q ≡ true)
-  both_small (Some a) (Some b) c = (refl, refl)
-  both_small (Some a) None c = absurd c
-  both_small None q c = absurd c
+  both_small o q c = grind (arith, common_steps)
 
   both_wide : (o q : Option Block) → BlocksCorrespond pairs o q → (is_some o ≡ true) × (is_some q ≡ true)
-  both_wide (Some a) (Some b) c = (refl, refl)
-  both_wide (Some a) None c = absurd c
-  both_wide None q c = absurd c
+  both_wide o q c = grind (arith, common_steps)
 
   widened : small_words_correspond pairs ≡ words_correspond pairs → (o q : Option Block) → SmallBlocksCorrespond pairs o q → BlocksCorrespond pairs o q
   widened e (Some a) (Some b) c = (c.0, subst (λ alike. AllZip (λ v w. IsTrue (cond a.header.raw (v == w) (alike v w))) a.fields b.fields) e c.1)
@@ -174,17 +140,11 @@ module _ (old new : Image) (pairs : List (ℕ × ℕ)) where
 
 -- the conditions that come first may be grouped by themselves
 grouped : {X : Type 0} (a b t c d : Option X) → ((a or_else b or_else t) or_else c or_else d) ≡ (a or_else b or_else (t or_else c or_else d))
-grouped (Some x) b t c d = refl
-grouped None (Some y) t c d = refl
-grouped None None t c d = refl
+grouped a b t c d = grind (arith, common_steps)
 
 -- an image without a fault is small and shaped
 small_and_shaped : (image : Image) → small_shape_fault image ≡ None → (image.size ≤ 1048576) × (shape_fault image ≡ None)
-small_and_shaped image e = go (nat_le image.size 1048576) refl e
-  where
-    go : (b : Bool) → nat_le image.size 1048576 ≡ b → cond b (shape_fault image) (Some 0) ≡ None → (image.size ≤ 1048576) × (shape_fault image ≡ None)
-    go true is e = (leb-true _ _ is, e)
-    go false is e = absurd cc
+small_and_shaped image e = grind (arith, common_steps, leb-true)
 
 module _ (old new : Image) (pairs : List (ℕ × ℕ)) where
   same_block_fault : small_words_correspond pairs ≡ words_correspond pairs → (k : ℕ) (o q : Option Block) → small_block_fault pairs k o q ≡ block_fault pairs k o q

@@ -1,12 +1,13 @@
 -- A walk marks the starts of a space one after the other.
-use Rattle.std.proofs.Common.{◌≡◌, ◌≢◌, ℕ, zero, suc, ◌-◌, ◌+◌, ◌/◌, ◌%◌, ◌<◌, ◌≤◌, Bool, true, false, cond, ◌==◌, List, [], length, take, drop, replicate, Option, Some, None, Result, Ok, Err, is_some, is_ok, refl, sym, ◌∙◌, ap, subst, inl, inr, arith}
+use Rattle.std.proofs.lemmas.Grind.{common_steps}
+use Rattle.std.proofs.Common.{◌≡◌, ◌≢◌, ℕ, zero, suc, ◌-◌, ◌+◌, ◌/◌, ◌%◌, ◌<◌, ◌≤◌, Bool, true, false, cond, ◌==◌, List, length, take, drop, replicate, Option, Some, None, Result, Ok, Err, is_some, refl, sym, ◌∙◌, ap, subst, inl, inr, arith}
 use Rattle.std.specs.Prelude.{slice_index, IsOk}
 use Rattle.std.specs.Int.{bit_at}
 use Rattle.std.proofs.lemmas.Nat.Bits.{bit_at-zero}
 use Rattle.std.proofs.lemmas.Bool.{eq-eqb, ne_eqb, cases_eq}
 use Rattle.std.proofs.lemmas.List.{length-replicate, drop_all}
 use Rattle.gc_words.specs.Word.{header_in}
-use Rattle.gc_words.specs.Image.{Block, walk, walk_all, walk_words, with_front, ok_or_nil, block_in, block_at, header_of, header_at, is_start}
+use Rattle.gc_words.specs.Image.{Block, walk_all, walk_words, with_front, ok_or_nil, block_in, block_at, header_of, header_at, is_start}
 use Rattle.gc_words.specs.Fault.{fault_of_walk}
 use Rattle.gc_words.specs.Walking.{next_after, next_in, next_of, walk_on, walk_from, block_from, StandsIn}
 use Rattle.gc_words.specs.declared.header.Header.{Header}
@@ -30,10 +31,7 @@ no_mark n place = ap (λ word. bit_at word (place % 64) == 1) (nothing_at n (pla
 
 -- nothing is marked, and the walk begins
 pub none_marked : (words bits : List ℕ) → bits ≡ replicate (length words / 64 + 1) 0 → MarksTo words bits 1
-none_marked words bits e = record {
-  len = ap length e ∙ length-replicate (length words / 64 + 1) 0;
-  starts = λ ok place. ap (λ b. cond b true (is_start words place)) (ap (λ bits. is_marked bits place) e ∙ no_mark (length words / 64 + 1) place);
-}
+none_marked words bits e = grind (arith, common_steps, length-replicate, no_mark)
 
 -- an object is marked, and the walk continues after it
 pub marks_next : (raws : Bool) (words bits after : List ℕ) (at next : ℕ) → at < length words → next_in raws words at ≡ Some next → length after ≡ length bits → is_marked after at ≡ true
@@ -84,31 +82,7 @@ marks_next raws words bits after at next inside e long here_marked others before
 -- the walk has reached the end
 pub all_marked : (raws : Bool) (words bits : List ℕ) (at : ℕ) → length words ≤ at → fault_of_walk (walk_all raws words) ≡ fault_of_walk (walk_on raws words at) → MarksTo words bits at
     → (fault_of_walk (walk_all raws words) ≡ None) × MarksStarts words bits
-all_marked raws words bits at past same m = (
-  none,
-  record {
-    len = m.len;
-    walked = subst IsOk (same_walk raws words walked) walked;
-    starts = λ place. sym (none_left place (is_marked bits place)) ∙ m.starts (ap is_ok done) place;
-  },
-)
-  where
-    none : fault_of_walk (walk_all raws words) ≡ None
-    none = same ∙ ap (λ rest. fault_of_walk (walk raws 0 at rest)) (drop_all at words past)
-
-    no_fault : (r : Result (List (ℕ × Block)) ℕ) → fault_of_walk r ≡ None → IsOk r
-    no_fault (Ok bs) e = refl
-    no_fault (Err at) e = absurd (let no : Some at ≡ None = e in cc)
-
-    walked : IsOk (walk_all raws words)
-    walked = no_fault (walk_all raws words) none
-
-    done : walk_from words at ≡ Ok []
-    done = at_end words at past
-
-    none_left : (place : ℕ) (b : Bool) → cond b true (has_start_from words at place) ≡ b
-    none_left place true = refl
-    none_left place false = ap (λ r. is_some (block_in (ok_or_nil r) place)) done
+all_marked raws words bits at past same m = grind (arith, common_steps, same_walk, drop_all, at_end, has_start_from)
 
 -- ---- an object starts at each mark
 
@@ -120,22 +94,13 @@ start_stands words place ok start = from (block_at words place) refl start
     from (Some b) e some = (b, e, stands_in words place b ok e)
 
 pub low_start : (words : List ℕ) (place : ℕ) → IsOk (walk_words words) → is_start words place ≡ true → 1 ≤ place
-low_start words place ok start =
-    let found : (b : Block) × (block_at words place ≡ Some b) × StandsIn words place b = start_stands words place ok start in
-    found.2.low
+low_start words place ok start = grind (arith, common_steps, start_stands)
 
 pub start_within : (words : List ℕ) (place : ℕ) → IsOk (walk_words words) → is_start words place ≡ true → place < length words
-start_within words place ok start =
-    let found : (b : Block) × (block_at words place ≡ Some b) × StandsIn words place b = start_stands words place ok start in
-    let fits : place + (found.0.header.len + 2) ≤ length words = found.2.fits in
-    omega arith
+start_within words place ok start = grind (arith, common_steps, start_stands)
 
 pub no_start_past : (words : List ℕ) (place : ℕ) → IsOk (walk_words words) → length words ≤ place → is_start words place ≡ false
-no_start_past words place ok past = from (is_start words place) refl
-  where
-    from : (b : Bool) → is_start words place ≡ b → is_start words place ≡ false
-    from true e = absurd (let less : place < length words = start_within words place ok e in omega arith)
-    from false e = e
+no_start_past words place ok past = grind (arith, common_steps, start_within)
 
 -- the object with this header that starts here
 pub header_stands : (words : List ℕ) (place : ℕ) (h : Header) → IsOk (walk_words words) → header_at words place ≡ Some h
@@ -157,26 +122,12 @@ header_stands words place h ok e = from (block_at words place) refl e
 -- the places from one on, and those behind it
 starts_step : (words : List ℕ) (place len : ℕ) → place < len
     → starts_from words place (len - place) ≡ cond (is_start words place) (suc (starts_from words (place + 1) (len - (place + 1)))) (starts_from words (place + 1) (len - (place + 1)))
-starts_step words place len inside =
-    ap (starts_from words place) more
-    ∙ ap (λ next. cond (is_start words place) (suc (starts_from words next (len - (place + 1)))) (starts_from words next (len - (place + 1)))) next
-  where
-    more : len - place ≡ suc (len - (place + 1))
-    more = omega arith
-
-    next : suc place ≡ place + 1
-    next = omega arith
+starts_step words place len inside = grind (arith, common_steps)
 
 pub start_counted : (words : List ℕ) (count place len whole : ℕ) → place < len → is_start words place ≡ true → count + starts_from words place (len - place) ≡ whole
     → count + 1 + starts_from words (place + 1) (len - (place + 1)) ≡ whole
-start_counted words count place len whole inside start e =
-    let step : starts_from words place (len - place) ≡ suc (starts_from words (place + 1) (len - (place + 1)))
-    = starts_step words place len inside ∙ ap (λ b. cond b (suc (starts_from words (place + 1) (len - (place + 1)))) (starts_from words (place + 1) (len - (place + 1)))) start in
-    omega (arith, e, step)
+start_counted words count place len whole inside start e = grind (arith, common_steps, step, starts_step)
 
 pub none_counted : (words : List ℕ) (count place len whole : ℕ) → place < len → is_start words place ≡ false → count + starts_from words place (len - place) ≡ whole
     → count + starts_from words (place + 1) (len - (place + 1)) ≡ whole
-none_counted words count place len whole inside none e =
-    let step : starts_from words place (len - place) ≡ starts_from words (place + 1) (len - (place + 1))
-    = starts_step words place len inside ∙ ap (λ b. cond b (suc (starts_from words (place + 1) (len - (place + 1)))) (starts_from words (place + 1) (len - (place + 1)))) none in
-    omega (arith, e, step)
+none_counted words count place len whole inside none e = grind (arith, common_steps, step, starts_step)

@@ -1,5 +1,5 @@
 -- What is true of the pair that was read is true of every pair that the text spells.
-use Rattle.std.proofs.Common.{◌≡◌, ℕ, List, Option, Some, None, IfSome, Result, Ok, Err, IfOk, subst}
+use Rattle.std.proofs.Common.{◌≡◌, ℕ, List, Option, IfSome, Result, IfOk, rules}
 use Rattle.gc_graph.specs.Streams.{SendsFront}
 use Rattle.gc_cert.specs.Grammar.{CertifiedPair, IsTextOf}
 use Rattle.gc_cert.specs.Faults.{IsReadAsPair}
@@ -8,20 +8,17 @@ use Rattle.gc_check.specs.Texts.{verdict_on, TellsFront}
 use Rattle.gc_check.specs.declared.verdict.Verdict.{Verdict}
 
 -- a text spells at most one pair
-abbrev pub HasOneReading : Type 0
+abbrev HasOneReading : Type 0
 HasOneReading = (f g : CertifiedPair) (text : List ℕ) → IsTextOf f text → IsTextOf g text → f ≡ g
 
 of_each_reading : HasOneReading → (o : Option (List ℕ)) (P : CertifiedPair → Type 0) (file : CertifiedPair) → IfSome o (λ text. IsReadAsPair file text) → P file
     → IfSome o (λ text. (pair : CertifiedPair) → IsReadAsPair pair text → P pair)
-of_each_reading one None P file read holds = tt
-of_each_reading one (Some text) P file read holds = λ pair other. subst P (one file pair text read.0 other.0) holds
+of_each_reading one o P file read holds = search (rules)
 
 pub each_reading : {E : Type 0} → HasOneReading → (r : Result Verdict E) (P : Verdict → CertifiedPair → Type 0) (file : CertifiedPair) → IfOk r (λ verdict. P verdict file)
     → IfOk r (λ verdict. (o : Option (List ℕ)) → IfSome o (λ text. IsReadAsPair file text) → IfSome o (λ text. (pair : CertifiedPair) → IsReadAsPair pair text → P verdict pair))
-each_reading one (Ok verdict) P file holds = λ o read. of_each_reading one o (P verdict) file read holds
-each_reading one (Err fault) P file holds = tt
+each_reading one r P file holds = search (rules, of_each_reading)
 
 pub front_of_text : (o : Option (List ℕ)) (v : Verdict) (file : CertifiedPair) (old new : Option (List ℕ)) → IfSome o (λ text. IsReadAsPair file text) → v ≡ verdict_on file → SendsFront old new (verdict_line v)
     → TellsFront o old new
-front_of_text None v file old new read same front = record { verdict = v; about = tt; front = front }
-front_of_text (Some text) v file old new read same front = record { verdict = v; about = record { pair = file; read = read; verdict_is = same }; front = front }
+front_of_text o v file old new read same front = search (rules)

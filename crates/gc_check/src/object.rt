@@ -7,6 +7,7 @@ ghost use Rattle.gc_words.specs.Image.{walk_words, is_start, header_at, block_at
 use gc_words::{Addr, Header, field_index};
 
 /// Returns the header word of the object that starts at this place of a space's words.
+#[tactic(auto, using(crate::proofs::StartMarks::start_stands, crate::proofs::StartMarks::start_within))]
 pub(crate) fn header_word_at(words: &[u64], start: u32) -> u64
     requires walked { IsOk (walk_words words.now) }
     requires start { IsTrue (is_start words.now start) }

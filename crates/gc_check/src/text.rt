@@ -59,6 +59,7 @@ pub fn check_text_by<C: Checks, R: Read, W: Write>(
 }
 
 // If the text spells the pair that was read, a prefix of the line of the verdict on that pair is one of the verdict on the text.
+#[tactic(auto, using(crate::proofs::Texts::front_of_text))]
 fn fronts_tell_verdicts()
     ensures { (text : Option (List ℕ)) (verdict : Verdict) (file : CertifiedPair) (old new : Option (List ℕ))
         → IfSome text (λ text. IsReadAsPair file text) → verdict ≡ verdict_on file → SendsFront old new (verdict_line verdict)

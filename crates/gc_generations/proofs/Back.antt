@@ -1,18 +1,19 @@
 -- A certificate of the whole heap in which old objects are their own replicas is one of the minor collection.
+use Rattle.std.proofs.lemmas.Grind.{common_steps}
 use Rattle.std.proofs.Common.{◌≡◌, ◌≢◌, ◌⊎◌, inl, inr, ℕ, zero, suc, ◌<◌, ◌≤◌, Bool, true, false, cond, ◌&&◌, ◌||◌, ◌==◌, List, [], ◌∷◌, ◌++◌, map, length, get_or, Option, Some, None, is_some, slice_get, refl, ap, sym, ◌∙◌, subst, arith}
 use Rattle.std.specs.Prelude.{IsOk, IsTrue}
 use Rattle.std.specs.List.{All, AllPairs, AllZip, list_any}
-use Rattle.std.proofs.lemmas.Bool.{eqb-true, eq-eqb, and_parts, and_from, or_cases, lt-ltb}
+use Rattle.std.proofs.lemmas.Bool.{or_left, or_right, eqb-true, eq-eqb, and_parts, and_from, or_cases, lt-ltb}
 use Rattle.std.proofs.lemmas.List.Elements.{All-head, All-tail, All-weaker}
 use Rattle.gc_graph.specs.Graph.{Value, Nil, Num, Ref}
 use Rattle.gc_graph.specs.Correspond.{paired, correspond}
-use Rattle.gc_words.specs.Word.{value_of, word_of, is_value, read_correspond, words_correspond, field_words_correspond}
+use Rattle.gc_words.specs.Word.{read_correspond, words_correspond, field_words_correspond}
 use Rattle.gc_words.specs.Image.{Block, walk, blocks, block_in, block_at, header_of, field_in}
 use Rattle.gc_words.specs.Certificate.{BlocksCorrespond, Certified}
 use Rattle.gc_words.specs.declared.header.Header.{Header}
 use Rattle.gc_words.proofs.Public.{meant, some_of, block_of_header}
-use Rattle.gc_generations.specs.Minor.{lies_below, is_old, words_correspond_above, field_words_correspond_above, young_blocks, BlocksCorrespondAbove, MinorCertified, word_or_nil, word_of_field, whole, identity, IsStanding, IsPlainField, IsCandidate}
-use Rattle.gc_generations.proofs.Lists.{or_left, or_right, any_left, paired_all, selves, self_paired, found_left, found_right}
+use Rattle.gc_generations.specs.Minor.{lies_below, words_correspond_above, field_words_correspond_above, young_blocks, BlocksCorrespondAbove, MinorCertified, word_or_nil, word_of_field, whole, identity, IsStanding, IsPlainField, IsCandidate}
+use Rattle.gc_generations.proofs.Lists.{any_left, paired_all, selves, self_paired, found_left, found_right}
 use Rattle.gc_generations.proofs.Fronts.{whole_blocks, old_below, not_old}
 
 any_cases : {X : Type 0} (p : X → Bool) (xs ys : List X) → list_any p (xs ++ ys) ≡ true → (list_any p xs ≡ true) ⊎ (list_any p ys ≡ true)
@@ -66,9 +67,7 @@ zip_at R (x ∷ xs) (y ∷ ys) zero z h = z.0
 zip_at R (x ∷ xs) (y ∷ ys) (suc i) z h = zip_at R xs ys i z.1 (omega arith)
 
 both_parts : (pairs : List (ℕ × ℕ)) (b c : Bool) (v w : Value) → read_correspond pairs (cond b (Some v) None) (cond c (Some w) None) ≡ true → (b ≡ true) × (c ≡ true) × (correspond pairs v w ≡ true)
-both_parts pairs true true v w e = (refl, refl, e)
-both_parts pairs true false v w e = cc
-both_parts pairs false c v w e = cc
+both_parts pairs b c v w e = grind (arith, common_steps)
 
 module _ (size : ℕ) (front after young kept roots new_roots : List ℕ) (remembered pairs : List (ℕ × ℕ)) (standing : IsStanding size front young roots remembered)
     (candidate : IsCandidate size front after kept remembered pairs) (certified : Certified (whole size front young roots) (whole size after kept new_roots) (identity front ++ pairs)) where
@@ -97,28 +96,13 @@ module _ (size : ℕ) (front after young kept roots new_roots : List ℕ) (remem
       go (inr there) = inr there
 
   words : (v w : ℕ) → words_correspond all_pairs v w ≡ true → words_correspond_above (length front) pairs v w ≡ true
-  words v w e = go (values (value_of v) (value_of w) parts.2)
-    where
-      parts : (is_value v ≡ true) × (is_value w ≡ true) × (correspond all_pairs (value_of v) (value_of w) ≡ true)
-      parts = both_parts all_pairs (is_value v) (is_value w) (value_of v) (value_of w) e
-
-      go : Decoded (value_of v) (value_of w) → words_correspond_above (length front) pairs v w ≡ true
-      go (inl same) = or_left (is_old (length front) v && (v == w)) (words_correspond pairs v w)
-          (and_from (is_old (length front) v) (v == w) same.0 (eq-eqb v w (sym (meant v parts.0).0 ∙ ap word_of same.1 ∙ (meant w parts.1).0)))
-      go (inr alike) = or_right (is_old (length front) v && (v == w)) (words_correspond pairs v w)
-          ((λ i. read_correspond pairs (cond (parts.0 i) (Some (value_of v)) None) (cond (parts.1 i) (Some (value_of w)) None)) ∙ alike)
+  words v w e = grind (arith, common_steps, values, both_parts, or_left, and_from, eq-eqb, meant, or_right)
 
   field_words : (h : Header) (v w : ℕ) → field_words_correspond h all_pairs v w ≡ true → field_words_correspond_above h (length front) pairs v w ≡ true
-  field_words h v w e = go h.raw e
-    where
-      go : (raw : Bool) → cond raw (v == w) (words_correspond all_pairs v w) ≡ true → cond raw (v == w) (words_correspond_above (length front) pairs v w) ≡ true
-      go true e = e
-      go false e = words v w e
+  field_words h v w e = grind (arith, common_steps, words)
 
   objects_back : (o q : Option Block) → BlocksCorrespond all_pairs o q → BlocksCorrespondAbove (length front) pairs o q
-  objects_back (Some a) (Some b) c = (c.0, zip_each _ _ a.fields b.fields (field_words a.header) c.1)
-  objects_back (Some a) None c = absurd c
-  objects_back None q c = absurd c
+  objects_back o q c = grind (arith, common_steps, zip_each, field_words)
 
   kept_walked : IsOk (walk true 0 (length after) kept)
   kept_walked = subst (λ n. IsOk (walk true 0 n kept)) (sym candidate.rewritten.as_long) candidate.walked
@@ -136,10 +120,7 @@ module _ (size : ℕ) (front after young kept roots new_roots : List ℕ) (remem
   Alike p = BlocksCorrespond all_pairs (block_at (front ++ young) p.0) (block_at (after ++ kept) p.1)
 
   young_back : (p : ℕ × ℕ) → (length front ≤ p.0) × (length front ≤ p.1) → Alike p → BlocksCorrespondAbove (length front) pairs (block_in (young_blocks (length front) young) p.0) (block_in (young_blocks (length front) kept) p.1)
-  young_back p h c =
-      objects_back (block_in (young_blocks (length front) young) p.0) (block_in (young_blocks (length front) kept) p.1)
-      (subst (λ o. BlocksCorrespond all_pairs o (block_in (young_blocks (length front) kept) p.1)) (young_at p.0 h.0)
-      (subst (λ q. BlocksCorrespond all_pairs (block_at (front ++ young) p.0) q) (kept_at p.1 h.1) c))
+  young_back p h c = grind (arith, common_steps, objects_back, young_at, kept_at)
 
   remembered_back : (r : ℕ × ℕ) → IsPlainField front r → words_correspond_above (length front) pairs (word_of_field front r) (word_of_field after r) ≡ true
   remembered_back r is = words (word_of_field front r) (word_of_field after r) alike

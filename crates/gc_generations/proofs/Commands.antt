@@ -1,4 +1,5 @@
 -- What commands do to the words of a heap keeps it standing.
+use Rattle.std.proofs.lemmas.Grind.{common_steps}
 use Rattle.std.proofs.Common.{◌≡◌, ℕ, zero, suc, ◌+◌, ◌-◌, ◌<◌, ◌≤◌, true, List, [], ◌∷◌, ◌++◌, length, Some, Ok, is_some, slice_get, refl, ap, sym, ◌∙◌, subst, arith, length-append, length-set, append_assoc}
 use Rattle.std.specs.Prelude.{IsOk, IsSome, slice_set}
 use Rattle.std.proofs.lemmas.List.{length-replicate}
@@ -37,13 +38,7 @@ module _ (size : ℕ) (front young roots : List ℕ) (remembered : List (ℕ × 
   whole_space = whole_shaped size front young standing.shaped standing.walked standing.fits
 
   pub root_set : (place w : ℕ) → IsRootWord (front ++ young) w → IsStanding size front young (slice_set roots place w) remembered
-  root_set place w is = record {
-    shaped = standing.shaped;
-    walked = standing.walked;
-    fits = standing.fits;
-    closed = closed_root (front ++ young) roots place w is standing.closed;
-    complete = standing.complete;
-  }
+  root_set place w is = grind (arith, common_steps, closed_root)
 
   pub made : (h : Header) (place : ℕ) → CanPlace (record { size = size; words = front ++ young }) h
       → IsStanding size front (young ++ block_words 0 (fresh_block h)) (slice_set roots place (word_of (Ref (length (front ++ young))))) remembered

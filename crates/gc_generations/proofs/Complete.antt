@@ -1,52 +1,34 @@
 -- The write barrier keeps the remembered set complete.
-use Rattle.std.proofs.Common.{◌≡◌, ◌≢◌, inl, inr, ℕ, true, false, cond, not, ◌&&◌, ◌==◌, List, ◌∷◌, length, Some, is_some, slice_get, refl, ap, sym, ◌∙◌, subst, length-set}
+use Rattle.std.proofs.lemmas.Grind.{common_steps}
+use Rattle.std.proofs.Common.{◌≡◌, ◌≢◌, inl, inr, ℕ, true, false, ◌==◌, List, length, Some, is_some, slice_get, ap, sym, ◌∙◌, subst, length-set, arith}
 use Rattle.std.specs.Prelude.{IsTrue, IsFalse, IsSome, slice_set}
-use Rattle.std.proofs.lemmas.Bool.{cases_Bool, eqb-true, eq-eqb, and_from}
+use Rattle.std.proofs.lemmas.Bool.{or_left, or_right, cases_Bool, eqb-true, eq-eqb, and_from}
 use Rattle.gc_graph.specs.Correspond.{paired}
 use Rattle.gc_words.specs.Layout.{field_place}
 use Rattle.gc_words.specs.Image.{Block, block_at, field_in, field_at, with_field_word}
 use Rattle.gc_words.specs.Space.{IsSpace}
 use Rattle.gc_words.proofs.Public.{field_block, field_beside}
 use Rattle.gc_generations.specs.Minor.{is_young, IsComplete, remember}
-use Rattle.gc_generations.proofs.Lists.{or_left, or_right, get_set_here, get_set_other}
+use Rattle.gc_generations.proofs.Lists.{get_set_here, get_set_other}
 
 module _ (size : ℕ) (front : List ℕ) (remembered : List (ℕ × ℕ)) (a i old w : ℕ) (b : Block) (shaped : IsSpace (record { size = size; words = front })) (complete : IsComplete front remembered) (found : block_at front a ≡ Some b) (get : slice_get b.fields i ≡ Some old) where
   abbrev later : List (ℕ × ℕ)
   later = remember (length front) old w a i remembered
 
-  written : List ℕ
-  written = slice_set front (field_place a i) w
-
   has_field : IsSome (field_at front a i)
   has_field = ap is_some (ap (λ o. field_in o i) found ∙ get)
 
   keeps : (x j : ℕ) → paired remembered x j ≡ true → paired later x j ≡ true
-  keeps x j e = elim (is_young (length front) w && not (is_young (length front) old)) as (λ t. paired (cond t ((a, i) ∷ remembered) remembered) x j ≡ true) [
-    | true ↦ or_right ((a == x) && (i == j)) (paired remembered x j) e
-    | false ↦ e
-  ]
+  keeps x j e = grind (arith, common_steps, or_right)
 
   adds : is_young (length front) w ≡ true → is_young (length front) old ≡ false → paired later a i ≡ true
-  adds young before =
-      ap (λ t. paired (cond t ((a, i) ∷ remembered) remembered) a i) (and_from (is_young (length front) w) (not (is_young (length front) old)) young (ap not before))
-      ∙ or_left ((a == a) && (i == i)) (paired remembered a i) (and_from (a == a) (i == i) (eq-eqb a a refl) (eq-eqb i i refl))
+  adds young before = grind (arith, common_steps, and_from, or_left, eq-eqb)
 
   here : IsFalse b.header.raw → is_young (length front) w ≡ true → paired later a i ≡ true
-  here plain young =
-      elim (cases_Bool (is_young (length front) old)) [
-        | inl before ↦ keeps a i (complete.each a i old b found plain get before)
-        | inr other ↦ adds young other
-      ]
+  here plain young = grind (arith, common_steps, cases_Bool, keeps, adds)
 
   same_object : (j u : ℕ) (c : Block) → c ≡ with_field_word b i w → IsFalse c.header.raw → slice_get c.fields j ≡ Some u → is_young (length front) u ≡ true → paired later a j ≡ true
-  same_object j u c is plain e young =
-      elim (cases_Bool (i == j)) [
-        | inl same ↦ (let at : i ≡ j = eqb-true i j same in
-            let word : w ≡ u = get_set_here b.fields i w u (subst (λ j. slice_get (slice_set b.fields i w) j ≡ Some u) (sym at) (sym (ap (λ (c : Block). slice_get c.fields j) is) ∙ e)) in
-            subst (λ j. paired later a j ≡ true) at (here (sym (ap (λ (c : Block). c.header.raw) is) ∙ plain) (subst (λ u. is_young (length front) u ≡ true) (sym word) young)))
-        | inr other ↦ (let differs : i ≢ j = (λ same. (let t : (i == j) ≡ true = eq-eqb i j same in let no : true ≡ false = sym t ∙ other in cc)) in
-            keeps a j (complete.each a j u b found (sym (ap (λ (c : Block). c.header.raw) is) ∙ plain) (sym (get_set_other b.fields i j w differs) ∙ sym (ap (λ (c : Block). slice_get c.fields j) is) ∙ e) young))
-      ]
+  same_object j u c is plain e young = grind (arith, common_steps, cases_Bool, eqb-true, get_set_here, here, eq-eqb, keeps, get_set_other)
 
   pub complete_after : IsComplete (slice_set front (field_place a i) w) (remember (length front) old w a i remembered)
   complete_after = record { each = each_after }

@@ -1,9 +1,10 @@
 -- A certificate of the young objects' images is one of the minor collection.
+use Rattle.std.proofs.lemmas.Grind.{common_steps}
 use Rattle.std.proofs.Common.{◌≡◌, ◌≢◌, ◌⊎◌, inl, inr, ℕ, suc, ◌+◌, ◌-◌, ◌<◌, ◌≤◌, Bool, true, false, cond, ◌&&◌, ◌==◌, List, [], ◌∷◌, map, length, get_or, Option, Some, None, refl, ap, sym, ◌∙◌, subst, arith}
 use Rattle.std.specs.Prelude.{IsOk, IsTrue, nat_lt}
 use Rattle.std.specs.List.{All, AllPairs, AllZip}
 use Rattle.std.specs.Option.{option_map}
-use Rattle.std.proofs.lemmas.Bool.{cases_Bool, eqb-true, eq-eqb, ne_eqb, and_parts, and_from, or_cases, ltb-true, ltb-false}
+use Rattle.std.proofs.lemmas.Bool.{or_left, or_right, cases_Bool, eqb-true, eq-eqb, ne_eqb, and_parts, and_from, or_cases, ltb-true, ltb-false}
 use Rattle.std.proofs.lemmas.List.{get_or-map}
 use Rattle.std.proofs.lemmas.List.Elements.{All-nil, All-cons, All-head, All-tail}
 use Rattle.gc_graph.specs.Graph.{Value, Nil, Num, Ref}
@@ -16,7 +17,7 @@ use Rattle.gc_words.specs.declared.header.Header.{Header}
 use Rattle.gc_words.proofs.Public.{value_read_back, IsWordOf, meant, laid_out, walk_spelled, ok_is}
 use Rattle.gc_generations.specs.Minor.{lies_below, is_old, words_correspond_above, field_words_correspond_above, young_blocks, BlocksCorrespondAbove, MinorCertified}
 use Rattle.gc_generations.specs.Encoding.{encoded_value, encoded, encoded_fields, encoded_block, encoded_blocks, rebased, young_words, young_image, IsCode, IsApart, CanEncode, FieldsCanEncode, IsEncoded}
-use Rattle.gc_generations.proofs.Lists.{or_left, or_right, all_found}
+use Rattle.gc_generations.proofs.Lists.{all_found}
 
 -- ---- lists
 
@@ -162,18 +163,11 @@ module _ (code : ℕ → ℕ) (base : ℕ) (low_base : 1 ≤ base) where
   -- ---- the images
 
   as_many : (raw : Bool) (xs : List ℕ) → length (encoded_fields code base raw xs) ≡ length xs
-  as_many true xs = refl
-  as_many false xs = length_map (encoded code base) xs
+  as_many raw xs = grind (arith, common_steps, length_map)
 
   laid_encoded : (bs : List (ℕ × Block)) (at : ℕ) → base ≤ at → LaidOut at bs → LaidOut (suc (at - base)) (encoded_blocks code base bs)
   laid_encoded [] at l laid = tt
-  laid_encoded (x ∷ bs) at l laid =
-      let here : x.0 ≡ at = laid.0 in
-      let next : suc (at + (x.1.header.len + 2) - base) ≡ suc (at - base) + (x.1.header.len + 2) = omega arith in (
-        ap (λ n. suc (n - base)) here,
-        record { header = laid.1.header; fields = as_many x.1.header.raw x.1.fields ∙ laid.1.fields },
-        subst (λ n. LaidOut n (encoded_blocks code base bs)) next (laid_encoded bs (at + (x.1.header.len + 2)) (omega arith) laid.2),
-      )
+  laid_encoded (x ∷ bs) at l laid = grind (arith, common_steps, as_many, laid_encoded bs (at + (x.1.header.len + 2)) (omega arith) laid.2)
 
   blocks_of_young : (young : List ℕ) → IsOk (walk true 0 base young) → blocks (young_words code base young) ≡ encoded_blocks code base (young_blocks base young)
   blocks_of_young young ok =

@@ -1,4 +1,5 @@
 -- The objects of old and young words together.
+use Rattle.std.proofs.lemmas.Grind.{common_steps}
 use Rattle.std.proofs.Common.{◌≡◌, ℕ, zero, suc, ◌+◌, ◌-◌, ◌<◌, ◌≤◌, Bool, true, false, List, [], ◌∷◌, ◌++◌, length, take, drop, Option, Some, None, Result, Ok, Err, refl, ap, sym, ◌∙◌, subst, arith, length-append}
 use Rattle.std.specs.Prelude.{IsOk, slice_index}
 use Rattle.std.proofs.lemmas.List.{take-append-le, drop-append-le}
@@ -11,11 +12,10 @@ use Rattle.gc_generations.proofs.Lists.{Rising}
 use Rattle.gc_generations.specs.Minor.{young_blocks}
 
 length_drop_one : (xs : List ℕ) → length (drop 1 xs) ≡ length xs - 1
-length_drop_one [] = refl
-length_drop_one (x ∷ xs) = omega arith
+length_drop_one xs = grind (arith, common_steps)
 
 -- a walk goes on behind the last object
-pub walk_on : (ws : List ℕ) (inside at : ℕ) (bs : List (ℕ × Block)) (ys : List ℕ) (cs : List (ℕ × Block)) → inside ≤ length ws → Walked inside at ws bs → Walked 0 (at + length ws) ys cs → Walked inside at (ws ++ ys) (bs ++ cs)
+walk_on : (ws : List ℕ) (inside at : ℕ) (bs : List (ℕ × Block)) (ys : List ℕ) (cs : List (ℕ × Block)) → inside ≤ length ws → Walked inside at ws bs → Walked 0 (at + length ws) ys cs → Walked inside at (ws ++ ys) (bs ++ cs)
 walk_on [] zero at bs ys cs room e f =
     (let here : at + 0 ≡ at = omega arith in subst (λ n. Walked 0 n ys cs) here f) ∙ (let none : [] ≡ bs = cc in (λ i. Ok (none i ++ cs)))
 walk_on [] (suc inside) at bs ys cs room e f = absurd (omega arith)
@@ -37,20 +37,14 @@ walk_on (w ∷ ws) zero at bs ys cs room e f =
 
 pub whole_walked : (size : ℕ) (front young : List ℕ) → IsSpace (record { size = size; words = front }) → IsOk (walk true 0 (length front) young)
     → walk_words (front ++ young) ≡ Ok (blocks front ++ young_blocks (length front) young)
-whole_walked size [] young shaped ok = absurd (let low : 1 ≤ 0 = shaped.end_low in omega arith)
-whole_walked size (x ∷ front) young shaped ok =
-    walk_on front 0 1 (blocks (x ∷ front)) young (young_blocks (length (x ∷ front)) young) (omega arith)
-    (walked_blocks (x ∷ front) shaped.walked)
-    (let here : suc (length front) ≡ 1 + length front = omega arith in
-    subst (λ n. walk true 0 n young ≡ Ok (young_blocks (suc (length front)) young)) here (ok_is (walk true 0 (suc (length front)) young) ok))
+whole_walked size front young shaped ok = grind (arith, common_steps, walk_on, walked_blocks, ok_is)
 
 pub whole_blocks : (size : ℕ) (front young : List ℕ) → IsSpace (record { size = size; words = front }) → IsOk (walk true 0 (length front) young)
     → blocks (front ++ young) ≡ blocks front ++ young_blocks (length front) young
 whole_blocks size front young shaped ok = ap ok_or_nil (whole_walked size front young shaped ok)
 
 first_word : (front young : List ℕ) → 1 ≤ length front → slice_index (front ++ young) 0 ≡ slice_index front 0
-first_word [] young low = absurd (omega arith)
-first_word (x ∷ front) young low = refl
+first_word front young low = grind (arith, common_steps)
 
 pub whole_shaped : (size : ℕ) (front young : List ℕ) → IsSpace (record { size = size; words = front }) → IsOk (walk true 0 (length front) young) → length (front ++ young) ≤ size
     → HasShape true size (length (front ++ young)) (front ++ young)
@@ -88,11 +82,7 @@ young_above base young a b ok e =
     let p : a ≡ base + s.offset = s.place in omega arith
 
 pub not_young : (base : ℕ) (young : List ℕ) (a : ℕ) → IsOk (walk true 0 base young) → a < base → block_in (young_blocks base young) a ≡ None
-not_young base young a ok low = go (block_in (young_blocks base young) a) refl
-  where
-    go : (o : Option Block) → block_in (young_blocks base young) a ≡ o → o ≡ None
-    go None e = refl
-    go (Some b) e = absurd (let l : base ≤ a = young_above base young a b ok e in omega arith)
+not_young base young a ok low = grind (arith, common_steps, young_above)
 
 -- ---- starts rise
 
@@ -109,5 +99,4 @@ rises (w ∷ ws) zero at bs e =
     lower (x ∷ bs) low less h r = (let l : low ≤ x.0 = r.0 in omega arith, r.1)
 
 pub old_rise : (size : ℕ) (front : List ℕ) → IsSpace (record { size = size; words = front }) → Rising 1 (blocks front)
-old_rise size [] shaped = absurd (let low : 1 ≤ 0 = shaped.end_low in omega arith)
-old_rise size (x ∷ front) shaped = (let here : 1 + 0 ≡ 1 = refl in subst (λ n. Rising n (blocks (x ∷ front))) here (rises front 0 1 (blocks (x ∷ front)) (walked_blocks (x ∷ front) shaped.walked)))
+old_rise size front shaped = grind (arith, common_steps, rises, walked_blocks)

@@ -1,12 +1,13 @@
 -- The heap after a minor collection stands as before.
-use Rattle.std.proofs.Common.{◌≡◌, ℕ, ◌<◌, ◌≤◌, ◌^◌, Bool, true, false, cond, ◌&&◌, ◌==◌, List, [], ◌++◌, length, Option, Some, None, is_some, refl, ap, sym, ◌∙◌, subst, arith, append-nil, ◌∷◌}
+use Rattle.std.proofs.lemmas.Grind.{common_steps}
+use Rattle.std.proofs.Common.{◌≡◌, ℕ, ◌<◌, ◌≤◌, Bool, true, cond, ◌&&◌, ◌==◌, List, [], ◌++◌, length, Option, Some, None, refl, ap, sym, ◌∙◌, subst, arith, append-nil, ◌∷◌}
 use Rattle.std.specs.Prelude.{replicate, IsOk}
 use Rattle.std.specs.List.{All}
 use Rattle.std.proofs.lemmas.Bool.{eqb-true, leb-true}
 use Rattle.std.proofs.lemmas.List.Elements.{All-weaker}
 use Rattle.gc_graph.specs.Graph.{Value, Nil, Num, Ref}
 use Rattle.gc_graph.specs.Correspond.{paired, correspond}
-use Rattle.gc_words.specs.Word.{value_of, is_value, read_correspond, words_correspond, field_words_correspond}
+use Rattle.gc_words.specs.Word.{value_of, read_correspond, words_correspond, field_words_correspond}
 use Rattle.gc_words.specs.Image.{Image, Block, walk, blocks, block_in, block_at, header_of, HasShape, is_start}
 use Rattle.gc_words.specs.Space.{IsSpace}
 use Rattle.gc_words.specs.Certificate.{BlocksCorrespond, Certified}
@@ -14,7 +15,8 @@ use Rattle.gc_words.specs.Closed.{IsClosed, RefersToStart, IsRootWord, IsWordOfF
 use Rattle.gc_words.specs.declared.header.Header.{Header}
 use Rattle.gc_words.proofs.Public.{block_of_header, some_of, closed_empty}
 use Rattle.gc_generations.specs.Minor.{lies_above, young_blocks, IsComplete, whole, identity, IsStanding, IsMinor, AreReplicas}
-use Rattle.gc_generations.proofs.Lists.{any_left, any_right, paired_all, zip_right, all_at, all_found, self_paired, found_right, entries_found, pair_of_right}
+use Rattle.gc_check.proofs.Public.{pair_of_second}
+use Rattle.gc_generations.proofs.Lists.{any_left, any_right, paired_all, zip_right, all_at, all_found, self_paired, found_right, entries_found}
 use Rattle.gc_generations.proofs.Fronts.{whole_blocks, whole_shaped, old_below, old_rise}
 use Rattle.gc_generations.proofs.Whole.{certified}
 
@@ -22,12 +24,7 @@ use Rattle.gc_generations.proofs.Whole.{certified}
 
 module _ (old new : Image) (pairs : List (ℕ × ℕ)) (holds : Certified old new pairs) (closed : IsClosed old.words old.roots) where
   right_start : (p : ℕ × ℕ) → BlocksCorrespond pairs (block_at old.words p.0) (block_at new.words p.1) → is_start new.words p.1 ≡ true
-  right_start p c = go (block_at old.words p.0) (block_at new.words p.1) c
-    where
-      go : (o q : Option Block) → BlocksCorrespond pairs o q → is_some q ≡ true
-      go (Some a) (Some b) c = refl
-      go (Some a) None c = absurd c
-      go None q c = absurd c
+  right_start p c = grind (arith, common_steps)
 
   right_refers : (v w : Value) → correspond pairs v w ≡ true → RefersToStart new.words w
   right_refers v Nil e = tt
@@ -37,21 +34,13 @@ module _ (old new : Image) (pairs : List (ℕ × ℕ)) (holds : Certified old ne
   right_refers (Ref a) (Ref b) e = right_start (a, b) (paired_all (λ p. BlocksCorrespond pairs (block_at old.words p.0) (block_at new.words p.1)) pairs a b e holds.objects)
 
   right_parts : (b c : Bool) (v w : Value) → read_correspond pairs (cond b (Some v) None) (cond c (Some w) None) ≡ true → (c ≡ true) × (correspond pairs v w ≡ true)
-  right_parts true true v w e = (refl, e)
-  right_parts true false v w e = cc
-  right_parts false c v w e = cc
+  right_parts b c v w e = grind (arith, common_steps)
 
   right_word : (v w : ℕ) → words_correspond pairs v w ≡ true → IsRootWord new.words w
-  right_word v w e =
-      let parts : (is_value w ≡ true) × (correspond pairs (value_of v) (value_of w) ≡ true) = right_parts (is_value v) (is_value w) (value_of v) (value_of w) e in
-      record { value = parts.0; start = right_refers (value_of v) (value_of w) parts.1 }
+  right_word v w e = grind (arith, common_steps, right_parts, right_refers)
 
   right_field : (h : Header) (v w : ℕ) → IsFieldWord old.words h v → field_words_correspond h pairs v w ≡ true → IsFieldWord new.words h w
-  right_field h v w is e = go h.raw is e
-    where
-      go : (raw : Bool) → IsWordOfField raw old.words v → cond raw (v == w) (words_correspond pairs v w) ≡ true → IsWordOfField raw new.words w
-      go true is e = subst (λ n. n < 2 ^ 63) (eqb-true v w e) is
-      go false is e = right_word v w e
+  right_field h v w is e = grind (arith, common_steps, eqb-true, right_word)
 
   right_fields : (p : ℕ × ℕ) (b : Block) → block_at new.words p.1 ≡ Some b → BlocksCorrespond pairs (block_at old.words p.0) (block_at new.words p.1) → HasFieldWords new.words b
   right_fields p b found c = go (block_at old.words p.0) refl (block_at new.words p.1) found c
@@ -65,7 +54,7 @@ module _ (old new : Image) (pairs : List (ℕ × ℕ)) (holds : Certified old ne
       go (Some a) e None f c = absurd c
       go None e q f c = absurd c
 
-  pub replicas_are_closed : IsSpace (record { size = new.size; words = new.words }) → ((b : ℕ) (block : Block) → block_at new.words b ≡ Some block → (a : ℕ) × (paired pairs a b ≡ true)) → IsClosed new.words new.roots
+  replicas_are_closed : IsSpace (record { size = new.size; words = new.words }) → ((b : ℕ) (block : Block) → block_at new.words b ≡ Some block → (a : ℕ) × (paired pairs a b ≡ true)) → IsClosed new.words new.roots
   replicas_are_closed shaped each = record {
     fields = All-weaker (λ (x : ℕ × Block). block_at new.words x.0 ≡ Some x.1) (λ (x : ℕ × Block). HasFieldWords new.words x.1) entry_fields (blocks new.words) (entries_found 1 (blocks new.words) (old_rise new.size new.words shaped));
     roots = zip_right (IsRootWord old.words) (IsRootWord new.words) _ old.roots new.roots closed.roots (λ v w is e. right_word v w e) holds.roots;
@@ -87,7 +76,7 @@ none_young size words (Ref a) shaped start e =
     let high : length words ≤ a = leb-true (length words) a e in
     omega arith
 
-pub closed_is_complete : (size : ℕ) (words roots : List ℕ) → IsSpace (record { size = size; words = words }) → IsClosed words roots → IsComplete words []
+closed_is_complete : (size : ℕ) (words roots : List ℕ) → IsSpace (record { size = size; words = words }) → IsClosed words roots → IsComplete words []
 closed_is_complete size words roots shaped closed = record {
   each = λ a i w b found plain e young. absurd (
       let is : IsFieldWord words b.header w = all_at (IsFieldWord words b.header) b.fields i w (all_found (HasFieldWords words) (blocks words) a b closed.fields found) e in
@@ -113,7 +102,7 @@ module _ (size : ℕ) (front after young kept roots new_roots : List ℕ) (remem
           (b, any_left (λ p. (p.0 == b) && (p.1 == b)) (identity front) pairs (self_paired (blocks front) b there.0 there.1))
       go None e =
           let young_there : block_in (young_blocks (length after) kept) b ≡ Some block = sym (found_right (blocks after) (young_blocks (length after) kept) b e) ∙ sym (ap (λ bs. block_in bs b) both) ∙ found in
-          let right : (a : ℕ) × (paired pairs a b ≡ true) = pair_of_right pairs b (all b block (subst (λ n. block_in (young_blocks n kept) b ≡ Some block) minor.rewritten.as_long young_there)) in
+          let right : (a : ℕ) × (paired pairs a b ≡ true) = pair_of_second pairs b (all b block (subst (λ n. block_in (young_blocks n kept) b ≡ Some block) minor.rewritten.as_long young_there)) in
           (right.0, any_right (λ p. (p.0 == right.0) && (p.1 == b)) (identity front) pairs right.1)
 
   shaped_after : HasShape true size (length (after ++ kept)) (after ++ kept)
@@ -149,16 +138,4 @@ in_place size front young roots remembered standing = record {
 -- ---- a heap that was just opened
 
 pub opened : (size count : ℕ) → 1 ≤ size → size ≤ 4294967295 → IsStanding size (0 ∷ []) [] (replicate count 0) []
-opened size count low high = record {
-  shaped = shaped;
-  walked = refl;
-  fits = low;
-  closed = closed_empty size count;
-  complete = closed_is_complete size (0 ∷ []) (replicate count 0) shaped (closed_empty size count);
-}
-  where
-    empty : List ℕ
-    empty = 0 ∷ []
-
-    shaped : HasShape true size (length empty) empty
-    shaped = record { size_low = low; size_high = high; end_low = omega arith; end_high = low; count = refl; reserved = refl; walked = refl }
+opened size count low high = grind (arith, common_steps, closed_empty, closed_is_complete)

@@ -1,5 +1,6 @@
 -- A major collection goes on across a minor one, if the remembered fields are logged.
-use Rattle.std.proofs.Common.{◌≡◌, ◌⊎◌, inl, inr, ℕ, ◌<◌, ◌==◌, Bool, true, false, ◌&&◌, List, ◌++◌, length, Option, Some, None, slice_get, refl, ap, sym, ◌∙◌, subst, arith}
+use Rattle.std.proofs.lemmas.Grind.{common_steps}
+use Rattle.std.proofs.Common.{◌≡◌, ◌⊎◌, inl, inr, ℕ, ◌<◌, Bool, true, false, List, ◌++◌, length, Option, Some, None, slice_get, refl, ap, sym, ◌∙◌, subst, arith}
 use Rattle.std.specs.Prelude.{IsOk, IsTrue, IsFalse}
 use Rattle.std.specs.List.{All}
 use Rattle.std.proofs.lemmas.Bool.{cases_Bool}
@@ -16,15 +17,7 @@ module _ (size : ℕ) (front after young kept roots new_roots : List ℕ) (remem
     (minor : IsMinor size front after young kept roots new_roots remembered young_pairs) (replicas : List ℕ) (pairs due : List (ℕ × ℕ)) (old : All (λ p. p.0 < length front) pairs)
     (before : IsUnderWay (length front) front replicas pairs due) where
   not_due : (a i : ℕ) → paired (remembered ++ due) a i ≡ false → (paired remembered a i ≡ false) × (paired due a i ≡ false)
-  not_due a i e = (no_left (cases_Bool (paired remembered a i)), no_right (cases_Bool (paired due a i)))
-    where
-      no_left : (paired remembered a i ≡ true) ⊎ (paired remembered a i ≡ false) → paired remembered a i ≡ false
-      no_left (inl t) = absurd (let u : paired (remembered ++ due) a i ≡ true = any_left (λ p. (p.0 == a) && (p.1 == i)) remembered due t in let no : true ≡ false = sym u ∙ e in cc)
-      no_left (inr f) = f
-
-      no_right : (paired due a i ≡ true) ⊎ (paired due a i ≡ false) → paired due a i ≡ false
-      no_right (inl t) = absurd (let u : paired (remembered ++ due) a i ≡ true = any_right (λ p. (p.0 == a) && (p.1 == i)) remembered due t in let no : true ≡ false = sym u ∙ e in cc)
-      no_right (inr f) = f
+  not_due a i e = grind (arith, common_steps, cases_Bool, any_left, any_right)
 
   -- the object before, at an old address
   earlier : (a : ℕ) (o : Block) → a < length front → block_at (after ++ kept) a ≡ Some o → block_at after a ≡ Some o

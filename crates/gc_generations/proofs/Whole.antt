@@ -1,10 +1,11 @@
 -- The certificate of a minor collection, with each old object as its own replica, is a certificate of the whole heap.
-use Rattle.std.proofs.Common.{◌≡◌, ◌≢◌, inl, inr, ℕ, ◌<◌, ◌≤◌, Bool, true, false, cond, ◌&&◌, ◌==◌, List, ◌++◌, length, Option, Some, None, is_some, slice_get, refl, ap, sym, ◌∙◌, subst, arith}
-use Rattle.std.specs.Prelude.{IsOk, IsTrue, nat_le}
+use Rattle.std.proofs.lemmas.Grind.{common_steps}
+use Rattle.std.proofs.Common.{◌≡◌, ◌≢◌, inl, inr, ℕ, ◌<◌, ◌≤◌, Bool, true, false, cond, ◌==◌, List, ◌++◌, length, Option, Some, None, is_some, slice_get, refl, ap, sym, ◌∙◌, subst, arith}
+use Rattle.std.specs.Prelude.{IsOk, IsTrue}
 use Rattle.std.specs.List.{All, AllPairs, AllZip}
 use Rattle.std.proofs.lemmas.Bool.{cases_Bool, eqb-true, eq-eqb, and_parts, or_cases, ltb-true, leb-true, leb-false}
 use Rattle.std.proofs.lemmas.List.Elements.{All-weaker}
-use Rattle.gc_graph.specs.Graph.{Value, Nil, Num, Ref}
+use Rattle.gc_graph.specs.Graph.{Value}
 use Rattle.gc_graph.specs.Correspond.{paired, correspond}
 use Rattle.gc_words.specs.Word.{value_of, is_value, read_correspond, words_correspond, field_words_correspond}
 use Rattle.gc_words.specs.Image.{Block, walk, blocks, block_in, block_at, header_of, field_in, field_at}
@@ -12,43 +13,26 @@ use Rattle.gc_words.specs.Certificate.{BlocksCorrespond, Certified}
 use Rattle.gc_words.specs.Closed.{RefersToStart, IsRootWord, IsWordOfField, IsFieldWord, HasFieldWords}
 use Rattle.gc_words.specs.declared.header.Header.{Header}
 use Rattle.gc_words.proofs.Public.{stands_in, some_of, block_of_header}
-use Rattle.gc_generations.specs.Minor.{lies_below, lies_above, is_old, is_young, words_correspond_above, field_words_correspond_above, young_blocks, BlocksCorrespondAbove, word_or_nil, word_of_field, whole, identity, IsStanding, IsMinor}
+use Rattle.gc_generations.specs.Minor.{lies_below, lies_above, is_young, words_correspond_above, field_words_correspond_above, young_blocks, BlocksCorrespondAbove, word_or_nil, word_of_field, whole, identity, IsStanding, IsMinor}
 use Rattle.gc_generations.proofs.Lists.{any_left, any_right, paired_all, all_zip_from, zip_weaker, zip_split, all_at, found_left, found_right, all_found, self_paired, all_selves, selves_rise, starts_found}
 use Rattle.gc_generations.proofs.Fronts.{whole_blocks, whole_shaped, old_below, not_old, young_above, not_young, old_rise}
 
 -- ---- more pairs
 
 correspond_more : (xs ys : List (ℕ × ℕ)) (v w : Value) → correspond ys v w ≡ true → correspond (xs ++ ys) v w ≡ true
-correspond_more xs ys Nil Nil e = refl
-correspond_more xs ys Nil (Num b) e = cc
-correspond_more xs ys Nil (Ref b) e = cc
-correspond_more xs ys (Num a) Nil e = cc
-correspond_more xs ys (Num a) (Num b) e = e
-correspond_more xs ys (Num a) (Ref b) e = cc
-correspond_more xs ys (Ref a) Nil e = cc
-correspond_more xs ys (Ref a) (Num b) e = cc
-correspond_more xs ys (Ref a) (Ref b) e = any_right (λ p. (p.0 == a) && (p.1 == b)) xs ys e
+correspond_more xs ys v w e = grind (arith, common_steps, any_right)
 
 read_more : (xs ys : List (ℕ × ℕ)) (b c : Bool) (v w : Value) → read_correspond ys (cond b (Some v) None) (cond c (Some w) None) ≡ true → read_correspond (xs ++ ys) (cond b (Some v) None) (cond c (Some w) None) ≡ true
-read_more xs ys true true v w e = correspond_more xs ys v w e
-read_more xs ys true false v w e = cc
-read_more xs ys false c v w e = cc
+read_more xs ys b c v w e = grind (arith, common_steps, correspond_more)
 
 words_more : (xs ys : List (ℕ × ℕ)) (v w : ℕ) → words_correspond ys v w ≡ true → words_correspond (xs ++ ys) v w ≡ true
 words_more xs ys v w e = read_more xs ys (is_value v) (is_value w) (value_of v) (value_of w) e
 
 read_same : (pairs : List (ℕ × ℕ)) (b : Bool) (v : Value) → b ≡ true → correspond pairs v v ≡ true → read_correspond pairs (cond b (Some v) None) (cond b (Some v) None) ≡ true
-read_same pairs true v t e = e
-read_same pairs false v t e = cc
+read_same pairs b v t e = grind (arith, common_steps)
 
 old_is_not_young : (base : ℕ) (v : Value) → lies_below base v ≡ true → lies_above base v ≡ false
-old_is_not_young base Nil e = cc
-old_is_not_young base (Num n) e = cc
-old_is_not_young base (Ref a) e = go (nat_le base a) refl
-  where
-    go : (b : Bool) → nat_le base a ≡ b → b ≡ false
-    go false t = refl
-    go true t = absurd (let l : base ≤ a = leb-true base a t in let h : a < base = ltb-true a base e in omega arith)
+old_is_not_young base v e = grind (arith, common_steps, leb-true, ltb-true)
 
 module _ (size : ℕ) (front after young kept roots new_roots : List ℕ) (remembered pairs : List (ℕ × ℕ)) (standing : IsStanding size front young roots remembered) (minor : IsMinor size front after young kept roots new_roots remembered pairs) where
   abbrev all_pairs : List (ℕ × ℕ)
@@ -86,41 +70,16 @@ module _ (size : ℕ) (front after young kept roots new_roots : List ℕ) (remem
 
   -- a value of the heap that does not refer to a young object corresponds to itself
   value_itself : (v : Value) → RefersToStart (front ++ young) v → lies_above (length front) v ≡ false → correspond all_pairs v v ≡ true
-  value_itself Nil start old = refl
-  value_itself (Num n) start old = eq-eqb n n refl
-  value_itself (Ref a) start old = any_left (λ p. (p.0 == a) && (p.1 == a)) (identity front) pairs (self_paired (blocks front) a found.0 found.1)
-    where
-      low : a < length front
-      low = leb-false (length front) a old
-
-      there : is_some (block_in (blocks front ++ young_blocks (length front) young) a) ≡ true
-      there = ap (λ bs. is_some (block_in bs a)) (sym old_blocks) ∙ start
-
-      in_front : (o : Option Block) → block_in (blocks front) a ≡ o → (b : Block) × (block_in (blocks front) a ≡ Some b)
-      in_front (Some b) e = (b, e)
-      in_front None e = absurd (let none : is_some (block_in (young_blocks (length front) young) a) ≡ true = ap is_some (sym (found_right (blocks front) (young_blocks (length front) young) a e)) ∙ there in
-          let no : false ≡ true = ap is_some (sym (not_young (length front) young a standing.walked low)) ∙ none in cc)
-
-      found : (b : Block) × (block_in (blocks front) a ≡ Some b)
-      found = in_front (block_in (blocks front) a) refl
+  value_itself v start old = grind (arith, common_steps, eq-eqb, any_left, self_paired, leb-false, old_blocks, found_right, not_young)
 
   word_itself : (v : ℕ) → IsRootWord (front ++ young) v → is_young (length front) v ≡ false → words_correspond all_pairs v v ≡ true
   word_itself v is old = read_same all_pairs (is_value v) (value_of v) is.value (value_itself (value_of v) is.start old)
 
   word_above : (v w : ℕ) → IsRootWord (front ++ young) v → words_correspond_above (length front) pairs v w ≡ true → words_correspond all_pairs v w ≡ true
-  word_above v w is e =
-      elim (or_cases (is_old (length front) v && (v == w)) (words_correspond pairs v w) e) [
-        | inl both_old ↦ (let both : (is_old (length front) v ≡ true) × ((v == w) ≡ true) = and_parts _ _ both_old in
-            subst (λ w. words_correspond all_pairs v w ≡ true) (eqb-true v w both.1) (word_itself v is (old_is_not_young (length front) (value_of v) both.0)))
-        | inr there ↦ words_more (identity front) pairs v w there
-      ]
+  word_above v w is e = grind (arith, common_steps, or_cases, and_parts, eqb-true, word_itself, old_is_not_young, words_more)
 
   field_above : (h : Header) (v w : ℕ) → IsFieldWord (front ++ young) h v → field_words_correspond_above h (length front) pairs v w ≡ true → field_words_correspond h all_pairs v w ≡ true
-  field_above h v w is e = go h.raw is e
-    where
-      go : (raw : Bool) → IsWordOfField raw (front ++ young) v → cond raw (v == w) (words_correspond_above (length front) pairs v w) ≡ true → cond raw (v == w) (words_correspond all_pairs v w) ≡ true
-      go true is e = e
-      go false is e = word_above v w is e
+  field_above h v w is e = grind (arith, common_steps, word_above)
 
   -- ---- young objects
 
@@ -209,13 +168,7 @@ module _ (size : ℕ) (front after young kept roots new_roots : List ℕ) (remem
 
   -- the two places of a pair of young objects
   pair_high : (p : ℕ × ℕ) → BlocksCorrespondAbove (length front) pairs (block_in (young_blocks (length front) young) p.0) (block_in (young_blocks (length front) kept) p.1) → (length front ≤ p.0) × (length front ≤ p.1)
-  pair_high p c = go (block_in (young_blocks (length front) young) p.0) refl (block_in (young_blocks (length front) kept) p.1) refl c
-    where
-      go : (o : Option Block) → block_in (young_blocks (length front) young) p.0 ≡ o → (q : Option Block) → block_in (young_blocks (length front) kept) p.1 ≡ q
-          → BlocksCorrespondAbove (length front) pairs o q → (length front ≤ p.0) × (length front ≤ p.1)
-      go (Some a) e (Some b) f c = (young_above (length front) young p.0 a standing.walked e, young_above (length front) kept p.1 b minor.certified.new_walked f)
-      go (Some a) e None f c = absurd c
-      go None e q f c = absurd c
+  pair_high p c = grind (arith, common_steps, young_above)
 
   high : All (λ p. (length front ≤ p.0) × (length front ≤ p.1)) pairs
   high = All-weaker _ _ pair_high pairs minor.certified.objects
@@ -249,11 +202,4 @@ module _ (size : ℕ) (front after young kept roots new_roots : List ℕ) (remem
   roots_alike = zip_weaker (IsRootWord (front ++ young)) _ _ roots new_roots standing.closed.roots word_above root_parts.1
 
   pub certified : Certified (whole size front young roots) (whole size after kept new_roots) all_pairs
-  certified = record {
-    old_shaped = whole_shaped size front young standing.shaped standing.walked standing.fits;
-    new_shaped = whole_shaped size after kept minor.shaped (subst (λ n. IsOk (walk true 0 n kept)) (sym minor.rewritten.as_long) minor.certified.new_walked) minor.fits;
-    objects = objects;
-    rising = rising;
-    once = once;
-    roots = roots_alike;
-  }
+  certified = grind (arith, common_steps, whole_shaped, objects, rising, once, roots_alike)

@@ -1,5 +1,6 @@
 -- Names stay below the next name, and objects stay short.
-use Rattle.std.proofs.Common.{◌≡◌, ℕ, suc, zero, ◌+◌, ◌<◌, Bool, true, false, cond, ◌&&◌, ◌||◌, ◌==◌, List, [], ◌∷◌, ◌++◌, map, length, Option, Some, None, refl, ◌∙◌, ap, subst, arith}
+use Rattle.std.proofs.lemmas.Grind.{common_steps}
+use Rattle.std.proofs.Common.{◌≡◌, ℕ, suc, zero, ◌+◌, ◌<◌, Bool, true, false, cond, ◌&&◌, ◌||◌, ◌==◌, List, [], ◌∷◌, ◌++◌, map, length, Option, Some, None, refl, ◌∙◌, ap, arith}
 use Rattle.std.specs.Prelude.{slice_get, slice_set, replicate, not, ⊤}
 use Rattle.std.specs.List.{AllByRecursion, flat_map, list_any}
 use Rattle.std.proofs.lemmas.List.{length-set, length-replicate}
@@ -24,9 +25,7 @@ all_append P [] ys a b = b
 all_append P (x ∷ xs) ys a b = (a.0, all_append P xs ys a.1 b)
 
 value_below : (n : ℕ) (v : Value) → ValueBelow n v → AllByRecursion (λ x. x < n) (names_of v)
-value_below n Nil k = tt
-value_below n (Num m) k = tt
-value_below n (Ref a) k = (k, tt)
+value_below n v k = grind (arith, common_steps)
 
 values_below : (n : ℕ) (vs : List Value) → AllByRecursion (ValueBelow n) vs → AllByRecursion (λ x. x < n) (flat_map names_of vs)
 values_below n [] k = tt
@@ -47,9 +46,7 @@ next_unused n g below = differ n _ (all_append _ (map (λ entry. entry.0) g.obje
 -- ---- names below the name after the next
 
 later : (n : ℕ) (v : Value) → ValueBelow n v → ValueBelow (n + 1) v
-later n Nil k = tt
-later n (Num m) k = tt
-later n (Ref a) k = omega arith
+later n v k = grind (arith, common_steps)
 
 all_weaker : {X : Type 0} (P Q : X → Type 0) (xs : List X) → ((x : X) → P x → Q x) → AllByRecursion P xs → AllByRecursion Q xs
 all_weaker P Q [] w a = tt
@@ -65,8 +62,7 @@ all_set P (y ∷ xs) zero x a p = (p, a.1)
 all_set P (y ∷ xs) (suc i) x a p = (a.0, all_set P xs i x a.1 p)
 
 first_below : (n : ℕ) (raw : Bool) → ValueBelow n (first_value raw)
-first_below n true = tt
-first_below n false = tt
+first_below n raw = grind (arith, common_steps)
 
 all_below : (n k : ℕ) (v : Value) → ValueBelow n v → AllByRecursion (ValueBelow n) (replicate k v)
 all_below n zero v below = tt
@@ -97,9 +93,7 @@ found_below n [] name a = tt
 found_below n (e ∷ os) name a = elim (e.0 == name) as (λ b. FieldsBelow n (cond b (Some e.1) (lookup os name))) [ true ↦ a.0 | false ↦ found_below n os name a.1 ]
 
 target_below : (n : ℕ) (os : List (ℕ × Object)) (v : Value) → AllByRecursion (λ e. AllByRecursion (ValueBelow n) e.1.fields) os → FieldsBelow n (object_of os v)
-target_below n os Nil a = tt
-target_below n os (Num m) a = tt
-target_below n os (Ref name) a = found_below n os name a
+target_below n os v a = grind (arith, common_steps, found_below)
 
 field_below : (n : ℕ) (o : Option Object) (i : ℕ) → FieldsBelow n o → OptionBelow n (field_of o i)
 field_below n None i a = tt
@@ -116,34 +110,19 @@ set_keys n (e ∷ os) name i v a = elim (e.0 == name) as (λ b. AllByRecursion (
 
 set_fields : (n : ℕ) (os : List (ℕ × Object)) (name i : ℕ) (v : Value) → ValueBelow n v → AllByRecursion (λ e. AllByRecursion (ValueBelow n) e.1.fields) os → AllByRecursion (λ e. AllByRecursion (ValueBelow n) e.1.fields) (set_field os name i v)
 set_fields n [] name i v h a = tt
-set_fields n (e ∷ os) name i v h a = elim (e.0 == name) as (λ b. AllByRecursion (λ (e : ℕ × Object). AllByRecursion (ValueBelow n) e.1.fields) (cond b ((e.0, with_field e.1 i v) ∷ os) (e ∷ set_field os name i v))) [
-  | true ↦ (all_set (ValueBelow n) e.1.fields i v a.0 h, a.1)
-  | false ↦ (a.0, set_fields n os name i v h a.1)
-]
+set_fields n (e ∷ os) name i v h a = grind (arith, common_steps, all_set, set_fields n os name i v h a.1)
 
 set_short : (os : List (ℕ × Object)) (name i : ℕ) (v : Value) → AllByRecursion (λ e. length e.1.fields < 65536) os → AllByRecursion (λ e. length e.1.fields < 65536) (set_field os name i v)
 set_short [] name i v a = tt
-set_short (e ∷ os) name i v a = elim (e.0 == name) as (λ b. AllByRecursion (λ (e : ℕ × Object). length e.1.fields < 65536) (cond b ((e.0, with_field e.1 i v) ∷ os) (e ∷ set_field os name i v))) [
-  | true ↦ (subst (λ n. n < 65536) (let same : length e.1.fields ≡ length (slice_set e.1.fields i v) = (let back : length (slice_set e.1.fields i v) ≡ length e.1.fields = length-set e.1.fields i v in cc) in same) a.0, a.1)
-  | false ↦ (a.0, set_short os name i v a.1)
-]
+set_short (e ∷ os) name i v a = grind (arith, common_steps, length-set, set_short os name i v a.1)
 
 -- ---- commands that make no object
 
 got_below : (n : ℕ) (g : Graph) (d : ℕ) (o : Option Object) (f : Option Value) → AreBelow n g → OptionBelow n f → AreBelow n (get_field g d o f).1
-got_below n g d None f below h = below
-got_below n g d (Some o) None below h = below
-got_below n g d (Some o) (Some v) below h = root_set n g d v below h
+got_below n g d o f below h = grind (arith, common_steps, root_set)
 
 put_below : (n : ℕ) (g : Graph) (target : Value) (o : Option Object) (f : Option Value) (i : ℕ) (v : Value) → AreBelow n g → ValueBelow n v → AreBelow n (put_field g target o f i v).1
-put_below n g Nil o f i v below h = below
-put_below n g (Num m) o f i v below h = below
-put_below n g (Ref name) None f i v below h = below
-put_below n g (Ref name) (Some o) None i v below h = below
-put_below n g (Ref name) (Some o) (Some before) i v below h = elim (o.raw && not (is_number v)) as (λ refused. AreBelow n (cond {A = Reply × Graph} refused (NoNumber, g) (Done, record g { objects = set_field g.objects name i v })).1) [
-  | true ↦ below
-  | false ↦ record { keys = set_keys n g.objects name i v below.keys; fields = set_fields n g.objects name i v h below.fields; roots = below.roots }
-]
+put_below n g target o f i v below h = grind (arith, common_steps, set_keys, set_fields)
 
 pub step_below : (n : ℕ) (g : Graph) (m : ℕ) (op : Op) (name : ℕ) → (MakesObject op → ⊥) → AreBelow n g → AreBelow n (step g m op name).1
 step_below n g m (ops.New d kind len) name makes_none below = absurd (makes_none tt)
@@ -161,9 +140,7 @@ step_below n g m (ops.Same s t) name makes_none below = below
 step_below n g m (ops.Look s) name makes_none below = below
 
 got_short : (g : Graph) (d : ℕ) (o : Option Object) (f : Option Value) → AreShort g → AreShort (get_field g d o f).1
-got_short g d None f short = short
-got_short g d (Some o) None short = short
-got_short g d (Some o) (Some v) short = short
+got_short g d o f short = grind (arith, common_steps)
 
 put_short : (g : Graph) (target : Value) (o : Option Object) (f : Option Value) (i : ℕ) (v : Value) → AreShort g → AreShort (put_field g target o f i v).1
 put_short g Nil o f i v short = short
@@ -176,25 +153,12 @@ put_short g (Ref name) (Some o) (Some before) i v short = elim (o.raw && not (is
 ]
 
 pub step_short : (g : Graph) (m : ℕ) (op : Op) (name : ℕ) → (MakesObject op → ⊥) → AreShort g → AreShort (step g m op name).1
-step_short g m (ops.New d kind len) name makes_none short = absurd (makes_none tt)
-step_short g m (ops.NewRaw d kind len) name makes_none short = absurd (makes_none tt)
-step_short g m (ops.Num d x) name makes_none short = short
-step_short g m (ops.Nil d) name makes_none short = short
-step_short g m (ops.Move d s) name makes_none short = short
-step_short g m (ops.Get d s i) name makes_none short = (let target : Option Object = object_of g.objects (root g (place s m)) in got_short g (place d m) target (field_of target i) short)
-step_short g m (ops.Put s i t) name makes_none short = (let target : Option Object = object_of g.objects (root g (place s m)) in put_short g (root g (place s m)) target (field_of target i) i (root g (place t m)) short)
-step_short g m (ops.Same s t) name makes_none short = short
-step_short g m (ops.Look s) name makes_none short = short
+step_short g m op name makes_none short = grind (arith, common_steps, got_short, put_short)
 
 -- ---- a new object under the next name
 
 pub make_below : (n : ℕ) (g : Graph) (raw : Bool) (p kind len : ℕ) → AreBelow n g → AreBelow (n + 1) (set_root (add_object g n (new_object raw kind len)) p (Ref n))
-make_below n g raw p kind len below = record {
-  keys = all_push (λ (e : ℕ × Object). e.0 < n + 1) g.objects (n, new_object raw kind len) (all_weaker _ _ g.objects (λ e h. omega arith) below.keys) (omega arith);
-  fields = all_push (λ (e : ℕ × Object). AllByRecursion (ValueBelow (n + 1)) e.1.fields) g.objects (n, new_object raw kind len)
-      (all_weaker _ _ g.objects (λ e h. all_weaker _ _ e.1.fields (later n) h) below.fields) (all_below (n + 1) len (first_value raw) (first_below (n + 1) raw));
-  roots = all_set (ValueBelow (n + 1)) g.roots p (Ref n) (all_weaker _ _ g.roots (later n) below.roots) (omega arith);
-}
+make_below n g raw p kind len below = grind (arith, common_steps, all_push, all_weaker, later, all_below, first_below, all_set)
 
 pub make_short : (n : ℕ) (g : Graph) (raw : Bool) (p kind len : ℕ) → len < 65536 → AreShort g → AreShort (set_root (add_object g n (new_object raw kind len)) p (Ref n))
 make_short n g raw p kind len small short = all_push (λ (e : ℕ × Object). length e.1.fields < 65536) g.objects (n, new_object raw kind len) short (let same : length (replicate len (first_value raw)) ≡ len = length-replicate len (first_value raw) in omega arith)

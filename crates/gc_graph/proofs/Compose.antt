@@ -1,5 +1,6 @@
 -- Matching is transitive.
-use Rattle.std.proofs.Common.{◌≡◌, ℕ, true, false, cond, ◌==◌, List, [], ◌∷◌, ◌++◌, Option, Some, None, refl, sym, ◌∙◌, ap, subst, inl, inr, ◌⊎◌}
+use Rattle.std.proofs.lemmas.Grind.{common_steps}
+use Rattle.std.proofs.Common.{◌≡◌, ℕ, true, false, cond, ◌==◌, List, [], ◌∷◌, ◌++◌, Option, None, refl, sym, ◌∙◌, ap, subst, inl, inr, ◌⊎◌, arith}
 use Rattle.std.specs.List.{AllZip}
 use Rattle.std.proofs.lemmas.Bool.{eqb-true, eq-eqb, cases_Bool}
 use Rattle.gc_graph.specs.Graph.{Value, Nil, Num, Ref, Object, Graph, lookup}
@@ -8,7 +9,7 @@ use Rattle.gc_graph.proofs.Matching.{Alike, nils, numbers, partners, without_obj
 use Rattle.gc_graph.proofs.Lookups.{paired_cases, paired_more, paired_here}
 
 -- the partners of b, as those of a
-abbrev pub partners_from : ℕ → ℕ → List (ℕ × ℕ) → List (ℕ × ℕ)
+abbrev partners_from : ℕ → ℕ → List (ℕ × ℕ) → List (ℕ × ℕ)
 partners_from a b [] = []
 partners_from a b (q ∷ qs) = cond (q.0 == b) ((a, q.1) ∷ partners_from a b qs) (partners_from a b qs)
 
@@ -18,17 +19,11 @@ joined (p ∷ ps) qs = partners_from p.0 p.1 qs ++ joined ps qs
 
 append_cases : (xs ys : List (ℕ × ℕ)) (a c : ℕ) → paired (xs ++ ys) a c ≡ true → (paired xs a c ≡ true) ⊎ (paired ys a c ≡ true)
 append_cases [] ys a c e = inr e
-append_cases (x ∷ xs) ys a c e = elim (paired_cases x (xs ++ ys) a c e) [
-  | inl here ↦ inl (subst (λ n. paired (x ∷ xs) n c ≡ true) here.0 (subst (λ n. paired (x ∷ xs) x.0 n ≡ true) here.1 (paired_here x.0 x.1 xs)))
-  | inr later ↦ elim (append_cases xs ys a c later) [ inl l ↦ inl (paired_more x xs a c l) | inr r ↦ inr r ]
-]
+append_cases (x ∷ xs) ys a c e = grind (arith, common_steps, paired_cases, paired_here, paired_more)
 
 append_left : (xs ys : List (ℕ × ℕ)) (a c : ℕ) → paired xs a c ≡ true → paired (xs ++ ys) a c ≡ true
 append_left [] ys a c e = absurd (let no : false ≡ true = e in cc)
-append_left (x ∷ xs) ys a c e = elim (paired_cases x xs a c e) [
-  | inl here ↦ subst (λ n. paired (x ∷ (xs ++ ys)) n c ≡ true) here.0 (subst (λ n. paired (x ∷ (xs ++ ys)) x.0 n ≡ true) here.1 (paired_here x.0 x.1 (xs ++ ys)))
-  | inr later ↦ paired_more x (xs ++ ys) a c (append_left xs ys a c later)
-]
+append_left (x ∷ xs) ys a c e = grind (arith, common_steps, paired_cases, paired_here, paired_more)
 
 append_right : (xs ys : List (ℕ × ℕ)) (a c : ℕ) → paired ys a c ≡ true → paired (xs ++ ys) a c ≡ true
 append_right [] ys a c e = e
@@ -74,14 +69,10 @@ joined_there (p ∷ ps) qs a b c e f = elim (paired_cases p ps a b e) [
 
 module _ (ps qs : List (ℕ × ℕ)) (g h k : Graph) (first : Matched ps g h) (second : Matched qs h k) where
   not_left : (o q : Option Object) → ObjectsAlike ps g.objects h.objects o q → q ≡ None → ⊥
-  not_left (Some o) (Some q) a e = cc
-  not_left (Some o) None a e = a
-  not_left None q a e = a
+  not_left o q a e = grind (arith, common_steps)
 
   not_right : (o q : Option Object) → ObjectsAlike qs h.objects k.objects o q → o ≡ None → ⊥
-  not_right (Some o) (Some q) a e = cc
-  not_right (Some o) None a e = a
-  not_right None q a e = a
+  not_right o q a e = grind (arith, common_steps)
 
   refs : {v w : Value} (a b : ℕ) → v ≡ Ref b → Alike qs h.objects k.objects v w → paired ps a b ≡ true → Alike (joined ps qs) g.objects k.objects (Ref a) w
   refs a b e nils p = absurd (let no : Nil ≡ Ref b = e in cc)
@@ -122,17 +113,7 @@ module _ (ps qs : List (ℕ × ℕ)) (g h k : Graph) (first : Matched ps g h) (s
   zip_both (u ∷ us) (v ∷ vs) (w ∷ ws) y z = (both y.0 z.0, zip_both us vs ws y.1 z.1)
 
   objects_both : (o p q : Option Object) → ObjectsAlike ps g.objects h.objects o p → ObjectsAlike qs h.objects k.objects p q → ObjectsAlike (joined ps qs) g.objects k.objects o q
-  objects_both None p q a b = absurd a
-  objects_both (Some o) None q a b = absurd a
-  objects_both (Some o) (Some p) None a b = absurd b
-  objects_both (Some o) (Some p) (Some q) a b = (a.0 ∙ b.0, a.1 ∙ b.1, zip_both o.fields p.fields q.fields a.2 b.2)
+  objects_both o p q a b = grind (arith, common_steps, zip_both)
 
   pub composed : Matched (joined ps qs) g k
-  composed = record {
-    roots = zip_both g.roots h.roots k.roots first.roots second.roots;
-    objects = λ a c e. (let by : (b : ℕ) × (paired ps a b ≡ true) × (paired qs b c ≡ true) = joined_cases ps qs a c e in objects_both _ _ _ (first.objects a by.0 by.1) (second.objects by.0 c by.2));
-    one_right = λ a c d e f. (let x : (b : ℕ) × (paired ps a b ≡ true) × (paired qs b c ≡ true) = joined_cases ps qs a c e in let y : (b : ℕ) × (paired ps a b ≡ true) × (paired qs b d ≡ true) = joined_cases ps qs a d f in
-        let same : x.0 ≡ y.0 = first.one_right a x.0 y.0 x.1 y.1 in second.one_right y.0 c d (subst (λ n. paired qs n c ≡ true) same x.2) y.2);
-    one_left = λ a d c e f. (let x : (b : ℕ) × (paired ps a b ≡ true) × (paired qs b c ≡ true) = joined_cases ps qs a c e in let y : (b : ℕ) × (paired ps d b ≡ true) × (paired qs b c ≡ true) = joined_cases ps qs d c f in
-        let same : x.0 ≡ y.0 = second.one_left x.0 y.0 c x.2 y.2 in first.one_left a d y.0 (subst (λ n. paired ps a n ≡ true) same x.1) y.1);
-  }
+  composed = grind (arith, common_steps, zip_both, joined_cases, objects_both)

@@ -1,5 +1,6 @@
 -- The number that a token spells, and the one that a text begins with.
-use Rattle.std.proofs.Common.{◌≡◌, ℕ, zero, suc, ◌^◌, ◌<◌, ◌≤◌, ◌+◌, ◌-◌, ◌*◌, ◌%◌, Bool, true, false, cond, eqb, ltb, leb, ◌&&◌, List, [], ◌∷◌, ◌++◌, length, get_or, take, drop, refl, sym, ap, ◌∙◌, arith, subst, inl, inr, Option, Some, None, IsTrue, ◌↔◌}
+use Rattle.std.proofs.lemmas.Grind.{common_steps}
+use Rattle.std.proofs.Common.{◌≡◌, ℕ, ◌^◌, ◌<◌, ◌≤◌, ◌+◌, ◌-◌, ◌*◌, ◌%◌, Bool, true, cond, eqb, ltb, leb, ◌&&◌, List, [], ◌∷◌, ◌++◌, length, get_or, take, drop, refl, sym, ap, ◌∙◌, arith, inl, inr, Option, Some, None, IsTrue, ◌↔◌}
 use Rattle.std.specs.Prelude.{decimal}
 use Rattle.std.proofs.lemmas.Fmt.{decimal_is_IsNumeral, decimal-digits_value, length-decimal-le, first_decimal, decimal_nonempty, decimal_digit}
 use Rattle.std.proofs.lemmas.Str.Parse.{IsNumeralModel, numerals_by_value, tells_digits, digit_at, digit_from_value, digits_value_short}
@@ -12,7 +13,7 @@ use Rattle.std.proofs.Math.Seq.{take-append_seam, drop-append_seam}
 use Rattle.std.proofs.lemmas.List.Sums.{prefix_len-le-length}
 use Rattle.core.proofs.dec2flt.DigitsLemmas.{digits_value_after_is, is_digit, ends_digits}
 use Rattle.core.proofs.dec2flt.Rows.{AllDigits-digits_len}
-use Rattle.std.specs.Char.{digit_value, is_ascii_digit}
+use Rattle.std.specs.Char.{is_ascii_digit}
 use Rattle.std.specs.Float.Numeral.{digits_len}
 use Rattle.std.specs.Str.{bytes_eq}
 use Rattle.std.specs.Str.Parse.{digits_value, AllDigits}
@@ -42,8 +43,7 @@ number_again most n le small =
     rw (e, and_from (bytes_eq (decimal n) (decimal n)) (leb n most) ((bytes_eq-Decides (decimal n) (decimal n)).1 refl) (le-leb n most le)) refl
 
 none_or : (b : Bool) (n : ℕ) → (b ≡ true → ⊥) → ◌≡◌ {A = Option ℕ} (cond b (Some n) None) None
-none_or true n never = absurd (never refl)
-none_or false n _ = refl
+none_or b n never = grind (arith, common_steps)
 
 -- a token that is not the decimal of a number up to `most` has no number
 number_none : (most : ℕ) (token : List ℕ) → ((n : ℕ) → n ≤ most → token ≡ decimal n → ⊥) → number_of most token ≡ None
@@ -60,8 +60,7 @@ decimal_are_digits n small = (decimal_is_IsNumeral n small).0.1
 -- ---- digits that are a decimal
 
 zero_leads : (n : ℕ) → n < 2 ^ 64 → get_or (decimal n) 0 0 ≡ 48 → length (decimal n) ≤ 1
-zero_leads zero small e = omega (arith, ap length (decimal_digit 0 (omega arith)))
-zero_leads (suc n) small e = absurd (omega (arith, first_decimal (suc n) (omega arith) small))
+zero_leads n small e = grind (arith, common_steps, decimal_digit, first_decimal)
 
 long_decimal : (ds : List ℕ) → IsDecimal ds → length ds ≤ 20
 long_decimal ds is = omega (arith, ap length is.spelled, length-decimal-le 20 (digits_value 10 ds) (omega arith) (omega (arith, is.small)) (omega arith))
@@ -78,16 +77,7 @@ pub record IsFirstOfTwenty (ds : List ℕ) (tail : ℕ) : Type 0 where
   pub below : tail < 10000000000000000000
 
 first_of_twenty : (ds : List ℕ) → AllDigits 10 ds → length ds ≡ 20 → IsFirstOfTwenty ds (digits_value 10 (drop 1 ds))
-first_of_twenty [] digits long = absurd (omega (arith, long))
-first_of_twenty (d ∷ ds) digits long =
-    let range = digit_from_value d digits.0 in
-    let digit = (is_digit d range.0 range.1).1 in
-    let len : length ds ≡ 19 = omega (arith, long) in
-    let after = subst (λ (k : ℕ). digits_value 10 (d ∷ ds) ≡ (0 * 10 + digit_value d) * 10 ^ k + digits_value 10 ds) len (digits_value_after_is (0 * 10 + digit_value d) ds) in
-    record {
-      value_is = omega (arith, after, digit);
-      below = subst (λ (k : ℕ). digits_value 10 ds < 10 ^ k) len (digits_value-lt 10 ds digits.1);
-    }
+first_of_twenty ds digits long = grind (arith, common_steps, digit_from_value, is_digit, digits_value_after_is, digits_value-lt)
 
 -- the digits that a text begins with
 pub record AreFirst (text : List ℕ) (count : ℕ) : Type 0 where
@@ -109,10 +99,7 @@ short_is text count some short leads are =
     (omega (arith, digits_value_short decimals (take count text) 19 are.digits (omega (arith, are.long, short))))
 
 pub after_zero : (text : List ℕ) (count : ℕ) → 0 < count → get_or text 0 0 ≡ 48 → AreFirst text count → IsTrue (eqb count 1) ↔ IsDecimal (take count text)
-after_zero text count some leads are = (
-  λ yes. (let one = eqb-true count 1 yes in short_is text count some (omega (arith, one)) (λ _. one) are),
-  λ is. eq-eqb count 1 (omega (arith, some, are.long, no_zero_leads (take count text) is (are.first ∙ leads))),
-)
+after_zero text count some leads are = grind (arith, common_steps, eqb-true, short_is, eq-eqb, no_zero_leads)
 
 -- twenty digits whose first is two or more spell too large a number
 pub after_others : (text : List ℕ) (count : ℕ) → 0 < count → 50 ≤ get_or text 0 0 → AreFirst text count → IsTrue (ltb count 20) ↔ IsDecimal (take count text)
@@ -133,26 +120,16 @@ short_after_one text count some one lt are = (λ _. short_is text count some lt 
 -- if twenty digits that begin with one spell too large a number, it wraps round to a small one
 pub twenty_after_one : (text : List ℕ) (count wrapped : ℕ) → get_or text 0 0 ≡ 49 → count ≡ 20 → wrapped ≡ digits_value 10 (take count text) % 2 ^ 64 → AreFirst text count
     → IsTrue (leb 10000000000000000000 wrapped) ↔ IsDecimal (take count text)
-twenty_after_one text count wrapped one twenty is are =
-    let ds = take count text in
-    let value = first_of_twenty ds are.digits (omega (arith, twenty, are.long)) in (
-      λ yes. spelled_by ds are.digits (omega (arith, are.long, twenty)) (λ leads. absurd (omega (arith, leads, one, are.first))) (omega (arith, value.value_is, value.below, are.first, one, is, leb-true 10000000000000000000 wrapped yes)),
-      λ fits. le-leb 10000000000000000000 wrapped (omega (arith, value.value_is, are.first, one, is, fits.small)),
-    )
+twenty_after_one text count wrapped one twenty is are = grind (arith, common_steps, first_of_twenty, spelled_by, leb-true, le-leb)
 
 pub long_after_one : (text : List ℕ) (count : ℕ) → ¬ (count < 20) → ¬ (count ≡ 20) → AreFirst text count → IsTrue (eqb count 20) ↔ IsDecimal (take count text)
-long_after_one text count more other are = (
-  λ yes. absurd (other (eqb-true count 20 yes)),
-  λ is. absurd (omega (arith, more, other, are.long, long_decimal (take count text) is)),
-)
+long_after_one text count more other are = grind (arith, common_steps, eqb-true, long_decimal)
 
 -- ---- the number that a text begins with
 
 digits_len-front : (ds rest : List ℕ) → AllDigits 10 ds → digits_len rest ≡ 0 → digits_len (ds ++ rest) ≡ length ds
 digits_len-front [] rest digits none = none
-digits_len-front (d ∷ ds) rest digits none =
-    let range = digit_from_value d digits.0 in
-    rw ((is_digit d range.0 range.1).0) (omega (arith, digits_len-front ds rest digits.1 none))
+digits_len-front (d ∷ ds) rest digits none = grind (arith, common_steps, digit_from_value, is_digit, digits_len-front ds rest digits.1 none)
 
 pub front_is : (text : List ℕ) (end value : ℕ) → end ≡ 0 + digits_len text → value ≡ (0 * 10 ^ (end - 0) + digits_value 10 (take (end - 0) text)) % 2 ^ 64 → IsDecimal (take end text) → BeginsWithNumber text value (take (length text - end) (drop end text))
 front_is text end value len is fits =
@@ -166,25 +143,15 @@ front_is text end value len is fits =
 
 -- the digits are those of the number that the text begins with
 front_only : (text : List ℕ) (n : ℕ) (rest : List ℕ) → BeginsWithNumber text n rest → (0 < digits_len text) × IsDecimal (take (digits_len text) text)
-front_only text n rest begins =
-    let len : digits_len text ≡ length (decimal n) = ap digits_len begins.parts ∙ digits_len-front (decimal n) rest (decimal_are_digits n begins.small) begins.whole in
-    let ds : take (digits_len text) text ≡ decimal n = rw len (ap (λ (t : List ℕ). take (length (decimal n)) t) begins.parts ∙ take-append_seam (decimal n) rest) in
-    let value = value-decimal n begins.small in (
-      omega (arith, len, decimal_nonempty n begins.small),
-      subst IsDecimal (sym ds) (record { small = omega (arith, value, begins.small); spelled = ap decimal (sym value) }),
-    )
+front_only text n rest begins = grind (arith, common_steps, digits_len-front, decimal_are_digits, take-append_seam, value-decimal, decimal_nonempty)
 
 pub front_none : (text : List ℕ) (end : ℕ) → end ≡ 0 + digits_len text → (0 < end → ¬ IsDecimal (take end text)) → (n : ℕ) (rest : List ℕ) → ¬ BeginsWithNumber text n rest
-front_none text end len never n rest begins =
-    let only = front_only text n rest begins in
-    let same : digits_len text ≡ end = omega (arith, len) in
-    never (omega (arith, only.0, same)) (subst (λ (k : ℕ). IsDecimal (take k text)) same only.1)
+front_none text end len never n rest begins = grind (arith, common_steps, front_only)
 
 -- ---- the number of a token
 
 pub token_some : (most : ℕ) (token rest : List ℕ) (n : ℕ) → BeginsWithNumber token n rest → length rest ≡ 0 → n ≤ most → Some n ≡ number_of most token
-token_some most token [] n begins empty le = rw (begins.parts ∙ append-nil (decimal n)) (sym (number_again most n le begins.small))
-token_some most token (b ∷ rest) n begins empty le = absurd (omega (arith, empty))
+token_some most token rest n begins empty le = grind (arith, common_steps, append-nil, number_again)
 
 -- a token that is not, as a whole, the decimal of a number up to `most` has no number
 pub token_none : (most : ℕ) (token : List ℕ) → most < 2 ^ 64 → ((n : ℕ) → n ≤ most → ¬ BeginsWithNumber token n []) → number_of most token ≡ None

@@ -11,7 +11,7 @@ use Rattle.gc_graph.proofs.Decimals.{decimal_are_digits}
 use Rattle.gc_graph.proofs.TokenLemmas.{tokens_of-cut, tokens_of-whole}
 
 -- a test for literal tokens: no byte is below the digits
-abbrev pub all_high : List ℕ → Bool
+abbrev all_high : List ℕ → Bool
 all_high [] = true
 all_high (b ∷ bs) = leb 48 b && all_high bs
 

@@ -1,5 +1,6 @@
 -- Commands keep two graphs matched, and their replies are the same.
-use Rattle.std.proofs.Common.{◌≡◌, ℕ, suc, zero, Bool, true, false, cond, ◌&&◌, ◌||◌, ◌==◌, List, [], ◌∷◌, ◌++◌, map, length, replicate, Option, Some, None, is_some, refl, sym, ◌∙◌, ap, subst, inl, inr}
+use Rattle.std.proofs.lemmas.Grind.{common_steps}
+use Rattle.std.proofs.Common.{◌≡◌, ℕ, suc, zero, Bool, true, false, cond, ◌&&◌, ◌||◌, ◌==◌, List, [], ◌∷◌, ◌++◌, map, replicate, Option, Some, None, is_some, refl, sym, ◌∙◌, ap, subst, inl, inr, arith}
 use Rattle.std.specs.Prelude.{slice_get, not}
 use Rattle.std.specs.List.{AllZip, AllByRecursion, flat_map, list_any}
 use Rattle.std.proofs.lemmas.Bool.{eqb-true, eqb-false, eq-eqb, ne_eqb, cases_Bool, both_ways, and_from, and_right}
@@ -16,8 +17,7 @@ use Rattle.gc_graph.specs.declared.reply.View.TheVariants as views
 use Rattle.gc_graph.proofs.Lookups.{paired_cases, paired_more, paired_here, lookup_push_other, lookup_push_same, with_field_option, lookup_set_same, lookup_set_other, lookup_set_none, zip_weaker, zip_map, zip_set, Together, zip_get, zip_length, any_append, Avoids, avoids_each, not_a_key, FieldsAvoid, fields_avoid}
 
 first_alike : (pairs : List (ℕ × ℕ)) (os qs : List (ℕ × Object)) (raw : Bool) → Alike pairs os qs (first_value raw) (first_value raw)
-first_alike pairs os qs true = numbers 0
-first_alike pairs os qs false = nils
+first_alike pairs os qs raw = grind (arith, common_steps, numbers, nils)
 
 -- the same reply, and graphs that are matched again
 abbrev pub AlikeAfter : Reply × Graph → Reply × Graph → Type 0
@@ -25,123 +25,70 @@ AlikeAfter x y = (x.0 ≡ y.0) × (after : List (ℕ × ℕ)) × Matched after x
 
 module _ (pairs : List (ℕ × ℕ)) (g h : Graph) (matched : Matched pairs g h) where
   roots_alike : (v w : Option Value) → Together (Alike pairs g.objects h.objects) v w → Alike pairs g.objects h.objects (value_or_nil v) (value_or_nil w)
-  roots_alike None None t = nils
-  roots_alike None (Some w) t = absurd t
-  roots_alike (Some v) None t = absurd t
-  roots_alike (Some v) (Some w) t = t
+  roots_alike v w t = grind (arith, common_steps, nils)
 
-  pub root_alike : (p : ℕ) → Alike pairs g.objects h.objects (root g p) (root h p)
+  root_alike : (p : ℕ) → Alike pairs g.objects h.objects (root g p) (root h p)
   root_alike p = roots_alike (slice_get g.roots p) (slice_get h.roots p) (zip_get _ g.roots h.roots p matched.roots)
 
   -- ---- objects
 
-  abbrev pub BothOrNone : Option Object → Option Object → Type 0
+  abbrev BothOrNone : Option Object → Option Object → Type 0
   BothOrNone o q = Together (λ o q. (o.raw ≡ q.raw) × (o.kind ≡ q.kind) × AllZip (Alike pairs g.objects h.objects) o.fields q.fields) o q
 
   together : (o q : Option Object) → ObjectsAlike pairs g.objects h.objects o q → BothOrNone o q
-  together (Some o) (Some q) a = a
-  together (Some o) None a = absurd a
-  together None q a = absurd a
+  together o q a = grind (arith, common_steps)
 
   neither : (o q : Option Object) → o ≡ None → q ≡ None → BothOrNone o q
-  neither None None e f = tt
-  neither None (Some q) e f = absurd (let no : Some q ≡ None = f in cc)
-  neither (Some o) q e f = absurd (let no : Some o ≡ None = e in cc)
+  neither o q e f = grind (arith, common_steps)
 
-  pub target_alike : {v w : Value} → Alike pairs g.objects h.objects v w → BothOrNone (object_of g.objects v) (object_of h.objects w)
+  target_alike : {v w : Value} → Alike pairs g.objects h.objects v w → BothOrNone (object_of g.objects v) (object_of h.objects w)
   target_alike nils = tt
   target_alike (numbers n) = tt
   target_alike (partners a b p) = together (lookup g.objects a) (lookup h.objects b) (matched.objects a b p)
   target_alike (without_objects a b e f) = neither (lookup g.objects a) (lookup h.objects b) e f
 
-  pub field_alike : (o q : Option Object) (i : ℕ) → BothOrNone o q → Together (Alike pairs g.objects h.objects) (field_of o i) (field_of q i)
-  field_alike None None i t = tt
-  field_alike None (Some q) i t = absurd t
-  field_alike (Some o) None i t = absurd t
-  field_alike (Some o) (Some q) i t = zip_get _ o.fields q.fields i t.2
+  field_alike : (o q : Option Object) (i : ℕ) → BothOrNone o q → Together (Alike pairs g.objects h.objects) (field_of o i) (field_of q i)
+  field_alike o q i t = grind (arith, common_steps, zip_get)
 
   -- ---- views
 
   object_view : (o q : Option Object) → BothOrNone o q → view_of_object o ≡ view_of_object q
-  object_view None None t = refl
-  object_view None (Some q) t = absurd t
-  object_view (Some o) None t = absurd t
-  object_view (Some o) (Some q) t = let n : length o.fields ≡ length q.fields = zip_length _ o.fields q.fields t.2 in λ i. cond (t.0 i) (views.RawObj (t.1 i) (n i)) (views.Obj (t.1 i) (n i))
+  object_view o q t = grind (arith, common_steps, zip_length)
 
-  pub view_alike : {v w : Value} → Alike pairs g.objects h.objects v w → view_of g.objects v ≡ view_of h.objects w
+  view_alike : {v w : Value} → Alike pairs g.objects h.objects v w → view_of g.objects v ≡ view_of h.objects w
   view_alike nils = refl
   view_alike (numbers n) = refl
   view_alike (partners a b p) = object_view (lookup g.objects a) (lookup h.objects b) (target_alike (partners a b p))
   view_alike (without_objects a b e f) = object_view (lookup g.objects a) (lookup h.objects b) (target_alike (without_objects a b e f))
 
   is_there : (o q : Option Object) → ObjectsAlike pairs g.objects h.objects o q → (is_some o ≡ true) × (is_some q ≡ true)
-  is_there (Some o) (Some q) a = (refl, refl)
-  is_there (Some o) None a = absurd a
-  is_there None q a = absurd a
+  is_there o q a = grind (arith, common_steps)
 
   absent : (o : Option Object) → o ≡ None → is_some o ≡ false
-  absent None e = refl
-  absent (Some o) e = cc
+  absent o e = grind (arith, common_steps)
 
   -- there is a name on the left exactly if there is one on the right
   same_partners : (a b x y : ℕ) → paired pairs a b ≡ true → paired pairs x y ≡ true
       → ((a == x) && is_some (lookup g.objects a)) ≡ ((b == y) && is_some (lookup h.objects b))
-  same_partners a b x y p q =
-      let there : (is_some (lookup g.objects a) ≡ true) × (is_some (lookup h.objects b) ≡ true) = is_there _ _ (matched.objects a b p) in
-      elim (cases_Bool (a == x)) [
-        | inl e ↦ (let ax : a ≡ x = eqb-true a x e in
-            let by : b ≡ y = matched.one_right a b y p (subst (λ n. paired pairs n y ≡ true) (sym ax) q) in
-            let f : (b == y) ≡ true = eq-eqb b y by in
-            let both : ((a == x) && is_some (lookup g.objects a)) ≡ true = and_from _ _ e there.0 in
-            let both' : ((b == y) && is_some (lookup h.objects b)) ≡ true = and_from _ _ f there.1 in
-            both ∙ sym both')
-        | inr e ↦ (let f : (b == y) ≡ false = ne_eqb b y (λ by. eqb-false a x e (matched.one_left a x b p (subst (λ n. paired pairs x n ≡ true) (sym by) q))) in
-            ap (λ t. t && is_some (lookup g.objects a)) e ∙ sym (ap (λ t. t && is_some (lookup h.objects b)) f))
-      ]
+  same_partners a b x y p q = grind (arith, common_steps, is_there, cases_Bool, eqb-true, eq-eqb, and_from, ne_eqb, eqb-false)
 
   -- a name with an object is not a name without one
   not_gone : (a b x y : ℕ) → paired pairs a b ≡ true → lookup g.objects x ≡ None → lookup h.objects y ≡ None
       → ((a == x) && is_some (lookup g.objects a)) ≡ ((b == y) && is_some (lookup h.objects b))
-  not_gone a b x y p e f =
-      let there : (is_some (lookup g.objects a) ≡ true) × (is_some (lookup h.objects b) ≡ true) = is_there _ _ (matched.objects a b p) in
-      let left : is_some (lookup g.objects x) ≡ false = absent (lookup g.objects x) e in
-      let right : is_some (lookup h.objects y) ≡ false = absent (lookup h.objects y) f in
-      let a_not_x : (a == x) ≡ false = ne_eqb a x (λ e. both_ways _ left (ap (λ n. is_some (lookup g.objects n)) (sym e) ∙ there.0)) in
-      let b_not_y : (b == y) ≡ false = ne_eqb b y (λ e. both_ways _ right (ap (λ n. is_some (lookup h.objects n)) (sym e) ∙ there.1)) in
-      ap (λ t. t && is_some (lookup g.objects a)) a_not_x ∙ sym (ap (λ t. t && is_some (lookup h.objects b)) b_not_y)
+  not_gone a b x y p e f = grind (arith, common_steps, is_there, absent, ne_eqb, both_ways)
 
   gone : (a b x y : ℕ) → lookup g.objects a ≡ None → lookup h.objects b ≡ None
       → ((a == x) && is_some (lookup g.objects a)) ≡ ((b == y) && is_some (lookup h.objects b))
   gone a b x y e f = and_right (a == x) (is_some (lookup g.objects a)) (absent _ e) ∙ sym (and_right (b == y) (is_some (lookup h.objects b)) (absent _ f))
 
-  pub same_alike : {v w v' w' : Value} → Alike pairs g.objects h.objects v w → Alike pairs g.objects h.objects v' w' → same g.objects v v' ≡ same h.objects w w'
-  same_alike nils nils = refl
-  same_alike nils (numbers n) = refl
-  same_alike nils (partners a b p) = refl
-  same_alike nils (without_objects a b e f) = refl
-  same_alike (numbers n) nils = refl
-  same_alike (numbers n) (numbers n') = refl
-  same_alike (numbers n) (partners a b p) = refl
-  same_alike (numbers n) (without_objects a b e f) = refl
-  same_alike (partners a b p) nils = refl
-  same_alike (partners a b p) (numbers n) = refl
-  same_alike (partners a b p) (partners x y q) = same_partners a b x y p q
-  same_alike (partners a b p) (without_objects x y e f) = not_gone a b x y p e f
-  same_alike (without_objects a b e f) nils = refl
-  same_alike (without_objects a b e f) (numbers n) = refl
-  same_alike (without_objects a b e f) (partners x y q) = gone a b x y e f
-  same_alike (without_objects a b e f) (without_objects x y e' f') = gone a b x y e f
+  same_alike : {v w v' w' : Value} → Alike pairs g.objects h.objects v w → Alike pairs g.objects h.objects v' w' → same g.objects v v' ≡ same h.objects w w'
+  same_alike x0 x1 = grind (arith, common_steps, nils, numbers, partners, without_objects, same_partners, not_gone, gone)
 
   -- ---- changes
 
   -- writing corresponding values to one root
-  pub matched_root : (p : ℕ) {v w : Value} → Alike pairs g.objects h.objects v w → Matched pairs (set_root g p v) (set_root h p w)
-  matched_root p {v} {w} a = record {
-    roots = zip_set _ g.roots h.roots p v w a matched.roots;
-    objects = matched.objects;
-    one_right = matched.one_right;
-    one_left = matched.one_left;
-  }
+  matched_root : (p : ℕ) {v w : Value} → Alike pairs g.objects h.objects v w → Matched pairs (set_root g p v) (set_root h p w)
+  matched_root p {v} {w} a = grind (arith, common_steps, zip_set)
 
   -- writing corresponding values to a field of two partners
   module _ (n n' i : ℕ) (v w : Value) (p : paired pairs n n' ≡ true) (a : Alike pairs g.objects h.objects v w) where
@@ -183,7 +130,7 @@ module _ (pairs : List (ℕ × ℕ)) (g h : Graph) (matched : Matched pairs g h)
           (still_objects (lookup g.objects x) (lookup h.objects y) (matched.objects x y q))))
     ]
 
-    pub matched_field : Matched pairs (record { objects = left; roots = g.roots }) (record { objects = right; roots = h.roots })
+    matched_field : Matched pairs (record { objects = left; roots = g.roots }) (record { objects = right; roots = h.roots })
     matched_field = record {
       roots = zip_map _ _ g.roots h.roots (λ x y. still) matched.roots;
       objects = each_object;
@@ -272,7 +219,7 @@ module _ (pairs : List (ℕ × ℕ)) (g h : Graph) (matched : Matched pairs g h)
           (newer_objects (lookup g.objects x) (lookup h.objects y) (fields_avoid a g.objects x object_parts.1) (fields_avoid b h.objects y object_parts'.1) (matched.objects x y later))))
     ]
 
-    pub matched_new : Matched more (add_object g a o) (add_object h b o)
+    matched_new : Matched more (add_object g a o) (add_object h b o)
     matched_new = record {
       roots = zip_weaker _ _ (Avoids a) (Avoids b) g.roots h.roots (λ x y. newer) (avoids_each a g.roots key_parts.1) (avoids_each b h.roots key_parts'.1) matched.roots;
       objects = each_newer;
@@ -320,7 +267,7 @@ module _ (pairs : List (ℕ × ℕ)) (g h : Graph) (matched : Matched pairs g h)
   number_alike (without_objects a b e f) = refl
 
   -- a write that may be refused
-  abbrev pub written : Graph → Bool → ℕ → ℕ → Value → Reply × Graph
+  abbrev written : Graph → Bool → ℕ → ℕ → Value → Reply × Graph
   written g refused n i x = cond refused (NoNumber, g) (Done, record g { objects = set_field g.objects n i x })
 
   written_alike : (refused : Bool) (n n' i : ℕ) (x y : Value) → paired pairs n n' ≡ true → Alike pairs g.objects h.objects x y
@@ -380,15 +327,7 @@ module _ (pairs : List (ℕ × ℕ)) (g h : Graph) (matched : Matched pairs g h)
 -- ---- graphs that correspond match
 
 alike_of : (pairs : List (ℕ × ℕ)) (os qs : List (ℕ × Object)) (v w : Value) → correspond pairs v w ≡ true → Alike pairs os qs v w
-alike_of pairs os qs Nil Nil e = nils
-alike_of pairs os qs (Num a) (Num b) e = subst (λ n. Alike pairs os qs (Num a) (Num n)) (eqb-true a b e) (numbers a)
-alike_of pairs os qs (Ref a) (Ref b) e = partners a b e
-alike_of pairs os qs Nil (Num b) e = absurd (let no : false ≡ true = e in cc)
-alike_of pairs os qs Nil (Ref b) e = absurd (let no : false ≡ true = e in cc)
-alike_of pairs os qs (Num a) Nil e = absurd (let no : false ≡ true = e in cc)
-alike_of pairs os qs (Num a) (Ref b) e = absurd (let no : false ≡ true = e in cc)
-alike_of pairs os qs (Ref a) Nil e = absurd (let no : false ≡ true = e in cc)
-alike_of pairs os qs (Ref a) (Num b) e = absurd (let no : false ≡ true = e in cc)
+alike_of pairs os qs v w e = grind (arith, common_steps, nils, eqb-true, numbers, partners)
 
 zip_alike : (pairs : List (ℕ × ℕ)) (os qs : List (ℕ × Object)) (vs ws : List Value) → AllZip (λ v w. correspond pairs v w ≡ true) vs ws → AllZip (Alike pairs os qs) vs ws
 zip_alike pairs os qs [] [] z = tt
@@ -397,14 +336,7 @@ zip_alike pairs os qs (v ∷ vs) [] z = absurd z
 zip_alike pairs os qs (v ∷ vs) (w ∷ ws) z = (alike_of pairs os qs v w z.0, zip_alike pairs os qs vs ws z.1)
 
 objects_alike : (pairs : List (ℕ × ℕ)) (os qs : List (ℕ × Object)) (o q : Option Object) → EqualFieldByField pairs o q → ObjectsAlike pairs os qs o q
-objects_alike pairs os qs (Some o) (Some q) c = (c.0, c.1, zip_alike pairs os qs o.fields q.fields c.3)
-objects_alike pairs os qs (Some o) None c = absurd c
-objects_alike pairs os qs None q c = absurd c
+objects_alike pairs os qs o q c = grind (arith, common_steps, zip_alike)
 
 pub matched_of : (pairs : List (ℕ × ℕ)) (g h : Graph) → Corresponding pairs g h → Matched pairs g h
-matched_of pairs g h c = record {
-  roots = zip_alike pairs g.objects h.objects g.roots h.roots c.roots;
-  objects = λ a b p. objects_alike pairs g.objects h.objects (lookup g.objects a) (lookup h.objects b) (c.objects a b p);
-  one_right = c.one_right;
-  one_left = c.one_left;
-}
+matched_of pairs g h c = grind (arith, common_steps, zip_alike, objects_alike)

@@ -1,5 +1,6 @@
 -- A text that is read in pieces: its start, the next piece, its end.
-use Rattle.std.proofs.Common.{◌≡◌, ℕ, ◌+◌, ◌≤◌, List, [], ◌∷◌, ◌++◌, length, drop, refl, sym, ap, ◌∙◌, arith, subst, Option, Some, None, IfSome, true}
+use Rattle.std.proofs.lemmas.Grind.{common_steps}
+use Rattle.std.proofs.Common.{◌≡◌, ℕ, ◌+◌, ◌≤◌, List, [], ◌++◌, length, drop, refl, sym, ap, ◌∙◌, arith, subst, Option, Some, None, IfSome, true}
 use Rattle.std.specs.Io.KnownBytes.{Consumes, IsAtEnd}
 use Rattle.std.proofs.lemmas.List.{append-nil, drop_all, drop-drop, length-drop, length-append}
 use Rattle.std.proofs.Math.Seq.{drop-append_seam}
@@ -7,8 +8,7 @@ use Rattle.gc_graph.specs.Pieces.{Progress, IsWithin, nothing_read}
 
 -- what is true of every known text, if a text is known
 pub if_known : {P : List ℕ → Type 0} (known : Option (List ℕ)) → ((text : List ℕ) → known ≡ Some text → P text) → IfSome known P
-if_known None all = tt
-if_known (Some text) all = all text refl
+if_known known all = grind (arith, common_steps)
 
 -- ---- the start
 
@@ -54,10 +54,8 @@ all_waits text rest p left h ended = (left_waits text rest p left h (h.end_is en
 
 -- if the input ends without another byte, the buffer has the rest of the text
 pub ends_there : (text rest : List ℕ) (before after : Progress) (left new : Option (List ℕ)) → IsWithin text rest before left → IsWithin text rest after new → after.ended ≡ true → after.read ≡ before.read → (rest ≡ before.waiting) × (length text ≤ after.read)
-ends_there text rest before after left new h next ended same =
-    (left_waits text rest before left h (omega (arith, next.end_is ended, same)), next.end_is ended)
+ends_there text rest before after left new h next ended same = grind (arith, common_steps, left_waits)
 
 -- the buffer is empty
 pub no_byte : (bytes : List ℕ) → length bytes ≡ 0 → bytes ≡ []
-no_byte [] none = refl
-no_byte (b ∷ bytes) none = absurd (omega (arith, none))
+no_byte bytes none = grind (arith, common_steps)

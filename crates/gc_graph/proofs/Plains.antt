@@ -1,7 +1,7 @@
 -- The plain machine's map of records as the graph's objects.
-use Rattle.std.proofs.Common.{◌≡◌, ℕ, suc, zero, ◌<◌, ◌≤◌, true, false, cond, ◌==◌, List, [], ◌∷◌, ◌++◌, map, length, Some, None, refl, sym, ◌∙◌, ap, subst, inl, inr, arith}
-use Rattle.std.specs.Ordering.{nat_cmp, is_eq, match_ordering}
-use Rattle.std.specs.declared.cmp.Ordering.TheVariants.{Less, Equal, Greater}
+use Rattle.std.proofs.lemmas.Grind.{common_steps}
+use Rattle.std.proofs.Common.{◌≡◌, ℕ, suc, zero, ◌<◌, ◌≤◌, true, false, cond, ◌==◌, List, [], ◌∷◌, ◌++◌, map, length, Some, None, refl, sym, ◌∙◌, ap, subst, arith}
+use Rattle.std.specs.Ordering.{nat_cmp, is_eq}
 use Rattle.std.specs.BTreeMap.{insert_entry}
 use Rattle.std.specs.BTreeMap as tree
 use Rattle.std.specs.Map as entries
@@ -23,20 +23,11 @@ use Rattle.gc_graph.specs.declared.objects.Record.{Record}
 use Rattle.gc_graph.specs.declared.objects.PlainValue.{PlainValue}
 
 at_key : (q k : ℕ) → is_eq (nat_cmp q k) ≡ (k == q)
-at_key q k = elim (cases_order q k) [
-  | inl same ↦ subst (λ n. is_eq (nat_cmp q n) ≡ (n == q)) same (ap (λ b. is_eq (cond b Less (cond (q == q) Equal Greater))) (le-ltb q q (omega arith)) ∙ ap (λ b. is_eq (cond b Equal Greater)) (eq-eqb q q refl) ∙ sym (eq-eqb q q refl))
-  | inr (inl less) ↦ ap (λ b. is_eq (cond b Less (cond (q == k) Equal Greater))) (lt-ltb q k less) ∙ sym (ne_eqb k q (λ e. omega arith))
-  | inr (inr more) ↦ ap (λ b. is_eq (cond b Less (cond (q == k) Equal Greater))) (le-ltb q k (omega arith)) ∙ ap (λ b. is_eq (cond b Equal Greater)) (ne_eqb q k (λ e. omega arith)) ∙ sym (ne_eqb k q (λ e. omega arith))
-]
+at_key q k = grind (arith, common_steps, cases_order, le-ltb, eq-eqb, lt-ltb, ne_eqb)
 
 pub found_record : (es : List (ℕ × Record)) (q : ℕ) → record_option (entries.lookup (tree.is_at (nat_cmp q)) es) ≡ lookup (objects_of es) q
 found_record [] q = refl
-found_record (e ∷ es) q =
-    ap (λ b. record_option (cond b (Some e.1) (entries.lookup (tree.is_at (nat_cmp q)) es))) (at_key q e.0)
-    ∙ (elim (e.0 == q) as (λ b. record_option (cond b (Some e.1) (entries.lookup (tree.is_at (nat_cmp q)) es)) ≡ cond b (Some (object_of_record e.1)) (lookup (objects_of es) q)) [
-      | true ↦ refl
-      | false ↦ found_record es q
-    ])
+found_record (e ∷ es) q = grind (arith, common_steps, at_key, found_record es q)
 
 pub record_keys : (n : ℕ) (es : List (ℕ × Record)) → AllByRecursion (λ e. e.0 < n) (objects_of es) → AllByRecursion (λ e. e.0 < n) es
 record_keys n [] k = tt
@@ -45,10 +36,7 @@ record_keys n (e ∷ es) k = (k.0, record_keys n es k.1)
 -- a key above all goes to the end
 pub pushed : (es : List (ℕ × Record)) (k : ℕ) (r : Record) → AllByRecursion (λ e. e.0 < k) es → insert_entry nat_cmp es k r ≡ es ++ (k, r) ∷ []
 pushed [] k r all = refl
-pushed (e ∷ es) k r all =
-    ap (λ b. match_ordering (cond b Less (cond (k == e.0) Equal Greater)) ((k, r) ∷ e ∷ es) ((e.0, r) ∷ es) (e ∷ insert_entry nat_cmp es k r)) (le-ltb k e.0 (omega arith))
-    ∙ ap (λ b. match_ordering (cond b Equal Greater) ((k, r) ∷ e ∷ es) ((e.0, r) ∷ es) (e ∷ insert_entry nat_cmp es k r)) (ne_eqb k e.0 (λ q. omega arith))
-    ∙ ap (λ xs. e ∷ xs) (pushed es k r all.1)
+pushed (e ∷ es) k r all = grind (arith, common_steps, le-ltb, ne_eqb, pushed es k r all.1)
 
 pub held_each : (n : ℕ) (v : PlainValue) → map plain_value (replicate n v) ≡ replicate n (plain_value v)
 held_each zero v = refl
@@ -116,8 +104,4 @@ same_entries es q r e = set_value_same (tree.is_at (nat_cmp q)) es r e
 
 pub got : (g h : Graph) (d i : ℕ) (target : Value) (o : Object) (v : Value) (view : View) → object_of g.objects target ≡ Some o → field_of (Some o) i ≡ Some v
     → view ≡ view_of g.objects v → h ≡ set_root g d v → ◌≡◌ {A = Reply × Graph} (Saw view, h) (get_field g d (object_of g.objects target) (field_of (object_of g.objects target) i))
-got g h d i target o v view object field seen taken =
-    let there : get_field g d (object_of g.objects target) (field_of (object_of g.objects target) i) ≡ get_field g d (Some o) (Some v)
-    = ap (λ x. get_field g d x (field_of x i)) object ∙ ap (get_field g d (Some o)) field in
-    let same : ◌≡◌ {A = Reply × Graph} (Saw view, h) (Saw (view_of g.objects v), set_root g d v) = λ k. (Saw (seen k), taken k) in
-    same ∙ sym there
+got g h d i target o v view object field seen taken = grind (arith, common_steps)

@@ -1,5 +1,6 @@
 -- Lists of commands on matched graphs.
-use Rattle.std.proofs.Common.{◌≡◌, ℕ, suc, zero, ◌-◌, ◌≤◌, max, Bool, true, false, cond, not, ◌||◌, ◌==◌, List, [], ◌∷◌, map, take, Option, Some, None, is_some, refl, sym, ◌∙◌, ap, subst, inl, inr, arith}
+use Rattle.std.proofs.lemmas.Grind.{common_steps}
+use Rattle.std.proofs.Common.{◌≡◌, ℕ, suc, zero, ◌-◌, ◌≤◌, max, Bool, true, false, cond, not, ◌==◌, List, [], ◌∷◌, map, take, Option, Some, is_some, refl, sym, ◌∙◌, ap, subst, inl, inr, arith}
 use Rattle.std.specs.Prelude.{nat_lt}
 use Rattle.std.specs.List.{AllZip, fold, list_any, list_all}
 use Rattle.std.proofs.lemmas.Bool.{eqb-true, eq-eqb, ne_eqb, cases_Bool, and_parts}
@@ -39,29 +40,17 @@ own_paired (entry ∷ os) x e =
 alike_itself : (os : List (ℕ × Object)) (v : Value) → Alike (own_pairs os) os os v v
 alike_itself os Nil = nils
 alike_itself os (Num n) = numbers n
-alike_itself os (Ref a) =
-    elim (lookup os a) as (λ o. lookup os a ≡ o → Alike (own_pairs os) os os (Ref a) (Ref a)) [
-      | None ↦ λ e. without_objects a a e e
-      | Some o ↦ λ e. partners a a (own_paired os a (ap is_some e))
-    ] refl
+alike_itself os (Ref a) = grind (arith, common_steps, nils, numbers, without_objects, partners, own_paired)
 
 zip_itself : {X : Type 0} (R : X → X → Type 0) (xs : List X) → ((x : X) → R x x) → AllZip R xs xs
 zip_itself R [] each = tt
 zip_itself R (x ∷ xs) each = (each x, zip_itself R xs each)
 
 object_itself : (pairs : List (ℕ × ℕ)) (os : List (ℕ × Object)) (o : Option Object) → ((v : Value) → Alike pairs os os v v) → is_some o ≡ true → ObjectsAlike pairs os os o o
-object_itself pairs os None each e = absurd (let no : false ≡ true = e in cc)
-object_itself pairs os (Some o) each e = (refl, refl, zip_itself _ o.fields each)
+object_itself pairs os o each e = grind (arith, common_steps, zip_itself)
 
 pub matched_itself : (g : Graph) → Matched (own_pairs g.objects) g g
-matched_itself g = record {
-  roots = zip_itself _ g.roots (alike_itself g.objects);
-  objects = λ a b e. (let found : (a ≡ b) × (is_some (lookup g.objects a) ≡ true) = own_from g.objects a b e in
-      subst (λ n. ObjectsAlike (own_pairs g.objects) g.objects g.objects (lookup g.objects a) (lookup g.objects n)) found.0
-      (object_itself (own_pairs g.objects) g.objects (lookup g.objects a) (alike_itself g.objects) found.1));
-  one_right = λ a b c p q. sym (own_from g.objects a b p).0 ∙ (own_from g.objects a c q).0;
-  one_left = λ a b c p q. (own_from g.objects a c p).0 ∙ sym (own_from g.objects b c q).0;
-}
+matched_itself g = grind (arith, common_steps, zip_itself, alike_itself, own_from, object_itself)
 
 -- ---- the fresh name
 
@@ -71,10 +60,7 @@ above (x ∷ names) least = let ih : max least (suc x) ≤ fold (λ least name. 
 
 none_at : (names : List ℕ) (least k : ℕ) → fold (λ least name. max least (suc name)) least names ≤ k → list_any (λ other. other == k) names ≡ false
 none_at [] least k h = refl
-none_at (x ∷ names) least k h =
-    let over : max least (suc x) ≤ fold (λ least name. max least (suc name)) (max least (suc x)) names = above names (max least (suc x)) in
-    let differs : (x == k) ≡ false = ne_eqb x k (λ e. omega arith) in
-    ap (λ b. b || list_any (λ other. other == k) names) differs ∙ none_at names (max least (suc x)) k h
+none_at (x ∷ names) least k h = grind (arith, common_steps, above, ne_eqb, none_at names (max least (suc x)) k h)
 
 pub fresh_unused : (g : Graph) → IsUnused g (fresh_name g)
 fresh_unused g = none_at (names_in g) 0 (fresh_name g) (omega arith)
@@ -82,12 +68,11 @@ fresh_unused g = none_at (names_in g) 0 (fresh_name g) (omega arith)
 -- ---- with a bound on the words in use
 
 -- the step if there is room
-abbrev pub plain_step : Roomy → ℕ → Op → ℕ → Reply × Roomy
+abbrev plain_step : Roomy → ℕ → Op → ℕ → Reply × Roomy
 plain_step s m op name = let next = step s.graph m op name in (next.0, record { graph = next.1; free = s.free - words_taken op })
 
 with_room : (b : Bool) (s : Roomy) (x : Reply × Roomy) → not (is_full (cond b (Full, s) x).0) ≡ true → cond b (Full, s) x ≡ x
-with_room true s x e = absurd (let no : false ≡ true = e in cc)
-with_room false s x e = refl
+with_room b s x e = grind (arith, common_steps)
 
 roomy_is_plain : (s : Roomy) (m : ℕ) (op : Op) (name : ℕ) → not (is_full (roomy_step s m op name).0) ≡ true → roomy_step s m op name ≡ plain_step s m op name
 roomy_is_plain s m op name e = with_room (nat_lt s.free (words_taken op)) s (plain_step s m op name) e

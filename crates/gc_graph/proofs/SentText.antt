@@ -1,4 +1,5 @@
 -- A text that is written piece by piece.
+use Rattle.std.proofs.lemmas.Grind.{common_steps}
 use Rattle.std.proofs.Common.{◌≡◌, ℕ, List, [], ◌++◌, take, drop, refl, sym, ap, ◌∙◌, append_assoc, Option, subst, length, ◌-◌, arith}
 use Rattle.std.proofs.lemmas.List.{take-append-drop, take_all, length-drop}
 use Rattle.std.specs.Io.KnownBytes.{Appends}
@@ -18,9 +19,7 @@ more_sent old mid new text rest count so_far more = record {
 
 -- one write, with the rest as a slice gives it
 pub more_sent_slice : (old mid new : Option (List ℕ)) (text rest : List ℕ) (count : ℕ) → HasSent old mid text rest → Appends mid new (take count rest) → HasSent old new text (take (length rest - count) (drop count rest))
-more_sent_slice old mid new text rest count so_far more =
-    let all : take (length rest - count) (drop count rest) ≡ drop count rest = take_all (length rest - count) (drop count rest) (omega (arith, length-drop count rest)) in
-    subst (HasSent old new text) (sym all) (more_sent old mid new text rest count so_far more)
+more_sent_slice old mid new text rest count so_far more = grind (arith, common_steps, take_all, length-drop, more_sent)
 
 -- more text waits after the buffer
 pub sent_then : (a b c : Option (List ℕ)) (text waiting mid more rest : List ℕ) → HasSent a b text waiting → HasSent b c waiting mid → rest ≡ mid ++ more → HasSent a c (text ++ more) rest

@@ -1,5 +1,6 @@
 -- Taking tokens from a line gives what was written there, and nothing else.
-use Rattle.std.proofs.Common.{◌≡◌, ℕ, ◌^◌, ◌<◌, ◌≤◌, Bool, true, false, cond, eqb, List, [], ◌∷◌, refl, sym, ap, arith, Option, Some, None, subst}
+use Rattle.std.proofs.lemmas.Grind.{common_steps}
+use Rattle.std.proofs.Common.{◌≡◌, ℕ, ◌^◌, ◌<◌, ◌≤◌, Bool, true, cond, eqb, List, [], ◌∷◌, refl, ap, arith, Option, Some, None, subst}
 use Rattle.std.specs.Fmt.{decimal}
 use Rattle.std.specs.Str.{bytes_eq}
 use Rattle.std.proofs.lemmas.Bool.{eqb-false}
@@ -29,8 +30,7 @@ end_again x = refl
 
 -- the value of a step that did not fail
 pub bind_some : {A B : Type 0} (o : Option A) (f : A → Option B) (y : B) → (o >>= f) ≡ Some y → (x : A) × (o ≡ Some x) × (f x ≡ Some y)
-bind_some None f y e = absurd cc
-bind_some (Some x) f y e = (x, refl, e)
+bind_some o f y e = grind (arith, common_steps)
 
 abbrev pub some : {A : Type 0} → A → Option A
 some x = Some x
@@ -64,13 +64,8 @@ end_found x (token ∷ tokens) y e = absurd cc
 
 -- the token is the wanted one or another
 pub name_case : {A : Type 0} (P : List ℕ → Type 0) (name wanted : List ℕ) (x y : Option A) (r : A) → cond (bytes_eq name wanted) x y ≡ Some r → (x ≡ Some r → P wanted) → (y ≡ Some r → P name) → P name
-name_case P name wanted x y r e f g = parts (bytes_eq name wanted) refl e
-  where
-    parts : (b : Bool) → bytes_eq name wanted ≡ b → cond b x y ≡ Some r → P name
-    parts true is e = subst P (sym ((bytes_eq-Decides name wanted).0 is)) (f e)
-    parts false is e = g e
+name_case P name wanted x y r e f g = grind (arith, common_steps, bytes_eq-Decides)
 
 -- a number above zero
 pub positive : {A : Type 0} (n : ℕ) (b : Bool) (x : Option A) (s : A) → eqb n 0 ≡ b → cond b None x ≡ Some s → (1 ≤ n) × (x ≡ Some s)
-positive n true x s is e = absurd cc
-positive n false x s is e = (omega (arith, eqb-false n 0 is), e)
+positive n b x s is e = grind (arith, common_steps, eqb-false)

@@ -63,6 +63,7 @@ fn first_value(raw: bool) -> PlainValue
 type Records = BTreeMap<u64, Record>;
 
 /// Returns the object with this name.
+#[tactic(auto, using(crate::proofs::Plains::found_record))]
 fn record_of(records: &Records, name: u64) -> Option<&Record>
     ensures { record_option (option_map (λ r. r.now) result) ≡ lookup (objects_of records.now.entries) name }
 {
@@ -116,6 +117,7 @@ impl Objects {
     }
 
     /// Adds an object. Its name must be above all names in the graph.
+    #[tactic(auto, using(crate::proofs::Plains::pushed, crate::proofs::Plains::entries_push, crate::proofs::Plains::held_each, crate::proofs::Plains::record_keys))]
     pub fn add(
         &mut self,
         alloc: Global,

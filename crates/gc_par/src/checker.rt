@@ -15,7 +15,7 @@ use std::thread::Threads;
 
 /// Checks a certificate against two heap images, as `gc_check::check` does. If there are many pairs, several threads
 /// compare their objects. The verdict does not depend on the threads.
-#[tactic(auto, using(crate::proofs::Sizes::same_fault))]
+#[tactic(auto, using(gc_check::proofs::Public::small_fault))]
 pub fn check_par(
     rt: &(impl Threads + Sync),
     alloc: Global,

@@ -1,16 +1,17 @@
 -- Only what was reachable when a collection began, or was made later, gets a replica.
-use Rattle.std.proofs.Common.{◌≡◌, inl, inr, ⊎_elim, ℕ, suc, ◌+◌, ◌-◌, ◌≤◌, ◌==◌, nat_lt, Bool, true, false, cond, ◌&&◌, ◌||◌, List, [], ◌∷◌, ◌++◌, length, Option, Some, None, is_some, slice_get, flat_map, refl, ap, sym, ◌∙◌, subst, arith}
+use Rattle.std.proofs.lemmas.Grind.{common_steps}
+use Rattle.std.proofs.Common.{◌≡◌, inl, inr, ⊎_elim, ℕ, suc, ◌+◌, ◌-◌, ◌≤◌, ◌==◌, Bool, true, false, cond, ◌&&◌, ◌||◌, List, [], ◌∷◌, ◌++◌, length, Option, Some, None, is_some, slice_get, flat_map, refl, ap, sym, ◌∙◌, subst, arith}
 use Rattle.std.specs.Prelude.{not}
 use Rattle.std.proofs.lemmas.Bool.{cond_both}
 use Rattle.gc_graph.specs.Slots.{place}
-use Rattle.gc_graph.specs.Graph.{Value, Nil, Num, Ref, Object, Graph, lookup, object_of, field_of, root, value_or_nil, follow, Reachable, names_of, set_root, first_value, new_object, add_object}
-use Rattle.gc_graph.specs.Machine.{Roomy, words_taken, step, roomy_step, get_field, is_number, put_field}
-use Rattle.gc_plan.specs.State.{Replica, Collection, State, opening_state, heap_end, new_end, new_free, replica_of, replica_at, pairs_of, moved}
-use Rattle.gc_plan.specs.Steps.{written, logged, mutate, log_at, with_log, fresh_replica, place_replica, with_replica, with_written, write_replica, copy_value, bring_value, bring_up_to_date, if_room, root_target, copy_root, next_field, scan_done, scan_replica, apply_entry, apply_log, is_ready, passes_check, collect_with}
+use Rattle.gc_graph.specs.Graph.{Value, Nil, Num, Ref, Object, Graph, lookup, object_of, field_of, root, follow, Reachable, names_of, set_root, first_value, new_object, add_object}
+use Rattle.gc_graph.specs.Machine.{step, get_field, is_number, put_field}
+use Rattle.gc_plan.specs.State.{Replica, Collection, State, opening_state, heap_end, replica_of, replica_at, pairs_of, moved}
+use Rattle.gc_plan.specs.Steps.{mutate, log_at, with_log, place_replica, with_replica, with_written, write_replica, copy_value, bring_value, bring_up_to_date, if_room, root_target, copy_root, next_field, scan_done, scan_replica, apply_entry, apply_log, is_ready, passes_check, collect_with}
 use Rattle.gc_plan.specs.Runs.{IsEvent, AreEvents, after, state_after}
 use Rattle.gc_plan.specs.declared.event.Event.{Event}
 use Rattle.gc_plan.specs.declared.event.Event.TheVariants.{Mutate, Collect}
-use Rattle.gc_plan.specs.Carried.{is_begun, base_after, base_of_run, IsLiveSince, OnlyKeptIsPaired, CarriesOnlyKept, LeadsOnlyTo, OnlyKeptIsNamed, NamesOnlyKept}
+use Rattle.gc_plan.specs.Carried.{is_begun, base_after, base_of_run, IsLiveSince, CarriesOnlyKept, LeadsOnlyTo, OnlyKeptIsNamed, NamesOnlyKept}
 use Rattle.gc_plan.specs.Members.{In}
 use Rattle.gc_plan.specs.Belonging.{RefersTo, IsState}
 use Rattle.gc_graph.specs.declared.command.Op.{Op}
@@ -30,11 +31,7 @@ use Rattle.gc_words.proofs.Public.{some_of}
 -- ---- commands
 
 root_refers : (P : ℕ → Type 0) (g : Graph) (p : ℕ) → LeadsOnlyTo P g → RefersTo P (root g p)
-root_refers P g p h = go (slice_get g.roots p) refl
-  where
-    go : (o : Option Value) → slice_get g.roots p ≡ o → RefersTo P (value_or_nil o)
-    go None e = tt
-    go (Some v) e = h.roots v (get_in v g.roots p e)
+root_refers P g p h = grind (arith, common_steps, get_in)
 
 field_refers : (P : ℕ → Type 0) (g : Graph) (v : Value) (i : ℕ) (w : Value) → LeadsOnlyTo P g → RefersTo P v → field_of (object_of g.objects v) i ≡ Some w → RefersTo P w
 field_refers P g Nil i w h r e = absurd cc
@@ -49,9 +46,7 @@ root_closed : (P : ℕ → Type 0) (g : Graph) (d : ℕ) (v : Value) → LeadsOn
 root_closed P g d v h r = record { roots = λ w k. ⊎_elim (λ e. subst (RefersTo P) e r) (h.roots w) (in_set w g.roots d v k); fields = h.fields }
 
 get_closed : (P : ℕ → Type 0) (g : Graph) (d : ℕ) (target : Option Object) (found : Option Value) → LeadsOnlyTo P g → ((v : Value) → found ≡ Some v → RefersTo P v) → LeadsOnlyTo P (get_field g d target found).1
-get_closed P g d None found h f = h
-get_closed P g d (Some o) None h f = h
-get_closed P g d (Some o) (Some v) h f = root_closed P g d v h (f v refl)
+get_closed P g d target found h f = grind (arith, common_steps, root_closed)
 
 put_closed : (P : ℕ → Type 0) (g : Graph) (v : Value) (target : Option Object) (found : Option Value) (i : ℕ) (w : Value) → LeadsOnlyTo P g → RefersTo P w → LeadsOnlyTo P (put_field g v target found i w).1
 put_closed P g Nil target found i w h r = h
@@ -85,15 +80,7 @@ new_closed P g raw d kind len name h p = record {
     first_refers false = tt
 
 step_closed : (P : ℕ → Type 0) (g : Graph) (m : ℕ) (op : Op) (name : ℕ) → LeadsOnlyTo P g → P name → LeadsOnlyTo P (step g m op name).1
-step_closed P g m (ops.New d kind len) name h p = new_closed P g false (place d m) kind len name h p
-step_closed P g m (ops.NewRaw d kind len) name h p = new_closed P g true (place d m) kind len name h p
-step_closed P g m (ops.Num d n) name h p = root_closed P g (place d m) (Num n) h tt
-step_closed P g m (ops.Nil d) name h p = root_closed P g (place d m) Nil h tt
-step_closed P g m (ops.Move d s) name h p = root_closed P g (place d m) (root g (place s m)) h (root_refers P g (place s m) h)
-step_closed P g m (ops.Get d s i) name h p = get_closed P g (place d m) _ _ h (λ v e. field_refers P g (root g (place s m)) i v h (root_refers P g (place s m) h) e)
-step_closed P g m (ops.Put s i t) name h p = put_closed P g (root g (place s m)) _ _ i (root g (place t m)) h (root_refers P g (place t m) h)
-step_closed P g m (ops.Same s t) name h p = h
-step_closed P g m (ops.Look s) name h p = h
+step_closed P g m op name h p = grind (arith, common_steps, new_closed, root_closed, root_refers, get_closed, field_refers, put_closed)
 
 -- ---- replicas
 
@@ -101,17 +88,7 @@ abbrev Originals : (ℕ → Type 0) → List Replica → Type 0
 Originals P replicas = (r : Replica) → In r replicas → P r.original
 
 place_originals : (P : ℕ → Type 0) (c next : Collection) (name : ℕ) (o : Option Object) → Originals P c.replicas → P name → place_replica c name o ≡ Some next → Originals P next.replicas
-place_originals P c next name None h p e = absurd cc
-place_originals P c next name (Some o) h p e = go (nat_lt (new_free c) (length o.fields + 2)) e
-  where
-    one : Replica
-    one = fresh_replica name (new_end c) o
-
-    go : (b : Bool) → cond b None (Some (record c { replicas = c.replicas ++ one ∷ [] })) ≡ Some next → Originals P next.replicas
-    go true e = absurd cc
-    go false e =
-        let same : record c { replicas = c.replicas ++ one ∷ [] } ≡ next = cc e in
-        subst (λ (d : Collection). Originals P d.replicas) same (λ r k. ⊎_elim (h r) (λ x. subst (λ (q : Replica). P q.original) x p) (in_push r one c.replicas k))
+place_originals P c next name o h p e = grind (arith, common_steps, in_push)
 
 with_originals : (P : ℕ → Type 0) (c next : Collection) (g : Graph) (v : Value) → Originals P c.replicas → RefersTo P v → with_replica c g v ≡ Some next → Originals P next.replicas
 with_originals P c next g Nil h p e = let same : c ≡ next = cc e in subst (λ (d : Collection). Originals P d.replicas) same h
@@ -151,8 +128,7 @@ Quiet P end next = (is_begun next.0 ≡ false) × CarriesIn P end next.1 next.1.
 
 module _ (P : ℕ → Type 0) (end : ℕ) (s : State) where
   in_room : (c : Collection) (reply : StepReply) (o : Option Collection) → s.collection ≡ Some c → is_begun reply ≡ false → CarriesIn P end s (Some c) → ((d : Collection) → o ≡ Some d → Originals P d.replicas) → Quiet P end (if_room s reply o)
-  in_room c reply None is quiet h f = (refl, subst (CarriesIn P end s) (sym is) h)
-  in_room c reply (Some d) is quiet h f = (quiet, (h.0, f d refl, h.2))
+  in_room c reply o is quiet h f = grind (arith, common_steps)
 
   same_quiet : (c : Collection) (reply : StepReply) → s.collection ≡ Some c → is_begun reply ≡ false → CarriesIn P end s (Some c) → Quiet P end (reply, s)
   same_quiet c reply is quiet h = (quiet, subst (CarriesIn P end s) (sym is) h)
@@ -252,16 +228,7 @@ record Follows (mutators : ℕ) (base s : State) : Type 0 where
   carried : CarriesIn (IsLiveSince base) (heap_end base) s s.collection
 
 mutate_carries : (base s : State) (m : ℕ) (op : Op) → CarriesIn (IsLiveSince base) (heap_end base) s s.collection → CarriesIn (IsLiveSince base) (heap_end base) (mutate s m op).1 (mutate s m op).1.collection
-mutate_carries base s m op h = go s.collection h
-  where
-    go : (o : Option Collection) → CarriesIn (IsLiveSince base) (heap_end base) s o → CarriesIn (IsLiveSince base) (heap_end base) (mutate s m op).1 (logged o m (written s.heap.graph m op (mutate s m op).0))
-    go None h = tt
-    go (Some c) h =
-        let both : LeadsOnlyTo (IsLiveSince base) (roomy_step s.heap m op (heap_end s)).1.graph × ((roomy_step s.heap m op (heap_end s)).1.free ≤ s.heap.free) =
-        cond_both (nat_lt s.heap.free (words_taken op)) _ _ (λ (next : Reply × Roomy). LeadsOnlyTo (IsLiveSince base) next.1.graph × (next.1.free ≤ s.heap.free))
-        (λ t. (h.0, omega arith))
-        (λ t. (step_closed (IsLiveSince base) s.heap.graph m op (heap_end s) h.0 (inr h.2), omega arith)) in
-        (both.0, h.1, (let x = both.1 in let y = h.2 in omega arith))
+mutate_carries base s m op h = grind (arith, common_steps, cond_both, step_closed)
 
 event_carries : (mutators : ℕ) (base s : State) (event : Event) → Follows mutators base s → IsEvent mutators event → Follows mutators (base_after base s event) (after s event)
 event_carries mutators base s (Mutate m op) h r = record { reached = event_keeps mutators s (Mutate m op) h.reached r; carried = mutate_carries base s m op h.carried }
@@ -300,9 +267,4 @@ names_only_kept size mutators events low high r =
     go base s (Some c) k = (k.0, all_from_in (λ (p : ℕ × ℕ). IsLiveSince base p.0) (pairs_of c) (λ p l. let q = in_map_from pair p c.replicas l in subst (λ (x : ℕ × ℕ). IsLiveSince base x.0) q.2 (k.1 q.0 q.1)))
 
 pub carries_only_kept : CarriesOnlyKept
-carries_only_kept size mutators events low high r =
-    go (base_of_run (opening_state size mutators) (opening_state size mutators) events) (state_after (opening_state size mutators) events) _ (names_only_kept size mutators events low high r)
-  where
-    go : (base s : State) (o : Option Collection) → OnlyKeptIsNamed base s.heap.graph o → OnlyKeptIsPaired base o
-    go base s None k = tt
-    go base s (Some c) k = k.1
+carries_only_kept size mutators events low high r = grind (arith, common_steps, names_only_kept)

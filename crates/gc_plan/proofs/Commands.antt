@@ -1,10 +1,11 @@
 -- A mutator's command keeps the heap well formed, and changes no field but the one that it writes.
-use Rattle.std.proofs.Common.{◌≡◌, ◌⊎◌, inl, inr, ⊎_elim, ℕ, ◌+◌, ◌-◌, ◌<◌, ◌≤◌, Bool, true, false, cond, ◌&&◌, ap, ◌∙◌, List, [], ◌∷◌, ◌++◌, map, length, Option, Some, None, slice_get, refl, sym, subst, arith}
+use Rattle.std.proofs.lemmas.Grind.{common_steps}
+use Rattle.std.proofs.Common.{◌≡◌, ◌⊎◌, inl, inr, ⊎_elim, ℕ, ◌+◌, ◌-◌, ◌<◌, ◌≤◌, Bool, true, false, ◌&&◌, ap, ◌∙◌, List, [], ◌∷◌, ◌++◌, map, length, Option, Some, None, slice_get, refl, sym, subst, arith}
 use Rattle.std.specs.Prelude.{not}
 use Rattle.std.proofs.lemmas.Bool.{cond_both}
 use Rattle.std.proofs.lemmas.List.{length-replicate}
 use Rattle.gc_graph.specs.Slots.{place}
-use Rattle.gc_graph.specs.Graph.{Value, Nil, Num, Ref, Object, Graph, lookup, object_of, field_of, root, value_or_nil, set_root, add_object, first_value, new_object, set_field, names_of}
+use Rattle.gc_graph.specs.Graph.{Value, Nil, Num, Ref, Object, Graph, lookup, object_of, field_of, root, set_root, add_object, first_value, new_object, set_field, names_of}
 use Rattle.gc_graph.specs.Machine.{words_taken, step, get_field, is_number, put_field}
 use Rattle.gc_plan.specs.Runs.{HasRange}
 use Rattle.gc_plan.specs.Steps.{written}
@@ -39,9 +40,7 @@ object_more before later o more h = record { kind = h.kind; len = h.len; fields 
 -- ---- raw objects keep their numbers
 
 suited : (raw number : Bool) → raw ≡ true → (raw && not number) ≡ false → number ≡ true
-suited true true e f = refl
-suited true false e f = absurd cc
-suited false number e f = absurd cc
+suited raw number e f = grind (arith, common_steps)
 
 pub numbers_set : (objects : List (ℕ × Object)) (name i : ℕ) (v : Value) (o : Object) → HasRawNumbers objects → lookup objects name ≡ Some o → (o.raw && not (is_number v)) ≡ false → HasRawNumbers (set_field objects name i v)
 numbers_set objects name i v o h is suits a q found raw w k = go (lookup objects a) refl
@@ -61,32 +60,16 @@ numbers_set objects name i v o h is suits a q found raw w k = go (lookup objects
         (written_here name i v (a, p) w (subst (λ (x : Object). In w x.fields) (sym same) k))
 
 pub numbers_push : (objects : List (ℕ × Object)) (name : ℕ) (o : Object) → HasRawNumbers objects → (o.raw ≡ true → (v : Value) → In v o.fields → is_number v ≡ true) → HasRawNumbers (objects ++ (name, o) ∷ [])
-numbers_push objects name o h own a q found raw w k = go (lookup objects a) refl
-  where
-    go : (x : Option Object) → lookup objects a ≡ x → is_number w ≡ true
-    go (Some p) e =
-        let same : p ≡ q = cc (sym (lookup_left objects ((name, o) ∷ []) a p e) ∙ found) in
-        h a p e (ap (λ (x : Object). x.raw) same ∙ raw) w (subst (λ (x : Object). In w x.fields) (sym same) k)
-    go None e =
-        let same : o ≡ q = pushed_last objects a name o q e found in
-        own (ap (λ (x : Object). x.raw) same ∙ raw) w (subst (λ (x : Object). In w x.fields) (sym same) k)
+numbers_push objects name o h own a q found raw w k = grind (arith, common_steps, lookup_left, pushed_last)
 
 pub new_numbers : (raw : Bool) (kind len : ℕ) → raw ≡ true → (v : Value) → In v (new_object raw kind len).fields → is_number v ≡ true
 new_numbers raw kind len is v k = subst (λ u. is_number u ≡ true) (in_replicate v (first_value raw) len k) (subst (λ b. is_number (first_value b) ≡ true) (sym is) refl)
 
 put_numbers : (g : Graph) (v : Value) (target : Option Object) (found : Option Value) (i : ℕ) (w : Value) → object_of g.objects v ≡ target → HasRawNumbers g.objects → HasRawNumbers (put_field g v target found i w).1.objects
-put_numbers g Nil target found i w is h = h
-put_numbers g (Num n) target found i w is h = h
-put_numbers g (Ref a) None found i w is h = h
-put_numbers g (Ref a) (Some o) None i w is h = h
-put_numbers g (Ref a) (Some o) (Some before) i w is h = cond_both (o.raw && not (is_number w)) _ _ (λ (next : Reply × Graph). HasRawNumbers next.1.objects)
-    (λ t. h)
-    (λ t. numbers_set g.objects a i w o h is t)
+put_numbers g v target found i w is h = grind (arith, common_steps, cond_both, numbers_set)
 
 get_numbers : (g : Graph) (d : ℕ) (target : Option Object) (found : Option Value) → HasRawNumbers g.objects → HasRawNumbers (get_field g d target found).1.objects
-get_numbers g d None found h = h
-get_numbers g d (Some o) None h = h
-get_numbers g d (Some o) (Some v) h = h
+get_numbers g d target found h = grind (arith, common_steps)
 
 pub step_numbers : (g : Graph) (m : ℕ) (op : Op) (name : ℕ) → HasRawNumbers g.objects → HasRawNumbers (step g m op name).1.objects
 step_numbers g m (ops.New d kind len) name h = numbers_push g.objects name (new_object false kind len) h (new_numbers false kind len)
@@ -100,21 +83,10 @@ step_numbers g m (ops.Same s t) name h = h
 step_numbers g m (ops.Look s) name h = h
 
 keeps_root : (size free : ℕ) (g : Graph) (d : ℕ) (v : Value) → IsSpaceGraph size free g → RefersTo (IsNamed g.objects) v → IsSpaceGraph size free (set_root g d v)
-keeps_root size free g d v h f = record {
-  high = h.high;
-  room = h.room;
-  laid = h.laid;
-  objects = h.objects;
-  roots = λ w k. ⊎_elim (λ e. subst (RefersTo (IsNamed g.objects)) e f) (h.roots w) (in_set w g.roots d v k);
-  numbers = h.numbers;
-}
+keeps_root size free g d v h f = grind (arith, common_steps, in_set)
 
 pub root_fine : (size free : ℕ) (g : Graph) (p : ℕ) → IsSpaceGraph size free g → RefersTo (IsNamed g.objects) (root g p)
-root_fine size free g p h = go (slice_get g.roots p) refl
-  where
-    go : (o : Option Value) → slice_get g.roots p ≡ o → RefersTo (IsNamed g.objects) (value_or_nil o)
-    go None e = tt
-    go (Some v) e = h.roots v (get_in v g.roots p e)
+root_fine size free g p h = grind (arith, common_steps, get_in)
 
 pub field_fine : (size free : ℕ) (g : Graph) (v : Value) (i : ℕ) (w : Value) → IsSpaceGraph size free g → field_of (object_of g.objects v) i ≡ Some w → RefersTo (IsNamed g.objects) w
 field_fine size free g Nil i w h e = absurd cc
@@ -224,9 +196,7 @@ abbrev pub WrittenBy : Graph → ℕ → Op → Reply → ℕ → ℕ → Type 0
 WrittenBy g m op reply a j = In (a, j) (written g m op reply)
 
 get_evolves : (g : Graph) (Touched : Reply → ℕ → ℕ → Type 0) (d : ℕ) (target : Option Object) (found : Option Value) → Evolves g.objects (get_field g d target found).1.objects (Touched (get_field g d target found).0)
-get_evolves g Touched d None found = unchanged g.objects (Touched NoObject)
-get_evolves g Touched d (Some o) None = unchanged g.objects (Touched NoField)
-get_evolves g Touched d (Some o) (Some v) = unchanged g.objects (Touched _)
+get_evolves g Touched d target found = grind (arith, common_steps, unchanged)
 
 set_evolves : (objects : List (ℕ × Object)) (Touched : ℕ → ℕ → Type 0) (name i : ℕ) (v : Value) → Touched name i → Evolves objects (set_field objects name i v) Touched
 set_evolves objects Touched name i v t a o k = record {
@@ -239,13 +209,7 @@ set_evolves objects Touched name i v t a o k = record {
 }
 
 put_evolves : (g : Graph) (Touched : Reply → ℕ → ℕ → Type 0) (v : Value) (target : Option Object) (found : Option Value) (i : ℕ) (w : Value) → ((name : ℕ) → v ≡ Ref name → Touched Done name i) → Evolves g.objects (put_field g v target found i w).1.objects (Touched (put_field g v target found i w).0)
-put_evolves g Touched Nil target found i w t = unchanged g.objects (Touched NoObject)
-put_evolves g Touched (Num n) target found i w t = unchanged g.objects (Touched NoObject)
-put_evolves g Touched (Ref a) None found i w t = unchanged g.objects (Touched NoObject)
-put_evolves g Touched (Ref a) (Some o) None i w t = unchanged g.objects (Touched NoField)
-put_evolves g Touched (Ref a) (Some o) (Some before) i w t = cond_both (o.raw && not (is_number w)) _ _ (λ (next : Reply × Graph). Evolves g.objects next.1.objects (Touched next.0))
-    (λ f. unchanged g.objects (Touched NoNumber))
-    (λ f. set_evolves g.objects (Touched Done) a i w (t a refl))
+put_evolves g Touched v target found i w t = grind (arith, common_steps, unchanged, cond_both, set_evolves)
 
 -- for every name of a new object
 pub step_evolves : (g : Graph) (m : ℕ) (op : Op) (name : ℕ) → Evolves g.objects (step g m op name).1.objects (WrittenBy g m op (step g m op name).0)
@@ -269,37 +233,10 @@ put_there : (g : Graph) (W : Reply → List (ℕ × ℕ)) (v : Value) (target : 
     → W Done ≡ map (λ n. (n, i)) (names_of v) → W NoObject ≡ [] → W NoField ≡ [] → W NoNumber ≡ []
     → object_of g.objects v ≡ target → field_of target i ≡ found
     → In (a, j) (W (put_field g v target found i w).0) → HasField g.objects a j
-put_there g W Nil target found i w a j done object field number is at h = absurd (subst (In (a, j)) object h)
-put_there g W (Num n) target found i w a j done object field number is at h = absurd (subst (In (a, j)) object h)
-put_there g W (Ref n) None found i w a j done object field number is at h = absurd (subst (In (a, j)) object h)
-put_there g W (Ref n) (Some o) None i w a j done object field number is at h = absurd (subst (In (a, j)) field h)
-put_there g W (Ref n) (Some o) (Some before) i w a j done object field number is at h = go (o.raw && not (is_number w)) h
-  where
-    go : (b : Bool) → In (a, j) (W (cond {A = Reply × Graph} b (NoNumber, g) (Done, record g { objects = set_field g.objects n i w })).0) → HasField g.objects a j
-    go true h = absurd (subst (In (a, j)) number h)
-    go false h = ⊎_elim
-        (λ e. subst (λ (p : ℕ × ℕ). HasField g.objects p.0 p.1) e (o, is, get_past o.fields i before at))
-        (λ k. absurd k)
-        (subst (In (a, j)) done h)
+put_there g W v target found i w a j done object field number is at h = grind (arith, common_steps, get_past)
 
 pub written_there : (g : Graph) (m : ℕ) (op : Op) (name a j : ℕ) → WrittenBy g m op (step g m op name).0 a j → HasField g.objects a j
-written_there g m (ops.New d kind len) name a j h = absurd h
-written_there g m (ops.NewRaw d kind len) name a j h = absurd h
-written_there g m (ops.Num d n) name a j h = absurd h
-written_there g m (ops.Nil d) name a j h = absurd h
-written_there g m (ops.Move d s) name a j h = absurd h
-written_there g m (ops.Get d s i) name a j h = absurd h
-written_there g m (ops.Put s i t) name a j h = put_there g (written g m (ops.Put s i t)) (root g (place s m)) _ _ i (root g (place t m)) a j refl refl refl refl refl refl h
-written_there g m (ops.Same s t) name a j h = absurd h
-written_there g m (ops.Look s) name a j h = absurd h
+written_there g m op name a j h = grind (arith, common_steps, put_there)
 
 pub full_writes_nothing : (g : Graph) (m : ℕ) (op : Op) (a j : ℕ) → WrittenBy g m op Full a j → ⊥
-full_writes_nothing g m (ops.New d kind len) a j h = h
-full_writes_nothing g m (ops.NewRaw d kind len) a j h = h
-full_writes_nothing g m (ops.Num d n) a j h = h
-full_writes_nothing g m (ops.Nil d) a j h = h
-full_writes_nothing g m (ops.Move d s) a j h = h
-full_writes_nothing g m (ops.Get d s i) a j h = h
-full_writes_nothing g m (ops.Put s i t) a j h = h
-full_writes_nothing g m (ops.Same s t) a j h = h
-full_writes_nothing g m (ops.Look s) a j h = h
+full_writes_nothing g m op a j h = grind (arith, common_steps)

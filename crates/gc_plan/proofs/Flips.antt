@@ -1,24 +1,25 @@
 -- A collection that is ready has a certificate.
-use Rattle.std.proofs.Common.{◌≡◌, ◌≢◌, inl, inr, ⊎_elim, ℕ, zero, suc, ◌+◌, ◌-◌, ◌<◌, ◌≤◌, ◌==◌, Bool, true, false, cond, ◌||◌, List, [], ◌∷◌, map, length, get_or, Option, Some, None, is_none, slice_get, AllPairs, IsTrue, refl, ap, sym, ◌∙◌, subst, arith}
+use Rattle.std.proofs.lemmas.Grind.{common_steps}
+use Rattle.std.proofs.Common.{◌≡◌, ◌≢◌, inl, inr, ⊎_elim, ℕ, zero, suc, ◌+◌, ◌-◌, ◌<◌, ◌≤◌, Bool, true, List, [], ◌∷◌, map, length, get_or, Option, Some, is_none, slice_get, AllPairs, IsTrue, refl, ap, sym, ◌∙◌, subst, arith}
 use Rattle.std.specs.List.{AllZip}
 use Rattle.std.proofs.lemmas.Option.{slice_get-get_or}
 use Rattle.std.proofs.lemmas.Bool.{cond-true, cond_both}
-use Rattle.gc_graph.specs.Graph.{Value, Nil, Num, Ref, Graph}
+use Rattle.gc_graph.specs.Graph.{Value, Graph}
 use Rattle.gc_graph.specs.Machine.{is_number}
 use Rattle.gc_words.specs.declared.header.Header.{Header}
 use Rattle.gc_graph.specs.Correspond.{correspond}
-use Rattle.gc_words.specs.Word.{read_value, word_of, words_correspond, field_words_correspond, read_correspond}
+use Rattle.gc_words.specs.Word.{word_of, words_correspond, field_words_correspond}
 use Rattle.gc_words.specs.Image.{block_at}
 use Rattle.gc_words.specs.Certificate.{BlocksCorrespond, Certified}
-use Rattle.gc_plan.specs.Linked.{object_block, object_header, number_of, field_word, image_of_graph, linked_image}
-use Rattle.gc_plan.specs.State.{Replica, Collection, State, new_free, pairs_of, moved, new_graph, replica_at}
-use Rattle.gc_plan.specs.Steps.{log_at, scan_done, is_ready, flipped, passes_check, flip, if_room, copy_root, root_target, scan_replica, apply_log, collect_with, collect}
+use Rattle.gc_plan.specs.Linked.{object_block, object_header, field_word, image_of_graph, linked_image}
+use Rattle.gc_plan.specs.State.{Replica, Collection, State, new_free, pairs_of, moved, new_graph}
+use Rattle.gc_plan.specs.Steps.{is_ready, flipped, passes_check, flip, if_room, collect}
 use Rattle.gc_plan.specs.Members.{In, Distinct}
-use Rattle.gc_plan.specs.Belonging.{Laid, IsNamed, RefersTo, IsSpaceGraph, Belongs, IsOpen, IsOpened, IsState}
+use Rattle.gc_plan.specs.Belonging.{Laid, IsNamed, RefersTo, IsSpaceGraph, Belongs, IsOpened, IsState}
 use Rattle.gc_plan.specs.declared.step.Step.{Step}
 use Rattle.gc_plan.specs.declared.step.Step.TheVariants as steps
 use Rattle.gc_plan.specs.declared.step.StepReply.{StepReply}
-use Rattle.gc_plan.specs.declared.step.StepReply.TheVariants.{Copied, Scanned, Applied, Refused, Flipped}
+use Rattle.gc_plan.specs.declared.step.StepReply.TheVariants.{Refused, Flipped}
 use Rattle.gc_plan.proofs.Lists.{in_map, in_map_from, get_in, all_from_in}
 use Rattle.gc_plan.proofs.Heap.{refers_map, laid_range, lookup_in, lookup_laid}
 use Rattle.gc_plan.proofs.Replicas.{pair, placed, replicas_end, IsPlace, refers_corresponding, moved_corresponds}
@@ -32,8 +33,7 @@ use Rattle.gc_words.specs.Spelling.{no_links}
 -- ---- words of values that correspond
 
 pub words_of_corresponding : (pairs : List (ℕ × ℕ)) (v w : Value) → RefersTo IsAddress v → RefersTo IsAddress w → correspond pairs v w ≡ true → words_correspond pairs (word_of v) (word_of w) ≡ true
-words_of_corresponding pairs v w f g h =
-    ap (λ o. read_correspond pairs o (read_value (word_of w))) (read_back v f) ∙ (ap (read_correspond pairs (Some v)) (read_back w g) ∙ h)
+words_of_corresponding pairs v w f g h = grind (arith, common_steps, read_back)
 
 fields_zip : (alike : ℕ → ℕ → Bool) (f : Value → ℕ) (g : Value → ℕ) (vs ws : List Value) → length vs ≡ length ws
     → ((i : ℕ) (v w : Value) → slice_get vs i ≡ Some v → slice_get ws i ≡ Some w → alike (f v) (g w) ≡ true)
@@ -44,24 +44,9 @@ fields_zip alike f g (v ∷ vs) [] len h = absurd (omega arith)
 fields_zip alike f g (v ∷ vs) (w ∷ ws) len h = (h 0 v w refl refl, fields_zip alike f g vs ws (omega arith) (λ i x y k l. h (suc i) x y k l))
 
 -- the words of two corresponding fields
-field_words_of_corresponding : (h k : Header) (pairs : List (ℕ × ℕ)) (v w : Value) → k.raw ≡ h.raw → (h.raw ≡ true → is_number v ≡ true) → RefersTo IsAddress v → RefersTo IsAddress w → correspond pairs v w ≡ true
+pub field_words_of_corresponding : (h k : Header) (pairs : List (ℕ × ℕ)) (v w : Value) → k.raw ≡ h.raw → (h.raw ≡ true → is_number v ≡ true) → RefersTo IsAddress v → RefersTo IsAddress w → correspond pairs v w ≡ true
     → field_words_correspond h pairs (field_word h v) (field_word k w) ≡ true
-field_words_of_corresponding h k pairs v w same number f g agree = go h.raw refl
-  where
-    numbers : (v w : Value) → is_number v ≡ true → correspond pairs v w ≡ true → (number_of v == number_of w) ≡ true
-    numbers Nil w n e = absurd cc
-    numbers (Num a) Nil n e = absurd cc
-    numbers (Num a) (Num b) n e = e
-    numbers (Num a) (Ref b) n e = absurd cc
-    numbers (Ref a) w n e = absurd cc
-
-    go : (b : Bool) → h.raw ≡ b → field_words_correspond h pairs (field_word h v) (field_word k w) ≡ true
-    go true is =
-        (λ i. cond (is i) (cond (is i) (number_of v) (word_of v) == cond ((same ∙ is) i) (number_of w) (word_of w)) (words_correspond pairs (cond (is i) (number_of v) (word_of v)) (cond ((same ∙ is) i) (number_of w) (word_of w))))
-        ∙ numbers v w (number is) agree
-    go false is =
-        (λ i. cond (is i) (cond (is i) (number_of v) (word_of v) == cond ((same ∙ is) i) (number_of w) (word_of w)) (words_correspond pairs (cond (is i) (number_of v) (word_of v)) (cond ((same ∙ is) i) (number_of w) (word_of w))))
-        ∙ words_of_corresponding pairs v w f g agree
+field_words_of_corresponding h k pairs v w same number f g agree = grind (arith, common_steps, words_of_corresponding)
 
 roots_zip : (pairs : List (ℕ × ℕ)) (f : Value → Value) (vs : List Value) → ((v : Value) → In v vs → words_correspond pairs (word_of v) (word_of (f v)) ≡ true)
     → AllZip (λ v w. IsTrue (words_correspond pairs v w)) (map word_of vs) (map word_of (map f vs))
@@ -70,7 +55,7 @@ roots_zip pairs f (v ∷ vs) h = (h v (inl refl), roots_zip pairs f vs (λ w k. 
 
 -- ---- the order of the pairs
 
-pairs_rise : (at : ℕ) (replicas : List Replica) (end : ℕ) → Laid at (map placed replicas) end → AllPairs (λ p q. p.1 < q.1) (map pair replicas)
+pub pairs_rise : (at : ℕ) (replicas : List Replica) (end : ℕ) → Laid at (map placed replicas) end → AllPairs (λ p q. p.1 < q.1) (map pair replicas)
 pairs_rise at [] end h i j d l within = absurd (omega arith)
 pairs_rise at (r ∷ rest) end h i zero d l within = absurd (omega arith)
 pairs_rise at (r ∷ rest) end h zero (suc j) d l within =
@@ -82,7 +67,7 @@ pairs_rise at (r ∷ rest) end h zero (suc j) d l within =
     omega arith
 pairs_rise at (r ∷ rest) end h (suc i) (suc j) d l within = pairs_rise (at + (length r.object.fields + 2)) rest end h.1 i j d (omega arith) (omega arith)
 
-pairs_once : (replicas : List Replica) → Distinct (map (λ r. r.original) replicas) → AllPairs (λ p q. p.0 ≢ q.0) (map pair replicas)
+pub pairs_once : (replicas : List Replica) → Distinct (map (λ r. r.original) replicas) → AllPairs (λ p q. p.0 ≢ q.0) (map pair replicas)
 pairs_once [] h i j d l within = absurd (omega arith)
 pairs_once (r ∷ rest) h i zero d l within = absurd (omega arith)
 pairs_once (r ∷ rest) h zero (suc j) d l within = λ e.
@@ -157,38 +142,7 @@ flips s c h k ready = cond-true (is_ready c s.heap.graph) _ _ ready ∙ cond-tru
 -- ---- no step is refused
 
 room_not_refused : (s : State) (reply : StepReply) (o : Option Collection) → reply ≢ Refused → (if_room s reply o).0 ≢ Refused
-room_not_refused s reply None h = λ e. cc e
-room_not_refused s reply (Some c) h = h
+room_not_refused s reply o h = grind (arith, common_steps)
 
 pub not_refused : (s : State) (step : Step) → IsState s → (collect s step).0 ≢ Refused
-not_refused s step h = go s.collection step h.collection
-  where
-    root : (c : Collection) (t : Option ℕ) → (copy_root s c t).0 ≢ Refused
-    root c None = λ e. cc e
-    root c (Some name) = room_not_refused s Copied _ (λ e. cc e)
-
-    scan : (c : Collection) (t : Option Replica) → (scan_replica s c t).0 ≢ Refused
-    scan c None = λ e. cc e
-    scan c (Some r) = cond_both (r.object.raw || (c.scan_field == _)) _ _ (λ (next : StepReply × State). next.0 ≢ Refused) (λ t. λ e. cc e) (λ t. room_not_refused s Scanned _ (λ e. cc e))
-
-    apply : (c : Collection) (m : ℕ) (l : List (ℕ × ℕ)) → (apply_log s c m l).0 ≢ Refused
-    apply c m [] = λ e. cc e
-    apply c m (entry ∷ rest) = room_not_refused s Applied _ (λ e. cc e)
-
-    go : (o : Option Collection) (step : Step) → IsOpen s o → (collect_with s o step).0 ≢ Refused
-    go None steps.Begin k = λ e. cc e
-    go None (steps.BeginSized size) k = λ e. cc e
-    go None steps.Roots k = λ e. cc e
-    go None steps.Scan k = λ e. cc e
-    go None (steps.Apply m) k = λ e. cc e
-    go None steps.Flip k = λ e. cc e
-    go None steps.Drop k = λ e. cc e
-    go (Some c) steps.Begin k = λ e. cc e
-    go (Some c) (steps.BeginSized size) k = λ e. cc e
-    go (Some c) steps.Roots k = root c (root_target c s.heap.graph)
-    go (Some c) steps.Scan k = cond_both (scan_done c) _ _ (λ (next : StepReply × State). next.0 ≢ Refused) (λ t. λ e. cc e) (λ t. scan c (replica_at c c.scan_place))
-    go (Some c) (steps.Apply m) k = apply c m (log_at c m)
-    go (Some c) steps.Flip k = cond_both (is_ready c s.heap.graph) _ _ (λ (next : StepReply × State). next.0 ≢ Refused)
-        (λ t. subst (λ (next : StepReply × State). next.0 ≢ Refused) (sym (cond-true (passes_check s c) (Flipped (length c.replicas), flipped s c) (Refused, s) (passes s c h.heap k t))) (λ e. cc e))
-        (λ t. λ e. cc e)
-    go (Some c) steps.Drop k = λ e. cc e
+not_refused s step h = grind (arith, common_steps, room_not_refused, cond_both, cond-true, passes)

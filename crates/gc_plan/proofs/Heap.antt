@@ -1,16 +1,15 @@
 -- A heap whose objects lie back to back and whose references are their addresses.
-use Rattle.std.proofs.Common.{◌≡◌, ◌≢◌, ◌⊎◌, inl, inr, ⊎_elim, ℕ, ◌+◌, ◌≤◌, ◌==◌, true, false, cond, List, [], ◌∷◌, ◌++◌, length, Some, None, slice_get, refl, ap, sym, ◌∙◌, subst, arith, length-set}
+use Rattle.std.proofs.lemmas.Grind.{common_steps}
+use Rattle.std.proofs.Common.{◌≡◌, ◌≢◌, ◌⊎◌, inl, inr, ⊎_elim, ℕ, ◌+◌, ◌≤◌, ◌==◌, true, false, cond, List, [], ◌∷◌, ◌++◌, length, Some, None, slice_get, refl, ap, sym, ◌∙◌, subst, arith}
 use Rattle.std.proofs.lemmas.Bool.{cases_Bool, cond-true, cond-false, eqb-true, eqb-false, eq-eqb, ne_eqb}
-use Rattle.gc_graph.specs.Graph.{Value, Nil, Num, Ref, Object, lookup, with_field, set_field}
+use Rattle.gc_graph.specs.Graph.{Value, Object, lookup, with_field, set_field}
 use Rattle.gc_plan.specs.State.{objects_end}
 use Rattle.gc_plan.specs.Members.{In}
 use Rattle.gc_plan.specs.Belonging.{Laid, IsNamed, RefersTo}
 use Rattle.gc_plan.proofs.Lists.{get_set, in_set}
 
 pub refers_map : (P Q : ℕ → Type 0) → ((a : ℕ) → P a → Q a) → (v : Value) → RefersTo P v → RefersTo Q v
-refers_map P Q f Nil h = tt
-refers_map P Q f (Num n) h = h
-refers_map P Q f (Ref a) h = f a h
+refers_map P Q f v h = grind (arith, common_steps)
 
 -- ---- layout
 
@@ -42,10 +41,8 @@ laid_range at (d ∷ rest) end e h (inr k) = let r = laid_range (at + (length d.
 pub laid_apart : (at : ℕ) (objects : List (ℕ × Object)) (end : ℕ) (d e : ℕ × Object) → Laid at objects end → In d objects → In e objects → (d ≡ e) ⊎ ((d.0 + (length d.1.fields + 2) ≤ e.0) ⊎ (e.0 + (length e.1.fields + 2) ≤ d.0))
 laid_apart at [] end d e h k l = absurd k
 laid_apart at (c ∷ rest) end d e h (inl k) (inl l) = inl (sym k ∙ l)
-laid_apart at (c ∷ rest) end d e h (inl k) (inr l) =
-    inr (inl (subst (λ (w : ℕ × Object). w.0 + (length w.1.fields + 2) ≤ e.0) k (let r = laid_range (at + (length c.1.fields + 2)) rest end e h.1 l in let m : c.0 ≡ at = h.0 in omega arith)))
-laid_apart at (c ∷ rest) end d e h (inr k) (inl l) =
-    inr (inr (subst (λ (w : ℕ × Object). w.0 + (length w.1.fields + 2) ≤ d.0) l (let r = laid_range (at + (length c.1.fields + 2)) rest end d h.1 k in let m : c.0 ≡ at = h.0 in omega arith)))
+laid_apart at (c ∷ rest) end d e h (inl k) (inr l) = grind (arith, common_steps, laid_range)
+laid_apart at (c ∷ rest) end d e h (inr k) (inl l) = grind (arith, common_steps, laid_range)
 laid_apart at (c ∷ rest) end d e h (inr k) (inr l) = laid_apart (at + (length c.1.fields + 2)) rest end d e h.1 k l
 
 pub laid_same : (at : ℕ) (objects : List (ℕ × Object)) (end : ℕ) (d e : ℕ × Object) → Laid at objects end → In d objects → In e objects → d.0 ≡ e.0 → d ≡ e
@@ -54,12 +51,7 @@ laid_same at objects end d e h k l s = ⊎_elim (λ x. x) (λ y. absurd (⊎_eli
 -- writing a field keeps the layout
 pub laid_set : (name i : ℕ) (v : Value) (at : ℕ) (objects : List (ℕ × Object)) (end : ℕ) → Laid at objects end → Laid at (set_field objects name i v) end
 laid_set name i v at [] end h = h
-laid_set name i v at (e ∷ rest) end h = ⊎_elim
-    (λ t. subst (λ l. Laid at l end) (sym (cond-true (e.0 == name) ((e.0, with_field e.1 i v) ∷ rest) (e ∷ set_field rest name i v) t))
-    (h.0, subst (λ n. Laid (at + (n + 2)) rest end) (sym (length-set e.1.fields i v)) h.1))
-    (λ f. subst (λ l. Laid at l end) (sym (cond-false (e.0 == name) ((e.0, with_field e.1 i v) ∷ rest) (e ∷ set_field rest name i v) f))
-    (h.0, laid_set name i v (at + (length e.1.fields + 2)) rest end h.1))
-    (cases_Bool (e.0 == name))
+laid_set name i v at (e ∷ rest) end h = grind (arith, common_steps, cond-true, cond-false, cases_Bool, laid_set name i v (at + (length e.1.fields + 2)) rest end h.1)
 
 -- ---- look-ups
 
@@ -105,43 +97,22 @@ abbrev pub written_entry : ℕ → ℕ → Value → ℕ × Object → ℕ × Ob
 written_entry name i v = λ entry. (entry.0, cond (entry.0 == name) (with_field entry.1 i v) entry.1)
 
 pub written_length : (name i : ℕ) (v : Value) (e : ℕ × Object) → length (written_entry name i v e).1.fields ≡ length e.1.fields
-written_length name i v e = ⊎_elim
-    (λ t. ap (λ (o : Object). length o.fields) (cond-true (e.0 == name) (with_field e.1 i v) e.1 t) ∙ length-set e.1.fields i v)
-    (λ f. ap (λ (o : Object). length o.fields) (cond-false (e.0 == name) (with_field e.1 i v) e.1 f))
-    (cases_Bool (e.0 == name))
+written_length name i v e = grind (arith, common_steps, cond-true, cond-false, cases_Bool)
 
 pub written_kind : (name i : ℕ) (v : Value) (e : ℕ × Object) → (written_entry name i v e).1.kind ≡ e.1.kind
-written_kind name i v e = ⊎_elim
-    (λ t. ap (λ (o : Object). o.kind) (cond-true (e.0 == name) (with_field e.1 i v) e.1 t))
-    (λ f. ap (λ (o : Object). o.kind) (cond-false (e.0 == name) (with_field e.1 i v) e.1 f))
-    (cases_Bool (e.0 == name))
+written_kind name i v e = grind (arith, common_steps, cond-true, cond-false, cases_Bool)
 
 pub written_raw : (name i : ℕ) (v : Value) (e : ℕ × Object) → (written_entry name i v e).1.raw ≡ e.1.raw
-written_raw name i v e = ⊎_elim
-    (λ t. ap (λ (o : Object). o.raw) (cond-true (e.0 == name) (with_field e.1 i v) e.1 t))
-    (λ f. ap (λ (o : Object). o.raw) (cond-false (e.0 == name) (with_field e.1 i v) e.1 f))
-    (cases_Bool (e.0 == name))
+written_raw name i v e = grind (arith, common_steps, cond-true, cond-false, cases_Bool)
 
 pub written_in : (name i : ℕ) (v : Value) (e : ℕ × Object) (w : Value) → In w (written_entry name i v e).1.fields → (v ≡ w) ⊎ In w e.1.fields
-written_in name i v e w h = ⊎_elim
-    (λ t. in_set w e.1.fields i v (subst (λ (o : Object). In w o.fields) (cond-true (e.0 == name) (with_field e.1 i v) e.1 t) h))
-    (λ f. inr (subst (λ (o : Object). In w o.fields) (cond-false (e.0 == name) (with_field e.1 i v) e.1 f) h))
-    (cases_Bool (e.0 == name))
+written_in name i v e w h = grind (arith, common_steps, in_set, cond-true, cond-false, cases_Bool)
 
 pub written_here : (name i : ℕ) (v : Value) (e : ℕ × Object) (w : Value) → In w (written_entry name i v e).1.fields → ((e.0 ≡ name) × (v ≡ w)) ⊎ In w e.1.fields
-written_here name i v e w h = ⊎_elim
-    (λ t. ⊎_elim (λ x. inl (eqb-true e.0 name t, x)) (λ x. inr x) (in_set w e.1.fields i v (subst (λ (o : Object). In w o.fields) (cond-true (e.0 == name) (with_field e.1 i v) e.1 t) h)))
-    (λ f. inr (subst (λ (o : Object). In w o.fields) (cond-false (e.0 == name) (with_field e.1 i v) e.1 f) h))
-    (cases_Bool (e.0 == name))
+written_here name i v e w h = grind (arith, common_steps, eqb-true, in_set, cond-true, cond-false, cases_Bool)
 
 pub written_get : (name i : ℕ) (v : Value) (e : ℕ × Object) (j : ℕ) (w : Value) → slice_get (written_entry name i v e).1.fields j ≡ Some w → (slice_get e.1.fields j ≡ Some w) ⊎ ((e.0 ≡ name) × (j ≡ i))
-written_get name i v e j w h = ⊎_elim
-    (λ t. ⊎_elim
-    (λ a. inr (eqb-true e.0 name t, a.0))
-    (λ b. inl b.1)
-    (get_set e.1.fields i j v w (subst (λ (o : Object). slice_get o.fields j ≡ Some w) (cond-true (e.0 == name) (with_field e.1 i v) e.1 t) h)))
-    (λ f. inl (subst (λ (o : Object). slice_get o.fields j ≡ Some w) (cond-false (e.0 == name) (with_field e.1 i v) e.1 f) h))
-    (cases_Bool (e.0 == name))
+written_get name i v e j w h = grind (arith, common_steps, eqb-true, get_set, cond-true, cond-false, cases_Bool)
 
 pub lookup_written : (name i : ℕ) (v : Value) (objects : List (ℕ × Object)) (a : ℕ) (o : Object) → lookup objects a ≡ Some o → lookup (set_field objects name i v) a ≡ Some (written_entry name i v (a, o)).1
 lookup_written name i v [] a o h = absurd cc
@@ -182,7 +153,7 @@ pushed_last (e ∷ rest) a name o q none h = ⊎_elim
     (cases_Bool (e.0 == a))
 
 -- an entry was there before, or is the one written
-abbrev pub WasEntry : ℕ → ℕ → Value → List (ℕ × Object) → ℕ × Object → Type 0
+abbrev WasEntry : ℕ → ℕ → Value → List (ℕ × Object) → ℕ × Object → Type 0
 WasEntry name i v objects e = (d : ℕ × Object) × In d objects × ((d ≡ e) ⊎ (written_entry name i v d ≡ e))
 
 pub set_from : (name i : ℕ) (v : Value) (objects : List (ℕ × Object)) (e : ℕ × Object) → In e (set_field objects name i v) → WasEntry name i v objects e

@@ -1,12 +1,13 @@
 -- The image of a heap: the walk finds its objects, and its words mean the heap's values.
-use Rattle.std.proofs.Common.{◌≡◌, ⊎_elim, inl, inr, is_ok, ℕ, ◌+◌, ◌-◌, ◌<◌, ◌≤◌, ◌==◌, Bool, true, false, cond, List, [], ◌∷◌, map, length, Some, Ok, refl, ap, sym, ◌∙◌, arith, length-append}
+use Rattle.std.proofs.lemmas.Grind.{common_steps}
+use Rattle.std.proofs.Common.{◌≡◌, ⊎_elim, inl, inr, ℕ, ◌+◌, ◌-◌, ◌<◌, ◌≤◌, ◌==◌, true, List, [], ◌∷◌, map, length, Some, Ok, refl, ap, sym, ◌∙◌, arith}
 use Rattle.std.proofs.lemmas.Bool.{cases_Bool, cond-true, cond-false}
 use Rattle.std.proofs.lemmas.List.{length-map}
-use Rattle.gc_graph.specs.Graph.{Value, Nil, Num, Ref, Object, Graph, lookup}
+use Rattle.gc_graph.specs.Graph.{Value, Num, Object, Graph, lookup}
 use Rattle.gc_graph.specs.Machine.{is_number}
 use Rattle.gc_words.specs.Word.{value_of, read_value, word_of, field_value, HasAddress}
 use Rattle.gc_words.specs.Image.{walk_words, IsShaped, ok_or_nil, blocks, block_in, block_at, object_entry, graph_of}
-use Rattle.gc_words.specs.Spelling.{block_words, spelled_from, LaidOut}
+use Rattle.gc_words.specs.Spelling.{spelled_from, LaidOut}
 use Rattle.gc_words.specs.declared.header.Header.{Header}
 use Rattle.gc_words.proofs.Public.{value_read_back, meaning_back, walk_spelled}
 use Rattle.gc_plan.specs.Linked.{object_header, number_of, field_word, object_block, block_entry, linked_space, linked_image}
@@ -21,9 +22,7 @@ abbrev pub IsAddress : ℕ → Type 0
 IsAddress a = (1 ≤ a) × (a < 4294967295)
 
 has_address : (v : Value) → RefersTo IsAddress v → HasAddress v
-has_address Nil h = tt
-has_address (Num n) h = tt
-has_address (Ref a) h = h
+has_address v h = grind (arith, common_steps)
 
 value_back : (v : Value) → RefersTo IsAddress v → value_of (word_of v) ≡ v
 value_back v h = (meaning_back v (has_address v h)).1
@@ -33,7 +32,7 @@ read_back v h = value_read_back v (has_address v h)
 
 -- ---- the walk
 
-laid_out : (at : ℕ) (objects : List (ℕ × Object)) (end : ℕ) → Laid at objects end → ((e : ℕ × Object) → In e objects → (e.1.kind < 256) × (length e.1.fields < 65536)) → LaidOut at (map block_entry objects)
+pub laid_out : (at : ℕ) (objects : List (ℕ × Object)) (end : ℕ) → Laid at objects end → ((e : ℕ × Object) → In e objects → (e.1.kind < 256) × (length e.1.fields < 65536)) → LaidOut at (map block_entry objects)
 laid_out at [] end h ok = tt
 laid_out at (e ∷ rest) end h ok =
     let here = ok e (inl refl) in (
@@ -42,11 +41,9 @@ laid_out at (e ∷ rest) end h ok =
       laid_out (at + (length e.1.fields + 2)) rest end h.1 (λ d k. ok d (inr k)),
     )
 
-words_laid : (links : ℕ → ℕ) (at : ℕ) (objects : List (ℕ × Object)) (end : ℕ) → Laid at objects end → at + length (spelled_from links (map block_entry objects)) ≡ end
+pub words_laid : (links : ℕ → ℕ) (at : ℕ) (objects : List (ℕ × Object)) (end : ℕ) → Laid at objects end → at + length (spelled_from links (map block_entry objects)) ≡ end
 words_laid links at [] end h = let e : at ≡ end = h in omega arith
-words_laid links at (e ∷ rest) end h =
-    let r = words_laid links (at + (length e.1.fields + 2)) rest end h.1 in
-    omega (arith, r, length-append (block_words (links e.0) (object_block e.1)) (spelled_from links (map block_entry rest)), length-map e.1.fields (field_word (object_header e.1)))
+words_laid links at (e ∷ rest) end h = grind (arith, common_steps, length-map, words_laid links (at + (length e.1.fields + 2)) rest end h.1)
 
 -- ---- the image of a heap
 
@@ -57,20 +54,12 @@ pub walked : (links : ℕ → ℕ) (size free : ℕ) (g : Graph) → IsSpaceGrap
 walked links size free g h = walk_spelled (map block_entry g.objects) links 1 (laid_out 1 g.objects (size - free) h.laid (λ e k. let ok = h.objects e.0 e.1 k in (ok.kind, ok.len)))
 
 pub image_shaped : (links : ℕ → ℕ) (size free : ℕ) (g : Graph) → IsSpaceGraph size free g → IsShaped (linked_image links size g)
-image_shaped links size free g h = record {
-  size_low = let r = h.room in omega arith;
-  size_high = h.high;
-  end_low = let r = h.room in let e = end_is links size free g h in omega (arith, e);
-  end_high = let r = h.room in let e = end_is links size free g h in omega (arith, e);
-  count = refl;
-  reserved = refl;
-  walked = ap is_ok (walked links size free g h);
-}
+image_shaped links size free g h = grind (arith, common_steps, end_is, walked)
 
 pub blocks_are : (links : ℕ → ℕ) (size free : ℕ) (g : Graph) → IsSpaceGraph size free g → blocks (linked_space links size g.objects).words ≡ map block_entry g.objects
 blocks_are links size free g h = ap ok_or_nil (walked links size free g h)
 
-block_found : (objects : List (ℕ × Object)) (a : ℕ) (o : Object) → lookup objects a ≡ Some o → block_in (map block_entry objects) a ≡ Some (object_block o)
+pub block_found : (objects : List (ℕ × Object)) (a : ℕ) (o : Object) → lookup objects a ≡ Some o → block_in (map block_entry objects) a ≡ Some (object_block o)
 block_found [] a o h = absurd cc
 block_found (e ∷ rest) a o h = ⊎_elim
     (λ t. let s : e.1 ≡ o = cc (sym (cond-true (e.0 == a) (Some e.1) (lookup rest a) t) ∙ h) in
@@ -82,23 +71,15 @@ pub block_is : (links : ℕ → ℕ) (size free : ℕ) (g : Graph) (a : ℕ) (o 
 block_is links size free g a o h k = ap (λ bs. block_in bs a) (blocks_are links size free g h) ∙ block_found g.objects a o k
 
 pub named_address : (size free : ℕ) (g : Graph) (a : ℕ) → IsSpaceGraph size free g → IsNamed g.objects a → IsAddress a
-named_address size free g a h n =
-    let r = laid_range 1 g.objects (size - free) (a, n.0) h.laid n.1 in
-    let x = h.high in let y = h.room in omega arith
+named_address size free g a h n = grind (arith, common_steps, laid_range)
 
 -- ---- the graph of the image
 
 number_back : (v : Value) → is_number v ≡ true → Num (number_of v) ≡ v
-number_back Nil h = absurd cc
-number_back (Num n) h = refl
-number_back (Ref a) h = absurd cc
+number_back v h = grind (arith, common_steps)
 
 field_back : (h : Header) (v : Value) → (h.raw ≡ true → is_number v ≡ true) → RefersTo IsAddress v → field_value h (field_word h v) ≡ v
-field_back h v number f = go h.raw refl
-  where
-    go : (b : Bool) → h.raw ≡ b → field_value h (field_word h v) ≡ v
-    go true is = (λ i. cond (is i) (Num (cond (is i) (number_of v) (word_of v))) (value_of (cond (is i) (number_of v) (word_of v)))) ∙ number_back v (number is)
-    go false is = (λ i. cond (is i) (Num (cond (is i) (number_of v) (word_of v))) (value_of (cond (is i) (number_of v) (word_of v)))) ∙ value_back v f
+field_back h v number f = grind (arith, common_steps, number_back, value_back)
 
 values_back : (h : Header) (P : ℕ → Type 0) (vs : List Value) → ((a : ℕ) → P a → IsAddress a) → ((v : Value) → In v vs → RefersTo P v) → ((v : Value) → In v vs → h.raw ≡ true → is_number v ≡ true) → map (field_value h) (map (field_word h) vs) ≡ vs
 values_back h P [] f ok numbers = refl

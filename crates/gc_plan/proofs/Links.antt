@@ -1,19 +1,19 @@
 -- What the links in the two spaces of a collection mean.
-use Rattle.std.proofs.Common.{Bool, ◌≡◌, inl, inr, ⊎_elim, ℕ, ◌+◌, ◌%◌, ◌≤◌, ◌==◌, true, false, List, [], ◌∷◌, map, length, Option, Some, None, is_none, refl, ap, sym, ◌∙◌, subst, arith}
+use Rattle.std.proofs.lemmas.Grind.{common_steps}
+use Rattle.std.proofs.Common.{Bool, ◌≡◌, inl, inr, ⊎_elim, ℕ, ◌+◌, ◌==◌, true, false, List, [], ◌∷◌, map, length, Option, Some, None, is_none, refl, ap, sym, ◌∙◌, subst, arith}
 use Rattle.std.proofs.lemmas.Bool.{cases_Bool, cond-true, cond-false, eqb-true, eqb-false, eq-eqb, ne_eqb}
-use Rattle.gc_graph.specs.Limits.{largest_space}
 use Rattle.gc_graph.specs.Graph.{Value, Ref, Object, set_field, with_field}
-use Rattle.gc_plan.specs.State.{Replica, Collection, new_end, new_objects, replica_of, replica_at, moved, moved_name}
+use Rattle.gc_plan.specs.State.{Replica, Collection, new_objects, replica_of, replica_at, moved, moved_name}
 use Rattle.gc_plan.specs.Steps.{with_written, write_replica}
 use Rattle.gc_plan.specs.Members.{In, Distinct}
 use Rattle.gc_plan.specs.Belonging.{Laid, BelongsBy}
-use Rattle.gc_plan.specs.Linked.{LeadsTo, place_or_zero, original_or_zero, old_links, new_links}
+use Rattle.gc_plan.specs.Linked.{place_or_zero, original_or_zero, old_links, new_links}
 use Rattle.gc_plan.proofs.Lists.{in_map, find_some, find_exists}
 use Rattle.gc_plan.proofs.Heap.{laid_range}
 use Rattle.gc_plan.proofs.Replicas.{placed, replicas_end, replica_in, replica_exists}
 use Rattle.gc_plan.proofs.Steps.{same_place}
 
-same_original : (replicas : List Replica) (r s : Replica) → Distinct (map (λ q. q.original) replicas) → In r replicas → In s replicas → r.original ≡ s.original → r ≡ s
+pub same_original : (replicas : List Replica) (r s : Replica) → Distinct (map (λ q. q.original) replicas) → In r replicas → In s replicas → r.original ≡ s.original → r ≡ s
 same_original [] r s d k l e = absurd k
 same_original (q ∷ rest) r s d (inl k) (inl l) e = sym k ∙ l
 same_original (q ∷ rest) r s d (inl k) (inr l) e =
@@ -52,10 +52,7 @@ written_objects name place i v at (q ∷ rest) end l f = ⊎_elim
 
 module _ (Due : Bool → ℕ → ℕ → ℕ → Type 0) (objects : List (ℕ × Object)) (c : Collection) (h : BelongsBy Due objects c) where
   pub found_by_name : (r : Replica) → In r c.replicas → replica_of c r.original ≡ Some r
-  found_by_name r k =
-      let s = replica_exists c r k in
-      let f = replica_in c r.original s.0 s.1 in
-      s.1 ∙ ap Some (same_original c.replicas s.0 r h.once f.0 k f.1)
+  found_by_name r k = grind (arith, common_steps, replica_exists, replica_in, same_original)
 
   pub found_by_place : (r : Replica) → In r c.replicas → replica_at c r.place ≡ Some r
   found_by_place r k =
@@ -74,12 +71,7 @@ module _ (Due : Bool → ℕ → ℕ → ℕ → Type 0) (objects : List (ℕ ×
           ne_eqb r.place 0 (omega arith)
 
   pub write_is_set : (name i : ℕ) (v : Value) (r : Replica) → replica_of c name ≡ Some r → new_objects (write_replica c name i v) ≡ set_field (new_objects c) r.place i v
-  write_is_set name i v r e =
-      let f = replica_in c name r e in
-      written_objects name r.place i v 1 c.replicas (replicas_end c.replicas) h.laid (λ q k. ⊎_elim
-      (λ t. t ∙ sym (eq-eqb q.place r.place (ap (λ (p : Replica). p.place) (same_original c.replicas q r h.once k f.0 (eqb-true q.original name t ∙ sym f.1)))))
-      (λ t. t ∙ sym (ne_eqb q.place r.place (λ x. eqb-false q.original name t (ap (λ (p : Replica). p.original) (same_place 1 c.replicas (replicas_end c.replicas) q r h.laid k f.0 x) ∙ f.1))))
-      (cases_Bool (q.original == name)))
+  write_is_set name i v r e = grind (arith, common_steps, replica_in, written_objects, replicas_end, eq-eqb, same_original, eqb-true, ne_eqb, eqb-false, same_place, cases_Bool)
 
   pub old_link_is : (a : ℕ) (r : Replica) → replica_of c a ≡ Some r → moved c (Ref a) ≡ Ref (old_links c a)
   old_link_is a r e = ap (λ o. moved_name o a) e ∙ sym (ap (λ o. Ref (place_or_zero o)) e)

@@ -1,27 +1,23 @@
 -- Numbers stay below 2^63.
-use Rattle.std.proofs.Common.{◌≡◌, ⊎_elim, ℕ, ◌<◌, ◌^◌, Bool, true, false, ◌&&◌, arith, List, Option, Some, None, slice_get, refl, sym, subst}
+use Rattle.std.proofs.lemmas.Grind.{common_steps}
+use Rattle.std.proofs.Common.{◌≡◌, ⊎_elim, ℕ, Bool, true, false, ◌&&◌, arith, List, Option, Some, None, refl, sym, subst}
 use Rattle.std.specs.Prelude.{not}
 use Rattle.std.proofs.lemmas.Bool.{eqb-true, cond_both}
-use Rattle.gc_graph.specs.Slots.{place}
-use Rattle.gc_graph.specs.Graph.{Value, Nil, Num, Ref, Object, Graph, lookup, object_of, field_of, root, value_or_nil, set_root, add_object, first_value, new_object}
+use Rattle.gc_graph.specs.Graph.{Value, Nil, Num, Ref, Object, Graph, lookup, object_of, field_of, root, set_root, add_object, first_value, new_object}
 use Rattle.gc_graph.specs.Correspond.{correspond}
 use Rattle.gc_graph.specs.Machine.{step, get_field, is_number, put_field}
 use Rattle.gc_plan.specs.Runs.{HasRange}
 use Rattle.gc_graph.specs.declared.reply.Reply.{Reply}
 use Rattle.gc_graph.specs.declared.command.Op.{Op}
 use Rattle.gc_graph.specs.declared.command.Op.TheVariants as ops
-use Rattle.gc_plan.specs.State.{Replica, Collection, replica_of, moved, moved_name}
+use Rattle.gc_plan.specs.State.{Collection, moved}
 use Rattle.gc_plan.specs.Members.{In}
 use Rattle.gc_plan.specs.Belonging.{IsSmall, HasSmallNumbers}
 use Rattle.gc_plan.proofs.Lists.{in_push, in_set, in_replicate, get_in}
 use Rattle.gc_plan.proofs.Heap.{lookup_in, written_in, set_from}
 
 root_small : (g : Graph) (p : ℕ) → HasSmallNumbers g → IsSmall (root g p)
-root_small g p h = go (slice_get g.roots p) refl
-  where
-    go : (o : Option Value) → slice_get g.roots p ≡ o → IsSmall (value_or_nil o)
-    go None e = tt
-    go (Some v) e = h.roots v (get_in v g.roots p e)
+root_small g p h = grind (arith, common_steps, get_in)
 
 field_small : (g : Graph) (v : Value) (i : ℕ) (w : Value) → HasSmallNumbers g → field_of (object_of g.objects v) i ≡ Some w → IsSmall w
 field_small g Nil i w h e = absurd cc
@@ -36,9 +32,7 @@ small_root : (g : Graph) (d : ℕ) (v : Value) → HasSmallNumbers g → IsSmall
 small_root g d v h s = record { fields = h.fields; roots = λ w k. ⊎_elim (λ e. subst IsSmall e s) (h.roots w) (in_set w g.roots d v k) }
 
 small_get : (g : Graph) (d : ℕ) (target : Option Object) (found : Option Value) → HasSmallNumbers g → ((v : Value) → found ≡ Some v → IsSmall v) → HasSmallNumbers (get_field g d target found).1
-small_get g d None found h f = h
-small_get g d (Some o) None h f = h
-small_get g d (Some o) (Some v) h f = small_root g d v h (f v refl)
+small_get g d target found h f = grind (arith, common_steps, small_root)
 
 small_put : (g : Graph) (v : Value) (target : Option Object) (found : Option Value) (i : ℕ) (w : Value) → HasSmallNumbers g → IsSmall w → HasSmallNumbers (put_field g v target found i w).1
 small_put g Nil target found i w h s = h
@@ -67,30 +61,12 @@ small_new g raw d kind len name h = record {
     first_small false = tt
 
 pub step_small : (g : Graph) (m : ℕ) (op : Op) (name : ℕ) → HasSmallNumbers g → HasRange op → HasSmallNumbers (step g m op name).1
-step_small g m (ops.New d kind len) name h r = small_new g false (place d m) kind len name h
-step_small g m (ops.NewRaw d kind len) name h r = small_new g true (place d m) kind len name h
-step_small g m (ops.Num d n) name h r = small_root g (place d m) (Num n) h r
-step_small g m (ops.Nil d) name h r = small_root g (place d m) Nil h tt
-step_small g m (ops.Move d s) name h r = small_root g (place d m) (root g (place s m)) h (root_small g (place s m) h)
-step_small g m (ops.Get d s i) name h r = small_get g (place d m) _ _ h (λ v e. field_small g (root g (place s m)) i v h e)
-step_small g m (ops.Put s i t) name h r = small_put g (root g (place s m)) _ _ i (root g (place t m)) h (root_small g (place t m) h)
-step_small g m (ops.Same s t) name h r = h
-step_small g m (ops.Look s) name h r = h
+step_small g m op name h r = grind (arith, common_steps, small_new, small_root, root_small, small_get, field_small, small_put)
 
 -- ---- in the new space
 
 pub small_corresponding : (pairs : List (ℕ × ℕ)) (v w : Value) → correspond pairs v w ≡ true → IsSmall v → IsSmall w
-small_corresponding pairs v Nil h s = tt
-small_corresponding pairs Nil (Num b) h s = absurd cc
-small_corresponding pairs (Num a) (Num b) h s = subst (λ n. n < 2 ^ 63) (eqb-true a b h) s
-small_corresponding pairs (Ref a) (Num b) h s = absurd cc
-small_corresponding pairs v (Ref b) h s = tt
+small_corresponding pairs v w h s = grind (arith, common_steps, eqb-true)
 
 pub small_moved : (c : Collection) (v : Value) → IsSmall v → IsSmall (moved c v)
-small_moved c Nil s = tt
-small_moved c (Num n) s = s
-small_moved c (Ref a) s = go (replica_of c a)
-  where
-    go : (o : Option Replica) → IsSmall (moved_name o a)
-    go None = tt
-    go (Some r) = tt
+small_moved c v s = grind (arith, common_steps)

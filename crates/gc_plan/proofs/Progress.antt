@@ -1,13 +1,12 @@
 -- Each step that changes something lowers the number of steps that are left.
-use Rattle.std.proofs.Common.{◌||◌, ◌≡◌, ◌≢◌, ◌⊎◌, inl, inr, ⊎_elim, ℕ, zero, suc, ◌+◌, ◌-◌, ◌<◌, ◌≤◌, ◌==◌, nat_lt, Bool, true, false, cond, not, List, [], ◌∷◌, ◌++◌, map, length, set, replicate, slice_get, flat_map, Option, Some, None, is_some, refl, ap, sym, ◌∙◌, subst, arith}
+use Rattle.std.proofs.lemmas.Grind.{common_steps}
+use Rattle.std.proofs.Common.{◌||◌, ◌≡◌, ◌≢◌, ◌⊎◌, inl, inr, ⊎_elim, ℕ, zero, suc, ◌+◌, ◌-◌, ◌<◌, ◌≤◌, ◌==◌, nat_lt, Bool, true, false, not, List, [], ◌∷◌, ◌++◌, map, length, set, replicate, slice_get, flat_map, Option, Some, None, refl, ap, sym, ◌∙◌, subst, arith}
 use Rattle.std.proofs.lemmas.Bool.{cases_Bool, cond-true, cond-false, cond_both, lt-ltb, le-ltb, ltb-false, eqb-false}
 use Rattle.std.proofs.lemmas.List.{length-append}
-use Rattle.gc_graph.specs.Graph.{Value, Nil, Num, Ref, Object, Graph, lookup, field_of, names_of}
-use Rattle.gc_graph.specs.Machine.{Roomy, words_taken}
+use Rattle.gc_graph.specs.Graph.{Value, Object, Graph, lookup, field_of, names_of}
 use Rattle.gc_graph.specs.declared.command.Op.{Op}
-use Rattle.gc_graph.specs.declared.reply.Reply.{Reply}
-use Rattle.gc_plan.specs.State.{Replica, Collection, State, objects_end, new_end, new_free, heap_end, replica_of, replica_at, moved}
-use Rattle.gc_plan.specs.Steps.{written, log_or_nil, log_at, with_log, logged, mutate, fresh_replica, place_replica, with_replica, with_written, write_replica, copy_value, bring_value, bring_up_to_date, with_collection, if_room, fresh_collection, root_target, roots_done, copy_root, scan_done, next_object, next_field, scan_replica, scan, apply_entry, apply_log, is_ready, passes_check, flip, step_in, collect_with, collect, is_change, is_empty, first_log, apply_or_flip, useful_with, useful_step}
+use Rattle.gc_plan.specs.State.{Replica, Collection, State, objects_end, new_end, heap_end, replica_at, moved}
+use Rattle.gc_plan.specs.Steps.{log_or_nil, log_at, with_log, mutate, place_replica, with_replica, with_written, write_replica, copy_value, bring_value, bring_up_to_date, with_collection, if_room, fresh_collection, root_target, roots_done, copy_root, scan_done, next_object, next_field, scan_replica, scan, apply_entry, apply_log, flip, step_in, collect_with, collect, is_change, is_empty, first_log, apply_or_flip, useful_with, useful_step}
 use Rattle.gc_plan.specs.Progress.{entries_in, scans_of, scans_from, work_of, work_with, work_left, entries_with, entries_left, ChangesLower, Advances, Ends}
 use Rattle.gc_plan.specs.Runs.{IsStep}
 use Rattle.gc_plan.specs.Members.{In}
@@ -47,12 +46,7 @@ scans_fit p at (r ∷ rest) end h low =
 -- all of them lie behind two such places
 scans_same : (p q at : ℕ) (rs : List Replica) (end : ℕ) → Laid at (map placed rs) end → p ≤ at → q ≤ at → scans_from p rs ≡ scans_from q rs
 scans_same p q at [] end h low lower = refl
-scans_same p q at (r ∷ rest) end h low lower =
-    let here : r.place ≡ at = h.0 in
-    let one : scans_of p r ≡ length r.object.fields + 1 = cond-false (nat_lt r.place p) 0 (length r.object.fields + 1) (le-ltb r.place p (omega arith)) in
-    let other : scans_of q r ≡ length r.object.fields + 1 = cond-false (nat_lt r.place q) 0 (length r.object.fields + 1) (le-ltb r.place q (omega arith)) in
-    let others = scans_same p q (at + (length r.object.fields + 2)) rest end h.1 (omega arith) (omega arith) in
-    omega arith
+scans_same p q at (r ∷ rest) end h low lower = grind (arith, common_steps, cond-false, le-ltb, scans_same p q (at + (length r.object.fields + 2)) rest end h.1 (omega arith) (omega arith))
 
 -- passing a replica takes its scans away
 scans_pass : (at : ℕ) (rs : List Replica) (end : ℕ) (r : Replica) → Laid at (map placed rs) end → In r rs
@@ -77,11 +71,7 @@ scans_pass at (q ∷ rest) end r h (inr k) =
 -- the scans of a replica that is not before the place are among them
 scans_have : (p : ℕ) (rs : List Replica) (r : Replica) → In r rs → p ≤ r.place → length r.object.fields + 1 ≤ scans_from p rs
 scans_have p [] r k low = absurd k
-scans_have p (q ∷ rest) r (inl e) low =
-    subst (λ (x : Replica). length x.object.fields + 1 ≤ scans_from p (q ∷ rest)) e (
-    let at : p ≤ q.place = subst (λ (x : Replica). p ≤ x.place) (sym e) low in
-    let one : scans_of p q ≡ length q.object.fields + 1 = cond-false (nat_lt q.place p) 0 (length q.object.fields + 1) (le-ltb q.place p at) in
-    omega arith)
+scans_have p (q ∷ rest) r (inl e) low = grind (arith, common_steps, cond-false, le-ltb)
 scans_have p (q ∷ rest) r (inr k) low = let others = scans_have p rest r k low in omega arith
 
 -- ---- replicas that are placed and written
@@ -99,18 +89,11 @@ scans_few p r = cond_both (nat_lt r.place p) 0 (length r.object.fields + 1) (λ 
 
 scans_written : (p name i : ℕ) (w : Value) (rs : List Replica) → scans_from p (map (with_written name i w) rs) ≡ scans_from p rs
 scans_written p name i w [] = refl
-scans_written p name i w (r ∷ rest) =
-    let place : (with_written name i w r).place ≡ r.place = ap (λ (q : ℕ × ℕ). q.1) (with_written_pair name i w r) in
-    let len = with_written_length name i w r in
-    let here : scans_of p (with_written name i w r) ≡ scans_of p r = λ n. cond (nat_lt (place n) p) 0 (len n + 1) in
-    let others = scans_written p name i w rest in
-    omega arith
+scans_written p name i w (r ∷ rest) = grind (arith, common_steps, with_written_pair, with_written_length, scans_written p name i w rest)
 
 ends_written : (at name i : ℕ) (w : Value) (rs : List Replica) → objects_end at (map placed (map (with_written name i w) rs)) ≡ objects_end at (map placed rs)
 ends_written at name i w [] = refl
-ends_written at name i w (r ∷ rest) =
-    let len = with_written_length name i w r in
-    ap (λ n. objects_end (at + (n + 2)) (map placed (map (with_written name i w) rest))) len ∙ ends_written (at + (length r.object.fields + 2)) name i w rest
+ends_written at name i w (r ∷ rest) = grind (arith, common_steps, with_written_length, placed, ends_written (at + (length r.object.fields + 2)) name i w rest)
 
 -- A later collection, to which at most `more` replicas were added: each adds more words than scans.
 record IsLater (more : ℕ) (c next : Collection) : Type 0 where
@@ -124,40 +107,16 @@ same_later : (c : Collection) → IsLater 0 c c
 same_later c = record { logs = refl; scan_place = refl; scan_field = refl; scans = omega arith; words = omega arith }
 
 placed_later : (c : Collection) (name : ℕ) (o : Option Object) (next : Collection) → place_replica c name o ≡ Some next → IsLater 1 c next
-placed_later c name None next is = absurd cc
-placed_later c name (Some object) next is = go (nat_lt (new_free c) (length object.fields + 2)) is
-  where
-    new_one : Replica
-    new_one = fresh_replica name (new_end c) object
-
-    go : (b : Bool) → cond b None (Some (record c { replicas = c.replicas ++ new_one ∷ [] })) ≡ Some next → IsLater 1 c next
-    go true e = absurd cc
-    go false e =
-        let scans = scans_push c.scan_place c.replicas new_one in
-        let ends = ends_push 1 c.replicas new_one in
-        let few = scans_few c.scan_place new_one in
-        let same : record c { replicas = c.replicas ++ new_one ∷ [] } ≡ next = cc e in
-        subst (IsLater 1 c) same (record { logs = refl; scan_place = refl; scan_field = refl; scans = omega arith; words = omega arith })
+placed_later c name o next is = grind (arith, common_steps, scans_push, ends_push, scans_few)
 
 weaker_later : (c next : Collection) → IsLater 1 c next → IsLater 0 c next
 weaker_later c next h = let w = h.words in record { logs = h.logs; scan_place = h.scan_place; scan_field = h.scan_field; scans = h.scans; words = omega arith }
 
 replica_later : (c : Collection) (g : Graph) (v : Value) (next : Collection) → with_replica c g v ≡ Some next → IsLater 0 c next
-replica_later c g Nil next is = let e : c ≡ next = cc is in subst (IsLater 0 c) e (same_later c)
-replica_later c g (Num n) next is = let e : c ≡ next = cc is in subst (IsLater 0 c) e (same_later c)
-replica_later c g (Ref name) next is = go (is_some (replica_of c name)) is
-  where
-    go : (b : Bool) → cond b (Some c) (place_replica c name (lookup g.objects name)) ≡ Some next → IsLater 0 c next
-    go true k = let e : c ≡ next = cc k in subst (IsLater 0 c) e (same_later c)
-    go false k = weaker_later c next (placed_later c name (lookup g.objects name) next k)
+replica_later c g v next is = grind (arith, common_steps, same_later, weaker_later, placed_later)
 
 written_later : (c d : Collection) (name i : ℕ) (w : Value) → IsLater 0 c d → IsLater 0 c (write_replica d name i w)
-written_later c d name i w h =
-    let scans = scans_written d.scan_place name i w d.replicas in
-    let ends = ends_written 1 name i w d.replicas in
-    let more = h.scans in
-    let words = h.words in
-    record { logs = h.logs; scan_place = h.scan_place; scan_field = h.scan_field; scans = omega arith; words = omega arith }
+written_later c d name i w h = grind (arith, common_steps, scans_written, ends_written)
 
 copied_later : (c : Collection) (o : Option Collection) (name i : ℕ) (v : Value) (next : Collection) → ((d : Collection) → o ≡ Some d → IsLater 0 c d) → copy_value o name i v ≡ Some next → IsLater 0 c next
 copied_later c None name i v next f is = absurd cc
@@ -165,18 +124,13 @@ copied_later c (Some d) name i v next f is =
     let e : write_replica d name i (moved d v) ≡ next = cc is in subst (IsLater 0 c) e (written_later c d name i (moved d v) (f d refl))
 
 value_later : (c : Collection) (g : Graph) (name i : ℕ) (o : Option Value) (next : Collection) → bring_value c g name i o ≡ Some next → IsLater 0 c next
-value_later c g name i None next is = let e : c ≡ next = cc is in subst (IsLater 0 c) e (same_later c)
-value_later c g name i (Some v) next is = copied_later c (with_replica c g v) name i v next (λ d e. replica_later c g v d e) is
+value_later c g name i o next is = grind (arith, common_steps, same_later, copied_later, replica_later)
 
 brought_later : (c : Collection) (g : Graph) (name i : ℕ) (next : Collection) → bring_up_to_date c g name i ≡ Some next → IsLater 0 c next
 brought_later c g name i next is = value_later c g name i (field_of (lookup g.objects name) i) next is
 
 entry_later : (c : Collection) (g : Graph) (entry : ℕ × ℕ) (next : Collection) → apply_entry c g entry ≡ Some next → IsLater 0 c next
-entry_later c g entry next is = go (is_some (replica_of c entry.0)) is
-  where
-    go : (b : Bool) → cond b (bring_up_to_date c g entry.0 entry.1) (Some c) ≡ Some next → IsLater 0 c next
-    go true k = brought_later c g entry.0 entry.1 next k
-    go false k = let e : c ≡ next = cc k in subst (IsLater 0 c) e (same_later c)
+entry_later c g entry next is = grind (arith, common_steps, brought_later, same_later)
 
 -- ---- entries
 
@@ -196,14 +150,13 @@ no_entries zero = refl
 no_entries (suc n) = let others = no_entries n in omega arith
 
 or_none : (a b : Bool) → (a || b) ≡ false → b ≡ false
-or_none true b e = absurd cc
-or_none false b e = e
+or_none a b e = grind (arith, common_steps)
 
 -- ---- the number
 
 module _ (s : State) (h : IsSpaceGraph s.size s.heap.free s.heap.graph) where
   -- the new space has at most the words in use
-  pub end_low : (c : Collection) → IsOpened s c → new_end c ≤ heap_end s
+  end_low : (c : Collection) → IsOpened s c → new_end c ≤ heap_end s
   end_low c k = replicas_fit s.size s.heap.free c.size s.heap.graph (IsDue c) c.replicas h (its_replicas (IsDue c) s.heap.graph.objects c k.belongs)
 
   scan_low : (c : Collection) → IsOpened s c → c.scan_place ≤ new_end c
@@ -215,18 +168,10 @@ module _ (s : State) (h : IsSpaceGraph s.size s.heap.free s.heap.graph) where
 
   -- fewer fields are scanned than the scans that are left, unless none are
   field_low : (c : Collection) → IsOpened s c → c.scan_field ≤ scans_from c.scan_place c.replicas
-  field_low c k = ⊎_elim
-      (λ x. let at = x.2 in let field = x.3 in let some = scans_have c.scan_place c.replicas x.0 x.1 (omega arith) in omega arith)
-      (λ x. let field = x.1 in omega arith)
-      (k.belongs).scan
+  field_low c k = grind (arith, common_steps, scans_have)
 
-  pub work_bounded : (c : Collection) → IsOpened s c → work_of s c ≤ (heap_end s - c.scan_place) + entries_in c.logs + 1
-  work_bounded c k =
-      let low = scan_low c k in
-      let fit = scans_fit c.scan_place 1 c.replicas (replicas_end c.replicas) (k.belongs).laid low in
-      let scans = fit.1 in
-      let end = end_low c k in
-      omega arith
+  work_bounded : (c : Collection) → IsOpened s c → work_of s c ≤ (heap_end s - c.scan_place) + entries_in c.logs + 1
+  work_bounded c k = grind (arith, common_steps, scan_low, scans_fit, replicas_end, end_low)
 
   -- ---- steps
 
@@ -234,19 +179,10 @@ module _ (s : State) (h : IsSpaceGraph s.size s.heap.free s.heap.graph) where
   Falls c next = is_change next.0 ≡ true → work_left next.1 < work_of s c
 
   room_falls : (c : Collection) (reply : StepReply) (o : Option Collection) → ((d : Collection) → o ≡ Some d → work_of s d < work_of s c) → Falls c (if_room s reply o)
-  room_falls c reply None f = λ e. absurd cc
-  room_falls c reply (Some d) f = λ e. f d refl
+  room_falls c reply o f = grind (arith, common_steps)
 
   later_falls : (c d : Collection) → IsOpened s c → IsOpened s d → IsLater 1 c d → work_of s d < work_of s c
-  later_falls c d k l later =
-      let logs : entries_in d.logs ≡ entries_in c.logs = ap entries_in later.logs in
-      let field = later.scan_field in
-      let scans = later.scans in
-      let words = later.words in
-      let low = field_low c k in
-      let was = end_low c k in
-      let is = end_low d l in
-      omega arith
+  later_falls c d k l later = grind (arith, common_steps, field_low, end_low)
 
   root_falls : (c : Collection) → IsOpened s c → (t : Option ℕ) → root_target c s.heap.graph ≡ t → Falls c (copy_root s c t)
   root_falls c k None e = λ x. absurd cc
@@ -256,36 +192,14 @@ module _ (s : State) (h : IsSpaceGraph s.size s.heap.free s.heap.graph) where
 
   -- the field at the scan pointer is one of its replica, or the place behind the last
   field_within : (c : Collection) (r : Replica) → IsOpened s c → In r c.replicas → r.place ≡ c.scan_place → c.scan_field ≤ length r.object.fields
-  field_within c r k here place = ⊎_elim
-      (λ x. subst (λ (q : Replica). c.scan_field ≤ length q.object.fields) (same_place 1 c.replicas (replicas_end c.replicas) x.0 r (k.belongs).laid x.1 here (x.2 ∙ sym place)) x.3)
-      (λ x. let field = x.1 in omega arith)
-      (k.belongs).scan
+  field_within c r k here place = grind (arith, common_steps, same_place, replicas_end)
 
   pass_falls : (c : Collection) (r : Replica) → IsOpened s c → In r c.replicas → r.place ≡ c.scan_place → work_of s (next_object c r) < work_of s c
-  pass_falls c r k here place =
-      let pass = scans_pass 1 c.replicas (replicas_end c.replicas) r (k.belongs).laid here in
-      let now : scans_from r.place c.replicas ≡ scans_from c.scan_place c.replicas = ap (λ (p : ℕ). scans_from p c.replicas) place in
-      let then : scans_from (r.place + (length r.object.fields + 2)) c.replicas ≡ scans_from (c.scan_place + (length r.object.fields + 2)) c.replicas = ap (λ (p : ℕ). scans_from (p + (length r.object.fields + 2)) c.replicas) place in
-      let within = field_within c r k here place in
-      omega arith
+  pass_falls c r k here place = grind (arith, common_steps, scans_pass, replicas_end, field_within)
 
   scanned_falls : (c : Collection) (r : Replica) (next : Option Collection) (d : Collection) → IsOpened s c → In r c.replicas → r.place ≡ c.scan_place → c.scan_field ≢ length r.object.fields
       → bring_up_to_date c s.heap.graph r.original c.scan_field ≡ next → next_field next ≡ Some d → work_of s d < work_of s c
-  scanned_falls c r None d k here place more is e = absurd cc
-  scanned_falls c r (Some n) d k here place more is e =
-      let same : record n { scan_field = suc n.scan_field } ≡ d = cc e in
-      let later = brought_later c s.heap.graph r.original c.scan_field n is in
-      let opened = bringing_keeps s c n r.original c.scan_field k is in
-      subst (λ (x : Collection). work_of s x < work_of s c) same (
-      let logs : entries_in n.logs ≡ entries_in c.logs = ap entries_in later.logs in
-      let field = later.scan_field in
-      let scans = later.scans in
-      let words = later.words in
-      let some = scans_have c.scan_place c.replicas r here (omega arith) in
-      let within = field_within c r k here place in
-      let was = end_low c k in
-      let is = end_low n opened in
-      omega (arith, more))
+  scanned_falls c r next d k here place more is e = grind (arith, common_steps, brought_later, bringing_keeps, scans_have, field_within, end_low)
 
   one_falls : (c : Collection) (r : Replica) → IsOpened s c → In r c.replicas → r.place ≡ c.scan_place → Falls c (scan_replica s c (Some r))
   one_falls c r k here place =
@@ -337,10 +251,7 @@ module _ (s : State) (h : IsSpaceGraph s.size s.heap.free s.heap.graph) where
           (subst (λ l. IsOpen s (apply_log s c m l).1.collection) is kept)
 
   begun_falls : (size : ℕ) → work_left (with_collection s (Some (fresh_collection s.mutators size))) < heap_end s + 1
-  begun_falls size =
-      let none = no_entries s.mutators in
-      let low = laid_end 1 s.heap.graph.objects (s.size - s.heap.free) h.laid in
-      omega arith
+  begun_falls size = grind (arith, common_steps, no_entries, laid_end)
 
   lowers_with : (o : Option Collection) → s.collection ≡ o → IsOpen s o → (step : Step) → step ≢ steps.Flip → step ≢ steps.Drop
       → is_change (collect_with s o step).0 ≡ true → work_left (collect_with s o step).1 < work_with s o
@@ -368,44 +279,13 @@ module _ (s : State) (h : IsSpaceGraph s.size s.heap.free s.heap.graph) where
   Moves n next = ((next.0 ≡ NoRoom) ⊎ ((pairs : ℕ) × (next.0 ≡ Flipped pairs))) ⊎ (work_left next.1 < n)
 
   moves_unless_flip : (step : Step) → IsOpen s s.collection → (collect s step).0 ≡ NoRoom ⊎ (is_change (collect s step).0 ≡ true) → step ≢ steps.Flip → step ≢ steps.Drop → Moves (work_left s) (collect s step)
-  moves_unless_flip step k (inl none) n d = inl (inl none)
-  moves_unless_flip step k (inr changes) n d = inr (lowers k step n d changes)
+  moves_unless_flip step k h n d = grind (arith, common_steps, lowers)
 
   flip_moves : (c : Collection) (n : ℕ) → is_change (flip s c).0 ≡ true → Moves n (flip s c)
-  flip_moves c n = cond_both (is_ready c s.heap.graph) _ _ (λ (next : StepReply × State). is_change next.0 ≡ true → Moves n next)
-      (λ t. cond_both (passes_check s c) _ _ (λ (next : StepReply × State). is_change next.0 ≡ true → Moves n next)
-      (λ u. λ e. inl (inr (length c.replicas, refl)))
-      (λ u. λ e. absurd cc))
-      (λ t. λ e. absurd cc)
+  flip_moves c n = grind (arith, common_steps, cond_both)
 
   pub advances : IsOpen s s.collection → Advances s
-  advances k = go (useful_step s) refl
-    where
-      changed : (step : Step) → useful_step s ≡ step → ((collect s step).0 ≡ NoRoom) ⊎ (is_change (collect s step).0 ≡ true)
-      changed step e = subst (λ (t : Step). ((collect s t).0 ≡ NoRoom) ⊎ (is_change (collect s t).0 ≡ true)) e (useful_changes s h k)
-
-      flip_of : (o : Option Collection) → ((collect_with s o steps.Flip).0 ≡ NoRoom) ⊎ (is_change (collect_with s o steps.Flip).0 ≡ true) → Moves (work_left s) (collect_with s o steps.Flip)
-      flip_of o (inl none) = inl (inl none)
-      flip_of None (inr changes) = absurd cc
-      flip_of (Some c) (inr changes) = flip_moves c (work_left s) changes
-
-      no_drop : (o : Option Collection) → useful_with s o ≢ steps.Drop
-      no_drop None = λ e. cc e
-      no_drop (Some c) = cond_both (not (roots_done c s.heap.graph)) _ _ (λ (t : Step). t ≢ steps.Drop) (λ t. λ e. cc e)
-          (λ f. cond_both (not (scan_done c)) _ _ (λ (t : Step). t ≢ steps.Drop) (λ t. λ e. cc e) (λ g. no_drop_log (first_log 0 c.logs)))
-        where
-          no_drop_log : (o : Option ℕ) → apply_or_flip o ≢ steps.Drop
-          no_drop_log None = λ e. cc e
-          no_drop_log (Some m) = λ e. cc e
-
-      go : (step : Step) → useful_step s ≡ step → Moves (work_left s) (collect s (useful_step s))
-      go steps.Begin e = subst (λ (t : Step). Moves (work_left s) (collect s t)) (sym e) (moves_unless_flip steps.Begin k (changed steps.Begin e) (λ x. cc x) (λ x. cc x))
-      go (steps.BeginSized size) e = subst (λ (t : Step). Moves (work_left s) (collect s t)) (sym e) (moves_unless_flip (steps.BeginSized size) k (changed (steps.BeginSized size) e) (λ x. cc x) (λ x. cc x))
-      go steps.Roots e = subst (λ (t : Step). Moves (work_left s) (collect s t)) (sym e) (moves_unless_flip steps.Roots k (changed steps.Roots e) (λ x. cc x) (λ x. cc x))
-      go steps.Scan e = subst (λ (t : Step). Moves (work_left s) (collect s t)) (sym e) (moves_unless_flip steps.Scan k (changed steps.Scan e) (λ x. cc x) (λ x. cc x))
-      go (steps.Apply m) e = subst (λ (t : Step). Moves (work_left s) (collect s t)) (sym e) (moves_unless_flip (steps.Apply m) k (changed (steps.Apply m) e) (λ x. cc x) (λ x. cc x))
-      go steps.Flip e = subst (λ (t : Step). Moves (work_left s) (collect s t)) (sym e) (flip_of s.collection (changed steps.Flip e))
-      go steps.Drop e = absurd (no_drop s.collection e)
+  advances k = grind (arith, common_steps, useful_changes, flip_moves, cond_both, moves_unless_flip)
 
 -- ---- runs of useful steps
 
@@ -433,13 +313,9 @@ useful_ranges s k = go s.collection k
         (λ f. cond_both (not (scan_done c)) _ _ (IsStep s.mutators) (λ t. tt) (λ g. log_ranges c k (first_log 0 c.logs) refl))
 
 some_work : (s : State) → 1 ≤ work_left s
-some_work s = go s.collection
-  where
-    go : (o : Option Collection) → 1 ≤ work_with s o
-    go None = omega arith
-    go (Some c) = omega arith
+some_work s = grind (arith, common_steps)
 
-pub ends : (fuel : ℕ) (s : State) → work_left s ≤ fuel → IsState s → Ends s
+ends : (fuel : ℕ) (s : State) → work_left s ≤ fuel → IsState s → Ends s
 ends zero s low h = absurd (omega (arith, low, some_work s))
 ends (suc fuel) s low h = ⊎_elim
     (λ x. (0, some_work s, x))
@@ -464,82 +340,35 @@ module _ (s : State) (c : Collection) (is : s.collection ≡ Some c) where
   entries_same = ap entries_with is
 
   room_keeps : (reply : StepReply) (o : Option Collection) → ((d : Collection) → o ≡ Some d → entries_in d.logs ≤ entries_in c.logs) → Keeps s (if_room s reply o)
-  room_keeps reply None f = omega arith
-  room_keeps reply (Some d) f = let fewer = f d refl in omega (arith, entries_same)
+  room_keeps reply o f = grind (arith, common_steps, entries_same)
 
   root_keeps : (t : Option ℕ) → Keeps s (copy_root s c t)
-  root_keeps None = omega arith
-  root_keeps (Some name) = room_keeps Copied (place_replica c name (lookup s.heap.graph.objects name))
-      (λ d placed. let same : entries_in d.logs ≡ entries_in c.logs = ap entries_in (placed_later c name (lookup s.heap.graph.objects name) d placed).logs in omega arith)
+  root_keeps t = grind (arith, common_steps, room_keeps, placed, placed_later)
 
   field_keeps : (o : Option Collection) → ((n : Collection) → o ≡ Some n → n.logs ≡ c.logs) → (d : Collection) → next_field o ≡ Some d → entries_in d.logs ≤ entries_in c.logs
-  field_keeps None f d e = absurd cc
-  field_keeps (Some n) f d e =
-      let same : record n { scan_field = suc n.scan_field } ≡ d = cc e in
-      subst (λ (x : Collection). entries_in x.logs ≤ entries_in c.logs) same (let logs : entries_in n.logs ≡ entries_in c.logs = ap entries_in (f n refl) in omega arith)
+  field_keeps o f d e = grind (arith, common_steps)
 
   scan_keeps : (t : Option Replica) → Keeps s (scan_replica s c t)
-  scan_keeps None = omega arith
-  scan_keeps (Some r) = cond_both (r.object.raw || (c.scan_field == length r.object.fields)) _ _ (Keeps s)
-      (λ t. omega (arith, entries_same))
-      (λ f. room_keeps Scanned (next_field (bring_up_to_date c s.heap.graph r.original c.scan_field))
-      (field_keeps (bring_up_to_date c s.heap.graph r.original c.scan_field) (λ n e. (brought_later c s.heap.graph r.original c.scan_field n e).logs)))
+  scan_keeps t = grind (arith, common_steps, cond_both, entries_same, room_keeps, field_keeps, brought_later)
 
   apply_keeps : (m : ℕ) (l : List (ℕ × ℕ)) → log_at c m ≡ l → Keeps s (apply_log s c m l)
-  apply_keeps m [] at = omega arith
-  apply_keeps m (entry ∷ rest) at = room_keeps Applied (apply_entry (with_log c m rest) s.heap.graph entry) (λ d e.
-      let same : entries_in d.logs ≡ entries_in (set c.logs m rest) = ap entries_in (entry_later (with_log c m rest) s.heap.graph entry d e).logs in
-      let taken = entries_taken c.logs m entry rest at in
-      omega arith)
+  apply_keeps m l at = grind (arith, common_steps, room_keeps, entry_later, entries_taken)
 
   flip_keeps : Keeps s (flip s c)
-  flip_keeps = cond_both (is_ready c s.heap.graph) _ _ (Keeps s)
-      (λ t. cond_both (passes_check s c) _ _ (Keeps s) (λ u. omega arith) (λ u. omega arith))
-      (λ t. omega arith)
+  flip_keeps = grind (arith, common_steps, cond_both)
 
   opened_keep : (step : Step) → Keeps s (step_in s c step)
-  opened_keep steps.Begin = omega arith
-  opened_keep (steps.BeginSized size) = omega arith
-  opened_keep steps.Roots = root_keeps (root_target c s.heap.graph)
-  opened_keep steps.Scan = cond_both (scan_done c) _ _ (Keeps s) (λ t. omega arith) (λ f. scan_keeps (replica_at c c.scan_place))
-  opened_keep (steps.Apply m) = apply_keeps m (log_at c m) refl
-  opened_keep steps.Flip = flip_keeps
-  opened_keep steps.Drop = omega arith
+  opened_keep step = grind (arith, common_steps, root_keeps, cond_both, scan_keeps, apply_keeps, flip_keeps)
 
 idle_keeps : (s : State) (step : Step) → Keeps s (collect_with s None step)
-idle_keeps s steps.Begin = let none = no_entries s.mutators in omega arith
-idle_keeps s (steps.BeginSized size) = let none = no_entries s.mutators in omega arith
-idle_keeps s steps.Roots = omega arith
-idle_keeps s steps.Scan = omega arith
-idle_keeps s (steps.Apply m) = omega arith
-idle_keeps s steps.Flip = omega arith
-idle_keeps s steps.Drop = omega arith
+idle_keeps s step = grind (arith, common_steps, no_entries)
 
 pub entries_stay : (s : State) (step : Step) → entries_left (collect s step).1 ≤ entries_left s
-entries_stay s step = go s.collection refl
-  where
-    go : (o : Option Collection) → s.collection ≡ o → Keeps s (collect_with s o step)
-    go None is = idle_keeps s step
-    go (Some c) is = opened_keep s c is step
+entries_stay s step = grind (arith, common_steps, idle_keeps, opened_keep)
 
 -- ---- commands
 
 -- a command raises the number by the words that it allocates and the entries that it logs
 pub command_raises : (s : State) (m : ℕ) (op : Op) → IsSpaceGraph s.size s.heap.free s.heap.graph → IsOpen s s.collection → m < s.mutators
     → (let t = (mutate s m op).1 in work_left t + heap_end s + entries_left s ≡ work_left s + heap_end t + entries_left t)
-command_raises s m op h k less = go s.collection k
-  where
-    t : State
-    t = (mutate s m op).1
-
-    grows : heap_end s ≤ heap_end t
-    grows = cond_both (nat_lt s.heap.free (words_taken op)) _ _ (λ (next : Reply × Roomy). s.size - s.heap.free ≤ s.size - next.1.free)
-        (λ full. omega arith) (λ fits. omega arith)
-
-    go : (o : Option Collection) → IsOpen s o → (let new = logged o m (written s.heap.graph m op (mutate s m op).0) in
-        work_with t new + heap_end s + entries_with o ≡ work_with s o + heap_end t + entries_with new)
-    go None k = omega arith
-    go (Some c) k =
-        let more = entries_added c.logs m (written s.heap.graph m op (mutate s m op).0) (let logs = k.logs in omega arith) in
-        let low = end_low s h c k in
-        omega (arith, grows)
+command_raises s m op h k less = grind (arith, common_steps, cond_both, entries_added, end_low)

@@ -1,12 +1,13 @@
 -- The replicas of an open collection, and which of their fields are up to date.
-use Rattle.std.proofs.Common.{◌≡◌, ◌⊎◌, inl, inr, ⊎_elim, ℕ, ◌+◌, ◌<◌, ◌≤◌, ◌==◌, Bool, true, false, ◌&&◌, List, [], ◌∷◌, ◌++◌, map, find, length, Some, None, slice_get, refl, ap, sym, ◌∙◌, subst, arith, length-set}
+use Rattle.std.proofs.lemmas.Grind.{common_steps}
+use Rattle.std.proofs.Common.{◌≡◌, ◌⊎◌, inl, inr, ⊎_elim, ℕ, ◌+◌, ◌<◌, ◌≤◌, ◌==◌, Bool, true, false, ◌&&◌, List, [], ◌∷◌, ◌++◌, map, find, length, Some, slice_get, refl, ap, sym, ◌∙◌, subst, arith, length-set}
 use Rattle.std.proofs.lemmas.Bool.{cases_Bool, cond-true, cond-false, cond_both, eqb-true, eqb-false, eq-eqb, and_from, and_parts, or_cases, or_left, or_right}
 use Rattle.std.proofs.lemmas.List.{length-replicate, map-append}
 use Rattle.std.specs.Option.{option_map}
 use Rattle.gc_graph.specs.Graph.{Value, Nil, Num, Ref, Object, lookup, new_object, with_field}
 use Rattle.gc_graph.specs.Machine.{is_number}
 use Rattle.gc_graph.specs.Correspond.{paired, correspond}
-use Rattle.gc_plan.specs.State.{Replica, Collection, objects_end, replica_of, pairs_of, moved, moved_name, fresh_object}
+use Rattle.gc_plan.specs.State.{Replica, Collection, objects_end, replica_of, pairs_of, moved, fresh_object}
 use Rattle.gc_plan.specs.Steps.{with_written, fresh_replica}
 use Rattle.gc_plan.specs.Members.{In, Distinct}
 use Rattle.gc_plan.specs.Belonging.{Laid, RefersTo, IsReplica}
@@ -32,15 +33,7 @@ paired_in (p ∷ rest) a b h = ⊎_elim
     (or_cases ((p.0 == a) && (p.1 == b)) (paired rest a b) h)
 
 pub corresponds_more : (pairs more : List (ℕ × ℕ)) → ((p : ℕ × ℕ) → In p pairs → In p more) → (v w : Value) → correspond pairs v w ≡ true → correspond more v w ≡ true
-corresponds_more pairs more f Nil Nil h = h
-corresponds_more pairs more f Nil (Num b) h = h
-corresponds_more pairs more f Nil (Ref b) h = h
-corresponds_more pairs more f (Num a) Nil h = h
-corresponds_more pairs more f (Num a) (Num b) h = h
-corresponds_more pairs more f (Num a) (Ref b) h = h
-corresponds_more pairs more f (Ref a) Nil h = h
-corresponds_more pairs more f (Ref a) (Num b) h = h
-corresponds_more pairs more f (Ref a) (Ref b) h = in_paired more a b (f (a, b) (paired_in pairs a b h))
+corresponds_more pairs more f v w h = grind (arith, common_steps, in_paired, paired_in)
 
 -- a value that corresponds to a reference is a reference to a replica's place
 pub refers_corresponding : (P : ℕ → Type 0) (pairs : List (ℕ × ℕ)) (v w : Value) → RefersTo P v → correspond pairs v w ≡ true → RefersTo (IsPlace pairs) w
@@ -100,28 +93,15 @@ pub replicas_due : (objects : List (ℕ × Object)) (size : ℕ) (Due Due' : Boo
     → AreReplicas objects size Due replicas
     → ((r : Replica) → In r replicas → (i : ℕ) → i < length r.object.fields → Due r.object.raw r.place r.original i → Due' r.object.raw r.place r.original i)
     → AreReplicas objects size Due' replicas
-replicas_due objects size Due Due' replicas h f = record { laid = h.laid; room = h.room; once = h.once; each = each }
-  where
-    each : (r : Replica) → In r replicas → IsReplica objects (map pair replicas) Due' r
-    each r k =
-        let ok = h.each r k in record {
-          original = ok.original;
-          found = ok.found;
-          raw = ok.raw;
-          kind = ok.kind;
-          len = ok.len;
-          current = λ i v w x y. ⊎_elim (λ d. inl (f r k i (get_past r.object.fields i w y) d)) (λ e. inr e) (ok.current i v w x y);
-        }
+replicas_due objects size Due Due' replicas h f = grind (arith, common_steps, get_past)
 
 -- ---- when a replica is placed
 
 number_corresponds : (pairs : List (ℕ × ℕ)) (v : Value) → is_number v ≡ true → correspond pairs v v ≡ true
-number_corresponds pairs Nil h = absurd cc
-number_corresponds pairs (Num n) h = eq-eqb n n refl
-number_corresponds pairs (Ref a) h = absurd cc
+number_corresponds pairs v h = grind (arith, common_steps, eq-eqb)
 
 -- a fresh replica has its original's size and kind, and is raw exactly if the original is
-pub fresh_length : (o : Object) → length (fresh_object o).fields ≡ length o.fields
+fresh_length : (o : Object) → length (fresh_object o).fields ≡ length o.fields
 fresh_length o = cond_both o.raw o (new_object false o.kind (length o.fields)) (λ (q : Object). length q.fields ≡ length o.fields) (λ t. refl) (λ t. length-replicate (length o.fields) Nil)
 
 pub fresh_kind : (o : Object) → (fresh_object o).kind ≡ o.kind
@@ -136,87 +116,24 @@ pub replicas_place : (objects : List (ℕ × Object)) (size : ℕ) (Due : Bool �
     → ((v : Value) → In v object.fields → object.raw ≡ true → is_number v ≡ true)
     → ((i : ℕ) → Due false (replicas_end replicas) name i)
     → AreReplicas objects size Due (replicas ++ fresh_replica name (replicas_end replicas) object ∷ [])
-replicas_place objects size Due replicas name object h found new fits numbers due = record {
-  laid = subst (λ l. Laid 1 l (replicas_end (replicas ++ new_one ∷ []))) (sym (map-append placed replicas (new_one ∷ []))) (laid_push 1 (map placed replicas) (replicas_end replicas) (placed new_one) (replicas_end (replicas ++ new_one ∷ [])) h.laid refl ends);
-  room = omega (arith, ends, fresh_length object);
-  once = subst Distinct (sym (map-append (λ (r : Replica). r.original) replicas (new_one ∷ []))) (distinct_push (map (λ r. r.original) replicas) name h.once new);
-  each = λ r k. subst (λ l. IsReplica objects l Due r) (sym (map-append pair replicas (new_one ∷ []))) (⊎_elim (old r) (λ e. subst (IsReplica objects (map pair replicas ++ pair new_one ∷ []) Due) e newest) (in_push r new_one replicas k));
-}
-  where
-    new_one : Replica
-    new_one = fresh_replica name (replicas_end replicas) object
-
-    ends : replicas_end (replicas ++ new_one ∷ []) ≡ replicas_end replicas + (length new_one.object.fields + 2)
-    ends = ap (objects_end 1) (map-append placed replicas (new_one ∷ [])) ∙ end_push 1 (map placed replicas) (placed new_one)
-
-    more : (p : ℕ × ℕ) → In p (map pair replicas) → In p (map pair replicas ++ pair new_one ∷ [])
-    more p k = in_left p (map pair replicas) (pair new_one ∷ []) k
-
-    old : (r : Replica) → In r replicas → IsReplica objects (map pair replicas ++ pair new_one ∷ []) Due r
-    old r k = let ok = h.each r k in record {
-      original = ok.original;
-      found = ok.found;
-      raw = ok.raw;
-      kind = ok.kind;
-      len = ok.len;
-      current = λ i v w x y. ⊎_elim (λ d. inl d) (λ e. inr (corresponds_more (map pair replicas) (map pair replicas ++ pair new_one ∷ []) more v w e)) (ok.current i v w x y);
-    }
-
-    at_once : (b : Bool) → object.raw ≡ b → (i : ℕ) (v w : Value) → slice_get object.fields i ≡ Some v → slice_get (fresh_object object).fields i ≡ Some w → Due object.raw (replicas_end replicas) name i ⊎ (correspond (map pair replicas ++ pair new_one ∷ []) v w ≡ true)
-    at_once false e i v w x y = inl (subst (λ b. Due b (replicas_end replicas) name i) (sym e) (due i))
-    at_once true e i v w x y =
-        let whole : fresh_object object ≡ object = cond-true object.raw object _ e in
-        let same : v ≡ w = cc (sym x ∙ (sym (ap (λ (o : Object). slice_get o.fields i) whole) ∙ y)) in
-        inr (subst (λ u. correspond (map pair replicas ++ pair new_one ∷ []) v u ≡ true) same (number_corresponds (map pair replicas ++ pair new_one ∷ []) v (numbers v (get_in v object.fields i x) e)))
-
-    newest : IsReplica objects (map pair replicas ++ pair new_one ∷ []) Due new_one
-    newest = record {
-      original = object;
-      found = found;
-      raw = fresh_raw object;
-      kind = fresh_kind object;
-      len = fresh_length object;
-      current = λ i v w x y. subst (λ b. Due b (replicas_end replicas) name i ⊎ (correspond (map pair replicas ++ pair new_one ∷ []) v w ≡ true)) (sym (fresh_raw object)) (at_once object.raw refl i v w x y);
-    }
+replicas_place objects size Due replicas name object h found new fits numbers due = grind (arith, common_steps, map-append, laid_push, fresh_length, distinct_push, in_push, end_push, in_left, corresponds_more, cond-true, number_corresponds, get_in, fresh_raw, fresh_kind)
 
 -- ---- when a field is written
 
 pub with_written_pair : (name i : ℕ) (w : Value) (r : Replica) → pair (with_written name i w r) ≡ pair r
-with_written_pair name i w r = ⊎_elim
-    (λ t. ap pair (cond-true (r.original == name) (record r { object = with_field r.object i w }) r t))
-    (λ f. ap pair (cond-false (r.original == name) (record r { object = with_field r.object i w }) r f))
-    (cases_Bool (r.original == name))
+with_written_pair name i w r = grind (arith, common_steps, cond-true, cond-false, cases_Bool)
 
 pub place_written : (replicas : List Replica) (name i a : ℕ) (v : Value) → option_map (λ r. r.place) (find (λ r. r.original == a) (map (with_written name i v) replicas)) ≡ option_map (λ r. r.place) (find (λ (r : Replica). r.original == a) replicas)
 place_written [] name i a v = refl
-place_written (r ∷ rs) name i a v =
-    let pair_is = with_written_pair name i v r in
-    let same : (with_written name i v r).original ≡ r.original = λ j. (pair_is j).0 in
-    let place : (with_written name i v r).place ≡ r.place = λ j. (pair_is j).1 in
-    ⊎_elim
-    (λ t.
-    ap (option_map (λ (r : Replica). r.place)) (cond-true ((with_written name i v r).original == a) (Some (with_written name i v r)) (find (λ (r : Replica). r.original == a) (map (with_written name i v) rs)) (ap (λ n. n == a) same ∙ t))
-    ∙ ap Some place
-    ∙ sym (ap (option_map (λ (r : Replica). r.place)) (cond-true (r.original == a) (Some r) (find (λ (r : Replica). r.original == a) rs) t)))
-    (λ f.
-    ap (option_map (λ (r : Replica). r.place)) (cond-false ((with_written name i v r).original == a) (Some (with_written name i v r)) (find (λ (r : Replica). r.original == a) (map (with_written name i v) rs)) (ap (λ n. n == a) same ∙ f))
-    ∙ place_written rs name i a v
-    ∙ sym (ap (option_map (λ (r : Replica). r.place)) (cond-false (r.original == a) (Some r) (find (λ (r : Replica). r.original == a) rs) f)))
-    (cases_Bool (r.original == a))
+place_written (r ∷ rs) name i a v = grind (arith, common_steps, with_written_pair, cond-true, cond-false, cases_Bool, place_written rs name i a v)
 
 pub with_written_length : (name i : ℕ) (w : Value) (r : Replica) → length (with_written name i w r).object.fields ≡ length r.object.fields
-with_written_length name i w r = ⊎_elim
-    (λ t. ap (λ (q : Replica). length q.object.fields) (cond-true (r.original == name) (record r { object = with_field r.object i w }) r t) ∙ length-set r.object.fields i w)
-    (λ f. ap (λ (q : Replica). length q.object.fields) (cond-false (r.original == name) (record r { object = with_field r.object i w }) r f))
-    (cases_Bool (r.original == name))
+with_written_length name i w r = grind (arith, common_steps, cond-true, cond-false, cases_Bool)
 
 -- replicas of the same places and sizes are laid out alike
 laid_written : (name i : ℕ) (w : Value) (at : ℕ) (replicas : List Replica) (end : ℕ) → Laid at (map placed replicas) end → Laid at (map placed (map (with_written name i w) replicas)) end
 laid_written name i w at [] end h = h
-laid_written name i w at (r ∷ rest) end h =
-    let p : (with_written name i w r).place ≡ r.place = ap (λ (q : ℕ × ℕ). q.1) (with_written_pair name i w r) in
-    let s : at + (length r.object.fields + 2) ≡ at + (length (with_written name i w r).object.fields + 2) = omega (arith, with_written_length name i w r) in
-    (p ∙ h.0, subst (λ n. Laid n (map placed (map (with_written name i w) rest)) end) s (laid_written name i w (at + (length r.object.fields + 2)) rest end h.1))
+laid_written name i w at (r ∷ rest) end h = grind (arith, common_steps, with_written_pair, with_written_length, laid_written name i w (at + (length r.object.fields + 2)) rest end h.1)
 
 pub pairs_written : (name i : ℕ) (w : Value) (replicas : List Replica) → map pair (map (with_written name i w) replicas) ≡ map pair replicas
 pairs_written name i w replicas = map_same pair (with_written name i w) (with_written_pair name i w) replicas
@@ -290,10 +207,8 @@ pub replica_exists : (c : Collection) (r : Replica) → In r c.replicas → (s :
 replica_exists c r k = find_exists (λ (s : Replica). s.original == r.original) c.replicas r k (eq-eqb r.original r.original refl)
 
 -- a name and its replica are a pair
-pub replica_pair : (c : Collection) (a : ℕ) (r : Replica) → replica_of c a ≡ Some r → In {X = ℕ × ℕ} (a, r.place) (pairs_of c)
+replica_pair : (c : Collection) (a : ℕ) (r : Replica) → replica_of c a ≡ Some r → In {X = ℕ × ℕ} (a, r.place) (pairs_of c)
 replica_pair c a r h = let f = replica_in c a r h in subst (λ n. In {X = ℕ × ℕ} (n, r.place) (pairs_of c)) f.1 (in_map pair r c.replicas f.0)
 
 pub moved_corresponds : (c : Collection) (v : Value) → HasReplica c v → correspond (pairs_of c) v (moved c v) ≡ true
-moved_corresponds c Nil h = refl
-moved_corresponds c (Num n) h = eq-eqb n n refl
-moved_corresponds c (Ref a) h = subst (λ o. correspond (pairs_of c) (Ref a) (moved_name o a) ≡ true) (sym h.1) (in_paired (pairs_of c) a h.0.place (replica_pair c a h.0 h.1))
+moved_corresponds c v h = grind (arith, common_steps, eq-eqb, in_paired, replica_pair)

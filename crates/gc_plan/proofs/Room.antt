@@ -1,11 +1,11 @@
 -- Each original has one replica of its own size, so the new space has room for all.
+use Rattle.std.proofs.lemmas.Grind.{common_steps}
 use Rattle.std.proofs.Common.{◌≡◌, ◌≢◌, inl, inr, ⊎_elim, ℕ, ◌+◌, ◌-◌, ◌≤◌, ◌==◌, nat_lt, Bool, false, ◌||◌, List, [], ◌∷◌, map, length, Option, Some, None, is_some, slice_get, flat_map, sum_by, refl, ap, sym, ◌∙◌, subst, arith}
 use Rattle.std.proofs.lemmas.Bool.{cases_Bool, cond-true, cond-false, cond_both, eqb-true, eqb-false, le-ltb}
-use Rattle.std.proofs.lemmas.List.{length-map}
 use Rattle.std.proofs.lemmas.List.Sums.{sum_by-cons}
 use Rattle.gc_graph.specs.Graph.{Value, Nil, Num, Ref, Object, Graph, lookup, field_of, names_of}
-use Rattle.gc_plan.specs.State.{Replica, Collection, State, objects_end, new_free, replica_of, replica_at}
-use Rattle.gc_plan.specs.Steps.{log_at, with_log, place_replica, with_replica, copy_value, bring_value, bring_up_to_date, if_room, root_target, copy_root, next_field, scan_done, scan_replica, apply_entry, apply_log, is_ready, passes_check, collect_with, collect}
+use Rattle.gc_plan.specs.State.{Replica, Collection, State, objects_end, new_free, replica_of}
+use Rattle.gc_plan.specs.Steps.{with_log, place_replica, with_replica, copy_value, bring_value, bring_up_to_date, if_room, root_target, copy_root, next_field, scan_replica, apply_entry, apply_log, collect}
 use Rattle.gc_plan.specs.Passing.{AlwaysHasRoom}
 use Rattle.gc_plan.specs.Members.{In, Distinct}
 use Rattle.gc_plan.specs.Belonging.{Laid, IsNamed, RefersTo, IsSpaceGraph, IsDue, IsOpen, IsOpened, IsState}
@@ -36,18 +36,7 @@ others_weigh e rest (n ∷ names) absent =
 
 one_weighs : (e : ℕ × Object) (rest : List (ℕ × Object)) (names : List ℕ) → Distinct names → sum_by (weight (e ∷ rest)) names ≤ length e.1.fields + 2 + sum_by (weight rest) names
 one_weighs e rest [] d = omega arith
-one_weighs e rest (n ∷ names) d =
-    let p = sum_by-cons (weight (e ∷ rest)) n names in
-    let q = sum_by-cons (weight rest) n names in
-    ⊎_elim
-    (λ t. let x : e.0 ≡ n = eqb-true e.0 n t in
-    let here : weight (e ∷ rest) n ≡ length e.1.fields + 2 = ap weight_of (lookup_here e rest n x) in
-    let r = others_weigh e rest names (λ k. d.0 (subst (λ m. In m names) x k)) in
-    omega (arith, here, r, p, q))
-    (λ f. let here : weight (e ∷ rest) n ≡ weight rest n = ap weight_of (lookup_there e rest n (eqb-false e.0 n f)) in
-    let r = one_weighs e rest names d.1 in
-    omega (arith, here, r, p, q))
-    (cases_Bool (e.0 == n))
+one_weighs e rest (n ∷ names) d = grind (arith, common_steps, sum_by-cons, eqb-true, lookup_here, others_weigh, lookup_there, eqb-false, cases_Bool, one_weighs e rest names d.1)
 
 nothing_weighs : (names : List ℕ) → sum_by (weight []) names ≡ 0
 nothing_weighs [] = refl
@@ -56,9 +45,7 @@ nothing_weighs (n ∷ names) = let r = nothing_weighs names in omega (arith, r, 
 -- distinct objects of a space have no more words than the space
 weights_fit : (at : ℕ) (objects : List (ℕ × Object)) (end : ℕ) (names : List ℕ) → Laid at objects end → Distinct names → at + sum_by (weight objects) names ≤ end
 weights_fit at [] end names h d = let z = nothing_weighs names in let e : at ≡ end = h in omega arith
-weights_fit at (e ∷ rest) end names h d =
-    let r = weights_fit (at + (length e.1.fields + 2)) rest end names h.1 d in
-    let o = one_weighs e rest names d in omega arith
+weights_fit at (e ∷ rest) end names h d = grind (arith, common_steps, nothing_weighs, one_weighs, weights_fit (at + (length e.1.fields + 2)) rest end names h.1 d)
 
 replicas_weigh : (objects : List (ℕ × Object)) (at : ℕ) (replicas : List Replica) → ((r : Replica) → In r replicas → weight objects r.original ≡ length r.object.fields + 2) → objects_end at (map placed replicas) ≡ at + sum_by (weight objects) (map (λ r. r.original) replicas)
 replicas_weigh objects at [] h = omega arith
@@ -68,7 +55,7 @@ replicas_weigh objects at (r ∷ rest) h =
     omega (arith, here, others, sum_by-cons (weight objects) r.original (map (λ (q : Replica). q.original) rest))
 
 -- there is room for a replica of one more object
-pub room_for : (size free new_size : ℕ) (g : Graph) (Due : Bool → ℕ → ℕ → ℕ → Type 0) (replicas : List Replica) (name : ℕ) (o : Object) → IsSpaceGraph size free g → size ≤ new_size → AreReplicas g.objects new_size Due replicas → lookup g.objects name ≡ Some o → (In name (map (λ r. r.original) replicas) → ⊥)
+room_for : (size free new_size : ℕ) (g : Graph) (Due : Bool → ℕ → ℕ → ℕ → Type 0) (replicas : List Replica) (name : ℕ) (o : Object) → IsSpaceGraph size free g → size ≤ new_size → AreReplicas g.objects new_size Due replicas → lookup g.objects name ≡ Some o → (In name (map (λ r. r.original) replicas) → ⊥)
     → replicas_end replicas + (length o.fields + 2) ≤ new_size
 room_for size free new_size g Due replicas name o h larger k found new =
     let fit = weights_fit 1 g.objects (size - free) (name ∷ map (λ (r : Replica). r.original) replicas) h.laid (new, k.once) in
@@ -80,10 +67,7 @@ room_for size free new_size g Due replicas name o h larger k found new =
 
 -- all replicas together have at most as many words as the objects
 pub replicas_fit : (size free new_size : ℕ) (g : Graph) (Due : Bool → ℕ → ℕ → ℕ → Type 0) (replicas : List Replica) → IsSpaceGraph size free g → AreReplicas g.objects new_size Due replicas → replicas_end replicas ≤ size - free
-replicas_fit size free new_size g Due replicas h k =
-    let fit = weights_fit 1 g.objects (size - free) (map (λ (r : Replica). r.original) replicas) h.laid k.once in
-    let others = replicas_weigh g.objects 1 replicas (λ r l. let ok = k.each r l in ap weight_of ok.found ∙ ap (λ n. n + 2) (sym ok.len)) in
-    omega (arith, fit, others)
+replicas_fit size free new_size g Due replicas h k = grind (arith, common_steps, weights_fit, replicas_weigh)
 
 -- ---- no step lacks room
 
@@ -120,8 +104,7 @@ module _ (s : State) (h : IsSpaceGraph s.size s.heap.free s.heap.graph) where
       go (Some o) e = value o e (slice_get o.fields i) refl
 
   in_room : (reply : StepReply) (o : Option Collection) → o ≢ None → reply ≢ NoRoom → (if_room s reply o).0 ≢ NoRoom
-  in_room reply None n m = λ e. n refl
-  in_room reply (Some c) n m = m
+  in_room reply o n m = grind (arith, common_steps)
 
   copies : (c : Collection) → IsOpened s c → s.size ≤ c.size → (t : Option ℕ) → root_target c s.heap.graph ≡ t → (copy_root s c t).0 ≢ NoRoom
   copies c k same None e = λ x. cc x
@@ -155,18 +138,7 @@ module _ (s : State) (h : IsSpaceGraph s.size s.heap.free s.heap.graph) where
       (λ x. cc x)
 
   pub opened_has_room : (c : Collection) → IsOpened s c → s.collection ≡ Some c → s.size ≤ c.size → (step : Step) → (collect s step).0 ≢ NoRoom
-  opened_has_room c k is same step = subst (λ o. (collect_with s o step).0 ≢ NoRoom) (sym is) (go step)
-    where
-      go : (step : Step) → (collect_with s (Some c) step).0 ≢ NoRoom
-      go steps.Begin = λ e. cc e
-      go (steps.BeginSized size) = λ e. cc e
-      go steps.Roots = copies c k same (root_target c s.heap.graph) refl
-      go steps.Scan = cond_both (scan_done c) _ _ (λ (next : StepReply × State). next.0 ≢ NoRoom) (λ t. λ e. cc e) (λ t. scans c k same (replica_at c c.scan_place))
-      go (steps.Apply m) = applies c k same m (log_at c m)
-      go steps.Flip = cond_both (is_ready c s.heap.graph) _ _ (λ (next : StepReply × State). next.0 ≢ NoRoom)
-          (λ t. cond_both (passes_check s c) _ _ (λ (next : StepReply × State). next.0 ≢ NoRoom) (λ u. λ e. cc e) (λ u. λ e. cc e))
-          (λ t. λ e. cc e)
-      go steps.Drop = λ e. cc e
+  opened_has_room c k is same step = grind (arith, common_steps, copies, cond_both, scans, applies)
 
 pub has_room : (s : State) → IsState s → AlwaysHasRoom s
 has_room s h c is = opened_has_room s h.heap c (subst (IsOpen s) is h.collection) is

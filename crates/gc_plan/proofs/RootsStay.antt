@@ -1,24 +1,24 @@
 -- What commands and steps leave of roots. No step removes a replica: once a root's target has one, it keeps it.
-use Rattle.std.proofs.Common.{◌≡◌, ◌≢◌, ⊎_elim, inl, ℕ, zero, suc, ◌==◌, ◌+◌, ◌<◌, ◌≤◌, ◌||◌, ◌&&◌, Bool, true, false, List, [], ◌∷◌, ◌++◌, length, map, slice_get, Option, Some, None, is_some, nat_lt, refl, sym, ap, ◌∙◌, subst, arith}
-use Rattle.std.specs.Prelude.{not, IfSome, ⊤}
+use Rattle.std.proofs.lemmas.Grind.{common_steps}
+use Rattle.std.proofs.Common.{◌≡◌, ◌≢◌, ⊎_elim, ℕ, zero, suc, ◌+◌, ◌<◌, Bool, true, List, [], ◌∷◌, ◌++◌, length, map, slice_get, Option, Some, None, is_some, refl, sym, ap, ◌∙◌, arith}
+use Rattle.std.specs.Prelude.{IfSome, ⊤}
 use Rattle.std.specs.Option.{option_map}
 use Rattle.std.specs.List.{find, flat_map}
 use Rattle.std.proofs.lemmas.Bool.{cond_both, cond-true, cond-false, cases_Bool}
 use Rattle.std.proofs.lemmas.List.{length-map}
 use Rattle.gc_graph.specs.Slots.{place}
-use Rattle.gc_graph.specs.Graph.{Value, Nil, Num, Ref, Object, Graph, lookup, object_of, field_of, names_of, root, value_or_nil, set_root, add_object, new_object}
-use Rattle.gc_graph.specs.Machine.{Roomy, words_taken, step, get_field, is_number, put_field}
+use Rattle.gc_graph.specs.Graph.{Value, Nil, Ref, Object, Graph, lookup, field_of, names_of, root, value_or_nil, set_root}
+use Rattle.gc_graph.specs.Machine.{step, get_field, put_field}
 use Rattle.gc_graph.specs.declared.command.Op.{Op}
 use Rattle.gc_graph.specs.declared.command.Op.TheVariants as ops
-use Rattle.gc_graph.specs.declared.reply.Reply.{Reply}
 use Rattle.gc_graph.proofs.Public.{step_roots}
-use Rattle.gc_plan.specs.State.{Replica, Collection, State, heap_end, new_end, new_free, replica_of, replica_at, moved}
-use Rattle.gc_plan.specs.Steps.{mutate, written as written_by, logged, log_at, with_log, fresh_replica, place_replica, with_replica, write_replica, copy_value, bring_value, bring_up_to_date, if_room, first_unreplicated, root_target, copy_root, next_object, next_field, scan_replica, scan_done, apply_entry, apply_log, is_ready, passes_check, flip, step_in, collect_with, collect}
+use Rattle.gc_plan.specs.State.{Replica, Collection, State, replica_of, moved}
+use Rattle.gc_plan.specs.Steps.{mutate, logged, with_log, place_replica, with_replica, write_replica, copy_value, bring_value, if_room, first_unreplicated, root_target, copy_root, next_field, scan_replica, apply_entry, apply_log, is_ready, passes_check, flip, step_in, collect_with, collect}
 use Rattle.gc_plan.specs.Staying.{HasReplicaOf, IsMissing, KnowsRoot, root_written}
 use Rattle.gc_plan.specs.declared.step.Step.{Step}
 use Rattle.gc_plan.specs.declared.step.Step.TheVariants as steps
 use Rattle.gc_plan.specs.declared.step.StepReply.{StepReply}
-use Rattle.gc_plan.specs.declared.step.StepReply.TheVariants.{Copied, Scanned, Applied}
+use Rattle.gc_plan.specs.declared.step.StepReply.TheVariants.{Applied}
 use Rattle.gc_plan.proofs.Lists.{get_set_other}
 use Rattle.gc_plan.proofs.Replicas.{place_written}
 use Rattle.gc_plan.proofs.Steps.{unreplicated_some, unreplicated_none}
@@ -42,18 +42,13 @@ found_on p (x ∷ xs) ys e = ⊎_elim
     (cases_Bool (p x))
 
 placed : (c : Collection) (name : ℕ) (o : Option Object) → KeepsIfRoom c (place_replica c name o)
-placed c name None = tt
-placed c name (Some object) = cond_both (nat_lt (new_free c) (length object.fields + 2)) _ _ (KeepsIfRoom c) (λ t. tt)
-    (λ t. λ a e. found_on (λ (r : Replica). r.original == a) c.replicas (fresh_replica name (new_end c) object ∷ []) e)
+placed c name o = grind (arith, common_steps, cond_both, found_on)
 
 replicated : (c : Collection) (g : Graph) (v : Value) → KeepsIfRoom c (with_replica c g v)
-replicated c g Nil = λ a e. e
-replicated c g (Num n) = λ a e. e
-replicated c g (Ref name) = cond_both (is_some (replica_of c name)) _ _ (KeepsIfRoom c) (λ t. λ a e. e) (λ t. placed c name (lookup g.objects name))
+replicated c g v = grind (arith, common_steps, cond_both, placed)
 
 is_some_map : {X Y : Type 0} (f : X → Y) (o : Option X) → is_some (option_map f o) ≡ is_some o
-is_some_map f None = refl
-is_some_map f (Some x) = refl
+is_some_map f o = grind (arith, common_steps)
 
 written : (c : Collection) (name i : ℕ) (v : Value) → Keeps c (write_replica c name i v)
 written c name i v a e =
@@ -63,16 +58,13 @@ written c name i v a e =
     ∙ e
 
 copied : (c : Collection) (o : Option Collection) (name i : ℕ) (v : Value) → KeepsIfRoom c o → KeepsIfRoom c (copy_value o name i v)
-copied c None name i v k = tt
-copied c (Some d) name i v k = λ a e. written d name i (moved d v) a (k a e)
+copied c o name i v k = grind (arith, common_steps, written)
 
 brought : (c : Collection) (g : Graph) (name i : ℕ) (o : Option Value) → KeepsIfRoom c (bring_value c g name i o)
-brought c g name i None = λ a e. e
-brought c g name i (Some v) = copied c (with_replica c g v) name i v (replicated c g v)
+brought c g name i o = grind (arith, common_steps, copied, replicated)
 
 field_goes_on : (c : Collection) (o : Option Collection) → KeepsIfRoom c o → KeepsIfRoom c (next_field o)
-field_goes_on c None k = tt
-field_goes_on c (Some d) k = k
+field_goes_on c o k = grind (arith, common_steps)
 
 entry_applied : (c : Collection) (g : Graph) (entry : ℕ × ℕ) → KeepsIfRoom c (apply_entry c g entry)
 entry_applied c g entry = cond_both (is_some (replica_of c entry.0)) _ _ (KeepsIfRoom c) (λ t. brought c g entry.0 entry.1 (field_of (lookup g.objects entry.0) entry.1)) (λ t. λ a e. e)
@@ -80,27 +72,20 @@ entry_applied c g entry = cond_both (is_some (replica_of c entry.0)) _ _ (KeepsI
 -- ---- a root's target
 
 value_stays : (c next : Collection) (v : Value) → Keeps c next → HasReplicaOf c v → HasReplicaOf next v
-value_stays c next Nil keeps h = tt
-value_stays c next (Num n) keeps h = tt
-value_stays c next (Ref name) keeps h = keeps name h
+value_stays c next v keeps h = grind (arith, common_steps)
 
 module _ (p : ℕ) where
   abbrev Knows : StepReply × State → Type 0
   Knows next = KnowsRoot next.1 p
 
   if_room_stays : (s : State) (c : Collection) (reply : StepReply) (o : Option Collection) → KnowsRoot s p → HasReplicaOf c (root s.heap.graph p) → KeepsIfRoom c o → Knows (if_room s reply o)
-  if_room_stays s c reply None known has k = known
-  if_room_stays s c reply (Some next) known has k = value_stays c next (root s.heap.graph p) k has
+  if_room_stays s c reply o known has k = grind (arith, common_steps, value_stays)
 
   root_stays : (s : State) (c : Collection) (t : Option ℕ) → KnowsRoot s p → HasReplicaOf c (root s.heap.graph p) → Knows (copy_root s c t)
-  root_stays s c None known has = known
-  root_stays s c (Some name) known has = if_room_stays s c Copied (place_replica c name (lookup s.heap.graph.objects name)) known has (placed c name (lookup s.heap.graph.objects name))
+  root_stays s c t known has = grind (arith, common_steps, if_room_stays, placed)
 
   replica_stays : (s : State) (c : Collection) (r : Option Replica) → KnowsRoot s p → HasReplicaOf c (root s.heap.graph p) → Knows (scan_replica s c r)
-  replica_stays s c None known has = known
-  replica_stays s c (Some r) known has = cond_both (r.object.raw || (c.scan_field == length r.object.fields)) _ _ Knows (λ t. value_stays c (next_object c r) (root s.heap.graph p) (λ a e. e) has)
-      (λ t. if_room_stays s c Scanned (next_field (bring_up_to_date c s.heap.graph r.original c.scan_field)) known has
-      (field_goes_on c (bring_up_to_date c s.heap.graph r.original c.scan_field) (brought c s.heap.graph r.original c.scan_field (field_of (lookup s.heap.graph.objects r.original) c.scan_field))))
+  replica_stays s c r known has = grind (arith, common_steps, cond_both, value_stays, if_room_stays, field_goes_on, brought)
 
   log_stays : (s : State) (c : Collection) (m : ℕ) (log : List (ℕ × ℕ)) → KnowsRoot s p → HasReplicaOf c (root s.heap.graph p) → Knows (apply_log s c m log)
   log_stays s c m [] known has = known
@@ -110,17 +95,10 @@ module _ (p : ℕ) where
   flip_stays s c known = cond_both (is_ready c s.heap.graph) _ _ Knows (λ t. cond_both (passes_check s c) _ _ Knows (λ u. tt) (λ u. known)) (λ t. known)
 
   step_stays : (s : State) (c : Collection) (step : Step) → KnowsRoot s p → HasReplicaOf c (root s.heap.graph p) → Knows (step_in s c step)
-  step_stays s c steps.Begin known has = known
-  step_stays s c (steps.BeginSized size) known has = known
-  step_stays s c steps.Roots known has = root_stays s c (root_target c s.heap.graph) known has
-  step_stays s c steps.Scan known has = cond_both (scan_done c) _ _ Knows (λ t. known) (λ t. replica_stays s c (replica_at c c.scan_place) known has)
-  step_stays s c (steps.Apply m) known has = log_stays s c m (log_at c m) known has
-  step_stays s c steps.Flip known has = flip_stays s c known
-  step_stays s c steps.Drop known has = tt
+  step_stays s c step known has = grind (arith, common_steps, root_stays, cond_both, replica_stays, log_stays, flip_stays)
 
   pub collect_stays : (s : State) (c : Collection) (step : Step) → s.collection ≡ Some c → KnowsRoot s p → KnowsRoot (collect s step).1 p
-  collect_stays s c step is known = subst (λ o. Knows (collect_with s o step)) (sym is)
-      (step_stays s c step known (subst (λ o. IfSome o (λ d. HasReplicaOf d (root s.heap.graph p))) is known))
+  collect_stays s c step is known = grind (arith, common_steps, step_stays)
 
 -- ---- commands
 
@@ -128,52 +106,29 @@ set_elsewhere : (g : Graph) (q p : ℕ) (v : Value) → Some q ≢ Some p → ro
 set_elsewhere g q p v other = ap value_or_nil (get_set_other g.roots q p v (λ e. other (ap Some (sym e))))
 
 got_elsewhere : (g : Graph) (q p : ℕ) (o : Option Object) (v : Option Value) → Some q ≢ Some p → root (get_field g q o v).1 p ≡ root g p
-got_elsewhere g q p None v other = refl
-got_elsewhere g q p (Some o) None other = refl
-got_elsewhere g q p (Some o) (Some v) other = set_elsewhere g q p v other
+got_elsewhere g q p o v other = grind (arith, common_steps, set_elsewhere)
 
 put_nowhere : (g : Graph) (p : ℕ) (target : Value) (o : Option Object) (found : Option Value) (i : ℕ) (v : Value) → root (put_field g target o found i v).1 p ≡ root g p
-put_nowhere g p Nil o found i v = refl
-put_nowhere g p (Num n) o found i v = refl
-put_nowhere g p (Ref name) None found i v = refl
-put_nowhere g p (Ref name) (Some o) None i v = refl
-put_nowhere g p (Ref name) (Some o) (Some before) i v = cond_both (o.raw && not (is_number v)) _ _ (λ (x : Reply × Graph). root x.1 p ≡ root g p) (λ t. refl) (λ t. refl)
+put_nowhere g p target o found i v = grind (arith, common_steps, cond_both)
 
 stepped_elsewhere : (g : Graph) (m : ℕ) (op : Op) (name p : ℕ) → root_written m op ≢ Some p → root (step g m op name).1 p ≡ root g p
-stepped_elsewhere g m (ops.New d kind len) name p other = set_elsewhere (add_object g name (new_object false kind len)) (place d m) p (Ref name) other
-stepped_elsewhere g m (ops.NewRaw d kind len) name p other = set_elsewhere (add_object g name (new_object true kind len)) (place d m) p (Ref name) other
-stepped_elsewhere g m (ops.Num d n) name p other = set_elsewhere g (place d m) p (Num n) other
-stepped_elsewhere g m (ops.Nil d) name p other = set_elsewhere g (place d m) p Nil other
-stepped_elsewhere g m (ops.Move d s) name p other = set_elsewhere g (place d m) p (root g (place s m)) other
-stepped_elsewhere g m (ops.Get d s i) name p other = (let o : Option Object = object_of g.objects (root g (place s m)) in got_elsewhere g (place d m) p o (field_of o i) other)
-stepped_elsewhere g m (ops.Put s i t) name p other = (let o : Option Object = object_of g.objects (root g (place s m)) in put_nowhere g p (root g (place s m)) o (field_of o i) i (root g (place t m)))
-stepped_elsewhere g m (ops.Same s t) name p other = refl
-stepped_elsewhere g m (ops.Look s) name p other = refl
+stepped_elsewhere g m op name p other = grind (arith, common_steps, set_elsewhere, got_elsewhere, put_nowhere)
 
 -- a command leaves every root that it does not write
 pub root_kept : (s : State) (m : ℕ) (op : Op) (p : ℕ) → root_written m op ≢ Some p → root (mutate s m op).1.heap.graph p ≡ root s.heap.graph p
-root_kept s m op p other =
-    cond_both (nat_lt s.heap.free (words_taken op)) _ _ (λ (x : Reply × Roomy). root x.1.graph p ≡ root s.heap.graph p)
-    (λ t. refl) (λ t. stepped_elsewhere s.heap.graph m op (heap_end s) p other)
+root_kept s m op p other = grind (arith, common_steps, cond_both, stepped_elsewhere)
 
 pub roots_counted : (s : State) (m : ℕ) (op : Op) → length (mutate s m op).1.heap.graph.roots ≡ length s.heap.graph.roots
-roots_counted s m op =
-    cond_both (nat_lt s.heap.free (words_taken op)) _ _ (λ (x : Reply × Roomy). length x.1.graph.roots ≡ length s.heap.graph.roots)
-    (λ t. refl) (λ t. step_roots s.heap.graph m op (heap_end s))
+roots_counted s m op = grind (arith, common_steps, cond_both, step_roots)
 
 same_replicas : (c : Collection) (m : ℕ) (entries : List (ℕ × ℕ)) (v : Value) → HasReplicaOf c v → HasReplicaOf (with_log c m entries) v
-same_replicas c m entries Nil h = tt
-same_replicas c m entries (Num n) h = tt
-same_replicas c m entries (Ref name) h = h
+same_replicas c m entries v h = grind (arith, common_steps)
 
 logged_knows : (o : Option Collection) (m : ℕ) (entries : List (ℕ × ℕ)) (v : Value) → IfSome o (λ c. HasReplicaOf c v) → IfSome (logged o m entries) (λ c. HasReplicaOf c v)
-logged_knows None m entries v h = tt
-logged_knows (Some c) m entries v h = same_replicas c m (log_at c m ++ entries) v h
+logged_knows o m entries v h = grind (arith, common_steps, same_replicas)
 
 pub mutate_stays : (s : State) (m : ℕ) (op : Op) (p : ℕ) → root_written m op ≢ Some p → KnowsRoot s p → KnowsRoot (mutate s m op).1 p
-mutate_stays s m op p other known =
-    logged_knows s.collection m (written_by s.heap.graph m op (mutate s m op).0) (root (mutate s m op).1.heap.graph p)
-    (subst (λ v. IfSome s.collection (λ c. HasReplicaOf c v)) (sym (root_kept s m op p other)) known)
+mutate_stays s m op p other known = grind (arith, common_steps, logged_knows, root_kept)
 
 -- ---- steps
 
@@ -194,11 +149,7 @@ pub flip_nil : (s : State) (p : ℕ) → root s.heap.graph p ≡ Nil → root (c
 flip_nil s p e = flip_keeps_nil s s.collection p e
 
 flip_keeps_count : (s : State) (o : Option Collection) → length (collect_with s o steps.Flip).1.heap.graph.roots ≡ length s.heap.graph.roots
-flip_keeps_count s None = refl
-flip_keeps_count s (Some c) =
-    cond_both (is_ready c s.heap.graph) _ _ (λ (next : StepReply × State). length next.1.heap.graph.roots ≡ length s.heap.graph.roots)
-    (λ t. cond_both (passes_check s c) _ _ (λ (next : StepReply × State). length next.1.heap.graph.roots ≡ length s.heap.graph.roots) (λ u. length-map s.heap.graph.roots (moved c)) (λ u. refl))
-    (λ t. refl)
+flip_keeps_count s o = grind (arith, common_steps, cond_both, length-map)
 
 pub flip_count : (s : State) → length (collect s steps.Flip).1.heap.graph.roots ≡ length s.heap.graph.roots
 flip_count s = flip_keeps_count s s.collection
@@ -209,14 +160,10 @@ abbrev AllHave : Collection → List Value → ℕ → Type 0
 AllHave c vs n = (p : ℕ) → p < n → HasReplicaOf c (value_or_nil (slice_get vs p))
 
 skip : (c : Collection) (v : Value) (names : List ℕ) → HasReplicaOf c v → first_unreplicated c (names_of v ++ names) ≡ first_unreplicated c names
-skip c Nil names h = refl
-skip c (Num n) names h = refl
-skip c (Ref name) names h = cond-true (is_some (replica_of c name)) (first_unreplicated c names) (Some name) h
+skip c v names h = grind (arith, common_steps, cond-true)
 
 stop : (c : Collection) (v : Value) (name : ℕ) (names : List ℕ) → v ≡ Ref name → replica_of c name ≡ None → first_unreplicated c (names_of v ++ names) ≡ Some name
-stop c v name names is none =
-    ap (λ u. first_unreplicated c (names_of u ++ names)) is
-    ∙ cond-false (is_some (replica_of c name)) (first_unreplicated c names) (Some name) (ap is_some none)
+stop c v name names is none = grind (arith, common_steps, cond-false)
 
 first_found : (c : Collection) (vs : List Value) (place name : ℕ) → AllHave c vs place → value_or_nil (slice_get vs place) ≡ Ref name → replica_of c name ≡ None → first_unreplicated c (flat_map names_of vs) ≡ Some name
 first_found c [] place name all is none = absurd cc
@@ -235,15 +182,7 @@ all_replicated c g all = none_found c g.roots all
 
 -- a value whose target has no replica
 pub is_missing : (c : Collection) (v : Value) (name : ℕ) → first_unreplicated c (names_of v) ≡ Some name → (v ≡ Ref name) × (replica_of c name ≡ None)
-is_missing c Nil name e = absurd cc
-is_missing c (Num n) name e = absurd cc
-is_missing c (Ref a) name e =
-    let one = unreplicated_some c (a ∷ []) name e in
-    ⊎_elim (λ same. (ap Ref same, one.0)) (λ no. absurd no) one.1
+is_missing c v name e = grind (arith, common_steps, unreplicated_some)
 
 pub is_replicated : (c : Collection) (v : Value) → first_unreplicated c (names_of v) ≡ None → HasReplicaOf c v
-is_replicated c Nil e = tt
-is_replicated c (Num n) e = tt
-is_replicated c (Ref a) e =
-    let r = unreplicated_none c (a ∷ []) a e (inl refl) in
-    ap is_some r.1
+is_replicated c v e = grind (arith, common_steps, unreplicated_none)

@@ -1,5 +1,6 @@
 -- The public laws, for one state and for every run.
-use Rattle.std.proofs.Common.{◌||◌, ◌≡◌, ◌≢◌, ◌⊎◌, inl, inr, ⊎_elim, ℕ, ◌+◌, ◌-◌, ◌*◌, ◌<◌, ◌≤◌, ◌==◌, true, false, nat_lt, List, [], ◌∷◌, ◌++◌, map, length, Option, Some, None, ◌↔◌, refl, ap, sym, ◌∙◌, subst, arith}
+use Rattle.std.proofs.lemmas.Grind.{common_steps}
+use Rattle.std.proofs.Common.{◌≡◌, ◌≢◌, ◌⊎◌, inl, inr, ⊎_elim, ℕ, ◌+◌, ◌-◌, ◌*◌, ◌<◌, ◌≤◌, true, false, nat_lt, List, [], ◌∷◌, ◌++◌, length, Option, Some, ◌↔◌, refl, ap, sym, ◌∙◌, subst, arith}
 use Rattle.std.proofs.lemmas.Bool.{cases_Bool, cond-true, cond-false, cond_both, eqb-false, ltb-false}
 use Rattle.std.proofs.lemmas.List.{length-map}
 use Rattle.gc_graph.specs.Graph.{Object, Graph}
@@ -11,7 +12,7 @@ use Rattle.gc_plan.specs.Linked.{linked_image}
 use Rattle.gc_plan.specs.Passing.{HasImage, PassesWhereReady, NeverRefused, ScansToTheEnd, HasFewPairs}
 use Rattle.gc_plan.specs.Runs.{InEveryRun, state_after}
 use Rattle.gc_plan.specs.State.{opening_state, Replica, Collection, State, new_end, replica_at}
-use Rattle.gc_plan.specs.Steps.{collect, written, log_at, with_log, bring_up_to_date, next_field, if_room, scan_done, scan, scan_replica, collect_with}
+use Rattle.gc_plan.specs.Steps.{collect, written, log_at, with_log, if_room, scan_done, scan, scan_replica, collect_with}
 use Rattle.gc_plan.specs.Members.{In}
 use Rattle.gc_plan.specs.Belonging.{Laid, IsSpaceGraph, HasField, Belongs, BelongsBut, IsDue, IsOpen, IsOpened, IsState}
 use Rattle.gc_graph.specs.declared.command.Op.{Op}
@@ -34,18 +35,13 @@ pub in_runs : (P : State → Type 0) → ((s : State) → IsState s → P s) →
 in_runs P f size mutators events low high r = f (state_after (opening_state size mutators) events) (run_ok size mutators events low high r)
 
 pub roomy_back : (links : ℕ → ℕ) (size free : ℕ) (g : Graph) → IsSpaceGraph size free g → roomy_of (linked_image links size g) ≡ record { graph = g; free = free }
-roomy_back links size free g h =
-    let e : size - (linked_image links size g).end ≡ free = let x = end_is links size free g h in let y = h.room in omega (arith, x) in
-    let back = graph_back links size free g h in
-    λ i. record { graph = back i; free = e i }
+roomy_back links size free g h = grind (arith, common_steps, end_is, graph_back)
 
 pub has_image : (s : State) → IsState s → HasImage s
 has_image s h = record { shaped = image_shaped no_links s.size s.heap.free s.heap.graph h.heap; roomy = roomy_back no_links s.size s.heap.free s.heap.graph h.heap }
 
 pub passes_where_ready : (s : State) → IsState s → PassesWhereReady s
-passes_where_ready s h c is ready =
-    let k : IsOpened s c = subst (IsOpen s) is h.collection in
-    record { certified = certified no_links no_links s.size s.heap.free s.heap.graph c h.heap k.belongs k.size (ready_parts c s.heap.graph ready); flips = ap (λ o. collect_with s o steps.Flip) is ∙ flips s c h.heap k ready }
+passes_where_ready s h c is ready = grind (arith, common_steps, certified, ready_parts, flips)
 
 pub never_refused : (s : State) → IsState s → NeverRefused s
 never_refused s h step = not_refused s step h
@@ -53,13 +49,10 @@ never_refused s h step = not_refused s step h
 -- ---- scanning and pairs
 
 room_unclean : (s : State) (o : Option Collection) → (if_room s Scanned o).0 ≢ Clean
-room_unclean s None = λ e. cc e
-room_unclean s (Some d) = λ e. cc e
+room_unclean s o = grind (arith, common_steps)
 
 scan_unclean : (s : State) (c : Collection) (r : Replica) → (scan_replica s c (Some r)).0 ≢ Clean
-scan_unclean s c r = cond_both (r.object.raw || (c.scan_field == length r.object.fields)) _ _ (λ (next : StepReply × State). next.0 ≢ Clean)
-    (λ t. λ e. cc e)
-    (λ t. room_unclean s (next_field (bring_up_to_date c s.heap.graph r.original c.scan_field)))
+scan_unclean s c r = grind (arith, common_steps, cond_both, room_unclean)
 
 pub scans_to_the_end : (s : State) → IsState s → ScansToTheEnd s
 scans_to_the_end s h c is = subst (λ o. ((collect_with s o steps.Scan).0 ≡ Clean) ↔ (scan_done c ≡ true)) (sym is)
@@ -86,11 +79,7 @@ two_words at [] end h = let e : at ≡ end = h in omega arith
 two_words at (e ∷ rest) end h = let r = two_words (at + (length e.1.fields + 2)) rest end h.1 in omega arith
 
 pub has_few_pairs : (s : State) → IsState s → HasFewPairs s
-has_few_pairs s h c is =
-    let k : IsOpened s c = subst (IsOpen s) is h.collection in
-    let t = two_words 1 (map placed c.replicas) (replicas_end c.replicas) (k.belongs).laid in
-    let room = (k.belongs).room in
-    omega (arith, t, length-map c.replicas placed, length-map c.replicas pair)
+has_few_pairs s h c is = grind (arith, common_steps, two_words, placed, replicas_end, length-map, pair)
 
 -- ---- commands and notes
 

@@ -1,5 +1,6 @@
 -- Each event keeps the heap well formed and the collection belonging to it.
-use Rattle.std.proofs.Common.{◌≡◌, ◌≢◌, ◌⊎◌, inl, inr, ⊎_elim, ℕ, zero, suc, ◌+◌, ◌-◌, ◌<◌, ◌≤◌, ◌==◌, nat_lt, Bool, true, false, cond, ◌&&◌, ◌||◌, List, [], ◌∷◌, ◌++◌, map, length, set, replicate, Option, Some, None, is_some, slice_get, flat_map, refl, ap, sym, ◌∙◌, subst, arith, length-set}
+use Rattle.std.proofs.lemmas.Grind.{common_steps}
+use Rattle.std.proofs.Common.{◌≡◌, ◌≢◌, ◌⊎◌, inl, inr, ⊎_elim, ℕ, zero, suc, ◌+◌, ◌-◌, ◌<◌, ◌≤◌, ◌==◌, nat_lt, Bool, true, false, cond, ◌||◌, List, [], ◌∷◌, ◌++◌, map, length, set, replicate, Option, Some, None, is_some, slice_get, flat_map, refl, ap, sym, ◌∙◌, subst, arith, length-set}
 use Rattle.std.specs.List.{list_all}
 use Rattle.std.proofs.lemmas.Bool.{cases_Bool, cases_eq, cases_lt, cond-true, cond-false, cond_both, eqb-true, eqb-false, ltb-false, and_parts, or_cases, or_parts, not-true}
 use Rattle.std.proofs.lemmas.List.{length-replicate, length-map, map-append}
@@ -49,12 +50,7 @@ due_at_end objects c h a i = inl (
 )
 
 due_same : (c next : Collection) (raw : Bool) (p a i : ℕ) → next.logs ≡ c.logs → next.scan_place ≡ c.scan_place → next.scan_field ≡ c.scan_field → IsDue c raw p a i → IsDue next raw p a i
-due_same c next raw p a i e f g (inl (n, inl u)) = inl (n, inl (omega arith))
-due_same c next raw p a i e f g (inl (n, inr u)) = let x = u.0 in let y = u.1 in inl (n, inr ((omega arith), (omega arith)))
-due_same c next raw p a i e f g (inr d) = inr (logged_same c next a i e d)
-  where
-    logged_same : (c next : Collection) (a i : ℕ) → next.logs ≡ c.logs → IsLogged c a i → IsLogged next a i
-    logged_same c next a i e d = (d.0, subst (λ (l : List (List (ℕ × ℕ))). In {X = ℕ × ℕ} (a, i) (log_or_nil (slice_get l d.0))) (sym e) d.1)
+due_same c next raw p a i e f g h = grind (arith, common_steps)
 
 -- ---- more replicas
 
@@ -78,7 +74,7 @@ no_replica c name r none k e = let f = find_none (λ (s : Replica). s.original =
 pub unnamed : (c : Collection) (name : ℕ) → replica_of c name ≡ None → In name (map (λ r. r.original) c.replicas) → ⊥
 unnamed c name none k = let r = in_map_from (λ (r : Replica). r.original) name c.replicas k in no_replica c name r.0 none r.1 r.2
 
-placing : (objects : List (ℕ × Object)) (c : Collection) (Due : Bool → ℕ → ℕ → ℕ → Type 0) (name : ℕ) (next : Collection)
+pub placing : (objects : List (ℕ × Object)) (c : Collection) (Due : Bool → ℕ → ℕ → ℕ → Type 0) (name : ℕ) (next : Collection)
     → HasRawNumbers objects → AreReplicas objects c.size Due c.replicas → replica_of c name ≡ None → ((a i : ℕ) → Due false (replicas_end c.replicas) a i) → place_replica c name (lookup objects name) ≡ Some next
     → Grown objects c Due next × HasReplica next (Ref name)
 placing objects c Due name next numbers h none due is = go (lookup objects name) refl is
@@ -127,17 +123,14 @@ replicating g c Due (Ref a) next numbers h due is = go (is_some (replica_of c a)
     go false f k = placing g.objects c Due a next numbers h (none_of (replica_of c a) f) due k
 
 field_there : (o : Option Object) (i : ℕ) (v : Value) → field_of o i ≡ Some v → (object : Object) × (o ≡ Some object) × (slice_get object.fields i ≡ Some v)
-field_there None i v h = absurd cc
-field_there (Some o) i v h = (o, refl, h)
+field_there o i v h = grind (arith, common_steps)
 
 -- writing a replica keeps the scan pointer at a replica
 scan_written : (name i : ℕ) (w : Value) (c : Collection) (place field : ℕ) → replicas_end (map (with_written name i w) c.replicas) ≡ replicas_end c.replicas → IsScanPlace place field c → IsScanPlace place field (write_replica c name i w)
-scan_written name i w c place field ends (inl s) =
-    inl (with_written name i w s.0, in_map (with_written name i w) s.0 c.replicas s.1, ap (λ (p : ℕ × ℕ). p.1) (with_written_pair name i w s.0) ∙ s.2, (let l = with_written_length name i w s.0 in let k = s.3 in omega arith))
-scan_written name i w c place field ends (inr s) = inr (s.0 ∙ sym ends, s.1)
+scan_written name i w c place field ends h = grind (arith, common_steps, in_map, with_written_pair, with_written_length)
 
 -- a field that is up to date is no longer due
-bringing : (g : Graph) (c : Collection) (Due Due' : Bool → ℕ → ℕ → ℕ → Type 0) (name i : ℕ) (next : Collection)
+pub bringing : (g : Graph) (c : Collection) (Due Due' : Bool → ℕ → ℕ → ℕ → Type 0) (name i : ℕ) (next : Collection)
     → HasRawNumbers g.objects → AreReplicas g.objects c.size Due c.replicas → ((a j : ℕ) → Due false (replicas_end c.replicas) a j)
     → ((raw : Bool) (p a j : ℕ) → Due raw p a j → ((a ≡ name) × (j ≡ i)) ⊎ Due' raw p a j)
     → bring_up_to_date c g name i ≡ Some next
@@ -192,12 +185,10 @@ grown_open s c next same count scan entries numbers h = record {
 
 -- the state stays well formed with another collection that belongs to it
 still_state : (s : State) (o : Option Collection) → IsState s → IsOpen s o → IsState (with_collection s o)
-still_state s None h k = record { heap = h.heap; numbers = h.numbers; roots = h.roots; collection = tt }
-still_state s (Some c) h k = record { heap = h.heap; numbers = h.numbers; roots = h.roots; collection = record { belongs = k.belongs; size = k.size; logs = k.logs } }
+still_state s o h k = grind (arith, common_steps)
 
 room_keeps : (s : State) (reply : StepReply) (o : Option Collection) → IsOpen s s.collection → ((c : Collection) → o ≡ Some c → IsOpened s c) → IsOpen s (if_room s reply o).1.collection
-room_keeps s reply None h f = h
-room_keeps s reply (Some c) h f = f c refl
+room_keeps s reply o h f = grind (arith, common_steps)
 
 pub unreplicated_some : (c : Collection) (names : List ℕ) (name : ℕ) → first_unreplicated c names ≡ Some name → (replica_of c name ≡ None) × In name names
 unreplicated_some c [] name h = absurd cc
@@ -280,10 +271,7 @@ abbrev But : (Bool → ℕ → ℕ → ℕ → Type 0) → ℕ → ℕ → Bool 
 But Due name i raw p a j = Due raw p a j × ((a ≡ name) × (j ≡ i) → ⊥)
 
 but_less : (Due : Bool → ℕ → ℕ → ℕ → Type 0) (name i : ℕ) (raw : Bool) (p a j : ℕ) → Due raw p a j → ((a ≡ name) × (j ≡ i)) ⊎ But Due name i raw p a j
-but_less Due name i raw p a j d = ⊎_elim
-    (λ x. ⊎_elim (λ y. inl (x, y)) (λ y. inr (d, (λ z. y z.1))) (cases_eq j i))
-    (λ x. inr (d, (λ z. x z.0)))
-    (cases_eq a name)
+but_less Due name i raw p a j d = grind (arith, common_steps, cases_eq)
 
 scanned_open : (s : State) (c : Collection) (r : Replica) (next : Option Collection) (d : Collection) → IsOpened s c → In r c.replicas → r.place ≡ c.scan_place → c.scan_field ≢ length r.object.fields
     → bring_up_to_date c s.heap.graph r.original c.scan_field ≡ next → next_field next ≡ Some d → IsOpened s d
@@ -353,28 +341,11 @@ scan_keeps s c h k = cond_both (scan_done c) _ _ (λ (next : StepReply × State)
 -- an entry of the logs is the one taken out, or still in a log
 entry_out : (logs : List (List (ℕ × ℕ))) (m : ℕ) (entry : ℕ × ℕ) (rest : List (ℕ × ℕ)) (a j k : ℕ) → log_or_nil (slice_get logs m) ≡ entry ∷ rest → In {X = ℕ × ℕ} (a, j) (log_or_nil (slice_get logs k))
     → ((a ≡ entry.0) × (j ≡ entry.1)) ⊎ In {X = ℕ × ℕ} (a, j) (log_or_nil (slice_get (set logs m rest) k))
-entry_out logs m entry rest a j k is d = ⊎_elim
-    (λ e. ⊎_elim
-    (λ x. inl (ap (λ (p : ℕ × ℕ). p.0) (sym x), ap (λ (p : ℕ × ℕ). p.1) (sym x)))
-    (λ x. inr (subst (λ n. In {X = ℕ × ℕ} (a, j) (log_or_nil (slice_get (set logs m rest) n))) (sym e) (subst (λ o. In {X = ℕ × ℕ} (a, j) (log_or_nil o)) (sym (get_set_same logs m rest (there (slice_get logs m) refl is))) x)))
-    (subst (In {X = ℕ × ℕ} (a, j)) (ap (λ n. log_or_nil (slice_get logs n)) e ∙ is) d))
-    (λ n. inr (subst (λ o. In {X = ℕ × ℕ} (a, j) (log_or_nil o)) (sym (get_set_other logs m k rest n)) d))
-    (cases_eq k m)
-  where
-    there : (o : Option (List (ℕ × ℕ))) → slice_get logs m ≡ o → log_or_nil o ≡ entry ∷ rest → m < length logs
-    there None e f = absurd cc
-    there (Some l) e f = get_past logs m l e
+entry_out logs m entry rest a j k is d = grind (arith, common_steps, get_set_same, get_set_other, cases_eq, get_past)
 
 -- every entry that is left was there before
 entry_was : (logs : List (List (ℕ × ℕ))) (m : ℕ) (entry : ℕ × ℕ) (rest : List (ℕ × ℕ)) (p : ℕ × ℕ) (k : ℕ) → log_or_nil (slice_get logs m) ≡ entry ∷ rest → In p (log_or_nil (slice_get (set logs m rest) k)) → In p (log_or_nil (slice_get logs k))
-entry_was logs m entry rest p k is d = ⊎_elim
-    (λ e. subst (λ n. In p (log_or_nil (slice_get logs n))) (sym e) (subst (In p) (sym is) (inr (subst (λ o. In p (log_or_nil o)) (get_set_same logs m rest (there (slice_get logs m) refl is)) (subst (λ n. In p (log_or_nil (slice_get (set logs m rest) n))) e d)))))
-    (λ n. subst (λ o. In p (log_or_nil o)) (get_set_other logs m k rest n) d)
-    (cases_eq k m)
-  where
-    there : (o : Option (List (ℕ × ℕ))) → slice_get logs m ≡ o → log_or_nil o ≡ entry ∷ rest → m < length logs
-    there None e f = absurd cc
-    there (Some l) e f = get_past logs m l e
+entry_was logs m entry rest p k is d = grind (arith, common_steps, get_set_same, get_set_other, cases_eq, get_past)
 
 applied_open : (s : State) (c : Collection) (m : ℕ) (entry : ℕ × ℕ) (rest : List (ℕ × ℕ)) (d : Collection) → IsOpened s c → log_at c m ≡ entry ∷ rest
     → apply_entry (with_log c m rest) s.heap.graph entry ≡ Some d → IsOpened s d
@@ -437,10 +408,7 @@ pub record IsReady (g : Graph) (c : Collection) : Type 0 where
   pub roots : roots_done c g ≡ true
 
 pub ready_parts : (c : Collection) (g : Graph) → is_ready c g ≡ true → IsReady g c
-ready_parts c g h =
-    let p = and_parts (list_all is_empty c.logs && scan_done c) (roots_done c g) h in
-    let q = and_parts (list_all is_empty c.logs) (scan_done c) p.0 in
-    record { logs = q.0; scan = eqb-true c.scan_place (new_end c) q.1; roots = p.1 }
+ready_parts c g h = grind (arith, common_steps, and_parts, eqb-true)
 
 -- nothing is due in a ready collection
 pub none_due : (objects : List (ℕ × Object)) (g : Graph) (c : Collection) (r : Replica) (i : ℕ) → Belongs objects c → IsReady g c → In r c.replicas → IsDue c r.object.raw r.place r.original i → ⊥
@@ -476,11 +444,7 @@ replica_refers size free g c h k ready r l w x =
 
 -- a value that corresponds to a number is a number
 number_corresponding : (pairs : List (ℕ × ℕ)) (v w : Value) → is_number v ≡ true → correspond pairs v w ≡ true → is_number w ≡ true
-number_corresponding pairs Nil w n h = absurd cc
-number_corresponding pairs (Num a) Nil n h = absurd cc
-number_corresponding pairs (Num a) (Num b) n h = refl
-number_corresponding pairs (Num a) (Ref b) n h = absurd cc
-number_corresponding pairs (Ref a) w n h = absurd cc
+number_corresponding pairs v w n h = grind (arith, common_steps)
 
 pub new_small : (g : Graph) (c : Collection) → HasSmallNumbers g → Belongs g.objects c → IsReady g c → HasSmallNumbers (new_graph c g.roots)
 new_small g c h k ready = record {
@@ -535,73 +499,33 @@ logged_none (suc m) a i zero x = x
 logged_none (suc m) a i (suc k) x = logged_none m a i k x
 
 pub begun_belongs : (objects : List (ℕ × Object)) (mutators size : ℕ) → HasRawNumbers objects → 1 ≤ size → Belongs objects (fresh_collection mutators size)
-begun_belongs objects mutators size numbers low = record {
-  laid = refl;
-  room = low;
-  once = tt;
-  replicas = λ r k. absurd k;
-  scan = inr (refl, refl);
-  entries = λ a i x. absurd (logged_none mutators a i x.0 x.1);
-  numbers = numbers;
-}
+begun_belongs objects mutators size numbers low = grind (arith, common_steps, logged_none)
 
 fresh_open : (s : State) (size : ℕ) → HasRawNumbers s.heap.graph.objects → 1 ≤ size → size ≤ 4294967295 → IsOpened s (fresh_collection s.mutators size)
 fresh_open s size numbers low high = record { belongs = begun_belongs s.heap.graph.objects s.mutators size numbers low; size = high; logs = length-replicate s.mutators [] }
 
 -- a step of an open collection keeps it belonging to the heap
 pub open_keeps : (s : State) (c : Collection) (step : Step) → s.collection ≡ Some c → IsOpened s c → step ≢ steps.Flip → IsOpen s (step_in s c step).1.collection
-open_keeps s c step is k other = go step other
-  where
-    h : IsOpen s s.collection
-    h = subst (IsOpen s) (sym is) k
-
-    go : (step : Step) → step ≢ steps.Flip → IsOpen s (step_in s c step).1.collection
-    go steps.Begin n = h
-    go (steps.BeginSized size) n = h
-    go steps.Roots n = roots_keep s c h k
-    go steps.Scan n = scan_keeps s c h k
-    go (steps.Apply m) n = apply_keeps s c m h k
-    go steps.Flip n = absurd (n refl)
-    go steps.Drop n = tt
+open_keeps s c step is k other = grind (arith, common_steps, roots_keep, scan_keeps, apply_keeps)
 
 -- a step other than a flip changes only the collection
 abbrev Stays : State → StepReply × State → Type 0
 Stays s next = next.1 ≡ with_collection s next.1.collection
 
 room_stays : (s : State) (reply : StepReply) (o : Option Collection) → Stays s (if_room s reply o)
-room_stays s reply None = refl
-room_stays s reply (Some c) = refl
+room_stays s reply o = grind (arith, common_steps)
 
 roots_stay : (s : State) (c : Collection) (t : Option ℕ) → Stays s (copy_root s c t)
-roots_stay s c None = refl
-roots_stay s c (Some name) = room_stays s Copied _
+roots_stay s c t = grind (arith, common_steps, room_stays)
 
 replica_stays : (s : State) (c : Collection) (t : Option Replica) → Stays s (scan_replica s c t)
-replica_stays s c None = refl
-replica_stays s c (Some r) = cond_both (r.object.raw || (c.scan_field == length r.object.fields)) _ _ (Stays s) (λ t. refl) (λ t. room_stays s Scanned _)
+replica_stays s c t = grind (arith, common_steps, cond_both, room_stays)
 
 log_stays : (s : State) (c : Collection) (m : ℕ) (l : List (ℕ × ℕ)) → Stays s (apply_log s c m l)
-log_stays s c m [] = refl
-log_stays s c m (entry ∷ rest) = room_stays s Applied _
+log_stays s c m l = grind (arith, common_steps, room_stays)
 
 pub steps_stay : (s : State) (step : Step) → step ≢ steps.Flip → Stays s (collect s step)
-steps_stay s step other = go s.collection step other
-  where
-    go : (o : Option Collection) (step : Step) → step ≢ steps.Flip → Stays s (collect_with s o step)
-    go None steps.Begin n = refl
-    go None (steps.BeginSized size) n = refl
-    go None steps.Roots n = refl
-    go None steps.Scan n = refl
-    go None (steps.Apply m) n = refl
-    go None steps.Flip n = refl
-    go None steps.Drop n = refl
-    go (Some c) steps.Begin n = refl
-    go (Some c) (steps.BeginSized size) n = refl
-    go (Some c) steps.Roots n = roots_stay s c (root_target c s.heap.graph)
-    go (Some c) steps.Scan n = cond_both (scan_done c) _ _ (Stays s) (λ t. refl) (λ t. replica_stays s c (replica_at c c.scan_place))
-    go (Some c) (steps.Apply m) n = log_stays s c m (log_at c m)
-    go (Some c) steps.Flip n = absurd (n refl)
-    go (Some c) steps.Drop n = refl
+steps_stay s step other = grind (arith, common_steps, roots_stay, cond_both, replica_stays, log_stays)
 
 pub collect_keeps : (s : State) (step : Step) → IsState s → IsStep s.mutators step → IsState (collect s step).1
 collect_keeps s step h range = go s.collection refl step range h.collection
@@ -680,15 +604,7 @@ logged_open s t (Some c) m entries size count l k numbers evolves there = record
 
 -- a command of the texts is one
 pub ranged : (op : Op) → IsCommand op → HasRange op
-ranged (ops.New d kind len) r = (r.1, r.2)
-ranged (ops.NewRaw d kind len) r = (r.1, r.2)
-ranged (ops.Num d n) r = r.1
-ranged (ops.Nil d) r = tt
-ranged (ops.Move d s) r = tt
-ranged (ops.Get d s i) r = tt
-ranged (ops.Put s i t) r = tt
-ranged (ops.Same s t) r = tt
-ranged (ops.Look s) r = tt
+ranged op r = grind (arith, common_steps)
 
 pub mutate_keeps : (s : State) (m : ℕ) (op : Op) → IsState s → m < s.mutators → HasRange op → IsState (mutate s m op).1
 mutate_keeps s m op h l r =

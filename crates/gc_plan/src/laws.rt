@@ -54,6 +54,7 @@ pub fn belonging_is_kept()
 {}
 
 /// Every step except a flip changes only the collection, which still belongs to the heap.
+#[tactic(auto, using(crate::proofs::Steps::steps_stay, crate::proofs::StateLaws::step_kept))]
 pub fn steps_keep_belonging()
     ensures heap { (s : State) (step : Step) → step ≢ Step.Flip
         → (collect s step).1 ≡ with_collection s (collect s step).1.collection }
@@ -138,6 +139,7 @@ pub fn ready_flips_pass()
 {}
 
 /// A step whose reply means no change leaves the state unchanged. The useful step changes something unless it replies `NoRoom`.
+#[tactic(auto, using(crate::proofs::Changes::quiet_answers, crate::proofs::Changes::useful_brings))]
 pub fn answers_tell_changes()
     ensures quiet { (s : State) (step : Step)
         → IsFalse (is_change (collect s step).0) → (collect s step).1 ≡ s }
@@ -148,6 +150,7 @@ pub fn answers_tell_changes()
 
 /// In every run, each original of an open collection was reachable when the collection began, or was made
 /// later. The same is true of each object that a root, or a field of such an object, refers to.
+#[tactic(auto, using(crate::proofs::Carried::carries_only_kept, crate::proofs::Carried::names_only_kept))]
 pub fn only_kept_is_carried()
     ensures pairs { CarriesOnlyKept }
     ensures names { NamesOnlyKept }

@@ -1,5 +1,6 @@
 -- Lemmas about threads that are started and joined in order.
-use Rattle.std.proofs.Common.{◌≡◌, ℕ, suc, ◌+◌, ◌-◌, ◌<◌, ◌≤◌, List, [], ◌∷◌, ◌++◌, length, map, get_or, sym, ap, ◌∙◌, arith, add-one, add-zero, length-append, ⊎_elim, take, Some, OnOk, is_ok, Ok, Err, false}
+use Rattle.std.proofs.lemmas.Grind.{common_steps}
+use Rattle.std.proofs.Common.{◌≡◌, ℕ, suc, ◌+◌, ◌-◌, ◌<◌, List, [], ◌∷◌, ◌++◌, length, map, get_or, sym, ap, ◌∙◌, arith, add-one, add-zero, take, Some, OnOk, is_ok, false}
 use Rattle.std.proofs.lemmas.Bool.{cases_lt}
 use Rattle.std.proofs.lemmas.List.{get_or-map}
 use Rattle.std.proofs.lemmas.List.FromFn.{length-map-range_with_len, get_or-map-range_with_len, take-map-range_with_len}
@@ -22,13 +23,7 @@ next_seat f a k x xs e = let e' = rw add-one at e in (cc, cc)
 
 -- a fact about each element and its place, for one more element
 at_more : {X : Type 0} (P : ℕ → X → Type 0) (xs : List X) (y : X) → ((m : ℕ) (d : X) → m < length xs → P m (get_or xs m d)) → P (length xs) y → (m : ℕ) (d : X) → m < length (xs ++ y ∷ []) → P m (get_or (xs ++ y ∷ []) m d)
-at_more {X} P xs y all here m d lt =
-    ⊎_elim
-    (λ (in_front : m < length xs). rw (get_or-append xs (y ∷ []) d m in_front) (all m d in_front))
-    (λ (at_end : length xs ≤ m).
-    let last : m ≡ length xs = omega (arith, at_end, lt, length-append xs (y ∷ [])) in
-    rw (last, get_or-append_seam xs y [] d) here)
-    (cases_lt m (length xs))
+at_more {X} P xs y all here m d lt = grind (arith, common_steps, get_or-append, get_or-append_seam, cases_lt)
 
 pub AreToPlay-more : (scripts : List (Vec Op Global)) (players : List Player) (h : Player) → AreToPlay scripts players → IsToPlay scripts (length players) h → AreToPlay scripts (players ++ h ∷ [])
 AreToPlay-more scripts players h all here = at_more (IsToPlay scripts) players h all here
@@ -45,20 +40,13 @@ script_here scripts m v lt is = ap (λ (v : Vec Op Global). v.items) is ∙ sym 
 
 -- one more seat has played
 pub HavePlayed-more : (scripts : List (Vec Op Global)) (n : ℕ) (seats : List SeatValue) (s : SeatValue) → HavePlayed scripts n seats → HasPerformed n (script_at scripts n) s → HavePlayed scripts (n + 1) (seats ++ s ∷ [])
-HavePlayed-more scripts n seats s all here = record {
-  count = omega (arith, all.count, length-append seats (s ∷ []));
-  each = λ m d lt.
-      let P : ℕ → SeatValue → Type 0 = λ i t. HasPerformed i (script_at scripts i) t in
-      at_more P seats s (λ i e below. all.each i e (omega (arith, below, all.count))) (rw all.count here) m d (omega (arith, lt, all.count, length-append seats (s ∷ [])));
-}
+HavePlayed-more scripts n seats s all here = grind (arith, common_steps, at_more)
 
 pub on_ok : (r : Result (Unit {0}) ThreadsFault) (P Q : Type 0) → (P → Q) → OnOk r P → OnOk r Q
-on_ok (Ok x) P Q f p = f p
-on_ok (Err e) P Q f p = tt
+on_ok r P Q f p = grind (arith, common_steps)
 
 pub on_no_ok : (r : Result (Unit {0}) ThreadsFault) (P : Type 0) → false ≡ is_ok r → OnOk r P
-on_no_ok (Ok x) P e = cc
-on_no_ok (Err x) P e = tt
+on_no_ok r P e = grind (arith, common_steps)
 
 -- the last seat, and those before it
 pub split_last : (f : ℕ → SeatValue) (n : ℕ) (items rest : List SeatValue) (x : SeatValue) (len : ℕ) → len ≡ length items → items ≡ map f (range_with_len 0 (n + 1)) → rest ≡ take (len - 1) items → ((d : SeatValue) → 0 < len → Some x ≡ Some (get_or items (len - 1) d)) → (rest ≡ map f (range_with_len 0 n)) × (x ≡ f n)
@@ -74,8 +62,4 @@ split_last f n items rest x len l is front back =
 
 -- all have ended
 pub ended : (scripts : List (Vec Op Global)) (turns : ℕ) (seats : List SeatValue) (s : SeatValue) → HavePlayed scripts (length scripts) seats → HasTurned (length scripts) turns s → HaveEnded scripts turns (seats ++ s ∷ [])
-ended scripts turns seats s all one = record {
-  count = omega (arith, all.count, length-append seats (s ∷ []));
-  each = λ m d lt. let inside : m < length seats = omega (arith, lt, all.count) in rw (get_or-append seats (s ∷ []) d m inside) (all.each m d lt);
-  last = λ d. let e : get_or (seats ++ s ∷ []) (length scripts) d ≡ s = ap (λ (k : ℕ). get_or (seats ++ s ∷ []) k d) (sym all.count) ∙ get_or-append_seam seats s [] d in rw e one;
-}
+ended scripts turns seats s all one = grind (arith, common_steps, get_or-append, get_or-append_seam)

@@ -1,5 +1,6 @@
 -- The receipt for the last event of a history.
-use Rattle.std.proofs.Common.{◌≡◌, ℕ, ◌-◌, List, [], ◌∷◌, ◌++◌, length, length-append, subst, ap, ◌∙◌, arith}
+use Rattle.std.proofs.lemmas.Grind.{common_steps}
+use Rattle.std.proofs.Common.{◌≡◌, ℕ, ◌-◌, List, [], ◌∷◌, ◌++◌, length, subst, arith}
 use Rattle.gc_plan.specs.declared.event.Event.{Event}
 use Rattle.gc_plan.specs.declared.event.Answer.{Answer}
 use Rattle.gc_world.specs.declared.entry.Entry.{Entry}
@@ -11,13 +12,7 @@ use Rattle.gc_shared.specs.Seats.{IsPossibleIn, receipt}
 -- `made` is the world after the event, as the clause of the call states it
 pub last_is_possible : (new made : Past) (earlier : List Entry) (event : Event) (answer : Answer) (history : List Entry) → new ≡ made
     → made.entries ≡ earlier ++ entry_of event answer ∷ [] → history ≡ new.entries → IsHistory new.size new.mutators new.entries → IsPossibleIn new.size new.mutators (receipt (length history - 1) event answer)
-last_is_possible new made earlier event answer history is more all legal =
-    let entries = ap (λ (w : Past). w.entries) is ∙ more in
-    record {
-      earlier = earlier;
-      place = omega (arith, ap (λ (es : List Entry). length es) (all ∙ entries), length-append earlier (entry_of event answer ∷ []));
-      goes_on = subst (IsHistory new.size new.mutators) entries legal;
-    }
+last_is_possible new made earlier event answer history is more all legal = grind (arith, common_steps)
 
 -- the same for an equal size and number of mutators
 pub possible_along : (s m size mutators : ℕ) (r : Receipt) → s ≡ size → m ≡ mutators → IsPossibleIn s m r → IsPossibleIn size mutators r

@@ -1,5 +1,6 @@
 -- Lemmas about receipts that stand, and about the marks of their places.
-use Rattle.std.proofs.Common.{◌≡◌, ◌≢◌, ℕ, zero, suc, ◌+◌, ◌<◌, ◌≤◌, ◌==◌, Bool, true, false, cond, List, [], ◌∷◌, ◌++◌, length, take, map, get_or, set, refl, sym, ap, ◌∙◌, arith, count_by, All, length-append, length-set, get_or-set_same, get_or-set_other, add-one, append_assoc, ⊎_elim}
+use Rattle.std.proofs.lemmas.Grind.{common_steps}
+use Rattle.std.proofs.Common.{◌≡◌, ◌≢◌, ℕ, zero, suc, ◌+◌, ◌<◌, ◌≤◌, ◌==◌, Bool, true, false, cond, List, [], ◌∷◌, ◌++◌, length, take, map, get_or, set, refl, ap, ◌∙◌, arith, count_by, All, add-one, ⊎_elim}
 use Rattle.std.proofs.lemmas.List.{take_more}
 use Rattle.std.specs.List.Sorted.{IsStrictlyIncreasing}
 use Rattle.std.proofs.lemmas.Bool.{cases_eq, cases_Bool}
@@ -43,10 +44,7 @@ times_at-other p r e = grind (arith, nat_tests)
 -- no receipt of a seat has a place above that of the last receipt
 none_at : (history : List Entry) (earlier : List Receipt) (low : ℕ) (rs : List Receipt) (p : ℕ) → AllStand history earlier low rs → floor_of low rs ≤ p → times_at p rs ≡ 0
 none_at history earlier low [] p all above = refl
-none_at history earlier low (q ∷ rs) p all above =
-    let up = floor_above history earlier (q.place + 1) rs all.1 in
-    let ne : q.place ≢ p = omega (arith, up, above) in
-    omega (arith, times_at-append p (q ∷ []) rs, times_at-other p q ne, none_at history earlier (q.place + 1) rs p all.1 above)
+none_at history earlier low (q ∷ rs) p all above = grind (arith, common_steps, floor_above, times_at-append, times_at-other, none_at history earlier (q.place + 1) rs p all.1 above)
 
 -- the places of receipts that stand rise, and the first is at or above `low`
 pub rising : (history : List Entry) (earlier : List Receipt) (low : ℕ) (rs : List Receipt) → AllStand history earlier low rs → IsStrictlyIncreasing (map (λ r. r.place) rs)
@@ -62,25 +60,10 @@ all_recorded history earlier low (q ∷ rs) all (suc k) d lt = all_recorded hist
 
 -- one more mark
 marked_more : (marks : List Bool) (rs : List Receipt) (r : Receipt) → r.place < length marks → get_or marks r.place false ≡ false → IsMarked marks rs → IsMarked (set marks r.place true) (rs ++ r ∷ [])
-marked_more marks rs r lt free is = record {
-  once = λ p below.
-      ⊎_elim
-      (λ (e : p ≡ r.place).
-      let was = is.once p (omega (arith, below, length-set marks r.place true)) in
-      let free' : get_or marks p false ≡ false = ap (λ i. get_or marks i false) e ∙ free in
-      let now : get_or (set marks r.place true) p false ≡ true = ap (λ i. get_or (set marks r.place true) i false) e ∙ get_or-set_same marks r.place true false lt in
-      rw (now, times_at-append p rs (r ∷ []), times_at-one p r (sym e), was, free') refl)
-      (λ (ne : p ≢ r.place).
-      let was = is.once p (omega (arith, below, length-set marks r.place true)) in
-      let other : r.place ≢ p = λ e. ne (sym e) in
-      rw (get_or-set_other marks r.place p true false ne, times_at-append p rs (r ∷ []), times_at-other p r other, was) (omega arith))
-      (cases_eq p r.place);
-  all = omega (arith, sum_by-set (λ b. cond b 1 0) marks r.place true false lt, ap (λ (b : Bool). let n : ℕ = cond b 1 0 in n) free, is.all, length-append rs (r ∷ []));
-}
+marked_more marks rs r lt free is = grind (arith, common_steps, times_at-append, times_at-one, times_at-other, cases_eq, sum_by-set)
 
 here_or_behind : {X : Type 0} (p : X → Bool) (x : X) (xs : List X) (k : ℕ) (d : X) → p x ≡ true → ((i : ℕ) (e : X) → i < length xs → p (get_or xs i e) ≡ true) → k < length (x ∷ xs) → p (get_or (x ∷ xs) k d) ≡ true
-here_or_behind p x xs zero d first others lt = first
-here_or_behind p x xs (suc k) d first others lt = others k d (omega arith)
+here_or_behind p x xs k d first others lt = grind (arith, common_steps)
 
 -- if the number of elements that pass a test is the number of all elements, every element passes
 pub every_counted : {X : Type 0} (p : X → Bool) (xs : List X) → count_by p xs ≡ length xs → (k : ℕ) (d : X) → k < length xs → p (get_or xs k d) ≡ true
@@ -99,15 +82,10 @@ every_counted p (x ∷ xs) all k d lt =
 
 -- a receipt at a free place stands, if the marks are those of the earlier seats and of the seat's earlier receipts
 stands_if_free : (history : List Entry) (earlier before : List Receipt) (marks : List Bool) (r : Receipt) → IsMarked marks (earlier ++ before) → r.place < length marks → IsFree history marks (floor_of 0 before) r → Stands history earlier (floor_of 0 before) r
-stands_if_free history earlier before marks r is lt free = record {
-  recorded = free.recorded;
-  above = free.above;
-  apart = omega (arith, is.once r.place lt, ap (λ (b : Bool). let n : ℕ = cond b 1 0 in n) free.free, times_at-append r.place earlier before);
-}
+stands_if_free history earlier before marks r is lt free = grind (arith, common_steps, times_at-append)
 
 zero_false : (b : Bool) → ◌≡◌ {A = ℕ} (cond b 1 0) 0 → b ≡ false
-zero_false true e = absurd (omega (arith, e))
-zero_false false e = refl
+zero_false b e = grind (arith, common_steps)
 
 free_if_stands : (history : List Entry) (earlier before : List Receipt) (marks : List Bool) (r : Receipt) → AllStand history earlier 0 before → IsMarked marks (earlier ++ before) → length marks ≡ length history → Stands history earlier (floor_of 0 before) r → IsFree history marks (floor_of 0 before) r
 free_if_stands history earlier before marks r all is len stands = record {
@@ -125,25 +103,11 @@ pub record Step (history : List Entry) (earlier rs : List Receipt) (marks : List
   pub marked : IsMarked (set marks place true) (earlier ++ take (n + 1) rs)
 
 pub step : (history : List Entry) (earlier rs : List Receipt) (marks : List Bool) (low n : ℕ) (r : Receipt) → n < length rs → r ≡ get_or rs n r → low ≡ floor_of 0 (take n rs) → AllStand history earlier 0 (take n rs) → IsMarked marks (earlier ++ take n rs) → r.place < length marks → IsFree history marks low r → Step history earlier rs marks n r.place
-step history earlier rs marks low n r lt at is all marked within free =
-    let before = take n rs in
-    let more : take (n + 1) rs ≡ before ++ r ∷ [] = take_more rs n r lt ∙ ap (λ (x : Receipt). before ++ x ∷ []) (sym at) in
-    let free' : IsFree history marks (floor_of 0 before) r = rw (← is) free in
-    record {
-      low = rw more (sym (floor_of-snoc 0 before r));
-      stand = rw more (AllStand-snoc history earlier 0 before r all (stands_if_free history earlier before marks r marked within free'));
-      marked = rw (more, ← append_assoc) (marked_more marks (earlier ++ before) r within free.free marked);
-    }
+step history earlier rs marks low n r lt at is all marked within free = grind (arith, common_steps, take_more, floor_of-snoc, AllStand-snoc, stands_if_free, marked_more)
 
 -- the receipt at n is the first that does not stand
 pub torn_here : (history : List Entry) (earlier rs : List Receipt) (marks : List Bool) (low n : ℕ) (r : Receipt) → n < length rs → r ≡ get_or rs n r → length marks ≡ length history → low ≡ floor_of 0 (take n rs) → AllStand history earlier 0 (take n rs) → IsMarked marks (earlier ++ take n rs) → (IsFree history marks low r → ⊥) → IsFirstTorn history earlier rs n
-torn_here history earlier rs marks low n r lt at len is all marked taken = record {
-  before = all;
-  torn = λ more.
-      let one_more : take (n + 1) rs ≡ take n rs ++ r ∷ [] = take_more rs n r lt ∙ ap (λ (x : Receipt). take n rs ++ x ∷ []) (sym at) in
-      let stands = last_stands history earlier 0 (take n rs) r (rw one_more at more) in
-      taken (rw is (free_if_stands history earlier (take n rs) marks r all marked len stands));
-}
+torn_here history earlier rs marks low n r lt at len is all marked taken = grind (arith, common_steps, take_more, last_stands, free_if_stands)
 
 -- if all receipts stand and every place is marked, the receipts agree
 pub agrees : (history : List Entry) (seats : List SeatValue) (count : ℕ) (marks : List Bool) → SeatsStand history seats count → IsMarked marks (receipts_below seats count) → length marks ≡ length history → length history ≤ count_by (λ b. b) marks → AgreeByNumber history seats count

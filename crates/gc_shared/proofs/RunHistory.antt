@@ -1,4 +1,5 @@
 -- The history of a run, derived from the receipts of its seats and the contract of `close`.
+use Rattle.std.proofs.lemmas.Grind.{common_steps}
 use Rattle.std.proofs.Common.{◌≡◌, ◌≢◌, ℕ, zero, suc, ◌+◌, ◌<◌, ◌≤◌, ◌==◌, Bool, true, false, cond, List, [], ◌∷◌, ◌++◌, length, map, filter, get_or, refl, sym, ap, ◌∙◌, arith, All, subst, ⊎_elim, eqb}
 use Rattle.std.proofs.lemmas.Bool.{cases_lt, eq-eqb}
 use Rattle.std.proofs.lemmas.Bool.Decides.{eqb_tells}
@@ -27,24 +28,14 @@ is_by m (Mutate k op) = k == m
 is_by m (Collect step) = false
 
 not_eq : (a b : ℕ) → a ≢ b → eqb a b ≡ false
-not_eq a b ne =
-    ⊎_elim
-    (λ (same : (eqb a b ≡ true) × (a ≡ b)). absurd (ne same.1))
-    (λ (other : (eqb a b ≡ false) × (a ≢ b)). other.0)
-    (eqb_tells a b)
+not_eq a b ne = grind (arith, common_steps, eqb_tells)
 
 -- one more entry
 command_more : (m : ℕ) (e : Event) (ops : List Op) (rest : List Event) → map (Mutate m) ops ≡ rest → map (Mutate m) (command_by m e ++ ops) ≡ cond (is_by m e) (e ∷ rest) rest
-command_more m (Mutate k op) ops rest is =
-    ⊎_elim
-    (λ (same : (eqb k m ≡ true) × (k ≡ m)). let op_is : Mutate m op ≡ Mutate k op = ap (λ (n : ℕ). Mutate n op) (sym same.1) in rw same.0 (cc))
-    (λ (other : (eqb k m ≡ false) × (k ≢ m)). rw other.0 is)
-    (eqb_tells k m)
-command_more m (Collect step) ops rest is = is
+command_more m e ops rest is = grind (arith, common_steps, eqb_tells)
 
 if_map : (b : Bool) (e : Entry) (es : List Entry) → cond b (e.event ∷ map (λ e. e.event) es) (map (λ e. e.event) es) ≡ map (λ e. e.event) (cond b (e ∷ es) es)
-if_map true e es = refl
-if_map false e es = refl
+if_map b e es = grind (arith, common_steps)
 
 commands_are : (m : ℕ) (h : List Entry) → map (Mutate m) (commands_of m (events_of h)) ≡ map (λ e. e.event) (filter (λ e. is_by m e.event) h)
 commands_are m [] = refl
@@ -73,13 +64,7 @@ module _ (scripts : List (Vec Op Global)) (turns : ℕ) (seats : List SeatValue)
   nobody = record { number = 0; is_mutator = true; receipts = [] }
 
   numbers : (i : ℕ) (e : SeatValue) → i < length seats → (get_or seats i e).number ≡ i
-  numbers i e lt =
-      ⊎_elim
-      (λ (player : i < length scripts). (ended.each i e player).same)
-      (λ (last : length scripts ≤ i).
-      let here : i ≡ length scripts = omega (arith, ended.count, lt, last) in
-      ap (λ (k : ℕ). (get_or seats k e).number) here ∙ (ended.last e).same ∙ sym here)
-      (cases_lt i (length scripts))
+  numbers i e lt = grind (arith, common_steps, cases_lt)
 
   receipts : (t : ℕ) → t < length scripts + 1 → receipts_of seats t ≡ (get_or seats t nobody).receipts
   receipts t lt = receipts_at seats t nobody numbers (omega (arith, ended.count, lt))
@@ -90,9 +75,7 @@ module _ (scripts : List (Vec Op Global)) (turns : ℕ) (seats : List SeatValue)
       rw is (played_all Q t (get_or seats t nobody).receipts (script_at scripts t) each (ended.each t nobody lt).events)
 
   collector_all : (Q : Event → Type 0) → ((step : Step) → Q (Collect step)) → All (λ r. Q r.event) (receipts_of seats (length scripts))
-  collector_all Q each =
-      let is = receipts (length scripts) (omega arith) in
-      rw is (λ k d lt. useful_all Q _ _ each ((ended.last nobody).useful k d lt))
+  collector_all Q each = grind (arith, common_steps, receipts, useful_all)
 
   others : (Q : Event → Type 0) (s : ℕ) → ((t : ℕ) (op : Op) → t ≢ s → t < length scripts → Q (Mutate t op)) → (length scripts ≢ s → (step : Step) → Q (Collect step)) → (t : ℕ) → t < length scripts + 1 → t ≢ s → All (λ r. Q r.event) (receipts_of seats t)
   others Q s players collector t lt ne =

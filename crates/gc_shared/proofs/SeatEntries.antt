@@ -1,4 +1,5 @@
 -- The entries of a history that come from a seat are those on its receipts.
+use Rattle.std.proofs.lemmas.Grind.{common_steps}
 use Rattle.std.proofs.Common.{◌≡◌, ◌≢◌, ℕ, zero, suc, ◌+◌, ◌-◌, ◌<◌, ◌≤◌, ◌==◌, Bool, true, false, cond, List, [], ◌∷◌, length, map, filter, get_or, slice_get, Some, refl, sym, ap, ◌∙◌, arith, add-one, add-zero, zero-add, All, subst, ⊎_elim, eqb}
 use Rattle.std.specs.List.{find}
 use Rattle.std.specs.List.Sorted.{IsStrictlyIncreasing}
@@ -33,7 +34,7 @@ mark b = cond b 1 0
 
 -- the places of the receipts rise from `low`, and each receipt has the entry at its place in a history that starts at
 -- place o
-abbrev pub Fits : ℕ → ℕ → List Entry → List Receipt → Type 0
+abbrev Fits : ℕ → ℕ → List Entry → List Receipt → Type 0
 Fits low o h [] = Unit {0}
 Fits low o h (r ∷ rs) = (low ≤ r.place) × (slice_get h (r.place - o) ≡ Some (entry_on r)) × Fits (r.place + 1) o h rs
 
@@ -44,11 +45,7 @@ times_at-here : (p : ℕ) (r : Receipt) (rs : List Receipt) → r.place ≡ p �
 times_at-here p r rs e = times_at-cons p r rs ∙ ap (λ (b : Bool). cond b 1 0 + times_at p rs) (eq-eqb r.place p e)
 
 times_at-not : (p : ℕ) (r : Receipt) (rs : List Receipt) → r.place ≢ p → times_at p (r ∷ rs) ≡ times_at p rs
-times_at-not p r rs ne =
-    ⊎_elim
-    (λ (t : (eqb r.place p ≡ true) × (r.place ≡ p)). absurd (ne t.1))
-    (λ (f : (eqb r.place p ≡ false) × (r.place ≢ p)). times_at-cons p r rs ∙ ap (λ (b : Bool). cond b 1 0 + times_at p rs) f.0 ∙ omega arith)
-    (eqb_tells r.place p)
+times_at-not p r rs ne = grind (arith, common_steps, times_at-cons, eqb_tells)
 
 none_below : (low o : ℕ) (h : List Entry) (rs : List Receipt) (p : ℕ) → Fits low o h rs → p < low → times_at p rs ≡ 0
 none_below low o h [] p fits lt = refl
@@ -59,12 +56,11 @@ slice_get-tail e es p o le = let up : p - o ≡ suc (p - (o + 1)) = omega arith 
 
 shift : (low o : ℕ) (e : Entry) (es : List Entry) (rs : List Receipt) → o + 1 ≤ low → Fits low o (e ∷ es) rs → Fits low (o + 1) es rs
 shift low o e es [] le fits = tt
-shift low o e es (r ∷ rs) le fits =
-    (fits.0, sym (slice_get-tail e es r.place o (omega (arith, le, fits.0))) ∙ fits.1, shift (r.place + 1) o e es rs (omega (arith, le, fits.0)) fits.2)
+shift low o e es (r ∷ rs) le fits = grind (arith, common_steps, slice_get-tail, shift (r.place + 1) o e es rs (omega (arith, le, fits.0)) fits.2)
 
 module _ (T : Event → Bool) (d : Entry) where
   -- each place of a history that starts at place o is on one receipt if its event passes the test, otherwise on none
-  abbrev pub Counts : ℕ → List Entry → List Receipt → Type 0
+  abbrev Counts : ℕ → List Entry → List Receipt → Type 0
   Counts o h rs = (i : ℕ) → i < length h → times_at (o + i) rs ≡ mark (T (get_or h i d).event)
 
   -- the counts for the rest of the history, if the other receipts have the same places there
@@ -73,7 +69,7 @@ module _ (T : Event → Bool) (d : Entry) where
       let next : o + suc i ≡ o + 1 + i = omega arith in
       same (o + 1 + i) (omega arith) ∙ (rw next at (counts (suc i) (omega arith)))
 
-  abbrev pub Rest : ℕ → List Entry → Type 0
+  abbrev Rest : ℕ → List Entry → Type 0
   Rest o es = (ss : List Receipt) → Fits o o es ss → Counts o es ss → map entry_on ss ≡ filter (λ e. T e.event) es
 
   taken : (o : ℕ) (e : Entry) (es : List Entry) (rs : List Receipt) → Rest (o + 1) es → Fits o o (e ∷ es) rs → Counts o (e ∷ es) rs → T e.event ≡ true → map entry_on rs ≡ e ∷ filter (λ e. T e.event) es
@@ -108,7 +104,7 @@ module _ (T : Event → Bool) (d : Entry) where
       let up : o + 1 ≤ r.place = omega (arith, fits.0) in
       ih (r ∷ rs) (shift (o + 1) o e es (r ∷ rs) (omega arith) (up, fits.1, fits.2)) (rest_counts o e es (r ∷ rs) (r ∷ rs) (λ p le. refl) counts)
 
-  pub select : (o : ℕ) (h : List Entry) (rs : List Receipt) → Fits o o h rs → Counts o h rs → map entry_on rs ≡ filter (λ e. T e.event) h
+  select : (o : ℕ) (h : List Entry) (rs : List Receipt) → Fits o o h rs → Counts o h rs → map entry_on rs ≡ filter (λ e. T e.event) h
   select o [] [] fits counts = refl
   select o [] (r ∷ rs) fits counts = let fails = fits.1 in cc
   select o (e ∷ es) rs fits counts =
@@ -225,5 +221,4 @@ played_all Q m (r ∷ rs) (op ∷ ops) each is (suc k) d lt = let rest : map (λ
 
 -- a fact about every collector step holds of an event whose answer is marked `Useful`
 pub useful_all : (Q : Event → Type 0) (e : Event) (a : Answer) → ((step : Step) → Q (Collect step)) → IsUsefulStep e a → Q e
-useful_all Q (Mutate m op) a each is = absurd is
-useful_all Q (Collect step) a each is = each step
+useful_all Q e a each is = grind (arith, common_steps)

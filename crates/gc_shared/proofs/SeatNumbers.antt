@@ -1,5 +1,6 @@
 -- Seats by number, and in the order in which they were passed to `close`.
-use Rattle.std.proofs.Common.{◌≡◌, ◌≢◌, ℕ, zero, suc, ◌+◌, ◌<◌, ◌==◌, Bool, true, false, cond, List, [], ◌∷◌, length, refl, sym, ap, ◌∙◌, arith, count_by, sum_by, eqb, ltb, Option, Some, None, ⊎_elim, subst, All, get_or, map, MatchOption}
+use Rattle.std.proofs.lemmas.Grind.{common_steps}
+use Rattle.std.proofs.Common.{◌≡◌, ◌≢◌, ℕ, zero, suc, ◌+◌, ◌<◌, ◌==◌, Bool, true, false, cond, List, [], ◌∷◌, length, refl, sym, ap, ◌∙◌, arith, count_by, sum_by, eqb, ltb, Option, Some, ⊎_elim, subst, All, get_or, map, MatchOption}
 use Rattle.std.specs.List.{find, flat_map}
 use Rattle.std.specs.Option.{option_map_or}
 use Rattle.std.specs.List.Sorted.{IsStrictlyIncreasing}
@@ -10,7 +11,6 @@ use Rattle.gc_world.specs.declared.entry.Entry.{Entry}
 use Rattle.gc_shared.specs.declared.seat.Receipt.{Receipt}
 use Rattle.gc_world.specs.World.{Past}
 use Rattle.gc_shared.specs.declared.fault.CloseKind.{CloseKind}
-use Rattle.gc_shared.specs.declared.fault.CloseKind.TheVariants.{Seats, Torn, Extra, NoMemory}
 use Rattle.gc_shared.specs.Seats.{SeatValue, Opening, count_of_seats}
 use Rattle.gc_shared.specs.Receipts.{IsRecorded, times_at, ReceiptsAgree}
 use Rattle.gc_shared.specs.Closing.{IsSeated, IsWhole, IsFirstCloseFault, receipts_of, receipts_below}
@@ -28,8 +28,7 @@ split_one a n x = grind (arith, nat_tests)
 
 split_sum : (f : SeatValue → ℕ) (n : ℕ) (ts : List SeatValue) → sum_by (below f (suc n)) ts ≡ sum_by (below f n) ts + sum_by (here f n) ts
 split_sum f n [] = refl
-split_sum f n (t ∷ ts) =
-    omega (arith, sum_by-cons (below f (suc n)) t ts, sum_by-cons (below f n) t ts, sum_by-cons (here f n) t ts, split_one t.number n (f t), split_sum f n ts)
+split_sum f n (t ∷ ts) = grind (arith, common_steps, sum_by-cons, split_one, split_sum f n ts)
 
 none_here : (f : SeatValue → ℕ) (n : ℕ) (ts : List SeatValue) → count_by (λ t. t.number == n) ts ≡ 0 → sum_by (here f n) ts ≡ 0
 none_here f n [] e = refl
@@ -80,17 +79,14 @@ all_below f n (t ∷ ts) e =
 
 none_below_zero : (f : SeatValue → ℕ) (ts : List SeatValue) → sum_by (below f 0) ts ≡ 0
 none_below_zero f [] = refl
-none_below_zero f (t ∷ ts) =
-    let no_f : ◌≡◌ {A = ℕ} (cond (ltb t.number 0) (f t) 0) 0 = grind (arith, nat_tests) in
-    omega (arith, no_f, none_below_zero f ts, sum_by-cons (below f 0) t ts)
+none_below_zero f (t ∷ ts) = grind (arith, common_steps, nat_tests, sum_by-cons, none_below_zero f ts)
 
 counted : (n : ℕ) (ts : List SeatValue) → HasEachOnce ts n → sum_by (below (λ t. 1) n) ts ≡ n
 counted zero ts once = none_below_zero (λ t. 1) ts
 counted (suc n) ts once = omega (arith, split_sum (λ t. 1) n ts, counted n ts (λ s lt. once s (omega arith)), once n (omega arith))
 
 times_of : (p : ℕ) (o : Option SeatValue) → times_at p (option_map_or (λ t. t.receipts) o []) ≡ option_map_or (λ t. times_at p t.receipts) o 0
-times_of p None = refl
-times_of p (Some t) = refl
+times_of p o = grind (arith, common_steps)
 
 by_number : (p n : ℕ) (ts : List SeatValue) → HasEachOnce ts n → times_at p (receipts_below ts n) ≡ sum_by (below (λ t. times_at p t.receipts) n) ts
 by_number p zero ts once = sym (none_below_zero (λ t. times_at p t.receipts) ts)
@@ -165,8 +161,4 @@ agree_by_number history seats count len once agree = record {
 
 -- the first fault of the seats is the one found when they are taken by number
 pub first_fault_of : (r : Option CloseKind) (o : Opening) (w : Past) (seats : List SeatValue) → IsSeated o w seats → MatchOption r (AgreeByNumber w.entries seats (count_of_seats o)) (IsFault w.entries seats (count_of_seats o)) → MatchOption r (IsWhole o w seats) (IsFirstCloseFault o w seats)
-first_fault_of None o w seats seated agree = record { seated = seated; agree = agree_as_handed_in w.entries seats (count_of_seats o) seated.count seated.once agree }
-first_fault_of (Some Seats) o w seats seated is = absurd is
-first_fault_of (Some (Torn seat n)) o w seats seated is = (seated, is)
-first_fault_of (Some Extra) o w seats seated is = (seated, is)
-first_fault_of (Some NoMemory) o w seats seated is = absurd is
+first_fault_of r o w seats seated agree = grind (arith, common_steps, agree_as_handed_in)

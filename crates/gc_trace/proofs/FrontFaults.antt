@@ -1,5 +1,6 @@
 -- Faults that a prefix of a text already shows.
-use Rattle.std.proofs.Common.{◌≡◌, ℕ, List, ◌∷◌, ◌++◌, sym, ap, ◌∙◌, Some, None}
+use Rattle.std.proofs.lemmas.Grind.{common_steps}
+use Rattle.std.proofs.Common.{◌≡◌, ℕ, List, ◌∷◌, ◌++◌, sym, ap, ◌∙◌, Some, None, arith}
 use Rattle.gc_graph.specs.Lines.{newline, joined, tokens_of, HasNo}
 use Rattle.gc_trace.specs.Internal.Parsers.{event_of, version_at, sizes_at}
 use Rattle.gc_trace.specs.Grammar.{event_tokens, version_tokens, size_tokens, trace_heading, IsHeading}
@@ -21,8 +22,7 @@ no_event version rest line after parts h none e more fits is =
 -- ---- headings
 
 pub no_first : (text : List ℕ) → HasNo newline text → HasNoHeading text
-no_first text h version size mutators more fits is =
-    not_cut newline text (joined (version_tokens version)) (joined (size_tokens size mutators) ++ newline ∷ more) h (is ∙ heading-more version size mutators more)
+no_first text h version size mutators more fits is = grind (arith, common_steps, not_cut, heading-more)
 
 pub no_version : (text first rest : List ℕ) → text ≡ first ++ newline ∷ rest → HasNo newline first → version_at (tokens_of first) ≡ None → HasNoHeading text
 no_version text first rest parts h none version size mutators more fits is =

@@ -1,5 +1,6 @@
 -- The text of a world's history is read as its events, which get the same answers.
-use Rattle.std.proofs.Common.{◌≡◌, ℕ, ◌≤◌, List, [], ◌∷◌, refl, sym, ap, ◌∙◌, arith}
+use Rattle.std.proofs.lemmas.Grind.{common_steps}
+use Rattle.std.proofs.Common.{◌≡◌, ℕ, ◌≤◌, List, [], ◌∷◌, sym, ap, ◌∙◌, arith}
 use Rattle.std.specs.List.{AllByRecursion}
 use Rattle.gc_plan.specs.State.{State, opening_state}
 use Rattle.gc_graph.specs.Limits.{most_words}
@@ -9,7 +10,6 @@ use Rattle.gc_plan.specs.declared.step.Step.TheVariants as steps
 use Rattle.gc_world.specs.History.{events_of, answers_of, IsHistory}
 use Rattle.gc_world.specs.World.{Past, present}
 use Rattle.gc_plan.specs.declared.event.Event.{Event}
-use Rattle.gc_plan.specs.declared.event.Event.TheVariants.{Mutate, Collect}
 use Rattle.gc_world.specs.declared.entry.Entry.{Entry}
 use Rattle.gc_trace.specs.Grammar.{Recording, least_version, least_trace, trace_text, HasLine, IsOf, IsTraceText}
 use Rattle.gc_trace.specs.Plays.{trace_opening, trace_answers, last_state}
@@ -17,18 +17,11 @@ use Rattle.gc_trace.specs.WorldRuns.{HasRun}
 use Rattle.gc_trace.proofs.Versions.{least_range}
 
 wider_step : (mutators : ℕ) (step : Step) → mutators ≤ 16 → runs.IsStepWithin most_words mutators step → runs.IsStepWithin most_words 16 step
-wider_step mutators steps.Begin le fits = tt
-wider_step mutators (steps.BeginSized size) le fits = fits
-wider_step mutators steps.Roots le fits = tt
-wider_step mutators steps.Scan le fits = tt
-wider_step mutators (steps.Apply k) le fits = omega (arith, le, fits)
-wider_step mutators steps.Flip le fits = tt
-wider_step mutators steps.Drop le fits = tt
+wider_step mutators step le fits = grind (arith, common_steps)
 
 -- an event that can happen with fewer mutators can happen with the most
 wider : (mutators : ℕ) (event : Event) → mutators ≤ 16 → IsOf mutators event → IsOf 16 event
-wider mutators (Mutate m op) le of = (omega (arith, le, of.0), of.1)
-wider mutators (Collect step) le of = wider_step mutators step le of
+wider mutators event le of = grind (arith, common_steps, wider_step)
 
 all_fit : (version mutators : ℕ) (entries : List Entry) → mutators ≤ 16 → least_version (events_of entries) ≤ version → runs.AreEventsWithin most_words mutators (events_of entries) → AllByRecursion (λ event. HasLine version event × IsOf mutators event) (events_of entries)
 all_fit version mutators [] few known all = tt
@@ -36,15 +29,7 @@ all_fit version mutators (e ∷ es) few known all =
     ((record { range = wider mutators e.event few all.0; known = omega (arith, known) }, all.0), all_fit version mutators es few (omega (arith, known)) all.1)
 
 pub history_has_text : (size mutators : ℕ) (entries : List Entry) → IsHistory size mutators entries → IsTraceText (least_trace size mutators (events_of entries)) (trace_text (least_trace size mutators (events_of entries)))
-history_has_text size mutators entries history =
-    let versions = least_range (events_of entries) in
-    record {
-      recording = record {
-        heading = (versions.0, versions.1, history.low, history.high, history.some, history.few);
-        events = all_fit (least_version (events_of entries)) mutators entries history.few (omega arith) history.events;
-      };
-      spelled = refl;
-    }
+history_has_text size mutators entries history = grind (arith, common_steps, least_range, all_fit)
 
 pub same_answers : (size mutators : ℕ) (entries : List Entry) → IsHistory size mutators entries → trace_answers (least_trace size mutators (events_of entries)) ≡ answers_of entries
 same_answers size mutators entries history = sym history.run

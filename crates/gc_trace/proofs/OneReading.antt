@@ -1,4 +1,5 @@
 -- A text has one reading: one trace, or one first fault.
+use Rattle.std.proofs.lemmas.Grind.{common_steps}
 use Rattle.std.proofs.Common.{◌≡◌, ◌≢◌, ℕ, ◌+◌, List, [], ◌∷◌, ◌++◌, length, refl, sym, ap, ◌∙◌, arith, append_assoc, subst}
 use Rattle.std.specs.List.{AllByRecursion, flat_map}
 use Rattle.std.proofs.lemmas.List.{append-nil}
@@ -81,7 +82,7 @@ same_stop v m (e ∷ es) (d ∷ ds) x y p q stop stop' same =
     (rw (one.0, rest.0) refl, rest.1)
 
 -- the lines of this trace, and a rest that does not begin with another event line
-abbrev pub StopsAt : Recording → List ℕ → List ℕ → Type 0
+abbrev StopsAt : Recording → List ℕ → List ℕ → Type 0
 StopsAt t rest text = IsRecording t × (text ≡ trace_text t ++ rest) × Stops t.version t.mutators rest
 
 abbrev together : ℕ → ℕ → ℕ → List Event → Recording
@@ -118,8 +119,7 @@ abbrev BadStop : List ℕ → ℕ → Type 0
 BadStop text n = (t : Recording) × (rest : List ℕ) × StopsAt t rest text × (n ≡ 3 + length t.events) × (rest ≢ []) × BeginsWithNoEvent t.version rest
 
 bad_stop : (text : List ℕ) (n : ℕ) → HasBadLine text n → BadStop text n
-bad_stop text n (t, rest, before, some, none) =
-    (t, rest, (before.good.recording, before_parts text n t rest before, λ e more p _ is. none e more p is), before.number, some, none)
+bad_stop text n h = grind (arith, common_steps, before_parts)
 
 abbrev StrangeStop : List ℕ → ℕ → Type 0
 StrangeStop text n = (t : Recording) × (e : Event) × (more : List ℕ) × StopsAt t (event_line e ++ more) text × (n ≡ 3 + length t.events) × HasLine t.version e

@@ -1,12 +1,13 @@
 -- The parsers read exactly the tokens of the grammar.
-use Rattle.std.proofs.Common.{◌≡◌, ℕ, ◌≤◌, Bool, true, false, cond, eqb, ltb, sym, List, [], ◌∷◌, refl, ap, ◌∙◌, arith, Option, Some, None, subst, inl, inr, ◌⊎◌}
+use Rattle.std.proofs.lemmas.Grind.{common_steps}
+use Rattle.std.proofs.Common.{◌≡◌, ℕ, ◌≤◌, Bool, true, false, cond, eqb, sym, List, [], ◌∷◌, refl, ap, ◌∙◌, arith, Option, Some, None, subst, inl, inr, ◌⊎◌}
 use Rattle.std.specs.Prelude.{codes}
 use Rattle.std.specs.Fmt.{decimal}
 use Rattle.std.proofs.lemmas.Bool.{eqb-true, ltb-false}
 use Rattle.std.proofs.lemmas.Option.{cond_some}
 use Rattle.gc_graph.specs.Slots.{SlotName}
 use Rattle.gc_graph.specs.Range.{IsSlot, IsCommand}
-use Rattle.gc_graph.specs.Tokens.{Tokens, number_of, number_at, token_at, if_all_taken}
+use Rattle.gc_graph.specs.Tokens.{Tokens, number_of, number_at, if_all_taken}
 use Rattle.gc_graph.specs.declared.command.Op.{Op}
 use Rattle.gc_graph.specs.declared.command.Op.TheVariants as ops
 use Rattle.gc_graph.specs.Limits.{most_words}
@@ -23,8 +24,7 @@ own_or_shared : Bool → ℕ → SlotName
 own_or_shared b i = record { shared = b; index = i }
 
 slot_parts : (b d : Bool) (s t r : SlotName) → cond b (Some s) (cond d (Some t) None) ≡ Some r → ((b ≡ true) × (s ≡ r)) ⊎ ((b ≡ false) × (d ≡ true) × (t ≡ r))
-slot_parts true d s t r e = inl (refl, some_is s r e)
-slot_parts false d s t r e = let h = cond_some d t r e in inr (refl, h.0, h.1)
+slot_parts b d s t r e = grind (arith, common_steps, some_is, cond_some)
 
 slot_found : (token : List ℕ) (s : SlotName) → slot_of token ≡ Some s → (token ≡ slot s) × IsSlot s
 unfolding slot_of slot own_or_shared
@@ -80,16 +80,10 @@ positive_reads : {X : Type 0} (most : ℕ) (rest : ℕ → Tokens → Option X) 
 positive_reads most = with_reads (positive_at most) decimal (λ n. (1 ≤ n) × (n ≤ most)) (positive_at_found most)
 
 since_reads : {X : Type 0} (first version : ℕ) (rest : Tokens → Option X) (P : X → Tokens → Type 0) → (first ≤ version → Reads rest P) → Reads (since first version rest) P
-since_reads first version rest P each tokens x e = go (ltb version first) refl e
-  where
-    go : (b : Bool) → ltb version first ≡ b → cond b None (rest tokens) ≡ Some x → P x tokens
-    go true is e = absurd cc
-    go false is e = each (ltb-false version first is) tokens x e
+since_reads first version rest P each tokens x e = grind (arith, common_steps, ltb-false)
 
 token_reads : {X : Type 0} (wanted : List ℕ) (rest : Tokens → Option X) (P : X → Tokens → Type 0) → Reads rest (λ x more. P x (wanted ∷ more)) → Reads (with_token wanted rest) P
-token_reads wanted rest P here tokens x e =
-    let a = bind_some (token_at wanted tokens) rest x e in
-    subst (P x) (sym (token_at_found wanted tokens a.0 a.1)) (here a.0 x a.2)
+token_reads wanted rest P here tokens x e = grind (arith, common_steps, bind_some, token_at_found)
 
 infixr 5 ◌also◌
 ◌also◌ : {A B : Type 0} → A → B → A × B

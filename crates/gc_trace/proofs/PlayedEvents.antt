@@ -1,12 +1,12 @@
 -- The state of a player after one more event.
-use Rattle.std.proofs.Common.{◌≡◌, ℕ, ◌<◌, ◌^◌, List, [], ◌∷◌, ◌++◌, length, refl, sym, ap, ◌∙◌, subst, append_assoc}
+use Rattle.std.proofs.lemmas.Grind.{common_steps}
+use Rattle.std.proofs.Common.{◌≡◌, ℕ, ◌<◌, ◌^◌, List, [], ◌∷◌, ◌++◌, length, refl, sym, ap, ◌∙◌, subst, arith}
 use Rattle.std.proofs.lemmas.List.{append-nil}
 use Rattle.std.proofs.lemmas.List.Concat.{flat_map-append, flat_map-cons}
 use Rattle.gc_plan.specs.State.{State, opening_state, heap_end}
 use Rattle.gc_plan.specs.Runs.{after, answer, answers, state_after}
 use Rattle.gc_plan.specs.declared.event.Answer.{Answer}
 use Rattle.gc_plan.specs.declared.event.Event.{Event}
-use Rattle.gc_plan.specs.declared.event.Event.TheVariants.{Mutate, Collect}
 use Rattle.gc_world.specs.History.{unmarked}
 use Rattle.gc_trace.specs.Replies.{reply_line, reply_text}
 use Rattle.gc_trace.specs.Report.{report_of}
@@ -29,8 +29,7 @@ text_pushed told last = flat_map-append reply_line told (last ∷ []) ∙ ap (λ
 
 -- a run marks no answer as `Useful`
 plain : (s : State) (event : Event) → unmarked (answer s event) ≡ answer s event
-plain s (Mutate m op) = refl
-plain s (Collect step) = refl
+plain s event = grind (arith, common_steps)
 
 -- ---- a player that has played some events, starting in some state
 
@@ -40,15 +39,10 @@ state_is s events event heap next same moved = moved ∙ ap (λ (h : State). aft
 
 -- the counts
 counted : (s : State) (events : List Event) (event : Event) (heap : State) (report : Report) → heap ≡ state_after s events → report ≡ report_of (answers s events) s → with_answer report (answer heap event) ≡ report_of (answers s (events ++ event ∷ [])) s
-counted s events event heap report same so_far =
-    ap (λ (r : Report). with_answer r (answer heap event)) so_far
-    ∙ ap (λ (h : State). with_answer (report_of (answers s events) s) (answer h event)) same
-    ∙ report_push (answers s events) (answer (state_after s events) event) s
-    ∙ ap (λ (all : List Answer). report_of all s) (sym (answers_pushed s events event))
+counted s events event heap report same so_far = grind (arith, common_steps, report_push, answers_pushed)
 
 pub counts_are : (s : State) (events : List Event) (event : Event) (heap : State) (told : Answer) (report next : Report) → heap ≡ state_after s events → told ≡ answer heap event → report ≡ report_of (answers s events) s → next ≡ with_answer report (unmarked told) → next ≡ report_of (answers s (events ++ event ∷ [])) s
-counts_are s events event heap told report next same is so_far made =
-    made ∙ ap (with_answer report) (ap unmarked is ∙ plain heap event) ∙ counted s events event heap report same so_far
+counts_are s events event heap told report next same is so_far made = grind (arith, common_steps, plain, counted)
 
 -- the next counts fit their type
 pub next_fits : (size mutators : ℕ) (events : List Event) (event : Event) (heap : State) (report : Report) → heap ≡ state_after (opening_state size mutators) events → report ≡ report_of (answers (opening_state size mutators) events) (opening_state size mutators) → length (events ++ event ∷ []) < 2 ^ 64
@@ -59,20 +53,9 @@ next_fits size mutators events event heap report same so_far few =
 
 -- the lines: a text and then the buffer
 pub lines_are : (s : State) (events : List Event) (event : Event) (heap : State) (told : Answer) (before text waiting next : List ℕ) → heap ≡ state_after s events → told ≡ answer heap event → before ≡ reply_text (answers s events) → text ++ waiting ≡ before → next ≡ waiting ++ reply_line told → text ++ next ≡ reply_text (answers s (events ++ event ∷ []))
-lines_are s events event heap told before text waiting next same is so_far moved printed =
-    let last : told ≡ answer (state_after s events) event = is ∙ ap (λ (h : State). answer h event) same in
-    ap (λ (t : List ℕ). text ++ t) printed
-    ∙ sym (append_assoc text waiting (reply_line told))
-    ∙ ap (λ (t : List ℕ). t ++ reply_line told) (moved ∙ so_far)
-    ∙ ap (λ (a : Answer). reply_text (answers s events) ++ reply_line a) last
-    ∙ sym (ap reply_text (answers_pushed s events event) ∙ text_pushed (answers s events) (answer (state_after s events) event))
+lines_are s events event heap told before text waiting next same is so_far moved printed = grind (arith, common_steps, answers_pushed, text_pushed)
 
 -- the final report, with the numbers of the space
 pub report_is : (s : State) (events : List Event) (heap : State) (report next : Report) (end free : ℕ) → heap ≡ state_after s events → report ≡ report_of (answers s events) s → next ≡ record report { end = end; free = free } → end ≡ heap_end heap → free ≡ heap.heap.free
     → next ≡ report_of (answers s events) (state_after s events)
-report_is s events heap report next end free same so_far is same_end same_free =
-    is
-    ∙ ap (λ (r : Report). record r { end = end; free = free }) so_far
-    ∙ ap (λ (n : ℕ). record (report_of (answers s events) s) { end = n; free = free }) same_end
-    ∙ ap (λ (n : ℕ). record (report_of (answers s events) s) { end = heap_end heap; free = n }) same_free
-    ∙ ap (report_of (answers s events)) same
+report_is s events heap report next end free same so_far is same_end same_free = grind (arith, common_steps)

@@ -1,5 +1,6 @@
 -- Lines that are written in order.
-use Rattle.std.proofs.Common.{◌≡◌, ℕ, List, [], ◌∷◌, ◌++◌, take, drop, sym, ap, ◌∙◌, Option, subst, length, ◌+◌, ◌<◌, ◌≤◌, get_or, append_assoc}
+use Rattle.std.proofs.lemmas.Grind.{common_steps}
+use Rattle.std.proofs.Common.{◌≡◌, ℕ, List, ◌++◌, take, drop, sym, ap, ◌∙◌, Option, subst, length, ◌+◌, ◌<◌, ◌≤◌, get_or, append_assoc, arith}
 use Rattle.std.proofs.lemmas.List.{append-nil, take-append-drop, take_all, take_more}
 use Rattle.std.specs.Io.KnownBytes.{Appends}
 use Rattle.std.specs.List.{flat_map}
@@ -16,10 +17,7 @@ abbrev pub lines_to : {X : Type 0} → List ℕ → (X → List ℕ) → List X 
 lines_to front line xs i = front ++ flat_map line (take i xs)
 
 lines_more : {X : Type 0} (front : List ℕ) (line : X → List ℕ) (xs : List X) (i : ℕ) (x : X) → i < length xs → x ≡ get_or xs i x → lines_to front line xs (i + 1) ≡ lines_to front line xs i ++ line x
-lines_more {X} front line xs i x lt is =
-    let more : take (i + 1) xs ≡ take i xs ++ x ∷ [] = take_more xs i x lt ∙ ap (λ (y : X). take i xs ++ y ∷ []) (sym is) in
-    let last : flat_map line (take (i + 1) xs) ≡ flat_map line (take i xs) ++ line x = ap (flat_map line) more ∙ flat_map-append line (take i xs) (x ∷ []) ∙ ap (λ (t : List ℕ). flat_map line (take i xs) ++ t) (flat_map-cons line x [] ∙ append-nil (line x)) in
-    ap (λ (t : List ℕ). front ++ t) last ∙ sym (append_assoc front (flat_map line (take i xs)) (line x))
+lines_more {X} front line xs i x lt is = grind (arith, common_steps, take_more, flat_map-append, flat_map-cons, append-nil)
 
 lines_whole : {X : Type 0} (front : List ℕ) (line : X → List ℕ) (xs : List X) (i : ℕ) → lines_to front line xs i ++ flat_map line (drop i xs) ≡ front ++ flat_map line xs
 lines_whole {X} front line xs i =
@@ -28,8 +26,7 @@ lines_whole {X} front line xs i =
 -- one more line waits in the buffer
 pub line_sent : {X : Type 0} (front : List ℕ) (line : X → List ℕ) (a b c : Option (List ℕ)) (xs : List X) (i : ℕ) (x : X) (waiting mid rest : List ℕ) → i < length xs → x ≡ get_or xs i x
     → HasSent a b (lines_to front line xs i) waiting → HasSent b c waiting mid → rest ≡ mid ++ line x → HasSent a c (lines_to front line xs (i + 1)) rest
-line_sent front line a b c xs i x waiting mid rest lt is so_far more e =
-    subst (λ (t : List ℕ). HasSent a c t rest) (sym (lines_more front line xs i x lt is)) (sent_then a b c (lines_to front line xs i) waiting mid (line x) rest so_far more e)
+line_sent front line a b c xs i x waiting mid rest lt is so_far more e = grind (arith, common_steps, lines_more, sent_then)
 
 -- part of the buffer was written
 pub line_failed : {X : Type 0} (front : List ℕ) (line : X → List ℕ) (a b c : Option (List ℕ)) (xs : List X) (i : ℕ) (waiting whole : List ℕ) → front ++ flat_map line xs ≡ whole → HasSent a b (lines_to front line xs i) waiting → SendsFront b c waiting → SendsFront a c whole
@@ -37,8 +34,7 @@ line_failed front line a b c xs i waiting whole is so_far failed = subst (SendsF
 
 -- the whole buffer was written
 pub lines_sent : {X : Type 0} (front : List ℕ) (line : X → List ℕ) (a b c : Option (List ℕ)) (xs : List X) (i : ℕ) (waiting whole : List ℕ) → front ++ flat_map line xs ≡ whole → length xs ≤ i → HasSent a b (lines_to front line xs i) waiting → Appends b c waiting → Appends a c whole
-lines_sent {X} front line a b c xs i waiting whole is le so_far out =
-    subst (Appends a c) (ap (λ (ys : List X). front ++ flat_map line ys) (take_all i xs le) ∙ is) (sent_at_last a b c (lines_to front line xs i) waiting so_far out)
+lines_sent {X} front line a b c xs i waiting whole is le so_far out = grind (arith, common_steps, take_all, sent_at_last)
 
 -- ---- the lines of a history
 

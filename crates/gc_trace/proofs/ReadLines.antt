@@ -1,4 +1,5 @@
 -- How much of a text an event reader has read.
+use Rattle.std.proofs.lemmas.Grind.{common_steps}
 use Rattle.std.proofs.Common.{◌≡◌, ◌≢◌, ℕ, ◌+◌, List, [], ◌∷◌, ◌++◌, drop, refl, sym, ap, ◌∙◌, arith, subst, append_assoc, Option}
 use Rattle.std.specs.List.{AllByRecursion}
 use Rattle.gc_graph.specs.ReadFaults.{MayFailReading}
@@ -19,14 +20,10 @@ use Rattle.gc_trace.proofs.Total.{made_of, good_start, good_more}
 -- ---- faults of reading
 
 pub may_fail : (fault : ReadFault) (most : ℕ) (text : List ℕ) → most ≡ trace_limit → MayFailReading fault most text → ReadingMayFail (trace_fault_of fault) text
-may_fail reading.Read most text is h = tt
-may_fail reading.TooLarge most text is h = omega (arith, is, h)
-may_fail reading.NoMemory most text is h = tt
+may_fail fault most text is h = grind (arith, common_steps)
 
 pub too_large : (fault : ReadFault) → trace_fault_of fault ≡ TooLarge → fault ≡ reading.TooLarge
-too_large reading.Read e = absurd cc
-too_large reading.TooLarge e = refl
-too_large reading.NoMemory e = absurd cc
+too_large fault e = grind (arith, common_steps)
 
 -- ---- lines that were read
 
@@ -49,17 +46,12 @@ behind text rest p waiting left event h line = h.rest_is ∙ ap (λ (l : List �
 -- one more event
 event_read : (text : List ℕ) (events : List Event) (r : EventReader) (waiting : List ℕ) (left : Option (List ℕ)) (event : Event) → HasRead text events r left → HasLine r.version event → IsOf r.mutators event → r.pieces.waiting ≡ event_line event ++ waiting
     → HasRead text (events ++ event ∷ []) (record r { pieces = record r.pieces { waiting = waiting }; number = r.number + 1 }) left
-event_read text events r waiting left event h fits of line = record {
-  rest = waiting ++ drop r.pieces.read text;
-  within = record { left_is = h.within.left_is; read_is = h.within.read_is; rest_is = refl; end_is = h.within.end_is };
-  good = good_more text r.number r.version r.size r.mutators events h.rest event (waiting ++ drop r.pieces.read text) h.good fits of (behind text h.rest r.pieces waiting left event h.within line);
-}
+event_read text events r waiting left event h fits of line = grind (arith, common_steps, good_more, behind)
 
 -- an event of a mutator that does not exist
 stranger_read : (text : List ℕ) (events : List Event) (r : EventReader) (waiting : List ℕ) (left : Option (List ℕ)) (event : Event) → HasRead text events r left → HasLine r.version event → ¬ IsOf r.mutators event → r.pieces.waiting ≡ event_line event ++ waiting
     → HasStranger text r.number
-stranger_read text events r waiting left event h fits strange line =
-    (read_so_far r events, event, waiting ++ drop r.pieces.read text, subst (GoodBefore text r.number (read_so_far r events)) (behind text h.rest r.pieces waiting left event h.within line) h.good, fits, strange)
+stranger_read text events r waiting left event h fits strange line = grind (arith, common_steps, behind)
 
 -- ---- a reader that took a line from its buffer
 
@@ -67,28 +59,18 @@ abbrev pub HasTakenLine : EventReader → EventReader → Event → Type 0
 HasTakenLine r next event = (r.pieces.waiting ≡ event_line event ++ next.pieces.waiting) × (next ≡ record r { pieces = record r.pieces { waiting = next.pieces.waiting } })
 
 pub within_taken : (text : List ℕ) (events : List Event) (r next : EventReader) (left : Option (List ℕ)) (event : Event) → HasRead text events r left → HasTakenLine r next event → IsWithin text (next.pieces.waiting ++ drop r.pieces.read text) next.pieces left
-within_taken text events r next left event h taken =
-    subst (λ (n : EventReader). IsWithin text (next.pieces.waiting ++ drop r.pieces.read text) n.pieces left) (sym taken.1) (record { left_is = h.within.left_is; read_is = h.within.read_is; rest_is = refl; end_is = h.within.end_is })
+within_taken text events r next left event h taken = grind (arith, common_steps)
 
 pub event_taken : (text : List ℕ) (events : List Event) (r next : EventReader) (left : Option (List ℕ)) (event : Event) → HasRead text events r left → HasTakenLine r next event → HasLine r.version event → IsOf next.mutators event
     → HasRead text (events ++ event ∷ []) (record next { number = next.number + 1 }) left
-event_taken text events r next left event h taken fits of =
-    subst (λ (n : EventReader). HasRead text (events ++ event ∷ []) (record n { number = n.number + 1 }) left) (sym taken.1)
-    (event_read text events r next.pieces.waiting left event h fits (subst (λ (m : ℕ). IsOf m event) (ap (λ (n : EventReader). n.mutators) taken.1) of) taken.0)
+event_taken text events r next left event h taken fits of = grind (arith, common_steps, event_read)
 
 pub stranger_taken : (text : List ℕ) (events : List Event) (r next : EventReader) (left : Option (List ℕ)) (event : Event) → HasRead text events r left → HasTakenLine r next event → HasLine r.version event → ¬ IsOf next.mutators event → HasStranger text next.number
-stranger_taken text events r next left event h taken fits strange =
-    subst (λ (n : EventReader). HasStranger text n.number) (sym taken.1)
-    (stranger_read text events r next.pieces.waiting left event h fits (λ of. strange (subst (λ (m : ℕ). IsOf m event) (sym (ap (λ (n : EventReader). n.mutators) taken.1)) of)) taken.0)
+stranger_taken text events r next left event h taken fits strange = grind (arith, common_steps, stranger_read)
 
 -- after one more line, the count of lines is still bounded by the count of bytes
 pub still_counted : (r next : EventReader) (event : Event) → IsReadingTrace r → HasTakenLine r next event → IsReadingTrace next → IsReadingTrace (record next { number = next.number + 1 })
-still_counted r next event reading taken after = record {
-  heading = after.heading;
-  counted = omega (arith, reading.counted, line_takes event r.pieces.waiting next.pieces.waiting taken.0, ap (λ (n : EventReader). n.number) taken.1, ap (λ (n : EventReader). n.pieces.read) taken.1);
-  bounded = after.bounded;
-  limit_is = after.limit_is;
-}
+still_counted r next event reading taken after = grind (arith, common_steps, line_takes)
 
 -- ---- a reader whose text ends with its buffer, when the buffer does not begin with an event line
 
@@ -98,7 +80,7 @@ bad_line text events r left h same some none = (read_so_far r events, h.rest, h.
 -- ---- all events of a text
 
 -- each event can happen
-abbrev pub AllCan : EventReader → List Event → Type 0
+abbrev AllCan : EventReader → List Event → Type 0
 AllCan r events = AllByRecursion (λ event. HasLine r.version event × IsOf r.mutators event) events
 
 -- reading more does not change the heading

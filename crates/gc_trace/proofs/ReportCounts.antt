@@ -1,5 +1,6 @@
 -- Reports after one more answer, and bounds on their numbers.
-use Rattle.std.proofs.Common.{◌≡◌, ℕ, suc, ◌+◌, ◌<◌, ◌^◌, Bool, true, false, cond, List, [], ◌∷◌, ◌++◌, length, take, get_or, refl, sym, ◌∙◌, ap, subst, arith, length-append}
+use Rattle.std.proofs.lemmas.Grind.{common_steps}
+use Rattle.std.proofs.Common.{◌≡◌, ℕ, suc, ◌+◌, ◌<◌, ◌^◌, Bool, cond, List, [], ◌∷◌, ◌++◌, length, take, get_or, refl, ◌∙◌, ap, subst, arith}
 use Rattle.std.specs.List.{count_by, sum_by}
 use Rattle.std.proofs.lemmas.List.{length-map, map_more, take-map, length-take}
 use Rattle.std.proofs.lemmas.List.Sums.{sum_by_push, sum_by-take-le, count_by-le-length}
@@ -10,7 +11,7 @@ use Rattle.gc_plan.specs.declared.event.Event.{Event}
 use Rattle.gc_world.specs.History.{unmarked, answers_of, IsHistory}
 use Rattle.gc_world.specs.declared.entry.Entry.{Entry}
 use Rattle.gc_trace.specs.declared.report.Report.{Report}
-use Rattle.gc_trace.specs.Report.{counted_in, flipped_pairs, report_of}
+use Rattle.gc_trace.specs.Report.{flipped_pairs, report_of}
 use Rattle.gc_trace.specs.Internal.Report.{one_more_if, with_answer, FitsU64}
 use Rattle.gc_trace.proofs.PairsPlaced.{few_pairs, run_places}
 
@@ -18,26 +19,13 @@ abbrev answer_of : Entry → Answer
 answer_of entry = unmarked entry.answer
 
 one_more_is : (is : Bool) (n : ℕ) → n + cond is 1 0 ≡ one_more_if is n
-one_more_is true n = refl
-one_more_is false n = omega arith
+one_more_is is n = grind (arith, common_steps)
 
 count_push : (is : Answer → Bool) (answers : List Answer) (answer : Answer) → count_by is (answers ++ answer ∷ []) ≡ one_more_if (is answer) (count_by is answers)
 count_push is answers answer = sum_by_push (λ a. cond (is a) 1 0) answers answer ∙ one_more_is (is answer) (count_by is answers)
 
 pub report_push : (answers : List Answer) (answer : Answer) (s : State) → with_answer (report_of answers s) answer ≡ report_of (answers ++ answer ∷ []) s
-report_push answers answer s =
-    let events : length (answers ++ answer ∷ []) ≡ length answers + 1 = length-append answers (answer ∷ []) in
-    let made = count_push (counted_in 2) answers answer in
-    let full = count_push (counted_in 3) answers answer in
-    let begun = count_push (counted_in 4) answers answer in
-    let copied = count_push (counted_in 5) answers answer in
-    let scanned = count_push (counted_in 6) answers answer in
-    let applied = count_push (counted_in 7) answers answer in
-    let flips = count_push (counted_in 8) answers answer in
-    let pairs = sum_by_push flipped_pairs answers answer in
-    let dropped = count_push (counted_in 10) answers answer in
-    let refused = count_push (counted_in 11) answers answer in
-    cc
+report_push answers answer s = grind (arith, common_steps, count_push, sum_by_push)
 
 -- before the first answer
 pub none_counted : (r : Report) (end free : ℕ) (s : State) → r ≡ record { events = 0; made = 0; full = 0; begun = 0; copied = 0; scanned = 0; applied = 0; flips = 0; pairs = 0; dropped = 0; refused = 0; end = end; free = free }
@@ -46,26 +34,10 @@ none_counted r end free s is same_end same_free = is ∙ cc
 
 -- the first entry that is not yet counted
 pub next_counted : (items : List Entry) (i : ℕ) (entry : Entry) (r : Report) (s : State) → i < length items → entry ≡ get_or items i entry → r ≡ report_of (answers_of (take i items)) s → with_answer r (answer_of entry) ≡ report_of (answers_of (take (i + 1) items)) s
-next_counted items i entry r s lt is so_far =
-    ap (λ (r : Report). with_answer r (answer_of entry)) so_far
-    ∙ report_push (answers_of (take i items)) (answer_of entry) s
-    ∙ ap (λ (e : Entry). report_of (answers_of (take i items) ++ answer_of e ∷ []) s) is
-    ∙ ap (λ (answers : List Answer). report_of answers s) (sym (map_more answer_of items i entry lt))
+next_counted items i entry r s lt is so_far = grind (arith, common_steps, report_push, map_more)
 
 report_fits : (answers : List Answer) (s : State) → length answers < 2 ^ 64 → sum_by flipped_pairs answers < 2 ^ 64 → FitsU64 (report_of answers s)
-report_fits answers s few few_pairs = record {
-  events = few;
-  made = omega (arith, few, count_by-le-length (counted_in 2) answers);
-  full = omega (arith, few, count_by-le-length (counted_in 3) answers);
-  begun = omega (arith, few, count_by-le-length (counted_in 4) answers);
-  copied = omega (arith, few, count_by-le-length (counted_in 5) answers);
-  scanned = omega (arith, few, count_by-le-length (counted_in 6) answers);
-  applied = omega (arith, few, count_by-le-length (counted_in 7) answers);
-  flips = omega (arith, few, count_by-le-length (counted_in 8) answers);
-  pairs = few_pairs;
-  dropped = omega (arith, few, count_by-le-length (counted_in 10) answers);
-  refused = omega (arith, few, count_by-le-length (counted_in 11) answers);
-}
+report_fits answers s few few_pairs = grind (arith, common_steps, few_pairs, count_by-le-length)
 
 -- a prefix of a history has no more answers or pairs
 pub front_fits : (size mutators : ℕ) (items : List Entry) (i : ℕ) (s : State) → IsHistory size mutators items → length items < 2 ^ 64 → FitsU64 (report_of (answers_of (take i items)) s)
@@ -83,7 +55,4 @@ told_count s (event ∷ events) = ap suc (told_count (runs.after s event) events
 
 -- a run from an empty heap has no more pairs than events
 pub run_fits : (size mutators : ℕ) (events : List Event) (s : State) → length events < 2 ^ 64 → FitsU64 (report_of (runs.answers (opening_state size mutators) events) s)
-run_fits size mutators events s few =
-    let told = runs.answers (opening_state size mutators) events in
-    let count = told_count (opening_state size mutators) events in
-    report_fits told s (omega (arith, few, count)) (omega (arith, few, run_places (opening_state size mutators) events))
+run_fits size mutators events s few = grind (arith, common_steps, told_count, report_fits, run_places)

@@ -1,4 +1,5 @@
 -- The worked rows.
+use Rattle.std.proofs.lemmas.Grind.{common_steps}
 use Rattle.std.proofs.Common.{◌≡◌, ◌≢◌, ℕ, ◌≤◌, List, [], ◌∷◌, ◌++◌, length, leb, refl, sym, arith, true, None}
 use Rattle.std.proofs.lemmas.Bool.{leb-true}
 use Rattle.std.proofs.lemmas.List.{append-nil}
@@ -46,8 +47,7 @@ third : (version : ℕ) (rest : List ℕ) → 1 ≤ version → version ≤ 3 �
 third version rest low high some none small-enough = (short (first version ++ rest) small-enough, (small version [], rest, record { lines = first version; good = opening_text version low high; parts = refl; number = refl }, some, none))
 
 some_line : (line : List ℕ) → ended line ≢ []
-some_line [] e = cc
-some_line (b ∷ line) e = cc
+some_line line e = grind (arith, common_steps)
 
 -- the whole of line 3 is bad
 third_line : (version : ℕ) (line : List ℕ) → 1 ≤ version → version ≤ 3 → lacks newline line ≡ true → event_of version (tokens_of line) ≡ None → leb (length (first version ++ ended line)) trace_limit ≡ true → IsTraceFaultOf (BadLine 3) (first version ++ ended line)

@@ -1,4 +1,5 @@
 -- Events of a trace, whose sizes a text can hold, are events of a heap.
+use Rattle.std.proofs.lemmas.Grind.{common_steps}
 use Rattle.std.proofs.Common.{ℕ, ◌<◌, arith}
 use Rattle.gc_graph.specs.Limits.{most_words}
 use Rattle.gc_graph.specs.Range.{IsCommand}
@@ -6,26 +7,17 @@ use Rattle.gc_graph.specs.declared.command.Op.{Op}
 use Rattle.gc_plan.specs.Belonging.{IsState}
 use Rattle.gc_plan.specs.State.{State}
 use Rattle.gc_plan.specs.Steps.{mutate, collect}
-use Rattle.gc_plan.specs.Runs.{IsStepWithin, IsEventWithin, IsStep, IsEvent, HasSizesWithin, after}
+use Rattle.gc_plan.specs.Runs.{IsEventWithin, IsStep, IsEvent, after}
 use Rattle.gc_plan.specs.declared.event.Event.{Event}
-use Rattle.gc_plan.specs.declared.event.Event.TheVariants.{Mutate, Collect}
 use Rattle.gc_plan.specs.declared.step.Step.{Step}
-use Rattle.gc_plan.proofs.Public.{wider_step, wider_event, event_within as sizes_stay}
-
-heap_step : (mutators : ℕ) (step : Step) → IsStepWithin most_words mutators step → IsStep mutators step
-heap_step mutators step within = wider_step most_words mutators step (omega arith) within
+use Rattle.gc_plan.proofs.Public.{wider_step, wider_event}
 
 pub heap_event : (mutators : ℕ) (event : Event) → IsEventWithin most_words mutators event → IsEvent mutators event
 heap_event mutators event within = wider_event most_words mutators event (omega arith) within
-
--- the event keeps the spaces small enough for a text
-pub event_within : (mutators : ℕ) (s : State) (event : Event) → HasSizesWithin most_words s → IsEventWithin most_words mutators event → HasSizesWithin most_words (after s event)
-event_within mutators s event small within = sizes_stay most_words mutators s event small within
 
 -- an event leads from a state to a state, as its two kinds do
 pub state_kept : (s : State) (event : Event)
     → ((s : State) (m : ℕ) (op : Op) → IsState s → m < s.mutators → IsCommand op → IsState (mutate s m op).1)
     → ((s : State) (step : Step) → IsState s → IsStep s.mutators step → IsState (collect s step).1)
     → IsState s → IsEventWithin most_words s.mutators event → IsState (after s event)
-state_kept s (Mutate m op) commands steps ok within = commands s m op ok within.0 within.1
-state_kept s (Collect step) commands steps ok within = steps s step ok (heap_step s.mutators step within)
+state_kept s event commands steps ok within = grind (arith, common_steps, wider_step)

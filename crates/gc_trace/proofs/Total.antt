@@ -1,5 +1,6 @@
 -- After a good heading every text is a whole trace, or it has a bad line or an event of a mutator that does not exist.
-use Rattle.std.proofs.Common.{◌≡◌, ℕ, suc, zero, ◌+◌, ◌<◌, ◌≤◌, Bool, true, false, leb, List, [], ◌∷◌, ◌++◌, length, refl, sym, ap, ◌∙◌, arith, append_assoc, subst, inl, inr, ◌⊎◌, Option, Some, None}
+use Rattle.std.proofs.lemmas.Grind.{common_steps}
+use Rattle.std.proofs.Common.{◌≡◌, ℕ, suc, zero, ◌+◌, ◌<◌, ◌≤◌, List, [], ◌∷◌, ◌++◌, length, refl, sym, ap, ◌∙◌, arith, append_assoc, subst, inl, inr, ◌⊎◌, Option, Some, None}
 use Rattle.std.specs.List.{flat_map}
 use Rattle.std.proofs.lemmas.Bool.{leb-true}
 use Rattle.std.proofs.lemmas.List.{append-nil, length-append}
@@ -11,7 +12,6 @@ use Rattle.gc_graph.proofs.Public.{Cut, cut, joined-tokens_of, all_push}
 use Rattle.gc_plan.specs.declared.step.Step.{Step}
 use Rattle.gc_plan.specs.declared.step.Step.TheVariants as steps
 use Rattle.gc_plan.specs.declared.event.Event.{Event}
-use Rattle.gc_plan.specs.declared.event.Event.TheVariants.{Mutate, Collect}
 use Rattle.gc_trace.specs.Internal.Parsers.{event_of, version_at, sizes_at}
 use Rattle.gc_trace.specs.Grammar.{Recording, event_tokens, event_line, version_tokens, size_tokens, trace_heading, trace_text, IsHeading, HasLine, IsOf, IsTraceText}
 use Rattle.gc_trace.specs.Faults.{trace_limit, GoodBefore, HasNoHeading, HasBadLine, HasStranger, IsTraceFaultOf, IsReadAsTrace}
@@ -22,28 +22,13 @@ use Rattle.gc_trace.proofs.FrontFaults.{no_line, no_event, no_first, no_version,
 use Rattle.gc_trace.proofs.OneReading.{event_line-more, heading-more}
 
 dec_le : (m n : ℕ) → (m ≤ n) ⊎ (m ≤ n → ⊥)
-dec_le m n = at (leb m n) refl
-  where
-    at : (b : Bool) → leb m n ≡ b → (m ≤ n) ⊎ (m ≤ n → ⊥)
-    at true e = inl (leb-true m n e)
-    at false e = inr (λ le. grind (arith, e, le))
+dec_le m n = grind (arith, common_steps, leb-true)
 
 dec_step : (mutators : ℕ) (step : Step) → IsStepWithin most_words 16 step → IsStepWithin most_words mutators step ⊎ (IsStepWithin most_words mutators step → ⊥)
-dec_step mutators steps.Begin fits = inl tt
-dec_step mutators (steps.BeginSized size) fits = inl fits
-dec_step mutators steps.Roots fits = inl tt
-dec_step mutators steps.Scan fits = inl tt
-dec_step mutators (steps.Apply k) fits = dec_le (suc k) mutators
-dec_step mutators steps.Flip fits = inl tt
-dec_step mutators steps.Drop fits = inl tt
+dec_step mutators step fits = grind (arith, common_steps, dec_le)
 
 dec_of : (version mutators : ℕ) (event : Event) → HasLine version event → IsOf mutators event ⊎ (IsOf mutators event → ⊥)
-dec_of version mutators (Mutate m op) fits =
-    elim (dec_le (suc m) mutators) [
-      | inl le ↦ inl (le, fits.range.1)
-      | inr above ↦ inr (λ of. above of.0)
-    ]
-dec_of version mutators (Collect step) fits = dec_step mutators step fits.range
+dec_of version mutators event fits = grind (arith, common_steps, dec_le, dec_step)
 
 -- the event that the text begins with
 pub one_event : (version : ℕ) (rest line after : List ℕ) (e : Event) → 1 ≤ version → rest ≡ line ++ newline ∷ after → event_of version (tokens_of line) ≡ Some e → HasLine version e × (rest ≡ event_line e ++ after)
@@ -96,10 +81,7 @@ good_more text n v s m events rest e after so_far fits of is =
 
 -- all lines were read
 pub good_end : (text : List ℕ) (n : ℕ) (t : Recording) (rest : List ℕ) → GoodBefore text n t rest → rest ≡ [] → IsTraceText t text
-good_end text n t rest so_far none = record {
-  recording = so_far.good.recording;
-  spelled = so_far.parts ∙ ap (λ (l : List ℕ). so_far.lines ++ l) none ∙ append-nil so_far.lines ∙ so_far.good.spelled;
-}
+good_end text n t rest so_far none = grind (arith, common_steps, append-nil)
 
 abbrev Reading : List ℕ → Type 0
 Reading text = ((t : Recording) × IsTraceText t text) ⊎ ((n : ℕ) × HasBadLine text n) ⊎ ((n : ℕ) × HasStranger text n)
@@ -153,7 +135,7 @@ headed text =
     ]
 
 -- a trace, or a first fault
-abbrev pub Answered : List ℕ → Type 0
+abbrev Answered : List ℕ → Type 0
 Answered text = ((t : Recording) × IsReadAsTrace t text) ⊎ ((f : TraceFault) × IsTraceFaultOf f text)
 
 answered : (text : List ℕ) → length text ≤ trace_limit → Reading text → Answered text

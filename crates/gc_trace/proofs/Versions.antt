@@ -1,38 +1,23 @@
 -- The least version that has the lines of these events.
+use Rattle.std.proofs.lemmas.Grind.{common_steps}
 use Rattle.std.proofs.Common.{◌≡◌, ℕ, ◌≤◌, max, List, [], ◌∷◌, drop, arith}
 use Rattle.gc_graph.specs.declared.command.Op.{Op}
 use Rattle.gc_graph.specs.declared.command.Op.TheVariants as ops
 use Rattle.gc_plan.specs.declared.step.Step.{Step}
 use Rattle.gc_plan.specs.declared.step.Step.TheVariants as steps
 use Rattle.gc_plan.specs.declared.event.Event.{Event}
-use Rattle.gc_plan.specs.declared.event.Event.TheVariants.{Mutate, Collect}
 use Rattle.gc_world.specs.declared.entry.Entry.{Entry}
 use Rattle.gc_trace.specs.Grammar.{newest, op_version, step_version, version_of, least_version}
 use Rattle.gc_world.specs.History.{events_of}
 
 op_range : (op : Op) → (1 ≤ op_version op) × (op_version op ≤ newest)
-op_range (ops.New d kind len) = (omega arith, omega arith)
-op_range (ops.NewRaw d kind len) = (omega arith, omega arith)
-op_range (ops.Num d n) = (omega arith, omega arith)
-op_range (ops.Nil d) = (omega arith, omega arith)
-op_range (ops.Move d s) = (omega arith, omega arith)
-op_range (ops.Get d s i) = (omega arith, omega arith)
-op_range (ops.Put s i t) = (omega arith, omega arith)
-op_range (ops.Same s t) = (omega arith, omega arith)
-op_range (ops.Look s) = (omega arith, omega arith)
+op_range op = grind (arith, common_steps)
 
 step_range : (step : Step) → (1 ≤ step_version step) × (step_version step ≤ newest)
-step_range steps.Begin = (omega arith, omega arith)
-step_range (steps.BeginSized size) = (omega arith, omega arith)
-step_range steps.Roots = (omega arith, omega arith)
-step_range steps.Scan = (omega arith, omega arith)
-step_range (steps.Apply k) = (omega arith, omega arith)
-step_range steps.Flip = (omega arith, omega arith)
-step_range steps.Drop = (omega arith, omega arith)
+step_range step = grind (arith, common_steps)
 
 version_range : (event : Event) → (1 ≤ version_of event) × (version_of event ≤ newest)
-version_range (Mutate m op) = op_range op
-version_range (Collect step) = step_range step
+version_range event = grind (arith, common_steps, op_range, step_range)
 
 pub least_range : (events : List Event) → (1 ≤ least_version events) × (least_version events ≤ newest)
 least_range [] = (omega arith, omega arith)

@@ -13,9 +13,8 @@ ghost use Rattle.gc_trace.specs.Views.{recording};
 use crate::trace::Trace;
 use gc_cert::PairFile;
 use gc_check::Sequential;
-use gc_copy::StepReply;
 use gc_core::{CollectedHeap, Keep};
-use gc_graph::{NoMemory, Reply, View};
+use gc_graph::NoMemory;
 use gc_plan::{Event, scans_and_pairs_are_bounded, states_are_kept};
 use std::alloc::Global;
 
@@ -35,8 +34,6 @@ fn flip_in(heap: &mut CollectedHeap, event: &Event) -> Result<Option<PairFile>, 
 {
     states_are_kept();
     scans_and_pairs_are_bounded();
-    // A body that drops an answer must name the types of its parts.
-    let _named: (Option<Reply>, Option<StepReply>, Option<View>) = (None, None, None);
     Ok(heap.perform(&Sequential, event, Keep::Pair)?.pair)
 }
 

@@ -24,6 +24,7 @@ pub fn texts_have_one_reading()
 
 /// The text of a world's history is read back as its events, if the text is within the limit. Playing these events
 /// gives the history's answers.
+#[tactic(auto, using(crate::proofs::HistoryTexts::history_has_text, crate::proofs::HistoryTexts::same_answers))]
 pub fn written_is_read()
     ensures read { (size mutators : ℕ) (entries : List Entry)
         → IsHistory size mutators entries
@@ -34,6 +35,7 @@ pub fn written_is_read()
 {}
 
 /// The worked examples hold of the definitions, by computation.
+#[tactic(auto, using(crate::proofs::RowProofs::text_rows, crate::proofs::RowProofs::sized_rows, crate::proofs::RowProofs::raw_rows, crate::proofs::RowProofs::line_rows))]
 pub fn worked_rows()
     ensures texts { TextRows }
     ensures sized { SizedRows }
@@ -47,6 +49,7 @@ pub fn worked_report()
 {}
 
 /// Each replica is placed by a different step, so a report has no more pairs than events.
+#[tactic(auto, using(crate::proofs::PairsPlaced::few_pairs))]
 pub fn pairs_are_placed_by_steps()
     ensures { (size mutators : ℕ) (entries : List Entry) → IsHistory size mutators entries
         → (let report = report_of (answers_of entries) (state_after size mutators entries) in

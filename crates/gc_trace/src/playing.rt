@@ -18,10 +18,10 @@ use crate::fault::TraceFault;
 use crate::replies::{LINE, print_answer};
 use crate::report::Report;
 use gc_check::Sequential;
-use gc_copy::{StepReply, heaps_have_addresses_as_names};
+use gc_copy::heaps_have_addresses_as_names;
 use gc_core::{CollectedHeap, Keep};
 use gc_graph::text::Printer;
-use gc_graph::{NoMemory, Op, Reply, Source, View};
+use gc_graph::{NoMemory, Source};
 use gc_plan::{Answer, Event, states_are_kept};
 use std::alloc::Global;
 use std::io::Read;
@@ -94,8 +94,6 @@ impl Player {
         ensures gather { self.new.gather ≡ self.old.gather }
     {
         states_are_kept();
-        // A body that holds an answer must name the types of its parts.
-        let _named: (Option<Reply>, Option<StepReply>, Option<View>) = (None, None, None);
         let answer = self.heap.perform(&Sequential, event, Keep::Nothing)?.answer;
         self.report.count(&answer);
         let Gather::Replies = self.gather else {
@@ -125,8 +123,6 @@ impl Player {
         ensures gather { self.new.gather ≡ self.old.gather }
         ensures read { (result ≡ Err TraceFault.Read) ↔ (source_failed reader.new ≡ true) }
     {
-        // A body that holds an event must name the type of its command.
-        let _named: Option<Op> = None;
         while let Some(event) = lines.next(reader)? {
             self.take(&event)?;
         }
@@ -134,6 +130,7 @@ impl Player {
     }
 
     /// Takes the results after the last event. The player stays where it is: a copy would take 16 KiB of stack.
+    #[tactic(auto, using(crate::proofs::SpaceEnds::same_end, crate::proofs::PlayedEvents::report_is))]
     fn finish(&mut self, alloc: Global) -> Result<Played, NoMemory>
         requires sound { IsState self.old.heap }
         ensures report { (s : State) (events : List Event) → HasPlayed s events self.old

@@ -7,7 +7,7 @@ ghost use Rattle.gc_trace.specs.Views.{recording};
 use crate::event_reader::EventReader;
 use crate::fault::TraceFault;
 use crate::trace::Trace;
-use gc_graph::{Op, Source};
+use gc_graph::Source;
 use std::alloc::Global;
 use std::io::Read;
 
@@ -25,8 +25,6 @@ pub fn read_trace<R: Read>(alloc: Global, reader: &mut Source<R>) -> Result<Trac
 {
     let mut lines = EventReader::open(alloc, reader)?;
     let mut events = Vec::new(alloc);
-    // A body that pushes an event must name the type of its command.
-    let _named: Option<Op> = None;
     while let Some(event) = lines.next(reader)? {
         events.push(event)?;
     }

@@ -1,7 +1,7 @@
 use gc_cert::WriteFault;
 use gc_copy::{StepReply, heaps_have_addresses_as_names};
 use gc_graph::text::Printer;
-use gc_graph::{Reply, Sink, View};
+use gc_graph::{Reply, Sink};
 use gc_words::Space;
 use gc_world::{Answer, World, runs_keep_states};
 use std::io::Write;
@@ -113,7 +113,6 @@ impl Report {
         requires { FitsU64 (with_answer self.old (Mutator reply.now)) }
         ensures { self.new ≡ record (with_answer self.old (Mutator reply.now)) { events = self.old.events } }
     {
-        let _named = View::Nil;
         match reply {
             Reply::Made => self.made += 1,
             Reply::Full => self.full += 1,

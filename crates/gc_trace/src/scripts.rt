@@ -25,7 +25,6 @@ fn script_of(alloc: Global, m: u8, events: &[Event]) -> Result<Vec<Op>, NoMemory
     ensures { IfOk result (λ script. script.items ≡ commands_of m events.now) }
 {
     let mut script = Vec::new(alloc);
-    let _named: Option<Op> = None;
     for event in events {
         if let Event::Mutate { m: other, op } = event {
             if *other == m {

@@ -174,6 +174,7 @@ fn version_of(event: &Event) -> u8
 }
 
 /// Returns the first version that has the lines of all events.
+#[tactic(auto, using(crate::proofs::Versions::least_all))]
 fn least_version(history: &[Entry]) -> u8
     ensures { result ≡ least_version (events_of history.now) }
 {

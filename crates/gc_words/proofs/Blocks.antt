@@ -1,5 +1,6 @@
 -- The object at a place after a write.
-use Rattle.std.proofs.Common.{◌≡◌, ℕ, suc, zero, ◌+◌, ◌<◌, ◌≤◌, true, false, cond, ◌==◌, List, [], ◌∷◌, ◌++◌, length, Option, Some, None, refl, sym, ◌∙◌, ap, arith}
+use Rattle.std.proofs.lemmas.Grind.{common_steps}
+use Rattle.std.proofs.Common.{◌≡◌, ℕ, suc, zero, ◌+◌, ◌<◌, ◌≤◌, true, false, cond, ◌==◌, List, [], ◌∷◌, ◌++◌, length, Option, Some, None, refl, ◌∙◌, ap, arith}
 use Rattle.std.specs.Prelude.{slice_get, slice_set, IsSome}
 use Rattle.std.proofs.lemmas.Bool.{eqb-true, eq-eqb, ne_eqb}
 use Rattle.gc_words.specs.Image.{Block, fresh_block, blocks, block_in, block_at, field_in, field_at, with_field_word, set_block}
@@ -59,12 +60,7 @@ at_set (entry ∷ bs) a i w b found =
 
 beside_set : (bs : List (ℕ × Block)) (a i w x : ℕ) → (a ≡ x → ⊥) → block_in (set_block bs a i w) x ≡ block_in bs x
 beside_set [] a i w x other = refl
-beside_set (entry ∷ bs) a i w x other =
-    elim (entry.0 == a) as (λ t. (entry.0 == a) ≡ t → block_in (cond t ((entry.0, with_field_word entry.1 i w) ∷ bs) (entry ∷ set_block bs a i w)) x ≡ cond (entry.0 == x) (Some entry.1) (block_in bs x)) [
-      | true ↦ λ here. (let differs : (entry.0 == x) ≡ false = ne_eqb entry.0 x (λ same. other (sym (eqb-true entry.0 a here) ∙ same)) in
-          ap (λ t. cond t (Some (with_field_word entry.1 i w)) (block_in bs x)) differs ∙ sym (ap (λ t. cond t (Some entry.1) (block_in bs x)) differs))
-      | false ↦ λ differs. ap (cond (entry.0 == x) (Some entry.1)) (beside_set bs a i w x other)
-    ] refl
+beside_set (entry ∷ bs) a i w x other = grind (arith, common_steps, ne_eqb, eqb-true, beside_set bs a i w x other)
 
 pub field_block : (s : SpaceWords) (a i w : ℕ) (b : Block) → IsSpace s → IsSome (field_at s.words a i) → block_at s.words a ≡ Some b → block_at (with_word s (field_place a i) w).words a ≡ Some (with_field_word b i w)
 field_block s a i w b space some found = ap (λ bs. block_in bs a) (field_written s a i w space some).1 ∙ at_set (blocks s.words) a i w b found

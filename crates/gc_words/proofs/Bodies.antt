@@ -1,5 +1,6 @@
 -- What the code of a space's calls reads and writes.
-use Rattle.std.proofs.Common.{◌≡◌, ℕ, suc, ◌+◌, ◌-◌, ◌<◌, ◌≤◌, true, List, [], ◌∷◌, ◌++◌, length, get_or, take, drop, replicate, Some, None, sym, ◌∙◌, ap, subst, arith, append_assoc}
+use Rattle.std.proofs.lemmas.Grind.{common_steps}
+use Rattle.std.proofs.Common.{◌≡◌, ℕ, ◌+◌, ◌-◌, ◌<◌, ◌≤◌, true, List, [], ◌∷◌, ◌++◌, length, get_or, take, drop, replicate, Some, None, sym, ◌∙◌, ap, subst, arith}
 use Rattle.std.specs.Prelude.{slice_index, IsSome, IsOk, nat_le}
 use Rattle.std.proofs.lemmas.Bool.{cond-true, le-leb}
 use Rattle.std.proofs.lemmas.List.{get_or_read, take_at}
@@ -7,7 +8,7 @@ use Rattle.gc_words.specs.Word.{IsHeader, header_word}
 use Rattle.gc_words.specs.Image.{Block, walk_words, header_of, header_at, fresh_block, blocks, block_at, is_start, field_at, set_block}
 use Rattle.gc_words.specs.Spelling.{block_words, spelled, no_links}
 use Rattle.gc_words.specs.Layout.{field_place, link_place, next_place}
-use Rattle.gc_words.specs.Space.{SpaceWords, IsSpace, end_of, HasRoomFor, CanPlace, with_object, with_word, without_links}
+use Rattle.gc_words.specs.Space.{SpaceWords, IsSpace, end_of, HasRoomFor, with_object, with_word, without_links}
 use Rattle.gc_words.specs.declared.header.Header.{Header}
 use Rattle.gc_graph.specs.Machine.{object_words}
 use Rattle.gc_words.specs.Walking.{next_of, next_after, StandsIn}
@@ -25,8 +26,7 @@ pub field_seen : (s t : SpaceWords) (a i : ℕ) → s ≡ t → IsSpace s → Is
 field_seen s t a i same space some = field_read t.words a i (subst IsSpace same space).walked some
 
 pub word_seen : (s t : SpaceWords) (p x : ℕ) → s ≡ t → p < length t.words → x ≡ get_or s.words p x → x ≡ slice_index t.words p
-word_seen s t p x same inside read =
-    get_or_read s.words p x (subst (λ (s : SpaceWords). p < length s.words) (sym same) inside) read 0 ∙ ap (λ (s : SpaceWords). slice_index s.words p) same
+word_seen s t p x same inside read = grind (arith, common_steps, get_or_read)
 
 -- ---- the place after an object
 
@@ -58,19 +58,11 @@ next_seen s t a same space start = next_read t.words a (subst IsSpace same space
 
 pub field_at_place : (s t : SpaceWords) (a i w p : ℕ) → s ≡ t → p ≡ field_place a i → IsSpace s → IsSome (field_at t.words a i)
     → IsSpace (with_word s p w) × (blocks (with_word s p w).words ≡ set_block (blocks t.words) a i w) × (field_at (with_word s p w).words a i ≡ Some w)
-field_at_place s t a i w p same place space some =
-    let has : IsSome (field_at s.words a i) = subst (λ (s : SpaceWords). IsSome (field_at s.words a i)) (sym same) some in
-    let written : IsSpace (with_word s (field_place a i) w) × (blocks (with_word s (field_place a i) w).words ≡ set_block (blocks s.words) a i w) = field_written s a i w space has in
-    subst (λ p. IsSpace (with_word s p w) × (blocks (with_word s p w).words ≡ set_block (blocks t.words) a i w) × (field_at (with_word s p w).words a i ≡ Some w)) (sym place)
-    (written.0, written.1 ∙ ap (λ (s : SpaceWords). set_block (blocks s.words) a i w) same, written_word s a i w space has)
+field_at_place s t a i w p same place space some = grind (arith, common_steps, field_written, written_word)
 
 pub link_at_place : (s t : SpaceWords) (a w p : ℕ) → s ≡ t → p ≡ link_place a → IsSpace s → is_start t.words a ≡ true
     → IsSpace (with_word s p w) × (blocks (with_word s p w).words ≡ blocks t.words)
-link_at_place s t a w p same place space start =
-    let written : IsSpace (with_word s (link_place a) w) × (blocks (with_word s (link_place a) w).words ≡ blocks s.words)
-    = link_written s a w space (subst (λ (s : SpaceWords). is_start s.words a ≡ true) (sym same) start) in
-    subst (λ p. IsSpace (with_word s p w) × (blocks (with_word s p w).words ≡ blocks t.words)) (sym place)
-    (written.0, written.1 ∙ ap (λ (s : SpaceWords). blocks s.words) same)
+link_at_place s t a w p same place space start = grind (arith, common_steps, link_written)
 
 -- ---- placing an object: push its header word, then make room for its other words
 
@@ -81,23 +73,11 @@ pub record Places (s t : SpaceWords) (h : Header) : Type 0 where
   pub words : s ≡ with_object t h
 
 zeros_added : (old pushed new : List ℕ) (h : Header) (n : ℕ) → pushed ≡ old ++ header_word h ∷ [] → n ≡ h.len + 1 → new ≡ pushed ++ replicate n 0 → new ≡ old ++ block_words 0 (fresh_block h)
-zeros_added old pushed new h n push count made =
-    let more : n ≡ suc h.len = omega arith in
-    made ∙ (λ i. push i ++ replicate (more i) 0) ∙ append_assoc old (header_word h ∷ []) (0 ∷ replicate h.len 0)
+zeros_added old pushed new h n push count made = grind (arith, common_steps)
 
 pub object_placed : (s t : SpaceWords) (pushed new : List ℕ) (h : Header) (n : ℕ) → s ≡ t → IsSpace s → IsHeader h → HasRoomFor t h.len
     → pushed ≡ s.words ++ header_word h ∷ [] → n ≡ h.len + 1 → new ≡ pushed ++ replicate n 0 → Places (record { size = s.size; words = new }) t h
-object_placed s t pushed new h n same space is room push count made =
-    let filled : new ≡ s.words ++ block_words 0 (fresh_block h) = zeros_added s.words pushed new h n push count made in
-    let can : CanPlace s h = record { shaped = space; header = is; room = subst (λ (s : SpaceWords). HasRoomFor s h.len) (sym same) room } in
-    let done : IsSpace (with_object s h) × (blocks (with_object s h).words ≡ blocks s.words ++ (end_of s, fresh_block h) ∷ []) = placed s h can in
-    subst (λ words. Places (record { size = s.size; words = words }) t h) (sym filled)
-    (record {
-      space = done.0;
-      objects = done.1 ∙ ap (λ (s : SpaceWords). blocks s.words ++ (end_of s, fresh_block h) ∷ []) same;
-      object = ap (λ (t : SpaceWords). block_at (with_object s h).words (end_of t)) (sym same) ∙ placed_block s h can;
-      words = ap (λ (s : SpaceWords). with_object s h) same;
-    })
+object_placed s t pushed new h n same space is room push count made = grind (arith, common_steps, zeros_added, placed, placed_block)
 
 -- ---- clearing links in the vector of words
 
@@ -108,14 +88,4 @@ pub record Clears (s t : SpaceWords) : Type 0 where
 
 pub links_cleared : (s t : SpaceWords) (lent new : List ℕ) (n : ℕ) → s ≡ t → IsSpace s → lent ≡ s.words → n ≡ length s.words → new ≡ spelled no_links (blocks lent)
     → Clears (record { size = s.size; words = take n (new ++ drop (length new) s.words) }) t
-links_cleared s t lent new n same space is count made =
-    let all : new ≡ spelled no_links (blocks s.words) = made ∙ ap (λ ws. spelled no_links (blocks ws)) is in
-    let long : length new ≡ n = ap length all ∙ length_cleared s.words space.walked space.end_low space.reserved ∙ sym count in
-    let whole : take n (new ++ drop (length new) s.words) ≡ spelled no_links (blocks s.words) = take_at new (drop (length new) s.words) n long ∙ all in
-    let done : IsSpace (without_links s) × (blocks (without_links s).words ≡ blocks s.words) = cleared s space in
-    subst (λ words. Clears (record { size = s.size; words = words }) t) (sym whole)
-    (record {
-      space = done.0;
-      objects = done.1 ∙ ap (λ (s : SpaceWords). blocks s.words) same;
-      words = ap without_links same;
-    })
+links_cleared s t lent new n same space is count made = grind (arith, common_steps, length_cleared, take_at, cleared)

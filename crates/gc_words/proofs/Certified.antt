@@ -1,10 +1,11 @@
 -- A certificate that holds makes the graphs of the two images correspond.
-use Rattle.std.proofs.Common.{◌≡◌, ℕ, suc, zero, ◌<◌, Bool, true, false, cond, ◌&&◌, ◌==◌, List, [], ◌∷◌, map, length, Option, Some, None, refl, sym, ◌∙◌, ap, subst, inl, inr, arith}
+use Rattle.std.proofs.lemmas.Grind.{common_steps}
+use Rattle.std.proofs.Common.{◌≡◌, ℕ, suc, zero, ◌<◌, Bool, true, cond, ◌&&◌, ◌==◌, List, [], ◌∷◌, map, length, Option, Some, None, refl, sym, ◌∙◌, ap, subst, inl, inr, arith}
 use Rattle.std.specs.Prelude.{slice_index_or}
 use Rattle.std.specs.List.{AllZip}
 use Rattle.std.proofs.lemmas.Bool.{eqb-true, cases_order, and_parts, or_cases}
 use Rattle.std.proofs.lemmas.List.Elements.{length_all_zip}
-use Rattle.gc_graph.specs.Graph.{Value, Num, Object, lookup}
+use Rattle.gc_graph.specs.Graph.{Value, Object, lookup}
 use Rattle.gc_graph.specs.Correspond.{paired, correspond, EqualFieldByField, Corresponding}
 use Rattle.gc_words.specs.Word.{value_of, is_value, read_correspond, words_correspond, field_value, field_words_correspond}
 use Rattle.gc_words.specs.Image.{Image, Block, block_in, block_at, blocks, object_of_block, object_entry, graph_of}
@@ -14,19 +15,13 @@ use Rattle.gc_words.specs.declared.header.Header.{Header}
 -- ---- words and values
 
 both_values : (pairs : List (ℕ × ℕ)) (b c : Bool) (v w : Value) → read_correspond pairs (cond b (Some v) None) (cond c (Some w) None) ≡ true → correspond pairs v w ≡ true
-both_values pairs true true v w e = e
-both_values pairs true false v w e = cc
-both_values pairs false c v w e = cc
+both_values pairs b c v w e = grind (arith, common_steps)
 
-pub values_correspond : (pairs : List (ℕ × ℕ)) (v w : ℕ) → words_correspond pairs v w ≡ true → correspond pairs (value_of v) (value_of w) ≡ true
+values_correspond : (pairs : List (ℕ × ℕ)) (v w : ℕ) → words_correspond pairs v w ≡ true → correspond pairs (value_of v) (value_of w) ≡ true
 values_correspond pairs v w e = both_values pairs (is_value v) (is_value w) (value_of v) (value_of w) e
 
-pub field_values_correspond : (h : Header) (pairs : List (ℕ × ℕ)) (v w : ℕ) → field_words_correspond h pairs v w ≡ true → correspond pairs (field_value h v) (field_value h w) ≡ true
-field_values_correspond h pairs v w e = go h.raw e
-  where
-    go : (raw : Bool) → cond raw (v == w) (words_correspond pairs v w) ≡ true → correspond pairs (cond raw (Num v) (value_of v)) (cond raw (Num w) (value_of w)) ≡ true
-    go true e = e
-    go false e = values_correspond pairs v w e
+field_values_correspond : (h : Header) (pairs : List (ℕ × ℕ)) (v w : ℕ) → field_words_correspond h pairs v w ≡ true → correspond pairs (field_value h v) (field_value h w) ≡ true
+field_values_correspond h pairs v w e = grind (arith, common_steps, values_correspond)
 
 zip_of_maps : {A B C D : Type 0} (R : A → B → Type 0) (S : C → D → Type 0) (f : A → C) (g : B → D) (xs : List A) (ys : List B) → ((x : A) (y : B) → R x y → S (f x) (g y)) → AllZip R xs ys → AllZip S (map f xs) (map g ys)
 zip_of_maps R S f g [] [] each z = tt
@@ -42,20 +37,10 @@ object_option (Some b) = Some (object_of_block b)
 
 pub lookup_of_blocks : (bs : List (ℕ × Block)) (a : ℕ) → lookup (map object_entry bs) a ≡ object_option (block_in bs a)
 lookup_of_blocks [] a = refl
-lookup_of_blocks (entry ∷ bs) a =
-    elim (entry.0 == a) as (λ b. cond b (Some (object_of_block entry.1)) (lookup (map object_entry bs) a) ≡ object_option (cond b (Some entry.1) (block_in bs a))) [
-      | true ↦ refl
-      | false ↦ lookup_of_blocks bs a
-    ]
+lookup_of_blocks (entry ∷ bs) a = grind (arith, common_steps, lookup_of_blocks bs a)
 
 objects_of_blocks : (pairs : List (ℕ × ℕ)) (o q : Option Block) → BlocksCorrespond pairs o q → EqualFieldByField pairs (object_option o) (object_option q)
-objects_of_blocks pairs (Some a) (Some b) c =
-    let fields : AllZip (λ v w. correspond pairs v w ≡ true) (map (field_value a.header) a.fields) (map (field_value b.header) b.fields)
-    = zip_of_maps _ _ (field_value a.header) (field_value b.header) a.fields b.fields
-    (λ v w e. subst (λ h. correspond pairs (field_value a.header v) (field_value h w) ≡ true) c.0 (field_values_correspond a.header pairs v w e)) c.1 in
-    (ap (λ h. h.raw) c.0, ap (λ h. h.kind) c.0, length_all_zip _ _ _ fields, fields)
-objects_of_blocks pairs (Some a) None c = absurd c
-objects_of_blocks pairs None q c = absurd c
+objects_of_blocks pairs o q c = grind (arith, common_steps, zip_of_maps, field_values_correspond, length_all_zip)
 
 -- ---- pairs by their places
 
@@ -103,9 +88,4 @@ module _ (old new : Image) (pairs : List (ℕ × ℕ)) (certified : Certified ol
       (objects_of_blocks pairs _ _ there))
 
   pub corresponding : Corresponding pairs (graph_of old) (graph_of new)
-  corresponding = record {
-    roots = zip_of_maps _ _ value_of value_of old.roots new.roots (λ v w e. values_correspond pairs v w e) certified.roots;
-    objects = objects;
-    one_right = one_right;
-    one_left = one_left;
-  }
+  corresponding = grind (arith, common_steps, zip_of_maps, values_correspond, objects, one_right, one_left)

@@ -1,8 +1,9 @@
 -- Where the objects end after a write.
-use Rattle.std.proofs.Common.{◌≡◌, ℕ, suc, ◌+◌, ◌-◌, List, ◌∷◌, length, replicate, Some, ◌∙◌, ap, arith, length-append, length-set}
+use Rattle.std.proofs.lemmas.Grind.{common_steps}
+use Rattle.std.proofs.Common.{◌≡◌, ℕ, ◌+◌, ◌-◌, List, length, Some, ◌∙◌, arith, length-set}
 use Rattle.std.specs.Prelude.{IsOk}
 use Rattle.std.proofs.lemmas.List.{length-map, length-replicate}
-use Rattle.gc_words.specs.Word.{header_word, field_value}
+use Rattle.gc_words.specs.Word.{field_value}
 use Rattle.gc_words.specs.Image.{Block, walk_words, block_at, object_of_block}
 use Rattle.gc_words.specs.Space.{SpaceWords, IsSpace, end_of, free_in, with_object, with_word, without_links}
 use Rattle.gc_words.specs.declared.header.Header.{Header}
@@ -10,9 +11,7 @@ use Rattle.gc_words.proofs.Starts.{stands_in}
 use Rattle.gc_words.proofs.Spelled.{length_cleared}
 
 pub end_placed : (s : SpaceWords) (h : Header) → end_of (with_object s h) ≡ end_of s + (h.len + 2)
-end_placed s h =
-    let two : suc (suc h.len) ≡ h.len + 2 = omega arith in
-    length-append s.words (header_word h ∷ 0 ∷ replicate h.len 0) ∙ ap (λ n. length s.words + suc (suc n)) (length-replicate h.len 0) ∙ ap (λ n. length s.words + n) two
+end_placed s h = grind (arith, common_steps, length-replicate)
 
 pub free_placed : (s : SpaceWords) (h : Header) → free_in (with_object s h) ≡ free_in s - (h.len + 2)
 free_placed s h = let e : end_of (with_object s h) ≡ end_of s + (h.len + 2) = end_placed s h in omega arith

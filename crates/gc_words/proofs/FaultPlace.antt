@@ -1,13 +1,13 @@
 -- What the place of a fault means.
+use Rattle.std.proofs.lemmas.Grind.{common_steps}
 use Rattle.std.proofs.Common.{◌≡◌, ℕ, suc, zero, ◌+◌, ◌-◌, ◌<◌, ◌≤◌, Bool, true, false, cond, ◌&&◌, ◌==◌, List, [], ◌∷◌, length, Option, Some, None, Result, Ok, Err, refl, sym, ◌∙◌, ap, subst, inl, inr, arith}
-use Rattle.std.specs.Prelude.{nat_le, slice_index}
-use Rattle.std.specs.List.{slice_get}
+use Rattle.std.specs.Prelude.{slice_index}
 use Rattle.std.proofs.lemmas.Bool.{eqb-true, eq-eqb, leb-true, le-leb, and_parts, and_from, both_ways, cases_lt}
 use Rattle.std.proofs.lemmas.List.{drop_all}
 use Rattle.gc_words.specs.Word.{header_in}
 use Rattle.gc_words.specs.Image.{Block, Image, walk, with_front}
 use Rattle.gc_words.specs.Fault.{first_difference, fault_of_walk, has_size, shape_fault}
-use Rattle.gc_words.specs.FaultPlace.{AreAlike, DifferFirstAt, IsFramed, LieBetween, StopsAt, ShapeFailsAt}
+use Rattle.gc_words.specs.FaultPlace.{DifferFirstAt, IsFramed, LieBetween, StopsAt, ShapeFailsAt}
 use Rattle.gc_words.specs.Walking.{next_after, next_in, walk_on, block_from, StepsIn}
 use Rattle.gc_words.specs.declared.header.Header.{Header}
 use Rattle.gc_words.proofs.Steps.{step, no_step, framed}
@@ -17,11 +17,7 @@ use Rattle.gc_words.proofs.Steps.{step, no_step, framed}
 module _ (alike : ℕ → ℕ → Bool) where
   -- the lists after words that correspond differ one place earlier
   later : (v w : ℕ) (vs ws : List ℕ) (i : ℕ) → alike v w ≡ true → DifferFirstAt alike vs ws i → DifferFirstAt alike (v ∷ vs) (w ∷ ws) (suc i)
-  later v w vs ws i t d = record { before = before; here = d.here }
-    where
-      before : (k : ℕ) → k < suc i → AreAlike alike (slice_get (v ∷ vs) k) (slice_get (w ∷ ws) k)
-      before zero h = t
-      before (suc k) h = d.before k (omega arith)
+  later v w vs ws i t d = grind (arith, common_steps)
 
   differ_from : (n j : ℕ) (vs ws : List ℕ) → first_difference alike n vs ws ≡ Some j → (i : ℕ) × (j ≡ n + i) × DifferFirstAt alike vs ws i
   differ_from n j [] [] e = absurd cc
@@ -55,11 +51,7 @@ module _ (alike : ℕ → ℕ → Bool) where
       ∙ ap (λ k. Some k) (omega arith)
 
   pub differ_first : (vs ws : List ℕ) (i : ℕ) → first_difference alike 0 vs ws ≡ Some i → DifferFirstAt alike vs ws i
-  differ_first vs ws i e =
-      let found : (j : ℕ) × (i ≡ 0 + j) × DifferFirstAt alike vs ws j = differ_from 0 i vs ws e in
-      let at : i ≡ 0 + found.0 = found.1 in
-      let same : found.0 ≡ i = omega arith in
-      subst (DifferFirstAt alike vs ws) same found.2
+  differ_first vs ws i e = grind (arith, common_steps, differ_from)
 
   pub first_found : (vs ws : List ℕ) (i : ℕ) → DifferFirstAt alike vs ws i → first_difference alike 0 vs ws ≡ Some i
   first_found vs ws i d = found_from 0 i vs ws d ∙ ap (λ k. Some k) (omega arith)
@@ -68,26 +60,17 @@ module _ (alike : ℕ → ℕ → Bool) where
 
 module _ (raws : Bool) (words : List ℕ) where
   rises_after : (at next : ℕ) (o : Option Header) (room : ℕ) → next_after at o room ≡ Some next → at < next
-  rises_after at next None room e = absurd (let no : None ≡ Some next = e in cc)
-  rises_after at next (Some h) room e = go (nat_le (h.len + 2) room) e
-    where
-      go : (b : Bool) → cond b (Some (at + (h.len + 2))) None ≡ Some next → at < next
-      go true f = let same : at + (h.len + 2) ≡ next = cc f in omega arith
-      go false f = absurd (let no : None ≡ Some next = f in cc)
+  rises_after at next o room e = grind (arith, common_steps)
 
   rises : (at next : ℕ) → next_in raws words at ≡ Some next → at < next
   rises at next e = rises_after at next (header_in raws (slice_index words at)) (length words - at) e
 
   between : (from : ℕ) (nexts : List ℕ) (to : ℕ) → LieBetween raws words from nexts to → from ≤ to
   between from [] to lie = let same : from ≡ to = lie in omega arith
-  between from (next ∷ nexts) to lie =
-      let first : from < next = rises from next lie.0 in
-      let rest : next ≤ to = between next nexts to lie.1 in
-      omega arith
+  between from (next ∷ nexts) to lie = grind (arith, common_steps, rises, between next nexts to lie.1)
 
   err_behind : (x : ℕ × Block) (r : Result (List (ℕ × Block)) ℕ) (at : ℕ) → with_front x r ≡ Err at → r ≡ Err at
-  err_behind x (Ok xs) at e = absurd (let no : Ok (x ∷ xs) ≡ Err at = e in cc)
-  err_behind x (Err n) at e = e
+  err_behind x r at e = grind (arith, common_steps)
 
   stops : (fuel from at : ℕ) → length words ≤ from + fuel → walk_on raws words from ≡ Err at → StopsAt raws words from at
   stops zero from at enough e = absurd (let no : Ok [] ≡ Err at = sym (ap (walk raws 0 from) (drop_all from words (omega arith))) ∙ e in cc)
@@ -121,8 +104,7 @@ module _ (raws : Bool) (words : List ℕ) where
 -- ---- shapes
 
 err_of : {X : Type 0} (r : Result X ℕ) (at : ℕ) → fault_of_walk r ≡ Some at → r ≡ Err at
-err_of (Ok x) at e = absurd (let no : None ≡ Some at = e in cc)
-err_of (Err n) at e = let same : n ≡ at = cc e in ap (λ n. Err n) same
+err_of r at e = grind (arith, common_steps)
 
 sizes_of : (image : Image) → IsFramed image → has_size image ≡ true
 sizes_of image f = and_from _ _ (and_from _ _ (and_from _ _ (le-leb _ _ f.0) (le-leb _ _ f.1)) (le-leb _ _ f.2)) (le-leb _ _ f.3)
@@ -131,12 +113,7 @@ words_of : (image : Image) → IsFramed image → ((length image.words == image.
 words_of image f = and_from _ _ (eq-eqb _ _ f.4) (eq-eqb _ _ f.5)
 
 framed_of : (image : Image) → has_size image ≡ true → ((length image.words == image.end) && (slice_index image.words 0 == 0)) ≡ true → IsFramed image
-framed_of image sizes words =
-    let frame : ((length image.words == image.end) ≡ true) × ((slice_index image.words 0 == 0) ≡ true) = and_parts _ _ words in
-    let p3 : ((nat_le 1 image.size && nat_le image.size 4294967295 && nat_le 1 image.end) ≡ true) × (nat_le image.end image.size ≡ true) = and_parts _ _ sizes in
-    let p2 : ((nat_le 1 image.size && nat_le image.size 4294967295) ≡ true) × (nat_le 1 image.end ≡ true) = and_parts _ _ p3.0 in
-    let p1 : (nat_le 1 image.size ≡ true) × (nat_le image.size 4294967295 ≡ true) = and_parts _ _ p2.0 in
-    (leb-true _ _ p1.0, leb-true _ _ p1.1, leb-true _ _ p2.1, leb-true _ _ p3.1, eqb-true _ _ frame.0, eqb-true _ _ frame.1)
+framed_of image sizes words = grind (arith, common_steps, and_parts, leb-true, eqb-true)
 
 pub shape_fails : (image : Image) (at : ℕ) → shape_fault image ≡ Some at → ShapeFailsAt image at
 shape_fails image at e = go (has_size image) refl ((length image.words == image.end) && (slice_index image.words 0 == 0)) refl e
@@ -155,17 +132,4 @@ shape_fails image at e = go (has_size image) refl ((length image.words == image.
     go true hb true hc f = behind_zero (framed_of image hb hc) at (stops image.raws image.words (length image.words) 1 at (omega arith) (err_of (walk_on image.raws image.words 1) at f))
 
 pub failing_shape : (image : Image) (at : ℕ) → ShapeFailsAt image at → shape_fault image ≡ Some at
-failing_shape image zero bad = go (has_size image) refl ((length image.words == image.end) && (slice_index image.words 0 == 0)) refl
-  where
-    go : (b : Bool) → has_size image ≡ b → (c : Bool) → ((length image.words == image.end) && (slice_index image.words 0 == 0)) ≡ c → shape_fault image ≡ Some 0
-    go false hb c hc = ap (λ b. cond b (cond ((length image.words == image.end) && (slice_index image.words 0 == 0)) (fault_of_walk (walk_on image.raws image.words 1)) (Some 0)) (Some 0)) hb
-    go true hb false hc =
-        ap (λ b. cond b (cond ((length image.words == image.end) && (slice_index image.words 0 == 0)) (fault_of_walk (walk_on image.raws image.words 1)) (Some 0)) (Some 0)) hb
-        ∙ ap (λ c. cond c (fault_of_walk (walk_on image.raws image.words 1)) (Some 0)) hc
-    go true hb true hc = absurd (bad (framed_of image hb hc))
-failing_shape image (suc n) fails =
-    let f : IsFramed image = fails.0 in
-    let s : StopsAt image.raws image.words 1 (suc n) = fails.1 in
-    ap (λ b. cond b (cond ((length image.words == image.end) && (slice_index image.words 0 == 0)) (fault_of_walk (walk_on image.raws image.words 1)) (Some 0)) (Some 0)) (sizes_of image f)
-    ∙ framed image.raws image.end image.words f.4 f.5
-    ∙ ap fault_of_walk (stopped image.raws image.words 1 s.nexts (suc n) s.objects s.inside s.none)
+failing_shape image at bad = grind (arith, common_steps, framed_of, sizes_of, framed, stopped)

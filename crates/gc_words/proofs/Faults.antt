@@ -1,88 +1,61 @@
 -- There is no first fault exactly if the certificate holds.
-use Rattle.std.proofs.Common.{◌≡◌, ℕ, suc, ◌<◌, Bool, true, false, cond, not, ◌&&◌, ◌==◌, List, [], ◌∷◌, ◌++◌, length, get_or, take, Option, Some, None, Result, Ok, Err, is_some, refl, sym, ◌∙◌, ap, subst, arith, append_assoc, append-nil}
-use Rattle.std.specs.Prelude.{◌≢◌, slice_index, nat_le, IsOk}
+use Rattle.std.proofs.lemmas.Grind.{common_steps}
+use Rattle.std.proofs.Common.{◌≡◌, ℕ, suc, ◌<◌, Bool, true, false, cond, not, ◌==◌, List, [], ◌∷◌, ◌++◌, length, get_or, take, Option, Some, None, Result, is_some, refl, sym, ◌∙◌, ap, subst, arith, append_assoc, append-nil}
+use Rattle.std.specs.Prelude.{◌≢◌, nat_le, IsOk}
 use Rattle.std.specs.List.{All, AllPairs, AllZip, AllByRecursion, list_any}
 use Rattle.std.proofs.lemmas.Bool.{eqb-true, eq-eqb, ne_eqb, leb-true, leb-false, le-leb, lt-leb, and_parts, and_from, both_ways, not-false}
 use Rattle.std.proofs.lemmas.List.{get_or_append_left, get_or_at, length-append}
 use Rattle.std.proofs.Math.Seq.{take-append_seam}
-use Rattle.std.proofs.lemmas.List.Elements.{All-nil, All-cons, All-head, All-tail, All-push, All-weaker, recursion_from_All, length_all_zip}
+use Rattle.std.proofs.lemmas.List.Elements.{All-nil, All-cons, All-head, All-tail, All-weaker, recursion_from_All, length_all_zip}
 use Rattle.std.proofs.lemmas.List.Quantifiers.{all_pairs_push}
 use Rattle.std.proofs.lemmas.List.Folds.{list_any_none, list_any_at}
-use Rattle.gc_words.specs.Word.{words_correspond, field_words_correspond}
-use Rattle.gc_words.specs.Image.{Image, Block, IsShaped, block_at, is_start, walk_all}
+use Rattle.gc_words.specs.Word.{words_correspond}
+use Rattle.gc_words.specs.Image.{Image, Block, IsShaped, block_at, is_start}
 use Rattle.gc_words.specs.declared.header.Header.{Header}
 use Rattle.gc_words.specs.Certificate.{BlocksCorrespond, Certified}
-use Rattle.gc_words.specs.Fault.{◌or_else◌, when, at_place, fault_of_walk, words_fault, has_size, shape_fault, not_above_last, place_fault, first_over_pairs, place_faults, table_fault, first_difference, same_bool, same_header, block_fault, pair_fault, object_faults, root_fault, first_fault}
+use Rattle.gc_words.specs.Fault.{◌or_else◌, when, at_place, fault_of_walk, shape_fault, not_above_last, place_fault, first_over_pairs, place_faults, table_fault, first_difference, same_bool, same_header, block_fault, pair_fault, object_faults, root_fault, first_fault}
 use Rattle.gc_words.specs.declared.refusal.Refusal.{Refusal}
-use Rattle.gc_words.specs.declared.refusal.Refusal.TheVariants.{OldShape, NewShape, RootCount, OldNotStart, NewNotStart, NotRising, Twice, HeaderDiffers, FieldDiffers, RootDiffers}
+use Rattle.gc_words.specs.declared.refusal.Refusal.TheVariants.{OldShape, NewShape, RootCount, RootDiffers}
 
 -- ---- options
 
 pub or_none : {X : Type 0} (x y : Option X) → (x or_else y) ≡ None → (x ≡ None) × (y ≡ None)
-or_none None y e = (refl, e)
-or_none (Some x) y e = cc
+or_none x y e = grind (arith, common_steps)
 
 pub none_or : {X : Type 0} (x y : Option X) → x ≡ None → y ≡ None → (x or_else y) ≡ None
-none_or None y e f = f
-none_or (Some x) y e f = cc
+none_or x y e f = grind (arith, common_steps)
 
 pub when_none : (b : Bool) (r : Refusal) → when b r ≡ None → b ≡ false
-when_none true r e = cc
-when_none false r e = refl
+when_none b r e = grind (arith, common_steps)
 
 pub none_when : (b : Bool) (r : Refusal) → b ≡ false → when b r ≡ None
-none_when true r e = cc
-none_when false r e = refl
+none_when b r e = grind (arith, common_steps)
 
 pub at_place_none : (o : Option ℕ) (r : ℕ → Refusal) → at_place o r ≡ None → o ≡ None
-at_place_none None r e = refl
-at_place_none (Some k) r e = cc
+at_place_none o r e = grind (arith, common_steps)
 
 pub none_at_place : (o : Option ℕ) (r : ℕ → Refusal) → o ≡ None → at_place o r ≡ None
-none_at_place None r e = refl
-none_at_place (Some k) r e = cc
+none_at_place o r e = grind (arith, common_steps)
 
 -- ---- shape
 
 if_none : {X : Type 0} (b : Bool) (x : Option X) (y : X) → cond b x (Some y) ≡ None → (b ≡ true) × (x ≡ None)
-if_none true x y e = (refl, e)
-if_none false x y e = cc
+if_none b x y e = grind (arith, common_steps)
 
 none_if : {X : Type 0} (b : Bool) (x : Option X) (y : X) → b ≡ true → x ≡ None → cond b x (Some y) ≡ None
-none_if true x y e f = f
-none_if false x y e f = cc
+none_if b x y e f = grind (arith, common_steps)
 
 walk_none : {X : Type 0} (r : Result X ℕ) → fault_of_walk r ≡ None → IsOk r
-walk_none (Ok x) e = refl
-walk_none (Err at) e = cc
+walk_none r e = grind (arith, common_steps)
 
 none_walk : {X : Type 0} (r : Result X ℕ) → IsOk r → fault_of_walk r ≡ None
-none_walk (Ok x) e = refl
-none_walk (Err at) e = cc
+none_walk r e = grind (arith, common_steps)
 
 pub shaped : (image : Image) → shape_fault image ≡ None → IsShaped image
-shaped image e =
-    let parts : (has_size image ≡ true) × (words_fault image.raws image.end image.words ≡ None) = if_none (has_size image) _ 0 e in
-    let words : (((length image.words == image.end) && (slice_index image.words 0 == 0)) ≡ true) × (fault_of_walk (walk_all image.raws image.words) ≡ None) = if_none _ _ 0 parts.1 in
-    let frame : ((length image.words == image.end) ≡ true) × ((slice_index image.words 0 == 0) ≡ true) = and_parts _ _ words.0 in
-    let p3 : ((nat_le 1 image.size && nat_le image.size 4294967295 && nat_le 1 image.end) ≡ true) × (nat_le image.end image.size ≡ true) = and_parts _ _ parts.0 in
-    let p2 : ((nat_le 1 image.size && nat_le image.size 4294967295) ≡ true) × (nat_le 1 image.end ≡ true) = and_parts _ _ p3.0 in
-    let p1 : (nat_le 1 image.size ≡ true) × (nat_le image.size 4294967295 ≡ true) = and_parts _ _ p2.0 in
-    record {
-      size_low = leb-true _ _ p1.0;
-      size_high = leb-true _ _ p1.1;
-      end_low = leb-true _ _ p2.1;
-      end_high = leb-true _ _ p3.1;
-      count = eqb-true _ _ frame.0;
-      reserved = eqb-true _ _ frame.1;
-      walked = walk_none _ words.1;
-    }
+shaped image e = grind (arith, common_steps, if_none, and_parts, leb-true, eqb-true, walk_none)
 
 pub no_shape_fault : (image : Image) → IsShaped image → shape_fault image ≡ None
-no_shape_fault image s =
-    none_if (has_size image) (words_fault image.raws image.end image.words) 0
-    (and_from _ _ (and_from _ _ (and_from _ _ (le-leb _ _ s.size_low) (le-leb _ _ s.size_high)) (le-leb _ _ s.end_low)) (le-leb _ _ s.end_high))
-    (none_if ((length image.words == image.end) && (slice_index image.words 0 == 0)) _ 0 (and_from _ _ (eq-eqb _ _ s.count) (eq-eqb _ _ s.reserved)) (none_walk _ s.walked))
+no_shape_fault image s = grind (arith, common_steps, none_if, and_from, le-leb, eq-eqb, none_walk)
 
 -- ---- pairs: their places
 
@@ -99,20 +72,14 @@ abbrev pub LastIsHighest : List (ℕ × ℕ) → Type 0
 LastIsHighest before = (n : ℕ) → not_above_last before n ≡ false → All (λ q. q.1 < n) before
 
 pub pushed_highest : (before : List (ℕ × ℕ)) (p : ℕ × ℕ) → All (λ q. q.1 < p.1) before → LastIsHighest (before ++ p ∷ [])
-pushed_highest before p below n e =
-    let less : p.1 < n = leb-false n p.1 (sym (not_above_push before p n) ∙ e) in
-    All-push (λ q. q.1 < n) before p (All-weaker (λ q. q.1 < p.1) (λ q. q.1 < n) (λ q h. omega arith) before below) less
+pushed_highest before p below n e = grind (arith, common_steps, leb-false, not_above_push)
 
 pub none_same : (before : List (ℕ × ℕ)) (a : ℕ) → list_any (λ q. q.0 == a) before ≡ false → All (λ q. q.0 ≢ a) before
 none_same before a e = λ k d h same. both_ways (list_any (λ q. q.0 == a) before) e (list_any_at (λ q. q.0 == a) before k d h (eq-eqb _ _ same))
 
 no_place_fault : (old new : Image) (before : List (ℕ × ℕ)) (k : ℕ) (p : ℕ × ℕ) → place_fault old new before k p ≡ None
     → (is_start old.words p.0 ≡ true) × (is_start new.words p.1 ≡ true) × (not_above_last before p.1 ≡ false) × (list_any (λ q. q.0 == p.0) before ≡ false)
-no_place_fault old new before k p e =
-    let s3 : ((when (not (is_start old.words p.0)) (OldNotStart k) or_else when (not (is_start new.words p.1)) (NewNotStart k) or_else when (not_above_last before p.1) (NotRising k)) ≡ None) × (when (list_any (λ q. q.0 == p.0) before) (Twice k) ≡ None) = or_none _ _ e in
-    let s2 : ((when (not (is_start old.words p.0)) (OldNotStart k) or_else when (not (is_start new.words p.1)) (NewNotStart k)) ≡ None) × (when (not_above_last before p.1) (NotRising k) ≡ None) = or_none _ _ s3.0 in
-    let s1 : (when (not (is_start old.words p.0)) (OldNotStart k) ≡ None) × (when (not (is_start new.words p.1)) (NewNotStart k) ≡ None) = or_none _ _ s2.0 in
-    (not-false _ (when_none _ _ s1.0), not-false _ (when_none _ _ s1.1), when_none _ _ s2.1, when_none _ _ s3.1)
+no_place_fault old new before k p e = grind (arith, common_steps, or_none, not-false, when_none)
 
 -- the first k of all pairs, and one more
 pub first_taken : (all before rest : List (ℕ × ℕ)) (k : ℕ) → before ++ rest ≡ all → length before ≡ k → take k all ≡ before
@@ -157,10 +124,7 @@ above_all (p ∷ q ∷ rest) n h = above_all (q ∷ rest) n h.1
 
 -- the places of a pair are right, given the pairs before it
 pub place_holds : (old new : Image) (before : List (ℕ × ℕ)) (k : ℕ) (p : ℕ × ℕ) → All (λ q. Later q p) before → (is_start old.words p.0 ≡ true) × (is_start new.words p.1 ≡ true) → place_fault old new before k p ≡ None
-place_holds old new before k p each start =
-    let below : AllByRecursion (λ q. q.1 < p.1) before = recursion_from_All (λ q. q.1 < p.1) before (All-weaker (λ q. Later q p) (λ q. q.1 < p.1) (λ q h. h.1) before each) in
-    let once : list_any (λ q. q.0 == p.0) before ≡ false = list_any_none (λ q. q.0 == p.0) before (All-weaker (λ q. Later q p) (λ q. (q.0 == p.0) ≡ false) (λ q h. ne_eqb _ _ h.0) before each) in
-    none_or _ _ (none_or _ _ (none_or _ _ (none_when _ _ (ap not start.0)) (none_when _ _ (ap not start.1))) (none_when _ _ (above_all before p.1 below))) (none_when _ _ once)
+place_holds old new before k p each start = grind (arith, common_steps, recursion_from_All, list_any_none, ne_eqb, none_or, none_when, above_all)
 
 pub places_hold : (old new : Image) (all rest before : List (ℕ × ℕ)) (k : ℕ) → before ++ rest ≡ all → length before ≡ k → AllPairs Later all → All (λ p. (is_start old.words p.0 ≡ true) × (is_start new.words p.1 ≡ true)) rest
     → place_faults_from old new all k rest ≡ None
@@ -189,42 +153,25 @@ difference_none alike i (v ∷ vs) [] z = absurd z
 difference_none alike i (v ∷ vs) (w ∷ ws) z = none_if (alike v w) _ i z.0 (difference_none alike (suc i) vs ws z.1)
 
 bool_same : (a b : Bool) → same_bool a b ≡ true → a ≡ b
-bool_same true b e = sym e
-bool_same false true e = absurd (let no : false ≡ true = e in cc)
-bool_same false false e = refl
+bool_same a b e = grind (arith, common_steps)
 
 same_bool_itself : (a : Bool) → same_bool a a ≡ true
-same_bool_itself true = refl
-same_bool_itself false = refl
+same_bool_itself a = grind (arith, common_steps)
 
 pub header_same : (g h : Header) → same_header g h ≡ true → g ≡ h
-header_same g h e =
-    let parts : ((same_bool g.raw h.raw && (g.kind == h.kind)) ≡ true) × ((g.len == h.len) ≡ true) = and_parts _ _ e in
-    let front : (same_bool g.raw h.raw ≡ true) × ((g.kind == h.kind) ≡ true) = and_parts _ _ parts.0 in
-    let r : g.raw ≡ h.raw = bool_same g.raw h.raw front.0 in
-    let k : g.kind ≡ h.kind = eqb-true _ _ front.1 in
-    let l : g.len ≡ h.len = eqb-true _ _ parts.1 in
-    λ i. record { raw = r i; kind = k i; len = l i }
+header_same g h e = grind (arith, common_steps, and_parts, bool_same, eqb-true)
 
 pub same_header_of : (g h : Header) → g ≡ h → same_header g h ≡ true
 same_header_of g h e = and_from _ _ (and_from _ _ (subst (λ (h : Header). same_bool g.raw h.raw ≡ true) e (same_bool_itself g.raw)) (eq-eqb _ _ (ap (λ h. h.kind) e))) (eq-eqb _ _ (ap (λ h. h.len) e))
 
 pub no_block_fault : (pairs : List (ℕ × ℕ)) (k : ℕ) (o q : Option Block) → is_some o ≡ true → is_some q ≡ true → block_fault pairs k o q ≡ None → BlocksCorrespond pairs o q
-no_block_fault pairs k (Some a) (Some b) s t e =
-    let parts : (same_header a.header b.header ≡ true) × (at_place (first_difference (field_words_correspond a.header pairs) 0 a.fields b.fields) (λ i. FieldDiffers k i) ≡ None) = if_none (same_header a.header b.header) _ (HeaderDiffers k) e in
-    (header_same a.header b.header parts.0, no_difference _ 0 a.fields b.fields (at_place_none _ (λ i. FieldDiffers k i) parts.1))
-no_block_fault pairs k (Some a) None s t e = absurd (let no : false ≡ true = t in cc)
-no_block_fault pairs k None q s t e = absurd (let no : false ≡ true = s in cc)
+no_block_fault pairs k o q s t e = grind (arith, common_steps, if_none, header_same, no_difference, at_place_none)
 
 pub block_fault_none : (pairs : List (ℕ × ℕ)) (k : ℕ) (o q : Option Block) → BlocksCorrespond pairs o q → block_fault pairs k o q ≡ None
-block_fault_none pairs k (Some a) (Some b) c = none_if (same_header a.header b.header) _ (HeaderDiffers k) (same_header_of _ _ c.0) (none_at_place _ (λ i. FieldDiffers k i) (difference_none _ 0 a.fields b.fields c.1))
-block_fault_none pairs k (Some a) None c = absurd c
-block_fault_none pairs k None q c = absurd c
+block_fault_none pairs k o q c = grind (arith, common_steps, none_if, same_header_of, none_at_place, difference_none)
 
 both_there : (pairs : List (ℕ × ℕ)) (o q : Option Block) → BlocksCorrespond pairs o q → (is_some o ≡ true) × (is_some q ≡ true)
-both_there pairs (Some a) (Some b) c = (refl, refl)
-both_there pairs (Some a) None c = absurd c
-both_there pairs None q c = absurd c
+both_there pairs o q c = grind (arith, common_steps)
 
 module _ (old new : Image) (pairs : List (ℕ × ℕ)) where
   abbrev pub Start : ℕ × ℕ → Type 0

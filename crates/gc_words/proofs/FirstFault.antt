@@ -1,15 +1,16 @@
 -- The conditions that hold before the first fault.
-use Rattle.std.proofs.Common.{◌≡◌, ℕ, suc, ◌<◌, Bool, true, false, cond, not, ◌==◌, List, [], ◌∷◌, ◌++◌, length, Option, Some, None, refl, sym, ◌∙◌, ap, subst, arith, append_assoc}
+use Rattle.std.proofs.lemmas.Grind.{common_steps}
+use Rattle.std.proofs.Common.{◌≡◌, ℕ, suc, ◌<◌, Bool, true, false, not, ◌==◌, List, [], ◌∷◌, ◌++◌, length, Option, Some, None, refl, sym, ◌∙◌, ap, subst, arith, append_assoc}
 use Rattle.std.specs.Prelude.{◌≢◌}
 use Rattle.std.specs.List.{All, list_any}
 use Rattle.std.proofs.lemmas.Bool.{eqb-true, eqb-false, ne_eqb, both_ways}
 use Rattle.std.proofs.lemmas.List.Elements.{All-nil, All-head, All-tail, All-push, All-weaker, recursion_from_All}
 use Rattle.std.proofs.lemmas.List.Quantifiers.{all_pairs_push}
 use Rattle.std.proofs.lemmas.List.Folds.{list_any_none}
-use Rattle.gc_words.specs.Word.{words_correspond, field_words_correspond}
+use Rattle.gc_words.specs.Word.{words_correspond}
 use Rattle.gc_words.specs.Image.{Image, Block, block_at, is_start}
 use Rattle.gc_words.specs.Certificate.{BlocksCorrespond}
-use Rattle.gc_words.specs.Fault.{◌or_else◌, when, at_place, shape_fault, first_over_pairs, not_above_last, place_fault, place_faults, first_difference, same_header, block_fault, pair_fault, object_faults, first_fault, PairAt, AreComparable, ArePlaced, ObjectsMatch, HeadersDiffer, FieldsDifferAt, PlaceFails, ObjectFails, IsFirstFault}
+use Rattle.gc_words.specs.Fault.{◌or_else◌, when, at_place, shape_fault, first_over_pairs, not_above_last, place_fault, place_faults, first_difference, block_fault, pair_fault, object_faults, first_fault, PairAt, AreComparable, ArePlaced, ObjectsMatch, HeadersDiffer, FieldsDifferAt, PlaceFails, ObjectFails, IsFirstFault}
 use Rattle.gc_words.specs.declared.refusal.Refusal.{Refusal}
 use Rattle.gc_words.specs.declared.refusal.Refusal.TheVariants.{OldShape, NewShape, RootCount, OldNotStart, NewNotStart, NotRising, Twice, HeaderDiffers, FieldDiffers, RootDiffers}
 use Rattle.gc_words.proofs.Faults.{shaped, LastIsHighest, pushed_highest, none_same, above_all, Later, no_block_fault, header_same, same_header_of, first_taken, one_longer, place_faults_from, no_place_faults, no_object_faults}
@@ -67,17 +68,7 @@ module _ (old new : Image) (pairs : List (ℕ × ℕ)) where
   PairFails k a b refusal = ⊥
 
   block_fails : (k : ℕ) (a b : Option Block) (r : Refusal) → block_fault pairs k a b ≡ Some r → PairFails k a b r
-  block_fails k (Some a) (Some b) r e = go (same_header a.header b.header) refl (first_difference (field_words_correspond a.header pairs) 0 a.fields b.fields) refl e
-    where
-      go : (h : Bool) → same_header a.header b.header ≡ h → (f : Option ℕ) → first_difference (field_words_correspond a.header pairs) 0 a.fields b.fields ≡ f
-          → cond h (at_place f (λ i. FieldDiffers k i)) (Some (HeaderDiffers k)) ≡ Some r → PairFails k (Some a) (Some b) r
-      go true fh None ff e = absurd cc
-      go true fh (Some i) ff e = let same : FieldDiffers k i ≡ r = cc e in subst (PairFails k (Some a) (Some b)) same (refl, (header_same a.header b.header fh, ff))
-      go false fh f ff e =
-          let same : HeaderDiffers k ≡ r = cc e in
-          subst (PairFails k (Some a) (Some b)) same (refl, λ equal. both_ways (same_header a.header b.header) fh (same_header_of a.header b.header equal))
-  block_fails k (Some a) None r e = absurd cc
-  block_fails k None b r e = absurd cc
+  block_fails k a b r e = grind (arith, common_steps, header_same, both_ways, same_header_of)
 
   object_fails : (r : Refusal) (rest before : List (ℕ × ℕ)) (k : ℕ) → length before ≡ k → All (Start old new pairs) rest → ObjectsMatch old new pairs before
       → first_over_pairs (pair_fault old new pairs) k rest ≡ Some r → (whole : List (ℕ × ℕ)) → whole ≡ before ++ rest → pairs ≡ whole → ObjectFails old new pairs r

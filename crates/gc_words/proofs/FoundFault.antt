@@ -1,11 +1,11 @@
 -- A fault that is the first by its relation is the one that is found.
-use Rattle.std.proofs.Common.{◌≡◌, ℕ, suc, ◌+◌, ◌<◌, Bool, true, cond, not, ◌==◌, List, [], ◌∷◌, ◌++◌, length, take, Option, Some, None, refl, sym, ◌∙◌, ap, subst, arith, inl, inr, ⊎_elim, append_assoc, append-nil}
+use Rattle.std.proofs.lemmas.Grind.{common_steps}
+use Rattle.std.proofs.Common.{◌≡◌, ℕ, suc, ◌+◌, ◌<◌, Bool, true, not, ◌==◌, List, [], ◌∷◌, ◌++◌, length, take, Option, Some, None, refl, sym, ◌∙◌, ap, subst, arith, ⊎_elim, append_assoc, append-nil}
 use Rattle.std.specs.List.{All, AllPairs, list_any}
 use Rattle.std.proofs.lemmas.Bool.{cases_Bool, eq-eqb, ne_eqb}
 use Rattle.std.proofs.lemmas.List.Elements.{All-nil, All-head, All-tail, All-weaker, recursion_from_All}
-use Rattle.gc_words.specs.Word.{field_words_correspond}
 use Rattle.gc_words.specs.Image.{Image, Block}
-use Rattle.gc_words.specs.Fault.{◌or_else◌, when, at_place, shape_fault, first_over_pairs, not_above_last, place_fault, place_faults, table_fault, first_difference, same_header, block_fault, pair_fault, object_faults, first_fault, PairAt, AreComparable, ArePlaced, ObjectsMatch, HeadersDiffer, FieldsDifferAt, IsFirstFault}
+use Rattle.gc_words.specs.Fault.{◌or_else◌, when, at_place, shape_fault, first_over_pairs, not_above_last, place_fault, place_faults, table_fault, block_fault, pair_fault, object_faults, first_fault, PairAt, AreComparable, ArePlaced, ObjectsMatch, HeadersDiffer, FieldsDifferAt, IsFirstFault}
 use Rattle.gc_words.specs.declared.refusal.Refusal.{Refusal}
 use Rattle.gc_words.specs.declared.refusal.Refusal.TheVariants.{OldShape, NewShape, RootCount, OldNotStart, NewNotStart, NotRising, Twice, HeaderDiffers, FieldDiffers, RootDiffers}
 use Rattle.gc_words.proofs.Faults.{none_or, none_when, none_at_place, no_shape_fault, LastIsHighest, Later, pushed_highest, none_same, above_all, first_taken, one_longer, place_faults_from, before_each, place_holds, places_hold, header_same, same_header_of, block_fault_none, object_faults_none, Start, Object}
@@ -13,12 +13,10 @@ use Rattle.gc_words.proofs.Faults.{none_or, none_when, none_at_place, no_shape_f
 -- ---- options
 
 found : {X : Type 0} (x y : Option X) (r : X) → x ≡ Some r → (x or_else y) ≡ Some r
-found None y r e = absurd cc
-found (Some x) y r e = e
+found x y r e = grind (arith, common_steps)
 
 passed : {X : Type 0} (x y : Option X) (r : X) → x ≡ None → y ≡ Some r → (x or_else y) ≡ Some r
-passed None y r e f = f
-passed (Some x) y r e f = absurd cc
+passed x y r e f = grind (arith, common_steps)
 
 when_found : (b : Bool) (r : Refusal) → b ≡ true → when b r ≡ Some r
 when_found b r e = ap (λ b. when b r) e
@@ -62,27 +60,16 @@ module _ (old new : Image) (pairs : List (ℕ × ℕ)) where
       (object_found r (suc k) todo p rest (All-tail (Object old new pairs) q todo match) (subst (λ j. pair_fault old new pairs j p ≡ Some r) same fault))
 
   headers_found : (k : ℕ) (a b : Option Block) → HeadersDiffer a b → block_fault pairs k a b ≡ Some (HeaderDiffers k)
-  headers_found k (Some a) (Some b) differ = elim (cases_Bool (same_header a.header b.header)) [
-    | inl same ↦ absurd (differ (header_same a.header b.header same))
-    | inr other ↦ ap (λ s. cond s (at_place (first_difference (field_words_correspond a.header pairs) 0 a.fields b.fields) (λ i. FieldDiffers k i)) (Some (HeaderDiffers k))) other
-  ]
-  headers_found k (Some a) None differ = absurd differ
-  headers_found k None b differ = absurd differ
+  headers_found k a b differ = grind (arith, common_steps, cases_Bool, header_same)
 
   fields_found : (k i : ℕ) (a b : Option Block) → FieldsDifferAt pairs i a b → block_fault pairs k a b ≡ Some (FieldDiffers k i)
-  fields_found k i (Some a) (Some b) differ =
-      ap (λ s. cond s (at_place (first_difference (field_words_correspond a.header pairs) 0 a.fields b.fields) (λ i. FieldDiffers k i)) (Some (HeaderDiffers k))) (same_header_of a.header b.header differ.0)
-      ∙ at_found _ (λ i. FieldDiffers k i) i differ.1
-  fields_found k i (Some a) None differ = absurd differ
-  fields_found k i None b differ = absurd differ
+  fields_found k i a b differ = grind (arith, common_steps, same_header_of, at_found)
 
   -- ---- all of them
 
   comparable_none : AreComparable old new
       → ((at_place (shape_fault old) (λ at. OldShape at) or_else at_place (shape_fault new) (λ at. NewShape at)) or_else when (not (length old.roots == length new.roots)) RootCount) ≡ None
-  comparable_none c =
-      none_or _ _ (none_or _ _ (none_at_place _ (λ at. OldShape at) (no_shape_fault old c.old_shaped)) (none_at_place _ (λ at. NewShape at) (no_shape_fault new c.new_shaped)))
-      (none_when _ _ (ap not (eq-eqb _ _ c.roots)))
+  comparable_none c = grind (arith, common_steps, none_or, none_at_place, no_shape_fault, none_when, eq-eqb)
 
   table_none : AreComparable old new → ArePlaced old new pairs → table_fault old new pairs ≡ None
   table_none c p = none_or _ _ (comparable_none c) (places_hold old new pairs pairs [] 0 refl refl p.later p.starts)

@@ -1,12 +1,13 @@
 -- The graph of a space's words, and what writes do to it.
-use Rattle.std.proofs.Common.{◌≡◌, ℕ, suc, zero, ◌+◌, ◌*◌, ◌/◌, ◌%◌, ◌<◌, Bool, true, false, cond, ◌||◌, ◌==◌, List, [], ◌∷◌, ◌++◌, map, replicate, Some, None, refl, sym, ◌∙◌, ap, subst, inl, inr, arith}
-use Rattle.std.specs.Prelude.{nat_lt, slice_get, slice_index, slice_set, IsSome, ◌⊎◌}
+use Rattle.std.proofs.lemmas.Grind.{common_steps}
+use Rattle.std.proofs.Common.{◌≡◌, ℕ, suc, zero, Bool, true, false, cond, List, [], ◌∷◌, map, replicate, Some, refl, ap, arith}
+use Rattle.std.specs.Prelude.{slice_get, slice_index, slice_set, IsSome}
 use Rattle.std.specs.Option.{option_map}
 use Rattle.std.proofs.lemmas.Bool.{eqb-true, eqb-false, eq-eqb, ne_eqb, ltb-true, lt-ltb, cases_Bool, or_cases}
 use Rattle.std.proofs.lemmas.List.{map-append, map-set}
-use Rattle.gc_graph.specs.Graph.{Value, Nil, Num, Ref, Object, Graph, lookup, first_value, new_object, add_object, set_field, set_root, field_of, value_or_nil}
+use Rattle.gc_graph.specs.Graph.{Value, Nil, Num, Object, Graph, lookup, first_value, new_object, add_object, set_field, set_root, field_of, value_or_nil}
 use Rattle.gc_words.specs.Word.{value_of, is_value, read_value, word_of, HasAddress, field_value}
-use Rattle.gc_words.specs.Image.{Block, fresh_block, blocks, block_in, block_at, field_at, field_in, is_start, object_of_block, object_entry, objects_of, graph_of}
+use Rattle.gc_words.specs.Image.{Block, fresh_block, blocks, block_in, block_at, field_at, is_start, object_of_block, object_entry, objects_of, graph_of}
 use Rattle.gc_words.specs.Layout.{field_place, link_place}
 use Rattle.gc_words.specs.Space.{SpaceWords, IsSpace, empty_space, end_of, CanPlace, with_object, with_word, without_links, image_with}
 use Rattle.gc_words.specs.declared.header.Header.{Header}
@@ -17,28 +18,10 @@ use Rattle.gc_words.proofs.Spelled.{cleared}
 -- ---- words are read back
 
 pub value_read_back : (v : Value) → HasAddress v → read_value (word_of v) ≡ Some v
-value_read_back Nil h = refl
-value_read_back (Num n) h =
-    let odd : ((2 * n + 1) % 2 == 1) ≡ true = eq-eqb _ _ (omega arith) in
-    let some : (2 * n + 1 == 0) ≡ false = ne_eqb _ _ (λ e. omega arith) in
-    let half : (2 * n + 1) / 2 ≡ n = omega arith in
-    ap (λ b. cond (b || nat_lt (2 * n + 1) 8589934590) (Some (cond (2 * n + 1 == 0) Nil (cond b (Num ((2 * n + 1) / 2)) (Ref ((2 * n + 1) / 2))))) None) odd
-    ∙ ap (λ b. Some (cond b Nil (Num ((2 * n + 1) / 2)))) some ∙ ap (λ m. Some (Num m)) half
-value_read_back (Ref a) h =
-    let even : ((2 * a) % 2 == 1) ≡ false = ne_eqb _ _ (λ e. omega arith) in
-    let some : (2 * a == 0) ≡ false = ne_eqb _ _ (λ e. omega arith) in
-    let low : nat_lt (2 * a) 8589934590 ≡ true = lt-ltb _ _ (omega arith) in
-    let half : (2 * a) / 2 ≡ a = omega arith in
-    ap (λ b. cond (b || nat_lt (2 * a) 8589934590) (Some (cond (2 * a == 0) Nil (cond b (Num ((2 * a) / 2)) (Ref ((2 * a) / 2))))) None) even
-    ∙ ap (λ b. cond b (Some (cond (2 * a == 0) Nil (Ref ((2 * a) / 2)))) None) low
-    ∙ ap (λ b. Some (cond b Nil (Ref ((2 * a) / 2)))) some ∙ ap (λ m. Some (Ref m)) half
+value_read_back v h = grind (arith, common_steps, eq-eqb, ne_eqb, lt-ltb)
 
 read_some : (w : ℕ) (v : Value) → read_value w ≡ Some v → (is_value w ≡ true) × (value_of w ≡ v)
-read_some w v e = from (is_value w) refl e
-  where
-    from : (b : Bool) → is_value w ≡ b → cond b (Some (value_of w)) None ≡ Some v → (is_value w ≡ true) × (value_of w ≡ v)
-    from true is e = (is, (let same : value_of w ≡ v = cc in same))
-    from false is e = absurd (let no : None ≡ Some v = e in cc)
+read_some w v e = grind (arith, common_steps)
 
 pub meaning_back : (v : Value) → HasAddress v → (is_value (word_of v) ≡ true) × (value_of (word_of v) ≡ v)
 meaning_back v has = read_some (word_of v) v (value_read_back v has)
@@ -48,36 +31,16 @@ abbrev pub IsWordOf : ℕ → Value → Type 0
 IsWordOf w v = (word_of v ≡ w) × HasAddress v
 
 pub meant : (w : ℕ) → is_value w ≡ true → IsWordOf w (value_of w)
-meant w is =
-    elim (cases_Bool (w == 0)) [
-      | inl nil ↦ subst (IsWordOf w) (sym (ap (λ b. cond b Nil (cond (w % 2 == 1) (Num (w / 2)) (Ref (w / 2)))) nil)) (sym (eqb-true w 0 nil), tt)
-      | inr some ↦ subst (IsWordOf w) (sym (ap (λ b. cond b Nil (cond (w % 2 == 1) (Num (w / 2)) (Ref (w / 2)))) some)) (by_parity (cases_Bool (w % 2 == 1)) (eqb-false w 0 some))
-    ]
-  where
-    by_parity : ((w % 2 == 1) ≡ true) ⊎ ((w % 2 == 1) ≡ false) → (w ≡ 0 → ⊥) → IsWordOf w (cond (w % 2 == 1) (Num (w / 2)) (Ref (w / 2)))
-    by_parity (inl odd) some =
-        let one : w % 2 ≡ 1 = eqb-true _ _ odd in
-        subst (IsWordOf w) (sym (ap (λ b. cond b (Num (w / 2)) (Ref (w / 2))) odd)) (omega arith, tt)
-    by_parity (inr even) some =
-        let not_one : w % 2 ≡ 1 → ⊥ = eqb-false _ _ even in
-        let low : nat_lt w 8589934590 ≡ true = elim (or_cases (w % 2 == 1) (nat_lt w 8589934590) is) [ inl odd ↦ absurd (not_one (eqb-true _ _ odd)) | inr low ↦ low ] in
-        let less : w < 8589934590 = ltb-true _ _ low in
-        subst (IsWordOf w) (sym (ap (λ b. cond b (Num (w / 2)) (Ref (w / 2))) even)) (omega arith, (omega arith, omega arith))
+meant w is = grind (arith, common_steps, cases_Bool, eqb-true, eqb-false, or_cases, ltb-true)
 
 pub word_read_back : (w : ℕ) (v : Value) → read_value w ≡ Some v → IsWordOf w v
-word_read_back w v e =
-    let read : (is_value w ≡ true) × (value_of w ≡ v) = read_some w v e in
-    subst (IsWordOf w) read.1 (meant w read.0)
+word_read_back w v e = grind (arith, common_steps, read_some, meant)
 
 -- ---- what a graph finds
 
 pub object_in : (bs : List (ℕ × Block)) (a : ℕ) → lookup (map object_entry bs) a ≡ option_map object_of_block (block_in bs a)
 object_in [] a = refl
-object_in (entry ∷ bs) a =
-    elim (entry.0 == a) as (λ b. cond b (Some (object_of_block entry.1)) (lookup (map object_entry bs) a) ≡ option_map object_of_block (cond b (Some entry.1) (block_in bs a))) [
-      | true ↦ refl
-      | false ↦ object_in bs a
-    ]
+object_in (entry ∷ bs) a = grind (arith, common_steps, object_in bs a)
 
 pub object_found : (words : List ℕ) (a : ℕ) → lookup (objects_of words) a ≡ option_map object_of_block (block_at words a)
 object_found words a = object_in (blocks words) a
@@ -88,10 +51,7 @@ field_of_block h (w ∷ words) zero = refl
 field_of_block h (w ∷ words) (suc i) = field_of_block h words i
 
 pub field_found : (words : List ℕ) (a i : ℕ) (b : Block) → block_at words a ≡ Some b → field_of (lookup (objects_of words) a) i ≡ option_map (field_value b.header) (field_at words a i)
-field_found words a i b e =
-    ap (λ o. field_of o i) (object_found words a ∙ ap (option_map object_of_block) e)
-    ∙ field_of_block b.header b.fields i
-    ∙ sym (ap (λ o. option_map (field_value b.header) (field_in o i)) e)
+field_found words a i b e = grind (arith, common_steps, object_found, field_of_block)
 
 pub root_value : (roots : List ℕ) (place : ℕ) → value_or_nil (slice_get (map value_of roots) place) ≡ value_of (slice_index roots place)
 root_value [] place = refl
@@ -123,14 +83,11 @@ graph_with roots os qs e = ap (λ os. record { objects = os; roots = map value_o
 
 pub graph_placed : (s : SpaceWords) (h : Header) (roots : List ℕ) → CanPlace s h
     → graph_of (image_with (with_object s h) roots) ≡ add_object (graph_of (image_with s roots)) (end_of s) (new_object h.raw h.kind h.len)
-graph_placed s h roots can =
-    graph_with roots _ _ (ap (map object_entry) (placed s h can).1 ∙ map-append object_entry (blocks s.words) ((end_of s, fresh_block h) ∷ [])
-    ∙ ap (λ o. objects_of s.words ++ (end_of s, o) ∷ []) (fresh_object h))
+graph_placed s h roots can = grind (arith, common_steps, graph_with, placed, map-append, fresh_object)
 
 pub graph_field : (s : SpaceWords) (a i w : ℕ) (b : Block) (roots : List ℕ) → IsSpace s → IsSome (field_at s.words a i) → block_at s.words a ≡ Some b
     → graph_of (image_with (with_word s (field_place a i) w) roots) ≡ record (graph_of (image_with s roots)) { objects = set_field (objects_of s.words) a i (field_value b.header w) }
-graph_field s a i w b roots space some found =
-    graph_with roots _ _ (ap (map object_entry) (field_written s a i w space some).1 ∙ objects_set (blocks s.words) a i w b found)
+graph_field s a i w b roots space some found = grind (arith, common_steps, graph_with, field_written, objects_set)
 
 pub graph_link : (s : SpaceWords) (a w : ℕ) (roots : List ℕ) → IsSpace s → is_start s.words a ≡ true → graph_of (image_with (with_word s (link_place a) w) roots) ≡ graph_of (image_with s roots)
 graph_link s a w roots space start = graph_with roots _ _ (ap (map object_entry) (link_written s a w space start).1)

@@ -1,16 +1,17 @@
 -- Images in which every reference refers to a start.
-use Rattle.std.proofs.Common.{◌≡◌, ℕ, suc, zero, ◌+◌, ◌<◌, ◌≤◌, Bool, true, false, cond, ◌==◌, List, [], ◌∷◌, ◌++◌, map, length, replicate, Some, None, is_some, refl, sym, ◌∙◌, ap, subst, arith}
+use Rattle.std.proofs.lemmas.Grind.{common_steps}
+use Rattle.std.proofs.Common.{◌≡◌, ℕ, suc, zero, ◌+◌, ◌<◌, ◌≤◌, true, false, cond, ◌==◌, List, [], ◌∷◌, ◌++◌, map, length, replicate, Some, None, is_some, refl, sym, ◌∙◌, ap, subst, arith}
 use Rattle.std.specs.Prelude.{slice_get, slice_set, IsOk, IsSome}
 use Rattle.std.specs.List.{All, AllByRecursion, flat_map}
 use Rattle.std.proofs.lemmas.Bool.{eq-eqb, ne_eqb}
-use Rattle.std.proofs.lemmas.List.Elements.{All-nil, All-cons, All-head, All-tail, All-replicate, All-append, All-set, All-push, All-weaker, All-map, All-from_recursion}
+use Rattle.std.proofs.lemmas.List.Elements.{All-nil, All-cons, All-head, All-tail, All-replicate, All-append, All-set, All-weaker, All-map, All-from_recursion}
 use Rattle.std.proofs.lemmas.List.Folds.{list_any_none}
 use Rattle.gc_graph.specs.Graph.{Value, Nil, Num, Ref, Object, Graph, names_of, names_in, IsUnused}
-use Rattle.gc_words.specs.Word.{value_of, HasAddress, is_value, word_of, field_value, read_header}
+use Rattle.gc_words.specs.Word.{value_of, HasAddress, word_of, field_value, read_header}
 use Rattle.gc_words.specs.Image.{Block, fresh_block, walk_words, blocks, block_in, block_at, field_in, field_at, is_start, with_field_word, set_block, object_of_block, object_entry, objects_of, graph_of}
 use Rattle.gc_words.specs.Layout.{field_place}
-use Rattle.gc_words.specs.Space.{SpaceWords, IsSpace, empty_space, end_of, free_in, CanPlace, with_object, with_word, image_with}
-use Rattle.gc_words.specs.Closed.{RefersToStart, IsRootWord, IsWordOfField, IsFieldWord, HasFieldWords, IsClosed}
+use Rattle.gc_words.specs.Space.{SpaceWords, IsSpace, empty_space, end_of, CanPlace, with_object, with_word, image_with}
+use Rattle.gc_words.specs.Closed.{RefersToStart, IsRootWord, IsFieldWord, HasFieldWords, IsClosed}
 use Rattle.gc_words.specs.Walking.{StandsIn}
 use Rattle.gc_words.specs.declared.header.Header.{Header}
 use Rattle.gc_words.proofs.Walks.{Walked, First, first}
@@ -66,11 +67,7 @@ module _ (s : SpaceWords) (space : IsSpace s) where
   root_names w is = names_below (value_of w) is.start
 
   field_names : (h : Header) (w : ℕ) → IsFieldWord s.words h w → All Below (names_of (field_value h w))
-  field_names h w is = go h.raw is
-    where
-      go : (raw : Bool) → IsWordOfField raw s.words w → All Below (names_of (cond raw (Num w) (value_of w)))
-      go true is = All-nil Below
-      go false is = root_names w is
+  field_names h w is = grind (arith, common_steps, root_names)
 
   block_names : (b : Block) → HasFieldWords s.words b → All Below (flat_map names_of (object_of_block b).fields)
   block_names b has = All-flat_map Below names_of (map (field_value b.header) b.fields)
@@ -91,41 +88,31 @@ module _ (s : SpaceWords) (space : IsSpace s) where
       (All-flat_map Below names_of (map value_of roots) (All-map (λ v. All Below (names_of v)) value_of roots (All-weaker (IsRootWord s.words) (λ w. All Below (names_of (value_of w))) root_names roots closed.roots)))
 
   pub end_unused : (roots : List ℕ) → IsClosed s.words roots → IsUnused (graph_with roots) (end_of s)
-  end_unused roots closed =
-      list_any_none (λ other. other == end_of s) (names_in (graph_with roots))
-      (All-weaker Below (λ other. (other == end_of s) ≡ false) (λ other less. ne_eqb other (end_of s) (λ same. omega arith)) (names_in (graph_with roots)) (all_names roots closed))
+  end_unused roots closed = grind (arith, common_steps, list_any_none, ne_eqb, all_names)
 
 -- ---- the words of values
 
 pub value_refers : (words : List ℕ) (v : Value) → HasAddress v → RefersToStart words v → IsRootWord words (word_of v)
-value_refers words v has refers =
-    let back : (is_value (word_of v) ≡ true) × (value_of (word_of v) ≡ v) = meaning_back v has in
-    record { value = back.0; start = subst (RefersToStart words) (sym back.1) refers }
+value_refers words v has refers = grind (arith, common_steps, meaning_back)
 
 -- ---- words keep their meaning while starts stay
 
-abbrev pub KeepsStarts : List ℕ → List ℕ → Type 0
+abbrev KeepsStarts : List ℕ → List ℕ → Type 0
 KeepsStarts words others = (a : ℕ) → is_start words a ≡ true → is_start others a ≡ true
 
 kept_reference : (words others : List ℕ) → KeepsStarts words others → (v : Value) → RefersToStart words v → RefersToStart others v
-kept_reference words others keeps Nil r = tt
-kept_reference words others keeps (Num n) r = tt
-kept_reference words others keeps (Ref a) r = keeps a r
+kept_reference words others keeps v r = grind (arith, common_steps)
 
 kept_root : (words others : List ℕ) → KeepsStarts words others → (w : ℕ) → IsRootWord words w → IsRootWord others w
 kept_root words others keeps w is = record { value = is.value; start = kept_reference words others keeps (value_of w) is.start }
 
 kept_field : (words others : List ℕ) → KeepsStarts words others → (h : Header) (w : ℕ) → IsFieldWord words h w → IsFieldWord others h w
-kept_field words others keeps h w is = go h.raw is
-  where
-    go : (raw : Bool) → IsWordOfField raw words w → IsWordOfField raw others w
-    go true small = small
-    go false is = kept_root words others keeps w is
+kept_field words others keeps h w is = grind (arith, common_steps, kept_root)
 
 kept_block : (words others : List ℕ) → KeepsStarts words others → (b : Block) → HasFieldWords words b → HasFieldWords others b
 kept_block words others keeps b has = All-weaker (IsFieldWord words b.header) (IsFieldWord others b.header) (kept_field words others keeps b.header) b.fields has
 
-abbrev pub Has : List ℕ → ℕ × Block → Type 0
+abbrev Has : List ℕ → ℕ × Block → Type 0
 Has words entry = HasFieldWords words entry.1
 
 kept_blocks : (words others : List ℕ) → KeepsStarts words others → (bs : List (ℕ × Block)) → All (Has words) bs → All (Has others) bs
@@ -146,19 +133,11 @@ start_push (entry ∷ bs) x a e =
 
 start_last : (bs : List (ℕ × Block)) (a : ℕ) (b : Block) → is_some (block_in (bs ++ (a, b) ∷ []) a) ≡ true
 start_last [] a b = ap (λ t. is_some (cond t (Some b) None)) (eq-eqb a a refl)
-start_last (entry ∷ bs) a b =
-    elim (entry.0 == a) as (λ t. is_some (cond t (Some entry.1) (block_in (bs ++ (a, b) ∷ []) a)) ≡ true) [
-      | true ↦ refl
-      | false ↦ start_last bs a b
-    ]
+start_last (entry ∷ bs) a b = grind (arith, common_steps, eq-eqb, start_last bs a b)
 
 -- an object whose field words are all 0
 fresh_has : (words : List ℕ) (h : Header) → HasFieldWords words (fresh_block h)
-fresh_has words h = All-replicate (IsFieldWord words h) h.len 0 (zero_word h.raw)
-  where
-    zero_word : (raw : Bool) → IsWordOfField raw words 0
-    zero_word true = omega arith
-    zero_word false = record { value = refl; start = tt }
+fresh_has words h = grind (arith, common_steps)
 
 module _ (s : SpaceWords) (h : Header) (can : CanPlace s h) where
   abbrev after : List ℕ
@@ -171,27 +150,16 @@ module _ (s : SpaceWords) (h : Header) (can : CanPlace s h) where
   keeps_placed a start = ap (λ bs. is_some (block_in bs a)) objects_after ∙ start_push (blocks s.words) (end_of s, fresh_block h) a start
 
   pub closed_placed : (roots : List ℕ) → IsClosed s.words roots → IsClosed after roots
-  closed_placed roots closed = record {
-    fields = subst (All (Has after)) (sym objects_after) (All-push (Has after) (blocks s.words) (end_of s, fresh_block h) (kept_blocks s.words after keeps_placed (blocks s.words) closed.fields) (fresh_has after h));
-    roots = kept_roots s.words after roots keeps_placed closed.roots;
-  }
+  closed_placed roots closed = grind (arith, common_steps, objects_after, kept_blocks, keeps_placed, fresh_has, kept_roots)
 
   pub placed_reference : IsRootWord after (word_of (Ref (end_of s)))
-  placed_reference =
-      let low : 1 ≤ length s.words = can.shaped.end_low in
-      let high : s.size ≤ 4294967295 = can.shaped.size_high in
-      let room : h.len + 2 ≤ free_in s = can.room in
-      value_refers after (Ref (end_of s)) (low, omega arith) (ap (λ bs. is_some (block_in bs (end_of s))) objects_after ∙ start_last (blocks s.words) (end_of s) (fresh_block h))
+  placed_reference = grind (arith, common_steps, value_refers, objects_after, start_last)
 
 -- ---- a written field
 
-pub start_set : (bs : List (ℕ × Block)) (a i w x : ℕ) → is_some (block_in (set_block bs a i w) x) ≡ is_some (block_in bs x)
+start_set : (bs : List (ℕ × Block)) (a i w x : ℕ) → is_some (block_in (set_block bs a i w) x) ≡ is_some (block_in bs x)
 start_set [] a i w x = refl
-start_set (entry ∷ bs) a i w x =
-    elim (entry.0 == a) as (λ t. is_some (block_in (cond t ((entry.0, with_field_word entry.1 i w) ∷ bs) (entry ∷ set_block bs a i w)) x) ≡ is_some (cond (entry.0 == x) (Some entry.1) (block_in bs x))) [
-      | true ↦ elim (entry.0 == x) as (λ t. is_some (cond t (Some (with_field_word entry.1 i w)) (block_in bs x)) ≡ is_some (cond t (Some entry.1) (block_in bs x))) [ true ↦ refl | false ↦ refl ]
-      | false ↦ elim (entry.0 == x) as (λ t. is_some (cond t (Some entry.1) (block_in (set_block bs a i w) x)) ≡ is_some (cond t (Some entry.1) (block_in bs x))) [ true ↦ refl | false ↦ start_set bs a i w x ]
-    ]
+start_set (entry ∷ bs) a i w x = grind (arith, common_steps, start_set bs a i w x)
 
 set_has : (words : List ℕ) (b : Block) (i w : ℕ) → IsFieldWord words b.header w → HasFieldWords words b → HasFieldWords words (with_field_word b i w)
 set_has words b i w is has = All-set (IsFieldWord words b.header) b.fields i w is has
@@ -220,12 +188,7 @@ closed_field s a i w b roots space some found is closed =
 -- ---- the same objects, and roots
 
 pub closed_objects : (words others roots : List ℕ) → blocks others ≡ blocks words → IsClosed words roots → IsClosed others roots
-closed_objects words others roots same closed =
-    let keeps : KeepsStarts words others = λ a start. ap (λ bs. is_some (block_in bs a)) same ∙ start in
-    record {
-      fields = subst (All (Has others)) (sym same) (kept_blocks words others keeps (blocks words) closed.fields);
-      roots = kept_roots words others roots keeps closed.roots;
-    }
+closed_objects words others roots same closed = grind (arith, common_steps, kept_blocks, kept_roots)
 
 pub closed_root : (words roots : List ℕ) (place w : ℕ) → IsRootWord words w → IsClosed words roots → IsClosed words (slice_set roots place w)
 closed_root words roots place w is closed = record { fields = closed.fields; roots = All-set (IsRootWord words) roots place w is closed.roots }

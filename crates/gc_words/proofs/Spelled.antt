@@ -1,5 +1,6 @@
 -- The words of a space are spelled by its objects and their links.
-use Rattle.std.proofs.Common.{◌≡◌, ℕ, suc, zero, ◌+◌, ◌≤◌, true, cond, ◌==◌, List, [], ◌∷◌, ◌++◌, length, get_or, drop, Some, None, Ok, refl, sym, ◌∙◌, ap, subst, inl, inr, arith, length-append}
+use Rattle.std.proofs.lemmas.Grind.{common_steps}
+use Rattle.std.proofs.Common.{◌≡◌, ℕ, suc, zero, ◌+◌, ◌≤◌, true, cond, ◌==◌, List, [], ◌∷◌, ◌++◌, length, get_or, drop, Some, None, Ok, refl, sym, ◌∙◌, ap, subst, inl, inr, arith}
 use Rattle.std.specs.Prelude.{IsOk, slice_index}
 use Rattle.std.proofs.lemmas.Bool.{eqb-true, cases_Bool}
 use Rattle.std.proofs.lemmas.List.{take_at, drop_at, drop-drop, drop_more, take-append-drop, get_or-append-add}
@@ -32,30 +33,16 @@ laid_out (v ∷ ws) zero at bs room w =
 -- ---- objects that are laid out are walked
 
 walk_block : (at link : ℕ) (b : Block) (rest : List ℕ) → IsBlock b → walk true 0 at (block_words link b ++ rest) ≡ with_front (at, b) (walk true 0 (at + (b.header.len + 2)) rest)
-walk_block at link b rest is =
-    let h : Header = b.header in
-    let words : List ℕ = link ∷ (b.fields ++ rest) in
-    let count : length b.fields ≡ h.len = is.fields in
-    let room : h.len + 1 ≤ length words = omega (arith, length-append b.fields rest) in
-    let fields : fields_in h words ≡ b.fields = take_at b.fields rest h.len count in
-    let one : h.len + 1 ≡ suc h.len = omega arith in
-    let behind : drop (h.len + 1) words ≡ rest = ap (λ n. drop n words) one ∙ drop_at b.fields rest h.len count in
-    let place : suc at + (h.len + 1) ≡ at + (h.len + 2) = omega arith in
-    object_result true at (header_word h) words h (read_back h is.header) room
-    ∙ (λ i. with_front (at, record { header = h; fields = fields i }) (passed true (h.len + 1) (suc at) words room i))
-    ∙ (λ i. with_front (at, b) (walk true 0 (place i) (behind i)))
+walk_block at link b rest is = grind (arith, common_steps, fields_in, take_at, drop_at, object_result, read_back, passed)
 
 pub walk_spelled : (entries : List (ℕ × Block)) (links : ℕ → ℕ) (at : ℕ) → LaidOut at entries → walk true 0 at (spelled_from links entries) ≡ Ok entries
 walk_spelled [] links at laid = refl
-walk_spelled (entry ∷ rest) links at laid =
-    walk_block at (links entry.0) entry.1 (spelled_from links rest) laid.1
-    ∙ ap (with_front (at, entry.1)) (walk_spelled rest links (at + (entry.1.header.len + 2)) laid.2)
-    ∙ ap (λ n. Ok ((n, entry.1) ∷ rest)) (sym laid.0)
+walk_spelled (entry ∷ rest) links at laid = grind (arith, common_steps, walk_block, walk_spelled rest links (at + (entry.1.header.len + 2)) laid.2)
 
 -- ---- walked words are spelled by their objects
 
 -- the links are the words after the starts
-abbrev pub AreLinks : (ℕ → ℕ) → ℕ → List ℕ → Type 0
+abbrev AreLinks : (ℕ → ℕ) → ℕ → List ℕ → Type 0
 AreLinks links at ws = (p : ℕ) → links (at + p) ≡ get_or ws (p + 1) 0
 
 next_links : (links : ℕ → ℕ) (at w : ℕ) (ws : List ℕ) → AreLinks links at (w ∷ ws) → AreLinks links (suc at) ws
@@ -147,10 +134,7 @@ link_spelled entries links (suc p) b laid e =
 
 length_any_links : (entries : List (ℕ × Block)) (links others : ℕ → ℕ) → length (spelled_from links entries) ≡ length (spelled_from others entries)
 length_any_links [] links others = refl
-length_any_links (entry ∷ rest) links others =
-    length-append (block_words (links entry.0) entry.1) (spelled_from links rest)
-    ∙ ap (λ n. length (block_words (links entry.0) entry.1) + n) (length_any_links rest links others)
-    ∙ sym (length-append (block_words (others entry.0) entry.1) (spelled_from others rest))
+length_any_links (entry ∷ rest) links others = grind (arith, common_steps, length_any_links rest links others)
 
 -- words with other links have as many words
 pub length_relinked : (links : ℕ → ℕ) (words : List ℕ) → IsOk (walk_words words) → 1 ≤ length words → slice_index words 0 ≡ 0 → length (spelled links (blocks words)) ≡ length words
@@ -159,12 +143,7 @@ length_relinked links words ok low reserved =
 
 -- a space with other links has the same objects
 pub relinked : (links : ℕ → ℕ) (s : SpaceWords) → IsSpace s → IsSpace (record s { words = spelled links (blocks s.words) }) × (blocks (spelled links (blocks s.words)) ≡ blocks s.words)
-relinked links s space =
-    let same : length (spelled links (blocks s.words)) ≡ length s.words = length_relinked links s.words space.walked space.end_low space.reserved in
-    let low : 1 ≤ length s.words = space.end_low in
-    let high : length s.words ≤ s.size = space.end_high in
-    space_of s.size (spelled links (blocks s.words)) (blocks s.words) (omega arith) (omega arith) space.size_high refl
-    (walk_spelled (blocks s.words) links 1 (laid_out_words s.words space.walked))
+relinked links s space = grind (arith, common_steps, length_relinked, space_of, walk_spelled, laid_out_words)
 
 pub length_cleared : (words : List ℕ) → IsOk (walk_words words) → 1 ≤ length words → slice_index words 0 ≡ 0 → length (spelled no_links (blocks words)) ≡ length words
 length_cleared words ok low reserved = length_relinked no_links words ok low reserved

@@ -1,9 +1,10 @@
 -- Fields that are written in a row: all at once is one by one, and the space stays shaped.
-use Rattle.std.proofs.Common.{◌≡◌, ℕ, suc, ◌+◌, ◌-◌, ◌<◌, ◌≤◌, List, [], ◌∷◌, ◌++◌, length, get_or, take, drop, Some, refl, sym, ◌∙◌, ap, subst, arith, length-set, length-take, length-drop, append_assoc, append-nil}
-use Rattle.std.specs.Prelude.{slice_set, slice_get, IsSome}
+use Rattle.std.proofs.lemmas.Grind.{common_steps}
+use Rattle.std.proofs.Common.{◌≡◌, ℕ, suc, ◌+◌, ◌-◌, ◌<◌, ◌≤◌, List, [], ◌∷◌, ◌++◌, length, take, drop, refl, sym, ◌∙◌, ap, subst, arith, length-set, length-take, length-drop, append_assoc, append-nil}
+use Rattle.std.specs.Prelude.{slice_set, IsSome}
 use Rattle.std.proofs.lemmas.List.{take-append-drop, take_more_set, drop-set-lt}
 use Rattle.std.proofs.lemmas.Option.{slice_get-get_or}
-use Rattle.gc_words.specs.Image.{Block, block_at, field_in, field_at}
+use Rattle.gc_words.specs.Image.{Block, field_in, field_at}
 use Rattle.gc_words.specs.Layout.{field_place}
 use Rattle.gc_words.specs.Space.{SpaceWords, IsSpace, HasFields, with_field_at, with_fields}
 use Rattle.gc_words.specs.Walking.{StandsIn}
@@ -14,12 +15,12 @@ use Rattle.gc_words.proofs.Writes.{field_written}
 -- ---- one by one
 
 -- a field of the row is there
-pub there_at : (s : SpaceWords) (at first count i : ℕ) → HasFields s at first count → i < first + count → IsSome (field_at s.words at i)
+there_at : (s : SpaceWords) (at first count i : ℕ) → HasFields s at first count → i < first + count → IsSome (field_at s.words at i)
 there_at s at first count i has less =
     subst (λ o. IsSome (field_in o i)) (sym has.found) (subst IsSome (sym (slice_get-get_or has.block.fields i 0 (omega (arith, has.long, less)))) refl)
 
 -- the object still has its fields when one is written
-pub has_still : (s : SpaceWords) (at first count i w : ℕ) → IsSpace s → HasFields s at first count → i < first + count → HasFields (with_field_at s at i w) at first count
+has_still : (s : SpaceWords) (at first count i w : ℕ) → IsSpace s → HasFields s at first count → i < first + count → HasFields (with_field_at s at i w) at first count
 has_still s at first count i w space has less = record {
   block = record has.block { fields = slice_set has.block.fields i w };
   found = field_block s at i w has.block space (there_at s at first count i has less) has.found;
@@ -58,12 +59,10 @@ row_is (w ∷ words) row p fits =
 
 fields_are : (words : List ℕ) (s : SpaceWords) (at first : ℕ) → record s { words = set_row s.words (field_place at first) words } ≡ with_fields s at first words
 fields_are [] s at first = refl
-fields_are (w ∷ words) s at first =
-    ap (λ p. record s { words = set_row (slice_set s.words (field_place at first) w) p words }) (let e : suc (field_place at first) ≡ field_place at (suc first) = omega arith in e)
-    ∙ fields_are words (with_field_at s at first w) at (suc first)
+fields_are (w ∷ words) s at first = grind (arith, common_steps, fields_are words (with_field_at s at first w) at (suc first))
 
 -- the fields lie within the words
-pub fields_within : (s : SpaceWords) (at first count : ℕ) → IsSpace s → HasFields s at first count → field_place at first + count ≤ length s.words
+fields_within : (s : SpaceWords) (at first count : ℕ) → IsSpace s → HasFields s at first count → field_place at first + count ≤ length s.words
 fields_within s at first count space has =
     let b : Block = has.block in
     let stands : StandsIn s.words at b = stands_in s.words at b space.walked has.found in

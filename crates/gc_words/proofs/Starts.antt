@@ -1,5 +1,6 @@
 -- Where the objects of a walk are among the words.
-use Rattle.std.proofs.Common.{◌≡◌, ℕ, suc, zero, ◌+◌, ◌≤◌, true, false, cond, ◌==◌, List, [], ◌∷◌, length, get_or, take, drop, Some, None, Result, Ok, Err, refl, sym, ◌∙◌, ap, subst, inl, inr, arith, length-take, length-drop}
+use Rattle.std.proofs.lemmas.Grind.{common_steps}
+use Rattle.std.proofs.Common.{◌≡◌, ℕ, suc, zero, ◌+◌, ◌≤◌, cond, ◌==◌, List, [], ◌∷◌, length, get_or, take, drop, Some, None, Result, Ok, refl, sym, ◌∙◌, ap, subst, inl, inr, arith}
 use Rattle.std.specs.Prelude.{slice_index, IsOk}
 use Rattle.std.proofs.lemmas.Bool.{eqb-true, cases_Bool}
 use Rattle.gc_words.specs.Word.{read_header}
@@ -19,11 +20,7 @@ pub record StandsAt (ws : List ℕ) (at a : ℕ) (b : Block) : Type 0 where
   pub whole : IsBlock b
 
 pub whole_first : (h : Header) (w : ℕ) (ws : List ℕ) → read_header w ≡ Some h → h.len + 1 ≤ length ws → IsBlock (record { header = h; fields = fields_in h ws })
-whole_first h w ws is room =
-    record {
-      header = (written_back w h is).0;
-      fields = omega (arith, length-take h.len (drop 1 ws), length-drop 1 ws);
-    }
+whole_first h w ws is room = grind (arith, common_steps, written_back)
 
 later : (w : ℕ) (ws : List ℕ) (at a : ℕ) (b : Block) → StandsAt ws (suc at) a b → StandsAt (w ∷ ws) at a b
 later w ws at a b s = record {
@@ -58,8 +55,7 @@ stands (v ∷ ws) zero at bs a b w e =
     ]
 
 pub ok_is : (r : Result (List (ℕ × Block)) ℕ) → IsOk r → r ≡ Ok (ok_or_nil r)
-ok_is (Ok xs) e = refl
-ok_is (Err at) e = absurd (let no : false ≡ true = e in cc)
+ok_is r e = grind (arith, common_steps)
 
 pub walked_blocks : (words : List ℕ) → IsOk (walk_words words) → walk_words words ≡ Ok (blocks words)
 walked_blocks words e = ok_is (walk_words words) e

@@ -1,5 +1,6 @@
 -- A walk over a space's words, one object at a time.
-use Rattle.std.proofs.Common.{◌≡◌, ℕ, suc, zero, ◌+◌, ◌-◌, ◌<◌, ◌≤◌, Bool, true, false, cond, ◌==◌, List, [], ◌∷◌, ◌++◌, length, take, drop, Option, Some, None, Result, Ok, Err, is_some, is_ok, refl, sym, ◌∙◌, ap, subst, inl, inr, arith, length-drop, append_assoc}
+use Rattle.std.proofs.lemmas.Grind.{common_steps}
+use Rattle.std.proofs.Common.{◌≡◌, ℕ, suc, zero, ◌+◌, ◌-◌, ◌<◌, ◌≤◌, Bool, true, false, cond, ◌==◌, List, [], ◌∷◌, ◌++◌, length, take, drop, Option, Some, None, Result, Ok, Err, is_some, refl, sym, ◌∙◌, ap, subst, arith, length-drop, append_assoc}
 use Rattle.std.specs.Prelude.{nat_le, slice_index, slice_set, IsOk, IsSome}
 use Rattle.std.specs.List.{AllByRecursion}
 use Rattle.std.proofs.lemmas.Bool.{eq-eqb, ne_eqb, leb-true, leb-false, cases_eq, and_from}
@@ -63,26 +64,11 @@ step raws words at next inside e = from (header_in raws (slice_index words at)) 
         }
 
 pub no_step : (raws : Bool) (words : List ℕ) (at : ℕ) → at < length words → next_in raws words at ≡ None → walk_on raws words at ≡ Err at
-no_step raws words at inside e = from (header_in raws (slice_index words at)) refl e
-  where
-    unfit : (h : Header) (b : Bool) → nat_le (h.len + 2) (length words - at) ≡ b → cond b (Some (at + (h.len + 2))) None ≡ None → length words - at < h.len + 2
-    unfit h true t e = absurd (let no : Some (at + (h.len + 2)) ≡ None = e in cc)
-    unfit h false t e = leb-false _ _ t
-
-    from : (o : Option Header) → header_in raws (slice_index words at) ≡ o → next_after at o (length words - at) ≡ None → walk_on raws words at ≡ Err at
-    from None is e = ap (walk raws 0 at) (opened words at inside) ∙ no_object raws at (slice_index words at) (drop (at + 1) words) is
-    from (Some h) is e =
-        let less : length words - at < h.len + 2 = unfit h (nat_le (h.len + 2) (length words - at)) refl e in
-        let count : length (drop (at + 1) words) ≡ length words - (at + 1) = rest_length words at inside in
-        ap (walk raws 0 at) (opened words at inside) ∙ no_room raws at (slice_index words at) (drop (at + 1) words) h is (omega arith)
+no_step raws words at inside e = grind (arith, common_steps, leb-false, opened, no_object, rest_length, no_room)
 
 -- a walk that reaches the end continues from each object
 pub has_next : (words : List ℕ) (at : ℕ) → at < length words → IsOk (walk_from words at) → IsSome (next_of words at)
-has_next words at inside ok = from (next_of words at) refl
-  where
-    from : (o : Option ℕ) → next_of words at ≡ o → is_some o ≡ true
-    from None e = absurd (let no : false ≡ true = sym (ap is_ok (no_step true words at inside e)) ∙ ok in cc)
-    from (Some next) e = refl
+has_next words at inside ok = grind (arith, common_steps, no_step)
 
 -- ---- after the last object
 
@@ -92,8 +78,7 @@ at_end words at h = ap (walk true 0 at) (drop_all at words h)
 -- ---- a walk's fault
 
 pub fault_behind : (x : ℕ × Block) (r : Result (List (ℕ × Block)) ℕ) → fault_of_walk (with_front x r) ≡ fault_of_walk r
-fault_behind x (Ok xs) = refl
-fault_behind x (Err at) = refl
+fault_behind x r = grind (arith, common_steps)
 
 pub same_fault : (raws : Bool) (words : List ℕ) (at next : ℕ) → at < length words → next_in raws words at ≡ Some next → fault_of_walk (walk_on raws words at) ≡ fault_of_walk (walk_on raws words next)
 same_fault raws words at next inside e =
@@ -107,8 +92,7 @@ framed raws end words count reserved = ap (λ b. cond b (fault_of_walk (walk_all
 -- ---- the objects after one
 
 pub ok_behind : (x : ℕ × Block) (r : Result (List (ℕ × Block)) ℕ) → IsOk (with_front x r) → IsOk r × (ok_or_nil (with_front x r) ≡ x ∷ ok_or_nil r)
-ok_behind x (Ok xs) e = (refl, refl)
-ok_behind x (Err at) e = absurd (let no : false ≡ true = e in cc)
+ok_behind x r e = grind (arith, common_steps)
 
 pub record Behind (words : List ℕ) (at next : ℕ) : Type 0 where
   pub step : StepsTo words at next
@@ -144,8 +128,7 @@ start_here words at inside ok =
 
 none_above : (bs : List (ℕ × Block)) (low place : ℕ) → place < low → AllByRecursion (λ b. low ≤ b.0) bs → block_in bs place ≡ None
 none_above [] low place h all = refl
-none_above (b ∷ bs) low place h all =
-    ap (λ t. cond t (Some b.1) (block_in bs place)) (ne_eqb b.0 place (λ same. let l : low ≤ b.0 = all.0 in omega arith)) ∙ none_above bs low place h all.1
+none_above (b ∷ bs) low place h all = grind (arith, common_steps, ne_eqb, none_above bs low place h all.1)
 
 pub no_start_below : (words : List ℕ) (at place : ℕ) → place < at → IsOk (walk_from words at) → has_start_from words at place ≡ false
 no_start_below words at place below ok =
@@ -153,11 +136,7 @@ no_start_below words at place below ok =
 
 -- what the last test of a search decides
 pub found_start : (words : List ℕ) (at place : ℕ) → at < length words → place ≤ at → IsOk (walk_from words at) → (at == place) ≡ has_start_from words at place
-found_start words at place inside reached ok =
-    elim (cases_eq at place) [
-      | inl same ↦ eq-eqb at place same ∙ sym (subst (λ p. has_start_from words at p ≡ true) same (start_here words at inside ok))
-      | inr other ↦ ne_eqb at place other ∙ sym (no_start_below words at place (omega arith) ok)
-    ]
+found_start words at place inside reached ok = grind (arith, common_steps, cases_eq, eq-eqb, start_here, ne_eqb, no_start_below)
 
 -- ---- setting links, one object at a time
 

@@ -1,6 +1,7 @@
 -- What writes do to the walk over a space.
-use Rattle.std.proofs.Common.{◌≡◌, ℕ, suc, zero, ◌+◌, ◌-◌, ◌*◌, ◌/◌, ◌%◌, ◌<◌, ◌≤◌, Bool, true, false, cond, ◌&&◌, ◌==◌, List, [], ◌∷◌, ◌++◌, map, length, take, drop, Option, Some, None, Result, Ok, Err, refl, sym, ◌∙◌, ap, subst, inl, inr, arith, length-append, length-set}
-use Rattle.std.specs.Prelude.{IsOk, nat_lt, nat_le, slice_set, ⊤}
+use Rattle.std.proofs.lemmas.Grind.{common_steps}
+use Rattle.std.proofs.Common.{◌≡◌, ℕ, suc, zero, ◌+◌, ◌-◌, ◌*◌, ◌/◌, ◌%◌, ◌<◌, ◌≤◌, Bool, true, false, cond, ◌==◌, List, [], ◌∷◌, ◌++◌, map, length, take, drop, Option, Some, None, Result, Ok, Err, refl, sym, ◌∙◌, ap, subst, inl, inr, arith, length-append, length-set}
+use Rattle.std.specs.Prelude.{IsOk, nat_le, slice_set, ⊤}
 use Rattle.std.specs.List.{AllByRecursion}
 use Rattle.std.proofs.lemmas.Bool.{eqb-true, leb-true, le-leb, lt-leb, lt-ltb, le-ltb, and_from, and_parts, ltb-true, cases_Bool}
 use Rattle.std.proofs.lemmas.List.{take-append-le, drop-append-le, take_all, map-set}
@@ -12,64 +13,29 @@ use Rattle.gc_words.specs.declared.header.Header.{Header}
 -- ---- headers are read back
 
 quotient : (raw : Bool) (kind len : ℕ) → kind < 256 → len < 65536 → (least_header raw + 65536 * kind + len - least_header raw) / 65536 ≡ kind
-quotient true kind len k l = omega arith
-quotient false kind len k l = omega arith
+quotient raw kind len k l = grind (arith, common_steps)
 
 remainder : (raw : Bool) (kind len : ℕ) → kind < 256 → len < 65536 → (least_header raw + 65536 * kind + len) % 65536 ≡ len
-remainder true kind len k l = omega arith
-remainder false kind len k l = omega arith
+remainder raw kind len k l = grind (arith, common_steps)
 
 by_back : (raw : Bool) (kind len : ℕ) → kind < 256 → len < 65536 → header_by raw (least_header raw + 65536 * kind + len) ≡ record { raw = raw; kind = kind; len = len }
 by_back raw kind len k l = λ i. record { raw = raw; kind = quotient raw kind len k l i; len = remainder raw kind len k l i }
 
 is_word : (raw : Bool) (kind len : ℕ) → kind < 256 → len < 65536 → is_header_word raw (least_header raw + 65536 * kind + len) ≡ true
-is_word true kind len k l = and_from _ _ (le-leb 50331648 (50331648 + 65536 * kind + len) (omega arith)) (lt-ltb (50331648 + 65536 * kind + len) 67108864 (omega arith))
-is_word false kind len k l = and_from _ _ (le-leb 16777216 (16777216 + 65536 * kind + len) (omega arith)) (lt-ltb (16777216 + 65536 * kind + len) 33554432 (omega arith))
+is_word raw kind len k l = grind (arith, common_steps, and_from, le-leb, lt-ltb)
 
 no_plain_word : (w : ℕ) → 33554432 ≤ w → is_header_word false w ≡ false
-no_plain_word w high = go (nat_le 16777216 w) (nat_lt w 33554432) (le-ltb _ _ high)
-  where
-    go : (a b : Bool) → b ≡ false → (a && b) ≡ false
-    go true b e = e
-    go false b e = refl
+no_plain_word w high = grind (arith, common_steps, le-ltb)
 
 read_by : (raw : Bool) (kind len : ℕ) → kind < 256 → len < 65536 → read_header (least_header raw + 65536 * kind + len) ≡ Some (record { raw = raw; kind = kind; len = len })
-read_by false kind len k l =
-    let w : ℕ = 16777216 + 65536 * kind + len in
-    ap (λ b. cond b (Some (header_by false w)) (cond (is_header_word true w) (Some (header_by true w)) None)) (is_word false kind len k l)
-    ∙ ap (λ h. Some h) (by_back false kind len k l)
-read_by true kind len k l =
-    let w : ℕ = 50331648 + 65536 * kind + len in
-    ap (λ b. cond b (Some (header_by false w)) (cond (is_header_word true w) (Some (header_by true w)) None)) (no_plain_word w (omega arith))
-    ∙ ap (λ b. cond b (Some (header_by true w)) None) (is_word true kind len k l)
-    ∙ ap (λ h. Some h) (by_back true kind len k l)
+read_by raw kind len k l = grind (arith, common_steps, is_word, by_back, no_plain_word)
 
 pub read_back : (h : Header) → IsHeader h → read_header (header_word h) ≡ Some h
 read_back h is = read_by h.raw h.kind h.len is.kind is.len
 
 -- a word that is read as a header is that header's word
 pub written_back : (w : ℕ) (h : Header) → read_header w ≡ Some h → IsHeader h × (header_word h ≡ w)
-written_back w h e = from (is_header_word false w) refl (is_header_word true w) refl e
-  where
-    known : (raw : Bool) → is_header_word raw w ≡ true → IsHeader (header_by raw w) × (header_word (header_by raw w) ≡ w)
-    known true t =
-        let both : (nat_le 50331648 w ≡ true) × (nat_lt w 67108864 ≡ true) = and_parts _ _ t in
-        let low : 50331648 ≤ w = leb-true _ _ both.0 in
-        let high : w < 67108864 = ltb-true _ _ both.1 in
-        (record { kind = omega arith; len = omega arith }, omega arith)
-    known false t =
-        let both : (nat_le 16777216 w ≡ true) × (nat_lt w 33554432 ≡ true) = and_parts _ _ t in
-        let low : 16777216 ≤ w = leb-true _ _ both.0 in
-        let high : w < 33554432 = ltb-true _ _ both.1 in
-        (record { kind = omega arith; len = omega arith }, omega arith)
-
-    is_it : (raw : Bool) → is_header_word raw w ≡ true → header_by raw w ≡ h → IsHeader h × (header_word h ≡ w)
-    is_it raw t same = subst (λ (h : Header). IsHeader h × (header_word h ≡ w)) same (known raw t)
-
-    from : (b : Bool) → is_header_word false w ≡ b → (c : Bool) → is_header_word true w ≡ c → cond b (Some (header_by false w)) (cond c (Some (header_by true w)) None) ≡ Some h → IsHeader h × (header_word h ≡ w)
-    from true t c u e = is_it false t (let same : header_by false w ≡ h = cc in same)
-    from false t true u e = is_it true u (let same : header_by true w ≡ h = cc in same)
-    from false t false u e = absurd (let no : None ≡ Some h = e in cc)
+written_back w h e = grind (arith, common_steps, and_parts, leb-true, ltb-true)
 
 -- ---- the walk, one object at a time
 
@@ -80,23 +46,17 @@ abbrev pub fields_in : Header → List ℕ → List ℕ
 fields_in h words = take h.len (drop 1 words)
 
 front_ok : (x : ℕ × Block) (r : Result (List (ℕ × Block)) ℕ) (bs : List (ℕ × Block)) → with_front x r ≡ Ok bs → (rest : List (ℕ × Block)) × (r ≡ Ok rest) × (bs ≡ x ∷ rest)
-front_ok x (Ok rest) bs e = (rest, refl, (let same : x ∷ rest ≡ bs = cc in sym same))
-front_ok x (Err at) bs e = cc
+front_ok x r bs e = grind (arith, common_steps)
 
 guard_ok : (b : Bool) (x : Result (List (ℕ × Block)) ℕ) (at : ℕ) (bs : List (ℕ × Block)) → cond b x (Err at) ≡ Ok bs → (b ≡ true) × (x ≡ Ok bs)
-guard_ok true x at bs e = (refl, e)
-guard_ok false x at bs e = cc
+guard_ok b x at bs e = grind (arith, common_steps)
 
 -- if the walk passes an object, its header is valid, it fits, and the rest is walked
 abbrev pub First : ℕ → List ℕ → List (ℕ × Block) → Option Header → Type 0
 First at words bs h? = (h : Header) × (h? ≡ Some h) × (h.len + 1 ≤ length words) × (rest : List (ℕ × Block)) × (walk true (h.len + 1) (suc at) words ≡ Ok rest) × (bs ≡ (at, record { header = h; fields = fields_in h words }) ∷ rest)
 
 first_of_object : (at : ℕ) (words : List ℕ) (bs : List (ℕ × Block)) (h : Option Header) → object_at at h words (λ inside. walk true inside (suc at) words) ≡ Ok bs → First at words bs h
-first_of_object at words bs None e = absurd (let no : Err at ≡ Ok bs = e in cc)
-first_of_object at words bs (Some h) e =
-    let room : (nat_le (h.len + 1) (length words) ≡ true) × (with_front (at, record { header = h; fields = fields_in h words }) (walk true (h.len + 1) (suc at) words) ≡ Ok bs) = guard_ok _ _ at bs e in
-    let front : (rest : List (ℕ × Block)) × (walk true (h.len + 1) (suc at) words ≡ Ok rest) × (bs ≡ (at, record { header = h; fields = fields_in h words }) ∷ rest) = front_ok _ _ bs room.1 in
-    (h, refl, leb-true _ _ room.0, front.0, front.1, front.2)
+first_of_object at words bs h e = grind (arith, common_steps, guard_ok, front_ok, leb-true)
 
 pub first : (at w : ℕ) (words : List ℕ) (bs : List (ℕ × Block)) → Walked 0 at (w ∷ words) bs → First at words bs (read_header w)
 first at w words bs e = first_of_object at words bs (read_header w) e
@@ -104,9 +64,7 @@ first at w words bs e = first_of_object at words bs (read_header w) e
 -- the walk of one object and of the rest
 pub object_result : (raws : Bool) (at w : ℕ) (words : List ℕ) (h : Header) → header_in raws w ≡ Some h → h.len + 1 ≤ length words
     → walk raws 0 at (w ∷ words) ≡ with_front (at, record { header = h; fields = fields_in h words }) (walk raws (h.len + 1) (suc at) words)
-object_result raws at w words h is room =
-    ap (λ h. object_at at h words (λ inside. walk raws inside (suc at) words)) is
-    ∙ ap (λ b. cond b (with_front (at, record { header = h; fields = fields_in h words }) (walk raws (h.len + 1) (suc at) words)) (Err at)) (le-leb _ _ room)
+object_result raws at w words h is room = grind (arith, common_steps, le-leb)
 
 pub object_walked : (at w : ℕ) (words : List ℕ) (h : Header) (rest : List (ℕ × Block)) → read_header w ≡ Some h → h.len + 1 ≤ length words → walk true (h.len + 1) (suc at) words ≡ Ok rest
     → Walked 0 at (w ∷ words) ((at, record { header = h; fields = fields_in h words }) ∷ rest)
@@ -117,26 +75,18 @@ pub no_object : (raws : Bool) (at w : ℕ) (words : List ℕ) → header_in raws
 no_object raws at w words is = ap (λ h. object_at at h words (λ inside. walk raws inside (suc at) words)) is
 
 pub no_room : (raws : Bool) (at w : ℕ) (words : List ℕ) (h : Header) → header_in raws w ≡ Some h → length words < h.len + 1 → walk raws 0 at (w ∷ words) ≡ Err at
-no_room raws at w words h is less =
-    ap (λ h. object_at at h words (λ inside. walk raws inside (suc at) words)) is
-    ∙ ap (λ b. cond b (with_front (at, record { header = h; fields = fields_in h words }) (walk raws (h.len + 1) (suc at) words)) (Err at)) (lt-leb _ _ less)
+no_room raws at w words h is less = grind (arith, common_steps, lt-leb)
 
 -- ---- walks in which headers of raw objects do not count
 
 not_raw : (o : Option Header) (h : Header) → unless_raw o ≡ Some h → o ≡ Some h
-not_raw None h e = absurd (let no : None ≡ Some h = e in cc)
-not_raw (Some g) h e = go g.raw e
-  where
-    go : (b : Bool) → cond b None (Some g) ≡ Some h → Some g ≡ Some h
-    go true e = absurd (let no : None ≡ Some h = e in cc)
-    go false e = e
+not_raw o h e = grind (arith, common_steps)
 
 pub header_counted : (raws : Bool) (w : ℕ) (h : Header) → header_in raws w ≡ Some h → read_header w ≡ Some h
-header_counted true w h e = e
-header_counted false w h e = not_raw (read_header w) h e
+header_counted raws w h e = grind (arith, common_steps, not_raw)
 
 -- a walk that reaches the end without them is also the walk with them
-pub walk_counted : (raws : Bool) (ws : List ℕ) (inside at : ℕ) (bs : List (ℕ × Block)) → walk raws inside at ws ≡ Ok bs → Walked inside at ws bs
+walk_counted : (raws : Bool) (ws : List ℕ) (inside at : ℕ) (bs : List (ℕ × Block)) → walk raws inside at ws ≡ Ok bs → Walked inside at ws bs
 walk_counted raws [] inside at bs e = e
 walk_counted raws (w ∷ ws) (suc inside) at bs e = walk_counted raws ws inside (suc at) bs e
 walk_counted raws (w ∷ ws) zero at bs e = go (header_in raws w) refl e (λ inside rest walked. walk_counted raws ws inside (suc at) rest walked)
@@ -151,11 +101,7 @@ walk_counted raws (w ∷ ws) zero at bs e = go (header_in raws w) refl e (λ ins
         ∙ ap (λ bs. Ok bs) (sym front.2)
 
 pub same_walk : (raws : Bool) (words : List ℕ) → IsOk (walk_all raws words) → walk_all raws words ≡ walk_words words
-same_walk raws words ok = go (walk_all raws words) refl ok
-  where
-    go : (r : Result (List (ℕ × Block)) ℕ) → walk_all raws words ≡ r → IsOk r → walk_all raws words ≡ walk_words words
-    go (Ok bs) is e = is ∙ sym (walk_counted raws (drop 1 words) 0 1 bs is)
-    go (Err at) is e = absurd (let no : false ≡ true = e in cc)
+same_walk raws words ok = grind (arith, common_steps, walk_counted)
 
 -- ---- the range of starts
 
@@ -232,12 +178,10 @@ take_set_in (suc n) (w ∷ ws) zero v = refl
 take_set_in (suc n) (w ∷ ws) (suc i) v = ap (λ xs. w ∷ xs) (take_set_in n ws i v)
 
 drop_one_set : (ws : List ℕ) (i v : ℕ) → drop 1 (slice_set ws (suc i) v) ≡ slice_set (drop 1 ws) i v
-drop_one_set [] i v = refl
-drop_one_set (w ∷ ws) i v = refl
+drop_one_set ws i v = grind (arith, common_steps)
 
 drop_one_first : (ws : List ℕ) (v : ℕ) → drop 1 (slice_set ws 0 v) ≡ drop 1 ws
-drop_one_first [] v = refl
-drop_one_first (w ∷ ws) v = refl
+drop_one_first ws v = grind (arith, common_steps)
 
 set_past_take : (n : ℕ) (ws : List ℕ) (i v : ℕ) → n ≤ i → take n (slice_set ws i v) ≡ take n ws
 set_past_take zero ws i v h = refl
@@ -262,12 +206,10 @@ pred_of zero = zero
 pred_of (suc n) = n
 
 suc_pred : (n : ℕ) → 0 < n → n ≡ suc (pred_of n)
-suc_pred zero h = absurd (omega arith)
-suc_pred (suc n) h = refl
+suc_pred n h = grind (arith, common_steps)
 
 fields_past : (h : Header) (ws : List ℕ) (p v : ℕ) → h.len < p → fields_in h (slice_set ws p v) ≡ fields_in h ws
-fields_past h ws zero v l = absurd (omega arith)
-fields_past h ws (suc p) v l = ap (take h.len) (drop_one_set ws p v) ∙ set_past_take h.len (drop 1 ws) p v (omega arith)
+fields_past h ws p v l = grind (arith, common_steps, drop_one_set, set_past_take)
 
 -- a field word: p counts from the first word here, and field i of the object at a is at a + 2 + i
 pub walk_field : (ws : List ℕ) (inside at : ℕ) (bs : List (ℕ × Block)) (a i p v : ℕ) → at + p ≡ a + 2 + i → BlockHasField (block_in bs a) i → Walked inside at ws bs → Walked inside at (slice_set ws p v) (set_block bs a i v)

@@ -1,16 +1,17 @@
 -- What the calls of a space do to its words, and what they read there.
+use Rattle.std.proofs.lemmas.Grind.{common_steps}
 use Rattle.std.proofs.Common.{◌≡◌, ℕ, suc, ◌+◌, ◌-◌, ◌<◌, ◌≤◌, true, false, List, [], ◌∷◌, ◌++◌, length, get_or, drop, Option, Some, None, Ok, is_some, refl, sym, ◌∙◌, ap, subst, arith, length-append, length-set, length-take, length-drop}
 use Rattle.std.specs.Prelude.{slice_index, slice_get, slice_set, IsOk, IsSome}
 use Rattle.std.proofs.lemmas.List.{get_or-take, get_or-drop, length-replicate}
 use Rattle.std.proofs.lemmas.Option.{slice_get-get_or, slice_get_within}
 use Rattle.gc_words.specs.Word.{read_header, header_word}
-use Rattle.gc_words.specs.Image.{Block, fresh_block, walk_words, HasShape, ok_or_nil, blocks, block_at, is_start, header_of, header_at, field_in, field_at, set_block}
+use Rattle.gc_words.specs.Image.{Block, fresh_block, walk_words, HasShape, blocks, block_at, is_start, header_of, header_at, field_in, field_at, set_block}
 use Rattle.gc_words.specs.Layout.{field_place, link_place}
 use Rattle.gc_words.specs.Space.{SpaceWords, IsSpace, HasRoomFor, end_of, CanPlace, with_block, with_object, with_word}
 use Rattle.gc_words.specs.Spelling.{IsBlock}
 use Rattle.gc_words.specs.Walking.{StandsIn}
 use Rattle.gc_words.specs.declared.header.Header.{Header}
-use Rattle.gc_words.proofs.Walks.{walk_placed, walk_field, walk_link, BlockHasField, IsThere}
+use Rattle.gc_words.proofs.Walks.{walk_placed, walk_field, walk_link, BlockHasField}
 use Rattle.gc_words.proofs.Starts.{stands_in, walked_blocks}
 
 -- this object can be placed
@@ -20,12 +21,10 @@ pub record CanPlaceBlock (space : SpaceWords) (b : Block) : Type 0 where
   pub room : HasRoomFor space b.header.len
 
 pub some_of : {X : Type 0} (o : Option X) → is_some o ≡ true → (x : X) × (o ≡ Some x)
-some_of None e = absurd (let no : false ≡ true = e in cc)
-some_of (Some x) e = (x, refl)
+some_of o e = grind (arith, common_steps)
 
 pub none_of : {X : Type 0} (o : Option X) → is_some o ≡ false → o ≡ None
-none_of None e = refl
-none_of (Some x) e = absurd (let no : true ≡ false = e in cc)
+none_of o e = grind (arith, common_steps)
 
 -- ---- what is read
 
@@ -81,18 +80,7 @@ field_read words a i ok some = read (block_at words a) refl some
 -- a space whose walk is known
 pub space_of : (size : ℕ) (words : List ℕ) (bs : List (ℕ × Block)) → 1 ≤ length words → length words ≤ size → size ≤ 4294967295 → slice_index words 0 ≡ 0 → walk_words words ≡ Ok bs
     → IsSpace (record { size = size; words = words }) × (blocks words ≡ bs)
-space_of size words bs low high bound reserved walked = (
-  record {
-    size_low = omega arith;
-    size_high = bound;
-    end_low = low;
-    end_high = high;
-    count = refl;
-    reserved = reserved;
-    walked = subst IsOk (sym walked) refl;
-  },
-  ap ok_or_nil walked,
-)
+space_of size words bs low high bound reserved walked = grind (arith, common_steps)
 
 pub block_placed : (s : SpaceWords) (b : Block) → CanPlaceBlock s b
     → IsSpace (with_block s b) × (blocks (with_block s b).words ≡ blocks s.words ++ (end_of s, b) ∷ [])
@@ -142,20 +130,4 @@ field_written s a i w space some = in_words s.words space (field_read s.words a 
 
 pub link_written : (s : SpaceWords) (a w : ℕ) → IsSpace s → is_start s.words a ≡ true
     → IsSpace (with_word s (link_place a) w) × (blocks (with_word s (link_place a) w).words ≡ blocks s.words)
-link_written s a w space start = in_words s.words space start
-  where
-    there : (o : Option Block) → is_some o ≡ true → IsThere o
-    there None e = absurd (let no : false ≡ true = e in cc)
-    there (Some b) e = tt
-
-    in_words : (words : List ℕ) → HasShape true s.size (length words) words → is_start words a ≡ true
-        → IsSpace (record { size = s.size; words = slice_set words (link_place a) w }) × (blocks (slice_set words (link_place a) w) ≡ blocks words)
-    in_words [] shape start = absurd (let low : 1 ≤ 0 = shape.end_low in omega arith)
-    in_words (v ∷ ws) shape start =
-        let place : suc a ≡ link_place a = omega arith in
-        let walked : walk_words (v ∷ slice_set ws a w) ≡ Ok (blocks (v ∷ ws))
-        = walk_link ws 0 1 (blocks (v ∷ ws)) a a w (omega arith) (there (block_at (v ∷ ws) a) start) (walked_blocks (v ∷ ws) shape.walked) in
-        let same : length (slice_set ws a w) ≡ length ws = length-set ws a w in
-        let high : suc (length ws) ≤ s.size = shape.end_high in
-        subst (λ p. IsSpace (record { size = s.size; words = slice_set (v ∷ ws) p w }) × (blocks (slice_set (v ∷ ws) p w) ≡ blocks (v ∷ ws))) place
-        (space_of s.size (v ∷ slice_set ws a w) _ (omega arith) (omega arith) shape.size_high shape.reserved walked)
+link_written s a w space start = grind (arith, common_steps, walk_link, walked_blocks, space_of)

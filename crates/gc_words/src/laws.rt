@@ -25,6 +25,7 @@ pub fn worked_rows()
 {}
 
 /// An image has no fault of shape if and only if it is shaped.
+#[tactic(auto, using(crate::proofs::Faults::shaped, crate::proofs::Faults::no_shape_fault))]
 pub fn no_fault_where_shaped()
     ensures { (image : Image) → (shape_fault image ≡ None) ↔ IsShaped image }
 {}
@@ -37,6 +38,7 @@ pub fn no_fault_where_certified()
 
 /// A fault is the first if and only if its condition fails at its place and all conditions before it hold. This is so for
 /// one fault at most.
+#[tactic(auto, using(crate::proofs::FirstFault::first_fails, crate::proofs::FoundFault::fault_found, crate::proofs::FoundFault::one_first))]
 pub fn first_fault_is_first()
     ensures exact { (old new : Image) (pairs : List (ℕ × ℕ)) (refusal : Refusal)
         → (first_fault old new pairs ≡ Some refusal) ↔ IsFirstFault old new pairs refusal }
@@ -55,6 +57,7 @@ pub fn first_difference_is_first()
 
 /// The fault of an image's shape is the first. At address 0 the sizes or word 0 are wrong. At any other address these are right,
 /// objects lie back to back from word 1 up to there, words are left, and no object that ends within them starts there.
+#[tactic(auto, using(crate::proofs::FaultPlace::shape_fails, crate::proofs::FaultPlace::failing_shape))]
 pub fn shape_fault_is_first()
     ensures { (image : Image) (at : ℕ) → (shape_fault image ≡ Some at) ↔ ShapeFailsAt image at }
 {}
@@ -66,6 +69,7 @@ pub fn certified_graphs_correspond()
 {}
 
 /// If a walk reaches the end when headers of raw objects do not count, it meets the same objects when they count.
+#[tactic(auto, using(crate::proofs::Walks::same_walk))]
 pub fn raws_change_no_objects()
     ensures { (raws : Bool) (words : List ℕ)
         → IsOk (walk_all raws words) → walk_all raws words ≡ walk_words words }
@@ -86,6 +90,7 @@ pub fn words_are_read_back()
 {}
 
 /// A walk continues after each object that it meets. It stops at the end, or at a word where no object starts.
+#[tactic(auto, using(crate::proofs::Steps::step, crate::proofs::Steps::no_step, crate::proofs::Steps::at_end))]
 pub fn walks_go_by_steps()
     ensures step { (words : List ℕ) (at next : ℕ)
         → at < length words → next_of words at ≡ Some next → StepsTo words at next }
@@ -96,6 +101,7 @@ pub fn walks_go_by_steps()
 
 /// The words of a space are those of its objects, back to back, with their links. A walk over such words meets these objects,
 /// whatever the links are.
+#[tactic(auto, using(crate::proofs::Spelled::spelled_words, crate::proofs::Spelled::laid_out_words, crate::proofs::Spelled::walk_spelled, crate::proofs::Spelled::link_spelled))]
 pub fn spaces_are_spelled()
     ensures spelled { (space : SpaceWords)
         → IsSpace space → space.words ≡ spelled (link_at space.words) (blocks space.words) }
@@ -114,6 +120,7 @@ pub fn objects_stand_at_their_starts()
 {}
 
 /// An object has the number of fields that its header gives.
+#[tactic(auto, using(crate::proofs::Fields::block_of_header, crate::proofs::Fields::field_within, crate::proofs::Fields::field_past))]
 pub fn objects_have_their_fields()
     ensures block { (words : List ℕ) (start : ℕ) (h : Header)
         → header_at words start ≡ Some h
@@ -146,6 +153,7 @@ pub fn writes_keep_spaces()
 {}
 
 /// Gives the end of a space and its free words after a write.
+#[tactic(auto, using(crate::proofs::Ends::end_placed, crate::proofs::Ends::free_placed, crate::proofs::Ends::end_written, crate::proofs::Ends::end_cleared))]
 pub fn ends_after_writes()
     ensures placed { (space : SpaceWords) (h : Header)
         → end_of (with_object space h) ≡ end_of space + (h.len + 2) }
@@ -238,6 +246,7 @@ pub fn graphs_after_writes()
 {}
 
 /// If every reference refers to a start, the end, at which the next object will start, is not a name in the graph.
+#[tactic(auto, using(crate::proofs::References::end_unused))]
 pub fn end_is_unused()
     ensures { (space : SpaceWords) (roots : List ℕ)
         → IsSpace space → IsClosed space.words roots

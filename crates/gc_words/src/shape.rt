@@ -17,6 +17,7 @@ pub struct ShapeFault {
 
 /// Checks that these are the words of a space up to its end: a reserved 0, and objects back to back from word 1. `raws` says
 /// whether headers of raw objects count.
+#[tactic(auto, using(crate::proofs::Steps::same_fault, crate::proofs::Steps::no_step, crate::proofs::Steps::framed))]
 pub fn walk(words: &[u64], end: u32, raws: bool) -> Result<(), ShapeFault>
     requires { 1 ≤ end }
     ensures { MatchResult result

@@ -1,5 +1,6 @@
 -- Forms that compare equal are the same.
-use Rattle.std.proofs.Common.{◌≡◌, ◌↔◌, ◌&&◌, Bool, true, false, refl, rules, subst, sym, ap, ◌∙◌}
+use Rattle.std.proofs.lemmas.Grind.{common_steps}
+use Rattle.std.proofs.Common.{◌≡◌, ◌↔◌, ◌&&◌, Bool, true, false, rules, subst, sym, ap, ◌∙◌, arith}
 use Rattle.std.proofs.lemmas.Bool.{false≢true, eqb-true}
 use Rattle.gc_graph.specs.Slots.{SlotName}
 use Rattle.gc_graph.specs.declared.command.Op.{Op}
@@ -39,8 +40,7 @@ same_step_reply : (a b : StepReply) → (of_step_replies.ghosts.eq a b ≡ true)
 same_step_reply a b = search rules
 
 both : (s t : Bool) → (s && t) ≡ true → (s ≡ true) × (t ≡ true)
-both true t e = (refl, e)
-both false t e = absurd (false≢true e)
+both s t e = grind (arith, common_steps)
 
 from_form : (a b : Form) → of_forms.ghosts.eq a b ≡ true → a ≡ b
 from_form (Command m reply op) (Command k other_reply other) e =
@@ -79,10 +79,7 @@ from_form (StepForm true step reply) (StepForm true other other_reply) e =
 from_form a b e = absurd (false≢true e)
 
 to_itself : (a : Form) → of_forms.ghosts.eq a a ≡ true
-to_itself (Command m reply op) = search (rules, same_op, same_bare_reply)
-to_itself (Shown m op n) = search (rules, same_bare_op)
-to_itself (GivenAndShown m d given n) = search (rules, same_slot)
-to_itself (StepForm useful step reply) = search (rules, same_step, same_step_reply)
+to_itself a = grind (arith, common_steps, same_op, same_bare_reply, same_bare_op, same_slot, same_step, same_step_reply)
 
 pub same_form : (a b : Form) → (of_forms.ghosts.eq a b ≡ true) ↔ (a ≡ b)
 same_form a b = (from_form a b, λ e. subst (λ (x : Form). of_forms.ghosts.eq a x ≡ true) e (to_itself a))

@@ -1,4 +1,5 @@
 -- Facts about the state that a history leads to, and about its answers.
+use Rattle.std.proofs.lemmas.Grind.{common_steps}
 use Rattle.std.proofs.Common.{◌≡◌, ◌≢◌, ℕ, List, [], ◌∷◌, refl, sym, ◌∙◌, ◌≤◌, arith}
 use Rattle.std.specs.List.{All}
 use Rattle.std.proofs.lemmas.List.Elements.{All-nil, All-cons}
@@ -7,7 +8,6 @@ use Rattle.gc_plan.specs.State.{State, opening_state}
 use Rattle.gc_plan.specs.Belonging.{IsState}
 use Rattle.gc_plan.specs.Runs.{AreEvents, HasSizesWithin, after, answer, answers}
 use Rattle.gc_plan.specs.declared.event.Event.{Event}
-use Rattle.gc_plan.specs.declared.event.Event.TheVariants.{Mutate, Collect}
 use Rattle.gc_plan.specs.declared.event.Answer.TheVariants.{Collector}
 use Rattle.gc_plan.specs.Carried.{OnlyKeptIsPaired, base_of_run}
 use Rattle.gc_plan.specs.declared.step.StepReply.TheVariants.{Refused}
@@ -31,8 +31,7 @@ module _ (size mutators : ℕ) (entries : List Entry) (h : IsHistory size mutato
 -- ---- no answer is `Refused`
 
 not_refused : (s : State) (event : Event) → IsState s → answer s event ≢ Collector Refused
-not_refused s (Mutate m op) ok e = cc
-not_refused s (Collect step) ok e = never_refused s ok step (cc)
+not_refused s event ok e = grind (arith, common_steps, never_refused)
 
 none_from : (mutators : ℕ) (entries : List Entry) (s : State) → Reached mutators s → AreEvents mutators (events_of entries) → RunsFrom s entries
     → All (λ (entry : Entry). unmarked entry.answer ≢ Collector Refused) entries
@@ -51,6 +50,4 @@ none_refused size mutators entries h = none_from mutators entries (opening_state
 
 pub only_kept : (size mutators : ℕ) (entries : List Entry) → IsHistory size mutators entries
     → (let opening = opening_state size mutators in OnlyKeptIsPaired (base_of_run opening opening (events_of entries)) (state_after size mutators entries).collection)
-only_kept size mutators entries h =
-    let high : size ≤ 1048576 = h.high in
-    carries_only_kept size mutators (events_of entries) h.low (omega arith) (are_events size mutators entries h)
+only_kept size mutators entries h = grind (arith, common_steps, carries_only_kept, are_events)

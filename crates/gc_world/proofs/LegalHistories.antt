@@ -1,4 +1,5 @@
 -- The replies in a history are the replies of its run.
+use Rattle.std.proofs.lemmas.Grind.{common_steps}
 use Rattle.std.proofs.Common.{◌≡◌, ℕ, List, [], ◌∷◌, ◌++◌, refl, sym, subst, ◌≤◌, arith}
 use Rattle.gc_graph.specs.Legal.{IsLegal}
 use Rattle.gc_graph.specs.declared.command.Op.{Op}
@@ -6,9 +7,9 @@ use Rattle.gc_graph.specs.declared.reply.Reply.{Reply}
 use Rattle.gc_plan.specs.State.{State, opening_state}
 use Rattle.gc_plan.specs.Runs.{after, answer, answers}
 use Rattle.gc_plan.specs.declared.event.Event.{Event}
-use Rattle.gc_plan.specs.declared.event.Event.TheVariants.{Mutate, Collect}
+use Rattle.gc_plan.specs.declared.event.Event.TheVariants.{Mutate}
 use Rattle.gc_plan.specs.declared.event.Answer as answered
-use Rattle.gc_plan.specs.declared.event.Answer.TheVariants.{Mutator, Collector, Useful}
+use Rattle.gc_plan.specs.declared.event.Answer.TheVariants.{Mutator}
 use Rattle.gc_core.specs.Replies.{told_in}
 use Rattle.gc_core.proofs.Public.{run_is_legal}
 use Rattle.gc_plan.proofs.Public.{wider_events}
@@ -17,14 +18,11 @@ use Rattle.gc_world.specs.declared.entry.Entry.{Entry}
 
 -- if an answer without its mark is a mutator's, so is the answer itself
 told_reply : (m : ℕ) (op : Op) (told : answered.Answer) (reply : Reply) → unmarked told ≡ Mutator reply → told_by (Mutate m op) told ≡ record { m = m; op = op; reply = reply } ∷ []
-told_reply m op (Mutator r) reply e = (let same : r ≡ reply = cc in λ i. record { m = m; op = op; reply = same i } ∷ [])
-told_reply m op (Collector r) reply e = absurd (let no : Collector r ≡ Mutator reply = e in cc)
-told_reply m op (Useful r) reply e = absurd (let no : Collector r ≡ Mutator reply = e in cc)
+told_reply m op told reply e = grind (arith, common_steps)
 
 told_event : (entries : List Entry) (event : Event) (told : answered.Answer) (s : State) → unmarked told ≡ answer s event
     → told_of entries ≡ told_in (after s event) (events_of entries) → told_by event told ++ told_of entries ≡ told_in s (event ∷ events_of entries)
-told_event entries (Mutate m op) told s e rest = λ i. told_reply m op told _ e i ++ rest i
-told_event entries (Collect step) told s e rest = rest
+told_event entries event told s e rest = grind (arith, common_steps, told_reply)
 
 told_is_run : (entries : List Entry) (s : State) → RunsFrom s entries → told_of entries ≡ told_in s (events_of entries)
 told_is_run [] s e = refl

@@ -1,9 +1,10 @@
 -- A world after one more event.
-use Rattle.std.proofs.Common.{◌≡◌, ℕ, ◌<◌, List, [], ◌∷◌, ◌++◌, Option, ap, sym, ◌∙◌, subst}
+use Rattle.std.proofs.lemmas.Grind.{common_steps}
+use Rattle.std.proofs.Common.{◌≡◌, ℕ, ◌<◌, List, [], ◌∷◌, ◌++◌, Option, ap, sym, ◌∙◌, subst, arith}
 use Rattle.gc_graph.specs.Limits.{most_words}
 use Rattle.gc_graph.specs.declared.command.Op.{Op}
 use Rattle.gc_graph.specs.declared.reply.Reply.{Reply}
-use Rattle.gc_plan.specs.State.{State, opening_state}
+use Rattle.gc_plan.specs.State.{State}
 use Rattle.gc_plan.specs.Steps.{mutate, collect}
 use Rattle.gc_plan.specs.Runs.{IsEventWithin, IsStepWithin, after, answer}
 use Rattle.gc_plan.specs.declared.event.Answer.TheVariants.{Mutator, Collector}
@@ -24,13 +25,7 @@ pub grows : (old new : State) (size mutators : ℕ) (entries : List Entry) (kept
     → unmarked entry.answer ≡ answer old entry.event → IsUseful old entry.event entry.answer
     → new ≡ after old entry.event → IsKept later
     → IsWorld new (record { size = size; mutators = mutators; entries = entries ++ entry ∷ []; kept = later })
-grows old new size mutators entries kept later entry w event told useful next fine = record {
-  history = history_more entry size mutators entries w.history event
-      (subst (λ s. unmarked entry.answer ≡ answer s entry.event) w.state told)
-      (subst (λ s. IsUseful s entry.event entry.answer) w.state useful);
-  state = next ∙ ap (λ s. after s entry.event) w.state ∙ sym (state_more entry (opening_state size mutators) entries);
-  kept = fine;
-}
+grows old new size mutators entries kept later entry w event told useful next fine = grind (arith, common_steps, history_more, state_more)
 
 -- after a command
 pub commanded : (old new : State) (size before after_it m : ℕ) (op : Op) (reply : Reply) (entries items : List Entry) (kept : Option CertifiedPair)

@@ -43,6 +43,7 @@ pub fn front_number(text: &[u8]) -> Option<(u64, &[u8])>
 }
 
 /// Returns the number that the token spells in decimal, if it is at most `most`.
+#[tactic(auto, using(crate::proofs::Decimals::token_some, crate::proofs::Decimals::token_none, crate::proofs::Decimals::token_other))]
 pub fn number(token: &[u8], most: u64) -> Option<u64>
     ensures value { result ≡ number_of most token.now }
     ensures small { IfSome result (λ n. n ≤ most) }

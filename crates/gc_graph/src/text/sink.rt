@@ -62,6 +62,7 @@ impl<W: Write> Sink<W> {
     }
 
     /// Writes all of the text. If the writer fails, a prefix of the text was written.
+    #[tactic(auto, using(crate::proofs::SentText::more_sent_slice))]
     pub fn write_all(&mut self, text: &[u8]) -> Result<(), Failed>
         ensures ok { OnOk result (Appends
             (bytes_written W.contents self.old) (bytes_written W.contents self.new) text.now) }

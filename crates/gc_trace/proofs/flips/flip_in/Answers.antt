@@ -2,8 +2,8 @@
 use Rattle.std.proofs.Common.{refl, sym, subst}
 use Rattle.gc_graph.specs.Limits.{most_words}
 use Rattle.gc_plan.specs.Runs.{HasSizesWithin}
+use Rattle.gc_plan.proofs.Public.{event_within}
 use Rattle.gc_trace.proofs.FlipPairs.{counts_of_kept}
-use Rattle.gc_trace.proofs.Sizes.{event_within}
 use Rattle.gc_trace.proofs.flips.flip_in.Goals as goal
 
 pub returns-clause-counts : goal.returns-clause-counts
@@ -14,4 +14,4 @@ returns-clause-counts c =
 
 pub returns-clause-small : goal.returns-clause-small
 returns-clause-small c =
-    subst (HasSizesWithin most_words) (sym c.in_ok-perform.ensures.happened) (event_within c.args.heap.now.mutators c.args.heap.now c.args.event.now c.requires.small c.requires.event)
+    subst (HasSizesWithin most_words) (sym c.in_ok-perform.ensures.happened) (event_within most_words c.args.heap.now.mutators c.args.heap.now c.args.event.now c.requires.small c.requires.event)
