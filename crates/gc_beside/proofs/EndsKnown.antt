@@ -4,6 +4,7 @@ use Rattle.std.proofs.Common.{◌≡◌, ◌≢◌, inl, inr, ⊎_elim, ℕ, zer
 use Rattle.gc_graph.specs.Graph.{Object}
 use Rattle.gc_plan.specs.State.{Collection, State, heap_end}
 use Rattle.gc_plan.specs.Steps.{flipped, fresh_collection}
+use Rattle.gc_plan.specs.Members.{In}
 use Rattle.gc_plan.specs.Belonging.{IsNamed, IsOpened, IsSpaceGraph}
 use Rattle.gc_plan.proofs.Public.{laid_range, lookup_in, in_map, in_map_from, placed}
 use Rattle.gc_along.specs.Events.{Freed, flipped_tables, opening_tables}

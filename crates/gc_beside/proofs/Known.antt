@@ -168,9 +168,9 @@ module _ (s : State) (c next : Collection) (t : Tables) (links : ℕ → ℕ) (h
             get_or-append_right t.news codes r.place 0 (omega arith) ∙ ap (λ n. get_or codes n 0) none))
             (in_push (pair r) (q.original, new_end c) (map pair c.replicas) (subst (In (pair r)) added.pairs (in_map pair r next.replicas l)));
         places = λ b e. elim (cases_Bool (Rattle.std.proofs.Common.nat_lt b (length t.news))) [
-          | inl y ↦ old_places b (sym (at_front t.news codes b (Rattle.std.proofs.lemmas.Bool.ltb-true b (length t.news) y)) ∙ e)
+          | inl y ↦ old_places b (sym (get_or_append_left t.news codes 0 b (Rattle.std.proofs.lemmas.Bool.ltb-true b (length t.news) y)) ∙ e)
           | inr n ↦ (let l : length t.news ≤ b = Rattle.std.proofs.lemmas.Bool.ltb-false b (length t.news) n in
-              let first : b - length t.news ≡ 0 = one_first h.len due (b - length t.news) (sym (at_back t.news codes b l) ∙ e) in
+              let first : b - length t.news ≡ 0 = one_first h.len due (b - length t.news) (sym (get_or-append_right t.news codes b 0 l) ∙ e) in
               let p : length t.news ≡ q.place = place_is in (q, added.there, omega arith))
         ];
         free = λ b e. elim (cases_Bool (Rattle.std.proofs.Common.nat_lt b (length t.news))) [
