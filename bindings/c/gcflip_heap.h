@@ -8,7 +8,8 @@
  *
  * The promise, proved for the code behind these calls:
  * - each reply and each new state is the one that the definitions of the collector give. So mutators get the
- *   replies of a heap without a collector, except that an allocation may find the heap full;
+ *   replies of a heap without a collector, except that an allocation may find the heap full. This is not said of a program that calls
+ *   gcflip_heap_refer;
  * - a flip happens only if its certificate holds, and the flip of a ready collection passes. That each flip asks a checker is
  *   proved one layer below, for CollectedHeap::flip_along and flip in crates/gc_core;
  * - no step lacks room if the new space is at least as large as the heap;
@@ -229,7 +230,7 @@ uint32_t gcflip_heap_step_apply(gcflip_heap *heap, uint8_t m);
  * over both spaces, and allocates the certificate and the checker's tables. */
 uint32_t gcflip_heap_step_flip(gcflip_heap *heap, uint32_t *pairs);
 
-/* Frees the new space and the logs: GCFLIP_DROPPED or GCFLIP_IDLE. */
+/* Frees the new space and the logs: GCFLIP_DROPPED or GCFLIP_IDLE. Its time grows with the number of replicas. */
 uint32_t gcflip_heap_step_give_up(gcflip_heap *heap);
 
 /* ---- Checks */
@@ -410,6 +411,12 @@ uint32_t gcflip_heap_raw_read(const gcflip_heap *heap, uint8_t m, uint8_t s, uin
  * and t are one slot. Allocates only while a collection is open. */
 uint32_t gcflip_heap_raw_write(gcflip_heap *heap, uint8_t m, uint8_t s, uint16_t first, uint8_t t, const uint64_t *words, size_t count);
 
+/* Copies the words of the open collection's new space. The count must be exactly `new_end` of gcflip_counts. A
+ * replica's link is its original's address. If no collection is open, no count is right: GCFLIP_OUT_OF_RANGE. */
+uint32_t gcflip_heap_new_words(const gcflip_heap *heap, uint64_t *words, size_t word_count);
+
+/* ---- Addresses, for tables that a program keeps by them */
+
 /* Writes the address of the object that slot s refers to: GCFLIP_DONE, or GCFLIP_NO_OBJECT if it refers to none, and `address`
  * keeps what it holds. An object keeps its address until the next flip, which gives it another one. The number of flips is the sum of both
  * counts of gcflip_heap_flip_checks. A program with a table by address compares that sum with the one that it saw before, and looks up
@@ -426,15 +433,11 @@ uint32_t gcflip_heap_moved(const gcflip_heap *heap, uint32_t old, uint32_t *addr
 
 /* Puts a reference to the object that starts at `address` into slot d: GCFLIP_DONE, or GCFLIP_NO_OBJECT if no object starts there, and the
  * slot keeps what it holds. Any number may be given. This is what weak references need: a program keeps an address, follows it by
- * gcflip_heap_moved after each flip, and makes a reference of it again. An object to which nothing refers any more can be found in this way until a
- * flip, and stays if the reference is there when its collection ends. The call takes constant time with GCFLIP_ALONG. With GCFLIP_AT_FLIP it
- * walks over all objects before the address, so its time grows with the heap. No mutator's command names an address: a recording ends at a
- * call that makes a reference. */
+ * gcflip_heap_moved after each flip, and makes a reference of it again. An object to which nothing refers any more can be fetched in this way
+ * until the next flip. That flip keeps it if the collector met the reference in a root or a field before. The call takes constant time with
+ * GCFLIP_ALONG. With GCFLIP_AT_FLIP it walks over all objects before the address, so its time grows with the heap. No mutator's command names
+ * an address: a recording ends at a call that makes a reference. */
 uint32_t gcflip_heap_refer(gcflip_heap *heap, uint8_t m, uint8_t d, uint32_t address);
-
-/* Copies the words of the open collection's new space. The count must be exactly `new_end` of gcflip_counts. A
- * replica's link is its original's address. If no collection is open, no count is right: GCFLIP_OUT_OF_RANGE. */
-uint32_t gcflip_heap_new_words(const gcflip_heap *heap, uint64_t *words, size_t word_count);
 
 #ifdef __cplusplus
 }

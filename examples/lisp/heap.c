@@ -25,7 +25,7 @@ static bool was_full;   /* an allocation ended in an error */
 
 static gcflip_frame stack; /* all extra roots */
 static void (*after_flip[MOST_AFTER_FLIP])(void);
-static int after_flips; /* how many of these functions there are */
+static int after_flips; /* the number of these functions */
 
 /* Ends the program after a call that the Lisp must not make. */
 static void stop(const char *call)

@@ -87,7 +87,7 @@ uint32_t address_of(enum slot object);
  * `after_each_flip`. */
 bool follow(uint32_t *address);
 
-/* Puts a reference to the object at this address into the slot. Since the last flip, the address has been told or followed. The object may be one that
+/* Puts a reference to the object at this address into the slot. The address must have been told or followed since the last flip. The object may be one that
  * nothing else refers to: it stays if the slot, or an object that can be reached, refers to it at the next flip. */
 void refer(enum slot to, uint32_t address);
 

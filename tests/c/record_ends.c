@@ -1,6 +1,6 @@
 /* Records a run until a size that no trace has: record_ends RECORD. The heap goes on without its trace. Then records heaps with extra
- * roots: a recording ends at the first call that names one, or that makes a reference of an address. Where nothing is recorded, because a recording has ended or because there is no
- * stream, each call replies as ever and writes nothing. */
+ * roots: a recording ends at the first call that names one, or that makes a reference of an address. Where nothing is recorded, because a
+ * recording has ended or because there is no stream, each call replies as ever and writes nothing. */
 #include "expect.h"
 #include "gcflip_record.h"
 #include "open_heap.h"
@@ -45,7 +45,7 @@ static void open_heaps(void)
 }
 
 /* Opens a heap with extra roots, and names one by each call in turn. Last, it makes a reference of an address. */
-static void name_roots(void)
+static void end_recordings(void)
 {
     for (int call = 0; call < 6; call++) {
         gcflip_options options = gcflip_options_default(64, 1);
@@ -151,7 +151,7 @@ static void make_steps(bool is_recorded)
 }
 
 /* Makes the calls that name an extra root, and a reference by address. None of them has a line. */
-static void make_moves_of_roots(void)
+static void make_calls_without_lines(void)
 {
     gcflip_frame frame = {0, 4, 0};
     REPLIES(gcflip_heap_root_store(&heap, 0, 3, 0), GCFLIP_DONE, false);
@@ -171,11 +171,11 @@ static void make_each_call(void)
     make_commands(true);
     make_steps(true);
     EXPECT(gcflip_trace_ended == 0);
-    make_moves_of_roots();
+    make_calls_without_lines();
     EXPECT(gcflip_trace_ended == 1);
     make_commands(false);
     make_steps(false);
-    make_moves_of_roots();
+    make_calls_without_lines();
     EXPECT(gcflip_heap_close(&heap) == GCFLIP_DONE);
     EXPECT(fclose(gcflip_trace) == 0);
     gcflip_trace = NULL;
@@ -183,7 +183,7 @@ static void make_each_call(void)
     open_with_roots(false);
     make_commands(false);
     make_steps(false);
-    make_moves_of_roots();
+    make_calls_without_lines();
     EXPECT(gcflip_trace_ended == 0 && gcflip_heap_close(&heap) == GCFLIP_DONE);
 }
 
@@ -192,7 +192,7 @@ int main(int count, char **names)
     EXPECT(count == 2);
     begin(names[1]);
     open_heaps();
-    name_roots();
+    end_recordings();
     make_each_call();
     return 0;
 }

@@ -1,5 +1,5 @@
 /* A collection of many extra roots, for a tool that counts the reads of the blocks with the roots: root_reads CHECKING END [COMMANDS]. Performs all
- * steps before the flip by calls of one step each. COMMANDS says what writes slot 0 before each: `moves` or `numbers`. Then END says whether the
+ * steps before the flip by calls of one step each. COMMANDS says what writes slots before each: `moves` slot 0, or `numbers` slots 0 and 1. Then END says whether the
  * collection is given up (0) or flips (1). Prints how often `work` was called, and how often a command read a root. */
 #include "expect.h"
 #include "gcflip_heap.h"

@@ -435,11 +435,12 @@ class Calls:
             ["new_with", beyond, 0, 0, 1, 0], ["new_with", m, slot, 0, 1, 0], ["new_with", m, 0, 0, slot, 0], ["new_with", m, 3, 0, 3, 0],
             ["new_with", m, 0, 0, 1, 1, 1, 1 << 63], ["new_with", m, 0, 0, 1, 2, 0, 0, 2, slot], ["new_with", m, 0, 0, 1, 1, self.chance.choice([3, 255, 1 << 31]), 0], ["same", m, slot, 0], ["same", m, 0, slot], ["same", beyond, 0, 0], ["look", m, slot], ["look", beyond, 0],
             ["begin_sized", 0], ["apply", beyond], ["log", beyond], ["work", 0],
-            *self.more_that_are_wrong(beyond, slot)]), OUT_OF_RANGE)
+            *self.more_that_are_wrong(m, beyond, slot)]), OUT_OF_RANGE)
 
-    def more_that_are_wrong(self, beyond, slot):
+    def more_that_are_wrong(self, m, beyond, slot):
         """Returns calls with one argument out of range, of those that not every driver has."""
         sized = [["work_sized", 0, 5], ["work_sized", 1, 0], ["work_within", 0, 5]] if "work_sized" in self.weights else []
+        sized += [["refer", beyond, 0, 1], ["refer", m, slot, 1]] if "refer" in self.weights else []
         if "root_load" not in self.weights or self.model.extra_roots == 0:
             return sized
         return sized + [["root_load", beyond, 0, 0], ["root_load", 0, slot, 0], ["root_store", beyond, 0, 0], ["root_store", 0, 0, slot]]

@@ -559,7 +559,7 @@ class Mutator:
 
     def refer(self, slot: int, address: int) -> None:
         """Puts a reference to the object that starts at this address into the slot, for a table of weak references that follows its addresses by
-        `Heap.moved`. Any number may be given. Raises NoObject if no object starts there; the slot then keeps its value. Takes constant time
+        `Heap.moved`. Any number below 2**32 may be given; others raise OutOfRange. Raises NoObject if no object starts there; the slot then keeps its value. Takes constant time
         with a standing checker; otherwise it walks over the objects before the address."""
         self._call("refer", slot, address)
 

@@ -180,7 +180,7 @@ impl CodeRow {
         self.fill_words(places);
     }
 
-    // The same, word by word.
+    // Does what `fill` does, one word of codes after the other.
     #[inline(never)]
     fn fill_words(&mut self, places: usize)
         requires { places ≤ length self.old.codes }

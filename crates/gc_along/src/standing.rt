@@ -416,7 +416,8 @@ impl Standing {
         self.is_correspondence(old, new)
     }
 
-    // Whether the words are values that stand for each other. Equal numbers and nils, and two references, need not be decoded.
+    // Whether the words are values that stand for each other. Equal numbers, two nils and two references are told first, since they need no full
+    // decoding.
     #[inline(always)]
     fn is_correspondence(&self, old: u64, new: u64) -> bool
         ensures { result ≡ words_correspond (pairs_in self.now.origins) old new }
@@ -430,7 +431,7 @@ impl Standing {
         self.is_other_correspondence(old, new)
     }
 
-    // The same of any words.
+    // Decodes both words, whatever they are, and returns whether they stand for each other.
     #[inline(never)]
     fn is_other_correspondence(&self, old: u64, new: u64) -> bool
         ensures { result ≡ words_correspond (pairs_in self.now.origins) old new }

@@ -17,7 +17,7 @@ pub(crate) const TAKEN: u8 = 2;
 /// In the new table: a field that has yet to be compared.
 pub(crate) const DUE: u8 = 3;
 
-/// The header of the next object of a walk, if there is one.
+/// Returns the header of the next object of a walk, if there is one.
 #[inline(always)]
 pub(crate) fn next_within(words: &[u64], at: usize) -> Option<Header>
     requires { at < length words.now }
@@ -36,7 +36,7 @@ pub(crate) fn next_within(words: &[u64], at: usize) -> Option<Header>
     Some(header)
 }
 
-/// The same, if there is room for its codes.
+/// Returns the same header, if there is also room for its codes.
 #[inline(always)]
 pub(crate) fn next_header(words: &[u64], at: usize, room: u32) -> Option<Header>
     requires at { at < length words.now }
@@ -51,8 +51,8 @@ pub(crate) fn next_header(words: &[u64], at: usize, room: u32) -> Option<Header>
     Some(header)
 }
 
-/// The original that the link of the object at `at` claims, if it is one: it starts an object that was seen and has no replica,
-/// with an equal header word.
+/// Returns the original that the link of the object at `at` claims, if the claim can be true: an object that was seen starts there, has no
+/// replica and has an equal header word.
 #[inline(always)]
 pub(crate) fn claim_in(old: &[u64], new: &[u64], olds: &CodeRow, at: usize) -> Option<u32>
     requires { link_place at < length new.now }
@@ -85,7 +85,7 @@ pub(crate) fn claim_in(old: &[u64], new: &[u64], olds: &CodeRow, at: usize) -> O
     Some(original)
 }
 
-/// Whether the object at `at` is raw, and its field words are those of its original.
+/// Returns whether the object at `at` is raw and its field words are those of its original.
 #[inline(always)]
 pub(crate) fn is_copy(header: Header, old: &[u64], new: &[u64], original: u32, at: usize) -> bool
     requires { at + (header.len + 2) ≤ length new.now }
@@ -117,7 +117,7 @@ pub(crate) fn add_codes(row: &mut CodeRow, len: u16, due: bool)
     }
 }
 
-/// The code of a field that is due, or of one that is not.
+/// Returns the code of a field: `DUE`, or 0 if it is not due.
 pub(crate) fn code_of(due: bool) -> u8
     ensures { result ≡ code_of due }
 {

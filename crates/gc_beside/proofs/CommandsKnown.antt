@@ -5,7 +5,7 @@ use Rattle.std.specs.Prelude.{slice_get, slice_set, slice_index}
 use Rattle.std.proofs.lemmas.Bool.{cases_Bool, cases_eq, cond_both, ltb-true, ltb-false}
 use Rattle.std.proofs.lemmas.List.{get_or_append_left, get_or-append_right, get_or-set_same, get_or-set_other}
 use Rattle.gc_graph.specs.Graph.{Value, Nil, Num, Ref, Object, Graph, root, set_field, with_field, new_object, lookup}
-use Rattle.gc_graph.specs.Machine.{Roomy, get_field, put_field, is_number, step, roomy_step, words_taken}
+use Rattle.gc_graph.specs.Machine.{Roomy, get_field, put_field, is_number, step, words_taken}
 use Rattle.gc_graph.specs.Slots.{place}
 use Rattle.gc_graph.specs.declared.command.Op.{Op}
 use Rattle.gc_graph.specs.declared.command.Op.TheVariants as ops

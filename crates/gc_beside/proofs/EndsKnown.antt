@@ -1,6 +1,6 @@
 -- The tables of a standing checker know the heap where a collection begins, is given up, or ends in a flip.
 use Rattle.std.proofs.lemmas.Grind.{common_steps}
-use Rattle.std.proofs.Common.{◌≡◌, ◌≢◌, inl, inr, ⊎_elim, ℕ, zero, suc, ◌≤◌, false, true, [], ◌∷◌, length, map, get_or, None, refl, ap, sym, ◌∙◌, subst, arith}
+use Rattle.std.proofs.Common.{◌≡◌, ◌≢◌, inl, inr, ⊎_elim, ℕ, suc, ◌≤◌, true, [], ◌∷◌, map, get_or, None, refl, ap, sym, ◌∙◌, subst, arith}
 use Rattle.gc_graph.specs.Graph.{Object}
 use Rattle.gc_plan.specs.State.{Collection, State, heap_end}
 use Rattle.gc_plan.specs.Steps.{flipped, fresh_collection}

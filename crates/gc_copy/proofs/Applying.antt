@@ -41,8 +41,6 @@ bring_beside c g m entries name i = grind (arith, common_steps, with_beside, cop
 entry_beside : (c : Collection) (g : Graph) (m : ℕ) (entries : List (ℕ × ℕ)) (entry : ℕ × ℕ) → apply_entry (with_log c m entries) g entry ≡ relogged m entries (apply_entry c g entry)
 entry_beside c g m entries entry = grind (arith, common_steps, bring_beside)
 
--- ---- one entry
-
 -- ---- the oldest entry
 
 pub oldest_first : (entries : List (ℕ × ℕ)) (entry : ℕ × ℕ) → Some entry ≡ oldest entries → entries ≡ entry ∷ drop 1 entries

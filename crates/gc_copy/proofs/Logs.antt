@@ -74,8 +74,6 @@ noted_belongs heap c next m a f less same marks count field k = record {
 abbrev pub first_from : List Log → ℕ → Option ℕ
 first_from logs m = first_log m (map entries_of (drop m logs))
 
--- ---- new logs
-
 -- ---- what an index gives
 
 pub there_in : (c outer : CollectionWords) (m : ℕ) (log : Log) → c ≡ outer → m < length outer.logs → log ≡ get_or c.logs m log → slice_get c.logs m ≡ Some log

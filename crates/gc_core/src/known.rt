@@ -49,7 +49,7 @@ impl KnownRoots {
 
     /// Returns whether all roots are nil or known to have replicas of their targets, where `slots` is the number of slots.
     #[inline(always)]
-    pub(crate) fn tell_all(self, slots: usize) -> bool
+    pub(crate) fn are_complete(self, slots: usize) -> bool
         ensures { IsTrue result ↔ ((self.slots ≡ slots) × (self.extra ≡ self.used)) }
     {
         self.slots == slots && self.extra == self.used
@@ -117,14 +117,14 @@ pub(crate) struct Searched {
     pub(crate) missing: Option<MissingRoot>,
 }
 
-/// Returns whether all roots are known: the target of each has a replica. Reads no root.
+/// Returns whether the marks say of each root that it is nil, a number or a reference to an object with a replica. Reads no root.
 #[inline(always)]
 pub(crate) fn all_known(collection: &Collection, heap: &Heap, known: KnownRoots) -> bool
     requires belongs { BelongsTo heap.now collection.now }
     requires knows { KnowsRoots known (open_state heap.now collection.now) }
     ensures { IsTrue result → root_target (collection_in collection.now) (graph_in heap.now) ≡ None }
 {
-    known.tell_all(root_count(heap.mutators()))
+    known.are_complete(root_count(heap.mutators()))
 }
 
 /// Searches the roots that are not known to have replicas of their targets. Reads each of them once, up to the first without.

@@ -1,4 +1,5 @@
-//! References made from addresses. No command of a mutator names an address, so these calls are for what stands on the heap, as a table of weak references.
+//! References made from addresses. No command of a mutator names an address. These calls serve tables of weak references, which keep addresses
+//! outside the heap.
 
 ghost use Rattle.std.specs.Prelude.{◌≡◌, ◌<◌, IsSome, is_some};
 ghost use Rattle.gc_graph.specs.Graph.{lookup};

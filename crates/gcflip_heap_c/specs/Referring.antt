@@ -1,4 +1,4 @@
--- A slot that takes a reference to the object at an address: what a call of it returns, and the state after it.
+-- `gcflip_heap_refer`: what it returns, and the state after it.
 use Rattle.std.specs.Prelude.{◌≡◌, ℕ, ◌≤◌, Option, Some, None, ⊤}
 use Rattle.gc_graph.specs.Slots.{SlotName}
 use Rattle.gc_graph.specs.declared.reply.Reply.{Reply}

@@ -22,8 +22,8 @@
 (wait-until (lambda () (died? known)))
 (show "when nobody keeps it: " (weak-car known))
 
-; An object that is fetched lives on, whether a collection is open or not: each time, another amount of waste lies between the last look at the
-; object and the next. The collector has to find what was fetched, and with it the list inside.
+; An object that is fetched lives on, whether a collection is open or not. Each try wastes another amount between making the object and fetching
+; it, so the fetches fall at different points of a collection. The collector has to find what was fetched, and with it the list inside.
 (define (fresh n) (weak-cons (list n (list n n)) '()))
 (define (is-whole? object n) (equal? object (list n (list n n))))
 (define died 0)

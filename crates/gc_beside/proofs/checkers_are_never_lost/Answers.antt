@@ -1,5 +1,5 @@
 -- What the checker is told at each event is true, so it can take it, and its tables then know the next state.
-use Rattle.std.proofs.Common.{◌≡◌, ℕ, ◌≤◌, ◌<◌, true, false, refl, sym, arith}
+use Rattle.std.proofs.Common.{◌≡◌, ℕ, ◌≤◌, ◌<◌, true, false, refl, arith}
 use Rattle.gc_graph.specs.Machine.{MakesObject, words_taken}
 use Rattle.gc_graph.specs.declared.command.Op.{Op}
 use Rattle.gc_graph.specs.declared.command.Op.TheVariants as ops

@@ -1,4 +1,5 @@
-//! One call for each mutator command, with that command's contract. `Heap::apply` calls them. None allocates.
+//! One call for each mutator command, with that command's contract, which `Heap::apply` calls. Also `refer`, which is no command: none names an
+//! address. None allocates.
 
 ghost use Rattle.std.specs.Prelude.{◌≡◌, ◌≢◌, ◌<◌, ◌+◌, IsTrue};
 ghost use Rattle.gc_graph.specs.Graph.{Ref, set_root};

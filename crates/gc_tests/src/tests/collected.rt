@@ -200,6 +200,7 @@ fn a_command_makes_the_roots_be_tested_again(rt: HostRuntime) -> Result<(), Fail
 
 #[test]
 fn a_reference_is_made_of_an_address(rt: HostRuntime) -> Result<(), Fail> {
+    // The prover knows a reply only if the function names a view.
     let _named = View::Nil;
     let r0 = own(0);
     let r1 = own(1);

@@ -14,7 +14,7 @@ returns c told =
     let collection = collection_in c.args.collection.now in
     let state = open_state c.args.heap.now c.args.collection.now in
     let count : c.root_count.result ≡ roots_of c.args.heap.now.mutators = c.root_count.ensures ∙ ap roots_of c.mutators.ensures.value in
-    let marks = c.tell_all.ensures.0 told in
+    let marks = c.are_complete.ensures.0 told in
     let slots : (p : ℕ) → p < roots_of c.args.heap.now.mutators → HasReplicaOf collection (root (graph_in c.args.heap.now) p) =
     slots_have c.args.known state collection refl c.requires.knows (roots_of c.args.heap.now.mutators) (λ p low less. absurd (omega (arith, low, less, marks.0, count))) in
     let extra : (p : ℕ) → p < roots_of c.args.heap.now.mutators + c.args.known.used → HasReplicaOf collection (root (graph_in c.args.heap.now) p) =

@@ -1,5 +1,5 @@
 -- The tables gain the pair that the link claims and still agree, and if the copy was found equal, none of its fields is due.
-use Rattle.std.proofs.Common.{◌≡◌, ◌+◌, ◌<◌, ◌≤◌, ◌++◌, ◌∷◌, ℕ, List, length, replicate, get_or, set, not, inl, inr, ap, sym, ◌∙◌, subst, refl, arith}
+use Rattle.std.proofs.Common.{◌≡◌, ◌+◌, ◌<◌, ◌≤◌, ◌++◌, ◌∷◌, ℕ, length, replicate, not, inr, ap, sym, ◌∙◌, subst, refl, arith}
 use Rattle.std.specs.Prelude.{slice_index, if◌then◌else◌}
 use Rattle.gc_words.specs.Layout.{link_place}
 use Rattle.gc_along.specs.Watch.{IsNext}
