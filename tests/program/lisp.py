@@ -458,6 +458,18 @@ def traces(program, folder):
         yield "the last flip, %s" % way, None if checked.status == 0 and checked.stdout.startswith(b"yes ") else checked.stdout
 
 
+def traces_that_end(program, folder):
+    """Checks that a recording ends where the first element of a weak pair is fetched, that the run goes on, and that the trace plays up to there."""
+    text = "(define pair (weak-cons (list 1) 2))\n(weak-pair/car? pair)\n(car (weak-car pair))\n(+ 1 2)\n"
+    for way, lisp in built_lisps():
+        trace = os.path.join(folder, "trace")
+        found = lisp.run(text, "--record", trace)
+        told = re.fullmatch(rb"gcflip_record.h: the recording ends here: a trace has no reference by the address \d+\n", found.stderr)
+        yield "an element fetched, %s" % way, None if told and found.stdout.split() == [b"#t", b"1", b"3"] else "%r, %r" % (found.stdout, found.stderr)
+        played = run(program, ["play", trace])
+        yield "played up to there, %s" % way, None if played.status == 0 and played.stdout else played.stderr
+
+
 def histogram(_program, _folder):
     """Checks that the counts of the histogram add up, and that the longest call is listed."""
     for way, lisp in built_lisps():
