@@ -514,4 +514,4 @@ def sessions(_program, _folder):
             yield "session %d of %s" % (number, DOCUMENT), None if is_shown else "printed %s" % printed
 
 
-GROUPS = [programs, by_valgrind, evaluating, command_line, interrupting, pace, limits, refused_allocations, no_collector, traces, histogram, flips_and_pauses, sessions]
+GROUPS = [programs, by_valgrind, evaluating, command_line, interrupting, pace, limits, refused_allocations, no_collector, traces, traces_that_end, histogram, flips_and_pauses, sessions]
