@@ -408,10 +408,11 @@ def limits(_program, folder):
 MOST_INSTRUCTIONS = 544
 
 
-def instructions(path, steps, folder):
-    """Returns how many instructions count_work.c executes with so many steps, and why that is not known, or None."""
+def instructions(path, number, folder, *options):
+    """Returns how many instructions the program executes with this number as its argument, and why that is not known, or None. Options of
+    callgrind say which of them count."""
     counted = os.path.join(folder, "counted")
-    found = done(["valgrind", "--tool=callgrind", "--callgrind-out-file=" + counted, path, str(steps)])
+    found = done(["valgrind", "--tool=callgrind", "--callgrind-out-file=" + counted, *options, path, str(number)])
     if found.status != 0:
         return 0, "status %d: %s" % (found.status, found.stderr.decode("utf-8", "replace"))
     with open(counted, encoding="utf-8") as file:
@@ -431,5 +432,17 @@ def work_remembers(_program, folder):
     yield "instructions of a useful step", why_few or why_many or told
 
 
-GROUPS = [example_programs, long_objects, pauses, programs, musl, images, large_heaps, live_and_far, pages, limits, work_remembers, rebuilt, pkg_config, texts, plays, recorded_work, recording_that_ends, root_reads,
+def given_up_at_once(_program, folder):
+    """Counts the instructions of giving up a collection, which do not grow with the number of replicas: no link and no code is cleared."""
+    built = library(folder)
+    if built is None or not has_valgrind("count_give_up.c"):
+        return
+    path, why = built.build(["gcc"], "count_give_up.c", built.archive())
+    counted = [instructions(path, cells, folder, "--toggle-collect=gcflip_heap_step_give_up") for cells in (10, 20000)] if why is None else [(0, why)] * 2
+    (few, why_few), (many, why_many) = counted
+    told = None if 0 < many <= few + few // 20 else "%d with 10 objects, %d with 20,000" % (few, many)
+    yield "instructions of giving up", why_few or why_many or told
+
+
+GROUPS = [example_programs, long_objects, pauses, programs, musl, images, large_heaps, live_and_far, pages, limits, work_remembers, given_up_at_once, rebuilt, pkg_config, texts, plays, recorded_work, recording_that_ends, root_reads,
           long_run, short_soak]

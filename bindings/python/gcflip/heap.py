@@ -298,7 +298,7 @@ class Heap:
         return pairs.value
 
     def drop(self) -> Step:
-        """Frees the new space and the logs: DROPPED. Raises Idle."""
+        """Ends the collection without a flip: DROPPED. Keeps the new space for the next one. Raises Idle."""
         return self._step("give_up")
 
     def touch(self) -> None:

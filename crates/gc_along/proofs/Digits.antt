@@ -1,10 +1,10 @@
 -- A word as a row of codes of two bits each, of which one changes at a time.
 use Rattle.std.proofs.lemmas.Grind.{common_steps}
-use Rattle.std.proofs.Common.{◌≡◌, ◌≢◌, ◌⊎◌, ℕ, zero, suc, ◌+◌, ◌-◌, ◌*◌, ◌/◌, ◌%◌, ◌^◌, ◌<◌, ◌≤◌, refl, sym, ◌∙◌, ap, arith, bit_or, bit_xor}
-use Rattle.std.proofs.lemmas.Nat.{shr-shr, shl_whole, pow-add, pow_pos, or_shr, or_mod, xor_shr, xor_mod, xor_lt}
+use Rattle.std.proofs.Common.{◌≡◌, ◌≢◌, ◌⊎◌, ℕ, zero, suc, ◌+◌, ◌-◌, ◌*◌, ◌/◌, ◌%◌, ◌^◌, ◌<◌, ◌≤◌, refl, sym, ◌∙◌, ap, subst, arith, bit_and, bit_or, bit_xor}
+use Rattle.std.proofs.lemmas.Nat.{shr-shr, shl_whole, pow-add, pow_pos, and_shr, and_mod, and_le_r, or_shr, or_mod, xor_shr, xor_mod, xor_lt}
 use Rattle.std.specs.Int.Bits.{xor_assoc, xor_self, xor_zero_l, xor_zero_r}
 use Rattle.std.proofs.lemmas.Nat.Bits.{ones_shr}
-use Rattle.gc_along.specs.Internal.InWords.{code_in}
+use Rattle.gc_along.specs.Internal.InWords.{code_in, freed}
 
 -- a power of 4
 pub quad : ℕ → ℕ
@@ -173,3 +173,94 @@ filled_inside word place count k within low high = filled_code word place count 
 
 pub filled_outside : (word place count k : ℕ) → place + count ≤ 32 → (k < place) ⊎ (place + count ≤ k) → code_in (filled word place count) k ≡ code_in word k
 filled_outside word place count k within h = grind (arith, common_steps, filled_code, mask_below, or_nought, mask_above)
+
+-- ---- codes that are freed
+
+-- a word of so many ones
+ones : ℕ → ℕ
+ones zero = 0
+ones (suc n) = 1 + 4 * ones n
+
+ones_in : (n k : ℕ) → k < n → digit (ones n) k ≡ 1
+unfolding digit ones
+ones_in zero k within = absurd (omega arith)
+ones_in (suc n) zero within = omega arith
+ones_in (suc n) (suc k) within = ap (λ n. digit n k) (let e : (1 + 4 * ones n) / 4 ≡ ones n = omega arith in e) ∙ ones_in n k (omega arith)
+
+ones_few : (n k : ℕ) → digit (ones n) k ≤ 1
+unfolding digit ones
+ones_few zero k = omega (arith, digit_zero k)
+ones_few (suc n) zero = omega arith
+ones_few (suc n) (suc k) = subst (λ n. digit n k ≤ 1) (let e : ones n ≡ (1 + 4 * ones n) / 4 = omega arith in e) (ones_few n k)
+
+-- three times a word of noughts and ones
+thrice : (word k : ℕ) → ((j : ℕ) → digit word j ≤ 1) → digit (3 * word) k ≡ 3 * digit word k
+unfolding digit
+thrice word zero few = let low : word % 4 ≤ 1 = few zero in omega arith
+thrice word (suc k) few =
+    let low : word % 4 ≤ 1 = few zero in
+    ap (λ n. digit n k) (let e : 3 * word / 4 ≡ 3 * (word / 4) = omega arith in e) ∙ thrice (word / 4) k (λ j. few (suc j))
+
+code_and : (a b k : ℕ) → code_in (bit_and a b) k ≡ bit_and (code_in a k) (code_in b k)
+code_and a b k = ap (λ n. n % 4) (and_shr a b (2 * k)) ∙ and_mod (a / 2 ^ (2 * k)) (b / 2 ^ (2 * k)) 2
+
+-- the low bit of a word's half at a place is the high bit of its code
+high_bit : (word k : ℕ) → code_in (word / 2) k % 2 ≡ code_in word k / 2
+high_bit word k =
+    let same : word / 2 / 2 ^ (2 * k) ≡ word / 2 ^ (2 * k) / 2 = shr-shr word 1 (2 * k) ∙ ap (λ n. word / 2 ^ n) (let e : 1 + 2 * k ≡ 2 * k + 1 = omega arith in e) ∙ sym (shr-shr word (2 * k) 1) in
+    omega (arith, same)
+
+-- as the code writes them: ones in the place of twos, and a word in which these are freed
+twos : ℕ → ℕ
+twos word = bit_and (bit_and (word / 2) (bit_xor (word / 2) word)) 6148914691236517205
+
+abbrev pub freed_word : ℕ → ℕ
+freed_word word = bit_xor word (3 * bit_and (bit_and (word / 2) (bit_xor (word / 2) word)) 6148914691236517205)
+
+pub few_twos : (word : ℕ) → bit_and (bit_and (word / 2) (bit_xor (word / 2) word)) 6148914691236517205 ≤ 6148914691236517205
+few_twos word = and_le_r (bit_and (word / 2) (bit_xor (word / 2) word)) 6148914691236517205
+
+by_cases : (c h : ℕ) → c < 4 → h < 4 → h % 2 ≡ c / 2 → bit_xor c (3 * bit_and (bit_and h (bit_xor h c)) 1) ≡ freed c
+by_cases zero zero few small same = refl
+by_cases zero (suc zero) few small same = absurd (omega arith)
+by_cases zero (suc (suc zero)) few small same = refl
+by_cases zero (suc (suc (suc zero))) few small same = absurd (omega arith)
+by_cases zero (suc (suc (suc (suc h)))) few small same = absurd (omega arith)
+by_cases (suc zero) zero few small same = refl
+by_cases (suc zero) (suc zero) few small same = absurd (omega arith)
+by_cases (suc zero) (suc (suc zero)) few small same = refl
+by_cases (suc zero) (suc (suc (suc zero))) few small same = absurd (omega arith)
+by_cases (suc zero) (suc (suc (suc (suc h)))) few small same = absurd (omega arith)
+by_cases (suc (suc zero)) zero few small same = absurd (omega arith)
+by_cases (suc (suc zero)) (suc zero) few small same = refl
+by_cases (suc (suc zero)) (suc (suc zero)) few small same = absurd (omega arith)
+by_cases (suc (suc zero)) (suc (suc (suc zero))) few small same = refl
+by_cases (suc (suc zero)) (suc (suc (suc (suc h)))) few small same = absurd (omega arith)
+by_cases (suc (suc (suc zero))) zero few small same = absurd (omega arith)
+by_cases (suc (suc (suc zero))) (suc zero) few small same = refl
+by_cases (suc (suc (suc zero))) (suc (suc zero)) few small same = absurd (omega arith)
+by_cases (suc (suc (suc zero))) (suc (suc (suc zero))) few small same = refl
+by_cases (suc (suc (suc zero))) (suc (suc (suc (suc h)))) few small same = absurd (omega arith)
+by_cases (suc (suc (suc (suc c)))) h few small same = absurd (omega arith)
+
+pub freed_codes : (word k : ℕ) → k < 32 → code_in (freed_word word) k ≡ freed (code_in word k)
+unfolding twos ones
+freed_codes word k within =
+    code_xor word (3 * twos word) k
+    ∙ ap (bit_xor (code_in word k)) (sym (digit_is (3 * twos word) k) ∙ thrice (twos word) k few ∙ ap (λ n. 3 * n) (digit_is (twos word) k ∙ here))
+    ∙ by_cases (code_in word k) (code_in (word / 2) k) (omega arith) (omega arith) (high_bit word k)
+  where
+    each : (j : ℕ) → code_in (twos word) j ≡ bit_and (bit_and (code_in (word / 2) j) (bit_xor (code_in (word / 2) j) (code_in word j))) (code_in 6148914691236517205 j)
+    each j = code_and (bit_and (word / 2) (bit_xor (word / 2) word)) 6148914691236517205 j
+        ∙ ap (λ n. bit_and n (code_in 6148914691236517205 j)) (code_and (word / 2) (bit_xor (word / 2) word) j ∙ ap (bit_and (code_in (word / 2) j)) (code_xor (word / 2) word j))
+
+    all : 6148914691236517205 ≡ ones 32
+    all = refl
+
+    here : code_in (twos word) k ≡ bit_and (bit_and (code_in (word / 2) k) (bit_xor (code_in (word / 2) k) (code_in word k))) 1
+    here = each k ∙ ap (bit_and (bit_and (code_in (word / 2) k) (bit_xor (code_in (word / 2) k) (code_in word k)))) (sym (digit_is 6148914691236517205 k) ∙ ap (λ n. digit n k) all ∙ ones_in 32 k within)
+
+    few : (j : ℕ) → digit (twos word) j ≤ 1
+    few j =
+        let ones_one : code_in 6148914691236517205 j ≤ 1 = subst (λ n. n ≤ 1) (ap (λ n. digit n j) (sym all) ∙ digit_is 6148914691236517205 j) (ones_few 32 j) in
+        subst (λ n. n ≤ 1) (sym (digit_is (twos word) j ∙ each j)) (let low = and_le_r (bit_and (code_in (word / 2) j) (bit_xor (code_in (word / 2) j) (code_in word j))) (code_in 6148914691236517205 j) in omega arith)

@@ -9,6 +9,7 @@ pub mod Origins
 pub mod Codes
 pub mod Digits
 pub mod Packed
+pub mod Freed
 pub mod Halves
 pub mod Kept
 pub mod Marks

@@ -246,7 +246,7 @@ has_codes_filled words len from count word h inside within f = record {
   rest = λ place past. kept_at words from count word place inside f (inr (omega arith)) ∙ h.rest place past;
 }
 
-code_seen : (words : List ℕ) (len place : ℕ) → HasCodes words len → get_or (codes_in words len) place 0 ≡ code_at words place
+pub code_seen : (words : List ℕ) (len place : ℕ) → HasCodes words len → get_or (codes_in words len) place 0 ≡ code_at words place
 code_seen words len place h = grind (arith, common_steps, cases_lt, codes_at, get_or_past, length-codes)
 
 pub codes_filled : (words : List ℕ) (len from count word place : ℕ) → HasCodes words len → from / 32 < length words → from + count ≤ len → IsFilled words from count word

@@ -12,6 +12,9 @@ const PER_WORD: usize = 32;
 /// A row that grows gets so many words more than its places take, if there is room for them.
 const AHEAD: usize = 64;
 
+/// The word whose codes are all 1.
+const ONES: u64 = 0x5555_5555_5555_5555;
+
 /// A row has no more words than this, so that an address can name the last of their places.
 const MOST_WORDS: usize = 1 << 27;
 
@@ -34,7 +37,8 @@ impl Model for CodeRow {
 }
 
 impl CodeRow {
-    ghost use Rattle.std.specs.Prelude.{◌≡◌, ◌+◌, ◌<◌, ◌≤◌, ◌∷◌, ◌++◌, ◌-◌, [], IfOk, OnOk, IsTrue, length, replicate, take, slice_index, slice_set, ◌⊎◌, ◌%◌, ℕ};
+    ghost use Rattle.std.specs.Prelude.{◌≡◌, ◌+◌, ◌<◌, ◌≤◌, ◌∷◌, ◌++◌, ◌-◌, [], IfOk, OnOk, IsTrue, length, replicate, take, slice_index, slice_index_or, slice_set, ◌⊎◌, ◌≢◌, ◌%◌, ◌/◌, ℕ};
+    ghost use Rattle.gc_along.specs.Internal.InWords.{freed};
 
     /// Returns a row of place 0 alone, whose code is 0, with room for so many places. Allocates once.
     pub(crate) fn new(alloc: Global, places: u32) -> Result<CodeRow, NoMemory>
@@ -196,6 +200,19 @@ impl CodeRow {
         }
     }
 
+    /// Frees the codes of this word.
+    pub(crate) fn free(&mut self, word: usize)
+        ensures len { length self.new.codes ≡ length self.old.codes }
+        ensures freed { (place : ℕ) → place / 32 ≡ word → slice_index_or self.new.codes place 0 ≡ freed (slice_index_or self.old.codes place 0) }
+        ensures others { (place : ℕ) → place / 32 ≢ word → slice_index_or self.new.codes place 0 ≡ slice_index_or self.old.codes place 0 }
+        ensures room { self.old.room ≤ self.new.room }
+    {
+        if word >= self.words.len() {
+            return;
+        }
+        self.words[word] = freed(self.words[word]);
+    }
+
     // Gives so many places of one word code 3.
     #[inline(always)]
     fn fill_in_word(&mut self, from: usize, count: usize)
@@ -213,7 +230,7 @@ impl CodeRow {
 }
 
 ghost use Rattle.std.specs.Prelude.{◌≡◌, ◌≢◌, ◌⊎◌, ℕ, ◌+◌, ◌-◌, ◌/◌, ◌<◌, ◌≤◌, ◌++◌, replicate, vec_len, vec_capacity};
-ghost use Rattle.gc_along.specs.Internal.InWords.{code_in};
+ghost use Rattle.gc_along.specs.Internal.InWords.{code_in, freed};
 
 // The number of words for so many places.
 #[inline(always)]
@@ -276,6 +293,16 @@ fn with_first(word: u64, place: usize, code: u8) -> u64
     ensures others { (other : ℕ) → other ≢ place → code_in result other ≡ code_in word other }
 {
     word ^ (u64::from(code) << (2 * place))
+}
+
+// The word with all its codes freed.
+#[inline(always)]
+fn freed(word: u64) -> u64
+    ensures { (k : ℕ) → k < 32 → code_in result k ≡ freed (code_in word k) }
+{
+    let high = word >> 1;
+    let twos = high & (high ^ word) & ONES;
+    word ^ (3 * twos)
 }
 
 // The word with code 3 at so many places.

@@ -4,6 +4,7 @@
 
 mod code_row;
 mod laws;
+mod old_row;
 mod origin_row;
 mod outline;
 mod standing;

@@ -1,4 +1,5 @@
 use crate::code_row::CodeRow;
+use crate::old_row::OldRow;
 use crate::origin_row::OriginRow;
 use crate::outline::Outline;
 use crate::walking::{
@@ -11,7 +12,6 @@ use gc_words::{Addr, Header, Value, decode_wide, field_index};
 use std::alloc::Global;
 use std::cmp::max;
 use std::marker::Model;
-use std::mem::swap;
 
 /// A link modulo this number, which is its low 32 bits, is the place that it claims. The checker does not read the other bits.
 const PLACES: u64 = 1 << 32;
@@ -20,7 +20,7 @@ const PLACES: u64 = 1 << 32;
 #[derive(Debug, Drop)]
 pub struct Standing {
     /// By old place, as far as the old space is walked: 0, `START` or `TAKEN`.
-    olds: CodeRow,
+    olds: OldRow,
     /// By new place, as far as the new space is walked: 0, `START` or `DUE`.
     news: CodeRow,
     /// By new place: the original of the replica that starts here, or 0.
@@ -72,7 +72,7 @@ impl Standing {
         requires { 1 ≤ size }
         ensures { IfOk result (λ standing. standing ≡ opening_tables size) }
     {
-        let olds = CodeRow::new(alloc, size)?;
+        let olds = OldRow::new(alloc, size)?;
         let news = CodeRow::new(alloc, size)?;
         let origins = OriginRow::new(alloc, size)?;
         Ok(Standing {
@@ -90,7 +90,7 @@ impl Standing {
         ensures { result ≡ absent_tables }
     {
         Standing {
-            olds: CodeRow::absent(alloc),
+            olds: OldRow::absent(alloc),
             news: CodeRow::absent(alloc),
             origins: OriginRow::absent(alloc),
             missing: 0,
@@ -178,7 +178,7 @@ impl Standing {
             self.made_behind(header.len(), end);
             return;
         }
-        add_codes(&mut self.olds, header.len(), false);
+        self.olds.add(usize::from(header.len()) + 1);
     }
 
     // The walk over the old space goes on by an object that ends here, if there is room for its codes. They may need further words.
@@ -194,7 +194,7 @@ impl Standing {
             self.lost = true;
             return;
         }
-        add_codes(&mut self.olds, len, false);
+        self.olds.add(usize::from(len) + 1);
     }
 
     /// The walk over the new space goes on by one object, if there is one: the replica of the object that its link claims.
@@ -233,7 +233,7 @@ impl Standing {
             return;
         };
         let due = !is_copy(header, old, new, original, at);
-        let _ = self.olds.replace(original as usize, TAKEN);
+        self.olds.take(original as usize);
         self.origins.add(header.len(), original);
         add_codes(&mut self.news, header.len(), due);
         self.missing += due_words(header.len(), due);
@@ -524,7 +524,7 @@ impl Standing {
         if self.lost {
             return;
         }
-        swap(&mut self.olds, &mut self.news);
+        self.olds.exchange(&mut self.news);
         self.news.restart();
         self.origins.restart();
         self.missing = 0;
@@ -539,7 +539,7 @@ impl Standing {
         if self.lost {
             return;
         }
-        free_originals(&mut self.olds, &self.origins);
+        self.olds.release();
         self.news.restart();
         self.origins.restart();
         self.missing = 0;
@@ -564,23 +564,6 @@ ghost use Rattle.gc_graph.specs.Graph.{Ref};
 ghost use Rattle.gc_words.specs.Word.{read_value, words_correspond};
 ghost use Rattle.gc_along.specs.Outline.{outline_in};
 ghost use Rattle.gc_along.specs.Watch.{IsSized, bit};
-
-// The originals have no replicas any more.
-fn free_originals(olds: &mut CodeRow, origins: &OriginRow)
-    requires { (b : ℕ) → 1 ≤ slice_index_or origins.now.origins b 0 → slice_index_or olds.old.codes (slice_index_or origins.now.origins b 0) 0 ≡ 2 }
-    ensures len { length olds.new.codes ≡ length olds.old.codes }
-    ensures room { olds.old.room ≤ olds.new.room }
-    ensures codes { (a : ℕ) → (slice_index_or olds.new.codes a 0 ≡ slice_index_or olds.old.codes a 0)
-        ⊎ ((slice_index_or olds.old.codes a 0 ≡ 2) × (slice_index_or olds.new.codes a 0 ≡ 1)) }
-    ensures freed { (b : ℕ) → 1 ≤ slice_index_or origins.now.origins b 0 → slice_index_or olds.new.codes (slice_index_or origins.now.origins b 0) 0 ≡ 1 }
-{
-    for at in 0..origins.len() {
-        let from = origins.get(at) as usize;
-        if from != 0 {
-            let _ = olds.replace(from, START);
-        }
-    }
-}
 
 // Whether the word is nil or a number.
 #[inline(always)]

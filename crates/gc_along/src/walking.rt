@@ -8,6 +8,7 @@ ghost use Rattle.gc_along.specs.Watch.{IsNext};
 ghost use Rattle.gc_along.specs.Events.{IsCopy, object_codes, code_of};
 
 use crate::code_row::CodeRow;
+use crate::old_row::OldRow;
 use gc_words::Header;
 
 /// An object starts here. In the old table: no replica of it was seen.
@@ -54,7 +55,7 @@ pub(crate) fn next_header(words: &[u64], at: usize, room: u32) -> Option<Header>
 /// Returns the original that the link of the object at `at` claims, if the claim can be true: an object that was seen starts there, has no
 /// replica and has an equal header word.
 #[inline(always)]
-pub(crate) fn claim_in(old: &[u64], new: &[u64], olds: &CodeRow, at: usize) -> Option<u32>
+pub(crate) fn claim_in(old: &[u64], new: &[u64], olds: &OldRow, at: usize) -> Option<u32>
     requires { link_place at < length new.now }
     ensures { MatchOption result ((a : ℕ) → slice_index new.now (link_place at) ≡ a → 1 ≤ a → a < 4294967295 → a < length old.now
         → slice_index_or olds.now.codes a 0 ≡ 1 → slice_index old.now a ≡ slice_index new.now at → ⊥)

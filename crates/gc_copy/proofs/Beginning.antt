@@ -15,21 +15,21 @@ use Rattle.gc_plan.proofs.Public.{begun_belongs}
 use Rattle.gc_copy.proofs.Words.{words_numbers}
 
 -- where no object has a link, none is above any mark
-pub unlinked : (heap : HeapWords) (marked : Bool) → HasNoLinks heap → LinksNothing marked heap
-unlinked heap marked none a start = let zero : link_at heap.space.words a ≡ 0 = none a start in omega arith
+pub unlinked : (heap : HeapWords) (epoch : ℕ) → HasNoLinks heap → LinksNothing epoch heap
+unlinked heap epoch none a start = let zero : link_at heap.space.words a ≡ 0 = none a start in omega arith
 
-pub begun : (heap : HeapWords) (space : SpaceWords) (logs : List Log) (size : ℕ) (marked : Bool) → LinksNothing marked heap → 1 ≤ size → space ≡ empty_space size → map entries_of logs ≡ replicate heap.mutators []
-    → BelongsTo heap (record { space = space; logs = logs; scan_place = 1; scan_field = 0; marked = marked })
-begun heap space logs size marked none low empty entries = record {
+pub begun : (heap : HeapWords) (space : SpaceWords) (logs : List Log) (size : ℕ) (epoch : ℕ) → LinksNothing epoch heap → 1 ≤ size → space ≡ empty_space size → map entries_of logs ≡ replicate heap.mutators []
+    → BelongsTo heap (record { space = space; logs = logs; scan_place = 1; scan_field = 0; epoch = epoch })
+begun heap space logs size epoch none low empty entries = record {
   belongs = subst (Belongs (graph_in heap).objects) (sym same) (begun_belongs (graph_in heap).objects heap.mutators size (words_numbers heap.space.words) low);
   links = λ a start. none a start ∙ sym (ap (λ (c : Collection). old_links c a) same);
   logs = sym (length-map logs entries_of) ∙ (ap length entries ∙ length-replicate heap.mutators []);
 }
   where
-    same : collection_in (record { space = space; logs = logs; scan_place = 1; scan_field = 0; marked = marked }) ≡ fresh_collection heap.mutators size
+    same : collection_in (record { space = space; logs = logs; scan_place = 1; scan_field = 0; epoch = epoch }) ≡ fresh_collection heap.mutators size
     same = λ i. record { size = (empty i).size; replicas = replicas_in (empty i).words; logs = entries i; scan_place = 1; scan_field = 0 }
 
 -- a collection in an empty space
-pub begun_sound : (space : SpaceWords) (logs : List Log) (size : ℕ) (marked : Bool) → IsSpace space → space ≡ empty_space size → length logs < 256
-    → IsCollection (record { space = space; logs = logs; scan_place = 1; scan_field = 0; marked = marked }) × (0 ≡ length (blocks space.words))
-begun_sound space logs size marked shaped empty few = grind (arith, common_steps)
+pub begun_sound : (space : SpaceWords) (logs : List Log) (size : ℕ) (epoch : ℕ) → IsSpace space → space ≡ empty_space size → length logs < 256
+    → IsCollection (record { space = space; logs = logs; scan_place = 1; scan_field = 0; epoch = epoch }) × (0 ≡ length (blocks space.words))
+begun_sound space logs size epoch shaped empty few = grind (arith, common_steps)

@@ -34,13 +34,13 @@ abbrev pub HasOriginals : List ℕ → HeapWords → Type 0
 HasOriginals words heap = (r : Replica) → In r (replicas_in words) → (is_start heap.space.words r.original ≡ true) × (r.original < 2 ^ 32)
 
 -- The heap differs from the old one only in links. An object's link is not above the mark, or its replica is still ahead.
-pub record Clears (marked : Bool) (words : List ℕ) (old now : HeapWords) (at : ℕ) : Type 0 where
+pub record Clears (epoch : ℕ) (words : List ℕ) (old now : HeapWords) (at : ℕ) : Type 0 where
   pub done : List (ℕ × Block)
   pub met : Met words at done
   pub originals : HasOriginals words old
   pub sound : IsHeap now
   pub graph : KeepsGraph old now
-  pub links : (a : ℕ) → is_start old.space.words a ≡ true → (link_at now.space.words a - mark_of marked ≡ 0) ⊎ IsAhead words at a
+  pub links : (a : ℕ) → is_start old.space.words a ≡ true → (link_at now.space.words a - mark_of epoch ≡ 0) ⊎ IsAhead words at a
 
 -- ---- its steps
 
@@ -48,7 +48,7 @@ pub then_kept : (old now new : HeapWords) → KeepsGraph old now → KeepsGraph 
 then_kept old now new k l = grind (arith, common_steps)
 
 -- at first every replica is ahead
-pub clears_none : (heap : HeapWords) (x c : CollectionWords) → x ≡ c → IsHeap heap → IsCollection x → BelongsTo heap c → Clears x.marked x.space.words heap heap 1
+pub clears_none : (heap : HeapWords) (x c : CollectionWords) → x ≡ c → IsHeap heap → IsCollection x → BelongsTo heap c → Clears x.epoch x.space.words heap heap 1
 clears_none heap x c seen sound is belongs = record {
   done = [];
   met = met;
@@ -68,7 +68,7 @@ clears_none heap x c seen sound is belongs = record {
     there None object e = absurd (let no : None ≡ Some object = e in cc)
     there (Some b) object e = refl
 
-    from : (a : ℕ) → is_start heap.space.words a ≡ true → (o : Option Replica) → replica_of (collection_in x) a ≡ o → (link_at heap.space.words a - mark_of x.marked ≡ 0) ⊎ IsAhead x.space.words 1 a
+    from : (a : ℕ) → is_start heap.space.words a ≡ true → (o : Option Replica) → replica_of (collection_in x) a ≡ o → (link_at heap.space.words a - mark_of x.epoch ≡ 0) ⊎ IsAhead x.space.words 1 a
     from a start None e = inl (k.links a start ∙ ap place_or_zero e)
     from a start (Some r) e =
         let found = replica_in (collection_in x) a r e in
@@ -76,18 +76,18 @@ clears_none heap x c seen sound is belongs = record {
         inr (entry.0, subst (In entry.0) met.split entry.1, ap (λ (q : Replica). q.original) entry.2 ∙ found.1)
 
 -- the original that the link of the replica here leads to
-pub original_here : (marked : Bool) (words : List ℕ) (old now : HeapWords) (at : ℕ) → Clears marked words old now at → at < length words → (is_start now.space.words (link_at words at) ≡ true) × (link_at words at < 2 ^ 32)
-original_here marked words old now at k less =
+pub original_here : (epoch : ℕ) (words : List ℕ) (old now : HeapWords) (at : ℕ) → Clears epoch words old now at → at < length words → (is_start now.space.words (link_at words at) ≡ true) × (link_at words at < 2 ^ 32)
+original_here epoch words old now at k less =
     let n = some_of (next_of words at) (has_next words at less (k.met).walked) in
     let p : Passing words at n.0 k.done = passing words at n.0 k.done k.met less n.1 in
     let original = k.originals (replica_entry words (at, p.block)) (in_map (replica_entry words) (at, p.block) (blocks words) p.found) in
     (start_kept old now (link_at words at) k.graph ∙ original.0, original.1)
 
 -- the link of one replica's original is cleared
-pub clears_more : (marked : Bool) (words : List ℕ) (old now new : HeapWords) (at next : ℕ) → Clears marked words old now at → at < length words → next_of words at ≡ Some next
-    → new ≡ record now { space = with_word now.space (link_place (link_at words at)) 0 } → IsHeap new → Clears marked words old new next
-clears_more marked words old now new at next k less e is sound =
-    subst (λ h. Clears marked words old h next) (sym is) (record {
+pub clears_more : (epoch : ℕ) (words : List ℕ) (old now new : HeapWords) (at next : ℕ) → Clears epoch words old now at → at < length words → next_of words at ≡ Some next
+    → new ≡ record now { space = with_word now.space (link_place (link_at words at)) 0 } → IsHeap new → Clears epoch words old new next
+clears_more epoch words old now new at next k less e is sound =
+    subst (λ h. Clears epoch words old h next) (sym is) (record {
       done = _;
       met = p.met;
       originals = k.originals;
@@ -106,9 +106,9 @@ clears_more marked words old now new at next k less e is sound =
     b = behind words at next less (k.met).walked e
 
     there : is_start now.space.words (link_at words at) ≡ true
-    there = (original_here marked words old now at k less).0
+    there = (original_here epoch words old now at k less).0
 
-    cleared : (a : ℕ) → link_at words at ≡ a → link_at after.space.words a - mark_of marked ≡ 0
+    cleared : (a : ℕ) → link_at words at ≡ a → link_at after.space.words a - mark_of epoch ≡ 0
     cleared a same = let zero : link_at after.space.words a ≡ 0 = ap (link_at after.space.words) (sym same) ∙ link_written_there now.space (link_at words at) 0 (k.sound).space there in omega arith
 
     behind_it : (a : ℕ) → (link_at words at ≡ a → ⊥) → IsAhead words at a → IsAhead words next a
@@ -118,25 +118,25 @@ clears_more marked words old now new at next k less e is sound =
         from (inl here) = absurd (other (ap (λ (x : ℕ × Block). link_at words x.0) here ∙ ahead.2))
         from (inr later) = (ahead.0, later, ahead.2)
 
-    beside : (a : ℕ) → (link_at words at ≡ a → ⊥) → (link_at now.space.words a - mark_of marked ≡ 0) ⊎ IsAhead words at a → (link_at after.space.words a - mark_of marked ≡ 0) ⊎ IsAhead words next a
-    beside a other (inl zero) = inl (ap (λ l. l - mark_of marked) (link_written_beside now.space (link_at words at) 0 a other) ∙ zero)
+    beside : (a : ℕ) → (link_at words at ≡ a → ⊥) → (link_at now.space.words a - mark_of epoch ≡ 0) ⊎ IsAhead words at a → (link_at after.space.words a - mark_of epoch ≡ 0) ⊎ IsAhead words next a
+    beside a other (inl zero) = inl (ap (λ l. l - mark_of epoch) (link_written_beside now.space (link_at words at) 0 a other) ∙ zero)
     beside a other (inr ahead) = inr (behind_it a other ahead)
 
 -- ---- after the last replica
 
-pub none_above : (marked : Bool) (words : List ℕ) (old now : HeapWords) (at : ℕ) → Clears marked words old now at → length words ≤ at → LinksNothing marked now
-none_above marked words old now at k past a start = grind (arith, common_steps, start_kept, at_end)
+pub none_above : (epoch : ℕ) (words : List ℕ) (old now : HeapWords) (at : ℕ) → Clears epoch words old now at → length words ≤ at → LinksNothing epoch now
+none_above epoch words old now at k past a start = grind (arith, common_steps, start_kept, at_end)
 
 -- the heap without a collection is that of the old one
-pub dropped_state : (marked : Bool) (words : List ℕ) (old now : HeapWords) (at : ℕ) → Clears marked words old now at → idle_state now ≡ idle_state old
-dropped_state marked words old now at k = state_kept old now None k.graph
+pub dropped_state : (epoch : ℕ) (words : List ℕ) (old now : HeapWords) (at : ℕ) → Clears epoch words old now at → idle_state now ≡ idle_state old
+dropped_state epoch words old now at k = state_kept old now None k.graph
 
-pub all_cleared : (words : List ℕ) (old now : HeapWords) (at : ℕ) → Clears false words old now at → length words ≤ at → now ≡ record old { space = without_links old.space }
+pub all_cleared : (words : List ℕ) (old now : HeapWords) (at : ℕ) → Clears 0 words old now at → length words ≤ at → now ≡ record old { space = without_links old.space }
 all_cleared words old now at k past =
     let is : IsSpace now.space = (k.sound).space in
-    let none : mark_of false ≡ 0 = refl in
+    let none : mark_of 0 ≡ 0 = refl in
     let each : (e : ℕ × Block) → In e (blocks now.space.words) → link_at now.space.words e.0 ≡ 0
-    = λ e l. let above : link_at now.space.words e.0 - mark_of false ≡ 0 = none_above false words old now at k past e.0 (in_start now.space.words e l) in omega arith in
+    = λ e l. let above : link_at now.space.words e.0 - mark_of 0 ≡ 0 = none_above 0 words old now at k past e.0 (in_start now.space.words e l) in omega arith in
     let zero = spelled_agree (link_at now.space.words) no_links (blocks now.space.words) each in
     let all : now.space.words ≡ spelled no_links (blocks old.space.words) = spelled_words now.space.words is.walked is.end_low is.reserved ∙ ap (λ ws. 0 ∷ ws) zero ∙ ap (spelled no_links) (k.graph).blocks in
     λ i. record { space = record { size = (k.graph).size i; words = all i }; roots = (k.graph).roots i; mutators = (k.graph).mutators i }

@@ -4,7 +4,7 @@ use Rattle.gc_plan.proofs.Public.{small_corresponding, placed, in_get, in_map, i
 use Rattle.std.specs.Prelude.{◌^◌}
 use Rattle.std.specs.Option.{option_map}
 use Rattle.gc_words.specs.declared.header.Header.{Header}
-use Rattle.std.proofs.Common.{◌≡◌, inl, inr, ℕ, ◌-◌, ◌/◌, ◌%◌, ◌<◌, ◌≤◌, ◌==◌, ◌||◌, nat_lt, Bool, true, false, cond, List, [], ◌∷◌, map, length, Option, Some, None, refl, ap, sym, ◌∙◌, subst, arith}
+use Rattle.std.proofs.Common.{◌*◌, ◌≡◌, inl, inr, ℕ, ◌-◌, ◌/◌, ◌%◌, ◌<◌, ◌≤◌, ◌==◌, ◌||◌, nat_lt, Bool, true, false, cond, List, [], ◌∷◌, map, length, Option, Some, None, refl, ap, sym, ◌∙◌, subst, arith}
 use Rattle.std.proofs.lemmas.Bool.{eqb-true, eqb-false, lt-ltb}
 use Rattle.std.proofs.lemmas.List.{length-map}
 use Rattle.gc_graph.specs.Graph.{lookup, Value, Nil, Num, Ref, Object}
@@ -31,11 +31,11 @@ pub cleared_links : (s : SpaceWords) → IsSpace s → (a : ℕ) → is_start (w
 cleared_links s is a start = link_cleared s a is (sym (ap (λ bs. Rattle.std.proofs.Common.is_some (block_in bs a)) (cleared s is).1) ∙ start)
 
 -- the links of replicas are addresses, so none is above the mark
-pub below_the_mark : (c : CollectionWords) → IsCollection c → (a : ℕ) → is_start c.space.words a ≡ true → link_at c.space.words a - mark_of true ≡ 0
-below_the_mark c is a start =
+pub below_the_mark : (c : CollectionWords) → IsCollection c → (epoch : ℕ) → 1 ≤ epoch → (a : ℕ) → is_start c.space.words a ≡ true → link_at c.space.words a - mark_of epoch ≡ 0
+below_the_mark c is epoch high a start =
     let b = block_found_in (blocks c.space.words) a start in
     let small : link_at c.space.words a < 2 ^ 32 = is.originals (replica_entry c.space.words (a, b.0)) (in_map (replica_entry c.space.words) (a, b.0) (blocks c.space.words) b.1) in
-    let mark : mark_of true ≡ 4294967296 = refl in
+    let mark : mark_of epoch ≡ epoch * 4294967296 = refl in
     omega arith
 
 -- ---- words that refer to objects

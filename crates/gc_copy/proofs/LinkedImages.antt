@@ -1,6 +1,6 @@
 -- The images that a heap and its collection give the checker, and how commands change them.
 use Rattle.std.proofs.lemmas.Grind.{common_steps}
-use Rattle.std.proofs.Common.{◌≡◌, ⊎_elim, inl, inr, ℕ, ◌-◌, ◌%◌, ◌≤◌, ◌<◌, Bool, true, false, List, [], ◌∷◌, ◌++◌, map, flat_map, length, Option, Some, None, is_some, refl, ap, sym, ◌∙◌, subst, arith}
+use Rattle.std.proofs.Common.{◌*◌, ◌≡◌, ⊎_elim, inl, inr, ℕ, ◌-◌, ◌%◌, ◌≤◌, ◌<◌, Bool, true, false, List, [], ◌∷◌, ◌++◌, map, flat_map, length, Option, Some, None, is_some, refl, ap, sym, ◌∙◌, subst, arith}
 use Rattle.std.specs.Option.{option_map}
 use Rattle.std.proofs.lemmas.Bool.{cases_Bool}
 use Rattle.gc_graph.specs.Graph.{Object, lookup}
@@ -48,10 +48,10 @@ links_told space links is told =
     ∙ ap (spelled links) (sym same)
 
 -- links without a mark are what they have above it
-unmarked : (heap : HeapWords) (c : CollectionWords) → BelongsTo heap c → c.marked ≡ false → LinksExactly heap (collection_in c)
+unmarked : (heap : HeapWords) (c : CollectionWords) → BelongsTo heap c → c.epoch ≡ 0 → LinksExactly heap (collection_in c)
 unmarked heap c k plain a start = grind (arith, common_steps)
 
-pub old_shown : (heap : HeapWords) (c : CollectionWords) → IsHeap heap → BelongsTo heap c → c.marked ≡ false → image_of heap ≡ old_image (open_state heap c) (collection_in c)
+pub old_shown : (heap : HeapWords) (c : CollectionWords) → IsHeap heap → BelongsTo heap c → c.epoch ≡ 0 → image_of heap ≡ old_image (open_state heap c) (collection_in c)
 old_shown heap c is k plain = grind (arith, common_steps, links_told, unmarked, in_start, words_back)
 
 pub idle_shown : (heap : HeapWords) → IsHeap heap → HasNoLinks heap → image_of heap ≡ image_of_graph heap.space.size (graph_in heap)
@@ -83,16 +83,13 @@ starts heap c a r k e =
     there None object e = absurd (let no : None ≡ Some object = e in cc)
     there (Some b) object e = refl
 
--- links lead to the replicas, whether or not they are marked
+-- links lead to the replicas, in each epoch
 pub linked : (heap : HeapWords) (c : CollectionWords) → BelongsTo heap c → IsCollection c → LeadsTo (link_at heap.space.words) (collection_in c)
 linked heap c k is a r e =
-    let above : link_at heap.space.words a - mark_of c.marked ≡ r.place = k.links a (starts heap c a r k e) ∙ ap place_or_zero e in
+    let above : link_at heap.space.words a - mark_of c.epoch ≡ r.place = k.links a (starts heap c a r k e) ∙ ap place_or_zero e in
     let range : (1 ≤ r.place) × (r.place < 4294967295) = replica_address (graph_in heap).objects c r is k.belongs (replica_in (collection_in c) a r e).0 in
-    by c.marked refl above range
-  where
-    by : (marked : Bool) → c.marked ≡ marked → link_at heap.space.words a - mark_of c.marked ≡ r.place → (1 ≤ r.place) × (r.place < 4294967295) → link_at heap.space.words a % 4294967296 ≡ r.place
-    by true m above range = let mark : mark_of c.marked ≡ 4294967296 = ap mark_of m in omega arith
-    by false m above range = let mark : mark_of c.marked ≡ 0 = ap mark_of m in omega arith
+    let mark : mark_of c.epoch ≡ c.epoch * 4294967296 = refl in
+    omega (arith, above, range.0, range.1)
 
 -- a heap's words with other links are a space with the same objects
 pub other_links : (heap : HeapWords) → IsHeap heap → (links : ℕ → ℕ) → let words = (linked_image links heap.space.size (graph_in heap)).words in
@@ -127,7 +124,7 @@ no_link heap c a k none = from (replica_of (collection_in c) a) refl
         absent None e = refl
         absent (Some b) e = absurd (let no : true ≡ false = e in cc)
 
-links_kept : (heap new : HeapWords) (c : CollectionWords) → BelongsTo heap c → KeepsLinks heap.space.words new.space.words → LinksReplicas c.marked new (collection_in c)
+links_kept : (heap new : HeapWords) (c : CollectionWords) → BelongsTo heap c → KeepsLinks heap.space.words new.space.words → LinksReplicas c.epoch new (collection_in c)
 links_kept heap new c k kept a there = grind (arith, common_steps, no_link, cases_Bool)
 
 pub command_leaves : (heap new : HeapWords) (c : CollectionWords) (m : ℕ) (op : Op) (reply : Reply) → BelongsTo heap c → KeepsLinks heap.space.words new.space.words → new.mutators ≡ heap.mutators
@@ -151,5 +148,5 @@ nothing_left heap c k = record { belongs = same; links = k.links; logs = k.logs 
 pub no_links_kept : (heap new : HeapWords) → HasNoLinks heap → KeepsLinks heap.space.words new.space.words → HasNoLinks new
 no_links_kept heap new none kept a there = ⊎_elim (λ t. kept.kept a t ∙ none a t) (λ f. kept.fresh a f there) (cases_Bool (is_start heap.space.words a))
 
-pub nothing_linked : (heap new : HeapWords) (marked : Bool) → LinksNothing marked heap → KeepsLinks heap.space.words new.space.words → LinksNothing marked new
-nothing_linked heap new marked none kept a there = grind (arith, common_steps, cases_Bool)
+pub nothing_linked : (heap new : HeapWords) (epoch : ℕ) → LinksNothing epoch heap → KeepsLinks heap.space.words new.space.words → LinksNothing epoch new
+nothing_linked heap new epoch none kept a there = grind (arith, common_steps)

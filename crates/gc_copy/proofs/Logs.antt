@@ -55,17 +55,17 @@ pub entry_dropped : (c : CollectionWords) (m : ℕ) (log later : Log) → slice_
 entry_dropped c m log later there less = grind (arith, common_steps, entries_at, entries_set)
 
 -- a collection still belongs to the heap when a log gains room
-pub same_belongs : (heap : HeapWords) (c next : CollectionWords) → collection_in next ≡ collection_in c → next.marked ≡ c.marked → length next.logs ≡ length c.logs → BelongsTo heap c → BelongsTo heap next
+pub same_belongs : (heap : HeapWords) (c next : CollectionWords) → collection_in next ≡ collection_in c → next.epoch ≡ c.epoch → length next.logs ≡ length c.logs → BelongsTo heap c → BelongsTo heap next
 same_belongs heap c next same marks count k = grind (arith, common_steps)
 
 only : (objects : List (ℕ × Object)) (a f : ℕ) → HasField objects a f → (b j : ℕ) → In {X = ℕ × ℕ} (b, j) ((a, f) ∷ []) → HasField objects b j
 only objects a f field b j h = grind (arith, common_steps)
 
-pub noted_belongs : (heap : HeapWords) (c next : CollectionWords) (m a f : ℕ) → m < length c.logs → collection_in next ≡ with_log (collection_in c) m (log_at (collection_in c) m ++ (a, f) ∷ []) → next.marked ≡ c.marked → length next.logs ≡ length c.logs
+pub noted_belongs : (heap : HeapWords) (c next : CollectionWords) (m a f : ℕ) → m < length c.logs → collection_in next ≡ with_log (collection_in c) m (log_at (collection_in c) m ++ (a, f) ∷ []) → next.epoch ≡ c.epoch → length next.logs ≡ length c.logs
     → HasField (graph_in heap).objects a f → BelongsToBut ((a, f) ∷ []) heap c → BelongsTo heap next
 noted_belongs heap c next m a f less same marks count field k = record {
   belongs = subst (Belongs (graph_in heap).objects) (sym same) (belongs_noted (graph_in heap).objects (collection_in c) m ((a, f) ∷ []) (let n = length-map c.logs entries_of in omega arith) k.belongs (only (graph_in heap).objects a f field));
-  links = subst (λ m. LinksReplicas m heap (collection_in next)) (sym marks) (subst (LinksReplicas c.marked heap) (sym same) k.links);
+  links = subst (λ m. LinksReplicas m heap (collection_in next)) (sym marks) (subst (LinksReplicas c.epoch heap) (sym same) k.links);
   logs = count ∙ k.logs;
 }
 

@@ -25,12 +25,12 @@ told_as_it_is : (link : ℕ) (o : Option ℕ) → link < 2 ^ 32 → (link ≡ 0 
 told_as_it_is link o small none some = grind (arith, common_steps, eqb-true, eqb-false)
 
 module _ (heap : HeapWords) (c : CollectionWords) (is : IsCollection c) (k : BelongsTo heap c) where
-  room_tells : (room : RoomWords) (a : ℕ) → room.former ≡ heap.space.words → room.marked ≡ c.marked → IsSome (lookup (graph_in heap).objects a)
+  room_tells : (room : RoomWords) (a : ℕ) → room.former ≡ heap.space.words → room.epoch ≡ c.epoch → IsSome (lookup (graph_in heap).objects a)
       → moved_in room a ≡ option_map (λ (r : Replica). r.place) (replica_of (collection_in c) a)
-  room_tells room a words marked named =
-      let t = link_tells heap c a (link_at heap.space.words a - mark_of c.marked) is k (named_start heap.space.words a named) refl in
-      (λ i. place_told ((link_at (words i) a - mark_of (marked i)) % 2 ^ 32))
-      ∙ told_as_it_is (link_at heap.space.words a - mark_of c.marked) (option_map (λ (r : Replica). r.place) (replica_of (collection_in c) a)) t.small t.none t.some
+  room_tells room a words epochs named =
+      let t = link_tells heap c a (link_at heap.space.words a - mark_of c.epoch) is k (named_start heap.space.words a named) refl in
+      (λ i. place_told ((link_at (words i) a - mark_of (epochs i)) % 2 ^ 32))
+      ∙ told_as_it_is (link_at heap.space.words a - mark_of c.epoch) (option_map (λ (r : Replica). r.place) (replica_of (collection_in c) a)) t.small t.none t.some
 
   -- the replica of an object is its partner
   partner_place : (a b : ℕ) → (o : Option Replica) → replica_of (collection_in c) a ≡ o → (option_map (λ (r : Replica). r.place) o ≡ Some b) ↔ In {X = ℕ × ℕ} (a, b) (pairs_of (collection_in c))
@@ -53,8 +53,8 @@ module _ (heap : HeapWords) (c : CollectionWords) (is : IsCollection c) (k : Bel
       )
 
   -- a room with the words of the heap tells the pairs of the collection
-  pub moves_told : (room : RoomWords) → room.former ≡ heap.space.words → room.marked ≡ c.marked → TellsMoves (graph_in heap) (pairs_of (collection_in c)) room
-  moves_told room words marked a b named =
+  pub moves_told : (room : RoomWords) → room.former ≡ heap.space.words → room.epoch ≡ c.epoch → TellsMoves (graph_in heap) (pairs_of (collection_in c)) room
+  moves_told room words epochs a b named =
       let p = partner_place a b (replica_of (collection_in c) a) refl in
-      let t = room_tells room a words marked named in
+      let t = room_tells room a words epochs named in
       ((λ h. p.0 (sym t ∙ h)), (λ h. t ∙ p.1 h))

@@ -77,8 +77,8 @@ open_left heap new c m op reply is belongs none performs = (
 pub idle_left : (heap new : HeapWords) (m : ℕ) (op : Op) (reply : Reply) → IsHeap heap → Performs heap m op reply new → mutate (idle_state heap) m op ≡ (reply, idle_state new)
 idle_left heap new m op reply is performs = grind (arith, common_steps)
 
-pub still_unlinked : (marked : Bool) (heap new : HeapWords) (m : ℕ) (op : Op) (reply : Reply) → Performs heap m op reply new → LinksNothing marked heap → LinksNothing marked new
-still_unlinked marked heap new m op reply performs none = nothing_linked heap new marked none performs.links
+pub still_unlinked : (epoch : ℕ) (heap new : HeapWords) (m : ℕ) (op : Op) (reply : Reply) → Performs heap m op reply new → LinksNothing epoch heap → LinksNothing epoch new
+still_unlinked epoch heap new m op reply performs none = nothing_linked heap new epoch none performs.links
 
 -- a command other than `Put` writes no field
 pub no_other_writes : (op : Op) → ((s : SlotName) (i : ℕ) (t : SlotName) → op ≡ ops.Put s i t → ⊥) → ¬ WritesField op

@@ -62,12 +62,12 @@ pub opened : (heap : HeapWords) (c : CollectionWords) → IsCollection c → Bel
 opened heap c is k = record { belongs = k.belongs; size = (is.space).size_high; logs = length-map c.logs entries_of ∙ k.logs }
 
 -- a collection belongs to the heap of words if it belongs to the state and the links lead to its replicas
-pub closed : (heap new : HeapWords) (before after : CollectionWords) → KeepsGraph heap new → BelongsTo heap before → length after.logs ≡ length before.logs → IsOpened (open_state heap before) (collection_in after) → LinksReplicas after.marked new (collection_in after) → BelongsTo new after
+pub closed : (heap new : HeapWords) (before after : CollectionWords) → KeepsGraph heap new → BelongsTo heap before → length after.logs ≡ length before.logs → IsOpened (open_state heap before) (collection_in after) → LinksReplicas after.epoch new (collection_in after) → BelongsTo new after
 closed heap new before after same k count is links = grind (arith, common_steps, graph_kept)
 
 -- after a step other than a flip
 pub after_step : (heap new : HeapWords) (c next : CollectionWords) (step : Step) (reply : StepReply) → step ≢ steps.Flip → IsCollection c → BelongsTo heap c → KeepsGraph heap new → length next.logs ≡ length c.logs
-    → collect (open_state heap c) step ≡ (reply, open_state new next) → LinksReplicas next.marked new (collection_in next) → BelongsTo new next
+    → collect (open_state heap c) step ≡ (reply, open_state new next) → LinksReplicas next.epoch new (collection_in next) → BelongsTo new next
 after_step heap new c next step reply other is k same count e links =
     closed heap new c next same k count
     (subst (λ (x : StepReply × State). IsOpen (open_state heap c) x.1.collection) e (open_keeps (open_state heap c) (collection_in c) step refl (opened heap c is k) other))
@@ -96,20 +96,20 @@ links_written c name i a v = zero_of_none (replica_of (write_replica c name i v)
 
 -- ---- a replica is placed
 
-links_placed : (heap : HeapWords) (marked : Bool) (c : Collection) (r : Replica) → IsHeap heap → is_start heap.space.words r.original ≡ true → LinksReplicas marked heap c → replica_of c r.original ≡ None
-    → LinksReplicas marked (record heap { space = with_word heap.space (link_place r.original) (mark_of marked + r.place) }) (record c { replicas = c.replicas ++ r ∷ [] })
-links_placed heap marked c r is start links none a there = ⊎_elim
+links_placed : (heap : HeapWords) (epoch : ℕ) (c : Collection) (r : Replica) → IsHeap heap → is_start heap.space.words r.original ≡ true → LinksReplicas epoch heap c → replica_of c r.original ≡ None
+    → LinksReplicas epoch (record heap { space = with_word heap.space (link_place r.original) (mark_of epoch + r.place) }) (record c { replicas = c.replicas ++ r ∷ [] })
+links_placed heap epoch c r is start links none a there = ⊎_elim
     (λ t.
     let here : r.original ≡ a = eqb-true r.original a t in
     let found : replica_of (record c { replicas = c.replicas ++ r ∷ [] }) a ≡ Some r = find_push (λ (q : Replica). q.original == a) c.replicas r (subst (λ n. replica_of c n ≡ None) here none) t in
-    let written : link_at (with_word heap.space (link_place r.original) (mark_of marked + r.place)).words a ≡ mark_of marked + r.place
-    = subst (λ n. link_at (with_word heap.space (link_place r.original) (mark_of marked + r.place)).words n ≡ mark_of marked + r.place) here (link_written_there heap.space r.original (mark_of marked + r.place) is.space start) in
-    let above : link_at (with_word heap.space (link_place r.original) (mark_of marked + r.place)).words a - mark_of marked ≡ r.place = omega arith in
+    let written : link_at (with_word heap.space (link_place r.original) (mark_of epoch + r.place)).words a ≡ mark_of epoch + r.place
+    = subst (λ n. link_at (with_word heap.space (link_place r.original) (mark_of epoch + r.place)).words n ≡ mark_of epoch + r.place) here (link_written_there heap.space r.original (mark_of epoch + r.place) is.space start) in
+    let above : link_at (with_word heap.space (link_place r.original) (mark_of epoch + r.place)).words a - mark_of epoch ≡ r.place = omega arith in
     above ∙ sym (ap place_or_zero found))
     (λ f.
     let found : replica_of (record c { replicas = c.replicas ++ r ∷ [] }) a ≡ replica_of c a = find_push_other (λ (q : Replica). q.original == a) c.replicas r f in
-    let old : is_start heap.space.words a ≡ true = sym (start_kept heap (record heap { space = with_word heap.space (link_place r.original) (mark_of marked + r.place) }) a (linked_heap heap r.original (mark_of marked + r.place) is start)) ∙ there in
-    ap (λ l. l - mark_of marked) (link_written_beside heap.space r.original (mark_of marked + r.place) a (eqb-false r.original a f)) ∙ links a old ∙ sym (ap place_or_zero found))
+    let old : is_start heap.space.words a ≡ true = sym (start_kept heap (record heap { space = with_word heap.space (link_place r.original) (mark_of epoch + r.place) }) a (linked_heap heap r.original (mark_of epoch + r.place) is start)) ∙ there in
+    ap (λ l. l - mark_of epoch) (link_written_beside heap.space r.original (mark_of epoch + r.place) a (eqb-false r.original a f)) ∙ links a old ∙ sym (ap place_or_zero found))
     (cases_Bool (r.original == a))
 
 can_place_replica : (s : SpaceWords) (b : Block) → IsSpace s → IsBlock b → HasRoomFor s b.header.len → CanPlaceBlock s (replica_block b)
@@ -158,7 +158,7 @@ module _ (heap : HeapWords) (c : CollectionWords) (name : ℕ) (h : Header) (hea
   small = let fits = stands.fits in let count = (heap_is.space).count in let high = (heap_is.space).end_high in let size = (heap_is.space).size_high in omega arith
 
   pub placing : BelongsTo heap c → is_start heap.space.words name ≡ true → replica_of (collection_in c) name ≡ None → HasRoomFor c.space h.len
-      → Placing heap (record heap { space = with_word heap.space (link_place name) (mark_of c.marked + end_of c.space) }) c (record c { space = with_word (with_block c.space (replica_block block.0)) (link_place (end_of c.space)) name }) name
+      → Placing heap (record heap { space = with_word heap.space (link_place name) (mark_of c.epoch + end_of c.space) }) c (record c { space = with_word (with_block c.space (replica_block block.0)) (link_place (end_of c.space)) name }) name
   placing k start none room = record {
     sound = record {
       space = made.0;
@@ -169,11 +169,11 @@ module _ (heap : HeapWords) (c : CollectionWords) (name : ℕ) (h : Header) (hea
           (in_push r (replica_at_end c.space (replica_block block.0) name) (replicas_in c.space.words) (subst (In r) made.1 l));
     };
     placed = step;
-    belongs = closed heap next_heap c next (linked_heap heap name (mark_of c.marked + end_of c.space) heap_is start) k refl
+    belongs = closed heap next_heap c next (linked_heap heap name (mark_of c.epoch + end_of c.space) heap_is start) k refl
         (placing_keeps (open_state heap c) (collection_in c) (collection_in next) name (opened heap c is k) none step)
-        (subst (LinksReplicas c.marked next_heap) (sym grown) (links_placed heap c.marked (collection_in c) (replica_at_end c.space (replica_block block.0) name) heap_is start k.links none));
-    graph = linked_heap heap name (mark_of c.marked + end_of c.space) heap_is start;
-    rest = record { size = refl; logs = refl; scan_place = refl; scan_field = refl; marked = refl };
+        (subst (LinksReplicas c.epoch next_heap) (sym grown) (links_placed heap c.epoch (collection_in c) (replica_at_end c.space (replica_block block.0) name) heap_is start k.links none));
+    graph = linked_heap heap name (mark_of c.epoch + end_of c.space) heap_is start;
+    rest = record { size = refl; logs = refl; scan_place = refl; scan_field = refl; epoch = refl };
     counted = λ n e. count_placed n c.space.words next.space.words (replica_at_end c.space (replica_block block.0) name) e made.1;
   }
     where
@@ -181,7 +181,7 @@ module _ (heap : HeapWords) (c : CollectionWords) (name : ℕ) (h : Header) (hea
       next = record c { space = with_word (with_block c.space (replica_block block.0)) (link_place (end_of c.space)) name }
 
       next_heap : HeapWords
-      next_heap = record heap { space = with_word heap.space (link_place name) (mark_of c.marked + end_of c.space) }
+      next_heap = record heap { space = with_word heap.space (link_place name) (mark_of c.epoch + end_of c.space) }
 
       made : IsSpace (next.space) × (replicas_in next.space.words ≡ replicas_in c.space.words ++ replica_at_end c.space (replica_block block.0) name ∷ [])
       made = space_placed c.space (replica_block block.0) name (can_place_replica c.space block.0 is.space stands.whole (subst (λ (k : Header). HasRoomFor c.space k.len) (sym block.2) room))
@@ -249,7 +249,7 @@ bringing objects c name i w place v is belongs found there means = from (replica
                 subst (λ n. n < 2 ^ 32) o (is.originals k.0 k.1);
           };
           copied = λ j. record (collection_in c) { replicas = made.1 j };
-          rest = record { size = refl; logs = refl; scan_place = refl; scan_field = refl; marked = refl };
+          rest = record { size = refl; logs = refl; scan_place = refl; scan_field = refl; epoch = refl };
         }
 
     from : (o : Option Replica) → replica_of (collection_in c) name ≡ o → option_map (λ r. r.place) o ≡ Some place → Bringing c (record c { space = with_word c.space (field_place place i) w }) name i v
@@ -360,7 +360,7 @@ pub record Tells (c : CollectionWords) (a link : ℕ) : Type 0 where
   pub some : (link ≡ 0 → ⊥) → option_map (λ r. r.place) (replica_of (collection_in c) a) ≡ Some link
   pub address : (link ≡ 0 → ⊥) → (1 ≤ link) × (link < 4294967295)
 
-pub link_tells : (heap : HeapWords) (c : CollectionWords) (a link : ℕ) → IsCollection c → BelongsTo heap c → is_start heap.space.words a ≡ true → link ≡ link_at heap.space.words a - mark_of c.marked → Tells c a link
+pub link_tells : (heap : HeapWords) (c : CollectionWords) (a link : ℕ) → IsCollection c → BelongsTo heap c → is_start heap.space.words a ≡ true → link ≡ link_at heap.space.words a - mark_of c.epoch → Tells c a link
 link_tells heap c a link is k start e = from (replica_of (collection_in c) a) refl (e ∙ k.links a start)
   where
     from : (o : Option Replica) → replica_of (collection_in c) a ≡ o → link ≡ place_or_zero o → Tells c a link
@@ -378,15 +378,15 @@ link_tells heap c a link is k start e = from (replica_of (collection_in c) a) re
 -- the code that places a replica, from the clauses of its calls
 pub placing_done : (heap new : HeapWords) (c next : CollectionWords) (name end link place : ℕ) (h : Header) (one : SpaceWords) → IsHeap heap → IsCollection c → BelongsTo heap c → is_start heap.space.words name ≡ true → replica_of (collection_in c) name ≡ None
     → header_at heap.space.words name ≡ Some h → HasRoomFor c.space h.len
-    → end ≡ end_of c.space → ((b : Block) → block_at heap.space.words name ≡ Some b → one ≡ with_block c.space (replica_block b)) → link ≡ name → next ≡ record c { space = with_word one (link_place end) link } → place ≡ mark_of c.marked + end → new ≡ record heap { space = with_word heap.space (link_place name) place }
+    → end ≡ end_of c.space → ((b : Block) → block_at heap.space.words name ≡ Some b → one ≡ with_block c.space (replica_block b)) → link ≡ name → next ≡ record c { space = with_word one (link_place end) link } → place ≡ mark_of c.epoch + end → new ≡ record heap { space = with_word heap.space (link_place name) place }
     → Placing heap new c next name
 placing_done heap new c next name end link place h one heap_is is k start none header room at made linked after there heap_after =
     let b = block_of_header heap.space.words name h header in
     let placed_one : one ≡ with_block c.space (replica_block b.0) = made b.0 b.1 in
     let next_is : next ≡ record c { space = with_word (with_block c.space (replica_block b.0)) (link_place (end_of c.space)) name } = after ∙ (λ i. record c { space = with_word (placed_one i) (link_place (at i)) (linked i) }) in
-    let new_is : new ≡ record heap { space = with_word heap.space (link_place name) (mark_of c.marked + end_of c.space) } = heap_after ∙ ap (λ n. record heap { space = with_word heap.space (link_place name) n }) (there ∙ ap (λ n. mark_of c.marked + n) at) in
+    let new_is : new ≡ record heap { space = with_word heap.space (link_place name) (mark_of c.epoch + end_of c.space) } = heap_after ∙ ap (λ n. record heap { space = with_word heap.space (link_place name) n }) (there ∙ ap (λ n. mark_of c.epoch + n) at) in
     let done = placing heap c name h heap_is is header k start none room in
-    subst (λ x. Placing heap x c next name) (sym new_is) (subst (λ x. Placing heap (record heap { space = with_word heap.space (link_place name) (mark_of c.marked + end_of c.space) }) c x name) (sym next_is) done)
+    subst (λ x. Placing heap x c next name) (sym new_is) (subst (λ x. Placing heap (record heap { space = with_word heap.space (link_place name) (mark_of c.epoch + end_of c.space) }) c x name) (sym next_is) done)
 
 -- ---- results
 
@@ -449,7 +449,7 @@ module _ (heap new : HeapWords) (c one x : CollectionWords) (name i w place : �
         (bringing_keeps (open_state new x) (collection_in x) (collection_in after_words) name i (opened new x is belongs_here)
         (brought (graph_in new) (collection_in x) (collection_in x) name i (value_of w) (plain_value_is new name i w plain_new field_new) (replicated_already (collection_in x) (graph_in new) w has_here) ∙ ap Some (sym copied)))
         (λ a start. (belongs_here.links) a start ∙ sym (links_written (collection_in x) name i a (moved (collection_in x) (value_of w))) ∙ sym (ap (λ d. old_links d a) copied));
-    rest = subst (λ (y : CollectionWords). KeepsRest c (record y { space = with_word y.space (field_place place i) moved_word })) (sym seen) (record { size = rest.size; logs = rest.logs; scan_place = rest.scan_place; scan_field = rest.scan_field; marked = rest.marked });
+    rest = subst (λ (y : CollectionWords). KeepsRest c (record y { space = with_word y.space (field_place place i) moved_word })) (sym seen) (record { size = rest.size; logs = rest.logs; scan_place = rest.scan_place; scan_field = rest.scan_field; epoch = rest.epoch });
   })
     where
       after_words : CollectionWords
@@ -491,7 +491,7 @@ module _ (heap : HeapWords) (c x : CollectionWords) (name i w place : ℕ) (heap
     belongs = closed heap heap x after_words (same_graph heap) belongs_raw refl
         (bringing_keeps (open_state heap x) (collection_in x) (collection_in after_words) name i (opened heap x is belongs_raw) step)
         (λ a start. (belongs_raw.links) a start ∙ sym (links_written (collection_in x) name i a (Num w)) ∙ sym (ap (λ d. old_links d a) made.copied));
-    rest = record { size = refl; logs = refl; scan_place = refl; scan_field = refl; marked = refl };
+    rest = record { size = refl; logs = refl; scan_place = refl; scan_field = refl; epoch = refl };
   }))
     where
       after_words : CollectionWords

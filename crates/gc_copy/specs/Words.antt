@@ -1,6 +1,6 @@
 -- A collection as contracts see it: a new space whose links are the originals' addresses, logs with spare capacity, and the scan
 -- pointer.
-use Rattle.std.specs.Prelude.{◌≡◌, ◌↔◌, ℕ, ◌-◌, ◌%◌, ◌<◌, ◌^◌, ◌==◌, Bool, if◌then◌else◌, List, ◌++◌, drop, length, map, replicate, slice_get, IsTrue, IsSome, Option, Some, None}
+use Rattle.std.specs.Prelude.{◌≡◌, ◌↔◌, ℕ, ◌-◌, ◌%◌, ◌<◌, ◌^◌, ◌*◌, ◌==◌, if◌then◌else◌, List, ◌++◌, drop, length, map, replicate, slice_get, IsTrue, IsSome, Option, Some, None}
 use Rattle.gc_graph.specs.Graph.{Graph, lookup}
 use Rattle.gc_words.specs.Word.{word_of}
 use Rattle.gc_words.specs.Image.{Block, blocks, is_start, object_of_block}
@@ -17,21 +17,21 @@ pub record Log : Type 0 where
   pub entries : List (ℕ × ℕ)
   pub spare : ℕ
 
--- `marked` says whether the links of originals have a mark in addition to the places of their replicas
+-- `epoch` says which mark the links of originals have in addition to the places of their replicas
 pub record CollectionWords : Type 0 where
   pub space : SpaceWords
   pub logs : List Log
   pub scan_place : ℕ
   pub scan_field : ℕ
-  pub marked : Bool
+  pub epoch : ℕ
 
 -- The memory of a collection: the size of its space, and the number of empty logs. Until a collection begins in it, the space has the words
--- of the heap before the last flip, and `marked` says whether the links of originals have a mark.
+-- of the heap before the last flip, and `epoch` says which mark the links of originals have.
 pub record RoomWords : Type 0 where
   pub size : ℕ
   pub mutators : ℕ
   pub former : List ℕ
-  pub marked : Bool
+  pub epoch : ℕ
 
 -- ---- the collection that the words represent
 
@@ -70,28 +70,28 @@ open_state heap c = state_of heap (Some (collection_in c))
 abbrev pub HasNoLinks : HeapWords → Type 0
 HasNoLinks heap = (a : ℕ) → IsTrue (is_start heap.space.words a) → link_at heap.space.words a ≡ 0
 
--- The mark is greater than each address. So where links are marked, a link that an earlier collection left is not above it.
-abbrev pub mark_of : Bool → ℕ
-mark_of marked = if marked then 2 ^ 32 else 0
+-- Marks are further apart than addresses. So a link that an epoch left is not above the mark of a later one.
+abbrev pub mark_of : ℕ → ℕ
+mark_of epoch = epoch * 2 ^ 32
 
 -- no object has a link above the mark
-abbrev pub LinksNothing : Bool → HeapWords → Type 0
-LinksNothing marked heap = (a : ℕ) → IsTrue (is_start heap.space.words a) → link_at heap.space.words a - mark_of marked ≡ 0
+abbrev pub LinksNothing : ℕ → HeapWords → Type 0
+LinksNothing epoch heap = (a : ℕ) → IsTrue (is_start heap.space.words a) → link_at heap.space.words a - mark_of epoch ≡ 0
 
 -- what an original's link has above the mark is its replica's place; no other link is above the mark
-abbrev pub LinksReplicas : Bool → HeapWords → Collection → Type 0
-LinksReplicas marked heap c = (a : ℕ) → IsTrue (is_start heap.space.words a) → link_at heap.space.words a - mark_of marked ≡ old_links c a
+abbrev pub LinksReplicas : ℕ → HeapWords → Collection → Type 0
+LinksReplicas epoch heap c = (a : ℕ) → IsTrue (is_start heap.space.words a) → link_at heap.space.words a - mark_of epoch ≡ old_links c a
 
 -- the collection belongs to the heap, the heap's links lead to the replicas, and each mutator has a log
 pub record BelongsTo (heap : HeapWords) (c : CollectionWords) : Type 0 where
   pub belongs : Belongs (graph_in heap).objects (collection_in c)
-  pub links : LinksReplicas c.marked heap (collection_in c)
+  pub links : LinksReplicas c.epoch heap (collection_in c)
   pub logs : length c.logs ≡ heap.mutators
 
 -- the same, but these fields, as (object, field number), may be out of date
 pub record BelongsToBut (fields : List (ℕ × ℕ)) (heap : HeapWords) (c : CollectionWords) : Type 0 where
   pub belongs : BelongsBut (λ a i. In {X = ℕ × ℕ} (a, i) fields) (graph_in heap).objects (collection_in c)
-  pub links : LinksReplicas c.marked heap (collection_in c)
+  pub links : LinksReplicas c.epoch heap (collection_in c)
   pub logs : length c.logs ≡ heap.mutators
 
 -- the root words after the roots are moved to replicas
@@ -119,7 +119,7 @@ place_told link = if link == 0 then None else Some link
 
 -- where the object at this address of the former words went: the low 32 bits of what its link has above the mark
 abbrev pub moved_in : RoomWords → ℕ → Option ℕ
-moved_in room a = place_told ((link_at room.former a - mark_of room.marked) % 2 ^ 32)
+moved_in room a = place_told ((link_at room.former a - mark_of room.epoch) % 2 ^ 32)
 
 -- The room tells b of an object a of this graph exactly if (a, b) is one of these pairs.
 abbrev pub TellsMoves : Graph → List (ℕ × ℕ) → RoomWords → Type 0

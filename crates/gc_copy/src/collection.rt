@@ -22,9 +22,9 @@ use std::marker::Model;
 /// replicas without a table, and the certificate can be read off the links. Only this type sets links. Its calls take the heap
 /// that the collection belongs to.
 ///
-/// The links of originals may be marked: each is then greater than all addresses, and what it has above the mark is the replica's
-/// address. So the links that replicas have need not be cleared at a flip: in the next collection they are below the mark, and lead
-/// nowhere.
+/// The links of originals have a mark, 2^32 times the epoch, in addition to the replica's address. In epoch 0 they have none. From epoch 1 on,
+/// the links that replicas have need not be cleared at a flip: they are addresses, so they are below the mark of the next collection, and
+/// lead nowhere. Nor do links of an earlier epoch have to be cleared when a collection is given up.
 #[derive(Debug, Drop)]
 pub struct Collection {
     space: Space,
@@ -32,8 +32,8 @@ pub struct Collection {
     // The scan pointer: a replica or the new end, and the number of the replica's fields that are scanned.
     scan_place: Addr,
     scan_field: u16,
-    // Whether the links of originals have a mark in addition to the places of their replicas.
-    marked: bool,
+    // The mark that the links of originals have in addition to the places of their replicas, as a multiple of 2^32.
+    epoch: u32,
     // The number of replicas.
     replicas: u32,
 }
@@ -50,7 +50,7 @@ impl Model for Collection {
       logs = c.logs.items;
       scan_place = c.scan_place.0;
       scan_field = c.scan_field;
-      marked = c.marked;
+      epoch = c.epoch;
     } };
 
     ghost invariant = { λ c. IsCollection (record {
@@ -58,6 +58,6 @@ impl Model for Collection {
       logs = c.logs.items;
       scan_place = c.scan_place.0;
       scan_field = c.scan_field;
-      marked = c.marked;
+      epoch = c.epoch;
     }) × (c.replicas ≡ length (blocks c.space.words)) };
 }

@@ -40,7 +40,7 @@ pub fn heaps_have_addresses_as_names()
 pub fn images_show_links()
     ensures idle { (heap : HeapWords) → IsHeap heap → HasNoLinks heap
         → image_of heap ≡ image_of_graph heap.space.size (graph_in heap) }
-    ensures old { (heap : HeapWords) (c : CollectionWords) → IsHeap heap → BelongsTo heap c → IsFalse c.marked
+    ensures old { (heap : HeapWords) (c : CollectionWords) → IsHeap heap → BelongsTo heap c → c.epoch ≡ 0
         → image_of heap ≡ old_image (open_state heap c) (collection_in c) }
     // Marked links lead to the replicas all the same.
     ensures linked { (heap : HeapWords) (c : CollectionWords) → BelongsTo heap c → IsCollection c
@@ -68,8 +68,8 @@ pub fn commands_keep_collections()
     // While no collection is open, no object has a link, or none above the mark.
     ensures idle { (heap new : HeapWords)
         → HasNoLinks heap → KeepsLinks heap.space.words new.space.words → HasNoLinks new }
-    ensures nothing { (heap new : HeapWords) (marked : Bool)
-        → LinksNothing marked heap → KeepsLinks heap.space.words new.space.words → LinksNothing marked new }
+    ensures nothing { (heap new : HeapWords) (epoch : ℕ)
+        → LinksNothing epoch heap → KeepsLinks heap.space.words new.space.words → LinksNothing epoch new }
 {}
 
 /// A command other than `Put` leaves an open collection unchanged, and the collection still belongs to the heap. If no collection
@@ -80,8 +80,8 @@ pub fn commands_leave_collections()
         → (mutate (open_state heap c) m op ≡ (reply, open_state new c)) × BelongsTo new c }
     ensures idle { (heap new : HeapWords) (m : ℕ) (op : Op) (reply : Reply)
         → IsHeap heap → Performs heap m op reply new → mutate (idle_state heap) m op ≡ (reply, idle_state new) }
-    ensures linked { (marked : Bool) (heap new : HeapWords) (m : ℕ) (op : Op) (reply : Reply)
-        → Performs heap m op reply new → LinksNothing marked heap → LinksNothing marked new }
+    ensures linked { (epoch : ℕ) (heap new : HeapWords) (m : ℕ) (op : Op) (reply : Reply)
+        → Performs heap m op reply new → LinksNothing epoch heap → LinksNothing epoch new }
 {}
 
 /// A heap that was opened with extra roots is well formed, and so is every state that a run leads it to. A command may name an extra root.

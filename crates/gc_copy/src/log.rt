@@ -159,6 +159,16 @@ impl MutationLog {
         }
     }
 
+    /// Removes all entries. Keeps the memory of one segment at most.
+    pub(crate) fn clear(&mut self)
+        ensures { self.new.entries ≡ [] }
+    {
+        self.segments.clear();
+        self.full = 0;
+        self.last.clear();
+        self.gone = 0;
+    }
+
     /// Returns the oldest entry.
     pub(crate) fn oldest(&self) -> Option<LogEntry>
         ensures { option_map entry_in result ≡ oldest self.now.entries }

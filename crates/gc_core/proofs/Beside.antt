@@ -1,6 +1,6 @@
 -- A watch that goes along with the open collection watches the words of both images.
 use Rattle.std.proofs.lemmas.Grind.{common_steps}
-use Rattle.std.proofs.Common.{◌≡◌, ◌-◌, ℕ, arith, Bool, List, length, Option, Some, None, refl, ap, sym, ◌∙◌, subst}
+use Rattle.std.proofs.Common.{◌≡◌, ◌-◌, ℕ, arith, List, length, Option, Some, None, refl, ap, sym, ◌∙◌, subst}
 use Rattle.std.proofs.lemmas.List.{take_all}
 use Rattle.std.specs.Option.{option_map}
 use Rattle.gc_words.specs.Image.{Image, blocks}
@@ -42,10 +42,10 @@ shown heap col w sound is belongs goes =
     relinked heap.space.words (old_image (open_state heap col) (collection_in col)).words (new_image (open_state heap col) (collection_in col)).words w (along.fits).old_seen exact.2 exact.1 wide
     (subst (λ (image : Image). Watches heap.space.words image.words w) (new_shown heap col is belongs) (watches heap col w sound is belongs along))
 
-pub watched : (marked : Bool) (heap : HeapWords) (o : Option CollectionWords) (col : CollectionWords) (s : State) → o ≡ Some col → state_of heap (option_map collection_in o) ≡ s → Fits marked heap o → IsHeap heap → IsCollection col
+pub watched : (epoch : ℕ) (heap : HeapWords) (o : Option CollectionWords) (col : CollectionWords) (s : State) → o ≡ Some col → state_of heap (option_map collection_in o) ≡ s → Fits epoch heap o → IsHeap heap → IsCollection col
     → (c : Collection) (w : Watch) → s.collection ≡ Some c → GoesAlong s.heap.graph.objects (heap_end s) c w → Watches (old_image s c).words (new_image s c).words w
-watched marked heap None col s e same fits sound is c w there goes = absurd (let no : None ≡ Some col = e in cc)
-watched marked heap (Some x) col s e same fits sound is c w there goes =
+watched epoch heap None col s e same fits sound is c w there goes = absurd (let no : None ≡ Some col = e in cc)
+watched epoch heap (Some x) col s e same fits sound is c w there goes =
     let x_is : x ≡ col = cc e in
     let c_is : collection_in x ≡ c = (let a : Some (collection_in x) ≡ Some c = ap (λ (s : State). s.collection) same ∙ there in cc) in
     subst (λ (s : State). Watches (old_image s c).words (new_image s c).words w) same

@@ -46,5 +46,5 @@ pub sure_then : (sure : ImageOutline → ImageOutline → Type 0) (heap : HeapWo
 sure_then sure heap was c now is view h = grind (arith, common_steps)
 
 -- the pair of a collection without its mark is that of the collection with it
-pub same_pair : (heap new : HeapWords) (c after : CollectionWords) → open_state new after ≡ open_state heap c → after ≡ record c { marked = false } → flip_pair (open_state new after) (collection_in after) ≡ flip_pair (open_state heap c) (collection_in c)
+pub same_pair : (heap new : HeapWords) (c after : CollectionWords) → open_state new after ≡ open_state heap c → after ≡ record c { epoch = 0 } → flip_pair (open_state new after) (collection_in after) ≡ flip_pair (open_state heap c) (collection_in c)
 same_pair heap new c after state unmarked = λ i. flip_pair (state i) (collection_in (unmarked i))

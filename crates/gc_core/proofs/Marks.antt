@@ -333,8 +333,8 @@ no_word : (a : ℕ) → slice_index (0 ∷ []) (a + 1) - 0 ≡ 0
 no_word a = grind (arith, common_steps)
 
 -- a heap that was just opened has no links
-pub no_links : (options : HeapOptions) (heap : HeapWords) → heap ≡ empty_heap options → LinksNothing false heap
-no_links options heap empty = subst (LinksNothing false) (sym empty) (λ a start. no_word a)
+pub no_links : (options : HeapOptions) (heap : HeapWords) → heap ≡ empty_heap options → LinksNothing 0 heap
+no_links options heap empty = subst (LinksNothing 0) (sym empty) (λ a start. no_word a)
 
 -- all roots of a heap that was just opened are nil
 pub opening_knows : (options : HeapOptions) (heap : HeapWords) (known : KnownRoots) (count : ℕ) → heap ≡ empty_heap options → count ≡ length heap.roots → known ≡ record { slots = 0; extra = 0; used = 0; count = count }

@@ -1,6 +1,6 @@
 -- Numbers that are written to a raw object in one call.
 use Rattle.std.proofs.lemmas.Grind.{common_steps}
-use Rattle.std.proofs.Common.{Bool, ◌≡◌, ◌<◌, ◌≤◌, ◌+◌, ℕ, suc, true, List, [], ◌∷◌, length, Option, Some, refl, ap, subst, ◌∙◌, arith}
+use Rattle.std.proofs.Common.{◌≡◌, ◌<◌, ◌≤◌, ◌+◌, ℕ, suc, true, List, [], ◌∷◌, length, Option, Some, refl, ap, subst, ◌∙◌, arith}
 use Rattle.std.specs.List.{list_all}
 use Rattle.std.specs.Option.{option_map}
 use Rattle.std.proofs.lemmas.Bool.{le-leb}
@@ -34,13 +34,13 @@ numbers_know (n ∷ rest) known s m i d t low less k =
 
 -- ---- while no collection is open
 
-pub idle_written : (marked : Bool) (numbers : List ℕ) (heap new : HeapWords) (m i : ℕ) (s t : SlotName) → IsHeap heap → LinksNothing marked heap → WritesNumbers heap m s t i numbers new → (numbers_step (idle_state heap) m s t i numbers ≡ idle_state new) × LinksNothing marked new
-idle_written marked [] heap new m i s t is links same = (ap idle_state same, subst (LinksNothing marked) same links)
-idle_written marked (n ∷ rest) heap new m i s t is links (next, w, further) =
+pub idle_written : (epoch : ℕ) (numbers : List ℕ) (heap new : HeapWords) (m i : ℕ) (s t : SlotName) → IsHeap heap → LinksNothing epoch heap → WritesNumbers heap m s t i numbers new → (numbers_step (idle_state heap) m s t i numbers ≡ idle_state new) × LinksNothing epoch new
+idle_written epoch [] heap new m i s t is links same = (ap idle_state same, subst (LinksNothing epoch) same links)
+idle_written epoch (n ∷ rest) heap new m i s t is links (next, w, further) =
     let one = idle_left heap w.between m (ops.Num t n) Done is w.sets in
     let two = idle_left w.between next m (ops.Put s i t) Done w.sound.0 w.puts in
-    let between = still_unlinked marked heap w.between m (ops.Num t n) Done w.sets links in
-    let all = idle_written marked rest next new m (suc i) s t w.sound.1 (still_unlinked marked w.between next m (ops.Put s i t) Done w.puts between) further in
+    let between = still_unlinked epoch heap w.between m (ops.Num t n) Done w.sets links in
+    let all = idle_written epoch rest next new m (suc i) s t w.sound.1 (still_unlinked epoch w.between next m (ops.Put s i t) Done w.puts between) further in
     (ap (λ (x : Reply × State). numbers_step (mutate x.1 m (ops.Put s i t)).1 m s t (suc i) rest) one ∙ ap (λ (x : Reply × State). numbers_step x.1 m s t (suc i) rest) two ∙ all.0, all.1)
 
 -- ---- the reply

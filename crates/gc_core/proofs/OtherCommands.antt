@@ -1,6 +1,6 @@
 -- Commands that write no field: they change only the heap, whether a collection is open or not.
 use Rattle.std.proofs.lemmas.Grind.{common_steps}
-use Rattle.std.proofs.Common.{◌≡◌, ℕ, ◌+◌, ◌<◌, Bool, length, Option, Some, None, refl, ap, subst, arith}
+use Rattle.std.proofs.Common.{◌≡◌, ℕ, ◌+◌, ◌<◌, length, Option, Some, None, refl, ap, subst, arith}
 use Rattle.std.specs.Prelude.{IfSome, min, max}
 use Rattle.gc_graph.specs.Slots.{roots_of}
 use Rattle.std.specs.Option.{option_map}
@@ -18,16 +18,16 @@ use Rattle.gc_core.specs.Internal.KnownRoots.{KnowsRoots}
 use Rattle.gc_core.specs.declared.known.KnownRoots.{KnownRoots}
 use Rattle.gc_core.proofs.Marks.{WritesBelow, SetsPlain, slot_command, plain_command, stored_command}
 
-pub still_fits : (marked : Bool) (heap new : HeapWords) (o : Option CollectionWords) (m : ℕ) (op : Op) (reply : Reply) → IsHeap heap → ¬ WritesField op → Performs heap m op reply new → Fits marked heap o → Fits marked new o
-still_fits marked heap new None m op reply is none performs fits = still_unlinked marked heap new m op reply performs fits
-still_fits marked heap new (Some c) m op reply is none performs fits = (open_left heap new c m op reply is fits none performs).1
+pub still_fits : (epoch : ℕ) (heap new : HeapWords) (o : Option CollectionWords) (m : ℕ) (op : Op) (reply : Reply) → IsHeap heap → ¬ WritesField op → Performs heap m op reply new → Fits epoch heap o → Fits epoch new o
+still_fits epoch heap new None m op reply is none performs fits = still_unlinked epoch heap new m op reply performs fits
+still_fits epoch heap new (Some c) m op reply is none performs fits = (open_left heap new c m op reply is fits none performs).1
 
 -- the open collection, if there is one, belongs to the heap
 abbrev pub BelongsIfOpen : HeapWords → Option CollectionWords → Type 0
 BelongsIfOpen heap o = IfSome o (BelongsTo heap)
 
-pub it_belongs : (marked : Bool) (heap : HeapWords) (o : Option CollectionWords) → Fits marked heap o → BelongsIfOpen heap o
-it_belongs marked heap o fits = grind (arith, common_steps)
+pub it_belongs : (epoch : ℕ) (heap : HeapWords) (o : Option CollectionWords) → Fits epoch heap o → BelongsIfOpen heap o
+it_belongs epoch heap o fits = grind (arith, common_steps)
 
 pub still_belongs : (heap new : HeapWords) (o : Option CollectionWords) (m : ℕ) (op : Op) (reply : Reply) → IsHeap heap → ¬ WritesField op → Performs heap m op reply new → BelongsIfOpen heap o → BelongsIfOpen new o
 still_belongs heap new None m op reply is none performs belongs = tt
@@ -38,40 +38,40 @@ pub performed : (heap new : HeapWords) (o : Option CollectionWords) (m : ℕ) (o
 performed heap new None m op reply is none performs belongs = idle_left heap new m op reply is performs
 performed heap new (Some c) m op reply is none performs belongs = (open_left heap new c m op reply is belongs none performs).0
 
-pub mutated : (marked : Bool) (heap new : HeapWords) (o : Option CollectionWords) (m : ℕ) (op : Op) (reply : Reply) → IsHeap heap → ¬ WritesField op → Performs heap m op reply new → Fits marked heap o
+pub mutated : (epoch : ℕ) (heap new : HeapWords) (o : Option CollectionWords) (m : ℕ) (op : Op) (reply : Reply) → IsHeap heap → ¬ WritesField op → Performs heap m op reply new → Fits epoch heap o
     → mutate (state_of heap (option_map collection_in o)) m op ≡ (reply, state_of new (option_map collection_in o))
-mutated marked heap new o m op reply is none performs fits = performed heap new o m op reply is none performs (it_belongs marked heap o fits)
+mutated epoch heap new o m op reply is none performs fits = performed heap new o m op reply is none performs (it_belongs epoch heap o fits)
 
 -- afterwards nothing is known of the slots
-pub fits_after : (marked : Bool) (known : KnownRoots) (heap new : HeapWords) (o : Option CollectionWords) (m : ℕ) (op : Op) (reply : Reply) → IsHeap heap → ¬ WritesField op → Performs heap m op reply new → WritesBelow (roots_of heap.mutators) m op → Fits marked heap o
-    → KnowsRoots known (state_of heap (option_map collection_in o)) → Fits marked new o × KnowsRoots (record { slots = 0; extra = known.extra; used = known.used; count = known.count }) (state_of new (option_map collection_in o))
-fits_after marked known heap new o m op reply is none performs below fits k = (
-  still_fits marked heap new o m op reply is none performs fits,
-  subst (KnowsRoots (record { slots = 0; extra = known.extra; used = known.used; count = known.count })) (ap (λ (x : Reply × State). x.1) (mutated marked heap new o m op reply is none performs fits))
+pub fits_after : (epoch : ℕ) (known : KnownRoots) (heap new : HeapWords) (o : Option CollectionWords) (m : ℕ) (op : Op) (reply : Reply) → IsHeap heap → ¬ WritesField op → Performs heap m op reply new → WritesBelow (roots_of heap.mutators) m op → Fits epoch heap o
+    → KnowsRoots known (state_of heap (option_map collection_in o)) → Fits epoch new o × KnowsRoots (record { slots = 0; extra = known.extra; used = known.used; count = known.count }) (state_of new (option_map collection_in o))
+fits_after epoch known heap new o m op reply is none performs below fits k = (
+  still_fits epoch heap new o m op reply is none performs fits,
+  subst (KnowsRoots (record { slots = 0; extra = known.extra; used = known.used; count = known.count })) (ap (λ (x : Reply × State). x.1) (mutated epoch heap new o m op reply is none performs fits))
       (slot_command known (state_of heap (option_map collection_in o)) m op below k),
 )
 
 -- a slot that is set to nil or a number needs no replica, so the marks stay
-pub fits_plain : (marked : Bool) (known : KnownRoots) (heap new : HeapWords) (o : Option CollectionWords) (m : ℕ) (op : Op) (reply : Reply) → IsHeap heap → ¬ WritesField op → Performs heap m op reply new → SetsPlain op → WritesBelow (roots_of heap.mutators) m op → Fits marked heap o
-    → KnowsRoots known (state_of heap (option_map collection_in o)) → Fits marked new o × KnowsRoots known (state_of new (option_map collection_in o))
-fits_plain marked known heap new o m op reply is none performs plain below fits k = (
-  still_fits marked heap new o m op reply is none performs fits,
-  subst (KnowsRoots known) (ap (λ (x : Reply × State). x.1) (mutated marked heap new o m op reply is none performs fits))
+pub fits_plain : (epoch : ℕ) (known : KnownRoots) (heap new : HeapWords) (o : Option CollectionWords) (m : ℕ) (op : Op) (reply : Reply) → IsHeap heap → ¬ WritesField op → Performs heap m op reply new → SetsPlain op → WritesBelow (roots_of heap.mutators) m op → Fits epoch heap o
+    → KnowsRoots known (state_of heap (option_map collection_in o)) → Fits epoch new o × KnowsRoots known (state_of new (option_map collection_in o))
+fits_plain epoch known heap new o m op reply is none performs plain below fits k = (
+  still_fits epoch heap new o m op reply is none performs fits,
+  subst (KnowsRoots known) (ap (λ (x : Reply × State). x.1) (mutated epoch heap new o m op reply is none performs fits))
       (plain_command known (state_of heap (option_map collection_in o)) m op plain below k),
 )
 
 -- afterwards the marks are those for an extra root that was written
-pub fits_stored : (marked : Bool) (known : KnownRoots) (heap new : HeapWords) (o : Option CollectionWords) (m i : ℕ) (op : Op) (reply : Reply) → IsHeap heap → ¬ WritesField op → Performs heap m op reply new → root_written m op ≡ Some (roots_of heap.mutators + i)
-    → roots_of heap.mutators + i < length (graph_in heap).roots → Fits marked heap o
-    → KnowsRoots known (state_of heap (option_map collection_in o)) → Fits marked new o × KnowsRoots (record { slots = known.slots; extra = min known.extra i; used = max known.used (i + 1); count = known.count }) (state_of new (option_map collection_in o))
-fits_stored marked known heap new o m i op reply is none performs at within fits k = (
-  still_fits marked heap new o m op reply is none performs fits,
-  subst (KnowsRoots (record { slots = known.slots; extra = min known.extra i; used = max known.used (i + 1); count = known.count })) (ap (λ (x : Reply × State). x.1) (mutated marked heap new o m op reply is none performs fits))
+pub fits_stored : (epoch : ℕ) (known : KnownRoots) (heap new : HeapWords) (o : Option CollectionWords) (m i : ℕ) (op : Op) (reply : Reply) → IsHeap heap → ¬ WritesField op → Performs heap m op reply new → root_written m op ≡ Some (roots_of heap.mutators + i)
+    → roots_of heap.mutators + i < length (graph_in heap).roots → Fits epoch heap o
+    → KnowsRoots known (state_of heap (option_map collection_in o)) → Fits epoch new o × KnowsRoots (record { slots = known.slots; extra = min known.extra i; used = max known.used (i + 1); count = known.count }) (state_of new (option_map collection_in o))
+fits_stored epoch known heap new o m i op reply is none performs at within fits k = (
+  still_fits epoch heap new o m op reply is none performs fits,
+  subst (KnowsRoots (record { slots = known.slots; extra = min known.extra i; used = max known.used (i + 1); count = known.count })) (ap (λ (x : Reply × State). x.1) (mutated epoch heap new o m op reply is none performs fits))
       (stored_command known (state_of heap (option_map collection_in o)) m i op at within k),
 )
 
 -- while no collection is open, every command changes only the heap
-pub idle_mutated : (marked : Bool) (heap new : HeapWords) (o : Option CollectionWords) (m : ℕ) (op : Op) (reply : Reply) → IsHeap heap → ((c : CollectionWords) → o ≡ Some c → ⊥) → Performs heap m op reply new → Fits marked heap o
-    → (mutate (state_of heap (option_map collection_in o)) m op ≡ (reply, state_of new (option_map collection_in o))) × Fits marked new o
-idle_mutated marked heap new None m op reply is none performs fits = (idle_left heap new m op reply is performs, still_unlinked marked heap new m op reply performs fits)
-idle_mutated marked heap new (Some c) m op reply is none performs fits = absurd (none c refl)
+pub idle_mutated : (epoch : ℕ) (heap new : HeapWords) (o : Option CollectionWords) (m : ℕ) (op : Op) (reply : Reply) → IsHeap heap → ((c : CollectionWords) → o ≡ Some c → ⊥) → Performs heap m op reply new → Fits epoch heap o
+    → (mutate (state_of heap (option_map collection_in o)) m op ≡ (reply, state_of new (option_map collection_in o))) × Fits epoch new o
+idle_mutated epoch heap new None m op reply is none performs fits = (idle_left heap new m op reply is performs, still_unlinked epoch heap new m op reply performs fits)
+idle_mutated epoch heap new (Some c) m op reply is none performs fits = absurd (none c refl)

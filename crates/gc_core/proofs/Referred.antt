@@ -1,6 +1,6 @@
 -- A root that takes a reference: the collection still belongs to the heap, and what is known of extra roots is still true.
 use Rattle.std.proofs.lemmas.Grind.{common_steps}
-use Rattle.std.proofs.Common.{◌≡◌, ◌≢◌, ℕ, zero, suc, ◌+◌, ◌-◌, ◌<◌, Bool, true, List, [], ◌∷◌, length, is_some, Option, refl, sym, ◌∙◌, ap, subst, arith}
+use Rattle.std.proofs.Common.{◌≡◌, ◌≢◌, ℕ, zero, suc, ◌+◌, ◌-◌, ◌<◌, true, List, [], ◌∷◌, length, is_some, Option, refl, sym, ◌∙◌, ap, subst, arith}
 use Rattle.std.specs.Prelude.{IfSome, slice_get, slice_set}
 use Rattle.std.specs.Option.{option_map}
 use Rattle.std.proofs.lemmas.Bool.{cond-true}
@@ -37,8 +37,8 @@ module _ (h new : HeapWords) (p a : ℕ) (space : new.space ≡ h.space) (graph 
     collection = o;
   }
 
-  pub still_fits : (marked : Bool) (o : Option CollectionWords) → Fits marked h o → Fits marked new o
-  still_fits marked o fits = grind (arith, common_steps)
+  pub still_fits : (epoch : ℕ) (o : Option CollectionWords) → Fits epoch h o → Fits epoch new o
+  still_fits epoch o fits = grind (arith, common_steps)
 
 -- ---- the marks
 

@@ -1,6 +1,6 @@
 -- What is shown of the mutators' space: an image whose links lead to the replicas, and words with the exact links.
 use Rattle.std.proofs.lemmas.Grind.{common_steps}
-use Rattle.std.proofs.Common.{◌≡◌, ◌-◌, Bool, ℕ, Option, Some, None, length, ◌∙◌, subst, arith}
+use Rattle.std.proofs.Common.{◌≡◌, ◌-◌, ℕ, Option, Some, None, length, ◌∙◌, subst, arith}
 use Rattle.std.specs.Option.{option_map}
 use Rattle.gc_words.specs.Image.{Image, blocks}
 use Rattle.gc_words.specs.Spelling.{link_at, spelled}
@@ -24,13 +24,13 @@ pub shown_open : (heap : HeapWords) (c : CollectionWords) (s : State) (image : I
 shown_open heap c s image seen is all leads = subst (λ s. ShowsHeap s image) seen (link_at heap.space.words, leads, is ∙ all)
 
 -- lowered links are the exact ones
-pub idle_words : (marked : Bool) (heap : HeapWords) → IsHeap heap → LinksNothing marked heap
-    → spelled (λ a. link_at heap.space.words a - mark_of marked) (blocks heap.space.words) ≡ (heap_image (state_of heap None)).words
-idle_words marked heap is none = lowered_words heap (links_of None) (mark_of marked) is none
+pub idle_words : (epoch : ℕ) (heap : HeapWords) → IsHeap heap → LinksNothing epoch heap
+    → spelled (λ a. link_at heap.space.words a - mark_of epoch) (blocks heap.space.words) ≡ (heap_image (state_of heap None)).words
+idle_words epoch heap is none = lowered_words heap (links_of None) (mark_of epoch) is none
 
 pub open_words : (heap : HeapWords) (c : CollectionWords) → IsHeap heap → BelongsTo heap c
-    → spelled (λ a. link_at heap.space.words a - mark_of c.marked) (blocks heap.space.words) ≡ (heap_image (state_of heap (Some (collection_in c)))).words
-open_words heap c is belongs = lowered_words heap (old_links (collection_in c)) (mark_of c.marked) is belongs.links
+    → spelled (λ a. link_at heap.space.words a - mark_of c.epoch) (blocks heap.space.words) ≡ (heap_image (state_of heap (Some (collection_in c)))).words
+open_words heap c is belongs = lowered_words heap (old_links (collection_in c)) (mark_of c.epoch) is belongs.links
 
 -- the outline of an image does not depend on links
 pub same_outline : (heap : HeapWords) → IsHeap heap → (links : ℕ → ℕ) → image_of heap ≡ linked_image (link_at heap.space.words) heap.space.size (graph_in heap) → outline_of (image_of heap) ≡ outline_of (linked_image links heap.space.size (graph_in heap))

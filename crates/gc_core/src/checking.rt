@@ -71,7 +71,7 @@ fn found_by<C: Checks>(
     requires can { C.can_check checker.now }
     requires belongs { BelongsTo heap.now collection.now }
     requires ready { IsTrue (is_ready (collection_in collection.now) (graph_in heap.now)) }
-    requires unmarked { IsFalse collection.now.marked }
+    requires unmarked { collection.now.epoch ≡ 0 }
     requires draft { IsDraft heap.now collection.now draft.now }
     requires few { length draft.now.pairs.items < 2 ^ 32 }
     ensures holds { IfOk result (λ found. found ≡ Finding.Holds (length (collection_in collection.now).replicas)) }

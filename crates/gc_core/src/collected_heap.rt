@@ -17,8 +17,8 @@ pub struct CollectedHeap {
     pub(crate) heap: Heap,
     pub(crate) collection: Option<Collection>,
     pub(crate) known: KnownRoots,
-    /// Whether objects may have links of an earlier collection, so that those of the next one are marked.
-    pub(crate) marked: bool,
+    /// The epoch of the next collection's links. No object has a link above its mark.
+    pub(crate) epoch: u32,
     /// A row with room for all moved roots, so that a flip need not ask for one.
     pub(crate) roots: Vec<u64>,
 }
@@ -35,7 +35,7 @@ impl Model for CollectedHeap {
 
     ghost view = { λ h. state_of h.heap (option_map collection_in h.collection) };
 
-    ghost invariant = { λ h. Fits h.marked h.heap h.collection × KnowsRoots h.known (state_of h.heap (option_map collection_in h.collection))
+    ghost invariant = { λ h. Fits h.epoch h.heap h.collection × KnowsRoots h.known (state_of h.heap (option_map collection_in h.collection))
         × (h.known.count ≤ vec_capacity h.roots) };
 }
 
@@ -72,7 +72,7 @@ impl CollectedHeap {
             heap,
             collection: None,
             known: KnownRoots::new(count),
-            marked: false,
+            epoch: 0,
             roots,
         })
     }

@@ -1,6 +1,6 @@
 //! Copies fields from one object to another.
 
-ghost use Rattle.std.specs.Prelude.{Bool, ◌≡◌, ◌≢◌, ◌<◌, ◌≤◌, ◌+◌, ◌||◌, not, length, IfOk, IfSome, OnErr, IsSome};
+ghost use Rattle.std.specs.Prelude.{ℕ, ◌≡◌, ◌≢◌, ◌<◌, ◌≤◌, ◌+◌, ◌||◌, not, length, IfOk, IfSome, OnErr, IsSome};
 ghost use Rattle.std.specs.List.{list_all};
 ghost use Rattle.std.specs.Option.{option_map};
 ghost use Rattle.gc_graph.specs.Slots.{place};
@@ -124,7 +124,7 @@ fn copy_reply(heap: &Heap, m: u8, d: Slot, to: u16, s: Slot, from: u16, count: u
 fn copy_field(heap: &mut Heap, m: u8, d: Slot, i: u16, s: Slot, j: u16, t: Slot)
     requires mutator { m < heap.old.mutators }
     ensures step { (mutate (mutate (idle_state heap.old) m (Op.Get t s j)).1 m (Op.Put d i t)).1 ≡ idle_state heap.new }
-    ensures links { (marked : Bool) → LinksNothing marked heap.old → LinksNothing marked heap.new }
+    ensures links { (epoch : ℕ) → LinksNothing epoch heap.old → LinksNothing epoch heap.new }
     ensures mutators { heap.new.mutators ≡ heap.old.mutators }
 {
     commands_leave_collections();
@@ -141,7 +141,7 @@ fn copy(heap: &mut Heap, m: u8, d: Slot, to: u16, s: Slot, from: u16, t: Slot, c
     requires target { to + count ≤ 65535 }
     requires source { from + count ≤ 65535 }
     ensures step { copy_step (idle_state heap.old) m d to s from t count ≡ idle_state heap.new }
-    ensures links { (marked : Bool) → LinksNothing marked heap.old → LinksNothing marked heap.new }
+    ensures links { (epoch : ℕ) → LinksNothing epoch heap.old → LinksNothing epoch heap.new }
     ensures mutators { heap.new.mutators ≡ heap.old.mutators }
 {
     for k in 0..count {

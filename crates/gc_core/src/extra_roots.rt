@@ -1,6 +1,6 @@
 //! Commands on extra roots.
 
-ghost use Rattle.std.specs.Prelude.{◌≡◌, ◌<◌, ◌≤◌, ◌-◌, Bool, IfSome};
+ghost use Rattle.std.specs.Prelude.{◌≡◌, ◌<◌, ◌≤◌, ◌-◌, ℕ, IfSome};
 ghost use Rattle.std.specs.Option.{option_map};
 ghost use Rattle.gc_graph.specs.declared.command.Op.{Op};
 ghost use Rattle.gc_graph.specs.declared.reply.Reply.{Reply};
@@ -72,7 +72,7 @@ fn clear_each(heap: &mut Heap, collection: &Option<Collection>, from: u32, to: u
     requires within { to ≤ extra_roots_in heap.old }
     ensures step { clear_step (state_of heap.old (option_map collection_in collection.now)) from (to - from)
         ≡ state_of heap.new (option_map collection_in collection.now) }
-    ensures fits { (marked : Bool) → Fits marked heap.old collection.now → Fits marked heap.new collection.now }
+    ensures fits { (epoch : ℕ) → Fits epoch heap.old collection.now → Fits epoch heap.new collection.now }
     ensures mutators { heap.new.mutators ≡ heap.old.mutators }
 {
     for k in from..to {

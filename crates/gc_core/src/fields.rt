@@ -1,6 +1,6 @@
 //! Fills the fields of a new object from slots.
 
-ghost use Rattle.std.specs.Prelude.{Bool, ◌≡◌, ◌<◌, ◌≤◌, List, length, get_or};
+ghost use Rattle.std.specs.Prelude.{ℕ, ◌≡◌, ◌<◌, ◌≤◌, List, length, get_or};
 ghost use Rattle.gc_graph.specs.Slots.{SlotName, place};
 ghost use Rattle.gc_heap.specs.Filling.{TakesFields};
 ghost use Rattle.gc_copy.specs.Words.{idle_state, open_state, LinksNothing, BelongsTo, spare_of};
@@ -36,7 +36,7 @@ pub(crate) fn fill<R: SlotRow>(heap: &mut Heap, m: u8, d: Slot, object: OldAddr,
     requires row { R.is_row fields.now }
     requires takes { TakesFields heap.old (place d m) object.0 (length (R.slots fields.now)) }
     ensures step { fill_step (idle_state heap.old) m d 0 (R.slots fields.now) ≡ idle_state heap.new }
-    ensures links { (marked : Bool) → LinksNothing marked heap.old → LinksNothing marked heap.new }
+    ensures links { (epoch : ℕ) → LinksNothing epoch heap.old → LinksNothing epoch heap.new }
     ensures mutators { heap.new.mutators ≡ heap.old.mutators }
 {
     for i in 0..fields.count() {

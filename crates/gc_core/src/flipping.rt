@@ -115,7 +115,7 @@ impl CollectedHeap {
         }
         let collection = self.collection.take().unwrap();
         let (room, pairs) = collection.flip_marked(&mut self.heap, &self.roots);
-        self.marked = true;
+        self.epoch = 1;
         Ok(flipped(pairs, room, false))
     }
 
@@ -161,7 +161,7 @@ impl CollectedHeap {
         collection.move_roots(&self.heap, in_use, &mut self.roots);
         let collection = self.collection.take().unwrap();
         let (room, pairs) = collection.flip_marked(&mut self.heap, &self.roots);
-        self.marked = true;
+        self.epoch = 1;
         flipped(pairs, room, true)
     }
 }
@@ -226,7 +226,7 @@ fn accepts<C: Checks>(
     requires can { C.can_check checker.now }
     requires belongs { BelongsTo heap.now collection.now }
     requires ready { IsTrue (is_ready (collection_in collection.now) (graph_in heap.now)) }
-    requires unmarked { IsFalse collection.now.marked }
+    requires unmarked { collection.now.epoch ≡ 0 }
     requires draft { IsDraft heap.now collection.now draft.now }
     requires few { length draft.now.pairs.items < 2 ^ 32 }
     ensures yes { IfOk result (λ yes. IsTrue yes) }
@@ -251,7 +251,7 @@ fn accepts<C: Checks>(
 fn carry_out(heap: &mut Heap, collection: Collection, draft: Draft, copies: Option<Copies>) -> Flip
     requires belongs { BelongsTo heap.old collection }
     requires ready { IsTrue (is_ready (collection_in collection) (graph_in heap.old)) }
-    requires unmarked { IsFalse collection.marked }
+    requires unmarked { collection.epoch ≡ 0 }
     requires draft { IsDraft heap.old collection draft }
     requires copies { IfSome copies (AreCopies collection draft.roots.items) }
     requires few { length draft.pairs.items < 2 ^ 32 }

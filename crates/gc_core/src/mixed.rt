@@ -1,6 +1,6 @@
 //! Makes objects whose fields take numbers and the values of slots.
 
-ghost use Rattle.std.specs.Prelude.{Bool, ◌≡◌, ◌≢◌, ◌<◌, ◌≤◌, ◌+◌, List, length, get_or, IfOk, OnErr, IsSome};
+ghost use Rattle.std.specs.Prelude.{ℕ, ◌≡◌, ◌≢◌, ◌<◌, ◌≤◌, ◌+◌, List, length, get_or, IfOk, OnErr, IsSome};
 ghost use Rattle.gc_graph.specs.Slots.{place};
 ghost use Rattle.gc_copy.specs.Words.{idle_state, open_state, LinksNothing, BelongsTo, spare_of};
 ghost use Rattle.gc_core.specs.Mixed.{source_step, sources_step, new_with_step};
@@ -93,7 +93,7 @@ impl CollectedHeap {
 fn fill_one(heap: &mut Heap, m: u8, d: Slot, t: Slot, i: u16, source: FieldSource)
     requires mutator { m < heap.old.mutators }
     ensures step { source_step (idle_state heap.old) m d t i source ≡ idle_state heap.new }
-    ensures links { (marked : Bool) → LinksNothing marked heap.old → LinksNothing marked heap.new }
+    ensures links { (epoch : ℕ) → LinksNothing epoch heap.old → LinksNothing epoch heap.new }
     ensures mutators { heap.new.mutators ≡ heap.old.mutators }
 {
     commands_leave_collections();
@@ -116,7 +116,7 @@ fn fill<R: SourceRow>(heap: &mut Heap, m: u8, d: Slot, t: Slot, fields: &R)
     requires mutator { m < heap.old.mutators }
     requires row { R.is_row fields.now }
     ensures step { sources_step (idle_state heap.old) m d t 0 (R.sources fields.now) ≡ idle_state heap.new }
-    ensures links { (marked : Bool) → LinksNothing marked heap.old → LinksNothing marked heap.new }
+    ensures links { (epoch : ℕ) → LinksNothing epoch heap.old → LinksNothing epoch heap.new }
     ensures mutators { heap.new.mutators ≡ heap.old.mutators }
 {
     for i in 0..fields.count() {

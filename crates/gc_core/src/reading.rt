@@ -127,8 +127,8 @@ impl CollectedHeap {
         let _ = self.heap.space();
         words.copy_from_slice(self.heap.image().words);
         match &self.collection {
-            None => lower_links(words, link_mark(self.marked)),
-            Some(collection) => lower_links(words, link_mark(collection.is_marked())),
+            None => lower_links(words, link_mark(self.epoch)),
+            Some(collection) => lower_links(words, link_mark(collection.epoch())),
         }
     }
 

@@ -80,7 +80,7 @@ impl CollectedHeap {
         }
         let room = room_for(self.alloc, &self.heap, size, left)?;
         *left = None;
-        self.collection = Some(Collection::begin_in(room, &self.heap, self.marked));
+        self.collection = Some(Collection::begin_in(room, &self.heap, self.epoch));
         self.known.slots = 0;
         self.known.extra = 0;
         Ok(StepReply::Begun)
@@ -156,9 +156,29 @@ impl CollectedHeap {
         let Some(collection) = self.collection.take() else {
             return StepReply::Idle;
         };
-        self.marked = collection.is_marked();
+        self.epoch = collection.epoch();
         collection.drop_into(&mut self.heap);
         StepReply::Dropped
+    }
+
+    /// Gives the open collection up as `give_up` does, but clears no link, and returns the memory as room for the next collection. Links
+    /// are above no mark in the next epoch. The time depends on the number of mutators and of log entries alone, but for one call in 2^32.
+    pub fn abandon(&mut self) -> (StepReply, Option<Room>)
+        ensures step { collect self.old Step.Drop ≡ (result.0, self.new) }
+        ensures mutators { self.new.mutators ≡ self.old.mutators }
+    {
+        let Some(collection) = self.collection.take() else {
+            return (StepReply::Idle, None);
+        };
+        let epoch = collection.epoch();
+        if epoch == u32::MAX {
+            self.epoch = epoch;
+            collection.drop_into(&mut self.heap);
+            return (StepReply::Dropped, None);
+        }
+        let (room, next) = collection.abandon(&self.heap);
+        self.epoch = next;
+        (StepReply::Dropped, Some(room))
     }
 
     /// Returns the useful step: the one that advances the collection, or opens one.

@@ -125,11 +125,45 @@ pub(crate) fn begin_in_room(
         }
         return Ok(reply);
     }
-    let reply = heap.begin_in(size, &mut None)?;
+    let reply = begin_anew(heap, size, spare)?;
     if let StepReply::Begun = reply {
         leave(left, spare, leaving);
     }
     Ok(reply)
+}
+
+// Opens a collection in new room. If memory is refused, frees the spare room and asks once more.
+fn begin_anew(
+    heap: &mut CollectedHeap,
+    size: u32,
+    spare: &mut Option<Room>,
+) -> Result<StepReply, NoMemory>
+    requires { 1 ≤ size }
+    ensures step { IfOk result (λ reply. collect heap.old (Step.BeginSized size) ≡ (reply, heap.new)) }
+    ensures reply { IfOk result (λ reply. (reply ≡ StepReply.Begun) ⊎ (reply ≡ StepReply.Busy)) }
+    ensures refused { OnErr result (heap.new ≡ heap.old) }
+    ensures allocates { OnErr result (Allocates heap.old (Step.BeginSized size)) }
+    ensures mutators { heap.new.mutators ≡ heap.old.mutators }
+{
+    match heap.begin_in(size, &mut None) {
+        Err(NoMemory) if spare.is_some() => {
+            *spare = None;
+            heap.begin_in(size, &mut None)
+        }
+        answer => answer,
+    }
+}
+
+/// Keeps the room of a collection that was given up as the spare room, or has it leave if there is a spare room already.
+pub(crate) fn keep_room(room: Option<Room>, spare: &mut Option<Room>, leaving: &mut Option<Room>) {
+    if room.is_none() {
+        return;
+    }
+    if spare.is_none() {
+        *spare = room;
+    } else {
+        *leaving = room;
+    }
 }
 
 // Has the room leave that a begin did not take: what is left of the last flip's old space, or else the spare room.

@@ -3,7 +3,7 @@
 ghost use Rattle.std.specs.Prelude.{◌≡◌};
 
 use crate::live_heap::LiveHeap;
-use crate::rooms::begin_in_room;
+use crate::rooms::{begin_in_room, keep_room};
 use gc_copy::{Room, Step, StepReply};
 use gc_graph::NoMemory;
 
@@ -121,14 +121,15 @@ impl LiveHeap {
         reply
     }
 
-    /// Frees the new space and the logs of the open collection. Returns `Dropped`, or `Idle` if none is open. Does not
-    /// allocate.
+    /// Gives the open collection up. Its new space is left for the next one, and the entries of its logs are freed. Returns `Dropped`, or `Idle`
+    /// if none is open. Does not allocate. The time does not depend on how far the collection has come.
     pub fn give_up(&mut self) -> StepReply
         ensures step { collect self.old Step.Drop ≡ (result, self.new) }
         ensures mutators { self.new.mutators ≡ self.old.mutators }
     {
         self.inner.is_sound();
-        let reply = self.inner.give_up();
+        let (reply, room) = self.inner.abandon();
+        keep_room(room, &mut self.spare, &mut self.leaving);
         self.watch.dropped();
         reply
     }

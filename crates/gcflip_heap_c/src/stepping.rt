@@ -162,7 +162,7 @@ pub extern "C" fn gcflip_heap_step_flip(heap: &mut GcflipHeap, pairs: &mut u32) 
     }
 }
 
-/// Frees the new space and the logs of the open collection.
+/// Gives the open collection up. Keeps its new space for the next one, and frees the entries of its logs.
 #[unsafe(no_mangle)]
 pub extern "C" fn gcflip_heap_step_give_up(heap: &mut GcflipHeap) -> u32
     ensures call { IsStepCall Step.Drop (λ reply. result ≡ step_reply_in_c reply) heap.old.state heap.new.state result }

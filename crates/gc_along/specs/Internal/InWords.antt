@@ -1,5 +1,5 @@
 -- How the rows of a standing checker stand in words.
-use Rattle.std.specs.Prelude.{◌≡◌, ℕ, ◌+◌, ◌*◌, ◌/◌, ◌%◌, ◌^◌, ◌≤◌, ◌==◌, if◌then◌else◌, Bool, false, min, List, length, map, slice_index}
+use Rattle.std.specs.Prelude.{◌≡◌, ℕ, ◌+◌, ◌*◌, ◌/◌, ◌%◌, ◌^◌, ◌≤◌, ◌==◌, if◌then◌else◌, Bool, false, min, suc, List, [], ◌∷◌, length, map, slice_index, slice_index_or}
 use Rattle.std.specs.Int.{bit_at}
 use Rattle.std.specs.List.{range_with_len}
 
@@ -31,6 +31,19 @@ pub record HasCodes (words : List ℕ) (len : ℕ) : Type 0 where
   pub count : (len + 31) / 32 ≤ length words
   pub few : length words ≤ 134217728
   pub rest : (place : ℕ) → len ≤ place → code_at words place ≡ 0
+
+-- the code once its collection is given up: a taken start is a start again
+abbrev pub freed : ℕ → ℕ
+freed code = if code == 2 then 1 else code
+
+-- the code of a place, if its block of 256 places counts in this epoch; else it is freed
+abbrev pub code_now : List ℕ → ℕ → ℕ → ℕ → ℕ
+code_now epochs epoch place code = if slice_index_or epochs (place / 256) 0 == epoch then code else freed code
+
+-- the same for the codes from a place on
+unfoldable pub codes_now : List ℕ → ℕ → ℕ → List ℕ → List ℕ
+codes_now epochs epoch place [] = []
+codes_now epochs epoch place (code ∷ codes) = code_now epochs epoch place code ∷ codes_now epochs epoch (suc place) codes
 
 -- ---- originals, of four bytes for two places
 

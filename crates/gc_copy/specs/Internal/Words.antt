@@ -29,7 +29,7 @@ pub record KeepsRest (old new : CollectionWords) : Type 0 where
   pub logs : new.logs ≡ old.logs
   pub scan_place : new.scan_place ≡ old.scan_place
   pub scan_field : new.scan_field ≡ old.scan_field
-  pub marked : new.marked ≡ old.marked
+  pub epoch : new.epoch ≡ old.epoch
 
 -- a space, and at most 255 empty logs
 pub record IsRoom (space : SpaceWords) (each : List Log) : Type 0 where

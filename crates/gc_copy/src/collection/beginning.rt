@@ -29,16 +29,16 @@ impl Collection {
         ensures belongs { IfOk result (BelongsTo heap.now) }
     {
         let room = Room::new(alloc, size, heap.mutators())?;
-        Ok(Collection::begin_in(room, heap, false))
+        Ok(Collection::begin_in(room, heap, 0))
     }
 
-    /// Opens a collection of this heap in this room, of which it keeps no word. Its links are marked or not. Does not allocate.
-    pub fn begin_in(room: Room, heap: &Heap, marked: bool) -> Collection
-        requires links { LinksNothing marked heap.now }
+    /// Opens a collection of this heap in this room, of which it keeps no word. Its links are of this epoch. Does not allocate.
+    pub fn begin_in(room: Room, heap: &Heap, epoch: u32) -> Collection
+        requires links { LinksNothing epoch heap.now }
         requires mutators { room.mutators ≡ heap.now.mutators }
         ensures step { collect (idle_state heap.now) (Step.BeginSized room.size) ≡ (StepReply.Begun, open_state heap.now result) }
         ensures belongs { BelongsTo heap.now result }
-        ensures marked { result.marked ≡ marked }
+        ensures epoch { result.epoch ≡ epoch }
     {
         let Room { space, logs, .. } = room;
         Collection {
@@ -46,7 +46,7 @@ impl Collection {
             logs,
             scan_place: Addr(1),
             scan_field: 0,
-            marked,
+            epoch,
             replicas: 0,
         }
     }

@@ -37,7 +37,7 @@ impl Collection {
         let place = heap
             .space()
             .link(Addr(original.0))
-            .saturating_sub(link_mark(self.marked));
+            .saturating_sub(link_mark(self.epoch));
         if place == 0 {
             None
         } else {
@@ -81,7 +81,7 @@ impl Collection {
         let replica = place_fresh(&mut self.space, heap, original);
         self.space.set_link(replica, u64::from(original.0));
         self.replicas += 1;
-        heap.set_link_word(original, link_mark(self.marked) + u64::from(replica.0));
+        heap.set_link_word(original, link_mark(self.epoch) + u64::from(replica.0));
         Ok(())
     }
 
@@ -197,12 +197,12 @@ impl Collection {
     }
 }
 
-/// Returns what the links of originals have in addition to the places of their replicas.
+/// Returns what the links of originals have in this epoch in addition to the places of their replicas.
 #[inline(always)]
-pub fn link_mark(marked: bool) -> u64
-    ensures { result ≡ mark_of marked }
+pub fn link_mark(epoch: u32) -> u64
+    ensures { result ≡ mark_of epoch }
 {
-    if marked { 1 << 32 } else { 0 }
+    u64::from(epoch) * (1 << 32)
 }
 
 /// Places a fresh replica in the new space, and returns its address.

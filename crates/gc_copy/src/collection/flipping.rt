@@ -1,4 +1,4 @@
-ghost use Rattle.std.specs.Prelude.{◌≡◌, ◌-◌, ◌<◌, ◌^◌, ℕ, IfOk, IsTrue, IsFalse, true, false, map, length};
+ghost use Rattle.std.specs.Prelude.{◌≡◌, ◌-◌, ◌+◌, ◌<◌, ◌≤◌, ◌^◌, ℕ, IfOk, IsTrue, IsFalse, true, false, [], map, replicate, length};
 ghost use Rattle.gc_words.specs.Image.{is_start};
 ghost use Rattle.gc_words.specs.Spelling.{link_at};
 ghost use Rattle.gc_words.specs.Space.{image_with, without_links};
@@ -6,7 +6,7 @@ ghost use Rattle.gc_words.specs.Views.{image_of as image_in, addresses};
 ghost use Rattle.gc_heap.specs.Heap.{IsHeap, graph_in};
 ghost use Rattle.gc_plan.specs.State.{pairs_of};
 ghost use Rattle.gc_plan.specs.Steps.{collect, is_ready};
-ghost use Rattle.gc_copy.specs.Words.{IsCollection, AreMoved, collection_in, idle_state, open_state, BelongsTo, HasNoLinks, LinksNothing, TellsMoves, new_root_words};
+ghost use Rattle.gc_copy.specs.Words.{IsCollection, AreMoved, collection_in, idle_state, open_state, BelongsTo, HasNoLinks, LinksNothing, TellsMoves, entries_of, new_root_words};
 ghost use Rattle.gc_copy.specs.Internal.Words.{KeepsGraph};
 ghost use Rattle.gc_plan.specs.declared.step.Step.{Step};
 ghost use Rattle.gc_plan.specs.declared.step.StepReply.{StepReply};
@@ -14,6 +14,7 @@ ghost use Rattle.gc_plan.specs.declared.step.StepReply.{StepReply};
 use super::Collection;
 use super::copying::link_mark;
 use super::room::Room;
+use crate::log::MutationLog;
 use crate::pairs::linked_pairs;
 use gc_graph::NoMemory;
 use gc_heap::Heap;
@@ -66,7 +67,7 @@ impl Collection {
     }
 
     /// Switches the mutators to the new space, and writes these roots, which `move_roots` wrote, over the first roots of the heap. Clears no
-    /// link: the new space keeps those of the replicas, which lead nowhere in a collection whose links are marked. Returns the room of this
+    /// link: the new space keeps those of the replicas, which lead nowhere from epoch 1 on. Returns the room of this
     /// collection's heap for the next one, and the number of pairs. The room tells where each object went. The time depends on the number of
     /// these roots alone.
     pub fn flip_marked(self, heap: &mut Heap, roots: &[u64]) -> (Room, u32)
@@ -76,7 +77,7 @@ impl Collection {
         ensures step { collect (open_state heap.old self) Step.Flip
             ≡ (StepReply.Flipped (length (pairs_of (collection_in self))), idle_state heap.new) }
         ensures heap { heap.new ≡ record heap.old { space = self.space; roots = new_root_words heap.old (collection_in self) } }
-        ensures links { LinksNothing true heap.new }
+        ensures links { (epoch : ℕ) → 1 ≤ epoch → LinksNothing epoch heap.new }
         ensures room { (result.0.size ≡ heap.old.space.size) × (result.0.mutators ≡ heap.old.mutators) }
         ensures moves { TellsMoves (graph_in heap.old) (pairs_of (collection_in self)) result.0 }
         ensures count { result.1 ≡ length (pairs_of (collection_in self)) }
@@ -87,37 +88,60 @@ impl Collection {
         let Collection {
             space,
             logs,
-            marked,
+            epoch,
             replicas,
             ..
         } = self;
         let space = heap.replace_first(space, roots);
-        let room = Room {
-            space,
-            logs,
-            marked,
-        };
+        let room = Room { space, logs, epoch };
         (room, replicas)
     }
 
     /// Takes the mark from the links of originals, and clears all other links of the old space, so that its words are those of a collection
-    /// without a mark. Reads each object of the heap once, if the links are marked.
+    /// of epoch 0. Reads each object of the heap once, unless they are.
     pub fn unmark(&mut self, heap: &mut Heap)
         requires belongs { BelongsTo heap.old self.old }
         ensures belongs { BelongsTo heap.new self.new }
         ensures state { open_state heap.new self.new ≡ open_state heap.old self.old }
-        ensures unmarked { self.new ≡ record self.old { marked = false } }
+        ensures unmarked { self.new ≡ record self.old { epoch = 0 } }
         ensures sound { IsHeap heap.new }
     {
         // Here the prover learns that the heap is sound.
         let _ = heap.space();
-        if !self.marked {
+        if self.epoch == 0 {
             return;
         }
-        lower_links(heap, link_mark(self.marked));
-        self.marked = false;
+        lower_links(heap, link_mark(self.epoch));
+        self.epoch = 0;
         // Here the prover learns that it still is.
         let _ = heap.space();
+    }
+
+    /// Ends the collection without a flip, and leaves the links of the old space as they are: in the next epoch none is above the mark. Returns that
+    /// epoch, and the memory of this collection for the next one. The time depends on the number of mutators and of log entries alone.
+    pub fn abandon(self, heap: &Heap) -> (Room, u32)
+        requires belongs { BelongsTo heap.now self }
+        requires epoch { self.epoch < 4294967295 }
+        ensures step { collect (open_state heap.now self) Step.Drop ≡ (StepReply.Dropped, idle_state heap.now) }
+        ensures links { LinksNothing result.1 heap.now }
+        ensures room { (result.0.size ≡ self.space.size) × (result.0.mutators ≡ heap.now.mutators) }
+        ensures epoch { result.1 ≡ self.epoch + 1 }
+    {
+        // Here the prover learns that the heap is sound.
+        let _ = heap.space();
+        let Collection {
+            space,
+            mut logs,
+            epoch,
+            ..
+        } = self;
+        clear_logs(&mut logs);
+        let room = Room {
+            space,
+            logs,
+            epoch: 0,
+        };
+        (room, epoch + 1)
     }
 
     /// Ends the collection without a flip: frees the new space (to-space) and the logs, and clears the old space's
@@ -126,8 +150,8 @@ impl Collection {
     pub fn drop_into(self, heap: &mut Heap)
         requires { BelongsTo heap.old self }
         ensures step { collect (open_state heap.old self) Step.Drop ≡ (StepReply.Dropped, idle_state heap.new) }
-        ensures heap { IsFalse self.marked → heap.new ≡ record heap.old { space = without_links heap.old.space } }
-        ensures links { LinksNothing self.marked heap.new }
+        ensures heap { self.epoch ≡ 0 → heap.new ≡ record heap.old { space = without_links heap.old.space } }
+        ensures links { LinksNothing self.epoch heap.new }
         ensures sound { IsHeap heap.new }
     {
         // Here the prover learns that the heap is sound.
@@ -138,6 +162,15 @@ impl Collection {
             heap.set_link(original, NewAddr(0));
             at = self.space.next_start(at);
         }
+    }
+}
+
+/// Removes all entries of these logs.
+fn clear_logs(logs: &mut [MutationLog])
+    ensures { map entries_of logs.new ≡ replicate (length logs.old) [] }
+{
+    for m in 0..logs.len() {
+        logs[m].clear();
     }
 }
 

@@ -39,11 +39,11 @@ impl Collection {
         self.scan_field
     }
 
-    /// Returns whether the links of originals are marked.
-    pub fn is_marked(&self) -> bool
-        ensures { result ≡ self.now.marked }
+    /// Returns the epoch of this collection's links, which is 0 if they have no mark.
+    pub fn epoch(&self) -> u32
+        ensures { result ≡ self.now.epoch }
     {
-        self.marked
+        self.epoch
     }
 
     /// Returns the number of entries in mutator `m`'s log.

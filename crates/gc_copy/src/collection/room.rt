@@ -16,8 +16,8 @@ use std::marker::Model;
 pub struct Room {
     pub(super) space: Space,
     pub(super) logs: Vec<MutationLog>,
-    // Whether the links of originals have a mark in addition to the places of their replicas.
-    pub(super) marked: bool,
+    // The mark that the links of originals have in addition to the places of their replicas, as a multiple of 2^32.
+    pub(super) epoch: u32,
 }
 
 impl Model for Room {
@@ -27,7 +27,7 @@ impl Model for Room {
 
     ghost Value = { RoomWords };
 
-    ghost view = { λ r. record { size = r.space.size; mutators = length r.logs.items; former = r.space.words; marked = r.marked } };
+    ghost view = { λ r. record { size = r.space.size; mutators = length r.logs.items; former = r.space.words; epoch = r.epoch } };
 
     ghost invariant = { λ r. IsRoom r.space r.logs.items };
 }
@@ -44,7 +44,7 @@ impl Room {
         Ok(Room {
             space,
             logs,
-            marked: false,
+            epoch: 0,
         })
     }
 
@@ -70,7 +70,7 @@ impl Room {
         Some(Room {
             space,
             logs,
-            marked: false,
+            epoch: 0,
         })
     }
 
@@ -96,7 +96,7 @@ impl Room {
         let words = self.space.words();
         let at = original.0 as usize + 1;
         let link = if at < words.len() { words[at] } else { 0 };
-        let place = (link.saturating_sub(link_mark(self.marked)) % link_mark(true)) as u32;
+        let place = (link.saturating_sub(link_mark(self.epoch)) % link_mark(1)) as u32;
         if place == 0 {
             None
         } else {

@@ -389,3 +389,61 @@ fn marks_tell_where_objects_start(rt: HostRuntime) -> Result<(), Fail> {
     }
     Ok(())
 }
+
+/// Returns a space of so many objects without fields. The link of each is its own address.
+fn empty_objects(alloc: Global, count: u64) -> Result<Vec<u64>, Fail> {
+    let mut words = Vec::new(alloc);
+    words.push(0)?;
+    for k in 0..count {
+        words.push(EMPTY)?;
+        words.push(2 * k + 1)?;
+    }
+    Ok(words)
+}
+
+/// Returns the outline of a full space whose root refers to its first object.
+fn full(words: &[u64]) -> Outline<'_> {
+    Outline {
+        size: words.len() as u32,
+        end: words.len() as u32,
+        ..outline(words, &[2])
+    }
+}
+
+#[test]
+fn what_is_given_up_is_placed_again(rt: HostRuntime) -> Result<(), Fail> {
+    let words = empty_objects(rt.alloc(), 300)?;
+    let mut standing = Standing::new(rt.alloc(), 601)?;
+    for _ in 0..300 {
+        standing.made(&words);
+    }
+    for placed in [300, 5, 0, 130, 300, 300] {
+        for _ in 0..placed {
+            standing.placed(&words, &words);
+        }
+        let yes = standing.says_yes(full(&words), full(&words));
+        assert!(rt; yes == (placed == 300));
+        standing.dropped();
+        assert!(rt; standing.starts_at(1));
+    }
+    Ok(())
+}
+
+#[test]
+fn no_original_is_taken_twice_after_a_collection_is_given_up(rt: HostRuntime) -> Result<(), Fail> {
+    let words = empty_objects(rt.alloc(), 2)?;
+    let twice = [0, EMPTY, 1, EMPTY, 1];
+    let mut standing = Standing::new(rt.alloc(), 5)?;
+    standing.made(&words);
+    standing.made(&words);
+    standing.placed(&words, &words);
+    standing.dropped();
+    for new in [&twice[..], &words[..]] {
+        standing.begun(&words);
+        standing.placed(&words, new);
+        standing.placed(&words, new);
+        let yes = standing.says_yes(full(&words), full(new));
+        assert!(rt; yes == (new[4] == 3));
+    }
+    Ok(())
+}

@@ -60,8 +60,8 @@ fn play_and_drop(
     ensures mutators { heap.new.mutators ≡ heap.old.mutators }
 {
     play(rt, &mut collection, heap, rows)?;
-    // `begin` and `begin_sized` leave links unmarked, so dropping the collection clears them all.
-    assert!(rt; !collection.is_marked());
+    // The links of `begin` and `begin_sized` have no mark, so dropping the collection clears them all.
+    assert!(rt; collection.epoch() == 0);
     collection.drop_into(heap);
     Ok(())
 }

@@ -31,7 +31,7 @@ loop-k-preserved c =
           ∙ sym (clear_next before c.loop-k.k (c.loop-k.k + 1) rest (c.args.to - c.loop-k.k) (omega (arith, c.loop-k-test.true)) (omega arith))
           ∙ c.loop-k.invariant.rest;
       belongs = still_belongs heap new o 0 op c.clear-done.result c.space.ensures.sound (λ none. none) c.clear-done.ensures.performs c.loop-k.invariant.belongs;
-      fits = λ marked fits. still_fits marked heap new o 0 op c.clear-done.result c.space.ensures.sound (λ none. none) c.clear-done.ensures.performs (c.loop-k.invariant.fits marked fits);
+      fits = λ epoch fits. still_fits epoch heap new o 0 op c.clear-done.result c.space.ensures.sound (λ none. none) c.clear-done.ensures.performs (c.loop-k.invariant.fits epoch fits);
       extra = omega (arith, count, mutators, c.loop-k.invariant.extra);
       mutators = mutators ∙ c.loop-k.invariant.mutators;
     }

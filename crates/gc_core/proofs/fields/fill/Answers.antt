@@ -25,7 +25,7 @@ loop-i-preserved g c =
           ∙ sym (ap (λ (x : Reply × State). fill_step x.1 c.args.m c.args.d (suc i) (drop (i + 1) slots)) step)
           ∙ sym (ap (fill_step (idle_state heap) c.args.m c.args.d i) opened)
           ∙ c.loop-i.invariant.rest;
-      links = λ marked none. still_unlinked marked heap new c.args.m op c.fill_field-put.result c.fill_field-put.ensures.performs (c.loop-i.invariant.links marked none);
+      links = λ epoch none. still_unlinked epoch heap new c.args.m op c.fill_field-put.result c.fill_field-put.ensures.performs (c.loop-i.invariant.links epoch none);
       mutators = c.fill_field-put.ensures.performs.mutators ∙ c.loop-i.invariant.mutators;
       takes = c.fill_field-put.ensures.fields _ c.loop-i.invariant.takes;
     }

@@ -27,13 +27,13 @@ invariant_of-self-2 c =
     let bound : length c.self.inside.news.codes + (h.len + 2) ≤ 4294967295 = omega (arith, next.bound, c.len-at.ensures) in
     let a = c.in-Some-claim_in.original in
     let due = not c.is_copy-due.result in
-    let is = replica_written _ h a (c.self.inside.missing + c.due_words.result) c.due_words.result due c.replace.new.self.codes c.add_codes.new.row.codes c.add.new.self.origins kept c.replace.ensures.codes
+    let is = replica_written _ h a (c.self.inside.missing + c.due_words.result) c.due_words.result due c.take.new.self.codes c.add_codes.new.row.codes c.add.new.self.origins kept c.take.ensures.codes
     (c.add_codes.ensures.codes ∙ ap (λ n. c.self.inside.news.codes ++ object_codes n (code_of due)) c.len-2.ensures)
     (c.add.ensures.origins ∙ ap (λ n. c.self.inside.origins.origins ++ a ∷ 0 ∷ replicate n 0) c.len.ensures)
     refl (c.due_words.ensures ∙ ap (λ n. if due then n else 0) c.len-3.ensures) in (
       c.self.invariant.0,
       c.self.invariant.1,
-      omega (arith, c.self.invariant.2, c.replace.ensures.room),
+      omega (arith, c.self.invariant.2, c.take.ensures.room),
       omega (arith, c.self.invariant.3, c.add_codes.ensures.room),
       omega (arith, c.self.invariant.4, c.add.ensures.room),
       inr (subst IsKept (sym is) (kept_replica _ h a due bound c.in-Some-claim_in.ensures.4 kept)),
@@ -56,7 +56,7 @@ returns c =
       start = c.in-Some-claim_in.ensures.4;
       header = subst (λ n. slice_index c.args.old.now a ≡ slice_index c.args.new.now n) at c.in-Some-claim_in.ensures.5;
     } in
-    let is = replica_written _ h a (c.self.inside.missing + c.due_words.result) c.due_words.result due c.replace.new.self.codes c.add_codes.new.row.codes c.add.new.self.origins kept c.replace.ensures.codes
+    let is = replica_written _ h a (c.self.inside.missing + c.due_words.result) c.due_words.result due c.take.new.self.codes c.add_codes.new.row.codes c.add.new.self.origins kept c.take.ensures.codes
     (c.add_codes.ensures.codes ∙ ap (λ n. c.self.inside.news.codes ++ object_codes n (code_of due)) c.len-2.ensures)
     (c.add.ensures.origins ∙ ap (λ n. c.self.inside.origins.origins ++ a ∷ 0 ∷ replicate n 0) c.len.ensures)
     refl (c.due_words.ensures ∙ ap (λ n. if due then n else 0) c.len-3.ensures) in

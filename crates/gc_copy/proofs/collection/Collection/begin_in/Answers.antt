@@ -5,9 +5,9 @@ use Rattle.gc_copy.proofs.Beginning.{begun, begun_sound}
 use Rattle.gc_copy.proofs.collection.Collection.begin_in.Goals as goal
 
 pub invariant_of-result : goal.invariant_of-result
-invariant_of-result c = begun_sound c.emptied.result c.room.inside.logs.items c.room.inside.space.size c.args.marked c.emptied.ensures.shaped c.emptied.ensures.empty c.room.invariant.few
+invariant_of-result c = begun_sound c.emptied.result c.room.inside.logs.items c.room.inside.space.size c.args.epoch c.emptied.ensures.shaped c.emptied.ensures.empty c.room.invariant.few
 
 pub returns-clause-belongs : goal.returns-clause-belongs
 returns-clause-belongs c =
     let mutators : length c.room.inside.logs.items ≡ c.args.heap.now.mutators = ap (λ (r : RoomWords). r.mutators) c.room.view_is ∙ c.requires.mutators in
-    begun c.args.heap.now c.emptied.result c.room.inside.logs.items c.room.inside.space.size c.args.marked c.requires.links c.room.invariant.shaped.size_low c.emptied.ensures.empty (c.room.invariant.logs ∙ ap (λ n. replicate n []) mutators)
+    begun c.args.heap.now c.emptied.result c.room.inside.logs.items c.room.inside.space.size c.args.epoch c.requires.links c.room.invariant.shaped.size_low c.emptied.ensures.empty (c.room.invariant.logs ∙ ap (λ n. replicate n []) mutators)

@@ -5,7 +5,7 @@ use Rattle.gc_copy.proofs.collection.Collection.drop_into.Given as goal
 
 -- the originals of the replicas before this place have no link
 abbrev pub invariant-loop-at : goal.invariant-loop-at
-invariant-loop-at l = Clears l.self-inside.marked l.self-inside.space.words l.fn.heap l.heap l.at.0
+invariant-loop-at l = Clears l.self-inside.epoch l.self-inside.space.words l.fn.heap l.heap l.at.0
 
 abbrev pub decreases-loop-at : goal.decreases-loop-at
 decreases-loop-at l = length l.self-inside.space.words - l.at.0

@@ -76,7 +76,7 @@ pub returns-clause-links : goal.returns-clause-links
 returns-clause-links c =
     let sound : IsCollection c.args.self = subst IsCollection c.self.view_is c.self.invariant.0 in
     let space : c.self.inside.space ≡ c.args.self.space = ap (λ (y : CollectionWords). y.space) c.self.view_is in
-    subst (LinksNothing true) (sym c.replace_first-space.ensures.heap) (subst (λ s. LinksNothing true (record { space = s; roots = c.args.roots.now ++ drop (length c.args.roots.now) c.args.heap.now.roots; mutators = c.args.heap.now.mutators })) (sym space) (below_the_mark c.args.self sound))
+    λ epoch high. subst (LinksNothing epoch) (sym c.replace_first-space.ensures.heap) (subst (λ s. LinksNothing epoch (record { space = s; roots = c.args.roots.now ++ drop (length c.args.roots.now) c.args.heap.now.roots; mutators = c.args.heap.now.mutators })) (sym space) (below_the_mark c.args.self sound epoch high))
 
 pub invariant_of-room : goal.invariant_of-room
 invariant_of-room c = record {
@@ -88,5 +88,5 @@ invariant_of-room c = record {
 pub returns-clause-moves : goal.returns-clause-moves
 returns-clause-moves c =
     moves_told c.args.heap.now c.args.self (subst IsCollection c.self.view_is c.self.invariant.0) c.requires.belongs
-    (record { size = c.replace_first-space.result.size; mutators = length c.self.inside.logs.items; former = c.replace_first-space.result.words; marked = c.self.inside.marked })
-    (ap (λ (s : SpaceWords). s.words) c.replace_first-space.ensures.space) (ap (λ (y : CollectionWords). y.marked) c.self.view_is)
+    (record { size = c.replace_first-space.result.size; mutators = length c.self.inside.logs.items; former = c.replace_first-space.result.words; epoch = c.self.inside.epoch })
+    (ap (λ (s : SpaceWords). s.words) c.replace_first-space.ensures.space) (ap (λ (y : CollectionWords). y.epoch) c.self.view_is)

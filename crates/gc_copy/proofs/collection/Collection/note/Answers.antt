@@ -19,4 +19,4 @@ returns-clause-collection c = made c
 pub returns-clause-belongs : goal.returns-clause-belongs
 returns-clause-belongs c = λ heap field k.
     noted_belongs heap c.args.self.now (record (the_view c.self.inside) { logs = slice_set c.self.inside.logs.items c.args.m c.note.new.self }) c.args.m c.args.object.0 c.args.field c.requires.log (made c)
-    (ap (λ (y : CollectionWords). y.marked) c.self.view_is) (length-set c.self.inside.logs.items c.args.m c.note.new.self ∙ ap (λ (y : CollectionWords). length y.logs) c.self.view_is) field k
+    (ap (λ (y : CollectionWords). y.epoch) c.self.view_is) (length-set c.self.inside.logs.items c.args.m c.note.new.self ∙ ap (λ (y : CollectionWords). length y.logs) c.self.view_is) field k

@@ -12,10 +12,10 @@ use Rattle.gc_copy.proofs.collection.Collection.replica_of.Goals as goal
 use Rattle.gc_copy.proofs.collection.Collection.replica_of.Goals.{Then-place-eq0, Else-place-eq0}
 
 -- what an original's link has above the mark is its replica's address, or 0
-told : (heap : HeapWords) (inner outer : CollectionWords) (a place : ℕ) (s : SpaceWords) → inner ≡ outer → IsCollection inner → BelongsTo heap outer → is_start heap.space.words a ≡ true → s ≡ heap.space → place ≡ link_at s.words a - mark_of inner.marked → Tells outer a place
+told : (heap : HeapWords) (inner outer : CollectionWords) (a place : ℕ) (s : SpaceWords) → inner ≡ outer → IsCollection inner → BelongsTo heap outer → is_start heap.space.words a ≡ true → s ≡ heap.space → place ≡ link_at s.words a - mark_of inner.epoch → Tells outer a place
 told heap inner outer a place s seen is k start same read =
     link_tells heap outer a place (subst IsCollection seen is) k start
-    (read ∙ ap (λ (s : SpaceWords). link_at s.words a - mark_of inner.marked) same ∙ ap (λ (y : CollectionWords). link_at heap.space.words a - mark_of y.marked) seen)
+    (read ∙ ap (λ (s : SpaceWords). link_at s.words a - mark_of inner.epoch) same ∙ ap (λ (y : CollectionWords). link_at heap.space.words a - mark_of y.epoch) seen)
 
 pub overflow_cast-result : goal.overflow_cast-result
 overflow_cast-result c =

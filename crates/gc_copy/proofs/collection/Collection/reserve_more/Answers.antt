@@ -24,4 +24,4 @@ returns-clause-collection c = made c
 pub returns-clause-belongs : goal.returns-clause-belongs
 returns-clause-belongs c = λ heap k.
     same_belongs heap c.args.self.now (record (the_view c.self.inside) { logs = slice_set c.self.inside.logs.items c.args.m c.reserve.new.self }) (made c)
-    (ap (λ (y : CollectionWords). y.marked) c.self.view_is) (length-set c.self.inside.logs.items c.args.m c.reserve.new.self ∙ ap (λ (y : CollectionWords). length y.logs) c.self.view_is) k
+    (ap (λ (y : CollectionWords). y.epoch) c.self.view_is) (length-set c.self.inside.logs.items c.args.m c.reserve.new.self ∙ ap (λ (y : CollectionWords). length y.logs) c.self.view_is) k

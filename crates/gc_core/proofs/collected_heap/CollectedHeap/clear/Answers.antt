@@ -16,7 +16,7 @@ invariant_of-self c = with_row (omega (arith, c.cleared-self-inside.ensures.coun
     let after = state_of c.clear_each.new.heap (option_map collection_in c.self.inside.collection) in
     let from = c.args.from in
     let count = c.args.to - c.args.from in (
-      c.clear_each.ensures.fits c.self.inside.marked c.self.invariant.0,
+      c.clear_each.ensures.fits c.self.inside.epoch c.self.invariant.0,
       c.cleared-self-inside.ensures.knows after
           (subst (KnowsRoots c.self.inside.known) c.clear_each.ensures.step (cleared_knows c.self.inside.known before from count c.self.invariant.1))
           (λ i low high. subst (λ n. root after.heap.graph (roots_of n + i) ≡ Nil) (sym c.clear_each.ensures.mutators)
@@ -25,4 +25,4 @@ invariant_of-self c = with_row (omega (arith, c.cleared-self-inside.ensures.coun
     )
 
 pub clear_each-requires-clause-belongs : goal.clear_each-requires-clause-belongs
-clear_each-requires-clause-belongs c = it_belongs c.self.inside.marked c.self.inside.heap c.self.inside.collection c.self.invariant.0
+clear_each-requires-clause-belongs c = it_belongs c.self.inside.epoch c.self.inside.heap c.self.inside.collection c.self.invariant.0

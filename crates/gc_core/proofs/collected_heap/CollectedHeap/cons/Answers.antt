@@ -22,9 +22,9 @@ returns-in_default c =
     let o = c.self.inside.collection in
     let state : HeapWords → State = λ h. state_of h (option_map collection_in c.self.inside.collection) in
     let new = c.new_object-made in
-    let one = idle_mutated c.self.inside.marked c.self.inside.heap new.new.self o c.args.m (New c.args.d c.args.kind 2) new.result c.space.ensures.sound c.in_default.not-Some new.ensures.performs c.self.invariant.0 in
-    let two = idle_mutated c.self.inside.marked new.new.self c.fill_field-first.new.self o c.args.m (Put c.args.d 0 c.args.s) c.fill_field-first.result new.ensures.sound c.in_default.not-Some c.fill_field-first.ensures.performs one.1 in
-    let three = idle_mutated c.self.inside.marked c.fill_field-first.new.self c.fill_field-second.new.self o c.args.m (Put c.args.d 1 c.args.t) c.fill_field-second.result c.fill_field-first.ensures.sound c.in_default.not-Some c.fill_field-second.ensures.performs two.1 in
+    let one = idle_mutated c.self.inside.epoch c.self.inside.heap new.new.self o c.args.m (New c.args.d c.args.kind 2) new.result c.space.ensures.sound c.in_default.not-Some new.ensures.performs c.self.invariant.0 in
+    let two = idle_mutated c.self.inside.epoch new.new.self c.fill_field-first.new.self o c.args.m (Put c.args.d 0 c.args.s) c.fill_field-first.result new.ensures.sound c.in_default.not-Some c.fill_field-first.ensures.performs one.1 in
+    let three = idle_mutated c.self.inside.epoch c.fill_field-first.new.self c.fill_field-second.new.self o c.args.m (Put c.args.d 1 c.args.t) c.fill_field-second.result c.fill_field-first.ensures.sound c.in_default.not-Some c.fill_field-second.ensures.performs two.1 in
     record {
       step = subst (λ x. new_from_step x c.args.m c.args.d c.args.kind (c.args.s ∷ c.args.t ∷ []) ≡ (new.result, state c.fill_field-second.new.self)) c.self.view_is
           (made_from (state c.self.inside.heap) (state new.new.self) (state c.fill_field-second.new.self) c.args.m c.args.kind c.args.d (c.args.s ∷ c.args.t ∷ []) new.result one.0 c.in_default-made.not-Full
@@ -37,7 +37,7 @@ returns-in_default c =
 pub invariant_of-self-in-Full-made : goal.invariant_of-self-in-Full-made
 invariant_of-self-in-Full-made c = with_row c.self.invariant.2 (
     let made = open_left c.self.inside.heap c.new_object-made-2.new.self c.reserve_more.new.self c.args.m (New c.args.d c.args.kind 2) c.new_object-made-2.result c.space.ensures.sound
-    (c.in_ok-reserve_more.ensures.belongs c.self.inside.heap (subst (Fits c.self.inside.marked c.self.inside.heap) c.in-Some.is c.self.invariant.0)) (λ none. none) c.new_object-made-2.ensures.performs in
+    (c.in_ok-reserve_more.ensures.belongs c.self.inside.heap (subst (Fits c.self.inside.epoch c.self.inside.heap) c.in-Some.is c.self.invariant.0)) (λ none. none) c.new_object-made-2.ensures.performs in
     let less : c.args.m < c.self.inside.heap.mutators = subst (λ (s : State). c.args.m < s.mutators) (sym c.self.view_is) c.requires in
     let before = opened_at c.self.inside.heap c.self.inside.collection c.in-Some.collection c.reserve_more.new.self (state_of c.self.inside.heap (option_map collection_in c.self.inside.collection)) c.in-Some.is c.in_ok-reserve_more.ensures.collection refl in
     let after = open_state c.new_object-made-2.new.self c.reserve_more.new.self in (
@@ -51,7 +51,7 @@ invariant_of-self-in-Full-made c = with_row c.self.invariant.2 (
 pub returns-in-Full-made-clause-step : goal.returns-in-Full-made-clause-step
 returns-in-Full-made-clause-step c =
     let made = open_left c.self.inside.heap c.new_object-made-2.new.self c.reserve_more.new.self c.args.m (New c.args.d c.args.kind 2) c.new_object-made-2.result c.space.ensures.sound
-    (c.in_ok-reserve_more.ensures.belongs c.self.inside.heap (subst (Fits c.self.inside.marked c.self.inside.heap) c.in-Some.is c.self.invariant.0)) (λ none. none) c.new_object-made-2.ensures.performs in
+    (c.in_ok-reserve_more.ensures.belongs c.self.inside.heap (subst (Fits c.self.inside.epoch c.self.inside.heap) c.in-Some.is c.self.invariant.0)) (λ none. none) c.new_object-made-2.ensures.performs in
     let before = opened_at c.self.inside.heap c.self.inside.collection c.in-Some.collection c.reserve_more.new.self c.args.self.now c.in-Some.is c.in_ok-reserve_more.ensures.collection c.self.view_is in
     let after = open_state c.new_object-made-2.new.self c.reserve_more.new.self in
     subst (λ x. new_from_step x c.args.m c.args.d c.args.kind (c.args.s ∷ c.args.t ∷ []) ≡ (c.new_object-made-2.result, after)) before
@@ -60,7 +60,7 @@ returns-in-Full-made-clause-step c =
 pub fill_field-first-requires-2 : goal.fill_field-first-requires-2
 fill_field-first-requires-2 c =
     let made = open_left c.self.inside.heap c.new_object-made-2.new.self c.reserve_more.new.self c.args.m (New c.args.d c.args.kind 2) c.new_object-made-2.result c.space.ensures.sound
-    (c.in_ok-reserve_more.ensures.belongs c.self.inside.heap (subst (Fits c.self.inside.marked c.self.inside.heap) c.in-Some.is c.self.invariant.0)) (λ none. none) c.new_object-made-2.ensures.performs in
+    (c.in_ok-reserve_more.ensures.belongs c.self.inside.heap (subst (Fits c.self.inside.epoch c.self.inside.heap) c.in-Some.is c.self.invariant.0)) (λ none. none) c.new_object-made-2.ensures.performs in
     let count : c.new_object-made-2.new.self.mutators ≡ c.args.self.now.mutators = c.new_object-made-2.ensures.performs.mutators ∙ ap (λ (s : State). s.mutators) c.self.view_is in
     let room = c.in_ok-reserve_more.ensures.room in
     let at : end_of c.self.inside.heap.space ≡ c.end.result = sym (c.end.ensures.value ∙ ap end_of c.space.ensures.value) in
@@ -68,10 +68,23 @@ fill_field-first-requires-2 c =
     = subst (λ a. TakesFields c.new_object-made-2.new.self (place c.args.d c.args.m) a 2) at (c.new_object-made-2.ensures.fields c.in_default-made-2.not-Full) in
     record { belongs = made.1; mutator = omega (arith, count, c.requires); room = omega (arith, room); field = (2, takes, omega arith) }
 
+pub fill_field-second-requires-2 : goal.fill_field-second-requires-2
+fill_field-second-requires-2 c =
+    let count : c.new_object-made-2.new.self.mutators ≡ c.args.self.now.mutators = c.new_object-made-2.ensures.performs.mutators ∙ ap (λ (s : State). s.mutators) c.self.view_is in
+    let at : end_of c.self.inside.heap.space ≡ c.end.result = sym (c.end.ensures.value ∙ ap end_of c.space.ensures.value) in
+    let takes : TakesFields c.new_object-made-2.new.self (place c.args.d c.args.m) c.end.result 2
+    = subst (λ a. TakesFields c.new_object-made-2.new.self (place c.args.d c.args.m) a 2) at (c.new_object-made-2.ensures.fields c.in_default-made-2.not-Full) in
+    record {
+      belongs = c.fill_field-first-2.ensures.belongs;
+      mutator = omega (arith, count, c.fill_field-first-2.ensures.mutators, c.requires);
+      room = omega (arith, c.in_ok-reserve_more.ensures.room, c.fill_field-first-2.ensures.spare);
+      field = (2, c.fill_field-first-2.ensures.fields 2 takes, omega arith);
+    }
+
 pub returns : goal.returns
 returns c =
     let made = open_left c.self.inside.heap c.new_object-made-2.new.self c.reserve_more.new.self c.args.m (New c.args.d c.args.kind 2) c.new_object-made-2.result c.space.ensures.sound
-    (c.in_ok-reserve_more.ensures.belongs c.self.inside.heap (subst (Fits c.self.inside.marked c.self.inside.heap) c.in-Some.is c.self.invariant.0)) (λ none. none) c.new_object-made-2.ensures.performs in
+    (c.in_ok-reserve_more.ensures.belongs c.self.inside.heap (subst (Fits c.self.inside.epoch c.self.inside.heap) c.in-Some.is c.self.invariant.0)) (λ none. none) c.new_object-made-2.ensures.performs in
     let before = opened_at c.self.inside.heap c.self.inside.collection c.in-Some.collection c.reserve_more.new.self c.args.self.now c.in-Some.is c.in_ok-reserve_more.ensures.collection c.self.view_is in
     let one = c.fill_field-first-2 in
     let two = c.fill_field-second-2 in
@@ -91,9 +104,9 @@ invariant_of-self-in_default c = with_row c.self.invariant.2 (
     let state : HeapWords → State = λ h. state_of h (option_map collection_in c.self.inside.collection) in
     let less : c.args.m < c.self.inside.heap.mutators = subst (λ (s : State). c.args.m < s.mutators) (sym c.self.view_is) c.requires in
     let new = c.new_object-made in
-    let one = idle_mutated c.self.inside.marked c.self.inside.heap new.new.self o c.args.m (New c.args.d c.args.kind 2) new.result c.space.ensures.sound c.in_default.not-Some new.ensures.performs c.self.invariant.0 in
-    let two = idle_mutated c.self.inside.marked new.new.self c.fill_field-first.new.self o c.args.m (Put c.args.d 0 c.args.s) c.fill_field-first.result new.ensures.sound c.in_default.not-Some c.fill_field-first.ensures.performs one.1 in
-    let three = idle_mutated c.self.inside.marked c.fill_field-first.new.self c.fill_field-second.new.self o c.args.m (Put c.args.d 1 c.args.t) c.fill_field-second.result c.fill_field-first.ensures.sound c.in_default.not-Some c.fill_field-second.ensures.performs two.1 in (
+    let one = idle_mutated c.self.inside.epoch c.self.inside.heap new.new.self o c.args.m (New c.args.d c.args.kind 2) new.result c.space.ensures.sound c.in_default.not-Some new.ensures.performs c.self.invariant.0 in
+    let two = idle_mutated c.self.inside.epoch new.new.self c.fill_field-first.new.self o c.args.m (Put c.args.d 0 c.args.s) c.fill_field-first.result new.ensures.sound c.in_default.not-Some c.fill_field-first.ensures.performs one.1 in
+    let three = idle_mutated c.self.inside.epoch c.fill_field-first.new.self c.fill_field-second.new.self o c.args.m (Put c.args.d 1 c.args.t) c.fill_field-second.result c.fill_field-first.ensures.sound c.in_default.not-Some c.fill_field-second.ensures.performs two.1 in (
       three.1,
       from_knows c.self.inside.known (state c.self.inside.heap) (state c.fill_field-second.new.self) c.args.m c.args.kind c.args.d (c.args.s ∷ c.args.t ∷ []) new.result (omega (arith, c.index.ensures.value, c.index.ensures.bound)) less
           (made_from (state c.self.inside.heap) (state new.new.self) (state c.fill_field-second.new.self) c.args.m c.args.kind c.args.d (c.args.s ∷ c.args.t ∷ []) new.result one.0 c.in_default-made.not-Full
@@ -106,7 +119,7 @@ pub invariant_of-self-2 : goal.invariant_of-self-2
 invariant_of-self-2 c = with_row c.self.invariant.2 (
     let less : c.args.m < c.self.inside.heap.mutators = subst (λ (s : State). c.args.m < s.mutators) (sym c.self.view_is) c.requires in
     let made = open_left c.self.inside.heap c.new_object-made-2.new.self c.reserve_more.new.self c.args.m (New c.args.d c.args.kind 2) c.new_object-made-2.result c.space.ensures.sound
-    (c.in_ok-reserve_more.ensures.belongs c.self.inside.heap (subst (Fits c.self.inside.marked c.self.inside.heap) c.in-Some.is c.self.invariant.0)) (λ none. none) c.new_object-made-2.ensures.performs in
+    (c.in_ok-reserve_more.ensures.belongs c.self.inside.heap (subst (Fits c.self.inside.epoch c.self.inside.heap) c.in-Some.is c.self.invariant.0)) (λ none. none) c.new_object-made-2.ensures.performs in
     let before = opened_at c.self.inside.heap c.self.inside.collection c.in-Some.collection c.reserve_more.new.self (state_of c.self.inside.heap (option_map collection_in c.self.inside.collection)) c.in-Some.is c.in_ok-reserve_more.ensures.collection refl in
     let one = c.fill_field-first-2 in
     let two = c.fill_field-second-2 in
@@ -122,5 +135,5 @@ invariant_of-self-2 c = with_row c.self.invariant.2 (
 pub invariant_of-self-in_err-reserve_more : goal.invariant_of-self-in_err-reserve_more
 invariant_of-self-in_err-reserve_more c = with_row c.self.invariant.2 (
     let before = opened_at c.self.inside.heap c.self.inside.collection c.in-Some.collection c.reserve_more.new.self (state_of c.self.inside.heap (option_map collection_in c.self.inside.collection)) c.in-Some.is c.in_err-reserve_more.ensures.collection refl in
-    (c.in_err-reserve_more.ensures.belongs c.self.inside.heap (subst (Fits c.self.inside.marked c.self.inside.heap) c.in-Some.is c.self.invariant.0), subst (KnowsRoots c.self.inside.known) (sym before) c.self.invariant.1)
+    (c.in_err-reserve_more.ensures.belongs c.self.inside.heap (subst (Fits c.self.inside.epoch c.self.inside.heap) c.in-Some.is c.self.invariant.0), subst (KnowsRoots c.self.inside.known) (sym before) c.self.invariant.1)
     )

@@ -23,15 +23,15 @@ returns-in-None c =
     let copied : c.copy_from_slice.new.self ≡ heap.space.words = c.copy_from_slice.ensures.after ∙ ap (λ (image : Image). image.words) c.image.ensures.value in
     c.lower_links.ensures
     ∙ (λ i. spelled (λ a. link_at (copied i) a - c.link_mark.ensures i) (blocks (copied i)))
-    ∙ idle_words c.self.inside.marked heap c.space.ensures.sound (subst (Fits c.self.inside.marked heap) c.in-None.is c.self.invariant.0)
+    ∙ idle_words c.self.inside.epoch heap c.space.ensures.sound (subst (Fits c.self.inside.epoch heap) c.in-None.is c.self.invariant.0)
     ∙ ap (λ (s : State). (heap_image s).words) (ap (λ o. state_of heap (option_map collection_in o)) (sym c.in-None.is) ∙ c.self.view_is)
 
 pub returns-in-Some : goal.returns-in-Some
 returns-in-Some c =
     let heap = c.self.inside.heap in
     let copied : c.copy_from_slice.new.self ≡ heap.space.words = c.copy_from_slice.ensures.after ∙ ap (λ (image : Image). image.words) c.image.ensures.value in
-    let mark = c.link_mark-in-Some.ensures ∙ ap mark_of c.is_marked.ensures in
+    let mark = c.link_mark-in-Some.ensures ∙ ap mark_of c.epoch.ensures in
     c.lower_links-in-Some.ensures
     ∙ (λ i. spelled (λ a. link_at (copied i) a - mark i) (blocks (copied i)))
-    ∙ open_words heap c.in-Some.collection c.space.ensures.sound (subst (Fits c.self.inside.marked heap) c.in-Some.is c.self.invariant.0)
+    ∙ open_words heap c.in-Some.collection c.space.ensures.sound (subst (Fits c.self.inside.epoch heap) c.in-Some.is c.self.invariant.0)
     ∙ ap (λ (s : State). (heap_image s).words) (ap (λ o. state_of heap (option_map collection_in o)) (sym c.in-Some.is) ∙ c.self.view_is)

@@ -50,6 +50,6 @@ invariant_of-self-2 g c = with_row c.self.invariant.2 (
     let one = unmarked_is c.unmark.new.self c.unwrap-collection.result _ (sym c.take.ensures.value) c.unwrap-collection.ensures in
     let same = ap (λ o. state_of heap (option_map collection_in o)) c.in-Some.is ∙ sym c.unmark.ensures.state ∙ ap (λ (d : CollectionWords). open_state c.unmark.new.heap d) one in
     let before = subst (KnowsRoots known) same c.self.invariant.1 in
-    subst (λ o. Fits c.self.inside.marked new o × KnowsRoots known (state_of new (option_map collection_in o))) (sym c.take.ensures.after)
-    (unlinked new c.self.inside.marked c.carry_out.ensures.links, flipped_knows known (open_state c.unmark.new.heap c.unwrap-collection.result) (idle_state new) c.carry_out.result.reply refl c.carry_out.ensures.mutators c.carry_out.ensures.step before)
+    subst (λ o. Fits c.self.inside.epoch new o × KnowsRoots known (state_of new (option_map collection_in o))) (sym c.take.ensures.after)
+    (unlinked new c.self.inside.epoch c.carry_out.ensures.links, flipped_knows known (open_state c.unmark.new.heap c.unwrap-collection.result) (idle_state new) c.carry_out.result.reply refl c.carry_out.ensures.mutators c.carry_out.ensures.step before)
     )

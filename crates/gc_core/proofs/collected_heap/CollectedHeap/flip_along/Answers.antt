@@ -30,8 +30,8 @@ invariant_of-self-2 g c = with_row (omega (arith, c.self.invariant.2, c.move_roo
     let was = sym c.take.ensures.value ∙ c.unwrap-collection.ensures in
     let before = subst (λ o. KnowsRoots known (state_of heap (option_map collection_in o))) was c.self.invariant.1 in
     let count = ap (λ (h : HeapWords). h.mutators) c.flip_marked-room.ensures.heap in
-    subst (λ o. Fits true new o × KnowsRoots known (state_of new (option_map collection_in o))) (sym c.take.ensures.after)
-    (c.flip_marked-room.ensures.links, flipped_knows known (open_state heap c.unwrap-collection.result) (idle_state new) _ refl count c.flip_marked-room.ensures.step before)
+    subst (λ o. Fits 1 new o × KnowsRoots known (state_of new (option_map collection_in o))) (sym c.take.ensures.after)
+    (c.flip_marked-room.ensures.links 1 (omega arith), flipped_knows known (open_state heap c.unwrap-collection.result) (idle_state new) _ refl count c.flip_marked-room.ensures.step before)
     )
 
 pub move_roots-requires-clause-within : goal.move_roots-requires-clause-within

@@ -16,7 +16,7 @@ returns-clause-shows c =
     let all = c.heaps_have_addresses_as_names.ensures.image heap c.image.ensures.sound in
     elim c.match-self.branch [
       | in-Some w ↦ shown_open heap w.in-Some.collection c.args.self.now _ (ap (λ o. state_of heap (option_map collection_in o)) (sym w.in-Some.is) ∙ c.self.view_is) c.image.ensures.value all
-          (c.images_show_links.ensures.linked heap w.in-Some.collection (subst (Fits c.self.inside.marked heap) w.in-Some.is c.self.invariant.0) w.new_image.ensures.sound)
+          (c.images_show_links.ensures.linked heap w.in-Some.collection (subst (Fits c.self.inside.epoch heap) w.in-Some.is c.self.invariant.0) w.new_image.ensures.sound)
       | in_default w ↦ shown_idle heap c.args.self.now _ (ap (λ o. state_of heap (option_map collection_in o)) (sym w.in_default.is) ∙ c.self.view_is) c.image.ensures.value all
     ]
 

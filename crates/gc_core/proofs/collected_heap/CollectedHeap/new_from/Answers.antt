@@ -18,7 +18,7 @@ use Rattle.gc_core.proofs.collected_heap.CollectedHeap.new_from.Goals as goal
 pub invariant_of-self-in-Full-made : goal.invariant_of-self-in-Full-made
 invariant_of-self-in-Full-made g c = with_row c.self.invariant.2 (
     let made = open_left c.self.inside.heap c.new_object-made-2.new.self c.reserve_more.new.self c.args.m _ c.new_object-made-2.result c.space.ensures.sound
-    (c.in_ok-reserve_more.ensures.belongs c.self.inside.heap (subst (Fits c.self.inside.marked c.self.inside.heap) c.in-Some.is c.self.invariant.0)) (λ none. none) c.new_object-made-2.ensures.performs in
+    (c.in_ok-reserve_more.ensures.belongs c.self.inside.heap (subst (Fits c.self.inside.epoch c.self.inside.heap) c.in-Some.is c.self.invariant.0)) (λ none. none) c.new_object-made-2.ensures.performs in
     let less : c.args.m < c.self.inside.heap.mutators = subst (λ (s : State). c.args.m < s.mutators) (sym c.self.view_is) c.requires.mutator in
     let before = opened_at c.self.inside.heap c.self.inside.collection c.in-Some.collection c.reserve_more.new.self (state_of c.self.inside.heap (option_map collection_in c.self.inside.collection)) c.in-Some.is c.in_ok-reserve_more.ensures.collection refl in
     let after = open_state c.new_object-made-2.new.self c.reserve_more.new.self in
@@ -34,7 +34,7 @@ invariant_of-self-in-Full-made g c = with_row c.self.invariant.2 (
 pub returns-in-Full-made-clause-step : goal.returns-in-Full-made-clause-step
 returns-in-Full-made-clause-step g c =
     let made = open_left c.self.inside.heap c.new_object-made-2.new.self c.reserve_more.new.self c.args.m _ c.new_object-made-2.result c.space.ensures.sound
-    (c.in_ok-reserve_more.ensures.belongs c.self.inside.heap (subst (Fits c.self.inside.marked c.self.inside.heap) c.in-Some.is c.self.invariant.0)) (λ none. none) c.new_object-made-2.ensures.performs in
+    (c.in_ok-reserve_more.ensures.belongs c.self.inside.heap (subst (Fits c.self.inside.epoch c.self.inside.heap) c.in-Some.is c.self.invariant.0)) (λ none. none) c.new_object-made-2.ensures.performs in
     let before = opened_at c.self.inside.heap c.self.inside.collection c.in-Some.collection c.reserve_more.new.self c.args.self.now c.in-Some.is c.in_ok-reserve_more.ensures.collection c.self.view_is in
     let after = open_state c.new_object-made-2.new.self c.reserve_more.new.self in
     let fields = g.R.SlotRow.slots c.args.fields.now in
@@ -45,7 +45,7 @@ returns-in-Full-made-clause-step g c =
 pub fill_and_log-requires : goal.fill_and_log-requires
 fill_and_log-requires g c =
     let made = open_left c.self.inside.heap c.new_object-made-2.new.self c.reserve_more.new.self c.args.m _ c.new_object-made-2.result c.space.ensures.sound
-    (c.in_ok-reserve_more.ensures.belongs c.self.inside.heap (subst (Fits c.self.inside.marked c.self.inside.heap) c.in-Some.is c.self.invariant.0)) (λ none. none) c.new_object-made-2.ensures.performs in
+    (c.in_ok-reserve_more.ensures.belongs c.self.inside.heap (subst (Fits c.self.inside.epoch c.self.inside.heap) c.in-Some.is c.self.invariant.0)) (λ none. none) c.new_object-made-2.ensures.performs in
     let count : c.new_object-made-2.new.self.mutators ≡ c.args.self.now.mutators = c.new_object-made-2.ensures.performs.mutators ∙ ap (λ (s : State). s.mutators) c.self.view_is in
     let mutator = c.requires.mutator in
     let same = c.count-count.ensures in let from = c.from.ensures in
@@ -59,7 +59,7 @@ fill_and_log-requires g c =
 pub returns : goal.returns
 returns g c =
     let made = open_left c.self.inside.heap c.new_object-made-2.new.self c.reserve_more.new.self c.args.m _ c.new_object-made-2.result c.space.ensures.sound
-    (c.in_ok-reserve_more.ensures.belongs c.self.inside.heap (subst (Fits c.self.inside.marked c.self.inside.heap) c.in-Some.is c.self.invariant.0)) (λ none. none) c.new_object-made-2.ensures.performs in
+    (c.in_ok-reserve_more.ensures.belongs c.self.inside.heap (subst (Fits c.self.inside.epoch c.self.inside.heap) c.in-Some.is c.self.invariant.0)) (λ none. none) c.new_object-made-2.ensures.performs in
     let before = opened_at c.self.inside.heap c.self.inside.collection c.in-Some.collection c.reserve_more.new.self c.args.self.now c.in-Some.is c.in_ok-reserve_more.ensures.collection c.self.view_is in
     let filled = c.fill_and_log in
     let after = open_state filled.new.heap filled.new.collection in
@@ -77,7 +77,7 @@ pub invariant_of-self-2 : goal.invariant_of-self-2
 invariant_of-self-2 g c = with_row c.self.invariant.2 (
     let less : c.args.m < c.self.inside.heap.mutators = subst (λ (s : State). c.args.m < s.mutators) (sym c.self.view_is) c.requires.mutator in
     let made = open_left c.self.inside.heap c.new_object-made-2.new.self c.reserve_more.new.self c.args.m _ c.new_object-made-2.result c.space.ensures.sound
-    (c.in_ok-reserve_more.ensures.belongs c.self.inside.heap (subst (Fits c.self.inside.marked c.self.inside.heap) c.in-Some.is c.self.invariant.0)) (λ none. none) c.new_object-made-2.ensures.performs in
+    (c.in_ok-reserve_more.ensures.belongs c.self.inside.heap (subst (Fits c.self.inside.epoch c.self.inside.heap) c.in-Some.is c.self.invariant.0)) (λ none. none) c.new_object-made-2.ensures.performs in
     let before = opened_at c.self.inside.heap c.self.inside.collection c.in-Some.collection c.reserve_more.new.self (state_of c.self.inside.heap (option_map collection_in c.self.inside.collection)) c.in-Some.is c.in_ok-reserve_more.ensures.collection refl in
     let filled = c.fill_and_log in
     let after = open_state filled.new.heap filled.new.collection in
@@ -100,8 +100,8 @@ invariant_of-self-in_default g c = with_row c.self.invariant.2 (
     let fields = g.R.SlotRow.slots c.args.fields.now in
     let first = counted (idle_state heap) (idle_state new.new.self) c.args.m c.args.kind c.count-count.result c.args.d fields new.result c.count-count.ensures one in
     let after : KnownRoots = record { slots = 0; extra = c.self.inside.known.extra; used = c.self.inside.known.used; count = c.self.inside.known.count } in
-    subst (λ o. Fits c.self.inside.marked c.fill.new.heap o × KnowsRoots after (state_of c.fill.new.heap (option_map collection_in o))) (sym none) (
-      c.fill.ensures.links c.self.inside.marked (still_unlinked c.self.inside.marked heap new.new.self c.args.m _ new.result new.ensures.performs (subst (Fits c.self.inside.marked heap) none c.self.invariant.0)),
+    subst (λ o. Fits c.self.inside.epoch c.fill.new.heap o × KnowsRoots after (state_of c.fill.new.heap (option_map collection_in o))) (sym none) (
+      c.fill.ensures.links c.self.inside.epoch (still_unlinked c.self.inside.epoch heap new.new.self c.args.m _ new.result new.ensures.performs (subst (Fits c.self.inside.epoch heap) none c.self.invariant.0)),
       from_knows c.self.inside.known (idle_state heap) (idle_state c.fill.new.heap) c.args.m c.args.kind c.args.d fields new.result (omega (arith, c.index.ensures.value, c.index.ensures.bound)) less
           (made_from (idle_state heap) (idle_state new.new.self) (idle_state c.fill.new.heap) c.args.m c.args.kind c.args.d fields new.result first c.in_default-made.not-Full c.fill.ensures.step)
           (subst (λ o. KnowsRoots c.self.inside.known (state_of heap (option_map collection_in o))) none c.self.invariant.1),
@@ -111,5 +111,5 @@ invariant_of-self-in_default g c = with_row c.self.invariant.2 (
 pub invariant_of-self-in_err-reserve_more : goal.invariant_of-self-in_err-reserve_more
 invariant_of-self-in_err-reserve_more g c = with_row c.self.invariant.2 (
     let before = opened_at c.self.inside.heap c.self.inside.collection c.in-Some.collection c.reserve_more.new.self (state_of c.self.inside.heap (option_map collection_in c.self.inside.collection)) c.in-Some.is c.in_err-reserve_more.ensures.collection refl in
-    (c.in_err-reserve_more.ensures.belongs c.self.inside.heap (subst (Fits c.self.inside.marked c.self.inside.heap) c.in-Some.is c.self.invariant.0), subst (KnowsRoots c.self.inside.known) (sym before) c.self.invariant.1)
+    (c.in_err-reserve_more.ensures.belongs c.self.inside.heap (subst (Fits c.self.inside.epoch c.self.inside.heap) c.in-Some.is c.self.invariant.0), subst (KnowsRoots c.self.inside.known) (sym before) c.self.invariant.1)
     )

@@ -13,10 +13,10 @@ use Rattle.gc_core.proofs.collected_heap.CollectedHeap.new_object.Goals as goal
 pub invariant_of-self : goal.invariant_of-self
 invariant_of-self c = with_row c.self.invariant.2 (
     let less : c.args.m < c.self.inside.heap.mutators = subst (λ (s : State). c.args.m < s.mutators) (sym c.self.view_is) c.requires in
-    fits_after c.self.inside.marked c.self.inside.known c.self.inside.heap c.new_object.new.self c.self.inside.collection c.args.m (New c.args.d c.args.kind c.args.len) c.new_object.result c.space.ensures.sound (λ none. none) c.new_object.ensures.performs (λ q. one_below (place c.args.d c.args.m) q (roots_of c.self.inside.heap.mutators) (slot_below c.args.d c.args.m c.self.inside.heap.mutators (omega (arith, c.index.ensures.value, c.index.ensures.bound)) less)) c.self.invariant.0 c.self.invariant.1
+    fits_after c.self.inside.epoch c.self.inside.known c.self.inside.heap c.new_object.new.self c.self.inside.collection c.args.m (New c.args.d c.args.kind c.args.len) c.new_object.result c.space.ensures.sound (λ none. none) c.new_object.ensures.performs (λ q. one_below (place c.args.d c.args.m) q (roots_of c.self.inside.heap.mutators) (slot_below c.args.d c.args.m c.self.inside.heap.mutators (omega (arith, c.index.ensures.value, c.index.ensures.bound)) less)) c.self.invariant.0 c.self.invariant.1
     )
 
 pub returns-clause-step : goal.returns-clause-step
 returns-clause-step c =
-    let step = mutated c.self.inside.marked c.self.inside.heap c.new_object.new.self c.self.inside.collection c.args.m (New c.args.d c.args.kind c.args.len) c.new_object.result c.space.ensures.sound (λ none. none) c.new_object.ensures.performs c.self.invariant.0 in
+    let step = mutated c.self.inside.epoch c.self.inside.heap c.new_object.new.self c.self.inside.collection c.args.m (New c.args.d c.args.kind c.args.len) c.new_object.result c.space.ensures.sound (λ none. none) c.new_object.ensures.performs c.self.invariant.0 in
     subst (λ s. mutate s c.args.m (New c.args.d c.args.kind c.args.len) ≡ (c.new_object.result, state_of c.new_object.new.self (option_map collection_in c.self.inside.collection))) c.self.view_is step

@@ -23,8 +23,8 @@ invariant_of-self-in_default g c = with_row c.self.invariant.2 (
     let one = idle_left heap new.new.self c.args.m (New c.args.d c.args.kind c.count-count.result) new.result c.space.ensures.sound new.ensures.performs in
     let fields = g.R.SourceRow.sources c.args.fields.now in
     let after : KnownRoots = record { slots = 0; extra = c.self.inside.known.extra; used = c.self.inside.known.used; count = c.self.inside.known.count } in
-    subst (λ o. Fits c.self.inside.marked c.fill.new.heap o × KnowsRoots after (state_of c.fill.new.heap (option_map collection_in o))) (sym none) (
-      c.fill.ensures.links c.self.inside.marked (still_unlinked c.self.inside.marked heap new.new.self c.args.m (New c.args.d c.args.kind c.count-count.result) new.result new.ensures.performs (subst (Fits c.self.inside.marked heap) none c.self.invariant.0)),
+    subst (λ o. Fits c.self.inside.epoch c.fill.new.heap o × KnowsRoots after (state_of c.fill.new.heap (option_map collection_in o))) (sym none) (
+      c.fill.ensures.links c.self.inside.epoch (still_unlinked c.self.inside.epoch heap new.new.self c.args.m (New c.args.d c.args.kind c.count-count.result) new.result new.ensures.performs (subst (Fits c.self.inside.epoch heap) none c.self.invariant.0)),
       with_knows c.self.inside.known (idle_state heap) (idle_state c.fill.new.heap) c.args.m c.args.kind c.args.d c.args.t fields new.result (omega (arith, c.index.ensures.value, c.index.ensures.bound)) (omega (arith, c.index-2.ensures.value, c.index-2.ensures.bound)) less
           (made_with (idle_state heap) (idle_state new.new.self) (idle_state c.fill.new.heap) c.args.m c.args.kind c.count-count.result c.args.d c.args.t fields new.result c.count-count.ensures one c.in_default-made.not-Full c.fill.ensures.step)
           (subst (λ o. KnowsRoots c.self.inside.known (state_of heap (option_map collection_in o))) none c.self.invariant.1),
@@ -37,7 +37,7 @@ invariant_of-self-in-Full-made g c = with_row c.self.invariant.2 (
     let new = c.new_object-made-2 in
     let logs = c.reserve_more.new.self in
     let made = open_left heap new.new.self logs c.args.m (New c.args.d c.args.kind c.count-count.result) new.result c.space.ensures.sound
-    (c.in_ok-reserve_more.ensures.belongs heap (subst (Fits c.self.inside.marked heap) c.in-Some.is c.self.invariant.0)) (λ none. none) new.ensures.performs in
+    (c.in_ok-reserve_more.ensures.belongs heap (subst (Fits c.self.inside.epoch heap) c.in-Some.is c.self.invariant.0)) (λ none. none) new.ensures.performs in
     let less : c.args.m < heap.mutators = subst (λ (s : State). c.args.m < s.mutators) (sym c.self.view_is) c.requires.mutator in
     let before = opened_at heap c.self.inside.collection c.in-Some.collection logs (state_of heap (option_map collection_in c.self.inside.collection)) c.in-Some.is c.in_ok-reserve_more.ensures.collection refl in
     let fields = g.R.SourceRow.sources c.args.fields.now in (
@@ -54,7 +54,7 @@ returns-in-Full-made-clause-step g c =
     let new = c.new_object-made-2 in
     let logs = c.reserve_more.new.self in
     let made = open_left heap new.new.self logs c.args.m (New c.args.d c.args.kind c.count-count.result) new.result c.space.ensures.sound
-    (c.in_ok-reserve_more.ensures.belongs heap (subst (Fits c.self.inside.marked heap) c.in-Some.is c.self.invariant.0)) (λ none. none) new.ensures.performs in
+    (c.in_ok-reserve_more.ensures.belongs heap (subst (Fits c.self.inside.epoch heap) c.in-Some.is c.self.invariant.0)) (λ none. none) new.ensures.performs in
     let before = opened_at heap c.self.inside.collection c.in-Some.collection logs c.args.self.now c.in-Some.is c.in_ok-reserve_more.ensures.collection c.self.view_is in
     let fields = g.R.SourceRow.sources c.args.fields.now in
     subst (λ x. new_with_step x c.args.m c.args.d c.args.kind c.args.t fields ≡ (new.result, open_state new.new.self logs)) before
@@ -65,7 +65,7 @@ fill_and_log-requires g c =
     let heap = c.self.inside.heap in
     let new = c.new_object-made-2 in
     let made = open_left heap new.new.self c.reserve_more.new.self c.args.m (New c.args.d c.args.kind c.count-count.result) new.result c.space.ensures.sound
-    (c.in_ok-reserve_more.ensures.belongs heap (subst (Fits c.self.inside.marked heap) c.in-Some.is c.self.invariant.0)) (λ none. none) new.ensures.performs in
+    (c.in_ok-reserve_more.ensures.belongs heap (subst (Fits c.self.inside.epoch heap) c.in-Some.is c.self.invariant.0)) (λ none. none) new.ensures.performs in
     let count : new.new.self.mutators ≡ c.args.self.now.mutators = new.ensures.performs.mutators ∙ ap (λ (s : State). s.mutators) c.self.view_is in
     let mutator = c.requires.mutator in
     let same = c.count-count.ensures in
@@ -79,7 +79,7 @@ invariant_of-self-2 g c = with_row c.self.invariant.2 (
     let new = c.new_object-made-2 in
     let logs = c.reserve_more.new.self in
     let made = open_left heap new.new.self logs c.args.m (New c.args.d c.args.kind c.count-count.result) new.result c.space.ensures.sound
-    (c.in_ok-reserve_more.ensures.belongs heap (subst (Fits c.self.inside.marked heap) c.in-Some.is c.self.invariant.0)) (λ none. none) new.ensures.performs in
+    (c.in_ok-reserve_more.ensures.belongs heap (subst (Fits c.self.inside.epoch heap) c.in-Some.is c.self.invariant.0)) (λ none. none) new.ensures.performs in
     let less : c.args.m < heap.mutators = subst (λ (s : State). c.args.m < s.mutators) (sym c.self.view_is) c.requires.mutator in
     let before = opened_at heap c.self.inside.collection c.in-Some.collection logs (state_of heap (option_map collection_in c.self.inside.collection)) c.in-Some.is c.in_ok-reserve_more.ensures.collection refl in
     let filled = c.fill_and_log in
@@ -97,7 +97,7 @@ returns g c =
     let new = c.new_object-made-2 in
     let logs = c.reserve_more.new.self in
     let made = open_left heap new.new.self logs c.args.m (New c.args.d c.args.kind c.count-count.result) new.result c.space.ensures.sound
-    (c.in_ok-reserve_more.ensures.belongs heap (subst (Fits c.self.inside.marked heap) c.in-Some.is c.self.invariant.0)) (λ none. none) new.ensures.performs in
+    (c.in_ok-reserve_more.ensures.belongs heap (subst (Fits c.self.inside.epoch heap) c.in-Some.is c.self.invariant.0)) (λ none. none) new.ensures.performs in
     let before = opened_at heap c.self.inside.collection c.in-Some.collection logs c.args.self.now c.in-Some.is c.in_ok-reserve_more.ensures.collection c.self.view_is in
     let filled = c.fill_and_log in
     let after = open_state filled.new.heap filled.new.collection in
@@ -113,5 +113,5 @@ returns g c =
 pub invariant_of-self-in_err-reserve_more : goal.invariant_of-self-in_err-reserve_more
 invariant_of-self-in_err-reserve_more g c = with_row c.self.invariant.2 (
     let before = opened_at c.self.inside.heap c.self.inside.collection c.in-Some.collection c.reserve_more.new.self (state_of c.self.inside.heap (option_map collection_in c.self.inside.collection)) c.in-Some.is c.in_err-reserve_more.ensures.collection refl in
-    (c.in_err-reserve_more.ensures.belongs c.self.inside.heap (subst (Fits c.self.inside.marked c.self.inside.heap) c.in-Some.is c.self.invariant.0), subst (KnowsRoots c.self.inside.known) (sym before) c.self.invariant.1)
+    (c.in_err-reserve_more.ensures.belongs c.self.inside.heap (subst (Fits c.self.inside.epoch c.self.inside.heap) c.in-Some.is c.self.invariant.0), subst (KnowsRoots c.self.inside.known) (sym before) c.self.invariant.1)
     )

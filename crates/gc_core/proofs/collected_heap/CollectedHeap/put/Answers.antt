@@ -15,7 +15,7 @@ use Rattle.gc_core.proofs.collected_heap.CollectedHeap.put.Goals as goal
 pub invariant_of-self : goal.invariant_of-self
 invariant_of-self c = with_row c.self.invariant.2 (
     let o = option_map collection_in c.self.inside.collection in
-    let put = idle_mutated c.self.inside.marked c.self.inside.heap c.put.new.self c.self.inside.collection c.args.m (Put c.args.s c.args.i c.args.t) c.put.result c.space.ensures.sound c.in_default.not-Some c.put.ensures.performs c.self.invariant.0 in
+    let put = idle_mutated c.self.inside.epoch c.self.inside.heap c.put.new.self c.self.inside.collection c.args.m (Put c.args.s c.args.i c.args.t) c.put.result c.space.ensures.sound c.in_default.not-Some c.put.ensures.performs c.self.invariant.0 in
     (put.1, put_knows c.self.inside.known (state_of c.self.inside.heap o) (state_of c.put.new.self o) c.args.m c.args.i c.args.s c.args.t c.put.result put.0 c.self.invariant.1)
     )
 
@@ -32,11 +32,11 @@ invariant_of-self-2 c = with_row c.self.invariant.2 (
 pub invariant_of-self-in_err-reserve : goal.invariant_of-self-in_err-reserve
 invariant_of-self-in_err-reserve c = with_row c.self.invariant.2 (
     let before = opened_at c.self.inside.heap c.self.inside.collection c.in-Some.collection c.reserve.new.self (state_of c.self.inside.heap (option_map collection_in c.self.inside.collection)) c.in-Some.is c.in_err-reserve.ensures.collection refl in
-    (c.in_err-reserve.ensures.belongs c.self.inside.heap (subst (Fits c.self.inside.marked c.self.inside.heap) c.in-Some.is c.self.invariant.0), subst (KnowsRoots c.self.inside.known) (sym before) c.self.invariant.1)
+    (c.in_err-reserve.ensures.belongs c.self.inside.heap (subst (Fits c.self.inside.epoch c.self.inside.heap) c.in-Some.is c.self.invariant.0), subst (KnowsRoots c.self.inside.known) (sym before) c.self.invariant.1)
     )
 
 pub put-requires-2-clause-belongs : goal.put-requires-2-clause-belongs
-put-requires-2-clause-belongs c = c.in_ok-reserve.ensures.belongs c.self.inside.heap (subst (Fits c.self.inside.marked c.self.inside.heap) c.in-Some.is c.self.invariant.0)
+put-requires-2-clause-belongs c = c.in_ok-reserve.ensures.belongs c.self.inside.heap (subst (Fits c.self.inside.epoch c.self.inside.heap) c.in-Some.is c.self.invariant.0)
 
 pub returns-clause-step : goal.returns-clause-step
 returns-clause-step c =

@@ -15,14 +15,14 @@ use Rattle.gc_core.proofs.collected_heap.CollectedHeap.put_number.Goals as goal
 
 pub put-requires-2-clause-belongs : goal.put-requires-2-clause-belongs
 put-requires-2-clause-belongs c =
-    let fits : BelongsTo c.self.inside.heap c.in-Some.collection = subst (Fits c.self.inside.marked c.self.inside.heap) c.in-Some.is c.self.invariant.0 in
+    let fits : BelongsTo c.self.inside.heap c.in-Some.collection = subst (Fits c.self.inside.epoch c.self.inside.heap) c.in-Some.is c.self.invariant.0 in
     let left = c.commands_leave_collections.ensures.collecting c.self.inside.heap c.num-done-2.new.self c.reserve.new.self c.args.m (Num c.args.t c.args.n) c.num-done-2.result c.space.ensures.sound
     (c.in_ok-reserve.ensures.belongs c.self.inside.heap fits) (λ none. none) c.num-done-2.ensures.performs in
     left.1
 
 pub returns-clause-step : goal.returns-clause-step
 returns-clause-step c =
-    let fits : BelongsTo c.self.inside.heap c.in-Some.collection = subst (Fits c.self.inside.marked c.self.inside.heap) c.in-Some.is c.self.invariant.0 in
+    let fits : BelongsTo c.self.inside.heap c.in-Some.collection = subst (Fits c.self.inside.epoch c.self.inside.heap) c.in-Some.is c.self.invariant.0 in
     let left = c.commands_leave_collections.ensures.collecting c.self.inside.heap c.num-done-2.new.self c.reserve.new.self c.args.m (Num c.args.t c.args.n) c.num-done-2.result c.space.ensures.sound
     (c.in_ok-reserve.ensures.belongs c.self.inside.heap fits) (λ none. none) c.num-done-2.ensures.performs in
     let after = open_state c.put-2.new.heap c.put-2.new.self in
@@ -36,8 +36,8 @@ invariant_of-self c = with_row c.self.invariant.2 (
     let heap = c.self.inside.heap in
     let o = c.self.inside.collection in
     let less : c.args.m < heap.mutators = subst (λ (s : State). c.args.m < s.mutators) (sym c.self.view_is) c.requires in
-    let one = idle_mutated c.self.inside.marked heap c.num-done.new.self o c.args.m (Num c.args.t c.args.n) c.num-done.result c.space.ensures.sound c.in_default.not-Some c.num-done.ensures.performs c.self.invariant.0 in
-    let two = idle_mutated c.self.inside.marked c.num-done.new.self c.put.new.self o c.args.m (Put c.args.s c.args.i c.args.t) c.put.result c.num-done.ensures.sound c.in_default.not-Some c.put.ensures.performs one.1 in (
+    let one = idle_mutated c.self.inside.epoch heap c.num-done.new.self o c.args.m (Num c.args.t c.args.n) c.num-done.result c.space.ensures.sound c.in_default.not-Some c.num-done.ensures.performs c.self.invariant.0 in
+    let two = idle_mutated c.self.inside.epoch c.num-done.new.self c.put.new.self o c.args.m (Put c.args.s c.args.i c.args.t) c.put.result c.num-done.ensures.sound c.in_default.not-Some c.put.ensures.performs one.1 in (
       two.1,
       number_knows c.self.inside.known (state_of heap (option_map collection_in o)) (state_of c.num-done.new.self (option_map collection_in o)) (state_of c.put.new.self (option_map collection_in o)) c.args.m c.args.i c.args.n c.args.s c.args.t
           c.num-done.result c.put.result (omega (arith, c.index.ensures.value, c.index.ensures.bound)) less one.0 two.0 c.self.invariant.1,
@@ -48,7 +48,7 @@ pub invariant_of-self-2 : goal.invariant_of-self-2
 invariant_of-self-2 c = with_row c.self.invariant.2 (
     let heap = c.self.inside.heap in
     let less : c.args.m < heap.mutators = subst (λ (s : State). c.args.m < s.mutators) (sym c.self.view_is) c.requires in
-    let fits : BelongsTo heap c.in-Some.collection = subst (Fits c.self.inside.marked heap) c.in-Some.is c.self.invariant.0 in
+    let fits : BelongsTo heap c.in-Some.collection = subst (Fits c.self.inside.epoch heap) c.in-Some.is c.self.invariant.0 in
     let left = c.commands_leave_collections.ensures.collecting heap c.num-done-2.new.self c.reserve.new.self c.args.m (Num c.args.t c.args.n) c.num-done-2.result c.space.ensures.sound
     (c.in_ok-reserve.ensures.belongs heap fits) (λ none. none) c.num-done-2.ensures.performs in
     let before = opened_at heap c.self.inside.collection c.in-Some.collection c.reserve.new.self (state_of heap (option_map collection_in c.self.inside.collection)) c.in-Some.is c.in_ok-reserve.ensures.collection refl in (
@@ -61,5 +61,5 @@ invariant_of-self-2 c = with_row c.self.invariant.2 (
 pub invariant_of-self-in_err-reserve : goal.invariant_of-self-in_err-reserve
 invariant_of-self-in_err-reserve c = with_row c.self.invariant.2 (
     let before = opened_at c.self.inside.heap c.self.inside.collection c.in-Some.collection c.reserve.new.self (state_of c.self.inside.heap (option_map collection_in c.self.inside.collection)) c.in-Some.is c.in_err-reserve.ensures.collection refl in
-    (c.in_err-reserve.ensures.belongs c.self.inside.heap (subst (Fits c.self.inside.marked c.self.inside.heap) c.in-Some.is c.self.invariant.0), subst (KnowsRoots c.self.inside.known) (sym before) c.self.invariant.1)
+    (c.in_err-reserve.ensures.belongs c.self.inside.heap (subst (Fits c.self.inside.epoch c.self.inside.heap) c.in-Some.is c.self.invariant.0), subst (KnowsRoots c.self.inside.known) (sym before) c.self.invariant.1)
     )

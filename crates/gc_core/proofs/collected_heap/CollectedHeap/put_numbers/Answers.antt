@@ -17,8 +17,8 @@ invariant_of-self c = with_row c.self.invariant.2 (
     let heap = c.self.inside.heap in
     let none : c.self.inside.collection ≡ None = c.in_default-collection.is in
     let less : c.args.m < heap.mutators = subst (λ (s : State). c.args.m < s.mutators) (sym c.self.view_is) c.requires.mutator in
-    let all = idle_written c.self.inside.marked c.args.words.now heap c.fill_numbers.new.self c.args.m c.args.first c.args.s c.args.t c.space.ensures.sound (subst (Fits c.self.inside.marked heap) none c.self.invariant.0) c.fill_numbers.ensures.writes in
-    subst (λ o. Fits c.self.inside.marked c.fill_numbers.new.self o × KnowsRoots c.self.inside.known (state_of c.fill_numbers.new.self (option_map collection_in o))) (sym none) (
+    let all = idle_written c.self.inside.epoch c.args.words.now heap c.fill_numbers.new.self c.args.m c.args.first c.args.s c.args.t c.space.ensures.sound (subst (Fits c.self.inside.epoch heap) none c.self.invariant.0) c.fill_numbers.ensures.writes in
+    subst (λ o. Fits c.self.inside.epoch c.fill_numbers.new.self o × KnowsRoots c.self.inside.known (state_of c.fill_numbers.new.self (option_map collection_in o))) (sym none) (
       all.1,
       subst (KnowsRoots c.self.inside.known) all.0 (numbers_know c.args.words.now c.self.inside.known (idle_state heap) c.args.m c.args.first c.args.s c.args.t (omega (arith, c.index.ensures.value, c.index.ensures.bound)) less
           (subst (λ o. KnowsRoots c.self.inside.known (state_of heap (option_map collection_in o))) none c.self.invariant.1)),
@@ -29,7 +29,7 @@ pub returns-in_default-collection-clause-step : goal.returns-in_default-collecti
 returns-in_default-collection-clause-step c =
     let heap = c.self.inside.heap in
     let none : c.self.inside.collection ≡ None = c.in_default-collection.is in
-    let all = idle_written c.self.inside.marked c.args.words.now heap c.fill_numbers.new.self c.args.m c.args.first c.args.s c.args.t c.space.ensures.sound (subst (Fits c.self.inside.marked heap) none c.self.invariant.0) c.fill_numbers.ensures.writes in
+    let all = idle_written c.self.inside.epoch c.args.words.now heap c.fill_numbers.new.self c.args.m c.args.first c.args.s c.args.t c.space.ensures.sound (subst (Fits c.self.inside.epoch heap) none c.self.invariant.0) c.fill_numbers.ensures.writes in
     let before : idle_state heap ≡ c.args.self.now = ap (λ o. state_of heap (option_map collection_in o)) (sym none) ∙ c.self.view_is in
     let after : idle_state c.fill_numbers.new.self ≡ state_of c.fill_numbers.new.self (option_map collection_in c.self.inside.collection) = ap (λ o. state_of c.fill_numbers.new.self (option_map collection_in o)) (sym none) in
     let fits : c.args.first + length c.args.words.now ≤ c.in-Some.count = omega (arith, c.from.ensures, c.from-2.ensures, c.if-from-words.false) in
@@ -40,11 +40,11 @@ returns-in_default-collection-clause-step c =
 pub invariant_of-self-in_err-reserve_more : goal.invariant_of-self-in_err-reserve_more
 invariant_of-self-in_err-reserve_more c = with_row c.self.invariant.2 (
     let before = opened_at c.self.inside.heap c.self.inside.collection c.in-Some-collection.collection c.reserve_more.new.self (state_of c.self.inside.heap (option_map collection_in c.self.inside.collection)) c.in-Some-collection.is c.in_err-reserve_more.ensures.collection refl in
-    (c.in_err-reserve_more.ensures.belongs c.self.inside.heap (subst (Fits c.self.inside.marked c.self.inside.heap) c.in-Some-collection.is c.self.invariant.0), subst (KnowsRoots c.self.inside.known) (sym before) c.self.invariant.1)
+    (c.in_err-reserve_more.ensures.belongs c.self.inside.heap (subst (Fits c.self.inside.epoch c.self.inside.heap) c.in-Some-collection.is c.self.invariant.0), subst (KnowsRoots c.self.inside.known) (sym before) c.self.invariant.1)
     )
 
 pub fill_and_log-requires-clause-belongs : goal.fill_and_log-requires-clause-belongs
-fill_and_log-requires-clause-belongs c = c.in_ok-reserve_more.ensures.belongs c.self.inside.heap (subst (Fits c.self.inside.marked c.self.inside.heap) c.in-Some-collection.is c.self.invariant.0)
+fill_and_log-requires-clause-belongs c = c.in_ok-reserve_more.ensures.belongs c.self.inside.heap (subst (Fits c.self.inside.epoch c.self.inside.heap) c.in-Some-collection.is c.self.invariant.0)
 
 pub invariant_of-self-2 : goal.invariant_of-self-2
 invariant_of-self-2 c = with_row c.self.invariant.2 (

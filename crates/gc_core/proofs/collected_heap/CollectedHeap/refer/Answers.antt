@@ -27,7 +27,7 @@ invariant_of-self c = with_row c.self.invariant.2 (
     let known : KnownRoots = record { slots = 0; extra = c.self.inside.known.extra; used = c.self.inside.known.used; count = c.self.inside.known.count } in
     let less : c.args.m < heap.mutators = subst (λ (s : State). c.args.m < s.mutators) (sym c.self.view_is) c.requires.mutator in
     let low : p < roots_of heap.mutators = slot_below c.args.d c.args.m heap.mutators (omega (arith, c.index.ensures.value, c.index.ensures.bound)) less in (
-      still_fits heap new p c.args.a.0 c.refer.ensures.space c.refer.ensures.graph c.refer.ensures.mutators c.self.inside.marked o c.self.invariant.0,
+      still_fits heap new p c.args.a.0 c.refer.ensures.space c.refer.ensures.graph c.refer.ensures.mutators c.self.inside.epoch o c.self.invariant.0,
       subst (KnowsRoots known) (sym (referred heap new p c.args.a.0 c.refer.ensures.space c.refer.ensures.graph c.refer.ensures.mutators (option_map collection_in o)))
           (referred_knows c.self.inside.known (state_of heap (option_map collection_in o)) p c.args.a.0 low c.self.invariant.1),
     )

@@ -7,5 +7,5 @@ use Rattle.gc_core.proofs.collected_heap.CollectedHeap.same.Goals as goal
 
 pub returns : goal.returns
 returns c =
-    let step = mutated c.self.inside.marked c.self.inside.heap c.self.inside.heap c.self.inside.collection c.args.m (Same c.args.s c.args.t) c.same.result c.space.ensures.sound (λ none. none) c.same.ensures.performs c.self.invariant.0 in
+    let step = mutated c.self.inside.epoch c.self.inside.heap c.self.inside.heap c.self.inside.collection c.args.m (Same c.args.s c.args.t) c.same.result c.space.ensures.sound (λ none. none) c.same.ensures.performs c.self.invariant.0 in
     subst (λ s. mutate s c.args.m (Same c.args.s c.args.t) ≡ (c.same.result, s)) c.self.view_is step

@@ -22,12 +22,12 @@ invariant_of-self c = with_row (omega (arith, ap (λ (known : KnownRoots). known
     let o = c.self.inside.collection in
     let less : c.args.m < heap.mutators = subst (λ (s : State). c.args.m < s.mutators) (sym c.self.view_is) c.requires.mutator in
     let there : c.args.k < length (graph_in heap).roots - roots_of heap.mutators = subst (λ (s : State). c.args.k < extra_roots_of s) (sym c.self.view_is) c.requires.root in
-    subst (λ (known : KnownRoots). Fits c.self.inside.marked c.store.new.self o × KnowsRoots known (state_of c.store.new.self (option_map collection_in o))) (sym c.stored-self-inside.ensures)
-    (fits_stored c.self.inside.marked c.self.inside.known heap c.store.new.self o c.args.m c.args.k (Move (extra_slot heap.mutators c.args.m c.args.k) c.args.s) c.store.result c.space.ensures.sound (λ none. none) c.store.ensures.performs
+    subst (λ (known : KnownRoots). Fits c.self.inside.epoch c.store.new.self o × KnowsRoots known (state_of c.store.new.self (option_map collection_in o))) (sym c.stored-self-inside.ensures)
+    (fits_stored c.self.inside.epoch c.self.inside.known heap c.store.new.self o c.args.m c.args.k (Move (extra_slot heap.mutators c.args.m c.args.k) c.args.s) c.store.result c.space.ensures.sound (λ none. none) c.store.ensures.performs
     (ap Some (extra_place heap.mutators c.args.m c.args.k (omega (arith, less)))) (omega (arith, there)) c.self.invariant.0 c.self.invariant.1)
     )
 
 pub returns-clause-step : goal.returns-clause-step
 returns-clause-step c =
-    let step = mutated c.self.inside.marked c.self.inside.heap c.store.new.self c.self.inside.collection c.args.m (Move (extra_slot c.self.inside.heap.mutators c.args.m c.args.k) c.args.s) c.store.result c.space.ensures.sound (λ none. none) c.store.ensures.performs c.self.invariant.0 in
+    let step = mutated c.self.inside.epoch c.self.inside.heap c.store.new.self c.self.inside.collection c.args.m (Move (extra_slot c.self.inside.heap.mutators c.args.m c.args.k) c.args.s) c.store.result c.space.ensures.sound (λ none. none) c.store.ensures.performs c.self.invariant.0 in
     subst (λ (s : State). mutate s c.args.m (Move (extra_slot s.mutators c.args.m c.args.k) c.args.s) ≡ (c.store.result, state_of c.store.new.self (option_map collection_in c.self.inside.collection))) c.self.view_is step

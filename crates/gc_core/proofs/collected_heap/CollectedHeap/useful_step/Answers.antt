@@ -10,4 +10,4 @@ pub returns-clause-step : goal.returns-clause-step
 returns-clause-step c =
     subst (λ (s : State). IsStep s.mutators c.step_after_roots.result) c.self.view_is
     (subst (IsStep c.self.inside.heap.mutators) (sym c.step_after_roots.ensures)
-    (step_is_one c.self.inside.heap c.in-Some.collection (subst (Fits c.self.inside.marked c.self.inside.heap) c.in-Some.is c.self.invariant.0)))
+    (step_is_one c.self.inside.heap c.in-Some.collection (subst (Fits c.self.inside.epoch c.self.inside.heap) c.in-Some.is c.self.invariant.0)))
