@@ -37,9 +37,7 @@ module _ (s : State) (c : Collection) (t : Tables) (heap : IsSpaceGraph s.size s
     where
       adds : (name : ℕ) (o : Option Collection) → place_replica c name (Rattle.gc_graph.specs.Graph.lookup s.heap.graph.objects name) ≡ o → if_room s Copied o ≡ (Copied, s') → Adds c next
       adds name None e u = absurd (let no : NoRoom ≡ Copied = ap (λ (x : StepReply × State). x.0) u in cc)
-      adds name (Some d) e u =
-          let came : d ≡ next = (let a : Some d ≡ s'.collection = ap (λ (x : StepReply × State). x.1.collection) u in cc) in
-          inr (adds_placed c next name (Rattle.gc_graph.specs.Graph.lookup s.heap.graph.objects name) (e ∙ ap Some came))
+      adds name (Some d) e u = grind (arith, common_steps, adds_placed)
 
       go : (o : Option ℕ) → root_target c s.heap.graph ≡ o → copy_root s c o ≡ (Copied, s') → Goes s next (watch_of after)
       go None e u = absurd (let no : Clean ≡ Copied = ap (λ (x : StepReply × State). x.0) u in cc)

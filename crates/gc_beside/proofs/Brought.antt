@@ -1,6 +1,6 @@
 -- What a step of the collector leaves as it is, and a replica that it places: if it is raw it is its original.
 use Rattle.std.proofs.lemmas.Grind.{common_steps}
-use Rattle.std.proofs.Common.{◌≡◌, ◌⊎◌, inl, inr, ⊎_elim, ℕ, suc, ◌+◌, ◌≤◌, ◌==◌, nat_lt, Bool, true, false, cond, ◌||◌, List, [], ◌∷◌, ◌++◌, map, length, Option, Some, None, is_some, refl, ap, sym, ◌∙◌, subst, arith}
+use Rattle.std.proofs.Common.{◌≡◌, ◌⊎◌, inl, inr, ⊎_elim, ℕ, suc, ◌+◌, ◌==◌, nat_lt, Bool, true, false, cond, ◌||◌, List, [], ◌∷◌, ◌++◌, map, length, Option, Some, None, is_some, refl, ap, sym, ◌∙◌, subst, arith}
 use Rattle.std.proofs.lemmas.Bool.{cases_Bool, cond-true, cond-false, eqb-true, or_left, or_right}
 use Rattle.gc_graph.specs.Graph.{Value, Nil, Num, Ref, Object, Graph, lookup, field_of, new_object}
 use Rattle.gc_plan.specs.State.{Replica, Collection, State, new_end, new_free, replica_of, replica_at, moved, fresh_object}
@@ -27,10 +27,7 @@ pub record Brings (objects : List (ℕ × Object)) (c d : Collection) : Type 0 w
 
 module _ (objects : List (ℕ × Object)) (c : Collection) (laid : Laid 1 (map placed c.replicas) (new_end c)) where
   not_behind : (q : Replica) → In q c.replicas → q.place ≡ new_end c → ⊥
-  not_behind q l e =
-      let range = laid_range 1 (map placed c.replicas) (new_end c) (placed q) laid (in_map placed q c.replicas l) in
-      let high : q.place + (length q.object.fields + 2) ≤ new_end c = range.1 in
-      absurd (omega arith)
+  not_behind q l e = grind (arith, common_steps, (laid_range 1 (map placed c.replicas) (new_end c) (placed q) laid (in_map placed q c.replicas l)).1)
 
   pub brings_none : Brings objects c c
   brings_none = record { size = refl; logs = refl; scan_place = refl; scan_field = refl; fresh = λ q l e. absurd (not_behind q l e) }
@@ -112,9 +109,7 @@ root_copied s s' c next said is = go (root_target c s.heap.graph) refl said
   where
     at : (name : ℕ) → replica_of c name ≡ None → (o : Option Collection) → place_replica c name (lookup s.heap.graph.objects name) ≡ o → if_room s Copied o ≡ (Copied, s') → RootCopied s c next
     at name none None e u = absurd (let no : NoRoom ≡ Copied = ap (λ (x : StepReply × State). x.0) u in cc)
-    at name none (Some d) e u =
-        let came : d ≡ next = (let a : Some d ≡ s'.collection = ap (λ (x : StepReply × State). x.1.collection) u in cc) in
-        record { name = name; none = none; is = e ∙ ap Some came }
+    at name none (Some d) e u = grind (arith, common_steps)
 
     go : (o : Option ℕ) → root_target c s.heap.graph ≡ o → copy_root s c o ≡ (Copied, s') → RootCopied s c next
     go None e u = absurd (let no : Clean ≡ Copied = ap (λ (x : StepReply × State). x.0) u in cc)

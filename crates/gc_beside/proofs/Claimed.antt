@@ -1,12 +1,13 @@
 -- What a standing checker is told at a collector's step is true, so that it is not lost.
-use Rattle.std.proofs.Common.{◌≡◌, inl, inr, ⊎_elim, ℕ, ◌+◌, ◌%◌, ◌<◌, ◌≤◌, true, map, length, get_or, take, drop, Some, ap, sym, ◌∙◌, subst, arith}
+use Rattle.std.proofs.lemmas.Grind.{common_steps}
+use Rattle.std.proofs.Common.{◌≡◌, inl, inr, ⊎_elim, ℕ, ◌+◌, ◌%◌, ◌<◌, ◌≤◌, true, map, length, get_or, Some, ap, sym, ◌∙◌, subst, arith, rules}
 use Rattle.std.specs.Prelude.{slice_index}
 use Rattle.std.proofs.lemmas.Bool.{eqb-true}
 use Rattle.gc_graph.specs.Graph.{Object, lookup}
 use Rattle.gc_words.specs.Word.{header_word, read_header}
-use Rattle.gc_words.specs.Layout.{fields_place, link_place}
+use Rattle.gc_words.specs.Layout.{link_place}
 use Rattle.gc_plan.specs.State.{Replica, Collection, State, heap_end, new_end}
-use Rattle.gc_plan.specs.Linked.{LeadsTo, object_header, field_word}
+use Rattle.gc_plan.specs.Linked.{LeadsTo, object_header}
 use Rattle.gc_plan.specs.Members.{In}
 use Rattle.gc_plan.specs.Belonging.{IsDue, IsSpaceGraph, IsOpened}
 use Rattle.gc_plan.proofs.Public.{laid_range, lookup_in, end_is, found_by_name, in_map, pair, placed, in_paired, same_original}
@@ -57,24 +58,7 @@ module _ (s : State) (next : Collection) (links : ℕ → ℕ) (heap : IsSpaceGr
 
   -- a field of a replica can be compared
   pub can_look : (t : Tables) (r : Replica) (i : ℕ) → In r next.replicas → Fits (heap_end s) next (watch_of t) → i < length r.object.fields → CanLook (heap_words links s) (replica_words next) r.place i t
-  can_look t r i l fits small =
-      let at = is_at r l in
-      let a : r.original + (length r.object.fields + 2) ≤ length (heap_words links s) = at.within in
-      let b : r.place + (length r.object.fields + 2) ≤ new_end next = at.place_within in
-      let seen : length t.news ≡ new_end next = fits.new_seen in
-      let count : length (replica_words next) ≡ new_end next = (replicas_shown s next links heap opened).count in (
-        object_header r.object,
-        r.original,
-        record {
-          header = ((replicas_shown s next links heap opened).each r l).header;
-          has_field = small;
-          origin = origin_is (heap_end s) next t r fits l at.low;
-          low = at.low;
-          within = omega arith;
-        },
-        omega arith,
-        omega arith,
-      )
+  can_look t r i l fits small = search (rules, is_at, replicas_shown, origin_is)
 
   -- the low bits of an original's link lead to its replica
   pub linked : (t : Tables) (r : Replica) → In r next.replicas → LeadsTo links next → Fits (heap_end s) next (watch_of t) → IsLinked (heap_words links s) t r.original r.place
@@ -145,35 +129,9 @@ module _ (s : State) (c next : Collection) (t : Tables) (links : ℕ → ℕ) (h
       }
 
   pub can_place : Adds c next → next.size ≡ c.size → CanPlace (heap_words links s) (replica_words next) t
-  can_place (inl h) size less =
-      let count : length (replica_words next) ≡ new_end next = (replicas_shown s next links heap opened).count in
-      let end : new_end next ≡ new_end c = h.end in
-      let seen : length t.news ≡ new_end c = goes.fits.new_seen in
-      absurd (omega arith)
-  can_place (inr (q, added)) size less =
-      let at = is_at s next links heap opened q added.there in
-      let claim = true_claim q added in
-      let within : q.original + (length q.object.fields + 2) ≤ length (heap_words links s) = at.within in
-      let high : length (heap_words links s) ≤ 4294967295 = at.high in
-      let end : new_end next ≡ new_end c + (length q.object.fields + 2) = added.end in
-      let seen : length t.news ≡ new_end c = goes.fits.new_seen in
-      let room : new_end next ≤ next.size = opened.belongs.room in
-      let more : c.size ≤ t.room = knows.new_room in
-      (object_header q.object, q.original, claim, omega arith, omega arith)
+  can_place (inl h) size less = grind (arith, common_steps, (replicas_shown s next links heap opened).count)
+  can_place (inr (q, added)) size less = grind (arith, common_steps, true_claim q added, (is_at s next links heap opened q added.there).within, (is_at s next links heap opened q added.there).high)
 
   -- a raw replica that is its original is a copy
   pub is_copy : (q : Replica) (added : IsAdded c next q) → q.object.raw ≡ true → q.object ≡ (opened.belongs.replicas q added.there).original → IsCopy (heap_words links s) (replica_words next) (object_header q.object) q.original (length t.news)
-  is_copy q added raw same =
-      let shows = (replicas_shown s next links heap opened).each q added.there in
-      let was = original_shown s next links heap opened q added.there in
-      let o : Object = (opened.belongs.replicas q added.there).original in
-      let place : length t.news ≡ q.place = goes.fits.new_seen ∙ sym added.place in
-      record {
-        raw = raw;
-        fields =
-            ap (λ n. take n (drop (fields_place q.original) (heap_words links s))) (ap (λ (x : Object). length x.fields) same)
-            ∙ (was.fields
-            ∙ (ap (λ (x : Object). map (field_word (object_header x)) x.fields) (sym same)
-            ∙ (sym shows.fields
-            ∙ ap (λ n. take (length q.object.fields) (drop (fields_place n) (replica_words next))) (sym place))));
-      }
+  is_copy q added raw same = grind (arith, common_steps, (replicas_shown s next links heap opened).each q added.there, original_shown s next links heap opened q added.there)

@@ -1,6 +1,6 @@
 -- The tables of a standing checker know the heap through the mutators' commands, and it is not lost at any.
 use Rattle.std.proofs.lemmas.Grind.{common_steps}
-use Rattle.std.proofs.Common.{◌≡◌, ◌≢◌, ◌⊎◌, inl, inr, ⊎_elim, ℕ, zero, suc, ◌+◌, ◌-◌, ◌<◌, ◌≤◌, ◌==◌, ◌&&◌, not, nat_lt, Bool, true, false, List, [], ◌∷◌, ◌++◌, map, length, get_or, set, replicate, Option, Some, None, refl, ap, sym, ◌∙◌, subst, arith}
+use Rattle.std.proofs.Common.{◌≡◌, ◌≢◌, ◌⊎◌, inl, inr, ⊎_elim, ℕ, zero, suc, ◌+◌, ◌-◌, ◌<◌, ◌≤◌, ◌==◌, ◌&&◌, not, nat_lt, Bool, true, false, List, [], ◌∷◌, ◌++◌, map, length, get_or, set, Option, Some, None, refl, ap, sym, ◌∙◌, subst, arith}
 use Rattle.std.specs.Prelude.{slice_get, slice_set, slice_index}
 use Rattle.std.proofs.lemmas.Bool.{cases_Bool, cases_eq, cond_both, ltb-true, ltb-false}
 use Rattle.std.proofs.lemmas.List.{get_or_append_left, get_or-append_right, get_or-set_same, get_or-set_other}
@@ -90,9 +90,7 @@ kept_put g (Ref b) (Some o) (Some before) i w a h = cond_both (o.raw && not (is_
     (λ t. kept_set b i w g.objects a h)
 
 kept_get : (g : Graph) (d : ℕ) (target : Option Object) (found : Option Value) (a : ℕ) → IsNamed g.objects a → IsNamed (get_field g d target found).1.objects a
-kept_get g d None found a h = h
-kept_get g d (Some o) None a h = h
-kept_get g d (Some o) (Some v) a h = h
+kept_get g d target found a h = grind (arith, common_steps)
 
 kept_step : (g : Graph) (m : ℕ) (op : Op) (name a : ℕ) → IsNamed g.objects a → IsNamed (step g m op name).1.objects a
 kept_step g m (ops.New d kind len) name a h = (h.0, in_left {X = ℕ × Object} (a, h.0) g.objects ((name, new_object false kind len) ∷ []) h.1)
@@ -144,13 +142,7 @@ open_trans None None (Some d) h k = absurd k
 open_trans None (Some d) q h k = absurd h
 open_trans (Some c) None q h k = absurd h
 open_trans (Some c) (Some d) None h k = absurd k
-open_trans (Some c) (Some d) (Some e) h k = record {
-  size = k.size ∙ h.size;
-  replicas = k.replicas ∙ h.replicas;
-  scan_place = k.scan_place ∙ h.scan_place;
-  scan_field = k.scan_field ∙ h.scan_field;
-  logged = λ a i l. k.logged a i (h.logged a i l);
-}
+open_trans (Some c) (Some d) (Some e) h k = grind (arith, common_steps)
 
 pub continues_on : (s mid s' : State) (One Two All : ℕ → Type 0) → ((a : ℕ) → One a → All a) → ((a : ℕ) → Two a → All a) → Continues s mid One → Continues mid s' Two → Continues s s' All
 continues_on s mid s' One Two All f g h k = record {
@@ -215,14 +207,7 @@ no_mark n k e = grind (arith, common_steps)
 
 -- only the first word of a new object has a mark
 only_first : (n k : ℕ) → IsMark (get_or (object_codes n 0) k 0) → k ≡ 0
-only_first n zero mark = refl
-only_first n (suc zero) mark = absurd (⊎_elim (λ e. (let no : 0 ≡ 1 = e in omega arith)) (λ e. (let no : 0 ≡ 2 = e in omega arith)) mark)
-only_first n (suc (suc k)) mark = absurd (none n k mark)
-  where
-    none : (n k : ℕ) → (let nil : ℕ = 0 in IsMark (get_or (replicate n nil) k nil) → ⊥)
-    none zero k mark = ⊎_elim (λ e. (let no : 0 ≡ 1 = e in omega arith)) (λ e. (let no : 0 ≡ 2 = e in omega arith)) mark
-    none (suc n) zero mark = ⊎_elim (λ e. (let no : 0 ≡ 1 = e in omega arith)) (λ e. (let no : 0 ≡ 2 = e in omega arith)) mark
-    none (suc n) (suc k) mark = none n k mark
+only_first n k mark = grind (arith, common_steps, get_or)
 
 module _ (s s' : State) (t : Tables) (links : ℕ → ℕ) (later : IsSpaceGraph s'.size s'.heap.free s'.heap.graph) (more : EndsMore s s') (on : Continues s s' (λ a. a ≡ heap_end s)) (seen : length t.olds ≡ heap_end s) (k : KnowsAll s t) where
   count : length (heap_words links s') ≡ heap_end s'
@@ -265,10 +250,7 @@ module _ (s s' : State) (t : Tables) (links : ℕ → ℕ) (later : IsSpaceGraph
 
       -- the object that the walk came to
       new_name : length t.olds < length (heap_words links s') → IsNamed s'.heap.graph.objects (length t.olds)
-      new_name less = ⊎_elim
-          (λ (same : heap_end s ≡ heap_end s'). absurd (omega (arith, count)))
-          (λ (one : (e : Object) × (In (heap_end s, e) s'.heap.graph.objects × (heap_end s + (length e.fields + 2) ≡ heap_end s'))). (one.0, subst (λ n. In {X = ℕ × Object} (n, one.0) s'.heap.graph.objects) (sym seen) one.1.0))
-          more
+      new_name less = grind (arith, common_steps, same, count)
 
       one_more : length t.olds < length (heap_words links s') → (h : Header) → KnowsAll s' (old_added t h)
       one_more less h = record {
@@ -312,12 +294,7 @@ module _ (s : State) (d : Collection) (links : ℕ → ℕ) (heap : IsSpaceGraph
       omega arith
 
   row_has : (q : Replica) → In q d.replicas → q.original ≡ a → field_place q.place i < length t.news
-  row_has q l name =
-      let at = is_at s d links heap opened q l in
-      let b : q.place + (length q.object.fields + 2) ≤ new_end d = at.place_within in
-      let seen : length t.news ≡ new_end d = fits.new_seen in
-      let less : i < length q.object.fields = field_is q l name in
-      omega arith
+  row_has q l name = grind (arith, common_steps, (is_at s d links heap opened q l).place_within, field_is q l name)
 
   pub can_write : LeadsTo links d → CanWrite (heap_words links s) a i t
   can_write lead taken =

@@ -1,6 +1,6 @@
 -- The tables of a standing checker know the heap where a collection begins, is given up, or ends in a flip.
 use Rattle.std.proofs.lemmas.Grind.{common_steps}
-use Rattle.std.proofs.Common.{◌≡◌, ◌≢◌, inl, inr, ⊎_elim, ℕ, suc, ◌≤◌, true, [], ◌∷◌, map, get_or, None, refl, ap, sym, ◌∙◌, subst, arith}
+use Rattle.std.proofs.Common.{◌≡◌, ◌≢◌, inl, inr, ⊎_elim, ℕ, suc, ◌≤◌, [], ◌∷◌, map, get_or, None, refl, ap, sym, ◌∙◌, subst, arith}
 use Rattle.gc_graph.specs.Graph.{Object}
 use Rattle.gc_plan.specs.State.{Collection, State, heap_end}
 use Rattle.gc_plan.specs.Steps.{flipped, fresh_collection}
@@ -8,28 +8,20 @@ use Rattle.gc_plan.specs.Members.{In}
 use Rattle.gc_plan.specs.Belonging.{IsNamed, IsOpened, IsSpaceGraph}
 use Rattle.gc_plan.proofs.Public.{laid_range, lookup_in, in_map, in_map_from, placed}
 use Rattle.gc_along.specs.Events.{Freed, flipped_tables, opening_tables}
-use Rattle.gc_along.specs.Tables.{Tables, IsKept, watch_of}
+use Rattle.gc_along.specs.Tables.{Tables, watch_of}
 use Rattle.gc_along.specs.Telling.{IsMark}
-use Rattle.gc_along.specs.Watch.{is_due_at, opening}
 use Rattle.gc_beside.specs.Knows.{Knows, KnowsAll}
 use Rattle.gc_beside.proofs.Claimed.{origin_is}
 use Rattle.gc_beside.proofs.Events.{Goes}
 
--- where nothing is seen of a new space nothing is due in it, and no object has a replica
-none_due : (place : ℕ) → is_due_at (opening 0) place ≡ true → ⊥
-none_due place d = grind (arith, common_steps)
-
 only_zero : (b n : ℕ) → get_or (0 ∷ []) b 0 ≡ suc n → ⊥
 only_zero b n e = grind (arith, common_steps)
-
-kept_alone : (t : Tables) → t.news ≡ 0 ∷ [] → t.origins ≡ 0 ∷ [] → t.missing ≡ 0 → IsKept t
-kept_alone t news origins missing = grind (arith, common_steps, only_zero)
 
 -- tables of an empty new space know a collection that is just begun
 pub knows_fresh : (s : State) (size : ℕ) (t : Tables) → t.news ≡ 0 ∷ [] → t.origins ≡ 0 ∷ [] → t.missing ≡ 0
     → ((a : ℕ) → IsNamed s.heap.graph.objects a → IsMark (get_or t.olds a 0)) → ((a : ℕ) → IsMark (get_or t.olds a 0) → IsNamed s.heap.graph.objects a) → ((a : ℕ) → get_or t.olds a 0 ≢ 2)
     → s.size ≤ t.room → size ≤ t.room → Knows s (fresh_collection s.mutators size) t
-knows_fresh s size t news origins missing marked starts free old_room new_room = grind (arith, common_steps, kept_alone, none_due, only_zero)
+knows_fresh s size t news origins missing marked starts free old_room new_room = grind (arith, common_steps, only_zero)
 
 -- a heap without objects
 pub opened_known : (s : State) (size : ℕ) → s.heap.graph.objects ≡ [] → s.collection ≡ None → s.size ≤ size → 1 ≤ size → KnowsAll s (opening_tables size)

@@ -34,9 +34,7 @@ use Rattle.gc_beside.proofs.Told.{marked_at}
 -- ---- codes
 
 repeated : (n x k : ℕ) → ((get_or (replicate n x) k 0 ≡ x) × (k < n)) ⊎ (get_or (replicate n x) k 0 ≡ 0)
-repeated zero x k = inr refl
-repeated (suc n) x zero = inl (refl, omega arith)
-repeated (suc n) x (suc k) = ⊎_elim (λ h. inl (h.0, (let l : k < n = h.1 in omega arith))) (λ h. inr h) (repeated n x k)
+repeated n x k = grind (arith, common_steps)
 
 due_codes : (n : ℕ) (due : Bool) (k : ℕ) → get_or (object_codes n (code_of due)) k 0 ≡ 3 → (due ≡ true) × (j : ℕ) × (k ≡ suc (suc j)) × (j < n)
 due_codes n due k e = grind (arith, common_steps, repeated)
@@ -46,10 +44,7 @@ no_two n due k e = grind (arith, common_steps, repeated)
 
 -- only the first word of an object has the mark of a start
 one_first : (n : ℕ) (due : Bool) (k : ℕ) → get_or (object_codes n (code_of due)) k 0 ≡ 1 → k ≡ 0
-one_first n due zero e = refl
-one_first n due (suc zero) e = absurd (let no : 0 ≡ 1 = e in omega arith)
-one_first n true (suc (suc j)) e = absurd (⊎_elim (λ h. (let no : 3 ≡ 1 = sym h.0 ∙ e in omega arith)) (λ h. (let no : 0 ≡ 1 = sym h ∙ e in omega arith)) (repeated n 3 j))
-one_first n false (suc (suc j)) e = absurd (⊎_elim (λ h. (let no : 0 ≡ 1 = sym h.0 ∙ e in omega arith)) (λ h. (let no : 0 ≡ 1 = sym h ∙ e in omega arith)) (repeated n 0 j))
+one_first n due k e = grind (arith, common_steps, repeated)
 
 -- ---- a replica more, or none
 
@@ -206,12 +201,7 @@ module _ (s : State) (c next : Collection) (t : Tables) (links : ℕ → ℕ) (h
           m.3
 
       go : Adds c next → KnowsBy (IsDue c) s next mid × (mid.room ≡ t.room)
-      go (inl h) =
-          let count : length (replica_words next) ≡ new_end next = (replicas_shown s next links heap opened).count in
-          let end : new_end next ≡ new_end c = h.end in
-          let seen : length t.news ≡ new_end c = goes.fits.new_seen in
-          let same : mid ≡ t = is.at_end (omega arith) in
-          subst (λ (x : Tables). KnowsBy (IsDue c) s next x × (x.room ≡ t.room)) (sym same) (none_more h, refl)
+      go (inl h) = grind (arith, common_steps, none_more, (replicas_shown s next links heap opened).count)
       go (inr (q, added)) = at q added q.object.raw refl
 
 -- ---- a field compared
@@ -272,11 +262,7 @@ module _ (Due : Bool → ℕ → ℕ → ℕ → Type 0) (s : State) (next : Col
   }
     where
       in_row : field_place q.place i < length mid.news
-      in_row =
-          let at = is_at s next links heap opened q l in
-          let fit : q.place + (length q.object.fields + 2) ≤ new_end next = at.place_within in
-          let seen : length mid.news ≡ new_end next = fits.new_seen in
-          omega arith
+      in_row = grind (arith, common_steps, (is_at s next links heap opened q l).place_within)
 
       -- no object starts at a field
       apart : (r : Replica) → In r next.replicas → r.place ≢ field_place q.place i

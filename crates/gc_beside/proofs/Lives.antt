@@ -69,9 +69,6 @@ lives_scanned s s' c old words t mid after heap is_open is_open' first said are 
     scanned d next e k k' in_c there g w n = scan_go s d t heap k g old mid after next s' k' in_c there (subst (λ ws. Placed old ws t mid) (sym w) (placed (found n)))
         (subst (λ (x : Collection). Looked old (replica_words next) x.scan_place x.scan_field mid after) (sym e) (subst (λ ws. Looked old ws c.scan_place c.scan_field mid after) (sym w) (looked n)))
 
-lives_passed : (s s' : State) (t : Tables) (next : Collection) → IsSpaceGraph s.size s.heap.free s.heap.graph → IsOpen s s.collection → IsOpen s' s'.collection → collect s steps.Scan ≡ (Passed, s') → s'.collection ≡ Some next → IsLive s t → IsLive s' t
-lives_passed s s' t next heap is_open is_open' said there = grind (arith, common_steps, or_lost, in_collection, passed_go)
-
 pub lives_applied : (s s' : State) (m : ℕ) (entry : ℕ × ℕ) (old words : List ℕ) (t mid after : Tables) → IsSpaceGraph s.size s.heap.free s.heap.graph → IsOpen s s.collection → IsOpen s' s'.collection
     → ((c : Collection) → s.collection ≡ Some c → (rest : List (ℕ × ℕ)) × (log_at c m ≡ entry ∷ rest)) → collect s (steps.Apply m) ≡ (Applied, s') → AreNew s' words
     → (t.lost ≡ true → mid.lost ≡ true) → (mid.lost ≡ false → Placed old words t mid) → (mid.lost ≡ true → after.lost ≡ true) → (after.lost ≡ false → AppliedTo old words entry.0 entry.1 mid after) → IsLive s t → IsLive s' after
@@ -95,9 +92,6 @@ lives_applied s s' m entry old words t mid after heap is_open is_open' log said 
 pub lives_begun : (s s' : State) (t : Tables) (size : ℕ) → s.collection ≡ None → s' ≡ with_collection s (Some (fresh_collection s.mutators size)) → IsLive s t → IsLive s' t
 lives_begun s s' t size none is = grind (arith, common_steps, or_lost, begun)
 
-lives_dropped : (s s' : State) (t after : Tables) → s' ≡ with_collection s None → (t.lost ≡ true → after.lost ≡ true) → (after.lost ≡ false → Freed t after) → IsLive s t → IsLive s' after
-lives_dropped s s' t after is lost freed = grind (arith, common_steps, or_lost)
-
 pub lives_flipped : (s s' : State) (c : Collection) (t after : Tables) → s.collection ≡ Some c → IsOpened s c → s' ≡ Rattle.gc_plan.specs.Steps.flipped s c → (t.lost ≡ true → after.lost ≡ true) → (after.lost ≡ false → after ≡ flipped_tables t) → IsLive s t → IsLive s' after
 lives_flipped s s' c t after first k is lost flips = grind (arith, common_steps, or_lost)
 
@@ -116,7 +110,7 @@ lives_same : (s s' : State) (t : Tables) → s' ≡ s → IsLive s t → IsLive 
 lives_same s s' t e live = subst (λ (x : State). IsLive x t) (sym e) live
 
 pub lives_scan_other : (s s' : State) (reply : StepReply) (t : Tables) → IsSpaceGraph s.size s.heap.free s.heap.graph → IsOpen s s.collection → IsOpen s' s'.collection → collect s steps.Scan ≡ (reply, s') → (reply ≡ Scanned → ⊥) → IsLive s t → IsLive s' t
-lives_scan_other s s' reply t heap is_open is_open' said other live = grind (arith, common_steps, lives_same, lives_passed, scan_or_same)
+lives_scan_other s s' reply t heap is_open is_open' said other live = grind (arith, common_steps, lives_same, or_lost, in_collection, passed_go, scan_or_same)
 
 pub lives_drop : (s s' : State) (reply : StepReply) (t after : Tables) → collect s steps.Drop ≡ (reply, s') → (t.lost ≡ true → after.lost ≡ true) → (after.lost ≡ false → Freed t after) → IsLive s t → IsLive s' after
-lives_drop s s' reply t after said lost freed live = grind (arith, common_steps, lives_dropped)
+lives_drop s s' reply t after said lost freed live = grind (arith, common_steps, or_lost)

@@ -1,6 +1,6 @@
 -- A standing checker beside a heap stays lost, or goes along: the mutators' commands.
 use Rattle.std.proofs.lemmas.Grind.{common_steps}
-use Rattle.std.proofs.Common.{◌≡◌, ◌⊎◌, inl, inr, ⊎_elim, ℕ, ◌+◌, ◌-◌, ◌<◌, ◌≤◌, nat_lt, Bool, true, false, [], ◌∷◌, ◌++◌, length, Option, Some, None, refl, ap, sym, ◌∙◌, subst, arith, length-append}
+use Rattle.std.proofs.Common.{◌≡◌, ◌⊎◌, inl, inr, ⊎_elim, ℕ, ◌+◌, ◌-◌, ◌<◌, ◌≤◌, nat_lt, Bool, true, false, [], ◌∷◌, ◌++◌, length, Option, Some, None, refl, ap, sym, ◌∙◌, subst, arith, length-append, rules}
 use Rattle.std.specs.Prelude.{slice_index}
 use Rattle.std.proofs.lemmas.Bool.{cond_both, ltb-false}
 use Rattle.std.proofs.lemmas.List.{length-replicate}
@@ -18,7 +18,7 @@ use Rattle.gc_plan.specs.Steps.{mutate, written, log_at, with_log, logged}
 use Rattle.gc_plan.specs.Members.{In}
 use Rattle.gc_plan.specs.Belonging.{IsSpaceGraph, IsOpened, IsOpen}
 use Rattle.gc_plan.proofs.Public.{end_is, in_right}
-use Rattle.gc_along.specs.Watch.{Watch, opening}
+use Rattle.gc_along.specs.Watch.{opening}
 use Rattle.gc_beside.specs.Stays.{Fits, MarksWritten}
 use Rattle.gc_along.specs.Tables.{Tables, watch_of}
 use Rattle.gc_along.specs.Events.{Made, Wrote, object_codes}
@@ -110,17 +110,7 @@ module _ (s s' : State) (m : ℕ) (op : Op) (reply : Reply) (t after : Tables) (
   -- an object made
   lives_made : (links : ℕ → ℕ) → IsSpaceGraph s.size s.heap.free s.heap.graph → IsSpaceGraph s'.size s'.heap.free s'.heap.graph → (e : Object) → (full : (roomy_step s.heap m op (heap_end s)).1 ≡ s.heap ⊎ (In (heap_end s, e) s'.heap.graph.objects × (heap_end s + (length e.fields + 2) ≡ heap_end s')))
       → written s.heap.graph m op reply ≡ [] → (t.lost ≡ true → after.lost ≡ true) → (after.lost ≡ false → Made (heap_words links s') t after) → IsLive s t → IsLive s' after
-  lives_made links before later e cases quiet lost made = by_command lost
-      (λ n f w. (let seen : length t.olds ≡ heap_end s = ap (λ (w : Watch). w.old_seen) w in let d = grown s s' t after links later one_more seen (made n) in
-      ap watch_of d.1 ∙ (λ i. record (w i) { old_seen = d.0 i })))
-      (λ n c f k g. (let d = grown s s' t after links later one_more g.fits.old_seen (made n) in
-      subst (λ (t' : Tables). Fits (heap_end s') c (watch_of t') × MarksWritten (λ a i. In {X = ℕ × ℕ} (a, i) (written s.heap.graph m op reply)) (watch_of t) c (watch_of t')) (sym d.1) (
-        record { pairs = g.fits.pairs; old_seen = d.0; new_seen = g.fits.new_seen; row = g.fits.row },
-        λ r l j u. ⊎_elim (λ d. d) (λ w. absurd (subst (λ ws. In {X = ℕ × ℕ} (r.original, j) ws) quiet w)),
-      )))
-    where
-      one_more : EndsMore s s'
-      one_more = ⊎_elim (λ full. inl (λ i. size_is i - (ap (λ (r : Roomy). r.free) (sym full ∙ heap_is)) i)) (λ one. inr (e, one)) cases
+  lives_made links before later e full quiet lost made h = search (rules, by_command, grown, size_is, heap_is)
 
 -- ---- `new` and `raw`
 
@@ -143,13 +133,7 @@ pub ends_more : (s s' : State) (m : ℕ) (op : Op) (reply : Reply) (raw : Bool) 
 ends_more s s' m op reply raw d kind len is before said = go raw is
   where
     from : (e : Object) → NewOne s m op e (roomy_step s.heap m op (heap_end s)).1 → EndsMore s s'
-    from e one =
-        let heap_as : (roomy_step s.heap m op (heap_end s)).1 ≡ s'.heap = ap (λ (x : Reply × State). x.1.heap) said in
-        let size_as : s.size ≡ s'.size = ap (λ (x : Reply × State). x.1.size) said in
-        ⊎_elim
-        (λ full. inl (λ i. size_as i - (ap (λ (r : Roomy). r.free) (sym full ∙ heap_as)) i))
-        (λ o. inr (e, (subst (λ (h : Roomy). In (heap_end s, e) h.graph.objects) heap_as o.0, o.1 ∙ (λ i. size_as i - (ap (λ (h : Roomy). h.free) heap_as) i))))
-        one
+    from e one = grind (arith, common_steps)
 
     go : (raw : Bool) → op ≡ new_op raw d kind len → EndsMore s s'
     go true e = from (new_object true kind len) (subst (λ (o : Op). NewOne s m o (new_object true kind len) (roomy_step s.heap m o (heap_end s)).1) (sym e) (one_more s m (ops.NewRaw d kind len) (new_object true kind len) _ before (ap (λ n. n + 2) (sym (length-replicate len (Rattle.gc_graph.specs.Graph.first_value true)))) refl refl))

@@ -1,15 +1,14 @@
 -- A standing checker beside a heap stays lost, or goes along: calls that are several commands.
 use Rattle.std.proofs.lemmas.Grind.{common_steps}
-use Rattle.std.proofs.Common.{◌≡◌, ◌⊎◌, inl, inr, ⊎_elim, ℕ, ◌≤◌, true, false, arith, List, [], ◌∷◌, Option, Some, None, refl, ap, sym, ◌∙◌, subst}
+use Rattle.std.proofs.Common.{◌≡◌, ◌⊎◌, inl, inr, ⊎_elim, ℕ, ◌≤◌, true, false, arith, [], ◌∷◌, Option, Some, None, refl, ap, sym, ◌∙◌, subst}
 use Rattle.std.proofs.lemmas.Bool.{cond_both}
-use Rattle.gc_graph.specs.Graph.{Value, Object, Graph}
-use Rattle.gc_graph.specs.Machine.{words_taken, put_field}
+use Rattle.gc_graph.specs.Machine.{words_taken}
 use Rattle.gc_graph.specs.Slots.{SlotName}
 use Rattle.gc_graph.specs.declared.command.Op.{Op}
 use Rattle.gc_graph.specs.declared.command.Op.TheVariants as ops
 use Rattle.gc_graph.specs.declared.reply.Reply.{Reply}
 use Rattle.gc_plan.specs.State.{Collection, State, heap_end}
-use Rattle.gc_plan.specs.Steps.{mutate, written, logged}
+use Rattle.gc_plan.specs.Steps.{mutate, written}
 use Rattle.gc_plan.specs.Members.{In}
 use Rattle.gc_plan.specs.Belonging.{IsOpened, IsOpen}
 use Rattle.gc_plan.proofs.Public.{Evolves, WrittenBy}
@@ -57,11 +56,8 @@ leads_on s mid s' One Two All f g h k = record {
       };
 }
 
-logged_same : (o : Option Collection) (m : ℕ) (l : List (ℕ × ℕ)) → SameReplicas o (logged o m l)
-logged_same o m l = grind (arith, common_steps)
-
 pub leads_one : (s s' : State) (m : ℕ) (op : Op) (reply : Reply) → mutate s m op ≡ (reply, s') → Leads s s' (WrittenBy s.heap.graph m op reply)
-leads_one s s' m op reply said = grind (arith, common_steps, logged_same, command_evolves)
+leads_one s s' m op reply said = grind (arith, common_steps, command_evolves)
 
 pub lives_through : (s s' : State) (t after : Tables) (Written : ℕ → ℕ → Type 0) → IsOpen s s.collection → Leads s s' Written → (t.lost ≡ true → after.lost ≡ true)
     → (after.lost ≡ false → s.collection ≡ None → watch_of t ≡ opening (heap_end s) → watch_of after ≡ opening (heap_end s'))
@@ -80,12 +76,9 @@ lives_through s s' t after Written is_open leads lost none some = or_lost s s' t
 
 -- ---- a number put
 
-put_roots_in : (g : Graph) (v : Value) (target : Option Object) (found : Option Value) (i : ℕ) (w : Value) → (put_field g v target found i w).1.roots ≡ g.roots
-put_roots_in g v target found i w = grind (arith, common_steps, cond_both)
-
 -- a `put` leaves the roots
 pub put_roots : (s s' : State) (m : ℕ) (d : SlotName) (i : ℕ) (v : SlotName) (reply : Reply) → mutate s m (ops.Put d i v) ≡ (reply, s') → s'.heap.graph.roots ≡ s.heap.graph.roots
-put_roots s s' m d i v reply said = grind (arith, common_steps, cond_both, put_roots_in)
+put_roots s s' m d i v reply said = grind (arith, common_steps, cond_both)
 
 -- a command that takes no words leaves the end
 pub end_by : (s s' : State) (m : ℕ) (op : Op) (reply : Reply) → mutate s m op ≡ (reply, s') → words_taken op ≡ 0 → heap_end s ≡ heap_end s'
@@ -111,8 +104,7 @@ lives_number s mid s' m op one reply put t after a i is_open first none quiet se
     end c k = end_by s mid m op one first none ∙ end_by mid s' m put reply second none'
 
     marks : after.lost ≡ false → (c : Collection) → IsOpened s c → Goes s c (watch_of t) → Told → Fits (heap_end s') c (watch_of after) × MarksWritten (WrittenBy mid.heap.graph m put reply) (watch_of t) c (watch_of after)
-    marks n c k g (inl h) = subst (λ (t' : Tables). Fits (heap_end s') c (watch_of t') × MarksWritten (WrittenBy mid.heap.graph m put reply) (watch_of t) c (watch_of t')) (sym h.1)
-        (subst (λ n. Fits n c (watch_of t)) (end c k) g.fits, λ r l j u. ⊎_elim (λ d. d) (λ w. absurd (subst (λ ws. In {X = ℕ × ℕ} (r.original, j) ws) h.0 w)))
+    marks n c k g (inl h) = grind (arith, common_steps, end)
     marks n c k g (inr h) = told_wrote s.heap.graph.objects (heap_end s') c t after a i _ k.belongs.once h.0
         (λ x j w. ⊎_elim (λ (p : (a, i) ≡ (x, j)). (sym (ap (λ (p : ℕ × ℕ). p.0) p), sym (ap (λ (p : ℕ × ℕ). p.1) p))) (λ z. absurd z) (subst (λ ws. In {X = ℕ × ℕ} (x, j) ws) h.1 w))
         (subst (λ n. Fits n c (watch_of t)) (end c k) g.fits) (h.2.1 n)

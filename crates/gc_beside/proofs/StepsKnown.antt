@@ -45,9 +45,6 @@ log_out : (logs : List (List (ℕ × ℕ))) (m : ℕ) (entry : ℕ × ℕ) (rest
 log_out logs m entry rest k e is l = grind (arith, common_steps, cases_eq, get_set_same, get_set_other, get_past)
 
 module _ (s : State) (c next : Collection) (t : Tables) (links : ℕ → ℕ) (heap : IsSpaceGraph s.size s.heap.free s.heap.graph) (before : IsOpened s c) (opened : IsOpened s next) (goes : Goes s c (watch_of t)) (knows : Knows s c t) where
-  old : List ℕ
-  old = heap_words links s
-
   -- ---- `Roots`
 
   module _ (s' : State) (said : copy_root s c (root_target c s.heap.graph) ≡ (Copied, s')) (is : s'.collection ≡ Some next) where

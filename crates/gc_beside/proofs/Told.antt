@@ -20,7 +20,7 @@ use Rattle.gc_along.specs.Tables.{Tables, watch_of, due_in}
 use Rattle.gc_along.specs.Events.{code_of, object_codes, IsClaim, Placed, replica_added, with_due, Looked, Wrote, Applied, IsReplicaAt}
 use Rattle.gc_along.proofs.Public.{placed as pairs_placed, told, code_set, set_true, true_stays, map_append, codes_length, code_is}
 use Rattle.gc_beside.proofs.Shown.{Shows, AreSized, shown_at, shown_length}
-use Rattle.gc_beside.proofs.Growth.{IsAdded, HasSame, Adds}
+use Rattle.gc_beside.proofs.Growth.{IsAdded, Adds}
 
 -- the words of the new space show its replicas and their links
 pub record ShowsReplicas (c : Collection) (words : List ℕ) : Type 0 where
@@ -59,9 +59,6 @@ Told end c next t after = Fits end next (watch_of after) × LosesNone (new_end c
 module _ (end : ℕ) (c next : Collection) (words : List ℕ) (t : Tables) (fits : Fits end c (watch_of t)) (shows : ShowsReplicas next words) where
   none_behind : (r : Replica) → In r next.replicas → new_end next ≤ r.place → ⊥
   none_behind r l past = let range = laid_range 1 (map placed next.replicas) (new_end next) (placed r) shows.laid (in_map placed r next.replicas l) in let high = range.1 in omega arith
-
-  told_none : HasSame c next → Told end c next t t
-  told_none h = grind (arith, common_steps, none_behind)
 
   told_one : (old : List ℕ) (q : Replica) (h : Header) (a : ℕ) (due : Bool) → IsAdded c next q → IsClaim old words t h a → (due ≡ false → h.raw ≡ true) → Told end c next t (replica_added t h a due)
   told_one old q h a due added claim whole = (
@@ -127,9 +124,7 @@ module _ (end : ℕ) (c next : Collection) (words : List ℕ) (t : Tables) (fits
 
   -- a walk over the new space
   pub told_placed : (old : List ℕ) (after : Tables) → Adds c next → Placed old words t after → Told end c next t after
-  told_placed old after (inl h) is =
-      let same : after ≡ t = is.at_end (let a : length words ≡ new_end next = shows.count in let b : new_end next ≡ new_end c = h.end in let s : length t.news ≡ new_end c = fits.new_seen in omega arith) in
-      subst (Told end c next t) (sym same) (told_none h)
+  told_placed old after (inl h) is = grind (arith, common_steps, none_behind)
   told_placed old after (inr (q, added)) is =
       let m = is.more (let a : length words ≡ new_end next = shows.count in let b : new_end next ≡ new_end c + (length q.object.fields + 2) = added.end in let s : length t.news ≡ new_end c = fits.new_seen in omega arith) in
       ⊎_elim

@@ -1,6 +1,6 @@
 -- A watch that goes along watches the words of both spaces.
 use Rattle.std.proofs.lemmas.Grind.{common_steps}
-use Rattle.std.proofs.Common.{◌≡◌, ◌≢◌, inl, inr, ⊎_elim, ℕ, ◌+◌, ◌/◌, ◌%◌, ◌<◌, ◌≤◌, ◌==◌, nat_lt, Bool, true, false, cond, List, length, Option, Some, None, refl, ap, sym, ◌∙◌, subst, arith}
+use Rattle.std.proofs.Common.{◌≡◌, ◌≢◌, inl, inr, ⊎_elim, ℕ, ◌/◌, ◌%◌, ◌<◌, ◌==◌, nat_lt, Bool, true, false, cond, List, length, Option, Some, None, refl, ap, sym, ◌∙◌, subst, arith}
 use Rattle.std.specs.Prelude.{slice_get}
 use Rattle.std.specs.Option.{option_map}
 use Rattle.std.specs.List.{All, AllPairs}
@@ -77,9 +77,7 @@ field_words : (h k : Header) (pairs : List (ℕ × ℕ)) (v u : ℕ) → AreLow 
 field_words h k pairs v u low same agree = go h.raw refl
   where
     go : (b : Bool) → h.raw ≡ b → field_words_correspond h pairs v u ≡ true
-    go true is =
-        ap (λ t. cond t (v == u) (words_correspond pairs v u)) is
-        ∙ ((λ i. correspond pairs (cond (sym is i) (Num v) (value_of v)) (cond (sym (same ∙ is) i) (Num u) (value_of u))) ∙ agree)
+    go true is = grind (arith, common_steps, pairs)
     go false is =
         let plain : correspond pairs (value_of v) (value_of u) ≡ true = (λ i. correspond pairs (cond (sym is i) (Num v) (value_of v)) (cond (sym (same ∙ is) i) (Num u) (value_of u))) ∙ agree in
         ap (λ t. cond t (v == u) (words_correspond pairs v u)) is
@@ -102,11 +100,7 @@ module _ (heap : HeapWords) (x : CollectionWords) (w : Watch) (heap_is : IsHeap 
   new_block r l = block_of x.space.words r.place r.object (replica_object (graph_in heap).objects x r k.belongs l)
 
   below : (words : List ℕ) (a : ℕ) (b : Block) → IsSpace (record { size = 4294967295; words = words }) → block_at words a ≡ Some b → a < 4294967295
-  below words a b shape e =
-      let s = stands_in words a b shape.walked e in
-      let fits : a + (b.header.len + 2) ≤ length words = s.fits in
-      let high = shape.end_high in
-      omega arith
+  below words a b shape e = grind (arith, common_steps, (stands_in words a b shape.walked e).fits)
 
   old_whole : IsSpace (record { size = 4294967295; words = heap.space.words })
   old_whole = subst (λ ws. HasShape true 4294967295 (length ws) ws) (all_of w.old_seen heap.space.words h.fits.old_seen) (whole heap.space w.old_seen heap_is.space h.fits.old_seen).space

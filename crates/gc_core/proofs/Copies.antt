@@ -23,7 +23,7 @@ use Rattle.gc_plan.specs.State.{State}
 use Rattle.gc_plan.specs.Steps.{mutate}
 use Rattle.gc_core.specs.Internal.KnownRoots.{KnowsRoots}
 use Rattle.gc_core.specs.declared.known.KnownRoots.{KnownRoots}
-use Rattle.gc_core.specs.Copying.{object_in, copy_reply, copy_step, copy_fields_step}
+use Rattle.gc_core.specs.Copying.{object_in, copy_reply, copy_step}
 use Rattle.gc_core.proofs.Marks.{WritesBelow, slot_below, one_below, slot_command, put_knows}
 use Rattle.gc_core.proofs.NumbersPut.{forgotten}
 
@@ -79,16 +79,6 @@ one_copied old two first m i j k count d s t less so_far step =
     ap (λ n. copy_step two m d n s (j + (k + 1)) t (count - (k + 1))) at ∙ ap (λ n. copy_step two m d (suc (i + k)) s n t (count - (k + 1))) from
     ∙ ap (λ (x : State). copy_step x m d (suc (i + k)) s (suc (j + k)) t (count - (k + 1))) (sym step)
     ∙ sym (ap (copy_step old m d (i + k) s (j + k) t) more) ∙ so_far
-
--- a call that copies all
-pub all_copied : (old new : State) (m to from count : ℕ) (d s t : SlotName) (reply : Reply) → reply ≡ copy_reply to from count (object_in old.heap.graph d m) (object_in old.heap.graph s m) → reply ≡ Done
-    → copy_step old m d to s from t count ≡ new → copy_fields_step old m d to s from t count ≡ (reply, new)
-all_copied old new m to from count d s t reply is done steps = grind (arith, common_steps)
-
--- a call that copies none
-pub none_copied : (old : State) (m to from count : ℕ) (d s t : SlotName) (reply : Reply) → reply ≡ copy_reply to from count (object_in old.heap.graph d m) (object_in old.heap.graph s m) → (reply ≡ Done → ⊥)
-    → copy_fields_step old m d to s from t count ≡ (reply, old)
-none_copied old m to from count d s t reply is other = grind (arith, common_steps)
 
 -- ---- what is known of the roots
 

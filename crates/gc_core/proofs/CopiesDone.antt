@@ -1,18 +1,18 @@
 -- A copy that is done: each of its commands is.
 use Rattle.std.proofs.lemmas.Grind.{common_steps}
-use Rattle.std.proofs.Common.{◌≡◌, ⊎_elim, inl, inr, ◌<◌, ◌≤◌, ◌+◌, ℕ, zero, suc, true, false, cond, List, [], ◌∷◌, length, take, drop, Some, None, sym, ap, subst, ◌∙◌, arith}
-use Rattle.std.specs.Prelude.{slice_get, slice_set, get_or, not, ◌&&◌}
+use Rattle.std.proofs.Common.{◌≡◌, ⊎_elim, ◌<◌, ◌≤◌, ◌+◌, ℕ, zero, suc, true, List, [], ◌∷◌, length, take, drop, Some, None, sym, ap, subst, ◌∙◌, arith}
+use Rattle.std.specs.Prelude.{slice_get, slice_set, get_or}
 use Rattle.std.specs.List.{list_all}
-use Rattle.std.proofs.lemmas.Bool.{cases_Bool, cases_eq, leb-true, and_parts}
+use Rattle.std.proofs.lemmas.Bool.{cases_eq, leb-true, and_parts}
 use Rattle.std.proofs.lemmas.List.{length-set}
 use Rattle.std.proofs.lemmas.Option.{slice_get-get_or}
-use Rattle.gc_graph.specs.Graph.{Value, Nil, Ref, Object, Graph, object_of, field_of, root, lookup, value_or_nil, set_root, set_field, with_field}
+use Rattle.gc_graph.specs.Graph.{Value, Nil, Ref, Object, Graph, root, lookup, value_or_nil, set_root, set_field, with_field}
 use Rattle.gc_graph.specs.Machine.{step, view_of, is_number, put_field}
 use Rattle.gc_graph.specs.Slots.{SlotName, place}
 use Rattle.gc_graph.specs.declared.command.Op.{Op}
 use Rattle.gc_graph.specs.declared.command.Op.TheVariants.{Get, Put}
 use Rattle.gc_graph.specs.declared.reply.Reply.{Reply}
-use Rattle.gc_graph.specs.declared.reply.Reply.TheVariants.{Done, Saw, NoNumber}
+use Rattle.gc_graph.specs.declared.reply.Reply.TheVariants.{Done, Saw}
 use Rattle.gc_graph.proofs.Public.{lookup_set_same, lookup_set_other, with_field_option, in_place, with_free}
 use Rattle.gc_plan.specs.State.{State, heap_end}
 use Rattle.gc_plan.specs.Steps.{mutate}
@@ -52,40 +52,10 @@ can_still g p q r i j n c v apart other seen = ⊎_elim here there (cases_eq c.b
     number raw = c.numbers raw j v (omega arith) (omega arith) seen
 
     here : c.b ≡ c.a → CanCopy (after_one g r c.a i v) p q (suc i) (suc j) n
-    here same =
-        let alike : c.giver ≡ c.taker = (let both : Some c.giver ≡ Some c.taker = sym c.giver_found ∙ ap (lookup g.objects) same ∙ c.taker_found in cc) in
-        let long : j + suc n ≤ length c.taker.fields = subst (λ (o : Object). j + suc n ≤ length o.fields) alike c.giver_long in
-        record {
-          a = c.a;
-          b = c.b;
-          taker = with_field c.taker i v;
-          giver = with_field c.taker i v;
-          target = root_beside g.roots r p v apart ∙ c.target;
-          source = root_beside g.roots r q v other ∙ c.source;
-          taker_found = taken;
-          giver_found = ap (lookup (set_field g.objects c.a i v)) same ∙ taken;
-          taker_long = (let low = c.taker_long in omega (arith, low, length-set c.taker.fields i v));
-          giver_long = omega (arith, long, length-set c.taker.fields i v);
-          numbers = λ raw k w low high e. ⊎_elim
-              (λ (x : (k ≡ i) × (v ≡ w)). subst (λ u. is_number u ≡ true) x.1 (number raw))
-              (λ x. c.numbers raw k w (omega (arith, low)) (omega (arith, high)) (ap (λ (o : Object). slice_get o.fields k) alike ∙ x.1))
-              (get_set c.taker.fields i k v w e);
-        }
+    here same = grind (arith, common_steps, root_beside, taken, length-set, number, get_set)
 
     there : (c.b ≡ c.a → ⊥) → CanCopy (after_one g r c.a i v) p q (suc i) (suc j) n
-    there differ = record {
-      a = c.a;
-      b = c.b;
-      taker = with_field c.taker i v;
-      giver = c.giver;
-      target = root_beside g.roots r p v apart ∙ c.target;
-      source = root_beside g.roots r q v other ∙ c.source;
-      taker_found = taken;
-      giver_found = lookup_set_other g.objects c.a i v c.b differ ∙ c.giver_found;
-      taker_long = (let low = c.taker_long in omega (arith, low, length-set c.taker.fields i v));
-      giver_long = (let low = c.giver_long in omega (arith, low));
-      numbers = λ raw k w low high e. c.numbers raw k w (omega (arith, low)) (omega (arith, high)) e;
-    }
+    there differ = grind (arith, common_steps, root_beside, taken, lookup_set_other, length-set)
 
 -- the value of field j
 pub value_there : (g : Graph) (p q i j n : ℕ) (c : CanCopy g p q i j (suc n)) → slice_get c.giver.fields j ≡ Some (get_or c.giver.fields j Nil)
@@ -98,21 +68,7 @@ get_sees g m name d src t i j n c v seen = grind (arith, common_steps)
 pub put_writes_it : (g : Graph) (m name : ℕ) (d src t : SlotName) (i j n : ℕ) (c : CanCopy g (place d m) (place src m) i j (suc n)) (v : Value) → slice_get c.giver.fields j ≡ Some v
     → (place t m ≡ place d m → ⊥) → place t m < length g.roots
     → step (set_root g (place t m) v) m (Put d i t) name ≡ (Done, after_one g (place t m) c.a i v)
-put_writes_it g m name d src t i j n c v seen apart inside =
-    let h = set_root g (place t m) v in
-    let value : root h (place t m) ≡ v = ap value_or_nil (get_set_same g.roots (place t m) v inside) in
-    let target : root h (place d m) ≡ Ref c.a = root_beside g.roots (place t m) (place d m) v apart ∙ c.target in
-    let low = c.taker_long in
-    let before : slice_get c.taker.fields i ≡ Some (get_or c.taker.fields i Nil) = slice_get-get_or c.taker.fields i Nil (omega (arith, low)) in
-    let taken : (c.taker.raw && not (is_number v)) ≡ false = elim (cases_Bool c.taker.raw) [
-      | inl raw ↦ ap (λ b. b && not (is_number v)) raw ∙ ap not (c.numbers raw j v (omega arith) (omega arith) seen)
-      | inr plain ↦ ap (λ b. b && not (is_number v)) plain
-    ] in
-    ap (λ w. put_field h (root h (place d m)) (object_of h.objects (root h (place d m))) (field_of (object_of h.objects (root h (place d m))) i) i w) value
-    ∙ ap (λ w. put_field h w (object_of h.objects w) (field_of (object_of h.objects w) i) i v) target
-    ∙ ap (λ o. put_field h (Ref c.a) o (field_of o i) i v) c.taker_found
-    ∙ ap (λ f. put_field h (Ref c.a) (Some c.taker) f i v) before
-    ∙ ap (λ b. cond b (NoNumber, h) (Done, record h { objects = set_field h.objects c.a i v })) taken
+put_writes_it g m name d src t i j n c v seen apart inside = grind (arith, common_steps, ap value_or_nil (get_set_same g.roots (place t m) v inside), root_beside g.roots (place t m) (place d m) v apart ∙ c.target, slice_get-get_or c.taker.fields i Nil (omega (arith, c.taker_long)))
 
 -- ---- all of them
 
@@ -146,11 +102,8 @@ number_at (x ∷ xs) zero (suc n) (suc k) v all low high e = number_at xs zero n
 number_at (x ∷ xs) (suc f) n zero v all low high e = absurd (omega (arith, low))
 number_at (x ∷ xs) (suc f) n (suc k) v all low high e = number_at xs f n k v all (omega (arith, low)) (omega (arith, high)) e
 
-refers : (g : Graph) (v : Value) (o : Object) → object_of g.objects v ≡ Some o → (a : ℕ) × (v ≡ Ref a) × (lookup g.objects a ≡ Some o)
-refers g v o e = grind (arith, common_steps)
-
 pub can_copy : (g : Graph) (m to from n : ℕ) (d src : SlotName) → copy_reply to from n (object_in g d m) (object_in g src m) ≡ Done → CanCopy g (place d m) (place src m) to from n
-can_copy g m to from n d src said = grind (arith, common_steps, refers, leb-true, number_at)
+can_copy g m to from n d src said = grind (arith, common_steps, leb-true, number_at)
 
 pub each_done : (s : State) (m to from n : ℕ) (d src t : SlotName) → (place t m ≡ place d m → ⊥) → (place t m ≡ place src m → ⊥) → place t m < length s.heap.graph.roots → (copy_fields_step s m d to src from t n).0 ≡ Done → AllCopied s m d to src from t n
 each_done s m to from n d src t apart other inside said = all_done n s m to from d src t apart other inside (can_copy s.heap.graph m to from n d src said)

@@ -11,9 +11,7 @@ use Rattle.gc_plan.specs.State.{State, pairs_of}
 use Rattle.gc_copy.specs.Words.{CollectionWords, RoomWords, TellsMoves, collection_in, state_of, open_state}
 use Rattle.gc_plan.specs.declared.step.StepReply.{StepReply}
 use Rattle.gc_plan.specs.declared.step.StepReply.TheVariants.{Flipped}
-use Rattle.gc_plan.specs.Steps.{is_ready}
-use Rattle.gc_along.specs.Outline.{ImageOutline}
-use Rattle.gc_core.specs.Flip.{HasAccepted, flip_pair, IsSureIfReady, kept_after, replaced}
+use Rattle.gc_core.specs.Flip.{flip_pair, kept_after, replaced}
 
 pub same_image : (size end s e : ℕ) (words roots w r : List ℕ) (raws : Bool) → size ≡ s → end ≡ e → words ≡ w → roots ≡ r → raws ≡ true
     → ◌≡◌ {A = Image} (record { size = size; end = end; words = words; roots = roots; raws = raws }) (record { size = s; end = e; words = w; roots = r; raws = true })
@@ -39,11 +37,6 @@ pub room_now : (heap : HeapWords) (was : Option CollectionWords) (c : Collection
 room_now heap was c now room is view h =
     subst (λ (s : State). IfSome s.collection (λ d. TellsMoves s.heap.graph (pairs_of d) room)) view
     (subst (λ o. IfSome (option_map collection_in o) (λ d. TellsMoves (graph_in heap) (pairs_of d) room)) (sym is) h)
-
--- a checker that is sure of a ready collection of this state is sure of the one that is open
-pub sure_then : (sure : ImageOutline → ImageOutline → Type 0) (heap : HeapWords) (was : Option CollectionWords) (c : CollectionWords) (now : State) → was ≡ Some c → state_of heap (option_map collection_in was) ≡ now
-    → IsSureIfReady sure now → is_ready (collection_in c) (graph_in heap) ≡ true → HasAccepted sure (flip_pair (open_state heap c) (collection_in c))
-sure_then sure heap was c now is view h = grind (arith, common_steps)
 
 -- the pair of a collection without its mark is that of the collection with it
 pub same_pair : (heap new : HeapWords) (c after : CollectionWords) → open_state new after ≡ open_state heap c → after ≡ record c { epoch = 0 } → flip_pair (open_state new after) (collection_in after) ≡ flip_pair (open_state heap c) (collection_in c)

@@ -88,11 +88,7 @@ one_command g s m op pairs matched ok =
 legal_event : (mutators : ℕ) (events : List Event) (event : Event) (s : State) (g : Graph) (pairs : List (ℕ × ℕ)) → IsState s → Matched pairs g s.heap.graph
     → ((next : Graph) (others : List (ℕ × ℕ)) → Matched others next (after s event).heap.graph → IsLegalFrom next (told_in (after s event) events))
     → IsLegalFrom g (told_in s (event ∷ events))
-legal_event mutators events (Mutate m op) s g pairs ok matched rest =
-    elim (one_command g s m op pairs matched ok) [
-      | inl full ↦ inl (full.0, full.1, rest g full.2.0 full.2.1)
-      | inr made ↦ inr (made.0, rest (step g m op (fresh_name g)).1 made.1.0 made.1.1)
-    ]
+legal_event mutators events (Mutate m op) s g pairs ok matched rest = grind (arith, common_steps, one_command)
 legal_event mutators events (Collect st) s g pairs ok matched rest =
     let follows : Follows s (collect s st) = collect_follows s ok st in
     rest g (joined pairs follows.0) (composed pairs follows.0 g s.heap.graph (collect s st).1.heap.graph matched follows.1)
@@ -100,10 +96,7 @@ legal_event mutators events (Collect st) s g pairs ok matched rest =
 legal_from : (mutators : ℕ) (events : List Event) (s : State) (g : Graph) (pairs : List (ℕ × ℕ)) → Reached mutators s → Matched pairs g s.heap.graph
     → AreRootEvents mutators events → IsLegalFrom g (told_in s events)
 legal_from mutators [] s g pairs h matched r = tt
-legal_from mutators (event ∷ events) s g pairs h matched r =
-    let next : Reached mutators (after s event) = root_event_keeps mutators s event h r.0 in
-    legal_event mutators events event s g pairs h.ok matched
-    (λ later others matched. legal_from mutators events (after s event) later others next matched r.1)
+legal_from mutators (event ∷ events) s g pairs h matched r = grind (arith, common_steps, root_event_keeps, legal_event, legal_from mutators events)
 
 pub run_is_legal : (size mutators : ℕ) (events : List Event) → 1 ≤ size → size ≤ largest_space → AreEvents mutators events → IsLegal mutators (told_in (opening_state size mutators) events)
 run_is_legal size mutators events low high are =

@@ -3,7 +3,7 @@ use Rattle.std.proofs.lemmas.Grind.{common_steps}
 use Rattle.std.proofs.Common.{◌≡◌, ◌≢◌, ⊎_elim, ℕ, zero, suc, ◌+◌, ◌-◌, ◌<◌, ◌≤◌, nat_lt, List, [], ◌∷◌, length, map, slice_get, replicate, Option, Some, None, refl, sym, ap, ◌∙◌, subst, arith}
 use Rattle.std.specs.Prelude.{IfSome, slice_index, slice_set, false, min, max}
 use Rattle.std.specs.Option.{option_map}
-use Rattle.std.proofs.lemmas.Bool.{cond_both, cond-true, cases_lt, cases_eq, lt-ltb, ltb-true}
+use Rattle.std.proofs.lemmas.Bool.{cond_both, cases_lt, cases_eq, ltb-true}
 use Rattle.gc_graph.specs.Slots.{SlotName, place, roots_of}
 use Rattle.gc_graph.specs.Graph.{Value, Nil, Num, Ref, root, value_or_nil}
 use Rattle.gc_graph.specs.Machine.{Roomy}
@@ -21,7 +21,7 @@ use Rattle.gc_graph.specs.declared.reply.Reply.TheVariants as replies
 use Rattle.gc_plan.specs.State.{Collection, State}
 use Rattle.gc_copy.specs.Words.{LinksNothing, state_of}
 use Rattle.gc_plan.specs.Staying.{HasReplicaOf, KnowsRoot, root_written}
-use Rattle.gc_plan.specs.Steps.{mutate, collect, root_target, copy_root}
+use Rattle.gc_plan.specs.Steps.{mutate, collect, root_target}
 use Rattle.gc_plan.specs.declared.step.Step.{Step}
 use Rattle.gc_plan.specs.declared.step.Step.TheVariants as steps
 use Rattle.gc_plan.specs.declared.step.StepReply.{StepReply}
@@ -126,15 +126,7 @@ plain_set s m (ops.Look t) plain = absurd plain
 
 -- a command that sets a slot to nil or a number, which needs no replica
 pub plain_command : (known : KnownRoots) (s : State) (m : ℕ) (op : Op) → SetsPlain op → WritesBelow (roots_of s.mutators) m op → KnowsRoots known s → KnowsRoots known (mutate s m op).1
-plain_command known s m op plain below k = record {
-  slots_high = k.slots_high;
-  extra_high = k.extra_high;
-  used_high = omega (arith, roots_counted s m op, k.used_high);
-  counted = omega (arith, roots_counted s m op, k.counted);
-  slots = λ p less. knows p (k.slots p less);
-  extra = λ i less. knows (roots_of s.mutators + i) (k.extra i less);
-  unused = λ i le. root_kept s m op (roots_of s.mutators + i) (not_this (roots_of s.mutators) m op (roots_of s.mutators + i) below (omega arith)) ∙ k.unused i le;
-}
+plain_command known s m op plain below k = grind (arith, common_steps, roots_counted, knows, root_kept, not_this)
   where
     there : (q : ℕ) × (root_written m op ≡ Some q) × RefersNot (root (mutate s m op).1.heap.graph q)
     there = plain_set s m op plain
@@ -201,13 +193,9 @@ module _ (known : KnownRoots) (s : State) (c : Collection) (is : s.collection �
       rest : (p : ℕ) → roots_of s.mutators + known.used ≤ p → (i : ℕ) × (roots_of s.mutators + i ≡ p) × (known.used ≤ i)
       rest p le = (p - roots_of s.mutators, omega (arith, le), omega (arith, le))
 
--- after a root's target was replicated it has a replica
-copied_has : (s next : State) (c : Collection) (name p : ℕ) → root s.heap.graph p ≡ Ref name → copy_root s c (Some name) ≡ (Copied, next) → KnowsRoot next p
-copied_has s next c name p at e = grind (arith, common_steps, placed_has)
-
 pub copied_knows : (known : KnownRoots) (s next : State) (c : Collection) (found : Option MissingRoot) → s.collection ≡ Some c → option_map (λ (r : MissingRoot). r.target.0) found ≡ root_target c s.heap.graph
     → IfSome found (FindsFirst known s) → collect s steps.Roots ≡ (Copied, next) → KnowsRoot next (next_place (roots_of s.mutators) known)
-copied_knows known s next c found is first finds e = grind (arith, common_steps, copied_has)
+copied_knows known s next c found is first finds e = grind (arith, common_steps, placed_has)
 
 -- ---- commands that fill fields
 
@@ -311,16 +299,6 @@ cleared_nil s i (suc n) j low high = ⊎_elim
 -- one more root
 pub clear_next : (s : State) (i j n count : ℕ) → count ≡ suc n → j ≡ suc i → clear_step s i count ≡ clear_step (Clears s i) j n
 clear_next s i j n count e f = ap (clear_step s i) e ∙ ap (λ q. clear_step (Clears s i) q n) (sym f)
-
--- ---- moving the marks
-
-pub lowered : (known : KnownRoots) (s : State) (from to : ℕ) → from ≤ known.used → known.used ≤ to → KnowsRoots known s
-    → ((i : ℕ) → from ≤ i → i < to → root s.heap.graph (roots_of s.mutators + i) ≡ Nil) → KnowsRoots (record { slots = known.slots; extra = min known.extra from; used = from; count = known.count }) s
-lowered known s from to low high k nil = grind (arith, common_steps, cases_lt)
-
--- the next place, if the marks tell of some slots only
-pub next_slot : (slots : ℕ) (known : KnownRoots) → known.slots < slots → next_place slots known ≡ known.slots
-next_slot slots known less = cond-true (nat_lt known.slots slots) known.slots (slots + known.extra) (lt-ltb known.slots slots less)
 
 -- ---- opening, beginning and flipping
 

@@ -10,14 +10,11 @@ use Rattle.gc_heap.specs.Heap.{HeapWords}
 use Rattle.gc_plan.specs.State.{Collection, State}
 use Rattle.gc_copy.specs.Words.{CollectionWords, collection_in, state_of, open_state}
 use Rattle.gc_plan.specs.Steps.{mutate}
-use Rattle.gc_core.specs.CollectedHeap.{fill_step, filled, new_from_step}
-
-filled_is : (reply : Reply) (made : State) (m : ℕ) (d : SlotName) (fields : List SlotName) → (reply ≡ replies.Full → ⊥) → filled reply made m d fields ≡ fill_step made m d 0 fields
-filled_is reply made m d fields other = grind (arith, common_steps)
+use Rattle.gc_core.specs.CollectedHeap.{fill_step, new_from_step}
 
 pub made_from : (old made new : State) (m kind : ℕ) (d : SlotName) (fields : List SlotName) (reply : Reply) → mutate old m (New d kind (length fields)) ≡ (reply, made) → (reply ≡ replies.Full → ⊥)
     → fill_step made m d 0 fields ≡ new → new_from_step old m d kind fields ≡ (reply, new)
-made_from old made new m kind d fields reply first other fill = grind (arith, common_steps, filled_is)
+made_from old made new m kind d fields reply first other fill = grind (arith, common_steps)
 
 pub full_from : (old made : State) (m kind : ℕ) (d : SlotName) (fields : List SlotName) (reply : Reply) → mutate old m (New d kind (length fields)) ≡ (reply, made) → reply ≡ replies.Full
     → new_from_step old m d kind fields ≡ (reply, made)

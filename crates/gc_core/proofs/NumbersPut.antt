@@ -1,12 +1,11 @@
 -- Numbers that are written to a raw object in one call.
 use Rattle.std.proofs.lemmas.Grind.{common_steps}
-use Rattle.std.proofs.Common.{◌≡◌, ◌<◌, ◌≤◌, ◌+◌, ℕ, suc, true, List, [], ◌∷◌, length, Option, Some, refl, ap, subst, ◌∙◌, arith}
+use Rattle.std.proofs.Common.{◌≡◌, ◌<◌, ◌≤◌, ◌+◌, ℕ, suc, true, List, [], ◌∷◌, length, Some, refl, ap, subst, arith}
 use Rattle.std.specs.List.{list_all}
 use Rattle.std.specs.Option.{option_map}
 use Rattle.std.proofs.lemmas.Bool.{le-leb}
 use Rattle.gc_graph.specs.Slots.{SlotName}
 use Rattle.gc_graph.specs.declared.command.Op.TheVariants as ops
-use Rattle.gc_graph.specs.declared.reply.Reply.{Reply}
 use Rattle.gc_graph.specs.declared.reply.Reply.TheVariants.{Done}
 use Rattle.gc_heap.specs.Heap.{HeapWords, IsHeap}
 use Rattle.gc_heap.specs.Filling.{WritesNumbers}
@@ -16,7 +15,7 @@ use Rattle.gc_plan.specs.Steps.{mutate}
 use Rattle.gc_copy.specs.Words.{idle_state, LinksNothing}
 use Rattle.gc_copy.proofs.Public.{idle_left, still_unlinked}
 use Rattle.gc_core.specs.Internal.KnownRoots.{KnowsRoots}
-use Rattle.gc_core.specs.Writing.{is_number_word, numbers_step, numbers_reply, put_numbers_step}
+use Rattle.gc_core.specs.Writing.{is_number_word, numbers_step, put_numbers_step}
 use Rattle.gc_core.specs.declared.known.KnownRoots.{KnownRoots}
 use Rattle.gc_core.proofs.Marks.{number_knows}
 
@@ -36,18 +35,10 @@ numbers_know (n ∷ rest) known s m i d t low less k =
 
 pub idle_written : (epoch : ℕ) (numbers : List ℕ) (heap new : HeapWords) (m i : ℕ) (s t : SlotName) → IsHeap heap → LinksNothing epoch heap → WritesNumbers heap m s t i numbers new → (numbers_step (idle_state heap) m s t i numbers ≡ idle_state new) × LinksNothing epoch new
 idle_written epoch [] heap new m i s t is links same = (ap idle_state same, subst (LinksNothing epoch) same links)
-idle_written epoch (n ∷ rest) heap new m i s t is links (next, w, further) =
-    let one = idle_left heap w.between m (ops.Num t n) Done is w.sets in
-    let two = idle_left w.between next m (ops.Put s i t) Done w.sound.0 w.puts in
-    let between = still_unlinked epoch heap w.between m (ops.Num t n) Done w.sets links in
-    let all = idle_written epoch rest next new m (suc i) s t w.sound.1 (still_unlinked epoch w.between next m (ops.Put s i t) Done w.puts between) further in
-    (ap (λ (x : Reply × State). numbers_step (mutate x.1 m (ops.Put s i t)).1 m s t (suc i) rest) one ∙ ap (λ (x : Reply × State). numbers_step x.1 m s t (suc i) rest) two ∙ all.0, all.1)
+idle_written epoch (n ∷ rest) heap new m i s t is links (next, w, further) = grind (arith, common_steps, idle_left heap w.between m (ops.Num t n) Done is w.sets, idle_left w.between next m (ops.Put s i t) Done w.sound.0 w.puts, idle_written epoch rest next new m (suc i) s t w.sound.1 (still_unlinked epoch w.between next m (ops.Put s i t) Done w.puts (still_unlinked epoch heap w.between m (ops.Num t n) Done w.sets links)) further)
 
 -- ---- the reply
 
-reply_is : (first count : ℕ) (words : List ℕ) (o : Option (List ℕ)) → Some count ≡ option_map length o → first + length words ≤ count → list_all is_number_word words ≡ true → numbers_reply first words o ≡ Done
-reply_is first count words o same fits numbers = grind (arith, common_steps, le-leb)
-
 pub numbers_done : (old new : State) (m first count : ℕ) (s t : SlotName) (words : List ℕ) → Some count ≡ option_map length (raw_numbers old.heap.graph s m) → first + length words ≤ count → list_all is_number_word words ≡ true
     → numbers_step old m s t first words ≡ new → put_numbers_step old m s first t words ≡ (Done, new)
-numbers_done old new m first count s t words same fits numbers steps = grind (arith, common_steps, reply_is)
+numbers_done old new m first count s t words same fits numbers steps = grind (arith, common_steps, le-leb)

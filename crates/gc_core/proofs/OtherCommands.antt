@@ -1,6 +1,6 @@
 -- Commands that write no field: they change only the heap, whether a collection is open or not.
 use Rattle.std.proofs.lemmas.Grind.{common_steps}
-use Rattle.std.proofs.Common.{◌≡◌, ℕ, ◌+◌, ◌<◌, length, Option, Some, None, refl, ap, subst, arith}
+use Rattle.std.proofs.Common.{◌≡◌, ℕ, ◌+◌, ◌<◌, length, Option, Some, None, ap, sym, subst, arith, rules}
 use Rattle.std.specs.Prelude.{IfSome, min, max}
 use Rattle.gc_graph.specs.Slots.{roots_of}
 use Rattle.std.specs.Option.{option_map}
@@ -16,7 +16,8 @@ use Rattle.gc_plan.specs.Staying.{root_written}
 use Rattle.gc_core.specs.Internal.CollectedHeap.{Fits}
 use Rattle.gc_core.specs.Internal.KnownRoots.{KnowsRoots}
 use Rattle.gc_core.specs.declared.known.KnownRoots.{KnownRoots}
-use Rattle.gc_core.proofs.Marks.{WritesBelow, SetsPlain, slot_command, plain_command, stored_command}
+use Rattle.gc_graph.specs.declared.command.Op.TheVariants as ops
+use Rattle.gc_core.proofs.Marks.{WritesBelow, SetsPlain, slot_below, slot_command, plain_command, stored_command}
 
 pub still_fits : (epoch : ℕ) (heap new : HeapWords) (o : Option CollectionWords) (m : ℕ) (op : Op) (reply : Reply) → IsHeap heap → ¬ WritesField op → Performs heap m op reply new → Fits epoch heap o → Fits epoch new o
 still_fits epoch heap new None m op reply is none performs fits = still_unlinked epoch heap new m op reply performs fits
@@ -42,23 +43,10 @@ pub mutated : (epoch : ℕ) (heap new : HeapWords) (o : Option CollectionWords) 
     → mutate (state_of heap (option_map collection_in o)) m op ≡ (reply, state_of new (option_map collection_in o))
 mutated epoch heap new o m op reply is none performs fits = performed heap new o m op reply is none performs (it_belongs epoch heap o fits)
 
--- afterwards nothing is known of the slots
-pub fits_after : (epoch : ℕ) (known : KnownRoots) (heap new : HeapWords) (o : Option CollectionWords) (m : ℕ) (op : Op) (reply : Reply) → IsHeap heap → ¬ WritesField op → Performs heap m op reply new → WritesBelow (roots_of heap.mutators) m op → Fits epoch heap o
-    → KnowsRoots known (state_of heap (option_map collection_in o)) → Fits epoch new o × KnowsRoots (record { slots = 0; extra = known.extra; used = known.used; count = known.count }) (state_of new (option_map collection_in o))
-fits_after epoch known heap new o m op reply is none performs below fits k = (
-  still_fits epoch heap new o m op reply is none performs fits,
-  subst (KnowsRoots (record { slots = 0; extra = known.extra; used = known.used; count = known.count })) (ap (λ (x : Reply × State). x.1) (mutated epoch heap new o m op reply is none performs fits))
-      (slot_command known (state_of heap (option_map collection_in o)) m op below k),
-)
-
--- a slot that is set to nil or a number needs no replica, so the marks stay
-pub fits_plain : (epoch : ℕ) (known : KnownRoots) (heap new : HeapWords) (o : Option CollectionWords) (m : ℕ) (op : Op) (reply : Reply) → IsHeap heap → ¬ WritesField op → Performs heap m op reply new → SetsPlain op → WritesBelow (roots_of heap.mutators) m op → Fits epoch heap o
-    → KnowsRoots known (state_of heap (option_map collection_in o)) → Fits epoch new o × KnowsRoots known (state_of new (option_map collection_in o))
-fits_plain epoch known heap new o m op reply is none performs plain below fits k = (
-  still_fits epoch heap new o m op reply is none performs fits,
-  subst (KnowsRoots known) (ap (λ (x : Reply × State). x.1) (mutated epoch heap new o m op reply is none performs fits))
-      (plain_command known (state_of heap (option_map collection_in o)) m op plain below k),
-)
+-- the same, of a state that is known by its own name
+pub said : (s : State) (epoch : ℕ) (heap new : HeapWords) (o : Option CollectionWords) (m : ℕ) (op : Op) (reply : Reply) → state_of heap (option_map collection_in o) ≡ s → Fits epoch heap o → IsHeap heap → ¬ WritesField op → Performs heap m op reply new
+    → mutate s m op ≡ (reply, state_of new (option_map collection_in o))
+said s epoch heap new o m op reply is fits sound none performs = subst (λ (t : State). mutate t m op ≡ (reply, state_of new (option_map collection_in o))) is (mutated epoch heap new o m op reply sound none performs fits)
 
 -- afterwards the marks are those for an extra root that was written
 pub fits_stored : (epoch : ℕ) (known : KnownRoots) (heap new : HeapWords) (o : Option CollectionWords) (m i : ℕ) (op : Op) (reply : Reply) → IsHeap heap → ¬ WritesField op → Performs heap m op reply new → root_written m op ≡ Some (roots_of heap.mutators + i)
@@ -70,8 +58,42 @@ fits_stored epoch known heap new o m i op reply is none performs at within fits 
       (stored_command known (state_of heap (option_map collection_in o)) m i op at within k),
 )
 
+-- the place of the slot that a command sets, if it sets one, is below those of the extra roots
+abbrev SetsSlot : Op → Type 0
+SetsSlot (ops.New d kind len) = d.index < 16
+SetsSlot (ops.NewRaw d kind len) = d.index < 16
+SetsSlot (ops.Num d n) = d.index < 16
+SetsSlot (ops.Nil d) = d.index < 16
+SetsSlot (ops.Move d t) = d.index < 16
+SetsSlot (ops.Get d t i) = d.index < 16
+SetsSlot (ops.Put t i u) = ⊥
+SetsSlot (ops.Same t u) = ⊥
+SetsSlot (ops.Look t) = ⊥
+
+sets_below : (mutators m : ℕ) (op : Op) → m < mutators → SetsSlot op → WritesBelow (roots_of mutators) m op
+sets_below mutators m op less low = grind (arith, common_steps, slot_below)
+
+-- after a command that sets one slot nothing is known of the slots
+pub slot_set : {C : Type 0} (s : State) (epoch : ℕ) (known : KnownRoots) (heap new : HeapWords) (o : Option CollectionWords) (m : ℕ) (op : Op) (reply : Reply) → state_of heap (option_map collection_in o) ≡ s → m < s.mutators → IsHeap heap → Performs heap m op reply new → ¬ WritesField op → SetsSlot op
+    → Fits epoch heap o × KnowsRoots known (state_of heap (option_map collection_in o)) × C → Fits epoch new o × KnowsRoots (record { slots = 0; extra = known.extra; used = known.used; count = known.count }) (state_of new (option_map collection_in o)) × C
+slot_set s epoch known heap new o m op reply is less sound performs none low k = (
+  still_fits epoch heap new o m op reply sound none performs k.0,
+  subst (KnowsRoots (record { slots = 0; extra = known.extra; used = known.used; count = known.count })) (ap (λ (x : Reply × State). x.1) (mutated epoch heap new o m op reply sound none performs k.0))
+      (slot_command known (state_of heap (option_map collection_in o)) m op (sets_below heap.mutators m op (subst (λ (t : State). m < t.mutators) (sym is) less) low) k.1),
+  k.2,
+)
+
+-- a slot that is set to nil or a number needs no replica, so the marks stay
+pub plain_set : {C : Type 0} (s : State) (epoch : ℕ) (known : KnownRoots) (heap new : HeapWords) (o : Option CollectionWords) (m : ℕ) (op : Op) (reply : Reply) → state_of heap (option_map collection_in o) ≡ s → m < s.mutators → IsHeap heap → Performs heap m op reply new → ¬ WritesField op → SetsPlain op → SetsSlot op
+    → Fits epoch heap o × KnowsRoots known (state_of heap (option_map collection_in o)) × C → Fits epoch new o × KnowsRoots known (state_of new (option_map collection_in o)) × C
+plain_set s epoch known heap new o m op reply is less sound performs none plain low k = (
+  still_fits epoch heap new o m op reply sound none performs k.0,
+  subst (KnowsRoots known) (ap (λ (x : Reply × State). x.1) (mutated epoch heap new o m op reply sound none performs k.0))
+      (plain_command known (state_of heap (option_map collection_in o)) m op plain (sets_below heap.mutators m op (subst (λ (t : State). m < t.mutators) (sym is) less) low) k.1),
+  k.2,
+)
+
 -- while no collection is open, every command changes only the heap
 pub idle_mutated : (epoch : ℕ) (heap new : HeapWords) (o : Option CollectionWords) (m : ℕ) (op : Op) (reply : Reply) → IsHeap heap → ((c : CollectionWords) → o ≡ Some c → ⊥) → Performs heap m op reply new → Fits epoch heap o
     → (mutate (state_of heap (option_map collection_in o)) m op ≡ (reply, state_of new (option_map collection_in o))) × Fits epoch new o
-idle_mutated epoch heap new None m op reply is none performs fits = (idle_left heap new m op reply is performs, still_unlinked epoch heap new m op reply performs fits)
-idle_mutated epoch heap new (Some c) m op reply is none performs fits = absurd (none c refl)
+idle_mutated epoch heap new o m op reply is none performs fits = search (rules, idle_left, still_unlinked)

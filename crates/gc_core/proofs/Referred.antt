@@ -1,6 +1,6 @@
 -- A root that takes a reference: the collection still belongs to the heap, and what is known of extra roots is still true.
 use Rattle.std.proofs.lemmas.Grind.{common_steps}
-use Rattle.std.proofs.Common.{◌≡◌, ◌≢◌, ℕ, zero, suc, ◌+◌, ◌-◌, ◌<◌, true, List, [], ◌∷◌, length, is_some, Option, refl, sym, ◌∙◌, ap, subst, arith}
+use Rattle.std.proofs.Common.{◌≡◌, ◌≢◌, ℕ, zero, suc, ◌+◌, ◌<◌, true, List, [], ◌∷◌, length, is_some, Option, refl, sym, ◌∙◌, ap, subst, arith}
 use Rattle.std.specs.Prelude.{IfSome, slice_get, slice_set}
 use Rattle.std.specs.Option.{option_map}
 use Rattle.std.proofs.lemmas.Bool.{cond-true}
@@ -30,12 +30,7 @@ start_named words a = ap is_some (object_found words a) ∙ some_mapped (block_a
 
 module _ (h new : HeapWords) (p a : ℕ) (space : new.space ≡ h.space) (graph : graph_in new ≡ set_root (graph_in h) p (Ref a)) (mutators : new.mutators ≡ h.mutators) where
   pub referred : (o : Option Collection) → state_of new o ≡ with_reference (state_of h o) p a
-  referred o i = record {
-    mutators = mutators i;
-    size = (space i).size;
-    heap = record { graph = graph i; free = (space i).size - length (space i).words };
-    collection = o;
-  }
+  referred o = grind (arith, common_steps)
 
   pub still_fits : (epoch : ℕ) (o : Option CollectionWords) → Fits epoch h o → Fits epoch new o
   still_fits epoch o fits = grind (arith, common_steps)

@@ -14,12 +14,9 @@ use Rattle.gc_core.specs.Internal.KnownRoots.{KnowsRoots}
 use Rattle.gc_core.specs.declared.known.KnownRoots.{KnownRoots}
 use Rattle.gc_core.proofs.Marks.{WritesBelow, slot_below, one_below, slot_command, put_knows}
 
-mixed_is : (reply : Reply) (made : State) (m : ℕ) (d t : SlotName) (fields : List FieldSource) → (reply ≡ replies.Full → ⊥) → mixed reply made m d t fields ≡ sources_step made m d t 0 fields
-mixed_is reply made m d t fields other = grind (arith, common_steps)
-
 pub made_with : (old made new : State) (m kind count : ℕ) (d t : SlotName) (fields : List FieldSource) (reply : Reply) → count ≡ length fields → mutate old m (New d kind count) ≡ (reply, made) → (reply ≡ replies.Full → ⊥)
     → sources_step made m d t 0 fields ≡ new → new_with_step old m d kind t fields ≡ (reply, new)
-made_with old made new m kind count d t fields reply same first other fill = grind (arith, common_steps, mixed_is)
+made_with old made new m kind count d t fields reply same first other fill = grind (arith, common_steps)
 
 pub full_with : (old made : State) (m kind count : ℕ) (d t : SlotName) (fields : List FieldSource) (reply : Reply) → count ≡ length fields → mutate old m (New d kind count) ≡ (reply, made) → reply ≡ replies.Full
     → new_with_step old m d kind t fields ≡ (reply, made)

@@ -1,9 +1,8 @@
 -- Only what was reachable when a collection began, or was made later, gets a replica.
 use Rattle.std.proofs.lemmas.Grind.{common_steps}
-use Rattle.std.proofs.Common.{◌≡◌, inl, inr, ⊎_elim, ℕ, suc, ◌+◌, ◌-◌, ◌≤◌, ◌==◌, Bool, true, false, cond, ◌&&◌, ◌||◌, List, [], ◌∷◌, ◌++◌, length, Option, Some, None, is_some, slice_get, flat_map, refl, ap, sym, ◌∙◌, subst, arith}
+use Rattle.std.proofs.Common.{◌≡◌, inl, inr, ⊎_elim, ℕ, ◌-◌, ◌≤◌, ◌==◌, Bool, true, false, cond, ◌&&◌, ◌||◌, List, [], ◌∷◌, ◌++◌, length, Option, Some, None, is_some, slice_get, flat_map, refl, ap, sym, ◌∙◌, subst, arith}
 use Rattle.std.specs.Prelude.{not}
 use Rattle.std.proofs.lemmas.Bool.{cond_both}
-use Rattle.gc_graph.specs.Slots.{place}
 use Rattle.gc_graph.specs.Graph.{Value, Nil, Num, Ref, Object, Graph, lookup, object_of, field_of, root, follow, Reachable, names_of, set_root, first_value, new_object, add_object}
 use Rattle.gc_graph.specs.Machine.{step, get_field, is_number, put_field}
 use Rattle.gc_plan.specs.State.{Replica, Collection, State, opening_state, heap_end, replica_of, replica_at, pairs_of, moved}
@@ -15,7 +14,6 @@ use Rattle.gc_plan.specs.Carried.{is_begun, base_after, base_of_run, IsLiveSince
 use Rattle.gc_plan.specs.Members.{In}
 use Rattle.gc_plan.specs.Belonging.{RefersTo, IsState}
 use Rattle.gc_graph.specs.declared.command.Op.{Op}
-use Rattle.gc_graph.specs.declared.command.Op.TheVariants as ops
 use Rattle.gc_graph.specs.declared.reply.Reply.{Reply}
 use Rattle.gc_plan.specs.declared.step.Step.{Step}
 use Rattle.gc_plan.specs.declared.step.Step.TheVariants as steps
@@ -76,11 +74,7 @@ new_closed P g raw d kind len name h p = record {
 }
   where
     first_refers : (b : Bool) → RefersTo P (first_value b)
-    first_refers true = tt
-    first_refers false = tt
-
-step_closed : (P : ℕ → Type 0) (g : Graph) (m : ℕ) (op : Op) (name : ℕ) → LeadsOnlyTo P g → P name → LeadsOnlyTo P (step g m op name).1
-step_closed P g m op name h p = grind (arith, common_steps, new_closed, root_closed, root_refers, get_closed, field_refers, put_closed)
+    first_refers b = grind (arith, common_steps)
 
 -- ---- replicas
 
@@ -139,10 +133,7 @@ module _ (P : ℕ → Type 0) (end : ℕ) (s : State) where
   open_quiet c steps.Roots is h = go (root_target c s.heap.graph) refl
     where
       name_refers : (v : Value) (name : ℕ) → RefersTo P v → In name (names_of v) → P name
-      name_refers Nil name r k = absurd k
-      name_refers (Num n) name r k = absurd k
-      name_refers (Ref a) name r (inl e) = subst P e r
-      name_refers (Ref a) name r (inr k) = absurd k
+      name_refers v name r k = grind (arith, common_steps)
 
       go : (t : Option ℕ) → root_target c s.heap.graph ≡ t → Quiet P end (copy_root s c t)
       go None e = same_quiet c Clean is refl h
@@ -153,8 +144,7 @@ module _ (P : ℕ → Type 0) (end : ℕ) (s : State) where
   open_quiet c steps.Scan is h = cond_both (scan_done c) _ _ (Quiet P end) (λ t. same_quiet c Clean is refl h) (λ t. go (replica_at c c.scan_place) refl)
     where
       next : (o : Option Collection) → ((d : Collection) → o ≡ Some d → Originals P d.replicas) → (d : Collection) → next_field o ≡ Some d → Originals P d.replicas
-      next None f d e = absurd cc
-      next (Some n) f d e = let same : record n { scan_field = suc n.scan_field } ≡ d = cc e in subst (λ (x : Collection). Originals P x.replicas) same (f n refl)
+      next o f d e = grind (arith, common_steps)
 
       go : (t : Option Replica) → replica_at c c.scan_place ≡ t → Quiet P end (scan_replica s c t)
       go None e = same_quiet c Clean is refl h
@@ -228,7 +218,7 @@ record Follows (mutators : ℕ) (base s : State) : Type 0 where
   carried : CarriesIn (IsLiveSince base) (heap_end base) s s.collection
 
 mutate_carries : (base s : State) (m : ℕ) (op : Op) → CarriesIn (IsLiveSince base) (heap_end base) s s.collection → CarriesIn (IsLiveSince base) (heap_end base) (mutate s m op).1 (mutate s m op).1.collection
-mutate_carries base s m op h = grind (arith, common_steps, cond_both, step_closed)
+mutate_carries base s m op h = grind (arith, common_steps, cond_both, new_closed, root_closed, root_refers, get_closed, field_refers, put_closed)
 
 event_carries : (mutators : ℕ) (base s : State) (event : Event) → Follows mutators base s → IsEvent mutators event → Follows mutators (base_after base s event) (after s event)
 event_carries mutators base s (Mutate m op) h r = record { reached = event_keeps mutators s (Mutate m op) h.reached r; carried = mutate_carries base s m op h.carried }

@@ -1,13 +1,12 @@
 -- Which replies mean a change, and that the useful step makes one if there is room.
 use Rattle.std.proofs.lemmas.Grind.{common_steps}
-use Rattle.std.proofs.Common.{◌||◌, ◌≡◌, ◌⊎◌, inr, ⊎_elim, ℕ, zero, suc, ◌+◌, ◌==◌, true, false, not, List, [], ◌∷◌, length, Option, Some, None, is_none, slice_get, refl, ap, sym, ◌∙◌, subst, arith}
+use Rattle.std.proofs.Common.{◌||◌, ◌≡◌, ◌⊎◌, inr, ⊎_elim, ℕ, zero, suc, ◌+◌, ◌==◌, true, false, not, List, [], ◌∷◌, length, Option, Some, None, slice_get, refl, ap, sym, ◌∙◌, subst, arith}
 use Rattle.std.specs.List.{list_all}
 use Rattle.std.proofs.lemmas.Bool.{cond-false, cond_both, and_from, eq-eqb, not-true, not-false}
 use Rattle.gc_plan.specs.State.{Replica, Collection, State, new_end, replica_at}
-use Rattle.gc_plan.specs.Steps.{log_or_nil, if_room, copy_root, scan_done, scan_replica, scan, apply_log, is_empty, collect, is_change, first_log, useful_step}
+use Rattle.gc_plan.specs.Steps.{log_or_nil, if_room, scan_done, scan_replica, scan, is_empty, collect, is_change, first_log, useful_step}
 use Rattle.gc_plan.specs.Belonging.{IsSpaceGraph, IsDue, IsOpen, IsOpened, IsState}
 use Rattle.gc_plan.specs.declared.step.Step.{Step}
-use Rattle.gc_plan.specs.declared.step.Step.TheVariants as steps
 use Rattle.gc_plan.specs.declared.step.StepReply.{StepReply}
 use Rattle.gc_plan.specs.declared.step.StepReply.TheVariants.{Clean, NoRoom, Scanned}
 use Rattle.gc_plan.proofs.Links.{found_by_place}
@@ -15,23 +14,8 @@ use Rattle.gc_plan.proofs.Flips.{flips}
 
 -- ---- after a reply that means no change, the state is the same
 
-abbrev Quiet : State → StepReply × State → Type 0
-Quiet s next = is_change next.0 ≡ false → next.1 ≡ s
-
-room_quiet : (s : State) (reply : StepReply) (o : Option Collection) → is_change reply ≡ true → Quiet s (if_room s reply o)
-room_quiet s reply o changes e = grind (arith, common_steps)
-
-roots_quiet : (s : State) (c : Collection) (t : Option ℕ) → Quiet s (copy_root s c t)
-roots_quiet s c t = grind (arith, common_steps, room_quiet)
-
-replica_quiet : (s : State) (c : Collection) (t : Option Replica) → Quiet s (scan_replica s c t)
-replica_quiet s c t = grind (arith, common_steps, cond_both, room_quiet)
-
-log_quiet : (s : State) (c : Collection) (m : ℕ) (l : List (ℕ × ℕ)) → Quiet s (apply_log s c m l)
-log_quiet s c m l = grind (arith, common_steps, room_quiet)
-
 pub quiet_answers : (s : State) (step : Step) → is_change (collect s step).0 ≡ false → (collect s step).1 ≡ s
-quiet_answers s step = grind (arith, common_steps, roots_quiet, cond_both, replica_quiet, log_quiet)
+quiet_answers s step = grind (arith, common_steps, cond_both)
 
 -- ---- the useful step
 
@@ -40,9 +24,6 @@ Brings next = (next.0 ≡ NoRoom) ⊎ (is_change next.0 ≡ true)
 
 room_brings : (s : State) (reply : StepReply) (o : Option Collection) → is_change reply ≡ true → Brings (if_room s reply o)
 room_brings s reply o changes = grind (arith, common_steps)
-
-roots_bring : (s : State) (c : Collection) (t : Option ℕ) → not (is_none t) ≡ true → Brings (copy_root s c t)
-roots_bring s c t h = grind (arith, common_steps, room_brings)
 
 scan_brings : (s : State) (c : Collection) → IsOpened s c → not (scan_done c) ≡ true → Brings (scan s c)
 scan_brings s c k before = subst Brings (sym (cond-false (scan_done c) (Clean, s) (scan_replica s c (replica_at c c.scan_place)) unfinished)) (⊎_elim
@@ -57,9 +38,6 @@ scan_brings s c k before = subst Brings (sym (cond-false (scan_done c) (Clean, s
     one : (r : Replica) → Brings (scan_replica s c (Some r))
     one r = cond_both (r.object.raw || (c.scan_field == length r.object.fields)) _ _ Brings (λ t. inr refl) (λ t. room_brings s Scanned _ refl)
 
-log_brings : (s : State) (c : Collection) (m : ℕ) (l : List (ℕ × ℕ)) → is_empty l ≡ false → Brings (apply_log s c m l)
-log_brings s c m l h = grind (arith, common_steps, room_brings)
-
 -- the first log with an entry has one; if there is no such log, all are empty
 pub found_log : (logs : List (List (ℕ × ℕ))) (k m : ℕ) → first_log k logs ≡ Some m → (j : ℕ) × (m ≡ k + j) × (is_empty (log_or_nil (slice_get logs j)) ≡ false)
 found_log [] k m h = absurd cc
@@ -72,7 +50,7 @@ no_log ([] ∷ logs) k h = no_log logs (suc k) h
 no_log ((entry ∷ log) ∷ logs) k h = absurd cc
 
 pub useful_changes : (s : State) → IsSpaceGraph s.size s.heap.free s.heap.graph → IsOpen s s.collection → ((collect s (useful_step s)).0 ≡ NoRoom) ⊎ (is_change (collect s (useful_step s)).0 ≡ true)
-useful_changes s h opened = grind (arith, common_steps, flips, and_from, no_log, found_log, log_brings, cond_both, roots_bring, scan_brings, not-false)
+useful_changes s h opened = grind (arith, common_steps, flips, and_from, no_log, found_log, room_brings, cond_both, scan_brings, not-false)
 
 pub useful_brings : (s : State) → IsState s → ((collect s (useful_step s)).0 ≡ NoRoom) ⊎ (is_change (collect s (useful_step s)).0 ≡ true)
 useful_brings s h = useful_changes s h.heap h.collection

@@ -1,6 +1,6 @@
 -- A mutator's command keeps the heap well formed, and changes no field but the one that it writes.
 use Rattle.std.proofs.lemmas.Grind.{common_steps}
-use Rattle.std.proofs.Common.{◌≡◌, ◌⊎◌, inl, inr, ⊎_elim, ℕ, ◌+◌, ◌-◌, ◌<◌, ◌≤◌, Bool, true, false, ◌&&◌, ap, ◌∙◌, List, [], ◌∷◌, ◌++◌, map, length, Option, Some, None, slice_get, refl, sym, subst, arith}
+use Rattle.std.proofs.Common.{◌≡◌, ◌⊎◌, inl, inr, ⊎_elim, ℕ, ◌+◌, ◌-◌, ◌<◌, ◌≤◌, Bool, true, false, ◌&&◌, ap, ◌∙◌, List, [], ◌∷◌, ◌++◌, map, length, Option, Some, None, slice_get, refl, sym, subst, arith, rules}
 use Rattle.std.specs.Prelude.{not}
 use Rattle.std.proofs.lemmas.Bool.{cond_both}
 use Rattle.std.proofs.lemmas.List.{length-replicate}
@@ -14,7 +14,7 @@ use Rattle.gc_plan.specs.Belonging.{IsNamed, RefersTo, IsObject, HasRawNumbers, 
 use Rattle.gc_graph.specs.declared.command.Op.{Op}
 use Rattle.gc_graph.specs.declared.command.Op.TheVariants as ops
 use Rattle.gc_graph.specs.declared.reply.Reply.{Reply}
-use Rattle.gc_graph.specs.declared.reply.Reply.TheVariants.{Full, Done, NoObject, NoField, NoNumber}
+use Rattle.gc_graph.specs.declared.reply.Reply.TheVariants.{Full, Done}
 use Rattle.gc_graph.proofs.Public.{lookup_set_none}
 use Rattle.gc_plan.proofs.Lists.{in_left, in_right, in_push, in_set, in_replicate, get_in, get_past}
 use Rattle.gc_plan.proofs.Heap.{refers_map, laid_push, laid_set, lookup_in, lookup_left, lookup_written, pushed_last, set_from, named_set, written_entry, written_length, written_kind, written_raw, written_in, written_here, written_get}
@@ -155,8 +155,7 @@ keeps_new size free g raw d kind len name h k l fits is = record {
 }
   where
     first_fine : (b : Bool) → RefersTo (IsNamed (g.objects ++ (name, new_object raw kind len) ∷ [])) (first_value b)
-    first_fine true = tt
-    first_fine false = tt
+    first_fine b = grind (arith, common_steps)
 
     object : Object
     object = new_object raw kind len
@@ -165,11 +164,7 @@ keeps_new size free g raw d kind len name h k l fits is = record {
     more a n = (n.0, in_left (a, n.0) g.objects ((name, object) ∷ []) n.1)
 
     fresh : IsObject (g.objects ++ (name, object) ∷ []) object
-    fresh = record {
-      kind = k;
-      len = subst (λ n. n < 65536) (sym (length-replicate len (first_value raw))) l;
-      fields = λ v x. subst (RefersTo (IsNamed (g.objects ++ (name, object) ∷ []))) (in_replicate v (first_value raw) len x) (first_fine raw);
-    }
+    fresh = grind (arith, common_steps, length-replicate, in_replicate, first_fine)
 
 -- no words are taken
 at_free : (size free : ℕ) (next : Graph) → IsSpaceGraph size free next → IsSpaceGraph size (free - 0) next
@@ -183,10 +178,8 @@ step_keeps size free g m (ops.NewRaw d kind len) name h r fits is = keeps_new si
 step_keeps size free g m (ops.Num d n) name h r fits is = at_free size free _ (keeps_root size free g (place d m) (Num n) h tt)
 step_keeps size free g m (ops.Nil d) name h r fits is = at_free size free _ (keeps_root size free g (place d m) Nil h tt)
 step_keeps size free g m (ops.Move d s) name h r fits is = at_free size free _ (keeps_root size free g (place d m) (root g (place s m)) h (root_fine size free g (place s m) h))
-step_keeps size free g m (ops.Get d s i) name h r fits is =
-    at_free size free _ (keeps_get size free g (place d m) (object_of g.objects (root g (place s m))) (field_of (object_of g.objects (root g (place s m))) i) h (λ v e. field_fine size free g (root g (place s m)) i v h e))
-step_keeps size free g m (ops.Put s i t) name h r fits is =
-    at_free size free _ (keeps_put size free g (root g (place s m)) (object_of g.objects (root g (place s m))) (field_of (object_of g.objects (root g (place s m))) i) i (root g (place t m)) h (root_fine size free g (place t m) h) refl)
+step_keeps size free g m (ops.Get d s i) name h r fits is = search (rules, at_free, keeps_get, field_fine)
+step_keeps size free g m (ops.Put s i t) name h r fits is = search (rules, at_free, keeps_put, root_fine)
 step_keeps size free g m (ops.Same s t) name h r fits is = at_free size free _ h
 step_keeps size free g m (ops.Look s) name h r fits is = at_free size free _ h
 
@@ -229,14 +222,8 @@ step_evolves g m (ops.Look s) name = unchanged g.objects _
 pub field_stays : (before later : List (ℕ × Object)) (Touched : ℕ → ℕ → Type 0) (a i : ℕ) → Evolves before later Touched → HasField before a i → HasField later a i
 field_stays before later Touched a i evolves h = let still = evolves a h.0 h.1 in (still.now, still.found, (let l = still.len in let k = h.2 in omega arith))
 
-put_there : (g : Graph) (W : Reply → List (ℕ × ℕ)) (v : Value) (target : Option Object) (found : Option Value) (i : ℕ) (w : Value) (a j : ℕ)
-    → W Done ≡ map (λ n. (n, i)) (names_of v) → W NoObject ≡ [] → W NoField ≡ [] → W NoNumber ≡ []
-    → object_of g.objects v ≡ target → field_of target i ≡ found
-    → In (a, j) (W (put_field g v target found i w).0) → HasField g.objects a j
-put_there g W v target found i w a j done object field number is at h = grind (arith, common_steps, get_past)
-
 pub written_there : (g : Graph) (m : ℕ) (op : Op) (name a j : ℕ) → WrittenBy g m op (step g m op name).0 a j → HasField g.objects a j
-written_there g m op name a j h = grind (arith, common_steps, put_there)
+written_there g m op name a j h = grind (arith, common_steps, get_past)
 
 pub full_writes_nothing : (g : Graph) (m : ℕ) (op : Op) (a j : ℕ) → WrittenBy g m op Full a j → ⊥
 full_writes_nothing g m op a j h = grind (arith, common_steps)

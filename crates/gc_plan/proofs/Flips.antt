@@ -1,6 +1,6 @@
 -- A collection that is ready has a certificate.
 use Rattle.std.proofs.lemmas.Grind.{common_steps}
-use Rattle.std.proofs.Common.{◌≡◌, ◌≢◌, inl, inr, ⊎_elim, ℕ, zero, suc, ◌+◌, ◌-◌, ◌<◌, ◌≤◌, Bool, true, List, [], ◌∷◌, map, length, get_or, Option, Some, is_none, slice_get, AllPairs, IsTrue, refl, ap, sym, ◌∙◌, subst, arith}
+use Rattle.std.proofs.Common.{◌≡◌, ◌≢◌, inl, inr, ⊎_elim, ℕ, zero, suc, ◌+◌, ◌-◌, ◌<◌, ◌≤◌, Bool, true, List, [], ◌∷◌, map, length, get_or, Some, is_none, slice_get, AllPairs, IsTrue, refl, ap, sym, ◌∙◌, subst, arith}
 use Rattle.std.specs.List.{AllZip}
 use Rattle.std.proofs.lemmas.Option.{slice_get-get_or}
 use Rattle.std.proofs.lemmas.Bool.{cond-true, cond_both}
@@ -13,12 +13,10 @@ use Rattle.gc_words.specs.Image.{block_at}
 use Rattle.gc_words.specs.Certificate.{BlocksCorrespond, Certified}
 use Rattle.gc_plan.specs.Linked.{object_block, object_header, field_word, image_of_graph, linked_image}
 use Rattle.gc_plan.specs.State.{Replica, Collection, State, new_free, pairs_of, moved, new_graph}
-use Rattle.gc_plan.specs.Steps.{is_ready, flipped, passes_check, flip, if_room, collect}
+use Rattle.gc_plan.specs.Steps.{is_ready, flipped, passes_check, flip, collect}
 use Rattle.gc_plan.specs.Members.{In, Distinct}
 use Rattle.gc_plan.specs.Belonging.{Laid, IsNamed, RefersTo, IsSpaceGraph, Belongs, IsOpened, IsState}
 use Rattle.gc_plan.specs.declared.step.Step.{Step}
-use Rattle.gc_plan.specs.declared.step.Step.TheVariants as steps
-use Rattle.gc_plan.specs.declared.step.StepReply.{StepReply}
 use Rattle.gc_plan.specs.declared.step.StepReply.TheVariants.{Refused, Flipped}
 use Rattle.gc_plan.proofs.Lists.{in_map, in_map_from, get_in, all_from_in}
 use Rattle.gc_plan.proofs.Heap.{refers_map, laid_range, lookup_in, lookup_laid}
@@ -141,8 +139,5 @@ flips s c h k ready = cond-true (is_ready c s.heap.graph) _ _ ready ∙ cond-tru
 
 -- ---- no step is refused
 
-room_not_refused : (s : State) (reply : StepReply) (o : Option Collection) → reply ≢ Refused → (if_room s reply o).0 ≢ Refused
-room_not_refused s reply o h = grind (arith, common_steps)
-
 pub not_refused : (s : State) (step : Step) → IsState s → (collect s step).0 ≢ Refused
-not_refused s step h = grind (arith, common_steps, room_not_refused, cond_both, cond-true, passes)
+not_refused s step h = grind (arith, common_steps, cond_both, passes)

@@ -32,9 +32,7 @@ end_push at (d ∷ rest) e = end_push (at + (length d.1.fields + 2)) rest e
 -- an object's place lies within the heap
 pub laid_range : (at : ℕ) (objects : List (ℕ × Object)) (end : ℕ) (e : ℕ × Object) → Laid at objects end → In e objects → (at ≤ e.0) × (e.0 + (length e.1.fields + 2) ≤ end)
 laid_range at [] end e h k = absurd k
-laid_range at (d ∷ rest) end e h (inl k) =
-    subst (λ (w : ℕ × Object). (at ≤ w.0) × (w.0 + (length w.1.fields + 2) ≤ end)) k
-    (let l : at + (length d.1.fields + 2) ≤ end = laid_end (at + (length d.1.fields + 2)) rest end h.1 in let m : d.0 ≡ at = h.0 in omega arith)
+laid_range at (d ∷ rest) end e h (inl k) = grind (arith, common_steps, laid_end)
 laid_range at (d ∷ rest) end e h (inr k) = let r = laid_range (at + (length d.1.fields + 2)) rest end e h.1 k in omega arith
 
 -- two objects are the same, or one ends before the other begins
@@ -51,16 +49,13 @@ laid_same at objects end d e h k l s = ⊎_elim (λ x. x) (λ y. absurd (⊎_eli
 -- writing a field keeps the layout
 pub laid_set : (name i : ℕ) (v : Value) (at : ℕ) (objects : List (ℕ × Object)) (end : ℕ) → Laid at objects end → Laid at (set_field objects name i v) end
 laid_set name i v at [] end h = h
-laid_set name i v at (e ∷ rest) end h = grind (arith, common_steps, cond-true, cond-false, cases_Bool, laid_set name i v (at + (length e.1.fields + 2)) rest end h.1)
+laid_set name i v at (e ∷ rest) end h = grind (arith, common_steps, cases_Bool, laid_set name i v (at + (length e.1.fields + 2)) rest end h.1)
 
 -- ---- look-ups
 
 pub lookup_in : (objects : List (ℕ × Object)) (a : ℕ) (o : Object) → lookup objects a ≡ Some o → In (a, o) objects
 lookup_in [] a o h = absurd cc
-lookup_in (e ∷ rest) a o h = ⊎_elim
-    (λ t. let n : e.0 ≡ a = eqb-true e.0 a t in let s : e.1 ≡ o = cc (sym (cond-true (e.0 == a) (Some e.1) (lookup rest a) t) ∙ h) in inl (λ i. (n i, s i)))
-    (λ f. inr (lookup_in rest a o (sym (cond-false (e.0 == a) (Some e.1) (lookup rest a) f) ∙ h)))
-    (cases_Bool (e.0 == a))
+lookup_in (e ∷ rest) a o h = grind (arith, common_steps, lookup_in rest a o)
 
 pub lookup_here : (e : ℕ × Object) (rest : List (ℕ × Object)) (a : ℕ) → e.0 ≡ a → lookup (e ∷ rest) a ≡ Some e.1
 lookup_here e rest a h = cond-true (e.0 == a) (Some e.1) (lookup rest a) (eq-eqb e.0 a h)
@@ -79,17 +74,11 @@ lookup_named (e ∷ rest) a h = ⊎_elim
     (cases_Bool (e.0 == a))
 
 pub lookup_laid : (at : ℕ) (objects : List (ℕ × Object)) (end : ℕ) (a : ℕ) (o : Object) → Laid at objects end → In (a, o) objects → lookup objects a ≡ Some o
-lookup_laid at objects end a o h k =
-    let r = lookup_named objects a (o, k) in
-    let same = laid_same at objects end (a, r.0) (a, o) h (lookup_in objects a r.0 r.1) k refl in
-    r.1 ∙ ap (λ (w : ℕ × Object). Some w.1) same
+lookup_laid at objects end a o h k = grind (arith, common_steps, laid_same at objects end (a, (lookup_named objects a (o, k)).0) (a, o) h (lookup_in objects a (lookup_named objects a (o, k)).0 (lookup_named objects a (o, k)).1) k refl)
 
 pub lookup_left : (objects more : List (ℕ × Object)) (a : ℕ) (o : Object) → lookup objects a ≡ Some o → lookup (objects ++ more) a ≡ Some o
 lookup_left [] more a o h = absurd cc
-lookup_left (e ∷ rest) more a o h = ⊎_elim
-    (λ t. lookup_here e (rest ++ more) a (eqb-true e.0 a t) ∙ (sym (lookup_here e rest a (eqb-true e.0 a t)) ∙ h))
-    (λ f. lookup_there e (rest ++ more) a (eqb-false e.0 a f) ∙ lookup_left rest more a o (sym (lookup_there e rest a (eqb-false e.0 a f)) ∙ h))
-    (cases_Bool (e.0 == a))
+lookup_left (e ∷ rest) more a o h = grind (arith, common_steps, lookup_here, lookup_there, lookup_left rest more a o)
 
 -- ---- a written field
 
@@ -97,22 +86,22 @@ abbrev pub written_entry : ℕ → ℕ → Value → ℕ × Object → ℕ × Ob
 written_entry name i v = λ entry. (entry.0, cond (entry.0 == name) (with_field entry.1 i v) entry.1)
 
 pub written_length : (name i : ℕ) (v : Value) (e : ℕ × Object) → length (written_entry name i v e).1.fields ≡ length e.1.fields
-written_length name i v e = grind (arith, common_steps, cond-true, cond-false, cases_Bool)
+written_length name i v e = grind (arith, common_steps, cases_Bool)
 
 pub written_kind : (name i : ℕ) (v : Value) (e : ℕ × Object) → (written_entry name i v e).1.kind ≡ e.1.kind
-written_kind name i v e = grind (arith, common_steps, cond-true, cond-false, cases_Bool)
+written_kind name i v e = grind (arith, common_steps, cases_Bool)
 
 pub written_raw : (name i : ℕ) (v : Value) (e : ℕ × Object) → (written_entry name i v e).1.raw ≡ e.1.raw
-written_raw name i v e = grind (arith, common_steps, cond-true, cond-false, cases_Bool)
+written_raw name i v e = grind (arith, common_steps, cases_Bool)
 
 pub written_in : (name i : ℕ) (v : Value) (e : ℕ × Object) (w : Value) → In w (written_entry name i v e).1.fields → (v ≡ w) ⊎ In w e.1.fields
-written_in name i v e w h = grind (arith, common_steps, in_set, cond-true, cond-false, cases_Bool)
+written_in name i v e w h = grind (arith, common_steps, in_set, cases_Bool)
 
 pub written_here : (name i : ℕ) (v : Value) (e : ℕ × Object) (w : Value) → In w (written_entry name i v e).1.fields → ((e.0 ≡ name) × (v ≡ w)) ⊎ In w e.1.fields
-written_here name i v e w h = grind (arith, common_steps, eqb-true, in_set, cond-true, cond-false, cases_Bool)
+written_here name i v e w h = grind (arith, common_steps, in_set, cases_Bool)
 
 pub written_get : (name i : ℕ) (v : Value) (e : ℕ × Object) (j : ℕ) (w : Value) → slice_get (written_entry name i v e).1.fields j ≡ Some w → (slice_get e.1.fields j ≡ Some w) ⊎ ((e.0 ≡ name) × (j ≡ i))
-written_get name i v e j w h = grind (arith, common_steps, eqb-true, get_set, cond-true, cond-false, cases_Bool)
+written_get name i v e j w h = grind (arith, common_steps, get_set, cases_Bool)
 
 pub lookup_written : (name i : ℕ) (v : Value) (objects : List (ℕ × Object)) (a : ℕ) (o : Object) → lookup objects a ≡ Some o → lookup (set_field objects name i v) a ≡ Some (written_entry name i v (a, o)).1
 lookup_written name i v [] a o h = absurd cc
@@ -125,32 +114,15 @@ lookup_written name i v (e ∷ rest) a o h = ⊎_elim there (beside (λ k. looku
     is_it n = cc (sym (lookup_here e rest a n) ∙ h)
 
     there : (e.0 == name) ≡ true → lookup (set_field (e ∷ rest) name i v) a ≡ Some (written_entry name i v (a, o)).1
-    there t = ap (λ l. lookup l a) (cond-true (e.0 == name) (written ∷ rest) (e ∷ set_field rest name i v) t) ∙ ⊎_elim
-        (λ s. let n : e.0 ≡ a = eqb-true e.0 a s in
-        lookup_here written rest a n ∙ (ap (λ (x : Object). Some (with_field x i v)) (is_it n) ∙ sym (ap Some (cond-true (a == name) (with_field o i v) o (subst (λ m. (m == name) ≡ true) n t)))))
-        (λ f. let n : e.0 ≢ a = eqb-false e.0 a f in
-        lookup_there written rest a n ∙ ((sym (lookup_there e rest a n) ∙ h) ∙ sym (ap Some (cond-false (a == name) (with_field o i v) o (ne_eqb a name (λ x. n (eqb-true e.0 name t ∙ sym x)))))))
-        (cases_Bool (e.0 == a))
+    there t = grind (arith, common_steps, lookup_here, is_it, lookup_there)
 
     beside : (lookup rest a ≡ Some o → lookup (set_field rest name i v) a ≡ Some (written_entry name i v (a, o)).1) → (e.0 == name) ≡ false → lookup (set_field (e ∷ rest) name i v) a ≡ Some (written_entry name i v (a, o)).1
-    beside more f = ap (λ l. lookup l a) (cond-false (e.0 == name) (written ∷ rest) (e ∷ set_field rest name i v) f) ∙ ⊎_elim
-        (λ s. let n : e.0 ≡ a = eqb-true e.0 a s in
-        lookup_here e (set_field rest name i v) a n ∙ (ap Some (is_it n) ∙ sym (ap Some (cond-false (a == name) (with_field o i v) o (subst (λ m. (m == name) ≡ false) n f)))))
-        (λ g. let n : e.0 ≢ a = eqb-false e.0 a g in
-        lookup_there e (set_field rest name i v) a n ∙ more (sym (lookup_there e rest a n) ∙ h))
-        (cases_Bool (e.0 == a))
+    beside more f = grind (arith, common_steps, lookup_here, is_it, lookup_there)
 
 -- an object placed after all others
 pub pushed_last : (objects : List (ℕ × Object)) (a name : ℕ) (o q : Object) → lookup objects a ≡ None → lookup (objects ++ (name, o) ∷ []) a ≡ Some q → o ≡ q
-pushed_last [] a name o q none h = ⊎_elim
-    (λ t. cc (sym (cond-true (name == a) (Some o) None t) ∙ h))
-    (λ f. absurd (let no : None ≡ Some q = sym (cond-false (name == a) (Some o) None f) ∙ h in cc))
-    (cases_Bool (name == a))
-pushed_last (e ∷ rest) a name o q none h = ⊎_elim
-    (λ s. absurd (let no : Some e.1 ≡ None = sym (lookup_here e rest a (eqb-true e.0 a s)) ∙ none in cc))
-    (λ f. let n : e.0 ≢ a = eqb-false e.0 a f in
-    pushed_last rest a name o q (sym (lookup_there e rest a n) ∙ none) (sym (lookup_there e (rest ++ (name, o) ∷ []) a n) ∙ h))
-    (cases_Bool (e.0 == a))
+pushed_last [] a name o q none h = grind (arith, common_steps)
+pushed_last (e ∷ rest) a name o q none h = grind (arith, common_steps, lookup_here, lookup_there, pushed_last rest a name o q)
 
 -- an entry was there before, or is the one written
 abbrev WasEntry : ℕ → ℕ → Value → List (ℕ × Object) → ℕ × Object → Type 0

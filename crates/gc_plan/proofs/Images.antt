@@ -1,7 +1,6 @@
 -- The image of a heap: the walk finds its objects, and its words mean the heap's values.
 use Rattle.std.proofs.lemmas.Grind.{common_steps}
-use Rattle.std.proofs.Common.{◌≡◌, ⊎_elim, inl, inr, ℕ, ◌+◌, ◌-◌, ◌<◌, ◌≤◌, ◌==◌, true, List, [], ◌∷◌, map, length, Some, Ok, refl, ap, sym, ◌∙◌, arith}
-use Rattle.std.proofs.lemmas.Bool.{cases_Bool, cond-true, cond-false}
+use Rattle.std.proofs.Common.{◌≡◌, inl, inr, ℕ, ◌+◌, ◌-◌, ◌<◌, ◌≤◌, true, List, [], ◌∷◌, map, length, Some, Ok, refl, ap, ◌∙◌, arith}
 use Rattle.std.proofs.lemmas.List.{length-map}
 use Rattle.gc_graph.specs.Graph.{Value, Num, Object, Graph, lookup}
 use Rattle.gc_graph.specs.Machine.{is_number}
@@ -34,12 +33,7 @@ read_back v h = value_read_back v (has_address v h)
 
 pub laid_out : (at : ℕ) (objects : List (ℕ × Object)) (end : ℕ) → Laid at objects end → ((e : ℕ × Object) → In e objects → (e.1.kind < 256) × (length e.1.fields < 65536)) → LaidOut at (map block_entry objects)
 laid_out at [] end h ok = tt
-laid_out at (e ∷ rest) end h ok =
-    let here = ok e (inl refl) in (
-      h.0,
-      record { header = record { kind = here.0; len = here.1 }; fields = length-map e.1.fields (field_word (object_header e.1)) },
-      laid_out (at + (length e.1.fields + 2)) rest end h.1 (λ d k. ok d (inr k)),
-    )
+laid_out at (e ∷ rest) end h ok = grind (arith, common_steps, length-map, laid_out (at + (length e.1.fields + 2)) rest end h.1)
 
 pub words_laid : (links : ℕ → ℕ) (at : ℕ) (objects : List (ℕ × Object)) (end : ℕ) → Laid at objects end → at + length (spelled_from links (map block_entry objects)) ≡ end
 words_laid links at [] end h = let e : at ≡ end = h in omega arith
@@ -61,11 +55,7 @@ blocks_are links size free g h = ap ok_or_nil (walked links size free g h)
 
 pub block_found : (objects : List (ℕ × Object)) (a : ℕ) (o : Object) → lookup objects a ≡ Some o → block_in (map block_entry objects) a ≡ Some (object_block o)
 block_found [] a o h = absurd cc
-block_found (e ∷ rest) a o h = ⊎_elim
-    (λ t. let s : e.1 ≡ o = cc (sym (cond-true (e.0 == a) (Some e.1) (lookup rest a) t) ∙ h) in
-    cond-true (e.0 == a) (Some (object_block e.1)) (block_in (map block_entry rest) a) t ∙ ap (λ (x : Object). Some (object_block x)) s)
-    (λ f. cond-false (e.0 == a) (Some (object_block e.1)) (block_in (map block_entry rest) a) f ∙ block_found rest a o (sym (cond-false (e.0 == a) (Some e.1) (lookup rest a) f) ∙ h))
-    (cases_Bool (e.0 == a))
+block_found (e ∷ rest) a o h = grind (arith, common_steps, block_found rest a o)
 
 pub block_is : (links : ℕ → ℕ) (size free : ℕ) (g : Graph) (a : ℕ) (o : Object) → IsSpaceGraph size free g → lookup g.objects a ≡ Some o → block_at (linked_image links size g).words a ≡ Some (object_block o)
 block_is links size free g a o h k = ap (λ bs. block_in bs a) (blocks_are links size free g h) ∙ block_found g.objects a o k
@@ -78,30 +68,18 @@ named_address size free g a h n = grind (arith, common_steps, laid_range)
 number_back : (v : Value) → is_number v ≡ true → Num (number_of v) ≡ v
 number_back v h = grind (arith, common_steps)
 
-field_back : (h : Header) (v : Value) → (h.raw ≡ true → is_number v ≡ true) → RefersTo IsAddress v → field_value h (field_word h v) ≡ v
-field_back h v number f = grind (arith, common_steps, number_back, value_back)
-
 values_back : (h : Header) (P : ℕ → Type 0) (vs : List Value) → ((a : ℕ) → P a → IsAddress a) → ((v : Value) → In v vs → RefersTo P v) → ((v : Value) → In v vs → h.raw ≡ true → is_number v ≡ true) → map (field_value h) (map (field_word h) vs) ≡ vs
 values_back h P [] f ok numbers = refl
-values_back h P (v ∷ vs) f ok numbers =
-    let e : field_value h (field_word h v) ≡ v = field_back h v (numbers v (inl refl)) (refers_map P IsAddress f v (ok v (inl refl))) in
-    let r = values_back h P vs f (λ w k. ok w (inr k)) (λ w k. numbers w (inr k)) in
-    λ i. e i ∷ r i
+values_back h P (v ∷ vs) f ok numbers = grind (arith, common_steps, number_back, value_back, refers_map, values_back h P vs f)
 
 roots_back : (P : ℕ → Type 0) (vs : List Value) → ((a : ℕ) → P a → IsAddress a) → ((v : Value) → In v vs → RefersTo P v) → map value_of (map word_of vs) ≡ vs
 roots_back P [] f ok = refl
-roots_back P (v ∷ vs) f ok =
-    let e : value_of (word_of v) ≡ v = value_back v (refers_map P IsAddress f v (ok v (inl refl))) in
-    let r = roots_back P vs f (λ w k. ok w (inr k)) in
-    λ i. e i ∷ r i
+roots_back P (v ∷ vs) f ok = grind (arith, common_steps, value_back v (refers_map P IsAddress f v (ok v (inl refl))), roots_back P vs f (λ w k. ok w (inr k)))
 
 objects_back : (objects : List (ℕ × Object)) → ((e : ℕ × Object) → In e objects → map (field_value (object_header e.1)) (map (field_word (object_header e.1)) e.1.fields) ≡ e.1.fields)
     → map object_entry (map block_entry objects) ≡ objects
 objects_back [] ok = refl
-objects_back (e ∷ rest) ok =
-    let x = ok e (inl refl) in
-    let r = objects_back rest (λ d k. ok d (inr k)) in
-    λ i. (e.0, record { raw = e.1.raw; kind = e.1.kind; fields = x i }) ∷ r i
+objects_back (e ∷ rest) ok = grind (arith, common_steps, objects_back rest)
 
 -- the image has the heap's graph
 pub graph_back : (links : ℕ → ℕ) (size free : ℕ) (g : Graph) → IsSpaceGraph size free g → graph_of (linked_image links size g) ≡ g

@@ -1,7 +1,7 @@
 -- What the links in the two spaces of a collection mean.
 use Rattle.std.proofs.lemmas.Grind.{common_steps}
 use Rattle.std.proofs.Common.{Bool, ◌≡◌, inl, inr, ⊎_elim, ℕ, ◌+◌, ◌==◌, true, false, List, [], ◌∷◌, map, length, Option, Some, None, is_none, refl, ap, sym, ◌∙◌, subst, arith}
-use Rattle.std.proofs.lemmas.Bool.{cases_Bool, cond-true, cond-false, eqb-true, eqb-false, eq-eqb, ne_eqb}
+use Rattle.std.proofs.lemmas.Bool.{cases_Bool, cond-true, cond-false, eqb-true, eq-eqb, ne_eqb}
 use Rattle.gc_graph.specs.Graph.{Value, Ref, Object, set_field, with_field}
 use Rattle.gc_plan.specs.State.{Replica, Collection, new_objects, replica_of, replica_at, moved, moved_name}
 use Rattle.gc_plan.specs.Steps.{with_written, write_replica}
@@ -27,10 +27,7 @@ same_original (q ∷ rest) r s d (inr k) (inr l) e = same_original rest r s d.1 
 -- a replica of another name keeps its place and object
 unwritten : (name i : ℕ) (v : Value) (replicas : List Replica) → ((q : Replica) → In q replicas → (q.original == name) ≡ false) → map placed (map (with_written name i v) replicas) ≡ map placed replicas
 unwritten name i v [] f = refl
-unwritten name i v (q ∷ rest) f =
-    let here : placed (with_written name i v q) ≡ placed q = ap placed (cond-false (q.original == name) (record q { object = with_field q.object i v }) q (f q (inl refl))) in
-    let others = unwritten name i v rest (λ p k. f p (inr k)) in
-    λ n. here n ∷ others n
+unwritten name i v (q ∷ rest) f = grind (arith, common_steps, placed, unwritten name i v rest)
 
 -- writing a replica writes the object at its place
 written_objects : (name place i : ℕ) (v : Value) (at : ℕ) (replicas : List Replica) (end : ℕ) → Laid at (map placed replicas) end → ((q : Replica) → In q replicas → (q.original == name) ≡ (q.place == place))
@@ -55,23 +52,17 @@ module _ (Due : Bool → ℕ → ℕ → ℕ → Type 0) (objects : List (ℕ ×
   found_by_name r k = grind (arith, common_steps, replica_exists, replica_in, same_original)
 
   pub found_by_place : (r : Replica) → In r c.replicas → replica_at c r.place ≡ Some r
-  found_by_place r k =
-      let s = find_exists (λ (q : Replica). q.place == r.place) c.replicas r k (eq-eqb r.place r.place refl) in
-      let f = find_some (λ (q : Replica). q.place == r.place) c.replicas s.0 s.1 in
-      s.1 ∙ ap Some (same_place 1 c.replicas (replicas_end c.replicas) s.0 r h.laid f.0 k (eqb-true s.0.place r.place f.1))
+  found_by_place r k = let s = find_exists (λ (q : Replica). q.place == r.place) c.replicas r k (eq-eqb r.place r.place refl) in grind (arith, common_steps, same_place, replicas_end, find_some (λ (q : Replica). q.place == r.place) c.replicas s.0 s.1)
 
   pub zero_tells : (a : ℕ) → (old_links c a == 0) ≡ is_none (replica_of c a)
   zero_tells a = go (replica_of c a) refl
     where
       go : (o : Option Replica) → replica_of c a ≡ o → (place_or_zero o == 0) ≡ is_none o
       go None e = refl
-      go (Some r) e =
-          let f = replica_in c a r e in
-          let range = laid_range 1 (map placed c.replicas) (replicas_end c.replicas) (placed r) h.laid (in_map placed r c.replicas f.0) in
-          ne_eqb r.place 0 (omega arith)
+      go (Some r) e = grind (arith, common_steps, laid_range 1 (map placed c.replicas) (replicas_end c.replicas) (placed r) h.laid (in_map placed r c.replicas (replica_in c a r e).0))
 
   pub write_is_set : (name i : ℕ) (v : Value) (r : Replica) → replica_of c name ≡ Some r → new_objects (write_replica c name i v) ≡ set_field (new_objects c) r.place i v
-  write_is_set name i v r e = grind (arith, common_steps, replica_in, written_objects, replicas_end, eq-eqb, same_original, eqb-true, ne_eqb, eqb-false, same_place, cases_Bool)
+  write_is_set name i v r e = grind (arith, common_steps, replica_in, written_objects, replicas_end, same_original, same_place, cases_Bool)
 
   pub old_link_is : (a : ℕ) (r : Replica) → replica_of c a ≡ Some r → moved c (Ref a) ≡ Ref (old_links c a)
   old_link_is a r e = ap (λ o. moved_name o a) e ∙ sym (ap (λ o. Ref (place_or_zero o)) e)

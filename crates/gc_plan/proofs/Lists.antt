@@ -1,4 +1,5 @@
 -- Membership, places and distinct elements of lists.
+use Rattle.std.proofs.lemmas.Grind.{common_steps}
 use Rattle.std.proofs.Common.{◌≡◌, ◌≢◌, ◌⊎◌, inl, inr, ⊎_elim, ℕ, zero, suc, ◌<◌, Bool, true, false, List, [], ◌∷◌, ◌++◌, map, length, set, replicate, Some, None, slice_get, find, flat_map, get_or, All, refl, ap, sym, ◌∙◌, subst, arith}
 use Rattle.std.proofs.lemmas.Bool.{cases_Bool, cond-true, cond-false}
 use Rattle.std.proofs.lemmas.Option.{slice_get-get_or}
@@ -101,21 +102,11 @@ in_replicate x y (suc n) (inr h) = in_replicate x y n h
 
 pub find_some : {X : Type 0} (p : X → Bool) (xs : List X) (x : X) → find p xs ≡ Some x → In x xs × (p x ≡ true)
 find_some p [] x h = absurd cc
-find_some p (y ∷ xs) x h = ⊎_elim
-    (λ t. let e : y ≡ x = cc (sym (cond-true (p y) (Some y) (find p xs) t) ∙ h) in (inl e, subst (λ w. p w ≡ true) e t))
-    (λ f. let r = find_some p xs x (sym (cond-false (p y) (Some y) (find p xs) f) ∙ h) in (inr r.0, r.1))
-    (cases_Bool (p y))
+find_some p (y ∷ xs) x h = grind (arith, common_steps, find_some p xs x)
 
 pub find_none : {X : Type 0} (p : X → Bool) (xs : List X) (x : X) → find p xs ≡ None → In x xs → p x ≡ false
 find_none p [] x h k = absurd k
-find_none p (y ∷ xs) x h (inl e) = ⊎_elim
-    (λ t. absurd (cc (sym (cond-true (p y) (Some y) (find p xs) t) ∙ h)))
-    (λ f. subst (λ w. p w ≡ false) e f)
-    (cases_Bool (p y))
-find_none p (y ∷ xs) x h (inr k) = ⊎_elim
-    (λ t. absurd (cc (sym (cond-true (p y) (Some y) (find p xs) t) ∙ h)))
-    (λ f. find_none p xs x (sym (cond-false (p y) (Some y) (find p xs) f) ∙ h) k)
-    (cases_Bool (p y))
+find_none p (y ∷ xs) x h k = grind (arith, common_steps, find_none p xs x)
 
 -- ---- distinct elements
 

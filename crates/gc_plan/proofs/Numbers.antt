@@ -1,23 +1,19 @@
 -- Numbers stay below 2^63.
 use Rattle.std.proofs.lemmas.Grind.{common_steps}
-use Rattle.std.proofs.Common.{◌≡◌, ⊎_elim, ℕ, Bool, true, false, ◌&&◌, arith, List, Option, Some, None, refl, sym, subst}
+use Rattle.std.proofs.Common.{◌≡◌, ⊎_elim, ℕ, Bool, true, ◌&&◌, arith, List, Option, Some, None, refl, sym, subst}
 use Rattle.std.specs.Prelude.{not}
-use Rattle.std.proofs.lemmas.Bool.{eqb-true, cond_both}
-use Rattle.gc_graph.specs.Graph.{Value, Nil, Num, Ref, Object, Graph, lookup, object_of, field_of, root, set_root, add_object, first_value, new_object}
+use Rattle.std.proofs.lemmas.Bool.{cond_both}
+use Rattle.gc_graph.specs.Graph.{Value, Nil, Num, Ref, Object, Graph, lookup, object_of, field_of, set_root, add_object, first_value, new_object}
 use Rattle.gc_graph.specs.Correspond.{correspond}
-use Rattle.gc_graph.specs.Machine.{step, get_field, is_number, put_field}
+use Rattle.gc_graph.specs.Machine.{step, is_number, put_field}
 use Rattle.gc_plan.specs.Runs.{HasRange}
 use Rattle.gc_graph.specs.declared.reply.Reply.{Reply}
 use Rattle.gc_graph.specs.declared.command.Op.{Op}
-use Rattle.gc_graph.specs.declared.command.Op.TheVariants as ops
 use Rattle.gc_plan.specs.State.{Collection, moved}
 use Rattle.gc_plan.specs.Members.{In}
 use Rattle.gc_plan.specs.Belonging.{IsSmall, HasSmallNumbers}
 use Rattle.gc_plan.proofs.Lists.{in_push, in_set, in_replicate, get_in}
 use Rattle.gc_plan.proofs.Heap.{lookup_in, written_in, set_from}
-
-root_small : (g : Graph) (p : ℕ) → HasSmallNumbers g → IsSmall (root g p)
-root_small g p h = grind (arith, common_steps, get_in)
 
 field_small : (g : Graph) (v : Value) (i : ℕ) (w : Value) → HasSmallNumbers g → field_of (object_of g.objects v) i ≡ Some w → IsSmall w
 field_small g Nil i w h e = absurd cc
@@ -30,9 +26,6 @@ field_small g (Ref a) i w h e = go (lookup g.objects a) refl e
 
 small_root : (g : Graph) (d : ℕ) (v : Value) → HasSmallNumbers g → IsSmall v → HasSmallNumbers (set_root g d v)
 small_root g d v h s = record { fields = h.fields; roots = λ w k. ⊎_elim (λ e. subst IsSmall e s) (h.roots w) (in_set w g.roots d v k) }
-
-small_get : (g : Graph) (d : ℕ) (target : Option Object) (found : Option Value) → HasSmallNumbers g → ((v : Value) → found ≡ Some v → IsSmall v) → HasSmallNumbers (get_field g d target found).1
-small_get g d target found h f = grind (arith, common_steps, small_root)
 
 small_put : (g : Graph) (v : Value) (target : Option Object) (found : Option Value) (i : ℕ) (w : Value) → HasSmallNumbers g → IsSmall w → HasSmallNumbers (put_field g v target found i w).1
 small_put g Nil target found i w h s = h
@@ -57,16 +50,15 @@ small_new g raw d kind len name h = record {
 }
   where
     first_small : (b : Bool) → IsSmall (first_value b)
-    first_small true = omega arith
-    first_small false = tt
+    first_small b = grind (arith, common_steps)
 
 pub step_small : (g : Graph) (m : ℕ) (op : Op) (name : ℕ) → HasSmallNumbers g → HasRange op → HasSmallNumbers (step g m op name).1
-step_small g m op name h r = grind (arith, common_steps, small_new, small_root, root_small, small_get, field_small, small_put)
+step_small g m op name h r = grind (arith, common_steps, small_new, small_root, get_in, field_small, small_put)
 
 -- ---- in the new space
 
 pub small_corresponding : (pairs : List (ℕ × ℕ)) (v w : Value) → correspond pairs v w ≡ true → IsSmall v → IsSmall w
-small_corresponding pairs v w h s = grind (arith, common_steps, eqb-true)
+small_corresponding pairs v w h s = grind (arith, common_steps)
 
 pub small_moved : (c : Collection) (v : Value) → IsSmall v → IsSmall (moved c v)
 small_moved c v s = grind (arith, common_steps)

@@ -1,12 +1,12 @@
 -- Each step that changes something lowers the number of steps that are left.
 use Rattle.std.proofs.lemmas.Grind.{common_steps}
-use Rattle.std.proofs.Common.{◌||◌, ◌≡◌, ◌≢◌, ◌⊎◌, inl, inr, ⊎_elim, ℕ, zero, suc, ◌+◌, ◌-◌, ◌<◌, ◌≤◌, ◌==◌, nat_lt, Bool, true, false, not, List, [], ◌∷◌, ◌++◌, map, length, set, replicate, slice_get, flat_map, Option, Some, None, refl, ap, sym, ◌∙◌, subst, arith}
-use Rattle.std.proofs.lemmas.Bool.{cases_Bool, cond-true, cond-false, cond_both, lt-ltb, le-ltb, ltb-false, eqb-false}
+use Rattle.std.proofs.Common.{◌≡◌, ◌≢◌, inl, inr, ⊎_elim, ℕ, zero, suc, ◌+◌, ◌-◌, ◌<◌, ◌≤◌, nat_lt, true, false, List, [], ◌∷◌, ◌++◌, map, length, set, replicate, slice_get, flat_map, Option, Some, None, refl, ap, sym, ◌∙◌, subst, arith, rules}
+use Rattle.std.proofs.lemmas.Bool.{cond-true, cond-false, cond_both, lt-ltb, le-ltb, eqb-false}
 use Rattle.std.proofs.lemmas.List.{length-append}
 use Rattle.gc_graph.specs.Graph.{Value, Object, Graph, lookup, field_of, names_of}
 use Rattle.gc_graph.specs.declared.command.Op.{Op}
 use Rattle.gc_plan.specs.State.{Replica, Collection, State, objects_end, new_end, heap_end, replica_at, moved}
-use Rattle.gc_plan.specs.Steps.{log_or_nil, log_at, with_log, mutate, place_replica, with_replica, with_written, write_replica, copy_value, bring_value, bring_up_to_date, with_collection, if_room, fresh_collection, root_target, roots_done, copy_root, scan_done, next_object, next_field, scan_replica, scan, apply_entry, apply_log, flip, step_in, collect_with, collect, is_change, is_empty, first_log, apply_or_flip, useful_with, useful_step}
+use Rattle.gc_plan.specs.Steps.{log_or_nil, log_at, with_log, mutate, place_replica, with_written, write_replica, copy_value, bring_value, bring_up_to_date, with_collection, if_room, fresh_collection, root_target, copy_root, scan_done, next_field, scan_replica, scan, apply_entry, apply_log, step_in, collect_with, collect, is_change, is_empty, first_log, apply_or_flip, useful_with, useful_step}
 use Rattle.gc_plan.specs.Progress.{entries_in, scans_of, scans_from, work_of, work_with, work_left, entries_with, entries_left, ChangesLower, Advances, Ends}
 use Rattle.gc_plan.specs.Runs.{IsStep}
 use Rattle.gc_plan.specs.Members.{In}
@@ -14,7 +14,7 @@ use Rattle.gc_plan.specs.Belonging.{Laid, IsSpaceGraph, IsDue, IsOpen, IsOpened,
 use Rattle.gc_plan.specs.declared.step.Step.{Step}
 use Rattle.gc_plan.specs.declared.step.Step.TheVariants as steps
 use Rattle.gc_plan.specs.declared.step.StepReply.{StepReply}
-use Rattle.gc_plan.specs.declared.step.StepReply.TheVariants.{NoRoom, Copied, Scanned, Applied, Flipped}
+use Rattle.gc_plan.specs.declared.step.StepReply.TheVariants.{Copied, Applied}
 use Rattle.gc_plan.proofs.Heap.{laid_range, laid_end}
 use Rattle.gc_plan.proofs.Replicas.{placed, replicas_end, with_written_pair, with_written_length}
 use Rattle.gc_plan.proofs.Steps.{its_replicas, same_place, unreplicated_some, placing_keeps, bringing_keeps, open_keeps, collect_keeps}
@@ -31,22 +31,13 @@ in_placed r (q ∷ rest) (inr h) = inr (in_placed r rest h)
 
 -- they are fewer than the words from the place on
 scans_fit : (p at : ℕ) (rs : List Replica) (end : ℕ) → Laid at (map placed rs) end → p ≤ end → (scans_from p rs + at ≤ end) × (scans_from p rs + p ≤ end)
-scans_fit p at [] end h low = let e : at ≡ end = h in (omega arith, omega arith)
-scans_fit p at (r ∷ rest) end h low =
-    let next = scans_fit p (at + (length r.object.fields + 2)) rest end h.1 low in
-    let first = next.0 in
-    let second = next.1 in
-    let here : r.place ≡ at = h.0 in
-    ⊎_elim
-    (λ t. let one : scans_of p r ≡ 0 = cond-true (nat_lt r.place p) 0 (length r.object.fields + 1) t in (omega arith, omega arith))
-    (λ f. let one : scans_of p r ≡ length r.object.fields + 1 = cond-false (nat_lt r.place p) 0 (length r.object.fields + 1) f in
-    let behind : p ≤ r.place = ltb-false r.place p f in (omega arith, omega arith))
-    (cases_Bool (nat_lt r.place p))
+scans_fit p at [] end h low = grind (arith, common_steps)
+scans_fit p at (r ∷ rest) end h low = grind (arith, common_steps, scans_fit p (at + (length r.object.fields + 2)) rest end h.1 low)
 
 -- all of them lie behind two such places
 scans_same : (p q at : ℕ) (rs : List Replica) (end : ℕ) → Laid at (map placed rs) end → p ≤ at → q ≤ at → scans_from p rs ≡ scans_from q rs
 scans_same p q at [] end h low lower = refl
-scans_same p q at (r ∷ rest) end h low lower = grind (arith, common_steps, cond-false, le-ltb, scans_same p q (at + (length r.object.fields + 2)) rest end h.1 (omega arith) (omega arith))
+scans_same p q at (r ∷ rest) end h low lower = grind (arith, common_steps, scans_same p q (at + (length r.object.fields + 2)) rest end h.1 (omega arith) (omega arith))
 
 -- passing a replica takes its scans away
 scans_pass : (at : ℕ) (rs : List Replica) (end : ℕ) (r : Replica) → Laid at (map placed rs) end → In r rs
@@ -71,7 +62,7 @@ scans_pass at (q ∷ rest) end r h (inr k) =
 -- the scans of a replica that is not before the place are among them
 scans_have : (p : ℕ) (rs : List Replica) (r : Replica) → In r rs → p ≤ r.place → length r.object.fields + 1 ≤ scans_from p rs
 scans_have p [] r k low = absurd k
-scans_have p (q ∷ rest) r (inl e) low = grind (arith, common_steps, cond-false, le-ltb)
+scans_have p (q ∷ rest) r (inl e) low = grind (arith, common_steps)
 scans_have p (q ∷ rest) r (inr k) low = let others = scans_have p rest r k low in omega arith
 
 -- ---- replicas that are placed and written
@@ -112,9 +103,6 @@ placed_later c name o next is = grind (arith, common_steps, scans_push, ends_pus
 weaker_later : (c next : Collection) → IsLater 1 c next → IsLater 0 c next
 weaker_later c next h = let w = h.words in record { logs = h.logs; scan_place = h.scan_place; scan_field = h.scan_field; scans = h.scans; words = omega arith }
 
-replica_later : (c : Collection) (g : Graph) (v : Value) (next : Collection) → with_replica c g v ≡ Some next → IsLater 0 c next
-replica_later c g v next is = grind (arith, common_steps, same_later, weaker_later, placed_later)
-
 written_later : (c d : Collection) (name i : ℕ) (w : Value) → IsLater 0 c d → IsLater 0 c (write_replica d name i w)
 written_later c d name i w h = grind (arith, common_steps, scans_written, ends_written)
 
@@ -124,7 +112,7 @@ copied_later c (Some d) name i v next f is =
     let e : write_replica d name i (moved d v) ≡ next = cc is in subst (IsLater 0 c) e (written_later c d name i (moved d v) (f d refl))
 
 value_later : (c : Collection) (g : Graph) (name i : ℕ) (o : Option Value) (next : Collection) → bring_value c g name i o ≡ Some next → IsLater 0 c next
-value_later c g name i o next is = grind (arith, common_steps, same_later, copied_later, replica_later)
+value_later c g name i o next is = grind (arith, common_steps, same_later, copied_later, weaker_later, placed_later)
 
 brought_later : (c : Collection) (g : Graph) (name i : ℕ) (next : Collection) → bring_up_to_date c g name i ≡ Some next → IsLater 0 c next
 brought_later c g name i next is = value_later c g name i (field_of (lookup g.objects name) i) next is
@@ -148,9 +136,6 @@ entries_added (log ∷ logs) (suc m) more less = let others = entries_added logs
 no_entries : (n : ℕ) → entries_in (replicate n []) ≡ 0
 no_entries zero = refl
 no_entries (suc n) = let others = no_entries n in omega arith
-
-or_none : (a b : Bool) → (a || b) ≡ false → b ≡ false
-or_none a b e = grind (arith, common_steps)
 
 -- ---- the number
 
@@ -190,26 +175,12 @@ module _ (s : State) (h : IsSpaceGraph s.size s.heap.free s.heap.graph) where
       let none = (unreplicated_some c (flat_map names_of s.heap.graph.roots) name e).0 in
       later_falls c d k (placing_keeps s c d name k none is) (placed_later c name (lookup s.heap.graph.objects name) d is))
 
-  -- the field at the scan pointer is one of its replica, or the place behind the last
-  field_within : (c : Collection) (r : Replica) → IsOpened s c → In r c.replicas → r.place ≡ c.scan_place → c.scan_field ≤ length r.object.fields
-  field_within c r k here place = grind (arith, common_steps, same_place, replicas_end)
-
-  pass_falls : (c : Collection) (r : Replica) → IsOpened s c → In r c.replicas → r.place ≡ c.scan_place → work_of s (next_object c r) < work_of s c
-  pass_falls c r k here place = grind (arith, common_steps, scans_pass, replicas_end, field_within)
-
   scanned_falls : (c : Collection) (r : Replica) (next : Option Collection) (d : Collection) → IsOpened s c → In r c.replicas → r.place ≡ c.scan_place → c.scan_field ≢ length r.object.fields
       → bring_up_to_date c s.heap.graph r.original c.scan_field ≡ next → next_field next ≡ Some d → work_of s d < work_of s c
-  scanned_falls c r next d k here place more is e = grind (arith, common_steps, brought_later, bringing_keeps, scans_have, field_within, end_low)
+  scanned_falls c r next d k here place more is e = grind (arith, common_steps, brought_later, bringing_keeps, scans_have, same_place, replicas_end, end_low)
 
   one_falls : (c : Collection) (r : Replica) → IsOpened s c → In r c.replicas → r.place ≡ c.scan_place → Falls c (scan_replica s c (Some r))
-  one_falls c r k here place =
-      cond_both (r.object.raw || (c.scan_field == length r.object.fields)) _ _ (Falls c)
-      (λ t. λ e. pass_falls c r k here place)
-      (λ f. room_falls c Scanned (next_field (bring_up_to_date c s.heap.graph r.original c.scan_field)) (λ d is.
-      scanned_falls c r (bring_up_to_date c s.heap.graph r.original c.scan_field) d k here place (more f) refl is))
-    where
-      more : (r.object.raw || (c.scan_field == length r.object.fields)) ≡ false → c.scan_field ≢ length r.object.fields
-      more f = eqb-false c.scan_field (length r.object.fields) (or_none r.object.raw (c.scan_field == length r.object.fields) f)
+  one_falls c r k here place = search (rules, scans_pass, replicas_end, same_place, room_falls, scanned_falls)
 
   scan_falls : (c : Collection) → IsOpened s c → Falls c (scan s c)
   scan_falls c k = cond_both (scan_done c) _ _ (Falls c)
@@ -224,15 +195,7 @@ module _ (s : State) (h : IsSpaceGraph s.size s.heap.free s.heap.graph) where
       → apply_entry (with_log c m rest) s.heap.graph entry ≡ Some d → work_of s d < work_of s c
   applied_falls c d m entry rest k l is e =
       let later = entry_later (with_log c m rest) s.heap.graph entry d e in
-      let taken = entries_taken c.logs m entry rest is in
-      let logs : entries_in d.logs ≡ entries_in (set c.logs m rest) = ap entries_in later.logs in
-      let field = later.scan_field in
-      let scans = later.scans in
-      let words = later.words in
-      let low = field_low c k in
-      let was = end_low c k in
-      let now = end_low d l in
-      omega arith
+      grind (arith, common_steps, entries_taken, field_low, end_low, later, ap entries_in later.logs)
 
   apply_falls : (c : Collection) (m : ℕ) → s.collection ≡ Some c → IsOpened s c → Falls c (apply_log s c m (log_at c m))
   apply_falls c m at k = go (log_at c m) refl
@@ -242,13 +205,10 @@ module _ (s : State) (h : IsSpaceGraph s.size s.heap.free s.heap.graph) where
 
       entry_falls : (entry : ℕ × ℕ) (rest : List (ℕ × ℕ)) → log_at c m ≡ entry ∷ rest → (o : Option Collection) → apply_entry (with_log c m rest) s.heap.graph entry ≡ o
           → IsOpen s (if_room s Applied o).1.collection → Falls c (if_room s Applied o)
-      entry_falls entry rest is None e opened = λ x. absurd cc
-      entry_falls entry rest is (Some d) e opened = λ x. applied_falls c d m entry rest k opened is e
+      entry_falls entry rest is o e opened = grind (arith, common_steps, applied_falls)
 
       go : (l : List (ℕ × ℕ)) → log_at c m ≡ l → Falls c (apply_log s c m l)
-      go [] is = λ e. absurd cc
-      go (entry ∷ rest) is = entry_falls entry rest is (apply_entry (with_log c m rest) s.heap.graph entry) refl
-          (subst (λ l. IsOpen s (apply_log s c m l).1.collection) is kept)
+      go l is = grind (arith, common_steps, entry_falls, kept)
 
   begun_falls : (size : ℕ) → work_left (with_collection s (Some (fresh_collection s.mutators size))) < heap_end s + 1
   begun_falls size = grind (arith, common_steps, no_entries, laid_end)
@@ -275,17 +235,8 @@ module _ (s : State) (h : IsSpaceGraph s.size s.heap.free s.heap.graph) where
 
   -- ---- the useful step
 
-  abbrev Moves : ℕ → StepReply × State → Type 0
-  Moves n next = ((next.0 ≡ NoRoom) ⊎ ((pairs : ℕ) × (next.0 ≡ Flipped pairs))) ⊎ (work_left next.1 < n)
-
-  moves_unless_flip : (step : Step) → IsOpen s s.collection → (collect s step).0 ≡ NoRoom ⊎ (is_change (collect s step).0 ≡ true) → step ≢ steps.Flip → step ≢ steps.Drop → Moves (work_left s) (collect s step)
-  moves_unless_flip step k h n d = grind (arith, common_steps, lowers)
-
-  flip_moves : (c : Collection) (n : ℕ) → is_change (flip s c).0 ≡ true → Moves n (flip s c)
-  flip_moves c n = grind (arith, common_steps, cond_both)
-
   pub advances : IsOpen s s.collection → Advances s
-  advances k = grind (arith, common_steps, useful_changes, flip_moves, cond_both, moves_unless_flip)
+  advances k = grind (arith, common_steps, useful_changes, cond_both, lowers)
 
 -- ---- runs of useful steps
 
@@ -295,12 +246,7 @@ useful_ranges s k = go s.collection k
   where
     log_ranges : (c : Collection) → IsOpened s c → (o : Option ℕ) → first_log 0 c.logs ≡ o → IsStep s.mutators (apply_or_flip o)
     log_ranges c k None e = tt
-    log_ranges c k (Some m) e =
-        let found = found_log c.logs 0 m e in
-        let at = found.1 in
-        let within = log_within c.logs found.0 found.2 in
-        let logs = k.logs in
-        omega arith
+    log_ranges c k (Some m) e = grind (arith, common_steps, (found_log c.logs 0 m e).1, log_within c.logs (found_log c.logs 0 m e).0 (found_log c.logs 0 m e).2, k.logs)
       where
         log_within : (logs : List (List (ℕ × ℕ))) (j : ℕ) → is_empty (log_or_nil (slice_get logs j)) ≡ false → j < length logs
         log_within [] j e = absurd cc
@@ -308,9 +254,7 @@ useful_ranges s k = go s.collection k
         log_within (log ∷ logs) (suc j) e = let others = log_within logs j e in omega arith
 
     go : (o : Option Collection) → IsOpen s o → IsStep s.mutators (useful_with s o)
-    go None k = tt
-    go (Some c) k = cond_both (not (roots_done c s.heap.graph)) _ _ (IsStep s.mutators) (λ t. tt)
-        (λ f. cond_both (not (scan_done c)) _ _ (IsStep s.mutators) (λ t. tt) (λ g. log_ranges c k (first_log 0 c.logs) refl))
+    go o k = grind (arith, common_steps, log_ranges)
 
 some_work : (s : State) → 1 ≤ work_left s
 some_work s = grind (arith, common_steps)
@@ -332,39 +276,12 @@ left_bounded s c h k is = subst (λ o. work_with s o ≤ (heap_end s - c.scan_pl
 
 -- ---- no step logs an entry
 
-abbrev Keeps : State → StepReply × State → Type 0
-Keeps s next = entries_left next.1 ≤ entries_left s
-
 module _ (s : State) (c : Collection) (is : s.collection ≡ Some c) where
   entries_same : entries_left s ≡ entries_in c.logs
   entries_same = ap entries_with is
 
-  room_keeps : (reply : StepReply) (o : Option Collection) → ((d : Collection) → o ≡ Some d → entries_in d.logs ≤ entries_in c.logs) → Keeps s (if_room s reply o)
-  room_keeps reply o f = grind (arith, common_steps, entries_same)
-
-  root_keeps : (t : Option ℕ) → Keeps s (copy_root s c t)
-  root_keeps t = grind (arith, common_steps, room_keeps, placed, placed_later)
-
-  field_keeps : (o : Option Collection) → ((n : Collection) → o ≡ Some n → n.logs ≡ c.logs) → (d : Collection) → next_field o ≡ Some d → entries_in d.logs ≤ entries_in c.logs
-  field_keeps o f d e = grind (arith, common_steps)
-
-  scan_keeps : (t : Option Replica) → Keeps s (scan_replica s c t)
-  scan_keeps t = grind (arith, common_steps, cond_both, entries_same, room_keeps, field_keeps, brought_later)
-
-  apply_keeps : (m : ℕ) (l : List (ℕ × ℕ)) → log_at c m ≡ l → Keeps s (apply_log s c m l)
-  apply_keeps m l at = grind (arith, common_steps, room_keeps, entry_later, entries_taken)
-
-  flip_keeps : Keeps s (flip s c)
-  flip_keeps = grind (arith, common_steps, cond_both)
-
-  opened_keep : (step : Step) → Keeps s (step_in s c step)
-  opened_keep step = grind (arith, common_steps, root_keeps, cond_both, scan_keeps, apply_keeps, flip_keeps)
-
-idle_keeps : (s : State) (step : Step) → Keeps s (collect_with s None step)
-idle_keeps s step = grind (arith, common_steps, no_entries)
-
 pub entries_stay : (s : State) (step : Step) → entries_left (collect s step).1 ≤ entries_left s
-entries_stay s step = grind (arith, common_steps, idle_keeps, opened_keep)
+entries_stay s step = grind (arith, common_steps, no_entries, entries_same, placed, placed_later, cond_both, brought_later, entry_later, entries_taken)
 
 -- ---- commands
 

@@ -1,10 +1,10 @@
 -- The replicas of an open collection, and which of their fields are up to date.
 use Rattle.std.proofs.lemmas.Grind.{common_steps}
-use Rattle.std.proofs.Common.{◌≡◌, ◌⊎◌, inl, inr, ⊎_elim, ℕ, ◌+◌, ◌<◌, ◌≤◌, ◌==◌, Bool, true, false, ◌&&◌, List, [], ◌∷◌, ◌++◌, map, find, length, Some, slice_get, refl, ap, sym, ◌∙◌, subst, arith, length-set}
-use Rattle.std.proofs.lemmas.Bool.{cases_Bool, cond-true, cond-false, cond_both, eqb-true, eqb-false, eq-eqb, and_from, and_parts, or_cases, or_left, or_right}
+use Rattle.std.proofs.Common.{◌≡◌, ◌⊎◌, ℕ, ◌+◌, ◌<◌, ◌≤◌, ◌==◌, Bool, true, false, List, [], ◌∷◌, ◌++◌, map, find, length, Some, slice_get, refl, ap, sym, subst, arith, length-set}
+use Rattle.std.proofs.lemmas.Bool.{cases_Bool, cond_both, eqb-true, eq-eqb, and_from, and_parts, or_cases, or_left, or_right}
 use Rattle.std.proofs.lemmas.List.{length-replicate, map-append}
 use Rattle.std.specs.Option.{option_map}
-use Rattle.gc_graph.specs.Graph.{Value, Nil, Num, Ref, Object, lookup, new_object, with_field}
+use Rattle.gc_graph.specs.Graph.{Value, Nil, Num, Ref, Object, lookup, new_object}
 use Rattle.gc_graph.specs.Machine.{is_number}
 use Rattle.gc_graph.specs.Correspond.{paired, correspond}
 use Rattle.gc_plan.specs.State.{Replica, Collection, objects_end, replica_of, pairs_of, moved, fresh_object}
@@ -22,18 +22,11 @@ IsPlace pairs b = (a : ℕ) × In {X = ℕ × ℕ} (a, b) pairs
 
 pub in_paired : (pairs : List (ℕ × ℕ)) (a b : ℕ) → In {X = ℕ × ℕ} (a, b) pairs → paired pairs a b ≡ true
 in_paired [] a b h = absurd h
-in_paired (p ∷ rest) a b (inl e) = or_left _ _ (and_from _ _ (eq-eqb p.0 a (ap (λ (q : ℕ × ℕ). q.0) e)) (eq-eqb p.1 b (ap (λ (q : ℕ × ℕ). q.1) e)))
-in_paired (p ∷ rest) a b (inr k) = or_right _ _ (in_paired rest a b k)
+in_paired (p ∷ rest) a b h = grind (arith, common_steps, or_left, and_from, or_right, in_paired rest a b)
 
 pub paired_in : (pairs : List (ℕ × ℕ)) (a b : ℕ) → paired pairs a b ≡ true → In {X = ℕ × ℕ} (a, b) pairs
 paired_in [] a b h = absurd cc
-paired_in (p ∷ rest) a b h = ⊎_elim
-    (λ t. let q = and_parts (p.0 == a) (p.1 == b) t in let x = eqb-true p.0 a q.0 in let y = eqb-true p.1 b q.1 in inl (λ i. (x i, y i)))
-    (λ t. inr (paired_in rest a b t))
-    (or_cases ((p.0 == a) && (p.1 == b)) (paired rest a b) h)
-
-pub corresponds_more : (pairs more : List (ℕ × ℕ)) → ((p : ℕ × ℕ) → In p pairs → In p more) → (v w : Value) → correspond pairs v w ≡ true → correspond more v w ≡ true
-corresponds_more pairs more f v w h = grind (arith, common_steps, in_paired, paired_in)
+paired_in (p ∷ rest) a b h = grind (arith, common_steps, and_parts, or_cases, paired_in rest a b)
 
 -- a value that corresponds to a reference is a reference to a replica's place
 pub refers_corresponding : (P : ℕ → Type 0) (pairs : List (ℕ × ℕ)) (v w : Value) → RefersTo P v → correspond pairs v w ≡ true → RefersTo (IsPlace pairs) w
@@ -73,19 +66,7 @@ pub replicas_evolve : (before later : List (ℕ × Object)) (size : ℕ) (Due Du
 replicas_evolve before later size Due Due' Touched replicas h evolves weaker touched = record { laid = h.laid; room = h.room; once = h.once; each = each }
   where
     each : (r : Replica) → In r replicas → IsReplica later (map pair replicas) Due' r
-    each r k =
-        let ok = h.each r k in
-        let still = evolves r.original ok.original ok.found in record {
-          original = still.now;
-          found = still.found;
-          raw = ok.raw ∙ sym still.raw;
-          kind = ok.kind ∙ sym still.kind;
-          len = ok.len ∙ sym still.len;
-          current = λ i v w x y. ⊎_elim
-              (λ s. ⊎_elim (λ d. inl (weaker r.object.raw r.place r.original i d)) (λ e. inr e) (ok.current i v w s y))
-              (λ t. inl (touched r.object.raw r.place r.original i t))
-              (still.fields i v x);
-        }
+    each r k = grind (arith, common_steps, evolves r.original (h.each r k).original (h.each r k).found)
 
 -- ---- when fewer fields are due
 
@@ -98,7 +79,7 @@ replicas_due objects size Due Due' replicas h f = grind (arith, common_steps, ge
 -- ---- when a replica is placed
 
 number_corresponds : (pairs : List (ℕ × ℕ)) (v : Value) → is_number v ≡ true → correspond pairs v v ≡ true
-number_corresponds pairs v h = grind (arith, common_steps, eq-eqb)
+number_corresponds pairs v h = grind (arith, common_steps)
 
 -- a fresh replica has its original's size and kind, and is raw exactly if the original is
 fresh_length : (o : Object) → length (fresh_object o).fields ≡ length o.fields
@@ -116,19 +97,19 @@ pub replicas_place : (objects : List (ℕ × Object)) (size : ℕ) (Due : Bool �
     → ((v : Value) → In v object.fields → object.raw ≡ true → is_number v ≡ true)
     → ((i : ℕ) → Due false (replicas_end replicas) name i)
     → AreReplicas objects size Due (replicas ++ fresh_replica name (replicas_end replicas) object ∷ [])
-replicas_place objects size Due replicas name object h found new fits numbers due = grind (arith, common_steps, map-append, laid_push, fresh_length, distinct_push, in_push, end_push, in_left, corresponds_more, cond-true, number_corresponds, get_in, fresh_raw, fresh_kind)
+replicas_place objects size Due replicas name object h found new fits numbers due = grind (arith, common_steps, map-append, laid_push, fresh_length, distinct_push, in_push, end_push, in_left, in_paired, paired_in, number_corresponds, get_in, fresh_raw, fresh_kind)
 
 -- ---- when a field is written
 
 pub with_written_pair : (name i : ℕ) (w : Value) (r : Replica) → pair (with_written name i w r) ≡ pair r
-with_written_pair name i w r = grind (arith, common_steps, cond-true, cond-false, cases_Bool)
+with_written_pair name i w r = grind (arith, common_steps, cases_Bool)
 
 pub place_written : (replicas : List Replica) (name i a : ℕ) (v : Value) → option_map (λ r. r.place) (find (λ r. r.original == a) (map (with_written name i v) replicas)) ≡ option_map (λ r. r.place) (find (λ (r : Replica). r.original == a) replicas)
 place_written [] name i a v = refl
-place_written (r ∷ rs) name i a v = grind (arith, common_steps, with_written_pair, cond-true, cond-false, cases_Bool, place_written rs name i a v)
+place_written (r ∷ rs) name i a v = grind (arith, common_steps, with_written_pair, cases_Bool, place_written rs name i a v)
 
 pub with_written_length : (name i : ℕ) (w : Value) (r : Replica) → length (with_written name i w r).object.fields ≡ length r.object.fields
-with_written_length name i w r = grind (arith, common_steps, cond-true, cond-false, cases_Bool)
+with_written_length name i w r = grind (arith, common_steps, cases_Bool)
 
 -- replicas of the same places and sizes are laid out alike
 laid_written : (name i : ℕ) (w : Value) (at : ℕ) (replicas : List Replica) (end : ℕ) → Laid at (map placed replicas) end → Laid at (map placed (map (with_written name i w) replicas)) end
@@ -158,40 +139,7 @@ replicas_write objects size Due Due' replicas name i object v w h found is agree
     ends = laid_end_is 1 (map placed (map (with_written name i w) replicas)) (replicas_end replicas) (laid_written name i w 1 replicas (replicas_end replicas) h.laid)
 
     each : (r : Replica) → In r replicas → IsReplica objects (map pair replicas) Due' (with_written name i w r)
-    each r k =
-        let ok = h.each r k in
-        ⊎_elim
-        (λ t. subst (IsReplica objects (map pair replicas) Due') (sym (cond-true (r.original == name) (record r { object = with_field r.object i w }) r t)) (
-        let n : r.original ≡ name = eqb-true r.original name t in
-        let o : ok.original ≡ object = cc (sym ok.found ∙ (ap (lookup objects) n ∙ found)) in
-        record {
-          original = ok.original;
-          found = ok.found;
-          raw = ok.raw;
-          kind = ok.kind;
-          len = length-set r.object.fields i w ∙ ok.len;
-          current = λ j x y p q. ⊎_elim
-              (λ e. let same : v ≡ x = cc (sym is ∙ (sym (ap (λ (b : Object). slice_get b.fields i) o) ∙ (sym (ap (slice_get ok.original.fields) e.0) ∙ p))) in
-              inr (subst (λ z. correspond (map pair replicas) x z ≡ true) e.1 (subst (λ z. correspond (map pair replicas) z w ≡ true) same agrees)))
-              (λ e. ⊎_elim
-              (λ d. ⊎_elim (λ b. absurd (e.0 b.1)) (λ b. inl b) (due r.object.raw r.place r.original j d))
-              (λ b. inr b)
-              (ok.current j x y p e.1))
-              (get_set r.object.fields i j w y q);
-        }))
-        (λ f. subst (IsReplica objects (map pair replicas) Due') (sym (cond-false (r.original == name) (record r { object = with_field r.object i w }) r f)) (
-        record {
-          original = ok.original;
-          found = ok.found;
-          raw = ok.raw;
-          kind = ok.kind;
-          len = ok.len;
-          current = λ j x y p q. ⊎_elim
-              (λ d. ⊎_elim (λ b. absurd (eqb-false r.original name f b.0)) (λ b. inl b) (due r.object.raw r.place r.original j d))
-              (λ b. inr b)
-              (ok.current j x y p q);
-        }))
-        (cases_Bool (r.original == name))
+    each r k = grind (arith, common_steps, length-set, get_set)
 
 -- ---- moved values
 
@@ -211,4 +159,4 @@ replica_pair : (c : Collection) (a : ℕ) (r : Replica) → replica_of c a ≡ S
 replica_pair c a r h = let f = replica_in c a r h in subst (λ n. In {X = ℕ × ℕ} (n, r.place) (pairs_of c)) f.1 (in_map pair r c.replicas f.0)
 
 pub moved_corresponds : (c : Collection) (v : Value) → HasReplica c v → correspond (pairs_of c) v (moved c v) ≡ true
-moved_corresponds c v h = grind (arith, common_steps, eq-eqb, in_paired, replica_pair)
+moved_corresponds c v h = grind (arith, common_steps, in_paired, replica_pair)

@@ -1,7 +1,7 @@
 -- Each original has one replica of its own size, so the new space has room for all.
 use Rattle.std.proofs.lemmas.Grind.{common_steps}
-use Rattle.std.proofs.Common.{◌≡◌, ◌≢◌, inl, inr, ⊎_elim, ℕ, ◌+◌, ◌-◌, ◌≤◌, ◌==◌, nat_lt, Bool, false, ◌||◌, List, [], ◌∷◌, map, length, Option, Some, None, is_some, slice_get, flat_map, sum_by, refl, ap, sym, ◌∙◌, subst, arith}
-use Rattle.std.proofs.lemmas.Bool.{cases_Bool, cond-true, cond-false, cond_both, eqb-true, eqb-false, le-ltb}
+use Rattle.std.proofs.Common.{◌≡◌, ◌≢◌, ⊎_elim, ℕ, ◌+◌, ◌-◌, ◌≤◌, ◌==◌, nat_lt, Bool, false, ◌||◌, List, [], ◌∷◌, map, length, Option, Some, None, is_some, slice_get, flat_map, sum_by, refl, ap, sym, ◌∙◌, subst, arith}
+use Rattle.std.proofs.lemmas.Bool.{cases_Bool, cond-true, cond-false, cond_both, le-ltb}
 use Rattle.std.proofs.lemmas.List.Sums.{sum_by-cons}
 use Rattle.gc_graph.specs.Graph.{Value, Nil, Num, Ref, Object, Graph, lookup, field_of, names_of}
 use Rattle.gc_plan.specs.State.{Replica, Collection, State, objects_end, new_free, replica_of}
@@ -10,7 +10,6 @@ use Rattle.gc_plan.specs.Passing.{AlwaysHasRoom}
 use Rattle.gc_plan.specs.Members.{In, Distinct}
 use Rattle.gc_plan.specs.Belonging.{Laid, IsNamed, RefersTo, IsSpaceGraph, IsDue, IsOpen, IsOpened, IsState}
 use Rattle.gc_plan.specs.declared.step.Step.{Step}
-use Rattle.gc_plan.specs.declared.step.Step.TheVariants as steps
 use Rattle.gc_plan.specs.declared.step.StepReply.{StepReply}
 use Rattle.gc_plan.specs.declared.step.StepReply.TheVariants.{NoRoom, Copied, Scanned, Applied}
 use Rattle.gc_words.proofs.Public.{none_of}
@@ -29,14 +28,11 @@ weight objects a = weight_of (lookup objects a)
 
 others_weigh : (e : ℕ × Object) (rest : List (ℕ × Object)) (names : List ℕ) → (In e.0 names → ⊥) → sum_by (weight (e ∷ rest)) names ≡ sum_by (weight rest) names
 others_weigh e rest [] absent = refl
-others_weigh e rest (n ∷ names) absent =
-    let here : weight (e ∷ rest) n ≡ weight rest n = ap weight_of (lookup_there e rest n (λ x. absent (inl (sym x)))) in
-    let r = others_weigh e rest names (λ k. absent (inr k)) in
-    omega (arith, here, r, sum_by-cons (weight (e ∷ rest)) n names, sum_by-cons (weight rest) n names)
+others_weigh e rest (n ∷ names) absent = grind (arith, common_steps, lookup_there, sum_by-cons, others_weigh e rest names)
 
 one_weighs : (e : ℕ × Object) (rest : List (ℕ × Object)) (names : List ℕ) → Distinct names → sum_by (weight (e ∷ rest)) names ≤ length e.1.fields + 2 + sum_by (weight rest) names
 one_weighs e rest [] d = omega arith
-one_weighs e rest (n ∷ names) d = grind (arith, common_steps, sum_by-cons, eqb-true, lookup_here, others_weigh, lookup_there, eqb-false, cases_Bool, one_weighs e rest names d.1)
+one_weighs e rest (n ∷ names) d = grind (arith, common_steps, sum_by-cons, lookup_here, others_weigh, lookup_there, cases_Bool, one_weighs e rest names d.1)
 
 nothing_weighs : (names : List ℕ) → sum_by (weight []) names ≡ 0
 nothing_weighs [] = refl
@@ -49,10 +45,7 @@ weights_fit at (e ∷ rest) end names h d = grind (arith, common_steps, nothing_
 
 replicas_weigh : (objects : List (ℕ × Object)) (at : ℕ) (replicas : List Replica) → ((r : Replica) → In r replicas → weight objects r.original ≡ length r.object.fields + 2) → objects_end at (map placed replicas) ≡ at + sum_by (weight objects) (map (λ r. r.original) replicas)
 replicas_weigh objects at [] h = omega arith
-replicas_weigh objects at (r ∷ rest) h =
-    let here = h r (inl refl) in
-    let others = replicas_weigh objects (at + (length r.object.fields + 2)) rest (λ q k. h q (inr k)) in
-    omega (arith, here, others, sum_by-cons (weight objects) r.original (map (λ (q : Replica). q.original) rest))
+replicas_weigh objects at (r ∷ rest) h = grind (arith, common_steps, sum_by-cons, replicas_weigh objects (at + (length r.object.fields + 2)) rest)
 
 -- there is room for a replica of one more object
 room_for : (size free new_size : ℕ) (g : Graph) (Due : Bool → ℕ → ℕ → ℕ → Type 0) (replicas : List Replica) (name : ℕ) (o : Object) → IsSpaceGraph size free g → size ≤ new_size → AreReplicas g.objects new_size Due replicas → lookup g.objects name ≡ Some o → (In name (map (λ r. r.original) replicas) → ⊥)
@@ -92,16 +85,14 @@ module _ (s : State) (h : IsSpaceGraph s.size s.heap.free s.heap.graph) where
   brought_there c Due name i same k = go (lookup s.heap.graph.objects name) refl
     where
       copied : (v : Value) (d : Option Collection) → d ≢ None → copy_value d name i v ≢ None
-      copied v None n = λ e. n refl
-      copied v (Some d) n = λ e. cc e
+      copied v d n = grind (arith, common_steps)
 
       value : (o : Object) → lookup s.heap.graph.objects name ≡ Some o → (f : Option Value) → slice_get o.fields i ≡ f → bring_value c s.heap.graph name i f ≢ None
       value o found None e = λ x. cc x
       value o found (Some v) e = copied v (with_replica c s.heap.graph v) (replicated_there c Due v same k ((h.objects name o (lookup_in s.heap.graph.objects name o found)).fields v (get_in v o.fields i e)))
 
       go : (o : Option Object) → lookup s.heap.graph.objects name ≡ o → bring_value c s.heap.graph name i (field_of o i) ≢ None
-      go None e = λ x. cc x
-      go (Some o) e = value o e (slice_get o.fields i) refl
+      go o e = grind (arith, common_steps, value)
 
   in_room : (reply : StepReply) (o : Option Collection) → o ≢ None → reply ≢ NoRoom → (if_room s reply o).0 ≢ NoRoom
   in_room reply o n m = grind (arith, common_steps)
@@ -114,10 +105,7 @@ module _ (s : State) (h : IsSpaceGraph s.size s.heap.free s.heap.graph) where
       in_room Copied (place_replica c name (lookup s.heap.graph.objects name)) (placed_there c (IsDue c) name same (its_replicas (IsDue c) s.heap.graph.objects c k.belongs) n.0 (named v.0 (h.roots v.0 v.1) v.2)) (λ x. cc x)
     where
       named : (v : Value) → RefersTo (IsNamed s.heap.graph.objects) v → In name (names_of v) → IsNamed s.heap.graph.objects name
-      named Nil f x = absurd x
-      named (Num n) f x = absurd x
-      named (Ref a) f (inl x) = subst (IsNamed s.heap.graph.objects) x f
-      named (Ref a) f (inr x) = absurd x
+      named v f x = grind (arith, common_steps)
 
   scans : (c : Collection) → IsOpened s c → s.size ≤ c.size → (t : Option Replica) → (scan_replica s c t).0 ≢ NoRoom
   scans c k same None = λ x. cc x
@@ -126,8 +114,7 @@ module _ (s : State) (h : IsSpaceGraph s.size s.heap.free s.heap.graph) where
       (λ t. in_room Scanned (next_field (bring_up_to_date c s.heap.graph r.original c.scan_field)) (next (bring_up_to_date c s.heap.graph r.original c.scan_field) (brought_there c (IsDue c) r.original c.scan_field same (its_replicas (IsDue c) s.heap.graph.objects c k.belongs))) (λ x. cc x))
     where
       next : (o : Option Collection) → o ≢ None → next_field o ≢ None
-      next None n = λ e. n refl
-      next (Some d) n = λ e. cc e
+      next o n = grind (arith, common_steps)
 
   applies : (c : Collection) → IsOpened s c → s.size ≤ c.size → (m : ℕ) (l : List (ℕ × ℕ)) → (apply_log s c m l).0 ≢ NoRoom
   applies c k same m [] = λ x. cc x

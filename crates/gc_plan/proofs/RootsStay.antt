@@ -1,19 +1,18 @@
 -- What commands and steps leave of roots. No step removes a replica: once a root's target has one, it keeps it.
 use Rattle.std.proofs.lemmas.Grind.{common_steps}
-use Rattle.std.proofs.Common.{◌≡◌, ◌≢◌, ⊎_elim, ℕ, zero, suc, ◌+◌, ◌<◌, Bool, true, List, [], ◌∷◌, ◌++◌, length, map, slice_get, Option, Some, None, is_some, refl, sym, ap, ◌∙◌, arith}
-use Rattle.std.specs.Prelude.{IfSome, ⊤}
+use Rattle.std.proofs.Common.{◌≡◌, ◌≢◌, ℕ, zero, suc, ◌<◌, Bool, true, List, [], ◌∷◌, ◌++◌, length, map, slice_get, Option, Some, None, is_some, refl, sym, ap, ◌∙◌, arith}
+use Rattle.std.specs.Prelude.{⊤}
 use Rattle.std.specs.Option.{option_map}
 use Rattle.std.specs.List.{find, flat_map}
-use Rattle.std.proofs.lemmas.Bool.{cond_both, cond-true, cond-false, cases_Bool}
+use Rattle.std.proofs.lemmas.Bool.{cond_both}
 use Rattle.std.proofs.lemmas.List.{length-map}
 use Rattle.gc_graph.specs.Slots.{place}
-use Rattle.gc_graph.specs.Graph.{Value, Nil, Ref, Object, Graph, lookup, field_of, names_of, root, value_or_nil, set_root}
-use Rattle.gc_graph.specs.Machine.{step, get_field, put_field}
+use Rattle.gc_graph.specs.Graph.{Value, Nil, Ref, Graph, lookup, field_of, names_of, root, value_or_nil, set_root}
+use Rattle.gc_graph.specs.Machine.{step}
 use Rattle.gc_graph.specs.declared.command.Op.{Op}
-use Rattle.gc_graph.specs.declared.command.Op.TheVariants as ops
 use Rattle.gc_graph.proofs.Public.{step_roots}
 use Rattle.gc_plan.specs.State.{Replica, Collection, State, replica_of, moved}
-use Rattle.gc_plan.specs.Steps.{mutate, logged, with_log, place_replica, with_replica, write_replica, copy_value, bring_value, if_room, first_unreplicated, root_target, copy_root, next_field, scan_replica, apply_entry, apply_log, is_ready, passes_check, flip, step_in, collect_with, collect}
+use Rattle.gc_plan.specs.Steps.{mutate, with_log, write_replica, bring_value, if_room, first_unreplicated, root_target, apply_entry, apply_log, is_ready, passes_check, flip, collect_with, collect}
 use Rattle.gc_plan.specs.Staying.{HasReplicaOf, IsMissing, KnowsRoot, root_written}
 use Rattle.gc_plan.specs.declared.step.Step.{Step}
 use Rattle.gc_plan.specs.declared.step.Step.TheVariants as steps
@@ -36,16 +35,7 @@ KeepsIfRoom c (Some next) = Keeps c next
 
 found_on : {X : Type 0} (p : X → Bool) (xs ys : List X) → is_some (find p xs) ≡ true → is_some (find p (xs ++ ys)) ≡ true
 found_on p [] ys e = absurd cc
-found_on p (x ∷ xs) ys e = ⊎_elim
-    (λ t. ap is_some (cond-true (p x) (Some x) (find p (xs ++ ys)) t))
-    (λ f. ap is_some (cond-false (p x) (Some x) (find p (xs ++ ys)) f) ∙ found_on p xs ys (sym (ap is_some (cond-false (p x) (Some x) (find p xs) f)) ∙ e))
-    (cases_Bool (p x))
-
-placed : (c : Collection) (name : ℕ) (o : Option Object) → KeepsIfRoom c (place_replica c name o)
-placed c name o = grind (arith, common_steps, cond_both, found_on)
-
-replicated : (c : Collection) (g : Graph) (v : Value) → KeepsIfRoom c (with_replica c g v)
-replicated c g v = grind (arith, common_steps, cond_both, placed)
+found_on p (x ∷ xs) ys e = grind (arith, common_steps, found_on p xs ys)
 
 is_some_map : {X Y : Type 0} (f : X → Y) (o : Option X) → is_some (option_map f o) ≡ is_some o
 is_some_map f o = grind (arith, common_steps)
@@ -57,35 +47,20 @@ written c name i v a e =
     ∙ is_some_map (λ (r : Replica). r.place) (replica_of c a)
     ∙ e
 
-copied : (c : Collection) (o : Option Collection) (name i : ℕ) (v : Value) → KeepsIfRoom c o → KeepsIfRoom c (copy_value o name i v)
-copied c o name i v k = grind (arith, common_steps, written)
-
 brought : (c : Collection) (g : Graph) (name i : ℕ) (o : Option Value) → KeepsIfRoom c (bring_value c g name i o)
-brought c g name i o = grind (arith, common_steps, copied, replicated)
-
-field_goes_on : (c : Collection) (o : Option Collection) → KeepsIfRoom c o → KeepsIfRoom c (next_field o)
-field_goes_on c o k = grind (arith, common_steps)
+brought c g name i o = grind (arith, common_steps, written, cond_both, found_on)
 
 entry_applied : (c : Collection) (g : Graph) (entry : ℕ × ℕ) → KeepsIfRoom c (apply_entry c g entry)
 entry_applied c g entry = cond_both (is_some (replica_of c entry.0)) _ _ (KeepsIfRoom c) (λ t. brought c g entry.0 entry.1 (field_of (lookup g.objects entry.0) entry.1)) (λ t. λ a e. e)
 
 -- ---- a root's target
 
-value_stays : (c next : Collection) (v : Value) → Keeps c next → HasReplicaOf c v → HasReplicaOf next v
-value_stays c next v keeps h = grind (arith, common_steps)
-
 module _ (p : ℕ) where
   abbrev Knows : StepReply × State → Type 0
   Knows next = KnowsRoot next.1 p
 
   if_room_stays : (s : State) (c : Collection) (reply : StepReply) (o : Option Collection) → KnowsRoot s p → HasReplicaOf c (root s.heap.graph p) → KeepsIfRoom c o → Knows (if_room s reply o)
-  if_room_stays s c reply o known has k = grind (arith, common_steps, value_stays)
-
-  root_stays : (s : State) (c : Collection) (t : Option ℕ) → KnowsRoot s p → HasReplicaOf c (root s.heap.graph p) → Knows (copy_root s c t)
-  root_stays s c t known has = grind (arith, common_steps, if_room_stays, placed)
-
-  replica_stays : (s : State) (c : Collection) (r : Option Replica) → KnowsRoot s p → HasReplicaOf c (root s.heap.graph p) → Knows (scan_replica s c r)
-  replica_stays s c r known has = grind (arith, common_steps, cond_both, value_stays, if_room_stays, field_goes_on, brought)
+  if_room_stays s c reply o known has k = grind (arith, common_steps)
 
   log_stays : (s : State) (c : Collection) (m : ℕ) (log : List (ℕ × ℕ)) → KnowsRoot s p → HasReplicaOf c (root s.heap.graph p) → Knows (apply_log s c m log)
   log_stays s c m [] known has = known
@@ -94,41 +69,23 @@ module _ (p : ℕ) where
   flip_stays : (s : State) (c : Collection) → KnowsRoot s p → Knows (flip s c)
   flip_stays s c known = cond_both (is_ready c s.heap.graph) _ _ Knows (λ t. cond_both (passes_check s c) _ _ Knows (λ u. tt) (λ u. known)) (λ t. known)
 
-  step_stays : (s : State) (c : Collection) (step : Step) → KnowsRoot s p → HasReplicaOf c (root s.heap.graph p) → Knows (step_in s c step)
-  step_stays s c step known has = grind (arith, common_steps, root_stays, cond_both, replica_stays, log_stays, flip_stays)
-
   pub collect_stays : (s : State) (c : Collection) (step : Step) → s.collection ≡ Some c → KnowsRoot s p → KnowsRoot (collect s step).1 p
-  collect_stays s c step is known = grind (arith, common_steps, step_stays)
+  collect_stays s c step is known = grind (arith, common_steps, if_room_stays, cond_both, found_on, brought, log_stays, flip_stays)
 
 -- ---- commands
 
 set_elsewhere : (g : Graph) (q p : ℕ) (v : Value) → Some q ≢ Some p → root (set_root g q v) p ≡ root g p
 set_elsewhere g q p v other = ap value_or_nil (get_set_other g.roots q p v (λ e. other (ap Some (sym e))))
 
-got_elsewhere : (g : Graph) (q p : ℕ) (o : Option Object) (v : Option Value) → Some q ≢ Some p → root (get_field g q o v).1 p ≡ root g p
-got_elsewhere g q p o v other = grind (arith, common_steps, set_elsewhere)
-
-put_nowhere : (g : Graph) (p : ℕ) (target : Value) (o : Option Object) (found : Option Value) (i : ℕ) (v : Value) → root (put_field g target o found i v).1 p ≡ root g p
-put_nowhere g p target o found i v = grind (arith, common_steps, cond_both)
-
-stepped_elsewhere : (g : Graph) (m : ℕ) (op : Op) (name p : ℕ) → root_written m op ≢ Some p → root (step g m op name).1 p ≡ root g p
-stepped_elsewhere g m op name p other = grind (arith, common_steps, set_elsewhere, got_elsewhere, put_nowhere)
-
 -- a command leaves every root that it does not write
 pub root_kept : (s : State) (m : ℕ) (op : Op) (p : ℕ) → root_written m op ≢ Some p → root (mutate s m op).1.heap.graph p ≡ root s.heap.graph p
-root_kept s m op p other = grind (arith, common_steps, cond_both, stepped_elsewhere)
+root_kept s m op p other = grind (arith, common_steps, cond_both, set_elsewhere)
 
 pub roots_counted : (s : State) (m : ℕ) (op : Op) → length (mutate s m op).1.heap.graph.roots ≡ length s.heap.graph.roots
 roots_counted s m op = grind (arith, common_steps, cond_both, step_roots)
 
-same_replicas : (c : Collection) (m : ℕ) (entries : List (ℕ × ℕ)) (v : Value) → HasReplicaOf c v → HasReplicaOf (with_log c m entries) v
-same_replicas c m entries v h = grind (arith, common_steps)
-
-logged_knows : (o : Option Collection) (m : ℕ) (entries : List (ℕ × ℕ)) (v : Value) → IfSome o (λ c. HasReplicaOf c v) → IfSome (logged o m entries) (λ c. HasReplicaOf c v)
-logged_knows o m entries v h = grind (arith, common_steps, same_replicas)
-
 pub mutate_stays : (s : State) (m : ℕ) (op : Op) (p : ℕ) → root_written m op ≢ Some p → KnowsRoot s p → KnowsRoot (mutate s m op).1 p
-mutate_stays s m op p other known = grind (arith, common_steps, logged_knows, root_kept)
+mutate_stays s m op p other known = grind (arith, common_steps, root_kept)
 
 -- ---- steps
 
@@ -160,10 +117,10 @@ abbrev AllHave : Collection → List Value → ℕ → Type 0
 AllHave c vs n = (p : ℕ) → p < n → HasReplicaOf c (value_or_nil (slice_get vs p))
 
 skip : (c : Collection) (v : Value) (names : List ℕ) → HasReplicaOf c v → first_unreplicated c (names_of v ++ names) ≡ first_unreplicated c names
-skip c v names h = grind (arith, common_steps, cond-true)
+skip c v names h = grind (arith, common_steps)
 
 stop : (c : Collection) (v : Value) (name : ℕ) (names : List ℕ) → v ≡ Ref name → replica_of c name ≡ None → first_unreplicated c (names_of v ++ names) ≡ Some name
-stop c v name names is none = grind (arith, common_steps, cond-false)
+stop c v name names is none = grind (arith, common_steps)
 
 first_found : (c : Collection) (vs : List Value) (place name : ℕ) → AllHave c vs place → value_or_nil (slice_get vs place) ≡ Ref name → replica_of c name ≡ None → first_unreplicated c (flat_map names_of vs) ≡ Some name
 first_found c [] place name all is none = absurd cc

@@ -1,16 +1,12 @@
 -- Every state that a run reaches is well formed.
 use Rattle.std.proofs.lemmas.Grind.{common_steps}
-use Rattle.std.proofs.Common.{◌≡◌, ℕ, ◌≤◌, List, [], ◌∷◌, Option, refl, arith}
+use Rattle.std.proofs.Common.{◌≡◌, ℕ, ◌≤◌, List, [], ◌∷◌, refl, arith}
 use Rattle.std.proofs.lemmas.Bool.{cond_both}
 use Rattle.std.proofs.lemmas.List.{length-replicate}
-use Rattle.gc_plan.specs.State.{Replica, Collection, State, opening_state}
-use Rattle.gc_plan.specs.Steps.{if_room, copy_root, scan_replica, apply_log, flip, collect}
+use Rattle.gc_plan.specs.State.{State, opening_state}
 use Rattle.gc_plan.specs.Runs.{IsEvent, AreEvents, IsRootEvent, AreRootEvents, after, state_after}
 use Rattle.gc_plan.specs.declared.event.Event.{Event}
 use Rattle.gc_plan.specs.Belonging.{IsState}
-use Rattle.gc_plan.specs.declared.step.Step.{Step}
-use Rattle.gc_plan.specs.declared.step.Step.TheVariants as steps
-use Rattle.gc_plan.specs.declared.step.StepReply.{StepReply}
 use Rattle.gc_plan.proofs.Lists.{in_replicate}
 use Rattle.gc_plan.proofs.Steps.{collect_keeps, mutate_keeps, ranged}
 
@@ -22,24 +18,6 @@ pub record Reached (mutators : ℕ) (s : State) : Type 0 where
 pub opening_ok : (size mutators : ℕ) → 1 ≤ size → size ≤ 4294967295 → IsState (opening_state size mutators)
 opening_ok size mutators low high = grind (arith, common_steps, in_replicate, length-replicate)
 
-room_count : (s : State) (reply : StepReply) (o : Option Collection) → (if_room s reply o).1.mutators ≡ s.mutators
-room_count s reply o = grind (arith, common_steps)
-
-root_count : (s : State) (c : Collection) (t : Option ℕ) → (copy_root s c t).1.mutators ≡ s.mutators
-root_count s c t = grind (arith, common_steps, room_count)
-
-scan_count : (s : State) (c : Collection) (t : Option Replica) → (scan_replica s c t).1.mutators ≡ s.mutators
-scan_count s c t = grind (arith, common_steps, cond_both, room_count)
-
-apply_count : (s : State) (c : Collection) (m : ℕ) (l : List (ℕ × ℕ)) → (apply_log s c m l).1.mutators ≡ s.mutators
-apply_count s c m l = grind (arith, common_steps, room_count)
-
-flip_count : (s : State) (c : Collection) → (flip s c).1.mutators ≡ s.mutators
-flip_count s c = grind (arith, common_steps, cond_both)
-
-collect_count : (s : State) (step : Step) → (collect s step).1.mutators ≡ s.mutators
-collect_count s step = grind (arith, common_steps, root_count, cond_both, scan_count, apply_count, flip_count)
-
 -- an event of a heap without extra roots is one of a heap with them
 pub root_event : (mutators : ℕ) (event : Event) → IsEvent mutators event → IsRootEvent mutators event
 root_event mutators event r = grind (arith, common_steps, ranged)
@@ -49,7 +27,7 @@ root_events mutators [] r = tt
 root_events mutators (event ∷ events) r = (root_event mutators event r.0, root_events mutators events r.1)
 
 pub root_event_keeps : (mutators : ℕ) (s : State) (event : Event) → Reached mutators s → IsRootEvent mutators event → Reached mutators (after s event)
-root_event_keeps mutators s event h r = grind (arith, common_steps, mutate_keeps, collect_keeps, collect_count)
+root_event_keeps mutators s event h r = grind (arith, common_steps, mutate_keeps, collect_keeps, cond_both)
 
 pub event_keeps : (mutators : ℕ) (s : State) (event : Event) → Reached mutators s → IsEvent mutators event → Reached mutators (after s event)
 event_keeps mutators s event h r = root_event_keeps mutators s event h (root_event mutators event r)

@@ -4,15 +4,14 @@ use Rattle.std.proofs.Common.{ℕ, ◌≤◌, List, [], ◌∷◌, Option, is_so
 use Rattle.std.specs.Prelude.{IfSome}
 use Rattle.std.proofs.lemmas.Bool.{cond_both}
 use Rattle.std.proofs.lemmas.List.{length-map, length-replicate}
-use Rattle.gc_graph.specs.Graph.{Value, Nil, Object, Graph, lookup, field_of}
+use Rattle.gc_graph.specs.Graph.{Value, Nil, Graph, lookup, field_of}
 use Rattle.gc_graph.specs.Slots.{roots_of}
-use Rattle.gc_plan.specs.State.{Replica, Collection, State, opening_state, replica_of, moved}
+use Rattle.gc_plan.specs.State.{Collection, State, opening_state, replica_of, moved}
 use Rattle.gc_plan.proofs.RootsStay.{roots_counted}
-use Rattle.gc_plan.specs.Steps.{logged, place_replica, with_replica, copy_value, bring_value, if_room, copy_root, next_field, scan_replica, apply_entry, apply_log, is_ready, passes_check, flip, collect_with}
+use Rattle.gc_plan.specs.Steps.{bring_value, apply_entry, is_ready, passes_check, flip}
 use Rattle.gc_plan.specs.Runs.{IsStepWithin, IsEventWithin, AreEventsWithin, IsStep, IsEvent, AreEvents, HasSizesWithin, after, state_after}
 use Rattle.gc_plan.specs.declared.event.Event.{Event}
 use Rattle.gc_plan.specs.declared.step.Step.{Step}
-use Rattle.gc_plan.specs.declared.step.Step.TheVariants as steps
 use Rattle.gc_plan.specs.declared.step.StepReply.{StepReply}
 
 module _ (most : ℕ) where
@@ -22,37 +21,13 @@ module _ (most : ℕ) where
   abbrev AreWithin : StepReply × State → Type 0
   AreWithin next = HasSizesWithin most next.1
 
-  place_within : (c : Collection) (name : ℕ) (o : Option Object) → c.size ≤ most → IsWithin (place_replica c name o)
-  place_within c name o h = grind (arith, common_steps, cond_both)
-
-  replica_within : (c : Collection) (g : Graph) (v : Value) → c.size ≤ most → IsWithin (with_replica c g v)
-  replica_within c g v h = grind (arith, common_steps, cond_both, place_within)
-
-  copy_within : (o : Option Collection) (name i : ℕ) (v : Value) → IsWithin o → IsWithin (copy_value o name i v)
-  copy_within o name i v h = grind (arith, common_steps)
-
   bring_within : (c : Collection) (g : Graph) (name i : ℕ) (o : Option Value) → c.size ≤ most → IsWithin (bring_value c g name i o)
-  bring_within c g name i o h = grind (arith, common_steps, copy_within, replica_within)
-
-  next_within : (o : Option Collection) → IsWithin o → IsWithin (next_field o)
-  next_within o h = grind (arith, common_steps)
+  bring_within c g name i o h = grind (arith, common_steps, cond_both)
 
   entry_within : (c : Collection) (g : Graph) (entry : ℕ × ℕ) → c.size ≤ most → IsWithin (apply_entry c g entry)
   entry_within c g entry h = cond_both (is_some (replica_of c entry.0)) _ _ IsWithin (λ has. bring_within c g entry.0 entry.1 (field_of (lookup g.objects entry.0) entry.1) h) (λ none. h)
 
   -- ---- steps
-
-  room_within : (s : State) (reply : StepReply) (o : Option Collection) → HasSizesWithin most s → IsWithin o → AreWithin (if_room s reply o)
-  room_within s reply o h new = grind (arith, common_steps)
-
-  root_within : (s : State) (c : Collection) (t : Option ℕ) → HasSizesWithin most s → c.size ≤ most → AreWithin (copy_root s c t)
-  root_within s c t h new = grind (arith, common_steps, room_within, place_within)
-
-  scan_within : (s : State) (c : Collection) (t : Option Replica) → HasSizesWithin most s → c.size ≤ most → AreWithin (scan_replica s c t)
-  scan_within s c t h new = grind (arith, common_steps, cond_both, room_within, next_within, bring_within)
-
-  log_within : (s : State) (c : Collection) (m : ℕ) (l : List (ℕ × ℕ)) → HasSizesWithin most s → c.size ≤ most → AreWithin (apply_log s c m l)
-  log_within s c m l h new = grind (arith, common_steps, room_within, entry_within)
 
   flip_within : (s : State) (c : Collection) → HasSizesWithin most s → c.size ≤ most → AreWithin (flip s c)
   flip_within s c h new =
@@ -60,19 +35,13 @@ module _ (most : ℕ) where
       (λ ready. cond_both (passes_check s c) _ _ AreWithin (λ passes. record { heap = new; roots = omega (arith, length-map s.heap.graph.roots (moved c), h.roots); collection = tt }) (λ fails. h))
       (λ early. h)
 
-  step_within : (mutators : ℕ) (s : State) (o : Option Collection) (step : Step) → HasSizesWithin most s → IsWithin o → IsStepWithin most mutators step → AreWithin (collect_with s o step)
-  step_within mutators s o step h new r = grind (arith, common_steps, root_within, cond_both, scan_within, log_within, flip_within)
-
-  logged_within : (o : Option Collection) (m : ℕ) (entries : List (ℕ × ℕ)) → IsWithin o → IsWithin (logged o m entries)
-  logged_within o m entries h = grind (arith, common_steps)
-
   -- ---- runs
 
   pub opening_within : (size mutators : ℕ) → size ≤ most → HasSizesWithin most (opening_state size mutators)
   opening_within size mutators h = record { heap = h; roots = omega (arith, length-replicate (roots_of mutators) Nil); collection = tt }
 
   pub event_within : (mutators : ℕ) (s : State) (event : Event) → HasSizesWithin most s → IsEventWithin most mutators event → HasSizesWithin most (after s event)
-  event_within mutators s event h r = grind (arith, common_steps, roots_counted, logged_within, step_within)
+  event_within mutators s event h r = grind (arith, common_steps, roots_counted, cond_both, bring_within, entry_within, flip_within)
 
   events_within : (mutators : ℕ) (events : List Event) (s : State) → HasSizesWithin most s → AreEventsWithin most mutators events → HasSizesWithin most (state_after s events)
   events_within mutators [] s h r = h

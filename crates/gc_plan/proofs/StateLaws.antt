@@ -1,7 +1,7 @@
 -- The public laws, for one state and for every run.
 use Rattle.std.proofs.lemmas.Grind.{common_steps}
-use Rattle.std.proofs.Common.{◌≡◌, ◌≢◌, ◌⊎◌, inl, inr, ⊎_elim, ℕ, ◌+◌, ◌-◌, ◌*◌, ◌<◌, ◌≤◌, true, false, nat_lt, List, [], ◌∷◌, ◌++◌, length, Option, Some, ◌↔◌, refl, ap, sym, ◌∙◌, subst, arith}
-use Rattle.std.proofs.lemmas.Bool.{cases_Bool, cond-true, cond-false, cond_both, eqb-false, ltb-false}
+use Rattle.std.proofs.Common.{◌≡◌, ◌≢◌, ◌⊎◌, inl, inr, ⊎_elim, ℕ, ◌+◌, ◌-◌, ◌*◌, ◌<◌, ◌≤◌, true, false, nat_lt, List, [], ◌∷◌, ◌++◌, length, Some, ◌↔◌, refl, ap, sym, ◌∙◌, subst, arith}
+use Rattle.std.proofs.lemmas.Bool.{cond-true, cond_both, eqb-false, ltb-false}
 use Rattle.std.proofs.lemmas.List.{length-map}
 use Rattle.gc_graph.specs.Graph.{Object, Graph}
 use Rattle.gc_graph.specs.Machine.{Roomy, words_taken, step, roomy_step}
@@ -12,7 +12,7 @@ use Rattle.gc_plan.specs.Linked.{linked_image}
 use Rattle.gc_plan.specs.Passing.{HasImage, PassesWhereReady, NeverRefused, ScansToTheEnd, HasFewPairs}
 use Rattle.gc_plan.specs.Runs.{InEveryRun, state_after}
 use Rattle.gc_plan.specs.State.{opening_state, Replica, Collection, State, new_end, replica_at}
-use Rattle.gc_plan.specs.Steps.{collect, written, log_at, with_log, if_room, scan_done, scan, scan_replica, collect_with}
+use Rattle.gc_plan.specs.Steps.{collect, written, log_at, with_log, scan_done, scan, scan_replica, collect_with}
 use Rattle.gc_plan.specs.Members.{In}
 use Rattle.gc_plan.specs.Belonging.{Laid, IsSpaceGraph, HasField, Belongs, BelongsBut, IsDue, IsOpen, IsOpened, IsState}
 use Rattle.gc_graph.specs.declared.command.Op.{Op}
@@ -21,7 +21,7 @@ use Rattle.gc_graph.specs.declared.reply.Reply.TheVariants.{Full}
 use Rattle.gc_plan.specs.declared.step.Step.{Step}
 use Rattle.gc_plan.specs.declared.step.Step.TheVariants as steps
 use Rattle.gc_plan.specs.declared.step.StepReply.{StepReply}
-use Rattle.gc_plan.specs.declared.step.StepReply.TheVariants.{Clean, Scanned}
+use Rattle.gc_plan.specs.declared.step.StepReply.TheVariants.{Clean}
 use Rattle.gc_plan.proofs.Commands.{step_numbers, unchanged, step_keeps, step_evolves, field_stays, written_there, full_writes_nothing}
 use Rattle.gc_plan.proofs.Replicas.{pair, placed, replicas_end, replicas_due}
 use Rattle.gc_plan.proofs.Steps.{open_keeps, ready_parts, its_replicas, belongs_from, belongs_but, belongs_noted, ranged}
@@ -48,11 +48,8 @@ never_refused s h step = not_refused s step h
 
 -- ---- scanning and pairs
 
-room_unclean : (s : State) (o : Option Collection) → (if_room s Scanned o).0 ≢ Clean
-room_unclean s o = grind (arith, common_steps)
-
 scan_unclean : (s : State) (c : Collection) (r : Replica) → (scan_replica s c (Some r)).0 ≢ Clean
-scan_unclean s c r = grind (arith, common_steps, cond_both, room_unclean)
+scan_unclean s c r = grind (arith, common_steps, cond_both)
 
 pub scans_to_the_end : (s : State) → IsState s → ScansToTheEnd s
 scans_to_the_end s h c is = subst (λ o. ((collect_with s o steps.Scan).0 ≡ Clean) ↔ (scan_done c ≡ true)) (sym is)
@@ -69,10 +66,7 @@ scans_to_the_end s h c is = subst (λ o. ((collect_with s o steps.Scan).0 ≡ Cl
         (k.belongs).scan
 
     forth : (scan s c).0 ≡ Clean → scan_done c ≡ true
-    forth e = ⊎_elim
-        (λ t. t)
-        (λ f. absurd (before f (sym (ap (λ (next : StepReply × State). next.0) (cond-false (scan_done c) (Clean, s) (scan_replica s c (replica_at c c.scan_place)) f)) ∙ e)))
-        (cases_Bool (scan_done c))
+    forth e = grind (arith, common_steps, before)
 
 two_words : (at : ℕ) (objects : List (ℕ × Object)) (end : ℕ) → Laid at objects end → at + 2 * length objects ≤ end
 two_words at [] end h = let e : at ≡ end = h in omega arith

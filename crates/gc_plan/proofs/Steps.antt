@@ -2,7 +2,7 @@
 use Rattle.std.proofs.lemmas.Grind.{common_steps}
 use Rattle.std.proofs.Common.{◌≡◌, ◌≢◌, ◌⊎◌, inl, inr, ⊎_elim, ℕ, zero, suc, ◌+◌, ◌-◌, ◌<◌, ◌≤◌, ◌==◌, nat_lt, Bool, true, false, cond, ◌||◌, List, [], ◌∷◌, ◌++◌, map, length, set, replicate, Option, Some, None, is_some, slice_get, flat_map, refl, ap, sym, ◌∙◌, subst, arith, length-set}
 use Rattle.std.specs.List.{list_all}
-use Rattle.std.proofs.lemmas.Bool.{cases_Bool, cases_eq, cases_lt, cond-true, cond-false, cond_both, eqb-true, eqb-false, ltb-false, and_parts, or_cases, or_parts, not-true}
+use Rattle.std.proofs.lemmas.Bool.{cases_eq, cond_both, eqb-true, eqb-false, ltb-false, and_parts, or_cases, or_parts, not-true}
 use Rattle.std.proofs.lemmas.List.{length-replicate, length-map, map-append}
 use Rattle.gc_graph.specs.Graph.{Value, Nil, Num, Ref, Object, Graph, lookup, field_of, names_of}
 use Rattle.gc_graph.specs.Machine.{Roomy, words_taken, is_number, step}
@@ -10,18 +10,17 @@ use Rattle.gc_graph.specs.Range.{IsCommand}
 use Rattle.gc_plan.specs.Runs.{HasRange}
 use Rattle.gc_graph.specs.Correspond.{correspond}
 use Rattle.gc_plan.specs.State.{Replica, Collection, State, heap_end, new_end, new_free, replica_of, replica_at, pairs_of, moved, new_graph}
-use Rattle.gc_plan.specs.Steps.{written, log_or_nil, log_at, with_log, logged, mutate, fresh_replica, place_replica, with_replica, with_written, write_replica, copy_value, bring_value, bring_up_to_date, with_collection, if_room, fresh_collection, first_unreplicated, root_target, copy_root, scan, next_object, next_field, scan_replica, apply_entry, apply_log, is_empty, roots_done, scan_done, is_ready, passes_check, flip, step_in, collect_with, collect}
+use Rattle.gc_plan.specs.Steps.{written, log_or_nil, log_at, with_log, logged, mutate, fresh_replica, place_replica, with_replica, with_written, write_replica, copy_value, bring_value, bring_up_to_date, with_collection, if_room, fresh_collection, first_unreplicated, root_target, copy_root, scan, next_object, next_field, scan_replica, apply_entry, is_empty, roots_done, scan_done, is_ready, passes_check, flip, step_in, collect_with, collect}
 use Rattle.gc_plan.specs.Runs.{IsStep}
 use Rattle.gc_plan.specs.Members.{In}
 use Rattle.gc_plan.specs.Belonging.{Laid, IsNamed, RefersTo, IsObject, IsSpaceGraph, IsSmall, HasSmallNumbers, HasRawNumbers, IsUnscanned, IsLogged, IsDue, IsScanPlace, HasField, IsOpened, BelongsBy, Belongs, BelongsBut, IsOpen, IsState}
 use Rattle.gc_graph.specs.declared.command.Op.{Op}
-use Rattle.gc_graph.specs.declared.command.Op.TheVariants as ops
 use Rattle.gc_graph.specs.declared.reply.Reply.{Reply}
 use Rattle.gc_graph.specs.declared.reply.Reply.TheVariants.{Full}
 use Rattle.gc_plan.specs.declared.step.Step.{Step}
 use Rattle.gc_plan.specs.declared.step.Step.TheVariants as steps
 use Rattle.gc_plan.specs.declared.step.StepReply.{StepReply}
-use Rattle.gc_plan.specs.declared.step.StepReply.TheVariants.{Copied, Scanned, Applied}
+use Rattle.gc_plan.specs.declared.step.StepReply.TheVariants.{Copied, Scanned}
 use Rattle.gc_words.proofs.Public.{none_of, some_of}
 use Rattle.gc_plan.proofs.Lists.{in_left, in_right, in_cases, in_map, in_map_from, in_flat_map, in_get, get_in, get_past, get_within, get_set_same, get_set_other, find_some, find_none}
 use Rattle.gc_plan.proofs.Heap.{refers_map, laid_range, laid_apart, laid_end, lookup_in}
@@ -106,8 +105,7 @@ placing objects c Due name next numbers h none due is = go (lookup objects name)
         )
 
     go : (o : Option Object) → lookup objects name ≡ o → place_replica c name o ≡ Some next → Grown objects c Due next × HasReplica next (Ref name)
-    go None found k = absurd cc
-    go (Some o) found k = at_room o found (nat_lt (new_free c) (length o.fields + 2)) refl k
+    go o found k = grind (arith, common_steps, at_room)
 
 replicating : (g : Graph) (c : Collection) (Due : Bool → ℕ → ℕ → ℕ → Type 0) (v : Value) (next : Collection)
     → HasRawNumbers g.objects → AreReplicas g.objects c.size Due c.replicas → ((a i : ℕ) → Due false (replicas_end c.replicas) a i) → with_replica c g v ≡ Some next
@@ -117,9 +115,7 @@ replicating g c Due (Num n) next numbers h due is = let e : c ≡ next = cc is i
 replicating g c Due (Ref a) next numbers h due is = go (is_some (replica_of c a)) refl is
   where
     go : (b : Bool) → is_some (replica_of c a) ≡ b → cond b (Some c) (place_replica c a (lookup g.objects a)) ≡ Some next → Grown g.objects c Due next × HasReplica next (Ref a)
-    go true t k =
-        let e : c ≡ next = cc k in
-        subst (λ d. Grown g.objects c Due d × HasReplica d (Ref a)) e (same_grown g.objects c Due h, some_of (replica_of c a) t)
+    go true t k = grind (arith, common_steps, same_grown, some_of)
     go false f k = placing g.objects c Due a next numbers h (none_of (replica_of c a) f) due k
 
 field_there : (o : Option Object) (i : ℕ) (v : Value) → field_of o i ≡ Some v → (object : Object) × (o ≡ Some object) × (slice_get object.fields i ≡ Some v)
@@ -192,20 +188,11 @@ room_keeps s reply o h f = grind (arith, common_steps)
 
 pub unreplicated_some : (c : Collection) (names : List ℕ) (name : ℕ) → first_unreplicated c names ≡ Some name → (replica_of c name ≡ None) × In name names
 unreplicated_some c [] name h = absurd cc
-unreplicated_some c (n ∷ names) name h = ⊎_elim
-    (λ t. let r = unreplicated_some c names name (sym (cond-true (is_some (replica_of c n)) (first_unreplicated c names) (Some n) t) ∙ h) in (r.0, inr r.1))
-    (λ f. let e : n ≡ name = cc (sym (cond-false (is_some (replica_of c n)) (first_unreplicated c names) (Some n) f) ∙ h) in (subst (λ a. replica_of c a ≡ None) e (none_of (replica_of c n) f), inl e))
-    (cases_Bool (is_some (replica_of c n)))
+unreplicated_some c (n ∷ names) name h = grind (arith, common_steps, none_of, unreplicated_some c names name)
 
 pub unreplicated_none : (c : Collection) (names : List ℕ) (name : ℕ) → first_unreplicated c names ≡ None → In name names → (r : Replica) × (replica_of c name ≡ Some r)
 unreplicated_none c [] name h k = absurd k
-unreplicated_none c (n ∷ names) name h k = ⊎_elim
-    (λ t. ⊎_elim
-    (λ e. let r = some_of (replica_of c n) t in (r.0, subst (λ a. replica_of c a ≡ Some r.0) e r.1))
-    (λ l. unreplicated_none c names name (sym (cond-true (is_some (replica_of c n)) (first_unreplicated c names) (Some n) t) ∙ h) l)
-    k)
-    (λ f. absurd (cc (sym (cond-false (is_some (replica_of c n)) (first_unreplicated c names) (Some n) f) ∙ h)))
-    (cases_Bool (is_some (replica_of c n)))
+unreplicated_none c (n ∷ names) name h k = grind (arith, common_steps, some_of, unreplicated_none c names name)
 
 roots_keep : (s : State) (c : Collection) → IsOpen s s.collection → IsOpened s c → IsOpen s (copy_root s c (root_target c s.heap.graph)).1.collection
 roots_keep s c h k = go (root_target c s.heap.graph) refl
@@ -229,12 +216,8 @@ bringing_keeps s c next name i k is = grown_open s c next k.size k.logs (k.belon
 pub same_place : (at : ℕ) (replicas : List Replica) (end : ℕ) (r s : Replica) → Laid at (map placed replicas) end → In r replicas → In s replicas → r.place ≡ s.place → r ≡ s
 same_place at [] end r s h k l e = absurd k
 same_place at (q ∷ rest) end r s h (inl k) (inl l) e = sym k ∙ l
-same_place at (q ∷ rest) end r s h (inl k) (inr l) e =
-    let range = laid_range (at + (length q.object.fields + 2)) (map placed rest) end (placed s) h.1 (in_map placed s rest l) in
-    let here = h.0 in let p : q.place ≡ r.place = ap (λ (x : Replica). x.place) k in absurd (omega arith)
-same_place at (q ∷ rest) end r s h (inr k) (inl l) e =
-    let range = laid_range (at + (length q.object.fields + 2)) (map placed rest) end (placed r) h.1 (in_map placed r rest k) in
-    let here = h.0 in let p : q.place ≡ s.place = ap (λ (x : Replica). x.place) l in absurd (omega arith)
+same_place at (q ∷ rest) end r s h (inl k) (inr l) e = grind (arith, common_steps, laid_range (at + (length q.object.fields + 2)) (map placed rest) end (placed s) h.1 (in_map placed s rest l), h.0, ap (λ (x : Replica). x.place) k)
+same_place at (q ∷ rest) end r s h (inr k) (inl l) e = grind (arith, common_steps, laid_range (at + (length q.object.fields + 2)) (map placed rest) end (placed r) h.1 (in_map placed r rest k), h.0, ap (λ (x : Replica). x.place) l)
 same_place at (q ∷ rest) end r s h (inr k) (inr l) e = same_place (at + (length q.object.fields + 2)) rest end r s h.1 k l e
 
 -- each replica is followed by the next one, or is the last
@@ -255,12 +238,7 @@ passed_open s c r k here place done = record {
 }
   where
     unscanned : (q : Replica) (i : ℕ) → (placed r ≡ placed q) ⊎ ((r.place + (length r.object.fields + 2) ≤ q.place) ⊎ (q.place + (length q.object.fields + 2) ≤ r.place)) → q.object.raw ≡ false → i < length q.object.fields → IsUnscanned c q.place i → IsUnscanned (next_object c r) q.place i
-    unscanned q i (inl e) scanned within u =
-        let p : r.place ≡ q.place = ap (λ (x : ℕ × Object). x.0) e in
-        let l : length r.object.fields ≡ length q.object.fields = ap (λ (x : ℕ × Object). length x.1.fields) e in
-        absurd (⊎_elim (λ t. let same : r.object.raw ≡ q.object.raw = ap (λ (x : ℕ × Object). x.1.raw) e in cc (sym t, same, scanned)) (λ f. ⊎_elim (λ a. omega arith) (λ b. let x = b.0 in let y = b.1 in omega arith) u) done)
-    unscanned q i (inr (inl later)) scanned within u = ⊎_elim (λ a. inl a) (λ b. inr ((omega arith), (omega arith))) (cases_lt (c.scan_place + (length r.object.fields + 2)) q.place)
-    unscanned q i (inr (inr before)) scanned within u = absurd (⊎_elim (λ a. omega arith) (λ b. let x = b.0 in omega arith) u)
+    unscanned q i h scanned within u = grind (arith, common_steps)
 
     less : (q : Replica) → In q c.replicas → (i : ℕ) → i < length q.object.fields → IsDue c q.object.raw q.place q.original i → IsDue (next_object c r) q.object.raw q.place q.original i
     less q l i within (inl (n, u)) = inl (n, unscanned q i (laid_apart 1 (map placed c.replicas) (replicas_end c.replicas) (placed r) (placed q) (k.belongs).laid (in_map placed r c.replicas here) (in_map placed q c.replicas l)) n within u)
@@ -299,22 +277,14 @@ scanned_open s c r (Some n) d k here place more is e = subst (IsOpened s) same (
 
     -- the next field's number is at most the length
     within_here : c.scan_field ≤ length r.object.fields
-    within_here = ⊎_elim
-        (λ x. let same_one = same_place 1 c.replicas (replicas_end c.replicas) x.0 r (k.belongs).laid x.1 here (x.2 ∙ sym place) in
-        subst (λ (q : Replica). c.scan_field ≤ length q.object.fields) same_one x.3)
-        (λ x. let z = x.1 in omega arith)
-        (k.belongs).scan
+    within_here = grind (arith, common_steps, same_place, replicas_end)
 
     here_next : IsScanPlace c.scan_place (suc c.scan_field) c
     here_next = inl (r, here, place, omega (arith, within_here, more))
 
     -- the replica at the scan pointer is this one
     original_at : (q : Replica) → In q n.replicas → q.place ≡ r.place → q.original ≡ r.original
-    original_at q l e =
-        let m = in_map_from pair (pair r) n.replicas (grown.pairs (pair r) (in_map pair r c.replicas here)) in
-        let p : m.0.place ≡ r.place = ap (λ (x : ℕ × ℕ). x.1) m.2 in
-        let o : m.0.original ≡ r.original = ap (λ (x : ℕ × ℕ). x.0) m.2 in
-        ap (λ (x : Replica). x.original) (same_place 1 n.replicas (replicas_end n.replicas) q m.0 (grown.replicas).laid l m.1 (e ∙ sym p)) ∙ o
+    original_at q l e = let m = in_map_from pair (pair r) n.replicas (grown.pairs (pair r) (in_map pair r c.replicas here)) in grind (arith, common_steps, same_place, replicas_end, ap (λ (x : ℕ × ℕ). x.1) m.2, ap (λ (x : ℕ × ℕ). x.0) m.2)
 
     less : (q : Replica) → In q n.replicas → (i : ℕ) → i < length q.object.fields → But (IsDue c) r.original c.scan_field q.object.raw q.place q.original i → IsDue n' q.object.raw q.place q.original i
     less q l i within (inl (b, inl u), not) = inl (b, inl (let p = grown.scan_place in omega arith))
@@ -374,13 +344,6 @@ applied_open s c m entry rest d k is e = go (is_some (replica_of c entry.0)) ref
         done (subst (Grown objects c' (IsDue c')) same (same_grown objects c' (IsDue c')
         (replicas_due objects c.size (IsDue c) (IsDue c') c.replicas its (λ r l i within x. ⊎_elim (λ y. absurd (no_replica c entry.0 r (none_of (replica_of c entry.0) t) l y.0)) (λ y. y) (less r.object.raw r.place r.original i x)))))
 
-apply_keeps : (s : State) (c : Collection) (m : ℕ) → IsOpen s s.collection → IsOpened s c → IsOpen s (apply_log s c m (log_at c m)).1.collection
-apply_keeps s c m h k = go (log_at c m) refl
-  where
-    go : (l : List (ℕ × ℕ)) → log_at c m ≡ l → IsOpen s (apply_log s c m l).1.collection
-    go [] e = h
-    go (entry ∷ rest) e = room_keeps s Applied (apply_entry (with_log c m rest) s.heap.graph entry) h (λ d is. applied_open s c m entry rest d k e is)
-
 -- ---- the flip
 
 -- the target of each root has a replica
@@ -408,14 +371,11 @@ pub record IsReady (g : Graph) (c : Collection) : Type 0 where
   pub roots : roots_done c g ≡ true
 
 pub ready_parts : (c : Collection) (g : Graph) → is_ready c g ≡ true → IsReady g c
-ready_parts c g h = grind (arith, common_steps, and_parts, eqb-true)
+ready_parts c g h = grind (arith, common_steps, and_parts)
 
 -- nothing is due in a ready collection
 pub none_due : (objects : List (ℕ × Object)) (g : Graph) (c : Collection) (r : Replica) (i : ℕ) → Belongs objects c → IsReady g c → In r c.replicas → IsDue c r.object.raw r.place r.original i → ⊥
-none_due objects g c r i h ready l (inl (n, u)) =
-    let range = laid_range 1 (map placed c.replicas) (replicas_end c.replicas) (placed r) h.laid (in_map placed r c.replicas l) in
-    let at = ready.scan in
-    ⊎_elim (λ a. omega arith) (λ b. let e = b.0 in omega arith) u
+none_due objects g c r i h ready l (inl (n, u)) = grind (arith, common_steps, laid_range 1 (map placed c.replicas) (replicas_end c.replicas) (placed r) h.laid (in_map placed r c.replicas l), ready.scan)
 none_due objects g c r i h ready l (inr d) = subst (In {X = ℕ × ℕ} (r.original, i)) (empty_log c.logs ready.logs d.0) d.1
 
 -- so each field of a replica corresponds to its original's
@@ -506,34 +466,20 @@ fresh_open s size numbers low high = record { belongs = begun_belongs s.heap.gra
 
 -- a step of an open collection keeps it belonging to the heap
 pub open_keeps : (s : State) (c : Collection) (step : Step) → s.collection ≡ Some c → IsOpened s c → step ≢ steps.Flip → IsOpen s (step_in s c step).1.collection
-open_keeps s c step is k other = grind (arith, common_steps, roots_keep, scan_keeps, apply_keeps)
+open_keeps s c step is k other = grind (arith, common_steps, roots_keep, scan_keeps, room_keeps, applied_open)
 
 -- a step other than a flip changes only the collection
 abbrev Stays : State → StepReply × State → Type 0
 Stays s next = next.1 ≡ with_collection s next.1.collection
 
-room_stays : (s : State) (reply : StepReply) (o : Option Collection) → Stays s (if_room s reply o)
-room_stays s reply o = grind (arith, common_steps)
-
-roots_stay : (s : State) (c : Collection) (t : Option ℕ) → Stays s (copy_root s c t)
-roots_stay s c t = grind (arith, common_steps, room_stays)
-
-replica_stays : (s : State) (c : Collection) (t : Option Replica) → Stays s (scan_replica s c t)
-replica_stays s c t = grind (arith, common_steps, cond_both, room_stays)
-
-log_stays : (s : State) (c : Collection) (m : ℕ) (l : List (ℕ × ℕ)) → Stays s (apply_log s c m l)
-log_stays s c m l = grind (arith, common_steps, room_stays)
-
 pub steps_stay : (s : State) (step : Step) → step ≢ steps.Flip → Stays s (collect s step)
-steps_stay s step other = grind (arith, common_steps, roots_stay, cond_both, replica_stays, log_stays)
+steps_stay s step other = grind (arith, common_steps, cond_both)
 
 pub collect_keeps : (s : State) (step : Step) → IsState s → IsStep s.mutators step → IsState (collect s step).1
 collect_keeps s step h range = go s.collection refl step range h.collection
   where
     quiet : (c : Collection) (step : Step) → s.collection ≡ Some c → IsOpened s c → step ≢ steps.Flip → IsState (step_in s c step).1
-    quiet c step is k n =
-        let stays : Stays s (step_in s c step) = subst (λ o. Stays s (collect_with s o step)) is (steps_stay s step n) in
-        subst IsState (sym stays) (still_state s (step_in s c step).1.collection h (open_keeps s c step is k n))
+    quiet c step is k n = grind (arith, common_steps, still_state, open_keeps, subst (λ o. Stays s (collect_with s o step)) is (steps_stay s step n))
 
     go : (o : Option Collection) → s.collection ≡ o → (step : Step) → IsStep s.mutators step → IsOpen s o → IsState (collect_with s o step).1
     go None is steps.Begin range k = still_state s (Some (fresh_collection s.mutators s.size)) h (fresh_open s s.size (h.heap).numbers (let x = (h.heap).room in omega arith) (h.heap).high)
@@ -583,13 +529,7 @@ belongs_noted objects c m entries within h there = belongs_from (IsDue c') objec
     weaker raw p a i (inr x) = inr (m, at_m (a, i) (in_right (a, i) (log_at c m) entries x))
 
     logged_was : (a i k : ℕ) → In {X = ℕ × ℕ} (a, i) (log_at c' k) → In {X = ℕ × ℕ} (a, i) (log_at c k) ⊎ In {X = ℕ × ℕ} (a, i) entries
-    logged_was a i k x = ⊎_elim
-        (λ e. ⊎_elim
-        (λ y. inl (subst (λ n. In {X = ℕ × ℕ} (a, i) (log_at c n)) (sym e) y))
-        (λ y. inr y)
-        (in_cases (a, i) (log_at c m) entries (subst (λ o. In {X = ℕ × ℕ} (a, i) (log_or_nil o)) (get_set_same c.logs m (log_at c m ++ entries) within) (subst (λ n. In {X = ℕ × ℕ} (a, i) (log_at c' n)) e x))))
-        (λ n. inl (subst (λ o. In {X = ℕ × ℕ} (a, i) (log_or_nil o)) (get_set_other c.logs m k (log_at c m ++ entries) n) x))
-        (cases_eq k m)
+    logged_was a i k x = grind (arith, common_steps, in_cases, get_set_same, get_set_other)
 
 -- the fields that a command wrote are logged
 logged_open : (s t : State) (o : Option Collection) (m : ℕ) (entries : List (ℕ × ℕ)) → t.size ≡ s.size → t.mutators ≡ s.mutators → m < s.mutators → IsOpen s o → HasRawNumbers t.heap.graph.objects → Evolves s.heap.graph.objects t.heap.graph.objects (λ a j. In {X = ℕ × ℕ} (a, j) entries)

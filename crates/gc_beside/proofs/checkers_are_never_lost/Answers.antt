@@ -1,4 +1,5 @@
 -- What the checker is told at each event is true, so it can take it, and its tables then know the next state.
+use Rattle.std.proofs.lemmas.Grind.{common_steps}
 use Rattle.std.proofs.Common.{◌≡◌, ℕ, ◌≤◌, ◌<◌, true, false, refl, arith}
 use Rattle.gc_graph.specs.Machine.{MakesObject, words_taken}
 use Rattle.gc_graph.specs.declared.command.Op.{Op}
@@ -17,15 +18,7 @@ use Rattle.gc_beside.proofs.checkers_are_never_lost.Goals as goal
 
 -- a command that makes no object takes no words
 no_words : (op : Op) → (MakesObject op → ⊥) → words_taken op ≡ 0
-no_words (ops.New d kind len) none = absurd (none tt)
-no_words (ops.NewRaw d kind len) none = absurd (none tt)
-no_words (ops.Num d n) none = refl
-no_words (ops.Nil d) none = refl
-no_words (ops.Move d s) none = refl
-no_words (ops.Get d s i) none = refl
-no_words (ops.Put s i t) none = refl
-no_words (ops.Same s t) none = refl
-no_words (ops.Look s) none = refl
+no_words op none = grind (arith, common_steps)
 
 one_more : (s s' : State) (m : ℕ) (op : Op) (reply : Reply) → IsSpaceGraph s.size s.heap.free s.heap.graph → mutate s m op ≡ (reply, s') → MakesObject op → EndsMore s s'
 one_more s s' m (ops.New d kind len) reply before said makes = ends_more s s' m (ops.New d kind len) reply false d kind len refl before said

@@ -1,5 +1,6 @@
 -- Taking the mark from the links does not change the pair, so what the checker says of it holds of the open collection's pair.
-use Rattle.std.proofs.Common.{Result, Ok, Err, subst}
+use Rattle.std.proofs.lemmas.Grind.{common_steps}
+use Rattle.std.proofs.Common.{Result, subst, arith}
 use Rattle.std.specs.Prelude.{IfOk}
 use Rattle.gc_core.specs.Flip.{IsCertified}
 use Rattle.gc_core.proofs.KeptPair.{pair_now, same_pair}
@@ -7,8 +8,7 @@ use Rattle.gc_core.proofs.collected_heap.CollectedHeap.check.Goals as goal
 
 -- what holds of each value that is returned, holds if something else does
 if_ok : {X Y : Type 0} (P Q : X → Type 0) (r : Result X Y) → ((x : X) → P x → Q x) → IfOk r P → IfOk r Q
-if_ok P Q (Ok x) f h = f x h
-if_ok P Q (Err e) f h = tt
+if_ok P Q r f h = grind (arith, common_steps)
 
 pub returns-clause-asked : goal.returns-clause-asked
 returns-clause-asked g c = if_ok _ _ c.found_by.result (λ found said pairs told.

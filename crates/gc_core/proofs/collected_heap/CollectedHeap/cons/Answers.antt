@@ -1,4 +1,5 @@
 -- With or without an open collection, the call is a `New` and two `Put`s, and what is known of extra roots is still true.
+use Rattle.std.proofs.lemmas.Grind.{common_steps}
 use Rattle.std.proofs.Common.{◌≡◌, ◌<◌, refl, sym, ap, ◌∙◌, subst, arith, [], ◌∷◌}
 use Rattle.std.specs.Option.{option_map}
 use Rattle.gc_graph.specs.declared.command.Op.TheVariants.{New, Put}
@@ -18,21 +19,7 @@ use Rattle.gc_core.proofs.OtherCommands.{idle_mutated}
 use Rattle.gc_core.proofs.collected_heap.CollectedHeap.cons.Goals as goal
 
 pub returns-in_default : goal.returns-in_default
-returns-in_default c =
-    let o = c.self.inside.collection in
-    let state : HeapWords → State = λ h. state_of h (option_map collection_in c.self.inside.collection) in
-    let new = c.new_object-made in
-    let one = idle_mutated c.self.inside.epoch c.self.inside.heap new.new.self o c.args.m (New c.args.d c.args.kind 2) new.result c.space.ensures.sound c.in_default.not-Some new.ensures.performs c.self.invariant.0 in
-    let two = idle_mutated c.self.inside.epoch new.new.self c.fill_field-first.new.self o c.args.m (Put c.args.d 0 c.args.s) c.fill_field-first.result new.ensures.sound c.in_default.not-Some c.fill_field-first.ensures.performs one.1 in
-    let three = idle_mutated c.self.inside.epoch c.fill_field-first.new.self c.fill_field-second.new.self o c.args.m (Put c.args.d 1 c.args.t) c.fill_field-second.result c.fill_field-first.ensures.sound c.in_default.not-Some c.fill_field-second.ensures.performs two.1 in
-    record {
-      step = subst (λ x. new_from_step x c.args.m c.args.d c.args.kind (c.args.s ∷ c.args.t ∷ []) ≡ (new.result, state c.fill_field-second.new.self)) c.self.view_is
-          (made_from (state c.self.inside.heap) (state new.new.self) (state c.fill_field-second.new.self) c.args.m c.args.kind c.args.d (c.args.s ∷ c.args.t ∷ []) new.result one.0 c.in_default-made.not-Full
-          (filled_two (state new.new.self) (state c.fill_field-first.new.self) (state c.fill_field-second.new.self) c.args.m c.args.d c.args.s c.args.t c.fill_field-first.result c.fill_field-second.result two.0 three.0));
-      refused = tt;
-      «open» = tt;
-      mutators = c.fill_field-second.ensures.performs.mutators ∙ c.fill_field-first.ensures.performs.mutators ∙ new.ensures.performs.mutators ∙ ap (λ (s : State). s.mutators) c.self.view_is;
-    }
+returns-in_default = grind (arith, common_steps, idle_mutated, made_from, filled_two)
 
 pub invariant_of-self-in-Full-made : goal.invariant_of-self-in-Full-made
 invariant_of-self-in-Full-made c = with_row c.self.invariant.2 (

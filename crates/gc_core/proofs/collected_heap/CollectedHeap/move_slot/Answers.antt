@@ -1,22 +1,11 @@
 -- A `Move` writes one slot and no field, so an open collection stays, and what is known of extra roots is still true.
-use Rattle.std.proofs.Common.{◌≡◌, ◌<◌, sym, subst, arith}
-use Rattle.gc_graph.specs.Slots.{place, roots_of}
+use Rattle.std.proofs.Common.{arith, rules}
 use Rattle.gc_graph.specs.declared.command.Op.TheVariants.{Move}
-use Rattle.std.specs.Option.{option_map}
-use Rattle.gc_copy.specs.Words.{collection_in, state_of}
-use Rattle.gc_plan.specs.State.{State}
-use Rattle.gc_plan.specs.Steps.{mutate}
-use Rattle.gc_core.proofs.Marks.{one_below, slot_below, with_row}
-use Rattle.gc_core.proofs.OtherCommands.{fits_after, mutated}
+use Rattle.gc_core.proofs.OtherCommands.{slot_set, said}
 use Rattle.gc_core.proofs.collected_heap.CollectedHeap.move_slot.Goals as goal
 
 pub invariant_of-self : goal.invariant_of-self
-invariant_of-self c = with_row c.self.invariant.2 (
-    let less : c.args.m < c.self.inside.heap.mutators = subst (λ (s : State). c.args.m < s.mutators) (sym c.self.view_is) c.requires in
-    fits_after c.self.inside.epoch c.self.inside.known c.self.inside.heap c.move_slot.new.self c.self.inside.collection c.args.m (Move c.args.d c.args.s) c.move_slot.result c.space.ensures.sound (λ none. none) c.move_slot.ensures.performs (λ q. one_below (place c.args.d c.args.m) q (roots_of c.self.inside.heap.mutators) (slot_below c.args.d c.args.m c.self.inside.heap.mutators (omega (arith, c.index.ensures.value, c.index.ensures.bound)) less)) c.self.invariant.0 c.self.invariant.1
-    )
+invariant_of-self c = slot_set c.args.self.now c.self.inside.epoch c.self.inside.known c.self.inside.heap c.move_slot.new.self c.self.inside.collection c.args.m (Move c.args.d c.args.s) c.move_slot.result c.self.view_is c.requires c.space.ensures.sound c.move_slot.ensures.performs (λ none. none) (omega (arith, c.index.ensures.value, c.index.ensures.bound)) c.self.invariant
 
 pub returns-clause-step : goal.returns-clause-step
-returns-clause-step c =
-    let step = mutated c.self.inside.epoch c.self.inside.heap c.move_slot.new.self c.self.inside.collection c.args.m (Move c.args.d c.args.s) c.move_slot.result c.space.ensures.sound (λ none. none) c.move_slot.ensures.performs c.self.invariant.0 in
-    subst (λ s. mutate s c.args.m (Move c.args.d c.args.s) ≡ (c.move_slot.result, state_of c.move_slot.new.self (option_map collection_in c.self.inside.collection))) c.self.view_is step
+returns-clause-step c = search (rules, said)

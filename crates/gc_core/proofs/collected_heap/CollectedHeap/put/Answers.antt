@@ -1,10 +1,9 @@
 -- A `Put` writes no root, so all that is known of the roots is still true; room in a log changes no state.
-use Rattle.std.proofs.Common.{◌≡◌, refl, sym, subst}
+use Rattle.std.proofs.lemmas.Grind.{common_steps}
+use Rattle.std.proofs.Common.{refl, sym, subst, arith}
 use Rattle.std.specs.Option.{option_map}
 use Rattle.gc_graph.specs.declared.command.Op.TheVariants.{Put}
 use Rattle.gc_copy.specs.Words.{collection_in, state_of, open_state}
-use Rattle.gc_plan.specs.State.{State}
-use Rattle.gc_plan.specs.Steps.{mutate}
 use Rattle.gc_core.specs.Internal.CollectedHeap.{Fits}
 use Rattle.gc_core.specs.Internal.KnownRoots.{KnowsRoots}
 use Rattle.gc_core.proofs.Marks.{put_knows, with_row}
@@ -39,6 +38,4 @@ pub put-requires-2-clause-belongs : goal.put-requires-2-clause-belongs
 put-requires-2-clause-belongs c = c.in_ok-reserve.ensures.belongs c.self.inside.heap (subst (Fits c.self.inside.epoch c.self.inside.heap) c.in-Some.is c.self.invariant.0)
 
 pub returns-clause-step : goal.returns-clause-step
-returns-clause-step c =
-    let before = opened_at c.self.inside.heap c.self.inside.collection c.in-Some.collection c.reserve.new.self c.args.self.now c.in-Some.is c.in_ok-reserve.ensures.collection c.self.view_is in
-    subst (λ (s : State). mutate s c.args.m (Put c.args.s c.args.i c.args.t) ≡ (c.put-2.result, open_state c.put-2.new.heap c.put-2.new.self)) before c.put-2.ensures.step
+returns-clause-step = grind (arith, common_steps, opened_at)

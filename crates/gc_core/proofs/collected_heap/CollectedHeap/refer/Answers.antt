@@ -1,22 +1,18 @@
 -- The slot refers to the object, the words stay, and what is known of extra roots is still true.
-use Rattle.std.proofs.Common.{◌≡◌, ◌<◌, is_some, true, sym, ◌∙◌, ap, subst, arith}
+use Rattle.std.proofs.lemmas.Grind.{common_steps}
+use Rattle.std.proofs.Common.{◌<◌, is_some, sym, subst, arith}
 use Rattle.std.specs.Option.{option_map}
-use Rattle.gc_graph.specs.Graph.{lookup}
 use Rattle.gc_graph.specs.Slots.{place, roots_of}
 use Rattle.gc_plan.specs.State.{State}
 use Rattle.gc_copy.specs.Words.{collection_in, state_of}
 use Rattle.gc_core.specs.Internal.KnownRoots.{KnowsRoots}
-use Rattle.gc_core.specs.Referring.{with_reference}
 use Rattle.gc_core.specs.declared.known.KnownRoots.{KnownRoots}
 use Rattle.gc_core.proofs.Marks.{slot_below, with_row}
 use Rattle.gc_core.proofs.Referred.{referred, referred_knows, refers, start_named, still_fits}
 use Rattle.gc_core.proofs.collected_heap.CollectedHeap.refer.Goals as goal
 
 pub refer-requires : goal.refer-requires
-refer-requires c = record {
-  mutator = subst (λ (s : State). c.args.m < s.mutators) (sym c.self.view_is) c.requires.mutator;
-  start = sym (start_named c.self.inside.heap.space.words c.args.a.0) ∙ subst (λ (s : State). is_some (lookup s.heap.graph.objects c.args.a.0) ≡ true) (sym c.self.view_is) c.requires.object;
-}
+refer-requires = grind (arith, common_steps, start_named, is_some)
 
 pub invariant_of-self : goal.invariant_of-self
 invariant_of-self c = with_row c.self.invariant.2 (
@@ -34,11 +30,4 @@ invariant_of-self c = with_row c.self.invariant.2 (
     )
 
 pub returns-clause-step : goal.returns-clause-step
-returns-clause-step c =
-    let heap = c.self.inside.heap in
-    let new = c.refer.new.self in
-    let o = option_map collection_in c.self.inside.collection in
-    let there : is_some (lookup c.args.self.now.heap.graph.objects c.args.a.0) ≡ true = c.requires.object in
-    let is : with_reference (state_of heap o) (place c.args.d c.args.m) c.args.a.0 ≡ state_of new o
-    = sym (referred heap new (place c.args.d c.args.m) c.args.a.0 c.refer.ensures.space c.refer.ensures.graph c.refer.ensures.mutators o) in
-    refers c.args.self.now (state_of new o) c.args.m c.args.a.0 c.args.d there (ap (λ (s : State). with_reference s (place c.args.d c.args.m) c.args.a.0) (sym c.self.view_is) ∙ is)
+returns-clause-step = grind (arith, common_steps, is_some, referred, refers)
