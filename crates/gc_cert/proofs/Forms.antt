@@ -91,10 +91,7 @@ all_delimit {V} InRange line_of read n form vs ws x y p q e = same vs ws p.1 q.1
     same [] [] p q len e = (refl, e)
     same [] (w ∷ ws) p q len e = absurd (omega (arith, len))
     same (v ∷ vs) [] p q len e = absurd (omega (arith, len))
-    same (v ∷ vs) (w ∷ ws) p q len e =
-        let h = heads (line_of v) (line_of w) (map line_of vs ++ x) (map line_of ws ++ y) e in
-        let rest = same vs ws p.1 q.1 (omega (arith, len)) h.1 in
-        (rw (one_form InRange line_of read form v w p.0 q.0 h.0, rest.0) refl, rest.1)
+    same (v ∷ vs) (w ∷ ws) p q len e = grind (arith, common_steps, heads, one_form, same vs ws)
 
 -- while lines are left, the next one follows
 one_more : {V : Type 0} (InRange : V → Type 0) (line_of : V → List ℕ) (done lines : Lines) (vs : List V) → length done < length vs → AllByRecursion InRange vs → done ++ lines ≡ map line_of vs → (v : V) × (more : Lines) × InRange v × (lines ≡ line_of v ∷ more)

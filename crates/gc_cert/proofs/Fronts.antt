@@ -1,5 +1,6 @@
 -- Lines that are read from the front of a text.
-use Rattle.std.proofs.Common.{◌≡◌, ◌≢◌, ℕ, ◌≤◌, List, ◌∷◌, ◌++◌, refl, ap, ◌∙◌, arith, append_assoc, Option, Some, None}
+use Rattle.std.proofs.lemmas.Grind.{common_steps}
+use Rattle.std.proofs.Common.{◌≡◌, ◌≢◌, ℕ, ◌≤◌, List, ◌∷◌, ◌++◌, refl, ap, arith, append_assoc, Option, Some, None}
 use Rattle.std.specs.Fmt.{decimal}
 use Rattle.gc_graph.specs.Fronts.{BeginsWithNumber}
 use Rattle.gc_graph.specs.Lines.{newline, space}
@@ -26,11 +27,8 @@ no_word_end text more n begins never w rest fits e = never rest (one_front text 
 
 -- ---- pairs
 
-pair_parts : (p : ℕ × ℕ) (rest : List ℕ) → pair_line p ++ newline ∷ rest ≡ decimal p.0 ++ space ∷ (decimal p.1 ++ newline ∷ rest)
-pair_parts p rest = append_assoc (decimal p.0) (space ∷ decimal p.1) (newline ∷ rest)
-
 old_begins : (text : List ℕ) (p : ℕ × ℕ) (rest : List ℕ) → AreAddresses p → text ≡ pair_line p ++ newline ∷ rest → BeginsWithNumber text p.0 (space ∷ (decimal p.1 ++ newline ∷ rest))
-old_begins text p rest fits e = record { small = omega (arith, fits.0); parts = e ∙ pair_parts p rest; whole = refl }
+old_begins text p rest fits e = grind (arith, common_steps, append_assoc)
 
 new_begins : (p : ℕ × ℕ) (rest : List ℕ) → AreAddresses p → BeginsWithNumber (decimal p.1 ++ newline ∷ rest) p.1 (newline ∷ rest)
 new_begins p rest fits = record { small = omega (arith, fits.1); parts = refl; whole = refl }

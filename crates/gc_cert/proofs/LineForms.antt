@@ -1,6 +1,6 @@
 -- Each line of a pair text has a form, whose value is read back from the line.
 use Rattle.std.proofs.lemmas.Grind.{common_steps}
-use Rattle.std.proofs.Common.{◌≡◌, ℕ, ◌^◌, ◌<◌, ◌≤◌, Bool, true, false, cond, eqb, leb, List, [], ◌∷◌, refl, sym, ap, ◌∙◌, arith, subst, Some, None}
+use Rattle.std.proofs.Common.{◌≡◌, ℕ, ◌^◌, ◌<◌, ◌≤◌, Bool, true, false, cond, eqb, List, [], ◌∷◌, refl, sym, ap, ◌∙◌, arith, subst, Some, None}
 use Rattle.std.specs.Fmt.{decimal}
 use Rattle.std.specs.Str.{bytes_eq}
 use Rattle.std.proofs.lemmas.Bool.{and_parts, leb-true, ne_eqb}
@@ -16,9 +16,7 @@ use Rattle.gc_cert.proofs.Forms.{IsForm}
 
 HasNo-name : (c : ℕ) (name : List ℕ) → c < 58 → is_name name ≡ true → HasNo c name
 HasNo-name c [] low e = tt
-HasNo-name c (b ∷ name) low e =
-    let p = and_parts (leb 58 b) (is_name name) e in
-    (omega (arith, low, leb-true 58 b p.0), HasNo-name c name low p.1)
+HasNo-name c (b ∷ name) low e = grind (arith, common_steps, and_parts, leb-true, HasNo-name c name)
 
 -- tokens that were read join to the line
 from_tokens : (line : List ℕ) (tokens : Tokens) → tokens_of line ≡ tokens → line ≡ joined tokens
@@ -29,12 +27,7 @@ no_space n small = HasNo-decimal space n (omega arith) small
 
 pub fixed_form : (wanted : List ℕ) → IsForm Nothing (λ _. wanted) (is_line wanted)
 unfolding is_line
-fixed_form wanted = record {
-  some = tt;
-  in_range = tt;
-  found = λ line v e. (tt, (bytes_eq-Decides line wanted).0 (cond_some (bytes_eq line wanted) tt v e).0);
-  again = λ v _. rw ((bytes_eq-Decides wanted wanted).1 refl) refl;
-}
+fixed_form wanted = grind (arith, common_steps, bytes_eq-Decides, cond_some)
 
 pub line_is : (wanted line : List ℕ) → true ≡ bytes_eq line wanted → is_line wanted line ≡ Some tt
 unfolding is_line
@@ -46,17 +39,11 @@ line_is_not wanted line e = rw (sym e) refl
 
 heading_found : (line : List ℕ) (raws : Bool) → raws_in line ≡ Some raws → line ≡ heading raws
 unfolding raws_in
-heading_found line raws e = at (bytes_eq line (heading false)) (bytes_eq line (heading true)) refl refl e
-  where
-    at : (p q : Bool) → bytes_eq line (heading false) ≡ p → bytes_eq line (heading true) ≡ q → cond p (Some false) (cond q (Some true) None) ≡ Some raws → line ≡ heading raws
-    at true q is other e = (bytes_eq-Decides line (heading false)).0 is ∙ ap heading (some_is false raws e)
-    at false true other is e = (bytes_eq-Decides line (heading true)).0 is ∙ ap heading (some_is true raws e)
-    at false false other is e = absurd cc
+heading_found line raws e = grind (arith, common_steps, bytes_eq-Decides, some_is)
 
 heading_again : (raws : Bool) → raws_in (heading raws) ≡ Some raws
 unfolding raws_in
-heading_again false = refl
-heading_again true = refl
+heading_again raws = grind (arith, common_steps)
 
 pub heading_form : IsForm AnyFlag heading raws_in
 heading_form = grind (arith, common_steps, heading_found, heading_again)
@@ -75,9 +62,8 @@ count_found name most tokens n e =
     let a0 = bind_some (token_at name tokens) (λ rest. number_at most rest >>= λ count. if_all_taken count.0 count.1) n e in
     let a1 = bind_some (number_at most a0.0) (λ count. if_all_taken count.0 count.1) n a0.2 in
     let z = end_found a1.0.0 a1.0.1 n a1.2 in
-    let w0 = token_at_found name tokens a0.0 a0.1 in
     let w1 = number_at_found most a0.0 a1.0 a1.1 in
-    subst (λ (m : ℕ). (m ≤ most) × (tokens ≡ name ∷ decimal m ∷ [])) z.1 (w1.1, w0 ∙ onto name (w1.0 ∙ onto (decimal a1.0.0) z.0))
+    subst (λ (m : ℕ). (m ≤ most) × (tokens ≡ name ∷ decimal m ∷ [])) z.1 (w1.1, token_at_found name tokens a0.0 a0.1 ∙ onto name (w1.0 ∙ onto (decimal a1.0.0) z.0))
 
 count_again : (name : List ℕ) (most n : ℕ) → n ≤ most → most < 2 ^ 64 → count_of name most (name ∷ decimal n ∷ []) ≡ Some n
 unfolding count_of
@@ -115,10 +101,7 @@ sizes_found name tokens s e =
 
 sizes_again : (name : List ℕ) (size end : ℕ) → AreSizes (size, end) → sizes_of name (name ∷ decimal size ∷ decimal end ∷ []) ≡ Some (size, end)
 unfolding sizes_of
-sizes_again name size end fits =
-    let s : eqb size 0 ≡ false = ne_eqb size 0 (omega (arith, fits)) in
-    let e : eqb end 0 ≡ false = ne_eqb end 0 (omega (arith, fits)) in
-    rw (token_at_again name (decimal size ∷ decimal end ∷ []), number_at_again 1048576 size (decimal end ∷ []) fits.1 (omega (arith, fits)), number_at_again 1048576 end [] fits.3 (omega (arith, fits)), end_again {A = ℕ × ℕ} (size, end), s, e) refl
+sizes_again name size end fits = grind (arith, common_steps, ne_eqb, token_at_again, number_at_again, end_again)
 
 pub size_form : (name : List ℕ) → is_name name ≡ true → IsForm AreSizes (λ s. size_line name s.0 s.1) (λ line. sizes_of name (tokens_of line))
 size_form name named = record {
@@ -140,8 +123,7 @@ pair_found tokens p e =
 
 pair_again : (old new : ℕ) → AreAddresses (old, new) → pair_of (decimal old ∷ decimal new ∷ []) ≡ Some (old, new)
 unfolding pair_of
-pair_again old new fits =
-    rw (number_at_again 4294967295 old (decimal new ∷ []) (omega (arith, fits.0)) (omega (arith, fits.0)), number_at_again 4294967295 new [] (omega (arith, fits.1)) (omega (arith, fits.1)), end_again {A = ℕ × ℕ} (old, new)) refl
+pair_again old new fits = grind (arith, common_steps, number_at_again, end_again)
 
 pub pair_form : IsForm AreAddresses pair_line (λ line. pair_of (tokens_of line))
 pair_form = record {

@@ -1,9 +1,10 @@
 -- A text has one reading: one pair, or one first fault.
+use Rattle.std.proofs.lemmas.Grind.{common_steps}
 use Rattle.std.proofs.Common.{◌≡◌, ◌≢◌, ℕ, ◌+◌, List, [], ◌∷◌, ◌++◌, length, refl, sym, ap, ◌∙◌, arith, append_assoc, subst, inl, inr, ◌⊎◌}
 use Rattle.std.proofs.lemmas.List.{append-nil}
 use Rattle.std.proofs.lemmas.List.Concat.{flat_map-cons}
 use Rattle.gc_graph.specs.Lines.{newline, HasNo, ended, text_of}
-use Rattle.gc_cert.specs.Grammar.{CertifiedPair, lines_of, spelling, HasText, IsTextOf}
+use Rattle.gc_cert.specs.Grammar.{CertifiedPair, lines_of, spelling, IsTextOf}
 use Rattle.gc_cert.specs.Faults.{AreFirst, AreWhole, HasWrongLine, HasByteBehind, IsCutOff, IsPairFaultOf, IsReadAsPair}
 use Rattle.gc_cert.specs.declared.fault.PairFault.{PairFault}
 use Rattle.gc_cert.specs.declared.fault.PairFault.TheVariants.{Read, TooLarge, BadLine, EndsEarly, NoMemory}
@@ -48,20 +49,12 @@ some_cut : (a b : List ℕ) → [] ≢ a ++ newline ∷ b
 some_cut [] b e = cc
 some_cut (x ∷ a) b e = cc
 
-whole_first : (f : CertifiedPair) → HasText f → AreFirst (lines_of f)
-whole_first f fits = (f, [], fits, sym (append-nil (lines_of f)))
-
 good_stop : (f : CertifiedPair) (text : List ℕ) → IsTextOf f text → StopsAt (lines_of f) [] text
 unfolding spelling
-good_stop f text p = (whole_first f p.fits, p.spelled ∙ sym (append-nil (text_of (lines_of f))), λ l more _ is _. some_cut l more is)
+good_stop f text p = grind (arith, common_steps, append-nil, some_cut)
 
 wrong_stop : (text : List ℕ) (n : ℕ) (w : HasWrongLine text n) → StopsAt w.before (w.line ++ newline ∷ w.rest) text
-wrong_stop text n w = (
-  w.good,
-  w.parts,
-  λ l more h is first.
-      w.wrong (subst (λ (k : List ℕ). AreFirst (w.before ++ k ∷ [])) (sym (one_cut newline w.line w.rest l more w.whole_line h is).0) first),
-)
+wrong_stop text n w = grind (arith, one_cut)
 
 nothing_behind : (before : List (List ℕ)) (l : List ℕ) → AreWhole before → AreFirst (before ++ l ∷ []) → ⊥
 nothing_behind before l (f, fits, is) (g, rest, fits', is') =
@@ -79,9 +72,7 @@ cut_stop text w = (w.good, w.parts, λ l more h is first. not_cut newline w.unfi
 -- ---- one reading
 
 pub one_value : (f g : CertifiedPair) (text : List ℕ) → IsTextOf f text → IsTextOf g text → f ≡ g
-one_value f g text p q =
-    let same = (one_stop (lines_of f) (lines_of g) [] [] text (good_stop f text p) (good_stop g text q)).0 in
-    (lines_same f g [] [] p.fits q.fits (ap (λ (ls : List (List ℕ)). ls ++ []) same)).0
+one_value f g text p q = (lines_same f g [] [] p.fits q.fits (ap (λ (ls : List (List ℕ)). ls ++ []) ((one_stop (lines_of f) (lines_of g) [] [] text (good_stop f text p) (good_stop g text q)).0))).0
 
 no_byte : (b : ℕ) (bs : List ℕ) → [] ≢ b ∷ bs
 no_byte b bs e = cc

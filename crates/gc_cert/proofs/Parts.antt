@@ -13,7 +13,7 @@ use Rattle.gc_cert.specs.Internal.Sections.{Nothing, AnyFlag, alone, AreAll, Sec
 use Rattle.gc_cert.proofs.Stops.{Delimits, BeginsWith}
 use Rattle.gc_cert.proofs.Forms.{All-replicate, length-replicated, one_form}
 use Rattle.gc_cert.proofs.LineForms.{pair_form}
-use Rattle.gc_cert.proofs.SameLines.{head_of, number_head, count_same, two_same, same_lines, image_same, image_more, heading_same, certificate_same}
+use Rattle.gc_cert.proofs.SameLines.{head_of, count_same, two_same, same_lines, image_same, image_more, heading_same, certificate_same}
 use Rattle.std.proofs.lemmas.Fmt.{decimal_injective}
 
 abbrev Lines : Type 0
@@ -38,13 +38,8 @@ image_fits raws s words roots fits ws le rs = record { fits = record { sizes = f
 abbrev root_lines : List ℕ → Lines
 root_lines roots = count_line (codes "roots") (length roots) ∷ (map decimal roots ++ [])
 
-sizes_same : (name : List ℕ) (s t : ℕ × ℕ) → AreSizes s → AreSizes t → size_line name s.0 s.1 ≡ size_line name t.0 t.1 → (s.0 ≡ t.0) × (s.1 ≡ t.1)
-sizes_same name s t p q e = grind (arith, common_steps, two_same, number_head, append_cancel_left)
-
 behind_sizes : (name : List ℕ) (s : ℕ × ℕ) (image : Image) (lines : Lines) → AreSizes s → HasImageText image → size_line name s.0 s.1 ∷ lines ≡ image_alone name image → (length image.words ≡ s.1) × (lines ≡ map decimal image.words ++ root_lines image.roots)
-behind_sizes name s image lines p fits e =
-    let h = head_of (size_line name s.0 s.1) (size_line name image.size image.end) lines (map decimal image.words ++ root_lines image.roots) e in
-    (fits.count ∙ sym (sizes_same name s (image.size, image.end) p fits.sizes h.0).1, h.1)
+behind_sizes name s image lines p fits e = grind (arith, common_steps, head_of, two_same, append_cancel_left)
 
 behind_words : (name : List ℕ) (s : ℕ × ℕ) (words : List ℕ) (image : Image) (lines : Lines) → AreSizes s → AreAll IsWord s.1 words → HasImageText image → size_line name s.0 s.1 ∷ (map decimal words ++ lines) ≡ image_alone name image → lines ≡ root_lines image.roots
 behind_words name s words image lines p ws fits e = grind (arith, common_steps, behind_sizes, same_lines, decimal_injective)
@@ -181,22 +176,12 @@ record Behind (raws : Bool) (f : CertifiedPair) (lines : Lines) : Type 0 where
 
 behind_heading : (raws : Bool) (f : CertifiedPair) (lines : Lines) → HasText f → heading raws ∷ lines ≡ lines_of f → Behind raws f lines
 unfolding lines_of
-behind_heading raws f lines fits e =
-    let behind = image_lines (codes "new") f.new (certificate_lines f.pairs) in
-    let first = head_of (heading raws) (heading f.old.raws) lines (image_lines (codes "old") f.old behind) e in
-    let flag : f.old.raws ≡ raws = sym (heading_same raws f.old.raws first.0) in
-    record {
-      old = record { fits = fits.old; raws_are = flag };
-      new = record { fits = fits.new; raws_are = sym fits.raws ∙ flag };
-      lines_are = first.1 ∙ sym (image_more (codes "old") f.old [] behind);
-    }
+behind_heading raws f lines fits e = grind (arith, common_steps, head_of, heading_same, image_more)
 
 -- the lines of three parts
 pub three_parts : (raws : Bool) (old new : Image) (pairs : List (ℕ × ℕ)) → old.raws ≡ raws → ((heading raws ∷ []) ++ image_alone (codes "old") old) ++ (image_alone (codes "new") new ++ certificate_lines pairs) ≡ lines_of (made_pair old new pairs)
 unfolding lines_of
-three_parts raws old new pairs flag =
-    ap (λ (r : Bool). ((heading r ∷ []) ++ image_alone (codes "old") old) ++ (image_alone (codes "new") new ++ certificate_lines pairs)) (sym flag)
-    ∙ ap (λ (ls : Lines). heading old.raws ∷ ls) (image_more (codes "old") old [] (image_alone (codes "new") new ++ certificate_lines pairs) ∙ ap (image_lines (codes "old") old) (image_more (codes "new") new [] (certificate_lines pairs)))
+three_parts raws old new pairs flag = grind (arith, common_steps, image_more)
 
 pub text_old : (raws : Bool) → BeginsWith (IsImageBy raws) (image_alone (codes "old")) (λ lines. TextSection ((heading raws ∷ []) ++ lines))
 text_old raws = record {

@@ -3,10 +3,9 @@ use Rattle.std.proofs.lemmas.Grind.{common_steps}
 use Rattle.std.proofs.Common.{◌≡◌, ℕ, List, [], ◌∷◌, ◌++◌, map, take, drop, refl, sym, ap, ◌∙◌, append_assoc, Option, subst, length, ◌+◌, ◌<◌, ◌≤◌, get_or, arith}
 use Rattle.std.proofs.lemmas.List.{append-nil, take-append-drop, take_all, take_more, map-append}
 use Rattle.std.proofs.lemmas.List.Concat.{flat_map-append}
-use Rattle.std.specs.Io.KnownBytes.{Appends}
 use Rattle.gc_graph.specs.Lines.{ended, text_of}
 use Rattle.gc_graph.specs.Streams.{SendsFront, HasSent}
-use Rattle.gc_graph.proofs.Public.{nothing_sent, sent_then, front_sent, sent_at_last}
+use Rattle.gc_graph.proofs.Public.{nothing_sent, sent_then, front_sent}
 use Rattle.gc_cert.specs.Internal.PrintedLines.{Prints, PrintsFront}
 
 abbrev Lines : Type 0
@@ -46,9 +45,6 @@ none_printed a before = subst (λ (t : List ℕ). HasSent a a t before) (sym (ap
 
 -- ---- a line for each value
 
-pub one_printed : {X : Type 0} (f : X → List ℕ) (a b c : Bytes) (xs : List X) (i : ℕ) (d : X) (before mid after : List ℕ) → i < length xs → Prints (map f (take i xs)) a b before mid → Prints (f (get_or xs i d) ∷ []) b c mid after → Prints (map f (take (i + 1) xs)) a c before after
-one_printed f a b c xs i d before mid after lt so_far more = grind (arith, common_steps, take_more, map-append, prints_then)
-
 pub one_failed : {X : Type 0} (f : X → List ℕ) (a b c : Bytes) (xs : List X) (i : ℕ) (d : X) (before mid : List ℕ) → i < length xs → Prints (map f (take i xs)) a b before mid → PrintsFront (f (get_or xs i d) ∷ []) b c mid → PrintsFront (map f xs) a c before
 one_failed f a b c xs i d before mid lt so_far failed =
     let x = get_or xs i d in
@@ -62,12 +58,5 @@ pub map_map : {X Y : Type 0} (g : X → Y) (f : Y → List ℕ) (xs : List X) �
 map_map g f [] = refl
 map_map g f (x ∷ xs) = ap (λ (ls : Lines). f (g x) ∷ ls) (map_map g f xs)
 
--- the buffer is written at the end
-pub printed_out : (a b c : Bytes) (lines : Lines) (before after : List ℕ) → before ≡ [] → Prints lines a b before after → Appends b c after → Appends a c (text_of lines)
-printed_out a b c lines before after none printed out = sent_at_last a b c (text_of lines) after (subst (λ (t : List ℕ). HasSent a b (t ++ text_of lines) after) none printed) out
-
 pub printed_out_front : (a b c : Bytes) (lines : Lines) (before after : List ℕ) → before ≡ [] → Prints lines a b before after → SendsFront b c after → SendsFront a c (text_of lines)
 printed_out_front a b c lines before after none printed failed = grind (arith, common_steps, append-nil, front_sent)
-
-pub front_out : (a b : Bytes) (lines : Lines) (before : List ℕ) → before ≡ [] → PrintsFront lines a b before → SendsFront a b (text_of lines)
-front_out a b lines before none failed = subst (λ (t : List ℕ). SendsFront a b (t ++ text_of lines)) none failed

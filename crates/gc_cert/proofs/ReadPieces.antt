@@ -13,11 +13,11 @@ use Rattle.gc_cert.specs.Grammar.{CertifiedPair, HasText, lines_of}
 use Rattle.gc_cert.specs.Internal.Sections.{Section, Spelled, MayStop}
 use Rattle.gc_cert.specs.Sections.{Place, HasTaken, start}
 use Rattle.gc_cert.specs.declared.fault.PairFault.{PairFault}
-use Rattle.gc_cert.specs.declared.fault.PairFault.TheVariants.{Read, TooLarge, BadLine, EndsEarly, NoMemory}
+use Rattle.gc_cert.specs.declared.fault.PairFault.TheVariants.{Read, TooLarge, NoMemory}
 use Rattle.gc_cert.specs.declared.pair_reader.PairReader.{PairReader}
 use Rattle.gc_graph.proofs.Public.{within_all, ends_there}
 use Rattle.gc_cert.proofs.Parts.{TextSection}
-use Rattle.gc_cert.proofs.Stops.{Delimits, BeginsWith, stop_within}
+use Rattle.gc_cert.proofs.Stops.{Delimits, BeginsWith, wrong_within, cut_within}
 use Rattle.gc_cert.proofs.Total.{stopped, went_on}
 
 -- ---- faults of reading
@@ -84,11 +84,7 @@ place_ends_there text p r left next new h at ended same = grind (arith, common_s
 
 pub end_within : {V : Type 0} (InRange : V → Type 0) (lines_of : V → List (List ℕ)) (S : Section) (done : List (List ℕ)) (text : List ℕ) (old mid : Place) (fault : PairFault) (left : Option (List ℕ)) → Delimits InRange lines_of → BeginsWith InRange lines_of (λ lines. S (done ++ lines)) → HasTaken done old mid
     → MayEnd (Spelled InRange lines_of) fault text mid left → MayEnd S fault text old left
-end_within InRange lines_of S done text old mid Read left one with taken w = w
-end_within InRange lines_of S done text old mid TooLarge left one with taken w = w
-end_within InRange lines_of S done text old mid (BadLine n) left one with taken w = (stop_within InRange lines_of S done old mid (BadLine n) one with taken w.0, w.1)
-end_within InRange lines_of S done text old mid EndsEarly left one with taken w = (stop_within InRange lines_of S done old mid EndsEarly one with taken w.0, w.1)
-end_within InRange lines_of S done text old mid NoMemory left one with taken w = w
+end_within InRange lines_of S done text old mid fault left one with taken w = grind (arith, common_steps, wrong_within, cut_within)
 
 -- the first fault of a text that ended
 pub ended_text : (text : List ℕ) (fault : PairFault) (left : Option (List ℕ)) → MayEnd TextSection fault text (start text) left → MayFailHaving fault text left

@@ -1,6 +1,6 @@
 -- The worked rows.
 use Rattle.std.proofs.lemmas.Grind.{common_steps}
-use Rattle.std.proofs.Common.{◌≡◌, ◌≢◌, ℕ, ◌≤◌, Bool, true, false, leb, List, [], ◌∷◌, ◌++◌, length, map, refl, sym, ap, ◌∙◌, arith, inl, inr}
+use Rattle.std.proofs.Common.{◌≡◌, ◌≢◌, ℕ, ◌≤◌, true, false, leb, List, [], ◌∷◌, ◌++◌, length, map, refl, sym, ap, ◌∙◌, arith, inl, inr}
 use Rattle.std.specs.Prelude.{codes}
 use Rattle.std.specs.Fmt.{digits}
 use Rattle.std.proofs.lemmas.Bool.{leb-true}
@@ -66,13 +66,9 @@ only_end l other (g, rest, fits', is) =
     let last = head_of (count_line (codes "pairs") (length g.pairs)) (codes "pairs 0") (map pair_line g.pairs ++ codes "end" ∷ []) (l ∷ rest) (sym (certificate_more g.pairs []) ∙ new.1) in
     other (no_pairs g.pairs l rest (count_same (codes "pairs") (length g.pairs) 0 (omega (arith, fits'.pairs)) (omega arith) last.0) last.1)
 
-no_third : (raws : Bool) → heading raws ≢ codes "heappair 3"
-no_third raws e = grind (arith, common_steps)
-
 two_versions : ¬ AreFirst (codes "heappair 3" ∷ [])
 unfolding lines_of
-two_versions (g, rest, fits', is) =
-    no_third g.old.raws (head_of (heading g.old.raws) (codes "heappair 3") (image_lines (codes "old") g.old (image_lines (codes "new") g.new (certificate_lines g.pairs))) rest is).0
+two_versions h = grind (arith, common_steps, head_of)
 
 pub rows : Rows
 unfolding digits lines_of spelling

@@ -1,6 +1,6 @@
 -- Lines of pair texts: none contains a line feed, and of two texts neither is a prefix of the other.
 use Rattle.std.proofs.lemmas.Grind.{common_steps}
-use Rattle.std.proofs.Common.{◌≡◌, ℕ, ◌≤◌, Bool, true, List, [], ◌∷◌, ◌++◌, length, map, refl, sym, ap, ◌∙◌, arith, append_assoc}
+use Rattle.std.proofs.Common.{◌≡◌, ℕ, ◌≤◌, Bool, List, [], ◌∷◌, ◌++◌, length, map, refl, sym, ap, ◌∙◌, arith, append_assoc}
 use Rattle.std.specs.Prelude.{codes}
 use Rattle.std.specs.Fmt.{decimal}
 use Rattle.std.specs.List.{AllByRecursion}
@@ -9,7 +9,7 @@ use Rattle.std.proofs.lemmas.Fmt.{decimal_injective}
 use Rattle.gc_graph.specs.Lines.{HasNo, space, newline}
 use Rattle.gc_words.specs.Image.{Image}
 use Rattle.gc_cert.specs.Grammar.{CertifiedPair, heading, pair_line, count_line, image_lines, certificate_lines, lines_of, IsWord, AreAddresses, HasImageText, HasText}
-use Rattle.gc_graph.proofs.Public.{HasNo-decimal, HasNo-lacks, HasNo-joined, lacks, one_cut}
+use Rattle.gc_graph.proofs.Public.{HasNo-decimal, HasNo-lacks, HasNo-joined, one_cut}
 
 abbrev pub AreLines : List (List ℕ) → Type 0
 AreLines lines = AllByRecursion (HasNo newline) lines
@@ -29,42 +29,23 @@ All-map P f each (x ∷ xs) h = (each x h.0, All-map P f each xs h.1)
 decimal_line : (n : ℕ) → IsWord n → HasNo newline (decimal n)
 decimal_line n small = HasNo-decimal newline n (omega arith) small
 
-two_line : (a b : List ℕ) → HasNo newline a → HasNo newline b → HasNo newline (a ++ space ∷ b)
-two_line a b p q = HasNo-joined (a ∷ b ∷ []) (p, (q, tt))
-
-image_are_lines : (name : List ℕ) (image : Image) (more : List (List ℕ)) → lacks newline name ≡ true → HasImageText image → AreLines more → AreLines (image_lines name image more)
-image_are_lines name image more e fits h = (
-  two_line name (decimal image.size ++ space ∷ decimal image.end) (HasNo-lacks newline name e) (two_line (decimal image.size) (decimal image.end) (decimal_line image.size (omega (arith, fits.sizes))) (decimal_line image.end (omega (arith, fits.sizes)))),
-  All-append (map decimal image.words) (count_line (codes "roots") (length image.roots) ∷ (map decimal image.roots ++ more)) (All-map IsWord decimal decimal_line image.words fits.words) (
-    two_line (codes "roots") (decimal (length image.roots)) (HasNo-lacks newline (codes "roots") refl) (decimal_line (length image.roots) (omega (arith, fits.roots))),
-    All-append (map decimal image.roots) more (All-map IsWord decimal decimal_line image.roots fits.root_words) h,
-  ),
-)
-
 certificate_are_lines : (pairs : List (ℕ × ℕ)) → length pairs ≤ 524287 → AllByRecursion AreAddresses pairs → AreLines (certificate_lines pairs)
-certificate_are_lines pairs le h = grind (arith, common_steps, two_line, decimal_line, All-append, All-map)
+certificate_are_lines pairs le h = grind (arith, common_steps, decimal_line, All-append, All-map, HasNo-joined)
 
 heading_line : (raws : Bool) → HasNo newline (heading raws)
 heading_line raws = grind (arith, common_steps)
 
 pub are_lines : (f : CertifiedPair) → HasText f → AreLines (lines_of f)
 unfolding lines_of
-are_lines f fits = (
-  heading_line f.old.raws,
-  image_are_lines (codes "old") f.old (image_lines (codes "new") f.new (certificate_lines f.pairs)) refl fits.old
-      (image_are_lines (codes "new") f.new (certificate_lines f.pairs) refl fits.new (certificate_are_lines f.pairs fits.pairs.0 fits.pairs.1)),
-)
+are_lines f fits = grind (arith, common_steps, heading_line, certificate_are_lines, HasNo-lacks, decimal_line, All-append, All-map, HasNo-joined)
 
 -- ---- what follows from equal lines
 
 pub head_of : (x y : List ℕ) (xs ys : List (List ℕ)) → x ∷ xs ≡ y ∷ ys → (x ≡ y) × (xs ≡ ys)
 head_of x y xs ys e = (cc, cc)
 
-pub number_head : (x y : ℕ) (xs ys : List ℕ) → x ∷ xs ≡ y ∷ ys → xs ≡ ys
-number_head x y xs ys e = cc
-
 pub count_same : (name : List ℕ) (m n : ℕ) → IsWord m → IsWord n → count_line name m ≡ count_line name n → m ≡ n
-count_same name m n p q e = decimal_injective m n p q (number_head space space (decimal m) (decimal n) (append_cancel_left name (space ∷ decimal m) (space ∷ decimal n) e))
+count_same name m n p q e = grind (arith, common_steps, decimal_injective, append_cancel_left)
 
 pub two_same : (a b c d : ℕ) → IsWord a → IsWord b → IsWord c → IsWord d → decimal a ++ space ∷ decimal b ≡ decimal c ++ space ∷ decimal d → (a ≡ c) × (b ≡ d)
 two_same a b c d pa pb pc pd e =
@@ -83,7 +64,7 @@ same_lines P f one (x ∷ xs) (y ∷ ys) a b p q len e =
     (rw (one x y p.0 q.0 h.0, rest.0) refl, rest.1)
 
 pub image_same : (name : List ℕ) (a b : Image) (x y : List (List ℕ)) → HasImageText a → HasImageText b → a.raws ≡ b.raws → image_lines name a x ≡ image_lines name b y → (a ≡ b) × (x ≡ y)
-image_same name a b x y p q flags e = grind (arith, common_steps, head_of, two_same, number_head, append_cancel_left, same_lines, decimal_injective, count_same)
+image_same name a b x y p q flags e = grind (arith, common_steps, head_of, two_same, append_cancel_left, same_lines, decimal_injective, count_same)
 
 pair_same : (p q : ℕ × ℕ) → AreAddresses p → AreAddresses q → pair_line p ≡ pair_line q → p ≡ q
 pair_same p q h k e = grind (arith, common_steps, two_same)
@@ -94,8 +75,7 @@ certificate_more pairs x = ap (λ (l : List (List ℕ)). count_line (codes "pair
 pub certificate_same : (a b : List (ℕ × ℕ)) (x y : List (List ℕ)) → length a ≤ 524287 → length b ≤ 524287 → AllByRecursion AreAddresses a → AllByRecursion AreAddresses b → certificate_lines a ++ x ≡ certificate_lines b ++ y → (a ≡ b) × (x ≡ y)
 certificate_same a b x y la lb pa pb e =
     let first = head_of (count_line (codes "pairs") (length a)) (count_line (codes "pairs") (length b)) (map pair_line a ++ codes "end" ∷ x) (map pair_line b ++ codes "end" ∷ y) (sym (certificate_more a x) ∙ e ∙ certificate_more b y) in
-    let count = count_same (codes "pairs") (length a) (length b) (omega (arith, la)) (omega (arith, lb)) first.0 in
-    let rest = same_lines AreAddresses pair_line pair_same a b (codes "end" ∷ x) (codes "end" ∷ y) pa pb count first.1 in
+    let rest = same_lines AreAddresses pair_line pair_same a b (codes "end" ∷ x) (codes "end" ∷ y) pa pb (count_same (codes "pairs") (length a) (length b) (omega (arith, la)) (omega (arith, lb)) first.0) first.1 in
     (rest.0, (head_of (codes "end") (codes "end") x y rest.1).1)
 
 pub image_more : (name : List ℕ) (image : Image) (more x : List (List ℕ)) → image_lines name image more ++ x ≡ image_lines name image (more ++ x)
@@ -103,9 +83,7 @@ image_more name image more x = grind (arith, common_steps)
 
 pub lines_more : (f : CertifiedPair) (x : List (List ℕ)) → lines_of f ++ x ≡ heading f.old.raws ∷ image_lines (codes "old") f.old (image_lines (codes "new") f.new (certificate_lines f.pairs ++ x))
 unfolding lines_of
-lines_more f x =
-    ap (λ (l : List (List ℕ)). heading f.old.raws ∷ l) (image_more (codes "old") f.old (image_lines (codes "new") f.new (certificate_lines f.pairs)) x
-    ∙ ap (image_lines (codes "old") f.old) (image_more (codes "new") f.new (certificate_lines f.pairs) x))
+lines_more f x = grind (arith, common_steps, image_more)
 
 pub heading_same : (raws other : Bool) → heading raws ≡ heading other → raws ≡ other
 heading_same raws other e = grind (arith, common_steps)

@@ -4,9 +4,8 @@ use Rattle.std.proofs.Common.{◌≡◌, ℕ, List, [], ◌∷◌, ◌++◌, ref
 use Rattle.std.proofs.lemmas.List.{append-nil}
 use Rattle.std.proofs.lemmas.List.Concat.{flat_map-append}
 use Rattle.gc_graph.specs.Lines.{newline, ended, text_of}
-use Rattle.gc_cert.specs.declared.fault.PairFault.{PairFault}
 use Rattle.gc_cert.specs.Sections.{Place, HasTaken}
-use Rattle.gc_cert.specs.Internal.Sections.{Section, Spelled, Begins, IsWrongAt, IsCutIn, MayStop}
+use Rattle.gc_cert.specs.Internal.Sections.{Section, Spelled, Begins, IsWrongAt, IsCutIn}
 
 -- the lines of one value begin those of no other
 abbrev pub Delimits : {V : Type 0} → (V → Type 0) → (V → List (List ℕ)) → Type 0
@@ -26,13 +25,7 @@ Lines = List (List ℕ)
 fronts : (xs ys a b : Lines) → xs ++ a ≡ ys ++ b → ((k : Lines) × (ys ≡ xs ++ k) × (a ≡ k ++ b)) ⊎ ((k : Lines) × (xs ≡ ys ++ k) × (b ≡ k ++ a))
 fronts [] ys a b e = inl (ys, refl, e)
 fronts (x ∷ xs) [] a b e = inr (x ∷ xs, refl, sym e)
-fronts (x ∷ xs) (y ∷ ys) a b e =
-    let head : x ≡ y = cc in
-    let tails : xs ++ a ≡ ys ++ b = cc in
-    elim (fronts xs ys a b tails) [
-      | inl f ↦ inl (f.0, (let t = f.1 in cc), f.2)
-      | inr f ↦ inr (f.0, (let t = f.1 in cc), f.2)
-    ]
+fronts (x ∷ xs) (y ∷ ys) a b e = grind (arith, common_steps, fronts xs ys a b)
 
 no_more : (x more : Lines) → [] ≡ x ++ more → x ≡ []
 no_more [] more e = refl
@@ -61,9 +54,7 @@ wrong_first {V} InRange lines_of S before line one with (more, (v, p, is)) none 
   where
     at : (w : V) (x : Lines) → InRange w → ((k : Lines) × (lines_of w ≡ before ++ k) × (line ∷ rest ≡ k ++ x)) ⊎ ((k : Lines) × (before ≡ lines_of w ++ k) × (x ≡ k ++ line ∷ rest)) → ⊥
     at w x q (inl ([], e, h)) = none (w, q, sym (e ∙ append-nil before))
-    at w x q (inl (l ∷ k, e, h)) =
-        let same : l ≡ line = cc in
-        never (k, (w, q, append_assoc before (line ∷ []) k ∙ ap (λ (m : List ℕ). before ++ m ∷ k) (sym same) ∙ sym e))
+    at w x q (inl (l ∷ k, e, h)) = never (k, (w, q, append_assoc before (line ∷ []) k ∙ ap (λ (m : List ℕ). before ++ m ∷ k) (sym cc) ∙ sym e))
     at w x q (inr (k, e, h)) = none (open_front InRange lines_of before more v w k one p is q e)
 
 -- ---- from the rest of a section to the whole section
@@ -105,8 +96,3 @@ cut_within InRange lines_of S done old mid one with taken w = record {
   good = begins_after S done w.before (begins_first InRange lines_of (λ lines. S (done ++ lines)) w.before with w.good);
   not_all = open_first InRange lines_of (λ lines. S (done ++ lines)) w.before one with w.good w.not_all;
 }
-
--- what stops the rest of a section stops the whole section
-pub stop_within : {V : Type 0} (InRange : V → Type 0) (lines_of : V → Lines) (S : Section) (done : Lines) (old mid : Place) (fault : PairFault) → Delimits InRange lines_of → BeginsWith InRange lines_of (λ lines. S (done ++ lines)) → HasTaken done old mid
-    → MayStop (Spelled InRange lines_of) fault mid → MayStop S fault old
-stop_within InRange lines_of S done old mid fault one with taken w = grind (arith, common_steps, wrong_within, cut_within)

@@ -6,7 +6,7 @@ use Rattle.std.specs.Fmt.{decimal}
 use Rattle.std.specs.List.{AllByRecursion}
 use Rattle.std.proofs.lemmas.List.Concat.{flat_map-cons, flat_map-append}
 use Rattle.std.proofs.lemmas.Fmt.{length-decimal-le}
-use Rattle.gc_graph.specs.Lines.{space, newline, ended, text_of}
+use Rattle.gc_graph.specs.Lines.{newline, ended, text_of}
 use Rattle.gc_words.specs.Image.{Image}
 use Rattle.gc_cert.specs.Grammar.{CertifiedPair, heading, pair_line, count_line, size_line, image_lines, certificate_lines, lines_of, spelling, IsWord, AreAddresses, HasImageText, HasText}
 use Rattle.gc_cert.specs.Faults.{limit, IsReadAsPair}
@@ -36,21 +36,17 @@ word_length n small = length-decimal-le 20 n (omega arith) (omega arith) (omega 
 address_length : (n : ℕ) → n < 2 ^ 32 → length (decimal n) ≤ 10
 address_length n small = length-decimal-le 10 n (omega arith) (omega arith) (omega arith)
 
-two_length : (a b : List ℕ) → length (a ++ space ∷ b) ≡ length a + 1 + length b
-two_length a b = omega (arith, length-append a (space ∷ b))
-
 count_length : (name : List ℕ) (n : ℕ) → length name ≤ 5 → n < 2 ^ 64 → length (count_line name n) ≤ 26
-count_length name n short small = omega (arith, two_length name (decimal n), word_length n small)
+count_length name n short small = grind (arith, common_steps, word_length, length-append)
 
 size_length : (name : List ℕ) (image : Image) → length name ≤ 5 → HasImageText image → length (size_line name image.size image.end) ≤ 47
-size_length name image short fits = grind (arith, common_steps, two_length, word_length)
+size_length name image short fits = grind (arith, common_steps, word_length, length-append)
 
 pair_length : (p : ℕ × ℕ) → AreAddresses p → length (pair_line p) ≤ 21
-pair_length p small = omega (arith, two_length (decimal p.0) (decimal p.1), address_length p.0 small.0, address_length p.1 small.1)
+pair_length p small = grind (arith, common_steps, address_length, length-append)
 
 image_bytes : (name : List ℕ) (image : Image) (more : List (List ℕ)) → length name ≤ 5 → HasImageText image → bytes (image_lines name image more) ≤ 22030000 + bytes more
 image_bytes name image more short fits =
-    let words = bytes_map (λ w. IsWord w) decimal 20 word_length image.words fits.words in
     let roots = bytes_map (λ w. IsWord w) decimal 20 word_length image.roots fits.root_words in
     let after = count_line (codes "roots") (length image.roots) ∷ (map decimal image.roots ++ more) in
     omega (
@@ -58,7 +54,7 @@ image_bytes name image more short fits =
       bytes_cons (size_line name image.size image.end) (map decimal image.words ++ after),
       size_length name image short fits,
       bytes_append (map decimal image.words) after,
-      words,
+      (bytes_map (λ w. IsWord w) decimal 20 word_length image.words fits.words),
       fits.count,
       fits.sizes,
       bytes_cons (count_line (codes "roots") (length image.roots)) (map decimal image.roots ++ more),

@@ -1,6 +1,6 @@
 -- Each text has a reading: it is a pair of images, or it has a first fault.
 use Rattle.std.proofs.lemmas.Grind.{common_steps}
-use Rattle.std.proofs.Common.{◌≡◌, ◌≢◌, ℕ, suc, zero, ◌+◌, ◌≤◌, Bool, true, false, leb, List, [], ◌∷◌, ◌++◌, length, map, refl, sym, ap, ◌∙◌, arith, subst, inl, inr, ◌⊎◌, length-append, Option, Some, None}
+use Rattle.std.proofs.Common.{◌≡◌, ◌≢◌, ℕ, suc, zero, ◌+◌, ◌≤◌, Bool, true, leb, List, [], ◌∷◌, ◌++◌, length, map, refl, sym, ap, ◌∙◌, arith, subst, inl, inr, ◌⊎◌, length-append, Option, Some, None}
 use Rattle.std.specs.Prelude.{codes}
 use Rattle.std.specs.Fmt.{decimal}
 use Rattle.std.specs.List.{AllByRecursion}
@@ -10,12 +10,12 @@ use Rattle.gc_graph.specs.Lines.{text_of, tokens_of}
 use Rattle.gc_graph.proofs.Public.{Cut, cut, all_push}
 use Rattle.gc_cert.specs.Grammar.{CertifiedPair, heading, pair_line, count_line, size_line, certificate_lines, lines_of, spelling, IsWord, AreAddresses, AreSizes, IsCertificate, HasText, IsTextOf}
 use Rattle.gc_cert.specs.Internal.Grammar.{image_alone, IsImageBy}
-use Rattle.gc_cert.specs.Faults.{limit, AreFirst, AreWhole, HasWrongLine, HasByteBehind, IsCutOff, IsPairFaultOf, IsReadAsPair, MayFail}
+use Rattle.gc_cert.specs.Faults.{limit, AreFirst, HasWrongLine, HasByteBehind, IsCutOff, IsPairFaultOf, IsReadAsPair, MayFail}
 use Rattle.gc_cert.specs.Sections.{Place, start, IsNext, HasTaken}
 use Rattle.gc_cert.specs.Internal.Sections.{Nothing, AnyFlag, alone, AreAll, Section, Spelled, Begins, IsWrongAt, IsCutIn, MayStop}
 use Rattle.gc_cert.specs.Internal.Parsers.{count_of, sizes_of, pair_of, is_name, is_line, raws_in, word_in}
 use Rattle.gc_cert.specs.declared.fault.PairFault.{PairFault}
-use Rattle.gc_cert.specs.declared.fault.PairFault.TheVariants.{TooLarge, BadLine, EndsEarly}
+use Rattle.gc_cert.specs.declared.fault.PairFault.TheVariants.{BadLine, EndsEarly}
 use Rattle.gc_cert.proofs.Stops.{Delimits, BeginsWith, taken_then, wrong_within, cut_within}
 use Rattle.gc_cert.proofs.Forms.{IsForm, alone_delimits, all_delimit, line_wrong, line_cut, line_taken, begins_with_one, push_taken}
 use Rattle.gc_cert.proofs.LineForms.{fixed_form, heading_form, word_form, count_form, size_form, pair_form}
@@ -104,24 +104,14 @@ text_outcome p =
 
 -- ---- faults of a text
 
-first_lines : (lines : List (List ℕ)) → Begins TextSection lines → AreFirst lines
-first_lines lines (more, (f, fits, e)) = (f, more, fits, sym e)
-
 begins_text : (lines : List (List ℕ)) → AreFirst lines → Begins TextSection lines
 begins_text lines (f, more, fits, e) = (more, (f, fits, sym e))
 
-all_lines : (lines : List (List ℕ)) → AreWhole lines → TextSection lines
-all_lines lines (f, fits, e) = (f, fits, sym e)
-
 wrong_line : (text : List ℕ) (n : ℕ) → IsWrongAt TextSection (start text) n → HasWrongLine text n
-wrong_line text n w = grind (arith, common_steps, first_lines, begins_text)
+wrong_line text n w = grind (arith, common_steps, begins_text)
 
 cut_off : (text : List ℕ) → IsCutIn TextSection (start text) → IsCutOff text
-cut_off text w = grind (arith, common_steps, first_lines, all_lines)
-
--- the fault that stopped a reading is the text's first fault, or `NoMemory`
-stop_of_text : (text : List ℕ) (fault : PairFault) → length text ≤ limit → MayStop TextSection fault (start text) → MayFail fault text
-stop_of_text text fault le stop = grind (arith, common_steps, wrong_line, cut_off)
+cut_off text w = grind (arith, common_steps)
 
 -- all of the text was taken
 whole_text : (f : CertifiedPair) (text : List ℕ) (after : Place) → HasText f → HasTaken (lines_of f) (start text) after → after.rest ≡ [] → IsTextOf f text
@@ -135,7 +125,7 @@ byte_behind f text after byte bytes fits taken some = grind (arith, common_steps
 -- ---- the same for a reader that began at the start
 
 pub stopped : (text : List ℕ) (p : Place) (fault : PairFault) → p ≡ start text → length text ≤ limit → MayStop TextSection fault p → MayFail fault text
-stopped text p fault began le stop = stop_of_text text fault le (subst (MayStop TextSection fault) began stop)
+stopped text p fault began le stop = grind (arith, common_steps, wrong_line, cut_off)
 
 pub went_through : (f : CertifiedPair) (text : List ℕ) (p after : Place) → p ≡ start text → HasText f × HasTaken (lines_of f) p after → after.rest ≡ [] → IsTextOf f text
 went_through f text p after began taken none = whole_text f text after taken.0 (subst (λ (q : Place). HasTaken (lines_of f) q after) began taken.1) none
@@ -165,5 +155,4 @@ pub each_is_answered : (text : List ℕ) → Answered text
 each_is_answered text = at (leb (length text) limit) refl
   where
     at : (b : Bool) → leb (length text) limit ≡ b → Answered text
-    at true e = (let le : length text ≤ limit = leb-true (length text) limit e in answered text le (text_outcome (start text)))
-    at false e = inr (TooLarge, grind (arith, e))
+    at b e = grind (arith, common_steps, leb-true, answered, text_outcome)

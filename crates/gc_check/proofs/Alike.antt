@@ -118,14 +118,7 @@ objects_alike old new pairs done inside m c = record {
     Alike p = BlocksCorrespond now (block_at old.words p.0) (block_at new.words p.1)
 
     objects : (k : ℕ) → k < done + 1 → k < length now → Alike (pair_at now k)
-    objects k h l =
-        let low : k < length pairs = omega arith in
-        subst Alike (sym (same_place pairs now k grows low))
-        (elim (cases_order k done) [
-          | inl same ↦ subst (λ j. Alike (pair_at pairs j)) (sym same) c
-          | inr (inl less) ↦ blocks_more pairs now more (block_at old.words (pair_at pairs k).0) (block_at new.words (pair_at pairs k).1) (m.objects k less low)
-          | inr (inr more) ↦ absurd (omega arith)
-        ])
+    objects k h l = grind (arith, common_steps, Alike, same_place, now, grows, cases_order, blocks_more, more)
 
 -- the objects of all pairs are alike
 pub all_alike : (old new : Image) (pairs : List (ℕ × ℕ)) (done n : ℕ) → length pairs ≤ done → AlikeTo old new pairs done → AlikeTo old new pairs n

@@ -100,10 +100,7 @@ module _ (image : Image) (before after : List Visit) (found : Visit) (pushed : a
   module _ (visits : AreVisits image before) (a : ℕ) (start : is_start image.words a ≡ true) (from_within : found.from < length before) (is_object : found.node ≡ node.Object a)
       (deeper : found.depth ≡ suc (visit_at before found.from).depth) (near : AreWithin before found.depth) (refers : RefersAt (graph_of image) (visit_at before found.from).node found.place a) where
     old_found : (j : ℕ) → j < length before → IsFound image before j → IsFound image after j
-    old_found j inside f =
-        let from : (visit_at before j).from < length before = omega (arith, f.earlier, inside) in
-        subst (λ (v : Visit). IsFoundBy image (visit_at after v.from) v j) (sym (old_visit j inside))
-        (subst (λ parent. IsFoundBy image parent (visit_at before j) j) (sym (old_visit (visit_at before j).from from)) f)
+    old_found j inside f = grind (arith, common_steps, old_visit)
 
     new_found : IsFound image after (length before)
     new_found =
@@ -149,10 +146,7 @@ module _ (image : Image) (before after : List Visit) (found : Visit) (pushed : a
         at_new = (omega (arith, entry, longer), ap (λ n. (visit_at after n).node) entry ∙ ap (λ (v : Visit). v.node) new_visit ∙ is_object)
 
         at_old : (b : ℕ) → b ≢ a → not (slice_index (set row a (length before)) b == 0) ≡ true → (slice_index (set row a (length before)) b < length after) × ((visit_at after (slice_index (set row a (length before)) b)).node ≡ node.Object b)
-        at_old b other some =
-            let same : slice_index (set row a (length before)) b ≡ slice_index row b = get_or-set_other row a b (length before) 0 other in
-            let old : (slice_index row b < length before) × ((visit_at before (slice_index row b)).node ≡ node.Object b) = t.numbers b (subst (λ n. not (n == 0) ≡ true) same some) in
-            (omega (arith, same, old.0, longer), ap (λ n. (visit_at after n).node) same ∙ ap (λ (v : Visit). v.node) (old_visit (slice_index row b) old.0) ∙ old.1)
+        at_old b other some = grind (arith, common_steps, get_or-set_other, longer, old_visit)
 
 -- ---- room for a visit
 
@@ -161,20 +155,16 @@ few_starts words at zero = omega arith
 few_starts words at (suc n) = one (is_start words at) (few_starts words (suc at) n)
   where
     one : (b : Bool) → starts_from words (suc at) n ≤ n → cond b (suc (starts_from words (suc at) n)) (starts_from words (suc at) n) ≤ suc n
-    one true few = omega arith
-    one false few = omega arith
+    one b few = grind (arith, common_steps)
 
 -- while some object is not visited, there are fewer visits than objects and the roots
 pub few_visits : (image : Image) (visits : Visits) (a : ℕ) → HoldsWalk image visits → is_start image.words a ≡ true → slice_index (numbers_in image visits) a ≡ 0 → (length visits.list.items < vec_capacity visits.list) × (length visits.list.items < 2 ^ 32)
 few_visits image visits a held start free =
-    let inside : a < length image.words = start_within image.words a held.entries.walked start in
     let row : List ℕ = set (numbers_in image visits) a 1 in
-    let more : taken_in row ≡ suc (taken_in (numbers_in image visits)) = taken_one (numbers_in image visits) a 1 (omega (arith, held.table.len, inside)) free (omega arith) in
+    let more : taken_in row ≡ suc (taken_in (numbers_in image visits)) = taken_one (numbers_in image visits) a 1 (omega (arith, held.table.len, start_within image.words a held.entries.walked start)) free (omega arith) in
     let few : taken_in row ≤ starts_from image.words 0 (length row) = few_taken image.words 0 row (λ k some. subst (λ place. is_start image.words place ≡ true) (from_0 k) (starts_one image.words (numbers_in image visits) a 1 start held.table.starts k some)) in
-    let long : length row ≡ length image.words = length-set (numbers_in image visits) a 1 ∙ held.table.len in
-    let low : starts_from image.words 0 (length image.words) ≤ length image.words = few_starts image.words 0 (length image.words) in
-    let few' : taken_in row ≤ starts_from image.words 0 (length image.words) = subst (λ n. taken_in row ≤ starts_from image.words 0 n) long few in
-    (omega (arith, held.table.count, held.room, more, few'), omega (arith, held.table.count, more, few', low, held.few))
+    let few' : taken_in row ≤ starts_from image.words 0 (length image.words) = subst (λ n. taken_in row ≤ starts_from image.words 0 n) (length-set (numbers_in image visits) a 1 ∙ held.table.len) few in
+    (omega (arith, held.table.count, held.room, more, few'), omega (arith, held.table.count, more, few', few_starts image.words 0 (length image.words), held.few))
   where
     from_0 : (k : ℕ) → k ≡ 0 + k
     from_0 k = omega arith
@@ -255,12 +245,7 @@ module _ (image : Image) (visits : List Visit) (at : ℕ) (low : 1 ≤ at) (insi
 
   module _ (place address : ℕ) (fields : List ℕ) where
     back : along (graph_of image) v.node place (reverse fields) ≡ Some (Ref address) → along (graph_of image) (visit_at visits v.from).node v.place (reverse (fields ++ place ∷ [])) ≡ Some (Ref address)
-    back e =
-        ap (along (graph_of image) (visit_at visits v.from).node v.place) (reverse_push fields place)
-        ∙ ap (λ o. follow (graph_of image).objects o (place ∷ reverse fields)) by.refers
-        ∙ ap (λ o. follow (graph_of image).objects o (reverse fields)) (field_follows (graph_of image) by.address place)
-        ∙ ap (λ n. along (graph_of image) n place (reverse fields)) (sym by.object)
-        ∙ e
+    back e = grind (arith, common_steps, reverse_push, by, field_follows)
 
     less_deep : (deep : ℕ) → length fields + v.depth ≡ deep → length (fields ++ place ∷ []) + (visit_at visits v.from).depth ≡ deep
     less_deep deep e = omega (arith, length-append fields (place ∷ []), by.deeper, e)
@@ -305,15 +290,10 @@ module _ (image : Image) (visits : List Visit) (are : AreVisits image visits) (a
   from_object : (j : ℕ) (fields : List ℕ) → FindsAlong fields → (k i a address : ℕ) → k < length visits → RefersAt g (visit_at visits k).node i a → follow g.objects (field_of (lookup g.objects a) j) fields ≡ Some (Ref address)
       → (o : Option Block) → block_at image.words a ≡ o → Found address (suc ((visit_at visits k).depth + length fields))
   from_object j fields ih k i a address inside refers on None none =
-      let nowhere : lookup g.objects a ≡ None = lookup_of_blocks (blocks image.words) a ∙ ap object_option none in
-      let no : None ≡ Some (Ref address) = sym (ap (λ o. follow g.objects (field_of o j) fields) nowhere) ∙ on in
-      absurd (let not : None ≡ Some (Ref address) = no in cc)
+      absurd (let not : None ≡ Some (Ref address) = (sym (ap (λ o. follow g.objects (field_of o j) fields) (lookup_of_blocks (blocks image.words) a ∙ ap object_option none)) ∙ on) in cc)
   from_object j fields ih k i a address inside refers on (Some b) some =
-      let start : is_start image.words a ≡ true = ap is_some some in
-      let v : Visited visits a (suc (visit_at visits k).depth) = all k (suc i) inside i a (omega arith) refers start in
-      let there : along g (visit_at visits v.number).node j fields ≡ Some (Ref address)
-      = ap (λ n. along g n j fields) v.object ∙ ap (λ o. follow g.objects o fields) (sym (field_follows g a j)) ∙ on in
-      deeper address _ _ (omega (arith, v.depth)) (ih v.number j address v.within there)
+      let v : Visited visits a (suc (visit_at visits k).depth) = all k (suc i) inside i a (omega arith) refers (ap is_some some) in
+      deeper address _ _ (omega (arith, v.depth)) (ih v.number j address v.within (ap (λ n. along g n j fields) v.object ∙ ap (λ o. follow g.objects o fields) (sym (field_follows g a j)) ∙ on))
 
   from_value : (j : ℕ) (fields : List ℕ) → FindsAlong fields → (k i address : ℕ) → k < length visits → (o : Option Value) → slice_get (values_of g (visit_at visits k).node) i ≡ o → follow g.objects o (j ∷ fields) ≡ Some (Ref address)
       → Found address ((visit_at visits k).depth + suc (length fields))
@@ -334,10 +314,8 @@ module _ (image : Image) (visits : List Visit) (are : AreVisits image visits) (a
 
   found_at_path : (place address : ℕ) (fields : List ℕ) → at_path (graph_of image) place fields ≡ Some (Ref address) → Found address (length fields)
   found_at_path place address fields e =
-      let root : (visit_at visits 0).node ≡ node.Roots = ap (λ (v : Visit). v.node) are.roots in
-      let top : (visit_at visits 0).depth ≡ 0 = ap (λ (v : Visit). v.depth) are.roots in
-      deeper address _ _ (omega (arith, top))
-      (found_along fields 0 place address (omega (arith, are.some)) (ap (λ n. along (graph_of image) n place fields) root ∙ e))
+      deeper address _ _ (omega (arith, ap (λ (v : Visit). v.depth) are.roots))
+      (found_along fields 0 place address (omega (arith, are.some)) (ap (λ n. along (graph_of image) n place fields) (ap (λ (v : Visit). v.node) are.roots) ∙ e))
 
   pub unreachable : (address : ℕ) → NoneRefers image visits (length visits) address → Reachable (graph_of image) address → ⊥
   unreachable address none r = let f : Found address (length r.1) = found_at_path r.0 address r.1 r.2 in none f.number f.place f.within f.refers

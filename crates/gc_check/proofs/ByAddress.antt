@@ -1,6 +1,6 @@
 -- A number for each object, by half the address at which it starts, is a row by address.
 use Rattle.std.proofs.lemmas.Grind.{common_steps}
-use Rattle.std.proofs.Common.{◌≡◌, ℕ, zero, suc, ◌+◌, ◌/◌, ◌<◌, ◌≤◌, Bool, true, false, cond, ◌==◌, List, [], ◌∷◌, length, set, replicate, Some, is_some, refl, sym, ◌∙◌, ap, subst, inl, inr, arith, length-set, get_or-set_same, get_or-set_other}
+use Rattle.std.proofs.Common.{◌≡◌, ℕ, zero, suc, ◌+◌, ◌/◌, ◌<◌, ◌≤◌, Bool, true, false, cond, ◌==◌, List, [], ◌∷◌, length, set, replicate, Some, is_some, sym, ◌∙◌, ap, subst, inl, inr, arith, length-set, get_or-set_same, get_or-set_other}
 use Rattle.std.specs.Prelude.{slice_index, not, IsOk}
 use Rattle.std.specs.List.{AllByRecursion}
 use Rattle.std.proofs.lemmas.Bool.{ne_eqb, cases_eq, cases_lt, cases_order}
@@ -90,8 +90,7 @@ zeros_by_address words entries n e =
     (λ place h. inside_is words entries place (omega (arith, length_by_address words entries)) ∙ zero_entry place (is_start words place) ∙ sym (nothing_at (length words) place))
   where
     zero_entry : (place : ℕ) (b : Bool) → cond b (slice_index entries (place / 2)) 0 ≡ 0
-    zero_entry place true = ap (λ entries. slice_index entries (place / 2)) e ∙ nothing_at n (place / 2)
-    zero_entry place false = refl
+    zero_entry place b = grind (arith, common_steps, nothing_at)
 
 pub set_by_address : (words entries : List ℕ) (place number : ℕ) → HasEntries words entries → is_start words place ≡ true
     → by_address words (set entries (place / 2) number) ≡ set (by_address words entries) place number
@@ -103,17 +102,4 @@ set_by_address words entries place number h start =
     within = start_within words place h.walked start
 
     same : (other : ℕ) → slice_index (by_address words (set entries (place / 2) number)) other ≡ slice_index (set (by_address words entries) place number) other
-    same other =
-        by_address_at words (set entries (place / 2) number) other h.walked
-        ∙ elim (cases_eq place other) [
-          | inl here ↦ subst (λ n. entry_at words (set entries (place / 2) number) n ≡ slice_index (set (by_address words entries) place number) n) here
-              (entry_is words (set entries (place / 2) number) place start
-              ∙ get_or-set_same entries (place / 2) number 0 (omega (arith, h.len, within))
-              ∙ sym (get_or-set_same (by_address words entries) place number 0 (omega (arith, length_by_address words entries, within))))
-          | inr beside ↦ kept (is_start words other) refl beside ∙ sym (get_or-set_other (by_address words entries) place other number 0 (λ e. beside (sym e)) ∙ by_address_at words entries other h.walked)
-        ]
-      where
-        kept : (b : Bool) → is_start words other ≡ b → (place ≡ other → ⊥) → entry_at words (set entries (place / 2) number) other ≡ entry_at words entries other
-        kept true e beside = entry_is words (set entries (place / 2) number) other e
-            ∙ get_or-set_other entries (place / 2) (other / 2) number 0 (λ halves. beside (half_is_own words place other h.walked start e (sym halves))) ∙ sym (entry_is words entries other e)
-        kept false e beside = no_entry words (set entries (place / 2) number) other e ∙ sym (no_entry words entries other e)
+    same other = grind (arith, common_steps, by_address_at, cases_eq, entry_is, get_or-set_same, within, length_by_address, get_or-set_other, half_is_own, no_entry)

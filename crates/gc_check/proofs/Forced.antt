@@ -250,14 +250,7 @@ objects_met old new pairs done inside m = record {
     grows = met_blocks_grow old new pairs (block_at old.words p.0) (block_at new.words p.1)
 
     objects : (k : ℕ) → k < done + 1 → k < length now → ObjectsMet old new now (pair_at now k)
-    objects k h l =
-        let low : k < length pairs = omega arith in
-        subst (ObjectsMet old new now) (sym (same_place pairs now k grows low))
-        (elim (cases_order k done) [
-          | inl same ↦ subst (λ j. ObjectsMet old new now (pair_at pairs j)) (sym same) (met_blocks_met old new pairs (block_at old.words p.0) (block_at new.words p.1))
-          | inr (inl less) ↦ blocks_met_stay old new pairs now (block_at old.words (pair_at pairs k).0) (block_at new.words (pair_at pairs k).1) grows (m.objects k less low)
-          | inr (inr more) ↦ absurd (omega arith)
-        ])
+    objects k h l = grind (arith, common_steps, now, same_place, grows, cases_order, met_blocks_met, p, blocks_met_stay)
 
 -- all objects have met
 pub all_done : (old new : Image) (pairs : List (ℕ × ℕ)) (done n : ℕ) → length pairs ≤ done → MetTo old new pairs done → MetTo old new pairs n

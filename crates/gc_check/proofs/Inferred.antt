@@ -1,12 +1,11 @@
 -- If some certificate holds of two images, the pairs that a walk finds are one that holds.
 use Rattle.std.proofs.lemmas.Grind.{common_steps}
 use Rattle.std.proofs.Common.{◌≡◌, ◌≢◌, ℕ, zero, suc, ◌+◌, ◌<◌, ◌≤◌, Bool, true, false, cond, not, ◌&&◌, ◌||◌, ◌==◌, List, [], ◌∷◌, length, get_or, Option, Some, None, refl, sym, ◌∙◌, ap, subst, inl, inr, arith}
-use Rattle.std.specs.Prelude.{slice_index, slice_index_or}
+use Rattle.std.specs.Prelude.{slice_index, slice_index_or, is_some}
 use Rattle.std.specs.List.{AllPairs, AllZip, list_any, Any}
 use Rattle.std.proofs.lemmas.Bool.{eqb-true, eq-eqb, ne_eqb, cases_Bool, and_from, or_right}
-use Rattle.std.specs.Prelude.{is_some}
 use Rattle.std.proofs.lemmas.List.Folds.{Any-from_list_any, list_any_at}
-use Rattle.gc_graph.specs.Graph.{Value, Nil, Num, Ref}
+use Rattle.gc_graph.specs.Graph.{Value, Ref}
 use Rattle.gc_graph.specs.Correspond.{paired, Corresponding}
 use Rattle.gc_words.specs.Word.{read_value, read_correspond, words_correspond}
 use Rattle.gc_words.specs.Image.{Image, Block, is_start, block_at, graph_of}
@@ -95,15 +94,13 @@ module _ (old new : Image) (pairs : List (ℕ × ℕ)) (row : List ℕ) (held : 
   found_of_risen k d h =
       let p : ℕ × ℕ = get_or (risen 0 row) k d in
       let s : StandsAt 0 row p = risen_stand 0 row k d h in
-      let entry : slice_index row p.1 ≡ p.0 = ap (slice_index row) (from_0 s.place p.1 s.there) ∙ s.entry in
-      sym (paired_swapped pairs p.0 p.1) ∙ sym (held.pair p.1 p.0 (above p.0 s.some)) ∙ eq-eqb _ _ entry
+      sym (paired_swapped pairs p.0 p.1) ∙ sym (held.pair p.1 p.0 (above p.0 s.some)) ∙ eq-eqb _ _ (ap (slice_index row) (from_0 s.place p.1 s.there) ∙ s.entry)
     where
       from_0 : (place n : ℕ) → n ≡ 0 + place → n ≡ place
       from_0 place n e = omega arith
 
       above : (n : ℕ) → n ≢ 0 → 1 ≤ n
-      above zero some = absurd (some refl)
-      above (suc n) some = omega arith
+      above n some = grind (arith, common_steps)
 
   pub risen_of_found : (a b : ℕ) → 1 ≤ a → paired pairs a b ≡ true → paired (risen 0 row) a b ≡ true
   risen_of_found a b low e = grind (arith, common_steps, eqb-true, paired_swapped, risen_has)
@@ -113,14 +110,10 @@ module _ (old new : Image) (pairs : List (ℕ × ℕ)) (row : List ℕ) (held : 
     both = corresponding old new cert certified
 
     forced : (a b : ℕ) → paired pairs a b ≡ true → paired cert a b ≡ true
-    forced a b e =
-        let k : (k : ℕ) × (k < length pairs) × ((d : ℕ × ℕ) → slice_index_or pairs k d ≡ (a, b)) = place_of pairs a b e in
-        subst (λ (p : ℕ × ℕ). paired cert p.0 p.1 ≡ true) (k.2 (a, b)) (met.forced cert certified k.0 (a, b) k.1)
+    forced a b e = grind (arith, common_steps, place_of)
 
     has_starts : (o q : Option Block) → BlocksCorrespond cert o q → (is_some o ≡ true) × (is_some q ≡ true)
-    has_starts (Some x) (Some y) c = (refl, refl)
-    has_starts (Some x) None c = absurd c
-    has_starts None q c = absurd c
+    has_starts o q c = grind (arith, common_steps)
 
     -- a pair of the certificate that is taken has been found
     taken_found : (a b : ℕ) → paired cert a b ≡ true → is_free old new pairs a b ≡ false → paired pairs a b ≡ true
@@ -145,22 +138,10 @@ module _ (old new : Image) (pairs : List (ℕ × ℕ)) (row : List ℕ) (held : 
     now = risen 0 row
 
     taken_now : (a b : ℕ) → paired cert a b ≡ true → is_free old new pairs a b ≡ false → paired now a b ≡ true
-    taken_now a b e taken =
-        let starts : (is_start old.words a ≡ true) × (is_start new.words b ≡ true) = has_starts (block_at old.words a) (block_at new.words b) (paired_objects old new cert a b certified e) in
-        risen_of_found a b (low a starts.0) (taken_found a b e taken)
+    taken_now a b e taken = grind (arith, common_steps, has_starts, paired_objects, risen_of_found, taken_found)
 
     values_now : (o q : Option Value) → read_correspond cert o q ≡ true → ((a b : ℕ) → o ≡ Some (Ref a) → q ≡ Some (Ref b) → is_free old new pairs a b ≡ false) → read_correspond now o q ≡ true
-    values_now None q e h = e
-    values_now (Some v) None e h = e
-    values_now (Some Nil) (Some Nil) e h = e
-    values_now (Some Nil) (Some (Num n)) e h = e
-    values_now (Some Nil) (Some (Ref b)) e h = e
-    values_now (Some (Num m)) (Some Nil) e h = e
-    values_now (Some (Num m)) (Some (Num n)) e h = e
-    values_now (Some (Num m)) (Some (Ref b)) e h = e
-    values_now (Some (Ref a)) (Some Nil) e h = e
-    values_now (Some (Ref a)) (Some (Num n)) e h = e
-    values_now (Some (Ref a)) (Some (Ref b)) e h = taken_now a b e (h a b refl refl)
+    values_now o q e h = grind (arith, common_steps, taken_now)
 
     words_now : (vs ws : List ℕ) → AllZip (λ v w. words_correspond cert v w ≡ true) vs ws → AllMet old new pairs vs ws → AllZip (λ v w. words_correspond now v w ≡ true) vs ws
     words_now [] [] z m = z
@@ -178,10 +159,7 @@ module _ (old new : Image) (pairs : List (ℕ × ℕ)) (row : List ℕ) (held : 
     blocks_now None q c m = c
 
     object_now : (a b : ℕ) → paired pairs a b ≡ true → BlocksCorrespond now (block_at old.words a) (block_at new.words b)
-    object_now a b e =
-        let k : (k : ℕ) × (k < length pairs) × ((d : ℕ × ℕ) → slice_index_or pairs k d ≡ (a, b)) = place_of pairs a b e in
-        blocks_now (block_at old.words a) (block_at new.words b) (paired_objects old new cert a b certified (forced a b e))
-        (subst (λ (p : ℕ × ℕ). BlocksMet old new pairs (block_at old.words p.0) (block_at new.words p.1)) (k.2 (0, 0)) (met.objects k.0 k.1 k.1))
+    object_now a b e = grind (arith, common_steps, place_of, blocks_now, paired_objects, forced)
 
     certified_now : Certified old new now
     certified_now = record {

@@ -13,7 +13,6 @@ use Rattle.gc_words.specs.declared.refusal.Refusal.{Refusal}
 use Rattle.gc_words.specs.declared.refusal.Refusal.TheVariants.{OldShape, NewShape}
 use Rattle.gc_words.proofs.Public.{Later, none_or, none_when, places_hold, no_shape_fault, shaped}
 use Rattle.gc_words.specs.declared.image.Pair.{Pair}
-use Rattle.gc_words.specs.Views.{addresses}
 use Rattle.std.proofs.lemmas.List.{length-map}
 use Rattle.gc_check.specs.Infer.{is_taken, LeadsToPairs, ObjectsLeadToPairs, AreClosed, Certifiable, Decides}
 use Rattle.gc_check.specs.Internal.Tables.{HasEntries, HoldsPartners, HasTables, by_address}
@@ -186,10 +185,7 @@ module _ (old new old_seen new_seen : Image) (found : Found) (cert : List Pair) 
       (alike_hold old new (pairs_of found.pairs.items) (originals_in new found) (partners_in old found) here.originals here.partners all_met old_low new_low (shaped old old_shaped) (shaped new new_shaped) alike_here)
     where
       alike_here : AlikeTo old new (pairs_of found.pairs.items) (length (pairs_of found.pairs.items))
-      alike_here =
-          subst (λ n. AlikeTo old new (pairs_of found.pairs.items) n) (sym (length-map found.pairs.items addresses))
-          (subst (λ image. AlikeTo image new (pairs_of found.pairs.items) (length found.pairs.items)) old_is
-          (subst (λ image. AlikeTo old_seen image (pairs_of found.pairs.items) (length found.pairs.items)) new_is alike))
+      alike_here = grind (arith, common_steps, length-map)
 
   pub pairs_are_closed : AreClosed old new (pairs_of cert)
   pairs_are_closed = grind (arith, common_steps, found_are_closed, here, all_met, old_low, new_low)

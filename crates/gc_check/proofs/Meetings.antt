@@ -1,6 +1,6 @@
 -- Two words meet, and perhaps they are one more pair.
 use Rattle.std.proofs.lemmas.Grind.{common_steps}
-use Rattle.std.proofs.Common.{◌≡◌, ℕ, zero, suc, ◌<◌, ◌≤◌, ◌+◌, Bool, true, false, cond, not, ◌&&◌, ◌||◌, ◌==◌, List, [], ◌∷◌, ◌++◌, length, replicate, get_or, set, refl, sym, ◌∙◌, ap, subst, arith, length-set}
+use Rattle.std.proofs.Common.{◌≡◌, ℕ, zero, suc, ◌<◌, ◌≤◌, ◌+◌, Bool, true, cond, not, ◌&&◌, ◌||◌, ◌==◌, List, [], ◌∷◌, ◌++◌, length, replicate, get_or, set, refl, sym, ◌∙◌, ap, subst, arith, length-set}
 use Rattle.std.specs.Prelude.{slice_index, vec_capacity}
 use Rattle.std.specs.List.{list_any}
 use Rattle.std.proofs.lemmas.Bool.{eqb-true, eq-eqb, ne_eqb, and_parts, cases_Bool, both_ways}
@@ -74,8 +74,7 @@ taken_few [] = omega arith
 taken_few (entry ∷ row) = from (entry == 0) (taken_few row)
   where
     from : (b : Bool) → taken_in row ≤ length row → cond b (taken_in row) (suc (taken_in row)) ≤ suc (length row)
-    from true h = omega arith
-    from false h = omega arith
+    from b h = grind (arith, common_steps)
 
 pub taken_one : (row : List ℕ) (k x : ℕ) → k < length row → slice_index row k ≡ 0 → 1 ≤ x → taken_in (set row k x) ≡ suc (taken_in row)
 taken_one [] k x inside free some = absurd (omega arith)
@@ -85,8 +84,7 @@ taken_one (entry ∷ row) zero x inside free some =
 taken_one (entry ∷ row) (suc k) x inside free some = from (entry == 0) (taken_one row k x (omega arith) free some)
   where
     from : (b : Bool) → taken_in (set row k x) ≡ suc (taken_in row) → cond b (taken_in (set row k x)) (suc (taken_in (set row k x))) ≡ suc (cond b (taken_in row) (suc (taken_in row)))
-    from true e = e
-    from false e = ap suc e
+    from b e = grind (arith, common_steps)
 
 pub taken_none : (n : ℕ) → taken_in (replicate n 0) ≡ 0
 taken_none zero = refl
@@ -111,10 +109,7 @@ few_taken words at (entry ∷ row) h =
 
     one : (b start : Bool) → (not b ≡ true → start ≡ true) → taken_in row ≤ starts_from words (suc at) (length row)
         → cond b (taken_in row) (suc (taken_in row)) ≤ cond start (suc (starts_from words (suc at) (length row))) (starts_from words (suc at) (length row))
-    one true true e few = omega arith
-    one true false e few = few
-    one false true e few = omega arith
-    one false false e few = absurd (let no : false ≡ true = e refl in cc)
+    one b start e few = grind (arith, common_steps)
 
 -- the entries after one more, at a start
 pub starts_one : (words row : List ℕ) (a x : ℕ) → is_start words a ≡ true → ((k : ℕ) → not (slice_index row k == 0) ≡ true → is_start words k ≡ true)

@@ -86,9 +86,8 @@ unrolled old new cert k d inside = grind (arith, common_steps, at_drop_more, tak
 pub entered_fault : (old new : Image) (cert : List Pair) (entries : List ℕ) (last k : ℕ) (d : Pair) (refusal : Refusal) → k < length cert → (is_start new.words (addresses (get_or cert k d)).1 ≡ true → 1 ≤ (addresses (get_or cert k d)).1)
     → Entered old new cert entries last k → entry_fault old new (by_address old.words entries) last k (addresses (get_or cert k d)) ≡ Some refusal → place_faults old new (pairs_of cert) ≡ Some refusal
 entered_fault old new cert entries last k d refusal inside low s e =
-    let p : ℕ × ℕ = addresses (get_or cert k d) in
     s.same ∙ unrolled old new cert k d inside
-    ∙ ap (λ o. o or_else places_from old new cert (k + 1)) (sym (entry_is old new (by_address old.words entries) (pairs_of (take k cert)) last k p s.held s.ends low) ∙ e)
+    ∙ ap (λ o. o or_else places_from old new cert (k + 1)) (sym (entry_is old new (by_address old.words entries) (pairs_of (take k cert)) last k (addresses (get_or cert k d)) s.held s.ends low) ∙ e)
 
 pub entered_one : (old new : Image) (cert : List Pair) (entries after : List ℕ) (last k : ℕ) (d : Pair) → k < length cert
     → let p = addresses (get_or cert k d) in (is_start new.words p.1 ≡ true → 1 ≤ p.1)

@@ -3,11 +3,10 @@ use Rattle.std.proofs.lemmas.Grind.{common_steps}
 use Rattle.std.proofs.Common.{◌≡◌, ℕ, suc, zero, true, List, [], ◌∷◌, length, take, Option, Some, None, refl, ap, subst, arith}
 use Rattle.std.specs.Prelude.{slice_get}
 use Rattle.std.specs.List.{AllZip}
-use Rattle.gc_graph.specs.Graph.{Value, Ref, Object, Graph, object_of, field_of, follow, at_path, Reachable}
+use Rattle.gc_graph.specs.Graph.{Value, Ref, Object, Graph, object_of, field_of, follow, at_path, Reachable, fresh_name}
 use Rattle.gc_graph.specs.Correspond.{paired, correspond, Agree, EqualFieldByField, Corresponding}
 use Rattle.gc_graph.specs.Machine.{Roomy, roomy_step}
 use Rattle.gc_graph.specs.Runs.{replies}
-use Rattle.gc_graph.specs.Graph.{fresh_name}
 use Rattle.gc_graph.specs.declared.command.Op.{Op}
 
 module _ (pairs : List (ℕ × ℕ)) (g h : Graph) (c : Corresponding pairs g h) where

@@ -54,8 +54,7 @@ all_join old new all (p ∷ rest) k (suc j) d e inside = all_join old new all re
 pub pair_joins : (old new : Image) (cert : List Pair) (k : ℕ) (d : Pair) → table_fault old new (pairs_of cert) ≡ None → k < length (pairs_of cert) → JoinsStarts old new (addresses (get_or cert k d))
 pair_joins old new cert k d e inside =
     let parts : Fits old new × (place_faults old new (pairs_of cert) ≡ None) = table_parts old new (pairs_of cert) e in
-    let within : k < length cert = omega (arith, length-map cert addresses) in
-    subst (JoinsStarts old new) (get_or-map addresses cert k d (0, 0) within) (all_join old new (pairs_of cert) (pairs_of cert) 0 k (0, 0) parts.1 inside)
+    subst (JoinsStarts old new) (get_or-map addresses cert k d (0, 0) (omega (arith, length-map cert addresses))) (all_join old new (pairs_of cert) (pairs_of cert) 0 k (0, 0) parts.1 inside)
 
 -- ---- raw fields are compared as words, and others as values
 

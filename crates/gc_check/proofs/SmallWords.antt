@@ -123,8 +123,7 @@ module _ (old new : Image) (pairs : List (ℕ × ℕ)) where
       small : CertifiedSmall old new pairs → CertifiedAsSmall old new pairs
       small s =
           let c = s.certified in
-          let starts : All (JoinsStarts old new) pairs = All-weaker Wide (JoinsStarts old new) (λ p h. both_wide _ _ h) pairs c.objects in
-          let e : small_words_correspond pairs ≡ words_correspond pairs = same_where_joined old new pairs c.old_shaped c.new_shaped s.old_small s.new_small starts in
+          let e : small_words_correspond pairs ≡ words_correspond pairs = same_where_joined old new pairs c.old_shaped c.new_shaped s.old_small s.new_small (All-weaker Wide (JoinsStarts old new) (λ p h. both_wide _ _ h) pairs c.objects) in
           record {
             old_small = s.old_small;
             new_small = s.new_small;
@@ -176,5 +175,4 @@ module _ (old new : Image) (pairs : List (ℕ × ℕ)) where
     where
       go : (t : Option Refusal) → small_table_fault old new pairs ≡ t
           → (small_table_fault old new pairs or_else small_objects or_else small_roots) ≡ (small_table_fault old new pairs or_else object_faults old new pairs or_else root_fault old new pairs)
-      go (Some r) is = ap (λ t. t or_else small_objects or_else small_roots) is ∙ sym (ap (λ t. t or_else object_faults old new pairs or_else root_fault old new pairs) is)
-      go None is = ap (λ t. t or_else small_objects or_else small_roots) is ∙ same_rest (no_table_fault is) ∙ sym (ap (λ t. t or_else object_faults old new pairs or_else root_fault old new pairs) is)
+      go t is = grind (arith, common_steps, same_rest, no_table_fault)

@@ -1,6 +1,6 @@
 -- A walk marks the starts of a space one after the other.
 use Rattle.std.proofs.lemmas.Grind.{common_steps}
-use Rattle.std.proofs.Common.{◌≡◌, ◌≢◌, ℕ, zero, suc, ◌-◌, ◌+◌, ◌/◌, ◌%◌, ◌<◌, ◌≤◌, Bool, true, false, cond, ◌==◌, List, length, take, drop, replicate, Option, Some, None, Result, Ok, Err, is_some, refl, sym, ◌∙◌, ap, subst, inl, inr, arith}
+use Rattle.std.proofs.Common.{◌≡◌, ◌≢◌, ℕ, zero, suc, ◌-◌, ◌+◌, ◌/◌, ◌%◌, ◌<◌, ◌≤◌, Bool, true, false, cond, ◌==◌, List, length, take, drop, replicate, Option, Some, None, Result, is_some, refl, sym, ◌∙◌, ap, subst, arith}
 use Rattle.std.specs.Prelude.{slice_index, IsOk}
 use Rattle.std.specs.Int.{bit_at}
 use Rattle.std.proofs.lemmas.Nat.Bits.{bit_at-zero}
@@ -39,15 +39,13 @@ pub marks_next : (raws : Bool) (words bits after : List ℕ) (at next : ℕ) →
 marks_next raws words bits after at next inside e long here_marked others before = record { len = long ∙ before.len; starts = starts }
   where
     next_counted : (o : Option Header) → header_in raws (slice_index words at) ≡ o → next_after at o (length words - at) ≡ Some next → next_of words at ≡ Some next
-    next_counted None is e = absurd (let no : None ≡ Some next = e in cc)
-    next_counted (Some h) is e = ap (λ o. next_after at o (length words - at)) (header_counted raws (slice_index words at) h is) ∙ e
+    next_counted o is e = grind (arith, common_steps, header_counted)
 
     step_is : next_of words at ≡ Some next
     step_is = next_counted (header_in raws (slice_index words at)) refl e
 
     ok_front : (x : ℕ × Block) (r : Result (List (ℕ × Block)) ℕ) → IsOk r → IsOk (with_front x r)
-    ok_front x (Ok xs) ok = refl
-    ok_front x (Err at) ok = absurd (let no : false ≡ true = ok in cc)
+    ok_front x r ok = grind (arith, common_steps)
 
     walked : IsOk (walk_from words next) → IsOk (walk_from words at)
     walked ok = subst IsOk (sym (step true words at next inside step_is).walk_is) (ok_front _ (walk_from words next) ok)
@@ -61,23 +59,10 @@ marks_next raws words bits after at next inside e long here_marked others before
         ∙ first_of b block (block_in (ok_or_nil (walk_from words next)) place)
       where
         first_of : (b : Bool) (block : Block) (others : Option Block) → is_some (cond b (Some block) others) ≡ cond b true (is_some others)
-        first_of true block others = refl
-        first_of false block others = refl
+        first_of b block others = grind (arith, common_steps)
 
     starts : IsOk (walk_from words next) → (place : ℕ) → cond (is_marked after place) true (has_start_from words next place) ≡ is_start words place
-    starts ok place =
-        let rest : Bool = has_start_from words next place in
-        let mark : Bool = is_marked bits place in
-        elim (cases_eq at place) [
-          | inl same ↦ (let now : is_marked after place ≡ true = ap (is_marked after) (sym same) ∙ here_marked in
-              ap (λ b. cond b true rest) now ∙ sym (either_way mark) ∙ ap (cond mark true) (sym (here ok place true (eq-eqb at place same))) ∙ before.starts (walked ok) place)
-          | inr other ↦ (let kept : is_marked after place ≡ mark = others place (λ e. other (sym e)) in
-              ap (λ b. cond b true rest) kept ∙ ap (cond mark true) (sym (here ok place false (ne_eqb at place other))) ∙ before.starts (walked ok) place)
-        ]
-      where
-        either_way : (b : Bool) → cond b true true ≡ true
-        either_way true = refl
-        either_way false = refl
+    starts ok place = grind (arith, common_steps, has_start_from, cases_eq, here, eq-eqb, walked, ne_eqb)
 
 -- the walk has reached the end
 pub all_marked : (raws : Bool) (words bits : List ℕ) (at : ℕ) → length words ≤ at → fault_of_walk (walk_all raws words) ≡ fault_of_walk (walk_on raws words at) → MarksTo words bits at

@@ -1,14 +1,14 @@
 -- A certificate of the whole heap in which old objects are their own replicas is one of the minor collection.
 use Rattle.std.proofs.lemmas.Grind.{common_steps}
-use Rattle.std.proofs.Common.{◌≡◌, ◌≢◌, ◌⊎◌, inl, inr, ℕ, zero, suc, ◌<◌, ◌≤◌, Bool, true, false, cond, ◌&&◌, ◌||◌, ◌==◌, List, [], ◌∷◌, ◌++◌, map, length, get_or, Option, Some, None, is_some, slice_get, refl, ap, sym, ◌∙◌, subst, arith}
+use Rattle.std.proofs.Common.{◌≡◌, ◌≢◌, ◌⊎◌, inl, inr, ℕ, zero, suc, ◌<◌, ◌≤◌, Bool, true, false, ◌&&◌, ◌==◌, List, [], ◌∷◌, ◌++◌, map, length, get_or, Some, is_some, slice_get, refl, ap, sym, ◌∙◌, subst, arith}
 use Rattle.std.specs.Prelude.{IsOk, IsTrue}
 use Rattle.std.specs.List.{All, AllPairs, AllZip, list_any}
 use Rattle.std.proofs.lemmas.Bool.{or_left, or_right, eqb-true, eq-eqb, and_parts, and_from, or_cases, lt-ltb}
 use Rattle.std.proofs.lemmas.List.Elements.{All-head, All-tail, All-weaker}
 use Rattle.gc_graph.specs.Graph.{Value, Nil, Num, Ref}
 use Rattle.gc_graph.specs.Correspond.{paired, correspond}
-use Rattle.gc_words.specs.Word.{read_correspond, words_correspond, field_words_correspond}
-use Rattle.gc_words.specs.Image.{Block, walk, blocks, block_in, block_at, header_of, field_in}
+use Rattle.gc_words.specs.Word.{words_correspond, field_words_correspond}
+use Rattle.gc_words.specs.Image.{Block, walk, blocks, block_in, block_at, header_of}
 use Rattle.gc_words.specs.Certificate.{BlocksCorrespond, Certified}
 use Rattle.gc_words.specs.declared.header.Header.{Header}
 use Rattle.gc_words.proofs.Public.{meant, some_of, block_of_header}
@@ -18,29 +18,11 @@ use Rattle.gc_generations.proofs.Fronts.{whole_blocks, old_below, not_old}
 
 any_cases : {X : Type 0} (p : X → Bool) (xs ys : List X) → list_any p (xs ++ ys) ≡ true → (list_any p xs ≡ true) ⊎ (list_any p ys ≡ true)
 any_cases p [] ys e = inr e
-any_cases p (x ∷ xs) ys e =
-    elim (or_cases (p x) (list_any p (xs ++ ys)) e) [
-      | inl here ↦ inl (or_left (p x) (list_any p xs) here)
-      | inr there ↦ later (any_cases p xs ys there)
-    ]
-  where
-    later : (list_any p xs ≡ true) ⊎ (list_any p ys ≡ true) → ((p x || list_any p xs) ≡ true) ⊎ (list_any p ys ≡ true)
-    later (inl a) = inl (or_right (p x) (list_any p xs) a)
-    later (inr b) = inr b
+any_cases p (x ∷ xs) ys e = grind (arith, common_steps, or_cases, or_left, or_right, any_cases p xs ys)
 
 self_only : (bs : List (ℕ × Block)) (a b : ℕ) → paired (selves bs) a b ≡ true → (a ≡ b) × (is_some (block_in bs a) ≡ true)
 self_only [] a b e = cc
-self_only (x ∷ bs) a b e =
-    elim (or_cases ((x.0 == a) && (x.0 == b)) (paired (selves bs) a b) e) [
-      | inl here ↦ (let both : ((x.0 == a) ≡ true) × ((x.0 == b) ≡ true) = and_parts _ _ here in
-          (sym (eqb-true x.0 a both.0) ∙ eqb-true x.0 b both.1, ap (λ t. is_some (cond t (Some x.1) (block_in bs a))) both.0))
-      | inr there ↦ (let rest : (a ≡ b) × (is_some (block_in bs a) ≡ true) = self_only bs a b there in
-          (rest.0, found_later (x.0 == a) rest.1))
-    ]
-  where
-    found_later : (t : Bool) → is_some (block_in bs a) ≡ true → is_some (cond t (Some x.1) (block_in bs a)) ≡ true
-    found_later true e = refl
-    found_later false e = e
+self_only (x ∷ bs) a b e = grind (arith, common_steps, or_cases, selves, and_parts, eqb-true, is_some, self_only bs a b)
 
 all_right : {X : Type 0} (P : X → Type 0) (xs ys : List X) → All P (xs ++ ys) → All P ys
 all_right P [] ys all = all
@@ -65,9 +47,6 @@ zip_at R [] ys i z h = absurd (omega arith)
 zip_at R (x ∷ xs) [] i z h = absurd z
 zip_at R (x ∷ xs) (y ∷ ys) zero z h = z.0
 zip_at R (x ∷ xs) (y ∷ ys) (suc i) z h = zip_at R xs ys i z.1 (omega arith)
-
-both_parts : (pairs : List (ℕ × ℕ)) (b c : Bool) (v w : Value) → read_correspond pairs (cond b (Some v) None) (cond c (Some w) None) ≡ true → (b ≡ true) × (c ≡ true) × (correspond pairs v w ≡ true)
-both_parts pairs b c v w e = grind (arith, common_steps)
 
 module _ (size : ℕ) (front after young kept roots new_roots : List ℕ) (remembered pairs : List (ℕ × ℕ)) (standing : IsStanding size front young roots remembered)
     (candidate : IsCandidate size front after kept remembered pairs) (certified : Certified (whole size front young roots) (whole size after kept new_roots) (identity front ++ pairs)) where
@@ -96,13 +75,10 @@ module _ (size : ℕ) (front after young kept roots new_roots : List ℕ) (remem
       go (inr there) = inr there
 
   words : (v w : ℕ) → words_correspond all_pairs v w ≡ true → words_correspond_above (length front) pairs v w ≡ true
-  words v w e = grind (arith, common_steps, values, both_parts, or_left, and_from, eq-eqb, meant, or_right)
+  words v w e = grind (arith, common_steps, values, or_left, and_from, eq-eqb, meant, or_right)
 
   field_words : (h : Header) (v w : ℕ) → field_words_correspond h all_pairs v w ≡ true → field_words_correspond_above h (length front) pairs v w ≡ true
   field_words h v w e = grind (arith, common_steps, words)
-
-  objects_back : (o q : Option Block) → BlocksCorrespond all_pairs o q → BlocksCorrespondAbove (length front) pairs o q
-  objects_back o q c = grind (arith, common_steps, zip_each, field_words)
 
   kept_walked : IsOk (walk true 0 (length after) kept)
   kept_walked = subst (λ n. IsOk (walk true 0 n kept)) (sym candidate.rewritten.as_long) candidate.walked
@@ -120,7 +96,7 @@ module _ (size : ℕ) (front after young kept roots new_roots : List ℕ) (remem
   Alike p = BlocksCorrespond all_pairs (block_at (front ++ young) p.0) (block_at (after ++ kept) p.1)
 
   young_back : (p : ℕ × ℕ) → (length front ≤ p.0) × (length front ≤ p.1) → Alike p → BlocksCorrespondAbove (length front) pairs (block_in (young_blocks (length front) young) p.0) (block_in (young_blocks (length front) kept) p.1)
-  young_back p h c = grind (arith, common_steps, objects_back, young_at, kept_at)
+  young_back p h c = grind (arith, common_steps, young_at, kept_at, zip_each, field_words)
 
   remembered_back : (r : ℕ × ℕ) → IsPlainField front r → words_correspond_above (length front) pairs (word_of_field front r) (word_of_field after r) ≡ true
   remembered_back r is = words (word_of_field front r) (word_of_field after r) alike
@@ -144,10 +120,7 @@ module _ (size : ℕ) (front after young kept roots new_roots : List ℕ) (remem
       at_field = zip_at (λ v w. IsTrue (field_words_correspond is.block.header all_pairs v w)) is.block.fields after_block.0.fields r.1 blocks_alike.1 is.within
 
       alike : words_correspond all_pairs (word_of_field front r) (word_of_field after r) ≡ true
-      alike =
-          (λ i. words_correspond all_pairs (word_or_nil (field_in (is.found i) r.1)) (word_or_nil (field_in (after_block.1 i) r.1)))
-          ∙ sym (ap (λ t. cond t (word_or_nil (slice_get is.block.fields r.1) == word_or_nil (slice_get after_block.0.fields r.1)) (words_correspond all_pairs (word_or_nil (slice_get is.block.fields r.1)) (word_or_nil (slice_get after_block.0.fields r.1)))) is.plain)
-          ∙ at_field
+      alike = grind (arith, common_steps, after_block, slice_get, at_field)
 
   pub back : MinorCertified (length front) young kept (map (word_of_field front) remembered ++ roots) (map (word_of_field after) remembered ++ new_roots) pairs
   back = record {

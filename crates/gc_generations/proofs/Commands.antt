@@ -1,5 +1,4 @@
 -- What commands do to the words of a heap keeps it standing.
-use Rattle.std.proofs.lemmas.Grind.{common_steps}
 use Rattle.std.proofs.Common.{◌≡◌, ℕ, zero, suc, ◌+◌, ◌-◌, ◌<◌, ◌≤◌, true, List, [], ◌∷◌, ◌++◌, length, Some, Ok, is_some, slice_get, refl, ap, sym, ◌∙◌, subst, arith, length-append, length-set, append_assoc}
 use Rattle.std.specs.Prelude.{IsOk, IsSome, slice_set}
 use Rattle.std.proofs.lemmas.List.{length-replicate}
@@ -9,7 +8,7 @@ use Rattle.gc_words.specs.Layout.{field_place}
 use Rattle.gc_words.specs.Spelling.{block_words}
 use Rattle.gc_words.specs.Image.{Block, walk, block_in, block_at, field_in, field_at, fresh_block, set_block}
 use Rattle.gc_words.specs.Space.{IsSpace, CanPlace}
-use Rattle.gc_words.specs.Closed.{IsClosed, IsRootWord, IsFieldWord}
+use Rattle.gc_words.specs.Closed.{IsClosed, IsFieldWord}
 use Rattle.gc_words.specs.Walking.{StandsIn}
 use Rattle.gc_words.specs.declared.header.Header.{Header}
 use Rattle.gc_words.proofs.Public.{Walked, walk_placed, walk_field, BlockHasField, ok_is, stands_in, stands, StandsAt, field_written, closed_field, closed_root, closed_placed, placed_reference}
@@ -36,9 +35,6 @@ get_below (y ∷ xs) (suc i) x e = (let l : i < length xs = get_below xs i x e i
 module _ (size : ℕ) (front young roots : List ℕ) (remembered : List (ℕ × ℕ)) (standing : IsStanding size front young roots remembered) where
   whole_space : IsSpace (record { size = size; words = front ++ young })
   whole_space = whole_shaped size front young standing.shaped standing.walked standing.fits
-
-  pub root_set : (place w : ℕ) → IsRootWord (front ++ young) w → IsStanding size front young (slice_set roots place w) remembered
-  root_set place w is = grind (arith, common_steps, closed_root)
 
   pub made : (h : Header) (place : ℕ) → CanPlace (record { size = size; words = front ++ young }) h
       → IsStanding size front (young ++ block_words 0 (fresh_block h)) (slice_set roots place (word_of (Ref (length (front ++ young))))) remembered

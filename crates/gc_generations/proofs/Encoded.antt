@@ -9,13 +9,13 @@ use Rattle.std.proofs.lemmas.List.{get_or-map}
 use Rattle.std.proofs.lemmas.List.Elements.{All-nil, All-cons, All-head, All-tail}
 use Rattle.gc_graph.specs.Graph.{Value, Nil, Num, Ref}
 use Rattle.gc_graph.specs.Correspond.{paired, correspond}
-use Rattle.gc_words.specs.Word.{value_of, word_of, read_value, read_correspond, words_correspond, field_words_correspond, HasAddress}
+use Rattle.gc_words.specs.Word.{words_correspond, field_words_correspond}
 use Rattle.gc_words.specs.Image.{Block, walk, ok_or_nil, blocks, block_in, block_at}
 use Rattle.gc_words.specs.Certificate.{BlocksCorrespond, Certified}
 use Rattle.gc_words.specs.Spelling.{LaidOut, no_links}
 use Rattle.gc_words.specs.declared.header.Header.{Header}
-use Rattle.gc_words.proofs.Public.{value_read_back, IsWordOf, meant, laid_out, walk_spelled, ok_is}
-use Rattle.gc_generations.specs.Minor.{lies_below, is_old, words_correspond_above, field_words_correspond_above, young_blocks, BlocksCorrespondAbove, MinorCertified}
+use Rattle.gc_words.proofs.Public.{value_read_back, meant, laid_out, walk_spelled, ok_is}
+use Rattle.gc_generations.specs.Minor.{lies_below, words_correspond_above, field_words_correspond_above, young_blocks, BlocksCorrespondAbove, MinorCertified}
 use Rattle.gc_generations.specs.Encoding.{encoded_value, encoded, encoded_fields, encoded_block, encoded_blocks, rebased, young_words, young_image, IsCode, IsApart, CanEncode, FieldsCanEncode, IsEncoded}
 use Rattle.gc_generations.proofs.Lists.{all_found}
 
@@ -61,74 +61,18 @@ module _ (code : ℕ → ℕ) (base : ℕ) (low_base : 1 ≤ base) where
   module _ (pairs : List (ℕ × ℕ)) (high : All Highs pairs) (codes : IsCode code base) where
     -- ---- words
 
-    number_is_no_reference : (n b : ℕ) (t : Bool) → IsApart code base (Num n) → nat_lt b base ≡ t → correspond (rebased base pairs) (Num n) (cond t (Num (code b)) (Ref (suc (b - base)))) ≡ true → ⊥
-    number_is_no_reference n b true apart f e = apart b (ltb-true b base f) (sym (eqb-true n (code b) e))
-    number_is_no_reference n b false apart f e = let no : false ≡ true = e in cc
-
-    reference_is_no_number : (n b : ℕ) (t : Bool) → IsApart code base (Num n) → nat_lt b base ≡ t → correspond (rebased base pairs) (cond t (Num (code b)) (Ref (suc (b - base)))) (Num n) ≡ true → ⊥
-    reference_is_no_number n b true apart f e = apart b (ltb-true b base f) (eqb-true (code b) n e)
-    reference_is_no_number n b false apart f e = let no : false ≡ true = e in cc
-
-    nil_is_no_reference : (b : ℕ) (t : Bool) → correspond (rebased base pairs) Nil (cond t (Num (code b)) (Ref (suc (b - base)))) ≡ true → ⊥
-    nil_is_no_reference b true e = let no : false ≡ true = e in cc
-    nil_is_no_reference b false e = let no : false ≡ true = e in cc
-
-    reference_is_no_nil : (b : ℕ) (t : Bool) → correspond (rebased base pairs) (cond t (Num (code b)) (Ref (suc (b - base)))) Nil ≡ true → ⊥
-    reference_is_no_nil b true e = let no : false ≡ true = e in cc
-    reference_is_no_nil b false e = let no : false ≡ true = e in cc
-
     abbrev Decoded : Value → Value → Type 0
     Decoded x y = ((lies_below base x ≡ true) × (x ≡ y)) ⊎ (correspond pairs x y ≡ true)
 
     references : (a b : ℕ) (s t : Bool) → nat_lt a base ≡ s → nat_lt b base ≡ t
         → correspond (rebased base pairs) (cond s (Num (code a)) (Ref (suc (a - base)))) (cond t (Num (code b)) (Ref (suc (b - base)))) ≡ true → Decoded (Ref a) (Ref b)
-    references a b true true f g e = inl (f, ap (λ n. Ref n) (codes.apart a b (ltb-true a base f) (ltb-true b base g) (eqb-true (code a) (code b) e)))
-    references a b true false f g e = absurd (let no : false ≡ true = e in cc)
-    references a b false true f g e = absurd (let no : false ≡ true = e in cc)
-    references a b false false f g e = inr (paired_back pairs a b high (ltb-false a base f) (ltb-false b base g) e)
+    references a b s t f g e = grind (arith, common_steps, ltb-true, eqb-true, paired_back, ltb-false)
 
     values : (x y : Value) → IsApart code base x → IsApart code base y → correspond (rebased base pairs) (encoded_value code base x) (encoded_value code base y) ≡ true → Decoded x y
-    values Nil Nil l m e = inr refl
-    values Nil (Num b) l m e = absurd (let no : false ≡ true = e in cc)
-    values Nil (Ref b) l m e = absurd (nil_is_no_reference b (nat_lt b base) e)
-    values (Num a) Nil l m e = absurd (let no : false ≡ true = e in cc)
-    values (Num a) (Num b) l m e = inr e
-    values (Num a) (Ref b) l m e = absurd (number_is_no_reference a b (nat_lt b base) l refl e)
-    values (Ref a) Nil l m e = absurd (reference_is_no_nil a (nat_lt a base) e)
-    values (Ref a) (Num b) l m e = absurd (reference_is_no_number b a (nat_lt a base) m refl e)
-    values (Ref a) (Ref b) l m e = references a b (nat_lt a base) (nat_lt b base) refl refl e
-
-    has_address : (x : Value) → HasAddress x → HasAddress (encoded_value code base x)
-    has_address Nil h = tt
-    has_address (Num n) h = tt
-    has_address (Ref a) h = go (nat_lt a base)
-      where
-        go : (t : Bool) → HasAddress (cond t (Num (code a)) (Ref (suc (a - base))))
-        go true = tt
-        go false = (omega arith, (let l : a < 4294967295 = h.1 in omega arith))
+    values x y l m e = grind (arith, common_steps, references, ltb-true, eqb-true)
 
     words : (v w : ℕ) → CanEncode code base v → CanEncode code base w → words_correspond (rebased base pairs) (encoded code base v) (encoded code base w) ≡ true → words_correspond_above base pairs v w ≡ true
-    words v w c d e =
-        elim (values (value_of v) (value_of w) c.apart d.apart there) [
-          | inl same ↦ or_left (is_old base v && (v == w)) (words_correspond pairs v w) (and_from (is_old base v) (v == w) same.0 (eq-eqb v w (sym v_is.0 ∙ ap word_of same.1 ∙ w_is.0)))
-          | inr alike ↦ or_right (is_old base v && (v == w)) (words_correspond pairs v w)
-              ((λ i. read_correspond pairs (cond (c.value i) (Some (value_of v)) None) (cond (d.value i) (Some (value_of w)) None)) ∙ alike)
-        ]
-      where
-        v_is : IsWordOf v (value_of v)
-        v_is = meant v c.value
-
-        w_is : IsWordOf w (value_of w)
-        w_is = meant w d.value
-
-        v_read : read_value (encoded code base v) ≡ Some (encoded_value code base (value_of v))
-        v_read = value_read_back (encoded_value code base (value_of v)) (has_address (value_of v) v_is.1)
-
-        w_read : read_value (encoded code base w) ≡ Some (encoded_value code base (value_of w))
-        w_read = value_read_back (encoded_value code base (value_of w)) (has_address (value_of w) w_is.1)
-
-        there : correspond (rebased base pairs) (encoded_value code base (value_of v)) (encoded_value code base (value_of w)) ≡ true
-        there = sym (λ i. read_correspond (rebased base pairs) (v_read i) (w_read i)) ∙ e
+    words v w c d e = grind (arith, common_steps, values, or_left, and_from, eq-eqb, or_right, meant, value_read_back)
 
     -- ---- objects
 
@@ -141,8 +85,7 @@ module _ (code : ℕ → ℕ) (base : ℕ) (low_base : 1 ≤ base) where
         raw_zip [] [] z = tt
         raw_zip [] (y ∷ ys) z = absurd z
         raw_zip (x ∷ xs) [] z = absurd z
-        raw_zip (x ∷ xs) (y ∷ ys) z =
-            (ap (λ t. cond t (x == y) (words_correspond_above base pairs x y)) is ∙ sym (ap (λ t. cond t (x == y) (words_correspond (rebased base pairs) x y)) is) ∙ z.0, raw_zip xs ys z.1)
+        raw_zip (x ∷ xs) (y ∷ ys) z = grind (arith, common_steps, raw_zip xs ys z.1)
     fields h false is xs ys c d z =
         zip_unmap (CanEncode code base) _ _ (encoded code base) xs ys c d
         (λ v w p q e. ap (λ t. cond t (v == w) (words_correspond_above base pairs v w)) is
@@ -162,33 +105,20 @@ module _ (code : ℕ → ℕ) (base : ℕ) (low_base : 1 ≤ base) where
 
   -- ---- the images
 
-  as_many : (raw : Bool) (xs : List ℕ) → length (encoded_fields code base raw xs) ≡ length xs
-  as_many raw xs = grind (arith, common_steps, length_map)
-
   laid_encoded : (bs : List (ℕ × Block)) (at : ℕ) → base ≤ at → LaidOut at bs → LaidOut (suc (at - base)) (encoded_blocks code base bs)
   laid_encoded [] at l laid = tt
-  laid_encoded (x ∷ bs) at l laid = grind (arith, common_steps, as_many, laid_encoded bs (at + (x.1.header.len + 2)) (omega arith) laid.2)
+  laid_encoded (x ∷ bs) at l laid = grind (arith, common_steps, length_map, laid_encoded bs (at + (x.1.header.len + 2)) (omega arith) laid.2)
 
   blocks_of_young : (young : List ℕ) → IsOk (walk true 0 base young) → blocks (young_words code base young) ≡ encoded_blocks code base (young_blocks base young)
   blocks_of_young young ok =
       let laid : LaidOut (base + 0) (young_blocks base young) = laid_out young 0 base (young_blocks base young) (omega arith) (ok_is (walk true 0 base young) ok) in
-      let first : suc (base + 0 - base) ≡ 1 = omega arith in
       ap ok_or_nil (walk_spelled (encoded_blocks code base (young_blocks base young)) no_links 1
-      (subst (λ n. LaidOut n (encoded_blocks code base (young_blocks base young))) first (laid_encoded (young_blocks base young) (base + 0) (omega arith) laid)))
+      (subst (λ n. LaidOut n (encoded_blocks code base (young_blocks base young))) (omega arith) (laid_encoded (young_blocks base young) (base + 0) (omega arith) laid)))
 
   found_encoded : (bs : List (ℕ × Block)) (a : ℕ) → base ≤ a → All (λ (x : ℕ × Block). base ≤ x.0) bs
       → block_in (encoded_blocks code base bs) (suc (a - base)) ≡ option_map (encoded_block code base) (block_in bs a)
   found_encoded [] a l high = refl
-  found_encoded (x ∷ bs) a l high =
-      elim (cases_Bool (x.0 == a)) [
-        | inl here ↦ (let same : x.0 ≡ a = eqb-true x.0 a here in
-            ap (λ t. cond t (Some (encoded_block code base x.1)) (block_in (encoded_blocks code base bs) (suc (a - base)))) (eq-eqb (suc (x.0 - base)) (suc (a - base)) (ap (λ n. suc (n - base)) same))
-            ∙ sym (ap (λ t. option_map (encoded_block code base) (cond t (Some x.1) (block_in bs a))) here))
-        | inr other ↦ (let m : base ≤ x.0 = All-head (λ (x : ℕ × Block). base ≤ x.0) x bs high in
-            ap (λ t. cond t (Some (encoded_block code base x.1)) (block_in (encoded_blocks code base bs) (suc (a - base))))
-            (ne_eqb (suc (x.0 - base)) (suc (a - base)) (λ e. (let same : x.0 ≡ a = omega arith in let no : true ≡ false = sym (eq-eqb x.0 a same) ∙ other in cc)))
-            ∙ found_encoded bs a l (All-tail (λ (x : ℕ × Block). base ≤ x.0) x bs high) ∙ sym (ap (λ t. option_map (encoded_block code base) (cond t (Some x.1) (block_in bs a))) other))
-      ]
+  found_encoded (x ∷ bs) a l high = grind (arith, common_steps, cases_Bool, eqb-true, eq-eqb, All-head, ne_eqb, All-tail, found_encoded bs a l (All-tail (λ (x : ℕ × Block). base ≤ x.0) x bs high))
 
   low_starts : (bs : List (ℕ × Block)) (at : ℕ) → base ≤ at → LaidOut at bs → All (λ (x : ℕ × Block). base ≤ x.0) bs
   low_starts [] at l laid = All-nil _

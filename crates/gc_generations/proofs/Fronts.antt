@@ -24,12 +24,10 @@ walk_on (w ∷ ws) (suc inside) at bs ys cs room e f =
 walk_on (w ∷ ws) zero at bs ys cs room e f =
     let g : First at ws bs (read_header w) = first at w ws bs e in
     let r : g.0.len + 1 ≤ length ws = g.2 in
-    let here : at + suc (length ws) ≡ suc at + length ws = omega arith in
-    let ih : Walked (g.0.len + 1) (suc at) (ws ++ ys) (g.3 ++ cs) = walk_on ws (g.0.len + 1) (suc at) g.3 ys cs g.2 g.4 (subst (λ n. Walked 0 n ys cs) here f) in
     let longer : length (ws ++ ys) ≡ length ws + length ys = length-append ws ys in
-    let dropped : drop 1 (ws ++ ys) ≡ drop 1 ws ++ ys = drop-append-le 1 ws ys (omega arith) in
-    let kept : fields_in g.0 (ws ++ ys) ≡ fields_in g.0 ws = ap (take g.0.len) dropped ∙ take-append-le g.0.len (drop 1 ws) ys (let d : length (drop 1 ws) ≡ length ws - 1 = length_drop_one ws in omega arith) in
-    object_walked at w (ws ++ ys) g.0 _ g.1 (omega arith) ih
+    let kept : fields_in g.0 (ws ++ ys) ≡ fields_in g.0 ws
+    = ap (take g.0.len) (drop-append-le 1 ws ys (omega arith)) ∙ take-append-le g.0.len (drop 1 ws) ys (let d : length (drop 1 ws) ≡ length ws - 1 = length_drop_one ws in omega arith) in
+    object_walked at w (ws ++ ys) g.0 _ g.1 (omega arith) (walk_on ws (g.0.len + 1) (suc at) g.3 ys cs g.2 g.4 (subst (λ n. Walked 0 n ys cs) (omega arith) f))
     ∙ (λ i. Ok ((at, record { header = g.0; fields = kept i }) ∷ (g.3 ++ cs)))
     ∙ ap (λ bs. Ok (bs ++ cs)) (sym g.5)
 
@@ -80,9 +78,6 @@ pub young_above : (base : ℕ) (young : List ℕ) (a : ℕ) (b : Block) → IsOk
 young_above base young a b ok e =
     let s : StandsAt young base a b = stands young 0 base (young_blocks base young) a b (ok_is (walk true 0 base young) ok) e in
     let p : a ≡ base + s.offset = s.place in omega arith
-
-pub not_young : (base : ℕ) (young : List ℕ) (a : ℕ) → IsOk (walk true 0 base young) → a < base → block_in (young_blocks base young) a ≡ None
-not_young base young a ok low = grind (arith, common_steps, young_above)
 
 -- ---- starts rise
 

@@ -1,13 +1,13 @@
 -- The heap after a minor collection stands as before.
 use Rattle.std.proofs.lemmas.Grind.{common_steps}
-use Rattle.std.proofs.Common.{◌≡◌, ℕ, ◌<◌, ◌≤◌, Bool, true, cond, ◌&&◌, ◌==◌, List, [], ◌++◌, length, Option, Some, None, refl, ap, sym, ◌∙◌, subst, arith, append-nil, ◌∷◌}
+use Rattle.std.proofs.Common.{◌≡◌, ℕ, ◌<◌, ◌≤◌, true, ◌&&◌, ◌==◌, List, [], ◌++◌, length, Option, Some, None, refl, ap, sym, ◌∙◌, subst, arith, append-nil, ◌∷◌}
 use Rattle.std.specs.Prelude.{replicate, IsOk}
 use Rattle.std.specs.List.{All}
 use Rattle.std.proofs.lemmas.Bool.{eqb-true, leb-true}
 use Rattle.std.proofs.lemmas.List.Elements.{All-weaker}
 use Rattle.gc_graph.specs.Graph.{Value, Nil, Num, Ref}
 use Rattle.gc_graph.specs.Correspond.{paired, correspond}
-use Rattle.gc_words.specs.Word.{value_of, read_correspond, words_correspond, field_words_correspond}
+use Rattle.gc_words.specs.Word.{value_of, words_correspond, field_words_correspond}
 use Rattle.gc_words.specs.Image.{Image, Block, walk, blocks, block_in, block_at, header_of, HasShape, is_start}
 use Rattle.gc_words.specs.Space.{IsSpace}
 use Rattle.gc_words.specs.Certificate.{BlocksCorrespond, Certified}
@@ -33,11 +33,8 @@ module _ (old new : Image) (pairs : List (ℕ × ℕ)) (holds : Certified old ne
   right_refers (Num n) (Ref b) e = cc
   right_refers (Ref a) (Ref b) e = right_start (a, b) (paired_all (λ p. BlocksCorrespond pairs (block_at old.words p.0) (block_at new.words p.1)) pairs a b e holds.objects)
 
-  right_parts : (b c : Bool) (v w : Value) → read_correspond pairs (cond b (Some v) None) (cond c (Some w) None) ≡ true → (c ≡ true) × (correspond pairs v w ≡ true)
-  right_parts b c v w e = grind (arith, common_steps)
-
   right_word : (v w : ℕ) → words_correspond pairs v w ≡ true → IsRootWord new.words w
-  right_word v w e = grind (arith, common_steps, right_parts, right_refers)
+  right_word v w e = grind (arith, common_steps, right_refers)
 
   right_field : (h : Header) (v w : ℕ) → IsFieldWord old.words h v → field_words_correspond h pairs v w ≡ true → IsFieldWord new.words h w
   right_field h v w is e = grind (arith, common_steps, eqb-true, right_word)

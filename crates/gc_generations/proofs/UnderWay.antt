@@ -1,17 +1,17 @@
 -- A major collection goes on across a minor one, if the remembered fields are logged.
 use Rattle.std.proofs.lemmas.Grind.{common_steps}
-use Rattle.std.proofs.Common.{◌≡◌, ◌⊎◌, inl, inr, ℕ, ◌<◌, Bool, true, false, List, ◌++◌, length, Option, Some, None, slice_get, refl, ap, sym, ◌∙◌, subst, arith}
+use Rattle.std.proofs.Common.{◌≡◌, ◌⊎◌, inl, inr, ℕ, ◌<◌, Bool, true, false, List, ◌++◌, length, Option, Some, slice_get, refl, ap, sym, ◌∙◌, subst, arith}
 use Rattle.std.specs.Prelude.{IsOk, IsTrue, IsFalse}
 use Rattle.std.specs.List.{All}
 use Rattle.std.proofs.lemmas.Bool.{cases_Bool}
 use Rattle.gc_graph.specs.Correspond.{paired}
 use Rattle.gc_words.specs.Word.{words_correspond}
-use Rattle.gc_words.specs.Image.{Block, walk, blocks, block_in, block_at, header_of, field_in, field_at}
+use Rattle.gc_words.specs.Image.{Block, walk, blocks, block_at, header_of, field_in, field_at}
 use Rattle.gc_words.proofs.Public.{block_of_header}
 use Rattle.gc_generations.specs.Minor.{is_young, young_blocks, IsStanding, IsMinor}
 use Rattle.gc_generations.specs.Major.{IsUnderWay}
 use Rattle.gc_generations.proofs.Lists.{any_left, any_right, paired_all, found_left, found_right}
-use Rattle.gc_generations.proofs.Fronts.{whole_blocks, not_young}
+use Rattle.gc_generations.proofs.Fronts.{whole_blocks, young_above}
 
 module _ (size : ℕ) (front after young kept roots new_roots : List ℕ) (remembered young_pairs : List (ℕ × ℕ)) (standing : IsStanding size front young roots remembered)
     (minor : IsMinor size front after young kept roots new_roots remembered young_pairs) (replicas : List ℕ) (pairs due : List (ℕ × ℕ)) (old : All (λ p. p.0 < length front) pairs)
@@ -33,9 +33,7 @@ module _ (size : ℕ) (front after young kept roots new_roots : List ℕ) (remem
       both = whole_blocks size after kept minor.shaped walked
 
       go : (q : Option Block) → block_at after a ≡ q → block_at after a ≡ Some o
-      go (Some c) e = e ∙ sym (ap (λ bs. block_in bs a) both ∙ found_left (blocks after) (young_blocks (length after) kept) a c e) ∙ found
-      go None e = absurd (let none : block_in (young_blocks (length after) kept) a ≡ None = not_young (length after) kept a walked (omega arith) in
-          let same : Some o ≡ None = sym found ∙ ap (λ bs. block_in bs a) both ∙ found_right (blocks after) (young_blocks (length after) kept) a e ∙ none in cc)
+      go q e = grind (arith, common_steps, both, found_left, young_above, walked, found_right)
 
   pub under_way : (base : ℕ) → IsUnderWay base (after ++ kept) replicas pairs (remembered ++ due)
   under_way base = record { each = each }
@@ -43,8 +41,7 @@ module _ (size : ℕ) (front after young kept roots new_roots : List ℕ) (remem
       each : (a b i v w : ℕ) (o : Block) → IsTrue (paired pairs a b) → block_at (after ++ kept) a ≡ Some o → IsFalse o.header.raw
           → slice_get o.fields i ≡ Some v → field_at replicas b i ≡ Some w → IsFalse (paired (remembered ++ due) a i) → IsFalse (is_young base v) → IsTrue (words_correspond pairs v w)
       each a b i v w o is found plain get replica idle any_word =
-          let low : a < length front = paired_all (λ p. p.0 < length front) pairs a b is old in
-          let there : block_at after a ≡ Some o = earlier a o low found in
+          let there : block_at after a ≡ Some o = earlier a o (paired_all (λ p. p.0 < length front) pairs a b is old) found in
           let first : (c : Block) × (block_at front a ≡ Some c) × (c.header ≡ o.header) = block_of_header front a o.header (sym (minor.rewritten.headers a) ∙ ap header_of there) in
           let rest : (paired remembered a i ≡ false) × (paired due a i ≡ false) = not_due a i idle in
           let word : slice_get first.0.fields i ≡ Some v = sym (ap (λ o. field_in o i) first.1) ∙ sym (minor.rewritten.beside a i rest.0) ∙ ap (λ o. field_in o i) there ∙ get in

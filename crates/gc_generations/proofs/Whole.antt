@@ -1,38 +1,22 @@
 -- The certificate of a minor collection, with each old object as its own replica, is a certificate of the whole heap.
 use Rattle.std.proofs.lemmas.Grind.{common_steps}
-use Rattle.std.proofs.Common.{◌≡◌, ◌≢◌, inl, inr, ℕ, ◌<◌, ◌≤◌, Bool, true, false, cond, ◌==◌, List, ◌++◌, length, Option, Some, None, is_some, slice_get, refl, ap, sym, ◌∙◌, subst, arith}
+use Rattle.std.proofs.Common.{◌≡◌, ◌≢◌, inl, inr, ℕ, ◌<◌, ◌≤◌, Bool, true, false, List, ◌++◌, length, Option, Some, None, is_some, slice_get, refl, ap, sym, ◌∙◌, subst, arith}
 use Rattle.std.specs.Prelude.{IsOk, IsTrue}
 use Rattle.std.specs.List.{All, AllPairs, AllZip}
 use Rattle.std.proofs.lemmas.Bool.{cases_Bool, eqb-true, eq-eqb, and_parts, or_cases, ltb-true, leb-true, leb-false}
 use Rattle.std.proofs.lemmas.List.Elements.{All-weaker}
-use Rattle.gc_graph.specs.Graph.{Value}
-use Rattle.gc_graph.specs.Correspond.{paired, correspond}
-use Rattle.gc_words.specs.Word.{value_of, is_value, read_correspond, words_correspond, field_words_correspond}
+use Rattle.gc_graph.specs.Correspond.{paired}
+use Rattle.gc_words.specs.Word.{words_correspond, field_words_correspond}
 use Rattle.gc_words.specs.Image.{Block, walk, blocks, block_in, block_at, header_of, field_in, field_at}
 use Rattle.gc_words.specs.Certificate.{BlocksCorrespond, Certified}
-use Rattle.gc_words.specs.Closed.{RefersToStart, IsRootWord, IsWordOfField, IsFieldWord, HasFieldWords}
+use Rattle.gc_words.specs.Closed.{IsRootWord, IsWordOfField, IsFieldWord, HasFieldWords}
 use Rattle.gc_words.specs.declared.header.Header.{Header}
 use Rattle.gc_words.proofs.Public.{stands_in, some_of, block_of_header}
-use Rattle.gc_generations.specs.Minor.{lies_below, lies_above, is_young, words_correspond_above, field_words_correspond_above, young_blocks, BlocksCorrespondAbove, word_or_nil, word_of_field, whole, identity, IsStanding, IsMinor}
+use Rattle.gc_generations.specs.Minor.{is_young, words_correspond_above, field_words_correspond_above, young_blocks, BlocksCorrespondAbove, word_or_nil, word_of_field, whole, identity, IsStanding, IsMinor}
 use Rattle.gc_generations.proofs.Lists.{any_left, any_right, paired_all, all_zip_from, zip_weaker, zip_split, all_at, found_left, found_right, all_found, self_paired, all_selves, selves_rise, starts_found}
-use Rattle.gc_generations.proofs.Fronts.{whole_blocks, whole_shaped, old_below, not_old, young_above, not_young, old_rise}
+use Rattle.gc_generations.proofs.Fronts.{whole_blocks, whole_shaped, old_below, not_old, young_above, old_rise}
 
 -- ---- more pairs
-
-correspond_more : (xs ys : List (ℕ × ℕ)) (v w : Value) → correspond ys v w ≡ true → correspond (xs ++ ys) v w ≡ true
-correspond_more xs ys v w e = grind (arith, common_steps, any_right)
-
-read_more : (xs ys : List (ℕ × ℕ)) (b c : Bool) (v w : Value) → read_correspond ys (cond b (Some v) None) (cond c (Some w) None) ≡ true → read_correspond (xs ++ ys) (cond b (Some v) None) (cond c (Some w) None) ≡ true
-read_more xs ys b c v w e = grind (arith, common_steps, correspond_more)
-
-words_more : (xs ys : List (ℕ × ℕ)) (v w : ℕ) → words_correspond ys v w ≡ true → words_correspond (xs ++ ys) v w ≡ true
-words_more xs ys v w e = read_more xs ys (is_value v) (is_value w) (value_of v) (value_of w) e
-
-read_same : (pairs : List (ℕ × ℕ)) (b : Bool) (v : Value) → b ≡ true → correspond pairs v v ≡ true → read_correspond pairs (cond b (Some v) None) (cond b (Some v) None) ≡ true
-read_same pairs b v t e = grind (arith, common_steps)
-
-old_is_not_young : (base : ℕ) (v : Value) → lies_below base v ≡ true → lies_above base v ≡ false
-old_is_not_young base v e = grind (arith, common_steps, leb-true, ltb-true)
 
 module _ (size : ℕ) (front after young kept roots new_roots : List ℕ) (remembered pairs : List (ℕ × ℕ)) (standing : IsStanding size front young roots remembered) (minor : IsMinor size front after young kept roots new_roots remembered pairs) where
   abbrev all_pairs : List (ℕ × ℕ)
@@ -68,15 +52,11 @@ module _ (size : ℕ) (front after young kept roots new_roots : List ℕ) (remem
 
   -- ---- words
 
-  -- a value of the heap that does not refer to a young object corresponds to itself
-  value_itself : (v : Value) → RefersToStart (front ++ young) v → lies_above (length front) v ≡ false → correspond all_pairs v v ≡ true
-  value_itself v start old = grind (arith, common_steps, eq-eqb, any_left, self_paired, leb-false, old_blocks, found_right, not_young)
-
   word_itself : (v : ℕ) → IsRootWord (front ++ young) v → is_young (length front) v ≡ false → words_correspond all_pairs v v ≡ true
-  word_itself v is old = read_same all_pairs (is_value v) (value_of v) is.value (value_itself (value_of v) is.start old)
+  word_itself v is old = grind (arith, common_steps, eq-eqb, any_left, self_paired, leb-false, old_blocks, found_right, young_above)
 
   word_above : (v w : ℕ) → IsRootWord (front ++ young) v → words_correspond_above (length front) pairs v w ≡ true → words_correspond all_pairs v w ≡ true
-  word_above v w is e = grind (arith, common_steps, or_cases, and_parts, eqb-true, word_itself, old_is_not_young, words_more)
+  word_above v w is e = grind (arith, common_steps, or_cases, and_parts, eqb-true, word_itself, leb-true, ltb-true, any_right)
 
   field_above : (h : Header) (v w : ℕ) → IsFieldWord (front ++ young) h v → field_words_correspond_above h (length front) pairs v w ≡ true → field_words_correspond h all_pairs v w ≡ true
   field_above h v w is e = grind (arith, common_steps, word_above)
@@ -129,10 +109,7 @@ module _ (size : ℕ) (front after young kept roots new_roots : List ℕ) (remem
       closed = subst (λ raw. IsWordOfField raw (front ++ young) v) plain (all_at (IsFieldWord (front ++ young) b.header) b.fields i v (fields_closed a b (old_found a b found)) e)
 
       old_word : paired remembered a i ≡ false → is_young (length front) v ≡ false
-      old_word other = elim (cases_Bool (is_young (length front) v)) [
-        | inl young ↦ absurd (let t : paired remembered a i ≡ true = standing.complete.each a i v b found plain e young in let no : true ≡ false = sym t ∙ other in cc)
-        | inr old ↦ old
-      ]
+      old_word other = grind (arith, common_steps, cases_Bool)
 
   old_alike : (a : ℕ) (b : Block) → block_at front a ≡ Some b → BlocksCorrespond all_pairs (block_at (front ++ young) a) (block_at (after ++ kept) a)
   old_alike a b found =
@@ -147,14 +124,7 @@ module _ (size : ℕ) (front after young kept roots new_roots : List ℕ) (remem
       as_many = (stands_in front a b standing.shaped.walked found).whole.fields ∙ ap (λ h. h.len) (sym after_block.2) ∙ sym (stands_in after a after_block.0 minor.shaped.walked after_block.1).whole.fields
 
       fields : (raw : Bool) → b.header.raw ≡ raw → AllZip (λ v w. IsTrue (field_words_correspond b.header all_pairs v w)) b.fields after_block.0.fields
-      fields true is =
-          all_zip_from _ b.fields after_block.0.fields as_many (λ i v w e f.
-          (let same_block : b ≡ after_block.0 = (let s : Some b ≡ Some after_block.0 = sym (minor.rewritten.raws a b found is) ∙ after_block.1 in cc) in
-          let same : v ≡ w = (let s : Some v ≡ Some w = sym e ∙ ap (λ (c : Block). slice_get c.fields i) same_block ∙ f in cc) in
-          ap (λ t. cond t (v == w) (words_correspond all_pairs v w)) is ∙ eq-eqb v w same))
-      fields false is =
-          all_zip_from _ b.fields after_block.0.fields as_many (λ i v w e f.
-          ap (λ t. cond t (v == w) (words_correspond all_pairs v w)) is ∙ old_field a i v w b found is e (ap (λ o. field_in o i) after_block.1 ∙ f))
+      fields raw is = grind (arith, common_steps, all_zip_from, after_block, as_many, slice_get, eq-eqb, old_field)
 
   -- ---- the certificate
 

@@ -43,6 +43,7 @@ pub fn minor_certificates_certify_whole_heaps()
 /// A heap that was just opened stands, and what commands do keeps it standing. A new object is young. A write to an old object adds its field to the
 /// remembered set just when the new word refers to a young object and the one before did not; a write to a young one
 /// adds nothing, and neither does a root.
+#[tactic(auto, using(crate::proofs::Stands::opened))]
 pub fn commands_keep_heaps_standing()
     ensures opened { (size count : ℕ) → 1 ≤ size → size ≤ largest_space
         → IsStanding size (0 ∷ []) [] (replicate count 0) [] }

@@ -61,9 +61,6 @@ all_set P [] i x a p = tt
 all_set P (y ∷ xs) zero x a p = (p, a.1)
 all_set P (y ∷ xs) (suc i) x a p = (a.0, all_set P xs i x a.1 p)
 
-first_below : (n : ℕ) (raw : Bool) → ValueBelow n (first_value raw)
-first_below n raw = grind (arith, common_steps)
-
 all_below : (n k : ℕ) (v : Value) → ValueBelow n v → AllByRecursion (ValueBelow n) (replicate k v)
 all_below n zero v below = tt
 all_below n (suc k) v below = (below, all_below n k v below)
@@ -139,9 +136,6 @@ step_below n g m (ops.Put s i t) name makes_none below =
 step_below n g m (ops.Same s t) name makes_none below = below
 step_below n g m (ops.Look s) name makes_none below = below
 
-got_short : (g : Graph) (d : ℕ) (o : Option Object) (f : Option Value) → AreShort g → AreShort (get_field g d o f).1
-got_short g d o f short = grind (arith, common_steps)
-
 put_short : (g : Graph) (target : Value) (o : Option Object) (f : Option Value) (i : ℕ) (v : Value) → AreShort g → AreShort (put_field g target o f i v).1
 put_short g Nil o f i v short = short
 put_short g (Num m) o f i v short = short
@@ -153,12 +147,12 @@ put_short g (Ref name) (Some o) (Some before) i v short = elim (o.raw && not (is
 ]
 
 pub step_short : (g : Graph) (m : ℕ) (op : Op) (name : ℕ) → (MakesObject op → ⊥) → AreShort g → AreShort (step g m op name).1
-step_short g m op name makes_none short = grind (arith, common_steps, got_short, put_short)
+step_short g m op name makes_none short = grind (arith, common_steps, put_short)
 
 -- ---- a new object under the next name
 
 pub make_below : (n : ℕ) (g : Graph) (raw : Bool) (p kind len : ℕ) → AreBelow n g → AreBelow (n + 1) (set_root (add_object g n (new_object raw kind len)) p (Ref n))
-make_below n g raw p kind len below = grind (arith, common_steps, all_push, all_weaker, later, all_below, first_below, all_set)
+make_below n g raw p kind len below = grind (arith, common_steps, all_push, all_weaker, later, all_below, all_set)
 
 pub make_short : (n : ℕ) (g : Graph) (raw : Bool) (p kind len : ℕ) → len < 65536 → AreShort g → AreShort (set_root (add_object g n (new_object raw kind len)) p (Ref n))
 make_short n g raw p kind len small short = all_push (λ (e : ℕ × Object). length e.1.fields < 65536) g.objects (n, new_object raw kind len) short (let same : length (replicate len (first_value raw)) ≡ len = length-replicate len (first_value raw) in omega arith)

@@ -1,6 +1,6 @@
 -- Matching is transitive.
 use Rattle.std.proofs.lemmas.Grind.{common_steps}
-use Rattle.std.proofs.Common.{◌≡◌, ℕ, true, false, cond, ◌==◌, List, [], ◌∷◌, ◌++◌, Option, None, refl, sym, ◌∙◌, ap, subst, inl, inr, ◌⊎◌, arith}
+use Rattle.std.proofs.Common.{◌≡◌, ℕ, true, false, cond, ◌==◌, List, [], ◌∷◌, ◌++◌, Option, None, refl, sym, ◌∙◌, ap, subst, ◌⊎◌, arith}
 use Rattle.std.specs.List.{AllZip}
 use Rattle.std.proofs.lemmas.Bool.{eqb-true, eq-eqb, cases_Bool}
 use Rattle.gc_graph.specs.Graph.{Value, Nil, Num, Ref, Object, Graph, lookup}
@@ -18,12 +18,10 @@ joined [] qs = []
 joined (p ∷ ps) qs = partners_from p.0 p.1 qs ++ joined ps qs
 
 append_cases : (xs ys : List (ℕ × ℕ)) (a c : ℕ) → paired (xs ++ ys) a c ≡ true → (paired xs a c ≡ true) ⊎ (paired ys a c ≡ true)
-append_cases [] ys a c e = inr e
-append_cases (x ∷ xs) ys a c e = grind (arith, common_steps, paired_cases, paired_here, paired_more)
+append_cases xs ys a c e = grind (arith, common_steps, paired_cases, paired_here, paired_more)
 
 append_left : (xs ys : List (ℕ × ℕ)) (a c : ℕ) → paired xs a c ≡ true → paired (xs ++ ys) a c ≡ true
-append_left [] ys a c e = absurd (let no : false ≡ true = e in cc)
-append_left (x ∷ xs) ys a c e = grind (arith, common_steps, paired_cases, paired_here, paired_more)
+append_left xs ys a c e = grind (arith, common_steps, paired_cases, paired_here, paired_more)
 
 append_right : (xs ys : List (ℕ × ℕ)) (a c : ℕ) → paired ys a c ≡ true → paired (xs ++ ys) a c ≡ true
 append_right [] ys a c e = e
@@ -31,41 +29,19 @@ append_right (x ∷ xs) ys a c e = paired_more x (xs ++ ys) a c (append_right xs
 
 from_cases : (x b : ℕ) (qs : List (ℕ × ℕ)) (a c : ℕ) → paired (partners_from x b qs) a c ≡ true → (x ≡ a) × (paired qs b c ≡ true)
 from_cases x b [] a c e = absurd (let no : false ≡ true = e in cc)
-from_cases x b (q ∷ qs) a c e =
-    elim (cases_Bool (q.0 == b)) [
-      | inl here ↦ (let is : q.0 ≡ b = eqb-true _ _ here in
-          elim (paired_cases (x, q.1) (partners_from x b qs) a c (sym (ap (λ t. paired (cond t ((x, q.1) ∷ partners_from x b qs) (partners_from x b qs)) a c) here) ∙ e)) [
-            | inl at ↦ (at.0, subst (λ n. paired (q ∷ qs) n c ≡ true) is (subst (λ n. paired (q ∷ qs) q.0 n ≡ true) at.1 (paired_here q.0 q.1 qs)))
-            | inr later ↦ (let ih : (x ≡ a) × (paired qs b c ≡ true) = from_cases x b qs a c later in (ih.0, paired_more q qs b c ih.1))
-          ])
-      | inr other ↦ (let ih : (x ≡ a) × (paired qs b c ≡ true) = from_cases x b qs a c (sym (ap (λ t. paired (cond t ((x, q.1) ∷ partners_from x b qs) (partners_from x b qs)) a c) other) ∙ e) in (ih.0, paired_more q qs b c ih.1))
-    ]
+from_cases x b (q ∷ qs) a c e = grind (arith, common_steps, cases_Bool, eqb-true, paired_cases, paired_here, paired_more, from_cases x b qs a c)
 
 from_there : (x b : ℕ) (qs : List (ℕ × ℕ)) (c : ℕ) → paired qs b c ≡ true → paired (partners_from x b qs) x c ≡ true
 from_there x b [] c e = absurd (let no : false ≡ true = e in cc)
-from_there x b (q ∷ qs) c e =
-    elim (paired_cases q qs b c e) [
-      | inl here ↦ subst (λ t. paired (cond t ((x, q.1) ∷ partners_from x b qs) (partners_from x b qs)) x c ≡ true) (sym (eq-eqb _ _ here.0))
-          (subst (λ n. paired ((x, q.1) ∷ partners_from x b qs) x n ≡ true) here.1 (paired_here x q.1 (partners_from x b qs)))
-      | inr later ↦ elim (q.0 == b) as (λ t. paired (cond t ((x, q.1) ∷ partners_from x b qs) (partners_from x b qs)) x c ≡ true) [
-        | true ↦ paired_more (x, q.1) (partners_from x b qs) x c (from_there x b qs c later)
-        | false ↦ from_there x b qs c later
-      ]
-    ]
+from_there x b (q ∷ qs) c e = grind (arith, common_steps, paired_cases, eq-eqb, paired_here, paired_more, from_there x b qs c)
 
 joined_cases : (ps qs : List (ℕ × ℕ)) (a c : ℕ) → paired (joined ps qs) a c ≡ true → (b : ℕ) × (paired ps a b ≡ true) × (paired qs b c ≡ true)
 joined_cases [] qs a c e = absurd (let no : false ≡ true = e in cc)
-joined_cases (p ∷ ps) qs a c e = elim (append_cases (partners_from p.0 p.1 qs) (joined ps qs) a c e) [
-  | inl first ↦ (let at : (p.0 ≡ a) × (paired qs p.1 c ≡ true) = from_cases p.0 p.1 qs a c first in (p.1, subst (λ n. paired (p ∷ ps) n p.1 ≡ true) at.0 (paired_here p.0 p.1 ps), at.1))
-  | inr later ↦ (let ih : (b : ℕ) × (paired ps a b ≡ true) × (paired qs b c ≡ true) = joined_cases ps qs a c later in (ih.0, paired_more p ps a ih.0 ih.1, ih.2))
-]
+joined_cases (p ∷ ps) qs a c e = grind (arith, common_steps, append_cases, from_cases, paired_here, paired_more, joined_cases ps qs a c)
 
 joined_there : (ps qs : List (ℕ × ℕ)) (a b c : ℕ) → paired ps a b ≡ true → paired qs b c ≡ true → paired (joined ps qs) a c ≡ true
 joined_there [] qs a b c e f = absurd (let no : false ≡ true = e in cc)
-joined_there (p ∷ ps) qs a b c e f = elim (paired_cases p ps a b e) [
-  | inl here ↦ append_left (partners_from p.0 p.1 qs) (joined ps qs) a c (subst (λ n. paired (partners_from n p.1 qs) a c ≡ true) (sym here.0) (subst (λ n. paired (partners_from a n qs) a c ≡ true) (sym here.1) (from_there a b qs c f)))
-  | inr later ↦ append_right (partners_from p.0 p.1 qs) (joined ps qs) a c (joined_there ps qs a b c later f)
-]
+joined_there (p ∷ ps) qs a b c e f = grind (arith, common_steps, paired_cases, append_left, from_there, append_right, joined_there ps qs a b c)
 
 module _ (ps qs : List (ℕ × ℕ)) (g h k : Graph) (first : Matched ps g h) (second : Matched qs h k) where
   not_left : (o q : Option Object) → ObjectsAlike ps g.objects h.objects o q → q ≡ None → ⊥
@@ -112,8 +88,5 @@ module _ (ps qs : List (ℕ × ℕ)) (g h k : Graph) (first : Matched ps g h) (s
   zip_both (u ∷ us) (v ∷ vs) [] y z = absurd z
   zip_both (u ∷ us) (v ∷ vs) (w ∷ ws) y z = (both y.0 z.0, zip_both us vs ws y.1 z.1)
 
-  objects_both : (o p q : Option Object) → ObjectsAlike ps g.objects h.objects o p → ObjectsAlike qs h.objects k.objects p q → ObjectsAlike (joined ps qs) g.objects k.objects o q
-  objects_both o p q a b = grind (arith, common_steps, zip_both)
-
   pub composed : Matched (joined ps qs) g k
-  composed = grind (arith, common_steps, zip_both, joined_cases, objects_both)
+  composed = grind (arith, common_steps, zip_both, joined_cases)

@@ -1,6 +1,6 @@
 -- The number that a token spells, and the one that a text begins with.
 use Rattle.std.proofs.lemmas.Grind.{common_steps}
-use Rattle.std.proofs.Common.{◌≡◌, ℕ, ◌^◌, ◌<◌, ◌≤◌, ◌+◌, ◌-◌, ◌*◌, ◌%◌, Bool, true, cond, eqb, ltb, leb, ◌&&◌, List, [], ◌∷◌, ◌++◌, length, get_or, take, drop, refl, sym, ap, ◌∙◌, arith, inl, inr, Option, Some, None, IsTrue, ◌↔◌}
+use Rattle.std.proofs.Common.{◌≡◌, ℕ, ◌^◌, ◌<◌, ◌≤◌, ◌+◌, ◌-◌, ◌*◌, ◌%◌, eqb, ltb, leb, List, [], ◌∷◌, ◌++◌, length, get_or, take, drop, refl, sym, ap, ◌∙◌, arith, inl, inr, Some, None, IsTrue, ◌↔◌}
 use Rattle.std.specs.Prelude.{decimal}
 use Rattle.std.proofs.lemmas.Fmt.{decimal_is_IsNumeral, decimal-digits_value, length-decimal-le, first_decimal, decimal_nonempty, decimal_digit}
 use Rattle.std.proofs.lemmas.Str.Parse.{IsNumeralModel, numerals_by_value, tells_digits, digit_at, digit_from_value, digits_value_short}
@@ -13,9 +13,7 @@ use Rattle.std.proofs.Math.Seq.{take-append_seam, drop-append_seam}
 use Rattle.std.proofs.lemmas.List.Sums.{prefix_len-le-length}
 use Rattle.core.proofs.dec2flt.DigitsLemmas.{digits_value_after_is, is_digit, ends_digits}
 use Rattle.core.proofs.dec2flt.Rows.{AllDigits-digits_len}
-use Rattle.std.specs.Char.{is_ascii_digit}
 use Rattle.std.specs.Float.Numeral.{digits_len}
-use Rattle.std.specs.Str.{bytes_eq}
 use Rattle.std.specs.Str.Parse.{digits_value, AllDigits}
 use Rattle.gc_graph.specs.Fronts.{BeginsWithNumber}
 use Rattle.gc_graph.specs.Tokens.{number_of}
@@ -26,47 +24,30 @@ decimals = numerals_by_value (AllDigits 10) tells_digits
 
 pub number_found : (most : ℕ) (token : List ℕ) (n : ℕ) → number_of most token ≡ Some n → (token ≡ decimal n) × (n ≤ most)
 unfolding number_of
-number_found most token n e =
-    let v = digits_value 10 token in
-    let found = cond_some (bytes_eq (decimal v) token && leb v most) v n e in
-    let both = and_parts (bytes_eq (decimal v) token) (leb v most) found.0 in
-    let is : decimal v ≡ token = (bytes_eq-Decides (decimal v) token).0 both.0 in
-    (sym is ∙ ap decimal found.1, omega (arith, leb-true v most both.1, found.1))
+number_found most token n e = grind (arith, common_steps, cond_some, and_parts, bytes_eq-Decides, leb-true)
 
 value-decimal : (n : ℕ) → n < 2 ^ 64 → digits_value 10 (decimal n) ≡ n
 value-decimal n small = (decimal_is_IsNumeral n small).1
 
 pub number_again : (most n : ℕ) → n ≤ most → n < 2 ^ 64 → number_of most (decimal n) ≡ Some n
 unfolding number_of
-number_again most n le small =
-    let e = value-decimal n small in
-    rw (e, and_from (bytes_eq (decimal n) (decimal n)) (leb n most) ((bytes_eq-Decides (decimal n) (decimal n)).1 refl) (le-leb n most le)) refl
-
-none_or : (b : Bool) (n : ℕ) → (b ≡ true → ⊥) → ◌≡◌ {A = Option ℕ} (cond b (Some n) None) None
-none_or b n never = grind (arith, common_steps)
+number_again most n le small = grind (arith, common_steps, value-decimal, and_from, bytes_eq-Decides, le-leb)
 
 -- a token that is not the decimal of a number up to `most` has no number
 number_none : (most : ℕ) (token : List ℕ) → ((n : ℕ) → n ≤ most → token ≡ decimal n → ⊥) → number_of most token ≡ None
 unfolding number_of
-number_none most token never =
-    let v = digits_value 10 token in
-    none_or (bytes_eq (decimal v) token && leb v most) v (λ e.
-    let both = and_parts (bytes_eq (decimal v) token) (leb v most) e in
-    never v (leb-true v most both.1) (sym ((bytes_eq-Decides (decimal v) token).0 both.0)))
+number_none most token never = grind (arith, common_steps, and_parts, leb-true, bytes_eq-Decides)
 
 pub decimal_are_digits : (n : ℕ) → n < 2 ^ 64 → AllDigits 10 (decimal n)
 decimal_are_digits n small = (decimal_is_IsNumeral n small).0.1
 
 -- ---- digits that are a decimal
 
-zero_leads : (n : ℕ) → n < 2 ^ 64 → get_or (decimal n) 0 0 ≡ 48 → length (decimal n) ≤ 1
-zero_leads n small e = grind (arith, common_steps, decimal_digit, first_decimal)
-
 long_decimal : (ds : List ℕ) → IsDecimal ds → length ds ≤ 20
 long_decimal ds is = omega (arith, ap length is.spelled, length-decimal-le 20 (digits_value 10 ds) (omega arith) (omega (arith, is.small)) (omega arith))
 
 no_zero_leads : (ds : List ℕ) → IsDecimal ds → get_or ds 0 0 ≡ 48 → length ds ≤ 1
-no_zero_leads ds is leads = omega (arith, ap length is.spelled, zero_leads (digits_value 10 ds) is.small (sym (ap (λ (xs : List ℕ). get_or xs 0 0) is.spelled) ∙ leads))
+no_zero_leads ds is leads = grind (arith, common_steps, decimal_digit, first_decimal)
 
 spelled_by : (ds : List ℕ) → AllDigits 10 ds → 0 < length ds → (get_or ds 0 0 ≡ 48 → length ds ≡ 1) → digits_value 10 ds < 2 ^ 64 → IsDecimal ds
 spelled_by ds digits some first small = record { small = small; spelled = sym (decimal-digits_value decimals ds digits some first small) }
@@ -87,11 +68,7 @@ pub record AreFirst (text : List ℕ) (count : ℕ) : Type 0 where
   pub range : (48 ≤ get_or text 0 0) × (get_or text 0 0 ≤ 57)
 
 pub are_first : (text : List ℕ) (count : ℕ) → 0 < count → count ≡ digits_len text → AreFirst text count
-are_first text count some is =
-    let long = length-take-le count text (omega (arith, is, prefix_len-le-length is_ascii_digit text)) in
-    let digits = AllDigits-digits_len text count (omega (arith, is)) in
-    let first = get_or-take count text 0 0 some in
-    record { digits = digits; long = long; first = first; range = rw first at (digit_at (take count text) 0 digits (omega (arith, long, some))) }
+are_first text count some is = grind (arith, common_steps, length-take-le, prefix_len-le-length, AllDigits-digits_len, get_or-take, digit_at)
 
 short_is : (text : List ℕ) (count : ℕ) → 0 < count → count < 20 → (get_or text 0 0 ≡ 48 → count ≡ 1) → AreFirst text count → IsDecimal (take count text)
 short_is text count some short leads are =
@@ -141,12 +118,8 @@ front_is text end value len is fits =
       whole = ap (λ (n : ℕ). digits_len (drop n text)) (omega (arith, len)) ∙ ends_digits text;
     })
 
--- the digits are those of the number that the text begins with
-front_only : (text : List ℕ) (n : ℕ) (rest : List ℕ) → BeginsWithNumber text n rest → (0 < digits_len text) × IsDecimal (take (digits_len text) text)
-front_only text n rest begins = grind (arith, common_steps, digits_len-front, decimal_are_digits, take-append_seam, value-decimal, decimal_nonempty)
-
 pub front_none : (text : List ℕ) (end : ℕ) → end ≡ 0 + digits_len text → (0 < end → ¬ IsDecimal (take end text)) → (n : ℕ) (rest : List ℕ) → ¬ BeginsWithNumber text n rest
-front_none text end len never n rest begins = grind (arith, common_steps, front_only)
+front_none text end len never n rest begins = grind (arith, common_steps, digits_len-front, decimal_are_digits, take-append_seam, value-decimal, decimal_nonempty)
 
 -- ---- the number of a token
 

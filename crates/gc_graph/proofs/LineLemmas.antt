@@ -1,4 +1,5 @@
 -- Lines that have no line feed inside, tokens that have no space, and cutting at a byte.
+use Rattle.std.proofs.lemmas.Grind.{common_steps}
 use Rattle.std.proofs.Common.{◌≡◌, ℕ, ◌^◌, ◌<◌, Bool, true, false, eqb, leb, not, ◌&&◌, List, [], ◌∷◌, ◌++◌, refl, ap, ◌∙◌, arith, inl, inr, ◌⊎◌}
 use Rattle.std.specs.Fmt.{decimal}
 use Rattle.std.specs.List.{AllByRecursion}
@@ -17,9 +18,7 @@ all_high (b ∷ bs) = leb 48 b && all_high bs
 
 pub HasNo-name : (c : ℕ) (name : List ℕ) → c < 48 → all_high name ≡ true → HasNo c name
 HasNo-name c [] low e = tt
-HasNo-name c (b ∷ name) low e =
-    let p = and_parts (leb 48 b) (all_high name) e in
-    (omega (arith, low, leb-true 48 b p.0), HasNo-name c name low p.1)
+HasNo-name c (b ∷ name) low e = grind (arith, common_steps, and_parts, leb-true, HasNo-name c name)
 
 HasNo-digits : (c : ℕ) (ds : List ℕ) → c < 48 → AllDigits 10 ds → HasNo c ds
 HasNo-digits c [] low digits = tt
@@ -57,9 +56,7 @@ lacks c (b ∷ bs) = not (eqb b c) && lacks c bs
 
 pub HasNo-lacks : (c : ℕ) (text : List ℕ) → lacks c text ≡ true → HasNo c text
 HasNo-lacks c [] e = tt
-HasNo-lacks c (b ∷ text) e =
-    let p = and_parts (not (eqb b c)) (lacks c text) e in
-    (eqb-false b c (not-true (eqb b c) p.0), HasNo-lacks c text p.1)
+HasNo-lacks c (b ∷ text) e = grind (arith, common_steps, and_parts, eqb-false, not-true, HasNo-lacks c text)
 
 -- ---- cutting at a byte
 
@@ -73,10 +70,7 @@ pub one_cut : (c : ℕ) (a x b y : List ℕ) → HasNo c a → HasNo c b → a +
 one_cut c [] x [] y p q e = (refl, cc)
 one_cut c [] x (d ∷ b) y p q e = absurd (q.0 cc)
 one_cut c (d ∷ a) x [] y p q e = absurd (p.0 cc)
-one_cut c (d ∷ a) x (g ∷ b) y p q e =
-    let tails : a ++ c ∷ x ≡ b ++ c ∷ y = cc in
-    let r = one_cut c a x b y p.1 q.1 tails in
-    (let head : d ≡ g = cc in rw (head, r.0) refl, r.1)
+one_cut c (d ∷ a) x (g ∷ b) y p q e = grind (arith, common_steps, one_cut c a x b y)
 
 -- a line and what follows it
 pub record Cut (text : List ℕ) : Type 0 where

@@ -1,19 +1,18 @@
 -- Commands keep two graphs matched, and their replies are the same.
 use Rattle.std.proofs.lemmas.Grind.{common_steps}
-use Rattle.std.proofs.Common.{◌≡◌, ℕ, suc, zero, Bool, true, false, cond, ◌&&◌, ◌||◌, ◌==◌, List, [], ◌∷◌, ◌++◌, map, replicate, Option, Some, None, is_some, refl, sym, ◌∙◌, ap, subst, inl, inr, arith}
+use Rattle.std.proofs.Common.{◌≡◌, ℕ, suc, zero, Bool, true, false, cond, ◌&&◌, ◌==◌, List, [], ◌∷◌, ◌++◌, map, replicate, Option, Some, None, is_some, refl, sym, ◌∙◌, ap, subst, inl, inr, arith}
 use Rattle.std.specs.Prelude.{slice_get, not}
 use Rattle.std.specs.List.{AllZip, AllByRecursion, flat_map, list_any}
 use Rattle.std.proofs.lemmas.Bool.{eqb-true, eqb-false, eq-eqb, ne_eqb, cases_Bool, both_ways, and_from, and_right}
 use Rattle.gc_graph.specs.Slots.{place}
 use Rattle.gc_graph.specs.Graph.{Value, Nil, Num, Ref, Object, Graph, lookup, object_of, field_of, value_or_nil, root, set_root, first_value, new_object, add_object, set_field, names_of, IsUnused}
 use Rattle.gc_graph.specs.Machine.{view_of, view_of_object, same, is_number, get_field, put_field, step}
-use Rattle.gc_graph.specs.Correspond.{paired, correspond, EqualFieldByField, Corresponding}
+use Rattle.gc_graph.specs.Correspond.{paired, correspond, Corresponding}
 use Rattle.gc_graph.proofs.Matching.{Alike, nils, numbers, partners, without_objects, ObjectsAlike, Matched}
 use Rattle.gc_graph.specs.declared.command.Op.{Op}
 use Rattle.gc_graph.specs.declared.command.Op.TheVariants as ops
 use Rattle.gc_graph.specs.declared.reply.Reply.{Reply}
 use Rattle.gc_graph.specs.declared.reply.Reply.TheVariants.{Made, Done, NoNumber, Saw, Yes, No}
-use Rattle.gc_graph.specs.declared.reply.View.TheVariants as views
 use Rattle.gc_graph.proofs.Lookups.{paired_cases, paired_more, paired_here, lookup_push_other, lookup_push_same, with_field_option, lookup_set_same, lookup_set_other, lookup_set_none, zip_weaker, zip_map, zip_set, Together, zip_get, zip_length, any_append, Avoids, avoids_each, not_a_key, FieldsAvoid, fields_avoid}
 
 first_alike : (pairs : List (ℕ × ℕ)) (os qs : List (ℕ × Object)) (raw : Bool) → Alike pairs os qs (first_value raw) (first_value raw)
@@ -61,21 +60,18 @@ module _ (pairs : List (ℕ × ℕ)) (g h : Graph) (matched : Matched pairs g h)
   view_alike (partners a b p) = object_view (lookup g.objects a) (lookup h.objects b) (target_alike (partners a b p))
   view_alike (without_objects a b e f) = object_view (lookup g.objects a) (lookup h.objects b) (target_alike (without_objects a b e f))
 
-  is_there : (o q : Option Object) → ObjectsAlike pairs g.objects h.objects o q → (is_some o ≡ true) × (is_some q ≡ true)
-  is_there o q a = grind (arith, common_steps)
-
   absent : (o : Option Object) → o ≡ None → is_some o ≡ false
   absent o e = grind (arith, common_steps)
 
   -- there is a name on the left exactly if there is one on the right
   same_partners : (a b x y : ℕ) → paired pairs a b ≡ true → paired pairs x y ≡ true
       → ((a == x) && is_some (lookup g.objects a)) ≡ ((b == y) && is_some (lookup h.objects b))
-  same_partners a b x y p q = grind (arith, common_steps, is_there, cases_Bool, eqb-true, eq-eqb, and_from, ne_eqb, eqb-false)
+  same_partners a b x y p q = grind (arith, common_steps, cases_Bool, eqb-true, eq-eqb, and_from, ne_eqb, eqb-false)
 
   -- a name with an object is not a name without one
   not_gone : (a b x y : ℕ) → paired pairs a b ≡ true → lookup g.objects x ≡ None → lookup h.objects y ≡ None
       → ((a == x) && is_some (lookup g.objects a)) ≡ ((b == y) && is_some (lookup h.objects b))
-  not_gone a b x y p e f = grind (arith, common_steps, is_there, absent, ne_eqb, both_ways)
+  not_gone a b x y p e f = grind (arith, common_steps, absent, ne_eqb, both_ways)
 
   gone : (a b x y : ℕ) → lookup g.objects a ≡ None → lookup h.objects b ≡ None
       → ((a == x) && is_some (lookup g.objects a)) ≡ ((b == y) && is_some (lookup h.objects b))
@@ -104,39 +100,14 @@ module _ (pairs : List (ℕ × ℕ)) (g h : Graph) (matched : Matched pairs g h)
     still (partners x y q) = partners x y q
     still (without_objects x y e f) = without_objects x y (lookup_set_none g.objects n i v x e) (lookup_set_none h.objects n' i w y f)
 
-    still_objects : (o q : Option Object) → ObjectsAlike pairs g.objects h.objects o q → ObjectsAlike pairs left right o q
-    still_objects (Some o) (Some q) b = (b.0, b.1, zip_map _ _ o.fields q.fields (λ x y. still) b.2)
-    still_objects (Some o) None b = absurd b
-    still_objects None q b = absurd b
-
     written_objects : (o q : Option Object) → ObjectsAlike pairs g.objects h.objects o q → ObjectsAlike pairs left right (with_field_option o i v) (with_field_option q i w)
-    written_objects (Some o) (Some q) b = (b.0, b.1, zip_set _ o.fields q.fields i v w (still a) (zip_map _ _ o.fields q.fields (λ x y. still) b.2))
-    written_objects (Some o) None b = absurd b
-    written_objects None q b = absurd b
+    written_objects o q b = grind (arith, common_steps, zip_set, still, zip_map)
 
     each_object : (x y : ℕ) → paired pairs x y ≡ true → ObjectsAlike pairs left right (lookup left x) (lookup right y)
-    each_object x y q = elim (cases_Bool (x == n)) [
-      | inl same ↦ (let xn : x ≡ n = eqb-true x n same in
-          let yn : y ≡ n' = matched.one_right n y n' (subst (λ m. paired pairs m y ≡ true) xn q) p in
-          let at : ObjectsAlike pairs left right (lookup left n) (lookup right n')
-          = subst (λ r. ObjectsAlike pairs left right r (lookup right n')) (sym (lookup_set_same g.objects n i v))
-          (subst (λ r. ObjectsAlike pairs left right (with_field_option (lookup g.objects n) i v) r) (sym (lookup_set_same h.objects n' i w))
-          (written_objects (lookup g.objects n) (lookup h.objects n') (matched.objects n n' p))) in
-          subst (λ m. ObjectsAlike pairs left right (lookup left m) (lookup right y)) (sym xn) (subst (λ m. ObjectsAlike pairs left right (lookup left n) (lookup right m)) (sym yn) at))
-      | inr other ↦ (let xn : x ≡ n → ⊥ = eqb-false x n other in
-          let yn : y ≡ n' → ⊥ = λ e. xn (matched.one_left x n n' (subst (λ m. paired pairs x m ≡ true) e q) p) in
-          subst (λ r. ObjectsAlike pairs left right r (lookup right y)) (sym (lookup_set_other g.objects n i v x xn))
-          (subst (λ r. ObjectsAlike pairs left right (lookup g.objects x) r) (sym (lookup_set_other h.objects n' i w y yn))
-          (still_objects (lookup g.objects x) (lookup h.objects y) (matched.objects x y q))))
-    ]
+    each_object x y q = grind (arith, common_steps, cases_Bool, eqb-true, lookup_set_same, with_field_option, written_objects, eqb-false, lookup_set_other, zip_map, still)
 
     matched_field : Matched pairs (record { objects = left; roots = g.roots }) (record { objects = right; roots = h.roots })
-    matched_field = record {
-      roots = zip_map _ _ g.roots h.roots (λ x y. still) matched.roots;
-      objects = each_object;
-      one_right = matched.one_right;
-      one_left = matched.one_left;
-    }
+    matched_field = grind (arith, common_steps, zip_map, still, each_object)
 
   -- a new object on each side, under names that occur nowhere
   module _ (a b : ℕ) (unused : IsUnused g a) (unused' : IsUnused h b) (o : Object) (first_fields : AllByRecursion (λ v. v ≡ first_value o.raw) o.fields) where
@@ -150,11 +121,7 @@ module _ (pairs : List (ℕ × ℕ)) (g h : Graph) (matched : Matched pairs g h)
     right_more = h.objects ++ (b, o) ∷ []
 
     ref_differs : (n x : ℕ) → Avoids n (Ref x) → (n == x) ≡ false
-    ref_differs n x e = ne_eqb n x (λ same. both_ways (list_any (λ other. other == n) (x ∷ [])) e (first_true (x == n) (eq-eqb x n (sym same))))
-      where
-        first_true : (t : Bool) → t ≡ true → (t || false) ≡ true
-        first_true true e = refl
-        first_true false e = cc
+    ref_differs n x e = grind (arith, common_steps, ne_eqb, both_ways, eq-eqb)
 
     newer : {x y : Value} → Avoids a x → Avoids b y → Alike pairs g.objects h.objects x y → Alike more left_more right_more x y
     newer s t nils = nils
@@ -163,9 +130,7 @@ module _ (pairs : List (ℕ × ℕ)) (g h : Graph) (matched : Matched pairs g h)
     newer s t (without_objects x y e f) = without_objects x y (lookup_push_other g.objects a o x (ref_differs a x s) ∙ e) (lookup_push_other h.objects b o y (ref_differs b y t) ∙ f)
 
     newer_objects : (p q : Option Object) → FieldsAvoid a p → FieldsAvoid b q → ObjectsAlike pairs g.objects h.objects p q → ObjectsAlike more left_more right_more p q
-    newer_objects (Some p) (Some q) s t c = (c.0, c.1, zip_weaker _ _ (Avoids a) (Avoids b) p.fields q.fields (λ x y. newer) s t c.2)
-    newer_objects (Some p) None s t c = absurd c
-    newer_objects None q s t c = absurd c
+    newer_objects p q s t c = grind (arith, common_steps, zip_weaker, newer)
 
     abbrev key_parts : (list_any (λ other. other == a) (map (λ entry. entry.0) g.objects ++ flat_map (λ entry. flat_map names_of entry.1.fields) g.objects) ≡ false) × (list_any (λ other. other == a) (flat_map names_of g.roots) ≡ false)
     key_parts = any_append (λ other. other == a) (map (λ entry. entry.0) g.objects ++ flat_map (λ entry. flat_map names_of entry.1.fields) g.objects) (flat_map names_of g.roots) unused
@@ -179,45 +144,25 @@ module _ (pairs : List (ℕ × ℕ)) (g h : Graph) (matched : Matched pairs g h)
     abbrev object_parts' : (list_any (λ other. other == b) (map (λ entry. entry.0) h.objects) ≡ false) × (list_any (λ other. other == b) (flat_map (λ entry. flat_map names_of entry.1.fields) h.objects) ≡ false)
     object_parts' = any_append (λ other. other == b) (map (λ entry. entry.0) h.objects) (flat_map (λ entry. flat_map names_of entry.1.fields) h.objects) key_parts'.0
 
-    left_absent : lookup g.objects a ≡ None
-    left_absent = not_a_key a g.objects object_parts.0
-
     right_absent : lookup h.objects b ≡ None
     right_absent = not_a_key b h.objects object_parts'.0
 
     nothing_there : (p q : Option Object) → ObjectsAlike pairs g.objects h.objects p q → p ≡ None → ⊥
-    nothing_there (Some p) (Some q) c e = cc
-    nothing_there (Some p) None c e = c
-    nothing_there None q c e = c
-
-    nothing_there' : (p q : Option Object) → ObjectsAlike pairs g.objects h.objects p q → q ≡ None → ⊥
-    nothing_there' (Some p) (Some q) c e = cc
-    nothing_there' (Some p) None c e = c
-    nothing_there' None q c e = c
+    nothing_there p q c e = grind (arith, common_steps)
 
     -- the new names had no partner
     left_unpaired : (y : ℕ) → paired pairs a y ≡ true → ⊥
-    left_unpaired y q = nothing_there _ _ (matched.objects a y q) left_absent
+    left_unpaired y q = grind (arith, common_steps, nothing_there, not_a_key)
 
     right_unpaired : (x : ℕ) → paired pairs x b ≡ true → ⊥
-    right_unpaired x q = nothing_there' _ _ (matched.objects x b q) right_absent
+    right_unpaired x q = grind (arith, common_steps, right_absent)
 
     zip_first : (vs : List Value) → AllByRecursion (λ v. v ≡ first_value o.raw) vs → AllZip (Alike more left_more right_more) vs vs
     zip_first [] e = tt
     zip_first (v ∷ vs) e = (subst (λ x. Alike more left_more right_more x x) (sym e.0) (first_alike more left_more right_more o.raw), zip_first vs e.1)
 
     each_newer : (x y : ℕ) → paired more x y ≡ true → ObjectsAlike more left_more right_more (lookup left_more x) (lookup right_more y)
-    each_newer x y q = elim (paired_cases (a, b) pairs x y q) [
-      | inl here ↦ (let at : ObjectsAlike more left_more right_more (lookup left_more a) (lookup right_more b)
-          = subst (λ r. ObjectsAlike more left_more right_more r (lookup right_more b)) (sym (lookup_push_same g.objects a o left_absent))
-          (subst (λ r. ObjectsAlike more left_more right_more (Some o) r) (sym (lookup_push_same h.objects b o right_absent)) (refl, refl, zip_first o.fields first_fields)) in
-          subst (λ m. ObjectsAlike more left_more right_more (lookup left_more m) (lookup right_more y)) here.0 (subst (λ m. ObjectsAlike more left_more right_more (lookup left_more a) (lookup right_more m)) here.1 at))
-      | inr later ↦ (let xa : (a == x) ≡ false = ne_eqb a x (λ e. left_unpaired y (subst (λ m. paired pairs m y ≡ true) (sym e) later)) in
-          let yb : (b == y) ≡ false = ne_eqb b y (λ e. right_unpaired x (subst (λ m. paired pairs x m ≡ true) (sym e) later)) in
-          subst (λ r. ObjectsAlike more left_more right_more r (lookup right_more y)) (sym (lookup_push_other g.objects a o x xa))
-          (subst (λ r. ObjectsAlike more left_more right_more (lookup g.objects x) r) (sym (lookup_push_other h.objects b o y yb))
-          (newer_objects (lookup g.objects x) (lookup h.objects y) (fields_avoid a g.objects x object_parts.1) (fields_avoid b h.objects y object_parts'.1) (matched.objects x y later))))
-    ]
+    each_newer x y q = grind (arith, common_steps, paired_cases, lookup_push_same, not_a_key, right_absent, zip_first, ne_eqb, left_unpaired, right_unpaired, lookup_push_other, newer_objects, fields_avoid)
 
     matched_new : Matched more (add_object g a o) (add_object h b o)
     matched_new = record {
@@ -335,8 +280,5 @@ zip_alike pairs os qs [] (w ∷ ws) z = absurd z
 zip_alike pairs os qs (v ∷ vs) [] z = absurd z
 zip_alike pairs os qs (v ∷ vs) (w ∷ ws) z = (alike_of pairs os qs v w z.0, zip_alike pairs os qs vs ws z.1)
 
-objects_alike : (pairs : List (ℕ × ℕ)) (os qs : List (ℕ × Object)) (o q : Option Object) → EqualFieldByField pairs o q → ObjectsAlike pairs os qs o q
-objects_alike pairs os qs o q c = grind (arith, common_steps, zip_alike)
-
 pub matched_of : (pairs : List (ℕ × ℕ)) (g h : Graph) → Corresponding pairs g h → Matched pairs g h
-matched_of pairs g h c = grind (arith, common_steps, zip_alike, objects_alike)
+matched_of pairs g h c = grind (arith, common_steps, zip_alike)

@@ -41,20 +41,14 @@ moved text rest p left (Some ys) piece h c = moved_to text p piece ys h.read_is 
 
 -- the input ends
 pub at_end : (text : List ℕ) (n : ℕ) (left : Option (List ℕ)) → left ≡ Some (drop n text) → IsAtEnd left → length text ≤ n
-at_end text n left is ends =
-    let empty : drop n text ≡ [] = subst IsAtEnd is ends in
-    omega (arith, ap length empty, length-drop n text)
-
--- at the end of input, the rest of the text is in the buffer
-left_waits : (text rest : List ℕ) (p : Progress) (left : Option (List ℕ)) → IsWithin text rest p left → length text ≤ p.read → rest ≡ p.waiting
-left_waits text rest p left h short = h.rest_is ∙ ap (λ (l : List ℕ). p.waiting ++ l) (drop_all p.read text short) ∙ append-nil p.waiting
+at_end text n left is ends = omega (arith, ap length (subst IsAtEnd is ends), length-drop n text)
 
 pub all_waits : (text rest : List ℕ) (p : Progress) (left : Option (List ℕ)) → IsWithin text rest p left → p.ended ≡ true → (rest ≡ p.waiting) × (length text ≤ p.read)
-all_waits text rest p left h ended = (left_waits text rest p left h (h.end_is ended), h.end_is ended)
+all_waits text rest p left h ended = grind (arith, common_steps, drop_all, append-nil)
 
 -- if the input ends without another byte, the buffer has the rest of the text
 pub ends_there : (text rest : List ℕ) (before after : Progress) (left new : Option (List ℕ)) → IsWithin text rest before left → IsWithin text rest after new → after.ended ≡ true → after.read ≡ before.read → (rest ≡ before.waiting) × (length text ≤ after.read)
-ends_there text rest before after left new h next ended same = grind (arith, common_steps, left_waits)
+ends_there text rest before after left new h next ended same = grind (arith, common_steps, drop_all, append-nil)
 
 -- the buffer is empty
 pub no_byte : (bytes : List ℕ) → length bytes ≡ 0 → bytes ≡ []

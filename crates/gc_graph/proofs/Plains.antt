@@ -1,15 +1,13 @@
 -- The plain machine's map of records as the graph's objects.
 use Rattle.std.proofs.lemmas.Grind.{common_steps}
-use Rattle.std.proofs.Common.{◌≡◌, ℕ, suc, zero, ◌<◌, ◌≤◌, true, false, cond, ◌==◌, List, [], ◌∷◌, ◌++◌, map, length, Some, None, refl, sym, ◌∙◌, ap, subst, arith}
+use Rattle.std.proofs.Common.{◌≡◌, ℕ, suc, zero, ◌<◌, ◌≤◌, true, false, ◌==◌, List, [], ◌∷◌, ◌++◌, map, length, Some, None, refl, sym, ◌∙◌, ap, arith, is_some}
 use Rattle.std.specs.Ordering.{nat_cmp, is_eq}
 use Rattle.std.specs.BTreeMap.{insert_entry}
 use Rattle.std.specs.BTreeMap as tree
 use Rattle.std.specs.Map as entries
 use Rattle.std.specs.List.{AllByRecursion}
 use Rattle.std.proofs.lemmas.List.{length-map, map-set}
-use Rattle.std.proofs.lemmas.Map.Steps.{set_value_same}
 use Rattle.std.specs.Vec.{with_item}
-use Rattle.std.proofs.Common.{is_some}
 use Rattle.std.proofs.lemmas.Bool.{lt-ltb, le-ltb, eq-eqb, ne_eqb, cases_order}
 use Rattle.std.specs.Prelude.{slice_get, slice_set, replicate}
 use Rattle.gc_graph.specs.Graph.{Value, Object, Graph, lookup, object_of, field_of, set_root, set_field, with_field}
@@ -48,11 +46,7 @@ entries_push (x ∷ es) e = ap (λ os. named_object x ∷ os) (entries_push es e
 
 pub object_short : (os : List (ℕ × Object)) (q : ℕ) (o : Object) → AllByRecursion (λ e. length e.1.fields < 65536) os → Some o ≡ lookup os q → length o.fields < 65536
 object_short [] q o all e = absurd (let no : Some o ≡ None = e in cc)
-object_short (x ∷ os) q o all e =
-    elim (x.0 == q) as (λ b. Some o ≡ cond b (Some x.1) (lookup os q) → length o.fields < 65536) [
-      | true ↦ λ e. (let same : x.1 ≡ o = cc in subst (λ o. length o.fields < 65536) same all.0)
-      | false ↦ λ e. object_short os q o all.1 e
-    ] e
+object_short (x ∷ os) q o all e = grind (arith, common_steps, object_short os q o)
 
 -- ---- a written field
 
@@ -62,18 +56,7 @@ written_object r i v = (let fields : map plain_value (slice_set r.fields.items i
 pub written_entries : (es : List (ℕ × Record)) (q i : ℕ) (r : Record) (v : PlainValue) → entries.lookup (tree.is_at (nat_cmp q)) es ≡ Some r
     → objects_of (entries.set_value (tree.is_at (nat_cmp q)) es (record { raw = r.raw; kind = r.kind; fields = with_item r.fields i v })) ≡ set_field (objects_of es) q i (plain_value v)
 written_entries [] q i r v e = absurd (let no : None ≡ Some r = e in cc)
-written_entries (x ∷ es) q i r v e =
-    elim (x.0 == q) as (λ b. is_eq (nat_cmp q x.0) ≡ b
-    → objects_of (cond (is_eq (nat_cmp q x.0)) ((x.0, record { raw = r.raw; kind = r.kind; fields = with_item r.fields i v }) ∷ es) (x ∷ entries.set_value (tree.is_at (nat_cmp q)) es (record { raw = r.raw; kind = r.kind; fields = with_item r.fields i v })))
-    ≡ cond b ((x.0, with_field (object_of_record x.1) i (plain_value v)) ∷ objects_of es) (named_object x ∷ set_field (objects_of es) q i (plain_value v))) [
-      | true ↦ λ at. (let found : Some x.1 ≡ Some r = sym (ap (λ b. cond b (Some x.1) (entries.lookup (tree.is_at (nat_cmp q)) es)) at) ∙ e in
-          let same : x.1 ≡ r = cc in
-          ap (λ b. objects_of (cond b ((x.0, record { raw = r.raw; kind = r.kind; fields = with_item r.fields i v }) ∷ es) (x ∷ entries.set_value (tree.is_at (nat_cmp q)) es (record { raw = r.raw; kind = r.kind; fields = with_item r.fields i v })))) at
-          ∙ ap (λ o. (x.0, o) ∷ objects_of es) (written_object r i v ∙ ap (λ r. with_field (object_of_record r) i (plain_value v)) (sym same)))
-      | false ↦ λ at. (let later : entries.lookup (tree.is_at (nat_cmp q)) es ≡ Some r = sym (ap (λ b. cond b (Some x.1) (entries.lookup (tree.is_at (nat_cmp q)) es)) at) ∙ e in
-          ap (λ b. objects_of (cond b ((x.0, record { raw = r.raw; kind = r.kind; fields = with_item r.fields i v }) ∷ es) (x ∷ entries.set_value (tree.is_at (nat_cmp q)) es (record { raw = r.raw; kind = r.kind; fields = with_item r.fields i v })))) at
-          ∙ ap (λ os. named_object x ∷ os) (written_entries es q i r v later))
-    ] (at_key q x.0)
+written_entries (x ∷ es) q i r v e = grind (arith, common_steps, written_object, at_key, written_entries es q i r v)
 
 get_there : (xs : List Value) (i : ℕ) → i < length xs → is_some (slice_get xs i) ≡ true
 get_there [] i h = absurd (omega arith)
@@ -95,10 +78,6 @@ field_past es q i n r e l h =
 
 pub record_gone : (es : List (ℕ × Record)) (q i : ℕ) → None ≡ entries.lookup (tree.is_at (nat_cmp q)) es → false ≡ is_some (field_of (lookup (objects_of es) q) i)
 record_gone es q i e = sym (ap (λ o. is_some (field_of o i)) (sym (found_record es q) ∙ ap record_option (sym e)))
-
--- writing back what was read changes nothing
-pub same_entries : (es : List (ℕ × Record)) (q : ℕ) (r : Record) → entries.lookup (tree.is_at (nat_cmp q)) es ≡ Some r → entries.set_value (tree.is_at (nat_cmp q)) es r ≡ es
-same_entries es q r e = set_value_same (tree.is_at (nat_cmp q)) es r e
 
 -- ---- a field that exists
 

@@ -9,5 +9,5 @@ pub use Rattle.gc_graph.proofs.Matching.{Matched}
 pub use Rattle.gc_graph.proofs.PieceSteps.{all_waits, ends_there, if_known, no_byte, within_all}
 pub use Rattle.gc_graph.proofs.Replies.{fresh_unused, matched_itself, own_pairs}
 pub use Rattle.gc_graph.proofs.SentText.{front_sent, nothing_sent, sent_at_last, sent_then}
-pub use Rattle.gc_graph.proofs.Stepping.{in_place, new_command, new_step, step_roots, with_free}
+pub use Rattle.gc_graph.proofs.Stepping.{in_place, new_step, step_roots, with_free}
 pub use Rattle.gc_graph.proofs.TokenParsers.{bind_some, end_again, end_found, name_case, number_at_again, number_at_found, onto, positive, some, some_is, token_at_again, token_at_found}

@@ -1,10 +1,10 @@
 -- Lists of commands on matched graphs.
 use Rattle.std.proofs.lemmas.Grind.{common_steps}
-use Rattle.std.proofs.Common.{◌≡◌, ℕ, suc, zero, ◌-◌, ◌≤◌, max, Bool, true, false, cond, not, ◌==◌, List, [], ◌∷◌, map, take, Option, Some, is_some, refl, sym, ◌∙◌, ap, subst, inl, inr, arith}
+use Rattle.std.proofs.Common.{◌≡◌, ℕ, suc, zero, ◌-◌, ◌≤◌, max, Bool, true, false, cond, not, ◌==◌, List, [], ◌∷◌, map, take, Option, is_some, refl, sym, ◌∙◌, ap, subst, arith}
 use Rattle.std.specs.Prelude.{nat_lt}
 use Rattle.std.specs.List.{AllZip, fold, list_any, list_all}
 use Rattle.std.proofs.lemmas.Bool.{eqb-true, eq-eqb, ne_eqb, cases_Bool, and_parts}
-use Rattle.gc_graph.specs.Graph.{Value, Nil, Num, Ref, Object, Graph, lookup, names_in, IsUnused, fresh_name}
+use Rattle.gc_graph.specs.Graph.{Value, Object, Graph, lookup, names_in, IsUnused, fresh_name}
 use Rattle.gc_graph.specs.Machine.{Roomy, step, words_taken, roomy_step}
 use Rattle.gc_graph.specs.Runs.{replies, replies_by, AreUnused, is_full, HasRoom}
 use Rattle.gc_graph.specs.Correspond.{paired}
@@ -22,25 +22,11 @@ own_pairs os = map (λ entry. (entry.0, entry.0)) os
 
 own_from : (os : List (ℕ × Object)) (x y : ℕ) → paired (own_pairs os) x y ≡ true → (x ≡ y) × (is_some (lookup os x) ≡ true)
 own_from [] x y e = cc
-own_from (entry ∷ os) x y e =
-    elim (paired_cases (entry.0, entry.0) (own_pairs os) x y e) [
-      | inl here ↦ (sym here.0 ∙ here.1, ap (λ b. is_some (cond b (Some entry.1) (lookup os x))) (eq-eqb entry.0 x here.0))
-      | inr later ↦ (let found : (x ≡ y) × (is_some (lookup os x) ≡ true) = own_from os x y later in
-          (found.0, elim (entry.0 == x) as (λ b. is_some (cond b (Some entry.1) (lookup os x)) ≡ true) [ true ↦ refl | false ↦ found.1 ]))
-    ]
+own_from (entry ∷ os) x y e = grind (arith, common_steps, paired_cases, is_some, eq-eqb, own_from os x y)
 
 own_paired : (os : List (ℕ × Object)) (x : ℕ) → is_some (lookup os x) ≡ true → paired (own_pairs os) x x ≡ true
 own_paired [] x e = cc
-own_paired (entry ∷ os) x e =
-    elim (cases_Bool (entry.0 == x)) [
-      | inl here ↦ (let at : entry.0 ≡ x = eqb-true entry.0 x here in subst (λ n. paired ((entry.0, entry.0) ∷ own_pairs os) n n ≡ true) at (paired_here entry.0 entry.0 (own_pairs os)))
-      | inr other ↦ paired_more (entry.0, entry.0) (own_pairs os) x x (own_paired os x (sym (ap (λ b. is_some (cond b (Some entry.1) (lookup os x))) other) ∙ e))
-    ]
-
-alike_itself : (os : List (ℕ × Object)) (v : Value) → Alike (own_pairs os) os os v v
-alike_itself os Nil = nils
-alike_itself os (Num n) = numbers n
-alike_itself os (Ref a) = grind (arith, common_steps, nils, numbers, without_objects, partners, own_paired)
+own_paired (entry ∷ os) x e = grind (arith, common_steps, cases_Bool, eqb-true, paired_here, paired_more, is_some, own_paired os x)
 
 zip_itself : {X : Type 0} (R : X → X → Type 0) (xs : List X) → ((x : X) → R x x) → AllZip R xs xs
 zip_itself R [] each = tt
@@ -50,7 +36,7 @@ object_itself : (pairs : List (ℕ × ℕ)) (os : List (ℕ × Object)) (o : Opt
 object_itself pairs os o each e = grind (arith, common_steps, zip_itself)
 
 pub matched_itself : (g : Graph) → Matched (own_pairs g.objects) g g
-matched_itself g = grind (arith, common_steps, zip_itself, alike_itself, own_from, object_itself)
+matched_itself g = grind (arith, common_steps, zip_itself, nils, numbers, without_objects, partners, own_paired, own_from, object_itself)
 
 -- ---- the fresh name
 
@@ -71,11 +57,8 @@ fresh_unused g = none_at (names_in g) 0 (fresh_name g) (omega arith)
 abbrev plain_step : Roomy → ℕ → Op → ℕ → Reply × Roomy
 plain_step s m op name = let next = step s.graph m op name in (next.0, record { graph = next.1; free = s.free - words_taken op })
 
-with_room : (b : Bool) (s : Roomy) (x : Reply × Roomy) → not (is_full (cond b (Full, s) x).0) ≡ true → cond b (Full, s) x ≡ x
-with_room b s x e = grind (arith, common_steps)
-
 roomy_is_plain : (s : Roomy) (m : ℕ) (op : Op) (name : ℕ) → not (is_full (roomy_step s m op name).0) ≡ true → roomy_step s m op name ≡ plain_step s m op name
-roomy_is_plain s m op name e = with_room (nat_lt s.free (words_taken op)) s (plain_step s m op name) e
+roomy_is_plain s m op name e = grind (arith, common_steps)
 
 -- The replies are the same up to the first command for which one side has no room.
 pub replies_alike : (commands : List (ℕ × Op)) (n : ℕ) (s t : Roomy) (pairs : List (ℕ × ℕ)) → Matched pairs s.graph t.graph
@@ -91,11 +74,9 @@ replies_alike (command ∷ rest) (suc n) s t pairs matched r r' =
     let e' : right ≡ plain_step t command.0 command.1 (fresh_name t.graph) = roomy_is_plain t command.0 command.1 (fresh_name t.graph) room'.0 in
     let stepped : AlikeAfter (step s.graph command.0 command.1 (fresh_name s.graph)) (step t.graph command.0 command.1 (fresh_name t.graph))
     = step_alike pairs s.graph t.graph matched command.0 command.1 (fresh_name s.graph) (fresh_name t.graph) (fresh_unused s.graph) (fresh_unused t.graph) in
-    let same_reply : left.0 ≡ right.0 = ap (λ x. x.0) e ∙ stepped.0 ∙ sym (ap (λ x. x.0) e') in
     let matched' : Matched stepped.1 left.1.graph right.1.graph
     = subst (λ x. Matched stepped.1 x.1.graph right.1.graph) (sym e) (subst (λ x. Matched stepped.1 (plain_step s command.0 command.1 (fresh_name s.graph)).1.graph x.1.graph) (sym e') stepped.2) in
-    let same_rest : take n (replies left.1 rest) ≡ take n (replies right.1 rest) = replies_alike rest n left.1 right.1 stepped.1 matched' room.1 room'.1 in
-    λ i. same_reply i ∷ same_rest i
+    λ i. (ap (λ x. x.0) e ∙ stepped.0 ∙ sym (ap (λ x. x.0) e')) i ∷ (replies_alike rest n left.1 right.1 stepped.1 matched' room.1 room'.1) i
 
 -- ---- with the same bound on both sides
 

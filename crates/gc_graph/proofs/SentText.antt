@@ -23,11 +23,7 @@ more_sent_slice old mid new text rest count so_far more = grind (arith, common_s
 
 -- more text waits after the buffer
 pub sent_then : (a b c : Option (List ℕ)) (text waiting mid more rest : List ℕ) → HasSent a b text waiting → HasSent b c waiting mid → rest ≡ mid ++ more → HasSent a c (text ++ more) rest
-sent_then a b c text waiting mid more rest first second is = record {
-  front = first.front ++ second.front;
-  parts = ap (λ (t : List ℕ). t ++ more) (first.parts ∙ ap (λ (t : List ℕ). first.front ++ t) second.parts ∙ sym (append_assoc first.front second.front mid)) ∙ append_assoc (first.front ++ second.front) mid more ∙ ap (λ (t : List ℕ). (first.front ++ second.front) ++ t) (sym is);
-  out = Appends-trans a b c first.front second.front first.out second.out;
-}
+sent_then a b c text waiting mid more rest first second is = grind (arith, common_steps, append_assoc, Appends-trans)
 
 -- the buffer is written, or a prefix of it
 pub sent_at_last : (a b c : Option (List ℕ)) (text waiting : List ℕ) → HasSent a b text waiting → Appends b c waiting → Appends a c text

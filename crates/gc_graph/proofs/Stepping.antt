@@ -1,7 +1,7 @@
 -- The plain machine's commands get the roomy machine's replies.
 use Rattle.std.proofs.lemmas.Grind.{common_steps}
 use Rattle.std.proofs.Common.{◌≡◌, ℕ, ◌+◌, ◌-◌, ◌<◌, ◌≤◌, cond, refl, sym, ◌∙◌, ap, subst, arith}
-use Rattle.std.specs.Prelude.{true, false, nat_lt, Result, IfOk, OnErr, Option, length, Bool}
+use Rattle.std.specs.Prelude.{true, false, nat_lt, Result, IfOk, Option, length, Bool}
 use Rattle.gc_graph.specs.declared.no_memory.NoMemory.{NoMemory}
 use Rattle.std.proofs.lemmas.Bool.{le-ltb, lt-ltb}
 use Rattle.std.proofs.lemmas.List.{length-set}
@@ -26,11 +26,8 @@ use Rattle.gc_graph.proofs.Bounds.{step_below, step_short, next_unused}
 abbrev pub with_free : ℕ → Reply × Graph → Reply × Roomy
 with_free free x = (x.0, record { graph = x.1; free = free })
 
-takes_none : (s : Roomy) (x : Reply × Graph) → cond (nat_lt s.free 0) (Full, s) (with_free (s.free - 0) x) ≡ with_free s.free x
-takes_none s x = grind (arith, common_steps, le-ltb)
-
 pub in_place : (s : Roomy) (m : ℕ) (op : Op) (name : ℕ) → (MakesObject op → ⊥) → roomy_step s m op name ≡ with_free s.free (step s.graph m op name)
-in_place s m op name makes_none = grind (arith, common_steps, takes_none)
+in_place s m op name makes_none = grind (arith, common_steps, le-ltb)
 
 abbrev pub StepLeadsTo : Graph → ℕ → Op → Reply → Graph → Type 0
 StepLeadsTo g m op reply h = ◌≡◌ {A = Reply × Graph} (reply, h) (step g m op (fresh_name g))
@@ -91,29 +88,17 @@ new_command false d kind len = ops.New d kind len
 pub new_step : (s t : Roomy) (m : ℕ) (d : SlotName) (raw : Bool) (kind len name : ℕ) (reply : Reply) → (reply, t) ≡ cond (nat_lt s.free (len + 2)) (Full, s) (with_object s name (place d m) raw kind len) → roomy_step s m (new_command raw d kind len) name ≡ (reply, t)
 new_step s t m d raw kind len name reply is = grind (arith, common_steps)
 
-new_answered : (s t : Roomy) (m : ℕ) (d : SlotName) (p : ℕ) (raw : Bool) (kind len : ℕ) (reply : Reply) (op : Op) → op ≡ new_command raw d kind len → p ≡ place d m → Makes s p raw kind len reply t → Answers s m op reply t
-new_answered s t m d p raw kind len reply op is at makes = grind (arith, common_steps, new_step, made)
-
 pub new_answered_if_ok : (r : Result Reply NoMemory) (s t : Roomy) (m : ℕ) (d : SlotName) (p : ℕ) (raw : Bool) (kind len : ℕ) (op : Op) → op ≡ new_command raw d kind len → p ≡ place d m
     → IfOk r (λ reply. Makes s p raw kind len reply t) → IfOk r (λ reply. Answers s m op reply t)
-new_answered_if_ok r s t m d p raw kind len op is at makes = grind (arith, common_steps, new_answered)
+new_answered_if_ok r s t m d p raw kind len op is at makes = grind (arith, common_steps, new_step, made)
 
 -- ---- the number of roots stays the same
-
-got_roots : (g : Graph) (d : ℕ) (o : Option Object) (v : Option Value) → length (get_field g d o v).1.roots ≡ length g.roots
-got_roots g d o v = grind (arith, common_steps, length-set)
 
 put_roots : (g : Graph) (target : Value) (o : Option Object) (f : Option Value) (i : ℕ) (v : Value) → length (put_field g target o f i v).1.roots ≡ length g.roots
 put_roots g target o f i v = grind (arith, common_steps, refused)
 
 pub step_roots : (g : Graph) (m : ℕ) (op : Op) (name : ℕ) → length (step g m op name).1.roots ≡ length g.roots
-step_roots g m op name = grind (arith, common_steps, length-set, got_roots, put_roots)
-
-either_roots : (b : Bool) (s : Roomy) (x : Reply × Roomy) → length x.1.graph.roots ≡ length s.graph.roots → length (cond b (Full, s) x).1.graph.roots ≡ length s.graph.roots
-either_roots b s x e = grind (arith, common_steps)
+step_roots g m op name = grind (arith, common_steps, length-set, put_roots)
 
 pub answered_roots : (s t : Roomy) (m : ℕ) (op : Op) (reply : Reply) → Answers s m op reply t → length t.graph.roots ≡ length s.graph.roots
-answered_roots s t m op reply a = grind (arith, common_steps, either_roots, step_roots)
-
-pub answered_roots_if_ok : (r : Result Reply NoMemory) (s t : Roomy) (m : ℕ) (op : Op) → IfOk r (λ reply. Answers s m op reply t) → OnErr r (t ≡ s) → length t.graph.roots ≡ length s.graph.roots
-answered_roots_if_ok r s t m op a same = grind (arith, common_steps, answered_roots)
+answered_roots s t m op reply a = grind (arith, common_steps, step_roots)

@@ -1,6 +1,6 @@
 -- Taking tokens from a line gives what was written there, and nothing else.
 use Rattle.std.proofs.lemmas.Grind.{common_steps}
-use Rattle.std.proofs.Common.{◌≡◌, ℕ, ◌^◌, ◌<◌, ◌≤◌, Bool, true, cond, eqb, List, [], ◌∷◌, refl, ap, arith, Option, Some, None, subst}
+use Rattle.std.proofs.Common.{◌≡◌, ℕ, ◌^◌, ◌<◌, ◌≤◌, Bool, cond, eqb, List, [], ◌∷◌, refl, ap, arith, Option, Some, None, subst}
 use Rattle.std.specs.Fmt.{decimal}
 use Rattle.std.specs.Str.{bytes_eq}
 use Rattle.std.proofs.lemmas.Bool.{eqb-false}
@@ -11,16 +11,13 @@ use Rattle.gc_graph.proofs.Decimals.{number_found, number_again}
 
 -- ---- written tokens are read back
 
-bytes_same : (xs : List ℕ) → bytes_eq xs xs ≡ true
-bytes_same xs = (bytes_eq-Decides xs xs).1 refl
-
 pub number_at_again : (most n : ℕ) (tokens : Tokens) → n ≤ most → n < 2 ^ 64 → number_at most (decimal n ∷ tokens) ≡ Some (n, tokens)
 unfolding number_at
 number_at_again most n tokens le small = rw (number_again most n le small) refl
 
 pub token_at_again : (wanted : List ℕ) (tokens : Tokens) → token_at wanted (wanted ∷ tokens) ≡ Some tokens
 unfolding token_at
-token_at_again wanted tokens = rw (bytes_same wanted) refl
+token_at_again wanted tokens = grind (arith, common_steps, bytes_eq-Decides)
 
 pub end_again : {A : Type 0} (x : A) → if_all_taken x [] ≡ Some x
 unfolding if_all_taken
@@ -52,15 +49,11 @@ number_at_found most (token ∷ tokens) x e =
 
 pub token_at_found : (wanted : List ℕ) (tokens rest : Tokens) → token_at wanted tokens ≡ Some rest → tokens ≡ wanted ∷ rest
 unfolding token_at
-token_at_found wanted [] rest e = absurd cc
-token_at_found wanted (token ∷ tokens) rest e =
-    let c = cond_some (bytes_eq token wanted) tokens rest e in
-    rw ((bytes_eq-Decides token wanted).0 c.0, c.1) refl
+token_at_found wanted tokens rest e = grind (arith, common_steps, cond_some, bytes_eq-Decides)
 
 pub end_found : {A : Type 0} (x : A) (tokens : Tokens) (y : A) → if_all_taken x tokens ≡ Some y → (tokens ≡ []) × (x ≡ y)
 unfolding if_all_taken
-end_found x [] y e = (refl, some_is x y e)
-end_found x (token ∷ tokens) y e = absurd cc
+end_found x tokens y e = grind (arith, common_steps, some_is)
 
 -- the token is the wanted one or another
 pub name_case : {A : Type 0} (P : List ℕ → Type 0) (name wanted : List ℕ) (x y : Option A) (r : A) → cond (bytes_eq name wanted) x y ≡ Some r → (x ≡ Some r → P wanted) → (y ≡ Some r → P name) → P name

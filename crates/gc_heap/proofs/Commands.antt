@@ -1,23 +1,22 @@
 -- Commands on a heap of words, as commands on its graph.
 use Rattle.std.proofs.lemmas.Grind.{common_steps}
-use Rattle.std.proofs.Common.{◌≡◌, ℕ, suc, zero, ◌<◌, Bool, true, false, cond, List, [], ◌∷◌, length, Some, None, is_some, refl, sym, ◌∙◌, ap, subst, inl, inr, arith}
+use Rattle.std.proofs.Common.{◌≡◌, ℕ, suc, zero, ◌<◌, Bool, true, false, cond, List, [], ◌∷◌, length, Some, None, is_some, refl, sym, ◌∙◌, ap, inl, inr, arith}
 use Rattle.std.specs.Prelude.{not, ◌&&◌, slice_get, slice_index, slice_set, get_or}
 use Rattle.std.specs.Option.{option_map}
 use Rattle.std.proofs.lemmas.Bool.{eqb-true, eq-eqb, cases_Bool, and_from, and_parts}
-use Rattle.gc_graph.specs.Graph.{Value, Ref, Object, Graph, object_of, field_of, root, set_root, set_field}
+use Rattle.gc_graph.specs.Graph.{Value, Ref, Graph, object_of, field_of, root, set_root, set_field, name_of}
 use Rattle.gc_graph.specs.Machine.{view_of, same, get_field, is_number, put_field}
 use Rattle.gc_graph.specs.declared.reply.Reply.{Reply}
 use Rattle.gc_graph.specs.declared.reply.Reply.TheVariants.{Done, NoField, NoNumber, Saw}
 use Rattle.gc_graph.specs.declared.reply.View.{View}
 use Rattle.gc_words.specs.Word.{value_of, word_of, field_value}
-use Rattle.gc_words.specs.Image.{Block, block_at, header_of, header_at, field_at, is_start, objects_of, object_of_block}
+use Rattle.gc_words.specs.Image.{Block, block_at, header_of, header_at, field_at, objects_of, object_of_block}
 use Rattle.gc_words.specs.Layout.{field_place}
 use Rattle.gc_words.specs.Space.{with_object, with_word, end_of, CanPlace}
 use Rattle.gc_words.specs.declared.header.Header.{Header}
-use Rattle.gc_words.specs.Closed.{IsRootWord, IsFieldWord, RefersToStart}
+use Rattle.gc_words.specs.Closed.{IsRootWord, IsFieldWord}
 use Rattle.gc_words.proofs.Public.{object_found, field_found, root_value, graph_field, graph_root, word_read_back, closed_root_read, closed_field, closed_root, closed_placed, placed_reference, some_of, field_written, placed, none_of}
 use Rattle.std.proofs.lemmas.List.{length-set}
-use Rattle.gc_graph.specs.Graph.{name_of}
 use Rattle.gc_heap.specs.Heap.{HeapWords, IsHeap, graph_in}
 
 -- ---- roots
@@ -46,18 +45,7 @@ pub record Points (h : HeapWords) (s a : ℕ) : Type 0 where
   pub object : object_of (graph_in h).objects (root (graph_in h) s) ≡ Some (object_of_block block)
 
 pub points : (h : HeapWords) (s a w : ℕ) → IsHeap h → s < length h.roots → w ≡ slice_index h.roots s → Some a ≡ name_of (value_of w) → Points h s a
-points h s a w heap less read name =
-    let value : value_of w ≡ Ref a = named (value_of w) a name in
-    let at : root (graph_in h) s ≡ Ref a = root_value h.roots s ∙ ap value_of (sym read) ∙ value in
-    let word : IsRootWord h.space.words w = subst (IsRootWord h.space.words) (sym read) (root_word h s heap less) in
-    let start : is_start h.space.words a ≡ true = subst (RefersToStart h.space.words) value word.start in
-    let b : (b : Block) × (block_at h.space.words a ≡ Some b) = some_of (block_at h.space.words a) start in
-    record {
-      block = b.0;
-      found = b.1;
-      target = at;
-      object = ap (object_of (graph_in h).objects) at ∙ object_found h.space.words a ∙ ap (option_map object_of_block) b.1;
-    }
+points h s a w heap less read name = grind (arith, named, root_value, root_word, some_of, object_found)
 
 -- a field of the graph's object
 field_value_at : (h : HeapWords) (s a i : ℕ) (p : Points h s a) → field_of (object_of (graph_in h).objects (root (graph_in h) s)) i ≡ option_map (field_value p.block.header) (field_at h.space.words a i)
@@ -75,11 +63,10 @@ pub got : (h : HeapWords) (d s a i f w : ℕ) (view : View) (p : Points h s a) �
     → let object = object_of (graph_in h).objects (root (graph_in h) s) in
     ◌≡◌ {A = Reply × Graph} (Saw view, graph_in (record h { roots = slice_set h.roots d w })) (get_field (graph_in h) d object (field_of object i))
 got h d s a i f w view p read means seen =
-    let taken : graph_in (record h { roots = slice_set h.roots d w }) ≡ set_root (graph_in h) d (value_of w) = graph_root h.space d w h.roots in
     let there : get_field (graph_in h) d (object_of (graph_in h).objects (root (graph_in h) s)) (field_of (object_of (graph_in h).objects (root (graph_in h) s)) i) ≡ (Saw (view_of (graph_in h).objects (value_of w)), set_root (graph_in h) d (value_of w))
     = ap (λ f. get_field (graph_in h) d (object_of (graph_in h).objects (root (graph_in h) s)) f) (field_value_at h s a i p ∙ ap (option_map (field_value p.block.header)) read ∙ ap (λ v. Some v) (sym means))
     ∙ ap (λ o. get_field (graph_in h) d o (Some (value_of w))) p.object in
-    (λ k. (Saw (seen k), taken k)) ∙ sym there
+    (λ k. (Saw (seen k), graph_root h.space d w h.roots k)) ∙ sym there
 
 -- ---- the header of that object
 
@@ -116,9 +103,7 @@ pub put_done : (h : HeapWords) (s a i w : ℕ) (v : Value) (p : Points h s a) �
     → let object = object_of (graph_in h).objects (root (graph_in h) s) in
     ◌≡◌ {A = Reply × Graph} (Done, graph_in (record h { space = with_word h.space (field_place a i) w })) (put_field (graph_in h) (root (graph_in h) s) object (field_of object i) i v)
 put_done h s a i w v p heap some taken value =
-    let written_field : graph_in (record h { space = with_word h.space (field_place a i) w }) ≡ record (graph_in h) { objects = set_field (objects_of h.space.words) a i (field_value p.block.header w) }
-    = graph_field h.space a i w p.block h.roots heap.space some p.found in
-    (λ k. (Done, (written_field ∙ ap (λ x. record (graph_in h) { objects = set_field (objects_of h.space.words) a i x }) (sym value)) k))
+    (λ k. (Done, (graph_field h.space a i w p.block h.roots heap.space some p.found ∙ ap (λ x. record (graph_in h) { objects = set_field (objects_of h.space.words) a i x }) (sym value)) k))
     ∙ sym (put_there h s a i v p some ∙ ap (λ b. written h a i b v) taken)
 
 -- ---- the heap stays well formed
@@ -141,21 +126,15 @@ not_there t b both e = elim (cases_Bool b) [ inl yes' ↦ absurd (let no : true 
 
 -- ---- same
 
-there_is : (h : HeapWords) (v : Value) → RefersToStart h.space.words v → same (graph_in h).objects v v ≡ true
-there_is h v r = grind (arith, common_steps, eq-eqb, some_of, and_from, object_found)
-
-same_true : (os : List (ℕ × Object)) (v w : Value) → same os v w ≡ true → v ≡ w
-same_true os v w e = grind (arith, common_steps, eqb-true, and_parts)
-
 spelled_back : (words : List ℕ) (w : ℕ) → IsRootWord words w → word_of (value_of w) ≡ w
 spelled_back words w is = (word_read_back w (value_of w) (ap (λ b. cond b (Some (value_of w)) None) is.value)).0
 
 -- two values are the same if their words are
 pub same_words : (h : HeapWords) (v w : ℕ) → IsRootWord h.space.words v → IsRootWord h.space.words w → v ≡ w → same (graph_in h).objects (value_of v) (value_of w) ≡ true
-same_words h v w one other e = ap (λ x. same (graph_in h).objects (value_of v) (value_of x)) (sym e) ∙ there_is h (value_of v) one.start
+same_words h v w one other e = grind (arith, common_steps, eq-eqb, some_of, and_from, object_found)
 
 pub other_words : (h : HeapWords) (v w : ℕ) → IsRootWord h.space.words v → IsRootWord h.space.words w → (v ≡ w → ⊥) → same (graph_in h).objects (value_of v) (value_of w) ≡ false
-other_words h v w one other differ = grind (arith, common_steps, cases_Bool, spelled_back, same_true)
+other_words h v w one other differ = grind (arith, common_steps, cases_Bool, spelled_back, eqb-true, and_parts)
 
 pub at_root : (h : HeapWords) (p w : ℕ) → w ≡ slice_index h.roots p → root (graph_in h) p ≡ value_of w
 at_root h p w read = root_value h.roots p ∙ ap value_of (sym read)

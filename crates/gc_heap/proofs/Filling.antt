@@ -1,5 +1,5 @@
 -- An object that takes any value into its fields.
-use Rattle.std.proofs.Common.{◌≡◌, ℕ, ◌<◌, ◌≤◌, List, length, is_some, false, cond, sym, ◌∙◌, ap, subst, arith}
+use Rattle.std.proofs.Common.{◌≡◌, ℕ, ◌<◌, ◌≤◌, List, length, is_some, cond, sym, ◌∙◌, ap, subst, arith}
 use Rattle.std.specs.Prelude.{IsSome, IsFalse, slice_get, slice_index, slice_set, not, ◌&&◌}
 use Rattle.std.proofs.lemmas.List.{length-set, length-replicate, get_or-set_same}
 use Rattle.gc_graph.specs.Graph.{Graph, Num, Ref, object_of, field_of, root}
@@ -35,13 +35,12 @@ new_takes h p header heap can inside plain =
     let low : 1 ≤ length h.space.words = heap.space.end_low in
     let high : h.space.size ≤ 4294967295 = heap.space.size_high in
     let w : ℕ = word_of (Ref (end_of h.space)) in
-    let value : value_of w ≡ Ref (end_of h.space) = meaning w (Ref (end_of h.space)) (value_read_back (Ref (end_of h.space)) (low, omega arith)) in
     record {
       block = fresh_block header;
       found = placed_block h.space header can;
       plain = plain;
       long = length-replicate header.len 0;
-      target = at_root (with_new h p header) p w (sym (get_or-set_same h.roots p w 0 inside)) ∙ value;
+      target = at_root (with_new h p header) p w (sym (get_or-set_same h.roots p w 0 inside)) ∙ meaning w (Ref (end_of h.space)) (value_read_back (Ref (end_of h.space)) (low, omega arith));
     }
 
 pub some_at : (xs : List ℕ) (i : ℕ) → i < length xs → IsSome (slice_get xs i)
@@ -63,16 +62,13 @@ pub fills : (h : HeapWords) (s a i len t w : ℕ) → IsHeap h → TakesFields h
     → Fills h s a i t w (record h { space = with_word h.space (field_place a i) w })
 fills h s a i len t w heap takes less inside read =
     let some : IsSome (field_at h.space.words a i) = there h s a i len takes less in
-    let p : Points h s a = points_to h s a len takes in
-    let value : root (graph_in h) t ≡ value_of w = at_root h t w read in
-    let means : root (graph_in h) t ≡ field_value takes.block.header w = value ∙ sym (ap (λ raw. cond raw (Num w) (value_of w)) takes.plain) in
+    let means : root (graph_in h) t ≡ field_value takes.block.header w = at_root h t w read ∙ sym (ap (λ raw. cond raw (Num w) (value_of w)) takes.plain) in
     let word : IsFieldWord h.space.words takes.block.header w
     = subst (λ raw. IsWordOfField raw h.space.words w) (sym takes.plain) (subst (IsRootWord h.space.words) (sym read) (root_word h t heap inside)) in
-    let taken : (takes.block.header.raw && not (is_number (root (graph_in h) t))) ≡ false = ap (λ raw. raw && not (is_number (root (graph_in h) t))) takes.plain in
     record {
       field = some;
       heap = written_heap h a i w takes.block heap takes.found some word;
-      graph = put_done h s a i w (root (graph_in h) t) p heap some taken means;
+      graph = put_done h s a i w (root (graph_in h) t) (points_to h s a len takes) heap some (ap (λ raw. raw && not (is_number (root (graph_in h) t))) takes.plain) means;
       links = links_written h.space a i w heap.space some;
       fields = λ n t. record {
         block = record t.block { fields = slice_set t.block.fields i w };

@@ -3,31 +3,26 @@ use Rattle.std.proofs.lemmas.Grind.{common_steps}
 use Rattle.std.proofs.Common.{◌≡◌, ◌<◌, ◌≤◌, ◌+◌, ◌-◌, ◌*◌, ◌^◌, ℕ, suc, List, [], ◌∷◌, length, Some, None, cond, true, false, refl, sym, ap, subst, ◌∙◌, arith}
 use Rattle.std.specs.Prelude.{get_or, slice_set, IsSome, not, ◌&&◌}
 use Rattle.std.specs.List.{All}
-use Rattle.std.proofs.lemmas.List.{length-set, length-map, get_or-set_same}
+use Rattle.std.proofs.lemmas.List.{length-set, length-map, get_or-set_same, get_or-set_other, set-set}
 use Rattle.gc_words.specs.declared.header.Header.{Header}
 use Rattle.gc_heap.specs.Raws.{raw_numbers}
-use Rattle.gc_graph.specs.Graph.{Num, root, name_of}
+use Rattle.gc_graph.specs.Graph.{Num, root, name_of, object_of}
 use Rattle.gc_graph.specs.Slots.{SlotName, place}
 use Rattle.gc_graph.specs.Machine.{is_number}
 use Rattle.gc_graph.specs.declared.command.Op.TheVariants as ops
 use Rattle.gc_graph.specs.declared.reply.Reply.TheVariants.{Done}
 use Rattle.gc_words.specs.Word.{value_of, word_of, field_value}
-use Rattle.gc_words.specs.Image.{field_at, field_in}
+use Rattle.gc_words.specs.Image.{field_at, field_in, object_of_block, header_at}
 use Rattle.gc_words.specs.Layout.{field_place}
-use Rattle.gc_words.specs.Space.{SpaceWords, with_field_at, with_fields}
-use Rattle.gc_words.specs.Space.{end_of, free_in}
-use Rattle.gc_words.specs.Closed.{IsWordOfField, IsFieldWord}
+use Rattle.gc_words.specs.Space.{SpaceWords, with_field_at, with_fields, end_of, free_in}
+use Rattle.gc_words.specs.Closed.{IsWordOfField}
 use Rattle.gc_words.proofs.Public.{field_block, object_found, root_value, value_read_back, value_refers, fields_counted}
-use Rattle.gc_words.specs.Image.{object_of_block}
-use Rattle.gc_graph.specs.Graph.{object_of}
 use Rattle.gc_graph.proofs.Public.{in_place, with_free}
 use Rattle.std.specs.Option.{option_map}
-use Rattle.std.proofs.lemmas.List.{get_or-set_other, set-set}
 use Rattle.std.proofs.lemmas.List.Elements.{All-head, All-tail}
 use Rattle.gc_heap.specs.Heap.{HeapWords, IsHeap, graph_in, roomy_in}
 use Rattle.gc_heap.specs.Commands.{Performs}
 use Rattle.gc_heap.specs.Filling.{TakesNumbers, WritesNumbers}
-use Rattle.gc_words.specs.Image.{header_at}
 use Rattle.gc_heap.proofs.Commands.{Points, points, read_root, header_is, at_root, put_done, written_heap, taken_heap}
 use Rattle.gc_heap.proofs.Links.{links_written}
 use Rattle.gc_heap.proofs.Steps.{took_root}
@@ -76,22 +71,19 @@ record PutInto (h : HeapWords) (m : ℕ) (s t : SlotName) (a i n len : ℕ) : Ty
 number_put : (h : HeapWords) (m : ℕ) (s t : SlotName) (a i n len : ℕ) → IsHeap h → TakesNumbers h (place s m) a len → i < len → root (graph_in h) (place t m) ≡ Num n → n < 2 ^ 63
     → PutInto h m s t a i n len
 number_put h m s t a i n len heap takes less holds small =
-    let p : Points h (place s m) a = points_to_raw h (place s m) a len takes in
     let some : IsSome (field_at h.space.words a i) = subst (λ o. IsSome (field_in o i)) (sym takes.found) (some_at takes.block.fields i (omega (arith, takes.long, less))) in
     let means : root (graph_in h) (place t m) ≡ field_value takes.block.header n = holds ∙ sym (ap (λ raw. cond raw (Num n) (value_of n)) takes.raw) in
-    let word : IsFieldWord h.space.words takes.block.header n = subst (λ raw. IsWordOfField raw h.space.words n) (sym takes.raw) small in
     let taken : (takes.block.header.raw && not (is_number (root (graph_in h) (place t m)))) ≡ false = ap (λ raw. raw && not (is_number (root (graph_in h) (place t m)))) takes.raw ∙ ap (λ v. not (is_number v)) holds in
-    let free : free_in h.space ≡ free_in (with_number h a i n).space = ap (λ k. h.space.size - k) (sym (length-set h.space.words (field_place a i) n)) in
     record {
       performs = record {
         step = in_place (roomy_in h) m (ops.Put s i t) (end_of h.space) (λ none. none)
-            ∙ ap (with_free (free_in h.space)) (sym (put_done h (place s m) a i n (root (graph_in h) (place t m)) p heap some taken means))
-            ∙ (λ k. (Done, record { graph = graph_in (with_number h a i n); free = free k }));
+            ∙ ap (with_free (free_in h.space)) (sym (put_done h (place s m) a i n (root (graph_in h) (place t m)) (points_to_raw h (place s m) a len takes) heap some taken means))
+            ∙ (λ k. (Done, record { graph = graph_in (with_number h a i n); free = (ap (λ k. h.space.size - k) (sym (length-set h.space.words (field_place a i) n))) k }));
         links = links_written h.space a i n heap.space some;
         size = refl;
         mutators = refl;
       };
-      heap = written_heap h a i n takes.block heap takes.found some word;
+      heap = written_heap h a i n takes.block heap takes.found some (subst (λ raw. IsWordOfField raw h.space.words n) (sym takes.raw) small);
       takes = record {
         block = record takes.block { fields = slice_set takes.block.fields i n };
         found = field_block h.space a i n takes.block heap.space some takes.found;
@@ -157,8 +149,7 @@ all_left h old space m s t a first len p numbers same heap takes apart at inside
     let here : TakesNumbers h (place s m) a len = subst (λ g. TakesNumbers g (place s m) a len) (sym same) takes in
     let f : Filled h m s t a first len numbers = numbers_filled numbers h m s t a first len heap here apart (subst (λ q. q < length h.roots) at inside) room small in
     let new : HeapWords = record { space = space; roots = slice_set h.roots p (2 * get_or numbers (length numbers - 1) 0 + 1); mutators = h.mutators } in
-    let roots : left_in h.roots (place t m) numbers ≡ slice_set h.roots p (2 * get_or numbers (length numbers - 1) 0 + 1) = ap (λ q. left_in h.roots q numbers) (sym at) ∙ last_of numbers h.roots p some in
-    let is : with_numbers h (place t m) a first numbers ≡ new = (λ i. record { space = sym written i; roots = roots i; mutators = h.mutators }) in
+    let is : with_numbers h (place t m) a first numbers ≡ new = (λ i. record { space = sym written i; roots = (ap (λ q. left_in h.roots q numbers) (sym at) ∙ last_of numbers h.roots p some) i; mutators = h.mutators }) in
     subst (λ g. Leaves g m s t a first numbers new) same (record {
       heap = subst IsHeap is f.heap;
       writes = subst (WritesNumbers h m s t first numbers) is f.writes;

@@ -12,7 +12,7 @@ use Rattle.gc_graph.specs.declared.command.Op.TheVariants as ops
 use Rattle.gc_graph.specs.declared.reply.Reply.{Reply}
 use Rattle.gc_graph.specs.declared.reply.Reply.TheVariants.{Full, Made, Done, Saw}
 use Rattle.gc_graph.specs.declared.reply.View.{View}
-use Rattle.gc_graph.proofs.Public.{in_place, with_free, new_command, new_step}
+use Rattle.gc_graph.proofs.Public.{in_place, with_free}
 use Rattle.gc_words.specs.Word.{value_of, word_of}
 use Rattle.gc_words.specs.Space.{CanPlace, end_of, free_in, with_object}
 use Rattle.gc_words.specs.declared.header.Header.{Header}
@@ -50,7 +50,3 @@ pub made : (h : HeapWords) (p : ℕ) (raw : Bool) (kind len : ℕ) → IsHeap h 
 made h p raw kind len heap can =
     (λ i. (Made, record { graph = new_graph h p (record { raw = raw; kind = kind; len = len }) heap can i; free = free_placed h.space (record { raw = raw; kind = kind; len = len }) i }))
     ∙ sym (ap (λ b. cond b (Full, roomy_in h) (Made, record { graph = set_root (add_object (graph_in h) (end_of h.space) (new_object raw kind len)) p (Ref (end_of h.space)); free = free_in h.space - (len + 2) })) (le-ltb _ _ can.room))
-
-pub makes_at : (h new : HeapWords) (m : ℕ) (op : Op) (d : SlotName) (p : ℕ) (raw : Bool) (kind len : ℕ) (reply : Reply) → op ≡ new_command raw d kind len → p ≡ place d m
-    → MakesAtEnd h p raw kind len reply new → roomy_step (roomy_in h) m op (end_of h.space) ≡ (reply, roomy_in new)
-makes_at h new m op d p raw kind len reply is at makes = grind (arith, common_steps, new_step)

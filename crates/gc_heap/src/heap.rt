@@ -255,6 +255,7 @@ impl Heap {
 
     /// Replaces the space and writes these words over the first roots, in place. Leaves the other roots as they are. Returns the former
     /// space.
+    #[tactic(auto, using(std::proofs::lemmas::List::drop_all, std::proofs::lemmas::List::take_all))]
     pub fn replace_first(&mut self, space: Space, first: &[u64]) -> Space
         requires within { length first.now ≤ length self.old.roots }
         requires sound { IsHeap (record self.old { space = space; roots = first.now ++ drop (length first.now) self.old.roots }) }
@@ -267,6 +268,7 @@ impl Heap {
 
     /// Makes a new object and sets the root at `place` to a reference to it, if there is room.
     #[inline(always)]
+    #[tactic(auto, using(crate::proofs::Links::links_placed, crate::proofs::Steps::with_new, crate::proofs::Steps::made))]
     fn make_at(&mut self, place: usize, raw: bool, kind: u8, len: u16) -> Reply
         requires { place < length self.old.roots }
         ensures step { (result, roomy_in self.new) ≡ make_object (roomy_in self.old) place raw kind len (end_of self.old.space) }
@@ -298,6 +300,7 @@ impl Heap {
     }
 
     /// Sets root `d` to field `i` of the object that root `s` refers to, and returns the word that it took.
+    #[tactic(auto, using(crate::proofs::Commands::header_is, gc_words::proofs::Public::closed_field_read, crate::proofs::Commands::taken_heap))]
     fn take_at(&mut self, d: usize, s: usize, i: u16) -> Taken
         requires taker { d < length self.old.roots }
         requires giver { s < length self.old.roots }
@@ -324,6 +327,7 @@ impl Heap {
 
     /// Writes the value of root `t` to field `i` of the object that root `s` refers to.
     #[inline(always)]
+    #[tactic(auto, using(crate::proofs::Commands::read_root, crate::proofs::Commands::root_word, crate::proofs::Links::links_written))]
     fn put_at(&mut self, s: usize, i: u16, t: usize) -> Reply
         requires target { s < length self.old.roots }
         requires giver { t < length self.old.roots }
@@ -351,6 +355,7 @@ impl Heap {
     }
 
     /// Returns whether two roots hold the same value. Equal values have equal words.
+    #[tactic(auto, using(crate::proofs::Commands::read_root, crate::proofs::Commands::root_word, crate::proofs::Commands::same_words, crate::proofs::Commands::at_root, crate::proofs::Commands::other_words))]
     fn same_at(&self, s: usize, t: usize) -> Reply
         requires one { s < length self.now.roots }
         requires other { t < length self.now.roots }

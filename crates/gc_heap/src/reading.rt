@@ -16,6 +16,7 @@ use gc_graph::View;
 use gc_words::{Addr, Header, Space, Value, value_in};
 
 /// Returns whether the object that starts here, and has this header, has a field `i`.
+#[tactic(auto, using(gc_words::proofs::Public::field_within, std::proofs::lemmas::Bool::cases_Bool, gc_words::proofs::Public::field_past))]
 pub fn has_field(space: &Space, at: Addr, header: Header, i: u16) -> bool
     requires header { header_at space.now.words at.0 ≡ Some header }
     requires shaped { IsSpace space.now }

@@ -68,17 +68,7 @@ here_or_behind p x xs k d first others lt = grind (arith, common_steps)
 -- if the number of elements that pass a test is the number of all elements, every element passes
 pub every_counted : {X : Type 0} (p : X → Bool) (xs : List X) → count_by p xs ≡ length xs → (k : ℕ) (d : X) → k < length xs → p (get_or xs k d) ≡ true
 every_counted p [] all k d lt = absurd (omega arith)
-every_counted p (x ∷ xs) all k d lt =
-    let most = count_by-le-length p xs in
-    let sum = sum_by-cons (λ x. cond (p x) 1 0) x xs in
-    ⊎_elim
-    (λ (yes : p x ≡ true).
-    let one : ◌≡◌ {A = ℕ} (cond (p x) 1 0) 1 = ap (λ (b : Bool). let n : ℕ = cond b 1 0 in n) yes in
-    here_or_behind p x xs k d yes (λ i e inside. every_counted p xs (omega (arith, all, one, sum)) i e inside) lt)
-    (λ (no : p x ≡ false).
-    let none : ◌≡◌ {A = ℕ} (cond (p x) 1 0) 0 = ap (λ (b : Bool). let n : ℕ = cond b 1 0 in n) no in
-    absurd (omega (arith, all, none, sum, most)))
-    (cases_Bool (p x))
+every_counted p (x ∷ xs) all k d lt = grind (arith, common_steps, count_by-le-length, sum_by-cons, ⊎_elim, here_or_behind, cases_Bool, every_counted p xs)
 
 -- a receipt at a free place stands, if the marks are those of the earlier seats and of the seat's earlier receipts
 stands_if_free : (history : List Entry) (earlier before : List Receipt) (marks : List Bool) (r : Receipt) → IsMarked marks (earlier ++ before) → r.place < length marks → IsFree history marks (floor_of 0 before) r → Stands history earlier (floor_of 0 before) r

@@ -45,10 +45,7 @@ same_commands : (m : ℕ) (xs ys : List Op) → map (Mutate m) xs ≡ map (Mutat
 same_commands m [] [] e = refl
 same_commands m [] (y ∷ ys) e = let z = e in cc
 same_commands m (x ∷ xs) [] e = let z = e in cc
-same_commands m (x ∷ xs) (y ∷ ys) e =
-    let tails : map (Mutate m) xs ≡ map (Mutate m) ys = cc in
-    let heads : x ≡ y = cc in
-    let rest = same_commands m xs ys tails in cc
+same_commands m (x ∷ xs) (y ∷ ys) e = grind (arith, common_steps, same_commands m xs ys)
 
 events_of_entries : (rs : List Receipt) → map (λ e. e.event) (map entry_on rs) ≡ map (λ r. r.event) rs
 events_of_entries [] = refl
@@ -70,9 +67,7 @@ module _ (scripts : List (Vec Op Global)) (turns : ℕ) (seats : List SeatValue)
   receipts t lt = receipts_at seats t nobody numbers (omega (arith, ended.count, lt))
 
   player_all : (Q : Event → Type 0) (t : ℕ) → t < length scripts → ((op : Op) → Q (Mutate t op)) → All (λ r. Q r.event) (receipts_of seats t)
-  player_all Q t lt each =
-      let is = receipts t (omega arith) in
-      rw is (played_all Q t (get_or seats t nobody).receipts (script_at scripts t) each (ended.each t nobody lt).events)
+  player_all Q t lt each = rw (receipts t (omega arith)) (played_all Q t (get_or seats t nobody).receipts (script_at scripts t) each (ended.each t nobody lt).events)
 
   collector_all : (Q : Event → Type 0) → ((step : Step) → Q (Collect step)) → All (λ r. Q r.event) (receipts_of seats (length scripts))
   collector_all Q each = grind (arith, common_steps, receipts, useful_all)
@@ -89,25 +84,21 @@ module _ (scripts : List (Vec Op Global)) (turns : ℕ) (seats : List SeatValue)
   commands : (h : List Entry) → AgreeByNumber h seats (length scripts + 1) → (m : ℕ) → m < length scripts → commands_of m (events_of h) ≡ script_at scripts m
   commands h agree m lt =
       let mine = player_all (λ e. is_by m e ≡ true) m lt (λ op. eq-eqb m m refl) in
-      let not_mine = others (λ e. is_by m e ≡ false) m (λ t op ne player. not_eq t m ne) (λ ne step. refl) in
-      let sel = selected h seats (length scripts + 1) m (is_by m) agree (omega arith) mine not_mine in
-      let is = receipts m (omega arith) in
+      let sel = selected h seats (length scripts + 1) m (is_by m) agree (omega arith) mine (others (λ e. is_by m e ≡ false) m (λ t op ne player. not_eq t m ne) (λ ne step. refl)) in
       same_commands m (commands_of m (events_of h)) (script_at scripts m)
       (commands_are m h ∙ ap (λ (es : List Entry). map (λ e. e.event) es) (sym sel) ∙ events_of_entries (receipts_of seats m)
-      ∙ ap (λ (rs : List Receipt). map (λ r. r.event) rs) is ∙ (ended.each m nobody lt).events)
+      ∙ ap (λ (rs : List Receipt). map (λ r. r.event) rs) (receipts m (omega arith)) ∙ (ended.each m nobody lt).events)
 
   steps : (h : List Entry) → AgreeByNumber h seats (length scripts + 1) → map entry_on (get_or seats (length scripts) nobody).receipts ≡ steps_of h
   steps h agree =
       let mine = collector_all (λ e. is_collect e ≡ true) (λ step. refl) in
       let not_mine = others (λ e. is_collect e ≡ false) (length scripts) (λ t op ne player. refl) (λ ne step. absurd (ne refl)) in
-      let is = receipts (length scripts) (omega arith) in
-      ap (map entry_on) (sym is) ∙ selected h seats (length scripts + 1) (length scripts) is_collect agree (omega arith) mine not_mine
+      ap (map entry_on) (sym (receipts (length scripts) (omega arith))) ∙ selected h seats (length scripts + 1) (length scripts) is_collect agree (omega arith) mine not_mine
 
 pub has_run : (size : ℕ) (scripts : List (Vec Op Global)) (turns : ℕ) (seats : List SeatValue) (o : Opening) (w : Past) → o ≡ record { size = size; mutators = length scripts; collectors = 1 } → HaveEnded scripts turns seats → IsWhole o w seats → HasRunScripts size scripts turns w
 has_run size scripts turns seats o w is ended whole =
     let n = length scripts in
-    let count : count_of_seats o ≡ n + 1 = ap count_of_seats is in
-    let agree : AgreeByNumber w.entries seats (n + 1) = rw count at (agree_by_number w.entries seats (count_of_seats o) whole.seated.count whole.seated.once whole.agree) in
+    let agree : AgreeByNumber w.entries seats (n + 1) = rw (ap count_of_seats is) at (agree_by_number w.entries seats (count_of_seats o) whole.seated.count whole.seated.once whole.agree) in
     let all = steps scripts turns seats ended w.entries agree in
     let nobody : SeatValue = record { number = 0; is_mutator = true; receipts = [] } in
     record {

@@ -98,11 +98,8 @@ module _ (T : Event → Bool) (d : Entry) where
   left : (o : ℕ) (e : Entry) (es : List Entry) (rs : List Receipt) → Rest (o + 1) es → Fits o o (e ∷ es) rs → Counts o (e ∷ es) rs → T e.event ≡ false → map entry_on rs ≡ filter (λ e. T e.event) es
   left o e es [] ih fits counts fails = ih [] tt (rest_counts o e es [] [] (λ p le. refl) counts)
   left o e es (r ∷ rs) ih fits counts fails =
-      let first : times_at o (r ∷ rs) ≡ mark (T e.event) = subst (λ (p : ℕ). times_at p (r ∷ rs) ≡ mark (T e.event)) (add-zero o) (counts 0 (omega arith)) in
-      let none : mark (T e.event) ≡ 0 = ap mark fails in
-      let ne : r.place ≢ o = λ is. absurd (omega (arith, first, none, times_at-here o r rs is)) in
-      let up : o + 1 ≤ r.place = omega (arith, fits.0) in
-      ih (r ∷ rs) (shift (o + 1) o e es (r ∷ rs) (omega arith) (up, fits.1, fits.2)) (rest_counts o e es (r ∷ rs) (r ∷ rs) (λ p le. refl) counts)
+      let ne : r.place ≢ o = λ is. absurd (omega (arith, subst (λ (p : ℕ). times_at p (r ∷ rs) ≡ mark (T e.event)) (add-zero o) (counts 0 (omega arith)), ap mark fails, times_at-here o r rs is)) in
+      ih (r ∷ rs) (shift (o + 1) o e es (r ∷ rs) (omega arith) (omega (arith, fits.0), fits.1, fits.2)) (rest_counts o e es (r ∷ rs) (r ∷ rs) (λ p le. refl) counts)
 
   select : (o : ℕ) (h : List Entry) (rs : List Receipt) → Fits o o h rs → Counts o h rs → map entry_on rs ≡ filter (λ e. T e.event) h
   select o [] [] fits counts = refl
@@ -134,12 +131,7 @@ owner seats (suc n) p some =
 
 part : (seats : List SeatValue) (n p t : ℕ) → t < n → times_at p (receipts_of seats t) ≤ times_at p (receipts_below seats n)
 part seats zero p t lt = absurd (omega arith)
-part seats (suc n) p t lt =
-    let sum = times_at-append p (receipts_below seats n) (receipts_of seats n) in
-    ⊎_elim
-    (λ (e : t ≡ n). rw e (omega (arith, sum)))
-    (λ (ne : t ≢ n). let below = part seats n p t (omega arith) in omega (arith, sum, below))
-    (cases_eq t n)
+part seats (suc n) p t lt = grind (arith, common_steps, times_at-append, ⊎_elim, cases_eq, part seats n p t)
 
 -- the receipts of a seat fit the history
 fits_from : (h : List Entry) (rs : List Receipt) (low : ℕ) → IsStrictlyIncreasing (map (λ r. r.place) rs) → All (λ r. slice_get h r.place ≡ Some (entry_of r.event r.answer)) rs → (0 < length rs → low ≤ get_or (map (λ r. r.place) rs) 0 0) → Fits low 0 h rs
@@ -208,8 +200,7 @@ find_place o (t ∷ ts) (suc k) d numbers lt =
 -- the receipts of the seat at a place, under the same condition
 pub receipts_at : (ts : List SeatValue) (k : ℕ) (d : SeatValue) → ((i : ℕ) (e : SeatValue) → i < length ts → (get_or ts i e).number ≡ i) → k < length ts → receipts_of ts k ≡ (get_or ts k d).receipts
 receipts_at ts k d numbers lt =
-    let here = find_place 0 ts k d (λ i e inside. numbers i e inside ∙ sym (zero-add i)) lt in
-    let here' = rw (zero-add k) at here in
+    let here' = rw (zero-add k) at (find_place 0 ts k d (λ i e inside. numbers i e inside ∙ sym (zero-add i)) lt) in
     rw here' refl
 
 -- a fact about every command holds of each event of a seat that has played

@@ -1,6 +1,6 @@
 -- Seats by number, and in the order in which they were passed to `close`.
 use Rattle.std.proofs.lemmas.Grind.{common_steps}
-use Rattle.std.proofs.Common.{◌≡◌, ◌≢◌, ℕ, zero, suc, ◌+◌, ◌<◌, ◌==◌, Bool, true, false, cond, List, [], ◌∷◌, length, refl, sym, ap, ◌∙◌, arith, count_by, sum_by, eqb, ltb, Option, Some, ⊎_elim, subst, All, get_or, map, MatchOption}
+use Rattle.std.proofs.Common.{◌≡◌, ℕ, zero, suc, ◌+◌, ◌<◌, ◌==◌, Bool, true, false, cond, List, [], ◌∷◌, length, refl, sym, ap, ◌∙◌, arith, count_by, sum_by, eqb, ltb, Option, Some, ⊎_elim, subst, All, get_or, map, MatchOption}
 use Rattle.std.specs.List.{find, flat_map}
 use Rattle.std.specs.Option.{option_map_or}
 use Rattle.std.specs.List.Sorted.{IsStrictlyIncreasing}
@@ -32,50 +32,15 @@ split_sum f n (t ∷ ts) = grind (arith, common_steps, sum_by-cons, split_one, s
 
 none_here : (f : SeatValue → ℕ) (n : ℕ) (ts : List SeatValue) → count_by (λ t. t.number == n) ts ≡ 0 → sum_by (here f n) ts ≡ 0
 none_here f n [] e = refl
-none_here f n (t ∷ ts) e =
-    ⊎_elim
-    (λ (s : (eqb t.number n ≡ true) × (t.number ≡ n)).
-    let one : ◌≡◌ {A = ℕ} (cond (eqb t.number n) 1 0) 1 = ap (λ (b : Bool). let k : ℕ = cond b 1 0 in k) s.0 in
-    absurd (omega (arith, e, one, sum_by-cons (λ t. cond (t.number == n) 1 0) t ts)))
-    (λ (s : (eqb t.number n ≡ false) × (t.number ≢ n)).
-    let no_one : ◌≡◌ {A = ℕ} (cond (eqb t.number n) 1 0) 0 = ap (λ (b : Bool). let k : ℕ = cond b 1 0 in k) s.0 in
-    let no_f : ◌≡◌ {A = ℕ} (cond (eqb t.number n) (f t) 0) 0 = ap (λ (b : Bool). let k : ℕ = cond b (f t) 0 in k) s.0 in
-    let rest = none_here f n ts (omega (arith, e, no_one, sum_by-cons (λ t. cond (t.number == n) 1 0) t ts)) in
-    omega (arith, no_f, rest, sum_by-cons (here f n) t ts))
-    (eqb_tells t.number n)
+none_here f n (t ∷ ts) e = grind (arith, common_steps, ⊎_elim, sum_by-cons, eqb_tells, none_here f n ts)
 
 one_here : (f : SeatValue → ℕ) (n : ℕ) (ts : List SeatValue) → count_by (λ t. t.number == n) ts ≡ 1 → sum_by (here f n) ts ≡ option_map_or f (find (λ t. t.number == n) ts) 0
 one_here f n [] e = absurd (omega (arith, e))
-one_here f n (t ∷ ts) e =
-    ⊎_elim
-    (λ (s : (eqb t.number n ≡ true) × (t.number ≡ n)).
-    let one : ◌≡◌ {A = ℕ} (cond (eqb t.number n) 1 0) 1 = ap (λ (b : Bool). let k : ℕ = cond b 1 0 in k) s.0 in
-    let all_f : ◌≡◌ {A = ℕ} (cond (eqb t.number n) (f t) 0) (f t) = ap (λ (b : Bool). let k : ℕ = cond b (f t) 0 in k) s.0 in
-    let rest = none_here f n ts (omega (arith, e, one, sum_by-cons (λ t. cond (t.number == n) 1 0) t ts)) in
-    let found : find (λ t. t.number == n) (t ∷ ts) ≡ Some t = ap (λ (b : Bool). cond b (Some t) (find (λ t. t.number == n) ts)) s.0 in
-    rw found (omega (arith, all_f, rest, sum_by-cons (here f n) t ts)))
-    (λ (s : (eqb t.number n ≡ false) × (t.number ≢ n)).
-    let no_one : ◌≡◌ {A = ℕ} (cond (eqb t.number n) 1 0) 0 = ap (λ (b : Bool). let k : ℕ = cond b 1 0 in k) s.0 in
-    let no_f : ◌≡◌ {A = ℕ} (cond (eqb t.number n) (f t) 0) 0 = ap (λ (b : Bool). let k : ℕ = cond b (f t) 0 in k) s.0 in
-    let rest = one_here f n ts (omega (arith, e, no_one, sum_by-cons (λ t. cond (t.number == n) 1 0) t ts)) in
-    let found : find (λ t. t.number == n) (t ∷ ts) ≡ find (λ t. t.number == n) ts = ap (λ (b : Bool). cond b (Some t) (find (λ t. t.number == n) ts)) s.0 in
-    rw found (omega (arith, no_f, rest, sum_by-cons (here f n) t ts)))
-    (eqb_tells t.number n)
+one_here f n (t ∷ ts) e = grind (arith, common_steps, ⊎_elim, none_here, sum_by-cons, eqb_tells, one_here f n ts)
 
 all_below : (f : SeatValue → ℕ) (n : ℕ) (ts : List SeatValue) → count_by (λ t. ltb t.number n) ts ≡ length ts → sum_by (below f n) ts ≡ sum_by f ts
 all_below f n [] e = refl
-all_below f n (t ∷ ts) e =
-    let most = count_by-le-length (λ t. ltb t.number n) ts in
-    ⊎_elim
-    (λ (s : ltb t.number n ≡ true).
-    let one : ◌≡◌ {A = ℕ} (cond (ltb t.number n) 1 0) 1 = ap (λ (b : Bool). let k : ℕ = cond b 1 0 in k) s in
-    let all_f : ◌≡◌ {A = ℕ} (cond (ltb t.number n) (f t) 0) (f t) = ap (λ (b : Bool). let k : ℕ = cond b (f t) 0 in k) s in
-    let rest = all_below f n ts (omega (arith, e, one, sum_by-cons (λ t. cond (ltb t.number n) 1 0) t ts)) in
-    omega (arith, all_f, rest, sum_by-cons (below f n) t ts, sum_by-cons f t ts))
-    (λ (s : ltb t.number n ≡ false).
-    let no_one : ◌≡◌ {A = ℕ} (cond (ltb t.number n) 1 0) 0 = ap (λ (b : Bool). let k : ℕ = cond b 1 0 in k) s in
-    absurd (omega (arith, e, no_one, most, sum_by-cons (λ t. cond (ltb t.number n) 1 0) t ts)))
-    (cases_Bool (ltb t.number n))
+all_below f n (t ∷ ts) e = grind (arith, common_steps, count_by-le-length, ⊎_elim, sum_by-cons, cases_Bool, all_below f n ts)
 
 none_below_zero : (f : SeatValue → ℕ) (ts : List SeatValue) → sum_by (below f 0) ts ≡ 0
 none_below_zero f [] = refl
@@ -100,26 +65,13 @@ as_handed_in p (t ∷ ts) = omega (arith, times_at-append p t.receipts (flat_map
 
 -- a place is on the same number of receipts, whether seats are taken by number or in the given order
 together : (count p : ℕ) (seats : List SeatValue) → length seats ≡ count → HasEachOnce seats count → times_at p (receipts_below seats count) ≡ times_at p (flat_map (λ t. t.receipts) seats)
-together count p seats len once =
-    let all = all_below (λ t. times_at p t.receipts) count seats (counted count seats once ∙ sym len) in
-    by_number p count seats once ∙ all ∙ sym (as_handed_in p seats)
+together count p seats len once = by_number p count seats once ∙ (all_below (λ t. times_at p t.receipts) count seats (counted count seats once ∙ sym len)) ∙ sym (as_handed_in p seats)
 
 -- if only one element passes a test, `find` finds it
 find_only : (p : SeatValue → Bool) (ts : List SeatValue) (k : ℕ) (d : SeatValue) → count_by p ts ≡ 1 → p (get_or ts k d) ≡ true → k < length ts → find p ts ≡ Some (get_or ts k d)
 find_only p [] k d one here lt = absurd (omega arith)
 find_only p (t ∷ ts) zero d one here lt = ap (λ (b : Bool). cond b (Some t) (find p ts)) here
-find_only p (t ∷ ts) (suc k) d one here lt =
-    let mark : Bool → ℕ = λ b. cond b 1 0 in
-    let sum = sum_by-cons (λ t. cond (p t) 1 0) t ts in
-    ⊎_elim
-    (λ (yes : p t ≡ true).
-    let first : ◌≡◌ {A = ℕ} (cond (p t) 1 0) 1 = ap mark yes in
-    let other : ◌≡◌ {A = ℕ} (cond (p (get_or ts k d)) 1 0) 1 = ap mark here in
-    absurd (omega (arith, one, sum, first, other, get_or-le-sum_by (λ t. cond (p t) 1 0) ts k d (omega arith))))
-    (λ (no : p t ≡ false).
-    let first : ◌≡◌ {A = ℕ} (cond (p t) 1 0) 0 = ap mark no in
-    ap (λ (b : Bool). cond b (Some t) (find p ts)) no ∙ find_only p ts k d (omega (arith, one, sum, first)) here (omega arith))
-    (cases_Bool (p t))
+find_only p (t ∷ ts) (suc k) d one here lt = grind (arith, common_steps, sum_by-cons, ⊎_elim, get_or-le-sum_by, cases_Bool, find_only p ts k d)
 
 number_within : (count : ℕ) (seats : List SeatValue) (k : ℕ) (d : SeatValue) → length seats ≡ count → HasEachOnce seats count → k < length seats → (get_or seats k d).number < count
 number_within count seats k d len once lt =
@@ -130,8 +82,7 @@ number_within count seats k d len once lt =
 receipts_here : (count : ℕ) (seats : List SeatValue) (k : ℕ) (d : SeatValue) → length seats ≡ count → HasEachOnce seats count → k < length seats → receipts_of seats (get_or seats k d).number ≡ (get_or seats k d).receipts
 receipts_here count seats k d len once lt =
     let n = (get_or seats k d).number in
-    let one = once n (number_within count seats k d len once lt) in
-    ap (λ (o : Option SeatValue). option_map_or (λ t. t.receipts) o []) (find_only (λ t. t.number == n) seats k d one (eq-eqb n n refl) lt)
+    ap (λ (o : Option SeatValue). option_map_or (λ t. t.receipts) o []) (find_only (λ t. t.number == n) seats k d (once n (number_within count seats k d len once lt)) (eq-eqb n n refl) lt)
 
 -- a fact about the receipts of every seat holds of the receipts found by a number
 of_number : (Q : List Receipt → Type 0) (n : ℕ) (ts : List SeatValue) → Q [] → All (λ t. Q t.receipts) ts → Q (receipts_of ts n)

@@ -1,6 +1,6 @@
 -- The object at a place after a write.
 use Rattle.std.proofs.lemmas.Grind.{common_steps}
-use Rattle.std.proofs.Common.{◌≡◌, ℕ, suc, zero, ◌+◌, ◌<◌, ◌≤◌, true, false, cond, ◌==◌, List, [], ◌∷◌, ◌++◌, length, Option, Some, None, refl, ◌∙◌, ap, arith}
+use Rattle.std.proofs.Common.{◌≡◌, ℕ, suc, zero, ◌+◌, ◌<◌, ◌≤◌, cond, ◌==◌, List, [], ◌∷◌, ◌++◌, length, Option, Some, None, refl, ◌∙◌, ap, arith}
 use Rattle.std.specs.Prelude.{slice_get, slice_set, IsSome}
 use Rattle.std.proofs.lemmas.Bool.{eqb-true, eq-eqb, ne_eqb}
 use Rattle.gc_words.specs.Image.{Block, fresh_block, blocks, block_in, block_at, field_in, field_at, with_field_word, set_block}
@@ -26,11 +26,7 @@ none_at_end s space = from (block_at s.words (end_of s)) refl
 
 at_push : (bs : List (ℕ × Block)) (a : ℕ) (b : Block) → block_in bs a ≡ None → block_in (bs ++ (a, b) ∷ []) a ≡ Some b
 at_push [] a b none = ap (λ t. cond t (Some b) None) (eq-eqb a a refl)
-at_push (entry ∷ bs) a b none =
-    elim (entry.0 == a) as (λ t. cond t (Some entry.1) (block_in bs a) ≡ None → cond t (Some entry.1) (block_in (bs ++ (a, b) ∷ []) a) ≡ Some b) [
-      | true ↦ λ none. absurd (let no : Some entry.1 ≡ None = none in cc)
-      | false ↦ λ none. at_push bs a b none
-    ] none
+at_push (entry ∷ bs) a b none = grind (arith, common_steps, at_push bs a b)
 
 beside_push : (bs : List (ℕ × Block)) (a x : ℕ) (b : Block) → (a ≡ x → ⊥) → block_in (bs ++ (a, b) ∷ []) x ≡ block_in bs x
 beside_push [] a x b other = ap (λ t. cond t (Some b) None) (ne_eqb a x other)
@@ -52,11 +48,7 @@ placed_beside s h x can other = block_beside s (fresh_block h) x (can_place_fres
 
 at_set : (bs : List (ℕ × Block)) (a i w : ℕ) (b : Block) → block_in bs a ≡ Some b → block_in (set_block bs a i w) a ≡ Some (with_field_word b i w)
 at_set [] a i w b found = absurd (let no : None ≡ Some b = found in cc)
-at_set (entry ∷ bs) a i w b found =
-    elim (entry.0 == a) as (λ t. (entry.0 == a) ≡ t → cond t (Some entry.1) (block_in bs a) ≡ Some b → block_in (cond t ((entry.0, with_field_word entry.1 i w) ∷ bs) (entry ∷ set_block bs a i w)) a ≡ Some (with_field_word b i w)) [
-      | true ↦ λ here found. (let same : entry.1 ≡ b = cc in ap (λ t. cond t (Some (with_field_word entry.1 i w)) (block_in bs a)) here ∙ ap (λ (b : Block). Some (with_field_word b i w)) same)
-      | false ↦ λ other found. ap (λ t. cond t (Some entry.1) (block_in (set_block bs a i w) a)) other ∙ at_set bs a i w b found
-    ] refl found
+at_set (entry ∷ bs) a i w b found = grind (arith, common_steps, at_set bs a i w b)
 
 beside_set : (bs : List (ℕ × Block)) (a i w x : ℕ) → (a ≡ x → ⊥) → block_in (set_block bs a i w) x ≡ block_in bs x
 beside_set [] a i w x other = refl

@@ -6,7 +6,7 @@ use Rattle.std.proofs.lemmas.Bool.{cond-true, le-leb}
 use Rattle.std.proofs.lemmas.List.{get_or_read, take_at}
 use Rattle.gc_words.specs.Word.{IsHeader, header_word}
 use Rattle.gc_words.specs.Image.{Block, walk_words, header_of, header_at, fresh_block, blocks, block_at, is_start, field_at, set_block}
-use Rattle.gc_words.specs.Spelling.{block_words, spelled, no_links}
+use Rattle.gc_words.specs.Spelling.{spelled, no_links}
 use Rattle.gc_words.specs.Layout.{field_place, link_place, next_place}
 use Rattle.gc_words.specs.Space.{SpaceWords, IsSpace, end_of, HasRoomFor, with_object, with_word, without_links}
 use Rattle.gc_words.specs.declared.header.Header.{Header}
@@ -15,7 +15,7 @@ use Rattle.gc_words.specs.Walking.{next_of, next_after, StandsIn}
 use Rattle.gc_words.proofs.Starts.{stands_in}
 use Rattle.gc_words.proofs.Writes.{some_of, HeaderRead, header_read, FieldRead, field_read, placed, field_written, link_written}
 use Rattle.gc_words.proofs.Blocks.{placed_block, written_word}
-use Rattle.gc_words.proofs.Spelled.{cleared, length_cleared}
+use Rattle.gc_words.proofs.Spelled.{cleared, length_relinked}
 
 -- ---- reading a word: t is what a caller sees of the fields s
 
@@ -42,13 +42,12 @@ next_read words a ok start =
     let b : (b : Block) × (block_at words a ≡ Some b) = some_of (block_at words a) start in
     let s : StandsIn words a b.0 = stands_in words a b.0 ok b.1 in
     let len : ℕ = b.0.header.len in
-    let fits : a + (len + 2) ≤ length words = s.fits in
     record {
       next = next_place a len;
       found = ap (λ o. next_after a o (length words - a)) s.header ∙ cond-true (nat_le (object_words len) (length words - a)) (Some (next_place a len)) None (le-leb _ _ (omega arith));
       place = λ h e. let same : b.0.header ≡ h = (let both : Some b.0.header ≡ Some h = sym (ap header_of b.1) ∙ e in cc) in ap (λ (h : Header). next_place a h.len) same;
       inside = omega arith;
-      within = fits;
+      within = s.fits;
     }
 
 pub next_seen : (s t : SpaceWords) (a : ℕ) → s ≡ t → IsSpace s → is_start t.words a ≡ true → NextRead t.words a
@@ -72,12 +71,9 @@ pub record Places (s t : SpaceWords) (h : Header) : Type 0 where
   pub object : block_at s.words (end_of t) ≡ Some (fresh_block h)
   pub words : s ≡ with_object t h
 
-zeros_added : (old pushed new : List ℕ) (h : Header) (n : ℕ) → pushed ≡ old ++ header_word h ∷ [] → n ≡ h.len + 1 → new ≡ pushed ++ replicate n 0 → new ≡ old ++ block_words 0 (fresh_block h)
-zeros_added old pushed new h n push count made = grind (arith, common_steps)
-
 pub object_placed : (s t : SpaceWords) (pushed new : List ℕ) (h : Header) (n : ℕ) → s ≡ t → IsSpace s → IsHeader h → HasRoomFor t h.len
     → pushed ≡ s.words ++ header_word h ∷ [] → n ≡ h.len + 1 → new ≡ pushed ++ replicate n 0 → Places (record { size = s.size; words = new }) t h
-object_placed s t pushed new h n same space is room push count made = grind (arith, common_steps, zeros_added, placed, placed_block)
+object_placed s t pushed new h n same space is room push count made = grind (arith, common_steps, placed, placed_block)
 
 -- ---- clearing links in the vector of words
 
@@ -88,4 +84,4 @@ pub record Clears (s t : SpaceWords) : Type 0 where
 
 pub links_cleared : (s t : SpaceWords) (lent new : List ℕ) (n : ℕ) → s ≡ t → IsSpace s → lent ≡ s.words → n ≡ length s.words → new ≡ spelled no_links (blocks lent)
     → Clears (record { size = s.size; words = take n (new ++ drop (length new) s.words) }) t
-links_cleared s t lent new n same space is count made = grind (arith, common_steps, length_cleared, take_at, cleared)
+links_cleared s t lent new n same space is count made = grind (arith, common_steps, take_at, cleared, length_relinked)

@@ -1,27 +1,21 @@
 -- A certificate that holds makes the graphs of the two images correspond.
 use Rattle.std.proofs.lemmas.Grind.{common_steps}
-use Rattle.std.proofs.Common.{◌≡◌, ℕ, suc, zero, ◌<◌, Bool, true, cond, ◌&&◌, ◌==◌, List, [], ◌∷◌, map, length, Option, Some, None, refl, sym, ◌∙◌, ap, subst, inl, inr, arith}
+use Rattle.std.proofs.Common.{◌≡◌, ℕ, suc, zero, ◌<◌, true, ◌&&◌, ◌==◌, List, [], ◌∷◌, map, length, Option, Some, None, refl, sym, ◌∙◌, ap, subst, inl, inr, arith}
 use Rattle.std.specs.Prelude.{slice_index_or}
 use Rattle.std.specs.List.{AllZip}
 use Rattle.std.proofs.lemmas.Bool.{eqb-true, cases_order, and_parts, or_cases}
 use Rattle.std.proofs.lemmas.List.Elements.{length_all_zip}
-use Rattle.gc_graph.specs.Graph.{Value, Object, lookup}
+use Rattle.gc_graph.specs.Graph.{Object, lookup}
 use Rattle.gc_graph.specs.Correspond.{paired, correspond, EqualFieldByField, Corresponding}
-use Rattle.gc_words.specs.Word.{value_of, is_value, read_correspond, words_correspond, field_value, field_words_correspond}
+use Rattle.gc_words.specs.Word.{field_value, field_words_correspond}
 use Rattle.gc_words.specs.Image.{Image, Block, block_in, block_at, blocks, object_of_block, object_entry, graph_of}
 use Rattle.gc_words.specs.Certificate.{BlocksCorrespond, Certified}
 use Rattle.gc_words.specs.declared.header.Header.{Header}
 
 -- ---- words and values
 
-both_values : (pairs : List (ℕ × ℕ)) (b c : Bool) (v w : Value) → read_correspond pairs (cond b (Some v) None) (cond c (Some w) None) ≡ true → correspond pairs v w ≡ true
-both_values pairs b c v w e = grind (arith, common_steps)
-
-values_correspond : (pairs : List (ℕ × ℕ)) (v w : ℕ) → words_correspond pairs v w ≡ true → correspond pairs (value_of v) (value_of w) ≡ true
-values_correspond pairs v w e = both_values pairs (is_value v) (is_value w) (value_of v) (value_of w) e
-
 field_values_correspond : (h : Header) (pairs : List (ℕ × ℕ)) (v w : ℕ) → field_words_correspond h pairs v w ≡ true → correspond pairs (field_value h v) (field_value h w) ≡ true
-field_values_correspond h pairs v w e = grind (arith, common_steps, values_correspond)
+field_values_correspond h pairs v w e = grind (arith, common_steps)
 
 zip_of_maps : {A B C D : Type 0} (R : A → B → Type 0) (S : C → D → Type 0) (f : A → C) (g : B → D) (xs : List A) (ys : List B) → ((x : A) (y : B) → R x y → S (f x) (g y)) → AllZip R xs ys → AllZip S (map f xs) (map g ys)
 zip_of_maps R S f g [] [] each z = tt
@@ -88,4 +82,4 @@ module _ (old new : Image) (pairs : List (ℕ × ℕ)) (certified : Certified ol
       (objects_of_blocks pairs _ _ there))
 
   pub corresponding : Corresponding pairs (graph_of old) (graph_of new)
-  corresponding = grind (arith, common_steps, zip_of_maps, values_correspond, objects, one_right, one_left)
+  corresponding = grind (arith, common_steps, zip_of_maps, objects, one_right, one_left)

@@ -8,7 +8,7 @@ use Rattle.gc_words.specs.Image.{Block, walk_words, block_at, object_of_block}
 use Rattle.gc_words.specs.Space.{SpaceWords, IsSpace, end_of, free_in, with_object, with_word, without_links}
 use Rattle.gc_words.specs.declared.header.Header.{Header}
 use Rattle.gc_words.proofs.Starts.{stands_in}
-use Rattle.gc_words.proofs.Spelled.{length_cleared}
+use Rattle.gc_words.proofs.Spelled.{length_relinked}
 
 pub end_placed : (s : SpaceWords) (h : Header) → end_of (with_object s h) ≡ end_of s + (h.len + 2)
 end_placed s h = grind (arith, common_steps, length-replicate)
@@ -20,7 +20,7 @@ pub end_written : (s : SpaceWords) (place word : ℕ) → end_of (with_word s pl
 end_written s place word = length-set s.words place word
 
 pub end_cleared : (s : SpaceWords) → IsSpace s → end_of (without_links s) ≡ end_of s
-end_cleared s space = length_cleared s.words space.walked space.end_low space.reserved
+end_cleared s space = grind (arith, common_steps, length_relinked)
 
 -- an object of the graph has as many fields as its header says
 pub fields_counted : (words : List ℕ) (a : ℕ) (b : Block) → IsOk (walk_words words) → block_at words a ≡ Some b → length (object_of_block b).fields ≡ b.header.len

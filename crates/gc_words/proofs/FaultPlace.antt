@@ -4,12 +4,10 @@ use Rattle.std.proofs.Common.{◌≡◌, ℕ, suc, zero, ◌+◌, ◌-◌, ◌<�
 use Rattle.std.specs.Prelude.{slice_index}
 use Rattle.std.proofs.lemmas.Bool.{eqb-true, eq-eqb, leb-true, le-leb, and_parts, and_from, both_ways, cases_lt}
 use Rattle.std.proofs.lemmas.List.{drop_all}
-use Rattle.gc_words.specs.Word.{header_in}
 use Rattle.gc_words.specs.Image.{Block, Image, walk, with_front}
 use Rattle.gc_words.specs.Fault.{first_difference, fault_of_walk, has_size, shape_fault}
 use Rattle.gc_words.specs.FaultPlace.{DifferFirstAt, IsFramed, LieBetween, StopsAt, ShapeFailsAt}
-use Rattle.gc_words.specs.Walking.{next_after, next_in, walk_on, block_from, StepsIn}
-use Rattle.gc_words.specs.declared.header.Header.{Header}
+use Rattle.gc_words.specs.Walking.{next_in, walk_on, block_from, StepsIn}
 use Rattle.gc_words.proofs.Steps.{step, no_step, framed}
 
 -- ---- the first difference of two lists
@@ -21,22 +19,9 @@ module _ (alike : ℕ → ℕ → Bool) where
 
   differ_from : (n j : ℕ) (vs ws : List ℕ) → first_difference alike n vs ws ≡ Some j → (i : ℕ) × (j ≡ n + i) × DifferFirstAt alike vs ws i
   differ_from n j [] [] e = absurd cc
-  differ_from n j [] (w ∷ ws) e =
-      let same : n ≡ j = cc e in
-      (0, omega arith, record { before = λ k h. absurd (omega arith); here = tt })
-  differ_from n j (v ∷ vs) [] e =
-      let same : n ≡ j = cc e in
-      (0, omega arith, record { before = λ k h. absurd (omega arith); here = tt })
-  differ_from n j (v ∷ vs) (w ∷ ws) e = go (λ f. differ_from (suc n) j vs ws f) (alike v w) refl e
-    where
-      go : (first_difference alike (suc n) vs ws ≡ Some j → (i : ℕ) × (j ≡ suc n + i) × DifferFirstAt alike vs ws i) → (b : Bool) → alike v w ≡ b → cond b (first_difference alike (suc n) vs ws) (Some n) ≡ Some j → (i : ℕ) × (j ≡ n + i) × DifferFirstAt alike (v ∷ vs) (w ∷ ws) i
-      go again true t f =
-          let ih : (i : ℕ) × (j ≡ suc n + i) × DifferFirstAt alike vs ws i = again f in
-          let at : j ≡ suc n + ih.0 = ih.1 in
-          (suc ih.0, omega arith, later v w vs ws ih.0 t ih.2)
-      go again false t f =
-          let same : n ≡ j = cc f in
-          (0, omega arith, record { before = λ k h. absurd (omega arith); here = t })
+  differ_from n j [] (w ∷ ws) e = grind (arith, common_steps)
+  differ_from n j (v ∷ vs) [] e = grind (arith, common_steps)
+  differ_from n j (v ∷ vs) (w ∷ ws) e = grind (arith, common_steps, later, differ_from (suc n) j vs ws)
 
   found_from : (n i : ℕ) (vs ws : List ℕ) → DifferFirstAt alike vs ws i → first_difference alike n vs ws ≡ Some (n + i)
   found_from n i [] [] d = absurd d.here
@@ -59,11 +44,8 @@ module _ (alike : ℕ → ℕ → Bool) where
 -- ---- the walk
 
 module _ (raws : Bool) (words : List ℕ) where
-  rises_after : (at next : ℕ) (o : Option Header) (room : ℕ) → next_after at o room ≡ Some next → at < next
-  rises_after at next o room e = grind (arith, common_steps)
-
   rises : (at next : ℕ) → next_in raws words at ≡ Some next → at < next
-  rises at next e = rises_after at next (header_in raws (slice_index words at)) (length words - at) e
+  rises at next e = grind (arith, common_steps)
 
   between : (from : ℕ) (nexts : List ℕ) (to : ℕ) → LieBetween raws words from nexts to → from ≤ to
   between from [] to lie = let same : from ≡ to = lie in omega arith
@@ -83,19 +65,15 @@ module _ (raws : Bool) (words : List ℕ) where
       go : ((next : ℕ) → length words ≤ next + fuel → walk_on raws words next ≡ Err at → StopsAt raws words next at)
           → from < length words → (o : Option ℕ) → next_in raws words from ≡ o → StopsAt raws words from at
       go again inside None is =
-          let err : Err from ≡ Err at = sym (no_step raws words from inside is) ∙ e in
-          let same : from ≡ at = cc err in
+          let same : from ≡ at = cc (sym (no_step raws words from inside is) ∙ e) in
           record { nexts = []; objects = same; inside = omega arith; none = subst (λ n. next_in raws words n ≡ None) same is }
       go again inside (Some next) is =
-          let s : StepsIn raws words from next = step raws words from next inside is in
           let up : from < next = rises from next is in
-          let rest : StopsAt raws words next at = again next (omega arith) (err_behind _ (walk_on raws words next) at (sym s.walk_is ∙ e)) in
+          let rest : StopsAt raws words next at = again next (omega arith) (err_behind _ (walk_on raws words next) at (sym (step raws words from next inside is).walk_is ∙ e)) in
           record { nexts = next ∷ rest.nexts; objects = (is, rest.objects); inside = rest.inside; none = rest.none }
 
   stopped : (from : ℕ) (nexts : List ℕ) (at : ℕ) → LieBetween raws words from nexts at → at < length words → next_in raws words at ≡ None → walk_on raws words from ≡ Err at
-  stopped from [] at lie inside none =
-      let same : from ≡ at = lie in
-      subst (λ n. walk_on raws words n ≡ Err at) (sym same) (no_step raws words at inside none)
+  stopped from [] at lie inside none = subst (λ n. walk_on raws words n ≡ Err at) (sym lie) (no_step raws words at inside none)
   stopped from (next ∷ nexts) at lie inside none =
       let low : from ≤ at = between from (next ∷ nexts) at lie in
       let s : StepsIn raws words from next = step raws words from next (omega arith) lie.0 in

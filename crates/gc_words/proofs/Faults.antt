@@ -1,7 +1,7 @@
 -- There is no first fault exactly if the certificate holds.
 use Rattle.std.proofs.lemmas.Grind.{common_steps}
-use Rattle.std.proofs.Common.{◌≡◌, ℕ, suc, ◌<◌, Bool, true, false, cond, not, ◌==◌, List, [], ◌∷◌, ◌++◌, length, get_or, take, Option, Some, None, Result, is_some, refl, sym, ◌∙◌, ap, subst, arith, append_assoc, append-nil}
-use Rattle.std.specs.Prelude.{◌≢◌, nat_le, IsOk}
+use Rattle.std.proofs.Common.{◌≡◌, ℕ, suc, ◌<◌, Bool, true, false, cond, not, ◌==◌, List, [], ◌∷◌, ◌++◌, length, get_or, take, Option, Some, None, is_some, refl, sym, ◌∙◌, ap, subst, arith, append_assoc, append-nil}
+use Rattle.std.specs.Prelude.{◌≢◌, nat_le}
 use Rattle.std.specs.List.{All, AllPairs, AllZip, AllByRecursion, list_any}
 use Rattle.std.proofs.lemmas.Bool.{eqb-true, eq-eqb, ne_eqb, leb-true, leb-false, le-leb, lt-leb, and_parts, and_from, both_ways, not-false}
 use Rattle.std.proofs.lemmas.List.{get_or_append_left, get_or_at, length-append}
@@ -13,7 +13,7 @@ use Rattle.gc_words.specs.Word.{words_correspond}
 use Rattle.gc_words.specs.Image.{Image, Block, IsShaped, block_at, is_start}
 use Rattle.gc_words.specs.declared.header.Header.{Header}
 use Rattle.gc_words.specs.Certificate.{BlocksCorrespond, Certified}
-use Rattle.gc_words.specs.Fault.{◌or_else◌, when, at_place, fault_of_walk, shape_fault, not_above_last, place_fault, first_over_pairs, place_faults, table_fault, first_difference, same_bool, same_header, block_fault, pair_fault, object_faults, root_fault, first_fault}
+use Rattle.gc_words.specs.Fault.{◌or_else◌, when, at_place, shape_fault, not_above_last, place_fault, first_over_pairs, place_faults, table_fault, first_difference, same_header, block_fault, pair_fault, object_faults, root_fault, first_fault}
 use Rattle.gc_words.specs.declared.refusal.Refusal.{Refusal}
 use Rattle.gc_words.specs.declared.refusal.Refusal.TheVariants.{OldShape, NewShape, RootCount, RootDiffers}
 
@@ -39,23 +39,14 @@ none_at_place o r e = grind (arith, common_steps)
 
 -- ---- shape
 
-if_none : {X : Type 0} (b : Bool) (x : Option X) (y : X) → cond b x (Some y) ≡ None → (b ≡ true) × (x ≡ None)
-if_none b x y e = grind (arith, common_steps)
-
 none_if : {X : Type 0} (b : Bool) (x : Option X) (y : X) → b ≡ true → x ≡ None → cond b x (Some y) ≡ None
 none_if b x y e f = grind (arith, common_steps)
 
-walk_none : {X : Type 0} (r : Result X ℕ) → fault_of_walk r ≡ None → IsOk r
-walk_none r e = grind (arith, common_steps)
-
-none_walk : {X : Type 0} (r : Result X ℕ) → IsOk r → fault_of_walk r ≡ None
-none_walk r e = grind (arith, common_steps)
-
 pub shaped : (image : Image) → shape_fault image ≡ None → IsShaped image
-shaped image e = grind (arith, common_steps, if_none, and_parts, leb-true, eqb-true, walk_none)
+shaped image e = grind (arith, common_steps, and_parts, leb-true, eqb-true)
 
 pub no_shape_fault : (image : Image) → IsShaped image → shape_fault image ≡ None
-no_shape_fault image s = grind (arith, common_steps, none_if, and_from, le-leb, eq-eqb, none_walk)
+no_shape_fault image s = grind (arith, common_steps, none_if, and_from, le-leb, eq-eqb)
 
 -- ---- pairs: their places
 
@@ -100,8 +91,7 @@ no_place_faults old new all (p ∷ rest) before k whole count pairs highest e =
     let at : (is_start old.words p.0 ≡ true) × (is_start new.words p.1 ≡ true) × (not_above_last before p.1 ≡ false) × (list_any (λ q. q.0 == p.0) before ≡ false)
     = no_place_fault old new before k p (subst (λ some. place_fault old new some k p ≡ None) (first_taken all before (p ∷ rest) k whole count) both.0) in
     let below : All (λ q. q.1 < p.1) before = highest p.1 at.2 in
-    let other : All (λ q. q.0 ≢ p.0) before = none_same before p.0 at.3 in
-    let pushed : AllPairs Later (before ++ p ∷ []) = all_pairs_push Later before p pairs (λ i d h. (other i d h, below i d h)) in
+    let pushed : AllPairs Later (before ++ p ∷ []) = all_pairs_push Later before p pairs (λ i d h. (none_same before p.0 at.3 i d h, below i d h)) in
     let ih : AllPairs Later all × All (λ p. (is_start old.words p.0 ≡ true) × (is_start new.words p.1 ≡ true)) rest
     = no_place_faults old new all rest (before ++ p ∷ []) (suc k) (append_assoc before (p ∷ []) rest ∙ whole) (one_longer before p k count) pushed (pushed_highest before p below) both.1 in
     (ih.0, All-cons (λ p. (is_start old.words p.0 ≡ true) × (is_start new.words p.1 ≡ true)) p rest (at.0, at.1) ih.1)
@@ -142,9 +132,7 @@ pub no_difference : (alike : ℕ → ℕ → Bool) (i : ℕ) (vs ws : List ℕ) 
 no_difference alike i [] [] e = tt
 no_difference alike i [] (w ∷ ws) e = absurd (let no : Some i ≡ None = e in cc)
 no_difference alike i (v ∷ vs) [] e = absurd (let no : Some i ≡ None = e in cc)
-no_difference alike i (v ∷ vs) (w ∷ ws) e =
-    let parts : (alike v w ≡ true) × (first_difference alike (suc i) vs ws ≡ None) = if_none (alike v w) _ i e in
-    (parts.0, no_difference alike (suc i) vs ws parts.1)
+no_difference alike i (v ∷ vs) (w ∷ ws) e = grind (arith, common_steps, no_difference alike (suc i) vs ws)
 
 pub difference_none : (alike : ℕ → ℕ → Bool) (i : ℕ) (vs ws : List ℕ) → AllZip (λ v w. alike v w ≡ true) vs ws → first_difference alike i vs ws ≡ None
 difference_none alike i [] [] z = refl
@@ -152,20 +140,14 @@ difference_none alike i [] (w ∷ ws) z = absurd z
 difference_none alike i (v ∷ vs) [] z = absurd z
 difference_none alike i (v ∷ vs) (w ∷ ws) z = none_if (alike v w) _ i z.0 (difference_none alike (suc i) vs ws z.1)
 
-bool_same : (a b : Bool) → same_bool a b ≡ true → a ≡ b
-bool_same a b e = grind (arith, common_steps)
-
-same_bool_itself : (a : Bool) → same_bool a a ≡ true
-same_bool_itself a = grind (arith, common_steps)
-
 pub header_same : (g h : Header) → same_header g h ≡ true → g ≡ h
-header_same g h e = grind (arith, common_steps, and_parts, bool_same, eqb-true)
+header_same g h e = grind (arith, common_steps, and_parts, eqb-true)
 
 pub same_header_of : (g h : Header) → g ≡ h → same_header g h ≡ true
-same_header_of g h e = and_from _ _ (and_from _ _ (subst (λ (h : Header). same_bool g.raw h.raw ≡ true) e (same_bool_itself g.raw)) (eq-eqb _ _ (ap (λ h. h.kind) e))) (eq-eqb _ _ (ap (λ h. h.len) e))
+same_header_of g h e = grind (arith, common_steps, and_from, eq-eqb)
 
 pub no_block_fault : (pairs : List (ℕ × ℕ)) (k : ℕ) (o q : Option Block) → is_some o ≡ true → is_some q ≡ true → block_fault pairs k o q ≡ None → BlocksCorrespond pairs o q
-no_block_fault pairs k o q s t e = grind (arith, common_steps, if_none, header_same, no_difference, at_place_none)
+no_block_fault pairs k o q s t e = grind (arith, common_steps, header_same, no_difference, at_place_none)
 
 pub block_fault_none : (pairs : List (ℕ × ℕ)) (k : ℕ) (o q : Option Block) → BlocksCorrespond pairs o q → block_fault pairs k o q ≡ None
 block_fault_none pairs k o q c = grind (arith, common_steps, none_if, same_header_of, none_at_place, difference_none)
@@ -197,8 +179,7 @@ module _ (old new : Image) (pairs : List (ℕ × ℕ)) where
       let s4 : (table_fault old new pairs ≡ None) × (object_faults old new pairs ≡ None) = or_none _ _ s5.0 in
       let s3 : ((at_place (shape_fault old) (λ at. OldShape at) or_else at_place (shape_fault new) (λ at. NewShape at) or_else when (not (length old.roots == length new.roots)) RootCount) ≡ None)
       × (place_faults old new pairs ≡ None) = or_none _ _ s4.0 in
-      let s2 : ((at_place (shape_fault old) (λ at. OldShape at) or_else at_place (shape_fault new) (λ at. NewShape at)) ≡ None) × (when (not (length old.roots == length new.roots)) RootCount ≡ None) = or_none _ _ s3.0 in
-      let s1 : (at_place (shape_fault old) (λ at. OldShape at) ≡ None) × (at_place (shape_fault new) (λ at. NewShape at) ≡ None) = or_none _ _ s2.0 in
+      let s1 : (at_place (shape_fault old) (λ at. OldShape at) ≡ None) × (at_place (shape_fault new) (λ at. NewShape at) ≡ None) = or_none _ _ (or_none _ _ s3.0).0 in
       let places : AllPairs Later pairs × All Start pairs = no_place_faults old new pairs pairs [] 0 refl refl (λ i j d h l. absurd (omega arith)) (λ n e. All-nil (λ q. q.1 < n)) s3.1 in
       record {
         old_shaped = shaped old (at_place_none (shape_fault old) (λ at. OldShape at) s1.0);

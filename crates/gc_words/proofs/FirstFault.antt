@@ -1,7 +1,6 @@
 -- The conditions that hold before the first fault.
 use Rattle.std.proofs.lemmas.Grind.{common_steps}
 use Rattle.std.proofs.Common.{◌≡◌, ℕ, suc, ◌<◌, Bool, true, false, not, ◌==◌, List, [], ◌∷◌, ◌++◌, length, Option, Some, None, refl, sym, ◌∙◌, ap, subst, arith, append_assoc}
-use Rattle.std.specs.Prelude.{◌≢◌}
 use Rattle.std.specs.List.{All, list_any}
 use Rattle.std.proofs.lemmas.Bool.{eqb-true, eqb-false, ne_eqb, both_ways}
 use Rattle.std.proofs.lemmas.List.Elements.{All-nil, All-head, All-tail, All-push, All-weaker, recursion_from_All}
@@ -13,7 +12,7 @@ use Rattle.gc_words.specs.Certificate.{BlocksCorrespond}
 use Rattle.gc_words.specs.Fault.{◌or_else◌, when, at_place, shape_fault, first_over_pairs, not_above_last, place_fault, place_faults, first_difference, block_fault, pair_fault, object_faults, first_fault, PairAt, AreComparable, ArePlaced, ObjectsMatch, HeadersDiffer, FieldsDifferAt, PlaceFails, ObjectFails, IsFirstFault}
 use Rattle.gc_words.specs.declared.refusal.Refusal.{Refusal}
 use Rattle.gc_words.specs.declared.refusal.Refusal.TheVariants.{OldShape, NewShape, RootCount, OldNotStart, NewNotStart, NotRising, Twice, HeaderDiffers, FieldDiffers, RootDiffers}
-use Rattle.gc_words.proofs.Faults.{shaped, LastIsHighest, pushed_highest, none_same, above_all, Later, no_block_fault, header_same, same_header_of, first_taken, one_longer, place_faults_from, no_place_faults, no_object_faults}
+use Rattle.gc_words.proofs.Faults.{shaped, LastIsHighest, pushed_highest, none_same, above_all, no_block_fault, header_same, same_header_of, first_taken, one_longer, place_faults_from, no_place_faults, no_object_faults}
 
 -- ---- places
 
@@ -30,10 +29,7 @@ module _ (old new : Image) (pairs : List (ℕ × ℕ)) where
       (subst (λ some. (place_fault old new some k p or_else place_faults_from old new pairs (suc k) rest) ≡ Some r) (first_taken pairs before (p ∷ rest) k whole count) e)
     where
       next : Start p → not_above_last before p.1 ≡ false → list_any (λ q. q.0 == p.0) before ≡ false → ArePlaced old new (before ++ p ∷ [])
-      next starts fc fd = record {
-        starts = All-push Start before p placed.starts starts;
-        later = all_pairs_push Later before p placed.later (λ i d h. (none_same before p.0 fd i d h, highest p.1 fc i d h));
-      }
+      next starts fc fd = grind (arith, common_steps, All-push, all_pairs_push, none_same)
 
       Again : Type 0
       Again = Start p → not_above_last before p.1 ≡ false → list_any (λ q. q.0 == p.0) before ≡ false
@@ -45,15 +41,7 @@ module _ (old new : Image) (pairs : List (ℕ × ℕ)) where
       go : Again → (a : Bool) → is_start old.words p.0 ≡ a → (b : Bool) → is_start new.words p.1 ≡ b → (c : Bool) → not_above_last before p.1 ≡ c → (d : Bool) → list_any (λ q. q.0 == p.0) before ≡ d
           → ((when (not a) (OldNotStart k) or_else when (not b) (NewNotStart k) or_else when c (NotRising k) or_else when d (Twice k)) or_else place_faults_from old new pairs (suc k) rest) ≡ Some r
           → PlaceFails old new pairs r
-      go again false fa b fb c fc d fd e = let same : OldNotStart k ≡ r = cc e in subst (PlaceFails old new pairs) same (at _ (placed, fa))
-      go again true fa false fb c fc d fd e = let same : NewNotStart k ≡ r = cc e in subst (PlaceFails old new pairs) same (at _ (placed, fa, fb))
-      go again true fa true fb true fc d fd e =
-          let same : NotRising k ≡ r = cc e in
-          subst (PlaceFails old new pairs) same (at _ (placed, fa, fb, λ below. both_ways (not_above_last before p.1) (above_all before p.1 (recursion_from_All (λ q. q.1 < p.1) before below)) fc))
-      go again true fa true fb false fc true fd e =
-          let same : Twice k ≡ r = cc e in
-          subst (PlaceFails old new pairs) same (at _ (placed, fa, fb, highest p.1 fc, λ once. both_ways (list_any (λ q. q.0 == p.0) before) (list_any_none (λ q. q.0 == p.0) before (All-weaker (λ q. q.0 ≢ p.0) (λ q. (q.0 == p.0) ≡ false) (λ q h. ne_eqb _ _ h) before once)) fd))
-      go again true fa true fb false fc false fd e = again (fa, fb) fc fd e
+      go again a fa b fb c fc d fd e = grind (arith, common_steps, at, both_ways, above_all, recursion_from_All, list_any_none, All-weaker, ne_eqb)
 
 -- ---- objects
 
@@ -84,21 +72,11 @@ module _ (old new : Image) (pairs : List (ℕ × ℕ)) where
       at P j same h = record { before = before; pair = p; rest = rest; whole = all ∙ is; place = count ∙ sym same; holds = h }
 
       fails : (q : Refusal) → PairFails k (block_at old.words p.0) (block_at new.words p.1) q → ObjectFails old new pairs q
-      fails (HeaderDiffers j) h = at _ j h.0 (match, h.1)
-      fails (FieldDiffers j i) h = at _ j h.0 (match, h.1)
-      fails (OldShape n) h = absurd h
-      fails (NewShape n) h = absurd h
-      fails RootCount h = absurd h
-      fails (OldNotStart n) h = absurd h
-      fails (NewNotStart n) h = absurd h
-      fails (NotRising n) h = absurd h
-      fails (Twice n) h = absurd h
-      fails (RootDiffers n) h = absurd h
+      fails q h = grind (arith, common_steps, at)
 
       go : (ObjectsMatch old new pairs (before ++ p ∷ []) → first_over_pairs (pair_fault old new pairs) (suc k) rest ≡ Some r → ObjectFails old new pairs r)
           → (f : Option Refusal) → pair_fault old new pairs k p ≡ f → (f or_else first_over_pairs (pair_fault old new pairs) (suc k) rest) ≡ Some r → ObjectFails old new pairs r
-      go again None f e = again (All-push Object before p match (no_block_fault pairs k _ _ start.0 start.1 f)) e
-      go again (Some q) f e = let same : q ≡ r = cc e in fails r (block_fails k _ _ r (f ∙ ap (λ x. Some x) same))
+      go again f h e = grind (arith, common_steps, All-push, no_block_fault, start, fails, block_fails)
 
   -- ---- all of them
 
@@ -112,28 +90,10 @@ module _ (old new : Image) (pairs : List (ℕ × ℕ)) where
       none_placed = record { starts = All-nil (Start old new pairs); later = λ i j d h l. absurd (omega arith) }
 
       from_places : AreComparable old new → (q : Refusal) → PlaceFails old new pairs q → IsFirstFault old new pairs q
-      from_places c (OldNotStart k) h = (c, h)
-      from_places c (NewNotStart k) h = (c, h)
-      from_places c (NotRising k) h = (c, h)
-      from_places c (Twice k) h = (c, h)
-      from_places c (OldShape n) h = absurd h
-      from_places c (NewShape n) h = absurd h
-      from_places c RootCount h = absurd h
-      from_places c (HeaderDiffers n) h = absurd h
-      from_places c (FieldDiffers n i) h = absurd h
-      from_places c (RootDiffers n) h = absurd h
+      from_places c q h = grind (arith, common_steps)
 
       from_objects : AreComparable old new → ArePlaced old new pairs → (q : Refusal) → ObjectFails old new pairs q → IsFirstFault old new pairs q
-      from_objects c p (HeaderDiffers k) h = (c, p, h)
-      from_objects c p (FieldDiffers k i) h = (c, p, h)
-      from_objects c p (OldNotStart k) h = absurd h
-      from_objects c p (NewNotStart k) h = absurd h
-      from_objects c p (NotRising k) h = absurd h
-      from_objects c p (Twice k) h = absurd h
-      from_objects c p (OldShape n) h = absurd h
-      from_objects c p (NewShape n) h = absurd h
-      from_objects c p RootCount h = absurd h
-      from_objects c p (RootDiffers n) h = absurd h
+      from_objects c p q h = grind (arith, common_steps)
 
       comparable : shape_fault old ≡ None → shape_fault new ≡ None → (length old.roots == length new.roots) ≡ true → AreComparable old new
       comparable o n c = record { old_shaped = shaped old o; new_shaped = shaped new n; roots = eqb-true _ _ c }

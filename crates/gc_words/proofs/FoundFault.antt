@@ -36,8 +36,7 @@ module _ (old new : Image) (pairs : List (ℕ × ℕ)) where
       go [] done k parts count starts highest =
           let same : done ≡ before = sym (append-nil done) ∙ parts in
           let taken : take k pairs ≡ done = first_taken pairs done (p ∷ rest) k (ap (λ some. some ++ p ∷ rest) same ∙ sym whole) count in
-          let here : place_fault old new before (length before) p ≡ Some r = fault (subst LastIsHighest same highest) in
-          found _ _ r ((λ i. place_fault old new ((taken ∙ same) i) ((sym count ∙ ap length same) i) p) ∙ here)
+          found _ _ r ((λ i. place_fault old new ((taken ∙ same) i) ((sym count ∙ ap length same) i) p) ∙ fault (subst LastIsHighest same highest))
       go (q ∷ todo) done k parts count starts highest =
           let each : All (λ x. Later x q) done = before_each done todo q (subst (AllPairs Later) (sym parts) placed.later) in
           let taken : take k pairs ≡ done = first_taken pairs done (q ∷ todo ++ p ∷ rest) k (sym (append_assoc done (q ∷ todo) (p ∷ rest)) ∙ ap (λ some. some ++ p ∷ rest) parts ∙ sym whole) count in
@@ -51,13 +50,10 @@ module _ (old new : Image) (pairs : List (ℕ × ℕ)) where
 
   object_found : (r : Refusal) (k : ℕ) (todo : List (ℕ × ℕ)) (p : ℕ × ℕ) (rest : List (ℕ × ℕ)) → All (Object old new pairs) todo → pair_fault old new pairs (k + length todo) p ≡ Some r
       → first_over_pairs (pair_fault old new pairs) k (todo ++ p ∷ rest) ≡ Some r
-  object_found r k [] p rest match fault =
-      let same : k + 0 ≡ k = omega arith in
-      found _ _ r (subst (λ j. pair_fault old new pairs j p ≡ Some r) same fault)
+  object_found r k [] p rest match fault = found _ _ r (subst (λ j. pair_fault old new pairs j p ≡ Some r) (omega arith) fault)
   object_found r k (q ∷ todo) p rest match fault =
-      let same : k + length (q ∷ todo) ≡ suc k + length todo = omega arith in
       passed _ _ r (block_fault_none pairs k _ _ (All-head (Object old new pairs) q todo match))
-      (object_found r (suc k) todo p rest (All-tail (Object old new pairs) q todo match) (subst (λ j. pair_fault old new pairs j p ≡ Some r) same fault))
+      (object_found r (suc k) todo p rest (All-tail (Object old new pairs) q todo match) (subst (λ j. pair_fault old new pairs j p ≡ Some r) (omega arith) fault))
 
   headers_found : (k : ℕ) (a b : Option Block) → HeadersDiffer a b → block_fault pairs k a b ≡ Some (HeaderDiffers k)
   headers_found k a b differ = grind (arith, common_steps, cases_Bool, header_same)
@@ -87,9 +83,8 @@ module _ (old new : Image) (pairs : List (ℕ × ℕ)) where
   at_object_of : (r : Refusal) (k : ℕ) (P : List (ℕ × ℕ) → ℕ × ℕ → Type 0) (h : PairAt pairs k P) → AreComparable old new → ArePlaced old new pairs → ObjectsMatch old new pairs h.before
       → pair_fault old new pairs (length h.before) h.pair ≡ Some r → first_fault old new pairs ≡ Some r
   at_object_of r k P h c placed match fault =
-      let same : length h.before ≡ 0 + length h.before = omega arith in
       in_objects r c placed (ap (first_over_pairs (pair_fault old new pairs) 0) h.whole
-      ∙ object_found r 0 h.before h.pair h.rest match (subst (λ j. pair_fault old new pairs j h.pair ≡ Some r) same fault))
+      ∙ object_found r 0 h.before h.pair h.rest match (subst (λ j. pair_fault old new pairs j h.pair ≡ Some r) (omega arith) fault))
 
   pub fault_found : (r : Refusal) → IsFirstFault old new pairs r → first_fault old new pairs ≡ Some r
   fault_found (OldShape at) h = found _ _ _ (found _ _ _ (found _ _ _ (found _ _ _ (found _ _ _ (at_found _ (λ at. OldShape at) at h)))))
@@ -124,9 +119,6 @@ module _ (old new : Image) (pairs : List (ℕ × ℕ)) where
   fault_found (FieldDiffers k i) h = at_object_of (FieldDiffers k i) k _ h.2 h.0 h.1 h.2.holds.0 (fields_found _ i _ _ h.2.holds.1 ∙ ap (λ j. Some (FieldDiffers j i)) h.2.place)
   fault_found (RootDiffers slot) h = passed _ _ _ (none_or _ _ (table_none h.0 h.1) (object_faults_none old new pairs 0 pairs h.2)) (at_found _ (λ slot. RootDiffers slot) slot h.3)
 
-  some_same : (r s : Refusal) → Some r ≡ Some s → r ≡ s
-  some_same r s e = cc
-
   -- no two faults are the first
   pub one_first : (r s : Refusal) → IsFirstFault old new pairs r → IsFirstFault old new pairs s → r ≡ s
-  one_first r s h k = some_same r s (sym (fault_found r h) ∙ fault_found s k)
+  one_first r s h k = grind (arith, common_steps, fault_found)

@@ -1,6 +1,6 @@
 -- The graph of a space's words, and what writes do to it.
 use Rattle.std.proofs.lemmas.Grind.{common_steps}
-use Rattle.std.proofs.Common.{◌≡◌, ℕ, suc, zero, Bool, true, false, cond, List, [], ◌∷◌, map, replicate, Some, refl, ap, arith}
+use Rattle.std.proofs.Common.{◌≡◌, ℕ, suc, zero, Bool, true, cond, List, [], ◌∷◌, map, replicate, Some, refl, ap, arith}
 use Rattle.std.specs.Prelude.{slice_get, slice_index, slice_set, IsSome}
 use Rattle.std.specs.Option.{option_map}
 use Rattle.std.proofs.lemmas.Bool.{eqb-true, eqb-false, eq-eqb, ne_eqb, ltb-true, lt-ltb, cases_Bool, or_cases}
@@ -20,11 +20,8 @@ use Rattle.gc_words.proofs.Spelled.{cleared}
 pub value_read_back : (v : Value) → HasAddress v → read_value (word_of v) ≡ Some v
 value_read_back v h = grind (arith, common_steps, eq-eqb, ne_eqb, lt-ltb)
 
-read_some : (w : ℕ) (v : Value) → read_value w ≡ Some v → (is_value w ≡ true) × (value_of w ≡ v)
-read_some w v e = grind (arith, common_steps)
-
 pub meaning_back : (v : Value) → HasAddress v → (is_value (word_of v) ≡ true) × (value_of (word_of v) ≡ v)
-meaning_back v has = read_some (word_of v) v (value_read_back v has)
+meaning_back v has = grind (arith, common_steps, value_read_back)
 
 -- a word that is a value is the word of what it means
 abbrev pub IsWordOf : ℕ → Value → Type 0
@@ -34,7 +31,7 @@ pub meant : (w : ℕ) → is_value w ≡ true → IsWordOf w (value_of w)
 meant w is = grind (arith, common_steps, cases_Bool, eqb-true, eqb-false, or_cases, ltb-true)
 
 pub word_read_back : (w : ℕ) (v : Value) → read_value w ≡ Some v → IsWordOf w v
-word_read_back w v e = grind (arith, common_steps, read_some, meant)
+word_read_back w v e = grind (arith, common_steps, meant)
 
 -- ---- what a graph finds
 
@@ -71,8 +68,7 @@ pub fresh_object : (h : Header) → object_of_block (fresh_block h) ≡ new_obje
 fresh_object h = ap (λ fs. record { raw = h.raw; kind = h.kind; fields = fs }) (each h.len)
   where
     zero_word : (raw : Bool) → cond raw (Num 0) (value_of 0) ≡ first_value raw
-    zero_word true = refl
-    zero_word false = refl
+    zero_word raw = grind (arith, common_steps)
 
     each : (n : ℕ) → map (field_value h) (replicate n 0) ≡ replicate n (first_value h.raw)
     each zero = refl

@@ -1,10 +1,11 @@
 -- Links after a write, which changes no other word.
+use Rattle.std.proofs.lemmas.Grind.{common_steps}
 use Rattle.std.proofs.Common.{◌≡◌, ℕ, ◌+◌, ◌<◌, ◌≤◌, true, false, cond, ◌==◌, List, [], ◌∷◌, length, Some, None, is_some, sym, ◌∙◌, ap, inl, inr, arith}
 use Rattle.std.specs.Prelude.{IsSome}
 use Rattle.std.proofs.lemmas.Bool.{eqb-true, cases_Bool, cases_lt}
 use Rattle.std.proofs.lemmas.List.{get_or_append_left, get_or-append-add, get_or-set_same, get_or-set_other}
 use Rattle.gc_words.specs.Image.{Block, blocks, block_in, block_at, is_start, field_at}
-use Rattle.gc_words.specs.Spelling.{block_words, link_at, no_links, LaidOut}
+use Rattle.gc_words.specs.Spelling.{block_words, link_at, LaidOut}
 use Rattle.gc_words.specs.Layout.{field_place, link_place}
 use Rattle.gc_words.specs.Space.{SpaceWords, IsSpace, end_of, with_block, with_word, without_links}
 use Rattle.gc_words.proofs.Starts.{stands_in}
@@ -16,12 +17,7 @@ use Rattle.gc_words.proofs.Spelled.{laid_out_words, link_spelled}
 -- no object starts before the first one
 not_before : (entries : List (ℕ × Block)) (at x : ℕ) → LaidOut at entries → is_some (block_in entries x) ≡ true → at ≤ x
 not_before [] at x laid e = absurd (let no : false ≡ true = e in cc)
-not_before (entry ∷ rest) at x laid e =
-    let place : entry.0 ≡ at = laid.0 in
-    elim (cases_Bool (entry.0 == x)) [
-      | inl here ↦ (let same : entry.0 ≡ x = eqb-true entry.0 x here in omega arith)
-      | inr other ↦ (let more : at + (entry.1.header.len + 2) ≤ x = not_before rest (at + (entry.1.header.len + 2)) x laid.2 (sym (ap (λ t. is_some (cond t (Some entry.1) (block_in rest x))) other) ∙ e) in omega arith)
-    ]
+not_before (entry ∷ rest) at x laid e = grind (arith, common_steps, cases_Bool, eqb-true, is_some, not_before rest (at + (entry.1.header.len + 2)) x)
 
 -- the greater of two starts lies after the other's object
 apart : (entries : List (ℕ × Block)) (at a x : ℕ) (b : Block) → LaidOut at entries → block_in entries a ≡ Some b → is_some (block_in entries x) ≡ true → a < x → a + (b.header.len + 2) ≤ x
@@ -81,6 +77,4 @@ link_written_beside s a w x other = get_or-set_other s.words (a + 1) (x + 1) w 0
 -- ---- cleared links
 
 pub link_cleared : (s : SpaceWords) (x : ℕ) → IsSpace s → is_start s.words x ≡ true → link_at (without_links s).words x ≡ 0
-link_cleared s x space start =
-    let b : (b : Block) × (block_at s.words x ≡ Some b) = some_of (block_at s.words x) start in
-    link_spelled (blocks s.words) no_links x b.0 (laid_out_words s.words space.walked) b.1
+link_cleared s x space start = grind (arith, some_of, link_spelled, laid_out_words)

@@ -4,7 +4,7 @@ pub use Rattle.gc_words.proofs.Certified.{corresponding, lookup_of_blocks, objec
 pub use Rattle.gc_words.proofs.Ends.{end_cleared, end_written, fields_counted, free_placed}
 pub use Rattle.gc_words.proofs.Faults.{Later, at_place_none, header_same, no_fault_of_certified, no_shape_fault, none_or, none_when, or_none, places_hold, same_header_of, shaped, when_none}
 pub use Rattle.gc_words.proofs.Fields.{block_of_header, field_past, field_within}
-pub use Rattle.gc_words.proofs.Graphs.{IsWordOf, field_found, fresh_object, graph_empty, graph_field, graph_link, graph_placed, graph_root, meaning_back, meant, object_found, root_value, value_read_back, word_read_back}
+pub use Rattle.gc_words.proofs.Graphs.{field_found, fresh_object, graph_empty, graph_field, graph_link, graph_placed, graph_root, meaning_back, meant, object_found, root_value, value_read_back, word_read_back}
 pub use Rattle.gc_words.proofs.Links.{link_beside_field, link_cleared, link_placed, link_placed_beside, link_written_beside, link_written_there}
 pub use Rattle.gc_words.proofs.References.{closed_empty, closed_field, closed_field_read, closed_objects, closed_placed, closed_root, closed_root_read, placed_reference, value_refers}
 pub use Rattle.gc_words.proofs.Spelled.{cleared, laid_out, laid_out_words, length_relinked, link_spelled, relinked, spelled_words, walk_spelled}

@@ -6,7 +6,7 @@ use Rattle.std.specs.List.{All, AllByRecursion, flat_map}
 use Rattle.std.proofs.lemmas.Bool.{eq-eqb, ne_eqb}
 use Rattle.std.proofs.lemmas.List.Elements.{All-nil, All-cons, All-head, All-tail, All-replicate, All-append, All-set, All-weaker, All-map, All-from_recursion}
 use Rattle.std.proofs.lemmas.List.Folds.{list_any_none}
-use Rattle.gc_graph.specs.Graph.{Value, Nil, Num, Ref, Object, Graph, names_of, names_in, IsUnused}
+use Rattle.gc_graph.specs.Graph.{Value, Ref, Object, Graph, names_of, names_in, IsUnused}
 use Rattle.gc_words.specs.Word.{value_of, HasAddress, word_of, field_value, read_header}
 use Rattle.gc_words.specs.Image.{Block, fresh_block, walk_words, blocks, block_in, block_at, field_in, field_at, is_start, with_field_word, set_block, object_of_block, object_entry, objects_of, graph_of}
 use Rattle.gc_words.specs.Layout.{field_place}
@@ -24,14 +24,11 @@ use Rattle.gc_words.proofs.Graphs.{meaning_back}
 starts_below : (ws : List ℕ) (inside at : ℕ) (bs : List (ℕ × Block)) → Walked inside at ws bs → AllByRecursion (λ entry. entry.0 < at + length ws) bs
 starts_below [] inside at [] e = tt
 starts_below [] inside at (b ∷ bs) e = cc
-starts_below (w ∷ ws) (suc inside) at bs e =
-    let same : suc at + length ws ≡ at + suc (length ws) = omega arith in
-    subst (λ n. AllByRecursion (λ entry. entry.0 < n) bs) same (starts_below ws inside (suc at) bs e)
+starts_below (w ∷ ws) (suc inside) at bs e = subst (λ n. AllByRecursion (λ entry. entry.0 < n) bs) (omega arith) (starts_below ws inside (suc at) bs e)
 starts_below (w ∷ ws) zero at bs e =
     let f : First at ws bs (read_header w) = first at w ws bs e in
-    let same : suc at + length ws ≡ at + suc (length ws) = omega arith in
     subst (AllByRecursion (λ entry. entry.0 < at + suc (length ws))) (sym f.5)
-    (omega arith, subst (λ n. AllByRecursion (λ entry. entry.0 < n) f.3) same (starts_below ws (f.0.len + 1) (suc at) f.3 f.4))
+    (omega arith, subst (λ n. AllByRecursion (λ entry. entry.0 < n) f.3) (omega arith) (starts_below ws (f.0.len + 1) (suc at) f.3 f.4))
 
 starts_in_space : (s : SpaceWords) → IsSpace s → All (λ entry. entry.0 < end_of s) (blocks s.words)
 starts_in_space s space = in_words s.words space.walked space.end_low
@@ -58,13 +55,8 @@ module _ (s : SpaceWords) (space : IsSpace s) where
   abbrev Below : ℕ → Type 0
   Below n = n < end_of s
 
-  names_below : (v : Value) → RefersToStart s.words v → All Below (names_of v)
-  names_below Nil r = All-nil Below
-  names_below (Num n) r = All-nil Below
-  names_below (Ref a) r = All-cons Below a [] (start_below s space a r) (All-nil Below)
-
   root_names : (w : ℕ) → IsRootWord s.words w → All Below (names_of (value_of w))
-  root_names w is = names_below (value_of w) is.start
+  root_names w is = grind (arith, common_steps, All-nil, All-cons, start_below)
 
   field_names : (h : Header) (w : ℕ) → IsFieldWord s.words h w → All Below (names_of (field_value h w))
   field_names h w is = grind (arith, common_steps, root_names)
@@ -100,44 +92,27 @@ value_refers words v has refers = grind (arith, common_steps, meaning_back)
 abbrev KeepsStarts : List ℕ → List ℕ → Type 0
 KeepsStarts words others = (a : ℕ) → is_start words a ≡ true → is_start others a ≡ true
 
-kept_reference : (words others : List ℕ) → KeepsStarts words others → (v : Value) → RefersToStart words v → RefersToStart others v
-kept_reference words others keeps v r = grind (arith, common_steps)
-
-kept_root : (words others : List ℕ) → KeepsStarts words others → (w : ℕ) → IsRootWord words w → IsRootWord others w
-kept_root words others keeps w is = record { value = is.value; start = kept_reference words others keeps (value_of w) is.start }
-
 kept_field : (words others : List ℕ) → KeepsStarts words others → (h : Header) (w : ℕ) → IsFieldWord words h w → IsFieldWord others h w
-kept_field words others keeps h w is = grind (arith, common_steps, kept_root)
-
-kept_block : (words others : List ℕ) → KeepsStarts words others → (b : Block) → HasFieldWords words b → HasFieldWords others b
-kept_block words others keeps b has = All-weaker (IsFieldWord words b.header) (IsFieldWord others b.header) (kept_field words others keeps b.header) b.fields has
+kept_field words others keeps h w is = grind (arith, common_steps)
 
 abbrev Has : List ℕ → ℕ × Block → Type 0
 Has words entry = HasFieldWords words entry.1
 
 kept_blocks : (words others : List ℕ) → KeepsStarts words others → (bs : List (ℕ × Block)) → All (Has words) bs → All (Has others) bs
-kept_blocks words others keeps bs all = All-weaker (Has words) (Has others) (λ entry has. kept_block words others keeps entry.1 has) bs all
+kept_blocks words others keeps bs all = grind (arith, common_steps, All-weaker, kept_field)
 
 kept_roots : (words others roots : List ℕ) → KeepsStarts words others → All (IsRootWord words) roots → All (IsRootWord others) roots
-kept_roots words others roots keeps all = All-weaker (IsRootWord words) (IsRootWord others) (kept_root words others keeps) roots all
+kept_roots words others roots keeps all = grind (arith, common_steps, All-weaker)
 
 -- ---- a placed object
 
 start_push : (bs : List (ℕ × Block)) (x : ℕ × Block) (a : ℕ) → is_some (block_in bs a) ≡ true → is_some (block_in (bs ++ x ∷ []) a) ≡ true
 start_push [] x a e = absurd (let no : false ≡ true = e in cc)
-start_push (entry ∷ bs) x a e =
-    elim (entry.0 == a) as (λ t. is_some (cond t (Some entry.1) (block_in bs a)) ≡ true → is_some (cond t (Some entry.1) (block_in (bs ++ x ∷ []) a)) ≡ true) [
-      | true ↦ λ e. refl
-      | false ↦ λ e. start_push bs x a e
-    ] e
+start_push (entry ∷ bs) x a e = grind (arith, common_steps, is_some, start_push bs x a)
 
 start_last : (bs : List (ℕ × Block)) (a : ℕ) (b : Block) → is_some (block_in (bs ++ (a, b) ∷ []) a) ≡ true
 start_last [] a b = ap (λ t. is_some (cond t (Some b) None)) (eq-eqb a a refl)
 start_last (entry ∷ bs) a b = grind (arith, common_steps, eq-eqb, start_last bs a b)
-
--- an object whose field words are all 0
-fresh_has : (words : List ℕ) (h : Header) → HasFieldWords words (fresh_block h)
-fresh_has words h = grind (arith, common_steps)
 
 module _ (s : SpaceWords) (h : Header) (can : CanPlace s h) where
   abbrev after : List ℕ
@@ -146,11 +121,8 @@ module _ (s : SpaceWords) (h : Header) (can : CanPlace s h) where
   objects_after : blocks after ≡ blocks s.words ++ (end_of s, fresh_block h) ∷ []
   objects_after = (placed s h can).1
 
-  keeps_placed : KeepsStarts s.words after
-  keeps_placed a start = ap (λ bs. is_some (block_in bs a)) objects_after ∙ start_push (blocks s.words) (end_of s, fresh_block h) a start
-
   pub closed_placed : (roots : List ℕ) → IsClosed s.words roots → IsClosed after roots
-  closed_placed roots closed = grind (arith, common_steps, objects_after, kept_blocks, keeps_placed, fresh_has, kept_roots)
+  closed_placed roots closed = grind (arith, common_steps, objects_after, kept_blocks, is_some, start_push, kept_roots)
 
   pub placed_reference : IsRootWord after (word_of (Ref (end_of s)))
   placed_reference = grind (arith, common_steps, value_refers, objects_after, start_last)

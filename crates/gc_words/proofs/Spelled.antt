@@ -5,8 +5,8 @@ use Rattle.std.specs.Prelude.{IsOk, slice_index}
 use Rattle.std.proofs.lemmas.Bool.{eqb-true, cases_Bool}
 use Rattle.std.proofs.lemmas.List.{take_at, drop_at, drop-drop, drop_more, take-append-drop, get_or-append-add}
 use Rattle.gc_words.specs.Word.{header_word, read_header}
-use Rattle.gc_words.specs.Image.{Block, walk, walk_words, with_front, blocks, block_in}
-use Rattle.gc_words.specs.Spelling.{block_words, spelled_from, spelled, no_links, link_at, IsBlock, LaidOut}
+use Rattle.gc_words.specs.Image.{Block, walk, walk_words, blocks, block_in}
+use Rattle.gc_words.specs.Spelling.{block_words, spelled_from, spelled, no_links, link_at, LaidOut}
 use Rattle.gc_words.specs.Space.{SpaceWords, IsSpace, without_links}
 use Rattle.gc_words.specs.declared.header.Header.{Header}
 use Rattle.gc_words.proofs.Walks.{Walked, First, first, fields_in, object_result, read_back, written_back}
@@ -20,24 +20,17 @@ pub laid_out : (ws : List ℕ) (inside at : ℕ) (bs : List (ℕ × Block)) → 
 laid_out [] zero at [] room w = tt
 laid_out [] zero at (b ∷ bs) room w = cc
 laid_out [] (suc inside) at bs room w = absurd (omega arith)
-laid_out (v ∷ ws) (suc inside) at bs room w =
-    let same : suc at + inside ≡ at + suc inside = omega arith in
-    subst (λ n. LaidOut n bs) same (laid_out ws inside (suc at) bs (omega arith) w)
+laid_out (v ∷ ws) (suc inside) at bs room w = subst (λ n. LaidOut n bs) (omega arith) (laid_out ws inside (suc at) bs (omega arith) w)
 laid_out (v ∷ ws) zero at bs room w =
     let f : First at ws bs (read_header v) = first at v ws bs w in
-    let here : at ≡ at + 0 = omega arith in
-    let behind : suc at + (f.0.len + 1) ≡ at + 0 + (f.0.len + 2) = omega arith in
     subst (LaidOut (at + 0)) (sym f.5)
-    (here, whole_first f.0 v ws f.1 f.2, subst (λ n. LaidOut n f.3) behind (laid_out ws (f.0.len + 1) (suc at) f.3 f.2 f.4))
+    (omega arith, whole_first f.0 v ws f.1 f.2, subst (λ n. LaidOut n f.3) (omega arith) (laid_out ws (f.0.len + 1) (suc at) f.3 f.2 f.4))
 
 -- ---- objects that are laid out are walked
 
-walk_block : (at link : ℕ) (b : Block) (rest : List ℕ) → IsBlock b → walk true 0 at (block_words link b ++ rest) ≡ with_front (at, b) (walk true 0 (at + (b.header.len + 2)) rest)
-walk_block at link b rest is = grind (arith, common_steps, fields_in, take_at, drop_at, object_result, read_back, passed)
-
 pub walk_spelled : (entries : List (ℕ × Block)) (links : ℕ → ℕ) (at : ℕ) → LaidOut at entries → walk true 0 at (spelled_from links entries) ≡ Ok entries
 walk_spelled [] links at laid = refl
-walk_spelled (entry ∷ rest) links at laid = grind (arith, common_steps, walk_block, walk_spelled rest links (at + (entry.1.header.len + 2)) laid.2)
+walk_spelled (entry ∷ rest) links at laid = grind (arith, common_steps, fields_in, take_at, drop_at, object_result, read_back, passed, walk_spelled rest links (at + (entry.1.header.len + 2)) laid.2)
 
 -- ---- walked words are spelled by their objects
 
@@ -81,9 +74,7 @@ spelled_words (w ∷ ws) ok low reserved =
     are p = let e : 1 + p + 1 ≡ suc (p + 1) = omega arith in ap (λ n. get_or (w ∷ ws) n 0) e
 
 pub laid_out_words : (words : List ℕ) → IsOk (walk_words words) → LaidOut 1 (blocks words)
-laid_out_words words ok =
-    let one : 1 + 0 ≡ 1 = omega arith in
-    subst (λ n. LaidOut n (blocks words)) one (laid_out (drop 1 words) 0 1 (blocks words) (omega arith) (walked_blocks words ok))
+laid_out_words words ok = subst (λ n. LaidOut n (blocks words)) (omega arith) (laid_out (drop 1 words) 0 1 (blocks words) (omega arith) (walked_blocks words ok))
 
 -- ---- the links that are spelled
 
@@ -120,11 +111,7 @@ link_spelled entries links zero b laid e = absurd (below entries 1 b laid e (ome
   where
     below : (entries : List (ℕ × Block)) (low : ℕ) (b : Block) → LaidOut low entries → block_in entries 0 ≡ Some b → 1 ≤ low → ⊥
     below [] low b laid e h = let no : None ≡ Some b = e in cc
-    below (entry ∷ rest) low b laid e h =
-        elim (cases_Bool (entry.0 == 0)) [
-          | inl here ↦ (let same : entry.0 ≡ 0 = eqb-true _ _ here in let first_place : entry.0 ≡ low = laid.0 in omega arith)
-          | inr other ↦ below rest (low + (entry.1.header.len + 2)) b laid.2 (sym (ap (λ t. cond t (Some entry.1) (block_in rest 0)) other) ∙ e) (omega arith)
-        ]
+    below (entry ∷ rest) low b laid e h = grind (arith, common_steps, cases_Bool, eqb-true, below rest (low + (entry.1.header.len + 2)) b)
 link_spelled entries links (suc p) b laid e =
     let place : suc p ≡ 1 + p = omega arith in
     let behind : suc p + 1 ≡ suc (p + 1) = omega arith in
@@ -144,9 +131,6 @@ length_relinked links words ok low reserved =
 -- a space with other links has the same objects
 pub relinked : (links : ℕ → ℕ) (s : SpaceWords) → IsSpace s → IsSpace (record s { words = spelled links (blocks s.words) }) × (blocks (spelled links (blocks s.words)) ≡ blocks s.words)
 relinked links s space = grind (arith, common_steps, length_relinked, space_of, walk_spelled, laid_out_words)
-
-pub length_cleared : (words : List ℕ) → IsOk (walk_words words) → 1 ≤ length words → slice_index words 0 ≡ 0 → length (spelled no_links (blocks words)) ≡ length words
-length_cleared words ok low reserved = length_relinked no_links words ok low reserved
 
 pub cleared : (s : SpaceWords) → IsSpace s → IsSpace (without_links s) × (blocks (without_links s).words ≡ blocks s.words)
 cleared s space = relinked no_links s space

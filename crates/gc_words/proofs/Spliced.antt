@@ -49,12 +49,10 @@ set_row row p (w ∷ words) = set_row (slice_set row p w) (suc p) words
 row_is : (words row : List ℕ) (p : ℕ) → p + length words ≤ length row → take p row ++ words ++ drop (p + length words) row ≡ set_row row p words
 row_is [] row p fits = ap (λ n. take p row ++ [] ++ drop n row) (let e : p + 0 ≡ p = omega arith in e) ∙ (let e : take p row ++ [] ≡ take p row = append-nil (take p row) in ap (λ x. x ++ drop p row) e) ∙ take-append-drop p row
 row_is (w ∷ words) row p fits =
-    let inside : p < length row = omega arith in
-    let front : take (suc p) (slice_set row p w) ≡ take p row ++ w ∷ [] = ap (λ n. take n (slice_set row p w)) (let e : suc p ≡ p + 1 = omega arith in e) ∙ take_more_set row p w inside in
     let behind : drop (suc p + length words) (slice_set row p w) ≡ drop (p + length (w ∷ words)) row =
     drop-set-lt (suc p + length words) row p w (omega arith) ∙ ap (λ n. drop n row) (let e : suc p + length words ≡ p + suc (length words) = omega arith in e) in
     ap (λ x. x ++ drop (p + length (w ∷ words)) row) (sym (append_assoc (take p row) (w ∷ []) words))
-    ∙ sym (λ i. front i ++ words ++ behind i)
+    ∙ sym (λ i. (ap (λ n. take n (slice_set row p w)) (let e : suc p ≡ p + 1 = omega arith in e) ∙ take_more_set row p w (omega arith)) i ++ words ++ behind i)
     ∙ row_is words (slice_set row p w) (suc p) (subst (λ n. suc p + length words ≤ n) (sym (length-set row p w)) (omega arith))
 
 fields_are : (words : List ℕ) (s : SpaceWords) (at first : ℕ) → record s { words = set_row s.words (field_place at first) words } ≡ with_fields s at first words

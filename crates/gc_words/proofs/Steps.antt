@@ -1,9 +1,9 @@
 -- A walk over a space's words, one object at a time.
 use Rattle.std.proofs.lemmas.Grind.{common_steps}
-use Rattle.std.proofs.Common.{◌≡◌, ℕ, suc, zero, ◌+◌, ◌-◌, ◌<◌, ◌≤◌, Bool, true, false, cond, ◌==◌, List, [], ◌∷◌, ◌++◌, length, take, drop, Option, Some, None, Result, Ok, Err, is_some, refl, sym, ◌∙◌, ap, subst, arith, length-drop, append_assoc}
+use Rattle.std.proofs.Common.{◌≡◌, ℕ, suc, zero, ◌+◌, ◌-◌, ◌<◌, ◌≤◌, Bool, true, false, cond, List, [], ◌∷◌, ◌++◌, length, take, drop, Option, Some, None, Result, Ok, Err, is_some, refl, sym, ◌∙◌, ap, subst, arith, length-drop, append_assoc}
 use Rattle.std.specs.Prelude.{nat_le, slice_index, slice_set, IsOk, IsSome}
 use Rattle.std.specs.List.{AllByRecursion}
-use Rattle.std.proofs.lemmas.Bool.{eq-eqb, ne_eqb, leb-true, leb-false, cases_eq, and_from}
+use Rattle.std.proofs.lemmas.Bool.{eq-eqb, ne_eqb, leb-true, leb-false, and_from, lt-leb}
 use Rattle.std.proofs.lemmas.List.{drop_more, drop-drop, drop-set-lt, drop-set-add, drop-take, drop_all, take-append-drop, take-set-le, take-take}
 use Rattle.gc_words.specs.Word.{header_in, header_word}
 use Rattle.gc_words.specs.Image.{Block, walk, with_front, walk_all, ok_or_nil, block_in}
@@ -12,7 +12,7 @@ use Rattle.gc_words.specs.Fault.{fault_of_walk, words_fault}
 use Rattle.gc_words.specs.Walking.{next_after, next_in, next_of, walk_on, walk_from, block_from, StepsIn, StepsTo}
 use Rattle.gc_words.specs.declared.header.Header.{Header}
 use Rattle.gc_words.proofs.Writes.{some_of}
-use Rattle.gc_words.proofs.Walks.{fields_in, starts_above, object_result, no_object, no_room, written_back}
+use Rattle.gc_words.proofs.Walks.{fields_in, starts_above, object_result, written_back}
 use Rattle.gc_words.proofs.Starts.{ok_is}
 
 -- ---- the walk passes over an object's words
@@ -35,8 +35,7 @@ pub step : (raws : Bool) (words : List ℕ) (at next : ℕ) → at < length word
 step raws words at next inside e = from (header_in raws (slice_index words at)) refl e
   where
     fits : (h : Header) (b : Bool) → nat_le (h.len + 2) (length words - at) ≡ b → cond b (Some (at + (h.len + 2))) None ≡ Some next → (h.len + 2 ≤ length words - at) × (at + (h.len + 2) ≡ next)
-    fits h true t e = (leb-true _ _ t, (let same : at + (h.len + 2) ≡ next = cc in same))
-    fits h false t e = absurd (let no : None ≡ Some next = e in cc)
+    fits h b t e = grind (arith, common_steps, leb-true)
 
     from : (o : Option Header) → header_in raws (slice_index words at) ≡ o → next_after at o (length words - at) ≡ Some next → StepsIn raws words at next
     from None is e = absurd (let no : None ≡ Some next = e in cc)
@@ -46,10 +45,7 @@ step raws words at next inside e = from (header_in raws (slice_index words at)) 
         let count : length rest ≡ length words - (at + 1) = rest_length words at inside in
         let room : h.len + 1 ≤ length rest = (let r : h.len + 2 ≤ length words - at = f.0 in omega arith) in
         let n : next ≡ at + (h.len + 2) = sym f.1 in
-        let at_next : suc at + (h.len + 1) ≡ next = omega arith in
-        let past : at + 1 + (h.len + 1) ≡ next = omega arith in
-        let two : at + 1 + 1 ≡ at + 2 = omega arith in
-        let fields : fields_in h rest ≡ take h.len (drop (at + 2) words) = ap (take h.len) (drop-drop 1 (at + 1) words) ∙ ap (λ n. take h.len (drop n words)) two in
+        let fields : fields_in h rest ≡ take h.len (drop (at + 2) words) = ap (take h.len) (drop-drop 1 (at + 1) words) ∙ ap (λ n. take h.len (drop n words)) (omega arith) in
         record {
           header = h;
           word = is;
@@ -58,13 +54,13 @@ step raws words at next inside e = from (header_in raws (slice_index words at)) 
           walk_is = ap (walk raws 0 at) (opened words at inside)
               ∙ object_result raws at (slice_index words at) rest h is room
               ∙ ap (with_front (at, record { header = h; fields = fields_in h rest })) (passed raws (h.len + 1) (suc at) rest room
-              ∙ ap (λ xs. walk raws 0 (suc at + (h.len + 1)) xs) (drop-drop (h.len + 1) (at + 1) words ∙ ap (λ n. drop n words) past)
-              ∙ ap (λ n. walk raws 0 n (drop next words)) at_next)
+              ∙ ap (λ xs. walk raws 0 (suc at + (h.len + 1)) xs) (drop-drop (h.len + 1) (at + 1) words ∙ ap (λ n. drop n words) (omega arith))
+              ∙ ap (λ n. walk raws 0 n (drop next words)) (omega arith))
               ∙ ap (λ fs. with_front (at, record { header = h; fields = fs }) (walk_on raws words next)) fields;
         }
 
 pub no_step : (raws : Bool) (words : List ℕ) (at : ℕ) → at < length words → next_in raws words at ≡ None → walk_on raws words at ≡ Err at
-no_step raws words at inside e = grind (arith, common_steps, leb-false, opened, no_object, rest_length, no_room)
+no_step raws words at inside e = grind (arith, common_steps, leb-false, opened, rest_length, lt-leb)
 
 -- a walk that reaches the end continues from each object
 pub has_next : (words : List ℕ) (at : ℕ) → at < length words → IsOk (walk_from words at) → IsSome (next_of words at)
@@ -81,9 +77,7 @@ pub fault_behind : (x : ℕ × Block) (r : Result (List (ℕ × Block)) ℕ) →
 fault_behind x r = grind (arith, common_steps)
 
 pub same_fault : (raws : Bool) (words : List ℕ) (at next : ℕ) → at < length words → next_in raws words at ≡ Some next → fault_of_walk (walk_on raws words at) ≡ fault_of_walk (walk_on raws words next)
-same_fault raws words at next inside e =
-    let s : StepsIn raws words at next = step raws words at next inside e in
-    ap fault_of_walk s.walk_is ∙ fault_behind _ (walk_on raws words next)
+same_fault raws words at next inside e = ap fault_of_walk (step raws words at next inside e).walk_is ∙ fault_behind _ (walk_on raws words next)
 
 -- there are as many words as the end says, and the first is 0
 pub framed : (raws : Bool) (end : ℕ) (words : List ℕ) → length words ≡ end → slice_index words 0 ≡ 0 → words_fault raws end words ≡ fault_of_walk (walk_on raws words 1)
@@ -115,9 +109,8 @@ pub start_behind : (words : List ℕ) (at next place : ℕ) → at < length word
     → has_start_from words at place ≡ has_start_from words next place
 start_behind words at next place inside before ok e =
     let b : Behind words at next = behind words at next inside ok e in
-    let here : Block = block_from words at b.step.header in
     ap (λ bs. is_some (block_in bs place)) b.objects
-    ∙ ap (λ t. is_some (cond t (Some here) (block_in (ok_or_nil (walk_from words next)) place))) (ne_eqb at place (λ same. omega arith))
+    ∙ ap (λ t. is_some (cond t (Some (block_from words at b.step.header)) (block_in (ok_or_nil (walk_from words next)) place))) (ne_eqb at place (λ same. omega arith))
 
 pub start_here : (words : List ℕ) (at : ℕ) → at < length words → IsOk (walk_from words at) → has_start_from words at at ≡ true
 start_here words at inside ok =
@@ -133,10 +126,6 @@ none_above (b ∷ bs) low place h all = grind (arith, common_steps, ne_eqb, none
 pub no_start_below : (words : List ℕ) (at place : ℕ) → place < at → IsOk (walk_from words at) → has_start_from words at place ≡ false
 no_start_below words at place below ok =
     ap is_some (none_above (ok_or_nil (walk_from words at)) (at + 0) place (omega arith) (starts_above (drop at words) 0 at _ (ok_is (walk_from words at) ok)))
-
--- what the last test of a search decides
-pub found_start : (words : List ℕ) (at place : ℕ) → at < length words → place ≤ at → IsOk (walk_from words at) → (at == place) ≡ has_start_from words at place
-found_start words at place inside reached ok = grind (arith, common_steps, cases_eq, eq-eqb, start_here, ne_eqb, no_start_below)
 
 -- ---- setting links, one object at a time
 

@@ -1,25 +1,19 @@
 -- What writes do to the walk over a space.
 use Rattle.std.proofs.lemmas.Grind.{common_steps}
-use Rattle.std.proofs.Common.{◌≡◌, ℕ, suc, zero, ◌+◌, ◌-◌, ◌*◌, ◌/◌, ◌%◌, ◌<◌, ◌≤◌, Bool, true, false, cond, ◌==◌, List, [], ◌∷◌, ◌++◌, map, length, take, drop, Option, Some, None, Result, Ok, Err, refl, sym, ◌∙◌, ap, subst, inl, inr, arith, length-append, length-set}
-use Rattle.std.specs.Prelude.{IsOk, nat_le, slice_set, ⊤}
+use Rattle.std.proofs.Common.{◌≡◌, ℕ, suc, zero, ◌+◌, ◌-◌, ◌*◌, ◌%◌, ◌<◌, ◌≤◌, Bool, true, false, cond, ◌==◌, List, [], ◌∷◌, ◌++◌, map, length, take, drop, Option, Some, None, Result, Ok, Err, refl, sym, ◌∙◌, ap, subst, inl, inr, arith, length-append, length-set}
+use Rattle.std.specs.Prelude.{IsOk, slice_set, ⊤}
 use Rattle.std.specs.List.{AllByRecursion}
-use Rattle.std.proofs.lemmas.Bool.{eqb-true, leb-true, le-leb, lt-leb, lt-ltb, le-ltb, and_from, and_parts, ltb-true, cases_Bool}
+use Rattle.std.proofs.lemmas.Bool.{eqb-true, leb-true, le-leb, lt-ltb, le-ltb, and_from, and_parts, ltb-true, cases_Bool}
 use Rattle.std.proofs.lemmas.List.{take-append-le, drop-append-le, take_all, map-set}
-use Rattle.gc_graph.specs.Graph.{set_field, with_field}
-use Rattle.gc_words.specs.Word.{IsHeader, least_header, is_header_word, header_by, header_word, read_header, unless_raw, header_in, field_value}
-use Rattle.gc_words.specs.Image.{Block, walk, walk_all, walk_words, object_at, with_front, block_in, set_block, object_of_block, object_entry}
+use Rattle.gc_graph.specs.Graph.{set_field}
+use Rattle.gc_words.specs.Word.{IsHeader, least_header, is_header_word, header_word, read_header, header_in, field_value}
+use Rattle.gc_words.specs.Image.{Block, walk, walk_all, walk_words, object_at, with_front, block_in, set_block, object_entry}
 use Rattle.gc_words.specs.declared.header.Header.{Header}
 
 -- ---- headers are read back
 
-quotient : (raw : Bool) (kind len : ℕ) → kind < 256 → len < 65536 → (least_header raw + 65536 * kind + len - least_header raw) / 65536 ≡ kind
-quotient raw kind len k l = grind (arith, common_steps)
-
 remainder : (raw : Bool) (kind len : ℕ) → kind < 256 → len < 65536 → (least_header raw + 65536 * kind + len) % 65536 ≡ len
 remainder raw kind len k l = grind (arith, common_steps)
-
-by_back : (raw : Bool) (kind len : ℕ) → kind < 256 → len < 65536 → header_by raw (least_header raw + 65536 * kind + len) ≡ record { raw = raw; kind = kind; len = len }
-by_back raw kind len k l = λ i. record { raw = raw; kind = quotient raw kind len k l i; len = remainder raw kind len k l i }
 
 is_word : (raw : Bool) (kind len : ℕ) → kind < 256 → len < 65536 → is_header_word raw (least_header raw + 65536 * kind + len) ≡ true
 is_word raw kind len k l = grind (arith, common_steps, and_from, le-leb, lt-ltb)
@@ -28,7 +22,7 @@ no_plain_word : (w : ℕ) → 33554432 ≤ w → is_header_word false w ≡ fals
 no_plain_word w high = grind (arith, common_steps, le-ltb)
 
 read_by : (raw : Bool) (kind len : ℕ) → kind < 256 → len < 65536 → read_header (least_header raw + 65536 * kind + len) ≡ Some (record { raw = raw; kind = kind; len = len })
-read_by raw kind len k l = grind (arith, common_steps, is_word, by_back, no_plain_word)
+read_by raw kind len k l = grind (arith, common_steps, is_word, no_plain_word, remainder)
 
 pub read_back : (h : Header) → IsHeader h → read_header (header_word h) ≡ Some h
 read_back h is = read_by h.raw h.kind h.len is.kind is.len
@@ -45,9 +39,6 @@ Walked inside at ws bs = walk true inside at ws ≡ Ok bs
 abbrev pub fields_in : Header → List ℕ → List ℕ
 fields_in h words = take h.len (drop 1 words)
 
-front_ok : (x : ℕ × Block) (r : Result (List (ℕ × Block)) ℕ) (bs : List (ℕ × Block)) → with_front x r ≡ Ok bs → (rest : List (ℕ × Block)) × (r ≡ Ok rest) × (bs ≡ x ∷ rest)
-front_ok x r bs e = grind (arith, common_steps)
-
 guard_ok : (b : Bool) (x : Result (List (ℕ × Block)) ℕ) (at : ℕ) (bs : List (ℕ × Block)) → cond b x (Err at) ≡ Ok bs → (b ≡ true) × (x ≡ Ok bs)
 guard_ok b x at bs e = grind (arith, common_steps)
 
@@ -55,11 +46,8 @@ guard_ok b x at bs e = grind (arith, common_steps)
 abbrev pub First : ℕ → List ℕ → List (ℕ × Block) → Option Header → Type 0
 First at words bs h? = (h : Header) × (h? ≡ Some h) × (h.len + 1 ≤ length words) × (rest : List (ℕ × Block)) × (walk true (h.len + 1) (suc at) words ≡ Ok rest) × (bs ≡ (at, record { header = h; fields = fields_in h words }) ∷ rest)
 
-first_of_object : (at : ℕ) (words : List ℕ) (bs : List (ℕ × Block)) (h : Option Header) → object_at at h words (λ inside. walk true inside (suc at) words) ≡ Ok bs → First at words bs h
-first_of_object at words bs h e = grind (arith, common_steps, guard_ok, front_ok, leb-true)
-
 pub first : (at w : ℕ) (words : List ℕ) (bs : List (ℕ × Block)) → Walked 0 at (w ∷ words) bs → First at words bs (read_header w)
-first at w words bs e = first_of_object at words bs (read_header w) e
+first at w words bs e = grind (arith, common_steps, guard_ok, leb-true)
 
 -- the walk of one object and of the rest
 pub object_result : (raws : Bool) (at w : ℕ) (words : List ℕ) (h : Header) → header_in raws w ≡ Some h → h.len + 1 ≤ length words
@@ -70,20 +58,10 @@ pub object_walked : (at w : ℕ) (words : List ℕ) (h : Header) (rest : List (�
     → Walked 0 at (w ∷ words) ((at, record { header = h; fields = fields_in h words }) ∷ rest)
 object_walked at w words h rest is room e = object_result true at w words h is room ∙ ap (with_front (at, record { header = h; fields = fields_in h words })) e
 
--- there is no object, or it does not fit
-pub no_object : (raws : Bool) (at w : ℕ) (words : List ℕ) → header_in raws w ≡ None → walk raws 0 at (w ∷ words) ≡ Err at
-no_object raws at w words is = ap (λ h. object_at at h words (λ inside. walk raws inside (suc at) words)) is
-
-pub no_room : (raws : Bool) (at w : ℕ) (words : List ℕ) (h : Header) → header_in raws w ≡ Some h → length words < h.len + 1 → walk raws 0 at (w ∷ words) ≡ Err at
-no_room raws at w words h is less = grind (arith, common_steps, lt-leb)
-
 -- ---- walks in which headers of raw objects do not count
 
-not_raw : (o : Option Header) (h : Header) → unless_raw o ≡ Some h → o ≡ Some h
-not_raw o h e = grind (arith, common_steps)
-
 pub header_counted : (raws : Bool) (w : ℕ) (h : Header) → header_in raws w ≡ Some h → read_header w ≡ Some h
-header_counted raws w h e = grind (arith, common_steps, not_raw)
+header_counted raws w h e = grind (arith, common_steps)
 
 -- a walk that reaches the end without them is also the walk with them
 walk_counted : (raws : Bool) (ws : List ℕ) (inside at : ℕ) (bs : List (ℕ × Block)) → walk raws inside at ws ≡ Ok bs → Walked inside at ws bs
@@ -93,12 +71,7 @@ walk_counted raws (w ∷ ws) zero at bs e = go (header_in raws w) refl e (λ ins
   where
     go : (o : Option Header) → header_in raws w ≡ o → object_at at o ws (λ inside. walk raws inside (suc at) ws) ≡ Ok bs
         → ((inside : ℕ) (rest : List (ℕ × Block)) → walk raws inside (suc at) ws ≡ Ok rest → Walked inside (suc at) ws rest) → Walked 0 at (w ∷ ws) bs
-    go None is e behind = absurd (let no : Err at ≡ Ok bs = e in cc)
-    go (Some h) is e behind =
-        let room : (nat_le (h.len + 1) (length ws) ≡ true) × (with_front (at, record { header = h; fields = fields_in h ws }) (walk raws (h.len + 1) (suc at) ws) ≡ Ok bs) = guard_ok _ _ at bs e in
-        let front : (rest : List (ℕ × Block)) × (walk raws (h.len + 1) (suc at) ws ≡ Ok rest) × (bs ≡ (at, record { header = h; fields = fields_in h ws }) ∷ rest) = front_ok _ _ bs room.1 in
-        object_walked at w ws h front.0 (header_counted raws w h is) (leb-true _ _ room.0) (behind (h.len + 1) front.0 front.1)
-        ∙ ap (λ bs. Ok bs) (sym front.2)
+    go o is e behind = grind (arith, common_steps, guard_ok, object_walked, header_counted, leb-true)
 
 pub same_walk : (raws : Bool) (words : List ℕ) → IsOk (walk_all raws words) → walk_all raws words ≡ walk_words words
 same_walk raws words ok = grind (arith, common_steps, walk_counted)
@@ -147,11 +120,10 @@ walk_placed (w ∷ ws) (suc inside) at bs h link fields is n room e =
 walk_placed (w ∷ ws) zero at bs h link fields is n room e =
     let f : First at ws bs (read_header w) = first at w ws bs e in
     let more : List ℕ = header_word h ∷ link ∷ fields in
-    let ih : Walked (f.0.len + 1) (suc at) (ws ++ more) (f.3 ++ (suc at + length ws, record { header = h; fields = fields }) ∷ []) = walk_placed ws (f.0.len + 1) (suc at) f.3 h link fields is n f.2 f.4 in
     let longer : length (ws ++ more) ≡ length ws + length more = length-append ws more in
     let dropped : drop 1 (ws ++ more) ≡ drop 1 ws ++ more = drop-append-le 1 ws more (let r : f.0.len + 1 ≤ length ws = f.2 in omega arith) in
     let kept : fields_in f.0 (ws ++ more) ≡ fields_in f.0 ws = ap (take f.0.len) dropped ∙ take-append-le f.0.len (drop 1 ws) more (let r : f.0.len + 1 ≤ length ws = f.2 in let d : length (drop 1 ws) ≡ length ws - 1 = length_drop_one ws in omega arith) in
-    object_walked at w (ws ++ more) f.0 _ f.1 (let r : f.0.len + 1 ≤ length ws = f.2 in omega arith) ih
+    object_walked at w (ws ++ more) f.0 _ f.1 (let r : f.0.len + 1 ≤ length ws = f.2 in omega arith) (walk_placed ws (f.0.len + 1) (suc at) f.3 h link fields is n f.2 f.4)
     ∙ (λ i. Ok ((at, record { header = f.0; fields = kept i }) ∷ (f.3 ++ (place i, record { header = h; fields = fields }) ∷ [])))
     ∙ ap (λ bs. Ok (bs ++ (at + suc (length ws), record { header = h; fields = fields }) ∷ [])) (sym f.5)
   where
@@ -159,8 +131,7 @@ walk_placed (w ∷ ws) zero at bs h link fields is n room e =
     place = omega arith
 
     length_drop_one : (xs : List ℕ) → length (drop 1 xs) ≡ length xs - 1
-    length_drop_one [] = refl
-    length_drop_one (x ∷ xs) = omega arith
+    length_drop_one xs = grind (arith, common_steps)
 
 -- ---- words inside an object
 
@@ -180,9 +151,6 @@ take_set_in (suc n) (w ∷ ws) (suc i) v = ap (λ xs. w ∷ xs) (take_set_in n w
 drop_one_set : (ws : List ℕ) (i v : ℕ) → drop 1 (slice_set ws (suc i) v) ≡ slice_set (drop 1 ws) i v
 drop_one_set ws i v = grind (arith, common_steps)
 
-drop_one_first : (ws : List ℕ) (v : ℕ) → drop 1 (slice_set ws 0 v) ≡ drop 1 ws
-drop_one_first ws v = grind (arith, common_steps)
-
 set_past_take : (n : ℕ) (ws : List ℕ) (i v : ℕ) → n ≤ i → take n (slice_set ws i v) ≡ take n ws
 set_past_take zero ws i v h = refl
 set_past_take (suc n) [] i v h = refl
@@ -195,11 +163,7 @@ BlockHasField (Some b) i = i < b.header.len
 
 first_key : (bs : List (ℕ × Block)) (a low : ℕ) (i : ℕ) → AllByRecursion (λ b. low ≤ b.0) bs → BlockHasField (block_in bs a) i → low ≤ a
 first_key [] a low i all h = absurd h
-first_key (b ∷ bs) a low i all h =
-    elim (cases_Bool (b.0 == a)) [
-      | inl here ↦ (let same : b.0 ≡ a = eqb-true _ _ here in let l : low ≤ b.0 = all.0 in omega arith)
-      | inr other ↦ first_key bs a low i all.1 (subst (λ t. BlockHasField (cond t (Some b.1) (block_in bs a)) i) other h)
-    ]
+first_key (b ∷ bs) a low i all h = grind (arith, common_steps, cases_Bool, eqb-true, first_key bs a low i)
 
 abbrev pred_of : ℕ → ℕ
 pred_of zero = zero
@@ -253,14 +217,10 @@ IsThere (Some b) = ⊤
 
 start_key : (bs : List (ℕ × Block)) (a low : ℕ) → AllByRecursion (λ b. low ≤ b.0) bs → IsThere (block_in bs a) → low ≤ a
 start_key [] a low all h = absurd h
-start_key (b ∷ bs) a low all h =
-    elim (cases_Bool (b.0 == a)) [
-      | inl here ↦ (let same : b.0 ≡ a = eqb-true _ _ here in let l : low ≤ b.0 = all.0 in omega arith)
-      | inr other ↦ start_key bs a low all.1 (subst (λ t. IsThere (cond t (Some b.1) (block_in bs a))) other h)
-    ]
+start_key (b ∷ bs) a low all h = grind (arith, common_steps, cases_Bool, eqb-true, start_key bs a low)
 
 fields_first : (h : Header) (ws : List ℕ) (v : ℕ) → fields_in h (slice_set ws 0 v) ≡ fields_in h ws
-fields_first h ws v = ap (take h.len) (drop_one_first ws v)
+fields_first h ws v = grind (arith, common_steps)
 
 pub walk_link : (ws : List ℕ) (inside at : ℕ) (bs : List (ℕ × Block)) (a p v : ℕ) → at + p ≡ a + 1 → IsThere (block_in bs a) → Walked inside at ws bs → Walked inside at (slice_set ws p v) bs
 walk_link [] inside at [] a p v e h w = absurd h
@@ -295,13 +255,4 @@ walk_link (x ∷ ws) zero at bs a p v e h w =
 
 pub objects_set : (bs : List (ℕ × Block)) (a i v : ℕ) (b : Block) → block_in bs a ≡ Some b → map object_entry (set_block bs a i v) ≡ set_field (map object_entry bs) a i (field_value b.header v)
 objects_set [] a i v b e = absurd (let no : None ≡ Some b = e in cc)
-objects_set (x ∷ bs) a i v b e =
-    elim (x.0 == a) as (λ t. cond t (Some x.1) (block_in bs a) ≡ Some b
-    → map object_entry (cond t ((x.0, record { header = x.1.header; fields = slice_set x.1.fields i v }) ∷ bs) (x ∷ set_block bs a i v))
-    ≡ cond t ((x.0, with_field (object_of_block x.1) i (field_value b.header v)) ∷ map object_entry bs) (object_entry x ∷ set_field (map object_entry bs) a i (field_value b.header v))) [
-      | true ↦ λ e. (let same : x.1 ≡ b = cc in
-          let fields : map (field_value x.1.header) (slice_set x.1.fields i v) ≡ slice_set (map (field_value x.1.header) x.1.fields) i (field_value x.1.header v) = map-set (field_value x.1.header) x.1.fields i v in
-          (λ j. (x.0, record { raw = x.1.header.raw; kind = x.1.header.kind; fields = fields j }) ∷ map object_entry bs)
-          ∙ ap (λ (b : Block). (x.0, with_field (object_of_block x.1) i (field_value b.header v)) ∷ map object_entry bs) same)
-      | false ↦ λ e. ap (λ os. object_entry x ∷ os) (objects_set bs a i v b e)
-    ] e
+objects_set (x ∷ bs) a i v b e = grind (arith, common_steps, map-set, objects_set bs a i v b)

@@ -64,7 +64,6 @@ field_read words a i ok some = read (block_at words a) refl some
         let fits : a + (b.header.len + 2) ≤ length words = s.fits in
         let all : length b.fields ≡ b.header.len = ap length s.fields ∙ omega (arith, length-take b.header.len (drop (a + 2) words), length-drop (a + 2) words) in
         let small : i < b.header.len = subst (λ n. i < n) all (slice_get_within b.fields i f.0 f.1) in
-        let there : slice_get b.fields i ≡ Some (get_or b.fields i 0) = slice_get-get_or b.fields i 0 (subst (λ n. i < n) (sym all) small) in
         let is : get_or b.fields i 0 ≡ slice_index words (field_place a i) = ap (λ xs. get_or xs i 0) s.fields ∙ get_or-take b.header.len (drop (a + 2) words) i 0 small ∙ get_or-drop (a + 2) words i 0 in
         record {
           block = b;
@@ -72,7 +71,7 @@ field_read words a i ok some = read (block_at words a) refl some
           has_field = small;
           low = s.low;
           within = omega arith;
-          word = ap (λ o. field_in o i) e ∙ there ∙ ap Some is;
+          word = ap (λ o. field_in o i) e ∙ slice_get-get_or b.fields i 0 (subst (λ n. i < n) (sym all) small) ∙ ap Some is;
         }
 
 -- ---- what is written

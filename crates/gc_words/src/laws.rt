@@ -76,6 +76,7 @@ pub fn raws_change_no_objects()
 {}
 
 /// Decoding inverts encoding, and only encoded words decode.
+#[tactic(auto, using(crate::proofs::Graphs::value_read_back, crate::proofs::Graphs::word_read_back, crate::proofs::Graphs::meaning_back, crate::proofs::Graphs::meant, crate::proofs::Walks::read_back, crate::proofs::Walks::written_back))]
 pub fn words_are_read_back()
     ensures value { (v : Value) → HasAddress v → read_value (word_of v) ≡ Some v }
     ensures value_word { (word : ℕ) (v : Value)
@@ -168,6 +169,7 @@ pub fn ends_after_writes()
 {}
 
 /// Gives the object at each address after an object is placed or a field is written. No object starts at the end.
+#[tactic(auto, using(crate::proofs::Blocks::none_at_end, crate::proofs::Blocks::placed_block, crate::proofs::Blocks::placed_beside, crate::proofs::Blocks::field_block, crate::proofs::Blocks::field_beside))]
 pub fn objects_after_writes()
     ensures end { (space : SpaceWords)
         → IsSpace space → block_at space.words (end_of space) ≡ None }
@@ -224,6 +226,7 @@ pub fn graphs_of_spaces()
 {}
 
 /// Gives the graph of a space with roots after a write. Links are not part of it.
+#[tactic(auto, using(crate::proofs::Graphs::graph_placed, crate::proofs::Graphs::graph_field, crate::proofs::Graphs::graph_link, crate::proofs::Graphs::graph_cleared, crate::proofs::Graphs::graph_root))]
 pub fn graphs_after_writes()
     ensures placed { (space : SpaceWords) (h : Header) (roots : List ℕ) → CanPlace space h
         → graph_of (image_with (with_object space h) roots)

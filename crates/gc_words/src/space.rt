@@ -130,6 +130,7 @@ impl Space {
 
     /// Places an object at the end, with link 0 and all field words 0, and returns its address.
     #[inline(always)]
+    #[tactic(auto, using(crate::proofs::Walks::written_back, crate::proofs::Bodies::object_placed))]
     pub fn place(&mut self, header: Header) -> Addr
         requires { HasRoomFor self.old header.len }
         ensures at { result.0 ≡ end_of self.old }
@@ -170,6 +171,7 @@ impl Space {
     }
 
     /// Returns the address after the object that starts here: the next object's, or the end.
+    #[tactic(auto, using(crate::proofs::Bodies::next_seen))]
     pub fn next_start(&self, at: Addr) -> Addr
         requires { IsTrue (is_start self.now.words at.0) }
         ensures next { next_of self.now.words at.0 ≡ Some result.0 }
@@ -199,6 +201,7 @@ impl Space {
     }
 
     /// Writes field word `i` of the object that starts here.
+    #[tactic(auto, using(crate::proofs::Bodies::field_at_place))]
     pub fn set_field(&mut self, at: Addr, i: u16, word: u64)
         requires { IsSome (field_at self.old.words at.0 i) }
         ensures words { self.new ≡ with_field_at self.old at.0 i word }
@@ -210,6 +213,7 @@ impl Space {
     }
 
     /// Writes these words to the fields of the object that starts here, from field `first` on.
+    #[tactic(auto, using(crate::proofs::Spliced::written_at_once))]
     pub fn set_fields(&mut self, at: Addr, first: u16, words: &[u64])
         requires { HasFields self.old at.0 first (length words.now) }
         ensures words { self.new ≡ with_fields self.old at.0 first words.now }

@@ -1,4 +1,5 @@
 -- The sizes, the words, the count and the roots are taken in order, and where one of them stops, the image does.
+use Rattle.std.proofs.lemmas.Grind.{common_steps}
 use Rattle.std.proofs.Common.{ℕ, ◌≤◌, [], ◌∷◌, ◌++◌, map, arith, refl}
 use Rattle.std.specs.Prelude.{codes}
 use Rattle.std.specs.Fmt.{decimal}
@@ -54,21 +55,16 @@ returns-in_err-roots-clause-place g c text p h =
     let s : ℕ × ℕ = (c.in_ok-size.size, c.in_ok-size.end) in
     let words = c.in_ok-words.words.items in
     let n = c.in_ok-count.count in
-    let all : AreAll IsWord s.1 words = rw c.from.ensures at c.in_ok-words.ensures.fits in
     let one = c.in_ok-size.ensures.place text p h in
     let two = c.in_ok-words.ensures.place text one.0 one.1 in
     let three = c.in_ok-count.ensures.place text two.0 two.1 in
     let before = taken_then (size_line name s.0 s.1 ∷ []) (map decimal words) p one.0 two.0 one.2 two.2 in
     rw (fault.1, fault.2) (end_within (AreAll IsWord n) (map decimal) (ImageSection raws name) (up_to_count name s words n) text p three.0 _ _
-    (all_delimit IsWord decimal word_in n word_form) (image_roots raws name s words n c.in_ok-size.ensures.fits all c.in_ok-count.ensures.fits)
+    (all_delimit IsWord decimal word_in n word_form) (image_roots raws name s words n c.in_ok-size.ensures.fits (rw c.from.ensures at c.in_ok-words.ensures.fits) c.in_ok-count.ensures.fits)
     (taken_then ((size_line name s.0 s.1 ∷ []) ++ map decimal words) (count_line (codes "roots") n ∷ []) p two.0 three.0 before three.2) (c.in_err-roots.ensures.place text three.0 three.1))
 
 pub returns-clause-fits : goal.returns-clause-fits
-returns-clause-fits g c =
-    let s : ℕ × ℕ = (c.in_ok-size.size, c.in_ok-size.end) in
-    let all : AreAll IsWord s.1 c.in_ok-words.words.items = rw c.from.ensures at c.in_ok-words.ensures.fits in
-    let roots = c.in_ok-roots.ensures.fits in
-    image_fits c.args.raws s c.in_ok-words.words.items c.in_ok-roots.roots.items c.in_ok-size.ensures.fits all (omega (arith, roots.0, c.in_ok-count.ensures.fits)) roots.1
+returns-clause-fits g c = grind (arith, common_steps, image_fits)
 
 pub returns-clause-place : goal.returns-clause-place
 returns-clause-place g c text p h =

@@ -1,9 +1,9 @@
 -- Nothing is found at first, then the roots meet, and then the objects of the pairs.
-use Rattle.std.proofs.Common.{rules, ◌≡◌, length, [], sym, subst}
+use Rattle.std.proofs.lemmas.Grind.{common_steps}
+use Rattle.std.proofs.Common.{rules, ◌≡◌, length, sym, subst, arith}
 use Rattle.std.specs.Vec.{vec_capacity}
 use Rattle.gc_check.specs.Internal.Starts.{starts_from}
-use Rattle.gc_check.specs.Internal.Meetings.{met_all, MetTo}
-use Rattle.gc_check.specs.Verdict.{pairs_of}
+use Rattle.gc_check.specs.Internal.Meetings.{MetTo}
 use Rattle.gc_check.specs.declared.meet.Found.{Found}
 use Rattle.gc_check.proofs.Meetings.{held_none}
 use Rattle.gc_check.proofs.Alike.{alike_roots}
@@ -17,10 +17,7 @@ meet_all-roots-requires-clause-held c =
     held_none c.args.old.now c.args.new.now empty c.in_ok-partners.ensures.entries c.in_ok-originals.ensures.entries c.in_ok-partners.ensures.zeros c.in_ok-originals.ensures.zeros c.in_ok-pairs.ensures.items capacity
 
 pub meet_reachable-alike-requires-clause-met : goal.meet_reachable-alike-requires-clause-met
-meet_reachable-alike-requires-clause-met c =
-    let found : pairs_of c.meet_all-roots.new.found.pairs.items ≡ met_all c.args.old.now c.args.new.now [] c.args.old.now.roots c.args.new.now.roots = search rules in
-    subst (λ pairs. MetTo c.args.old.now c.args.new.now pairs 0) (sym found) (roots_met c.args.old.now c.args.new.now)
+meet_reachable-alike-requires-clause-met c = subst (λ pairs. MetTo c.args.old.now c.args.new.now pairs 0) (sym (search rules)) (roots_met c.args.old.now c.args.new.now)
 
 pub meet_reachable-alike-requires-clause-roots : goal.meet_reachable-alike-requires-clause-roots
-meet_reachable-alike-requires-clause-roots c = λ alike.
-    alike_roots c.args.old.now c.args.new.now (pairs_of c.meet_all-roots.new.found.pairs.items) (search rules)
+meet_reachable-alike-requires-clause-roots c = λ alike. grind (arith, common_steps, alike_roots)

@@ -1,8 +1,9 @@
 -- Each pair found is of two starts, and there are no more pairs than words, so the objects of all pairs have met at the end.
-use Rattle.std.proofs.Common.{rules, ◌≡◌, ◌<◌, length, true, IsTrue, sym, ◌∙◌, ap, subst, ℕ, ◌+◌, ◌≤◌, arith}
+use Rattle.std.proofs.lemmas.Grind.{common_steps}
+use Rattle.std.proofs.Common.{rules, ◌≡◌, ◌<◌, length, true, sym, ◌∙◌, ap, subst, ℕ, ◌+◌, arith}
 use Rattle.std.proofs.lemmas.List.{length-map}
 use Rattle.gc_words.specs.Certificate.{BlocksCorrespond}
-use Rattle.gc_words.specs.Image.{is_start, block_at}
+use Rattle.gc_words.specs.Image.{block_at}
 use Rattle.gc_words.specs.Views.{addresses}
 use Rattle.gc_check.specs.Tables.{pair_at}
 use Rattle.gc_check.specs.Internal.Meetings.{met_objects, MetTo, AlikeTo}
@@ -13,18 +14,10 @@ use Rattle.gc_check.proofs.Alike.{objects_alike, all_alike}
 use Rattle.gc_check.proofs.meet.meet_reachable.Goals as goal
 
 pub meet_objects-requires-clause-old_start : goal.meet_objects-requires-clause-old_start
-meet_objects-requires-clause-old_start c =
-    let inside : c.loop-done.done < length c.loop-done.found.pairs.items = search rules in
-    let is : pair_at (pairs_of c.loop-done.found.pairs.items) c.loop-done.done ≡ addresses c.index-pair.result.now = pair_is c.loop-done.found.pairs.items c.loop-done.done c.index-pair.result.now inside c.index-pair.ensures in
-    let within : c.loop-done.done < length (pairs_of c.loop-done.found.pairs.items) = omega (arith, inside, length-map c.loop-done.found.pairs.items addresses) in
-    subst (λ (p : ℕ × ℕ). IsTrue (is_start c.args.old.now.words p.0)) is (c.loop-done.invariant.met.starts c.loop-done.done (0, 0) within).0
+meet_objects-requires-clause-old_start c = grind (arith, common_steps, pair_is, length-map)
 
 pub meet_objects-requires-clause-new_start : goal.meet_objects-requires-clause-new_start
-meet_objects-requires-clause-new_start c =
-    let inside : c.loop-done.done < length c.loop-done.found.pairs.items = search rules in
-    let is : pair_at (pairs_of c.loop-done.found.pairs.items) c.loop-done.done ≡ addresses c.index-pair.result.now = pair_is c.loop-done.found.pairs.items c.loop-done.done c.index-pair.result.now inside c.index-pair.ensures in
-    let within : c.loop-done.done < length (pairs_of c.loop-done.found.pairs.items) = omega (arith, inside, length-map c.loop-done.found.pairs.items addresses) in
-    subst (λ (p : ℕ × ℕ). IsTrue (is_start c.args.new.now.words p.1)) is (c.loop-done.invariant.met.starts c.loop-done.done (0, 0) within).1
+meet_objects-requires-clause-new_start c = grind (arith, common_steps, pair_is, length-map)
 
 pub loop-done-preserved : goal.loop-done-preserved
 loop-done-preserved c =
@@ -47,21 +40,10 @@ loop-done-preserved c =
     }
 
 pub returns-clause-met : goal.returns-clause-met
-returns-clause-met c =
-    let pairs = c.loop-done.found.pairs.items in
-    let few : length pairs ≤ length c.args.old.now.words = few_found c.args.old.now c.args.new.now c.loop-done.found c.loop-done.invariant.held in
-    let past : length c.args.old.now.words ≤ c.loop-done.done = search rules in
-    all_done c.args.old.now c.args.new.now (pairs_of pairs) c.loop-done.done (length pairs) (omega (arith, few, past, length-map pairs addresses)) c.loop-done.invariant.met
+returns-clause-met c = grind (arith, common_steps, few_found, all_done, length-map)
 
 pub returns-clause-alike : goal.returns-clause-alike
-returns-clause-alike c = λ alike.
-    let pairs = c.loop-done.found.pairs.items in
-    let few : length pairs ≤ length c.args.old.now.words = few_found c.args.old.now c.args.new.now c.loop-done.found c.loop-done.invariant.held in
-    let past : length c.args.old.now.words ≤ c.loop-done.done = search rules in
-    all_alike c.args.old.now c.args.new.now (pairs_of pairs) c.loop-done.done (length pairs) (omega (arith, few, past, length-map pairs addresses)) (c.loop-done.invariant.alike alike)
+returns-clause-alike c = λ alike. grind (arith, common_steps, few_found, all_alike, length-map)
 
 pub returns-then-done-len-clause-alike : goal.returns-then-done-len-clause-alike
-returns-then-done-len-clause-alike c = λ alike.
-    let pairs = c.loop-done.found.pairs.items in
-    let past : length pairs ≤ c.loop-done.done = search rules in
-    all_alike c.args.old.now c.args.new.now (pairs_of pairs) c.loop-done.done (length pairs) (omega (arith, past, length-map pairs addresses)) (c.loop-done.invariant.alike alike)
+returns-then-done-len-clause-alike c = λ alike. grind (arith, common_steps, all_alike, length-map)

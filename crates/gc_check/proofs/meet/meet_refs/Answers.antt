@@ -1,6 +1,6 @@
 -- A pair whose two objects are free has room in the row, and the tables then hold it too.
-use Rattle.std.proofs.Common.{rules, ◌<◌, length, ◌≡◌, ◌∷◌, ◌++◌, [], true}
-use Rattle.std.specs.Vec.{vec_capacity}
+use Rattle.std.proofs.lemmas.Grind.{common_steps}
+use Rattle.std.proofs.Common.{rules, ◌≡◌, ◌∷◌, ◌++◌, [], true, arith}
 use Rattle.gc_words.specs.declared.image.Pair.{Pair}
 use Rattle.gc_check.specs.declared.meet.Found.{Found}
 use Rattle.gc_check.specs.Internal.Meetings.{is_free}
@@ -14,11 +14,7 @@ returns-clause-held c =
     let after : Found = record { partners = c.set.new.self; originals = c.set-2.new.self; pairs = c.push_reserved.new.self } in
     let free : is_free c.args.old.now c.args.new.now (pairs_of c.args.found.now.pairs.items) c.args.from.0 c.args.to.0 ≡ true = search rules in
     let pushed : c.push_reserved.new.self.items ≡ c.args.found.now.pairs.items ++ x ∷ [] = search rules in
-    let capacity : vec_capacity c.push_reserved.new.self ≡ vec_capacity c.args.found.now.pairs = search rules in
-    held_one c.args.old.now c.args.new.now c.args.found.now after x c.requires.held free c.set.ensures.entries c.set-2.ensures.entries c.set.ensures.number c.set-2.ensures.number pushed capacity
+    held_one c.args.old.now c.args.new.now c.args.found.now after x c.requires.held free c.set.ensures.entries c.set-2.ensures.entries c.set.ensures.number c.set-2.ensures.number pushed (search rules)
 
 pub push_reserved-requires : goal.push_reserved-requires
-push_reserved-requires c =
-    let free : is_free c.args.old.now c.args.new.now (pairs_of c.args.found.now.pairs.items) c.args.from.0 c.args.to.0 ≡ true = search rules in
-    let room : length c.args.found.now.pairs.items < vec_capacity c.args.found.now.pairs = has_room c.args.old.now c.args.new.now c.args.found.now c.args.from.0 c.args.to.0 c.requires.held free in
-    search rules
+push_reserved-requires c = grind (arith, common_steps, has_room)

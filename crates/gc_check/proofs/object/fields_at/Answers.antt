@@ -12,10 +12,7 @@ slice_bounds-result-end c =
 
 pub returns-clause-object : goal.returns-clause-object
 returns-clause-object c =
-    let stands = (header_stands c.args.words.now c.args.start c.args.header c.requires.walked c.requires.header).1 in
-    let first : c.args.start + 2 ≡ c.field_index-first.result = omega (arith, c.field_index-first.ensures) in
     let len = c.from.ensures ∙ c.len.ensures in
-    let count : c.args.header.len ≡ c.field_index-first.result + c.from.result - c.field_index-first.result = omega arith in
-    stands
-    ∙ ap (λ at. Some (record { header = c.args.header; fields = take c.args.header.len (drop at c.args.words.now) })) first
-    ∙ ap (λ n. Some (record { header = c.args.header; fields = take n (drop c.field_index-first.result c.args.words.now) })) count
+    (header_stands c.args.words.now c.args.start c.args.header c.requires.walked c.requires.header).1
+    ∙ ap (λ at. Some (record { header = c.args.header; fields = take c.args.header.len (drop at c.args.words.now) })) (omega (arith, c.field_index-first.ensures))
+    ∙ ap (λ n. Some (record { header = c.args.header; fields = take n (drop c.field_index-first.result c.args.words.now) })) (omega arith)

@@ -5,9 +5,7 @@ use Rattle.gc_check.proofs.visits.is_reference.Goals as goal
 
 pub returns-in_default : goal.returns-in_default
 returns-in_default c =
-    let none : c.reference_at.result ≡ None = search rules in
-    let low : c.args.address < 2 ^ 32 = search rules in
-    ((λ e. absurd (let no : false ≡ true = e in cc)), (λ e. absurd (let no : None ≡ Some c.args.address = sym none ∙ (c.reference_at.ensures c.args.address low).1 e in cc)))
+    ((λ e. absurd (let no : false ≡ true = e in cc)), (λ e. absurd (let no : None ≡ Some c.args.address = sym (search rules) ∙ (c.reference_at.ensures c.args.address (search rules)).1 e in cc)))
 
 pub returns : goal.returns
 returns c =

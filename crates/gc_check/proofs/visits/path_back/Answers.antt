@@ -28,14 +28,11 @@ loop-at-preserved c =
 pub returns : goal.returns
 returns c =
     let visits = c.args.visits.now in
-    let top : c.loop-at.at ≡ 0 = search rules in
-    let len : c.loop-at.fields.len ≡ length c.loop-at.fields.items = search rules in
-    let turned : c.reverse.new.self ≡ reverse c.loop-at.fields.items = search rules in
-    let items = reversed c.loop-at.fields.items c.reverse.new.self c.loop-at.fields.len len turned in
+    let items = reversed c.loop-at.fields.items c.reverse.new.self c.loop-at.fields.len (search rules) (search rules) in
     record {
       path = λ image address are refers.
           let before = c.loop-at.invariant.path image address are refers in
-          let root : visit_at visits c.loop-at.at ≡ roots_visit = ap (visit_at visits) top ∙ are.roots in (
+          let root : visit_at visits c.loop-at.at ≡ roots_visit = ap (visit_at visits) (search rules) ∙ are.roots in (
             ap (at_path (graph_of image) c.loop-at.place) items ∙ ap (λ (v : Visit). along (graph_of image) v.node c.loop-at.place (reverse c.loop-at.fields.items)) (sym root) ∙ before.0,
             ap length items ∙ length-reverse c.loop-at.fields.items ∙ (let none : (visit_at visits c.loop-at.at).depth ≡ 0 = ap (λ (v : Visit). v.depth) root in omega (arith, before.1, none)),
           );

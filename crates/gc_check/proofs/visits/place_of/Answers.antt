@@ -7,9 +7,7 @@ use Rattle.gc_check.proofs.Breadth.{no_word}
 use Rattle.gc_check.proofs.visits.place_of.Goals as goal
 
 pub returns-then-is_reference : goal.returns-then-is_reference
-returns-then-is_reference c =
-    let there : slice_get (references c.words_of-words.result.now) c.loop-i.i ≡ Some (Some c.args.address) = c.is_reference.ensures.0 (search rules) in
-    (c.words_of-words.ensures c.loop-i.i c.args.address).1 there
+returns-then-is_reference c = (c.words_of-words.ensures c.loop-i.i c.args.address).1 (c.is_reference.ensures.0 (search rules))
 
 pub returns : goal.returns
 returns c = λ i refers.

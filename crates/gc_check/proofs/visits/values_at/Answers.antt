@@ -1,14 +1,11 @@
 -- A raw object has no references, and any other has those of its field words.
-use Rattle.std.proofs.Common.{rules, ◌≡◌, Some, true, false, subst}
-use Rattle.gc_words.specs.Image.{header_at, block_at}
+use Rattle.std.proofs.Common.{rules, ◌≡◌, Some, false, subst}
+use Rattle.gc_words.specs.Image.{block_at}
 use Rattle.gc_check.proofs.Breadth.{object_refers, raw_refers}
 use Rattle.gc_check.proofs.visits.values_at.Goals as goal
 
 pub returns-then-is_raw : goal.returns-then-is_raw
-returns-then-is_raw c =
-    let header : header_at c.args.starts.now.words c.args.address ≡ Some c.unwrap-header.result = search rules in
-    let raw : c.unwrap-header.result.raw ≡ true = search rules in
-    raw_refers c.args.starts.now c.args.address c.unwrap-header.result header raw
+returns-then-is_raw c = raw_refers c.args.starts.now c.args.address c.unwrap-header.result (search rules) (search rules)
 
 pub returns : goal.returns
 returns c =

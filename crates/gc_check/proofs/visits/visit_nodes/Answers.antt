@@ -1,19 +1,14 @@
 -- A turn visits all that one more node refers to, and no visit becomes deeper than the next one can lead to.
-use Rattle.std.proofs.Common.{rules, ◌<◌, ◌≤◌, suc, length, arith}
+use Rattle.std.proofs.lemmas.Grind.{common_steps}
+use Rattle.std.proofs.Common.{rules, ◌<◌, ◌≤◌, length, arith}
 use Rattle.gc_check.proofs.Breadth.{one_more_visit, near_next, low_count}
 use Rattle.gc_check.proofs.visits.visit_nodes.Goals as goal
 
 pub overflow_cast-done : goal.overflow_cast-done
-overflow_cast-done c =
-    let few : length c.loop-done.visits.list.items ≤ suc (length c.args.starts.now.words) = low_count c.args.starts.now c.loop-done.visits c.loop-done.invariant.held in
-    let inside : c.loop-done.done < length c.loop-done.visits.list.items = search rules in
-    omega (arith, few, inside, c.requires.held.few)
+overflow_cast-done c = grind (arith, common_steps, low_count)
 
 pub loop-done-smaller : goal.loop-done-smaller
-loop-done-smaller c =
-    let few : length c.loop-done.visits.list.items ≤ suc (length c.args.starts.now.words) = low_count c.args.starts.now c.loop-done.visits c.loop-done.invariant.held in
-    let inside : c.loop-done.done < length c.loop-done.visits.list.items = search rules in
-    omega (arith, few, inside)
+loop-done-smaller c = grind (arith, common_steps, low_count)
 
 pub loop-done-preserved : goal.loop-done-preserved
 loop-done-preserved c =

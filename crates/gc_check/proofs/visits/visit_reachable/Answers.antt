@@ -1,4 +1,5 @@
 -- The walk begins with the visit of the roots, and there are no more visits than a `u32` can number.
+use Rattle.std.proofs.lemmas.Grind.{common_steps}
 use Rattle.std.proofs.Common.{rules, ◌≡◌, ◌≤◌, ◌∷◌, [], suc, length, arith}
 use Rattle.std.specs.Prelude.{vec_capacity}
 use Rattle.gc_check.specs.Internal.Starts.{starts_from}
@@ -7,9 +8,7 @@ use Rattle.gc_check.proofs.Breadth.{begun, few_starts, low_count}
 use Rattle.gc_check.proofs.visits.visit_reachable.Goals as goal
 
 pub overflow_add-count : goal.overflow_add-count
-overflow_add-count c =
-    let few : starts_from c.args.starts.now.words 0 (length c.args.starts.now.words) ≤ length c.args.starts.now.words = few_starts c.args.starts.now.words 0 (length c.args.starts.now.words) in
-    omega (arith, few, c.requires.few, c.count.ensures)
+overflow_add-count c = grind (arith, common_steps, few_starts)
 
 pub visit_nodes-requires-clause-held : goal.visit_nodes-requires-clause-held
 visit_nodes-requires-clause-held c =
@@ -18,6 +17,4 @@ visit_nodes-requires-clause-held c =
     begun c.args.starts.now (record { list = c.push_reserved.new.self; numbers = c.in_ok-numbers.numbers }) c.in_ok-numbers.ensures.entries c.requires.few one c.in_ok-numbers.ensures.zeros room
 
 pub returns-clause-few : goal.returns-clause-few
-returns-clause-few c =
-    let few : length c.visit_nodes.new.visits.list.items ≤ suc (length c.args.starts.now.words) = low_count c.args.starts.now c.visit_nodes.new.visits c.visit_nodes.ensures.held in
-    omega (arith, few, c.requires.few)
+returns-clause-few c = grind (arith, common_steps, low_count)

@@ -1,5 +1,5 @@
 -- A turn follows one more word of the node, and in the end all that the node refers to is visited.
-use Rattle.std.proofs.Common.{rules, ◌≡◌, ◌≤◌, length, ap, sym, ◌∙◌, suc, subst}
+use Rattle.std.proofs.Common.{rules, ◌≡◌, ◌≤◌, ap, sym, ◌∙◌, suc, subst}
 use Rattle.gc_words.specs.Image.{graph_of}
 use Rattle.gc_check.specs.Internal.Visits.{HasReferences, visit_at}
 use Rattle.gc_check.specs.declared.visits.Visit.{Visit}
@@ -26,7 +26,6 @@ loop-i-preserved c =
 pub returns-clause-visited : goal.returns-clause-visited
 returns-clause-visited c =
     let list = c.loop-i.visits.list.items in
-    let read : visit_at c.args.visits.now.list.items c.args.from ≡ c.index.result.now = read_visit c.args.visits.now.list.items c.args.from c.index.result.now c.requires.from c.index.ensures in
-    let node : (visit_at list c.args.from).node ≡ c.index.result.now.node = ap (λ (v : Visit). v.node) (c.loop-i.invariant.kept.same c.args.from c.requires.from ∙ read) in
-    let past : length c.words_of-words.result.now ≤ c.loop-i.i = search rules in
-    all_words c.args.starts.now list c.args.from c.loop-i.i c.index.result.now.node c.words_of-words.result.now node c.words_of-words.ensures past c.loop-i.invariant.visited
+    let node : (visit_at list c.args.from).node ≡ c.index.result.now.node
+    = ap (λ (v : Visit). v.node) (c.loop-i.invariant.kept.same c.args.from c.requires.from ∙ read_visit c.args.visits.now.list.items c.args.from c.index.result.now c.requires.from c.index.ensures) in
+    all_words c.args.starts.now list c.args.from c.loop-i.i c.index.result.now.node c.words_of-words.result.now node c.words_of-words.ensures (search rules) c.loop-i.invariant.visited

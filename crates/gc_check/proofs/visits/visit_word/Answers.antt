@@ -15,9 +15,7 @@ returns-in_default-clause-visited c = λ a refers start.
     absurd (let no : None ≡ Some a = sym none ∙ (c.reference_at.ensures a low).1 ((c.requires.words c.args.i a).0 refers) in cc)
 
 pub visit_object-requires-clause-refers : goal.visit_object-requires-clause-refers
-visit_object-requires-clause-refers c =
-    let low : c.in-Some.address < 2 ^ 32 = search rules in
-    (c.requires.words c.args.i c.in-Some.address).1 ((c.reference_at.ensures c.in-Some.address low).0 c.in-Some.is)
+visit_object-requires-clause-refers c = (c.requires.words c.args.i c.in-Some.address).1 ((c.reference_at.ensures c.in-Some.address (search rules)).0 c.in-Some.is)
 
 pub returns-clause-visited : goal.returns-clause-visited
 returns-clause-visited c = λ a refers start.

@@ -1,5 +1,6 @@
 -- A reference shows an object, whether that is raw or not.
-use Rattle.std.proofs.Common.{◌≡◌, ℕ, Bool, true, false, cond, Some, refl, sym, ◌∙◌, ap, subst}
+use Rattle.std.proofs.lemmas.Grind.{common_steps}
+use Rattle.std.proofs.Common.{◌≡◌, ℕ, Bool, cond, Some, sym, ◌∙◌, ap, subst, arith}
 use Rattle.gc_graph.specs.Graph.{Ref}
 use Rattle.gc_graph.specs.Machine.{view_of}
 use Rattle.gc_graph.specs.declared.reply.Reply.TheVariants.{Saw}
@@ -15,8 +16,7 @@ use Rattle.gc_heap.proofs.Views.{shown}
 use Rattle.gc_heap.proofs.reading.fetched.Goals as goal
 
 raw_or_not : (raw : Bool) (kind len : ℕ) → fetched_of (Saw (cond raw (RawObj kind len) (Obj kind len))) ≡ Object
-raw_or_not true kind len = refl
-raw_or_not false kind len = refl
+raw_or_not raw kind len = grind (arith, common_steps)
 
 pub returns-in-Ref : goal.returns-in-Ref
 returns-in-Ref c =

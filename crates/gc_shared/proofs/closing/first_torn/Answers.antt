@@ -1,14 +1,13 @@
 -- A receipt at a place that is not free is the first that does not stand, and any other is one more that stands.
-use Rattle.std.proofs.Common.{◌≡◌, ap, length-set, ◌∙◌, take_all}
+use Rattle.std.proofs.lemmas.Grind.{common_steps}
+use Rattle.std.proofs.Common.{◌≡◌, ap, length-set, ◌∙◌, take_all, arith}
 use Rattle.gc_shared.specs.declared.seat.Receipt.{Receipt}
 use Rattle.gc_shared.specs.Closing.{receipts_below}
 use Rattle.gc_shared.proofs.ReceiptMarks.{step, torn_here}
 use Rattle.gc_shared.proofs.closing.first_torn.Goals as goal
 
 pub returns-then-not-is_free : goal.returns-then-not-is_free
-returns-then-not-is_free c =
-    let inv = c.loop-n.invariant in
-    rw (← inv.is) (torn_here c.args.history.now (receipts_below c.args.seats.now c.args.seat) c.receipts_with-receipts.result.now c.loop-n.marks c.loop-n.low c.loop-n.n c.index-receipts-n.result c.loop-n-test.true c.index-receipts-n.is inv.len inv.low inv.stand inv.marked (λ f. let e = c.is_free.ensures.free.1 f in cc))
+returns-then-not-is_free c = grind (arith, common_steps, torn_here)
 
 pub loop-n-preserved : goal.loop-n-preserved
 loop-n-preserved c =
@@ -18,7 +17,4 @@ loop-n-preserved c =
     record { is = inv.is; len = length-set _ _ _ ∙ inv.len; low = rw place s.low; stand = s.stand; marked = rw place s.marked }
 
 pub returns : goal.returns
-returns c =
-    let inv = c.loop-n.invariant in
-    let whole = take_all c.loop-n.n c.receipts_with-receipts.result.now c.loop-n-test.false in
-    rw (← inv.is) (rw whole at inv.stand, rw whole at inv.marked)
+returns c = grind (arith, common_steps, take_all)

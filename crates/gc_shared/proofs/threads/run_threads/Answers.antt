@@ -1,5 +1,5 @@
 -- Seats that played their scripts and agree with the history show that the history is of these scripts and turns.
-use Rattle.std.proofs.Common.{◌≡◌, List, length, ap, ◌∙◌, subst, vec_len}
+use Rattle.std.proofs.Common.{List, ap, ◌∙◌, subst}
 use Rattle.std.specs.declared.vec.Vec.{Vec}
 use Rattle.std.specs.declared.alloc.Global.{Global}
 use Rattle.gc_graph.specs.declared.command.Op.{Op}
@@ -13,6 +13,5 @@ returns-in-Ok g c =
     let scripts = c.args.scripts in
     let seats = c.in_ok-ended.field-0.items in
     let ended : HaveEnded scripts.items c.args.turns seats = subst (λ (l : List (Vec Op Global)). HaveEnded l c.args.turns seats) c.as_slice.ensures.value c.in_ok-ended.ensures in
-    let count : vec_len scripts ≡ length scripts.items = scripts.ok.0 in
-    let is = c.in_ok-shared.ensures.opening ∙ ap (λ n. let o : Opening = record { size = c.args.size; mutators = n; collectors = 1 } in o) (c.len-mutators.ensures ∙ count) in
+    let is = c.in_ok-shared.ensures.opening ∙ ap (λ n. let o : Opening = record { size = c.args.size; mutators = n; collectors = 1 } in o) (c.len-mutators.ensures ∙ scripts.ok.0) in
     has_run c.args.size scripts.items c.args.turns seats c.in_ok-shared.shared c.in-Ok.world is ended c.in-Ok.ensures.ok

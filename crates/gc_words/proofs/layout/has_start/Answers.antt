@@ -1,8 +1,10 @@
 -- The walk goes on as long as it is before the place, so an object starts there exactly if the walk stops there.
-use Rattle.std.proofs.Common.{◌≤◌, sym, ◌∙◌, arith}
-use Rattle.gc_words.proofs.Steps.{behind, start_behind, found_start}
+use Rattle.std.proofs.lemmas.Bool.{cases_eq, eq-eqb, ne_eqb}
+use Rattle.std.proofs.lemmas.Grind.{common_steps}
+use Rattle.std.proofs.Common.{sym, ◌∙◌, arith}
+use Rattle.gc_words.proofs.Steps.{behind, start_behind, start_here, no_start_below}
 use Rattle.gc_words.proofs.layout.has_start.Goals as goal
-use Rattle.gc_words.proofs.layout.has_start.Goals.{then-loop-at-test+else-at-place, else-loop-at-test}
+use Rattle.gc_words.proofs.layout.has_start.Goals.{then-loop-at-test+else-at-place}
 
 pub loop-at-preserved : goal.loop-at-preserved
 loop-at-preserved c =
@@ -14,6 +16,4 @@ loop-at-preserved c =
     }
 
 pub returns-then-at-words : goal.returns-then-at-words
-returns-then-at-words c =
-    let reached : c.args.place ≤ c.loop-at.at = elim c.loop-at-test.branch [ then-loop-at-test+else-at-place w ↦ omega arith | else-loop-at-test w ↦ absurd (omega arith) ] in
-    found_start c.args.words.now c.loop-at.at c.args.place c.if-at-words.true reached c.loop-at.invariant.walked ∙ sym c.loop-at.invariant.same
+returns-then-at-words c = grind (arith, common_steps, cases_eq, eq-eqb, start_here, ne_eqb, no_start_below)

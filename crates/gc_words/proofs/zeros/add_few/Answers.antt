@@ -1,12 +1,11 @@
 -- Each turn adds four zeros, and the rest is added behind them.
-use Rattle.std.proofs.Common.{◌≡◌, ℕ, ◌+◌, ◌*◌, ◌%◌, List, ◌++◌, replicate, ◌∙◌, ap, arith, append_assoc}
+use Rattle.std.proofs.lemmas.Grind.{common_steps}
+use Rattle.std.proofs.Common.{◌≡◌, ℕ, ◌+◌, ◌*◌, ◌%◌, List, ◌++◌, replicate, arith, append_assoc}
 use Rattle.std.proofs.lemmas.List.{replicate-append-replicate}
 use Rattle.gc_words.proofs.zeros.add_few.Goals as goal
 
 zeros_behind : (xs ys zs : List ℕ) (n m k : ℕ) → ys ≡ xs ++ replicate n 0 → zs ≡ ys ++ replicate m 0 → n + m ≡ k → zs ≡ xs ++ replicate k 0
-zeros_behind xs ys zs n m k first second sum =
-    second ∙ ap (λ ys. ys ++ replicate m 0) first ∙ append_assoc xs (replicate n 0) (replicate m 0)
-    ∙ ap (λ zs. xs ++ zs) (replicate-append-replicate n m 0) ∙ ap (λ k. xs ++ replicate k 0) sum
+zeros_behind xs ys zs n m k first second sum = grind (arith, common_steps, append_assoc, replicate-append-replicate)
 
 pub loop-preserved : goal.loop-preserved
 loop-preserved c = (

@@ -1,20 +1,18 @@
 -- A line that was taken leaves the reader at the place behind it; a fault counts only once the input has ended.
-use Rattle.std.proofs.Common.{rules, arith, ◌≡◌, ◌∷◌, [], ap, sym, ◌∙◌, false, subst, List, ℕ}
+use Rattle.std.proofs.Common.{rules, arith, ◌≡◌, ◌∷◌, [], ap, sym, ◌∙◌, subst, List, ℕ}
 use Rattle.std.proofs.lemmas.Result.{err_from_is_err_and}
-use Rattle.gc_graph.specs.Streams.{bytes_left, source_failed}
+use Rattle.gc_graph.specs.Streams.{bytes_left}
 use Rattle.gc_cert.specs.Internal.Reading.{IsAt}
 use Rattle.gc_cert.specs.declared.pair_reader.PairReader.{PairReader}
-use Rattle.gc_cert.proofs.ReadPieces.{cannot_end, stop_ends, waiting_bytes, waiting_place, left_at, lines_left, place_ends_there}
+use Rattle.gc_cert.proofs.ReadPieces.{cannot_end, stop_ends, waiting_bytes, waiting_place, lines_left, place_ends_there}
 use Rattle.gc_cert.proofs.pair_reader.PairReader.take.Goals as goal
 
 pub returns-in-Ok-clause-place : goal.returns-in-Ok-clause-place
 returns-in-Ok-clause-place g c text p h =
     let r = c.loop-value.self in
-    let line = g.K.LineKind.line c.args.kind.now c.in-Ok.value ∷ [] in
     let start : c.behind-lines.result ≡ waiting_place r = c.behind-lines.ensures ∙ ap (λ (bytes : List ℕ). waiting_bytes bytes r.taken) c.waiting.ensures in
-    let at = lines_left text p r _ line c.take.new.lines (c.loop-value.invariant.place text p h) (rw start at c.in-Ok.ensures.1) in
-    let same : left_at r c.take.new.lines ≡ record r { pieces = c.leave.new.self; taken = c.number-self.result } = search rules in
-    (at.0, subst (λ (s : PairReader). IsAt text at.0 s (bytes_left g.R.Read.remaining c.loop-value.reader)) same at.1, at.2)
+    let at = lines_left text p r _ (g.K.LineKind.line c.args.kind.now c.in-Ok.value ∷ []) c.take.new.lines (c.loop-value.invariant.place text p h) (rw start at c.in-Ok.ensures.1) in
+    (at.0, subst (λ (s : PairReader). IsAt text at.0 s (bytes_left g.R.Read.remaining c.loop-value.reader)) (search rules) at.1, at.2)
 
 pub returns-in_err-more-in-Err-clause-place : goal.returns-in_err-more-in-Err-clause-place
 returns-in_err-more-in-Err-clause-place g c text p h =
@@ -24,18 +22,15 @@ returns-in_err-more-in-Err-clause-place g c text p h =
 pub returns-then-not-branch-clause-place : goal.returns-then-not-branch-clause-place
 returns-then-not-branch-clause-place g c text p h =
     let before = c.loop-value.invariant.place text p h in
-    let after = c.in_ok-more-in-Err.ensures.place text p before in
     let whole = c.in_ok-more-in-Err.ensures.whole (search rules) in
-    let ends = place_ends_there text p c.loop-value.self _ c.more.new.self _ before after whole.0 whole.1 in
+    let ends = place_ends_there text p c.loop-value.self _ c.more.new.self _ before (c.in_ok-more-in-Err.ensures.place text p before) whole.0 whole.1 in
     let start : c.behind-lines.result ≡ p = c.behind-lines.ensures ∙ ap (λ (bytes : List ℕ). waiting_bytes bytes c.loop-value.self.taken) c.waiting.ensures ∙ sym ends.0 in
     stop_ends (g.K.LineKind.section c.args.kind.now) c.in-Err.fault text p _ (rw start at c.in-Err.ensures) (omega (arith, ends.1, c.in_ok-more-in-Err.ensures.reading.bounded))
 
 pub loop-value-preserved : goal.loop-value-preserved
-loop-value-preserved g c =
-    let good : source_failed c.more.new.reader ≡ false = search rules in
-    record {
-      place = λ text p h. c.in_ok-more-in-Err.ensures.place text p (c.loop-value.invariant.place text p h);
-      reading = c.in_ok-more-in-Err.ensures.reading;
-      taken = c.more.ensures.taken ∙ c.loop-value.invariant.taken;
-      good = good;
-    }
+loop-value-preserved g c = record {
+  place = λ text p h. c.in_ok-more-in-Err.ensures.place text p (c.loop-value.invariant.place text p h);
+  reading = c.in_ok-more-in-Err.ensures.reading;
+  taken = c.more.ensures.taken ∙ c.loop-value.invariant.taken;
+  good = search rules;
+}

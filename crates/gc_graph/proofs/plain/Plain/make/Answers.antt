@@ -1,10 +1,10 @@
 -- Without room nothing changes; else the object gets a name above all others, and its words are no longer free.
+use Rattle.std.proofs.lemmas.Grind.{common_steps}
 use Rattle.std.proofs.Common.{◌≡◌, ◌+◌, ◌-◌, ◌≤◌, ◌∙◌, ap, subst, sym, arith}
 use Rattle.gc_graph.specs.Limits.{most_words}
 use Rattle.gc_graph.specs.Graph.{Graph, set_root, add_object, new_object, Ref}
 use Rattle.gc_graph.specs.Records.{graph_of}
 use Rattle.gc_graph.specs.Bounded.{AreBelow, AreShort}
-use Rattle.gc_graph.specs.declared.reply.Reply.TheVariants.{Made}
 use Rattle.gc_graph.proofs.Bounds.{make_below, make_short}
 use Rattle.gc_graph.proofs.Stepping.{refused, made}
 use Rattle.gc_graph.proofs.plain.Plain.make.Goals as goal
@@ -26,7 +26,4 @@ invariant_of-self-2 c =
     }
 
 pub returns-clause-ok : goal.returns-clause-ok
-returns-clause-ok c =
-    let a = c.self.inside in
-    made a c.args.self.now _ c.args.place c.args.raw c.args.kind c.args.len c.self.view_is c.self.invariant (omega (arith, c.object_words-taken.ensures))
-    (λ i. (Made, record { graph = (c.set.ensures.graph ∙ ap (λ h. set_root h c.args.place (Ref a.next_name)) c.in_ok-add.ensures.ok) i; free = ap (λ n. a.free - n) c.object_words-taken.ensures i }))
+returns-clause-ok c = grind (arith, common_steps, made)

@@ -1,16 +1,13 @@
 -- The digits at the front are the number if they are its decimal, and otherwise the text begins with no number.
-use Rattle.std.proofs.Common.{arith, rules}
+use Rattle.std.proofs.lemmas.Grind.{common_steps}
+use Rattle.std.proofs.Common.{arith}
 use Rattle.gc_graph.proofs.Decimals.{front_is, front_none}
 use Rattle.gc_graph.proofs.text.decimals.front_number.Goals as goal
-use Rattle.gc_graph.proofs.text.decimals.front_number.Goals.{else-end-gt0-via-then-end-gt0+else-is_decimal, else-end-gt0-via-else-end-gt0}
+use Rattle.gc_graph.proofs.text.decimals.front_number.Goals.{else-end-gt0-via-then-end-gt0+else-is_decimal}
 
 pub returns-then-is_decimal : goal.returns-then-is_decimal
 returns-then-is_decimal c =
     front_is c.args.text.now c.read_digits-end.result.0 c.read_digits-end.result.1 c.read_digits-end.ensures.end c.read_digits-end.ensures.value (c.is_decimal.ensures.0 c.if-is_decimal.true)
 
 pub returns-else-end-gt0 : goal.returns-else-end-gt0
-returns-else-end-gt0 c =
-    front_none c.args.text.now c.read_digits-end.result.0 c.read_digits-end.ensures.end (λ some is. elim c.else-end-gt0.branch [
-      | else-end-gt0-via-then-end-gt0+else-is_decimal w ↦ (let yes = w.is_decimal.ensures.1 is in absurd (search rules))
-      | else-end-gt0-via-else-end-gt0 w ↦ omega (arith, some)
-    ])
+returns-else-end-gt0 c = grind (arith, common_steps, front_none)

@@ -1,4 +1,5 @@
 -- By cases of the first digit: 0 stands alone, and twenty digits that begin with 1 are too many exactly if their value wraps.
+use Rattle.std.proofs.lemmas.Grind.{common_steps}
 use Rattle.std.proofs.Common.{arith}
 use Rattle.gc_graph.proofs.Decimals.{are_first, after_zero, after_others, short_after_one, twenty_after_one, long_after_one}
 use Rattle.gc_graph.proofs.text.decimals.is_decimal.Goals as goal
@@ -16,6 +17,4 @@ pub returns-else-count-eq20 : goal.returns-else-count-eq20
 returns-else-count-eq20 c = long_after_one c.args.text.now c.args.count (omega arith) (omega arith) (are_first c.args.text.now c.args.count c.requires.some c.requires.digits)
 
 pub returns-in_default : goal.returns-in_default
-returns-in_default c =
-    let are = are_first c.args.text.now c.args.count c.requires.some c.requires.digits in
-    after_others c.args.text.now c.args.count c.requires.some (omega (arith, are.range, c.in_default)) are
+returns-in_default c = grind (arith, common_steps, are_first, after_others)

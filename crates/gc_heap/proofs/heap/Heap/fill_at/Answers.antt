@@ -1,6 +1,5 @@
 -- The object is known to take the value, so one written word is what the machine's `Put` leaves, and no link changes.
-use Rattle.std.proofs.Common.{◌≡◌, ◌<◌, length, sym, subst}
-use Rattle.std.specs.Prelude.{slice_index}
+use Rattle.std.proofs.Common.{◌<◌, length, sym, subst}
 use Rattle.gc_heap.specs.contracts.heap.Heap.{the_view}
 use Rattle.gc_heap.specs.Heap.{HeapWords}
 use Rattle.gc_heap.specs.Filling.{TakesFields}
@@ -15,10 +14,9 @@ filled c =
     let len = c.requires.field.0 in
     let takes : TakesFields h c.args.s c.args.object.0 len = subst (λ h. TakesFields h c.args.s c.args.object.0 len) (sym c.self.view_is) c.requires.field.1 in
     let less : c.args.t < length h.roots = subst (λ (h : HeapWords). c.args.t < length h.roots) (sym c.self.view_is) c.requires.giver in
-    let read : c.index.result.now ≡ slice_index h.roots c.args.t = read_root h h.roots c.args.t _ (λ i. h.roots) less c.index.ensures in
     subst (λ g. Fills g c.args.s c.args.object.0 c.args.i c.args.t c.index.result.now (record { space = c.set_field.new.self; roots = h.roots; mutators = h.mutators })) c.self.view_is
     (subst (λ s. Fills h c.args.s c.args.object.0 c.args.i c.args.t c.index.result.now (record { space = s; roots = h.roots; mutators = h.mutators })) (sym c.set_field.ensures.words)
-    (fills h c.args.s c.args.object.0 c.args.i len c.args.t c.index.result.now c.self.invariant takes c.requires.field.2 less read))
+    (fills h c.args.s c.args.object.0 c.args.i len c.args.t c.index.result.now c.self.invariant takes c.requires.field.2 less (read_root h h.roots c.args.t _ (λ i. h.roots) less c.index.ensures)))
 
 pub invariant_of-self : goal.invariant_of-self
 invariant_of-self c = (filled c).heap

@@ -1,5 +1,5 @@
 -- The root's word, read as a value, shows what the machine's `Look` shows, and no word changes.
-use Rattle.std.proofs.Common.{◌≡◌, ◌≤◌, length, ap, ◌∙◌, subst, arith}
+use Rattle.std.proofs.Common.{◌≡◌, ◌≤◌, length, ap, ◌∙◌, subst, arith, refl}
 use Rattle.std.specs.Prelude.{slice_index}
 use Rattle.gc_graph.specs.Slots.{roots_of}
 use Rattle.gc_graph.specs.Machine.{view_of}
@@ -10,7 +10,6 @@ use Rattle.gc_heap.proofs.Steps.{looked}
 use Rattle.gc_heap.proofs.Links.{links_kept}
 use Rattle.gc_heap.proofs.heap.Heap.look.Goals as goal
 use Rattle.gc_graph.specs.declared.command.Op.TheVariants.{Look}
-use Rattle.std.proofs.Common.{refl}
 
 pub returns-clause-performs : goal.returns-clause-performs
 returns-clause-performs c =

@@ -6,13 +6,11 @@ use Rattle.gc_words.specs.Word.{word_of}
 use Rattle.gc_words.specs.Space.{SpaceWords, CanPlace, end_of, with_object}
 use Rattle.gc_words.specs.declared.header.Header.{Header}
 use Rattle.gc_heap.specs.contracts.heap.Heap.{the_view}
-use Rattle.gc_heap.specs.Heap.{HeapWords, IsHeap, KeepsLinks}
+use Rattle.gc_heap.specs.Heap.{HeapWords, IsHeap}
 use Rattle.gc_heap.specs.Filling.{TakesFields}
 use Rattle.gc_heap.proofs.Commands.{made_heap}
 use Rattle.gc_heap.proofs.Filling.{new_takes}
-use Rattle.gc_heap.proofs.Steps.{MakesAtEnd, made, with_new}
-use Rattle.gc_graph.specs.declared.reply.Reply.TheVariants.{Made}
-use Rattle.gc_heap.proofs.Links.{links_placed}
+use Rattle.gc_heap.proofs.Steps.{made, with_new}
 use Rattle.gc_heap.proofs.heap.Heap.make_at.Goals as goal
 
 pub invariant_of-self : goal.invariant_of-self
@@ -20,48 +18,20 @@ invariant_of-self c =
     let s : SpaceWords = c.self.inside.space in
     let header : Header = record { raw = c.args.raw; kind = c.args.kind; len = c.args.len } in
     let can : CanPlace s header = record { shaped = c.self.invariant.space; header = record { kind = omega arith; len = omega arith }; room = c.has_room.ensures.0 c.if-not-has_room.false } in
-    let space : c.place-at.new.self ≡ with_object s header = c.place-at.ensures.words ∙ ap (with_object s) c.header_of.ensures in
     let word : c.encode.result ≡ word_of (Ref (end_of s)) = c.encode.ensures.word ∙ ap (λ n. 2 * n) c.place-at.ensures.at in
     let h : HeapWords = record (the_view c.self.inside) { space = s } in
-    let made : IsHeap (record { space = with_object s header; roots = slice_set h.roots c.args.place (word_of (Ref (end_of s))); mutators = h.mutators })
-    = made_heap h c.args.place header c.self.invariant can in
-    subst (λ x. IsHeap (record { space = x; roots = slice_set h.roots c.args.place c.encode.result; mutators = h.mutators })) (sym space)
-    (subst (λ w. IsHeap (record { space = with_object s header; roots = slice_set h.roots c.args.place w; mutators = h.mutators })) (sym word) made)
+    subst (λ x. IsHeap (record { space = x; roots = slice_set h.roots c.args.place c.encode.result; mutators = h.mutators })) (sym (c.place-at.ensures.words ∙ ap (with_object s) c.header_of.ensures))
+    (subst (λ w. IsHeap (record { space = with_object s header; roots = slice_set h.roots c.args.place w; mutators = h.mutators })) (sym word) (made_heap h c.args.place header c.self.invariant can))
 
 pub returns-clause-sound : goal.returns-clause-sound
 returns-clause-sound c =
     let s : SpaceWords = c.self.inside.space in
     let header : Header = record { raw = c.args.raw; kind = c.args.kind; len = c.args.len } in
     let can : CanPlace s header = record { shaped = c.self.invariant.space; header = record { kind = omega arith; len = omega arith }; room = c.has_room.ensures.0 c.if-not-has_room.false } in
-    let space : c.place-at.new.self ≡ with_object s header = c.place-at.ensures.words ∙ ap (with_object s) c.header_of.ensures in
     let word : c.encode.result ≡ word_of (Ref (end_of s)) = c.encode.ensures.word ∙ ap (λ n. 2 * n) c.place-at.ensures.at in
     let h : HeapWords = record (the_view c.self.inside) { space = s } in
-    let made : IsHeap (record { space = with_object s header; roots = slice_set h.roots c.args.place (word_of (Ref (end_of s))); mutators = h.mutators })
-    = made_heap h c.args.place header c.self.invariant can in
-    subst (λ x. IsHeap (record { space = x; roots = slice_set h.roots c.args.place c.encode.result; mutators = h.mutators })) (sym space)
-    (subst (λ w. IsHeap (record { space = with_object s header; roots = slice_set h.roots c.args.place w; mutators = h.mutators })) (sym word) made)
-
-pub returns-clause-links : goal.returns-clause-links
-returns-clause-links c =
-    let s : SpaceWords = c.self.inside.space in
-    let header : Header = record { raw = c.args.raw; kind = c.args.kind; len = c.args.len } in
-    let can : CanPlace s header = record { shaped = c.self.invariant.space; header = record { kind = omega arith; len = omega arith }; room = c.has_room.ensures.0 c.if-not-has_room.false } in
-    let space : c.place-at.new.self ≡ with_object s header = c.place-at.ensures.words ∙ ap (with_object s) c.header_of.ensures in
-    subst (λ (h : HeapWords). KeepsLinks h.space.words c.place-at.new.self.words) c.self.view_is
-    (subst (λ x. KeepsLinks s.words x.words) (sym space) (links_placed s header can))
-
-pub returns-clause-step : goal.returns-clause-step
-returns-clause-step c =
-    let s : SpaceWords = c.self.inside.space in
-    let header : Header = record { raw = c.args.raw; kind = c.args.kind; len = c.args.len } in
-    let can : CanPlace s header = record { shaped = c.self.invariant.space; header = record { kind = omega arith; len = omega arith }; room = c.has_room.ensures.0 c.if-not-has_room.false } in
-    let space : c.place-at.new.self ≡ with_object s header = c.place-at.ensures.words ∙ ap (with_object s) c.header_of.ensures in
-    let word : c.encode.result ≡ word_of (Ref (end_of s)) = c.encode.ensures.word ∙ ap (λ n. 2 * n) c.place-at.ensures.at in
-    let h : HeapWords = record (the_view c.self.inside) { space = s } in
-    let after : HeapWords = record { space = c.place-at.new.self; roots = slice_set h.roots c.args.place c.encode.result; mutators = h.mutators } in
-    let is : with_new h c.args.place header ≡ after = λ i. record { space = sym space i; roots = slice_set h.roots c.args.place (sym word i); mutators = h.mutators } in
-    subst (λ h. MakesAtEnd h c.args.place c.args.raw c.args.kind c.args.len Made after) c.self.view_is
-    (subst (MakesAtEnd h c.args.place c.args.raw c.args.kind c.args.len Made) is (made h c.args.place c.args.raw c.args.kind c.args.len c.self.invariant can))
+    subst (λ x. IsHeap (record { space = x; roots = slice_set h.roots c.args.place c.encode.result; mutators = h.mutators })) (sym (c.place-at.ensures.words ∙ ap (with_object s) c.header_of.ensures))
+    (subst (λ w. IsHeap (record { space = with_object s header; roots = slice_set h.roots c.args.place w; mutators = h.mutators })) (sym word) (made_heap h c.args.place header c.self.invariant can))
 
 pub returns-clause-fields : goal.returns-clause-fields
 returns-clause-fields c = λ made plain.

@@ -1,13 +1,8 @@
 -- What is made at the end is what the machine's `New` makes, because the object's name is the end.
-use Rattle.std.proofs.Common.{refl, false}
-use Rattle.gc_graph.specs.declared.command.Op.TheVariants.{New}
-use Rattle.gc_heap.proofs.Steps.{makes_at}
+use Rattle.gc_graph.proofs.Public.{new_step}
+use Rattle.std.proofs.lemmas.Grind.{common_steps}
+use Rattle.std.proofs.Common.{arith}
 use Rattle.gc_heap.proofs.heap.Heap.new_object.Goals as goal
 
 pub returns-clause-performs : goal.returns-clause-performs
-returns-clause-performs c = record {
-  step = makes_at c.args.self.now c.make_at.new.self c.args.m (New c.args.d c.args.kind c.args.len) c.args.d c.place.result false c.args.kind c.args.len c.make_at.result refl c.place.ensures.value c.make_at.ensures.step;
-  links = c.make_at.ensures.links;
-  size = c.make_at.ensures.size;
-  mutators = c.make_at.ensures.mutators;
-}
+returns-clause-performs c = grind (arith, common_steps, new_step)

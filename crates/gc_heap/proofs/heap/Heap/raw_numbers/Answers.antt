@@ -1,6 +1,6 @@
 -- The field words of the raw object in the slot are its numbers, and any other object has none.
-use Rattle.std.proofs.Common.{◌≡◌, ◌<◌, ◌≤◌, ℕ, List, [], ◌∷◌, map, length, Bool, Some, None, true, false, cond, refl, sym, ap, ◌∙◌, subst, arith}
-use Rattle.std.specs.Prelude.{slice_index}
+use Rattle.std.proofs.lemmas.Grind.{common_steps}
+use Rattle.std.proofs.Common.{◌≡◌, ◌<◌, ◌≤◌, ℕ, List, [], ◌∷◌, map, length, Bool, Some, None, true, cond, refl, sym, ap, ◌∙◌, subst, arith}
 use Rattle.gc_graph.specs.Graph.{Num, object_of, root}
 use Rattle.gc_graph.specs.Slots.{roots_of}
 use Rattle.gc_words.specs.Word.{value_of, field_value}
@@ -17,8 +17,7 @@ numbers_back header [] raw = refl
 numbers_back header (w ∷ words) raw = λ i. ap (λ raw. number_of (cond raw (Num w) (value_of w))) raw i ∷ numbers_back header words raw i
 
 numbers_or_none : (header : Header) (words : List ℕ) (raw : Bool) → header.raw ≡ raw → cond raw (Some words) None ≡ cond raw (Some (map number_of (map (field_value header) words))) None
-numbers_or_none header words true is = ap (λ ns. Some ns) (sym (numbers_back header words is))
-numbers_or_none header words false is = refl
+numbers_or_none header words raw is = grind (arith, common_steps, numbers_back)
 
 pub returns : goal.returns
 returns c =
@@ -26,8 +25,7 @@ returns c =
     let heap : IsHeap h = subst IsHeap c.self.view_is c.self.invariant in
     let count : roots_of h.mutators ≤ length h.roots = heap.roots in
     let less : c.place.result < length h.roots = omega (arith, c.place.ensures.bound, c.requires) in
-    let read : c.index-target.result.now ≡ slice_index h.roots c.place.result = read_root h _ c.place.result _ (ap (λ (h : HeapWords). h.roots) c.self.view_is) less c.index-target.ensures in
-    let p : Points h c.place.result c.in-Some.at.0 = points h c.place.result c.in-Some.at.0 _ heap less read c.in-Some.ensures in
+    let p : Points h c.place.result c.in-Some.at.0 = points h c.place.result c.in-Some.at.0 _ heap less (read_root h _ c.place.result _ (ap (λ (h : HeapWords). h.roots) c.self.view_is) less c.index-target.ensures) c.in-Some.ensures in
     c.raw_fields.ensures p.block (ap (λ (h : HeapWords). block_at h.space.words c.in-Some.at.0) c.self.view_is ∙ p.found)
     ∙ numbers_or_none p.block.header p.block.fields p.block.header.raw refl
     ∙ sym (ap numbers_in p.object)

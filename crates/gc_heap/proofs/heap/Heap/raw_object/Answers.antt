@@ -1,8 +1,8 @@
 -- The object in the slot has as many numbers as fields if it is raw, and else none, so the code tells what the graph has.
+use Rattle.std.proofs.lemmas.Grind.{common_steps}
 use Rattle.std.proofs.Common.{◌<◌, ◌≤◌, length, Some, None, cond, ap, ◌∙◌, subst, sym, arith}
 use Rattle.gc_graph.specs.Slots.{place, roots_of}
 use Rattle.gc_heap.specs.Heap.{HeapWords}
-use Rattle.gc_heap.specs.Filling.{TakesNumbers}
 use Rattle.gc_heap.proofs.Numbers.{IsThere, there, counted, takes_numbers}
 use Rattle.gc_heap.proofs.heap.Heap.raw_object.Goals as goal
 
@@ -27,5 +27,4 @@ returns-clause-count c =
     ap Some c.len.ensures ∙ ap (λ raw. cond raw (Some c.header-header.result.len) None) (sym c.if-not-is_raw.false ∙ c.is_raw.ensures) ∙ counted c.args.self.now c.args.m c.args.slot c.in_ok-at.at.0 c.header-header.result (found c)
 
 pub returns-clause-takes : goal.returns-clause-takes
-returns-clause-takes c =
-    subst (TakesNumbers c.args.self.now (place c.args.slot c.args.m) c.in_ok-at.at.0) (sym c.len.ensures) (takes_numbers c.args.self.now (place c.args.slot c.args.m) c.in_ok-at.at.0 c.header-header.result (sym c.is_raw.ensures ∙ c.if-not-is_raw.false) (found c))
+returns-clause-takes c = grind (arith, common_steps, takes_numbers, found)

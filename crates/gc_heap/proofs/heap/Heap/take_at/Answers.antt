@@ -12,7 +12,7 @@ use Rattle.gc_words.specs.Closed.{IsFieldWord}
 use Rattle.gc_words.proofs.Public.{closed_field_read}
 use Rattle.gc_heap.specs.contracts.heap.Heap.{the_view}
 use Rattle.gc_heap.specs.Heap.{HeapWords, IsHeap, graph_in}
-use Rattle.gc_heap.proofs.Commands.{Points, points, header_is, read_root, not_there, got_no_field, got, taken_heap}
+use Rattle.gc_heap.proofs.Commands.{Points, points, header_is, read_root, not_there, got_no_field, got}
 use Rattle.gc_heap.proofs.heap.Heap.take_at.Goals as goal
 
 pub returns-then-not-has_field-clause-graph : goal.returns-then-not-has_field-clause-graph
@@ -34,11 +34,6 @@ root_word-word-requires c =
     let p : Points h c.args.s c.in-Some.at.0 = points h c.args.s c.in-Some.at.0 _ c.self.invariant less (read_root h h.roots c.args.s _ (λ i. h.roots) less c.index-target.ensures) c.in-Some.ensures in
     taken h c.args.s c.in-Some.at.0 c.args.i c.field-field.result c.header-header.result p c.self.invariant c.header-header.ensures c.field-field.ensures
 
-pub invariant_of-self : goal.invariant_of-self
-invariant_of-self c =
-    let h : HeapWords = the_view c.self.inside in
-    taken_heap h c.args.d c.root_word-word.result c.self.invariant c.root_word-word.ensures.word
-
 pub returns-clause-graph : goal.returns-clause-graph
 returns-clause-graph c =
     let h : HeapWords = the_view c.self.inside in
@@ -49,8 +44,3 @@ returns-clause-graph c =
     = c.root_word-word.ensures.value ∙ ap (λ g. field_value g c.field-field.result) (sym (header_is h c.args.s c.in-Some.at.0 c.header-header.result p c.header-header.ensures)) in
     let G : HeapWords → Type 0 = λ h. (let object = object_of (graph_in h).objects (root (graph_in h) c.args.s) in ◌≡◌ {A = Reply × Graph} (Saw (view_of (graph_in h).objects (value_of c.root_word-word.result)), graph_in after) (get_field (graph_in h) c.args.d object (field_of object c.args.i))) in
     subst G c.self.view_is (got h c.args.d c.args.s c.in-Some.at.0 c.args.i c.field-field.result c.root_word-word.result (view_of (graph_in h).objects (value_of c.root_word-word.result)) p c.field-field.ensures means refl)
-
-pub returns-clause-sound : goal.returns-clause-sound
-returns-clause-sound c =
-    let h : HeapWords = the_view c.self.inside in
-    taken_heap h c.args.d c.root_word-word.result c.self.invariant c.root_word-word.ensures.word

@@ -1,4 +1,5 @@
 -- The fields follow the object's link, as many as its header says, and end within the words.
+use Rattle.std.proofs.lemmas.Grind.{common_steps}
 use Rattle.std.proofs.Common.{◌≡◌, ℕ, ◌+◌, ◌-◌, ◌≤◌, length, take, drop, Some, sym, ◌∙◌, ap, subst, arith}
 use Rattle.gc_words.specs.Image.{Block, header_at, header_of, block_at}
 use Rattle.gc_words.specs.Space.{SpaceWords, IsSpace}
@@ -17,11 +18,7 @@ within s t a h same space b found header =
     omega (arith, fits, ap (λ (h : Header). h.len) is, ap (λ (s : SpaceWords). length s.words) same)
 
 pub slice_bounds-result-end : goal.slice_bounds-result-end
-slice_bounds-result-end c =
-    let b : (b : Block) × (block_at c.args.self.now.words c.args.at.0 ≡ Some b) = some_of (block_at c.args.self.now.words c.args.at.0) c.requires in
-    let end : c.args.at.0 + 2 + c.header.result.len ≤ length c.self.inside.words.items = within _ _ c.args.at.0 c.header.result c.self.view_is c.self.invariant.0 b.0 b.1 c.header.ensures in
-    let inside : length c.deref.result.now ≡ length c.self.inside.words.items = ap length c.deref.ensures.value in
-    omega (arith, c.field_index-start.ensures, c.from.ensures, c.len.ensures, c.deref.ensures.len, inside, end)
+slice_bounds-result-end c = grind (arith, common_steps, some_of, within)
 
 -- the words from the first field on, as many as the header says
 pub returns-clause-value : goal.returns-clause-value

@@ -20,11 +20,6 @@ unwrap-requires c =
     let r : NextRead c.args.self.now.words c.args.at.0 = next_seen _ _ c.args.at.0 c.self.view_is c.self.invariant.0 c.requires in
     subst IsSome (sym r.found ∙ found _ _ c.deref.result.now c.args.at.0 _ c.deref.ensures.value c.self.view_is c.next_start.ensures) refl
 
-pub returns-clause-next : goal.returns-clause-next
-returns-clause-next c =
-    let r : NextRead c.args.self.now.words c.args.at.0 = next_seen _ _ c.args.at.0 c.self.view_is c.self.invariant.0 c.requires in
-    found _ _ c.deref.result.now c.args.at.0 _ c.deref.ensures.value c.self.view_is c.next_start.ensures ∙ c.unwrap.ensures
-
 pub returns-clause-place : goal.returns-clause-place
 returns-clause-place c = λ h e.
     let r : NextRead c.args.self.now.words c.args.at.0 = next_seen _ _ c.args.at.0 c.self.view_is c.self.invariant.0 c.requires in

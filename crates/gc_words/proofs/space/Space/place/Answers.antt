@@ -14,12 +14,6 @@ made c =
 pub invariant_of-self : goal.invariant_of-self
 invariant_of-self c = ((made c).space, omega (arith, c.self.invariant.1))
 
-pub returns-clause-words : goal.returns-clause-words
-returns-clause-words c = (made c).words
-
-pub returns-clause-objects : goal.returns-clause-objects
-returns-clause-objects c = (made c).objects
-
 pub returns-clause-shaped : goal.returns-clause-shaped
 returns-clause-shaped c = (made c).space
 

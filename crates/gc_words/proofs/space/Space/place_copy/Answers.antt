@@ -1,12 +1,13 @@
 -- A header word, a 0 for the link and the other object's field words, put at the end, are the space with its copy.
-use Rattle.std.proofs.Common.{◌≡◌, ℕ, ◌≤◌, ◌∷◌, ◌++◌, [], List, length, Some, sym, ◌∙◌, ap, subst, cond, is_ok, arith, append_assoc}
+use Rattle.std.proofs.lemmas.Grind.{common_steps}
+use Rattle.std.proofs.Common.{◌≡◌, ℕ, ◌≤◌, ◌∷◌, ◌++◌, [], List, length, Some, ap, is_ok, arith, append_assoc}
 use Rattle.std.specs.Prelude.{IsSome}
 use Rattle.gc_words.specs.Word.{header_word}
 use Rattle.gc_words.specs.Image.{Block, header_at, header_of, block_at}
 use Rattle.gc_words.specs.Spelling.{IsBlock}
 use Rattle.gc_words.specs.Space.{SpaceWords, IsSpace, HasRoomFor, with_block}
 use Rattle.gc_words.proofs.Starts.{stands_in}
-use Rattle.gc_words.proofs.Writes.{CanPlaceBlock, some_of, block_placed}
+use Rattle.gc_words.proofs.Writes.{some_of, block_placed}
 use Rattle.gc_words.proofs.space.Space.place_copy.Goals as goal
 
 -- the space then has the copy
@@ -15,11 +16,7 @@ pub record Copies (s t : SpaceWords) (b : Block) : Type 0 where
   pub words : s ≡ with_block t b
 
 copied : (s t : SpaceWords) (b : Block) (new : List ℕ) → s ≡ t → IsSpace s → IsBlock b → HasRoomFor t b.header.len → new ≡ ((s.words ++ header_word b.header ∷ []) ++ 0 ∷ []) ++ b.fields → Copies (record { size = s.size; words = new }) t b
-copied s t b new same space whole room made =
-    let flat : new ≡ s.words ++ header_word b.header ∷ 0 ∷ b.fields = made ∙ append_assoc (s.words ++ header_word b.header ∷ []) (0 ∷ []) b.fields ∙ append_assoc s.words (header_word b.header ∷ []) (0 ∷ b.fields) in
-    let can : CanPlaceBlock s b = record { shaped = space; whole = whole; room = subst (λ (s : SpaceWords). HasRoomFor s b.header.len) (sym same) room } in
-    subst (λ words. Copies (record { size = s.size; words = words }) t b) (sym flat)
-    (record { space = (block_placed s b can).0; words = ap (λ (s : SpaceWords). with_block s b) same })
+copied s t b new same space whole room made = grind (arith, common_steps, made, append_assoc, block_placed)
 
 -- the object that is copied, with facts about it
 pub record Copied (s : SpaceWords) (a : ℕ) : Type 0 where
@@ -45,11 +42,7 @@ unwrap-requires c =
     c.extend_from_slice.ensures.succeeds (omega (arith, room, count, (o.whole).fields, same, size, low, high, c.self.invariant.1, c.self.inside.words.ok.0, c.push_reserved.ensures.len, c.push_reserved-2.ensures.len, c.push_reserved.ensures.capacity, c.push_reserved-2.ensures.capacity))
 
 made : (c : goal.After-unwrap) → (o : Copied c.args.from.now c.args.at.0) → Copies (record { size = c.self.inside.size; words = c.extend_from_slice.new.self.items }) c.args.self.now o.block
-made c o =
-    let word : c.word.result ≡ header_word o.block.header = c.word.ensures.word ∙ ap header_word (let both : Some c.header.result ≡ Some o.block.header = sym c.header.ensures ∙ o.header in cc) in
-    copied (record { size = c.self.inside.size; words = c.self.inside.words.items }) c.args.self.now o.block c.extend_from_slice.new.self.items c.self.view_is c.self.invariant.0 o.whole (c.requires.room o.block.header o.header)
-    (c.extend_from_slice.ensures.items ∙ ap (λ r. cond (is_ok r) (c.push_reserved-2.new.self.items ++ c.fields.result.now) c.push_reserved-2.new.self.items) c.unwrap.ensures
-    ∙ (λ i. (c.push_reserved-2.ensures.items ∙ ap (λ xs. xs ++ 0 ∷ []) (c.push_reserved.ensures.items ∙ ap (λ w. c.self.inside.words.items ++ w ∷ []) word)) i ++ c.fields.ensures.value o.block o.found i))
+made c o = grind (arith, common_steps, copied, is_ok)
 
 pub invariant_of-self : goal.invariant_of-self
 invariant_of-self c = ((made c (copied_object c.args.from.now c.args.at.0 c.fields.ensures.shaped c.requires.start)).space, omega (arith, c.self.invariant.1, c.push_reserved.ensures.capacity, c.push_reserved-2.ensures.capacity, c.extend_from_slice.ensures.capacity))
@@ -58,9 +51,4 @@ pub returns-clause-shaped : goal.returns-clause-shaped
 returns-clause-shaped c = (made c (copied_object c.args.from.now c.args.at.0 c.fields.ensures.shaped c.requires.start)).space
 
 pub returns-clause-words : goal.returns-clause-words
-returns-clause-words c = λ b found. (made c (record {
-  block = b;
-  found = found;
-  whole = (stands_in c.args.from.now.words c.args.at.0 b (c.fields.ensures.shaped).walked found).whole;
-  header = ap header_of found;
-})).words
+returns-clause-words c = λ b found. grind (arith, common_steps, made, stands_in)

@@ -18,6 +18,3 @@ returns-clause-objects c = (field_at_place _ _ c.args.at.0 c.args.i c.args.word 
 
 pub returns-clause-shaped : goal.returns-clause-shaped
 returns-clause-shaped c = (field_at_place _ _ c.args.at.0 c.args.i c.args.word c.field_index.result c.self.view_is c.field_index.ensures c.self.invariant.0 c.requires).0
-
-pub returns-clause-field : goal.returns-clause-field
-returns-clause-field c = (field_at_place _ _ c.args.at.0 c.args.i c.args.word c.field_index.result c.self.view_is c.field_index.ensures c.self.invariant.0 c.requires).2

@@ -1,5 +1,6 @@
 -- Each piece that is read goes on in the same text, and its fault is a fault of the text.
-use Rattle.std.proofs.Common.{◌≡◌, ◌+◌, ℕ, Some, false, rules, arith, drop, sym, ap, ◌∙◌, subst, Fits, w64}
+use Rattle.std.proofs.lemmas.Grind.{common_steps}
+use Rattle.std.proofs.Common.{◌≡◌, ◌+◌, ℕ, Some, false, rules, arith, drop, sym, ap, ◌∙◌, subst}
 use Rattle.std.proofs.lemmas.Result.{err_from_is_err_and}
 use Rattle.gc_graph.specs.ReadFaults.{MayFailReading}
 use Rattle.gc_graph.specs.Streams.{source_failed}
@@ -18,9 +19,7 @@ returns-in_err-count-clause-stops g c text rest h large =
     c.read_piece.ensures.stops text rest (c.loop-count.invariant.within text rest (rw (sym c.drop_taken.ensures.same) at h)) (search rules) ∙ ap (λ (n : ℕ). Some (drop (n + 1) text)) limit
 
 pub overflow_add-count : goal.overflow_add-count
-overflow_add-count g c =
-    let fits : Fits w64 c.self-in-loop-count.inside.limit = search rules in
-    omega (arith, fits, ap (λ (s : Progress). s.limit) c.self-in-loop-count.view_is, c.in_ok-count.ensures.counts, c.loop-count.invariant.read, c.in_ok-count.ensures.limit)
+overflow_add-count g c = grind (arith, common_steps)
 
 pub loop-count-preserved : goal.loop-count-preserved
 loop-count-preserved g c =

@@ -25,9 +25,8 @@ returns-clause-within g c text rest h =
     let step = moved text rest _ _ _ piece within c.in-Ok.ensures.bytes.0 in
     let read : c.self.inside.read + length piece ≡ c.self.inside.read + c.in-Ok.count = omega (arith, c.in-Ok.ensures.bound.1) in
     let added : is_ok c.extend_from_slice.result ≡ true = search rules in
-    let items : c.extend_from_slice.new.self.items ≡ c.self.inside.bytes.items ++ piece = search (rules, take-append-le) in
-    let waiting : drop c.self.inside.at c.extend_from_slice.new.self.items ≡ drop c.self.inside.at c.self.inside.bytes.items ++ piece =
-    ap (drop c.self.inside.at) items ∙ drop-append-le c.self.inside.at c.self.inside.bytes.items piece (omega (arith, c.self.invariant)) in
+    let waiting : drop c.self.inside.at c.extend_from_slice.new.self.items ≡ drop c.self.inside.at c.self.inside.bytes.items ++ piece
+    = ap (drop c.self.inside.at) (search (rules, take-append-le)) ∙ drop-append-le c.self.inside.at c.self.inside.bytes.items piece (omega (arith, c.self.invariant)) in
     let left = ap (λ (n : ℕ). drop n text) read in
     record {
       left_is = step.left ∙ ap (λ (l : List ℕ). Some l) left;
