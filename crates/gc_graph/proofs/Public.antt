@@ -10,4 +10,4 @@ pub use Rattle.gc_graph.proofs.PieceSteps.{all_waits, ends_there, if_known, no_b
 pub use Rattle.gc_graph.proofs.Replies.{fresh_unused, matched_itself, own_pairs}
 pub use Rattle.gc_graph.proofs.SentText.{front_sent, nothing_sent, sent_at_last, sent_then}
 pub use Rattle.gc_graph.proofs.Stepping.{in_place, new_step, step_roots, with_free}
-pub use Rattle.gc_graph.proofs.TokenParsers.{bind_some, end_again, end_found, name_case, number_at_again, number_at_found, onto, positive, some, some_is, token_at_again, token_at_found}
+pub use Rattle.gc_graph.proofs.TokenParsers.{bind_some, end_again, end_found, number_at_again, number_at_found, onto, positive, some_is, token_at_again, token_at_found}

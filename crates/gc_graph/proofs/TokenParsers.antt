@@ -55,10 +55,6 @@ pub end_found : {A : Type 0} (x : A) (tokens : Tokens) (y : A) → if_all_taken 
 unfolding if_all_taken
 end_found x tokens y e = grind (arith, common_steps, some_is)
 
--- the token is the wanted one or another
-pub name_case : {A : Type 0} (P : List ℕ → Type 0) (name wanted : List ℕ) (x y : Option A) (r : A) → cond (bytes_eq name wanted) x y ≡ Some r → (x ≡ Some r → P wanted) → (y ≡ Some r → P name) → P name
-name_case P name wanted x y r e f g = grind (arith, common_steps, bytes_eq-Decides)
-
 -- a number above zero
 pub positive : {A : Type 0} (n : ℕ) (b : Bool) (x : Option A) (s : A) → eqb n 0 ≡ b → cond b None x ≡ Some s → (1 ≤ n) × (x ≡ Some s)
 positive n b x s is e = grind (arith, common_steps, eqb-false)

@@ -1,9 +1,10 @@
 -- Lemmas about the trace text: its tokens and lines, its one reading, how it is read and written; and about plays, flips and reports.
 pub mod SmallNumbers
+pub mod FrontTokens
 pub mod Ranges
-pub mod EventTokens
+pub mod NamedEvents
+pub mod Headings
 pub mod EventLines
-pub mod ParsedTokens
 pub mod OneReading
 pub mod EventFronts
 pub mod FrontFaults

@@ -4,58 +4,23 @@ use Rattle.std.proofs.Common.{◌≡◌, ◌≢◌, ℕ, ◌+◌, List, [], ◌�
 use Rattle.std.specs.List.{AllByRecursion, flat_map}
 use Rattle.std.proofs.lemmas.List.{append-nil}
 use Rattle.std.proofs.lemmas.List.Concat.{flat_map-cons}
-use Rattle.std.proofs.lemmas.Option.{same_Some}
-use Rattle.gc_graph.specs.Lines.{newline, joined, line, tokens_of}
+use Rattle.gc_graph.specs.Lines.{newline, joined, tokens_of}
 use Rattle.gc_plan.specs.declared.event.Event.{Event}
-use Rattle.gc_trace.specs.Internal.Parsers.{event_of, version_at, sizes_at}
-use Rattle.gc_trace.specs.Grammar.{Recording, event_tokens, event_line, version_tokens, size_tokens, trace_heading, trace_text, HasLine, IsOf, IsHeading, IsRecording, IsTraceText}
+use Rattle.gc_trace.specs.Grammar.{Recording, event_tokens, event_line, trace_heading, trace_text, HasLine, IsOf, IsRecording, IsTraceText}
 use Rattle.gc_trace.specs.Faults.{HasNoHeading, GoodBefore, BeginsWithNoEvent, HasBadLine, HasStranger, IsTraceFaultOf, IsReadAsTrace}
 use Rattle.gc_trace.specs.declared.fault.TraceFault.{TraceFault}
 use Rattle.gc_trace.specs.declared.fault.TraceFault.TheVariants.{Read, TooLarge, BadHeader, BadLine, NoSuchMutator, NoMemory}
-use Rattle.gc_trace.proofs.EventTokens.{event_again, version_again, sizes_again}
-use Rattle.gc_trace.proofs.EventLines.{tokens_of-event, HasNo-event, heading_lines}
+use Rattle.gc_trace.proofs.Headings.{heading_injective, small_heading}
+use Rattle.gc_trace.proofs.NamedEvents.{named_event, event_again}
+use Rattle.gc_trace.proofs.EventLines.{event_line-more, tokens_of-event, HasNo-event}
 use Rattle.gc_graph.proofs.Public.{one_cut}
-
-pub event_line-more : (event : Event) (more : List ℕ) → event_line event ++ more ≡ joined (event_tokens event) ++ newline ∷ more
-unfolding event_line
-event_line-more event more = append_assoc (joined (event_tokens event)) (newline ∷ []) more
 
 -- two event lines at the start of the same text are the same
 event_line_injective : (version : ℕ) (e d : Event) (x y : List ℕ) → HasLine version e → HasLine version d → event_line e ++ x ≡ event_line d ++ y → (e ≡ d) × (x ≡ y)
 event_line_injective version e d x y p q same =
     let cut = one_cut newline (joined (event_tokens e)) x (joined (event_tokens d)) y (HasNo-event version e p) (HasNo-event version d q) (sym (event_line-more e x) ∙ same ∙ event_line-more d y) in
     let tokens : event_tokens e ≡ event_tokens d = sym (tokens_of-event version e p) ∙ ap tokens_of cut.0 ∙ tokens_of-event version d q in
-    (same_Some e d (sym (event_again version e p) ∙ ap (event_of version) tokens ∙ event_again version d q), cut.1)
-
-pub heading-more : (version size mutators : ℕ) (more : List ℕ) → trace_heading version size mutators ++ more ≡ joined (version_tokens version) ++ newline ∷ (joined (size_tokens size mutators) ++ newline ∷ more)
-unfolding trace_heading
-heading-more version size mutators more =
-    append_assoc (line (version_tokens version)) (line (size_tokens size mutators)) more
-    ∙ append_assoc (joined (version_tokens version)) (newline ∷ []) (line (size_tokens size mutators) ++ more)
-    ∙ ap (λ (t : List ℕ). joined (version_tokens version) ++ newline ∷ t) (append_assoc (joined (size_tokens size mutators)) (newline ∷ []) more)
-
--- the same version and sizes
-pub record SameHeading (v s m w t n : ℕ) : Type 0 where
-  pub version : v ≡ w
-  pub size : s ≡ t
-  pub mutators : m ≡ n
-
-heading_injective : (v s m w t n : ℕ) (x y : List ℕ) → IsHeading v s m → IsHeading w t n → trace_heading v s m ++ x ≡ trace_heading w t n ++ y → SameHeading v s m w t n × (x ≡ y)
-heading_injective v s m w t n x y p q same =
-    let a = heading_lines v s m p in
-    let b = heading_lines w t n q in
-    let first = one_cut newline (joined (version_tokens v)) (joined (size_tokens s m) ++ newline ∷ x) (joined (version_tokens w)) (joined (size_tokens t n) ++ newline ∷ y) a.first_line b.first_line (sym (heading-more v s m x) ∙ same ∙ heading-more w t n y) in
-    let second = one_cut newline (joined (size_tokens s m)) x (joined (size_tokens t n)) y a.second_line b.second_line first.1 in
-    let versions : version_tokens v ≡ version_tokens w = sym a.first_tokens ∙ ap tokens_of first.0 ∙ b.first_tokens in
-    let sizes : size_tokens s m ≡ size_tokens t n = sym a.second_tokens ∙ ap tokens_of second.0 ∙ b.second_tokens in
-    let both : ◌≡◌ {A = ℕ × ℕ} (s, m) (t, n) = same_Some (s, m) (t, n) (sym (sizes_again v s m p) ∙ ap sizes_at sizes ∙ sizes_again w t n q) in (
-      record {
-        version = same_Some v w (sym (version_again v s m p) ∙ ap version_at versions ∙ version_again w t n q);
-        size = ap (λ (p : ℕ × ℕ). p.0) both;
-        mutators = ap (λ (p : ℕ × ℕ). p.1) both;
-      },
-      second.1,
-    )
+    (sym (event_again version e p) ∙ ap named_event tokens ∙ event_again version d q, cut.1)
 
 -- ---- the end of the good lines
 
@@ -93,7 +58,7 @@ unfolding trace_text
 one_stop t u x y text p q =
     let l : text ≡ trace_heading t.version t.size t.mutators ++ (lines t.events ++ x) = p.1 ∙ append_assoc (trace_heading t.version t.size t.mutators) (lines t.events) x in
     let r : text ≡ trace_heading u.version u.size u.mutators ++ (lines u.events ++ y) = q.1 ∙ append_assoc (trace_heading u.version u.size u.mutators) (lines u.events) y in
-    let head = heading_injective t.version t.size t.mutators u.version u.size u.mutators (lines t.events ++ x) (lines u.events ++ y) p.0.heading q.0.heading (sym l ∙ r) in
+    let head = heading_injective t.version t.size t.mutators u.version u.size u.mutators (lines t.events ++ x) (lines u.events ++ y) (small_heading t.version t.size t.mutators p.0.heading) (small_heading u.version u.size u.mutators q.0.heading) (sym l ∙ r) in
     let fit : Fit u.version u.mutators t.events = subst (λ (v : ℕ). Fit v u.mutators t.events) head.0.version (subst (λ (m : ℕ). Fit t.version m t.events) head.0.mutators p.0.events) in
     let stop : Stops u.version u.mutators x = subst (λ (v : ℕ). Stops v u.mutators x) head.0.version (subst (λ (m : ℕ). Stops t.version m x) head.0.mutators p.2) in
     let rest = same_stop u.version u.mutators t.events u.events x y fit q.0.events stop q.2 head.1 in (

@@ -1,24 +1,24 @@
 -- The worked rows.
 use Rattle.std.proofs.lemmas.Grind.{common_steps}
-use Rattle.std.proofs.Common.{◌≡◌, ◌≢◌, ℕ, ◌≤◌, List, [], ◌∷◌, ◌++◌, length, leb, refl, sym, arith, true, None}
+use Rattle.std.proofs.Common.{◌≡◌, ◌≢◌, ℕ, ◌≤◌, List, [], ◌∷◌, ◌++◌, length, leb, refl, sym, ap, ◌∙◌, append_assoc, length-append, arith, true}
 use Rattle.std.proofs.lemmas.Bool.{leb-true}
 use Rattle.std.proofs.lemmas.List.{append-nil}
 use Rattle.std.specs.Prelude.{codes}
 use Rattle.std.specs.Fmt.{digits}
-use Rattle.gc_graph.specs.Lines.{newline, ended, tokens_of}
+use Rattle.gc_graph.specs.Lines.{newline, ended, joined}
 use Rattle.gc_graph.specs.Slots.{own_slot, shared_slot}
-use Rattle.gc_graph.specs.Tokens.{number_of, number_at, token_at, if_all_taken}
 use Rattle.gc_graph.specs.declared.command.Op.TheVariants as ops
 use Rattle.gc_plan.specs.declared.step.Step.TheVariants as steps
 use Rattle.gc_graph.proofs.Public.{lacks, HasNo-lacks}
 use Rattle.gc_plan.specs.declared.event.Event.TheVariants.{Mutate, Collect}
-use Rattle.gc_trace.specs.Grammar.{Recording, slot, op_tokens, step_tokens, event_tokens, event_line, version_tokens, size_tokens, trace_heading, trace_text, IsTraceText}
-use Rattle.gc_trace.specs.Faults.{trace_limit, BeginsWithNoEvent, IsTraceFaultOf}
-use Rattle.gc_trace.specs.Internal.Parsers.{slot_of, slot_at, positive_at, op_at, begin_at, step_at, command_of, collect_of, event_of, version_at, sizes_at}
+use Rattle.gc_trace.specs.Grammar.{Recording, slot, op_tokens, step_tokens, event_tokens, event_line, version_tokens, size_tokens, trace_heading, trace_text, IsHeading, HasLine, IsTraceText}
+use Rattle.gc_trace.specs.Faults.{trace_limit, HasNoHeading, BeginsWithNoEvent, IsTraceFaultOf}
+use Rattle.gc_trace.proofs.Headings.{AreSmall, heading_spelled, heading_injective, small_heading}
+use Rattle.gc_trace.proofs.NamedEvents.{named_line}
 use Rattle.gc_trace.specs.Replies.{view_tokens, reply_tokens, step_reply_tokens, answer_tokens}
 use Rattle.gc_trace.specs.Rows.{small, TextRows, SizedRows, RawRows, LineRows}
 use Rattle.gc_trace.specs.declared.fault.TraceFault.TheVariants.{BadHeader, BadLine}
-use Rattle.gc_trace.proofs.FrontFaults.{no_line, no_event, no_first, no_version, no_second, no_sizes}
+use Rattle.gc_trace.proofs.FrontFaults.{no_line, no_event, no_heading}
 
 pub line_rows : LineRows
 unfolding digits slot op_tokens step_tokens event_tokens event_line version_tokens size_tokens trace_heading trace_text view_tokens reply_tokens step_reply_tokens answer_tokens
@@ -50,33 +50,35 @@ some_line : (line : List ℕ) → ended line ≢ []
 some_line line e = grind (arith, common_steps)
 
 -- the whole of line 3 is bad
-third_line : (version : ℕ) (line : List ℕ) → 1 ≤ version → version ≤ 3 → lacks newline line ≡ true → event_of version (tokens_of line) ≡ None → leb (length (first version ++ ended line)) trace_limit ≡ true → IsTraceFaultOf (BadLine 3) (first version ++ ended line)
+third_line : (version : ℕ) (line : List ℕ) → 1 ≤ version → version ≤ 3 → lacks newline line ≡ true → (HasLine version (named_line line) → line ≢ joined (event_tokens (named_line line))) → leb (length (first version ++ ended line)) trace_limit ≡ true → IsTraceFaultOf (BadLine 3) (first version ++ ended line)
 third_line version line low high h none small-enough = third version (ended line) low high (some_line line) (no_event version (ended line) line [] refl (HasNo-lacks newline line h) none) small-enough
 
--- line 2 is bad
-second_line : (line : List ℕ) → lacks newline line ≡ true → sizes_at (tokens_of line) ≡ None → leb (length (codes "heaptrace 1\n" ++ ended line)) trace_limit ≡ true → IsTraceFaultOf BadHeader (codes "heaptrace 1\n" ++ ended line)
-second_line line h none small-enough = (
-  short (codes "heaptrace 1\n" ++ ended line) small-enough,
-  no_sizes (codes "heaptrace 1\n" ++ ended line) (codes "heaptrace 1") (ended line) line [] refl (HasNo-lacks newline (codes "heaptrace 1") refl) refl (HasNo-lacks newline line h) none,
-)
+-- the heading's numbers are not in range
+strange_heading : (v s m : ℕ) → AreSmall v s m → ¬ IsHeading v s m → leb (length (trace_heading v s m)) trace_limit ≡ true → IsTraceFaultOf BadHeader (trace_heading v s m)
+strange_heading v s m small strange small-enough = (short (trace_heading v s m) small-enough, no_heading v s m (trace_heading v s m) [] small (sym (append-nil (trace_heading v s m))) strange)
+
+-- with a line feed the text would be a heading and no more
+cut_heading : HasNoHeading (codes "heaptrace 1\nspace 8 mutators 1")
+unfolding digits version_tokens size_tokens trace_heading
+cut_heading version size mutators more fits is =
+    let whole : trace_heading version size mutators ++ (more ++ newline ∷ []) ≡ trace_heading 1 8 1 ++ [] = sym (append_assoc (trace_heading version size mutators) more (newline ∷ [])) ∙ ap (λ (t : List ℕ). t ++ newline ∷ []) (sym is) in
+    let rest = (heading_injective version size mutators 1 8 1 (more ++ newline ∷ []) [] (small_heading version size mutators fits) (omega arith, omega arith, omega arith) whole).1 in
+    absurd (omega (arith, ap length rest, length-append more (newline ∷ [])))
 
 pub text_rows : TextRows
-unfolding digits slot op_tokens step_tokens event_tokens event_line version_tokens size_tokens trace_heading number_of slot_of number_at slot_at token_at if_all_taken positive_at op_at step_at command_of collect_of event_of sizes_at
+unfolding digits slot op_tokens step_tokens event_tokens event_line version_tokens size_tokens trace_heading
 text_rows = record {
-  nothing = (short [] refl, no_first [] tt);
-  no_size = second_line (codes "space 0 mutators 1") refl refl refl;
-  many_mutators = second_line (codes "space 8 mutators 17") refl refl refl;
-  no_line_feed = (
-    short (codes "heaptrace 1\nspace 8 mutators 1") refl,
-    no_second (codes "heaptrace 1\nspace 8 mutators 1") (codes "heaptrace 1") (codes "space 8 mutators 1") refl (HasNo-lacks newline (codes "heaptrace 1") refl) (HasNo-lacks newline (codes "space 8 mutators 1") refl),
-  );
+  nothing = (short [] refl, λ v s m more fits is. grind (arith, common_steps, heading_spelled));
+  no_size = strange_heading 1 0 1 (omega arith, omega arith, omega arith) (λ fits. omega (arith, fits.2)) refl;
+  many_mutators = strange_heading 1 8 17 (omega arith, omega arith, omega arith) (λ fits. omega (arith, fits.5)) refl;
+  no_line_feed = (short (codes "heaptrace 1\nspace 8 mutators 1") refl, cut_heading);
   no_events = (opening_text 1 (omega arith) (omega arith), short (first 1) refl);
   cut_line = third 1 (codes "m 0 look r0") (omega arith) (omega arith) (λ e. cc) (no_line 1 (codes "m 0 look r0") (HasNo-lacks newline (codes "m 0 look r0") refl)) refl;
-  no_slot = third_line 1 (codes "m 0 look r16") (omega arith) (omega arith) refl refl refl;
-  two_spaces = third_line 1 (codes "m 0  look r0") (omega arith) (omega arith) refl refl refl;
-  no_kind = third_line 1 (codes "m 0 new r0 256 0") (omega arith) (omega arith) refl refl refl;
-  leading_zero = third_line 1 (codes "m 0 num r0 01") (omega arith) (omega arith) refl refl refl;
-  no_mutator = third_line 1 (codes "m 16 look r0") (omega arith) (omega arith) refl refl refl;
+  no_slot = third_line 1 (codes "m 0 look r16") (omega arith) (omega arith) refl (λ fits _. omega (arith, fits.range.1)) refl;
+  two_spaces = third_line 1 (codes "m 0  look r0") (omega arith) (omega arith) refl (λ _ same. cc) refl;
+  no_kind = third_line 1 (codes "m 0 new r0 256 0") (omega arith) (omega arith) refl (λ fits _. omega (arith, fits.range.1.1)) refl;
+  leading_zero = third_line 1 (codes "m 0 num r0 01") (omega arith) (omega arith) refl (λ _ same. cc) refl;
+  no_mutator = third_line 1 (codes "m 16 look r0") (omega arith) (omega arith) refl (λ fits _. omega (arith, fits.range.0)) refl;
   strange_mutator = (
     short (codes "heaptrace 1\nspace 8 mutators 1\nm 1 look r0\n") refl,
     (small 1 [], Mutate 1 (ops.Look (own_slot 0)), [], record { lines = first 1; good = opening_text 1 (omega arith) (omega arith); parts = refl; number = refl }, record { range = (omega arith, omega arith); known = omega arith }, λ of. omega (arith, of.0)),
@@ -87,7 +89,7 @@ text_rows = record {
   );
   empty_line = (
     short (codes "heaptrace 1\nspace 8 mutators 1\nm 0 nil g0\n\n") refl,
-    (one_nil, newline ∷ [], record { lines = codes "heaptrace 1\nspace 8 mutators 1\nm 0 nil g0\n"; good = nil_text; parts = refl; number = refl }, (λ e. cc), no_event 1 (newline ∷ []) [] [] refl tt refl),
+    (one_nil, newline ∷ [], record { lines = codes "heaptrace 1\nspace 8 mutators 1\nm 0 nil g0\n"; good = nil_text; parts = refl; number = refl }, (λ e. cc), no_event 1 (newline ∷ []) [] [] refl tt (λ _ same. cc)),
   );
 }
 
@@ -102,12 +104,12 @@ sized_text = record {
 }
 
 pub sized_rows : SizedRows
-unfolding digits step_tokens event_tokens event_line version_tokens size_tokens trace_heading trace_text number_of number_at token_at if_all_taken positive_at begin_at step_at collect_of event_of version_at
+unfolding digits step_tokens event_tokens event_line version_tokens size_tokens trace_heading trace_text
 sized_rows = record {
   read = (sized_text, short (codes "heaptrace 2\nspace 8 mutators 1\nc begin\nc begin 12\n") refl);
-  low = third_line 2 (codes "c begin 0") (omega arith) (omega arith) refl refl refl;
-  high = third_line 2 (codes "c begin 1048577") (omega arith) (omega arith) refl refl refl;
-  not_in_first = third_line 1 (codes "c begin 12") (omega arith) (omega arith) refl refl refl;
+  low = third_line 2 (codes "c begin 0") (omega arith) (omega arith) refl (λ fits _. omega (arith, fits.range.0)) refl;
+  high = third_line 2 (codes "c begin 1048577") (omega arith) (omega arith) refl (λ fits _. omega (arith, fits.range.1)) refl;
+  not_in_first = third_line 1 (codes "c begin 12") (omega arith) (omega arith) refl (λ fits _. omega (arith, fits.known)) refl;
   least = refl;
   lower = refl;
 }
@@ -123,16 +125,13 @@ raw_text = record {
 }
 
 pub raw_rows : RawRows
-unfolding digits slot op_tokens step_tokens event_tokens event_line version_tokens size_tokens trace_heading trace_text view_tokens reply_tokens step_reply_tokens answer_tokens number_of slot_of number_at slot_at token_at if_all_taken positive_at op_at command_of event_of version_at
+unfolding digits slot op_tokens step_tokens event_tokens event_line version_tokens size_tokens trace_heading trace_text view_tokens reply_tokens step_reply_tokens answer_tokens
 raw_rows = record {
   read = (raw_text, short (codes "heaptrace 3\nspace 8 mutators 1\nm 0 raw r0 7 2\n") refl);
-  long = third_line 3 (codes "m 0 raw r0 7 65536") (omega arith) (omega arith) refl refl refl;
-  not_in_first = third_line 1 (codes "m 0 raw r0 7 2") (omega arith) (omega arith) refl refl refl;
-  not_in_second = third_line 2 (codes "m 0 raw r0 7 2") (omega arith) (omega arith) refl refl refl;
-  no_fourth = (
-    short (codes "heaptrace 4\nspace 8 mutators 1\n") refl,
-    no_version (codes "heaptrace 4\nspace 8 mutators 1\n") (codes "heaptrace 4") (codes "space 8 mutators 1\n") refl (HasNo-lacks newline (codes "heaptrace 4") refl) refl,
-  );
+  long = third_line 3 (codes "m 0 raw r0 7 65536") (omega arith) (omega arith) refl (λ fits _. omega (arith, fits.range.1.2)) refl;
+  not_in_first = third_line 1 (codes "m 0 raw r0 7 2") (omega arith) (omega arith) refl (λ fits _. omega (arith, fits.known)) refl;
+  not_in_second = third_line 2 (codes "m 0 raw r0 7 2") (omega arith) (omega arith) refl (λ fits _. omega (arith, fits.known)) refl;
+  no_fourth = strange_heading 4 8 1 (omega arith, omega arith, omega arith) (λ fits. omega (arith, fits.1)) refl;
   least = refl;
   played = refl;
   replies = refl;

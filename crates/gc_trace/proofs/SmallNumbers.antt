@@ -8,10 +8,10 @@ use Rattle.std.proofs.lemmas.Fmt.{decimal-digits_value, decimal_digit}
 use Rattle.std.proofs.lemmas.Str.{digit_value_digit}
 use Rattle.gc_graph.proofs.Public.{decimals}
 
-one_digit : (a n : ℕ) → 48 ≤ a → a ≤ 57 → n ≡ a - 48 → decimal n ≡ a ∷ []
+pub one_digit : (a n : ℕ) → 48 ≤ a → a ≤ 57 → n ≡ a - 48 → decimal n ≡ a ∷ []
 one_digit a n low high is = decimal_digit n (omega arith) ∙ ap (λ (d : ℕ). d ∷ []) (omega (arith, is))
 
-two_digits : (a b n : ℕ) → 49 ≤ a → a ≤ 57 → 48 ≤ b → b ≤ 57 → n ≡ (a - 48) * 10 + (b - 48) → decimal n ≡ a ∷ b ∷ []
+pub two_digits : (a b n : ℕ) → 49 ≤ a → a ≤ 57 → 48 ≤ b → b ≤ 57 → n ≡ (a - 48) * 10 + (b - 48) → decimal n ≡ a ∷ b ∷ []
 two_digits a b n low high low-b high-b is =
     let u = digit_value_digit a (omega arith, high) in
     let v = digit_value_digit b (low-b, high-b) in

@@ -1,53 +1,82 @@
 -- After a good heading every text is a whole trace, or it has a bad line or an event of a mutator that does not exist.
 use Rattle.std.proofs.lemmas.Grind.{common_steps}
-use Rattle.std.proofs.Common.{◌≡◌, ℕ, suc, zero, ◌+◌, ◌<◌, ◌≤◌, List, [], ◌∷◌, ◌++◌, length, refl, sym, ap, ◌∙◌, arith, append_assoc, subst, inl, inr, ◌⊎◌, Option, Some, None}
+use Rattle.std.proofs.Common.{Bool, true, false, ◌≡◌, ◌≢◌, ℕ, suc, zero, ◌+◌, ◌<◌, ◌≤◌, List, [], ◌∷◌, ◌++◌, length, drop, refl, sym, ap, ◌∙◌, arith, append_assoc, subst, inl, inr, ◌⊎◌}
 use Rattle.std.specs.List.{flat_map}
-use Rattle.std.proofs.lemmas.Bool.{leb-true}
+use Rattle.std.specs.Str.{bytes_eq}
+use Rattle.std.proofs.lemmas.Bool.{leb-true, false≢true}
+use Rattle.std.proofs.lemmas.Slice.Eq.{bytes_eq-Decides}
+use Rattle.std.proofs.Math.Seq.{drop-append_seam}
 use Rattle.std.proofs.lemmas.List.{append-nil, length-append}
 use Rattle.std.proofs.lemmas.List.Concat.{flat_map-append, flat_map-cons}
-use Rattle.gc_graph.specs.Lines.{newline, joined, tokens_of}
-use Rattle.gc_graph.specs.Limits.{most_words}
+use Rattle.gc_graph.specs.Lines.{newline, joined}
+use Rattle.gc_graph.specs.Limits.{most_words, most_mutators}
+use Rattle.gc_graph.specs.Range.{IsCommand}
+use Rattle.gc_graph.specs.declared.command.Op.{Op}
+use Rattle.gc_graph.specs.declared.command.Op.TheVariants as ops
 use Rattle.gc_plan.specs.Runs.{IsStepWithin}
-use Rattle.gc_graph.proofs.Public.{Cut, cut, joined-tokens_of, all_push}
+use Rattle.gc_graph.proofs.Public.{cut, all_push}
 use Rattle.gc_plan.specs.declared.step.Step.{Step}
 use Rattle.gc_plan.specs.declared.step.Step.TheVariants as steps
 use Rattle.gc_plan.specs.declared.event.Event.{Event}
-use Rattle.gc_trace.specs.Internal.Parsers.{event_of, version_at, sizes_at}
-use Rattle.gc_trace.specs.Grammar.{Recording, event_tokens, event_line, version_tokens, size_tokens, trace_heading, trace_text, IsHeading, HasLine, IsOf, IsTraceText}
+use Rattle.gc_plan.specs.declared.event.Event.TheVariants.{Mutate, Collect}
+use Rattle.gc_trace.specs.Grammar.{Recording, event_tokens, event_line, trace_heading, trace_text, newest, IsHeading, HasLine, IsOf, IsTraceText, version_of}
 use Rattle.gc_trace.specs.Faults.{trace_limit, GoodBefore, HasNoHeading, HasBadLine, HasStranger, IsTraceFaultOf, IsReadAsTrace}
 use Rattle.gc_trace.specs.declared.fault.TraceFault.{TraceFault}
 use Rattle.gc_trace.specs.declared.fault.TraceFault.TheVariants.{TooLarge, BadHeader, BadLine, NoSuchMutator}
-use Rattle.gc_trace.proofs.ParsedTokens.{event_found, version_found, sizes_found}
-use Rattle.gc_trace.proofs.FrontFaults.{no_line, no_event, no_first, no_version, no_second, no_sizes}
-use Rattle.gc_trace.proofs.OneReading.{event_line-more, heading-more}
+use Rattle.gc_trace.proofs.EventLines.{event_line-more}
+use Rattle.gc_trace.proofs.NamedEvents.{named_line}
+use Rattle.gc_trace.proofs.FrontFaults.{no_line, no_event}
 
-dec_le : (m n : ℕ) → (m ≤ n) ⊎ (m ≤ n → ⊥)
+-- ---- what can be decided
+
+abbrev Decided : Type 0 → Type 0
+Decided A = A ⊎ (A → ⊥)
+
+dec_le : (m n : ℕ) → Decided (m ≤ n)
 dec_le m n = grind (arith, common_steps, leb-true)
 
-dec_step : (mutators : ℕ) (step : Step) → IsStepWithin most_words 16 step → IsStepWithin most_words mutators step ⊎ (IsStepWithin most_words mutators step → ⊥)
-dec_step mutators step fits = grind (arith, common_steps, dec_le)
+dec_lt : (m n : ℕ) → Decided (m < n)
+dec_lt m n = grind (arith, common_steps, dec_le)
 
-dec_of : (version mutators : ℕ) (event : Event) → HasLine version event → IsOf mutators event ⊎ (IsOf mutators event → ⊥)
-dec_of version mutators event fits = grind (arith, common_steps, dec_le, dec_step)
+dec_both : {A B : Type 0} → Decided A → Decided B → Decided (A × B)
+dec_both (inl a) (inl b) = inl (a, b)
+dec_both (inl a) (inr never) = inr (λ both. never both.1)
+dec_both (inr never) b = inr (λ both. never both.0)
 
--- the event that the text begins with
-pub one_event : (version : ℕ) (rest line after : List ℕ) (e : Event) → 1 ≤ version → rest ≡ line ++ newline ∷ after → event_of version (tokens_of line) ≡ Some e → HasLine version e × (rest ≡ event_line e ++ after)
-one_event version rest line after e known parts read =
-    let found = event_found version (tokens_of line) e known read in
-    let whole : joined (event_tokens e) ≡ line = ap joined (sym found.0) ∙ joined-tokens_of line in
-    (found.1, parts ∙ ap (λ (t : List ℕ). t ++ newline ∷ after) (sym whole) ∙ sym (event_line-more e after))
+dec_command : (op : Op) → Decided (IsCommand op)
+dec_command (ops.Nil d) = dec_lt d.index 16
+dec_command op = grind (arith, common_steps, dec_lt)
 
--- the heading of these two lines
-pub one_heading : (text first rest second body : List ℕ) (v s m : ℕ) → text ≡ first ++ newline ∷ rest → version_at (tokens_of first) ≡ Some v → rest ≡ second ++ newline ∷ body → sizes_at (tokens_of second) ≡ Some (s, m)
-    → IsHeading v s m × (text ≡ trace_heading v s m ++ body)
-one_heading text first rest second body v s m parts e parts' k =
-    let version = version_found (tokens_of first) v e in
-    let sizes = sizes_found (tokens_of second) (s, m) k in
-    let one : joined (version_tokens v) ≡ first = ap joined (sym version.0) ∙ joined-tokens_of first in
-    let two : joined (size_tokens s m) ≡ second = ap joined (sym sizes.0) ∙ joined-tokens_of second in (
-      (version.1, version.2, sizes.1.0, sizes.1.1, sizes.1.2, sizes.1.3),
-      parts ∙ ap (λ (l : List ℕ). l ++ newline ∷ rest) (sym one) ∙ ap (λ (l : List ℕ). joined (version_tokens v) ++ newline ∷ l) (parts' ∙ ap (λ (l : List ℕ). l ++ newline ∷ body) (sym two)) ∙ sym (heading-more v s m body),
-    )
+dec_step : (mutators : ℕ) (step : Step) → Decided (IsStepWithin most_words mutators step)
+dec_step mutators (steps.BeginSized size) = dec_both (dec_le 1 size) (dec_le size most_words)
+dec_step mutators (steps.Apply k) = dec_lt k mutators
+dec_step mutators step = inl tt
+
+dec_of : (mutators : ℕ) (event : Event) → Decided (IsOf mutators event)
+dec_of mutators (Mutate m op) = dec_both (dec_lt m mutators) (dec_command op)
+dec_of mutators (Collect step) = dec_step mutators step
+
+dec_line : (version : ℕ) (event : Event) → Decided (HasLine version event)
+dec_line version event = on (dec_both (dec_of 16 event) (dec_le (version_of event) version))
+  where
+    on : Decided (IsOf 16 event × (version_of event ≤ version)) → Decided (HasLine version event)
+    on (inl both) = inl (record { range = both.0; known = both.1 })
+    on (inr never) = inr (λ fits. never (fits.range, fits.known))
+
+dec_bytes : (xs ys : List ℕ) → Decided (xs ≡ ys)
+dec_bytes xs ys = on (bytes_eq xs ys) refl
+  where
+    on : (b : Bool) → bytes_eq xs ys ≡ b → Decided (xs ≡ ys)
+    on true same = inl ((bytes_eq-Decides xs ys).0 same)
+    on false other = inr (λ same. false≢true (sym other ∙ (bytes_eq-Decides xs ys).1 same))
+
+-- the line is that of the event that it names, or it is no event's
+named : (version : ℕ) (line : List ℕ) → (HasLine version (named_line line) × (line ≡ joined (event_tokens (named_line line)))) ⊎ (HasLine version (named_line line) → line ≢ joined (event_tokens (named_line line)))
+named version line =
+    elim (dec_line version (named_line line)) [
+      | inr none ↦ inr (λ fits. absurd (none fits))
+      | inl fits ↦ elim (dec_bytes line (joined (event_tokens (named_line line)))) [ inl same ↦ inl (fits, same) | inr other ↦ inr (λ _. other) ]
+    ]
 
 -- a recording of these parts
 abbrev pub made_of : ℕ → ℕ → ℕ → List Event → Recording
@@ -92,17 +121,18 @@ reading (suc fuel) text n v s m events [] lt good = inl (made_of v s m events, g
 reading (suc fuel) text n v s m events (b ∷ rest) lt good =
     elim (cut (b ∷ rest)) [
       | inl h ↦ inr (inl (n, (made_of v s m events, b ∷ rest, good, (λ e. cc), no_line v (b ∷ rest) h)))
-      | inr c ↦ on (λ k more after less so_far. reading fuel text k v s m more after less so_far) c (event_of v (tokens_of c.line)) refl
+      | inr c ↦ elim (named v c.line) [
+        | inr none ↦ inr (inl (n, (made_of v s m events, b ∷ rest, good, (λ e. cc), no_event v (b ∷ rest) c.line c.rest c.parts c.whole none)))
+        | inl one ↦
+            let is = c.parts ∙ ap (λ (t : List ℕ). t ++ newline ∷ c.rest) one.1 ∙ sym (event_line-more (named_line c.line) c.rest) in
+            elim (dec_of m (named_line c.line)) [
+              | inl of ↦
+                  reading fuel text (n + 1) v s m (events ++ named_line c.line ∷ []) c.rest (omega (arith, lt, ap length c.parts, length-append c.line (newline ∷ c.rest)))
+                  (good_more text n v s m events (b ∷ rest) (named_line c.line) c.rest good one.0 of is)
+              | inr strange ↦ inr (inr (n, (made_of v s m events, named_line c.line, c.rest, subst (GoodBefore text n (made_of v s m events)) is good, one.0, strange)))
+            ]
+      ]
     ]
-  where
-    on : ((k : ℕ) (more : List Event) (after : List ℕ) → length after < fuel → GoodBefore text k (made_of v s m more) after → Reading text) → (c : Cut (b ∷ rest)) → (o : Option Event) → event_of v (tokens_of c.line) ≡ o → Reading text
-    on further c None none = inr (inl (n, (made_of v s m events, b ∷ rest, good, (λ e. cc), no_event v (b ∷ rest) c.line c.rest c.parts c.whole none)))
-    on further c (Some e) is =
-        let one = one_event v (b ∷ rest) c.line c.rest e good.good.recording.heading.0 c.parts is in
-        elim (dec_of v m e one.0) [
-          | inl of ↦ further (n + 1) (events ++ e ∷ []) c.rest (omega (arith, lt, ap length c.parts, length-append c.line (newline ∷ c.rest))) (good_more text n v s m events (b ∷ rest) e c.rest good one.0 of one.1)
-          | inr strange ↦ inr (inr (n, (made_of v s m events, e, c.rest, subst (GoodBefore text n (made_of v s m events)) one.1 good, one.0, strange)))
-        ]
 
 -- ---- the heading
 
@@ -114,25 +144,41 @@ record Headed (text : List ℕ) : Type 0 where
   fits : IsHeading version size mutators
   parts : text ≡ trace_heading version size mutators ++ rest
 
-headed_by : (text : List ℕ) (c : Cut text) (d : Cut c.rest) → Headed text ⊎ HasNoHeading text
-headed_by text c d = at (version_at (tokens_of c.line)) refl (sizes_at (tokens_of d.line)) refl
+above : (n m : ℕ) → (n ≤ m → ⊥) → m < n
+above n m high = grind (arith, common_steps, high)
+
+abbrev Some-up_to : ℕ → (ℕ → Type 0) → Type 0
+Some-up_to most P = (n : ℕ) × (n ≤ most) × P n
+
+-- whether a number up to `most` has a property can be decided if it can for each number
+dec_some : (P : ℕ → Type 0) → ((n : ℕ) → Decided (P n)) → (most : ℕ) → Decided (Some-up_to most P)
+dec_some P each zero = elim (each 0) [ inl p ↦ inl (0, omega arith, p) | inr never ↦ inr (λ found. never (subst P (omega (arith, found.1)) found.2)) ]
+dec_some P each (suc most) = last (each (suc most)) (dec_some P each most)
   where
-    at : (o : Option ℕ) → version_at (tokens_of c.line) ≡ o → (p : Option (ℕ × ℕ)) → sizes_at (tokens_of d.line) ≡ p → Headed text ⊎ HasNoHeading text
-    at None e p k = inr (no_version text c.line c.rest c.parts c.whole e)
-    at (Some v) e None k = inr (no_sizes text c.line c.rest d.line d.rest c.parts c.whole d.parts d.whole k)
-    at (Some v) e (Some x) k =
-        let one = one_heading text c.line c.rest d.line d.rest v x.0 x.1 c.parts e d.parts k in
-        inl (record { version = v; size = x.0; mutators = x.1; rest = d.rest; fits = one.0; parts = one.1 })
+    last : Decided (P (suc most)) → Decided (Some-up_to most P) → Decided (Some-up_to (suc most) P)
+    last (inl p) before = inl (suc most, omega arith, p)
+    last (inr never) (inl found) = inl (found.0, omega (arith, found.1), found.2)
+    last (inr never) (inr none) = inr (λ found. elim (dec_le found.0 most) [ inl low ↦ none (found.0, low, found.2) | inr high ↦ never (subst P (omega (arith, found.1, above found.0 most high)) found.2) ])
+
+-- the text begins with this heading
+abbrev Begins : List ℕ → ℕ → ℕ → ℕ → Type 0
+Begins text v s m = IsHeading v s m × (text ≡ trace_heading v s m ++ drop (length (trace_heading v s m)) text)
+
+dec_begins : (text : List ℕ) (v s m : ℕ) → Decided (Begins text v s m)
+dec_begins text v s m = dec_both (on (dec_le 1 v) (dec_le v newest) (dec_le 1 s) (dec_le s most_words) (dec_le 1 m) (dec_le m most_mutators)) (dec_bytes text (trace_heading v s m ++ drop (length (trace_heading v s m)) text))
+  where
+    on : Decided (1 ≤ v) → Decided (v ≤ newest) → Decided (1 ≤ s) → Decided (s ≤ most_words) → Decided (1 ≤ m) → Decided (m ≤ most_mutators) → Decided (IsHeading v s m)
+    on a b c d e f = grind (arith, a, b, c, d, e, f)
 
 headed : (text : List ℕ) → Headed text ⊎ HasNoHeading text
-headed text =
-    elim (cut text) [
-      | inl h ↦ inr (no_first text h)
-      | inr c ↦ elim (cut c.rest) [
-        | inl h ↦ inr (no_second text c.line c.rest c.parts c.whole h)
-        | inr d ↦ headed_by text c d
-      ]
-    ]
+headed text = on (dec_some _ (λ v. dec_some _ (λ s. dec_some _ (λ m. dec_begins text v s m) most_mutators) most_words) newest)
+  where
+    on : Decided (Some-up_to newest (λ v. Some-up_to most_words (λ s. Some-up_to most_mutators (λ m. Begins text v s m)))) → Headed text ⊎ HasNoHeading text
+    on (inl h) =
+        let begins = h.2.2.2 in
+        inl (record { version = h.0; size = h.2.0; mutators = h.2.2.0; rest = drop (length (trace_heading h.0 h.2.0 h.2.2.0)) text; fits = begins.0; parts = begins.1 })
+    on (inr never) =
+        inr (λ v s m more fits is. never (v, fits.1, (s, fits.3, (m, fits.5, (fits, is ∙ ap (λ (t : List ℕ). trace_heading v s m ++ t) (sym (ap (λ (t : List ℕ). drop (length (trace_heading v s m)) t) is ∙ drop-append_seam (trace_heading v s m) more)))))))
 
 -- a trace, or a first fault
 abbrev Answered : List ℕ → Type 0

@@ -1,66 +1,20 @@
 ghost use Rattle.std.specs.Prelude.{◌≡◌, ◌≢◌, ◌≤◌, ◌<◌, ◌+◌, ◌-◌, ◌∷◌, ◌++◌, ◌↔◌, ℕ, List, length, drop, true, false, IfSome, IfOk, MatchOption, MatchResult, Ok, Err, Some};
-ghost use Rattle.gc_graph.specs.Lines.{HasNo, newline};
 ghost use Rattle.gc_graph.specs.Pieces.{IsWithin, nothing_read};
 ghost use Rattle.gc_graph.specs.Streams.{bytes_left, source_failed};
 ghost use Rattle.gc_trace.specs.Grammar.{IsHeading, HasLine, IsOf, newest, trace_heading, event_line};
 ghost use Rattle.gc_trace.specs.Faults.{trace_limit, HasNoHeading, BeginsWithNoEvent, ReadingMayFail};
 
 use crate::fault::TraceFault;
-use crate::front;
-use crate::parser::{event, sizes, version};
+use crate::front::{Heading, first_two_lines, line};
 use gc_copy::Step;
 use gc_graph::Source;
-use gc_graph::text::{Front, Pieces, cut};
+use gc_graph::text::{Front, Pieces};
 use gc_world::Event;
 use std::alloc::Global;
 use std::io::Read;
 
 /// The maximum length of a trace text in bytes.
 const LIMIT: usize = 16777216;
-
-/// The contents of the first two lines.
-#[derive(Clone, Copy)]
-struct Heading {
-    version: u8,
-    size: u32,
-    mutators: u8,
-}
-
-/// Returns the first line without its line feed, and the text after it, or `None` if the text has no line feed.
-fn split_line(text: &[u8]) -> Option<(&[u8], &[u8])>
-    ensures { MatchOption result (HasNo newline text.now)
-        (λ parts. (text.now ≡ parts.0.now ++ newline ∷ parts.1.now) × HasNo newline parts.0.now) }
-{
-    cut(b'\n', text)
-}
-
-/// Parses the first two lines. Returns their contents and the text after them.
-fn split_heading(text: &[u8]) -> Option<(Heading, &[u8])>
-    ensures { MatchOption result (HasNoHeading text.now)
-        (λ found. IsHeading found.0.version found.0.size found.0.mutators
-        × (text.now ≡ trace_heading found.0.version found.0.size found.0.mutators ++ found.1.now)) }
-{
-    let Some((first, rest)) = split_line(text) else {
-        return None;
-    };
-    let Some(version) = version(first) else {
-        return None;
-    };
-    let Some((second, body)) = split_line(rest) else {
-        return None;
-    };
-    let Some((size, mutators)) = sizes(second) else {
-        return None;
-    };
-    Some((
-        Heading {
-            version,
-            size,
-            mutators,
-        },
-        body,
-    ))
-}
 
 /// Returns whether the event's mutator, or the mutator of its log, is below `mutators`.
 #[inline(always)]
@@ -76,35 +30,15 @@ fn is_of(mutators: u8, event: &Event) -> bool
     }
 }
 
-/// Takes an event line of this version. Returns `None` if the text does not begin with one.
-#[inline(always)]
-fn take_event(version: u8, front: &mut Front<'_>) -> Option<Event>
-    requires { 1 ≤ version }
-    ensures { MatchOption result (BeginsWithNoEvent version front.old)
-        (λ event. HasLine version event × (front.old ≡ event_line event ++ front.new)) }
-{
-    let text = front.rest();
-    if let Some(event) = front::line(version, front) {
-        return Some(event);
-    }
-    let Some((line, after)) = split_line(text) else {
-        return None;
-    };
-    let Some(event) = event(version, line) else {
-        return None;
-    };
-    *front = Front::new(after);
-    Some(event)
-}
-
 /// Returns the heading at the start of the text, and the number of bytes after it.
 fn heading_at(text: &[u8]) -> Option<(Heading, usize)>
     ensures { MatchOption result (HasNoHeading text.now)
         (λ found. IsHeading found.0.version found.0.size found.0.mutators × (found.1 ≤ length text.now)
         × (text.now ≡ trace_heading found.0.version found.0.size found.0.mutators ++ drop (length text.now - found.1) text.now)) }
 {
-    let (heading, body) = split_heading(text)?;
-    Some((heading, body.len()))
+    let mut front = Front::new(text);
+    let heading = first_two_lines(&mut front)?;
+    Some((heading, front.rest().len()))
 }
 
 /// Returns the event whose line is at the start of the text, and the number of bytes after it.
@@ -116,7 +50,7 @@ fn event_at(version: u8, text: &[u8]) -> Option<(Event, usize)>
         × (text.now ≡ event_line found.0 ++ drop (length text.now - found.1) text.now)) }
 {
     let mut front = Front::new(text);
-    let event = take_event(version, &mut front)?;
+    let event = line(version, &mut front)?;
     Some((event, front.rest().len()))
 }
 

@@ -1,24 +1,34 @@
-ghost use Rattle.std.specs.Prelude.{◌≡◌, ◌<◌, ◌≤◌, ◌∷◌, ◌++◌, [], take, decimal, codes, IfSome};
+ghost use Rattle.std.specs.Prelude.{◌≡◌, ◌≢◌, ℕ, List, ◌<◌, ◌≤◌, ◌-◌, ◌∷◌, ◌++◌, [], Some, take, decimal, codes, IfSome, MatchOption};
 ghost use Rattle.gc_graph.specs.Limits.{most_words};
 ghost use Rattle.gc_graph.specs.Lines.{space};
-ghost use Rattle.gc_graph.specs.Range.{IsCommand};
+ghost use Rattle.gc_graph.specs.Range.{IsSlot, IsCommand};
 ghost use Rattle.gc_plan.specs.Runs.{IsStepWithin};
-ghost use Rattle.gc_trace.specs.Grammar.{slot, op_tokens, step_tokens, op_version, step_version, event_tokens, event_line, HasLine};
-ghost use Rattle.gc_trace.specs.Internal.Fronts.{spaced};
+ghost use Rattle.gc_trace.specs.Faults.{HasNoHeading, BeginsWithNoEvent};
+ghost use Rattle.gc_trace.specs.Grammar.{slot, op_tokens, step_tokens, op_version, step_version, event_tokens, event_line, trace_heading, IsHeading, HasLine};
+ghost use Rattle.gc_trace.specs.Internal.Fronts.{spaced, FindsToken, FindsTokens};
 
-use crate::parser::{RAW, SIZED};
-use gc_copy::Step;
 use gc_graph::text::Front;
 use gc_graph::{Number, Op, Slot};
+use gc_plan::{Event, Step};
 use gc_words::MOST_WORDS;
-use gc_world::Event;
+
+/// The newest version of the text.
+const NEWEST: u64 = 3;
+
+/// The first version in which `begin` can give the size of the new space.
+const SIZED: u8 = 2;
+
+/// The first version with raw objects.
+const RAW: u8 = 3;
 
 /// Returns the number below 16 that the first byte, or both bytes, spell in decimal, and the number of its digits. To
 /// be fast, no branch depends on the number of digits.
 #[inline(always)]
 fn small_number(first: u8, second: u8) -> Option<(u8, usize)>
-    ensures { IfSome result (λ found. (found.0 < 16) × (found.1 ≤ 2)
+    ensures taken { IfSome result (λ found. (found.0 < 16) × (found.1 ≤ 2)
         × (take found.1 (first ∷ second ∷ []) ≡ decimal found.0)) }
+    ensures one { 48 ≤ first → first ≤ 57 → second < 48 → result ≡ Some (first - 48, 1) }
+    ensures two { first ≡ 49 → 48 ≤ second → second ≤ 53 → result ≡ Some (second - 38, 2) }
 {
     if first < b'0' || first > b'9' {
         return None;
@@ -35,8 +45,10 @@ fn small_number(first: u8, second: u8) -> Option<(u8, usize)>
 
 /// Takes a space and the decimal of a number below 16.
 #[inline(always)]
+#[tactic(auto, using(crate::proofs::FrontTokens::small_decimal))]
 fn next_small_number(front: &mut Front<'_>) -> Option<u8>
-    ensures { IfSome result (λ n. (n < 16) × (front.old ≡ space ∷ (decimal n ++ front.new))) }
+    ensures taken { IfSome result (λ n. (n < 16) × (front.old ≡ space ∷ (decimal n ++ front.new))) }
+    ensures found { FindsToken (λ n. n < 16) decimal front.old result front.new }
 {
     let text = front.rest();
     let [b' ', first, second, ..] = text else {
@@ -49,9 +61,10 @@ fn next_small_number(front: &mut Front<'_>) -> Option<u8>
 
 /// Takes a space and a slot.
 #[inline(always)]
-#[tactic(auto, unfolding(crate::specs::Grammar::slot))]
+#[tactic(auto, using(crate::proofs::FrontTokens::small_decimal), unfolding(crate::specs::Grammar::slot))]
 fn next_slot(front: &mut Front<'_>) -> Option<Slot>
-    ensures { IfSome result (λ s. front.old ≡ space ∷ (slot s ++ front.new)) }
+    ensures taken { IfSome result (λ s. front.old ≡ space ∷ (slot s ++ front.new)) }
+    ensures found { FindsToken IsSlot slot front.old result front.new }
 {
     let text = front.rest();
     let [b' ', letter, first, second, ..] = text else {
@@ -73,7 +86,8 @@ fn next_slot(front: &mut Front<'_>) -> Option<Slot>
 /// Takes a space and the decimal of a number that is at most `most`.
 #[inline(always)]
 fn next_number(front: &mut Front<'_>, most: u64) -> Option<u64>
-    ensures { IfSome result (λ n. (n ≤ most) × (front.old ≡ space ∷ (decimal n ++ front.new))) }
+    ensures taken { IfSome result (λ n. (n ≤ most) × (front.old ≡ space ∷ (decimal n ++ front.new))) }
+    ensures found { FindsToken (λ n. n ≤ most) decimal front.old result front.new }
 {
     front.byte(b' ')?;
     front.number(most)
@@ -82,8 +96,9 @@ fn next_number(front: &mut Front<'_>, most: u64) -> Option<u64>
 #[inline(always)]
 #[tactic(auto, unfolding(crate::specs::Grammar::op_tokens))]
 fn new_op(front: &mut Front<'_>) -> Option<Op>
-    ensures { IfSome result (λ op. IsCommand op × (op_version op ≡ 1)
+    ensures taken { IfSome result (λ op. IsCommand op × (op_version op ≡ 1)
         × (codes "new" ++ front.old ≡ spaced (op_tokens op) front.new)) }
+    ensures found { FindsTokens IsCommand op_tokens (codes "new" ++ front.old) result front.new }
 {
     let d = next_slot(front)?;
     let kind = next_number(front, 255)? as u8;
@@ -94,8 +109,9 @@ fn new_op(front: &mut Front<'_>) -> Option<Op>
 #[inline(always)]
 #[tactic(auto, unfolding(crate::specs::Grammar::op_tokens))]
 fn raw_op(front: &mut Front<'_>) -> Option<Op>
-    ensures { IfSome result (λ op. IsCommand op × (op_version op ≡ 3)
+    ensures taken { IfSome result (λ op. IsCommand op × (op_version op ≡ 3)
         × (codes "raw" ++ front.old ≡ spaced (op_tokens op) front.new)) }
+    ensures found { FindsTokens IsCommand op_tokens (codes "raw" ++ front.old) result front.new }
 {
     let d = next_slot(front)?;
     let kind = next_number(front, 255)? as u8;
@@ -106,8 +122,9 @@ fn raw_op(front: &mut Front<'_>) -> Option<Op>
 #[inline(always)]
 #[tactic(auto, unfolding(crate::specs::Grammar::op_tokens))]
 fn num_op(front: &mut Front<'_>) -> Option<Op>
-    ensures { IfSome result (λ op. IsCommand op × (op_version op ≡ 1)
+    ensures taken { IfSome result (λ op. IsCommand op × (op_version op ≡ 1)
         × (codes "num" ++ front.old ≡ spaced (op_tokens op) front.new)) }
+    ensures found { FindsTokens IsCommand op_tokens (codes "num" ++ front.old) result front.new }
 {
     let d = next_slot(front)?;
     let n = Number::new(next_number(front, 9223372036854775807)?)?;
@@ -117,8 +134,9 @@ fn num_op(front: &mut Front<'_>) -> Option<Op>
 #[inline(always)]
 #[tactic(auto, unfolding(crate::specs::Grammar::op_tokens))]
 fn nil_op(front: &mut Front<'_>) -> Option<Op>
-    ensures { IfSome result (λ op. IsCommand op × (op_version op ≡ 1)
+    ensures taken { IfSome result (λ op. IsCommand op × (op_version op ≡ 1)
         × (codes "nil" ++ front.old ≡ spaced (op_tokens op) front.new)) }
+    ensures found { FindsTokens IsCommand op_tokens (codes "nil" ++ front.old) result front.new }
 {
     let d = next_slot(front)?;
     Some(Op::Nil { d })
@@ -127,8 +145,9 @@ fn nil_op(front: &mut Front<'_>) -> Option<Op>
 #[inline(always)]
 #[tactic(auto, unfolding(crate::specs::Grammar::op_tokens))]
 fn move_op(front: &mut Front<'_>) -> Option<Op>
-    ensures { IfSome result (λ op. IsCommand op × (op_version op ≡ 1)
+    ensures taken { IfSome result (λ op. IsCommand op × (op_version op ≡ 1)
         × (codes "move" ++ front.old ≡ spaced (op_tokens op) front.new)) }
+    ensures found { FindsTokens IsCommand op_tokens (codes "move" ++ front.old) result front.new }
 {
     let d = next_slot(front)?;
     let s = next_slot(front)?;
@@ -138,8 +157,9 @@ fn move_op(front: &mut Front<'_>) -> Option<Op>
 #[inline(always)]
 #[tactic(auto, unfolding(crate::specs::Grammar::op_tokens))]
 fn get_op(front: &mut Front<'_>) -> Option<Op>
-    ensures { IfSome result (λ op. IsCommand op × (op_version op ≡ 1)
+    ensures taken { IfSome result (λ op. IsCommand op × (op_version op ≡ 1)
         × (codes "get" ++ front.old ≡ spaced (op_tokens op) front.new)) }
+    ensures found { FindsTokens IsCommand op_tokens (codes "get" ++ front.old) result front.new }
 {
     let d = next_slot(front)?;
     let s = next_slot(front)?;
@@ -150,8 +170,9 @@ fn get_op(front: &mut Front<'_>) -> Option<Op>
 #[inline(always)]
 #[tactic(auto, unfolding(crate::specs::Grammar::op_tokens))]
 fn put_op(front: &mut Front<'_>) -> Option<Op>
-    ensures { IfSome result (λ op. IsCommand op × (op_version op ≡ 1)
+    ensures taken { IfSome result (λ op. IsCommand op × (op_version op ≡ 1)
         × (codes "put" ++ front.old ≡ spaced (op_tokens op) front.new)) }
+    ensures found { FindsTokens IsCommand op_tokens (codes "put" ++ front.old) result front.new }
 {
     let s = next_slot(front)?;
     let i = next_number(front, 65535)? as u16;
@@ -162,8 +183,9 @@ fn put_op(front: &mut Front<'_>) -> Option<Op>
 #[inline(always)]
 #[tactic(auto, unfolding(crate::specs::Grammar::op_tokens))]
 fn same_op(front: &mut Front<'_>) -> Option<Op>
-    ensures { IfSome result (λ op. IsCommand op × (op_version op ≡ 1)
+    ensures taken { IfSome result (λ op. IsCommand op × (op_version op ≡ 1)
         × (codes "same" ++ front.old ≡ spaced (op_tokens op) front.new)) }
+    ensures found { FindsTokens IsCommand op_tokens (codes "same" ++ front.old) result front.new }
 {
     let s = next_slot(front)?;
     let t = next_slot(front)?;
@@ -173,8 +195,9 @@ fn same_op(front: &mut Front<'_>) -> Option<Op>
 #[inline(always)]
 #[tactic(auto, unfolding(crate::specs::Grammar::op_tokens))]
 fn look_op(front: &mut Front<'_>) -> Option<Op>
-    ensures { IfSome result (λ op. IsCommand op × (op_version op ≡ 1)
+    ensures taken { IfSome result (λ op. IsCommand op × (op_version op ≡ 1)
         × (codes "look" ++ front.old ≡ spaced (op_tokens op) front.new)) }
+    ensures found { FindsTokens IsCommand op_tokens (codes "look" ++ front.old) result front.new }
 {
     let s = next_slot(front)?;
     Some(Op::Look { s })
@@ -182,10 +205,13 @@ fn look_op(front: &mut Front<'_>) -> Option<Op>
 
 /// Takes a command of this version.
 #[inline(always)]
+#[tactic(auto, unfolding(crate::specs::Grammar::op_tokens))]
 fn op(version: u8, front: &mut Front<'_>) -> Option<Op>
     requires { 1 ≤ version }
-    ensures { IfSome result (λ op. IsCommand op × (op_version op ≤ version)
+    ensures taken { IfSome result (λ op. IsCommand op × (op_version op ≤ version)
         × (front.old ≡ spaced (op_tokens op) front.new)) }
+    ensures found { FindsTokens (λ op. IsCommand op × (op_version op ≤ version))
+        op_tokens front.old result front.new }
 {
     match front.rest() {
         [b'p', b'u', b't', rest @ ..] => {
@@ -233,8 +259,10 @@ fn op(version: u8, front: &mut Front<'_>) -> Option<Op>
 #[tactic(auto, unfolding(crate::specs::Grammar::step_tokens))]
 fn begin(version: u8, front: &mut Front<'_>) -> Option<Step>
     requires { 1 ≤ version }
-    ensures { IfSome result (λ step. IsStepWithin most_words 16 step × (step_version step ≤ version)
+    ensures taken { IfSome result (λ step. IsStepWithin most_words 16 step × (step_version step ≤ version)
         × (codes "begin" ++ front.old ≡ spaced (step_tokens step) front.new)) }
+    ensures found { FindsTokens (λ step. IsStepWithin most_words 16 step × (step_version step ≤ version))
+        step_tokens (codes "begin" ++ front.old) result front.new }
 {
     if version < SIZED || front.rest().first() != Some(&b' ') {
         return Some(Step::Begin);
@@ -250,8 +278,9 @@ fn begin(version: u8, front: &mut Front<'_>) -> Option<Step>
 #[inline(always)]
 #[tactic(auto, unfolding(crate::specs::Grammar::step_tokens))]
 fn apply(front: &mut Front<'_>) -> Option<Step>
-    ensures { IfSome result (λ step. IsStepWithin most_words 16 step × (step_version step ≡ 1)
+    ensures taken { IfSome result (λ step. IsStepWithin most_words 16 step × (step_version step ≡ 1)
         × (codes "apply" ++ front.old ≡ spaced (step_tokens step) front.new)) }
+    ensures found { FindsTokens (IsStepWithin most_words 16) step_tokens (codes "apply" ++ front.old) result front.new }
 {
     let k = next_small_number(front)?;
     Some(Step::Apply(k))
@@ -262,8 +291,10 @@ fn apply(front: &mut Front<'_>) -> Option<Step>
 #[tactic(auto, unfolding(crate::specs::Grammar::step_tokens))]
 fn step(version: u8, front: &mut Front<'_>) -> Option<Step>
     requires { 1 ≤ version }
-    ensures { IfSome result (λ step. IsStepWithin most_words 16 step × (step_version step ≤ version)
+    ensures taken { IfSome result (λ step. IsStepWithin most_words 16 step × (step_version step ≤ version)
         × (front.old ≡ spaced (step_tokens step) front.new)) }
+    ensures found { FindsTokens (λ step. IsStepWithin most_words 16 step × (step_version step ≤ version))
+        step_tokens front.old result front.new }
 {
     match front.rest() {
         [b's', b'c', b'a', b'n', rest @ ..] => {
@@ -296,11 +327,12 @@ fn step(version: u8, front: &mut Front<'_>) -> Option<Step>
 
 /// Takes a mutator and its command, of this version.
 #[inline(always)]
-#[tactic(auto, unfolding(crate::specs::Grammar::event_tokens))]
+#[tactic(auto, using(crate::proofs::EventFronts::command_spelled, crate::proofs::EventFronts::collect_spelled))]
 fn command(version: u8, front: &mut Front<'_>) -> Option<Event>
     requires { 1 ≤ version }
-    ensures { IfSome result (λ event. HasLine version event
+    ensures taken { IfSome result (λ event. HasLine version event
         × (codes "m" ++ front.old ≡ spaced (event_tokens event) front.new)) }
+    ensures found { FindsTokens (HasLine version) event_tokens (codes "m" ++ front.old) result front.new }
 {
     let m = next_small_number(front)?;
     front.byte(b' ')?;
@@ -310,11 +342,12 @@ fn command(version: u8, front: &mut Front<'_>) -> Option<Event>
 
 /// Takes a step of this version, as an event.
 #[inline(always)]
-#[tactic(auto, unfolding(crate::specs::Grammar::event_tokens))]
+#[tactic(auto, using(crate::proofs::EventFronts::command_spelled, crate::proofs::EventFronts::collect_spelled))]
 fn collect(version: u8, front: &mut Front<'_>) -> Option<Event>
     requires { 1 ≤ version }
-    ensures { IfSome result (λ event. HasLine version event
+    ensures taken { IfSome result (λ event. HasLine version event
         × (codes "c" ++ front.old ≡ spaced (event_tokens event) front.new)) }
+    ensures found { FindsTokens (HasLine version) event_tokens (codes "c" ++ front.old) result front.new }
 {
     front.byte(b' ')?;
     let step = step(version, front)?;
@@ -323,10 +356,12 @@ fn collect(version: u8, front: &mut Front<'_>) -> Option<Event>
 
 /// Takes an event of this version, without its line feed.
 #[inline(always)]
+#[tactic(auto, unfolding(crate::specs::Grammar::event_tokens))]
 fn event(version: u8, front: &mut Front<'_>) -> Option<Event>
     requires { 1 ≤ version }
-    ensures { IfSome result (λ event. HasLine version event
+    ensures taken { IfSome result (λ event. HasLine version event
         × (front.old ≡ spaced (event_tokens event) front.new)) }
+    ensures found { FindsTokens (HasLine version) event_tokens front.old result front.new }
 {
     match front.rest() {
         [b'm', rest @ ..] => {
@@ -341,13 +376,63 @@ fn event(version: u8, front: &mut Front<'_>) -> Option<Event>
     }
 }
 
-/// Takes an event line of this version, in one pass. If it returns `None`, the caller must ask `parser::event`.
+/// Takes an event line of this version, in one pass. Returns `None` if the text does not begin with one.
 #[inline(always)]
+#[tactic(auto, using(crate::proofs::EventFronts::line_spelled))]
 pub fn line(version: u8, front: &mut Front<'_>) -> Option<Event>
     requires { 1 ≤ version }
-    ensures { IfSome result (λ event. HasLine version event × (front.old ≡ event_line event ++ front.new)) }
+    ensures { MatchOption result (BeginsWithNoEvent version front.old)
+        (λ event. HasLine version event × (front.old ≡ event_line event ++ front.new)) }
 {
     let event = event(version, front)?;
     front.byte(b'\n')?;
     Some(event)
+}
+
+/// Takes these bytes.
+fn literal(front: &mut Front<'_>, wanted: &[u8]) -> Option<()>
+    ensures { MatchOption result ((more : List ℕ) → front.old ≢ wanted.now ++ more)
+        (λ _. front.old ≡ wanted.now ++ front.new) }
+{
+    let text = front.rest();
+    if text.len() < wanted.len() {
+        return None;
+    }
+    if &text[..wanted.len()] != wanted {
+        return None;
+    }
+    *front = Front::new(&text[wanted.len()..]);
+    Some(())
+}
+
+/// The contents of the first two lines.
+#[derive(Clone, Copy)]
+pub struct Heading {
+    pub version: u8,
+    pub size: u32,
+    pub mutators: u8,
+}
+
+/// Takes the first two lines. Returns `None` if the text does not begin with a heading.
+#[tactic(auto, using(crate::proofs::Headings::heading_spelled))]
+pub fn first_two_lines(front: &mut Front<'_>) -> Option<Heading>
+    ensures { MatchOption result (HasNoHeading front.old)
+        (λ found. IsHeading found.version found.size found.mutators
+        × (front.old ≡ trace_heading found.version found.size found.mutators ++ front.new)) }
+{
+    literal(front, b"heaptrace")?;
+    let version = next_number(front, NEWEST)? as u8;
+    literal(front, b"\nspace")?;
+    let words = next_number(front, u64::from(MOST_WORDS))? as u32;
+    literal(front, b" mutators")?;
+    let mutators = next_number(front, 16)? as u8;
+    literal(front, b"\n")?;
+    if version == 0 || words == 0 || mutators == 0 {
+        return None;
+    }
+    Some(Heading {
+        version,
+        size: words,
+        mutators,
+    })
 }

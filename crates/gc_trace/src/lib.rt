@@ -7,7 +7,6 @@ mod fault;
 mod flips;
 mod front;
 mod laws;
-mod parser;
 mod player;
 mod playing;
 mod reader;
