@@ -1,6 +1,6 @@
 -- A standing checker beside a heap in which a collection begins.
 use Rattle.std.proofs.lemmas.Grind.{common_steps}
-use Rattle.std.proofs.Common.{◌≡◌, ℕ, Option, is_some, true, false, List, None, arith}
+use Rattle.std.proofs.Common.{◌≡◌, ℕ, Option, is_some, Bool, true, false, List, None, arith}
 use Rattle.std.proofs.lemmas.Bool.{cases_Bool}
 use Rattle.gc_plan.specs.State.{Collection, State}
 use Rattle.gc_plan.specs.Steps.{collect}
@@ -15,6 +15,9 @@ use Rattle.gc_beside.proofs.Public.{lives_begun}
 
 pub none_open : (o : Option Collection) → is_some o ≡ false → o ≡ None
 none_open o e = grind (arith, common_steps)
+
+pub some_open : (o : Option Collection) (b : Bool) → b ≡ true → b ≡ is_some o → o ≡ None → ⊥
+some_open o b t is none = grind (arith, common_steps)
 
 -- it goes on as it was, with more room, or it has walked over the heap anew
 pub lives_begun_anew : (s s' : State) (reply : StepReply) (size : ℕ) (t mid after : Tables) (links : ℕ → ℕ) (old : List ℕ) → s.collection ≡ None → collect s (steps.BeginSized size) ≡ (reply, s')

@@ -1,11 +1,9 @@
 -- A standing checker beside a heap whose extra roots are cleared.
-use Rattle.std.proofs.Common.{◌≡◌, ⊎_elim, ℕ, zero, suc, refl, ap, ◌∙◌, subst}
-use Rattle.gc_graph.specs.declared.command.Op.TheVariants as ops
-use Rattle.gc_heap.specs.ExtraRoots.{extra_slot}
+use Rattle.std.proofs.lemmas.Grind.{common_steps}
+use Rattle.std.proofs.Common.{◌≡◌, ⊎_elim, ℕ, zero, suc, refl, ap, ◌∙◌, subst, arith}
 use Rattle.gc_plan.specs.State.{State, heap_end}
-use Rattle.gc_plan.specs.Steps.{mutate}
 use Rattle.gc_plan.specs.Belonging.{IsOpen}
-use Rattle.gc_plan.proofs.Public.{WrittenBy, unchanged}
+use Rattle.gc_plan.proofs.Public.{unchanged}
 use Rattle.gc_core.specs.ExtraRoots.{clear_step}
 use Rattle.gc_along.specs.Watch.{opening}
 use Rattle.gc_along.specs.Tables.{Tables, watch_of}
@@ -18,13 +16,7 @@ Never a i = ⊥
 
 clear_leads : (n : ℕ) (s : State) (k : ℕ) → Leads s (clear_step s k n) Never × (heap_end s ≡ heap_end (clear_step s k n))
 clear_leads zero s k = (record { collection = same_itself s.collection; evolves = unchanged s.heap.graph.objects Never }, refl)
-clear_leads (suc n) s k =
-    let op = ops.Nil (extra_slot s.mutators 0 k) in
-    let next = mutate s 0 op in
-    let r = clear_leads n next.1 (suc k) in (
-      leads_on s next.1 (clear_step next.1 (suc k) n) (WrittenBy s.heap.graph 0 op next.0) Never Never (λ a i w. w) (λ a i w. w) (leads_one s next.1 0 op next.0 refl) r.0,
-      end_by s next.1 0 op next.0 refl refl ∙ r.1,
-    )
+clear_leads (suc n) s k = grind (arith, common_steps, leads_on, leads_one, end_by, clear_leads n)
 
 pub lives_cleared : (s s' : State) (k n : ℕ) (t : Tables) → IsOpen s s.collection → clear_step s k n ≡ s' → IsLive s t → IsLive s' t
 lives_cleared s s' k n t is_open is live =

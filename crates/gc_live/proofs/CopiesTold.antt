@@ -1,6 +1,6 @@
 -- A standing checker beside a heap, through fields that are copied in one call.
 use Rattle.std.proofs.lemmas.Grind.{common_steps}
-use Rattle.std.proofs.Common.{◌≡◌, ◌⊎◌, ⊎_elim, ◌≤◌, ℕ, zero, suc, Some, None, refl, sym, ap, subst, ◌∙◌, arith}
+use Rattle.std.proofs.Common.{◌≡◌, ◌⊎◌, ◌≤◌, ℕ, zero, suc, Some, None, refl, sym, ap, subst, ◌∙◌, arith}
 use Rattle.std.specs.Prelude.{Result, IfOk, OnErr}
 use Rattle.gc_graph.specs.declared.no_memory.NoMemory.{NoMemory}
 use Rattle.gc_graph.specs.Graph.{Ref, root}
@@ -95,10 +95,6 @@ lives_copied_closed s s' m to from count d src t w is_open is closed live =
 pub lives_call_closed : (s s' : State) (m to from count : ℕ) (d src t : SlotName) (w : Tables) (result : Result Reply NoMemory) → IsOpen s s.collection → s.collection ≡ None
     → IfOk result (λ reply. copy_fields_step s m d to src from t count ≡ (reply, s')) → OnErr result (s' ≡ s) → IsLive s w → IsLive s' w
 lives_call_closed s s' m to from count d src t w result is_open closed step refused live = grind (arith, common_steps, lives_copied_closed, all_or_none)
-
--- the whole call while one is open, if the reply is not `Done`
-pub lives_call_refused : (s s' : State) (m to from count : ℕ) (d src t : SlotName) (w : Tables) (reply : Reply) → copy_fields_step s m d to src from t count ≡ (reply, s') → (reply ≡ replies.Done → ⊥) → IsLive s w → IsLive s' w
-lives_call_refused s s' m to from count d src t w reply step other live = ⊎_elim (λ done. absurd (other done.0)) (λ same. subst (λ x. IsLive x w) same live) (all_or_none s s' m to from count d src t reply step)
 
 pub done_all : (s s' : State) (m to from count : ℕ) (d src t : SlotName) (reply : Reply) → copy_fields_step s m d to src from t count ≡ (reply, s') → reply ≡ replies.Done → copy_step s m d to src from t count ≡ s'
 done_all s s' m to from count d src t reply said done = grind (arith, common_steps)

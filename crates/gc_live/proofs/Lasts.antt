@@ -1,11 +1,9 @@
 -- A standing checker that is not lost stays so, and its tables go on knowing the heap: the collector's steps.
 use Rattle.std.proofs.lemmas.Grind.{common_steps}
-use Rattle.std.proofs.Common.{◌≡◌, ◌⊎◌, inl, inr, ⊎_elim, ℕ, ◌-◌, ◌<◌, ◌≤◌, ◌==◌, Bool, true, false, cond, List, [], ◌∷◌, length, Option, Some, None, refl, ap, sym, ◌∙◌, subst, arith}
+use Rattle.std.proofs.Common.{◌≡◌, ◌⊎◌, inl, inr, ⊎_elim, ℕ, ◌<◌, ◌≤◌, ◌==◌, Bool, true, false, cond, List, [], ◌∷◌, length, Option, Some, None, refl, ap, sym, ◌∙◌, subst, arith}
 use Rattle.std.specs.Prelude.{IfSome, IsTrue}
 use Rattle.gc_words.specs.Spelling.{no_links}
-use Rattle.gc_heap.specs.declared.options.HeapOptions.{HeapOptions}
 use Rattle.gc_plan.specs.State.{Collection, State}
-use Rattle.gc_copy.specs.Opening.{opening_state_with}
 use Rattle.gc_along.specs.Watch.{opening}
 use Rattle.gc_plan.specs.Linked.{LeadsToOpen}
 use Rattle.gc_plan.specs.Steps.{is_ready, log_at, apply_log, collect, collect_with, step_in, with_collection, fresh_collection, flipped, passes_check}
@@ -18,11 +16,11 @@ use Rattle.std.proofs.lemmas.List.{length-map, length-replicate}
 use Rattle.gc_plan.proofs.Public.{begun_belongs, steps_stay}
 use Rattle.gc_core.specs.Flip.{flip_pair, HasAccepted, IsSureIfReady}
 use Rattle.gc_along.specs.Claims.{Accepts, CanPlace, CanLook, CanApply, OwesNone}
-use Rattle.gc_along.specs.Events.{Placed, Looked, Applied as AppliedTo, Freed, flipped_tables, opening_tables}
+use Rattle.gc_along.specs.Events.{Placed, Looked, Applied as AppliedTo, Freed, flipped_tables}
 use Rattle.gc_along.specs.Tables.{Tables, watch_of}
 use Rattle.gc_beside.specs.Internal.Live.{GoesBeside, IsLive, heap_words, replica_words, IsNeverLost}
 use Rattle.gc_beside.specs.Knows.{Knows, KnowsAll, open_or_fresh}
-use Rattle.gc_beside.proofs.Public.{opened_known, begun_known, dropped_known, flipped_known, Goes, AreNew, lives_flipped, roots_or_same, scan_or_same, apply_or_same, accepts, roots_told, roots_known, scan_placed, scan_looked, scan_known, passed_known, entry_placed, entry_looked, entry_known}
+use Rattle.gc_beside.proofs.Public.{begun_known, dropped_known, flipped_known, Goes, AreNew, lives_flipped, scan_or_same, accepts, roots_told, roots_known, scan_placed, scan_looked, scan_known, passed_known, entry_placed, entry_looked, entry_known}
 
 -- a checker that is not lost goes along
 pub goes_of : (s : State) (t : Tables) → IsLive s t → t.lost ≡ false → GoesBeside s s.collection (watch_of t)
@@ -160,21 +158,11 @@ lasts_scan_other s s' reply t heap is_open is_open' said other live k = ⊎_elim
         let x = in_open s s' steps.Scan Passed c next (λ e. cc) said is_open is_open' first.1 there in
         record { found = k.found; knows = known_with s s' next t x.is (passed_known s c next t no_links heap x.before x.opened (goes_in s c t first.1 live k.found) (knows_in s c t first.1 k) s' x.said there) }
 
-pub lasts_roots_other : (s s' : State) (reply : StepReply) (t : Tables) → collect s steps.Roots ≡ (reply, s') → (reply ≡ Copied → ⊥) → IsNeverLost s t → IsNeverLost s' t
-lasts_roots_other s s' reply t said other k = lasts_same s s' t (roots_or_same s s' reply said other) k
-
-pub lasts_apply_other : (s s' : State) (m : ℕ) (reply : StepReply) (t : Tables) → collect s (steps.Apply m) ≡ (reply, s') → (reply ≡ Applied → ⊥) → IsNeverLost s t → IsNeverLost s' t
-lasts_apply_other s s' m reply t said other k = lasts_same s s' t (apply_or_same s s' m reply said other) k
-
 -- ---- the ends
 
 pub lasts_begun : (s s' : State) (reply : StepReply) (size n : ℕ) (t mid after : Tables) → s.collection ≡ None → collect s (steps.BeginSized size) ≡ (reply, s') → IsSpaceGraph s.size s.heap.free s.heap.graph
     → mid ≡ record t { room = mid.room } → (t.room ≡ 0) ⊎ (n ≤ mid.room) → size ≤ n → s.size ≤ n → (mid.lost ≡ false → after ≡ mid) → IsNeverLost s t → IsNeverLost s' after
 lasts_begun s s' reply size n t mid after none said heap more room new_fits old_fits kept k = grind (arith, common_steps, known_with, begun_known)
-
--- more room alone
-pub lasts_reserved : (s : State) (n : ℕ) (t mid : Tables) → s.collection ≡ None → IsSpaceGraph s.size s.heap.free s.heap.graph → mid ≡ record t { room = mid.room } → (t.room ≡ 0) ⊎ (n ≤ mid.room) → s.size ≤ n → IsNeverLost s t → IsNeverLost s mid
-lasts_reserved s n t mid none heap more room fits_old k = grind (arith, common_steps, begun_known)
 
 pub lasts_dropped : (s s' : State) (reply : StepReply) (t after : Tables) → IsSpaceGraph s.size s.heap.free s.heap.graph → IsOpen s s.collection → collect s steps.Drop ≡ (reply, s') → (t.lost ≡ false → after.lost ≡ false) → (after.lost ≡ false → Freed t after)
     → IsLive s t → IsNeverLost s t → IsNeverLost s' after
@@ -212,14 +200,6 @@ lasts_dropped s s' reply t after heap is_open said stays freed live k = go s.col
 pub lasts_flipped : (s s' : State) (c : Collection) (t after : Tables) → IsSpaceGraph s.size s.heap.free s.heap.graph → s.collection ≡ Some c → IsOpened s c → s' ≡ flipped s c → (t.lost ≡ false → after.lost ≡ false) → (after.lost ≡ false → after ≡ flipped_tables t)
     → IsNeverLost s t → IsNeverLost s' after
 lasts_flipped s s' c t after heap first opened is stays flips k = grind (arith, common_steps, flipped_known, knows_in)
-
--- ---- the opening
-
-pub lasts_opened : (options : HeapOptions) (t : Tables) → 1 ≤ options.size → t ≡ opening_tables options.size → IsNeverLost (opening_state_with options) t
-lasts_opened options t low is = subst (IsNeverLost (opening_state_with options)) (sym is) (record { found = refl; knows = opened_known (opening_state_with options) options.size refl refl (omega arith) low })
-
-pub lives_opened_with : (options : HeapOptions) (t : Tables) → 1 ≤ options.size → t ≡ opening_tables options.size → IsLive (opening_state_with options) t
-lives_opened_with options t low is = subst (IsLive (opening_state_with options)) (sym is) (inr (let e : 1 ≡ options.size - (options.size - 1) = omega arith in ap opening e))
 
 -- ---- the flip
 

@@ -1,5 +1,6 @@
 -- A standing checker that is not lost stays so, through an object that is made with numbers and slots mixed.
-use Rattle.std.proofs.Common.{◌≡◌, ℕ, suc, false, List, [], ◌∷◌, length, refl, ap, subst}
+use Rattle.std.proofs.lemmas.Grind.{common_steps}
+use Rattle.std.proofs.Common.{◌≡◌, ℕ, false, List, [], ◌∷◌, length, refl, ap, subst, arith}
 use Rattle.gc_graph.specs.Slots.{SlotName}
 use Rattle.gc_graph.specs.declared.command.Op.TheVariants as ops
 use Rattle.gc_graph.specs.declared.reply.Reply.{Reply}
@@ -27,9 +28,7 @@ source_quiet s m i d t (sources.Slot v) = let one = mutate s m (ops.Put d i v) i
 
 sources_quiet : (fields : List FieldSource) (s : State) (m i : ℕ) (d t : SlotName) → Continues s (sources_step s m d t i fields) NoName
 sources_quiet [] s m i d t = continues_same s NoName
-sources_quiet (source ∷ rest) s m i d t =
-    let next = source_step s m d t i source in
-    quiet_two s next (sources_step next m d t (suc i) rest) (source_quiet s m i d t source) (sources_quiet rest next m (suc i) d t)
+sources_quiet (source ∷ rest) s m i d t = grind (arith, common_steps, quiet_two, source_quiet, sources_quiet rest)
 
 mixed_quiet : (reply : Reply) (made : State) (m : ℕ) (d t : SlotName) (fields : List FieldSource) → Continues made (mixed reply made m d t fields) NoName
 mixed_quiet replies.Full made m d t fields = continues_same made NoName

@@ -5,7 +5,7 @@ use Rattle.std.proofs.lemmas.Bool.{cases_eq, cond_both, ltb-true, and_parts}
 use Rattle.std.proofs.lemmas.List.{length-map}
 use Rattle.std.specs.Prelude.{slice_get, Result, Ok, Err, IfOk, OnErr}
 use Rattle.gc_graph.specs.Graph.{Value, Num, Ref, Graph, Object, name_of, names_of, root, value_or_nil, object_of, field_of, lookup}
-use Rattle.gc_graph.specs.Machine.{Roomy, put_field}
+use Rattle.gc_graph.specs.Machine.{Roomy}
 use Rattle.gc_graph.specs.Slots.{SlotName, place}
 use Rattle.gc_graph.specs.declared.command.Op.TheVariants as ops
 use Rattle.gc_graph.specs.declared.reply.Reply.{Reply}
@@ -30,21 +30,11 @@ use Rattle.gc_live.proofs.NumbersTold.{all_or_none, num_roots, numbers_lead}
 
 -- ---- each number is written
 
-put_done : (g : Graph) (v : Value) (target : Option Object) (found : Option Value) (i : ℕ) (w : Value) (a : ℕ) (o : Object) (before : Value) (n : ℕ) → v ≡ Ref a → target ≡ Some o → found ≡ Some before → w ≡ Num n → (put_field g v target found i w).0 ≡ replies.Done
-put_done g v target found i w a o before n e f h k = grind (arith, common_steps, cond_both, and_parts)
-
 never_full : (n : ℕ) → nat_lt n 0 ≡ true → ⊥
 never_full n t = let l : n < 0 = ltb-true n 0 t in absurd (omega arith)
 
 put_replies : (s : State) (m i a n : ℕ) (d t : SlotName) (o : Object) → root s.heap.graph (place d m) ≡ Ref a → root s.heap.graph (place t m) ≡ Num n → lookup s.heap.graph.objects a ≡ Some o → i < length o.fields → (mutate s m (ops.Put d i t)).0 ≡ replies.Done
-put_replies s m i a n d t o at number found less =
-    let g = s.heap.graph in
-    let target : object_of g.objects (root g (place d m)) ≡ Some o = ap (object_of g.objects) at ∙ found in
-    let before = get_within o.fields i less in
-    let field : field_of (object_of g.objects (root g (place d m))) i ≡ Some before.0 = ap (λ o. field_of o i) target ∙ before.1 in
-    cond_both (nat_lt s.heap.free 0) _ _ (λ (next : Reply × Roomy). next.0 ≡ replies.Done)
-    (λ full. absurd (never_full s.heap.free full))
-    (λ fits. put_done g (root g (place d m)) (object_of g.objects (root g (place d m))) (field_of (object_of g.objects (root g (place d m))) i) i (root g (place t m)) a o before.0 n at target field number)
+put_replies s m i a n d t o at number found less = grind (arith, common_steps, nat_lt, never_full, cond_both, and_parts, ap (λ o. field_of o i) (ap (object_of s.heap.graph.objects) at ∙ found) ∙ (get_within o.fields i less).1)
 
 num_there : (s : State) (m n : ℕ) (t : SlotName) → place t m < length s.heap.graph.roots → root (mutate s m (ops.Num t n)).1.heap.graph (place t m) ≡ Num n
 num_there s m n t less = grind (arith, common_steps, cond_both, never_full, get_set_same)

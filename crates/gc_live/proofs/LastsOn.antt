@@ -1,11 +1,11 @@
 -- A standing checker that is not lost stays so, and its tables go on knowing the heap: the mutators' commands.
 use Rattle.std.proofs.lemmas.Grind.{common_steps}
-use Rattle.std.proofs.Common.{◌≡◌, ◌⊎◌, inl, inr, ⊎_elim, ℕ, zero, suc, ◌+◌, ◌<◌, ◌≤◌, Bool, true, false, List, [], ◌∷◌, ◌++◌, length, Option, Some, None, refl, ap, sym, ◌∙◌, subst, arith}
+use Rattle.std.proofs.Common.{◌≡◌, ◌⊎◌, inl, inr, ⊎_elim, ℕ, zero, suc, ◌+◌, ◌<◌, ◌≤◌, Bool, true, false, List, [], ◌∷◌, ◌++◌, length, map, Option, Some, None, refl, ap, sym, ◌∙◌, subst, arith}
 use Rattle.std.specs.Prelude.{Result, Ok, Err, IfOk, OnErr, slice_get, slice_set}
 use Rattle.std.proofs.lemmas.Bool.{cond_both}
 use Rattle.gc_graph.specs.declared.no_memory.NoMemory.{NoMemory}
-use Rattle.gc_graph.specs.Graph.{Ref, Graph, field_of, name_of, object_of, root}
-use Rattle.gc_graph.specs.Machine.{put_field, roomy_step, words_taken}
+use Rattle.gc_graph.specs.Graph.{Value, Ref, Graph, name_of, names_of, root, value_or_nil}
+use Rattle.gc_graph.specs.Machine.{roomy_step, words_taken}
 use Rattle.gc_graph.specs.Slots.{SlotName, place}
 use Rattle.gc_graph.specs.declared.command.Op.{Op}
 use Rattle.gc_graph.specs.declared.command.Op.TheVariants as ops
@@ -28,7 +28,7 @@ use Rattle.gc_along.specs.Tables.{Tables, watch_of}
 use Rattle.gc_beside.specs.Internal.Live.{GoesBeside, IsLive, heap_words, IsNeverLost}
 use Rattle.gc_beside.specs.Knows.{Knows, open_or_fresh}
 use Rattle.gc_beside.specs.Stays.{Fits}
-use Rattle.gc_beside.proofs.Public.{Continues, SameBut, SameOpen, NewName, continues_same, continues_on, continues_one, quiet_known, can_make, made_known, can_write, wrote_known, EndsMore, ends_more, lives_quiet, lives_unopened, new_op, not_done, end_by, lives_number, lives_number_closed, was_open}
+use Rattle.gc_beside.proofs.Public.{Continues, SameBut, SameOpen, NewName, continues_same, continues_on, continues_one, quiet_known, can_make, made_known, can_write, wrote_known, EndsMore, ends_more, lives_quiet, lives_unopened, new_op, not_done, end_by, lives_number, lives_number_closed, put_roots, was_open}
 use Rattle.gc_live.proofs.Lasts.{AreOld, goes_of}
 
 -- no object was made
@@ -140,12 +140,7 @@ beside s s' d t on end there live k = record {
 }
   where
     refit : (c : Collection) → SameBut c d → Fits (heap_end s) c (watch_of t) → Fits (heap_end s') d (watch_of t)
-    refit c same f = record {
-      pairs = f.pairs ∙ ap (Rattle.std.proofs.Common.map pair) (sym same.replicas);
-      old_seen = f.old_seen ∙ end;
-      new_seen = f.new_seen ∙ ap replicas_end (sym same.replicas);
-      row = f.row;
-    }
+    refit c same f = grind (arith, common_steps, pair, replicas_end)
 
     go : (o : Option Collection) → s.collection ≡ o → (p : Option Collection) → p ≡ Some d → SameOpen o p → GoesBeside s o (watch_of t) → Fits (heap_end s') d (watch_of t)
     go None e None f same g = absurd (let no : None ≡ Some d = f in cc)
@@ -223,12 +218,6 @@ pub lasts_number : (s mid s' : State) (m : ℕ) (op : Op) (one : Reply) (put : O
 lasts_number s mid s' m op one put reply old t after a i is_open is_open' heap less first none said none' wrote_it not_closed is stays wrote live k =
     lasts_written_by s mid s' m put reply old t after a i (log_after s mid m m op one first (log_of_open s m is_open less)) is_open' heap (quiet_one s mid m op one first none) (end_by s mid m op one first none) said none' wrote_it not_closed is stays wrote live k
 
--- ---- calls that may lack memory, and of which nothing is told
-
-pub lasts_any : (s s' : State) (m : ℕ) (op : Op) (t : Tables) (result : Result Reply NoMemory) → IfOk result (λ reply. mutate s m op ≡ (reply, s')) → OnErr result (s' ≡ s) → words_taken op ≡ 0 → IsNeverLost s t → IsNeverLost s' t
-lasts_any s s' m op t (Ok reply) step refused none k = lasts_quiet s s' m op reply t step none k
-lasts_any s s' m op t (Err e) step refused none k = subst (λ (x : State). IsNeverLost x t) (sym refused) k
-
 -- ---- both at once
 
 -- the invariant of a heap with a standing checker, which goes along if `along`
@@ -269,11 +258,25 @@ refers_to g p o a is named = grind (arith, common_steps)
 pub refers_above : (size free : ℕ) (g : Graph) (p a : ℕ) → IsSpaceGraph size free g → root g p ≡ Ref a → 1 ≤ a
 refers_above size free g p a heap at = grind (arith, common_steps, root_fine, laid_range)
 
--- a put that is done goes to an object
-pub done_refers : (g : Graph) (m : ℕ) (d : SlotName) (i : ℕ) (t : SlotName) (o : Option OldAddr) → (put_field g (root g (place d m)) (object_of g.objects (root g (place d m))) (field_of (object_of g.objects (root g (place d m))) i) i (root g (place t m))).0 ≡ replies.Done
-    → option_map (λ (a : OldAddr). a.0) o ≡ name_of (root g (place d m)) → o ≡ None → ⊥
-done_refers g m d i t o done named none = grind (arith, common_steps)
-
 -- the same of the command
 pub put_refers : (s s' : State) (m : ℕ) (d : SlotName) (i : ℕ) (t : SlotName) (o : Option OldAddr) → mutate s m (ops.Put d i t) ≡ (replies.Done, s') → option_map (λ (a : OldAddr). a.0) o ≡ name_of (root s.heap.graph (place d m)) → o ≡ None → ⊥
-put_refers s s' m d i t o said named none = grind (arith, common_steps, done_refers, cond_both)
+put_refers s s' m d i t o said named none = grind (arith, common_steps, cond_both)
+
+-- a number or nil put into a field while a collection is open: the slot still refers to the object, so the checker is told of the right field
+pub both_put : (along : Bool) (s mid s' : State) (m : ℕ) (op : Op) (one : Reply) (d : SlotName) (i : ℕ) (v : SlotName) (reply : Reply) (old : List ℕ) (t after : Tables) (o : Option OldAddr) (a : OldAddr) → IsOpen s s.collection → IsOpen s' s'.collection → IsSpaceGraph s'.size s'.heap.free s'.heap.graph → m < s.mutators
+    → mutate s m op ≡ (one, mid) → words_taken op ≡ 0 → written s.heap.graph m op one ≡ [] → mutate mid m (ops.Put d i v) ≡ (reply, s') → reply ≡ replies.Done → (s'.collection ≡ None → ⊥) → option_map (λ (a : OldAddr). a.0) o ≡ name_of (root s'.heap.graph (place d m)) → o ≡ Some a → AreOld s' old
+    → (t.lost ≡ false → CanWrite old a.0 i t → after.lost ≡ false) → (t.lost ≡ true → after.lost ≡ true) → (after.lost ≡ false → Wrote a.0 i t after) → IsLasting along s t → IsLasting along s' after
+both_put along s mid s' m op one d i v reply old t after o a is_open is_open' heap less first none quiet said done later named is are stays lost wrote h =
+    let put : mutate mid m (ops.Put d i v) ≡ (replies.Done, s') = said ∙ ap (λ (r : Reply). (r, s')) done in
+    let at : root s'.heap.graph (place d m) ≡ Ref a.0 = refers_to s'.heap.graph (place d m) o a is named in
+    let low : 1 ≤ a.0 = refers_above s'.size s'.heap.free s'.heap.graph (place d m) a.0 heap at in
+    let there : root mid.heap.graph (place d m) ≡ Ref a.0 = ap (λ (rs : List Value). value_or_nil (slice_get rs (place d m))) (sym (put_roots mid s' m d i v replies.Done put)) ∙ at in
+    let wrote_it = ap (λ (w : Value). map (λ (name : ℕ). (name, i)) (names_of w)) there in
+    let some = was_open s mid s' m op one replies.Done (ops.Put d i v) first put later in (
+      lives_number s mid s' m op one replies.Done (ops.Put d i v) t after a.0 i is_open first none quiet put refl (inr (low, wrote_it, (lost, wrote))) some h.0,
+      λ on. lasts_number s mid s' m op one (ops.Put d i v) replies.Done old t after a.0 i is_open is_open' heap less first none put refl (subst (In {X = ℕ × ℕ} (a.0, i)) (sym wrote_it) (inl refl)) some are stays wrote h.0 (h.1 on),
+    )
+
+-- and it refers to one
+pub both_found : (mid s' : State) (m : ℕ) (d : SlotName) (i : ℕ) (v : SlotName) (reply : Reply) (o : Option OldAddr) → mutate mid m (ops.Put d i v) ≡ (reply, s') → reply ≡ replies.Done → option_map (λ (a : OldAddr). a.0) o ≡ name_of (root s'.heap.graph (place d m)) → o ≡ None → ⊥
+both_found mid s' m d i v reply o said done named none = grind (arith, common_steps, put_refers, put_roots)

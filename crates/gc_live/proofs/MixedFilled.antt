@@ -1,4 +1,5 @@
 -- A standing checker beside a heap stays lost, or goes along: an object made whose fields take numbers and the values of slots.
+use Rattle.std.proofs.lemmas.Grind.{common_steps}
 use Rattle.std.proofs.Common.{◌≡◌, inl, inr, ⊎_elim, ℕ, suc, ◌+◌, ◌-◌, ◌<◌, ◌≤◌, nat_lt, true, false, List, [], ◌∷◌, Some, None, length, refl, ap, sym, ◌∙◌, subst, arith}
 use Rattle.std.proofs.lemmas.Bool.{cond_both, ltb-false}
 use Rattle.std.proofs.lemmas.List.{length-replicate}
@@ -63,11 +64,7 @@ num_within s m n a d t apart refers =
 
 source_within : (source : FieldSource) (s : State) (m i a : ℕ) (d t : SlotName) → (place t m ≡ place d m → ⊥) → RefersOnly s m d a → Within s (source_step s m d t i source) a × RefersOnly (source_step s m d t i source) m d a
 source_within sources.Nil s m i a d t apart refers = (stays_within s a, refers)
-source_within (sources.Number n) s m i a d t apart refers =
-    let one = mutate s m (ops.Num t n) in
-    let x = num_within s m n a d t apart refers in
-    let y = put_within one.1 m i a d t x.1 in
-    (then_within s one.1 (mutate one.1 m (ops.Put d i t)).1 a x.0 y.0, y.1)
+source_within (sources.Number n) s m i a d t apart refers = grind (arith, common_steps, then_within, put_within (mutate s m (ops.Num t n)).1 m i a d t (num_within s m n a d t apart refers).1)
 source_within (sources.Slot v) s m i a d t apart refers = put_within s m i a d v refers
 
 -- the commands write fields of that object only, and leave the end

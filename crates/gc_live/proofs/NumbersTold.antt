@@ -145,9 +145,5 @@ pub lives_call_closed : (s s' : State) (m first : ℕ) (d t : SlotName) (words :
     → IfOk result (λ reply. put_numbers_step s m d first t words ≡ (reply, s')) → OnErr result (s' ≡ s) → IsLive s w → IsLive s' w
 lives_call_closed s s' m first d t words w result is_open closed step refused live = grind (arith, common_steps, lives_numbers_closed, all_or_none)
 
--- the whole call while one is open, if the reply is not `Done`
-pub lives_call_refused : (s s' : State) (m first : ℕ) (d t : SlotName) (words : List ℕ) (w : Tables) (reply : Reply) → put_numbers_step s m d first t words ≡ (reply, s') → (reply ≡ replies.Done → ⊥) → IsLive s w → IsLive s' w
-lives_call_refused s s' m first d t words w reply step other live = ⊎_elim (λ done. absurd (other done.0)) (λ same. subst (λ x. IsLive x w) same live) (all_or_none s s' m first d t words reply step)
-
 pub done_all : (s s' : State) (m first : ℕ) (d t : SlotName) (words : List ℕ) (reply : Reply) → put_numbers_step s m d first t words ≡ (reply, s') → reply ≡ replies.Done → numbers_step s m d t first words ≡ s'
 done_all s s' m first d t words reply said done = grind (arith, common_steps)

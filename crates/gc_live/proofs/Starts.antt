@@ -1,5 +1,6 @@
 -- The marks of a standing checker and the objects of a graph: where one starts, the graph has it.
-use Rattle.std.proofs.Common.{◌≡◌, ◌==◌, inl, inr, ⊎_elim, ℕ, Bool, true, false, List, [], ◌∷◌, is_some, Option, Some, None, refl, ap, sym, ◌∙◌}
+use Rattle.std.proofs.lemmas.Grind.{common_steps}
+use Rattle.std.proofs.Common.{◌≡◌, inl, inr, ℕ, Bool, true, false, List, [], ◌∷◌, is_some, Option, Some, None, refl, sym, arith}
 use Rattle.std.proofs.lemmas.Bool.{cond-true, cond-false, cases_Bool, eq-eqb}
 use Rattle.gc_graph.specs.Graph.{Object, lookup}
 use Rattle.gc_plan.specs.Belonging.{IsNamed}
@@ -7,16 +8,7 @@ use Rattle.gc_plan.proofs.Public.{lookup_in}
 
 named_some : (objects : List (ℕ × Object)) (a : ℕ) → IsNamed objects a → is_some (lookup objects a) ≡ true
 named_some [] a (o, l) = absurd l
-named_some (e ∷ rest) a (o, l) = elim (cases_Bool (e.0 == a)) [
-  | inl y ↦ ap is_some (cond-true (e.0 == a) (Some e.1) (lookup rest a) y)
-  | inr n ↦ ap is_some (cond-false (e.0 == a) (Some e.1) (lookup rest a) n) ∙ named_some rest a (
-    o,
-    ⊎_elim
-        (λ here. absurd (let yes : (e.0 == a) ≡ true = eq-eqb e.0 a (ap (λ (x : ℕ × Object). x.0) here) in let no : true ≡ false = sym yes ∙ n in cc))
-        (λ there. there)
-        l,
-  )
-]
+named_some (e ∷ rest) a h = grind (arith, common_steps, is_some, cond-true, cond-false, eq-eqb, named_some rest a)
 
 some_named : (objects : List (ℕ × Object)) (a : ℕ) (o : Option Object) → lookup objects a ≡ o → is_some o ≡ true → IsNamed objects a
 some_named objects a None e s = absurd (let no : false ≡ true = s in cc)

@@ -1,9 +1,9 @@
 -- What paced work leaves in the logs, and that it stays ahead of the mutators, but for the steps that it owes.
 use Rattle.std.proofs.lemmas.Grind.{common_steps}
-use Rattle.std.proofs.Common.{◌≡◌, ◌≢◌, ◌⊎◌, ℕ, ◌+◌, ◌≤◌, true, false, None, ap, ◌∙◌, subst, arith}
+use Rattle.std.proofs.Common.{◌≡◌, ◌≢◌, ◌⊎◌, ℕ, ◌+◌, ◌≤◌, true, None, ap, ◌∙◌, subst, arith}
 use Rattle.std.specs.Prelude.{min, IsTrue}
 use Rattle.std.proofs.lemmas.Bool.{and_from, or_left, or_right, le-leb, cases_lt}
-use Rattle.gc_plan.specs.State.{State, heap_end}
+use Rattle.gc_plan.specs.State.{State}
 use Rattle.gc_plan.specs.Belonging.{IsSpaceGraph, IsOpen}
 use Rattle.gc_plan.specs.Progress.{work_left}
 use Rattle.gc_plan.specs.declared.step.StepReply.{StepReply}
@@ -23,9 +23,6 @@ use Rattle.gcflip_heap_c.proofs.Left.{some_left, entries_low, end_at, logged_low
 on_of : (reply : StepReply) → step_reply_in_c reply ≢ 43 → step_reply_in_c reply ≢ 36 → goes_on reply ≡ true
 on_of reply flip room = grind (arith, common_steps)
 
-off_of : (reply : StepReply) → goes_on reply ≡ false → (step_reply_in_c reply ≡ 43) ⊎ (step_reply_in_c reply ≡ 36)
-off_of reply off = grind (arith, common_steps)
-
 -- ---- the work of one call
 
 -- the useful steps that were due, whether the pace bounds their words or not
@@ -35,22 +32,16 @@ pub record IsDueWork (before : GcflipPace) (due : ℕ) (s t : State) (work : Gcf
   pub last : work.last ≡ step_reply_in_c reply
   pub enough : work_left s ≤ due → IsEnd None t reply ⊎ IsTrue (took_its_words before work)
 
-took : (before : GcflipPace) (work : GcflipWork) → 1 ≤ before.words → (before.words ≤ work.steps) ⊎ (before.words ≤ work.copied) → IsTrue (took_its_words before work)
-took before work some many = grind (arith, common_steps, and_from, le-leb, or_left, or_right)
-
 pub due_work : (before : GcflipPace) (due : ℕ) (s t : State) (work : GcflipWork)
     → (before.words ≡ 0 → IsWork None due s t work) → (1 ≤ before.words → IsWorkWithin (min due before.words) before.words s t work) → IsDueWork before due s t work
-due_work before due s t work whole within = grind (arith, common_steps, took, cases_lt)
+due_work before due s t work whole within = grind (arith, common_steps, and_from, le-leb, or_left, or_right, cases_lt)
 
 -- the steps lowered the work that is left by their number
 work_falls : (before : GcflipPace) (due : ℕ) (s t : State) (work : GcflipWork) → IsDueWork before due s t work → work.last ≢ 43 → work.last ≢ 36 → work_left t + work.steps ≤ work_left s
 work_falls before due s t work done flip room = done.run.falls (on_of done.reply (λ e. flip (done.last ∙ e)) (λ e. room (done.last ∙ e)))
 
 work_ends : (before : GcflipPace) (due : ℕ) (s t : State) (work : GcflipWork) → IsDueWork before due s t work → work_left s ≤ due → HasEnded t work ⊎ IsTrue (took_its_words before work)
-work_ends before due s t work done low = grind (arith, common_steps, off_of)
-
-idle_left : (s : State) → (counts_of s).is_open ≡ 0 → work_left s ≡ heap_end s + 1
-idle_left s idle = grind (arith, common_steps)
+work_ends before due s t work done low = grind (arith, common_steps)
 
 module _ (s t : State) (before : GcflipPace) (work : GcflipWork) (due : ℕ)
     (heap : IsSpaceGraph s.size s.heap.free s.heap.graph) (opened : IsOpen s s.collection) (still : IsOpen t t.collection)
@@ -69,7 +60,7 @@ module _ (s t : State) (before : GcflipPace) (work : GcflipWork) (due : ℕ)
   enough_of all most = work_ends before due s t work (some (omega (arith, most, some_left s, bound all))) (omega (arith, most, bound all))
 
   begun_of : (counts_of s).is_open ≡ 0 → 1 ≤ work.steps → work.last ≢ 43 → work.last ≢ 36 → work_left t ≤ (counts_of s).end
-  begun_of idle steps flip room = grind (arith, common_steps, work_falls, idle_left, end_at, split)
+  begun_of idle steps flip room = grind (arith, common_steps, work_falls, end_at, split)
 
   -- the work after the call, which owes so many steps
   ahead_of : (most gone owed : ℕ) → min (min gone (steps_left (counts_of s))) 4294967295 ≤ due → gone ≤ 4294967295 → CountsAll (counts_of s) → work.steps + owed ≡ due → work.last ≢ 43 → work.last ≢ 36

@@ -3,18 +3,15 @@ use Rattle.std.proofs.lemmas.Grind.{common_steps}
 use Rattle.std.proofs.Common.{◌≡◌, ℕ, ◌*◌, ◌≤◌, ◌==◌, false, arith}
 use Rattle.std.proofs.lemmas.Bool.{eqb-true}
 use Rattle.std.proofs.lemmas.Nat.{mul-le}
-use Rattle.gcflip_heap_c.specs.Pace.{rate_of, steps_due, Pays}
+use Rattle.gcflip_heap_c.specs.Pace.{steps_due, Pays}
 use Rattle.gcflip_heap_c.specs.declared.pace.GcflipPace.{GcflipPace}
 use Rattle.gcflip_heap_c.specs.declared.reading.GcflipCounts.{GcflipCounts}
 
 not_zero : (n : ℕ) → (n == 0) ≡ false → 1 ≤ n
 not_zero n e = grind (arith, common_steps)
 
-some_rate : (pace : GcflipPace) (counts : GcflipCounts) (room : ℕ) → 1 ≤ rate_of pace counts room
-some_rate pace counts room = grind (arith, common_steps, not_zero)
-
 times : (a b : ℕ) → 1 ≤ b → a ≤ a * b
 times a b some = omega (arith, mul-le a 1 a b (omega arith) some)
 
 pub paid : (pace : GcflipPace) (counts : GcflipCounts) (wanted : ℕ) → Pays pace counts (steps_due pace counts wanted)
-paid pace counts wanted is_open = grind (arith, common_steps, times, some_rate, eqb-true)
+paid pace counts wanted is_open = grind (arith, common_steps, times, not_zero, eqb-true)

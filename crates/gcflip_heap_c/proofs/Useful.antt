@@ -1,18 +1,18 @@
 -- What one useful step does: it flips a ready collection, and it leaves the size of an open collection.
 use Rattle.std.proofs.lemmas.Grind.{common_steps}
-use Rattle.std.proofs.Common.{◌≡◌, ℕ, zero, suc, ◌<◌, ◌≤◌, Bool, true, false, cond, List, [], ◌∷◌, length, Option, Some, None, Result, refl, arith}
+use Rattle.std.proofs.Common.{◌≡◌, ℕ, zero, suc, ◌<◌, ◌≤◌, Bool, true, cond, List, [], ◌∷◌, length, Option, Some, None, Result, refl, arith}
 use Rattle.std.specs.Prelude.{◌≢◌, IfOk, IfSome, ⊤}
 use Rattle.std.specs.List.{list_all}
 use Rattle.std.proofs.lemmas.Bool.{and_parts}
 use Rattle.gc_graph.specs.Graph.{Value, Object, Graph}
-use Rattle.gc_plan.specs.State.{Replica, Collection, State, replica_at}
-use Rattle.gc_plan.specs.Steps.{is_empty, first_log, scan_done, root_target, is_ready, passes_check, apply_or_flip, useful_step, place_replica, with_replica, copy_value, bring_value, next_field, apply_entry, log_at, if_room, copy_root, scan_replica, apply_log, flipped, step_in, collect_with, collect}
+use Rattle.gc_plan.specs.State.{Collection, State, replica_at}
+use Rattle.gc_plan.specs.Steps.{is_empty, first_log, scan_done, root_target, is_ready, passes_check, useful_step, place_replica, bring_value, next_field, log_at, if_room, copy_root, scan_replica, apply_log, flipped, step_in, collect}
 use Rattle.gc_plan.specs.declared.step.Step.{Step}
 use Rattle.gc_plan.specs.declared.step.Step.TheVariants as steps
 use Rattle.gc_plan.specs.declared.step.StepReply.{StepReply}
 use Rattle.gc_plan.specs.declared.step.StepReply.TheVariants.{Clean, NoRoom, NotReady, Refused, Flipped}
 use Rattle.gc_core.specs.Flip.{FlipsOnly, IsCertified, PassesIfReady, HasRoomIfLarge}
-use Rattle.gcflip_heap_c.specs.Work.{IsSoundReply, LeavesRoom, IsLarge, with_size, sized_step, after_useful, useful_reply, goes_on}
+use Rattle.gcflip_heap_c.specs.Work.{IsSoundReply, IsLarge, with_size, sized_step, after_useful, useful_reply, goes_on}
 
 -- ---- a ready collection
 
@@ -32,26 +32,14 @@ flips_sized size step e = grind (arith, common_steps)
 abbrev SameSize : Collection → Option Collection → Type 0
 SameSize c o = IfSome o (λ next. next.size ≡ c.size)
 
-guarded : (c d : Collection) (b : Bool) → d.size ≡ c.size → SameSize c (cond b None (Some d))
-guarded c d b e = grind (arith, common_steps)
-
 placed_size : (c : Collection) (name : ℕ) (o : Option Object) → SameSize c (place_replica c name o)
-placed_size c name o = grind (arith, common_steps, guarded)
-
-replica_size : (c : Collection) (g : Graph) (v : Value) → SameSize c (with_replica c g v)
-replica_size c g v = grind (arith, common_steps, placed_size)
-
-copied_size : (c : Collection) (o : Option Collection) (name i : ℕ) (v : Value) → SameSize c o → SameSize c (copy_value o name i v)
-copied_size c o name i v h = grind (arith, common_steps)
+placed_size c name o = grind (arith, common_steps)
 
 brought_size : (c : Collection) (g : Graph) (name i : ℕ) (o : Option Value) → SameSize c (bring_value c g name i o)
-brought_size c g name i o = grind (arith, common_steps, copied_size, replica_size)
+brought_size c g name i o = grind (arith, common_steps, placed_size)
 
 field_size : (c : Collection) (o : Option Collection) → SameSize c o → SameSize c (next_field o)
 field_size c o h = grind (arith, common_steps)
-
-entry_size : (c : Collection) (g : Graph) (entry : ℕ × ℕ) → SameSize c (apply_entry c g entry)
-entry_size c g entry = grind (arith, common_steps, brought_size)
 
 -- ---- a new space that is at least as large as the heap stays so until the flip
 
@@ -59,16 +47,6 @@ entry_size c g entry = grind (arith, common_steps, brought_size)
 abbrev Keeps : Step → Type 0
 Keeps steps.Drop = ⊥
 Keeps step = ⊤
-
-useful_keeps : (size : Option ℕ) (roots scanned : Bool) (log : Option ℕ) → Keeps (with_size size (cond roots steps.Roots (cond scanned steps.Scan (apply_or_flip log))))
-useful_keeps None true scanned log = tt
-useful_keeps None false true log = tt
-useful_keeps None false false None = tt
-useful_keeps None false false (Some k) = tt
-useful_keeps (Some n) true scanned log = tt
-useful_keeps (Some n) false true log = tt
-useful_keeps (Some n) false false None = tt
-useful_keeps (Some n) false false (Some k) = tt
 
 abbrev GoesOn : StepReply × State → Type 0
 GoesOn p = goes_on p.0 ≡ true
@@ -80,14 +58,11 @@ module _ (size : Option ℕ) (s : State) (c : Collection) (large : IsLarge size 
   root_keeps : (o : Option ℕ) → IsLarge size (copy_root s c o).1
   root_keeps o = grind (arith, common_steps, room_keeps, placed_size)
 
-  replica_keeps : (o : Option Replica) → IsLarge size (scan_replica s c o).1
-  replica_keeps o = grind (arith, common_steps, room_keeps, field_size, brought_size)
-
   scan_keeps : (b : Bool) → IsLarge size (cond b (Clean, s) (scan_replica s c (replica_at c c.scan_place))).1
-  scan_keeps b = grind (arith, common_steps, replica_keeps)
+  scan_keeps b = grind (arith, common_steps, room_keeps, field_size, brought_size)
 
   log_keeps : (m : ℕ) (entries : List (ℕ × ℕ)) → IsLarge size (apply_log s c m entries).1
-  log_keeps m entries = grind (arith, common_steps, room_keeps, entry_size)
+  log_keeps m entries = grind (arith, common_steps, room_keeps, brought_size)
 
   flip_keeps : (ready passes : Bool) → GoesOn (cond {A = StepReply × State} ready (cond passes (Flipped (length c.replicas), flipped s c) (Refused, s)) (NotReady, s))
       → IsLarge size (cond {A = StepReply × State} ready (cond passes (Flipped (length c.replicas), flipped s c) (Refused, s)) (NotReady, s)).1
@@ -102,11 +77,8 @@ module _ (size : Option ℕ) (s : State) (c : Collection) (large : IsLarge size 
   step_keeps steps.Flip k on = flip_keeps (is_ready c s.heap.graph) (passes_check s c) on
   step_keeps steps.Drop k on = absurd k
 
-begin_keeps : (size : Option ℕ) (s : State) → LeavesRoom None size s.size → IsLarge size (collect_with s None (with_size size steps.Begin)).1
-begin_keeps size s large = grind (arith, common_steps)
-
 large_after : (size : Option ℕ) (s : State) → IsLarge size s → GoesOn (collect s (sized_step size s)) → IsLarge size (collect s (sized_step size s)).1
-large_after size s large on = grind (arith, common_steps, begin_keeps, step_keeps)
+large_after size s large on = grind (arith, common_steps, step_keeps)
 
 -- the new space is large at each step of a run whose earlier steps did not end the work
 pub large_run : (size : Option ℕ) (n : ℕ) (s : State) → IsLarge size s → ((k : ℕ) → suc k < n → goes_on (useful_reply size k s) ≡ true) → (k : ℕ) → k < n → IsLarge size (after_useful size k s)
@@ -115,12 +87,9 @@ large_run size n s large going (suc k) less = large_after size (after_useful siz
 
 -- ---- the reply to one useful step
 
-begin_finds_room : (size : Option ℕ) (s : State) → (collect_with s None (with_size size steps.Begin)).0 ≢ NoRoom
-begin_finds_room size s = grind (arith, common_steps)
-
 -- it does not lack room
 pub finds_room : (size : Option ℕ) (s : State) → IsLarge size s → HasRoomIfLarge s (collect s (sized_step size s)).0 → (collect s (sized_step size s)).0 ≢ NoRoom
-finds_room size s large room = grind (arith, common_steps, begin_finds_room)
+finds_room size s large room = grind (arith, common_steps)
 
 passes_of : (size : Option ℕ) (s : State) (reply : StepReply) → (sized_step size s ≡ steps.Flip → PassesIfReady s reply) → PassesIfReady s reply
 passes_of size s reply passes = grind (arith, common_steps, flips_sized, flips_if_ready)
