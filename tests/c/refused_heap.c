@@ -304,6 +304,25 @@ static void failed_begin(void)
     free_all();
 }
 
+/* A heap whose collection was given up. Its space stays for the next one. */
+static void set_up_given_up(void)
+{
+    set_up_ready();
+    EXPECT(gcflip_heap_step_give_up(&heap) == GCFLIP_DROPPED);
+}
+
+/* A begin in a space of another size frees the space of a collection that was given up if memory is refused, and asks once more. */
+static void begin_after_a_refusal(void)
+{
+    set_up_given_up();
+    size_t before = bytes_in_use();
+    fail_allocation(1);
+    EXPECT(begin_sized() == GCFLIP_BEGUN && has_failed() && bytes_in_use() < before);
+    fail_allocation(0);
+    EXPECT(gcflip_heap_work(&heap, 1000, &work) == GCFLIP_DONE && work.last == GCFLIP_FLIPPED);
+    free_all();
+}
+
 /* What a call allocates where its memory is there. */
 enum { NONE = 0 };
 
@@ -343,21 +362,24 @@ static void allocations(int tables, int flipping)
     EXPECT(failures(set_up_ready, paced_work) == flipping);
     EXPECT(failures(set_up_flipped, begin) == NONE);
     EXPECT(failures(set_up_flipped, begin_sized) == 2); /* another size takes no room that is left */
+    EXPECT(failures(set_up_given_up, begin) == NONE);
     EXPECT(failures(set_up_ready_again, check) == 5);
     EXPECT(failures(set_up_ready_again, flip) == flipping);
     EXPECT(failures(set_up, touch) == 2); /* the space of the next collection, and the list of its logs */
     EXPECT(failures(set_up_open, touch) == NONE);
     EXPECT(failures(set_up_flipped, touch) == NONE);
+    EXPECT(failures(set_up_given_up, touch) == NONE);
     work_before_a_failure();
     paced_work_before_a_failure();
     calls_that_do_not_allocate();
     failed_begin();
+    begin_after_a_refusal();
 }
 
 int main(void)
 {
     checking = GCFLIP_ALONG;
-    allocations(4, 0);
+    allocations(5, 0);
     checking = GCFLIP_AT_FLIP;
     allocations(0, 5); /* the certificate, its roots, and the checker's three tables */
     return 0;
