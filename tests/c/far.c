@@ -11,7 +11,7 @@
 #include <unistd.h>
 
 enum { WORDS_OF_BLOCK = 65536, SHARED = 64, CELLS = 100000, LIST = 16, CELL = 0, VALUE = 1, SEEN = 2, MOST_BLOCKS = 64 };
-static const size_t LARGE = (size_t)1 << 26;
+static const size_t LARGE = (size_t)1 << 27;
 
 static gcflip_heap heap = GCFLIP_NO_HEAP;
 static gcflip_counts counts;
@@ -25,7 +25,8 @@ static struct {
     size_t size;
 } mapped[MOST_BLOCKS];
 
-/* Returns how many bits a large block has for each word of the heap: a space 64; the standing checker's originals 16, its codes 2 and its starts 1. */
+/* Returns how many bits a large block has for each word of the heap: a space 64; the standing checker's originals 16, its codes 2 and its starts 1. Its
+ * epochs have an eighth of a bit, and are no large block. */
 static size_t bits_of(size_t size)
 {
     size_t bits = 16;
