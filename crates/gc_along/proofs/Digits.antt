@@ -29,10 +29,6 @@ unfolding digit
 digit_is word zero = omega arith
 digit_is word (suc k) = digit_is (word / 4) k ∙ ap (λ n. n % 4) (shr-shr word 2 (2 * k) ∙ ap (λ n. word / 2 ^ n) (sym (twice k)))
 
--- four times a product
-quads : (d q : ℕ) → d * (4 * q) ≡ 4 * (d * q)
-quads d q = grind arith
-
 -- ---- one code changes
 
 digit_zero : (k : ℕ) → digit 0 k ≡ 0
@@ -42,10 +38,10 @@ digit_zero (suc k) = digit_zero k
 
 -- a step over a zero
 first_digit : (n q : ℕ) → n * (4 * q) % 4 ≡ 0
-first_digit n q = omega (arith, quads n q)
+first_digit n q = grind (arith, common_steps)
 
 rest_digits : (n q : ℕ) → n * (4 * q) / 4 ≡ n * q
-rest_digits n q = omega (arith, quads n q)
+rest_digits n q = grind (arith, common_steps)
 
 -- a code alone in a word
 alone_here : (k code : ℕ) → code < 4 → digit (code * quad k) k ≡ code
@@ -93,9 +89,6 @@ xor_back x y = sym (xor_assoc x x y) ∙ ap (λ n. bit_xor n y) (xor_self x) ∙
 pub with_code_here : (word k code : ℕ) → k < 32 → code < 4 → code_in (with_code word k code) k ≡ code
 with_code_here word k code within few = grind (arith, common_steps, xor_few, changed, alone_here, xor_back)
 
-pub with_code_beside : (word k code other : ℕ) → k < 32 → code < 4 → other ≢ k → code_in (with_code word k code) other ≡ code_in word other
-with_code_beside word k code other within few differs = grind (arith, common_steps, with_first_beside, xor_few)
-
 -- ---- a run of threes
 
 -- so many threes behind so many zeros
@@ -111,17 +104,13 @@ threes_in : (count k : ℕ) → k < count → digit (quad count - 1) k ≡ 3
 unfolding digit quad
 threes_in zero k less = absurd (omega arith)
 threes_in (suc count) zero less = let low : 1 ≤ quad count = quad_pos count in omega arith
-threes_in (suc count) (suc k) less =
-    let low : 1 ≤ quad count = quad_pos count in
-    ap (λ n. digit n k) (let e : (4 * quad count - 1) / 4 ≡ quad count - 1 = omega arith in e) ∙ threes_in count k (omega arith)
+threes_in (suc count) (suc k) less = grind (arith, common_steps, quad, quad_pos, digit, threes_in count k (omega arith))
 
 threes_out : (count k : ℕ) → count ≤ k → digit (quad count - 1) k ≡ 0
 unfolding digit quad
 threes_out zero k past = digit_zero k
 threes_out (suc count) zero past = absurd (omega arith)
-threes_out (suc count) (suc k) past =
-    let low : 1 ≤ quad count = quad_pos count in
-    ap (λ n. digit n k) (let e : (4 * quad count - 1) / 4 ≡ quad count - 1 = omega arith in e) ∙ threes_out count k (omega arith)
+threes_out (suc count) (suc k) past = grind (arith, common_steps, quad, quad_pos, digit, threes_out count k (omega arith))
 
 mask_inside : (count place k : ℕ) → place ≤ k → k < place + count → digit (mask count place) k ≡ 3
 unfolding digit quad mask
@@ -160,9 +149,8 @@ unfolding mask
 mask_is place count within =
     let ones : 18446744073709551615 / 2 ^ (64 - 2 * count) ≡ 2 ^ (2 * count) - 1
     = ones_shr 64 (64 - 2 * count) (omega arith) ∙ ap (λ n. 2 ^ n - 1) (let e : 64 - (64 - 2 * count) ≡ 2 * count = omega arith in e) in
-    let less : 2 ^ (2 * count) - 1 < 2 ^ (2 * count) = (let low : 0 < 2 ^ (2 * count) = pow_pos (2 * count) in omega arith) in
     ap (λ n. n * 2 ^ (2 * place) % 18446744073709551616) ones
-    ∙ shl_whole (2 ^ (2 * count) - 1) (2 * count) (2 * place) 64 less (omega arith)
+    ∙ shl_whole (2 ^ (2 * count) - 1) (2 * count) (2 * place) 64 (let low : 0 < 2 ^ (2 * count) = pow_pos (2 * count) in omega arith) (omega arith)
     ∙ (λ i. (sym (quad_is count) i - 1) * sym (quad_is place) i)
 
 filled_code : (word place count k code : ℕ) → place + count ≤ 32 → digit (mask count place) k ≡ code → code_in (filled word place count) k ≡ bit_or (code_in word k) code
@@ -217,9 +205,6 @@ twos word = bit_and (bit_and (word / 2) (bit_xor (word / 2) word)) 6148914691236
 abbrev pub freed_word : ℕ → ℕ
 freed_word word = bit_xor word (3 * bit_and (bit_and (word / 2) (bit_xor (word / 2) word)) 6148914691236517205)
 
-pub few_twos : (word : ℕ) → bit_and (bit_and (word / 2) (bit_xor (word / 2) word)) 6148914691236517205 ≤ 6148914691236517205
-few_twos word = and_le_r (bit_and (word / 2) (bit_xor (word / 2) word)) 6148914691236517205
-
 by_cases : (c h : ℕ) → c < 4 → h < 4 → h % 2 ≡ c / 2 → bit_xor c (3 * bit_and (bit_and h (bit_xor h c)) 1) ≡ freed c
 by_cases zero zero few small same = refl
 by_cases zero (suc zero) few small same = absurd (omega arith)
@@ -251,8 +236,7 @@ freed_codes word k within =
     ∙ by_cases (code_in word k) (code_in (word / 2) k) (omega arith) (omega arith) (high_bit word k)
   where
     each : (j : ℕ) → code_in (twos word) j ≡ bit_and (bit_and (code_in (word / 2) j) (bit_xor (code_in (word / 2) j) (code_in word j))) (code_in 6148914691236517205 j)
-    each j = code_and (bit_and (word / 2) (bit_xor (word / 2) word)) 6148914691236517205 j
-        ∙ ap (λ n. bit_and n (code_in 6148914691236517205 j)) (code_and (word / 2) (bit_xor (word / 2) word) j ∙ ap (bit_and (code_in (word / 2) j)) (code_xor (word / 2) word j))
+    each j = grind (arith, common_steps, code_and, bit_and, bit_xor, code_xor)
 
     all : 6148914691236517205 ≡ ones 32
     all = refl

@@ -1,4 +1,5 @@
 -- The originals of replicas, as bits and halves of addresses hold them.
+use Rattle.std.proofs.Math.Seq.{get_or-append_seam}
 use Rattle.std.proofs.lemmas.Grind.{common_steps}
 use Rattle.std.proofs.Common.{◌≡◌, ◌≢◌, inl, inr, ℕ, zero, suc, ◌+◌, ◌-◌, ◌*◌, ◌/◌, ◌%◌, ◌^◌, ◌<◌, ◌≤◌, ◌==◌, Bool, true, false, List, [], ◌∷◌, ◌++◌, length, set, get_or, replicate, refl, sym, ◌∙◌, ap, subst, arith, w64, bit_and, bit_or, length-append, length-set, get_or-set_same, get_or-set_other, rules}
 use Rattle.std.specs.Prelude.{slice_index, if◌then◌else◌}
@@ -106,8 +107,7 @@ behind_at (x ∷ xs) original fields zero other = refl
 behind_at (x ∷ xs) original fields (suc place) other = behind_at xs original fields place (λ e. other (ap suc e))
 
 end_at : (xs : List ℕ) (original fields : ℕ) → get_or (xs ++ original ∷ 0 ∷ replicate fields 0) (length xs) 0 ≡ original
-end_at [] original fields = refl
-end_at (x ∷ xs) original fields = end_at xs original fields
+end_at xs original fields = get_or-append_seam xs original (0 ∷ replicate fields 0) 0
 
 origin_beside : (starts originals : List ℕ) (len n m fields original place : ℕ) → HasGrown starts originals len n m fields → place ≢ len
     → origin_at (starts_with starts n len) (originals_with originals m len original) place ≡ origin_at starts originals place
@@ -121,10 +121,7 @@ origin_beside starts originals len n m fields original place g other = elim (cas
 ]
   where
     below : starts_at starts place ≡ true → place + 2 ≤ len
-    below start = elim (cases_lt (place + 1) len) [
-      | inl less ↦ omega arith
-      | inr past ↦ absurd (let no : false ≡ true = sym (g.has.rest place past) ∙ start in cc)
-    ]
+    below start = grind (arith, common_steps, cases_lt)
 
 origins_past : (starts originals : List ℕ) (len place : ℕ) → HasOrigins starts originals len → get_or (origins_in starts originals len) place 0 ≡ origin_at starts originals place
 origins_past starts originals len place has = grind (arith, common_steps, cases_lt, origins_at, get_or_past, length-origins, no_origin)
@@ -159,24 +156,15 @@ origins_more starts originals len n m fields original g =
 
 -- ---- the row of place 0
 
-has_one : HasOrigins (replicate 1 0) (replicate 32 0) 1
-has_one = record { bits = refl; halves = refl; rest = λ place past. no_mark (replicate 1 0) place (zeros_at 1) }
-
 one_origin : origins_in (replicate 1 0) (replicate 32 0) 1 ≡ 0 ∷ []
 unfolding origins_in origin_at starts_at
 one_origin = refl
-
-has_none : HasOrigins [] [] 0
-has_none = record { bits = refl; halves = refl; rest = λ place past. no_mark [] place (λ i. refl) }
 
 no_origins : origins_in [] [] 0 ≡ []
 unfolding origins_in
 no_origins = refl
 
 -- ---- what a caller sees
-
-pub seen_length : (starts originals : List ℕ) (len room : ℕ) (seen : Origins) → record { origins = origins_in starts originals len; room = room } ≡ seen → length seen.origins ≡ len
-seen_length starts originals len room seen is = ap (λ (t : Origins). length t.origins) (sym is) ∙ length-origins starts originals len
 
 pub seen_fits : (starts originals : List ℕ) (len room more : ℕ) (seen : Origins) → record { origins = origins_in starts originals len; room = room } ≡ seen → length seen.origins + more ≤ seen.room → len + more ≤ room
 seen_fits starts originals len room more seen is fits = grind (arith, common_steps, length-origins)
@@ -194,8 +182,7 @@ mark_read starts place word b read inside is =
 
 pub none_unmarked : (starts originals : List ℕ) (len room place word : ℕ) (seen : Origins) → record { origins = origins_in starts originals len; room = room } ≡ seen → HasOrigins starts originals len → place < len
     → word ≡ get_or starts (place / 64) word → (bit_and (word / 2 ^ (place % 64)) 1 == 1) ≡ false → 0 ≡ get_or seen.origins place 0
-none_unmarked starts originals len room place word seen is has inside read none =
-    sym (origins_at starts originals len place inside ∙ no_origin starts originals place (mark_read starts place word false read (omega (arith, has.bits)) none)) ∙ seen_at starts originals len room place seen is
+none_unmarked starts originals len room place word seen is has inside read none = grind (arith, origins_at, no_origin, mark_read, seen_at)
 
 pub original_read : (starts originals : List ℕ) (len room place word original : ℕ) (seen : Origins) → record { origins = origins_in starts originals len; room = room } ≡ seen → HasOrigins starts originals len → place < len
     → word ≡ get_or starts (place / 64) word → (bit_and (word / 2 ^ (place % 64)) 1 == 1) ≡ true → original ≡ get_or originals (place / 2) original → original ≡ get_or seen.origins place 0
@@ -203,20 +190,16 @@ original_read starts originals len room place word original seen is has inside r
 
 -- ---- as the code writes them
 
--- the zeros of an empty row
-zeros_of : (before after : List ℕ) (len n : ℕ) → before ≡ [] → len ≡ 0 → after ≡ before ++ replicate (n - len) 0 → after ≡ replicate n 0
-zeros_of before after len n none nought is = is ∙ (λ i. none i ++ replicate (n - nought i) 0) ∙ ap (λ k. replicate k 0) (let e : n - 0 ≡ n = omega arith in e)
-
 pub has_one_of : (s0 o0 starts originals : List ℕ) (n m : ℕ) → s0 ≡ [] → n ≡ 0 → starts ≡ s0 ++ replicate (1 - n) 0 → o0 ≡ [] → m ≡ 0 → originals ≡ o0 ++ replicate (32 - m) 0
     → HasOrigins starts originals 1
-has_one_of s0 o0 starts originals n m s_none n_zero s o_none m_zero o = grind (arith, common_steps, zeros_of, has_one)
+has_one_of s0 o0 starts originals n m s_none n_zero s o_none m_zero o = grind (arith, common_steps, no_mark, zeros_at)
 
 pub one_origin_of : (s0 o0 starts originals : List ℕ) (n m : ℕ) → s0 ≡ [] → n ≡ 0 → starts ≡ s0 ++ replicate (1 - n) 0 → o0 ≡ [] → m ≡ 0 → originals ≡ o0 ++ replicate (32 - m) 0
     → origins_in starts originals 1 ≡ 0 ∷ []
-one_origin_of s0 o0 starts originals n m s_none n_zero s o_none m_zero o = grind (arith, common_steps, zeros_of, one_origin)
+one_origin_of s0 o0 starts originals n m s_none n_zero s o_none m_zero o = grind (arith, common_steps, one_origin)
 
 pub has_none_of : (starts originals : List ℕ) → starts ≡ [] → originals ≡ [] → HasOrigins starts originals 0
-has_none_of starts originals s o = subst (λ starts. HasOrigins starts originals 0) (sym s) (subst (λ originals. HasOrigins [] originals 0) (sym o) has_none)
+has_none_of starts originals s o = grind (arith, common_steps, no_mark)
 
 pub no_origins_of : (starts originals : List ℕ) → starts ≡ [] → originals ≡ [] → origins_in starts originals 0 ≡ []
 no_origins_of starts originals s o = (λ i. origins_in (s i) (o i) 0) ∙ no_origins

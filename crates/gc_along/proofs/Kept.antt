@@ -3,8 +3,8 @@ use Rattle.std.proofs.lemmas.Grind.{common_steps}
 use Rattle.std.proofs.Common.{◌≡◌, ◌⊎◌, inl, inr, ℕ, zero, suc, ◌+◌, ◌<◌, ◌≤◌, ◌==◌, Bool, true, false, not, List, [], ◌∷◌, ◌++◌, length, set, get_or, replicate, refl, sym, ◌∙◌, ap, subst, arith}
 use Rattle.std.specs.Prelude.{if◌then◌else◌}
 use Rattle.std.specs.List.{sum_by}
-use Rattle.std.proofs.lemmas.Bool.{cases_eq}
-use Rattle.std.proofs.lemmas.List.{get_or-set_other, get_or-set_same, length-replicate, length-map}
+use Rattle.std.proofs.lemmas.Bool.{cases_eq, cases_lt}
+use Rattle.std.proofs.lemmas.List.{get_or-set_other, get_or-set_same, length-replicate, length-map, map-append, get_or-map, get_or_past, get_or_append_left}
 use Rattle.std.proofs.lemmas.List.Sums.{sum_by-set, sum_by-append}
 use Rattle.gc_words.specs.Layout.{fields_place}
 use Rattle.gc_words.specs.declared.header.Header.{Header}
@@ -29,9 +29,7 @@ pub code_is : (due : Bool) → (code_of due == 3) ≡ due
 code_is due = grind (arith, common_steps)
 
 pub due_at : (codes : List ℕ) (place : ℕ) → get_or (due_in codes) place false ≡ (get_or codes place 0 == 3)
-due_at [] place = refl
-due_at (c ∷ codes) zero = refl
-due_at (c ∷ codes) (suc place) = due_at codes place
+due_at codes place = grind (arith, common_steps, cases_lt, get_or-map, get_or_past, length-map)
 
 pub set_count : (codes : List ℕ) (place : ℕ) (due : Bool) → place < length codes → missing_in (set codes place (code_of due)) + bit (get_or codes place 0 == 3) ≡ missing_in codes + bit due
 set_count codes place due h =
@@ -44,14 +42,10 @@ kept_due t place due k = grind (arith, common_steps)
 -- ---- an object more
 
 pub in_front : (xs ys : List ℕ) (k c : ℕ) → get_or xs k 0 ≡ suc c → get_or (xs ++ ys) k 0 ≡ suc c
-in_front [] ys k c h = absurd (let no : 0 ≡ suc c = h in omega arith)
-in_front (x ∷ xs) ys zero c h = h
-in_front (x ∷ xs) ys (suc k) c h = in_front xs ys k c h
+in_front xs ys k c h = grind (arith, common_steps, cases_lt, get_or_append_left, get_or_past)
 
 pub within_row : (xs : List ℕ) (k c : ℕ) → get_or xs k 0 ≡ suc c → k < length xs
-within_row [] k c h = absurd (let no : 0 ≡ suc c = h in omega arith)
-within_row (x ∷ xs) zero c h = omega arith
-within_row (x ∷ xs) (suc k) c h = let l : k < length xs = within_row xs k c h in omega arith
+within_row xs k c h = grind (arith, common_steps, cases_lt, get_or_past)
 
 bits : (n : ℕ) (due : Bool) → missing_in (replicate n (code_of due)) ≡ (if due then n else 0)
 bits zero true = refl
@@ -60,14 +54,7 @@ bits (suc n) true = sum_by-append bit (true ∷ []) (due_in (replicate n 3)) ∙
 bits (suc n) false = sum_by-append bit (false ∷ []) (due_in (replicate n 0)) ∙ (let ih : missing_in (replicate n 0) ≡ 0 = bits n false in omega arith)
 
 pub map_append : (xs ys : List ℕ) → due_in (xs ++ ys) ≡ due_in xs ++ due_in ys
-map_append [] ys = refl
-map_append (x ∷ xs) ys = ap (λ bs. (x == 3) ∷ bs) (map_append xs ys)
-
-pub added_count : (codes : List ℕ) (n : ℕ) (due : Bool) → missing_in (codes ++ object_codes n (code_of due)) ≡ missing_in codes + (if due then n else 0)
-added_count codes n due =
-    ap (sum_by bit) (map_append codes (object_codes n (code_of due)))
-    ∙ sum_by-append bit (due_in codes) (due_in (object_codes n (code_of due)))
-    ∙ ap (λ m. missing_in codes + m) (sum_by-append bit (false ∷ false ∷ []) (due_in (replicate n (code_of due))) ∙ ap (λ m. 0 + m) (bits n due) ∙ (let z : 0 + (if due then n else 0) ≡ (if due then n else 0) = omega arith in z))
+map_append xs ys = map-append (λ c. c == 3) xs ys
 
 pub codes_length : (n code : ℕ) → length (object_codes n code) ≡ n + 2
 codes_length n code = let l : length (replicate n code) ≡ n = length-replicate n code in omega arith
@@ -78,24 +65,12 @@ kept_old t h k = grind (arith, common_steps, in_front)
 -- the row of originals with one more
 origin_there : (xs : List ℕ) (a n b : ℕ) → 1 ≤ get_or (xs ++ a ∷ 0 ∷ replicate n 0) b 0 → ((get_or (xs ++ a ∷ 0 ∷ replicate n 0) b 0 ≡ get_or xs b 0) × (1 ≤ get_or xs b 0)) ⊎ (get_or (xs ++ a ∷ 0 ∷ replicate n 0) b 0 ≡ a)
 origin_there [] a n zero low = inr refl
-origin_there [] a n (suc b) low = absurd (let z : get_or {A = ℕ} (replicate (suc n) 0) b 0 ≡ 0 = zeros (suc n) b in let l : 1 ≤ get_or {A = ℕ} (replicate (suc n) 0) b 0 = low in omega arith)
-  where
-    zeros : (n b : ℕ) → get_or {A = ℕ} (replicate n 0) b 0 ≡ 0
-    zeros zero b = refl
-    zeros (suc n) zero = refl
-    zeros (suc n) (suc b) = zeros n b
+origin_there [] a n (suc b) low = grind (arith, common_steps)
 origin_there (x ∷ xs) a n zero low = inl (refl, low)
 origin_there (x ∷ xs) a n (suc b) low = origin_there xs a n b low
 
 pub kept_replica : (t : Tables) (h : Header) (a : ℕ) (due : Bool) → length t.news + (h.len + 2) ≤ 4294967295 → get_or t.olds a 0 ≡ 1 → IsKept t → IsKept (replica_added t h a due)
 kept_replica t h a due bound start k = grind (arith, common_steps, codes_length, length-replicate, get_or-set_same, within_row, origin_there, cases_eq, get_or-set_other)
-
--- the count of the rows with a replica more
-pub replica_counted : (t : Tables) (h : Header) (a : ℕ) (due : Bool) (m : ℕ) → IsKept t → m ≡ t.missing + (if due then h.len else 0)
-    → record (replica_added t h a due) { missing = m } ≡ replica_added t h a due
-replica_counted t h a due m k is =
-    let e : m ≡ missing_in (t.news ++ object_codes h.len (code_of due)) = is ∙ ap (λ n. n + (if due then h.len else 0)) k.counted ∙ sym (added_count t.news h.len due) in
-    ap (λ n. record (replica_added t h a due) { missing = n }) e
 
 -- ---- originals without their replicas
 
@@ -104,36 +79,19 @@ IsFreedAt before after a = (get_or after a 0 ≡ get_or before a 0) ⊎ ((get_or
 
 -- ---- the fields as they are written
 
--- the tables with one place due or not, and counted anew
-pub due_written : (t : Tables) (place code m : ℕ) (due : Bool) (news : List ℕ) → IsKept t → place < length t.news → code ≡ code_of due → m + bit (get_or t.news place 0 == 3) ≡ t.missing + bit due
-    → news ≡ set t.news place code → record t { news = news; missing = m } ≡ with_due t place due
-due_written t place code m due news k within is count news_are = grind (arith, common_steps, set_count)
-
-pub few_missing : (t : Tables) → IsKept t → t.missing ≤ 4294967295
-few_missing t k = let few : length t.news ≤ 4294967295 = k.few in let counted : t.missing ≡ missing_in t.news = k.counted in let m : missing_in t.news ≤ length t.news = few_due t.news in omega arith
-
 -- one that is due is among those counted
 pub some_missing : (t : Tables) (place : ℕ) → IsKept t → place < length t.news → bit (get_or t.news place 0 == 3) ≤ t.missing
-some_missing t place k within =
-    let counted : t.missing ≡ missing_in t.news = k.counted in
-    let one : missing_in (set t.news place 0) + bit (get_or t.news place 0 == 3) ≡ missing_in t.news + 0 = set_count t.news place false within in
-    omega arith
+some_missing t place k within = omega (arith, k.counted, set_count t.news place false within)
 
 -- the tables with a replica more
 pub replica_written : (t : Tables) (h : Header) (a m n : ℕ) (due : Bool) (olds news origins : List ℕ) → IsKept t → olds ≡ set t.olds a 2 → news ≡ t.news ++ object_codes h.len (code_of due)
     → origins ≡ t.origins ++ a ∷ 0 ∷ replicate h.len 0 → m ≡ t.missing + n → n ≡ (if due then h.len else 0)
     → record t { olds = olds; news = news; origins = origins; missing = m } ≡ replica_added t h a due
-replica_written t h a m n due olds news origins k olds_are news_are origins_are m_is n_is =
-    (λ i. record t { olds = olds_are i; news = news_are i; origins = origins_are i; missing = (m_is ∙ ap (λ n. t.missing + n) n_is) i })
-    ∙ replica_counted t h a due (t.missing + (if due then h.len else 0)) k refl
-
-pub placed_is : (old new : List ℕ) (t after : Tables) (h : Header) (a : ℕ) (copied : Bool) → length t.news < length new → IsClaim old new t h a → (copied ≡ true → IsCopy old new h a (length t.news))
-    → after ≡ replica_added t h a (not copied) → Placed old new t after
-placed_is old new t after h a copied less claim copy is = grind (arith, common_steps)
+replica_written t h a m n due olds news origins k olds_are news_are origins_are m_is n_is = grind (arith, map_append, sum_by-append, bits)
 
 pub placed_at : (old new : List ℕ) (t now after : Tables) (h : Header) (a : ℕ) (copied : Bool) → t ≡ now → length t.news < length new → IsClaim old new t h a → (copied ≡ true → IsCopy old new h a (length t.news))
     → after ≡ replica_added t h a (not copied) → Placed old new now after
-placed_at old new t now after h a copied same less claim copy is = subst (λ t. Placed old new t after) same (placed_is old new t after h a copied less claim copy is)
+placed_at old new t now after h a copied same less claim copy is = grind (arith, common_steps)
 
 -- where the mark is not set no replica was seen
 pub untaken : (t now : Tables) (a : ℕ) → t ≡ now → IsLostOrKept t → now.lost ≡ false → (get_or now.olds a 0 == 2) ≡ false → HasNoReplica now a

@@ -18,21 +18,11 @@ use Rattle.gc_along.proofs.Written.{block_written, block_beside, block_linked, b
 pub no_zero : IsMark 0 → ⊥
 no_zero h = grind (arith, common_steps)
 
-pub no_code : (due : Bool) → IsMark (code_of due) → ⊥
-no_code due h = grind (arith, common_steps, no_zero)
-
--- a row of one place that is no start
-pub none_yet : (words : List ℕ) → MarksStarts (0 ∷ []) words
-none_yet words h m = grind (arith, common_steps, no_zero)
-
 -- a place of a row that has grown is an early one or a new one
 split : (xs ys : List ℕ) (a : ℕ) → ((a < length xs) × (get_or (xs ++ ys) a 0 ≡ get_or xs a 0)) ⊎ ((k : ℕ) × (a ≡ length xs + k) × (get_or (xs ++ ys) a 0 ≡ get_or ys k 0))
 split [] ys a = inr (a, omega arith, refl)
 split (x ∷ xs) ys zero = inl (omega arith, refl)
-split (x ∷ xs) ys (suc a) = ⊎_elim
-    (λ e. inl ((let l : a < length xs = e.0 in omega arith), e.1))
-    (λ e. inr (e.0, (let l : a ≡ length xs + e.0 = e.1 in omega arith), e.2))
-    (split xs ys a)
+split (x ∷ xs) ys (suc a) = grind (arith, common_steps, ⊎_elim, split xs ys a)
 
 same_codes : (n code k : ℕ) → (IsMark code → ⊥) → IsMark (get_or {A = ℕ} (replicate n code) k 0) → ⊥
 same_codes zero code k off m = no_zero m
@@ -45,9 +35,6 @@ behind n code k off m = grind (arith, common_steps, no_zero, same_codes)
 -- ---- an object more
 
 module _ (codes words : List ℕ) (h : Header) (code : ℕ) (off : IsMark code → ⊥) (seen : IsSeen (length codes) words) (next : IsNext (length codes) words h) (starts : MarksStarts codes words) where
-  grown_to : length (codes ++ object_codes h.len code) ≡ length codes + (h.len + 2)
-  grown_to = omega (arith, length-append codes (object_codes h.len code), codes_length h.len code)
-
   early : (a : ℕ) → is_start (take (length codes) words) a ≡ true → is_start (take (length codes + (h.len + 2)) words) a ≡ true
   early a s = grind (arith, common_steps, some_of, kept)
 
@@ -58,7 +45,7 @@ module _ (codes words : List ℕ) (h : Header) (code : ℕ) (off : IsMark code �
   at_new a k e m = grind (arith, common_steps, here, behind)
 
   pub marks_more : MarksStarts (codes ++ object_codes h.len code) words
-  marks_more a m = grind (arith, common_steps, grown_to, early, at_new, split)
+  marks_more a m = grind (arith, common_steps, length-append, codes_length, early, at_new, split)
 
 -- ---- a code that is no start's
 
@@ -85,6 +72,3 @@ marks_written codes words a i x seen some starts c m = elim (cases_eq c a) [
 
 pub marks_linked : (codes words : List ℕ) (a x : ℕ) → IsSeen (length codes) words → is_start (take (length codes) words) a ≡ true → MarksStarts codes words → MarksStarts codes (slice_set words (link_place a) x)
 marks_linked codes words a x seen start starts c m = ap is_some (block_linked (length codes) words a x seen start c) ∙ starts c m
-
-pub marks_behind : (codes words more : List ℕ) → length codes ≤ length words → MarksStarts codes words → MarksStarts codes (words ++ more)
-marks_behind codes words more within starts c m = ap (λ ws. is_start ws c) (take-append-le (length codes) words more within) ∙ starts c m

@@ -22,14 +22,10 @@ word_within words len place h inside = let count : (len + 31) / 32 ≤ length wo
 -- ---- zeros
 
 pub zeros_at : (n i : ℕ) → get_or {A = ℕ} (replicate n 0) i 0 ≡ 0
-zeros_at zero i = refl
-zeros_at (suc n) zero = refl
-zeros_at (suc n) (suc i) = zeros_at n i
+zeros_at n i = grind (arith, common_steps, cases_lt, get_or-replicate, get_or_past, length-replicate)
 
 pub zeros_behind : (xs : List ℕ) (n i : ℕ) → get_or (xs ++ replicate n 0) i 0 ≡ get_or xs i 0
-zeros_behind [] n i = zeros_at n i
-zeros_behind (x ∷ xs) n zero = refl
-zeros_behind (x ∷ xs) n (suc i) = zeros_behind xs n i
+zeros_behind xs n i = grind (arith, common_steps, cases_lt, get_or_append_left, get_or-append_right, get_or_past, zeros_at)
 
 no_code : (k : ℕ) → code_in 0 k ≡ 0
 no_code k = grind arith
@@ -47,12 +43,7 @@ here_at words place code word inside w = ap (λ n. code_in n (place % 32)) (get_
 
 other_at : (words : List ℕ) (place code word other : ℕ) → place / 32 < length words → IsWith words place code word → other ≢ place → code_at (set words (place / 32) word) other ≡ code_at words other
 unfolding code_at
-other_at words place code word other inside w differs = elim (cases_eq (place / 32) (other / 32)) [
-  | inl same ↦ (let k : other % 32 ≢ place % 32 = λ e. differs (omega arith) in
-      subst (λ n. code_in (slice_index (set words (place / 32) word) n) (other % 32) ≡ code_in (slice_index words n) (other % 32)) same
-      (ap (λ n. code_in n (other % 32)) (get_or-set_same words (place / 32) word 0 inside) ∙ w.others (other % 32) k))
-  | inr beside ↦ ap (λ n. code_in n (other % 32)) (get_or-set_other words (place / 32) (other / 32) word 0 (λ e. beside (sym e)))
-]
+other_at words place code word other inside w differs = grind (arith, common_steps, cases_eq, get_or-set_same, get_or-set_other)
 
 pub codes_set : (words : List ℕ) (len place code word : ℕ) → HasCodes words len → place < len → IsWith words place code word → codes_in (set words (place / 32) word) len ≡ set (codes_in words len) place code
 codes_set words len place code word h inside w =
@@ -90,10 +81,7 @@ codes_more words len n places h =
     ∙ more_at words n place ∙ sym (zeros_behind (codes_in words len) places place ∙ same place))
   where
     same : (place : ℕ) → get_or (codes_in words len) place 0 ≡ code_at words place
-    same place = elim (cases_lt place len) [
-      | inl inside ↦ codes_at words len place inside
-      | inr past ↦ get_or_past (codes_in words len) place 0 (omega (arith, length-codes words len)) ∙ sym (h.rest place past)
-    ]
+    same place = grind (arith, common_steps, cases_lt, codes_at, get_or_past, length-codes)
 
 pub has_codes_more : (words : List ℕ) (len n places : ℕ) → HasCodes words len → (len + places + 31) / 32 ≤ length words + n → length words + n ≤ 134217728 → HasCodes (words ++ replicate n 0) (len + places)
 has_codes_more words len n places h count few = grind (arith, common_steps, length-replicate, more_at)
@@ -142,12 +130,6 @@ is_with words place code word n read inside here others = grind (arith, common_s
 pub seen_len : (words : List ℕ) (len room more : ℕ) (seen : Codes) → record { codes = codes_in words len; room = room } ≡ seen → length seen.codes + more ≤ seen.room → len + more ≤ room
 seen_len words len room more seen is fits = grind (arith, common_steps, length-codes)
 
-pub has_one_of : (words : List ℕ) → words ≡ 0 ∷ [] → HasCodes words 1
-has_one_of words is = subst (λ words. HasCodes words 1) (sym is) has_one
-
-pub one_code_of : (words : List ℕ) → words ≡ 0 ∷ [] → codes_in words 1 ≡ 0 ∷ []
-one_code_of words is = ap (λ words. codes_in words 1) is ∙ one_code
-
 pub seen_length : (words : List ℕ) (len room : ℕ) (seen : Codes) → record { codes = codes_in words len; room = room } ≡ seen → length seen.codes ≡ len
 seen_length words len room seen is = ap (λ (t : Codes). length t.codes) (sym is) ∙ length-codes words len
 
@@ -159,13 +141,6 @@ fields_filled before len code n at = ap (λ n. take n (before ++ 1 ∷ 0 ∷ rep
     at_end : (before : List ℕ) → take (suc (suc (length before))) (before ++ 1 ∷ 0 ∷ replicate len 0) ++ replicate len code ≡ before ++ 1 ∷ 0 ∷ replicate len code
     at_end [] = refl
     at_end (x ∷ before) = ap (λ xs. x ∷ xs) (at_end before)
-
--- as the code writes them
-pub object_coded : (before after : List ℕ) (len more : ℕ) → more ≡ len → after ≡ before ++ 1 ∷ replicate (more + 1) 0 → after ≡ before ++ 1 ∷ 0 ∷ replicate len 0
-object_coded before after len more more_is is = is ∙ ap (λ n. before ++ 1 ∷ replicate n 0) (ap (λ n. n + 1) more_is ∙ (let e : len + 1 ≡ suc len = omega arith in e))
-
-pub object_due : (before now after : List ℕ) (len places : ℕ) → now ≡ before ++ 1 ∷ 0 ∷ replicate len 0 → places ≡ len → after ≡ take (length now - places) now ++ replicate places 3 → after ≡ before ++ 1 ∷ 0 ∷ replicate len 3
-object_due before now after len places coded places_is is = grind (arith, common_steps, fields_filled, length-replicate)
 
 -- ---- a place more with a code
 
@@ -182,21 +157,15 @@ pub record IsAdded (words words' : List ℕ) (len len' code more : ℕ) : Type 0
 pub none_behind : (words grown : List ℕ) (len len' n word : ℕ) → HasCodes words len → grown ≡ words ++ replicate n 0 → len < len' → (len' + 31) / 32 ≤ length words + n
     → word ≡ get_or grown (len / 32) word → code_in word (len % 32) ≡ 0
 unfolding code_at
-none_behind words grown len len' n word has grown_is more count read =
-    let inside : len / 32 < length grown = (let l : length grown ≡ length words + n = ap length grown_is ∙ length-append words (replicate n 0) ∙ ap (λ k. length words + k) (length-replicate {A = ℕ} n 0) in omega arith) in
-    ap (λ word. code_in word (len % 32)) (read ∙ get_or_default grown (len / 32) word 0 inside ∙ ap (λ row. get_or row (len / 32) 0) grown_is ∙ zeros_behind words n (len / 32))
-    ∙ has.rest len (omega arith)
+none_behind words grown len len' n word has grown_is more count read = grind (arith, common_steps, length-append, length-replicate, get_or_default, zeros_behind)
 
 pub added : (words grown : List ℕ) (len len' code more n word with : ℕ) → HasCodes words len → grown ≡ words ++ replicate n 0 → len' ≡ len + suc more → (len' + 31) / 32 ≤ length words + n → length words + n ≤ 134217728
     → word ≡ get_or grown (len / 32) word → code_in with (len % 32) ≡ code → ((k : ℕ) → k ≢ len % 32 → code_in with k ≡ code_in word k)
     → IsAdded words (set grown (len / 32) with) len len' code more
 added words grown len len' code more n word with has grown_is len_is count few read here others =
     let row : List ℕ = words ++ replicate n 0 in
-    let count_is : (len + suc more + 31) / 32 ≤ length words + n = omega (arith, count, len_is) in
-    let has_row : HasCodes row (len + suc more) = has_codes_more words len n (suc more) has count_is few in
-    let inside : len / 32 < length row = omega (arith, has_row.count) in
-    let read_row : word ≡ get_or row (len / 32) word = read ∙ ap (λ row. get_or row (len / 32) word) grown_is in
-    let w : IsWith row len code with = is_with row len code with word read_row inside here others in
+    let has_row : HasCodes row (len + suc more) = has_codes_more words len n (suc more) has (omega (arith, count, len_is)) few in
+    let w : IsWith row len code with = is_with row len code with word (read ∙ ap (λ row. get_or row (len / 32) word) grown_is) (omega (arith, has_row.count)) here others in
     let rows : set grown (len / 32) with ≡ set row (len / 32) with = ap (λ row. set row (len / 32) with) grown_is in
     record {
       has = subst (λ row. HasCodes row len') (sym rows) (subst (λ l. HasCodes (set row (len / 32) with) l) (sym len_is) (has_codes_set row (len + suc more) len code with has_row (omega arith) w));
@@ -221,23 +190,11 @@ is_filled words from count word n read inside fits filled others = grind (arith,
 
 filled_at : (words : List ℕ) (from count word place : ℕ) → from / 32 < length words → IsFilled words from count word → from ≤ place → place < from + count → code_at (set words (from / 32) word) place ≡ 3
 unfolding code_at
-filled_at words from count word place inside f low high =
-    let fits : from % 32 + count ≤ 32 = f.fits in
-    ap (λ n. code_in (get_or (set words (from / 32) word) n 0) (place % 32)) (let e : place / 32 ≡ from / 32 = omega arith in e)
-    ∙ ap (λ n. code_in n (place % 32)) (get_or-set_same words (from / 32) word 0 inside)
-    ∙ f.inside (place % 32) (omega arith) (omega arith)
+filled_at words from count word place inside f low high = grind (arith, common_steps, get_or-set_same)
 
 kept_at : (words : List ℕ) (from count word place : ℕ) → from / 32 < length words → IsFilled words from count word → (place < from) ⊎ (from + count ≤ place) → code_at (set words (from / 32) word) place ≡ code_at words place
 unfolding code_at
-kept_at words from count word place inside f out = elim (cases_eq (from / 32) (place / 32)) [
-  | inl same ↦ subst (λ n. code_in (slice_index (set words (from / 32) word) n) (place % 32) ≡ code_in (slice_index words n) (place % 32)) same
-      (ap (λ n. code_in n (place % 32)) (get_or-set_same words (from / 32) word 0 inside) ∙ f.outside (place % 32) (behind same out))
-  | inr beside ↦ ap (λ n. code_in n (place % 32)) (get_or-set_other words (from / 32) (place / 32) word 0 (λ e. beside (sym e)))
-]
-  where
-    behind : from / 32 ≡ place / 32 → (place < from) ⊎ (from + count ≤ place) → (place % 32 < from % 32) ⊎ (from % 32 + count ≤ place % 32)
-    behind same (inl low) = inl (omega arith)
-    behind same (inr high) = inr (omega arith)
+kept_at words from count word place inside f out = grind (arith, common_steps, cases_eq, get_or-set_same, get_or-set_other)
 
 pub has_codes_filled : (words : List ℕ) (len from count word : ℕ) → HasCodes words len → from / 32 < length words → from + count ≤ len → IsFilled words from count word → HasCodes (set words (from / 32) word) len
 has_codes_filled words len from count word h inside within f = record {
@@ -273,8 +230,4 @@ all_filled before now places same few filled others =
     front = length-take-le from before (omega arith)
 
     at : (place : ℕ) → place < length before → get_or now place 0 ≡ get_or (take from before ++ replicate places 3) place 0
-    at place within = elim (cases_lt place from) [
-      | inl low ↦ others place low ∙ sym (get_or_append_left (take from before) (replicate places 3) 0 place (omega (arith, front)) ∙ get_or-take from before place 0 low)
-      | inr high ↦ filled place high within
-          ∙ sym (get_or-append_right (take from before) (replicate places 3) from place 0 front high ∙ get_or-replicate places (place - from) 3 0 (omega arith))
-    ]
+    at place within = grind (arith, common_steps, cases_lt, from, get_or_append_left, front, get_or-take, get_or-append_right, get_or-replicate)

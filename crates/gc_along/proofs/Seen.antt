@@ -54,8 +54,6 @@ pub certified : (old new : Image) (w : Watch) → Watches old.words new.words w 
 certified old new w h all old_sized new_sized roots =
     let old_is = all_of w.old_seen old.words all.old_seen in
     let new_is = all_of w.new_seen new.words all.new_seen in
-    let old_shape = shape_of w.old_seen old.words h.old_seen all.old_seen in
-    let new_shape = shape_of w.new_seen new.words h.new_seen all.new_seen in
     record {
       old_shaped = shaped_of w.old_seen old h.old_seen all.old_seen old_sized;
       new_shaped = shaped_of w.new_seen new h.new_seen all.new_seen new_sized;
@@ -63,8 +61,8 @@ certified old new w h all old_sized new_sized roots =
           (λ (p : ℕ × ℕ). IsWatched w p.1 (seen_at w.old_seen old.words p.0) (seen_at w.new_seen new.words p.1))
           (λ (p : ℕ × ℕ). BlocksCorrespond w.pairs (block_at old.words p.0) (block_at new.words p.1))
           (λ p k. alike w p.1 (block_at old.words p.0) (block_at new.words p.1) (λ i. none_in w.due (sym (sum_by-zero bit w.due) ∙ eq-eqb (sum_by bit w.due) 0 all.none_due) _)
-          (λ x e. (stands_in old.words p.0 x old_shape.walked e).whole.fields)
-          (λ y e. (stands_in new.words p.1 y new_shape.walked e).whole.fields)
+          (λ x e. (stands_in old.words p.0 x (shape_of w.old_seen old.words h.old_seen all.old_seen).walked e).whole.fields)
+          (λ y e. (stands_in new.words p.1 y (shape_of w.new_seen new.words h.new_seen all.new_seen).walked e).whole.fields)
           (subst (λ ws. IsWatched w p.1 (block_at old.words p.0) (block_at ws p.1)) new_is (subst (λ ws. IsWatched w p.1 (block_at ws p.0) (seen_at w.new_seen new.words p.1)) old_is k)))
           w.pairs h.pairs;
       rising = h.rising;

@@ -24,9 +24,9 @@ use Rattle.gc_along.proofs.Codes.{code_set}
 use Rattle.gc_along.proofs.Kept.{kept_due, kept_old, kept_replica, map_append, codes_length, code_is}
 use Rattle.gc_along.proofs.Origins.{placed as pairs_placed}
 use Rattle.gc_along.proofs.Looks.{watched_by, taken_for_due, compared}
-use Rattle.gc_along.proofs.Walked.{begun, old_goes_on, paired_next, seen_next, kept, came, grown, true_stays, fields_more, below_seen}
+use Rattle.gc_along.proofs.Walked.{begun, old_goes_on, paired_next, replicated, replicated_next, seen_next, kept, came, grown, true_stays, fields_more, below_seen}
 use Rattle.gc_along.proofs.Written.{old_field, new_field, old_link, new_link}
-use Rattle.gc_along.proofs.Marks.{no_zero, no_code, none_yet, marks_more, marks_set, marks_taken, marks_written, marks_linked, marks_behind}
+use Rattle.gc_along.proofs.Marks.{no_zero, marks_more, marks_set, marks_taken, marks_written, marks_linked}
 
 -- ---- the pairs of a row of originals
 
@@ -48,20 +48,17 @@ listed at [] a b low e = absurd (let z : 0 ≡ a = e in omega arith)
 listed at (zero ∷ xs) a zero low e = absurd (let z : 0 ≡ a = e in omega arith)
 listed at (zero ∷ xs) a (suc b) low e =
     let h = listed (suc at) xs a b low e in
-    let there : suc at + b ≡ at + suc b = omega arith in
-    (h.0, h.1, h.2 ∙ ap (λ n. (a, n)) there)
+    (h.0, h.1, h.2 ∙ ap (λ n. (a, n)) (omega arith))
 listed at (suc c ∷ xs) a zero low e = (0, omega arith, (let there : at ≡ at + 0 = omega arith in λ i. (e i, there i)))
 listed at (suc c ∷ xs) a (suc b) low e =
     let h = listed (suc at) xs a b low e in
-    let there : suc at + b ≡ at + suc b = omega arith in
-    (suc h.0, (let l : h.0 < length (pairs_from (suc at) xs) = h.1 in omega arith), h.2 ∙ ap (λ n. (a, n)) there)
+    (suc h.0, (let l : h.0 < length (pairs_from (suc at) xs) = h.1 in omega arith), h.2 ∙ ap (λ n. (a, n)) (omega arith))
 
 module _ (t : Tables) (k : ℕ) (d : ℕ × ℕ) (l : k < length (pairs_in t.origins)) where
   origin_of : (1 ≤ (get_or (pairs_in t.origins) k d).0) × (get_or t.origins (get_or (pairs_in t.origins) k d).1 0 ≡ (get_or (pairs_in t.origins) k d).0)
   origin_of =
       let h = pair_told 0 t.origins k d l in
-      let at : h.0 ≡ (get_or (pairs_in t.origins) k d).1 = (let e : (get_or (pairs_in t.origins) k d).1 ≡ 0 + h.0 = h.2 in omega arith) in
-      (h.1, ap (λ b. get_or t.origins b 0) (sym at) ∙ h.3)
+      (h.1, ap (λ b. get_or t.origins b 0) (sym (let e : (get_or (pairs_in t.origins) k d).1 ≡ 0 + h.0 = h.2 in omega arith)) ∙ h.3)
 
 -- ---- a yes
 
@@ -74,13 +71,13 @@ none_kept : (t : Tables) (olds : List ℕ) → IsKept (record t { olds = olds; n
 none_kept t olds = grind (arith, common_steps)
 
 emptied : (old : List ℕ) (t : Tables) (olds : List ℕ) → IsSeen (length olds) old → MarksStarts olds old → Tells old (0 ∷ []) (record t { olds = olds; news = 0 ∷ []; origins = 0 ∷ []; missing = 0 })
-emptied old t olds seen starts = grind (arith, common_steps, kept, none_kept, begun, none_yet)
+emptied old t olds seen starts = grind (arith, common_steps, kept, none_kept, begun, no_zero)
 
 seen_one : (old : List ℕ) → 1 ≤ length old → slice_index old 0 ≡ 0 → IsSeen 1 old
 seen_one old low reserved = grind (arith, common_steps, space_of)
 
 pub opening_tells : (old : List ℕ) (room : ℕ) → 1 ≤ length old → slice_index old 0 ≡ 0 → Tells old (0 ∷ []) (opening_tables room)
-opening_tells old room low reserved = emptied old (opening_tables room) (0 ∷ []) (seen_one old low reserved) (none_yet old)
+opening_tells old room low reserved = grind (arith, common_steps, emptied, seen_one, no_zero)
 
 pub flipped_tells : (old new : List ℕ) (t : Tables) → Tells old new t → Tells new (0 ∷ []) (flipped_tables t)
 flipped_tells old new t tells = emptied new t t.news tells.watches.new_seen tells.new_starts
@@ -108,15 +105,6 @@ made_tells old new t after tells made = ⊎_elim
 
 -- ---- a replica more
 
--- the watch with a replica more, whose fields are due or not
-abbrev replicated : Watch → ℕ → Header → Bool → Watch
-replicated w a h due = record {
-  pairs = w.pairs ++ (a, w.new_seen) ∷ [];
-  old_seen = w.old_seen;
-  new_seen = w.new_seen + (h.len + 2);
-  due = w.due ++ false ∷ false ∷ replicate h.len due;
-}
-
 codes_due : (n : ℕ) (due : Bool) → due_in (replicate n (code_of due)) ≡ replicate n due
 codes_due zero due = refl
 codes_due (suc n) due = λ i. code_is due i ∷ codes_due n due i
@@ -137,20 +125,7 @@ module _ (old new : List ℕ) (w : Watch) (a : ℕ) (h : Header) (is : Watches o
   the_copy o at e = grind (arith, common_steps, eq-eqb)
 
   pub copied_next : Watches old new (replicated w a h false)
-  copied_next = record {
-    old_seen = is.old_seen;
-    new_seen = seen_next w.new_seen new h is.new_seen next;
-    pairs = All-push (λ (p : ℕ × ℕ). IsWatched (replicated w a h false) p.1 (seen_at w.old_seen old p.0) (seen_at (w.new_seen + (h.len + 2)) new p.1)) w.pairs (a, w.new_seen)
-        (λ k d l. let p = get_or w.pairs k d in
-        grown (replicated w a h false) p.1 (seen_at w.old_seen old p.0) (seen_at w.new_seen new p.1) _ _ (λ c e. e) (λ c e. kept w.new_seen new h is.new_seen next p.1 c e)
-        (watched_by w (replicated w a h false) p.1 _ _ (λ c d e f i v u x y. ⊎_elim (λ t. inl (true_stays w.due _ (field_place p.1 i) t)) (λ t. inr (fields_more c.header w.pairs ((a, w.new_seen) ∷ []) v u t))) (is.pairs k d l)))
-        (subst (IsWatched (replicated w a h false) w.new_seen (seen_at w.old_seen old a)) (sym (came w.new_seen new h is.new_seen next)) (the_copy (seen_at w.old_seen old a) refl found));
-    row =
-        length-append w.due (false ∷ false ∷ replicate h.len false)
-        ∙ (let r : length w.due ≡ w.new_seen = is.row in let n : length (replicate h.len false) ≡ h.len = length-replicate h.len false in omega arith);
-    rising = all_pairs_push (λ p q. p.1 < q.1) w.pairs (a, w.new_seen) is.rising (λ k d l. below_seen old new w (get_or w.pairs k d) is _ _ refl (is.pairs k d l));
-    once = all_pairs_push (λ p q. p.0 ≢ q.0) w.pairs (a, w.new_seen) is.once once;
-  }
+  copied_next = replicated_next old new w a h false is once next (the_copy (seen_at w.old_seen old a) refl found)
 
 module _ (old new : List ℕ) (t : Tables) (h : Header) (a : ℕ) (tells : Tells old new t) (claim : IsClaim old new t h a) where
   start_at : is_start (take (length t.olds) old) a ≡ true
@@ -181,7 +156,7 @@ module _ (old new : List ℕ) (t : Tables) (h : Header) (a : ℕ) (tells : Tells
   its_kept due = kept_replica t h a due bound claim.start tells.kept
 
   added_tells : (due : Bool) → Watches old new (replicated (watch_of t) a h due) → Tells old new (replica_added t h a due)
-  added_tells due watches = search (rules, kept, its_kept, watch_added, marks_taken, start_at, marks_more, no_code)
+  added_tells due watches = search (rules, kept, its_kept, watch_added, marks_taken, start_at, marks_more, no_zero)
 
   pub due_tells : Tells old new (replica_added t h a true)
   due_tells = added_tells true (paired_next old new (watch_of t) a h tells.watches found_header not_paired claim.next)
@@ -215,7 +190,7 @@ marked_at t place due = grind (arith, common_steps, code_set, code_is)
 
 -- the words are watched with this mark
 with_mark : (old new : List ℕ) (t : Tables) (place : ℕ) (due : Bool) → Tells old new t → Watches old new (mark (watch_of t) place due) → Tells old new (with_due t place due)
-with_mark old new t place due tells watches = grind (arith, common_steps, kept, kept_due, marked_at, marks_set, no_code)
+with_mark old new t place due tells watches = grind (arith, common_steps, kept, kept_due, marked_at, marks_set, no_zero)
 
 due_told : (old new : List ℕ) (t : Tables) (place : ℕ) → Tells old new t → Tells old new (with_due t place true)
 due_told old new t place tells = with_mark old new t place true tells (taken_for_due old new (watch_of t) place tells.watches)
@@ -226,8 +201,7 @@ module _ (old new : List ℕ) (t : Tables) (a b : ℕ) (tells : Tells old new t)
   place_of : (k : ℕ) × (k < length (pairs_in t.origins)) × (pair_at (watch_of t) k ≡ (a, b))
   place_of =
       let l = listed 0 t.origins a b low origin in
-      let zero_on : 0 + b ≡ b = omega arith in
-      (l.0, l.1, l.2 ∙ ap (λ n. (a, n)) zero_on)
+      (l.0, l.1, l.2 ∙ ap (λ n. (a, n)) (omega arith))
 
   both_there : IsWatched (watch_of t) b (seen_at (length t.olds) old a) (seen_at (length t.news) new b)
   both_there = subst (λ (p : ℕ × ℕ). IsWatched (watch_of t) p.1 (seen_at (length t.olds) old p.0) (seen_at (length t.news) new p.1)) place_of.2 (tells.watches.pairs place_of.0 (0, 0) place_of.1)
@@ -255,9 +229,7 @@ module _ (n : ℕ) (words : List ℕ) (a i : ℕ) (b : Block) (seen : IsSeen n w
 
   module _ (small : i < b.header.len) where
     pub has_field : IsSome (field_at (take n words) a i)
-    has_field =
-        let len : length b.fields ≡ b.header.len = stands_at.whole.fields in
-        ap (λ o. is_some (field_in o i)) at ∙ ap is_some (slice_get-get_or b.fields i 0 (omega (arith, len)))
+    has_field = ap (λ o. is_some (field_in o i)) at ∙ ap is_some (slice_get-get_or b.fields i 0 (omega (arith, stands_at.whole.fields)))
 
     pub field_word : field_at (take n words) a i ≡ Some (slice_index words (field_place a i))
     field_word = (field_read (take n words) a i seen.space.walked has_field).word ∙ ap Some (get_or-take n words (field_place a i) 0 (omega (arith, inside_of)))
@@ -280,14 +252,11 @@ module _ (old new : List ℕ) (t : Tables) (h : Header) (a b i : ℕ) (tells : T
       let u = slice_index new (field_place b i) in
       let small_one : i < its.one.header.len = subst (λ (g : Header). i < g.len) (sym one_header) is.has_field in
       let small_other : i < its.other.header.len = subst (λ (g : Header). i < g.len) (sym other_header) is.has_field in
-      let he : header_at (take (length t.olds) old) a ≡ Some h = ap header_of its.one_at ∙ ap Some one_header in
-      let fv : field_at (take (length t.olds) old) a i ≡ Some v = field_word (length t.olds) old a i its.one tells.watches.old_seen its.one_at small_one in
-      let fu : field_at (take (length t.news) new) b i ≡ Some u = field_word (length t.news) new b i its.other tells.watches.new_seen its.other_at small_other in
       subst (λ (p : ℕ × ℕ). Watches old new (looked (watch_of t) h p.1 i v u)) at.2
       (compared old new (watch_of t) at.0 i v u h tells.watches at.1
-      (ap (λ (p : ℕ × ℕ). header_at (take (length t.olds) old) p.0) at.2 ∙ he)
-      (ap (λ (p : ℕ × ℕ). field_at (take (length t.olds) old) p.0 i) at.2 ∙ fv)
-      (ap (λ (p : ℕ × ℕ). field_at (take (length t.news) new) p.1 i) at.2 ∙ fu))
+      (ap (λ (p : ℕ × ℕ). header_at (take (length t.olds) old) p.0) at.2 ∙ (ap header_of its.one_at ∙ ap Some one_header))
+      (ap (λ (p : ℕ × ℕ). field_at (take (length t.olds) old) p.0 i) at.2 ∙ field_word (length t.olds) old a i its.one tells.watches.old_seen its.one_at small_one)
+      (ap (λ (p : ℕ × ℕ). field_at (take (length t.news) new) p.1 i) at.2 ∙ field_word (length t.news) new b i its.other tells.watches.new_seen its.other_at small_other))
 
 pub looked_tells : (old new : List ℕ) (t after : Tables) (b i : ℕ) → Tells old new t → Looked old new b i t after → Tells old new after
 looked_tells old new t after b i tells is = grind (arith, common_steps, with_mark, looked_watches)
@@ -380,20 +349,17 @@ new_link_tells old new t b x tells start = search (rules, kept, new_link, marks_
 
 -- words behind the last
 module _ (n : ℕ) (words more : List ℕ) (seen : IsSeen n words) where
-  same_front : take n (words ++ more) ≡ take n words
-  same_front = take-append-le n words more seen.within
-
   seen_more : IsSeen n (words ++ more)
-  seen_more = grind (arith, common_steps, same_front)
+  seen_more = grind (arith, common_steps, take-append-le)
 
   same_seen : (c : ℕ) → seen_at n words c ≡ seen_at n (words ++ more) c
-  same_seen c = ap (λ ws. block_at ws c) (sym same_front)
+  same_seen c = grind (arith, common_steps, take-append-le)
 
 pub old_more_tells : (old new more : List ℕ) (t : Tables) → Tells old new t → Tells (old ++ more) new t
-old_more_tells old new more t tells = grind (arith, common_steps, kept, seen_more, same_seen, marks_behind)
+old_more_tells old new more t tells = grind (arith, common_steps, kept, seen_more, same_seen, take-append-le)
 
 pub new_more_tells : (old new more : List ℕ) (t : Tables) → Tells old new t → Tells old (new ++ more) t
-new_more_tells old new more t tells = grind (arith, common_steps, kept, seen_more, same_seen, marks_behind)
+new_more_tells old new more t tells = grind (arith, common_steps, kept, seen_more, same_seen, take-append-le)
 
 -- ---- a walk over the old space anew
 

@@ -3,8 +3,8 @@ use Rattle.std.proofs.lemmas.Grind.{common_steps}
 use Rattle.std.proofs.Common.{◌≡◌, ◌≢◌, inl, inr, ⊎_elim, ℕ, zero, suc, ◌+◌, ◌<◌, ◌≤◌, ◌==◌, Bool, true, false, cond, List, [], ◌∷◌, ◌++◌, length, get_or, take, drop, replicate, Option, Some, None, All, Ok, refl, sym, ◌∙◌, ap, subst, arith, length-append, length-take, length-drop, rules}
 use Rattle.std.specs.Prelude.{slice_index}
 use Rattle.std.specs.List.{list_any}
-use Rattle.std.proofs.lemmas.Bool.{eq-eqb}
-use Rattle.std.proofs.lemmas.List.{drop_more, drop-take, take-append-drop, take-take, get_or-append-add, get_or-replicate, length-replicate}
+use Rattle.std.proofs.lemmas.Bool.{eq-eqb, cases_lt}
+use Rattle.std.proofs.lemmas.List.{drop_more, drop-take, take-append-drop, take-take, get_or-append-add, get_or-replicate, length-replicate, get_or_append_left, get_or_past}
 use Rattle.std.proofs.lemmas.List.Elements.{All-push}
 use Rattle.std.proofs.lemmas.List.Quantifiers.{all_pairs_push}
 use Rattle.std.proofs.lemmas.Option.{slice_get_within}
@@ -29,9 +29,8 @@ more (w ∷ ws) n h link fields shape count is len bound =
     let walked : walk_words (w ∷ (ws ++ header_word h ∷ link ∷ fields)) ≡ Ok (blocks (w ∷ ws) ++ (1 + length ws, record { header = h; fields = fields }) ∷ [])
     = walk_placed ws 0 1 (blocks (w ∷ ws)) h link fields is len (omega arith) (walked_blocks (w ∷ ws) shape.walked) in
     let longer : length (ws ++ header_word h ∷ link ∷ fields) ≡ length ws + suc (suc (length fields)) = length-append ws (header_word h ∷ link ∷ fields) in
-    let there : 1 + length ws ≡ n = omega arith in
     space_of 4294967295 (w ∷ (ws ++ header_word h ∷ link ∷ fields)) _ (omega arith) (omega arith) (omega arith) shape.reserved
-    (walked ∙ ap (λ m. Ok (blocks (w ∷ ws) ++ (m, record { header = h; fields = fields }) ∷ [])) there)
+    (walked ∙ ap (λ m. Ok (blocks (w ∷ ws) ++ (m, record { header = h; fields = fields }) ∷ [])) (omega arith))
 
 take_add : (n k : ℕ) (xs : List ℕ) → take (n + k) xs ≡ take n xs ++ take k (drop n xs)
 take_add n k xs = sym (take-append-drop n (take (n + k) xs)) ∙ (λ i. take-take n (n + k) xs (omega arith) i ++ drop-take n k xs i)
@@ -47,12 +46,11 @@ module _ (n : ℕ) (words : List ℕ) (h : Header) (seen : IsSeen n words) (next
       × (blocks (take n words ++ header_word h ∷ slice_index words (n + 1) ∷ take h.len (drop (n + 2) words)) ≡ blocks (take n words) ++ (n, block_from words n h) ∷ [])
   both =
       let within : n + (h.len + 2) ≤ length words = next.within in
-      let bound : n + (h.len + 2) ≤ 4294967295 = next.bound in
       more (take n words) n h (slice_index words (n + 1)) (take h.len (drop (n + 2) words)) seen.space
       (omega (arith, length-take n words))
       (written_back (slice_index words n) h next.header).0
       (omega (arith, length-take h.len (drop (n + 2) words), length-drop (n + 2) words))
-      bound
+      next.bound
 
   pub seen_next : IsSeen (n + (h.len + 2)) words
   seen_next = record { within = next.within; space = subst (λ ws. IsSpace (record { size = 4294967295; words = ws })) (sym front_is) both.0 }
@@ -90,21 +88,10 @@ pub grown : (w : Watch) (b : ℕ) (o q o' q' : Option Block) → ((c : Block) �
 grown w b o q o' q' f g h = grind (arith, common_steps)
 
 pub true_stays : (ds es : List Bool) (q : ℕ) → get_or ds q false ≡ true → get_or (ds ++ es) q false ≡ true
-true_stays [] es q h = absurd (let no : false ≡ true = h in cc)
-true_stays (d ∷ ds) es zero h = h
-true_stays (d ∷ ds) es (suc q) h = true_stays ds es q h
-
-any_more : (f : ℕ × ℕ → Bool) (xs ys : List (ℕ × ℕ)) → list_any f xs ≡ true → list_any f (xs ++ ys) ≡ true
-any_more f xs ys h = search (rules, common_steps)
-
-values_more : (pairs more : List (ℕ × ℕ)) (v u : Value) → correspond pairs v u ≡ true → correspond (pairs ++ more) v u ≡ true
-values_more pairs more v u h = grind (arith, common_steps, more, any_more)
-
-words_more : (pairs more : List (ℕ × ℕ)) (o q : Option Value) → read_correspond pairs o q ≡ true → read_correspond (pairs ++ more) o q ≡ true
-words_more pairs more o q h = grind (arith, common_steps, more, values_more)
+true_stays ds es q h = grind (arith, common_steps, cases_lt, get_or_append_left, get_or_past)
 
 pub fields_more : (h : Header) (pairs more : List (ℕ × ℕ)) (v u : ℕ) → field_words_correspond h pairs v u ≡ true → field_words_correspond h (pairs ++ more) v u ≡ true
-fields_more h pairs more v u = grind (arith, common_steps, more, words_more)
+fields_more h pairs more v u = grind (arith, common_steps, more)
 
 -- ---- the events
 
@@ -136,16 +123,40 @@ new_goes_on old new w h is next = record {
 pub below_seen : (old new : List ℕ) (w : Watch) (p : ℕ × ℕ) → Watches old new w → (o q : Option Block) → seen_at w.new_seen new p.1 ≡ q → IsWatched w p.1 o q → p.1 < w.new_seen
 below_seen old new w p is (Some c) (Some d) e h =
     let s = stands_in (take w.new_seen new) p.1 d is.new_seen.space.walked e in
-    let fits : p.1 + (d.header.len + 2) ≤ length (take w.new_seen new) = s.fits in
-    omega (arith, length-take w.new_seen new)
+    omega (arith, length-take w.new_seen new, s.fits)
 below_seen old new w p is (Some c) None e h = absurd h
 below_seen old new w p is None q e h = absurd h
+
+-- the watch with a replica more, whose fields are due or not
+abbrev pub replicated : Watch → ℕ → Header → Bool → Watch
+replicated w a h due = record {
+  pairs = w.pairs ++ (a, w.new_seen) ∷ [];
+  old_seen = w.old_seen;
+  new_seen = w.new_seen + (h.len + 2);
+  due = w.due ++ false ∷ false ∷ replicate h.len due;
+}
+
+module _ (old new : List ℕ) (w : Watch) (a : ℕ) (h : Header) (due : Bool) (is : Watches old new w) (once : All (λ p. p.0 ≢ a) w.pairs) (next : IsNext w.new_seen new h) where
+  pub replicated_next : IsWatched (replicated w a h due) w.new_seen (seen_at w.old_seen old a) (Some (block_from new w.new_seen h)) → Watches old new (replicated w a h due)
+  replicated_next here = record {
+    old_seen = is.old_seen;
+    new_seen = seen_next w.new_seen new h is.new_seen next;
+    pairs = All-push (λ (p : ℕ × ℕ). IsWatched (replicated w a h due) p.1 (seen_at w.old_seen old p.0) (seen_at (w.new_seen + (h.len + 2)) new p.1)) w.pairs (a, w.new_seen)
+        (λ k d l. let p = get_or w.pairs k d in
+        grown (replicated w a h due) p.1 (seen_at w.old_seen old p.0) (seen_at w.new_seen new p.1) _ _ (λ c e. e) (λ c e. kept w.new_seen new h is.new_seen next p.1 c e)
+        (watched_by w (replicated w a h due) p.1 _ _ (λ c d e f i v u x y. ⊎_elim (λ t. inl (true_stays w.due _ (field_place p.1 i) t)) (λ t. inr (fields_more c.header w.pairs ((a, w.new_seen) ∷ []) v u t))) (is.pairs k d l)))
+        (subst (IsWatched (replicated w a h due) w.new_seen (seen_at w.old_seen old a)) (sym (came w.new_seen new h is.new_seen next)) here);
+    row =
+        length-append w.due (false ∷ false ∷ replicate h.len due)
+        ∙ (let r : length w.due ≡ w.new_seen = is.row in let n : length (replicate h.len due) ≡ h.len = length-replicate h.len due in omega arith);
+    rising = all_pairs_push (λ p q. p.1 < q.1) w.pairs (a, w.new_seen) is.rising (λ k d l. below_seen old new w (get_or w.pairs k d) is _ _ refl (is.pairs k d l));
+    once = all_pairs_push (λ p q. p.0 ≢ q.0) w.pairs (a, w.new_seen) is.once once;
+  }
 
 module _ (old new : List ℕ) (w : Watch) (a : ℕ) (h : Header) (is : Watches old new w) (found : header_at (take w.old_seen old) a ≡ Some h) (once : All (λ p. p.0 ≢ a) w.pairs) (next : IsNext w.new_seen new h) where
   due_new : (i : ℕ) → i < h.len → is_due (placed w a h) w.new_seen i ≡ true
   due_new i inside =
-      let place : field_place w.new_seen i ≡ length w.due + suc (suc i) = (let r : length w.due ≡ w.new_seen = is.row in omega arith) in
-      ap (λ m. get_or (w.due ++ false ∷ false ∷ replicate h.len true) m false) place
+      ap (λ m. get_or (w.due ++ false ∷ false ∷ replicate h.len true) m false) (let r : length w.due ≡ w.new_seen = is.row in omega arith)
       ∙ get_or-append-add w.due (false ∷ false ∷ replicate h.len true) (suc (suc i)) false
       ∙ get_or-replicate h.len i true false inside
 
@@ -156,21 +167,5 @@ module _ (old new : List ℕ) (w : Watch) (a : ℕ) (h : Header) (is : Watches o
     λ i v u k l. inl (due_new i (let inside : i < length (take h.len (drop (w.new_seen + 2) new)) = slice_get_within _ i u l in omega (arith, length-take h.len (drop (w.new_seen + 2) new)))),
   )
 
-  its : ℕ × ℕ → Type 0
-  its p = IsWatched (placed w a h) p.1 (seen_at w.old_seen old p.0) (seen_at (w.new_seen + (h.len + 2)) new p.1)
-
   pub paired_next : Watches old new (placed w a h)
-  paired_next = record {
-    old_seen = is.old_seen;
-    new_seen = seen_next w.new_seen new h is.new_seen next;
-    pairs = All-push (λ (p : ℕ × ℕ). IsWatched (placed w a h) p.1 (seen_at w.old_seen old p.0) (seen_at (w.new_seen + (h.len + 2)) new p.1)) w.pairs (a, w.new_seen)
-        (λ k d l. let p = get_or w.pairs k d in
-        grown (placed w a h) p.1 (seen_at w.old_seen old p.0) (seen_at w.new_seen new p.1) _ _ (λ c e. e) (λ c e. kept w.new_seen new h is.new_seen next p.1 c e)
-        (watched_by w (placed w a h) p.1 _ _ (λ c d e f i v u x y. ⊎_elim (λ t. inl (true_stays w.due _ (field_place p.1 i) t)) (λ t. inr (fields_more c.header w.pairs ((a, w.new_seen) ∷ []) v u t))) (is.pairs k d l)))
-        (subst (IsWatched (placed w a h) w.new_seen (seen_at w.old_seen old a)) (sym (came w.new_seen new h is.new_seen next)) (the_new (seen_at w.old_seen old a) found));
-    row =
-        length-append w.due (false ∷ false ∷ replicate h.len true)
-        ∙ (let r : length w.due ≡ w.new_seen = is.row in let n : length (replicate h.len true) ≡ h.len = length-replicate h.len true in omega arith);
-    rising = all_pairs_push (λ p q. p.1 < q.1) w.pairs (a, w.new_seen) is.rising (λ k d l. below_seen old new w (get_or w.pairs k d) is _ _ refl (is.pairs k d l));
-    once = all_pairs_push (λ p q. p.0 ≢ q.0) w.pairs (a, w.new_seen) is.once once;
-  }
+  paired_next = replicated_next old new w a h true is once next (the_new (seen_at w.old_seen old a) found)

@@ -21,14 +21,8 @@ get_set (x ∷ xs) (suc i) (suc j) y z h = ⊎_elim (λ a. inl (ap suc a.0, a.1)
 -- ---- what is seen of a space with a field written
 
 module _ (n : ℕ) (words : List ℕ) (a i x : ℕ) (seen : IsSeen n words) (some : IsSome (field_at (take n words) a i)) where
-  place_in : field_place a i < n
-  place_in =
-      let f = field_read (take n words) a i seen.space.walked some in
-      let p : field_place a i < length (take n words) = f.within in
-      omega (arith, length-take n words)
-
   front_is : take n (slice_set words (field_place a i) x) ≡ slice_set (take n words) (field_place a i) x
-  front_is = take-set-lt n words (field_place a i) x place_in
+  front_is = grind (arith, common_steps, take-set-lt, field_read, length-take)
 
   pub seen_written : IsSeen n (slice_set words (field_place a i) x)
   seen_written = record {

@@ -28,8 +28,3 @@ begun heap space logs size epoch none low empty entries = record {
   where
     same : collection_in (record { space = space; logs = logs; scan_place = 1; scan_field = 0; epoch = epoch }) ≡ fresh_collection heap.mutators size
     same = λ i. record { size = (empty i).size; replicas = replicas_in (empty i).words; logs = entries i; scan_place = 1; scan_field = 0 }
-
--- a collection in an empty space
-pub begun_sound : (space : SpaceWords) (logs : List Log) (size : ℕ) (epoch : ℕ) → IsSpace space → space ≡ empty_space size → length logs < 256
-    → IsCollection (record { space = space; logs = logs; scan_place = 1; scan_field = 0; epoch = epoch }) × (0 ≡ length (blocks space.words))
-begun_sound space logs size epoch shaped empty few = grind (arith, common_steps)

@@ -20,7 +20,7 @@ use Rattle.gc_copy.specs.Internal.Words.{KeepsGraph}
 use Rattle.gc_plan.proofs.Public.{in_map, in_map_from, replica_in}
 use Rattle.gc_copy.proofs.Spaces.{in_start}
 use Rattle.gc_copy.proofs.ObjectWalks.{Met, met_none, Passing, passing}
-use Rattle.gc_copy.proofs.OpenCollection.{linked_heap, same_graph, start_kept, state_kept}
+use Rattle.gc_copy.proofs.OpenCollection.{linked_heap, same_graph, start_kept}
 use Rattle.gc_copy.proofs.LinkedImages.{spelled_agree}
 
 -- ---- the loop's invariant
@@ -65,8 +65,7 @@ clears_none heap x c seen sound is belongs = record {
     met = met_none x.space is.space
 
     there : (o : Option Block) (object : Object) → option_map object_of_block o ≡ Some object → is_some o ≡ true
-    there None object e = absurd (let no : None ≡ Some object = e in cc)
-    there (Some b) object e = refl
+    there o object e = grind (arith, common_steps)
 
     from : (a : ℕ) → is_start heap.space.words a ≡ true → (o : Option Replica) → replica_of (collection_in x) a ≡ o → (link_at heap.space.words a - mark_of x.epoch ≡ 0) ⊎ IsAhead x.space.words 1 a
     from a start None e = inl (k.links a start ∙ ap place_or_zero e)
@@ -112,15 +111,10 @@ clears_more epoch words old now new at next k less e is sound =
     cleared a same = let zero : link_at after.space.words a ≡ 0 = ap (link_at after.space.words) (sym same) ∙ link_written_there now.space (link_at words at) 0 (k.sound).space there in omega arith
 
     behind_it : (a : ℕ) → (link_at words at ≡ a → ⊥) → IsAhead words at a → IsAhead words next a
-    behind_it a other ahead = from (subst (In ahead.0) b.objects ahead.1)
-      where
-        from : In ahead.0 ((at, block_from words at b.step.header) ∷ ok_or_nil (walk_from words next)) → IsAhead words next a
-        from (inl here) = absurd (other (ap (λ (x : ℕ × Block). link_at words x.0) here ∙ ahead.2))
-        from (inr later) = (ahead.0, later, ahead.2)
+    behind_it a other ahead = grind (arith, common_steps, b)
 
     beside : (a : ℕ) → (link_at words at ≡ a → ⊥) → (link_at now.space.words a - mark_of epoch ≡ 0) ⊎ IsAhead words at a → (link_at after.space.words a - mark_of epoch ≡ 0) ⊎ IsAhead words next a
-    beside a other (inl zero) = inl (ap (λ l. l - mark_of epoch) (link_written_beside now.space (link_at words at) 0 a other) ∙ zero)
-    beside a other (inr ahead) = inr (behind_it a other ahead)
+    beside a other h = grind (arith, common_steps, link_written_beside, behind_it)
 
 -- ---- after the last replica
 
@@ -129,7 +123,7 @@ none_above epoch words old now at k past a start = grind (arith, common_steps, s
 
 -- the heap without a collection is that of the old one
 pub dropped_state : (epoch : ℕ) (words : List ℕ) (old now : HeapWords) (at : ℕ) → Clears epoch words old now at → idle_state now ≡ idle_state old
-dropped_state epoch words old now at k = state_kept old now None k.graph
+dropped_state epoch words old now at k = grind (arith, common_steps)
 
 pub all_cleared : (words : List ℕ) (old now : HeapWords) (at : ℕ) → Clears 0 words old now at → length words ≤ at → now ≡ record old { space = without_links old.space }
 all_cleared words old now at k past =

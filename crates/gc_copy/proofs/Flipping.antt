@@ -27,9 +27,6 @@ use Rattle.gc_copy.proofs.OpenCollection.{opened}
 
 -- ---- links cleared
 
-pub cleared_links : (s : SpaceWords) → IsSpace s → (a : ℕ) → is_start (without_links s).words a ≡ true → link_at (without_links s).words a ≡ 0
-cleared_links s is a start = link_cleared s a is (sym (ap (λ bs. Rattle.std.proofs.Common.is_some (block_in bs a)) (cleared s is).1) ∙ start)
-
 -- the links of replicas are addresses, so none is above the mark
 pub below_the_mark : (c : CollectionWords) → IsCollection c → (epoch : ℕ) → 1 ≤ epoch → (a : ℕ) → is_start c.space.words a ≡ true → link_at c.space.words a - mark_of epoch ≡ 0
 below_the_mark c is epoch high a start =
@@ -63,13 +60,10 @@ word_fine words w address named = by (w == 0) refl (w % 2 == 1) refl named
         subst (λ p. is_start words p ≡ true) (ap (λ (x : ℕ × Object). x.0) e.2) (in_start words e.0 e.1)
 
     refers : (v : Value) → RefersTo (IsNamed (objects_of words)) v → RefersToStart words v
-    refers Nil h = tt
-    refers (Num n) h = tt
-    refers (Ref a) h = start a h
+    refers v h = grind (arith, common_steps, start)
 
     even : (b : Bool) → w < 8589934590 → (b || nat_lt w 8589934590) ≡ true
-    even true h = refl
-    even false h = lt-ltb w 8589934590 h
+    even b h = grind (arith, common_steps, lt-ltb)
 
     by : (z : Bool) → (w == 0) ≡ z → (o : Bool) → (w % 2 == 1) ≡ o → RefersTo (IsNamed (objects_of words)) (cond z Nil (cond o (Num (w / 2)) (Ref (w / 2)))) → IsRootWord words w
     by true e o f h = record { value = even (w % 2 == 1) (let is : w ≡ 0 = eqb-true w 0 e in omega arith); start = refers (value_of w) named }
@@ -90,9 +84,6 @@ pub record HasObjectsOf (old new : SpaceWords) : Type 0 where
 
 pub without_its_links : (s : SpaceWords) → IsSpace s → HasObjectsOf s (without_links s)
 without_its_links s is = record { space = (cleared s is).0; size = refl; blocks = (cleared s is).1; end = end_cleared s is }
-
-pub with_its_links : (s : SpaceWords) → IsSpace s → HasObjectsOf s s
-with_its_links s is = record { space = is; size = refl; blocks = refl; end = refl }
 
 -- the heap gets this space, which has the objects of the collection's
 module _ (heap : HeapWords) (x : CollectionWords) (space : SpaceWords) (heap_is : IsHeap heap) (is : IsCollection x) (k : BelongsTo heap x) (ready : is_ready (collection_in x) (graph_in heap) ≡ true) (same : HasObjectsOf x.space space) where
@@ -119,16 +110,12 @@ module _ (heap : HeapWords) (x : CollectionWords) (space : SpaceWords) (heap_is 
   -- the new roots, and their words
   roots_back : (vs : List Value) → ((v : Value) → In v vs → RefersTo (IsNamed (objects_of x.space.words)) v) → map value_of (map word_of vs) ≡ vs
   roots_back [] h = refl
-  roots_back (v ∷ vs) h =
-      let e = (meaning_back v (has_address v (h v (inl refl)))).1 in
-      let rest = roots_back vs (λ w l. h w (inr l)) in
-      λ i. e i ∷ rest i
+  roots_back (v ∷ vs) h = λ i. ((meaning_back v (has_address v (h v (inl refl)))).1) i ∷ (roots_back vs (λ w l. h w (inr l))) i
 
   -- a replica's raw words are its original's
   raw_small : (e : ℕ × Block) → In e (blocks x.space.words) → e.1.header.raw ≡ true → (w : ℕ) → In w e.1.fields → w < 2 ^ 63
   raw_small e l raw w m =
-      let o : In (object_entry e) (new_objects (collection_in x)) = subst (In (object_entry e)) (sym (new_objects_are x)) (in_map object_entry e (blocks x.space.words) l) in
-      let r = in_map_from placed (object_entry e) (collection_in x).replicas o in
+      let r = in_map_from placed (object_entry e) (collection_in x).replicas (subst (In (object_entry e)) (sym (new_objects_are x)) (in_map object_entry e (blocks x.space.words) l)) in
       let ok = (k.belongs).replicas r.0 r.1 in
       let value : field_value e.1.header w ≡ Num w = ap (λ b. cond b (Num w) (value_of w)) raw in
       let there : In (Num w) r.0.object.fields = subst (λ v. In v r.0.object.fields) value (subst (λ (y : ℕ × Object). In (field_value e.1.header w) y.1.fields) (sym r.2) (in_map (field_value e.1.header) w e.1.fields m)) in
@@ -153,8 +140,7 @@ module _ (heap : HeapWords) (x : CollectionWords) (space : SpaceWords) (heap_is 
   root_words w l =
       let v = in_map_from word_of w (new_graph (collection_in x) (graph_in heap).roots).roots l in
       let refers = here_refers v.0 (new_ok.roots v.0 v.1) in
-      let back : value_of w ≡ v.0 = ap value_of (sym v.2) ∙ (meaning_back v.0 (has_address v.0 refers)).1 in
-      word_fine x.space.words w address (subst (RefersTo (IsNamed (objects_of x.space.words))) (sym back) refers)
+      word_fine x.space.words w address (subst (RefersTo (IsNamed (objects_of x.space.words))) (sym (ap value_of (sym v.2) ∙ (meaning_back v.0 (has_address v.0 refers)).1)) refers)
 
   moved_count : length (new_root_words heap (collection_in x)) ≡ length heap.roots
   moved_count = grind (arith, common_steps, length-map)
@@ -170,11 +156,8 @@ module _ (heap : HeapWords) (x : CollectionWords) (space : SpaceWords) (heap_is 
     few = omega (arith, moved_count, heap_is.few);
   }
 
-  graph_after : graph_in (record heap { space = space; roots = new_root_words heap (collection_in x) }) ≡ new_graph (collection_in x) (graph_in heap).roots
-  graph_after = grind (arith, common_steps, new_objects_are, roots_back, here_refers, new_ok)
-
   state_after : flipped (open_state heap x) (collection_in x) ≡ idle_state (record heap { space = space; roots = new_root_words heap (collection_in x) })
-  state_after = grind (arith, common_steps, graph_after, new_end_is)
+  state_after = grind (arith, common_steps, new_objects_are, roots_back, here_refers, new_ok, new_end_is)
 
   pub flip_is : flip (open_state heap x) (collection_in x) ≡ (Flipped (length (pairs_of (collection_in x))), idle_state (record heap { space = space; roots = new_root_words heap (collection_in x) }))
   flip_is = grind (arith, common_steps, length-map, state_after, flips, old_ok, opened)

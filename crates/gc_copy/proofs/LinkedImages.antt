@@ -33,10 +33,7 @@ LinksExactly heap c = (a : ℕ) → is_start heap.space.words a ≡ true → lin
 -- equal objects with equal links have equal words
 pub spelled_agree : (links others : ℕ → ℕ) (bs : List (ℕ × Block)) → ((e : ℕ × Block) → In e bs → links e.0 ≡ others e.0) → flat_map (λ e. block_words (links e.0) e.1) bs ≡ flat_map (λ (e : ℕ × Block). block_words (others e.0) e.1) bs
 spelled_agree links others [] h = refl
-spelled_agree links others (e ∷ bs) h =
-    let here = h e (inl refl) in
-    let rest = spelled_agree links others bs (λ d k. h d (inr k)) in
-    λ i. block_words (here i) e.1 ++ rest i
+spelled_agree links others (e ∷ bs) h = grind (arith, common_steps, spelled_agree links others bs (λ d k. h d (inr k)))
 
 -- a space is spelled by its objects and these links
 links_told : (space : SpaceWords) (links : ℕ → ℕ) → IsSpace space → ((e : ℕ × Block) → In e (blocks space.words) → link_at space.words e.0 ≡ links e.0) → space.words ≡ spelled links (map block_entry (objects_of space.words))
@@ -76,20 +73,17 @@ starts : (heap : HeapWords) (c : CollectionWords) (a : ℕ) (r : Replica) → Be
 starts heap c a r k e =
     let l = replica_in (collection_in c) a r e in
     let ok = (k.belongs).replicas r l.0 in
-    let found : lookup (graph_in heap).objects a ≡ Some ok.original = subst (λ n. lookup (graph_in heap).objects n ≡ Some ok.original) l.1 ok.found in
-    there (block_at heap.space.words a) ok.original (sym (object_found heap.space.words a) ∙ found)
+    there (block_at heap.space.words a) ok.original (sym (object_found heap.space.words a) ∙ subst (λ n. lookup (graph_in heap).objects n ≡ Some ok.original) l.1 ok.found)
   where
     there : (o : Option Block) (object : Object) → option_map object_of_block o ≡ Some object → is_some o ≡ true
-    there None object e = absurd (let no : None ≡ Some object = e in cc)
-    there (Some b) object e = refl
+    there o object e = grind (arith, common_steps)
 
 -- links lead to the replicas, in each epoch
 pub linked : (heap : HeapWords) (c : CollectionWords) → BelongsTo heap c → IsCollection c → LeadsTo (link_at heap.space.words) (collection_in c)
 linked heap c k is a r e =
-    let above : link_at heap.space.words a - mark_of c.epoch ≡ r.place = k.links a (starts heap c a r k e) ∙ ap place_or_zero e in
     let range : (1 ≤ r.place) × (r.place < 4294967295) = replica_address (graph_in heap).objects c r is k.belongs (replica_in (collection_in c) a r e).0 in
     let mark : mark_of c.epoch ≡ c.epoch * 4294967296 = refl in
-    omega (arith, above, range.0, range.1)
+    omega (arith, k.links a (starts heap c a r k e) ∙ ap place_or_zero e, range.0, range.1)
 
 -- a heap's words with other links are a space with the same objects
 pub other_links : (heap : HeapWords) → IsHeap heap → (links : ℕ → ℕ) → let words = (linked_image links heap.space.size (graph_in heap)).words in
@@ -117,12 +111,10 @@ no_link heap c a k none = from (replica_of (collection_in c) a) refl
         let l = replica_in (collection_in c) a r e in
         let ok = (k.belongs).replicas r l.0 in
         let found : lookup (graph_in heap).objects a ≡ Some ok.original = subst (λ n. lookup (graph_in heap).objects n ≡ Some ok.original) l.1 ok.found in
-        let gone : lookup (graph_in heap).objects a ≡ None = object_found heap.space.words a ∙ ap (option_map object_of_block) (absent (block_at heap.space.words a) none) in
-        absurd (let no : None ≡ Some ok.original = sym gone ∙ found in cc)
+        absurd (let no : None ≡ Some ok.original = sym (object_found heap.space.words a ∙ ap (option_map object_of_block) (absent (block_at heap.space.words a) none)) ∙ found in cc)
       where
         absent : (o : Option Block) → is_some o ≡ false → o ≡ None
-        absent None e = refl
-        absent (Some b) e = absurd (let no : true ≡ false = e in cc)
+        absent o e = grind (arith, common_steps)
 
 links_kept : (heap new : HeapWords) (c : CollectionWords) → BelongsTo heap c → KeepsLinks heap.space.words new.space.words → LinksReplicas c.epoch new (collection_in c)
 links_kept heap new c k kept a there = grind (arith, common_steps, no_link, cases_Bool)

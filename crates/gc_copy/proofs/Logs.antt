@@ -1,33 +1,28 @@
 -- The list of mutation logs.
+use Rattle.std.proofs.Math.Seq.{map-set_same, drop-cons}
 use Rattle.std.proofs.lemmas.Grind.{common_steps}
 use Rattle.std.proofs.Common.{◌≡◌, ℕ, suc, zero, ◌+◌, ◌<◌, ◌≤◌, true, false, List, [], ◌∷◌, ◌++◌, map, drop, length, get_or, Option, Some, None, refl, ap, sym, ◌∙◌, subst, arith}
 use Rattle.std.specs.Prelude.{slice_get, slice_set}
-use Rattle.std.proofs.lemmas.Option.{slice_get-get_or}
+use Rattle.std.proofs.lemmas.Option.{slice_get-get_or, slice_get-map, get_or_from_slice_get, slice_get_within}
 use Rattle.std.specs.Option.{option_map}
-use Rattle.std.proofs.lemmas.Bool.{cond-true, cond-false}
-use Rattle.std.proofs.lemmas.List.{drop_all, length-map}
+use Rattle.std.proofs.lemmas.Bool.{cond-true, cond-false, cases_eq}
+use Rattle.std.proofs.lemmas.List.{drop_all, length-map, map-set}
 use Rattle.gc_heap.specs.Heap.{HeapWords, graph_in}
 use Rattle.gc_plan.specs.Steps.{log_at, with_log, is_empty, first_log}
 use Rattle.gc_plan.specs.Belonging.{HasField, Belongs}
 use Rattle.gc_copy.specs.Words.{Log, CollectionWords, entries_of, collection_in, spare_in, spare_of, LinksReplicas, BelongsTo, BelongsToBut}
 use Rattle.gc_graph.specs.Graph.{Object}
 use Rattle.gc_plan.specs.Members.{In}
-use Rattle.gc_plan.proofs.Public.{belongs_noted}
+use Rattle.gc_plan.proofs.Public.{belongs_noted, get_set_same, get_set_other, get_past}
 
 entries_set : (logs : List Log) (m : ℕ) (log : Log) → map entries_of (slice_set logs m log) ≡ slice_set (map entries_of logs) m log.entries
-entries_set [] m log = refl
-entries_set (l ∷ logs) zero log = refl
-entries_set (l ∷ logs) (suc m) log = let rest = entries_set logs m log in λ i. l.entries ∷ rest i
+entries_set logs m log = map-set entries_of logs m log
 
 set_same : (logs : List Log) (m : ℕ) (log : Log) → slice_get logs m ≡ Some log → slice_set (map entries_of logs) m log.entries ≡ map entries_of logs
-set_same [] m log e = refl
-set_same (l ∷ logs) zero log e = let same : l ≡ log = (let f : Some l ≡ Some log = e in cc) in λ i. (sym same i).entries ∷ map entries_of logs
-set_same (l ∷ logs) (suc m) log e = let rest = set_same logs m log e in λ i. l.entries ∷ rest i
+set_same logs m log e = sym (map-set entries_of logs m log) ∙ map-set_same entries_of logs m log log (sym (ap entries_of (get_or_from_slice_get logs m log log e)))
 
 pub entries_at : (logs : List Log) (m : ℕ) (log : Log) → slice_get logs m ≡ Some log → slice_get (map entries_of logs) m ≡ Some log.entries
-entries_at [] m log e = absurd (let no : None ≡ Some log = e in cc)
-entries_at (l ∷ logs) zero log e = let f : Some l ≡ Some log = e in ap (λ (o : Option Log). option_map entries_of o) f
-entries_at (l ∷ logs) (suc m) log e = entries_at logs m log e
+entries_at logs m log e = slice_get-map entries_of logs m ∙ ap (option_map entries_of) e
 
 -- ---- one log changes
 
@@ -36,11 +31,7 @@ pub room_made : (c : CollectionWords) (m : ℕ) (log later : Log) → slice_get 
 room_made c m log later there same = grind (arith, common_steps, entries_set, set_same)
 
 spares_set : (logs : List Log) (m : ℕ) (log later : Log) → slice_get logs m ≡ Some log → log.spare ≤ later.spare → (k : ℕ) → spare_in (slice_get logs k) ≤ spare_in (slice_get (slice_set logs m later) k)
-spares_set [] m log later e more k = omega arith
-spares_set (l ∷ logs) zero log later e more zero = let same : log ≡ l = (let f : Some l ≡ Some log = e in cc) in subst (λ (x : Log). x.spare ≤ later.spare) same more
-spares_set (l ∷ logs) zero log later e more (suc k) = omega arith
-spares_set (l ∷ logs) (suc m) log later e more zero = omega arith
-spares_set (l ∷ logs) (suc m) log later e more (suc k) = spares_set logs m log later e more k
+spares_set logs m log later e more k = grind (arith, common_steps, cases_eq, get_set_same, get_set_other, get_past)
 
 -- no log loses room when one gains some
 pub room_kept : (c : CollectionWords) (m : ℕ) (log later : Log) → slice_get c.logs m ≡ Some log → log.spare ≤ later.spare → (k : ℕ) → spare_of c k ≤ spare_of (record c { logs = slice_set c.logs m later }) k
@@ -53,10 +44,6 @@ entry_noted c m a f log later there more = grind (arith, common_steps, entries_a
 pub entry_dropped : (c : CollectionWords) (m : ℕ) (log later : Log) → slice_get c.logs m ≡ Some log → later.entries ≡ drop 1 log.entries
     → collection_in (record c { logs = slice_set c.logs m later }) ≡ with_log (collection_in c) m (drop 1 (log_at (collection_in c) m))
 entry_dropped c m log later there less = grind (arith, common_steps, entries_at, entries_set)
-
--- a collection still belongs to the heap when a log gains room
-pub same_belongs : (heap : HeapWords) (c next : CollectionWords) → collection_in next ≡ collection_in c → next.epoch ≡ c.epoch → length next.logs ≡ length c.logs → BelongsTo heap c → BelongsTo heap next
-same_belongs heap c next same marks count k = grind (arith, common_steps)
 
 only : (objects : List (ℕ × Object)) (a f : ℕ) → HasField objects a f → (b j : ℕ) → In {X = ℕ × ℕ} (b, j) ((a, f) ∷ []) → HasField objects b j
 only objects a f field b j h = grind (arith, common_steps)
@@ -80,9 +67,7 @@ pub there_in : (c outer : CollectionWords) (m : ℕ) (log : Log) → c ≡ outer
 there_in c outer m log seen less is = grind (arith, common_steps, slice_get-get_or)
 
 drop_at : (logs : List Log) (m : ℕ) (log : Log) → slice_get logs m ≡ Some log → drop m logs ≡ log ∷ drop (suc m) logs
-drop_at [] m log e = absurd (let no : None ≡ Some log = e in cc)
-drop_at (l ∷ logs) zero log e = let same : l ≡ log = (let f : Some l ≡ Some log = e in cc) in λ i. same i ∷ logs
-drop_at (l ∷ logs) (suc m) log e = drop_at logs m log e
+drop_at logs m log e = drop-cons logs m log (slice_get_within logs m log e) ∙ ap (λ l. l ∷ drop (suc m) logs) (get_or_from_slice_get logs m log log e)
 
 pub first_here : (c : CollectionWords) (m : ℕ) (log : Log) → slice_get c.logs m ≡ Some log → is_empty log.entries ≡ false → first_from c.logs m ≡ Some m
 first_here c m log there full = grind (arith, common_steps, drop_at, cond-false)
@@ -92,6 +77,3 @@ first_later c m log there empty =
     ap (first_from c.logs) (let e : m + 1 ≡ suc m = omega arith in e)
     ∙ sym (ap (λ ls. first_log m (map entries_of ls)) (drop_at c.logs m log there)
     ∙ cond-true (is_empty log.entries) (first_log (suc m) (map entries_of (drop (suc m) c.logs))) (Some m) empty)
-
-pub first_none : (c : CollectionWords) (m : ℕ) → length c.logs ≤ m → first_from c.logs m ≡ None
-first_none c m h = ap (λ ls. first_log m (map entries_of ls)) (drop_all m c.logs h)

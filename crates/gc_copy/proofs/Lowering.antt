@@ -1,4 +1,5 @@
 -- The loop that takes the mark from links: it goes over the objects of the heap, whose links it changes.
+use Rattle.std.proofs.lemmas.Grind.{common_steps}
 use Rattle.std.proofs.Common.{◌≡◌, ◌⊎◌, ⊎_elim, inl, inr, ℕ, ◌+◌, ◌-◌, ◌<◌, ◌≤◌, true, List, [], ◌∷◌, ◌++◌, length, drop, Some, Result, refl, ap, sym, ◌∙◌, subst, arith, length-set}
 use Rattle.std.specs.Prelude.{IsOk}
 use Rattle.std.proofs.lemmas.Bool.{cases_eq}
@@ -85,33 +86,15 @@ lowers_more mark old now new at next link k less e low is sound =
     same = ap (walk true 0 next) kept
 
     met : Met after.space.words next (k.done ++ (at, p.block) ∷ [])
-    met = record {
-      split = (link_written now.space at link (k.sound).space there).1 ∙ (p.met).split ∙ ap (λ (r : Result (List (ℕ × Block)) ℕ). (k.done ++ (at, p.block) ∷ []) ++ ok_or_nil r) (sym same);
-      walked = subst IsOk (sym same) (p.met).walked;
-      few = (p.met).few;
-      within = subst (λ n. next ≤ n) (sym (length-set now.space.words (at + 1) link)) (p.met).within;
-    }
+    met = grind (arith, common_steps, link_written, there, p, same, length-set)
 
     lowered : (a : ℕ) → at ≡ a → IsLowered mark old now at a → IsLowered mark old after next a
-    lowered a here (inl done) = absurd (let before : a < at = done.0 in omega arith)
-    lowered a here (inr ahead) =
-        let written : link_at after.space.words a ≡ link = subst (λ n. link_at after.space.words n ≡ link) here (link_written_there now.space at link (k.sound).space there) in
-        let was : link_at now.space.words at - mark ≡ link_at old.space.words a - mark = (λ i. link_at now.space.words (here i) - mark) ∙ ap (λ l. l - mark) ahead.1 in
-        let before : at < next = p.on in
-        inl (omega arith, written ∙ low ∙ was)
+    lowered a here h = grind (arith, common_steps, after, link_written_there, there, p)
 
     behind_it : (a : ℕ) → (at ≡ a → ⊥) → IsNext now.space.words at a → IsNext after.space.words next a
-    behind_it a other ahead = from (subst (In ahead.0) b.objects ahead.1)
-      where
-        from : In ahead.0 ((at, block_from now.space.words at b.step.header) ∷ ok_or_nil (walk_from now.space.words next)) → IsNext after.space.words next a
-        from (inl here) = absurd (other (ap (λ (x : ℕ × Block). x.0) here ∙ ahead.2))
-        from (inr later) = (ahead.0, subst (λ (r : Result (List (ℕ × Block)) ℕ). In ahead.0 (ok_or_nil r)) (sym same) later, ahead.2)
+    behind_it a other ahead = grind (arith, common_steps, b, after, same)
 
     beside : (a : ℕ) → (at ≡ a → ⊥) → IsLowered mark old now at a → IsLowered mark old after next a
-    beside a other (inl done) = inl (let before : a < at = done.0 in let on : at < next = p.on in omega arith, link_written_beside now.space at link a other ∙ done.1)
-    beside a other (inr ahead) = inr (behind_it a other ahead.0, link_written_beside now.space at link a other ∙ ahead.1)
+    beside a other h = grind (arith, common_steps, p, link_written_beside, behind_it)
 
 -- ---- after the last object
-
-pub all_lowered : (mark : ℕ) (old now : HeapWords) (at : ℕ) → Lowers mark old now at → length now.space.words ≤ at → (a : ℕ) → is_start old.space.words a ≡ true → link_at now.space.words a ≡ link_at old.space.words a - mark
-all_lowered mark old now at k past a start = ⊎_elim (λ done. done.1) (λ ahead. absurd (subst (In ahead.0.0) (ap ok_or_nil (at_end now.space.words at past)) ahead.0.1)) (k.links a start)

@@ -36,19 +36,12 @@ pub mutate_is : (heap new : HeapWords) (c next : CollectionWords) (m : ℕ) (op 
     → mutate (open_state heap c) m op ≡ (reply, open_state new next)
 mutate_is heap new c next m op reply entries is size mutators step wrote noted = grind (arith, common_steps)
 
--- a `Put` writes only if its reply is `Done`
-nothing_put : (g : Graph) (m : ℕ) (s t : SlotName) (i : ℕ) (reply : Reply) → reply ≢ replies.Done → written g m (ops.Put s i t) reply ≡ []
-nothing_put g m s t i reply other = grind (arith, common_steps)
-
 nothing : (g : Graph) (m : ℕ) (op : Op) (reply : Reply) → reply ≢ replies.Done → written g m op reply ≡ []
-nothing g m op reply other = grind (arith, common_steps, nothing_put)
-
-wrote_by_reply : (g : Graph) (m : ℕ) (op : Op) (reply : Reply) (o : Option (ℕ × ℕ)) → option_to_list o ≡ written g m op replies.Done → written g m op reply ≡ option_to_list (if_done reply o)
-wrote_by_reply g m op reply o e = grind (arith, common_steps, nothing)
+nothing g m op reply other = grind (arith, common_steps)
 
 -- the entries to log, from the field that the code found and the reply
 pub wrote : (g : Graph) (m : ℕ) (op : Op) (reply : Reply) (put found : Option (ℕ × ℕ)) → option_to_list put ≡ written g m op replies.Done → found ≡ if_done reply put → written g m op reply ≡ option_to_list found
-wrote g m op reply put found e f = wrote_by_reply g m op reply put e ∙ ap option_to_list (sym f)
+wrote g m op reply put found e f = grind (arith, common_steps, nothing)
 
 pub nothing_belongs : (heap new : HeapWords) (c : CollectionWords) (m : ℕ) (op : Op) (reply : Reply) → BelongsTo heap c → KeepsLinks heap.space.words new.space.words → new.mutators ≡ heap.mutators
     → roomy_step (roomy_in heap) m op (end_of heap.space) ≡ (reply, roomy_in new) → written (graph_in heap) m op reply ≡ [] → BelongsTo new c

@@ -42,14 +42,13 @@ passing words at next done m less e =
     let split : blocks words ≡ done ++ (at, block) ∷ ok_or_nil (walk_from words next) = m.split ∙ ap (λ bs. done ++ bs) b.objects in
     let place = b.step.place in
     let few = m.few in
-    let count : length (done ++ (at, block) ∷ []) ≡ length done + 1 = length-append done ((at, block) ∷ []) in
     record {
       block = block;
       found = subst (In (at, block)) (sym split) (in_right (at, block) done ((at, block) ∷ ok_or_nil (walk_from words next)) (inl refl));
       met = record {
         split = split ∙ sym (append_assoc done ((at, block) ∷ []) (ok_or_nil (walk_from words next)));
         walked = b.walked;
-        few = omega (arith, count);
+        few = omega (arith, length-append done ((at, block) ∷ []));
         within = b.step.within;
       };
       on = omega arith;
@@ -63,14 +62,6 @@ start_met words at done m less =
     in_start words (at, p.block) p.found
 
 -- ---- what loops maintain
-
-abbrev pub Counts : List ℕ → ℕ → ℕ → Type 0
-Counts words at count = (done : List (ℕ × Block)) × Met words at done × (count ≡ length done)
-
-pub counts_more : (words : List ℕ) (at next count : ℕ) → Counts words at count → at < length words → next_of words at ≡ Some next → Counts words next (count + 1)
-counts_more words at next count k less e =
-    let p : Passing words at next k.0 = passing words at next k.0 k.1 less e in
-    (k.0 ++ (at, p.block) ∷ [], p.met, ap (λ n. n + 1) k.2 ∙ sym (length-append k.0 ((at, p.block) ∷ [])))
 
 abbrev pub pair_of : Replica → ℕ × ℕ
 pair_of r = (r.original, r.place)
@@ -95,15 +86,3 @@ link_small words at done small m less =
     let n = some_of (next_of words at) (has_next words at less m.walked) in
     let p : Passing words at n.0 done = passing words at n.0 done m less n.1 in
     small (replica_entry words (at, p.block)) (in_map (replica_entry words) (at, p.block) (blocks words) p.found)
-
--- there are no more pairs than words
-pub lists_few : (space : SpaceWords) (at : ℕ) (pairs : List Pair) → IsSpace space → Lists space.words at pairs → length pairs < 2 ^ 32
-lists_few space at pairs is k = grind (arith, common_steps, length-map)
-
--- the walk so far, when the link of an object that was passed is set
-pub counts_unlinked : (words after : List ℕ) (at next count : ℕ) → after ≡ slice_set words (at + 1) 0 → blocks after ≡ blocks words → at + 1 < next → Counts words next count → Counts after next count
-counts_unlinked words after at next count is objects passed h = grind (arith, common_steps, drop-set-lt)
-
--- where an object is passed its link word is passed too
-pub link_passed : (words : List ℕ) (at next count : ℕ) → Counts words at count → at < length words → next_of words at ≡ Some next → at + 1 < next
-link_passed words at next count k less e = grind (arith, common_steps, behind)

@@ -1,4 +1,5 @@
 -- The state of a heap of words with its open collection, and the invariant that ties them together.
+use Rattle.std.proofs.lemmas.List.Folds.{find-append}
 use Rattle.std.proofs.lemmas.Grind.{common_steps}
 use Rattle.gc_words.proofs.Public.{block_there, closed_field_read, stands_in, CanPlaceBlock, some_of, can_place_fresh, link_written, link_written_there, link_written_beside, object_found, field_found, graph_link, meaning_back, block_of_header, fields_counted, end_written, none_of}
 use Rattle.std.proofs.Common.{◌≡◌, ◌≢◌, ⊎_elim, inl, ℕ, ◌+◌, ◌-◌, ◌<◌, ◌≤◌, ◌==◌, nat_lt, Bool, true, false, cond, List, [], ◌∷◌, ◌++◌, length, Option, Some, None, Result, is_some, refl, ap, sym, ◌∙◌, subst, arith}
@@ -40,9 +41,6 @@ use Rattle.gc_copy.proofs.Spaces.{count_placed, replica_at_end, replica_block_ob
 pub graph_kept : (old new : HeapWords) → KeepsGraph old new → graph_in new ≡ graph_in old
 graph_kept old new k = ap (λ h. h.graph) k.heap
 
-pub state_kept : (old new : HeapWords) (o : Option Collection) → KeepsGraph old new → state_of new o ≡ state_of old o
-state_kept old new o k = λ i. record { mutators = k.mutators i; size = k.size i; heap = k.heap i; collection = o }
-
 pub same_graph : (h : HeapWords) → KeepsGraph h h
 same_graph h = record { mutators = refl; size = refl; roots = refl; heap = refl; blocks = refl }
 
@@ -76,15 +74,10 @@ after_step heap new c next step reply other is k same count e links =
 -- ---- finding
 
 find_push : {X : Type 0} (p : X → Bool) (xs : List X) (y : X) → find p xs ≡ None → p y ≡ true → find p (xs ++ y ∷ []) ≡ Some y
-find_push p [] y none is = cond-true (p y) (Some y) None is
-find_push p (x ∷ xs) y none is = ⊎_elim
-    (λ t. absurd (let some : Some x ≡ None = sym (cond-true (p x) (Some x) (find p xs) t) ∙ none in cc))
-    (λ f. cond-false (p x) (Some x) (find p (xs ++ y ∷ [])) f ∙ find_push p xs y (sym (cond-false (p x) (Some x) (find p xs) f) ∙ none) is)
-    (cases_Bool (p x))
+find_push p xs y none is = grind (arith, common_steps, find-append)
 
 find_push_other : {X : Type 0} (p : X → Bool) (xs : List X) (y : X) → p y ≡ false → find p (xs ++ y ∷ []) ≡ find p xs
-find_push_other p [] y is = cond-false (p y) (Some y) None is
-find_push_other p (x ∷ xs) y is = grind (arith, common_steps, cond-false, cond-true, cases_Bool, find_push_other p xs y is)
+find_push_other p xs y is = grind (arith, common_steps, find-append)
 
 -- a replica is found at the same place after a write
 zero_of_none : (o : Option Replica) (p : Option Replica) → option_map (λ r. r.place) o ≡ option_map (λ (r : Replica). r.place) p → place_or_zero o ≡ place_or_zero p
@@ -121,8 +114,7 @@ pub placed_start : (s one : SpaceWords) (words : List ℕ) (a place : ℕ) → I
 placed_start s one words a place shaped walked start room made at =
     let b = some_of (block_at words a) start in
     let whole = (stands_in words a b.0 walked b.1).whole in
-    let can = can_place_replica s b.0 shaped whole (room b.0.header (ap header_of b.1)) in
-    (λ i. is_start (made b.0 b.1 i).words (at i)) ∙ ap is_some (block_there s (replica_block b.0) can)
+    (λ i. is_start (made b.0 b.1 i).words (at i)) ∙ ap is_some (block_there s (replica_block b.0) (can_place_replica s b.0 shaped whole (room b.0.header (ap header_of b.1))))
 
 pub record Placing (heap new : HeapWords) (c next : CollectionWords) (name : ℕ) : Type 0 where
   pub sound : IsCollection next
@@ -193,17 +185,10 @@ module _ (heap : HeapWords) (c : CollectionWords) (name : ℕ) (h : Header) (hea
       fits = le-ltb _ _ (omega (arith, room, count, free))
 
       same : fresh_replica name (new_end (collection_in c)) (object_of_block block.0) ≡ replica_at_end c.space (replica_block block.0) name
-      same =
-          let end = new_end_is c is.space in
-          let object = replica_block_object block.0 stands.whole in
-          λ i. record { original = name; place = end i; object = sym object i }
+      same = grind (arith, common_steps, new_end_is, object, replica_block_object, stands)
 
       step : place_replica (collection_in c) name (lookup (graph_in heap).objects name) ≡ Some (collection_in next)
-      step =
-          ap (place_replica (collection_in c) name) found
-          ∙ cond-false (nat_lt (new_free (collection_in c)) (length (object_of_block block.0).fields + 2)) None _ fits
-          ∙ ap (λ r. Some (record (collection_in c) { replicas = replicas_in c.space.words ++ r ∷ [] })) same
-          ∙ ap Some (sym grown)
+      step = grind (arith, common_steps, found, cond-false, nat_lt, fits, same, grown)
 
 -- ---- the target of a word gets its replica
 
@@ -253,10 +238,7 @@ bringing objects c name i w place v is belongs found there means = from (replica
         }
 
     from : (o : Option Replica) → replica_of (collection_in c) name ≡ o → option_map (λ r. r.place) o ≡ Some place → Bringing c (record c { space = with_word c.space (field_place place i) w }) name i v
-    from None e f = absurd (let no : None ≡ Some place = f in cc)
-    from (Some r) e f =
-        let p : r.place ≡ place = (let s : Some r.place ≡ Some place = f in cc) in
-        subst (λ n. Bringing c (record c { space = with_word c.space (field_place n i) w }) name i v) p (at r e (subst (λ n. IsSome (field_at c.space.words n i)) (sym p) there))
+    from o e f = grind (arith, common_steps, at)
 
 -- ---- fields
 
@@ -267,9 +249,7 @@ block_of_object words a o e = grind (arith, common_steps, object_found)
 pub field_present : (words : List ℕ) (a i : ℕ) (o : Object) → lookup (objects_of words) a ≡ Some o → i < length o.fields → IsSome (field_at words a i)
 field_present words a i o e less =
     let b = block_of_object words a o e in
-    let count : length o.fields ≡ length b.0.fields = ap (λ (x : Object). length x.fields) (sym b.2) ∙ length-map b.0.fields (field_value b.0.header) in
-    let w = get_within b.0.fields i (omega (arith, count, less)) in
-    ap is_some (ap (λ x. field_in x i) b.1 ∙ w.1)
+    ap is_some (ap (λ x. field_in x i) b.1 ∙ (get_within b.0.fields i (omega (arith, ap (λ (x : Object). length x.fields) (sym b.2) ∙ length-map b.0.fields (field_value b.0.header), less))).1)
 
 pub field_below : (words : List ℕ) (a i : ℕ) (o : Object) → lookup (objects_of words) a ≡ Some o → IsSome (field_at words a i) → i < length o.fields
 field_below words a i o e there = grind (arith, common_steps, block_of_object, count, length-map, some_of, get_past)
@@ -285,11 +265,10 @@ field_of_replica heap c name i place belongs found there = from (replica_of (col
     from : (o : Option Replica) → replica_of (collection_in c) name ≡ o → option_map (λ r. r.place) o ≡ Some place → IsSome (field_at c.space.words place i)
     from None e f = absurd (let no : None ≡ Some place = f in cc)
     from (Some r) e f =
-        let p : r.place ≡ place = (let s : Some r.place ≡ Some place = f in cc) in
         let l = replica_in (collection_in c) name r e in
         let ok = belongs.replicas r l.0 in
         let less : i < length ok.original.fields = field_below heap.space.words name i ok.original (subst (λ n. lookup (graph_in heap).objects n ≡ Some ok.original) l.1 ok.found) there in
-        subst (λ n. IsSome (field_at c.space.words n i)) p
+        subst (λ n. IsSome (field_at c.space.words n i)) (let s : Some r.place ≡ Some place = f in cc)
         (field_present c.space.words r.place i r.object (replica_object (graph_in heap).objects c r belongs l.0) (let same = ok.len in omega arith))
 
 -- a replica is raw exactly if its original is
@@ -307,17 +286,14 @@ replica_raw heap c name i w r raw belongs e field is =
 pub replica_address : (objects : List (ℕ × Object)) (c : CollectionWords) (r : Replica) → IsCollection c → Belongs objects (collection_in c) → In r (replicas_in c.space.words) → (1 ≤ r.place) × (r.place < 4294967295)
 replica_address objects c r is belongs l =
     let range = laid_range 1 (new_objects (collection_in c)) (new_end (collection_in c)) (placed r) belongs.laid (in_map placed r (replicas_in c.space.words) l) in
-    let room = belongs.room in
-    let high = (is.space).size_high in
-    (range.0, omega (arith, range, room, high))
+    (range.0, omega (arith, range, belongs.room, (is.space).size_high))
 
 pub moved_address : (objects : List (ℕ × Object)) (c : CollectionWords) (v : Value) → IsCollection c → Belongs objects (collection_in c) → HasReplicaOf (collection_in c) v → HasAddress (moved (collection_in c) v)
 moved_address objects c Nil is belongs h = tt
 moved_address objects c (Num n) is belongs h = tt
 moved_address objects c (Ref a) is belongs h =
     let r = some_of (replica_of (collection_in c) a) h in
-    let l = replica_in (collection_in c) a r.0 r.1 in
-    subst (λ o. HasAddress (moved_name o a)) (sym r.1) (replica_address objects c r.0 is belongs l.0)
+    subst (λ o. HasAddress (moved_name o a)) (sym r.1) (replica_address objects c r.0 is belongs (replica_in (collection_in c) a r.0 r.1).0)
 
 header_of_field : (words : List ℕ) (name i w : ℕ) → field_at words name i ≡ Some w → (h : Header) × (header_at words name ≡ Some h)
 header_of_field words name i w e = from (block_at words name) refl e
@@ -346,9 +322,6 @@ pub brought : (g : Graph) (c one : Collection) (name i : ℕ) (v : Value) → fi
     → bring_up_to_date c g name i ≡ Some (write_replica one name i (moved one v))
 brought g c one name i v field target = ap (bring_value c g name i) field ∙ ap (λ o. copy_value o name i v) target
 
-pub not_brought : (g : Graph) (c : Collection) (name i : ℕ) (v : Value) → field_of (lookup g.objects name) i ≡ Some v → with_replica c g v ≡ None → bring_up_to_date c g name i ≡ None
-not_brought g c name i v field target = ap (bring_value c g name i) field ∙ ap (λ o. copy_value o name i v) target
-
 -- placing one object's replica leaves the others
 pub kept_replica : (c next : Collection) (g : Graph) (v : Value) (a place : ℕ) → with_replica c g v ≡ Some next → option_map (λ r. r.place) (replica_of c a) ≡ Some place → option_map (λ r. r.place) (replica_of next a) ≡ Some place
 kept_replica c next g v a place e found = grind (arith, common_steps, found, ne_eqb, find_push_other, none_of)
@@ -367,11 +340,10 @@ link_tells heap c a link is k start e = from (replica_of (collection_in c) a) re
     from None f g = record { small = omega arith; none = λ z. ap (option_map (λ (r : Replica). r.place)) f; some = λ n. absurd (n g); address = λ n. absurd (n g) }
     from (Some r) f g =
         let at : (1 ≤ r.place) × (r.place < 4294967295) = replica_address (graph_in heap).objects c r is k.belongs (replica_in (collection_in c) a r f).0 in
-        let same : link ≡ r.place = g in
         record {
           small = omega (arith, at);
           none = λ z. absurd (omega (arith, at, z));
-          some = λ n. ap (option_map (λ (r : Replica). r.place)) f ∙ ap Some (sym same);
+          some = λ n. ap (option_map (λ (r : Replica). r.place)) f ∙ ap Some (sym g);
           address = λ n. ((omega (arith, at)), (omega (arith, at)));
         }
 
@@ -382,16 +354,12 @@ pub placing_done : (heap new : HeapWords) (c next : CollectionWords) (name end l
     → Placing heap new c next name
 placing_done heap new c next name end link place h one heap_is is k start none header room at made linked after there heap_after =
     let b = block_of_header heap.space.words name h header in
-    let placed_one : one ≡ with_block c.space (replica_block b.0) = made b.0 b.1 in
-    let next_is : next ≡ record c { space = with_word (with_block c.space (replica_block b.0)) (link_place (end_of c.space)) name } = after ∙ (λ i. record c { space = with_word (placed_one i) (link_place (at i)) (linked i) }) in
+    let next_is : next ≡ record c { space = with_word (with_block c.space (replica_block b.0)) (link_place (end_of c.space)) name } = after ∙ (λ i. record c { space = with_word (made b.0 b.1 i) (link_place (at i)) (linked i) }) in
     let new_is : new ≡ record heap { space = with_word heap.space (link_place name) (mark_of c.epoch + end_of c.space) } = heap_after ∙ ap (λ n. record heap { space = with_word heap.space (link_place name) n }) (there ∙ ap (λ n. mark_of c.epoch + n) at) in
     let done = placing heap c name h heap_is is header k start none room in
     subst (λ x. Placing heap x c next name) (sym new_is) (subst (λ x. Placing heap (record heap { space = with_word heap.space (link_place name) (mark_of c.epoch + end_of c.space) }) c x name) (sym next_is) done)
 
 -- ---- results
-
-pub on_ok : {X Y : Type 0} (P Q : Type 0) (r : Result X Y) → (P → Q) → OnOk r P → OnOk r Q
-on_ok P Q r f h = grind (arith, common_steps)
 
 pub if_err : {X Y : Type 0} (P : Type 0) (r : Result X Y) → P → OnErr r P
 if_err P r h = grind (arith, common_steps)
@@ -503,7 +471,3 @@ module _ (heap : HeapWords) (c x : CollectionWords) (name i w place : ℕ) (heap
 
       step : bring_up_to_date (collection_in x) (graph_in heap) name i ≡ Some (collection_in after_words)
       step = ap (bring_value (collection_in x) (graph_in heap) name i) number ∙ ap Some (sym made.copied)
-
--- a word without a target is copied as it is
-pub unmoved : (c : Collection) (w : ℕ) → None ≡ name_of (value_of w) → w ≡ word_of (moved c (value_of w))
-unmoved c w e = grind (arith, common_steps, word_back)

@@ -1,4 +1,5 @@
 -- Walks over the root words.
+use Rattle.std.proofs.lemmas.Option.{slice_get-map, slice_get-get_or}
 use Rattle.std.proofs.lemmas.Grind.{common_steps}
 use Rattle.std.proofs.Common.{Option, Some, None, arith, ◌≡◌, ℕ, suc, zero, ◌-◌, ◌<◌, ◌≤◌, true, List, [], ◌∷◌, ◌++◌, map, drop, take, replicate, length, length-take, get_or, slice_get, refl, ap, sym, ◌∙◌, subst, append-nil, inl, inr}
 use Rattle.std.proofs.lemmas.Bool.{eqb-true}
@@ -11,19 +12,14 @@ use Rattle.gc_heap.specs.Heap.{HeapWords, graph_in}
 use Rattle.gc_plan.specs.State.{Collection, moved}
 use Rattle.gc_plan.specs.Steps.{root_target, roots_done}
 use Rattle.gc_plan.specs.Members.{In}
-use Rattle.gc_plan.proofs.Public.{HasReplica, in_map, roots_replicated, all_replicated, first_missing}
+use Rattle.gc_plan.proofs.Public.{HasReplica, in_map, roots_replicated, all_replicated, first_missing, get_in}
 use Rattle.gc_copy.specs.Words.{AreMoved, new_root_words}
 use Rattle.gc_copy.specs.declared.collection.roots.MissingRoot.{MissingRoot}
 use Rattle.gc_plan.specs.Staying.{HasReplicaOf, IsMissing}
 
 -- the value of a root, read from its word
 pub value_at : (words : List ℕ) (i : ℕ) → i < length words → value_or_nil (slice_get (map value_of words) i) ≡ value_of (get_or words i 0)
-value_at [] i h = absurd (omega arith)
-value_at (w ∷ ws) zero h = refl
-value_at (w ∷ ws) (suc i) h = value_at ws i (omega arith)
-
-pub root_at : (heap : HeapWords) (words : List ℕ) (i : ℕ) → words ≡ heap.roots → i < length heap.roots → root (graph_in heap) i ≡ value_of (get_or words i 0)
-root_at heap words i same h = value_at heap.roots i h ∙ ap (λ (ws : List ℕ). value_of (get_or ws i 0)) (sym same)
+value_at words i h = grind (arith, common_steps, slice_get-map, slice_get-get_or)
 
 -- ---- moving them
 
@@ -38,9 +34,7 @@ all_moved heap c = by heap.roots
     by (w ∷ ws) = let rest = by ws in λ i. moved_to c w ∷ rest i
 
 get_or_in : (ws : List ℕ) (i : ℕ) → i < length ws → In (get_or ws i 0) ws
-get_or_in [] i h = absurd (omega arith)
-get_or_in (w ∷ ws) zero h = inl refl
-get_or_in (w ∷ ws) (suc i) h = inr (get_or_in ws i (omega arith))
+get_or_in ws i h = get_in (get_or ws i 0) ws i (slice_get-get_or ws i 0 h)
 
 has_one : (c : Collection) (v : Value) → HasReplica c v → HasReplicaOf c v
 has_one c v h = grind (arith, common_steps)
@@ -54,16 +48,6 @@ root_has_replica heap c words i same h done =
 -- the values of the roots behind place k are nil
 abbrev pub EndsAt : List ℕ → ℕ → Type 0
 EndsAt words k = (p : ℕ) → k ≤ p → value_or_nil (slice_get (map value_of words) p) ≡ Nil
-
-past_all : (words : List ℕ) (p : ℕ) → length words ≤ p → value_or_nil (slice_get (map value_of words) p) ≡ Nil
-past_all [] zero h = refl
-past_all [] (suc p) h = refl
-past_all (w ∷ ws) zero h = absurd (omega arith)
-past_all (w ∷ ws) (suc p) h = past_all ws p (omega arith)
-
--- there is no root behind the end of their list
-pub end_of_all : (words : List ℕ) (k : ℕ) → length words ≤ k → EndsAt words k
-end_of_all words k h = λ p l. past_all words p (omega arith)
 
 -- only 0 is nil
 nil_word : (w : ℕ) → value_of w ≡ Nil → w ≡ 0
@@ -84,10 +68,6 @@ nil_words (w ∷ ws) (suc k) h =
 moved_nils : (c : Collection) (n : ℕ) → map (moved_to c) (replicate n 0) ≡ replicate n 0
 moved_nils c zero = refl
 moved_nils c (suc n) = let rest = moved_nils c n in λ i. 0 ∷ rest i
-
--- each of the first k targets has a replica
-pub first_has_replica : (heap : HeapWords) (c : Collection) (words : List ℕ) (k i : ℕ) → words ≡ heap.roots → i < length (take k words) → roots_done c (graph_in heap) ≡ true → HasReplicaOf c (value_of (get_or (take k words) i 0))
-first_has_replica heap c words k i same h done = grind (arith, common_steps, get_or-take, root_has_replica)
 
 -- where k roots are moved, and the others are nil
 pub moved_first : (heap : HeapWords) (c : Collection) (words row : List ℕ) (k i : ℕ) → k ≤ length heap.roots → EndsAt heap.roots k → words ≡ take k heap.roots → length words ≤ i
@@ -112,14 +92,6 @@ moved_first heap c words row k i within ends same past e =
         ∙ sym (map-append (moved_to c) (take k heap.roots) (drop k heap.roots))
         ∙ ap (map (moved_to c)) (take-append-drop k heap.roots)
         ∙ all_moved heap c
-
--- where all are
-pub moved_whole : (heap : HeapWords) (c : Collection) (row : List ℕ) → length row ≡ length heap.roots → AreMoved row heap c → row ≡ new_root_words heap c
-moved_whole heap c row same is = grind (arith, common_steps)
-
--- no more are moved than there are
-pub moved_within : (heap : HeapWords) (c : Collection) (row : List ℕ) → AreMoved row heap c → length row ≤ length heap.roots
-moved_within heap c row is = grind (arith, common_steps, all_moved, length-map, length-append)
 
 -- written over the first roots, they are all roots moved
 pub moved_over : (heap : HeapWords) (c : Collection) (row : List ℕ) → AreMoved row heap c → row ++ drop (length row) heap.roots ≡ new_root_words heap c

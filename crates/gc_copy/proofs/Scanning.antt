@@ -20,7 +20,7 @@ use Rattle.gc_plan.specs.declared.step.Step.TheVariants as steps
 use Rattle.gc_plan.specs.declared.step.StepReply.TheVariants.{Passed, Scanned, NoRoom}
 use Rattle.gc_plan.proofs.Public.{found_by_name, found_by_place}
 use Rattle.gc_copy.proofs.Spaces.{in_start, replica_start}
-use Rattle.gc_copy.proofs.OpenCollection.{state_kept, same_graph, after_step, field_present, replica_object}
+use Rattle.gc_copy.proofs.OpenCollection.{same_graph, after_step, field_present, replica_object}
 
 neither : (a b : Bool) → a ≡ false → b ≡ false → (a || b) ≡ false
 neither a b e f = grind (arith, common_steps)
@@ -56,9 +56,6 @@ module _ (heap : HeapWords) (x : CollectionWords) (is : IsCollection x) (k : Bel
       let b = stands_there h e in
       subst (λ (h : Header). h.len < 65536) b.2 ((stands_in x.space.words x.scan_place b.0 (is.space).walked b.1).whole.header).len
 
-  raw_is : (h : Header) → header_at x.space.words x.scan_place ≡ Some h → at.0.object.raw ≡ h.raw
-  raw_is h e = grind (arith, common_steps, stands_there)
-
   pub small : link_at x.space.words x.scan_place < 2 ^ 32
   small = subst (λ n. n < 2 ^ 32) (sym original) (is.originals at.0 at.1)
 
@@ -71,18 +68,17 @@ module _ (heap : HeapWords) (x : CollectionWords) (is : IsCollection x) (k : Bel
   pub field_there : (h : Header) → header_at x.space.words x.scan_place ≡ Some h → (x.scan_field ≡ h.len → ⊥) → IsSome (field_at heap.space.words (link_at x.space.words x.scan_place) x.scan_field)
   field_there h e other =
       let ok = (k.belongs).replicas at.0 at.1 in
-      let n = count h e in
       let len = ok.len in
       let most = at.3 in
       subst (λ a. IsSome (field_at heap.space.words a x.scan_field)) (sym original)
-      (field_present heap.space.words at.0.original x.scan_field ok.original ok.found (omega (arith, n, other)))
+      (field_present heap.space.words at.0.original x.scan_field ok.original ok.found (omega (arith, count h e, other)))
 
   -- the number of the next field fits 16 bits
   pub next_small : (h : Header) → header_at x.space.words x.scan_place ≡ Some h → (x.scan_field ≡ h.len → ⊥) → x.scan_field + 1 ≤ h.len
   next_small h e other = let n = count h e in let most = at.3 in omega (arith, n, other)
 
   passes : (h : Header) → header_at x.space.words x.scan_place ≡ Some h → (h.raw ≡ true) ⊎ (x.scan_field ≡ h.len) → scan (open_state heap x) (collection_in x) ≡ (Passed, with_collection (open_state heap x) (Some (next_object (collection_in x) at.0)))
-  passes h e all = grind (arith, common_steps, cond-false, found, cond-true, at, or_left, raw_is, or_right, eq-eqb, count)
+  passes h e all = grind (arith, common_steps, cond-false, found, cond-true, at, or_left, stands_there, or_right, eq-eqb, count)
 
   pub passed : (h : Header) → header_at x.space.words x.scan_place ≡ Some h → (h.raw ≡ true) ⊎ (x.scan_field ≡ h.len) → (place : ℕ) → place ≡ x.scan_place + (h.len + 2)
       → scan (open_state heap x) (collection_in x) ≡ (Passed, open_state heap (record x { scan_place = place; scan_field = 0 }))
@@ -92,7 +88,7 @@ module _ (heap : HeapWords) (x : CollectionWords) (is : IsCollection x) (k : Bel
   passed_belongs h e all place is_there = after_step heap heap x (record x { scan_place = place; scan_field = 0 }) steps.Scan Passed (λ no. cc no) is k (same_graph heap) refl (passed h e all place is_there) k.links
 
   scans : (h : Header) → header_at x.space.words x.scan_place ≡ Some h → h.raw ≡ false → (x.scan_field ≡ h.len → ⊥) → scan (open_state heap x) (collection_in x) ≡ if_room (open_state heap x) Scanned (next_field (bring_up_to_date (collection_in x) (graph_in heap) (link_at x.space.words x.scan_place) x.scan_field))
-  scans h e plain other = grind (arith, common_steps, cond-false, found, at, neither, raw_is, ne_eqb, count, original)
+  scans h e plain other = grind (arith, common_steps, cond-false, found, at, neither, stands_there, ne_eqb, count, original)
 
   pub no_room : (h : Header) → header_at x.space.words x.scan_place ≡ Some h → h.raw ≡ false → (x.scan_field ≡ h.len → ⊥) → bring_up_to_date (collection_in x) (graph_in heap) (link_at x.space.words x.scan_place) x.scan_field ≡ None
       → scan (open_state heap x) (collection_in x) ≡ (NoRoom, open_state heap x)
@@ -102,7 +98,7 @@ module _ (heap : HeapWords) (x : CollectionWords) (is : IsCollection x) (k : Bel
   pub scanned : (h : Header) → header_at x.space.words x.scan_place ≡ Some h → h.raw ≡ false → (x.scan_field ≡ h.len → ⊥) → (new : HeapWords) (after : CollectionWords) → KeepsGraph heap new → KeepsRest x after
       → bring_up_to_date (collection_in x) (graph_in heap) (link_at x.space.words x.scan_place) x.scan_field ≡ Some (collection_in after)
       → scan (open_state heap x) (collection_in x) ≡ (Scanned, open_state new (record after { scan_field = x.scan_field + 1 }))
-  scanned h e plain other new after graph rest brought = grind (arith, common_steps, scans, state_kept)
+  scanned h e plain other new after graph rest brought = grind (arith, common_steps, scans)
 
   pub scanned_belongs : (h : Header) → header_at x.space.words x.scan_place ≡ Some h → h.raw ≡ false → (x.scan_field ≡ h.len → ⊥) → (new : HeapWords) (after : CollectionWords) → KeepsGraph heap new → KeepsRest x after → BelongsTo new after
       → bring_up_to_date (collection_in x) (graph_in heap) (link_at x.space.words x.scan_place) x.scan_field ≡ Some (collection_in after)

@@ -57,36 +57,17 @@ module _ {Z : Type 0} where
   left_in ss last gone = map entry_in (drop gone (joined ss ++ last.items))
 
   module _ (ss : List (Vec LogEntry Z)) (full : ℕ) (last : Vec LogEntry Z) (gone : ℕ) (h : IsLog ss full last gone) where
-    all_long : length (joined ss ++ last.items) ≡ full * segment + vec_len last
-    all_long = let j = joined_long full ss h.shape in let ok = last.ok in omega (arith, length-append (joined ss) last.items)
-
     pub gone_within : gone ≤ full * segment + vec_len last
-    gone_within = by full (vec_len last) h.first h.left h.none
-      where
-        by : (f n : ℕ) → gone < segment → (0 < n → f ≡ 0 → gone < n) → (n ≡ 0 → (f ≡ 0) × (gone ≡ 0)) → gone ≤ f * segment + n
-        by zero zero first left none = let e = none refl in omega arith
-        by zero (suc n) first left none = let e = left (omega arith) refl in omega arith
-        by (suc f) n first left none = omega arith
+    gone_within = grind (arith, common_steps)
 
     pub counted : full * segment + vec_len last - gone ≡ length (left_in ss last gone)
-    counted = let a = all_long in omega (arith, length-map (drop gone (joined ss ++ last.items)) entry_in, length-drop gone (joined ss ++ last.items))
+    counted = grind (arith, common_steps, length-map, length-drop, joined_long, length-append)
 
     pub bounded : full * segment + vec_len last < 2 ^ 62
-    bounded = let f = full_within full ss h.shape in let few = h.few in by f few h.room
-      where
-        by : full ≤ length ss → length ss ≤ 2 ^ 50 → ((vec_capacity last ≡ 0) × (length ss ≡ 0)) ⊎ (vec_capacity last ≡ segment) → full * segment + vec_len last < 2 ^ 62
-        by f few (inl r) = let ok = last.ok in omega arith
-        by f few (inr r) = let ok = last.ok in omega arith
+    bounded = grind (arith, common_steps, full_within)
 
     pub empty_if : is_empty (left_in ss last gone) ≡ (vec_len last == 0)
-    empty_if = by full (vec_len last) (left_in ss last gone) counted h.first h.left h.none
-      where
-        by : (f n : ℕ) (es : List (ℕ × ℕ)) → f * segment + n - gone ≡ length es → gone < segment → (0 < n → f ≡ 0 → gone < n) → (n ≡ 0 → (f ≡ 0) × (gone ≡ 0)) → is_empty es ≡ (n == 0)
-        by f zero [] e first left none = refl
-        by f zero (x ∷ es) e first left none = absurd (let no = none refl in omega arith)
-        by zero (suc n) [] e first left none = absurd (let more = left (omega arith) refl in omega arith)
-        by (suc f) (suc n) [] e first left none = absurd (omega arith)
-        by f (suc n) (x ∷ es) e first left none = sym (ne_eqb (suc n) 0 (λ no. omega arith))
+    empty_if = grind (arith, common_steps, counted, ne_eqb)
 
     pub none_left : vec_len last ≡ 0 → left_in ss last gone ≡ []
     none_left e = let no = h.none e in let n = counted in nil_from_length (left_in ss last gone) (omega arith)
@@ -115,60 +96,28 @@ module _ {Z : Type 0} where
         ∙ ap (option_map entry_in) (in_full full ss last.items ((gone + k) / segment) ((gone + k) % segment) s h.shape less e (omega arith))
 
     pub entry_in_last : (k : ℕ) → full ≤ (gone + k) / segment → slice_get (left_in ss last gone) k ≡ option_map entry_in (slice_get last.items (gone + k - full * segment))
-    entry_in_last k more =
-        at_place k
-        ∙ ap (λ (p : ℕ). option_map entry_in (slice_get (joined ss ++ last.items) p)) (let e : gone + k ≡ length (joined ss) + (gone + k - full * segment) = (let j = joined_long full ss h.shape in omega arith) in e)
-        ∙ ap (option_map entry_in) (slice_get_after (joined ss) last.items (gone + k - full * segment))
+    entry_in_last k more = grind (arith, common_steps, at_place, joined_long, slice_get_after)
 
     pub oldest_is : oldest (left_in ss last gone) ≡ slice_get (left_in ss last gone) 0
-    oldest_is = by (left_in ss last gone)
-      where
-        by : (es : List (ℕ × ℕ)) → oldest es ≡ slice_get es 0
-        by [] = refl
-        by (e ∷ es) = refl
+    oldest_is = grind (arith, common_steps)
 
   -- ---- one entry more
 
   filled : (full : ℕ) (ss : List (Vec LogEntry Z)) (last next : Vec LogEntry Z) → AreSegments full ss → slice_get ss full ≡ Some next → vec_len last ≡ segment → vec_capacity last ≡ segment
       → AreSegments (suc full) (slice_set ss full last) × (vec_len next ≡ 0) × (vec_capacity next ≡ segment) × (joined (slice_set ss full last) ≡ joined ss ++ last.items)
   filled zero [] last next h e n c = absurd (let no : None ≡ Some next = e in cc)
-  filled zero (s ∷ ss) last next h e n c =
-      let same : s ≡ next = (let f : Some s ≡ Some next = e in cc) in (
-        (n, c, h.2),
-        subst (λ (v : Vec LogEntry Z). vec_len v ≡ 0) same h.0,
-        subst (λ (v : Vec LogEntry Z). vec_capacity v ≡ segment) same h.1,
-        ap (λ (xs : List LogEntry). last.items ++ xs) (joined_none ss h.2) ∙ append-nil last.items ∙ sym (ap (λ (xs : List LogEntry). xs ++ last.items) (joined_none (s ∷ ss) h)),
-      )
+  filled zero (s ∷ ss) last next h e n c = grind (arith, common_steps, joined_none, append-nil)
   filled (suc full) [] last next h e n c = absurd h
-  filled (suc full) (s ∷ ss) last next h e n c =
-      let rest = filled full ss last next h.2 e n c in
-      ((h.0, h.1, rest.0), rest.1, rest.2, ap (λ (xs : List LogEntry). s.items ++ xs) rest.3 ∙ sym (append_assoc s.items (joined ss) last.items))
+  filled (suc full) (s ∷ ss) last next h e n c = grind (arith, common_steps, append_assoc, filled full ss last next h.2 e n c)
 
   module _ (ss : List (Vec LogEntry Z)) (full : ℕ) (last : Vec LogEntry Z) (gone : ℕ) (h : IsLog ss full last gone) where
     module _ (later : Vec LogEntry Z) (entry : LogEntry) (items : later.items ≡ last.items ++ entry ∷ []) where
       pub noted_here : left_in ss later gone ≡ left_in ss last gone ++ entry_in entry ∷ []
-      noted_here =
-          ap (λ (xs : List LogEntry). map entry_in (drop gone (joined ss ++ xs))) items
-          ∙ ap (λ (xs : List LogEntry). map entry_in (drop gone xs)) (sym (append_assoc (joined ss) last.items (entry ∷ [])))
-          ∙ noted (joined ss ++ last.items) gone entry (let a = all_long ss full last gone h in let w = gone_within ss full last gone h in omega arith)
-
-      pub log_with : vec_len later ≡ vec_len last + 1 → vec_capacity later ≡ vec_capacity last → IsLog ss full later gone
-      log_with n c = record {
-        shape = h.shape;
-        few = h.few;
-        room = subst (λ (k : ℕ). ((k ≡ 0) × (length ss ≡ 0)) ⊎ (k ≡ segment)) (sym c) h.room;
-        first = h.first;
-        left = λ more none. (let w = gone_within ss full last gone h in omega arith);
-        none = λ no. absurd (omega arith);
-      }
+      noted_here = grind (arith, common_steps, append_assoc, noted, gone_within, joined_long, length-append)
 
     module _ (next : Vec LogEntry Z) (there : slice_get ss full ≡ Some next) (last_full : vec_len last ≡ vec_capacity last) where
       last_room : vec_capacity last ≡ segment
-      last_room = by h.room
-        where
-          by : ((vec_capacity last ≡ 0) × (length ss ≡ 0)) ⊎ (vec_capacity last ≡ segment) → vec_capacity last ≡ segment
-          by (inl r) = absurd (let w = slice_get_within ss full next there in omega arith)
-          by (inr r) = r
+      last_room = grind (arith, common_steps, slice_get_within)
 
       parts : AreSegments (suc full) (slice_set ss full last) × (vec_len next ≡ 0) × (vec_capacity next ≡ segment) × (joined (slice_set ss full last) ≡ joined ss ++ last.items)
       parts = filled full ss last next h.shape there (last_full ∙ last_room) last_room
@@ -178,11 +127,7 @@ module _ {Z : Type 0} where
 
       module _ (later : Vec LogEntry Z) (entry : LogEntry) (items : later.items ≡ next.items ++ entry ∷ []) where
         pub noted_next : left_in (slice_set ss full last) later gone ≡ left_in ss last gone ++ entry_in entry ∷ []
-        noted_next =
-            let none : next.items ≡ [] = nil_from_length next.items (let ok = next.ok in let p = parts in omega arith) in
-            ap (λ (xs : List LogEntry). map entry_in (drop gone (joined (slice_set ss full last) ++ xs))) (items ∙ ap (λ (xs : List LogEntry). xs ++ entry ∷ []) none)
-            ∙ ap (λ (xs : List LogEntry). map entry_in (drop gone (xs ++ entry ∷ []))) parts.3
-            ∙ noted (joined ss ++ last.items) gone entry (let a = all_long ss full last gone h in let w = gone_within ss full last gone h in omega arith)
+        noted_next = grind (arith, common_steps, nil_from_length, parts, noted, joined_long, length-append, gone_within)
 
         pub log_next : vec_len later ≡ vec_len next + 1 → vec_capacity later ≡ vec_capacity next → IsLog (slice_set ss full last) (full + 1) later gone
         log_next n c = record {
@@ -207,9 +152,7 @@ module _ {Z : Type 0} where
   pub first_of : (full : ℕ) (s : Vec LogEntry Z) (ss : List (Vec LogEntry Z)) → AreSegments full (s ∷ ss) → 1 ≤ full
       → (vec_capacity s ≡ segment) × AreSegments (full - 1) ss × (joined ss ≡ drop segment (joined (s ∷ ss)))
   first_of zero s ss h less = absurd (omega arith)
-  first_of (suc full) s ss h less =
-      let ok = s.ok in
-      (h.1, subst (λ (f : ℕ). AreSegments f ss) (let e : full ≡ suc full - 1 = omega arith in e) h.2, sym (drop_at s.items (joined ss) segment (let n = h.0 in omega arith)))
+  first_of (suc full) s ss h less = (h.1, subst (λ (f : ℕ). AreSegments f ss) (let e : full ≡ suc full - 1 = omega arith in e) h.2, sym (drop_at s.items (joined ss) segment (let n = h.0 in omega arith)))
 
   module _ (ss : List (Vec LogEntry Z)) (full : ℕ) (last : Vec LogEntry Z) (gone : ℕ) (h : IsLog ss full last gone) where
     pub dropped_here : left_in ss last (gone + 1) ≡ drop 1 (left_in ss last gone)
@@ -231,18 +174,7 @@ module _ {Z : Type 0} where
 
   module _ (ss : List (Vec LogEntry Z)) (full : ℕ) (last : Vec LogEntry Z) (gone : ℕ) (h : IsLog ss full last gone) (s : Vec LogEntry Z) (empty : vec_len s ≡ 0) (room : vec_capacity s ≡ segment) where
     pub log_longer : length ss < 2 ^ 50 → (vec_capacity last ≡ 0 → ⊥) → IsLog (ss ++ s ∷ []) full last gone
-    log_longer few some = record {
-      shape = (pushed full ss s h.shape empty room).0;
-      few = let n = length_push ss s in omega arith;
-      room = by h.room;
-      first = h.first;
-      left = h.left;
-      none = h.none;
-    }
-      where
-        by : ((vec_capacity last ≡ 0) × (length ss ≡ 0)) ⊎ (vec_capacity last ≡ segment) → ((vec_capacity last ≡ 0) × (length (ss ++ s ∷ []) ≡ 0)) ⊎ (vec_capacity last ≡ segment)
-        by (inl r) = absurd (some r.0)
-        by (inr r) = inr r
+    log_longer few some = grind (arith, common_steps, pushed, length_push)
 
     pub longer_same : left_in (ss ++ s ∷ []) last gone ≡ left_in ss last gone
     longer_same = ap (λ (xs : List LogEntry). map entry_in (drop gone (xs ++ last.items))) (pushed full ss s h.shape empty room).1

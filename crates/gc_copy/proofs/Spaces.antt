@@ -25,10 +25,7 @@ use Rattle.gc_copy.proofs.Words.{objects_laid}
 
 pub map_agree : {X Y : Type 0} (f g : X → Y) (xs : List X) → ((x : X) → In x xs → f x ≡ g x) → map f xs ≡ map g xs
 map_agree f g [] h = refl
-map_agree f g (x ∷ xs) h =
-    let here = h x (inl refl) in
-    let rest = map_agree f g xs (λ y k. h y (inr k)) in
-    λ i. here i ∷ rest i
+map_agree f g (x ∷ xs) h = grind (arith, common_steps, map_agree f g xs (λ y k. h y (inr k)))
 
 abbrev placed_of : Replica → ℕ × Object
 placed_of r = (r.place, r.object)
@@ -62,8 +59,7 @@ new_objects_are c = placed_at c.space.words (blocks c.space.words)
 pub new_end_is : (c : CollectionWords) → IsSpace c.space → new_end (collection_in c) ≡ end_of c.space
 new_end_is c is =
     let ends = ap (λ os. Rattle.gc_plan.specs.State.objects_end 1 os) (new_objects_are c) ∙ laid_end_is 1 (objects_of c.space.words) (c.space.size - free_in c.space) (objects_laid c.space is) in
-    let high = is.end_high in
-    omega (arith, ends)
+    omega (arith, ends, is.end_high)
 
 in_block : (bs : List (ℕ × Block)) (e : ℕ × Block) → In e bs → is_some (block_in bs e.0) ≡ true
 in_block [] e k = absurd k
@@ -102,18 +98,13 @@ space_placed s b name can = (linked.0, each)
     words = (with_word (with_block s b) (link_place (end_of s)) name).words
 
     apart : (e : ℕ × Block) → In e (blocks s.words) → end_of s ≡ e.0 → ⊥
-    apart e k same =
-        let there : is_some (block_at s.words (end_of s)) ≡ true = ap (λ n. is_some (block_at s.words n)) same ∙ in_start s.words e k in
-        let gone : is_some (block_at s.words (end_of s)) ≡ false = ap is_some (none_at_end s can.shaped) in
-        let no : true ≡ false = sym there ∙ gone in absurd cc
+    apart e k same = grind (arith, common_steps, is_some, words, in_start, none_at_end)
 
     link_kept : (e : ℕ × Block) → In e (blocks s.words) → link_at words e.0 ≡ link_at s.words e.0
     link_kept e k = link_written_beside (with_block s b) (end_of s) name e.0 (apart e k) ∙ link_placed_beside s b e.0 can.shaped (in_start s.words e k)
 
     last : replica_entry words (end_of s, b) ≡ replica_at_end s b name
-    last =
-        let link = link_written_there (with_block s b) (end_of s) name one.0 start in
-        λ i. record { original = link i; place = end_of s; object = object_of_block b }
+    last = grind (arith, common_steps, link_written_there, one, start)
 
     each : replicas_in words ≡ replicas_in s.words ++ replica_at_end s b name ∷ []
     each =
@@ -130,10 +121,7 @@ replica_block_object b whole = grind (arith, common_steps, cond-true, cond-false
 
 places_set : (bs : List (ℕ × Block)) (a i w : ℕ) → map (λ e. e.0) (set_block bs a i w) ≡ map (λ (e : ℕ × Block). e.0) bs
 places_set [] a i w = refl
-places_set (e ∷ bs) a i w = ⊎_elim
-    (λ t. ap (map (λ (e : ℕ × Block). e.0)) (cond-true (e.0 == a) _ _ t))
-    (λ f. ap (map (λ (e : ℕ × Block). e.0)) (cond-false (e.0 == a) _ _ f) ∙ (let rest = places_set bs a i w in λ j. e.0 ∷ rest j))
-    (cases_Bool (e.0 == a))
+places_set (e ∷ bs) a i w = grind (arith, common_steps, cond-true, cond-false, cases_Bool, places_set bs a i w)
 
 in_places : (bs : List (ℕ × Block)) (p : ℕ) → In p (map (λ e. e.0) bs) → is_some (block_in bs p) ≡ true
 in_places bs p k = grind (arith, common_steps, in_map_from, in_block)
@@ -153,19 +141,10 @@ space_written Due objects c name i w r v is belongs found there means = (done.0,
     places = ap (map (λ (e : ℕ × Block). e.0)) done.1 ∙ places_set (blocks c.space.words) r.place i w
 
     same_originals : map (λ (r : Replica). r.original) (replicas_in words) ≡ map (λ (r : Replica). r.original) (write_replica (collection_in c) name i v).replicas
-    same_originals =
-        originals_at words (blocks words)
-        ∙ ap (map (link_at words)) places
-        ∙ map_agree (link_at words) (link_at c.space.words) (map (λ (e : ℕ × Block). e.0) (blocks c.space.words)) (λ p k. link_beside_field c.space r.place i w p is there (in_places (blocks c.space.words) p k))
-        ∙ sym (originals_at c.space.words (blocks c.space.words))
-        ∙ sym (map_same (λ (q : Replica). q.original) (with_written name i v) (λ q. ap (λ (x : ℕ × ℕ). x.0) (with_written_pair name i v q)) (replicas_in c.space.words))
+    same_originals = grind (arith, common_steps, originals_at, words, places, map_agree, link_beside_field, in_places, map_same, with_written_pair)
 
     block : (b : Block) × (block_at c.space.words r.place ≡ Some b)
-    block = from (block_at c.space.words r.place) refl there
-      where
-        from : (o : Option Block) → block_at c.space.words r.place ≡ o → IsSome (Rattle.gc_words.specs.Image.field_in o i) → (b : Block) × (block_at c.space.words r.place ≡ Some b)
-        from None e h = absurd cc
-        from (Some b) e h = (b, e)
+    block = grind (arith, common_steps, words)
 
     same_object : object_of_block block.0 ≡ r.object
     same_object =
@@ -198,10 +177,7 @@ two_words_each links (e ∷ bs) = grind (arith, common_steps, two_words_each lin
 
 -- each object takes two words at least, and word 0 belongs to none
 pub count_small : (s : SpaceWords) → IsSpace s → length (blocks s.words) + length (blocks s.words) < length s.words
-count_small s is =
-    let all : length s.words ≡ suc (length (spelled_from (link_at s.words) (blocks s.words))) = ap length (spelled_words s.words is.walked is.end_low is.reserved) in
-    let each : length (blocks s.words) + length (blocks s.words) ≤ length (spelled_from (link_at s.words) (blocks s.words)) = two_words_each (link_at s.words) (blocks s.words) in
-    omega arith
+count_small s is = omega (arith, ap length (spelled_words s.words is.walked is.end_low is.reserved), two_words_each (link_at s.words) (blocks s.words))
 
 -- a replica more
 pub count_placed : (n : ℕ) (old new : List ℕ) (r : Replica) → n ≡ length (blocks old) → replicas_in new ≡ replicas_in old ++ r ∷ [] → n + 1 ≡ length (blocks new)

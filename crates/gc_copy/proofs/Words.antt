@@ -23,8 +23,7 @@ pub in_all : {X : Type 0} (P : X → Type 0) (xs : List X) (x : X) → All P xs 
 in_all P xs x all k =
     let i = in_get x xs k in
     let within : i.0 < length xs = get_past xs i.0 x i.1 in
-    let same : get_or xs i.0 x ≡ x = (let e = slice_get-get_or xs i.0 x within in cc (sym e ∙ i.1)) in
-    subst P same (all i.0 x within)
+    subst P (let e = slice_get-get_or xs i.0 x within in cc (sym e ∙ i.1)) (all i.0 x within)
 
 pub block_found_in : (bs : List (ℕ × Block)) (a : ℕ) → is_some (block_in bs a) ≡ true → (b : Block) × In (a, b) bs
 block_found_in [] a h = absurd cc
@@ -89,22 +88,13 @@ pub words_back : (ws : List ℕ) → map word_of (map value_of ws) ≡ ws
 words_back [] = refl
 words_back (w ∷ ws) = grind (arith, common_steps, word_back, words_back ws)
 
-field_word_back : (h : Header) (w : ℕ) → field_word h (field_value h w) ≡ w
-field_word_back h w = grind (arith, common_steps, word_back)
-
 field_words_back : (h : Header) (fields : List ℕ) → map (field_word h) (map (field_value h) fields) ≡ fields
 field_words_back h [] = refl
-field_words_back h (w ∷ ws) = grind (arith, common_steps, field_word_back, field_words_back h ws)
-
-block_back : (b : Block) → IsBlock b → (block_entry (0, object_of_block b)).1 ≡ b
-block_back b whole = grind (arith, common_steps, length-map, field_words_back)
+field_words_back h (w ∷ ws) = grind (arith, common_steps, word_back, field_words_back h ws)
 
 blocks_back : (bs : List (ℕ × Block)) → ((e : ℕ × Block) → In e bs → IsBlock e.1) → map block_entry (map object_entry bs) ≡ bs
 blocks_back [] whole = refl
-blocks_back (e ∷ rest) whole =
-    let here = block_back e.1 (whole e (inl refl)) in
-    let r = blocks_back rest (λ d k. whole d (inr k)) in
-    λ i. (e.0, here i) ∷ r i
+blocks_back (e ∷ rest) whole = grind (arith, common_steps, length-map, field_words_back, blocks_back rest (λ d k. whole d (inr k)))
 
 pub space_blocks : (space : SpaceWords) → IsSpace space → map block_entry (objects_of space.words) ≡ blocks space.words
 space_blocks space is = blocks_back (blocks space.words) (λ e k. laid_whole 1 (blocks space.words) e (laid_out_words space.words is.walked) k)

@@ -8,8 +8,7 @@ use Rattle.gc_along.proofs.code_row.CodeRow.add.Goals as goal
 
 pub with_first-requires-clause-none : goal.with_first-requires-clause-none
 with_first-requires-clause-none c =
-    let has : HasCodes c.self.inside.words.items c.self.inside.len = c.self.invariant.0 in
-    none_behind c.self.inside.words.items _ _ (c.self.inside.len + c.args.more + 1) 0 _ has (sym (append-nil c.self.inside.words.items)) (omega arith)
+    none_behind c.self.inside.words.items _ _ (c.self.inside.len + c.args.more + 1) 0 _ c.self.invariant.0 (sym (append-nil c.self.inside.words.items)) (omega arith)
     (omega (arith, c.if-len.false, c.self.inside.words.ok.0)) c.index.ensures
 
 pub invariant_of-self : goal.invariant_of-self

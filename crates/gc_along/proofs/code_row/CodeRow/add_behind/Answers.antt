@@ -1,4 +1,5 @@
 -- The place behind the last has the code, and those behind it have code 0, with further words or without.
+use Rattle.std.proofs.lemmas.Grind.{common_steps}
 use Rattle.std.proofs.Common.{◌+◌, ◌-◌, ◌≤◌, ◌++◌, ◌∷◌, replicate, ◌∙◌, ap, arith}
 use Rattle.std.specs.Prelude.{vec_len, vec_capacity}
 use Rattle.gc_along.specs.Internal.InWords.{Codes, HasCodes, room_of}
@@ -6,26 +7,16 @@ use Rattle.gc_along.proofs.Packed.{seen_len, none_behind, added}
 use Rattle.gc_along.proofs.code_row.CodeRow.add_behind.Goals as goal
 
 pub overflow_add-len : goal.overflow_add-len
-overflow_add-len c =
-    let fits : c.self.inside.len + (c.args.more + 1) ≤ room_of (vec_capacity c.self.inside.words) = seen_len _ _ _ _ _ c.self.view_is c.requires.room in
-    record { fits = omega arith }
+overflow_add-len c = grind (arith, common_steps, seen_len)
 
 pub words_of-requires : goal.words_of-requires
-words_of-requires c =
-    let fits : c.self.inside.len + (c.args.more + 1) ≤ room_of (vec_capacity c.self.inside.words) = seen_len _ _ _ _ _ c.self.view_is c.requires.room in
-    omega arith
+words_of-requires c = omega (arith, seen_len _ _ _ _ _ c.self.view_is c.requires.room)
 
 pub cover-requires : goal.cover-requires
-cover-requires c =
-    let fits : c.self.inside.len + (c.args.more + 1) ≤ room_of (vec_capacity c.self.inside.words) = seen_len _ _ _ _ _ c.self.view_is c.requires.room in
-    omega arith
+cover-requires c = omega (arith, seen_len _ _ _ _ _ c.self.view_is c.requires.room)
 
 pub with_first-requires-clause-none : goal.with_first-requires-clause-none
-with_first-requires-clause-none c =
-    let fits : c.self.inside.len + (c.args.more + 1) ≤ room_of (vec_capacity c.self.inside.words) = seen_len _ _ _ _ _ c.self.view_is c.requires.room in
-    let has : HasCodes c.self.inside.words.items c.self.inside.len = c.self.invariant.0 in
-    none_behind _ _ _ (c.self.inside.len + c.args.more + 1) (vec_len c.cover.new.words - vec_len c.self.inside.words) _ has c.cover.ensures.items (omega arith)
-    (omega (arith, c.cover.ensures.some, c.cover.ensures.more, c.words_of.ensures, c.self.inside.words.ok.0)) c.index.ensures
+with_first-requires-clause-none c = grind (arith, common_steps, seen_len, none_behind)
 
 pub invariant_of-self : goal.invariant_of-self
 invariant_of-self c =

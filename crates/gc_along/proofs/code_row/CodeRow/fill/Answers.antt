@@ -7,9 +7,7 @@ pub overflow_sub-from : goal.overflow_sub-from
 overflow_sub-from c = omega (arith, seen_length _ _ _ _ c.self.view_is)
 
 pub fill_in_word-requires-clause-within : goal.fill_in_word-requires-clause-within
-fill_in_word-requires-clause-within c =
-    let seen : length c.args.self.now.codes ≡ c.self.inside.len = seen_length _ _ _ _ c.self.view_is in
-    omega arith
+fill_in_word-requires-clause-within c = omega (arith, seen_length _ _ _ _ c.self.view_is)
 
 pub returns-then-from-places-le-PER_WORD-clause-codes : goal.returns-then-from-places-le-PER_WORD-clause-codes
 returns-then-from-places-le-PER_WORD-clause-codes c =

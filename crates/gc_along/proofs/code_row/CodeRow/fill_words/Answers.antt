@@ -21,15 +21,13 @@ loop-from-init c =
 
 pub fill_in_word-requires-clause-within : goal.fill_in_word-requires-clause-within
 fill_in_word-requires-clause-within c =
-    let seen : length c.args.self.now.codes ≡ c.self.inside.len = seen_length _ _ _ _ c.self.view_is in
     let least : c.min-count.result ≡ min (32 - c.loop-from.from % 32) (c.self.inside.len - c.loop-from.from) = grind (arith, common_steps) in
-    omega (arith, c.loop-from.invariant.len)
+    omega (arith, c.loop-from.invariant.len, seen_length _ _ _ _ c.self.view_is)
 
 pub loop-from-smaller : goal.loop-from-smaller
 loop-from-smaller c =
-    let seen : length c.args.self.now.codes ≡ c.self.inside.len = seen_length _ _ _ _ c.self.view_is in
     let least : c.min-count.result ≡ min (32 - c.loop-from.from % 32) (c.self.inside.len - c.loop-from.from) = grind (arith, common_steps) in
-    omega arith
+    omega (arith, seen_length _ _ _ _ c.self.view_is)
 
 pub returns-clause-codes : goal.returns-clause-codes
 returns-clause-codes c =

@@ -4,11 +4,7 @@ use Rattle.gc_along.proofs.Packed.{word_within, seen_within, code_read}
 use Rattle.gc_along.proofs.code_row.CodeRow.get.Goals as goal
 
 pub index-requires : goal.index-requires
-index-requires c =
-    let within : c.args.place / 32 < length c.self.inside.words.items = word_within _ _ _ c.self.invariant.0 (seen_within _ _ _ _ _ c.self.view_is c.requires) in
-    omega (arith, c.self.inside.words.ok.0)
+index-requires c = omega (arith, c.self.inside.words.ok.0, word_within _ _ _ c.self.invariant.0 (seen_within _ _ _ _ _ c.self.view_is c.requires))
 
 pub returns : goal.returns
-returns c =
-    let within : c.args.place / 32 < length c.self.inside.words.items = word_within _ _ _ c.self.invariant.0 (seen_within _ _ _ _ _ c.self.view_is c.requires) in
-    code_read _ _ _ c.args.place c.code_in.result c.index.result.now c.args.self.now c.self.view_is c.requires c.index.ensures within c.code_in.ensures
+returns c = code_read _ _ _ _ _ _ _ c.self.view_is c.requires c.index.ensures (word_within _ _ _ c.self.invariant.0 (seen_within _ _ _ _ _ c.self.view_is c.requires)) c.code_in.ensures

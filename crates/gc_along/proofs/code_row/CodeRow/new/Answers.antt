@@ -1,16 +1,11 @@
 -- A word of zeros is the row of place 0.
+use Rattle.gc_along.proofs.Packed.{one_code, has_one}
+use Rattle.std.proofs.lemmas.Grind.{common_steps}
 use Rattle.std.proofs.Common.{◌∷◌, [], ◌++◌, ◌∙◌, ap, arith}
-use Rattle.gc_along.proofs.Packed.{has_one_of, one_code_of}
 use Rattle.gc_along.proofs.code_row.CodeRow.new.Goals as goal
 
 pub invariant_of-result : goal.invariant_of-result
-invariant_of-result c = (
-  has_one_of c.push_reserved.new.self.items (c.push_reserved.ensures.items ∙ ap (λ items. items ++ 0 ∷ []) c.in_ok-words.ensures.items),
-  omega (arith, c.push_reserved.ensures.capacity, c.in_ok-words.ensures.capacity),
-)
+invariant_of-result c = grind (arith, common_steps, has_one)
 
 pub returns : goal.returns
-returns c = (
-  one_code_of c.push_reserved.new.self.items (c.push_reserved.ensures.items ∙ ap (λ items. items ++ 0 ∷ []) c.in_ok-words.ensures.items),
-  omega (arith, c.push_reserved.ensures.capacity, c.in_ok-words.ensures.capacity),
-)
+returns c = grind (arith, common_steps, one_code)

@@ -5,14 +5,10 @@ use Rattle.gc_along.proofs.Packed.{word_within, seen_within, codes_set, has_code
 use Rattle.gc_along.proofs.code_row.CodeRow.replace.Goals as goal
 
 pub index-word-requires : goal.index-word-requires
-index-word-requires c =
-    let within : c.args.place / 32 < length c.self.inside.words.items = word_within _ _ _ c.self.invariant.0 (seen_within _ _ _ _ _ c.self.view_is c.requires.within) in
-    omega (arith, c.self.inside.words.ok.0)
+index-word-requires c = omega (arith, c.self.inside.words.ok.0, word_within _ _ _ c.self.invariant.0 (seen_within _ _ _ _ _ c.self.view_is c.requires.within))
 
 pub index_mut-requires : goal.index_mut-requires
-index_mut-requires c =
-    let within : c.args.place / 32 < length c.self.inside.words.items = word_within _ _ _ c.self.invariant.0 (seen_within _ _ _ _ _ c.self.view_is c.requires.within) in
-    omega (arith, c.self.inside.words.ok.0)
+index_mut-requires c = omega (arith, c.self.inside.words.ok.0, word_within _ _ _ c.self.invariant.0 (seen_within _ _ _ _ _ c.self.view_is c.requires.within))
 
 pub invariant_of-self : goal.invariant_of-self
 invariant_of-self c =

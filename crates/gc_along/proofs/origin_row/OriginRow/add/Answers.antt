@@ -6,9 +6,7 @@ use Rattle.gc_along.proofs.Halves.{seen_fits, added}
 use Rattle.gc_along.proofs.origin_row.OriginRow.add.Goals as goal
 
 pub words_of-requires : goal.words_of-requires
-words_of-requires c =
-    let fits : c.self.inside.len + (c.args.fields + 2) ≤ room_for (vec_capacity c.self.inside.starts) (vec_capacity c.self.inside.originals) = seen_fits _ _ _ _ _ _ c.self.view_is c.requires in
-    omega arith
+words_of-requires c = omega (arith, seen_fits _ _ _ _ _ _ c.self.view_is c.requires)
 
 pub grow-requires : goal.grow-requires
 grow-requires c =

@@ -1,42 +1,34 @@
 -- The tables gain the pair that the link claims and still agree, and if the copy was found equal, none of its fields is due.
+use Rattle.std.proofs.lemmas.Grind.{common_steps}
 use Rattle.std.proofs.Common.{◌≡◌, ◌+◌, ◌<◌, ◌≤◌, ◌++◌, ◌∷◌, ℕ, length, replicate, not, inr, ap, sym, ◌∙◌, subst, refl, arith}
 use Rattle.std.specs.Prelude.{slice_index, if◌then◌else◌}
 use Rattle.gc_words.specs.Layout.{link_place}
 use Rattle.gc_along.specs.Watch.{IsNext}
 use Rattle.gc_along.specs.Tables.{Tables, IsKept}
 use Rattle.gc_along.specs.Events.{code_of, object_codes, IsClaim, IsCopy}
-use Rattle.gc_along.proofs.Kept.{kept_of, few_missing, kept_replica, replica_written, placed_at, owes_none}
+use Rattle.gc_along.proofs.Kept.{kept_of, kept_replica, replica_written, placed_at, owes_none, few_due}
 use Rattle.gc_along.proofs.standing.Standing.place_next.Goals as goal
 
 pub overflow_add-self : goal.overflow_add-self
-overflow_add-self c =
-    let few : c.self.inside.missing ≤ 4294967295 = few_missing _ (kept_of _ c.self.invariant.5 (ap (λ (t : Tables). t.lost) c.self.view_is ∙ c.requires.found)) in
-    let len : c.due_words.result ≤ c.len-3.result = at_most (not c.is_copy-due.result) c.len-3.result c.due_words.result c.due_words.ensures in
-    let l : c.len-3.result < 65536 = c.len-3.type_inv in
-    omega arith
-  where
-    at_most : (b : Rattle.std.proofs.Common.Bool) (n m : ℕ) → m ≡ (if b then n else 0) → m ≤ n
-    at_most Rattle.std.proofs.Common.true n m e = omega arith
-    at_most Rattle.std.proofs.Common.false n m e = omega arith
+overflow_add-self c = grind (arith, common_steps, few_due, kept_of)
 
 pub invariant_of-self-2 : goal.invariant_of-self-2
 invariant_of-self-2 c =
     let kept = kept_of _ c.self.invariant.5 (ap (λ (t : Tables). t.lost) c.self.view_is ∙ c.requires.found) in
     let h = c.in-Some.header in
-    let next : IsNext c.len-at.result c.args.new.now h = c.in-Some.ensures.0 in
-    let bound : length c.self.inside.news.codes + (h.len + 2) ≤ 4294967295 = omega (arith, next.bound, c.len-at.ensures) in
     let a = c.in-Some-claim_in.original in
     let due = not c.is_copy-due.result in
     let is = replica_written _ h a (c.self.inside.missing + c.due_words.result) c.due_words.result due c.take.new.self.codes c.add_codes.new.row.codes c.add.new.self.origins kept c.take.ensures.codes
     (c.add_codes.ensures.codes ∙ ap (λ n. c.self.inside.news.codes ++ object_codes n (code_of due)) c.len-2.ensures)
     (c.add.ensures.origins ∙ ap (λ n. c.self.inside.origins.origins ++ a ∷ 0 ∷ replicate n 0) c.len.ensures)
-    refl (c.due_words.ensures ∙ ap (λ n. if due then n else 0) c.len-3.ensures) in (
+    refl (c.due_words.ensures ∙ ap (λ n. if due then n else 0) c.len-3.ensures) in
+    (
       c.self.invariant.0,
       c.self.invariant.1,
       omega (arith, c.self.invariant.2, c.take.ensures.room),
       omega (arith, c.self.invariant.3, c.add_codes.ensures.room),
       omega (arith, c.self.invariant.4, c.add.ensures.room),
-      inr (subst IsKept (sym is) (kept_replica _ h a due bound c.in-Some-claim_in.ensures.4 kept)),
+      inr (subst IsKept (sym is) (kept_replica _ h a due (omega (arith, c.in-Some.ensures.0.bound, c.len-at.ensures)) c.in-Some-claim_in.ensures.4 kept)),
     )
 
 pub returns : goal.returns
@@ -44,11 +36,10 @@ returns c =
     let kept = kept_of _ c.self.invariant.5 (ap (λ (t : Tables). t.lost) c.self.view_is ∙ c.requires.found) in
     let h = c.in-Some.header in
     let at : c.len-at.result ≡ length c.self.inside.news.codes = c.len-at.ensures in
-    let next : IsNext c.len-at.result c.args.new.now h = c.in-Some.ensures.0 in
     let a = c.in-Some-claim_in.original in
     let due = not c.is_copy-due.result in
     let claim : IsClaim c.args.old.now c.args.new.now _ h a = record {
-      next = subst (λ n. IsNext n c.args.new.now h) at next;
+      next = subst (λ n. IsNext n c.args.new.now h) at c.in-Some.ensures.0;
       rows = kept.rows;
       link = subst (λ n. slice_index c.args.new.now (link_place n) ≡ a) at c.in-Some-claim_in.ensures.0;
       low = c.in-Some-claim_in.ensures.1;

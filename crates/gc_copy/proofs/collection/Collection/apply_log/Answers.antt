@@ -1,4 +1,5 @@
 -- The plan applies the oldest entry: its field is brought up to date and the entry goes, or nothing changes if there is no room.
+use Rattle.std.proofs.lemmas.Grind.{common_steps}
 use Rattle.std.proofs.Common.{◌≡◌, ◌<◌, length, Some, None, refl, ap, sym, ◌∙◌, subst, arith}
 use Rattle.std.specs.Prelude.{slice_get, slice_set}
 use Rattle.gc_heap.specs.Heap.{graph_in}
@@ -45,14 +46,7 @@ returns-in-Ok-clause-belongs c =
     c.self.invariant.0 (subst (BelongsTo c.args.heap.now) (sym c.self.view_is) c.requires.belongs) c.in-Ok.ensures.graph rest (subst (BelongsTo c.apply_entry.new.heap) (sym c.self-2.view_is) c.in-Ok.ensures.belongs) done has c.drop_oldest.ensures
 
 pub returns-in-Err-clause-step : goal.returns-in-Err-clause-step
-returns-in-Err-clause-step c =
-    let x : CollectionWords = the_view c.self.inside in
-    let there : slice_get x.logs c.args.m ≡ Some c.index.result.now = there_in x c.args.self.now c.args.m c.index.result.now c.self.view_is (subst (λ n. c.args.m < n) (sym (c.requires.belongs).logs) c.requires.mutator) c.index.ensures in
-    let full = c.in-Err.ensures.full in
-    let none : apply_entry (collection_in x) (graph_in c.args.heap.now) (c.in-Some.entry.object.0, c.in-Some.entry.field) ≡ None = ap (λ (y : CollectionWords). apply_entry (collection_in y) (graph_in c.args.heap.now) (c.in-Some.entry.object.0, c.in-Some.entry.field)) c.self.view_is ∙ full.0 in
-    subst (λ y. apply_log (open_state c.args.heap.now y) (collection_in y) c.args.m (log_at (collection_in y) c.args.m) ≡ (NoRoom, open_state c.args.heap.now y)) c.self.view_is
-    (stays c.args.heap.now x c.args.m c.index.result.now there (c.in-Some.entry.object.0, c.in-Some.entry.field) c.in-Some.ensures none)
-    ∙ (λ i. (NoRoom, open_state (sym full.2 i) (sym full.1 i)))
+returns-in-Err-clause-step c = grind (arith, common_steps, there_in, stays)
 
 pub returns-in-Err-clause-room : goal.returns-in-Err-clause-room
 returns-in-Err-clause-room c larger same =

@@ -1,11 +1,12 @@
 -- A new space without objects and with empty logs is a sound collection, and it belongs to the heap, whose links lead nowhere.
-use Rattle.std.proofs.Common.{◌≡◌, [], length, replicate, ◌∙◌, ap}
+use Rattle.std.proofs.lemmas.Grind.{common_steps}
+use Rattle.std.proofs.Common.{◌≡◌, [], length, replicate, ◌∙◌, ap, arith}
 use Rattle.gc_copy.specs.Words.{RoomWords}
-use Rattle.gc_copy.proofs.Beginning.{begun, begun_sound}
+use Rattle.gc_copy.proofs.Beginning.{begun}
 use Rattle.gc_copy.proofs.collection.Collection.begin_in.Goals as goal
 
 pub invariant_of-result : goal.invariant_of-result
-invariant_of-result c = begun_sound c.emptied.result c.room.inside.logs.items c.room.inside.space.size c.args.epoch c.emptied.ensures.shaped c.emptied.ensures.empty c.room.invariant.few
+invariant_of-result c = grind (arith, common_steps)
 
 pub returns-clause-belongs : goal.returns-clause-belongs
 returns-clause-belongs c =

@@ -1,5 +1,6 @@
 -- A raw object's field word is copied as it is, and then the field of its replica is up to date.
-use Rattle.std.proofs.Common.{ap}
+use Rattle.std.proofs.lemmas.Grind.{common_steps}
+use Rattle.std.proofs.Common.{ap, arith}
 use Rattle.gc_words.specs.Image.{blocks}
 use Rattle.gc_words.specs.Space.{SpaceWords}
 use Rattle.gc_copy.specs.contracts.collection.Collection.{the_view}
@@ -10,8 +11,7 @@ use Rattle.gc_copy.proofs.OpenCollection.{raw_present, Brought, copied_words}
 use Rattle.gc_copy.proofs.collection.Collection.copy_field.Goals as goal
 
 pub set_field-requires : goal.set_field-requires
-set_field-requires c = raw_present c.args.heap.now c.args.self.now _ c.args.original.0 c.args.field c.field-word.result c.args.replica.0 c.space.ensures.sound c.requires.raw c.self.invariant.0 c.self.view_is
-    c.requires.belongs (read_in_heap c.args.heap.now _ _ _ _ c.space.ensures.value c.field-word.ensures) c.requires.replica
+set_field-requires c = grind (arith, common_steps, raw_present, read_in_heap)
 
 done : (c : goal.After-set_field) → Brought c.args.heap.now c.args.heap.now c.args.self.now (record (the_view c.self.inside) { space = c.set_field.new.self }) c.args.original.0 c.args.field
 done c =

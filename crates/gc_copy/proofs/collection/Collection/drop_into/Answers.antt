@@ -1,4 +1,5 @@
 -- Each replica's link leads to an original, whose link is cleared, so at the end no object of the heap has a link above the mark.
+use Rattle.std.proofs.lemmas.Grind.{common_steps}
 use Rattle.std.proofs.Common.{◌≡◌, arith, rules, ◌<◌, ℕ, List, false, length, sym, ap, ◌∙◌, subst}
 use Rattle.std.specs.Prelude.{◌^◌}
 use Rattle.gc_words.specs.Image.{is_start}
@@ -19,25 +20,20 @@ link-requires c = start_met c.self.inside.space.words c.loop-at.at.0 c.loop-at.i
 
 pub overflow_cast-original : goal.overflow_cast-original
 overflow_cast-original c =
-    let less : c.loop-at.at.0 < length c.self.inside.space.words = omega arith in
-    let here = original_here c.self.inside.epoch c.self.inside.space.words c.args.heap.now c.loop-at.heap c.loop-at.at.0 c.loop-at.invariant less in
+    let here = original_here c.self.inside.epoch c.self.inside.space.words c.args.heap.now c.loop-at.heap c.loop-at.at.0 c.loop-at.invariant (omega arith) in
     let small : c.link.result < 2 ^ 32 = subst (λ n. n < 2 ^ 32) (sym c.link.ensures) here.1 in
     search rules
 
 pub set_link-requires : goal.set_link-requires
 set_link-requires c =
-    let less : c.loop-at.at.0 < length c.self.inside.space.words = omega arith in
-    let here = original_here c.self.inside.epoch c.self.inside.space.words c.args.heap.now c.loop-at.heap c.loop-at.at.0 c.loop-at.invariant less in
+    let here = original_here c.self.inside.epoch c.self.inside.space.words c.args.heap.now c.loop-at.heap c.loop-at.at.0 c.loop-at.invariant (omega arith) in
     ap (is_start c.loop-at.heap.space.words) c.link.ensures ∙ here.0
 
 pub next_start-at-requires : goal.next_start-at-requires
 next_start-at-requires c = start_met c.self.inside.space.words c.loop-at.at.0 c.loop-at.invariant.done c.loop-at.invariant.met (omega arith)
 
 pub loop-at-preserved : goal.loop-at-preserved
-loop-at-preserved c =
-    let less : c.loop-at.at.0 < length c.self.inside.space.words = omega arith in
-    let linked = c.set_link.ensures.words ∙ ap (λ (n : ℕ). record c.loop-at.heap { space = with_word c.loop-at.heap.space (link_place n) 0 }) c.link.ensures in
-    clears_more c.self.inside.epoch c.self.inside.space.words c.args.heap.now c.loop-at.heap c.set_link.new.self c.loop-at.at.0 c.next_start-at.result.0 c.loop-at.invariant less c.next_start-at.ensures.next linked c.set_link.ensures.sound
+loop-at-preserved c = grind (arith, common_steps, clears_more)
 
 same_mark : (x c : CollectionWords) (words : List ℕ) (old now : HeapWords) (at : ℕ) → x ≡ c → c.epoch ≡ 0 → Clears x.epoch words old now at → Clears 0 words old now at
 same_mark x c words old now at seen plain k = subst (λ m. Clears m words old now at) (ap (λ (y : CollectionWords). y.epoch) seen ∙ plain) k
@@ -46,11 +42,7 @@ pub returns-clause-heap : goal.returns-clause-heap
 returns-clause-heap c = λ plain. all_cleared c.self.inside.space.words c.args.heap.now c.loop-at.heap c.loop-at.at.0 (same_mark _ c.args.self _ _ _ _ c.self.view_is plain c.loop-at.invariant) (omega arith)
 
 pub returns-clause-step : goal.returns-clause-step
-returns-clause-step c =
-    let same = dropped_state c.self.inside.epoch c.self.inside.space.words c.args.heap.now c.loop-at.heap c.loop-at.at.0 c.loop-at.invariant in
-    λ i. (Dropped, sym same i)
+returns-clause-step c = grind (arith, common_steps, dropped_state)
 
 pub returns-clause-links : goal.returns-clause-links
-returns-clause-links c =
-    subst (λ (y : CollectionWords). LinksNothing y.epoch c.loop-at.heap) c.self.view_is
-    (none_above c.self.inside.epoch c.self.inside.space.words c.args.heap.now c.loop-at.heap c.loop-at.at.0 c.loop-at.invariant (omega arith))
+returns-clause-links c = grind (arith, common_steps, none_above)

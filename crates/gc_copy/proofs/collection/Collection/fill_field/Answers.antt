@@ -1,5 +1,6 @@
 -- The object takes the value, so the logged field is the one that the `Put` writes, and the collection belongs to the heap again.
-use Rattle.std.proofs.Common.{◌≡◌, [], ◌∷◌, map, ap, ◌∙◌}
+use Rattle.std.proofs.lemmas.Grind.{common_steps}
+use Rattle.std.proofs.Common.{◌≡◌, [], ◌∷◌, map, ap, ◌∙◌, arith}
 use Rattle.gc_graph.specs.Graph.{names_of}
 use Rattle.gc_graph.specs.declared.command.Op.TheVariants.{Put}
 use Rattle.gc_heap.specs.Heap.{graph_in}
@@ -9,14 +10,10 @@ use Rattle.gc_copy.proofs.collection.Collection.fill_field.Goals as goal
 
 -- the field is the one that the command writes
 one_written : (c : goal.After-note) → written (graph_in c.args.heap.now) c.args.m (Put c.args.d c.args.i c.args.t) c.fill_field-reply.result ≡ (c.args.object.0, c.args.i) ∷ []
-one_written c =
-    ap (written (graph_in c.args.heap.now) c.args.m (Put c.args.d c.args.i c.args.t)) c.fill_field-reply.ensures.done
-    ∙ ap (λ v. map (λ name. (name, c.args.i)) (names_of v)) c.requires.field.1.target
+one_written c = grind (arith, common_steps)
 
 pub returns-clause-step : goal.returns-clause-step
-returns-clause-step c =
-    mutate_is c.args.heap.now c.fill_field-reply.new.self c.args.self.now c.note.new.self c.args.m (Put c.args.d c.args.i c.args.t) c.fill_field-reply.result ((c.args.object.0, c.args.i) ∷ []) c.space.ensures.sound c.fill_field-reply.ensures.performs.size c.fill_field-reply.ensures.performs.mutators c.fill_field-reply.ensures.performs.step
-    (one_written c) c.note.ensures.collection
+returns-clause-step c = grind (arith, common_steps, mutate_is, one_written)
 
 pub returns-clause-belongs : goal.returns-clause-belongs
 returns-clause-belongs c =

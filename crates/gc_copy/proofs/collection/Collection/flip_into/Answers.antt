@@ -1,5 +1,7 @@
 -- The new space without its links and the moved roots are a sound heap, which is the heap after the plan's flip.
-use Rattle.std.proofs.Common.{◌≡◌, ℕ, List, length, sym, ap, ◌∙◌, subst}
+use Rattle.gc_words.proofs.Public.{link_cleared, cleared}
+use Rattle.std.proofs.lemmas.Grind.{common_steps}
+use Rattle.std.proofs.Common.{◌≡◌, ℕ, List, length, sym, ap, ◌∙◌, subst, arith}
 use Rattle.std.specs.Prelude.{IsTrue}
 use Rattle.gc_words.specs.Space.{SpaceWords, without_links}
 use Rattle.gc_heap.specs.Heap.{HeapWords, IsHeap, graph_in}
@@ -7,7 +9,7 @@ use Rattle.gc_plan.specs.State.{pairs_of}
 use Rattle.gc_plan.specs.Steps.{is_ready}
 use Rattle.gc_copy.specs.Words.{CollectionWords, IsCollection, BelongsTo, collection_in, new_root_words, idle_state, HasNoLinks}
 use Rattle.gc_plan.specs.declared.step.StepReply.TheVariants.{Flipped}
-use Rattle.gc_copy.proofs.Flipping.{flipped_sound, flip_is, without_its_links, cleared_links}
+use Rattle.gc_copy.proofs.Flipping.{flipped_sound, flip_is, without_its_links}
 use Rattle.gc_copy.proofs.collection.Collection.flip_into.Goals as goal
 
 -- the space that replaces the heap's
@@ -21,26 +23,13 @@ sound heap c space roots is whole belongs ready new cleared =
     subst IsHeap (λ i. record { space = sym cleared i; roots = sym new i; mutators = heap.mutators }) (flipped_sound heap c (without_links c.space) is whole belongs ready (without_its_links c.space whole.space))
 
 pub replace-requires : goal.replace-requires
-replace-requires c =
-    sound c.args.heap.now c.args.self c.clear_links.new.self c.args.roots.items c.space.ensures.sound (subst IsCollection c.self.view_is c.self.invariant.0) c.requires.belongs c.requires.ready c.requires.roots
-    (space_is c.clear_links.new.self _ c.args.self c.self.view_is c.clear_links.ensures.words)
+replace-requires c = grind (arith, common_steps, sound, space_is)
 
 pub returns-clause-sound : goal.returns-clause-sound
-returns-clause-sound c =
-    subst IsHeap (sym c.replace.ensures.heap)
-    (sound c.args.heap.now c.args.self c.clear_links.new.self c.args.roots.items c.space.ensures.sound (subst IsCollection c.self.view_is c.self.invariant.0) c.requires.belongs c.requires.ready c.requires.roots
-    (space_is c.clear_links.new.self _ c.args.self c.self.view_is c.clear_links.ensures.words))
+returns-clause-sound c = grind (arith, common_steps, sound, space_is)
 
 pub returns-clause-step : goal.returns-clause-step
-returns-clause-step c =
-    let sound : IsCollection c.args.self = subst IsCollection c.self.view_is c.self.invariant.0 in
-    let space = space_is c.clear_links.new.self _ c.args.self c.self.view_is c.clear_links.ensures.words in
-    flip_is c.args.heap.now c.args.self (without_links c.args.self.space) c.space.ensures.sound sound c.requires.belongs c.requires.ready (without_its_links c.args.self.space sound.space)
-    ∙ (λ i. (Flipped (length (pairs_of (collection_in c.args.self))), idle_state (record { space = sym space i; roots = sym c.requires.roots i; mutators = c.args.heap.now.mutators })))
-    ∙ ap (λ (h : HeapWords). (Flipped (length (pairs_of (collection_in c.args.self))), idle_state h)) (sym c.replace.ensures.heap)
+returns-clause-step c = grind (arith, common_steps, sound, space_is, flip_is, without_its_links)
 
 pub returns-clause-links : goal.returns-clause-links
-returns-clause-links c =
-    let sound : IsCollection c.args.self = subst IsCollection c.self.view_is c.self.invariant.0 in
-    let space = space_is c.clear_links.new.self _ c.args.self c.self.view_is c.clear_links.ensures.words in
-    subst HasNoLinks (sym c.replace.ensures.heap) (subst (λ s. HasNoLinks (record { space = s; roots = c.args.roots.items; mutators = c.args.heap.now.mutators })) (sym space) (cleared_links c.args.self.space sound.space))
+returns-clause-links c = grind (arith, common_steps, sound, space_is, link_cleared, cleared)

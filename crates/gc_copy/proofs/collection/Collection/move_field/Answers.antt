@@ -1,5 +1,6 @@
 -- Either the field's target has a replica and the moved word brings the field up to date, or the plan has no room for one either.
-use Rattle.std.proofs.Common.{ap}
+use Rattle.std.proofs.lemmas.Grind.{common_steps}
+use Rattle.std.proofs.Common.{ap, arith}
 use Rattle.gc_words.specs.Word.{value_of}
 use Rattle.gc_words.specs.Image.{blocks}
 use Rattle.gc_words.specs.Space.{SpaceWords}
@@ -8,26 +9,21 @@ use Rattle.gc_copy.specs.contracts.collection.Collection.{the_view}
 use Rattle.gc_copy.specs.Words.{CollectionWords, collection_in}
 use Rattle.gc_copy.proofs.FieldWords.{read_in_heap}
 use Rattle.gc_copy.proofs.Spaces.{count_written}
-use Rattle.gc_copy.proofs.OpenCollection.{if_err, field_word_is, plain_value_is, root_word_kept, not_brought, present, Brought, brought_words}
+use Rattle.gc_copy.proofs.OpenCollection.{if_err, field_word_is, plain_value_is, root_word_kept, present, Brought, brought_words}
 use Rattle.gc_copy.proofs.collection.Collection.move_field.Goals as goal
 
 pub replicate_target-requires-clause-word : goal.replicate_target-requires-clause-word
 replicate_target-requires-clause-word c = field_word_is c.args.heap.now c.args.original.0 c.args.field c.field-word.result c.space.ensures.sound c.requires.plain (read_in_heap c.args.heap.now _ _ _ _ c.space.ensures.value c.field-word.ensures)
 
 pub returns-in_err-replicate_target-clause-full : goal.returns-in_err-replicate_target-clause-full
-returns-in_err-replicate_target-clause-full c =
-    let full = c.in_err-replicate_target.ensures.full in
-    let field = plain_value_is c.args.heap.now c.args.original.0 c.args.field c.field-word.result c.requires.plain (read_in_heap c.args.heap.now _ _ _ _ c.space.ensures.value c.field-word.ensures) in
-    if_err _ c.from_residual.result (not_brought (graph_in c.args.heap.now) (collection_in c.args.self.now) c.args.original.0 c.args.field (value_of c.field-word.result) field full.0, full.1, full.2)
+returns-in_err-replicate_target-clause-full c = grind (arith, common_steps, plain_value_is, read_in_heap, if_err)
 
 pub moved_word-moved-requires-clause-word : goal.moved_word-moved-requires-clause-word
 moved_word-moved-requires-clause-word c = root_word_kept c.args.heap.now c.replicate_target.new.heap c.field-word.result c.in_ok-replicate_target.ensures.graph
     (field_word_is c.args.heap.now c.args.original.0 c.args.field c.field-word.result c.space.ensures.sound c.requires.plain (read_in_heap c.args.heap.now _ _ _ _ c.space.ensures.value c.field-word.ensures))
 
 pub set_field-requires : goal.set_field-requires
-set_field-requires c = present c.args.heap.now c.replicate_target.new.heap c.args.self.now c.replicate_target.new.self _ c.args.original.0 c.args.field c.field-word.result c.args.replica.0 c.space.ensures.sound c.requires.plain c.self.invariant.0 c.self.view_is
-    c.in_ok-replicate_target.ensures.belongs c.in_ok-replicate_target.ensures.graph c.in_ok-replicate_target.ensures.rest (read_in_heap c.args.heap.now _ _ _ _ c.space.ensures.value c.field-word.ensures)
-    c.in_ok-replicate_target.ensures.placed c.in_ok-replicate_target.ensures.replica c.requires.replica
+set_field-requires c = grind (arith, common_steps, present, read_in_heap)
 
 done : (c : goal.After-set_field) → Brought c.args.heap.now c.replicate_target.new.heap c.args.self.now (record (the_view c.self.inside) { space = c.set_field.new.self }) c.args.original.0 c.args.field
 done c =

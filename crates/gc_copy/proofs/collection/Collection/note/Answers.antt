@@ -1,5 +1,6 @@
 -- One log gets the entry at its end, so a collection that was out of date only in this field belongs to the heap.
-use Rattle.std.proofs.Common.{◌≡◌, ◌∷◌, [], ◌++◌, length, ap, ◌∙◌, length-set}
+use Rattle.std.proofs.lemmas.Grind.{common_steps}
+use Rattle.std.proofs.Common.{◌≡◌, ◌∷◌, [], ◌++◌, length, ap, ◌∙◌, length-set, arith}
 use Rattle.std.specs.Prelude.{slice_set}
 use Rattle.gc_plan.specs.Steps.{with_log, log_at}
 use Rattle.gc_copy.specs.contracts.collection.Collection.{the_view}
@@ -8,10 +9,7 @@ use Rattle.gc_copy.proofs.Logs.{there_in, entry_noted, noted_belongs}
 use Rattle.gc_copy.proofs.collection.Collection.note.Goals as goal
 
 made : (c : goal.After-self-1) → collection_in (record (the_view c.self.inside) { logs = slice_set c.self.inside.logs.items c.args.m c.note.new.self }) ≡ with_log (collection_in c.args.self.now) c.args.m (log_at (collection_in c.args.self.now) c.args.m ++ (c.args.object.0, c.args.field) ∷ [])
-made c =
-    let x : CollectionWords = the_view c.self.inside in
-    entry_noted x c.args.m c.args.object.0 c.args.field c.index_mut.result.now c.note.new.self (there_in x c.args.self.now c.args.m c.index_mut.result.now c.self.view_is c.requires.log c.index_mut.ensures.value) c.note.ensures.entries
-    ∙ ap (λ (y : CollectionWords). with_log (collection_in y) c.args.m (log_at (collection_in y) c.args.m ++ (c.args.object.0, c.args.field) ∷ [])) c.self.view_is
+made c = grind (arith, common_steps, entry_noted, there_in)
 
 pub returns-clause-collection : goal.returns-clause-collection
 returns-clause-collection c = made c

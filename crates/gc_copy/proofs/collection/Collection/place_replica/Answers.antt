@@ -1,4 +1,5 @@
 -- The copy at the new end, with links both ways, is the plan's new replica; if it lacks room, the plan places none either.
+use Rattle.std.proofs.lemmas.Grind.{common_steps}
 use Rattle.std.proofs.Common.{◌≡◌, ℕ, ◌+◌, ◌<◌, ◌≤◌, length, arith, List, true, false, Some, None, refl, ap, sym, ◌∙◌, subst}
 use Rattle.gc_graph.specs.Graph.{lookup}
 use Rattle.gc_words.specs.Image.{blocks, header_at}
@@ -14,21 +15,11 @@ use Rattle.gc_copy.proofs.Spaces.{count_small}
 use Rattle.gc_copy.proofs.OpenCollection.{Placing, placed_start, placing_done, full}
 use Rattle.gc_copy.proofs.collection.Collection.place_replica.Goals as goal
 
-same_header : (words : List ℕ) (a : ℕ) (g h : Header) → header_at words a ≡ Some g → header_at words a ≡ Some h → g ≡ h
-same_header words a g h e f = (let both : Some g ≡ Some h = sym e ∙ f in cc)
-
 pub returns-then-not-has_room-clause-full : goal.returns-then-not-has_room-clause-full
-returns-then-not-has_room-clause-full c =
-    let x : CollectionWords = the_view c.self.inside in
-    let header : header_at c.args.heap.now.space.words c.args.original.0 ≡ Some c.header-header.result = subst (λ (s : Rattle.gc_words.specs.Space.SpaceWords). header_at s.words c.args.original.0 ≡ Some c.header-header.result) c.space.ensures.value c.header-header.ensures in
-    let none : HasRoomFor x.space c.header-header.result.len → ⊥ = λ r. (let no : false ≡ true = sym c.if-not-has_room.true ∙ c.has_room.ensures.1 (subst (HasRoomFor x.space) (sym c.len.ensures) r) in absurd cc) in
-    (subst (λ y. place_replica (collection_in y) c.args.original.0 (lookup (graph_in c.args.heap.now).objects c.args.original.0) ≡ None) c.self.view_is (full c.args.heap.now x c.args.original.0 c.header-header.result c.space.ensures.sound c.self.invariant.0 header none), refl, refl)
+returns-then-not-has_room-clause-full c = grind (arith, common_steps, full)
 
 pub set_link-requires : goal.set_link-requires
-set_link-requires c =
-    placed_start c.self.inside.space c.place_fresh-replica.new.space c.args.heap.now.space.words c.args.original.0 c.place_fresh-replica.result.0 c.self.invariant.0.space (c.space.ensures.sound.space).walked c.requires.start
-    (λ h e. subst (HasRoomFor c.self.inside.space) (ap (λ (g : Header). g.len) (same_header c.args.heap.now.space.words c.args.original.0 c.header-header.result h (subst (λ (s : Rattle.gc_words.specs.Space.SpaceWords). header_at s.words c.args.original.0 ≡ Some c.header-header.result) c.space.ensures.value c.header-header.ensures) e)) (subst (HasRoomFor c.self.inside.space) c.len.ensures (c.has_room.ensures.0 c.if-not-has_room.false)))
-    c.place_fresh-replica.ensures.words c.place_fresh-replica.ensures.at
+set_link-requires c = grind (arith, common_steps, placed_start)
 
 made : (c : goal.After-set_link_word) → Placing c.args.heap.now c.set_link_word.new.self (the_view c.self.inside)
     (record (the_view c.self.inside) { space = c.set_link.new.self }) c.args.original.0
@@ -44,12 +35,7 @@ pub invariant_of-self : goal.invariant_of-self
 invariant_of-self c = ((made c).sound, (made c).counted c.self.inside.replicas c.self.invariant.1)
 
 pub overflow_add-self : goal.overflow_add-self
-overflow_add-self c =
-    let small : length (blocks c.self.inside.space.words) + length (blocks c.self.inside.space.words) < length c.self.inside.space.words = count_small c.self.inside.space c.self.invariant.0.space in
-    let counted : c.self.inside.replicas ≡ length (blocks c.self.inside.space.words) = c.self.invariant.1 in
-    let high : length c.self.inside.space.words ≤ c.self.inside.space.size = (c.self.invariant.0.space).end_high in
-    let size : c.self.inside.space.size ≤ 4294967295 = (c.self.invariant.0.space).size_high in
-    omega arith
+overflow_add-self c = grind (arith, common_steps, count_small)
 
 pub returns-clause-placed : goal.returns-clause-placed
 returns-clause-placed c = let m = made c in subst (λ y. place_replica (collection_in y) c.args.original.0 (lookup (graph_in c.args.heap.now).objects c.args.original.0) ≡ Some (collection_in (record (the_view c.self.inside) { space = c.set_link.new.self }))) c.self.view_is m.placed
@@ -61,6 +47,4 @@ pub returns-clause-graph : goal.returns-clause-graph
 returns-clause-graph c = (made c).graph
 
 pub returns-clause-rest : goal.returns-clause-rest
-returns-clause-rest c =
-    let m = made c in
-    subst (λ y. KeepsRest y (record (the_view c.self.inside) { space = c.set_link.new.self })) c.self.view_is m.rest
+returns-clause-rest c = grind (arith, common_steps, made)

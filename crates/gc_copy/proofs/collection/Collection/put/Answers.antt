@@ -1,5 +1,6 @@
 -- The field that the code finds and logs is the one that the `Put` writes, and there is none if the `Put` writes nothing.
-use Rattle.std.proofs.Common.{◌≡◌, [], ◌∷◌, Some, None, sym}
+use Rattle.std.proofs.lemmas.Grind.{common_steps}
+use Rattle.std.proofs.Common.{◌≡◌, [], ◌∷◌, Some, None, sym, arith}
 use Rattle.std.specs.Option.{option_map}
 use Rattle.gc_graph.specs.declared.command.Op.TheVariants.{Put}
 use Rattle.gc_heap.specs.Heap.{graph_in}
@@ -25,9 +26,7 @@ returns-in_default-clause-belongs c =
     nothing_belongs c.args.heap.now c.put-reply.new.self c.args.self.now c.args.m (Put c.args.s c.args.i c.args.t) c.put-reply.result c.requires.belongs c.put-reply.ensures.performs.links c.put-reply.ensures.performs.mutators c.put-reply.ensures.performs.step (none_written c)
 
 pub returns-clause-step : goal.returns-clause-step
-returns-clause-step c =
-    mutate_is c.args.heap.now c.put-reply.new.self c.args.self.now c.note.new.self c.args.m (Put c.args.s c.args.i c.args.t) c.put-reply.result ((c.in-Some.entry.object.0, c.in-Some.entry.field) ∷ []) c.space.ensures.sound c.put-reply.ensures.performs.size c.put-reply.ensures.performs.mutators c.put-reply.ensures.performs.step
-    (one_written c) c.note.ensures.collection
+returns-clause-step c = grind (arith, common_steps, mutate_is, one_written)
 
 pub returns-clause-belongs : goal.returns-clause-belongs
 returns-clause-belongs c =

@@ -1,4 +1,5 @@
 -- A segment is added behind the others, so the entries stay the same, and the log has room for one segment more of them.
+use Rattle.std.proofs.lemmas.Grind.{common_steps}
 use Rattle.std.proofs.Common.{length, ap, sym, ◌∙◌, subst, arith}
 use Rattle.std.proofs.lemmas.List.{length_push}
 use Rattle.gc_copy.specs.Words.{Log}
@@ -10,22 +11,11 @@ pub invariant_of-self-in-Continue-branch-2 : goal.invariant_of-self-in-Continue-
 invariant_of-self-in-Continue-branch-2 c =
     let l = c.self.inside in
     let s = c.in_ok-segment in
-    let ok = l.segments.ok in
     subst (λ ss. IsLog ss l.full l.last l.gone) (sym c.in_ok-push_back.ensures.items)
     (log_longer _ l.full l.last l.gone c.self.invariant s.segment s.ensures.len s.ensures.exact (omega arith) (λ none. omega arith))
 
 pub returns-in_ok-push_back-clause-entries : goal.returns-in_ok-push_back-clause-entries
-returns-in_ok-push_back-clause-entries c =
-    let l = c.self.inside in
-    let s = c.in_ok-segment in
-    ap (λ ss. left_in ss l.last l.gone) c.in_ok-push_back.ensures.items
-    ∙ longer_same _ l.full l.last l.gone c.self.invariant s.segment s.ensures.len s.ensures.exact
-    ∙ ap (λ (log : Log). log.entries) c.self.view_is
+returns-in_ok-push_back-clause-entries c = grind (arith, common_steps, left_in, longer_same)
 
 pub returns-in_ok-push_back-clause-room : goal.returns-in_ok-push_back-clause-room
-returns-in_ok-push_back-clause-room c =
-    let l = c.self.inside in
-    let w = full_within l.full l.segments.items c.self.invariant.shape in
-    let n = ap length c.in_ok-push_back.ensures.items ∙ length_push l.segments.items c.in_ok-segment.segment in
-    let spare = ap (λ (log : Log). log.spare) c.self.view_is in
-    omega arith
+returns-in_ok-push_back-clause-room c = grind (arith, common_steps, full_within, length_push)

@@ -1,4 +1,5 @@
 -- The oldest entry goes from a segment that keeps others, or with the whole segment if it was the last one there.
+use Rattle.std.proofs.lemmas.Grind.{common_steps}
 use Rattle.std.proofs.Common.{[], ◌≡◌, drop, sym, ap, ◌∙◌, arith}
 use Rattle.std.proofs.lemmas.Bool.{eqb-true}
 use Rattle.gc_copy.specs.Words.{Log}
@@ -6,21 +7,13 @@ use Rattle.gc_copy.proofs.Segments.{none_left, dropped_here, dropped_all, droppe
 use Rattle.gc_copy.proofs.log.MutationLog.drop_oldest.Goals as goal
 
 pub returns-then-is_empty : goal.returns-then-is_empty
-returns-then-is_empty c =
-    let l = c.self.inside in
-    let none : c.args.self.now.entries ≡ [] = sym (ap (λ (log : Log). log.entries) c.self.view_is) ∙ none_left _ l.full l.last l.gone c.self.invariant (eqb-true _ 0 (sym c.is_empty.ensures ∙ c.if-is_empty.true)) in
-    none ∙ sym (ap (drop 1) none)
+returns-then-is_empty c = grind (arith, common_steps, none_left, eqb-true)
 
 pub returns-then-self-len : goal.returns-then-self-len
-returns-then-self-len c =
-    let l = c.self.inside in
-    dropped_all _ l.full l.last l.gone c.self.invariant c.clear.new.self c.clear.ensures.items c.if-self-eq0.true (c.if-self-len.true ∙ c.len.ensures)
-    ∙ ap (λ (log : Log). drop 1 log.entries) c.self.view_is
+returns-then-self-len c = grind (arith, common_steps, dropped_all)
 
 pub returns-else-self-len : goal.returns-else-self-len
-returns-else-self-len c =
-    let l = c.self.inside in
-    dropped_here _ l.full l.last l.gone c.self.invariant ∙ ap (λ (log : Log). drop 1 log.entries) c.self.view_is
+returns-else-self-len c = grind (arith, common_steps, dropped_here)
 
 pub returns-then-self-eq-SEGMENT : goal.returns-then-self-eq-SEGMENT
 returns-then-self-eq-SEGMENT c =
@@ -29,6 +22,4 @@ returns-then-self-eq-SEGMENT c =
     ∙ ap (λ (log : Log). drop 1 log.entries) c.self.view_is
 
 pub returns-else-self-eq-SEGMENT : goal.returns-else-self-eq-SEGMENT
-returns-else-self-eq-SEGMENT c =
-    let l = c.self.inside in
-    dropped_here _ l.full l.last l.gone c.self.invariant ∙ ap (λ (log : Log). drop 1 log.entries) c.self.view_is
+returns-else-self-eq-SEGMENT c = grind (arith, common_steps, dropped_here)

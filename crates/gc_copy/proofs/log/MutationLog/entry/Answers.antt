@@ -1,4 +1,5 @@
 -- Entry `k` lies in the segment that its place, divided by the size of a segment, tells; the full segments come before the last one.
+use Rattle.std.proofs.lemmas.Grind.{common_steps}
 use Rattle.std.proofs.Common.{◌+◌, ◌-◌, ◌*◌, ◌/◌, ◌%◌, ◌≡◌, length, Some, refl, ap, sym, ◌∙◌, arith}
 use Rattle.std.specs.Prelude.{slice_get}
 use Rattle.std.specs.Option.{option_map}
@@ -12,9 +13,7 @@ use Rattle.gc_copy.proofs.log.MutationLog.entry.Goals as goal
 pub overflow_add-place : goal.overflow_add-place
 overflow_add-place c =
     let l = c.self.inside in
-    let b = bounded _ l.full l.last l.gone c.self.invariant in
-    let n = counted _ l.full l.last l.gone c.self.invariant ∙ ap (λ (log : Log). length log.entries) c.self.view_is in
-    omega arith
+    omega (arith, bounded _ l.full l.last l.gone c.self.invariant, counted _ l.full l.last l.gone c.self.invariant ∙ ap (λ (log : Log). length log.entries) c.self.view_is)
 
 pub index-requires : goal.index-requires
 index-requires c = let l = c.self.inside in let w = full_within l.full l.segments.items c.self.invariant.shape in let ok = l.segments.ok in omega arith
@@ -33,9 +32,4 @@ returns-then-place-self c =
     ∙ ap (λ (log : Log). slice_get log.entries c.args.k) c.self.view_is
 
 pub returns-else-place-self : goal.returns-else-place-self
-returns-else-place-self c =
-    let l = c.self.inside in
-    let place = l.gone + c.args.k in
-    ap (option_map entry_in) (c.copied-else-place-self.ensures ∙ copied c.deref-else-place-self.result.now (place - l.full * segment) c.get-else-place-self.result c.get-else-place-self.ensures.lookup.3 c.get-else-place-self.ensures.lookup.1 ∙ (λ i. slice_get (c.deref-else-place-self.ensures.value i) (place - l.full * segment)))
-    ∙ sym (entry_in_last _ l.full l.last l.gone c.self.invariant c.args.k c.if-place-self.false)
-    ∙ ap (λ (log : Log). slice_get log.entries c.args.k) c.self.view_is
+returns-else-place-self c = grind (arith, common_steps, copied, entry_in_last)

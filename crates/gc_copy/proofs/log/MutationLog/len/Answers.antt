@@ -1,4 +1,5 @@
 -- The entries are those of the full segments and of the last one, without those that are gone, and their number fits.
+use Rattle.std.proofs.lemmas.Grind.{common_steps}
 use Rattle.std.proofs.Common.{ap, ◌∙◌, length, arith}
 use Rattle.gc_copy.specs.Words.{Log}
 use Rattle.gc_copy.proofs.Segments.{bounded, counted}
@@ -11,6 +12,4 @@ pub overflow_add-result : goal.overflow_add-result
 overflow_add-result c = let l = c.self.inside in let b = bounded _ l.full l.last l.gone c.self.invariant in omega arith
 
 pub returns : goal.returns
-returns c =
-    let l = c.self.inside in
-    rw c.len.ensures (counted _ l.full l.last l.gone c.self.invariant ∙ ap (λ (log : Log). length log.entries) c.self.view_is)
+returns c = grind (arith, common_steps, counted)

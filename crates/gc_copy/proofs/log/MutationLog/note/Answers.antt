@@ -1,4 +1,5 @@
 -- The entry becomes the last one: in the segment in use or, if that is full, in the next one, which has room.
+use Rattle.std.proofs.lemmas.Grind.{common_steps}
 use Rattle.std.proofs.Common.{◌++◌, ◌∷◌, [], ◌+◌, length, ap, sym, ◌∙◌, subst, arith}
 use Rattle.std.proofs.lemmas.List.{length-set}
 use Rattle.gc_copy.specs.Words.{Log}
@@ -10,39 +11,22 @@ use Rattle.gc_copy.proofs.log.MutationLog.note.Goals as goal
 pub push_reserved-requires-else-len-capacity : goal.push_reserved-requires-else-len-capacity
 push_reserved-requires-else-len-capacity c =
     let l = c.self.inside in
-    let ok = l.last.ok in
-    let room = next_room _ l.full l.last l.gone c.self.invariant c.change_last.new.last c.change_last.ensures.last (omega arith) in
-    omega arith
+    omega (arith, l.last.ok, next_room _ l.full l.last l.gone c.self.invariant c.change_last.new.last c.change_last.ensures.last (omega arith))
 
 pub invariant_of-self-else-len-capacity : goal.invariant_of-self-else-len-capacity
 invariant_of-self-else-len-capacity c =
     let l = c.self.inside in
-    let ok = l.last.ok in
     let p = c.push_reserved-else-len-capacity in
     subst (λ ss. IsLog ss (l.full + 1) p.new.self l.gone) (sym c.change_last.ensures.segments)
     (log_next _ l.full l.last l.gone c.self.invariant c.change_last.new.last c.change_last.ensures.last (omega arith) p.new.self c.args.entry p.ensures.items p.ensures.len p.ensures.capacity)
 
 pub returns-then-len-capacity-clause-entries : goal.returns-then-len-capacity-clause-entries
-returns-then-len-capacity-clause-entries c =
-    let l = c.self.inside in
-    noted_here _ l.full l.last l.gone c.self.invariant c.push_reserved.new.self c.args.entry c.push_reserved.ensures.items
-    ∙ ap (λ (log : Log). log.entries ++ entry_in c.args.entry ∷ []) c.self.view_is
+returns-then-len-capacity-clause-entries c = grind (arith, common_steps, noted_here)
 
 pub returns-else-len-capacity-clause-entries : goal.returns-else-len-capacity-clause-entries
-returns-else-len-capacity-clause-entries c =
-    let l = c.self.inside in
-    let ok = l.last.ok in
-    let p = c.push_reserved-else-len-capacity in
-    ap (λ ss. left_in ss p.new.self l.gone) c.change_last.ensures.segments
-    ∙ noted_next _ l.full l.last l.gone c.self.invariant c.change_last.new.last c.change_last.ensures.last (omega arith) p.new.self c.args.entry p.ensures.items
-    ∙ ap (λ (log : Log). log.entries ++ entry_in c.args.entry ∷ []) c.self.view_is
+returns-else-len-capacity-clause-entries c = grind (arith, common_steps, left_in, noted_next)
 
 pub returns-else-len-capacity-clause-room : goal.returns-else-len-capacity-clause-room
 returns-else-len-capacity-clause-room c =
     let l = c.self.inside in
-    let ok = l.last.ok in
-    let p = c.push_reserved-else-len-capacity in
-    let room = next_room _ l.full l.last l.gone c.self.invariant c.change_last.new.last c.change_last.ensures.last (omega arith) in
-    let spare = ap (λ (log : Log). log.spare) c.self.view_is in
-    let n = ap length c.change_last.ensures.segments ∙ length-set l.segments.items l.full l.last in
-    omega arith
+    omega (arith, l.last.ok, c.push_reserved-else-len-capacity, next_room _ l.full l.last l.gone c.self.invariant c.change_last.new.last c.change_last.ensures.last (omega arith), ap (λ (log : Log). log.spare) c.self.view_is, ap length c.change_last.ensures.segments ∙ length-set l.segments.items l.full l.last)

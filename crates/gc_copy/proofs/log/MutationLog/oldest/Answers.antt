@@ -1,4 +1,5 @@
 -- The oldest entry comes after those that are gone, in the first full segment or, if there is none, in the last segment.
+use Rattle.std.proofs.lemmas.Grind.{common_steps}
 use Rattle.std.proofs.Common.{◌+◌, ◌-◌, ◌*◌, ◌/◌, ◌%◌, ◌≡◌, length, Some, refl, ap, sym, ◌∙◌, arith}
 use Rattle.std.specs.Prelude.{slice_get}
 use Rattle.std.specs.Option.{option_map}
@@ -11,12 +12,7 @@ use Rattle.gc_copy.proofs.Segments.{full_within, copied, entry_in_full, entry_in
 use Rattle.gc_copy.proofs.log.MutationLog.oldest.Goals as goal
 
 pub returns-else-self-gt0 : goal.returns-else-self-gt0
-returns-else-self-gt0 c =
-    let l = c.self.inside in
-    let here : l.gone ≡ l.gone + 0 - l.full * segment = omega arith in
-    ap (option_map entry_in) (c.copied-else-self-gt0.ensures ∙ copied c.deref-else-self-gt0.result.now l.gone c.get-else-self-gt0.result c.get-else-self-gt0.ensures.lookup.3 c.get-else-self-gt0.ensures.lookup.1 ∙ (λ i. slice_get (c.deref-else-self-gt0.ensures.value i) (here i)))
-    ∙ sym (oldest_is _ l.full l.last l.gone c.self.invariant ∙ entry_in_last _ l.full l.last l.gone c.self.invariant 0 (omega arith))
-    ∙ ap (λ (log : Log). oldest log.entries) c.self.view_is
+returns-else-self-gt0 c = grind (arith, common_steps, copied, oldest_is, entry_in_last)
 
 pub returns-then-self-gt0 : goal.returns-then-self-gt0
 returns-then-self-gt0 c =
