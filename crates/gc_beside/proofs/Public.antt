@@ -1,6 +1,6 @@
 -- What proofs of other crates cite of this crate, passed on from one place. Declares nothing.
 pub use Rattle.gc_beside.proofs.CommandsKnown.{Continues, NewName, SameBut, SameOpen, can_make, can_write, continues_on, continues_one, continues_same, made_known, quiet_known, wrote_known}
-pub use Rattle.gc_beside.proofs.EndsKnown.{begun_known, dropped_known, flipped_known, opened_known}
+pub use Rattle.gc_beside.proofs.EndsKnown.{begun_known, dropped_known, flipped_known}
 pub use Rattle.gc_beside.proofs.Events.{Goes}
 pub use Rattle.gc_beside.proofs.Lives.{AreNew, apply_or_same, lives_applied, lives_begun, lives_drop, lives_flipped, lives_roots, lives_scan_other, lives_scanned, roots_or_same, scan_or_same}
 pub use Rattle.gc_beside.proofs.LivesOn.{EndsMore, ends_more, grown, lives_new, lives_put_quiet, lives_quiet, lives_unopened, lives_written, new_op, not_done}

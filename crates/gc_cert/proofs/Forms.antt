@@ -2,10 +2,11 @@
 use Rattle.std.proofs.lemmas.Grind.{common_steps}
 use Rattle.std.proofs.Common.{◌≡◌, ◌≢◌, ℕ, suc, zero, ◌-◌, ◌<◌, List, [], ◌∷◌, ◌++◌, length, map, replicate, refl, sym, ap, ◌∙◌, arith, subst, length-append, Option, Some, None}
 use Rattle.std.specs.List.{AllByRecursion}
-use Rattle.std.proofs.lemmas.List.{append-nil, map-append, length-map}
+use Rattle.std.proofs.lemmas.List.{append-nil, map-append, length-map, length-replicate}
 use Rattle.gc_graph.specs.Lines.{newline, HasNo}
 use Rattle.gc_cert.specs.Sections.{Place, IsNext, HasTaken}
 use Rattle.gc_cert.specs.Internal.Sections.{alone, AreAll, Spelled, Begins, IsWrongAt, IsCutIn}
+use Rattle.gc_cert.proofs.SameLines.{All-append, head_of, same_lines}
 use Rattle.gc_cert.proofs.Stops.{Delimits, BeginsWith}
 
 abbrev Lines : Type 0
@@ -20,14 +21,11 @@ pub record IsForm {V : Type 0} (InRange : V → Type 0) (line_of : V → List �
 
 -- ---- one line
 
-heads : (x y : List ℕ) (xs ys : Lines) → x ∷ xs ≡ y ∷ ys → (x ≡ y) × (xs ≡ ys)
-heads x y xs ys e = (cc, cc)
-
 pub one_form : {V : Type 0} (InRange : V → Type 0) (line_of : V → List ℕ) (read : List ℕ → Option V) → IsForm InRange line_of read → (v w : V) → InRange v → InRange w → line_of v ≡ line_of w → v ≡ w
 one_form InRange line_of read form v w p q e = grind (arith, common_steps)
 
 pub alone_delimits : {V : Type 0} (InRange : V → Type 0) (line_of : V → List ℕ) (read : List ℕ → Option V) → IsForm InRange line_of read → Delimits InRange (alone line_of)
-alone_delimits InRange line_of read form v w x y p q e = grind (arith, common_steps, heads, one_form)
+alone_delimits InRange line_of read form v w x y p q e = grind (arith, common_steps, head_of, one_form)
 
 begins_alone : {V : Type 0} (InRange : V → Type 0) (line_of : V → List ℕ) (read : List ℕ → Option V) → IsForm InRange line_of read → Begins (Spelled InRange (alone line_of)) []
 begins_alone InRange line_of read form = (line_of form.some ∷ [], (form.some, form.in_range, refl))
@@ -50,7 +48,7 @@ line_wrong InRange line_of read p q line n form next none numbered = record {
   good = begins_alone InRange line_of read form;
   not_all = not_all_alone InRange line_of;
   wrong = λ (more, (v, fits, e)).
-      let h = heads line (line_of v) more [] e in
+      let h = head_of line (line_of v) more [] e in
       let read_it : read line ≡ Some v = ap read h.0 ∙ form.again v fits in
       absurd cc;
 }
@@ -72,38 +70,24 @@ line_taken InRange line_of read p q line v form next e = grind (arith, common_st
 
 -- ---- a number of lines
 
-All-append : {V : Type 0} (P : V → Type 0) (xs ys : List V) → AllByRecursion P xs → AllByRecursion P ys → AllByRecursion P (xs ++ ys)
-All-append P [] ys p q = q
-All-append P (x ∷ xs) ys p q = (p.0, All-append P xs ys p.1 q)
-
 pub All-replicate : {V : Type 0} (P : V → Type 0) (n : ℕ) (x : V) → P x → AllByRecursion P (replicate n x)
 All-replicate P zero x p = tt
 All-replicate P (suc n) x p = (p, All-replicate P n x p)
 
-pub length-replicated : {V : Type 0} (n : ℕ) (x : V) → length (replicate n x) ≡ n
-length-replicated zero x = refl
-length-replicated (suc n) x = ap suc (length-replicated n x)
-
 pub all_delimit : {V : Type 0} (InRange : V → Type 0) (line_of : V → List ℕ) (read : List ℕ → Option V) (n : ℕ) → IsForm InRange line_of read → Delimits (AreAll InRange n) (map line_of)
-all_delimit {V} InRange line_of read n form vs ws x y p q e = same vs ws p.1 q.1 (p.0 ∙ sym q.0) e
-  where
-    same : (vs ws : List V) → AllByRecursion InRange vs → AllByRecursion InRange ws → length vs ≡ length ws → map line_of vs ++ x ≡ map line_of ws ++ y → (vs ≡ ws) × (x ≡ y)
-    same [] [] p q len e = (refl, e)
-    same [] (w ∷ ws) p q len e = absurd (omega (arith, len))
-    same (v ∷ vs) [] p q len e = absurd (omega (arith, len))
-    same (v ∷ vs) (w ∷ ws) p q len e = grind (arith, common_steps, heads, one_form, same vs ws)
+all_delimit InRange line_of read n form vs ws x y p q e = same_lines InRange line_of (one_form InRange line_of read form) vs ws x y p.1 q.1 (p.0 ∙ sym q.0) e
 
 -- while lines are left, the next one follows
 one_more : {V : Type 0} (InRange : V → Type 0) (line_of : V → List ℕ) (done lines : Lines) (vs : List V) → length done < length vs → AllByRecursion InRange vs → done ++ lines ≡ map line_of vs → (v : V) × (more : Lines) × InRange v × (lines ≡ line_of v ∷ more)
 one_more InRange line_of done lines [] lt p e = absurd (omega (arith, lt))
 one_more InRange line_of [] lines (v ∷ vs) lt p e = (v, map line_of vs, p.0, e)
-one_more InRange line_of (l ∷ done) lines (v ∷ vs) lt p e = one_more InRange line_of done lines vs (omega (arith, lt)) p.1 (heads l (line_of v) (done ++ lines) (map line_of vs) e).1
+one_more InRange line_of (l ∷ done) lines (v ∷ vs) lt p e = one_more InRange line_of done lines vs (omega (arith, lt)) p.1 (head_of l (line_of v) (done ++ lines) (map line_of vs) e).1
 
 pub begins_with_one : {V : Type 0} (InRange : V → Type 0) (line_of : V → List ℕ) (n : ℕ) (vs : List V) → length vs < n → AllByRecursion InRange vs → BeginsWith InRange (alone line_of) (λ lines. Spelled (AreAll InRange n) (map line_of) (map line_of vs ++ lines))
 begins_with_one InRange line_of n vs lt p = record {
   some = λ v q.
       let more = replicate (n - length vs - 1) v in
-      (map line_of more, (vs ++ v ∷ more, (omega (arith, length-append vs (v ∷ more), length-replicated (n - length vs - 1) v), All-append InRange vs (v ∷ more) p (q, All-replicate InRange (n - length vs - 1) v q)), sym (map-append line_of vs (v ∷ more))));
+      (map line_of more, (vs ++ v ∷ more, (omega (arith, length-append vs (v ∷ more), length-replicate (n - length vs - 1) v), All-append InRange vs (v ∷ more) p (q, All-replicate InRange (n - length vs - 1) v q)), sym (map-append line_of vs (v ∷ more))));
   only = λ lines (ws, q, e). one_more InRange line_of (map line_of vs) lines ws (omega (arith, lt, q.0, length-map vs line_of)) q.1 e;
 }
 

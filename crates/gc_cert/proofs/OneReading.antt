@@ -74,21 +74,23 @@ cut_stop text w = (w.good, w.parts, λ l more h is first. not_cut newline w.unfi
 pub one_value : (f g : CertifiedPair) (text : List ℕ) → IsTextOf f text → IsTextOf g text → f ≡ g
 one_value f g text p q = (lines_same f g [] [] p.fits q.fits (ap (λ (ls : List (List ℕ)). ls ++ []) ((one_stop (lines_of f) (lines_of g) [] [] text (good_stop f text p) (good_stop g text q)).0))).0
 
-no_byte : (b : ℕ) (bs : List ℕ) → [] ≢ b ∷ bs
-no_byte b bs e = cc
-
-good_wrong : (f : CertifiedPair) (text : List ℕ) (n : ℕ) → IsTextOf f text → HasWrongLine text n → ⊥
-good_wrong f text n p w = some_cut w.line w.rest (one_stop (lines_of f) w.before [] (w.line ++ newline ∷ w.rest) text (good_stop f text p) (wrong_stop text n w)).1
-
-good_behind : (f : CertifiedPair) (text : List ℕ) (n : ℕ) → IsTextOf f text → HasByteBehind text n → ⊥
-good_behind f text n p w = no_byte w.byte w.rest (one_stop (lines_of f) w.before [] (w.byte ∷ w.rest) text (good_stop f text p) (behind_stop text n w)).1
-
 good_cut : (f : CertifiedPair) (text : List ℕ) → IsTextOf f text → IsCutOff text → ⊥
 good_cut f text p w = w.not_all (f, p.fits, (one_stop (lines_of f) w.before [] w.unfinished text (good_stop f text p) (cut_stop text w)).0)
 
+-- a bad line follows the last good line
+record BadStop (text : List ℕ) (n : ℕ) : Type 0 where
+  before : List (List ℕ)
+  rest : List ℕ
+  stops : StopsAt before rest text
+  some : [] ≢ rest
+  number : n ≡ 1 + length before
+
+bad_stop : (text : List ℕ) (n : ℕ) → HasWrongLine text n ⊎ HasByteBehind text n → BadStop text n
+bad_stop text n (inl w) = record { before = w.before; rest = w.line ++ newline ∷ w.rest; stops = wrong_stop text n w; some = some_cut w.line w.rest; number = w.number }
+bad_stop text n (inr w) = record { before = w.before; rest = w.byte ∷ w.rest; stops = behind_stop text n w; some = λ e. cc; number = w.number }
+
 good_bad : (f : CertifiedPair) (text : List ℕ) (n : ℕ) → IsTextOf f text → HasWrongLine text n ⊎ HasByteBehind text n → ⊥
-good_bad f text n p (inl w) = good_wrong f text n p w
-good_bad f text n p (inr w) = good_behind f text n p w
+good_bad f text n p h = let b = bad_stop text n h in b.some (one_stop (lines_of f) b.before [] b.rest text (good_stop f text p) b.stops).1
 
 pub no_fault : (f : CertifiedPair) (fault : PairFault) (text : List ℕ) → IsReadAsPair f text → IsPairFaultOf fault text → ⊥
 no_fault f Read text p q = q
@@ -96,17 +98,6 @@ no_fault f TooLarge text p q = omega (arith, p.1, q)
 no_fault f (BadLine n) text p q = good_bad f text n p.0 q.1
 no_fault f EndsEarly text p q = good_cut f text p.0 q.1
 no_fault f NoMemory text p q = q
-
--- a bad line follows the last good line
-record BadStop (text : List ℕ) (n : ℕ) : Type 0 where
-  before : List (List ℕ)
-  rest : List ℕ
-  stops : StopsAt before rest text
-  number : n ≡ 1 + length before
-
-bad_stop : (text : List ℕ) (n : ℕ) → HasWrongLine text n ⊎ HasByteBehind text n → BadStop text n
-bad_stop text n (inl w) = record { before = w.before; rest = w.line ++ newline ∷ w.rest; stops = wrong_stop text n w; number = w.number }
-bad_stop text n (inr w) = record { before = w.before; rest = w.byte ∷ w.rest; stops = behind_stop text n w; number = w.number }
 
 bad_bad : (text : List ℕ) (n m : ℕ) → HasWrongLine text n ⊎ HasByteBehind text n → HasWrongLine text m ⊎ HasByteBehind text m → n ≡ m
 bad_bad text n m h k =
@@ -123,18 +114,14 @@ bad_cut text n (inr w) c =
 pub one_fault : (p q : PairFault) (text : List ℕ) → IsPairFaultOf p text → IsPairFaultOf q text → p ≡ q
 one_fault Read q text h k = absurd h
 one_fault NoMemory q text h k = absurd h
-one_fault TooLarge Read text h k = absurd k
-one_fault TooLarge NoMemory text h k = absurd k
+one_fault p Read text h k = absurd k
+one_fault p NoMemory text h k = absurd k
 one_fault TooLarge TooLarge text h k = refl
 one_fault TooLarge (BadLine m) text h k = absurd (omega (arith, h, k.0))
 one_fault TooLarge EndsEarly text h k = absurd (omega (arith, h, k.0))
-one_fault (BadLine n) Read text h k = absurd k
-one_fault (BadLine n) NoMemory text h k = absurd k
 one_fault (BadLine n) TooLarge text h k = absurd (omega (arith, k, h.0))
 one_fault (BadLine n) (BadLine m) text h k = ap BadLine (bad_bad text n m h.1 k.1)
 one_fault (BadLine n) EndsEarly text h k = absurd (bad_cut text n h.1 k.1)
-one_fault EndsEarly Read text h k = absurd k
-one_fault EndsEarly NoMemory text h k = absurd k
 one_fault EndsEarly TooLarge text h k = absurd (omega (arith, k, h.0))
 one_fault EndsEarly (BadLine m) text h k = absurd (bad_cut text m k.1 h.1)
 one_fault EndsEarly EndsEarly text h k = refl

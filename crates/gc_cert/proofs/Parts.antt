@@ -4,14 +4,14 @@ use Rattle.std.proofs.Common.{◌≡◌, ℕ, ◌≤◌, Bool, List, [], ◌∷�
 use Rattle.std.specs.Prelude.{codes}
 use Rattle.std.specs.Fmt.{decimal}
 use Rattle.std.specs.List.{AllByRecursion}
-use Rattle.std.proofs.lemmas.List.{append-nil, append_cancel_left}
+use Rattle.std.proofs.lemmas.List.{append-nil, append_cancel_left, length-replicate}
 use Rattle.gc_words.specs.Image.{Image}
 use Rattle.gc_cert.specs.Grammar.{CertifiedPair, heading, pair_line, count_line, size_line, image_lines, certificate_lines, lines_of, IsWord, AreAddresses, AreSizes, IsCertificate, HasImageText, HasText}
 use Rattle.gc_cert.specs.Internal.Grammar.{image_alone, IsImageBy}
 use Rattle.gc_cert.specs.Sections.{Place, HasTaken}
 use Rattle.gc_cert.specs.Internal.Sections.{Nothing, AnyFlag, alone, AreAll, Section, Spelled}
 use Rattle.gc_cert.proofs.Stops.{Delimits, BeginsWith}
-use Rattle.gc_cert.proofs.Forms.{All-replicate, length-replicated, one_form}
+use Rattle.gc_cert.proofs.Forms.{All-replicate, one_form}
 use Rattle.gc_cert.proofs.LineForms.{pair_form}
 use Rattle.gc_cert.proofs.SameLines.{head_of, count_same, two_same, same_lines, image_same, image_more, heading_same, certificate_same}
 use Rattle.std.proofs.lemmas.Fmt.{decimal_injective}
@@ -48,7 +48,7 @@ pub image_sizes : (raws : Bool) (name : List ℕ) → BeginsWith AreSizes (alone
 image_sizes raws name = record {
   some = λ s fits.
       let words = replicate s.1 0 in
-      (map decimal words ++ root_lines [], (made_image raws s words [], image_fits raws s words [] fits (length-replicated s.1 0, All-replicate IsWord s.1 0 (omega arith)) (omega arith) tt, refl));
+      (map decimal words ++ root_lines [], (made_image raws s words [], image_fits raws s words [] fits (length-replicate s.1 0, All-replicate IsWord s.1 0 (omega arith)) (omega arith) tt, refl));
   only = λ lines (image, by, e). ((image.size, image.end), map decimal image.words ++ root_lines image.roots, by.fits.sizes, e);
 }
 
@@ -62,7 +62,7 @@ pub image_count : (raws : Bool) (name : List ℕ) (s : ℕ × ℕ) (words : List
 image_count raws name s words fits ws = record {
   some = λ n le.
       let roots = replicate n 0 in
-      let counted : length roots ≡ n = length-replicated n 0 in (
+      let counted : length roots ≡ n = length-replicate n 0 in (
         map decimal roots ++ [],
         (
           made_image raws s words roots,
@@ -112,7 +112,7 @@ pub certificate_count : BeginsWith (λ n. n ≤ 524287) (alone (count_line (code
 certificate_count = record {
   some = λ n le.
       let pairs = replicate n (0, 0) in
-      let counted : length pairs ≡ n = length-replicated n (0, 0) in
+      let counted : length pairs ≡ n = length-replicate n (0, 0) in
       (map pair_line pairs ++ codes "end" ∷ [], (pairs, (omega arith, All-replicate AreAddresses n (0, 0) (omega arith, omega arith)), ap (λ (k : ℕ). pairs_line k ∷ (map pair_line pairs ++ codes "end" ∷ [])) (sym counted)));
   only = λ lines (pairs, fits, e). (length pairs, map pair_line pairs ++ codes "end" ∷ [], fits.0, e);
 }

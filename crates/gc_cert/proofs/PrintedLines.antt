@@ -54,9 +54,5 @@ one_failed f a b c xs i d before mid lt so_far failed =
 pub all_printed : {X : Type 0} (f : X → List ℕ) (a b : Bytes) (xs : List X) (i : ℕ) (before after : List ℕ) → length xs ≤ i → Prints (map f (take i xs)) a b before after → Prints (map f xs) a b before after
 all_printed {X} f a b xs i before after le so_far = subst (λ (ys : List X). Prints (map f ys) a b before after) (take_all i xs le) so_far
 
-pub map_map : {X Y : Type 0} (g : X → Y) (f : Y → List ℕ) (xs : List X) → map (λ x. f (g x)) xs ≡ map f (map g xs)
-map_map g f [] = refl
-map_map g f (x ∷ xs) = ap (λ (ls : Lines). f (g x) ∷ ls) (map_map g f xs)
-
 pub printed_out_front : (a b c : Bytes) (lines : Lines) (before after : List ℕ) → before ≡ [] → Prints lines a b before after → SendsFront b c after → SendsFront a c (text_of lines)
 printed_out_front a b c lines before after none printed failed = grind (arith, common_steps, append-nil, front_sent)

@@ -17,7 +17,7 @@ use Rattle.gc_cert.specs.declared.fault.PairFault.TheVariants.{Read, TooLarge, N
 use Rattle.gc_cert.specs.declared.pair_reader.PairReader.{PairReader}
 use Rattle.gc_graph.proofs.Public.{within_all, ends_there}
 use Rattle.gc_cert.proofs.Parts.{TextSection}
-use Rattle.gc_cert.proofs.Stops.{Delimits, BeginsWith, wrong_within, cut_within}
+use Rattle.gc_cert.proofs.Stops.{Delimits, BeginsWith, taken_then, wrong_within, cut_within}
 use Rattle.gc_cert.proofs.Total.{stopped, went_on}
 
 -- ---- faults of reading
@@ -69,6 +69,10 @@ lines_left text p r left lines q h taken =
         number = omega (arith, taken.number, h.taken_is);
       },
     )
+
+-- lines that were taken after others
+pub taken_on : {text : List ℕ} {done more : List (List ℕ)} {p q : Place} {r : PairReader} {left : Option (List ℕ)} → HasTaken done p q → (at : Place) × IsAt text at r left × HasTaken more q at → (at : Place) × IsAt text at r left × HasTaken (done ++ more) p at
+taken_on {text} {done} {more} {p} {q} taken on = (on.0, on.1, taken_then done more p q on.0 taken on.2)
 
 -- ---- the start and the end of the text
 

@@ -14,9 +14,9 @@ use Rattle.gc_graph.proofs.Public.{HasNo-decimal, HasNo-lacks, HasNo-joined, one
 abbrev pub AreLines : List (List ℕ) → Type 0
 AreLines lines = AllByRecursion (HasNo newline) lines
 
-All-append : (xs ys : List (List ℕ)) → AreLines xs → AreLines ys → AreLines (xs ++ ys)
-All-append [] ys p q = q
-All-append (x ∷ xs) ys p q = (p.0, All-append xs ys p.1 q)
+pub All-append : {X : Type 0} (P : X → Type 0) (xs ys : List X) → AllByRecursion P xs → AllByRecursion P ys → AllByRecursion P (xs ++ ys)
+All-append P [] ys p q = q
+All-append P (x ∷ xs) ys p q = (p.0, All-append P xs ys p.1 q)
 
 pub All-front : (xs ys : List (List ℕ)) → AreLines (xs ++ ys) → AreLines xs
 All-front [] ys p = tt

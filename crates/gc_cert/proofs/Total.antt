@@ -114,7 +114,7 @@ cut_off : (text : List ℕ) → IsCutIn TextSection (start text) → IsCutOff te
 cut_off text w = grind (arith, common_steps)
 
 -- all of the text was taken
-whole_text : (f : CertifiedPair) (text : List ℕ) (after : Place) → HasText f → HasTaken (lines_of f) (start text) after → after.rest ≡ [] → IsTextOf f text
+pub whole_text : (f : CertifiedPair) (text : List ℕ) (after : Place) → HasText f → HasTaken (lines_of f) (start text) after → after.rest ≡ [] → IsTextOf f text
 unfolding spelling
 whole_text f text after fits taken none = record { fits = fits; spelled = taken.parts ∙ ap (λ (t : List ℕ). text_of (lines_of f) ++ t) none ∙ append-nil (text_of (lines_of f)) }
 
@@ -124,18 +124,15 @@ byte_behind f text after byte bytes fits taken some = grind (arith, common_steps
 
 -- ---- the same for a reader that began at the start
 
-pub stopped : (text : List ℕ) (p : Place) (fault : PairFault) → p ≡ start text → length text ≤ limit → MayStop TextSection fault p → MayFail fault text
-stopped text p fault began le stop = grind (arith, common_steps, wrong_line, cut_off)
+pub stopped : (text : List ℕ) (fault : PairFault) → length text ≤ limit → MayStop TextSection fault (start text) → MayFail fault text
+stopped text fault le stop = grind (arith, common_steps, wrong_line, cut_off)
 
-pub went_through : (f : CertifiedPair) (text : List ℕ) (p after : Place) → p ≡ start text → HasText f × HasTaken (lines_of f) p after → after.rest ≡ [] → IsTextOf f text
-went_through f text p after began taken none = whole_text f text after taken.0 (subst (λ (q : Place). HasTaken (lines_of f) q after) began taken.1) none
-
-pub went_on : (f : CertifiedPair) (text : List ℕ) (p after : Place) (fault : PairFault) → p ≡ start text → length text ≤ limit → HasText f × HasTaken (lines_of f) p after → (after.rest ≢ []) × (fault ≡ BadLine (after.taken + 1)) → MayFail fault text
-went_on f text p after fault began le taken (some, is) = subst (λ (g : PairFault). MayFail g text) (sym is) (le, inr (at after.rest refl))
+pub went_on : (f : CertifiedPair) (text : List ℕ) (after : Place) (fault : PairFault) → length text ≤ limit → HasText f × HasTaken (lines_of f) (start text) after → (after.rest ≢ []) × (fault ≡ BadLine (after.taken + 1)) → MayFail fault text
+went_on f text after fault le taken (some, is) = subst (λ (g : PairFault). MayFail g text) (sym is) (le, inr (at after.rest refl))
   where
     at : (rest : List ℕ) → after.rest ≡ rest → HasByteBehind text (after.taken + 1)
     at [] none = absurd (some none)
-    at (byte ∷ bytes) more = byte_behind f text after byte bytes taken.0 (subst (λ (q : Place). HasTaken (lines_of f) q after) began taken.1) more
+    at (byte ∷ bytes) more = byte_behind f text after byte bytes taken.0 taken.1 more
 
 -- a value, or a first fault
 abbrev Answered : List ℕ → Type 0

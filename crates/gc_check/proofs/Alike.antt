@@ -1,28 +1,23 @@
 -- Words that correspond as they meet still correspond when more pairs are found.
 use Rattle.std.proofs.lemmas.Grind.{common_steps}
 use Rattle.std.proofs.Common.{◌≡◌, ℕ, ◌+◌, ◌<◌, ◌≤◌, Bool, true, false, cond, ◌&&◌, ◌==◌, List, [], ◌∷◌, ◌++◌, length, drop, Option, Some, None, refl, sym, ap, subst, inl, inr, arith}
-use Rattle.std.specs.Prelude.{IsTrue}
 use Rattle.std.specs.List.{AllZip}
 use Rattle.std.proofs.lemmas.Bool.{eq-eqb, cases_order, and_parts, or_cases, or_left, or_right}
-use Rattle.std.proofs.lemmas.List.{drop_all}
-use Rattle.gc_graph.specs.Graph.{Value}
+use Rattle.std.proofs.lemmas.List.{drop_all, get_or_append_left}
 use Rattle.gc_graph.specs.Correspond.{paired}
-use Rattle.gc_words.specs.Word.{read_value, read_correspond, words_correspond, field_words_correspond}
+use Rattle.gc_words.specs.Word.{words_correspond, field_words_correspond}
 use Rattle.gc_words.specs.Image.{Image, Block, block_at}
 use Rattle.gc_words.specs.Certificate.{BlocksCorrespond}
 use Rattle.gc_words.specs.declared.header.Header.{Header}
 use Rattle.gc_check.specs.Tables.{pair_at}
 use Rattle.gc_check.specs.Internal.Meetings.{met, met_all, met_objects, alike_all, AlikeTo}
-use Rattle.gc_check.proofs.Forced.{Grows, met_all_grows, met_blocks_grow, same_place}
+use Rattle.gc_check.proofs.Forced.{Grows, met_all_grows, met_blocks_grow}
 
 -- ---- more pairs
 
 module _ (before after : List (ℕ × ℕ)) (more : (a b : ℕ) → paired before a b ≡ true → paired after a b ≡ true) where
-  values_more : (o q : Option Value) → read_correspond before o q ≡ true → read_correspond after o q ≡ true
-  values_more o q e = grind (arith, common_steps)
-
   words_more : (v w : ℕ) → words_correspond before v w ≡ true → words_correspond after v w ≡ true
-  words_more v w e = values_more (read_value v) (read_value w) e
+  words_more v w e = grind (arith, common_steps)
 
   pub all_more : (vs ws : List ℕ) → AllZip (λ v w. words_correspond before v w ≡ true) vs ws → AllZip (λ v w. words_correspond after v w ≡ true) vs ws
   all_more [] [] z = tt
@@ -92,9 +87,6 @@ values_correspond pairs o q h vs ws o_is q_is raw z =
 
 -- ---- the walk
 
-pub alike_roots : (old new : Image) (pairs : List (ℕ × ℕ)) → AllZip (λ v w. IsTrue (words_correspond pairs v w)) old.roots new.roots → AlikeTo old new pairs 0
-alike_roots old new pairs z = record { roots = z; objects = λ k h l. absurd (omega (arith, h)) }
-
 pub objects_alike : (old new : Image) (pairs : List (ℕ × ℕ)) (done : ℕ) → done < length pairs → AlikeTo old new pairs done
     → BlocksCorrespond (met_objects old new pairs (pair_at pairs done)) (block_at old.words (pair_at pairs done).0) (block_at new.words (pair_at pairs done).1) → AlikeTo old new (met_objects old new pairs (pair_at pairs done)) (done + 1)
 objects_alike old new pairs done inside m c = record {
@@ -118,8 +110,4 @@ objects_alike old new pairs done inside m c = record {
     Alike p = BlocksCorrespond now (block_at old.words p.0) (block_at new.words p.1)
 
     objects : (k : ℕ) → k < done + 1 → k < length now → Alike (pair_at now k)
-    objects k h l = grind (arith, common_steps, Alike, same_place, now, grows, cases_order, blocks_more, more)
-
--- the objects of all pairs are alike
-pub all_alike : (old new : Image) (pairs : List (ℕ × ℕ)) (done n : ℕ) → length pairs ≤ done → AlikeTo old new pairs done → AlikeTo old new pairs n
-all_alike old new pairs done n most m = record { roots = m.roots; objects = λ k h l. m.objects k (omega arith) l }
+    objects k h l = grind (arith, common_steps, Alike, get_or_append_left, now, grows, cases_order, blocks_more, more)

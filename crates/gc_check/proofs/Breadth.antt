@@ -1,9 +1,10 @@
 -- A walk in breadth visits each reachable object at its least depth.
+use Rattle.std.proofs.lemmas.Option.{slice_get_past}
+use Rattle.std.proofs.lemmas.List.{length-map, length-append, length-replicate, length-reverse, reverse-append, append-nil, drop_all, take_all, get_or_append_left, get_or_at}
 use Rattle.std.proofs.lemmas.Grind.{common_steps}
 use Rattle.std.proofs.Common.{◌≡◌, ◌≢◌, ℕ, zero, suc, ◌+◌, ◌<◌, ◌≤◌, ◌^◌, Bool, true, false, cond, not, ◌==◌, List, [], ◌∷◌, ◌++◌, length, map, reverse, replicate, take, drop, get_or, set, Option, Some, None, refl, sym, ◌∙◌, ap, subst, inl, inr, arith, length-set, get_or-set_same, get_or-set_other}
 use Rattle.std.specs.Prelude.{slice_get, slice_index, vec_capacity, is_some, IsTrue}
 use Rattle.std.proofs.lemmas.Bool.{cases_order, cases_eq}
-use Rattle.std.proofs.lemmas.List.{length-append, length-replicate, length-reverse, reverse-append, append-nil, drop_all, take_all, get_or_append_left, get_or_at}
 use Rattle.gc_graph.specs.Graph.{Value, Nil, Num, Ref, Object, Graph, lookup, field_of, follow, at_path, name_of, Reachable}
 use Rattle.gc_words.specs.Word.{value_of, field_value}
 use Rattle.gc_words.specs.Image.{Image, Block, blocks, block_at, header_of, header_at, is_start, graph_of}
@@ -19,7 +20,7 @@ use Rattle.gc_check.specs.declared.visits.Visit.{Visit}
 use Rattle.gc_check.specs.declared.visits.Visits.{Visits}
 use Rattle.gc_check.specs.declared.visits.Reference.{Reference}
 use Rattle.gc_check.proofs.StartMarks.{nothing_at, start_within}
-use Rattle.gc_check.proofs.Meetings.{few_taken, starts_one, taken_one, taken_none, taken_few}
+use Rattle.gc_check.proofs.Meetings.{few_taken, starts_one, taken_one, taken_none}
 use Rattle.gc_check.proofs.Forced.{follow_nil}
 
 -- ---- references
@@ -48,9 +49,7 @@ reference_word (w ∷ ws) zero d h = refl
 reference_word (w ∷ ws) (suc i) d h = reference_word ws i d (omega arith)
 
 pub no_word : (ws : List ℕ) (i a : ℕ) → length ws ≤ i → slice_get (references ws) i ≡ Some (Some a) → ⊥
-no_word [] i a h e = let no : None ≡ Some (Some a) = e in cc
-no_word (w ∷ ws) zero a h e = absurd (omega arith)
-no_word (w ∷ ws) (suc i) a h e = no_word ws i a (omega arith) e
+no_word ws i a h e = absurd (let no : None ≡ Some (Some a) = sym (slice_get_past (references ws) i (omega (arith, h, length-map ws (λ w. name_of (value_of w))))) ∙ e in cc)
 
 values_at : (image : Image) (a : ℕ) (b : Block) → block_at image.words a ≡ Some b → values_of (graph_of image) (node.Object a) ≡ map (field_value b.header) b.fields
 values_at image a b e = ap fields_of (lookup_of_blocks (blocks image.words) a ∙ ap object_option e)
@@ -217,9 +216,6 @@ pub near_next : (image : Image) (before after : List Visit) (done : ℕ) → don
     → AreWithin after (suc (visit_at after (done + 1)).depth)
 near_next image before after done inside are c near next j h = grind (arith, common_steps)
 
-pub low_count : (image : Image) (visits : Visits) → HoldsWalk image visits → length visits.list.items ≤ suc (length image.words)
-low_count image visits held = let few : taken_in (numbers_in image visits) ≤ length (numbers_in image visits) = taken_few (numbers_in image visits) in omega (arith, held.table.count, held.table.len, few)
-
 -- the walk begins with the visit of the roots
 pub begun : (image : Image) (visits : Visits) → HasEntries image.words visits.numbers → length image.words < 2 ^ 32 → visits.list.items ≡ roots_visit ∷ [] → (numbers_in image visits) ≡ replicate (length image.words) 0 → suc (starts_from image.words 0 (length image.words)) ≤ vec_capacity visits.list
     → HoldsWalk image visits
@@ -230,9 +226,6 @@ begun image visits entries few one none room = grind (arith, common_steps, lengt
 field_follows : (g : Graph) (a j : ℕ) → field_of (lookup g.objects a) j ≡ slice_get (values_of g (node.Object a)) j
 field_follows g a j = grind (arith, common_steps)
 
-reverse_push : (xs : List ℕ) (x : ℕ) → reverse (xs ++ x ∷ []) ≡ x ∷ reverse xs
-reverse_push xs x = reverse-append xs (x ∷ [])
-
 module _ (image : Image) (visits : List Visit) (at : ℕ) (low : 1 ≤ at) (inside : at < length visits) (are : AreVisits image visits) where
   abbrev v : Visit
   v = visit_at visits at
@@ -240,12 +233,9 @@ module _ (image : Image) (visits : List Visit) (at : ℕ) (low : 1 ≤ at) (insi
   by : IsFoundBy image (visit_at visits v.from) v at
   by = are.found at low inside
 
-  earlier_visit : v.from < at
-  earlier_visit = by.earlier
-
   module _ (place address : ℕ) (fields : List ℕ) where
     back : along (graph_of image) v.node place (reverse fields) ≡ Some (Ref address) → along (graph_of image) (visit_at visits v.from).node v.place (reverse (fields ++ place ∷ [])) ≡ Some (Ref address)
-    back e = grind (arith, common_steps, reverse_push, by, field_follows)
+    back e = grind (arith, common_steps, reverse-append, by, field_follows)
 
     less_deep : (deep : ℕ) → length fields + v.depth ≡ deep → length (fields ++ place ∷ []) + (visit_at visits v.from).depth ≡ deep
     less_deep deep e = omega (arith, length-append fields (place ∷ []), by.deeper, e)
@@ -259,7 +249,7 @@ pub depth_back : (image : Image) (visits : List Visit) (at place deep : ℕ) (fi
 depth_back image visits at place deep fields low inside are e = less_deep image visits at low inside are place 0 fields deep e
 
 pub found_within : (image : Image) (visits : List Visit) (at : ℕ) → 1 ≤ at → at < length visits → AreVisits image visits → (visit_at visits at).from < length visits
-found_within image visits at low inside are = omega (arith, earlier_visit image visits at low inside are, inside)
+found_within image visits at low inside are = grind (arith, common_steps, by)
 
 -- what a reversal in place leaves
 pub reversed : (items new : List ℕ) (len : ℕ) → len ≡ length items → new ≡ reverse items → take len (new ++ drop (length new) items) ≡ reverse items

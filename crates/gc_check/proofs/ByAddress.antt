@@ -61,28 +61,22 @@ inside_is words entries place inside = get_or-map-range_with_len (entry_at words
 no_entry : (words entries : List ℕ) (place : ℕ) → is_start words place ≡ false → entry_at words entries place ≡ 0
 no_entry words entries place none = ap (λ b. cond b (slice_index entries (place / 2)) 0) none
 
-entry_is : (words entries : List ℕ) (place : ℕ) → is_start words place ≡ true → entry_at words entries place ≡ slice_index entries (place / 2)
-entry_is words entries place start = ap (λ b. cond b (slice_index entries (place / 2)) 0) start
-
-by_address_at : (words entries : List ℕ) (place : ℕ) → IsOk (walk_words words) → slice_index (by_address words entries) place ≡ entry_at words entries place
-by_address_at words entries place ok = grind (arith, common_steps, cases_lt, inside_is, get_or_past, length_by_address, no_entry, no_start_past)
-
 pub entry_within : (words entries : List ℕ) (place : ℕ) → HasEntries words entries → is_start words place ≡ true → place / 2 < length entries
 entry_within words entries place h start = let within : place < length words = start_within words place h.walked start in omega (arith, h.len, within)
 
 -- the number of an object, and that of a place at which none starts
 pub number_read : (words entries : List ℕ) (place : ℕ) → HasEntries words entries → is_start words place ≡ true → slice_index entries (place / 2) ≡ slice_index (by_address words entries) place
-number_read words entries place h start = sym (by_address_at words entries place h.walked ∙ entry_is words entries place start)
+number_read words entries place h start = grind (arith, common_steps, cases_lt, inside_is, get_or_past, length_by_address, no_entry, no_start_past)
 
 pub no_number : (words entries : List ℕ) (place : ℕ) → HasEntries words entries → is_start words place ≡ false → 0 ≡ slice_index (by_address words entries) place
-no_number words entries place h none = sym (by_address_at words entries place h.walked ∙ no_entry words entries place none)
+no_number words entries place h none = grind (arith, common_steps, no_entry, cases_lt, inside_is, get_or_past, length_by_address, no_start_past)
 
 pub zero_at : (words entries : List ℕ) (place half : ℕ) → HasEntries words entries → place / 2 ≡ half → slice_index entries half ≡ 0 → slice_index (by_address words entries) place ≡ 0
-zero_at words entries place half h same none = grind (arith, common_steps, by_address_at)
+zero_at words entries place half h same none = grind (arith, common_steps, cases_lt, inside_is, get_or_past, length_by_address, no_entry, no_start_past)
 
 -- an entry that is not 0 is that of a start
 pub number_starts : (words entries : List ℕ) (place : ℕ) → IsOk (walk_words words) → not (slice_index (by_address words entries) place == 0) ≡ true → is_start words place ≡ true
-number_starts words entries place ok some = grind (arith, common_steps, by_address_at, no_entry)
+number_starts words entries place ok some = grind (arith, common_steps, cases_lt, inside_is, get_or_past, length_by_address, no_entry, no_start_past)
 
 pub zeros_by_address : (words entries : List ℕ) (n : ℕ) → entries ≡ replicate n 0 → by_address words entries ≡ replicate (length words) 0
 zeros_by_address words entries n e =
@@ -102,4 +96,4 @@ set_by_address words entries place number h start =
     within = start_within words place h.walked start
 
     same : (other : ℕ) → slice_index (by_address words (set entries (place / 2) number)) other ≡ slice_index (set (by_address words entries) place number) other
-    same other = grind (arith, common_steps, by_address_at, cases_eq, entry_is, get_or-set_same, within, length_by_address, get_or-set_other, half_is_own, no_entry)
+    same other = grind (arith, common_steps, cases_lt, inside_is, get_or_past, length_by_address, no_entry, no_start_past, cases_eq, get_or-set_same, within, get_or-set_other, half_is_own)

@@ -1,6 +1,8 @@
 -- A walk over both images finds only pairs that every certificate has, and in the end all references have met.
+use Rattle.std.specs.Option.{option_map}
+use Rattle.std.proofs.lemmas.Option.{slice_get-map}
 use Rattle.std.proofs.lemmas.Grind.{common_steps}
-use Rattle.std.proofs.Common.{◌≡◌, ℕ, zero, suc, ◌+◌, ◌<◌, ◌≤◌, Bool, true, false, cond, not, ◌&&◌, ◌||◌, ◌==◌, List, [], ◌∷◌, ◌++◌, length, map, Option, Some, None, refl, sym, ◌∙◌, ap, subst, inl, inr, arith}
+use Rattle.std.proofs.Common.{◌≡◌, ℕ, zero, suc, ◌+◌, ◌<◌, Bool, true, false, cond, not, ◌&&◌, ◌==◌, List, [], ◌∷◌, ◌++◌, length, map, Option, Some, None, refl, sym, ◌∙◌, ap, subst, inl, inr, arith}
 use Rattle.std.specs.Prelude.{slice_get, slice_index_or, IsTrue}
 use Rattle.std.specs.List.{All, AllZip}
 use Rattle.std.proofs.lemmas.Bool.{eqb-true, eq-eqb, cases_order, cases_Bool, and_parts, and_from, or_cases, or_right}
@@ -9,7 +11,7 @@ use Rattle.std.proofs.lemmas.List.Elements.{All-push, All-nil}
 use Rattle.std.proofs.lemmas.List.Folds.{list_any-append}
 use Rattle.gc_graph.specs.Graph.{Value, Ref, Object, lookup, object_of, field_of, follow, at_path}
 use Rattle.gc_graph.specs.Correspond.{paired}
-use Rattle.gc_words.specs.Word.{is_value, value_of, read_value, read_correspond, words_correspond, field_words_correspond}
+use Rattle.gc_words.specs.Word.{value_of, read_value, read_correspond, words_correspond, field_words_correspond}
 use Rattle.gc_words.specs.Image.{Image, Block, is_start, block_at, graph_of}
 use Rattle.gc_words.specs.Certificate.{BlocksCorrespond, Certified}
 use Rattle.gc_words.specs.Fault.{same_header}
@@ -17,21 +19,18 @@ use Rattle.gc_words.specs.declared.header.Header.{Header}
 use Rattle.gc_words.proofs.Public.{same_header_of, header_same, object_option, lookup_of_blocks}
 use Rattle.gc_check.specs.Infer.{Together, AreTogether}
 use Rattle.gc_check.specs.Tables.{pair_at}
-use Rattle.gc_check.specs.Internal.Meetings.{is_free, met_refs, met_values, met, met_all, met_blocks, met_objects, HaveMet, AllMet, BlocksMet, ObjectsMet, MetTo}
+use Rattle.gc_check.specs.Internal.Meetings.{is_free, met, met_all, met_blocks, met_objects, HaveMet, AllMet, BlocksMet, ObjectsMet, MetTo}
 use Rattle.gc_check.proofs.Meetings.{free_parts}
 
 -- ---- what is kept when words meet
 
 module _ (old new : Image) (P : List (ℕ × ℕ) → Type 0) where
-  keeps_values : (pairs : List (ℕ × ℕ)) (o q : Option Value) → P pairs → ((a b : ℕ) → o ≡ Some (Ref a) → q ≡ Some (Ref b) → is_free old new pairs a b ≡ true → P (pairs ++ (a, b) ∷ [])) → P (met_values old new pairs o q)
-  keeps_values pairs o q p step = grind (arith, common_steps, cases_Bool)
-
   -- what each new pair keeps
   abbrev Step : (ℕ → ℕ → Type 0) → Type 0
   Step R = (pairs : List (ℕ × ℕ)) (v w a b : ℕ) → R v w → read_value v ≡ Some (Ref a) → read_value w ≡ Some (Ref b) → is_free old new pairs a b ≡ true → P pairs → P (pairs ++ (a, b) ∷ [])
 
   met_keeps : (R : ℕ → ℕ → Type 0) → Step R → (pairs : List (ℕ × ℕ)) (v w : ℕ) → R v w → P pairs → P (met old new pairs v w)
-  met_keeps R step pairs v w r p = keeps_values pairs (read_value v) (read_value w) p (λ a b e f free. step pairs v w a b r e f free p)
+  met_keeps R step pairs v w r p = grind (arith, common_steps, cases_Bool)
 
   pub met_all_keeps : (R : ℕ → ℕ → Type 0) → Step R → (pairs : List (ℕ × ℕ)) (vs ws : List ℕ) → AllZip R vs ws → P pairs → P (met_all old new pairs vs ws)
   met_all_keeps R step pairs [] ws z p = p
@@ -59,31 +58,16 @@ met_all_grows old new pairs vs ws = met_all_keeps_free old new (Grows pairs) (λ
 
 -- ---- words that have met
 
-not_or : (x y : Bool) → not (x || y) ≡ true → not x ≡ true
-not_or x y e = grind (arith, common_steps)
-
-stays_taken : (old new : Image) (pairs more : List (ℕ × ℕ)) (a b : ℕ) → is_free old new pairs a b ≡ false → is_free old new (pairs ++ more) a b ≡ false
-stays_taken old new pairs more a b e = grind (arith, common_steps, cases_Bool, free_parts, not_or, list_any-append, and_from)
-
 met_stays : (old new : Image) (before after : List (ℕ × ℕ)) (v w : ℕ) → Grows before after → HaveMet old new before v w → HaveMet old new after v w
-met_stays old new before after v w g h = λ a b e f. subst (λ pairs. is_free old new pairs a b ≡ false) (sym g.1) (stays_taken old new before g.0 a b (h a b e f))
+met_stays old new before after v w g h = λ a b e f. grind (arith, common_steps, cases_Bool, free_parts, list_any-append, and_from)
 
 all_met_stays : (old new : Image) (before after : List (ℕ × ℕ)) (vs ws : List ℕ) → Grows before after → AllMet old new before vs ws → AllMet old new after vs ws
 all_met_stays old new before after [] ws g h = tt
 all_met_stays old new before after (v ∷ vs) [] g h = tt
 all_met_stays old new before after (v ∷ vs) (w ∷ ws) g h = (met_stays old new before after v w g h.0, all_met_stays old new before after vs ws g h.1)
 
-blocks_met_stay : (old new : Image) (before after : List (ℕ × ℕ)) (o q : Option Block) → Grows before after → BlocksMet old new before o q → BlocksMet old new after o q
-blocks_met_stay old new before after o q g h = grind (arith, common_steps, all_met_stays)
-
-pushed_taken : (old new : Image) (pairs : List (ℕ × ℕ)) (a b : ℕ) → is_free old new (pairs ++ (a, b) ∷ []) a b ≡ false
-pushed_taken old new pairs a b = grind (arith, common_steps, cases_Bool, free_parts, list_any-append, eq-eqb, or_right)
-
-refs_met : (old new : Image) (pairs : List (ℕ × ℕ)) (a b : ℕ) → is_free old new (met_refs old new pairs a b) a b ≡ false
-refs_met old new pairs a b = grind (arith, common_steps, cases_Bool, pushed_taken)
-
 words_met : (old new : Image) (pairs : List (ℕ × ℕ)) (v w : ℕ) → HaveMet old new (met old new pairs v w) v w
-words_met old new pairs v w = grind (arith, common_steps, refs_met)
+words_met old new pairs v w = grind (arith, common_steps, cases_Bool, free_parts, list_any-append, eq-eqb, or_right)
 
 met_all_met : (old new : Image) (pairs : List (ℕ × ℕ)) (vs ws : List ℕ) → AllMet old new (met_all old new pairs vs ws) vs ws
 met_all_met old new pairs [] ws = tt
@@ -171,19 +155,14 @@ follow_push objects [] (Some v) a i e =
 follow_push objects (j ∷ fields) (Some v) a i e = follow_push objects fields (field_of (object_of objects v) j) a i e
 
 get_map : (f : ℕ → Value) (xs : List ℕ) (i x : ℕ) → slice_get xs i ≡ Some x → slice_get (map f xs) i ≡ Some (f x)
-get_map f [] i x e = absurd (let no : None ≡ Some x = e in cc)
-get_map f (y ∷ xs) zero x e = let same : Some y ≡ Some x = e in cc
-get_map f (y ∷ xs) (suc i) x e = get_map f xs i x e
-
-value_read : (b : Bool) (x y : Value) → cond b (Some x) None ≡ Some y → x ≡ y
-value_read b x y e = grind (arith, common_steps)
+get_map f xs i x e = slice_get-map f xs i ∙ ap (option_map f) e
 
 -- some path finds the values of both words
 abbrev SamePath : Image → Image → ℕ → ℕ → Type 0
 SamePath old new v w = (place : ℕ) × (fields : List ℕ) × (at_path (graph_of old) place fields ≡ Some (value_of v)) × (at_path (graph_of new) place fields ≡ Some (value_of w))
 
 same_path : (old new : Image) (v w a b : ℕ) → SamePath old new v w → read_value v ≡ Some (Ref a) → read_value w ≡ Some (Ref b) → Together old new a b
-same_path old new v w a b s e f = (s.0, s.1, s.2 ∙ ap Some (value_read (is_value v) (value_of v) (Ref a) e), s.3 ∙ ap Some (value_read (is_value w) (value_of w) (Ref b) f))
+same_path old new v w a b s e f = grind (arith, common_steps)
 
 met_all_together : (old new : Image) (pairs : List (ℕ × ℕ)) (vs ws : List ℕ) → ((i v w : ℕ) → slice_get vs i ≡ Some v → slice_get ws i ≡ Some w → SamePath old new v w) → AreTogether old new pairs → AreTogether old new (met_all old new pairs vs ws)
 met_all_together old new pairs [] ws same h = h
@@ -228,9 +207,6 @@ roots_met old new = record {
   objects = λ k h l. absurd (omega (arith, h));
 }
 
-pub same_place : (before after : List (ℕ × ℕ)) (k : ℕ) → Grows before after → k < length before → pair_at after k ≡ pair_at before k
-same_place before after k g h = ap (λ t. slice_index_or t k (0, 0)) g.1 ∙ get_or_append_left before g.0 (0, 0) k h
-
 pub objects_met : (old new : Image) (pairs : List (ℕ × ℕ)) (done : ℕ) → done < length pairs → MetTo old new pairs done → MetTo old new (met_objects old new pairs (pair_at pairs done)) (done + 1)
 objects_met old new pairs done inside m = record {
   starts = met_blocks_starts old new pairs (block_at old.words p.0) (block_at new.words p.1) m.starts;
@@ -250,8 +226,4 @@ objects_met old new pairs done inside m = record {
     grows = met_blocks_grow old new pairs (block_at old.words p.0) (block_at new.words p.1)
 
     objects : (k : ℕ) → k < done + 1 → k < length now → ObjectsMet old new now (pair_at now k)
-    objects k h l = grind (arith, common_steps, now, same_place, grows, cases_order, met_blocks_met, p, blocks_met_stay)
-
--- all objects have met
-pub all_done : (old new : Image) (pairs : List (ℕ × ℕ)) (done n : ℕ) → length pairs ≤ done → MetTo old new pairs done → MetTo old new pairs n
-all_done old new pairs done n most m = record { starts = m.starts; forced = m.forced; together = m.together; roots = m.roots; objects = λ k h l. m.objects k (omega arith) l }
+    objects k h l = grind (arith, common_steps, now, get_or_append_left, grows, cases_order, met_blocks_met, p, all_met_stays)

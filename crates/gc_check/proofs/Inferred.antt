@@ -137,11 +137,8 @@ module _ (old new : Image) (pairs : List (ℕ × ℕ)) (row : List ℕ) (held : 
     abbrev now : List (ℕ × ℕ)
     now = risen 0 row
 
-    taken_now : (a b : ℕ) → paired cert a b ≡ true → is_free old new pairs a b ≡ false → paired now a b ≡ true
-    taken_now a b e taken = grind (arith, common_steps, has_starts, paired_objects, risen_of_found, taken_found)
-
     values_now : (o q : Option Value) → read_correspond cert o q ≡ true → ((a b : ℕ) → o ≡ Some (Ref a) → q ≡ Some (Ref b) → is_free old new pairs a b ≡ false) → read_correspond now o q ≡ true
-    values_now o q e h = grind (arith, common_steps, taken_now)
+    values_now o q e h = grind (arith, common_steps, has_starts, paired_objects, risen_of_found, taken_found)
 
     words_now : (vs ws : List ℕ) → AllZip (λ v w. words_correspond cert v w ≡ true) vs ws → AllMet old new pairs vs ws → AllZip (λ v w. words_correspond now v w ≡ true) vs ws
     words_now [] [] z m = z

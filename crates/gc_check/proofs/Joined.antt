@@ -1,6 +1,6 @@
 -- The pairs found, in the order of their new addresses: they have a table of partners, and lead to no further pair.
 use Rattle.std.proofs.lemmas.Grind.{common_steps}
-use Rattle.std.proofs.Common.{◌≡◌, ℕ, zero, suc, ◌<◌, ◌≤◌, ◌^◌, Bool, true, false, not, ◌&&◌, ◌||◌, ◌==◌, List, [], ◌∷◌, length, get_or, Option, Some, None, refl, sym, ◌∙◌, ap, subst, inl, inr, arith, rules}
+use Rattle.std.proofs.Common.{◌≡◌, ℕ, zero, suc, ◌<◌, ◌≤◌, ◌^◌, true, false, not, ◌&&◌, ◌==◌, List, [], ◌∷◌, length, get_or, Option, Some, None, refl, sym, ◌∙◌, ap, subst, inl, inr, arith, rules}
 use Rattle.std.specs.List.{All, AllPairs, list_any}
 use Rattle.std.proofs.lemmas.Bool.{eqb-true, eq-eqb, and_from, or_cases, or_left, or_right}
 use Rattle.std.proofs.lemmas.List.Folds.{list_any_at}
@@ -15,7 +15,7 @@ use Rattle.gc_words.proofs.Public.{Later, none_or, none_when, places_hold, no_sh
 use Rattle.gc_words.specs.declared.image.Pair.{Pair}
 use Rattle.std.proofs.lemmas.List.{length-map}
 use Rattle.gc_check.specs.Infer.{is_taken, LeadsToPairs, ObjectsLeadToPairs, AreClosed, Certifiable, Decides}
-use Rattle.gc_check.specs.Internal.Tables.{HasEntries, HoldsPartners, HasTables, by_address}
+use Rattle.gc_check.specs.Internal.Tables.{HoldsPartners, HasTables}
 use Rattle.gc_check.specs.Internal.Meetings.{is_free, AllMet, BlocksMet, ObjectsMet, MetTo, AlikeTo, HoldsFound, partners_in, originals_in, swapped, risen}
 use Rattle.gc_check.specs.Headline.{Replicated}
 use Rattle.gc_check.specs.Verdict.{pairs_of, verdict_by, verdict_of, IsRefusalOf}
@@ -30,9 +30,6 @@ use Rattle.gc_check.proofs.Forced.{place_of}
 use Rattle.gc_check.proofs.Inferred.{found_of_risen, risen_of_found, risen_rises, risen_length, held_here, met_here, refused_of_all}
 
 -- ---- addresses of pairs
-
-same_bools : (b c : Bool) → (b ≡ true → c ≡ true) → (c ≡ true → b ≡ true) → b ≡ c
-same_bools b c to from = grind (arith, common_steps)
 
 first_of : (pairs : List (ℕ × ℕ)) (a b : ℕ) → paired pairs a b ≡ true → list_any (λ q. q.0 == a) pairs ≡ true
 first_of pairs a b e =
@@ -79,13 +76,10 @@ module _ (old new : Image) (pairs : List (ℕ × ℕ)) (row partners : List ℕ)
       subst (λ (p : ℕ × ℕ). paired pairs p.0 p.1 ≡ true) (k.2 (a, b)) (found_of_risen old new pairs row held k.0 (a, b) k.1)
 
   same_pairs : (a b : ℕ) → paired pairs a b ≡ paired now a b
-  same_pairs a b = same_bools _ _ (to_now a b) (from_now a b)
-
-  same_firsts : (a : ℕ) → list_any (λ q. q.0 == a) pairs ≡ list_any (λ q. q.0 == a) now
-  same_firsts a = grind (arith, common_steps, same_bools, pair_of_first, first_of, to_now, from_now)
+  same_pairs a b = grind (arith, common_steps, to_now, from_now)
 
   same_seconds : (b : ℕ) → list_any (λ q. q.1 == b) pairs ≡ list_any (λ q. q.1 == b) now
-  same_seconds b = grind (arith, common_steps, same_bools, pair_of_second, second_of, to_now, from_now)
+  same_seconds b = grind (arith, common_steps, pair_of_second, second_of, to_now, from_now)
 
   -- ---- their table
 
@@ -107,10 +101,6 @@ module _ (old new : Image) (pairs : List (ℕ × ℕ)) (row partners : List ℕ)
       none_or _ _ (none_or _ _ (none_or _ _ (ap (λ o. at_place o (λ at. OldShape at)) old_shaped) (ap (λ o. at_place o (λ at. NewShape at)) new_shaped)) (none_when _ _ (ap not (eq-eqb _ _ roots))))
       (places_hold old new now now [] 0 refl refl later join_starts)
 
-  tables_of_found : (entries : List ℕ) → HasEntries old.words entries → by_address old.words entries ≡ partners → shape_fault old ≡ None → shape_fault new ≡ None → length old.roots ≡ length new.roots → length now < 2 ^ 32
-      → HasTables (record { old = old; new = new; pairs = now }) entries
-  tables_of_found entries long same old_shaped new_shaped roots few = grind (arith, common_steps, placed, same_pairs, same_firsts)
-
   -- ---- they hold if all words that have met correspond
 
   alike_hold : IsShaped old → IsShaped new → AlikeTo old new pairs (length pairs) → Certified old new now
@@ -129,11 +119,8 @@ module _ (old new : Image) (pairs : List (ℕ × ℕ)) (row partners : List ℕ)
 
   -- ---- they are closed
 
-  one_is_taken : (s t x y : Bool) → s ≡ true → t ≡ true → (s && t && not x && not y) ≡ false → (x || y) ≡ true
-  one_is_taken s t x y e f g = grind (arith, common_steps)
-
   taken_now : (a b : ℕ) → is_start old.words a ≡ true → is_start new.words b ≡ true → is_free old new pairs a b ≡ false → is_taken now a b ≡ true
-  taken_now a b s t taken = grind (arith, common_steps, one_is_taken, same_firsts, same_seconds)
+  taken_now a b s t taken = grind (arith, common_steps, pair_of_first, first_of, to_now, from_now, same_seconds)
 
   lead : (vs ws : List ℕ) → AllMet old new pairs vs ws → LeadsToPairs old new now vs ws
   lead [] ws m i v w e f = absurd (let no : None ≡ Some v = e in cc)
@@ -173,12 +160,7 @@ module _ (old new old_seen new_seen : Image) (found : Found) (cert : List Pair) 
   new_low b start = low_start new.words b here.new_entries.walked start
 
   pub pairs_have_tables : shape_fault old ≡ None → shape_fault new ≡ None → length old.roots ≡ length new.roots → length new.words < 2 ^ 32 → HasTables (record { old = old; new = new; pairs = pairs_of cert }) found.partners
-  pairs_have_tables old_shaped new_shaped roots few =
-      let row : List ℕ = originals_in new found in
-      let most : length (risen 0 row) ≤ length row = risen_length 0 row in
-      let long : length row ≡ length new.words = length_by_address new.words found.originals in
-      subst (λ pairs. HasTables (record { old = old; new = new; pairs = pairs }) found.partners) (sym rise)
-      (tables_of_found old new (pairs_of found.pairs.items) row (partners_in old found) here.originals here.partners all_met old_low new_low found.partners here.old_entries refl old_shaped new_shaped roots (omega (arith, most, long, few)))
+  pairs_have_tables old_shaped new_shaped roots few = grind (arith, common_steps, risen_length, length_by_address, here, all_met, old_low, new_low, placed, same_pairs, pair_of_first, first_of, to_now, from_now)
 
   pub pairs_hold_if_alike : shape_fault old ≡ None → shape_fault new ≡ None → AlikeTo old_seen new_seen (pairs_of found.pairs.items) (length found.pairs.items) → Certified old new (pairs_of cert)
   pairs_hold_if_alike old_shaped new_shaped alike = subst (Certified old new) (sym rise)
@@ -192,14 +174,11 @@ module _ (old new old_seen new_seen : Image) (found : Found) (cert : List Pair) 
 
 -- ---- images that cannot be compared
 
-no_refusal : (o : Option ℕ) (place : ℕ → Refusal) (fault : CheckFault) (refusal : Refusal) → o ≡ None → IsRefusalOf (at_place o place) fault → fault ≡ Refused refusal → ⊥
-no_refusal o place fault refusal none is same = grind (arith, common_steps)
-
 pub old_is_shaped : (old new : Image) (fault : CheckFault) (refusal : Refusal) → IsRefusalOf (at_place (shape_fault old) (λ at. OldShape at)) fault → fault ≡ Refused refusal → AreComparable old new → ⊥
-old_is_shaped old new fault refusal is same both = no_refusal (shape_fault old) (λ at. OldShape at) fault refusal (no_shape_fault old both.old_shaped) is same
+old_is_shaped old new fault refusal is same both = grind (arith, common_steps, no_shape_fault)
 
 pub new_is_shaped : (old new : Image) (fault : CheckFault) (refusal : Refusal) → IsRefusalOf (at_place (shape_fault new) (λ at. NewShape at)) fault → fault ≡ Refused refusal → AreComparable old new → ⊥
-new_is_shaped old new fault refusal is same both = no_refusal (shape_fault new) (λ at. NewShape at) fault refusal (no_shape_fault new both.new_shaped) is same
+new_is_shaped old new fault refusal is same both = grind (arith, common_steps, no_shape_fault)
 
 -- the verdict on pairs that hold if any do
 pub decided : (old new : Image) (pairs : List (ℕ × ℕ)) (verdict : Verdict) → verdict ≡ verdict_of old new pairs → (Certifiable old new → Certified old new pairs) → (first_fault old new pairs ≡ None → Certified old new pairs)

@@ -10,12 +10,12 @@ use Rattle.gc_words.specs.Views.{addresses}
 use Rattle.gc_words.specs.declared.image.Pair.{Pair}
 use Rattle.gc_check.specs.declared.meet.Found.{Found}
 use Rattle.gc_check.specs.Internal.Starts.{starts_from}
-use Rattle.gc_check.specs.Internal.Tables.{HasEntries, HoldsPartners}
+use Rattle.gc_check.specs.Internal.Tables.{HasEntries}
 use Rattle.gc_check.specs.Internal.Meetings.{is_free, swapped, taken_in, partners_in, originals_in, HoldsFound}
 use Rattle.std.proofs.lemmas.List.{get_or-map, length-append}
 use Rattle.gc_check.specs.Tables.{pair_at}
 use Rattle.gc_check.specs.Verdict.{pairs_of}
-use Rattle.gc_check.proofs.StartMarks.{nothing_at, low_start, start_within}
+use Rattle.gc_check.proofs.StartMarks.{low_start, start_within}
 use Rattle.gc_check.proofs.ByAddress.{length_by_address, number_starts}
 use Rattle.gc_check.proofs.PartnerRow.{holds_one}
 
@@ -48,9 +48,6 @@ turned b c e = grind (arith, common_steps)
 old_entry : (old new : Image) (f : Found) (a : ℕ) → HoldsFound old new f → (slice_index (partners_in old f) a == 0) ≡ not (list_any (λ q. q.0 == a) (pairs_of f.pairs.items))
 old_entry old new f a held = turned _ _ (held.partners.taken a)
 
-new_entry : (old new : Image) (f : Found) (b : ℕ) → HoldsFound old new f → (slice_index (originals_in new f) b == 0) ≡ not (list_any (λ q. q.1 == b) (pairs_of f.pairs.items))
-new_entry old new f b held = turned _ _ (held.originals.taken b ∙ any_swapped (pairs_of f.pairs.items) b)
-
 pub record Free (old new : Image) (pairs : List (ℕ × ℕ)) (a b : ℕ) : Type 0 where
   pub old_start : is_start old.words a ≡ true
   pub new_start : is_start new.words b ≡ true
@@ -60,12 +57,9 @@ pub record Free (old new : Image) (pairs : List (ℕ × ℕ)) (a b : ℕ) : Type
 pub free_parts : (old new : Image) (pairs : List (ℕ × ℕ)) (a b : ℕ) → is_free old new pairs a b ≡ true → Free old new pairs a b
 free_parts old new pairs a b e = grind (arith, common_steps, and_parts)
 
-and_and_and : (a b c d : Bool) → a ≡ true → b ≡ true → c ≡ true → (a && b && c && d) ≡ d
-and_and_and a b c d e f g = (λ i. e i && f i && g i && d)
-
 pub has_original : (old new : Image) (f : Found) (a b : ℕ) → HoldsFound old new f → is_start old.words a ≡ true → is_start new.words b ≡ true → (slice_index (partners_in old f) a == 0) ≡ true
     → (slice_index (originals_in new f) b == 0) ≡ is_free old new (pairs_of f.pairs.items) a b
-has_original old new f a b held s t e = new_entry old new f b held ∙ sym (and_and_and _ _ _ _ s t (sym (old_entry old new f a held) ∙ e))
+has_original old new f a b held s t e = grind (arith, common_steps, old_entry, turned, any_swapped)
 
 -- ---- the number of pairs
 
@@ -139,20 +133,9 @@ has_room old new f a b held free =
 pub held_one : (old new : Image) (f g : Found) (x : Pair) → HoldsFound old new f → is_free old new (pairs_of f.pairs.items) x.old.0 x.new.0 ≡ true
     → HasEntries old.words g.partners → HasEntries new.words g.originals → partners_in old g ≡ set (partners_in old f) x.old.0 x.new.0 → originals_in new g ≡ set (originals_in new f) x.new.0 x.old.0
     → g.pairs.items ≡ f.pairs.items ++ x ∷ [] → vec_capacity g.pairs ≡ vec_capacity f.pairs → HoldsFound old new g
-held_one old new f g x held free old_entries new_entries e1 e2 e3 e4 = grind (arith, common_steps, length_by_address, free_parts, low_start, start_within, pairs_push, eqb-true, old_entry, new_entry, holds_one, swapped_push, taken_one, length-append)
+held_one old new f g x held free old_entries new_entries e1 e2 e3 e4 = grind (arith, common_steps, length_by_address, free_parts, low_start, start_within, pairs_push, eqb-true, old_entry, turned, any_swapped, holds_one, swapped_push, taken_one, length-append)
 
 -- ---- no pairs
-
-holds_none : (row : List ℕ) (n : ℕ) → row ≡ replicate n 0 → HoldsPartners row []
-holds_none row n e = grind (arith, common_steps, ne_eqb, nothing_at)
-
-pub held_none : (old new : Image) (f : Found) → HasEntries old.words f.partners → HasEntries new.words f.originals → partners_in old f ≡ replicate (length old.words) 0 → originals_in new f ≡ replicate (length new.words) 0 → f.pairs.items ≡ [] → vec_capacity f.pairs ≡ starts_from old.words 0 (length old.words)
-    → HoldsFound old new f
-held_none old new f old_entries new_entries e1 e2 e3 e4 = grind (arith, common_steps, holds_none, taken_none)
-
--- no more pairs are found than the old image has words
-pub few_found : (old new : Image) (f : Found) → HoldsFound old new f → length f.pairs.items ≤ length old.words
-few_found old new f held = let most : taken_in (partners_in old f) ≤ length (partners_in old f) = taken_few (partners_in old f) in omega (arith, held.count, length_by_address old.words f.partners, most)
 
 -- ---- pairs by their places
 

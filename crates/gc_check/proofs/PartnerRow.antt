@@ -1,12 +1,11 @@
 -- Pairs are entered into the table of partners, one after the other.
 use Rattle.std.proofs.lemmas.Grind.{common_steps}
-use Rattle.std.proofs.Common.{◌≡◌, ℕ, ◌+◌, ◌<◌, ◌≤◌, Bool, true, false, ◌&&◌, ◌||◌, ◌==◌, List, [], ◌∷◌, ◌++◌, length, take, drop, get_or, set, Option, Some, None, refl, sym, ◌∙◌, ap, subst, arith}
+use Rattle.std.proofs.Common.{◌≡◌, ℕ, ◌+◌, ◌<◌, ◌≤◌, Bool, true, ◌||◌, ◌==◌, List, [], ◌∷◌, ◌++◌, length, take, drop, get_or, set, Option, Some, None, refl, sym, ◌∙◌, ap, subst, arith}
 use Rattle.std.specs.Prelude.{slice_index, nat_le}
 use Rattle.std.specs.List.{list_any}
 use Rattle.std.proofs.lemmas.Bool.{eqb-true, eq-eqb, ne_eqb, cases_eq, cases_Bool, not-false, or_right}
 use Rattle.std.proofs.lemmas.List.{map_more, at_drop_more, take-map}
 use Rattle.std.proofs.lemmas.List.Folds.{list_any-append}
-use Rattle.gc_graph.specs.Correspond.{paired}
 use Rattle.gc_words.specs.Image.{Image, is_start}
 use Rattle.gc_words.specs.Views.{addresses}
 use Rattle.gc_words.specs.Fault.{◌or_else◌, when, first_over_pairs, not_above_last, place_fault, place_faults}
@@ -20,18 +19,12 @@ use Rattle.gc_words.proofs.Public.{or_none, when_none}
 
 -- ---- the table of partners
 
-or_false : (b : Bool) → (b || false) ≡ b
-or_false b = grind (arith, common_steps)
-
-paired_push : (pairs : List (ℕ × ℕ)) (p : ℕ × ℕ) (a b : ℕ) → paired (pairs ++ p ∷ []) a b ≡ (paired pairs a b || ((p.0 == a) && (p.1 == b)))
-paired_push pairs p a b = grind (arith, common_steps, list_any-append, or_false)
-
 taken_push : (pairs : List (ℕ × ℕ)) (p : ℕ × ℕ) (a : ℕ) → list_any (λ q. q.0 == a) (pairs ++ p ∷ []) ≡ (list_any (λ q. q.0 == a) pairs || (p.0 == a))
-taken_push pairs p a = list_any-append (λ q. q.0 == a) pairs (p ∷ []) ∙ ap (λ t. list_any (λ q. q.0 == a) pairs || t) (or_false (p.0 == a))
+taken_push pairs p a = grind (arith, common_steps, list_any-append)
 
 -- one more pair, whose old address is free
 pub holds_one : (row : List ℕ) (pairs : List (ℕ × ℕ)) (p : ℕ × ℕ) → p.0 < length row → 1 ≤ p.1 → slice_index row p.0 ≡ 0 → HoldsPartners row pairs → HoldsPartners (set row p.0 p.1) (pairs ++ p ∷ [])
-holds_one row pairs p inside low free h = grind (arith, common_steps, cases_eq, ne_eqb, paired_push, eq-eqb, or_false, taken_push, or_right)
+holds_one row pairs p inside low free h = grind (arith, common_steps, cases_eq, ne_eqb, list_any-append, eq-eqb, taken_push, or_right)
 
 -- ---- new addresses rise
 

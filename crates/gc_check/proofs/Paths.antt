@@ -3,8 +3,8 @@ use Rattle.std.proofs.lemmas.Grind.{common_steps}
 use Rattle.std.proofs.Common.{◌≡◌, ℕ, suc, zero, true, List, [], ◌∷◌, length, take, Option, Some, None, refl, ap, subst, arith}
 use Rattle.std.specs.Prelude.{slice_get}
 use Rattle.std.specs.List.{AllZip}
-use Rattle.gc_graph.specs.Graph.{Value, Ref, Object, Graph, object_of, field_of, follow, at_path, Reachable, fresh_name}
-use Rattle.gc_graph.specs.Correspond.{paired, correspond, Agree, EqualFieldByField, Corresponding}
+use Rattle.gc_graph.specs.Graph.{Value, Ref, Graph, object_of, field_of, follow, at_path, Reachable, fresh_name}
+use Rattle.gc_graph.specs.Correspond.{paired, correspond, Agree, Corresponding}
 use Rattle.gc_graph.specs.Machine.{Roomy, roomy_step}
 use Rattle.gc_graph.specs.Runs.{replies}
 use Rattle.gc_graph.specs.declared.command.Op.{Op}
@@ -17,11 +17,8 @@ module _ (pairs : List (ℕ × ℕ)) (g h : Graph) (c : Corresponding pairs g h)
   get_agrees (v ∷ vs) (w ∷ ws) zero z = z.0
   get_agrees (v ∷ vs) (w ∷ ws) (suc i) z = get_agrees vs ws i z.1
 
-  object_agrees : (o q : Option Object) (i : ℕ) → EqualFieldByField pairs o q → Agree pairs (field_of o i) (field_of q i)
-  object_agrees o q i e = grind (arith, common_steps, get_agrees)
-
   field_agrees : (v w : Value) (i : ℕ) → correspond pairs v w ≡ true → Agree pairs (field_of (object_of g.objects v) i) (field_of (object_of h.objects w) i)
-  field_agrees v w i e = grind (arith, common_steps, object_agrees)
+  field_agrees v w i e = grind (arith, common_steps, get_agrees)
 
   follow_agrees : (fields : List ℕ) (v w : Option Value) → Agree pairs v w → Agree pairs (follow g.objects v fields) (follow h.objects w fields)
   follow_agrees fields None None a = tt
@@ -35,11 +32,8 @@ module _ (pairs : List (ℕ × ℕ)) (g h : Graph) (c : Corresponding pairs g h)
 
   -- ---- replicas
 
-  value_partner : (a : ℕ) (w : Value) → correspond pairs (Ref a) w ≡ true → (b : ℕ) × (paired pairs a b ≡ true)
-  value_partner a w e = grind (arith, common_steps)
-
   partner : (a : ℕ) (w : Option Value) → Agree pairs (Some (Ref a)) w → (b : ℕ) × (paired pairs a b ≡ true)
-  partner a w e = grind (arith, common_steps, value_partner)
+  partner a w e = grind (arith, common_steps)
 
   reached_partner : (a : ℕ) → Reachable g a → (b : ℕ) × (paired pairs a b ≡ true)
   reached_partner a r = partner a (at_path h r.0 r.1) (subst (λ v. Agree pairs v (at_path h r.0 r.1)) r.2 (paths_agree r.0 r.1))

@@ -32,11 +32,8 @@ image_fault old new =
     or_else at_place (shape_fault new) (λ at. NewShape at)
     or_else when (not (length old.roots == length new.roots)) RootCount
 
-images_fit : (old new : Image) → image_fault old new ≡ None → Fits old new
-images_fit old new e = grind (arith, common_steps, or_none, shaped, at_place_none, eqb-true, not-false, when_none)
-
 pub table_parts : (old new : Image) (pairs : List (ℕ × ℕ)) → table_fault old new pairs ≡ None → Fits old new × (place_faults old new pairs ≡ None)
-table_parts old new pairs e = grind (arith, common_steps, or_none, images_fit)
+table_parts old new pairs e = grind (arith, common_steps, or_none, shaped, at_place_none, eqb-true, not-false, when_none)
 
 -- ---- pairs join starts
 
@@ -70,11 +67,8 @@ none_unequal i (w ∷ ws) = none_unequal (suc i) ws ∙ sym (ap (λ t. cond t (f
 
 -- ---- an image that is not shaped is the first fault
 
-pub refused_first : (x y : Option Refusal) (f : CheckFault) → IsRefusalOf x f → IsRefusalOf (x or_else y) f
-refused_first x y f is = grind (arith, common_steps)
-
 pub old_refused : (old new : Image) (pairs : List (ℕ × ℕ)) (f : CheckFault) → IsRefusalOf (at_place (shape_fault old) (λ at. OldShape at)) f → IsRefusalOf (table_fault old new pairs) f
-old_refused old new pairs f is = refused_first _ _ f (refused_first _ _ f (refused_first _ _ f is))
+old_refused old new pairs f is = grind (arith, common_steps)
 
 pub new_refused : (old new : Image) (pairs : List (ℕ × ℕ)) (f : CheckFault) → shape_fault old ≡ None → IsRefusalOf (at_place (shape_fault new) (λ at. NewShape at)) f → IsRefusalOf (table_fault old new pairs) f
-new_refused old new pairs f none is = grind (arith, common_steps, refused_first)
+new_refused old new pairs f none is = grind (arith, common_steps)

@@ -1,12 +1,12 @@
 -- Two places at a time, pairs are appended in the order of their new addresses.
 use Rattle.std.proofs.lemmas.Grind.{common_steps}
-use Rattle.std.proofs.Common.{◌≡◌, ℕ, ◌+◌, ◌*◌, ◌≤◌, List, length, drop, ◌∙◌, ap, arith}
+use Rattle.std.proofs.Common.{◌≡◌, ℕ, ◌+◌, ◌*◌, List, drop, ◌∙◌, ap, arith}
 use Rattle.std.specs.Prelude.{slice_index}
 use Rattle.std.proofs.lemmas.Bool.{eq-eqb, cases_lt}
 use Rattle.std.proofs.lemmas.List.{drop_all, drop_more}
 use Rattle.gc_check.specs.Internal.Meetings.{risen, taken_in}
 use Rattle.gc_check.specs.Internal.Tables.{HasEntries, by_address}
-use Rattle.gc_check.proofs.ByAddress.{length_by_address, zero_at}
+use Rattle.gc_check.proofs.ByAddress.{zero_at}
 
 -- the pairs from a place on are those from the next one on
 pub record Passed (row : List ℕ) (place next : ℕ) : Type 0 where
@@ -29,7 +29,3 @@ both_passed words entries half h none =
   where
     next_is : 2 * half + 1 + 1 ≡ 2 * (half + 1)
     next_is = omega arith
-
--- no place is left behind the last entry
-pub none_left : (words entries : List ℕ) (half : ℕ) → HasEntries words entries → length entries ≤ half → length (by_address words entries) ≤ 2 * half
-none_left words entries half h past = omega (arith, h.len, length_by_address words entries, past)

@@ -1,6 +1,6 @@
 -- Small images mean the same if only words of small spaces are values: words, certificates and first faults.
 use Rattle.std.proofs.lemmas.Grind.{common_steps}
-use Rattle.std.proofs.Common.{◌≡◌, ◌⊎◌, inl, inr, ℕ, ◌/◌, ◌<◌, ◌≤◌, ◌==◌, true, false, cond, List, [], ◌∷◌, Option, Some, None, refl, sym, ap, ◌∙◌, subst, arith}
+use Rattle.std.proofs.Common.{◌≡◌, ◌⊎◌, inl, inr, ℕ, ◌/◌, ◌<◌, ◌≤◌, ◌==◌, true, false, cond, List, [], ◌∷◌, Option, Some, None, refl, sym, ap, subst, arith}
 use Rattle.std.specs.List.{All, AllZip}
 use Rattle.std.specs.Prelude.{◌↔◌, is_some, IsTrue, IsOk}
 use Rattle.std.proofs.lemmas.Bool.{cases_Bool, cond-true, cond-false, or_cases, or_left, or_right, or_parts, ltb-true, leb-true, lt-ltb, ltb-false, ne_eqb, false_from_ne_true}
@@ -34,18 +34,12 @@ far w large wide = grind (arith, common_steps, or_parts, ltb-false, ne_eqb, cond
 reads : (w : ℕ) → Reads w
 reads w = grind (arith, common_steps, cases_Bool, cond-true, wider, far, cond-false)
 
-none_right : (pairs : List (ℕ × ℕ)) (o : Option Value) → read_correspond pairs o None ≡ false
-none_right pairs o = grind (arith, common_steps)
-
 module _ (pairs : List (ℕ × ℕ)) (below : (a b : ℕ) → paired pairs a b ≡ true → (a < 1048576) × (b < 1048576)) where
-  far_left : (a : ℕ) (o : Option Value) → 1048576 ≤ a → read_correspond pairs (Some (Ref a)) o ≡ false
-  far_left a o high = grind (arith, common_steps, false_from_ne_true)
-
   far_right : (o : Option Value) (b : ℕ) → 1048576 ≤ b → read_correspond pairs o (Some (Ref b)) ≡ false
   far_right o b high = grind (arith, common_steps, false_from_ne_true)
 
   same_words : (v w : ℕ) → small_words_correspond pairs v w ≡ words_correspond pairs v w
-  same_words v w = grind (arith, common_steps, reads, far_left, none_right, far_right)
+  same_words v w = grind (arith, common_steps, reads, false_from_ne_true, far_right)
 
 -- ---- pairs
 
@@ -137,10 +131,6 @@ module _ (old new : Image) (pairs : List (ℕ × ℕ)) where
 
 -- ---- first faults
 
--- the conditions that come first may be grouped by themselves
-grouped : {X : Type 0} (a b t c d : Option X) → ((a or_else b or_else t) or_else c or_else d) ≡ (a or_else b or_else (t or_else c or_else d))
-grouped a b t c d = grind (arith, common_steps)
-
 -- an image without a fault is small and shaped
 small_and_shaped : (image : Image) → small_shape_fault image ≡ None → (image.size ≤ 1048576) × (shape_fault image ≡ None)
 small_and_shaped image e = grind (arith, common_steps, leb-true)
@@ -171,8 +161,4 @@ module _ (old new : Image) (pairs : List (ℕ × ℕ)) where
       same_where_joined old new pairs parts.0.old_shaped parts.0.new_shaped first.0 second.0 (λ j d inside. all_join old new pairs pairs 0 j d parts.1 inside)
 
   pub fault_same : first_fault_as_small old new pairs ≡ first_small_fault old new pairs
-  fault_same = go (small_table_fault old new pairs) refl ∙ grouped (at_place (small_shape_fault old) (λ at. OldShape at)) (at_place (small_shape_fault new) (λ at. NewShape at)) (table_fault old new pairs) (object_faults old new pairs) (root_fault old new pairs)
-    where
-      go : (t : Option Refusal) → small_table_fault old new pairs ≡ t
-          → (small_table_fault old new pairs or_else small_objects or_else small_roots) ≡ (small_table_fault old new pairs or_else object_faults old new pairs or_else root_fault old new pairs)
-      go t is = grind (arith, common_steps, same_rest, no_table_fault)
+  fault_same = grind (arith, common_steps, same_rest, no_table_fault)

@@ -5,15 +5,14 @@ use Rattle.std.specs.Prelude.{slice_index, IsOk}
 use Rattle.std.specs.Int.{bit_at}
 use Rattle.std.proofs.lemmas.Nat.Bits.{bit_at-zero}
 use Rattle.std.proofs.lemmas.Bool.{eq-eqb, ne_eqb, cases_eq}
-use Rattle.std.proofs.lemmas.List.{length-replicate, drop_all}
+use Rattle.std.proofs.lemmas.List.{length-replicate}
 use Rattle.gc_words.specs.Word.{header_in}
-use Rattle.gc_words.specs.Image.{Block, walk_all, walk_words, with_front, ok_or_nil, block_in, block_at, header_of, header_at, is_start}
-use Rattle.gc_words.specs.Fault.{fault_of_walk}
-use Rattle.gc_words.specs.Walking.{next_after, next_in, next_of, walk_on, walk_from, block_from, StandsIn}
+use Rattle.gc_words.specs.Image.{Block, walk_words, with_front, ok_or_nil, block_in, block_at, header_of, header_at, is_start}
+use Rattle.gc_words.specs.Walking.{next_after, next_in, next_of, walk_from, block_from, StandsIn}
 use Rattle.gc_words.specs.declared.header.Header.{Header}
-use Rattle.gc_words.proofs.Public.{step, at_end, Behind, behind, has_start_from, stands_in, header_counted, same_walk}
+use Rattle.gc_words.proofs.Public.{step, Behind, behind, has_start_from, stands_in, header_counted}
 use Rattle.gc_check.specs.Internal.Starts.{starts_from}
-use Rattle.gc_check.specs.Internal.Tables.{is_marked, MarksStarts}
+use Rattle.gc_check.specs.Internal.Tables.{is_marked}
 
 -- if the walk reaches the end, the starts are the marked places and those still to come from `at` on
 pub record MarksTo (words bits : List ℕ) (at : ℕ) : Type 0 where
@@ -63,11 +62,6 @@ marks_next raws words bits after at next inside e long here_marked others before
 
     starts : IsOk (walk_from words next) → (place : ℕ) → cond (is_marked after place) true (has_start_from words next place) ≡ is_start words place
     starts ok place = grind (arith, common_steps, has_start_from, cases_eq, here, eq-eqb, walked, ne_eqb)
-
--- the walk has reached the end
-pub all_marked : (raws : Bool) (words bits : List ℕ) (at : ℕ) → length words ≤ at → fault_of_walk (walk_all raws words) ≡ fault_of_walk (walk_on raws words at) → MarksTo words bits at
-    → (fault_of_walk (walk_all raws words) ≡ None) × MarksStarts words bits
-all_marked raws words bits at past same m = grind (arith, common_steps, same_walk, drop_all, at_end, has_start_from)
 
 -- ---- an object starts at each mark
 

@@ -11,13 +11,9 @@ use Rattle.gc_check.specs.declared.verdict.Verdict.{Verdict}
 abbrev HasOneReading : Type 0
 HasOneReading = (f g : CertifiedPair) (text : List ℕ) → IsTextOf f text → IsTextOf g text → f ≡ g
 
-of_each_reading : HasOneReading → (o : Option (List ℕ)) (P : CertifiedPair → Type 0) (file : CertifiedPair) → IfSome o (λ text. IsReadAsPair file text) → P file
-    → IfSome o (λ text. (pair : CertifiedPair) → IsReadAsPair pair text → P pair)
-of_each_reading one o P file read holds = search (rules)
-
 pub each_reading : {E : Type 0} → HasOneReading → (r : Result Verdict E) (P : Verdict → CertifiedPair → Type 0) (file : CertifiedPair) → IfOk r (λ verdict. P verdict file)
     → IfOk r (λ verdict. (o : Option (List ℕ)) → IfSome o (λ text. IsReadAsPair file text) → IfSome o (λ text. (pair : CertifiedPair) → IsReadAsPair pair text → P verdict pair))
-each_reading one r P file holds = search (rules, of_each_reading)
+each_reading one r P file holds = search (rules)
 
 pub front_of_text : (o : Option (List ℕ)) (v : Verdict) (file : CertifiedPair) (old new : Option (List ℕ)) → IfSome o (λ text. IsReadAsPair file text) → v ≡ verdict_on file → SendsFront old new (verdict_line v)
     → TellsFront o old new

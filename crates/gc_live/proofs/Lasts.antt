@@ -1,17 +1,16 @@
 -- A standing checker that is not lost stays so, and its tables go on knowing the heap: the collector's steps.
 use Rattle.std.proofs.lemmas.Grind.{common_steps}
-use Rattle.std.proofs.Common.{◌≡◌, ◌⊎◌, inl, inr, ⊎_elim, ℕ, ◌<◌, ◌≤◌, ◌==◌, Bool, true, false, cond, List, [], ◌∷◌, length, Option, Some, None, refl, ap, sym, ◌∙◌, subst, arith}
+use Rattle.std.proofs.Common.{◌≡◌, ◌⊎◌, ⊎_elim, ℕ, ◌<◌, ◌≤◌, Bool, true, false, cond, List, ◌∷◌, length, Option, Some, None, refl, ap, sym, ◌∙◌, subst, arith}
 use Rattle.std.specs.Prelude.{IfSome, IsTrue}
 use Rattle.gc_words.specs.Spelling.{no_links}
 use Rattle.gc_plan.specs.State.{Collection, State}
-use Rattle.gc_along.specs.Watch.{opening}
 use Rattle.gc_plan.specs.Linked.{LeadsToOpen}
 use Rattle.gc_plan.specs.Steps.{is_ready, log_at, apply_log, collect, collect_with, step_in, with_collection, fresh_collection, flipped, passes_check}
 use Rattle.gc_plan.specs.Belonging.{IsSpaceGraph, IsOpened, IsOpen}
 use Rattle.gc_plan.specs.declared.step.Step.{Step}
 use Rattle.gc_plan.specs.declared.step.Step.TheVariants as steps
 use Rattle.gc_plan.specs.declared.step.StepReply.{StepReply}
-use Rattle.gc_plan.specs.declared.step.StepReply.TheVariants.{Idle, Copied, Passed, Scanned, Applied, NotReady, Refused, Flipped}
+use Rattle.gc_plan.specs.declared.step.StepReply.TheVariants.{Copied, Passed, Scanned, Applied, NotReady, Refused, Flipped}
 use Rattle.std.proofs.lemmas.List.{length-map, length-replicate}
 use Rattle.gc_plan.proofs.Public.{begun_belongs, steps_stay}
 use Rattle.gc_core.specs.Flip.{flip_pair, HasAccepted, IsSureIfReady}
@@ -182,19 +181,7 @@ lasts_dropped s s' reply t after heap is_open said stays freed live k = go s.col
       where
         -- no replica was there
         nothing_freed : s.collection ≡ None → Knows s (fresh_collection s.mutators 1) after
-        nothing_freed e =
-            let w = subst (λ o. GoesBeside s o (watch_of t)) e (goes_of s t live k.found) in
-            let fresh : Knows s (fresh_collection s.mutators 1) t = subst (λ o. Knows s (open_or_fresh s o) t) e k.knows in
-            let opened : IsOpened s (fresh_collection s.mutators 1) = record { belongs = begun_belongs s.heap.graph.objects s.mutators 1 heap.numbers (omega arith); size = omega arith; logs = length-replicate s.mutators [] } in
-            dropped_known s (fresh_collection s.mutators 1) t after heap opened (record {
-              fits = record {
-                pairs = ap (λ (w : Rattle.gc_along.specs.Watch.Watch). w.pairs) w;
-                old_seen = ap (λ (w : Rattle.gc_along.specs.Watch.Watch). w.old_seen) w;
-                new_seen = ap (λ (w : Rattle.gc_along.specs.Watch.Watch). w.new_seen) w;
-                row = length-map t.news (λ code. code == 3);
-              };
-              replicas = λ r l. absurd l;
-            }) fresh some_room (freed found)
+        nothing_freed e = grind (arith, common_steps, goes_of, found, begun_belongs, length-replicate, dropped_known, length-map, some_room)
     go (Some c) e u = is_fresh (sym (ap (λ (x : StepReply × State). x.1) u)) (dropped_known s c t after heap (subst (IsOpen s) e is_open) (goes_in s c t e live k.found) (knows_in s c t e k) some_room (freed found))
 
 pub lasts_flipped : (s s' : State) (c : Collection) (t after : Tables) → IsSpaceGraph s.size s.heap.free s.heap.graph → s.collection ≡ Some c → IsOpened s c → s' ≡ flipped s c → (t.lost ≡ false → after.lost ≡ false) → (after.lost ≡ false → after ≡ flipped_tables t)
@@ -221,16 +208,13 @@ flip_step s s' reply said = go s.collection refl said
     reply_is r x e = ap (λ (p : StepReply × State). p.0) e
 
     checked : (c : Collection) → s.collection ≡ Some c → (b : Bool) → ◌≡◌ {A = StepReply × State} (cond b (Flipped (length c.replicas), flipped s c) (Refused, s)) (reply, s') → Is
-    checked c e true u = inr (c, e, sym (ap (λ (p : StepReply × State). p.1) u), length c.replicas, sym (reply_is (Flipped (length c.replicas)) (flipped s c) u))
-    checked c e false u = inl (sym (ap (λ (p : StepReply × State). p.1) u), λ n f. absurd (let no : Refused ≡ Flipped n = reply_is Refused s u ∙ f in cc))
+    checked c e b u = grind (arith, common_steps, reply_is)
 
     ready : (c : Collection) → s.collection ≡ Some c → (b : Bool) → ◌≡◌ {A = StepReply × State} (cond b (cond (passes_check s c) (Flipped (length c.replicas), flipped s c) (Refused, s)) (NotReady, s)) (reply, s') → Is
-    ready c e true u = checked c e (passes_check s c) u
-    ready c e false u = inl (sym (ap (λ (p : StepReply × State). p.1) u), λ n f. absurd (let no : NotReady ≡ Flipped n = reply_is NotReady s u ∙ f in cc))
+    ready c e b u = grind (arith, common_steps, checked, reply_is)
 
     go : (o : Option Collection) → s.collection ≡ o → collect_with s o steps.Flip ≡ (reply, s') → Is
-    go None e u = inl (sym (ap (λ (p : StepReply × State). p.1) u), λ n f. absurd (let no : Idle ≡ Flipped n = reply_is Idle s u ∙ f in cc))
-    go (Some c) e u = ready c e (is_ready c s.heap.graph) u
+    go o e u = grind (arith, common_steps, reply_is, ready)
 
 pub both_flipped : (along : Bool) (s s' : State) (reply : StepReply) (n : ℕ) (t after : Tables) → IsSpaceGraph s.size s.heap.free s.heap.graph → IsOpen s s.collection → collect s steps.Flip ≡ (reply, s') → reply ≡ Flipped n
     → (t.lost ≡ true → after.lost ≡ true) → (after.lost ≡ false → after ≡ flipped_tables t) → (t.lost ≡ false → after.lost ≡ false) → IsLive s t × (along ≡ true → IsNeverLost s t) → IsLive s' after × (along ≡ true → IsNeverLost s' after)

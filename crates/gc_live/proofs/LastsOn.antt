@@ -19,7 +19,6 @@ use Rattle.gc_plan.specs.Steps.{log_at, log_or_nil, logged, mutate, with_log, wr
 use Rattle.gc_plan.specs.Members.{In}
 use Rattle.gc_plan.specs.Belonging.{IsLogged, IsSpaceGraph, IsOpened, IsOpen}
 use Rattle.gc_plan.proofs.Public.{WrittenBy, root_fine, laid_range, in_right, pair, replicas_end}
-use Rattle.gc_core.specs.CollectedHeap.{fill_step, filled, new_from_step}
 use Rattle.gc_core.specs.ExtraRoots.{clear_step}
 use Rattle.gc_plan.specs.Linked.{LeadsToOpen}
 use Rattle.gc_along.specs.Claims.{CanMake, CanWrite}
@@ -92,37 +91,6 @@ pub lasts_new : (s s' : State) (m : ℕ) (op : Op) (reply : Reply) (t after : Ta
 lasts_new s s' m op reply t after raw d kind len links old is said before later words stays made live k =
     lasts_made s s' t after links old later words (ends_more s s' m op reply raw d kind len is before said) (new_end s s' op (continues_one s s' m op reply said)) stays made live k
 
--- ---- an object made and filled
-
-fill_quiet : (fields : List SlotName) (s : State) (m : ℕ) (d : SlotName) (i : ℕ) → Continues s (fill_step s m d i fields) NoName
-fill_quiet [] s m d i = continues_same s NoName
-fill_quiet (t ∷ rest) s m d i =
-    let next = mutate s m (ops.Put d i t) in
-    quiet_two s next.1 (fill_step next.1 m d (suc i) rest) (quiet_one s next.1 m (ops.Put d i t) next.0 refl refl) (fill_quiet rest next.1 m d (suc i))
-
-filled_quiet : (reply : Reply) (made : State) (m : ℕ) (d : SlotName) (fields : List SlotName) → Continues made (filled reply made m d fields) NoName
-filled_quiet replies.Full made m d fields = continues_same made NoName
-filled_quiet replies.Made made m d fields = fill_quiet fields made m d 0
-filled_quiet replies.Done made m d fields = fill_quiet fields made m d 0
-filled_quiet replies.NoObject made m d fields = fill_quiet fields made m d 0
-filled_quiet replies.NoField made m d fields = fill_quiet fields made m d 0
-filled_quiet replies.NoNumber made m d fields = fill_quiet fields made m d 0
-filled_quiet (replies.Saw view) made m d fields = fill_quiet fields made m d 0
-filled_quiet replies.Yes made m d fields = fill_quiet fields made m d 0
-filled_quiet replies.No made m d fields = fill_quiet fields made m d 0
-
-pub lasts_filled : (s s' : State) (m : ℕ) (d : SlotName) (kind : ℕ) (fields : List SlotName) (reply : Reply) (t after : Tables) (links : ℕ → ℕ) (old : List ℕ) → EndsMore s s' → new_from_step s m d kind fields ≡ (reply, s')
-    → IsSpaceGraph s'.size s'.heap.free s'.heap.graph → old ≡ heap_words links s'
-    → (t.lost ≡ false → CanMake old t → after.lost ≡ false) → (after.lost ≡ false → Made old t after) → IsLive s t → IsNeverLost s t → IsNeverLost s' after
-lasts_filled s s' m d kind fields reply t after links old more said later words stays made live k = lasts_made s s' t after links old later words more on stays made live k
-  where
-    on : Continues s s' (NewEnd s)
-    on =
-        let first = mutate s m (ops.New d kind (length fields)) in
-        subst (λ (x : State). Continues s x (NewEnd s)) (ap (λ (x : Reply × State). x.1) said)
-        (continues_on s first.1 (filled first.0 first.1 m d fields) (NewEnd s) NoName (NewEnd s) (λ a n. n) (λ a n. absurd n)
-        (new_end s first.1 (ops.New d kind (length fields)) (continues_one s first.1 m (ops.New d kind (length fields)) first.0 refl)) (filled_quiet first.0 first.1 m d fields))
-
 -- ---- fields written
 
 -- the checker beside the open collection of a state
@@ -143,10 +111,7 @@ beside s s' d t on end there live k = record {
     refit c same f = grind (arith, common_steps, pair, replicas_end)
 
     go : (o : Option Collection) → s.collection ≡ o → (p : Option Collection) → p ≡ Some d → SameOpen o p → GoesBeside s o (watch_of t) → Fits (heap_end s') d (watch_of t)
-    go None e None f same g = absurd (let no : None ≡ Some d = f in cc)
-    go None e (Some x) f same g = absurd same
-    go (Some c) e None f same g = absurd same
-    go (Some c) e (Some x) f same g = refit c (let is : x ≡ d = cc f in subst (SameBut c) is same) g.fits
+    go o e p f same g = grind (arith, common_steps, refit)
 
 module _ (s : State) (d : Collection) (there : s.collection ≡ Some d) (heap : IsSpaceGraph s.size s.heap.free s.heap.graph) (opened : IsOpened s d) where
   -- one of them is told
@@ -174,11 +139,8 @@ HasLog (Some c) m = m < length c.logs
 pub log_of_open : (s : State) (m : ℕ) → IsOpen s s.collection → m < s.mutators → HasLog s.collection m
 log_of_open s m is_open less = grind (arith, common_steps)
 
-log_stays : (o : Option Collection) (m n : ℕ) (more : List (ℕ × ℕ)) → HasLog o m → HasLog (logged o n more) m
-log_stays o m n more h = grind (arith, common_steps)
-
 pub log_after : (s s' : State) (m n : ℕ) (op : Op) (reply : Reply) → mutate s n op ≡ (reply, s') → HasLog s.collection m → HasLog s'.collection m
-log_after s s' m n op reply said h = subst (λ (x : Reply × State). HasLog x.1.collection m) said (log_stays s.collection m n _ h)
+log_after s s' m n op reply said h = grind (arith, common_steps)
 
 log_new : (logs : List (List (ℕ × ℕ))) (m : ℕ) (more : List (ℕ × ℕ)) (e : ℕ × ℕ) → m < length logs → In e more → In e (log_or_nil (slice_get (slice_set logs m (log_or_nil (slice_get logs m) ++ more)) m))
 log_new [] m more e less l = absurd (omega arith)
@@ -196,27 +158,15 @@ noted s s' m op reply a i has said w d there = go s.collection has (ap (λ (x : 
 
 -- ---- one field, by the last of some commands
 
-pub lasts_written_by : (s mid s' : State) (m : ℕ) (put : Op) (reply : Reply) (old : List ℕ) (t after : Tables) (a i : ℕ) → HasLog mid.collection m → IsOpen s' s'.collection → IsSpaceGraph s'.size s'.heap.free s'.heap.graph
+pub lasts_written : (s mid s' : State) (m : ℕ) (put : Op) (reply : Reply) (old : List ℕ) (t after : Tables) (a i : ℕ) → HasLog mid.collection m → IsOpen s' s'.collection → IsSpaceGraph s'.size s'.heap.free s'.heap.graph
     → Continues s mid NoName → heap_end s ≡ heap_end mid → mutate mid m put ≡ (reply, s') → words_taken put ≡ 0 → WrittenBy mid.heap.graph m put reply a i → (s.collection ≡ None → ⊥) → AreOld s' old
     → (t.lost ≡ false → CanWrite old a i t → after.lost ≡ false) → (after.lost ≡ false → Wrote a i t after) → IsLive s t → IsNeverLost s t → IsNeverLost s' after
-lasts_written_by s mid s' m put reply old t after a i has is_open heap first end said none wrote_it not_closed is stays wrote live k =
+lasts_written s mid s' m put reply old t after a i has is_open heap first end said none wrote_it not_closed is stays wrote live k =
     let on = quiet_two s mid s' first (quiet_one mid s' m put reply said none) in
     let d = open_after s s' on not_closed in
     let opened : IsOpened s' d.0 = subst (IsOpen s') d.1 is_open in
     let b = beside s s' d.0 t on (end ∙ end_by mid s' m put reply said none) d.1 live k in
     beside_lasts s' d.0 d.1 heap opened after (told_write s' d.0 d.1 heap opened old t after a i is b (noted mid s' m put reply a i has said wrote_it d.0 d.1) stays wrote)
-
-pub lasts_written : (s s' : State) (m : ℕ) (put : Op) (reply : Reply) (old : List ℕ) (t after : Tables) (a i : ℕ) → IsOpen s s.collection → IsOpen s' s'.collection → IsSpaceGraph s'.size s'.heap.free s'.heap.graph → m < s.mutators
-    → mutate s m put ≡ (reply, s') → words_taken put ≡ 0 → WrittenBy s.heap.graph m put reply a i → (s.collection ≡ None → ⊥) → AreOld s' old
-    → (t.lost ≡ false → CanWrite old a i t → after.lost ≡ false) → (after.lost ≡ false → Wrote a i t after) → IsLive s t → IsNeverLost s t → IsNeverLost s' after
-lasts_written s s' m put reply old t after a i is_open is_open' heap less said none wrote_it not_closed is stays wrote live k =
-    lasts_written_by s s s' m put reply old t after a i (log_of_open s m is_open less) is_open' heap (continues_same s NoName) refl said none wrote_it not_closed is stays wrote live k
-
-pub lasts_number : (s mid s' : State) (m : ℕ) (op : Op) (one : Reply) (put : Op) (reply : Reply) (old : List ℕ) (t after : Tables) (a i : ℕ) → IsOpen s s.collection → IsOpen s' s'.collection → IsSpaceGraph s'.size s'.heap.free s'.heap.graph → m < s.mutators
-    → mutate s m op ≡ (one, mid) → words_taken op ≡ 0 → mutate mid m put ≡ (reply, s') → words_taken put ≡ 0 → WrittenBy mid.heap.graph m put reply a i → (s.collection ≡ None → ⊥) → AreOld s' old
-    → (t.lost ≡ false → CanWrite old a i t → after.lost ≡ false) → (after.lost ≡ false → Wrote a i t after) → IsLive s t → IsNeverLost s t → IsNeverLost s' after
-lasts_number s mid s' m op one put reply old t after a i is_open is_open' heap less first none said none' wrote_it not_closed is stays wrote live k =
-    lasts_written_by s mid s' m put reply old t after a i (log_after s mid m m op one first (log_of_open s m is_open less)) is_open' heap (quiet_one s mid m op one first none) (end_by s mid m op one first none) said none' wrote_it not_closed is stays wrote live k
 
 -- ---- both at once
 
@@ -274,7 +224,7 @@ both_put along s mid s' m op one d i v reply old t after o a is_open is_open' he
     let wrote_it = ap (λ (w : Value). map (λ (name : ℕ). (name, i)) (names_of w)) there in
     let some = was_open s mid s' m op one replies.Done (ops.Put d i v) first put later in (
       lives_number s mid s' m op one replies.Done (ops.Put d i v) t after a.0 i is_open first none quiet put refl (inr (low, wrote_it, (lost, wrote))) some h.0,
-      λ on. lasts_number s mid s' m op one (ops.Put d i v) replies.Done old t after a.0 i is_open is_open' heap less first none put refl (subst (In {X = ℕ × ℕ} (a.0, i)) (sym wrote_it) (inl refl)) some are stays wrote h.0 (h.1 on),
+      λ on. lasts_written s mid s' m (ops.Put d i v) replies.Done old t after a.0 i (log_after s mid m m op one first (log_of_open s m is_open less)) is_open' heap (quiet_one s mid m op one first none) (end_by s mid m op one first none) put refl (subst (In {X = ℕ × ℕ} (a.0, i)) (sym wrote_it) (inl refl)) some are stays wrote h.0 (h.1 on),
     )
 
 -- and it refers to one

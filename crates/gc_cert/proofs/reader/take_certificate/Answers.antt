@@ -10,8 +10,7 @@ use Rattle.gc_cert.specs.Internal.Sections.{Nothing, alone, AreAll}
 use Rattle.gc_cert.proofs.Forms.{alone_delimits, all_delimit}
 use Rattle.gc_cert.proofs.LineForms.{fixed_form, count_form, pair_form}
 use Rattle.gc_cert.proofs.Parts.{none_taken, CertificateSection, pairs_line, certificate_count, certificate_pairs, up_to_end, certificate_end, certificate_taken}
-use Rattle.gc_cert.proofs.ReadPieces.{end_within}
-use Rattle.gc_cert.proofs.Stops.{taken_then}
+use Rattle.gc_cert.proofs.ReadPieces.{end_within, taken_on}
 use Rattle.gc_cert.proofs.reader.take_certificate.Goals as goal
 
 pub returns-in_err-count-clause-place : goal.returns-in_err-count-clause-place
@@ -33,18 +32,16 @@ returns-in_err-take-clause-place g c text p h =
     let n = c.in_ok-count.count in
     let pairs = map addresses c.in_ok-pairs.pairs.items in
     let one = c.in_ok-count.ensures.place text p h in
-    let two = c.in_ok-pairs.ensures.place text one.0 one.1 in
+    let two = taken_on one.2 (c.in_ok-pairs.ensures.place text one.0 one.1) in
     rw (fault.1, fault.2) (end_within Nothing (alone (λ _. codes "end")) CertificateSection (up_to_end n pairs) text p two.0 _ _
-    (alone_delimits Nothing (λ _. codes "end") (is_line (codes "end")) (fixed_form (codes "end"))) (certificate_end n pairs c.in_ok-count.ensures.fits c.in_ok-pairs.ensures.fits)
-    (taken_then (pairs_line n ∷ []) (map pair_line pairs) p one.0 two.0 one.2 two.2) (c.in_err-take.ensures.place text two.0 two.1))
+    (alone_delimits Nothing (λ _. codes "end") (is_line (codes "end")) (fixed_form (codes "end"))) (certificate_end n pairs c.in_ok-count.ensures.fits c.in_ok-pairs.ensures.fits) two.2 (c.in_err-take.ensures.place text two.0 two.1))
 
 pub returns-clause-place : goal.returns-clause-place
 returns-clause-place g c text p h =
     let n = c.in_ok-count.count in
     let pairs = map addresses c.in_ok-pairs.pairs.items in
     let one = c.in_ok-count.ensures.place text p h in
-    let two = c.in_ok-pairs.ensures.place text one.0 one.1 in
-    let three = c.in_ok-take.ensures.place text two.0 two.1 in
-    let taken = certificate_taken n pairs p three.0 c.in_ok-count.ensures.fits c.in_ok-pairs.ensures.fits
-    (taken_then (up_to_end n pairs) (codes "end" ∷ []) p two.0 three.0 (taken_then (pairs_line n ∷ []) (map pair_line pairs) p one.0 two.0 one.2 two.2) three.2) in
+    let two = taken_on one.2 (c.in_ok-pairs.ensures.place text one.0 one.1) in
+    let three = taken_on two.2 (c.in_ok-take.ensures.place text two.0 two.1) in
+    let taken = certificate_taken n pairs p three.0 c.in_ok-count.ensures.fits c.in_ok-pairs.ensures.fits three.2 in
     (three.0, three.1, taken.1)

@@ -11,8 +11,7 @@ use Rattle.gc_cert.specs.Internal.Sections.{alone, AreAll}
 use Rattle.gc_cert.proofs.Forms.{alone_delimits, all_delimit}
 use Rattle.gc_cert.proofs.LineForms.{word_form, count_form, size_form}
 use Rattle.gc_cert.proofs.Parts.{none_taken, ImageSection, image_fits, image_sizes, image_words, image_count, up_to_count, image_roots, image_taken}
-use Rattle.gc_cert.proofs.ReadPieces.{end_within}
-use Rattle.gc_cert.proofs.Stops.{taken_then}
+use Rattle.gc_cert.proofs.ReadPieces.{end_within, taken_on}
 use Rattle.gc_cert.proofs.reader.take_image.Goals as goal
 
 pub returns-in_err-size-clause-place : goal.returns-in_err-size-clause-place
@@ -42,10 +41,10 @@ returns-in_err-count-clause-place g c text p h =
     let words = c.in_ok-words.words.items in
     let all : AreAll IsWord s.1 words = rw c.from.ensures at c.in_ok-words.ensures.fits in
     let one = c.in_ok-size.ensures.place text p h in
-    let two = c.in_ok-words.ensures.place text one.0 one.1 in
+    let two = taken_on one.2 (c.in_ok-words.ensures.place text one.0 one.1) in
     rw (fault.1, fault.2) (end_within (λ n. n ≤ 272) (alone (count_line (codes "roots"))) (ImageSection raws name) ((size_line name s.0 s.1 ∷ []) ++ map decimal words) text p two.0 _ _
     (alone_delimits (λ n. n ≤ 272) (count_line (codes "roots")) (λ line. count_of (codes "roots") 272 (tokens_of line)) (count_form (codes "roots") 272 refl (omega arith))) (image_count raws name s words c.in_ok-size.ensures.fits all)
-    (taken_then (size_line name s.0 s.1 ∷ []) (map decimal words) p one.0 two.0 one.2 two.2) (c.in_err-count.ensures.place text two.0 two.1))
+    two.2 (c.in_err-count.ensures.place text two.0 two.1))
 
 pub returns-in_err-roots-clause-place : goal.returns-in_err-roots-clause-place
 returns-in_err-roots-clause-place g c text p h =
@@ -56,12 +55,11 @@ returns-in_err-roots-clause-place g c text p h =
     let words = c.in_ok-words.words.items in
     let n = c.in_ok-count.count in
     let one = c.in_ok-size.ensures.place text p h in
-    let two = c.in_ok-words.ensures.place text one.0 one.1 in
-    let three = c.in_ok-count.ensures.place text two.0 two.1 in
-    let before = taken_then (size_line name s.0 s.1 ∷ []) (map decimal words) p one.0 two.0 one.2 two.2 in
+    let two = taken_on one.2 (c.in_ok-words.ensures.place text one.0 one.1) in
+    let three = taken_on two.2 (c.in_ok-count.ensures.place text two.0 two.1) in
     rw (fault.1, fault.2) (end_within (AreAll IsWord n) (map decimal) (ImageSection raws name) (up_to_count name s words n) text p three.0 _ _
     (all_delimit IsWord decimal word_in n word_form) (image_roots raws name s words n c.in_ok-size.ensures.fits (rw c.from.ensures at c.in_ok-words.ensures.fits) c.in_ok-count.ensures.fits)
-    (taken_then ((size_line name s.0 s.1 ∷ []) ++ map decimal words) (count_line (codes "roots") n ∷ []) p two.0 three.0 before three.2) (c.in_err-roots.ensures.place text three.0 three.1))
+    three.2 (c.in_err-roots.ensures.place text three.0 three.1))
 
 pub returns-clause-fits : goal.returns-clause-fits
 returns-clause-fits g c = grind (arith, common_steps, image_fits)
@@ -76,10 +74,8 @@ returns-clause-place g c text p h =
     let roots = c.in_ok-roots.roots.items in
     let all : AreAll IsWord s.1 words = rw c.from.ensures at c.in_ok-words.ensures.fits in
     let one = c.in_ok-size.ensures.place text p h in
-    let two = c.in_ok-words.ensures.place text one.0 one.1 in
-    let three = c.in_ok-count.ensures.place text two.0 two.1 in
-    let four = c.in_ok-roots.ensures.place text three.0 three.1 in
-    let before = taken_then (size_line name s.0 s.1 ∷ []) (map decimal words) p one.0 two.0 one.2 two.2 in
-    let counted = taken_then ((size_line name s.0 s.1 ∷ []) ++ map decimal words) (count_line (codes "roots") n ∷ []) p two.0 three.0 before three.2 in
-    let taken = image_taken raws name s words roots n p four.0 c.in_ok-size.ensures.fits all c.in_ok-count.ensures.fits c.in_ok-roots.ensures.fits (taken_then (up_to_count name s words n) (map decimal roots) p three.0 four.0 counted four.2) in
+    let two = taken_on one.2 (c.in_ok-words.ensures.place text one.0 one.1) in
+    let three = taken_on two.2 (c.in_ok-count.ensures.place text two.0 two.1) in
+    let four = taken_on three.2 (c.in_ok-roots.ensures.place text three.0 three.1) in
+    let taken = image_taken raws name s words roots n p four.0 c.in_ok-size.ensures.fits all c.in_ok-count.ensures.fits c.in_ok-roots.ensures.fits four.2 in
     (four.0, four.1, taken.1)

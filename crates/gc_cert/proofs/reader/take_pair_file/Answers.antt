@@ -1,5 +1,5 @@
 -- The heading, both images and the certificate are taken in order, and the first fault of a part is that of the text.
-use Rattle.std.proofs.Common.{[], ◌∷◌, ◌++◌, map, refl}
+use Rattle.std.proofs.Common.{[], ◌∷◌, ◌++◌, map}
 use Rattle.std.specs.Prelude.{codes}
 use Rattle.std.proofs.lemmas.Result.{err_from_is_err_and}
 use Rattle.gc_words.specs.Views.{addresses}
@@ -12,9 +12,8 @@ use Rattle.gc_cert.specs.Views.{image_in}
 use Rattle.gc_cert.proofs.Forms.{alone_delimits}
 use Rattle.gc_cert.proofs.LineForms.{heading_form}
 use Rattle.gc_cert.proofs.Parts.{none_taken, TextSection, image_delimits, certificate_delimits, made_pair, text_heading, text_old, text_new, both_images, text_certificate, pair_fits, text_taken}
-use Rattle.gc_cert.proofs.ReadPieces.{end_within, ended_text, text_goes_on}
-use Rattle.gc_cert.proofs.Stops.{taken_then}
-use Rattle.gc_cert.proofs.Total.{went_through}
+use Rattle.gc_cert.proofs.ReadPieces.{end_within, ended_text, taken_on, text_goes_on}
+use Rattle.gc_cert.proofs.Total.{whole_text}
 use Rattle.gc_cert.proofs.reader.take_pair_file.Goals as goal
 
 pub returns-in_err-raws-clause-exact : goal.returns-in_err-raws-clause-exact
@@ -38,9 +37,8 @@ returns-in_err-new-clause-exact g c text h =
     let raws = c.in_ok-raws.raws in
     let old = image_in c.in_ok-old.old in
     let one = c.in_ok-raws.ensures.place text p h in
-    let two = c.in_ok-old.ensures.place text one.0 one.1 in
-    let taken = taken_then (heading raws ∷ []) (image_alone (codes "old") old) p one.0 two.0 one.2 two.2 in
-    rw (fault.1, fault.2) (ended_text text _ _ (end_within (IsImageBy raws) (image_alone (codes "new")) TextSection ((heading raws ∷ []) ++ image_alone (codes "old") old) text p two.0 _ _ (image_delimits raws (codes "new")) (text_new raws old c.in_ok-old.ensures.fits) taken (c.in_err-new.ensures.place text two.0 two.1)))
+    let two = taken_on one.2 (c.in_ok-old.ensures.place text one.0 one.1) in
+    rw (fault.1, fault.2) (ended_text text _ _ (end_within (IsImageBy raws) (image_alone (codes "new")) TextSection ((heading raws ∷ []) ++ image_alone (codes "old") old) text p two.0 _ _ (image_delimits raws (codes "new")) (text_new raws old c.in_ok-old.ensures.fits) two.2 (c.in_err-new.ensures.place text two.0 two.1)))
 
 pub returns-in_err-pairs-clause-exact : goal.returns-in_err-pairs-clause-exact
 returns-in_err-pairs-clause-exact g c text h =
@@ -50,11 +48,9 @@ returns-in_err-pairs-clause-exact g c text h =
     let old = image_in c.in_ok-old.old in
     let new = image_in c.in_ok-new.new in
     let one = c.in_ok-raws.ensures.place text p h in
-    let two = c.in_ok-old.ensures.place text one.0 one.1 in
-    let three = c.in_ok-new.ensures.place text two.0 two.1 in
-    let before = taken_then (heading raws ∷ []) (image_alone (codes "old") old) p one.0 two.0 one.2 two.2 in
-    let taken = taken_then ((heading raws ∷ []) ++ image_alone (codes "old") old) (image_alone (codes "new") new) p two.0 three.0 before three.2 in
-    rw (fault.1, fault.2) (ended_text text _ _ (end_within IsCertificate certificate_lines TextSection (both_images raws old new) text p three.0 _ _ certificate_delimits (text_certificate raws old new c.in_ok-old.ensures.fits c.in_ok-new.ensures.fits) taken (c.in_err-pairs.ensures.place text three.0 three.1)))
+    let two = taken_on one.2 (c.in_ok-old.ensures.place text one.0 one.1) in
+    let three = taken_on two.2 (c.in_ok-new.ensures.place text two.0 two.1) in
+    rw (fault.1, fault.2) (ended_text text _ _ (end_within IsCertificate certificate_lines TextSection (both_images raws old new) text p three.0 _ _ certificate_delimits (text_certificate raws old new c.in_ok-old.ensures.fits c.in_ok-new.ensures.fits) three.2 (c.in_err-pairs.ensures.place text three.0 three.1)))
 
 pub returns-in_err-end-clause-exact : goal.returns-in_err-end-clause-exact
 returns-in_err-end-clause-exact g c text h =
@@ -65,13 +61,10 @@ returns-in_err-end-clause-exact g c text h =
     let new = image_in c.in_ok-new.new in
     let pairs = map addresses c.in_ok-pairs.pairs.items in
     let one = c.in_ok-raws.ensures.place text p h in
-    let two = c.in_ok-old.ensures.place text one.0 one.1 in
-    let three = c.in_ok-new.ensures.place text two.0 two.1 in
-    let four = c.in_ok-pairs.ensures.place text three.0 three.1 in
-    let before = taken_then (heading raws ∷ []) (image_alone (codes "old") old) p one.0 two.0 one.2 two.2 in
-    let images = taken_then ((heading raws ∷ []) ++ image_alone (codes "old") old) (image_alone (codes "new") new) p two.0 three.0 before three.2 in
-    let all = taken_then (both_images raws old new) (certificate_lines pairs) p three.0 four.0 images four.2 in
-    rw (fault.1, fault.2) (text_goes_on (made_pair old new pairs) text four.0 _ _ (text_taken raws old new pairs p four.0 c.in_ok-old.ensures.fits c.in_ok-new.ensures.fits c.in_ok-pairs.ensures.fits all) (c.in_err-end.ensures.place text four.0 four.1))
+    let two = taken_on one.2 (c.in_ok-old.ensures.place text one.0 one.1) in
+    let three = taken_on two.2 (c.in_ok-new.ensures.place text two.0 two.1) in
+    let four = taken_on three.2 (c.in_ok-pairs.ensures.place text three.0 three.1) in
+    rw (fault.1, fault.2) (text_goes_on (made_pair old new pairs) text four.0 _ _ (text_taken raws old new pairs p four.0 c.in_ok-old.ensures.fits c.in_ok-new.ensures.fits c.in_ok-pairs.ensures.fits four.2) (c.in_err-end.ensures.place text four.0 four.1))
 
 pub returns-clause-exact : goal.returns-clause-exact
 returns-clause-exact g c text h =
@@ -81,14 +74,12 @@ returns-clause-exact g c text h =
     let new = image_in c.in_ok-new.new in
     let pairs = map addresses c.in_ok-pairs.pairs.items in
     let one = c.in_ok-raws.ensures.place text p h in
-    let two = c.in_ok-old.ensures.place text one.0 one.1 in
-    let three = c.in_ok-new.ensures.place text two.0 two.1 in
-    let four = c.in_ok-pairs.ensures.place text three.0 three.1 in
-    let before = taken_then (heading raws ∷ []) (image_alone (codes "old") old) p one.0 two.0 one.2 two.2 in
-    let images = taken_then ((heading raws ∷ []) ++ image_alone (codes "old") old) (image_alone (codes "new") new) p two.0 three.0 before three.2 in
-    let all = taken_then (both_images raws old new) (certificate_lines pairs) p three.0 four.0 images four.2 in
+    let two = taken_on one.2 (c.in_ok-old.ensures.place text one.0 one.1) in
+    let three = taken_on two.2 (c.in_ok-new.ensures.place text two.0 two.1) in
+    let four = taken_on three.2 (c.in_ok-pairs.ensures.place text three.0 three.1) in
     let ends = c.in_ok-end.ensures.place text four.0 four.1 in
-    (went_through (made_pair old new pairs) text p four.0 refl (text_taken raws old new pairs p four.0 c.in_ok-old.ensures.fits c.in_ok-new.ensures.fits c.in_ok-pairs.ensures.fits all) ends.0, ends.1)
+    let whole = text_taken raws old new pairs p four.0 c.in_ok-old.ensures.fits c.in_ok-new.ensures.fits c.in_ok-pairs.ensures.fits four.2 in
+    (whole_text (made_pair old new pairs) text four.0 whole.0 whole.1 ends.0, ends.1)
 
 pub returns-clause-sound : goal.returns-clause-sound
 returns-clause-sound g c = pair_fits c.in_ok-raws.raws (image_in c.in_ok-old.old) (image_in c.in_ok-new.new) (map addresses c.in_ok-pairs.pairs.items) c.in_ok-old.ensures.fits c.in_ok-new.ensures.fits c.in_ok-pairs.ensures.fits

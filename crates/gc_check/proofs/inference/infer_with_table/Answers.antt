@@ -29,32 +29,26 @@ returns-in-Err-new-clause-impossible c = λ refusal same.
 
 pub returns-clause-forced : goal.returns-clause-forced
 returns-clause-forced c =
-    pairs_are_forced (image_of c.args.old) (image_of c.args.new) c.in-Ok.starts c.in-Ok-new.starts c.in_ok-walk.walk.found c.enter_rising.new.pairs.items c.in-Ok.ensures.1 c.in-Ok-new.ensures.1
-    c.in_ok-walk.ensures.held c.in_ok-walk.ensures.met (c.enter_rising.ensures.pairs ∙ ap (λ image. risen 0 (originals_in image c.in_ok-walk.walk.found)) c.in-Ok-new.ensures.1)
+    pairs_are_forced _ _ _ _ _ _ c.in-Ok.ensures.1 c.in-Ok-new.ensures.1 c.in_ok-walk.ensures.held c.in_ok-walk.ensures.met (c.enter_rising.ensures.pairs ∙ ap (λ image. risen 0 (originals_in image c.in_ok-walk.walk.found)) c.in-Ok-new.ensures.1)
 
 pub returns-clause-together : goal.returns-clause-together
 returns-clause-together c =
-    pairs_together (image_of c.args.old) (image_of c.args.new) c.in-Ok.starts c.in-Ok-new.starts c.in_ok-walk.walk.found c.enter_rising.new.pairs.items c.in-Ok.ensures.1 c.in-Ok-new.ensures.1
-    c.in_ok-walk.ensures.held c.in_ok-walk.ensures.met (c.enter_rising.ensures.pairs ∙ ap (λ image. risen 0 (originals_in image c.in_ok-walk.walk.found)) c.in-Ok-new.ensures.1)
+    pairs_together _ _ _ _ _ _ c.in-Ok.ensures.1 c.in-Ok-new.ensures.1 c.in_ok-walk.ensures.held c.in_ok-walk.ensures.met (c.enter_rising.ensures.pairs ∙ ap (λ image. risen 0 (originals_in image c.in_ok-walk.walk.found)) c.in-Ok-new.ensures.1)
 
 pub returns-clause-closed : goal.returns-clause-closed
 returns-clause-closed c =
-    pairs_are_closed (image_of c.args.old) (image_of c.args.new) c.in-Ok.starts c.in-Ok-new.starts c.in_ok-walk.walk.found c.enter_rising.new.pairs.items c.in-Ok.ensures.1 c.in-Ok-new.ensures.1
-    c.in_ok-walk.ensures.held c.in_ok-walk.ensures.met (c.enter_rising.ensures.pairs ∙ ap (λ image. risen 0 (originals_in image c.in_ok-walk.walk.found)) c.in-Ok-new.ensures.1)
+    pairs_are_closed _ _ _ _ _ _ c.in-Ok.ensures.1 c.in-Ok-new.ensures.1 c.in_ok-walk.ensures.held c.in_ok-walk.ensures.met (c.enter_rising.ensures.pairs ∙ ap (λ image. risen 0 (originals_in image c.in_ok-walk.walk.found)) c.in-Ok-new.ensures.1)
 
 pub returns-clause-complete : goal.returns-clause-complete
 returns-clause-complete c =
-    pairs_hold (image_of c.args.old) (image_of c.args.new) c.in-Ok.starts c.in-Ok-new.starts c.in_ok-walk.walk.found c.enter_rising.new.pairs.items c.in-Ok.ensures.1 c.in-Ok-new.ensures.1
-    c.in_ok-walk.ensures.held c.in_ok-walk.ensures.met (c.enter_rising.ensures.pairs ∙ ap (λ image. risen 0 (originals_in image c.in_ok-walk.walk.found)) c.in-Ok-new.ensures.1)
+    pairs_hold _ _ _ _ _ _ c.in-Ok.ensures.1 c.in-Ok-new.ensures.1 c.in_ok-walk.ensures.held c.in_ok-walk.ensures.met (c.enter_rising.ensures.pairs ∙ ap (λ image. risen 0 (originals_in image c.in_ok-walk.walk.found)) c.in-Ok-new.ensures.1)
 
 pub returns-clause-table : goal.returns-clause-table
 returns-clause-table c =
     let roots : length c.args.old.roots.now ≡ length c.args.new.roots.now = search rules in
     let few : length c.args.new.words.now < 2 ^ 32 = search rules in
-    pairs_have_tables (image_of c.args.old) (image_of c.args.new) c.in-Ok.starts c.in-Ok-new.starts c.in_ok-walk.walk.found c.enter_rising.new.pairs.items c.in-Ok.ensures.1 c.in-Ok-new.ensures.1
-    c.in_ok-walk.ensures.held c.in_ok-walk.ensures.met (c.enter_rising.ensures.pairs ∙ ap (λ image. risen 0 (originals_in image c.in_ok-walk.walk.found)) c.in-Ok-new.ensures.1) c.in-Ok.ensures.0 c.in-Ok-new.ensures.0 roots few
+    pairs_have_tables _ _ _ _ _ _ c.in-Ok.ensures.1 c.in-Ok-new.ensures.1 c.in_ok-walk.ensures.held c.in_ok-walk.ensures.met (c.enter_rising.ensures.pairs ∙ ap (λ image. risen 0 (originals_in image c.in_ok-walk.walk.found)) c.in-Ok-new.ensures.1) c.in-Ok.ensures.0 c.in-Ok-new.ensures.0 roots few
 
 pub returns-clause-alike : goal.returns-clause-alike
 returns-clause-alike c = λ alike.
-    pairs_hold_if_alike (image_of c.args.old) (image_of c.args.new) c.in-Ok.starts c.in-Ok-new.starts c.in_ok-walk.walk.found c.enter_rising.new.pairs.items c.in-Ok.ensures.1 c.in-Ok-new.ensures.1
-    c.in_ok-walk.ensures.held c.in_ok-walk.ensures.met (c.enter_rising.ensures.pairs ∙ ap (λ image. risen 0 (originals_in image c.in_ok-walk.walk.found)) c.in-Ok-new.ensures.1) c.in-Ok.ensures.0 c.in-Ok-new.ensures.0 (c.in_ok-walk.ensures.alike alike)
+    pairs_hold_if_alike _ _ _ _ _ _ c.in-Ok.ensures.1 c.in-Ok-new.ensures.1 c.in_ok-walk.ensures.held c.in_ok-walk.ensures.met (c.enter_rising.ensures.pairs ∙ ap (λ image. risen 0 (originals_in image c.in_ok-walk.walk.found)) c.in-Ok-new.ensures.1) c.in-Ok.ensures.0 c.in-Ok-new.ensures.0 (c.in_ok-walk.ensures.alike alike)

@@ -1,4 +1,5 @@
 -- Each pair found is of two starts, and there are no more pairs than words, so the objects of all pairs have met at the end.
+use Rattle.gc_check.proofs.ByAddress.{length_by_address}
 use Rattle.std.proofs.lemmas.Grind.{common_steps}
 use Rattle.std.proofs.Common.{rules, ◌≡◌, ◌<◌, length, true, sym, ◌∙◌, ap, subst, ℕ, ◌+◌, arith}
 use Rattle.std.proofs.lemmas.List.{length-map}
@@ -8,9 +9,9 @@ use Rattle.gc_words.specs.Views.{addresses}
 use Rattle.gc_check.specs.Tables.{pair_at}
 use Rattle.gc_check.specs.Internal.Meetings.{met_objects, MetTo, AlikeTo}
 use Rattle.gc_check.specs.Verdict.{pairs_of}
-use Rattle.gc_check.proofs.Meetings.{pair_is, few_found}
-use Rattle.gc_check.proofs.Forced.{objects_met, all_done}
-use Rattle.gc_check.proofs.Alike.{objects_alike, all_alike}
+use Rattle.gc_check.proofs.Meetings.{pair_is, taken_few}
+use Rattle.gc_check.proofs.Forced.{objects_met}
+use Rattle.gc_check.proofs.Alike.{objects_alike}
 use Rattle.gc_check.proofs.meet.meet_reachable.Goals as goal
 
 pub meet_objects-requires-clause-old_start : goal.meet_objects-requires-clause-old_start
@@ -40,10 +41,10 @@ loop-done-preserved c =
     }
 
 pub returns-clause-met : goal.returns-clause-met
-returns-clause-met c = grind (arith, common_steps, few_found, all_done, length-map)
+returns-clause-met c = grind (arith, common_steps, taken_few, length_by_address, length-map)
 
 pub returns-clause-alike : goal.returns-clause-alike
-returns-clause-alike c = λ alike. grind (arith, common_steps, few_found, all_alike, length-map)
+returns-clause-alike c = λ alike. grind (arith, common_steps, taken_few, length_by_address, length-map)
 
 pub returns-then-done-len-clause-alike : goal.returns-then-done-len-clause-alike
-returns-then-done-len-clause-alike c = λ alike. grind (arith, common_steps, all_alike, length-map)
+returns-then-done-len-clause-alike c = λ alike. grind (arith, common_steps, length-map)

@@ -1,14 +1,15 @@
 -- A turn visits all that one more node refers to, and no visit becomes deeper than the next one can lead to.
+use Rattle.gc_check.proofs.Meetings.{taken_few}
 use Rattle.std.proofs.lemmas.Grind.{common_steps}
 use Rattle.std.proofs.Common.{rules, ◌<◌, ◌≤◌, length, arith}
-use Rattle.gc_check.proofs.Breadth.{one_more_visit, near_next, low_count}
+use Rattle.gc_check.proofs.Breadth.{one_more_visit, near_next}
 use Rattle.gc_check.proofs.visits.visit_nodes.Goals as goal
 
 pub overflow_cast-done : goal.overflow_cast-done
-overflow_cast-done c = grind (arith, common_steps, low_count)
+overflow_cast-done c = grind (arith, common_steps, taken_few)
 
 pub loop-done-smaller : goal.loop-done-smaller
-loop-done-smaller c = grind (arith, common_steps, low_count)
+loop-done-smaller c = grind (arith, common_steps, taken_few)
 
 pub loop-done-preserved : goal.loop-done-preserved
 loop-done-preserved c =

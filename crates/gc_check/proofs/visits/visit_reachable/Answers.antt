@@ -1,10 +1,11 @@
 -- The walk begins with the visit of the roots, and there are no more visits than a `u32` can number.
+use Rattle.gc_check.proofs.Meetings.{taken_few}
 use Rattle.std.proofs.lemmas.Grind.{common_steps}
 use Rattle.std.proofs.Common.{rules, ◌≡◌, ◌≤◌, ◌∷◌, [], suc, length, arith}
 use Rattle.std.specs.Prelude.{vec_capacity}
 use Rattle.gc_check.specs.Internal.Starts.{starts_from}
 use Rattle.gc_check.specs.Internal.Visits.{roots_visit}
-use Rattle.gc_check.proofs.Breadth.{begun, few_starts, low_count}
+use Rattle.gc_check.proofs.Breadth.{begun, few_starts}
 use Rattle.gc_check.proofs.visits.visit_reachable.Goals as goal
 
 pub overflow_add-count : goal.overflow_add-count
@@ -17,4 +18,4 @@ visit_nodes-requires-clause-held c =
     begun c.args.starts.now (record { list = c.push_reserved.new.self; numbers = c.in_ok-numbers.numbers }) c.in_ok-numbers.ensures.entries c.requires.few one c.in_ok-numbers.ensures.zeros room
 
 pub returns-clause-few : goal.returns-clause-few
-returns-clause-few c = grind (arith, common_steps, low_count)
+returns-clause-few c = grind (arith, common_steps, taken_few)

@@ -1,5 +1,5 @@
 -- A turn tells the checker of one more field, and what it tells is true.
-use Rattle.gc_live.proofs.NumbersTold.{told_one, truly_one}
+use Rattle.gc_live.proofs.Puts.{told_one, truly_one}
 use Rattle.gc_live.proofs.writing.tell_written.Goals as goal
 
 pub loop-k-preserved : goal.loop-k-preserved

@@ -23,8 +23,7 @@ invariant_of-self-in-Some-new_words c =
     let log = log_is c.self.inside.inner c.args.m (c.in-Some-Some.entry.object.0, c.in-Some-Some.entry.field) (ap (option_map Rattle.gc_copy.specs.Entries.entry_in) (sym c.in-Some-Some.is-0) ∙ c.log_entry-entry.ensures) in
     let words = sym c.new_words.ensures ∙ ap (λ (r : Option (Bor (List ℕ))). option_map (λ (w : Bor (List ℕ)). w.now) r) c.in-Some-Some.is-1 in (
       lives_applied c.self.inside.inner c.apply_log-reply.new.self c.args.m (c.in-Some-Some.entry.object.0, c.in-Some-Some.entry.field) _ c.in-Some-Some.new.now c.self.inside.watch c.placed.new.self c.applied.new.self c.is_sound.ensures.heap c.is_sound.ensures.open c.is_sound-2.ensures.open
-          (log_is c.self.inside.inner c.args.m (c.in-Some-Some.entry.object.0, c.in-Some-Some.entry.field) (ap (option_map Rattle.gc_copy.specs.Entries.entry_in) (sym c.in-Some-Some.is-0) ∙ c.log_entry-entry.ensures))
-          c.in-Applied.ensures.step (sym c.new_words.ensures ∙ ap (λ (r : Option (Bor (List ℕ))). option_map (λ (w : Bor (List ℕ)). w.now) r) c.in-Some-Some.is-1)
+          log c.in-Applied.ensures.step words
           c.placed.ensures.lost c.placed.ensures.placed c.applied.ensures.lost c.applied.ensures.applied c.self.invariant.0,
       λ on. lasts_applied c.self.inside.inner c.apply_log-reply.new.self _ c.in-Some-Some.new.now c.is_sound.ensures.heap c.is_sound.ensures.open c.is_sound-2.ensures.open (c.image.ensures.shows.0, c.image.ensures.shows.1, ap (λ (image : Image). image.words) c.image.ensures.shows.2) words c.args.m (c.in-Some-Some.entry.object.0, c.in-Some-Some.entry.field)
           c.self.inside.watch c.placed.new.self c.applied.new.self log c.in-Applied.ensures.step c.placed.ensures.stays c.placed.ensures.placed c.placed.ensures.copied c.applied.ensures.stays c.applied.ensures.applied c.self.invariant.0 (c.self.invariant.1 on),

@@ -1,5 +1,6 @@
 -- A flip rests on the given checker's yes or on that of the standing checker, which goes along, so the certificate holds.
-use Rattle.std.proofs.Common.{◌≡◌, ◌∙◌, inl, inr, ⊎_elim, Option, Some, None, refl, sym, subst, true, false}
+use Rattle.std.proofs.lemmas.Grind.{common_steps}
+use Rattle.std.proofs.Common.{◌≡◌, ◌∙◌, inl, inr, ⊎_elim, Option, Some, refl, sym, subst, true, false, arith}
 use Rattle.std.proofs.lemmas.Bool.{cases_Bool}
 use Rattle.std.specs.Prelude.{IfSome}
 use Rattle.gc_words.specs.Certificate.{Certified}
@@ -30,15 +31,10 @@ certified s t reply live watched accepted pairs is = go s.collection refl (accep
         live
 
     go : (o : Option Collection) → s.collection ≡ o → IfSome o (λ c. HasAccepted (CertifiedBy t) (flip_pair s c)) → IfSome o (λ c. IsCertified (flip_pair s c))
-    go None e a = tt
-    go (Some c) e a = certain c e a
+    go o e a = grind (arith, common_steps, certain)
 
 weaker : (P Q : CertifiedPair → Type 0) (s : State) (reply : StepReply) → ((pair : CertifiedPair) → P pair → Q pair) → FlipsOnly P s reply → FlipsOnly Q s reply
-weaker P Q s reply f h pairs is = go s.collection (h pairs is)
-  where
-    go : (o : Option Collection) → IfSome o (λ c. P (flip_pair s c)) → IfSome o (λ c. Q (flip_pair s c))
-    go None a = tt
-    go (Some c) a = f (flip_pair s c) a
+weaker P Q s reply f h pairs is = grind (arith, common_steps)
 
 pub returns-clause-asked : goal.returns-clause-asked
 returns-clause-asked g c = subst (λ (s : State). FlipsOnly (IsSure says) s c.in_ok-flip.flip.reply) c.self.view_is (⊎_elim

@@ -1,5 +1,6 @@
 -- The checker is told of a new replica, and then looks at the scanned field; after any other reply it goes along as it is.
-use Rattle.std.proofs.Common.{◌≡◌, ℕ, List, Bor, Option, Some, None, sym, ap, subst, ◌∙◌}
+use Rattle.std.proofs.lemmas.Grind.{common_steps}
+use Rattle.std.proofs.Common.{◌≡◌, ℕ, List, Bor, Option, Some, sym, ap, subst, ◌∙◌, arith}
 use Rattle.std.specs.Option.{option_map}
 use Rattle.gc_plan.specs.State.{State, Collection}
 use Rattle.gc_core.specs.Readings.{new_space, new_space_in}
@@ -18,17 +19,13 @@ invariant_of-self c = (
 )
 
 collection_of : (s : State) (space : NewSpace) → Some space ≡ new_space s → (c : Collection) × (s.collection ≡ Some c) × (new_space_in c ≡ space)
-collection_of s space is = go s.collection is
-  where
-    go : (o : Option Collection) → Some space ≡ option_map new_space_in o → (c : Collection) × (o ≡ Some c) × (new_space_in c ≡ space)
-    go None e = absurd (let no : Some space ≡ None = e in cc)
-    go (Some c) e = (c, Rattle.std.proofs.Common.refl, (let n : Some space ≡ Some (new_space_in c) = e in cc))
+collection_of s space is = grind (arith, common_steps)
 
 pub invariant_of-self-in-Some-new_words : goal.invariant_of-self-in-Some-new_words
 invariant_of-self-in-Some-new_words c =
     let found = collection_of c.self.inside.inner c.in-Some-Some.space (sym c.in-Some-Some.is-0 ∙ c.new_space-space.ensures) in
     let words = sym c.new_words.ensures ∙ ap (λ (r : Option (Bor (List ℕ))). option_map (λ (w : Bor (List ℕ)). w.now) r) c.in-Some-Some.is-1 in (
-      lives_scanned c.self.inside.inner c.scan-reply.new.self found.0 _ c.in-Some-Some.new.now c.self.inside.watch c.placed.new.self c.look.new.self c.is_sound.ensures.heap c.is_sound.ensures.open c.is_sound-2.ensures.open found.1 c.in-Scanned.ensures.step (sym c.new_words.ensures ∙ ap (λ (r : Option (Bor (List ℕ))). option_map (λ (w : Bor (List ℕ)). w.now) r) c.in-Some-Some.is-1)
+      lives_scanned c.self.inside.inner c.scan-reply.new.self found.0 _ c.in-Some-Some.new.now c.self.inside.watch c.placed.new.self c.look.new.self c.is_sound.ensures.heap c.is_sound.ensures.open c.is_sound-2.ensures.open found.1 c.in-Scanned.ensures.step words
           c.placed.ensures.lost c.placed.ensures.placed c.look.ensures.lost (λ n. subst (λ (s : NewSpace). Looked c.image.result.words.now c.in-Some-Some.new.now s.scan_place s.scan_field c.placed.new.self c.look.new.self) (sym found.2) (c.look.ensures.looked n)) c.self.invariant.0,
       λ on. lasts_scanned c.self.inside.inner c.scan-reply.new.self _ c.in-Some-Some.new.now c.is_sound.ensures.heap c.is_sound.ensures.open c.is_sound-2.ensures.open (c.image.ensures.shows.0, c.image.ensures.shows.1, ap (λ (image : Image). image.words) c.image.ensures.shows.2) words found.0 c.self.inside.watch c.placed.new.self c.look.new.self found.1 c.in-Scanned.ensures.step
           c.placed.ensures.stays c.placed.ensures.placed c.placed.ensures.copied
