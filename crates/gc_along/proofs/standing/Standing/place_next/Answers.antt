@@ -21,8 +21,7 @@ invariant_of-self-2 c =
     let is = replica_written _ h a (c.self.inside.missing + c.due_words.result) c.due_words.result due c.take.new.self.codes c.add_codes.new.row.codes c.add.new.self.origins kept c.take.ensures.codes
     (c.add_codes.ensures.codes ∙ ap (λ n. c.self.inside.news.codes ++ object_codes n (code_of due)) c.len-2.ensures)
     (c.add.ensures.origins ∙ ap (λ n. c.self.inside.origins.origins ++ a ∷ 0 ∷ replicate n 0) c.len.ensures)
-    refl (c.due_words.ensures ∙ ap (λ n. if due then n else 0) c.len-3.ensures) in
-    (
+    refl (c.due_words.ensures ∙ ap (λ n. if due then n else 0) c.len-3.ensures) in (
       c.self.invariant.0,
       c.self.invariant.1,
       omega (arith, c.self.invariant.2, c.take.ensures.room),
