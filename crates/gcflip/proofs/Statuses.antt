@@ -6,7 +6,8 @@ use Rattle.gc_check.specs.declared.verdict.RunFault.TheVariants as check
 use Rattle.gc_shared.specs.declared.fault.CloseKind.{CloseKind}
 use Rattle.gc_shared.specs.declared.fault.CloseKind.TheVariants as close
 use Rattle.gc_shared.specs.declared.fault.ThreadsFault.TheVariants as threads
-use Rattle.gcflip.specs.Statuses.{close_kind_status, trace_fault_status, status_of, statuses}
+use Rattle.gcflip.specs.Statuses.{close_kind_status}
+use Rattle.gcflip.specs.Statuses.{trace_fault_status}
 use Rattle.gcflip.specs.declared.commands.threads.ThreadsRunFault.TheVariants as run
 use Rattle.gc_trace.specs.declared.fault.TraceFault.{TraceFault}
 use Rattle.gc_trace.specs.declared.fault.TraceFault.TheVariants as trace
@@ -15,7 +16,9 @@ use Rattle.gcflip.specs.declared.faults.fault.Fault.{Fault}
 use Rattle.gcflip.specs.declared.faults.fault.Fault.TheVariants as program
 use Rattle.gcflip.specs.declared.task.Task.{Task}
 use Rattle.gcflip.specs.declared.task.Task.TheVariants as task
+use Rattle.gcflip.specs.Statuses.{status_of}
 use Rattle.gcflip.specs.Internal.Outcomes.{IsStatusOf}
+use Rattle.gcflip.specs.Statuses.{statuses}
 
 pub done_is_status : Contains statuses 0
 done_is_status = (0, lit< tt, refl)

@@ -6,17 +6,23 @@ use Rattle.gcflip.proofs.task.task_of.Goals as goal
 
 pub returns-in_err-matches-clause-input : goal.returns-in_err-matches-clause-input
 returns-in_err-matches-clause-input c none =
-    let memory = c.in_err-matches.ensures.passes (no_arguments_taken _ (map string_bytes c.args.arguments.now) c.in_ok-command.ensures.shape none) in
+    let arguments = map string_bytes c.args.arguments.now in
+    let taken = ap (λ (a : App). takes a arguments) c.in_ok-command.ensures.shape ∙ no_arguments_taken arguments none in
+    let memory = c.in_err-matches.ensures.passes taken in
     search rules
 
 pub returns-in_err-matches-clause-play : goal.returns-in_err-matches-clause-play
 returns-in_err-matches-clause-play c path plain e =
-    let memory = c.in_err-matches.ensures.passes (file_arguments_taken _ (map string_bytes c.args.arguments.now) _ path c.in_ok-command.ensures.shape (play_takes_file path plain) e) in
+    let arguments = map string_bytes c.args.arguments.now in
+    let taken = ap (λ (a : App). takes a arguments) c.in_ok-command.ensures.shape ∙ file_arguments_taken arguments _ path (play_takes_file path plain) e in
+    let memory = c.in_err-matches.ensures.passes taken in
     search rules
 
 pub returns-in_err-matches-clause-check : goal.returns-in_err-matches-clause-check
 returns-in_err-matches-clause-check c path plain e =
-    let memory = c.in_err-matches.ensures.passes (file_arguments_taken _ (map string_bytes c.args.arguments.now) _ path c.in_ok-command.ensures.shape (check_takes_file path plain) e) in
+    let arguments = map string_bytes c.args.arguments.now in
+    let taken = ap (λ (a : App). takes a arguments) c.in_ok-command.ensures.shape ∙ file_arguments_taken arguments _ path (check_takes_file path plain) e in
+    let memory = c.in_err-matches.ensures.passes taken in
     search rules
 
 pub returns-in-Some-clause-play : goal.returns-in-Some-clause-play
@@ -45,7 +51,9 @@ returns-in-Some-clause-faultless c =
 
 pub returns-in_err-matches-clause-report : goal.returns-in_err-matches-clause-report
 returns-in_err-matches-clause-report c path plain e =
-    let memory = c.in_err-matches.ensures.passes (file_arguments_taken _ (map string_bytes c.args.arguments.now) _ path c.in_ok-command.ensures.shape (report_takes_file path plain) e) in
+    let arguments = map string_bytes c.args.arguments.now in
+    let taken = ap (λ (a : App). takes a arguments) c.in_ok-command.ensures.shape ∙ file_arguments_taken arguments _ path (report_takes_file path plain) e in
+    let memory = c.in_err-matches.ensures.passes taken in
     search rules
 
 pub returns-in-Some-clause-report : goal.returns-in-Some-clause-report
