@@ -421,8 +421,8 @@ def refused_allocations(_program, folder):
     yield "allocations were refused", None if refused > 8 and errors > 0 else "%d, with %d errors" % (refused, errors)
 
 
-# More memory than the program takes with one space of 8 MiB and the checker's tables of 6 MiB, and less than with two spaces.
-ONE_SPACE = 22 << 20
+# More memory than the program takes with one space of 8 MiB and the checker's tables of 2.6 MiB, and less than with two spaces.
+ONE_SPACE = 24 << 20
 
 
 def limit_memory():

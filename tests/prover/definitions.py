@@ -8,6 +8,8 @@ NAME = re.compile(r"[^\s(){}\[\];,.]+(?:\.[^\s(){}\[\];,.]+)*")
 KEYWORDS = {"abbrev", "unfoldable", "pub", "record", "data", "module"}
 # The place of an argument in the name of an operator, which the operator's uses do not show.
 GAP = "\u25cc"
+# The operator that joins the lines of a `do` block.
+BIND = ">>="
 
 
 def files_below(folder, ending):
@@ -136,5 +138,5 @@ def reached_from(queue, known, imports):
         reached.add(key)
         names, modules = imports[key[0]]
         for token in NAME.findall("\n".join(known[key].lines)):
-            queue.append(resolve(token, names, modules, key[0], known))
+            queue.append(resolve(BIND if token == "do" else token, names, modules, key[0], known))
     return reached

@@ -1,4 +1,4 @@
--- Without epochs, each code stands for itself.
+-- Once all codes are written as what they stand for, no epoch is needed.
 use Rattle.std.proofs.Common.{◌∙◌, ap}
 use Rattle.gc_along.specs.Internal.InWords.{codes_now}
 use Rattle.gc_along.proofs.Freed.{now_first}

@@ -1,4 +1,4 @@
--- Without epochs, each code stands for itself.
+-- The row that is taken has no epochs, so each of its codes stands for itself.
 use Rattle.std.proofs.Common.{◌∙◌, ap}
 use Rattle.gc_along.specs.Internal.InWords.{Codes, codes_now}
 use Rattle.gc_along.proofs.Freed.{now_first}

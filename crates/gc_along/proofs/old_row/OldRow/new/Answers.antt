@@ -1,4 +1,4 @@
--- Without epochs, each code stands for itself.
+-- A row of place 0 has no epochs, so its code stands for itself.
 use Rattle.std.proofs.lemmas.Grind.{common_steps}
 use Rattle.std.proofs.Common.{◌∙◌, ap, arith}
 use Rattle.gc_along.specs.Internal.InWords.{codes_now}

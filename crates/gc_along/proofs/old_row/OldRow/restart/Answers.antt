@@ -1,4 +1,4 @@
--- Without epochs, each code stands for itself.
+-- A row that starts anew has no epochs, so its code stands for itself.
 use Rattle.std.proofs.Common.{◌≡◌, ◌≤◌, ◌∙◌, ap, sym, subst}
 use Rattle.gc_along.specs.Internal.InWords.{Codes, codes_now}
 use Rattle.gc_along.proofs.Freed.{now_first}
