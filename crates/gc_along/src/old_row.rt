@@ -183,11 +183,13 @@ impl OldRow {
     }
 }
 
-ghost use Rattle.std.specs.Prelude.{◌≢◌, ◌/◌, vec_capacity};
+ghost use Rattle.std.specs.Prelude.{◌≢◌, ◌*◌, ◌/◌, vec_capacity};
 ghost use Rattle.gc_along.specs.Internal.InWords.{codes_now};
 
-// The number of blocks for so many places.
-fn blocks_of(places: u32) -> usize {
+// The number of blocks for so many places. With fewer, `renew` would write the whole row.
+fn blocks_of(places: u32) -> usize
+    ensures { places < 256 * result }
+{
     places as usize / PLACES + 1
 }
 
