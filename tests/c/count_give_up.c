@@ -1,5 +1,6 @@
 /* Gives up three collections that have a replica of each of CELLS objects: count_give_up CELLS. The fourth flips, by the standing checker
-   alone. The instructions of giving up tell whether they grow with the number of replicas. */
+   alone. The instructions of giving up, and those of the step that makes the next collection's first replica, tell whether they grow with the
+   number of replicas. */
 #include "expect.h"
 #include "gcflip_heap.h"
 #include "open_heap.h"

@@ -433,15 +433,17 @@ def work_remembers(_program, folder):
 
 
 def given_up_at_once(_program, folder):
-    """Counts the instructions of giving up a collection, which do not grow with the number of replicas: no link and no code is cleared."""
+    """Counts the instructions of giving up a collection, and of the first replica after it. They do not grow with the number of replicas: no link
+    is cleared, and codes are cleared by blocks of 256 words, when they are next read. Both heaps end with a whole block."""
     built = library(folder)
     if built is None or not has_valgrind("count_give_up.c"):
         return
     path, why = built.build(["gcc"], "count_give_up.c", built.archive())
-    counted = [instructions(path, cells, folder, "--toggle-collect=gcflip_heap_step_give_up") for cells in (10, 20000)] if why is None else [(0, why)] * 2
-    (few, why_few), (many, why_many) = counted
-    told = None if 0 < many <= few + few // 20 else "%d with 10 objects, %d with 20,000" % (few, many)
-    yield "instructions of giving up", why_few or why_many or told
+    for step, told_as in (("give_up", "giving up"), ("roots", "the first replica after giving up")):
+        counted = [instructions(path, cells, folder, "--toggle-collect=gcflip_heap_step_" + step) for cells in (640, 19200)] if why is None else [(0, why)] * 2
+        (few, why_few), (many, why_many) = counted
+        told = None if 0 < many <= few + few // 20 else "%d with 640 objects, %d with 19,200" % (few, many)
+        yield "instructions of " + told_as, why_few or why_many or told
 
 
 GROUPS = [example_programs, long_objects, pauses, programs, musl, images, large_heaps, live_and_far, pages, limits, work_remembers, given_up_at_once, rebuilt, pkg_config, texts, plays, recorded_work, recording_that_ends, root_reads,
