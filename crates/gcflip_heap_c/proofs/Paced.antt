@@ -1,16 +1,16 @@
 -- What paced work leaves in the logs, and that it stays ahead of the mutators, but for the steps that it owes.
 use Rattle.std.proofs.lemmas.Grind.{common_steps}
-use Rattle.std.proofs.Common.{◌≡◌, ◌≢◌, ◌⊎◌, ℕ, ◌+◌, ◌≤◌, true, None, ap, ◌∙◌, subst, arith}
-use Rattle.std.specs.Prelude.{min, IsTrue}
+use Rattle.std.proofs.Common.{◌≡◌, ◌≢◌, ◌⊎◌, ℕ, ◌+◌, ◌≤◌, true, Some, None, ap, ◌∙◌, subst, arith}
+use Rattle.std.specs.Prelude.{min, IsTrue, IfSome}
 use Rattle.std.proofs.lemmas.Bool.{and_from, or_left, or_right, le-leb, cases_lt}
 use Rattle.gc_plan.specs.State.{State}
-use Rattle.gc_plan.specs.Belonging.{IsSpaceGraph, IsOpen}
+use Rattle.gc_plan.specs.Belonging.{IsSpaceGraph, IsOpened}
 use Rattle.gc_plan.specs.Progress.{work_left}
 use Rattle.gc_plan.specs.declared.step.StepReply.{StepReply}
 use Rattle.gc_plan.proofs.Public.{left_bounded}
 use Rattle.gcflip_heap_c.specs.Replies.{step_reply_in_c}
 use Rattle.gcflip_heap_c.specs.Readings.{counts_of}
-use Rattle.gcflip_heap_c.specs.Work.{IsRun, IsEnd, IsWork, IsWorkWithin, goes_on}
+use Rattle.gcflip_heap_c.specs.Work.{IsRun, IsEnd, IsWork, goes_on}
 use Rattle.gcflip_heap_c.specs.Pace.{steps_left, spent, steps_due, Pays, took_its_words, owed_after, pace_after, no_work, CountsAll, HasEnded, IsPacedWork}
 use Rattle.gcflip_heap_c.specs.declared.pace.GcflipPace.{GcflipPace}
 use Rattle.gcflip_heap_c.specs.declared.reading.GcflipCounts.{GcflipCounts}
@@ -30,10 +30,10 @@ pub record IsDueWork (before : GcflipPace) (due : ℕ) (s t : State) (work : Gcf
   pub reply : StepReply
   pub run : IsRun None work.steps s t reply
   pub last : work.last ≡ step_reply_in_c reply
-  pub enough : work_left s ≤ due → IsEnd None t reply ⊎ IsTrue (took_its_words before work)
+  pub enough : work_left s ≤ due → IsEnd None None t reply work.copied ⊎ IsTrue (took_its_words before work)
 
 pub due_work : (before : GcflipPace) (due : ℕ) (s t : State) (work : GcflipWork)
-    → (before.words ≡ 0 → IsWork None due s t work) → (1 ≤ before.words → IsWorkWithin (min due before.words) before.words s t work) → IsDueWork before due s t work
+    → (before.words ≡ 0 → IsWork None None due s t work) → (1 ≤ before.words → IsWork None (Some before.words) (min due before.words) s t work) → IsDueWork before due s t work
 due_work before due s t work whole within = grind (arith, common_steps, and_from, le-leb, or_left, or_right, cases_lt)
 
 -- the steps lowered the work that is left by their number
@@ -44,7 +44,7 @@ work_ends : (before : GcflipPace) (due : ℕ) (s t : State) (work : GcflipWork) 
 work_ends before due s t work done low = grind (arith, common_steps)
 
 module _ (s t : State) (before : GcflipPace) (work : GcflipWork) (due : ℕ)
-    (heap : IsSpaceGraph s.size s.heap.free s.heap.graph) (opened : IsOpen s s.collection) (still : IsOpen t t.collection)
+    (heap : IsSpaceGraph s.size s.heap.free s.heap.graph) (opened : IfSome s.collection (IsOpened s)) (still : IfSome t.collection (IsOpened t))
     (none : due ≡ 0 → (t ≡ s) × (work ≡ no_work)) (some : 1 ≤ due → IsDueWork before due s t work) where
   -- no step was due, or some were performed
   split : (due ≡ 0) ⊎ (1 ≤ due)
@@ -68,10 +68,10 @@ module _ (s t : State) (before : GcflipPace) (work : GcflipWork) (due : ℕ)
   ahead_of most gone owed pays few all made flip room low = grind (arith, common_steps, some_left, bound, work_falls, split)
 
 pub paced_work : (wanted : ℕ) (s t : State) (before after : GcflipPace) (work : GcflipWork)
-    → IsSpaceGraph s.size s.heap.free s.heap.graph → IsOpen s s.collection → IsOpen t t.collection
+    → IsSpaceGraph s.size s.heap.free s.heap.graph → IfSome s.collection (IsOpened s) → IfSome t.collection (IsOpened t)
     → (steps_due before (counts_of s) wanted ≡ 0 → (t ≡ s) × (work ≡ no_work))
-    → (1 ≤ steps_due before (counts_of s) wanted → before.words ≡ 0 → IsWork None (steps_due before (counts_of s) wanted) s t work)
-    → (1 ≤ steps_due before (counts_of s) wanted → 1 ≤ before.words → IsWorkWithin (min (steps_due before (counts_of s) wanted) before.words) before.words s t work)
+    → (1 ≤ steps_due before (counts_of s) wanted → before.words ≡ 0 → IsWork None None (steps_due before (counts_of s) wanted) s t work)
+    → (1 ≤ steps_due before (counts_of s) wanted → 1 ≤ before.words → IsWork None (Some before.words) (min (steps_due before (counts_of s) wanted) before.words) s t work)
     → Pays before (counts_of s) (steps_due before (counts_of s) wanted) → after ≡ pace_after before (steps_due before (counts_of s) wanted) work (counts_of t)
     → IsPacedWork wanted s t before after work
 paced_work wanted s t before after work heap opened still none some within paid pace = record {
@@ -100,16 +100,16 @@ paced_work wanted s t before after work heap opened still none some within paid 
 -- the same, as the call finds the counts and the steps that are due
 pub paced_call : (wanted due : ℕ) (s t : State) (before after : GcflipPace) (work : GcflipWork) (counts later : GcflipCounts)
     → due ≡ steps_due before counts wanted → Pays before counts due
-    → (due ≡ 0 → (t ≡ s) × (work ≡ no_work)) → (1 ≤ due → before.words ≡ 0 → IsWork None due s t work) → (1 ≤ due → 1 ≤ before.words → IsWorkWithin (min due before.words) before.words s t work)
+    → (due ≡ 0 → (t ≡ s) × (work ≡ no_work)) → (1 ≤ due → before.words ≡ 0 → IsWork None None due s t work) → (1 ≤ due → 1 ≤ before.words → IsWork None (Some before.words) (min due before.words) s t work)
     → after ≡ pace_after before due work later
     → counts ≡ counts_of s → later ≡ counts_of t
-    → IsSpaceGraph s.size s.heap.free s.heap.graph → IsOpen s s.collection → IsOpen t t.collection
+    → IsSpaceGraph s.size s.heap.free s.heap.graph → IfSome s.collection (IsOpened s) → IfSome t.collection (IsOpened t)
     → IsPacedWork wanted s t before after work
 paced_call wanted due s t before after work counts later is pays none some within pace at then heap opened still =
     let same : due ≡ steps_due before (counts_of s) wanted = is ∙ ap (λ (n : GcflipCounts). steps_due before n wanted) at in
     paced_work wanted s t before after work heap opened still
     (subst (λ (n : ℕ). n ≡ 0 → (t ≡ s) × (work ≡ no_work)) same none)
-    (subst (λ (n : ℕ). 1 ≤ n → before.words ≡ 0 → IsWork None n s t work) same some)
-    (subst (λ (n : ℕ). 1 ≤ n → 1 ≤ before.words → IsWorkWithin (min n before.words) before.words s t work) same within)
+    (subst (λ (n : ℕ). 1 ≤ n → before.words ≡ 0 → IsWork None None n s t work) same some)
+    (subst (λ (n : ℕ). 1 ≤ n → 1 ≤ before.words → IsWork None (Some before.words) (min n before.words) s t work) same within)
     (subst (λ (n : ℕ). Pays before (counts_of s) n) same (subst (λ (n : GcflipCounts). Pays before n due) at pays))
     (pace ∙ (ap (λ (n : ℕ). pace_after before n work later) same ∙ ap (pace_after before (steps_due before (counts_of s) wanted) work) then))

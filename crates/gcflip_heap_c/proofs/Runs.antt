@@ -40,7 +40,6 @@ first_run size s u reply step sound leaves =
       sound = all;
       room = room_of size 1 s all going;
       falls = λ on. let less = leaves.falls on in omega arith;
-      bounds = omega arith;
       logs = omega arith;
     }
 
@@ -58,7 +57,6 @@ longer_run size s t u n before reply run on step sound leaves =
       sound = all;
       room = room_of size (suc n) s all going;
       falls = λ goes. let less = leaves.falls goes in omega arith;
-      bounds = omega arith;
       logs = omega arith;
     }
   where

@@ -1,16 +1,18 @@
 -- Paced work stays ahead of the mutators through many calls, but for the steps that it owes.
 use Rattle.std.proofs.lemmas.Grind.{common_steps}
+use Rattle.std.specs.Option.{option_map_or, unwrap_or}
 use Rattle.std.proofs.Common.{◌≡◌, ℕ, zero, suc, ◌+◌, ◌<◌, ◌≤◌, List, [], ◌∷◌, ◌++◌, set, slice_get, Option, None, refl, sym, subst, arith}
 use Rattle.std.proofs.lemmas.Bool.{cond_both, and_parts, leb-true}
 use Rattle.std.proofs.lemmas.List.{length-append}
 use Rattle.gc_graph.specs.declared.command.Op.{Op}
 use Rattle.gc_plan.specs.State.{Collection, State, heap_end}
 use Rattle.gc_plan.specs.Belonging.{IsState}
-use Rattle.gc_plan.specs.Steps.{log_or_nil, logged, written, mutate, useful_step}
-use Rattle.gc_plan.specs.Progress.{entries_in, work_left, entries_with, entries_left}
+use Rattle.gc_plan.specs.Steps.{logged, written, mutate, collect, useful_step}
+use Rattle.gc_plan.specs.Progress.{entries_in, work_left, entries_left}
+use Rattle.gc_plan.specs.declared.step.Step.{Step}
 use Rattle.gc_plan.proofs.Public.{collect_keeps, mutate_keeps, useful_ranges, command_raises}
 use Rattle.gcflip_heap_c.specs.Readings.{counts_of}
-use Rattle.gcflip_heap_c.specs.Work.{after_useful}
+use Rattle.gcflip_heap_c.specs.Work.{with_size, after_useful}
 use Rattle.gcflip_heap_c.specs.Pace.{steps_due, CountsAll, IsAhead, IsPacedWork}
 use Rattle.gcflip_heap_c.specs.Turns.{Turn, after_commands, AreCommands, AreTurns, after_turns, last_pace, Remembers}
 use Rattle.gcflip_heap_c.specs.declared.pace.GcflipPace.{GcflipPace}
@@ -20,12 +22,12 @@ use Rattle.gcflip_heap_c.proofs.Paced.{due_work}
 
 -- ---- commands take no word and no entry away
 
-entries_more : (logs : List (List (ℕ × ℕ))) (m : ℕ) (more : List (ℕ × ℕ)) → entries_in logs ≤ entries_in (set logs m (log_or_nil (slice_get logs m) ++ more))
+entries_more : (logs : List (List (ℕ × ℕ))) (m : ℕ) (more : List (ℕ × ℕ)) → entries_in logs ≤ entries_in (set logs m (unwrap_or (slice_get logs m) [] ++ more))
 entries_more [] m more = omega arith
 entries_more (log ∷ logs) zero more = let len = length-append log more in omega arith
 entries_more (log ∷ logs) (suc m) more = let others = entries_more logs m more in omega arith
 
-entries_grow : (o : Option Collection) (m : ℕ) (more : List (ℕ × ℕ)) → entries_with o ≤ entries_with (logged o m more)
+entries_grow : (o : Option Collection) (m : ℕ) (more : List (ℕ × ℕ)) → option_map_or (λ (c : Collection). entries_in c.logs) o 0 ≤ option_map_or (λ (c : Collection). entries_in c.logs) (logged o m more) 0
 entries_grow o m more = grind (arith, common_steps, entries_more)
 
 end_grows : (s : State) (m : ℕ) (op : Op) → heap_end s ≤ heap_end (mutate s m op).1
@@ -56,11 +58,16 @@ ahead_before s t pace most h k remembers all low = grind (arith, common_steps, l
 
 -- ---- calls
 
+-- a step stays as it is without a size
+unsized : (step : Step) → step ≡ with_size None step
+unsized step = grind (arith, common_steps)
+
 useful_keep : (n : ℕ) (s : State) → IsState s → IsState (after_useful None n s)
 useful_keep zero s h = h
 useful_keep (suc n) s h =
+    let before = after_useful None n s in
     let now = useful_keep n s h in
-    collect_keeps (after_useful None n s) (useful_step (after_useful None n s)) now (useful_ranges (after_useful None n s) now.collection)
+    subst (λ (step : Step). IsState (collect before step).1) (unsized (useful_step before)) (collect_keeps before (useful_step before) now (useful_ranges before now.collection))
 
 call_keeps : (wanted : ℕ) (s t : State) (before after : GcflipPace) (work : GcflipWork) → IsPacedWork wanted s t before after work → IsState s → IsState t
 call_keeps wanted s t before after work paced h = go (steps_due before (counts_of s) wanted) refl

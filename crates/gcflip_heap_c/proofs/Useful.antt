@@ -2,11 +2,12 @@
 use Rattle.std.proofs.lemmas.Grind.{common_steps}
 use Rattle.std.proofs.Common.{◌≡◌, ℕ, zero, suc, ◌<◌, ◌≤◌, Bool, true, cond, List, [], ◌∷◌, length, Option, Some, None, Result, refl, arith}
 use Rattle.std.specs.Prelude.{◌≢◌, IfOk, IfSome, ⊤}
+use Rattle.std.specs.Option.{option_map}
 use Rattle.std.specs.List.{list_all}
 use Rattle.std.proofs.lemmas.Bool.{and_parts}
 use Rattle.gc_graph.specs.Graph.{Value, Object, Graph}
 use Rattle.gc_plan.specs.State.{Collection, State, replica_at}
-use Rattle.gc_plan.specs.Steps.{is_empty, first_log, scan_done, root_target, is_ready, passes_check, useful_step, place_replica, bring_value, next_field, log_at, if_room, copy_root, scan_replica, apply_log, flipped, step_in, collect}
+use Rattle.gc_plan.specs.Steps.{is_empty, first_log, scan_done, root_target, is_ready, passes_check, useful_step, place_replica, bring_value, log_at, if_room, copy_root, scan_replica, apply_log, flipped, step_in, collect, next_field}
 use Rattle.gc_plan.specs.declared.step.Step.{Step}
 use Rattle.gc_plan.specs.declared.step.Step.TheVariants as steps
 use Rattle.gc_plan.specs.declared.step.StepReply.{StepReply}
@@ -38,7 +39,7 @@ placed_size c name o = grind (arith, common_steps)
 brought_size : (c : Collection) (g : Graph) (name i : ℕ) (o : Option Value) → SameSize c (bring_value c g name i o)
 brought_size c g name i o = grind (arith, common_steps, placed_size)
 
-field_size : (c : Collection) (o : Option Collection) → SameSize c o → SameSize c (next_field o)
+field_size : (c : Collection) (o : Option Collection) → SameSize c o → SameSize c (option_map next_field o)
 field_size c o h = grind (arith, common_steps)
 
 -- ---- a new space that is at least as large as the heap stays so until the flip

@@ -1,11 +1,11 @@
 -- The steps that are due at a call of paced work: a function of the heap's counts and of a pace, which remembers counts of the call before.
-use Rattle.std.specs.Prelude.{◌≡◌, ◌≢◌, ◌⊎◌, ℕ, ◌+◌, ◌-◌, ◌*◌, ◌/◌, ◌<◌, ◌≤◌, ◌↔◌, ◌==◌, ◌&&◌, ◌||◌, nat_lt, nat_le, min, max, if◌then◌else◌, IsTrue, Bool, Option, Some, None, IsSomeAnd}
+use Rattle.std.specs.Prelude.{◌≡◌, ◌≢◌, ◌⊎◌, ℕ, ◌+◌, ◌-◌, ◌*◌, ◌/◌, ◌<◌, ◌≤◌, ◌==◌, ◌&&◌, ◌||◌, nat_lt, nat_le, min, max, if◌then◌else◌, IsTrue, Bool, Some, None}
 use Rattle.gc_plan.specs.State.{State}
 use Rattle.gc_plan.specs.Steps.{useful_step}
 use Rattle.gc_plan.specs.Progress.{work_left}
 use Rattle.gc_core.specs.CollectedHeap.{Allocates}
 use Rattle.gcflip_heap_c.specs.Readings.{counts_of}
-use Rattle.gcflip_heap_c.specs.Work.{IsWork, IsWorkWithin}
+use Rattle.gcflip_heap_c.specs.Work.{IsWork}
 use Rattle.gcflip_heap_c.specs.declared.pace.GcflipPace.{GcflipPace}
 use Rattle.gcflip_heap_c.specs.declared.reading.GcflipCounts.{GcflipCounts}
 use Rattle.gcflip_heap_c.specs.declared.work.GcflipWork.{GcflipWork}
@@ -103,9 +103,9 @@ IsAhead most pace s = work_left s ≤ most + pace.owed + spent pace (counts_of s
 -- the useful steps that are due, in order, or none
 pub record IsPacedWork (wanted : ℕ) (s t : State) (before after : GcflipPace) (work : GcflipWork) : Type 0 where
   pub none : steps_due before (counts_of s) wanted ≡ 0 → (t ≡ s) × (work ≡ no_work)
-  pub some : 1 ≤ steps_due before (counts_of s) wanted → before.words ≡ 0 → IsWork None (steps_due before (counts_of s) wanted) s t work
+  pub some : 1 ≤ steps_due before (counts_of s) wanted → before.words ≡ 0 → IsWork None None (steps_due before (counts_of s) wanted) s t work
   -- the same, but where the pace bounds the words, the steps end once there were as many, or replicas took as many words
-  pub within : 1 ≤ steps_due before (counts_of s) wanted → 1 ≤ before.words → IsWorkWithin (min (steps_due before (counts_of s) wanted) before.words) before.words s t work
+  pub within : 1 ≤ steps_due before (counts_of s) wanted → 1 ≤ before.words → IsWork None (Some before.words) (min (steps_due before (counts_of s) wanted) before.words) s t work
   pub paid : Pays before (counts_of s) (steps_due before (counts_of s) wanted)
   pub pace : after ≡ pace_after before (steps_due before (counts_of s) wanted) work (counts_of t)
   -- the entries that remain in all logs, and the steps performed, are at most the steps that were left
@@ -117,19 +117,3 @@ pub record IsPacedWork (wanted : ℕ) (s t : State) (before after : GcflipPace) 
   pub begun : (counts_of s).is_open ≡ 0 → 1 ≤ work.steps → work.last ≢ 43 → work.last ≢ 36 → work_left t ≤ (counts_of s).end
   pub ahead : (most : ℕ) → GoesOn wanted s before work → IsAhead most before s → IsAhead most after t
   pub fewer : (counts_of t).logged < work_left t
-
-abbrev pub WorksPaced : ℕ → Option State → Option State → GcflipPace → GcflipPace → GcflipWork → Type 0
-WorksPaced wanted (Some old) (Some new) before after work = IsPacedWork wanted old new before after work
-WorksPaced wanted old new before after work = ⊥
-
--- what a call of paced work returns, and the heap, the pace and C's report after it
-pub record IsPacedCall (wanted : ℕ) (old new : Option State) (before after : GcflipPace) (earlier work : GcflipWork) (answer : ℕ) : Type 0 where
-  pub answers : answer ≤ 3
-  pub done : answer ≡ 0 → WorksPaced wanted old new before after work
-  -- a refused call changes nothing
-  pub heap : 1 ≤ answer → new ≡ old
-  pub pace : 1 ≤ answer → after ≡ before
-  pub silent : 1 ≤ answer → work ≡ earlier
-  pub memory : answer ≡ 1 → IsSomeAnd old (λ s. Allocates s (useful_step s))
-  pub outside : (answer ≡ 2) ↔ IsSomeAnd old (λ s. ¬ IsPace before)
-  pub closed : (answer ≡ 3) ↔ (old ≡ None)

@@ -1,6 +1,6 @@
 -- What C can read of a heap.
-use Rattle.std.specs.Prelude.{◌≡◌, ℕ, zero, suc, ◌+◌, min, nat_lt, if◌then◌else◌, List, length, slice_get, Option, Some, None}
-use Rattle.std.specs.Option.{option_map}
+use Rattle.std.specs.Prelude.{◌≡◌, ℕ, zero, suc, ◌+◌, min, nat_lt, if◌then◌else◌, List, length, slice_get, Option, None}
+use Rattle.std.specs.Option.{option_map, option_map_or}
 use Rattle.gc_plan.specs.State.{State, Collection, new_end, heap_end, extra_roots_of}
 use Rattle.gc_core.specs.Readings.{heap_image, log_of}
 use Rattle.gcflip_heap_c.specs.declared.reading.GcflipCounts.{GcflipCounts}
@@ -31,12 +31,11 @@ idle_counts s = record {
   logged = logged_in s;
 }
 
-abbrev pub counts_with : State → Option Collection → GcflipCounts
-counts_with s None = idle_counts s
-counts_with s (Some c) = record (idle_counts s) { is_open = 1; new_size = c.size; new_end = new_end c; scan_place = c.scan_place; scan_field = c.scan_field }
+abbrev pub open_counts : State → Collection → GcflipCounts
+open_counts s c = record (idle_counts s) { is_open = 1; new_size = c.size; new_end = new_end c; scan_place = c.scan_place; scan_field = c.scan_field }
 
 abbrev pub counts_of : State → GcflipCounts
-counts_of s = counts_with s s.collection
+counts_of s = option_map_or (open_counts s) s.collection (idle_counts s)
 
 abbrev pub entry_in_c : ℕ × ℕ → GcflipLogEntry
 entry_in_c entry = record { object = entry.0; field = entry.1 }
@@ -48,8 +47,3 @@ entry_at s m k = if nat_lt m s.mutators then option_map entry_in_c (slice_get (l
 -- C's arrays are as long as the image's words and roots
 abbrev pub FitsImage : List ℕ → List ℕ → State → Type 0
 FitsImage words roots s = (length words ≡ length (heap_image s).words) × (length roots ≡ length (heap_image s).roots)
-
--- a collection is open, and C's array is as long as the words of its new space
-abbrev pub FitsNew : List ℕ → Option (List ℕ) → Type 0
-FitsNew row None = ⊥
-FitsNew row (Some words) = length row ≡ length words

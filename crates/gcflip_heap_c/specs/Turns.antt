@@ -1,5 +1,6 @@
 -- Many calls of paced work, with commands of mutators between them.
 use Rattle.std.specs.Prelude.{◌≡◌, ℕ, ◌<◌, List, [], ◌∷◌, ⊤}
+use Rattle.std.specs.List.{AllByRecursion}
 use Rattle.gc_graph.specs.declared.command.Op.{Op}
 use Rattle.gc_plan.specs.State.{State}
 use Rattle.gc_plan.specs.Steps.{mutate}
@@ -23,8 +24,7 @@ after_commands s (command ∷ rest) = after_commands (mutate s command.0 command
 
 -- each mutator exists, and each command's numbers are in range
 abbrev pub AreCommands : ℕ → List (ℕ × Op) → Type 0
-AreCommands mutators [] = ⊤
-AreCommands mutators (command ∷ rest) = ((command.0 < mutators) × HasRange command.1) × AreCommands mutators rest
+AreCommands mutators commands = AllByRecursion (λ command. (command.0 < mutators) × HasRange command.1) commands
 
 -- the turn begins in this state and with this pace; the collection is open before and after its call
 pub record IsTurn (s : State) (pace : GcflipPace) (turn : Turn) : Type 0 where

@@ -1,12 +1,14 @@
 //! The exports that perform mutators' commands, with C's numbers as arguments.
 
-ghost use Rattle.std.specs.Prelude.{◌≡◌, ◌≢◌, ◌∷◌, [], IsSomeAnd, IsSome};
-ghost use Rattle.std.specs.Option.{option_map};
+ghost use Rattle.std.specs.Prelude.{◌≡◌, ◌≢◌, ◌<◌, ◌^◌, ◌∷◌, [], length, map, IsSomeAnd, IsSome};
+ghost use Rattle.gc_graph.specs.Limits.{lengths};
 ghost use Rattle.gc_graph.specs.declared.command.Op.{Op};
 ghost use Rattle.gc_heap.specs.Commands.{fetched_of};
-ghost use Rattle.gcflip_heap_c.specs.Commands.{number_in, with_both, IsCommandCall, IsPutNumberCall, IsPutNilCall, IsNewFromCall};
+ghost use Rattle.gc_plan.specs.Steps.{mutate};
+ghost use Rattle.gc_core.specs.CollectedHeap.{new_from_step};
+ghost use Rattle.gcflip_heap_c.specs.Commands.{IsCall, IsCommandCall, Replies};
 ghost use Rattle.gcflip_heap_c.specs.Replies.{IsRefusal, reply_in_c, fetched_in_c, number_after, view_after};
-ghost use Rattle.gcflip_heap_c.specs.Slots.{slot_at};
+ghost use Rattle.gcflip_heap_c.specs.Slots.{NamesSlots, numbered_slot};
 
 use crate::answer::{CLOSED, NO_MEMORY, OUT_OF_RANGE};
 use crate::handle::GcflipHeap;
@@ -27,8 +29,8 @@ pub extern "C" fn gcflip_heap_new_object(
     kind: u8,
     count: u16,
 ) -> u32
-    ensures call { IsCommandCall m (option_map (λ d. Op.New d kind count) (slot_at d))
-        (λ reply. result ≡ reply_in_c reply) heap.old.state heap.new.state result }
+    ensures call { IsCommandCall (NamesSlots m (d ∷ []))
+        (λ state. mutate state m (Op.New (numbered_slot d) kind count)) heap.old.state heap.new.state result }
     ensures memory { result ≢ 1 }
     ensures former { heap.new.former ≡ heap.old.former }
 {
@@ -57,8 +59,8 @@ pub extern "C" fn gcflip_heap_new_raw(
     kind: u8,
     count: u16,
 ) -> u32
-    ensures call { IsCommandCall m (option_map (λ d. Op.NewRaw d kind count) (slot_at d))
-        (λ reply. result ≡ reply_in_c reply) heap.old.state heap.new.state result }
+    ensures call { IsCommandCall (NamesSlots m (d ∷ []))
+        (λ state. mutate state m (Op.NewRaw (numbered_slot d) kind count)) heap.old.state heap.new.state result }
     ensures memory { result ≢ 1 }
     ensures former { heap.new.former ≡ heap.old.former }
 {
@@ -81,8 +83,8 @@ pub extern "C" fn gcflip_heap_new_raw(
 /// Puts the number `n`, which must be below 2^63, into slot `d`.
 #[unsafe(no_mangle)]
 pub extern "C" fn gcflip_heap_set_number(heap: &mut GcflipHeap, m: u8, d: u8, n: u64) -> u32
-    ensures call { IsCommandCall m (with_both (slot_at d) (number_in n) Op.Num)
-        (λ reply. result ≡ reply_in_c reply) heap.old.state heap.new.state result }
+    ensures call { IsCommandCall (λ state. NamesSlots m (d ∷ []) state × (n < 2 ^ 63))
+        (λ state. mutate state m (Op.Num (numbered_slot d) n)) heap.old.state heap.new.state result }
     ensures memory { result ≢ 1 }
     ensures former { heap.new.former ≡ heap.old.former }
 {
@@ -105,8 +107,7 @@ pub extern "C" fn gcflip_heap_set_number(heap: &mut GcflipHeap, m: u8, d: u8, n:
 /// Puts nil into slot `d`.
 #[unsafe(no_mangle)]
 pub extern "C" fn gcflip_heap_set_nil(heap: &mut GcflipHeap, m: u8, d: u8) -> u32
-    ensures call { IsCommandCall m (option_map Op.Nil (slot_at d))
-        (λ reply. result ≡ reply_in_c reply) heap.old.state heap.new.state result }
+    ensures call { IsCommandCall (NamesSlots m (d ∷ [])) (λ state. mutate state m (Op.Nil (numbered_slot d))) heap.old.state heap.new.state result }
     ensures memory { result ≢ 1 }
     ensures former { heap.new.former ≡ heap.old.former }
 {
@@ -126,8 +127,8 @@ pub extern "C" fn gcflip_heap_set_nil(heap: &mut GcflipHeap, m: u8, d: u8) -> u3
 /// Copies the value of slot `s` into slot `d`.
 #[unsafe(no_mangle)]
 pub extern "C" fn gcflip_heap_move(heap: &mut GcflipHeap, m: u8, d: u8, s: u8) -> u32
-    ensures call { IsCommandCall m (with_both (slot_at d) (slot_at s) Op.Move)
-        (λ reply. result ≡ reply_in_c reply) heap.old.state heap.new.state result }
+    ensures call { IsCommandCall (NamesSlots m (d ∷ s ∷ []))
+        (λ state. mutate state m (Op.Move (numbered_slot d) (numbered_slot s))) heap.old.state heap.new.state result }
     ensures memory { result ≢ 1 }
     ensures former { heap.new.former ≡ heap.old.former }
 {
@@ -158,8 +159,8 @@ pub extern "C" fn gcflip_heap_get(
     i: u16,
     number: &mut u64,
 ) -> u32
-    ensures call { IsCommandCall m (with_both (slot_at d) (slot_at s) (λ d s. Op.Get d s i))
-        (λ reply. (result ≡ fetched_in_c (fetched_of reply)) × (number.new ≡ number_after number.old (fetched_of reply))) heap.old.state heap.new.state result }
+    ensures call { IsCall (NamesSlots m (d ∷ s ∷ [])) (Replies (λ state. mutate state m (Op.Get (numbered_slot d) (numbered_slot s) i))
+        (λ reply. (result ≡ fetched_in_c (fetched_of reply)) × (number.new ≡ number_after number.old (fetched_of reply)))) heap.old.state heap.new.state result }
     ensures silent { IsRefusal result → number.new ≡ number.old }
     ensures memory { result ≢ 1 }
     ensures former { heap.new.former ≡ heap.old.former }
@@ -184,8 +185,8 @@ pub extern "C" fn gcflip_heap_get(
 /// is open.
 #[unsafe(no_mangle)]
 pub extern "C" fn gcflip_heap_put(heap: &mut GcflipHeap, m: u8, s: u8, i: u16, t: u8) -> u32
-    ensures call { IsCommandCall m (with_both (slot_at s) (slot_at t) (λ s t. Op.Put s i t))
-        (λ reply. result ≡ reply_in_c reply) heap.old.state heap.new.state result }
+    ensures call { IsCommandCall (NamesSlots m (s ∷ t ∷ []))
+        (λ state. mutate state m (Op.Put (numbered_slot s) i (numbered_slot t))) heap.old.state heap.new.state result }
     ensures memory { result ≡ 1 → IsSomeAnd heap.old.state (λ s. IsSome s.collection) }
     ensures former { heap.new.former ≡ heap.old.former }
 {
@@ -222,7 +223,8 @@ pub extern "C" fn gcflip_heap_put_number(
     t: u8,
     n: u64,
 ) -> u32
-    ensures call { IsPutNumberCall m (slot_at s) i (slot_at t) (number_in n) heap.old.state heap.new.state result }
+    ensures call { IsCommandCall (λ state. NamesSlots m (s ∷ t ∷ []) state × (n < 2 ^ 63))
+        (λ state. mutate (mutate state m (Op.Num (numbered_slot t) n)).1 m (Op.Put (numbered_slot s) i (numbered_slot t))) heap.old.state heap.new.state result }
     ensures memory { result ≡ 1 → IsSomeAnd heap.old.state (λ s. IsSome s.collection) }
     ensures former { heap.new.former ≡ heap.old.former }
 {
@@ -253,7 +255,8 @@ pub extern "C" fn gcflip_heap_put_number(
 /// `gcflip_heap_set_nil` followed by a `gcflip_heap_put`, in one call. Allocates only while a collection is open.
 #[unsafe(no_mangle)]
 pub extern "C" fn gcflip_heap_put_nil(heap: &mut GcflipHeap, m: u8, s: u8, i: u16, t: u8) -> u32
-    ensures call { IsPutNilCall m (slot_at s) i (slot_at t) heap.old.state heap.new.state result }
+    ensures call { IsCommandCall (NamesSlots m (s ∷ t ∷ []))
+        (λ state. mutate (mutate state m (Op.Nil (numbered_slot t))).1 m (Op.Put (numbered_slot s) i (numbered_slot t))) heap.old.state heap.new.state result }
     ensures memory { result ≡ 1 → IsSomeAnd heap.old.state (λ s. IsSome s.collection) }
     ensures former { heap.new.former ≡ heap.old.former }
 {
@@ -288,7 +291,8 @@ pub extern "C" fn gcflip_heap_new_pair(
     s: u8,
     t: u8,
 ) -> u32
-    ensures call { IsNewFromCall m d kind (s ∷ t ∷ []) heap.old.state heap.new.state result }
+    ensures call { IsCommandCall (NamesSlots m (d ∷ s ∷ t ∷ []))
+        (λ state. new_from_step state m (numbered_slot d) kind (numbered_slot s ∷ numbered_slot t ∷ [])) heap.old.state heap.new.state result }
     ensures memory { result ≡ 1 → IsSomeAnd heap.old.state (λ s. IsSome s.collection) }
     ensures former { heap.new.former ≡ heap.old.former }
 {
@@ -324,7 +328,8 @@ pub extern "C" fn gcflip_heap_new_from(
     kind: u8,
     fields: &[u8],
 ) -> u32
-    ensures call { IsNewFromCall m d kind fields.now heap.old.state heap.new.state result }
+    ensures call { IsCommandCall (λ state. NamesSlots m (d ∷ fields.now) state × (length fields.now < lengths))
+        (λ state. new_from_step state m (numbered_slot d) kind (map numbered_slot fields.now)) heap.old.state heap.new.state result }
     ensures memory { result ≡ 1 → IsSomeAnd heap.old.state (λ s. IsSome s.collection) }
     ensures former { heap.new.former ≡ heap.old.former }
 {
@@ -351,8 +356,8 @@ pub extern "C" fn gcflip_heap_new_from(
 /// Compares the values of slots `s` and `t`.
 #[unsafe(no_mangle)]
 pub extern "C" fn gcflip_heap_same(heap: &mut GcflipHeap, m: u8, s: u8, t: u8) -> u32
-    ensures call { IsCommandCall m (with_both (slot_at s) (slot_at t) Op.Same)
-        (λ reply. result ≡ reply_in_c reply) heap.old.state heap.new.state result }
+    ensures call { IsCommandCall (NamesSlots m (s ∷ t ∷ []))
+        (λ state. mutate state m (Op.Same (numbered_slot s) (numbered_slot t))) heap.old.state heap.new.state result }
     ensures memory { result ≢ 1 }
     ensures former { heap.new.former ≡ heap.old.former }
 {
@@ -380,8 +385,8 @@ pub extern "C" fn gcflip_heap_look(
     s: u8,
     view: &mut GcflipView,
 ) -> u32
-    ensures call { IsCommandCall m (option_map Op.Look (slot_at s))
-        (λ reply. (result ≡ reply_in_c reply) × (view.new ≡ view_after view.old reply)) heap.old.state heap.new.state result }
+    ensures call { IsCall (NamesSlots m (s ∷ [])) (Replies (λ state. mutate state m (Op.Look (numbered_slot s)))
+        (λ reply. (result ≡ reply_in_c reply) × (view.new ≡ view_after view.old reply))) heap.old.state heap.new.state result }
     ensures silent { IsRefusal result → view.new ≡ view.old }
     ensures memory { result ≢ 1 }
     ensures former { heap.new.former ≡ heap.old.former }

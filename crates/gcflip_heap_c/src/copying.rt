@@ -1,7 +1,9 @@
 //! The export that copies fields from one object to another.
 
-ghost use Rattle.std.specs.Prelude.{◌≡◌, IsSome, IsSomeAnd};
-ghost use Rattle.gcflip_heap_c.specs.Copying.{IsCopyCall};
+ghost use Rattle.std.specs.Prelude.{◌≡◌, ◌≢◌, ◌∷◌, [], IsSome, IsSomeAnd};
+ghost use Rattle.gc_core.specs.Copying.{copy_fields_step};
+ghost use Rattle.gcflip_heap_c.specs.Commands.{IsCommandCall};
+ghost use Rattle.gcflip_heap_c.specs.Slots.{NamesSlots, numbered_slot};
 
 use crate::answer::{CLOSED, NO_MEMORY, OUT_OF_RANGE};
 use crate::handle::GcflipHeap;
@@ -23,7 +25,8 @@ pub extern "C" fn gcflip_heap_copy_fields(
     t: u8,
     count: u16,
 ) -> u32
-    ensures call { IsCopyCall m d to s from t count heap.old.state heap.new.state result }
+    ensures call { IsCommandCall (λ state. NamesSlots m (d ∷ s ∷ t ∷ []) state × (t ≢ d) × (t ≢ s))
+        (λ state. copy_fields_step state m (numbered_slot d) to (numbered_slot s) from (numbered_slot t) count) heap.old.state heap.new.state result }
     ensures memory { result ≡ 1 → IsSomeAnd heap.old.state (λ s. IsSome s.collection) }
     ensures former { heap.new.former ≡ heap.old.former }
 {

@@ -1,8 +1,11 @@
 //! The export that makes an object whose fields take numbers and the values of slots.
 
-ghost use Rattle.std.specs.Prelude.{◌≡◌, ◌↔◌, ◌<◌, IsTrue, IsSome, IsSomeAnd, map};
+ghost use Rattle.std.specs.Prelude.{◌≡◌, ◌≢◌, ◌↔◌, ◌∷◌, [], IsTrue, IsSome, IsSomeAnd, map};
 ghost use Rattle.std.specs.List.{AllByRecursion};
-ghost use Rattle.gcflip_heap_c.specs.Mixed.{is_source, source_of as source_in, AreSources, IsNewWithCall};
+ghost use Rattle.gc_core.specs.Mixed.{new_with_step};
+ghost use Rattle.gcflip_heap_c.specs.Commands.{IsCommandCall};
+ghost use Rattle.gcflip_heap_c.specs.Mixed.{is_source, source_of as source_in, AreSources};
+ghost use Rattle.gcflip_heap_c.specs.Slots.{NamesSlots, numbered_slot};
 
 use crate::answer::{CLOSED, NO_MEMORY, OUT_OF_RANGE};
 use crate::handle::GcflipHeap;
@@ -91,7 +94,8 @@ pub extern "C" fn gcflip_heap_new_with(
     t: u8,
     fields: &[GcflipField],
 ) -> u32
-    ensures call { IsNewWithCall m d kind t fields.now heap.old.state heap.new.state result }
+    ensures call { IsCommandCall (λ state. NamesSlots m (d ∷ t ∷ []) state × (t ≢ d) × AreSources fields.now)
+        (λ state. new_with_step state m (numbered_slot d) kind (numbered_slot t) (map source_in fields.now)) heap.old.state heap.new.state result }
     ensures memory { result ≡ 1 → IsSomeAnd heap.old.state (λ s. IsSome s.collection) }
     ensures former { heap.new.former ≡ heap.old.former }
 {

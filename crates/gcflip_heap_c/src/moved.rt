@@ -1,9 +1,10 @@
 //! The export that tells where the last flip moved an object, for a table by address.
 
-ghost use Rattle.std.specs.Prelude.{◌≡◌};
+ghost use Rattle.std.specs.Prelude.{◌≡◌, ◌≢◌, IsSome, IsSomeAnd};
 ghost use Rattle.gc_copy.specs.Words.{moved_in};
-ghost use Rattle.gcflip_heap_c.specs.Former.{moved_answer, moved_address};
-ghost use Rattle.gcflip_heap_c.specs.Raws.{address_answer, address_after};
+ghost use Rattle.gcflip_heap_c.specs.Commands.{IsCall};
+ghost use Rattle.gcflip_heap_c.specs.Raws.{TellsAddress};
+ghost use Rattle.gcflip_heap_c.specs.Replies.{IsRefusal};
 
 use crate::answer::{CLOSED, DONE, NO_OBJECT, OUT_OF_RANGE};
 use crate::handle::GcflipHeap;
@@ -13,8 +14,7 @@ use gc_words::OldAddr;
 /// Writes the address to which the last flip moved the object that was at the address `old` before it, if it did not die.
 /// Returns 0, or 18 if the object died.
 fn read_moved(former: &Room, old: u32, address: &mut u32) -> u32
-    ensures answer { result ≡ address_answer (moved_in former.now old) }
-    ensures address { address.new ≡ address_after address.old (moved_in former.now old) }
+    ensures { TellsAddress (moved_in former.now old) address.old address.new result }
 {
     match former.moved(OldAddr(old)) {
         None => NO_OBJECT,
@@ -30,9 +30,11 @@ fn read_moved(former: &Room, old: u32, address: &mut u32) -> u32
 /// nothing back, and takes constant time.
 #[unsafe(no_mangle)]
 pub extern "C" fn gcflip_heap_moved(heap: &mut GcflipHeap, old: u32, address: &mut u32) -> u32
-    ensures answer { result ≡ moved_answer heap.old.state heap.old.former old }
-    ensures address { address.new ≡ moved_address address.old heap.old.state heap.old.former old }
+    ensures call { IsCall (λ _. IsSome heap.old.former) (λ _ _. IsSomeAnd heap.old.former (λ room. TellsAddress (moved_in room old) address.old address.new result))
+        heap.old.state heap.new.state result }
     ensures heap { heap.new.state ≡ heap.old.state }
+    ensures silent { IsRefusal result → address.new ≡ address.old }
+    ensures memory { result ≢ 1 }
     ensures former { heap.new.former ≡ heap.old.former }
 {
     if heap.is_empty() {

@@ -1,13 +1,14 @@
 //! The pace of collector steps: how many are due, as a function of counts, and the exports that perform them.
 
-ghost use Rattle.std.specs.Prelude.{◌≡◌, ◌⊎◌, ◌<◌, ◌≤◌, ◌↔◌, ◌^◌, ◌+◌, ◌*◌, min, None, IsSomeAnd, IsTrue, IfOk, OnErr};
+ghost use Rattle.std.specs.Prelude.{◌≡◌, ◌⊎◌, ◌<◌, ◌≤◌, ◌↔◌, ◌^◌, ◌+◌, ◌*◌, min, Some, None, IsSomeAnd, IsTrue, IfOk, OnErr};
 ghost use Rattle.gc_plan.specs.Steps.{useful_step};
 ghost use Rattle.gc_core.specs.CollectedHeap.{Allocates};
 ghost use Rattle.gcflip_heap_c.specs.Readings as readings;
 ghost use Rattle.gcflip_heap_c.specs.Pace as paces;
-ghost use Rattle.gcflip_heap_c.specs.Pace.{IsPace, IsPacedWork, IsPacedCall};
+ghost use Rattle.gcflip_heap_c.specs.Commands.{IsCall};
+ghost use Rattle.gcflip_heap_c.specs.Pace.{IsPace, IsPacedWork};
 ghost use Rattle.gcflip_heap_c.specs.Former.{LeavesAfter};
-ghost use Rattle.gcflip_heap_c.specs.Work.{IsWork, IsWorkWithin};
+ghost use Rattle.gcflip_heap_c.specs.Work.{IsWork};
 
 use crate::answer::{CLOSED, DONE, NO_MEMORY, OUT_OF_RANGE};
 use crate::handle::GcflipHeap;
@@ -223,8 +224,8 @@ fn pace_after(pace: &GcflipPace, due: u32, work: &GcflipWork, counts: &GcflipCou
 /// Performs this many useful steps, or none. Ends once it performed `words` steps, or replicas took `words` words, unless that is 0.
 fn work_due(heap: &mut KeptHeap, words: u32, due: u32) -> Result<GcflipWork, NoMemory>
     ensures none { due ≡ 0 → IfOk result (λ work. (heap.new ≡ heap.old) × (work ≡ paces.no_work)) }
-    ensures some { 1 ≤ due → words ≡ 0 → IfOk result (IsWork None due heap.old.live heap.new.live) }
-    ensures within { 1 ≤ due → 1 ≤ words → IfOk result (IsWorkWithin (min due words) words heap.old.live heap.new.live) }
+    ensures some { 1 ≤ due → words ≡ 0 → IfOk result (IsWork None None due heap.old.live heap.new.live) }
+    ensures within { 1 ≤ due → 1 ≤ words → IfOk result (IsWork None (Some words) (min due words) heap.old.live heap.new.live) }
     ensures former { IfOk result (λ work. LeavesAfter None work.steps heap.old.live heap.old.former heap.new.former) }
     ensures refused { OnErr result (heap.new ≡ heap.old) }
     ensures allocates { OnErr result (Allocates heap.old.live (useful_step heap.old.live)) }
@@ -268,7 +269,10 @@ pub extern "C" fn gcflip_heap_work_paced(
     wanted: u32,
     work: &mut GcflipWork,
 ) -> u32
-    ensures call { IsPacedCall wanted heap.old.state heap.new.state pace.old pace.new work.old work.new result }
+    ensures call { IsCall (λ _. IsPace pace.old) (λ s t. (result ≡ 0) × IsPacedWork wanted s t pace.old pace.new work.new)
+        heap.old.state heap.new.state result }
+    ensures silent { 1 ≤ result → (pace.new ≡ pace.old) × (work.new ≡ work.old) }
+    ensures memory { result ≡ 1 → IsSomeAnd heap.old.state (λ s. Allocates s (useful_step s)) }
     ensures former { result ≡ 0 → IsSomeAnd heap.old.state (λ s. LeavesAfter None work.new.steps s heap.old.former heap.new.former) }
     ensures kept { 1 ≤ result → heap.new.former ≡ heap.old.former }
 {

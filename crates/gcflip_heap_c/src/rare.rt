@@ -1,12 +1,12 @@
 //! Commands in the rarer cases: long objects, and writes while a collection is open. They are functions of their own, which an export calls
 //! last. So the common case of the export calls at most what makes the standing checker's rows longer, and saves fewer registers.
 
-ghost use Rattle.std.specs.Prelude.{◌≡◌, ◌≢◌, ◌<◌, ◌∷◌, [], Some, IsSome};
-ghost use Rattle.std.specs.Option.{option_map};
+ghost use Rattle.std.specs.Prelude.{◌≡◌, ◌≢◌, ◌<◌, ◌^◌, ◌∷◌, [], Some, IsSome};
 ghost use Rattle.gc_graph.specs.declared.command.Op.{Op};
-ghost use Rattle.gcflip_heap_c.specs.Commands.{number_in, with_both, IsCommandCall, IsPutNumberCall, IsNewFromCall};
-ghost use Rattle.gcflip_heap_c.specs.Replies.{reply_in_c};
-ghost use Rattle.gcflip_heap_c.specs.Slots.{slot_at};
+ghost use Rattle.gc_plan.specs.Steps.{mutate};
+ghost use Rattle.gc_core.specs.CollectedHeap.{new_from_step};
+ghost use Rattle.gcflip_heap_c.specs.Commands.{IsCommandCall};
+ghost use Rattle.gcflip_heap_c.specs.Slots.{NamesSlots, numbered_slot};
 
 use crate::answer::{NO_MEMORY, OUT_OF_RANGE};
 use crate::reply::of_reply;
@@ -21,8 +21,8 @@ pub(crate) const MOST_IN_LINE: u16 = 9;
 #[inline(never)]
 pub(crate) fn new_long(heap: &mut LiveHeap, m: u8, d: u8, kind: u8, count: u16) -> u32
     requires { m < heap.old.mutators }
-    ensures call { IsCommandCall m (option_map (λ d. Op.New d kind count) (slot_at d))
-        (λ reply. result ≡ reply_in_c reply) (Some heap.old) (Some heap.new) result }
+    ensures call { IsCommandCall (NamesSlots m (d ∷ []))
+        (λ state. mutate state m (Op.New (numbered_slot d) kind count)) (Some heap.old) (Some heap.new) result }
     ensures memory { result ≢ 1 }
 {
     let Some(d) = slot(d) else {
@@ -35,8 +35,8 @@ pub(crate) fn new_long(heap: &mut LiveHeap, m: u8, d: u8, kind: u8, count: u16) 
 #[inline(never)]
 pub(crate) fn new_long_raw(heap: &mut LiveHeap, m: u8, d: u8, kind: u8, count: u16) -> u32
     requires { m < heap.old.mutators }
-    ensures call { IsCommandCall m (option_map (λ d. Op.NewRaw d kind count) (slot_at d))
-        (λ reply. result ≡ reply_in_c reply) (Some heap.old) (Some heap.new) result }
+    ensures call { IsCommandCall (NamesSlots m (d ∷ []))
+        (λ state. mutate state m (Op.NewRaw (numbered_slot d) kind count)) (Some heap.old) (Some heap.new) result }
     ensures memory { result ≢ 1 }
 {
     let Some(d) = slot(d) else {
@@ -49,8 +49,8 @@ pub(crate) fn new_long_raw(heap: &mut LiveHeap, m: u8, d: u8, kind: u8, count: u
 #[inline(never)]
 pub(crate) fn put_while_open(heap: &mut LiveHeap, m: u8, s: u8, i: u16, t: u8) -> u32
     requires { m < heap.old.mutators }
-    ensures call { IsCommandCall m (with_both (slot_at s) (slot_at t) (λ s t. Op.Put s i t))
-        (λ reply. result ≡ reply_in_c reply) (Some heap.old) (Some heap.new) result }
+    ensures call { IsCommandCall (NamesSlots m (s ∷ t ∷ []))
+        (λ state. mutate state m (Op.Put (numbered_slot s) i (numbered_slot t))) (Some heap.old) (Some heap.new) result }
     ensures memory { result ≡ 1 → IsSome heap.old.collection }
 {
     if s >= SLOT_NUMBERS || t >= SLOT_NUMBERS {
@@ -67,7 +67,8 @@ pub(crate) fn put_while_open(heap: &mut LiveHeap, m: u8, s: u8, i: u16, t: u8) -
 #[inline(never)]
 pub(crate) fn put_number_while_open(heap: &mut LiveHeap, m: u8, s: u8, i: u16, t: u8, n: u64) -> u32
     requires { m < heap.old.mutators }
-    ensures call { IsPutNumberCall m (slot_at s) i (slot_at t) (number_in n) (Some heap.old) (Some heap.new) result }
+    ensures call { IsCommandCall (λ state. NamesSlots m (s ∷ t ∷ []) state × (n < 2 ^ 63))
+        (λ state. mutate (mutate state m (Op.Num (numbered_slot t) n)).1 m (Op.Put (numbered_slot s) i (numbered_slot t))) (Some heap.old) (Some heap.new) result }
     ensures memory { result ≡ 1 → IsSome heap.old.collection }
 {
     if s >= SLOT_NUMBERS || t >= SLOT_NUMBERS {
@@ -87,7 +88,8 @@ pub(crate) fn put_number_while_open(heap: &mut LiveHeap, m: u8, s: u8, i: u16, t
 #[inline(never)]
 pub(crate) fn new_pair_while_open(heap: &mut LiveHeap, m: u8, d: u8, kind: u8, s: u8, t: u8) -> u32
     requires { m < heap.old.mutators }
-    ensures call { IsNewFromCall m d kind (s ∷ t ∷ []) (Some heap.old) (Some heap.new) result }
+    ensures call { IsCommandCall (NamesSlots m (d ∷ s ∷ t ∷ []))
+        (λ state. new_from_step state m (numbered_slot d) kind (numbered_slot s ∷ numbered_slot t ∷ [])) (Some heap.old) (Some heap.new) result }
     ensures memory { result ≡ 1 → IsSome heap.old.collection }
 {
     if d >= SLOT_NUMBERS || s >= SLOT_NUMBERS || t >= SLOT_NUMBERS {

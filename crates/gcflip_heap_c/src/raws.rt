@@ -1,9 +1,12 @@
 //! The exports that read or write the numbers of a raw object at once, and the one that tells the address of an object.
 
-ghost use Rattle.std.specs.Prelude.{◌≡◌, ◌<◌, ◌≤◌, length, IsSome, IsSomeAnd};
+ghost use Rattle.std.specs.Prelude.{◌≡◌, ◌≢◌, ◌<◌, ◌∷◌, [], IsSome, IsSomeAnd};
 ghost use Rattle.gc_heap.specs.Raws.{raw_numbers};
-ghost use Rattle.gcflip_heap_c.specs.Raws.{answer_at, read_answer, AreRead, Reads, address_answer, address_after, address_in, address_written, IsRawWriteCall};
-ghost use Rattle.gcflip_heap_c.specs.Slots.{slot_at};
+ghost use Rattle.gc_core.specs.Writing.{put_numbers_step};
+ghost use Rattle.gcflip_heap_c.specs.Commands.{IsCall, IsCommandCall};
+ghost use Rattle.gcflip_heap_c.specs.Raws.{Reads, address_in, TellsAddress};
+ghost use Rattle.gcflip_heap_c.specs.Replies.{IsRefusal};
+ghost use Rattle.gcflip_heap_c.specs.Slots.{NamesSlots, numbered_slot};
 
 use crate::answer::{CLOSED, DONE, NO_FIELD, NO_MEMORY, NO_OBJECT, OUT_OF_RANGE};
 use crate::handle::GcflipHeap;
@@ -15,9 +18,7 @@ use gc_live::LiveHeap;
 /// Copies the numbers of the raw object that the slot refers to, from field `first` on, if it has as many as the array takes.
 fn read_raw(heap: &LiveHeap, m: u8, s: Slot, first: u16, words: &mut [u64]) -> u32
     requires { m < heap.now.mutators }
-    ensures answer { result ≡ read_answer first (length words.old) (raw_numbers heap.now.heap.graph s m) }
-    ensures read { result ≡ 0 → AreRead first (length words.old) (raw_numbers heap.now.heap.graph s m) words.new }
-    ensures silent { 1 ≤ result → words.new ≡ words.old }
+    ensures { Reads first (raw_numbers heap.now.heap.graph s m) words.old words.new result }
 {
     let Some(numbers) = heap.raw_numbers(m, s) else {
         return NO_OBJECT;
@@ -40,11 +41,11 @@ pub extern "C" fn gcflip_heap_raw_read(
     first: u16,
     words: &mut [u64],
 ) -> u32
-    ensures answer { result ≡ answer_at heap.old.state m (slot_at s) (λ state slot.
-        read_answer first (length words.old) (raw_numbers state.heap.graph slot m)) }
-    ensures read { result ≡ 0 → Reads heap.old.state m (slot_at s) first (length words.old) words.new }
+    ensures call { IsCall (NamesSlots m (s ∷ [])) (λ state _. Reads first (raw_numbers state.heap.graph (numbered_slot s) m) words.old words.new result)
+        heap.old.state heap.new.state result }
     ensures heap { heap.new.state ≡ heap.old.state }
-    ensures silent { 1 ≤ result → words.new ≡ words.old }
+    ensures silent { IsRefusal result → words.new ≡ words.old }
+    ensures memory { result ≢ 1 }
     ensures former { heap.new.former ≡ heap.old.former }
 {
     if heap.is_empty() {
@@ -72,7 +73,8 @@ pub extern "C" fn gcflip_heap_raw_write(
     t: u8,
     words: &[u64],
 ) -> u32
-    ensures call { IsRawWriteCall m s first t words.now heap.old.state heap.new.state result }
+    ensures call { IsCommandCall (λ state. NamesSlots m (s ∷ t ∷ []) state × (s ≢ t))
+        (λ state. put_numbers_step state m (numbered_slot s) first (numbered_slot t) words.now) heap.old.state heap.new.state result }
     ensures memory { result ≡ 1 → IsSomeAnd heap.old.state (λ s. IsSome s.collection) }
     ensures former { heap.new.former ≡ heap.old.former }
 {
@@ -98,8 +100,7 @@ pub extern "C" fn gcflip_heap_raw_write(
 /// Writes the address of the object that the slot refers to, if it refers to one.
 fn read_address(heap: &LiveHeap, m: u8, s: Slot, address: &mut u32) -> u32
     requires { m < heap.now.mutators }
-    ensures answer { result ≡ address_answer (address_in heap.now s m) }
-    ensures address { address.new ≡ address_after address.old (address_in heap.now s m) }
+    ensures { TellsAddress (address_in heap.now s m) address.old address.new result }
 {
     match heap.address(m, s) {
         None => NO_OBJECT,
@@ -113,9 +114,11 @@ fn read_address(heap: &LiveHeap, m: u8, s: Slot, address: &mut u32) -> u32
 /// Writes the address of the object that slot `s` refers to to `address`, if there is one. A flip gives objects other addresses.
 #[unsafe(no_mangle)]
 pub extern "C" fn gcflip_heap_address(heap: &mut GcflipHeap, m: u8, s: u8, address: &mut u32) -> u32
-    ensures answer { result ≡ answer_at heap.old.state m (slot_at s) (λ state slot. address_answer (address_in state slot m)) }
-    ensures address { address.new ≡ address_written heap.old.state m (slot_at s) address.old }
+    ensures call { IsCall (NamesSlots m (s ∷ [])) (λ state _. TellsAddress (address_in state (numbered_slot s) m) address.old address.new result)
+        heap.old.state heap.new.state result }
     ensures heap { heap.new.state ≡ heap.old.state }
+    ensures silent { IsRefusal result → address.new ≡ address.old }
+    ensures memory { result ≢ 1 }
     ensures former { heap.new.former ≡ heap.old.former }
 {
     if heap.is_empty() {

@@ -2,7 +2,7 @@
 
 ghost use Rattle.std.specs.Prelude.{◌≡◌, ◌≤◌, ◌⊎◌, ◌↔◌, None, Some, IfSome, IsSomeAnd, IsTrue, IsFalse, length};
 ghost use Rattle.gc_core.specs.Readings.{heap_image, new_words, log_of};
-ghost use Rattle.gcflip_heap_c.specs.Readings.{counts_of, logged_in, entries_of, entry_at, FitsImage, FitsNew};
+ghost use Rattle.gcflip_heap_c.specs.Readings.{counts_of, logged_in, entries_of, entry_at, FitsImage};
 
 use crate::answer::{CLOSED, DONE, OUT_OF_RANGE};
 use crate::handle::GcflipHeap;
@@ -211,7 +211,7 @@ pub extern "C" fn gcflip_heap_image(
 
 /// Copies the words of the new space if the array has that length. Returns whether it has.
 fn copy_new_words(heap: &LiveHeap, words: &mut [u64]) -> bool
-    ensures fits { IsTrue result ↔ FitsNew words.old (new_words heap.now) }
+    ensures fits { IsTrue result ↔ IsSomeAnd (new_words heap.now) (λ new. length words.old ≡ length new) }
     ensures copied { IsTrue result → new_words heap.now ≡ Some words.new }
     ensures kept { IsFalse result → words.new ≡ words.old }
 {
@@ -233,7 +233,7 @@ pub extern "C" fn gcflip_heap_new_words(heap: &mut GcflipHeap, words: &mut [u64]
     ensures words { result ≡ 0 → IsSomeAnd heap.old.state (λ s. new_words s ≡ Some words.new) }
     ensures heap { heap.new.state ≡ heap.old.state }
     ensures silent { 1 ≤ result → words.new ≡ words.old }
-    ensures outside { (result ≡ 2) ↔ IsSomeAnd heap.old.state (λ s. ¬ FitsNew words.old (new_words s)) }
+    ensures outside { (result ≡ 2) ↔ IsSomeAnd heap.old.state (λ s. ¬ IsSomeAnd (new_words s) (λ new. length words.old ≡ length new)) }
     ensures closed { (result ≡ 3) ↔ (heap.old.state ≡ None) }
     ensures former { heap.new.former ≡ heap.old.former }
 {

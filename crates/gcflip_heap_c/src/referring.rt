@@ -1,8 +1,9 @@
 //! The export that makes a reference of an address, for a table of weak references.
 
-ghost use Rattle.std.specs.Prelude.{◌≡◌, ◌≢◌};
-ghost use Rattle.gcflip_heap_c.specs.Referring.{IsReferCall};
-ghost use Rattle.gcflip_heap_c.specs.Slots.{slot_at};
+ghost use Rattle.std.specs.Prelude.{◌≡◌, ◌≢◌, ◌∷◌, []};
+ghost use Rattle.gc_core.specs.Referring.{refer_step};
+ghost use Rattle.gcflip_heap_c.specs.Commands.{IsCommandCall};
+ghost use Rattle.gcflip_heap_c.specs.Slots.{NamesSlots, numbered_slot};
 
 use crate::answer::{CLOSED, OUT_OF_RANGE};
 use crate::handle::GcflipHeap;
@@ -14,7 +15,8 @@ use gc_words::OldAddr;
 /// value. Takes constant time where the standing checker goes along, and else walks over the objects before the address.
 #[unsafe(no_mangle)]
 pub extern "C" fn gcflip_heap_refer(heap: &mut GcflipHeap, m: u8, d: u8, address: u32) -> u32
-    ensures call { IsReferCall m (slot_at d) address heap.old.state heap.new.state result }
+    ensures call { IsCommandCall (NamesSlots m (d ∷ []))
+        (λ state. refer_step state m (numbered_slot d) address) heap.old.state heap.new.state result }
     ensures memory { result ≢ 1 }
     ensures former { heap.new.former ≡ heap.old.former }
 {

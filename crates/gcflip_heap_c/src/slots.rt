@@ -1,8 +1,9 @@
 //! Slots by the numbers that C gives them.
 
-ghost use Rattle.std.specs.Prelude.{◌≡◌, ◌<◌, ◌↔◌, IsTrue, map};
+ghost use Rattle.std.specs.Prelude.{◌≡◌, ◌<◌, ◌↔◌, nat_lt, if◌then◌else◌, Some, None, IsTrue, length, map};
 ghost use Rattle.std.specs.List.{AllByRecursion};
-ghost use Rattle.gcflip_heap_c.specs.Slots.{slot_numbers, numbered_slot, slot_at, AreFields};
+ghost use Rattle.gc_graph.specs.Limits.{lengths};
+ghost use Rattle.gcflip_heap_c.specs.Slots.{slot_numbers, numbered_slot};
 
 use gc_core::SlotRow;
 use gc_graph::Slot;
@@ -27,7 +28,7 @@ pub(crate) fn numbered_slot(number: u8) -> Slot
 
 /// Returns the slot with this number, or `None` if there is no such slot.
 pub(crate) fn slot(number: u8) -> Option<Slot>
-    ensures { result ≡ slot_at number }
+    ensures { result ≡ if nat_lt number slot_numbers then Some (numbered_slot number) else None }
 {
     if number < SLOT_NUMBERS {
         Some(numbered_slot(number))
@@ -55,7 +56,7 @@ pub(crate) struct NumberedSlots<'a> {
 }
 
 impl SlotRow for NumberedSlots<'_> {
-    ghost is_row = { λ row. AreFields row.numbers.now };
+    ghost is_row = { λ row. (length row.numbers.now < lengths) × AllByRecursion (λ n. n < slot_numbers) row.numbers.now };
 
     ghost slots = { λ row. map numbered_slot row.numbers.now };
 

@@ -1,11 +1,14 @@
 //! The exports that perform collector steps.
 
-ghost use Rattle.std.specs.Prelude.{◌≡◌, ◌⊎◌, ◌↔◌, None, IfSome};
+ghost use Rattle.std.specs.Prelude.{◌≡◌, ◌≢◌, ◌⊎◌, ◌↔◌, ◌<◌, ◌≤◌, None, IfSome, IsSomeAnd, ⊤};
 ghost use Rattle.gc_plan.specs.declared.step.Step.{Step};
-ghost use Rattle.gc_plan.specs.Steps.{useful_step};
-ghost use Rattle.gcflip_heap_c.specs.Steps.{IsStepCall, Flips, LacksNoRoom, step_in_c};
+ghost use Rattle.gc_plan.specs.Steps.{collect, useful_step};
+ghost use Rattle.gc_core.specs.CollectedHeap.{Allocates};
+ghost use Rattle.gc_core.specs.Flip.{FormerAfter, HasRoomIfLarge};
+ghost use Rattle.gcflip_heap_c.specs.Commands.{IsCall, Replies};
+ghost use Rattle.gcflip_heap_c.specs.Steps.{IsStepCall, ShowsReply, step_in_c};
 ghost use Rattle.gcflip_heap_c.specs.Replies.{IsRefusal, step_reply_in_c, pairs_after};
-ghost use Rattle.gcflip_heap_c.specs.Former.{Leaves};
+ghost use Rattle.gcflip_heap_c.specs.Work.{IsSoundReply};
 
 use crate::answer::{CLOSED, DONE, NO_MEMORY, OUT_OF_RANGE};
 use crate::handle::GcflipHeap;
@@ -60,9 +63,10 @@ pub extern "C" fn gcflip_heap_useful(heap: &mut GcflipHeap, step: &mut GcflipSte
 /// Opens a collection whose new space is as large as the heap. Allocates the new space and the logs.
 #[unsafe(no_mangle)]
 pub extern "C" fn gcflip_heap_step_begin(heap: &mut GcflipHeap) -> u32
-    ensures call { IsStepCall Step.Begin (λ reply. result ≡ step_reply_in_c reply) heap.old.state heap.new.state result }
+    ensures call { IsStepCall (λ _. ⊤) Step.Begin heap.old.state heap.new.state result }
+    ensures memory { result ≡ 1 → IsSomeAnd heap.old.state (λ s. Allocates s Step.Begin) }
     // The old space of the last flip stays until a collection begins.
-    ensures former { ¬ IsRefusal result → Leaves heap.old.state heap.old.former result heap.new.former }
+    ensures former { ¬ IsRefusal result → IsSomeAnd heap.old.state (λ s. FormerAfter s heap.old.former (collect s Step.Begin).0 heap.new.former) }
     ensures kept { IsRefusal result → heap.new.former ≡ heap.old.former }
 {
     if heap.is_empty() {
@@ -77,9 +81,10 @@ pub extern "C" fn gcflip_heap_step_begin(heap: &mut GcflipHeap) -> u32
 /// Opens a collection whose new space has `size` words, at least 1. Allocates the new space and the logs.
 #[unsafe(no_mangle)]
 pub extern "C" fn gcflip_heap_step_begin_sized(heap: &mut GcflipHeap, size: u32) -> u32
-    ensures call { IsStepCall (Step.BeginSized size) (λ reply. result ≡ step_reply_in_c reply) heap.old.state heap.new.state result }
+    ensures call { IsStepCall (λ _. 1 ≤ size) (Step.BeginSized size) heap.old.state heap.new.state result }
+    ensures memory { result ≡ 1 → IsSomeAnd heap.old.state (λ s. Allocates s (Step.BeginSized size)) }
     // The old space of the last flip stays until a collection begins.
-    ensures former { ¬ IsRefusal result → Leaves heap.old.state heap.old.former result heap.new.former }
+    ensures former { ¬ IsRefusal result → IsSomeAnd heap.old.state (λ s. FormerAfter s heap.old.former (collect s (Step.BeginSized size)).0 heap.new.former) }
     ensures kept { IsRefusal result → heap.new.former ≡ heap.old.former }
 {
     if heap.is_empty() {
@@ -97,8 +102,9 @@ pub extern "C" fn gcflip_heap_step_begin_sized(heap: &mut GcflipHeap, size: u32)
 /// Replicates the target of the first root whose target has no replica.
 #[unsafe(no_mangle)]
 pub extern "C" fn gcflip_heap_step_roots(heap: &mut GcflipHeap) -> u32
-    ensures call { IsStepCall Step.Roots (λ reply. result ≡ step_reply_in_c reply) heap.old.state heap.new.state result }
-    ensures room { ¬ IsRefusal result → LacksNoRoom heap.old.state result }
+    ensures call { IsStepCall (λ _. ⊤) Step.Roots heap.old.state heap.new.state result }
+    ensures memory { result ≢ 1 }
+    ensures room { ¬ IsRefusal result → IsSomeAnd heap.old.state (λ s. ShowsReply (HasRoomIfLarge s) result) }
     ensures former { heap.new.former ≡ heap.old.former }
 {
     if heap.is_empty() {
@@ -110,8 +116,9 @@ pub extern "C" fn gcflip_heap_step_roots(heap: &mut GcflipHeap) -> u32
 /// Brings the field at the scan pointer up to date, or moves on to the next replica.
 #[unsafe(no_mangle)]
 pub extern "C" fn gcflip_heap_step_scan(heap: &mut GcflipHeap) -> u32
-    ensures call { IsStepCall Step.Scan (λ reply. result ≡ step_reply_in_c reply) heap.old.state heap.new.state result }
-    ensures room { ¬ IsRefusal result → LacksNoRoom heap.old.state result }
+    ensures call { IsStepCall (λ _. ⊤) Step.Scan heap.old.state heap.new.state result }
+    ensures memory { result ≢ 1 }
+    ensures room { ¬ IsRefusal result → IsSomeAnd heap.old.state (λ s. ShowsReply (HasRoomIfLarge s) result) }
     ensures former { heap.new.former ≡ heap.old.former }
 {
     if heap.is_empty() {
@@ -123,8 +130,9 @@ pub extern "C" fn gcflip_heap_step_scan(heap: &mut GcflipHeap) -> u32
 /// Applies the oldest entry of mutator `m`'s log.
 #[unsafe(no_mangle)]
 pub extern "C" fn gcflip_heap_step_apply(heap: &mut GcflipHeap, m: u8) -> u32
-    ensures call { IsStepCall (Step.Apply m) (λ reply. result ≡ step_reply_in_c reply) heap.old.state heap.new.state result }
-    ensures room { ¬ IsRefusal result → LacksNoRoom heap.old.state result }
+    ensures call { IsStepCall (λ s. m < s.mutators) (Step.Apply m) heap.old.state heap.new.state result }
+    ensures memory { result ≢ 1 }
+    ensures room { ¬ IsRefusal result → IsSomeAnd heap.old.state (λ s. ShowsReply (HasRoomIfLarge s) result) }
     ensures former { heap.new.former ≡ heap.old.former }
 {
     if heap.is_empty() {
@@ -141,12 +149,14 @@ pub extern "C" fn gcflip_heap_step_apply(heap: &mut GcflipHeap, m: u8) -> u32
 /// both spaces are checked whole, it also allocates the certificate and the checker's tables, and frees them before it returns.
 #[unsafe(no_mangle)]
 pub extern "C" fn gcflip_heap_step_flip(heap: &mut GcflipHeap, pairs: &mut u32) -> u32
-    ensures call { IsStepCall Step.Flip
-        (λ reply. (result ≡ step_reply_in_c reply) × (pairs.new ≡ pairs_after pairs.old reply)) heap.old.state heap.new.state result }
+    ensures call { IsCall (λ _. ⊤) (Replies (λ s. collect s Step.Flip)
+        (λ reply. (result ≡ step_reply_in_c reply) × (pairs.new ≡ pairs_after pairs.old reply))) heap.old.state heap.new.state result }
+    ensures memory { result ≡ 1 → IsSomeAnd heap.old.state (λ s. Allocates s Step.Flip) }
     // It flips only if the certificate holds. It is not refused, and a ready collection flips.
-    ensures flips { ¬ IsRefusal result → Flips heap.old.state heap.new.state result }
+    ensures flips { ¬ IsRefusal result → IsSomeAnd heap.old.state (λ s. IsSomeAnd heap.new.state (Replies (λ s. collect s Step.Flip)
+        (λ reply. (result ≡ step_reply_in_c reply) × IsSoundReply s reply) s)) }
     // The old space stays, and tells the pairs of that certificate.
-    ensures former { ¬ IsRefusal result → Leaves heap.old.state heap.old.former result heap.new.former }
+    ensures former { ¬ IsRefusal result → IsSomeAnd heap.old.state (λ s. FormerAfter s heap.old.former (collect s Step.Flip).0 heap.new.former) }
     ensures kept { IsRefusal result → heap.new.former ≡ heap.old.former }
     ensures silent { IsRefusal result → pairs.new ≡ pairs.old }
 {
@@ -165,7 +175,8 @@ pub extern "C" fn gcflip_heap_step_flip(heap: &mut GcflipHeap, pairs: &mut u32) 
 /// Gives the open collection up. Keeps its new space for the next one, and frees the entries of its logs.
 #[unsafe(no_mangle)]
 pub extern "C" fn gcflip_heap_step_give_up(heap: &mut GcflipHeap) -> u32
-    ensures call { IsStepCall Step.Drop (λ reply. result ≡ step_reply_in_c reply) heap.old.state heap.new.state result }
+    ensures call { IsStepCall (λ _. ⊤) Step.Drop heap.old.state heap.new.state result }
+    ensures memory { result ≢ 1 }
     ensures former { heap.new.former ≡ heap.old.former }
 {
     if heap.is_empty() {

@@ -2,16 +2,17 @@
 
 ghost use Rattle.std.specs.Prelude.{◌≡◌, ◌⊎◌, ◌<◌, ◌≤◌, ◌-◌, ℕ, suc, true, false, ⊤, Option, Some, None, IfSome, IsSomeAnd, IsTrue, ◌↔◌, Ok, IfOk, OnErr};
 ghost use Rattle.gc_plan.specs.State.{State};
-ghost use Rattle.gc_plan.specs.Steps.{collect};
+ghost use Rattle.gc_plan.specs.Steps.{collect, useful_step};
 ghost use Rattle.gc_plan.specs.Runs.{IsStep};
 ghost use Rattle.gc_plan.specs.Progress.{work_left};
 ghost use Rattle.gc_plan.specs.declared.step.StepReply.{StepReply};
 ghost use Rattle.gc_core.specs.CollectedHeap.{Allocates};
 ghost use Rattle.gcflip_heap_c.specs.Internal.Leaving.{LeavesLess};
+ghost use Rattle.gcflip_heap_c.specs.Commands.{IsCall};
 ghost use Rattle.gcflip_heap_c.specs.Replies.{step_reply_in_c, pairs_after};
 ghost use Rattle.gc_core.specs.Flip.{FormerAfter};
 ghost use Rattle.gcflip_heap_c.specs.Former.{LeavesAfter};
-ghost use Rattle.gcflip_heap_c.specs.Work.{IsSoundReply, IsRun, IsWork, IsWorkCall, IsWorkWithin, IsWithinCall, with_size, sized_step, after_useful, useful_reply, goes_on, end_in, end_after};
+ghost use Rattle.gcflip_heap_c.specs.Work.{IsSoundReply, IsRun, IsWork, with_size, sized_step, after_useful, useful_reply, goes_on, end_in, end_after};
 
 use crate::answer::{CLOSED, DONE, NO_MEMORY, OUT_OF_RANGE};
 use crate::handle::GcflipHeap;
@@ -195,7 +196,7 @@ fn useful_steps<P: Performs>(
 
 /// Returns the first word of the open collection's new space that no replica takes, or 1 if none is open.
 fn end_of_new(heap: &LiveHeap) -> u32
-    ensures { result ≡ end_in heap.now.collection }
+    ensures { result ≡ end_in heap.now }
 {
     match heap.new_space() {
         None => 1,
@@ -238,7 +239,7 @@ pub(crate) fn work_on(
 ) -> Result<GcflipWork, NoMemory>
     requires size { IfSome size (λ words. 1 ≤ words) }
     requires some { 1 ≤ most }
-    ensures work { IfOk result (IsWork size most heap.old.live heap.new.live) }
+    ensures work { IfOk result (IsWork size None most heap.old.live heap.new.live) }
     ensures former { IfOk result (λ work. LeavesAfter size work.steps heap.old.live heap.old.former heap.new.former) }
     ensures refused { OnErr result (heap.new ≡ heap.old) }
     ensures allocates { OnErr result (Allocates heap.old.live (sized_step size heap.old.live)) }
@@ -257,7 +258,7 @@ pub(crate) fn work_within_on(
     words: u32,
 ) -> Result<GcflipWork, NoMemory>
     requires { 1 ≤ most }
-    ensures work { IfOk result (IsWorkWithin most words heap.old.live heap.new.live) }
+    ensures work { IfOk result (IsWork None (Some words) most heap.old.live heap.new.live) }
     ensures former { IfOk result (λ work. LeavesAfter None work.steps heap.old.live heap.old.former heap.new.former) }
     ensures refused { OnErr result (heap.new ≡ heap.old) }
     ensures allocates { OnErr result (Allocates heap.old.live (sized_step None heap.old.live)) }
@@ -278,7 +279,10 @@ fn is_fit(size: Option<u32>, most: u32) -> bool
 
 // Performs at most `most` useful steps, unless an argument is out of range.
 fn work_sized(heap: &mut GcflipHeap, size: Option<u32>, most: u32, work: &mut GcflipWork) -> u32
-    ensures call { IsWorkCall size most heap.old.state heap.new.state work.old work.new result }
+    ensures call { IsCall (λ _. (1 ≤ most) × IfSome size (λ words. 1 ≤ words)) (λ s t. (result ≡ 0) × IsWork size None most s t work.new)
+        heap.old.state heap.new.state result }
+    ensures silent { 1 ≤ result → work.new ≡ work.old }
+    ensures memory { result ≡ 1 → IsSomeAnd heap.old.state (λ s. Allocates s (sized_step size s)) }
     ensures former { result ≡ 0 → IsSomeAnd heap.old.state (λ s. LeavesAfter size work.new.steps s heap.old.former heap.new.former) }
     ensures kept { 1 ≤ result → heap.new.former ≡ heap.old.former }
 {
@@ -301,7 +305,9 @@ fn work_sized(heap: &mut GcflipHeap, size: Option<u32>, most: u32, work: &mut Gc
 /// that finds no room. If an allocation fails, stops before that step, and returns 1 only if that was the first step.
 #[unsafe(no_mangle)]
 pub extern "C" fn gcflip_heap_work(heap: &mut GcflipHeap, most: u32, work: &mut GcflipWork) -> u32
-    ensures call { IsWorkCall None most heap.old.state heap.new.state work.old work.new result }
+    ensures call { IsCall (λ _. 1 ≤ most) (λ s t. (result ≡ 0) × IsWork None None most s t work.new) heap.old.state heap.new.state result }
+    ensures silent { 1 ≤ result → work.new ≡ work.old }
+    ensures memory { result ≡ 1 → IsSomeAnd heap.old.state (λ s. Allocates s (useful_step s)) }
     ensures former { result ≡ 0 → IsSomeAnd heap.old.state (λ s. LeavesAfter None work.new.steps s heap.old.former heap.new.former) }
     ensures kept { 1 ≤ result → heap.new.former ≡ heap.old.former }
 {
@@ -316,7 +322,10 @@ pub extern "C" fn gcflip_heap_work_sized(
     size: u32,
     work: &mut GcflipWork,
 ) -> u32
-    ensures call { IsWorkCall (Some size) most heap.old.state heap.new.state work.old work.new result }
+    ensures call { IsCall (λ _. (1 ≤ most) × (1 ≤ size)) (λ s t. (result ≡ 0) × IsWork (Some size) None most s t work.new)
+        heap.old.state heap.new.state result }
+    ensures silent { 1 ≤ result → work.new ≡ work.old }
+    ensures memory { result ≡ 1 → IsSomeAnd heap.old.state (λ s. Allocates s (sized_step (Some size) s)) }
     ensures former { result ≡ 0 → IsSomeAnd heap.old.state (λ s. LeavesAfter (Some size) work.new.steps s heap.old.former heap.new.former) }
     ensures kept { 1 ≤ result → heap.new.former ≡ heap.old.former }
 {
@@ -331,7 +340,9 @@ pub extern "C" fn gcflip_heap_work_within(
     words: u32,
     work: &mut GcflipWork,
 ) -> u32
-    ensures call { IsWithinCall most words heap.old.state heap.new.state work.old work.new result }
+    ensures call { IsCall (λ _. 1 ≤ most) (λ s t. (result ≡ 0) × IsWork None (Some words) most s t work.new) heap.old.state heap.new.state result }
+    ensures silent { 1 ≤ result → work.new ≡ work.old }
+    ensures memory { result ≡ 1 → IsSomeAnd heap.old.state (λ s. Allocates s (useful_step s)) }
     ensures former { result ≡ 0 → IsSomeAnd heap.old.state (λ s. LeavesAfter None work.new.steps s heap.old.former heap.new.former) }
     ensures kept { 1 ≤ result → heap.new.former ≡ heap.old.former }
 {

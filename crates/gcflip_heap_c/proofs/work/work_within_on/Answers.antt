@@ -1,8 +1,8 @@
 -- The report has the run's steps, and the words that replicas took are counted from the new space's end at the start.
-use Rattle.std.proofs.Common.{◌≡◌, ◌⊎◌, ◌<◌, ◌≤◌, ◌-◌, ℕ, suc, false, None, ap, sym, ◌∙◌, subst, arith}
+use Rattle.std.proofs.Common.{◌≡◌, ◌⊎◌, ◌<◌, ◌≤◌, ◌-◌, ℕ, suc, false, Some, None, ap, sym, ◌∙◌, subst, arith}
 use Rattle.gc_plan.specs.State.{State}
 use Rattle.gc_core.specs.CollectedHeap.{Allocates}
-use Rattle.gcflip_heap_c.specs.Work.{IsRun, IsWorkWithin, sized_step, after_useful, useful_reply, goes_on, end_in, end_after}
+use Rattle.gcflip_heap_c.specs.Work.{IsRun, IsWork, sized_step, after_useful, useful_reply, goes_on, end_in, end_after}
 use Rattle.gcflip_heap_c.proofs.work.work_within_on.Goals as goal
 
 pub returns-clause-work : goal.returns-clause-work
@@ -12,8 +12,8 @@ returns-clause-work c =
     let reply = c.in_ok-run.run'.reply in
     let e = c.in_ok-run.ensures in
     let r = c.report-work.ensures in
-    let start : c.end_of_new-start.result ≡ end_in s.collection = c.end_of_new-start.ensures in
-    let made : IsWorkWithin c.args.most c.args.words s t c.report-work.result = record {
+    let start : c.end_of_new-start.result ≡ end_in s = c.end_of_new-start.ensures in
+    let made : IsWork None (Some c.args.words) c.args.most s t c.report-work.result = record {
       reply = reply;
       run = subst (λ (n : ℕ). IsRun None n s t reply) (sym r.steps) e.run;
       last = r.last;
@@ -24,4 +24,4 @@ returns-clause-work c =
       copied = r.copied ∙ ap (λ (n : ℕ). end_after t reply - n) start;
       short = λ k less. subst (λ (n : ℕ). end_after (after_useful None (suc k) s) (useful_reply None k s) - n < c.args.words) start (e.short k (omega (arith, r.steps)));
     } in
-    subst (λ (live : State). IsWorkWithin c.args.most c.args.words s live c.report-work.result) (sym c.give_back.ensures) made
+    subst (λ (live : State). IsWork None (Some c.args.words) c.args.most s live c.report-work.result) (sym c.give_back.ensures) made
