@@ -4,7 +4,7 @@ use Rattle.std.proofs.Common.{◌≡◌, ◌≢◌, inl, inr, ⊎_elim, ℕ, zer
 use Rattle.std.specs.Prelude.{slice_index}
 use Rattle.std.specs.List.{list_any}
 use Rattle.std.proofs.lemmas.Bool.{eq-eqb, cases_lt}
-use Rattle.std.proofs.lemmas.List.{drop_more, drop-take, take-append-drop, take-take, get_or-append-add, get_or-replicate, length-replicate, get_or_append_left, get_or_past}
+use Rattle.std.proofs.lemmas.List.{drop_more, get_or-append-add, get_or-replicate, length-replicate, get_or_append_left, get_or_past}
 use Rattle.std.proofs.lemmas.List.Elements.{All-push}
 use Rattle.std.proofs.lemmas.List.Quantifiers.{all_pairs_push}
 use Rattle.std.proofs.lemmas.Option.{slice_get_within}
@@ -16,7 +16,7 @@ use Rattle.gc_words.specs.Walking.{block_from}
 use Rattle.gc_words.specs.Space.{IsSpace}
 use Rattle.gc_words.specs.Layout.{field_place}
 use Rattle.gc_words.specs.declared.header.Header.{Header}
-use Rattle.gc_words.proofs.Public.{walk_placed, written_back, stands_in, walked_blocks, space_of, none_at_end}
+use Rattle.gc_words.proofs.Public.{walk_placed, written_back, stands_in, walked_blocks, space_of, none_at_end, take_add}
 use Rattle.gc_along.specs.Watch.{Watch, IsSeen, IsNext, IsWatched, Watches, is_due, seen_at, front, old_walked, new_walked, placed, opening}
 use Rattle.gc_along.proofs.Looks.{watched_by}
 
@@ -31,9 +31,6 @@ more (w ∷ ws) n h link fields shape count is len bound =
     let longer : length (ws ++ header_word h ∷ link ∷ fields) ≡ length ws + suc (suc (length fields)) = length-append ws (header_word h ∷ link ∷ fields) in
     space_of 4294967295 (w ∷ (ws ++ header_word h ∷ link ∷ fields)) _ (omega arith) (omega arith) (omega arith) shape.reserved
     (walked ∙ ap (λ m. Ok (blocks (w ∷ ws) ++ (m, record { header = h; fields = fields }) ∷ [])) (omega arith))
-
-take_add : (n k : ℕ) (xs : List ℕ) → take (n + k) xs ≡ take n xs ++ take k (drop n xs)
-take_add n k xs = sym (take-append-drop n (take (n + k) xs)) ∙ (λ i. take-take n (n + k) xs (omega arith) i ++ drop-take n k xs i)
 
 module _ (n : ℕ) (words : List ℕ) (h : Header) (seen : IsSeen n words) (next : IsNext n words h) where
   fields : List ℕ

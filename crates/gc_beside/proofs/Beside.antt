@@ -1,9 +1,10 @@
 -- The tables of a standing checker beside a heap's state, through the collector's steps.
 use Rattle.std.proofs.lemmas.Grind.{common_steps}
+use Rattle.std.specs.Option.{option_map}
 use Rattle.std.proofs.Common.{◌≡◌, inl, inr, ⊎_elim, ℕ, suc, ◌==◌, Bool, true, false, cond, ◌||◌, List, ◌∷◌, map, length, Option, Some, None, is_some, refl, ap, sym, ◌∙◌, subst, arith}
 use Rattle.std.proofs.lemmas.Bool.{cases_Bool, cond-true, cond-false, eqb-true}
 use Rattle.gc_plan.specs.State.{Replica, Collection, State, heap_end, new_end, replica_of, replica_at}
-use Rattle.gc_plan.specs.Steps.{with_log, place_replica, bring_up_to_date, with_collection, if_room, root_target, copy_root, scan_done, scan, scan_replica, next_object, next_field, apply_entry, apply_log}
+use Rattle.gc_plan.specs.Steps.{with_log, place_replica, bring_up_to_date, with_collection, if_room, root_target, copy_root, scan_done, scan, scan_replica, next_object, apply_entry, apply_log, next_field}
 use Rattle.gc_plan.specs.Members.{In}
 use Rattle.gc_plan.specs.Belonging.{IsOpened, IsSpaceGraph}
 use Rattle.gc_plan.specs.declared.step.StepReply.{StepReply}
@@ -49,7 +50,7 @@ module _ (s : State) (c : Collection) (t : Tables) (heap : IsSpaceGraph s.size s
       → Placed old (replica_words next) t mid → Looked old (replica_words next) c.scan_place c.scan_field mid after → Goes s next (watch_of after)
   scan_go old mid after next s' k said is placed looked = start (scan_done c) said
     where
-      at_replica : (r : Replica) → replica_at c c.scan_place ≡ Some r → (o : Option Collection) → bring_up_to_date c s.heap.graph r.original c.scan_field ≡ o → if_room s Scanned (next_field o) ≡ (Scanned, s') → Goes s next (watch_of after)
+      at_replica : (r : Replica) → replica_at c c.scan_place ≡ Some r → (o : Option Collection) → bring_up_to_date c s.heap.graph r.original c.scan_field ≡ o → if_room s Scanned (option_map next_field o) ≡ (Scanned, s') → Goes s next (watch_of after)
       at_replica r found None e u = absurd (let no : NoRoom ≡ Scanned = ap (λ (x : StepReply × State). x.0) u in cc)
       at_replica r found (Some d) e u =
           let came : record d { scan_field = suc d.scan_field } ≡ next = (let a : Some (record d { scan_field = suc d.scan_field }) ≡ s'.collection = ap (λ (x : StepReply × State). x.1.collection) u in cc) in
@@ -65,8 +66,8 @@ module _ (s : State) (c : Collection) (t : Tables) (heap : IsSpaceGraph s.size s
       at : (o : Option Replica) → replica_at c c.scan_place ≡ o → scan_replica s c o ≡ (Scanned, s') → Goes s next (watch_of after)
       at None e u = absurd (let no : Clean ≡ Scanned = ap (λ (x : StepReply × State). x.0) u in cc)
       at (Some r) e u = elim (cases_Bool (r.object.raw || (c.scan_field == length r.object.fields))) [
-        | inl y ↦ absurd (let no : Passed ≡ Scanned = ap (λ (x : StepReply × State). x.0) (sym (cond-true _ (Passed, with_collection s (Some (next_object c r))) (if_room s Scanned (next_field (bring_up_to_date c s.heap.graph r.original c.scan_field))) y) ∙ u) in cc)
-        | inr n ↦ at_replica r e _ refl (sym (cond-false _ (Passed, with_collection s (Some (next_object c r))) (if_room s Scanned (next_field (bring_up_to_date c s.heap.graph r.original c.scan_field))) n) ∙ u)
+        | inl y ↦ absurd (let no : Passed ≡ Scanned = ap (λ (x : StepReply × State). x.0) (sym (cond-true _ (Passed, with_collection s (Some (next_object c r))) (if_room s Scanned (option_map next_field (bring_up_to_date c s.heap.graph r.original c.scan_field))) y) ∙ u) in cc)
+        | inr n ↦ at_replica r e _ refl (sym (cond-false _ (Passed, with_collection s (Some (next_object c r))) (if_room s Scanned (option_map next_field (bring_up_to_date c s.heap.graph r.original c.scan_field))) n) ∙ u)
       ]
 
       start : (b : Bool) → cond b (Clean, s) (scan_replica s c (replica_at c c.scan_place)) ≡ (Scanned, s') → Goes s next (watch_of after)

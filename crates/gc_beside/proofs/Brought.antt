@@ -1,10 +1,11 @@
 -- What a step of the collector leaves as it is, and a replica that it places: if it is raw it is its original.
 use Rattle.std.proofs.lemmas.Grind.{common_steps}
+use Rattle.std.specs.Option.{option_map}
 use Rattle.std.proofs.Common.{◌≡◌, ◌⊎◌, inl, inr, ⊎_elim, ℕ, suc, ◌+◌, ◌==◌, nat_lt, Bool, true, false, cond, ◌||◌, List, [], ◌∷◌, ◌++◌, map, length, Option, Some, None, is_some, refl, ap, sym, ◌∙◌, subst, arith}
 use Rattle.std.proofs.lemmas.Bool.{cases_Bool, cond-true, cond-false, eqb-true, or_left, or_right}
 use Rattle.gc_graph.specs.Graph.{Value, Nil, Num, Ref, Object, Graph, lookup, field_of, new_object}
 use Rattle.gc_plan.specs.State.{Replica, Collection, State, new_end, new_free, replica_of, replica_at, moved, fresh_object}
-use Rattle.gc_plan.specs.Steps.{fresh_replica, place_replica, with_replica, with_written, write_replica, copy_value, bring_value, bring_up_to_date, if_room, next_object, root_target, copy_root, scan, with_log, apply_log}
+use Rattle.gc_plan.specs.Steps.{fresh_replica, place_replica, with_replica, with_written, write_replica, bring_value, bring_up_to_date, if_room, next_object, root_target, copy_root, scan, with_log, apply_log}
 use Rattle.gc_plan.specs.Members.{In}
 use Rattle.gc_plan.specs.Belonging.{Laid}
 use Rattle.gc_plan.specs.declared.step.StepReply.{StepReply}
@@ -89,7 +90,7 @@ module _ (objects : List (ℕ × Object)) (c : Collection) (laid : Laid 1 (map p
   pub brings : (g : Graph) (d : Collection) (name i : ℕ) → g.objects ≡ objects → ((r : Replica) × In r c.replicas × (r.original ≡ name)) → bring_up_to_date c g name i ≡ Some d → Brings objects c d
   brings g d name i same has is = go (field_of (lookup g.objects name) i) is
     where
-      at : (v : Value) (e : Option Collection) → with_replica c g v ≡ e → copy_value e name i v ≡ Some d → Brings objects c d
+      at : (v : Value) (e : Option Collection) → with_replica c g v ≡ e → option_map (λ (d : Collection). write_replica d name i (moved d v)) e ≡ Some d → Brings objects c d
       at v None r k = absurd (let no : None ≡ Some d = k in cc)
       at v (Some e) r k = let s : write_replica e name i (moved e v) ≡ d = cc k in subst (Brings objects c) s (brings_written e name i (moved e v) has (brings_target g e v same r))
 

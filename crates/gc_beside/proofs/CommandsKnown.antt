@@ -2,6 +2,7 @@
 use Rattle.std.proofs.lemmas.Grind.{common_steps}
 use Rattle.std.proofs.Common.{◌≡◌, ◌≢◌, ◌⊎◌, inl, inr, ⊎_elim, ℕ, zero, suc, ◌+◌, ◌-◌, ◌<◌, ◌≤◌, ◌==◌, ◌&&◌, not, nat_lt, Bool, true, false, List, [], ◌∷◌, ◌++◌, map, length, get_or, set, Option, Some, None, refl, ap, sym, ◌∙◌, subst, arith}
 use Rattle.std.specs.Prelude.{slice_get, slice_set, slice_index}
+use Rattle.std.specs.Option.{unwrap_or}
 use Rattle.std.proofs.lemmas.Bool.{cases_Bool, cases_eq, cond_both, ltb-true, ltb-false}
 use Rattle.std.proofs.lemmas.List.{get_or_append_left, get_or-append_right, get_or-set_same, get_or-set_other}
 use Rattle.gc_graph.specs.Graph.{Value, Nil, Num, Ref, Object, Graph, root, set_field, with_field, new_object, lookup}
@@ -14,7 +15,7 @@ use Rattle.gc_words.specs.Word.{read_header}
 use Rattle.gc_words.specs.Layout.{field_place}
 use Rattle.gc_words.specs.declared.header.Header.{Header}
 use Rattle.gc_plan.specs.State.{Replica, Collection, State, heap_end, new_end}
-use Rattle.gc_plan.specs.Steps.{log_or_nil, logged, mutate, fresh_collection}
+use Rattle.gc_plan.specs.Steps.{logged, mutate, fresh_collection}
 use Rattle.gc_plan.specs.Linked.{LeadsTo, object_header}
 use Rattle.gc_plan.specs.Members.{In}
 use Rattle.gc_plan.specs.Belonging.{IsDue, IsLogged, IsNamed, IsSpaceGraph, IsOpened}
@@ -154,7 +155,7 @@ continues_on s mid s' One Two All f g h k = record {
 }
 
 -- entries behind those of a log
-log_more : (logs : List (List (ℕ × ℕ))) (m : ℕ) (more : List (ℕ × ℕ)) (k : ℕ) (e : ℕ × ℕ) → In e (log_or_nil (slice_get logs k)) → In e (log_or_nil (slice_get (slice_set logs m (log_or_nil (slice_get logs m) ++ more)) k))
+log_more : (logs : List (List (ℕ × ℕ))) (m : ℕ) (more : List (ℕ × ℕ)) (k : ℕ) (e : ℕ × ℕ) → In e (unwrap_or (slice_get logs k) []) → In e (unwrap_or (slice_get (slice_set logs m (unwrap_or (slice_get logs m) [] ++ more)) k) [])
 log_more [] m more k e l = l
 log_more (log ∷ logs) zero more zero e l = in_left e log more l
 log_more (log ∷ logs) zero more (suc k) e l = l

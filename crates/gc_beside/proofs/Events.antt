@@ -1,5 +1,6 @@
 -- The core's steps and commands, with what the watch may lose and has to mark at each.
 use Rattle.std.proofs.lemmas.Grind.{common_steps}
+use Rattle.std.specs.Option.{option_map}
 use Rattle.std.proofs.Common.{◌≡◌, ◌⊎◌, inr, ⊎_elim, ℕ, suc, ◌==◌, nat_lt, Bool, true, false, cond, ◌||◌, List, ◌∷◌, length, flat_map, Option, Some, None, is_some, refl, ap, sym, ◌∙◌, subst, arith}
 use Rattle.std.proofs.lemmas.Bool.{cases_Bool, cond-true, cond-false, cond_both}
 use Rattle.gc_graph.specs.Graph.{lookup, names_of}
@@ -7,7 +8,7 @@ use Rattle.gc_graph.specs.Machine.{Roomy, words_taken, roomy_step}
 use Rattle.gc_graph.specs.declared.command.Op.{Op}
 use Rattle.gc_graph.specs.declared.reply.Reply.{Reply}
 use Rattle.gc_plan.specs.State.{Replica, Collection, State, heap_end, new_end, replica_of, replica_at}
-use Rattle.gc_plan.specs.Steps.{written, log_at, with_log, mutate, place_replica, bring_up_to_date, with_collection, if_room, root_target, copy_root, scan_done, scan, scan_replica, next_object, next_field, apply_entry, apply_log}
+use Rattle.gc_plan.specs.Steps.{written, log_at, with_log, mutate, place_replica, bring_up_to_date, with_collection, if_room, root_target, copy_root, scan_done, scan, scan_replica, next_object, apply_entry, apply_log, next_field}
 use Rattle.gc_plan.specs.Members.{In}
 use Rattle.gc_plan.specs.Belonging.{IsOpened}
 use Rattle.gc_plan.specs.declared.step.StepReply.{StepReply}
@@ -59,7 +60,7 @@ pub field_scanned : (s s' : State) (c next : Collection) (r : Replica) (w later 
     → Fits (heap_end s) next later → LosesOnly (new_end c) r.original c.scan_field w next later → Goes s next later
 field_scanned s s' c next r w later k h found said is fits loses = go (r.object.raw || (c.scan_field == length r.object.fields)) (scan_before_end s s' c r Scanned found (λ u t. (let no : Clean ≡ Scanned = ap (λ (x : StepReply × State). x.0) t in cc)) said)
   where
-    at : (o : Option Collection) → bring_up_to_date c s.heap.graph r.original c.scan_field ≡ o → if_room s Scanned (next_field o) ≡ (Scanned, s') → Goes s next later
+    at : (o : Option Collection) → bring_up_to_date c s.heap.graph r.original c.scan_field ≡ o → if_room s Scanned (option_map next_field o) ≡ (Scanned, s') → Goes s next later
     at None e t = absurd (let no : NoRoom ≡ Scanned = ap (λ (x : StepReply × State). x.0) t in cc)
     at (Some n) e t =
         let same : record n { scan_field = suc n.scan_field } ≡ next = came_of s s' Scanned Scanned (record n { scan_field = suc n.scan_field }) next t is in
@@ -68,7 +69,7 @@ field_scanned s s' c next r w later k h found said is fits loses = go (r.object.
         (brought s.heap.graph (heap_end s) c n w later r.original c.scan_field (sound s.heap.graph.objects c k.belongs) h e (refit (heap_end s) n next later rs fits)
         (λ q l. loses q (subst (In q) (sym rs) l)))
 
-    go : (b : Bool) → cond b (Passed, with_collection s (Some (next_object c r))) (if_room s Scanned (next_field (bring_up_to_date c s.heap.graph r.original c.scan_field))) ≡ (Scanned, s') → Goes s next later
+    go : (b : Bool) → cond b (Passed, with_collection s (Some (next_object c r))) (if_room s Scanned (option_map next_field (bring_up_to_date c s.heap.graph r.original c.scan_field))) ≡ (Scanned, s') → Goes s next later
     go true t = absurd (let no : Passed ≡ Scanned = ap (λ (x : StepReply × State). x.0) t in cc)
     go false t = at (bring_up_to_date c s.heap.graph r.original c.scan_field) refl t
 

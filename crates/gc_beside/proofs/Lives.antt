@@ -1,11 +1,12 @@
 -- A standing checker beside a heap stays lost, or goes along: the collector's steps.
 use Rattle.std.proofs.lemmas.Grind.{common_steps}
+use Rattle.std.specs.Prelude.{IfSome}
 use Rattle.std.proofs.Common.{◌≡◌, ◌⊎◌, ⊎_elim, ℕ, true, false, List, ◌∷◌, Option, Some, None, refl, ap, sym, ◌∙◌, subst, arith}
-use Rattle.std.specs.Option.{option_map}
+use Rattle.std.specs.Option.{option_map, option_map_or}
 use Rattle.std.proofs.lemmas.Bool.{cases_Bool}
 use Rattle.gc_plan.specs.State.{Collection, State}
-use Rattle.gc_plan.specs.Steps.{log_at, with_collection, apply_log, collect, collect_with, step_in, fresh_collection}
-use Rattle.gc_plan.specs.Belonging.{IsSpaceGraph, IsOpened, IsOpen}
+use Rattle.gc_plan.specs.Steps.{log_at, with_collection, apply_log, collect, step_in, fresh_collection, step_idle}
+use Rattle.gc_plan.specs.Belonging.{IsSpaceGraph, IsOpened}
 use Rattle.gc_plan.specs.declared.step.Step.{Step}
 use Rattle.gc_plan.specs.declared.step.Step.TheVariants as steps
 use Rattle.gc_plan.specs.declared.step.StepReply.{StepReply}
@@ -23,7 +24,7 @@ pub or_lost : (s s' : State) (t after : Tables) → (t.lost ≡ true → after.l
 or_lost s s' t after lost goes live = grind (arith, common_steps, cases_Bool)
 
 -- a step in an is_open collection, after which one is is_open
-module _ (s s' : State) (step : Step) (reply : StepReply) (t after : Tables) (other : step ≡ steps.Flip → ⊥) (idle : (collect_with s None step).0 ≡ reply → ⊥) (said : collect s step ≡ (reply, s')) (is_open : IsOpen s s.collection) (is_open' : IsOpen s' s'.collection) where
+module _ (s s' : State) (step : Step) (reply : StepReply) (t after : Tables) (other : step ≡ steps.Flip → ⊥) (idle : (option_map_or (λ (c : Collection). step_in s c step) None (step_idle s step)).0 ≡ reply → ⊥) (said : collect s step ≡ (reply, s')) (is_open : IfSome s.collection (IsOpened s)) (is_open' : IfSome s'.collection (IsOpened s')) where
   in_collection : ((c next : Collection) → s.collection ≡ Some c → IsOpened s c → IsOpened s next → step_in s c step ≡ (reply, s') → s'.collection ≡ Some next → Goes s c (watch_of t) → Goes s next (watch_of after)) → (next : Collection) → s'.collection ≡ Some next
       → GoesBeside s s.collection (watch_of t) → GoesBeside s' s'.collection (watch_of after)
   in_collection f next there goes = subst (λ o. GoesBeside s' o (watch_of after)) (sym there) (go s.collection refl is_open goes)
@@ -32,12 +33,12 @@ module _ (s s' : State) (step : Step) (reply : StepReply) (t after : Tables) (ot
       stays = (let st = steps_stay s step other in subst (λ (x : StepReply × State). x.1 ≡ with_collection s x.1.collection) said st)
 
       opened : IsOpened s next
-      opened = (let k : IsOpened (with_collection s (Some next)) next = subst (λ (x : State). IsOpened x next) (stays ∙ ap (with_collection s) there) (subst (IsOpen s') there is_open') in record { belongs = k.belongs; size = k.size; logs = k.logs })
+      opened = (let k : IsOpened (with_collection s (Some next)) next = subst (λ (x : State). IsOpened x next) (stays ∙ ap (with_collection s) there) (subst (λ (o : Option Collection). IfSome o (IsOpened s')) there is_open') in record { belongs = k.belongs; size = k.size; logs = k.logs })
 
-      go : (o : Option Collection) → s.collection ≡ o → IsOpen s o → GoesBeside s o (watch_of t) → Goes s' next (watch_of after)
-      go None e k g = absurd (idle (ap (λ (x : StepReply × State). x.0) (ap (λ o. collect_with s o step) (sym e) ∙ said)))
+      go : (o : Option Collection) → s.collection ≡ o → IfSome o (IsOpened s) → GoesBeside s o (watch_of t) → Goes s' next (watch_of after)
+      go None e k g = absurd (idle (ap (λ (x : StepReply × State). x.0) (ap (λ o. option_map_or (λ (c : Collection). step_in s c step) o (step_idle s step)) (sym e) ∙ said)))
       go (Some c) e k g =
-          let h : Goes s next (watch_of after) = f c next e k opened (ap (λ o. collect_with s o step) (sym e) ∙ said) there g in
+          let h : Goes s next (watch_of after) = f c next e k opened (ap (λ o. option_map_or (λ (c : Collection). step_in s c step) o (step_idle s step)) (sym e) ∙ said) there g in
           subst (λ (x : State). Goes x next (watch_of after)) (sym (stays ∙ ap (with_collection s) there)) h
 
 -- the words that a caller read are those of the is_open collection
@@ -50,11 +51,11 @@ opened_by s words are = grind (arith, common_steps)
 same_words : (next d : Collection) (s : State) (words : List ℕ) → s.collection ≡ Some next → s.collection ≡ Some d → replica_words next ≡ words → replica_words d ≡ words
 same_words next d s words e f w = let n : next ≡ d = (let a : Some next ≡ Some d = sym e ∙ f in cc) in subst (λ (c : Collection). replica_words c ≡ words) n w
 
-pub lives_roots : (s s' : State) (old words : List ℕ) (t after : Tables) → IsSpaceGraph s.size s.heap.free s.heap.graph → IsOpen s s.collection → IsOpen s' s'.collection → collect s steps.Roots ≡ (Copied, s') → AreNew s' words
+pub lives_roots : (s s' : State) (old words : List ℕ) (t after : Tables) → IsSpaceGraph s.size s.heap.free s.heap.graph → IfSome s.collection (IsOpened s) → IfSome s'.collection (IsOpened s') → collect s steps.Roots ≡ (Copied, s') → AreNew s' words
     → (t.lost ≡ true → after.lost ≡ true) → (after.lost ≡ false → Placed old words t after) → IsLive s t → IsLive s' after
 lives_roots s s' old words t after heap is_open is_open' said are lost placed = grind (arith, common_steps, or_lost, opened_by, in_collection, same_words, roots_go)
 
-pub lives_scanned : (s s' : State) (c : Collection) (old words : List ℕ) (t mid after : Tables) → IsSpaceGraph s.size s.heap.free s.heap.graph → IsOpen s s.collection → IsOpen s' s'.collection → s.collection ≡ Some c → collect s steps.Scan ≡ (Scanned, s') → AreNew s' words
+pub lives_scanned : (s s' : State) (c : Collection) (old words : List ℕ) (t mid after : Tables) → IsSpaceGraph s.size s.heap.free s.heap.graph → IfSome s.collection (IsOpened s) → IfSome s'.collection (IsOpened s') → s.collection ≡ Some c → collect s steps.Scan ≡ (Scanned, s') → AreNew s' words
     → (t.lost ≡ true → mid.lost ≡ true) → (mid.lost ≡ false → Placed old words t mid) → (mid.lost ≡ true → after.lost ≡ true) → (after.lost ≡ false → Looked old words c.scan_place c.scan_field mid after) → IsLive s t → IsLive s' after
 lives_scanned s s' c old words t mid after heap is_open is_open' first said are lost placed lost' looked = or_lost s s' t after (λ y. lost' (lost y)) (λ n goes.
     let o = opened_by s' words are in
@@ -69,7 +70,7 @@ lives_scanned s s' c old words t mid after heap is_open is_open' first said are 
     scanned d next e k k' in_c there g w n = scan_go s d t heap k g old mid after next s' k' in_c there (subst (λ ws. Placed old ws t mid) (sym w) (placed (found n)))
         (subst (λ (x : Collection). Looked old (replica_words next) x.scan_place x.scan_field mid after) (sym e) (subst (λ ws. Looked old ws c.scan_place c.scan_field mid after) (sym w) (looked n)))
 
-pub lives_applied : (s s' : State) (m : ℕ) (entry : ℕ × ℕ) (old words : List ℕ) (t mid after : Tables) → IsSpaceGraph s.size s.heap.free s.heap.graph → IsOpen s s.collection → IsOpen s' s'.collection
+pub lives_applied : (s s' : State) (m : ℕ) (entry : ℕ × ℕ) (old words : List ℕ) (t mid after : Tables) → IsSpaceGraph s.size s.heap.free s.heap.graph → IfSome s.collection (IsOpened s) → IfSome s'.collection (IsOpened s')
     → ((c : Collection) → s.collection ≡ Some c → (rest : List (ℕ × ℕ)) × (log_at c m ≡ entry ∷ rest)) → collect s (steps.Apply m) ≡ (Applied, s') → AreNew s' words
     → (t.lost ≡ true → mid.lost ≡ true) → (mid.lost ≡ false → Placed old words t mid) → (mid.lost ≡ true → after.lost ≡ true) → (after.lost ≡ false → AppliedTo old words entry.0 entry.1 mid after) → IsLive s t → IsLive s' after
 lives_applied s s' m entry old words t mid after heap is_open is_open' log said are lost placed lost' applied = or_lost s s' t after (λ y. lost' (lost y)) (λ n goes.
@@ -109,7 +110,7 @@ apply_or_same s s' m reply said other = grind (arith, common_steps)
 lives_same : (s s' : State) (t : Tables) → s' ≡ s → IsLive s t → IsLive s' t
 lives_same s s' t e live = subst (λ (x : State). IsLive x t) (sym e) live
 
-pub lives_scan_other : (s s' : State) (reply : StepReply) (t : Tables) → IsSpaceGraph s.size s.heap.free s.heap.graph → IsOpen s s.collection → IsOpen s' s'.collection → collect s steps.Scan ≡ (reply, s') → (reply ≡ Scanned → ⊥) → IsLive s t → IsLive s' t
+pub lives_scan_other : (s s' : State) (reply : StepReply) (t : Tables) → IsSpaceGraph s.size s.heap.free s.heap.graph → IfSome s.collection (IsOpened s) → IfSome s'.collection (IsOpened s') → collect s steps.Scan ≡ (reply, s') → (reply ≡ Scanned → ⊥) → IsLive s t → IsLive s' t
 lives_scan_other s s' reply t heap is_open is_open' said other live = grind (arith, common_steps, lives_same, or_lost, in_collection, passed_go, scan_or_same)
 
 pub lives_drop : (s s' : State) (reply : StepReply) (t after : Tables) → collect s steps.Drop ≡ (reply, s') → (t.lost ≡ true → after.lost ≡ true) → (after.lost ≡ false → Freed t after) → IsLive s t → IsLive s' after

@@ -1,7 +1,7 @@
 -- A standing checker beside a heap stays lost, or goes along: the mutators' commands.
 use Rattle.std.proofs.lemmas.Grind.{common_steps}
 use Rattle.std.proofs.Common.{◌≡◌, ◌⊎◌, inl, inr, ⊎_elim, ℕ, ◌+◌, ◌-◌, ◌<◌, ◌≤◌, nat_lt, Bool, true, false, [], ◌∷◌, ◌++◌, length, Option, Some, None, refl, ap, sym, ◌∙◌, subst, arith, length-append, rules}
-use Rattle.std.specs.Prelude.{slice_index}
+use Rattle.std.specs.Prelude.{slice_index, IfSome}
 use Rattle.std.proofs.lemmas.Bool.{cond_both, ltb-false}
 use Rattle.std.proofs.lemmas.List.{length-replicate}
 use Rattle.gc_graph.specs.Graph.{Object, Graph, new_object}
@@ -16,7 +16,7 @@ use Rattle.gc_plan.specs.State.{Collection, State, heap_end}
 use Rattle.gc_plan.specs.Linked.{object_header}
 use Rattle.gc_plan.specs.Steps.{mutate, written, log_at, with_log, logged}
 use Rattle.gc_plan.specs.Members.{In}
-use Rattle.gc_plan.specs.Belonging.{IsSpaceGraph, IsOpened, IsOpen}
+use Rattle.gc_plan.specs.Belonging.{IsSpaceGraph, IsOpened}
 use Rattle.gc_plan.proofs.Public.{end_is, in_right}
 use Rattle.gc_along.specs.Watch.{opening}
 use Rattle.gc_beside.specs.Stays.{Fits, MarksWritten}
@@ -62,7 +62,7 @@ grown s s' t after links later more seen is = ⊎_elim
     count : length (heap_words links s') ≡ heap_end s'
     count = end_is links s'.size s'.heap.free s'.heap.graph later
 
-module _ (s s' : State) (m : ℕ) (op : Op) (reply : Reply) (t after : Tables) (is_open : IsOpen s s.collection) (said : mutate s m op ≡ (reply, s')) where
+module _ (s s' : State) (m : ℕ) (op : Op) (reply : Reply) (t after : Tables) (is_open : IfSome s.collection (IsOpened s)) (said : mutate s m op ≡ (reply, s')) where
   heap_is : (roomy_step s.heap m op (heap_end s)).1 ≡ s'.heap
   heap_is = ap (λ (x : Reply × State). x.1.heap) said
 
@@ -80,7 +80,7 @@ module _ (s s' : State) (m : ℕ) (op : Op) (reply : Reply) (t after : Tables) (
       → IsLive s t → IsLive s' after
   by_command lost none some = or_lost s s' t after lost (λ n goes. go n s.collection refl is_open goes)
     where
-      go : after.lost ≡ false → (o : Option Collection) → s.collection ≡ o → IsOpen s o → GoesBeside s o (watch_of t) → GoesBeside s' s'.collection (watch_of after)
+      go : after.lost ≡ false → (o : Option Collection) → s.collection ≡ o → IfSome o (IsOpened s) → GoesBeside s o (watch_of t) → GoesBeside s' s'.collection (watch_of after)
       go n None e k w = subst (λ o. GoesBeside s' o (watch_of after)) (ap (λ o. logged o m (written s.heap.graph m op (roomy_step s.heap m op (heap_end s)).0)) (sym e) ∙ ap (λ (x : Reply × State). x.1.collection) said) (none n e w)
       go n (Some c) e k g =
           let h = some n c e k g in
@@ -140,7 +140,7 @@ ends_more s s' m op reply raw d kind len is before said = go raw is
     go false e = from (new_object false kind len) (subst (λ (o : Op). NewOne s m o (new_object false kind len) (roomy_step s.heap m o (heap_end s)).1) (sym e) (one_more s m (ops.New d kind len) (new_object false kind len) _ before (ap (λ n. n + 2) (sym (length-replicate len (Rattle.gc_graph.specs.Graph.first_value false)))) refl refl))
 
 pub lives_new : (s s' : State) (m : ℕ) (op : Op) (reply : Reply) (t after : Tables) (raw : Bool) (d : Rattle.gc_graph.specs.Slots.SlotName) (kind len : ℕ) (links : ℕ → ℕ) → op ≡ new_op raw d kind len
-    → IsOpen s s.collection → mutate s m op ≡ (reply, s') → IsSpaceGraph s.size s.heap.free s.heap.graph → IsSpaceGraph s'.size s'.heap.free s'.heap.graph
+    → IfSome s.collection (IsOpened s) → mutate s m op ≡ (reply, s') → IsSpaceGraph s.size s.heap.free s.heap.graph → IsSpaceGraph s'.size s'.heap.free s'.heap.graph
     → (t.lost ≡ true → after.lost ≡ true) → (after.lost ≡ false → Made (heap_words links s') t after) → IsLive s t → IsLive s' after
 lives_new s s' m op reply t after raw d kind len links is is_open said before later lost made live =
     lives_made s s' m op reply t after is_open said links before later (new_object raw kind len)
@@ -166,5 +166,5 @@ not_done g m op reply n = grind (arith, common_steps)
 pub lives_unopened : (s s' : State) (m : ℕ) (op : Op) (reply : Reply) (t : Tables) → mutate s m op ≡ (reply, s') → words_taken op ≡ 0 → s.collection ≡ None → IsLive s t → IsLive s' t
 lives_unopened s s' m op reply t said none closed live = grind (arith, common_steps, by_command, end_stays)
 
-pub lives_put_quiet : (s s' : State) (m : ℕ) (op : Op) (reply : Reply) (t : Tables) → IsOpen s s.collection → mutate s m op ≡ (reply, s') → words_taken op ≡ 0 → (reply ≡ replies.Done → ⊥) → IsLive s t → IsLive s' t
+pub lives_put_quiet : (s s' : State) (m : ℕ) (op : Op) (reply : Reply) (t : Tables) → IfSome s.collection (IsOpened s) → mutate s m op ≡ (reply, s') → words_taken op ≡ 0 → (reply ≡ replies.Done → ⊥) → IsLive s t → IsLive s' t
 lives_put_quiet s s' m op reply t is_open said none n live = lives_quiet s s' m op reply t t is_open said none (not_done s.heap.graph m op reply n) refl live

@@ -1,5 +1,6 @@
 -- A standing checker beside a heap stays lost, or goes along: calls that are several commands.
 use Rattle.std.proofs.lemmas.Grind.{common_steps}
+use Rattle.std.specs.Prelude.{IfSome}
 use Rattle.std.proofs.Common.{◌≡◌, ◌⊎◌, inl, inr, ⊎_elim, ℕ, ◌≤◌, true, false, arith, [], ◌∷◌, Option, Some, None, refl, ap, sym, ◌∙◌, subst}
 use Rattle.std.proofs.lemmas.Bool.{cond_both}
 use Rattle.gc_graph.specs.Machine.{words_taken}
@@ -10,7 +11,7 @@ use Rattle.gc_graph.specs.declared.reply.Reply.{Reply}
 use Rattle.gc_plan.specs.State.{Collection, State, heap_end}
 use Rattle.gc_plan.specs.Steps.{mutate, written}
 use Rattle.gc_plan.specs.Members.{In}
-use Rattle.gc_plan.specs.Belonging.{IsOpened, IsOpen}
+use Rattle.gc_plan.specs.Belonging.{IsOpened}
 use Rattle.gc_plan.proofs.Public.{Evolves, WrittenBy}
 use Rattle.gc_along.specs.Watch.{opening}
 use Rattle.gc_beside.specs.Stays.{Fits, MarksWritten}
@@ -59,13 +60,13 @@ leads_on s mid s' One Two All f g h k = record {
 pub leads_one : (s s' : State) (m : ℕ) (op : Op) (reply : Reply) → mutate s m op ≡ (reply, s') → Leads s s' (WrittenBy s.heap.graph m op reply)
 leads_one s s' m op reply said = grind (arith, common_steps, command_evolves)
 
-pub lives_through : (s s' : State) (t after : Tables) (Written : ℕ → ℕ → Type 0) → IsOpen s s.collection → Leads s s' Written → (t.lost ≡ true → after.lost ≡ true)
+pub lives_through : (s s' : State) (t after : Tables) (Written : ℕ → ℕ → Type 0) → IfSome s.collection (IsOpened s) → Leads s s' Written → (t.lost ≡ true → after.lost ≡ true)
     → (after.lost ≡ false → s.collection ≡ None → watch_of t ≡ opening (heap_end s) → watch_of after ≡ opening (heap_end s'))
     → (after.lost ≡ false → (c : Collection) → s.collection ≡ Some c → IsOpened s c → Goes s c (watch_of t) → Fits (heap_end s') c (watch_of after) × MarksWritten Written (watch_of t) c (watch_of after))
     → IsLive s t → IsLive s' after
 lives_through s s' t after Written is_open leads lost none some = or_lost s s' t after lost (λ n goes. go n s.collection refl s'.collection is_open goes leads.collection)
   where
-    go : after.lost ≡ false → (o : Option Collection) → s.collection ≡ o → (p : Option Collection) → IsOpen s o → GoesBeside s o (watch_of t) → SameReplicas o p → GoesBeside s' p (watch_of after)
+    go : after.lost ≡ false → (o : Option Collection) → s.collection ≡ o → (p : Option Collection) → IfSome o (IsOpened s) → GoesBeside s o (watch_of t) → SameReplicas o p → GoesBeside s' p (watch_of after)
     go n None e None k w same = none n e w
     go n None e (Some d) k w same = absurd same
     go n (Some c) e None k g same = absurd same
@@ -84,7 +85,7 @@ put_roots s s' m d i v reply said = grind (arith, common_steps, cond_both)
 pub end_by : (s s' : State) (m : ℕ) (op : Op) (reply : Reply) → mutate s m op ≡ (reply, s') → words_taken op ≡ 0 → heap_end s ≡ heap_end s'
 end_by s s' m op reply said none = grind (arith, common_steps, cond_both)
 
-pub lives_number : (s mid s' : State) (m : ℕ) (op : Op) (one reply : Reply) (put : Op) (t after : Tables) (a i : ℕ) → IsOpen s s.collection → mutate s m op ≡ (one, mid) → words_taken op ≡ 0 → written s.heap.graph m op one ≡ []
+pub lives_number : (s mid s' : State) (m : ℕ) (op : Op) (one reply : Reply) (put : Op) (t after : Tables) (a i : ℕ) → IfSome s.collection (IsOpened s) → mutate s m op ≡ (one, mid) → words_taken op ≡ 0 → written s.heap.graph m op one ≡ []
     → mutate mid m put ≡ (reply, s') → words_taken put ≡ 0 → ((written mid.heap.graph m put reply ≡ []) × (after ≡ t)) ⊎ ((1 ≤ a) × (written mid.heap.graph m put reply ≡ (a, i) ∷ []) × ((t.lost ≡ true → after.lost ≡ true) × (after.lost ≡ false → Wrote a i t after)))
     → (s.collection ≡ None → ⊥) → IsLive s t → IsLive s' after
 lives_number s mid s' m op one reply put t after a i is_open first none quiet second none' told not_closed live =

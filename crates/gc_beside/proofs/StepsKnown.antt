@@ -1,13 +1,14 @@
 -- The tables of a standing checker know the collection through the collector's steps, and it is not lost at any.
 use Rattle.std.proofs.lemmas.Grind.{common_steps}
-use Rattle.std.proofs.Common.{◌≡◌, ◌≢◌, ◌⊎◌, inl, inr, ⊎_elim, ℕ, suc, ◌+◌, ◌<◌, ◌≤◌, ◌==◌, Bool, true, false, List, ◌∷◌, map, length, get_or, Some, None, refl, ap, sym, ◌∙◌, subst, arith}
+use Rattle.std.proofs.Common.{◌≡◌, ◌≢◌, ◌⊎◌, inl, inr, ⊎_elim, ℕ, suc, ◌+◌, ◌<◌, ◌≤◌, ◌==◌, Bool, true, false, List, ◌∷◌, map, length, get_or, Some, None, refl, ap, sym, ◌∙◌, subst, arith, []}
 use Rattle.std.specs.Prelude.{slice_get, slice_set}
+use Rattle.std.specs.Option.{unwrap_or}
 use Rattle.std.proofs.lemmas.Bool.{cases_eq, eqb-true, eq-eqb, or_cases}
 use Rattle.gc_graph.specs.Graph.{Object, lookup}
 use Rattle.gc_words.specs.Layout.{field_place}
 use Rattle.gc_plan.specs.State.{Replica, Collection, State, heap_end, new_end}
 use Rattle.gc_plan.specs.Linked.{LeadsTo}
-use Rattle.gc_plan.specs.Steps.{log_at, log_or_nil, with_log, root_target, copy_root, scan, apply_log}
+use Rattle.gc_plan.specs.Steps.{log_at, with_log, root_target, copy_root, scan, apply_log}
 use Rattle.gc_plan.specs.Members.{In}
 use Rattle.gc_plan.specs.Belonging.{IsDue, IsLogged, IsUnscanned, IsScanPlace, IsSpaceGraph, IsOpened}
 use Rattle.gc_plan.specs.declared.step.StepReply.TheVariants.{Copied, Passed, Scanned, Applied}
@@ -33,15 +34,15 @@ knows_from : (Due : Bool → ℕ → ℕ → ℕ → Type 0) (s : State) (c : Co
 knows_from Due s c t h old_room new_room less = grind (arith, common_steps)
 
 logged_same : (c next : Collection) (a i : ℕ) → next.logs ≡ c.logs → IsLogged c a i → IsLogged next a i
-logged_same c next a i same (k, l) = (k, subst (λ logs. In {X = ℕ × ℕ} (a, i) (log_or_nil (slice_get logs k))) (sym same) l)
+logged_same c next a i same (k, l) = (k, subst (λ logs. In {X = ℕ × ℕ} (a, i) (unwrap_or (slice_get logs k) [])) (sym same) l)
 
 pub unscanned_same : (c next : Collection) (p i : ℕ) → next.scan_place ≡ c.scan_place → next.scan_field ≡ c.scan_field → IsUnscanned c p i → IsUnscanned next p i
 unscanned_same c next p i place field u = ⊎_elim (λ l. inl (omega arith)) (λ e. inr (place ∙ e.0, (let x : c.scan_field ≤ i = e.1 in omega arith))) u
 
 -- ---- one of a row of logs has lost its oldest entry
 
-log_out : (logs : List (List (ℕ × ℕ))) (m : ℕ) (entry : ℕ × ℕ) (rest : List (ℕ × ℕ)) (k : ℕ) (e : ℕ × ℕ) → log_or_nil (slice_get logs m) ≡ entry ∷ rest → In e (log_or_nil (slice_get logs k))
-    → (entry ≡ e) ⊎ In e (log_or_nil (slice_get (slice_set logs m rest) k))
+log_out : (logs : List (List (ℕ × ℕ))) (m : ℕ) (entry : ℕ × ℕ) (rest : List (ℕ × ℕ)) (k : ℕ) (e : ℕ × ℕ) → unwrap_or (slice_get logs m) [] ≡ entry ∷ rest → In e (unwrap_or (slice_get logs k) [])
+    → (entry ≡ e) ⊎ In e (unwrap_or (slice_get (slice_set logs m rest) k) [])
 log_out logs m entry rest k e is l = grind (arith, common_steps, cases_eq, get_set_same, get_set_other, get_past)
 
 module _ (s : State) (c next : Collection) (t : Tables) (links : ℕ → ℕ) (heap : IsSpaceGraph s.size s.heap.free s.heap.graph) (before : IsOpened s c) (opened : IsOpened s next) (goes : Goes s c (watch_of t)) (knows : Knows s c t) where
@@ -291,7 +292,7 @@ module _ (s : State) (c next : Collection) (t : Tables) (links : ℕ → ℕ) (h
       less r i (inl u) apart = inl (u.0, unscanned_same c next r.place i entry_did.scan_place entry_did.scan_field u.1)
       less r i (inr (k, l)) apart = inr (⊎_elim
           (λ (e : entry ≡ (r.original, i)). absurd (apart (sym (ap (λ (p : ℕ × ℕ). p.0) e), sym (ap (λ (p : ℕ × ℕ). p.1) e))))
-          (λ x. (k, subst (λ logs. In {X = ℕ × ℕ} (r.original, i) (log_or_nil (slice_get logs k))) (sym entry_did.logs) x))
+          (λ x. (k, subst (λ logs. In {X = ℕ × ℕ} (r.original, i) (unwrap_or (slice_get logs k) [])) (sym entry_did.logs) x))
           (log_out c.logs m entry rest k (r.original, i) log_is l))
 
       pub entry_known : (after : Tables) → AppliedTo (heap_words links s) (replica_words next) entry.0 entry.1 mid after → Knows s next after

@@ -1,14 +1,15 @@
 -- What the events of a standing checker say of a watch beside a collection.
 use Rattle.std.proofs.lemmas.Grind.{common_steps}
-use Rattle.std.proofs.Common.{◌≡◌, inl, inr, ⊎_elim, ℕ, zero, suc, ◌+◌, ◌<◌, ◌≤◌, ◌==◌, Bool, true, false, List, [], ◌∷◌, ◌++◌, map, length, get_or, set, replicate, Some, refl, ap, sym, ◌∙◌, subst, arith, length-append, length-set}
+use Rattle.std.proofs.Common.{◌≡◌, inl, inr, ⊎_elim, ℕ, zero, suc, ◌+◌, ◌<◌, ◌≤◌, ◌==◌, Bool, true, false, List, [], ◌∷◌, ◌++◌, map, length, get_or, set, replicate, Some, refl, ap, sym, ◌∙◌, subst, arith, length-append, length-set, Option}
 use Rattle.std.specs.Prelude.{slice_index}
+use Rattle.std.specs.Option.{option_map_or}
 use Rattle.std.proofs.lemmas.List.{length-map, get_or-append-add, get_or-set_other, get_or-set_same}
 use Rattle.std.proofs.lemmas.Bool.{cases_eq, eq-eqb, eqb-true}
 use Rattle.gc_graph.specs.Graph.{Object}
 use Rattle.gc_words.specs.Word.{read_header}
 use Rattle.gc_words.specs.Layout.{field_place, link_place}
 use Rattle.gc_words.specs.declared.header.Header.{Header}
-use Rattle.gc_plan.specs.Linked.{object_header, linked_space, new_links, original_or_zero}
+use Rattle.gc_plan.specs.Linked.{object_header, linked_space, new_links}
 use Rattle.gc_plan.specs.State.{Replica, Collection, State, new_end, new_objects, pairs_of}
 use Rattle.gc_plan.specs.Members.{In, Distinct}
 use Rattle.gc_plan.specs.Belonging.{Laid, IsOpened, IsSpaceGraph}
@@ -29,7 +30,7 @@ pub record ShowsReplicas (c : Collection) (words : List ℕ) : Type 0 where
   pub each : (r : Replica) → In r c.replicas → Shows words r.original r.place r.object
 
 link_of : (s : State) (c : Collection) (r : Replica) → IsOpened s c → In r c.replicas → new_links c r.place ≡ r.original
-link_of s c r k there = ap original_or_zero (found_by_place (Rattle.gc_plan.specs.Belonging.IsDue c) s.heap.graph.objects c k.belongs r there)
+link_of s c r k there = ap (λ (o : Option Replica). option_map_or (λ (r : Replica). r.original) o 0) (found_by_place (Rattle.gc_plan.specs.Belonging.IsDue c) s.heap.graph.objects c k.belongs r there)
 
 pub shows_replicas : (s : State) (c : Collection) → IsSpaceGraph s.size s.heap.free s.heap.graph → IsOpened s c → ShowsReplicas c (linked_space (new_links c) c.size (new_objects c)).words
 shows_replicas s c h k = record {

@@ -53,8 +53,9 @@ good_stop : (f : CertifiedPair) (text : List ℕ) → IsTextOf f text → StopsA
 unfolding spelling
 good_stop f text p = grind (arith, common_steps, append-nil, some_cut)
 
-wrong_stop : (text : List ℕ) (n : ℕ) (w : HasWrongLine text n) → StopsAt w.before (w.line ++ newline ∷ w.rest) text
-wrong_stop text n w = grind (arith, one_cut)
+wrong_stop : (text : List ℕ) (n : ℕ) (w : HasWrongLine text n) → StopsAt w.0.before w.0.rest text
+wrong_stop text n (g, line, more, is, whole, wrong) =
+    (g.good, g.parts, λ l m h e first. wrong (subst (λ (k : List ℕ). AreFirst (g.before ++ k ∷ [])) (one_cut newline l m line more h whole (sym e ∙ is)).0 first))
 
 nothing_behind : (before : List (List ℕ)) (l : List ℕ) → AreWhole before → AreFirst (before ++ l ∷ []) → ⊥
 nothing_behind before l (f, fits, is) (g, rest, fits', is') =
@@ -63,11 +64,11 @@ nothing_behind before l (f, fits, is) (g, rest, fits', is') =
     no_line : (rest : List (List ℕ)) (l : List ℕ) → l ∷ rest ≢ []
     no_line rest l e = cc
 
-behind_stop : (text : List ℕ) (n : ℕ) (w : HasByteBehind text n) → StopsAt w.before (w.byte ∷ w.rest) text
-behind_stop text n w = ((w.whole.0, [], w.whole.1, w.whole.2 ∙ sym (append-nil w.before)), w.parts, λ l more h is first. nothing_behind w.before l w.whole first)
+behind_stop : (text : List ℕ) (n : ℕ) (w : HasByteBehind text n) → StopsAt w.0.before w.0.rest text
+behind_stop text n (g, whole, some) = (g.good, g.parts, λ l more h is first. nothing_behind g.before l whole first)
 
-cut_stop : (text : List ℕ) (w : IsCutOff text) → StopsAt w.before w.unfinished text
-cut_stop text w = (w.good, w.parts, λ l more h is first. not_cut newline w.unfinished l more w.no_line is)
+cut_stop : (text : List ℕ) (w : IsCutOff text) → StopsAt w.1.before w.1.rest text
+cut_stop text (n, g, no_line, not_all) = (g.good, g.parts, λ l more h is first. not_cut newline g.rest l more no_line is)
 
 -- ---- one reading
 
@@ -75,7 +76,7 @@ pub one_value : (f g : CertifiedPair) (text : List ℕ) → IsTextOf f text → 
 one_value f g text p q = (lines_same f g [] [] p.fits q.fits (ap (λ (ls : List (List ℕ)). ls ++ []) ((one_stop (lines_of f) (lines_of g) [] [] text (good_stop f text p) (good_stop g text q)).0))).0
 
 good_cut : (f : CertifiedPair) (text : List ℕ) → IsTextOf f text → IsCutOff text → ⊥
-good_cut f text p w = w.not_all (f, p.fits, (one_stop (lines_of f) w.before [] w.unfinished text (good_stop f text p) (cut_stop text w)).0)
+good_cut f text p (n, g, no_line, not_all) = not_all (f, p.fits, (one_stop (lines_of f) g.before [] g.rest text (good_stop f text p) (cut_stop text (n, g, no_line, not_all))).0)
 
 -- a bad line follows the last good line
 record BadStop (text : List ℕ) (n : ℕ) : Type 0 where
@@ -86,8 +87,8 @@ record BadStop (text : List ℕ) (n : ℕ) : Type 0 where
   number : n ≡ 1 + length before
 
 bad_stop : (text : List ℕ) (n : ℕ) → HasWrongLine text n ⊎ HasByteBehind text n → BadStop text n
-bad_stop text n (inl w) = record { before = w.before; rest = w.line ++ newline ∷ w.rest; stops = wrong_stop text n w; some = some_cut w.line w.rest; number = w.number }
-bad_stop text n (inr w) = record { before = w.before; rest = w.byte ∷ w.rest; stops = behind_stop text n w; some = λ e. cc; number = w.number }
+bad_stop text n (inl w) = record { before = w.0.before; rest = w.0.rest; stops = wrong_stop text n w; some = λ e. some_cut w.1 w.2 (e ∙ w.3); number = w.0.number }
+bad_stop text n (inr w) = record { before = w.0.before; rest = w.0.rest; stops = behind_stop text n w; some = λ e. w.2 (sym e); number = w.0.number }
 
 good_bad : (f : CertifiedPair) (text : List ℕ) (n : ℕ) → IsTextOf f text → HasWrongLine text n ⊎ HasByteBehind text n → ⊥
 good_bad f text n p h = let b = bad_stop text n h in b.some (one_stop (lines_of f) b.before [] b.rest text (good_stop f text p) b.stops).1
@@ -106,10 +107,8 @@ bad_bad text n m h k =
     a.number ∙ ap (λ (ls : List (List ℕ)). 1 + length ls) (one_stop a.before b.before a.rest b.rest text a.stops b.stops).0 ∙ sym b.number
 
 bad_cut : (text : List ℕ) (n : ℕ) → HasWrongLine text n ⊎ HasByteBehind text n → IsCutOff text → ⊥
-bad_cut text n (inl w) c =
-    not_cut newline c.unfinished w.line w.rest c.no_line (sym (one_stop w.before c.before (w.line ++ newline ∷ w.rest) c.unfinished text (wrong_stop text n w) (cut_stop text c)).1)
-bad_cut text n (inr w) c =
-    c.not_all (subst AreWhole (one_stop w.before c.before (w.byte ∷ w.rest) c.unfinished text (behind_stop text n w) (cut_stop text c)).0 w.whole)
+bad_cut text n (inl w) c = not_cut newline c.1.rest w.1 w.2 c.2 (sym (one_stop w.0.before c.1.before w.0.rest c.1.rest text (wrong_stop text n w) (cut_stop text c)).1 ∙ w.3)
+bad_cut text n (inr w) c = c.3 (subst AreWhole (one_stop w.0.before c.1.before w.0.rest c.1.rest text (behind_stop text n w) (cut_stop text c)).0 w.1)
 
 pub one_fault : (p q : PairFault) (text : List ℕ) → IsPairFaultOf p text → IsPairFaultOf q text → p ≡ q
 one_fault Read q text h k = absurd h

@@ -48,6 +48,9 @@ at_start = ((least, lines_of least, fits, refl), not_whole [] (codes "heappair 1
 whole : AreWhole (but_end ++ codes "end" ∷ [])
 whole = (least, fits, least_lines)
 
+all_first : AreFirst (but_end ++ codes "end" ∷ [])
+all_first = (least, [], fits, least_lines)
+
 -- without pairs the next line is `end`
 no_pairs : (pairs : List (ℕ × ℕ)) (l : List ℕ) (rest : List (List ℕ)) → length pairs ≡ 0 → map pair_line pairs ++ codes "end" ∷ [] ≡ l ∷ rest → codes "end" ≡ l
 no_pairs pairs l rest none e = grind (arith, common_steps, head_of)
@@ -75,13 +78,13 @@ unfolding digits lines_of spelling
 rows = record {
   least_read = (record { fits = fits; spelled = refl }, short (codes "heappair 1\nold 1 1\n0\nroots 1\n0\nnew 1 1\n0\nroots 1\n0\npairs 0\nend\n") refl);
   raws_read = (record { fits = with_raws_fits; spelled = refl }, short (codes "heappair 2\nold 1 1\n0\nroots 1\n0\nnew 1 1\n0\nroots 1\n0\npairs 0\nend\n") refl);
-  without_end = (short (codes "heappair 1\nold 1 1\n0\nroots 1\n0\nnew 1 1\n0\nroots 1\n0\npairs 0\n") refl, record { before = but_end; unfinished = []; parts = refl; no_line = tt; good = at_end.0; not_all = at_end.1 });
-  unfinished_end = (short (codes "heappair 1\nold 1 1\n0\nroots 1\n0\nnew 1 1\n0\nroots 1\n0\npairs 0\nend") refl, record { before = but_end; unfinished = codes "end"; parts = refl; no_line = HasNo-lacks newline (codes "end") refl; good = at_end.0; not_all = at_end.1 });
-  nothing = (short [] refl, record { before = []; unfinished = []; parts = refl; no_line = tt; good = at_start.0; not_all = at_start.1 });
-  no_line = (short (codes "x") refl, record { before = []; unfinished = codes "x"; parts = refl; no_line = HasNo-lacks newline (codes "x") refl; good = at_start.0; not_all = at_start.1 });
-  no_version = (short (codes "heappair 3\n") refl, inl (record { before = []; line = codes "heappair 3"; rest = []; parts = refl; whole_line = HasNo-lacks newline (codes "heappair 3") refl; number = refl; good = at_start.0; wrong = two_versions }));
-  behind = (short (codes "heappair 1\nold 1 1\n0\nroots 1\n0\nnew 1 1\n0\nroots 1\n0\npairs 0\nend\nx\n") refl, inr (record { before = but_end ++ codes "end" ∷ []; byte = 120; rest = codes "\n"; parts = refl; number = refl; whole = whole }));
-  line_feed_behind = (short (codes "heappair 1\nold 1 1\n0\nroots 1\n0\nnew 1 1\n0\nroots 1\n0\npairs 0\nend\n\n") refl, inr (record { before = but_end ++ codes "end" ∷ []; byte = 10; rest = []; parts = refl; number = refl; whole = whole }));
-  long_end = (short (codes "heappair 1\nold 1 1\n0\nroots 1\n0\nnew 1 1\n0\nroots 1\n0\npairs 0\nendx\n") refl, inl (record { before = but_end; line = codes "endx"; rest = []; parts = refl; whole_line = HasNo-lacks newline (codes "endx") refl; number = refl; good = at_end.0; wrong = only_end (codes "endx") (λ e. cc) }));
+  without_end = (short (codes "heappair 1\nold 1 1\n0\nroots 1\n0\nnew 1 1\n0\nroots 1\n0\npairs 0\n") refl, (_, record { before = but_end; rest = []; parts = refl; number = refl; good = at_end.0 }, tt, at_end.1));
+  unfinished_end = (short (codes "heappair 1\nold 1 1\n0\nroots 1\n0\nnew 1 1\n0\nroots 1\n0\npairs 0\nend") refl, (_, record { before = but_end; rest = codes "end"; parts = refl; number = refl; good = at_end.0 }, HasNo-lacks newline (codes "end") refl, at_end.1));
+  nothing = (short [] refl, (_, record { before = []; rest = []; parts = refl; number = refl; good = at_start.0 }, tt, at_start.1));
+  no_line = (short (codes "x") refl, (_, record { before = []; rest = codes "x"; parts = refl; number = refl; good = at_start.0 }, HasNo-lacks newline (codes "x") refl, at_start.1));
+  no_version = (short (codes "heappair 3\n") refl, inl (record { before = []; rest = codes "heappair 3" ++ newline ∷ []; parts = refl; number = refl; good = at_start.0 }, codes "heappair 3", [], refl, HasNo-lacks newline (codes "heappair 3") refl, two_versions));
+  behind = (short (codes "heappair 1\nold 1 1\n0\nroots 1\n0\nnew 1 1\n0\nroots 1\n0\npairs 0\nend\nx\n") refl, inr (record { before = but_end ++ codes "end" ∷ []; rest = codes "x\n"; parts = refl; number = refl; good = all_first }, whole, λ e. cc));
+  line_feed_behind = (short (codes "heappair 1\nold 1 1\n0\nroots 1\n0\nnew 1 1\n0\nroots 1\n0\npairs 0\nend\n\n") refl, inr (record { before = but_end ++ codes "end" ∷ []; rest = codes "\n"; parts = refl; number = refl; good = all_first }, whole, λ e. cc));
+  long_end = (short (codes "heappair 1\nold 1 1\n0\nroots 1\n0\nnew 1 1\n0\nroots 1\n0\npairs 0\nendx\n") refl, inl (record { before = but_end; rest = codes "endx" ++ newline ∷ []; parts = refl; number = refl; good = at_end.0 }, codes "endx", [], refl, HasNo-lacks newline (codes "endx") refl, only_end (codes "endx") (λ e. cc)));
   kept = refl;
 }

@@ -6,7 +6,7 @@ use Rattle.std.specs.Fmt.{decimal}
 use Rattle.std.specs.List.{AllByRecursion}
 use Rattle.std.proofs.lemmas.Bool.{leb-true}
 use Rattle.std.proofs.lemmas.List.{append-nil}
-use Rattle.gc_graph.specs.Lines.{text_of, tokens_of}
+use Rattle.gc_graph.specs.Lines.{newline, text_of, tokens_of}
 use Rattle.gc_graph.proofs.Public.{Cut, cut, all_push}
 use Rattle.gc_cert.specs.Grammar.{CertifiedPair, heading, pair_line, count_line, size_line, certificate_lines, lines_of, spelling, IsWord, AreAddresses, AreSizes, IsCertificate, HasText, IsTextOf}
 use Rattle.gc_cert.specs.Internal.Grammar.{image_alone, IsImageBy}
@@ -107,20 +107,26 @@ text_outcome p =
 begins_text : (lines : List (List ℕ)) → AreFirst lines → Begins TextSection lines
 begins_text lines (f, more, fits, e) = (more, (f, fits, sym e))
 
+first_text : (lines : List (List ℕ)) → Begins TextSection lines → AreFirst lines
+first_text lines (more, (f, fits, e)) = (f, more, fits, sym e)
+
 wrong_line : (text : List ℕ) (n : ℕ) → IsWrongAt TextSection (start text) n → HasWrongLine text n
-wrong_line text n w = grind (arith, common_steps, begins_text)
+wrong_line text n w =
+    (record { before = w.before; rest = w.line ++ newline ∷ w.after; parts = w.parts; number = omega (arith, w.number); good = first_text w.before w.good }, w.line, w.after, refl, w.whole_line, λ first. w.wrong (begins_text (w.before ++ w.line ∷ []) first))
 
 cut_off : (text : List ℕ) → IsCutIn TextSection (start text) → IsCutOff text
-cut_off text w = grind (arith, common_steps)
+cut_off text w =
+    (1 + length w.before, record { before = w.before; rest = w.unfinished; parts = w.parts; number = refl; good = first_text w.before w.good }, w.no_line, λ whole. w.not_all (whole.0, whole.1, sym whole.2))
 
 -- all of the text was taken
 pub whole_text : (f : CertifiedPair) (text : List ℕ) (after : Place) → HasText f → HasTaken (lines_of f) (start text) after → after.rest ≡ [] → IsTextOf f text
 unfolding spelling
 whole_text f text after fits taken none = record { fits = fits; spelled = taken.parts ∙ ap (λ (t : List ℕ). text_of (lines_of f) ++ t) none ∙ append-nil (text_of (lines_of f)) }
 
--- a byte follows a text
-byte_behind : (f : CertifiedPair) (text : List ℕ) (after : Place) (byte : ℕ) (bytes : List ℕ) → HasText f → HasTaken (lines_of f) (start text) after → after.rest ≡ byte ∷ bytes → HasByteBehind text (after.taken + 1)
-byte_behind f text after byte bytes fits taken some = grind (arith, common_steps)
+-- more bytes follow a text
+byte_behind : (f : CertifiedPair) (text : List ℕ) (after : Place) → HasText f → HasTaken (lines_of f) (start text) after → after.rest ≢ [] → HasByteBehind text (after.taken + 1)
+byte_behind f text after fits taken some =
+    (record { before = lines_of f; rest = after.rest; parts = taken.parts; number = omega (arith, taken.number); good = (f, [], fits, sym (append-nil (lines_of f))) }, (f, fits, refl), some)
 
 -- ---- the same for a reader that began at the start
 
@@ -128,11 +134,7 @@ pub stopped : (text : List ℕ) (fault : PairFault) → length text ≤ limit �
 stopped text fault le stop = grind (arith, common_steps, wrong_line, cut_off)
 
 pub went_on : (f : CertifiedPair) (text : List ℕ) (after : Place) (fault : PairFault) → length text ≤ limit → HasText f × HasTaken (lines_of f) (start text) after → (after.rest ≢ []) × (fault ≡ BadLine (after.taken + 1)) → MayFail fault text
-went_on f text after fault le taken (some, is) = subst (λ (g : PairFault). MayFail g text) (sym is) (le, inr (at after.rest refl))
-  where
-    at : (rest : List ℕ) → after.rest ≡ rest → HasByteBehind text (after.taken + 1)
-    at [] none = absurd (some none)
-    at (byte ∷ bytes) more = byte_behind f text after byte bytes taken.0 taken.1 more
+went_on f text after fault le taken (some, is) = subst (λ (g : PairFault). MayFail g text) (sym is) (le, inr (byte_behind f text after taken.0 taken.1 some))
 
 -- a value, or a first fault
 abbrev Answered : List ℕ → Type 0
@@ -142,9 +144,12 @@ answered : (text : List ℕ) → length text ≤ limit → Outcome HasText lines
 unfolding Outcome Stops
 answered text le (inl (f, after, fits, taken)) = at after.rest refl
   where
+    not_both : (byte : ℕ) (bytes : List ℕ) → byte ∷ bytes ≢ []
+    not_both byte bytes e = cc
+
     at : (rest : List ℕ) → after.rest ≡ rest → Answered text
     at [] none = inl (f, (whole_text f text after fits taken none, le))
-    at (byte ∷ bytes) some = inr (BadLine (after.taken + 1), (le, inr (byte_behind f text after byte bytes fits taken some)))
+    at (byte ∷ bytes) some = inr (BadLine (after.taken + 1), (le, inr (byte_behind f text after fits taken (λ none. not_both byte bytes (sym some ∙ none)))))
 answered text le (inr (inl (n, w))) = inr (BadLine n, (le, inl (wrong_line text n w)))
 answered text le (inr (inr w)) = inr (EndsEarly, (le, cut_off text w))
 

@@ -2,10 +2,10 @@
 use Rattle.std.specs.Option.{option_map}
 use Rattle.std.proofs.lemmas.Option.{slice_get-map}
 use Rattle.std.proofs.lemmas.Grind.{common_steps}
-use Rattle.std.proofs.Common.{◌≡◌, ℕ, zero, suc, ◌+◌, ◌<◌, Bool, true, false, cond, not, ◌&&◌, ◌==◌, List, [], ◌∷◌, ◌++◌, length, map, Option, Some, None, refl, sym, ◌∙◌, ap, subst, inl, inr, arith}
+use Rattle.std.proofs.Common.{◌≡◌, ℕ, suc, ◌+◌, ◌<◌, Bool, true, false, cond, not, ◌&&◌, ◌==◌, List, [], ◌∷◌, ◌++◌, length, map, Option, Some, None, refl, sym, ◌∙◌, ap, subst, arith}
 use Rattle.std.specs.Prelude.{slice_get, slice_index_or, IsTrue}
 use Rattle.std.specs.List.{All, AllZip}
-use Rattle.std.proofs.lemmas.Bool.{eqb-true, eq-eqb, cases_order, cases_Bool, and_parts, and_from, or_cases, or_right}
+use Rattle.std.proofs.lemmas.Bool.{eq-eqb, cases_order, cases_Bool, and_parts, and_from, or_right}
 use Rattle.std.proofs.lemmas.List.{append-nil, append_assoc, get_or_append_left}
 use Rattle.std.proofs.lemmas.List.Elements.{All-push, All-nil}
 use Rattle.std.proofs.lemmas.List.Folds.{list_any-append}
@@ -16,7 +16,7 @@ use Rattle.gc_words.specs.Image.{Image, Block, is_start, block_at, graph_of}
 use Rattle.gc_words.specs.Certificate.{BlocksCorrespond, Certified}
 use Rattle.gc_words.specs.Fault.{same_header}
 use Rattle.gc_words.specs.declared.header.Header.{Header}
-use Rattle.gc_words.proofs.Public.{same_header_of, header_same, object_option, lookup_of_blocks}
+use Rattle.gc_words.proofs.Public.{same_header_of, header_same, object_option, lookup_of_blocks, place_of}
 use Rattle.gc_check.specs.Infer.{Together, AreTogether}
 use Rattle.gc_check.specs.Tables.{pair_at}
 use Rattle.gc_check.specs.Internal.Meetings.{is_free, met, met_all, met_blocks, met_objects, HaveMet, AllMet, BlocksMet, ObjectsMet, MetTo}
@@ -93,16 +93,6 @@ AreIn cert pairs = All (λ p. IsTrue (paired cert p.0 p.1)) pairs
 met_all_forced : (old new : Image) (cert pairs : List (ℕ × ℕ)) (vs ws : List ℕ) → AllZip (λ v w. words_correspond cert v w ≡ true) vs ws → AreIn cert pairs → AreIn cert (met_all old new pairs vs ws)
 met_all_forced old new cert pairs vs ws z h = met_all_keeps old new (AreIn cert) (λ v w. words_correspond cert v w ≡ true)
     (λ now v w a b r e f free g. All-push (λ p. IsTrue (paired cert p.0 p.1)) now (a, b) g ((λ i. read_correspond cert (sym e i) (sym f i)) ∙ r)) pairs vs ws z h
-
-pub place_of : (pairs : List (ℕ × ℕ)) (a b : ℕ) → paired pairs a b ≡ true → (k : ℕ) × (k < length pairs) × ((d : ℕ × ℕ) → slice_index_or pairs k d ≡ (a, b))
-place_of [] a b e = cc
-place_of (p ∷ pairs) a b e =
-    elim (or_cases ((p.0 == a) && (p.1 == b)) (paired pairs a b) e) [
-      | inl here ↦ (let both : ((p.0 == a) ≡ true) × ((p.1 == b) ≡ true) = and_parts (p.0 == a) (p.1 == b) here in
-          (zero, omega arith, λ d i. (eqb-true p.0 a both.0 i, eqb-true p.1 b both.1 i)))
-      | inr later ↦ (let found : (k : ℕ) × (k < length pairs) × ((d : ℕ × ℕ) → slice_index_or pairs k d ≡ (a, b)) = place_of pairs a b later in
-          (suc found.0, omega arith, found.2))
-    ]
 
 pub paired_objects : (old new : Image) (cert : List (ℕ × ℕ)) (a b : ℕ) → Certified old new cert → paired cert a b ≡ true → BlocksCorrespond cert (block_at old.words a) (block_at new.words b)
 paired_objects old new cert a b certified e =

@@ -11,7 +11,7 @@ use Rattle.gc_words.specs.Word.{read_value, read_correspond, words_correspond}
 use Rattle.gc_words.specs.Image.{Image, Block, is_start, block_at, graph_of}
 use Rattle.gc_words.specs.Certificate.{BlocksCorrespond, Certified}
 use Rattle.gc_words.specs.declared.header.Header.{Header}
-use Rattle.gc_words.proofs.Public.{corresponding, no_fault_of_certified}
+use Rattle.gc_words.proofs.Public.{corresponding, no_fault_of_certified, place_of}
 use Rattle.std.proofs.lemmas.List.{length-map}
 use Rattle.gc_words.specs.Fault.{first_fault}
 use Rattle.gc_words.specs.declared.image.Pair.{Pair}
@@ -23,7 +23,7 @@ use Rattle.gc_check.proofs.StartMarks.{low_start}
 use Rattle.gc_check.specs.Internal.Tables.{HoldsPartners}
 use Rattle.gc_check.specs.Internal.Meetings.{is_free, AllMet, BlocksMet, MetTo, HoldsFound, originals_in, swapped, risen}
 use Rattle.gc_check.proofs.Meetings.{paired_swapped}
-use Rattle.gc_check.proofs.Forced.{place_of, paired_objects, AreIn}
+use Rattle.gc_check.proofs.Forced.{paired_objects, AreIn}
 
 -- ---- pairs in the order of new addresses
 

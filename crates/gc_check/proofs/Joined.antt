@@ -1,5 +1,6 @@
 -- The pairs found, in the order of their new addresses: they have a table of partners, and lead to no further pair.
 use Rattle.std.proofs.lemmas.Grind.{common_steps}
+use Rattle.std.specs.Option.{option_map, option_map_or}
 use Rattle.std.proofs.Common.{◌≡◌, ℕ, zero, suc, ◌<◌, ◌≤◌, ◌^◌, true, false, not, ◌&&◌, ◌==◌, List, [], ◌∷◌, length, get_or, Option, Some, None, refl, sym, ◌∙◌, ap, subst, inl, inr, arith, rules}
 use Rattle.std.specs.List.{All, AllPairs, list_any}
 use Rattle.std.proofs.lemmas.Bool.{eqb-true, eq-eqb, and_from, or_cases, or_left, or_right}
@@ -8,25 +9,25 @@ use Rattle.gc_graph.specs.Correspond.{paired}
 use Rattle.gc_words.specs.Word.{read_value}
 use Rattle.gc_words.specs.Image.{Image, Block, IsShaped, is_start, block_at}
 use Rattle.gc_words.specs.Certificate.{BlocksCorrespond, Certified}
-use Rattle.gc_words.specs.Fault.{at_place, shape_fault, table_fault, first_fault, AreComparable}
+use Rattle.gc_words.specs.Fault.{shape_fault, table_fault, first_fault, AreComparable}
 use Rattle.gc_words.specs.declared.refusal.Refusal.{Refusal}
 use Rattle.gc_words.specs.declared.refusal.Refusal.TheVariants.{OldShape, NewShape}
-use Rattle.gc_words.proofs.Public.{Later, none_or, none_when, places_hold, no_shape_fault, shaped}
+use Rattle.gc_words.proofs.Public.{Later, none_or, none_when, places_hold, no_shape_fault, shaped, place_of}
 use Rattle.gc_words.specs.declared.image.Pair.{Pair}
 use Rattle.std.proofs.lemmas.List.{length-map}
 use Rattle.gc_check.specs.Infer.{is_taken, LeadsToPairs, ObjectsLeadToPairs, AreClosed, Certifiable, Decides}
 use Rattle.gc_check.specs.Internal.Tables.{HoldsPartners, HasTables}
 use Rattle.gc_check.specs.Internal.Meetings.{is_free, AllMet, BlocksMet, ObjectsMet, MetTo, AlikeTo, HoldsFound, partners_in, originals_in, swapped, risen}
 use Rattle.gc_check.specs.Headline.{Replicated}
-use Rattle.gc_check.specs.Verdict.{pairs_of, verdict_by, verdict_of, IsRefusalOf}
+use Rattle.gc_check.specs.Verdict.{pairs_of, verdict_of, IsRefusalOf}
 use Rattle.gc_check.specs.declared.verdict.Verdict.{Verdict}
+use Rattle.gc_check.specs.declared.verdict.Verdict.TheVariants as verdicts
 use Rattle.gc_check.specs.declared.meet.Found.{Found}
 use Rattle.gc_check.specs.declared.verdict.CheckFault.{CheckFault}
 use Rattle.gc_check.specs.declared.verdict.CheckFault.TheVariants.{Refused}
 use Rattle.gc_check.proofs.Alike.{all_more, blocks_more}
 use Rattle.gc_check.proofs.StartMarks.{low_start}
 use Rattle.gc_check.proofs.ByAddress.{length_by_address}
-use Rattle.gc_check.proofs.Forced.{place_of}
 use Rattle.gc_check.proofs.Inferred.{found_of_risen, risen_of_found, risen_rises, risen_length, held_here, met_here, refused_of_all}
 
 -- ---- addresses of pairs
@@ -98,7 +99,7 @@ module _ (old new : Image) (pairs : List (ℕ × ℕ)) (row partners : List ℕ)
 
   placed : shape_fault old ≡ None → shape_fault new ≡ None → length old.roots ≡ length new.roots → table_fault old new now ≡ None
   placed old_shaped new_shaped roots =
-      none_or _ _ (none_or _ _ (none_or _ _ (ap (λ o. at_place o (λ at. OldShape at)) old_shaped) (ap (λ o. at_place o (λ at. NewShape at)) new_shaped)) (none_when _ _ (ap not (eq-eqb _ _ roots))))
+      none_or _ _ (none_or _ _ (none_or _ _ (ap (λ o. option_map (λ at. OldShape at) o) old_shaped) (ap (λ o. option_map (λ at. NewShape at) o) new_shaped)) (none_when _ _ (ap not (eq-eqb _ _ roots))))
       (places_hold old new now now [] 0 refl refl later join_starts)
 
   -- ---- they hold if all words that have met correspond
@@ -174,10 +175,10 @@ module _ (old new old_seen new_seen : Image) (found : Found) (cert : List Pair) 
 
 -- ---- images that cannot be compared
 
-pub old_is_shaped : (old new : Image) (fault : CheckFault) (refusal : Refusal) → IsRefusalOf (at_place (shape_fault old) (λ at. OldShape at)) fault → fault ≡ Refused refusal → AreComparable old new → ⊥
+pub old_is_shaped : (old new : Image) (fault : CheckFault) (refusal : Refusal) → IsRefusalOf (option_map (λ at. OldShape at) (shape_fault old)) fault → fault ≡ Refused refusal → AreComparable old new → ⊥
 old_is_shaped old new fault refusal is same both = grind (arith, common_steps, no_shape_fault)
 
-pub new_is_shaped : (old new : Image) (fault : CheckFault) (refusal : Refusal) → IsRefusalOf (at_place (shape_fault new) (λ at. NewShape at)) fault → fault ≡ Refused refusal → AreComparable old new → ⊥
+pub new_is_shaped : (old new : Image) (fault : CheckFault) (refusal : Refusal) → IsRefusalOf (option_map (λ at. NewShape at) (shape_fault new)) fault → fault ≡ Refused refusal → AreComparable old new → ⊥
 new_is_shaped old new fault refusal is same both = grind (arith, common_steps, no_shape_fault)
 
 -- the verdict on pairs that hold if any do
@@ -185,6 +186,6 @@ pub decided : (old new : Image) (pairs : List (ℕ × ℕ)) (verdict : Verdict) 
     → (Certified old new pairs → Replicated old new pairs) → Decides verdict old new pairs
 decided old new pairs verdict is complete certified replicated = subst (λ verdict. Decides verdict old new pairs) (sym is) (by_fault (first_fault old new pairs) refl)
   where
-    by_fault : (first : Option Refusal) → first_fault old new pairs ≡ first → Decides (verdict_by (length pairs) first) old new pairs
+    by_fault : (first : Option Refusal) → first_fault old new pairs ≡ first → Decides (option_map_or verdicts.Refused first (verdicts.Yes (length pairs))) old new pairs
     by_fault None e = (certified e, replicated (certified e))
     by_fault (Some refusal) e = refused_of_all old new pairs refusal complete e

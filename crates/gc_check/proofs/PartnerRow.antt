@@ -2,13 +2,14 @@
 use Rattle.std.proofs.lemmas.Grind.{common_steps}
 use Rattle.std.proofs.Common.{◌≡◌, ℕ, ◌+◌, ◌<◌, ◌≤◌, Bool, true, ◌||◌, ◌==◌, List, [], ◌∷◌, ◌++◌, length, take, drop, get_or, set, Option, Some, None, refl, sym, ◌∙◌, ap, subst, arith}
 use Rattle.std.specs.Prelude.{slice_index, nat_le}
+use Rattle.std.specs.Bool.{then_some}
 use Rattle.std.specs.List.{list_any}
 use Rattle.std.proofs.lemmas.Bool.{eqb-true, eq-eqb, ne_eqb, cases_eq, cases_Bool, not-false, or_right}
 use Rattle.std.proofs.lemmas.List.{map_more, at_drop_more, take-map}
 use Rattle.std.proofs.lemmas.List.Folds.{list_any-append}
 use Rattle.gc_words.specs.Image.{Image, is_start}
 use Rattle.gc_words.specs.Views.{addresses}
-use Rattle.gc_words.specs.Fault.{◌or_else◌, when, first_over_pairs, not_above_last, place_fault, place_faults}
+use Rattle.gc_words.specs.Fault.{◌or_else◌, first_over_pairs, not_above_last, place_fault, place_faults}
 use Rattle.gc_words.specs.declared.image.Pair.{Pair}
 use Rattle.gc_words.specs.declared.refusal.Refusal.{Refusal}
 use Rattle.gc_check.specs.Internal.Tables.{HasEntries, HoldsPartners, by_address, entry_fault}
@@ -42,7 +43,7 @@ ends_one before p n low = push before
 
 -- ---- the fault that the tables find in a pair's addresses is the right one
 
-settled : (o : Option Refusal) (r s : Refusal) (b c : Bool) (w : Option Refusal) → (o or_else Some r or_else when b s or_else w) ≡ (o or_else Some r or_else when c s or_else w)
+settled : (o : Option Refusal) (r s : Refusal) (b c : Bool) (w : Option Refusal) → (o or_else Some r or_else then_some b s or_else w) ≡ (o or_else Some r or_else then_some c s or_else w)
 settled o r s b c w = grind (arith, common_steps)
 
 entry_is : (old new : Image) (row : List ℕ) (before : List (ℕ × ℕ)) (last k : ℕ) (p : ℕ × ℕ) → HoldsPartners row before → EndsAt before last → (is_start new.words p.1 ≡ true → 1 ≤ p.1)

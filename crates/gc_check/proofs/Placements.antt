@@ -2,13 +2,15 @@
 use Rattle.std.proofs.lemmas.Grind.{common_steps}
 use Rattle.std.proofs.Common.{◌≡◌, ℕ, zero, suc, ◌<◌, true, false, cond, ap, not, ◌==◌, List, [], ◌∷◌, length, get_or, take, Option, Some, None, refl, subst, arith, sym, ◌∙◌}
 use Rattle.std.specs.Prelude.{IsOk}
+use Rattle.std.specs.Bool.{then_some}
+use Rattle.std.specs.Option.{option_map}
 use Rattle.std.proofs.lemmas.Bool.{eqb-true, eq-eqb, not-false}
 use Rattle.std.proofs.lemmas.List.{get_or-map, length-map}
 use Rattle.gc_words.specs.Word.{words_correspond, field_words_correspond}
 use Rattle.gc_words.specs.declared.header.Header.{Header}
 use Rattle.gc_words.specs.Image.{Image, IsShaped, walk_words, is_start}
 use Rattle.gc_words.specs.Views.{addresses}
-use Rattle.gc_words.specs.Fault.{◌or_else◌, when, at_place, shape_fault, first_over_pairs, place_fault, place_faults, table_fault, first_difference}
+use Rattle.gc_words.specs.Fault.{◌or_else◌, shape_fault, first_over_pairs, place_fault, place_faults, table_fault, first_difference}
 use Rattle.gc_words.specs.declared.image.Pair.{Pair}
 use Rattle.gc_words.specs.declared.refusal.Refusal.{Refusal}
 use Rattle.gc_words.specs.declared.refusal.Refusal.TheVariants.{OldShape, NewShape, RootCount}
@@ -28,9 +30,9 @@ walks image shape = subst IsOk (same_walk image.raws image.words shape.walked) s
 -- the faults of only the images: their shapes and the number of their roots
 abbrev image_fault : Image → Image → Option Refusal
 image_fault old new =
-    at_place (shape_fault old) (λ at. OldShape at)
-    or_else at_place (shape_fault new) (λ at. NewShape at)
-    or_else when (not (length old.roots == length new.roots)) RootCount
+    option_map (λ at. OldShape at) (shape_fault old)
+    or_else option_map (λ at. NewShape at) (shape_fault new)
+    or_else then_some (not (length old.roots == length new.roots)) RootCount
 
 pub table_parts : (old new : Image) (pairs : List (ℕ × ℕ)) → table_fault old new pairs ≡ None → Fits old new × (place_faults old new pairs ≡ None)
 table_parts old new pairs e = grind (arith, common_steps, or_none, shaped, at_place_none, eqb-true, not-false, when_none)
@@ -67,8 +69,8 @@ none_unequal i (w ∷ ws) = none_unequal (suc i) ws ∙ sym (ap (λ t. cond t (f
 
 -- ---- an image that is not shaped is the first fault
 
-pub old_refused : (old new : Image) (pairs : List (ℕ × ℕ)) (f : CheckFault) → IsRefusalOf (at_place (shape_fault old) (λ at. OldShape at)) f → IsRefusalOf (table_fault old new pairs) f
+pub old_refused : (old new : Image) (pairs : List (ℕ × ℕ)) (f : CheckFault) → IsRefusalOf (option_map (λ at. OldShape at) (shape_fault old)) f → IsRefusalOf (table_fault old new pairs) f
 old_refused old new pairs f is = grind (arith, common_steps)
 
-pub new_refused : (old new : Image) (pairs : List (ℕ × ℕ)) (f : CheckFault) → shape_fault old ≡ None → IsRefusalOf (at_place (shape_fault new) (λ at. NewShape at)) f → IsRefusalOf (table_fault old new pairs) f
+pub new_refused : (old new : Image) (pairs : List (ℕ × ℕ)) (f : CheckFault) → shape_fault old ≡ None → IsRefusalOf (option_map (λ at. NewShape at) (shape_fault new)) f → IsRefusalOf (table_fault old new pairs) f
 new_refused old new pairs f none is = grind (arith, common_steps)

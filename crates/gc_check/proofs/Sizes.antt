@@ -1,10 +1,11 @@
 -- The first fault where images must be small.
 use Rattle.std.proofs.lemmas.Grind.{common_steps}
+use Rattle.std.specs.Option.{option_map}
 use Rattle.std.proofs.Common.{◌≡◌, ℕ, ◌<◌, ◌≤◌, List, Option, Some, None, arith}
 use Rattle.std.proofs.lemmas.Bool.{cond-true, cond-false, le-leb, lt-leb}
 use Rattle.gc_graph.specs.Limits.{most_words}
 use Rattle.gc_words.specs.Image.{Image}
-use Rattle.gc_words.specs.Fault.{◌or_else◌, at_place, shape_fault, table_fault, first_fault}
+use Rattle.gc_words.specs.Fault.{◌or_else◌, shape_fault, table_fault, first_fault}
 use Rattle.gc_words.specs.declared.refusal.Refusal.{Refusal}
 use Rattle.gc_words.specs.declared.refusal.Refusal.TheVariants.{OldShape, NewShape}
 use Rattle.gc_check.specs.Verdict.{IsRefusalOf}
@@ -30,7 +31,7 @@ pub large_old : (old new : Image) (rest : Option Refusal) → most_words < old.s
 large_old old new rest large = grind (arith, common_steps, cond-false, lt-leb)
 
 -- the fault of the shape of a small old image
-pub bad_old : (old new : Image) (rest : Option Refusal) (fault : CheckFault) → old.size ≤ most_words → IsRefusalOf (at_place (shape_fault old) (λ at. OldShape at)) fault → IsRefusalOf (small_shapes_or_else old new rest) fault
+pub bad_old : (old new : Image) (rest : Option Refusal) (fault : CheckFault) → old.size ≤ most_words → IsRefusalOf (option_map (λ at. OldShape at) (shape_fault old)) fault → IsRefusalOf (small_shapes_or_else old new rest) fault
 bad_old old new rest fault small is = grind (arith, common_steps, cond-true, le-leb)
 
 -- the fault of a large new image, if the old one has none

@@ -3,6 +3,7 @@ use Rattle.std.proofs.lemmas.Grind.{common_steps}
 use Rattle.std.proofs.Common.{◌≡◌, ◌⊎◌, inl, inr, ℕ, ◌/◌, ◌<◌, ◌≤◌, ◌==◌, true, false, cond, List, [], ◌∷◌, Option, Some, None, refl, sym, ap, subst, arith}
 use Rattle.std.specs.List.{All, AllZip}
 use Rattle.std.specs.Prelude.{◌↔◌, is_some, IsTrue, IsOk}
+use Rattle.std.specs.Option.{option_map}
 use Rattle.std.proofs.lemmas.Bool.{cases_Bool, cond-true, cond-false, or_cases, or_left, or_right, or_parts, ltb-true, leb-true, lt-ltb, ltb-false, ne_eqb, false_from_ne_true}
 use Rattle.std.proofs.lemmas.List.Elements.{All-head, All-tail, All-weaker}
 use Rattle.gc_graph.specs.Graph.{Value, Ref}
@@ -13,7 +14,7 @@ use Rattle.gc_words.specs.Image.{Image, Block, IsShaped, walk_words, block_at, i
 use Rattle.gc_words.specs.Walking.{StandsIn}
 use Rattle.gc_words.proofs.Public.{stands_in, same_walk, some_of, or_none, at_place_none}
 use Rattle.gc_words.specs.Certificate.{BlocksCorrespond}
-use Rattle.gc_words.specs.Fault.{◌or_else◌, at_place, shape_fault, first_over_pairs, place_faults, table_fault, first_difference, same_header, block_fault, object_faults, root_fault}
+use Rattle.gc_words.specs.Fault.{◌or_else◌, shape_fault, first_over_pairs, place_faults, table_fault, first_difference, same_header, block_fault, object_faults, root_fault}
 use Rattle.gc_words.specs.declared.refusal.Refusal.{Refusal}
 use Rattle.gc_words.specs.declared.refusal.Refusal.TheVariants.{OldShape, NewShape, HeaderDiffers, FieldDiffers, RootDiffers}
 use Rattle.gc_check.specs.Profile.{CertifiedSmall, small_shape_fault, first_small_fault, small_table_fault, small_words_correspond, SmallBlocksCorrespond, CertifiedAsSmall, small_block_fault, first_fault_as_small, MeanTheSame}
@@ -138,7 +139,7 @@ small_and_shaped image e = grind (arith, common_steps, leb-true)
 module _ (old new : Image) (pairs : List (ℕ × ℕ)) where
   same_block_fault : small_words_correspond pairs ≡ words_correspond pairs → (k : ℕ) (o q : Option Block) → small_block_fault pairs k o q ≡ block_fault pairs k o q
   same_block_fault e k (Some a) (Some b) =
-      ap (λ alike. cond (same_header a.header b.header) (at_place (first_difference (λ v w. cond a.header.raw (v == w) (alike v w)) 0 a.fields b.fields) (λ i. FieldDiffers k i)) (Some (HeaderDiffers k))) e
+      ap (λ alike. cond (same_header a.header b.header) (option_map (λ i. FieldDiffers k i) (first_difference (λ v w. cond a.header.raw (v == w) (alike v w)) 0 a.fields b.fields)) (Some (HeaderDiffers k))) e
   same_block_fault e k (Some a) None = refl
   same_block_fault e k None b = refl
 
@@ -146,15 +147,15 @@ module _ (old new : Image) (pairs : List (ℕ × ℕ)) where
   small_objects = first_over_pairs (λ k p. small_block_fault pairs k (block_at old.words p.0) (block_at new.words p.1)) 0 pairs
 
   abbrev small_roots : Option Refusal
-  small_roots = at_place (first_difference (small_words_correspond pairs) 0 old.roots new.roots) (λ slot. RootDiffers slot)
+  small_roots = option_map (λ slot. RootDiffers slot) (first_difference (small_words_correspond pairs) 0 old.roots new.roots)
 
   same_rest : small_words_correspond pairs ≡ words_correspond pairs → (small_objects or_else small_roots) ≡ (object_faults old new pairs or_else root_fault old new pairs)
-  same_rest e = λ i. first_over_pairs (λ k p. same_block_fault e k (block_at old.words p.0) (block_at new.words p.1) i) 0 pairs or_else at_place (first_difference (e i) 0 old.roots new.roots) (λ slot. RootDiffers slot)
+  same_rest e = λ i. first_over_pairs (λ k p. same_block_fault e k (block_at old.words p.0) (block_at new.words p.1) i) 0 pairs or_else option_map (λ slot. RootDiffers slot) (first_difference (e i) 0 old.roots new.roots)
 
   no_table_fault : small_table_fault old new pairs ≡ None → small_words_correspond pairs ≡ words_correspond pairs
   no_table_fault e =
-      let tables : ((at_place (small_shape_fault old) (λ at. OldShape at) or_else at_place (small_shape_fault new) (λ at. NewShape at)) ≡ None) × (table_fault old new pairs ≡ None) = or_none _ _ e in
-      let shapes : (at_place (small_shape_fault old) (λ at. OldShape at) ≡ None) × (at_place (small_shape_fault new) (λ at. NewShape at) ≡ None) = or_none _ _ tables.0 in
+      let tables : ((option_map (λ at. OldShape at) (small_shape_fault old) or_else option_map (λ at. NewShape at) (small_shape_fault new)) ≡ None) × (table_fault old new pairs ≡ None) = or_none _ _ e in
+      let shapes : (option_map (λ at. OldShape at) (small_shape_fault old) ≡ None) × (option_map (λ at. NewShape at) (small_shape_fault new) ≡ None) = or_none _ _ tables.0 in
       let first = small_and_shaped old (at_place_none (small_shape_fault old) (λ at. OldShape at) shapes.0) in
       let second = small_and_shaped new (at_place_none (small_shape_fault new) (λ at. NewShape at) shapes.1) in
       let parts : Fits old new × (place_faults old new pairs ≡ None) = table_parts old new pairs tables.1 in

@@ -1,13 +1,14 @@
 -- A walk marks the starts of a space one after the other.
 use Rattle.std.proofs.lemmas.Grind.{common_steps}
-use Rattle.std.proofs.Common.{◌≡◌, ◌≢◌, ℕ, zero, suc, ◌-◌, ◌+◌, ◌/◌, ◌%◌, ◌<◌, ◌≤◌, Bool, true, false, cond, ◌==◌, List, length, take, drop, replicate, Option, Some, None, Result, is_some, refl, sym, ◌∙◌, ap, subst, arith}
+use Rattle.std.proofs.Common.{◌≡◌, ◌≢◌, ℕ, zero, suc, ◌-◌, ◌+◌, ◌/◌, ◌%◌, ◌<◌, ◌≤◌, Bool, true, false, cond, ◌==◌, List, length, take, drop, replicate, Option, Some, None, Result, is_some, refl, sym, ◌∙◌, ap, subst, arith, []}
 use Rattle.std.specs.Prelude.{slice_index, IsOk}
+use Rattle.std.specs.Result.{result_unwrap_or}
 use Rattle.std.specs.Int.{bit_at}
 use Rattle.std.proofs.lemmas.Nat.Bits.{bit_at-zero}
 use Rattle.std.proofs.lemmas.Bool.{eq-eqb, ne_eqb, cases_eq}
 use Rattle.std.proofs.lemmas.List.{length-replicate}
 use Rattle.gc_words.specs.Word.{header_in}
-use Rattle.gc_words.specs.Image.{Block, walk_words, with_front, ok_or_nil, block_in, block_at, header_of, header_at, is_start}
+use Rattle.gc_words.specs.Image.{Block, walk_words, with_front, block_in, block_at, header_of, header_at, is_start}
 use Rattle.gc_words.specs.Walking.{next_after, next_in, next_of, walk_from, block_from, StandsIn}
 use Rattle.gc_words.specs.declared.header.Header.{Header}
 use Rattle.gc_words.proofs.Public.{step, Behind, behind, has_start_from, stands_in, header_counted}
@@ -54,8 +55,8 @@ marks_next raws words bits after at next inside e long here_marked others before
         let m : Behind words at next = behind words at next inside (walked ok) step_is in
         let block : Block = block_from words at m.step.header in
         ap (λ bs. is_some (block_in bs place)) m.objects
-        ∙ ap (λ t. is_some (cond t (Some block) (block_in (ok_or_nil (walk_from words next)) place))) e
-        ∙ first_of b block (block_in (ok_or_nil (walk_from words next)) place)
+        ∙ ap (λ t. is_some (cond t (Some block) (block_in (result_unwrap_or (walk_from words next) []) place))) e
+        ∙ first_of b block (block_in (result_unwrap_or (walk_from words next) []) place)
       where
         first_of : (b : Bool) (block : Block) (others : Option Block) → is_some (cond b (Some block) others) ≡ cond b true (is_some others)
         first_of b block others = grind (arith, common_steps)

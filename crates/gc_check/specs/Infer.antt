@@ -1,5 +1,5 @@
 -- Pairs that are inferred from two images alone.
-use Rattle.std.specs.Prelude.{◌≡◌, ℕ, ◌==◌, Bool, false, ◌||◌, List, slice_get, Option, Some, None, IsTrue, ⊤}
+use Rattle.std.specs.Prelude.{◌≡◌, ℕ, ◌==◌, Bool, false, ◌||◌, List, slice_get, Option, Some, IsTrue, ⊤}
 use Rattle.std.specs.List.{All, list_any}
 use Rattle.gc_graph.specs.Graph.{Ref, at_path}
 use Rattle.gc_graph.specs.Correspond.{paired}
@@ -43,8 +43,7 @@ LeadsToPairs old new pairs vs ws = (i v w : ℕ) → slice_get vs i ≡ Some v �
 -- the same for the fields of two objects with equal headers that are not raw
 abbrev pub ObjectsLeadToPairs : Image → Image → List (ℕ × ℕ) → Option Block → Option Block → Type 0
 ObjectsLeadToPairs old new pairs (Some a) (Some b) = a.header ≡ b.header → a.header.raw ≡ false → LeadsToPairs old new pairs a.fields b.fields
-ObjectsLeadToPairs old new pairs (Some a) None = ⊤
-ObjectsLeadToPairs old new pairs None b = ⊤
+ObjectsLeadToPairs old new pairs a b = ⊤
 
 -- the roots and the fields of the pairs lead to no further pair
 pub record AreClosed (old new : Image) (pairs : List (ℕ × ℕ)) : Type 0 where

@@ -1,11 +1,12 @@
 -- `check` accepts only images that a text can hold: of at most `most_words` words.
 use Rattle.std.specs.Prelude.{◌≡◌, ◌≢◌, ℕ, ◌<◌, ◌≤◌, ◌==◌, nat_le, IsTrue, Bool, if◌then◌else◌, List, Option, Some, None}
+use Rattle.std.specs.Option.{option_map}
 use Rattle.std.specs.List.{All, AllPairs, AllZip}
 use Rattle.gc_graph.specs.Limits.{most_words}
 use Rattle.gc_words.specs.Word.{read_value_within, read_correspond, words_correspond}
 use Rattle.gc_words.specs.Image.{Image, Block, IsShaped, block_at}
 use Rattle.gc_words.specs.Certificate.{Certified}
-use Rattle.gc_words.specs.Fault.{◌or_else◌, at_place, shape_fault, first_over_pairs, table_fault, first_difference, same_header, first_fault, ArePlaced}
+use Rattle.gc_words.specs.Fault.{◌or_else◌, shape_fault, first_over_pairs, table_fault, first_difference, same_header, first_fault, ArePlaced}
 use Rattle.gc_words.specs.declared.header.Header.{Header}
 use Rattle.gc_words.specs.declared.refusal.Refusal.{Refusal}
 use Rattle.gc_words.specs.declared.refusal.Refusal.TheVariants.{OldShape, NewShape, HeaderDiffers, FieldDiffers, RootDiffers}
@@ -23,8 +24,8 @@ small_shape_fault image = if nat_le image.size most_words then shape_fault image
 -- the first fault of the shapes of images that must be small, or else this one
 abbrev pub small_shapes_or_else : Image → Image → Option Refusal → Option Refusal
 small_shapes_or_else old new rest =
-    at_place (small_shape_fault old) (λ at. OldShape at)
-    or_else at_place (small_shape_fault new) (λ at. NewShape at)
+    option_map (λ at. OldShape at) (small_shape_fault old)
+    or_else option_map (λ at. NewShape at) (small_shape_fault new)
     or_else rest
 
 -- the first condition that fails, if the images must be small
@@ -48,8 +49,7 @@ small_field_words_correspond h pairs v w = if h.raw then v == w else small_words
 -- both objects exist, their headers are equal, and their fields correspond one by one
 abbrev pub SmallBlocksCorrespond : List (ℕ × ℕ) → Option Block → Option Block → Type 0
 SmallBlocksCorrespond pairs (Some a) (Some b) = (a.header ≡ b.header) × AllZip (λ v w. IsTrue (small_field_words_correspond a.header pairs v w)) a.fields b.fields
-SmallBlocksCorrespond pairs (Some a) None = ⊥
-SmallBlocksCorrespond pairs None b = ⊥
+SmallBlocksCorrespond pairs a b = ⊥
 
 -- `Certified` where only images of small spaces are shaped, and only their words are values
 pub record CertifiedAsSmall (old new : Image) (pairs : List (ℕ × ℕ)) : Type 0 where
@@ -65,17 +65,16 @@ pub record CertifiedAsSmall (old new : Image) (pairs : List (ℕ × ℕ)) : Type
 -- the fault of the two objects of pair k
 abbrev pub small_block_fault : List (ℕ × ℕ) → ℕ → Option Block → Option Block → Option Refusal
 small_block_fault pairs k (Some a) (Some b) =
-    if same_header a.header b.header then at_place (first_difference (small_field_words_correspond a.header pairs) 0 a.fields b.fields) (λ i. FieldDiffers k i)
+    if same_header a.header b.header then option_map (λ i. FieldDiffers k i) (first_difference (small_field_words_correspond a.header pairs) 0 a.fields b.fields)
     else Some (HeaderDiffers k)
-small_block_fault pairs k (Some a) None = None
-small_block_fault pairs k None b = None
+small_block_fault pairs k a b = None
 
 -- `first_fault` where only images of small spaces are shaped, and only their words are values
 abbrev pub first_fault_as_small : Image → Image → List (ℕ × ℕ) → Option Refusal
 first_fault_as_small old new pairs =
     small_table_fault old new pairs
     or_else first_over_pairs (λ k p. small_block_fault pairs k (block_at old.words p.0) (block_at new.words p.1)) 0 pairs
-    or_else at_place (first_difference (small_words_correspond pairs) 0 old.roots new.roots) (λ slot. RootDiffers slot)
+    or_else option_map (λ slot. RootDiffers slot) (first_difference (small_words_correspond pairs) 0 old.roots new.roots)
 
 -- If small images are shaped and the addresses of the pairs have no fault, the same words correspond.
 abbrev pub MeanTheSame : Image → Image → List (ℕ × ℕ) → Type 0

@@ -1,5 +1,6 @@
 -- The checker's answer, and its line.
-use Rattle.std.specs.Prelude.{◌≡◌, ℕ, List, [], ◌∷◌, length, map, Option, Some, None, ⊤, codes}
+use Rattle.std.specs.Prelude.{◌≡◌, ℕ, List, [], ◌∷◌, length, map, Option, Some, ⊤, codes}
+use Rattle.std.specs.Option.{option_map_or}
 use Rattle.std.specs.Fmt.{decimal}
 use Rattle.gc_graph.specs.Lines.{line}
 use Rattle.gc_words.specs.Image.{Image}
@@ -22,13 +23,9 @@ abbrev pub IsRefusalOf : Option Refusal → CheckFault → Type 0
 IsRefusalOf first (fault.Refused refusal) = first ≡ Some refusal
 IsRefusalOf first fault.NoMemory = ⊤
 
-abbrev pub verdict_by : ℕ → Option Refusal → Verdict
-verdict_by pairs None = verdict.Yes pairs
-verdict_by pairs (Some refusal) = verdict.Refused refusal
-
 -- yes with the number of pairs, or the first fault
 abbrev pub verdict_of : Image → Image → List (ℕ × ℕ) → Verdict
-verdict_of old new pairs = verdict_by (length pairs) (first_fault old new pairs)
+verdict_of old new pairs = option_map_or verdict.Refused (first_fault old new pairs) (verdict.Yes (length pairs))
 
 -- a refusal's number, name and places
 unfoldable pub refusal_words : Refusal → List (List ℕ)

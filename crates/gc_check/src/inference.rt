@@ -1,6 +1,7 @@
 //! Infers a certificate from two images alone.
 
 ghost use Rattle.std.specs.Prelude.{◌≡◌, ◌<◌, ◌≤◌, ◌^◌, ◌+◌, ◌++◌, [], drop, length, vec_capacity, Err, IfOk, IfErr, IsTrue};
+ghost use Rattle.std.specs.Option.{option_map_or};
 ghost use Rattle.gc_words.specs.Certificate.{Certified};
 ghost use Rattle.gc_words.specs.Fault.{AreComparable, table_fault, object_faults, root_fault, ◌or_else◌};
 ghost use Rattle.gc_words.specs.Views.{image_of};
@@ -8,8 +9,9 @@ ghost use Rattle.gc_words.specs.declared.refusal.Refusal.{Refusal};
 ghost use Rattle.gc_check.specs.Infer.{AreClosed, AreForced, AreTogether, Certifiable, Decides};
 ghost use Rattle.gc_check.specs.Internal.Meetings.{risen, taken_in};
 ghost use Rattle.gc_check.specs.Internal.Tables.{HasEntries, HasTables, by_address};
-ghost use Rattle.gc_check.specs.Verdict.{pairs_of, verdict_of, verdict_by, IsRefusalOf};
+ghost use Rattle.gc_check.specs.Verdict.{pairs_of, verdict_of, IsRefusalOf};
 ghost use Rattle.gc_check.specs.declared.verdict.CheckFault.{CheckFault};
+ghost use Rattle.gc_check.specs.declared.verdict.Verdict.TheVariants as verdicts;
 
 use crate::checks::{ComparesObjects, Sequential};
 use crate::laws::certified_is_replicated;
@@ -96,9 +98,9 @@ pub fn compare_by<C: ComparesObjects>(
 fn verdict_on<C: ComparesObjects>(comparer: &C, tables: &Tables, alike: bool) -> Verdict
     requires can { C.can_compare comparer.now }
     requires alike { IsTrue alike → Certified tables.now.old tables.now.new tables.now.pairs }
-    ensures { result ≡ verdict_by (length tables.now.pairs)
-        (object_faults tables.now.old tables.now.new tables.now.pairs
-        or_else root_fault tables.now.old tables.now.new tables.now.pairs) }
+    ensures { result ≡ option_map_or verdicts.Refused
+        (object_faults tables.now.old tables.now.new tables.now.pairs or_else root_fault tables.now.old tables.now.new tables.now.pairs)
+        (verdicts.Yes (length tables.now.pairs)) }
 {
     if alike {
         no_fault_where_certified();

@@ -123,7 +123,7 @@ impl From<AllocError> for StartsFault {
 
 impl StartsFault {
     ghost use Rattle.std.specs.Prelude.{ℕ, Option};
-    ghost use Rattle.gc_words.specs.Fault.{at_place};
+    ghost use Rattle.std.specs.Option.{option_map};
     ghost use Rattle.gc_words.specs.declared.refusal.Refusal.TheVariants.{OldShape, NewShape};
     ghost use Rattle.gc_check.specs.Internal.Starts.{IsStartsFault};
     ghost use Rattle.gc_check.specs.Verdict.{IsRefusalOf};
@@ -131,7 +131,7 @@ impl StartsFault {
     /// Returns this fault as one of a check, for the old image.
     pub(crate) fn of_old(self) -> CheckFault
         ensures { (fault : Option ℕ) → IsStartsFault fault self
-            → IsRefusalOf (at_place fault (λ at. OldShape at)) result }
+            → IsRefusalOf (option_map (λ at. OldShape at) fault) result }
     {
         match self {
             StartsFault::NotShaped(fault) => CheckFault::Refused(Refusal::OldShape {
@@ -144,7 +144,7 @@ impl StartsFault {
     /// Returns this fault as one of a check, for the new image.
     pub(crate) fn of_new(self) -> CheckFault
         ensures { (fault : Option ℕ) → IsStartsFault fault self
-            → IsRefusalOf (at_place fault (λ at. NewShape at)) result }
+            → IsRefusalOf (option_map (λ at. NewShape at) fault) result }
     {
         match self {
             StartsFault::NotShaped(fault) => CheckFault::Refused(Refusal::NewShape {
@@ -156,15 +156,16 @@ impl StartsFault {
 }
 
 ghost use Rattle.std.specs.Prelude.{◌≡◌, ◌+◌, ◌/◌, if◌then◌else◌, length, replicate, None, Some, MatchResult};
+ghost use Rattle.std.specs.Result.{result_err};
 ghost use Rattle.gc_words.specs.Image.{walk_all};
-ghost use Rattle.gc_words.specs.Fault.{fault_of_walk, shape_fault};
+ghost use Rattle.gc_words.specs.Fault.{shape_fault};
 ghost use Rattle.gc_words.specs.Views.{image_of};
 ghost use Rattle.gc_check.specs.Internal.Tables.{MarksStarts};
 
 // Returns whether size, end, number of words and word 0 are right for a shaped image.
 fn is_framed(image: ImageRef) -> bool
     ensures { shape_fault (image_of image.entry)
-        ≡ (if result then fault_of_walk (walk_all image.entry.raws image.entry.words.now) else Some 0) }
+        ≡ (if result then result_err (walk_all image.entry.raws image.entry.words.now) else Some 0) }
 {
     image.size >= 1
         && (1..=image.size).contains(&image.end)
@@ -177,8 +178,8 @@ fn is_framed(image: ImageRef) -> bool
 fn mark_starts(words: &[u64], raws: bool, marks: &mut [u64]) -> Result<(), ShapeFault>
     requires unmarked { marks.old ≡ replicate (length words.now / 64 + 1) 0 }
     ensures { MatchResult result
-        (λ _. (fault_of_walk (walk_all raws words.now) ≡ None) × MarksStarts words.now marks.new)
-        (λ fault. fault_of_walk (walk_all raws words.now) ≡ Some fault.at) }
+        (λ _. (result_err (walk_all raws words.now) ≡ None) × MarksStarts words.now marks.new)
+        (λ fault. result_err (walk_all raws words.now) ≡ Some fault.at) }
 {
     let mut at = 1;
     while at < words.len() {

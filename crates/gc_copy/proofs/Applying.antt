@@ -3,12 +3,12 @@ use Rattle.std.proofs.lemmas.Grind.{common_steps}
 use Rattle.std.proofs.Common.{◌≡◌, inl, ℕ, suc, Bool, true, false, cond, ◌&&◌, not, List, [], ◌∷◌, map, drop, length, Option, Some, None, is_some, refl, ap, sym, ◌∙◌, subst, length-set, arith}
 use Rattle.std.specs.Prelude.{IsSome, slice_get, slice_set}
 use Rattle.std.specs.List.{list_all}
-use Rattle.std.specs.Option.{option_map}
+use Rattle.std.specs.Option.{option_map, unwrap_or}
 use Rattle.gc_graph.specs.Graph.{Value, Object, Graph}
 use Rattle.gc_words.specs.Image.{field_at}
 use Rattle.gc_heap.specs.Heap.{HeapWords, graph_in}
 use Rattle.gc_plan.specs.State.{Collection, moved}
-use Rattle.gc_plan.specs.Steps.{log_at, with_log, is_empty, first_log, place_replica, with_replica, copy_value, bring_up_to_date, apply_entry, apply_log, if_room, scan_done, roots_done, is_ready}
+use Rattle.gc_plan.specs.Steps.{log_at, with_log, is_empty, first_log, place_replica, with_replica, bring_up_to_date, apply_entry, apply_log, if_room, scan_done, roots_done, is_ready, write_replica}
 use Rattle.gc_copy.specs.Internal.Entries.{oldest}
 use Rattle.gc_copy.specs.Words.{Log, CollectionWords, IsCollection, entries_of, collection_in, open_state, BelongsTo}
 use Rattle.gc_copy.specs.Internal.Words.{KeepsGraph, KeepsRest}
@@ -26,7 +26,7 @@ relogged m entries o = option_map (λ c. with_log c m entries) o
 with_beside : (c : Collection) (g : Graph) (m : ℕ) (entries : List (ℕ × ℕ)) (v : Value) → with_replica (with_log c m entries) g v ≡ relogged m entries (with_replica c g v)
 with_beside c g m entries v = grind (arith, common_steps)
 
-copy_beside : (o : Option Collection) (m : ℕ) (entries : List (ℕ × ℕ)) (name i : ℕ) (v : Value) → copy_value (relogged m entries o) name i v ≡ relogged m entries (copy_value o name i v)
+copy_beside : (o : Option Collection) (m : ℕ) (entries : List (ℕ × ℕ)) (name i : ℕ) (v : Value) → option_map (λ (d : Collection). write_replica d name i (moved d v)) (relogged m entries o) ≡ relogged m entries (option_map (λ (d : Collection). write_replica d name i (moved d v)) o)
 copy_beside o m entries name i v = grind (arith, common_steps)
 
 entry_beside : (c : Collection) (g : Graph) (m : ℕ) (entries : List (ℕ × ℕ)) (entry : ℕ × ℕ) → apply_entry (with_log c m entries) g entry ≡ relogged m entries (apply_entry c g entry)
@@ -36,7 +36,7 @@ entry_beside c g m entries entry = grind (arith, common_steps, with_beside, copy
 
 module _ (heap : HeapWords) (x : CollectionWords) (m : ℕ) (log : Log) (there : slice_get x.logs m ≡ Some log) where
   entries_are : log_at (collection_in x) m ≡ log.entries
-  entries_are = ap Rattle.gc_plan.specs.Steps.log_or_nil (entries_at x.logs m log there)
+  entries_are = ap (λ (o : Option (List (ℕ × ℕ))). unwrap_or o []) (entries_at x.logs m log there)
 
   module _ (entry : ℕ × ℕ) (first : Some entry ≡ oldest log.entries) where
     entries_split : log_at (collection_in x) m ≡ entry ∷ drop 1 log.entries

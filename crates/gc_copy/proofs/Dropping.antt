@@ -2,10 +2,11 @@
 use Rattle.std.proofs.lemmas.Grind.{common_steps}
 use Rattle.std.proofs.Common.{◌≡◌, ◌⊎◌, ⊎_elim, inl, inr, ℕ, ◌-◌, ◌<◌, ◌≤◌, ◌==◌, Bool, true, false, List, [], ◌∷◌, length, Option, Some, None, is_some, refl, ap, sym, ◌∙◌, subst, arith}
 use Rattle.std.specs.Prelude.{◌^◌}
-use Rattle.std.specs.Option.{option_map}
+use Rattle.std.specs.Result.{result_unwrap_or}
+use Rattle.std.specs.Option.{option_map, option_map_or}
 use Rattle.std.proofs.lemmas.Bool.{cases_Bool, eqb-true, eqb-false}
 use Rattle.gc_graph.specs.Graph.{Object}
-use Rattle.gc_words.specs.Image.{Block, blocks, block_at, is_start, object_of_block, ok_or_nil}
+use Rattle.gc_words.specs.Image.{Block, blocks, block_at, is_start, object_of_block}
 use Rattle.gc_words.specs.Layout.{link_place}
 use Rattle.gc_words.specs.Spelling.{link_at, spelled, no_links}
 use Rattle.gc_words.specs.Space.{IsSpace, with_word, without_links}
@@ -13,7 +14,6 @@ use Rattle.gc_words.specs.Walking.{next_of, walk_from, block_from}
 use Rattle.gc_words.proofs.Public.{Behind, behind, at_end, has_next, some_of, link_written_there, link_written_beside, object_found, spelled_words}
 use Rattle.gc_heap.specs.Heap.{HeapWords, IsHeap}
 use Rattle.gc_plan.specs.State.{Replica, replica_of}
-use Rattle.gc_plan.specs.Linked.{place_or_zero}
 use Rattle.gc_plan.specs.Members.{In}
 use Rattle.gc_copy.specs.Words.{CollectionWords, IsCollection, replica_entry, replicas_in, collection_in, idle_state, mark_of, LinksNothing, BelongsTo}
 use Rattle.gc_copy.specs.Internal.Words.{KeepsGraph}
@@ -27,7 +27,7 @@ use Rattle.gc_copy.proofs.LinkedImages.{spelled_agree}
 
 -- the object's replica is at this place of the new space or after it
 abbrev pub IsAhead : List ℕ → ℕ → ℕ → Type 0
-IsAhead words at a = (e : ℕ × Block) × In e (ok_or_nil (walk_from words at)) × (link_at words e.0 ≡ a)
+IsAhead words at a = (e : ℕ × Block) × In e (result_unwrap_or (walk_from words at) []) × (link_at words e.0 ≡ a)
 
 -- each replica's original is an object of the heap, whose address is a `u32`
 abbrev pub HasOriginals : List ℕ → HeapWords → Type 0
@@ -68,7 +68,7 @@ clears_none heap x c seen sound is belongs = record {
     there o object e = grind (arith, common_steps)
 
     from : (a : ℕ) → is_start heap.space.words a ≡ true → (o : Option Replica) → replica_of (collection_in x) a ≡ o → (link_at heap.space.words a - mark_of x.epoch ≡ 0) ⊎ IsAhead x.space.words 1 a
-    from a start None e = inl (k.links a start ∙ ap place_or_zero e)
+    from a start None e = inl (k.links a start ∙ ap (λ (o : Option Replica). option_map_or (λ (r : Replica). r.place) o 0) e)
     from a start (Some r) e =
         let found = replica_in (collection_in x) a r e in
         let entry = in_map_from (replica_entry x.space.words) r (blocks x.space.words) found.0 in

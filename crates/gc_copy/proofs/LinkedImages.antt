@@ -1,7 +1,7 @@
 -- The images that a heap and its collection give the checker, and how commands change them.
 use Rattle.std.proofs.lemmas.Grind.{common_steps}
 use Rattle.std.proofs.Common.{◌*◌, ◌≡◌, ⊎_elim, inl, inr, ℕ, ◌-◌, ◌%◌, ◌≤◌, ◌<◌, Bool, true, false, List, [], ◌∷◌, ◌++◌, map, flat_map, length, Option, Some, None, is_some, refl, ap, sym, ◌∙◌, subst, arith}
-use Rattle.std.specs.Option.{option_map}
+use Rattle.std.specs.Option.{option_map, option_map_or}
 use Rattle.std.proofs.lemmas.Bool.{cases_Bool}
 use Rattle.gc_graph.specs.Graph.{Object, lookup}
 use Rattle.gc_graph.specs.Machine.{Roomy, roomy_step}
@@ -14,7 +14,7 @@ use Rattle.gc_words.specs.Certificate.{Certified}
 use Rattle.gc_words.proofs.Public.{length_relinked, object_found, relinked}
 use Rattle.gc_heap.specs.Heap.{HeapWords, IsHeap, KeepsLinks, image_of, graph_in, roomy_in}
 use Rattle.gc_plan.specs.State.{Replica, Collection, pairs_of, replica_of}
-use Rattle.gc_plan.specs.Linked.{image_of_graph, linked_image, block_entry, place_or_zero, original_or_zero, old_links, new_links, old_image, new_image, LeadsTo}
+use Rattle.gc_plan.specs.Linked.{image_of_graph, linked_image, block_entry, old_links, new_links, old_image, new_image, LeadsTo}
 use Rattle.gc_plan.specs.Steps.{written, is_ready}
 use Rattle.gc_plan.specs.Members.{In}
 use Rattle.gc_plan.specs.Belonging.{IsDue, Belongs, BelongsBut}
@@ -57,7 +57,7 @@ idle_shown heap is none = grind (arith, common_steps, links_told, in_start, word
 pub new_shown : (heap : HeapWords) (c : CollectionWords) → IsCollection c → BelongsTo heap c → image_with c.space (new_root_words heap (collection_in c)) ≡ new_image (open_state heap c) (collection_in c)
 new_shown heap c is k =
     let told : (e : ℕ × Block) → In e (blocks c.space.words) → link_at c.space.words e.0 ≡ new_links (collection_in c) e.0
-    = λ e l. sym (ap original_or_zero (found_by_place (IsDue (collection_in c)) (graph_in heap).objects (collection_in c) k.belongs (replica_entry c.space.words e) (in_map (replica_entry c.space.words) e (blocks c.space.words) l))) in
+    = λ e l. sym (ap (λ (o : Option Replica). option_map_or (λ (r : Replica). r.original) o 0) (found_by_place (IsDue (collection_in c)) (graph_in heap).objects (collection_in c) k.belongs (replica_entry c.space.words e) (in_map (replica_entry c.space.words) e (blocks c.space.words) l))) in
     let all = links_told c.space (new_links (collection_in c)) is.space told ∙ ap (λ os. spelled (new_links (collection_in c)) (map block_entry os)) (sym (new_objects_are c)) in
     λ i. record { size = c.space.size; end = length (all i); words = all i; roots = new_root_words heap (collection_in c); raws = true }
 
@@ -83,7 +83,7 @@ pub linked : (heap : HeapWords) (c : CollectionWords) → BelongsTo heap c → I
 linked heap c k is a r e =
     let range : (1 ≤ r.place) × (r.place < 4294967295) = replica_address (graph_in heap).objects c r is k.belongs (replica_in (collection_in c) a r e).0 in
     let mark : mark_of c.epoch ≡ c.epoch * 4294967296 = refl in
-    omega (arith, k.links a (starts heap c a r k e) ∙ ap place_or_zero e, range.0, range.1)
+    omega (arith, k.links a (starts heap c a r k e) ∙ ap (λ (o : Option Replica). option_map_or (λ (r : Replica). r.place) o 0) e, range.0, range.1)
 
 -- a heap's words with other links are a space with the same objects
 pub other_links : (heap : HeapWords) → IsHeap heap → (links : ℕ → ℕ) → let words = (linked_image links heap.space.size (graph_in heap)).words in
@@ -105,7 +105,7 @@ lowered_words heap links mark is told = grind (arith, common_steps, spelled_agre
 no_link : (heap : HeapWords) (c : CollectionWords) (a : ℕ) → BelongsTo heap c → is_start heap.space.words a ≡ false → old_links (collection_in c) a ≡ 0
 no_link heap c a k none = from (replica_of (collection_in c) a) refl
   where
-    from : (o : Option Replica) → replica_of (collection_in c) a ≡ o → place_or_zero o ≡ 0
+    from : (o : Option Replica) → replica_of (collection_in c) a ≡ o → option_map_or (λ (r : Replica). r.place) o 0 ≡ 0
     from None e = refl
     from (Some r) e =
         let l = replica_in (collection_in c) a r e in

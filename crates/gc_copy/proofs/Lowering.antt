@@ -2,9 +2,10 @@
 use Rattle.std.proofs.lemmas.Grind.{common_steps}
 use Rattle.std.proofs.Common.{◌≡◌, ◌⊎◌, ⊎_elim, inl, inr, ℕ, ◌+◌, ◌-◌, ◌<◌, ◌≤◌, true, List, [], ◌∷◌, ◌++◌, length, drop, Some, Result, refl, ap, sym, ◌∙◌, subst, arith, length-set}
 use Rattle.std.specs.Prelude.{IsOk}
+use Rattle.std.specs.Result.{result_unwrap_or}
 use Rattle.std.proofs.lemmas.Bool.{cases_eq}
 use Rattle.std.proofs.lemmas.List.{drop-set-lt}
-use Rattle.gc_words.specs.Image.{Block, walk, blocks, is_start, ok_or_nil}
+use Rattle.gc_words.specs.Image.{Block, walk, blocks, is_start}
 use Rattle.gc_words.specs.Layout.{link_place}
 use Rattle.gc_words.specs.Spelling.{link_at}
 use Rattle.gc_words.specs.Space.{with_word}
@@ -22,7 +23,7 @@ use Rattle.gc_copy.proofs.Dropping.{then_kept}
 
 -- an object at this place or after it
 abbrev pub IsNext : List ℕ → ℕ → ℕ → Type 0
-IsNext words at a = (e : ℕ × Block) × In e (ok_or_nil (walk_from words at)) × (e.0 ≡ a)
+IsNext words at a = (e : ℕ × Block) × In e (result_unwrap_or (walk_from words at) []) × (e.0 ≡ a)
 
 -- an object was passed and its link is lowered, or it is still ahead and its link is as it was
 abbrev pub IsLowered : ℕ → HeapWords → HeapWords → ℕ → ℕ → Type 0

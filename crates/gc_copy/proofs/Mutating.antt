@@ -2,7 +2,7 @@
 use Rattle.std.proofs.lemmas.Grind.{common_steps}
 use Rattle.std.proofs.Common.{◌≡◌, ◌≢◌, inl, ℕ, zero, suc, Bool, List, [], ◌∷◌, ◌++◌, Option, refl, ap, sym, ◌∙◌, subst, arith, append-nil}
 use Rattle.std.specs.Prelude.{slice_get, slice_set}
-use Rattle.std.specs.Option.{option_to_list}
+use Rattle.std.specs.Option.{option_to_list, unwrap_or}
 use Rattle.gc_graph.specs.Machine.{Roomy, roomy_step}
 use Rattle.gc_graph.specs.Graph.{Graph}
 use Rattle.gc_graph.specs.declared.command.Op.{Op}
@@ -13,7 +13,7 @@ use Rattle.gc_words.specs.Space.{end_of}
 use Rattle.gc_heap.specs.Heap.{HeapWords, IsHeap, KeepsLinks, graph_in, roomy_in}
 use Rattle.gc_heap.specs.Commands.{Performs}
 use Rattle.gc_plan.specs.State.{Collection}
-use Rattle.gc_plan.specs.Steps.{log_or_nil, log_at, with_log, WritesField, written, mutate}
+use Rattle.gc_plan.specs.Steps.{log_at, with_log, WritesField, written, mutate}
 use Rattle.gc_graph.specs.Slots.{SlotName}
 use Rattle.gc_copy.specs.Internal.Entries.{if_done}
 use Rattle.gc_plan.specs.Members.{In}
@@ -23,7 +23,7 @@ use Rattle.gc_plan.proofs.Public.{field_there}
 use Rattle.gc_copy.proofs.LinkedImages.{command_leaves, nothing_left, nothing_linked}
 
 -- appending nothing does not change a log
-set_kept : (logs : List (List (ℕ × ℕ))) (m : ℕ) → slice_set logs m (log_or_nil (slice_get logs m) ++ []) ≡ logs
+set_kept : (logs : List (List (ℕ × ℕ))) (m : ℕ) → slice_set logs m (unwrap_or (slice_get logs m) [] ++ []) ≡ logs
 set_kept [] m = refl
 set_kept (l ∷ logs) zero = let same = append-nil l in λ i. same i ∷ logs
 set_kept (l ∷ logs) (suc m) = let rest = set_kept logs m in λ i. l ∷ rest i

@@ -2,8 +2,9 @@
 use Rattle.std.proofs.lemmas.Grind.{common_steps}
 use Rattle.std.proofs.Common.{◌≡◌, ℕ, ◌+◌, ◌<◌, ◌≤◌, true, List, [], ◌∷◌, ◌++◌, map, length, Some, refl, ap, sym, ◌∙◌, subst, arith, append_assoc, length-append, inl}
 use Rattle.std.specs.Prelude.{◌^◌, IsOk, slice_set}
+use Rattle.std.specs.Result.{result_unwrap_or}
 use Rattle.std.proofs.lemmas.List.{map-append, length-map, drop-set-lt}
-use Rattle.gc_words.specs.Image.{Block, blocks, is_start, ok_or_nil}
+use Rattle.gc_words.specs.Image.{Block, blocks, is_start}
 use Rattle.gc_words.specs.Spelling.{link_at}
 use Rattle.gc_words.specs.Space.{SpaceWords, IsSpace}
 use Rattle.gc_words.specs.Views.{addresses}
@@ -20,7 +21,7 @@ use Rattle.gc_copy.proofs.Spaces.{in_start}
 
 -- the objects passed so far; the walk continues from here
 pub record Met (words : List ℕ) (at : ℕ) (done : List (ℕ × Block)) : Type 0 where
-  pub split : blocks words ≡ done ++ ok_or_nil (walk_from words at)
+  pub split : blocks words ≡ done ++ result_unwrap_or (walk_from words at) []
   pub walked : IsOk (walk_from words at)
   pub few : length done < at
   pub within : at ≤ length words
@@ -39,14 +40,14 @@ pub passing : (words : List ℕ) (at next : ℕ) (done : List (ℕ × Block)) �
 passing words at next done m less e =
     let b : Behind words at next = behind words at next less m.walked e in
     let block : Block = block_from words at b.step.header in
-    let split : blocks words ≡ done ++ (at, block) ∷ ok_or_nil (walk_from words next) = m.split ∙ ap (λ bs. done ++ bs) b.objects in
+    let split : blocks words ≡ done ++ (at, block) ∷ result_unwrap_or (walk_from words next) [] = m.split ∙ ap (λ bs. done ++ bs) b.objects in
     let place = b.step.place in
     let few = m.few in
     record {
       block = block;
-      found = subst (In (at, block)) (sym split) (in_right (at, block) done ((at, block) ∷ ok_or_nil (walk_from words next)) (inl refl));
+      found = subst (In (at, block)) (sym split) (in_right (at, block) done ((at, block) ∷ result_unwrap_or (walk_from words next) []) (inl refl));
       met = record {
-        split = split ∙ sym (append_assoc done ((at, block) ∷ []) (ok_or_nil (walk_from words next)));
+        split = split ∙ sym (append_assoc done ((at, block) ∷ []) (result_unwrap_or (walk_from words next) []));
         walked = b.walked;
         few = omega (arith, length-append done ((at, block) ∷ []));
         within = b.step.within;

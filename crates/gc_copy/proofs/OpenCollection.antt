@@ -6,8 +6,8 @@ use Rattle.std.proofs.Common.{◌≡◌, ◌≢◌, ⊎_elim, inl, ℕ, ◌+◌,
 use Rattle.std.specs.List.{find}
 use Rattle.std.proofs.lemmas.Bool.{cases_Bool, cases_lt, cond-true, cond-false, cond_both, eqb-true, eqb-false, eq-eqb, ne_eqb, le-ltb, lt-ltb}
 use Rattle.std.proofs.lemmas.List.{length-map}
-use Rattle.std.specs.Option.{option_map}
-use Rattle.std.specs.Prelude.{IsOk, ◌^◌, IsSome, OnOk, OnErr}
+use Rattle.std.specs.Option.{option_map, option_map_or}
+use Rattle.std.specs.Prelude.{IsOk, ◌^◌, IsSome, OnOk, OnErr, IfSome}
 use Rattle.gc_heap.proofs.Public.{named}
 use Rattle.gc_graph.specs.Graph.{Value, Nil, Num, Ref, Object, Graph, lookup, field_of}
 use Rattle.gc_words.specs.Word.{HasAddress, word_of, field_value}
@@ -21,12 +21,12 @@ use Rattle.gc_words.specs.declared.header.Header.{Header}
 use Rattle.gc_words.specs.Walking.{StandsIn}
 use Rattle.gc_graph.specs.Graph.{name_of}
 use Rattle.gc_heap.specs.Heap.{HeapWords, IsHeap, graph_in}
-use Rattle.gc_plan.specs.State.{Replica, Collection, State, new_objects, new_end, new_free, replica_of, moved, moved_name}
-use Rattle.gc_plan.specs.Linked.{place_or_zero, old_links}
-use Rattle.gc_plan.specs.Steps.{fresh_replica, place_replica, with_replica, with_written, write_replica, copy_value, bring_value, bring_up_to_date, collect}
+use Rattle.gc_plan.specs.State.{Replica, Collection, State, new_objects, new_end, new_free, replica_of, moved}
+use Rattle.gc_plan.specs.Linked.{old_links}
+use Rattle.gc_plan.specs.Steps.{fresh_replica, place_replica, with_replica, with_written, write_replica, bring_value, bring_up_to_date, collect}
 use Rattle.gc_plan.specs.Members.{In}
 use Rattle.gc_plan.proofs.Public.{in_push, in_right, in_map, in_map_from, find_exists, get_within, get_past, laid_range, lookup_laid, placed, place_written, with_written_pair, replica_in, open_keeps, placing_keeps, bringing_keeps}
-use Rattle.gc_plan.specs.Belonging.{IsDue, Belongs, IsOpen, IsOpened}
+use Rattle.gc_plan.specs.Belonging.{IsDue, Belongs, IsOpened}
 use Rattle.gc_copy.specs.Words.{CollectionWords, IsCollection, entries_of, replicas_in, collection_in, state_of, open_state, mark_of, LinksReplicas, BelongsTo}
 use Rattle.gc_plan.specs.Staying.{HasReplicaOf}
 use Rattle.gc_copy.specs.Internal.Words.{replica_block, KeepsGraph, KeepsRest}
@@ -68,7 +68,7 @@ pub after_step : (heap new : HeapWords) (c next : CollectionWords) (step : Step)
     → collect (open_state heap c) step ≡ (reply, open_state new next) → LinksReplicas next.epoch new (collection_in next) → BelongsTo new next
 after_step heap new c next step reply other is k same count e links =
     closed heap new c next same k count
-    (subst (λ (x : StepReply × State). IsOpen (open_state heap c) x.1.collection) e (open_keeps (open_state heap c) (collection_in c) step refl (opened heap c is k) other))
+    (subst (λ (x : StepReply × State). IfSome x.1.collection (IsOpened (open_state heap c))) e (open_keeps (open_state heap c) (collection_in c) step refl (opened heap c is k) other))
     links
 
 -- ---- finding
@@ -80,7 +80,7 @@ find_push_other : {X : Type 0} (p : X → Bool) (xs : List X) (y : X) → p y �
 find_push_other p xs y is = grind (arith, common_steps, find-append)
 
 -- a replica is found at the same place after a write
-zero_of_none : (o : Option Replica) (p : Option Replica) → option_map (λ r. r.place) o ≡ option_map (λ (r : Replica). r.place) p → place_or_zero o ≡ place_or_zero p
+zero_of_none : (o : Option Replica) (p : Option Replica) → option_map (λ r. r.place) o ≡ option_map (λ (r : Replica). r.place) p → option_map_or (λ (r : Replica). r.place) o 0 ≡ option_map_or (λ (r : Replica). r.place) p 0
 zero_of_none o p e = grind (arith, common_steps)
 
 -- writing a field does not change the old links
@@ -98,11 +98,11 @@ links_placed heap epoch c r is start links none a there = ⊎_elim
     let written : link_at (with_word heap.space (link_place r.original) (mark_of epoch + r.place)).words a ≡ mark_of epoch + r.place
     = subst (λ n. link_at (with_word heap.space (link_place r.original) (mark_of epoch + r.place)).words n ≡ mark_of epoch + r.place) here (link_written_there heap.space r.original (mark_of epoch + r.place) is.space start) in
     let above : link_at (with_word heap.space (link_place r.original) (mark_of epoch + r.place)).words a - mark_of epoch ≡ r.place = omega arith in
-    above ∙ sym (ap place_or_zero found))
+    above ∙ sym (ap (λ (o : Option Replica). option_map_or (λ (r : Replica). r.place) o 0) found))
     (λ f.
     let found : replica_of (record c { replicas = c.replicas ++ r ∷ [] }) a ≡ replica_of c a = find_push_other (λ (q : Replica). q.original == a) c.replicas r f in
     let old : is_start heap.space.words a ≡ true = sym (start_kept heap (record heap { space = with_word heap.space (link_place r.original) (mark_of epoch + r.place) }) a (linked_heap heap r.original (mark_of epoch + r.place) is start)) ∙ there in
-    ap (λ l. l - mark_of epoch) (link_written_beside heap.space r.original (mark_of epoch + r.place) a (eqb-false r.original a f)) ∙ links a old ∙ sym (ap place_or_zero found))
+    ap (λ l. l - mark_of epoch) (link_written_beside heap.space r.original (mark_of epoch + r.place) a (eqb-false r.original a f)) ∙ links a old ∙ sym (ap (λ (o : Option Replica). option_map_or (λ (r : Replica). r.place) o 0) found))
     (cases_Bool (r.original == a))
 
 can_place_replica : (s : SpaceWords) (b : Block) → IsSpace s → IsBlock b → HasRoomFor s b.header.len → CanPlaceBlock s (replica_block b)
@@ -293,7 +293,7 @@ moved_address objects c Nil is belongs h = tt
 moved_address objects c (Num n) is belongs h = tt
 moved_address objects c (Ref a) is belongs h =
     let r = some_of (replica_of (collection_in c) a) h in
-    subst (λ o. HasAddress (moved_name o a)) (sym r.1) (replica_address objects c r.0 is belongs (replica_in (collection_in c) a r.0 r.1).0)
+    subst (λ o. HasAddress (Ref (option_map_or (λ (r : Replica). r.place) o a))) (sym r.1) (replica_address objects c r.0 is belongs (replica_in (collection_in c) a r.0 r.1).0)
 
 header_of_field : (words : List ℕ) (name i w : ℕ) → field_at words name i ≡ Some w → (h : Header) × (header_at words name ≡ Some h)
 header_of_field words name i w e = from (block_at words name) refl e
@@ -320,7 +320,7 @@ plain_value_is heap name i w plain e =
 -- the step of the definition, made of the code's two: the target first, then the field
 pub brought : (g : Graph) (c one : Collection) (name i : ℕ) (v : Value) → field_of (lookup g.objects name) i ≡ Some v → with_replica c g v ≡ Some one
     → bring_up_to_date c g name i ≡ Some (write_replica one name i (moved one v))
-brought g c one name i v field target = ap (bring_value c g name i) field ∙ ap (λ o. copy_value o name i v) target
+brought g c one name i v field target = ap (bring_value c g name i) field ∙ ap (λ o. option_map (λ (d : Collection). write_replica d name i (moved d v)) o) target
 
 -- placing one object's replica leaves the others
 pub kept_replica : (c next : Collection) (g : Graph) (v : Value) (a place : ℕ) → with_replica c g v ≡ Some next → option_map (λ r. r.place) (replica_of c a) ≡ Some place → option_map (λ r. r.place) (replica_of next a) ≡ Some place
@@ -336,7 +336,7 @@ pub record Tells (c : CollectionWords) (a link : ℕ) : Type 0 where
 pub link_tells : (heap : HeapWords) (c : CollectionWords) (a link : ℕ) → IsCollection c → BelongsTo heap c → is_start heap.space.words a ≡ true → link ≡ link_at heap.space.words a - mark_of c.epoch → Tells c a link
 link_tells heap c a link is k start e = from (replica_of (collection_in c) a) refl (e ∙ k.links a start)
   where
-    from : (o : Option Replica) → replica_of (collection_in c) a ≡ o → link ≡ place_or_zero o → Tells c a link
+    from : (o : Option Replica) → replica_of (collection_in c) a ≡ o → link ≡ option_map_or (λ (r : Replica). r.place) o 0 → Tells c a link
     from None f g = record { small = omega arith; none = λ z. ap (option_map (λ (r : Replica). r.place)) f; some = λ n. absurd (n g); address = λ n. absurd (n g) }
     from (Some r) f g =
         let at : (1 ≤ r.place) × (r.place < 4294967295) = replica_address (graph_in heap).objects c r is k.belongs (replica_in (collection_in c) a r f).0 in

@@ -5,8 +5,8 @@ use Rattle.std.proofs.Common.{Option, Some, None, arith, ◌≡◌, ℕ, suc, ze
 use Rattle.std.proofs.lemmas.Bool.{eqb-true}
 use Rattle.std.proofs.lemmas.List.{drop_all, get_or-take, length-append, length-map, map-append, take-append-drop}
 use Rattle.std.specs.Prelude.{IfSome}
-use Rattle.std.specs.Option.{option_map}
-use Rattle.gc_graph.specs.Graph.{Value, Nil, Graph, root, value_or_nil}
+use Rattle.std.specs.Option.{option_map, unwrap_or}
+use Rattle.gc_graph.specs.Graph.{Value, Nil, Graph, root}
 use Rattle.gc_words.specs.Word.{value_of, word_of}
 use Rattle.gc_heap.specs.Heap.{HeapWords, graph_in}
 use Rattle.gc_plan.specs.State.{Collection, moved}
@@ -18,7 +18,7 @@ use Rattle.gc_copy.specs.declared.collection.roots.MissingRoot.{MissingRoot}
 use Rattle.gc_plan.specs.Staying.{HasReplicaOf, IsMissing}
 
 -- the value of a root, read from its word
-pub value_at : (words : List ℕ) (i : ℕ) → i < length words → value_or_nil (slice_get (map value_of words) i) ≡ value_of (get_or words i 0)
+pub value_at : (words : List ℕ) (i : ℕ) → i < length words → unwrap_or (slice_get (map value_of words) i) Nil ≡ value_of (get_or words i 0)
 value_at words i h = grind (arith, common_steps, slice_get-map, slice_get-get_or)
 
 -- ---- moving them
@@ -47,7 +47,7 @@ root_has_replica heap c words i same h done =
 
 -- the values of the roots behind place k are nil
 abbrev pub EndsAt : List ℕ → ℕ → Type 0
-EndsAt words k = (p : ℕ) → k ≤ p → value_or_nil (slice_get (map value_of words) p) ≡ Nil
+EndsAt words k = (p : ℕ) → k ≤ p → unwrap_or (slice_get (map value_of words) p) Nil ≡ Nil
 
 -- only 0 is nil
 nil_word : (w : ℕ) → value_of w ≡ Nil → w ≡ 0

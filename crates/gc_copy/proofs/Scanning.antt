@@ -11,7 +11,7 @@ use Rattle.gc_words.specs.Spelling.{link_at}
 use Rattle.gc_words.specs.declared.header.Header.{Header}
 use Rattle.gc_heap.specs.Heap.{HeapWords, graph_in}
 use Rattle.gc_plan.specs.State.{Replica, new_end, replica_of, replica_at}
-use Rattle.gc_plan.specs.Steps.{scan_done, scan, next_object, next_field, if_room, bring_up_to_date, with_collection}
+use Rattle.gc_plan.specs.Steps.{scan_done, scan, next_object, if_room, bring_up_to_date, with_collection, next_field}
 use Rattle.gc_plan.specs.Members.{In}
 use Rattle.gc_plan.specs.Belonging.{IsDue}
 use Rattle.gc_copy.specs.Words.{CollectionWords, IsCollection, replicas_in, collection_in, open_state, BelongsTo}
@@ -87,12 +87,12 @@ module _ (heap : HeapWords) (x : CollectionWords) (is : IsCollection x) (k : Bel
   pub passed_belongs : (h : Header) → header_at x.space.words x.scan_place ≡ Some h → (h.raw ≡ true) ⊎ (x.scan_field ≡ h.len) → (place : ℕ) → place ≡ x.scan_place + (h.len + 2) → BelongsTo heap (record x { scan_place = place; scan_field = 0 })
   passed_belongs h e all place is_there = after_step heap heap x (record x { scan_place = place; scan_field = 0 }) steps.Scan Passed (λ no. cc no) is k (same_graph heap) refl (passed h e all place is_there) k.links
 
-  scans : (h : Header) → header_at x.space.words x.scan_place ≡ Some h → h.raw ≡ false → (x.scan_field ≡ h.len → ⊥) → scan (open_state heap x) (collection_in x) ≡ if_room (open_state heap x) Scanned (next_field (bring_up_to_date (collection_in x) (graph_in heap) (link_at x.space.words x.scan_place) x.scan_field))
+  scans : (h : Header) → header_at x.space.words x.scan_place ≡ Some h → h.raw ≡ false → (x.scan_field ≡ h.len → ⊥) → scan (open_state heap x) (collection_in x) ≡ if_room (open_state heap x) Scanned (option_map next_field (bring_up_to_date (collection_in x) (graph_in heap) (link_at x.space.words x.scan_place) x.scan_field))
   scans h e plain other = grind (arith, common_steps, cond-false, found, at, neither, stands_there, ne_eqb, count, original)
 
   pub no_room : (h : Header) → header_at x.space.words x.scan_place ≡ Some h → h.raw ≡ false → (x.scan_field ≡ h.len → ⊥) → bring_up_to_date (collection_in x) (graph_in heap) (link_at x.space.words x.scan_place) x.scan_field ≡ None
       → scan (open_state heap x) (collection_in x) ≡ (NoRoom, open_state heap x)
-  no_room h e plain other none = scans h e plain other ∙ ap (λ o. if_room (open_state heap x) Scanned (next_field o)) none
+  no_room h e plain other none = scans h e plain other ∙ ap (λ o. if_room (open_state heap x) Scanned (option_map next_field o)) none
 
   -- `after` is the collection in which the field is up to date
   pub scanned : (h : Header) → header_at x.space.words x.scan_place ≡ Some h → h.raw ≡ false → (x.scan_field ≡ h.len → ⊥) → (new : HeapWords) (after : CollectionWords) → KeepsGraph heap new → KeepsRest x after

@@ -2,11 +2,12 @@
 use Rattle.std.proofs.lemmas.Grind.{common_steps}
 use Rattle.std.proofs.Common.{◌≡◌, ⊎_elim, ◌<◌, ◌≤◌, ◌+◌, ℕ, zero, suc, true, List, [], ◌∷◌, length, take, drop, Some, None, sym, ap, subst, ◌∙◌, arith}
 use Rattle.std.specs.Prelude.{slice_get, slice_set, get_or}
+use Rattle.std.specs.Option.{unwrap_or}
 use Rattle.std.specs.List.{list_all}
 use Rattle.std.proofs.lemmas.Bool.{cases_eq, leb-true, and_parts}
 use Rattle.std.proofs.lemmas.List.{length-set}
 use Rattle.std.proofs.lemmas.Option.{slice_get-get_or}
-use Rattle.gc_graph.specs.Graph.{Value, Nil, Ref, Object, Graph, root, lookup, value_or_nil, set_root, set_field, with_field}
+use Rattle.gc_graph.specs.Graph.{Value, Nil, Ref, Object, Graph, root, lookup, set_root, set_field, with_field}
 use Rattle.gc_graph.specs.Machine.{step, view_of, is_number, put_field}
 use Rattle.gc_graph.specs.Slots.{SlotName, place}
 use Rattle.gc_graph.specs.declared.command.Op.{Op}
@@ -39,8 +40,8 @@ pub record CanCopy (g : Graph) (p q i j n : ℕ) : Type 0 where
 abbrev after_one : Graph → ℕ → ℕ → ℕ → Value → Graph
 after_one g r a i v = record { objects = set_field g.objects a i v; roots = slice_set g.roots r v }
 
-root_beside : (rs : List Value) (r p : ℕ) (v : Value) → (r ≡ p → ⊥) → value_or_nil (slice_get (slice_set rs r v) p) ≡ value_or_nil (slice_get rs p)
-root_beside rs r p v apart = ap value_or_nil (get_set_other rs r p v (λ e. apart (sym e)))
+root_beside : (rs : List Value) (r p : ℕ) (v : Value) → (r ≡ p → ⊥) → unwrap_or (slice_get (slice_set rs r v) p) Nil ≡ unwrap_or (slice_get rs p) Nil
+root_beside rs r p v apart = ap (λ o. unwrap_or o Nil) (get_set_other rs r p v (λ e. apart (sym e)))
 
 pub can_still : (g : Graph) (p q r i j n : ℕ) (c : CanCopy g p q i j (suc n)) (v : Value) → (r ≡ p → ⊥) → (r ≡ q → ⊥) → slice_get c.giver.fields j ≡ Some v → CanCopy (after_one g r c.a i v) p q (suc i) (suc j) n
 can_still g p q r i j n c v apart other seen = ⊎_elim here there (cases_eq c.b c.a)
@@ -68,7 +69,7 @@ get_sees g m name d src t i j n c v seen = grind (arith, common_steps)
 pub put_writes_it : (g : Graph) (m name : ℕ) (d src t : SlotName) (i j n : ℕ) (c : CanCopy g (place d m) (place src m) i j (suc n)) (v : Value) → slice_get c.giver.fields j ≡ Some v
     → (place t m ≡ place d m → ⊥) → place t m < length g.roots
     → step (set_root g (place t m) v) m (Put d i t) name ≡ (Done, after_one g (place t m) c.a i v)
-put_writes_it g m name d src t i j n c v seen apart inside = grind (arith, common_steps, ap value_or_nil (get_set_same g.roots (place t m) v inside), root_beside g.roots (place t m) (place d m) v apart ∙ c.target, slice_get-get_or c.taker.fields i Nil (omega (arith, c.taker_long)))
+put_writes_it g m name d src t i j n c v seen apart inside = grind (arith, common_steps, ap (λ o. unwrap_or o Nil) (get_set_same g.roots (place t m) v inside), root_beside g.roots (place t m) (place d m) v apart ∙ c.target, slice_get-get_or c.taker.fields i Nil (omega (arith, c.taker_long)))
 
 -- ---- all of them
 

@@ -1,7 +1,7 @@
 -- The pair that a flip returns, put together from its parts, and the room that it leaves.
 use Rattle.std.proofs.lemmas.Grind.{common_steps}
 use Rattle.std.proofs.Common.{◌≡◌, ℕ, Bool, true, false, List, Option, Some, sym, subst, arith}
-use Rattle.std.specs.Option.{option_map}
+use Rattle.std.specs.Option.{option_map, option_or}
 use Rattle.gc_words.specs.Image.{Image}
 use Rattle.gc_words.specs.Certificate.{Certified}
 use Rattle.gc_heap.specs.Heap.{HeapWords, graph_in}
@@ -11,7 +11,7 @@ use Rattle.gc_plan.specs.State.{State, pairs_of}
 use Rattle.gc_copy.specs.Words.{CollectionWords, RoomWords, TellsMoves, collection_in, state_of, open_state}
 use Rattle.gc_plan.specs.declared.step.StepReply.{StepReply}
 use Rattle.gc_plan.specs.declared.step.StepReply.TheVariants.{Flipped}
-use Rattle.gc_core.specs.Flip.{flip_pair, kept_after, replaced}
+use Rattle.gc_core.specs.Flip.{flip_pair, kept_after}
 
 pub same_image : (size end s e : ℕ) (words roots w r : List ℕ) (raws : Bool) → size ≡ s → end ≡ e → words ≡ w → roots ≡ r → raws ≡ true
     → ◌≡◌ {A = Image} (record { size = size; end = end; words = words; roots = roots; raws = raws }) (record { size = s; end = e; words = w; roots = r; raws = true })
@@ -23,7 +23,7 @@ certified_along old new pairs o n ps a b e h = grind (arith, common_steps)
 -- the pair of the collection that was open is the one that is kept
 pub kept_open : (heap : HeapWords) (was : Option CollectionWords) (c : CollectionWords) (reply : StepReply) (n : ℕ) (pair kept : Option CertifiedPair)
     → was ≡ Some c → reply ≡ Flipped n → pair ≡ Some (flip_pair (open_state heap c) (collection_in c))
-    → kept_after kept (state_of heap (option_map collection_in was)) reply ≡ replaced kept pair
+    → kept_after kept (state_of heap (option_map collection_in was)) reply ≡ option_or pair kept
 kept_open heap was c reply n pair kept is told e = grind (arith, common_steps)
 
 -- what holds of the pair of the collection that is open holds of the pair of this state

@@ -1,5 +1,7 @@
 -- The replies of a run, event by event, compared with a graph that has no collector.
 use Rattle.std.proofs.lemmas.Grind.{common_steps}
+use Rattle.std.specs.Prelude.{IfSome}
+use Rattle.std.specs.Option.{option_map_or}
 use Rattle.std.proofs.Common.{◌≡◌, ◌≢◌, ◌⊎◌, inl, inr, ℕ, ◌<◌, ◌≤◌, nat_lt, List, [], ◌∷◌, Option, Some, None, refl, sym, subst, arith}
 use Rattle.std.proofs.lemmas.Bool.{cond_both, ltb-true}
 use Rattle.gc_graph.specs.Limits.{largest_space}
@@ -12,8 +14,8 @@ use Rattle.gc_graph.specs.declared.reply.Reply.TheVariants.{Full}
 use Rattle.gc_graph.proofs.Public.{Matched, AlikeAfter, step_alike, matched_of, own_pairs, matched_itself, fresh_unused, joined, composed}
 use Rattle.gc_plan.specs.State.{Collection, State, opening_state, heap_end, pairs_of, new_graph}
 use Rattle.gc_copy.specs.Opening.{opening_state_with}
-use Rattle.gc_plan.specs.Steps.{is_ready, passes_check, flip, collect_with, collect}
-use Rattle.gc_plan.specs.Belonging.{IsOpened, IsOpen, IsState}
+use Rattle.gc_plan.specs.Steps.{is_ready, passes_check, flip, collect, step_in, step_idle}
+use Rattle.gc_plan.specs.Belonging.{IsOpened, IsState}
 use Rattle.gc_heap.specs.ExtraRoots.{opening_with}
 use Rattle.gc_heap.specs.declared.options.HeapOptions.{HeapOptions}
 use Rattle.gc_plan.specs.Runs.{AreEvents, AreRootEvents, after}
@@ -51,7 +53,7 @@ module _ (s : State) (ok : IsState s) where
       (λ t. itself s))
       (λ t. itself s)
 
-  flip_follows : (o : Option Collection) → IsOpen s o → Follows s (collect_with s o steps.Flip)
+  flip_follows : (o : Option Collection) → IfSome o (IsOpened s) → Follows s (option_map_or (λ (c : Collection). step_in s c steps.Flip) o (step_idle s steps.Flip))
   flip_follows None k = itself s
   flip_follows (Some c) k = opened_flip c k
 

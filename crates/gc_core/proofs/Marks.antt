@@ -2,10 +2,10 @@
 use Rattle.std.proofs.lemmas.Grind.{common_steps}
 use Rattle.std.proofs.Common.{◌≡◌, ◌≢◌, ⊎_elim, ℕ, zero, suc, ◌+◌, ◌-◌, ◌<◌, ◌≤◌, nat_lt, List, [], ◌∷◌, length, map, slice_get, replicate, Option, Some, None, refl, sym, ap, ◌∙◌, subst, arith}
 use Rattle.std.specs.Prelude.{IfSome, slice_index, slice_set, false, min, max}
-use Rattle.std.specs.Option.{option_map}
+use Rattle.std.specs.Option.{option_map, unwrap_or}
 use Rattle.std.proofs.lemmas.Bool.{cond_both, cases_lt, cases_eq, ltb-true}
 use Rattle.gc_graph.specs.Slots.{SlotName, place, roots_of}
-use Rattle.gc_graph.specs.Graph.{Value, Nil, Num, Ref, root, value_or_nil}
+use Rattle.gc_graph.specs.Graph.{Value, Nil, Num, Ref, root}
 use Rattle.gc_graph.specs.Machine.{Roomy}
 use Rattle.gc_heap.specs.ExtraRoots.{extra_slot}
 use Rattle.gc_heap.specs.declared.options.HeapOptions.{HeapOptions}
@@ -68,11 +68,33 @@ not_this end m op p below le e = let less = below p e in absurd (omega (arith, l
 -- a command that writes at most a slot
 pub slot_command : (known : KnownRoots) (s : State) (m : ℕ) (op : Op) → WritesBelow (roots_of s.mutators) m op → KnowsRoots known s
     → KnowsRoots (record { slots = 0; extra = known.extra; used = known.used; count = known.count }) (mutate s m op).1
-slot_command known s m op below k = grind (arith, common_steps, roots_counted, mutate_stays, not_this, root_kept)
+slot_command known s m op below k = record {
+  slots_high = omega arith;
+  extra_high = k.extra_high;
+  used_high = omega (arith, roots_counted s m op, k.used_high);
+  counted = roots_counted s m op ∙ k.counted;
+  slots = λ p less. absurd (omega (arith, less));
+  extra = λ i less. mutate_stays s m op (roots_of s.mutators + i) (other i) (k.extra i less);
+  unused = λ i le. root_kept s m op (roots_of s.mutators + i) (other i) ∙ k.unused i le;
+}
+  where
+    other : (i : ℕ) → root_written m op ≢ Some (roots_of s.mutators + i)
+    other i = not_this (roots_of s.mutators) m op (roots_of s.mutators + i) below (omega arith)
 
 -- a command that writes no root
 pub quiet_command : (known : KnownRoots) (s : State) (m : ℕ) (op : Op) → root_written m op ≡ None → KnowsRoots known s → KnowsRoots known (mutate s m op).1
-quiet_command known s m op none k = grind (arith, common_steps, roots_counted, mutate_stays, root_kept)
+quiet_command known s m op none k = record {
+  slots_high = k.slots_high;
+  extra_high = k.extra_high;
+  used_high = omega (arith, roots_counted s m op, k.used_high);
+  counted = roots_counted s m op ∙ k.counted;
+  slots = λ p less. mutate_stays s m op p (other p) (k.slots p less);
+  extra = λ i less. mutate_stays s m op (roots_of s.mutators + i) (other (roots_of s.mutators + i)) (k.extra i less);
+  unused = λ i le. root_kept s m op (roots_of s.mutators + i) (other (roots_of s.mutators + i)) ∙ k.unused i le;
+}
+  where
+    other : (p : ℕ) → root_written m op ≢ Some p
+    other p e = absurd (let no : None ≡ Some p = sym none ∙ e in cc)
 
 -- a value that refers to no object
 abbrev pub RefersNot : Value → Type 0
@@ -95,7 +117,7 @@ SetsPlain (ops.Look s) = ⊥
 plain_known : (s : State) (p : ℕ) → RefersNot (root s.heap.graph p) → KnowsRoot s p
 plain_known s p plain = grind (arith, common_steps)
 
-set_plain : (vs : List Value) (q : ℕ) (v : Value) → RefersNot v → RefersNot (value_or_nil (slice_get (slice_set vs q v) q))
+set_plain : (vs : List Value) (q : ℕ) (v : Value) → RefersNot v → RefersNot (unwrap_or (slice_get (slice_set vs q v) q) Nil)
 set_plain [] q v plain = tt
 set_plain (x ∷ vs) zero v plain = plain
 set_plain (x ∷ vs) (suc q) v plain = set_plain vs q v plain
@@ -140,11 +162,22 @@ plain_command known s m op plain below k = grind (arith, common_steps, roots_cou
 -- a command that writes extra root i
 pub stored_command : (known : KnownRoots) (s : State) (m i : ℕ) (op : Op) → root_written m op ≡ Some (roots_of s.mutators + i) → roots_of s.mutators + i < length s.heap.graph.roots → KnowsRoots known s
     → KnowsRoots (record { slots = known.slots; extra = min known.extra i; used = max known.used (i + 1); count = known.count }) (mutate s m op).1
-stored_command known s m i op at within k = grind (arith, common_steps, roots_counted, mutate_stays, root_kept)
+stored_command known s m i op at within k = record {
+  slots_high = k.slots_high;
+  extra_high = omega (arith, k.extra_high);
+  used_high = omega (arith, roots_counted s m op, k.used_high, within);
+  counted = roots_counted s m op ∙ k.counted;
+  slots = λ p less. mutate_stays s m op p (other p (omega (arith, less, k.slots_high))) (k.slots p less);
+  extra = λ j less. mutate_stays s m op (roots_of s.mutators + j) (other (roots_of s.mutators + j) (omega (arith, less))) (k.extra j (omega (arith, less)));
+  unused = λ j le. root_kept s m op (roots_of s.mutators + j) (other (roots_of s.mutators + j) (omega (arith, le))) ∙ k.unused j (omega (arith, le));
+}
+  where
+    other : (p : ℕ) → p ≢ roots_of s.mutators + i → root_written m op ≢ Some p
+    other p differ e = let same : roots_of s.mutators + i ≡ p = cc (sym at ∙ e) in differ (sym same)
 
 -- ---- nil
 
-set_nil : (vs : List Value) (q : ℕ) → value_or_nil (slice_get (slice_set vs q Nil) q) ≡ Nil
+set_nil : (vs : List Value) (q : ℕ) → unwrap_or (slice_get (slice_set vs q Nil) q) Nil ≡ Nil
 set_nil [] q = refl
 set_nil (v ∷ vs) zero = refl
 set_nil (v ∷ vs) (suc q) = set_nil vs q
@@ -302,7 +335,7 @@ clear_next s i j n count e f = ap (clear_step s i) e ∙ ap (λ q. clear_step (C
 
 -- ---- opening, beginning and flipping
 
-nil_words : (n p : ℕ) → value_or_nil (slice_get (map value_of (replicate n 0)) p) ≡ Nil
+nil_words : (n p : ℕ) → unwrap_or (slice_get (map value_of (replicate n 0)) p) Nil ≡ Nil
 nil_words zero p = refl
 nil_words (suc n) zero = refl
 nil_words (suc n) (suc p) = nil_words n p

@@ -2,11 +2,11 @@
 use Rattle.std.proofs.lemmas.Grind.{common_steps}
 use Rattle.std.proofs.Common.{◌≡◌, ◌≢◌, ℕ, zero, suc, ◌+◌, ◌<◌, true, List, [], ◌∷◌, length, is_some, Option, refl, sym, ◌∙◌, ap, subst, arith}
 use Rattle.std.specs.Prelude.{IfSome, slice_get, slice_set}
-use Rattle.std.specs.Option.{option_map}
+use Rattle.std.specs.Option.{option_map, unwrap_or}
 use Rattle.std.proofs.lemmas.Bool.{cond-true}
 use Rattle.std.proofs.lemmas.List.{length-set}
 use Rattle.gc_graph.specs.Slots.{SlotName, place, roots_of}
-use Rattle.gc_graph.specs.Graph.{Value, Ref, lookup, root, set_root, value_or_nil}
+use Rattle.gc_graph.specs.Graph.{Value, Ref, lookup, root, set_root, Nil}
 use Rattle.gc_graph.specs.declared.reply.Reply.TheVariants.{Done, NoObject}
 use Rattle.gc_words.specs.Image.{Block, block_at, is_start, objects_of, object_of_block}
 use Rattle.gc_words.proofs.Public.{object_found}
@@ -37,7 +37,7 @@ module _ (h new : HeapWords) (p a : ℕ) (space : new.space ≡ h.space) (graph 
 
 -- ---- the marks
 
-root_beside : (vs : List Value) (p q : ℕ) (v : Value) → p ≢ q → value_or_nil (slice_get (slice_set vs p v) q) ≡ value_or_nil (slice_get vs q)
+root_beside : (vs : List Value) (p q : ℕ) (v : Value) → p ≢ q → unwrap_or (slice_get (slice_set vs p v) q) Nil ≡ unwrap_or (slice_get vs q) Nil
 root_beside [] p q v other = refl
 root_beside (x ∷ vs) zero zero v other = absurd (other refl)
 root_beside (x ∷ vs) zero (suc q) v other = refl

@@ -1,5 +1,5 @@
 -- Fields that are copied from one object to another in one call.
-use Rattle.std.specs.Prelude.{◌≡◌, ⊤, ℕ, zero, suc, ◌+◌, nat_le, Bool, ◌&&◌, ◌||◌, not, if◌then◌else◌, List, length, Option, Some, None, slice_range}
+use Rattle.std.specs.Prelude.{◌≡◌, ⊤, ℕ, zero, suc, ◌+◌, nat_le, Bool, ◌&&◌, ◌||◌, not, if◌then◌else◌, List, length, Option, Some, slice_range}
 use Rattle.std.specs.List.{list_all}
 use Rattle.gc_graph.specs.Slots.{SlotName, place}
 use Rattle.gc_graph.specs.Graph.{Value, Object, Graph, object_of, root}
@@ -25,12 +25,11 @@ takes_values object values = not object.raw || list_all is_number values
 
 -- the reply: whether there are two objects, both have the fields, and the first takes the values of the second
 abbrev pub copy_reply : ℕ → ℕ → ℕ → Option Object → Option Object → Reply
-copy_reply to from count None source = NoObject
-copy_reply to from count (Some target) None = NoObject
 copy_reply to from count (Some target) (Some source) =
     if nat_le (to + count) (length target.fields) && nat_le (from + count) (length source.fields)
     then (if takes_values target (values_in source from count) then Done else NoNumber)
     else NoField
+copy_reply to from count target source = NoObject
 
 -- So many fields are copied: from field j on, of the object in slot s, to field i and on of that in slot d. For each field this is a
 -- `Get` into t and a `Put` of t, in rising order.

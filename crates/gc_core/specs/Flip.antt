@@ -1,5 +1,6 @@
 -- What a flip shows its checker, and the pair of heaps that the checker accepts.
-use Rattle.std.specs.Prelude.{◌≡◌, ◌≢◌, ◌≤◌, ℕ, length, Option, Some, None, IfSome, IsSomeAnd, IsTrue}
+use Rattle.std.specs.Prelude.{◌≡◌, ◌≢◌, ◌≤◌, ℕ, length, Option, None, IfSome, IsSomeAnd, IsTrue}
+use Rattle.std.specs.Option.{option_map}
 use Rattle.gc_words.specs.Certificate.{Certified}
 use Rattle.gc_along.specs.Outline.{ImageOutline, outline_of}
 use Rattle.gc_cert.specs.Grammar.{CertifiedPair}
@@ -19,20 +20,10 @@ flip_pair s c = record { old = old_image s c; new = new_image s c; pairs = pairs
 abbrev pub IsCertified : CertifiedPair → Type 0
 IsCertified pair = Certified pair.old pair.new pair.pairs
 
--- the pair of the open collection
-abbrev pub open_pair : State → Option Collection → Option CertifiedPair
-open_pair s None = None
-open_pair s (Some c) = Some (flip_pair s c)
-
 -- the pair kept after a step that gets this reply in this state; `kept` is the one kept before
 abbrev pub kept_after : Option CertifiedPair → State → StepReply → Option CertifiedPair
-kept_after kept s (Flipped pairs) = open_pair s s.collection
+kept_after kept s (Flipped pairs) = option_map (flip_pair s) s.collection
 kept_after kept s reply = kept
-
--- the pair kept from now on: the new one if there is one, otherwise the old one
-abbrev pub replaced : Option CertifiedPair → Option CertifiedPair → Option CertifiedPair
-replaced kept None = kept
-replaced kept (Some pair) = Some pair
 
 -- if the reply is `Flipped`, `says` holds of the flip's pair
 abbrev pub FlipsOnly : (CertifiedPair → Type 0) → State → StepReply → Type 0

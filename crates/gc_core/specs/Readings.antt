@@ -1,6 +1,6 @@
 -- What callers can read of a state: both spaces with their links, the progress of a collection, and the logs.
-use Rattle.std.specs.Prelude.{◌≡◌, ℕ, List, [], Option, Some, None}
-use Rattle.std.specs.Option.{option_map}
+use Rattle.std.specs.Prelude.{◌≡◌, ℕ, List, [], Option}
+use Rattle.std.specs.Option.{option_map, option_map_or}
 use Rattle.gc_words.specs.Image.{Image}
 use Rattle.gc_words.specs.Spelling.{no_links}
 use Rattle.gc_plan.specs.State.{State, Collection, new_end}
@@ -8,13 +8,9 @@ use Rattle.gc_plan.specs.Linked.{LeadsToOpen, linked_image, old_links, new_image
 use Rattle.gc_plan.specs.Steps.{log_at}
 use Rattle.gc_core.specs.declared.reading.NewSpace.{NewSpace}
 
--- the links in the mutators' space: those of the open collection's originals, or none
-abbrev pub links_of : Option Collection → ℕ → ℕ
-links_of None = no_links
-links_of (Some c) = old_links c
-
+-- an image of the mutators' space, with the links of the open collection's originals
 abbrev pub heap_image : State → Image
-heap_image s = linked_image (links_of s.collection) s.size s.heap.graph
+heap_image s = linked_image (option_map_or old_links s.collection no_links) s.size s.heap.graph
 
 -- An image of the mutators' space. Its links need not be exact: their low 32 bits have to lead to the open collection's replicas.
 abbrev pub ShowsHeap : State → Image → Type 0
@@ -30,10 +26,6 @@ new_space_in c = record { size = c.size; end = new_end c; scan_place = c.scan_pl
 abbrev pub new_space : State → Option NewSpace
 new_space s = option_map new_space_in s.collection
 
-abbrev pub log_in : Option Collection → ℕ → List (ℕ × ℕ)
-log_in None m = []
-log_in (Some c) m = log_at c m
-
 -- mutator m's log
 abbrev pub log_of : State → ℕ → List (ℕ × ℕ)
-log_of s m = log_in s.collection m
+log_of s m = option_map_or (λ c. log_at c m) s.collection []

@@ -1,5 +1,5 @@
 ghost use Rattle.std.specs.Prelude.{◌≡◌, ◌≢◌, ◌<◌, ◌^◌, Some, None, IfOk, IfSome, IsSome, IsSomeAnd, IsOkAnd, IsTrue, IsFalse, false, OnErr, length};
-ghost use Rattle.std.specs.Option.{option_map};
+ghost use Rattle.std.specs.Option.{option_map, option_or};
 ghost use Rattle.gc_cert.specs.Views.{pair_in};
 ghost use Rattle.gc_heap.specs.Heap.{graph_in};
 ghost use Rattle.gc_plan.specs.Steps.{collect, is_ready};
@@ -25,7 +25,7 @@ use std::alloc::Global;
 
 impl CollectedHeap {
     ghost use Rattle.gc_core.specs.CollectedHeap.{Allocates};
-    ghost use Rattle.gc_core.specs.Flip.{FlipsOnly, FormerAfter, IsSureIfReady, PassesIfReady, kept_after, replaced};
+    ghost use Rattle.gc_core.specs.Flip.{FlipsOnly, FormerAfter, IsSureIfReady, PassesIfReady, kept_after};
     ghost use Rattle.gc_cert.specs.Grammar.{CertifiedPair};
     ghost use Rattle.std.specs.Prelude.{Option};
     ghost use Rattle.gc_core.specs.declared.flip.Keep.{Keep};
@@ -48,7 +48,7 @@ impl CollectedHeap {
         ensures passes { IfOk result (λ flip. PassesIfReady self.old flip.reply) }
         ensures never_refused { IfOk result (λ flip. flip.reply ≢ StepReply.Refused) }
         ensures pair { keep ≡ Keep.Pair → IfOk result (λ flip. (kept : Option CertifiedPair)
-            → kept_after kept self.old flip.reply ≡ replaced kept (option_map pair_in flip.pair)) }
+            → kept_after kept self.old flip.reply ≡ option_or (option_map pair_in flip.pair) kept) }
         ensures nothing { keep ≡ Keep.Nothing → IfOk result (λ flip. flip.pair ≡ None) }
         ensures certified { IfOk result (λ flip. IfSome flip.pair (λ file. IsCertified (pair_in file))) }
         ensures refused { OnErr result (self.new ≡ self.old) }

@@ -17,7 +17,7 @@ pub struct Performed {
 
 impl CollectedHeap {
     ghost use Rattle.std.specs.Prelude.{◌≡◌, ◌≢◌, Option, None, IfOk, OnOk, OnErr, IfSome};
-    ghost use Rattle.std.specs.Option.{option_map};
+    ghost use Rattle.std.specs.Option.{option_map, option_or};
     ghost use Rattle.gc_cert.specs.Grammar.{CertifiedPair};
     ghost use Rattle.gc_cert.specs.Views.{pair_in};
     ghost use Rattle.gc_plan.specs.Steps.{collect};
@@ -26,7 +26,7 @@ impl CollectedHeap {
     ghost use Rattle.gc_plan.specs.declared.step.Step.{Step};
     ghost use Rattle.gc_plan.specs.declared.step.StepReply.{StepReply};
     ghost use Rattle.gc_core.specs.CollectedHeap.{Allocates};
-    ghost use Rattle.gc_core.specs.Flip.{FlipsOnly, IsCertified, PassesIfReady, HasRoomIfLarge, kept_after, replaced};
+    ghost use Rattle.gc_core.specs.Flip.{FlipsOnly, IsCertified, PassesIfReady, HasRoomIfLarge, kept_after};
     ghost use Rattle.gc_core.specs.Performing.{flip_at};
 
     /// Performs one event: a mutator's command or a collector step. If the event flips, returns the pair of the flip if it is to
@@ -85,7 +85,7 @@ impl CollectedHeap {
         ensures never_refused { IfOk result (λ done. done.reply ≢ StepReply.Refused) }
         ensures room { IfOk result (λ done. HasRoomIfLarge self.old done.reply) }
         ensures pair { keep ≡ Keep.Pair → IfOk result (λ done. (kept : Option CertifiedPair)
-            → kept_after kept self.old done.reply ≡ replaced kept (option_map pair_in done.pair)) }
+            → kept_after kept self.old done.reply ≡ option_or (option_map pair_in done.pair) kept) }
         ensures nothing { keep ≡ Keep.Nothing → IfOk result (λ done. done.pair ≡ None) }
         ensures certified { IfOk result (λ done. IfSome done.pair (λ file. IsCertified (pair_in file))) }
         ensures refused { OnErr result (self.new ≡ self.old) }

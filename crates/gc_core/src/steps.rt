@@ -1,5 +1,6 @@
 ghost use Rattle.std.specs.Prelude.{◌≡◌, ◌≤◌, IfOk, OnErr, not, if◌then◌else◌};
-ghost use Rattle.gc_plan.specs.Steps.{scan_done, apply_or_flip, first_log};
+ghost use Rattle.std.specs.Option.{option_map_or};
+ghost use Rattle.gc_plan.specs.Steps.{scan_done, first_log};
 ghost use Rattle.gc_copy.specs.Words.{collection_in};
 ghost use Rattle.gc_plan.specs.declared.step.Step.{Step};
 
@@ -246,7 +247,7 @@ fn room_for(
 #[inline(always)]
 fn step_after_roots(collection: &Collection) -> Step
     ensures { result ≡ (if not (scan_done (collection_in collection.now)) then Step.Scan
-        else apply_or_flip (first_log 0 (collection_in collection.now).logs)) }
+        else option_map_or Step.Apply (first_log 0 (collection_in collection.now).logs) Step.Flip) }
 {
     if !collection.scan_done() {
         return Step::Scan;

@@ -1,7 +1,7 @@
-ghost use Rattle.std.specs.Prelude.{◌≡◌, ◌≤◌, Some, length};
+ghost use Rattle.std.specs.Prelude.{◌≡◌, ◌≤◌, Some, length, IfSome};
 ghost use Rattle.gc_graph.specs.Slots.{roots_of};
 ghost use Rattle.gc_plan.specs.State.{Collection, heap_end};
-ghost use Rattle.gc_plan.specs.Belonging.{IsSpaceGraph, IsOpen};
+ghost use Rattle.gc_plan.specs.Belonging.{IsSpaceGraph, IsOpened};
 ghost use Rattle.gc_core.specs.Flip.{flip_pair};
 ghost use Rattle.gc_along.specs.Watch.{Watch, Watches};
 ghost use Rattle.gc_beside.specs.Stays.{GoesAlong};
@@ -15,7 +15,7 @@ impl CollectedHeap {
     #[inline(always)]
     pub fn is_sound(&self)
         ensures heap { IsSpaceGraph self.now.size self.now.heap.free self.now.heap.graph }
-        ensures open { IsOpen self.now self.now.collection }
+        ensures open { IfSome self.now.collection (IsOpened self.now) }
     {
         heaps_have_addresses_as_names();
         let _ = self.heap.space();

@@ -2,6 +2,7 @@
 use Rattle.std.proofs.lemmas.Grind.{common_steps}
 use Rattle.std.proofs.Common.{◌≡◌, ◌≢◌, ◌⊎◌, inl, inr, ℕ, suc, ◌+◌, ◌-◌, ◌<◌, ◌≤◌, Bool, true, false, cond, ◌&&◌, ◌==◌, List, [], ◌∷◌, map, length, get_or, Option, Some, None, refl, ap, sym, ◌∙◌, subst, arith}
 use Rattle.std.specs.Prelude.{IsOk, IsTrue, nat_lt}
+use Rattle.std.specs.Result.{result_unwrap_or}
 use Rattle.std.specs.List.{All, AllPairs, AllZip}
 use Rattle.std.specs.Option.{option_map}
 use Rattle.std.proofs.lemmas.Bool.{or_left, or_right, cases_Bool, eqb-true, eq-eqb, ne_eqb, and_parts, and_from, or_cases, ltb-true, ltb-false}
@@ -10,7 +11,7 @@ use Rattle.std.proofs.lemmas.List.Elements.{All-nil, All-cons, All-head, All-tai
 use Rattle.gc_graph.specs.Graph.{Value, Nil, Num, Ref}
 use Rattle.gc_graph.specs.Correspond.{paired, correspond}
 use Rattle.gc_words.specs.Word.{words_correspond, field_words_correspond}
-use Rattle.gc_words.specs.Image.{Block, walk, ok_or_nil, blocks, block_in, block_at}
+use Rattle.gc_words.specs.Image.{Block, walk, blocks, block_in, block_at}
 use Rattle.gc_words.specs.Certificate.{BlocksCorrespond, Certified}
 use Rattle.gc_words.specs.Spelling.{LaidOut, no_links}
 use Rattle.gc_words.specs.declared.header.Header.{Header}
@@ -112,7 +113,7 @@ module _ (code : ℕ → ℕ) (base : ℕ) (low_base : 1 ≤ base) where
   blocks_of_young : (young : List ℕ) → IsOk (walk true 0 base young) → blocks (young_words code base young) ≡ encoded_blocks code base (young_blocks base young)
   blocks_of_young young ok =
       let laid : LaidOut (base + 0) (young_blocks base young) = laid_out young 0 base (young_blocks base young) (omega arith) (ok_is (walk true 0 base young) ok) in
-      ap ok_or_nil (walk_spelled (encoded_blocks code base (young_blocks base young)) no_links 1
+      ap (λ r. result_unwrap_or r []) (walk_spelled (encoded_blocks code base (young_blocks base young)) no_links 1
       (subst (λ n. LaidOut n (encoded_blocks code base (young_blocks base young))) (omega arith) (laid_encoded (young_blocks base young) (base + 0) (omega arith) laid)))
 
   found_encoded : (bs : List (ℕ × Block)) (a : ℕ) → base ≤ a → All (λ (x : ℕ × Block). base ≤ x.0) bs

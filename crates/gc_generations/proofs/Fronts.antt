@@ -2,9 +2,10 @@
 use Rattle.std.proofs.lemmas.Grind.{common_steps}
 use Rattle.std.proofs.Common.{◌≡◌, ℕ, zero, suc, ◌+◌, ◌-◌, ◌<◌, ◌≤◌, Bool, true, false, List, [], ◌∷◌, ◌++◌, length, take, drop, Option, Some, None, Result, Ok, Err, refl, ap, sym, ◌∙◌, subst, arith, length-append}
 use Rattle.std.specs.Prelude.{IsOk, slice_index}
+use Rattle.std.specs.Result.{result_unwrap_or}
 use Rattle.std.proofs.lemmas.List.{take-append-le, drop-append-le}
 use Rattle.gc_words.specs.Word.{read_header}
-use Rattle.gc_words.specs.Image.{Block, walk, walk_words, ok_or_nil, blocks, block_in, block_at, HasShape}
+use Rattle.gc_words.specs.Image.{Block, walk, walk_words, blocks, block_in, block_at, HasShape}
 use Rattle.gc_words.specs.Space.{IsSpace}
 use Rattle.gc_words.specs.Walking.{StandsIn}
 use Rattle.gc_words.proofs.Public.{Walked, First, first, fields_in, object_walked, StandsAt, stands, ok_is, walked_blocks, stands_in}
@@ -39,7 +40,7 @@ whole_walked size front young shaped ok = grind (arith, common_steps, walk_on, w
 
 pub whole_blocks : (size : ℕ) (front young : List ℕ) → IsSpace (record { size = size; words = front }) → IsOk (walk true 0 (length front) young)
     → blocks (front ++ young) ≡ blocks front ++ young_blocks (length front) young
-whole_blocks size front young shaped ok = ap ok_or_nil (whole_walked size front young shaped ok)
+whole_blocks size front young shaped ok = ap (λ r. result_unwrap_or r []) (whole_walked size front young shaped ok)
 
 first_word : (front young : List ℕ) → 1 ≤ length front → slice_index (front ++ young) 0 ≡ slice_index front 0
 first_word front young low = grind (arith, common_steps)

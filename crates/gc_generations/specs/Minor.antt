@@ -1,11 +1,12 @@
 -- Minor collections. The objects below an address, the base, are old; those from it on are young. A minor collection replaces the
 -- young objects, and changes old objects only in their remembered fields.
-use Rattle.std.specs.Prelude.{◌≡◌, ◌≢◌, ℕ, ◌<◌, ◌≤◌, ◌==◌, nat_lt, nat_le, Bool, true, false, ◌&&◌, ◌||◌, not, if◌then◌else◌, List, ◌∷◌, ◌++◌, length, map, slice_get, Option, Some, None, IsOk, IsTrue, IsFalse}
+use Rattle.std.specs.Prelude.{[], ◌≡◌, ◌≢◌, ℕ, ◌<◌, ◌≤◌, ◌==◌, nat_lt, nat_le, Bool, true, false, ◌&&◌, ◌||◌, not, if◌then◌else◌, List, ◌∷◌, ◌++◌, length, map, slice_get, Option, Some, None, IsOk, IsTrue, IsFalse}
+use Rattle.std.specs.Result.{result_unwrap_or}
 use Rattle.std.specs.List.{All, AllPairs, AllZip, list_any}
 use Rattle.gc_graph.specs.Graph.{Value, Nil, Num, Ref}
 use Rattle.gc_graph.specs.Correspond.{paired}
 use Rattle.gc_words.specs.Word.{value_of, words_correspond}
-use Rattle.gc_words.specs.Image.{Image, Block, walk, ok_or_nil, blocks, block_in, block_at, header_at, field_at}
+use Rattle.gc_words.specs.Image.{Image, Block, walk, blocks, block_in, block_at, header_at, field_at}
 use Rattle.gc_words.specs.Space.{IsSpace}
 use Rattle.gc_words.specs.Closed.{IsClosed}
 use Rattle.gc_words.specs.declared.header.Header.{Header}
@@ -41,7 +42,7 @@ field_words_correspond_above h base pairs v w = if h.raw then v == w else words_
 
 -- the objects in the words that begin at the base
 abbrev pub young_blocks : ℕ → List ℕ → List (ℕ × Block)
-young_blocks base words = ok_or_nil (walk true 0 base words)
+young_blocks base words = result_unwrap_or (walk true 0 base words) []
 
 abbrev pub BlocksCorrespondAbove : ℕ → List (ℕ × ℕ) → Option Block → Option Block → Type 0
 BlocksCorrespondAbove base pairs (Some a) (Some b) = (a.header ≡ b.header) × AllZip (λ v w. IsTrue (field_words_correspond_above a.header base pairs v w)) a.fields b.fields

@@ -1,12 +1,13 @@
 -- Names stay below the next name, and objects stay short.
 use Rattle.std.proofs.lemmas.Grind.{common_steps}
 use Rattle.std.proofs.Common.{◌≡◌, ℕ, suc, zero, ◌+◌, ◌<◌, Bool, true, false, cond, ◌&&◌, ◌||◌, ◌==◌, List, [], ◌∷◌, ◌++◌, map, length, Option, Some, None, refl, ◌∙◌, ap, arith}
+use Rattle.std.specs.Option.{unwrap_or}
 use Rattle.std.specs.Prelude.{slice_get, slice_set, replicate, not, ⊤}
 use Rattle.std.specs.List.{AllByRecursion, flat_map, list_any}
 use Rattle.std.proofs.lemmas.List.{length-set, length-replicate}
 use Rattle.std.proofs.lemmas.Bool.{ne_eqb}
 use Rattle.gc_graph.specs.Slots.{place, roots_of}
-use Rattle.gc_graph.specs.Graph.{Value, Nil, Num, Ref, Object, Graph, opening, lookup, object_of, field_of, root, set_root, set_field, with_field, first_value, new_object, add_object, value_or_nil, names_of, IsUnused}
+use Rattle.gc_graph.specs.Graph.{Value, Nil, Num, Ref, Object, Graph, opening, lookup, object_of, field_of, root, set_root, set_field, with_field, first_value, new_object, add_object, names_of, IsUnused}
 use Rattle.gc_graph.specs.Machine.{get_field, is_number, put_field, step, MakesObject}
 use Rattle.gc_graph.specs.Bounded.{ValueBelow, AreBelow, AreShort}
 use Rattle.gc_graph.specs.declared.reply.Reply.{Reply}
@@ -67,7 +68,7 @@ all_below n (suc k) v below = (below, all_below n k v below)
 
 -- ---- values that are found
 
-value_at : (n : ℕ) (vs : List Value) (p : ℕ) → AllByRecursion (ValueBelow n) vs → ValueBelow n (value_or_nil (slice_get vs p))
+value_at : (n : ℕ) (vs : List Value) (p : ℕ) → AllByRecursion (ValueBelow n) vs → ValueBelow n (unwrap_or (slice_get vs p) Nil)
 value_at n [] p a = tt
 value_at n (v ∷ vs) zero a = a.0
 value_at n (v ∷ vs) (suc p) a = value_at n vs p a.1

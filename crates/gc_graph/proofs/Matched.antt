@@ -2,10 +2,11 @@
 use Rattle.std.proofs.lemmas.Grind.{common_steps}
 use Rattle.std.proofs.Common.{◌≡◌, ℕ, suc, zero, Bool, true, false, cond, ◌&&◌, ◌==◌, List, [], ◌∷◌, ◌++◌, map, replicate, Option, Some, None, is_some, refl, sym, ◌∙◌, ap, subst, inl, inr, arith}
 use Rattle.std.specs.Prelude.{slice_get, not}
+use Rattle.std.specs.Option.{unwrap_or}
 use Rattle.std.specs.List.{AllZip, AllByRecursion, flat_map, list_any}
 use Rattle.std.proofs.lemmas.Bool.{eqb-true, eqb-false, eq-eqb, ne_eqb, cases_Bool, both_ways, and_from, and_right}
 use Rattle.gc_graph.specs.Slots.{place}
-use Rattle.gc_graph.specs.Graph.{Value, Nil, Num, Ref, Object, Graph, lookup, object_of, field_of, value_or_nil, root, set_root, first_value, new_object, add_object, set_field, names_of, IsUnused}
+use Rattle.gc_graph.specs.Graph.{Value, Nil, Num, Ref, Object, Graph, lookup, object_of, field_of, root, set_root, first_value, new_object, add_object, set_field, names_of, IsUnused}
 use Rattle.gc_graph.specs.Machine.{view_of, view_of_object, same, is_number, get_field, put_field, step}
 use Rattle.gc_graph.specs.Correspond.{paired, correspond, Corresponding}
 use Rattle.gc_graph.proofs.Matching.{Alike, nils, numbers, partners, without_objects, ObjectsAlike, Matched}
@@ -23,7 +24,7 @@ abbrev pub AlikeAfter : Reply × Graph → Reply × Graph → Type 0
 AlikeAfter x y = (x.0 ≡ y.0) × (after : List (ℕ × ℕ)) × Matched after x.1 y.1
 
 module _ (pairs : List (ℕ × ℕ)) (g h : Graph) (matched : Matched pairs g h) where
-  roots_alike : (v w : Option Value) → Together (Alike pairs g.objects h.objects) v w → Alike pairs g.objects h.objects (value_or_nil v) (value_or_nil w)
+  roots_alike : (v w : Option Value) → Together (Alike pairs g.objects h.objects) v w → Alike pairs g.objects h.objects (unwrap_or v Nil) (unwrap_or w Nil)
   roots_alike v w t = grind (arith, common_steps, nils)
 
   root_alike : (p : ℕ) → Alike pairs g.objects h.objects (root g p) (root h p)

@@ -9,27 +9,20 @@ paired pairs a b = list_any (λ p. (p.0 == a) && (p.1 == b)) pairs
 -- both are nil, both are the same number, or both are references whose names are a pair
 abbrev pub correspond : List (ℕ × ℕ) → Value → Value → Bool
 correspond pairs Nil Nil = true
-correspond pairs Nil (Num b) = false
-correspond pairs Nil (Ref b) = false
-correspond pairs (Num a) Nil = false
 correspond pairs (Num a) (Num b) = a == b
-correspond pairs (Num a) (Ref b) = false
-correspond pairs (Ref a) Nil = false
-correspond pairs (Ref a) (Num b) = false
 correspond pairs (Ref a) (Ref b) = paired pairs a b
+correspond pairs v w = false
 
 -- both paths find nothing, or both find values and these correspond
 abbrev pub Agree : List (ℕ × ℕ) → Option Value → Option Value → Type 0
 Agree pairs None None = ⊤
-Agree pairs None (Some w) = ⊥
-Agree pairs (Some v) None = ⊥
 Agree pairs (Some v) (Some w) = IsTrue (correspond pairs v w)
+Agree pairs v w = ⊥
 
 -- both objects exist, are both raw or both not, have the same kind and length, and their fields correspond one by one
 abbrev pub EqualFieldByField : List (ℕ × ℕ) → Option Object → Option Object → Type 0
 EqualFieldByField pairs (Some o) (Some q) = (o.raw ≡ q.raw) × (o.kind ≡ q.kind) × (length o.fields ≡ length q.fields) × AllZip (λ v w. IsTrue (correspond pairs v w)) o.fields q.fields
-EqualFieldByField pairs (Some o) None = ⊥
-EqualFieldByField pairs None q = ⊥
+EqualFieldByField pairs o q = ⊥
 
 -- The roots correspond, the objects of each pair are equal field by field, and no name has two partners. Nothing is said
 -- about other objects: an unreachable object needs no partner.

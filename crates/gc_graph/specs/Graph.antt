@@ -1,6 +1,6 @@
 -- The object graph that a mutator sees: named objects and roots.
 use Rattle.std.specs.Prelude.{◌≡◌, ℕ, suc, ◌==◌, Bool, true, false, if◌then◌else◌, max, List, [], ◌∷◌, ◌++◌, map, replicate, slice_get, slice_set, Option, Some, None, IsFalse}
-use Rattle.std.specs.Option.{option_to_list}
+use Rattle.std.specs.Option.{unwrap_or, option_to_list}
 use Rattle.std.specs.List.{flat_map, list_any, fold}
 use Rattle.gc_graph.specs.Slots.{roots_of}
 
@@ -32,9 +32,8 @@ lookup (entry ∷ rest) name = if entry.0 == name then Some entry.1 else lookup 
 
 -- the object that a value refers to
 abbrev pub object_of : List (ℕ × Object) → Value → Option Object
-object_of objects Nil = None
-object_of objects (Num n) = None
 object_of objects (Ref name) = lookup objects name
+object_of objects v = None
 
 -- field i, if the object exists and has that field
 abbrev pub field_of : Option Object → ℕ → Option Value
@@ -42,12 +41,8 @@ field_of None i = None
 field_of (Some object) i = slice_get object.fields i
 
 -- the value of a root, or nil past the end of the roots
-abbrev pub value_or_nil : Option Value → Value
-value_or_nil None = Nil
-value_or_nil (Some v) = v
-
 abbrev pub root : Graph → ℕ → Value
-root g place = value_or_nil (slice_get g.roots place)
+root g place = unwrap_or (slice_get g.roots place) Nil
 
 -- ---- paths
 
@@ -69,9 +64,8 @@ Reachable g name = (place : ℕ) × (fields : List ℕ) × (at_path g place fiel
 
 -- the name, if the value is a reference
 abbrev pub name_of : Value → Option ℕ
-name_of Nil = None
-name_of (Num n) = None
 name_of (Ref name) = Some name
+name_of v = None
 
 abbrev pub names_of : Value → List ℕ
 names_of v = option_to_list (name_of v)

@@ -23,14 +23,9 @@ view_of objects (Ref name) = view_of_object (lookup objects name)
 -- both are nil, both are the same number, or both refer to the same object, which exists
 abbrev pub same : List (ℕ × Object) → Value → Value → Bool
 same objects Nil Nil = true
-same objects Nil (Num b) = false
-same objects Nil (Ref b) = false
-same objects (Num a) Nil = false
 same objects (Num a) (Num b) = a == b
-same objects (Num a) (Ref b) = false
-same objects (Ref a) Nil = false
-same objects (Ref a) (Num b) = false
 same objects (Ref a) (Ref b) = (a == b) && is_some (lookup objects a)
+same objects v w = false
 
 -- `get` into the root at place `d`, given the object that `s` refers to and the value of its field
 abbrev pub get_field : Graph → ℕ → Option Object → Option Value → Reply × Graph

@@ -25,8 +25,7 @@ abbrev pub fetched_of : Reply → Fetched
 fetched_of replies.NoField = NoField
 fetched_of (replies.Saw views.Nil) = Nil
 fetched_of (replies.Saw (views.Num n)) = Num n
-fetched_of (replies.Saw (views.Obj kind len)) = Object
-fetched_of (replies.Saw (views.RawObj kind len)) = Object
+fetched_of (replies.Saw view) = Object
 fetched_of reply = NoObject
 
 -- mutator m's `Get` leads from the old heap to the new one, and `fetched` is what `fetch` shows of its reply

@@ -1,8 +1,9 @@
 -- A standing checker beside a heap whose extra roots are cleared.
 use Rattle.std.proofs.lemmas.Grind.{common_steps}
+use Rattle.std.specs.Prelude.{IfSome}
+use Rattle.gc_plan.specs.Belonging.{IsOpened}
 use Rattle.std.proofs.Common.{◌≡◌, ⊎_elim, ℕ, zero, suc, refl, ap, ◌∙◌, subst, arith}
 use Rattle.gc_plan.specs.State.{State, heap_end}
-use Rattle.gc_plan.specs.Belonging.{IsOpen}
 use Rattle.gc_plan.proofs.Public.{unchanged}
 use Rattle.gc_core.specs.ExtraRoots.{clear_step}
 use Rattle.gc_along.specs.Watch.{opening}
@@ -18,7 +19,7 @@ clear_leads : (n : ℕ) (s : State) (k : ℕ) → Leads s (clear_step s k n) Nev
 clear_leads zero s k = (record { collection = same_itself s.collection; evolves = unchanged s.heap.graph.objects Never }, refl)
 clear_leads (suc n) s k = grind (arith, common_steps, leads_on, leads_one, end_by, clear_leads n)
 
-pub lives_cleared : (s s' : State) (k n : ℕ) (t : Tables) → IsOpen s s.collection → clear_step s k n ≡ s' → IsLive s t → IsLive s' t
+pub lives_cleared : (s s' : State) (k n : ℕ) (t : Tables) → IfSome s.collection (IsOpened s) → clear_step s k n ≡ s' → IsLive s t → IsLive s' t
 lives_cleared s s' k n t is_open is live =
     let r = clear_leads n s k in
     let end : heap_end s ≡ heap_end s' = r.1 ∙ ap heap_end is in

@@ -1,10 +1,11 @@
 -- A standing checker beside a heap: an object made whose fields take numbers and the values of slots.
 use Rattle.std.proofs.lemmas.Grind.{common_steps}
 use Rattle.std.proofs.Common.{◌≡◌, ◌⊎◌, inl, inr, ⊎_elim, ℕ, zero, suc, ◌+◌, ◌-◌, ◌<◌, ◌≤◌, nat_lt, Bool, true, false, List, [], ◌∷◌, length, Some, None, refl, ap, sym, ◌∙◌, subst, arith}
-use Rattle.std.specs.Prelude.{slice_get, slice_set}
+use Rattle.std.specs.Prelude.{slice_get, slice_set, IfSome}
+use Rattle.std.specs.Option.{unwrap_or}
 use Rattle.std.proofs.lemmas.Bool.{cond_both, ltb-false}
 use Rattle.std.proofs.lemmas.List.{length-replicate}
-use Rattle.gc_graph.specs.Graph.{Value, Nil, Ref, Object, root, value_or_nil, new_object, first_value}
+use Rattle.gc_graph.specs.Graph.{Value, Nil, Ref, Object, root, new_object, first_value}
 use Rattle.gc_graph.specs.Machine.{Roomy, words_taken}
 use Rattle.gc_graph.specs.Slots.{SlotName, place}
 use Rattle.gc_graph.specs.declared.command.Op.{Op}
@@ -14,7 +15,7 @@ use Rattle.gc_graph.specs.declared.reply.Reply.TheVariants as replies
 use Rattle.gc_plan.specs.State.{State, heap_end}
 use Rattle.gc_plan.specs.Steps.{mutate, logged}
 use Rattle.gc_plan.specs.Members.{In}
-use Rattle.gc_plan.specs.Belonging.{IsSpaceGraph, IsOpen, Laid}
+use Rattle.gc_plan.specs.Belonging.{IsSpaceGraph, Laid, IsOpened}
 use Rattle.gc_plan.proofs.Public.{WrittenBy, unchanged, laid_push, laid_range, lookup_in, lookup_laid, in_right, root_kept}
 use Rattle.gc_core.specs.CollectedHeap.{fill_step, filled, new_from_step}
 use Rattle.gc_core.specs.Mixed.{source_step, sources_step, mixed, new_with_step}
@@ -37,7 +38,7 @@ Of a x j = x ≡ a
 abbrev RefersOnly : State → ℕ → SlotName → ℕ → Type 0
 RefersOnly s m d a = (root s.heap.graph (place d m) ≡ Ref a) ⊎ (root s.heap.graph (place d m) ≡ Nil)
 
-after_set : (rs : List Value) (p : ℕ) (v : Value) → (value_or_nil (slice_get (slice_set rs p v) p) ≡ v) ⊎ (value_or_nil (slice_get (slice_set rs p v) p) ≡ Nil)
+after_set : (rs : List Value) (p : ℕ) (v : Value) → (unwrap_or (slice_get (slice_set rs p v) p) Nil ≡ v) ⊎ (unwrap_or (slice_get (slice_set rs p v) p) Nil ≡ Nil)
 after_set [] p v = inr refl
 after_set (r ∷ rs) zero v = inl refl
 after_set (r ∷ rs) (suc p) v = after_set rs p v
@@ -145,7 +146,7 @@ module _ (s : State) (m : ℕ) (d : SlotName) (kind count : ℕ) (finish : Reply
           (r, inr (x.now, (lookup_in (finish replies.Made later).heap.graph.objects (heap_end s) x.now x.found, omega (arith, x.len, more, r.1))))
 
   -- the checker goes along and is not lost, whether there was room or not
-  pub both_made : (along : Bool) (s' : State) (t after : Tables) (links : ℕ → ℕ) (old : List ℕ) → IsOpen s s.collection → finish (mutate s m (ops.New d kind count)).0 (mutate s m (ops.New d kind count)).1 ≡ s' → IsSpaceGraph s'.size s'.heap.free s'.heap.graph → old ≡ heap_words links s'
+  pub both_made : (along : Bool) (s' : State) (t after : Tables) (links : ℕ → ℕ) (old : List ℕ) → IfSome s.collection (IsOpened s) → finish (mutate s m (ops.New d kind count)).0 (mutate s m (ops.New d kind count)).1 ≡ s' → IsSpaceGraph s'.size s'.heap.free s'.heap.graph → old ≡ heap_words links s'
       → (t.lost ≡ true → after.lost ≡ true) → (t.lost ≡ false → CanMake old t → after.lost ≡ false) → (after.lost ≡ false → Made old t after) → IsLasting along s t → IsLasting along s' after
   unfolding made op
   both_made along s' t after links old is_open is later words lost stays made_is h = (
@@ -179,12 +180,12 @@ module _ (s : State) (m : ℕ) (d : SlotName) (kind count : ℕ) (finish : Reply
       grow : after.lost ≡ false → length t.olds ≡ heap_end s → (length after.olds ≡ heap_end s') × (after ≡ record t { olds = after.olds })
       grow found seen = grown s s' t after links later more seen (subst (λ ws. Made ws t after) words (made_is found))
 
-pub both_filled : (along : Bool) (s s' : State) (m : ℕ) (d : SlotName) (kind : ℕ) (fields : List SlotName) (reply : Reply) (t after : Tables) (links : ℕ → ℕ) (old : List ℕ) → IsSpaceGraph s.size s.heap.free s.heap.graph → IsOpen s s.collection → new_from_step s m d kind fields ≡ (reply, s') → IsSpaceGraph s'.size s'.heap.free s'.heap.graph → old ≡ heap_words links s'
+pub both_filled : (along : Bool) (s s' : State) (m : ℕ) (d : SlotName) (kind : ℕ) (fields : List SlotName) (reply : Reply) (t after : Tables) (links : ℕ → ℕ) (old : List ℕ) → IsSpaceGraph s.size s.heap.free s.heap.graph → IfSome s.collection (IsOpened s) → new_from_step s m d kind fields ≡ (reply, s') → IsSpaceGraph s'.size s'.heap.free s'.heap.graph → old ≡ heap_words links s'
     → (t.lost ≡ true → after.lost ≡ true) → (t.lost ≡ false → CanMake old t → after.lost ≡ false) → (after.lost ≡ false → Made old t after) → IsLasting along s t → IsLasting along s' after
 both_filled along s s' m d kind fields reply t after links old before is_open said =
     both_made s m d kind (length fields) (λ r x. filled r x m d fields) (λ x. refl) (λ x refers. fill_within fields x m d 0 (heap_end s) refers) before along s' t after links old is_open (ap (λ (x : Reply × State). x.1) said)
 
-pub both_mixed : (along : Bool) (s s' : State) (m : ℕ) (d t : SlotName) (kind : ℕ) (fields : List FieldSource) (reply : Reply) (w after : Tables) (links : ℕ → ℕ) (old : List ℕ) → (place t m ≡ place d m → ⊥) → IsSpaceGraph s.size s.heap.free s.heap.graph → IsOpen s s.collection → new_with_step s m d kind t fields ≡ (reply, s') → IsSpaceGraph s'.size s'.heap.free s'.heap.graph → old ≡ heap_words links s'
+pub both_mixed : (along : Bool) (s s' : State) (m : ℕ) (d t : SlotName) (kind : ℕ) (fields : List FieldSource) (reply : Reply) (w after : Tables) (links : ℕ → ℕ) (old : List ℕ) → (place t m ≡ place d m → ⊥) → IsSpaceGraph s.size s.heap.free s.heap.graph → IfSome s.collection (IsOpened s) → new_with_step s m d kind t fields ≡ (reply, s') → IsSpaceGraph s'.size s'.heap.free s'.heap.graph → old ≡ heap_words links s'
     → (w.lost ≡ true → after.lost ≡ true) → (w.lost ≡ false → CanMake old w → after.lost ≡ false) → (after.lost ≡ false → Made old w after) → IsLasting along s w → IsLasting along s' after
 both_mixed along s s' m d t kind fields reply w after links old apart before is_open said =
     both_made s m d kind (length fields) (λ r x. mixed r x m d t fields) (λ x. refl) (λ x refers. sources_within fields x m 0 (heap_end s) d t apart refers) before along s' w after links old is_open (ap (λ (x : Reply × State). x.1) said)

@@ -2,11 +2,12 @@
 use Rattle.std.proofs.lemmas.Grind.{common_steps}
 use Rattle.std.proofs.Common.{◌≡◌, ◌⊎◌, ⊎_elim, ℕ, ◌<◌, ◌≤◌, Bool, true, false, cond, List, ◌∷◌, length, Option, Some, None, refl, ap, sym, ◌∙◌, subst, arith}
 use Rattle.std.specs.Prelude.{IfSome, IsTrue}
+use Rattle.std.specs.Option.{option_map_or}
 use Rattle.gc_words.specs.Spelling.{no_links}
 use Rattle.gc_plan.specs.State.{Collection, State}
 use Rattle.gc_plan.specs.Linked.{LeadsToOpen}
-use Rattle.gc_plan.specs.Steps.{is_ready, log_at, apply_log, collect, collect_with, step_in, with_collection, fresh_collection, flipped, passes_check}
-use Rattle.gc_plan.specs.Belonging.{IsSpaceGraph, IsOpened, IsOpen}
+use Rattle.gc_plan.specs.Steps.{is_ready, log_at, apply_log, collect, step_in, with_collection, fresh_collection, flipped, passes_check, step_idle}
+use Rattle.gc_plan.specs.Belonging.{IsSpaceGraph, IsOpened}
 use Rattle.gc_plan.specs.declared.step.Step.{Step}
 use Rattle.gc_plan.specs.declared.step.Step.TheVariants as steps
 use Rattle.gc_plan.specs.declared.step.StepReply.{StepReply}
@@ -42,15 +43,15 @@ pub record InOpen (s s' : State) (step : Step) (reply : StepReply) (c next : Col
   pub said : step_in s c step ≡ (reply, s')
   pub is : s' ≡ with_collection s (Some next)
 
-pub in_open : (s s' : State) (step : Step) (reply : StepReply) (c next : Collection) → (step ≡ steps.Flip → ⊥) → collect s step ≡ (reply, s') → IsOpen s s.collection → IsOpen s' s'.collection → s.collection ≡ Some c → s'.collection ≡ Some next → InOpen s s' step reply c next
+pub in_open : (s s' : State) (step : Step) (reply : StepReply) (c next : Collection) → (step ≡ steps.Flip → ⊥) → collect s step ≡ (reply, s') → IfSome s.collection (IsOpened s) → IfSome s'.collection (IsOpened s') → s.collection ≡ Some c → s'.collection ≡ Some next → InOpen s s' step reply c next
 in_open s s' step reply c next other said is_open is_open' first there = grind (arith, common_steps, steps_stay)
 
 -- where a step has such a reply a collection was open
-pub was_open : (s s' : State) (step : Step) (reply : StepReply) → ((collect_with s None step).0 ≡ reply → ⊥) → collect s step ≡ (reply, s') → (c : Collection) × (s.collection ≡ Some c)
+pub was_open : (s s' : State) (step : Step) (reply : StepReply) → ((option_map_or (λ (c : Collection). step_in s c step) None (step_idle s step)).0 ≡ reply → ⊥) → collect s step ≡ (reply, s') → (c : Collection) × (s.collection ≡ Some c)
 was_open s s' step reply idle said = go s.collection refl
   where
     go : (o : Option Collection) → s.collection ≡ o → (c : Collection) × (o ≡ Some c)
-    go None e = absurd (idle (ap (λ (x : StepReply × State). x.0) (ap (λ o. collect_with s o step) (sym e) ∙ said)))
+    go None e = absurd (idle (ap (λ (x : StepReply × State). x.0) (ap (λ o. option_map_or (λ (c : Collection). step_in s c step) o (step_idle s step)) (sym e) ∙ said)))
     go (Some c) e = (c, refl)
 
 -- the words that a caller read are those of the open collection
@@ -61,7 +62,7 @@ opened_by s words are = grind (arith, common_steps)
 abbrev pub AreOld : State → List ℕ → Type 0
 AreOld s old = (links : ℕ → ℕ) × LeadsToOpen links s.collection × (old ≡ heap_words links s)
 
-module _ (s s' : State) (old words : List ℕ) (heap : IsSpaceGraph s.size s.heap.free s.heap.graph) (is_open : IsOpen s s.collection) (is_open' : IsOpen s' s'.collection) (olds : AreOld s' old) (are : AreNew s' words) where
+module _ (s s' : State) (old words : List ℕ) (heap : IsSpaceGraph s.size s.heap.free s.heap.graph) (is_open : IfSome s.collection (IsOpened s)) (is_open' : IfSome s'.collection (IsOpened s')) (olds : AreOld s' old) (are : AreNew s' words) where
   old_words : (next : Collection) → s' ≡ with_collection s (Some next) → old ≡ heap_words olds.0 s
   old_words next is = olds.2 ∙ ap (heap_words olds.0) is
 
@@ -143,7 +144,7 @@ module _ (s s' : State) (old words : List ℕ) (heap : IsSpaceGraph s.size s.hea
 pub lasts_same : (s s' : State) (t : Tables) → s' ≡ s → IsNeverLost s t → IsNeverLost s' t
 lasts_same s s' t e k = subst (λ (x : State). IsNeverLost x t) (sym e) k
 
-pub lasts_scan_other : (s s' : State) (reply : StepReply) (t : Tables) → IsSpaceGraph s.size s.heap.free s.heap.graph → IsOpen s s.collection → IsOpen s' s'.collection → collect s steps.Scan ≡ (reply, s') → (reply ≡ Scanned → ⊥)
+pub lasts_scan_other : (s s' : State) (reply : StepReply) (t : Tables) → IsSpaceGraph s.size s.heap.free s.heap.graph → IfSome s.collection (IsOpened s) → IfSome s'.collection (IsOpened s') → collect s steps.Scan ≡ (reply, s') → (reply ≡ Scanned → ⊥)
     → IsLive s t → IsNeverLost s t → IsNeverLost s' t
 lasts_scan_other s s' reply t heap is_open is_open' said other live k = ⊎_elim
     (λ e. lasts_same s s' t e k)
@@ -163,7 +164,7 @@ pub lasts_begun : (s s' : State) (reply : StepReply) (size n : ℕ) (t mid after
     → mid ≡ record t { room = mid.room } → (t.room ≡ 0) ⊎ (n ≤ mid.room) → size ≤ n → s.size ≤ n → (mid.lost ≡ false → after ≡ mid) → IsNeverLost s t → IsNeverLost s' after
 lasts_begun s s' reply size n t mid after none said heap more room new_fits old_fits kept k = grind (arith, common_steps, known_with, begun_known)
 
-pub lasts_dropped : (s s' : State) (reply : StepReply) (t after : Tables) → IsSpaceGraph s.size s.heap.free s.heap.graph → IsOpen s s.collection → collect s steps.Drop ≡ (reply, s') → (t.lost ≡ false → after.lost ≡ false) → (after.lost ≡ false → Freed t after)
+pub lasts_dropped : (s s' : State) (reply : StepReply) (t after : Tables) → IsSpaceGraph s.size s.heap.free s.heap.graph → IfSome s.collection (IsOpened s) → collect s steps.Drop ≡ (reply, s') → (t.lost ≡ false → after.lost ≡ false) → (after.lost ≡ false → Freed t after)
     → IsLive s t → IsNeverLost s t → IsNeverLost s' after
 lasts_dropped s s' reply t after heap is_open said stays freed live k = go s.collection refl said
   where
@@ -176,13 +177,13 @@ lasts_dropped s s' reply t after heap is_open said stays freed live k = go s.col
     is_fresh : s' ≡ with_collection s None → Knows s (fresh_collection s.mutators 1) after → IsNeverLost s' after
     is_fresh is f = record { found = found; knows = subst (λ (x : State). KnowsAll x after) (sym is) (record { kept = f.kept; due = f.due; marks = f.marks; old_room = f.old_room; new_room = f.new_room }) }
 
-    go : (o : Option Collection) → s.collection ≡ o → collect_with s o steps.Drop ≡ (reply, s') → IsNeverLost s' after
+    go : (o : Option Collection) → s.collection ≡ o → option_map_or (λ (c : Collection). step_in s c steps.Drop) o (step_idle s steps.Drop) ≡ (reply, s') → IsNeverLost s' after
     go None e u = is_fresh (sym (ap (λ (x : StepReply × State). x.1) u) ∙ ap (with_collection s) e) (nothing_freed e)
       where
         -- no replica was there
         nothing_freed : s.collection ≡ None → Knows s (fresh_collection s.mutators 1) after
         nothing_freed e = grind (arith, common_steps, goes_of, found, begun_belongs, length-replicate, dropped_known, length-map, some_room)
-    go (Some c) e u = is_fresh (sym (ap (λ (x : StepReply × State). x.1) u)) (dropped_known s c t after heap (subst (IsOpen s) e is_open) (goes_in s c t e live k.found) (knows_in s c t e k) some_room (freed found))
+    go (Some c) e u = is_fresh (sym (ap (λ (x : StepReply × State). x.1) u)) (dropped_known s c t after heap (subst (λ (o : Option Collection). IfSome o (IsOpened s)) e is_open) (goes_in s c t e live k.found) (knows_in s c t e k) some_room (freed found))
 
 pub lasts_flipped : (s s' : State) (c : Collection) (t after : Tables) → IsSpaceGraph s.size s.heap.free s.heap.graph → s.collection ≡ Some c → IsOpened s c → s' ≡ flipped s c → (t.lost ≡ false → after.lost ≡ false) → (after.lost ≡ false → after ≡ flipped_tables t)
     → IsNeverLost s t → IsNeverLost s' after
@@ -190,12 +191,12 @@ lasts_flipped s s' c t after heap first opened is stays flips k = grind (arith, 
 
 -- ---- the flip
 
-pub sure_if_ready : (s : State) (t : Tables) → IsSpaceGraph s.size s.heap.free s.heap.graph → IsOpen s s.collection → IsLive s t → IsNeverLost s t → IsSureIfReady (Accepts t) s
+pub sure_if_ready : (s : State) (t : Tables) → IsSpaceGraph s.size s.heap.free s.heap.graph → IfSome s.collection (IsOpened s) → IsLive s t → IsNeverLost s t → IsSureIfReady (Accepts t) s
 sure_if_ready s t heap is_open live k = go s.collection refl
   where
     go : (o : Option Collection) → s.collection ≡ o → IfSome o (λ c. IsTrue (is_ready c s.heap.graph) → HasAccepted (Accepts t) (flip_pair s c))
     go None e = tt
-    go (Some c) e = λ ready. accepts s c t heap (subst (IsOpen s) e is_open) ready k.found (goes_in s c t e live k.found) (knows_in s c t e k)
+    go (Some c) e = λ ready. accepts s c t heap (subst (λ (o : Option Collection). IfSome o (IsOpened s)) e is_open) ready k.found (goes_in s c t e live k.found) (knows_in s c t e k)
 
 -- a flip went to the new space, or changed nothing
 flip_step : (s s' : State) (reply : StepReply) → collect s steps.Flip ≡ (reply, s') → ((s' ≡ s) × ((n : ℕ) → reply ≡ Flipped n → ⊥)) ⊎ ((c : Collection) × (s.collection ≡ Some c) × (s' ≡ flipped s c) × (n : ℕ) × (reply ≡ Flipped n))
@@ -213,16 +214,16 @@ flip_step s s' reply said = go s.collection refl said
     ready : (c : Collection) → s.collection ≡ Some c → (b : Bool) → ◌≡◌ {A = StepReply × State} (cond b (cond (passes_check s c) (Flipped (length c.replicas), flipped s c) (Refused, s)) (NotReady, s)) (reply, s') → Is
     ready c e b u = grind (arith, common_steps, checked, reply_is)
 
-    go : (o : Option Collection) → s.collection ≡ o → collect_with s o steps.Flip ≡ (reply, s') → Is
+    go : (o : Option Collection) → s.collection ≡ o → option_map_or (λ (c : Collection). step_in s c steps.Flip) o (step_idle s steps.Flip) ≡ (reply, s') → Is
     go o e u = grind (arith, common_steps, reply_is, ready)
 
-pub both_flipped : (along : Bool) (s s' : State) (reply : StepReply) (n : ℕ) (t after : Tables) → IsSpaceGraph s.size s.heap.free s.heap.graph → IsOpen s s.collection → collect s steps.Flip ≡ (reply, s') → reply ≡ Flipped n
+pub both_flipped : (along : Bool) (s s' : State) (reply : StepReply) (n : ℕ) (t after : Tables) → IsSpaceGraph s.size s.heap.free s.heap.graph → IfSome s.collection (IsOpened s) → collect s steps.Flip ≡ (reply, s') → reply ≡ Flipped n
     → (t.lost ≡ true → after.lost ≡ true) → (after.lost ≡ false → after ≡ flipped_tables t) → (t.lost ≡ false → after.lost ≡ false) → IsLive s t × (along ≡ true → IsNeverLost s t) → IsLive s' after × (along ≡ true → IsNeverLost s' after)
 both_flipped along s s' reply n t after heap is_open said did lost flips stays h = ⊎_elim
     (λ same. absurd (same.1 n did))
     (λ x. (
-      lives_flipped s s' x.0 t after x.1 (subst (IsOpen s) x.1 is_open) x.2 lost flips h.0,
-      λ on. lasts_flipped s s' x.0 t after heap x.1 (subst (IsOpen s) x.1 is_open) x.2 stays flips (h.1 on),
+      lives_flipped s s' x.0 t after x.1 (subst (λ (o : Option Collection). IfSome o (IsOpened s)) x.1 is_open) x.2 lost flips h.0,
+      λ on. lasts_flipped s s' x.0 t after heap x.1 (subst (λ (o : Option Collection). IfSome o (IsOpened s)) x.1 is_open) x.2 stays flips (h.1 on),
     ))
     (flip_step s s' reply said)
 

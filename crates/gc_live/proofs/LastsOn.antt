@@ -1,23 +1,23 @@
 -- A standing checker that is not lost stays so, and its tables go on knowing the heap: the mutators' commands.
 use Rattle.std.proofs.lemmas.Grind.{common_steps}
 use Rattle.std.proofs.Common.{◌≡◌, ◌⊎◌, inl, inr, ⊎_elim, ℕ, zero, suc, ◌+◌, ◌<◌, ◌≤◌, Bool, true, false, List, [], ◌∷◌, ◌++◌, length, map, Option, Some, None, refl, ap, sym, ◌∙◌, subst, arith}
-use Rattle.std.specs.Prelude.{Result, Ok, Err, IfOk, OnErr, slice_get, slice_set}
+use Rattle.std.specs.Prelude.{Result, Ok, Err, IfOk, OnErr, slice_get, slice_set, IfSome}
 use Rattle.std.proofs.lemmas.Bool.{cond_both}
 use Rattle.gc_graph.specs.declared.no_memory.NoMemory.{NoMemory}
-use Rattle.gc_graph.specs.Graph.{Value, Ref, Graph, name_of, names_of, root, value_or_nil}
+use Rattle.gc_graph.specs.Graph.{Value, Ref, Graph, name_of, names_of, root, Nil}
 use Rattle.gc_graph.specs.Machine.{roomy_step, words_taken}
 use Rattle.gc_graph.specs.Slots.{SlotName, place}
 use Rattle.gc_graph.specs.declared.command.Op.{Op}
 use Rattle.gc_graph.specs.declared.command.Op.TheVariants as ops
 use Rattle.gc_graph.specs.declared.reply.Reply.{Reply}
 use Rattle.gc_graph.specs.declared.reply.Reply.TheVariants as replies
-use Rattle.std.specs.Option.{option_map}
+use Rattle.std.specs.Option.{option_map, unwrap_or}
 use Rattle.gc_words.specs.declared.value.OldAddr.{OldAddr}
 use Rattle.gc_heap.specs.ExtraRoots.{extra_slot}
 use Rattle.gc_plan.specs.State.{Collection, State, heap_end}
-use Rattle.gc_plan.specs.Steps.{log_at, log_or_nil, logged, mutate, with_log, written}
+use Rattle.gc_plan.specs.Steps.{log_at, logged, mutate, with_log, written}
 use Rattle.gc_plan.specs.Members.{In}
-use Rattle.gc_plan.specs.Belonging.{IsLogged, IsSpaceGraph, IsOpened, IsOpen}
+use Rattle.gc_plan.specs.Belonging.{IsLogged, IsSpaceGraph, IsOpened}
 use Rattle.gc_plan.proofs.Public.{WrittenBy, root_fine, laid_range, in_right, pair, replicas_end}
 use Rattle.gc_core.specs.ExtraRoots.{clear_step}
 use Rattle.gc_plan.specs.Linked.{LeadsToOpen}
@@ -136,13 +136,13 @@ abbrev pub HasLog : Option Collection → ℕ → Type 0
 HasLog None m = Unit {0}
 HasLog (Some c) m = m < length c.logs
 
-pub log_of_open : (s : State) (m : ℕ) → IsOpen s s.collection → m < s.mutators → HasLog s.collection m
+pub log_of_open : (s : State) (m : ℕ) → IfSome s.collection (IsOpened s) → m < s.mutators → HasLog s.collection m
 log_of_open s m is_open less = grind (arith, common_steps)
 
 pub log_after : (s s' : State) (m n : ℕ) (op : Op) (reply : Reply) → mutate s n op ≡ (reply, s') → HasLog s.collection m → HasLog s'.collection m
 log_after s s' m n op reply said h = grind (arith, common_steps)
 
-log_new : (logs : List (List (ℕ × ℕ))) (m : ℕ) (more : List (ℕ × ℕ)) (e : ℕ × ℕ) → m < length logs → In e more → In e (log_or_nil (slice_get (slice_set logs m (log_or_nil (slice_get logs m) ++ more)) m))
+log_new : (logs : List (List (ℕ × ℕ))) (m : ℕ) (more : List (ℕ × ℕ)) (e : ℕ × ℕ) → m < length logs → In e more → In e (unwrap_or (slice_get (slice_set logs m (unwrap_or (slice_get logs m) [] ++ more)) m) [])
 log_new [] m more e less l = absurd (omega arith)
 log_new (log ∷ logs) zero more e less l = in_right e log more l
 log_new (log ∷ logs) (suc m) more e less l = log_new logs m more e (omega arith) l
@@ -158,13 +158,13 @@ noted s s' m op reply a i has said w d there = go s.collection has (ap (λ (x : 
 
 -- ---- one field, by the last of some commands
 
-pub lasts_written : (s mid s' : State) (m : ℕ) (put : Op) (reply : Reply) (old : List ℕ) (t after : Tables) (a i : ℕ) → HasLog mid.collection m → IsOpen s' s'.collection → IsSpaceGraph s'.size s'.heap.free s'.heap.graph
+pub lasts_written : (s mid s' : State) (m : ℕ) (put : Op) (reply : Reply) (old : List ℕ) (t after : Tables) (a i : ℕ) → HasLog mid.collection m → IfSome s'.collection (IsOpened s') → IsSpaceGraph s'.size s'.heap.free s'.heap.graph
     → Continues s mid NoName → heap_end s ≡ heap_end mid → mutate mid m put ≡ (reply, s') → words_taken put ≡ 0 → WrittenBy mid.heap.graph m put reply a i → (s.collection ≡ None → ⊥) → AreOld s' old
     → (t.lost ≡ false → CanWrite old a i t → after.lost ≡ false) → (after.lost ≡ false → Wrote a i t after) → IsLive s t → IsNeverLost s t → IsNeverLost s' after
 lasts_written s mid s' m put reply old t after a i has is_open heap first end said none wrote_it not_closed is stays wrote live k =
     let on = quiet_two s mid s' first (quiet_one mid s' m put reply said none) in
     let d = open_after s s' on not_closed in
-    let opened : IsOpened s' d.0 = subst (IsOpen s') d.1 is_open in
+    let opened : IsOpened s' d.0 = subst (λ (o : Option Collection). IfSome o (IsOpened s')) d.1 is_open in
     let b = beside s s' d.0 t on (end ∙ end_by mid s' m put reply said none) d.1 live k in
     beside_lasts s' d.0 d.1 heap opened after (told_write s' d.0 d.1 heap opened old t after a i is b (noted mid s' m put reply a i has said wrote_it d.0 d.1) stays wrote)
 
@@ -175,7 +175,7 @@ abbrev pub IsLasting : Bool → State → Tables → Type 0
 IsLasting along s t = IsLive s t × (along ≡ true → IsNeverLost s t)
 
 -- a command that neither makes an object nor writes a field
-pub both_quiet : (along : Bool) (s s' : State) (m : ℕ) (op : Op) (reply : Reply) (t : Tables) → IsOpen s s.collection → mutate s m op ≡ (reply, s') → words_taken op ≡ 0 → written s.heap.graph m op reply ≡ [] → IsLasting along s t → IsLasting along s' t
+pub both_quiet : (along : Bool) (s s' : State) (m : ℕ) (op : Op) (reply : Reply) (t : Tables) → IfSome s.collection (IsOpened s) → mutate s m op ≡ (reply, s') → words_taken op ≡ 0 → written s.heap.graph m op reply ≡ [] → IsLasting along s t → IsLasting along s' t
 both_quiet along s s' m op reply t is_open said none quiet h = (lives_quiet s s' m op reply t t is_open said none quiet refl h.0, λ on. lasts_quiet s s' m op reply t said none (h.1 on))
 
 pub both_same : (along : Bool) (s s' : State) (t : Tables) → s' ≡ s → IsLasting along s t → IsLasting along s' t
@@ -191,7 +191,7 @@ pub both_two_closed : (along : Bool) (s mid s' : State) (m : ℕ) (op : Op) (one
 both_two_closed along s mid s' m op one reply put t first none second none' closed h =
     (lives_number_closed s mid s' m op one reply put t first none second none' closed h.0, λ on. lasts_two s mid s' m op one reply put t first none second none' (h.1 on))
 
-pub both_two_undone : (along : Bool) (s mid s' : State) (m : ℕ) (op : Op) (one reply : Reply) (put : Op) (t : Tables) → IsOpen s s.collection → mutate s m op ≡ (one, mid) → words_taken op ≡ 0 → written s.heap.graph m op one ≡ [] → mutate mid m put ≡ (reply, s') → words_taken put ≡ 0
+pub both_two_undone : (along : Bool) (s mid s' : State) (m : ℕ) (op : Op) (one reply : Reply) (put : Op) (t : Tables) → IfSome s.collection (IsOpened s) → mutate s m op ≡ (one, mid) → words_taken op ≡ 0 → written s.heap.graph m op one ≡ [] → mutate mid m put ≡ (reply, s') → words_taken put ≡ 0
     → (reply ≡ replies.Done → ⊥) → (s'.collection ≡ None → ⊥) → IsLasting along s t → IsLasting along s' t
 both_two_undone along s mid s' m op one reply put t is_open first none quiet second none' undone later h = (
   lives_number s mid s' m op one reply put t t 0 0 is_open first none quiet second none' (inl (not_done mid.heap.graph m put reply undone, refl)) (was_open s mid s' m op one reply put first second later) h.0,
@@ -213,14 +213,14 @@ pub put_refers : (s s' : State) (m : ℕ) (d : SlotName) (i : ℕ) (t : SlotName
 put_refers s s' m d i t o said named none = grind (arith, common_steps, cond_both)
 
 -- a number or nil put into a field while a collection is open: the slot still refers to the object, so the checker is told of the right field
-pub both_put : (along : Bool) (s mid s' : State) (m : ℕ) (op : Op) (one : Reply) (d : SlotName) (i : ℕ) (v : SlotName) (reply : Reply) (old : List ℕ) (t after : Tables) (o : Option OldAddr) (a : OldAddr) → IsOpen s s.collection → IsOpen s' s'.collection → IsSpaceGraph s'.size s'.heap.free s'.heap.graph → m < s.mutators
+pub both_put : (along : Bool) (s mid s' : State) (m : ℕ) (op : Op) (one : Reply) (d : SlotName) (i : ℕ) (v : SlotName) (reply : Reply) (old : List ℕ) (t after : Tables) (o : Option OldAddr) (a : OldAddr) → IfSome s.collection (IsOpened s) → IfSome s'.collection (IsOpened s') → IsSpaceGraph s'.size s'.heap.free s'.heap.graph → m < s.mutators
     → mutate s m op ≡ (one, mid) → words_taken op ≡ 0 → written s.heap.graph m op one ≡ [] → mutate mid m (ops.Put d i v) ≡ (reply, s') → reply ≡ replies.Done → (s'.collection ≡ None → ⊥) → option_map (λ (a : OldAddr). a.0) o ≡ name_of (root s'.heap.graph (place d m)) → o ≡ Some a → AreOld s' old
     → (t.lost ≡ false → CanWrite old a.0 i t → after.lost ≡ false) → (t.lost ≡ true → after.lost ≡ true) → (after.lost ≡ false → Wrote a.0 i t after) → IsLasting along s t → IsLasting along s' after
 both_put along s mid s' m op one d i v reply old t after o a is_open is_open' heap less first none quiet said done later named is are stays lost wrote h =
     let put : mutate mid m (ops.Put d i v) ≡ (replies.Done, s') = said ∙ ap (λ (r : Reply). (r, s')) done in
     let at : root s'.heap.graph (place d m) ≡ Ref a.0 = refers_to s'.heap.graph (place d m) o a is named in
     let low : 1 ≤ a.0 = refers_above s'.size s'.heap.free s'.heap.graph (place d m) a.0 heap at in
-    let there : root mid.heap.graph (place d m) ≡ Ref a.0 = ap (λ (rs : List Value). value_or_nil (slice_get rs (place d m))) (sym (put_roots mid s' m d i v replies.Done put)) ∙ at in
+    let there : root mid.heap.graph (place d m) ≡ Ref a.0 = ap (λ (rs : List Value). unwrap_or (slice_get rs (place d m)) Nil) (sym (put_roots mid s' m d i v replies.Done put)) ∙ at in
     let wrote_it = ap (λ (w : Value). map (λ (name : ℕ). (name, i)) (names_of w)) there in
     let some = was_open s mid s' m op one replies.Done (ops.Put d i v) first put later in (
       lives_number s mid s' m op one replies.Done (ops.Put d i v) t after a.0 i is_open first none quiet put refl (inr (low, wrote_it, (lost, wrote))) some h.0,

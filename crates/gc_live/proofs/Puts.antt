@@ -3,7 +3,7 @@ use Rattle.std.proofs.lemmas.Grind.{common_steps}
 use Rattle.std.proofs.Common.{◌≡◌, ◌⊎◌, inl, inr, ⊎_elim, ◌<◌, ◌≤◌, ◌+◌, ◌-◌, ℕ, zero, suc, true, false, nat_lt, Bool, List, [], ◌∷◌, length, map, Option, Some, None, refl, sym, ap, subst, ◌∙◌, arith, length-set}
 use Rattle.std.proofs.lemmas.Bool.{cases_Bool, cases_eq, cond_both, eqb-true, eq-eqb, ltb-true, and_parts}
 use Rattle.std.proofs.lemmas.List.{length-map}
-use Rattle.std.specs.Prelude.{Result, IfOk, OnErr}
+use Rattle.std.specs.Prelude.{Result, IfOk, OnErr, IfSome}
 use Rattle.std.specs.Option.{option_map}
 use Rattle.gc_graph.specs.declared.no_memory.NoMemory.{NoMemory}
 use Rattle.gc_graph.specs.Graph.{Value, Num, Ref, Graph, Object, name_of, names_of, root, object_of, field_of, lookup}
@@ -18,7 +18,7 @@ use Rattle.gc_heap.specs.Raws.{raw_numbers}
 use Rattle.gc_plan.specs.State.{Collection, State, heap_end}
 use Rattle.gc_plan.specs.Steps.{mutate}
 use Rattle.gc_plan.specs.Members.{Distinct, In}
-use Rattle.gc_plan.specs.Belonging.{IsLogged, IsSpaceGraph, IsOpened, IsOpen}
+use Rattle.gc_plan.specs.Belonging.{IsLogged, IsSpaceGraph, IsOpened}
 use Rattle.gc_plan.proofs.Public.{WrittenBy, unchanged, get_within, get_set_same, root_kept}
 use Rattle.gc_core.specs.Writing.{after_reply, numbers_step, numbers_reply}
 use Rattle.gc_core.specs.Copying.{object_in, copy_reply, copy_step, AllCopied}
@@ -156,12 +156,12 @@ puts_logged (suc n) s s' m i a d t apart at has (op, into, done, rest) e there x
 -- ---- the call
 
 -- while a collection is open the checker is told of each field
-pub both_puts : (along : Bool) (s s' : State) (m i n a : ℕ) (d t : SlotName) (old : List ℕ) (w after : Tables) → IsOpen s s.collection → IsOpen s' s'.collection → IsSpaceGraph s'.size s'.heap.free s'.heap.graph → m < s.mutators → (place t m ≡ place d m → ⊥) → root s.heap.graph (place d m) ≡ Ref a → 1 ≤ a
+pub both_puts : (along : Bool) (s s' : State) (m i n a : ℕ) (d t : SlotName) (old : List ℕ) (w after : Tables) → IfSome s.collection (IsOpened s) → IfSome s'.collection (IsOpened s') → IsSpaceGraph s'.size s'.heap.free s'.heap.graph → m < s.mutators → (place t m ≡ place d m → ⊥) → root s.heap.graph (place d m) ≡ Ref a → 1 ≤ a
     → Puts IsDone n s m d t i s' → (s.collection ≡ None → ⊥) → AreOld s' old → ToldWritten a i n w after → ToldTruly old a i n w after → IsLasting along s w → IsLasting along s' after
 both_puts along s s' m i n a d t old w after is_open is_open' heap less apart at low puts not_closed old_is told truly h =
     let quiet = puts_quiet IsDone n s s' m i d t puts in
     let e = open_after s s' quiet.1 not_closed in
-    let opened : IsOpened s' e.0 = subst (IsOpen s') e.1 is_open' in
+    let opened : IsOpened s' e.0 = subst (λ (o : Option Collection). IfSome o (IsOpened s')) e.1 is_open' in
     let logged = puts_logged n s s' m i a d t apart at (log_of_open s m is_open less) puts e.0 e.1 in (
       lives_through s s' w after (IsAmong a i n) is_open (puts_lead IsDone n s s' m i a d t apart at puts) (told_lost a i n w after told)
           (λ found e o. absurd (not_closed e))

@@ -40,12 +40,12 @@ impl Model for LiveHeap {
 }
 
 impl LiveHeap {
-    ghost use Rattle.std.specs.Prelude.{◌≡◌, ◌≤◌, IfOk, is_some};
+    ghost use Rattle.std.specs.Prelude.{◌≡◌, ◌≤◌, IfOk, IfSome, is_some};
     ghost use Rattle.gc_graph.specs.Limits.{most_mutators};
     ghost use Rattle.gc_plan.specs.State.{opening_state};
     ghost use Rattle.gc_copy.specs.Opening.{opening_state_with};
     ghost use Rattle.gc_heap.specs.ExtraRoots.{CanOpen};
-    ghost use Rattle.gc_plan.specs.Belonging.{IsSpaceGraph, IsOpen};
+    ghost use Rattle.gc_plan.specs.Belonging.{IsSpaceGraph, IsOpened};
     ghost use Rattle.gc_heap.specs.Heap.{roomy_in};
 
     /// Returns an empty heap of `size` words, at least 1, for 1 to 16 mutators, whose flips are checked along with the collection.
@@ -112,7 +112,7 @@ impl LiveHeap {
     #[inline(always)]
     pub fn is_sound(&self)
         ensures heap { IsSpaceGraph self.now.size self.now.heap.free self.now.heap.graph }
-        ensures open { IsOpen self.now self.now.collection }
+        ensures open { IfSome self.now.collection (IsOpened self.now) }
     {
         self.inner.is_sound();
     }

@@ -2,15 +2,16 @@
 use Rattle.std.proofs.lemmas.Grind.{common_steps}
 use Rattle.std.proofs.Common.{◌≡◌, inl, inr, ⊎_elim, ℕ, ◌-◌, ◌≤◌, ◌==◌, Bool, true, false, cond, ◌&&◌, ◌||◌, List, [], ◌∷◌, ◌++◌, length, Option, Some, None, is_some, slice_get, flat_map, refl, ap, sym, ◌∙◌, subst, arith}
 use Rattle.std.specs.Prelude.{not}
+use Rattle.std.specs.Option.{option_map, option_map_or}
 use Rattle.std.proofs.lemmas.Bool.{cond_both}
 use Rattle.gc_graph.specs.Graph.{Value, Nil, Num, Ref, Object, Graph, lookup, object_of, field_of, root, follow, Reachable, names_of, set_root, first_value, new_object, add_object}
 use Rattle.gc_graph.specs.Machine.{step, get_field, is_number, put_field}
 use Rattle.gc_plan.specs.State.{Replica, Collection, State, opening_state, heap_end, replica_of, replica_at, pairs_of, moved}
-use Rattle.gc_plan.specs.Steps.{mutate, log_at, with_log, place_replica, with_replica, with_written, write_replica, copy_value, bring_value, bring_up_to_date, if_room, root_target, copy_root, next_field, scan_done, scan_replica, apply_entry, apply_log, is_ready, passes_check, collect_with}
+use Rattle.gc_plan.specs.Steps.{mutate, log_at, with_log, place_replica, with_replica, with_written, write_replica, bring_value, bring_up_to_date, if_room, root_target, copy_root, scan_done, scan_replica, apply_entry, apply_log, is_ready, passes_check, step_in, step_idle, next_field}
 use Rattle.gc_plan.specs.Runs.{IsEvent, AreEvents, after, state_after}
 use Rattle.gc_plan.specs.declared.event.Event.{Event}
 use Rattle.gc_plan.specs.declared.event.Event.TheVariants.{Mutate, Collect}
-use Rattle.gc_plan.specs.Carried.{is_begun, base_after, base_of_run, IsLiveSince, CarriesOnlyKept, LeadsOnlyTo, OnlyKeptIsNamed, NamesOnlyKept}
+use Rattle.gc_plan.specs.Carried.{is_begun, base_after, base_of_run, IsLiveSince, CarriesOnlyKept, LeadsOnlyTo, OnlyKeptIsNamed, NamesOnlyKept, OnlyKeptIsPaired}
 use Rattle.gc_plan.specs.Members.{In}
 use Rattle.gc_plan.specs.Belonging.{RefersTo, IsState}
 use Rattle.gc_graph.specs.declared.command.Op.{Op}
@@ -99,7 +100,7 @@ with_written_original name i w r = cond_both (r.original == name) _ _ (λ (q : R
 bring_originals : (P : ℕ → Type 0) (c next : Collection) (g : Graph) (name i : ℕ) → LeadsOnlyTo P g → Originals P c.replicas → P name → bring_up_to_date c g name i ≡ Some next → Originals P next.replicas
 bring_originals P c next g name i closed h p e = go (field_of (lookup g.objects name) i) refl e
   where
-    copied : (v : Value) (d : Option Collection) → with_replica c g v ≡ d → RefersTo P v → copy_value d name i v ≡ Some next → Originals P next.replicas
+    copied : (v : Value) (d : Option Collection) → with_replica c g v ≡ d → RefersTo P v → option_map (λ (d : Collection). write_replica d name i (moved d v)) d ≡ Some next → Originals P next.replicas
     copied v None is r e = absurd cc
     copied v (Some d) is r e =
         let same : write_replica d name i (moved d v) ≡ next = cc e in
@@ -127,7 +128,7 @@ module _ (P : ℕ → Type 0) (end : ℕ) (s : State) where
   same_quiet : (c : Collection) (reply : StepReply) → s.collection ≡ Some c → is_begun reply ≡ false → CarriesIn P end s (Some c) → Quiet P end (reply, s)
   same_quiet c reply is quiet h = (quiet, subst (CarriesIn P end s) (sym is) h)
 
-  open_quiet : (c : Collection) (step : Step) → s.collection ≡ Some c → CarriesIn P end s (Some c) → Quiet P end (collect_with s (Some c) step)
+  open_quiet : (c : Collection) (step : Step) → s.collection ≡ Some c → CarriesIn P end s (Some c) → Quiet P end (option_map_or (λ (c : Collection). step_in s c step) (Some c) (step_idle s step))
   open_quiet c steps.Begin is h = same_quiet c Busy is refl h
   open_quiet c (steps.BeginSized size) is h = same_quiet c Busy is refl h
   open_quiet c steps.Roots is h = go (root_target c s.heap.graph) refl
@@ -143,7 +144,7 @@ module _ (P : ℕ → Type 0) (end : ℕ) (s : State) where
           place_originals P c d name (lookup s.heap.graph.objects name) h.1 (name_refers v.0 name ((h.0).roots v.0 v.1) v.2) x)
   open_quiet c steps.Scan is h = cond_both (scan_done c) _ _ (Quiet P end) (λ t. same_quiet c Clean is refl h) (λ t. go (replica_at c c.scan_place) refl)
     where
-      next : (o : Option Collection) → ((d : Collection) → o ≡ Some d → Originals P d.replicas) → (d : Collection) → next_field o ≡ Some d → Originals P d.replicas
+      next : (o : Option Collection) → ((d : Collection) → o ≡ Some d → Originals P d.replicas) → (d : Collection) → option_map next_field o ≡ Some d → Originals P d.replicas
       next o f d e = grind (arith, common_steps)
 
       go : (t : Option Replica) → replica_at c c.scan_place ≡ t → Quiet P end (scan_replica s c t)
@@ -152,7 +153,7 @@ module _ (P : ℕ → Type 0) (end : ℕ) (s : State) where
           let found = find_some (λ (q : Replica). q.place == c.scan_place) c.replicas r e in
           cond_both (r.object.raw || (c.scan_field == length r.object.fields)) _ _ (Quiet P end)
           (λ t. (refl, (h.0, h.1, h.2)))
-          (λ t. in_room c Scanned (next_field (bring_up_to_date c s.heap.graph r.original c.scan_field)) is refl h
+          (λ t. in_room c Scanned (option_map next_field (bring_up_to_date c s.heap.graph r.original c.scan_field)) is refl h
           (next (bring_up_to_date c s.heap.graph r.original c.scan_field) (λ d x. bring_originals P c d s.heap.graph r.original c.scan_field h.0 h.1 (h.1 r found.0) x)))
   open_quiet c (steps.Apply m) is h = go (log_at c m)
     where
@@ -233,7 +234,7 @@ event_carries mutators base s (Collect step) h r = record { reached = event_keep
     idle : s.collection ≡ None → CarriesIn (IsLiveSince base) (heap_end base) s s.collection
     idle is = subst (CarriesIn (IsLiveSince base) (heap_end base) s) (sym is) tt
 
-    go : (o : Option Collection) → s.collection ≡ o → CarriesIn (IsLiveSince base) (heap_end base) s s.collection → (step : Step) → Goal (collect_with s o step)
+    go : (o : Option Collection) → s.collection ≡ o → CarriesIn (IsLiveSince base) (heap_end base) s s.collection → (step : Step) → Goal (option_map_or (λ (c : Collection). step_in s c step) o (step_idle s step))
     go None is k steps.Begin = (begun_closed s (h.reached).ok, (λ r x. absurd x), omega arith)
     go None is k (steps.BeginSized size) = (begun_closed s (h.reached).ok, (λ r x. absurd x), omega arith)
     go None is k steps.Roots = idle is
@@ -241,7 +242,7 @@ event_carries mutators base s (Collect step) h r = record { reached = event_keep
     go None is k (steps.Apply m) = idle is
     go None is k steps.Flip = idle is
     go None is k steps.Drop = idle is
-    go (Some c) is k step = quiet (collect_with s (Some c) step) (open_quiet (IsLiveSince base) (heap_end base) s c step is (subst (CarriesIn (IsLiveSince base) (heap_end base) s) is k))
+    go (Some c) is k step = quiet (option_map_or (λ (c : Collection). step_in s c step) (Some c) (step_idle s step)) (open_quiet (IsLiveSince base) (heap_end base) s c step is (subst (CarriesIn (IsLiveSince base) (heap_end base) s) is k))
 
 run_carries : (mutators : ℕ) (events : List Event) (base s : State) → Follows mutators base s → AreEvents mutators events → Follows mutators (base_of_run base s events) (state_after s events)
 run_carries mutators [] base s h r = h
@@ -257,4 +258,10 @@ names_only_kept size mutators events low high r =
     go base s (Some c) k = (k.0, all_from_in (λ (p : ℕ × ℕ). IsLiveSince base p.0) (pairs_of c) (λ p l. let q = in_map_from pair p c.replicas l in subst (λ (x : ℕ × ℕ). IsLiveSince base x.0) q.2 (k.1 q.0 q.1)))
 
 pub carries_only_kept : CarriesOnlyKept
-carries_only_kept size mutators events low high r = grind (arith, common_steps, names_only_kept)
+carries_only_kept size mutators events low high r =
+    let end : State = state_after (opening_state size mutators) events in
+    go (base_of_run (opening_state size mutators) (opening_state size mutators) events) end.heap.graph end.collection (names_only_kept size mutators events low high r)
+  where
+    go : (base : State) (g : Graph) (o : Option Collection) → OnlyKeptIsNamed base g o → OnlyKeptIsPaired base o
+    go base g None k = tt
+    go base g (Some c) k = k.1

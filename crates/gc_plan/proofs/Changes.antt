@@ -1,11 +1,13 @@
 -- Which replies mean a change, and that the useful step makes one if there is room.
 use Rattle.std.proofs.lemmas.Grind.{common_steps}
+use Rattle.std.specs.Prelude.{IfSome}
+use Rattle.std.specs.Option.{unwrap_or}
 use Rattle.std.proofs.Common.{◌||◌, ◌≡◌, ◌⊎◌, inr, ⊎_elim, ℕ, zero, suc, ◌+◌, ◌==◌, true, false, not, List, [], ◌∷◌, length, Option, Some, None, slice_get, refl, ap, sym, ◌∙◌, subst, arith}
 use Rattle.std.specs.List.{list_all}
 use Rattle.std.proofs.lemmas.Bool.{cond-false, cond_both, and_from, eq-eqb, not-true, not-false}
 use Rattle.gc_plan.specs.State.{Replica, Collection, State, new_end, replica_at}
-use Rattle.gc_plan.specs.Steps.{log_or_nil, if_room, scan_done, scan_replica, scan, is_empty, collect, is_change, first_log, useful_step}
-use Rattle.gc_plan.specs.Belonging.{IsSpaceGraph, IsDue, IsOpen, IsOpened, IsState}
+use Rattle.gc_plan.specs.Steps.{if_room, scan_done, scan_replica, scan, is_empty, collect, is_change, first_log, useful_step}
+use Rattle.gc_plan.specs.Belonging.{IsSpaceGraph, IsDue, IsOpened, IsState}
 use Rattle.gc_plan.specs.declared.step.Step.{Step}
 use Rattle.gc_plan.specs.declared.step.StepReply.{StepReply}
 use Rattle.gc_plan.specs.declared.step.StepReply.TheVariants.{Clean, NoRoom, Scanned}
@@ -39,7 +41,7 @@ scan_brings s c k before = subst Brings (sym (cond-false (scan_done c) (Clean, s
     one r = cond_both (r.object.raw || (c.scan_field == length r.object.fields)) _ _ Brings (λ t. inr refl) (λ t. room_brings s Scanned _ refl)
 
 -- the first log with an entry has one; if there is no such log, all are empty
-pub found_log : (logs : List (List (ℕ × ℕ))) (k m : ℕ) → first_log k logs ≡ Some m → (j : ℕ) × (m ≡ k + j) × (is_empty (log_or_nil (slice_get logs j)) ≡ false)
+pub found_log : (logs : List (List (ℕ × ℕ))) (k m : ℕ) → first_log k logs ≡ Some m → (j : ℕ) × (m ≡ k + j) × (is_empty (unwrap_or (slice_get logs j) []) ≡ false)
 found_log [] k m h = absurd cc
 found_log ([] ∷ logs) k m h = let r = found_log logs (suc k) m h in (suc r.0, (let e = r.1 in omega arith), r.2)
 found_log ((entry ∷ log) ∷ logs) k m h = (zero, (let e : k ≡ m = cc h in omega arith), refl)
@@ -49,7 +51,7 @@ no_log [] k h = refl
 no_log ([] ∷ logs) k h = no_log logs (suc k) h
 no_log ((entry ∷ log) ∷ logs) k h = absurd cc
 
-pub useful_changes : (s : State) → IsSpaceGraph s.size s.heap.free s.heap.graph → IsOpen s s.collection → ((collect s (useful_step s)).0 ≡ NoRoom) ⊎ (is_change (collect s (useful_step s)).0 ≡ true)
+pub useful_changes : (s : State) → IsSpaceGraph s.size s.heap.free s.heap.graph → IfSome s.collection (IsOpened s) → ((collect s (useful_step s)).0 ≡ NoRoom) ⊎ (is_change (collect s (useful_step s)).0 ≡ true)
 useful_changes s h opened = grind (arith, common_steps, flips, and_from, no_log, found_log, room_brings, cond_both, scan_brings, not-false)
 
 pub useful_brings : (s : State) → IsState s → ((collect s (useful_step s)).0 ≡ NoRoom) ⊎ (is_change (collect s (useful_step s)).0 ≡ true)

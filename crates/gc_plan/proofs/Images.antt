@@ -1,11 +1,12 @@
 -- The image of a heap: the walk finds its objects, and its words mean the heap's values.
 use Rattle.std.proofs.lemmas.Grind.{common_steps}
+use Rattle.std.specs.Result.{result_unwrap_or}
 use Rattle.std.proofs.Common.{◌≡◌, inl, inr, ℕ, ◌+◌, ◌-◌, ◌<◌, ◌≤◌, true, List, [], ◌∷◌, map, length, Some, Ok, refl, ap, ◌∙◌, arith}
 use Rattle.std.proofs.lemmas.List.{length-map}
 use Rattle.gc_graph.specs.Graph.{Value, Num, Object, Graph, lookup}
 use Rattle.gc_graph.specs.Machine.{is_number}
 use Rattle.gc_words.specs.Word.{value_of, read_value, word_of, field_value, HasAddress}
-use Rattle.gc_words.specs.Image.{walk_words, IsShaped, ok_or_nil, blocks, block_in, block_at, object_entry, graph_of}
+use Rattle.gc_words.specs.Image.{walk_words, IsShaped, blocks, block_in, block_at, object_entry, graph_of}
 use Rattle.gc_words.specs.Spelling.{spelled_from, LaidOut}
 use Rattle.gc_words.specs.declared.header.Header.{Header}
 use Rattle.gc_words.proofs.Public.{value_read_back, meaning_back, walk_spelled}
@@ -51,7 +52,7 @@ pub image_shaped : (links : ℕ → ℕ) (size free : ℕ) (g : Graph) → IsSpa
 image_shaped links size free g h = grind (arith, common_steps, end_is, walked)
 
 pub blocks_are : (links : ℕ → ℕ) (size free : ℕ) (g : Graph) → IsSpaceGraph size free g → blocks (linked_space links size g.objects).words ≡ map block_entry g.objects
-blocks_are links size free g h = ap ok_or_nil (walked links size free g h)
+blocks_are links size free g h = ap (λ r. result_unwrap_or r []) (walked links size free g h)
 
 pub block_found : (objects : List (ℕ × Object)) (a : ℕ) (o : Object) → lookup objects a ≡ Some o → block_in (map block_entry objects) a ≡ Some (object_block o)
 block_found [] a o h = absurd cc

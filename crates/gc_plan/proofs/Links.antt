@@ -1,13 +1,14 @@
 -- What the links in the two spaces of a collection mean.
 use Rattle.std.proofs.lemmas.Grind.{common_steps}
+use Rattle.std.specs.Option.{option_map_or}
 use Rattle.std.proofs.Common.{Bool, ◌≡◌, inl, inr, ⊎_elim, ℕ, ◌+◌, ◌==◌, true, false, List, [], ◌∷◌, map, length, Option, Some, None, is_none, refl, ap, sym, ◌∙◌, subst, arith}
 use Rattle.std.proofs.lemmas.Bool.{cases_Bool, cond-true, cond-false, eqb-true, eq-eqb, ne_eqb}
 use Rattle.gc_graph.specs.Graph.{Value, Ref, Object, set_field, with_field}
-use Rattle.gc_plan.specs.State.{Replica, Collection, new_objects, replica_of, replica_at, moved, moved_name}
+use Rattle.gc_plan.specs.State.{Replica, Collection, new_objects, replica_of, replica_at, moved}
 use Rattle.gc_plan.specs.Steps.{with_written, write_replica}
 use Rattle.gc_plan.specs.Members.{In, Distinct}
 use Rattle.gc_plan.specs.Belonging.{Laid, BelongsBy}
-use Rattle.gc_plan.specs.Linked.{place_or_zero, original_or_zero, old_links, new_links}
+use Rattle.gc_plan.specs.Linked.{old_links, new_links}
 use Rattle.gc_plan.proofs.Lists.{in_map, find_some, find_exists}
 use Rattle.gc_plan.proofs.Heap.{laid_range}
 use Rattle.gc_plan.proofs.Replicas.{placed, replicas_end, replica_in, replica_exists}
@@ -57,7 +58,7 @@ module _ (Due : Bool → ℕ → ℕ → ℕ → Type 0) (objects : List (ℕ ×
   pub zero_tells : (a : ℕ) → (old_links c a == 0) ≡ is_none (replica_of c a)
   zero_tells a = go (replica_of c a) refl
     where
-      go : (o : Option Replica) → replica_of c a ≡ o → (place_or_zero o == 0) ≡ is_none o
+      go : (o : Option Replica) → replica_of c a ≡ o → (option_map_or (λ (r : Replica). r.place) o 0 == 0) ≡ is_none o
       go None e = refl
       go (Some r) e = grind (arith, common_steps, laid_range 1 (map placed c.replicas) (replicas_end c.replicas) (placed r) h.laid (in_map placed r c.replicas (replica_in c a r e).0))
 
@@ -65,7 +66,7 @@ module _ (Due : Bool → ℕ → ℕ → ℕ → Type 0) (objects : List (ℕ ×
   write_is_set name i v r e = grind (arith, common_steps, replica_in, written_objects, replicas_end, same_original, same_place, cases_Bool)
 
   pub old_link_is : (a : ℕ) (r : Replica) → replica_of c a ≡ Some r → moved c (Ref a) ≡ Ref (old_links c a)
-  old_link_is a r e = ap (λ o. moved_name o a) e ∙ sym (ap (λ o. Ref (place_or_zero o)) e)
+  old_link_is a r e = ap (λ o. Ref (option_map_or (λ (r : Replica). r.place) o a)) e ∙ sym (ap (λ o. Ref (option_map_or (λ (r : Replica). r.place) o 0)) e)
 
   pub new_link_is : (a : ℕ) (r : Replica) → replica_of c a ≡ Some r → new_links c (old_links c a) ≡ a
-  new_link_is a r e = let f = replica_in c a r e in ap (λ o. new_links c (place_or_zero o)) e ∙ (ap original_or_zero (found_by_place r f.0) ∙ f.1)
+  new_link_is a r e = let f = replica_in c a r e in ap (λ o. new_links c (option_map_or (λ (r : Replica). r.place) o 0)) e ∙ (ap (λ (o : Option Replica). option_map_or (λ (r : Replica). r.original) o 0) (found_by_place r f.0) ∙ f.1)

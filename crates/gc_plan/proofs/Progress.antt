@@ -1,16 +1,18 @@
 -- Each step that changes something lowers the number of steps that are left.
 use Rattle.std.proofs.lemmas.Grind.{common_steps}
+use Rattle.std.specs.Prelude.{IfSome}
+use Rattle.std.specs.Option.{option_map, option_map_or, unwrap_or}
 use Rattle.std.proofs.Common.{◌≡◌, ◌≢◌, inl, inr, ⊎_elim, ℕ, zero, suc, ◌+◌, ◌-◌, ◌<◌, ◌≤◌, nat_lt, true, false, List, [], ◌∷◌, ◌++◌, map, length, set, replicate, slice_get, flat_map, Option, Some, None, refl, ap, sym, ◌∙◌, subst, arith, rules}
 use Rattle.std.proofs.lemmas.Bool.{cond-true, cond-false, cond_both, lt-ltb, le-ltb, eqb-false}
 use Rattle.std.proofs.lemmas.List.{length-append}
 use Rattle.gc_graph.specs.Graph.{Value, Object, Graph, lookup, field_of, names_of}
 use Rattle.gc_graph.specs.declared.command.Op.{Op}
 use Rattle.gc_plan.specs.State.{Replica, Collection, State, objects_end, new_end, heap_end, replica_at, moved}
-use Rattle.gc_plan.specs.Steps.{log_or_nil, log_at, with_log, mutate, place_replica, with_written, write_replica, copy_value, bring_value, bring_up_to_date, with_collection, if_room, fresh_collection, root_target, copy_root, scan_done, next_field, scan_replica, scan, apply_entry, apply_log, step_in, collect_with, collect, is_change, is_empty, first_log, apply_or_flip, useful_with, useful_step}
-use Rattle.gc_plan.specs.Progress.{entries_in, scans_of, scans_from, work_of, work_with, work_left, entries_with, entries_left, ChangesLower, Advances, Ends}
+use Rattle.gc_plan.specs.Steps.{log_at, with_log, mutate, place_replica, with_written, write_replica, bring_value, bring_up_to_date, with_collection, if_room, fresh_collection, root_target, copy_root, scan_done, scan_replica, scan, apply_entry, apply_log, step_in, collect, is_change, is_empty, first_log, useful_with, useful_step, step_idle, next_field}
+use Rattle.gc_plan.specs.Progress.{entries_in, scans_of, scans_from, work_of, work_left, entries_left, ChangesLower, Advances, Ends}
 use Rattle.gc_plan.specs.Runs.{IsStep}
 use Rattle.gc_plan.specs.Members.{In}
-use Rattle.gc_plan.specs.Belonging.{Laid, IsSpaceGraph, IsDue, IsOpen, IsOpened, IsState}
+use Rattle.gc_plan.specs.Belonging.{Laid, IsSpaceGraph, IsDue, IsOpened, IsState}
 use Rattle.gc_plan.specs.declared.step.Step.{Step}
 use Rattle.gc_plan.specs.declared.step.Step.TheVariants as steps
 use Rattle.gc_plan.specs.declared.step.StepReply.{StepReply}
@@ -106,7 +108,7 @@ weaker_later c next h = let w = h.words in record { logs = h.logs; scan_place = 
 written_later : (c d : Collection) (name i : ℕ) (w : Value) → IsLater 0 c d → IsLater 0 c (write_replica d name i w)
 written_later c d name i w h = grind (arith, common_steps, scans_written, ends_written)
 
-copied_later : (c : Collection) (o : Option Collection) (name i : ℕ) (v : Value) (next : Collection) → ((d : Collection) → o ≡ Some d → IsLater 0 c d) → copy_value o name i v ≡ Some next → IsLater 0 c next
+copied_later : (c : Collection) (o : Option Collection) (name i : ℕ) (v : Value) (next : Collection) → ((d : Collection) → o ≡ Some d → IsLater 0 c d) → option_map (λ (d : Collection). write_replica d name i (moved d v)) o ≡ Some next → IsLater 0 c next
 copied_later c None name i v next f is = absurd cc
 copied_later c (Some d) name i v next f is =
     let e : write_replica d name i (moved d v) ≡ next = cc is in subst (IsLater 0 c) e (written_later c d name i (moved d v) (f d refl))
@@ -123,12 +125,12 @@ entry_later c g entry next is = grind (arith, common_steps, brought_later, same_
 -- ---- entries
 
 -- the oldest entry of a log is one of all
-entries_taken : (logs : List (List (ℕ × ℕ))) (m : ℕ) (entry : ℕ × ℕ) (rest : List (ℕ × ℕ)) → log_or_nil (slice_get logs m) ≡ entry ∷ rest → suc (entries_in (set logs m rest)) ≡ entries_in logs
+entries_taken : (logs : List (List (ℕ × ℕ))) (m : ℕ) (entry : ℕ × ℕ) (rest : List (ℕ × ℕ)) → unwrap_or (slice_get logs m) [] ≡ entry ∷ rest → suc (entries_in (set logs m rest)) ≡ entries_in logs
 entries_taken [] m entry rest e = absurd cc
 entries_taken (log ∷ logs) zero entry rest e = let len : length log ≡ suc (length rest) = ap length e in omega arith
 entries_taken (log ∷ logs) (suc m) entry rest e = let others = entries_taken logs m entry rest e in omega arith
 
-entries_added : (logs : List (List (ℕ × ℕ))) (m : ℕ) (more : List (ℕ × ℕ)) → m < length logs → entries_in (set logs m (log_or_nil (slice_get logs m) ++ more)) ≡ entries_in logs + length more
+entries_added : (logs : List (List (ℕ × ℕ))) (m : ℕ) (more : List (ℕ × ℕ)) → m < length logs → entries_in (set logs m (unwrap_or (slice_get logs m) [] ++ more)) ≡ entries_in logs + length more
 entries_added [] m more less = absurd (omega arith)
 entries_added (log ∷ logs) zero more less = let len = length-append log more in omega arith
 entries_added (log ∷ logs) (suc m) more less = let others = entries_added logs m more (omega arith) in omega arith
@@ -176,7 +178,7 @@ module _ (s : State) (h : IsSpaceGraph s.size s.heap.free s.heap.graph) where
       later_falls c d k (placing_keeps s c d name k none is) (placed_later c name (lookup s.heap.graph.objects name) d is))
 
   scanned_falls : (c : Collection) (r : Replica) (next : Option Collection) (d : Collection) → IsOpened s c → In r c.replicas → r.place ≡ c.scan_place → c.scan_field ≢ length r.object.fields
-      → bring_up_to_date c s.heap.graph r.original c.scan_field ≡ next → next_field next ≡ Some d → work_of s d < work_of s c
+      → bring_up_to_date c s.heap.graph r.original c.scan_field ≡ next → option_map next_field next ≡ Some d → work_of s d < work_of s c
   scanned_falls c r next d k here place more is e = grind (arith, common_steps, brought_later, bringing_keeps, scans_have, same_place, replicas_end, end_low)
 
   one_falls : (c : Collection) (r : Replica) → IsOpened s c → In r c.replicas → r.place ≡ c.scan_place → Falls c (scan_replica s c (Some r))
@@ -200,11 +202,11 @@ module _ (s : State) (h : IsSpaceGraph s.size s.heap.free s.heap.graph) where
   apply_falls : (c : Collection) (m : ℕ) → s.collection ≡ Some c → IsOpened s c → Falls c (apply_log s c m (log_at c m))
   apply_falls c m at k = go (log_at c m) refl
     where
-      kept : IsOpen s (step_in s c (steps.Apply m)).1.collection
+      kept : IfSome (step_in s c (steps.Apply m)).1.collection (IsOpened s)
       kept = open_keeps s c (steps.Apply m) at k (λ e. cc e)
 
       entry_falls : (entry : ℕ × ℕ) (rest : List (ℕ × ℕ)) → log_at c m ≡ entry ∷ rest → (o : Option Collection) → apply_entry (with_log c m rest) s.heap.graph entry ≡ o
-          → IsOpen s (if_room s Applied o).1.collection → Falls c (if_room s Applied o)
+          → IfSome (if_room s Applied o).1.collection (IsOpened s) → Falls c (if_room s Applied o)
       entry_falls entry rest is o e opened = grind (arith, common_steps, applied_falls)
 
       go : (l : List (ℕ × ℕ)) → log_at c m ≡ l → Falls c (apply_log s c m l)
@@ -213,8 +215,8 @@ module _ (s : State) (h : IsSpaceGraph s.size s.heap.free s.heap.graph) where
   begun_falls : (size : ℕ) → work_left (with_collection s (Some (fresh_collection s.mutators size))) < heap_end s + 1
   begun_falls size = grind (arith, common_steps, no_entries, laid_end)
 
-  lowers_with : (o : Option Collection) → s.collection ≡ o → IsOpen s o → (step : Step) → step ≢ steps.Flip → step ≢ steps.Drop
-      → is_change (collect_with s o step).0 ≡ true → work_left (collect_with s o step).1 < work_with s o
+  lowers_with : (o : Option Collection) → s.collection ≡ o → IfSome o (IsOpened s) → (step : Step) → step ≢ steps.Flip → step ≢ steps.Drop
+      → is_change (option_map_or (λ (c : Collection). step_in s c step) o (step_idle s step)).0 ≡ true → work_left (option_map_or (λ (c : Collection). step_in s c step) o (step_idle s step)).1 < option_map_or (work_of s) o (heap_end s + 1)
   lowers_with None at k steps.Begin n d = λ e. begun_falls s.size
   lowers_with None at k (steps.BeginSized size) n d = λ e. begun_falls size
   lowers_with None at k steps.Roots n d = λ e. absurd cc
@@ -230,30 +232,30 @@ module _ (s : State) (h : IsSpaceGraph s.size s.heap.free s.heap.graph) where
   lowers_with (Some c) at k steps.Flip n d = absurd (n refl)
   lowers_with (Some c) at k steps.Drop n d = absurd (d refl)
 
-  pub lowers : IsOpen s s.collection → ChangesLower s
+  pub lowers : IfSome s.collection (IsOpened s) → ChangesLower s
   lowers k step n d = lowers_with s.collection refl k step n d
 
   -- ---- the useful step
 
-  pub advances : IsOpen s s.collection → Advances s
+  pub advances : IfSome s.collection (IsOpened s) → Advances s
   advances k = grind (arith, common_steps, useful_changes, cond_both, lowers)
 
 -- ---- runs of useful steps
 
 -- the useful step's argument is in range
-pub useful_ranges : (s : State) → IsOpen s s.collection → IsStep s.mutators (useful_step s)
+pub useful_ranges : (s : State) → IfSome s.collection (IsOpened s) → IsStep s.mutators (useful_step s)
 useful_ranges s k = go s.collection k
   where
-    log_ranges : (c : Collection) → IsOpened s c → (o : Option ℕ) → first_log 0 c.logs ≡ o → IsStep s.mutators (apply_or_flip o)
+    log_ranges : (c : Collection) → IsOpened s c → (o : Option ℕ) → first_log 0 c.logs ≡ o → IsStep s.mutators (option_map_or steps.Apply o steps.Flip)
     log_ranges c k None e = tt
     log_ranges c k (Some m) e = grind (arith, common_steps, (found_log c.logs 0 m e).1, log_within c.logs (found_log c.logs 0 m e).0 (found_log c.logs 0 m e).2, k.logs)
       where
-        log_within : (logs : List (List (ℕ × ℕ))) (j : ℕ) → is_empty (log_or_nil (slice_get logs j)) ≡ false → j < length logs
+        log_within : (logs : List (List (ℕ × ℕ))) (j : ℕ) → is_empty (unwrap_or (slice_get logs j) []) ≡ false → j < length logs
         log_within [] j e = absurd cc
         log_within (log ∷ logs) zero e = omega arith
         log_within (log ∷ logs) (suc j) e = let others = log_within logs j e in omega arith
 
-    go : (o : Option Collection) → IsOpen s o → IsStep s.mutators (useful_with s o)
+    go : (o : Option Collection) → IfSome o (IsOpened s) → IsStep s.mutators (useful_with s o)
     go o k = grind (arith, common_steps, log_ranges)
 
 some_work : (s : State) → 1 ≤ work_left s
@@ -271,14 +273,14 @@ ends (suc fuel) s low h = ⊎_elim
 pub state_ends : (s : State) → IsState s → Ends s
 state_ends s h = ends (work_left s) s (omega arith) h
 
-pub left_bounded : (s : State) (c : Collection) → IsSpaceGraph s.size s.heap.free s.heap.graph → IsOpen s s.collection → s.collection ≡ Some c → work_left s ≤ (heap_end s - c.scan_place) + entries_in c.logs + 1
-left_bounded s c h k is = subst (λ o. work_with s o ≤ (heap_end s - c.scan_place) + entries_in c.logs + 1) (sym is) (work_bounded s h c (subst (IsOpen s) is k))
+pub left_bounded : (s : State) (c : Collection) → IsSpaceGraph s.size s.heap.free s.heap.graph → IfSome s.collection (IsOpened s) → s.collection ≡ Some c → work_left s ≤ (heap_end s - c.scan_place) + entries_in c.logs + 1
+left_bounded s c h k is = subst (λ o. option_map_or (work_of s) o (heap_end s + 1) ≤ (heap_end s - c.scan_place) + entries_in c.logs + 1) (sym is) (work_bounded s h c (subst (λ (o : Option Collection). IfSome o (IsOpened s)) is k))
 
 -- ---- no step logs an entry
 
 module _ (s : State) (c : Collection) (is : s.collection ≡ Some c) where
   entries_same : entries_left s ≡ entries_in c.logs
-  entries_same = ap entries_with is
+  entries_same = ap (λ (o : Option Collection). option_map_or (λ (c : Collection). entries_in c.logs) o 0) is
 
 pub entries_stay : (s : State) (step : Step) → entries_left (collect s step).1 ≤ entries_left s
 entries_stay s step = grind (arith, common_steps, no_entries, entries_same, placed, placed_later, cond_both, brought_later, entry_later, entries_taken)
@@ -286,6 +288,6 @@ entries_stay s step = grind (arith, common_steps, no_entries, entries_same, plac
 -- ---- commands
 
 -- a command raises the number by the words that it allocates and the entries that it logs
-pub command_raises : (s : State) (m : ℕ) (op : Op) → IsSpaceGraph s.size s.heap.free s.heap.graph → IsOpen s s.collection → m < s.mutators
+pub command_raises : (s : State) (m : ℕ) (op : Op) → IsSpaceGraph s.size s.heap.free s.heap.graph → IfSome s.collection (IsOpened s) → m < s.mutators
     → (let t = (mutate s m op).1 in work_left t + heap_end s + entries_left s ≡ work_left s + heap_end t + entries_left t)
 command_raises s m op h k less = grind (arith, common_steps, cond_both, entries_added, end_low)

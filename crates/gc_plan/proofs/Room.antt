@@ -1,14 +1,16 @@
 -- Each original has one replica of its own size, so the new space has room for all.
 use Rattle.std.proofs.lemmas.Grind.{common_steps}
+use Rattle.std.specs.Prelude.{IfSome}
+use Rattle.std.specs.Option.{option_map}
 use Rattle.std.proofs.Common.{◌≡◌, ◌≢◌, ⊎_elim, ℕ, ◌+◌, ◌-◌, ◌≤◌, ◌==◌, nat_lt, Bool, false, ◌||◌, List, [], ◌∷◌, map, length, Option, Some, None, is_some, slice_get, flat_map, sum_by, refl, ap, sym, ◌∙◌, subst, arith}
 use Rattle.std.proofs.lemmas.Bool.{cases_Bool, cond-true, cond-false, cond_both, le-ltb}
 use Rattle.std.proofs.lemmas.List.Sums.{sum_by-cons}
 use Rattle.gc_graph.specs.Graph.{Value, Nil, Num, Ref, Object, Graph, lookup, field_of, names_of}
-use Rattle.gc_plan.specs.State.{Replica, Collection, State, objects_end, new_free, replica_of}
-use Rattle.gc_plan.specs.Steps.{with_log, place_replica, with_replica, copy_value, bring_value, bring_up_to_date, if_room, root_target, copy_root, next_field, scan_replica, apply_entry, apply_log, collect}
+use Rattle.gc_plan.specs.State.{Replica, Collection, State, objects_end, new_free, replica_of, moved}
+use Rattle.gc_plan.specs.Steps.{with_log, place_replica, with_replica, bring_value, bring_up_to_date, if_room, root_target, copy_root, scan_replica, apply_entry, apply_log, collect, write_replica, next_field}
 use Rattle.gc_plan.specs.Passing.{AlwaysHasRoom}
 use Rattle.gc_plan.specs.Members.{In, Distinct}
-use Rattle.gc_plan.specs.Belonging.{Laid, IsNamed, RefersTo, IsSpaceGraph, IsDue, IsOpen, IsOpened, IsState}
+use Rattle.gc_plan.specs.Belonging.{Laid, IsNamed, RefersTo, IsSpaceGraph, IsDue, IsOpened, IsState}
 use Rattle.gc_plan.specs.declared.step.Step.{Step}
 use Rattle.gc_plan.specs.declared.step.StepReply.{StepReply}
 use Rattle.gc_plan.specs.declared.step.StepReply.TheVariants.{NoRoom, Copied, Scanned, Applied}
@@ -84,7 +86,7 @@ module _ (s : State) (h : IsSpaceGraph s.size s.heap.free s.heap.graph) where
   brought_there : (c : Collection) (Due : Bool → ℕ → ℕ → ℕ → Type 0) (name i : ℕ) → s.size ≤ c.size → AreReplicas s.heap.graph.objects c.size Due c.replicas → bring_up_to_date c s.heap.graph name i ≢ None
   brought_there c Due name i same k = go (lookup s.heap.graph.objects name) refl
     where
-      copied : (v : Value) (d : Option Collection) → d ≢ None → copy_value d name i v ≢ None
+      copied : (v : Value) (d : Option Collection) → d ≢ None → option_map (λ (d : Collection). write_replica d name i (moved d v)) d ≢ None
       copied v d n = grind (arith, common_steps)
 
       value : (o : Object) → lookup s.heap.graph.objects name ≡ Some o → (f : Option Value) → slice_get o.fields i ≡ f → bring_value c s.heap.graph name i f ≢ None
@@ -111,9 +113,9 @@ module _ (s : State) (h : IsSpaceGraph s.size s.heap.free s.heap.graph) where
   scans c k same None = λ x. cc x
   scans c k same (Some r) = cond_both (r.object.raw || (c.scan_field == length r.object.fields)) _ _ (λ (next : StepReply × State). next.0 ≢ NoRoom)
       (λ t. λ x. cc x)
-      (λ t. in_room Scanned (next_field (bring_up_to_date c s.heap.graph r.original c.scan_field)) (next (bring_up_to_date c s.heap.graph r.original c.scan_field) (brought_there c (IsDue c) r.original c.scan_field same (its_replicas (IsDue c) s.heap.graph.objects c k.belongs))) (λ x. cc x))
+      (λ t. in_room Scanned (option_map next_field (bring_up_to_date c s.heap.graph r.original c.scan_field)) (next (bring_up_to_date c s.heap.graph r.original c.scan_field) (brought_there c (IsDue c) r.original c.scan_field same (its_replicas (IsDue c) s.heap.graph.objects c k.belongs))) (λ x. cc x))
     where
-      next : (o : Option Collection) → o ≢ None → next_field o ≢ None
+      next : (o : Option Collection) → o ≢ None → option_map next_field o ≢ None
       next o n = grind (arith, common_steps)
 
   applies : (c : Collection) → IsOpened s c → s.size ≤ c.size → (m : ℕ) (l : List (ℕ × ℕ)) → (apply_log s c m l).0 ≢ NoRoom
@@ -128,4 +130,4 @@ module _ (s : State) (h : IsSpaceGraph s.size s.heap.free s.heap.graph) where
   opened_has_room c k is same step = grind (arith, common_steps, copies, cond_both, scans, applies)
 
 pub has_room : (s : State) → IsState s → AlwaysHasRoom s
-has_room s h c is = opened_has_room s h.heap c (subst (IsOpen s) is h.collection) is
+has_room s h c is = opened_has_room s h.heap c (subst (λ (o : Option Collection). IfSome o (IsOpened s)) is h.collection) is

@@ -1,6 +1,8 @@
 -- The public laws, for one state and for every run.
 use Rattle.std.proofs.lemmas.Grind.{common_steps}
-use Rattle.std.proofs.Common.{◌≡◌, ◌≢◌, ◌⊎◌, inl, inr, ⊎_elim, ℕ, ◌+◌, ◌-◌, ◌*◌, ◌<◌, ◌≤◌, true, false, nat_lt, List, [], ◌∷◌, ◌++◌, length, Some, ◌↔◌, refl, ap, sym, ◌∙◌, subst, arith}
+use Rattle.std.specs.Prelude.{IfSome}
+use Rattle.std.specs.Option.{option_map_or}
+use Rattle.std.proofs.Common.{◌≡◌, ◌≢◌, ◌⊎◌, inl, inr, ⊎_elim, ℕ, ◌+◌, ◌-◌, ◌*◌, ◌<◌, ◌≤◌, true, false, nat_lt, List, [], ◌∷◌, ◌++◌, length, Some, ◌↔◌, refl, ap, sym, ◌∙◌, subst, arith, Option}
 use Rattle.std.proofs.lemmas.Bool.{cond-true, cond_both, eqb-false, ltb-false}
 use Rattle.std.proofs.lemmas.List.{length-map}
 use Rattle.gc_graph.specs.Graph.{Object, Graph}
@@ -12,9 +14,9 @@ use Rattle.gc_plan.specs.Linked.{linked_image}
 use Rattle.gc_plan.specs.Passing.{HasImage, PassesWhereReady, NeverRefused, ScansToTheEnd, HasFewPairs}
 use Rattle.gc_plan.specs.Runs.{InEveryRun, state_after}
 use Rattle.gc_plan.specs.State.{opening_state, Replica, Collection, State, new_end, replica_at}
-use Rattle.gc_plan.specs.Steps.{collect, written, log_at, with_log, scan_done, scan, scan_replica, collect_with}
+use Rattle.gc_plan.specs.Steps.{collect, written, log_at, with_log, scan_done, scan, scan_replica, step_in, step_idle}
 use Rattle.gc_plan.specs.Members.{In}
-use Rattle.gc_plan.specs.Belonging.{Laid, IsSpaceGraph, HasField, Belongs, BelongsBut, IsDue, IsOpen, IsOpened, IsState}
+use Rattle.gc_plan.specs.Belonging.{Laid, IsSpaceGraph, HasField, Belongs, BelongsBut, IsDue, IsOpened, IsState}
 use Rattle.gc_graph.specs.declared.command.Op.{Op}
 use Rattle.gc_graph.specs.declared.reply.Reply.{Reply}
 use Rattle.gc_graph.specs.declared.reply.Reply.TheVariants.{Full}
@@ -52,11 +54,11 @@ scan_unclean : (s : State) (c : Collection) (r : Replica) → (scan_replica s c 
 scan_unclean s c r = grind (arith, common_steps, cond_both)
 
 pub scans_to_the_end : (s : State) → IsState s → ScansToTheEnd s
-scans_to_the_end s h c is = subst (λ o. ((collect_with s o steps.Scan).0 ≡ Clean) ↔ (scan_done c ≡ true)) (sym is)
+scans_to_the_end s h c is = subst (λ o. ((option_map_or (λ (c : Collection). step_in s c steps.Scan) o (step_idle s steps.Scan)).0 ≡ Clean) ↔ (scan_done c ≡ true)) (sym is)
     (forth, (λ d. ap (λ (next : StepReply × State). next.0) (cond-true (scan_done c) (Clean, s) (scan_replica s c (replica_at c c.scan_place)) d)))
   where
     k : IsOpened s c
-    k = subst (IsOpen s) is h.collection
+    k = subst (λ (o : Option Collection). IfSome o (IsOpened s)) is h.collection
 
     before : scan_done c ≡ false → (scan_replica s c (replica_at c c.scan_place)).0 ≢ Clean
     before f = ⊎_elim
@@ -112,5 +114,5 @@ notes objects c m a i within there h =
 
 -- ---- the steps of an open collection
 
-pub step_kept : (s : State) (c : Collection) (step : Step) → s.collection ≡ Some c → IsOpened s c → step ≢ steps.Flip → IsOpen s (collect s step).1.collection
-step_kept s c step is k n = subst (λ o. IsOpen s (collect_with s o step).1.collection) (sym is) (open_keeps s c step is k n)
+pub step_kept : (s : State) (c : Collection) (step : Step) → s.collection ≡ Some c → IsOpened s c → step ≢ steps.Flip → IfSome (collect s step).1.collection (IsOpened s)
+step_kept s c step is k n = subst (λ o. IfSome (option_map_or (λ (c : Collection). step_in s c step) o (step_idle s step)).1.collection (IsOpened s)) (sym is) (open_keeps s c step is k n)

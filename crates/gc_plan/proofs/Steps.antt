@@ -1,7 +1,9 @@
 -- Each event keeps the heap well formed and the collection belonging to it.
 use Rattle.std.proofs.lemmas.Grind.{common_steps}
+use Rattle.std.specs.Prelude.{is_none, IfSome}
+use Rattle.std.specs.Option.{option_map, option_map_or, unwrap_or}
 use Rattle.std.proofs.Common.{◌≡◌, ◌≢◌, ◌⊎◌, inl, inr, ⊎_elim, ℕ, zero, suc, ◌+◌, ◌-◌, ◌<◌, ◌≤◌, ◌==◌, nat_lt, Bool, true, false, cond, ◌||◌, List, [], ◌∷◌, ◌++◌, map, length, set, replicate, Option, Some, None, is_some, slice_get, flat_map, refl, ap, sym, ◌∙◌, subst, arith, length-set}
-use Rattle.std.specs.List.{list_all}
+use Rattle.std.specs.List.{list_all, find}
 use Rattle.std.proofs.lemmas.Bool.{cases_eq, cond_both, eqb-true, eqb-false, ltb-false, and_parts, or_cases, or_parts, not-true}
 use Rattle.std.proofs.lemmas.List.{length-replicate, length-map, map-append}
 use Rattle.gc_graph.specs.Graph.{Value, Nil, Num, Ref, Object, Graph, lookup, field_of, names_of}
@@ -10,10 +12,10 @@ use Rattle.gc_graph.specs.Range.{IsCommand}
 use Rattle.gc_plan.specs.Runs.{HasRange}
 use Rattle.gc_graph.specs.Correspond.{correspond}
 use Rattle.gc_plan.specs.State.{Replica, Collection, State, heap_end, new_end, new_free, replica_of, replica_at, pairs_of, moved, new_graph}
-use Rattle.gc_plan.specs.Steps.{written, log_or_nil, log_at, with_log, logged, mutate, fresh_replica, place_replica, with_replica, with_written, write_replica, copy_value, bring_value, bring_up_to_date, with_collection, if_room, fresh_collection, first_unreplicated, root_target, copy_root, scan, next_object, next_field, scan_replica, apply_entry, is_empty, roots_done, scan_done, is_ready, passes_check, flip, step_in, collect_with, collect}
+use Rattle.gc_plan.specs.Steps.{written, log_at, with_log, logged, mutate, fresh_replica, place_replica, with_replica, with_written, write_replica, bring_value, bring_up_to_date, with_collection, if_room, fresh_collection, root_target, copy_root, scan, next_object, scan_replica, apply_entry, is_empty, roots_done, scan_done, is_ready, passes_check, flip, step_in, collect, step_idle, next_field}
 use Rattle.gc_plan.specs.Runs.{IsStep}
 use Rattle.gc_plan.specs.Members.{In}
-use Rattle.gc_plan.specs.Belonging.{Laid, IsNamed, RefersTo, IsObject, IsSpaceGraph, IsSmall, HasSmallNumbers, HasRawNumbers, IsUnscanned, IsLogged, IsDue, IsScanPlace, HasField, IsOpened, BelongsBy, Belongs, BelongsBut, IsOpen, IsState}
+use Rattle.gc_plan.specs.Belonging.{Laid, IsNamed, RefersTo, IsObject, IsSpaceGraph, IsSmall, HasSmallNumbers, HasRawNumbers, IsUnscanned, IsLogged, IsDue, IsScanPlace, HasField, IsOpened, BelongsBy, Belongs, BelongsBut, IsState}
 use Rattle.gc_graph.specs.declared.command.Op.{Op}
 use Rattle.gc_graph.specs.declared.reply.Reply.{Reply}
 use Rattle.gc_graph.specs.declared.reply.Reply.TheVariants.{Full}
@@ -133,7 +135,7 @@ pub bringing : (g : Graph) (c : Collection) (Due Due' : Bool → ℕ → ℕ →
     → Grown g.objects c Due' next
 bringing g c Due Due' name i next numbers h due less is = go (field_of (lookup g.objects name) i) refl is
   where
-    copied : (v : Value) (o : Object) → lookup g.objects name ≡ Some o → slice_get o.fields i ≡ Some v → (d : Option Collection) → with_replica c g v ≡ d → copy_value d name i v ≡ Some next → Grown g.objects c Due' next
+    copied : (v : Value) (o : Object) → lookup g.objects name ≡ Some o → slice_get o.fields i ≡ Some v → (d : Option Collection) → with_replica c g v ≡ d → option_map (λ (d : Collection). write_replica d name i (moved d v)) d ≡ Some next → Grown g.objects c Due' next
     copied v o found at None r k = absurd cc
     copied v o found at (Some c1) r k =
         let one = replicating g c Due v c1 numbers h due r in
@@ -174,30 +176,30 @@ grown_open s c next same count scan entries numbers h = record {
   belongs = belongs_from (IsDue next) s.heap.graph.objects next
       (replicas_due s.heap.graph.objects next.size (IsDue c) (IsDue next) next.replicas h.replicas (λ r k i w d. due_same c next r.object.raw r.place r.original i h.logs h.scan_place h.scan_field d))
       (subst (λ p. IsScanPlace p next.scan_field next) (sym h.scan_place) (subst (λ f. IsScanPlace c.scan_place f next) (sym h.scan_field) (h.scan c.scan_place c.scan_field scan)))
-      (λ a i d. entries a i (d.0, subst (λ (l : List (List (ℕ × ℕ))). In {X = ℕ × ℕ} (a, i) (log_or_nil (slice_get l d.0))) h.logs d.1)) numbers;
+      (λ a i d. entries a i (d.0, subst (λ (l : List (List (ℕ × ℕ))). In {X = ℕ × ℕ} (a, i) (unwrap_or (slice_get l d.0) [])) h.logs d.1)) numbers;
   size = subst (λ n. n ≤ 4294967295) (sym h.size) same;
   logs = ap length h.logs ∙ count;
 }
 
 -- the state stays well formed with another collection that belongs to it
-still_state : (s : State) (o : Option Collection) → IsState s → IsOpen s o → IsState (with_collection s o)
+still_state : (s : State) (o : Option Collection) → IsState s → IfSome o (IsOpened s) → IsState (with_collection s o)
 still_state s o h k = grind (arith, common_steps)
 
-room_keeps : (s : State) (reply : StepReply) (o : Option Collection) → IsOpen s s.collection → ((c : Collection) → o ≡ Some c → IsOpened s c) → IsOpen s (if_room s reply o).1.collection
+room_keeps : (s : State) (reply : StepReply) (o : Option Collection) → IfSome s.collection (IsOpened s) → ((c : Collection) → o ≡ Some c → IsOpened s c) → IfSome (if_room s reply o).1.collection (IsOpened s)
 room_keeps s reply o h f = grind (arith, common_steps)
 
-pub unreplicated_some : (c : Collection) (names : List ℕ) (name : ℕ) → first_unreplicated c names ≡ Some name → (replica_of c name ≡ None) × In name names
+pub unreplicated_some : (c : Collection) (names : List ℕ) (name : ℕ) → find (λ (name : ℕ). is_none (replica_of c name)) names ≡ Some name → (replica_of c name ≡ None) × In name names
 unreplicated_some c [] name h = absurd cc
 unreplicated_some c (n ∷ names) name h = grind (arith, common_steps, none_of, unreplicated_some c names name)
 
-pub unreplicated_none : (c : Collection) (names : List ℕ) (name : ℕ) → first_unreplicated c names ≡ None → In name names → (r : Replica) × (replica_of c name ≡ Some r)
+pub unreplicated_none : (c : Collection) (names : List ℕ) (name : ℕ) → find (λ (name : ℕ). is_none (replica_of c name)) names ≡ None → In name names → (r : Replica) × (replica_of c name ≡ Some r)
 unreplicated_none c [] name h k = absurd k
 unreplicated_none c (n ∷ names) name h k = grind (arith, common_steps, some_of, unreplicated_none c names name)
 
-roots_keep : (s : State) (c : Collection) → IsOpen s s.collection → IsOpened s c → IsOpen s (copy_root s c (root_target c s.heap.graph)).1.collection
+roots_keep : (s : State) (c : Collection) → IfSome s.collection (IsOpened s) → IsOpened s c → IfSome (copy_root s c (root_target c s.heap.graph)).1.collection (IsOpened s)
 roots_keep s c h k = go (root_target c s.heap.graph) refl
   where
-    go : (t : Option ℕ) → root_target c s.heap.graph ≡ t → IsOpen s (copy_root s c t).1.collection
+    go : (t : Option ℕ) → root_target c s.heap.graph ≡ t → IfSome (copy_root s c t).1.collection (IsOpened s)
     go None e = h
     go (Some name) e = room_keeps s Copied (place_replica c name (lookup s.heap.graph.objects name)) h (λ d is.
         grown_open s c d k.size k.logs (k.belongs).scan (k.belongs).entries (k.belongs).numbers
@@ -252,13 +254,13 @@ but_less : (Due : Bool → ℕ → ℕ → ℕ → Type 0) (name i : ℕ) (raw :
 but_less Due name i raw p a j d = grind (arith, common_steps, cases_eq)
 
 scanned_open : (s : State) (c : Collection) (r : Replica) (next : Option Collection) (d : Collection) → IsOpened s c → In r c.replicas → r.place ≡ c.scan_place → c.scan_field ≢ length r.object.fields
-    → bring_up_to_date c s.heap.graph r.original c.scan_field ≡ next → next_field next ≡ Some d → IsOpened s d
+    → bring_up_to_date c s.heap.graph r.original c.scan_field ≡ next → option_map next_field next ≡ Some d → IsOpened s d
 scanned_open s c r None d k here place more is e = absurd cc
 scanned_open s c r (Some n) d k here place more is e = subst (IsOpened s) same (record {
   belongs = belongs_from (IsDue n') objects n'
       (replicas_due objects n.size (But (IsDue c) r.original c.scan_field) (IsDue n') n.replicas grown.replicas less)
       (subst (λ p. IsScanPlace p (suc n.scan_field) n) (sym grown.scan_place) (subst (λ f. IsScanPlace c.scan_place (suc f) n) (sym grown.scan_field) (grown.scan c.scan_place (suc c.scan_field) here_next)))
-      (λ a i x. (k.belongs).entries a i (x.0, subst (λ (l : List (List (ℕ × ℕ))). In {X = ℕ × ℕ} (a, i) (log_or_nil (slice_get l x.0))) grown.logs x.1)) (k.belongs).numbers;
+      (λ a i x. (k.belongs).entries a i (x.0, subst (λ (l : List (List (ℕ × ℕ))). In {X = ℕ × ℕ} (a, i) (unwrap_or (slice_get l x.0) [])) grown.logs x.1)) (k.belongs).numbers;
   size = subst (λ n. n ≤ 4294967295) (sym grown.size) k.size;
   logs = ap length grown.logs ∙ k.logs;
 })
@@ -294,27 +296,27 @@ scanned_open s c r (Some n) d k here place more is e = subst (IsOpened s) same (
         (λ z. absurd (not (original_at q l (omega arith), sym z)))
         (λ z. inl (b, inr ((omega arith), (omega arith))))
         (cases_eq c.scan_field i)
-    less q l i within (inr g, not) = inr (g.0, subst (λ (z : List (List (ℕ × ℕ))). In {X = ℕ × ℕ} (q.original, i) (log_or_nil (slice_get z g.0))) (sym grown.logs) g.1)
+    less q l i within (inr g, not) = inr (g.0, subst (λ (z : List (List (ℕ × ℕ))). In {X = ℕ × ℕ} (q.original, i) (unwrap_or (slice_get z g.0) [])) (sym grown.logs) g.1)
 
-scan_keeps : (s : State) (c : Collection) → IsOpen s s.collection → IsOpened s c → IsOpen s (scan s c).1.collection
-scan_keeps s c h k = cond_both (scan_done c) _ _ (λ (next : StepReply × State). IsOpen s next.1.collection) (λ t. h) (λ t. go (replica_at c c.scan_place) refl)
+scan_keeps : (s : State) (c : Collection) → IfSome s.collection (IsOpened s) → IsOpened s c → IfSome (scan s c).1.collection (IsOpened s)
+scan_keeps s c h k = cond_both (scan_done c) _ _ (λ (next : StepReply × State). IfSome next.1.collection (IsOpened s)) (λ t. h) (λ t. go (replica_at c c.scan_place) refl)
   where
-    go : (t : Option Replica) → replica_at c c.scan_place ≡ t → IsOpen s (scan_replica s c t).1.collection
+    go : (t : Option Replica) → replica_at c c.scan_place ≡ t → IfSome (scan_replica s c t).1.collection (IsOpened s)
     go None e = h
     go (Some r) e =
         let f = find_some (λ (q : Replica). q.place == c.scan_place) c.replicas r e in
         let place = eqb-true r.place c.scan_place f.1 in
-        cond_both (r.object.raw || (c.scan_field == length r.object.fields)) _ _ (λ (next : StepReply × State). IsOpen s next.1.collection)
+        cond_both (r.object.raw || (c.scan_field == length r.object.fields)) _ _ (λ (next : StepReply × State). IfSome next.1.collection (IsOpened s))
         (λ t. passed_open s c r k f.0 place (⊎_elim (λ x. inl x) (λ x. inr (eqb-true c.scan_field (length r.object.fields) x)) (or_cases r.object.raw (c.scan_field == length r.object.fields) t)))
-        (λ t. room_keeps s Scanned (next_field (bring_up_to_date c s.heap.graph r.original c.scan_field)) h (λ d is. scanned_open s c r (bring_up_to_date c s.heap.graph r.original c.scan_field) d k f.0 place (eqb-false c.scan_field (length r.object.fields) (or_parts r.object.raw (c.scan_field == length r.object.fields) t).1) refl is))
+        (λ t. room_keeps s Scanned (option_map next_field (bring_up_to_date c s.heap.graph r.original c.scan_field)) h (λ d is. scanned_open s c r (bring_up_to_date c s.heap.graph r.original c.scan_field) d k f.0 place (eqb-false c.scan_field (length r.object.fields) (or_parts r.object.raw (c.scan_field == length r.object.fields) t).1) refl is))
 
 -- an entry of the logs is the one taken out, or still in a log
-entry_out : (logs : List (List (ℕ × ℕ))) (m : ℕ) (entry : ℕ × ℕ) (rest : List (ℕ × ℕ)) (a j k : ℕ) → log_or_nil (slice_get logs m) ≡ entry ∷ rest → In {X = ℕ × ℕ} (a, j) (log_or_nil (slice_get logs k))
-    → ((a ≡ entry.0) × (j ≡ entry.1)) ⊎ In {X = ℕ × ℕ} (a, j) (log_or_nil (slice_get (set logs m rest) k))
+entry_out : (logs : List (List (ℕ × ℕ))) (m : ℕ) (entry : ℕ × ℕ) (rest : List (ℕ × ℕ)) (a j k : ℕ) → unwrap_or (slice_get logs m) [] ≡ entry ∷ rest → In {X = ℕ × ℕ} (a, j) (unwrap_or (slice_get logs k) [])
+    → ((a ≡ entry.0) × (j ≡ entry.1)) ⊎ In {X = ℕ × ℕ} (a, j) (unwrap_or (slice_get (set logs m rest) k) [])
 entry_out logs m entry rest a j k is d = grind (arith, common_steps, get_set_same, get_set_other, cases_eq, get_past)
 
 -- every entry that is left was there before
-entry_was : (logs : List (List (ℕ × ℕ))) (m : ℕ) (entry : ℕ × ℕ) (rest : List (ℕ × ℕ)) (p : ℕ × ℕ) (k : ℕ) → log_or_nil (slice_get logs m) ≡ entry ∷ rest → In p (log_or_nil (slice_get (set logs m rest) k)) → In p (log_or_nil (slice_get logs k))
+entry_was : (logs : List (List (ℕ × ℕ))) (m : ℕ) (entry : ℕ × ℕ) (rest : List (ℕ × ℕ)) (p : ℕ × ℕ) (k : ℕ) → unwrap_or (slice_get logs m) [] ≡ entry ∷ rest → In p (unwrap_or (slice_get (set logs m rest) k) []) → In p (unwrap_or (slice_get logs k) [])
 entry_was logs m entry rest p k is d = grind (arith, common_steps, get_set_same, get_set_other, cases_eq, get_past)
 
 applied_open : (s : State) (c : Collection) (m : ℕ) (entry : ℕ × ℕ) (rest : List (ℕ × ℕ)) (d : Collection) → IsOpened s c → log_at c m ≡ entry ∷ rest
@@ -358,7 +360,7 @@ place_named c b h =
     let r = in_map_from pair (h.0, b) c.replicas h.1 in
     (r.0.object, subst (λ n. In {X = ℕ × Object} (n, r.0.object) (map placed c.replicas)) (ap (λ (p : ℕ × ℕ). p.1) r.2) (in_map placed r.0 c.replicas r.1))
 
-empty_log : (logs : List (List (ℕ × ℕ))) → list_all is_empty logs ≡ true → (k : ℕ) → log_or_nil (slice_get logs k) ≡ []
+empty_log : (logs : List (List (ℕ × ℕ))) → list_all is_empty logs ≡ true → (k : ℕ) → unwrap_or (slice_get logs k) [] ≡ []
 empty_log [] h k = refl
 empty_log ([] ∷ logs) h zero = refl
 empty_log ([] ∷ logs) h (suc k) = empty_log logs h k
@@ -453,7 +455,7 @@ flip_keeps s c h k =
 
 -- ---- all events
 
-logged_none : (m a i k : ℕ) → In {X = ℕ × ℕ} (a, i) (log_or_nil (slice_get (replicate m []) k)) → ⊥
+logged_none : (m a i k : ℕ) → In {X = ℕ × ℕ} (a, i) (unwrap_or (slice_get (replicate m []) k) []) → ⊥
 logged_none zero a i k x = x
 logged_none (suc m) a i zero x = x
 logged_none (suc m) a i (suc k) x = logged_none m a i k x
@@ -465,7 +467,7 @@ fresh_open : (s : State) (size : ℕ) → HasRawNumbers s.heap.graph.objects →
 fresh_open s size numbers low high = record { belongs = begun_belongs s.heap.graph.objects s.mutators size numbers low; size = high; logs = length-replicate s.mutators [] }
 
 -- a step of an open collection keeps it belonging to the heap
-pub open_keeps : (s : State) (c : Collection) (step : Step) → s.collection ≡ Some c → IsOpened s c → step ≢ steps.Flip → IsOpen s (step_in s c step).1.collection
+pub open_keeps : (s : State) (c : Collection) (step : Step) → s.collection ≡ Some c → IsOpened s c → step ≢ steps.Flip → IfSome (step_in s c step).1.collection (IsOpened s)
 open_keeps s c step is k other = grind (arith, common_steps, roots_keep, scan_keeps, room_keeps, applied_open)
 
 -- a step other than a flip changes only the collection
@@ -479,9 +481,9 @@ pub collect_keeps : (s : State) (step : Step) → IsState s → IsStep s.mutator
 collect_keeps s step h range = go s.collection refl step range h.collection
   where
     quiet : (c : Collection) (step : Step) → s.collection ≡ Some c → IsOpened s c → step ≢ steps.Flip → IsState (step_in s c step).1
-    quiet c step is k n = grind (arith, common_steps, still_state, open_keeps, subst (λ o. Stays s (collect_with s o step)) is (steps_stay s step n))
+    quiet c step is k n = grind (arith, common_steps, still_state, open_keeps, subst (λ o. Stays s (option_map_or (λ (c : Collection). step_in s c step) o (step_idle s step))) is (steps_stay s step n))
 
-    go : (o : Option Collection) → s.collection ≡ o → (step : Step) → IsStep s.mutators step → IsOpen s o → IsState (collect_with s o step).1
+    go : (o : Option Collection) → s.collection ≡ o → (step : Step) → IsStep s.mutators step → IfSome o (IsOpened s) → IsState (option_map_or (λ (c : Collection). step_in s c step) o (step_idle s step)).1
     go None is steps.Begin range k = still_state s (Some (fresh_collection s.mutators s.size)) h (fresh_open s s.size (h.heap).numbers (let x = (h.heap).room in omega arith) (h.heap).high)
     go None is (steps.BeginSized size) range k = still_state s (Some (fresh_collection s.mutators size)) h (fresh_open s size (h.heap).numbers range.0 range.1)
     go None is steps.Roots range k = h
@@ -518,13 +520,13 @@ belongs_noted objects c m entries within h there = belongs_from (IsDue c') objec
     c' = with_log c m (log_at c m ++ entries)
 
     at_m : (p : ℕ × ℕ) → In p (log_at c m ++ entries) → In p (log_at c' m)
-    at_m p x = subst (λ o. In p (log_or_nil o)) (sym (get_set_same c.logs m (log_at c m ++ entries) within)) x
+    at_m p x = subst (λ o. In p (unwrap_or o [])) (sym (get_set_same c.logs m (log_at c m ++ entries) within)) x
 
     weaker : (raw : Bool) (p a i : ℕ) → IsDue c raw p a i ⊎ In {X = ℕ × ℕ} (a, i) entries → IsDue c' raw p a i
     weaker raw p a i (inl (inl u)) = inl u
     weaker raw p a i (inl (inr d)) = inr (⊎_elim
         (λ e. (m, at_m (a, i) (in_left (a, i) (log_at c m) entries (subst (λ n. In {X = ℕ × ℕ} (a, i) (log_at c n)) e d.1))))
-        (λ n. (d.0, subst (λ o. In {X = ℕ × ℕ} (a, i) (log_or_nil o)) (sym (get_set_other c.logs m d.0 (log_at c m ++ entries) n)) d.1))
+        (λ n. (d.0, subst (λ o. In {X = ℕ × ℕ} (a, i) (unwrap_or o [])) (sym (get_set_other c.logs m d.0 (log_at c m ++ entries) n)) d.1))
         (cases_eq d.0 m))
     weaker raw p a i (inr x) = inr (m, at_m (a, i) (in_right (a, i) (log_at c m) entries x))
 
@@ -532,8 +534,8 @@ belongs_noted objects c m entries within h there = belongs_from (IsDue c') objec
     logged_was a i k x = grind (arith, common_steps, in_cases, get_set_same, get_set_other)
 
 -- the fields that a command wrote are logged
-logged_open : (s t : State) (o : Option Collection) (m : ℕ) (entries : List (ℕ × ℕ)) → t.size ≡ s.size → t.mutators ≡ s.mutators → m < s.mutators → IsOpen s o → HasRawNumbers t.heap.graph.objects → Evolves s.heap.graph.objects t.heap.graph.objects (λ a j. In {X = ℕ × ℕ} (a, j) entries)
-    → ((a j : ℕ) → In {X = ℕ × ℕ} (a, j) entries → HasField s.heap.graph.objects a j) → IsOpen t (logged o m entries)
+logged_open : (s t : State) (o : Option Collection) (m : ℕ) (entries : List (ℕ × ℕ)) → t.size ≡ s.size → t.mutators ≡ s.mutators → m < s.mutators → IfSome o (IsOpened s) → HasRawNumbers t.heap.graph.objects → Evolves s.heap.graph.objects t.heap.graph.objects (λ a j. In {X = ℕ × ℕ} (a, j) entries)
+    → ((a j : ℕ) → In {X = ℕ × ℕ} (a, j) entries → HasField s.heap.graph.objects a j) → IfSome (logged o m entries) (IsOpened t)
 logged_open s t None m entries size count l k numbers evolves there = tt
 logged_open s t (Some c) m entries size count l k numbers evolves there = record {
   belongs = belongs_noted t.heap.graph.objects c m entries (let e = k.logs in omega arith) (belongs_but s.heap.graph.objects t.heap.graph.objects c (λ a j. In {X = ℕ × ℕ} (a, j) entries) k.belongs evolves numbers)

@@ -1,8 +1,8 @@
 -- Heaps whose names are addresses, and when a collection belongs to a heap.
-use Rattle.std.specs.Prelude.{◌≡◌, ◌⊎◌, ℕ, Bool, true, false, ◌-◌, ◌<◌, ◌≤◌, ◌^◌, List, [], ◌∷◌, length, map, Option, Some, None, slice_get, IsTrue, ⊤}
+use Rattle.std.specs.Prelude.{◌≡◌, ◌⊎◌, ℕ, Bool, true, false, ◌-◌, ◌<◌, ◌≤◌, ◌^◌, List, [], ◌∷◌, length, map, Some, slice_get, IsTrue, ⊤, IfSome}
 use Rattle.gc_graph.specs.Limits.{largest_space, kinds, lengths}
 use Rattle.gc_graph.specs.Slots.{roots_of}
-use Rattle.gc_graph.specs.Graph.{Value, Nil, Num, Ref, Object, Graph, lookup}
+use Rattle.gc_graph.specs.Graph.{Value, Num, Ref, Object, Graph, lookup}
 use Rattle.gc_graph.specs.Machine.{is_number}
 use Rattle.gc_graph.specs.Correspond.{correspond}
 use Rattle.gc_words.specs.Layout.{next_place}
@@ -23,9 +23,8 @@ IsNamed objects name = (o : Object) × In (name, o) objects
 
 -- nil, a number, or a reference to a name that satisfies P
 abbrev pub RefersTo : (ℕ → Type 0) → Value → Type 0
-RefersTo P Nil = ⊤
-RefersTo P (Num n) = ⊤
 RefersTo P (Ref name) = P name
+RefersTo P v = ⊤
 
 pub record IsObject (objects : List (ℕ × Object)) (o : Object) : Type 0 where
   pub kind : o.kind < kinds
@@ -47,9 +46,8 @@ pub record IsSpaceGraph (size free : ℕ) (g : Graph) : Type 0 where
 
 -- if the value is a number, it is below 2^63
 abbrev pub IsSmall : Value → Type 0
-IsSmall Nil = ⊤
 IsSmall (Num n) = n < 2 ^ 63
-IsSmall (Ref name) = ⊤
+IsSmall v = ⊤
 
 pub record HasSmallNumbers (g : Graph) : Type 0 where
   pub fields : (a : ℕ) (o : Object) → In (a, o) g.objects → (v : Value) → In v o.fields → IsSmall v
@@ -114,13 +112,9 @@ pub record IsOpened (s : State) (c : Collection) : Type 0 where
   pub size : c.size ≤ largest_space
   pub logs : length c.logs ≡ s.mutators
 
-abbrev pub IsOpen : State → Option Collection → Type 0
-IsOpen s None = ⊤
-IsOpen s (Some c) = IsOpened s c
-
 -- the heap is sound, each mutator has its slots, which extra roots may follow, and the open collection belongs to the heap
 pub record IsState (s : State) : Type 0 where
   pub heap : IsSpaceGraph s.size s.heap.free s.heap.graph
   pub numbers : HasSmallNumbers s.heap.graph
   pub roots : roots_of s.mutators ≤ length s.heap.graph.roots
-  pub collection : IsOpen s s.collection
+  pub collection : IfSome s.collection (IsOpened s)

@@ -1,5 +1,5 @@
 -- What a collection can copy: objects that were reachable when it began, and objects allocated since.
-use Rattle.std.specs.Prelude.{◌⊎◌, ℕ, ◌≤◌, Bool, true, false, if◌then◌else◌, List, [], ◌∷◌, Option, Some, None, ⊤}
+use Rattle.std.specs.Prelude.{◌⊎◌, ℕ, ◌≤◌, Bool, true, false, if◌then◌else◌, List, [], ◌∷◌, Option, Some, IfSome}
 use Rattle.std.specs.List.{All}
 use Rattle.gc_graph.specs.Limits.{largest_space}
 use Rattle.gc_graph.specs.Graph.{Value, Object, Graph, Reachable}
@@ -31,8 +31,7 @@ abbrev pub IsLiveSince : State → ℕ → Type 0
 IsLiveSince base name = Reachable base.heap.graph name ⊎ (heap_end base ≤ name)
 
 abbrev pub OnlyKeptIsPaired : State → Option Collection → Type 0
-OnlyKeptIsPaired base None = ⊤
-OnlyKeptIsPaired base (Some c) = All (λ p. IsLiveSince base p.0) (pairs_of c)
+OnlyKeptIsPaired base collection = IfSome collection (λ c. All (λ p. IsLiveSince base p.0) (pairs_of c))
 
 -- in every run, each original of an open collection was reachable when the collection began, or was allocated since
 abbrev pub CarriesOnlyKept : Type 0
@@ -45,8 +44,7 @@ pub record LeadsOnlyTo (P : ℕ → Type 0) (g : Graph) : Type 0 where
   pub fields : (a : ℕ) (o : Object) → In (a, o) g.objects → P a → (v : Value) → In v o.fields → RefersTo P v
 
 abbrev pub OnlyKeptIsNamed : State → Graph → Option Collection → Type 0
-OnlyKeptIsNamed base g None = ⊤
-OnlyKeptIsNamed base g (Some c) = LeadsOnlyTo (IsLiveSince base) g × OnlyKeptIsPaired base (Some c)
+OnlyKeptIsNamed base g collection = IfSome collection (λ c. LeadsOnlyTo (IsLiveSince base) g × OnlyKeptIsPaired base (Some c))
 
 -- Call an object live if it was reachable when the open collection began, or was allocated since. In every run, each original
 -- is live, and roots and fields of live objects refer only to live objects.

@@ -1,5 +1,6 @@
 -- The image of a graph whose names are addresses, with links. What the collector and the mutators do is defined without links.
-use Rattle.std.specs.Prelude.{◌≡◌, ℕ, ◌%◌, ◌^◌, if◌then◌else◌, List, length, map, Option, Some, None, IfSome}
+use Rattle.std.specs.Prelude.{◌≡◌, ℕ, ◌%◌, ◌^◌, if◌then◌else◌, List, length, map, Option, Some, IfSome}
+use Rattle.std.specs.Option.{option_map_or}
 use Rattle.gc_graph.specs.Graph.{Value, Num, Object, Graph}
 use Rattle.gc_words.specs.Word.{word_of}
 use Rattle.gc_words.specs.Image.{Block, Image}
@@ -40,21 +41,13 @@ image_of_graph size g = linked_image no_links size g
 
 -- ---- the links of a collection
 
-abbrev pub place_or_zero : Option Replica → ℕ
-place_or_zero None = 0
-place_or_zero (Some r) = r.place
-
-abbrev pub original_or_zero : Option Replica → ℕ
-original_or_zero None = 0
-original_or_zero (Some r) = r.original
-
 -- in the old space an original's link is its replica's address
 abbrev pub old_links : Collection → ℕ → ℕ
-old_links c a = place_or_zero (replica_of c a)
+old_links c a = option_map_or (λ r. r.place) (replica_of c a) 0
 
 -- in the new space a replica's link is its original's address
 abbrev pub new_links : Collection → ℕ → ℕ
-new_links c b = original_or_zero (replica_at c b)
+new_links c b = option_map_or (λ r. r.original) (replica_at c b) 0
 
 -- The low 32 bits of an original's link are its replica's address. The other bits, and the links of other objects, may have any value.
 abbrev pub LeadsTo : (ℕ → ℕ) → Collection → Type 0

@@ -1,5 +1,6 @@
 -- What an open collection has left to do, as a number of steps.
-use Rattle.std.specs.Prelude.{◌≡◌, ◌≢◌, ◌⊎◌, ℕ, zero, suc, ◌+◌, ◌-◌, ◌<◌, nat_lt, if◌then◌else◌, List, [], ◌∷◌, length, Option, Some, None, IsTrue}
+use Rattle.std.specs.Prelude.{◌≡◌, ◌≢◌, ◌⊎◌, ℕ, zero, suc, ◌+◌, ◌-◌, ◌<◌, nat_lt, if◌then◌else◌, List, [], ◌∷◌, length, IsTrue}
+use Rattle.std.specs.Option.{option_map_or}
 use Rattle.gc_plan.specs.State.{Replica, Collection, State, heap_end, new_end}
 use Rattle.gc_plan.specs.Steps.{collect, is_change, useful_step}
 use Rattle.gc_plan.specs.declared.step.Step.{Step}
@@ -30,22 +31,14 @@ scans_left c = scans_from c.scan_place c.replicas - c.scan_field
 abbrev pub work_of : State → Collection → ℕ
 work_of s c = (heap_end s - new_end c) + scans_left c + entries_in c.logs + 1
 
-abbrev pub work_with : State → Option Collection → ℕ
-work_with s None = heap_end s + 1
-work_with s (Some c) = work_of s c
-
 -- The work that is left until the flip: the words without a replica, the scans that are left, the log entries, and the flip. If no
 -- collection is open, it is that of one that has just begun, and the begin.
 abbrev pub work_left : State → ℕ
-work_left s = work_with s s.collection
-
-abbrev pub entries_with : Option Collection → ℕ
-entries_with None = 0
-entries_with (Some c) = entries_in c.logs
+work_left s = option_map_or (work_of s) s.collection (heap_end s + 1)
 
 -- the entries in all logs
 abbrev pub entries_left : State → ℕ
-entries_left s = entries_with s.collection
+entries_left s = option_map_or (λ c. entries_in c.logs) s.collection 0
 
 -- a step that changes something lowers the number, unless it ends the collection
 abbrev pub ChangesLower : State → Type 0

@@ -17,13 +17,9 @@ use Rattle.gc_plan.specs.declared.step.Step.TheVariants as steps
 
 -- the step's argument is in range: the size of a space of at most `most` words, or the number of a log
 abbrev pub IsStepWithin : ℕ → ℕ → Step → Type 0
-IsStepWithin most mutators steps.Begin = ⊤
 IsStepWithin most mutators (steps.BeginSized size) = (1 ≤ size) × (size ≤ most)
-IsStepWithin most mutators steps.Roots = ⊤
-IsStepWithin most mutators steps.Scan = ⊤
 IsStepWithin most mutators (steps.Apply k) = k < mutators
-IsStepWithin most mutators steps.Flip = ⊤
-IsStepWithin most mutators steps.Drop = ⊤
+IsStepWithin most mutators step = ⊤
 
 abbrev pub IsEventWithin : ℕ → ℕ → Event → Type 0
 IsEventWithin most mutators (Mutate m op) = (m < mutators) × IsCommand op

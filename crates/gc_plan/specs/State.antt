@@ -1,8 +1,9 @@
 -- The state of a heap with a collector, without links. Names are addresses.
-use Rattle.std.specs.Prelude.{ℕ, false, ◌-◌, ◌==◌, if◌then◌else◌, List, [], ◌∷◌, length, map, Option, Some, None}
+use Rattle.std.specs.Prelude.{ℕ, false, ◌-◌, ◌==◌, if◌then◌else◌, List, [], ◌∷◌, length, map, Option, None}
+use Rattle.std.specs.Option.{option_map_or}
 use Rattle.std.specs.List.{find}
 use Rattle.gc_words.specs.Layout.{next_place}
-use Rattle.gc_graph.specs.Graph.{Value, Nil, Num, Ref, Object, Graph, new_object}
+use Rattle.gc_graph.specs.Graph.{Value, Ref, Object, Graph, new_object}
 use Rattle.gc_graph.specs.Machine.{Roomy, opening_roomy}
 use Rattle.gc_graph.specs.Slots.{roots_of}
 
@@ -69,15 +70,10 @@ replica_of c name = find (λ r. r.original == name) c.replicas
 abbrev pub replica_at : Collection → ℕ → Option Replica
 replica_at c place = find (λ r. r.place == place) c.replicas
 
-abbrev pub moved_name : Option Replica → ℕ → Value
-moved_name None name = Ref name
-moved_name (Some r) name = Ref r.place
-
 -- the value; a reference to an original becomes a reference to its replica
 abbrev pub moved : Collection → Value → Value
-moved c Nil = Nil
-moved c (Num n) = Num n
-moved c (Ref name) = moved_name (replica_of c name) name
+moved c (Ref name) = Ref (option_map_or (λ r. r.place) (replica_of c name) name)
+moved c v = v
 
 -- an object's replica when it is placed: a raw object is copied whole; all fields of any other are nil
 abbrev pub fresh_object : Object → Object

@@ -1,9 +1,10 @@
 -- The reply to each command of a mutator and to each step of the collector, and the state after it.
 use Rattle.std.specs.Prelude.{ℕ, suc, ◌==◌, nat_lt, Bool, true, false, ◌&&◌, ◌||◌, not, if◌then◌else◌, List, [], ◌∷◌, ◌++◌, length, map, replicate, slice_get, slice_set, Option, Some, None, is_none, is_some, ⊤}
-use Rattle.std.specs.List.{list_all, flat_map}
+use Rattle.std.specs.Option.{option_map, option_map_or, unwrap_or}
+use Rattle.std.specs.List.{list_all, flat_map, find}
 use Rattle.gc_words.specs.Layout.{next_place}
 use Rattle.gc_graph.specs.Slots.{place}
-use Rattle.gc_graph.specs.Graph.{Value, Nil, Num, Ref, Object, Graph, root, names_of, lookup, field_of, with_field}
+use Rattle.gc_graph.specs.Graph.{Value, Ref, Object, Graph, root, names_of, lookup, field_of, with_field}
 use Rattle.gc_graph.specs.Machine.{roomy_step, object_words}
 use Rattle.gc_graph.specs.declared.command.Op.{Op}
 use Rattle.gc_graph.specs.declared.command.Op.TheVariants as ops
@@ -29,21 +30,16 @@ abbrev pub written : Graph → ℕ → Op → Reply → List (ℕ × ℕ)
 written g m (ops.Put s i t) Done = map (λ name. (name, i)) (names_of (root g (place s m)))
 written g m op reply = []
 
-abbrev pub log_or_nil : Option (List (ℕ × ℕ)) → List (ℕ × ℕ)
-log_or_nil None = []
-log_or_nil (Some entries) = entries
-
 -- mutator m's log
 abbrev pub log_at : Collection → ℕ → List (ℕ × ℕ)
-log_at c m = log_or_nil (slice_get c.logs m)
+log_at c m = unwrap_or (slice_get c.logs m) []
 
 abbrev pub with_log : Collection → ℕ → List (ℕ × ℕ) → Collection
 with_log c m entries = record c { logs = slice_set c.logs m entries }
 
 -- the open collection, if any, with these entries appended to mutator m's log
 abbrev pub logged : Option Collection → ℕ → List (ℕ × ℕ) → Option Collection
-logged None m entries = None
-logged (Some c) m entries = Some (with_log c m (log_at c m ++ entries))
+logged collection m entries = option_map (λ c. with_log c m (log_at c m ++ entries)) collection
 
 -- The reply to mutator m's command, and the next state. A new object lies at the heap's end, and that address is its name.
 abbrev pub mutate : State → ℕ → Op → Reply × State
@@ -66,9 +62,8 @@ place_replica c name (Some object) =
 
 -- Gives the value's target, if any, a replica unless it has one; the result is `None` if there is no room.
 abbrev pub with_replica : Collection → Graph → Value → Option Collection
-with_replica c g Nil = Some c
-with_replica c g (Num n) = Some c
 with_replica c g (Ref name) = if is_some (replica_of c name) then Some c else place_replica c name (lookup g.objects name)
+with_replica c g v = Some c
 
 abbrev pub with_written : ℕ → ℕ → Value → Replica → Replica
 with_written name i v r = if r.original == name then record r { object = with_field r.object i v } else r
@@ -77,13 +72,9 @@ with_written name i v r = if r.original == name then record r { object = with_fi
 abbrev pub write_replica : Collection → ℕ → ℕ → Value → Collection
 write_replica c name i v = record c { replicas = map (with_written name i v) c.replicas }
 
-abbrev pub copy_value : Option Collection → ℕ → ℕ → Value → Option Collection
-copy_value None name i v = None
-copy_value (Some c) name i v = Some (write_replica c name i (moved c v))
-
 abbrev pub bring_value : Collection → Graph → ℕ → ℕ → Option Value → Option Collection
 bring_value c g name i None = Some c
-bring_value c g name i (Some v) = copy_value (with_replica c g v) name i v
+bring_value c g name i (Some v) = option_map (λ d. write_replica d name i (moved d v)) (with_replica c g v)
 
 -- Brings field i of the named object's replica up to date: reads the original's field as it is now, and writes the
 -- corresponding value. A target without a replica gets one first; the result is `None` if there is no room.
@@ -111,13 +102,9 @@ begin s size = (Begun, with_collection s (Some (fresh_collection s.mutators size
 
 -- ---- roots
 
-abbrev pub first_unreplicated : Collection → List ℕ → Option ℕ
-first_unreplicated c [] = None
-first_unreplicated c (name ∷ names) = if is_some (replica_of c name) then first_unreplicated c names else Some name
-
 -- the target of the first root whose target has no replica
 abbrev pub root_target : Collection → Graph → Option ℕ
-root_target c g = first_unreplicated c (flat_map names_of g.roots)
+root_target c g = find (λ name. is_none (replica_of c name)) (flat_map names_of g.roots)
 
 abbrev pub roots_done : Collection → Graph → Bool
 roots_done c g = is_none (root_target c g)
@@ -135,9 +122,8 @@ scan_done c = c.scan_place == new_end c
 abbrev pub next_object : Collection → Replica → Collection
 next_object c r = record c { scan_place = next_place c.scan_place (length r.object.fields); scan_field = 0 }
 
-abbrev pub next_field : Option Collection → Option Collection
-next_field None = None
-next_field (Some c) = Some (record c { scan_field = suc c.scan_field })
+abbrev pub next_field : Collection → Collection
+next_field c = record c { scan_field = suc c.scan_field }
 
 -- Scans the replica at the scan pointer. If a collection belongs to its heap, there is always a replica before the new end.
 -- A raw replica is passed immediately: it was copied whole when it was placed.
@@ -145,7 +131,7 @@ abbrev pub scan_replica : State → Collection → Option Replica → StepReply 
 scan_replica s c None = (Clean, s)
 scan_replica s c (Some r) =
     if r.object.raw || (c.scan_field == length r.object.fields) then (Passed, with_collection s (Some (next_object c r)))
-    else if_room s Scanned (next_field (bring_up_to_date c s.heap.graph r.original c.scan_field))
+    else if_room s Scanned (option_map next_field (bring_up_to_date c s.heap.graph r.original c.scan_field))
 
 -- scans one field, or moves the scan pointer to the next object
 abbrev pub scan : State → Collection → StepReply × State
@@ -190,46 +176,31 @@ flip s c =
 -- ---- the collector's steps
 
 abbrev pub step_in : State → Collection → Step → StepReply × State
-step_in s c steps.Begin = (Busy, s)
-step_in s c (steps.BeginSized size) = (Busy, s)
 step_in s c steps.Roots = copy_root s c (root_target c s.heap.graph)
 step_in s c steps.Scan = scan s c
 step_in s c (steps.Apply m) = apply_log s c m (log_at c m)
 step_in s c steps.Flip = flip s c
 step_in s c steps.Drop = (Dropped, with_collection s None)
+step_in s c step = (Busy, s)
 
 abbrev pub step_idle : State → Step → StepReply × State
 step_idle s steps.Begin = begin s s.size
 step_idle s (steps.BeginSized size) = begin s size
-step_idle s steps.Roots = (Idle, s)
-step_idle s steps.Scan = (Idle, s)
-step_idle s (steps.Apply m) = (Idle, s)
-step_idle s steps.Flip = (Idle, s)
-step_idle s steps.Drop = (Idle, s)
-
-abbrev pub collect_with : State → Option Collection → Step → StepReply × State
-collect_with s None step = step_idle s step
-collect_with s (Some c) step = step_in s c step
+step_idle s step = (Idle, s)
 
 -- the reply to a step, and the next state
 abbrev pub collect : State → Step → StepReply × State
-collect s step = collect_with s s.collection step
+collect s step = option_map_or (λ c. step_in s c step) s.collection (step_idle s step)
 
 -- a step with this reply changes the state
 abbrev pub is_change : StepReply → Bool
 is_change Busy = false
-is_change Begun = true
 is_change Idle = false
 is_change Clean = false
 is_change NoRoom = false
-is_change Copied = true
-is_change Passed = true
-is_change Scanned = true
-is_change Applied = true
 is_change NotReady = false
 is_change Refused = false
-is_change (Flipped pairs) = true
-is_change Dropped = true
+is_change reply = true
 
 -- ---- the useful step
 
@@ -238,16 +209,12 @@ abbrev pub first_log : ℕ → List (List (ℕ × ℕ)) → Option ℕ
 first_log k [] = None
 first_log k (log ∷ logs) = if is_empty log then first_log (suc k) logs else Some k
 
-abbrev pub apply_or_flip : Option ℕ → Step
-apply_or_flip None = steps.Flip
-apply_or_flip (Some k) = steps.Apply k
-
 abbrev pub useful_with : State → Option Collection → Step
 useful_with s None = steps.Begin
 useful_with s (Some c) =
     if not (roots_done c s.heap.graph) then steps.Roots
     else if not (scan_done c) then steps.Scan
-    else apply_or_flip (first_log 0 c.logs)
+    else option_map_or steps.Apply (first_log 0 c.logs) steps.Flip
 
 -- `Begin` if no collection is open; else the first of `Roots`, `Scan` and `Apply` that has work left; else `Flip`
 abbrev pub useful_step : State → Step

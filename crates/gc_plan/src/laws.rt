@@ -1,6 +1,6 @@
 //! Laws that follow from the definitions. Crates that depend on this one use them in proofs by calling these functions.
 
-ghost use Rattle.std.specs.Prelude.{◌≡◌, ◌≢◌, ◌+◌, ◌++◌, ◌∷◌, [], ℕ, List, ◌-◌, ◌<◌, ◌≤◌, ◌==◌, length, Some, is_none, ◌⊎◌, IsTrue, IsFalse};
+ghost use Rattle.std.specs.Prelude.{◌≡◌, ◌≢◌, ◌+◌, ◌++◌, ◌∷◌, [], ℕ, List, ◌-◌, ◌<◌, ◌≤◌, ◌==◌, length, Some, is_none, ◌⊎◌, IsTrue, IsFalse, IfSome};
 ghost use Rattle.gc_graph.specs.Limits.{largest_space};
 ghost use Rattle.gc_graph.specs.Graph.{Value, Ref, Object, Graph, root, set_field};
 ghost use Rattle.gc_graph.specs.Correspond.{Corresponding};
@@ -13,7 +13,7 @@ ghost use Rattle.gc_plan.specs.State.{Replica, Collection, State, opening_state,
 ghost use Rattle.gc_plan.specs.Linked.{linked_image, old_links, new_links};
 ghost use Rattle.gc_plan.specs.Steps.{written, log_at, with_log, with_collection, write_replica, fresh_collection, mutate, collect, is_change, is_ready, useful_step};
 ghost use Rattle.gc_plan.specs.Members.{In};
-ghost use Rattle.gc_plan.specs.Belonging.{HasRawNumbers, IsSpaceGraph, HasField, Belongs, BelongsBut, IsOpened, IsOpen, IsState};
+ghost use Rattle.gc_plan.specs.Belonging.{HasRawNumbers, IsSpaceGraph, HasField, Belongs, BelongsBut, IsOpened, IsState};
 ghost use Rattle.gc_plan.specs.Runs.{HasRange, IsStepWithin, IsEventWithin, AreEventsWithin, IsStep, AreEvents, InEveryRun, HasSizesWithin, after, state_after};
 ghost use Rattle.gc_plan.specs.declared.event.Event.{Event};
 ghost use Rattle.gc_plan.specs.Passing.{HasImage, PassesWhereReady, NeverRefused, AlwaysHasRoom, ScansToTheEnd, HasFewPairs};
@@ -59,7 +59,7 @@ pub fn steps_keep_belonging()
     ensures heap { (s : State) (step : Step) → step ≢ Step.Flip
         → (collect s step).1 ≡ with_collection s (collect s step).1.collection }
     ensures collection { (s : State) (c : Collection) (step : Step) → step ≢ Step.Flip
-        → s.collection ≡ Some c → IsOpened s c → IsOpen s (collect s step).1.collection }
+        → s.collection ≡ Some c → IsOpened s c → IfSome (collect s step).1.collection (IsOpened s) }
 {}
 
 /// Commands and steps keep the heap sound, and an open collection still belongs to it.
@@ -186,19 +186,19 @@ pub fn root_replicas_stay()
 /// useful steps flips or lacks room, if no command comes between. A command raises the number by the words that it allocates and the
 /// entries that it logs.
 pub fn useful_steps_end()
-    ensures lowers { (s : State) → IsSpaceGraph s.size s.heap.free s.heap.graph → IsOpen s s.collection
+    ensures lowers { (s : State) → IsSpaceGraph s.size s.heap.free s.heap.graph → IfSome s.collection (IsOpened s)
         → ChangesLower s }
-    ensures useful { (s : State) → IsSpaceGraph s.size s.heap.free s.heap.graph → IsOpen s s.collection
+    ensures useful { (s : State) → IsSpaceGraph s.size s.heap.free s.heap.graph → IfSome s.collection (IsOpened s)
         → Advances s }
     // No step logs an entry.
     ensures entries { (s : State) (step : Step) → entries_left (collect s step).1 ≤ entries_left s }
     ensures ends { (s : State) → IsState s → Ends s }
     ensures runs { InEveryRun Ends }
     ensures bounded { (s : State) (c : Collection) → IsSpaceGraph s.size s.heap.free s.heap.graph
-        → IsOpen s s.collection → s.collection ≡ Some c
+        → IfSome s.collection (IsOpened s) → s.collection ≡ Some c
         → work_left s ≤ (heap_end s - c.scan_place) + entries_in c.logs + 1 }
     ensures commands { (s : State) (m : ℕ) (op : Op) → IsSpaceGraph s.size s.heap.free s.heap.graph
-        → IsOpen s s.collection → m < s.mutators
+        → IfSome s.collection (IsOpened s) → m < s.mutators
         → (let t = (mutate s m op).1 in
         work_left t + heap_end s + entries_left s ≡ work_left s + heap_end t + entries_left t) }
 {}

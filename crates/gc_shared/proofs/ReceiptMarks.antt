@@ -30,7 +30,7 @@ last_stands history earlier low (q ∷ rs) r all = last_stands history earlier (
 
 floor_above : (history : List Entry) (earlier : List Receipt) (low : ℕ) (rs : List Receipt) → AllStand history earlier low rs → low ≤ floor_of low rs
 floor_above history earlier low [] all = omega arith
-floor_above history earlier low (q ∷ rs) all = omega (arith, all.0.above, floor_above history earlier (q.place + 1) rs all.1)
+floor_above history earlier low (q ∷ rs) all = omega (arith, all.0.1, floor_above history earlier (q.place + 1) rs all.1)
 
 pub times_at-append : (p : ℕ) (xs ys : List Receipt) → times_at p (xs ++ ys) ≡ times_at p xs + times_at p ys
 times_at-append p xs ys = sum_by-append (λ r. cond (r.place == p) 1 0) xs ys
@@ -50,12 +50,12 @@ none_at history earlier low (q ∷ rs) p all above = grind (arith, common_steps,
 pub rising : (history : List Entry) (earlier : List Receipt) (low : ℕ) (rs : List Receipt) → AllStand history earlier low rs → IsStrictlyIncreasing (map (λ r. r.place) rs)
 rising history earlier low [] all k lt = absurd (omega arith)
 rising history earlier low (q ∷ []) all k lt = absurd (omega arith)
-rising history earlier low (q ∷ (r ∷ rs)) all zero lt = omega (arith, all.1.0.above)
+rising history earlier low (q ∷ (r ∷ rs)) all zero lt = omega (arith, all.1.0.1)
 rising history earlier low (q ∷ (r ∷ rs)) all (suc k) lt = let rest = rising history earlier (q.place + 1) (r ∷ rs) all.1 k (omega arith) in rw add-one (rw add-one at rest)
 
 pub all_recorded : (history : List Entry) (earlier : List Receipt) (low : ℕ) (rs : List Receipt) → AllStand history earlier low rs → All (IsRecorded history) rs
 all_recorded history earlier low [] all k d lt = absurd (omega arith)
-all_recorded history earlier low (q ∷ rs) all zero d lt = all.0.recorded
+all_recorded history earlier low (q ∷ rs) all zero d lt = all.0.0
 all_recorded history earlier low (q ∷ rs) all (suc k) d lt = all_recorded history earlier (q.place + 1) rs all.1 k d (omega arith)
 
 -- one more mark
@@ -79,11 +79,11 @@ zero_false b e = grind (arith, common_steps)
 
 free_if_stands : (history : List Entry) (earlier before : List Receipt) (marks : List Bool) (r : Receipt) → AllStand history earlier 0 before → IsMarked marks (earlier ++ before) → length marks ≡ length history → Stands history earlier (floor_of 0 before) r → IsFree history marks (floor_of 0 before) r
 free_if_stands history earlier before marks r all is len stands = record {
-  recorded = stands.recorded;
-  above = stands.above;
+  recorded = stands.0;
+  above = stands.1;
   free =
-      let lt : r.place < length marks = omega (arith, len, slice_get_within history r.place _ stands.recorded) in
-      zero_false _ (omega (arith, is.once r.place lt, times_at-append r.place earlier before, stands.apart, none_at history earlier 0 before r.place all stands.above));
+      let lt : r.place < length marks = omega (arith, len, slice_get_within history r.place _ stands.0) in
+      zero_false _ (omega (arith, is.once r.place lt, times_at-append r.place earlier before, stands.2, none_at history earlier 0 before r.place all stands.1));
 }
 
 -- a step of the loop: the receipt at n is free

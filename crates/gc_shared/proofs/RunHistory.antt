@@ -47,11 +47,11 @@ same_commands m [] (y ∷ ys) e = let z = e in cc
 same_commands m (x ∷ xs) [] e = let z = e in cc
 same_commands m (x ∷ xs) (y ∷ ys) e = grind (arith, common_steps, same_commands m xs ys)
 
-events_of_entries : (rs : List Receipt) → map (λ e. e.event) (map entry_on rs) ≡ map (λ r. r.event) rs
+events_of_entries : (rs : List Receipt) → map (λ e. e.event) (map entry_on rs) ≡ map (λ r. r.entry.event) rs
 events_of_entries [] = refl
-events_of_entries (r ∷ rs) = ap (λ es. r.event ∷ es) (events_of_entries rs)
+events_of_entries (r ∷ rs) = ap (λ es. r.entry.event ∷ es) (events_of_entries rs)
 
-all_entries : (rs : List Receipt) → All (λ r. IsUsefulStep r.event r.answer) rs → All (λ e. IsUsefulStep e.event e.answer) (map entry_on rs)
+all_entries : (rs : List Receipt) → All (λ r. IsUsefulStep r.entry.event r.entry.answer) rs → All (λ e. IsUsefulStep e.event e.answer) (map entry_on rs)
 all_entries [] all k d lt = absurd (omega arith)
 all_entries (r ∷ rs) all zero d lt = all 0 r (omega arith)
 all_entries (r ∷ rs) all (suc k) d lt = all_entries rs (λ i q inside. all (suc i) q (omega arith)) k d (omega arith)
@@ -66,13 +66,13 @@ module _ (scripts : List (Vec Op Global)) (turns : ℕ) (seats : List SeatValue)
   receipts : (t : ℕ) → t < length scripts + 1 → receipts_of seats t ≡ (get_or seats t nobody).receipts
   receipts t lt = receipts_at seats t nobody numbers (omega (arith, ended.count, lt))
 
-  player_all : (Q : Event → Type 0) (t : ℕ) → t < length scripts → ((op : Op) → Q (Mutate t op)) → All (λ r. Q r.event) (receipts_of seats t)
+  player_all : (Q : Event → Type 0) (t : ℕ) → t < length scripts → ((op : Op) → Q (Mutate t op)) → All (λ r. Q r.entry.event) (receipts_of seats t)
   player_all Q t lt each = rw (receipts t (omega arith)) (played_all Q t (get_or seats t nobody).receipts (script_at scripts t) each (ended.each t nobody lt).events)
 
-  collector_all : (Q : Event → Type 0) → ((step : Step) → Q (Collect step)) → All (λ r. Q r.event) (receipts_of seats (length scripts))
+  collector_all : (Q : Event → Type 0) → ((step : Step) → Q (Collect step)) → All (λ r. Q r.entry.event) (receipts_of seats (length scripts))
   collector_all Q each = grind (arith, common_steps, receipts, useful_all)
 
-  others : (Q : Event → Type 0) (s : ℕ) → ((t : ℕ) (op : Op) → t ≢ s → t < length scripts → Q (Mutate t op)) → (length scripts ≢ s → (step : Step) → Q (Collect step)) → (t : ℕ) → t < length scripts + 1 → t ≢ s → All (λ r. Q r.event) (receipts_of seats t)
+  others : (Q : Event → Type 0) (s : ℕ) → ((t : ℕ) (op : Op) → t ≢ s → t < length scripts → Q (Mutate t op)) → (length scripts ≢ s → (step : Step) → Q (Collect step)) → (t : ℕ) → t < length scripts + 1 → t ≢ s → All (λ r. Q r.entry.event) (receipts_of seats t)
   others Q s players collector t lt ne =
       ⊎_elim
       (λ (player : t < length scripts). player_all Q t player (λ op. players t op ne player))
@@ -87,7 +87,7 @@ module _ (scripts : List (Vec Op Global)) (turns : ℕ) (seats : List SeatValue)
       let sel = selected h seats (length scripts + 1) m (is_by m) agree (omega arith) mine (others (λ e. is_by m e ≡ false) m (λ t op ne player. not_eq t m ne) (λ ne step. refl)) in
       same_commands m (commands_of m (events_of h)) (script_at scripts m)
       (commands_are m h ∙ ap (λ (es : List Entry). map (λ e. e.event) es) (sym sel) ∙ events_of_entries (receipts_of seats m)
-      ∙ ap (λ (rs : List Receipt). map (λ r. r.event) rs) (receipts m (omega arith)) ∙ (ended.each m nobody lt).events)
+      ∙ ap (λ (rs : List Receipt). map (λ r. r.entry.event) rs) (receipts m (omega arith)) ∙ (ended.each m nobody lt).events)
 
   steps : (h : List Entry) → AgreeByNumber h seats (length scripts + 1) → map entry_on (get_or seats (length scripts) nobody).receipts ≡ steps_of h
   steps h agree =
@@ -98,12 +98,12 @@ module _ (scripts : List (Vec Op Global)) (turns : ℕ) (seats : List SeatValue)
 pub has_run : (size : ℕ) (scripts : List (Vec Op Global)) (turns : ℕ) (seats : List SeatValue) (o : Opening) (w : Past) → o ≡ record { size = size; mutators = length scripts; collectors = 1 } → HaveEnded scripts turns seats → IsWhole o w seats → HasRunScripts size scripts turns w
 has_run size scripts turns seats o w is ended whole =
     let n = length scripts in
-    let agree : AgreeByNumber w.entries seats (n + 1) = rw (ap count_of_seats is) at (agree_by_number w.entries seats (count_of_seats o) whole.seated.count whole.seated.once whole.agree) in
+    let agree : AgreeByNumber w.entries seats (n + 1) = rw (ap count_of_seats is) at (agree_by_number w.entries seats (count_of_seats o) whole.0.count whole.0.once whole.1) in
     let all = steps scripts turns seats ended w.entries agree in
     let nobody : SeatValue = record { number = 0; is_mutator = true; receipts = [] } in
     record {
-      opened = whole.seated.size ∙ ap (λ (o : Opening). o.size) is;
-      mutators = whole.seated.mutators ∙ ap (λ (o : Opening). o.mutators) is;
+      opened = whole.0.size ∙ ap (λ (o : Opening). o.size) is;
+      mutators = whole.0.mutators ∙ ap (λ (o : Opening). o.mutators) is;
       commands = commands scripts turns seats ended w.entries agree;
       steps = ap length (sym all) ∙ length-map (get_or seats n nobody).receipts entry_on ∙ (ended.last nobody).count;
       useful = subst (λ (es : List Entry). All (λ e. IsUsefulStep e.event e.answer) es) all (all_entries (get_or seats n nobody).receipts (ended.last nobody).useful);

@@ -27,7 +27,7 @@ use Rattle.gc_shared.proofs.ReceiptMarks.{times_at-append}
 use Rattle.gc_shared.specs.Scripts.{IsUsefulStep}
 
 abbrev pub entry_on : Receipt → Entry
-entry_on r = entry_of r.event r.answer
+entry_on r = r.entry
 
 abbrev mark : Bool → ℕ
 mark b = cond b 1 0
@@ -134,7 +134,7 @@ part seats zero p t lt = absurd (omega arith)
 part seats (suc n) p t lt = grind (arith, common_steps, times_at-append, ⊎_elim, cases_eq, part seats n p t)
 
 -- the receipts of a seat fit the history
-fits_from : (h : List Entry) (rs : List Receipt) (low : ℕ) → IsStrictlyIncreasing (map (λ r. r.place) rs) → All (λ r. slice_get h r.place ≡ Some (entry_of r.event r.answer)) rs → (0 < length rs → low ≤ get_or (map (λ r. r.place) rs) 0 0) → Fits low 0 h rs
+fits_from : (h : List Entry) (rs : List Receipt) (low : ℕ) → IsStrictlyIncreasing (map (λ r. r.place) rs) → All (λ r. slice_get h r.place ≡ Some r.entry) rs → (0 < length rs → low ≤ get_or (map (λ r. r.place) rs) 0 0) → Fits low 0 h rs
 fits_from h [] low rise same first = tt
 fits_from h (r ∷ rs) low rise same first =
     let whole : r.place - 0 ≡ r.place = omega arith in (
@@ -146,12 +146,12 @@ fits_from h (r ∷ rs) low rise same first =
           (λ some. omega (arith, rise 0 (omega (arith, some, length-map rs (λ r. r.place))))),
     )
 
-event_at : (history : List Entry) (i : ℕ) (d : Entry) (r : Receipt) → r.place ≡ i → slice_get history r.place ≡ Some (entry_of r.event r.answer) → get_or history i d ≡ entry_of r.event r.answer
-event_at history i d r here same = ap (λ (k : ℕ). get_or history k d) (sym here) ∙ get_or_from_slice_get history r.place (entry_of r.event r.answer) d same
+event_at : (history : List Entry) (i : ℕ) (d : Entry) (r : Receipt) → r.place ≡ i → slice_get history r.place ≡ Some r.entry → get_or history i d ≡ r.entry
+event_at history i d r here same = ap (λ (k : ℕ). get_or history k d) (sym here) ∙ get_or_from_slice_get history r.place r.entry d same
 
 -- if a test passes exactly the events of one seat, the entries of the history that pass it are those on the seat's
 -- receipts
-pub selected : (history : List Entry) (seats : List SeatValue) (count s : ℕ) (T : Event → Bool) → AgreeByNumber history seats count → s < count → All (λ r. T r.event ≡ true) (receipts_of seats s) → ((t : ℕ) → t < count → t ≢ s → All (λ r. T r.event ≡ false) (receipts_of seats t)) → map entry_on (receipts_of seats s) ≡ filter (λ e. T e.event) history
+pub selected : (history : List Entry) (seats : List SeatValue) (count s : ℕ) (T : Event → Bool) → AgreeByNumber history seats count → s < count → All (λ r. T r.entry.event ≡ true) (receipts_of seats s) → ((t : ℕ) → t < count → t ≢ s → All (λ r. T r.entry.event ≡ false) (receipts_of seats t)) → map entry_on (receipts_of seats s) ≡ filter (λ e. T e.event) history
 selected history seats count s T agree lt mine others =
     let rs = receipts_of seats s in
     let d : Entry = entry_of (Collect Roots) (Collector Idle) in
@@ -167,7 +167,7 @@ selected history seats count s T agree lt mine others =
     ⊎_elim
     (λ (same : by.0 ≡ s). let here : 0 < times_at i rs = rw same at by.2 in omega (arith, once, most, here))
     (λ (other : by.0 ≢ s).
-    let r = found (λ r. (slice_get history r.place ≡ Some (entry_of r.event r.answer)) × (T r.event ≡ false)) i (receipts_of seats by.0) (λ k e inside. (agree.recorded by.0 by.1 k e inside, others by.0 by.1 other k e inside)) by.2 in
+    let r = found (λ r. (slice_get history r.place ≡ Some r.entry) × (T r.entry.event ≡ false)) i (receipts_of seats by.0) (λ k e inside. (agree.recorded by.0 by.1 k e inside, others by.0 by.1 other k e inside)) by.2 in
     absurd (false≢true (sym r.1.1 ∙ (ap (λ (e : Entry). T e.event) (sym (event_at history i d r.0 r.2 r.1.0)) ∙ passes))))
     (cases_eq by.0 s)
     in
@@ -176,7 +176,7 @@ selected history seats count s T agree lt mine others =
     let none : times_at i rs ≡ 0 =
     ⊎_elim
     (λ (some : 0 < times_at i rs).
-    let r = found (λ r. (slice_get history r.place ≡ Some (entry_of r.event r.answer)) × (T r.event ≡ true)) i rs (λ k e inside. (agree.recorded s lt k e inside, mine k e inside)) some in
+    let r = found (λ r. (slice_get history r.place ≡ Some r.entry) × (T r.entry.event ≡ true)) i rs (λ k e inside. (agree.recorded s lt k e inside, mine k e inside)) some in
     absurd (false≢true (sym fails ∙ (ap (λ (e : Entry). T e.event) (event_at history i d r.0 r.2 r.1.0) ∙ r.1.1))))
     (λ (not : times_at i rs ≤ 0). omega arith)
     (cases_lt 0 (times_at i rs))
@@ -204,11 +204,11 @@ receipts_at ts k d numbers lt =
     rw here' refl
 
 -- a fact about every command holds of each event of a seat that has played
-pub played_all : (Q : Event → Type 0) (m : ℕ) (rs : List Receipt) (script : List Op) → ((op : Op) → Q (Mutate m op)) → map (λ r. r.event) rs ≡ map (Mutate m) script → All (λ r. Q r.event) rs
+pub played_all : (Q : Event → Type 0) (m : ℕ) (rs : List Receipt) (script : List Op) → ((op : Op) → Q (Mutate m op)) → map (λ r. r.entry.event) rs ≡ map (Mutate m) script → All (λ r. Q r.entry.event) rs
 played_all Q m [] script each is k d lt = absurd (omega arith)
 played_all Q m (r ∷ rs) [] each is k d lt = let z = is in cc
-played_all Q m (r ∷ rs) (op ∷ ops) each is zero d lt = let e : r.event ≡ Mutate m op = cc in subst Q (sym e) (each op)
-played_all Q m (r ∷ rs) (op ∷ ops) each is (suc k) d lt = let rest : map (λ r. r.event) rs ≡ map (Mutate m) ops = cc in played_all Q m rs ops each rest k d (omega arith)
+played_all Q m (r ∷ rs) (op ∷ ops) each is zero d lt = let e : r.entry.event ≡ Mutate m op = cc in subst Q (sym e) (each op)
+played_all Q m (r ∷ rs) (op ∷ ops) each is (suc k) d lt = let rest : map (λ r. r.entry.event) rs ≡ map (Mutate m) ops = cc in played_all Q m rs ops each rest k d (omega arith)
 
 -- a fact about every collector step holds of an event whose answer is marked `Useful`
 pub useful_all : (Q : Event → Type 0) (e : Event) (a : Answer) → ((step : Step) → Q (Collect step)) → IsUsefulStep e a → Q e

@@ -9,13 +9,13 @@ use Rattle.gc_shared.specs.Rows.{Rows, history, first, second, collector}
 use Rattle.gc_shared.proofs.ReceiptMarks.{all_recorded, rising}
 
 first_stands : AllStand history [] 0 first.receipts
-first_stands = (record { recorded = refl; above = omega arith; apart = refl }, (record { recorded = refl; above = omega arith; apart = refl }, tt))
+first_stands = ((refl, omega arith, refl), ((refl, omega arith, refl), tt))
 
 second_stands : AllStand history [] 0 second.receipts
-second_stands = (record { recorded = refl; above = omega arith; apart = refl }, tt)
+second_stands = ((refl, omega arith, refl), tt)
 
 collector_stands : AllStand history [] 0 collector.receipts
-collector_stands = (record { recorded = refl; above = omega arith; apart = refl }, tt)
+collector_stands = ((refl, omega arith, refl), tt)
 
 -- a fact about each of the three seats holds of all
 of_three : (P : SeatValue → Type 0) → P collector → P first → P second → All P (collector ∷ first ∷ second ∷ [])

@@ -32,10 +32,8 @@ pub record IsSeated (o : Opening) (w : Past) (seats : List SeatValue) : Type 0 w
 
 -- A receipt stands if the history has its event and answer at its place. The place must be at least `low`, and no
 -- receipt of the earlier seats may have it.
-pub record Stands (history : List Entry) (earlier : List Receipt) (low : ℕ) (r : Receipt) : Type 0 where
-  pub recorded : IsRecorded history r
-  pub above : low ≤ r.place
-  pub apart : times_at r.place earlier ≡ 0
+abbrev pub Stands : List Entry → List Receipt → ℕ → Receipt → Type 0
+Stands history earlier low r = IsRecorded history r × (low ≤ r.place) × (times_at r.place earlier ≡ 0)
 
 -- each receipt of a seat stands, and its place is above that of the receipt before it
 abbrev pub AllStand : List Entry → List Receipt → ℕ → List Receipt → Type 0
@@ -47,16 +45,14 @@ abbrev pub SeatsStand : List Entry → List SeatValue → ℕ → Type 0
 SeatsStand history seats count = (n : ℕ) → n < count → AllStand history (receipts_below seats n) 0 (receipts_of seats n)
 
 -- receipt n is the first one that does not stand
-pub record IsFirstTorn (history : List Entry) (earlier rs : List Receipt) (n : ℕ) : Type 0 where
-  pub before : AllStand history earlier 0 (take n rs)
-  pub torn : AllStand history earlier 0 (take (n + 1) rs) → ⊥
+abbrev pub IsFirstTorn : List Entry → List Receipt → List Receipt → ℕ → Type 0
+IsFirstTorn history earlier rs n = AllStand history earlier 0 (take n rs) × ¬ AllStand history earlier 0 (take (n + 1) rs)
 
 -- ---- answers
 
 -- what `close` ensures on `Ok`
-pub record IsWhole (o : Opening) (w : Past) (seats : List SeatValue) : Type 0 where
-  pub seated : IsSeated o w seats
-  pub agree : ReceiptsAgree w.entries seats
+abbrev pub IsWhole : Opening → Past → List SeatValue → Type 0
+IsWhole o w seats = IsSeated o w seats × ReceiptsAgree w.entries seats
 
 -- receipt n of this seat is the first one that does not stand, going through the seats by number
 pub record IsTorn (history : List Entry) (seats : List SeatValue) (count seat n : ℕ) : Type 0 where
@@ -65,9 +61,8 @@ pub record IsTorn (history : List Entry) (seats : List SeatValue) (count seat n 
   pub first : IsFirstTorn history (receipts_below seats seat) (receipts_of seats seat) n
 
 -- all receipts stand, but the history has more events than there are receipts
-pub record IsExtra (history : List Entry) (seats : List SeatValue) (count : ℕ) : Type 0 where
-  pub all : SeatsStand history seats count
-  pub fewer : length (receipts_below seats count) < length history
+abbrev pub IsExtra : List Entry → List SeatValue → ℕ → Type 0
+IsExtra history seats count = SeatsStand history seats count × (length (receipts_below seats count) < length history)
 
 -- the first fault that comparing the given seats with the returned world finds
 abbrev pub IsFirstCloseFault : Opening → Past → List SeatValue → CloseKind → Type 0

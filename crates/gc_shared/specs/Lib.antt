@@ -1,7 +1,6 @@
 pub mod Closing
 pub mod FaultTexts
 pub mod Internal
-pub mod ReceiptValues
 pub mod Receipts
 pub mod Rows
 pub mod Scripts

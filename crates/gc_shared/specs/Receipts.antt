@@ -3,13 +3,12 @@ use Rattle.std.specs.Prelude.{◌≡◌, ℕ, ◌<◌, ◌==◌, List, length, m
 use Rattle.std.specs.List.{flat_map}
 use Rattle.std.specs.List.Sorted.{IsStrictlyIncreasing}
 use Rattle.gc_world.specs.declared.entry.Entry.{Entry}
-use Rattle.gc_world.specs.World.{entry_of}
 use Rattle.gc_shared.specs.declared.seat.Receipt.{Receipt}
 use Rattle.gc_shared.specs.Seats.{SeatValue}
 
--- the history has the receipt's event and answer at the receipt's place
+-- the history has the receipt's entry at the receipt's place
 abbrev pub IsRecorded : List Entry → Receipt → Type 0
-IsRecorded history r = slice_get history r.place ≡ Some (entry_of r.event r.answer)
+IsRecorded history r = slice_get history r.place ≡ Some r.entry
 
 -- the number of receipts with this place
 abbrev pub times_at : ℕ → List Receipt → ℕ

@@ -32,15 +32,14 @@ pub record SeatValue : Type 0 where
 abbrev pub fresh : ℕ → ℕ → SeatValue
 fresh mutators n = record { number = n; is_mutator = nat_lt n mutators; receipts = [] }
 
+-- `place` is the event's place in the history: the number of events before it
 abbrev pub receipt : ℕ → Event → Answer → Receipt
-receipt place event answer = record { place = place; event = event; answer = answer }
+receipt place event answer = record { place = place; entry = entry_of event answer }
 
 -- A world of this size and number of mutators can give this receipt. The world has a history whose length is the
--- receipt's place, and in its state the event gets this answer. So the history with both appended is a history too.
-pub record IsPossibleIn (size mutators : ℕ) (r : Receipt) : Type 0 where
-  pub earlier : List Entry
-  pub place : length earlier ≡ r.place
-  pub goes_on : IsHistory size mutators (earlier ++ entry_of r.event r.answer ∷ [])
+-- receipt's place, and in its state the event gets this answer. So the history with the receipt's entry is a history too.
+abbrev pub IsPossibleIn : ℕ → ℕ → Receipt → Type 0
+IsPossibleIn size mutators r = (earlier : List Entry) × (length earlier ≡ r.place) × IsHistory size mutators (earlier ++ r.entry ∷ [])
 
 -- some world can give this receipt
 abbrev pub IsPossible : Receipt → Type 0

@@ -1,7 +1,6 @@
 ghost use Rattle.std.specs.Prelude.{◌≡◌, ◌↔◌, ◌<◌, ◌≤◌, ◌+◌, ◌==◌, suc, length, IfOk, IfErr, IsTrue, MatchOption, MatchResult, count_by, []};
 ghost use Rattle.std.specs.List.{find};
 ghost use Rattle.std.specs.Option.{option_copied};
-ghost use Rattle.gc_world.specs.World.{entry_of};
 ghost use Rattle.gc_shared.specs.Seats.{opened_with};
 ghost use Rattle.gc_shared.specs.Receipts.{IsRecorded};
 ghost use Rattle.gc_shared.specs.Closing.{IsSeated, IsWhole, IsFirstCloseFault, IsFirstTorn, AllStand, receipts_of, receipts_below};
@@ -178,7 +177,7 @@ fn is_recorded(history: &[Entry], receipt: &Receipt) -> bool
 }
 
 fn is_of(entry: &Entry, receipt: &Receipt) -> bool
-    ensures { IsTrue result ↔ (entry.now ≡ entry_of receipt.now.event receipt.now.answer) }
+    ensures { IsTrue result ↔ (entry.now ≡ receipt.now.entry) }
 {
     entry.is(&receipt.entry)
 }

@@ -13,20 +13,8 @@ pub struct Receipt {
     pub(crate) entry: Entry,
 }
 
-impl Model for Receipt {
-    ghost use Rattle.gc_shared.specs.ReceiptValues.{ReceiptValue};
-    ghost use Rattle.gc_world.specs.World.{entry_of};
-
-    ghost Value = { ReceiptValue };
-
-    ghost view = { λ r. record { place = r.place; event = r.entry.event; answer = r.entry.answer } };
-
-    ghost inverse = { λ v. record { place = v.place; entry = entry_of v.event v.answer } };
-}
-
 impl Receipt {
     ghost use Rattle.std.specs.Prelude.{◌≡◌};
-    ghost use Rattle.gc_world.specs.World.{entry_of};
 
     /// Returns the event's place in the history: the number of events before it.
     pub fn place(&self) -> usize
@@ -37,21 +25,21 @@ impl Receipt {
 
     /// Returns the event.
     pub fn event(&self) -> Event
-        ensures { result ≡ self.now.event }
+        ensures { result ≡ self.now.entry.event }
     {
         self.entry.event()
     }
 
     /// Returns the answer.
     pub fn answer(&self) -> Answer
-        ensures { result ≡ self.now.answer }
+        ensures { result ≡ self.now.entry.answer }
     {
         self.entry.answer()
     }
 
     /// Returns the event and the answer as an entry of a history.
     pub fn entry(&self) -> Entry
-        ensures { result ≡ entry_of self.now.event self.now.answer }
+        ensures { result ≡ self.now.entry }
     {
         self.entry
     }

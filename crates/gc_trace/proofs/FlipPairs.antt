@@ -1,6 +1,6 @@
 -- The pairs of a run's flips.
 use Rattle.std.proofs.lemmas.Grind.{common_steps}
-use Rattle.std.proofs.Common.{◌≡◌, ℕ, suc, ◌+◌, ◌<◌, ◌≤◌, List, ◌∷◌, ◌++◌, drop, length, get_or, sym, ap, ◌∙◌, arith, Option, Some, None, ◌⊎◌}
+use Rattle.std.proofs.Common.{◌≡◌, ℕ, suc, ◌+◌, ◌<◌, ◌≤◌, List, ◌∷◌, ◌++◌, drop, length, get_or, refl, sym, ap, ◌∙◌, arith, Option, Some, None, ◌⊎◌}
 use Rattle.std.specs.Prelude.{slice_get, IfSome}
 use Rattle.gc_graph.specs.Limits.{most_words}
 use Rattle.std.specs.Option.{option_map, option_to_list}
@@ -14,26 +14,29 @@ use Rattle.gc_plan.specs.Runs.{HasSizesWithin, after}
 use Rattle.gc_plan.specs.Belonging.{IsState}
 use Rattle.gc_plan.specs.Passing.{HasFewPairs}
 use Rattle.gc_plan.specs.declared.step.StepReply.{StepReply}
-use Rattle.gc_core.specs.Flip.{flip_pair, open_pair, kept_after, IsCertified}
+use Rattle.gc_core.specs.Flip.{flip_pair, kept_after, IsCertified}
 use Rattle.gc_plan.specs.declared.event.Event.{Event}
+use Rattle.gc_plan.specs.declared.event.Event.TheVariants.{Mutate, Collect}
+use Rattle.gc_plan.specs.Steps.{collect}
 use Rattle.gc_core.specs.Performing.{flip_at}
 use Rattle.gc_trace.specs.Flips.{flips}
 
 -- ---- what is kept
 
 -- a kept pair is that of the open collection
-kept_by_reply : (s : State) (reply : StepReply) (pair : CertifiedPair) → kept_after None s reply ≡ Some pair → open_pair s s.collection ≡ Some pair
+kept_by_reply : (s : State) (reply : StepReply) (pair : CertifiedPair) → kept_after None s reply ≡ Some pair → option_map (flip_pair s) s.collection ≡ Some pair
 kept_by_reply s reply pair is = grind (arith, common_steps)
 
 counts_of : (s : State) (c : Collection) → IsState s → HasSizesWithin most_words s → c.size ≤ most_words → HasFewPairs s → s.mutators ≤ 16 → s.collection ≡ Some c → IsCertified (flip_pair s c) → HasCounts (flip_pair s c)
 counts_of s c ok sizes new small few is certified = grind (arith, common_steps, length-map)
 
-kept_counts : (s : State) (kept : Option Collection) (pair : CertifiedPair) → IsState s → HasSizesWithin most_words s → IfSome kept (λ c. c.size ≤ most_words) → HasFewPairs s → s.mutators ≤ 16 → s.collection ≡ kept → IsCertified pair → open_pair s kept ≡ Some pair → HasCounts pair
+kept_counts : (s : State) (kept : Option Collection) (pair : CertifiedPair) → IsState s → HasSizesWithin most_words s → IfSome kept (λ c. c.size ≤ most_words) → HasFewPairs s → s.mutators ≤ 16 → s.collection ≡ kept → IsCertified pair → option_map (flip_pair s) kept ≡ Some pair → HasCounts pair
 kept_counts s kept pair ok sizes new small few is certified same = grind (arith, common_steps, counts_of)
 
 -- a kept pair is within the limits on words, roots and pairs
 flip_counts : (s : State) (event : Event) (pair : CertifiedPair) → IsState s → HasSizesWithin most_words s → HasFewPairs s → s.mutators ≤ 16 → IsCertified pair → flip_at s event ≡ Some pair → HasCounts pair
-flip_counts s event pair ok sizes small few certified is = grind (arith, common_steps, kept_counts, kept_by_reply)
+flip_counts s (Mutate m op) pair ok sizes small few certified is = absurd cc
+flip_counts s (Collect step) pair ok sizes small few certified is = kept_counts s s.collection pair ok sizes sizes.collection small few refl certified (kept_by_reply s (collect s step).0 pair is)
 
 -- so is the pair that an event's flip keeps
 pub counts_of_kept : (s : State) (event : Event) (kept : Option PairFile) → IsState s → HasSizesWithin most_words s → HasFewPairs s → s.mutators ≤ 16 → option_map pair_in kept ≡ flip_at s event

@@ -5,13 +5,20 @@ use Rattle.std.specs.Fmt.{decimal}
 use Rattle.gc_graph.specs.Lines.{space, newline, line, joined}
 use Rattle.gc_graph.specs.Fronts.{BeginsWithNumber}
 use Rattle.gc_graph.proofs.Public.{one_front}
-use Rattle.gc_trace.specs.Grammar.{version_tokens, size_tokens, trace_heading, IsHeading}
+use Rattle.gc_trace.specs.Grammar.{trace_heading, IsHeading}
 use Rattle.gc_trace.proofs.FrontTokens.{begins}
+
+-- the tokens of the two lines
+abbrev version_tokens : ℕ → List (List ℕ)
+version_tokens version = codes "heaptrace" ∷ decimal version ∷ []
+
+abbrev size_tokens : ℕ → ℕ → List (List ℕ)
+size_tokens size mutators = codes "space" ∷ decimal size ∷ codes "mutators" ∷ decimal mutators ∷ []
 
 -- a heading's bytes in order
 pub heading_spelled : (version size mutators : ℕ) (more : List ℕ) → trace_heading version size mutators ++ more
     ≡ codes "heaptrace" ++ space ∷ (decimal version ++ newline ∷ (codes "space" ++ space ∷ (decimal size ++ space ∷ (codes "mutators" ++ space ∷ (decimal mutators ++ newline ∷ more)))))
-unfolding trace_heading version_tokens size_tokens
+unfolding trace_heading
 heading_spelled version size mutators more =
     append_assoc (line (version_tokens version)) (line (size_tokens size mutators)) more
     ∙ append_assoc (joined (version_tokens version)) (newline ∷ []) (line (size_tokens size mutators) ++ more)

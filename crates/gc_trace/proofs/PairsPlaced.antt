@@ -1,22 +1,29 @@
 -- Each replica is placed by a different step, so a history has no more pairs than events.
 use Rattle.std.proofs.lemmas.Grind.{common_steps}
+use Rattle.std.specs.Option.{option_map, option_map_or}
 use Rattle.std.proofs.Common.{◌≡◌, ℕ, ◌+◌, ◌≤◌, List, [], ◌∷◌, length, Option, Some, None, is_some, ap, arith}
 use Rattle.std.specs.List.{sum_by}
 use Rattle.std.proofs.lemmas.Bool.{cond_both}
 use Rattle.std.proofs.lemmas.List.{length-map}
 use Rattle.std.proofs.lemmas.List.Sums.{sum_by-cons}
 use Rattle.gc_graph.specs.Graph.{Value, Object, Graph, lookup, field_of}
-use Rattle.gc_plan.specs.State.{Replica, Collection, State, replica_of}
-use Rattle.gc_plan.specs.Steps.{logged, place_replica, with_replica, copy_value, bring_value, bring_up_to_date, if_room, copy_root, scan, next_field, scan_replica, apply_entry, apply_log, flip, collect_with}
+use Rattle.gc_plan.specs.State.{Replica, Collection, State, replica_of, moved}
+use Rattle.gc_plan.specs.Steps.{logged, place_replica, with_replica, bring_value, bring_up_to_date, if_room, copy_root, scan, scan_replica, apply_entry, apply_log, flip, write_replica, step_in, step_idle, next_field}
 use Rattle.gc_plan.specs.Runs.{after, answer, answers}
 use Rattle.gc_plan.specs.declared.event.Event.{Event}
+use Rattle.gc_plan.specs.declared.event.Answer.{Answer}
 use Rattle.gc_plan.specs.declared.event.Answer.TheVariants.{Collector}
 use Rattle.gc_plan.specs.declared.step.Step.{Step}
 use Rattle.gc_plan.specs.declared.step.Step.TheVariants as steps
 use Rattle.gc_plan.specs.declared.step.StepReply.{StepReply}
+use Rattle.gc_plan.specs.declared.step.StepReply.TheVariants.{Flipped}
 use Rattle.gc_world.specs.History.{IsHistory, answers_of}
 use Rattle.gc_world.specs.declared.entry.Entry.{Entry}
-use Rattle.gc_trace.specs.Report.{flipped_pairs}
+
+-- the number of pairs, if the answer is a flip's
+abbrev pub flipped_pairs : Answer → ℕ
+flipped_pairs (Collector (Flipped pairs)) = pairs
+flipped_pairs answer = 0
 
 -- the number of replicas of the open collection, or 0 if none is open
 abbrev replicas_in : Option Collection → ℕ
@@ -35,7 +42,7 @@ placed c name o = grind (arith, common_steps, cond_both)
 replicated : (c : Collection) (g : Graph) (v : Value) → replicas_in (with_replica c g v) ≤ length c.replicas + 1
 replicated c g v = grind (arith, common_steps, cond_both, placed)
 
-copied : (o : Option Collection) (name i : ℕ) (v : Value) → replicas_in (copy_value o name i v) ≡ replicas_in o
+copied : (o : Option Collection) (name i : ℕ) (v : Value) → replicas_in (option_map (λ (d : Collection). write_replica d name i (moved d v)) o) ≡ replicas_in o
 copied o name i v = grind (arith, common_steps, length-map)
 
 brought : (c : Collection) (g : Graph) (name i : ℕ) (v : Option Value) → replicas_in (bring_value c g name i v) ≤ length c.replicas + 1
@@ -57,7 +64,7 @@ room_places n s reply o none same few = grind (arith, common_steps)
 roots_place : (s : State) (c : Collection) (target : Option ℕ) → s.collection ≡ Some c → PlacesOne (length c.replicas) (copy_root s c target)
 roots_place s c target e = grind (arith, common_steps, unchanged, room_places, placed)
 
-field_goes_on : (o : Option Collection) → replicas_in (next_field o) ≡ replicas_in o
+field_goes_on : (o : Option Collection) → replicas_in (option_map next_field o) ≡ replicas_in o
 field_goes_on o = grind (arith, common_steps)
 
 object_scanned : (s : State) (c : Collection) (r : Option Replica) → s.collection ≡ Some c → PlacesOne (length c.replicas) (scan_replica s c r)
@@ -76,7 +83,7 @@ log_applied s c m log e = grind (arith, common_steps, unchanged, room_places, en
 flip_places : (s : State) (c : Collection) → s.collection ≡ Some c → PlacesOne (length c.replicas) (flip s c)
 flip_places s c e = grind (arith, common_steps, cond_both, unchanged)
 
-step_places : (s : State) (o : Option Collection) (step : Step) → s.collection ≡ o → PlacesOne (replicas_in o) (collect_with s o step)
+step_places : (s : State) (o : Option Collection) (step : Step) → s.collection ≡ o → PlacesOne (replicas_in o) (option_map_or (λ (c : Collection). step_in s c step) o (step_idle s step))
 step_places s o step e = grind (arith, common_steps, unchanged, roots_place, scan_places, log_applied, flip_places)
 
 -- ---- runs

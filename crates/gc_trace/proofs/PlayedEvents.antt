@@ -9,10 +9,10 @@ use Rattle.gc_plan.specs.declared.event.Answer.{Answer}
 use Rattle.gc_plan.specs.declared.event.Event.{Event}
 use Rattle.gc_world.specs.History.{unmarked}
 use Rattle.gc_trace.specs.Replies.{reply_line, reply_text}
-use Rattle.gc_trace.specs.Report.{report_of}
+use Rattle.gc_trace.specs.Report.{report_of, with_answer}
 use Rattle.gc_trace.specs.declared.report.Report.{Report}
-use Rattle.gc_trace.specs.Internal.Report.{with_answer, FitsU64}
-use Rattle.gc_trace.proofs.ReportCounts.{report_push, run_fits}
+use Rattle.gc_trace.specs.Internal.Report.{FitsU64}
+use Rattle.gc_trace.proofs.ReportCounts.{report_push, with_end, run_fits}
 
 -- ---- runs with one more event
 
@@ -58,4 +58,4 @@ lines_are s events event heap told before text waiting next same is so_far moved
 -- the final report, with the numbers of the space
 pub report_is : (s : State) (events : List Event) (heap : State) (report next : Report) (end free : ℕ) → heap ≡ state_after s events → report ≡ report_of (answers s events) s → next ≡ record report { end = end; free = free } → end ≡ heap_end heap → free ≡ heap.heap.free
     → next ≡ report_of (answers s events) (state_after s events)
-report_is s events heap report next end free same so_far is same_end same_free = grind (arith, common_steps)
+report_is s events heap report next end free same so_far is same_end same_free = grind (arith, common_steps, with_end)

@@ -11,7 +11,7 @@ use Rattle.gc_graph.specs.declared.command.Op.TheVariants as ops
 use Rattle.gc_plan.specs.declared.step.Step.TheVariants as steps
 use Rattle.gc_graph.proofs.Public.{lacks, HasNo-lacks}
 use Rattle.gc_plan.specs.declared.event.Event.TheVariants.{Mutate, Collect}
-use Rattle.gc_trace.specs.Grammar.{Recording, slot, op_tokens, step_tokens, event_tokens, event_line, version_tokens, size_tokens, trace_heading, trace_text, IsHeading, HasLine, IsTraceText}
+use Rattle.gc_trace.specs.Grammar.{Recording, slot, op_tokens, step_tokens, event_tokens, event_line, trace_heading, trace_text, IsHeading, HasLine, IsTraceText}
 use Rattle.gc_trace.specs.Faults.{trace_limit, HasNoHeading, BeginsWithNoEvent, IsTraceFaultOf}
 use Rattle.gc_trace.proofs.Headings.{AreSmall, heading_spelled, heading_injective, small_heading}
 use Rattle.gc_trace.proofs.NamedEvents.{named_line}
@@ -21,7 +21,7 @@ use Rattle.gc_trace.specs.declared.fault.TraceFault.TheVariants.{BadHeader, BadL
 use Rattle.gc_trace.proofs.FrontFaults.{no_line, no_event, no_heading}
 
 pub line_rows : LineRows
-unfolding digits slot op_tokens step_tokens event_tokens event_line version_tokens size_tokens trace_heading trace_text view_tokens reply_tokens step_reply_tokens answer_tokens
+unfolding digits slot op_tokens step_tokens event_tokens event_line trace_heading trace_text view_tokens reply_tokens step_reply_tokens answer_tokens
 line_rows = record { events = refl; replies = refl; step_replies = refl }
 
 short : (text : List ℕ) → leb (length text) trace_limit ≡ true → length text ≤ trace_limit
@@ -39,7 +39,7 @@ abbrev one_nil : Recording
 one_nil = small 1 (Mutate 0 (ops.Nil (shared_slot 0)) ∷ [])
 
 nil_text : IsTraceText one_nil (codes "heaptrace 1\nspace 8 mutators 1\nm 0 nil g0\n")
-unfolding digits slot op_tokens event_tokens event_line version_tokens size_tokens trace_heading trace_text
+unfolding digits slot op_tokens event_tokens event_line trace_heading trace_text
 nil_text = record { recording = record { heading = (omega arith, omega arith, omega arith, omega arith, omega arith, omega arith); events = ((record { range = (omega arith, omega arith); known = omega arith }, (omega arith, omega arith)), tt) }; spelled = refl }
 
 -- line 3 is bad
@@ -59,14 +59,14 @@ strange_heading v s m small strange small-enough = (short (trace_heading v s m) 
 
 -- with a line feed the text would be a heading and no more
 cut_heading : HasNoHeading (codes "heaptrace 1\nspace 8 mutators 1")
-unfolding digits version_tokens size_tokens trace_heading
+unfolding digits trace_heading
 cut_heading version size mutators more fits is =
     let whole : trace_heading version size mutators ++ (more ++ newline ∷ []) ≡ trace_heading 1 8 1 ++ [] = sym (append_assoc (trace_heading version size mutators) more (newline ∷ [])) ∙ ap (λ (t : List ℕ). t ++ newline ∷ []) (sym is) in
     let rest = (heading_injective version size mutators 1 8 1 (more ++ newline ∷ []) [] (small_heading version size mutators fits) (omega arith, omega arith, omega arith) whole).1 in
     absurd (omega (arith, ap length rest, length-append more (newline ∷ [])))
 
 pub text_rows : TextRows
-unfolding digits slot op_tokens step_tokens event_tokens event_line version_tokens size_tokens trace_heading
+unfolding digits slot op_tokens step_tokens event_tokens event_line trace_heading
 text_rows = record {
   nothing = (short [] refl, λ v s m more fits is. grind (arith, common_steps, heading_spelled));
   no_size = strange_heading 1 0 1 (omega arith, omega arith, omega arith) (λ fits. omega (arith, fits.2)) refl;
@@ -94,7 +94,7 @@ text_rows = record {
 }
 
 sized_text : IsTraceText (small 2 (Collect steps.Begin ∷ Collect (steps.BeginSized 12) ∷ [])) (codes "heaptrace 2\nspace 8 mutators 1\nc begin\nc begin 12\n")
-unfolding digits step_tokens event_tokens event_line version_tokens size_tokens trace_heading trace_text
+unfolding digits step_tokens event_tokens event_line trace_heading trace_text
 sized_text = record {
   recording = record {
     heading = (omega arith, omega arith, omega arith, omega arith, omega arith, omega arith);
@@ -104,7 +104,7 @@ sized_text = record {
 }
 
 pub sized_rows : SizedRows
-unfolding digits step_tokens event_tokens event_line version_tokens size_tokens trace_heading trace_text
+unfolding digits step_tokens event_tokens event_line trace_heading trace_text
 sized_rows = record {
   read = (sized_text, short (codes "heaptrace 2\nspace 8 mutators 1\nc begin\nc begin 12\n") refl);
   low = third_line 2 (codes "c begin 0") (omega arith) (omega arith) refl (λ fits _. omega (arith, fits.range.0)) refl;
@@ -115,7 +115,7 @@ sized_rows = record {
 }
 
 raw_text : IsTraceText (small 3 (Mutate 0 (ops.NewRaw (own_slot 0) 7 2) ∷ [])) (codes "heaptrace 3\nspace 8 mutators 1\nm 0 raw r0 7 2\n")
-unfolding digits slot op_tokens event_tokens event_line version_tokens size_tokens trace_heading trace_text
+unfolding digits slot op_tokens event_tokens event_line trace_heading trace_text
 raw_text = record {
   recording = record {
     heading = (omega arith, omega arith, omega arith, omega arith, omega arith, omega arith);
@@ -125,7 +125,7 @@ raw_text = record {
 }
 
 pub raw_rows : RawRows
-unfolding digits slot op_tokens step_tokens event_tokens event_line version_tokens size_tokens trace_heading trace_text view_tokens reply_tokens step_reply_tokens answer_tokens
+unfolding digits slot op_tokens step_tokens event_tokens event_line trace_heading trace_text view_tokens reply_tokens step_reply_tokens answer_tokens
 raw_rows = record {
   read = (raw_text, short (codes "heaptrace 3\nspace 8 mutators 1\nm 0 raw r0 7 2\n") refl);
   long = third_line 3 (codes "m 0 raw r0 7 65536") (omega arith) (omega arith) refl (λ fits _. omega (arith, fits.range.1.2)) refl;

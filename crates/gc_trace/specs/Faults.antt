@@ -34,12 +34,11 @@ HasStranger text n =
 
 -- this is the first fault of the text; `Read` and `NoMemory` are not faults of a text
 abbrev pub IsTraceFaultOf : TraceFault → List ℕ → Type 0
-IsTraceFaultOf Read text = ⊥
 IsTraceFaultOf TooLarge text = trace_limit < length text
 IsTraceFaultOf BadHeader text = (length text ≤ trace_limit) × HasNoHeading text
 IsTraceFaultOf (BadLine n) text = (length text ≤ trace_limit) × HasBadLine text n
 IsTraceFaultOf (NoSuchMutator n) text = (length text ≤ trace_limit) × HasStranger text n
-IsTraceFaultOf NoMemory text = ⊥
+IsTraceFaultOf fault text = ⊥
 
 -- the text is read as this trace: it spells the trace, and it is within the size limit
 abbrev pub IsReadAsTrace : Recording → List ℕ → Type 0

@@ -52,15 +52,9 @@ event_tokens (Collect step) = codes "c" ∷ step_tokens step
 unfoldable pub event_line : Event → List ℕ
 event_line event = line (event_tokens event)
 
-unfoldable pub version_tokens : ℕ → List (List ℕ)
-version_tokens version = codes "heaptrace" ∷ decimal version ∷ []
-
-unfoldable pub size_tokens : ℕ → ℕ → List (List ℕ)
-size_tokens size mutators = codes "space" ∷ decimal size ∷ codes "mutators" ∷ decimal mutators ∷ []
-
 -- lines 1 and 2
 unfoldable pub trace_heading : ℕ → ℕ → ℕ → List ℕ
-trace_heading version size mutators = line (version_tokens version) ++ line (size_tokens size mutators)
+trace_heading version size mutators = line (codes "heaptrace" ∷ decimal version ∷ []) ++ line (codes "space" ∷ decimal size ∷ codes "mutators" ∷ decimal mutators ∷ [])
 
 unfoldable pub trace_text : Recording → List ℕ
 trace_text t = trace_heading t.version t.size t.mutators ++ flat_map event_line t.events
@@ -103,10 +97,7 @@ pub record IsRecording (t : Recording) : Type 0 where
 
 -- the trace's numbers are in range, whatever its version
 pub record IsInRange (t : Recording) : Type 0 where
-  pub low : 1 ≤ t.size
-  pub high : t.size ≤ most_words
-  pub some : 1 ≤ t.mutators
-  pub few : t.mutators ≤ most_mutators
+  pub heading : IsHeading newest t.size t.mutators
   pub events : AllByRecursion (IsOf t.mutators) t.events
 
 -- the trace has a text, and this is it

@@ -1,6 +1,6 @@
 -- The report of a run.
-use Rattle.std.specs.Prelude.{ℕ, ◌==◌, Bool, List, [], ◌∷◌, length, codes, count_by, sum_by}
-use Rattle.std.specs.List.{flat_map}
+use Rattle.std.specs.Prelude.{ℕ, ◌+◌, List, [], ◌∷◌, ◌++◌, codes}
+use Rattle.std.specs.List.{flat_map, fold, zip}
 use Rattle.std.specs.Fmt.{decimal}
 use Rattle.gc_graph.specs.Lines.{line}
 use Rattle.gc_graph.specs.declared.reply.Reply.TheVariants as replies
@@ -10,69 +10,43 @@ use Rattle.gc_plan.specs.State.{State, heap_end}
 use Rattle.gc_plan.specs.declared.step.StepReply.TheVariants as steps
 use Rattle.gc_trace.specs.declared.report.Report.{Report}
 
--- ---- answers that are counted
+-- ---- one answer
 
--- the line of the report that counts the answer, by its number; 0 if only line 1 does, which counts all answers
-abbrev pub counting_line : Answer → ℕ
-counting_line (Mutator replies.Made) = 2
-counting_line (Mutator replies.Full) = 3
-counting_line (Collector steps.Begun) = 4
-counting_line (Collector steps.Copied) = 5
-counting_line (Collector steps.Scanned) = 6
-counting_line (Collector steps.Applied) = 7
-counting_line (Collector (steps.Flipped pairs)) = 8
-counting_line (Collector steps.Dropped) = 10
-counting_line (Collector steps.Refused) = 11
-counting_line answer = 0
+-- the count that the answer adds to; a flip also adds its pairs
+abbrev pub with_count : Report → Answer → Report
+with_count r (Mutator replies.Made) = record r { made = r.made + 1 }
+with_count r (Mutator replies.Full) = record r { full = r.full + 1 }
+with_count r (Collector steps.Begun) = record r { begun = r.begun + 1 }
+with_count r (Collector steps.Copied) = record r { copied = r.copied + 1 }
+with_count r (Collector steps.Scanned) = record r { scanned = r.scanned + 1 }
+with_count r (Collector steps.Applied) = record r { applied = r.applied + 1 }
+with_count r (Collector (steps.Flipped pairs)) = record r { flips = r.flips + 1; pairs = r.pairs + pairs }
+with_count r (Collector steps.Dropped) = record r { dropped = r.dropped + 1 }
+with_count r (Collector steps.Refused) = record r { refused = r.refused + 1 }
+with_count r answer = r
 
--- line n of the report counts the answer
-abbrev pub counted_in : ℕ → Answer → Bool
-counted_in n answer = counting_line answer == n
+-- the report after one more event, with this answer
+abbrev pub with_answer : Report → Answer → Report
+with_answer r answer = record (with_count r answer) { events = r.events + 1 }
 
--- the number of pairs, if the answer is a flip's
-abbrev pub flipped_pairs : Answer → ℕ
-flipped_pairs (Collector (steps.Flipped pairs)) = pairs
-flipped_pairs answer = 0
+-- ---- all answers
 
--- ---- the report
+-- the report of a run without events
+abbrev pub no_counts : State → Report
+no_counts s = record { events = 0; made = 0; full = 0; begun = 0; copied = 0; scanned = 0; applied = 0; flips = 0; pairs = 0; dropped = 0; refused = 0; end = heap_end s; free = s.heap.free }
 
 -- the counts of a run's answers, and the end and the free words of its last state
 abbrev pub report_of : List Answer → State → Report
-report_of answers s = record {
-  events = length answers;
-  made = count_by (counted_in 2) answers;
-  full = count_by (counted_in 3) answers;
-  begun = count_by (counted_in 4) answers;
-  copied = count_by (counted_in 5) answers;
-  scanned = count_by (counted_in 6) answers;
-  applied = count_by (counted_in 7) answers;
-  flips = count_by (counted_in 8) answers;
-  pairs = sum_by flipped_pairs answers;
-  dropped = count_by (counted_in 10) answers;
-  refused = count_by (counted_in 11) answers;
-  end = heap_end s;
-  free = s.heap.free;
-}
+report_of answers s = fold with_answer (no_counts s) answers
 
 -- ---- the text of a report
 
-abbrev pub report_lines : Report → List (List (List ℕ))
-report_lines r =
-    (codes "events" ∷ decimal r.events ∷ [])
-    ∷ (codes "made" ∷ decimal r.made ∷ [])
-    ∷ (codes "full" ∷ decimal r.full ∷ [])
-    ∷ (codes "begun" ∷ decimal r.begun ∷ [])
-    ∷ (codes "copied" ∷ decimal r.copied ∷ [])
-    ∷ (codes "scanned" ∷ decimal r.scanned ∷ [])
-    ∷ (codes "applied" ∷ decimal r.applied ∷ [])
-    ∷ (codes "flips" ∷ decimal r.flips ∷ [])
-    ∷ (codes "pairs" ∷ decimal r.pairs ∷ [])
-    ∷ (codes "dropped" ∷ decimal r.dropped ∷ [])
-    ∷ (codes "refused" ∷ decimal r.refused ∷ [])
-    ∷ (codes "end" ∷ decimal r.end ∷ [])
-    ∷ (codes "free" ∷ decimal r.free ∷ [])
-    ∷ []
+abbrev pub report_names : List (List ℕ)
+report_names = codes "events" ∷ codes "made" ∷ codes "full" ∷ codes "begun" ∷ codes "copied" ∷ codes "scanned" ∷ codes "applied" ∷ codes "flips" ∷ codes "pairs" ∷ codes "dropped" ∷ codes "refused" ∷ codes "end" ∷ codes "free" ∷ []
+
+abbrev pub report_counts : Report → List ℕ
+report_counts r = r.events ∷ r.made ∷ r.full ∷ r.begun ∷ r.copied ∷ r.scanned ∷ r.applied ∷ r.flips ∷ r.pairs ∷ r.dropped ∷ r.refused ∷ []
 
 -- thirteen lines, each with a name and a number
 abbrev pub report_text : Report → List ℕ
-report_text r = flat_map line (report_lines r)
+report_text r = flat_map (λ p. line (p.0 ∷ decimal p.1 ∷ [])) (zip report_names (report_counts r ++ r.end ∷ r.free ∷ []))

@@ -1,8 +1,12 @@
-ghost use Rattle.std.specs.Prelude.{◌≡◌, ◌≢◌, ◌≤◌, ◌↔◌, true, IfSome, IfOk, OnOk, OnErr, Err};
-ghost use Rattle.gc_graph.specs.Streams.{bytes_left, bytes_written, source_failed, sink_failed};
+ghost use Rattle.std.specs.Prelude.{◌≡◌, ◌≢◌, ◌≤◌, ◌↔◌, true, Some, None, IfSome, IfOk, OnOk, OnErr, Err};
+ghost use Rattle.std.specs.Io.KnownBytes.{Appends};
+ghost use Rattle.gc_graph.specs.Streams.{bytes_left, bytes_written, source_failed, sink_failed, SendsFront};
+ghost use Rattle.gc_cert.specs.Grammar.{CertifiedPair, spelling};
 ghost use Rattle.gc_trace.specs.Faults.{ReadingMayFail};
-ghost use Rattle.gc_trace.specs.Plays.{Plays, PlaysFront, Reports, ReportsFront};
-ghost use Rattle.gc_trace.specs.Flips.{PlaysPair, PlaysPairFront, HasNoFlip};
+ghost use Rattle.gc_trace.specs.Plays.{IsTraceAnd, trace_answers, report_in};
+ghost use Rattle.gc_trace.specs.Replies.{reply_text};
+ghost use Rattle.gc_trace.specs.Report.{report_text};
+ghost use Rattle.gc_trace.specs.Flips.{nth_flip};
 ghost use Rattle.gc_trace.specs.declared.fault.TraceFault.{TraceFault};
 
 use crate::fault::{PlayFault, TraceFault};
@@ -22,8 +26,8 @@ pub fn play<R: Read, W: Write>(
     writer: &mut Sink<W>,
 ) -> Result<Report, PlayFault>
     // All reply lines are written, and nothing else.
-    ensures played { IfOk result (λ report. Plays (bytes_left R.remaining reader.old) report
-        (bytes_written W.contents writer.old) (bytes_written W.contents writer.new)) }
+    ensures played { IfOk result (λ report. IsTraceAnd (bytes_left R.remaining reader.old) (λ t. (report ≡ report_in t) × Appends
+        (bytes_written W.contents writer.old) (bytes_written W.contents writer.new) (reply_text (trace_answers t)))) }
     // A bad text gives its first fault.
     ensures fault { (fault : TraceFault) → result ≡ Err (PlayFault.Trace fault) →
         IfSome (bytes_left R.remaining reader.old) (λ text. ReadingMayFail fault text) }
@@ -34,8 +38,8 @@ pub fn play<R: Read, W: Write>(
     // Nothing goes out before the last event has run.
     ensures silent { OnErr result (result ≢ Err PlayFault.Write → writer.new ≡ writer.old) }
     // A prefix of the reply lines went out.
-    ensures front { result ≡ Err PlayFault.Write → PlaysFront (bytes_left R.remaining reader.old)
-        (bytes_written W.contents writer.old) (bytes_written W.contents writer.new) }
+    ensures front { result ≡ Err PlayFault.Write → IsTraceAnd (bytes_left R.remaining reader.old) (λ t. SendsFront
+        (bytes_written W.contents writer.old) (bytes_written W.contents writer.new) (reply_text (trace_answers t))) }
 {
     let played = play_all(alloc, reader, Gather::Replies)?;
     match writer.write_all(&played.replies) {
@@ -51,8 +55,8 @@ pub fn play_report<R: Read, W: Write>(
     writer: &mut Sink<W>,
 ) -> Result<Report, PlayFault>
     // The whole text of the report is written, and nothing else.
-    ensures played { IfOk result (λ report. Reports (bytes_left R.remaining reader.old) report
-        (bytes_written W.contents writer.old) (bytes_written W.contents writer.new)) }
+    ensures played { IfOk result (λ report. IsTraceAnd (bytes_left R.remaining reader.old) (λ t. (report ≡ report_in t) × Appends
+        (bytes_written W.contents writer.old) (bytes_written W.contents writer.new) (report_text (report_in t)))) }
     // A bad text gives its first fault.
     ensures fault { (fault : TraceFault) → result ≡ Err (PlayFault.Trace fault) →
         IfSome (bytes_left R.remaining reader.old) (λ text. ReadingMayFail fault text) }
@@ -63,8 +67,8 @@ pub fn play_report<R: Read, W: Write>(
     // Nothing goes out before the last event has run.
     ensures silent { OnErr result (result ≢ Err PlayFault.Write → writer.new ≡ writer.old) }
     // A prefix of the report's text went out.
-    ensures front { result ≡ Err PlayFault.Write → ReportsFront (bytes_left R.remaining reader.old)
-        (bytes_written W.contents writer.old) (bytes_written W.contents writer.new) }
+    ensures front { result ≡ Err PlayFault.Write → IsTraceAnd (bytes_left R.remaining reader.old) (λ t. SendsFront
+        (bytes_written W.contents writer.old) (bytes_written W.contents writer.new) (report_text (report_in t))) }
 {
     let report = play_all(alloc, reader, Gather::Nothing)?.report;
     match write_report(writer, &report) {
@@ -83,10 +87,12 @@ pub fn play_pair<R: Read, W: Write>(
 ) -> Result<(), PlayFault>
     requires { 1 ≤ n }
     // The whole text of the pair is written, and nothing else.
-    ensures played { OnOk result (PlaysPair n (bytes_left R.remaining reader.old)
-        (bytes_written W.contents writer.old) (bytes_written W.contents writer.new)) }
+    ensures played { OnOk result (IsTraceAnd (bytes_left R.remaining reader.old) (λ t. (pair : CertifiedPair)
+        × (nth_flip n t ≡ Some pair)
+        × Appends (bytes_written W.contents writer.old) (bytes_written W.contents writer.new) (spelling pair))) }
     // The trace has fewer flips.
-    ensures none { result ≡ Err PlayFault.NoSuchFlip → HasNoFlip n (bytes_left R.remaining reader.old) }
+    ensures none { result ≡ Err PlayFault.NoSuchFlip →
+        IsTraceAnd (bytes_left R.remaining reader.old) (λ t. nth_flip n t ≡ None) }
     // A bad text gives its first fault.
     ensures fault { (fault : TraceFault) → result ≡ Err (PlayFault.Trace fault) →
         IfSome (bytes_left R.remaining reader.old) (λ text. ReadingMayFail fault text) }
@@ -96,8 +102,9 @@ pub fn play_pair<R: Read, W: Write>(
     // Nothing goes out before the flip is found.
     ensures silent { OnErr result (result ≢ Err PlayFault.Write → writer.new ≡ writer.old) }
     // A prefix of the pair's text went out.
-    ensures front { result ≡ Err PlayFault.Write → PlaysPairFront n (bytes_left R.remaining reader.old)
-        (bytes_written W.contents writer.old) (bytes_written W.contents writer.new) }
+    ensures front { result ≡ Err PlayFault.Write → IsTraceAnd (bytes_left R.remaining reader.old) (λ t. (pair : CertifiedPair)
+        × (nth_flip n t ≡ Some pair)
+        × SendsFront (bytes_written W.contents writer.old) (bytes_written W.contents writer.new) (spelling pair)) }
 {
     let trace = read_trace(alloc, reader)?;
     let Some(file) = nth_flip(alloc, &trace, n)? else {

@@ -8,10 +8,10 @@ ghost use Rattle.gc_plan.specs.declared.event.Event.{Event};
 ghost use Rattle.gc_trace.specs.Faults.{ReadingMayFail};
 ghost use Rattle.gc_trace.specs.Internal.Playing.{HasPlayed, HasPlayedRest, HasResults};
 ghost use Rattle.gc_trace.specs.Internal.Reading.{IsReadingTrace, HasRead, read_so_far};
-ghost use Rattle.gc_trace.specs.Internal.Report.{with_answer, FitsU64};
+ghost use Rattle.gc_trace.specs.Internal.Report.{FitsU64};
 ghost use Rattle.gc_trace.specs.Plays.{trace_opening};
 ghost use Rattle.gc_trace.specs.Replies.{reply_text};
-ghost use Rattle.gc_trace.specs.Report.{report_of};
+ghost use Rattle.gc_trace.specs.Report.{report_of, with_answer};
 
 use crate::event_reader::EventReader;
 use crate::fault::TraceFault;
@@ -130,7 +130,6 @@ impl Player {
     }
 
     /// Takes the results after the last event. The player stays where it is: a copy would take 16 KiB of stack.
-    #[tactic(auto, using(crate::proofs::SpaceEnds::same_end, crate::proofs::PlayedEvents::report_is))]
     fn finish(&mut self, alloc: Global) -> Result<Played, NoMemory>
         requires sound { IsState self.old.heap }
         ensures report { (s : State) (events : List Event) → HasPlayed s events self.old

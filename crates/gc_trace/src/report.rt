@@ -59,7 +59,8 @@ impl Report {
     ghost use Rattle.gc_words.specs.Space.{free_in, end_of};
     ghost use Rattle.gc_plan.specs.declared.event.Answer.TheVariants.{Mutator, Collector};
     ghost use Rattle.gc_world.specs.History.{unmarked};
-    ghost use Rattle.gc_trace.specs.Internal.Report.{with_answer, FitsU64};
+    ghost use Rattle.gc_trace.specs.Report.{with_count, with_answer};
+    ghost use Rattle.gc_trace.specs.Internal.Report.{FitsU64};
 
     /// Returns the report of a run without events in this space.
     pub(crate) fn of_space(space: &Space) -> Report
@@ -111,7 +112,7 @@ impl Report {
     /// Counts a mutator's reply, but not the event.
     fn count_reply(&mut self, reply: &Reply)
         requires { FitsU64 (with_answer self.old (Mutator reply.now)) }
-        ensures { self.new ≡ record (with_answer self.old (Mutator reply.now)) { events = self.old.events } }
+        ensures { self.new ≡ with_count self.old (Mutator reply.now) }
     {
         match reply {
             Reply::Made => self.made += 1,
@@ -123,7 +124,7 @@ impl Report {
     /// Counts the reply to a step, but not the event.
     fn count_step(&mut self, reply: &StepReply)
         requires { FitsU64 (with_answer self.old (Collector reply.now)) }
-        ensures { self.new ≡ record (with_answer self.old (Collector reply.now)) { events = self.old.events } }
+        ensures { self.new ≡ with_count self.old (Collector reply.now) }
     {
         match reply {
             StepReply::Begun => self.begun += 1,

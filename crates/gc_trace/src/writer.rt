@@ -145,7 +145,7 @@ fn print_event(printer: &mut Printer, event: &Event)
 }
 
 /// Prints lines 1 and 2.
-#[tactic(auto, unfolding(crate::specs::Grammar::version_tokens, crate::specs::Grammar::size_tokens, crate::specs::Grammar::trace_heading))]
+#[tactic(auto, unfolding(crate::specs::Grammar::trace_heading))]
 fn print_heading(printer: &mut Printer, version: u8, size: u32, mutators: u8)
     requires { printer.old ≡ [] }
     ensures { printer.new ≡ trace_heading version size mutators }

@@ -38,7 +38,7 @@ objects_of_blocks pairs o q c = grind (arith, common_steps, zip_of_maps, field_v
 
 -- ---- pairs by their places
 
-place_of : (pairs : List (ℕ × ℕ)) (a b : ℕ) → paired pairs a b ≡ true → (k : ℕ) × (k < length pairs) × ((d : ℕ × ℕ) → slice_index_or pairs k d ≡ (a, b))
+pub place_of : (pairs : List (ℕ × ℕ)) (a b : ℕ) → paired pairs a b ≡ true → (k : ℕ) × (k < length pairs) × ((d : ℕ × ℕ) → slice_index_or pairs k d ≡ (a, b))
 place_of [] a b e = cc
 place_of (p ∷ pairs) a b e =
     elim (or_cases ((p.0 == a) && (p.1 == b)) (paired pairs a b) e) [

@@ -2,10 +2,11 @@
 use Rattle.std.proofs.lemmas.Grind.{common_steps}
 use Rattle.std.proofs.Common.{◌≡◌, ℕ, suc, zero, ◌+◌, ◌-◌, ◌<◌, ◌≤◌, Bool, true, false, cond, ◌&&◌, ◌==◌, List, [], ◌∷◌, length, Option, Some, None, Result, Ok, Err, refl, sym, ◌∙◌, ap, subst, inl, inr, arith}
 use Rattle.std.specs.Prelude.{slice_index}
+use Rattle.std.specs.Result.{result_err}
 use Rattle.std.proofs.lemmas.Bool.{eqb-true, eq-eqb, leb-true, le-leb, and_parts, and_from, both_ways, cases_lt}
 use Rattle.std.proofs.lemmas.List.{drop_all}
 use Rattle.gc_words.specs.Image.{Block, Image, walk, with_front}
-use Rattle.gc_words.specs.Fault.{first_difference, fault_of_walk, has_size, shape_fault}
+use Rattle.gc_words.specs.Fault.{first_difference, has_size, shape_fault}
 use Rattle.gc_words.specs.FaultPlace.{DifferFirstAt, IsFramed, LieBetween, StopsAt, ShapeFailsAt}
 use Rattle.gc_words.specs.Walking.{next_in, walk_on, block_from, StepsIn}
 use Rattle.gc_words.proofs.Steps.{step, no_step, framed}
@@ -81,7 +82,7 @@ module _ (raws : Bool) (words : List ℕ) where
 
 -- ---- shapes
 
-err_of : {X : Type 0} (r : Result X ℕ) (at : ℕ) → fault_of_walk r ≡ Some at → r ≡ Err at
+err_of : {X : Type 0} (r : Result X ℕ) (at : ℕ) → result_err r ≡ Some at → r ≡ Err at
 err_of r at e = grind (arith, common_steps)
 
 sizes_of : (image : Image) → IsFramed image → has_size image ≡ true
@@ -104,7 +105,7 @@ shape_fails image at e = go (has_size image) refl ((length image.words == image.
     behind_zero f (suc n) s = (f, s)
 
     go : (b : Bool) → has_size image ≡ b → (c : Bool) → ((length image.words == image.end) && (slice_index image.words 0 == 0)) ≡ c
-        → cond b (cond c (fault_of_walk (walk_on image.raws image.words 1)) (Some 0)) (Some 0) ≡ Some at → ShapeFailsAt image at
+        → cond b (cond c (result_err (walk_on image.raws image.words 1)) (Some 0)) (Some 0) ≡ Some at → ShapeFailsAt image at
     go false hb c hc f = at_zero (λ framed. both_ways (has_size image) hb (sizes_of image framed)) f
     go true hb false hc f = at_zero (λ framed. both_ways ((length image.words == image.end) && (slice_index image.words 0 == 0)) hc (words_of image framed)) f
     go true hb true hc f = behind_zero (framed_of image hb hc) at (stops image.raws image.words (length image.words) 1 at (omega arith) (err_of (walk_on image.raws image.words 1) at f))

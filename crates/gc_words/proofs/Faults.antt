@@ -2,6 +2,8 @@
 use Rattle.std.proofs.lemmas.Grind.{common_steps}
 use Rattle.std.proofs.Common.{◌≡◌, ℕ, suc, ◌<◌, Bool, true, false, cond, not, ◌==◌, List, [], ◌∷◌, ◌++◌, length, get_or, take, Option, Some, None, is_some, refl, sym, ◌∙◌, ap, subst, arith, append_assoc, append-nil}
 use Rattle.std.specs.Prelude.{◌≢◌, nat_le}
+use Rattle.std.specs.Bool.{then_some}
+use Rattle.std.specs.Option.{option_map}
 use Rattle.std.specs.List.{All, AllPairs, AllZip, AllByRecursion, list_any}
 use Rattle.std.proofs.lemmas.Bool.{eqb-true, eq-eqb, ne_eqb, leb-true, leb-false, le-leb, lt-leb, and_parts, and_from, both_ways, not-false}
 use Rattle.std.proofs.lemmas.List.{get_or_append_left, get_or_at, length-append}
@@ -13,7 +15,7 @@ use Rattle.gc_words.specs.Word.{words_correspond}
 use Rattle.gc_words.specs.Image.{Image, Block, IsShaped, block_at, is_start}
 use Rattle.gc_words.specs.declared.header.Header.{Header}
 use Rattle.gc_words.specs.Certificate.{BlocksCorrespond, Certified}
-use Rattle.gc_words.specs.Fault.{◌or_else◌, when, at_place, shape_fault, not_above_last, place_fault, first_over_pairs, place_faults, table_fault, first_difference, same_header, block_fault, pair_fault, object_faults, root_fault, first_fault}
+use Rattle.gc_words.specs.Fault.{◌or_else◌, shape_fault, not_above_last, place_fault, first_over_pairs, place_faults, table_fault, first_difference, same_header, block_fault, pair_fault, object_faults, root_fault, first_fault}
 use Rattle.gc_words.specs.declared.refusal.Refusal.{Refusal}
 use Rattle.gc_words.specs.declared.refusal.Refusal.TheVariants.{OldShape, NewShape, RootCount, RootDiffers}
 
@@ -25,16 +27,16 @@ or_none x y e = grind (arith, common_steps)
 pub none_or : {X : Type 0} (x y : Option X) → x ≡ None → y ≡ None → (x or_else y) ≡ None
 none_or x y e f = grind (arith, common_steps)
 
-pub when_none : (b : Bool) (r : Refusal) → when b r ≡ None → b ≡ false
+pub when_none : (b : Bool) (r : Refusal) → then_some b r ≡ None → b ≡ false
 when_none b r e = grind (arith, common_steps)
 
-pub none_when : (b : Bool) (r : Refusal) → b ≡ false → when b r ≡ None
+pub none_when : (b : Bool) (r : Refusal) → b ≡ false → then_some b r ≡ None
 none_when b r e = grind (arith, common_steps)
 
-pub at_place_none : (o : Option ℕ) (r : ℕ → Refusal) → at_place o r ≡ None → o ≡ None
+pub at_place_none : (o : Option ℕ) (r : ℕ → Refusal) → option_map r o ≡ None → o ≡ None
 at_place_none o r e = grind (arith, common_steps)
 
-pub none_at_place : (o : Option ℕ) (r : ℕ → Refusal) → o ≡ None → at_place o r ≡ None
+pub none_at_place : (o : Option ℕ) (r : ℕ → Refusal) → o ≡ None → option_map r o ≡ None
 none_at_place o r e = grind (arith, common_steps)
 
 -- ---- shape
@@ -177,9 +179,9 @@ module _ (old new : Image) (pairs : List (ℕ × ℕ)) where
   certified_of_no_fault e =
       let s5 : ((table_fault old new pairs or_else object_faults old new pairs) ≡ None) × (root_fault old new pairs ≡ None) = or_none _ _ e in
       let s4 : (table_fault old new pairs ≡ None) × (object_faults old new pairs ≡ None) = or_none _ _ s5.0 in
-      let s3 : ((at_place (shape_fault old) (λ at. OldShape at) or_else at_place (shape_fault new) (λ at. NewShape at) or_else when (not (length old.roots == length new.roots)) RootCount) ≡ None)
+      let s3 : ((option_map (λ at. OldShape at) (shape_fault old) or_else option_map (λ at. NewShape at) (shape_fault new) or_else then_some (not (length old.roots == length new.roots)) RootCount) ≡ None)
       × (place_faults old new pairs ≡ None) = or_none _ _ s4.0 in
-      let s1 : (at_place (shape_fault old) (λ at. OldShape at) ≡ None) × (at_place (shape_fault new) (λ at. NewShape at) ≡ None) = or_none _ _ (or_none _ _ s3.0).0 in
+      let s1 : (option_map (λ at. OldShape at) (shape_fault old) ≡ None) × (option_map (λ at. NewShape at) (shape_fault new) ≡ None) = or_none _ _ (or_none _ _ s3.0).0 in
       let places : AllPairs Later pairs × All Start pairs = no_place_faults old new pairs pairs [] 0 refl refl (λ i j d h l. absurd (omega arith)) (λ n e. All-nil (λ q. q.1 < n)) s3.1 in
       record {
         old_shaped = shaped old (at_place_none (shape_fault old) (λ at. OldShape at) s1.0);

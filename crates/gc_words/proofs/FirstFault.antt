@@ -1,5 +1,7 @@
 -- The conditions that hold before the first fault.
 use Rattle.std.proofs.lemmas.Grind.{common_steps}
+use Rattle.std.specs.Bool.{then_some}
+use Rattle.std.specs.Option.{option_map}
 use Rattle.std.proofs.Common.{◌≡◌, ℕ, suc, ◌<◌, Bool, true, false, not, ◌==◌, List, [], ◌∷◌, ◌++◌, length, Option, Some, None, refl, sym, ◌∙◌, ap, subst, arith, append_assoc}
 use Rattle.std.specs.List.{All, list_any}
 use Rattle.std.proofs.lemmas.Bool.{eqb-true, eqb-false, ne_eqb, both_ways}
@@ -9,7 +11,7 @@ use Rattle.std.proofs.lemmas.List.Folds.{list_any_none}
 use Rattle.gc_words.specs.Word.{words_correspond}
 use Rattle.gc_words.specs.Image.{Image, Block, block_at, is_start}
 use Rattle.gc_words.specs.Certificate.{BlocksCorrespond}
-use Rattle.gc_words.specs.Fault.{◌or_else◌, when, at_place, shape_fault, first_over_pairs, not_above_last, place_fault, place_faults, first_difference, block_fault, pair_fault, object_faults, first_fault, PairAt, AreComparable, ArePlaced, ObjectsMatch, HeadersDiffer, FieldsDifferAt, PlaceFails, ObjectFails, IsFirstFault}
+use Rattle.gc_words.specs.Fault.{◌or_else◌, shape_fault, first_over_pairs, not_above_last, place_fault, place_faults, first_difference, block_fault, pair_fault, object_faults, first_fault, PairAt, AreComparable, ArePlaced, ObjectsMatch, HeadersDiffer, FieldsDifferAt, PlaceFails, ObjectFails, IsFirstFault}
 use Rattle.gc_words.specs.declared.refusal.Refusal.{Refusal}
 use Rattle.gc_words.specs.declared.refusal.Refusal.TheVariants.{OldShape, NewShape, RootCount, OldNotStart, NewNotStart, NotRising, Twice, HeaderDiffers, FieldDiffers, RootDiffers}
 use Rattle.gc_words.proofs.Faults.{shaped, LastIsHighest, pushed_highest, none_same, above_all, no_block_fault, header_same, same_header_of, first_taken, one_longer, place_faults_from, no_place_faults, no_object_faults}
@@ -39,7 +41,7 @@ module _ (old new : Image) (pairs : List (ℕ × ℕ)) where
       at P h = record { before = before; pair = p; rest = rest; whole = sym whole; place = count; holds = h }
 
       go : Again → (a : Bool) → is_start old.words p.0 ≡ a → (b : Bool) → is_start new.words p.1 ≡ b → (c : Bool) → not_above_last before p.1 ≡ c → (d : Bool) → list_any (λ q. q.0 == p.0) before ≡ d
-          → ((when (not a) (OldNotStart k) or_else when (not b) (NewNotStart k) or_else when c (NotRising k) or_else when d (Twice k)) or_else place_faults_from old new pairs (suc k) rest) ≡ Some r
+          → ((then_some (not a) (OldNotStart k) or_else then_some (not b) (NewNotStart k) or_else then_some c (NotRising k) or_else then_some d (Twice k)) or_else place_faults_from old new pairs (suc k) rest) ≡ Some r
           → PlaceFails old new pairs r
       go again a fa b fb c fc d fd e = grind (arith, common_steps, at, both_ways, above_all, recursion_from_All, list_any_none, All-weaker, ne_eqb)
 
@@ -101,7 +103,7 @@ module _ (old new : Image) (pairs : List (ℕ × ℕ)) where
       go : (o : Option ℕ) → shape_fault old ≡ o → (n : Option ℕ) → shape_fault new ≡ n → (c : Bool) → (length old.roots == length new.roots) ≡ c
           → (p : Option Refusal) → place_faults old new pairs ≡ p → (b : Option Refusal) → object_faults old new pairs ≡ b
           → (d : Option ℕ) → first_difference (words_correspond pairs) 0 old.roots new.roots ≡ d
-          → ((at_place o (λ at. OldShape at) or_else at_place n (λ at. NewShape at) or_else when (not c) RootCount or_else p) or_else b or_else at_place d (λ slot. RootDiffers slot)) ≡ Some r
+          → ((option_map (λ at. OldShape at) o or_else option_map (λ at. NewShape at) n or_else then_some (not c) RootCount or_else p) or_else b or_else option_map (λ slot. RootDiffers slot) d) ≡ Some r
           → IsFirstFault old new pairs r
       go (Some at) fo n fn c fc p fp b fb d fd e = let same : OldShape at ≡ r = cc e in subst (IsFirstFault old new pairs) same fo
       go None fo (Some at) fn c fc p fp b fb d fd e = let same : NewShape at ≡ r = cc e in subst (IsFirstFault old new pairs) same (shaped old fo, fn)

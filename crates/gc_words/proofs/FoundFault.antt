@@ -1,11 +1,13 @@
 -- A fault that is the first by its relation is the one that is found.
 use Rattle.std.proofs.lemmas.Grind.{common_steps}
+use Rattle.std.specs.Bool.{then_some}
+use Rattle.std.specs.Option.{option_map}
 use Rattle.std.proofs.Common.{◌≡◌, ℕ, suc, ◌+◌, ◌<◌, Bool, true, not, ◌==◌, List, [], ◌∷◌, ◌++◌, length, take, Option, Some, None, refl, sym, ◌∙◌, ap, subst, arith, ⊎_elim, append_assoc, append-nil}
 use Rattle.std.specs.List.{All, AllPairs, list_any}
 use Rattle.std.proofs.lemmas.Bool.{cases_Bool, eq-eqb, ne_eqb}
 use Rattle.std.proofs.lemmas.List.Elements.{All-nil, All-head, All-tail, All-weaker, recursion_from_All}
 use Rattle.gc_words.specs.Image.{Image, Block}
-use Rattle.gc_words.specs.Fault.{◌or_else◌, when, at_place, shape_fault, first_over_pairs, not_above_last, place_fault, place_faults, table_fault, block_fault, pair_fault, object_faults, first_fault, PairAt, AreComparable, ArePlaced, ObjectsMatch, HeadersDiffer, FieldsDifferAt, IsFirstFault}
+use Rattle.gc_words.specs.Fault.{◌or_else◌, shape_fault, first_over_pairs, not_above_last, place_fault, place_faults, table_fault, block_fault, pair_fault, object_faults, first_fault, PairAt, AreComparable, ArePlaced, ObjectsMatch, HeadersDiffer, FieldsDifferAt, IsFirstFault}
 use Rattle.gc_words.specs.declared.refusal.Refusal.{Refusal}
 use Rattle.gc_words.specs.declared.refusal.Refusal.TheVariants.{OldShape, NewShape, RootCount, OldNotStart, NewNotStart, NotRising, Twice, HeaderDiffers, FieldDiffers, RootDiffers}
 use Rattle.gc_words.proofs.Faults.{none_or, none_when, none_at_place, no_shape_fault, LastIsHighest, Later, pushed_highest, none_same, above_all, first_taken, one_longer, place_faults_from, before_each, place_holds, places_hold, header_same, same_header_of, block_fault_none, object_faults_none, Start, Object}
@@ -18,11 +20,11 @@ found x y r e = grind (arith, common_steps)
 passed : {X : Type 0} (x y : Option X) (r : X) → x ≡ None → y ≡ Some r → (x or_else y) ≡ Some r
 passed x y r e f = grind (arith, common_steps)
 
-when_found : (b : Bool) (r : Refusal) → b ≡ true → when b r ≡ Some r
-when_found b r e = ap (λ b. when b r) e
+when_found : (b : Bool) (r : Refusal) → b ≡ true → then_some b r ≡ Some r
+when_found b r e = ap (λ b. then_some b r) e
 
-at_found : (o : Option ℕ) (r : ℕ → Refusal) (n : ℕ) → o ≡ Some n → at_place o r ≡ Some (r n)
-at_found o r n e = ap (λ o. at_place o r) e
+at_found : (o : Option ℕ) (r : ℕ → Refusal) (n : ℕ) → o ≡ Some n → option_map r o ≡ Some (r n)
+at_found o r n e = ap (λ o. option_map r o) e
 
 -- ---- places
 
@@ -64,7 +66,7 @@ module _ (old new : Image) (pairs : List (ℕ × ℕ)) where
   -- ---- all of them
 
   comparable_none : AreComparable old new
-      → ((at_place (shape_fault old) (λ at. OldShape at) or_else at_place (shape_fault new) (λ at. NewShape at)) or_else when (not (length old.roots == length new.roots)) RootCount) ≡ None
+      → ((option_map (λ at. OldShape at) (shape_fault old) or_else option_map (λ at. NewShape at) (shape_fault new)) or_else then_some (not (length old.roots == length new.roots)) RootCount) ≡ None
   comparable_none c = grind (arith, common_steps, none_or, none_at_place, no_shape_fault, none_when, eq-eqb)
 
   table_none : AreComparable old new → ArePlaced old new pairs → table_fault old new pairs ≡ None

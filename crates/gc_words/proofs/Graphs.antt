@@ -2,10 +2,10 @@
 use Rattle.std.proofs.lemmas.Grind.{common_steps}
 use Rattle.std.proofs.Common.{◌≡◌, ℕ, suc, zero, Bool, true, cond, List, [], ◌∷◌, map, replicate, Some, refl, ap, arith}
 use Rattle.std.specs.Prelude.{slice_get, slice_index, slice_set, IsSome}
-use Rattle.std.specs.Option.{option_map}
+use Rattle.std.specs.Option.{option_map, unwrap_or}
 use Rattle.std.proofs.lemmas.Bool.{eqb-true, eqb-false, eq-eqb, ne_eqb, ltb-true, lt-ltb, cases_Bool, or_cases}
 use Rattle.std.proofs.lemmas.List.{map-append, map-set}
-use Rattle.gc_graph.specs.Graph.{Value, Nil, Num, Object, Graph, lookup, first_value, new_object, add_object, set_field, set_root, field_of, value_or_nil}
+use Rattle.gc_graph.specs.Graph.{Value, Nil, Num, Object, Graph, lookup, first_value, new_object, add_object, set_field, set_root, field_of}
 use Rattle.gc_words.specs.Word.{value_of, is_value, read_value, word_of, HasAddress, field_value}
 use Rattle.gc_words.specs.Image.{Block, fresh_block, blocks, block_in, block_at, field_at, is_start, object_of_block, object_entry, objects_of, graph_of}
 use Rattle.gc_words.specs.Layout.{field_place, link_place}
@@ -50,7 +50,7 @@ field_of_block h (w ∷ words) (suc i) = field_of_block h words i
 pub field_found : (words : List ℕ) (a i : ℕ) (b : Block) → block_at words a ≡ Some b → field_of (lookup (objects_of words) a) i ≡ option_map (field_value b.header) (field_at words a i)
 field_found words a i b e = grind (arith, common_steps, object_found, field_of_block)
 
-pub root_value : (roots : List ℕ) (place : ℕ) → value_or_nil (slice_get (map value_of roots) place) ≡ value_of (slice_index roots place)
+pub root_value : (roots : List ℕ) (place : ℕ) → unwrap_or (slice_get (map value_of roots) place) Nil ≡ value_of (slice_index roots place)
 root_value [] place = refl
 root_value (w ∷ roots) zero = refl
 root_value (w ∷ roots) (suc place) = root_value roots place

@@ -1,6 +1,6 @@
 -- Links after a write, which changes no other word.
 use Rattle.std.proofs.lemmas.Grind.{common_steps}
-use Rattle.std.proofs.Common.{◌≡◌, ℕ, ◌+◌, ◌<◌, ◌≤◌, true, false, cond, ◌==◌, List, [], ◌∷◌, length, Some, None, is_some, sym, ◌∙◌, ap, inl, inr, arith}
+use Rattle.std.proofs.Common.{◌≡◌, ℕ, ◌+◌, ◌<◌, ◌≤◌, true, false, List, [], ◌∷◌, length, Some, None, is_some, inl, inr, arith}
 use Rattle.std.specs.Prelude.{IsSome}
 use Rattle.std.proofs.lemmas.Bool.{eqb-true, cases_Bool, cases_lt}
 use Rattle.std.proofs.lemmas.List.{get_or_append_left, get_or-append-add, get_or-set_same, get_or-set_other}
@@ -20,26 +20,9 @@ not_before [] at x laid e = absurd (let no : false ≡ true = e in cc)
 not_before (entry ∷ rest) at x laid e = grind (arith, common_steps, cases_Bool, eqb-true, is_some, not_before rest (at + (entry.1.header.len + 2)) x)
 
 -- the greater of two starts lies after the other's object
-apart : (entries : List (ℕ × Block)) (at a x : ℕ) (b : Block) → LaidOut at entries → block_in entries a ≡ Some b → is_some (block_in entries x) ≡ true → a < x → a + (b.header.len + 2) ≤ x
-apart [] at a x b laid found start less = absurd (let no : None ≡ Some b = found in cc)
-apart (entry ∷ rest) at a x b laid found start less =
-    let place : entry.0 ≡ at = laid.0 in
-    let behind : is_some (block_in rest x) ≡ true → at + (entry.1.header.len + 2) ≤ x = not_before rest (at + (entry.1.header.len + 2)) x laid.2 in
-    elim (cases_Bool (entry.0 == a)) [
-      | inl here ↦ (let same : entry.0 ≡ a = eqb-true entry.0 a here in
-          let is : entry.1 ≡ b = (let s : Some entry.1 ≡ Some b = sym (ap (λ t. cond t (Some entry.1) (block_in rest a)) here) ∙ found in cc) in
-          let len : entry.1.header.len ≡ b.header.len = ap (λ (b : Block). b.header.len) is in
-          elim (cases_Bool (entry.0 == x)) [
-            | inl there ↦ (let equal : entry.0 ≡ x = eqb-true entry.0 x there in absurd (omega arith))
-            | inr other ↦ (let more : at + (entry.1.header.len + 2) ≤ x = behind (sym (ap (λ t. is_some (cond t (Some entry.1) (block_in rest x))) other) ∙ start) in omega arith)
-          ])
-      | inr elsewhere ↦ (let later : block_in rest a ≡ Some b = sym (ap (λ t. cond t (Some entry.1) (block_in rest a)) elsewhere) ∙ found in
-          elim (cases_Bool (entry.0 == x)) [
-            | inl there ↦ (let equal : entry.0 ≡ x = eqb-true entry.0 x there in
-                let low : at + (entry.1.header.len + 2) ≤ a = not_before rest (at + (entry.1.header.len + 2)) a laid.2 (ap is_some later) in absurd (omega arith))
-            | inr other ↦ apart rest (at + (entry.1.header.len + 2)) a x b laid.2 later (sym (ap (λ t. is_some (cond t (Some entry.1) (block_in rest x))) other) ∙ start) less
-          ])
-    ]
+pub objects_apart : (entries : List (ℕ × Block)) (at a x : ℕ) (b : Block) → LaidOut at entries → block_in entries a ≡ Some b → is_some (block_in entries x) ≡ true → a < x → a + (b.header.len + 2) ≤ x
+objects_apart [] at a x b laid found start less = absurd (let no : None ≡ Some b = found in cc)
+objects_apart (entry ∷ rest) at a x b laid found start less = grind (arith, common_steps, cases_Bool, eqb-true, not_before rest (at + (entry.1.header.len + 2)) a, not_before rest (at + (entry.1.header.len + 2)) x, objects_apart rest (at + (entry.1.header.len + 2)) a x b)
 
 link_within : (s : SpaceWords) (x : ℕ) → IsSpace s → is_start s.words x ≡ true → x + 1 < length s.words
 link_within s x space start =
@@ -61,7 +44,7 @@ link_beside_field s a i w x space some start =
     let f : FieldRead s.words a i = field_read s.words a i space.walked some in
     let small : i < f.block.header.len = f.has_field in
     let differs : x + 1 ≡ field_place a i → ⊥ = λ same. elim (cases_lt a x) [
-      | inl less ↦ (let past : a + (f.block.header.len + 2) ≤ x = apart (blocks s.words) 1 a x f.block (laid_out_words s.words space.walked) f.found start less in omega arith)
+      | inl less ↦ (let past : a + (f.block.header.len + 2) ≤ x = objects_apart (blocks s.words) 1 a x f.block (laid_out_words s.words space.walked) f.found start less in omega arith)
       | inr more ↦ omega arith
     ] in
     get_or-set_other s.words (field_place a i) (x + 1) w 0 differs

@@ -2,9 +2,10 @@
 use Rattle.std.proofs.lemmas.Grind.{common_steps}
 use Rattle.std.proofs.Common.{◌≡◌, ℕ, suc, zero, ◌+◌, ◌≤◌, cond, ◌==◌, List, [], ◌∷◌, length, get_or, take, drop, Some, None, Result, Ok, refl, sym, ◌∙◌, ap, subst, inl, inr, arith}
 use Rattle.std.specs.Prelude.{slice_index, IsOk}
+use Rattle.std.specs.Result.{result_unwrap_or}
 use Rattle.std.proofs.lemmas.Bool.{eqb-true, cases_Bool}
 use Rattle.gc_words.specs.Word.{read_header}
-use Rattle.gc_words.specs.Image.{Block, walk_words, ok_or_nil, blocks, block_in, block_at}
+use Rattle.gc_words.specs.Image.{Block, walk_words, blocks, block_in, block_at}
 use Rattle.gc_words.specs.Spelling.{IsBlock}
 use Rattle.gc_words.specs.Walking.{StandsIn}
 use Rattle.gc_words.specs.declared.header.Header.{Header}
@@ -54,7 +55,7 @@ stands (v ∷ ws) zero at bs a b w e =
       | inr other ↦ later v ws at a b (stands ws (f.0.len + 1) (suc at) f.3 a b f.4 (sym (ap (λ t. cond t (Some here) (block_in f.3 a)) other) ∙ found))
     ]
 
-pub ok_is : (r : Result (List (ℕ × Block)) ℕ) → IsOk r → r ≡ Ok (ok_or_nil r)
+pub ok_is : (r : Result (List (ℕ × Block)) ℕ) → IsOk r → r ≡ Ok (result_unwrap_or r [])
 ok_is r e = grind (arith, common_steps)
 
 pub walked_blocks : (words : List ℕ) → IsOk (walk_words words) → walk_words words ≡ Ok (blocks words)

@@ -2,13 +2,14 @@
 use Rattle.std.proofs.lemmas.Grind.{common_steps}
 use Rattle.std.proofs.Common.{◌≡◌, ℕ, suc, zero, ◌+◌, ◌-◌, ◌<◌, ◌≤◌, Bool, true, false, cond, List, [], ◌∷◌, ◌++◌, length, take, drop, Option, Some, None, Result, Ok, Err, is_some, refl, sym, ◌∙◌, ap, subst, arith, length-drop, append_assoc}
 use Rattle.std.specs.Prelude.{nat_le, slice_index, slice_set, IsOk, IsSome}
+use Rattle.std.specs.Result.{result_err, result_unwrap_or}
 use Rattle.std.specs.List.{AllByRecursion}
 use Rattle.std.proofs.lemmas.Bool.{eq-eqb, ne_eqb, leb-true, leb-false, and_from, lt-leb}
 use Rattle.std.proofs.lemmas.List.{drop_more, drop-drop, drop-set-lt, drop-set-add, drop-take, drop_all, take-append-drop, take-set-le, take-take}
 use Rattle.gc_words.specs.Word.{header_in, header_word}
-use Rattle.gc_words.specs.Image.{Block, walk, with_front, walk_all, ok_or_nil, block_in}
+use Rattle.gc_words.specs.Image.{Block, walk, with_front, walk_all, block_in}
 use Rattle.gc_words.specs.Spelling.{block_words, spelled_from}
-use Rattle.gc_words.specs.Fault.{fault_of_walk, words_fault}
+use Rattle.gc_words.specs.Fault.{words_fault}
 use Rattle.gc_words.specs.Walking.{next_after, next_in, next_of, walk_on, walk_from, block_from, StepsIn, StepsTo}
 use Rattle.gc_words.specs.declared.header.Header.{Header}
 use Rattle.gc_words.proofs.Writes.{some_of}
@@ -73,51 +74,51 @@ at_end words at h = ap (walk true 0 at) (drop_all at words h)
 
 -- ---- a walk's fault
 
-pub fault_behind : (x : ℕ × Block) (r : Result (List (ℕ × Block)) ℕ) → fault_of_walk (with_front x r) ≡ fault_of_walk r
+pub fault_behind : (x : ℕ × Block) (r : Result (List (ℕ × Block)) ℕ) → result_err (with_front x r) ≡ result_err r
 fault_behind x r = grind (arith, common_steps)
 
-pub same_fault : (raws : Bool) (words : List ℕ) (at next : ℕ) → at < length words → next_in raws words at ≡ Some next → fault_of_walk (walk_on raws words at) ≡ fault_of_walk (walk_on raws words next)
-same_fault raws words at next inside e = ap fault_of_walk (step raws words at next inside e).walk_is ∙ fault_behind _ (walk_on raws words next)
+pub same_fault : (raws : Bool) (words : List ℕ) (at next : ℕ) → at < length words → next_in raws words at ≡ Some next → result_err (walk_on raws words at) ≡ result_err (walk_on raws words next)
+same_fault raws words at next inside e = ap (λ r. result_err r) (step raws words at next inside e).walk_is ∙ fault_behind _ (walk_on raws words next)
 
 -- there are as many words as the end says, and the first is 0
-pub framed : (raws : Bool) (end : ℕ) (words : List ℕ) → length words ≡ end → slice_index words 0 ≡ 0 → words_fault raws end words ≡ fault_of_walk (walk_on raws words 1)
-framed raws end words count reserved = ap (λ b. cond b (fault_of_walk (walk_all raws words)) (Some 0)) (and_from _ _ (eq-eqb _ _ count) (eq-eqb _ _ reserved))
+pub framed : (raws : Bool) (end : ℕ) (words : List ℕ) → length words ≡ end → slice_index words 0 ≡ 0 → words_fault raws end words ≡ result_err (walk_on raws words 1)
+framed raws end words count reserved = ap (λ b. cond b (result_err (walk_all raws words)) (Some 0)) (and_from _ _ (eq-eqb _ _ count) (eq-eqb _ _ reserved))
 
 -- ---- the objects after one
 
-pub ok_behind : (x : ℕ × Block) (r : Result (List (ℕ × Block)) ℕ) → IsOk (with_front x r) → IsOk r × (ok_or_nil (with_front x r) ≡ x ∷ ok_or_nil r)
+pub ok_behind : (x : ℕ × Block) (r : Result (List (ℕ × Block)) ℕ) → IsOk (with_front x r) → IsOk r × (result_unwrap_or (with_front x r) [] ≡ x ∷ result_unwrap_or r [])
 ok_behind x r e = grind (arith, common_steps)
 
 pub record Behind (words : List ℕ) (at next : ℕ) : Type 0 where
   pub step : StepsTo words at next
   pub walked : IsOk (walk_from words next)
-  pub objects : ok_or_nil (walk_from words at) ≡ (at, block_from words at step.header) ∷ ok_or_nil (walk_from words next)
+  pub objects : result_unwrap_or (walk_from words at) [] ≡ (at, block_from words at step.header) ∷ result_unwrap_or (walk_from words next) []
 
 pub behind : (words : List ℕ) (at next : ℕ) → at < length words → IsOk (walk_from words at) → next_of words at ≡ Some next → Behind words at next
 behind words at next inside ok e =
     let s : StepsTo words at next = step true words at next inside e in
-    let b : IsOk (walk_from words next) × (ok_or_nil (with_front (at, block_from words at s.header) (walk_from words next)) ≡ (at, block_from words at s.header) ∷ ok_or_nil (walk_from words next))
+    let b : IsOk (walk_from words next) × (result_unwrap_or (with_front (at, block_from words at s.header) (walk_from words next)) [] ≡ (at, block_from words at s.header) ∷ result_unwrap_or (walk_from words next) [])
     = ok_behind _ (walk_from words next) (subst IsOk s.walk_is ok) in
-    record { step = s; walked = b.0; objects = ap ok_or_nil s.walk_is ∙ b.1 }
+    record { step = s; walked = b.0; objects = ap (λ r. result_unwrap_or r []) s.walk_is ∙ b.1 }
 
 -- ---- whether an object starts at a place
 
 abbrev pub has_start_from : List ℕ → ℕ → ℕ → Bool
-has_start_from words at place = is_some (block_in (ok_or_nil (walk_from words at)) place)
+has_start_from words at place = is_some (block_in (result_unwrap_or (walk_from words at) []) place)
 
 pub start_behind : (words : List ℕ) (at next place : ℕ) → at < length words → at < place → IsOk (walk_from words at) → next_of words at ≡ Some next
     → has_start_from words at place ≡ has_start_from words next place
 start_behind words at next place inside before ok e =
     let b : Behind words at next = behind words at next inside ok e in
     ap (λ bs. is_some (block_in bs place)) b.objects
-    ∙ ap (λ t. is_some (cond t (Some (block_from words at b.step.header)) (block_in (ok_or_nil (walk_from words next)) place))) (ne_eqb at place (λ same. omega arith))
+    ∙ ap (λ t. is_some (cond t (Some (block_from words at b.step.header)) (block_in (result_unwrap_or (walk_from words next) []) place))) (ne_eqb at place (λ same. omega arith))
 
 pub start_here : (words : List ℕ) (at : ℕ) → at < length words → IsOk (walk_from words at) → has_start_from words at at ≡ true
 start_here words at inside ok =
     let n : (next : ℕ) × (next_of words at ≡ Some next) = some_of (next_of words at) (has_next words at inside ok) in
     let b : Behind words at n.0 = behind words at n.0 inside ok n.1 in
     ap (λ bs. is_some (block_in bs at)) b.objects
-    ∙ ap (λ t. is_some (cond t (Some (block_from words at b.step.header)) (block_in (ok_or_nil (walk_from words n.0)) at))) (eq-eqb at at refl)
+    ∙ ap (λ t. is_some (cond t (Some (block_from words at b.step.header)) (block_in (result_unwrap_or (walk_from words n.0) []) at))) (eq-eqb at at refl)
 
 none_above : (bs : List (ℕ × Block)) (low place : ℕ) → place < low → AllByRecursion (λ b. low ≤ b.0) bs → block_in bs place ≡ None
 none_above [] low place h all = refl
@@ -125,15 +126,15 @@ none_above (b ∷ bs) low place h all = grind (arith, common_steps, ne_eqb, none
 
 pub no_start_below : (words : List ℕ) (at place : ℕ) → place < at → IsOk (walk_from words at) → has_start_from words at place ≡ false
 no_start_below words at place below ok =
-    ap is_some (none_above (ok_or_nil (walk_from words at)) (at + 0) place (omega arith) (starts_above (drop at words) 0 at _ (ok_is (walk_from words at) ok)))
+    ap is_some (none_above (result_unwrap_or (walk_from words at) []) (at + 0) place (omega arith) (starts_above (drop at words) 0 at _ (ok_is (walk_from words at) ok)))
 
 -- ---- setting links, one object at a time
 
 -- the words up to a place, and the objects from there on with these links
 abbrev pub relinked_from : (ℕ → ℕ) → List ℕ → ℕ → List ℕ
-relinked_from links words at = take at words ++ spelled_from links (ok_or_nil (walk_from words at))
+relinked_from links words at = take at words ++ spelled_from links (result_unwrap_or (walk_from words at) [])
 
-take_add : (n k : ℕ) (xs : List ℕ) → take (n + k) xs ≡ take n xs ++ take k (drop n xs)
+pub take_add : (n k : ℕ) (xs : List ℕ) → take (n + k) xs ≡ take n xs ++ take k (drop n xs)
 take_add n k xs = sym (take-append-drop n (take (n + k) xs)) ∙ (λ i. take-take n (n + k) xs (omega arith) i ++ drop-take n k xs i)
 
 pub relinked_step : (links : ℕ → ℕ) (words : List ℕ) (at next : ℕ) → at < length words → IsOk (walk_from words at) → next_of words at ≡ Some next
@@ -159,8 +160,8 @@ relinked_step links words at next inside ok e =
     let block : List ℕ = block_words (links at) (block_from words at h) in (
       subst IsOk (sym same) b.walked,
       ap (λ bs. take at words ++ spelled_from links bs) b.objects
-          ∙ sym (append_assoc (take at words) block (spelled_from links (ok_or_nil (walk_from words next))))
-          ∙ ap (λ w. (take at words ++ (w ∷ links at ∷ take h.len rest)) ++ spelled_from links (ok_or_nil (walk_from words next))) word
-          ∙ ap (λ xs. xs ++ spelled_from links (ok_or_nil (walk_from words next))) (sym front)
-          ∙ ap (λ r. take next after ++ spelled_from links (ok_or_nil r)) (sym same),
+          ∙ sym (append_assoc (take at words) block (spelled_from links (result_unwrap_or (walk_from words next) [])))
+          ∙ ap (λ w. (take at words ++ (w ∷ links at ∷ take h.len rest)) ++ spelled_from links (result_unwrap_or (walk_from words next) [])) word
+          ∙ ap (λ xs. xs ++ spelled_from links (result_unwrap_or (walk_from words next) [])) (sym front)
+          ∙ ap (λ r. take next after ++ spelled_from links (result_unwrap_or r [])) (sym same),
     )

@@ -1,5 +1,5 @@
 -- When a certificate holds of two images.
-use Rattle.std.specs.Prelude.{◌≡◌, ◌≢◌, ℕ, ◌<◌, List, Option, Some, None, IsTrue}
+use Rattle.std.specs.Prelude.{◌≡◌, ◌≢◌, ℕ, ◌<◌, List, Option, Some, IsTrue}
 use Rattle.std.specs.List.{All, AllPairs, AllZip}
 use Rattle.gc_words.specs.Word.{words_correspond, field_words_correspond}
 use Rattle.gc_words.specs.Image.{Image, Block, IsShaped, block_at}
@@ -7,8 +7,7 @@ use Rattle.gc_words.specs.Image.{Image, Block, IsShaped, block_at}
 -- both objects exist, their headers are equal, and their fields correspond one by one
 abbrev pub BlocksCorrespond : List (ℕ × ℕ) → Option Block → Option Block → Type 0
 BlocksCorrespond pairs (Some a) (Some b) = (a.header ≡ b.header) × AllZip (λ v w. IsTrue (field_words_correspond a.header pairs v w)) a.fields b.fields
-BlocksCorrespond pairs (Some a) None = ⊥
-BlocksCorrespond pairs None b = ⊥
+BlocksCorrespond pairs a b = ⊥
 
 -- The certificate holds: its pairs map objects of the old image to their replicas in the new image.
 pub record Certified (old new : Image) (pairs : List (ℕ × ℕ)) : Type 0 where

@@ -1,5 +1,8 @@
 -- The first condition of a certificate that fails.
-use Rattle.std.specs.Prelude.{◌≡◌, ◌≢◌, ◌<◌, IsTrue, ℕ, suc, ◌==◌, nat_le, Bool, true, false, ◌&&◌, not, if◌then◌else◌, List, [], ◌∷◌, ◌++◌, length, take, slice_index, Option, Some, None, Result, Ok, Err}
+use Rattle.std.specs.Prelude.{◌≡◌, ◌≢◌, ◌<◌, IsTrue, ℕ, suc, ◌==◌, nat_le, Bool, false, ◌&&◌, not, if◌then◌else◌, List, [], ◌∷◌, ◌++◌, length, take, slice_index, Option, Some, None}
+use Rattle.std.specs.Bool.{then_some}
+use Rattle.std.specs.Result.{result_err}
+use Rattle.std.specs.Option.{option_map, option_or}
 use Rattle.std.specs.List.{All, AllPairs, list_any}
 use Rattle.gc_graph.specs.Limits.{largest_space}
 use Rattle.gc_words.specs.Word.{words_correspond, field_words_correspond}
@@ -12,26 +15,13 @@ use Rattle.gc_words.specs.declared.refusal.Refusal.TheVariants.{OldShape, NewSha
 infixl 20 ◌or_else◌
 -- the first option if it has a value, else the second
 abbrev pub ◌or_else◌ : {X : Type 0} → Option X → Option X → Option X
-None or_else y = y
-(Some x) or_else y = Some x
-
-abbrev pub when : Bool → Refusal → Option Refusal
-when true refusal = Some refusal
-when false refusal = None
-
-abbrev pub at_place : Option ℕ → (ℕ → Refusal) → Option Refusal
-at_place None refusal = None
-at_place (Some place) refusal = Some (refusal place)
+x or_else y = option_or x y
 
 -- ---- shape
 
-abbrev pub fault_of_walk : {X : Type 0} → Result X ℕ → Option ℕ
-fault_of_walk (Ok found) = None
-fault_of_walk (Err at) = Some at
-
 -- the address of the first fault in a space's words; its size is not checked
 abbrev pub words_fault : Bool → ℕ → List ℕ → Option ℕ
-words_fault raws end words = if (length words == end) && (slice_index words 0 == 0) then fault_of_walk (walk_all raws words) else Some 0
+words_fault raws end words = if (length words == end) && (slice_index words 0 == 0) then result_err (walk_all raws words) else Some 0
 
 abbrev pub has_size : Image → Bool
 has_size image = nat_le 1 image.size && nat_le image.size largest_space && nat_le 1 image.end && nat_le image.end image.size
@@ -57,19 +47,19 @@ not_above_last (p ∷ q ∷ rest) address = not_above_last (q ∷ rest) address
 -- the fault in the addresses of pair k, given the pairs before it
 abbrev pub place_fault : Image → Image → List (ℕ × ℕ) → ℕ → ℕ × ℕ → Option Refusal
 place_fault old new before k p =
-    when (not (is_start old.words p.0)) (OldNotStart k)
-    or_else when (not (is_start new.words p.1)) (NewNotStart k)
-    or_else when (not_above_last before p.1) (NotRising k)
-    or_else when (list_any (λ q. q.0 == p.0) before) (Twice k)
+    then_some (not (is_start old.words p.0)) (OldNotStart k)
+    or_else then_some (not (is_start new.words p.1)) (NewNotStart k)
+    or_else then_some (not_above_last before p.1) (NotRising k)
+    or_else then_some (list_any (λ q. q.0 == p.0) before) (Twice k)
 
 abbrev pub place_faults : Image → Image → List (ℕ × ℕ) → Option Refusal
 place_faults old new pairs = first_over_pairs (λ k. place_fault old new (take k pairs) k) 0 pairs
 
 abbrev pub table_fault : Image → Image → List (ℕ × ℕ) → Option Refusal
 table_fault old new pairs =
-    at_place (shape_fault old) (λ at. OldShape at)
-    or_else at_place (shape_fault new) (λ at. NewShape at)
-    or_else when (not (length old.roots == length new.roots)) RootCount
+    option_map (λ at. OldShape at) (shape_fault old)
+    or_else option_map (λ at. NewShape at) (shape_fault new)
+    or_else then_some (not (length old.roots == length new.roots)) RootCount
     or_else place_faults old new pairs
 
 -- ---- objects
@@ -77,23 +67,17 @@ table_fault old new pairs =
 -- the first place at which two words do not correspond or one list has ended; places are numbered from i
 abbrev pub first_difference : (ℕ → ℕ → Bool) → ℕ → List ℕ → List ℕ → Option ℕ
 first_difference alike i [] [] = None
-first_difference alike i [] (w ∷ ws) = Some i
-first_difference alike i (v ∷ vs) [] = Some i
 first_difference alike i (v ∷ vs) (w ∷ ws) = if alike v w then first_difference alike (suc i) vs ws else Some i
-
-abbrev pub same_bool : Bool → Bool → Bool
-same_bool true b = b
-same_bool false b = not b
+first_difference alike i vs ws = Some i
 
 abbrev pub same_header : Header → Header → Bool
-same_header g h = same_bool g.raw h.raw && (g.kind == h.kind) && (g.len == h.len)
+same_header g h = (if g.raw then h.raw else not h.raw) && (g.kind == h.kind) && (g.len == h.len)
 
 abbrev pub block_fault : List (ℕ × ℕ) → ℕ → Option Block → Option Block → Option Refusal
 block_fault pairs k (Some a) (Some b) =
-    if same_header a.header b.header then at_place (first_difference (field_words_correspond a.header pairs) 0 a.fields b.fields) (λ i. FieldDiffers k i)
+    if same_header a.header b.header then option_map (λ i. FieldDiffers k i) (first_difference (field_words_correspond a.header pairs) 0 a.fields b.fields)
     else Some (HeaderDiffers k)
-block_fault pairs k (Some a) None = None
-block_fault pairs k None b = None
+block_fault pairs k a b = None
 
 -- the fault of the two objects of pair k
 abbrev pub pair_fault : Image → Image → List (ℕ × ℕ) → ℕ → ℕ × ℕ → Option Refusal
@@ -105,7 +89,7 @@ object_faults old new pairs = first_over_pairs (pair_fault old new pairs) 0 pair
 -- ---- roots
 
 abbrev pub root_fault : Image → Image → List (ℕ × ℕ) → Option Refusal
-root_fault old new pairs = at_place (first_difference (words_correspond pairs) 0 old.roots new.roots) (λ slot. RootDiffers slot)
+root_fault old new pairs = option_map (λ slot. RootDiffers slot) (first_difference (words_correspond pairs) 0 old.roots new.roots)
 
 -- the first fault: in shapes, the number of roots and addresses, then in objects, then in roots
 abbrev pub first_fault : Image → Image → List (ℕ × ℕ) → Option Refusal
@@ -139,13 +123,11 @@ ObjectsMatch old new pairs some = All (λ p. BlocksCorrespond pairs (block_at ol
 
 abbrev pub HeadersDiffer : Option Block → Option Block → Type 0
 HeadersDiffer (Some a) (Some b) = a.header ≢ b.header
-HeadersDiffer (Some a) None = ⊥
-HeadersDiffer None b = ⊥
+HeadersDiffer a b = ⊥
 
 abbrev pub FieldsDifferAt : List (ℕ × ℕ) → ℕ → Option Block → Option Block → Type 0
 FieldsDifferAt pairs i (Some a) (Some b) = (a.header ≡ b.header) × (first_difference (field_words_correspond a.header pairs) 0 a.fields b.fields ≡ Some i)
-FieldsDifferAt pairs i (Some a) None = ⊥
-FieldsDifferAt pairs i None b = ⊥
+FieldsDifferAt pairs i a b = ⊥
 
 -- the refusal names the first failing condition on the addresses of pairs
 abbrev pub PlaceFails : Image → Image → List (ℕ × ℕ) → Refusal → Type 0

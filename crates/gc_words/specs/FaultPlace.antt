@@ -10,15 +10,13 @@ use Rattle.gc_words.specs.Walking.{next_in}
 -- both words are there and correspond
 abbrev pub AreAlike : (ℕ → ℕ → Bool) → Option ℕ → Option ℕ → Type 0
 AreAlike alike (Some v) (Some w) = IsTrue (alike v w)
-AreAlike alike (Some v) None = ⊥
-AreAlike alike None w = ⊥
+AreAlike alike v w = ⊥
 
 -- both words are there and do not correspond, or only one is there
 abbrev pub AreDifferent : (ℕ → ℕ → Bool) → Option ℕ → Option ℕ → Type 0
 AreDifferent alike (Some v) (Some w) = alike v w ≡ false
-AreDifferent alike (Some v) None = ⊤
-AreDifferent alike None (Some w) = ⊤
 AreDifferent alike None None = ⊥
+AreDifferent alike v w = ⊤
 
 -- the lists differ at place i, and not before
 pub record DifferFirstAt (alike : ℕ → ℕ → Bool) (vs ws : List ℕ) (i : ℕ) : Type 0 where

@@ -1,5 +1,6 @@
 -- The words of a space: a reserved word, then objects back to back. An image also has root words.
 use Rattle.std.specs.Prelude.{◌≡◌, ℕ, zero, suc, ◌+◌, ◌-◌, ◌≤◌, ◌==◌, nat_le, Bool, true, if◌then◌else◌, List, [], ◌∷◌, length, take, drop, map, replicate, slice_get, slice_index, slice_set, Option, Some, None, Result, Ok, Err, IsOk, is_some}
+use Rattle.std.specs.Result.{result_unwrap_or}
 use Rattle.gc_graph.specs.Limits.{largest_space}
 use Rattle.gc_graph.specs.Graph.{Object, Graph}
 use Rattle.gc_graph.specs.Machine.{Roomy}
@@ -57,14 +58,10 @@ pub record HasShape (raws : Bool) (size end : ℕ) (words : List ℕ) : Type 0 w
 
 -- ---- objects by their starts
 
-abbrev pub ok_or_nil : {X : Type 0} → Result (List X) ℕ → List X
-ok_or_nil (Ok xs) = xs
-ok_or_nil (Err at) = []
-
 -- The objects in the words of a space, each with its address. A shaped image that does not accept headers of raw objects has
 -- none of them, so its objects are the same.
 abbrev pub blocks : List ℕ → List (ℕ × Block)
-blocks words = ok_or_nil (walk_words words)
+blocks words = result_unwrap_or (walk_words words) []
 
 abbrev pub block_in : List (ℕ × Block) → ℕ → Option Block
 block_in [] place = None

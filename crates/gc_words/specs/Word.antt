@@ -12,8 +12,7 @@ pub record IsHeader (h : Header) : Type 0 where
 
 -- the least header word of raw or of other objects: kind 0 without fields
 abbrev pub least_header : Bool → ℕ
-least_header false = 16777216
-least_header true = 50331648
+least_header raw = if raw then 50331648 else 16777216
 
 -- the first word above these header words
 abbrev pub past_headers : Bool → ℕ
@@ -28,19 +27,12 @@ is_header_word raw w = nat_le (least_header raw) w && nat_lt w (past_headers raw
 abbrev pub header_by : Bool → ℕ → Header
 header_by raw w = record { raw = raw; kind = (w - least_header raw) / lengths; len = w % lengths }
 
--- the header that a word encodes, if it is a header word
-abbrev pub read_header : ℕ → Option Header
-read_header w = if is_header_word false w then Some (header_by false w) else if is_header_word true w then Some (header_by true w) else None
-
--- the header, unless the object is raw
-abbrev pub unless_raw : Option Header → Option Header
-unless_raw None = None
-unless_raw (Some h) = if h.raw then None else Some h
-
--- the header that a word encodes; the flag says whether headers of raw objects are accepted
+-- the header that a word encodes, if it is a header word; the flag says whether headers of raw objects are accepted
 abbrev pub header_in : Bool → ℕ → Option Header
-header_in true w = read_header w
-header_in false w = unless_raw (read_header w)
+header_in raws w = if is_header_word false w then Some (header_by false w) else if raws && is_header_word true w then Some (header_by true w) else None
+
+abbrev pub read_header : ℕ → Option Header
+read_header w = header_in true w
 
 -- 0 is nil, an odd word is a number, and any other even word is a reference.
 abbrev pub value_of : ℕ → Value
@@ -69,9 +61,8 @@ word_of (Ref a) = 2 * a
 
 -- if the value is a reference, a word can hold its address
 abbrev pub HasAddress : Value → Type 0
-HasAddress Nil = ⊤
-HasAddress (Num n) = ⊤
 HasAddress (Ref a) = (1 ≤ a) × (a < largest_space)
+HasAddress v = ⊤
 
 -- the value of a field word of an object with this header: each word of a raw object is a number
 abbrev pub field_value : Header → ℕ → Value
@@ -80,9 +71,8 @@ field_value h w = if h.raw then Num w else value_of w
 -- ---- words that correspond
 
 abbrev pub read_correspond : List (ℕ × ℕ) → Option Value → Option Value → Bool
-read_correspond pairs None w = false
-read_correspond pairs (Some v) None = false
 read_correspond pairs (Some v) (Some w) = correspond pairs v w
+read_correspond pairs v w = false
 
 -- both are nil, both are the same number, or both are references whose addresses are a pair; a word that is not a
 -- value corresponds to no word

@@ -2,17 +2,18 @@
 use Rattle.std.proofs.lemmas.Grind.{common_steps}
 use Rattle.std.proofs.Common.{◌≡◌, ℕ, Option, Some, None, sym, subst, arith}
 use Rattle.std.specs.Prelude.{⊤}
+use Rattle.std.specs.Option.{option_map, option_map_or}
 use Rattle.std.proofs.lemmas.Bool.{cond_both}
 use Rattle.gc_graph.specs.Limits.{most_words}
 use Rattle.gc_cert.specs.Grammar.{CertifiedPair}
 use Rattle.gc_plan.specs.State.{State, Collection}
-use Rattle.gc_plan.specs.Steps.{apply_or_flip, useful_with, useful_step}
+use Rattle.gc_plan.specs.Steps.{useful_with, useful_step}
 use Rattle.gc_plan.specs.Runs.{IsStepWithin, IsStep, HasSizesWithin}
 use Rattle.gc_plan.specs.declared.step.Step.{Step}
 use Rattle.gc_plan.specs.declared.step.Step.TheVariants as steps
 use Rattle.gc_plan.proofs.Public.{wider_step}
 use Rattle.gc_plan.specs.declared.step.StepReply.{StepReply}
-use Rattle.gc_core.specs.Flip.{open_pair, kept_after}
+use Rattle.gc_core.specs.Flip.{kept_after, flip_pair}
 use Rattle.gc_world.specs.World.{Past, HasSmallImages}
 use Rattle.gc_world.specs.Internal.World.{IsWorld}
 use Rattle.gc_world.proofs.HistoryStates.{sizes_within}
@@ -32,7 +33,7 @@ HasNoSize (steps.Apply k) = ⊤
 HasNoSize steps.Flip = ⊤
 HasNoSize steps.Drop = ⊤
 
-no_size_of : (k : Option ℕ) → HasNoSize (apply_or_flip k)
+no_size_of : (k : Option ℕ) → HasNoSize (option_map_or steps.Apply k steps.Flip)
 no_size_of k = grind (arith, common_steps)
 
 no_size_with : (s : State) (o : Option Collection) → HasNoSize (useful_with s o)
@@ -49,7 +50,7 @@ pub world_within : (now : State) (past : Past) → IsWorld now past → HasSizes
 world_within now past w = subst (HasSizesWithin most_words) (sym w.state) (sizes_within past.size past.mutators past.entries w.history)
 
 -- the pair of a flip is small
-small_pair : (s : State) (pair : CertifiedPair) → HasSizesWithin most_words s → open_pair s s.collection ≡ Some pair → HasSmallImages pair
+small_pair : (s : State) (pair : CertifiedPair) → HasSizesWithin most_words s → option_map (flip_pair s) s.collection ≡ Some pair → HasSmallImages pair
 small_pair s pair small is = grind (arith, common_steps)
 
 -- so is the pair that is kept after a step

@@ -12,7 +12,7 @@ use Rattle.clap.proofs.OnLiterals.{clap_on_literals}
 use Rattle.clap.proofs.WalkLemmas.{first_value-rows}
 use Rattle.clap.specs.declared.builder.command.Command.{Command}
 use Rattle.clap.specs.declared.builder.command.Command.TheViews.{out-Command}
-use Rattle.gcflip.specs.CommandLine.{command_line, file_of, IsAskedBy, IsFor, HasNumberInRange, IsPlainArgument}
+use Rattle.gcflip.specs.CommandLine.{command_line, asked, file_of, IsFor, HasNumberInRange, IsPlainArgument}
 use Rattle.gcflip.specs.declared.task.Task.{Task}
 
 -- ---- no arguments after the program's name
@@ -155,7 +155,7 @@ present_has_text (Some r) s v text is same found = let both : r ≡ s = cc in cc
 -- ---- a subcommand with a number
 
 -- a task for this subcommand and file is the one that its rows ask for
-pub number_task_asked : (o : Option Task) (name file : Text) (found : Option (Text × List Row)) → IfSome o (λ task. IsFor name file task × HasNumberInRange task) → Some (name, Some file) ≡ file_of found → IfSome o (IsAskedBy found)
+pub number_task_asked : (o : Option Task) (name file : Text) (found : Option (Text × List Row)) → IfSome o (λ task. IsFor name file task × HasNumberInRange task) → Some (name, Some file) ≡ file_of found → IfSome o (λ task. asked task ≡ file_of found)
 number_task_asked None name file found is finds = tt
 number_task_asked (Some task) name file found is finds = is.0 ∙ finds
 

@@ -6,7 +6,7 @@ use Rattle.gc_check.specs.declared.verdict.RunFault.TheVariants as check
 use Rattle.gc_shared.specs.declared.fault.CloseKind.{CloseKind}
 use Rattle.gc_shared.specs.declared.fault.CloseKind.TheVariants as close
 use Rattle.gc_shared.specs.declared.fault.ThreadsFault.TheVariants as threads
-use Rattle.gcflip.specs.Statuses.{close_kind_status}
+use Rattle.gcflip.specs.Statuses.{threads_run_fault_status}
 use Rattle.gcflip.specs.Statuses.{trace_fault_status}
 use Rattle.gcflip.specs.declared.commands.threads.ThreadsRunFault.TheVariants as run
 use Rattle.gc_trace.specs.declared.fault.TraceFault.{TraceFault}
@@ -41,7 +41,7 @@ memory_fault_is_status = (5, lit< tt, refl)
 threads_fault_is_status : Contains statuses 6
 threads_fault_is_status = (6, lit< tt, refl)
 
-close_has_status : (kind : CloseKind) → Contains statuses (close_kind_status kind)
+close_has_status : (kind : CloseKind) → Contains statuses (threads_run_fault_status (run.Threads (threads.Close kind)))
 close_has_status close.Seats = threads_fault_is_status
 close_has_status (close.Torn seat n) = threads_fault_is_status
 close_has_status close.Extra = threads_fault_is_status

@@ -1,5 +1,6 @@
 -- The command line in terms of clap's definitions, and the tasks that arguments ask for.
-use Rattle.std.specs.Prelude.{◌≡◌, ℕ, ◌≤◌, ⊤, pos, true, List, Option, Some, None, option_map, codes}
+use Rattle.std.specs.Prelude.{◌≡◌, ℕ, ◌≤◌, ⊤, pos, true, List, [], ◌∷◌, Option, Some, None, option_map, codes}
+use Rattle.std.specs.List.{fold}
 use Rattle.clap.specs.Lexer.{strip_byte}
 use Rattle.clap.specs.Words.{App, Row, Rule, first_of, new_app, new_rule, with_rule, with_subcommand}
 use Rattle.clap.specs.declared.builder.value_parser.ValueParser.{ValueParser}
@@ -9,21 +10,13 @@ use Rattle.gcflip.specs.declared.task.Task.TheVariants.{PlayInput, Play, Check, 
 
 -- ---- the command line
 
--- the required argument FILE
-abbrev pub file_rule : Rule
-file_rule = record (new_rule (codes "FILE")) { required = true }
-
 -- a required argument that is a number
 abbrev pub number_rule : List ℕ → ValueParser → Rule
 number_rule name parser = record (new_rule name) { required = true; parser = Some parser }
 
--- a subcommand that takes a FILE and nothing else
+-- a subcommand that takes the required argument FILE and nothing else
 abbrev pub file_command : List ℕ → App
-file_command name = with_rule (new_app name) file_rule
-
--- a subcommand that takes a FILE and a number
-abbrev pub number_command : List ℕ → Rule → App
-number_command name number = with_rule (file_command name) number
+file_command name = with_rule (new_app name) (record (new_rule (codes "FILE")) { required = true })
 
 -- N, the number of a flip, and TURNS, the number of collector steps
 abbrev pub flip_rule : Rule
@@ -34,12 +27,11 @@ turns_rule = number_rule (codes "TURNS") (Unsigned 0 1000000)
 
 -- `gcflip` with `play FILE`, `check FILE` and `report FILE`
 abbrev pub files_line : App
-files_line =
-    with_subcommand (with_subcommand (with_subcommand (new_app (codes "gcflip")) (file_command (codes "play")).top) (file_command (codes "check")).top) (file_command (codes "report")).top
+files_line = fold (λ line name. with_subcommand line (file_command name).top) (new_app (codes "gcflip")) (codes "play" ∷ codes "check" ∷ codes "report" ∷ [])
 
 -- the whole: also with `pair FILE N` and `threads FILE TURNS`
 abbrev pub command_line : App
-command_line = with_subcommand (with_subcommand files_line (number_command (codes "pair") flip_rule).top) (number_command (codes "threads") turns_rule).top
+command_line = with_subcommand (with_subcommand files_line (with_rule (file_command (codes "pair")) flip_rule).top) (with_rule (file_command (codes "threads")) turns_rule).top
 
 -- the argument does not begin with a hyphen, so clap takes it for a value and not for an option
 abbrev pub IsPlainArgument : List ℕ → Type 0
@@ -69,7 +61,3 @@ HasNumberInRange task = ⊤
 -- the subcommand that clap found, and its FILE
 abbrev pub file_of : Option (List ℕ × List Row) → Option (List ℕ × Option (List ℕ))
 file_of found = option_map (λ f. (f.0, first_of (codes "FILE") f.1)) found
-
--- the task is the one that the subcommand found by clap asks for
-abbrev pub IsAskedBy : Option (List ℕ × List Row) → Task → Type 0
-IsAskedBy found task = asked task ≡ file_of found

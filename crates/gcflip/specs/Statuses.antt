@@ -2,15 +2,12 @@
 -- does not exist, 4 if reading or writing failed, 5 if memory ran out, 6 if threads were not started or closing found
 -- a fault.
 use Rattle.std.specs.Prelude.{ℕ, List, [], ◌∷◌}
-use Rattle.gc_cert.specs.declared.fault.PairFault.{PairFault}
 use Rattle.gc_cert.specs.declared.fault.PairFault.TheVariants as pair
 use Rattle.gc_check.specs.declared.verdict.RunFault.{RunFault}
 use Rattle.gc_check.specs.declared.verdict.RunFault.TheVariants as check
 use Rattle.gc_check.specs.declared.verdict.Verdict.{Verdict}
 use Rattle.gc_check.specs.declared.verdict.Verdict.TheVariants as verdict
-use Rattle.gc_shared.specs.declared.fault.CloseKind.{CloseKind}
 use Rattle.gc_shared.specs.declared.fault.CloseKind.TheVariants as close
-use Rattle.gc_shared.specs.declared.fault.ThreadsFault.{ThreadsFault}
 use Rattle.gc_shared.specs.declared.fault.ThreadsFault.TheVariants as threads
 use Rattle.gc_trace.specs.declared.fault.PlayFault.{PlayFault}
 use Rattle.gc_trace.specs.declared.fault.PlayFault.TheVariants as play
@@ -41,28 +38,18 @@ play_fault_status play.NoSuchFlip = 3
 play_fault_status play.NoMemory = 5
 play_fault_status play.Write = 4
 
-abbrev pub pair_fault_status : PairFault → ℕ
-pair_fault_status pair.Read = 4
-pair_fault_status pair.NoMemory = 5
-pair_fault_status fault = 3
-
 abbrev pub run_fault_status : RunFault → ℕ
-run_fault_status (check.Pair fault) = pair_fault_status fault
+run_fault_status (check.Pair pair.Read) = 4
+run_fault_status (check.Pair pair.NoMemory) = 5
+run_fault_status (check.Pair fault) = 3
 run_fault_status check.NoMemory = 5
 run_fault_status check.Write = 4
 
-abbrev pub close_kind_status : CloseKind → ℕ
-close_kind_status close.NoMemory = 5
-close_kind_status kind = 6
-
-abbrev pub threads_fault_status : ThreadsFault → ℕ
-threads_fault_status threads.NoMemory = 5
-threads_fault_status (threads.Close kind) = close_kind_status kind
-threads_fault_status fault = 6
-
 abbrev pub threads_run_fault_status : ThreadsRunFault → ℕ
 threads_run_fault_status (run.Trace fault) = trace_fault_status fault
-threads_run_fault_status (run.Threads fault) = threads_fault_status fault
+threads_run_fault_status (run.Threads threads.NoMemory) = 5
+threads_run_fault_status (run.Threads (threads.Close close.NoMemory)) = 5
+threads_run_fault_status (run.Threads fault) = 6
 threads_run_fault_status run.NoMemory = 5
 threads_run_fault_status run.Write = 4
 

@@ -1,10 +1,7 @@
 -- Running the scripts of a trace in threads.
-use Rattle.std.specs.Prelude.{◌≡◌, ℕ, ◌<◌, List, Option, length, All}
-use Rattle.std.specs.Io.KnownBytes.{Appends}
-use Rattle.gc_graph.specs.Streams.{SendsFront}
+use Rattle.std.specs.Prelude.{◌≡◌, ℕ, ◌<◌, List, length, All}
 use Rattle.gc_shared.specs.Scripts.{IsUsefulStep, steps_of}
 use Rattle.gc_trace.specs.Grammar.{Recording, trace_text, least_trace}
-use Rattle.gc_trace.specs.Plays.{IsTraceFrom}
 use Rattle.gc_plan.specs.Runs.{commands_of}
 use Rattle.gc_world.specs.History.{events_of, IsHistory}
 use Rattle.gc_world.specs.declared.entry.Entry.{Entry}
@@ -20,11 +17,3 @@ pub record IsThreadedRun (t : Recording) (turns : ℕ) (entries : List Entry) : 
 -- the trace text of a history, with the size and the number of mutators of t
 abbrev pub recorded : Recording → List Entry → List ℕ
 recorded t entries = trace_text (least_trace t.size t.mutators (events_of entries))
-
--- the trace text of a run of the scripts of the reader's trace went out
-abbrev pub WritesRun : Option (List ℕ) → ℕ → Option (List ℕ) → Option (List ℕ) → Type 0
-WritesRun text turns old new = (t : Recording) × (entries : List Entry) × IsTraceFrom text t × IsThreadedRun t turns entries × Appends old new (recorded t entries)
-
--- a prefix of the trace text of such a run went out
-abbrev pub WritesRunFront : Option (List ℕ) → ℕ → Option (List ℕ) → Option (List ℕ) → Type 0
-WritesRunFront text turns old new = (t : Recording) × (entries : List Entry) × IsTraceFrom text t × IsThreadedRun t turns entries × SendsFront old new (recorded t entries)

@@ -8,8 +8,5 @@ use Rattle.gc_check.specs.Verdict.{verdict_line}
 use Rattle.gcflip.specs.Statuses.{verdict_status}
 
 -- the text spells a pair, the status is that of the verdict on it, and only the verdict's line went out
-pub record TellsVerdict (text : List ℕ) (status : ℕ) (old new : Option (List ℕ)) : Type 0 where
-  pub pair : CertifiedPair
-  pub read : IsReadAsPair pair text
-  pub status_is : status ≡ verdict_status (verdict_on pair)
-  pub line : Appends old new (verdict_line (verdict_on pair))
+abbrev pub TellsVerdict : List ℕ → ℕ → Option (List ℕ) → Option (List ℕ) → Type 0
+TellsVerdict text status old new = (pair : CertifiedPair) × IsReadAsPair pair text × (status ≡ verdict_status (verdict_on pair)) × Appends old new (verdict_line (verdict_on pair))

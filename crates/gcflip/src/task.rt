@@ -1,8 +1,8 @@
 ghost use Rattle.std.specs.Prelude.{◌≡◌, ◌⊎◌, ℕ, List, [], ◌∷◌, codes, drop, map, string_bytes, false};
 ghost use Rattle.std.specs.Prelude.{Some, None, IfSome, IfOk, IfErr, IsSomeAnd, MatchResult};
-ghost use Rattle.clap.specs.Words.{Row, app_of, fault_of, first_of, kind_of, rule_of, subcommand_of, subcommand_rows_of};
+ghost use Rattle.clap.specs.Words.{Row, app_of, fault_of, first_of, kind_of, rule_of, subcommand_of, subcommand_rows_of, with_rule};
 ghost use Rattle.clap.specs.declared.builder.Command.TheViews.{out-Command};
-ghost use Rattle.gcflip.specs.CommandLine.{IsAskedBy, IsFor, HasNumberInRange, IsPlainArgument, command_line, file_command, files_line, number_command, flip_rule, turns_rule};
+ghost use Rattle.gcflip.specs.CommandLine.{asked, file_of, IsFor, HasNumberInRange, IsPlainArgument, command_line, file_command, files_line, flip_rule, turns_rule};
 
 use clap::error::ErrorKind;
 use clap::{Arg, ArgMatches, Command, Error, value_parser};
@@ -67,7 +67,7 @@ fn on_file_with<'a>(
     number: Arg<'a>,
 ) -> Result<Command<'a>, Error>
     requires { number.global ≡ false }
-    ensures shape { IfOk result (λ c. app_of c ≡ number_command name.entry.now (rule_of number.entry)) }
+    ensures shape { IfOk result (λ c. app_of c ≡ with_rule (file_command name.entry.now) (rule_of number.entry)) }
     ensures local { IfOk result (λ c. (out-Command c).has_globals ≡ false) }
     ensures memory { IfErr result (λ e. kind_of e ≡ ErrorKind.OutOfMemory) }
 {
@@ -149,7 +149,7 @@ fn found_task<'a>(matches: &ArgMatches<'a>) -> Option<Task<'a>>
     ensures report { (rows : List Row) (path : List ℕ)
         → subcommand_rows_of matches.now ≡ Some (codes "report", rows)
         → first_of (codes "FILE") rows ≡ Some path → IsSomeAnd result (IsFor (codes "report") path) }
-    ensures asked { IfSome result (IsAskedBy (subcommand_rows_of matches.now)) }
+    ensures asked { IfSome result (λ task. asked task ≡ file_of (subcommand_rows_of matches.now)) }
     ensures range { IfSome result HasNumberInRange }
 {
     let Some((name, matches)) = matches.subcommand() else {
@@ -181,7 +181,7 @@ pub fn task_of<'a>(alloc: Global, arguments: &'a [String]) -> Result<Task<'a>, E
         → drop 1 (map string_bytes arguments.now) ≡ codes "report" ∷ path ∷ [] →
         MatchResult result (IsFor (codes "report") path) (λ e. kind_of e ≡ ErrorKind.OutOfMemory) }
     // The task is the one that clap's definitions find in the arguments.
-    ensures asked { IfOk result (IsAskedBy (subcommand_of command_line (map string_bytes arguments.now))) }
+    ensures asked { IfOk result (λ task. asked task ≡ file_of (subcommand_of command_line (map string_bytes arguments.now))) }
     ensures range { IfOk result HasNumberInRange }
     // Arguments in which clap finds an error, or a request for help, give no task.
     ensures faultless { IfOk result (λ _. fault_of command_line (map string_bytes arguments.now) ≡ []) }

@@ -30,7 +30,5 @@ IsReported (verdict.Yes pairs) answer written = (answer ≡ yes) × (written ≡
 IsReported (verdict.Refused refusal) answer written = (answer ≡ refused) × (written ≡ refusal_in_c refusal)
 
 -- the same for the verdict on the pair that the text spells
-pub record IsReportedOf (text : List ℕ) (answer : ℕ) (written : GcflipVerdict) : Type 0 where
-  pub verdict : Verdict
-  pub about : IsVerdictOn text verdict
-  pub reported : IsReported verdict answer written
+abbrev pub IsReportedOf : List ℕ → ℕ → GcflipVerdict → Type 0
+IsReportedOf text answer written = (verdict : Verdict) × IsVerdictOn text verdict × IsReported verdict answer written

@@ -6,7 +6,7 @@ use Rattle.gc_cert.specs.Sections.{Place, HasTaken}
 use Rattle.gc_cert.specs.Internal.Sections.{Section, MayStop}
 use Rattle.gc_cert.specs.declared.fault.PairFault.{PairFault}
 use Rattle.gc_cert.specs.declared.pair_reader.PairReader.{PairReader}
-use Rattle.gc_cert.specs.declared.fault.PairFault.TheVariants.{Read, TooLarge, BadLine, NoMemory}
+use Rattle.gc_cert.specs.declared.fault.PairFault.TheVariants.{Read, TooLarge, BadLine, EndsEarly, NoMemory}
 
 -- nothing was read
 abbrev pub unread : PairReader
@@ -37,10 +37,9 @@ GoesOn fault text p left = CannotRead fault text left
 
 -- the faults that may replace a section at this place; a fault of the text is known only once the whole text was read
 abbrev pub MayEnd : Section → PairFault → List ℕ → Place → Option (List ℕ) → Type 0
-MayEnd S Read text p left = ⊤
-MayEnd S TooLarge text p left = (limit < length text) × (left ≡ Some (drop (limit + 1) text))
-MayEnd S NoMemory text p left = ⊤
-MayEnd S fault text p left = MayStop S fault p × (length text ≤ limit)
+MayEnd S (BadLine n) text p left = MayStop S (BadLine n) p × (length text ≤ limit)
+MayEnd S EndsEarly text p left = MayStop S EndsEarly p × (length text ≤ limit)
+MayEnd S fault text p left = CannotRead fault text left
 
 -- from each place in a text, a value's lines were taken, or the text has no such section there
 abbrev pub Takes : {V : Type 0} → (V → List (List ℕ)) → Section → Result V PairFault → PairReader → Option (List ℕ) → PairReader → Option (List ℕ) → Type 0

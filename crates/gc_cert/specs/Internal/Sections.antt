@@ -3,7 +3,7 @@ use Rattle.std.specs.Prelude.{◌≡◌, ℕ, ◌+◌, ⊤, Bool, List, [], ◌�
 use Rattle.std.specs.List.{AllByRecursion}
 use Rattle.gc_graph.specs.Lines.{newline, HasNo, text_of}
 use Rattle.gc_cert.specs.declared.fault.PairFault.{PairFault}
-use Rattle.gc_cert.specs.declared.fault.PairFault.TheVariants.{Read, TooLarge, BadLine, EndsEarly, NoMemory}
+use Rattle.gc_cert.specs.declared.fault.PairFault.TheVariants.{BadLine, EndsEarly, NoMemory}
 use Rattle.gc_cert.specs.Sections.{Place, IsNext}
 
 -- which lines are a whole section
@@ -57,16 +57,13 @@ pub record IsCutIn (S : Section) (p : Place) : Type 0 where
 
 -- the fault of a next line that is not allowed there
 abbrev pub IsLineFault : PairFault → Place → Type 0
-IsLineFault Read p = ⊥
-IsLineFault TooLarge p = ⊥
 IsLineFault (BadLine n) p = (line : List ℕ) × (after : Place) × IsNext line p after × (n ≡ after.taken)
 IsLineFault EndsEarly p = HasNo newline p.rest
-IsLineFault NoMemory p = ⊥
+IsLineFault fault p = ⊥
 
 -- the faults that may replace a section
 abbrev pub MayStop : Section → PairFault → Place → Type 0
-MayStop S Read p = ⊥
-MayStop S TooLarge p = ⊥
 MayStop S (BadLine n) p = IsWrongAt S p n
 MayStop S EndsEarly p = IsCutIn S p
 MayStop S NoMemory p = ⊤
+MayStop S fault p = ⊥

@@ -47,8 +47,7 @@ met_all old new pairs (v ∷ vs) (w ∷ ws) = met_all old new (met old new pairs
 
 abbrev pub met_blocks : Image → Image → List (ℕ × ℕ) → Option Block → Option Block → List (ℕ × ℕ)
 met_blocks old new pairs (Some a) (Some b) = if same_header a.header b.header && not a.header.raw then met_all old new pairs a.fields b.fields else pairs
-met_blocks old new pairs (Some a) None = pairs
-met_blocks old new pairs None b = pairs
+met_blocks old new pairs a b = pairs
 
 -- the pairs after the fields of the objects of a pair have met, if the headers are equal and the objects are not raw
 abbrev pub met_objects : Image → Image → List (ℕ × ℕ) → ℕ × ℕ → List (ℕ × ℕ)
@@ -68,8 +67,7 @@ AllMet old new pairs (v ∷ vs) (w ∷ ws) = HaveMet old new pairs v w × AllMet
 
 abbrev pub BlocksMet : Image → Image → List (ℕ × ℕ) → Option Block → Option Block → Type 0
 BlocksMet old new pairs (Some a) (Some b) = a.header ≡ b.header → a.header.raw ≡ false → AllMet old new pairs a.fields b.fields
-BlocksMet old new pairs (Some a) None = ⊤
-BlocksMet old new pairs None b = ⊤
+BlocksMet old new pairs a b = ⊤
 
 -- the fields of the objects of this pair have met
 abbrev pub ObjectsMet : Image → Image → List (ℕ × ℕ) → ℕ × ℕ → Type 0

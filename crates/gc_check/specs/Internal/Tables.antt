@@ -1,10 +1,11 @@
 -- The contents of the checker's tables, and the faults that they find one by one.
 use Rattle.std.specs.Prelude.{◌≡◌, ℕ, ◌+◌, ◌/◌, ◌%◌, ◌<◌, ◌≤◌, ◌^◌, ◌==◌, nat_le, if◌then◌else◌, Bool, not, List, length, map, slice_index, Option, None, IsOk}
+use Rattle.std.specs.Bool.{then_some}
 use Rattle.std.specs.List.{list_any, range_with_len}
 use Rattle.std.specs.Int.{bit_at}
 use Rattle.gc_graph.specs.Correspond.{paired}
 use Rattle.gc_words.specs.Image.{Image, walk_words, is_start}
-use Rattle.gc_words.specs.Fault.{◌or_else◌, when, table_fault}
+use Rattle.gc_words.specs.Fault.{◌or_else◌, table_fault}
 use Rattle.gc_words.specs.declared.refusal.Refusal.{Refusal}
 use Rattle.gc_words.specs.declared.refusal.Refusal.TheVariants.{OldNotStart, NewNotStart, NotRising, Twice}
 use Rattle.gc_check.specs.Tables.{Checked}
@@ -46,10 +47,10 @@ pub record HoldsPartners (partners : List ℕ) (pairs : List (ℕ × ℕ)) : Typ
 -- the fault of pair k's addresses, given the partners of the pairs before it and the last new address among them
 abbrev pub entry_fault : Image → Image → List ℕ → ℕ → ℕ → ℕ × ℕ → Option Refusal
 entry_fault old new partners last k p =
-    when (not (is_start old.words p.0)) (OldNotStart k)
-    or_else when (not (is_start new.words p.1)) (NewNotStart k)
-    or_else when (nat_le p.1 last) (NotRising k)
-    or_else when (not (slice_index partners p.0 == 0)) (Twice k)
+    then_some (not (is_start old.words p.0)) (OldNotStart k)
+    or_else then_some (not (is_start new.words p.1)) (NewNotStart k)
+    or_else then_some (nat_le p.1 last) (NotRising k)
+    or_else then_some (not (slice_index partners p.0 == 0)) (Twice k)
 
 -- a `u32` can count the pairs, their addresses have no fault, and the table holds the partners of these pairs
 pub record HasTables (checked : Checked) (entries : List ℕ) : Type 0 where

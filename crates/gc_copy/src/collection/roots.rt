@@ -1,4 +1,6 @@
-ghost use Rattle.std.specs.Prelude.{IfSome, ◌≡◌, ◌≤◌, ◌<◌, ℕ, IfOk, IsTrue, length, None, vec_capacity};
+ghost use Rattle.std.specs.Prelude.{IfSome, ◌≡◌, ◌≤◌, ◌<◌, ℕ, IfOk, IsTrue, length, None, vec_capacity, is_none};
+ghost use Rattle.gc_plan.specs.State.{replica_of};
+ghost use Rattle.std.specs.List.{find};
 ghost use Rattle.std.specs.Option.{option_map};
 ghost use Rattle.gc_words.specs.Word.{value_of};
 ghost use Rattle.gc_graph.specs.Graph.{Nil, names_of, root};
@@ -6,7 +8,7 @@ ghost use Rattle.gc_words.specs.Image.{is_start};
 ghost use Rattle.gc_words.specs.Closed.{IsRootWord};
 ghost use Rattle.gc_heap.specs.Heap.{graph_in};
 ghost use Rattle.gc_plan.specs.Staying.{HasReplicaOf, IsMissing};
-ghost use Rattle.gc_plan.specs.Steps.{first_unreplicated, root_target, roots_done as roots_done_in};
+ghost use Rattle.gc_plan.specs.Steps.{root_target, roots_done as roots_done_in};
 ghost use Rattle.gc_copy.specs.Words.{collection_in, AreMoved, BelongsTo, new_root_words};
 
 use super::Collection;
@@ -66,7 +68,7 @@ impl Collection {
         requires belongs { BelongsTo heap.now self.now }
         requires word { IsRootWord heap.now.space.words word }
         ensures target { option_map (λ a. a.0) result
-            ≡ first_unreplicated (collection_in self.now) (names_of (value_of word)) }
+            ≡ find (λ (name : ℕ). is_none (replica_of (collection_in self.now) name)) (names_of (value_of word)) }
         ensures start { IfSome result (λ a. IsTrue (is_start heap.now.space.words a.0)) }
     {
         let target = OldAddr(target_of(word)?.0);

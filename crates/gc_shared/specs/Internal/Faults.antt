@@ -7,6 +7,4 @@ use Rattle.gc_shared.specs.declared.fault.ThreadsFault.TheVariants as threads
 
 abbrev pub fault_of_call : CallFault → ThreadsFault
 fault_of_call calls.NoMemory = threads.NoMemory
-fault_of_call calls.NotAMutator = threads.Close kinds.Seats
-fault_of_call calls.NotACollector = threads.Close kinds.Seats
-fault_of_call calls.NoSuchMutator = threads.Close kinds.Seats
+fault_of_call fault = threads.Close kinds.Seats

@@ -7,7 +7,7 @@ use Rattle.gc_shared.specs.Seats.{SeatValue}
 use Rattle.gc_shared.specs.Receipts.{IsRecorded, times_at}
 use Rattle.gc_shared.specs.Closing.{receipts_of, receipts_below, IsTorn, IsExtra}
 use Rattle.gc_shared.specs.declared.fault.CloseKind.{CloseKind}
-use Rattle.gc_shared.specs.declared.fault.CloseKind.TheVariants.{Seats, Torn, Extra, NoMemory}
+use Rattle.gc_shared.specs.declared.fault.CloseKind.TheVariants.{Torn, Extra}
 
 -- each number below `count` belongs to exactly one seat
 abbrev pub HasEachOnce : List SeatValue → ℕ → Type 0
@@ -37,7 +37,6 @@ pub record AgreeByNumber (history : List Entry) (seats : List SeatValue) (count 
 
 -- the first fault of the receipts, if each seat number occurs once
 abbrev pub IsFault : List Entry → List SeatValue → ℕ → CloseKind → Type 0
-IsFault history seats count Seats = ⊥
 IsFault history seats count (Torn seat n) = IsTorn history seats count seat n
 IsFault history seats count Extra = IsExtra history seats count
-IsFault history seats count NoMemory = ⊥
+IsFault history seats count fault = ⊥

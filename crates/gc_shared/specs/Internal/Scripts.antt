@@ -10,7 +10,7 @@ use Rattle.gc_shared.specs.Scripts.{script_at, IsUsefulStep}
 
 -- the events on a seat's receipts, in order
 abbrev pub events_on : SeatValue → List Event
-events_on seat = map (λ r. r.event) seat.receipts
+events_on seat = map (λ r. r.entry.event) seat.receipts
 
 -- the seat with this number has performed the commands of the script, in order, and nothing else
 pub record HasPerformed (number : ℕ) (script : List Op) (seat : SeatValue) : Type 0 where
@@ -21,7 +21,7 @@ pub record HasPerformed (number : ℕ) (script : List Op) (seat : SeatValue) : T
 pub record HasTurned (number turns : ℕ) (seat : SeatValue) : Type 0 where
   pub same : seat.number ≡ number
   pub count : length seat.receipts ≡ turns
-  pub useful : All (λ r. IsUsefulStep r.event r.answer) seat.receipts
+  pub useful : All (λ r. IsUsefulStep r.entry.event r.entry.answer) seat.receipts
 
 -- the first n seats have run their scripts
 pub record HavePlayed (scripts : List (Vec Op Global)) (n : ℕ) (seats : List SeatValue) : Type 0 where

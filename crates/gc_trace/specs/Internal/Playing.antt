@@ -4,7 +4,7 @@ use Rattle.gc_plan.specs.State.{State}
 use Rattle.gc_plan.specs.Runs.{answers, state_after}
 use Rattle.gc_plan.specs.declared.event.Event.{Event}
 use Rattle.gc_trace.specs.Faults.{IsReadAsTrace}
-use Rattle.gc_trace.specs.Grammar.{Recording, IsRecording}
+use Rattle.gc_trace.specs.Grammar.{IsRecording}
 use Rattle.gc_trace.specs.Internal.Reading.{HasRead, read_so_far}
 use Rattle.gc_trace.specs.Plays as plays
 use Rattle.gc_trace.specs.Replies.{reply_text}
@@ -30,8 +30,5 @@ pub record HasPlayedRest (lines : EventReader) (left : Option (List ℕ)) (playe
   pub read : (text : List ℕ) → HasRead text [] lines left → IsReadAsTrace (read_so_far lines events) text
 
 -- the results of playing the reader's trace; the reply lines are there if they were gathered
-pub record HasResults (text : Option (List ℕ)) (gather : Gather) (played : Played) : Type 0 where
-  pub trace : Recording
-  pub from : plays.IsTraceFrom text trace
-  pub report : played.report ≡ plays.report_in trace
-  pub replies : gather ≡ Replies → played.replies.items ≡ reply_text (plays.trace_answers trace)
+abbrev pub HasResults : Option (List ℕ) → Gather → Played → Type 0
+HasResults text gather played = plays.IsTraceAnd text (λ t. (played.report ≡ plays.report_in t) × (gather ≡ Replies → played.replies.items ≡ reply_text (plays.trace_answers t)))

@@ -1,5 +1,5 @@
 -- How the fields of a world fit together.
-use Rattle.std.specs.Prelude.{◌≡◌, Option, Some, None, ⊤}
+use Rattle.std.specs.Prelude.{◌≡◌, Option, IfSome}
 use Rattle.gc_core.specs.Flip.{IsCertified}
 use Rattle.gc_plan.specs.State.{State}
 use Rattle.gc_cert.specs.Grammar.{CertifiedPair}
@@ -8,8 +8,7 @@ use Rattle.gc_world.specs.World.{Past, present, HasSmallImages}
 
 -- a kept pair is certified, and its images are small
 abbrev pub IsKept : Option CertifiedPair → Type 0
-IsKept None = ⊤
-IsKept (Some pair) = IsCertified pair × HasSmallImages pair
+IsKept kept = IfSome kept (λ pair. IsCertified pair × HasSmallImages pair)
 
 -- the heap is the state that the history leads to
 pub record IsWorld (now : State) (past : Past) : Type 0 where

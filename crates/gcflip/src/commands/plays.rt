@@ -1,8 +1,11 @@
-ghost use Rattle.std.specs.Prelude.{◌≡◌, ◌≤◌, IfOk, IfErr, OnOk};
+ghost use Rattle.std.specs.Prelude.{◌≡◌, ◌≤◌, Some, IfOk, IfErr, OnOk};
+ghost use Rattle.std.specs.Io.KnownBytes.{Appends};
 ghost use Rattle.gc_graph.specs.Streams.{bytes_left, bytes_written};
-ghost use Rattle.gc_trace.specs.Flips.{PlaysPair};
-ghost use Rattle.gc_trace.specs.Plays.{Plays, Reports};
-ghost use Rattle.gc_trace.specs.declared.report.Report.{Report};
+ghost use Rattle.gc_cert.specs.Grammar.{CertifiedPair, spelling};
+ghost use Rattle.gc_trace.specs.Flips.{nth_flip};
+ghost use Rattle.gc_trace.specs.Plays.{IsTraceAnd, trace_answers, report_in};
+ghost use Rattle.gc_trace.specs.Replies.{reply_text};
+ghost use Rattle.gc_trace.specs.Report.{report_text};
 ghost use Rattle.gcflip.specs.Outcomes.{IsOfPlay};
 
 use crate::faults::Fault;
@@ -17,8 +20,8 @@ pub fn play_from<R: Read, W: Write>(
     writer: &mut Sink<W>,
 ) -> Result<u8, Fault>
     // All reply lines are written, and nothing else.
-    ensures played { OnOk result ((report : Report) × Plays (bytes_left R.remaining reader.old) report
-        (bytes_written W.contents writer.old) (bytes_written W.contents writer.new)) }
+    ensures played { OnOk result (IsTraceAnd (bytes_left R.remaining reader.old) (λ t. Appends
+        (bytes_written W.contents writer.old) (bytes_written W.contents writer.new) (reply_text (trace_answers t)))) }
     ensures statuses { IfOk result (λ status. status ≡ 0) }
     ensures player { IfErr result IsOfPlay }
 {
@@ -33,8 +36,8 @@ pub fn report_from<R: Read, W: Write>(
     writer: &mut Sink<W>,
 ) -> Result<u8, Fault>
     // The whole text of the report is written, and nothing else.
-    ensures reported { OnOk result ((report : Report) × Reports (bytes_left R.remaining reader.old) report
-        (bytes_written W.contents writer.old) (bytes_written W.contents writer.new)) }
+    ensures reported { OnOk result (IsTraceAnd (bytes_left R.remaining reader.old) (λ t. Appends
+        (bytes_written W.contents writer.old) (bytes_written W.contents writer.new) (report_text (report_in t)))) }
     ensures statuses { IfOk result (λ status. status ≡ 0) }
     ensures player { IfErr result IsOfPlay }
 {
@@ -51,8 +54,9 @@ pub fn pair_from<R: Read, W: Write>(
 ) -> Result<u8, Fault>
     requires { 1 ≤ n }
     // The whole text of the pair is written, and nothing else.
-    ensures written { OnOk result (PlaysPair n (bytes_left R.remaining reader.old)
-        (bytes_written W.contents writer.old) (bytes_written W.contents writer.new)) }
+    ensures written { OnOk result (IsTraceAnd (bytes_left R.remaining reader.old) (λ t. (pair : CertifiedPair)
+        × (nth_flip n t ≡ Some pair)
+        × Appends (bytes_written W.contents writer.old) (bytes_written W.contents writer.new) (spelling pair))) }
     ensures statuses { IfOk result (λ status. status ≡ 0) }
     ensures player { IfErr result IsOfPlay }
 {

@@ -1,10 +1,13 @@
-ghost use Rattle.std.specs.Prelude.{◌≡◌, ◌≢◌, ◌↔◌, true, IfSome, IfOk, IfErr, OnOk, OnErr, Err};
-ghost use Rattle.gc_graph.specs.Streams.{bytes_left, bytes_written, source_failed, sink_failed};
+ghost use Rattle.std.specs.Prelude.{◌≡◌, ◌≢◌, ◌↔◌, List, true, IfSome, IfOk, IfErr, OnOk, OnErr, Err};
+ghost use Rattle.std.specs.Io.KnownBytes.{Appends};
+ghost use Rattle.gc_graph.specs.Streams.{bytes_left, bytes_written, source_failed, sink_failed, SendsFront};
+ghost use Rattle.gc_world.specs.declared.entry.Entry.{Entry};
 ghost use Rattle.gc_trace.specs.Faults.{ReadingMayFail};
+ghost use Rattle.gc_trace.specs.Plays.{IsTraceAnd};
 ghost use Rattle.gc_trace.specs.declared.fault.TraceFault.{TraceFault};
 ghost use Rattle.gc_shared.specs.declared.fault.ThreadsFault.{ThreadsFault};
 ghost use Rattle.gcflip.specs.Outcomes.{IsOfThreads};
-ghost use Rattle.gcflip.specs.ThreadedRuns.{WritesRun, WritesRunFront};
+ghost use Rattle.gcflip.specs.ThreadedRuns.{IsThreadedRun, recorded};
 
 use crate::faults::Fault;
 use gc_graph::text::Message;
@@ -113,8 +116,9 @@ pub fn threads_run<R: Read, W: Write>(
     writer: &mut Sink<W>,
 ) -> Result<(), ThreadsRunFault>
     // The whole recorded trace is written, and nothing else.
-    ensures ran { OnOk result (WritesRun (bytes_left R.remaining reader.old) turns
-        (bytes_written W.contents writer.old) (bytes_written W.contents writer.new)) }
+    ensures ran { OnOk result (IsTraceAnd (bytes_left R.remaining reader.old) (λ t. (entries : List Entry)
+        × IsThreadedRun t turns entries
+        × Appends (bytes_written W.contents writer.old) (bytes_written W.contents writer.new) (recorded t entries))) }
     // A bad text gives its first fault.
     ensures fault { (fault : TraceFault) → result ≡ Err (ThreadsRunFault.Trace fault) →
         IfSome (bytes_left R.remaining reader.old) (λ text. ReadingMayFail fault text) }
@@ -125,8 +129,9 @@ pub fn threads_run<R: Read, W: Write>(
     // Nothing goes out before the world is closed.
     ensures silent { OnErr result (result ≢ Err ThreadsRunFault.Write → writer.new ≡ writer.old) }
     // What went out is a prefix of the recorded trace.
-    ensures front { result ≡ Err ThreadsRunFault.Write → WritesRunFront (bytes_left R.remaining reader.old) turns
-        (bytes_written W.contents writer.old) (bytes_written W.contents writer.new) }
+    ensures front { result ≡ Err ThreadsRunFault.Write → IsTraceAnd (bytes_left R.remaining reader.old) (λ t. (entries : List Entry)
+        × IsThreadedRun t turns entries
+        × SendsFront (bytes_written W.contents writer.old) (bytes_written W.contents writer.new) (recorded t entries)) }
 {
     scripts_are_commands();
     let trace = read_trace(alloc, reader)?;
@@ -147,8 +152,9 @@ pub fn threads_from<R: Read, W: Write>(
     writer: &mut Sink<W>,
 ) -> Result<u8, Fault>
     // The whole recorded trace is written, and nothing else.
-    ensures ran { OnOk result (WritesRun (bytes_left R.remaining reader.old) turns
-        (bytes_written W.contents writer.old) (bytes_written W.contents writer.new)) }
+    ensures ran { OnOk result (IsTraceAnd (bytes_left R.remaining reader.old) (λ t. (entries : List Entry)
+        × IsThreadedRun t turns entries
+        × Appends (bytes_written W.contents writer.old) (bytes_written W.contents writer.new) (recorded t entries))) }
     ensures statuses { IfOk result (λ status. status ≡ 0) }
     ensures threads { IfErr result IsOfThreads }
     // A bad text gives its first fault.
@@ -161,9 +167,10 @@ pub fn threads_from<R: Read, W: Write>(
     ensures unwritten { result ≡ Err (Fault.Threads ThreadsRunFault.Write) → sink_failed writer.new ≡ true }
     ensures silent { OnErr result (result ≢ Err (Fault.Threads ThreadsRunFault.Write) → writer.new ≡ writer.old) }
     // What went out is a prefix of the recorded trace.
-    ensures front { result ≡ Err (Fault.Threads ThreadsRunFault.Write) → WritesRunFront
-        (bytes_left R.remaining reader.old) turns
-        (bytes_written W.contents writer.old) (bytes_written W.contents writer.new) }
+    ensures front { result ≡ Err (Fault.Threads ThreadsRunFault.Write) →
+        IsTraceAnd (bytes_left R.remaining reader.old) (λ t. (entries : List Entry)
+        × IsThreadedRun t turns entries
+        × SendsFront (bytes_written W.contents writer.old) (bytes_written W.contents writer.new) (recorded t entries)) }
 {
     match threads_run(rt, alloc, turns, reader, writer) {
         Ok(()) => Ok(0),

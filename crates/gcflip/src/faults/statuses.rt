@@ -1,6 +1,5 @@
 ghost use Rattle.std.specs.Prelude.{◌≡◌};
-ghost use Rattle.gcflip.specs.Statuses.{trace_fault_status, play_fault_status, pair_fault_status, run_fault_status};
-ghost use Rattle.gcflip.specs.Statuses.{close_kind_status, threads_fault_status, threads_run_fault_status};
+ghost use Rattle.gcflip.specs.Statuses.{trace_fault_status, play_fault_status, run_fault_status, threads_run_fault_status};
 
 use crate::commands::ThreadsRunFault;
 use gc_cert::PairFault;
@@ -32,42 +31,15 @@ pub fn play_status(fault: &PlayFault) -> u8
     }
 }
 
-fn pair_status(fault: &PairFault) -> u8
-    ensures { result ≡ pair_fault_status fault.now }
-{
-    match fault {
-        PairFault::TooLarge | PairFault::BadLine(_) | PairFault::EndsEarly => 3,
-        PairFault::Read => 4,
-        PairFault::NoMemory => 5,
-    }
-}
-
 pub fn run_status(fault: &RunFault) -> u8
     ensures { result ≡ run_fault_status fault.now }
 {
     match fault {
-        RunFault::Pair(fault) => pair_status(fault),
-        RunFault::Write => 4,
-        RunFault::NoMemory => 5,
-    }
-}
-
-fn close_status(kind: &CloseKind) -> u8
-    ensures { result ≡ close_kind_status kind.now }
-{
-    match kind {
-        CloseKind::NoMemory => 5,
-        CloseKind::Seats | CloseKind::Torn { .. } | CloseKind::Extra => 6,
-    }
-}
-
-fn threads_status(fault: &ThreadsFault) -> u8
-    ensures { result ≡ threads_fault_status fault.now }
-{
-    match fault {
-        ThreadsFault::NoMemory => 5,
-        ThreadsFault::NotStarted | ThreadsFault::Gate { .. } => 6,
-        ThreadsFault::Close(kind) => close_status(kind),
+        RunFault::Pair(PairFault::TooLarge)
+        | RunFault::Pair(PairFault::BadLine(_))
+        | RunFault::Pair(PairFault::EndsEarly) => 3,
+        RunFault::Pair(PairFault::Read) | RunFault::Write => 4,
+        RunFault::Pair(PairFault::NoMemory) | RunFault::NoMemory => 5,
     }
 }
 
@@ -76,8 +48,14 @@ pub fn threads_run_status(fault: &ThreadsRunFault) -> u8
 {
     match fault {
         ThreadsRunFault::Trace(fault) => trace_status(fault),
-        ThreadsRunFault::Threads(fault) => threads_status(fault),
         ThreadsRunFault::Write => 4,
-        ThreadsRunFault::NoMemory => 5,
+        ThreadsRunFault::NoMemory
+        | ThreadsRunFault::Threads(ThreadsFault::NoMemory)
+        | ThreadsRunFault::Threads(ThreadsFault::Close(CloseKind::NoMemory)) => 5,
+        ThreadsRunFault::Threads(ThreadsFault::NotStarted)
+        | ThreadsRunFault::Threads(ThreadsFault::Gate { .. })
+        | ThreadsRunFault::Threads(ThreadsFault::Close(CloseKind::Seats))
+        | ThreadsRunFault::Threads(ThreadsFault::Close(CloseKind::Torn { .. }))
+        | ThreadsRunFault::Threads(ThreadsFault::Close(CloseKind::Extra)) => 6,
     }
 }

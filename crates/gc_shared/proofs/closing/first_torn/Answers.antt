@@ -1,7 +1,6 @@
 -- A receipt at a place that is not free is the first that does not stand, and any other is one more that stands.
 use Rattle.std.proofs.lemmas.Grind.{common_steps}
-use Rattle.std.proofs.Common.{◌≡◌, ap, length-set, ◌∙◌, take_all, arith}
-use Rattle.gc_shared.specs.declared.seat.Receipt.{Receipt}
+use Rattle.std.proofs.Common.{length-set, ◌∙◌, take_all, arith}
 use Rattle.gc_shared.specs.Closing.{receipts_below}
 use Rattle.gc_shared.proofs.ReceiptMarks.{step, torn_here}
 use Rattle.gc_shared.proofs.closing.first_torn.Goals as goal
@@ -13,8 +12,7 @@ pub loop-n-preserved : goal.loop-n-preserved
 loop-n-preserved c =
     let inv = c.loop-n.invariant in
     let s = step c.args.history.now (receipts_below c.args.seats.now c.args.seat) c.receipts_with-receipts.result.now c.loop-n.marks c.loop-n.low c.loop-n.n c.index-receipts-n.result c.loop-n-test.true c.index-receipts-n.is inv.low inv.stand inv.marked (c.is_free.ensures.within c.if-not-is_free.false) (c.is_free.ensures.free.0 c.if-not-is_free.false) in
-    let place : c.receipt.inside.place ≡ c.index-receipts-n.result.place = ap (λ (r : Receipt). r.place) c.receipt.view_is in
-    record { is = inv.is; len = length-set _ _ _ ∙ inv.len; low = rw place s.low; stand = s.stand; marked = rw place s.marked }
+    record { is = inv.is; len = length-set _ _ _ ∙ inv.len; low = s.low; stand = s.stand; marked = s.marked }
 
 pub returns : goal.returns
 returns c = grind (arith, common_steps, take_all)

@@ -7,5 +7,5 @@ abbrev pub invariant-loop-n : goal.invariant-loop-n
 invariant-loop-n g l = record {
   same : l.seat.number ≡ l.fn.seat.number;
   count : length l.seat.receipts ≡ l.n;
-  useful : All (λ r. IsUsefulStep r.event r.answer) l.seat.receipts;
+  useful : All (λ r. IsUsefulStep r.entry.event r.entry.answer) l.seat.receipts;
 }

@@ -4,4 +4,4 @@ use Rattle.gc_trace.proofs.player.play_report.Goals as goal
 pub returns-in-Err-clause-front : goal.returns-in-Err-clause-front
 returns-in-Err-clause-front g c _ =
     let played = c.in_ok-report.ensures.played in
-    (played.trace, played.from, rw played.report at c.in-Err.ensures.err)
+    (played.0, played.1, rw played.2.0 at c.in-Err.ensures.err)

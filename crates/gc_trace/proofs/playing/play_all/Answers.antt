@@ -10,10 +10,8 @@ pub returns-in-Ok-clause-played : goal.returns-in-Ok-clause-played
 returns-in-Ok-clause-played g c =
     let rest = c.in_ok-take_all.ensures.played in
     let trace = read_so_far c.in_ok-lines.lines rest.events in
-    let finished = c.in-Ok.ensures in
-    record {
-      trace = trace;
-      from = record { recording = rest.recording; read = if_known {P = IsReadAsTrace trace} _ (λ text is. rest.read text (c.in_ok-lines.ensures.exact text is)) };
-      report = finished.report (trace_opening trace) rest.events rest.played;
-      replies = λ gathered. finished.replies (trace_opening trace) rest.events rest.played (c.take_all.ensures.gather ∙ c.in_ok-player.ensures.gather ∙ gathered);
-    }
+    let finished = c.in-Ok.ensures in (
+      trace,
+      record { recording = rest.recording; read = if_known {P = IsReadAsTrace trace} _ (λ text is. rest.read text (c.in_ok-lines.ensures.exact text is)) },
+      (finished.report (trace_opening trace) rest.events rest.played, λ gathered. finished.replies (trace_opening trace) rest.events rest.played (c.take_all.ensures.gather ∙ c.in_ok-player.ensures.gather ∙ gathered)),
+    )

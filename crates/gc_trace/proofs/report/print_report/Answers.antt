@@ -1,14 +1,16 @@
 -- Each count adds its line to the printed text, and all of them are the report's text.
-use Rattle.std.proofs.Common.{refl, ◌++◌, ◌∙◌, ap, List, ℕ}
-use Rattle.std.specs.List.{flat_map}
+use Rattle.std.proofs.Common.{refl, [], ◌∷◌, ◌++◌, ◌∙◌, ap, map, List, ℕ}
+use Rattle.std.specs.List.{flat_map, zip}
+use Rattle.std.specs.Fmt.{decimal}
 use Rattle.gc_graph.specs.Lines.{line}
-use Rattle.gc_trace.specs.Report.{report_lines}
+use Rattle.gc_trace.specs.Report.{report_names, report_counts}
 use Rattle.gc_trace.proofs.ReportLines.{◌⨾◌, Grows, grown}
 use Rattle.gc_trace.proofs.report.print_report.Goals as goal
 
 pub returns : goal.returns
 returns c =
-    let lines = report_lines c.args.report.now in
+    let report = c.args.report.now in
+    let lines = map (λ (p : List ℕ × ℕ). p.0 ∷ decimal p.1 ∷ []) (zip report_names (report_counts report ++ report.end ∷ report.free ∷ [])) in
     let grows : Grows c.args.printer.now lines c.print_count-13.new.printer =
     c.print_count.ensures.text ⨾ c.print_count-2.ensures.text ⨾ c.print_count-3.ensures.text ⨾ c.print_count-4.ensures.text ⨾ c.print_count-5.ensures.text
     ⨾ c.print_count-6.ensures.text ⨾ c.print_count-7.ensures.text ⨾ c.print_count-8.ensures.text ⨾ c.print_count-9.ensures.text ⨾ c.print_count-10.ensures.text

@@ -7,7 +7,6 @@ use Rattle.std.proofs.lemmas.Bool.{cases_eq}
 use Rattle.gc_graph.specs.Graph.{names_of, root}
 use Rattle.gc_heap.specs.Heap.{graph_in}
 use Rattle.gc_plan.specs.Staying.{HasReplicaOf}
-use Rattle.gc_plan.specs.Steps.{first_unreplicated}
 use Rattle.gc_copy.specs.Words.{collection_in}
 use Rattle.gc_plan.proofs.Public.{is_missing, is_replicated}
 use Rattle.gc_copy.proofs.collection.Collection.missing_root.Goals as goal

@@ -1,12 +1,12 @@
 -- The checker's yes is about the open collection's pair, which is the one that is kept, and no collection is open after the flip.
 use Rattle.std.proofs.Common.{◌≡◌, Option, Some, refl, sym, ◌∙◌, ap, subst}
-use Rattle.std.specs.Option.{option_map}
+use Rattle.std.specs.Option.{option_map, option_or}
 use Rattle.gc_cert.specs.Views.{pair_in}
 use Rattle.gc_plan.specs.State.{State}
 use Rattle.gc_plan.specs.Steps.{collect}
 use Rattle.gc_plan.specs.declared.step.Step.TheVariants as steps
 use Rattle.gc_copy.specs.Words.{CollectionWords, collection_in, state_of, open_state, idle_state}
-use Rattle.gc_core.specs.Flip.{IsCertified, kept_after, replaced}
+use Rattle.gc_core.specs.Flip.{IsCertified, kept_after}
 use Rattle.gc_copy.proofs.Public.{unlinked}
 use Rattle.gc_core.specs.Internal.CollectedHeap.{Fits}
 use Rattle.gc_core.specs.Internal.KnownRoots.{KnowsRoots}
@@ -31,7 +31,7 @@ unmarked_is after taken o e f = (let both : Some after ≡ Some taken = e ∙ f 
 pub returns-clause-pair : goal.returns-clause-pair
 returns-clause-pair g c keeps kept =
     let seen = c.unmark.ensures.state ∙ ap (λ o. state_of c.self.inside.heap (option_map collection_in o)) (sym c.in-Some.is) ∙ c.self.view_is in
-    subst (λ (s : State). kept_after kept s c.carry_out.result.reply ≡ replaced kept (option_map pair_in c.carry_out.result.pair)) seen
+    subst (λ (s : State). kept_after kept s c.carry_out.result.reply ≡ option_or (option_map pair_in c.carry_out.result.pair) kept) seen
     (kept_open c.unmark.new.heap (Some c.unmark.new.self) c.unwrap-collection.result c.carry_out.result.reply _ (option_map pair_in c.carry_out.result.pair) kept
     (sym c.take.ensures.value ∙ c.unwrap-collection.ensures) c.carry_out.ensures.reply (c.carry_out.ensures.pair (c.in_ok-copies.ensures.pair keeps)))
 

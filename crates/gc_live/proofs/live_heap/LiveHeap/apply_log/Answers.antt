@@ -1,10 +1,10 @@
 -- The checker is told of the entry that the step applied, so it goes along and is not lost; any other reply changes nothing.
 use Rattle.std.proofs.Common.{◌≡◌, ℕ, List, [], ◌∷◌, Bor, Option, Some, None, refl, sym, ap, ◌∙◌}
 use Rattle.std.specs.Prelude.{slice_get}
-use Rattle.std.specs.Option.{option_map}
+use Rattle.std.specs.Option.{option_map, option_map_or}
 use Rattle.gc_plan.specs.State.{State, Collection}
 use Rattle.gc_plan.specs.Steps.{log_at}
-use Rattle.gc_core.specs.Readings.{log_of, log_in}
+use Rattle.gc_core.specs.Readings.{log_of}
 use Rattle.gc_beside.proofs.Public.{lives_applied, apply_or_same}
 use Rattle.gc_words.specs.Image.{Image}
 use Rattle.gc_live.proofs.Lasts.{lasts_applied}
@@ -12,7 +12,7 @@ use Rattle.gc_live.proofs.LastsOn.{both_same}
 use Rattle.gc_live.proofs.live_heap.LiveHeap.apply_log.Goals as goal
 
 log_is : (s : State) (m : ℕ) (entry : ℕ × ℕ) → Some entry ≡ slice_get (log_of s m) 0 → (c : Collection) → s.collection ≡ Some c → (rest : List (ℕ × ℕ)) × (log_at c m ≡ entry ∷ rest)
-log_is s m entry is c e = go (log_at c m) refl (is ∙ ap (λ o. slice_get (log_in o m) 0) e)
+log_is s m entry is c e = go (log_at c m) refl (is ∙ ap (λ o. slice_get (option_map_or (λ (c : Collection). log_at c m) o []) 0) e)
   where
     go : (l : List (ℕ × ℕ)) → log_at c m ≡ l → Some entry ≡ slice_get l 0 → (rest : List (ℕ × ℕ)) × (log_at c m ≡ entry ∷ rest)
     go [] f h = absurd (let no : Some entry ≡ None = h in cc)

@@ -7,18 +7,14 @@ pub returns-in-Ok-clause-ran : goal.returns-in-Ok-clause-ran
 returns-in-Ok-clause-ran g c =
     let t = recording c.in_ok-trace.trace in (
       t,
-      c.in_ok-world.world.entries,
       record { recording = c.in_ok-trace.ensures.sound; read = c.in_ok-trace.ensures.exact },
-      threaded t c.args.turns c.in_ok-scripts.scripts.items c.in_ok-world.world c.in_ok-scripts.ensures c.in_ok-world.ensures c.history.ensures.history,
-      rw c.history.ensures.entries at c.in-Ok.ensures.ok,
+      (c.in_ok-world.world.entries, threaded t c.args.turns c.in_ok-scripts.scripts.items c.in_ok-world.world c.in_ok-scripts.ensures c.in_ok-world.ensures c.history.ensures.history, rw c.history.ensures.entries at c.in-Ok.ensures.ok),
     )
 
 pub returns-clause-front : goal.returns-clause-front
 returns-clause-front g c _ =
     let t = recording c.in_ok-trace.trace in (
       t,
-      c.in_ok-world.world.entries,
       record { recording = c.in_ok-trace.ensures.sound; read = c.in_ok-trace.ensures.exact },
-      threaded t c.args.turns c.in_ok-scripts.scripts.items c.in_ok-world.world c.in_ok-scripts.ensures c.in_ok-world.ensures c.history.ensures.history,
-      rw c.history.ensures.entries at c.in-Err.ensures.err,
+      (c.in_ok-world.world.entries, threaded t c.args.turns c.in_ok-scripts.scripts.items c.in_ok-world.world c.in_ok-scripts.ensures c.in_ok-world.ensures c.history.ensures.history, rw c.history.ensures.entries at c.in-Err.ensures.err),
     )
