@@ -10,7 +10,7 @@ use Rattle.gc_words.specs.declared.header.Header.{Header}
 use Rattle.gc_words.proofs.Public.{some_of}
 use Rattle.gc_along.specs.Watch.{IsSeen, IsNext}
 use Rattle.gc_along.specs.Events.{code_of, object_codes}
-use Rattle.gc_along.specs.Telling.{IsMark, MarksStarts}
+use Rattle.gc_along.specs.Telling.{IsMark, MarksAreStarts}
 use Rattle.gc_along.proofs.Kept.{codes_length}
 use Rattle.gc_along.proofs.Walked.{kept, came}
 use Rattle.gc_along.proofs.Written.{block_written, block_beside, block_linked, block_there}
@@ -34,7 +34,7 @@ behind n code k off m = grind (arith, common_steps, no_zero, same_codes)
 
 -- ---- an object more
 
-module _ (codes words : List ℕ) (h : Header) (code : ℕ) (off : IsMark code → ⊥) (seen : IsSeen (length codes) words) (next : IsNext (length codes) words h) (starts : MarksStarts codes words) where
+module _ (codes words : List ℕ) (h : Header) (code : ℕ) (off : IsMark code → ⊥) (seen : IsSeen (length codes) words) (next : IsNext (length codes) words h) (starts : MarksAreStarts codes words) where
   early : (a : ℕ) → is_start (take (length codes) words) a ≡ true → is_start (take (length codes + (h.len + 2)) words) a ≡ true
   early a s = grind (arith, common_steps, some_of, kept)
 
@@ -44,7 +44,7 @@ module _ (codes words : List ℕ) (h : Header) (code : ℕ) (off : IsMark code �
   at_new : (a k : ℕ) → a ≡ length codes + k → IsMark (get_or (object_codes h.len code) k 0) → is_start (take (length codes + (h.len + 2)) words) a ≡ true
   at_new a k e m = grind (arith, common_steps, here, behind)
 
-  pub marks_more : MarksStarts (codes ++ object_codes h.len code) words
+  pub marks_more : MarksAreStarts (codes ++ object_codes h.len code) words
   marks_more a m = grind (arith, common_steps, length-append, codes_length, early, at_new, split)
 
 -- ---- a code that is no start's
@@ -54,21 +54,21 @@ set_here [] p code off m = no_zero m
 set_here (x ∷ xs) zero code off m = off m
 set_here (x ∷ xs) (suc p) code off m = set_here xs p code off m
 
-pub marks_set : (codes words : List ℕ) (place code : ℕ) → (IsMark code → ⊥) → MarksStarts codes words → MarksStarts (set codes place code) words
+pub marks_set : (codes words : List ℕ) (place code : ℕ) → (IsMark code → ⊥) → MarksAreStarts codes words → MarksAreStarts (set codes place code) words
 marks_set codes words place code off starts a m = grind (arith, common_steps, cases_eq, set_here, get_or-set_other)
 
 -- the mark of a start that was one already
-pub marks_taken : (codes words : List ℕ) (place code : ℕ) → is_start (take (length codes) words) place ≡ true → MarksStarts codes words → MarksStarts (set codes place code) words
+pub marks_taken : (codes words : List ℕ) (place code : ℕ) → is_start (take (length codes) words) place ≡ true → MarksAreStarts codes words → MarksAreStarts (set codes place code) words
 marks_taken codes words place code start starts a m = grind (arith, common_steps, cases_eq, get_or-set_other)
 
 -- ---- words written
 
-pub marks_written : (codes words : List ℕ) (a i x : ℕ) → IsSeen (length codes) words → IsSome (field_at (take (length codes) words) a i) → MarksStarts codes words → MarksStarts codes (slice_set words (field_place a i) x)
+pub marks_written : (codes words : List ℕ) (a i x : ℕ) → IsSeen (length codes) words → IsSome (field_at (take (length codes) words) a i) → MarksAreStarts codes words → MarksAreStarts codes (slice_set words (field_place a i) x)
 marks_written codes words a i x seen some starts c m = elim (cases_eq c a) [
   | inl same ↦ (let b = block_there (length codes) words a i x seen some in
       subst (λ c. is_start (take (length codes) (slice_set words (field_place a i) x)) c ≡ true) (sym same) (ap is_some (block_written (length codes) words a i x seen some b.0 b.1)))
   | inr other ↦ ap is_some (block_beside (length codes) words a i x seen some c (λ e. other (sym e))) ∙ starts c m
 ]
 
-pub marks_linked : (codes words : List ℕ) (a x : ℕ) → IsSeen (length codes) words → is_start (take (length codes) words) a ≡ true → MarksStarts codes words → MarksStarts codes (slice_set words (link_place a) x)
+pub marks_linked : (codes words : List ℕ) (a x : ℕ) → IsSeen (length codes) words → is_start (take (length codes) words) a ≡ true → MarksAreStarts codes words → MarksAreStarts codes (slice_set words (link_place a) x)
 marks_linked codes words a x seen start starts c m = ap is_some (block_linked (length codes) words a x seen start c) ∙ starts c m

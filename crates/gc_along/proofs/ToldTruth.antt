@@ -18,7 +18,7 @@ use Rattle.gc_along.specs.Watch.{Watch, IsSeen, IsNext, IsWatched, Watches, OldI
 use Rattle.gc_along.specs.Origins.{pairs_in, pairs_from}
 use Rattle.gc_along.specs.Outline.{outline_of}
 use Rattle.gc_along.specs.Tables.{Tables, IsKept, CertifiedBy, watch_of, due_in}
-use Rattle.gc_along.specs.Telling.{MarksStarts, Tells}
+use Rattle.gc_along.specs.Telling.{MarksAreStarts, Tells}
 use Rattle.gc_along.specs.Events.{code_of, object_codes, with_news, with_due, old_added, replica_added, IsClaim, IsCopy, Made, Placed, IsFieldOf, Looked, IsReplicaAt, HasNoReplica, Wrote, Applied, Freed, opening_tables, flipped_tables}
 use Rattle.gc_along.proofs.Codes.{code_set}
 use Rattle.gc_along.proofs.Kept.{kept_due, kept_old, kept_replica, map_append, codes_length, code_is}
@@ -70,7 +70,7 @@ sound old new t tells said = said.1 old new refl refl tells.watches
 none_kept : (t : Tables) (olds : List ℕ) → IsKept (record t { olds = olds; news = 0 ∷ []; origins = 0 ∷ []; missing = 0 })
 none_kept t olds = grind (arith, common_steps)
 
-emptied : (old : List ℕ) (t : Tables) (olds : List ℕ) → IsSeen (length olds) old → MarksStarts olds old → Tells old (0 ∷ []) (record t { olds = olds; news = 0 ∷ []; origins = 0 ∷ []; missing = 0 })
+emptied : (old : List ℕ) (t : Tables) (olds : List ℕ) → IsSeen (length olds) old → MarksAreStarts olds old → Tells old (0 ∷ []) (record t { olds = olds; news = 0 ∷ []; origins = 0 ∷ []; missing = 0 })
 emptied old t olds seen starts = grind (arith, common_steps, kept, none_kept, begun, no_zero)
 
 seen_one : (old : List ℕ) → 1 ≤ length old → slice_index old 0 ≡ 0 → IsSeen 1 old

@@ -17,7 +17,7 @@ use Rattle.gc_words.specs.Space.{IsSpace}
 use Rattle.gc_words.specs.Layout.{field_place}
 use Rattle.gc_words.specs.declared.header.Header.{Header}
 use Rattle.gc_words.proofs.Public.{walk_placed, written_back, stands_in, walked_blocks, space_of, none_at_end, take_add}
-use Rattle.gc_along.specs.Watch.{Watch, IsSeen, IsNext, IsWatched, Watches, is_due, seen_at, front, old_walked, new_walked, placed, opening}
+use Rattle.gc_along.specs.Watch.{Watch, IsSeen, IsNext, IsWatched, Watches, is_due, seen_at, front, old_walked, new_walked, placed, opening_watch}
 use Rattle.gc_along.proofs.Looks.{watched_by}
 
 -- ---- one object more
@@ -92,7 +92,7 @@ fields_more h pairs more v u = grind (arith, common_steps, more)
 
 -- ---- the events
 
-pub begun : (old : List ℕ) (n : ℕ) → IsSeen n old → Watches old (0 ∷ []) (opening n)
+pub begun : (old : List ℕ) (n : ℕ) → IsSeen n old → Watches old (0 ∷ []) (opening_watch n)
 begun old n seen = grind (arith, common_steps, space_of)
 
 pub old_goes_on : (old new : List ℕ) (w : Watch) (h : Header) → Watches old new w → IsNext w.old_seen old h → Watches old new (old_walked w h)

@@ -13,8 +13,8 @@ abbrev pub CanMake : List ℕ → Tables → Type 0
 CanMake old t = length t.olds < length old → (h : Header) × IsNext (length t.olds) old h × (length t.olds + (h.len + 2) ≤ t.room)
 
 -- if the new space has an object more, its claim is true, and there is room for it
-abbrev pub CanPlace : List ℕ → List ℕ → Tables → Type 0
-CanPlace old new t = length t.news < length new
+abbrev pub CanPlaceNext : List ℕ → List ℕ → Tables → Type 0
+CanPlaceNext old new t = length t.news < length new
     → (h : Header) × (a : ℕ) × IsClaim old new t h a × (a < 4294967295) × (length t.news + (h.len + 2) ≤ t.room)
 
 -- a raw object that is a copy of its original owes nothing

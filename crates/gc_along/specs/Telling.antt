@@ -9,12 +9,12 @@ abbrev pub IsMark : ℕ → Type 0
 IsMark code = (code ≡ 1) ⊎ (code ≡ 2)
 
 -- an object starts at each mark of a row
-abbrev pub MarksStarts : List ℕ → List ℕ → Type 0
-MarksStarts codes words = (a : ℕ) → IsMark (slice_index_or codes a 0) → IsTrue (is_start (take (length codes) words) a)
+abbrev pub MarksAreStarts : List ℕ → List ℕ → Type 0
+MarksAreStarts codes words = (a : ℕ) → IsMark (slice_index_or codes a 0) → IsTrue (is_start (take (length codes) words) a)
 
 -- the tables agree, and they tell the truth of the words of both spaces
 pub record Tells (old new : List ℕ) (t : Tables) : Type 0 where
   pub kept : IsKept t
   pub watches : Watches old new (watch_of t)
-  pub old_starts : MarksStarts t.olds old
-  pub new_starts : MarksStarts t.news new
+  pub old_starts : MarksAreStarts t.olds old
+  pub new_starts : MarksAreStarts t.news new

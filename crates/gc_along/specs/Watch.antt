@@ -126,5 +126,5 @@ placed w a h = record {
 }
 
 -- of an empty new space, where the old one is seen up to a place
-abbrev pub opening : ℕ → Watch
-opening n = record { pairs = []; old_seen = n; new_seen = 1; due = false ∷ [] }
+abbrev pub opening_watch : ℕ → Watch
+opening_watch n = record { pairs = []; old_seen = n; new_seen = 1; due = false ∷ [] }

@@ -10,7 +10,7 @@ ghost use Rattle.gc_words.specs.Word.{field_words_correspond};
 ghost use Rattle.gc_words.specs.declared.header.Header.{Header};
 ghost use Rattle.gc_along.specs.Origins.{pairs_in};
 ghost use Rattle.gc_along.specs.Outline.{outline_of};
-ghost use Rattle.gc_along.specs.Watch.{Watch, OldIsDue, NewIsDue, looked, pair_at, IsSeen, IsNext, old_walked, new_walked, placed, opening, Watches, HasSeenAll, is_due_at, due_count, bit, IsSized, RootsCorrespond, mark, front, is_due, seen_at};
+ghost use Rattle.gc_along.specs.Watch.{Watch, OldIsDue, NewIsDue, looked, pair_at, IsSeen, IsNext, old_walked, new_walked, placed, opening_watch, Watches, HasSeenAll, is_due_at, due_count, bit, IsSized, RootsCorrespond, mark, front, is_due, seen_at};
 
 /// Where all is seen, the certificate is as good as its roots.
 pub fn what_is_seen_is_certified()
@@ -56,7 +56,7 @@ pub fn writes_keep_watching()
 /// the old one.
 pub fn walks_keep_watching()
     ensures opening { (old : List ℕ) (n : ℕ)
-        → IsSeen n old → Watches old (0 ∷ []) (opening n) }
+        → IsSeen n old → Watches old (0 ∷ []) (opening_watch n) }
     ensures old { (old new : List ℕ) (w : Watch) (h : Header)
         → Watches old new w → IsNext w.old_seen old h → Watches old new (old_walked w h) }
     ensures new { (old new : List ℕ) (w : Watch) (h : Header)
@@ -65,7 +65,7 @@ pub fn walks_keep_watching()
         → Watches old new w → header_at (take w.old_seen old) a ≡ Some h → All (λ p. p.0 ≢ a) w.pairs
         → IsNext w.new_seen new h → Watches old new (placed w a h) }
     ensures flipped { (old new : List ℕ) (w : Watch)
-        → Watches old new w → Watches new (0 ∷ []) (opening w.new_seen) }
+        → Watches old new w → Watches new (0 ∷ []) (opening_watch w.new_seen) }
 {}
 
 /// Where all is seen, the answer is that of the roots; and what is compared under a certificate that holds is

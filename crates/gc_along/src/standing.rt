@@ -65,7 +65,7 @@ impl Standing {
     ghost use Rattle.gc_along.specs.Tables.{CertifiedBy};
     ghost use Rattle.gc_along.specs.Telling.{IsMark, Tells};
     ghost use Rattle.gc_along.specs.Events.{Made, Placed, Looked, Wrote, Applied, Freed, WalkedAnew, IsFieldOf, HasNoReplica, object_codes, absent_tables, opening_tables, flipped_tables, with_due};
-    ghost use Rattle.gc_along.specs.Claims.{Accepts, CanApply, CanLook, CanMake, CanPlace, CanWrite, IsLinked, OwesNone};
+    ghost use Rattle.gc_along.specs.Claims.{Accepts, CanApply, CanLook, CanMake, CanPlaceNext, CanWrite, IsLinked, OwesNone};
 
     /// Returns a checker for spaces of up to `size` words, at least 1.
     pub fn new(alloc: Global, size: u32) -> Result<Standing, NoMemory>
@@ -203,7 +203,7 @@ impl Standing {
         ensures lost { IsTrue self.old.lost → IsTrue self.new.lost }
         ensures placed { IsFalse self.new.lost → Placed old.now new.now self.old self.new }
         ensures copied { IsFalse self.new.lost → OwesNone old.now new.now self.old self.new }
-        ensures stays { IsFalse self.old.lost → CanPlace old.now new.now self.old → IsFalse self.new.lost }
+        ensures stays { IsFalse self.old.lost → CanPlaceNext old.now new.now self.old → IsFalse self.new.lost }
     {
         if self.lost {
             return;
@@ -221,7 +221,7 @@ impl Standing {
         requires more { length self.old.news < length new.now }
         ensures placed { IsFalse self.new.lost → Placed old.now new.now self.old self.new }
         ensures copied { IsFalse self.new.lost → OwesNone old.now new.now self.old self.new }
-        ensures stays { CanPlace old.now new.now self.old → IsFalse self.new.lost }
+        ensures stays { CanPlaceNext old.now new.now self.old → IsFalse self.new.lost }
     {
         let at = self.news.len();
         let Some(header) = next_header(new, at, self.room) else {

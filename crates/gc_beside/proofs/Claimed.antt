@@ -11,21 +11,21 @@ use Rattle.gc_plan.specs.Linked.{LeadsTo, object_header}
 use Rattle.gc_plan.specs.Members.{In}
 use Rattle.gc_plan.specs.Belonging.{IsDue, IsSpaceGraph, IsOpened}
 use Rattle.gc_plan.proofs.Public.{laid_range, lookup_in, end_is, found_by_name, in_map, pair, placed, in_paired, same_original}
-use Rattle.gc_along.specs.Claims.{CanPlace, CanLook, CanApply, IsLinked}
+use Rattle.gc_along.specs.Claims.{CanPlaceNext, CanLook, CanApply, IsLinked}
 use Rattle.gc_along.specs.Events.{IsClaim, IsCopy}
 use Rattle.gc_along.specs.Origins.{pairs_in}
 use Rattle.gc_along.specs.Tables.{Tables, watch_of}
 use Rattle.gc_along.proofs.Public.{told}
 use Rattle.gc_beside.specs.Internal.Live.{heap_words, replica_words}
 use Rattle.gc_beside.specs.Knows.{Knows, Marks}
-use Rattle.gc_beside.specs.Stays.{Fits}
+use Rattle.gc_beside.specs.Stays.{WatchFits}
 use Rattle.gc_beside.proofs.Agree.{original_shown, replicas_shown, same_header}
 use Rattle.gc_beside.proofs.Beside.{pair_stays}
 use Rattle.gc_beside.proofs.Events.{Goes}
 use Rattle.gc_beside.proofs.Growth.{IsAdded, Adds}
 
 -- the original that a row has for a replica
-pub origin_is : (end : ℕ) (c : Collection) (t : Tables) (r : Replica) → Fits end c (watch_of t) → In r c.replicas → 1 ≤ r.original → get_or t.origins r.place 0 ≡ r.original
+pub origin_is : (end : ℕ) (c : Collection) (t : Tables) (r : Replica) → WatchFits end c (watch_of t) → In r c.replicas → 1 ≤ r.original → get_or t.origins r.place 0 ≡ r.original
 origin_is end c t r fits l low =
     let listed : In {X = ℕ × ℕ} (r.original, r.place) (pairs_in t.origins) = subst (In {X = ℕ × ℕ} (r.original, r.place)) (sym fits.pairs) (in_map pair r c.replicas l) in
     eqb-true (get_or t.origins r.place 0) r.original (sym (told t.origins r.original r.place low) ∙ in_paired (pairs_in t.origins) r.original r.place listed)
@@ -57,11 +57,11 @@ module _ (s : State) (next : Collection) (links : ℕ → ℕ) (heap : IsSpaceGr
       record { low = a; within = omega arith; high = omega arith; place_low = x; place_within = y; place_high = omega arith }
 
   -- a field of a replica can be compared
-  pub can_look : (t : Tables) (r : Replica) (i : ℕ) → In r next.replicas → Fits (heap_end s) next (watch_of t) → i < length r.object.fields → CanLook (heap_words links s) (replica_words next) r.place i t
+  pub can_look : (t : Tables) (r : Replica) (i : ℕ) → In r next.replicas → WatchFits (heap_end s) next (watch_of t) → i < length r.object.fields → CanLook (heap_words links s) (replica_words next) r.place i t
   can_look t r i l fits small = search (rules, is_at, replicas_shown, origin_is)
 
   -- the low bits of an original's link lead to its replica
-  pub linked : (t : Tables) (r : Replica) → In r next.replicas → LeadsTo links next → Fits (heap_end s) next (watch_of t) → IsLinked (heap_words links s) t r.original r.place
+  pub linked : (t : Tables) (r : Replica) → In r next.replicas → LeadsTo links next → WatchFits (heap_end s) next (watch_of t) → IsLinked (heap_words links s) t r.original r.place
   linked t r l lead fits =
       let at = is_at r l in
       let a : r.original + (length r.object.fields + 2) ≤ length (heap_words links s) = at.within in
@@ -76,7 +76,7 @@ module _ (s : State) (next : Collection) (links : ℕ → ℕ) (heap : IsSpaceGr
       }
 
   -- an entry can be applied
-  pub can_apply : (t : Tables) (a i : ℕ) → LeadsTo links next → Fits (heap_end s) next (watch_of t) → Marks s.heap.graph.objects next.replicas t
+  pub can_apply : (t : Tables) (a i : ℕ) → LeadsTo links next → WatchFits (heap_end s) next (watch_of t) → Marks s.heap.graph.objects next.replicas t
       → ((o : Object) → lookup s.heap.graph.objects a ≡ Some o → i < length o.fields) → CanApply (heap_words links s) (replica_words next) a i t
   can_apply t a i lead fits marks has taken =
       let r = marks.taken a taken in
@@ -128,7 +128,7 @@ module _ (s : State) (c next : Collection) (t : Tables) (links : ℕ → ℕ) (h
         header = was.word ∙ (ap header_word (sym (same_header s next links heap opened q added.there)) ∙ (sym shows.word ∙ ap (slice_index (replica_words next)) (sym place)));
       }
 
-  pub can_place : Adds c next → next.size ≡ c.size → CanPlace (heap_words links s) (replica_words next) t
+  pub can_place : Adds c next → next.size ≡ c.size → CanPlaceNext (heap_words links s) (replica_words next) t
   can_place (inl h) size less = grind (arith, common_steps, (replicas_shown s next links heap opened).count)
   can_place (inr (q, added)) size less = grind (arith, common_steps, true_claim q added, (is_at s next links heap opened q added.there).within, (is_at s next links heap opened q added.there).high)
 

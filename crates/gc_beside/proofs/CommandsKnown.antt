@@ -27,7 +27,7 @@ use Rattle.gc_along.specs.Telling.{IsMark}
 use Rattle.gc_along.proofs.Public.{kept_old, kept_due, in_front}
 use Rattle.gc_beside.specs.Internal.Live.{heap_words}
 use Rattle.gc_beside.specs.Knows.{Knows, KnowsAll, open_or_fresh}
-use Rattle.gc_beside.specs.Stays.{Fits}
+use Rattle.gc_beside.specs.Stays.{WatchFits}
 use Rattle.gc_beside.proofs.Claimed.{linked, is_at}
 use Rattle.gc_beside.proofs.LivesOn.{EndsMore}
 use Rattle.gc_beside.proofs.Shown.{AreSized, shown_at}
@@ -283,7 +283,7 @@ module _ (s s' : State) (t : Tables) (links : ℕ → ℕ) (later : IsSpaceGraph
 
 -- ---- a field that was written, and logged
 
-module _ (s : State) (d : Collection) (links : ℕ → ℕ) (heap : IsSpaceGraph s.size s.heap.free s.heap.graph) (opened : IsOpened s d) (t : Tables) (fits : Fits (heap_end s) d (watch_of t)) (k : Knows s d t) (a i : ℕ) (noted : IsLogged d a i) where
+module _ (s : State) (d : Collection) (links : ℕ → ℕ) (heap : IsSpaceGraph s.size s.heap.free s.heap.graph) (opened : IsOpened s d) (t : Tables) (fits : WatchFits (heap_end s) d (watch_of t)) (k : Knows s d t) (a i : ℕ) (noted : IsLogged d a i) where
   field_is : (q : Replica) → In q d.replicas → q.original ≡ a → i < length q.object.fields
   field_is q l name =
       let h = opened.belongs.entries a i noted in
@@ -302,13 +302,13 @@ module _ (s : State) (d : Collection) (links : ℕ → ℕ) (heap : IsSpaceGraph
       let r = k.marks.taken a taken in
       (r.0.place, subst (λ n. IsLinked (heap_words links s) t n r.0.place) r.2 (linked s d links heap opened t r.0 r.1 lead fits), row_has r.0 r.1 r.2)
 
-  pub wrote_known : (after : Tables) → Wrote a i t after → Knows s d after × Fits (heap_end s) d (watch_of after)
-  wrote_known after (inl (none, same)) = subst (λ (x : Tables). Knows s d x × Fits (heap_end s) d (watch_of x)) (sym same) (k, fits)
+  pub wrote_known : (after : Tables) → Wrote a i t after → Knows s d after × WatchFits (heap_end s) d (watch_of after)
+  wrote_known after (inl (none, same)) = subst (λ (x : Tables). Knows s d x × WatchFits (heap_end s) d (watch_of x)) (sym same) (k, fits)
   wrote_known after (inr (b, at, within, is)) =
       let q = replica_there (heap_end s) d t fits a b at in
       let name : q.0.original ≡ a = ap (λ (p : ℕ × ℕ). p.0) q.2 in
       let place : q.0.place ≡ b = ap (λ (p : ℕ × ℕ). p.1) q.2 in
-      subst (λ (x : Tables). Knows s d x × Fits (heap_end s) d (watch_of x)) (sym is) (
+      subst (λ (x : Tables). Knows s d x × WatchFits (heap_end s) d (watch_of x)) (sym is) (
         record {
           kept = kept_due t (field_place b i) true k.kept;
           due = λ p x. elim (cases_eq p (field_place b i)) [

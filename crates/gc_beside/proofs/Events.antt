@@ -16,7 +16,7 @@ use Rattle.gc_plan.specs.declared.step.StepReply.TheVariants.{Clean, NoRoom, Cop
 use Rattle.gc_plan.proofs.Public.{Evolves, WrittenBy, unchanged, step_evolves, replicas_due, unreplicated_some, no_replica, AreReplicas}
 use Rattle.gc_words.proofs.Public.{none_of}
 use Rattle.gc_along.specs.Watch.{Watch}
-use Rattle.gc_beside.specs.Stays.{DueFor, Fits, GoesAlong, LosesOnly, LosesNone, MarksWritten}
+use Rattle.gc_beside.specs.Stays.{DueFor, WatchFits, GoesAlong, LosesOnly, LosesNone, MarksWritten}
 use Rattle.gc_beside.proofs.Stays.{Sound, sound, watched, brought, placed_next, commanded, moved_on}
 
 -- the watch goes along with this collection of the state's heap
@@ -24,7 +24,7 @@ abbrev pub Goes : State → Collection → Watch → Type 0
 Goes s c w = GoesAlong s.heap.graph.objects (heap_end s) c w
 
 -- what fits a collection fits one with the same replicas
-refit : (end : ℕ) (c next : Collection) (w : Watch) → next.replicas ≡ c.replicas → Fits end next w → Fits end c w
+refit : (end : ℕ) (c next : Collection) (w : Watch) → next.replicas ≡ c.replicas → WatchFits end next w → WatchFits end c w
 refit end c next w same f = grind (arith, common_steps)
 
 abbrev Gives : StepReply × State → StepReply → State → Type 0
@@ -38,7 +38,7 @@ came_of s s' reply said d next h is = let e : Some d ≡ Some next = ap (λ (x :
 
 pub roots_copied : (s s' : State) (c next : Collection) (w later : Watch) → IsOpened s c → Goes s c w
     → copy_root s c (root_target c s.heap.graph) ≡ (Copied, s') → s'.collection ≡ Some next
-    → Fits (heap_end s) next later → LosesNone (new_end c) w next later → Goes s next later
+    → WatchFits (heap_end s) next later → LosesNone (new_end c) w next later → Goes s next later
 roots_copied s s' c next w later k h said is fits loses = go (root_target c s.heap.graph) refl said
   where
     at : (name : ℕ) → replica_of c name ≡ None → (o : Option Collection) → place_replica c name (lookup s.heap.graph.objects name) ≡ o → if_room s Copied o ≡ (Copied, s') → Goes s next later
@@ -57,7 +57,7 @@ scan_before_end s s' c r reply found other said = grind (arith, common_steps, co
 
 pub field_scanned : (s s' : State) (c next : Collection) (r : Replica) (w later : Watch) → IsOpened s c → Goes s c w
     → replica_at c c.scan_place ≡ Some r → scan s c ≡ (Scanned, s') → s'.collection ≡ Some next
-    → Fits (heap_end s) next later → LosesOnly (new_end c) r.original c.scan_field w next later → Goes s next later
+    → WatchFits (heap_end s) next later → LosesOnly (new_end c) r.original c.scan_field w next later → Goes s next later
 field_scanned s s' c next r w later k h found said is fits loses = go (r.object.raw || (c.scan_field == length r.object.fields)) (scan_before_end s s' c r Scanned found (λ u t. (let no : Clean ≡ Scanned = ap (λ (x : StepReply × State). x.0) t in cc)) said)
   where
     at : (o : Option Collection) → bring_up_to_date c s.heap.graph r.original c.scan_field ≡ o → if_room s Scanned (option_map next_field o) ≡ (Scanned, s') → Goes s next later
@@ -81,7 +81,7 @@ replica_passed s s' c next r w h found said is = grind (arith, common_steps, sca
 
 pub entry_applied : (s s' : State) (c next : Collection) (m : ℕ) (entry : ℕ × ℕ) (rest : List (ℕ × ℕ)) (w later : Watch) → IsOpened s c → Goes s c w
     → apply_log s c m (entry ∷ rest) ≡ (Applied, s') → s'.collection ≡ Some next
-    → Fits (heap_end s) next later → LosesOnly (new_end c) entry.0 entry.1 w next later → Goes s next later
+    → WatchFits (heap_end s) next later → LosesOnly (new_end c) entry.0 entry.1 w next later → Goes s next later
 entry_applied s s' c next m entry rest w later k h said is fits loses = at (apply_entry c' s.heap.graph entry) refl said
   where
     c' : Collection
@@ -120,7 +120,7 @@ command_evolves h m op name =
 
 pub command_made : (s s' : State) (c next : Collection) (m : ℕ) (op : Op) (reply : Reply) (w later : Watch) → IsOpened s c → Goes s c w
     → s.collection ≡ Some c → mutate s m op ≡ (reply, s') → s'.collection ≡ Some next
-    → Fits (heap_end s') next later → MarksWritten (WrittenBy s.heap.graph m op reply) w c later → Goes s' next later
+    → WatchFits (heap_end s') next later → MarksWritten (WrittenBy s.heap.graph m op reply) w c later → Goes s' next later
 command_made s s' c next m op reply w later k h before said is fits marks =
     let made = roomy_step s.heap m op (heap_end s) in
     let reply_is : made.0 ≡ reply = ap (λ (x : Reply × State). x.0) said in

@@ -22,7 +22,7 @@ use Rattle.gc_along.specs.Watch.{is_due, is_due_at}
 use Rattle.gc_along.proofs.Public.{kept_replica, kept_due, due_at, in_front, within_row}
 use Rattle.gc_beside.specs.Internal.Live.{heap_words, replica_words}
 use Rattle.gc_beside.specs.Knows.{IsDueField, Knows, Marks}
-use Rattle.gc_beside.specs.Stays.{Fits}
+use Rattle.gc_beside.specs.Stays.{WatchFits}
 use Rattle.gc_beside.proofs.Agree.{replicas_shown, words_agree}
 use Rattle.gc_beside.proofs.Beside.{pair_stays}
 use Rattle.gc_beside.proofs.Brought.{IsFresh}
@@ -206,7 +206,7 @@ module _ (s : State) (c next : Collection) (t : Tables) (links : ℕ → ℕ) (h
 
 -- ---- a field compared
 
-module _ (Due : Bool → ℕ → ℕ → ℕ → Type 0) (s : State) (next : Collection) (links : ℕ → ℕ) (heap : IsSpaceGraph s.size s.heap.free s.heap.graph) (opened : IsOpened s next) (mid : Tables) (fits : Fits (heap_end s) next (watch_of mid)) where
+module _ (Due : Bool → ℕ → ℕ → ℕ → Type 0) (s : State) (next : Collection) (links : ℕ → ℕ) (heap : IsSpaceGraph s.size s.heap.free s.heap.graph) (opened : IsOpened s next) (mid : Tables) (fits : WatchFits (heap_end s) next (watch_of mid)) where
   -- the field that was written corresponds, if the collector's step brings it up to date
   agrees : (q : Replica) (i : ℕ) → In q next.replicas → i < length q.object.fields → Goes s next (watch_of (with_due mid (field_place q.place i) false))
       → field_words_correspond (object_header q.object) (pairs_of next) (slice_index (heap_words links s) (field_place q.original i)) (slice_index (replica_words next) (field_place q.place i)) ≡ true

@@ -18,8 +18,8 @@ use Rattle.gc_plan.specs.Steps.{mutate, written, log_at, with_log, logged}
 use Rattle.gc_plan.specs.Members.{In}
 use Rattle.gc_plan.specs.Belonging.{IsSpaceGraph, IsOpened}
 use Rattle.gc_plan.proofs.Public.{end_is, in_right}
-use Rattle.gc_along.specs.Watch.{opening}
-use Rattle.gc_beside.specs.Stays.{Fits, MarksWritten}
+use Rattle.gc_along.specs.Watch.{opening_watch}
+use Rattle.gc_beside.specs.Stays.{WatchFits, MarksWritten}
 use Rattle.gc_along.specs.Tables.{Tables, watch_of}
 use Rattle.gc_along.specs.Events.{Made, Wrote, object_codes}
 use Rattle.gc_beside.specs.Internal.Live.{GoesBeside, IsLive, heap_words}
@@ -74,9 +74,9 @@ module _ (s s' : State) (m : ℕ) (op : Op) (reply : Reply) (t after : Tables) (
 
   -- with what holds of the later tables, beside an open collection and beside none
   by_command : (t.lost ≡ true → after.lost ≡ true)
-      → (after.lost ≡ false → s.collection ≡ None → watch_of t ≡ opening (heap_end s) → watch_of after ≡ opening (heap_end s'))
+      → (after.lost ≡ false → s.collection ≡ None → watch_of t ≡ opening_watch (heap_end s) → watch_of after ≡ opening_watch (heap_end s'))
       → (after.lost ≡ false → (c : Collection) → s.collection ≡ Some c → IsOpened s c → Goes s c (watch_of t)
-      → Fits (heap_end s') c (watch_of after) × MarksWritten (λ a i. In {X = ℕ × ℕ} (a, i) (written s.heap.graph m op reply)) (watch_of t) c (watch_of after))
+      → WatchFits (heap_end s') c (watch_of after) × MarksWritten (λ a i. In {X = ℕ × ℕ} (a, i) (written s.heap.graph m op reply)) (watch_of t) c (watch_of after))
       → IsLive s t → IsLive s' after
   by_command lost none some = or_lost s s' t after lost (λ n goes. go n s.collection refl is_open goes)
     where
@@ -92,8 +92,8 @@ module _ (s s' : State) (m : ℕ) (op : Op) (reply : Reply) (t after : Tables) (
   end_stays : words_taken op ≡ 0 → heap_end s ≡ heap_end s'
   end_stays none = grind (arith, common_steps, size_is, heap_is, cond_both)
 
-  refits : (c : Collection) → words_taken op ≡ 0 → Fits (heap_end s) c (watch_of t) → Fits (heap_end s') c (watch_of t)
-  refits c none f = subst (λ n. Fits n c (watch_of t)) (end_stays none) f
+  refits : (c : Collection) → words_taken op ≡ 0 → WatchFits (heap_end s) c (watch_of t) → WatchFits (heap_end s') c (watch_of t)
+  refits c none f = subst (λ n. WatchFits n c (watch_of t)) (end_stays none) f
 
   -- a command that neither makes an object nor writes a field
   pub lives_quiet : words_taken op ≡ 0 → written s.heap.graph m op reply ≡ [] → after ≡ t → IsLive s t → IsLive s' after

@@ -13,8 +13,8 @@ use Rattle.gc_plan.specs.Steps.{mutate, written}
 use Rattle.gc_plan.specs.Members.{In}
 use Rattle.gc_plan.specs.Belonging.{IsOpened}
 use Rattle.gc_plan.proofs.Public.{Evolves, WrittenBy}
-use Rattle.gc_along.specs.Watch.{opening}
-use Rattle.gc_beside.specs.Stays.{Fits, MarksWritten}
+use Rattle.gc_along.specs.Watch.{opening_watch}
+use Rattle.gc_beside.specs.Stays.{WatchFits, MarksWritten}
 use Rattle.gc_along.specs.Tables.{Tables, watch_of}
 use Rattle.gc_along.specs.Events.{Wrote}
 use Rattle.gc_beside.specs.Internal.Live.{GoesBeside, IsLive}
@@ -61,8 +61,8 @@ pub leads_one : (s s' : State) (m : ℕ) (op : Op) (reply : Reply) → mutate s 
 leads_one s s' m op reply said = grind (arith, common_steps, command_evolves)
 
 pub lives_through : (s s' : State) (t after : Tables) (Written : ℕ → ℕ → Type 0) → IfSome s.collection (IsOpened s) → Leads s s' Written → (t.lost ≡ true → after.lost ≡ true)
-    → (after.lost ≡ false → s.collection ≡ None → watch_of t ≡ opening (heap_end s) → watch_of after ≡ opening (heap_end s'))
-    → (after.lost ≡ false → (c : Collection) → s.collection ≡ Some c → IsOpened s c → Goes s c (watch_of t) → Fits (heap_end s') c (watch_of after) × MarksWritten Written (watch_of t) c (watch_of after))
+    → (after.lost ≡ false → s.collection ≡ None → watch_of t ≡ opening_watch (heap_end s) → watch_of after ≡ opening_watch (heap_end s'))
+    → (after.lost ≡ false → (c : Collection) → s.collection ≡ Some c → IsOpened s c → Goes s c (watch_of t) → WatchFits (heap_end s') c (watch_of after) × MarksWritten Written (watch_of t) c (watch_of after))
     → IsLive s t → IsLive s' after
 lives_through s s' t after Written is_open leads lost none some = or_lost s s' t after lost (λ n goes. go n s.collection refl s'.collection is_open goes leads.collection)
   where
@@ -104,11 +104,11 @@ lives_number s mid s' m op one reply put t after a i is_open first none quiet se
     end : (c : Collection) → IsOpened s c → heap_end s ≡ heap_end s'
     end c k = end_by s mid m op one first none ∙ end_by mid s' m put reply second none'
 
-    marks : after.lost ≡ false → (c : Collection) → IsOpened s c → Goes s c (watch_of t) → Told → Fits (heap_end s') c (watch_of after) × MarksWritten (WrittenBy mid.heap.graph m put reply) (watch_of t) c (watch_of after)
+    marks : after.lost ≡ false → (c : Collection) → IsOpened s c → Goes s c (watch_of t) → Told → WatchFits (heap_end s') c (watch_of after) × MarksWritten (WrittenBy mid.heap.graph m put reply) (watch_of t) c (watch_of after)
     marks n c k g (inl h) = grind (arith, common_steps, end)
     marks n c k g (inr h) = told_wrote s.heap.graph.objects (heap_end s') c t after a i _ k.belongs.once h.0
         (λ x j w. ⊎_elim (λ (p : (a, i) ≡ (x, j)). (sym (ap (λ (p : ℕ × ℕ). p.0) p), sym (ap (λ (p : ℕ × ℕ). p.1) p))) (λ z. absurd z) (subst (λ ws. In {X = ℕ × ℕ} (x, j) ws) h.1 w))
-        (subst (λ n. Fits n c (watch_of t)) (end c k) g.fits) (h.2.1 n)
+        (subst (λ n. WatchFits n c (watch_of t)) (end c k) g.fits) (h.2.1 n)
 
 -- while no collection is open
 pub lives_number_closed : (s mid s' : State) (m : ℕ) (op : Op) (one reply : Reply) (put : Op) (t : Tables) → mutate s m op ≡ (one, mid) → words_taken op ≡ 0 → mutate mid m put ≡ (reply, s') → words_taken put ≡ 0 → s'.collection ≡ None → IsLive s t → IsLive s' t

@@ -9,8 +9,8 @@ use Rattle.gc_plan.specs.Steps.{place_replica, bring_up_to_date, fresh_collectio
 use Rattle.gc_plan.specs.Members.{Distinct}
 use Rattle.gc_plan.specs.Belonging.{Laid, HasRawNumbers, Belongs}
 use Rattle.gc_plan.proofs.Public.{Evolves, Grown, placing, bringing, pair, replicas_end, AreReplicas, replicas_due, replicas_evolve}
-use Rattle.gc_along.specs.Watch.{Watch, is_due, opening}
-use Rattle.gc_beside.specs.Stays.{DueFor, Fits, GoesAlong, LosesOnly, LosesNone, MarksWritten}
+use Rattle.gc_along.specs.Watch.{Watch, is_due, opening_watch}
+use Rattle.gc_beside.specs.Stays.{DueFor, WatchFits, GoesAlong, LosesOnly, LosesNone, MarksWritten}
 
 -- what the steps need of a collection, whatever its logs and its scan pointer
 pub record Sound (objects : List (ℕ × Object)) (c : Collection) : Type 0 where
@@ -43,7 +43,7 @@ along objects end c w k h = replicas_due objects c.size (DueFor w) (Before (repl
 
 pub brought : (g : Graph) (end : ℕ) (c next : Collection) (w later : Watch) (name i : ℕ)
     → Sound g.objects c → GoesAlong g.objects end c w → bring_up_to_date c g name i ≡ Some next
-    → Fits end next later → LosesOnly (new_end c) name i w next later
+    → WatchFits end next later → LosesOnly (new_end c) name i w next later
     → GoesAlong g.objects end next later
 brought g end c next w later name i k h is fits loses = record { fits = fits; replicas = ok.each }
   where
@@ -61,7 +61,7 @@ brought g end c next w later name i k h is fits loses = record { fits = fits; re
 
 pub placed_next : (objects : List (ℕ × Object)) (end : ℕ) (c next : Collection) (w later : Watch) (name : ℕ)
     → Sound objects c → GoesAlong objects end c w → replica_of c name ≡ None → place_replica c name (lookup objects name) ≡ Some next
-    → Fits end next later → LosesNone (new_end c) w next later
+    → WatchFits end next later → LosesNone (new_end c) w next later
     → GoesAlong objects end next later
 placed_next objects end c next w later name k h none is fits loses = record { fits = fits; replicas = ok.each }
   where
@@ -78,7 +78,7 @@ placed_next objects end c next w later name k h none is fits loses = record { fi
 
 pub commanded : (before after : List (ℕ × Object)) (Written : ℕ → ℕ → Type 0) (end end' : ℕ) (c : Collection) (w later : Watch)
     → Sound before c → GoesAlong before end c w → Evolves before after Written
-    → Fits end' c later → MarksWritten Written w c later
+    → WatchFits end' c later → MarksWritten Written w c later
     → GoesAlong after end' c later
 commanded before after Written end end' c w later k h evolves fits marks = record { fits = fits; replicas = ok.each }
   where
@@ -93,7 +93,7 @@ commanded before after Written end end' c w later k h evolves fits marks = recor
 
 -- ---- the beginning
 
-pub begun : (objects : List (ℕ × Object)) (end mutators size : ℕ) → GoesAlong objects end (fresh_collection mutators size) (opening end)
+pub begun : (objects : List (ℕ × Object)) (end mutators size : ℕ) → GoesAlong objects end (fresh_collection mutators size) (opening_watch end)
 begun objects end mutators size = grind (arith, common_steps)
 
 -- ---- the scan pointer and the logs do not matter

@@ -13,7 +13,7 @@ use Rattle.gc_plan.specs.Members.{In}
 use Rattle.gc_plan.specs.Belonging.{IsDue, IsLogged, IsUnscanned, IsScanPlace, IsSpaceGraph, IsOpened}
 use Rattle.gc_plan.specs.declared.step.StepReply.TheVariants.{Copied, Passed, Scanned, Applied}
 use Rattle.gc_plan.proofs.Public.{laid_apart, find_some, get_past, get_set_same, get_set_other, in_map, pair, placed, same_original, same_place}
-use Rattle.gc_along.specs.Claims.{CanPlace, CanLook, CanApply, OwesNone}
+use Rattle.gc_along.specs.Claims.{CanPlaceNext, CanLook, CanApply, OwesNone}
 use Rattle.gc_along.specs.Events.{Placed, Looked, Applied as AppliedTo, with_due}
 use Rattle.gc_along.specs.Tables.{Tables, watch_of}
 use Rattle.gc_beside.specs.Internal.Live.{heap_words, replica_words}
@@ -58,7 +58,7 @@ module _ (s : State) (c next : Collection) (t : Tables) (links : ℕ → ℕ) (h
     root_adds : Adds c next
     root_adds = inr (adds_placed c next root.name (lookup s.heap.graph.objects root.name) root.is)
 
-    pub roots_told : CanPlace (heap_words links s) (replica_words next) t
+    pub roots_told : CanPlaceNext (heap_words links s) (replica_words next) t
     roots_told = can_place s c next t links heap before opened goes knows root_adds root_brings.size
 
     pub roots_known : (after : Tables) → Placed (heap_words links s) (replica_words next) t after → OwesNone (heap_words links s) (replica_words next) t after → Knows s next after
@@ -125,7 +125,7 @@ module _ (s : State) (c next : Collection) (t : Tables) (links : ℕ → ℕ) (h
             subst (λ (r : Replica). c.scan_field ≤ length r.object.fields) one le
         at_most (inr (place, zero_is)) = omega arith
 
-    pub scan_placed : CanPlace (heap_words links s) (replica_words next) t
+    pub scan_placed : CanPlaceNext (heap_words links s) (replica_words next) t
     scan_placed = can_place s c next t links heap before opened goes knows scan_adds scan_size
 
     module _ (mid : Tables) (placed_is : Placed (heap_words links s) (replica_words next) t mid) (owes : OwesNone (heap_words links s) (replica_words next) t mid) where
@@ -259,7 +259,7 @@ module _ (s : State) (c next : Collection) (t : Tables) (links : ℕ → ℕ) (h
         go (inl (r, l, name, brought)) = by (adds_brought c' next s.heap.graph entry.0 entry.1 brought) (brings s.heap.graph.objects c' before.belongs.laid s.heap.graph next entry.0 entry.1 refl (r, l, name) brought)
         go (inr (none, same)) = by (subst (Adds c') same (adds_none c')) (subst (Brings s.heap.graph.objects c') same (brings_none s.heap.graph.objects c' before.belongs.laid))
 
-    pub entry_placed : CanPlace (heap_words links s) (replica_words next) t
+    pub entry_placed : CanPlaceNext (heap_words links s) (replica_words next) t
     entry_placed = can_place s c next t links heap before opened goes knows entry_did.adds entry_did.size
 
     -- the entry is of a field

@@ -15,7 +15,7 @@ use Rattle.gc_plan.specs.Members.{In, Distinct}
 use Rattle.gc_plan.specs.Belonging.{Laid, IsOpened, IsSpaceGraph}
 use Rattle.gc_plan.proofs.Public.{laid_range, laid_apart, lookup_in, found_by_place, in_map, in_map_from, pair, placed, paired_in, in_paired, same_original, same_place}
 use Rattle.gc_along.specs.Watch.{Watch, is_due}
-use Rattle.gc_beside.specs.Stays.{Fits, LosesOnly, LosesNone, MarksWritten}
+use Rattle.gc_beside.specs.Stays.{WatchFits, LosesOnly, LosesNone, MarksWritten}
 use Rattle.gc_along.specs.Origins.{pairs_in}
 use Rattle.gc_along.specs.Tables.{Tables, watch_of, due_in}
 use Rattle.gc_along.specs.Events.{code_of, object_codes, IsClaim, Placed, replica_added, with_due, Looked, Wrote, Applied, IsReplicaAt}
@@ -55,9 +55,9 @@ shows_replicas s c h k = record {
         ((let n : e.1.kind < 256 = omega arith in n), (let n : length e.1.fields < 65536 = omega arith in n))
 
 abbrev pub Told : ℕ → Collection → Collection → Tables → Tables → Type 0
-Told end c next t after = Fits end next (watch_of after) × LosesNone (new_end c) (watch_of t) next (watch_of after)
+Told end c next t after = WatchFits end next (watch_of after) × LosesNone (new_end c) (watch_of t) next (watch_of after)
 
-module _ (end : ℕ) (c next : Collection) (words : List ℕ) (t : Tables) (fits : Fits end c (watch_of t)) (shows : ShowsReplicas next words) where
+module _ (end : ℕ) (c next : Collection) (words : List ℕ) (t : Tables) (fits : WatchFits end c (watch_of t)) (shows : ShowsReplicas next words) where
   none_behind : (r : Replica) → In r next.replicas → new_end next ≤ r.place → ⊥
   none_behind r l past = let range = laid_range 1 (map placed next.replicas) (new_end next) (placed r) shows.laid (in_map placed r next.replicas l) in let high = range.1 in omega arith
 
@@ -138,19 +138,19 @@ module _ (end : ℕ) (c next : Collection) (words : List ℕ) (t : Tables) (fits
 pub marked_at : (t : Tables) (place : ℕ) (x : Bool) → due_in (set t.news place (code_of x)) ≡ set (due_in t.news) place x
 marked_at t place x = code_set t.news place (code_of x) ∙ ap (set (due_in t.news) place) (code_is x)
 
-pub fits_marked : (end : ℕ) (c : Collection) (t : Tables) (place : ℕ) (x : Bool) → Fits end c (watch_of t) → Fits end c (watch_of (with_due t place x))
+pub fits_marked : (end : ℕ) (c : Collection) (t : Tables) (place : ℕ) (x : Bool) → WatchFits end c (watch_of t) → WatchFits end c (watch_of (with_due t place x))
 fits_marked end c t place x f = grind (arith, common_steps, length-map)
 
 -- the pair of a replica that was seen
-pub replica_there : (end : ℕ) (c : Collection) (t : Tables) → Fits end c (watch_of t) → (a b : ℕ) → IsReplicaAt t a b → (q : Replica) × In q c.replicas × (pair q ≡ (a, b))
+pub replica_there : (end : ℕ) (c : Collection) (t : Tables) → WatchFits end c (watch_of t) → (a b : ℕ) → IsReplicaAt t a b → (q : Replica) × In q c.replicas × (pair q ≡ (a, b))
 replica_there end c t fits a b at =
     let listed : In {X = ℕ × ℕ} (a, b) (pairs_in t.origins) = paired_in (pairs_in t.origins) a b (told t.origins a b at.low ∙ eq-eqb (get_or t.origins b 0) a at.origin) in
     in_map_from pair (a, b) c.replicas (subst (In {X = ℕ × ℕ} (a, b)) fits.pairs listed)
 
 module _ (end : ℕ) (e : ℕ) (w : Watch) (next : Collection) (words : List ℕ) (shows : ShowsReplicas next words) where
   -- one place of a field marked or not
-  pub told_marked : (t : Tables) (x : Bool) (q : Replica) (b i : ℕ) → In q next.replicas → q.place ≡ b → i < length q.object.fields → Fits end next (watch_of t) → LosesNone e w next (watch_of t)
-      → Fits end next (watch_of (with_due t (field_place b i) x)) × LosesOnly e q.original i w next (watch_of (with_due t (field_place b i) x))
+  pub told_marked : (t : Tables) (x : Bool) (q : Replica) (b i : ℕ) → In q next.replicas → q.place ≡ b → i < length q.object.fields → WatchFits end next (watch_of t) → LosesNone e w next (watch_of t)
+      → WatchFits end next (watch_of (with_due t (field_place b i) x)) × LosesOnly e q.original i w next (watch_of (with_due t (field_place b i) x))
   told_marked t x q b i there at small fits loses = (
     fits_marked end next t (field_place b i) x fits,
     λ r l j m d. elim (cases_eq (field_place r.place j) (field_place b i)) [
@@ -167,8 +167,8 @@ module _ (end : ℕ) (e : ℕ) (w : Watch) (next : Collection) (words : List ℕ
           (laid_apart 1 (map placed next.replicas) (new_end next) (placed r) (placed q) shows.laid (in_map placed r next.replicas l) (in_map placed q next.replicas k))
 
   -- a field compared, of the replica of this object
-  pub told_looked : (old : List ℕ) (t after : Tables) (q : Replica) (b i : ℕ) → In q next.replicas → q.place ≡ b → Fits end next (watch_of t) → LosesNone e w next (watch_of t) → Looked old words b i t after
-      → Fits end next (watch_of after) × LosesOnly e q.original i w next (watch_of after)
+  pub told_looked : (old : List ℕ) (t after : Tables) (q : Replica) (b i : ℕ) → In q next.replicas → q.place ≡ b → WatchFits end next (watch_of t) → LosesNone e w next (watch_of t) → Looked old words b i t after
+      → WatchFits end next (watch_of after) × LosesOnly e q.original i w next (watch_of after)
   told_looked old t after q b i there at fits loses is = grind (arith, common_steps, told_marked)
 
   -- where nothing was compared
@@ -176,20 +176,20 @@ module _ (end : ℕ) (e : ℕ) (w : Watch) (next : Collection) (words : List ℕ
   told_same name i t loses r l j m d = inr (loses r l j m d)
 
   -- an original's pair
-  pub told_applied : (old : List ℕ) (t after : Tables) (a i : ℕ) → Fits end next (watch_of t) → LosesNone e w next (watch_of t) → Applied old words a i t after
-      → Fits end next (watch_of after) × LosesOnly e a i w next (watch_of after)
-  told_applied old t after a i fits loses (inl h) = subst (λ (t' : Tables). Fits end next (watch_of t') × LosesOnly e a i w next (watch_of t')) (sym h.1) (fits, told_same a i t loses)
+  pub told_applied : (old : List ℕ) (t after : Tables) (a i : ℕ) → WatchFits end next (watch_of t) → LosesNone e w next (watch_of t) → Applied old words a i t after
+      → WatchFits end next (watch_of after) × LosesOnly e a i w next (watch_of after)
+  told_applied old t after a i fits loses (inl h) = subst (λ (t' : Tables). WatchFits end next (watch_of t') × LosesOnly e a i w next (watch_of t')) (sym h.1) (fits, told_same a i t loses)
   told_applied old t after a i fits loses (inr (b, at, looked)) =
       let q = replica_there end next t fits a b at in
       let is : q.0.original ≡ a = ap (λ (p : ℕ × ℕ). p.0) q.2 in
-      subst (λ n. Fits end next (watch_of after) × LosesOnly e n i w next (watch_of after)) is
+      subst (λ n. WatchFits end next (watch_of after) × LosesOnly e n i w next (watch_of after)) is
       (told_looked old t after q.0 b i q.1 (ap (λ (p : ℕ × ℕ). p.1) q.2) fits loses looked)
 
 -- ---- a field written
 
 pub told_wrote : (objects : List (ℕ × Object)) (end : ℕ) (c : Collection) (t after : Tables) (a i : ℕ) (Written : ℕ → ℕ → Type 0) → Distinct (map (λ r. r.original) c.replicas) → 1 ≤ a
-    → ((x j : ℕ) → Written x j → (x ≡ a) × (j ≡ i)) → Fits end c (watch_of t) → Wrote a i t after → Fits end c (watch_of after) × MarksWritten Written (watch_of t) c (watch_of after)
-told_wrote objects end c t after a i Written once low only fits (inl h) = subst (λ (t' : Tables). Fits end c (watch_of t') × MarksWritten Written (watch_of t) c (watch_of t')) (sym h.1) (
+    → ((x j : ℕ) → Written x j → (x ≡ a) × (j ≡ i)) → WatchFits end c (watch_of t) → Wrote a i t after → WatchFits end c (watch_of after) × MarksWritten Written (watch_of t) c (watch_of after)
+told_wrote objects end c t after a i Written once low only fits (inl h) = subst (λ (t' : Tables). WatchFits end c (watch_of t') × MarksWritten Written (watch_of t) c (watch_of t')) (sym h.1) (
   fits,
   λ r l j m. ⊎_elim (λ d. d) (λ w. absurd (
       let is : r.original ≡ a = (only r.original j w).0 in
@@ -199,7 +199,7 @@ told_wrote objects end c t after a i Written once low only fits (inl h) = subst 
 )
 told_wrote objects end c t after a i Written once low only fits (inr (b, at, within, is)) =
     let q = replica_there end c t fits a b at in
-    subst (λ (t' : Tables). Fits end c (watch_of t') × MarksWritten Written (watch_of t) c (watch_of t')) (sym is) (
+    subst (λ (t' : Tables). WatchFits end c (watch_of t') × MarksWritten Written (watch_of t) c (watch_of t')) (sym is) (
       fits_marked end c t (field_place b i) true fits,
       λ r l j m. ⊎_elim
           (λ d. ap (λ bs. get_or bs (field_place r.place j) false) (marked_at t (field_place b i) true) ∙ set_true (due_in t.news) (field_place b i) (field_place r.place j) d)

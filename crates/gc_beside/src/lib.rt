@@ -16,14 +16,14 @@ ghost use Rattle.gc_plan.specs.Belonging.{IsLogged, IsNamed, IsOpened, IsSpaceGr
 ghost use Rattle.gc_plan.specs.Linked.{LeadsTo, linked_image, old_image, new_image};
 ghost use Rattle.gc_copy.specs.Words.{CollectionWords, IsCollection, BelongsTo, collection_in};
 ghost use Rattle.gc_plan.specs.declared.step.StepReply.{StepReply};
-ghost use Rattle.gc_along.specs.Watch.{Watch, Watches, opening};
+ghost use Rattle.gc_along.specs.Watch.{Watch, Watches, opening_watch};
 ghost use Rattle.gc_along.specs.Outline.{outline_of};
 ghost use Rattle.gc_along.specs.Tables.{Tables, watch_of};
 ghost use Rattle.gc_along.specs.Telling.{IsMark};
-ghost use Rattle.gc_along.specs.Claims.{Accepts, CanApply, CanLook, CanMake, CanPlace, CanWrite, OwesNone};
+ghost use Rattle.gc_along.specs.Claims.{Accepts, CanApply, CanLook, CanMake, CanPlaceNext, CanWrite, OwesNone};
 ghost use Rattle.gc_along.specs.Events.{Applied, Freed, Looked, Made, Placed, Wrote, flipped_tables, opening_tables};
 ghost use Rattle.gc_beside.specs.Knows.{Knows, KnowsAll};
-ghost use Rattle.gc_beside.specs.Stays.{Fits, GoesAlong, LosesOnly, LosesNone, MarksWritten};
+ghost use Rattle.gc_beside.specs.Stays.{WatchFits, GoesAlong, LosesOnly, LosesNone, MarksWritten};
 
 /// A watch that goes along with a collection watches the words of both spaces: each field is due or corresponds.
 pub fn watches_know_the_words()
@@ -37,16 +37,16 @@ pub fn watches_know_the_words()
 /// due, loses no mark but that of the field that a step brought up to date, and marks each field that a command wrote.
 pub fn watches_go_along()
     ensures begun { (objects : List (ℕ × Object)) (end mutators size : ℕ)
-        → GoesAlong objects end (fresh_collection mutators size) (opening end) }
+        → GoesAlong objects end (fresh_collection mutators size) (opening_watch end) }
     ensures roots { (s after : State) (c next : Collection) (w later : Watch) → IsOpened s c
         → GoesAlong s.heap.graph.objects (heap_end s) c w
         → copy_root s c (root_target c s.heap.graph) ≡ (StepReply.Copied, after) → after.collection ≡ Some next
-        → Fits (heap_end s) next later → LosesNone (new_end c) w next later
+        → WatchFits (heap_end s) next later → LosesNone (new_end c) w next later
         → GoesAlong s.heap.graph.objects (heap_end s) next later }
     ensures scan { (s after : State) (c next : Collection) (r : Replica) (w later : Watch) → IsOpened s c
         → GoesAlong s.heap.graph.objects (heap_end s) c w → replica_at c c.scan_place ≡ Some r
         → scan s c ≡ (StepReply.Scanned, after) → after.collection ≡ Some next
-        → Fits (heap_end s) next later → LosesOnly (new_end c) r.original c.scan_field w next later
+        → WatchFits (heap_end s) next later → LosesOnly (new_end c) r.original c.scan_field w next later
         → GoesAlong s.heap.graph.objects (heap_end s) next later }
     ensures passed { (s after : State) (c next : Collection) (r : Replica) (w : Watch)
         → GoesAlong s.heap.graph.objects (heap_end s) c w → replica_at c c.scan_place ≡ Some r
@@ -55,12 +55,12 @@ pub fn watches_go_along()
     ensures apply { (s after : State) (c next : Collection) (m : ℕ) (entry : ℕ × ℕ) (rest : List (ℕ × ℕ))
         (w later : Watch) → IsOpened s c → GoesAlong s.heap.graph.objects (heap_end s) c w
         → apply_log s c m (entry ∷ rest) ≡ (StepReply.Applied, after) → after.collection ≡ Some next
-        → Fits (heap_end s) next later → LosesOnly (new_end c) entry.0 entry.1 w next later
+        → WatchFits (heap_end s) next later → LosesOnly (new_end c) entry.0 entry.1 w next later
         → GoesAlong s.heap.graph.objects (heap_end s) next later }
     ensures command { (s after : State) (c next : Collection) (m : ℕ) (op : Op) (reply : Reply) (w later : Watch)
         → IsOpened s c → GoesAlong s.heap.graph.objects (heap_end s) c w
         → s.collection ≡ Some c → mutate s m op ≡ (reply, after) → after.collection ≡ Some next
-        → Fits (heap_end after) next later
+        → WatchFits (heap_end after) next later
         → MarksWritten (λ a i. In {X = ℕ × ℕ} (a, i) (written s.heap.graph m op reply)) w c later
         → GoesAlong after.heap.graph.objects (heap_end after) next later }
 {}
@@ -79,13 +79,13 @@ pub fn checkers_are_never_lost()
         → GoesAlong s.heap.graph.objects (heap_end s) c (watch_of t) → Knows s c t
         → copy_root s c (root_target c s.heap.graph) ≡ (StepReply.Copied, after) → after.collection ≡ Some next
         → let old = (linked_image links s.size s.heap.graph).words in let new = (new_image s next).words in
-        CanPlace old new t × (Placed old new t told → OwesNone old new t told → Knows s next told) }
+        CanPlaceNext old new t × (Placed old new t told → OwesNone old new t told → Knows s next told) }
     ensures scan { (s after : State) (c next : Collection) (t mid told : Tables) (links : ℕ → ℕ)
         → IsSpaceGraph s.size s.heap.free s.heap.graph → IsOpened s c → IsOpened s next
         → GoesAlong s.heap.graph.objects (heap_end s) c (watch_of t) → Knows s c t
         → scan s c ≡ (StepReply.Scanned, after) → after.collection ≡ Some next
         → let old = (linked_image links s.size s.heap.graph).words in let new = (new_image s next).words in
-        CanPlace old new t × (Placed old new t mid → OwesNone old new t mid → CanLook old new c.scan_place c.scan_field mid
+        CanPlaceNext old new t × (Placed old new t mid → OwesNone old new t mid → CanLook old new c.scan_place c.scan_field mid
         × (Looked old new c.scan_place c.scan_field mid told → Knows s next told)) }
     ensures passed { (s after : State) (c next : Collection) (t : Tables)
         → IsSpaceGraph s.size s.heap.free s.heap.graph → IsOpened s c → IsOpened s next
@@ -96,10 +96,10 @@ pub fn checkers_are_never_lost()
         → GoesAlong s.heap.graph.objects (heap_end s) c (watch_of t) → Knows s c t → log_at c m ≡ entry ∷ rest
         → apply_log s c m (entry ∷ rest) ≡ (StepReply.Applied, after) → after.collection ≡ Some next → LeadsTo links next
         → let old = (linked_image links s.size s.heap.graph).words in let new = (new_image s next).words in
-        CanPlace old new t × (Placed old new t mid → OwesNone old new t mid → CanApply old new entry.0 entry.1 mid
+        CanPlaceNext old new t × (Placed old new t mid → OwesNone old new t mid → CanApply old new entry.0 entry.1 mid
         × (Applied old new entry.0 entry.1 mid told → Knows s next told)) }
     ensures written { (s : State) (c : Collection) (t told : Tables) (a i : ℕ) (links : ℕ → ℕ)
-        → IsSpaceGraph s.size s.heap.free s.heap.graph → IsOpened s c → Fits (heap_end s) c (watch_of t) → Knows s c t → IsLogged c a i
+        → IsSpaceGraph s.size s.heap.free s.heap.graph → IsOpened s c → WatchFits (heap_end s) c (watch_of t) → Knows s c t → IsLogged c a i
         → LeadsTo links c → CanWrite (linked_image links s.size s.heap.graph).words a i t × (Wrote a i t told → Knows s c told) }
     ensures made { (s after : State) (m : ℕ) (op : Op) (reply : Reply) (t told : Tables) (links : ℕ → ℕ)
         → IsSpaceGraph s.size s.heap.free s.heap.graph → IsSpaceGraph after.size after.heap.free after.heap.graph

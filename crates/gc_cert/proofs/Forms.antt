@@ -4,7 +4,7 @@ use Rattle.std.proofs.Common.{◌≡◌, ◌≢◌, ℕ, suc, zero, ◌-◌, ◌
 use Rattle.std.specs.List.{AllByRecursion}
 use Rattle.std.proofs.lemmas.List.{append-nil, map-append, length-map, length-replicate}
 use Rattle.gc_graph.specs.Lines.{newline, HasNo}
-use Rattle.gc_cert.specs.Sections.{Place, IsNext, HasTaken}
+use Rattle.gc_cert.specs.Sections.{Place, IsNextLine, HasTaken}
 use Rattle.gc_cert.specs.Internal.Sections.{alone, AreAll, Spelled, Begins, IsWrongAt, IsCutIn}
 use Rattle.gc_cert.proofs.SameLines.{All-append, head_of, same_lines}
 use Rattle.gc_cert.proofs.Stops.{Delimits, BeginsWith}
@@ -37,7 +37,7 @@ not_all_alone : {V : Type 0} (InRange : V → Type 0) (line_of : V → List ℕ)
 not_all_alone InRange line_of (v, p, e) = no_line (line_of v) [] e
 
 -- the line is not the line of any value
-pub line_wrong : {V : Type 0} (InRange : V → Type 0) (line_of : V → List ℕ) (read : List ℕ → Option V) (p q : Place) (line : List ℕ) (n : ℕ) → IsForm InRange line_of read → IsNext line p q → read line ≡ None → n ≡ q.taken → IsWrongAt (Spelled InRange (alone line_of)) p n
+pub line_wrong : {V : Type 0} (InRange : V → Type 0) (line_of : V → List ℕ) (read : List ℕ → Option V) (p q : Place) (line : List ℕ) (n : ℕ) → IsForm InRange line_of read → IsNextLine line p q → read line ≡ None → n ≡ q.taken → IsWrongAt (Spelled InRange (alone line_of)) p n
 line_wrong InRange line_of read p q line n form next none numbered = record {
   before = [];
   line = line;
@@ -65,7 +65,7 @@ line_cut InRange line_of read p form none = record {
 }
 
 -- the line of a value was taken
-pub line_taken : {V : Type 0} (InRange : V → Type 0) (line_of : V → List ℕ) (read : List ℕ → Option V) (p q : Place) (line : List ℕ) (v : V) → IsForm InRange line_of read → IsNext line p q → read line ≡ Some v → InRange v × HasTaken (line_of v ∷ []) p q
+pub line_taken : {V : Type 0} (InRange : V → Type 0) (line_of : V → List ℕ) (read : List ℕ → Option V) (p q : Place) (line : List ℕ) (v : V) → IsForm InRange line_of read → IsNextLine line p q → read line ≡ Some v → InRange v × HasTaken (line_of v ∷ []) p q
 line_taken InRange line_of read p q line v form next e = grind (arith, common_steps, append-nil)
 
 -- ---- a number of lines

@@ -11,7 +11,7 @@ use Rattle.gc_graph.proofs.Public.{Cut, cut, all_push}
 use Rattle.gc_cert.specs.Grammar.{CertifiedPair, heading, pair_line, count_line, size_line, certificate_lines, lines_of, spelling, IsWord, AreAddresses, AreSizes, IsCertificate, HasText, IsTextOf}
 use Rattle.gc_cert.specs.Internal.Grammar.{image_alone, IsImageBy}
 use Rattle.gc_cert.specs.Faults.{limit, AreFirst, HasWrongLine, HasByteBehind, IsCutOff, IsPairFaultOf, IsReadAsPair, MayFail}
-use Rattle.gc_cert.specs.Sections.{Place, start, IsNext, HasTaken}
+use Rattle.gc_cert.specs.Sections.{Place, start, IsNextLine, HasTaken}
 use Rattle.gc_cert.specs.Internal.Sections.{Nothing, AnyFlag, alone, AreAll, Section, Spelled, Begins, IsWrongAt, IsCutIn, MayStop}
 use Rattle.gc_cert.specs.Internal.Parsers.{count_of, sizes_of, pair_of, is_name, is_line, raws_in, word_in}
 use Rattle.gc_cert.specs.declared.fault.PairFault.{PairFault}
@@ -42,7 +42,7 @@ next InRange lines_of S done old mid one with taken (inr (inr w)) further = inr 
 abbrev behind : (p : Place) → Cut p.rest → Place
 behind p c = record { rest = c.rest; taken = p.taken + 1 }
 
-is_next : (p : Place) (c : Cut p.rest) → IsNext c.line p (behind p c)
+is_next : (p : Place) (c : Cut p.rest) → IsNextLine c.line p (behind p c)
 is_next p c = record { parts = c.parts; whole = c.whole; number = refl }
 
 line_outcome : {V : Type 0} (InRange : V → Type 0) (line_of : V → List ℕ) (read : List ℕ → Option V) (p : Place) → IsForm InRange line_of read → Outcome InRange (alone line_of) p

@@ -11,7 +11,7 @@ abbrev pub start : List ℕ → Place
 start text = record { rest = text; taken = 0 }
 
 -- the line that was taken next
-pub record IsNext (line : List ℕ) (old new : Place) : Type 0 where
+pub record IsNextLine (line : List ℕ) (old new : Place) : Type 0 where
   pub parts : old.rest ≡ line ++ newline ∷ new.rest
   pub whole : HasNo newline line
   pub number : new.taken ≡ old.taken + 1

@@ -27,7 +27,7 @@ impl<'a> Lines<'a> {
     ghost use Rattle.gc_graph.specs.Lines.{HasNo, newline};
     ghost use Rattle.gc_words.specs.Views.{addresses};
     ghost use Rattle.gc_cert.specs.Grammar.{pair_line, IsWord, AreAddresses};
-    ghost use Rattle.gc_cert.specs.Sections.{IsNext, HasTaken, NoneIsFirst};
+    ghost use Rattle.gc_cert.specs.Sections.{IsNextLine, HasTaken, NoneIsFirst};
     ghost use Rattle.gc_cert.specs.Internal.Sections.{IsLineFault};
 
     /// Returns the lines of the rest of a text, after `taken` lines were taken.
@@ -50,7 +50,7 @@ impl<'a> Lines<'a> {
     /// Takes the next line, without its line feed. Returns `None` if no line feed is left.
     pub fn line(&mut self) -> Option<&'a [u8]>
         ensures { MatchOption result (HasNo newline self.old.rest)
-            (λ line. IsNext line.now self.old self.new) }
+            (λ line. IsNextLine line.now self.old self.new) }
     {
         let (line, rest) = cut(b'\n', self.rest)?;
         self.rest = rest;

@@ -13,7 +13,7 @@ use Rattle.gc_words.proofs.Public.{object_option, lookup_of_blocks}
 use Rattle.gc_check.specs.Internal.Starts.{starts_from}
 use Rattle.gc_check.specs.Internal.Meetings.{taken_in}
 use Rattle.gc_check.specs.Internal.Tables.{HasEntries}
-use Rattle.gc_check.specs.Internal.Visits.{fields_of, values_of, RefersAt, references, IsNode, along, roots_visit, visit_at, IsFoundBy, IsFound, AreVisits, Visited, LeadsToVisits, AreAllVisited, AreWithin, Continues, HasReferences, NoneRefers, IsFirstReference, HoldsVisits, numbers_in, HoldsWalk}
+use Rattle.gc_check.specs.Internal.Visits.{fields_of, values_of, RefersAt, references, IsNode, along, roots_visit, visit_at, IsFoundBy, IsFound, AreVisits, Visited, LeadsToVisits, AreAllVisited, AreWithin, Continues, HasReferences, NoneRefers, IsFirstReference, HoldsVisits, visit_numbers, HoldsWalk}
 use Rattle.gc_check.specs.declared.visits.Node.{Node}
 use Rattle.gc_check.specs.declared.visits.Node.TheVariants as node
 use Rattle.gc_check.specs.declared.visits.Visit.{Visit}
@@ -157,12 +157,12 @@ few_starts words at (suc n) = one (is_start words at) (few_starts words (suc at)
     one b few = grind (arith, common_steps)
 
 -- while some object is not visited, there are fewer visits than objects and the roots
-pub few_visits : (image : Image) (visits : Visits) (a : ℕ) → HoldsWalk image visits → is_start image.words a ≡ true → slice_index (numbers_in image visits) a ≡ 0 → (length visits.list.items < vec_capacity visits.list) × (length visits.list.items < 2 ^ 32)
+pub few_visits : (image : Image) (visits : Visits) (a : ℕ) → HoldsWalk image visits → is_start image.words a ≡ true → slice_index (visit_numbers image visits) a ≡ 0 → (length visits.list.items < vec_capacity visits.list) × (length visits.list.items < 2 ^ 32)
 few_visits image visits a held start free =
-    let row : List ℕ = set (numbers_in image visits) a 1 in
-    let more : taken_in row ≡ suc (taken_in (numbers_in image visits)) = taken_one (numbers_in image visits) a 1 (omega (arith, held.table.len, start_within image.words a held.entries.walked start)) free (omega arith) in
-    let few : taken_in row ≤ starts_from image.words 0 (length row) = few_taken image.words 0 row (λ k some. subst (λ place. is_start image.words place ≡ true) (from_0 k) (starts_one image.words (numbers_in image visits) a 1 start held.table.starts k some)) in
-    let few' : taken_in row ≤ starts_from image.words 0 (length image.words) = subst (λ n. taken_in row ≤ starts_from image.words 0 n) (length-set (numbers_in image visits) a 1 ∙ held.table.len) few in
+    let row : List ℕ = set (visit_numbers image visits) a 1 in
+    let more : taken_in row ≡ suc (taken_in (visit_numbers image visits)) = taken_one (visit_numbers image visits) a 1 (omega (arith, held.table.len, start_within image.words a held.entries.walked start)) free (omega arith) in
+    let few : taken_in row ≤ starts_from image.words 0 (length row) = few_taken image.words 0 row (λ k some. subst (λ place. is_start image.words place ≡ true) (from_0 k) (starts_one image.words (visit_numbers image visits) a 1 start held.table.starts k some)) in
+    let few' : taken_in row ≤ starts_from image.words 0 (length image.words) = subst (λ n. taken_in row ≤ starts_from image.words 0 n) (length-set (visit_numbers image visits) a 1 ∙ held.table.len) few in
     (omega (arith, held.table.count, held.room, more, few'), omega (arith, held.table.count, more, few', few_starts image.words 0 (length image.words), held.few))
   where
     from_0 : (k : ℕ) → k ≡ 0 + k
@@ -217,7 +217,7 @@ pub near_next : (image : Image) (before after : List Visit) (done : ℕ) → don
 near_next image before after done inside are c near next j h = grind (arith, common_steps)
 
 -- the walk begins with the visit of the roots
-pub begun : (image : Image) (visits : Visits) → HasEntries image.words visits.numbers → length image.words < 2 ^ 32 → visits.list.items ≡ roots_visit ∷ [] → (numbers_in image visits) ≡ replicate (length image.words) 0 → suc (starts_from image.words 0 (length image.words)) ≤ vec_capacity visits.list
+pub begun : (image : Image) (visits : Visits) → HasEntries image.words visits.numbers → length image.words < 2 ^ 32 → visits.list.items ≡ roots_visit ∷ [] → (visit_numbers image visits) ≡ replicate (length image.words) 0 → suc (starts_from image.words 0 (length image.words)) ≤ vec_capacity visits.list
     → HoldsWalk image visits
 begun image visits entries few one none room = grind (arith, common_steps, length-replicate, taken_none, nothing_at)
 

@@ -5,8 +5,8 @@ use Rattle.gc_words.specs.Image.{Image, graph_of}
 use Rattle.gc_check.specs.declared.shortest_path.Path.{Path}
 
 -- the path finds a reference to this address
-abbrev pub LeadsTo : Image → Path → ℕ → Type 0
-LeadsTo image path address = at_path (graph_of image) path.place path.fields.items ≡ Some (Ref address)
+abbrev pub PathLeadsTo : Image → Path → ℕ → Type 0
+PathLeadsTo image path address = at_path (graph_of image) path.place path.fields.items ≡ Some (Ref address)
 
 -- no path that finds one has fewer fields
 abbrev pub IsShortest : Image → Path → ℕ → Type 0

@@ -5,7 +5,7 @@ ghost use Rattle.gc_graph.specs.Graph.{Reachable};
 ghost use Rattle.gc_words.specs.Image.{IsShaped, graph_of};
 ghost use Rattle.gc_words.specs.Views.{image_of};
 ghost use Rattle.gc_check.specs.Internal.Visits.{AreAllVisited, AreVisits};
-ghost use Rattle.gc_check.specs.Paths.{IsShortest, LeadsTo};
+ghost use Rattle.gc_check.specs.Paths.{IsShortest, PathLeadsTo};
 
 use crate::starts::{Starts, StartsFault};
 use crate::visits::{Visit, first_reference, path_back, visit_reachable};
@@ -23,7 +23,7 @@ pub struct Path {
 /// Returns a shortest path from a root to a reference to this address, or `None` if no path leads there. The address need not be
 /// that of an object. Returns `None` if the image is not shaped, and `NoMemory` if an allocation fails. Visits each reachable object once.
 pub fn path_to(alloc: Global, image: ImageRef, address: u32) -> Result<Option<Path>, NoMemory>
-    ensures leads { IfOk result (λ found. IfSome found (λ path. LeadsTo (image_of image.entry) path address)) }
+    ensures leads { IfOk result (λ found. IfSome found (λ path. PathLeadsTo (image_of image.entry) path address)) }
     ensures shortest { IfOk result (λ found. IfSome found (λ path. IsShortest (image_of image.entry) path address)) }
     ensures none { IfOk result (λ found. found ≡ None → IsShaped (image_of image.entry)
         → Reachable (graph_of (image_of image.entry)) address → ⊥) }
@@ -47,7 +47,7 @@ fn path_by(
     requires visits { AreVisits starts.now visits.now }
     requires all { AreAllVisited starts.now visits.now }
     requires few { length visits.now ≤ 2 ^ 32 }
-    ensures leads { IfOk result (λ found. IfSome found (λ path. LeadsTo starts.now path address)) }
+    ensures leads { IfOk result (λ found. IfSome found (λ path. PathLeadsTo starts.now path address)) }
     ensures shortest { IfOk result (λ found. IfSome found (λ path. IsShortest starts.now path address)) }
     ensures none { IfOk result (λ found. found ≡ None → Reachable (graph_of starts.now) address → ⊥) }
 {

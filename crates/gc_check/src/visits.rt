@@ -5,7 +5,7 @@ ghost use Rattle.gc_graph.specs.Graph.{name_of};
 ghost use Rattle.gc_words.specs.Word.{value_of};
 ghost use Rattle.gc_words.specs.Image.{Image, graph_of, is_start, walk_words};
 ghost use Rattle.gc_check.specs.Internal.Visits.{AreVisits, AreAllVisited, AreWithin, Continues, HasReferences, HoldsWalk, IsFirstReference, IsNode, LeadsToVisits, NoneRefers, RefersAt, Visited, references, visit_at};
-ghost use Rattle.gc_check.specs.Paths.{LeadsTo};
+ghost use Rattle.gc_check.specs.Paths.{PathLeadsTo};
 ghost use Rattle.gc_check.specs.declared.visits.Node.TheVariants as Node;
 
 use crate::object::{fields_at, header_word_at};
@@ -252,7 +252,7 @@ pub(crate) fn path_back(
     requires within { reference.visit < length visits.now }
     ensures path { IfOk result (λ path. (image : Image) (address : ℕ) → AreVisits image visits.now
         → RefersAt (graph_of image) (visit_at visits.now reference.visit).node reference.place address
-        → LeadsTo image path address × (length path.fields.items ≡ (visit_at visits.now reference.visit).depth)) }
+        → PathLeadsTo image path address × (length path.fields.items ≡ (visit_at visits.now reference.visit).depth)) }
 {
     let mut fields = Vec::new(alloc);
     let mut place = reference.place;

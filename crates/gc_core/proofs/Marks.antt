@@ -30,7 +30,7 @@ use Rattle.gc_copy.specs.declared.collection.roots.MissingRoot.{MissingRoot}
 use Rattle.gc_copy.proofs.Public.{placed_has}
 use Rattle.gc_plan.proofs.Public.{steps_stay, collect_stays, mutate_stays, root_kept, roots_counted, flip_nil, flip_count}
 use Rattle.gc_core.specs.CollectedHeap.{fill_step, filled, new_from_step}
-use Rattle.gc_core.specs.Internal.KnownRoots.{KnowsRoots, FindsFirst, next_place}
+use Rattle.gc_core.specs.Internal.KnownRoots.{KnowsRoots, FindsFirst, next_unknown_root}
 use Rattle.gc_core.specs.declared.known.KnownRoots.{KnownRoots}
 
 -- what is known of a heap and its marks, with the room of the row for moved roots
@@ -227,7 +227,7 @@ module _ (known : KnownRoots) (s : State) (c : Collection) (is : s.collection �
       rest p le = (p - roots_of s.mutators, omega (arith, le), omega (arith, le))
 
 pub copied_knows : (known : KnownRoots) (s next : State) (c : Collection) (found : Option MissingRoot) → s.collection ≡ Some c → option_map (λ (r : MissingRoot). r.target.0) found ≡ root_target c s.heap.graph
-    → IfSome found (FindsFirst known s) → collect s steps.Roots ≡ (Copied, next) → KnowsRoot next (next_place (roots_of s.mutators) known)
+    → IfSome found (FindsFirst known s) → collect s steps.Roots ≡ (Copied, next) → KnowsRoot next (next_unknown_root (roots_of s.mutators) known)
 copied_knows known s next c found is first finds e = grind (arith, common_steps, placed_has)
 
 -- ---- commands that fill fields

@@ -10,7 +10,7 @@ ghost use Rattle.gc_plan.specs.State.{State};
 ghost use Rattle.gc_plan.specs.Staying.{KnowsRoot};
 ghost use Rattle.gc_plan.specs.Steps.{root_target};
 ghost use Rattle.gc_copy.specs.Words.{collection_in, open_state, BelongsTo};
-ghost use Rattle.gc_core.specs.Internal.KnownRoots.{KnowsRoots, FindsFirst, next_place};
+ghost use Rattle.gc_core.specs.Internal.KnownRoots.{KnowsRoots, FindsFirst, next_unknown_root};
 
 use gc_copy::{Collection, MissingRoot};
 use gc_graph::root_count;
@@ -87,9 +87,9 @@ impl KnownRoots {
 
     /// Returns the marks after the target of the next root got a replica, where `slots` is the number of slots.
     pub(crate) fn advanced(self, slots: usize) -> KnownRoots
-        requires { next_place slots self < slots + self.used }
+        requires { next_unknown_root slots self < slots + self.used }
         ensures knows { (s : State) → slots ≡ roots_of s.mutators → KnowsRoots self s
-            → KnowsRoot s (next_place slots self) → KnowsRoots result s }
+            → KnowsRoot s (next_unknown_root slots self) → KnowsRoots result s }
         ensures count { result.count ≡ self.count }
     {
         if self.slots < slots {

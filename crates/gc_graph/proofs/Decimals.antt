@@ -16,26 +16,26 @@ use Rattle.core.proofs.dec2flt.Rows.{AllDigits-digits_len}
 use Rattle.std.specs.Float.Numeral.{digits_len}
 use Rattle.std.specs.Str.Parse.{digits_value, AllDigits}
 use Rattle.gc_graph.specs.Fronts.{BeginsWithNumber}
-use Rattle.gc_graph.specs.Tokens.{number_of}
+use Rattle.gc_graph.specs.Tokens.{number_of_token}
 use Rattle.gc_graph.specs.Internal.Tokens.{IsDecimal}
 
 pub decimals : IsNumeralModel (AllDigits 10) (digits_value 10)
 decimals = numerals_by_value (AllDigits 10) tells_digits
 
-pub number_found : (most : ℕ) (token : List ℕ) (n : ℕ) → number_of most token ≡ Some n → (token ≡ decimal n) × (n ≤ most)
-unfolding number_of
+pub number_found : (most : ℕ) (token : List ℕ) (n : ℕ) → number_of_token most token ≡ Some n → (token ≡ decimal n) × (n ≤ most)
+unfolding number_of_token
 number_found most token n e = grind (arith, common_steps, cond_some, and_parts, bytes_eq-Decides, leb-true)
 
 value-decimal : (n : ℕ) → n < 2 ^ 64 → digits_value 10 (decimal n) ≡ n
 value-decimal n small = (decimal_is_IsNumeral n small).1
 
-pub number_again : (most n : ℕ) → n ≤ most → n < 2 ^ 64 → number_of most (decimal n) ≡ Some n
-unfolding number_of
+pub number_again : (most n : ℕ) → n ≤ most → n < 2 ^ 64 → number_of_token most (decimal n) ≡ Some n
+unfolding number_of_token
 number_again most n le small = grind (arith, common_steps, value-decimal, and_from, bytes_eq-Decides, le-leb)
 
 -- a token that is not the decimal of a number up to `most` has no number
-number_none : (most : ℕ) (token : List ℕ) → ((n : ℕ) → n ≤ most → token ≡ decimal n → ⊥) → number_of most token ≡ None
-unfolding number_of
+number_none : (most : ℕ) (token : List ℕ) → ((n : ℕ) → n ≤ most → token ≡ decimal n → ⊥) → number_of_token most token ≡ None
+unfolding number_of_token
 number_none most token never = grind (arith, common_steps, and_parts, leb-true, bytes_eq-Decides)
 
 pub decimal_are_digits : (n : ℕ) → n < 2 ^ 64 → AllDigits 10 (decimal n)
@@ -123,11 +123,11 @@ front_none text end len never n rest begins = grind (arith, common_steps, digits
 
 -- ---- the number of a token
 
-pub token_some : (most : ℕ) (token rest : List ℕ) (n : ℕ) → BeginsWithNumber token n rest → length rest ≡ 0 → n ≤ most → Some n ≡ number_of most token
+pub token_some : (most : ℕ) (token rest : List ℕ) (n : ℕ) → BeginsWithNumber token n rest → length rest ≡ 0 → n ≤ most → Some n ≡ number_of_token most token
 token_some most token rest n begins empty le = grind (arith, common_steps, append-nil, number_again)
 
 -- a token that is not, as a whole, the decimal of a number up to `most` has no number
-pub token_none : (most : ℕ) (token : List ℕ) → most < 2 ^ 64 → ((n : ℕ) → n ≤ most → ¬ BeginsWithNumber token n []) → number_of most token ≡ None
+pub token_none : (most : ℕ) (token : List ℕ) → most < 2 ^ 64 → ((n : ℕ) → n ≤ most → ¬ BeginsWithNumber token n []) → number_of_token most token ≡ None
 token_none most token small never = number_none most token (λ n le is. never n le (record { small = omega (arith, le, small); parts = is ∙ sym (append-nil (decimal n)); whole = refl }))
 
 pub one_front : (text : List ℕ) (m n : ℕ) (rest more : List ℕ) → BeginsWithNumber text m rest → BeginsWithNumber text n more → (m ≡ n) × (rest ≡ more)
@@ -141,5 +141,5 @@ one_front text m n rest more p q =
     (sym (value-decimal m p.small) ∙ ap (digits_value 10) (sym take-m ∙ take-n) ∙ value-decimal n q.small, sym drop-m ∙ drop-n)
 
 -- a token has no number if more follows the number that it begins with, or if that is above `most`
-pub token_other : (most : ℕ) (token rest : List ℕ) (m : ℕ) → most < 2 ^ 64 → BeginsWithNumber token m rest → (rest ≡ [] → most < m) → number_of most token ≡ None
+pub token_other : (most : ℕ) (token rest : List ℕ) (m : ℕ) → most < 2 ^ 64 → BeginsWithNumber token m rest → (rest ≡ [] → most < m) → number_of_token most token ≡ None
 token_other most token rest m small begins other = token_none most token small (λ n le same. (let one = one_front token m n rest [] begins same in omega (arith, other one.1, one.0, le)))

@@ -6,7 +6,7 @@ use Rattle.std.specs.Str.{bytes_eq}
 use Rattle.std.proofs.lemmas.Bool.{eqb-false}
 use Rattle.std.proofs.lemmas.Option.{cond_some}
 use Rattle.std.proofs.lemmas.Slice.Eq.{bytes_eq-Decides}
-use Rattle.gc_graph.specs.Tokens.{◌>>=◌, Tokens, number_of, number_at, token_at, if_all_taken}
+use Rattle.gc_graph.specs.Tokens.{◌>>=◌, Tokens, number_of_token, number_at, token_at, if_all_taken}
 use Rattle.gc_graph.proofs.Decimals.{number_found, number_again}
 
 -- ---- written tokens are read back
@@ -43,7 +43,7 @@ pub number_at_found : (most : ℕ) (tokens : Tokens) (x : ℕ × Tokens) → num
 unfolding number_at
 number_at_found most [] x e = absurd cc
 number_at_found most (token ∷ tokens) x e =
-    let b = bind_some (number_of most token) (λ n. Some (n, tokens)) x e in
+    let b = bind_some (number_of_token most token) (λ n. Some (n, tokens)) x e in
     let n = number_found most token b.0 b.1 in
     subst (λ (y : ℕ × Tokens). (token ∷ tokens ≡ decimal y.0 ∷ y.1) × (y.0 ≤ most)) (some_is (b.0, tokens) x b.2) (ap (λ (w : List ℕ). w ∷ tokens) n.0, n.1)
 

@@ -84,6 +84,11 @@ IsUnused g name = IsFalse (list_any (λ other. other == name) (names_in g))
 abbrev pub fresh_name : Graph → ℕ
 fresh_name g = fold (λ least name. max least (suc name)) 0 (names_in g)
 
+-- the number that a value is, or 0 if it is not a number
+abbrev pub number_of : Value → ℕ
+number_of (Num n) = n
+number_of v = 0
+
 -- ---- changes
 
 -- the initial value of each field: 0 if the object is raw, else nil

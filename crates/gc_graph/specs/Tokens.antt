@@ -17,8 +17,8 @@ None >>= f = None
 (Some x) >>= f = f x
 
 -- the number that the token spells in decimal, without leading zeros, if it is at most `most`
-unfoldable pub number_of : ℕ → List ℕ → Option ℕ
-number_of most token = if bytes_eq (decimal (digits_value 10 token)) token && nat_le (digits_value 10 token) most then Some (digits_value 10 token) else None
+unfoldable pub number_of_token : ℕ → List ℕ → Option ℕ
+number_of_token most token = if bytes_eq (decimal (digits_value 10 token)) token && nat_le (digits_value 10 token) most then Some (digits_value 10 token) else None
 
 -- Each parser below takes tokens from the front and returns those that are left.
 abbrev pub Tokens : Type 0
@@ -27,7 +27,7 @@ Tokens = List (List ℕ)
 unfoldable pub number_at : ℕ → Tokens → Option (ℕ × Tokens)
 number_at most [] = None
 number_at most (token ∷ tokens) = do
-  n ← number_of most token
+  n ← number_of_token most token
   Some (n, tokens)
 
 -- takes exactly this token

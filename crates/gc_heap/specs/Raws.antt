@@ -1,12 +1,7 @@
 -- The numbers in a raw object.
 use Rattle.std.specs.Prelude.{ℕ, List, map, Option, Some, None, if◌then◌else◌}
-use Rattle.gc_graph.specs.Graph.{Value, Num, Object, Graph, object_of, root}
+use Rattle.gc_graph.specs.Graph.{Object, Graph, object_of, root, number_of}
 use Rattle.gc_graph.specs.Slots.{SlotName, place}
-
--- the number that a field of a raw object holds
-abbrev pub number_of : Value → ℕ
-number_of (Num n) = n
-number_of v = 0
 
 -- the numbers in the fields of an object, if it is raw
 abbrev pub numbers_in : Option Object → Option (List ℕ)

@@ -6,9 +6,9 @@ use Rattle.std.proofs.Common.{◌≡◌, ⊎_elim, ℕ, zero, suc, refl, ap, ◌
 use Rattle.gc_plan.specs.State.{State, heap_end}
 use Rattle.gc_plan.proofs.Public.{unchanged}
 use Rattle.gc_core.specs.ExtraRoots.{clear_step}
-use Rattle.gc_along.specs.Watch.{opening}
+use Rattle.gc_along.specs.Watch.{opening_watch}
 use Rattle.gc_along.specs.Tables.{Tables, watch_of}
-use Rattle.gc_beside.specs.Stays.{Fits}
+use Rattle.gc_beside.specs.Stays.{WatchFits}
 use Rattle.gc_beside.specs.Internal.Live.{IsLive}
 use Rattle.gc_beside.proofs.Public.{Leads, same_itself, leads_on, leads_one, lives_through, end_by}
 
@@ -24,6 +24,6 @@ lives_cleared s s' k n t is_open is live =
     let r = clear_leads n s k in
     let end : heap_end s ≡ heap_end s' = r.1 ∙ ap heap_end is in
     lives_through s s' t t Never is_open (subst (λ (x : State). Leads s x Never) is r.0) (λ y. y)
-    (λ found e w. w ∙ ap opening end)
-    (λ found c e opened g. (subst (λ n. Fits n c (watch_of t)) end g.fits, λ r l j u. ⊎_elim (λ d. d) (λ w. absurd w)))
+    (λ found e w. w ∙ ap opening_watch end)
+    (λ found c e opened g. (subst (λ n. WatchFits n c (watch_of t)) end g.fits, λ r l j u. ⊎_elim (λ d. d) (λ w. absurd w)))
     live

@@ -22,7 +22,7 @@ use Rattle.gc_core.specs.Mixed.{source_step, sources_step, mixed, new_with_step}
 use Rattle.gc_core.specs.declared.mixed.FieldSource.{FieldSource}
 use Rattle.gc_core.specs.declared.mixed.FieldSource.TheVariants as sources
 use Rattle.gc_along.specs.Watch.{Watch}
-use Rattle.gc_beside.specs.Stays.{Fits, MarksWritten}
+use Rattle.gc_beside.specs.Stays.{WatchFits, MarksWritten}
 use Rattle.gc_along.specs.Tables.{Tables, watch_of}
 use Rattle.gc_along.specs.Claims.{CanMake}
 use Rattle.gc_along.specs.Events.{Made}
@@ -153,7 +153,7 @@ module _ (s : State) (m : ℕ) (d : SlotName) (kind count : ℕ) (finish : Reply
     lives_through s s' t after (Of (heap_end s)) is_open leads lost
         (λ n e w. (let g = grow n (ap (λ (w : Watch). w.old_seen) w) in ap watch_of g.1 ∙ (λ i. record (w i) { old_seen = g.0 i })))
         (λ n c e k goes. (let g = grow n goes.fits.old_seen in
-        subst (λ (t' : Tables). Fits (heap_end s') c (watch_of t') × MarksWritten (Of (heap_end s)) (watch_of t) c (watch_of t')) (sym g.1) (
+        subst (λ (t' : Tables). WatchFits (heap_end s') c (watch_of t') × MarksWritten (Of (heap_end s)) (watch_of t) c (watch_of t')) (sym g.1) (
           record { pairs = goes.fits.pairs; old_seen = g.0; new_seen = goes.fits.new_seen; row = goes.fits.row },
           λ r l j u. ⊎_elim (λ d. d) (λ is. absurd (
               let replica = k.belongs.replicas r l in

@@ -15,7 +15,7 @@ use Rattle.gc_plan.specs.declared.step.StepReply.TheVariants.{Copied, Passed, Sc
 use Rattle.std.proofs.lemmas.List.{length-map, length-replicate}
 use Rattle.gc_plan.proofs.Public.{begun_belongs, steps_stay}
 use Rattle.gc_core.specs.Flip.{flip_pair, HasAccepted, IsSureIfReady}
-use Rattle.gc_along.specs.Claims.{Accepts, CanPlace, CanLook, CanApply, OwesNone}
+use Rattle.gc_along.specs.Claims.{Accepts, CanPlaceNext, CanLook, CanApply, OwesNone}
 use Rattle.gc_along.specs.Events.{Placed, Looked, Applied as AppliedTo, Freed, flipped_tables}
 use Rattle.gc_along.specs.Tables.{Tables, watch_of}
 use Rattle.gc_beside.specs.Internal.Live.{GoesBeside, IsLive, heap_words, replica_words, IsNeverLost}
@@ -66,7 +66,7 @@ module _ (s s' : State) (old words : List ℕ) (heap : IsSpaceGraph s.size s.hea
   old_words : (next : Collection) → s' ≡ with_collection s (Some next) → old ≡ heap_words olds.0 s
   old_words next is = olds.2 ∙ ap (heap_words olds.0) is
 
-  pub lasts_roots : (t after : Tables) → collect s steps.Roots ≡ (Copied, s') → (t.lost ≡ false → CanPlace old words t → after.lost ≡ false) → (after.lost ≡ false → Placed old words t after) → (after.lost ≡ false → OwesNone old words t after)
+  pub lasts_roots : (t after : Tables) → collect s steps.Roots ≡ (Copied, s') → (t.lost ≡ false → CanPlaceNext old words t → after.lost ≡ false) → (after.lost ≡ false → Placed old words t after) → (after.lost ≡ false → OwesNone old words t after)
       → IsLive s t → IsNeverLost s t → IsNeverLost s' after
   lasts_roots t after said stays placed copied live k =
       let first = was_open s s' steps.Roots Copied (λ e. cc) said in
@@ -79,7 +79,7 @@ module _ (s s' : State) (old words : List ℕ) (heap : IsSpaceGraph s.size s.hea
       let knows = knows_in s c t first.1 k in
       let o = old_words next x.is in
       let can = roots_told s c next t links heap x.before x.opened goes knows s' x.said new.1 in
-      let found : after.lost ≡ false = stays k.found (subst (λ ws. CanPlace ws words t) (sym o) (subst (λ ws. CanPlace (heap_words links s) ws t) (sym new.2) can)) in
+      let found : after.lost ≡ false = stays k.found (subst (λ ws. CanPlaceNext ws words t) (sym o) (subst (λ ws. CanPlaceNext (heap_words links s) ws t) (sym new.2) can)) in
       record {
         found = found;
         knows = known_with s s' next after x.is (roots_known s c next t links heap x.before x.opened goes knows s' x.said new.1 after
@@ -88,7 +88,7 @@ module _ (s s' : State) (old words : List ℕ) (heap : IsSpaceGraph s.size s.hea
       }
 
   pub lasts_scanned : (c : Collection) (t mid after : Tables) → s.collection ≡ Some c → collect s steps.Scan ≡ (Scanned, s')
-      → (t.lost ≡ false → CanPlace old words t → mid.lost ≡ false) → (mid.lost ≡ false → Placed old words t mid) → (mid.lost ≡ false → OwesNone old words t mid)
+      → (t.lost ≡ false → CanPlaceNext old words t → mid.lost ≡ false) → (mid.lost ≡ false → Placed old words t mid) → (mid.lost ≡ false → OwesNone old words t mid)
       → (mid.lost ≡ false → CanLook old words c.scan_place c.scan_field mid → after.lost ≡ false) → (after.lost ≡ false → Looked old words c.scan_place c.scan_field mid after)
       → IsLive s t → IsNeverLost s t → IsNeverLost s' after
   lasts_scanned c t mid after first said stays placed copied stays' looked live k =
@@ -100,7 +100,7 @@ module _ (s s' : State) (old words : List ℕ) (heap : IsSpaceGraph s.size s.hea
       let knows = knows_in s c t first k in
       let o = old_words next x.is in
       let can = scan_placed s c next t links heap x.before x.opened goes knows s' x.said new.1 in
-      let found : mid.lost ≡ false = stays k.found (subst (λ ws. CanPlace ws words t) (sym o) (subst (λ ws. CanPlace (heap_words links s) ws t) (sym new.2) can)) in
+      let found : mid.lost ≡ false = stays k.found (subst (λ ws. CanPlaceNext ws words t) (sym o) (subst (λ ws. CanPlaceNext (heap_words links s) ws t) (sym new.2) can)) in
       let is_placed = subst (λ ws. Placed ws (replica_words next) t mid) o (subst (λ ws. Placed old ws t mid) new.2 (placed found)) in
       let owes = subst (λ ws. OwesNone ws (replica_words next) t mid) o (subst (λ ws. OwesNone old ws t mid) new.2 (copied found)) in
       let see = scan_looked s c next t links heap x.before x.opened goes knows s' x.said new.1 mid is_placed owes in
@@ -112,7 +112,7 @@ module _ (s s' : State) (old words : List ℕ) (heap : IsSpaceGraph s.size s.hea
       }
 
   pub lasts_applied : (m : ℕ) (entry : ℕ × ℕ) (t mid after : Tables) → ((c : Collection) → s.collection ≡ Some c → (rest : List (ℕ × ℕ)) × (log_at c m ≡ entry ∷ rest)) → collect s (steps.Apply m) ≡ (Applied, s')
-      → (t.lost ≡ false → CanPlace old words t → mid.lost ≡ false) → (mid.lost ≡ false → Placed old words t mid) → (mid.lost ≡ false → OwesNone old words t mid)
+      → (t.lost ≡ false → CanPlaceNext old words t → mid.lost ≡ false) → (mid.lost ≡ false → Placed old words t mid) → (mid.lost ≡ false → OwesNone old words t mid)
       → (mid.lost ≡ false → CanApply old words entry.0 entry.1 mid → after.lost ≡ false) → (after.lost ≡ false → AppliedTo old words entry.0 entry.1 mid after)
       → IsLive s t → IsNeverLost s t → IsNeverLost s' after
   lasts_applied m entry t mid after log said stays placed copied stays' applied live k =
@@ -128,7 +128,7 @@ module _ (s s' : State) (old words : List ℕ) (heap : IsSpaceGraph s.size s.hea
       let l = log c first.1 in
       let did : apply_log s c m (entry ∷ l.0) ≡ (Applied, s') = ap (apply_log s c m) (sym l.1) ∙ x.said in
       let can = entry_placed s c next t links heap x.before x.opened goes knows s' m entry l.0 l.1 did new.1 in
-      let found : mid.lost ≡ false = stays k.found (subst (λ ws. CanPlace ws words t) (sym o) (subst (λ ws. CanPlace (heap_words links s) ws t) (sym new.2) can)) in
+      let found : mid.lost ≡ false = stays k.found (subst (λ ws. CanPlaceNext ws words t) (sym o) (subst (λ ws. CanPlaceNext (heap_words links s) ws t) (sym new.2) can)) in
       let is_placed = subst (λ ws. Placed ws (replica_words next) t mid) o (subst (λ ws. Placed old ws t mid) new.2 (placed found)) in
       let owes = subst (λ ws. OwesNone ws (replica_words next) t mid) o (subst (λ ws. OwesNone old ws t mid) new.2 (copied found)) in
       let see = entry_looked s c next t links heap x.before x.opened goes knows s' m entry l.0 l.1 did new.1 mid is_placed owes (subst (LeadsToOpen links) new.1 olds.1) in

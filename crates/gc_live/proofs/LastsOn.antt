@@ -26,7 +26,7 @@ use Rattle.gc_along.specs.Events.{Made, Wrote}
 use Rattle.gc_along.specs.Tables.{Tables, watch_of}
 use Rattle.gc_beside.specs.Internal.Live.{GoesBeside, IsLive, heap_words, IsNeverLost}
 use Rattle.gc_beside.specs.Knows.{Knows, open_or_fresh}
-use Rattle.gc_beside.specs.Stays.{Fits}
+use Rattle.gc_beside.specs.Stays.{WatchFits}
 use Rattle.gc_beside.proofs.Public.{Continues, SameBut, SameOpen, NewName, continues_same, continues_on, continues_one, quiet_known, can_make, made_known, can_write, wrote_known, EndsMore, ends_more, lives_quiet, lives_unopened, new_op, not_done, end_by, lives_number, lives_number_closed, put_roots, was_open}
 use Rattle.gc_live.proofs.Lasts.{AreOld, goes_of}
 
@@ -96,7 +96,7 @@ lasts_new s s' m op reply t after raw d kind len links old is said before later 
 -- the checker beside the open collection of a state
 pub record IsBeside (s : State) (d : Collection) (t : Tables) : Type 0 where
   pub found : t.lost ≡ false
-  pub fits : Fits (heap_end s) d (watch_of t)
+  pub fits : WatchFits (heap_end s) d (watch_of t)
   pub knows : Knows s d t
 
 -- after commands of which nothing was told as yet
@@ -107,10 +107,10 @@ beside s s' d t on end there live k = record {
   knows = subst (λ o. Knows s' (open_or_fresh s' o) t) there (quiet_known s s' t NoName on (λ a x. x) k.knows);
 }
   where
-    refit : (c : Collection) → SameBut c d → Fits (heap_end s) c (watch_of t) → Fits (heap_end s') d (watch_of t)
+    refit : (c : Collection) → SameBut c d → WatchFits (heap_end s) c (watch_of t) → WatchFits (heap_end s') d (watch_of t)
     refit c same f = grind (arith, common_steps, pair, replicas_end)
 
-    go : (o : Option Collection) → s.collection ≡ o → (p : Option Collection) → p ≡ Some d → SameOpen o p → GoesBeside s o (watch_of t) → Fits (heap_end s') d (watch_of t)
+    go : (o : Option Collection) → s.collection ≡ o → (p : Option Collection) → p ≡ Some d → SameOpen o p → GoesBeside s o (watch_of t) → WatchFits (heap_end s') d (watch_of t)
     go o e p f same g = grind (arith, common_steps, refit)
 
 module _ (s : State) (d : Collection) (there : s.collection ≡ Some d) (heap : IsSpaceGraph s.size s.heap.free s.heap.graph) (opened : IsOpened s d) where

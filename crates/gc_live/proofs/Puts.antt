@@ -25,7 +25,7 @@ use Rattle.gc_core.specs.Copying.{object_in, copy_reply, copy_step, AllCopied}
 use Rattle.gc_along.specs.Tables.{Tables, watch_of}
 use Rattle.gc_along.specs.Claims.{CanWrite}
 use Rattle.gc_along.specs.Events.{Wrote}
-use Rattle.gc_beside.specs.Stays.{Fits, MarksWritten}
+use Rattle.gc_beside.specs.Stays.{WatchFits, MarksWritten}
 use Rattle.gc_beside.proofs.Public.{Continues, continues_same, Leads, same_itself, leads_on, leads_one, lives_through, end_by, put_roots, told_wrote}
 use Rattle.gc_live.specs.Internal.Told.{ToldTruly, ToldWritten}
 use Rattle.gc_live.proofs.Lasts.{AreOld}
@@ -59,9 +59,9 @@ told_lost a i zero t after same lost = ap (λ (t : Tables). t.lost) (sym same) �
 told_lost a i (suc n) t after (next, kept, wrote, rest) lost = told_lost a (suc i) n next after rest (kept lost)
 
 told_marks : (n : ℕ) (objects : List (ℕ × Object)) (end : ℕ) (c : Collection) (t after : Tables) (a i : ℕ) → Distinct (map (λ r. r.original) c.replicas) → 1 ≤ a → ToldWritten a i n t after → after.lost ≡ false
-    → Fits end c (watch_of t) → Fits end c (watch_of after) × MarksWritten (IsAmong a i n) (watch_of t) c (watch_of after)
+    → WatchFits end c (watch_of t) → WatchFits end c (watch_of after) × MarksWritten (IsAmong a i n) (watch_of t) c (watch_of after)
 told_marks zero objects end c t after a i once low same found fits =
-    subst (λ (t' : Tables). Fits end c (watch_of t') × MarksWritten (IsAmong a i zero) (watch_of t) c (watch_of t')) same (fits, λ r l j m. ⊎_elim (λ d. d) (λ w. absurd (omega (arith, w.1, w.2))))
+    subst (λ (t' : Tables). WatchFits end c (watch_of t') × MarksWritten (IsAmong a i zero) (watch_of t) c (watch_of t')) same (fits, λ r l j m. ⊎_elim (λ d. d) (λ w. absurd (omega (arith, w.1, w.2))))
 told_marks (suc n) objects end c t after a i once low (next, lost, wrote, rest) found fits = elim (cases_Bool next.lost) [
   | inl is ↦ absurd (let no : true ≡ false = sym (told_lost a (suc i) n next after rest is) ∙ found in cc)
   | inr not ↦ (
@@ -165,7 +165,7 @@ both_puts along s s' m i n a d t old w after is_open is_open' heap less apart at
     let logged = puts_logged n s s' m i a d t apart at (log_of_open s m is_open less) puts e.0 e.1 in (
       lives_through s s' w after (IsAmong a i n) is_open (puts_lead IsDone n s s' m i a d t apart at puts) (told_lost a i n w after told)
           (λ found e o. absurd (not_closed e))
-          (λ found c e opened g. told_marks n s.heap.graph.objects (heap_end s') c w after a i opened.belongs.once low told found (subst (λ n. Fits n c (watch_of w)) quiet.0 g.fits))
+          (λ found c e opened g. told_marks n s.heap.graph.objects (heap_end s') c w after a i opened.belongs.once low told found (subst (λ n. WatchFits n c (watch_of w)) quiet.0 g.fits))
           h.0,
       λ on. beside_lasts s' e.0 e.1 heap opened after (told_all n s' e.0 old w after a i e.1 heap opened old_is logged truly (beside s s' e.0 w quiet.1 quiet.0 e.1 h.0 (h.1 on))),
     )

@@ -1,7 +1,7 @@
 -- The image of a graph whose names are addresses, with links. What the collector and the mutators do is defined without links.
 use Rattle.std.specs.Prelude.{◌≡◌, ℕ, ◌%◌, ◌^◌, if◌then◌else◌, List, length, map, Option, Some, IfSome}
 use Rattle.std.specs.Option.{option_map_or}
-use Rattle.gc_graph.specs.Graph.{Value, Num, Object, Graph}
+use Rattle.gc_graph.specs.Graph.{Value, Object, Graph, number_of}
 use Rattle.gc_words.specs.Word.{word_of}
 use Rattle.gc_words.specs.Image.{Block, Image}
 use Rattle.gc_words.specs.Spelling.{spelled, no_links}
@@ -11,11 +11,6 @@ use Rattle.gc_plan.specs.State.{Replica, Collection, State, replica_of, replica_
 
 abbrev pub object_header : Object → Header
 object_header object = record { raw = object.raw; kind = object.kind; len = length object.fields }
-
--- the number that a value is, or 0 if it is not a number
-abbrev pub number_of : Value → ℕ
-number_of (Num n) = n
-number_of v = 0
 
 -- the word for a field of an object with this header
 abbrev pub field_word : Header → Value → ℕ

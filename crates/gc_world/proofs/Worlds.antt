@@ -14,7 +14,7 @@ use Rattle.gc_graph.specs.Range.{IsCommand}
 use Rattle.gc_cert.specs.Grammar.{CertifiedPair}
 use Rattle.gc_world.specs.History.{IsUseful, unmarked}
 use Rattle.gc_world.specs.World.{entry_of}
-use Rattle.gc_world.specs.Internal.World.{IsKept, IsWorld}
+use Rattle.gc_world.specs.Internal.World.{IsKeptPair, IsWorld}
 use Rattle.gc_plan.specs.declared.event.Event.TheVariants.{Mutate, Collect}
 use Rattle.gc_plan.specs.declared.event.Answer.{Answer}
 use Rattle.gc_world.specs.declared.entry.Entry.{Entry}
@@ -23,7 +23,7 @@ use Rattle.gc_world.proofs.Growing.{history_more, state_more}
 pub grows : (old new : State) (size mutators : ℕ) (entries : List Entry) (kept later : Option CertifiedPair) (entry : Entry)
     → IsWorld old (record { size = size; mutators = mutators; entries = entries; kept = kept }) → IsEventWithin most_words mutators entry.event
     → unmarked entry.answer ≡ answer old entry.event → IsUseful old entry.event entry.answer
-    → new ≡ after old entry.event → IsKept later
+    → new ≡ after old entry.event → IsKeptPair later
     → IsWorld new (record { size = size; mutators = mutators; entries = entries ++ entry ∷ []; kept = later })
 grows old new size mutators entries kept later entry w event told useful next fine = grind (arith, common_steps, history_more, state_more)
 
@@ -40,7 +40,7 @@ commanded old new size before after_it m op reply entries items kept w less comm
 pub stepped : (old new : State) (size before after_it : ℕ) (step : Step) (reply : StepReply) (answered : Answer) (entries items : List Entry) (kept later : Option CertifiedPair)
     → IsWorld old (record { size = size; mutators = before; entries = entries; kept = kept }) → IsStepWithin most_words before step → collect old step ≡ (reply, new)
     → unmarked answered ≡ Collector reply → IsUseful old (Collect step) answered → after_it ≡ before
-    → items ≡ entries ++ entry_of (Collect step) answered ∷ [] → IsKept later → IsWorld new (record { size = size; mutators = after_it; entries = items; kept = later })
+    → items ≡ entries ++ entry_of (Collect step) answered ∷ [] → IsKeptPair later → IsWorld new (record { size = size; mutators = after_it; entries = items; kept = later })
 stepped old new size before after_it step reply answered entries items kept later w range made is useful same more fine =
     let done = grows old new size before entries kept later (entry_of (Collect step) answered) w range (is ∙ ap (λ (x : StepReply × State). Collector x.0) (sym made)) useful (sym (ap (λ (x : StepReply × State). x.1) made)) fine in
     subst (λ n. IsWorld new (record { size = size; mutators = n; entries = items; kept = later })) (sym same)

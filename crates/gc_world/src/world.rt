@@ -233,7 +233,7 @@ ghost use Rattle.gc_core.specs.Flip.{kept_after, PassesIfReady, HasRoomIfLarge};
 ghost use Rattle.gc_plan.specs.declared.step.Step.{Step};
 ghost use Rattle.gc_plan.specs.declared.step.StepReply.{StepReply};
 ghost use Rattle.gc_world.specs.World.{entry_of};
-ghost use Rattle.gc_world.specs.Internal.World.{IsKept};
+ghost use Rattle.gc_world.specs.Internal.World.{IsKeptPair};
 ghost use Rattle.gc_plan.specs.declared.event.Event.{Event};
 ghost use Rattle.gc_plan.specs.declared.event.Answer.{Answer};
 
@@ -272,7 +272,7 @@ fn perform<C: Checks>(
     ensures room { IfOk result (HasRoomIfLarge heap.old) }
     ensures kept { IfOk result (λ reply. option_map pair_in kept.new
         ≡ kept_after (option_map pair_in kept.old) heap.old reply) }
-    ensures certified { IsKept (option_map pair_in kept.old) → IsKept (option_map pair_in kept.new) }
+    ensures certified { IsKeptPair (option_map pair_in kept.old) → IsKeptPair (option_map pair_in kept.new) }
     ensures refused { OnErr result (heap.new ≡ heap.old) }
     ensures unkept { OnErr result (kept.new ≡ kept.old) }
     ensures mutators { heap.new.mutators ≡ heap.old.mutators }

@@ -14,7 +14,7 @@ use Rattle.gc_plan.specs.declared.step.StepReply.{StepReply}
 use Rattle.gc_plan.specs.declared.step.StepReply.TheVariants.{NoRoom, Flipped}
 use Rattle.gcflip_heap_c.specs.Internal.Leaving.{LeavesLess}
 use Rattle.gcflip_heap_c.specs.Work.{with_size, sized_step, goes_on}
-use Rattle.gcflip_heap_c.specs.Readings.{entries_of, logged_in, idle_counts, open_counts, counts_of}
+use Rattle.gcflip_heap_c.specs.Readings.{entry_count, logged_in, idle_counts, open_counts, counts_of}
 use Rattle.gcflip_heap_c.specs.Pace.{steps_left, CountsAll}
 
 pub some_left : (s : State) → 1 ≤ work_left s
@@ -66,18 +66,18 @@ all_entries : (logs : List (List (ℕ × ℕ))) → first_entries logs (length l
 all_entries [] = refl
 all_entries (log ∷ logs) = let first = first_of log logs (length logs) in let others = all_entries logs in omega arith
 
-entries_idle : (s : State) → s.collection ≡ None → (m : ℕ) → entries_of s m ≡ 0
+entries_idle : (s : State) → s.collection ≡ None → (m : ℕ) → entry_count s m ≡ 0
 entries_idle s is zero = refl
 entries_idle s is (suc m) = grind (arith, common_steps, entries_idle s is m)
 
-entries_open : (s : State) (c : Collection) → s.collection ≡ Some c → (m : ℕ) → entries_of s m ≡ first_entries c.logs m
+entries_open : (s : State) (c : Collection) → s.collection ≡ Some c → (m : ℕ) → entry_count s m ≡ first_entries c.logs m
 entries_open s c is zero = refl
 entries_open s c is (suc m) = grind (arith, common_steps, entries_open s c is m)
 
-entries_counted : (s : State) → IfSome s.collection (IsOpened s) → entries_of s s.mutators ≡ entries_left s
+entries_counted : (s : State) → IfSome s.collection (IsOpened s) → entry_count s s.mutators ≡ entries_left s
 entries_counted s k = go s.collection refl k
   where
-    go : (o : Option Collection) → s.collection ≡ o → IfSome o (IsOpened s) → entries_of s s.mutators ≡ option_map_or (λ (c : Collection). entries_in c.logs) o 0
+    go : (o : Option Collection) → s.collection ≡ o → IfSome o (IsOpened s) → entry_count s s.mutators ≡ option_map_or (λ (c : Collection). entries_in c.logs) o 0
     go None is k = entries_idle s is s.mutators
     go (Some c) is k = entries_open s c is s.mutators ∙ (ap (first_entries c.logs) (sym k.logs) ∙ all_entries c.logs)
 

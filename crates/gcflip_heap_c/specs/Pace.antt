@@ -88,7 +88,7 @@ HasEnded t work = ((work.last ≡ 43) ⊎ (work.last ≡ 36)) ⊎ Allocates t (u
 
 -- A collection was open, and each step that was due was performed or is owed. The call neither flipped nor lacked room, and the counts are
 -- exact.
-pub record GoesOn (wanted : ℕ) (s : State) (before : GcflipPace) (work : GcflipWork) : Type 0 where
+pub record WorkGoesOn (wanted : ℕ) (s : State) (before : GcflipPace) (work : GcflipWork) : Type 0 where
   pub collecting : 1 ≤ (counts_of s).is_open
   pub counted : CountsAll (counts_of s)
   pub few : before.owed + spent before (counts_of s) ≤ 4294967295
@@ -115,5 +115,5 @@ pub record IsPacedWork (wanted : ℕ) (s t : State) (before after : GcflipPace) 
   -- The call that begins a collection leaves at most as much work as the heap's end. From then on, no call leaves more than the call before,
   -- besides the steps that it owes. All logs together have fewer entries than the work that is left.
   pub begun : (counts_of s).is_open ≡ 0 → 1 ≤ work.steps → work.last ≢ 43 → work.last ≢ 36 → work_left t ≤ (counts_of s).end
-  pub ahead : (most : ℕ) → GoesOn wanted s before work → IsAhead most before s → IsAhead most after t
+  pub ahead : (most : ℕ) → WorkGoesOn wanted s before work → IsAhead most before s → IsAhead most after t
   pub fewer : (counts_of t).logged < work_left t

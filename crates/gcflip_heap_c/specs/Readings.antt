@@ -7,13 +7,13 @@ use Rattle.gcflip_heap_c.specs.declared.reading.GcflipCounts.{GcflipCounts}
 use Rattle.gcflip_heap_c.specs.declared.reading.GcflipLogEntry.{GcflipLogEntry}
 
 -- the entries in the logs of the first mutators, this many of them
-abbrev pub entries_of : State → ℕ → ℕ
-entries_of s zero = 0
-entries_of s (suc m) = entries_of s m + length (log_of s m)
+abbrev pub entry_count : State → ℕ → ℕ
+entry_count s zero = 0
+entry_count s (suc m) = entry_count s m + length (log_of s m)
 
 -- the entries in all logs, up to the largest number that C's member takes
 abbrev pub logged_in : State → ℕ
-logged_in s = min (entries_of s s.mutators) 4294967295
+logged_in s = min (entry_count s s.mutators) 4294967295
 
 -- the counts of a heap without an open collection
 abbrev pub idle_counts : State → GcflipCounts
@@ -41,8 +41,8 @@ abbrev pub entry_in_c : ℕ × ℕ → GcflipLogEntry
 entry_in_c entry = record { object = entry.0; field = entry.1 }
 
 -- entry k of mutator m's log, if the state has that mutator and the log has that entry
-abbrev pub entry_at : State → ℕ → ℕ → Option GcflipLogEntry
-entry_at s m k = if nat_lt m s.mutators then option_map entry_in_c (slice_get (log_of s m) k) else None
+abbrev pub log_entry_at : State → ℕ → ℕ → Option GcflipLogEntry
+log_entry_at s m k = if nat_lt m s.mutators then option_map entry_in_c (slice_get (log_of s m) k) else None
 
 -- C's arrays are as long as the image's words and roots
 abbrev pub FitsImage : List ℕ → List ℕ → State → Type 0

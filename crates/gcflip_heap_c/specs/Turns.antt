@@ -5,7 +5,7 @@ use Rattle.gc_graph.specs.declared.command.Op.{Op}
 use Rattle.gc_plan.specs.State.{State}
 use Rattle.gc_plan.specs.Steps.{mutate}
 use Rattle.gc_plan.specs.Runs.{HasRange}
-use Rattle.gcflip_heap_c.specs.Pace.{GoesOn, IsPacedWork}
+use Rattle.gcflip_heap_c.specs.Pace.{WorkGoesOn, IsPacedWork}
 use Rattle.gcflip_heap_c.specs.Readings.{counts_of}
 use Rattle.gcflip_heap_c.specs.declared.pace.GcflipPace.{GcflipPace}
 use Rattle.gcflip_heap_c.specs.declared.work.GcflipWork.{GcflipWork}
@@ -30,7 +30,7 @@ AreCommands mutators commands = AllByRecursion (λ command. (command.0 < mutator
 pub record IsTurn (s : State) (pace : GcflipPace) (turn : Turn) : Type 0 where
   pub commands : AreCommands s.mutators turn.commands
   pub work : IsPacedWork turn.wanted (after_commands s turn.commands) turn.state pace turn.pace turn.work
-  pub goes_on : GoesOn turn.wanted (after_commands s turn.commands) pace turn.work
+  pub goes_on : WorkGoesOn turn.wanted (after_commands s turn.commands) pace turn.work
 
 abbrev pub AreTurns : State → GcflipPace → List Turn → Type 0
 AreTurns s pace [] = ⊤

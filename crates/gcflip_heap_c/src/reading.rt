@@ -2,7 +2,7 @@
 
 ghost use Rattle.std.specs.Prelude.{◌≡◌, ◌≤◌, ◌⊎◌, ◌↔◌, None, Some, IfSome, IsSomeAnd, IsTrue, IsFalse, length};
 ghost use Rattle.gc_core.specs.Readings.{heap_image, new_words, log_of};
-ghost use Rattle.gcflip_heap_c.specs.Readings.{counts_of, logged_in, entries_of, entry_at, FitsImage};
+ghost use Rattle.gcflip_heap_c.specs.Readings.{counts_of, logged_in, log_entry_at, FitsImage};
 
 use crate::answer::{CLOSED, DONE, OUT_OF_RANGE};
 use crate::handle::GcflipHeap;
@@ -125,8 +125,8 @@ pub extern "C" fn gcflip_heap_log_length(heap: &mut GcflipHeap, m: u8, count: &m
 
 /// Writes entry `k` of mutator `m`'s log to `entry` if it exists. Returns whether it exists.
 fn copy_entry(heap: &LiveHeap, m: u8, k: usize, entry: &mut GcflipLogEntry) -> bool
-    ensures found { IsTrue result → entry_at heap.now m k ≡ Some entry.new }
-    ensures none { IsFalse result → (entry_at heap.now m k ≡ None) × (entry.new ≡ entry.old) }
+    ensures found { IsTrue result → log_entry_at heap.now m k ≡ Some entry.new }
+    ensures none { IsFalse result → (log_entry_at heap.now m k ≡ None) × (entry.new ≡ entry.old) }
 {
     if m >= heap.mutators() {
         return false;
@@ -150,10 +150,10 @@ pub extern "C" fn gcflip_heap_log_entry(
     entry: &mut GcflipLogEntry,
 ) -> u32
     ensures answers { (result ≡ 0) ⊎ ((result ≡ 2) ⊎ (result ≡ 3)) }
-    ensures entry { result ≡ 0 → IsSomeAnd heap.old.state (λ s. entry_at s m k ≡ Some entry.new) }
+    ensures entry { result ≡ 0 → IsSomeAnd heap.old.state (λ s. log_entry_at s m k ≡ Some entry.new) }
     ensures heap { heap.new.state ≡ heap.old.state }
     ensures silent { 1 ≤ result → entry.new ≡ entry.old }
-    ensures outside { (result ≡ 2) ↔ IsSomeAnd heap.old.state (λ s. entry_at s m k ≡ None) }
+    ensures outside { (result ≡ 2) ↔ IsSomeAnd heap.old.state (λ s. log_entry_at s m k ≡ None) }
     ensures closed { (result ≡ 3) ↔ (heap.old.state ≡ None) }
     ensures former { heap.new.former ≡ heap.old.former }
 {

@@ -2,14 +2,14 @@
 use Rattle.std.specs.Prelude.{◌≡◌, ◌⊎◌, ℕ, List, Option, Some, None, IsFalse, IsTrue}
 use Rattle.gc_plan.specs.State.{Collection, State, heap_end, new_objects}
 use Rattle.gc_plan.specs.Linked.{linked_space, new_links}
-use Rattle.gc_along.specs.Watch.{Watch, opening}
+use Rattle.gc_along.specs.Watch.{Watch, opening_watch}
 use Rattle.gc_beside.specs.Stays.{GoesAlong}
 use Rattle.gc_beside.specs.Knows.{KnowsAll}
 use Rattle.gc_along.specs.Tables.{Tables, watch_of}
 
 -- the watch has seen the heap, and goes along with the open collection, if there is one
 abbrev pub GoesBeside : State → Option Collection → Watch → Type 0
-GoesBeside s None w = w ≡ opening (heap_end s)
+GoesBeside s None w = w ≡ opening_watch (heap_end s)
 GoesBeside s (Some c) w = GoesAlong s.heap.graph.objects (heap_end s) c w
 
 -- the invariant of a heap with a standing checker

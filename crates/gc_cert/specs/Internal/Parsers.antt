@@ -2,7 +2,7 @@
 use Rattle.std.specs.Prelude.{ℕ, ◌==◌, ◌&&◌, Bool, true, false, nat_le, List, [], ◌∷◌, Option, Some, None, if◌then◌else◌}
 use Rattle.std.specs.Str.{bytes_eq}
 use Rattle.gc_graph.specs.Limits.{most_words}
-use Rattle.gc_graph.specs.Tokens.{◌>>=◌, Tokens, number_of, number_at, token_at, if_all_taken}
+use Rattle.gc_graph.specs.Tokens.{◌>>=◌, Tokens, number_of_token, number_at, token_at, if_all_taken}
 use Rattle.gc_cert.specs.Grammar.{heading}
 
 -- each byte is above the digits, so none is a space or a line feed
@@ -20,7 +20,7 @@ raws_in line = if bytes_eq line (heading false) then Some false else if bytes_eq
 
 -- a word of a space or of its roots
 abbrev pub word_in : List ℕ → Option ℕ
-word_in line = number_of 18446744073709551615 line
+word_in line = number_of_token 18446744073709551615 line
 
 -- an old and a new address
 unfoldable pub pair_of : Tokens → Option (ℕ × ℕ)

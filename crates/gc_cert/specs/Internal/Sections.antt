@@ -4,7 +4,7 @@ use Rattle.std.specs.List.{AllByRecursion}
 use Rattle.gc_graph.specs.Lines.{newline, HasNo, text_of}
 use Rattle.gc_cert.specs.declared.fault.PairFault.{PairFault}
 use Rattle.gc_cert.specs.declared.fault.PairFault.TheVariants.{BadLine, EndsEarly, NoMemory}
-use Rattle.gc_cert.specs.Sections.{Place, IsNext}
+use Rattle.gc_cert.specs.Sections.{Place, IsNextLine}
 
 -- which lines are a whole section
 abbrev pub Section : Type 1
@@ -57,7 +57,7 @@ pub record IsCutIn (S : Section) (p : Place) : Type 0 where
 
 -- the fault of a next line that is not allowed there
 abbrev pub IsLineFault : PairFault → Place → Type 0
-IsLineFault (BadLine n) p = (line : List ℕ) × (after : Place) × IsNext line p after × (n ≡ after.taken)
+IsLineFault (BadLine n) p = (line : List ℕ) × (after : Place) × IsNextLine line p after × (n ≡ after.taken)
 IsLineFault EndsEarly p = HasNo newline p.rest
 IsLineFault fault p = ⊥
 

@@ -120,13 +120,13 @@ pub record HoldsVisits (image : Image) (visits : List Visit) (row : List ℕ) : 
   pub numbers : (a : ℕ) → not (slice_index row a == 0) ≡ true → (slice_index row a < length visits) × ((visit_at visits (slice_index row a)).node ≡ node.Object a)
 
 -- the number of each object's visit, by address
-abbrev pub numbers_in : Image → Visits → List ℕ
-numbers_in image visits = by_address image.words visits.numbers
+abbrev pub visit_numbers : Image → Visits → List ℕ
+visit_numbers image visits = by_address image.words visits.numbers
 
 -- all that holds during a walk: the visits, their table, and room for a visit of each object
 pub record HoldsWalk (image : Image) (visits : Visits) : Type 0 where
   pub entries : HasEntries image.words visits.numbers
   pub few : length image.words < 2 ^ 32
   pub list : AreVisits image visits.list.items
-  pub table : HoldsVisits image visits.list.items (numbers_in image visits)
+  pub table : HoldsVisits image visits.list.items (visit_numbers image visits)
   pub room : suc (starts_from image.words 0 (length image.words)) ≤ vec_capacity visits.list

@@ -19,11 +19,11 @@ pub record KnowsRoots (known : KnownRoots) (s : State) : Type 0 where
   pub unused : (k : ℕ) → known.used ≤ k → root s.heap.graph (roots_of s.mutators + k) ≡ Nil
 
 -- the first place of which the marks do not tell, where there are this many slots
-abbrev pub next_place : ℕ → KnownRoots → ℕ
-next_place slots known = if nat_lt known.slots slots then known.slots else slots + known.extra
+abbrev pub next_unknown_root : ℕ → KnownRoots → ℕ
+next_unknown_root slots known = if nat_lt known.slots slots then known.slots else slots + known.extra
 
 -- this root is the first of which the marks do not tell, and it refers to this target
 pub record FindsFirst (known : KnownRoots) (s : State) (missing : MissingRoot) : Type 0 where
-  pub next : missing.place ≡ next_place (roots_of s.mutators) known
+  pub next : missing.place ≡ next_unknown_root (roots_of s.mutators) known
   pub within : missing.place < roots_of s.mutators + known.used
   pub target : root s.heap.graph missing.place ≡ Ref missing.target.0

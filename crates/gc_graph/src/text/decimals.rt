@@ -2,7 +2,7 @@ ghost use Rattle.std.specs.Prelude.{◌≡◌, ◌<◌, ◌≤◌, ◌%◌, ◌^
 ghost use Rattle.std.specs.Str.Parse.{digits_value};
 ghost use Rattle.std.specs.Float.Numeral.{digits_len};
 ghost use Rattle.gc_graph.specs.Fronts.{BeginsWithNumber};
-ghost use Rattle.gc_graph.specs.Tokens.{number_of};
+ghost use Rattle.gc_graph.specs.Tokens.{number_of_token};
 ghost use Rattle.gc_graph.specs.Internal.Tokens.{IsDecimal};
 
 use core::dec2flt::read_digits;
@@ -45,7 +45,7 @@ pub fn front_number(text: &[u8]) -> Option<(u64, &[u8])>
 /// Returns the number that the token spells in decimal, if it is at most `most`.
 #[tactic(auto, using(crate::proofs::Decimals::token_some, crate::proofs::Decimals::token_none, crate::proofs::Decimals::token_other))]
 pub fn number(token: &[u8], most: u64) -> Option<u64>
-    ensures value { result ≡ number_of most token.now }
+    ensures value { result ≡ number_of_token most token.now }
     ensures small { IfSome result (λ n. n ≤ most) }
 {
     let (value, rest) = front_number(token)?;

@@ -7,11 +7,11 @@ use Rattle.gc_world.specs.History.{IsHistory}
 use Rattle.gc_world.specs.World.{Past, present, HasSmallImages}
 
 -- a kept pair is certified, and its images are small
-abbrev pub IsKept : Option CertifiedPair → Type 0
-IsKept kept = IfSome kept (λ pair. IsCertified pair × HasSmallImages pair)
+abbrev pub IsKeptPair : Option CertifiedPair → Type 0
+IsKeptPair kept = IfSome kept (λ pair. IsCertified pair × HasSmallImages pair)
 
 -- the heap is the state that the history leads to
 pub record IsWorld (now : State) (past : Past) : Type 0 where
   pub history : IsHistory past.size past.mutators past.entries
   pub state : now ≡ present past
-  pub kept : IsKept past.kept
+  pub kept : IsKeptPair past.kept

@@ -3,7 +3,7 @@ use Rattle.std.proofs.lemmas.Grind.{common_steps}
 use Rattle.std.proofs.Common.{rules, ◌≡◌, ◌++◌, ◌∷◌, [], length, set, true, suc, ◌≤◌, subst, sym, arith}
 use Rattle.gc_words.specs.Image.{is_start}
 use Rattle.gc_check.specs.Internal.Starts.{starts_from}
-use Rattle.gc_check.specs.Internal.Visits.{HoldsVisits, numbers_in}
+use Rattle.gc_check.specs.Internal.Visits.{HoldsVisits, visit_numbers}
 use Rattle.gc_check.proofs.Breadth.{few_visits, visits_pushed, table_pushed, still_within}
 use Rattle.gc_check.proofs.visits.visit_object.Goals as goal
 
@@ -24,9 +24,9 @@ returns-clause-held c =
       entries = c.set.ensures.entries;
       few = c.requires.held.few;
       list = visits_pushed image before after c.args.found pushed c.requires.held.list c.args.address start c.requires.from c.requires.node c.requires.depth c.requires.near c.requires.refers;
-      table = subst (HoldsVisits image after) (sym c.set.ensures.number) (subst (λ n. HoldsVisits image after (set (numbers_in image c.args.visits.now) c.args.address n)) (sym (search rules))
+      table = subst (HoldsVisits image after) (sym c.set.ensures.number) (subst (λ n. HoldsVisits image after (set (visit_numbers image c.args.visits.now) c.args.address n)) (sym (search rules))
           (table_pushed image before after c.args.found pushed c.requires.held.list c.args.address start c.requires.from c.requires.node c.requires.depth c.requires.near c.requires.refers
-          (numbers_in image c.args.visits.now) (search rules) (search rules) c.requires.held.table));
+          (visit_numbers image c.args.visits.now) (search rules) (search rules) c.requires.held.table));
       room = subst (λ n. suc (starts_from image.words 0 (length image.words)) ≤ n) (sym (search rules)) c.requires.held.room;
     }
 

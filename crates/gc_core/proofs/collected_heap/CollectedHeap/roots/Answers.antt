@@ -6,7 +6,7 @@ use Rattle.gc_copy.specs.Words.{collection_in, open_state}
 use Rattle.gc_plan.specs.declared.step.Step.TheVariants as steps
 use Rattle.gc_plan.specs.declared.step.StepReply.{StepReply}
 use Rattle.gc_plan.specs.Staying.{KnowsRoot}
-use Rattle.gc_core.specs.Internal.KnownRoots.{KnowsRoots, next_place}
+use Rattle.gc_core.specs.Internal.KnownRoots.{KnowsRoots, next_unknown_root}
 use Rattle.gc_core.specs.declared.known.KnownRoots.{KnownRoots}
 use Rattle.gc_core.proofs.Marks.{step_knows, copied_knows}
 use Rattle.gc_core.proofs.collected_heap.CollectedHeap.roots.Goals as goal
@@ -25,7 +25,7 @@ invariant_of-self-2 c =
             let copied = copied_knows known before after (collection_in c.in-Some.collection) c.search-missing.result.missing refl c.search-missing.ensures.first c.search-missing.ensures.next
             (c.replicate_root-reply.ensures.step ∙ ap (λ (r : StepReply). (r, after)) w.in-Copied.is) in
             subst (λ (k : KnownRoots). KnowsRoots k after) (sym w.self-is)
-            (w.advanced-self-inside.ensures.knows after slots knows (subst (λ n. KnowsRoot after (next_place n known)) (sym (slots ∙ ap roots_of c.replicate_root-reply.ensures.mutators)) copied)))
+            (w.advanced-self-inside.ensures.knows after slots knows (subst (λ n. KnowsRoot after (next_unknown_root n known)) (sym (slots ∙ ap roots_of c.replicate_root-reply.ensures.mutators)) copied)))
         | in_default-reply w ↦ subst (λ (k : KnownRoots). KnowsRoots k after) (sym w.self-is) knows
       ],
       elim c.match-reply.branch [

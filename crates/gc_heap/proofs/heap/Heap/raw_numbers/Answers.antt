@@ -1,13 +1,13 @@
 -- The field words of the raw object in the slot are its numbers, and any other object has none.
 use Rattle.std.proofs.lemmas.Grind.{common_steps}
 use Rattle.std.proofs.Common.{◌≡◌, ◌<◌, ◌≤◌, ℕ, List, [], ◌∷◌, map, length, Bool, Some, None, true, cond, refl, sym, ap, ◌∙◌, subst, arith}
-use Rattle.gc_graph.specs.Graph.{Num, object_of, root}
+use Rattle.gc_graph.specs.Graph.{Num, object_of, root, number_of}
 use Rattle.gc_graph.specs.Slots.{roots_of}
 use Rattle.gc_words.specs.Word.{value_of, field_value}
 use Rattle.gc_words.specs.Image.{block_at}
 use Rattle.gc_words.specs.declared.header.Header.{Header}
 use Rattle.gc_heap.specs.Heap.{HeapWords, IsHeap, graph_in}
-use Rattle.gc_heap.specs.Raws.{number_of, numbers_in}
+use Rattle.gc_heap.specs.Raws.{numbers_in}
 use Rattle.gc_heap.proofs.Commands.{Points, points, read_root}
 use Rattle.gc_heap.proofs.heap.Heap.raw_numbers.Goals as goal
 
