@@ -161,8 +161,8 @@ module _ (heap : HeapWords) (x : CollectionWords) (space : SpaceWords) (heap_is 
 
   pub flip_is : flip (open_state heap x) (collection_in x) ≡ (Flipped (length (pairs_of (collection_in x))), idle_state (record heap { space = space; roots = new_root_words heap (collection_in x) }))
   flip_is =
-    flips (open_state heap x) (collection_in x) old_ok (opened heap x is k) ready
-    ∙ (λ i. (Flipped (counted i), state_after i))
+      flips (open_state heap x) (collection_in x) old_ok (opened heap x is k) ready
+      ∙ (λ i. (Flipped (counted i), state_after i))
     where
       counted : length (collection_in x).replicas ≡ length (pairs_of (collection_in x))
       counted = grind (arith, common_steps, length-map)
