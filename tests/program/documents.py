@@ -1,5 +1,6 @@
 """Tests of the documents: what they cite exists, what they quote is in the code, and the commands that they show print what the
 documents say. Each must-fail edit can be applied."""
+import collections
 import glob
 import os
 import re
@@ -9,7 +10,7 @@ import sys
 
 from prover.axioms import PRODUCTS, counts_in, lines_to_keep, row_of, verdict_of
 from prover.crates import CRATES, TOP, crates_listed
-from prover.doors import faults, imports_of, rows
+from prover.doors import faults, imports_of, public_for_nobody, rows
 from prover.edits import BadEdit, Edit, edits_of
 from prover.meanings import unlisted
 
@@ -464,13 +465,59 @@ IMPORTS = [("use Rattle.gc_words.proofs.Walks.{a, b as c}", [("gc_words", "Walks
            ("use Rattle.gc_heap.proofs.Commands.{a}\nuse Rattle.std.proofs.Common.{a}", []), ("use Rattle.gc_words.proofs.space.Space.TheLaws as laws", [])]
 
 
+# A proof file and another file of its crate, with the lemmas of the first that are public for nobody.
+LEMMAS = [("pub a : A\na = b\n", "use Rattle.c.proofs.One.{a}", []), ("pub a : A\na = b\n", "", ["a"]), ("a : A\na = b\n", "", []),
+          ("pub a : A\n    → B\na x = b\n\npub c : IsSome a\nc = d\n", "using(crate::proofs::One::c)", []), ("pub a-b : A\na-b x = b\n", "a", ["a-b"]),
+          ("  pub a : A\n  a x = b\n\n  pub c : A\n  c = a\n", "c", ["a"]), ("record A : Type 0 where\n  pub a : A\n\nabbrev pub b : A\nb = a\n", "", [])]
+
+
 def doors(_program, _folder):
-    """Proofs cite other crates' proofs through proofs/Public.antt alone, which passes on nothing that no crate cites."""
+    """Proofs cite other crates' proofs through proofs/Public.antt alone, which passes on nothing that no crate cites. A lemma is public only for another file."""
     yield "doors", "; ".join(list(faults())[:10]) or None
     yield "crates with a door", None if list(rows()) else "none"
     for text, wanted in IMPORTS:
         found = list(imports_of("gc_heap", text))
         yield "imports in %r" % text, None if found == wanted else "found %s" % found
+    for text, other, wanted in LEMMAS:
+        found = [name for _, name in public_for_nobody({"proofs/One.antt": text, "src/other.rt": other})]
+        yield "public lemmas in %r beside %r" % (text, other), None if found == wanted else "found %s" % found
+
+
+# ---- lines that the answers of a proof file repeat
+
+# How many lines in a row two declarations may not share, if each begins with `let`.
+REPEATED = 3
+
+
+def repeated_lines(text):
+    """Yields the first of each run of lines that two declarations of a proof file repeat, each a `let`."""
+    starts = collections.defaultdict(set)
+    declaration, lines = 0, []
+    for line in text.split("\n"):
+        if line[:1].strip():
+            declaration, lines = declaration + 1, []
+        lines = (lines + [line.strip()])[-REPEATED:]
+        if len(lines) == REPEATED and all(each.startswith("let ") for each in lines):
+            starts[tuple(lines)].add(declaration)
+    yield from (run[0] for run, places in starts.items() if len(places) > 1)
+
+
+# Two answers, with the first lines of what they repeat.
+TWO_ANSWERS = "use Rattle.a.B.{c}\n\npub a : A\na c =\n%s    d\n\npub b : B\nb c =\n%s    e\n"
+LETS = ["    let p = 1 in\n", "    let q = 2 in\n", "    let r = 3 in\n"]
+ANSWERS = [("".join(LETS), "".join(LETS), ["let p = 1 in"]), ("".join(LETS[:2]), "".join(LETS[:2]), []), ("".join(LETS), "".join(LETS[1:]), []),
+           ("".join(LETS * 2), "", []), ("    f\n" + "".join(LETS), "".join(LETS) + "    g\n", ["let p = 1 in"]), ("    x;\n    y;\n    z;\n", "    x;\n    y;\n    z;\n", [])]
+
+
+def preambles(_program, _folder):
+    """What several answers of a proof file need stands once in it: no two repeat three lines that name facts."""
+    for path in sorted(glob.glob(os.path.join(TOP, "crates", "*", "proofs", "**", "*.antt"), recursive=True)):
+        found = list(repeated_lines(text_of(os.path.relpath(path, TOP))))
+        if found:
+            yield "answers in %s" % os.path.relpath(path, TOP), "two repeat %r" % found[0]
+    for one, other, wanted in ANSWERS:
+        found = list(repeated_lines(TWO_ANSWERS % (one, other)))
+        yield "answers with %r and %r" % (one, other), None if found == wanted else "found %s" % found
 
 
 # ---- first lines of proof files
@@ -876,4 +923,4 @@ def applied_edits(_program, _folder):
             yield "edit %s/%s" % (crate, name), why_not_applied(crate, name)
 
 
-GROUPS = [names, words, files, memory_answers, names_of_calls, old_names, edits, edits_in_ci, crates_tried, hand_tried, doors, first_lines, meanings, applied_edits, quotes, names_in_c, outputs_in_c, c_of_readme, adapter_shown, first_screen, commands, commands_of_tables, definitions, counts, products, architecture, glossary, told_again, axioms]
+GROUPS = [names, words, files, memory_answers, names_of_calls, old_names, edits, edits_in_ci, crates_tried, hand_tried, doors, preambles, first_lines, meanings, applied_edits, quotes, names_in_c, outputs_in_c, c_of_readme, adapter_shown, first_screen, commands, commands_of_tables, definitions, counts, products, architecture, glossary, told_again, axioms]

@@ -1,7 +1,7 @@
 """The door of each crate: proofs/Public.antt passes on what the proofs of other crates cite of its proofs, and declares nothing.
 
 Whoever changes a crate's proofs sees there on which lemmas others rest. No other import leads across crates, except those of the modules that
-the prover writes for each type, which have names like TheLaws.
+the prover writes for each type, which have names like TheLaws. Within a crate too, a lemma is public only if another file cites it.
 """
 import collections
 import os
@@ -14,6 +14,11 @@ WHOLE = re.compile(r"(?m)^(?:ghost |pub )?use Rattle\.(\w+)\.proofs\.([\w.]+)(?:
 # A lemma in an attribute of a function.
 PATH = re.compile(r"\b(\w+)::proofs::([\w:]+)::([\w◌-]+)")
 OF_A_TYPE = re.compile(r"(?:^|\.)The[A-Z]\w+$")
+# A public lemma, with its statement, up to the line that proves it. A definition has a word beside `pub`, or a capital.
+LEMMA = re.compile(r"(?m)^ *pub ([a-z][^\s:()]*) :(?:(?!\n\n)(?:.|\n))*?(?=\n *\1(?:\s|$))")
+NAME = re.compile(r"[^\s(){},;.:\[\]←`'\"]+")
+# What the prover asks of a function has names that it looks for.
+ANSWERS = ("Answers.antt", "Invariants.antt", "Proof.antt", "Send.antt", "Sync.antt")
 DOOR = "Public"
 ALL = "all"
 HEAD = "-- What proofs of other crates cite of this crate, passed on from one place. Declares nothing.\n"
@@ -69,8 +74,21 @@ def cited():
     return found
 
 
+def public_for_nobody(texts):
+    """Yields each public lemma of a crate's proofs that none of its other files names, and no statement of another public lemma, with its file.
+    Takes the texts of the crate's files, by their paths from its folder."""
+    named_in = collections.defaultdict(set)
+    for path, text in texts.items():
+        for name in set(NAME.findall(text)):
+            named_in[name].add(path)
+    for path, text in texts.items():
+        if path.startswith("proofs/") and os.path.basename(path) not in ANSWERS:
+            stated = {match.group(1): set(NAME.findall(match.group(0))) for match in LEMMA.finditer(text)}
+            yield from ((path, name) for name in stated if named_in[name] == {path} and not any(name in stated[other] for other in stated if other != name))
+
+
 def faults():
-    """Yields what is wrong: an import beside the door, and a name that is passed on for nobody."""
+    """Yields what is wrong: an import beside the door, a name that is passed on for nobody, and a lemma that is public for nobody."""
     of_crates = cited()
     for crate in crates_listed():
         passed = passed_on(crate)
@@ -85,6 +103,9 @@ def faults():
                 for line in file.read().split("\n"):
                     if line and not line.startswith(("--", "pub use Rattle.%s.proofs." % crate)):
                         yield "%s declares something: %s" % (os.path.relpath(door_of(crate), CRATES), line)
+        texts = {os.path.relpath(path, os.path.join(CRATES, crate)): text for path, text in sources(crate)}
+        for path, name in public_for_nobody(texts):
+            yield "%s/%s: %s is public, and no other file cites it" % (crate, path, name)
 
 
 def rows():

@@ -7,24 +7,24 @@ use Rattle.std.proofs.lemmas.Nat.Bits.{ones_shr}
 use Rattle.gc_along.specs.Internal.InWords.{code_in, freed}
 
 -- a power of 4
-pub quad : ℕ → ℕ
+quad : ℕ → ℕ
 quad zero = 1
 quad (suc k) = 4 * quad k
 
 twice : (k : ℕ) → 2 * suc k ≡ 2 + 2 * k
 twice k = omega arith
 
-pub quad_is : (k : ℕ) → quad k ≡ 2 ^ (2 * k)
+quad_is : (k : ℕ) → quad k ≡ 2 ^ (2 * k)
 unfolding quad
 quad_is zero = refl
 quad_is (suc k) = ap (λ n. 4 * n) (quad_is k) ∙ sym (pow-add 2 2 (2 * k)) ∙ ap (λ n. 2 ^ n) (sym (twice k))
 
 -- the same code, by one step for each code below it
-pub digit : ℕ → ℕ → ℕ
+digit : ℕ → ℕ → ℕ
 digit word zero = word % 4
 digit word (suc k) = digit (word / 4) k
 
-pub digit_is : (word k : ℕ) → digit word k ≡ code_in word k
+digit_is : (word k : ℕ) → digit word k ≡ code_in word k
 unfolding digit
 digit_is word zero = omega arith
 digit_is word (suc k) = digit_is (word / 4) k ∙ ap (λ n. n % 4) (shr-shr word 2 (2 * k) ∙ ap (λ n. word / 2 ^ n) (sym (twice k)))

@@ -1,6 +1,6 @@
 -- Codes that are freed, and what codes stand for in an epoch.
 use Rattle.std.proofs.lemmas.Grind.{common_steps}
-use Rattle.std.proofs.Common.{◌≡◌, ◌≢◌, ◌⊎◌, inl, inr, ℕ, zero, suc, ◌+◌, ◌/◌, ◌%◌, ◌<◌, ◌≤◌, ◌==◌, Bool, true, false, if◌then◌else◌, List, [], ◌∷◌, ◌++◌, length, set, get_or, replicate, refl, sym, ◌∙◌, ap, subst, arith, length-append, length-set, get_or-set_same, get_or-set_other}
+use Rattle.std.proofs.Common.{◌≡◌, ◌≢◌, ℕ, zero, suc, ◌+◌, ◌/◌, ◌%◌, ◌<◌, ◌≤◌, ◌==◌, Bool, if◌then◌else◌, List, [], ◌∷◌, ◌++◌, length, set, get_or, replicate, refl, sym, ◌∙◌, ap, arith, length-set, get_or-set_same, get_or-set_other}
 use Rattle.std.specs.Prelude.{slice_index_or}
 use Rattle.std.proofs.lemmas.Bool.{cases_eq, cases_lt}
 use Rattle.std.proofs.lemmas.List.{get_or_past, ext_get_or}
@@ -37,7 +37,7 @@ now_first from [] = refl
 now_first from (c ∷ codes) = ap (λ cs. c ∷ cs) (now_first (suc from) codes)
 
 -- a row that has at each place what the codes stand for
-pub now_is : (epochs : List ℕ) (epoch : ℕ) (codes row : List ℕ) → length row ≡ length codes → ((i : ℕ) → get_or row i 0 ≡ code_now epochs epoch i (get_or codes i 0)) → row ≡ codes_now epochs epoch 0 codes
+now_is : (epochs : List ℕ) (epoch : ℕ) (codes row : List ℕ) → length row ≡ length codes → ((i : ℕ) → get_or row i 0 ≡ code_now epochs epoch i (get_or codes i 0)) → row ≡ codes_now epochs epoch 0 codes
 now_is epochs epoch codes row len each = ext_get_or 0 row (codes_now epochs epoch 0 codes) (len ∙ sym (length-now epochs epoch 0 codes)) (λ i within. each i ∙ sym (now_at epochs epoch codes i))
 
 pub now_set : (epochs : List ℕ) (epoch from : ℕ) (codes : List ℕ) (i code : ℕ) → codes_now epochs epoch from (set codes i code) ≡ set (codes_now epochs epoch from codes) i (code_now epochs epoch (from + i) code)

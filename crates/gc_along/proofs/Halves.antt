@@ -13,7 +13,7 @@ use Rattle.gc_along.proofs.Packed.{zeros_at, zeros_behind}
 
 -- ---- marks
 
-pub marked_is : (bits : List ℕ) (place : ℕ) → (bit_and (slice_index bits (place / 64) / 2 ^ (place % 64)) 1 == 1) ≡ starts_at bits place
+marked_is : (bits : List ℕ) (place : ℕ) → (bit_and (slice_index bits (place / 64) / 2 ^ (place % 64)) 1 == 1) ≡ starts_at bits place
 unfolding starts_at
 marked_is bits place = ap (λ b. b == 1) (shr_and_one (slice_index bits (place / 64)) (place % 64))
 

@@ -1,6 +1,6 @@
 -- The rows of the tables agree, whatever happens.
 use Rattle.std.proofs.lemmas.Grind.{common_steps}
-use Rattle.std.proofs.Common.{◌≡◌, ◌⊎◌, inl, inr, ℕ, zero, suc, ◌+◌, ◌<◌, ◌≤◌, ◌==◌, Bool, true, false, not, List, [], ◌∷◌, ◌++◌, length, set, get_or, replicate, refl, sym, ◌∙◌, ap, subst, arith}
+use Rattle.std.proofs.Common.{◌≡◌, ◌⊎◌, inl, inr, ℕ, zero, suc, ◌+◌, ◌<◌, ◌≤◌, ◌==◌, Bool, true, false, not, List, [], ◌∷◌, ◌++◌, length, set, get_or, replicate, refl, sym, ◌∙◌, ap, arith}
 use Rattle.std.specs.Prelude.{if◌then◌else◌}
 use Rattle.std.specs.List.{sum_by}
 use Rattle.std.proofs.lemmas.Bool.{cases_eq, cases_lt}
@@ -71,11 +71,6 @@ origin_there (x ∷ xs) a n (suc b) low = origin_there xs a n b low
 
 pub kept_replica : (t : Tables) (h : Header) (a : ℕ) (due : Bool) → length t.news + (h.len + 2) ≤ 4294967295 → get_or t.olds a 0 ≡ 1 → IsKept t → IsKept (replica_added t h a due)
 kept_replica t h a due bound start k = grind (arith, common_steps, codes_length, length-replicate, get_or-set_same, within_row, origin_there, cases_eq, get_or-set_other)
-
--- ---- originals without their replicas
-
-abbrev pub IsFreedAt : List ℕ → List ℕ → ℕ → Type 0
-IsFreedAt before after a = (get_or after a 0 ≡ get_or before a 0) ⊎ ((get_or before a 0 ≡ 2) × (get_or after a 0 ≡ 1))
 
 -- ---- the fields as they are written
 

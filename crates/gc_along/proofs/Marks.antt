@@ -1,15 +1,15 @@
 -- The marks of a row are starts, whatever happens.
 use Rattle.std.proofs.lemmas.Grind.{common_steps}
-use Rattle.std.proofs.Common.{◌≡◌, ◌⊎◌, inl, inr, ⊎_elim, ℕ, zero, suc, ◌+◌, ◌<◌, ◌≤◌, Bool, true, List, [], ◌∷◌, ◌++◌, length, set, get_or, take, replicate, is_some, refl, sym, ◌∙◌, ap, subst, arith, length-append}
+use Rattle.std.proofs.Common.{◌≡◌, ◌⊎◌, inl, inr, ⊎_elim, ℕ, zero, suc, ◌+◌, ◌<◌, true, List, [], ◌∷◌, ◌++◌, length, set, get_or, take, replicate, is_some, refl, sym, ◌∙◌, ap, subst, arith, length-append}
 use Rattle.std.specs.Prelude.{slice_set, IsSome}
 use Rattle.std.proofs.lemmas.Bool.{cases_eq}
-use Rattle.std.proofs.lemmas.List.{get_or-set_other, take-append-le}
+use Rattle.std.proofs.lemmas.List.{get_or-set_other}
 use Rattle.gc_words.specs.Image.{is_start, field_at}
 use Rattle.gc_words.specs.Layout.{field_place, link_place}
 use Rattle.gc_words.specs.declared.header.Header.{Header}
 use Rattle.gc_words.proofs.Public.{some_of}
 use Rattle.gc_along.specs.Watch.{IsSeen, IsNext}
-use Rattle.gc_along.specs.Events.{code_of, object_codes}
+use Rattle.gc_along.specs.Events.{object_codes}
 use Rattle.gc_along.specs.Telling.{IsMark, MarksAreStarts}
 use Rattle.gc_along.proofs.Kept.{codes_length}
 use Rattle.gc_along.proofs.Walked.{kept, came}

@@ -1,6 +1,6 @@
 -- The codes of places, as words hold them.
 use Rattle.std.proofs.lemmas.Grind.{common_steps}
-use Rattle.std.proofs.Common.{◌≡◌, ◌≢◌, ◌⊎◌, inl, inr, ℕ, zero, suc, ◌+◌, ◌-◌, ◌/◌, ◌%◌, ◌<◌, ◌≤◌, List, [], ◌∷◌, ◌++◌, length, take, set, get_or, replicate, refl, sym, ◌∙◌, ap, subst, arith, length-append, length-set, get_or-set_same, get_or-set_other, rules}
+use Rattle.std.proofs.Common.{◌≡◌, ◌≢◌, ◌⊎◌, inl, inr, ℕ, suc, ◌+◌, ◌-◌, ◌/◌, ◌%◌, ◌<◌, ◌≤◌, List, [], ◌∷◌, ◌++◌, length, take, set, get_or, replicate, refl, sym, ◌∙◌, ap, subst, arith, length-append, length-set, get_or-set_same, get_or-set_other, rules}
 use Rattle.std.specs.Prelude.{slice_index}
 use Rattle.std.proofs.lemmas.Bool.{cases_eq, cases_lt}
 use Rattle.std.proofs.lemmas.List.{length-replicate, length-take-le, get_or-take, get_or_append_left, get_or-append_right, get_or-replicate, get_or_default, get_or_past, ext_get_or}
@@ -11,7 +11,7 @@ pub length-codes : (words : List ℕ) (len : ℕ) → length (codes_in words len
 unfolding codes_in
 length-codes words len = length-map-range_with_len (code_at words) 0 len
 
-pub codes_at : (words : List ℕ) (len place : ℕ) → place < len → get_or (codes_in words len) place 0 ≡ code_at words place
+codes_at : (words : List ℕ) (len place : ℕ) → place < len → get_or (codes_in words len) place 0 ≡ code_at words place
 unfolding codes_in
 codes_at words len place inside = get_or-map-range_with_len (code_at words) 0 len place place 0 inside (omega arith)
 
@@ -73,7 +73,7 @@ more_at : (words : List ℕ) (n place : ℕ) → code_at (words ++ replicate n 0
 unfolding code_at
 more_at words n place = ap (λ n. code_in n (place % 32)) (zeros_behind words n (place / 32))
 
-pub codes_more : (words : List ℕ) (len n places : ℕ) → HasCodes words len → codes_in (words ++ replicate n 0) (len + places) ≡ codes_in words len ++ replicate places 0
+codes_more : (words : List ℕ) (len n places : ℕ) → HasCodes words len → codes_in (words ++ replicate n 0) (len + places) ≡ codes_in words len ++ replicate places 0
 codes_more words len n places h =
     ext_get_or 0 (codes_in (words ++ replicate n 0) (len + places)) (codes_in words len ++ replicate places 0)
     (length-codes (words ++ replicate n 0) (len + places) ∙ sym (length-append (codes_in words len) (replicate places 0) ∙ (λ i. length-codes words len i + length-replicate {A = ℕ} places 0 i)))
@@ -83,7 +83,7 @@ codes_more words len n places h =
     same : (place : ℕ) → get_or (codes_in words len) place 0 ≡ code_at words place
     same place = grind (arith, common_steps, cases_lt, codes_at, get_or_past, length-codes)
 
-pub has_codes_more : (words : List ℕ) (len n places : ℕ) → HasCodes words len → (len + places + 31) / 32 ≤ length words + n → length words + n ≤ 134217728 → HasCodes (words ++ replicate n 0) (len + places)
+has_codes_more : (words : List ℕ) (len n places : ℕ) → HasCodes words len → (len + places + 31) / 32 ≤ length words + n → length words + n ≤ 134217728 → HasCodes (words ++ replicate n 0) (len + places)
 has_codes_more words len n places h count few = grind (arith, common_steps, length-replicate, more_at)
 
 -- ---- the row of place 0

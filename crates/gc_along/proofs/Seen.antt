@@ -17,10 +17,10 @@ use Rattle.gc_along.specs.Watch.{Watch, IsSeen, IsWatched, Watches, HasSeenAll, 
 pub all_of : (n : ℕ) (words : List ℕ) → n ≡ length words → take n words ≡ words
 all_of n words e = take_all n words (omega arith)
 
-pub shape_of : (n : ℕ) (words : List ℕ) → IsSeen n words → n ≡ length words → HasShape true 4294967295 (length words) words
+shape_of : (n : ℕ) (words : List ℕ) → IsSeen n words → n ≡ length words → HasShape true 4294967295 (length words) words
 shape_of n words seen e = subst (λ ws. HasShape true 4294967295 (length ws) ws) (all_of n words e) seen.space
 
-pub shaped_of : (n : ℕ) (image : Image) → IsSeen n image.words → n ≡ length image.words → IsSized (outline_of image) → IsShaped image
+shaped_of : (n : ℕ) (image : Image) → IsSeen n image.words → n ≡ length image.words → IsSized (outline_of image) → IsShaped image
 shaped_of n image seen e sized = grind (arith, common_steps, shape_of)
 
 pub none_in : (ds : List Bool) → list_all (λ d. bit d == 0) ds ≡ true → (place : ℕ) → get_or ds place false ≡ false

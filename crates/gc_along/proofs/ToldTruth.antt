@@ -3,12 +3,10 @@ use Rattle.std.proofs.lemmas.Grind.{common_steps}
 use Rattle.std.proofs.Common.{◌≡◌, ◌≢◌, inl, inr, ⊎_elim, ℕ, zero, suc, ◌+◌, ◌-◌, ◌<◌, ◌≤◌, ◌==◌, Bool, true, false, not, List, [], ◌∷◌, ◌++◌, length, set, get_or, take, drop, replicate, Option, Some, is_some, All, AllPairs, refl, sym, ◌∙◌, ap, subst, arith, length-append, length-set, length-take, set-set, rules}
 use Rattle.std.specs.Prelude.{slice_set, slice_index, IsSome}
 use Rattle.std.proofs.lemmas.Bool.{cases_eq, cases_lt, eq-eqb}
-use Rattle.std.proofs.lemmas.List.{take-append-le, drop-take, take-take, get_or-take, get_or_default, get_or-set_same, length-replicate, length-map}
-use Rattle.std.proofs.lemmas.List.Elements.{All-push}
-use Rattle.std.proofs.lemmas.List.Quantifiers.{all_pairs_push}
+use Rattle.std.proofs.lemmas.List.{take-append-le, drop-take, take-take, get_or-take, get_or_default, get_or-set_same, length-map}
 use Rattle.std.proofs.lemmas.Option.{slice_get-get_or}
 use Rattle.gc_words.specs.Word.{read_header, field_words_correspond}
-use Rattle.gc_words.specs.Image.{Image, Block, block_at, header_of, header_at, is_start, field_in, field_at}
+use Rattle.gc_words.specs.Image.{Image, Block, header_of, header_at, is_start, field_in, field_at}
 use Rattle.gc_words.specs.Walking.{StandsIn, block_from}
 use Rattle.gc_words.specs.Certificate.{Certified}
 use Rattle.gc_words.specs.Layout.{field_place, link_place}
@@ -23,15 +21,15 @@ use Rattle.gc_along.specs.Events.{code_of, object_codes, with_news, with_due, ol
 use Rattle.gc_along.proofs.Codes.{code_set}
 use Rattle.gc_along.proofs.Kept.{kept_due, kept_old, kept_replica, map_append, codes_length, code_is}
 use Rattle.gc_along.proofs.Origins.{placed as pairs_placed}
-use Rattle.gc_along.proofs.Looks.{watched_by, taken_for_due, compared}
-use Rattle.gc_along.proofs.Walked.{begun, old_goes_on, paired_next, replicated, replicated_next, seen_next, kept, came, grown, true_stays, fields_more, below_seen}
+use Rattle.gc_along.proofs.Looks.{taken_for_due, compared}
+use Rattle.gc_along.proofs.Walked.{begun, old_goes_on, paired_next, replicated, replicated_next, kept}
 use Rattle.gc_along.proofs.Written.{old_field, new_field, old_link, new_link}
 use Rattle.gc_along.proofs.Marks.{no_zero, marks_more, marks_set, marks_taken, marks_written, marks_linked}
 
 -- ---- the pairs of a row of originals
 
 -- each pair is an original of the row
-pub pair_told : (at : ℕ) (xs : List ℕ) (k : ℕ) (d : ℕ × ℕ) → k < length (pairs_from at xs)
+pair_told : (at : ℕ) (xs : List ℕ) (k : ℕ) (d : ℕ × ℕ) → k < length (pairs_from at xs)
     → (b : ℕ) × (1 ≤ (get_or (pairs_from at xs) k d).0) × ((get_or (pairs_from at xs) k d).1 ≡ at + b) × (get_or xs b 0 ≡ (get_or (pairs_from at xs) k d).0)
 pair_told at [] k d l = absurd (omega arith)
 pair_told at (zero ∷ xs) k d l =
@@ -43,7 +41,7 @@ pair_told at (suc c ∷ xs) (suc k) d l =
     (suc h.0, h.1, (let e : (get_or (pairs_from (suc at) xs) k d).1 ≡ suc at + h.0 = h.2 in omega arith), h.3)
 
 -- each original of the row is in a pair
-pub listed : (at : ℕ) (xs : List ℕ) (a b : ℕ) → 1 ≤ a → get_or xs b 0 ≡ a → (k : ℕ) × (k < length (pairs_from at xs)) × (get_or (pairs_from at xs) k (0, 0) ≡ (a, at + b))
+listed : (at : ℕ) (xs : List ℕ) (a b : ℕ) → 1 ≤ a → get_or xs b 0 ≡ a → (k : ℕ) × (k < length (pairs_from at xs)) × (get_or (pairs_from at xs) k (0, 0) ≡ (a, at + b))
 listed at [] a b low e = absurd (let z : 0 ≡ a = e in omega arith)
 listed at (zero ∷ xs) a zero low e = absurd (let z : 0 ≡ a = e in omega arith)
 listed at (zero ∷ xs) a (suc b) low e =
@@ -124,7 +122,7 @@ module _ (old new : List ℕ) (w : Watch) (a : ℕ) (h : Header) (is : Watches o
   the_copy : (o : Option Block) → seen_at w.old_seen old a ≡ o → header_of o ≡ Some h → IsWatched (replicated w a h false) w.new_seen o (Some (block_from new w.new_seen h))
   the_copy o at e = grind (arith, common_steps, eq-eqb)
 
-  pub copied_next : Watches old new (replicated w a h false)
+  copied_next : Watches old new (replicated w a h false)
   copied_next = replicated_next old new w a h false is once next (the_copy (seen_at w.old_seen old a) refl found)
 
 module _ (old new : List ℕ) (t : Tables) (h : Header) (a : ℕ) (tells : Tells old new t) (claim : IsClaim old new t h a) where
@@ -158,10 +156,10 @@ module _ (old new : List ℕ) (t : Tables) (h : Header) (a : ℕ) (tells : Tells
   added_tells : (due : Bool) → Watches old new (replicated (watch_of t) a h due) → Tells old new (replica_added t h a due)
   added_tells due watches = search (rules, kept, its_kept, watch_added, marks_taken, start_at, marks_more, no_zero)
 
-  pub due_tells : Tells old new (replica_added t h a true)
+  due_tells : Tells old new (replica_added t h a true)
   due_tells = added_tells true (paired_next old new (watch_of t) a h tells.watches found_header not_paired claim.next)
 
-  pub copy_tells : IsCopy old new h a (length t.news) → Tells old new (replica_added t h a false)
+  copy_tells : IsCopy old new h a (length t.news) → Tells old new (replica_added t h a false)
   copy_tells copy = added_tells false (copied_next old new (watch_of t) a h tells.watches found_header not_paired claim.next copy.raw (λ c at.
       let one : the_block.0 ≡ c = (let s : Some the_block.0 ≡ Some c = sym the_block.1 ∙ at in cc) in
       let len : the_block.0.header.len ≡ h.len = ap (λ (h : Header). h.len) its_header in
@@ -231,7 +229,7 @@ module _ (n : ℕ) (words : List ℕ) (a i : ℕ) (b : Block) (seen : IsSeen n w
     pub has_field : IsSome (field_at (take n words) a i)
     has_field = ap (λ o. is_some (field_in o i)) at ∙ ap is_some (slice_get-get_or b.fields i 0 (omega (arith, stands_at.whole.fields)))
 
-    pub field_word : field_at (take n words) a i ≡ Some (slice_index words (field_place a i))
+    field_word : field_at (take n words) a i ≡ Some (slice_index words (field_place a i))
     field_word = (field_read (take n words) a i seen.space.walked has_field).word ∙ ap Some (get_or-take n words (field_place a i) 0 (omega (arith, inside_of)))
 
 -- the field of a replica, and that of its original

@@ -1,16 +1,13 @@
 -- The walks gone on, and objects paired.
 use Rattle.std.proofs.lemmas.Grind.{common_steps}
-use Rattle.std.proofs.Common.{◌≡◌, ◌≢◌, inl, inr, ⊎_elim, ℕ, zero, suc, ◌+◌, ◌<◌, ◌≤◌, ◌==◌, Bool, true, false, cond, List, [], ◌∷◌, ◌++◌, length, get_or, take, drop, replicate, Option, Some, None, All, Ok, refl, sym, ◌∙◌, ap, subst, arith, length-append, length-take, length-drop, rules}
+use Rattle.std.proofs.Common.{◌≡◌, ◌≢◌, inl, inr, ⊎_elim, ℕ, suc, ◌+◌, ◌<◌, ◌≤◌, ◌==◌, Bool, true, false, cond, List, [], ◌∷◌, ◌++◌, length, get_or, take, drop, replicate, Option, Some, None, All, Ok, refl, sym, ◌∙◌, ap, subst, arith, length-append, length-take, length-drop}
 use Rattle.std.specs.Prelude.{slice_index}
-use Rattle.std.specs.List.{list_any}
 use Rattle.std.proofs.lemmas.Bool.{eq-eqb, cases_lt}
 use Rattle.std.proofs.lemmas.List.{drop_more, get_or-append-add, get_or-replicate, length-replicate, get_or_append_left, get_or_past}
 use Rattle.std.proofs.lemmas.List.Elements.{All-push}
 use Rattle.std.proofs.lemmas.List.Quantifiers.{all_pairs_push}
 use Rattle.std.proofs.lemmas.Option.{slice_get_within}
-use Rattle.gc_graph.specs.Graph.{Value}
-use Rattle.gc_graph.specs.Correspond.{correspond}
-use Rattle.gc_words.specs.Word.{IsHeader, header_word, read_correspond, field_words_correspond}
+use Rattle.gc_words.specs.Word.{IsHeader, header_word, field_words_correspond}
 use Rattle.gc_words.specs.Image.{Block, blocks, block_in, block_at, header_of, header_at, walk_words}
 use Rattle.gc_words.specs.Walking.{block_from}
 use Rattle.gc_words.specs.Space.{IsSpace}
@@ -49,7 +46,7 @@ module _ (n : ℕ) (words : List ℕ) (h : Header) (seen : IsSeen n words) (next
       (omega (arith, length-take h.len (drop (n + 2) words), length-drop (n + 2) words))
       next.bound
 
-  pub seen_next : IsSeen (n + (h.len + 2)) words
+  seen_next : IsSeen (n + (h.len + 2)) words
   seen_next = record { within = next.within; space = subst (λ ws. IsSpace (record { size = 4294967295; words = ws })) (sym front_is) both.0 }
 
   blocks_next : blocks (take (n + (h.len + 2)) words) ≡ blocks (take n words) ++ (n, block_from words n h) ∷ []
@@ -87,7 +84,7 @@ grown w b o q o' q' f g h = grind (arith, common_steps)
 pub true_stays : (ds es : List Bool) (q : ℕ) → get_or ds q false ≡ true → get_or (ds ++ es) q false ≡ true
 true_stays ds es q h = grind (arith, common_steps, cases_lt, get_or_append_left, get_or_past)
 
-pub fields_more : (h : Header) (pairs more : List (ℕ × ℕ)) (v u : ℕ) → field_words_correspond h pairs v u ≡ true → field_words_correspond h (pairs ++ more) v u ≡ true
+fields_more : (h : Header) (pairs more : List (ℕ × ℕ)) (v u : ℕ) → field_words_correspond h pairs v u ≡ true → field_words_correspond h (pairs ++ more) v u ≡ true
 fields_more h pairs more v u = grind (arith, common_steps, more)
 
 -- ---- the events
@@ -117,7 +114,7 @@ new_goes_on old new w h is next = record {
   once = is.once;
 }
 
-pub below_seen : (old new : List ℕ) (w : Watch) (p : ℕ × ℕ) → Watches old new w → (o q : Option Block) → seen_at w.new_seen new p.1 ≡ q → IsWatched w p.1 o q → p.1 < w.new_seen
+below_seen : (old new : List ℕ) (w : Watch) (p : ℕ × ℕ) → Watches old new w → (o q : Option Block) → seen_at w.new_seen new p.1 ≡ q → IsWatched w p.1 o q → p.1 < w.new_seen
 below_seen old new w p is (Some c) (Some d) e h =
     let s = stands_in (take w.new_seen new) p.1 d is.new_seen.space.walked e in
     omega (arith, length-take w.new_seen new, s.fits)

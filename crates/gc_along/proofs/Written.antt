@@ -1,6 +1,6 @@
 -- Words written, where the watch allows it.
 use Rattle.std.proofs.lemmas.Grind.{common_steps}
-use Rattle.std.proofs.Common.{◌≡◌, ◌⊎◌, inl, inr, ⊎_elim, ℕ, zero, suc, ◌<◌, true, List, [], ◌∷◌, length, refl, set, get_or, take, Option, Some, None, IsTrue, sym, ◌∙◌, ap, subst, arith, length-set, length-take}
+use Rattle.std.proofs.Common.{◌≡◌, ◌⊎◌, inl, inr, ⊎_elim, ℕ, zero, suc, true, List, [], ◌∷◌, length, refl, set, get_or, take, Option, Some, None, IsTrue, sym, ◌∙◌, ap, subst, arith, length-set, length-take}
 use Rattle.std.specs.Prelude.{slice_get, slice_set, ◌≢◌, IsSome}
 use Rattle.std.proofs.lemmas.Bool.{cases_eq}
 use Rattle.std.proofs.Math.Seq.{take-set-lt}
@@ -24,7 +24,7 @@ module _ (n : ℕ) (words : List ℕ) (a i x : ℕ) (seen : IsSeen n words) (som
   front_is : take n (slice_set words (field_place a i) x) ≡ slice_set (take n words) (field_place a i) x
   front_is = grind (arith, common_steps, take-set-lt, field_read, length-take)
 
-  pub seen_written : IsSeen n (slice_set words (field_place a i) x)
+  seen_written : IsSeen n (slice_set words (field_place a i) x)
   seen_written = record {
     within = (let w = seen.within in omega (arith, length-set words (field_place a i) x));
     space = subst (λ ws. IsSpace (record { size = 4294967295; words = ws })) (sym front_is) (field_written (front n words) a i x seen.space some).0;
@@ -45,7 +45,7 @@ module _ (n : ℕ) (words : List ℕ) (a x : ℕ) (seen : IsSeen n words) (start
   link_front : take n (slice_set words (link_place a) x) ≡ slice_set (take n words) (link_place a) x
   link_front = grind (arith, common_steps, header_read, take-set-lt)
 
-  pub seen_linked : IsSeen n (slice_set words (link_place a) x)
+  seen_linked : IsSeen n (slice_set words (link_place a) x)
   seen_linked = record {
     within = (let w = seen.within in omega (arith, length-set words (link_place a) x));
     space = subst (λ ws. IsSpace (record { size = 4294967295; words = ws })) (sym link_front) (link_written (front n words) a x seen.space start).0;

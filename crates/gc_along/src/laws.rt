@@ -1,16 +1,15 @@
 //! Laws: what a watch knows of two spaces, how it keeps knowing it, and why its yes is the checker's.
 
-ghost use Rattle.std.specs.Prelude.{◌≡◌, ◌≢◌, ◌<◌, ◌≤◌, ◌==◌, ◌↔◌, ◌+◌, ◌∷◌, ◌++◌, [], ℕ, suc, Bool, true, false, not, List, None, Some, length, take, replicate, slice_index_or, slice_set, IsTrue, IsFalse, IsSome};
+ghost use Rattle.std.specs.Prelude.{◌≡◌, ◌≢◌, ◌<◌, ◌≤◌, ◌==◌, ◌↔◌, ◌+◌, ◌∷◌, ◌++◌, [], ℕ, Bool, true, false, List, Some, length, take, replicate, slice_index_or, slice_set, IsTrue, IsFalse, IsSome};
 ghost use Rattle.std.specs.List.{All};
 ghost use Rattle.gc_graph.specs.Correspond.{paired};
 ghost use Rattle.gc_words.specs.Certificate.{Certified};
-ghost use Rattle.gc_words.specs.Image.{Image, Block, header_at, field_at, is_start};
+ghost use Rattle.gc_words.specs.Image.{Image, header_at, field_at, is_start};
 ghost use Rattle.gc_words.specs.Layout.{field_place, link_place};
-ghost use Rattle.gc_words.specs.Word.{field_words_correspond};
 ghost use Rattle.gc_words.specs.declared.header.Header.{Header};
 ghost use Rattle.gc_along.specs.Origins.{pairs_in};
 ghost use Rattle.gc_along.specs.Outline.{outline_of};
-ghost use Rattle.gc_along.specs.Watch.{Watch, OldIsDue, NewIsDue, looked, pair_at, IsSeen, IsNext, old_walked, new_walked, placed, opening_watch, Watches, HasSeenAll, is_due_at, due_count, bit, IsSized, RootsCorrespond, mark, front, is_due, seen_at};
+ghost use Rattle.gc_along.specs.Watch.{Watch, OldIsDue, NewIsDue, looked, pair_at, IsSeen, IsNext, old_walked, new_walked, placed, opening_watch, Watches, HasSeenAll, is_due_at, due_count, bit, IsSized, RootsCorrespond, mark};
 
 /// Where all is seen, the certificate is as good as its roots.
 pub fn what_is_seen_is_certified()

@@ -1,6 +1,6 @@
 //! The codes of the old space. Those of a collection that was given up count no more.
 
-ghost use Rattle.std.specs.Prelude.{◌≡◌, ◌⊎◌, ◌<◌, ◌≤◌, ◌+◌, ◌++◌, ◌∷◌, [], ℕ, IfOk, OnOk, IsTrue, length, replicate, slice_index, slice_index_or, slice_set};
+ghost use Rattle.std.specs.Prelude.{◌≡◌, ◌<◌, ◌≤◌, ◌+◌, ◌++◌, ◌∷◌, [], ℕ, IfOk, OnOk, IsTrue, length, replicate, slice_index, slice_index_or, slice_set};
 ghost use Rattle.gc_along.specs.Internal.InWords.{Codes, freed};
 
 use crate::code_row::CodeRow;

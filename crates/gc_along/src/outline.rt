@@ -1,6 +1,5 @@
 ghost use Rattle.std.specs.Prelude.{◌≡◌, ◌++◌, length, replicate, slice_index_or};
 ghost use Rattle.gc_words.specs.Views.{image_of};
-ghost use Rattle.gc_words.specs.Image.{Image};
 ghost use Rattle.gc_along.specs.Outline.{outline_in, outline_of};
 
 use gc_words::ImageRef;

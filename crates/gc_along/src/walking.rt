@@ -1,6 +1,6 @@
 //! The walks over both spaces: the next object, what a replica's link claims, and the codes of an object's places.
 
-ghost use Rattle.std.specs.Prelude.{◌≡◌, ◌≤◌, ◌<◌, ◌+◌, ◌++◌, ℕ, IsTrue, MatchOption, Some, if◌then◌else◌, length, slice_index, slice_index_or};
+ghost use Rattle.std.specs.Prelude.{◌≡◌, ◌≤◌, ◌<◌, ◌+◌, ◌++◌, ℕ, IsTrue, MatchOption, Some, length, slice_index, slice_index_or};
 ghost use Rattle.gc_words.specs.Layout.{fields_place, link_place};
 ghost use Rattle.gc_words.specs.Word.{read_header};
 ghost use Rattle.gc_words.specs.declared.header.Header.{Header};

@@ -18,7 +18,7 @@ only_zero : (b n : ℕ) → get_or (0 ∷ []) b 0 ≡ suc n → ⊥
 only_zero b n e = grind (arith, common_steps)
 
 -- tables of an empty new space know a collection that is just begun
-pub knows_fresh : (s : State) (size : ℕ) (t : Tables) → t.news ≡ 0 ∷ [] → t.origins ≡ 0 ∷ [] → t.missing ≡ 0
+knows_fresh : (s : State) (size : ℕ) (t : Tables) → t.news ≡ 0 ∷ [] → t.origins ≡ 0 ∷ [] → t.missing ≡ 0
     → ((a : ℕ) → IsNamed s.heap.graph.objects a → IsMark (get_or t.olds a 0)) → ((a : ℕ) → IsMark (get_or t.olds a 0) → IsNamed s.heap.graph.objects a) → ((a : ℕ) → get_or t.olds a 0 ≢ 2)
     → s.size ≤ t.room → size ≤ t.room → Knows s (fresh_collection s.mutators size) t
 knows_fresh s size t news origins missing marked starts free old_room new_room = grind (arith, common_steps, only_zero)

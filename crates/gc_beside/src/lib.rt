@@ -2,7 +2,7 @@
 //! the words of both spaces.
 #![tactic(auto)]
 
-ghost use Rattle.std.specs.Prelude.{◌≡◌, ◌≤◌, ◌↔◌, ◌∷◌, [], ℕ, List, length, slice_index_or, Some, None, IsFalse, IsSome, IsTrue};
+ghost use Rattle.std.specs.Prelude.{◌≡◌, ◌≤◌, ◌↔◌, ◌∷◌, [], ℕ, List, length, slice_index_or, Some, None, IsFalse, IsTrue};
 ghost use Rattle.gc_graph.specs.Graph.{Object};
 ghost use Rattle.gc_graph.specs.Machine.{MakesObject};
 ghost use Rattle.gc_graph.specs.declared.command.Op.{Op};
@@ -11,7 +11,7 @@ ghost use Rattle.gc_words.specs.Space.{end_of};
 ghost use Rattle.gc_heap.specs.Heap.{HeapWords, IsHeap, graph_in};
 ghost use Rattle.gc_plan.specs.Members.{In};
 ghost use Rattle.gc_plan.specs.State.{State, Collection, Replica, heap_end, new_end, replica_at};
-ghost use Rattle.gc_plan.specs.Steps.{collect, mutate, written, log_at, root_target, copy_root, scan, apply_log, flipped, fresh_collection, is_ready, with_collection};
+ghost use Rattle.gc_plan.specs.Steps.{mutate, written, log_at, root_target, copy_root, scan, apply_log, flipped, fresh_collection, is_ready, with_collection};
 ghost use Rattle.gc_plan.specs.Belonging.{IsLogged, IsNamed, IsOpened, IsSpaceGraph};
 ghost use Rattle.gc_plan.specs.Linked.{LeadsTo, linked_image, old_image, new_image};
 ghost use Rattle.gc_copy.specs.Words.{CollectionWords, IsCollection, BelongsTo, collection_in};

@@ -1,4 +1,4 @@
-ghost use Rattle.std.specs.Prelude.{◌≡◌, ◌+◌, ◌≤◌, ◌∷◌, ⊤, [], List, ℕ, true, codes, decimal, MatchResult};
+ghost use Rattle.std.specs.Prelude.{◌≡◌, ◌≤◌, ◌∷◌, ⊤, [], List, ℕ, true, decimal, MatchResult};
 ghost use Rattle.gc_words.specs.Views.{addresses};
 ghost use Rattle.gc_cert.specs.Grammar.{heading, pair_line, count_line, size_line, IsWord, AreAddresses, AreSizes};
 ghost use Rattle.gc_cert.specs.Internal.Parsers.{is_name};

@@ -12,7 +12,7 @@ pub struct Lines<'a> {
 }
 
 impl<'a> Model for Lines<'a> {
-    ghost use Rattle.std.specs.Prelude.{ℕ, ◌+◌, ◌<◌, ◌^◌, length};
+    ghost use Rattle.std.specs.Prelude.{◌+◌, ◌<◌, ◌^◌, length};
     ghost use Rattle.gc_cert.specs.Sections.{Place};
 
     ghost Value = { Place };
@@ -23,7 +23,7 @@ impl<'a> Model for Lines<'a> {
 }
 
 impl<'a> Lines<'a> {
-    ghost use Rattle.std.specs.Prelude.{◌≡◌, ◌≢◌, ◌≤◌, ◌<◌, ◌^◌, ◌+◌, ◌*◌, ℕ, List, [], ◌∷◌, length, decimal, MatchOption, MatchResult};
+    ghost use Rattle.std.specs.Prelude.{◌≡◌, ◌<◌, ◌^◌, ◌+◌, [], ◌∷◌, length, decimal, MatchOption};
     ghost use Rattle.gc_graph.specs.Lines.{HasNo, newline};
     ghost use Rattle.gc_words.specs.Views.{addresses};
     ghost use Rattle.gc_cert.specs.Grammar.{pair_line, IsWord, AreAddresses};

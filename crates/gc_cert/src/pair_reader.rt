@@ -18,7 +18,7 @@ pub struct PairReader {
 }
 
 impl PairReader {
-    ghost use Rattle.std.specs.Prelude.{◌≡◌, ◌≤◌, ◌<◌, ◌+◌, ◌∷◌, ◌↔◌, ◌⊎◌, ℕ, List, [], true, false, length, drop, IfOk, MatchResult, Ok, Err, Some};
+    ghost use Rattle.std.specs.Prelude.{◌≡◌, ◌≤◌, ◌<◌, ◌+◌, ◌∷◌, ◌↔◌, ℕ, List, [], true, false, length, IfOk, MatchResult, Ok, Err, Some};
     ghost use Rattle.gc_graph.specs.Pieces.{nothing_read};
     ghost use Rattle.gc_graph.specs.Streams.{bytes_left, source_failed};
     ghost use Rattle.gc_cert.specs.Faults.{limit};

@@ -1,4 +1,4 @@
-ghost use Rattle.std.specs.Prelude.{◌≡◌, ◌≢◌, ◌+◌, ◌≤◌, ◌↔◌, ◌∷◌, [], List, ℕ, length, map, drop, true, false, decimal, codes, IfSome, IfOk, MatchResult, Err, Some};
+ghost use Rattle.std.specs.Prelude.{◌≡◌, ◌+◌, ◌↔◌, List, ℕ, map, drop, true, false, decimal, IfSome, IfOk, MatchResult, Err, Some};
 ghost use Rattle.gc_graph.specs.Streams.{bytes_left, source_failed};
 ghost use Rattle.gc_words.specs.Views.{addresses};
 ghost use Rattle.gc_cert.specs.Grammar.{pair_line, certificate_lines, IsWord, AreAddresses, IsCertificate, HasText};

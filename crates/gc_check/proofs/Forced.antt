@@ -32,7 +32,7 @@ module _ (old new : Image) (P : List (ℕ × ℕ) → Type 0) where
   met_keeps : (R : ℕ → ℕ → Type 0) → Step R → (pairs : List (ℕ × ℕ)) (v w : ℕ) → R v w → P pairs → P (met old new pairs v w)
   met_keeps R step pairs v w r p = grind (arith, common_steps, cases_Bool)
 
-  pub met_all_keeps : (R : ℕ → ℕ → Type 0) → Step R → (pairs : List (ℕ × ℕ)) (vs ws : List ℕ) → AllZip R vs ws → P pairs → P (met_all old new pairs vs ws)
+  met_all_keeps : (R : ℕ → ℕ → Type 0) → Step R → (pairs : List (ℕ × ℕ)) (vs ws : List ℕ) → AllZip R vs ws → P pairs → P (met_all old new pairs vs ws)
   met_all_keeps R step pairs [] ws z p = p
   met_all_keeps R step pairs (v ∷ vs) [] z p = p
   met_all_keeps R step pairs (v ∷ vs) (w ∷ ws) z p = met_all_keeps R step (met old new pairs v w) vs ws z.1 (met_keeps R step pairs v w z.0 p)

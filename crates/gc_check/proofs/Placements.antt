@@ -1,8 +1,7 @@
 -- What follows if the images and the addresses of the pairs have no fault.
 use Rattle.std.proofs.lemmas.Grind.{common_steps}
-use Rattle.std.proofs.Common.{◌≡◌, ℕ, zero, suc, ◌<◌, true, false, cond, ap, not, ◌==◌, List, [], ◌∷◌, length, get_or, take, Option, Some, None, refl, subst, arith, sym, ◌∙◌}
+use Rattle.std.proofs.Common.{◌≡◌, ℕ, zero, suc, ◌<◌, true, false, cond, ap, not, ◌==◌, List, [], ◌∷◌, length, get_or, take, Some, None, refl, subst, arith, sym, ◌∙◌}
 use Rattle.std.specs.Prelude.{IsOk}
-use Rattle.std.specs.Bool.{then_some}
 use Rattle.std.specs.Option.{option_map}
 use Rattle.std.proofs.lemmas.Bool.{eqb-true, eq-eqb, not-false}
 use Rattle.std.proofs.lemmas.List.{get_or-map, length-map}
@@ -10,10 +9,9 @@ use Rattle.gc_words.specs.Word.{words_correspond, field_words_correspond}
 use Rattle.gc_words.specs.declared.header.Header.{Header}
 use Rattle.gc_words.specs.Image.{Image, IsShaped, walk_words, is_start}
 use Rattle.gc_words.specs.Views.{addresses}
-use Rattle.gc_words.specs.Fault.{◌or_else◌, shape_fault, first_over_pairs, place_fault, place_faults, table_fault, first_difference}
+use Rattle.gc_words.specs.Fault.{shape_fault, first_over_pairs, place_fault, place_faults, table_fault, first_difference}
 use Rattle.gc_words.specs.declared.image.Pair.{Pair}
-use Rattle.gc_words.specs.declared.refusal.Refusal.{Refusal}
-use Rattle.gc_words.specs.declared.refusal.Refusal.TheVariants.{OldShape, NewShape, RootCount}
+use Rattle.gc_words.specs.declared.refusal.Refusal.TheVariants.{OldShape, NewShape}
 use Rattle.gc_words.proofs.Public.{shaped, or_none, when_none, at_place_none, same_walk}
 use Rattle.gc_check.specs.Verdict.{pairs_of, IsRefusalOf}
 use Rattle.gc_check.specs.declared.verdict.CheckFault.{CheckFault}
@@ -26,13 +24,6 @@ pub record Fits (old new : Image) : Type 0 where
 -- the walk that accepts all headers reaches the end, even if those of raw objects do not count
 pub walks : (image : Image) → IsShaped image → IsOk (walk_words image.words)
 walks image shape = subst IsOk (same_walk image.raws image.words shape.walked) shape.walked
-
--- the faults of only the images: their shapes and the number of their roots
-abbrev image_fault : Image → Image → Option Refusal
-image_fault old new =
-    option_map (λ at. OldShape at) (shape_fault old)
-    or_else option_map (λ at. NewShape at) (shape_fault new)
-    or_else then_some (not (length old.roots == length new.roots)) RootCount
 
 pub table_parts : (old new : Image) (pairs : List (ℕ × ℕ)) → table_fault old new pairs ≡ None → Fits old new × (place_faults old new pairs ≡ None)
 table_parts old new pairs e = grind (arith, common_steps, or_none, shaped, at_place_none, eqb-true, not-false, when_none)

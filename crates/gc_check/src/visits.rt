@@ -1,6 +1,6 @@
 //! A walk in breadth from the roots of an image, which notes how it found each object.
 
-ghost use Rattle.std.specs.Prelude.{◌≡◌, ◌↔◌, ℕ, suc, ◌<◌, ◌≤◌, ◌^◌, List, Some, IfOk, IsOk, IsTrue, MatchOption, length, slice_get};
+ghost use Rattle.std.specs.Prelude.{◌≡◌, ◌↔◌, ℕ, suc, ◌<◌, ◌≤◌, ◌^◌, Some, IfOk, IsOk, IsTrue, MatchOption, length, slice_get};
 ghost use Rattle.gc_graph.specs.Graph.{name_of};
 ghost use Rattle.gc_words.specs.Word.{value_of};
 ghost use Rattle.gc_words.specs.Image.{Image, graph_of, is_start, walk_words};

@@ -1,16 +1,16 @@
 -- The code that applies a log's oldest entry, and the test whether a collection is ready.
 use Rattle.std.proofs.lemmas.Grind.{common_steps}
-use Rattle.std.proofs.Common.{◌≡◌, inl, ℕ, suc, Bool, true, false, cond, ◌&&◌, not, List, [], ◌∷◌, map, drop, length, Option, Some, None, is_some, refl, ap, sym, ◌∙◌, subst, length-set, arith}
+use Rattle.std.proofs.Common.{◌≡◌, inl, ℕ, suc, Bool, true, false, ◌&&◌, not, List, [], ◌∷◌, drop, length, Option, Some, None, is_some, refl, ap, sym, ◌∙◌, subst, length-set, arith}
 use Rattle.std.specs.Prelude.{IsSome, slice_get, slice_set}
 use Rattle.std.specs.List.{list_all}
 use Rattle.std.specs.Option.{option_map, unwrap_or}
-use Rattle.gc_graph.specs.Graph.{Value, Object, Graph}
+use Rattle.gc_graph.specs.Graph.{Value, Graph}
 use Rattle.gc_words.specs.Image.{field_at}
 use Rattle.gc_heap.specs.Heap.{HeapWords, graph_in}
 use Rattle.gc_plan.specs.State.{Collection, moved}
-use Rattle.gc_plan.specs.Steps.{log_at, with_log, is_empty, first_log, place_replica, with_replica, bring_up_to_date, apply_entry, apply_log, if_room, scan_done, roots_done, is_ready, write_replica}
+use Rattle.gc_plan.specs.Steps.{log_at, with_log, is_empty, first_log, with_replica, apply_entry, apply_log, if_room, scan_done, roots_done, is_ready, write_replica}
 use Rattle.gc_copy.specs.Internal.Entries.{oldest}
-use Rattle.gc_copy.specs.Words.{Log, CollectionWords, IsCollection, entries_of, collection_in, open_state, BelongsTo}
+use Rattle.gc_copy.specs.Words.{Log, CollectionWords, IsCollection, collection_in, open_state, BelongsTo}
 use Rattle.gc_copy.specs.Internal.Words.{KeepsGraph, KeepsRest}
 use Rattle.gc_plan.specs.declared.step.Step.TheVariants as steps
 use Rattle.gc_plan.specs.declared.step.StepReply.TheVariants.{Applied, NoRoom}

@@ -1,16 +1,14 @@
 -- A collection that has just begun belongs to its heap.
-use Rattle.std.proofs.lemmas.Grind.{common_steps}
-use Rattle.std.proofs.Common.{◌≡◌, ℕ, ◌≤◌, ◌<◌, Bool, List, [], map, length, replicate, sym, ◌∙◌, ap, subst, arith}
+use Rattle.std.proofs.Common.{◌≡◌, ℕ, ◌≤◌, List, [], map, length, replicate, sym, ◌∙◌, ap, subst, arith}
 use Rattle.std.proofs.lemmas.List.{length-map, length-replicate}
-use Rattle.gc_words.specs.Image.{blocks}
 use Rattle.gc_words.specs.Spelling.{link_at}
-use Rattle.gc_words.specs.Space.{SpaceWords, IsSpace, empty_space}
+use Rattle.gc_words.specs.Space.{SpaceWords, empty_space}
 use Rattle.gc_heap.specs.Heap.{HeapWords, graph_in}
 use Rattle.gc_plan.specs.State.{Collection}
 use Rattle.gc_plan.specs.Steps.{fresh_collection}
 use Rattle.gc_plan.specs.Linked.{old_links}
 use Rattle.gc_plan.specs.Belonging.{Belongs}
-use Rattle.gc_copy.specs.Words.{Log, IsCollection, replicas_in, entries_of, collection_in, HasNoLinks, LinksNothing, BelongsTo}
+use Rattle.gc_copy.specs.Words.{Log, replicas_in, entries_of, collection_in, HasNoLinks, LinksNothing, BelongsTo}
 use Rattle.gc_plan.proofs.Public.{begun_belongs}
 use Rattle.gc_copy.proofs.Words.{words_numbers}
 

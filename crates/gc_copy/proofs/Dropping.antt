@@ -1,6 +1,6 @@
 -- The loop that drops a collection: it clears the link of each original, to which the replica's link leads.
 use Rattle.std.proofs.lemmas.Grind.{common_steps}
-use Rattle.std.proofs.Common.{◌≡◌, ◌⊎◌, ⊎_elim, inl, inr, ℕ, ◌-◌, ◌<◌, ◌≤◌, ◌==◌, Bool, true, false, List, [], ◌∷◌, length, Option, Some, None, is_some, refl, ap, sym, ◌∙◌, subst, arith}
+use Rattle.std.proofs.Common.{◌≡◌, ◌⊎◌, ⊎_elim, inl, inr, ℕ, ◌-◌, ◌<◌, ◌≤◌, ◌==◌, true, false, List, [], ◌∷◌, length, Option, Some, None, is_some, refl, ap, sym, ◌∙◌, subst, arith}
 use Rattle.std.specs.Prelude.{◌^◌}
 use Rattle.std.specs.Result.{result_unwrap_or}
 use Rattle.std.specs.Option.{option_map, option_map_or}
@@ -10,7 +10,7 @@ use Rattle.gc_words.specs.Image.{Block, blocks, block_at, is_start, object_of_bl
 use Rattle.gc_words.specs.Layout.{link_place}
 use Rattle.gc_words.specs.Spelling.{link_at, spelled, no_links}
 use Rattle.gc_words.specs.Space.{IsSpace, with_word, without_links}
-use Rattle.gc_words.specs.Walking.{next_of, walk_from, block_from}
+use Rattle.gc_words.specs.Walking.{next_of, walk_from}
 use Rattle.gc_words.proofs.Public.{Behind, behind, at_end, has_next, some_of, link_written_there, link_written_beside, object_found, spelled_words}
 use Rattle.gc_heap.specs.Heap.{HeapWords, IsHeap}
 use Rattle.gc_plan.specs.State.{Replica, replica_of}

@@ -9,11 +9,11 @@ use Rattle.std.proofs.lemmas.Bool.{eqb-true, eqb-false, lt-ltb}
 use Rattle.std.proofs.lemmas.List.{length-map}
 use Rattle.gc_graph.specs.Graph.{lookup, Value, Nil, Num, Ref, Object}
 use Rattle.gc_words.specs.Word.{value_of, word_of, field_value, HasAddress}
-use Rattle.gc_words.specs.Image.{field_in, block_at, Block, blocks, block_in, is_start, object_entry, object_of_block, objects_of}
+use Rattle.gc_words.specs.Image.{field_in, block_at, Block, blocks, is_start, object_entry, object_of_block, objects_of}
 use Rattle.gc_words.specs.Spelling.{link_at}
 use Rattle.gc_words.specs.Space.{SpaceWords, IsSpace, end_of, free_in, without_links}
 use Rattle.gc_words.specs.Closed.{IsWordOfField, RefersToStart, IsRootWord, IsFieldWord, HasFieldWords}
-use Rattle.gc_words.proofs.Public.{object_found, meaning_back, cleared, link_cleared, end_cleared, closed_field_read, closed_objects}
+use Rattle.gc_words.proofs.Public.{object_found, meaning_back, cleared, end_cleared, closed_field_read, closed_objects}
 use Rattle.gc_heap.specs.Heap.{HeapWords, IsHeap, graph_in}
 use Rattle.gc_plan.specs.State.{new_objects, new_free, new_graph, pairs_of}
 use Rattle.gc_plan.specs.Steps.{is_ready, flip, flipped}

@@ -1,7 +1,6 @@
 -- The loop that takes the mark from links: it goes over the objects of the heap, whose links it changes.
 use Rattle.std.proofs.lemmas.Grind.{common_steps}
-use Rattle.std.proofs.Common.{◌≡◌, ◌⊎◌, ⊎_elim, inl, inr, ℕ, ◌+◌, ◌-◌, ◌<◌, ◌≤◌, true, List, [], ◌∷◌, ◌++◌, length, drop, Some, Result, refl, ap, sym, ◌∙◌, subst, arith, length-set}
-use Rattle.std.specs.Prelude.{IsOk}
+use Rattle.std.proofs.Common.{◌≡◌, ◌⊎◌, inl, inr, ℕ, ◌+◌, ◌-◌, ◌<◌, true, List, [], ◌∷◌, ◌++◌, length, drop, Some, refl, ap, sym, subst, arith, length-set}
 use Rattle.std.specs.Result.{result_unwrap_or}
 use Rattle.std.proofs.lemmas.Bool.{cases_eq}
 use Rattle.std.proofs.lemmas.List.{drop-set-lt}
@@ -9,8 +8,8 @@ use Rattle.gc_words.specs.Image.{Block, walk, blocks, is_start}
 use Rattle.gc_words.specs.Layout.{link_place}
 use Rattle.gc_words.specs.Spelling.{link_at}
 use Rattle.gc_words.specs.Space.{with_word}
-use Rattle.gc_words.specs.Walking.{next_of, walk_from, block_from}
-use Rattle.gc_words.proofs.Public.{Behind, behind, at_end, link_written, link_written_there, link_written_beside}
+use Rattle.gc_words.specs.Walking.{next_of, walk_from}
+use Rattle.gc_words.proofs.Public.{Behind, behind, link_written, link_written_there, link_written_beside}
 use Rattle.gc_heap.specs.Heap.{HeapWords, IsHeap}
 use Rattle.gc_plan.specs.Members.{In}
 use Rattle.gc_copy.specs.Internal.Words.{KeepsGraph}

@@ -1,12 +1,11 @@
 -- The code of a mutator's command with its write barrier.
 use Rattle.std.proofs.lemmas.Grind.{common_steps}
-use Rattle.std.proofs.Common.{◌≡◌, ◌≢◌, inl, ℕ, zero, suc, Bool, List, [], ◌∷◌, ◌++◌, Option, refl, ap, sym, ◌∙◌, subst, arith, append-nil}
+use Rattle.std.proofs.Common.{◌≡◌, ◌≢◌, inl, ℕ, zero, suc, List, [], ◌∷◌, ◌++◌, Option, refl, sym, subst, arith, append-nil}
 use Rattle.std.specs.Prelude.{slice_get, slice_set}
 use Rattle.std.specs.Option.{option_to_list, unwrap_or}
 use Rattle.gc_graph.specs.Machine.{Roomy, roomy_step}
 use Rattle.gc_graph.specs.Graph.{Graph}
 use Rattle.gc_graph.specs.declared.command.Op.{Op}
-use Rattle.gc_graph.specs.declared.command.Op.TheVariants as ops
 use Rattle.gc_graph.specs.declared.reply.Reply.{Reply}
 use Rattle.gc_graph.specs.declared.reply.Reply.TheVariants as replies
 use Rattle.gc_words.specs.Space.{end_of}
@@ -14,7 +13,6 @@ use Rattle.gc_heap.specs.Heap.{HeapWords, IsHeap, KeepsLinks, graph_in, roomy_in
 use Rattle.gc_heap.specs.Commands.{Performs}
 use Rattle.gc_plan.specs.State.{Collection}
 use Rattle.gc_plan.specs.Steps.{log_at, with_log, WritesField, written, mutate}
-use Rattle.gc_graph.specs.Slots.{SlotName}
 use Rattle.gc_copy.specs.Internal.Entries.{if_done}
 use Rattle.gc_plan.specs.Members.{In}
 use Rattle.gc_plan.specs.Belonging.{HasField}
@@ -72,7 +70,3 @@ idle_left heap new m op reply is performs = grind (arith, common_steps)
 
 pub still_unlinked : (epoch : ℕ) (heap new : HeapWords) (m : ℕ) (op : Op) (reply : Reply) → Performs heap m op reply new → LinksNothing epoch heap → LinksNothing epoch new
 still_unlinked epoch heap new m op reply performs none = nothing_linked heap new epoch none performs.links
-
--- a command other than `Put` writes no field
-pub no_other_writes : (op : Op) → ((s : SlotName) (i : ℕ) (t : SlotName) → op ≡ ops.Put s i t → ⊥) → ¬ WritesField op
-no_other_writes op other = grind (arith, common_steps)

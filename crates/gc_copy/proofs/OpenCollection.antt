@@ -7,7 +7,7 @@ use Rattle.std.specs.List.{find}
 use Rattle.std.proofs.lemmas.Bool.{cases_Bool, cases_lt, cond-true, cond-false, cond_both, eqb-true, eqb-false, eq-eqb, ne_eqb, le-ltb, lt-ltb}
 use Rattle.std.proofs.lemmas.List.{length-map}
 use Rattle.std.specs.Option.{option_map, option_map_or}
-use Rattle.std.specs.Prelude.{IsOk, ◌^◌, IsSome, OnOk, OnErr, IfSome}
+use Rattle.std.specs.Prelude.{IsOk, ◌^◌, IsSome, OnErr, IfSome}
 use Rattle.gc_heap.proofs.Public.{named}
 use Rattle.gc_graph.specs.Graph.{Value, Nil, Num, Ref, Object, Graph, lookup, field_of}
 use Rattle.gc_words.specs.Word.{HasAddress, word_of, field_value}
@@ -27,18 +27,17 @@ use Rattle.gc_plan.specs.Steps.{fresh_replica, place_replica, with_replica, with
 use Rattle.gc_plan.specs.Members.{In}
 use Rattle.gc_plan.proofs.Public.{in_push, in_right, in_map, in_map_from, find_exists, get_within, get_past, laid_range, lookup_laid, placed, place_written, with_written_pair, replica_in, open_keeps, placing_keeps, bringing_keeps}
 use Rattle.gc_plan.specs.Belonging.{IsDue, Belongs, IsOpened}
-use Rattle.gc_copy.specs.Words.{CollectionWords, IsCollection, entries_of, replicas_in, collection_in, state_of, open_state, mark_of, LinksReplicas, BelongsTo}
+use Rattle.gc_copy.specs.Words.{CollectionWords, IsCollection, entries_of, replicas_in, collection_in, open_state, mark_of, LinksReplicas, BelongsTo}
 use Rattle.gc_plan.specs.Staying.{HasReplicaOf}
 use Rattle.gc_copy.specs.Internal.Words.{replica_block, KeepsGraph, KeepsRest}
 use Rattle.gc_plan.specs.declared.step.Step.{Step}
 use Rattle.gc_plan.specs.declared.step.Step.TheVariants as steps
 use Rattle.gc_plan.specs.declared.step.StepReply.{StepReply}
-use Rattle.gc_copy.proofs.Words.{word_back}
 use Rattle.gc_copy.proofs.Spaces.{count_placed, replica_at_end, replica_block_object, space_placed, space_written, new_objects_are, new_end_is}
 
 -- ---- the heap without its links
 
-pub graph_kept : (old new : HeapWords) → KeepsGraph old new → graph_in new ≡ graph_in old
+graph_kept : (old new : HeapWords) → KeepsGraph old new → graph_in new ≡ graph_in old
 graph_kept old new k = ap (λ h. h.graph) k.heap
 
 pub same_graph : (h : HeapWords) → KeepsGraph h h
@@ -84,7 +83,7 @@ zero_of_none : (o : Option Replica) (p : Option Replica) → option_map (λ r. r
 zero_of_none o p e = grind (arith, common_steps)
 
 -- writing a field does not change the old links
-pub links_written : (c : Collection) (name i a : ℕ) (v : Value) → old_links (write_replica c name i v) a ≡ old_links c a
+links_written : (c : Collection) (name i a : ℕ) (v : Value) → old_links (write_replica c name i v) a ≡ old_links c a
 links_written c name i a v = zero_of_none (replica_of (write_replica c name i v) a) (replica_of c a) (place_written c.replicas name i a v)
 
 -- ---- a replica is placed
@@ -149,7 +148,7 @@ module _ (heap : HeapWords) (c : CollectionWords) (name : ℕ) (h : Header) (hea
   small : name < 2 ^ 32
   small = let fits = stands.fits in let count = (heap_is.space).count in let high = (heap_is.space).end_high in let size = (heap_is.space).size_high in omega arith
 
-  pub placing : BelongsTo heap c → is_start heap.space.words name ≡ true → replica_of (collection_in c) name ≡ None → HasRoomFor c.space h.len
+  placing : BelongsTo heap c → is_start heap.space.words name ≡ true → replica_of (collection_in c) name ≡ None → HasRoomFor c.space h.len
       → Placing heap (record heap { space = with_word heap.space (link_place name) (mark_of c.epoch + end_of c.space) }) c (record c { space = with_word (with_block c.space (replica_block block.0)) (link_place (end_of c.space)) name }) name
   placing k start none room = record {
     sound = record {
@@ -193,7 +192,7 @@ module _ (heap : HeapWords) (c : CollectionWords) (name : ℕ) (h : Header) (hea
 -- ---- the target of a word gets its replica
 
 -- the target already has a replica, or there is no target
-pub replicated_already : (c : Collection) (g : Graph) (w : ℕ) → HasReplicaOf c (value_of w) → with_replica c g (value_of w) ≡ Some c
+replicated_already : (c : Collection) (g : Graph) (w : ℕ) → HasReplicaOf c (value_of w) → with_replica c g (value_of w) ≡ Some c
 replicated_already c g w h = grind (arith, common_steps, cond-true)
 
 -- once placed, the target has a replica
@@ -216,7 +215,7 @@ pub record Bringing (c next : CollectionWords) (name i : ℕ) (v : Value) : Type
   pub rest : KeepsRest c next
 
 -- the word that the code writes into the replica's field
-pub bringing : (objects : List (ℕ × Object)) (c : CollectionWords) (name i w place : ℕ) (v : Value) → IsCollection c → Belongs objects (collection_in c) → option_map (λ r. r.place) (replica_of (collection_in c) name) ≡ Some place → IsSome (field_at c.space.words place i)
+bringing : (objects : List (ℕ × Object)) (c : CollectionWords) (name i w place : ℕ) (v : Value) → IsCollection c → Belongs objects (collection_in c) → option_map (λ r. r.place) (replica_of (collection_in c) name) ≡ Some place → IsSome (field_at c.space.words place i)
     → ((r : Replica) → replica_of (collection_in c) name ≡ Some r → cond r.object.raw (Num w) (value_of w) ≡ v)
     → Bringing c (record c { space = with_word c.space (field_place place i) w }) name i v
 bringing objects c name i w place v is belongs found there means = from (replica_of (collection_in c) name) refl found
@@ -251,14 +250,14 @@ field_present words a i o e less =
     let b = block_of_object words a o e in
     ap is_some (ap (λ x. field_in x i) b.1 ∙ (get_within b.0.fields i (omega (arith, ap (λ (x : Object). length x.fields) (sym b.2) ∙ length-map b.0.fields (field_value b.0.header), less))).1)
 
-pub field_below : (words : List ℕ) (a i : ℕ) (o : Object) → lookup (objects_of words) a ≡ Some o → IsSome (field_at words a i) → i < length o.fields
+field_below : (words : List ℕ) (a i : ℕ) (o : Object) → lookup (objects_of words) a ≡ Some o → IsSome (field_at words a i) → i < length o.fields
 field_below words a i o e there = grind (arith, common_steps, block_of_object, count, length-map, some_of, get_past)
 
 pub replica_object : (objects : List (ℕ × Object)) (c : CollectionWords) (r : Replica) → Belongs objects (collection_in c) → In r (replicas_in c.space.words) → lookup (objects_of c.space.words) r.place ≡ Some r.object
 replica_object objects c r belongs l = grind (arith, common_steps, object, new_objects_are, lookup_laid, in_map, placed)
 
 -- the replica has every field that the original has
-pub field_of_replica : (heap : HeapWords) (c : CollectionWords) (name i place : ℕ) → Belongs (graph_in heap).objects (collection_in c) → option_map (λ r. r.place) (replica_of (collection_in c) name) ≡ Some place
+field_of_replica : (heap : HeapWords) (c : CollectionWords) (name i place : ℕ) → Belongs (graph_in heap).objects (collection_in c) → option_map (λ r. r.place) (replica_of (collection_in c) name) ≡ Some place
     → IsSome (field_at heap.space.words name i) → IsSome (field_at c.space.words place i)
 field_of_replica heap c name i place belongs found there = from (replica_of (collection_in c) name) refl found
   where
@@ -272,7 +271,7 @@ field_of_replica heap c name i place belongs found there = from (replica_of (col
         (field_present c.space.words r.place i r.object (replica_object (graph_in heap).objects c r belongs l.0) (let same = ok.len in omega arith))
 
 -- a replica is raw exactly if its original is
-pub replica_raw : (heap : HeapWords) (c : CollectionWords) (name i w : ℕ) (r : Replica) (raw : Bool) → Belongs (graph_in heap).objects (collection_in c) → replica_of (collection_in c) name ≡ Some r → field_at heap.space.words name i ≡ Some w
+replica_raw : (heap : HeapWords) (c : CollectionWords) (name i w : ℕ) (r : Replica) (raw : Bool) → Belongs (graph_in heap).objects (collection_in c) → replica_of (collection_in c) name ≡ Some r → field_at heap.space.words name i ≡ Some w
     → ((h : Header) → header_at heap.space.words name ≡ Some h → h.raw ≡ raw) → r.object.raw ≡ raw
 replica_raw heap c name i w r raw belongs e field is =
     let l = replica_in (collection_in c) name r e in
@@ -288,7 +287,7 @@ replica_address objects c r is belongs l =
     let range = laid_range 1 (new_objects (collection_in c)) (new_end (collection_in c)) (placed r) belongs.laid (in_map placed r (replicas_in c.space.words) l) in
     (range.0, omega (arith, range, belongs.room, (is.space).size_high))
 
-pub moved_address : (objects : List (ℕ × Object)) (c : CollectionWords) (v : Value) → IsCollection c → Belongs objects (collection_in c) → HasReplicaOf (collection_in c) v → HasAddress (moved (collection_in c) v)
+moved_address : (objects : List (ℕ × Object)) (c : CollectionWords) (v : Value) → IsCollection c → Belongs objects (collection_in c) → HasReplicaOf (collection_in c) v → HasAddress (moved (collection_in c) v)
 moved_address objects c Nil is belongs h = tt
 moved_address objects c (Num n) is belongs h = tt
 moved_address objects c (Ref a) is belongs h =
@@ -303,13 +302,13 @@ header_of_field words name i w e = from (block_at words name) refl e
     from (Some b) f g = (b.header, ap header_of f)
 
 -- the word in a field of a heap's object
-pub field_value_is : (heap : HeapWords) (name i w : ℕ) (h : Header) → header_at heap.space.words name ≡ Some h → field_at heap.space.words name i ≡ Some w → field_of (lookup (graph_in heap).objects name) i ≡ Some (field_value h w)
+field_value_is : (heap : HeapWords) (name i w : ℕ) (h : Header) → header_at heap.space.words name ≡ Some h → field_at heap.space.words name i ≡ Some w → field_of (lookup (graph_in heap).objects name) i ≡ Some (field_value h w)
 field_value_is heap name i w h header e =
     let b = block_of_header heap.space.words name h header in
     field_found heap.space.words name i b.0 b.1 ∙ ap (option_map (field_value b.0.header)) e ∙ ap (λ (k : Header). Some (field_value k w)) b.2
 
 -- an object that is not raw holds values
-pub plain_value : (h : Header) (w : ℕ) → h.raw ≡ false → field_value h w ≡ value_of w
+plain_value : (h : Header) (w : ℕ) → h.raw ≡ false → field_value h w ≡ value_of w
 plain_value h w plain = ap (λ b. cond b (Num w) (value_of w)) plain
 
 pub plain_value_is : (heap : HeapWords) (name i w : ℕ) → ((h : Header) → header_at heap.space.words name ≡ Some h → h.raw ≡ false) → field_at heap.space.words name i ≡ Some w → field_of (lookup (graph_in heap).objects name) i ≡ Some (value_of w)
@@ -323,7 +322,7 @@ pub brought : (g : Graph) (c one : Collection) (name i : ℕ) (v : Value) → fi
 brought g c one name i v field target = ap (bring_value c g name i) field ∙ ap (λ o. option_map (λ (d : Collection). write_replica d name i (moved d v)) o) target
 
 -- placing one object's replica leaves the others
-pub kept_replica : (c next : Collection) (g : Graph) (v : Value) (a place : ℕ) → with_replica c g v ≡ Some next → option_map (λ r. r.place) (replica_of c a) ≡ Some place → option_map (λ r. r.place) (replica_of next a) ≡ Some place
+kept_replica : (c next : Collection) (g : Graph) (v : Value) (a place : ℕ) → with_replica c g v ≡ Some next → option_map (λ r. r.place) (replica_of c a) ≡ Some place → option_map (λ r. r.place) (replica_of next a) ≡ Some place
 kept_replica c next g v a place e found = grind (arith, common_steps, found, ne_eqb, find_push_other, none_of)
 
 -- what an object's link has above the mark is its replica's address, or 0
@@ -376,7 +375,7 @@ field_word_is heap name i w is plain e = from (block_at heap.space.words name) r
     from None f g = absurd (let no : None ≡ Some w = g in cc)
     from (Some b) f g = subst (λ raw. IsWordOfField raw heap.space.words w) (plain b.header (ap header_of f)) (closed_field_read heap.space.words heap.roots name i w b is.closed f e)
 
-pub field_kept : (old new : HeapWords) (a i : ℕ) → KeepsGraph old new → field_at new.space.words a i ≡ field_at old.space.words a i
+field_kept : (old new : HeapWords) (a i : ℕ) → KeepsGraph old new → field_at new.space.words a i ≡ field_at old.space.words a i
 field_kept old new a i k = ap (λ bs. field_in (block_in bs a) i) k.blocks
 
 -- ---- the code that brings a field up to date

@@ -53,7 +53,7 @@ EndsAt words k = (p : ℕ) → k ≤ p → unwrap_or (slice_get (map value_of wo
 nil_word : (w : ℕ) → value_of w ≡ Nil → w ≡ 0
 nil_word w = grind (arith, common_steps, eqb-true)
 
-pub nil_words : (words : List ℕ) (k : ℕ) → EndsAt words k → drop k words ≡ replicate (length words - k) 0
+nil_words : (words : List ℕ) (k : ℕ) → EndsAt words k → drop k words ≡ replicate (length words - k) 0
 nil_words [] k h = drop_all k [] (omega arith) ∙ ap (λ n. replicate n 0) (let none : 0 ≡ 0 - k = omega arith in none)
 nil_words (w ∷ ws) zero h =
     let rest : drop zero ws ≡ replicate (length ws - zero) 0 = nil_words ws zero (λ p l. h (suc p) (omega arith)) in

@@ -1,6 +1,6 @@
 -- The entries of a log that lie in segments.
 use Rattle.std.proofs.lemmas.Grind.{common_steps}
-use Rattle.std.proofs.Common.{◌≡◌, ℕ, suc, zero, ◌+◌, ◌-◌, ◌*◌, ◌<◌, ◌≤◌, ◌==◌, ◌⊎◌, List, [], ◌∷◌, ◌++◌, map, drop, length, Option, Some, None, refl, ap, sym, ◌∙◌, subst, arith, inl, inr, ◌^◌, ◌/◌, ◌%◌, get_or, Bor}
+use Rattle.std.proofs.Common.{◌≡◌, ℕ, suc, zero, ◌+◌, ◌-◌, ◌*◌, ◌<◌, ◌≤◌, ◌==◌, List, [], ◌∷◌, ◌++◌, map, drop, length, Option, Some, None, refl, ap, sym, ◌∙◌, subst, arith, inr, ◌^◌, ◌/◌, ◌%◌, get_or, Bor}
 use Rattle.std.specs.Prelude.{slice_get, slice_set}
 use Rattle.std.specs.Vec.{vec_len, vec_capacity}
 use Rattle.std.specs.declared.vec.Vec.{Vec}
@@ -57,7 +57,7 @@ module _ {Z : Type 0} where
   left_in ss last gone = map entry_in (drop gone (joined ss ++ last.items))
 
   module _ (ss : List (Vec LogEntry Z)) (full : ℕ) (last : Vec LogEntry Z) (gone : ℕ) (h : IsLog ss full last gone) where
-    pub gone_within : gone ≤ full * segment + vec_len last
+    gone_within : gone ≤ full * segment + vec_len last
     gone_within = grind (arith, common_steps)
 
     pub counted : full * segment + vec_len last - gone ≡ length (left_in ss last gone)

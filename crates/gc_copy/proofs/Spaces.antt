@@ -1,6 +1,6 @@
 -- The replicas in the words of a space, and what writes do to them.
 use Rattle.std.proofs.lemmas.Grind.{common_steps}
-use Rattle.std.proofs.Common.{◌≡◌, ⊎_elim, inl, inr, ℕ, suc, ◌+◌, ◌-◌, ◌<◌, ◌≤◌, ◌==◌, Bool, true, false, cond, length, List, [], ◌∷◌, ◌++◌, map, Option, Some, None, is_some, refl, ap, sym, ◌∙◌, subst, arith}
+use Rattle.std.proofs.Common.{◌≡◌, inl, inr, ℕ, ◌+◌, ◌-◌, ◌<◌, ◌≤◌, ◌==◌, Bool, true, false, cond, length, List, [], ◌∷◌, ◌++◌, map, Some, is_some, refl, ap, sym, ◌∙◌, subst, arith}
 use Rattle.std.specs.Prelude.{IsSome}
 use Rattle.std.proofs.lemmas.Bool.{cases_Bool, cond-true, cond-false, eq-eqb}
 use Rattle.std.proofs.lemmas.List.{length-map, map-append}
@@ -12,7 +12,7 @@ use Rattle.gc_words.specs.Layout.{link_place, field_place}
 use Rattle.gc_words.specs.Space.{SpaceWords, IsSpace, end_of, free_in, with_block, with_word}
 use Rattle.gc_words.proofs.Public.{spelled_words, objects_set, CanPlaceBlock, block_placed, field_written, link_written, none_at_end, block_there, link_placed_beside, link_beside_field, link_written_there, link_written_beside, object_found, fresh_object as new_block_object}
 use Rattle.gc_plan.specs.State.{Replica, new_objects, new_end, replica_of, fresh_object}
-use Rattle.gc_plan.specs.Steps.{with_written, write_replica}
+use Rattle.gc_plan.specs.Steps.{write_replica}
 use Rattle.gc_copy.specs.Words.{CollectionWords, replica_entry, replicas_in, collection_in}
 use Rattle.gc_copy.specs.Internal.Words.{replica_block}
 use Rattle.std.specs.Option.{option_map}
@@ -23,7 +23,7 @@ use Rattle.gc_copy.proofs.Words.{objects_laid}
 
 -- ---- lists
 
-pub map_agree : {X Y : Type 0} (f g : X → Y) (xs : List X) → ((x : X) → In x xs → f x ≡ g x) → map f xs ≡ map g xs
+map_agree : {X Y : Type 0} (f g : X → Y) (xs : List X) → ((x : X) → In x xs → f x ≡ g x) → map f xs ≡ map g xs
 map_agree f g [] h = refl
 map_agree f g (x ∷ xs) h = grind (arith, common_steps, map_agree f g xs (λ y k. h y (inr k)))
 
@@ -31,7 +31,7 @@ abbrev placed_of : Replica → ℕ × Object
 placed_of r = (r.place, r.object)
 
 -- equal originals and objects make equal replicas
-pub replicas_same : (rs ss : List Replica) → map (λ r. r.original) rs ≡ map (λ r. r.original) ss → map placed_of rs ≡ map placed_of ss → rs ≡ ss
+replicas_same : (rs ss : List Replica) → map (λ r. r.original) rs ≡ map (λ r. r.original) ss → map placed_of rs ≡ map placed_of ss → rs ≡ ss
 replicas_same [] [] e f = refl
 replicas_same [] (s ∷ ss) e f = absurd cc
 replicas_same (r ∷ rs) [] e f = absurd cc
@@ -45,11 +45,11 @@ replicas_same (r ∷ rs) (s ∷ ss) e f =
 
 -- ---- replicas in words
 
-pub originals_at : (words : List ℕ) (bs : List (ℕ × Block)) → map (λ r. r.original) (map (replica_entry words) bs) ≡ map (link_at words) (map (λ e. e.0) bs)
+originals_at : (words : List ℕ) (bs : List (ℕ × Block)) → map (λ r. r.original) (map (replica_entry words) bs) ≡ map (link_at words) (map (λ e. e.0) bs)
 originals_at words [] = refl
 originals_at words (e ∷ bs) = let rest = originals_at words bs in λ i. link_at words e.0 ∷ rest i
 
-pub placed_at : (words : List ℕ) (bs : List (ℕ × Block)) → map placed_of (map (replica_entry words) bs) ≡ map object_entry bs
+placed_at : (words : List ℕ) (bs : List (ℕ × Block)) → map placed_of (map (replica_entry words) bs) ≡ map object_entry bs
 placed_at words [] = refl
 placed_at words (e ∷ bs) = let rest = placed_at words bs in λ i. object_entry e ∷ rest i
 

@@ -19,7 +19,7 @@ use Rattle.gc_plan.specs.Belonging.{Laid, IsNamed, RefersTo, IsObject, HasRawNum
 use Rattle.gc_plan.proofs.Public.{in_map, in_map_from, in_get, get_past}
 
 -- what holds of all elements holds of each
-pub in_all : {X : Type 0} (P : X → Type 0) (xs : List X) (x : X) → All P xs → In x xs → P x
+in_all : {X : Type 0} (P : X → Type 0) (xs : List X) (x : X) → All P xs → In x xs → P x
 in_all P xs x all k =
     let i = in_get x xs k in
     let within : i.0 < length xs = get_past xs i.0 x i.1 in

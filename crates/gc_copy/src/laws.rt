@@ -1,6 +1,6 @@
 //! Laws that follow from the definitions, for heaps and collections of words. Crates that depend on this one use them in proofs by calling these functions.
 
-ghost use Rattle.std.specs.Prelude.{◌≡◌, ◌≢◌, [], ℕ, List, ◌-◌, ◌≤◌, Bool, IsTrue, IsFalse};
+ghost use Rattle.std.specs.Prelude.{◌≡◌, ◌≢◌, [], ℕ, List, ◌-◌, ◌≤◌, IsTrue};
 ghost use Rattle.gc_graph.specs.Limits.{largest_space};
 ghost use Rattle.gc_graph.specs.Graph.{Graph, IsUnused, root};
 ghost use Rattle.gc_graph.specs.Machine.{roomy_step};

@@ -8,7 +8,7 @@ use Rattle.std.proofs.lemmas.Bool.{cases_eq, leb-true, and_parts}
 use Rattle.std.proofs.lemmas.List.{length-set}
 use Rattle.std.proofs.lemmas.Option.{slice_get-get_or}
 use Rattle.gc_graph.specs.Graph.{Value, Nil, Ref, Object, Graph, root, lookup, set_root, set_field, with_field}
-use Rattle.gc_graph.specs.Machine.{step, view_of, is_number, put_field}
+use Rattle.gc_graph.specs.Machine.{step, view_of, is_number}
 use Rattle.gc_graph.specs.Slots.{SlotName, place}
 use Rattle.gc_graph.specs.declared.command.Op.{Op}
 use Rattle.gc_graph.specs.declared.command.Op.TheVariants.{Get, Put}
@@ -43,7 +43,7 @@ after_one g r a i v = record { objects = set_field g.objects a i v; roots = slic
 root_beside : (rs : List Value) (r p : ℕ) (v : Value) → (r ≡ p → ⊥) → unwrap_or (slice_get (slice_set rs r v) p) Nil ≡ unwrap_or (slice_get rs p) Nil
 root_beside rs r p v apart = ap (λ o. unwrap_or o Nil) (get_set_other rs r p v (λ e. apart (sym e)))
 
-pub can_still : (g : Graph) (p q r i j n : ℕ) (c : CanCopy g p q i j (suc n)) (v : Value) → (r ≡ p → ⊥) → (r ≡ q → ⊥) → slice_get c.giver.fields j ≡ Some v → CanCopy (after_one g r c.a i v) p q (suc i) (suc j) n
+can_still : (g : Graph) (p q r i j n : ℕ) (c : CanCopy g p q i j (suc n)) (v : Value) → (r ≡ p → ⊥) → (r ≡ q → ⊥) → slice_get c.giver.fields j ≡ Some v → CanCopy (after_one g r c.a i v) p q (suc i) (suc j) n
 can_still g p q r i j n c v apart other seen = ⊎_elim here there (cases_eq c.b c.a)
   where
     taken : lookup (set_field g.objects c.a i v) c.a ≡ Some (with_field c.taker i v)
@@ -59,14 +59,14 @@ can_still g p q r i j n c v apart other seen = ⊎_elim here there (cases_eq c.b
     there differ = grind (arith, common_steps, root_beside, taken, lookup_set_other, length-set)
 
 -- the value of field j
-pub value_there : (g : Graph) (p q i j n : ℕ) (c : CanCopy g p q i j (suc n)) → slice_get c.giver.fields j ≡ Some (get_or c.giver.fields j Nil)
+value_there : (g : Graph) (p q i j n : ℕ) (c : CanCopy g p q i j (suc n)) → slice_get c.giver.fields j ≡ Some (get_or c.giver.fields j Nil)
 value_there g p q i j n c = (let long = c.giver_long in slice_get-get_or c.giver.fields j Nil (omega (arith, long)))
 
-pub get_sees : (g : Graph) (m name : ℕ) (d src t : SlotName) (i j n : ℕ) (c : CanCopy g (place d m) (place src m) i j (suc n)) (v : Value) → slice_get c.giver.fields j ≡ Some v
+get_sees : (g : Graph) (m name : ℕ) (d src t : SlotName) (i j n : ℕ) (c : CanCopy g (place d m) (place src m) i j (suc n)) (v : Value) → slice_get c.giver.fields j ≡ Some v
     → step g m (Get t src j) name ≡ (Saw (view_of g.objects v), set_root g (place t m) v)
 get_sees g m name d src t i j n c v seen = grind (arith, common_steps)
 
-pub put_writes_it : (g : Graph) (m name : ℕ) (d src t : SlotName) (i j n : ℕ) (c : CanCopy g (place d m) (place src m) i j (suc n)) (v : Value) → slice_get c.giver.fields j ≡ Some v
+put_writes_it : (g : Graph) (m name : ℕ) (d src t : SlotName) (i j n : ℕ) (c : CanCopy g (place d m) (place src m) i j (suc n)) (v : Value) → slice_get c.giver.fields j ≡ Some v
     → (place t m ≡ place d m → ⊥) → place t m < length g.roots
     → step (set_root g (place t m) v) m (Put d i t) name ≡ (Done, after_one g (place t m) c.a i v)
 put_writes_it g m name d src t i j n c v seen apart inside = grind (arith, common_steps, ap (λ o. unwrap_or o Nil) (get_set_same g.roots (place t m) v inside), root_beside g.roots (place t m) (place d m) v apart ∙ c.target, slice_get-get_or c.taker.fields i Nil (omega (arith, c.taker_long)))
@@ -77,7 +77,7 @@ put_writes_it g m name d src t i j n c v seen apart inside = grind (arith, commo
 pub steps_to : (s : State) (m : ℕ) (op : Op) (reply : Reply) (g : Graph) → (Rattle.gc_graph.specs.Machine.MakesObject op → ⊥) → step s.heap.graph m op (heap_end s) ≡ (reply, g) → ((mutate s m op).0 ≡ reply) × ((mutate s m op).1.heap.graph ≡ g)
 steps_to s m op reply g none e = grind (arith, common_steps, in_place, with_free)
 
-pub all_done : (n : ℕ) (s : State) (m i j : ℕ) (d src t : SlotName) → (place t m ≡ place d m → ⊥) → (place t m ≡ place src m → ⊥) → place t m < length s.heap.graph.roots → CanCopy s.heap.graph (place d m) (place src m) i j n → AllCopied s m d i src j t n
+all_done : (n : ℕ) (s : State) (m i j : ℕ) (d src t : SlotName) → (place t m ≡ place d m → ⊥) → (place t m ≡ place src m → ⊥) → place t m < length s.heap.graph.roots → CanCopy s.heap.graph (place d m) (place src m) i j n → AllCopied s m d i src j t n
 all_done zero s m i j d src t apart other inside c = tt
 all_done (suc n) s m i j d src t apart other inside c =
     let g = s.heap.graph in
@@ -103,7 +103,7 @@ number_at (x ∷ xs) zero (suc n) (suc k) v all low high e = number_at xs zero n
 number_at (x ∷ xs) (suc f) n zero v all low high e = absurd (omega (arith, low))
 number_at (x ∷ xs) (suc f) n (suc k) v all low high e = number_at xs f n k v all (omega (arith, low)) (omega (arith, high)) e
 
-pub can_copy : (g : Graph) (m to from n : ℕ) (d src : SlotName) → copy_reply to from n (object_in g d m) (object_in g src m) ≡ Done → CanCopy g (place d m) (place src m) to from n
+can_copy : (g : Graph) (m to from n : ℕ) (d src : SlotName) → copy_reply to from n (object_in g d m) (object_in g src m) ≡ Done → CanCopy g (place d m) (place src m) to from n
 can_copy g m to from n d src said = grind (arith, common_steps, leb-true, number_at)
 
 pub each_done : (s : State) (m to from n : ℕ) (d src t : SlotName) → (place t m ≡ place d m → ⊥) → (place t m ≡ place src m → ⊥) → place t m < length s.heap.graph.roots → (copy_fields_step s m d to src from t n).0 ≡ Done → AllCopied s m d to src from t n

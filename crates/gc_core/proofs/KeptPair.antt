@@ -1,6 +1,6 @@
 -- The pair that a flip returns, put together from its parts, and the room that it leaves.
 use Rattle.std.proofs.lemmas.Grind.{common_steps}
-use Rattle.std.proofs.Common.{◌≡◌, ℕ, Bool, true, false, List, Option, Some, sym, subst, arith}
+use Rattle.std.proofs.Common.{◌≡◌, ℕ, Bool, true, List, Option, Some, sym, subst, arith}
 use Rattle.std.specs.Option.{option_map, option_or}
 use Rattle.gc_words.specs.Image.{Image}
 use Rattle.gc_words.specs.Certificate.{Certified}

@@ -1,7 +1,7 @@
 -- What commands and steps leave of the marks of a collected heap.
 use Rattle.std.proofs.lemmas.Grind.{common_steps}
 use Rattle.std.proofs.Common.{◌≡◌, ◌≢◌, ⊎_elim, ℕ, zero, suc, ◌+◌, ◌-◌, ◌<◌, ◌≤◌, nat_lt, List, [], ◌∷◌, length, map, slice_get, replicate, Option, Some, None, refl, sym, ap, ◌∙◌, subst, arith}
-use Rattle.std.specs.Prelude.{IfSome, slice_index, slice_set, false, min, max}
+use Rattle.std.specs.Prelude.{IfSome, slice_index, slice_set, min, max}
 use Rattle.std.specs.Option.{option_map, unwrap_or}
 use Rattle.std.proofs.lemmas.Bool.{cond_both, cases_lt, cases_eq, ltb-true}
 use Rattle.gc_graph.specs.Slots.{SlotName, place, roots_of}
@@ -82,7 +82,7 @@ slot_command known s m op below k = record {
     other i = not_this (roots_of s.mutators) m op (roots_of s.mutators + i) below (omega arith)
 
 -- a command that writes no root
-pub quiet_command : (known : KnownRoots) (s : State) (m : ℕ) (op : Op) → root_written m op ≡ None → KnowsRoots known s → KnowsRoots known (mutate s m op).1
+quiet_command : (known : KnownRoots) (s : State) (m : ℕ) (op : Op) → root_written m op ≡ None → KnowsRoots known s → KnowsRoots known (mutate s m op).1
 quiet_command known s m op none k = record {
   slots_high = k.slots_high;
   extra_high = k.extra_high;

@@ -1,4 +1,4 @@
-ghost use Rattle.std.specs.Prelude.{◌≡◌, ◌<◌, ◌^◌, IfOk, IsTrue, IsFalse, OnErr, length};
+ghost use Rattle.std.specs.Prelude.{◌≡◌, ◌<◌, ◌^◌, IfOk, IsTrue, OnErr, length};
 ghost use Rattle.gc_heap.specs.Heap.{graph_in};
 ghost use Rattle.gc_plan.specs.Steps.{is_ready};
 ghost use Rattle.gc_copy.specs.Words.{BelongsTo, collection_in, open_state};
@@ -60,8 +60,8 @@ impl CollectedHeap {
     }
 }
 
-// Asks the checker about the certificate of a ready collection, which always holds.
-fn found_by<C: Checks>(
+/// Asks the checker about the certificate of a ready collection, which always holds.
+pub(crate) fn found_by<C: Checks>(
     checker: &C,
     alloc: Global,
     heap: &Heap,

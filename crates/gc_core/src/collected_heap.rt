@@ -45,8 +45,6 @@ impl CollectedHeap {
     ghost use Rattle.gc_plan.specs.State.{opening_state};
     ghost use Rattle.gc_copy.specs.Opening.{opening_state_with};
     ghost use Rattle.gc_heap.specs.ExtraRoots.{CanOpen};
-    ghost use Rattle.gc_plan.specs.Steps.{useful_step};
-    ghost use Rattle.gc_plan.specs.Runs.{IsStep};
     ghost use Rattle.gc_heap.specs.Heap.{roomy_in};
 
     /// Returns an empty heap of `size` words, at least 1, for 1 to 16 mutators.

@@ -1,12 +1,12 @@
 ghost use Rattle.std.specs.Prelude.{◌≡◌, ◌<◌, ◌^◌, None, IfOk, IfSome, IsSome, length};
 ghost use Rattle.gc_plan.specs.Steps.{is_ready};
-ghost use Rattle.gc_copy.specs.Words.{BelongsTo, collection_in};
+ghost use Rattle.gc_copy.specs.Words.{BelongsTo, IsCollection, collection_in};
 ghost use Rattle.gc_heap.specs.Heap.{graph_in};
 ghost use Rattle.std.specs.Prelude.{IsTrue};
-ghost use Rattle.gc_core.specs.Internal.Flip.{IsDraft, AreCopies};
+ghost use Rattle.gc_core.specs.Internal.Flip.{IsDraft, IsNewImage};
 ghost use Rattle.gc_core.specs.declared.flip.Keep.{Keep};
 
-use gc_cert::PairFile;
+use gc_cert::{Image, PairFile};
 use gc_copy::{Collection, Room, StepReply};
 use gc_graph::NoMemory;
 use gc_heap::Heap;
@@ -65,37 +65,29 @@ impl Draft {
     }
 }
 
-/// Copies of the new words and roots, for the pair that is kept.
-#[derive(Debug, Drop)]
-pub(crate) struct Copies {
-    pub(crate) words: Vec<u64>,
-    pub(crate) roots: Vec<u64>,
-}
-
-impl Copies {
-    /// Copies the new space's words and these roots. Allocates twice.
-    fn new(alloc: Global, collection: &Collection, roots: &[u64]) -> Result<Copies, NoMemory>
-        ensures { IfOk result (AreCopies collection.now roots.now) }
-    {
-        let words = Vec::from_slice(alloc, collection.new_image(roots).words)?;
-        let roots = Vec::from_slice(alloc, roots)?;
-        Ok(Copies { words, roots })
-    }
-
-    /// Makes the copies if the pair is to be kept.
-    pub(crate) fn for_keeping(
-        alloc: Global,
-        collection: &Collection,
-        roots: &[u64],
-        keep: Keep,
-    ) -> Result<Option<Copies>, NoMemory>
-        ensures copies { IfOk result (λ copies. IfSome copies (AreCopies collection.now roots.now)) }
-        ensures pair { IfOk result (λ copies. keep ≡ Keep.Pair → IsSome copies) }
-        ensures nothing { IfOk result (λ copies. keep ≡ Keep.Nothing → copies ≡ None) }
-    {
-        match keep {
-            Keep::Nothing => Ok(None),
-            Keep::Pair => Ok(Some(Copies::new(alloc, collection, roots)?)),
-        }
-    }
+/// Copies the image of the new space with these roots, if the pair of the flip is to be kept. Allocates twice.
+pub(crate) fn new_image_copied(
+    alloc: Global,
+    collection: &Collection,
+    roots: &[u64],
+    keep: Keep,
+) -> Result<Option<Image>, NoMemory>
+    ensures copy { IfOk result (λ copy. IfSome copy (IsNewImage collection.now roots.now)) }
+    ensures pair { IfOk result (λ copy. keep ≡ Keep.Pair → IsSome copy) }
+    ensures nothing { IfOk result (λ copy. keep ≡ Keep.Nothing → copy ≡ None) }
+    ensures sound { IsCollection collection.now }
+{
+    let new = collection.new_image(roots);
+    let Keep::Pair = keep else {
+        return Ok(None);
+    };
+    let words = Vec::from_slice(alloc, new.words)?;
+    let roots = Vec::from_slice(alloc, roots)?;
+    Ok(Some(Image {
+        size: new.size,
+        end: new.end,
+        words,
+        roots,
+        raws: new.raws,
+    }))
 }

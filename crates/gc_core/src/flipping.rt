@@ -3,20 +3,19 @@ ghost use Rattle.std.specs.Option.{option_map, option_or};
 ghost use Rattle.gc_cert.specs.Views.{pair_in};
 ghost use Rattle.gc_heap.specs.Heap.{graph_in};
 ghost use Rattle.gc_plan.specs.Steps.{collect, is_ready};
-ghost use Rattle.gc_copy.specs.Words.{AreMoved, BelongsTo, HasNoLinks, collection_in, idle_state, open_state};
-ghost use Rattle.gc_plan.specs.State.{pairs_of};
+ghost use Rattle.gc_copy.specs.Words.{AreMoved, BelongsTo, HasNoLinks, IsCollection, collection_in, idle_state, open_state};
 ghost use Rattle.gc_plan.specs.declared.step.Step.{Step};
 ghost use Rattle.gc_plan.specs.declared.step.StepReply.{StepReply};
 ghost use Rattle.gc_core.specs.Flip.{HasAccepted, flip_pair, IsCertified};
-ghost use Rattle.gc_core.specs.Internal.Flip.{IsDraft, AreCopies};
+ghost use Rattle.gc_core.specs.Internal.Flip.{IsDraft, IsNewImage};
 
-use crate::checking::Finding;
+use crate::checking::{Finding, found_by};
 use crate::collected_heap::CollectedHeap;
-use crate::flip::{AlongFlip, Copies, Draft, Flip, Keep};
+use crate::flip::{AlongFlip, Draft, Flip, Keep, new_image_copied};
 use crate::known::search;
 use gc_along::{Outline, Watcher};
 use gc_cert::{Image, PairFile};
-use gc_check::{CheckFault, Checks};
+use gc_check::Checks;
 use gc_copy::{Collection, Room, StepReply, heaps_have_addresses_as_names, images_show_links};
 use gc_graph::{NoMemory, root_count};
 use gc_heap::Heap;
@@ -66,12 +65,13 @@ impl CollectedHeap {
         // The checker and the pair that is kept see the links as they are without a mark.
         collection.unmark(&mut self.heap);
         let draft = Draft::new(self.alloc, &self.heap, collection)?;
-        if !accepts(checker, self.alloc, &self.heap, collection, &draft)? {
+        let Finding::Holds { .. } = found_by(checker, self.alloc, &self.heap, collection, &draft)?
+        else {
             return Ok(without_pair(StepReply::Refused));
-        }
-        let copies = Copies::for_keeping(self.alloc, collection, &draft.roots, keep)?;
+        };
+        let copy = new_image_copied(self.alloc, collection, &draft.roots, keep)?;
         let collection = self.collection.take().unwrap();
-        Ok(carry_out(&mut self.heap, collection, draft, copies))
+        Ok(carry_out(&mut self.heap, collection, draft, copy))
     }
 
     /// Flips if the open collection is ready, and a checker that went along accepts the outlines of both images, or else this checker
@@ -215,52 +215,21 @@ fn without_pair(reply: StepReply) -> Flip
     Flip { reply, pair: None }
 }
 
-// Asks the checker whether it accepts the certificate. The certificate of a ready collection is always accepted.
-fn accepts<C: Checks>(
-    checker: &C,
-    alloc: Global,
-    heap: &Heap,
-    collection: &Collection,
-    draft: &Draft,
-) -> Result<bool, NoMemory>
-    requires can { C.can_check checker.now }
-    requires belongs { BelongsTo heap.now collection.now }
-    requires ready { IsTrue (is_ready (collection_in collection.now) (graph_in heap.now)) }
-    requires unmarked { collection.now.epoch ≡ 0 }
-    requires draft { IsDraft heap.now collection.now draft.now }
-    requires few { length draft.now.pairs.items < 2 ^ 32 }
-    ensures yes { IfOk result (λ yes. IsTrue yes) }
-    ensures asked { IfOk result (λ yes. C.says_yes checker.now
-        (flip_pair (open_state heap.now collection.now) (collection_in collection.now))) }
-    // This follows from the checker's yes.
-    ensures certified { IfOk result (λ yes. IsCertified
-        (flip_pair (open_state heap.now collection.now) (collection_in collection.now))) }
-{
-    images_show_links();
-    no_fault_where_certified();
-    let old = heap.image();
-    let new = collection.new_image(&draft.roots);
-    match checker.check(alloc, old, new, &draft.pairs) {
-        Ok(_) => Ok(true),
-        Err(CheckFault::Refused(_)) => Ok(false),
-        Err(CheckFault::NoMemory) => Err(NoMemory),
-    }
-}
-
-// Carries out an accepted flip. If there are copies, returns the pair that the checker saw.
-fn carry_out(heap: &mut Heap, collection: Collection, draft: Draft, copies: Option<Copies>) -> Flip
+// Carries out an accepted flip. If there is a copy of the new image, returns the pair that the checker saw.
+fn carry_out(heap: &mut Heap, collection: Collection, draft: Draft, copy: Option<Image>) -> Flip
+    requires sound { IsCollection collection }
     requires belongs { BelongsTo heap.old collection }
     requires ready { IsTrue (is_ready (collection_in collection) (graph_in heap.old)) }
     requires unmarked { collection.epoch ≡ 0 }
     requires draft { IsDraft heap.old collection draft }
-    requires copies { IfSome copies (AreCopies collection draft.roots.items) }
+    requires copy { IfSome copy (IsNewImage collection draft.roots.items) }
     requires few { length draft.pairs.items < 2 ^ 32 }
     ensures step { collect (open_state heap.old collection) Step.Flip ≡ (result.reply, idle_state heap.new) }
     ensures reply { result.reply ≡ StepReply.Flipped (length (collection_in collection).replicas) }
     ensures links { HasNoLinks heap.new }
-    ensures pair { IsSome copies → option_map pair_in result.pair
+    ensures pair { IsSome copy → option_map pair_in result.pair
         ≡ Some (flip_pair (open_state heap.old collection) (collection_in collection)) }
-    ensures nothing { copies ≡ None → result.pair ≡ None }
+    ensures nothing { copy ≡ None → result.pair ≡ None }
     ensures certified { IfSome result.pair (λ file. IsCertified (pair_in file)) }
     ensures mutators { heap.new.mutators ≡ heap.old.mutators }
 {
@@ -271,12 +240,8 @@ fn carry_out(heap: &mut Heap, collection: Collection, draft: Draft, copies: Opti
     let reply = StepReply::Flipped {
         pairs: pairs.len() as u32,
     };
-    let new = collection.new_image(&roots);
-    let size = new.size;
-    let end = new.end;
-    let raws = new.raws;
     let (old_space, old_roots) = collection.flip_into(heap, roots);
-    let Some(Copies { words, roots }) = copies else {
+    let Some(new) = copy else {
         return without_pair(reply);
     };
     let old = Image {
@@ -284,14 +249,7 @@ fn carry_out(heap: &mut Heap, collection: Collection, draft: Draft, copies: Opti
         end: old_space.end(),
         words: old_space.into_words(),
         roots: old_roots,
-        raws,
-    };
-    let new = Image {
-        size,
-        end,
-        words,
-        roots,
-        raws,
+        raws: new.raws,
     };
     let pair = Some(PairFile { old, new, pairs });
     Flip { reply, pair }

@@ -8,7 +8,7 @@ use Rattle.std.specs.Option.{option_map}
 use Rattle.std.proofs.lemmas.Bool.{or_left, or_right, cases_Bool, eqb-true, eq-eqb, ne_eqb, and_parts, and_from, or_cases, ltb-true, ltb-false}
 use Rattle.std.proofs.lemmas.List.{get_or-map}
 use Rattle.std.proofs.lemmas.List.Elements.{All-nil, All-cons, All-head, All-tail}
-use Rattle.gc_graph.specs.Graph.{Value, Nil, Num, Ref}
+use Rattle.gc_graph.specs.Graph.{Value, Num, Ref}
 use Rattle.gc_graph.specs.Correspond.{paired, correspond}
 use Rattle.gc_words.specs.Word.{words_correspond, field_words_correspond}
 use Rattle.gc_words.specs.Image.{Block, walk, blocks, block_in, block_at}

@@ -34,7 +34,7 @@ walk_on (w ∷ ws) zero at bs ys cs room e f =
 
 -- ---- in a whole space
 
-pub whole_walked : (size : ℕ) (front young : List ℕ) → IsSpace (record { size = size; words = front }) → IsOk (walk true 0 (length front) young)
+whole_walked : (size : ℕ) (front young : List ℕ) → IsSpace (record { size = size; words = front }) → IsOk (walk true 0 (length front) young)
     → walk_words (front ++ young) ≡ Ok (blocks front ++ young_blocks (length front) young)
 whole_walked size front young shaped ok = grind (arith, common_steps, walk_on, walked_blocks, ok_is)
 

@@ -12,7 +12,7 @@ pub struct Slot {
 }
 
 impl Model for Slot {
-    ghost use Rattle.std.specs.Prelude.{ℕ, ◌<◌};
+    ghost use Rattle.std.specs.Prelude.{◌<◌};
     ghost use Rattle.gc_graph.specs.Limits.{slots_each};
     ghost use Rattle.gc_graph.specs.Slots.{SlotName};
     ghost use Rattle.gc_graph.specs.Internal.Slots.{coded_slot};
@@ -29,7 +29,7 @@ impl Model for Slot {
 }
 
 impl Slot {
-    ghost use Rattle.std.specs.Prelude.{◌≡◌, ◌<◌, ◌≤◌, ◌+◌, ◌*◌, true, false, SomeIff};
+    ghost use Rattle.std.specs.Prelude.{◌≡◌, ◌<◌, ◌+◌, ◌*◌, true, false, SomeIff};
     ghost use Rattle.gc_graph.specs.Limits.{slots_each};
     ghost use Rattle.gc_graph.specs.Slots.{own_slot, shared_slot, place as place_of, roots_of};
 

@@ -108,7 +108,7 @@ pub record Filled (h : HeapWords) (m : ℕ) (s t : SlotName) (a i len : ℕ) (nu
   pub heap : IsHeap (with_numbers h (place t m) a i numbers)
   pub takes : TakesNumbers (with_numbers h (place t m) a i numbers) (place s m) a len
 
-pub numbers_filled : (numbers : List ℕ) (h : HeapWords) (m : ℕ) (s t : SlotName) (a i len : ℕ) → IsHeap h → TakesNumbers h (place s m) a len → (place t m ≡ place s m → ⊥) → place t m < length h.roots
+numbers_filled : (numbers : List ℕ) (h : HeapWords) (m : ℕ) (s t : SlotName) (a i len : ℕ) → IsHeap h → TakesNumbers h (place s m) a len → (place t m ≡ place s m → ⊥) → place t m < length h.roots
     → i + length numbers ≤ len → All (λ n. n < 2 ^ 63) numbers → Filled h m s t a i len numbers
 numbers_filled [] h m s t a i len heap takes apart inside room small = record { writes = refl; heap = heap; takes = takes }
 numbers_filled (n ∷ rest) h m s t a i len heap takes apart inside room small =
@@ -125,15 +125,15 @@ numbers_filled (n ∷ rest) h m s t a i len heap takes apart inside room small =
     }
 
 -- the last number is left
-pub last_left : (rest roots : List ℕ) (p n d : ℕ) → left_in roots p (n ∷ rest) ≡ slice_set roots p (word_of (Num (get_or (n ∷ rest) (length rest) d)))
+last_left : (rest roots : List ℕ) (p n d : ℕ) → left_in roots p (n ∷ rest) ≡ slice_set roots p (word_of (Num (get_or (n ∷ rest) (length rest) d)))
 last_left [] roots p n d = refl
 last_left (k ∷ rest) roots p n d = last_left rest (slice_set roots p (word_of (Num n))) p k d ∙ set-set roots p (word_of (Num n)) (word_of (Num (get_or (k ∷ rest) (length rest) d)))
 
-pub last_of : (numbers roots : List ℕ) (p : ℕ) → 1 ≤ length numbers → left_in roots p numbers ≡ slice_set roots p (2 * get_or numbers (length numbers - 1) 0 + 1)
+last_of : (numbers roots : List ℕ) (p : ℕ) → 1 ≤ length numbers → left_in roots p numbers ≡ slice_set roots p (2 * get_or numbers (length numbers - 1) 0 + 1)
 last_of numbers roots p some = grind (arith, common_steps, last_left)
 
 -- an object has one length
-pub one_length : (h : HeapWords) (q a len other : ℕ) → TakesNumbers h q a len → TakesNumbers h q a other → len ≡ other
+one_length : (h : HeapWords) (q a len other : ℕ) → TakesNumbers h q a len → TakesNumbers h q a other → len ≡ other
 one_length h q a len other t u = grind (arith, common_steps)
 
 -- what the call leaves, if there are numbers

@@ -146,7 +146,7 @@ module _ (s : State) (m : ℕ) (d : SlotName) (kind count : ℕ) (finish : Reply
           (r, inr (x.now, (lookup_in (finish replies.Made later).heap.graph.objects (heap_end s) x.now x.found, omega (arith, x.len, more, r.1))))
 
   -- the checker goes along and is not lost, whether there was room or not
-  pub both_made : (along : Bool) (s' : State) (t after : Tables) (links : ℕ → ℕ) (old : List ℕ) → IfSome s.collection (IsOpened s) → finish (mutate s m (ops.New d kind count)).0 (mutate s m (ops.New d kind count)).1 ≡ s' → IsSpaceGraph s'.size s'.heap.free s'.heap.graph → old ≡ heap_words links s'
+  both_made : (along : Bool) (s' : State) (t after : Tables) (links : ℕ → ℕ) (old : List ℕ) → IfSome s.collection (IsOpened s) → finish (mutate s m (ops.New d kind count)).0 (mutate s m (ops.New d kind count)).1 ≡ s' → IsSpaceGraph s'.size s'.heap.free s'.heap.graph → old ≡ heap_words links s'
       → (t.lost ≡ true → after.lost ≡ true) → (t.lost ≡ false → CanMake old t → after.lost ≡ false) → (after.lost ≡ false → Made old t after) → IsLasting along s t → IsLasting along s' after
   unfolding made op
   both_made along s' t after links old is_open is later words lost stays made_is h = (

@@ -26,14 +26,14 @@ use Rattle.gc_beside.proofs.Public.{begun_known, dropped_known, flipped_known, G
 pub goes_of : (s : State) (t : Tables) → IsLive s t → t.lost ≡ false → GoesBeside s s.collection (watch_of t)
 goes_of s t h found = grind (arith, common_steps)
 
-pub goes_in : (s : State) (c : Collection) (t : Tables) → s.collection ≡ Some c → IsLive s t → t.lost ≡ false → Goes s c (watch_of t)
+goes_in : (s : State) (c : Collection) (t : Tables) → s.collection ≡ Some c → IsLive s t → t.lost ≡ false → Goes s c (watch_of t)
 goes_in s c t is live found = subst (λ o. GoesBeside s o (watch_of t)) is (goes_of s t live found)
 
-pub knows_in : (s : State) (c : Collection) (t : Tables) → s.collection ≡ Some c → IsNeverLost s t → Knows s c t
+knows_in : (s : State) (c : Collection) (t : Tables) → s.collection ≡ Some c → IsNeverLost s t → Knows s c t
 knows_in s c t is k = subst (λ o. Knows s (open_or_fresh s o) t) is k.knows
 
 -- the heap is the same
-pub known_with : (s s' : State) (next : Collection) (t : Tables) → s' ≡ with_collection s (Some next) → Knows s next t → KnowsAll s' t
+known_with : (s s' : State) (next : Collection) (t : Tables) → s' ≡ with_collection s (Some next) → Knows s next t → KnowsAll s' t
 known_with s s' next t is k = subst (λ (x : State). KnowsAll x t) (sym is) (record { kept = k.kept; due = k.due; marks = k.marks; old_room = k.old_room; new_room = k.new_room })
 
 -- a step of an open collection
@@ -43,7 +43,7 @@ pub record InOpen (s s' : State) (step : Step) (reply : StepReply) (c next : Col
   pub said : step_in s c step ≡ (reply, s')
   pub is : s' ≡ with_collection s (Some next)
 
-pub in_open : (s s' : State) (step : Step) (reply : StepReply) (c next : Collection) → (step ≡ steps.Flip → ⊥) → collect s step ≡ (reply, s') → IfSome s.collection (IsOpened s) → IfSome s'.collection (IsOpened s') → s.collection ≡ Some c → s'.collection ≡ Some next → InOpen s s' step reply c next
+in_open : (s s' : State) (step : Step) (reply : StepReply) (c next : Collection) → (step ≡ steps.Flip → ⊥) → collect s step ≡ (reply, s') → IfSome s.collection (IsOpened s) → IfSome s'.collection (IsOpened s') → s.collection ≡ Some c → s'.collection ≡ Some next → InOpen s s' step reply c next
 in_open s s' step reply c next other said is_open is_open' first there = grind (arith, common_steps, steps_stay)
 
 -- where a step has such a reply a collection was open
@@ -55,7 +55,7 @@ was_open s s' step reply idle said = go s.collection refl
     go (Some c) e = (c, refl)
 
 -- the words that a caller read are those of the open collection
-pub opened_by : (s : State) (words : List ℕ) → AreNew s words → (next : Collection) × (s.collection ≡ Some next) × (words ≡ replica_words next)
+opened_by : (s : State) (words : List ℕ) → AreNew s words → (next : Collection) × (s.collection ≡ Some next) × (words ≡ replica_words next)
 opened_by s words are = grind (arith, common_steps)
 
 -- the words that a caller read are those of the mutators' space, with links that lead to the open collection's replicas
@@ -141,7 +141,7 @@ module _ (s s' : State) (old words : List ℕ) (heap : IsSpaceGraph s.size s.hea
 
 -- ---- steps after which nothing is told
 
-pub lasts_same : (s s' : State) (t : Tables) → s' ≡ s → IsNeverLost s t → IsNeverLost s' t
+lasts_same : (s s' : State) (t : Tables) → s' ≡ s → IsNeverLost s t → IsNeverLost s' t
 lasts_same s s' t e k = subst (λ (x : State). IsNeverLost x t) (sym e) k
 
 pub lasts_scan_other : (s s' : State) (reply : StepReply) (t : Tables) → IsSpaceGraph s.size s.heap.free s.heap.graph → IfSome s.collection (IsOpened s) → IfSome s'.collection (IsOpened s') → collect s steps.Scan ≡ (reply, s') → (reply ≡ Scanned → ⊥)
@@ -185,7 +185,7 @@ lasts_dropped s s' reply t after heap is_open said stays freed live k = go s.col
         nothing_freed e = grind (arith, common_steps, goes_of, found, begun_belongs, length-replicate, dropped_known, length-map, some_room)
     go (Some c) e u = is_fresh (sym (ap (λ (x : StepReply × State). x.1) u)) (dropped_known s c t after heap (subst (λ (o : Option Collection). IfSome o (IsOpened s)) e is_open) (goes_in s c t e live k.found) (knows_in s c t e k) some_room (freed found))
 
-pub lasts_flipped : (s s' : State) (c : Collection) (t after : Tables) → IsSpaceGraph s.size s.heap.free s.heap.graph → s.collection ≡ Some c → IsOpened s c → s' ≡ flipped s c → (t.lost ≡ false → after.lost ≡ false) → (after.lost ≡ false → after ≡ flipped_tables t)
+lasts_flipped : (s s' : State) (c : Collection) (t after : Tables) → IsSpaceGraph s.size s.heap.free s.heap.graph → s.collection ≡ Some c → IsOpened s c → s' ≡ flipped s c → (t.lost ≡ false → after.lost ≡ false) → (after.lost ≡ false → after ≡ flipped_tables t)
     → IsNeverLost s t → IsNeverLost s' after
 lasts_flipped s s' c t after heap first opened is stays flips k = grind (arith, common_steps, flipped_known, knows_in)
 

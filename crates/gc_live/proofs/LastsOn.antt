@@ -55,7 +55,7 @@ pub quiet_two : (s mid s' : State) → Continues s mid NoName → Continues mid 
 quiet_two s mid s' h k = continues_on s mid s' NoName NoName NoName (λ a n. n) (λ a n. n) h k
 
 -- two such commands
-pub lasts_two : (s mid s' : State) (m : ℕ) (op : Op) (one reply : Reply) (put : Op) (t : Tables) → mutate s m op ≡ (one, mid) → words_taken op ≡ 0 → mutate mid m put ≡ (reply, s') → words_taken put ≡ 0 → IsNeverLost s t → IsNeverLost s' t
+lasts_two : (s mid s' : State) (m : ℕ) (op : Op) (one reply : Reply) (put : Op) (t : Tables) → mutate s m op ≡ (one, mid) → words_taken op ≡ 0 → mutate mid m put ≡ (reply, s') → words_taken put ≡ 0 → IsNeverLost s t → IsNeverLost s' t
 lasts_two s mid s' m op one reply put t first none second none' k = lasts_quietly s s' t (quiet_two s mid s' (quiet_one s mid m op one first none) (quiet_one mid s' m put reply second none')) k
 
 clear_quiet : (n : ℕ) (s : State) (k : ℕ) → Continues s (clear_step s k n) NoName

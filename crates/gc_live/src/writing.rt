@@ -1,6 +1,6 @@
 //! Writes several fields in one call: numbers to a raw object, the fields of one object to another, and those of a new object.
 
-ghost use Rattle.std.specs.Prelude.{◌≡◌, ◌≢◌, ◌<◌, ◌≤◌, ◌+◌, length, IfOk, OnErr, IsSome};
+ghost use Rattle.std.specs.Prelude.{◌≡◌, ◌≢◌, ◌<◌, ◌≤◌, ◌+◌, IfOk, OnErr, IsSome};
 ghost use Rattle.gc_graph.specs.Slots.{place};
 ghost use Rattle.gc_core.specs.Writing.{put_numbers_step};
 ghost use Rattle.gc_core.specs.Copying.{copy_fields_step};

@@ -46,7 +46,7 @@ found_log [] k m h = absurd cc
 found_log ([] ∷ logs) k m h = let r = found_log logs (suc k) m h in (suc r.0, (let e = r.1 in omega arith), r.2)
 found_log ((entry ∷ log) ∷ logs) k m h = (zero, (let e : k ≡ m = cc h in omega arith), refl)
 
-pub no_log : (logs : List (List (ℕ × ℕ))) (k : ℕ) → first_log k logs ≡ None → list_all is_empty logs ≡ true
+no_log : (logs : List (List (ℕ × ℕ))) (k : ℕ) → first_log k logs ≡ None → list_all is_empty logs ≡ true
 no_log [] k h = refl
 no_log ([] ∷ logs) k h = no_log logs (suc k) h
 no_log ((entry ∷ log) ∷ logs) k h = absurd cc

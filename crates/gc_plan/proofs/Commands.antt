@@ -34,7 +34,7 @@ Evolves before later Touched = (a : ℕ) (o : Object) → lookup before a ≡ So
 pub unchanged : (objects : List (ℕ × Object)) (Touched : ℕ → ℕ → Type 0) → Evolves objects objects Touched
 unchanged objects Touched a o h = record { now = o; found = h; raw = refl; kind = refl; len = refl; fields = λ j w k. inl k }
 
-pub object_more : (before later : List (ℕ × Object)) (o : Object) → ((a : ℕ) → IsNamed before a → IsNamed later a) → IsObject before o → IsObject later o
+object_more : (before later : List (ℕ × Object)) (o : Object) → ((a : ℕ) → IsNamed before a → IsNamed later a) → IsObject before o → IsObject later o
 object_more before later o more h = record { kind = h.kind; len = h.len; fields = λ v k. refers_map (IsNamed before) (IsNamed later) more v (h.fields v k) }
 
 -- ---- raw objects keep their numbers
@@ -42,7 +42,7 @@ object_more before later o more h = record { kind = h.kind; len = h.len; fields 
 suited : (raw number : Bool) → raw ≡ true → (raw && not number) ≡ false → number ≡ true
 suited raw number e f = grind (arith, common_steps)
 
-pub numbers_set : (objects : List (ℕ × Object)) (name i : ℕ) (v : Value) (o : Object) → HasRawNumbers objects → lookup objects name ≡ Some o → (o.raw && not (is_number v)) ≡ false → HasRawNumbers (set_field objects name i v)
+numbers_set : (objects : List (ℕ × Object)) (name i : ℕ) (v : Value) (o : Object) → HasRawNumbers objects → lookup objects name ≡ Some o → (o.raw && not (is_number v)) ≡ false → HasRawNumbers (set_field objects name i v)
 numbers_set objects name i v o h is suits a q found raw w k = go (lookup objects a) refl
   where
     none_left : lookup objects a ≡ None → lookup (set_field objects name i v) a ≡ None
@@ -59,10 +59,10 @@ numbers_set objects name i v o h is suits a q found raw w k = go (lookup objects
         (λ x. h a p e was w x)
         (written_here name i v (a, p) w (subst (λ (x : Object). In w x.fields) (sym same) k))
 
-pub numbers_push : (objects : List (ℕ × Object)) (name : ℕ) (o : Object) → HasRawNumbers objects → (o.raw ≡ true → (v : Value) → In v o.fields → is_number v ≡ true) → HasRawNumbers (objects ++ (name, o) ∷ [])
+numbers_push : (objects : List (ℕ × Object)) (name : ℕ) (o : Object) → HasRawNumbers objects → (o.raw ≡ true → (v : Value) → In v o.fields → is_number v ≡ true) → HasRawNumbers (objects ++ (name, o) ∷ [])
 numbers_push objects name o h own a q found raw w k = grind (arith, common_steps, lookup_left, pushed_last)
 
-pub new_numbers : (raw : Bool) (kind len : ℕ) → raw ≡ true → (v : Value) → In v (new_object raw kind len).fields → is_number v ≡ true
+new_numbers : (raw : Bool) (kind len : ℕ) → raw ≡ true → (v : Value) → In v (new_object raw kind len).fields → is_number v ≡ true
 new_numbers raw kind len is v k = subst (λ u. is_number u ≡ true) (in_replicate v (first_value raw) len k) (subst (λ b. is_number (first_value b) ≡ true) (sym is) refl)
 
 put_numbers : (g : Graph) (v : Value) (target : Option Object) (found : Option Value) (i : ℕ) (w : Value) → object_of g.objects v ≡ target → HasRawNumbers g.objects → HasRawNumbers (put_field g v target found i w).1.objects
@@ -88,7 +88,7 @@ keeps_root size free g d v h f = grind (arith, common_steps, in_set)
 pub root_fine : (size free : ℕ) (g : Graph) (p : ℕ) → IsSpaceGraph size free g → RefersTo (IsNamed g.objects) (root g p)
 root_fine size free g p h = grind (arith, common_steps, get_in)
 
-pub field_fine : (size free : ℕ) (g : Graph) (v : Value) (i : ℕ) (w : Value) → IsSpaceGraph size free g → field_of (object_of g.objects v) i ≡ Some w → RefersTo (IsNamed g.objects) w
+field_fine : (size free : ℕ) (g : Graph) (v : Value) (i : ℕ) (w : Value) → IsSpaceGraph size free g → field_of (object_of g.objects v) i ≡ Some w → RefersTo (IsNamed g.objects) w
 field_fine size free g Nil i w h e = absurd cc
 field_fine size free g (Num n) i w h e = absurd cc
 field_fine size free g (Ref a) i w h e = go (lookup g.objects a) refl e

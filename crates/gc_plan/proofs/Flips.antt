@@ -30,7 +30,7 @@ use Rattle.gc_words.specs.Spelling.{no_links}
 
 -- ---- words of values that correspond
 
-pub words_of_corresponding : (pairs : List (ℕ × ℕ)) (v w : Value) → RefersTo IsAddress v → RefersTo IsAddress w → correspond pairs v w ≡ true → words_correspond pairs (word_of v) (word_of w) ≡ true
+words_of_corresponding : (pairs : List (ℕ × ℕ)) (v w : Value) → RefersTo IsAddress v → RefersTo IsAddress w → correspond pairs v w ≡ true → words_correspond pairs (word_of v) (word_of w) ≡ true
 words_of_corresponding pairs v w f g h = grind (arith, common_steps, read_back)
 
 fields_zip : (alike : ℕ → ℕ → Bool) (f : Value → ℕ) (g : Value → ℕ) (vs ws : List Value) → length vs ≡ length ws

@@ -43,7 +43,7 @@ laid_apart at (c ∷ rest) end d e h (inl k) (inr l) = grind (arith, common_step
 laid_apart at (c ∷ rest) end d e h (inr k) (inl l) = grind (arith, common_steps, laid_range)
 laid_apart at (c ∷ rest) end d e h (inr k) (inr l) = laid_apart (at + (length c.1.fields + 2)) rest end d e h.1 k l
 
-pub laid_same : (at : ℕ) (objects : List (ℕ × Object)) (end : ℕ) (d e : ℕ × Object) → Laid at objects end → In d objects → In e objects → d.0 ≡ e.0 → d ≡ e
+laid_same : (at : ℕ) (objects : List (ℕ × Object)) (end : ℕ) (d e : ℕ × Object) → Laid at objects end → In d objects → In e objects → d.0 ≡ e.0 → d ≡ e
 laid_same at objects end d e h k l s = ⊎_elim (λ x. x) (λ y. absurd (⊎_elim (λ z. omega arith) (λ z. omega arith) y)) (laid_apart at objects end d e h k l)
 
 -- writing a field keeps the layout

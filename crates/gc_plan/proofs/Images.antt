@@ -45,13 +45,13 @@ words_laid links at (e ∷ rest) end h = grind (arith, common_steps, length-map,
 pub end_is : (links : ℕ → ℕ) (size free : ℕ) (g : Graph) → IsSpaceGraph size free g → length (linked_space links size g.objects).words ≡ size - free
 end_is links size free g h = let e = words_laid links 1 g.objects (size - free) h.laid in omega (arith, e)
 
-pub walked : (links : ℕ → ℕ) (size free : ℕ) (g : Graph) → IsSpaceGraph size free g → walk_words (linked_space links size g.objects).words ≡ Ok (map block_entry g.objects)
+walked : (links : ℕ → ℕ) (size free : ℕ) (g : Graph) → IsSpaceGraph size free g → walk_words (linked_space links size g.objects).words ≡ Ok (map block_entry g.objects)
 walked links size free g h = walk_spelled (map block_entry g.objects) links 1 (laid_out 1 g.objects (size - free) h.laid (λ e k. let ok = h.objects e.0 e.1 k in (ok.kind, ok.len)))
 
 pub image_shaped : (links : ℕ → ℕ) (size free : ℕ) (g : Graph) → IsSpaceGraph size free g → IsShaped (linked_image links size g)
 image_shaped links size free g h = grind (arith, common_steps, end_is, walked)
 
-pub blocks_are : (links : ℕ → ℕ) (size free : ℕ) (g : Graph) → IsSpaceGraph size free g → blocks (linked_space links size g.objects).words ≡ map block_entry g.objects
+blocks_are : (links : ℕ → ℕ) (size free : ℕ) (g : Graph) → IsSpaceGraph size free g → blocks (linked_space links size g.objects).words ≡ map block_entry g.objects
 blocks_are links size free g h = ap (λ r. result_unwrap_or r []) (walked links size free g h)
 
 pub block_found : (objects : List (ℕ × Object)) (a : ℕ) (o : Object) → lookup objects a ≡ Some o → block_in (map block_entry objects) a ≡ Some (object_block o)

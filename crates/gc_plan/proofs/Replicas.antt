@@ -85,7 +85,7 @@ number_corresponds pairs v h = grind (arith, common_steps)
 fresh_length : (o : Object) → length (fresh_object o).fields ≡ length o.fields
 fresh_length o = cond_both o.raw o (new_object false o.kind (length o.fields)) (λ (q : Object). length q.fields ≡ length o.fields) (λ t. refl) (λ t. length-replicate (length o.fields) Nil)
 
-pub fresh_kind : (o : Object) → (fresh_object o).kind ≡ o.kind
+fresh_kind : (o : Object) → (fresh_object o).kind ≡ o.kind
 fresh_kind o = cond_both o.raw o (new_object false o.kind (length o.fields)) (λ (q : Object). q.kind ≡ o.kind) (λ t. refl) (λ t. refl)
 
 pub fresh_raw : (o : Object) → (fresh_object o).raw ≡ o.raw

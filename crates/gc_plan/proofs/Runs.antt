@@ -19,7 +19,7 @@ pub opening_ok : (size mutators : ℕ) → 1 ≤ size → size ≤ 4294967295 �
 opening_ok size mutators low high = grind (arith, common_steps, in_replicate, length-replicate)
 
 -- an event of a heap without extra roots is one of a heap with them
-pub root_event : (mutators : ℕ) (event : Event) → IsEvent mutators event → IsRootEvent mutators event
+root_event : (mutators : ℕ) (event : Event) → IsEvent mutators event → IsRootEvent mutators event
 root_event mutators event r = grind (arith, common_steps, ranged)
 
 pub root_events : (mutators : ℕ) (events : List Event) → AreEvents mutators events → AreRootEvents mutators events

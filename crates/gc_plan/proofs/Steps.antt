@@ -408,7 +408,7 @@ replica_refers size free g c h k ready r l w x =
 number_corresponding : (pairs : List (ℕ × ℕ)) (v w : Value) → is_number v ≡ true → correspond pairs v w ≡ true → is_number w ≡ true
 number_corresponding pairs v w n h = grind (arith, common_steps)
 
-pub new_small : (g : Graph) (c : Collection) → HasSmallNumbers g → Belongs g.objects c → IsReady g c → HasSmallNumbers (new_graph c g.roots)
+new_small : (g : Graph) (c : Collection) → HasSmallNumbers g → Belongs g.objects c → IsReady g c → HasSmallNumbers (new_graph c g.roots)
 new_small g c h k ready = record {
   fields = λ a o l w x.
       let r = in_map_from placed (a, o) c.replicas l in

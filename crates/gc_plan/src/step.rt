@@ -17,6 +17,24 @@ pub enum Step {
     Drop,
 }
 
+impl Step {
+    ghost use Rattle.std.specs.Prelude.{◌↔◌, IsTrue};
+    ghost use Rattle.gc_plan.specs.Runs.{IsStepWithin};
+
+    /// Returns whether the step's argument is in range: the size of a space of at most `most` words, or the number of one of
+    /// `mutators` logs.
+    #[inline(always)]
+    pub fn is_within(self, most: u32, mutators: u8) -> bool
+        ensures { IsTrue result ↔ IsStepWithin most mutators self }
+    {
+        match self {
+            Step::BeginSized(size) => 1 <= size && size <= most,
+            Step::Apply(m) => m < mutators,
+            _ => true,
+        }
+    }
+}
+
 /// The reply to a step. Only steps with the replies `Begun`, `Copied`, `Passed`, `Scanned`, `Applied`, `Flipped` and `Dropped`
 /// change anything.
 #[derive(Clone, Copy, Debug, PartialEq, Eq)]

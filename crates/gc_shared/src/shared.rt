@@ -2,7 +2,7 @@ use crate::closing;
 use crate::fault::{CallFault, CloseFault};
 use crate::seat::{Receipt, Seat, seats_of};
 use gc_copy::{Step, StepReply};
-use gc_graph::{NoMemory, Op, Reply};
+use gc_graph::{MOST_WORDS, NoMemory, Op, Reply};
 use gc_world::{Entry, World};
 use std::alloc::Global;
 use std::marker::Model;
@@ -143,12 +143,12 @@ impl Shared {
         if seat.is_mutator {
             return Err(CallFault::NotACollector);
         }
-        if !is_step(step, self.mutators) {
+        if !step.is_within(MOST_WORDS, self.mutators) {
             return Err(CallFault::NoSuchMutator);
         }
         seat.receipts.reserve(1)?;
         let mut world = self.world.lock(rt);
-        if !is_step(step, world.mutators()) {
+        if !step.is_within(MOST_WORDS, world.mutators()) {
             return Err(CallFault::NoSuchMutator);
         }
         let reply = world.collect_par(rt, step)?;
@@ -202,22 +202,5 @@ impl Shared {
         } = self;
         let seats = seats.as_slice();
         closing::compare(alloc, size, mutators, collectors, world.into_inner(), seats)
-    }
-}
-
-ghost use Rattle.std.specs.Prelude.{◌≡◌, ◌↔◌, IsTrue};
-ghost use Rattle.gc_graph.specs.Limits.{most_words};
-ghost use Rattle.gc_plan.specs.Runs.{IsStepWithin};
-ghost use Rattle.gc_shared.specs.Seats.{HasSize};
-
-// Returns whether a world of this many mutators can perform the step: an `Apply` must name one of their logs.
-fn is_step(step: Step, mutators: u8) -> bool
-    requires { HasSize step }
-    ensures { IsTrue result ↔ IsStepWithin most_words mutators step }
-{
-    match step {
-        Step::Apply(m) => m < mutators,
-        Step::Begin | Step::BeginSized(_) | Step::Roots | Step::Scan | Step::Flip | Step::Drop =>
-            true,
     }
 }

@@ -1,9 +1,7 @@
-//! Commands and replies in short, and which steps a world with so many mutators has.
+//! Commands and replies in short.
 
-ghost use Rattle.std.specs.Prelude.{◌↔◌, ◌<◌, ◌^◌, IsTrue};
-ghost use Rattle.gc_plan.specs.Runs.{IsStepWithin};
+ghost use Rattle.std.specs.Prelude.{◌<◌, ◌^◌};
 
-use gc_copy::Step;
 use gc_graph::{Number, Op, Reply, Slot, View};
 
 /// Returns slot r0, r1, .. of a mutator.
@@ -41,16 +39,4 @@ pub fn saw(number: u64) -> Reply
     requires { number < 2 ^ 63 }
 {
     Reply::Saw(View::Num(Number::new(number).unwrap()))
-}
-
-/// Returns whether the step's argument is in range, as calls require that take sizes of at most `most` words and have
-/// this many mutators.
-pub fn is_possible(most: u32, mutators: u8, step: Step) -> bool
-    ensures { IsTrue result ↔ IsStepWithin most mutators step }
-{
-    match step {
-        Step::BeginSized(size) => 1 <= size && size <= most,
-        Step::Apply(m) => m < mutators,
-        _ => true,
-    }
 }

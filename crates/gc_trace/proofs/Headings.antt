@@ -26,7 +26,7 @@ heading_spelled version size mutators more =
     ∙ ap (λ (t : List ℕ). joined (version_tokens version) ++ newline ∷ (codes "space" ++ space ∷ t)) (append_assoc (decimal size) (space ∷ (codes "mutators" ++ space ∷ decimal mutators)) (newline ∷ more))
 
 -- numbers with other bytes behind them
-pub same_number : (a b c d : ℕ) (x y : List ℕ) → a < 2 ^ 64 → b < 2 ^ 64 → c < 48 → d < 48 → decimal a ++ c ∷ x ≡ decimal b ++ d ∷ y → (a ≡ b) × (c ∷ x ≡ d ∷ y)
+same_number : (a b c d : ℕ) (x y : List ℕ) → a < 2 ^ 64 → b < 2 ^ 64 → c < 48 → d < 48 → decimal a ++ c ∷ x ≡ decimal b ++ d ∷ y → (a ≡ b) × (c ∷ x ≡ d ∷ y)
 same_number a b c d x y small small' low low' same =
     one_front (decimal a ++ c ∷ x) a b (c ∷ x) (d ∷ y) (begins a (c ∷ x) small low) (subst (λ (t : List ℕ). BeginsWithNumber t b (d ∷ y)) (sym same) (begins b (d ∷ y) small' low'))
 

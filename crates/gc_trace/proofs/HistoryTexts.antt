@@ -6,7 +6,6 @@ use Rattle.gc_plan.specs.State.{State, opening_state}
 use Rattle.gc_graph.specs.Limits.{most_words}
 use Rattle.gc_plan.specs.Runs as runs
 use Rattle.gc_plan.specs.declared.step.Step.{Step}
-use Rattle.gc_plan.specs.declared.step.Step.TheVariants as steps
 use Rattle.gc_world.specs.History.{events_of, answers_of, IsHistory}
 use Rattle.gc_world.specs.World.{Past, present}
 use Rattle.gc_plan.specs.declared.event.Event.{Event}

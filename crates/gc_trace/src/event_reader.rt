@@ -1,4 +1,4 @@
-ghost use Rattle.std.specs.Prelude.{◌≡◌, ◌≢◌, ◌≤◌, ◌<◌, ◌+◌, ◌-◌, ◌∷◌, ◌++◌, ◌↔◌, ℕ, List, length, drop, true, false, IfSome, IfOk, MatchOption, MatchResult, Ok, Err, Some};
+ghost use Rattle.std.specs.Prelude.{◌≡◌, ◌≤◌, ◌<◌, ◌+◌, ◌-◌, ◌∷◌, ◌++◌, ◌↔◌, ℕ, List, length, drop, true, false, IfSome, IfOk, MatchOption, MatchResult, Ok, Err, Some};
 ghost use Rattle.gc_graph.specs.Pieces.{IsWithin, nothing_read};
 ghost use Rattle.gc_graph.specs.Streams.{bytes_left, source_failed};
 ghost use Rattle.gc_trace.specs.Grammar.{IsHeading, HasLine, IsOf, newest, trace_heading, event_line};
@@ -6,9 +6,8 @@ ghost use Rattle.gc_trace.specs.Faults.{trace_limit, HasNoHeading, BeginsWithNoE
 
 use crate::fault::TraceFault;
 use crate::front::{Heading, first_two_lines, line};
-use gc_copy::Step;
-use gc_graph::Source;
 use gc_graph::text::{Front, Pieces};
+use gc_graph::{MOST_WORDS, Source};
 use gc_world::Event;
 use std::alloc::Global;
 use std::io::Read;
@@ -25,8 +24,7 @@ fn is_of(mutators: u8, event: &Event) -> bool
 {
     match event {
         Event::Mutate { m, .. } => *m < mutators,
-        Event::Collect(Step::Apply(k)) => *k < mutators,
-        Event::Collect(_) => true,
+        Event::Collect(step) => step.is_within(MOST_WORDS, mutators),
     }
 }
 
@@ -105,7 +103,7 @@ pub struct EventReader {
 }
 
 impl EventReader {
-    ghost use Rattle.std.specs.Prelude.{◌≡◌, ◌≢◌, ◌≤◌, ◌+◌, ◌∷◌, ◌++◌, ◌↔◌, ℕ, List, [], true, false, drop, IfOk, IfSome, MatchOption, MatchResult, Err, Some};
+    ghost use Rattle.std.specs.Prelude.{◌≡◌, ◌≤◌, ◌+◌, ◌∷◌, ◌++◌, ◌↔◌, ℕ, List, [], true, false, drop, IfOk, IfSome, MatchOption, MatchResult, Err, Some};
     ghost use Rattle.gc_graph.specs.Streams.{bytes_left, source_failed};
     ghost use Rattle.gc_plan.specs.declared.event.Event.{Event};
     ghost use Rattle.gc_trace.specs.Grammar.{HasLine, IsOf};

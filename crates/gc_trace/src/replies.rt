@@ -1,14 +1,11 @@
-ghost use Rattle.std.specs.Prelude.{◌≡◌, ◌∷◌, ◌++◌, ◌+◌, ◌≤◌, true, length, codes, OnOk, OnErr};
-ghost use Rattle.std.specs.Io.KnownBytes.{Appends};
-ghost use Rattle.gc_graph.specs.Streams.{bytes_written, sink_failed, SendsFront, HasSent};
+ghost use Rattle.std.specs.Prelude.{◌≡◌, ◌∷◌, ◌++◌, ◌+◌, ◌≤◌, length, codes};
 ghost use Rattle.gc_graph.specs.Lines.{line};
-ghost use Rattle.gc_world.specs.History.{unmarked, answers_of};
-ghost use Rattle.gc_trace.specs.Replies.{reply_line, reply_text, view_tokens, reply_tokens, step_reply_tokens};
+ghost use Rattle.gc_trace.specs.Replies.{reply_line, view_tokens, reply_tokens, step_reply_tokens};
 
 use gc_copy::StepReply;
 use gc_graph::text::Printer;
-use gc_graph::{Failed, Reply, Sink, View};
-use gc_world::{Answer, Entry};
+use gc_graph::{Reply, View};
+use gc_world::Answer;
 use std::io::Write;
 
 /// An upper bound on the number of bytes in a reply line.

@@ -35,7 +35,7 @@ beside_push (entry ∷ bs) a x b other = ap (cond (entry.0 == x) (Some entry.1))
 pub block_there : (s : SpaceWords) (b : Block) → CanPlaceBlock s b → block_at (with_block s b).words (end_of s) ≡ Some b
 block_there s b can = ap (λ bs. block_in bs (end_of s)) (block_placed s b can).1 ∙ at_push (blocks s.words) (end_of s) b (none_at_end s can.shaped)
 
-pub block_beside : (s : SpaceWords) (b : Block) (x : ℕ) → CanPlaceBlock s b → (end_of s ≡ x → ⊥) → block_at (with_block s b).words x ≡ block_at s.words x
+block_beside : (s : SpaceWords) (b : Block) (x : ℕ) → CanPlaceBlock s b → (end_of s ≡ x → ⊥) → block_at (with_block s b).words x ≡ block_at s.words x
 block_beside s b x can other = ap (λ bs. block_in bs x) (block_placed s b can).1 ∙ beside_push (blocks s.words) (end_of s) x b other
 
 pub placed_block : (s : SpaceWords) (h : Header) → CanPlace s h → block_at (with_object s h).words (end_of s) ≡ Some (fresh_block h)

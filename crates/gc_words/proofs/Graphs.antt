@@ -35,7 +35,7 @@ word_read_back w v e = grind (arith, common_steps, meant)
 
 -- ---- what a graph finds
 
-pub object_in : (bs : List (ℕ × Block)) (a : ℕ) → lookup (map object_entry bs) a ≡ option_map object_of_block (block_in bs a)
+object_in : (bs : List (ℕ × Block)) (a : ℕ) → lookup (map object_entry bs) a ≡ option_map object_of_block (block_in bs a)
 object_in [] a = refl
 object_in (entry ∷ bs) a = grind (arith, common_steps, object_in bs a)
 
@@ -55,7 +55,7 @@ root_value [] place = refl
 root_value (w ∷ roots) zero = refl
 root_value (w ∷ roots) (suc place) = root_value roots place
 
-pub roots_empty : (count : ℕ) → map value_of (replicate count 0) ≡ replicate count Nil
+roots_empty : (count : ℕ) → map value_of (replicate count 0) ≡ replicate count Nil
 roots_empty zero = refl
 roots_empty (suc count) = ap (λ vs. Nil ∷ vs) (roots_empty count)
 

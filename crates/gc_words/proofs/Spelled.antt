@@ -44,7 +44,7 @@ next_links links at w ws are p =
     let f : suc p + 1 ≡ suc (p + 1) = omega arith in
     ap links e ∙ are (suc p) ∙ ap (λ n. get_or (w ∷ ws) n 0) f
 
-pub spelled_rest : (ws : List ℕ) (inside at : ℕ) (bs : List (ℕ × Block)) (links : ℕ → ℕ) → inside ≤ length ws → AreLinks links at ws → Walked inside at ws bs → drop inside ws ≡ spelled_from links bs
+spelled_rest : (ws : List ℕ) (inside at : ℕ) (bs : List (ℕ × Block)) (links : ℕ → ℕ) → inside ≤ length ws → AreLinks links at ws → Walked inside at ws bs → drop inside ws ≡ spelled_from links bs
 spelled_rest [] zero at [] links room are w = refl
 spelled_rest [] zero at (b ∷ bs) links room are w = cc
 spelled_rest [] (suc inside) at bs links room are w = absurd (omega arith)
@@ -78,7 +78,7 @@ laid_out_words words ok = subst (λ n. LaidOut n (blocks words)) (omega arith) (
 
 -- ---- the links that are spelled
 
-pub link_from : (entries : List (ℕ × Block)) (links : ℕ → ℕ) (at p : ℕ) (b : Block) → LaidOut at entries → block_in entries (at + p) ≡ Some b → get_or (spelled_from links entries) (p + 1) 0 ≡ links (at + p)
+link_from : (entries : List (ℕ × Block)) (links : ℕ → ℕ) (at p : ℕ) (b : Block) → LaidOut at entries → block_in entries (at + p) ≡ Some b → get_or (spelled_from links entries) (p + 1) 0 ≡ links (at + p)
 link_from [] links at p b laid e = absurd (let no : None ≡ Some b = e in cc)
 link_from (entry ∷ rest) links at p b laid e =
     elim (cases_Bool (entry.0 == at + p)) [

@@ -74,7 +74,7 @@ at_end words at h = ap (walk true 0 at) (drop_all at words h)
 
 -- ---- a walk's fault
 
-pub fault_behind : (x : ℕ × Block) (r : Result (List (ℕ × Block)) ℕ) → result_err (with_front x r) ≡ result_err r
+fault_behind : (x : ℕ × Block) (r : Result (List (ℕ × Block)) ℕ) → result_err (with_front x r) ≡ result_err r
 fault_behind x r = grind (arith, common_steps)
 
 pub same_fault : (raws : Bool) (words : List ℕ) (at next : ℕ) → at < length words → next_in raws words at ≡ Some next → result_err (walk_on raws words at) ≡ result_err (walk_on raws words next)
@@ -86,7 +86,7 @@ framed raws end words count reserved = ap (λ b. cond b (result_err (walk_all ra
 
 -- ---- the objects after one
 
-pub ok_behind : (x : ℕ × Block) (r : Result (List (ℕ × Block)) ℕ) → IsOk (with_front x r) → IsOk r × (result_unwrap_or (with_front x r) [] ≡ x ∷ result_unwrap_or r [])
+ok_behind : (x : ℕ × Block) (r : Result (List (ℕ × Block)) ℕ) → IsOk (with_front x r) → IsOk r × (result_unwrap_or (with_front x r) [] ≡ x ∷ result_unwrap_or r [])
 ok_behind x r e = grind (arith, common_steps)
 
 pub record Behind (words : List ℕ) (at next : ℕ) : Type 0 where

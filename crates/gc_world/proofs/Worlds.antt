@@ -20,7 +20,7 @@ use Rattle.gc_plan.specs.declared.event.Answer.{Answer}
 use Rattle.gc_world.specs.declared.entry.Entry.{Entry}
 use Rattle.gc_world.proofs.Growing.{history_more, state_more}
 
-pub grows : (old new : State) (size mutators : ℕ) (entries : List Entry) (kept later : Option CertifiedPair) (entry : Entry)
+grows : (old new : State) (size mutators : ℕ) (entries : List Entry) (kept later : Option CertifiedPair) (entry : Entry)
     → IsWorld old (record { size = size; mutators = mutators; entries = entries; kept = kept }) → IsEventWithin most_words mutators entry.event
     → unmarked entry.answer ≡ answer old entry.event → IsUseful old entry.event entry.answer
     → new ≡ after old entry.event → IsKeptPair later

@@ -12,7 +12,6 @@ use Rattle.gc_plan.specs.Runs.{commands_of}
 use Rattle.gc_trace.specs.Scripts.{scripts}
 use Rattle.gc_world.specs.History.{IsHistory}
 use Rattle.gc_world.specs.World.{Past}
-use Rattle.gc_world.specs.declared.entry.Entry.{Entry}
 use Rattle.gcflip.specs.ThreadedRuns.{IsThreadedRun}
 
 -- the scripts that are run are those of the trace

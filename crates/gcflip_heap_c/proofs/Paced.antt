@@ -67,7 +67,7 @@ module _ (s t : State) (before : GcflipPace) (work : GcflipWork) (due : ℕ)
       → work_left s ≤ most + gone → work_left t ≤ most + owed
   ahead_of most gone owed pays few all made flip room low = grind (arith, common_steps, some_left, bound, work_falls, split)
 
-pub paced_work : (wanted : ℕ) (s t : State) (before after : GcflipPace) (work : GcflipWork)
+paced_work : (wanted : ℕ) (s t : State) (before after : GcflipPace) (work : GcflipWork)
     → IsSpaceGraph s.size s.heap.free s.heap.graph → IfSome s.collection (IsOpened s) → IfSome t.collection (IsOpened t)
     → (steps_due before (counts_of s) wanted ≡ 0 → (t ≡ s) × (work ≡ no_work))
     → (1 ≤ steps_due before (counts_of s) wanted → before.words ≡ 0 → IsWork None None (steps_due before (counts_of s) wanted) s t work)

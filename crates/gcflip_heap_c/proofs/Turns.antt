@@ -82,7 +82,7 @@ call_keeps wanted s t before after work paced h = go (steps_due before (counts_o
 call_remembers : (wanted : ℕ) (s t : State) (before after : GcflipPace) (work : GcflipWork) → IsPacedWork wanted s t before after work → Remembers after t
 call_remembers wanted s t before after work paced = grind (arith, common_steps)
 
-pub turns_ahead : (s : State) (pace : GcflipPace) (turns : List Turn) (most : ℕ) → IsState s → Remembers pace s → AreTurns s pace turns → work_left s ≤ most + pace.owed
+turns_ahead : (s : State) (pace : GcflipPace) (turns : List Turn) (most : ℕ) → IsState s → Remembers pace s → AreTurns s pace turns → work_left s ≤ most + pace.owed
     → IsState (after_turns s turns) × (work_left (after_turns s turns) ≤ most + (last_pace pace turns).owed)
 turns_ahead s pace [] most h remembers k low = (h, low)
 turns_ahead s pace (turn ∷ turns) most h remembers k low =

@@ -22,7 +22,7 @@ none_first [] k e = refl
 none_first ([] ∷ logs) k e = none_first logs (suc k) e
 none_first ((entry ∷ log) ∷ logs) k e = absurd cc
 
-pub flips_if_ready : (s : State) (c : Collection) → s.collection ≡ Some c → is_ready c s.heap.graph ≡ true → useful_step s ≡ steps.Flip
+flips_if_ready : (s : State) (c : Collection) → s.collection ≡ Some c → is_ready c s.heap.graph ≡ true → useful_step s ≡ steps.Flip
 flips_if_ready s c is ready = grind (arith, common_steps, and_parts, none_first)
 
 flips_sized : (size : Option ℕ) (step : Step) → step ≡ steps.Flip → with_size size step ≡ steps.Flip

@@ -1,7 +1,6 @@
 //! The exports that open and close a heap.
 
 ghost use Rattle.std.specs.Prelude.{◌≡◌, ◌<◌, ◌≤◌, ◌⊎◌, ◌↔◌, None, Some, IsSome, IsTrue, IfOk};
-ghost use Rattle.gc_graph.specs.Limits.{most_mutators};
 ghost use Rattle.gc_heap.specs.ExtraRoots as heaps;
 ghost use Rattle.gc_copy.specs.Opening.{opening_state_with};
 ghost use Rattle.gcflip_heap_c.specs.Opening.{CanOpenWith, options_in};

@@ -67,12 +67,14 @@ fn begin_sized(alloc: Global, heap: &Heap, size: u32) -> Result<Collection, NoMe
     }
 }
 
-/// Performs a command while the collection is open.
-fn mutate(
+/// Makes room in the log of mutator 0, and performs its `put` of `t` into field `i` of the object that `s` refers to.
+fn put(
     alloc: Global,
     collection: &mut Collection,
     heap: &mut Heap,
-    op: &Op,
+    s: Slot,
+    i: u16,
+    t: Slot,
 ) -> Result<Reply, NoMemory>
     requires belongs { BelongsTo heap.old collection.old }
     requires mutator { 0 < heap.old.mutators }
@@ -83,11 +85,11 @@ fn mutate(
     let reserved = collection.reserve(0);
     fence(alloc)?;
     match reserved {
-        Ok(()) => Ok(collection.mutate(heap, 0, op)),
+        Ok(()) => Ok(collection.put(heap, 0, s, i, t)),
         Err(NoMemory) => {
             retried(alloc)?;
             collection.reserve(0)?;
-            Ok(collection.mutate(heap, 0, op))
+            Ok(collection.put(heap, 0, s, i, t))
         }
     }
 }
@@ -173,9 +175,8 @@ fn collection_reserve(rt: HostRuntime) -> Result<(), Fail> {
     let mut heap = one_object(alloc)?;
     let mut collection = Collection::begin(alloc, &heap)?;
     assert_eq!(rt; collection.roots(&mut heap), StepReply::Copied);
-    let put = Op::Put { s: r0, i: 0, t: r1 };
     assert_eq!(rt;
-        mutate(alloc, &mut collection, &mut heap, &put)?,
+        put(alloc, &mut collection, &mut heap, r0, 0, r1)?,
         Reply::Done
     );
     assert_eq!(rt; collection.next_log(), Some(0));

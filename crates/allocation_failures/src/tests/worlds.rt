@@ -1,14 +1,14 @@
 //! Worlds: opening, commands and collector steps. If an allocation fails, the history does not have the event; after
 //! the retry it has the event once.
 
-ghost use Rattle.std.specs.Prelude.{◌≡◌, ◌<◌, IsTrue};
+ghost use Rattle.std.specs.Prelude.{◌≡◌, ◌<◌};
 ghost use Rattle.gc_graph.specs.Limits.{most_words};
 ghost use Rattle.gc_plan.specs.Runs.{IsStepWithin};
 
 use super::marks::{fence, retried};
 use super::texts::{BEFORE_BEGIN, BEFORE_FLIP, LOG_ACROSS_TWO_MUTATORS, WRITE_WHILE_SCANNING};
 use gc_copy::{Step, StepReply};
-use gc_graph::{NoMemory, Op, Reply, Slot, Source, View};
+use gc_graph::{MOST_MUTATORS, MOST_WORDS, NoMemory, Op, Reply, Slot, Source, View};
 use gc_trace::{read_trace, run_trace};
 use gc_world::{Event, World};
 use std::alloc::Global;
@@ -119,16 +119,6 @@ fn collect_useful(
     }
 }
 
-fn is_step(step: Step, mutators: u8) -> bool
-    ensures { IsTrue result → IsStepWithin most_words mutators step }
-{
-    match step {
-        Step::Apply(m) => m < mutators,
-        Step::BeginSized(_) => false,
-        Step::Begin | Step::Roots | Step::Scan | Step::Flip | Step::Drop => true,
-    }
-}
-
 /// Performs one event of a trace. Only the allocations of commands are counted, so only they can fail.
 fn perform(rt: &impl Abort, alloc: Global, world: &mut World, event: &Event) -> Result<(), Fail> {
     match event {
@@ -141,7 +131,7 @@ fn perform(rt: &impl Abort, alloc: Global, world: &mut World, event: &Event) -> 
         }
         Event::Collect(step) => {
             let step = *step;
-            if !is_step(step, world.mutators()) {
+            if !step.is_within(MOST_WORDS, world.mutators()) {
                 return Err("step".into());
             }
             let _ = world.collect(step)?;
@@ -153,7 +143,11 @@ fn perform(rt: &impl Abort, alloc: Global, world: &mut World, event: &Event) -> 
 /// Performs the events of the text, and returns the world.
 fn world_by_events(rt: &impl Abort, alloc: Global, text: &[u8]) -> Result<World, Fail> {
     let trace = read_trace(alloc, &mut Source::new(text))?;
-    if trace.size == 0 || trace.size > 1048576 || trace.mutators == 0 || trace.mutators > 16 {
+    if trace.size == 0
+        || trace.size > MOST_WORDS
+        || trace.mutators == 0
+        || trace.mutators > MOST_MUTATORS
+    {
         return Err("space".into());
     }
     let mut world = World::open(alloc, trace.size, trace.mutators)?;

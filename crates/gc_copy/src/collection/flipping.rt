@@ -1,4 +1,4 @@
-ghost use Rattle.std.specs.Prelude.{◌≡◌, ◌-◌, ◌+◌, ◌<◌, ◌≤◌, ◌^◌, ℕ, IfOk, IsTrue, IsFalse, true, false, [], map, replicate, length};
+ghost use Rattle.std.specs.Prelude.{◌≡◌, ◌-◌, ◌+◌, ◌<◌, ◌≤◌, ◌^◌, ℕ, IfOk, IsTrue, [], map, replicate, length};
 ghost use Rattle.gc_words.specs.Image.{is_start};
 ghost use Rattle.gc_words.specs.Spelling.{link_at};
 ghost use Rattle.gc_words.specs.Space.{image_with, without_links};

@@ -2,7 +2,7 @@ ghost use Rattle.std.specs.Prelude.{◌≡◌, ◌≢◌, ◌<◌, ◌≤◌, �
 ghost use Rattle.std.specs.Option.{option_map, option_to_list};
 ghost use Rattle.gc_heap.specs.Filling.{TakesFields, TakesNumbers};
 ghost use Rattle.gc_heap.specs.Heap.{graph_in};
-ghost use Rattle.gc_plan.specs.Steps.{mutate, written, WritesField};
+ghost use Rattle.gc_plan.specs.Steps.{mutate, written};
 ghost use Rattle.gc_copy.specs.Entries.{entry_in};
 ghost use Rattle.gc_copy.specs.Internal.Entries.{if_done};
 ghost use Rattle.gc_copy.specs.Words.{open_state, spare_of, BelongsTo};
@@ -18,25 +18,6 @@ use gc_heap::Heap;
 use gc_words::OldAddr;
 
 impl Collection {
-    /// Performs a command of mutator `m`, and logs the field that it wrote, if any (the write barrier). Only a `Put` needs room in
-    /// the log, which `reserve` makes.
-    pub fn mutate(&mut self, heap: &mut Heap, m: u8, op: &Op) -> Reply
-        requires belongs { BelongsTo heap.old self.old }
-        requires mutator { m < heap.old.mutators }
-        requires room { WritesField op.now → 1 ≤ spare_of self.old m }
-        ensures step { mutate (open_state heap.old self.old) m op.now ≡ (result, open_state heap.new self.new) }
-        ensures belongs { BelongsTo heap.new self.new }
-        ensures mutators { heap.new.mutators ≡ heap.old.mutators }
-    {
-        commands_leave_collections();
-        // Here the prover learns that the heap is sound.
-        let _ = heap.space();
-        match *op {
-            Op::Put { s, i, t } => self.put(heap, m, s, i, t),
-            _ => heap.apply(m, op),
-        }
-    }
-
     /// Performs mutator `m`'s `Put`, and logs the field if it was written (the write barrier). Needs room in the log (`reserve`).
     #[inline(always)]
     pub fn put(&mut self, heap: &mut Heap, m: u8, s: Slot, i: u16, t: Slot) -> Reply
@@ -58,6 +39,7 @@ impl Collection {
         self.note(m, entry.object, entry.field);
         reply
     }
+
     /// Performs mutator `m`'s `Put` of `t` into field `i` of the object that `d` refers to, and logs the field. The object is known to
     /// take it, as for `Heap::fill_field`, so the reply is `Done`. Needs room in the log.
     #[inline(always)]

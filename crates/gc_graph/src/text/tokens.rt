@@ -20,7 +20,7 @@ impl<'a> Model for Tokens<'a> {
 }
 
 impl<'a> Tokens<'a> {
-    ghost use Rattle.std.specs.Prelude.{◌≡◌, ◌∷◌, [], ◌<◌, ◌≤◌, ◌^◌, Some, None, MatchOption, IfSome, IsTrue, ◌↔◌};
+    ghost use Rattle.std.specs.Prelude.{◌≡◌, ◌∷◌, [], ◌<◌, ◌≤◌, Some, None, MatchOption, IfSome, IsTrue, ◌↔◌};
     ghost use Rattle.gc_graph.specs.Lines.{tokens_of};
     ghost use Rattle.gc_graph.specs.Tokens.{number_at, token_at};
 

@@ -1,8 +1,6 @@
 -- Once all places are written, each code stands for itself.
-use Rattle.std.proofs.Common.{◌≡◌, ℕ, ◌<◌, ◌≤◌, get_or, inl, inr, ◌∙◌, ap, sym, arith}
-use Rattle.std.proofs.lemmas.Bool.{cases_lt}
-use Rattle.gc_along.specs.Internal.InWords.{code_now}
-use Rattle.gc_along.proofs.Freed.{now_is, settled}
+use Rattle.std.proofs.Common.{arith}
+use Rattle.gc_along.proofs.Freed.{settled}
 use Rattle.gc_along.proofs.old_row.settle.Goals as goal
 
 pub returns-clause-codes : goal.returns-clause-codes

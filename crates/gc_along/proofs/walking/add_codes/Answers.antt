@@ -2,8 +2,7 @@
 use Rattle.std.proofs.lemmas.List.{length-replicate}
 use Rattle.gc_along.proofs.Packed.{fields_filled}
 use Rattle.std.proofs.lemmas.Grind.{common_steps}
-use Rattle.std.proofs.Common.{◌++◌, sym, ◌∙◌, ap, arith}
-use Rattle.gc_along.specs.Events.{code_of, object_codes}
+use Rattle.std.proofs.Common.{arith}
 use Rattle.gc_along.proofs.walking.add_codes.Goals as goal
 
 pub returns-then-due-clause-codes : goal.returns-then-due-clause-codes

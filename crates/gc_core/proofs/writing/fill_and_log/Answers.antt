@@ -1,5 +1,5 @@
 -- A turn writes the next number, and the log takes an entry.
-use Rattle.std.proofs.Common.{◌≡◌, ◌∷◌, ◌+◌, ℕ, suc, get_or, drop, sym, ◌∙◌, ap, arith}
+use Rattle.std.proofs.Common.{◌≡◌, ◌∷◌, ◌+◌, suc, get_or, drop, sym, ◌∙◌, ap, arith}
 use Rattle.std.proofs.lemmas.List.{drop_more}
 use Rattle.gc_graph.specs.declared.reply.Reply.{Reply}
 use Rattle.gc_plan.specs.State.{State}

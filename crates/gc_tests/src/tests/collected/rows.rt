@@ -7,7 +7,6 @@ use gc_check::Sequential;
 use gc_copy::{Step, StepReply};
 use gc_core::{CollectedHeap, Keep};
 use gc_graph::{NoMemory, Op, Reply};
-use gc_test_kit::commands::is_possible;
 use std::fmt::Debug;
 use std::process::Abort;
 
@@ -50,17 +49,11 @@ fn perform(
     match row {
         Row::Command(op, reply) => expect(rt, place, heap.mutate(0, op)?, *reply),
         Row::Step(step, reply) => {
-            assert!(rt;
-                is_possible(u32::MAX, heap.mutators(), *step),
-                "row {place}"
-            );
+            assert!(rt; step.is_within(u32::MAX, heap.mutators()), "row {place}");
             expect(rt, place, heap.collect(&Sequential, *step)?, *reply);
         }
         Row::Call(step, reply) => {
-            assert!(rt;
-                is_possible(u32::MAX, heap.mutators(), *step),
-                "row {place}"
-            );
+            assert!(rt; step.is_within(u32::MAX, heap.mutators()), "row {place}");
             expect(rt, place, call(heap, *step)?, *reply);
         }
         Row::Useful(step) => expect(rt, place, heap.useful_step(), *step),

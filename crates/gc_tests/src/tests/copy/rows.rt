@@ -114,6 +114,10 @@ fn mutate(collection: &mut Collection, heap: &mut Heap, m: u8, op: &Op) -> Resul
     ensures belongs { BelongsTo heap.new collection.new }
     ensures mutators { heap.new.mutators ≡ heap.old.mutators }
 {
+    commands_keep_collections();
+    let Op::Put { s, i, t } = *op else {
+        return Ok(heap.apply(m, op));
+    };
     collection.reserve(m)?;
-    Ok(collection.mutate(heap, m, op))
+    Ok(collection.put(heap, m, s, i, t))
 }

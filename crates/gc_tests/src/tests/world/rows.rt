@@ -6,7 +6,6 @@ ghost use Rattle.gc_plan.specs.Runs.{IsStepWithin};
 
 use gc_copy::{Step, StepReply};
 use gc_graph::{MOST_WORDS, NoMemory, Op, Reply};
-use gc_test_kit::commands::is_possible;
 use gc_world::World;
 use std::process::Abort;
 use std::thread::Threads;
@@ -58,10 +57,7 @@ fn perform(
             assert_eq!(rt; world.mutate(0, op)?, *reply, "row {place}");
         }
         Row::Step(step, reply) => {
-            assert!(rt;
-                is_possible(MOST_WORDS, world.mutators(), *step),
-                "row {place}"
-            );
+            assert!(rt; step.is_within(MOST_WORDS, world.mutators()), "row {place}");
             let got = collect(rt, world, in_threads, *step)?;
             assert_eq!(rt; got, *reply, "row {place}");
         }

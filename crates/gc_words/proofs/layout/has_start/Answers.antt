@@ -4,7 +4,6 @@ use Rattle.std.proofs.lemmas.Grind.{common_steps}
 use Rattle.std.proofs.Common.{sym, ◌∙◌, arith}
 use Rattle.gc_words.proofs.Steps.{behind, start_behind, start_here, no_start_below}
 use Rattle.gc_words.proofs.layout.has_start.Goals as goal
-use Rattle.gc_words.proofs.layout.has_start.Goals.{then-loop-at-test+else-at-place}
 
 pub loop-at-preserved : goal.loop-at-preserved
 loop-at-preserved c =

@@ -1,7 +1,5 @@
 -- A flip of small spaces returns a certified pair of small images, so the pair that is kept is one.
 use Rattle.std.proofs.Common.{◌≡◌, Some, None, refl}
-use Rattle.std.specs.Prelude.{IfSome}
-use Rattle.std.specs.Option.{option_map}
 use Rattle.gc_cert.specs.Views.{pair_in}
 use Rattle.gc_core.specs.Flip.{IsCertified, kept_after}
 use Rattle.gc_world.proofs.Sizes.{kept_small}

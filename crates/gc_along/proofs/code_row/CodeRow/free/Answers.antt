@@ -1,9 +1,9 @@
 -- The codes of one word are freed, if there is such a word, and no others change.
 use Rattle.gc_along.proofs.Packed.{code_seen}
 use Rattle.std.proofs.lemmas.Grind.{common_steps}
-use Rattle.std.proofs.Common.{◌≡◌, ◌<◌, length, get_or, ◌∙◌, ap, sym, arith}
+use Rattle.std.proofs.Common.{◌<◌, length, ◌∙◌, ap, arith}
 use Rattle.std.proofs.lemmas.List.{get_or_default}
-use Rattle.gc_along.specs.Internal.InWords.{Codes, code_in, freed}
+use Rattle.gc_along.specs.Internal.InWords.{code_in, freed}
 use Rattle.gc_along.proofs.Freed.{IsFreed, is_freed}
 use Rattle.gc_along.proofs.code_row.CodeRow.free.Goals as goal
 

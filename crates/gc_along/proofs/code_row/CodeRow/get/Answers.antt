@@ -1,5 +1,5 @@
 -- The code of a place is that of its word.
-use Rattle.std.proofs.Common.{◌/◌, ◌<◌, length, arith}
+use Rattle.std.proofs.Common.{arith}
 use Rattle.gc_along.proofs.Packed.{word_within, seen_within, code_read}
 use Rattle.gc_along.proofs.code_row.CodeRow.get.Goals as goal
 

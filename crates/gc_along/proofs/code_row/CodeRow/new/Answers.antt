@@ -1,7 +1,7 @@
 -- A word of zeros is the row of place 0.
 use Rattle.gc_along.proofs.Packed.{one_code, has_one}
 use Rattle.std.proofs.lemmas.Grind.{common_steps}
-use Rattle.std.proofs.Common.{◌∷◌, [], ◌++◌, ◌∙◌, ap, arith}
+use Rattle.std.proofs.Common.{arith}
 use Rattle.gc_along.proofs.code_row.CodeRow.new.Goals as goal
 
 pub invariant_of-result : goal.invariant_of-result

@@ -1,5 +1,5 @@
 -- One code of one word changes, and was that of its place.
-use Rattle.std.proofs.Common.{◌/◌, ◌<◌, length, set, ◌∙◌, ap, arith}
+use Rattle.std.proofs.Common.{◌<◌, set, ◌∙◌, ap, arith}
 use Rattle.gc_along.specs.Internal.InWords.{Codes}
 use Rattle.gc_along.proofs.Packed.{word_within, seen_within, codes_set, has_codes_set, is_with, code_read}
 use Rattle.gc_along.proofs.code_row.CodeRow.replace.Goals as goal

@@ -1,9 +1,7 @@
 -- A row that starts anew is one word of zeros, which is place 0.
 use Rattle.gc_along.proofs.Packed.{one_code, has_one}
 use Rattle.std.proofs.lemmas.Grind.{common_steps}
-use Rattle.std.proofs.Common.{◌≤◌, ◌∷◌, [], ◌++◌, sym, ◌∙◌, ap, subst, arith}
-use Rattle.std.specs.Prelude.{vec_capacity}
-use Rattle.gc_along.specs.Internal.InWords.{Codes, room_of}
+use Rattle.std.proofs.Common.{arith}
 use Rattle.gc_along.proofs.code_row.CodeRow.restart.Goals as goal
 
 pub invariant_of-self : goal.invariant_of-self

@@ -1,7 +1,6 @@
 -- A row without places has no codes.
 use Rattle.std.proofs.lemmas.Grind.{common_steps}
-use Rattle.std.proofs.Common.{◌∙◌, ap, arith}
-use Rattle.gc_along.specs.Internal.InWords.{Codes, codes_now}
+use Rattle.std.proofs.Common.{arith}
 use Rattle.gc_along.proofs.Freed.{now_first}
 use Rattle.gc_along.proofs.old_row.OldRow.absent.Goals as goal
 

@@ -1,7 +1,6 @@
 -- A start and its fields stand for themselves.
 use Rattle.std.proofs.lemmas.Grind.{common_steps}
-use Rattle.std.proofs.Common.{◌++◌, ◌∷◌, replicate, ◌∙◌, ap, arith}
-use Rattle.gc_along.specs.Internal.InWords.{Codes, codes_now}
+use Rattle.std.proofs.Common.{arith}
 use Rattle.gc_along.proofs.Freed.{now_added, length-now}
 use Rattle.gc_along.proofs.old_row.OldRow.add.Goals as goal
 

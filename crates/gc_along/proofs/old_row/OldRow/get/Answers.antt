@@ -1,8 +1,6 @@
 -- A code 2 whose block does not count stands for 1, and any other for itself.
 use Rattle.std.proofs.lemmas.Grind.{common_steps}
-use Rattle.std.proofs.Common.{◌≡◌, ◌/◌, get_or, arith, sym, ◌∙◌, ap}
-use Rattle.std.specs.Prelude.{slice_index_or}
-use Rattle.gc_along.specs.Internal.InWords.{code_now, freed}
+use Rattle.std.proofs.Common.{arith}
 use Rattle.gc_along.proofs.Freed.{itself, counts, now_at, length-now}
 use Rattle.gc_along.proofs.old_row.OldRow.get.Goals as goal
 

@@ -1,7 +1,6 @@
 -- A row of place 0 has no epochs, so its code stands for itself.
 use Rattle.std.proofs.lemmas.Grind.{common_steps}
-use Rattle.std.proofs.Common.{◌∙◌, ap, arith}
-use Rattle.gc_along.specs.Internal.InWords.{codes_now}
+use Rattle.std.proofs.Common.{arith}
 use Rattle.gc_along.proofs.Freed.{now_first}
 use Rattle.gc_along.proofs.old_row.OldRow.new.Goals as goal
 

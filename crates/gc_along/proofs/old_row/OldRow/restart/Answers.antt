@@ -1,6 +1,6 @@
 -- A row that starts anew has no epochs, so its code stands for itself.
-use Rattle.std.proofs.Common.{◌≡◌, ◌≤◌, ◌∙◌, ap, sym, subst}
-use Rattle.gc_along.specs.Internal.InWords.{Codes, codes_now}
+use Rattle.std.proofs.Common.{◌∙◌, ap}
+use Rattle.gc_along.specs.Internal.InWords.{codes_now}
 use Rattle.gc_along.proofs.Freed.{now_first}
 use Rattle.gc_along.proofs.old_row.OldRow.restart.Goals as goal
 

@@ -1,7 +1,7 @@
 -- A caller sees as many originals, and zeros, as the row counts places.
 use Rattle.std.proofs.lemmas.Grind.{common_steps}
 use Rattle.gc_along.proofs.Halves.{length-origins}
-use Rattle.std.proofs.Common.{sym, arith}
+use Rattle.std.proofs.Common.{arith}
 use Rattle.gc_along.proofs.origin_row.OriginRow.len.Goals as goal
 
 pub returns : goal.returns

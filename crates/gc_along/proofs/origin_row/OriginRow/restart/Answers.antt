@@ -1,8 +1,6 @@
 -- A row that starts anew is one word of bits with its entries, which is place 0.
 use Rattle.std.proofs.lemmas.Grind.{common_steps}
-use Rattle.std.proofs.Common.{◌≤◌, sym, subst, arith}
-use Rattle.std.specs.Prelude.{vec_capacity}
-use Rattle.gc_along.specs.Internal.InWords.{Origins, room_for}
+use Rattle.std.proofs.Common.{arith}
 use Rattle.gc_along.proofs.Halves.{has_one_of, one_origin_of}
 use Rattle.gc_along.proofs.origin_row.OriginRow.restart.Goals as goal
 

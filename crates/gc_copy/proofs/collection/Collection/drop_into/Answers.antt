@@ -1,13 +1,10 @@
 -- Each replica's link leads to an original, whose link is cleared, so at the end no object of the heap has a link above the mark.
 use Rattle.std.proofs.lemmas.Grind.{common_steps}
-use Rattle.std.proofs.Common.{◌≡◌, arith, rules, ◌<◌, ℕ, List, false, length, sym, ap, ◌∙◌, subst}
+use Rattle.std.proofs.Common.{◌≡◌, arith, rules, ◌<◌, ℕ, List, sym, ap, ◌∙◌, subst}
 use Rattle.std.specs.Prelude.{◌^◌}
 use Rattle.gc_words.specs.Image.{is_start}
-use Rattle.gc_words.specs.Layout.{link_place}
-use Rattle.gc_words.specs.Space.{with_word}
 use Rattle.gc_heap.specs.Heap.{HeapWords}
-use Rattle.gc_copy.specs.Words.{CollectionWords, LinksNothing}
-use Rattle.gc_plan.specs.declared.step.StepReply.TheVariants.{Dropped}
+use Rattle.gc_copy.specs.Words.{CollectionWords}
 use Rattle.gc_copy.proofs.ObjectWalks.{start_met}
 use Rattle.gc_copy.proofs.Dropping.{Clears, clears_none, original_here, clears_more, none_above, dropped_state, all_cleared}
 use Rattle.gc_copy.proofs.collection.Collection.drop_into.Goals as goal

@@ -1,7 +1,6 @@
 -- The object takes the value, so the logged field is the one that the `Put` writes, and the collection belongs to the heap again.
 use Rattle.std.proofs.lemmas.Grind.{common_steps}
-use Rattle.std.proofs.Common.{◌≡◌, [], ◌∷◌, map, ap, ◌∙◌, arith}
-use Rattle.gc_graph.specs.Graph.{names_of}
+use Rattle.std.proofs.Common.{◌≡◌, [], ◌∷◌, arith}
 use Rattle.gc_graph.specs.declared.command.Op.TheVariants.{Put}
 use Rattle.gc_heap.specs.Heap.{graph_in}
 use Rattle.gc_plan.specs.Steps.{written}

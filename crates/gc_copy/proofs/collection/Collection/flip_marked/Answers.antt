@@ -2,16 +2,14 @@
 -- links of the old words tell its pairs.
 use Rattle.std.proofs.lemmas.List.{length-map, length-append}
 use Rattle.std.proofs.lemmas.Grind.{common_steps}
-use Rattle.std.proofs.Common.{◌≡◌, ℕ, List, [], ◌∷◌, ◌++◌, true, false, drop, map, length, replicate, refl, sym, ap, ◌∙◌, subst, arith}
+use Rattle.std.proofs.Common.{◌≡◌, ℕ, List, [], ◌∷◌, ◌++◌, true, drop, map, length, replicate, refl, sym, ap, subst, arith}
 use Rattle.std.specs.List.{list_all}
 use Rattle.std.proofs.lemmas.Bool.{and_parts}
 use Rattle.std.specs.Prelude.{IsTrue}
-use Rattle.gc_words.specs.Space.{SpaceWords, IsSpace}
+use Rattle.gc_words.specs.Space.{SpaceWords}
 use Rattle.gc_heap.specs.Heap.{HeapWords, IsHeap, graph_in}
-use Rattle.gc_plan.specs.State.{pairs_of}
 use Rattle.gc_plan.specs.Steps.{is_ready, is_empty}
-use Rattle.gc_copy.specs.Words.{Log, CollectionWords, IsCollection, AreMoved, entries_of, BelongsTo, collection_in, new_root_words, idle_state, LinksNothing}
-use Rattle.gc_plan.specs.declared.step.StepReply.TheVariants.{Flipped}
+use Rattle.gc_copy.specs.Words.{Log, CollectionWords, IsCollection, AreMoved, entries_of, BelongsTo, collection_in, new_root_words}
 use Rattle.gc_plan.proofs.Public.{ready_parts}
 use Rattle.gc_copy.proofs.Flipping.{flipped_sound, flip_is, below_the_mark}
 use Rattle.gc_copy.proofs.RootWalks.{moved_over, all_moved}

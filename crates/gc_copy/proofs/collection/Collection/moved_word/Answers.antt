@@ -2,7 +2,6 @@
 use Rattle.std.proofs.Common.{arith}
 use Rattle.std.proofs.lemmas.Grind.{common_steps}
 use Rattle.gc_copy.proofs.Words.{word_back}
-use Rattle.gc_copy.specs.Words.{collection_in}
 use Rattle.gc_copy.proofs.collection.Collection.moved_word.Goals as goal
 
 pub returns-in_default : goal.returns-in_default

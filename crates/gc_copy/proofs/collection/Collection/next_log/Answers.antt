@@ -1,9 +1,8 @@
 -- The first log with an entry is the one at which the loop stops, because no log before it has one.
 use Rattle.std.proofs.lemmas.List.{drop_all}
 use Rattle.std.proofs.lemmas.Grind.{common_steps}
-use Rattle.std.proofs.Common.{◌<◌, ◌≤◌, length, refl, ap, sym, ◌∙◌, arith}
+use Rattle.std.proofs.Common.{ap, arith}
 use Rattle.gc_plan.specs.Steps.{first_log}
-use Rattle.gc_copy.specs.contracts.collection.Collection.{the_view}
 use Rattle.gc_copy.specs.Words.{CollectionWords, collection_in}
 use Rattle.gc_copy.proofs.Logs.{there_in, first_here, first_later}
 use Rattle.gc_copy.proofs.collection.Collection.next_log.Goals as goal

@@ -1,16 +1,14 @@
 -- The copy at the new end, with links both ways, is the plan's new replica; if it lacks room, the plan places none either.
 use Rattle.std.proofs.lemmas.Grind.{common_steps}
-use Rattle.std.proofs.Common.{◌≡◌, ℕ, ◌+◌, ◌<◌, ◌≤◌, length, arith, List, true, false, Some, None, refl, ap, sym, ◌∙◌, subst}
+use Rattle.std.proofs.Common.{◌≡◌, ◌+◌, arith, false, Some, None, ap, sym, subst}
 use Rattle.gc_graph.specs.Graph.{lookup}
-use Rattle.gc_words.specs.Image.{blocks, header_at}
-use Rattle.gc_words.specs.declared.header.Header.{Header}
+use Rattle.gc_words.specs.Image.{header_at}
 use Rattle.gc_words.specs.Space.{HasRoomFor}
 use Rattle.gc_heap.specs.Heap.{graph_in}
 use Rattle.gc_plan.specs.State.{replica_of}
 use Rattle.gc_plan.specs.Steps.{place_replica}
 use Rattle.gc_copy.specs.contracts.collection.Collection.{the_view}
 use Rattle.gc_copy.specs.Words.{CollectionWords, collection_in, BelongsTo}
-use Rattle.gc_copy.specs.Internal.Words.{KeepsRest}
 use Rattle.gc_copy.proofs.Spaces.{count_small}
 use Rattle.gc_copy.proofs.OpenCollection.{Placing, placed_start, placing_done, full}
 use Rattle.gc_copy.proofs.collection.Collection.place_replica.Goals as goal

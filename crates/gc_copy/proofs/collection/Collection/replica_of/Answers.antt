@@ -9,7 +9,6 @@ use Rattle.gc_heap.specs.Heap.{HeapWords}
 use Rattle.gc_copy.specs.Words.{CollectionWords, IsCollection, mark_of, BelongsTo}
 use Rattle.gc_copy.proofs.OpenCollection.{Tells, link_tells}
 use Rattle.gc_copy.proofs.collection.Collection.replica_of.Goals as goal
-use Rattle.gc_copy.proofs.collection.Collection.replica_of.Goals.{Then-place-eq0, Else-place-eq0}
 
 -- what an original's link has above the mark is its replica's address, or 0
 told : (heap : HeapWords) (inner outer : CollectionWords) (a place : ℕ) (s : SpaceWords) → inner ≡ outer → IsCollection inner → BelongsTo heap outer → is_start heap.space.words a ≡ true → s ≡ heap.space → place ≡ link_at s.words a - mark_of inner.epoch → Tells outer a place

@@ -1,7 +1,6 @@
 -- Once a replica is placed, the word refers to an object that has one.
 use Rattle.std.proofs.Common.{arith}
 use Rattle.std.proofs.lemmas.Grind.{common_steps}
-use Rattle.gc_copy.specs.Words.{collection_in}
 use Rattle.gc_copy.proofs.OpenCollection.{has_placed}
 use Rattle.gc_copy.proofs.collection.Collection.replicate_target.Goals as goal
 

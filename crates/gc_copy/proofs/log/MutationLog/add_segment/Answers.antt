@@ -1,8 +1,7 @@
 -- A segment is added behind the others, so the entries stay the same, and the log has room for one segment more of them.
 use Rattle.std.proofs.lemmas.Grind.{common_steps}
-use Rattle.std.proofs.Common.{length, ap, sym, ◌∙◌, subst, arith}
+use Rattle.std.proofs.Common.{sym, subst, arith}
 use Rattle.std.proofs.lemmas.List.{length_push}
-use Rattle.gc_copy.specs.Words.{Log}
 use Rattle.gc_copy.specs.Internal.Segments.{IsLog}
 use Rattle.gc_copy.proofs.Segments.{full_within, log_longer, longer_same, left_in}
 use Rattle.gc_copy.proofs.log.MutationLog.add_segment.Goals as goal

@@ -1,6 +1,6 @@
 -- The oldest entry goes from a segment that keeps others, or with the whole segment if it was the last one there.
 use Rattle.std.proofs.lemmas.Grind.{common_steps}
-use Rattle.std.proofs.Common.{[], ◌≡◌, drop, sym, ap, ◌∙◌, arith}
+use Rattle.std.proofs.Common.{drop, ap, ◌∙◌, arith}
 use Rattle.std.proofs.lemmas.Bool.{eqb-true}
 use Rattle.gc_copy.specs.Words.{Log}
 use Rattle.gc_copy.proofs.Segments.{none_left, dropped_here, dropped_all, dropped_first}

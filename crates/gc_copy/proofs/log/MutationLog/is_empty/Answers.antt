@@ -1,8 +1,6 @@
 -- The log has an entry exactly if its last segment has one.
 use Rattle.std.proofs.lemmas.Grind.{common_steps}
-use Rattle.std.proofs.Common.{sym, ap, ◌∙◌, arith}
-use Rattle.gc_plan.specs.Steps.{is_empty}
-use Rattle.gc_copy.specs.Words.{Log}
+use Rattle.std.proofs.Common.{arith}
 use Rattle.gc_copy.proofs.Segments.{empty_if}
 use Rattle.gc_copy.proofs.log.MutationLog.is_empty.Goals as goal
 

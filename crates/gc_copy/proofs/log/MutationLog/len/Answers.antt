@@ -1,7 +1,6 @@
 -- The entries are those of the full segments and of the last one, without those that are gone, and their number fits.
 use Rattle.std.proofs.lemmas.Grind.{common_steps}
-use Rattle.std.proofs.Common.{ap, ◌∙◌, length, arith}
-use Rattle.gc_copy.specs.Words.{Log}
+use Rattle.std.proofs.Common.{arith}
 use Rattle.gc_copy.proofs.Segments.{bounded, counted}
 use Rattle.gc_copy.proofs.log.MutationLog.len.Goals as goal
 

@@ -1,9 +1,8 @@
 -- The entry becomes the last one: in the segment in use or, if that is full, in the next one, which has room.
 use Rattle.std.proofs.lemmas.Grind.{common_steps}
-use Rattle.std.proofs.Common.{◌++◌, ◌∷◌, [], ◌+◌, length, ap, sym, ◌∙◌, subst, arith}
+use Rattle.std.proofs.Common.{◌+◌, length, ap, sym, ◌∙◌, subst, arith}
 use Rattle.std.proofs.lemmas.List.{length-set}
 use Rattle.gc_copy.specs.Words.{Log}
-use Rattle.gc_copy.specs.Entries.{entry_in}
 use Rattle.gc_copy.specs.Internal.Segments.{IsLog}
 use Rattle.gc_copy.proofs.Segments.{noted_here, noted_next, log_next, next_room, left_in}
 use Rattle.gc_copy.proofs.log.MutationLog.note.Goals as goal

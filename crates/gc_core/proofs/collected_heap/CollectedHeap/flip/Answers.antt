@@ -17,12 +17,12 @@ use Rattle.gc_core.proofs.collected_heap.CollectedHeap.flip.Goals as goal
 pub returns-clause-asked : goal.returns-clause-asked
 returns-clause-asked g c pairs told =
     pair_now (g.C.Checks.says_yes c.args.checker.now) c.self.inside.heap c.self.inside.collection c.in-Some.collection c.args.self.now c.in-Some.is c.self.view_is
-    (subst (g.C.Checks.says_yes c.args.checker.now) (same_pair c.self.inside.heap c.unmark.new.heap c.in-Some.collection c.unmark.new.self c.unmark.ensures.state c.unmark.ensures.unmarked) c.in_ok-accepts.ensures.asked)
+    (subst (g.C.Checks.says_yes c.args.checker.now) (same_pair c.self.inside.heap c.unmark.new.heap c.in-Some.collection c.unmark.new.self c.unmark.ensures.state c.unmark.ensures.unmarked) c.in_ok-found_by.ensures.asked)
 
 pub returns-clause-sound : goal.returns-clause-sound
 returns-clause-sound g c pairs told =
     pair_now IsCertified c.self.inside.heap c.self.inside.collection c.in-Some.collection c.args.self.now c.in-Some.is c.self.view_is
-    (subst IsCertified (same_pair c.self.inside.heap c.unmark.new.heap c.in-Some.collection c.unmark.new.self c.unmark.ensures.state c.unmark.ensures.unmarked) c.in_ok-accepts.ensures.certified)
+    (subst IsCertified (same_pair c.self.inside.heap c.unmark.new.heap c.in-Some.collection c.unmark.new.self c.unmark.ensures.state c.unmark.ensures.unmarked) c.in_ok-found_by.ensures.certified)
 
 -- the collection that is carried out is the one that was asked about
 unmarked_is : (after taken : CollectionWords) (o : Option CollectionWords) → Some after ≡ o → o ≡ Some taken → after ≡ taken
@@ -33,7 +33,7 @@ returns-clause-pair g c keeps kept =
     let seen = c.unmark.ensures.state ∙ ap (λ o. state_of c.self.inside.heap (option_map collection_in o)) (sym c.in-Some.is) ∙ c.self.view_is in
     subst (λ (s : State). kept_after kept s c.carry_out.result.reply ≡ option_or (option_map pair_in c.carry_out.result.pair) kept) seen
     (kept_open c.unmark.new.heap (Some c.unmark.new.self) c.unwrap-collection.result c.carry_out.result.reply _ (option_map pair_in c.carry_out.result.pair) kept
-    (sym c.take.ensures.value ∙ c.unwrap-collection.ensures) c.carry_out.ensures.reply (c.carry_out.ensures.pair (c.in_ok-copies.ensures.pair keeps)))
+    (sym c.take.ensures.value ∙ c.unwrap-collection.ensures) c.carry_out.ensures.reply (c.carry_out.ensures.pair (c.in_ok-copy.ensures.pair keeps)))
 
 pub returns-clause-step : goal.returns-clause-step
 returns-clause-step g c =

@@ -3,7 +3,6 @@ use Rattle.std.proofs.lemmas.Grind.{common_steps}
 use Rattle.std.proofs.Common.{arith}
 use Rattle.gc_graph.proofs.Decimals.{front_is, front_none}
 use Rattle.gc_graph.proofs.text.decimals.front_number.Goals as goal
-use Rattle.gc_graph.proofs.text.decimals.front_number.Goals.{else-end-gt0-via-then-end-gt0+else-is_decimal}
 
 pub returns-then-is_decimal : goal.returns-then-is_decimal
 returns-then-is_decimal c =
