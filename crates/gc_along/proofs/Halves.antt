@@ -209,16 +209,13 @@ pub record IsAdded (starts originals starts' originals' : List ℕ) (len len' fi
   pub has : HasOrigins starts' originals' len'
   pub origins : origins_in starts' originals' len' ≡ origins_in starts originals len ++ original ∷ 0 ∷ replicate fields 0
 
-pub added : (starts originals more_starts more_originals : List ℕ) (len len' n m fields original word : ℕ) → HasOrigins starts originals len
-    → more_starts ≡ starts ++ replicate n 0 → more_originals ≡ originals ++ replicate m 0 → len' ≡ len + (fields + 2)
-    → length starts + n ≡ (len' + 63) / 64 → length originals + m ≡ 32 * (length starts + n) → word ≡ get_or more_starts (len / 64) word
+pub added : (starts originals more_starts more_originals : List ℕ) (len len' words starts_len originals_len fields original word : ℕ) → HasOrigins starts originals len → starts_len ≡ length starts → originals_len ≡ length originals
+    → more_starts ≡ starts ++ replicate (words - starts_len) 0 → more_originals ≡ originals ++ replicate (32 * words - originals_len) 0 → len' ≡ len + (fields + 2) → words ≡ (len' + 63) / 64 → word ≡ get_or more_starts (len / 64) word
     → IsAdded starts originals (set more_starts (len / 64) (bit_or word (1 * 2 ^ (len % 64) % 18446744073709551616))) (set more_originals (len / 2) original) len len' fields original
-added starts originals more_starts more_originals len len' n m fields original word has starts_are originals_are len_is words halves read =
-    let g : HasGrown starts originals len n m fields = record {
-      has = has;
-      words = words ∙ ap (λ len. (len + 63) / 64) len_is;
-      halves = halves;
-    } in
+added starts originals more_starts more_originals len len' words starts_len originals_len fields original word has starts_has originals_has starts_are originals_are len_is words_are read =
+    let n = words - starts_len in
+    let m = 32 * words - originals_len in
+    let g : HasGrown starts originals len n m fields = record { has = has; words = omega (arith, has.bits); halves = omega (arith, has.bits, has.halves) } in
     let inside : len / 64 < length more_starts = subst (λ (row : List ℕ). len / 64 < length row) (sym starts_are) (word_within starts originals len n m fields g) in
     let word_is : word ≡ slice_index (starts ++ replicate n 0) (len / 64) = read ∙ get_or_default more_starts (len / 64) word 0 inside ∙ ap (λ row. get_or row (len / 64) 0) starts_are in
     let s : set more_starts (len / 64) (bit_or word (1 * 2 ^ (len % 64) % 18446744073709551616)) ≡ starts_with starts n len

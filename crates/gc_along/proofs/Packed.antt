@@ -1,6 +1,6 @@
 -- The codes of places, as words hold them.
 use Rattle.std.proofs.lemmas.Grind.{common_steps}
-use Rattle.std.proofs.Common.{◌≡◌, ◌≢◌, ◌⊎◌, inl, inr, ℕ, suc, ◌+◌, ◌-◌, ◌/◌, ◌%◌, ◌<◌, ◌≤◌, List, [], ◌∷◌, ◌++◌, length, take, set, get_or, replicate, refl, sym, ◌∙◌, ap, subst, arith, length-append, length-set, get_or-set_same, get_or-set_other, rules}
+use Rattle.std.proofs.Common.{◌≡◌, ◌≢◌, ◌⊎◌, inl, inr, ℕ, suc, ◌+◌, ◌-◌, ◌/◌, ◌%◌, ◌<◌, ◌≤◌, List, [], ◌∷◌, ◌++◌, length, take, set, get_or, replicate, refl, sym, ◌∙◌, ap, subst, arith, length-append, length-set, get_or-set_same, get_or-set_other}
 use Rattle.std.specs.Prelude.{slice_index}
 use Rattle.std.proofs.lemmas.Bool.{cases_eq, cases_lt}
 use Rattle.std.proofs.lemmas.List.{length-replicate, length-take-le, get_or-take, get_or_append_left, get_or-append_right, get_or-replicate, get_or_default, get_or_past, ext_get_or}
@@ -179,14 +179,10 @@ added words grown len len' code more n word with has grown_is len_is count few r
 -- ---- a run of threes
 
 -- the word of a place with threes from there on
-pub record IsFilled (words : List ℕ) (from count word : ℕ) : Type 0 where
-  pub fits : from % 32 + count ≤ 32
-  pub inside : (k : ℕ) → from % 32 ≤ k → k < from % 32 + count → code_in word k ≡ 3
-  pub outside : (k : ℕ) → (k < from % 32) ⊎ (from % 32 + count ≤ k) → code_in word k ≡ code_in (slice_index words (from / 32)) k
-
-pub is_filled : (words : List ℕ) (from count word n : ℕ) → n ≡ get_or words (from / 32) n → from / 32 < length words → from % 32 + count ≤ 32
-    → ((k : ℕ) → from % 32 ≤ k → k < from % 32 + count → code_in word k ≡ 3) → ((k : ℕ) → (k < from % 32) ⊎ (from % 32 + count ≤ k) → code_in word k ≡ code_in n k) → IsFilled words from count word
-is_filled words from count word n read inside fits filled others = grind (arith, common_steps, get_or_default)
+record IsFilled (words : List ℕ) (from count word : ℕ) : Type 0 where
+  fits : from % 32 + count ≤ 32
+  inside : (k : ℕ) → from % 32 ≤ k → k < from % 32 + count → code_in word k ≡ 3
+  outside : (k : ℕ) → (k < from % 32) ⊎ (from % 32 + count ≤ k) → code_in word k ≡ code_in (slice_index words (from / 32)) k
 
 filled_at : (words : List ℕ) (from count word place : ℕ) → from / 32 < length words → IsFilled words from count word → from ≤ place → place < from + count → code_at (set words (from / 32) word) place ≡ 3
 unfolding code_at
@@ -196,23 +192,32 @@ kept_at : (words : List ℕ) (from count word place : ℕ) → from / 32 < lengt
 unfolding code_at
 kept_at words from count word place inside f out = grind (arith, common_steps, cases_eq, get_or-set_same, get_or-set_other)
 
-pub has_codes_filled : (words : List ℕ) (len from count word : ℕ) → HasCodes words len → from / 32 < length words → from + count ≤ len → IsFilled words from count word → HasCodes (set words (from / 32) word) len
-has_codes_filled words len from count word h inside within f = record {
-  count = omega (arith, h.count, length-set words (from / 32) word);
-  few = omega (arith, h.few, length-set words (from / 32) word);
-  rest = λ place past. kept_at words from count word place inside f (inr (omega arith)) ∙ h.rest place past;
-}
-
 pub code_seen : (words : List ℕ) (len place : ℕ) → HasCodes words len → get_or (codes_in words len) place 0 ≡ code_at words place
 code_seen words len place h = grind (arith, common_steps, cases_lt, codes_at, get_or_past, length-codes)
 
-pub codes_filled : (words : List ℕ) (len from count word place : ℕ) → HasCodes words len → from / 32 < length words → from + count ≤ len → IsFilled words from count word
-    → from ≤ place → place < from + count → get_or (codes_in (set words (from / 32) word) len) place 0 ≡ 3
-codes_filled words len from count word place h inside within f low high = search (rules, code_seen, has_codes_filled, filled_at)
+-- the row once that word is written
+pub record HasRun (words : List ℕ) (len from count word : ℕ) : Type 0 where
+  pub has : HasCodes (set words (from / 32) word) len
+  pub filled : (place : ℕ) → from ≤ place → place < from + count → get_or (codes_in (set words (from / 32) word) len) place 0 ≡ 3
+  pub others : (place : ℕ) → (place < from) ⊎ (from + count ≤ place) → get_or (codes_in (set words (from / 32) word) len) place 0 ≡ get_or (codes_in words len) place 0
 
-pub codes_kept : (words : List ℕ) (len from count word place : ℕ) → HasCodes words len → from / 32 < length words → from + count ≤ len → IsFilled words from count word
-    → (place < from) ⊎ (from + count ≤ place) → get_or (codes_in (set words (from / 32) word) len) place 0 ≡ get_or (codes_in words len) place 0
-codes_kept words len from count word place h inside within f out = search (rules, code_seen, has_codes_filled, kept_at)
+pub run_filled : (words : List ℕ) (len room from count word n : ℕ) (seen : Codes) → HasCodes words len → record { codes = codes_in words len; room = room } ≡ seen
+    → from + count ≤ length seen.codes → 1 ≤ count → from % 32 + count ≤ 32 → n ≡ get_or words (from / 32) n
+    → ((k : ℕ) → from % 32 ≤ k → k < from % 32 + count → code_in word k ≡ 3) → ((k : ℕ) → (k < from % 32) ⊎ (from % 32 + count ≤ k) → code_in word k ≡ code_in n k) → HasRun words len from count word
+run_filled words len room from count word n seen has is within some fits read filled others =
+    let len_is = seen_length words len room seen is in
+    let inside : from / 32 < length words = omega (arith, has.count) in
+    let f : IsFilled words from count word = grind (arith, common_steps, get_or_default) in
+    let now : HasCodes (set words (from / 32) word) len = record {
+      count = omega (arith, has.count, length-set words (from / 32) word);
+      few = omega (arith, has.few, length-set words (from / 32) word);
+      rest = λ place past. kept_at words from count word place inside f (inr (omega arith)) ∙ has.rest place past;
+    } in
+    record {
+      has = now;
+      filled = λ place low high. code_seen _ len place now ∙ filled_at words from count word place inside f low high;
+      others = λ place out. code_seen _ len place now ∙ kept_at words from count word place inside f out ∙ sym (code_seen words len place has);
+    }
 
 -- the last places have code 3, and the others what they had
 pub all_filled : (before now : List ℕ) (places : ℕ) → length now ≡ length before → places ≤ length before

@@ -2,7 +2,7 @@
 use Rattle.std.proofs.lemmas.Grind.{common_steps}
 use Rattle.std.proofs.Common.{◌≡◌, ◌≢◌, ℕ, zero, suc, ◌+◌, ◌<◌, ◌≤◌, Bool, true, false, cond, not, ◌&&◌, ◌||◌, ◌==◌, List, [], ◌∷◌, length, get_or, Option, Some, None, refl, sym, ◌∙◌, ap, subst, inl, inr, arith}
 use Rattle.std.specs.Prelude.{slice_index, slice_index_or, is_some}
-use Rattle.std.specs.List.{AllPairs, AllZip, list_any, Any}
+use Rattle.std.specs.List.{All, AllPairs, AllZip, list_any, Any}
 use Rattle.std.proofs.lemmas.Bool.{eqb-true, eq-eqb, ne_eqb, cases_Bool, and_from, or_right}
 use Rattle.std.proofs.lemmas.List.Folds.{Any-from_list_any, list_any_at}
 use Rattle.gc_graph.specs.Graph.{Value, Ref}
@@ -17,11 +17,12 @@ use Rattle.gc_words.specs.Fault.{first_fault}
 use Rattle.gc_words.specs.declared.image.Pair.{Pair}
 use Rattle.gc_words.specs.declared.refusal.Refusal.{Refusal}
 use Rattle.gc_check.specs.Infer.{Certifiable, AreForced, Together, AreTogether}
+use Rattle.gc_check.specs.Tables.{pair_at}
 use Rattle.gc_check.specs.Verdict.{pairs_of}
 use Rattle.gc_check.specs.declared.meet.Found.{Found}
 use Rattle.gc_check.proofs.StartMarks.{low_start}
 use Rattle.gc_check.specs.Internal.Tables.{HoldsPartners}
-use Rattle.gc_check.specs.Internal.Meetings.{is_free, AllMet, BlocksMet, MetTo, HoldsFound, originals_in, swapped, risen}
+use Rattle.gc_check.specs.Internal.Meetings.{is_free, AllMet, BlocksMet, MetTo, AlikeTo, HoldsFound, originals_in, swapped, risen}
 use Rattle.gc_check.proofs.Meetings.{paired_swapped}
 use Rattle.gc_check.proofs.Forced.{paired_objects, AreIn}
 
@@ -105,6 +106,13 @@ module _ (old new : Image) (pairs : List (ℕ × ℕ)) (row : List ℕ) (held : 
   pub risen_of_found : (a b : ℕ) → 1 ≤ a → paired pairs a b ≡ true → paired (risen 0 row) a b ≡ true
   risen_of_found a b low e = grind (arith, common_steps, eqb-true, paired_swapped, risen_has)
 
+  -- what holds of each pair found holds of each in order
+  pub each_risen : (Holds : ℕ × ℕ → Type 0) → ((j : ℕ) → j < length pairs → Holds (pair_at pairs j)) → All Holds (risen 0 row)
+  each_risen Holds holds k d h =
+      let p : ℕ × ℕ = get_or (risen 0 row) k d in
+      let j : (j : ℕ) × (j < length pairs) × ((d : ℕ × ℕ) → slice_index_or pairs j d ≡ (p.0, p.1)) = place_of pairs p.0 p.1 (found_of_risen k d h) in
+      subst Holds (j.2 (0, 0)) (holds j.0 j.1)
+
   module _ (met : MetTo old new pairs (length pairs)) (cert : List (ℕ × ℕ)) (certified : Certified old new cert) (low : (a : ℕ) → is_start old.words a ≡ true → 1 ≤ a) where
     both : Corresponding cert (graph_of old) (graph_of new)
     both = corresponding old new cert certified
@@ -178,34 +186,30 @@ module _ (old new : Image) (pairs : List (ℕ × ℕ)) (row : List ℕ) (held : 
 
 -- ---- answers
 
-module _ (old new old_seen new_seen : Image) (found : Found) (cert : List Pair) (old_is : old_seen ≡ old) (new_is : new_seen ≡ new)
-    (held : HoldsFound old_seen new_seen found) (met : MetTo old_seen new_seen (pairs_of found.pairs.items) (length found.pairs.items)) (rise : pairs_of cert ≡ risen 0 (originals_in new found)) where
-  pub held_here : HoldsFound old new found
-  held_here = subst (λ image. HoldsFound image new found) old_is (subst (λ image. HoldsFound old_seen image found) new_is held)
+-- the pairs that a walk over both images found, and the same pairs in order
+pub record HasFound (old new : Image) (found : Found) (are_alike : Bool) (cert : List Pair) : Type 0 where
+  pub held : HoldsFound old new found
+  pub met : MetTo old new (pairs_of found.pairs.items) (length (pairs_of found.pairs.items))
+  pub alike : are_alike ≡ true → AlikeTo old new (pairs_of found.pairs.items) (length (pairs_of found.pairs.items))
+  pub rise : pairs_of cert ≡ risen 0 (originals_in new found)
 
-  pub met_here : MetTo old new (pairs_of found.pairs.items) (length (pairs_of found.pairs.items))
-  met_here = grind (arith, common_steps, length-map)
+pub has_found : (old new old_seen new_seen : Image) (found : Found) (alike : Bool) (cert : List Pair) → old_seen ≡ old → new_seen ≡ new
+    → HoldsFound old_seen new_seen found → MetTo old_seen new_seen (pairs_of found.pairs.items) (length found.pairs.items)
+    → (alike ≡ true → AlikeTo old_seen new_seen (pairs_of found.pairs.items) (length found.pairs.items)) → pairs_of cert ≡ risen 0 (originals_in new_seen found) → HasFound old new found alike cert
+has_found old new old_seen new_seen found alike cert old_is new_is held met both rise = grind (arith, common_steps, length-map)
 
+module _ (old new : Image) (found : Found) (alike : Bool) (cert : List Pair) (k : HasFound old new found alike cert) where
   low_here : (a : ℕ) → is_start old.words a ≡ true → 1 ≤ a
-  low_here a start = low_start old.words a held_here.old_entries.walked start
+  low_here a start = low_start old.words a k.held.old_entries.walked start
 
   pub pairs_are_forced : AreForced old new (pairs_of cert)
-  pairs_are_forced = λ other certified.
-      subst (AreIn other) (sym rise) (forced_now old new (pairs_of found.pairs.items) (originals_in new found) held_here.originals met_here other certified low_here)
+  pairs_are_forced = λ other certified. subst (AreIn other) (sym k.rise) (forced_now old new (pairs_of found.pairs.items) (originals_in new found) k.held.originals k.met other certified low_here)
 
   pub pairs_together : AreTogether old new (pairs_of cert)
-  pairs_together = subst (AreTogether old new) (sym rise) together_now
-    where
-      together_now : AreTogether old new (risen 0 (originals_in new found))
-      together_now k d h =
-          let p : ℕ × ℕ = get_or (risen 0 (originals_in new found)) k d in
-          let j : (j : ℕ) × (j < length (pairs_of found.pairs.items)) × ((d : ℕ × ℕ) → slice_index_or (pairs_of found.pairs.items) j d ≡ (p.0, p.1))
-          = place_of (pairs_of found.pairs.items) p.0 p.1 (found_of_risen old new (pairs_of found.pairs.items) (originals_in new found) held_here.originals k d h) in
-          subst (λ (p : ℕ × ℕ). Together old new p.0 p.1) (j.2 d) (met_here.together j.0 d j.1)
+  pairs_together = subst (AreTogether old new) (sym k.rise) (each_risen old new (pairs_of found.pairs.items) (originals_in new found) k.held.originals (λ p. Together old new p.0 p.1) (λ j within. k.met.together j (0, 0) within))
 
   pub pairs_hold : Certifiable old new → Certified old new (pairs_of cert)
-  pairs_hold some =
-      subst (Certified old new) (sym rise) (certified_now old new (pairs_of found.pairs.items) (originals_in new found) held_here.originals met_here some.0 some.1 low_here)
+  pairs_hold some = subst (Certified old new) (sym k.rise) (certified_now old new (pairs_of found.pairs.items) (originals_in new found) k.held.originals k.met some.0 some.1 low_here)
 
 -- a refusal of these pairs is one of all
 pub refused_of_all : (old new : Image) (pairs : List (ℕ × ℕ)) (refusal : Refusal) → (Certifiable old new → Certified old new pairs) → first_fault old new pairs ≡ Some refusal → Certifiable old new → ⊥

@@ -1,7 +1,7 @@
 -- The pairs found, in the order of their new addresses: they have a table of partners, and lead to no further pair.
 use Rattle.std.proofs.lemmas.Grind.{common_steps}
 use Rattle.std.specs.Option.{option_map, option_map_or}
-use Rattle.std.proofs.Common.{◌≡◌, ℕ, zero, suc, ◌<◌, ◌≤◌, ◌^◌, true, false, not, ◌&&◌, ◌==◌, List, [], ◌∷◌, length, get_or, Option, Some, None, refl, sym, ◌∙◌, ap, subst, inl, inr, arith, rules}
+use Rattle.std.proofs.Common.{◌≡◌, ℕ, zero, suc, ◌<◌, ◌≤◌, ◌^◌, Bool, true, false, not, ◌&&◌, ◌==◌, List, [], ◌∷◌, length, get_or, Option, Some, None, refl, sym, ◌∙◌, ap, subst, inl, inr, arith, rules}
 use Rattle.std.specs.List.{All, AllPairs, list_any}
 use Rattle.std.proofs.lemmas.Bool.{eqb-true, eq-eqb, and_from, or_cases, or_left, or_right}
 use Rattle.std.proofs.lemmas.List.Folds.{list_any_at}
@@ -14,10 +14,9 @@ use Rattle.gc_words.specs.declared.refusal.Refusal.{Refusal}
 use Rattle.gc_words.specs.declared.refusal.Refusal.TheVariants.{OldShape, NewShape}
 use Rattle.gc_words.proofs.Public.{Later, none_or, none_when, places_hold, no_shape_fault, shaped, place_of}
 use Rattle.gc_words.specs.declared.image.Pair.{Pair}
-use Rattle.std.proofs.lemmas.List.{length-map}
 use Rattle.gc_check.specs.Infer.{is_taken, LeadsToPairs, ObjectsLeadToPairs, AreClosed, Certifiable, Decides}
 use Rattle.gc_check.specs.Internal.Tables.{HoldsPartners, HasTables}
-use Rattle.gc_check.specs.Internal.Meetings.{is_free, AllMet, BlocksMet, ObjectsMet, MetTo, AlikeTo, HoldsFound, partners_in, originals_in, swapped, risen}
+use Rattle.gc_check.specs.Internal.Meetings.{is_free, AllMet, BlocksMet, ObjectsMet, MetTo, AlikeTo, partners_in, originals_in, swapped, risen}
 use Rattle.gc_check.specs.Headline.{Replicated}
 use Rattle.gc_check.specs.Verdict.{pairs_of, verdict_of, IsRefusalOf}
 use Rattle.gc_check.specs.declared.verdict.Verdict.{Verdict}
@@ -28,7 +27,7 @@ use Rattle.gc_check.specs.declared.verdict.CheckFault.TheVariants.{Refused}
 use Rattle.gc_check.proofs.Alike.{all_more, blocks_more}
 use Rattle.gc_check.proofs.StartMarks.{low_start}
 use Rattle.gc_check.proofs.ByAddress.{length_by_address}
-use Rattle.gc_check.proofs.Inferred.{found_of_risen, risen_of_found, risen_rises, risen_length, held_here, met_here, refused_of_all}
+use Rattle.gc_check.proofs.Inferred.{HasFound, each_risen, found_of_risen, risen_of_found, risen_rises, risen_length, refused_of_all}
 
 -- ---- addresses of pairs
 
@@ -108,11 +107,8 @@ module _ (old new : Image) (pairs : List (ℕ × ℕ)) (row partners : List ℕ)
   alike_hold old_shaped new_shaped alike = record {
     old_shaped = old_shaped;
     new_shaped = new_shaped;
-    objects = λ k d h.
-        let p : ℕ × ℕ = get_or now k d in
-        let j : (j : ℕ) × (j < length pairs) × ((d : ℕ × ℕ) → get_or pairs j d ≡ (p.0, p.1)) = place_of pairs p.0 p.1 (found_of_risen old new pairs row held k d h) in
-        blocks_more pairs now to_now (block_at old.words p.0) (block_at new.words p.1)
-        (subst (λ (p : ℕ × ℕ). BlocksCorrespond pairs (block_at old.words p.0) (block_at new.words p.1)) (j.2 (0, 0)) (alike.objects j.0 j.1 j.1));
+    objects = λ k d h. blocks_more pairs now to_now (block_at old.words (get_or now k d).0) (block_at new.words (get_or now k d).1)
+        (each_risen old new pairs row held (λ p. BlocksCorrespond pairs (block_at old.words p.0) (block_at new.words p.1)) (λ j within. alike.objects j within within) k d h);
     rising = risen_rises 0 row;
     once = λ i j d h l. (later i j d h l).0;
     roots = all_more pairs now to_now old.roots new.roots alike.roots;
@@ -138,40 +134,27 @@ module _ (old new : Image) (pairs : List (ℕ × ℕ)) (row partners : List ℕ)
   found_are_closed : AreClosed old new now
   found_are_closed = record {
     roots = lead old.roots new.roots met.roots;
-    objects = λ k d h.
-        let p : ℕ × ℕ = get_or now k d in
-        let j : (j : ℕ) × (j < length pairs) × ((d : ℕ × ℕ) → get_or pairs j d ≡ (p.0, p.1)) = place_of pairs p.0 p.1 (found_of_risen old new pairs row held k d h) in
-        objects_lead (block_at old.words p.0) (block_at new.words p.1) (subst (λ (p : ℕ × ℕ). ObjectsMet old new pairs p) (j.2 (0, 0)) (met.objects j.0 j.1 j.1));
+    objects = λ k d h. objects_lead (block_at old.words (get_or now k d).0) (block_at new.words (get_or now k d).1) (each_risen old new pairs row held (ObjectsMet old new pairs) (λ j within. met.objects j within within) k d h);
   }
 
 -- ---- answers
 
-module _ (old new old_seen new_seen : Image) (found : Found) (cert : List Pair) (old_is : old_seen ≡ old) (new_is : new_seen ≡ new)
-    (held : HoldsFound old_seen new_seen found) (met : MetTo old_seen new_seen (pairs_of found.pairs.items) (length found.pairs.items)) (rise : pairs_of cert ≡ risen 0 (originals_in new found)) where
-  here : HoldsFound old new found
-  here = held_here old new old_seen new_seen found cert old_is new_is held met rise
-
-  all_met : MetTo old new (pairs_of found.pairs.items) (length (pairs_of found.pairs.items))
-  all_met = met_here old new old_seen new_seen found cert old_is new_is held met rise
-
+module _ (old new : Image) (found : Found) (alike : Bool) (cert : List Pair) (k : HasFound old new found alike cert) where
   old_low : (a : ℕ) → is_start old.words a ≡ true → 1 ≤ a
-  old_low a start = low_start old.words a here.old_entries.walked start
+  old_low a start = low_start old.words a k.held.old_entries.walked start
 
   new_low : (b : ℕ) → is_start new.words b ≡ true → 1 ≤ b
-  new_low b start = low_start new.words b here.new_entries.walked start
+  new_low b start = low_start new.words b k.held.new_entries.walked start
 
   pub pairs_have_tables : shape_fault old ≡ None → shape_fault new ≡ None → length old.roots ≡ length new.roots → length new.words < 2 ^ 32 → HasTables (record { old = old; new = new; pairs = pairs_of cert }) found.partners
-  pairs_have_tables old_shaped new_shaped roots few = grind (arith, common_steps, risen_length, length_by_address, here, all_met, old_low, new_low, placed, same_pairs, pair_of_first, first_of, to_now, from_now)
+  pairs_have_tables old_shaped new_shaped roots few = grind (arith, common_steps, risen_length, length_by_address, old_low, new_low, placed, same_pairs, pair_of_first, first_of, to_now, from_now)
 
-  pub pairs_hold_if_alike : shape_fault old ≡ None → shape_fault new ≡ None → AlikeTo old_seen new_seen (pairs_of found.pairs.items) (length found.pairs.items) → Certified old new (pairs_of cert)
-  pairs_hold_if_alike old_shaped new_shaped alike = subst (Certified old new) (sym rise)
-      (alike_hold old new (pairs_of found.pairs.items) (originals_in new found) (partners_in old found) here.originals here.partners all_met old_low new_low (shaped old old_shaped) (shaped new new_shaped) alike_here)
-    where
-      alike_here : AlikeTo old new (pairs_of found.pairs.items) (length (pairs_of found.pairs.items))
-      alike_here = grind (arith, common_steps, length-map)
+  pub pairs_hold_if_alike : shape_fault old ≡ None → shape_fault new ≡ None → alike ≡ true → Certified old new (pairs_of cert)
+  pairs_hold_if_alike old_shaped new_shaped same = subst (Certified old new) (sym k.rise)
+      (alike_hold old new (pairs_of found.pairs.items) (originals_in new found) (partners_in old found) k.held.originals k.held.partners k.met old_low new_low (shaped old old_shaped) (shaped new new_shaped) (k.alike same))
 
   pub pairs_are_closed : AreClosed old new (pairs_of cert)
-  pairs_are_closed = grind (arith, common_steps, found_are_closed, here, all_met, old_low, new_low)
+  pairs_are_closed = grind (arith, common_steps, found_are_closed, old_low, new_low)
 
 -- ---- images that cannot be compared
 

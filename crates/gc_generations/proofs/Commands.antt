@@ -36,16 +36,15 @@ module _ (size : ℕ) (front young roots : List ℕ) (remembered : List (ℕ × 
   whole_space : IsSpace (record { size = size; words = front ++ young })
   whole_space = whole_shaped size front young standing.shaped standing.walked standing.fits
 
+  walked_young : Walked 0 (length front) young (young_blocks (length front) young)
+  walked_young = ok_is (walk true 0 (length front) young) standing.walked
+
   pub made : (h : Header) (place : ℕ) → CanPlace (record { size = size; words = front ++ young }) h
       → IsStanding size front (young ++ block_words 0 (fresh_block h)) (slice_set roots place (word_of (Ref (length (front ++ young))))) remembered
   made h place can = record {
     shaped = standing.shaped;
     walked = subst IsOk (sym walked) refl;
-    fits = (let n : length (front ++ (young ++ block_words 0 (fresh_block h))) ≡ length (front ++ young) + suc (suc (length (fresh_block h).fields))
-        = ap length (sym assoc) ∙ length-append (front ++ young) (block_words 0 (fresh_block h)) in
-        let m : length (fresh_block h).fields ≡ h.len = length-replicate h.len 0 in
-        let f : length (front ++ young) ≤ size = standing.fits in
-        let r : h.len + 2 ≤ size - length (front ++ young) = can.room in omega arith);
+    fits = omega (arith, standing.fits, can.room, ap length assoc, length-append (front ++ young) (block_words 0 (fresh_block h)), length-replicate {A = ℕ} h.len 0);
     closed = subst (λ ws. IsClosed ws (slice_set roots place (word_of (Ref (length (front ++ young)))))) assoc
         (closed_root ((front ++ young) ++ block_words 0 (fresh_block h)) roots place (word_of (Ref (length (front ++ young))))
         (placed_reference (record { size = size; words = front ++ young }) h can)
@@ -57,17 +56,14 @@ module _ (size : ℕ) (front young roots : List ℕ) (remembered : List (ℕ × 
       assoc = append_assoc front young (block_words 0 (fresh_block h))
 
       walked : walk true 0 (length front) (young ++ block_words 0 (fresh_block h)) ≡ Ok (young_blocks (length front) young ++ (length front + length young, fresh_block h) ∷ [])
-      walked = walk_placed young 0 (length front) (young_blocks (length front) young) h 0 (fresh_block h).fields can.header (length-replicate h.len 0) (omega arith) (ok_is (walk true 0 (length front) young) standing.walked)
+      walked = walk_placed young 0 (length front) (young_blocks (length front) young) h 0 (fresh_block h).fields can.header (length-replicate h.len 0) (omega arith) walked_young
 
   pub old_field : (a i old w : ℕ) (b : Block) → block_at front a ≡ Some b → slice_get b.fields i ≡ Some old → IsFieldWord (front ++ young) b.header w
       → IsStanding size (slice_set front (field_place a i) w) young roots (remember (length front) old w a i remembered)
   old_field a i old w b found get is = record {
     shaped = (let s : IsSpace (record { size = size; words = slice_set front (field_place a i) w }) = (field_written (record { size = size; words = front }) a i w standing.shaped has_field).0 in s);
     walked = subst (λ n. IsOk (walk true 0 n young)) (sym as_long) standing.walked;
-    fits = (let f : length (front ++ young) ≤ size = standing.fits in
-        let n : length (front ++ young) ≡ length front + length young = length-append front young in
-        let m : length (slice_set front (field_place a i) w ++ young) ≡ length (slice_set front (field_place a i) w) + length young = length-append (slice_set front (field_place a i) w) young in
-        let l : length (slice_set front (field_place a i) w) ≡ length front = as_long in omega arith);
+    fits = omega (arith, standing.fits, length-append front young, length-append (slice_set front (field_place a i) w) young, as_long);
     closed = subst (λ ws. IsClosed ws roots) (set_left front young (field_place a i) w inside)
         (closed_field (record { size = size; words = front ++ young }) a i w b roots whole_space (ap is_some (ap (λ o. field_in o i) there ∙ get)) there is standing.closed);
     complete = complete_after size front remembered a i old w b standing.shaped standing.complete found get;
@@ -85,19 +81,14 @@ module _ (size : ℕ) (front young roots : List ℕ) (remembered : List (ℕ × 
       inside : field_place a i < length front
       inside =
           let s : StandsIn front a b = stands_in front a b standing.shaped.walked found in
-          let f : a + (b.header.len + 2) ≤ length front = s.fits in
-          let n : length b.fields ≡ b.header.len = s.whole.fields in
-          let l : i < length b.fields = get_below b.fields i old get in omega arith
+          omega (arith, s.fits, s.whole.fields, get_below b.fields i old get)
 
   pub young_field : (a i old w : ℕ) (b : Block) → block_in (young_blocks (length front) young) a ≡ Some b → slice_get b.fields i ≡ Some old → IsFieldWord (front ++ young) b.header w
       → IsStanding size front (slice_set young (field_place a i - length front) w) roots remembered
   young_field a i old w b found get is = record {
     shaped = standing.shaped;
     walked = subst IsOk (sym walked) refl;
-    fits = (let f : length (front ++ young) ≤ size = standing.fits in
-        let n : length (front ++ young) ≡ length front + length young = length-append front young in
-        let m : length (front ++ slice_set young (field_place a i - length front) w) ≡ length front + length (slice_set young (field_place a i - length front) w) = length-append front (slice_set young (field_place a i - length front) w) in
-        let l : length (slice_set young (field_place a i - length front) w) ≡ length young = length-set young (field_place a i - length front) w in omega arith);
+    fits = omega (arith, standing.fits, length-append front young, length-append front (slice_set young (field_place a i - length front) w), length-set young (field_place a i - length front) w);
     closed = subst (λ ws. IsClosed ws roots) (set_right front young (field_place a i) (field_place a i - length front) w place)
         (closed_field (record { size = size; words = front ++ young }) a i w b roots whole_space (ap is_some (ap (λ o. field_in o i) there ∙ get)) there is standing.closed);
     complete = standing.complete;
@@ -114,10 +105,8 @@ module _ (size : ℕ) (front young roots : List ℕ) (remembered : List (ℕ × 
 
       has_field : BlockHasField (block_in (young_blocks (length front) young) a) i
       has_field = subst (λ o. BlockHasField o i) (sym found)
-          (let s : StandsAt young (length front) a b = stands young 0 (length front) (young_blocks (length front) young) a b (ok_is (walk true 0 (length front) young) standing.walked) found in
-          let n : length b.fields ≡ b.header.len = s.whole.fields in
-          let l : i < length b.fields = get_below b.fields i old get in
-          (let m : i < b.header.len = omega arith in m))
+          (let s : StandsAt young (length front) a b = stands young 0 (length front) (young_blocks (length front) young) a b walked_young found in
+          (let m : i < b.header.len = omega (arith, s.whole.fields, get_below b.fields i old get) in m))
 
       walked : Walked 0 (length front) (slice_set young (field_place a i - length front) w) (set_block (young_blocks (length front) young) a i w)
-      walked = walk_field young 0 (length front) (young_blocks (length front) young) a i (field_place a i - length front) w (sym place) has_field (ok_is (walk true 0 (length front) young) standing.walked)
+      walked = walk_field young 0 (length front) (young_blocks (length front) young) a i (field_place a i - length front) w (sym place) has_field walked_young

@@ -1,5 +1,5 @@
 -- A word that refers to an object is a reference of its node, so the object is visited, one deeper at most.
-use Rattle.std.proofs.Common.{rules, ◌≡◌, ◌<◌, ◌^◌, length, Some, None, true, arith, sym, ◌∙◌, ◌+◌, ap, subst, suc}
+use Rattle.std.proofs.Common.{rules, ◌≡◌, ◌<◌, ◌^◌, Some, None, true, arith, sym, ◌∙◌, ◌+◌, ap, subst, suc}
 use Rattle.gc_words.specs.Image.{is_start}
 use Rattle.gc_check.specs.Internal.Visits.{Visited, visit_at}
 use Rattle.gc_check.specs.declared.visits.Visit.{Visit}
@@ -10,8 +10,7 @@ use Rattle.gc_check.proofs.visits.visit_word.Goals as goal
 pub returns-in_default-clause-visited : goal.returns-in_default-clause-visited
 returns-in_default-clause-visited c = λ a refers start.
     let none : c.reference_at.result ≡ None = search rules in
-    let inside : a < length c.args.starts.now.words = start_within c.args.starts.now.words a c.requires.held.entries.walked start in
-    let low : a < 2 ^ 32 = omega (arith, inside, c.requires.held.few) in
+    let low : a < 2 ^ 32 = omega (arith, start_within c.args.starts.now.words a c.requires.held.entries.walked start, c.requires.held.few) in
     absurd (let no : None ≡ Some a = sym none ∙ (c.reference_at.ensures a low).1 ((c.requires.words c.args.i a).0 refers) in cc)
 
 pub visit_object-requires-clause-refers : goal.visit_object-requires-clause-refers
@@ -19,8 +18,7 @@ visit_object-requires-clause-refers c = (c.requires.words c.args.i c.in-Some.add
 
 pub returns-clause-visited : goal.returns-clause-visited
 returns-clause-visited c = λ a refers start.
-    let inside : a < length c.args.starts.now.words = start_within c.args.starts.now.words a c.requires.held.entries.walked start in
-    let low : a < 2 ^ 32 = omega (arith, inside, c.requires.held.few) in
+    let low : a < 2 ^ 32 = omega (arith, start_within c.args.starts.now.words a c.requires.held.entries.walked start, c.requires.held.few) in
     let there : c.reference_at.result ≡ Some a = (c.reference_at.ensures a low).1 ((c.requires.words c.args.i a).0 refers) in
     let same : c.in-Some.address ≡ a = (let both : Some c.in-Some.address ≡ Some a = sym c.in-Some.is ∙ there in cc) in
     let list = c.args.visits.now.list.items in

@@ -1,5 +1,5 @@
 -- A turn fills the rest of a word, or what is left.
-use Rattle.std.proofs.Common.{◌≡◌, ◌-◌, ◌%◌, min, length, refl, arith}
+use Rattle.std.proofs.Common.{refl, arith}
 use Rattle.std.proofs.lemmas.Grind.{common_steps}
 use Rattle.gc_along.proofs.Packed.{seen_length, all_filled}
 use Rattle.gc_along.proofs.code_row.CodeRow.fill_words.Goals as goal
@@ -9,7 +9,7 @@ overflow_sub-from c = omega (arith, seen_length _ _ _ _ c.self.view_is)
 
 pub loop-from-init : goal.loop-from-init
 loop-from-init c =
-    let seen : length c.args.self.now.codes ≡ c.self.inside.len = seen_length _ _ _ _ c.self.view_is in
+    let seen = seen_length _ _ _ _ c.self.view_is in
     record {
       len = refl;
       room = omega arith;
@@ -20,16 +20,12 @@ loop-from-init c =
     }
 
 pub fill_in_word-requires-clause-within : goal.fill_in_word-requires-clause-within
-fill_in_word-requires-clause-within c =
-    let least : c.min-count.result ≡ min (32 - c.loop-from.from % 32) (c.self.inside.len - c.loop-from.from) = grind (arith, common_steps) in
-    omega (arith, c.loop-from.invariant.len, seen_length _ _ _ _ c.self.view_is)
+fill_in_word-requires-clause-within c = grind (arith, common_steps, c.loop-from.invariant.len, seen_length _ _ _ _ c.self.view_is)
 
 pub loop-from-smaller : goal.loop-from-smaller
-loop-from-smaller c =
-    let least : c.min-count.result ≡ min (32 - c.loop-from.from % 32) (c.self.inside.len - c.loop-from.from) = grind (arith, common_steps) in
-    omega (arith, seen_length _ _ _ _ c.self.view_is)
+loop-from-smaller c = grind (arith, common_steps, seen_length _ _ _ _ c.self.view_is)
 
 pub returns-clause-codes : goal.returns-clause-codes
 returns-clause-codes c =
-    let seen : length c.args.self.now.codes ≡ c.self.inside.len = seen_length _ _ _ _ c.self.view_is in
+    let seen = seen_length _ _ _ _ c.self.view_is in
     all_filled _ _ _ c.loop-from.invariant.len c.requires (λ place low high. c.loop-from.invariant.filled place low (omega arith)) c.loop-from.invariant.others

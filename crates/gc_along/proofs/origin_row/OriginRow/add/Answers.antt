@@ -1,7 +1,6 @@
 -- The bit and the entry of the last place are those of the replica, and no other place has another original.
-use Rattle.std.proofs.Common.{◌+◌, ◌-◌, ◌*◌, ◌≤◌, ◌∷◌, ◌++◌, replicate, ◌∙◌, ap, arith}
-use Rattle.std.specs.Prelude.{vec_len, vec_capacity}
-use Rattle.gc_along.specs.Internal.InWords.{Origins, HasOrigins, room_for}
+use Rattle.std.proofs.Common.{◌∷◌, ◌++◌, replicate, ◌∙◌, ap, arith}
+use Rattle.gc_along.specs.Internal.InWords.{Origins}
 use Rattle.gc_along.proofs.Halves.{seen_fits, added}
 use Rattle.gc_along.proofs.origin_row.OriginRow.add.Goals as goal
 
@@ -10,8 +9,8 @@ words_of-requires c = omega (arith, seen_fits _ _ _ _ _ _ c.self.view_is c.requi
 
 pub grow-requires : goal.grow-requires
 grow-requires c =
-    let fits : c.self.inside.len + (c.args.fields + 2) ≤ room_for (vec_capacity c.self.inside.starts) (vec_capacity c.self.inside.originals) = seen_fits _ _ _ _ _ _ c.self.view_is c.requires in
-    let has : HasOrigins c.self.inside.starts.items c.self.inside.originals.items c.self.inside.len = c.self.invariant.0 in
+    let fits = seen_fits _ _ _ _ _ _ c.self.view_is c.requires in
+    let has = c.self.invariant.0 in
     record {
       words = omega (arith, has.bits, c.self.inside.starts.ok.0);
       halves = omega (arith, has.halves, c.self.inside.starts.ok.0, c.self.inside.originals.ok.0);
@@ -20,20 +19,12 @@ grow-requires c =
     }
 
 pub invariant_of-self : goal.invariant_of-self
-invariant_of-self c =
-    let fits : c.self.inside.len + (c.args.fields + 2) ≤ room_for (vec_capacity c.self.inside.starts) (vec_capacity c.self.inside.originals) = seen_fits _ _ _ _ _ _ c.self.view_is c.requires in
-    let has : HasOrigins c.self.inside.starts.items c.self.inside.originals.items c.self.inside.len = c.self.invariant.0 in (
-      (added _ _ _ _ _ _ (c.words_of.result - vec_len c.self.inside.starts) (32 * c.words_of.result - vec_len c.self.inside.originals) c.args.fields c.args.original c.index_mut.result.now has
-          c.grow.ensures.starts c.grow.ensures.originals (omega (arith, c.from.ensures)) (omega (arith, has.bits, c.self.inside.starts.ok.0))
-          (omega (arith, has.halves, has.bits, c.self.inside.starts.ok.0, c.self.inside.originals.ok.0)) c.index_mut.ensures.value).has,
-      omega (arith, c.from.ensures, c.grow.ensures.starts_capacity, c.grow.ensures.originals_capacity),
-    )
+invariant_of-self c = (
+  (added _ _ _ _ _ _ _ _ _ c.args.fields c.args.original _ c.self.invariant.0 c.self.inside.starts.ok.0 c.self.inside.originals.ok.0 c.grow.ensures.starts c.grow.ensures.originals (omega (arith, c.from.ensures)) c.words_of.ensures c.index_mut.ensures.value).has,
+  omega (arith, seen_fits _ _ _ _ _ _ c.self.view_is c.requires, c.from.ensures, c.grow.ensures.starts_capacity, c.grow.ensures.originals_capacity),
+)
 
 pub returns-clause-origins : goal.returns-clause-origins
 returns-clause-origins c =
-    let fits : c.self.inside.len + (c.args.fields + 2) ≤ room_for (vec_capacity c.self.inside.starts) (vec_capacity c.self.inside.originals) = seen_fits _ _ _ _ _ _ c.self.view_is c.requires in
-    let has : HasOrigins c.self.inside.starts.items c.self.inside.originals.items c.self.inside.len = c.self.invariant.0 in
-    (added _ _ _ _ _ _ (c.words_of.result - vec_len c.self.inside.starts) (32 * c.words_of.result - vec_len c.self.inside.originals) c.args.fields c.args.original c.index_mut.result.now has
-    c.grow.ensures.starts c.grow.ensures.originals (omega (arith, c.from.ensures)) (omega (arith, has.bits, c.self.inside.starts.ok.0))
-    (omega (arith, has.halves, has.bits, c.self.inside.starts.ok.0, c.self.inside.originals.ok.0)) c.index_mut.ensures.value).origins
+    (added _ _ _ _ _ _ _ _ _ c.args.fields c.args.original _ c.self.invariant.0 c.self.inside.starts.ok.0 c.self.inside.originals.ok.0 c.grow.ensures.starts c.grow.ensures.originals (omega (arith, c.from.ensures)) c.words_of.ensures c.index_mut.ensures.value).origins
     ∙ ap (λ (t : Origins). t.origins ++ c.args.original ∷ 0 ∷ replicate c.args.fields 0) c.self.view_is
