@@ -1,6 +1,6 @@
 -- Commands on a heap of words, as commands on its graph.
 use Rattle.std.proofs.lemmas.Grind.{common_steps}
-use Rattle.std.proofs.Common.{◌≡◌, ℕ, suc, zero, ◌<◌, Bool, true, false, cond, List, [], ◌∷◌, length, Some, None, is_some, refl, sym, ◌∙◌, ap, inl, inr, arith}
+use Rattle.std.proofs.Common.{◌≡◌, ℕ, suc, zero, ◌<◌, Bool, true, false, cond, List, [], ◌∷◌, length, Some, None, is_some, refl, sym, ◌∙◌, ap, subst, inl, inr, arith}
 use Rattle.std.specs.Prelude.{not, ◌&&◌, slice_get, slice_index, slice_set, get_or}
 use Rattle.std.specs.Option.{option_map}
 use Rattle.std.proofs.lemmas.Bool.{eqb-true, eq-eqb, cases_Bool, and_from, and_parts}
@@ -44,8 +44,12 @@ pub record Points (h : HeapWords) (s a : ℕ) : Type 0 where
   pub target : root (graph_in h) s ≡ Ref a
   pub object : object_of (graph_in h).objects (root (graph_in h) s) ≡ Some (object_of_block block)
 
-pub points : (h : HeapWords) (s a w : ℕ) → IsHeap h → s < length h.roots → w ≡ slice_index h.roots s → Some a ≡ name_of (value_of w) → Points h s a
-points h s a w heap less read name = grind (arith, named, root_value, root_word, some_of, object_found)
+-- the object that a root of a heap refers to, if the root is read in a borrow of the heap
+pub points : (inside h : HeapWords) (s a w : ℕ) → inside ≡ h → IsHeap inside → s < length h.roots → w ≡ get_or inside.roots s w → Some a ≡ name_of (value_of w) → Points inside s a
+points inside h s a w view heap less read name =
+    let less : s < length inside.roots = subst (λ (h : HeapWords). s < length h.roots) (sym view) less in
+    let read : w ≡ slice_index inside.roots s = read_root inside inside.roots s w refl less read in
+    grind (arith, named, root_value, root_word, some_of, object_found)
 
 -- a field of the graph's object
 field_value_at : (h : HeapWords) (s a i : ℕ) (p : Points h s a) → field_of (object_of (graph_in h).objects (root (graph_in h) s)) i ≡ option_map (field_value p.block.header) (field_at h.space.words a i)

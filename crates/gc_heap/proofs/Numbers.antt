@@ -23,7 +23,7 @@ use Rattle.std.proofs.lemmas.List.Elements.{All-head, All-tail}
 use Rattle.gc_heap.specs.Heap.{HeapWords, IsHeap, graph_in, roomy_in}
 use Rattle.gc_heap.specs.Commands.{Performs}
 use Rattle.gc_heap.specs.Filling.{TakesNumbers, WritesNumbers}
-use Rattle.gc_heap.proofs.Commands.{Points, points, read_root, header_is, at_root, put_done, written_heap, taken_heap}
+use Rattle.gc_heap.proofs.Commands.{Points, points, header_is, at_root, put_done, written_heap, taken_heap}
 use Rattle.gc_heap.proofs.Links.{links_written}
 use Rattle.gc_heap.proofs.Steps.{took_root}
 use Rattle.gc_heap.proofs.Views.{meaning}
@@ -168,7 +168,7 @@ pub there : (inside h : HeapWords) (q p a w : ℕ) (header : Header) → inside 
     → header_at inside.space.words a ≡ Some header → IsThere h q a header
 there inside h q p a w header view heap at less read name met =
     let heap' : IsHeap h = subst IsHeap view heap in
-    let points : Points h p a = points h p a w heap' less (read_root h inside.roots p w (ap (λ (h : HeapWords). h.roots) view) less read) name in
+    let points : Points h p a = subst (λ h. Points h p a) view (points inside h p a w view heap less read name) in
     let same : points.block.header ≡ header = header_is h p a header points (ap (λ (h : HeapWords). header_at h.space.words a) (sym view) ∙ met) in
     let long : length points.block.fields ≡ header.len = sym (length-map points.block.fields (field_value points.block.header)) ∙ fields_counted h.space.words a points.block heap'.space.walked points.found ∙ ap (λ (h : Header). h.len) same in
     subst (λ q. IsThere h q a header) at (record { points = points; same = same; long = long })

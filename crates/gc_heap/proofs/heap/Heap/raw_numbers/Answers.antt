@@ -8,7 +8,7 @@ use Rattle.gc_words.specs.Image.{block_at}
 use Rattle.gc_words.specs.declared.header.Header.{Header}
 use Rattle.gc_heap.specs.Heap.{HeapWords, IsHeap, graph_in}
 use Rattle.gc_heap.specs.Raws.{numbers_in}
-use Rattle.gc_heap.proofs.Commands.{Points, points, read_root}
+use Rattle.gc_heap.proofs.Commands.{Points, points}
 use Rattle.gc_heap.proofs.heap.Heap.raw_numbers.Goals as goal
 
 -- the fields of a raw object are the numbers themselves
@@ -25,7 +25,7 @@ returns c =
     let heap : IsHeap h = subst IsHeap c.self.view_is c.self.invariant in
     let count : roots_of h.mutators ≤ length h.roots = heap.roots in
     let less : c.place.result < length h.roots = omega (arith, c.place.ensures.bound, c.requires) in
-    let p : Points h c.place.result c.in-Some.at.0 = points h c.place.result c.in-Some.at.0 _ heap less (read_root h _ c.place.result _ (ap (λ (h : HeapWords). h.roots) c.self.view_is) less c.index-target.ensures) c.in-Some.ensures in
+    let p : Points h c.place.result c.in-Some.at.0 = subst (λ h. Points h c.place.result c.in-Some.at.0) c.self.view_is (points _ h c.place.result c.in-Some.at.0 _ c.self.view_is c.self.invariant less c.index-target.ensures c.in-Some.ensures) in
     c.raw_fields.ensures p.block (ap (λ (h : HeapWords). block_at h.space.words c.in-Some.at.0) c.self.view_is ∙ p.found)
     ∙ numbers_or_none p.block.header p.block.fields p.block.header.raw refl
     ∙ sym (ap numbers_in p.object)
