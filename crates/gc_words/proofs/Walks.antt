@@ -175,6 +175,13 @@ suc_pred n h = grind (arith, common_steps)
 fields_past : (h : Header) (ws : List ℕ) (p v : ℕ) → h.len < p → fields_in h (slice_set ws p v) ≡ fields_in h ws
 fields_past h ws p v l = grind (arith, common_steps, drop_one_set, set_past_take)
 
+-- a word that is written behind the first object
+walk_behind : (x : ℕ) (ws : List ℕ) (at p v : ℕ) (h : Header) (rest : List (ℕ × Block)) → read_header x ≡ Some h → h.len + 1 ≤ length ws → h.len + 1 < p → walk true (h.len + 1) (suc at) (slice_set ws (pred_of p) v) ≡ Ok rest
+    → Walked 0 at (slice_set (x ∷ ws) p v) ((at, record { header = h; fields = fields_in h ws }) ∷ rest)
+walk_behind x ws at zero v h rest is room past e = absurd (omega arith)
+walk_behind x ws at (suc p) v h rest is room past e =
+    object_walked at x (slice_set ws p v) h rest is (omega (arith, length-set ws p v)) e ∙ ap (λ fields. Ok ((at, record { header = h; fields = fields }) ∷ rest)) (fields_past h ws p v (omega arith))
+
 -- a field word: p counts from the first word here, and field i of the object at a is at a + 2 + i
 pub walk_field : (ws : List ℕ) (inside at : ℕ) (bs : List (ℕ × Block)) (a i p v : ℕ) → at + p ≡ a + 2 + i → BlockHasField (block_in bs a) i → Walked inside at ws bs → Walked inside at (slice_set ws p v) (set_block bs a i v)
 walk_field [] inside at [] a i p v e h w = absurd h
@@ -200,13 +207,9 @@ walk_field (x ∷ ws) zero at bs a i p v e h w =
           let low : suc at + (f.0.len + 1) ≤ a = first_key f.3 a (suc at + (f.0.len + 1)) i (starts_above ws (f.0.len + 1) (suc at) f.3 f.4) later in
           let back : p ≡ suc (pred_of p) = suc_pred p (omega arith) in
           let ih : Walked (f.0.len + 1) (suc at) (slice_set ws (pred_of p) v) (set_block f.3 a i v) = walk_field ws (f.0.len + 1) (suc at) f.3 a i (pred_of p) v (omega arith) later f.4 in
-          let fields : fields_in f.0 (slice_set ws (pred_of p) v) ≡ fields_in f.0 ws = fields_past f.0 ws (pred_of p) v (omega arith) in
-          let sized : length (slice_set ws (pred_of p) v) ≡ length ws = length-set ws (pred_of p) v in
-          subst (λ p. Walked 0 at (slice_set (x ∷ ws) p v) (set_block bs a i v)) (sym back)
-          (object_walked at x (slice_set ws (pred_of p) v) f.0 (set_block f.3 a i v) f.1 (let r : f.0.len + 1 ≤ length ws = f.2 in omega arith) ih
-          ∙ (λ j. Ok ((at, record { header = f.0; fields = fields j }) ∷ set_block f.3 a i v))
+          walk_behind x ws at p v f.0 (set_block f.3 a i v) f.1 f.2 (omega arith) ih
           ∙ sym (ap (λ t. Ok (cond t ((at, record { header = f.0; fields = slice_set (fields_in f.0 ws) i v }) ∷ f.3) ((at, b) ∷ set_block f.3 a i v))) other)
-          ∙ ap (λ bs. Ok (set_block bs a i v)) (sym f.5)))
+          ∙ ap (λ bs. Ok (set_block bs a i v)) (sym f.5))
     ]
 
 -- ---- a link word
@@ -243,12 +246,7 @@ walk_link (x ∷ ws) zero at bs a p v e h w =
           let low : suc at + (f.0.len + 1) ≤ a = start_key f.3 a (suc at + (f.0.len + 1)) (starts_above ws (f.0.len + 1) (suc at) f.3 f.4) later in
           let back : p ≡ suc (pred_of p) = suc_pred p (omega arith) in
           let ih : Walked (f.0.len + 1) (suc at) (slice_set ws (pred_of p) v) f.3 = walk_link ws (f.0.len + 1) (suc at) f.3 a (pred_of p) v (omega arith) later f.4 in
-          let fields : fields_in f.0 (slice_set ws (pred_of p) v) ≡ fields_in f.0 ws = fields_past f.0 ws (pred_of p) v (omega arith) in
-          let sized : length (slice_set ws (pred_of p) v) ≡ length ws = length-set ws (pred_of p) v in
-          subst (λ p. Walked 0 at (slice_set (x ∷ ws) p v) bs) (sym back)
-          (object_walked at x (slice_set ws (pred_of p) v) f.0 f.3 f.1 (let r : f.0.len + 1 ≤ length ws = f.2 in omega arith) ih
-          ∙ (λ j. Ok ((at, record { header = f.0; fields = fields j }) ∷ f.3))
-          ∙ ap (λ bs. Ok bs) (sym f.5)))
+          walk_behind x ws at p v f.0 f.3 f.1 f.2 (omega arith) ih ∙ ap (λ bs. Ok bs) (sym f.5))
     ]
 
 -- ---- in the graph
