@@ -22,8 +22,7 @@ numbers_or_none header words raw is = grind (arith, common_steps, numbers_back)
 pub returns : goal.returns
 returns c =
     let h : HeapWords = c.args.self.now in
-    let heap : IsHeap h = subst IsHeap c.self.view_is c.self.invariant in
-    let count : roots_of h.mutators ≤ length h.roots = heap.roots in
+    let count : roots_of h.mutators ≤ length h.roots = (subst IsHeap c.self.view_is c.self.invariant).roots in
     let less : c.place.result < length h.roots = omega (arith, c.place.ensures.bound, c.requires) in
     let p : Points h c.place.result c.in-Some.at.0 = subst (λ h. Points h c.place.result c.in-Some.at.0) c.self.view_is (points _ h c.place.result c.in-Some.at.0 _ c.self.view_is c.self.invariant less c.index-target.ensures c.in-Some.ensures) in
     c.raw_fields.ensures p.block (ap (λ (h : HeapWords). block_at h.space.words c.in-Some.at.0) c.self.view_is ∙ p.found)
