@@ -1,6 +1,6 @@
 -- The plan applies the oldest entry: its field is brought up to date and the entry goes, or nothing changes if there is no room.
 use Rattle.std.proofs.lemmas.Grind.{common_steps}
-use Rattle.std.proofs.Common.{◌≡◌, ◌<◌, length, Some, None, refl, ap, sym, ◌∙◌, subst, arith}
+use Rattle.std.proofs.Common.{◌≡◌, length, Some, ap, sym, ◌∙◌, subst, arith}
 use Rattle.std.specs.Prelude.{slice_get, slice_set}
 use Rattle.gc_heap.specs.Heap.{graph_in}
 use Rattle.gc_plan.specs.State.{State}
@@ -10,40 +10,40 @@ use Rattle.gc_copy.specs.Words.{CollectionWords, IsCollection, collection_in, op
 use Rattle.gc_copy.specs.Internal.Words.{KeepsRest}
 use Rattle.gc_plan.specs.declared.step.Step.TheVariants as steps
 use Rattle.gc_plan.specs.declared.step.StepReply.{StepReply}
-use Rattle.gc_plan.specs.declared.step.StepReply.TheVariants.{Applied, NoRoom}
+use Rattle.gc_plan.specs.declared.step.StepReply.TheVariants.{Applied}
 use Rattle.gc_copy.proofs.Logs.{there_in}
 use Rattle.gc_copy.proofs.Applying.{field_there, stays, applied, applied_belongs}
 use Rattle.gc_copy.proofs.collection.Collection.apply_log.Goals as goal
+use Rattle.gc_copy.proofs.collection.Collection.apply_log.Goals.{In-Some, After-drop_oldest}
+
+-- the log of the mutator
+there : (c : In-Some) → slice_get (the_view c.self.inside).logs c.args.m ≡ Some c.index.result.now
+there c = there_in _ c.args.self.now c.args.m c.index.result.now c.self.view_is (omega (arith, (c.requires.belongs).logs, c.requires.mutator)) c.index.ensures
+
+-- the field is up to date, the rest is as it was, and the log still has the entry
+done : (c : After-drop_oldest) → apply_entry (collection_in (the_view c.self.inside)) (graph_in c.args.heap.now) (c.in-Some.entry.object.0, c.in-Some.entry.field) ≡ Some (collection_in (the_view c.self-2.inside))
+done c = ap (λ (y : CollectionWords). apply_entry (collection_in y) (graph_in c.args.heap.now) (c.in-Some.entry.object.0, c.in-Some.entry.field)) c.self.view_is ∙ c.in-Ok.ensures.applied ∙ ap (λ (y : CollectionWords). Some (collection_in y)) (sym c.self-2.view_is)
+
+rest : (c : After-drop_oldest) → KeepsRest (the_view c.self.inside) (the_view c.self-2.inside)
+rest c = subst (λ y. KeepsRest y (the_view c.self-2.inside)) (sym c.self.view_is) (subst (KeepsRest c.args.self.now) (sym c.self-2.view_is) c.in-Ok.ensures.rest)
+
+has : (c : After-drop_oldest) → slice_get (the_view c.self-2.inside).logs c.args.m ≡ Some c.index_mut.result.now
+has c = there_in _ _ c.args.m c.index_mut.result.now c.self-2.view_is (omega (arith, ap length (c.in-Ok.ensures.rest).logs, (c.requires.belongs).logs, c.requires.mutator)) c.index_mut.ensures.value
 
 pub apply_entry-requires-clause-field : goal.apply_entry-requires-clause-field
-apply_entry-requires-clause-field c =
-    let x : CollectionWords = the_view c.self.inside in
-    let there : slice_get x.logs c.args.m ≡ Some c.index.result.now = there_in x c.args.self.now c.args.m c.index.result.now c.self.view_is (subst (λ n. c.args.m < n) (sym (c.requires.belongs).logs) c.requires.mutator) c.index.ensures in
-    field_there c.args.heap.now x c.args.m c.index.result.now there (c.in-Some.entry.object.0, c.in-Some.entry.field) c.in-Some.ensures (subst (BelongsTo c.args.heap.now) (sym c.self.view_is) c.requires.belongs)
+apply_entry-requires-clause-field c = field_there c.args.heap.now _ c.args.m c.index.result.now (there (goal.at.apply_entry-requires-clause-field c).In-Some) (c.in-Some.entry.object.0, c.in-Some.entry.field) c.in-Some.ensures (subst (BelongsTo c.args.heap.now) (sym c.self.view_is) c.requires.belongs)
 
 pub returns-in-Ok-clause-step : goal.returns-in-Ok-clause-step
 returns-in-Ok-clause-step c =
-    let x : CollectionWords = the_view c.self.inside in
-    let there : slice_get x.logs c.args.m ≡ Some c.index.result.now = there_in x c.args.self.now c.args.m c.index.result.now c.self.view_is (subst (λ n. c.args.m < n) (sym (c.requires.belongs).logs) c.requires.mutator) c.index.ensures in
-    let after : CollectionWords = the_view c.self-2.inside in
-    let rest : KeepsRest x after = subst (λ y. KeepsRest y after) (sym c.self.view_is) (subst (KeepsRest c.args.self.now) (sym c.self-2.view_is) c.in-Ok.ensures.rest) in
-    let done : apply_entry (collection_in x) (graph_in c.args.heap.now) (c.in-Some.entry.object.0, c.in-Some.entry.field) ≡ Some (collection_in after) = ap (λ (y : CollectionWords). apply_entry (collection_in y) (graph_in c.args.heap.now) (c.in-Some.entry.object.0, c.in-Some.entry.field)) c.self.view_is ∙ c.in-Ok.ensures.applied ∙ ap (λ (y : CollectionWords). Some (collection_in y)) (sym c.self-2.view_is) in
-    let less : c.args.m < length after.logs = (let n : length after.logs ≡ length x.logs = ap length rest.logs in let p : c.args.m < length x.logs = subst (λ (y : CollectionWords). c.args.m < length y.logs) (sym c.self.view_is) (subst (λ n. c.args.m < n) (sym (c.requires.belongs).logs) c.requires.mutator) in omega (arith, n, p)) in
-    let has : slice_get after.logs c.args.m ≡ Some c.index_mut.result.now = there_in after after c.args.m c.index_mut.result.now refl less c.index_mut.ensures.value in
-    subst (λ y. apply_log (open_state c.args.heap.now y) (collection_in y) c.args.m (log_at (collection_in y) c.args.m) ≡ (Applied, open_state c.apply_entry.new.heap (record after { logs = slice_set after.logs c.args.m c.drop_oldest.new.self }))) c.self.view_is
-    (applied c.args.heap.now x c.args.m c.index.result.now there (c.in-Some.entry.object.0, c.in-Some.entry.field) c.in-Some.ensures c.apply_entry.new.heap after c.index_mut.result.now c.drop_oldest.new.self c.in-Ok.ensures.graph rest done has c.drop_oldest.ensures)
+    let at = goal.at.returns-in-Ok-clause-step c in
+    subst (λ y. apply_log (open_state c.args.heap.now y) (collection_in y) c.args.m (log_at (collection_in y) c.args.m) ≡ (Applied, open_state c.apply_entry.new.heap (record (the_view c.self-2.inside) { logs = slice_set (the_view c.self-2.inside).logs c.args.m c.drop_oldest.new.self }))) c.self.view_is
+    (applied c.args.heap.now _ c.args.m c.index.result.now (there at.In-Some) (c.in-Some.entry.object.0, c.in-Some.entry.field) c.in-Some.ensures c.apply_entry.new.heap _ c.index_mut.result.now c.drop_oldest.new.self c.in-Ok.ensures.graph (rest at.After-drop_oldest) (done at.After-drop_oldest) (has at.After-drop_oldest) c.drop_oldest.ensures)
 
 pub returns-in-Ok-clause-belongs : goal.returns-in-Ok-clause-belongs
 returns-in-Ok-clause-belongs c =
-    let x : CollectionWords = the_view c.self.inside in
-    let there : slice_get x.logs c.args.m ≡ Some c.index.result.now = there_in x c.args.self.now c.args.m c.index.result.now c.self.view_is (subst (λ n. c.args.m < n) (sym (c.requires.belongs).logs) c.requires.mutator) c.index.ensures in
-    let after : CollectionWords = the_view c.self-2.inside in
-    let rest : KeepsRest x after = subst (λ y. KeepsRest y after) (sym c.self.view_is) (subst (KeepsRest c.args.self.now) (sym c.self-2.view_is) c.in-Ok.ensures.rest) in
-    let done : apply_entry (collection_in x) (graph_in c.args.heap.now) (c.in-Some.entry.object.0, c.in-Some.entry.field) ≡ Some (collection_in after) = ap (λ (y : CollectionWords). apply_entry (collection_in y) (graph_in c.args.heap.now) (c.in-Some.entry.object.0, c.in-Some.entry.field)) c.self.view_is ∙ c.in-Ok.ensures.applied ∙ ap (λ (y : CollectionWords). Some (collection_in y)) (sym c.self-2.view_is) in
-    let less : c.args.m < length after.logs = (let n : length after.logs ≡ length x.logs = ap length rest.logs in let p : c.args.m < length x.logs = subst (λ (y : CollectionWords). c.args.m < length y.logs) (sym c.self.view_is) (subst (λ n. c.args.m < n) (sym (c.requires.belongs).logs) c.requires.mutator) in omega (arith, n, p)) in
-    let has : slice_get after.logs c.args.m ≡ Some c.index_mut.result.now = there_in after after c.args.m c.index_mut.result.now refl less c.index_mut.ensures.value in
-    applied_belongs c.args.heap.now x c.args.m c.index.result.now there (c.in-Some.entry.object.0, c.in-Some.entry.field) c.in-Some.ensures c.apply_entry.new.heap after c.index_mut.result.now c.drop_oldest.new.self
-    c.self.invariant.0 (subst (BelongsTo c.args.heap.now) (sym c.self.view_is) c.requires.belongs) c.in-Ok.ensures.graph rest (subst (BelongsTo c.apply_entry.new.heap) (sym c.self-2.view_is) c.in-Ok.ensures.belongs) done has c.drop_oldest.ensures
+    let at = goal.at.returns-in-Ok-clause-belongs c in
+    applied_belongs c.args.heap.now _ c.args.m c.index.result.now (there at.In-Some) (c.in-Some.entry.object.0, c.in-Some.entry.field) c.in-Some.ensures c.apply_entry.new.heap _ c.index_mut.result.now c.drop_oldest.new.self
+    c.self.invariant.0 (subst (BelongsTo c.args.heap.now) (sym c.self.view_is) c.requires.belongs) c.in-Ok.ensures.graph (rest at.After-drop_oldest) (subst (BelongsTo c.apply_entry.new.heap) (sym c.self-2.view_is) c.in-Ok.ensures.belongs) (done at.After-drop_oldest) (has at.After-drop_oldest) c.drop_oldest.ensures
 
 pub returns-in-Err-clause-step : goal.returns-in-Err-clause-step
 returns-in-Err-clause-step c = grind (arith, common_steps, there_in, stays)
