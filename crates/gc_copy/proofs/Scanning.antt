@@ -25,13 +25,14 @@ use Rattle.gc_copy.proofs.OpenCollection.{same_graph, after_step, field_present,
 neither : (a b : Bool) → a ≡ false → b ≡ false → (a || b) ≡ false
 neither a b e f = grind (arith, common_steps)
 
-module _ (heap : HeapWords) (x : CollectionWords) (is : IsCollection x) (k : BelongsTo heap x) (more : scan_done (collection_in x) ≡ false) where
+-- the collection belongs to the heap, and is not scanned to its end
+module _ (heap : HeapWords) (x : CollectionWords) (s : IsCollection x × BelongsTo heap x × (scan_done (collection_in x) ≡ false)) where
   -- the replica at the scan pointer
   at : (r : Replica) × In r (replicas_in x.space.words) × (r.place ≡ x.scan_place) × (x.scan_field ≤ length r.object.fields)
-  at = ⊎_elim (λ s. s) (λ s. absurd (eqb-false x.scan_place (new_end (collection_in x)) more s.0)) (k.belongs).scan
+  at = ⊎_elim (λ t. t) (λ t. absurd (eqb-false x.scan_place (new_end (collection_in x)) s.2 t.0)) s.1.belongs.scan
 
   found : replica_at (collection_in x) x.scan_place ≡ Some at.0
-  found = subst (λ n. replica_at (collection_in x) n ≡ Some at.0) at.2 (found_by_place (IsDue (collection_in x)) (graph_in heap).objects (collection_in x) k.belongs at.0 at.1)
+  found = subst (λ n. replica_at (collection_in x) n ≡ Some at.0) at.2 (found_by_place (IsDue (collection_in x)) (graph_in heap).objects (collection_in x) s.1.belongs at.0 at.1)
 
   pub start : is_start x.space.words x.scan_place ≡ true
   start = grind (arith, common_steps, replica_start, at, in_start)
@@ -44,38 +45,36 @@ module _ (heap : HeapWords) (x : CollectionWords) (is : IsCollection x) (k : Bel
   stands_there : (h : Header) → header_at x.space.words x.scan_place ≡ Some h → (b : Block) × (block_at x.space.words x.scan_place ≡ Some b) × (b.header ≡ h) × (object_of_block b ≡ at.0.object)
   stands_there h e =
       let b = block_of_header x.space.words x.scan_place h e in
-      let o : lookup (objects_of x.space.words) x.scan_place ≡ Some at.0.object = subst (λ n. lookup (objects_of x.space.words) n ≡ Some at.0.object) at.2 (replica_object (graph_in heap).objects x at.0 k.belongs at.1) in
-      (b.0, b.1, b.2, (let s : Some (object_of_block b.0) ≡ Some at.0.object = sym (object_found x.space.words x.scan_place ∙ ap (option_map object_of_block) b.1) ∙ o in cc))
+      let o : lookup (objects_of x.space.words) x.scan_place ≡ Some at.0.object = subst (λ n. lookup (objects_of x.space.words) n ≡ Some at.0.object) at.2 (replica_object (graph_in heap).objects x at.0 s.1.belongs at.1) in
+      (b.0, b.1, b.2, (let same : Some (object_of_block b.0) ≡ Some at.0.object = sym (object_found x.space.words x.scan_place ∙ ap (option_map object_of_block) b.1) ∙ o in cc))
 
   count : (h : Header) → header_at x.space.words x.scan_place ≡ Some h → length at.0.object.fields ≡ h.len
   count h e = grind (arith, common_steps, stands_there, fields_counted)
 
   -- an object's length fits 16 bits, like that of every header
-  pub len_small : (h : Header) → header_at x.space.words x.scan_place ≡ Some h → h.len < 65536
-  len_small h e =
-      let b = stands_there h e in
-      subst (λ (h : Header). h.len < 65536) b.2 ((stands_in x.space.words x.scan_place b.0 (is.space).walked b.1).whole.header).len
+  len_small : (h : Header) → header_at x.space.words x.scan_place ≡ Some h → h.len < 65536
+  len_small h e = (let b = stands_there h e in subst (λ (h : Header). h.len < 65536) b.2 ((stands_in x.space.words x.scan_place b.0 s.0.space.walked b.1).whole.header).len)
 
   pub small : link_at x.space.words x.scan_place < 2 ^ 32
-  small = subst (λ n. n < 2 ^ 32) (sym original) (is.originals at.0 at.1)
+  small = subst (λ n. n < 2 ^ 32) (sym original) (s.0.originals at.0 at.1)
 
   pub replica : option_map (λ r. r.place) (replica_of (collection_in x) (link_at x.space.words x.scan_place)) ≡ Some x.scan_place
   replica =
       ap (λ n. option_map (λ (r : Replica). r.place) (replica_of (collection_in x) n)) original
-      ∙ ap (option_map (λ (r : Replica). r.place)) (found_by_name (IsDue (collection_in x)) (graph_in heap).objects (collection_in x) k.belongs at.0 at.1)
+      ∙ ap (option_map (λ (r : Replica). r.place)) (found_by_name (IsDue (collection_in x)) (graph_in heap).objects (collection_in x) s.1.belongs at.0 at.1)
       ∙ ap Some at.2
 
   pub field_there : (h : Header) → header_at x.space.words x.scan_place ≡ Some h → (x.scan_field ≡ h.len → ⊥) → IsSome (field_at heap.space.words (link_at x.space.words x.scan_place) x.scan_field)
   field_there h e other =
-      let ok = (k.belongs).replicas at.0 at.1 in
+      let ok = s.1.belongs.replicas at.0 at.1 in
       let len = ok.len in
       let most = at.3 in
       subst (λ a. IsSome (field_at heap.space.words a x.scan_field)) (sym original)
       (field_present heap.space.words at.0.original x.scan_field ok.original ok.found (omega (arith, count h e, other)))
 
   -- the number of the next field fits 16 bits
-  pub next_small : (h : Header) → header_at x.space.words x.scan_place ≡ Some h → (x.scan_field ≡ h.len → ⊥) → x.scan_field + 1 ≤ h.len
-  next_small h e other = let n = count h e in let most = at.3 in omega (arith, n, other)
+  pub next_small : (h : Header) → header_at x.space.words x.scan_place ≡ Some h → (x.scan_field ≡ h.len → ⊥) → x.scan_field + 1 < 2 ^ 16
+  next_small h e other = let most = at.3 in omega (arith, most, len_small h e, count h e, other)
 
   passes : (h : Header) → header_at x.space.words x.scan_place ≡ Some h → (h.raw ≡ true) ⊎ (x.scan_field ≡ h.len) → scan (open_state heap x) (collection_in x) ≡ (Passed, with_collection (open_state heap x) (Some (next_object (collection_in x) at.0)))
   passes h e all = grind (arith, common_steps, cond-false, found, cond-true, at, or_left, stands_there, or_right, eq-eqb, count)
@@ -85,7 +84,7 @@ module _ (heap : HeapWords) (x : CollectionWords) (is : IsCollection x) (k : Bel
   passed h e all place is_there = grind (arith, common_steps, at, count, passes)
 
   pub passed_belongs : (h : Header) → header_at x.space.words x.scan_place ≡ Some h → (h.raw ≡ true) ⊎ (x.scan_field ≡ h.len) → (place : ℕ) → place ≡ x.scan_place + (h.len + 2) → BelongsTo heap (record x { scan_place = place; scan_field = 0 })
-  passed_belongs h e all place is_there = after_step heap heap x (record x { scan_place = place; scan_field = 0 }) steps.Scan Passed (λ no. cc no) is k (same_graph heap) refl (passed h e all place is_there) k.links
+  passed_belongs h e all place is_there = after_step heap heap x (record x { scan_place = place; scan_field = 0 }) steps.Scan Passed (λ no. cc no) s.0 s.1 (same_graph heap) refl (passed h e all place is_there) s.1.links
 
   scans : (h : Header) → header_at x.space.words x.scan_place ≡ Some h → h.raw ≡ false → (x.scan_field ≡ h.len → ⊥) → scan (open_state heap x) (collection_in x) ≡ if_room (open_state heap x) Scanned (option_map next_field (bring_up_to_date (collection_in x) (graph_in heap) (link_at x.space.words x.scan_place) x.scan_field))
   scans h e plain other = grind (arith, common_steps, cond-false, found, at, neither, stands_there, ne_eqb, count, original)
@@ -104,4 +103,4 @@ module _ (heap : HeapWords) (x : CollectionWords) (is : IsCollection x) (k : Bel
       → bring_up_to_date (collection_in x) (graph_in heap) (link_at x.space.words x.scan_place) x.scan_field ≡ Some (collection_in after)
       → BelongsTo new (record after { scan_field = x.scan_field + 1 })
   scanned_belongs h e plain other new after graph rest belongs brought =
-      after_step heap new x (record after { scan_field = x.scan_field + 1 }) steps.Scan Scanned (λ no. cc no) is k graph (ap length rest.logs) (scanned h e plain other new after graph rest brought) belongs.links
+      after_step heap new x (record after { scan_field = x.scan_field + 1 }) steps.Scan Scanned (λ no. cc no) s.0 s.1 graph (ap length rest.logs) (scanned h e plain other new after graph rest brought) belongs.links

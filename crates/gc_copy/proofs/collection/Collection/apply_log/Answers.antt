@@ -1,12 +1,12 @@
 -- The plan applies the oldest entry: its field is brought up to date and the entry goes, or nothing changes if there is no room.
 use Rattle.std.proofs.lemmas.Grind.{common_steps}
-use Rattle.std.proofs.Common.{◌≡◌, length, Some, ap, sym, ◌∙◌, subst, arith}
+use Rattle.std.proofs.Common.{◌≡◌, length, Some, ap, sym, subst, arith}
 use Rattle.std.specs.Prelude.{slice_get, slice_set}
 use Rattle.gc_heap.specs.Heap.{graph_in}
 use Rattle.gc_plan.specs.State.{State}
 use Rattle.gc_plan.specs.Steps.{log_at, apply_entry, apply_log}
 use Rattle.gc_copy.specs.contracts.collection.Collection.{the_view}
-use Rattle.gc_copy.specs.Words.{CollectionWords, IsCollection, collection_in, open_state, BelongsTo}
+use Rattle.gc_copy.specs.Words.{IsCollection, collection_in, open_state, BelongsTo}
 use Rattle.gc_copy.specs.Internal.Words.{KeepsRest}
 use Rattle.gc_plan.specs.declared.step.Step.TheVariants as steps
 use Rattle.gc_plan.specs.declared.step.StepReply.{StepReply}
@@ -22,10 +22,10 @@ there c = there_in _ c.args.self.now c.args.m c.index.result.now c.self.view_is 
 
 -- the field is up to date, the rest is as it was, and the log still has the entry
 done : (c : After-drop_oldest) → apply_entry (collection_in (the_view c.self.inside)) (graph_in c.args.heap.now) (c.in-Some.entry.object.0, c.in-Some.entry.field) ≡ Some (collection_in (the_view c.self-2.inside))
-done c = ap (λ (y : CollectionWords). apply_entry (collection_in y) (graph_in c.args.heap.now) (c.in-Some.entry.object.0, c.in-Some.entry.field)) c.self.view_is ∙ c.in-Ok.ensures.applied ∙ ap (λ (y : CollectionWords). Some (collection_in y)) (sym c.self-2.view_is)
+done c = (let applied = c.in-Ok.ensures.applied in grind (arith, common_steps))
 
 rest : (c : After-drop_oldest) → KeepsRest (the_view c.self.inside) (the_view c.self-2.inside)
-rest c = subst (λ y. KeepsRest y (the_view c.self-2.inside)) (sym c.self.view_is) (subst (KeepsRest c.args.self.now) (sym c.self-2.view_is) c.in-Ok.ensures.rest)
+rest c = (let rest = c.in-Ok.ensures.rest in grind (arith, common_steps))
 
 has : (c : After-drop_oldest) → slice_get (the_view c.self-2.inside).logs c.args.m ≡ Some c.index_mut.result.now
 has c = there_in _ _ c.args.m c.index_mut.result.now c.self-2.view_is (omega (arith, ap length (c.in-Ok.ensures.rest).logs, (c.requires.belongs).logs, c.requires.mutator)) c.index_mut.ensures.value
