@@ -71,8 +71,9 @@ lines_left text p r left lines q h taken =
     )
 
 -- lines that were taken after others
-pub taken_on : {text : List ℕ} {done more : List (List ℕ)} {p q : Place} {r : PairReader} {left : Option (List ℕ)} → HasTaken done p q → (at : Place) × IsAt text at r left × HasTaken more q at → (at : Place) × IsAt text at r left × HasTaken (done ++ more) p at
-taken_on {text} {done} {more} {p} {q} taken on = (on.0, on.1, taken_then done more p q on.0 taken on.2)
+pub taken_on : {done more : List (List ℕ)} {old mid new : PairReader} {left rest end : Option (List ℕ)} → ((text : List ℕ) (p : Place) → IsAt text p old left → (at : Place) × IsAt text at mid rest × HasTaken done p at)
+    → ((text : List ℕ) (p : Place) → IsAt text p mid rest → (at : Place) × IsAt text at new end × HasTaken more p at) → (text : List ℕ) (p : Place) → IsAt text p old left → (at : Place) × IsAt text at new end × HasTaken (done ++ more) p at
+taken_on {done} {more} one two text p h = (let mid = one text p h in let at = two text mid.0 mid.1 in (at.0, at.1, taken_then done more p mid.0 at.0 mid.2 at.2))
 
 -- ---- the start and the end of the text
 

@@ -31,8 +31,7 @@ returns-in_err-take-clause-place g c text p h =
     let fault = err_from_is_err_and c.from_residual-in_err-take.result c.from_residual-in_err-take.ensures.1 in
     let n = c.in_ok-count.count in
     let pairs = map addresses c.in_ok-pairs.pairs.items in
-    let one = c.in_ok-count.ensures.place text p h in
-    let two = taken_on one.2 (c.in_ok-pairs.ensures.place text one.0 one.1) in
+    let two = taken_on c.in_ok-count.ensures.place c.in_ok-pairs.ensures.place text p h in
     rw (fault.1, fault.2) (end_within Nothing (alone (λ _. codes "end")) CertificateSection (up_to_end n pairs) text p two.0 _ _
     (alone_delimits Nothing (λ _. codes "end") (is_line (codes "end")) (fixed_form (codes "end"))) (certificate_end n pairs c.in_ok-count.ensures.fits c.in_ok-pairs.ensures.fits) two.2 (c.in_err-take.ensures.place text two.0 two.1))
 
@@ -40,8 +39,6 @@ pub returns-clause-place : goal.returns-clause-place
 returns-clause-place g c text p h =
     let n = c.in_ok-count.count in
     let pairs = map addresses c.in_ok-pairs.pairs.items in
-    let one = c.in_ok-count.ensures.place text p h in
-    let two = taken_on one.2 (c.in_ok-pairs.ensures.place text one.0 one.1) in
-    let three = taken_on two.2 (c.in_ok-take.ensures.place text two.0 two.1) in
+    let three = taken_on (taken_on c.in_ok-count.ensures.place c.in_ok-pairs.ensures.place) c.in_ok-take.ensures.place text p h in
     let taken = certificate_taken n pairs p three.0 c.in_ok-count.ensures.fits c.in_ok-pairs.ensures.fits three.2 in
     (three.0, three.1, taken.1)

@@ -40,8 +40,7 @@ returns-in_err-count-clause-place g c text p h =
     let s : ℕ × ℕ = (c.in_ok-size.size, c.in_ok-size.end) in
     let words = c.in_ok-words.words.items in
     let all : AreAll IsWord s.1 words = rw c.from.ensures at c.in_ok-words.ensures.fits in
-    let one = c.in_ok-size.ensures.place text p h in
-    let two = taken_on one.2 (c.in_ok-words.ensures.place text one.0 one.1) in
+    let two = taken_on c.in_ok-size.ensures.place c.in_ok-words.ensures.place text p h in
     rw (fault.1, fault.2) (end_within (λ n. n ≤ 272) (alone (count_line (codes "roots"))) (ImageSection raws name) ((size_line name s.0 s.1 ∷ []) ++ map decimal words) text p two.0 _ _
     (alone_delimits (λ n. n ≤ 272) (count_line (codes "roots")) (λ line. count_of (codes "roots") 272 (tokens_of line)) (count_form (codes "roots") 272 refl (omega arith))) (image_count raws name s words c.in_ok-size.ensures.fits all)
     two.2 (c.in_err-count.ensures.place text two.0 two.1))
@@ -54,9 +53,7 @@ returns-in_err-roots-clause-place g c text p h =
     let s : ℕ × ℕ = (c.in_ok-size.size, c.in_ok-size.end) in
     let words = c.in_ok-words.words.items in
     let n = c.in_ok-count.count in
-    let one = c.in_ok-size.ensures.place text p h in
-    let two = taken_on one.2 (c.in_ok-words.ensures.place text one.0 one.1) in
-    let three = taken_on two.2 (c.in_ok-count.ensures.place text two.0 two.1) in
+    let three = taken_on (taken_on c.in_ok-size.ensures.place c.in_ok-words.ensures.place) c.in_ok-count.ensures.place text p h in
     rw (fault.1, fault.2) (end_within (AreAll IsWord n) (map decimal) (ImageSection raws name) (up_to_count name s words n) text p three.0 _ _
     (all_delimit IsWord decimal word_in n word_form) (image_roots raws name s words n c.in_ok-size.ensures.fits (rw c.from.ensures at c.in_ok-words.ensures.fits) c.in_ok-count.ensures.fits)
     three.2 (c.in_err-roots.ensures.place text three.0 three.1))
@@ -73,9 +70,6 @@ returns-clause-place g c text p h =
     let n = c.in_ok-count.count in
     let roots = c.in_ok-roots.roots.items in
     let all : AreAll IsWord s.1 words = rw c.from.ensures at c.in_ok-words.ensures.fits in
-    let one = c.in_ok-size.ensures.place text p h in
-    let two = taken_on one.2 (c.in_ok-words.ensures.place text one.0 one.1) in
-    let three = taken_on two.2 (c.in_ok-count.ensures.place text two.0 two.1) in
-    let four = taken_on three.2 (c.in_ok-roots.ensures.place text three.0 three.1) in
+    let four = taken_on (taken_on (taken_on c.in_ok-size.ensures.place c.in_ok-words.ensures.place) c.in_ok-count.ensures.place) c.in_ok-roots.ensures.place text p h in
     let taken = image_taken raws name s words roots n p four.0 c.in_ok-size.ensures.fits all c.in_ok-count.ensures.fits c.in_ok-roots.ensures.fits four.2 in
     (four.0, four.1, taken.1)

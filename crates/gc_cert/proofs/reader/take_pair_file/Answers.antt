@@ -38,8 +38,7 @@ returns-in_err-new-clause-exact g c text h =
     let p = start text in
     let raws = c.in_ok-raws.raws in
     let old = image_in c.in_ok-old.old in
-    let one = c.in_ok-raws.ensures.place text p h in
-    let two = taken_on one.2 (c.in_ok-old.ensures.place text one.0 one.1) in
+    let two = taken_on c.in_ok-raws.ensures.place c.in_ok-old.ensures.place text p h in
     rw (fault.1, fault.2) (ended_text text _ _ (end_within (IsImageBy raws) (image_alone (codes "new")) TextSection ((heading raws ∷ []) ++ image_alone (codes "old") old) text p two.0 _ _ (image_delimits raws (codes "new")) (text_new raws old c.in_ok-old.ensures.fits) two.2 (c.in_err-new.ensures.place text two.0 two.1)))
 
 pub returns-in_err-pairs-clause-exact : goal.returns-in_err-pairs-clause-exact
@@ -49,9 +48,7 @@ returns-in_err-pairs-clause-exact g c text h =
     let raws = c.in_ok-raws.raws in
     let old = image_in c.in_ok-old.old in
     let new = image_in c.in_ok-new.new in
-    let one = c.in_ok-raws.ensures.place text p h in
-    let two = taken_on one.2 (c.in_ok-old.ensures.place text one.0 one.1) in
-    let three = taken_on two.2 (c.in_ok-new.ensures.place text two.0 two.1) in
+    let three = taken_on (taken_on c.in_ok-raws.ensures.place c.in_ok-old.ensures.place) c.in_ok-new.ensures.place text p h in
     rw (fault.1, fault.2) (ended_text text _ _ (end_within IsCertificate certificate_lines TextSection (both_images raws old new) text p three.0 _ _ certificate_delimits (text_certificate raws old new c.in_ok-old.ensures.fits c.in_ok-new.ensures.fits) three.2 (c.in_err-pairs.ensures.place text three.0 three.1)))
 
 -- the lines of the pair have been taken
@@ -59,10 +56,7 @@ taken : (g : _) (c : In_ok-pairs g) (text : List ℕ) → IsAt text (start text)
     → let pair = made_pair (image_in c.in_ok-old.old) (image_in c.in_ok-new.new) (map addresses c.in_ok-pairs.pairs.items) in
     (at : Place) × IsAt text at c.take_certificate.new.lines (g.R.Read.remaining c.take_certificate.new.reader.reader) × HasText pair × HasTaken (lines_of pair) (start text) at
 taken g c text h =
-    let one = c.in_ok-raws.ensures.place text (start text) h in
-    let two = taken_on one.2 (c.in_ok-old.ensures.place text one.0 one.1) in
-    let three = taken_on two.2 (c.in_ok-new.ensures.place text two.0 two.1) in
-    let four = taken_on three.2 (c.in_ok-pairs.ensures.place text three.0 three.1) in
+    let four = taken_on (taken_on (taken_on c.in_ok-raws.ensures.place c.in_ok-old.ensures.place) c.in_ok-new.ensures.place) c.in_ok-pairs.ensures.place text (start text) h in
     let whole = text_taken _ _ _ _ _ four.0 c.in_ok-old.ensures.fits c.in_ok-new.ensures.fits c.in_ok-pairs.ensures.fits four.2 in
     (four.0, four.1, whole.0, whole.1)
 

@@ -12,8 +12,7 @@ use Rattle.gc_cert.specs.Internal.Parsers.{pair_of}
 use Rattle.gc_cert.specs.Internal.Sections.{alone, AreAll, Spelled}
 use Rattle.gc_cert.proofs.Forms.{alone_delimits, begins_with_one, push_taken}
 use Rattle.gc_cert.proofs.LineForms.{pair_form}
-use Rattle.gc_cert.proofs.ReadPieces.{end_within}
-use Rattle.gc_cert.proofs.Stops.{taken_then}
+use Rattle.gc_cert.proofs.ReadPieces.{end_within, taken_on}
 use Rattle.gc_cert.proofs.reader.take_pairs.Goals as goal
 
 pub returns-in_err-pair-clause-place : goal.returns-in_err-pair-clause-place
@@ -37,9 +36,8 @@ loop-preserved g c =
     record {
       all = rw all (omega (arith, i.all.0, length-append pairs (pair ∷ [])), all_push AreAddresses pairs pair i.all.1 c.in_ok-pair.ensures.fits);
       place = λ text p h.
-          let at = i.place text p h in
-          let next = c.in_ok-pair.ensures.place text at.0 at.1 in
-          (next.0, next.1, rw all (push_taken pair_line pairs pair p next.0 (taken_then (map pair_line pairs) (pair_line pair ∷ []) p at.0 next.0 at.2 next.2)));
+          let next = taken_on i.place c.in_ok-pair.ensures.place text p h in
+          (next.0, next.1, rw all (push_taken pair_line pairs pair p next.0 next.2));
       reading = c.in_ok-pair.ensures.reading;
       good = good;
     }

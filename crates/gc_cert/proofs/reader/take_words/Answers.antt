@@ -10,8 +10,7 @@ use Rattle.gc_cert.specs.Internal.Parsers.{word_in}
 use Rattle.gc_cert.specs.Internal.Sections.{alone, AreAll, Spelled}
 use Rattle.gc_cert.proofs.Forms.{alone_delimits, begins_with_one, push_taken}
 use Rattle.gc_cert.proofs.LineForms.{word_form}
-use Rattle.gc_cert.proofs.ReadPieces.{end_within}
-use Rattle.gc_cert.proofs.Stops.{taken_then}
+use Rattle.gc_cert.proofs.ReadPieces.{end_within, taken_on}
 use Rattle.gc_cert.proofs.reader.take_words.Goals as goal
 
 pub returns-in_err-word-clause-place : goal.returns-in_err-word-clause-place
@@ -33,9 +32,8 @@ loop-preserved g c =
     record {
       all = rw items (omega (arith, i.all.0, length-append words (word ∷ [])), all_push IsWord words word i.all.1 c.in_ok-word.ensures.fits);
       place = λ text p h.
-          let at = i.place text p h in
-          let next = c.in_ok-word.ensures.place text at.0 at.1 in
-          (next.0, next.1, rw items (push_taken decimal words word p next.0 (taken_then (map decimal words) (decimal word ∷ []) p at.0 next.0 at.2 next.2)));
+          let next = taken_on i.place c.in_ok-word.ensures.place text p h in
+          (next.0, next.1, rw items (push_taken decimal words word p next.0 next.2));
       reading = c.in_ok-word.ensures.reading;
       good = good;
     }
