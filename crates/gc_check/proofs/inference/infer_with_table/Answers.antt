@@ -7,7 +7,7 @@ use Rattle.gc_check.proofs.Placements.{old_refused, new_refused}
 use Rattle.gc_check.proofs.Inferred.{HasFound, has_found, pairs_are_forced, pairs_together, pairs_hold}
 use Rattle.gc_check.proofs.Joined.{pairs_have_tables, pairs_are_closed, pairs_hold_if_alike, old_is_shaped, new_is_shaped}
 use Rattle.gc_check.proofs.inference.infer_with_table.Goals as goal
-use Rattle.gc_check.proofs.inference.infer_with_table.Goals.{After-drop-new_starts-inside-2}
+use Rattle.gc_check.proofs.inference.infer_with_table.Goals.{After-enter_rising}
 
 pub returns-in-Err-clause-refused : goal.returns-in-Err-clause-refused
 returns-in-Err-clause-refused c =
@@ -27,26 +27,26 @@ returns-in-Err-new-clause-impossible c = λ refusal same.
     let is : c.of_new.result ≡ fault.Refused refusal = cc in
     new_is_shaped (image_of c.args.old) (image_of c.args.new) c.of_new.result refusal (c.of_new.ensures (shape_fault (image_of c.args.new)) c.in-Err-new.ensures) is
 
-found : (c : After-drop-new_starts-inside-2) → HasFound (image_of c.args.old) (image_of c.args.new) c.in_ok-walk.walk.found c.in_ok-walk.walk.alike c.enter_rising.new.pairs.items
+found : (c : After-enter_rising) → HasFound (image_of c.args.old) (image_of c.args.new) c.in_ok-walk.walk.found c.in_ok-walk.walk.alike c.enter_rising.new.pairs.items
 found c = has_found _ _ _ _ _ _ _ c.in-Ok.ensures.1 c.in-Ok-new.ensures.1 c.in_ok-walk.ensures.held c.in_ok-walk.ensures.met c.in_ok-walk.ensures.alike c.enter_rising.ensures.pairs
 
 pub returns-clause-forced : goal.returns-clause-forced
-returns-clause-forced c = pairs_are_forced _ _ _ _ _ (found (goal.at.returns-clause-forced c).After-drop-new_starts-inside-2)
+returns-clause-forced c = pairs_are_forced _ _ _ _ _ (found (goal.at.returns-clause-forced c).After-enter_rising)
 
 pub returns-clause-together : goal.returns-clause-together
-returns-clause-together c = pairs_together _ _ _ _ _ (found (goal.at.returns-clause-together c).After-drop-new_starts-inside-2)
+returns-clause-together c = pairs_together _ _ _ _ _ (found (goal.at.returns-clause-together c).After-enter_rising)
 
 pub returns-clause-closed : goal.returns-clause-closed
-returns-clause-closed c = pairs_are_closed _ _ _ _ _ (found (goal.at.returns-clause-closed c).After-drop-new_starts-inside-2)
+returns-clause-closed c = pairs_are_closed _ _ _ _ _ (found (goal.at.returns-clause-closed c).After-enter_rising)
 
 pub returns-clause-complete : goal.returns-clause-complete
-returns-clause-complete c = pairs_hold _ _ _ _ _ (found (goal.at.returns-clause-complete c).After-drop-new_starts-inside-2)
+returns-clause-complete c = pairs_hold _ _ _ _ _ (found (goal.at.returns-clause-complete c).After-enter_rising)
 
 pub returns-clause-table : goal.returns-clause-table
 returns-clause-table c =
     let roots : length c.args.old.roots.now ≡ length c.args.new.roots.now = search rules in
     let few : length c.args.new.words.now < 2 ^ 32 = search rules in
-    pairs_have_tables _ _ _ _ _ (found (goal.at.returns-clause-table c).After-drop-new_starts-inside-2) c.in-Ok.ensures.0 c.in-Ok-new.ensures.0 roots few
+    pairs_have_tables _ _ _ _ _ (found (goal.at.returns-clause-table c).After-enter_rising) c.in-Ok.ensures.0 c.in-Ok-new.ensures.0 roots few
 
 pub returns-clause-alike : goal.returns-clause-alike
-returns-clause-alike c = pairs_hold_if_alike _ _ _ _ _ (found (goal.at.returns-clause-alike c).After-drop-new_starts-inside-2) c.in-Ok.ensures.0 c.in-Ok-new.ensures.0
+returns-clause-alike c = pairs_hold_if_alike _ _ _ _ _ (found (goal.at.returns-clause-alike c).After-enter_rising) c.in-Ok.ensures.0 c.in-Ok-new.ensures.0
