@@ -1,7 +1,7 @@
 -- Forms that compare equal are the same.
 use Rattle.std.proofs.lemmas.Grind.{common_steps}
-use Rattle.std.proofs.Common.{◌≡◌, ◌↔◌, ◌&&◌, Bool, true, false, rules, subst, sym, ap, ◌∙◌, arith}
-use Rattle.std.proofs.lemmas.Bool.{false≢true, eqb-true}
+use Rattle.std.proofs.Common.{◌≡◌, ◌↔◌, ◌&&◌, true, false, rules, subst, sym, ap, ◌∙◌, arith}
+use Rattle.std.proofs.lemmas.Bool.{and_parts, false≢true, eqb-true}
 use Rattle.gc_graph.specs.Slots.{SlotName}
 use Rattle.gc_graph.specs.declared.command.Op.{Op}
 use Rattle.gc_plan.specs.declared.step.Step.{Step}
@@ -39,43 +39,21 @@ same_step a b = search rules
 same_step_reply : (a b : StepReply) → (of_step_replies.ghosts.eq a b ≡ true) ↔ (a ≡ b)
 same_step_reply a b = search rules
 
-both : (s t : Bool) → (s && t) ≡ true → (s ≡ true) × (t ≡ true)
-both s t e = grind (arith, common_steps)
+steps_are : (step other : Step) (reply other_reply : StepReply) → (of_steps.ghosts.eq step other && of_step_replies.ghosts.eq reply other_reply) ≡ true → (step ≡ other) × (reply ≡ other_reply)
+steps_are step other reply other_reply e = (let parts = and_parts _ _ e in ((same_step step other).0 parts.0, (same_step_reply reply other_reply).0 parts.1))
 
 from_form : (a b : Form) → of_forms.ghosts.eq a b ≡ true → a ≡ b
-from_form (Command m reply op) (Command k other_reply other) e =
-    let first = both _ _ e in
-    let rest = both _ _ first.1 in
-    let mutator : m ≡ k = eqb-true m k first.0 in
-    let replied : reply ≡ other_reply = (same_bare_reply reply other_reply).0 rest.0 in
-    let command : op ≡ other = (same_op op other).0 rest.1 in
-    cc
+from_form (Command m reply op) (Command k other_reply other) e = grind (arith, common_steps, eqb-true, same_bare_reply, same_op)
 from_form (Shown m op n) (Shown k other i) e =
-    let first = both _ _ e in
-    let rest = both _ _ first.1 in
+    let first = and_parts _ _ e in
+    let rest = and_parts _ _ first.1 in
     let mutator : m ≡ k = eqb-true m k first.0 in
     let command : op ≡ other = (same_bare_op op other).0 rest.0 in
     let number : n ≡ i = eqb-true n i rest.1 in
     cc
-from_form (GivenAndShown m d given n) (GivenAndShown k c other i) e =
-    let first = both _ _ e in
-    let second = both _ _ first.1 in
-    let rest = both _ _ second.1 in
-    let mutator : m ≡ k = eqb-true m k first.0 in
-    let slot : d ≡ c = (same_slot d c).0 second.0 in
-    let command : given ≡ other = eqb-true given other rest.0 in
-    let number : n ≡ i = eqb-true n i rest.1 in
-    cc
-from_form (StepForm false step reply) (StepForm false other other_reply) e =
-    let parts = both _ _ e in
-    let made : step ≡ other = (same_step step other).0 parts.0 in
-    let replied : reply ≡ other_reply = (same_step_reply reply other_reply).0 parts.1 in
-    cc
-from_form (StepForm true step reply) (StepForm true other other_reply) e =
-    let parts = both _ _ e in
-    let made : step ≡ other = (same_step step other).0 parts.0 in
-    let replied : reply ≡ other_reply = (same_step_reply reply other_reply).0 parts.1 in
-    cc
+from_form (GivenAndShown m d given n) (GivenAndShown k c other i) e = grind (arith, common_steps, eqb-true, same_slot)
+from_form (StepForm false step reply) (StepForm false other other_reply) e = let same = steps_are step other reply other_reply e in cc
+from_form (StepForm true step reply) (StepForm true other other_reply) e = let same = steps_are step other reply other_reply e in cc
 from_form a b e = absurd (false≢true e)
 
 to_itself : (a : Form) → of_forms.ghosts.eq a a ≡ true
