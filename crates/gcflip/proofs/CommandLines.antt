@@ -21,8 +21,8 @@ none_taken : takes command_line ([] ∷ []) ≡ true
 unfolding clap_on_literals
 none_taken = refl
 
-pub no_arguments_taken : (arguments : List Text) → drop 1 arguments ≡ [] → takes command_line arguments ≡ true
-no_arguments_taken arguments e = ap (λ (rest : List Text). takes command_line ([] ∷ rest)) e ∙ none_taken
+pub no_arguments_taken : (a : App) (arguments : List Text) → a ≡ command_line → drop 1 arguments ≡ [] → takes a arguments ≡ true
+no_arguments_taken a arguments is e = ap (λ (b : App). takes b arguments) is ∙ ap (λ (rest : List Text). takes command_line ([] ∷ rest)) e ∙ none_taken
 
 -- ---- a subcommand and a path
 
@@ -39,41 +39,20 @@ pub record TakesFile (name path : Text) : Type 0 where
   pub taken : takes command_line ([] ∷ name ∷ path ∷ []) ≡ true
   pub found : file_of (subcommand_of command_line ([] ∷ name ∷ path ∷ [])) ≡ Some (name, Some path)
 
-play_taken : (path : Text) → IsPlainArgument path → takes command_line ([] ∷ codes "play" ∷ path ∷ []) ≡ true
-unfolding clap_on_literals
-play_taken path plain = simp (plain, not_two_hyphens path plain)
-
-play_found : (path : Text) → IsPlainArgument path → file_of (subcommand_of command_line ([] ∷ codes "play" ∷ path ∷ [])) ≡ Some (codes "play", Some path)
-unfolding clap_on_literals
-play_found path plain = simp (plain, not_two_hyphens path plain)
-
 pub play_takes_file : (path : Text) → IsPlainArgument path → TakesFile (codes "play") path
-play_takes_file path plain = record { taken = play_taken path plain; found = play_found path plain }
-
-check_taken : (path : Text) → IsPlainArgument path → takes command_line ([] ∷ codes "check" ∷ path ∷ []) ≡ true
 unfolding clap_on_literals
-check_taken path plain = simp (plain, not_two_hyphens path plain)
-
-check_found : (path : Text) → IsPlainArgument path → file_of (subcommand_of command_line ([] ∷ codes "check" ∷ path ∷ [])) ≡ Some (codes "check", Some path)
-unfolding clap_on_literals
-check_found path plain = simp (plain, not_two_hyphens path plain)
+play_takes_file path plain = record { taken = simp (plain, not_two_hyphens path plain); found = simp (plain, not_two_hyphens path plain) }
 
 pub check_takes_file : (path : Text) → IsPlainArgument path → TakesFile (codes "check") path
-check_takes_file path plain = record { taken = check_taken path plain; found = check_found path plain }
-
-report_taken : (path : Text) → IsPlainArgument path → takes command_line ([] ∷ codes "report" ∷ path ∷ []) ≡ true
 unfolding clap_on_literals
-report_taken path plain = simp (plain, not_two_hyphens path plain)
-
-report_found : (path : Text) → IsPlainArgument path → file_of (subcommand_of command_line ([] ∷ codes "report" ∷ path ∷ [])) ≡ Some (codes "report", Some path)
-unfolding clap_on_literals
-report_found path plain = simp (plain, not_two_hyphens path plain)
+check_takes_file path plain = record { taken = simp (plain, not_two_hyphens path plain); found = simp (plain, not_two_hyphens path plain) }
 
 pub report_takes_file : (path : Text) → IsPlainArgument path → TakesFile (codes "report") path
-report_takes_file path plain = record { taken = report_taken path plain; found = report_found path plain }
+unfolding clap_on_literals
+report_takes_file path plain = record { taken = simp (plain, not_two_hyphens path plain); found = simp (plain, not_two_hyphens path plain) }
 
-pub file_arguments_taken : (arguments : List Text) (name path : Text) → TakesFile name path → drop 1 arguments ≡ name ∷ path ∷ [] → takes command_line arguments ≡ true
-file_arguments_taken arguments name path takes_file e = ap (λ (rest : List Text). takes command_line ([] ∷ rest)) e ∙ takes_file.taken
+pub file_arguments_taken : (a : App) (arguments : List Text) (name path : Text) → a ≡ command_line → TakesFile name path → drop 1 arguments ≡ name ∷ path ∷ [] → takes a arguments ≡ true
+file_arguments_taken a arguments name path is takes_file e = ap (λ (b : App). takes b arguments) is ∙ ap (λ (rest : List Text). takes command_line ([] ∷ rest)) e ∙ takes_file.taken
 
 file_arguments_found : (arguments : List Text) (name path : Text) → TakesFile name path → drop 1 arguments ≡ name ∷ path ∷ [] → file_of (subcommand_of command_line arguments) ≡ Some (name, Some path)
 file_arguments_found arguments name path takes_file e = ap (λ (rest : List Text). file_of (subcommand_of command_line ([] ∷ rest))) e ∙ takes_file.found
