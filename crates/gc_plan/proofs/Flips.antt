@@ -53,24 +53,23 @@ roots_zip pairs f (v ∷ vs) h = (h v (inl refl), roots_zip pairs f vs (λ w k. 
 
 -- ---- the order of the pairs
 
+replica_at : (replicas : List Replica) (j : ℕ) (d : ℕ × ℕ) → j < length (map pair replicas) → (r : Replica) × In r replicas × (pair r ≡ get_or (map pair replicas) j d)
+replica_at replicas j d within = in_map_from pair _ replicas (get_in _ (map pair replicas) j (slice_get-get_or (map pair replicas) j d within))
+
 pub pairs_rise : (at : ℕ) (replicas : List Replica) (end : ℕ) → Laid at (map placed replicas) end → AllPairs (λ p q. p.1 < q.1) (map pair replicas)
 pairs_rise at [] end h i j d l within = absurd (omega arith)
 pairs_rise at (r ∷ rest) end h i zero d l within = absurd (omega arith)
 pairs_rise at (r ∷ rest) end h zero (suc j) d l within =
-    let q = get_in (get_or (map pair rest) j d) (map pair rest) j (slice_get-get_or (map pair rest) j d (omega arith)) in
-    let s = in_map_from pair (get_or (map pair rest) j d) rest q in
+    let s = replica_at rest j d (omega arith) in
     let range = laid_range (at + (length r.object.fields + 2)) (map placed rest) end (placed s.0) h.1 (in_map placed s.0 rest s.1) in
-    let e : s.0.place ≡ (get_or (map pair rest) j d).1 = ap (λ (p : ℕ × ℕ). p.1) s.2 in
-    let here = h.0 in
-    omega arith
+    omega (arith, h.0, ap (λ (p : ℕ × ℕ). p.1) s.2)
 pairs_rise at (r ∷ rest) end h (suc i) (suc j) d l within = pairs_rise (at + (length r.object.fields + 2)) rest end h.1 i j d (omega arith) (omega arith)
 
 pub pairs_once : (replicas : List Replica) → Distinct (map (λ r. r.original) replicas) → AllPairs (λ p q. p.0 ≢ q.0) (map pair replicas)
 pairs_once [] h i j d l within = absurd (omega arith)
 pairs_once (r ∷ rest) h i zero d l within = absurd (omega arith)
 pairs_once (r ∷ rest) h zero (suc j) d l within = λ e.
-    let q = get_in (get_or (map pair rest) j d) (map pair rest) j (slice_get-get_or (map pair rest) j d (omega arith)) in
-    let s = in_map_from pair (get_or (map pair rest) j d) rest q in
+    let s = replica_at rest j d (omega arith) in
     let same : s.0.original ≡ r.original = ap (λ (p : ℕ × ℕ). p.0) s.2 ∙ sym e in
     h.0 (subst (λ n. In n (map (λ (x : Replica). x.original) rest)) same (in_map (λ (x : Replica). x.original) s.0 rest s.1))
 pairs_once (r ∷ rest) h (suc i) (suc j) d l within = pairs_once rest h.1 i j d (omega arith) (omega arith)
