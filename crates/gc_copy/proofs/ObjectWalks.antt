@@ -1,9 +1,9 @@
 -- Loops over the objects of a space.
 use Rattle.std.proofs.lemmas.Grind.{common_steps}
 use Rattle.std.proofs.Common.{◌≡◌, ℕ, ◌+◌, ◌<◌, ◌≤◌, true, List, [], ◌∷◌, ◌++◌, map, length, Some, refl, ap, sym, ◌∙◌, subst, arith, append_assoc, length-append, inl}
-use Rattle.std.specs.Prelude.{◌^◌, IsOk, slice_set}
+use Rattle.std.specs.Prelude.{◌^◌, IsOk}
 use Rattle.std.specs.Result.{result_unwrap_or}
-use Rattle.std.proofs.lemmas.List.{map-append, length-map, drop-set-lt}
+use Rattle.std.proofs.lemmas.List.{map-append}
 use Rattle.gc_words.specs.Image.{Block, blocks, is_start}
 use Rattle.gc_words.specs.Spelling.{link_at}
 use Rattle.gc_words.specs.Space.{SpaceWords, IsSpace}

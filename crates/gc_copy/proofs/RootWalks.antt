@@ -1,9 +1,9 @@
 -- Walks over the root words.
 use Rattle.std.proofs.lemmas.Option.{slice_get-map, slice_get-get_or}
 use Rattle.std.proofs.lemmas.Grind.{common_steps}
-use Rattle.std.proofs.Common.{Option, Some, None, arith, ◌≡◌, ℕ, suc, zero, ◌-◌, ◌<◌, ◌≤◌, true, List, [], ◌∷◌, ◌++◌, map, drop, take, replicate, length, length-take, get_or, slice_get, refl, ap, sym, ◌∙◌, subst, append-nil, inl, inr}
+use Rattle.std.proofs.Common.{Option, Some, None, arith, ◌≡◌, ℕ, suc, zero, ◌-◌, ◌<◌, ◌≤◌, true, List, [], ◌∷◌, ◌++◌, map, drop, take, replicate, length, length-take, get_or, slice_get, refl, ap, sym, ◌∙◌, subst, append-nil}
 use Rattle.std.proofs.lemmas.Bool.{eqb-true}
-use Rattle.std.proofs.lemmas.List.{drop_all, get_or-take, length-append, length-map, map-append, take-append-drop}
+use Rattle.std.proofs.lemmas.List.{drop_all, length-map, map-append, take-append-drop}
 use Rattle.std.specs.Prelude.{IfSome}
 use Rattle.std.specs.Option.{option_map, unwrap_or}
 use Rattle.gc_graph.specs.Graph.{Value, Nil, Graph, root}

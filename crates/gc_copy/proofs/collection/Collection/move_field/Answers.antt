@@ -1,12 +1,10 @@
 -- Either the field's target has a replica and the moved word brings the field up to date, or the plan has no room for one either.
 use Rattle.std.proofs.lemmas.Grind.{common_steps}
 use Rattle.std.proofs.Common.{ap, arith}
-use Rattle.gc_words.specs.Word.{value_of}
 use Rattle.gc_words.specs.Image.{blocks}
 use Rattle.gc_words.specs.Space.{SpaceWords}
-use Rattle.gc_heap.specs.Heap.{graph_in}
 use Rattle.gc_copy.specs.contracts.collection.Collection.{the_view}
-use Rattle.gc_copy.specs.Words.{CollectionWords, collection_in}
+use Rattle.gc_copy.specs.Words.{CollectionWords}
 use Rattle.gc_copy.proofs.FieldWords.{read_in_heap}
 use Rattle.gc_copy.proofs.Spaces.{count_written}
 use Rattle.gc_copy.proofs.OpenCollection.{if_err, field_word_is, plain_value_is, root_word_kept, present, Brought, brought_words}
