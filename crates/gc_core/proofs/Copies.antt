@@ -24,7 +24,7 @@ use Rattle.gc_plan.specs.Steps.{mutate}
 use Rattle.gc_core.specs.Internal.KnownRoots.{KnowsRoots}
 use Rattle.gc_core.specs.declared.known.KnownRoots.{KnownRoots}
 use Rattle.gc_core.specs.Copying.{object_in, copy_reply, copy_step}
-use Rattle.gc_core.proofs.Marks.{WritesBelow, slot_below, one_below, slot_command, put_knows}
+use Rattle.gc_core.proofs.Marks.{WritesBelow, forgetting, slot_below, one_below, slot_command, put_knows}
 use Rattle.gc_core.proofs.NumbersPut.{forgotten}
 
 -- ---- the object that a slot refers to
@@ -83,12 +83,11 @@ one_copied old two first m i j k count d s t less so_far step =
 -- ---- what is known of the roots
 
 pub copies_know : (count : ℕ) (known : KnownRoots) (s : State) (m i j : ℕ) (d from t : SlotName) → t.index < 16 → m < s.mutators → KnowsRoots known s
-    → KnowsRoots (record { slots = 0; extra = known.extra; used = known.used; count = known.count }) (copy_step s m d i from j t count)
+    → KnowsRoots (forgetting known) (copy_step s m d i from j t count)
 copies_know zero known s m i j d from t low less k = forgotten known s k
 copies_know (suc count) known s m i j d from t low less k =
-    let after : KnownRoots = record { slots = 0; extra = known.extra; used = known.used; count = known.count } in
     let one = mutate s m (Get t from j) in
     let two = mutate one.1 m (Put d i t) in
     let below : WritesBelow (roots_of s.mutators) m (Get t from j) = λ q. one_below (place t m) q (roots_of s.mutators) (slot_below t m s.mutators low less) in
-    let got : KnowsRoots after one.1 = slot_command known s m (Get t from j) below k in
-    copies_know count after two.1 m (suc i) (suc j) d from t low less (put_knows after one.1 two.1 m i d t two.0 refl got)
+    let got : KnowsRoots (forgetting known) one.1 = slot_command known s m (Get t from j) below k in
+    copies_know count (forgetting known) two.1 m (suc i) (suc j) d from t low less (put_knows (forgetting known) one.1 two.1 m i d t two.0 refl got)

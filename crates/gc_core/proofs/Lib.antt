@@ -11,5 +11,6 @@ mod NumbersPut
 mod OtherCommands
 pub mod Public
 mod Referred
+mod Reserved
 mod Shown
 mod SourcesPut

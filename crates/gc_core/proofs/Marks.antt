@@ -19,7 +19,7 @@ use Rattle.gc_graph.specs.declared.command.Op.TheVariants as ops
 use Rattle.gc_graph.specs.declared.reply.Reply.{Reply}
 use Rattle.gc_graph.specs.declared.reply.Reply.TheVariants as replies
 use Rattle.gc_plan.specs.State.{Collection, State}
-use Rattle.gc_copy.specs.Words.{LinksNothing, state_of}
+use Rattle.gc_copy.specs.Words.{CollectionWords, LinksNothing, collection_in, state_of, idle_state}
 use Rattle.gc_plan.specs.Staying.{HasReplicaOf, KnowsRoot, root_written}
 use Rattle.gc_plan.specs.Steps.{mutate, collect, root_target}
 use Rattle.gc_plan.specs.declared.step.Step.{Step}
@@ -30,6 +30,7 @@ use Rattle.gc_copy.specs.declared.collection.roots.MissingRoot.{MissingRoot}
 use Rattle.gc_copy.proofs.Public.{placed_has}
 use Rattle.gc_plan.proofs.Public.{steps_stay, collect_stays, mutate_stays, root_kept, roots_counted, flip_nil, flip_count}
 use Rattle.gc_core.specs.CollectedHeap.{fill_step, filled, new_from_step}
+use Rattle.gc_core.specs.Internal.CollectedHeap.{Fits}
 use Rattle.gc_core.specs.Internal.KnownRoots.{KnowsRoots, FindsFirst, next_unknown_root}
 use Rattle.gc_core.specs.declared.known.KnownRoots.{KnownRoots}
 
@@ -37,15 +38,19 @@ use Rattle.gc_core.specs.declared.known.KnownRoots.{KnownRoots}
 pub with_row : {A B C : Type 0} → C → A × B → A × B × C
 with_row c pair = (pair.0, pair.1, c)
 
+-- the same marks, of which nothing is said of the slots
+abbrev pub forgetting : KnownRoots → KnownRoots
+forgetting known = record { slots = 0; extra = known.extra; used = known.used; count = known.count }
+
 -- ---- roots in use
 
 -- there are as many roots as those in use
-pub use_within : (known : KnownRoots) (s : State) (heap : HeapWords) (n : ℕ) → KnowsRoots known s → s.heap.graph ≡ graph_in heap → n ≡ roots_of s.mutators + known.used → n ≤ length heap.roots
-use_within known s heap n k graph same = grind (arith, common_steps, length-map)
+pub use_within : (known : KnownRoots) (s : State) (heap : HeapWords) (slots : ℕ) → KnowsRoots known s → s.heap.graph ≡ graph_in heap → slots ≡ roots_of s.mutators → slots + known.used ≤ length heap.roots
+use_within known s heap slots k graph same = grind (arith, common_steps, length-map)
 
 -- and those behind them are nil
-pub nil_behind : (known : KnownRoots) (s : State) (n : ℕ) → KnowsRoots known s → n ≡ roots_of s.mutators + known.used → (p : ℕ) → n ≤ p → root s.heap.graph p ≡ Nil
-nil_behind known s n k same p le =
+pub nil_behind : (known : KnownRoots) (s : State) (slots : ℕ) → KnowsRoots known s → slots ≡ roots_of s.mutators → (p : ℕ) → slots + known.used ≤ p → root s.heap.graph p ≡ Nil
+nil_behind known s slots k same p le =
     let back : roots_of s.mutators + (p - roots_of s.mutators) ≡ p = omega arith in
     subst (λ q. root s.heap.graph q ≡ Nil) back (k.unused (p - roots_of s.mutators) (omega arith))
 
@@ -67,7 +72,7 @@ not_this end m op p below le e = let less = below p e in absurd (omega (arith, l
 
 -- a command that writes at most a slot
 pub slot_command : (known : KnownRoots) (s : State) (m : ℕ) (op : Op) → WritesBelow (roots_of s.mutators) m op → KnowsRoots known s
-    → KnowsRoots (record { slots = 0; extra = known.extra; used = known.used; count = known.count }) (mutate s m op).1
+    → KnowsRoots (forgetting known) (mutate s m op).1
 slot_command known s m op below k = record {
   slots_high = omega arith;
   extra_high = k.extra_high;
@@ -248,27 +253,12 @@ filled_knows known replies.Yes made m d fields k = fill_knows known made m d 0 f
 filled_knows known replies.No made m d fields k = fill_knows known made m d 0 fields k
 
 pub from_knows : (known : KnownRoots) (s new : State) (m kind : ℕ) (d : SlotName) (fields : List SlotName) (reply : Reply) → d.index < 16 → m < s.mutators → new_from_step s m d kind fields ≡ (reply, new) → KnowsRoots known s
-    → KnowsRoots (record { slots = 0; extra = known.extra; used = known.used; count = known.count }) new
+    → KnowsRoots (forgetting known) new
 from_knows known s new m kind d fields reply low less steps k =
     let op = ops.New d kind (length fields) in
-    let after : KnownRoots = record { slots = 0; extra = known.extra; used = known.used; count = known.count } in
     let below : WritesBelow (roots_of s.mutators) m op = λ q. one_below (place d m) q (roots_of s.mutators) (slot_below d m s.mutators low less) in
-    subst (KnowsRoots after) (ap (λ (x : Reply × State). x.1) steps)
-    (filled_knows after (mutate s m op).0 (mutate s m op).1 m d fields (slot_command known s m op below k))
-
-pub number_knows : (known : KnownRoots) (s one new : State) (m i n : ℕ) (d t : SlotName) (first reply : Reply) → t.index < 16 → m < s.mutators → mutate s m (ops.Num t n) ≡ (first, one) → mutate one m (ops.Put d i t) ≡ (reply, new) → KnowsRoots known s
-    → KnowsRoots known new
-number_knows known s one new m i n d t first reply low less a b k =
-    let below : WritesBelow (roots_of s.mutators) m (ops.Num t n) = λ q. one_below (place t m) q (roots_of s.mutators) (slot_below t m s.mutators low less) in
-    let numbered : KnowsRoots known one = subst (KnowsRoots known) (ap (λ (x : Reply × State). x.1) a) (plain_command known s m (ops.Num t n) tt below k) in
-    subst (KnowsRoots known) (ap (λ (x : Reply × State). x.1) b) (quiet_command known one m (ops.Put d i t) refl numbered)
-
-pub nil_put_knows : (known : KnownRoots) (s one new : State) (m i : ℕ) (d t : SlotName) (first reply : Reply) → t.index < 16 → m < s.mutators → mutate s m (ops.Nil t) ≡ (first, one) → mutate one m (ops.Put d i t) ≡ (reply, new) → KnowsRoots known s
-    → KnowsRoots known new
-nil_put_knows known s one new m i d t first reply low less a b k =
-    let below : WritesBelow (roots_of s.mutators) m (ops.Nil t) = λ q. one_below (place t m) q (roots_of s.mutators) (slot_below t m s.mutators low less) in
-    let emptied : KnowsRoots known one = subst (KnowsRoots known) (ap (λ (x : Reply × State). x.1) a) (plain_command known s m (ops.Nil t) tt below k) in
-    subst (KnowsRoots known) (ap (λ (x : Reply × State). x.1) b) (quiet_command known one m (ops.Put d i t) refl emptied)
+    subst (KnowsRoots (forgetting known)) (ap (λ (x : Reply × State). x.1) steps)
+    (filled_knows (forgetting known) (mutate s m op).0 (mutate s m op).1 m d fields (slot_command known s m op below k))
 
 pub put_knows : (known : KnownRoots) (s new : State) (m i : ℕ) (d t : SlotName) (reply : Reply) → mutate s m (ops.Put d i t) ≡ (reply, new) → KnowsRoots known s → KnowsRoots known new
 put_knows known s new m i d t reply steps k = subst (KnowsRoots known) (ap (λ (x : Reply × State). x.1) steps) (quiet_command known s m (ops.Put d i t) refl k)
@@ -368,3 +358,9 @@ flipped_knows known s t reply none count steps_to k =
       unused = λ i le. subst (λ n. root t.heap.graph (roots_of n + i) ≡ Nil) (sym count)
           (subst (λ (u : State). root u.heap.graph (roots_of s.mutators + i) ≡ Nil) after (flip_nil s (roots_of s.mutators + i) (k.unused i le)));
     }
+
+-- and nothing is linked
+pub flip_fits : (epoch : ℕ) (known : KnownRoots) (was s : State) (new : HeapWords) (after : Option CollectionWords) (reply : StepReply) → was ≡ s → new.mutators ≡ s.mutators → collect s steps.Flip ≡ (reply, idle_state new) → LinksNothing epoch new → after ≡ None → KnowsRoots known was
+    → Fits epoch new after × KnowsRoots known (state_of new (option_map collection_in after))
+flip_fits epoch known was s new after reply same count flips links none k =
+    subst (λ o. Fits epoch new o × KnowsRoots known (state_of new (option_map collection_in o))) (sym none) (links, flipped_knows known s (idle_state new) reply refl count flips (subst (KnowsRoots known) same k))

@@ -1,16 +1,19 @@
 -- The commands that make an object and fill its fields, in order.
 use Rattle.std.proofs.lemmas.Grind.{common_steps}
-use Rattle.std.proofs.Common.{◌≡◌, ℕ, List, [], ◌∷◌, length, Option, Some, sym, ◌∙◌, ap, arith}
-use Rattle.std.specs.Option.{option_map}
+use Rattle.std.proofs.Common.{◌≡◌, ◌<◌, ℕ, List, [], ◌∷◌, length, sym, ◌∙◌, ap, subst, arith}
 use Rattle.gc_graph.specs.Slots.{SlotName}
 use Rattle.gc_graph.specs.declared.command.Op.TheVariants.{New, Put}
 use Rattle.gc_graph.specs.declared.reply.Reply.{Reply}
 use Rattle.gc_graph.specs.declared.reply.Reply.TheVariants as replies
 use Rattle.gc_heap.specs.Heap.{HeapWords}
-use Rattle.gc_plan.specs.State.{Collection, State}
-use Rattle.gc_copy.specs.Words.{CollectionWords, collection_in, state_of, open_state}
+use Rattle.gc_plan.specs.State.{State}
+use Rattle.gc_copy.specs.Words.{CollectionWords, open_state}
 use Rattle.gc_plan.specs.Steps.{mutate}
 use Rattle.gc_core.specs.CollectedHeap.{fill_step, new_from_step}
+use Rattle.gc_core.specs.Internal.KnownRoots.{KnowsRoots}
+use Rattle.gc_core.specs.declared.known.KnownRoots.{KnownRoots}
+use Rattle.gc_core.proofs.Marks.{forgetting, from_knows}
+use Rattle.gc_core.proofs.Reserved.{AfterFirst}
 
 pub made_from : (old made new : State) (m kind : ℕ) (d : SlotName) (fields : List SlotName) (reply : Reply) → mutate old m (New d kind (length fields)) ≡ (reply, made) → (reply ≡ replies.Full → ⊥)
     → fill_step made m d 0 fields ≡ new → new_from_step old m d kind fields ≡ (reply, new)
@@ -30,6 +33,22 @@ pub filled_two : (made one two : State) (m : ℕ) (d s t : SlotName) (first seco
     → fill_step made m d 0 (s ∷ t ∷ []) ≡ two
 filled_two made one two m d s t first second a b = ap (λ (x : Reply × State). (mutate x.1 m (Put d 1 t)).1) a ∙ ap (λ (x : Reply × State). x.1) b
 
--- more room in the logs does not change the state of a heap with its open collection
-pub opened_at : (heap : HeapWords) (o : Option CollectionWords) (c next : CollectionWords) (now : State) → o ≡ Some c → collection_in next ≡ collection_in c → state_of heap (option_map collection_in o) ≡ now → open_state heap next ≡ now
-opened_at heap o c next now is same view = ap (λ (d : Collection). state_of heap (Some d)) same ∙ ap (λ o. state_of heap (option_map collection_in o)) (sym is) ∙ view
+-- ---- while a collection is open
+
+-- without room that is all
+pub made_full : {known : KnownRoots} {heap new : HeapWords} {logs : CollectionWords} {now : State} {m kind count : ℕ} {d : SlotName} {reply : Reply} (fields : List SlotName) → AfterFirst known heap new logs now m (New d kind count) reply → d.index < 16 → count ≡ length fields → reply ≡ replies.Full
+    → (new_from_step now m d kind fields ≡ (reply, open_state new logs)) × KnowsRoots (forgetting known) (open_state new logs)
+made_full {known} {heap} {new} {logs} {now} {m} {kind} {count} {d} {reply} fields k low same full =
+    let old = open_state heap logs in
+    let made = open_state new logs in
+    let step = full_from old made m kind d fields reply (counted old made m kind count d fields reply same k.performs) full in
+    (subst (λ s. new_from_step s m d kind fields ≡ (reply, made)) k.before step, from_knows known old made m kind d fields reply low k.mutator step k.knows)
+
+-- with room the fields are filled
+pub made_filled : {known : KnownRoots} {heap new : HeapWords} {logs : CollectionWords} {now : State} {m kind count : ℕ} {d : SlotName} {reply : Reply} (fields : List SlotName) (after : State) → AfterFirst known heap new logs now m (New d kind count) reply → d.index < 16 → count ≡ length fields → (reply ≡ replies.Full → ⊥)
+    → fill_step (open_state new logs) m d 0 fields ≡ after → (new_from_step now m d kind fields ≡ (reply, after)) × KnowsRoots (forgetting known) after
+made_filled {known} {heap} {new} {logs} {now} {m} {kind} {count} {d} {reply} fields after k low same other fill =
+    let old = open_state heap logs in
+    let made = open_state new logs in
+    let step = made_from old made after m kind d fields reply (counted old made m kind count d fields reply same k.performs) other fill in
+    (subst (λ s. new_from_step s m d kind fields ≡ (reply, after)) k.before step, from_knows known old after m kind d fields reply low k.mutator step k.knows)

@@ -17,11 +17,12 @@ use Rattle.gc_copy.proofs.Public.{idle_left, still_unlinked}
 use Rattle.gc_core.specs.Internal.KnownRoots.{KnowsRoots}
 use Rattle.gc_core.specs.Writing.{is_number_word, numbers_step, put_numbers_step}
 use Rattle.gc_core.specs.declared.known.KnownRoots.{KnownRoots}
-use Rattle.gc_core.proofs.Marks.{number_knows}
+use Rattle.gc_core.proofs.Marks.{forgetting}
+use Rattle.gc_core.proofs.OtherCommands.{plain_put_knows}
 
 -- ---- what is known of the roots
 
-pub forgotten : (known : KnownRoots) (s : State) → KnowsRoots known s → KnowsRoots (record { slots = 0; extra = known.extra; used = known.used; count = known.count }) s
+pub forgotten : (known : KnownRoots) (s : State) → KnowsRoots known s → KnowsRoots (forgetting known) s
 forgotten known s k = grind (arith, common_steps)
 
 pub numbers_know : (numbers : List ℕ) (known : KnownRoots) (s : State) (m i : ℕ) (d t : SlotName) → t.index < 16 → m < s.mutators → KnowsRoots known s → KnowsRoots known (numbers_step s m d t i numbers)
@@ -29,7 +30,7 @@ numbers_know [] known s m i d t low less k = k
 numbers_know (n ∷ rest) known s m i d t low less k =
     let one = mutate s m (ops.Num t n) in
     let two = mutate one.1 m (ops.Put d i t) in
-    numbers_know rest known two.1 m (suc i) d t low less (number_knows known s one.1 two.1 m i n d t one.0 two.0 low less refl refl k)
+    numbers_know rest known two.1 m (suc i) d t low less (plain_put_knows known s one.1 two.1 m i (ops.Num t n) d t one.0 two.0 tt low less refl refl k)
 
 -- ---- while no collection is open
 

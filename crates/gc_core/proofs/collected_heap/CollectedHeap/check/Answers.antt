@@ -1,9 +1,9 @@
 -- Taking the mark from the links does not change the pair, so what the checker says of it holds of the open collection's pair.
 use Rattle.std.proofs.lemmas.Grind.{common_steps}
-use Rattle.std.proofs.Common.{Result, subst, arith}
+use Rattle.std.proofs.Common.{Result, arith}
 use Rattle.std.specs.Prelude.{IfOk}
 use Rattle.gc_core.specs.Flip.{IsCertified}
-use Rattle.gc_core.proofs.KeptPair.{pair_now, same_pair}
+use Rattle.gc_core.proofs.KeptPair.{pair_unmarked}
 use Rattle.gc_core.proofs.collected_heap.CollectedHeap.check.Goals as goal
 
 -- what holds of each value that is returned, holds if something else does
@@ -11,11 +11,7 @@ if_ok : {X Y : Type 0} (P Q : X → Type 0) (r : Result X Y) → ((x : X) → P 
 if_ok P Q r f h = grind (arith, common_steps)
 
 pub returns-clause-asked : goal.returns-clause-asked
-returns-clause-asked g c = if_ok _ _ c.found_by.result (λ found said pairs told.
-    pair_now (g.C.Checks.says_yes c.args.checker.now) c.self.inside.heap c.self.inside.collection c.in-Some.collection c.args.self.now c.in-Some.is c.self.view_is
-    (subst (g.C.Checks.says_yes c.args.checker.now) (same_pair c.self.inside.heap c.unmark.new.heap c.in-Some.collection c.unmark.new.self c.unmark.ensures.state c.unmark.ensures.unmarked) said)) c.found_by.ensures.asked
+returns-clause-asked g c = if_ok _ _ c.found_by.result (λ found said pairs told. pair_unmarked (g.C.Checks.says_yes c.args.checker.now) c.self.inside.heap c.unmark.new.heap c.self.inside.collection c.in-Some.collection c.unmark.new.self c.args.self.now c.in-Some.is c.self.view_is c.unmark.ensures.state c.unmark.ensures.unmarked said) c.found_by.ensures.asked
 
 pub returns-clause-sound : goal.returns-clause-sound
-returns-clause-sound g c = if_ok _ _ c.found_by.result (λ found holds pairs told.
-    pair_now IsCertified c.self.inside.heap c.self.inside.collection c.in-Some.collection c.args.self.now c.in-Some.is c.self.view_is
-    (subst IsCertified (same_pair c.self.inside.heap c.unmark.new.heap c.in-Some.collection c.unmark.new.self c.unmark.ensures.state c.unmark.ensures.unmarked) holds)) c.found_by.ensures.certified
+returns-clause-sound g c = if_ok _ _ c.found_by.result (λ found holds pairs told. pair_unmarked IsCertified c.self.inside.heap c.unmark.new.heap c.self.inside.collection c.in-Some.collection c.unmark.new.self c.args.self.now c.in-Some.is c.self.view_is c.unmark.ensures.state c.unmark.ensures.unmarked holds) c.found_by.ensures.certified

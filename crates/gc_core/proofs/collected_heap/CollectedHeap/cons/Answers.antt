@@ -3,87 +3,75 @@ use Rattle.std.proofs.lemmas.Grind.{common_steps}
 use Rattle.std.proofs.Common.{◌≡◌, ◌<◌, refl, sym, ap, ◌∙◌, subst, arith, [], ◌∷◌}
 use Rattle.std.specs.Option.{option_map}
 use Rattle.gc_graph.specs.declared.command.Op.TheVariants.{New, Put}
+use Rattle.gc_graph.specs.declared.reply.Reply.TheVariants.{Full}
 use Rattle.gc_graph.specs.Slots.{place}
 use Rattle.gc_words.specs.Space.{end_of}
 use Rattle.gc_heap.specs.Filling.{TakesFields}
 use Rattle.gc_heap.specs.Heap.{HeapWords}
 use Rattle.gc_plan.specs.State.{State}
 use Rattle.gc_copy.specs.Words.{collection_in, state_of, open_state}
-use Rattle.gc_copy.proofs.Public.{open_left}
-use Rattle.gc_core.specs.Internal.CollectedHeap.{Fits}
-use Rattle.gc_core.specs.Internal.KnownRoots.{KnowsRoots}
-use Rattle.gc_core.proofs.Marks.{from_knows, with_row}
 use Rattle.gc_core.specs.CollectedHeap.{new_from_step}
-use Rattle.gc_core.proofs.NewFrom.{made_from, full_from, filled_two, opened_at}
+use Rattle.gc_core.specs.Internal.KnownRoots.{KnowsRoots}
+use Rattle.gc_core.proofs.Marks.{forgetting, from_knows, with_row}
+use Rattle.gc_core.proofs.NewFrom.{made_from, filled_two, made_full, made_filled}
 use Rattle.gc_core.proofs.OtherCommands.{idle_mutated}
+use Rattle.gc_core.proofs.Reserved.{AfterFirst, after_first, reserved}
 use Rattle.gc_core.proofs.collected_heap.CollectedHeap.cons.Goals as goal
+use Rattle.gc_core.proofs.collected_heap.CollectedHeap.cons.Goals.{After-new_object-made-2, After-fill_field-second-2}
+
+-- the `New`, while a collection is open
+made : (c : After-new_object-made-2) → AfterFirst c.self.inside.known c.self.inside.heap c.new_object-made-2.new.self c.reserve_more.new.self c.args.self.now c.args.m (New c.args.d c.args.kind 2) c.new_object-made-2.result
+made c = after_first c.self.inside.epoch c.self.inside.known c.self.inside.heap c.new_object-made-2.new.self c.self.inside.collection c.in-Some.collection c.reserve_more.new.self c.args.self.now c.args.m (New c.args.d c.args.kind 2) c.new_object-made-2.result (λ none. none) c.in-Some.is c.in_ok-reserve_more.ensures.collection c.in_ok-reserve_more.ensures.belongs
+    c.self.view_is c.requires c.space.ensures.sound c.new_object-made-2.ensures.performs c.self.invariant
+
+-- what it made takes two fields
+takes : (c : After-new_object-made-2) → (c.new_object-made-2.result ≡ Full → ⊥) → TakesFields c.new_object-made-2.new.self (place c.args.d c.args.m) c.end.result 2
+takes c other = subst (λ a. TakesFields c.new_object-made-2.new.self (place c.args.d c.args.m) a 2) (sym (c.end.ensures.value ∙ ap end_of c.space.ensures.value)) (c.new_object-made-2.ensures.fields other)
 
 pub returns-in_default : goal.returns-in_default
 returns-in_default = grind (arith, common_steps, idle_mutated, made_from, filled_two)
 
 pub invariant_of-self-in-Full-made : goal.invariant_of-self-in-Full-made
-invariant_of-self-in-Full-made c = with_row c.self.invariant.2 (
-    let made = open_left c.self.inside.heap c.new_object-made-2.new.self c.reserve_more.new.self c.args.m (New c.args.d c.args.kind 2) c.new_object-made-2.result c.space.ensures.sound
-    (c.in_ok-reserve_more.ensures.belongs c.self.inside.heap (subst (Fits c.self.inside.epoch c.self.inside.heap) c.in-Some.is c.self.invariant.0)) (λ none. none) c.new_object-made-2.ensures.performs in
-    let less : c.args.m < c.self.inside.heap.mutators = subst (λ (s : State). c.args.m < s.mutators) (sym c.self.view_is) c.requires in
-    let before = opened_at c.self.inside.heap c.self.inside.collection c.in-Some.collection c.reserve_more.new.self (state_of c.self.inside.heap (option_map collection_in c.self.inside.collection)) c.in-Some.is c.in_ok-reserve_more.ensures.collection refl in
-    let after = open_state c.new_object-made-2.new.self c.reserve_more.new.self in (
-      made.1,
-      from_knows c.self.inside.known (open_state c.self.inside.heap c.reserve_more.new.self) after c.args.m c.args.kind c.args.d (c.args.s ∷ c.args.t ∷ []) c.new_object-made-2.result (omega (arith, c.index.ensures.value, c.index.ensures.bound)) less
-          (full_from (open_state c.self.inside.heap c.reserve_more.new.self) after c.args.m c.args.kind c.args.d (c.args.s ∷ c.args.t ∷ []) c.new_object-made-2.result made.0 c.in-Full-made.is)
-          (subst (KnowsRoots c.self.inside.known) (sym before) c.self.invariant.1),
-    )
-    )
+invariant_of-self-in-Full-made c =
+    let k = made (goal.at.invariant_of-self-in-Full-made c).After-new_object-made-2 in
+    (k.belongs, (made_full (c.args.s ∷ c.args.t ∷ []) k (omega (arith, c.index.ensures.value, c.index.ensures.bound)) refl c.in-Full-made.is).1, c.self.invariant.2)
 
 pub returns-in-Full-made-clause-step : goal.returns-in-Full-made-clause-step
 returns-in-Full-made-clause-step c =
-    let made = open_left c.self.inside.heap c.new_object-made-2.new.self c.reserve_more.new.self c.args.m (New c.args.d c.args.kind 2) c.new_object-made-2.result c.space.ensures.sound
-    (c.in_ok-reserve_more.ensures.belongs c.self.inside.heap (subst (Fits c.self.inside.epoch c.self.inside.heap) c.in-Some.is c.self.invariant.0)) (λ none. none) c.new_object-made-2.ensures.performs in
-    let before = opened_at c.self.inside.heap c.self.inside.collection c.in-Some.collection c.reserve_more.new.self c.args.self.now c.in-Some.is c.in_ok-reserve_more.ensures.collection c.self.view_is in
-    let after = open_state c.new_object-made-2.new.self c.reserve_more.new.self in
-    subst (λ x. new_from_step x c.args.m c.args.d c.args.kind (c.args.s ∷ c.args.t ∷ []) ≡ (c.new_object-made-2.result, after)) before
-    (full_from (open_state c.self.inside.heap c.reserve_more.new.self) after c.args.m c.args.kind c.args.d (c.args.s ∷ c.args.t ∷ []) c.new_object-made-2.result made.0 c.in-Full-made.is)
+    let k = made (goal.at.returns-in-Full-made-clause-step c).After-new_object-made-2 in
+    (made_full (c.args.s ∷ c.args.t ∷ []) k (omega (arith, c.index.ensures.value, c.index.ensures.bound)) refl c.in-Full-made.is).0
 
 pub fill_field-first-requires-2 : goal.fill_field-first-requires-2
 fill_field-first-requires-2 c =
-    let made = open_left c.self.inside.heap c.new_object-made-2.new.self c.reserve_more.new.self c.args.m (New c.args.d c.args.kind 2) c.new_object-made-2.result c.space.ensures.sound
-    (c.in_ok-reserve_more.ensures.belongs c.self.inside.heap (subst (Fits c.self.inside.epoch c.self.inside.heap) c.in-Some.is c.self.invariant.0)) (λ none. none) c.new_object-made-2.ensures.performs in
-    let count : c.new_object-made-2.new.self.mutators ≡ c.args.self.now.mutators = c.new_object-made-2.ensures.performs.mutators ∙ ap (λ (s : State). s.mutators) c.self.view_is in
-    let room = c.in_ok-reserve_more.ensures.room in
-    let at : end_of c.self.inside.heap.space ≡ c.end.result = sym (c.end.ensures.value ∙ ap end_of c.space.ensures.value) in
-    let takes : TakesFields c.new_object-made-2.new.self (place c.args.d c.args.m) c.end.result 2
-    = subst (λ a. TakesFields c.new_object-made-2.new.self (place c.args.d c.args.m) a 2) at (c.new_object-made-2.ensures.fields c.in_default-made-2.not-Full) in
-    record { belongs = made.1; mutator = omega (arith, count, c.requires); room = omega (arith, room); field = (2, takes, omega arith) }
+    let m = (goal.at.fill_field-first-requires-2 c).After-new_object-made-2 in
+    let k = made m in
+    record { belongs = k.belongs; mutator = omega (arith, k.mutators, c.requires); room = omega (arith, c.in_ok-reserve_more.ensures.room); field = (2, takes m c.in_default-made-2.not-Full, omega arith) }
 
 pub fill_field-second-requires-2 : goal.fill_field-second-requires-2
 fill_field-second-requires-2 c =
-    let count : c.new_object-made-2.new.self.mutators ≡ c.args.self.now.mutators = c.new_object-made-2.ensures.performs.mutators ∙ ap (λ (s : State). s.mutators) c.self.view_is in
-    let at : end_of c.self.inside.heap.space ≡ c.end.result = sym (c.end.ensures.value ∙ ap end_of c.space.ensures.value) in
-    let takes : TakesFields c.new_object-made-2.new.self (place c.args.d c.args.m) c.end.result 2
-    = subst (λ a. TakesFields c.new_object-made-2.new.self (place c.args.d c.args.m) a 2) at (c.new_object-made-2.ensures.fields c.in_default-made-2.not-Full) in
+    let m = (goal.at.fill_field-second-requires-2 c).After-new_object-made-2 in
     record {
       belongs = c.fill_field-first-2.ensures.belongs;
-      mutator = omega (arith, count, c.fill_field-first-2.ensures.mutators, c.requires);
+      mutator = omega (arith, (made m).mutators, c.fill_field-first-2.ensures.mutators, c.requires);
       room = omega (arith, c.in_ok-reserve_more.ensures.room, c.fill_field-first-2.ensures.spare);
-      field = (2, c.fill_field-first-2.ensures.fields 2 takes, omega arith);
+      field = (2, c.fill_field-first-2.ensures.fields 2 (takes m c.in_default-made-2.not-Full), omega arith);
     }
 
-pub returns : goal.returns
-returns c =
-    let made = open_left c.self.inside.heap c.new_object-made-2.new.self c.reserve_more.new.self c.args.m (New c.args.d c.args.kind 2) c.new_object-made-2.result c.space.ensures.sound
-    (c.in_ok-reserve_more.ensures.belongs c.self.inside.heap (subst (Fits c.self.inside.epoch c.self.inside.heap) c.in-Some.is c.self.invariant.0)) (λ none. none) c.new_object-made-2.ensures.performs in
-    let before = opened_at c.self.inside.heap c.self.inside.collection c.in-Some.collection c.reserve_more.new.self c.args.self.now c.in-Some.is c.in_ok-reserve_more.ensures.collection c.self.view_is in
+-- all three commands, and what is known after them
+filled : (c : After-fill_field-second-2) → AfterFirst c.self.inside.known c.self.inside.heap c.new_object-made-2.new.self c.reserve_more.new.self c.args.self.now c.args.m (New c.args.d c.args.kind 2) c.new_object-made-2.result
+    → (new_from_step c.args.self.now c.args.m c.args.d c.args.kind (c.args.s ∷ c.args.t ∷ []) ≡ (c.new_object-made-2.result, open_state c.fill_field-second-2.new.heap c.fill_field-second-2.new.self))
+    × KnowsRoots (forgetting c.self.inside.known) (open_state c.fill_field-second-2.new.heap c.fill_field-second-2.new.self)
+filled c k =
     let one = c.fill_field-first-2 in
     let two = c.fill_field-second-2 in
     let after = open_state two.new.heap two.new.self in
-    record {
-      step = subst (λ x. new_from_step x c.args.m c.args.d c.args.kind (c.args.s ∷ c.args.t ∷ []) ≡ (c.new_object-made-2.result, after)) before
-          (made_from (open_state c.self.inside.heap c.reserve_more.new.self) (open_state c.new_object-made-2.new.self c.reserve_more.new.self) after c.args.m c.args.kind c.args.d (c.args.s ∷ c.args.t ∷ []) c.new_object-made-2.result made.0 c.in_default-made-2.not-Full
-          (filled_two (open_state c.new_object-made-2.new.self c.reserve_more.new.self) (open_state one.new.heap one.new.self) after c.args.m c.args.d c.args.s c.args.t one.result two.result one.ensures.step two.ensures.step));
-      refused = tt;
-      «open» = tt;
-      mutators = two.ensures.mutators ∙ one.ensures.mutators ∙ c.new_object-made-2.ensures.performs.mutators ∙ ap (λ (s : State). s.mutators) c.self.view_is;
-    }
+    made_filled (c.args.s ∷ c.args.t ∷ []) after k (omega (arith, c.index.ensures.value, c.index.ensures.bound)) refl c.in_default-made-2.not-Full
+    (filled_two (open_state c.new_object-made-2.new.self c.reserve_more.new.self) (open_state one.new.heap one.new.self) after c.args.m c.args.d c.args.s c.args.t one.result two.result one.ensures.step two.ensures.step)
+
+pub returns : goal.returns
+returns c =
+    let k = made (goal.at.returns c).After-new_object-made-2 in
+    record { step = (filled c k).0; refused = tt; «open» = tt; mutators = c.fill_field-second-2.ensures.mutators ∙ c.fill_field-first-2.ensures.mutators ∙ k.mutators }
 
 pub invariant_of-self-in_default : goal.invariant_of-self-in_default
 invariant_of-self-in_default c = with_row c.self.invariant.2 (
@@ -103,24 +91,7 @@ invariant_of-self-in_default c = with_row c.self.invariant.2 (
     )
 
 pub invariant_of-self-2 : goal.invariant_of-self-2
-invariant_of-self-2 c = with_row c.self.invariant.2 (
-    let less : c.args.m < c.self.inside.heap.mutators = subst (λ (s : State). c.args.m < s.mutators) (sym c.self.view_is) c.requires in
-    let made = open_left c.self.inside.heap c.new_object-made-2.new.self c.reserve_more.new.self c.args.m (New c.args.d c.args.kind 2) c.new_object-made-2.result c.space.ensures.sound
-    (c.in_ok-reserve_more.ensures.belongs c.self.inside.heap (subst (Fits c.self.inside.epoch c.self.inside.heap) c.in-Some.is c.self.invariant.0)) (λ none. none) c.new_object-made-2.ensures.performs in
-    let before = opened_at c.self.inside.heap c.self.inside.collection c.in-Some.collection c.reserve_more.new.self (state_of c.self.inside.heap (option_map collection_in c.self.inside.collection)) c.in-Some.is c.in_ok-reserve_more.ensures.collection refl in
-    let one = c.fill_field-first-2 in
-    let two = c.fill_field-second-2 in
-    let after = open_state two.new.heap two.new.self in (
-      two.ensures.belongs,
-      from_knows c.self.inside.known (open_state c.self.inside.heap c.reserve_more.new.self) after c.args.m c.args.kind c.args.d (c.args.s ∷ c.args.t ∷ []) c.new_object-made-2.result (omega (arith, c.index.ensures.value, c.index.ensures.bound)) less
-          (made_from (open_state c.self.inside.heap c.reserve_more.new.self) (open_state c.new_object-made-2.new.self c.reserve_more.new.self) after c.args.m c.args.kind c.args.d (c.args.s ∷ c.args.t ∷ []) c.new_object-made-2.result made.0 c.in_default-made-2.not-Full
-          (filled_two (open_state c.new_object-made-2.new.self c.reserve_more.new.self) (open_state one.new.heap one.new.self) after c.args.m c.args.d c.args.s c.args.t one.result two.result one.ensures.step two.ensures.step))
-          (subst (KnowsRoots c.self.inside.known) (sym before) c.self.invariant.1),
-    )
-    )
+invariant_of-self-2 c = (c.fill_field-second-2.ensures.belongs, (filled c (made (goal.at.invariant_of-self-2 c).After-new_object-made-2)).1, c.self.invariant.2)
 
 pub invariant_of-self-in_err-reserve_more : goal.invariant_of-self-in_err-reserve_more
-invariant_of-self-in_err-reserve_more c = with_row c.self.invariant.2 (
-    let before = opened_at c.self.inside.heap c.self.inside.collection c.in-Some.collection c.reserve_more.new.self (state_of c.self.inside.heap (option_map collection_in c.self.inside.collection)) c.in-Some.is c.in_err-reserve_more.ensures.collection refl in
-    (c.in_err-reserve_more.ensures.belongs c.self.inside.heap (subst (Fits c.self.inside.epoch c.self.inside.heap) c.in-Some.is c.self.invariant.0), subst (KnowsRoots c.self.inside.known) (sym before) c.self.invariant.1)
-    )
+invariant_of-self-in_err-reserve_more c = reserved c.self.inside.epoch c.self.inside.known c.self.inside.heap c.self.inside.collection c.in-Some.collection c.reserve_more.new.self c.in-Some.is c.in_err-reserve_more.ensures.collection c.in_err-reserve_more.ensures.belongs c.self.invariant

@@ -1,115 +1,71 @@
 -- A `New` that is `Full` ends the call; else one `Put` for each slot follows, and what is known of extra roots is still true.
-use Rattle.std.proofs.Common.{◌≡◌, ◌<◌, length, refl, sym, ap, ◌∙◌, subst, arith, None}
+use Rattle.std.proofs.Common.{◌≡◌, ◌<◌, length, sym, ap, ◌∙◌, subst, arith}
 use Rattle.gc_graph.specs.Slots.{place}
+use Rattle.gc_graph.specs.declared.command.Op.TheVariants.{New}
 use Rattle.gc_words.specs.Space.{end_of}
 use Rattle.gc_heap.specs.Filling.{TakesFields}
 use Rattle.gc_plan.specs.State.{State}
-use Rattle.std.specs.Option.{option_map}
-use Rattle.gc_copy.specs.Words.{collection_in, state_of, open_state, idle_state}
-use Rattle.gc_core.specs.declared.known.KnownRoots.{KnownRoots}
-use Rattle.gc_copy.proofs.Public.{idle_left, open_left, still_unlinked}
-use Rattle.gc_core.specs.Internal.CollectedHeap.{Fits}
-use Rattle.gc_core.specs.Internal.KnownRoots.{KnowsRoots}
-use Rattle.gc_core.proofs.Marks.{from_knows, with_row}
+use Rattle.gc_copy.specs.Words.{open_state, idle_state}
+use Rattle.gc_copy.proofs.Public.{idle_left, still_unlinked}
 use Rattle.gc_core.specs.CollectedHeap.{new_from_step}
-use Rattle.gc_core.proofs.NewFrom.{counted, made_from, full_from, opened_at}
+use Rattle.gc_core.specs.Internal.KnownRoots.{KnowsRoots}
+use Rattle.gc_core.proofs.Marks.{forgetting, from_knows}
+use Rattle.gc_core.proofs.NewFrom.{counted, made_from, made_full, made_filled}
+use Rattle.gc_core.proofs.Reserved.{AfterFirst, after_first, none_open, reserved}
+use Rattle.gc_core.proofs.collected_heap.CollectedHeap.new_from.Given as given
 use Rattle.gc_core.proofs.collected_heap.CollectedHeap.new_from.Goals as goal
+use Rattle.gc_core.proofs.collected_heap.CollectedHeap.new_from.Goals.{After-fill_and_log, After-new_object-made-2}
+
+-- the `New`, while a collection is open
+made : (g : given.Over) (c : After-new_object-made-2 g) → AfterFirst c.self.inside.known c.self.inside.heap c.new_object-made-2.new.self c.reserve_more.new.self c.args.self.now c.args.m (New c.args.d c.args.kind c.count-count.result) c.new_object-made-2.result
+made g c = after_first c.self.inside.epoch c.self.inside.known c.self.inside.heap c.new_object-made-2.new.self c.self.inside.collection c.in-Some.collection c.reserve_more.new.self c.args.self.now c.args.m (New c.args.d c.args.kind c.count-count.result) c.new_object-made-2.result (λ none. none)
+    c.in-Some.is c.in_ok-reserve_more.ensures.collection c.in_ok-reserve_more.ensures.belongs c.self.view_is c.requires.mutator c.space.ensures.sound c.new_object-made-2.ensures.performs c.self.invariant
 
 pub invariant_of-self-in-Full-made : goal.invariant_of-self-in-Full-made
-invariant_of-self-in-Full-made g c = with_row c.self.invariant.2 (
-    let made = open_left c.self.inside.heap c.new_object-made-2.new.self c.reserve_more.new.self c.args.m _ c.new_object-made-2.result c.space.ensures.sound
-    (c.in_ok-reserve_more.ensures.belongs c.self.inside.heap (subst (Fits c.self.inside.epoch c.self.inside.heap) c.in-Some.is c.self.invariant.0)) (λ none. none) c.new_object-made-2.ensures.performs in
-    let less : c.args.m < c.self.inside.heap.mutators = subst (λ (s : State). c.args.m < s.mutators) (sym c.self.view_is) c.requires.mutator in
-    let before = opened_at c.self.inside.heap c.self.inside.collection c.in-Some.collection c.reserve_more.new.self (state_of c.self.inside.heap (option_map collection_in c.self.inside.collection)) c.in-Some.is c.in_ok-reserve_more.ensures.collection refl in
-    let after = open_state c.new_object-made-2.new.self c.reserve_more.new.self in
-    let fields = g.R.SlotRow.slots c.args.fields.now in
-    let first = counted (open_state c.self.inside.heap c.reserve_more.new.self) after c.args.m c.args.kind c.count-count.result c.args.d fields c.new_object-made-2.result c.count-count.ensures made.0 in (
-      made.1,
-      from_knows c.self.inside.known (open_state c.self.inside.heap c.reserve_more.new.self) after c.args.m c.args.kind c.args.d fields c.new_object-made-2.result (omega (arith, c.index.ensures.value, c.index.ensures.bound)) less
-          (full_from (open_state c.self.inside.heap c.reserve_more.new.self) after c.args.m c.args.kind c.args.d fields c.new_object-made-2.result first c.in-Full-made.is)
-          (subst (KnowsRoots c.self.inside.known) (sym before) c.self.invariant.1),
-    )
-    )
+invariant_of-self-in-Full-made g c =
+    let k = made g (goal.at.invariant_of-self-in-Full-made g c).After-new_object-made-2 in
+    (k.belongs, (made_full (g.R.SlotRow.slots c.args.fields.now) k (omega (arith, c.index.ensures.value, c.index.ensures.bound)) c.count-count.ensures c.in-Full-made.is).1, c.self.invariant.2)
 
 pub returns-in-Full-made-clause-step : goal.returns-in-Full-made-clause-step
 returns-in-Full-made-clause-step g c =
-    let made = open_left c.self.inside.heap c.new_object-made-2.new.self c.reserve_more.new.self c.args.m _ c.new_object-made-2.result c.space.ensures.sound
-    (c.in_ok-reserve_more.ensures.belongs c.self.inside.heap (subst (Fits c.self.inside.epoch c.self.inside.heap) c.in-Some.is c.self.invariant.0)) (λ none. none) c.new_object-made-2.ensures.performs in
-    let before = opened_at c.self.inside.heap c.self.inside.collection c.in-Some.collection c.reserve_more.new.self c.args.self.now c.in-Some.is c.in_ok-reserve_more.ensures.collection c.self.view_is in
-    let after = open_state c.new_object-made-2.new.self c.reserve_more.new.self in
-    let fields = g.R.SlotRow.slots c.args.fields.now in
-    let first = counted (open_state c.self.inside.heap c.reserve_more.new.self) (open_state c.new_object-made-2.new.self c.reserve_more.new.self) c.args.m c.args.kind c.count-count.result c.args.d fields c.new_object-made-2.result c.count-count.ensures made.0 in
-    subst (λ x. new_from_step x c.args.m c.args.d c.args.kind fields ≡ (c.new_object-made-2.result, after)) before
-    (full_from (open_state c.self.inside.heap c.reserve_more.new.self) after c.args.m c.args.kind c.args.d fields c.new_object-made-2.result first c.in-Full-made.is)
+    let k = made g (goal.at.returns-in-Full-made-clause-step g c).After-new_object-made-2 in
+    (made_full (g.R.SlotRow.slots c.args.fields.now) k (omega (arith, c.index.ensures.value, c.index.ensures.bound)) c.count-count.ensures c.in-Full-made.is).0
 
 pub fill_and_log-requires : goal.fill_and_log-requires
 fill_and_log-requires g c =
-    let made = open_left c.self.inside.heap c.new_object-made-2.new.self c.reserve_more.new.self c.args.m _ c.new_object-made-2.result c.space.ensures.sound
-    (c.in_ok-reserve_more.ensures.belongs c.self.inside.heap (subst (Fits c.self.inside.epoch c.self.inside.heap) c.in-Some.is c.self.invariant.0)) (λ none. none) c.new_object-made-2.ensures.performs in
-    let count : c.new_object-made-2.new.self.mutators ≡ c.args.self.now.mutators = c.new_object-made-2.ensures.performs.mutators ∙ ap (λ (s : State). s.mutators) c.self.view_is in
-    let mutator = c.requires.mutator in
-    let same = c.count-count.ensures in let from = c.from.ensures in
-    let room = c.in_ok-reserve_more.ensures.room in
+    let k = made g (goal.at.fill_and_log-requires g c).After-new_object-made-2 in
+    let same = c.count-count.ensures in
     let at : end_of c.self.inside.heap.space ≡ c.end.result = sym (c.end.ensures.value ∙ ap end_of c.space.ensures.value) in
     let takes : TakesFields c.new_object-made-2.new.self (place c.args.d c.args.m) c.end.result (length (g.R.SlotRow.slots c.args.fields.now))
     = subst (λ n. TakesFields c.new_object-made-2.new.self (place c.args.d c.args.m) c.end.result n) same
     (subst (λ a. TakesFields c.new_object-made-2.new.self (place c.args.d c.args.m) a c.count-count.result) at (c.new_object-made-2.ensures.fields c.in_default-made-2.not-Full)) in
-    record { belongs = made.1; mutator = omega (arith, count, mutator); row = c.requires.row; takes = takes; room = omega (arith, same, from, room) }
+    record { belongs = k.belongs; mutator = omega (arith, k.mutators, c.requires.mutator); row = c.requires.row; takes = takes; room = omega (arith, same, c.from.ensures, c.in_ok-reserve_more.ensures.room) }
+
+-- all commands, and what is known after them
+filled : (g : given.Over) (c : After-fill_and_log g) → AfterFirst c.self.inside.known c.self.inside.heap c.new_object-made-2.new.self c.reserve_more.new.self c.args.self.now c.args.m (New c.args.d c.args.kind c.count-count.result) c.new_object-made-2.result
+    → (new_from_step c.args.self.now c.args.m c.args.d c.args.kind (g.R.SlotRow.slots c.args.fields.now) ≡ (c.new_object-made-2.result, open_state c.fill_and_log.new.heap c.fill_and_log.new.collection)) × KnowsRoots (forgetting c.self.inside.known) (open_state c.fill_and_log.new.heap c.fill_and_log.new.collection)
+filled g c k = made_filled (g.R.SlotRow.slots c.args.fields.now) (open_state c.fill_and_log.new.heap c.fill_and_log.new.collection) k (omega (arith, c.index.ensures.value, c.index.ensures.bound)) c.count-count.ensures c.in_default-made-2.not-Full c.fill_and_log.ensures.step
 
 pub returns : goal.returns
 returns g c =
-    let made = open_left c.self.inside.heap c.new_object-made-2.new.self c.reserve_more.new.self c.args.m _ c.new_object-made-2.result c.space.ensures.sound
-    (c.in_ok-reserve_more.ensures.belongs c.self.inside.heap (subst (Fits c.self.inside.epoch c.self.inside.heap) c.in-Some.is c.self.invariant.0)) (λ none. none) c.new_object-made-2.ensures.performs in
-    let before = opened_at c.self.inside.heap c.self.inside.collection c.in-Some.collection c.reserve_more.new.self c.args.self.now c.in-Some.is c.in_ok-reserve_more.ensures.collection c.self.view_is in
-    let filled = c.fill_and_log in
-    let after = open_state filled.new.heap filled.new.collection in
-    let fields = g.R.SlotRow.slots c.args.fields.now in
-    let first = counted (open_state c.self.inside.heap c.reserve_more.new.self) (open_state c.new_object-made-2.new.self c.reserve_more.new.self) c.args.m c.args.kind c.count-count.result c.args.d fields c.new_object-made-2.result c.count-count.ensures made.0 in
-    record {
-      step = subst (λ x. new_from_step x c.args.m c.args.d c.args.kind fields ≡ (c.new_object-made-2.result, after)) before
-          (made_from (open_state c.self.inside.heap c.reserve_more.new.self) (open_state c.new_object-made-2.new.self c.reserve_more.new.self) after c.args.m c.args.kind c.args.d fields c.new_object-made-2.result first c.in_default-made-2.not-Full filled.ensures.step);
-      refused = tt;
-      «open» = tt;
-      mutators = filled.ensures.mutators ∙ c.new_object-made-2.ensures.performs.mutators ∙ ap (λ (s : State). s.mutators) c.self.view_is;
-    }
+    let k = made g (goal.at.returns g c).After-new_object-made-2 in
+    record { step = (filled g c k).0; refused = tt; «open» = tt; mutators = c.fill_and_log.ensures.mutators ∙ k.mutators }
 
 pub invariant_of-self-2 : goal.invariant_of-self-2
-invariant_of-self-2 g c = with_row c.self.invariant.2 (
-    let less : c.args.m < c.self.inside.heap.mutators = subst (λ (s : State). c.args.m < s.mutators) (sym c.self.view_is) c.requires.mutator in
-    let made = open_left c.self.inside.heap c.new_object-made-2.new.self c.reserve_more.new.self c.args.m _ c.new_object-made-2.result c.space.ensures.sound
-    (c.in_ok-reserve_more.ensures.belongs c.self.inside.heap (subst (Fits c.self.inside.epoch c.self.inside.heap) c.in-Some.is c.self.invariant.0)) (λ none. none) c.new_object-made-2.ensures.performs in
-    let before = opened_at c.self.inside.heap c.self.inside.collection c.in-Some.collection c.reserve_more.new.self (state_of c.self.inside.heap (option_map collection_in c.self.inside.collection)) c.in-Some.is c.in_ok-reserve_more.ensures.collection refl in
-    let filled = c.fill_and_log in
-    let after = open_state filled.new.heap filled.new.collection in
-    let fields = g.R.SlotRow.slots c.args.fields.now in
-    let first = counted (open_state c.self.inside.heap c.reserve_more.new.self) (open_state c.new_object-made-2.new.self c.reserve_more.new.self) c.args.m c.args.kind c.count-count.result c.args.d fields c.new_object-made-2.result c.count-count.ensures made.0 in (
-      filled.ensures.belongs,
-      from_knows c.self.inside.known (open_state c.self.inside.heap c.reserve_more.new.self) after c.args.m c.args.kind c.args.d fields c.new_object-made-2.result (omega (arith, c.index.ensures.value, c.index.ensures.bound)) less
-          (made_from (open_state c.self.inside.heap c.reserve_more.new.self) (open_state c.new_object-made-2.new.self c.reserve_more.new.self) after c.args.m c.args.kind c.args.d fields c.new_object-made-2.result first c.in_default-made-2.not-Full filled.ensures.step)
-          (subst (KnowsRoots c.self.inside.known) (sym before) c.self.invariant.1),
-    )
-    )
+invariant_of-self-2 g c = (c.fill_and_log.ensures.belongs, (filled g c (made g (goal.at.invariant_of-self-2 g c).After-new_object-made-2)).1, c.self.invariant.2)
 
 pub invariant_of-self-in_default : goal.invariant_of-self-in_default
-invariant_of-self-in_default g c = with_row c.self.invariant.2 (
+invariant_of-self-in_default g c =
     let heap = c.self.inside.heap in
     let new = c.new_object-made in
     let less : c.args.m < heap.mutators = subst (λ (s : State). c.args.m < s.mutators) (sym c.self.view_is) c.requires.mutator in
-    let none : c.self.inside.collection ≡ None = c.in_default.is in
-    let one = idle_left heap new.new.self c.args.m _ new.result c.space.ensures.sound new.ensures.performs in
     let fields = g.R.SlotRow.slots c.args.fields.now in
-    let first = counted (idle_state heap) (idle_state new.new.self) c.args.m c.args.kind c.count-count.result c.args.d fields new.result c.count-count.ensures one in
-    let after : KnownRoots = record { slots = 0; extra = c.self.inside.known.extra; used = c.self.inside.known.used; count = c.self.inside.known.count } in
-    subst (λ o. Fits c.self.inside.epoch c.fill.new.heap o × KnowsRoots after (state_of c.fill.new.heap (option_map collection_in o))) (sym none) (
-      c.fill.ensures.links c.self.inside.epoch (still_unlinked c.self.inside.epoch heap new.new.self c.args.m _ new.result new.ensures.performs (subst (Fits c.self.inside.epoch heap) none c.self.invariant.0)),
-      from_knows c.self.inside.known (idle_state heap) (idle_state c.fill.new.heap) c.args.m c.args.kind c.args.d fields new.result (omega (arith, c.index.ensures.value, c.index.ensures.bound)) less
-          (made_from (idle_state heap) (idle_state new.new.self) (idle_state c.fill.new.heap) c.args.m c.args.kind c.args.d fields new.result first c.in_default-made.not-Full c.fill.ensures.step)
-          (subst (λ o. KnowsRoots c.self.inside.known (state_of heap (option_map collection_in o))) none c.self.invariant.1),
-    )
-    )
+    let first = counted (idle_state heap) (idle_state new.new.self) c.args.m c.args.kind c.count-count.result c.args.d fields new.result c.count-count.ensures (idle_left heap new.new.self c.args.m _ new.result c.space.ensures.sound new.ensures.performs) in
+    none_open c.self.inside.epoch c.self.inside.known (forgetting c.self.inside.known) heap c.fill.new.heap c.self.inside.collection c.in_default.is
+    (λ links. c.fill.ensures.links c.self.inside.epoch (still_unlinked c.self.inside.epoch heap new.new.self c.args.m _ new.result new.ensures.performs links))
+    (from_knows c.self.inside.known (idle_state heap) (idle_state c.fill.new.heap) c.args.m c.args.kind c.args.d fields new.result (omega (arith, c.index.ensures.value, c.index.ensures.bound)) less
+    (made_from (idle_state heap) (idle_state new.new.self) (idle_state c.fill.new.heap) c.args.m c.args.kind c.args.d fields new.result first c.in_default-made.not-Full c.fill.ensures.step))
+    c.self.invariant
 
 pub invariant_of-self-in_err-reserve_more : goal.invariant_of-self-in_err-reserve_more
-invariant_of-self-in_err-reserve_more g c = with_row c.self.invariant.2 (
-    let before = opened_at c.self.inside.heap c.self.inside.collection c.in-Some.collection c.reserve_more.new.self (state_of c.self.inside.heap (option_map collection_in c.self.inside.collection)) c.in-Some.is c.in_err-reserve_more.ensures.collection refl in
-    (c.in_err-reserve_more.ensures.belongs c.self.inside.heap (subst (Fits c.self.inside.epoch c.self.inside.heap) c.in-Some.is c.self.invariant.0), subst (KnowsRoots c.self.inside.known) (sym before) c.self.invariant.1)
-    )
+invariant_of-self-in_err-reserve_more g c = reserved c.self.inside.epoch c.self.inside.known c.self.inside.heap c.self.inside.collection c.in-Some.collection c.reserve_more.new.self c.in-Some.is c.in_err-reserve_more.ensures.collection c.in_err-reserve_more.ensures.belongs c.self.invariant
