@@ -343,7 +343,7 @@ pub opening_knows : (options : HeapOptions) (heap : HeapWords) (known : KnownRoo
 opening_knows options heap known count empty all_of new = grind (arith, common_steps, length-map, length-replicate, nil_words)
 
 -- after a flip no collection is open
-pub flipped_knows : (known : KnownRoots) (s t : State) (reply : StepReply) → t.collection ≡ None → t.mutators ≡ s.mutators → collect s steps.Flip ≡ (reply, t) → KnowsRoots known s → KnowsRoots known t
+flipped_knows : (known : KnownRoots) (s t : State) (reply : StepReply) → t.collection ≡ None → t.mutators ≡ s.mutators → collect s steps.Flip ≡ (reply, t) → KnowsRoots known s → KnowsRoots known t
 flipped_knows known s t reply none count steps_to k =
     let after : (collect s steps.Flip).1 ≡ t = ap (λ (x : StepReply × State). x.1) steps_to in
     let idle : (p : ℕ) → KnowsRoot t p = λ p. subst (λ o. IfSome o (λ c. HasReplicaOf c (root t.heap.graph p))) (sym none) tt in

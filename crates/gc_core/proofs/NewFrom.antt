@@ -19,7 +19,7 @@ pub made_from : (old made new : State) (m kind : ℕ) (d : SlotName) (fields : L
     → fill_step made m d 0 fields ≡ new → new_from_step old m d kind fields ≡ (reply, new)
 made_from old made new m kind d fields reply first other fill = grind (arith, common_steps)
 
-pub full_from : (old made : State) (m kind : ℕ) (d : SlotName) (fields : List SlotName) (reply : Reply) → mutate old m (New d kind (length fields)) ≡ (reply, made) → reply ≡ replies.Full
+full_from : (old made : State) (m kind : ℕ) (d : SlotName) (fields : List SlotName) (reply : Reply) → mutate old m (New d kind (length fields)) ≡ (reply, made) → reply ≡ replies.Full
     → new_from_step old m d kind fields ≡ (reply, made)
 full_from old made m kind d fields reply first full = grind (arith, common_steps)
 

@@ -21,7 +21,7 @@ pub made_with : (old made new : State) (m kind count : ℕ) (d t : SlotName) (fi
     → sources_step made m d t 0 fields ≡ new → new_with_step old m d kind t fields ≡ (reply, new)
 made_with old made new m kind count d t fields reply same first other fill = grind (arith, common_steps)
 
-pub full_with : (old made : State) (m kind count : ℕ) (d t : SlotName) (fields : List FieldSource) (reply : Reply) → count ≡ length fields → mutate old m (New d kind count) ≡ (reply, made) → reply ≡ replies.Full
+full_with : (old made : State) (m kind count : ℕ) (d t : SlotName) (fields : List FieldSource) (reply : Reply) → count ≡ length fields → mutate old m (New d kind count) ≡ (reply, made) → reply ≡ replies.Full
     → new_with_step old m d kind t fields ≡ (reply, made)
 full_with old made m kind count d t fields reply same first full = grind (arith, common_steps)
 
