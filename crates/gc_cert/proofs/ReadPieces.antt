@@ -13,7 +13,6 @@ use Rattle.gc_cert.specs.Grammar.{CertifiedPair, HasText, lines_of}
 use Rattle.gc_cert.specs.Internal.Sections.{Section, Spelled, MayStop}
 use Rattle.gc_cert.specs.Sections.{Place, HasTaken, start}
 use Rattle.gc_cert.specs.declared.fault.PairFault.{PairFault}
-use Rattle.gc_cert.specs.declared.fault.PairFault.TheVariants.{Read, TooLarge, NoMemory}
 use Rattle.gc_cert.specs.declared.pair_reader.PairReader.{PairReader}
 use Rattle.gc_graph.proofs.Public.{within_all, ends_there}
 use Rattle.gc_cert.proofs.Parts.{TextSection}
