@@ -485,8 +485,9 @@ def doors(_program, _folder):
 
 # ---- lines that the answers of a proof file repeat
 
-# How many lines in a row two declarations may not share, if each begins with `let`.
+# How many lines in a row two declarations may not share, if each begins with `let`. A short name for a path is no fact, and is passed over.
 REPEATED = 3
+SHORT_NAME = re.compile(r"let [\w'-]+ = [\w.'-]+ in$")
 
 
 def repeated_lines(text):
@@ -496,7 +497,8 @@ def repeated_lines(text):
     for line in text.split("\n"):
         if line[:1].strip():
             declaration, lines = declaration + 1, []
-        lines = (lines + [line.strip()])[-REPEATED:]
+        if not SHORT_NAME.match(line.strip()):
+            lines = (lines + [line.strip()])[-REPEATED:]
         if len(lines) == REPEATED and all(each.startswith("let ") for each in lines):
             starts[tuple(lines)].add(declaration)
     yield from (run[0] for run, places in starts.items() if len(places) > 1)
@@ -504,9 +506,10 @@ def repeated_lines(text):
 
 # Two answers, with the first lines of what they repeat.
 TWO_ANSWERS = "use Rattle.a.B.{c}\n\npub a : A\na c =\n%s    d\n\npub b : B\nb c =\n%s    e\n"
-LETS = ["    let p = 1 in\n", "    let q = 2 in\n", "    let r = 3 in\n"]
-ANSWERS = [("".join(LETS), "".join(LETS), ["let p = 1 in"]), ("".join(LETS[:2]), "".join(LETS[:2]), []), ("".join(LETS), "".join(LETS[1:]), []),
-           ("".join(LETS * 2), "", []), ("    f\n" + "".join(LETS), "".join(LETS) + "    g\n", ["let p = 1 in"]), ("    x;\n    y;\n    z;\n", "    x;\n    y;\n    z;\n", [])]
+LETS = ["    let p = f 1 in\n", "    let q : A = a.b in\n", "    let r = g 3 in\n"]
+ANSWERS = [("".join(LETS), "".join(LETS), ["let p = f 1 in"]), ("".join(LETS[:2]), "".join(LETS[:2]), []), ("".join(LETS), "".join(LETS[1:]), []),
+           ("".join(LETS * 2), "", []), ("    f\n" + "".join(LETS), "".join(LETS) + "    g\n", ["let p = f 1 in"]), ("    x;\n    y;\n    z;\n", "    x;\n    y;\n    z;\n", []),
+           ("    let s = a.b in\n" + "".join(LETS), "".join(LETS[:2] + ["    let t = c-d.e in\n"] + LETS[2:]), ["let p = f 1 in"]), ("    let s = a.b in\n" * 3, "    let s = a.b in\n" * 3, [])]
 
 
 def preambles(_program, _folder):
