@@ -13,7 +13,7 @@ ghost use Rattle.gc_graph.specs.declared.reply.Reply.{Reply};
 use super::Collection;
 use crate::laws::commands_leave_collections;
 use crate::log::LogEntry;
-use gc_graph::{Op, Reply, Slot};
+use gc_graph::{Reply, Slot};
 use gc_heap::Heap;
 use gc_words::OldAddr;
 
