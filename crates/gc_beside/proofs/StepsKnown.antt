@@ -18,7 +18,7 @@ use Rattle.gc_along.specs.Events.{Placed, Looked, Applied as AppliedTo, with_due
 use Rattle.gc_along.specs.Tables.{Tables, watch_of}
 use Rattle.gc_beside.specs.Internal.Live.{heap_words, replica_words}
 use Rattle.gc_beside.specs.Knows.{Knows, Marks}
-use Rattle.gc_beside.specs.Stays.{LosesOnly}
+use Rattle.gc_beside.specs.Stays.{LosesOnly, WatchFits}
 use Rattle.gc_beside.proofs.Agree.{replicas_shown}
 use Rattle.gc_beside.proofs.Beside.{pair_stays}
 use Rattle.gc_beside.proofs.Brought.{IsFresh, Brings, brings_none, brings_placed, brings, RootCopied, root_copied, FieldScanned, field_was_scanned, ReplicaPassed, replica_was_passed, entry_was_applied}
@@ -29,9 +29,9 @@ use Rattle.gc_beside.proofs.Known.{KnowsBy, placed_known, looked_is, looked_know
 use Rattle.gc_beside.proofs.Told.{Told, told_placed, told_marked, replica_there}
 
 -- what is known in one sense is known in another, if each field that is due in the first is in the second
-knows_from : (Due : Bool → ℕ → ℕ → ℕ → Type 0) (s : State) (c : Collection) (t : Tables) → KnowsBy Due s c t → s.size ≤ t.room → c.size ≤ t.room
+knows_from : (Due : Bool → ℕ → ℕ → ℕ → Type 0) (s : State) (c : Collection) (t : Tables) → KnowsBy Due s c t → (s.size ≤ t.room) × (c.size ≤ t.room)
     → ((r : Replica) → In r c.replicas → (i : ℕ) → i < length r.object.fields → Due r.object.raw r.place r.original i → IsDue c r.object.raw r.place r.original i) → Knows s c t
-knows_from Due s c t h old_room new_room less = grind (arith, common_steps)
+knows_from Due s c t h rooms less = grind (arith, common_steps)
 
 logged_same : (c next : Collection) (a i : ℕ) → next.logs ≡ c.logs → IsLogged c a i → IsLogged next a i
 logged_same c next a i same (k, l) = (k, subst (λ logs. In {X = ℕ × ℕ} (a, i) (unwrap_or (slice_get logs k) [])) (sym same) l)
@@ -46,6 +46,22 @@ log_out : (logs : List (List (ℕ × ℕ))) (m : ℕ) (entry : ℕ × ℕ) (rest
 log_out logs m entry rest k e is l = grind (arith, common_steps, cases_eq, get_set_same, get_set_other, get_past)
 
 module _ (s : State) (c next : Collection) (t : Tables) (links : ℕ → ℕ) (heap : IsSpaceGraph s.size s.heap.free s.heap.graph) (before : IsOpened s c) (opened : IsOpened s next) (goes : Goes s c (watch_of t)) (knows : Knows s c t) where
+  -- the tables still have room for both spaces
+  rooms : (after : Tables) → after.room ≡ t.room → next.size ≡ c.size → (s.size ≤ after.room) × (next.size ≤ after.room)
+  rooms after room size = (let old_room : s.size ≤ t.room = knows.old_room in let new_room : c.size ≤ t.room = knows.new_room in (omega arith, omega arith))
+
+  -- a field of a replica was looked at, which is due no more
+  looked_at : (mid after : Tables) (q : Replica) (b i : ℕ) → Told (heap_end s) c next t mid → KnowsBy (IsDue c) s next mid × (mid.room ≡ t.room) → next.size ≡ c.size → In q next.replicas → q.place ≡ b → i < length q.object.fields → get_or mid.origins b 0 ≡ q.original
+      → Looked (heap_words links s) (replica_words next) b i mid after
+      → (WatchFits (heap_end s) next (watch_of (with_due mid (field_place b i) false)) → LosesOnly (new_end c) q.original i (watch_of t) next (watch_of (with_due mid (field_place b i) false)) → Goes s next (watch_of (with_due mid (field_place b i) false)))
+      → ((r : Replica) (j : ℕ) → In r next.replicas → IsDue c r.object.raw r.place r.original j → ((r.place ≡ q.place) × (j ≡ i) → ⊥) → IsDue next r.object.raw r.place r.original j) → Knows s next after
+  looked_at mid after q b i told known size there place small origin looked goes_on due =
+      let m = told_marked (heap_end s) (new_end c) (watch_of t) next (replica_words next) (replicas_shown s next links heap opened) mid false q b i there place small told.0 told.1 in
+      let l = looked_is (IsDue c) s next links heap opened mid told.0 after q b i there place (is_at s next links heap opened q there).low (goes_on m.0 m.1) origin looked in
+      subst (Knows s next) (sym (l.0 ∙ ap (λ n. with_due mid (field_place n i) false) (sym place)))
+      (knows_from (λ raw p a j. IsDue c raw p a j × ((p ≡ q.place) × (j ≡ i) → ⊥)) s next (with_due mid (field_place q.place i) false) (looked_known (IsDue c) s next links heap opened mid told.0 q i there small known.0)
+      (rooms (with_due mid (field_place q.place i) false) known.1 size) (λ r l j within d. due r j l d.0 d.1))
+
   -- ---- `Roots`
 
   module _ (s' : State) (said : copy_root s c (root_target c s.heap.graph) ≡ (Copied, s')) (is : s'.collection ≡ Some next) where
@@ -64,11 +80,7 @@ module _ (s : State) (c next : Collection) (t : Tables) (links : ℕ → ℕ) (h
     pub roots_known : (after : Tables) → Placed (heap_words links s) (replica_words next) t after → OwesNone (heap_words links s) (replica_words next) t after → Knows s next after
     roots_known after placed_is owes =
         let p = placed_known s c next t links heap before opened goes knows root_adds root_brings.fresh after placed_is owes in
-        let old_room : s.size ≤ t.room = knows.old_room in
-        let new_room : c.size ≤ t.room = knows.new_room in
-        let room : after.room ≡ t.room = p.1 in
-        let size : next.size ≡ c.size = root_brings.size in
-        knows_from (IsDue c) s next after p.0 (omega arith) (omega arith) (λ r l i small d. ⊎_elim
+        knows_from (IsDue c) s next after p.0 (rooms after p.1 root_brings.size) (λ r l i small d. ⊎_elim
         (λ u. inl (u.0, unscanned_same c next r.place i root_brings.scan_place root_brings.scan_field u.1))
         (λ g. inr (logged_same c next r.original i root_brings.logs g))
         d)
@@ -137,21 +149,11 @@ module _ (s : State) (c next : Collection) (t : Tables) (links : ℕ → ℕ) (h
 
       pub scan_known : (after : Tables) → Looked (heap_words links s) (replica_words next) c.scan_place c.scan_field mid after → Knows s next after
       scan_known after looked =
-          let p = placed_known s c next t links heap before opened goes knows scan_adds scan_fresh mid placed_is owes in
-          let low : 1 ≤ kin.0.original = (is_at s next links heap opened kin.0 kin.1).low in
-          let m = told_marked (heap_end s) (new_end c) (watch_of t) next (replica_words next) (replicas_shown s next links heap opened) mid false kin.0 c.scan_place c.scan_field kin.1 q_place q_less scan_told.0 scan_told.1 in
-          let g : Goes s next (watch_of (with_due mid (field_place c.scan_place c.scan_field) false)) =
-          field_scanned s s' c next field.replica (watch_of t) (watch_of (with_due mid (field_place c.scan_place c.scan_field) false)) before goes field.found said is m.0
-          (subst (λ n. LosesOnly (new_end c) n c.scan_field (watch_of t) next (watch_of (with_due mid (field_place c.scan_place c.scan_field) false))) q_original m.1) in
-          let at_origin : get_or mid.origins c.scan_place 0 ≡ kin.0.original = ap (λ n. get_or mid.origins n 0) (sym q_place) ∙ origin_is (heap_end s) next mid kin.0 scan_told.0 kin.1 low in
-          let l = looked_is (IsDue c) s next links heap opened mid scan_told.0 after kin.0 c.scan_place c.scan_field kin.1 q_place low g at_origin looked in
-          let k = looked_known (IsDue c) s next links heap opened mid scan_told.0 kin.0 c.scan_field kin.1 q_less p.0 in
-          let old_room : s.size ≤ t.room = knows.old_room in
-          let new_room : c.size ≤ t.room = knows.new_room in
-          let room : mid.room ≡ t.room = p.1 in
-          let size : next.size ≡ c.size = scan_size in
-          subst (Knows s next) (sym (l.0 ∙ ap (λ n. with_due mid (field_place n c.scan_field) false) (sym q_place)))
-          (knows_from (λ raw p a j. IsDue c raw p a j × ((p ≡ kin.0.place) × (j ≡ c.scan_field) → ⊥)) s next (with_due mid (field_place kin.0.place c.scan_field) false) k (omega arith) (omega arith) (λ r l i small d. less r i d.0 d.1))
+          let at_origin = ap (λ n. get_or mid.origins n 0) (sym q_place) ∙ origin_is (heap_end s) next mid kin.0 scan_told.0 kin.1 (is_at s next links heap opened kin.0 kin.1).low in
+          let later = watch_of (with_due mid (field_place c.scan_place c.scan_field) false) in
+          looked_at mid after kin.0 c.scan_place c.scan_field scan_told (placed_known s c next t links heap before opened goes knows scan_adds scan_fresh mid placed_is owes) scan_size kin.1 q_place q_less at_origin looked
+          (λ fits loses. field_scanned s s' c next field.replica (watch_of t) later before goes field.found said is fits (subst (λ n. LosesOnly (new_end c) n c.scan_field (watch_of t) next later) q_original loses))
+          (λ r i l d apart. less r i d apart)
         where
           place_is : next.scan_place ≡ c.scan_place
           place_is = sym (ap (λ (x : Collection). x.scan_place) field.is) ∙ mid_brings.scan_place
@@ -279,14 +281,6 @@ module _ (s : State) (c next : Collection) (t : Tables) (links : ℕ → ℕ) (h
       pub entry_looked : LeadsTo links next → CanApply (heap_words links s) (replica_words next) entry.0 entry.1 mid
       entry_looked same = can_apply s next links heap opened mid entry.0 entry.1 same entry_told.0 entry_mid.0.marks has
 
-      old_rooms : (s.size ≤ mid.room) × (next.size ≤ mid.room)
-      old_rooms =
-          let old_room : s.size ≤ t.room = knows.old_room in
-          let new_room : c.size ≤ t.room = knows.new_room in
-          let room : mid.room ≡ t.room = entry_mid.1 in
-          let size : next.size ≡ c.size = entry_did.size in
-          (omega arith, omega arith)
-
       -- a field that is due still, unless its entry is the one that is gone
       less : (r : Replica) (i : ℕ) → IsDue c r.object.raw r.place r.original i → ((r.original ≡ entry.0) × (i ≡ entry.1) → ⊥) → IsDue next r.object.raw r.place r.original i
       less r i (inl u) apart = inl (u.0, unscanned_same c next r.place i entry_did.scan_place entry_did.scan_field u.1)
@@ -296,7 +290,7 @@ module _ (s : State) (c next : Collection) (t : Tables) (links : ℕ → ℕ) (h
           (log_out c.logs m entry rest k (r.original, i) log_is l))
 
       pub entry_known : (after : Tables) → AppliedTo (heap_words links s) (replica_words next) entry.0 entry.1 mid after → Knows s next after
-      entry_known after (inl (none, same)) = subst (Knows s next) (sym same) (knows_from (IsDue c) s next mid entry_mid.0 old_rooms.0 old_rooms.1 (λ r l i small d.
+      entry_known after (inl (none, same)) = subst (Knows s next) (sym same) (knows_from (IsDue c) s next mid entry_mid.0 (rooms mid entry_mid.1 entry_did.size) (λ r l i small d.
           less r i d (λ e.
           let low : 1 ≤ r.original = (is_at s next links heap opened r l).low in
           let origin : get_or mid.origins r.place 0 ≡ r.original = origin_is (heap_end s) next mid r entry_told.0 l low in
@@ -305,19 +299,13 @@ module _ (s : State) (c next : Collection) (t : Tables) (links : ℕ → ℕ) (h
           let q = replica_there (heap_end s) next mid entry_told.0 entry.0 b at in
           let name : q.0.original ≡ entry.0 = ap (λ (p : ℕ × ℕ). p.0) q.2 in
           let place : q.0.place ≡ b = ap (λ (p : ℕ × ℕ). p.1) q.2 in
-          let low : 1 ≤ q.0.original = (is_at s next links heap opened q.0 q.1).low in
           let ok = opened.belongs.replicas q.0 q.1 in
           let small : entry.1 < length ok.original.fields = has ok.original (ap (lookup s.heap.graph.objects) (sym name) ∙ ok.found) in
           let len : length q.0.object.fields ≡ length ok.original.fields = ok.len in
           let less_is : entry.1 < length q.0.object.fields = omega arith in
-          let m' = told_marked (heap_end s) (new_end c) (watch_of t) next (replica_words next) (replicas_shown s next links heap opened) mid false q.0 b entry.1 q.1 place less_is entry_told.0 entry_told.1 in
           let later = watch_of (with_due mid (field_place b entry.1) false) in
-          let g : Goes s next later = entry_applied s s' c next m entry rest (watch_of t) later before goes said is m'.0 (subst (λ n. LosesOnly (new_end c) n entry.1 (watch_of t) next later) name m'.1) in
-          let at_origin : get_or mid.origins b 0 ≡ q.0.original = at.origin ∙ sym name in
-          let l = looked_is (IsDue c) s next links heap opened mid entry_told.0 after q.0 b entry.1 q.1 place low g at_origin looked in
-          let k = looked_known (IsDue c) s next links heap opened mid entry_told.0 q.0 entry.1 q.1 less_is entry_mid.0 in
-          subst (Knows s next) (sym (l.0 ∙ ap (λ n. with_due mid (field_place n entry.1) false) (sym place)))
-          (knows_from (λ raw p a j. IsDue c raw p a j × ((p ≡ q.0.place) × (j ≡ entry.1) → ⊥)) s next (with_due mid (field_place q.0.place entry.1) false) k old_rooms.0 old_rooms.1
-          (λ r there i within d. less r i d.0 (λ e.
+          looked_at mid after q.0 b entry.1 entry_told entry_mid entry_did.size q.1 place less_is (at.origin ∙ sym name) looked
+          (λ fits loses. entry_applied s s' c next m entry rest (watch_of t) later before goes said is fits (subst (λ n. LosesOnly (new_end c) n entry.1 (watch_of t) next later) name loses))
+          (λ r i there d apart. less r i d (λ e.
           let one : r ≡ q.0 = same_original next.replicas r q.0 opened.belongs.once there q.1 (e.0 ∙ sym name) in
-          d.1 (ap (λ (r : Replica). r.place) one, e.1))))
+          apart (ap (λ (r : Replica). r.place) one, e.1)))
