@@ -3,6 +3,7 @@ use Rattle.std.proofs.lemmas.Grind.{common_steps}
 use Rattle.std.proofs.Common.{◌≡◌, ◌⊎◌, ⊎_elim, ℕ, ◌<◌, ◌≤◌, Bool, true, false, cond, List, ◌∷◌, length, Option, Some, None, refl, ap, sym, ◌∙◌, subst, arith}
 use Rattle.std.specs.Prelude.{IfSome, IsTrue}
 use Rattle.std.specs.Option.{option_map_or}
+use Rattle.gc_words.specs.Image.{Image}
 use Rattle.gc_words.specs.Spelling.{no_links}
 use Rattle.gc_plan.specs.State.{Collection, State}
 use Rattle.gc_plan.specs.Linked.{LeadsToOpen}
@@ -14,6 +15,7 @@ use Rattle.gc_plan.specs.declared.step.StepReply.{StepReply}
 use Rattle.gc_plan.specs.declared.step.StepReply.TheVariants.{Copied, Passed, Scanned, Applied, NotReady, Refused, Flipped}
 use Rattle.std.proofs.lemmas.List.{length-map, length-replicate}
 use Rattle.gc_plan.proofs.Public.{begun_belongs, steps_stay}
+use Rattle.gc_core.specs.Readings.{ShowsHeap}
 use Rattle.gc_core.specs.Flip.{flip_pair, HasAccepted, IsSureIfReady}
 use Rattle.gc_along.specs.Claims.{Accepts, CanPlaceNext, CanLook, CanApply, OwesNone}
 use Rattle.gc_along.specs.Events.{Placed, Looked, Applied as AppliedTo, Freed, flipped_tables}
@@ -58,57 +60,64 @@ was_open s s' step reply idle said = go s.collection refl
 opened_by : (s : State) (words : List ℕ) → AreNew s words → (next : Collection) × (s.collection ≡ Some next) × (words ≡ replica_words next)
 opened_by s words are = grind (arith, common_steps)
 
+-- what is said of words is said of the same words
+reread : (Says : List ℕ → List ℕ → Type 0) {a b x y : List ℕ} → a ≡ b → x ≡ y → Says a x → Says b y
+reread Says {a} {b} {x} {y} e f h = subst (λ ws. Says ws y) e (subst (Says a) f h)
+
 -- the words that a caller read are those of the mutators' space, with links that lead to the open collection's replicas
 abbrev pub AreOld : State → List ℕ → Type 0
 AreOld s old = (links : ℕ → ℕ) × LeadsToOpen links s.collection × (old ≡ heap_words links s)
 
+pub are_old : (s : State) (image : Image) → ShowsHeap s image → AreOld s image.words
+are_old s image shows = (shows.0, shows.1, ap (λ (image : Image). image.words) shows.2)
+
 module _ (s s' : State) (old words : List ℕ) (heap : IsSpaceGraph s.size s.heap.free s.heap.graph) (is_open : IfSome s.collection (IsOpened s)) (is_open' : IfSome s'.collection (IsOpened s')) (olds : AreOld s' old) (are : AreNew s' words) where
-  old_words : (next : Collection) → s' ≡ with_collection s (Some next) → old ≡ heap_words olds.0 s
-  old_words next is = olds.2 ∙ ap (heap_words olds.0) is
+  -- a step of the open collection, and the words as a caller read them
+  record Stepped (step : Step) (reply : StepReply) (t : Tables) (c : Collection) : Type 0 where
+    next : Collection
+    there : s'.collection ≡ Some next
+    by : InOpen s s' step reply c next
+    goes : Goes s c (watch_of t)
+    knows : Knows s c t
+    old_is : old ≡ heap_words olds.0 s
+    new_is : words ≡ replica_words next
+
+  stepped : (step : Step) (reply : StepReply) (t : Tables) (c : Collection) → (step ≡ steps.Flip → ⊥) → collect s step ≡ (reply, s') → s.collection ≡ Some c → IsLive s t → IsNeverLost s t → Stepped step reply t c
+  stepped step reply t c other said first live k =
+      let new = opened_by s' words are in
+      let x = in_open s s' step reply c new.0 other said is_open is_open' first new.1 in
+      record { next = new.0; there = new.1; by = x; goes = goes_in s c t first live k.found; knows = knows_in s c t first k; old_is = olds.2 ∙ ap (heap_words olds.0) x.is; new_is = new.2 }
+
+  -- the checker was told of the next replica
+  placing : (next : Collection) (t mid : Tables) → old ≡ heap_words olds.0 s → words ≡ replica_words next → CanPlaceNext (heap_words olds.0 s) (replica_words next) t → t.lost ≡ false
+      → (t.lost ≡ false → CanPlaceNext old words t → mid.lost ≡ false) → (mid.lost ≡ false → Placed old words t mid) → (mid.lost ≡ false → OwesNone old words t mid)
+      → (mid.lost ≡ false) × Placed (heap_words olds.0 s) (replica_words next) t mid × OwesNone (heap_words olds.0 s) (replica_words next) t mid
+  placing next t mid o n can was stays placed copied =
+      let found : mid.lost ≡ false = stays was (reread (λ x y. CanPlaceNext x y t) (sym o) (sym n) can) in
+      (found, reread (λ x y. Placed x y t mid) o n (placed found), reread (λ x y. OwesNone x y t mid) o n (copied found))
 
   pub lasts_roots : (t after : Tables) → collect s steps.Roots ≡ (Copied, s') → (t.lost ≡ false → CanPlaceNext old words t → after.lost ≡ false) → (after.lost ≡ false → Placed old words t after) → (after.lost ≡ false → OwesNone old words t after)
       → IsLive s t → IsNeverLost s t → IsNeverLost s' after
   lasts_roots t after said stays placed copied live k =
       let first = was_open s s' steps.Roots Copied (λ e. cc) said in
       let c = first.0 in
-      let new = opened_by s' words are in
-      let next = new.0 in
-      let x = in_open s s' steps.Roots Copied c next (λ e. cc) said is_open is_open' first.1 new.1 in
-      let links = olds.0 in
-      let goes = goes_in s c t first.1 live k.found in
-      let knows = knows_in s c t first.1 k in
-      let o = old_words next x.is in
-      let can = roots_told s c next t links heap x.before x.opened goes knows s' x.said new.1 in
-      let found : after.lost ≡ false = stays k.found (subst (λ ws. CanPlaceNext ws words t) (sym o) (subst (λ ws. CanPlaceNext (heap_words links s) ws t) (sym new.2) can)) in
-      record {
-        found = found;
-        knows = known_with s s' next after x.is (roots_known s c next t links heap x.before x.opened goes knows s' x.said new.1 after
-            (subst (λ ws. Placed ws (replica_words next) t after) o (subst (λ ws. Placed old ws t after) new.2 (placed found)))
-            (subst (λ ws. OwesNone ws (replica_words next) t after) o (subst (λ ws. OwesNone old ws t after) new.2 (copied found))));
-      }
+      let x = stepped steps.Roots Copied t c (λ e. cc) said first.1 live k in
+      let p = placing x.next t after x.old_is x.new_is (roots_told s c x.next t olds.0 heap x.by.before x.by.opened x.goes x.knows s' x.by.said x.there) k.found stays placed copied in
+      record { found = p.0; knows = known_with s s' x.next after x.by.is (roots_known s c x.next t olds.0 heap x.by.before x.by.opened x.goes x.knows s' x.by.said x.there after p.1 p.2) }
 
   pub lasts_scanned : (c : Collection) (t mid after : Tables) → s.collection ≡ Some c → collect s steps.Scan ≡ (Scanned, s')
       → (t.lost ≡ false → CanPlaceNext old words t → mid.lost ≡ false) → (mid.lost ≡ false → Placed old words t mid) → (mid.lost ≡ false → OwesNone old words t mid)
       → (mid.lost ≡ false → CanLook old words c.scan_place c.scan_field mid → after.lost ≡ false) → (after.lost ≡ false → Looked old words c.scan_place c.scan_field mid after)
       → IsLive s t → IsNeverLost s t → IsNeverLost s' after
   lasts_scanned c t mid after first said stays placed copied stays' looked live k =
-      let new = opened_by s' words are in
-      let next = new.0 in
-      let x = in_open s s' steps.Scan Scanned c next (λ e. cc) said is_open is_open' first new.1 in
-      let links = olds.0 in
-      let goes = goes_in s c t first live k.found in
-      let knows = knows_in s c t first k in
-      let o = old_words next x.is in
-      let can = scan_placed s c next t links heap x.before x.opened goes knows s' x.said new.1 in
-      let found : mid.lost ≡ false = stays k.found (subst (λ ws. CanPlaceNext ws words t) (sym o) (subst (λ ws. CanPlaceNext (heap_words links s) ws t) (sym new.2) can)) in
-      let is_placed = subst (λ ws. Placed ws (replica_words next) t mid) o (subst (λ ws. Placed old ws t mid) new.2 (placed found)) in
-      let owes = subst (λ ws. OwesNone ws (replica_words next) t mid) o (subst (λ ws. OwesNone old ws t mid) new.2 (copied found)) in
-      let see = scan_looked s c next t links heap x.before x.opened goes knows s' x.said new.1 mid is_placed owes in
-      let found' : after.lost ≡ false = stays' found (subst (λ ws. CanLook ws words c.scan_place c.scan_field mid) (sym o) (subst (λ ws. CanLook (heap_words links s) ws c.scan_place c.scan_field mid) (sym new.2) see)) in
+      let x = stepped steps.Scan Scanned t c (λ e. cc) said first live k in
+      let p = placing x.next t mid x.old_is x.new_is (scan_placed s c x.next t olds.0 heap x.by.before x.by.opened x.goes x.knows s' x.by.said x.there) k.found stays placed copied in
+      let see = scan_looked s c x.next t olds.0 heap x.by.before x.by.opened x.goes x.knows s' x.by.said x.there mid p.1 p.2 in
+      let found : after.lost ≡ false = stays' p.0 (reread (λ o n. CanLook o n c.scan_place c.scan_field mid) (sym x.old_is) (sym x.new_is) see) in
       record {
-        found = found';
-        knows = known_with s s' next after x.is (scan_known s c next t links heap x.before x.opened goes knows s' x.said new.1 mid is_placed owes after
-            (subst (λ ws. Looked ws (replica_words next) c.scan_place c.scan_field mid after) o (subst (λ ws. Looked old ws c.scan_place c.scan_field mid after) new.2 (looked found'))));
+        found = found;
+        knows = known_with s s' x.next after x.by.is (scan_known s c x.next t olds.0 heap x.by.before x.by.opened x.goes x.knows s' x.by.said x.there mid p.1 p.2 after
+            (reread (λ o n. Looked o n c.scan_place c.scan_field mid after) x.old_is x.new_is (looked found)));
       }
 
   pub lasts_applied : (m : ℕ) (entry : ℕ × ℕ) (t mid after : Tables) → ((c : Collection) → s.collection ≡ Some c → (rest : List (ℕ × ℕ)) × (log_at c m ≡ entry ∷ rest)) → collect s (steps.Apply m) ≡ (Applied, s')
@@ -118,25 +127,16 @@ module _ (s s' : State) (old words : List ℕ) (heap : IsSpaceGraph s.size s.hea
   lasts_applied m entry t mid after log said stays placed copied stays' applied live k =
       let first = was_open s s' (steps.Apply m) Applied (λ e. cc) said in
       let c = first.0 in
-      let new = opened_by s' words are in
-      let next = new.0 in
-      let x = in_open s s' (steps.Apply m) Applied c next (λ e. cc) said is_open is_open' first.1 new.1 in
-      let links = olds.0 in
-      let goes = goes_in s c t first.1 live k.found in
-      let knows = knows_in s c t first.1 k in
-      let o = old_words next x.is in
+      let x = stepped (steps.Apply m) Applied t c (λ e. cc) said first.1 live k in
       let l = log c first.1 in
-      let did : apply_log s c m (entry ∷ l.0) ≡ (Applied, s') = ap (apply_log s c m) (sym l.1) ∙ x.said in
-      let can = entry_placed s c next t links heap x.before x.opened goes knows s' m entry l.0 l.1 did new.1 in
-      let found : mid.lost ≡ false = stays k.found (subst (λ ws. CanPlaceNext ws words t) (sym o) (subst (λ ws. CanPlaceNext (heap_words links s) ws t) (sym new.2) can)) in
-      let is_placed = subst (λ ws. Placed ws (replica_words next) t mid) o (subst (λ ws. Placed old ws t mid) new.2 (placed found)) in
-      let owes = subst (λ ws. OwesNone ws (replica_words next) t mid) o (subst (λ ws. OwesNone old ws t mid) new.2 (copied found)) in
-      let see = entry_looked s c next t links heap x.before x.opened goes knows s' m entry l.0 l.1 did new.1 mid is_placed owes (subst (LeadsToOpen links) new.1 olds.1) in
-      let found' : after.lost ≡ false = stays' found (subst (λ ws. CanApply ws words entry.0 entry.1 mid) (sym o) (subst (λ ws. CanApply (heap_words links s) ws entry.0 entry.1 mid) (sym new.2) see)) in
+      let did : apply_log s c m (entry ∷ l.0) ≡ (Applied, s') = ap (apply_log s c m) (sym l.1) ∙ x.by.said in
+      let p = placing x.next t mid x.old_is x.new_is (entry_placed s c x.next t olds.0 heap x.by.before x.by.opened x.goes x.knows s' m entry l.0 l.1 did x.there) k.found stays placed copied in
+      let see = entry_looked s c x.next t olds.0 heap x.by.before x.by.opened x.goes x.knows s' m entry l.0 l.1 did x.there mid p.1 p.2 (subst (LeadsToOpen olds.0) x.there olds.1) in
+      let found : after.lost ≡ false = stays' p.0 (reread (λ o n. CanApply o n entry.0 entry.1 mid) (sym x.old_is) (sym x.new_is) see) in
       record {
-        found = found';
-        knows = known_with s s' next after x.is (entry_known s c next t links heap x.before x.opened goes knows s' m entry l.0 l.1 did new.1 mid is_placed owes after
-            (subst (λ ws. AppliedTo ws (replica_words next) entry.0 entry.1 mid after) o (subst (λ ws. AppliedTo old ws entry.0 entry.1 mid after) new.2 (applied found'))));
+        found = found;
+        knows = known_with s s' x.next after x.by.is (entry_known s c x.next t olds.0 heap x.by.before x.by.opened x.goes x.knows s' m entry l.0 l.1 did x.there mid p.1 p.2 after
+            (reread (λ o n. AppliedTo o n entry.0 entry.1 mid after) x.old_is x.new_is (applied found)));
       }
 
 -- ---- steps after which nothing is told

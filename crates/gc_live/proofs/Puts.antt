@@ -1,6 +1,6 @@
 -- A standing checker beside a heap, through fields that are written one after the other in one call.
 use Rattle.std.proofs.lemmas.Grind.{common_steps}
-use Rattle.std.proofs.Common.{◌≡◌, ◌⊎◌, inl, inr, ⊎_elim, ◌<◌, ◌≤◌, ◌+◌, ◌-◌, ℕ, zero, suc, true, false, nat_lt, Bool, List, [], ◌∷◌, length, map, Option, Some, None, refl, sym, ap, subst, ◌∙◌, arith, length-set}
+use Rattle.std.proofs.Common.{◌≡◌, ◌⊎◌, inl, inr, ⊎_elim, ◌<◌, ◌≤◌, ◌+◌, ◌-◌, ℕ, zero, suc, true, false, nat_lt, Bool, List, [], ◌∷◌, length, map, Option, Some, None, is_some, refl, sym, ap, subst, ◌∙◌, arith, length-set}
 use Rattle.std.proofs.lemmas.Bool.{cases_Bool, cases_eq, cond_both, eqb-true, eq-eqb, ltb-true, and_parts}
 use Rattle.std.proofs.lemmas.List.{length-map}
 use Rattle.std.specs.Prelude.{Result, IfOk, OnErr, IfSome}
@@ -8,7 +8,7 @@ use Rattle.std.specs.Option.{option_map}
 use Rattle.gc_graph.specs.declared.no_memory.NoMemory.{NoMemory}
 use Rattle.gc_graph.specs.Graph.{Value, Num, Ref, Graph, Object, name_of, names_of, root, object_of, field_of, lookup}
 use Rattle.gc_graph.specs.Machine.{Roomy, words_taken}
-use Rattle.gc_graph.specs.Slots.{SlotName, place}
+use Rattle.gc_graph.specs.Slots.{SlotName, place, roots_of}
 use Rattle.gc_graph.specs.declared.command.Op.{Op}
 use Rattle.gc_graph.specs.declared.command.Op.TheVariants as ops
 use Rattle.gc_graph.specs.declared.reply.Reply.{Reply}
@@ -28,8 +28,9 @@ use Rattle.gc_along.specs.Events.{Wrote}
 use Rattle.gc_beside.specs.Stays.{WatchFits, MarksWritten}
 use Rattle.gc_beside.proofs.Public.{Continues, continues_same, Leads, same_itself, leads_on, leads_one, lives_through, end_by, put_roots, told_wrote}
 use Rattle.gc_live.specs.Internal.Told.{ToldTruly, ToldWritten}
+use Rattle.gc_live.proofs.Begun.{some_open}
 use Rattle.gc_live.proofs.Lasts.{AreOld}
-use Rattle.gc_live.proofs.LastsOn.{IsLasting, NoName, IsBeside, HasLog, beside, beside_lasts, told_write, open_after, lasts_quietly, log_of_open, log_after, noted, quiet_one, quiet_two}
+use Rattle.gc_live.proofs.LastsOn.{IsLasting, NoName, IsBeside, HasLog, beside, beside_lasts, told_write, open_after, lasts_quietly, log_of_open, log_after, noted, quiet_one, quiet_two, refers_above, refers_to}
 
 -- field j is one of so many, from i on, of the object at a
 abbrev IsAmong : ℕ → ℕ → ℕ → ℕ → ℕ → Type 0
@@ -155,15 +156,22 @@ puts_logged (suc n) s s' m i a d t apart at has (op, into, done, rest) e there x
 
 -- ---- the call
 
--- while a collection is open the checker is told of each field
-pub both_puts : (along : Bool) (s s' : State) (m i n a : ℕ) (d t : SlotName) (old : List ℕ) (w after : Tables) → IfSome s.collection (IsOpened s) → IfSome s'.collection (IsOpened s') → IsSpaceGraph s'.size s'.heap.free s'.heap.graph → m < s.mutators → (place t m ≡ place d m → ⊥) → root s.heap.graph (place d m) ≡ Ref a → 1 ≤ a
-    → Puts IsDone n s m d t i s' → (s.collection ≡ None → ⊥) → AreOld s' old → ToldWritten a i n w after → ToldTruly old a i n w after → IsLasting along s w → IsLasting along s' after
-both_puts along s s' m i n a d t old w after is_open is_open' heap less apart at low puts not_closed old_is told truly h =
+-- while a collection is open the checker is told of each field of the object that slot d had
+pub both_call_open : (along : Bool) (s s' now : State) (m i n p : ℕ) (d t : SlotName) (o : Option OldAddr) (object : OldAddr) (is_open : Bool) (old : List ℕ) (w after : Tables) → s ≡ now → m < now.mutators → (place t m ≡ place d m → ⊥) → roots_of s.mutators ≤ length s.heap.graph.roots → p ≡ place t m → p < roots_of (m + 1)
+    → is_open ≡ true → is_open ≡ is_some s.collection → IsSpaceGraph s.size s.heap.free s.heap.graph → IfSome s.collection (IsOpened s) → IsSpaceGraph s'.size s'.heap.free s'.heap.graph → IfSome s'.collection (IsOpened s') → option_map (λ (a : OldAddr). a.0) o ≡ name_of (root s.heap.graph (place d m)) → o ≡ Some object
+    → (root s.heap.graph (place d m) ≡ Ref object.0 → place t m < length s.heap.graph.roots → Puts IsDone n s m d t i s') → AreOld s' old → ToldWritten object.0 i n w after → ToldTruly old object.0 i n w after → IsLasting along s w → IsLasting along s' after
+both_call_open along s s' now m i n p d t o object is_open old w after view mutator apart slots value bound on seen heap' opens heap opens' named is put old_is told truly h =
+    let a = object.0 in
+    let at = refers_to s.heap.graph (place d m) o object is named in
+    let low : 1 ≤ a = refers_above s.size s.heap.free s.heap.graph (place d m) a heap' at in
+    let less : m < s.mutators = subst (λ (s : State). m < s.mutators) (sym view) mutator in
+    let puts = put at (omega (arith, slots, less, value, bound)) in
+    let not_closed = some_open s.collection is_open on seen in
     let quiet = puts_quiet IsDone n s s' m i d t puts in
     let e = open_after s s' quiet.1 not_closed in
-    let opened : IsOpened s' e.0 = subst (λ (o : Option Collection). IfSome o (IsOpened s')) e.1 is_open' in
-    let logged = puts_logged n s s' m i a d t apart at (log_of_open s m is_open less) puts e.0 e.1 in (
-      lives_through s s' w after (IsAmong a i n) is_open (puts_lead IsDone n s s' m i a d t apart at puts) (told_lost a i n w after told)
+    let opened : IsOpened s' e.0 = subst (λ (o : Option Collection). IfSome o (IsOpened s')) e.1 opens' in
+    let logged = puts_logged n s s' m i a d t apart at (log_of_open s m opens less) puts e.0 e.1 in (
+      lives_through s s' w after (IsAmong a i n) opens (puts_lead IsDone n s s' m i a d t apart at puts) (told_lost a i n w after told)
           (λ found e o. absurd (not_closed e))
           (λ found c e opened g. told_marks n s.heap.graph.objects (heap_end s') c w after a i opened.belongs.once low told found (subst (λ n. WatchFits n c (watch_of w)) quiet.0 g.fits))
           h.0,

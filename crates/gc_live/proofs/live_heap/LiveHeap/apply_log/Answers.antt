@@ -6,8 +6,7 @@ use Rattle.gc_plan.specs.State.{State, Collection}
 use Rattle.gc_plan.specs.Steps.{log_at}
 use Rattle.gc_core.specs.Readings.{log_of}
 use Rattle.gc_beside.proofs.Public.{lives_applied, apply_or_same}
-use Rattle.gc_words.specs.Image.{Image}
-use Rattle.gc_live.proofs.Lasts.{lasts_applied}
+use Rattle.gc_live.proofs.Lasts.{are_old, lasts_applied}
 use Rattle.gc_live.proofs.LastsOn.{both_same}
 use Rattle.gc_live.proofs.live_heap.LiveHeap.apply_log.Goals as goal
 
@@ -25,7 +24,7 @@ invariant_of-self-in-Some-new_words c =
       lives_applied c.self.inside.inner c.apply_log-reply.new.self c.args.m (c.in-Some-Some.entry.object.0, c.in-Some-Some.entry.field) _ c.in-Some-Some.new.now c.self.inside.watch c.placed.new.self c.applied.new.self c.is_sound.ensures.heap c.is_sound.ensures.open c.is_sound-2.ensures.open
           log c.in-Applied.ensures.step words
           c.placed.ensures.lost c.placed.ensures.placed c.applied.ensures.lost c.applied.ensures.applied c.self.invariant.0,
-      λ on. lasts_applied c.self.inside.inner c.apply_log-reply.new.self _ c.in-Some-Some.new.now c.is_sound.ensures.heap c.is_sound.ensures.open c.is_sound-2.ensures.open (c.image.ensures.shows.0, c.image.ensures.shows.1, ap (λ (image : Image). image.words) c.image.ensures.shows.2) words c.args.m (c.in-Some-Some.entry.object.0, c.in-Some-Some.entry.field)
+      λ on. lasts_applied c.self.inside.inner c.apply_log-reply.new.self _ c.in-Some-Some.new.now c.is_sound.ensures.heap c.is_sound.ensures.open c.is_sound-2.ensures.open (are_old c.apply_log-reply.new.self _ c.image.ensures.shows) words c.args.m (c.in-Some-Some.entry.object.0, c.in-Some-Some.entry.field)
           c.self.inside.watch c.placed.new.self c.applied.new.self log c.in-Applied.ensures.step c.placed.ensures.stays c.placed.ensures.placed c.placed.ensures.copied c.applied.ensures.stays c.applied.ensures.applied c.self.invariant.0 (c.self.invariant.1 on),
     )
 

@@ -1,15 +1,12 @@
 -- The checker is told of each copied field, at the address that the slot had before, so it goes along and is not lost.
-use Rattle.std.proofs.Common.{◌≡◌, ◌≤◌, ◌<◌, length, subst, sym, ap, ◌∙◌, arith}
-use Rattle.gc_graph.specs.Graph.{Ref, root}
-use Rattle.gc_graph.specs.Slots.{place, roots_of}
+use Rattle.std.proofs.Common.{subst, sym, ap, ◌∙◌, arith}
 use Rattle.gc_graph.specs.declared.reply.Reply.{Reply}
-use Rattle.gc_words.specs.Image.{Image}
 use Rattle.gc_plan.specs.State.{State}
 use Rattle.gc_core.specs.Copying.{copy_reply, copy_step, object_in}
 use Rattle.gc_live.specs.Internal.Told.{ToldTruly, ToldWritten}
-use Rattle.gc_live.proofs.Begun.{none_open, some_open}
-use Rattle.gc_live.proofs.LastsOn.{refers_above, refers_to}
-use Rattle.gc_live.proofs.Puts.{Puts, IsDone, both_call_closed, both_puts, copies_done, copies_put, copies_refer, done_all}
+use Rattle.gc_live.proofs.Begun.{none_open}
+use Rattle.gc_live.proofs.Lasts.{are_old}
+use Rattle.gc_live.proofs.Puts.{Puts, IsDone, both_call_closed, both_call_open, copies_done, copies_put, copies_refer, done_all}
 use Rattle.gc_live.proofs.live_heap.LiveHeap.copy_fields.Goals as goal
 
 pub invariant_of-self : goal.invariant_of-self
@@ -22,16 +19,11 @@ tell_written-requires c = (let fits = c.in_ok-reply.ensures.fits c.in-Done.is in
 pub invariant_of-self-in-Some : goal.invariant_of-self-in-Some
 invariant_of-self-in-Some c =
     let s : State = c.self.inside.inner in
-    let at : root s.heap.graph (place c.args.d c.args.m) ≡ Ref c.in-Some.object.0 = refers_to s.heap.graph (place c.args.d c.args.m) c.address-target.result c.in-Some.object c.in-Some.is c.address-target.ensures in
-    let low : 1 ≤ c.in-Some.object.0 = refers_above s.size s.heap.free s.heap.graph (place c.args.d c.args.m) c.in-Some.object.0 c.is_sound.ensures.heap at in
-    let less : c.args.m < s.mutators = subst (λ (s : State). c.args.m < s.mutators) (sym c.self.view_is) c.requires.mutator in
-    let slots : roots_of s.mutators ≤ length s.heap.graph.roots = c.has_slots.ensures in
-    let in_roots : place c.args.t c.args.m < length s.heap.graph.roots = (let value = c.place.ensures.value in let bound = c.place.ensures.bound in omega (arith, slots, less, value, bound)) in
-    let some = some_open s.collection c.is_open.result c.if-not-is_open.false c.is_open.ensures in
-    let all = c.done_copies_are_whole.ensures s c.args.m c.args.to c.args.from c.args.count c.args.d c.args.s c.args.t c.requires.target c.requires.source in_roots (ap (λ (x : Reply × State). x.0) c.in_ok-reply.ensures.step ∙ c.in-Done.is) in
-    let done = done_all s c.copy_fields-2.new.self (copy_step c.self.inside.inner c.args.m c.args.d c.args.to c.args.s c.args.from c.args.t c.args.count) (copy_reply c.args.to c.args.from c.args.count (object_in c.self.inside.inner.heap.graph c.args.d c.args.m) (object_in c.self.inside.inner.heap.graph c.args.s c.args.m)) c.in_ok-reply.reply c.in_ok-reply.ensures.step c.in-Done.is in
-    both_puts c.self.inside.along s c.copy_fields-2.new.self c.args.m c.args.to c.args.count c.in-Some.object.0 c.args.d c.args.t _ c.self.inside.watch c.tell_written.new.watch c.is_sound.ensures.open c.is_sound-2.ensures.open c.is_sound-2.ensures.heap less c.requires.target at low
-    (subst (Puts IsDone c.args.count s c.args.m c.args.d c.args.t c.args.to) done (copies_done c.args.count s c.args.m c.args.to c.args.from c.args.d c.args.s c.args.t all)) some (c.image.ensures.shows.0, c.image.ensures.shows.1, ap (λ (image : Image). image.words) c.image.ensures.shows.2)
+    let all = c.done_copies_are_whole.ensures s c.args.m c.args.to c.args.from c.args.count c.args.d c.args.s c.args.t c.requires.target c.requires.source in
+    let done = done_all s c.copy_fields-2.new.self (copy_step s c.args.m c.args.d c.args.to c.args.s c.args.from c.args.t c.args.count) _ c.in_ok-reply.reply c.in_ok-reply.ensures.step c.in-Done.is in
+    both_call_open c.self.inside.along s c.copy_fields-2.new.self c.args.self.now c.args.m c.args.to c.args.count c.place.result c.args.d c.args.t c.address-target.result c.in-Some.object c.is_open.result _ c.self.inside.watch c.tell_written.new.watch c.self.view_is c.requires.mutator c.requires.target c.has_slots.ensures c.place.ensures.value c.place.ensures.bound c.if-not-is_open.false c.is_open.ensures
+    c.is_sound.ensures.heap c.is_sound.ensures.open c.is_sound-2.ensures.heap c.is_sound-2.ensures.open c.address-target.ensures c.in-Some.is
+    (λ at in_roots. subst (Puts IsDone c.args.count s c.args.m c.args.d c.args.t c.args.to) done (copies_done c.args.count s c.args.m c.args.to c.args.from c.args.d c.args.s c.args.t (all in_roots (ap (λ (x : Reply × State). x.0) c.in_ok-reply.ensures.step ∙ c.in-Done.is)))) (are_old c.copy_fields-2.new.self _ c.image.ensures.shows)
     (subst (λ n. ToldWritten c.in-Some.object.0 c.args.to n c.self.inside.watch c.tell_written.new.watch) c.from.ensures c.tell_written.ensures.written) (subst (λ n. ToldTruly c.image.result.words.now c.in-Some.object.0 c.args.to n c.self.inside.watch c.tell_written.new.watch) c.from.ensures c.tell_written.ensures.truly) c.self.invariant
 
 pub invariant_of-self-in-None : goal.invariant_of-self-in-None

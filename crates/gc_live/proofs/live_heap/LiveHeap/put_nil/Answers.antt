@@ -1,10 +1,10 @@
 -- After both commands the slot still refers to the written object, so the checker is told of the right field that became nil.
-use Rattle.std.proofs.Common.{◌<◌, refl, sym, ap, subst, ◌∙◌}
+use Rattle.std.proofs.Common.{◌<◌, refl, sym, subst, ◌∙◌}
 use Rattle.gc_graph.specs.declared.command.Op.TheVariants as ops
 use Rattle.gc_plan.specs.State.{State}
 use Rattle.gc_plan.specs.Steps.{mutate}
-use Rattle.gc_words.specs.Image.{Image}
 use Rattle.gc_live.proofs.Begun.{none_open, some_open}
+use Rattle.gc_live.proofs.Lasts.{are_old}
 use Rattle.gc_live.proofs.LastsOn.{both_found, both_put, both_two_closed, both_two_undone}
 use Rattle.gc_live.proofs.live_heap.LiveHeap.put_nil.Goals as goal
 
@@ -13,7 +13,7 @@ invariant_of-self-in-Some c =
     both_put c.self.inside.along c.self.inside.inner (mutate c.self.inside.inner c.args.m (ops.Nil c.args.t)).1 c.put_nil.new.self c.args.m (ops.Nil c.args.t) (mutate c.self.inside.inner c.args.m (ops.Nil c.args.t)).0 c.args.s c.args.i c.args.t c.in_ok-reply.reply _ c.self.inside.watch c.written.new.self c.address.result c.in-Some.object
     c.is_sound.ensures.open c.is_sound-2.ensures.open c.is_sound-2.ensures.heap (subst (λ (s : State). c.args.m < s.mutators) (sym c.self.view_is) c.requires) refl refl refl c.in_ok-reply.ensures.step c.in-Done.is
     (some_open c.put_nil.new.self.collection c.is_open.result c.if-not-is_open.false c.is_open.ensures) c.address.ensures c.in-Some.is
-    (c.image.ensures.shows.0, c.image.ensures.shows.1, ap (λ (image : Image). image.words) c.image.ensures.shows.2) c.written.ensures.stays c.written.ensures.lost c.written.ensures.wrote c.self.invariant
+    (are_old c.put_nil.new.self _ c.image.ensures.shows) c.written.ensures.stays c.written.ensures.lost c.written.ensures.wrote c.self.invariant
 
 pub invariant_of-self-then-not-is_open : goal.invariant_of-self-then-not-is_open
 invariant_of-self-then-not-is_open c =

@@ -7,9 +7,8 @@ use Rattle.gc_core.specs.Readings.{new_space, new_space_in}
 use Rattle.gc_core.specs.declared.reading.NewSpace.{NewSpace}
 use Rattle.gc_along.specs.Events.{Looked}
 use Rattle.gc_beside.proofs.Public.{lives_scanned, lives_scan_other}
-use Rattle.gc_words.specs.Image.{Image}
 use Rattle.gc_along.specs.Claims.{CanLook}
-use Rattle.gc_live.proofs.Lasts.{lasts_scanned, lasts_scan_other}
+use Rattle.gc_live.proofs.Lasts.{are_old, lasts_scanned, lasts_scan_other}
 use Rattle.gc_live.proofs.live_heap.LiveHeap.scan.Goals as goal
 
 pub invariant_of-self : goal.invariant_of-self
@@ -27,7 +26,7 @@ invariant_of-self-in-Some-new_words c =
     let words = sym c.new_words.ensures ∙ ap (λ (r : Option (Bor (List ℕ))). option_map (λ (w : Bor (List ℕ)). w.now) r) c.in-Some-Some.is-1 in (
       lives_scanned c.self.inside.inner c.scan-reply.new.self found.0 _ c.in-Some-Some.new.now c.self.inside.watch c.placed.new.self c.look.new.self c.is_sound.ensures.heap c.is_sound.ensures.open c.is_sound-2.ensures.open found.1 c.in-Scanned.ensures.step words
           c.placed.ensures.lost c.placed.ensures.placed c.look.ensures.lost (λ n. subst (λ (s : NewSpace). Looked c.image.result.words.now c.in-Some-Some.new.now s.scan_place s.scan_field c.placed.new.self c.look.new.self) (sym found.2) (c.look.ensures.looked n)) c.self.invariant.0,
-      λ on. lasts_scanned c.self.inside.inner c.scan-reply.new.self _ c.in-Some-Some.new.now c.is_sound.ensures.heap c.is_sound.ensures.open c.is_sound-2.ensures.open (c.image.ensures.shows.0, c.image.ensures.shows.1, ap (λ (image : Image). image.words) c.image.ensures.shows.2) words found.0 c.self.inside.watch c.placed.new.self c.look.new.self found.1 c.in-Scanned.ensures.step
+      λ on. lasts_scanned c.self.inside.inner c.scan-reply.new.self _ c.in-Some-Some.new.now c.is_sound.ensures.heap c.is_sound.ensures.open c.is_sound-2.ensures.open (are_old c.scan-reply.new.self _ c.image.ensures.shows) words found.0 c.self.inside.watch c.placed.new.self c.look.new.self found.1 c.in-Scanned.ensures.step
           c.placed.ensures.stays c.placed.ensures.placed c.placed.ensures.copied
           (λ n can. c.look.ensures.stays n (subst (λ (s : NewSpace). CanLook c.image.result.words.now c.in-Some-Some.new.now s.scan_place s.scan_field c.placed.new.self) found.2 can))
           (λ n. subst (λ (s : NewSpace). Looked c.image.result.words.now c.in-Some-Some.new.now s.scan_place s.scan_field c.placed.new.self c.look.new.self) (sym found.2) (c.look.ensures.looked n)) c.self.invariant.0 (c.self.invariant.1 on),
