@@ -1,6 +1,7 @@
 -- The commands that make an object and fill its fields, in order.
 use Rattle.std.proofs.lemmas.Grind.{common_steps}
-use Rattle.std.proofs.Common.{◌≡◌, ◌<◌, ℕ, List, [], ◌∷◌, length, sym, ◌∙◌, ap, subst, arith}
+use Rattle.std.proofs.Common.{◌≡◌, ◌<◌, ◌+◌, ℕ, suc, List, [], ◌∷◌, length, drop, get_or, sym, ◌∙◌, ap, subst, arith}
+use Rattle.std.proofs.lemmas.List.{drop_more}
 use Rattle.gc_graph.specs.Slots.{SlotName}
 use Rattle.gc_graph.specs.declared.command.Op.TheVariants.{New, Put}
 use Rattle.gc_graph.specs.declared.reply.Reply.{Reply}
@@ -32,6 +33,14 @@ counted old made m kind count d fields reply same first = ap (λ n. mutate old m
 pub filled_two : (made one two : State) (m : ℕ) (d s t : SlotName) (first second : Reply) → mutate made m (Put d 0 s) ≡ (first, one) → mutate one m (Put d 1 t) ≡ (second, two)
     → fill_step made m d 0 (s ∷ t ∷ []) ≡ two
 filled_two made one two m d s t first second a b = ap (λ (x : Reply × State). (mutate x.1 m (Put d 1 t)).1) a ∙ ap (λ (x : Reply × State). x.1) b
+
+-- one field more is filled
+pub one_filled : (first before after : State) (m i : ℕ) (d s : SlotName) (reply : Reply) (slots : List SlotName) → i < length slots → s ≡ get_or slots i s → mutate before m (Put d i s) ≡ (reply, after) → fill_step before m d i (drop i slots) ≡ fill_step first m d 0 slots → fill_step after m d (i + 1) (drop (i + 1) slots) ≡ fill_step first m d 0 slots
+one_filled first before after m i d s reply slots less is puts so_far =
+    let opened : drop i slots ≡ s ∷ drop (i + 1) slots = drop_more slots i s less ∙ ap (λ (t : SlotName). t ∷ drop (i + 1) slots) (sym is) in
+    let next : i + 1 ≡ suc i = omega arith in
+    ap (λ n. fill_step after m d n (drop (i + 1) slots)) next ∙ sym (ap (λ (x : Reply × State). fill_step x.1 m d (suc i) (drop (i + 1) slots)) puts)
+    ∙ sym (ap (fill_step before m d i) opened) ∙ so_far
 
 -- ---- while a collection is open
 
