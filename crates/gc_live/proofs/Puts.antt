@@ -143,15 +143,14 @@ puts_logged : (n : ℕ) (s s' : State) (m i a : ℕ) (d t : SlotName) → (place
     → (e : Collection) → s'.collection ≡ Some e → (x : ℕ) → i ≤ x → x < i + n → IsLogged e a x
 puts_logged zero s s' m i a d t apart at has is e there x low high = absurd (omega arith)
 puts_logged (suc n) s s' m i a d t apart at has (op, into, done, rest) e there x low high =
-    let put = ops.Put d i t in
     let one = mutate s m op in
-    let two = mutate one.1 m put in
+    let two = mutate one.1 m (ops.Put d i t) in
     let here : root one.1.heap.graph (place d m) ≡ Ref a = into.leaves s m (place d m) apart ∙ at in
-    let wrote : WrittenBy one.1.heap.graph m put two.0 a i = subst (λ (r : Reply). WrittenBy one.1.heap.graph m put r a i) (sym done) (subst (λ v. In {X = ℕ × ℕ} (a, i) (map (λ name. (name, i)) (names_of v))) (sym here) (inl refl)) in
+    let wrote : WrittenBy one.1.heap.graph m (ops.Put d i t) two.0 a i = subst (λ (r : Reply). WrittenBy one.1.heap.graph m (ops.Put d i t) r a i) (sym done) (subst (λ v. In {X = ℕ × ℕ} (a, i) (map (λ name. (name, i)) (names_of v))) (sym here) (inl refl)) in
     let has_one : HasLog one.1.collection m = log_after s one.1 m m op one.0 refl has in
     elim (cases_eq x i) [
-      | inl same ↦ carried two.1 s' a x (puts_quiet IsDone n two.1 s' m (suc i) d t rest).1 (λ c f. subst (IsLogged c a) (sym same) (noted one.1 two.1 m put two.0 a i has_one refl wrote c f)) e there
-      | inr other ↦ puts_logged n two.1 s' m (suc i) a d t apart (put_kept one.1 m i d t ∙ here) (log_after one.1 two.1 m m put two.0 refl has_one) rest e there x (omega arith) (omega arith)
+      | inl same ↦ carried two.1 s' a x (puts_quiet IsDone n two.1 s' m (suc i) d t rest).1 (λ c f. subst (IsLogged c a) (sym same) (noted one.1 two.1 m (ops.Put d i t) two.0 a i has_one refl wrote c f)) e there
+      | inr other ↦ puts_logged n two.1 s' m (suc i) a d t apart (put_kept one.1 m i d t ∙ here) (log_after one.1 two.1 m m (ops.Put d i t) two.0 refl has_one) rest e there x (omega arith) (omega arith)
     ]
 
 -- ---- the call
