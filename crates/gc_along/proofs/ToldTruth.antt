@@ -7,7 +7,7 @@ use Rattle.std.proofs.lemmas.List.{take-append-le, drop-take, take-take, get_or-
 use Rattle.std.proofs.lemmas.Option.{slice_get-get_or}
 use Rattle.gc_words.specs.Word.{read_header, field_words_correspond}
 use Rattle.gc_words.specs.Image.{Image, Block, header_of, header_at, is_start, field_in, field_at}
-use Rattle.gc_words.specs.Walking.{StandsIn, block_from}
+use Rattle.gc_words.specs.Internal.Walking.{StandsIn, block_from}
 use Rattle.gc_words.specs.Certificate.{Certified}
 use Rattle.gc_words.specs.Layout.{field_place, link_place}
 use Rattle.gc_words.specs.declared.header.Header.{Header}

@@ -9,7 +9,7 @@ use Rattle.std.proofs.lemmas.List.Quantifiers.{all_pairs_push}
 use Rattle.std.proofs.lemmas.Option.{slice_get_within}
 use Rattle.gc_words.specs.Word.{IsHeader, header_word, field_words_correspond}
 use Rattle.gc_words.specs.Image.{Block, blocks, block_in, block_at, header_of, header_at, walk_words}
-use Rattle.gc_words.specs.Walking.{block_from}
+use Rattle.gc_words.specs.Internal.Walking.{block_from}
 use Rattle.gc_words.specs.Space.{IsSpace}
 use Rattle.gc_words.specs.Layout.{field_place}
 use Rattle.gc_words.specs.declared.header.Header.{Header}

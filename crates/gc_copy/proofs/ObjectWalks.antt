@@ -8,7 +8,8 @@ use Rattle.gc_words.specs.Image.{Block, blocks, is_start}
 use Rattle.gc_words.specs.Spelling.{link_at}
 use Rattle.gc_words.specs.Space.{SpaceWords, IsSpace}
 use Rattle.gc_words.specs.Views.{addresses}
-use Rattle.gc_words.specs.Walking.{next_of, walk_from, block_from}
+use Rattle.gc_words.specs.Walking.{next_of}
+use Rattle.gc_words.specs.Internal.Walking.{walk_from, block_from}
 use Rattle.gc_words.specs.declared.image.Pair.{Pair}
 use Rattle.gc_words.proofs.Public.{Behind, behind, has_next, some_of}
 use Rattle.gc_plan.specs.State.{Replica}

@@ -13,12 +13,13 @@ use Rattle.gc_graph.specs.Graph.{Value, Nil, Num, Ref, Object, Graph, lookup, fi
 use Rattle.gc_words.specs.Word.{HasAddress, word_of, field_value}
 use Rattle.gc_words.specs.Word.{value_of}
 use Rattle.gc_words.specs.Image.{walk_words, Block, blocks, header_of, block_in, block_at, is_start, header_at, field_in, field_at, object_of_block, objects_of}
-use Rattle.gc_words.specs.Spelling.{link_at, IsBlock}
+use Rattle.gc_words.specs.Spelling.{link_at}
+use Rattle.gc_words.specs.Internal.Spelling.{IsBlock}
 use Rattle.gc_words.specs.Layout.{link_place, field_place}
 use Rattle.gc_words.specs.Space.{SpaceWords, IsSpace, HasRoomFor, end_of, free_in, with_block, with_word}
 use Rattle.gc_words.specs.Closed.{IsRootWord, IsWordOfField}
 use Rattle.gc_words.specs.declared.header.Header.{Header}
-use Rattle.gc_words.specs.Walking.{StandsIn}
+use Rattle.gc_words.specs.Internal.Walking.{StandsIn}
 use Rattle.gc_graph.specs.Graph.{name_of}
 use Rattle.gc_heap.specs.Heap.{HeapWords, IsHeap, graph_in}
 use Rattle.gc_plan.specs.State.{Replica, Collection, State, new_objects, new_end, new_free, replica_of, moved}

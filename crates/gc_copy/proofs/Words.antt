@@ -7,7 +7,8 @@ use Rattle.std.proofs.lemmas.Option.{slice_get-get_or}
 use Rattle.gc_graph.specs.Graph.{Value, Nil, Num, Ref, Object}
 use Rattle.gc_words.specs.Word.{value_of, word_of, field_value}
 use Rattle.gc_words.specs.Image.{Block, blocks, block_in, object_of_block, object_entry, objects_of}
-use Rattle.gc_words.specs.Spelling.{block_words, spelled, spelled_from, link_at, IsBlock, LaidOut}
+use Rattle.gc_words.specs.Spelling.{block_words, spelled, spelled_from, link_at}
+use Rattle.gc_words.specs.Internal.Spelling.{IsBlock, LaidOut}
 use Rattle.gc_words.specs.Space.{SpaceWords, IsSpace, free_in}
 use Rattle.gc_words.specs.Closed.{RefersToStart, IsRootWord, IsFieldWord, HasFieldWords}
 use Rattle.gc_words.specs.declared.header.Header.{Header}

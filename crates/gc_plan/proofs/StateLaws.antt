@@ -14,19 +14,18 @@ use Rattle.gc_plan.specs.Linked.{linked_image}
 use Rattle.gc_plan.specs.Passing.{HasImage, PassesWhereReady, NeverRefused, ScansToTheEnd, HasFewPairs}
 use Rattle.gc_plan.specs.Runs.{InEveryRun, state_after}
 use Rattle.gc_plan.specs.State.{opening_state, Replica, Collection, State, new_end, replica_at}
-use Rattle.gc_plan.specs.Steps.{collect, written, log_at, with_log, scan_done, scan, scan_replica, step_in, step_idle}
+use Rattle.gc_plan.specs.Steps.{written, log_at, with_log, scan_done, scan, scan_replica, step_in, step_idle}
 use Rattle.gc_plan.specs.Members.{In}
 use Rattle.gc_plan.specs.Belonging.{Laid, IsSpaceGraph, HasField, Belongs, BelongsBut, IsDue, IsOpened, IsState}
 use Rattle.gc_graph.specs.declared.command.Op.{Op}
 use Rattle.gc_graph.specs.declared.reply.Reply.{Reply}
 use Rattle.gc_graph.specs.declared.reply.Reply.TheVariants.{Full}
-use Rattle.gc_plan.specs.declared.step.Step.{Step}
 use Rattle.gc_plan.specs.declared.step.Step.TheVariants as steps
 use Rattle.gc_plan.specs.declared.step.StepReply.{StepReply}
 use Rattle.gc_plan.specs.declared.step.StepReply.TheVariants.{Clean}
 use Rattle.gc_plan.proofs.Commands.{step_numbers, unchanged, step_keeps, step_evolves, field_stays, written_there, full_writes_nothing}
 use Rattle.gc_plan.proofs.Replicas.{pair, placed, replicas_end, replicas_due}
-use Rattle.gc_plan.proofs.Steps.{open_keeps, ready_parts, its_replicas, belongs_from, belongs_but, belongs_noted, ranged}
+use Rattle.gc_plan.proofs.Steps.{ready_parts, its_replicas, belongs_from, belongs_but, belongs_noted, ranged}
 use Rattle.gc_plan.proofs.Links.{found_by_place}
 use Rattle.gc_plan.proofs.Runs.{run_ok}
 use Rattle.gc_plan.proofs.Images.{image_shaped, end_is, graph_back}
@@ -111,8 +110,3 @@ notes objects c m a i within there h =
     (λ r l j x d. ⊎_elim (λ y. inl y) (λ y. inr (inl (λ n. (sym y.0 n, sym y.1 n)))) d))
     h.scan h.entries h.numbers)
     (λ b j x. ⊎_elim (λ e. subst (λ (p : ℕ × ℕ). HasField objects p.0 p.1) e there) (λ y. absurd y) x)
-
--- ---- the steps of an open collection
-
-pub step_kept : (s : State) (c : Collection) (step : Step) → s.collection ≡ Some c → IsOpened s c → step ≢ steps.Flip → IfSome (collect s step).1.collection (IsOpened s)
-step_kept s c step is k n = subst (λ o. IfSome (option_map_or (λ (c : Collection). step_in s c step) o (step_idle s step)).1.collection (IsOpened s)) (sym is) (open_keeps s c step is k n)

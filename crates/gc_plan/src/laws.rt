@@ -1,4 +1,4 @@
-//! Laws that follow from the definitions. Crates that depend on this one use them in proofs by calling these functions.
+//! Laws that follow from the definitions. A function that calls one of these may use what it says.
 
 ghost use Rattle.std.specs.Prelude.{◌≡◌, ◌≢◌, ◌+◌, ◌++◌, ◌∷◌, [], ℕ, List, ◌-◌, ◌<◌, ◌≤◌, ◌==◌, length, Some, is_none, ◌⊎◌, IsTrue, IsFalse, IfSome};
 ghost use Rattle.gc_graph.specs.Limits.{largest_space};
@@ -11,11 +11,10 @@ ghost use Rattle.gc_words.specs.Image.{IsShaped, graph_of, roomy_of};
 ghost use Rattle.gc_words.specs.Certificate.{Certified};
 ghost use Rattle.gc_plan.specs.State.{Replica, Collection, State, opening_state, heap_end, new_objects, new_free, pairs_of, replica_of, replica_at, moved, new_graph};
 ghost use Rattle.gc_plan.specs.Linked.{linked_image, old_links, new_links};
-ghost use Rattle.gc_plan.specs.Steps.{written, log_at, with_log, with_collection, write_replica, fresh_collection, mutate, collect, is_change, is_ready, useful_step};
+ghost use Rattle.gc_plan.specs.Steps.{written, log_at, with_log, write_replica, fresh_collection, mutate, collect, is_change, is_ready, useful_step};
 ghost use Rattle.gc_plan.specs.Members.{In};
 ghost use Rattle.gc_plan.specs.Belonging.{HasRawNumbers, IsSpaceGraph, HasField, Belongs, BelongsBut, IsOpened, IsState};
-ghost use Rattle.gc_plan.specs.Runs.{HasRange, IsStepWithin, IsEventWithin, AreEventsWithin, IsStep, AreEvents, InEveryRun, HasSizesWithin, after, state_after};
-ghost use Rattle.gc_plan.specs.declared.event.Event.{Event};
+ghost use Rattle.gc_plan.specs.Runs.{HasRange, IsStep, InEveryRun};
 ghost use Rattle.gc_plan.specs.Passing.{HasImage, PassesWhereReady, NeverRefused, AlwaysHasRoom, ScansToTheEnd, HasFewPairs};
 ghost use Rattle.gc_plan.specs.Progress.{ChangesLower, Advances, Ends, entries_in, entries_left, work_left};
 ghost use Rattle.gc_plan.specs.Carried.{CarriesOnlyKept, NamesOnlyKept};
@@ -53,15 +52,6 @@ pub fn belonging_is_kept()
         → Belongs objects (with_log c m (log_at c m ++ (a, i) ∷ [])) }
 {}
 
-/// Every step except a flip changes only the collection, which still belongs to the heap.
-#[tactic(auto, using(crate::proofs::Steps::steps_stay, crate::proofs::StateLaws::step_kept))]
-pub fn steps_keep_belonging()
-    ensures heap { (s : State) (step : Step) → step ≢ Step.Flip
-        → (collect s step).1 ≡ with_collection s (collect s step).1.collection }
-    ensures collection { (s : State) (c : Collection) (step : Step) → step ≢ Step.Flip
-        → s.collection ≡ Some c → IsOpened s c → IfSome (collect s step).1.collection (IsOpened s) }
-{}
-
 /// Commands and steps keep the heap sound, and an open collection still belongs to it.
 pub fn states_are_kept()
     ensures opening { (size mutators : ℕ)
@@ -74,20 +64,6 @@ pub fn states_are_kept()
     // A command may name any root, and so an extra one.
     ensures root_commands { (s : State) (m : ℕ) (op : Op)
         → IsState s → m < s.mutators → HasRange op → IsState (mutate s m op).1 }
-{}
-
-/// In a run whose opening and begins are within a limit, so are the sizes of all spaces. A step or an event that is within a limit
-/// is one of a heap.
-pub fn sizes_stay_within()
-    ensures events { (most mutators : ℕ) (s : State) (event : Event)
-        → HasSizesWithin most s → IsEventWithin most mutators event → HasSizesWithin most (after s event) }
-    ensures runs { (most size mutators : ℕ) (events : List Event)
-        → size ≤ most → AreEventsWithin most mutators events
-        → HasSizesWithin most (state_after (opening_state size mutators) events) }
-    ensures steps { (most mutators : ℕ) (step : Step)
-        → most ≤ largest_space → IsStepWithin most mutators step → IsStep mutators step }
-    ensures wider { (most mutators : ℕ) (events : List Event)
-        → most ≤ largest_space → AreEventsWithin most mutators events → AreEvents mutators events }
 {}
 
 /// A heap is the graph of its image, whatever the links are.

@@ -10,7 +10,6 @@ pub use event::{Answer, Event};
 pub use laws::{
     answers_tell_changes, belonging_is_kept, images_have_their_graphs, links_tell_replicas,
     only_kept_is_carried, ready_flips_pass, room_suffices, root_replicas_stay,
-    scans_and_pairs_are_bounded, sizes_stay_within, states_are_kept, steps_keep_belonging,
-    useful_steps_end, worked_rows,
+    scans_and_pairs_are_bounded, states_are_kept, useful_steps_end, worked_rows,
 };
 pub use step::{Step, StepReply};

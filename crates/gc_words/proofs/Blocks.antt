@@ -6,7 +6,7 @@ use Rattle.std.proofs.lemmas.Bool.{eqb-true, eq-eqb, ne_eqb}
 use Rattle.gc_words.specs.Image.{Block, fresh_block, blocks, block_in, block_at, field_in, field_at, with_field_word, set_block}
 use Rattle.gc_words.specs.Layout.{field_place}
 use Rattle.gc_words.specs.Space.{SpaceWords, IsSpace, end_of, CanPlace, with_block, with_object, with_word}
-use Rattle.gc_words.specs.Walking.{StandsIn}
+use Rattle.gc_words.specs.Internal.Walking.{StandsIn}
 use Rattle.gc_words.specs.declared.header.Header.{Header}
 use Rattle.gc_words.proofs.Starts.{stands_in}
 use Rattle.gc_words.proofs.Writes.{CanPlaceBlock, FieldRead, field_read, block_placed, can_place_fresh, field_written}

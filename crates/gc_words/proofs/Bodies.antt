@@ -11,7 +11,8 @@ use Rattle.gc_words.specs.Layout.{field_place, link_place, next_place}
 use Rattle.gc_words.specs.Space.{SpaceWords, IsSpace, end_of, HasRoomFor, with_object, with_word, without_links}
 use Rattle.gc_words.specs.declared.header.Header.{Header}
 use Rattle.gc_graph.specs.Machine.{object_words}
-use Rattle.gc_words.specs.Walking.{next_of, next_after, StandsIn}
+use Rattle.gc_words.specs.Walking.{next_of, next_after}
+use Rattle.gc_words.specs.Internal.Walking.{StandsIn}
 use Rattle.gc_words.proofs.Starts.{stands_in}
 use Rattle.gc_words.proofs.Writes.{some_of, HeaderRead, header_read, FieldRead, field_read, placed, field_written, link_written}
 use Rattle.gc_words.proofs.Blocks.{placed_block, written_word}

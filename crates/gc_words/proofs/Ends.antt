@@ -10,7 +10,7 @@ use Rattle.gc_words.specs.declared.header.Header.{Header}
 use Rattle.gc_words.proofs.Starts.{stands_in}
 use Rattle.gc_words.proofs.Spelled.{length_relinked}
 
-pub end_placed : (s : SpaceWords) (h : Header) → end_of (with_object s h) ≡ end_of s + (h.len + 2)
+end_placed : (s : SpaceWords) (h : Header) → end_of (with_object s h) ≡ end_of s + (h.len + 2)
 end_placed s h = grind (arith, common_steps, length-replicate)
 
 pub free_placed : (s : SpaceWords) (h : Header) → free_in (with_object s h) ≡ free_in s - (h.len + 2)

@@ -8,7 +8,8 @@ use Rattle.std.proofs.lemmas.List.{drop_all}
 use Rattle.gc_words.specs.Image.{Block, Image, walk, with_front}
 use Rattle.gc_words.specs.Fault.{first_difference, has_size, shape_fault}
 use Rattle.gc_words.specs.FaultPlace.{DifferFirstAt, IsFramed, LieBetween, StopsAt, ShapeFailsAt}
-use Rattle.gc_words.specs.Walking.{next_in, walk_on, block_from, StepsIn}
+use Rattle.gc_words.specs.Walking.{next_in}
+use Rattle.gc_words.specs.Internal.Walking.{walk_on, block_from, StepsIn}
 use Rattle.gc_words.proofs.Steps.{step, no_step, framed}
 
 -- ---- the first difference of two lists

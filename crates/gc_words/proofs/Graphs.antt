@@ -9,11 +9,10 @@ use Rattle.gc_graph.specs.Graph.{Value, Nil, Num, Object, Graph, lookup, first_v
 use Rattle.gc_words.specs.Word.{value_of, is_value, read_value, word_of, HasAddress, field_value}
 use Rattle.gc_words.specs.Image.{Block, fresh_block, blocks, block_in, block_at, field_at, is_start, object_of_block, object_entry, objects_of, graph_of}
 use Rattle.gc_words.specs.Layout.{field_place, link_place}
-use Rattle.gc_words.specs.Space.{SpaceWords, IsSpace, empty_space, end_of, CanPlace, with_object, with_word, without_links, image_with}
+use Rattle.gc_words.specs.Space.{SpaceWords, IsSpace, empty_space, end_of, CanPlace, with_object, with_word, image_with}
 use Rattle.gc_words.specs.declared.header.Header.{Header}
 use Rattle.gc_words.proofs.Walks.{objects_set}
 use Rattle.gc_words.proofs.Writes.{placed, field_written, link_written}
-use Rattle.gc_words.proofs.Spelled.{cleared}
 
 -- ---- words are read back
 
@@ -87,9 +86,6 @@ graph_field s a i w b roots space some found = grind (arith, common_steps, graph
 
 pub graph_link : (s : SpaceWords) (a w : ℕ) (roots : List ℕ) → IsSpace s → is_start s.words a ≡ true → graph_of (image_with (with_word s (link_place a) w) roots) ≡ graph_of (image_with s roots)
 graph_link s a w roots space start = graph_with roots _ _ (ap (map object_entry) (link_written s a w space start).1)
-
-pub graph_cleared : (s : SpaceWords) (roots : List ℕ) → IsSpace s → graph_of (image_with (without_links s) roots) ≡ graph_of (image_with s roots)
-graph_cleared s roots space = graph_with roots _ _ (ap (map object_entry) (cleared s space).1)
 
 pub graph_root : (s : SpaceWords) (place w : ℕ) (roots : List ℕ) → graph_of (image_with s (slice_set roots place w)) ≡ set_root (graph_of (image_with s roots)) place (value_of w)
 graph_root s place w roots = ap (λ vs. record { objects = objects_of s.words; roots = vs }) (map-set value_of roots place w)

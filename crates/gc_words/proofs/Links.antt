@@ -5,7 +5,8 @@ use Rattle.std.specs.Prelude.{IsSome}
 use Rattle.std.proofs.lemmas.Bool.{eqb-true, cases_Bool, cases_lt}
 use Rattle.std.proofs.lemmas.List.{get_or_append_left, get_or-append-add, get_or-set_same, get_or-set_other}
 use Rattle.gc_words.specs.Image.{Block, blocks, block_in, block_at, is_start, field_at}
-use Rattle.gc_words.specs.Spelling.{block_words, link_at, LaidOut}
+use Rattle.gc_words.specs.Spelling.{block_words, link_at}
+use Rattle.gc_words.specs.Internal.Spelling.{LaidOut}
 use Rattle.gc_words.specs.Layout.{field_place, link_place}
 use Rattle.gc_words.specs.Space.{SpaceWords, IsSpace, end_of, with_block, with_word, without_links}
 use Rattle.gc_words.proofs.Starts.{stands_in}

@@ -1,86 +1,19 @@
 -- Images in which every reference refers to a start.
 use Rattle.std.proofs.lemmas.Grind.{common_steps}
-use Rattle.std.proofs.Common.{◌≡◌, ℕ, suc, zero, ◌+◌, ◌<◌, ◌≤◌, true, false, cond, ◌==◌, List, [], ◌∷◌, ◌++◌, map, length, replicate, Some, None, is_some, refl, sym, ◌∙◌, ap, subst, arith}
-use Rattle.std.specs.Prelude.{slice_get, slice_set, IsOk, IsSome}
-use Rattle.std.specs.List.{All, AllByRecursion, flat_map}
-use Rattle.std.proofs.lemmas.Bool.{eq-eqb, ne_eqb}
-use Rattle.std.proofs.lemmas.List.Elements.{All-nil, All-cons, All-head, All-tail, All-replicate, All-append, All-set, All-weaker, All-map, All-from_recursion}
-use Rattle.std.proofs.lemmas.List.Folds.{list_any_none}
-use Rattle.gc_graph.specs.Graph.{Value, Ref, Object, Graph, names_of, names_in, IsUnused}
-use Rattle.gc_words.specs.Word.{value_of, HasAddress, word_of, field_value, read_header}
-use Rattle.gc_words.specs.Image.{Block, fresh_block, walk_words, blocks, block_in, block_at, field_in, field_at, is_start, with_field_word, set_block, object_of_block, object_entry, objects_of, graph_of}
+use Rattle.std.proofs.Common.{◌≡◌, ℕ, suc, zero, ◌+◌, true, false, cond, ◌==◌, List, [], ◌∷◌, ◌++◌, replicate, Some, None, is_some, refl, sym, ◌∙◌, ap, subst, arith}
+use Rattle.std.specs.Prelude.{slice_get, slice_set, IsSome}
+use Rattle.std.specs.List.{All}
+use Rattle.std.proofs.lemmas.Bool.{eq-eqb}
+use Rattle.std.proofs.lemmas.List.Elements.{All-nil, All-cons, All-head, All-tail, All-replicate, All-set, All-weaker}
+use Rattle.gc_graph.specs.Graph.{Value, Ref}
+use Rattle.gc_words.specs.Word.{HasAddress, word_of}
+use Rattle.gc_words.specs.Image.{Block, fresh_block, blocks, block_in, block_at, field_in, field_at, is_start, with_field_word, set_block}
 use Rattle.gc_words.specs.Layout.{field_place}
-use Rattle.gc_words.specs.Space.{SpaceWords, IsSpace, empty_space, end_of, CanPlace, with_object, with_word, image_with}
+use Rattle.gc_words.specs.Space.{SpaceWords, IsSpace, empty_space, end_of, CanPlace, with_object, with_word}
 use Rattle.gc_words.specs.Closed.{RefersToStart, IsRootWord, IsFieldWord, HasFieldWords, IsClosed}
-use Rattle.gc_words.specs.Walking.{StandsIn}
 use Rattle.gc_words.specs.declared.header.Header.{Header}
-use Rattle.gc_words.proofs.Walks.{Walked, First, first}
-use Rattle.gc_words.proofs.Starts.{walked_blocks, stands_in}
-use Rattle.gc_words.proofs.Writes.{some_of, placed, field_written}
+use Rattle.gc_words.proofs.Writes.{placed, field_written}
 use Rattle.gc_words.proofs.Graphs.{meaning_back}
-
--- ---- starts are below the end
-
-starts_below : (ws : List ℕ) (inside at : ℕ) (bs : List (ℕ × Block)) → Walked inside at ws bs → AllByRecursion (λ entry. entry.0 < at + length ws) bs
-starts_below [] inside at [] e = tt
-starts_below [] inside at (b ∷ bs) e = cc
-starts_below (w ∷ ws) (suc inside) at bs e = subst (λ n. AllByRecursion (λ entry. entry.0 < n) bs) (omega arith) (starts_below ws inside (suc at) bs e)
-starts_below (w ∷ ws) zero at bs e =
-    let f : First at ws bs (read_header w) = first at w ws bs e in
-    subst (AllByRecursion (λ entry. entry.0 < at + suc (length ws))) (sym f.5)
-    (omega arith, subst (λ n. AllByRecursion (λ entry. entry.0 < n) f.3) (omega arith) (starts_below ws (f.0.len + 1) (suc at) f.3 f.4))
-
-starts_in_space : (s : SpaceWords) → IsSpace s → All (λ entry. entry.0 < end_of s) (blocks s.words)
-starts_in_space s space = in_words s.words space.walked space.end_low
-  where
-    in_words : (words : List ℕ) → IsOk (walk_words words) → 1 ≤ length words → All (λ entry. entry.0 < length words) (blocks words)
-    in_words [] ok low = absurd (omega arith)
-    in_words (w ∷ ws) ok low =
-        let same : 1 + length ws ≡ suc (length ws) = omega arith in
-        All-from_recursion (λ entry. entry.0 < suc (length ws)) (blocks (w ∷ ws)) (subst (λ n. AllByRecursion (λ entry. entry.0 < n) (blocks (w ∷ ws))) same (starts_below ws 0 1 (blocks (w ∷ ws)) (walked_blocks (w ∷ ws) ok)))
-
--- ---- the end is not a name
-
-All-flat_map : {X Y : Type 0} (P : Y → Type 0) (f : X → List Y) (xs : List X) → All (λ x. All P (f x)) xs → All P (flat_map f xs)
-All-flat_map P f [] all = All-nil P
-All-flat_map P f (x ∷ xs) all = All-append P (f x) (flat_map f xs) (All-head (λ x. All P (f x)) x xs all) (All-flat_map P f xs (All-tail (λ x. All P (f x)) x xs all))
-
-start_below : (s : SpaceWords) → IsSpace s → (a : ℕ) → is_start s.words a ≡ true → a < end_of s
-start_below s space a start =
-    let b : (b : Block) × (block_at s.words a ≡ Some b) = some_of (block_at s.words a) start in
-    let stands : StandsIn s.words a b.0 = stands_in s.words a b.0 space.walked b.1 in
-    let fits : a + (b.0.header.len + 2) ≤ length s.words = stands.fits in omega arith
-
-module _ (s : SpaceWords) (space : IsSpace s) where
-  abbrev Below : ℕ → Type 0
-  Below n = n < end_of s
-
-  root_names : (w : ℕ) → IsRootWord s.words w → All Below (names_of (value_of w))
-  root_names w is = grind (arith, common_steps, All-nil, All-cons, start_below)
-
-  field_names : (h : Header) (w : ℕ) → IsFieldWord s.words h w → All Below (names_of (field_value h w))
-  field_names h w is = grind (arith, common_steps, root_names)
-
-  block_names : (b : Block) → HasFieldWords s.words b → All Below (flat_map names_of (object_of_block b).fields)
-  block_names b has = All-flat_map Below names_of (map (field_value b.header) b.fields)
-      (All-map (λ v. All Below (names_of v)) (field_value b.header) b.fields (All-weaker (IsFieldWord s.words b.header) (λ w. All Below (names_of (field_value b.header w))) (field_names b.header) b.fields has))
-
-  abbrev graph_with : List ℕ → Graph
-  graph_with roots = graph_of (image_with s roots)
-
-  all_names : (roots : List ℕ) → IsClosed s.words roots → All Below (names_in (graph_with roots))
-  all_names roots closed =
-      let objects : List (ℕ × Object) = objects_of s.words in
-      All-append Below (map (λ entry. entry.0) objects ++ flat_map (λ entry. flat_map names_of entry.1.fields) objects) (flat_map names_of (map value_of roots))
-      (All-append Below (map (λ entry. entry.0) objects) (flat_map (λ entry. flat_map names_of entry.1.fields) objects)
-      (All-map Below (λ entry. entry.0) objects (All-map (λ entry. Below entry.0) object_entry (blocks s.words) (starts_in_space s space)))
-      (All-flat_map Below (λ entry. flat_map names_of entry.1.fields) objects
-      (All-map (λ entry. All Below (flat_map names_of entry.1.fields)) object_entry (blocks s.words)
-      (All-weaker (λ entry. HasFieldWords s.words entry.1) (λ entry. All Below (flat_map names_of (object_of_block entry.1).fields)) (λ entry has. block_names entry.1 has) (blocks s.words) closed.fields))))
-      (All-flat_map Below names_of (map value_of roots) (All-map (λ v. All Below (names_of v)) value_of roots (All-weaker (IsRootWord s.words) (λ w. All Below (names_of (value_of w))) root_names roots closed.roots)))
-
-  pub end_unused : (roots : List ℕ) → IsClosed s.words roots → IsUnused (graph_with roots) (end_of s)
-  end_unused roots closed = grind (arith, common_steps, list_any_none, ne_eqb, all_names)
 
 -- ---- the words of values
 

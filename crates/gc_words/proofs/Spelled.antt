@@ -6,7 +6,8 @@ use Rattle.std.proofs.lemmas.Bool.{eqb-true, cases_Bool}
 use Rattle.std.proofs.lemmas.List.{take_at, drop_at, drop-drop, drop_more, take-append-drop, get_or-append-add}
 use Rattle.gc_words.specs.Word.{header_word, read_header}
 use Rattle.gc_words.specs.Image.{Block, walk, walk_words, blocks, block_in}
-use Rattle.gc_words.specs.Spelling.{block_words, spelled_from, spelled, no_links, link_at, LaidOut}
+use Rattle.gc_words.specs.Spelling.{block_words, spelled_from, spelled, no_links, link_at}
+use Rattle.gc_words.specs.Internal.Spelling.{LaidOut}
 use Rattle.gc_words.specs.Space.{SpaceWords, IsSpace, without_links}
 use Rattle.gc_words.specs.declared.header.Header.{Header}
 use Rattle.gc_words.proofs.Walks.{Walked, First, first, fields_in, object_result, read_back, written_back}

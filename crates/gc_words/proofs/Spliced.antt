@@ -7,7 +7,7 @@ use Rattle.std.proofs.lemmas.Option.{slice_get-get_or}
 use Rattle.gc_words.specs.Image.{Block, field_in, field_at}
 use Rattle.gc_words.specs.Layout.{field_place}
 use Rattle.gc_words.specs.Space.{SpaceWords, IsSpace, HasFields, with_field_at, with_fields}
-use Rattle.gc_words.specs.Walking.{StandsIn}
+use Rattle.gc_words.specs.Internal.Walking.{StandsIn}
 use Rattle.gc_words.proofs.Starts.{stands_in}
 use Rattle.gc_words.proofs.Blocks.{field_block}
 use Rattle.gc_words.proofs.Writes.{field_written}

@@ -6,8 +6,8 @@ use Rattle.std.specs.Result.{result_unwrap_or}
 use Rattle.std.proofs.lemmas.Bool.{eqb-true, cases_Bool}
 use Rattle.gc_words.specs.Word.{read_header}
 use Rattle.gc_words.specs.Image.{Block, walk_words, blocks, block_in, block_at}
-use Rattle.gc_words.specs.Spelling.{IsBlock}
-use Rattle.gc_words.specs.Walking.{StandsIn}
+use Rattle.gc_words.specs.Internal.Spelling.{IsBlock}
+use Rattle.gc_words.specs.Internal.Walking.{StandsIn}
 use Rattle.gc_words.specs.declared.header.Header.{Header}
 use Rattle.gc_words.proofs.Walks.{Walked, First, first, fields_in, written_back}
 

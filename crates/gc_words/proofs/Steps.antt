@@ -10,7 +10,8 @@ use Rattle.gc_words.specs.Word.{header_in, header_word}
 use Rattle.gc_words.specs.Image.{Block, walk, with_front, walk_all, block_in}
 use Rattle.gc_words.specs.Spelling.{block_words, spelled_from}
 use Rattle.gc_words.specs.Fault.{words_fault}
-use Rattle.gc_words.specs.Walking.{next_after, next_in, next_of, walk_on, walk_from, block_from, StepsIn, StepsTo}
+use Rattle.gc_words.specs.Walking.{next_after, next_in, next_of}
+use Rattle.gc_words.specs.Internal.Walking.{walk_on, walk_from, block_from, StepsIn, StepsTo}
 use Rattle.gc_words.specs.declared.header.Header.{Header}
 use Rattle.gc_words.proofs.Writes.{some_of}
 use Rattle.gc_words.proofs.Walks.{fields_in, starts_above, object_result, written_back}

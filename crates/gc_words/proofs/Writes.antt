@@ -8,8 +8,8 @@ use Rattle.gc_words.specs.Word.{read_header, header_word}
 use Rattle.gc_words.specs.Image.{Block, fresh_block, walk_words, HasShape, blocks, block_at, is_start, header_of, header_at, field_in, field_at, set_block}
 use Rattle.gc_words.specs.Layout.{field_place, link_place}
 use Rattle.gc_words.specs.Space.{SpaceWords, IsSpace, HasRoomFor, end_of, CanPlace, with_block, with_object, with_word}
-use Rattle.gc_words.specs.Spelling.{IsBlock}
-use Rattle.gc_words.specs.Walking.{StandsIn}
+use Rattle.gc_words.specs.Internal.Spelling.{IsBlock}
+use Rattle.gc_words.specs.Internal.Walking.{StandsIn}
 use Rattle.gc_words.specs.declared.header.Header.{Header}
 use Rattle.gc_words.proofs.Walks.{walk_placed, walk_field, walk_link, BlockHasField}
 use Rattle.gc_words.proofs.Starts.{stands_in, walked_blocks}

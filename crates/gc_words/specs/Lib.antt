@@ -1,5 +1,6 @@
 pub mod Word
 pub mod Image
+pub mod Internal
 pub mod Layout
 pub mod Spelling
 pub mod Space

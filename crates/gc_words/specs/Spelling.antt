@@ -1,8 +1,8 @@
 -- The words of a space, built from its objects and their links.
-use Rattle.std.specs.Prelude.{◌≡◌, ℕ, List, [], ◌∷◌, length, slice_index, ⊤}
+use Rattle.std.specs.Prelude.{ℕ, List, ◌∷◌, slice_index}
 use Rattle.std.specs.List.{flat_map}
-use Rattle.gc_words.specs.Layout.{link_place, next_place}
-use Rattle.gc_words.specs.Word.{IsHeader, header_word}
+use Rattle.gc_words.specs.Layout.{link_place}
+use Rattle.gc_words.specs.Word.{header_word}
 use Rattle.gc_words.specs.Image.{Block}
 
 -- the words of an object: its header, its link, its fields
@@ -23,13 +23,3 @@ no_links place = 0
 -- the link word of the object that starts at this address
 abbrev pub link_at : List ℕ → ℕ → ℕ
 link_at words place = slice_index words (link_place place)
-
--- the header is valid, and the number of fields is its length
-pub record IsBlock (b : Block) : Type 0 where
-  pub header : IsHeader b.header
-  pub fields : length b.fields ≡ b.header.len
-
--- the objects lie back to back from this address on
-abbrev pub LaidOut : ℕ → List (ℕ × Block) → Type 0
-LaidOut at [] = ⊤
-LaidOut at (entry ∷ rest) = (entry.0 ≡ at) × IsBlock entry.1 × LaidOut (next_place at entry.1.header.len) rest

@@ -16,12 +16,9 @@ pub use gc_graph::MOST_WORDS;
 pub use header::Header;
 pub use image::{ImageRef, MOST_PAIRS, MOST_ROOTS, Pair};
 pub use laws::{
-    certified_graphs_correspond, end_is_unused, ends_after_writes, first_difference_is_first,
-    first_fault_is_first, graphs_after_writes, graphs_of_spaces, links_after_writes,
-    no_fault_where_certified, no_fault_where_shaped, objects_after_writes,
-    objects_have_their_fields, objects_stand_at_their_starts, raws_change_no_objects,
-    references_stay_to_starts, shape_fault_is_first, spaces_are_spelled, walks_go_by_steps,
-    words_are_read_back, worked_rows, writes_keep_spaces,
+    certified_graphs_correspond, first_difference_is_first, first_fault_is_first,
+    no_fault_where_certified, no_fault_where_shaped, objects_have_their_fields,
+    raws_change_no_objects, shape_fault_is_first, words_are_read_back, worked_rows,
 };
 pub use layout::{field_index, lower_links};
 pub use refusal::Refusal;

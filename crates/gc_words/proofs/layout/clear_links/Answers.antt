@@ -2,7 +2,7 @@
 use Rattle.std.proofs.Common.{◌≡◌, sym, ◌∙◌, subst}
 use Rattle.std.specs.Prelude.{slice_set, IsOk}
 use Rattle.gc_words.specs.Spelling.{no_links}
-use Rattle.gc_words.specs.Walking.{walk_from}
+use Rattle.gc_words.specs.Internal.Walking.{walk_from}
 use Rattle.gc_words.proofs.Steps.{relinked_step, relinked_from}
 use Rattle.gc_words.proofs.layout.clear_links.Goals as goal
 

@@ -3,7 +3,7 @@ use Rattle.std.proofs.Common.{◌≡◌, ◌-◌, length}
 use Rattle.std.specs.Prelude.{IsOk}
 use Rattle.gc_words.specs.Image.{blocks}
 use Rattle.gc_words.specs.Spelling.{spelled, no_links}
-use Rattle.gc_words.specs.Walking.{walk_from}
+use Rattle.gc_words.specs.Internal.Walking.{walk_from}
 use Rattle.gc_words.proofs.Steps.{relinked_from}
 use Rattle.gc_words.proofs.layout.clear_links.Given as goal
 

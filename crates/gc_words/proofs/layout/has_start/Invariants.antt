@@ -1,7 +1,7 @@
 -- An object starts at the place exactly if the rest of the walk meets one there.
 use Rattle.std.proofs.Common.{◌≡◌, ◌-◌, length}
 use Rattle.std.specs.Prelude.{IsOk}
-use Rattle.gc_words.specs.Walking.{walk_from}
+use Rattle.gc_words.specs.Internal.Walking.{walk_from}
 use Rattle.gc_words.proofs.Steps.{has_start_from}
 use Rattle.gc_words.proofs.layout.has_start.Given as goal
 

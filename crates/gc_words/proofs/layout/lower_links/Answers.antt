@@ -3,7 +3,8 @@ use Rattle.std.proofs.Common.{◌≡◌, ◌+◌, ◌-◌, ℕ, Some, get_or, sy
 use Rattle.std.specs.Prelude.{slice_set, IsOk}
 use Rattle.std.proofs.lemmas.List.{get_or-set_other}
 use Rattle.gc_words.specs.Spelling.{link_at}
-use Rattle.gc_words.specs.Walking.{next_of, walk_from}
+use Rattle.gc_words.specs.Walking.{next_of}
+use Rattle.gc_words.specs.Internal.Walking.{walk_from}
 use Rattle.gc_words.proofs.Steps.{Behind, behind, relinked_step, relinked_from}
 use Rattle.gc_words.proofs.layout.lower_links.Goals as goal
 

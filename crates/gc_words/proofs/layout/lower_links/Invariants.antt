@@ -3,7 +3,7 @@ use Rattle.std.proofs.Common.{◌≡◌, ◌-◌, ◌≤◌, ℕ, get_or, length
 use Rattle.std.specs.Prelude.{IsOk}
 use Rattle.gc_words.specs.Image.{blocks}
 use Rattle.gc_words.specs.Spelling.{spelled, link_at}
-use Rattle.gc_words.specs.Walking.{walk_from}
+use Rattle.gc_words.specs.Internal.Walking.{walk_from}
 use Rattle.gc_words.proofs.Steps.{relinked_from}
 use Rattle.gc_words.proofs.layout.lower_links.Given as goal
 

@@ -1,7 +1,7 @@
 -- The rest of the walk finds the fault that the whole walk finds.
 use Rattle.std.proofs.Common.{◌≡◌, ◌-◌, length}
 use Rattle.std.specs.Result.{result_err}
-use Rattle.gc_words.specs.Walking.{walk_on}
+use Rattle.gc_words.specs.Internal.Walking.{walk_on}
 use Rattle.gc_words.proofs.shape.walk.Given as goal
 
 -- the rest of the walk finds what the whole walk finds

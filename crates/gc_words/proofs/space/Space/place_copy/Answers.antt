@@ -4,7 +4,7 @@ use Rattle.std.proofs.Common.{◌≡◌, ℕ, ◌≤◌, ◌∷◌, ◌++◌, []
 use Rattle.std.specs.Prelude.{IsSome}
 use Rattle.gc_words.specs.Word.{header_word}
 use Rattle.gc_words.specs.Image.{Block, header_at, header_of, block_at}
-use Rattle.gc_words.specs.Spelling.{IsBlock}
+use Rattle.gc_words.specs.Internal.Spelling.{IsBlock}
 use Rattle.gc_words.specs.Space.{SpaceWords, IsSpace, HasRoomFor, with_block}
 use Rattle.gc_words.proofs.Starts.{stands_in}
 use Rattle.gc_words.proofs.Writes.{some_of, block_placed}
