@@ -4,7 +4,7 @@ use Rattle.std.proofs.Common.{◌≡◌, ◌≢◌, ℕ, zero, suc, ◌+◌, ◌
 use Rattle.std.specs.Prelude.{slice_index_or}
 use Rattle.std.proofs.lemmas.Bool.{cases_eq, cases_lt}
 use Rattle.std.proofs.lemmas.List.{get_or_past, ext_get_or}
-use Rattle.gc_along.specs.Internal.InWords.{Codes, HasCodes, code_in, code_at, codes_in, freed, code_now, codes_now}
+use Rattle.gc_along.specs.Internal.InWords.{HasCodes, code_in, code_at, codes_in, freed, code_now, codes_now}
 use Rattle.gc_along.proofs.Packed.{code_seen, length-codes}
 
 -- ---- what codes stand for

@@ -1,6 +1,6 @@
 -- Words written, where the watch allows it.
 use Rattle.std.proofs.lemmas.Grind.{common_steps}
-use Rattle.std.proofs.Common.{◌≡◌, ◌⊎◌, inl, inr, ⊎_elim, ℕ, zero, suc, true, List, [], ◌∷◌, length, refl, set, get_or, take, Option, Some, None, IsTrue, sym, ◌∙◌, ap, subst, arith, length-set, length-take}
+use Rattle.std.proofs.Common.{◌≡◌, ◌⊎◌, inl, inr, ⊎_elim, ℕ, zero, suc, true, List, [], ◌∷◌, refl, set, get_or, take, Option, Some, None, IsTrue, sym, ◌∙◌, ap, subst, arith, length-set, length-take}
 use Rattle.std.specs.Prelude.{slice_get, slice_set, ◌≢◌, IsSome}
 use Rattle.std.proofs.lemmas.Bool.{cases_eq}
 use Rattle.std.proofs.Math.Seq.{take-set-lt}

@@ -3,7 +3,6 @@ use Rattle.std.specs.Prelude.{ℕ, ◌-◌, nat_le, Bool, true, if◌then◌else
 use Rattle.gc_graph.specs.Machine.{object_words}
 use Rattle.gc_words.specs.Layout.{next_place}
 use Rattle.gc_words.specs.Word.{header_in}
-use Rattle.gc_words.specs.Image.{walk}
 use Rattle.gc_words.specs.declared.header.Header.{Header}
 
 abbrev pub next_after : ℕ → Option Header → ℕ → Option ℕ

@@ -1,6 +1,6 @@
 -- The codes of the block are freed, since they did not count, and count from now on.
 use Rattle.std.proofs.lemmas.Grind.{common_steps}
-use Rattle.std.proofs.Common.{get_or, arith, get_or-set_same, get_or-set_other}
+use Rattle.std.proofs.Common.{arith, get_or-set_same, get_or-set_other}
 use Rattle.gc_along.proofs.Freed.{renewed}
 use Rattle.gc_along.proofs.old_row.renew.Goals as goal
 

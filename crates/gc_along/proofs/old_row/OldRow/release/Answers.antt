@@ -1,6 +1,6 @@
 -- In the next epoch, each code 2 stands for 1.
 use Rattle.std.proofs.lemmas.Grind.{common_steps}
-use Rattle.std.proofs.Common.{length, arith}
+use Rattle.std.proofs.Common.{arith}
 use Rattle.gc_along.proofs.Freed.{length-now, now_at}
 use Rattle.gc_along.proofs.old_row.OldRow.release.Goals as goal
 

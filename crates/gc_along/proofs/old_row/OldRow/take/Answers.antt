@@ -1,6 +1,6 @@
 -- The block of the place counts, so its code 2 stands for itself.
 use Rattle.std.proofs.lemmas.Grind.{common_steps}
-use Rattle.std.proofs.Common.{length, arith}
+use Rattle.std.proofs.Common.{arith}
 use Rattle.gc_along.proofs.Freed.{length-now, now_set}
 use Rattle.gc_along.proofs.old_row.OldRow.take.Goals as goal
 

@@ -1,9 +1,8 @@
 -- A turn adds a root whose target has a replica, or ends the search at the first root whose target has none.
 use Rattle.gc_copy.proofs.RootWalks.{value_at}
 use Rattle.std.proofs.lemmas.Grind.{common_steps}
-use Rattle.std.proofs.Common.{⊎_elim, Some, arith}
+use Rattle.std.proofs.Common.{⊎_elim, arith}
 use Rattle.std.proofs.lemmas.Bool.{cases_eq}
-use Rattle.gc_graph.specs.Graph.{root}
 use Rattle.gc_plan.proofs.Public.{is_missing, is_replicated}
 use Rattle.gc_copy.proofs.collection.Collection.missing_root.Goals as goal
 

@@ -1,6 +1,6 @@
 -- The roots are done, so each root word's target has a replica and can be moved; the row becomes the first moved roots, and those behind are nil.
 use Rattle.std.proofs.lemmas.Grind.{common_steps}
-use Rattle.std.proofs.Common.{◌-◌, length, map, take, drop, ap, arith, length-append}
+use Rattle.std.proofs.Common.{take, ap, arith, length-append}
 use Rattle.std.proofs.lemmas.List.{length-map, length-drop, length-take-le, get_or-take}
 use Rattle.gc_copy.specs.Words.{collection_in}
 use Rattle.gc_copy.proofs.RootWalks.{moved_to, moved_first, root_has_replica}

@@ -1,6 +1,6 @@
 -- The copy at the new end, with links both ways, is the plan's new replica; if it lacks room, the plan places none either.
 use Rattle.std.proofs.lemmas.Grind.{common_steps}
-use Rattle.std.proofs.Common.{◌≡◌, ◌+◌, arith, false, Some, None, ap, sym, subst}
+use Rattle.std.proofs.Common.{◌≡◌, ◌+◌, arith, Some, None, ap, sym, subst}
 use Rattle.gc_graph.specs.Graph.{lookup}
 use Rattle.gc_words.specs.Image.{header_at}
 use Rattle.gc_words.specs.Space.{HasRoomFor}

@@ -1,6 +1,6 @@
 -- More room in one log changes no entry and takes no room from another log, so the collection still belongs to the heap.
 use Rattle.std.proofs.lemmas.Grind.{common_steps}
-use Rattle.std.proofs.Common.{◌≡◌, length, length-set, arith}
+use Rattle.std.proofs.Common.{◌≡◌, length-set, arith}
 use Rattle.std.specs.Prelude.{slice_set}
 use Rattle.gc_copy.specs.contracts.collection.Collection.{the_view}
 use Rattle.gc_copy.specs.Words.{collection_in}

@@ -1,6 +1,6 @@
 -- The loop meets each object of the heap once and lowers its link, and no other word changes.
 use Rattle.std.proofs.lemmas.Grind.{common_steps}
-use Rattle.std.proofs.Common.{◌-◌, arith}
+use Rattle.std.proofs.Common.{arith}
 use Rattle.gc_copy.proofs.ObjectWalks.{start_met}
 use Rattle.gc_copy.proofs.Lowering.{lowers_none, lowers_more}
 use Rattle.gc_copy.proofs.collection.flipping.lower_links.Goals as goal
