@@ -7,6 +7,7 @@ import shutil
 import subprocess
 import sys
 import xml.etree.ElementTree as ElementTree
+from unittest import mock
 
 from . import pairs
 from .c_builds import library
@@ -20,7 +21,7 @@ SVG = "{http://www.w3.org/2000/svg}"
 sys.path[:0] = [os.path.join(TOP, "tools"), os.path.join(TOP, "bindings", "python")]
 
 from drawing import crates_picture, svg  # noqa: E402
-from drawing.machine import Machine  # noqa: E402
+from gcflip.explore.stage import played  # noqa: E402
 from gcflip_drawing import pair_picture, timeline  # noqa: E402
 from gcflip_drawing.excerpt import excerpt_of  # noqa: E402
 from gcflip_drawing.graph_picture import drawn_as_graph  # noqa: E402
@@ -342,11 +343,6 @@ def written_pairs(_program, _folder):
 
 # ---- traces
 
-def played(trace):
-    machine = Machine(trace.size, trace.mutators)
-    return [machine.measured(event) for event in trace.events]
-
-
 def run_of(name):
     """Returns the timeline's run of an example."""
     trace = read_trace(example(name + ".trace").encode())
@@ -364,21 +360,21 @@ def faults_of_traces(program, folder):
         yield "fault of %s" % name, None if found == line == said.first_error_line() else "%r, and the program says %r" % (found, said.stderr)
 
 
-def replies(_program, _folder):
-    """Compares the replies of the timeline's machine with those that the rules give."""
-    for name, conversation in PLAYED.items():
-        text, wanted = trace_and_replies(conversation)
-        trace = read_trace(text)
-        found = "".join(measure.reply + "\n" for measure in played(trace))
-        yield "replies to %s" % name, None if found == wanted.decode() else "replied %r, wanted %r" % (found, wanted.decode())
-
-
 # The marks of some traces: flips, dropped collections, allocations without room, steps without room.
 MARKS = {"second_collection": (2, 0, 1, 0), "too_small_and_then_larger": (1, 1, 1, 2), "refusals": (0, 0, 1, 0),
          "log_across_two_mutators": (1, 0, 0, 0)}
 
 
 def timelines(_program, folder):
+    """Plays traces on the library in this process."""
+    shared = shared_library(folder)
+    if shared is None:
+        return
+    with mock.patch.dict(os.environ, GCFLIP_LIBRARY=shared):
+        yield from played_timelines()
+
+
+def played_timelines():
     for name, conversation in PLAYED.items():
         text, _ = trace_and_replies(conversation)
         trace = read_trace(text)
@@ -505,8 +501,11 @@ UNREADABLE = {
 
 
 def messages(program, folder):
+    shared = shared_library(folder)
+    if shared is None:
+        return
     for name, (text, part) in UNREADABLE.items():
-        status, written, said = draw(file_of(folder, name, text), "--program", program)
+        status, written, said = draw(file_of(folder, name, text), "--program", program, shared=shared)
         right = status == 1 and written == "" and said.startswith("draw: ") and part in said and said.count("\n") == 1
         yield "message for %s" % name, None if right else "status %d, said %r" % (status, said)
     status, _, said = draw(os.path.join(folder, "no such file"))
@@ -514,6 +513,11 @@ def messages(program, folder):
     status, written, said = draw(os.path.join(TOP, "examples", "replica_out_of_date.pair"), "--program", os.path.join(folder, "none"))
     right = status == 0 and "not checked" in written and "not checked" in said
     yield "a pair without a program is drawn and not checked", None if right else "status %d, said %r" % (status, said)
+    out = os.path.join(folder, "none.svg")
+    status, written, said = draw(os.path.join(TOP, "examples", "second_collection.trace"), "-o", out)
+    told = said.startswith("draw: ") and said.endswith("; build it by 'make -C bindings/c', or set GCFLIP_LIBRARY to its path\n") and said.count("\n") == 1
+    right = (status, written) == (1, "") and told and not os.path.exists(out)
+    yield "a trace without the library", None if right else "status %d, said %r" % (status, said)
 
 
 # For each example that is refused: where, as docs/FORMATS.md reads its words. The pictures of two of them are kept.
@@ -646,10 +650,13 @@ def legible(_program, _folder):
 
 def widths(program, folder):
     """Checks pictures of several widths: nothing is outside, they are about as wide as they should be, and the verdict is whole."""
+    shared = shared_library(folder)
+    if shared is None:
+        return
     for width in (300, NARROW, 700, 1600):
         for name in ("second_collection.trace", "log_across_two_mutators.trace", "replica_out_of_date.pair", "number_moved_as_a_reference.pair"):
             case = "%s, %d wide" % (name, width)
-            status, written, said = draw("--json", "--width", str(width), os.path.join(TOP, "examples", name), "--program", program)
+            status, written, said = draw("--json", "--width", str(width), os.path.join(TOP, "examples", name), "--program", program, shared=shared)
             described = json.loads(written) if status == 0 else {"title": said, "shapes": [], "width": 0, "height": 0}
             drawn = Picture(described["title"])
             drawn.shapes, drawn.width, drawn.height = described["shapes"], described["width"], described["height"]
@@ -735,5 +742,5 @@ def drawn_by_hand(_program, _folder):
         yield "ends of arrows of docs/pictures/%s.svg" % name, far_ends(root) and "%s ends at nothing" % far_ends(root)
 
 
-GROUPS = [examples, small_pairs, graphs, faults, large_pairs, bundles, excerpts, written_pairs, faults_of_traces, replies, timelines, crates, messages, tool, widths, paths, long_paths, kept,
+GROUPS = [examples, small_pairs, graphs, faults, large_pairs, bundles, excerpts, written_pairs, faults_of_traces, timelines, crates, messages, tool, widths, paths, long_paths, kept,
           legible, drawn_by_hand]

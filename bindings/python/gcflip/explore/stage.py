@@ -3,12 +3,13 @@ from __future__ import annotations
 
 import array
 import ctypes
-from typing import Callable, NamedTuple
+from typing import Callable, Iterator, NamedTuple
 
 from gcflip import Heap, Image
 from gcflip.heap import SLOTS
 from gcflip.library import Counts, LogEntry
 from gcflip_drawing.timeline import Measure
+from gcflip_drawing.trace_text import Trace
 
 from .acts import Acts
 
@@ -67,3 +68,11 @@ class Stage:
 
     def logs(self) -> list[array.array[int]]:
         return [self.log(mutator.number) for mutator in self.mutators]
+
+
+def played(trace: Trace) -> Iterator[Measure]:
+    """Plays a trace on a heap of its own, and yields the state after each event. Raises OSError if the library cannot be loaded, and OutOfMemory."""
+    with Heap(trace.size, trace.mutators) as heap:
+        stage = Stage(heap)
+        for event in trace.events:
+            yield stage.measured(stage.acts.of(event)())
