@@ -1,5 +1,5 @@
 """Names of definitions that have a meaning in each of several crates. One name has one meaning: tests/two_meanings.txt lists the exceptions, each with
-its reason. Files of worked examples, whose names no other file cites, do not count."""
+its reason. Within a crate there is none. Files of worked examples, whose names no other file cites, do not count."""
 import collections
 import glob
 import os
@@ -12,16 +12,21 @@ DEFINITION = re.compile(r"(?m)^(?:abbrev |unfoldable )?pub (?:abbrev |unfoldable
 EXAMPLES = re.compile(r"Rows\.antt$")
 
 
-def crates_of_names():
-    """Returns the crates whose specs/ define each name, where it is more than one."""
-    found = collections.defaultdict(set)
+def files_of_names():
+    """Returns the files of specs/ that define each name, by the crate."""
+    found = collections.defaultdict(lambda: collections.defaultdict(set))
     for crate in crates_listed():
         for path in glob.glob(os.path.join(CRATES, crate, "specs", "**", "*.antt"), recursive=True):
             if not EXAMPLES.search(path):
                 with open(path, encoding="utf-8") as file:
                     for name in DEFINITION.findall(file.read()):
-                        found[name].add(crate)
-    return {name: sorted(crates) for name, crates in found.items() if len(crates) > 1}
+                        found[name][crate].add(os.path.relpath(path, CRATES))
+    return found
+
+
+def crates_of_names():
+    """Returns the crates whose specs/ define each name, where it is more than one."""
+    return {name: sorted(files) for name, files in files_of_names().items() if len(files) > 1}
 
 
 def crates_listed_of_names():
@@ -37,7 +42,11 @@ def crates_listed_of_names():
 
 
 def unlisted():
-    """Yields what is wrong with the list: a name with two meanings that it lacks, and a line that is no longer so."""
+    """Yields what is wrong: a name with two meanings within a crate, one that the list lacks, and a line of it that is no longer so."""
+    for name, of_crates in sorted(files_of_names().items()):
+        for files in of_crates.values():
+            if len(files) > 1:
+                yield "%s has a meaning in each of %s" % (name, ", ".join(sorted(files)))
     found, listed = crates_of_names(), crates_listed_of_names()
     for name in sorted(set(found) | set(listed)):
         if name not in listed:

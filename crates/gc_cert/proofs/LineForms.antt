@@ -10,7 +10,7 @@ use Rattle.gc_graph.specs.Lines.{HasNo, space, joined, tokens_of}
 use Rattle.gc_graph.specs.Tokens.{◌>>=◌, Tokens, number_at, token_at, if_all_taken}
 use Rattle.gc_graph.proofs.Public.{number_found, number_again, HasNo-decimal, tokens_of-joined, joined-tokens_of, bind_some, onto, number_at_found, number_at_again, token_at_found, token_at_again, end_found, end_again, positive, some_is}
 use Rattle.gc_cert.specs.Grammar.{heading, pair_line, count_line, size_line, IsWord, AreAddresses, AreSizes}
-use Rattle.gc_cert.specs.Internal.Parsers.{count_of, sizes_of, pair_of, is_name, is_line, raws_in, word_in}
+use Rattle.gc_cert.specs.Internal.Parsers.{count_of, sizes_of, address_pair, is_name, is_line, raws_in, word_in}
 use Rattle.gc_cert.specs.Internal.Sections.{Nothing, AnyFlag}
 use Rattle.gc_cert.proofs.Forms.{IsForm}
 
@@ -111,8 +111,8 @@ size_form name named = record {
   again = λ s fits. ap (sizes_of name) (tokens_of-joined name (decimal s.0 ∷ decimal s.1 ∷ []) (HasNo-name space name (omega arith) named, (no_space s.0 (omega (arith, fits)), (no_space s.1 (omega (arith, fits)), tt)))) ∙ sizes_again name s.0 s.1 fits;
 }
 
-pair_found : (tokens : Tokens) (p : ℕ × ℕ) → pair_of tokens ≡ Some p → AreAddresses p × (tokens ≡ decimal p.0 ∷ decimal p.1 ∷ [])
-unfolding pair_of
+pair_found : (tokens : Tokens) (p : ℕ × ℕ) → address_pair tokens ≡ Some p → AreAddresses p × (tokens ≡ decimal p.0 ∷ decimal p.1 ∷ [])
+unfolding address_pair
 pair_found tokens p e =
     let a0 = bind_some (number_at 4294967295 tokens) (λ old. number_at 4294967295 old.1 >>= λ new. if_all_taken (old.0, new.0) new.1) p e in
     let a1 = bind_some (number_at 4294967295 a0.0.1) (λ new. if_all_taken (a0.0.0, new.0) new.1) p a0.2 in
@@ -121,14 +121,14 @@ pair_found tokens p e =
     let w1 = number_at_found 4294967295 a0.0.1 a1.0 a1.1 in
     subst (λ (q : ℕ × ℕ). AreAddresses q × (tokens ≡ decimal q.0 ∷ decimal q.1 ∷ [])) z.1 ((omega (arith, w0.1), omega (arith, w1.1)), w0.0 ∙ onto (decimal a0.0.0) (w1.0 ∙ onto (decimal a1.0.0) z.0))
 
-pair_again : (old new : ℕ) → AreAddresses (old, new) → pair_of (decimal old ∷ decimal new ∷ []) ≡ Some (old, new)
-unfolding pair_of
+pair_again : (old new : ℕ) → AreAddresses (old, new) → address_pair (decimal old ∷ decimal new ∷ []) ≡ Some (old, new)
+unfolding address_pair
 pair_again old new fits = grind (arith, common_steps, number_at_again, end_again)
 
-pub pair_form : IsForm AreAddresses pair_line (λ line. pair_of (tokens_of line))
+pub pair_form : IsForm AreAddresses pair_line (λ line. address_pair (tokens_of line))
 pair_form = record {
   some = (0, 0);
   in_range = (omega arith, omega arith);
   found = λ line p e. (let f = pair_found (tokens_of line) p e in (f.0, from_tokens line (decimal p.0 ∷ decimal p.1 ∷ []) f.1));
-  again = λ p fits. ap pair_of (tokens_of-joined (decimal p.0) (decimal p.1 ∷ []) (no_space p.0 (omega (arith, fits.0)), (no_space p.1 (omega (arith, fits.1)), tt))) ∙ pair_again p.0 p.1 fits;
+  again = λ p fits. ap address_pair (tokens_of-joined (decimal p.0) (decimal p.1 ∷ []) (no_space p.0 (omega (arith, fits.0)), (no_space p.1 (omega (arith, fits.1)), tt))) ∙ pair_again p.0 p.1 fits;
 }

@@ -13,7 +13,7 @@ use Rattle.gc_cert.specs.Internal.Grammar.{image_alone, IsImageBy}
 use Rattle.gc_cert.specs.Faults.{limit, AreFirst, HasWrongLine, HasByteBehind, IsCutOff, IsPairFaultOf, IsReadAsPair, MayFail}
 use Rattle.gc_cert.specs.Sections.{Place, start, IsNextLine, HasTaken}
 use Rattle.gc_cert.specs.Internal.Sections.{Nothing, AnyFlag, alone, AreAll, Section, Spelled, Begins, IsWrongAt, IsCutIn, MayStop}
-use Rattle.gc_cert.specs.Internal.Parsers.{count_of, sizes_of, pair_of, is_name, is_line, raws_in, word_in}
+use Rattle.gc_cert.specs.Internal.Parsers.{count_of, sizes_of, address_pair, is_name, is_line, raws_in, word_in}
 use Rattle.gc_cert.specs.declared.fault.PairFault.{PairFault}
 use Rattle.gc_cert.specs.declared.fault.PairFault.TheVariants.{BadLine, EndsEarly}
 use Rattle.gc_cert.proofs.Stops.{Delimits, BeginsWith, taken_then, wrong_within, cut_within}
@@ -84,8 +84,8 @@ unfolding Outcome
 certificate_outcome p =
     next (λ n. n ≤ 524287) (alone (count_line (codes "pairs"))) CertificateSection [] p p (alone_delimits (λ n. n ≤ 524287) (count_line (codes "pairs")) (λ line. count_of (codes "pairs") 524287 (tokens_of line)) count) certificate_count (none_taken p)
     (line_outcome (λ n. n ≤ 524287) (count_line (codes "pairs")) (λ line. count_of (codes "pairs") 524287 (tokens_of line)) p count) (λ n a le first.
-    next (AreAll AreAddresses n) (map pair_line) CertificateSection (pairs_line n ∷ []) p a (all_delimit AreAddresses pair_line (λ line. pair_of (tokens_of line)) n pair_form) (certificate_pairs n le) first
-    (all_outcome AreAddresses pair_line (λ line. pair_of (tokens_of line)) n a pair_form) (λ pairs b ps second.
+    next (AreAll AreAddresses n) (map pair_line) CertificateSection (pairs_line n ∷ []) p a (all_delimit AreAddresses pair_line (λ line. address_pair (tokens_of line)) n pair_form) (certificate_pairs n le) first
+    (all_outcome AreAddresses pair_line (λ line. address_pair (tokens_of line)) n a pair_form) (λ pairs b ps second.
     next Nothing (alone (λ _. codes "end")) CertificateSection (up_to_end n pairs) p b (alone_delimits Nothing (λ _. codes "end") (is_line (codes "end")) (fixed_form (codes "end"))) (certificate_end n pairs le ps) second
     (line_outcome Nothing (λ _. codes "end") (is_line (codes "end")) b (fixed_form (codes "end"))) (λ _ c _ last.
     (let whole = certificate_taken n pairs p c le ps last in inl (pairs, c, whole.0, whole.1)))))

@@ -23,8 +23,8 @@ abbrev pub word_in : List ℕ → Option ℕ
 word_in line = number_of_token 18446744073709551615 line
 
 -- an old and a new address
-unfoldable pub pair_of : Tokens → Option (ℕ × ℕ)
-pair_of tokens = do
+unfoldable pub address_pair : Tokens → Option (ℕ × ℕ)
+address_pair tokens = do
   old ← number_at 4294967295 tokens
   new ← number_at 4294967295 old.1
   if_all_taken (old.0, new.0) new.1

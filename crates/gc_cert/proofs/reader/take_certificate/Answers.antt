@@ -5,7 +5,7 @@ use Rattle.std.proofs.lemmas.Result.{err_from_is_err_and}
 use Rattle.gc_graph.specs.Lines.{tokens_of}
 use Rattle.gc_words.specs.Views.{addresses}
 use Rattle.gc_cert.specs.Grammar.{pair_line, count_line, AreAddresses}
-use Rattle.gc_cert.specs.Internal.Parsers.{count_of, pair_of, is_line}
+use Rattle.gc_cert.specs.Internal.Parsers.{count_of, address_pair, is_line}
 use Rattle.gc_cert.specs.Internal.Sections.{Nothing, alone, AreAll}
 use Rattle.gc_cert.proofs.Forms.{alone_delimits, all_delimit}
 use Rattle.gc_cert.proofs.LineForms.{fixed_form, count_form, pair_form}
@@ -24,7 +24,7 @@ returns-in_err-pairs-clause-place g c text p h =
     let fault = err_from_is_err_and c.from_residual-in_err-pairs.result c.from_residual-in_err-pairs.ensures.1 in
     let one = c.in_ok-count.ensures.place text p h in
     rw (fault.1, fault.2) (end_within (AreAll AreAddresses c.in_ok-count.count) (map pair_line) CertificateSection (pairs_line c.in_ok-count.count ∷ []) text p one.0 _ _
-    (all_delimit AreAddresses pair_line (λ line. pair_of (tokens_of line)) c.in_ok-count.count pair_form) (certificate_pairs c.in_ok-count.count c.in_ok-count.ensures.fits) one.2 (c.in_err-pairs.ensures.place text one.0 one.1))
+    (all_delimit AreAddresses pair_line (λ line. address_pair (tokens_of line)) c.in_ok-count.count pair_form) (certificate_pairs c.in_ok-count.count c.in_ok-count.ensures.fits) one.2 (c.in_err-pairs.ensures.place text one.0 one.1))
 
 pub returns-in_err-take-clause-place : goal.returns-in_err-take-clause-place
 returns-in_err-take-clause-place g c text p h =

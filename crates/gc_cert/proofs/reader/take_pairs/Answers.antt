@@ -8,7 +8,7 @@ use Rattle.gc_graph.specs.Streams.{source_failed}
 use Rattle.gc_graph.proofs.Public.{all_push}
 use Rattle.gc_words.specs.Views.{addresses}
 use Rattle.gc_cert.specs.Grammar.{pair_line, AreAddresses}
-use Rattle.gc_cert.specs.Internal.Parsers.{pair_of}
+use Rattle.gc_cert.specs.Internal.Parsers.{address_pair}
 use Rattle.gc_cert.specs.Internal.Sections.{alone, AreAll, Spelled}
 use Rattle.gc_cert.proofs.Forms.{alone_delimits, begins_with_one, push_taken}
 use Rattle.gc_cert.proofs.LineForms.{pair_form}
@@ -21,7 +21,7 @@ returns-in_err-pair-clause-place g c text p h =
     let i = c.loop.invariant in
     let at = i.place text p h in
     let pairs = map addresses c.loop.pairs.items in
-    rw (fault.1, fault.2) (end_within AreAddresses (alone pair_line) (Spelled (AreAll AreAddresses c.args.count) (map pair_line)) (map pair_line pairs) text p at.0 _ _ (alone_delimits AreAddresses pair_line (λ line. pair_of (tokens_of line)) pair_form)
+    rw (fault.1, fault.2) (end_within AreAddresses (alone pair_line) (Spelled (AreAll AreAddresses c.args.count) (map pair_line)) (map pair_line pairs) text p at.0 _ _ (alone_delimits AreAddresses pair_line (λ line. address_pair (tokens_of line)) pair_form)
     (begins_with_one AreAddresses pair_line c.args.count pairs (omega (arith, i.all.0, c.loop-test.true)) i.all.1) at.2 (c.in_err-pair.ensures.place text at.0 at.1))
 
 pub loop-preserved : goal.loop-preserved
