@@ -9,7 +9,7 @@ use Rattle.gc_words.specs.Word.{words_correspond, field_words_correspond}
 use Rattle.gc_words.specs.Image.{Image, Block, block_at}
 use Rattle.gc_words.specs.Certificate.{BlocksCorrespond}
 use Rattle.gc_words.specs.declared.header.Header.{Header}
-use Rattle.gc_check.specs.Tables.{pair_at}
+use Rattle.gc_check.specs.Pairs.{pair_at}
 use Rattle.gc_check.specs.Internal.Meetings.{met, met_all, met_objects, alike_all, AlikeTo}
 use Rattle.gc_check.proofs.Forced.{Grows, met_all_grows, met_blocks_grow}
 

@@ -18,7 +18,7 @@ use Rattle.gc_words.specs.Fault.{same_header}
 use Rattle.gc_words.specs.declared.header.Header.{Header}
 use Rattle.gc_words.proofs.Public.{same_header_of, header_same, object_option, lookup_of_blocks, place_of}
 use Rattle.gc_check.specs.Infer.{Together, AreTogether}
-use Rattle.gc_check.specs.Tables.{pair_at}
+use Rattle.gc_check.specs.Pairs.{pair_at}
 use Rattle.gc_check.specs.Internal.Meetings.{is_free, met, met_all, met_blocks, met_objects, HaveMet, AllMet, BlocksMet, ObjectsMet, MetTo}
 use Rattle.gc_check.proofs.Meetings.{free_parts}
 

@@ -17,7 +17,7 @@ use Rattle.gc_words.specs.Fault.{first_fault}
 use Rattle.gc_words.specs.declared.image.Pair.{Pair}
 use Rattle.gc_words.specs.declared.refusal.Refusal.{Refusal}
 use Rattle.gc_check.specs.Infer.{Certifiable, AreForced, Together, AreTogether}
-use Rattle.gc_check.specs.Tables.{pair_at}
+use Rattle.gc_check.specs.Pairs.{pair_at}
 use Rattle.gc_check.specs.Verdict.{pairs_of}
 use Rattle.gc_check.specs.declared.meet.Found.{Found}
 use Rattle.gc_check.proofs.StartMarks.{low_start}

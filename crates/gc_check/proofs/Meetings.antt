@@ -13,7 +13,7 @@ use Rattle.gc_check.specs.Internal.Starts.{starts_from}
 use Rattle.gc_check.specs.Internal.Tables.{HasEntries}
 use Rattle.gc_check.specs.Internal.Meetings.{is_free, swapped, taken_in, partners_in, originals_in, HoldsFound}
 use Rattle.std.proofs.lemmas.List.{get_or-map, length-append}
-use Rattle.gc_check.specs.Tables.{pair_at}
+use Rattle.gc_check.specs.Pairs.{pair_at}
 use Rattle.gc_check.specs.Verdict.{pairs_of}
 use Rattle.gc_check.proofs.StartMarks.{low_start, start_within}
 use Rattle.gc_check.proofs.ByAddress.{length_by_address, number_starts}

@@ -5,6 +5,6 @@ pub mod Internal
 pub mod Paths
 pub mod Profile
 pub mod Rows
-pub mod Tables
+pub mod Pairs
 pub mod Texts
 pub mod Verdict

@@ -22,11 +22,11 @@ pub struct Tables<'a> {
 
 impl<'a> Model for Tables<'a> {
     ghost use Rattle.gc_words.specs.Views.{image_of};
-    ghost use Rattle.gc_check.specs.Tables.{Checked};
+    ghost use Rattle.gc_cert.specs.Grammar.{CertifiedPair};
     ghost use Rattle.gc_check.specs.Internal.Tables.{HasTables};
     ghost use Rattle.gc_check.specs.Verdict.{pairs_of};
 
-    ghost Value = { Checked };
+    ghost Value = { CertifiedPair };
 
     ghost view = { λ t. record {
       old = t.old;
@@ -49,7 +49,7 @@ impl<'a> Tables<'a> {
     ghost use Rattle.gc_words.specs.Views.{image_of};
     ghost use Rattle.gc_check.specs.Profile.{small_table_fault};
     ghost use Rattle.gc_check.specs.Internal.Tables.{HasTables};
-    ghost use Rattle.gc_check.specs.Tables.{pair_at};
+    ghost use Rattle.gc_check.specs.Pairs.{pair_at};
     ghost use Rattle.gc_check.specs.Verdict.{pairs_of, IsRefusalOf};
 
     /// Builds the tables of two images of at most `MOST_WORDS` words and a certificate, which they borrow. Allocates

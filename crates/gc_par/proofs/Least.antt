@@ -8,7 +8,7 @@ use Rattle.rayon.proofs.ToStd.{IsLeast-All}
 use Rattle.gc_words.specs.Image.{Image}
 use Rattle.gc_words.specs.Fault.{◌or_else◌, first_over_pairs, pair_fault, object_faults}
 use Rattle.gc_words.specs.declared.refusal.Refusal.{Refusal}
-use Rattle.gc_check.specs.Tables.{Checked}
+use Rattle.gc_cert.specs.Grammar.{CertifiedPair}
 use Rattle.gc_par.specs.Internal.Least.{fault_at, place_or, IsFirst}
 
 -- ---- the least number
@@ -85,14 +85,14 @@ module _ (old new : Image) (all : List (ℕ × ℕ)) where
       ap (λ o. o or_else first_over_pairs (pair_fault old new all) (suc k) rest) (none 0 k (omega arith) (omega arith))
       ∙ first_from (suc k) m at rest (omega arith) (omega arith) (λ j i is inside. none (suc j) i (omega arith) (omega arith)) some
 
-pub first_has_first_fault : (c : Checked) (n m : ℕ) → n ≡ length c.pairs → IsFirst (fault_at c) n m → m < n
+pub first_has_first_fault : (c : CertifiedPair) (n m : ℕ) → n ≡ length c.pairs → IsFirst (fault_at c) n m → m < n
     → fault_at c m ≡ object_faults c.old c.new c.pairs
 first_has_first_fault c n m all first inside =
     sym (first_from c.old c.new c.pairs 0 m m c.pairs (omega arith) (omega arith)
     (λ j i is below. let same : i ≡ j = omega arith in subst (λ i. pair_fault c.old c.new c.pairs i (get_or c.pairs j (0, 0)) ≡ None) (sym same) (first.before j below))
     (first.here inside))
 
-pub none_has_no_fault : (c : Checked) (n m : ℕ) → n ≡ length c.pairs → IsFirst (fault_at c) n m → n ≤ m
+pub none_has_no_fault : (c : CertifiedPair) (n m : ℕ) → n ≡ length c.pairs → IsFirst (fault_at c) n m → n ≤ m
     → None ≡ object_faults c.old c.new c.pairs
 none_has_no_fault c n m all first past =
     sym (none_from c.old c.new c.pairs 0 c.pairs

@@ -10,7 +10,7 @@ use Rattle.gc_words.specs.Fault.{same_header}
 use Rattle.gc_check.specs.Infer.{AreForced, AreTogether}
 use Rattle.gc_check.specs.Internal.Starts.{starts_from}
 use Rattle.gc_check.specs.Internal.Tables.{HasEntries, HoldsPartners, by_address}
-use Rattle.gc_check.specs.Tables.{pair_at}
+use Rattle.gc_check.specs.Pairs.{pair_at}
 use Rattle.gc_check.specs.Verdict.{pairs_of}
 use Rattle.gc_check.specs.declared.meet.Found.{Found}
 

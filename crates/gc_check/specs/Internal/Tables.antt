@@ -8,7 +8,7 @@ use Rattle.gc_words.specs.Image.{Image, walk_words, is_start}
 use Rattle.gc_words.specs.Fault.{◌or_else◌, table_fault}
 use Rattle.gc_words.specs.declared.refusal.Refusal.{Refusal}
 use Rattle.gc_words.specs.declared.refusal.Refusal.TheVariants.{OldNotStart, NewNotStart, NotRising, Twice}
-use Rattle.gc_check.specs.Tables.{Checked}
+use Rattle.gc_cert.specs.Grammar.{CertifiedPair}
 
 -- ---- a mark for each place
 
@@ -53,7 +53,7 @@ entry_fault old new partners last k p =
     or_else then_some (not (slice_index partners p.0 == 0)) (Twice k)
 
 -- a `u32` can count the pairs, their addresses have no fault, and the table holds the partners of these pairs
-pub record HasTables (checked : Checked) (entries : List ℕ) : Type 0 where
+pub record HasTables (checked : CertifiedPair) (entries : List ℕ) : Type 0 where
   pub few : length checked.pairs < 2 ^ 32
   pub placed : table_fault checked.old checked.new checked.pairs ≡ None
   pub fits : HasEntries checked.old.words entries

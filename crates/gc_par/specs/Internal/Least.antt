@@ -2,10 +2,11 @@
 use Rattle.std.specs.Prelude.{◌≡◌, ℕ, ◌<◌, ◌≤◌, true, if◌then◌else◌, Option, None, is_some}
 use Rattle.gc_words.specs.Fault.{pair_fault}
 use Rattle.gc_words.specs.declared.refusal.Refusal.{Refusal}
-use Rattle.gc_check.specs.Tables.{Checked, pair_at}
+use Rattle.gc_cert.specs.Grammar.{CertifiedPair}
+use Rattle.gc_check.specs.Pairs.{pair_at}
 
 -- the fault of the objects of pair k
-abbrev pub fault_at : Checked → ℕ → Option Refusal
+abbrev pub fault_at : CertifiedPair → ℕ → Option Refusal
 fault_at checked k = pair_fault checked.old checked.new checked.pairs k (pair_at checked.pairs k)
 
 -- k if its pair has a fault, otherwise the number of pairs

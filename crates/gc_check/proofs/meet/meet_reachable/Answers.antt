@@ -6,7 +6,7 @@ use Rattle.std.proofs.lemmas.List.{length-map}
 use Rattle.gc_words.specs.Certificate.{BlocksCorrespond}
 use Rattle.gc_words.specs.Image.{block_at}
 use Rattle.gc_words.specs.Views.{addresses}
-use Rattle.gc_check.specs.Tables.{pair_at}
+use Rattle.gc_check.specs.Pairs.{pair_at}
 use Rattle.gc_check.specs.Internal.Meetings.{met_objects, MetTo, AlikeTo}
 use Rattle.gc_check.specs.Verdict.{pairs_of}
 use Rattle.gc_check.proofs.Meetings.{pair_is, taken_few}
