@@ -8,7 +8,7 @@ use crate::fault::TraceFault;
 use crate::front::{Heading, first_two_lines, line};
 use gc_graph::text::{Front, Pieces};
 use gc_graph::{MOST_WORDS, Source};
-use gc_world::Event;
+use gc_plan::Event;
 use std::alloc::Global;
 use std::io::Read;
 

@@ -7,19 +7,13 @@ ghost use Rattle.gc_trace.specs.Faults.{HasNoHeading, BeginsWithNoEvent};
 ghost use Rattle.gc_trace.specs.Grammar.{slot, op_tokens, step_tokens, op_version, step_version, event_tokens, event_line, trace_heading, IsHeading, HasLine};
 ghost use Rattle.gc_trace.specs.Internal.Fronts.{spaced, FindsToken, FindsTokens};
 
+use crate::trace::{RAW, SIZED};
 use gc_graph::text::Front;
-use gc_graph::{Number, Op, Slot};
+use gc_graph::{MOST_MUTATORS, MOST_WORDS, Number, Op, Slot};
 use gc_plan::{Event, Step};
-use gc_words::MOST_WORDS;
 
 /// The newest version of the text.
 const NEWEST: u64 = 3;
-
-/// The first version in which `begin` can give the size of the new space.
-const SIZED: u8 = 2;
-
-/// The first version with raw objects.
-const RAW: u8 = 3;
 
 /// Returns the number below 16 that the first byte, or both bytes, spell in decimal, and the number of its digits. To
 /// be fast, no branch depends on the number of digits.
@@ -425,7 +419,7 @@ pub fn first_two_lines(front: &mut Front<'_>) -> Option<Heading>
     literal(front, b"\nspace")?;
     let words = next_number(front, u64::from(MOST_WORDS))? as u32;
     literal(front, b" mutators")?;
-    let mutators = next_number(front, 16)? as u8;
+    let mutators = next_number(front, u64::from(MOST_MUTATORS))? as u8;
     literal(front, b"\n")?;
     if version == 0 || words == 0 || mutators == 0 {
         return None;

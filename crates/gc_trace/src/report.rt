@@ -1,5 +1,6 @@
 use gc_cert::WriteFault;
-use gc_copy::{StepReply, heaps_have_addresses_as_names};
+use gc_copy::heaps_have_addresses_as_names;
+use gc_plan::StepReply;
 use gc_graph::text::Printer;
 use gc_graph::{Reply, Sink};
 use gc_words::Space;

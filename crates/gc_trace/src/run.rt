@@ -10,7 +10,8 @@ ghost use Rattle.gc_trace.specs.Views.{recording};
 
 use crate::trace::Trace;
 use gc_graph::NoMemory;
-use gc_world::{Event, World, histories_grow};
+use gc_plan::Event;
+use gc_world::{World, histories_grow};
 use std::alloc::Global;
 
 /// Performs the event in the world. On `NoMemory` the world is unchanged.

@@ -4,7 +4,7 @@ ghost use Rattle.gc_trace.specs.Scripts.{scripts};
 
 use crate::trace::Trace;
 use gc_graph::{NoMemory, Op};
-use gc_world::Event;
+use gc_plan::Event;
 use std::alloc::Global;
 
 /// Returns a script for each mutator: its commands in the trace, in order, without the collector's steps.

@@ -1,4 +1,10 @@
-use gc_world::Event;
+use gc_plan::Event;
+
+/// The first version in which `begin` can give the size of the new space.
+pub(crate) const SIZED: u8 = 2;
+
+/// The first version with raw objects.
+pub(crate) const RAW: u8 = 3;
 
 /// A trace: what mutators and the collector do in a space.
 #[derive(Debug, Drop)]

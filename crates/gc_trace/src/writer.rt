@@ -6,11 +6,12 @@ ghost use Rattle.gc_trace.specs.Grammar.{slot, event_line, trace_heading, trace_
 ghost use Rattle.gc_world.specs.History.{events_of};
 ghost use Rattle.gc_plan.specs.declared.event.Event.TheVariants.{Mutate, Collect};
 
+use crate::trace::{RAW, SIZED};
 use gc_cert::WriteFault;
-use gc_copy::Step;
 use gc_graph::text::Printer;
 use gc_graph::{Op, Sink, Slot};
-use gc_world::{Entry, Event};
+use gc_plan::{Event, Step};
+use gc_world::Entry;
 use std::io::Write;
 
 /// An upper bound on the number of bytes in a line of a trace.
@@ -167,8 +168,8 @@ fn version_of(event: &Event) -> u8
         Event::Mutate {
             op: Op::NewRaw { .. },
             ..
-        } => 3,
-        Event::Collect(Step::BeginSized(_)) => 2,
+        } => RAW,
+        Event::Collect(Step::BeginSized(_)) => SIZED,
         _ => 1,
     }
 }
