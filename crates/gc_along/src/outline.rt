@@ -22,14 +22,7 @@ pub struct Outline<'a> {
 }
 
 impl<'a> Outline<'a> {
-    /// Returns the outline of this image.
-    pub fn of(image: ImageRef<'a>) -> Outline<'a>
-        ensures { outline_in result ≡ outline_of (image_of image.entry) }
-    {
-        Outline::with_nils(image, 0)
-    }
-
-    /// Returns the outline of this image with so many nils behind its roots. Reads no root.
+    /// Returns the outline of this image, with so many nils behind its roots. Reads no root.
     pub fn with_nils(image: ImageRef<'a>, nils: u32) -> Outline<'a>
         ensures { outline_in result
             ≡ outline_of (record (image_of image.entry) { roots = (image_of image.entry).roots ++ replicate nils 0 }) }

@@ -2,7 +2,7 @@ ghost use Rattle.std.specs.Prelude.{◌≡◌, ◌-◌, ◌+◌, ◌<◌, ◌≤
 ghost use Rattle.gc_words.specs.Image.{is_start};
 ghost use Rattle.gc_words.specs.Spelling.{link_at};
 ghost use Rattle.gc_words.specs.Space.{image_with, without_links};
-ghost use Rattle.gc_words.specs.Views.{image_of as image_in, addresses};
+ghost use Rattle.gc_words.specs.Views.{image_of, addresses};
 ghost use Rattle.gc_heap.specs.Heap.{IsHeap, graph_in};
 ghost use Rattle.gc_plan.specs.State.{pairs_of};
 ghost use Rattle.gc_plan.specs.Steps.{collect, is_ready};
@@ -30,16 +30,9 @@ impl Collection {
         linked_pairs(alloc, &self.space, self.replicas)
     }
 
-    /// Returns the number of pairs. Does not allocate, and reads none of them.
-    pub fn count_pairs(&self) -> u32
-        ensures { result ≡ length (pairs_of (collection_in self.now)) }
-    {
-        self.replicas
-    }
-
     /// Returns the image of the new space with these roots, including links.
     pub fn new_image<'a>(&'a self, roots: &'a [u64]) -> ImageRef<'a>
-        ensures words { image_in result ≡ image_with self.now.space roots.now }
+        ensures words { image_of result ≡ image_with self.now.space roots.now }
         ensures sound { IsCollection self.now }
     {
         self.space.image(roots)
