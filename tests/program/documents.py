@@ -459,27 +459,31 @@ def crates_tried(_program, _folder):
 # ---- what proofs cite of other crates
 
 # Sources of gc_heap, with the imports across crates that are found in them.
-IMPORTS = [("use Rattle.gc_words.proofs.Walks.{a, b as c}", [("gc_words", "Walks", ["a", "b"])]),
-           ("use Rattle.gc_words.proofs.Walks as walks", [("gc_words", "Walks", None)]),
-           ("#[tactic(auto, using(gc_words::proofs::Walks::a))]", [("gc_words", "Walks", ["a"])]),
+IMPORTS = [("use Rattle.gc_words.proofs.Walks.{a, b as c}", [("gc_words", "proofs.Walks", ["a", "b"])]),
+           ("use Rattle.gc_words.proofs.Walks as walks", [("gc_words", "proofs.Walks", None)]),
+           ("#[tactic(auto, using(gc_words::proofs::Walks::a))]", [("gc_words", "proofs.Walks", ["a"])]),
+           ("ghost use Rattle.gc_words.specs.Internal.Walking.{a};", [("gc_words", "specs.Internal.Walking", ["a"])]),
+           ("use Rattle.gc_words.specs.Objects.{a}\nuse Rattle.gc_heap.specs.Internal.Steps.{a}", []),
            ("use Rattle.gc_heap.proofs.Commands.{a}\nuse Rattle.std.proofs.Common.{a}", []), ("use Rattle.gc_words.proofs.space.Space.TheLaws as laws", [])]
 
 
 # A proof file and another file of its crate, with the lemmas of the first that are public for nobody.
 LEMMAS = [("pub a : A\na = b\n", "use Rattle.c.proofs.One.{a}", []), ("pub a : A\na = b\n", "", ["a"]), ("a : A\na = b\n", "", []),
           ("pub a : A\n    → B\na x = b\n\npub c : IsSome a\nc = d\n", "using(crate::proofs::One::c)", []), ("pub a-b : A\na-b x = b\n", "a", ["a-b"]),
-          ("  pub a : A\n  a x = b\n\n  pub c : A\n  c = a\n", "c", ["a"]), ("record A : Type 0 where\n  pub a : A\n\nabbrev pub b : A\nb = a\n", "", [])]
+          ("  pub a : A\n  a x = b\n\n  pub c : A\n  c = a\n", "use Rattle.c.proofs.One.{c}", ["a"]), ("pub a : A\na = b\n", "use Rattle.c.proofs.Two.{a}", ["a"]),
+          ("pub a : A\na = b\n", "use Rattle.d.proofs.One.{a}\na", ["a"]), ("pub a : A\na = b\n", "use Rattle.c.proofs.One as one\none.a", []), ("record A : Type 0 where\n  pub a : A\n\nabbrev pub b : A\nb = a\n", "", [])]
 
 
 def doors(_program, _folder):
-    """Proofs cite other crates' proofs through proofs/Public.antt alone, which passes on nothing that no crate cites. A lemma is public only for another file."""
+    """Crates cite other crates' proofs and internal definitions through proofs/Public.antt alone, which passes on nothing that no crate cites. A lemma is public
+    only for another file."""
     yield "doors", "; ".join(list(faults())[:10]) or None
     yield "crates with a door", None if list(rows()) else "none"
     for text, wanted in IMPORTS:
         found = list(imports_of("gc_heap", text))
         yield "imports in %r" % text, None if found == wanted else "found %s" % found
     for text, other, wanted in LEMMAS:
-        found = [name for _, name in public_for_nobody({"proofs/One.antt": text, "src/other.rt": other})]
+        found = [name for _, name in public_for_nobody("c", {"proofs/One.antt": text, "src/other.rt": other})]
         yield "public lemmas in %r beside %r" % (text, other), None if found == wanted else "found %s" % found
 
 

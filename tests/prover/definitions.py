@@ -3,6 +3,7 @@ import os
 import re
 
 from .crates import CRATES
+from .doors import DOOR, door_of
 
 NAME = re.compile(r"[^\s(){}\[\];,.]+(?:\.[^\s(){}\[\];,.]+)*")
 KEYWORDS = {"abbrev", "unfoldable", "pub", "record", "data", "module"}
@@ -106,7 +107,17 @@ def read_all(crates):
                 known[(module, definition.name)] = definition
                 for line in definition.lines[1:] if "data " in definition.lines[0] else []:
                     known[(module, line.split()[0])] = definition
+    for crate in crates:
+        known.update(passed_on(crate, known))
     return known, imports
+
+
+def passed_on(crate, known):
+    """Returns the definitions that a crate's door passes on, by the door's module and their names."""
+    if not os.path.exists(door_of(crate)):
+        return {}
+    names, _ = imports_in(open(door_of(crate), encoding="utf-8").read())
+    return {("Rattle.%s.%s" % (crate, DOOR), name): known[(module, name)] for module, name in names.values() if (module, name) in known}
 
 
 def reached_from_public(crates, known, imports):

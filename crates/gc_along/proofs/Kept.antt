@@ -14,7 +14,7 @@ use Rattle.gc_along.specs.Internal.Tables.{IsLostOrKept}
 use Rattle.gc_along.specs.Events.{code_of, object_codes, with_due, replica_added, IsClaim, IsCopy, Placed, HasNoReplica}
 use Rattle.gc_along.specs.Claims.{OwesNone}
 use Rattle.gc_along.proofs.Codes.{code_set}
-use Rattle.gc_along.proofs.Within.{at_most}
+use Rattle.gc_along.proofs.Rows.{at_most}
 
 -- what is not lost
 pub kept_of : (t : Tables) → IsLostOrKept t → t.lost ≡ false → IsKept t

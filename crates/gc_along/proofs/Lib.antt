@@ -4,7 +4,7 @@ pub mod Looks
 pub mod Written
 pub mod Walked
 pub mod Exact
-pub mod Within
+pub mod Rows
 pub mod Origins
 pub mod Codes
 pub mod Digits

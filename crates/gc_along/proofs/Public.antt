@@ -1,4 +1,4 @@
--- What proofs of other crates cite of this crate, passed on from one place. Declares nothing.
+-- What other crates cite of this crate's proofs and internal definitions, passed on from one place. Declares nothing.
 pub use Rattle.gc_along.proofs.Codes.{code_set}
 pub use Rattle.gc_along.proofs.Exact.{all_done}
 pub use Rattle.gc_along.proofs.Kept.{code_is, codes_length, due_at, in_front, kept_due, kept_old, kept_replica, map_append, within_row}

@@ -7,11 +7,10 @@ use Rattle.std.proofs.lemmas.List.{take-append-le, drop-take, take-take, get_or-
 use Rattle.std.proofs.lemmas.Option.{slice_get-get_or}
 use Rattle.gc_words.specs.Word.{read_header, field_words_correspond}
 use Rattle.gc_words.specs.Image.{Image, Block, header_of, header_at, is_start, field_in, field_at}
-use Rattle.gc_words.specs.Internal.Walking.{StandsIn, block_from}
+use Rattle.gc_words.proofs.Public.{StandsIn, block_from, stands_in, field_read, space_of, some_of}
 use Rattle.gc_words.specs.Certificate.{Certified}
 use Rattle.gc_words.specs.Layout.{field_place, link_place}
 use Rattle.gc_words.specs.declared.header.Header.{Header}
-use Rattle.gc_words.proofs.Public.{stands_in, field_read, space_of, some_of}
 use Rattle.gc_along.specs.Watch.{Watch, IsSeen, IsNext, IsWatched, Watches, OldIsDue, NewIsDue, mark, is_due, pair_at, seen_at, looked}
 use Rattle.gc_along.specs.Origins.{pairs_in, pairs_from}
 use Rattle.gc_along.specs.Outline.{outline_of}
@@ -222,11 +221,11 @@ module _ (n : ℕ) (words : List ℕ) (a i : ℕ) (b : Block) (seen : IsSeen n w
   inside_of : a + (b.header.len + 2) ≤ n
   inside_of = let f : a + (b.header.len + 2) ≤ length (take n words) = stands_at.fits in omega (arith, length-take n words)
 
-  pub header_word : read_header (slice_index words a) ≡ Some b.header
+  header_word : read_header (slice_index words a) ≡ Some b.header
   header_word = ap read_header (sym (get_or-take n words a 0 (omega (arith, inside_of)))) ∙ stands_at.header
 
   module _ (small : i < b.header.len) where
-    pub has_field : IsSome (field_at (take n words) a i)
+    has_field : IsSome (field_at (take n words) a i)
     has_field = ap (λ o. is_some (field_in o i)) at ∙ ap is_some (slice_get-get_or b.fields i 0 (omega (arith, stands_at.whole.fields)))
 
     field_word : field_at (take n words) a i ≡ Some (slice_index words (field_place a i))

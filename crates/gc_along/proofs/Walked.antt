@@ -1,4 +1,4 @@
--- The walks gone on, and objects paired.
+-- A watch still watches both spaces when it walks on, and when it takes an object for a replica.
 use Rattle.std.proofs.lemmas.Grind.{common_steps}
 use Rattle.std.proofs.Common.{◌≡◌, ◌≢◌, inl, inr, ⊎_elim, ℕ, suc, ◌+◌, ◌<◌, ◌≤◌, ◌==◌, Bool, true, false, cond, List, [], ◌∷◌, ◌++◌, length, get_or, take, drop, replicate, Option, Some, None, All, Ok, refl, sym, ◌∙◌, ap, subst, arith, length-append, length-take, length-drop}
 use Rattle.std.specs.Prelude.{slice_index}
@@ -9,11 +9,10 @@ use Rattle.std.proofs.lemmas.List.Quantifiers.{all_pairs_push}
 use Rattle.std.proofs.lemmas.Option.{slice_get_within}
 use Rattle.gc_words.specs.Word.{IsHeader, header_word, field_words_correspond}
 use Rattle.gc_words.specs.Image.{Block, blocks, block_in, block_at, header_of, header_at, walk_words}
-use Rattle.gc_words.specs.Internal.Walking.{block_from}
+use Rattle.gc_words.proofs.Public.{block_from, walk_placed, written_back, stands_in, walked_blocks, space_of, none_at_end, take_add}
 use Rattle.gc_words.specs.Space.{IsSpace}
 use Rattle.gc_words.specs.Layout.{field_place}
 use Rattle.gc_words.specs.declared.header.Header.{Header}
-use Rattle.gc_words.proofs.Public.{walk_placed, written_back, stands_in, walked_blocks, space_of, none_at_end, take_add}
 use Rattle.gc_along.specs.Watch.{Watch, IsSeen, IsNext, IsWatched, Watches, is_due, seen_at, front, old_walked, new_walked, placed, opening_watch}
 use Rattle.gc_along.proofs.Looks.{watched_by}
 
@@ -78,7 +77,7 @@ module _ (n : ℕ) (words : List ℕ) (h : Header) (seen : IsSeen n words) (next
 -- ---- what is watched stays so
 
 -- where more is found
-pub grown : (w : Watch) (b : ℕ) (o q o' q' : Option Block) → ((c : Block) → o ≡ Some c → o' ≡ Some c) → ((d : Block) → q ≡ Some d → q' ≡ Some d) → IsWatched w b o q → IsWatched w b o' q'
+grown : (w : Watch) (b : ℕ) (o q o' q' : Option Block) → ((c : Block) → o ≡ Some c → o' ≡ Some c) → ((d : Block) → q ≡ Some d → q' ≡ Some d) → IsWatched w b o q → IsWatched w b o' q'
 grown w b o q o' q' f g h = grind (arith, common_steps)
 
 pub true_stays : (ds es : List Bool) (q : ℕ) → get_or ds q false ≡ true → get_or (ds ++ es) q false ≡ true

@@ -1,4 +1,4 @@
--- Words written, where the watch allows it.
+-- A watch still watches both spaces after a write that it allows.
 use Rattle.std.proofs.lemmas.Grind.{common_steps}
 use Rattle.std.proofs.Common.{◌≡◌, ◌⊎◌, inl, inr, ⊎_elim, ℕ, zero, suc, true, List, [], ◌∷◌, refl, set, get_or, take, Option, Some, None, IsTrue, sym, ◌∙◌, ap, subst, arith, length-set, length-take}
 use Rattle.std.specs.Prelude.{slice_get, slice_set, ◌≢◌, IsSome}

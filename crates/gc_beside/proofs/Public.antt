@@ -1,4 +1,4 @@
--- What proofs of other crates cite of this crate, passed on from one place. Declares nothing.
+-- What other crates cite of this crate's proofs and internal definitions, passed on from one place. Declares nothing.
 pub use Rattle.gc_beside.proofs.CommandsKnown.{Continues, NewName, SameBut, SameOpen, can_make, can_write, continues_on, continues_one, continues_same, made_known, quiet_known, wrote_known}
 pub use Rattle.gc_beside.proofs.EndsKnown.{begun_known, dropped_known, flipped_known}
 pub use Rattle.gc_beside.proofs.Events.{Goes}
@@ -9,3 +9,4 @@ pub use Rattle.gc_beside.proofs.Ready.{accepts}
 pub use Rattle.gc_beside.proofs.StepsKnown.{entry_known, entry_looked, entry_placed, passed_known, roots_known, roots_told, scan_known, scan_looked, scan_placed}
 pub use Rattle.gc_beside.proofs.Told.{told_wrote}
 pub use Rattle.gc_beside.proofs.Words.{watches}
+pub use Rattle.gc_beside.specs.Internal.Live.{GoesBeside, IsLive, IsNeverLost, heap_words, replica_words}

@@ -1,4 +1,4 @@
--- Lines that are read from the front of a text.
+-- The front of a text shows that it begins with no line of a form.
 use Rattle.std.proofs.lemmas.Grind.{common_steps}
 use Rattle.std.proofs.Common.{◌≡◌, ◌≢◌, ℕ, ◌≤◌, List, ◌∷◌, ◌++◌, refl, ap, arith, append_assoc, Option, Some, None}
 use Rattle.std.specs.Fmt.{decimal}

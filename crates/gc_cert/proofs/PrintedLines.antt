@@ -1,4 +1,4 @@
--- Lines that are printed one after the other.
+-- Lines that are printed one after the other are printed as one text.
 use Rattle.std.proofs.lemmas.Grind.{common_steps}
 use Rattle.std.proofs.Common.{◌≡◌, ℕ, List, [], ◌∷◌, ◌++◌, map, take, drop, refl, sym, ap, ◌∙◌, append_assoc, Option, subst, length, ◌+◌, ◌<◌, ◌≤◌, get_or, arith}
 use Rattle.std.proofs.lemmas.List.{append-nil, take-append-drop, take_all, take_more, map-append}

@@ -1,4 +1,4 @@
--- Paths through graphs that correspond.
+-- In graphs that correspond, paths agree, and each reachable object has one replica.
 use Rattle.std.proofs.lemmas.Grind.{common_steps}
 use Rattle.std.proofs.Common.{◌≡◌, ℕ, suc, zero, true, List, [], ◌∷◌, length, take, Option, Some, None, refl, ap, subst, arith}
 use Rattle.std.specs.Prelude.{slice_get}

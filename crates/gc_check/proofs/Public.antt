@@ -1,3 +1,3 @@
--- What proofs of other crates cite of this crate, passed on from one place. Declares nothing.
+-- What other crates cite of this crate's proofs and internal definitions, passed on from one place. Declares nothing.
 pub use Rattle.gc_check.proofs.Joined.{pair_of_second}
 pub use Rattle.gc_check.proofs.Sizes.{small_fault}

@@ -1,4 +1,4 @@
--- The first fault where images must be small.
+-- The first fault with a limit is the one without, or an image above the limit has a fault of shape.
 use Rattle.std.proofs.lemmas.Grind.{common_steps}
 use Rattle.std.specs.Option.{option_map}
 use Rattle.std.proofs.Common.{◌≡◌, ℕ, ◌<◌, ◌≤◌, List, Option, Some, None, arith}

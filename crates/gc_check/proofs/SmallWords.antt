@@ -11,8 +11,7 @@ use Rattle.gc_graph.specs.Correspond.{paired}
 use Rattle.gc_graph.proofs.Public.{paired_cases}
 use Rattle.gc_words.specs.Word.{is_value_within, is_value, read_value_within, read_value, read_correspond, words_correspond}
 use Rattle.gc_words.specs.Image.{Image, Block, IsShaped, walk_words, block_at, is_start}
-use Rattle.gc_words.specs.Internal.Walking.{StandsIn}
-use Rattle.gc_words.proofs.Public.{stands_in, same_walk, some_of, or_none, at_place_none}
+use Rattle.gc_words.proofs.Public.{StandsIn, stands_in, same_walk, some_of, or_none, at_place_none}
 use Rattle.gc_words.specs.Certificate.{BlocksCorrespond}
 use Rattle.gc_words.specs.Fault.{◌or_else◌, shape_fault, first_over_pairs, place_faults, table_fault, first_difference, same_header, block_fault, object_faults, root_fault}
 use Rattle.gc_words.specs.declared.refusal.Refusal.{Refusal}

@@ -10,9 +10,8 @@ use Rattle.std.proofs.lemmas.List.{length-replicate}
 use Rattle.gc_words.specs.Word.{header_in}
 use Rattle.gc_words.specs.Image.{Block, walk_words, with_front, block_in, block_at, header_of, header_at, is_start}
 use Rattle.gc_words.specs.Walking.{next_after, next_in, next_of}
-use Rattle.gc_words.specs.Internal.Walking.{walk_from, block_from, StandsIn}
+use Rattle.gc_words.proofs.Public.{walk_from, block_from, StandsIn, step, Behind, behind, has_start_from, stands_in, header_counted}
 use Rattle.gc_words.specs.declared.header.Header.{Header}
-use Rattle.gc_words.proofs.Public.{step, Behind, behind, has_start_from, stands_in, header_counted}
 use Rattle.gc_check.specs.Internal.Starts.{starts_from}
 use Rattle.gc_check.specs.Internal.Tables.{is_marked}
 

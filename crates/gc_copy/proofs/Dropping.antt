@@ -11,8 +11,7 @@ use Rattle.gc_words.specs.Layout.{link_place}
 use Rattle.gc_words.specs.Spelling.{link_at, spelled, no_links}
 use Rattle.gc_words.specs.Space.{IsSpace, with_word, without_links}
 use Rattle.gc_words.specs.Walking.{next_of}
-use Rattle.gc_words.specs.Internal.Walking.{walk_from}
-use Rattle.gc_words.proofs.Public.{Behind, behind, at_end, has_next, some_of, link_written_there, link_written_beside, object_found, spelled_words}
+use Rattle.gc_words.proofs.Public.{walk_from, Behind, behind, at_end, has_next, some_of, link_written_there, link_written_beside, object_found, spelled_words}
 use Rattle.gc_heap.specs.Heap.{HeapWords, IsHeap}
 use Rattle.gc_plan.specs.State.{Replica, replica_of}
 use Rattle.gc_plan.specs.Members.{In}

@@ -1,4 +1,4 @@
--- Words of fields that were read from the space of a heap.
+-- A field's word that was read from the space of a heap is that of the heap.
 use Rattle.std.proofs.Common.{◌≡◌, ℕ, Some, subst}
 use Rattle.gc_words.specs.Image.{field_at}
 use Rattle.gc_words.specs.Space.{SpaceWords}

@@ -1,4 +1,4 @@
--- The code of a flip.
+-- The code of a flip does the plan's flip, and keeps all objects of the space.
 use Rattle.std.proofs.lemmas.Grind.{common_steps}
 use Rattle.gc_plan.proofs.Public.{small_corresponding, placed, in_get, in_map, in_map_from, all_from_in, replica_field, IsReady, ready_parts, new_heap, named_address, flips}
 use Rattle.std.specs.Prelude.{◌^◌}

@@ -1,4 +1,4 @@
--- The list of mutation logs.
+-- An entry that is noted or dropped in one log is noted or dropped in the collection.
 use Rattle.std.proofs.Math.Seq.{map-set_same, drop-cons}
 use Rattle.std.proofs.lemmas.Grind.{common_steps}
 use Rattle.std.proofs.Common.{◌≡◌, ℕ, suc, ◌+◌, ◌<◌, ◌≤◌, true, false, List, [], ◌∷◌, ◌++◌, map, drop, length, get_or, Option, Some, ap, sym, ◌∙◌, subst, arith}

@@ -9,8 +9,7 @@ use Rattle.gc_words.specs.Layout.{link_place}
 use Rattle.gc_words.specs.Spelling.{link_at}
 use Rattle.gc_words.specs.Space.{with_word}
 use Rattle.gc_words.specs.Walking.{next_of}
-use Rattle.gc_words.specs.Internal.Walking.{walk_from}
-use Rattle.gc_words.proofs.Public.{Behind, behind, link_written, link_written_there, link_written_beside}
+use Rattle.gc_words.proofs.Public.{walk_from, Behind, behind, link_written, link_written_there, link_written_beside}
 use Rattle.gc_heap.specs.Heap.{HeapWords, IsHeap}
 use Rattle.gc_plan.specs.Members.{In}
 use Rattle.gc_copy.specs.Internal.Words.{KeepsGraph}

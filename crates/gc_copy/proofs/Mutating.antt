@@ -1,4 +1,4 @@
--- The code of a mutator's command with its write barrier.
+-- The code of a command with its write barrier does the plan's command.
 use Rattle.std.proofs.lemmas.Grind.{common_steps}
 use Rattle.std.proofs.Common.{◌≡◌, ◌≢◌, inl, ℕ, zero, suc, List, [], ◌∷◌, ◌++◌, Option, refl, sym, subst, arith, append-nil}
 use Rattle.std.specs.Prelude.{slice_get, slice_set}

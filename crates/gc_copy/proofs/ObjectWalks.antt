@@ -1,4 +1,4 @@
--- Loops over the objects of a space.
+-- Loops over the objects of a space meet each object once, in order.
 use Rattle.std.proofs.lemmas.Grind.{common_steps}
 use Rattle.std.proofs.Common.{◌≡◌, ℕ, ◌<◌, ◌≤◌, true, List, [], ◌∷◌, ◌++◌, map, length, Some, refl, ap, sym, ◌∙◌, subst, arith, append_assoc, length-append, inl}
 use Rattle.std.specs.Prelude.{◌^◌, IsOk}
@@ -9,9 +9,8 @@ use Rattle.gc_words.specs.Spelling.{link_at}
 use Rattle.gc_words.specs.Space.{SpaceWords, IsSpace}
 use Rattle.gc_words.specs.Views.{addresses}
 use Rattle.gc_words.specs.Walking.{next_of}
-use Rattle.gc_words.specs.Internal.Walking.{walk_from, block_from}
+use Rattle.gc_words.proofs.Public.{walk_from, block_from, Behind, behind, has_next, some_of}
 use Rattle.gc_words.specs.declared.image.Pair.{Pair}
-use Rattle.gc_words.proofs.Public.{Behind, behind, has_next, some_of}
 use Rattle.gc_plan.specs.State.{Replica}
 use Rattle.gc_plan.specs.Members.{In}
 use Rattle.gc_copy.specs.Words.{replica_entry, replicas_in}

@@ -1,7 +1,7 @@
 -- The state of a heap of words with its open collection, and the invariant that ties them together.
 use Rattle.std.proofs.lemmas.List.Folds.{find-append}
 use Rattle.std.proofs.lemmas.Grind.{common_steps}
-use Rattle.gc_words.proofs.Public.{block_there, closed_field_read, stands_in, CanPlaceBlock, some_of, can_place_fresh, link_written, link_written_there, link_written_beside, object_found, field_found, graph_link, meaning_back, block_of_header, fields_counted, end_written, none_of}
+use Rattle.gc_words.proofs.Public.{block_there, closed_field_read, stands_in, CanPlaceBlock, some_of, can_place_fresh, link_written, link_written_there, link_written_beside, object_found, field_found, graph_link, meaning_back, block_of_header, fields_counted, end_written, none_of, IsBlock, StandsIn}
 use Rattle.std.proofs.Common.{◌≡◌, ◌≢◌, ⊎_elim, inl, ℕ, ◌+◌, ◌-◌, ◌<◌, ◌≤◌, ◌==◌, nat_lt, Bool, true, false, cond, List, [], ◌∷◌, ◌++◌, length, Option, Some, None, Result, is_some, refl, ap, sym, ◌∙◌, subst, arith}
 use Rattle.std.specs.List.{find}
 use Rattle.std.proofs.lemmas.Bool.{cases_Bool, cases_lt, cond-true, cond-false, cond_both, eqb-true, eqb-false, eq-eqb, ne_eqb, le-ltb, lt-ltb}
@@ -14,12 +14,10 @@ use Rattle.gc_words.specs.Word.{HasAddress, word_of, field_value}
 use Rattle.gc_words.specs.Word.{value_of}
 use Rattle.gc_words.specs.Image.{walk_words, Block, blocks, header_of, block_in, block_at, is_start, header_at, field_in, field_at, object_of_block, objects_of}
 use Rattle.gc_words.specs.Spelling.{link_at}
-use Rattle.gc_words.specs.Internal.Spelling.{IsBlock}
 use Rattle.gc_words.specs.Layout.{link_place, field_place}
 use Rattle.gc_words.specs.Space.{SpaceWords, IsSpace, HasRoomFor, end_of, free_in, with_block, with_word}
 use Rattle.gc_words.specs.Closed.{IsRootWord, IsWordOfField}
 use Rattle.gc_words.specs.declared.header.Header.{Header}
-use Rattle.gc_words.specs.Internal.Walking.{StandsIn}
 use Rattle.gc_graph.specs.Graph.{name_of}
 use Rattle.gc_heap.specs.Heap.{HeapWords, IsHeap, graph_in}
 use Rattle.gc_plan.specs.State.{Replica, Collection, State, new_objects, new_end, new_free, replica_of, moved}
@@ -60,7 +58,7 @@ pub opened : (heap : HeapWords) (c : CollectionWords) → IsCollection c → Bel
 opened heap c is k = record { belongs = k.belongs; size = (is.space).size_high; logs = length-map c.logs entries_of ∙ k.logs }
 
 -- a collection belongs to the heap of words if it belongs to the state and the links lead to its replicas
-pub closed : (heap new : HeapWords) (before after : CollectionWords) → KeepsGraph heap new → BelongsTo heap before → length after.logs ≡ length before.logs → IsOpened (open_state heap before) (collection_in after) → LinksReplicas after.epoch new (collection_in after) → BelongsTo new after
+closed : (heap new : HeapWords) (before after : CollectionWords) → KeepsGraph heap new → BelongsTo heap before → length after.logs ≡ length before.logs → IsOpened (open_state heap before) (collection_in after) → LinksReplicas after.epoch new (collection_in after) → BelongsTo new after
 closed heap new before after same k count is links = grind (arith, common_steps, graph_kept)
 
 -- after a step other than a flip
@@ -318,7 +316,7 @@ plain_value_is heap name i w plain e =
     field_value_is heap name i w h.0 h.1 e ∙ ap Some (plain_value h.0 w (plain h.0 h.1))
 
 -- the step of the definition, made of the code's two: the target first, then the field
-pub brought : (g : Graph) (c one : Collection) (name i : ℕ) (v : Value) → field_of (lookup g.objects name) i ≡ Some v → with_replica c g v ≡ Some one
+brought : (g : Graph) (c one : Collection) (name i : ℕ) (v : Value) → field_of (lookup g.objects name) i ≡ Some v → with_replica c g v ≡ Some one
     → bring_up_to_date c g name i ≡ Some (write_replica one name i (moved one v))
 brought g c one name i v field target = ap (bring_value c g name i) field ∙ ap (λ o. option_map (λ (d : Collection). write_replica d name i (moved d v)) o) target
 

@@ -1,4 +1,4 @@
--- What proofs of other crates cite of this crate, passed on from one place. Declares nothing.
+-- What other crates cite of this crate's proofs and internal definitions, passed on from one place. Declares nothing.
 pub use Rattle.gc_copy.proofs.Beginning.{unlinked}
 pub use Rattle.gc_copy.proofs.LinkedImages.{lowered_words, new_shown, other_links}
 pub use Rattle.gc_copy.proofs.Mutating.{idle_left, open_left, still_unlinked}

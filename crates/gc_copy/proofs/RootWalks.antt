@@ -1,4 +1,4 @@
--- Walks over the root words.
+-- Walks over the root words find the first root without a replica, and write the moved roots.
 use Rattle.std.proofs.lemmas.Option.{slice_get-map, slice_get-get_or}
 use Rattle.std.proofs.lemmas.Grind.{common_steps}
 use Rattle.std.proofs.Common.{Option, Some, None, arith, ◌≡◌, ℕ, suc, zero, ◌-◌, ◌<◌, ◌≤◌, true, List, [], ◌∷◌, ◌++◌, map, drop, take, replicate, length, length-take, get_or, slice_get, refl, ap, sym, ◌∙◌, subst, append-nil}

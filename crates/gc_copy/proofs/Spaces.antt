@@ -8,10 +8,9 @@ use Rattle.gc_graph.specs.Graph.{Value, Num, Object, lookup, set_field}
 use Rattle.gc_words.specs.Word.{value_of}
 use Rattle.gc_words.specs.Image.{Block, blocks, block_in, block_at, is_start, field_at, set_block, object_of_block, object_entry, objects_of}
 use Rattle.gc_words.specs.Spelling.{spelled_from, link_at}
-use Rattle.gc_words.specs.Internal.Spelling.{IsBlock}
+use Rattle.gc_words.proofs.Public.{IsBlock, spelled_words, objects_set, CanPlaceBlock, block_placed, field_written, link_written, none_at_end, block_there, link_placed_beside, link_beside_field, link_written_there, link_written_beside, object_found, fresh_object as new_block_object}
 use Rattle.gc_words.specs.Layout.{link_place, field_place}
 use Rattle.gc_words.specs.Space.{SpaceWords, IsSpace, end_of, free_in, with_block, with_word}
-use Rattle.gc_words.proofs.Public.{spelled_words, objects_set, CanPlaceBlock, block_placed, field_written, link_written, none_at_end, block_there, link_placed_beside, link_beside_field, link_written_there, link_written_beside, object_found, fresh_object as new_block_object}
 use Rattle.gc_plan.specs.State.{Replica, new_objects, new_end, replica_of, fresh_object}
 use Rattle.gc_plan.specs.Steps.{write_replica}
 use Rattle.gc_copy.specs.Words.{CollectionWords, replica_entry, replicas_in, collection_in}

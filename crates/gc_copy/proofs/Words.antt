@@ -1,4 +1,4 @@
--- The heap that words spell.
+-- The words of a space are spelled by the objects of its graph, so a heap's image is that of its graph.
 use Rattle.std.proofs.lemmas.Grind.{common_steps}
 use Rattle.std.proofs.Common.{◌≡◌, ⊎_elim, inl, inr, ℕ, ◌+◌, ◌-◌, ◌<◌, ◌==◌, true, List, [], ◌∷◌, map, length, Some, is_some, All, refl, ap, sym, ◌∙◌, subst, arith, length-append}
 use Rattle.std.proofs.lemmas.Bool.{cases_Bool, cond-false, eqb-true, eqb-false}
@@ -8,11 +8,10 @@ use Rattle.gc_graph.specs.Graph.{Value, Nil, Num, Ref, Object}
 use Rattle.gc_words.specs.Word.{value_of, word_of, field_value}
 use Rattle.gc_words.specs.Image.{Block, blocks, block_in, object_of_block, object_entry, objects_of}
 use Rattle.gc_words.specs.Spelling.{block_words, spelled, spelled_from, link_at}
-use Rattle.gc_words.specs.Internal.Spelling.{IsBlock, LaidOut}
+use Rattle.gc_words.proofs.Public.{IsBlock, LaidOut, object_found, spelled_words, laid_out_words}
 use Rattle.gc_words.specs.Space.{SpaceWords, IsSpace, free_in}
 use Rattle.gc_words.specs.Closed.{RefersToStart, IsRootWord, IsFieldWord, HasFieldWords}
 use Rattle.gc_words.specs.declared.header.Header.{Header}
-use Rattle.gc_words.proofs.Public.{object_found, spelled_words, laid_out_words}
 use Rattle.gc_heap.specs.Heap.{HeapWords, IsHeap, image_of, graph_in}
 use Rattle.gc_plan.specs.Linked.{field_word, block_entry, linked_image}
 use Rattle.gc_plan.specs.Members.{In}

@@ -1,4 +1,4 @@
--- Fields that are copied from one object to another in one call.
+-- The copies of fields in one call are the single copies in order, and keep what is known of the roots.
 use Rattle.std.proofs.lemmas.Grind.{common_steps}
 use Rattle.std.proofs.Common.{◌≡◌, ◌<◌, ◌≤◌, ◌+◌, ◌-◌, ℕ, zero, suc, List, [], ◌∷◌, length, map, take, drop, Some, None, Option, true, refl, sym, ap, ◌∙◌, arith}
 use Rattle.std.specs.Prelude.{slice_range, not, ◌||◌, Bool, cond, ◌&&◌}

@@ -74,7 +74,7 @@ put_writes_it g m name d src t i j n c v seen apart inside = grind (arith, commo
 -- ---- all of them
 
 -- a command that makes no object leads where the machine's step does
-pub steps_to : (s : State) (m : ℕ) (op : Op) (reply : Reply) (g : Graph) → (Rattle.gc_graph.specs.Machine.MakesObject op → ⊥) → step s.heap.graph m op (heap_end s) ≡ (reply, g) → ((mutate s m op).0 ≡ reply) × ((mutate s m op).1.heap.graph ≡ g)
+steps_to : (s : State) (m : ℕ) (op : Op) (reply : Reply) (g : Graph) → (Rattle.gc_graph.specs.Machine.MakesObject op → ⊥) → step s.heap.graph m op (heap_end s) ≡ (reply, g) → ((mutate s m op).0 ≡ reply) × ((mutate s m op).1.heap.graph ≡ g)
 steps_to s m op reply g none e = grind (arith, common_steps, in_place, with_free)
 
 all_done : (n : ℕ) (s : State) (m i j : ℕ) (d src t : SlotName) → (place t m ≡ place d m → ⊥) → (place t m ≡ place src m → ⊥) → place t m < length s.heap.graph.roots → CanCopy s.heap.graph (place d m) (place src m) i j n → AllCopied s m d i src j t n

@@ -11,7 +11,7 @@ ghost use Rattle.gc_graph.specs.declared.command.Op.{Op};
 ghost use Rattle.gc_heap.specs.Heap.{graph_in};
 ghost use Rattle.gc_plan.specs.Steps.{mutate};
 ghost use Rattle.gc_copy.specs.Words.{idle_state, open_state, LinksNothing, BelongsTo, spare_of};
-ghost use Rattle.gc_core.specs.Copying.{object_in, copy_reply as reply_of, copy_step, copy_fields_step};
+ghost use Rattle.gc_core.specs.Copying.{object_in, copy_reply as reply_in, copy_step, copy_fields_step};
 
 use crate::collected_heap::CollectedHeap;
 use gc_copy::{Collection, commands_leave_collections};
@@ -104,7 +104,7 @@ fn takes(target: Header, source: Header, words: &[u64]) -> bool
 // Whether so many fields can be copied.
 fn copy_reply(heap: &Heap, m: u8, d: Slot, to: u16, s: Slot, from: u16, count: u16) -> Reply
     requires { m < heap.now.mutators }
-    ensures reply { result ≡ reply_of to from count (object_in (graph_in heap.now) d m) (object_in (graph_in heap.now) s m) }
+    ensures reply { result ≡ reply_in to from count (object_in (graph_in heap.now) d m) (object_in (graph_in heap.now) s m) }
     ensures fits { result ≡ Reply.Done → (to + count ≤ 65535) × (from + count ≤ 65535) }
 {
     let (Some((target, _)), Some((source, words))) = (object(heap, m, d), object(heap, m, s)) else {

@@ -18,8 +18,10 @@ impl CollectedHeap {
         ensures open { IfSome self.now.collection (IsOpened self.now) }
     {
         heaps_have_addresses_as_names();
+        // Here the prover learns that the mutators' heap is sound.
         let _ = self.heap.space();
         if let Some(collection) = &self.collection {
+            // And here, that the collection is.
             let _ = collection.new_image(&[]);
         }
     }
@@ -29,6 +31,7 @@ impl CollectedHeap {
     pub fn has_slots(&self)
         ensures { roots_of self.now.mutators ≤ length self.now.heap.graph.roots }
     {
+        // Here the prover learns that the mutators' heap is sound.
         let _ = self.heap.space();
     }
 
@@ -41,8 +44,10 @@ impl CollectedHeap {
     {
         images_show_links();
         watches_know_the_words();
+        // Here the prover learns that the mutators' heap is sound.
         let _ = self.heap.space();
         if let Some(collection) = &self.collection {
+            // And here, that the collection is.
             let _ = collection.new_image(&[]);
         }
     }

@@ -9,9 +9,8 @@ use Rattle.gc_words.specs.Spelling.{block_words}
 use Rattle.gc_words.specs.Image.{Block, walk, block_in, block_at, field_in, field_at, fresh_block, set_block}
 use Rattle.gc_words.specs.Space.{IsSpace, CanPlace}
 use Rattle.gc_words.specs.Closed.{IsClosed, IsFieldWord}
-use Rattle.gc_words.specs.Internal.Walking.{StandsIn}
+use Rattle.gc_words.proofs.Public.{StandsIn, Walked, walk_placed, walk_field, BlockHasField, ok_is, stands_in, stands, StandsAt, field_written, closed_field, closed_root, closed_placed, placed_reference}
 use Rattle.gc_words.specs.declared.header.Header.{Header}
-use Rattle.gc_words.proofs.Public.{Walked, walk_placed, walk_field, BlockHasField, ok_is, stands_in, stands, StandsAt, field_written, closed_field, closed_root, closed_placed, placed_reference}
 use Rattle.gc_generations.specs.Minor.{young_blocks, IsStanding, remember}
 use Rattle.gc_generations.proofs.Fronts.{whole_blocks, whole_shaped, not_old, young_above}
 use Rattle.gc_generations.proofs.Lists.{found_left, found_right}

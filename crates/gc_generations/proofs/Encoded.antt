@@ -14,9 +14,8 @@ use Rattle.gc_words.specs.Word.{words_correspond, field_words_correspond}
 use Rattle.gc_words.specs.Image.{Block, walk, blocks, block_in, block_at}
 use Rattle.gc_words.specs.Certificate.{BlocksCorrespond, Certified}
 use Rattle.gc_words.specs.Spelling.{no_links}
-use Rattle.gc_words.specs.Internal.Spelling.{LaidOut}
+use Rattle.gc_words.proofs.Public.{LaidOut, value_read_back, meant, laid_out, walk_spelled, ok_is}
 use Rattle.gc_words.specs.declared.header.Header.{Header}
-use Rattle.gc_words.proofs.Public.{value_read_back, meant, laid_out, walk_spelled, ok_is}
 use Rattle.gc_generations.specs.Minor.{lies_below, words_correspond_above, field_words_correspond_above, young_blocks, BlocksCorrespondAbove, MinorCertified}
 use Rattle.gc_generations.specs.Encoding.{encoded_value, encoded, encoded_fields, encoded_block, encoded_blocks, rebased, young_words, young_image, IsCode, IsApart, CanEncode, FieldsCanEncode, IsEncoded}
 use Rattle.gc_generations.proofs.Lists.{all_found}

@@ -7,8 +7,7 @@ use Rattle.std.proofs.lemmas.List.{take-append-le, drop-append-le}
 use Rattle.gc_words.specs.Word.{read_header}
 use Rattle.gc_words.specs.Image.{Block, walk, walk_words, blocks, block_in, block_at, HasShape}
 use Rattle.gc_words.specs.Space.{IsSpace}
-use Rattle.gc_words.specs.Internal.Walking.{StandsIn}
-use Rattle.gc_words.proofs.Public.{Walked, First, first, fields_in, object_walked, StandsAt, stands, ok_is, walked_blocks, stands_in}
+use Rattle.gc_words.proofs.Public.{StandsIn, Walked, First, first, fields_in, object_walked, StandsAt, stands, ok_is, walked_blocks, stands_in}
 use Rattle.gc_generations.proofs.Lists.{Rising}
 use Rattle.gc_generations.specs.Minor.{young_blocks}
 

@@ -1,4 +1,4 @@
--- What proofs of other crates cite of this crate, passed on from one place. Declares nothing.
+-- What other crates cite of this crate's proofs and internal definitions, passed on from one place. Declares nothing.
 pub use Rattle.gc_graph.proofs.Bounds.{all_push}
 pub use Rattle.gc_graph.proofs.Compose.{composed, joined}
 pub use Rattle.gc_graph.proofs.Decimals.{decimals, number_again, number_found, one_front}
@@ -11,3 +11,4 @@ pub use Rattle.gc_graph.proofs.Replies.{fresh_unused, matched_itself, own_pairs}
 pub use Rattle.gc_graph.proofs.SentText.{front_sent, nothing_sent, sent_at_last, sent_then}
 pub use Rattle.gc_graph.proofs.Stepping.{in_place, new_step, step_roots, with_free}
 pub use Rattle.gc_graph.proofs.TokenParsers.{bind_some, end_again, end_found, number_at_again, number_at_found, onto, positive, some_is, token_at_again, token_at_found}
+pub use Rattle.gc_graph.specs.Internal.Machine.{make_object}

@@ -1,4 +1,4 @@
--- Tokens of a line.
+-- A line is cut into tokens at its first space, and so on.
 use Rattle.std.proofs.lemmas.Grind.{common_steps}
 use Rattle.std.proofs.Common.{◌≡◌, ◌≢◌, ℕ, Bool, cond, eqb, List, [], ◌∷◌, ◌++◌, refl, Option, IsTrue, ◌↔◌, arith}
 use Rattle.std.specs.Option.{is_some}

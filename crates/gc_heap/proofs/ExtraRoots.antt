@@ -1,4 +1,4 @@
--- The places of extra roots.
+-- Extra roots have the places behind the slots.
 use Rattle.std.proofs.Common.{◌≡◌, ℕ, ◌+◌, ◌≤◌, arith}
 use Rattle.gc_graph.specs.Slots.{place, roots_of}
 use Rattle.gc_heap.specs.ExtraRoots.{extra_slot}

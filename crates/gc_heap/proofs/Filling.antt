@@ -55,7 +55,7 @@ pub record Fills (h : HeapWords) (s a i t w : ℕ) (new : HeapWords) : Type 0 wh
   pub links : KeepsLinks h.space.words new.space.words
   pub fields : (len : ℕ) → TakesFields h s a len → TakesFields new s a len
 
-pub there : (h : HeapWords) (s a i len : ℕ) → TakesFields h s a len → i < len → IsSome (field_at h.space.words a i)
+there : (h : HeapWords) (s a i len : ℕ) → TakesFields h s a len → i < len → IsSome (field_at h.space.words a i)
 there h s a i len takes less = subst (λ o. IsSome (field_in o i)) (sym takes.found) (some_at takes.block.fields i (omega (arith, takes.long)))
 
 pub fills : (h : HeapWords) (s a i len t w : ℕ) → IsHeap h → TakesFields h s a len → i < len → t < length h.roots → w ≡ slice_index h.roots t

@@ -1,4 +1,4 @@
--- Links after a command.
+-- What a command writes keeps the links of all objects that were there.
 use Rattle.std.proofs.lemmas.Grind.{common_steps}
 use Rattle.std.proofs.Common.{◌≡◌, ℕ, List, true, false, ◌==◌, is_some, sym, ◌∙◌, ap, subst, inl, inr, arith}
 use Rattle.std.specs.Prelude.{IsSome}

@@ -6,13 +6,12 @@ use Rattle.std.proofs.lemmas.Bool.{le-ltb}
 use Rattle.gc_graph.specs.Slots.{SlotName, place}
 use Rattle.gc_graph.specs.Graph.{Value, Ref, set_root, add_object, new_object}
 use Rattle.gc_graph.specs.Machine.{step, roomy_step, view_of, MakesObject}
-use Rattle.gc_graph.specs.Internal.Machine.{make_object}
+use Rattle.gc_graph.proofs.Public.{make_object, in_place, with_free}
 use Rattle.gc_graph.specs.declared.command.Op.{Op}
 use Rattle.gc_graph.specs.declared.command.Op.TheVariants as ops
 use Rattle.gc_graph.specs.declared.reply.Reply.{Reply}
 use Rattle.gc_graph.specs.declared.reply.Reply.TheVariants.{Full, Made, Done, Saw}
 use Rattle.gc_graph.specs.declared.reply.View.{View}
-use Rattle.gc_graph.proofs.Public.{in_place, with_free}
 use Rattle.gc_words.specs.Word.{value_of, word_of}
 use Rattle.gc_words.specs.Space.{CanPlace, end_of, free_in, with_object}
 use Rattle.gc_words.specs.declared.header.Header.{Header}

@@ -1,4 +1,4 @@
--- Words as mutators see them.
+-- What the code reads of a word is what a mutator sees in the graph.
 use Rattle.std.proofs.lemmas.Grind.{common_steps}
 use Rattle.std.proofs.Common.{◌≡◌, ℕ, cond, Some, arith}
 use Rattle.gc_graph.specs.Graph.{Value, Ref}

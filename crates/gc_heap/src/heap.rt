@@ -60,7 +60,7 @@ impl Heap {
     ghost use Rattle.gc_graph.specs.Slots.{place as place_of};
     ghost use Rattle.gc_graph.specs.Graph.{name_of, object_of, field_of, root};
     ghost use Rattle.gc_graph.specs.Machine.{roomy_step, opening_roomy, get_field, put_field, same as same_in};
-    ghost use Rattle.gc_graph.specs.Internal.Machine.{make_object};
+    ghost use Rattle.gc_graph.proofs.Public.{make_object};
     ghost use Rattle.gc_words.specs.Image.{is_start};
     ghost use Rattle.gc_words.specs.Layout.{link_place};
     ghost use Rattle.gc_words.specs.Space.{end_of, with_word, without_links};

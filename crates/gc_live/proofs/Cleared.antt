@@ -9,8 +9,7 @@ use Rattle.gc_core.specs.ExtraRoots.{clear_step}
 use Rattle.gc_along.specs.Watch.{opening_watch}
 use Rattle.gc_along.specs.Tables.{Tables, watch_of}
 use Rattle.gc_beside.specs.Stays.{WatchFits}
-use Rattle.gc_beside.specs.Internal.Live.{IsLive}
-use Rattle.gc_beside.proofs.Public.{Leads, same_itself, leads_on, leads_one, lives_through, end_by}
+use Rattle.gc_beside.proofs.Public.{IsLive, Leads, same_itself, leads_on, leads_one, lives_through, end_by}
 
 abbrev Never : ℕ → ℕ → Type 0
 Never a i = ⊥

@@ -26,8 +26,7 @@ use Rattle.gc_beside.specs.Stays.{WatchFits, MarksWritten}
 use Rattle.gc_along.specs.Tables.{Tables, watch_of}
 use Rattle.gc_along.specs.Claims.{CanMake}
 use Rattle.gc_along.specs.Events.{Made}
-use Rattle.gc_beside.specs.Internal.Live.{heap_words}
-use Rattle.gc_beside.proofs.Public.{Continues, continues_same, continues_on, continues_one, EndsMore, grown, Leads, same_itself, leads_on, leads_one, lives_through, end_by}
+use Rattle.gc_beside.proofs.Public.{heap_words, Continues, continues_same, continues_on, continues_one, EndsMore, grown, Leads, same_itself, leads_on, leads_one, lives_through, end_by}
 use Rattle.gc_live.proofs.LastsOn.{IsLasting, NoName, NewEnd, new_end, lasts_made, quiet_one, quiet_two}
 
 -- only fields of this object

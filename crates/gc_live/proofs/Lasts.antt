@@ -20,9 +20,8 @@ use Rattle.gc_core.specs.Flip.{flip_pair, HasAccepted, IsSureIfReady}
 use Rattle.gc_along.specs.Claims.{Accepts, CanPlaceNext, CanLook, CanApply, OwesNone}
 use Rattle.gc_along.specs.Events.{Placed, Looked, Applied as AppliedTo, Freed, flipped_tables}
 use Rattle.gc_along.specs.Tables.{Tables, watch_of}
-use Rattle.gc_beside.specs.Internal.Live.{GoesBeside, IsLive, heap_words, replica_words, IsNeverLost}
+use Rattle.gc_beside.proofs.Public.{GoesBeside, IsLive, heap_words, replica_words, IsNeverLost, begun_known, dropped_known, flipped_known, Goes, AreNew, lives_flipped, scan_or_same, accepts, roots_told, roots_known, scan_placed, scan_looked, scan_known, passed_known, entry_placed, entry_looked, entry_known}
 use Rattle.gc_beside.specs.Knows.{Knows, KnowsAll, open_or_fresh}
-use Rattle.gc_beside.proofs.Public.{begun_known, dropped_known, flipped_known, Goes, AreNew, lives_flipped, scan_or_same, accepts, roots_told, roots_known, scan_placed, scan_looked, scan_known, passed_known, entry_placed, entry_looked, entry_known}
 
 -- a checker that is not lost goes along
 pub goes_of : (s : State) (t : Tables) → IsLive s t → t.lost ≡ false → GoesBeside s s.collection (watch_of t)
@@ -49,7 +48,7 @@ in_open : (s s' : State) (step : Step) (reply : StepReply) (c next : Collection)
 in_open s s' step reply c next other said is_open is_open' first there = grind (arith, common_steps, steps_stay)
 
 -- where a step has such a reply a collection was open
-pub was_open : (s s' : State) (step : Step) (reply : StepReply) → ((option_map_or (λ (c : Collection). step_in s c step) None (step_idle s step)).0 ≡ reply → ⊥) → collect s step ≡ (reply, s') → (c : Collection) × (s.collection ≡ Some c)
+was_open : (s s' : State) (step : Step) (reply : StepReply) → ((option_map_or (λ (c : Collection). step_in s c step) None (step_idle s step)).0 ≡ reply → ⊥) → collect s step ≡ (reply, s') → (c : Collection) × (s.collection ≡ Some c)
 was_open s s' step reply idle said = go s.collection refl
   where
     go : (o : Option Collection) → s.collection ≡ o → (c : Collection) × (o ≡ Some c)

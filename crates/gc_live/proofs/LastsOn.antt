@@ -24,10 +24,9 @@ use Rattle.gc_plan.specs.Linked.{LeadsToOpen}
 use Rattle.gc_along.specs.Claims.{CanMake, CanWrite}
 use Rattle.gc_along.specs.Events.{Made, Wrote}
 use Rattle.gc_along.specs.Tables.{Tables, watch_of}
-use Rattle.gc_beside.specs.Internal.Live.{GoesBeside, IsLive, heap_words, IsNeverLost}
+use Rattle.gc_beside.proofs.Public.{GoesBeside, IsLive, heap_words, IsNeverLost, Continues, SameBut, SameOpen, NewName, continues_same, continues_on, continues_one, quiet_known, can_make, made_known, can_write, wrote_known, EndsMore, ends_more, lives_quiet, lives_unopened, new_op, not_done, end_by, lives_number, lives_number_closed, put_roots, was_open}
 use Rattle.gc_beside.specs.Knows.{Knows, open_or_fresh}
 use Rattle.gc_beside.specs.Stays.{WatchFits}
-use Rattle.gc_beside.proofs.Public.{Continues, SameBut, SameOpen, NewName, continues_same, continues_on, continues_one, quiet_known, can_make, made_known, can_write, wrote_known, EndsMore, ends_more, lives_quiet, lives_unopened, new_op, not_done, end_by, lives_number, lives_number_closed, put_roots, was_open}
 use Rattle.gc_live.proofs.Lasts.{AreOld, goes_of}
 
 -- no object was made

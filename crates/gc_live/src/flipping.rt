@@ -73,7 +73,7 @@ impl LiveHeap {
 
 ghost use Rattle.std.specs.Prelude.{◌≢◌, None, IfOk, IsOkAnd, OnErr, IsTrue, IsFalse};
 ghost use Rattle.gc_along.specs.Tables.{CertifiedBy};
-ghost use Rattle.gc_beside.specs.Internal.Live.{IsLive, IsNeverLost};
+ghost use Rattle.gc_beside.proofs.Public.{IsLive, IsNeverLost};
 ghost use Rattle.gc_plan.specs.Steps.{collect};
 ghost use Rattle.gc_plan.specs.declared.step.Step.{Step};
 ghost use Rattle.gc_plan.specs.declared.step.StepReply.{StepReply};

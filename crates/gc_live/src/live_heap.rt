@@ -34,7 +34,7 @@ impl Model for LiveHeap {
     ghost view = { λ h. h.inner };
 
     ghost use Rattle.std.specs.Prelude.{IsTrue};
-    ghost use Rattle.gc_beside.specs.Internal.Live.{IsLive, IsNeverLost};
+    ghost use Rattle.gc_beside.proofs.Public.{IsLive, IsNeverLost};
 
     ghost invariant = { λ h. IsLive h.inner h.watch × (IsTrue h.along → IsNeverLost h.inner h.watch) };
 }

@@ -130,7 +130,7 @@ corresponding_graphs size free g c h k same ready =
     subst (λ x. Corresponding (pairs_of c) x (new_graph c g.roots)) (graph_back no_links size free g h)
     (subst (Corresponding (pairs_of c) (graph_of (linked_image no_links size g))) (graph_back no_links c.size (new_free c) (new_graph c g.roots) (new_heap size free g c h k same ready)) both)
 
-pub passes : (s : State) (c : Collection) → IsSpaceGraph s.size s.heap.free s.heap.graph → IsOpened s c → is_ready c s.heap.graph ≡ true → passes_check s c ≡ true
+passes : (s : State) (c : Collection) → IsSpaceGraph s.size s.heap.free s.heap.graph → IsOpened s c → is_ready c s.heap.graph ≡ true → passes_check s c ≡ true
 passes s c h k ready = ap is_none (no_fault_of_certified (image_of_graph s.size s.heap.graph) (image_of_graph c.size (new_graph c s.heap.graph.roots)) (pairs_of c) (certified no_links no_links s.size s.heap.free s.heap.graph c h k.belongs k.size (ready_parts c s.heap.graph ready)))
 
 pub flips : (s : State) (c : Collection) → IsSpaceGraph s.size s.heap.free s.heap.graph → IsOpened s c → is_ready c s.heap.graph ≡ true → flip s c ≡ (Flipped (length c.replicas), flipped s c)

@@ -8,9 +8,8 @@ use Rattle.gc_graph.specs.Machine.{is_number}
 use Rattle.gc_words.specs.Word.{value_of, read_value, word_of, field_value, HasAddress}
 use Rattle.gc_words.specs.Image.{walk_words, IsShaped, blocks, block_in, block_at, object_entry, graph_of}
 use Rattle.gc_words.specs.Spelling.{spelled_from}
-use Rattle.gc_words.specs.Internal.Spelling.{LaidOut}
+use Rattle.gc_words.proofs.Public.{LaidOut, value_read_back, meaning_back, walk_spelled}
 use Rattle.gc_words.specs.declared.header.Header.{Header}
-use Rattle.gc_words.proofs.Public.{value_read_back, meaning_back, walk_spelled}
 use Rattle.gc_plan.specs.Linked.{object_header, field_word, object_block, block_entry, linked_space, linked_image}
 use Rattle.gc_plan.specs.Members.{In}
 use Rattle.gc_plan.specs.Belonging.{Laid, IsNamed, RefersTo, IsSpaceGraph}

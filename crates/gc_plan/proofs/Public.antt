@@ -1,4 +1,4 @@
--- What proofs of other crates cite of this crate, passed on from one place. Declares nothing.
+-- What other crates cite of this crate's proofs and internal definitions, passed on from one place. Declares nothing.
 pub use Rattle.gc_plan.proofs.Carried.{carries_only_kept}
 pub use Rattle.gc_plan.proofs.Commands.{Evolves, WrittenBy, root_fine, step_evolves, unchanged}
 pub use Rattle.gc_plan.proofs.Flips.{certified, corresponding_graphs, field_words_of_corresponding, flips, pairs_once, pairs_rise}

@@ -1,4 +1,4 @@
--- Lemmas about threads that are started and joined in order.
+-- Threads that are started and joined in order have played their scripts in order.
 use Rattle.std.proofs.lemmas.Grind.{common_steps}
 use Rattle.std.proofs.Common.{◌≡◌, ℕ, suc, ◌+◌, ◌-◌, ◌<◌, List, [], ◌∷◌, ◌++◌, length, map, get_or, sym, ap, ◌∙◌, arith, add-one, add-zero, take, Some, OnOk, is_ok, false}
 use Rattle.std.proofs.lemmas.Bool.{cases_lt}

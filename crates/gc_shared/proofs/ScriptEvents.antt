@@ -1,4 +1,4 @@
--- Lemmas about seats that play scripts.
+-- A seat that plays one more command of its script has played that much of it.
 use Rattle.std.proofs.lemmas.Grind.{common_steps}
 use Rattle.std.proofs.Common.{◌≡◌, ℕ, ◌+◌, ◌<◌, List, length, take, map, get_or, arith}
 use Rattle.std.proofs.lemmas.List.{take_more, map-append}

@@ -1,4 +1,4 @@
--- The worked rows.
+-- The worked rows hold.
 use Rattle.std.proofs.lemmas.Grind.{common_steps}
 use Rattle.std.proofs.Common.{◌≡◌, ◌≢◌, ℕ, ◌≤◌, List, [], ◌∷◌, ◌++◌, length, leb, refl, sym, ap, ◌∙◌, append_assoc, length-append, arith, true}
 use Rattle.std.proofs.lemmas.Bool.{leb-true}

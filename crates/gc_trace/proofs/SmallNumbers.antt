@@ -1,4 +1,4 @@
--- Numbers of one or two digits.
+-- One or two digits spell a number of one or two digits.
 use mir.Val.{bool_byte}
 use Rattle.std.proofs.Common.{Bool, true, false, ltb, ◌≡◌, ℕ, ◌+◌, ◌-◌, ◌*◌, ◌%◌, ◌<◌, ◌≤◌, [], ◌∷◌, take, refl, sym, ap, ◌∙◌, arith}
 use Rattle.std.specs.Fmt.{decimal}

@@ -1,4 +1,4 @@
--- Where the objects end after a write.
+-- Writes leave the end of the objects where it is, and a new object moves it by its words.
 use Rattle.std.proofs.lemmas.Grind.{common_steps}
 use Rattle.std.proofs.Common.{◌≡◌, ℕ, ◌+◌, ◌-◌, List, length, Some, ◌∙◌, arith, length-set}
 use Rattle.std.specs.Prelude.{IsOk}

@@ -1,4 +1,4 @@
--- What proofs of other crates cite of this crate, passed on from one place. Declares nothing.
+-- What other crates cite of this crate's proofs and internal definitions, passed on from one place. Declares nothing.
 pub use Rattle.gc_words.proofs.Blocks.{block_there, field_beside, field_block, none_at_end, placed_beside, placed_block}
 pub use Rattle.gc_words.proofs.Certified.{corresponding, lookup_of_blocks, object_option, place_of}
 pub use Rattle.gc_words.proofs.Ends.{end_cleared, end_written, fields_counted, free_placed}
@@ -11,4 +11,6 @@ pub use Rattle.gc_words.proofs.Spelled.{cleared, laid_out, laid_out_words, lengt
 pub use Rattle.gc_words.proofs.Starts.{StandsAt, ok_is, stands, stands_in, walked_blocks}
 pub use Rattle.gc_words.proofs.Steps.{Behind, at_end, behind, has_next, has_start_from, same_fault, step, take_add}
 pub use Rattle.gc_words.proofs.Walks.{BlockHasField, First, Walked, fields_in, first, header_counted, object_walked, objects_set, same_walk, starts_above, walk_field, walk_placed, written_back}
-pub use Rattle.gc_words.proofs.Writes.{CanPlaceBlock, FieldRead, block_placed, can_place_fresh, field_read, field_written, header_read, link_written, none_of, placed, some_of, space_of}
+pub use Rattle.gc_words.proofs.Writes.{CanPlaceBlock, block_placed, can_place_fresh, field_read, field_written, header_read, link_written, none_of, placed, some_of, space_of}
+pub use Rattle.gc_words.specs.Internal.Spelling.{IsBlock, LaidOut}
+pub use Rattle.gc_words.specs.Internal.Walking.{StandsIn, block_from, walk_from, walk_on}

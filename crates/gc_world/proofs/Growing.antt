@@ -1,4 +1,4 @@
--- A history with one more entry.
+-- A history with one more entry is a history, and leads to the state after it.
 use Rattle.std.proofs.Common.{◌≡◌, ℕ, ◌≤◌, List, [], ◌∷◌, ◌++◌, refl, ap}
 use Rattle.gc_graph.specs.Limits.{most_words}
 use Rattle.gc_plan.specs.State.{State, opening_state}

@@ -1,4 +1,4 @@
--- A world after one more event.
+-- A world after one more event has the history with that event.
 use Rattle.std.proofs.lemmas.Grind.{common_steps}
 use Rattle.std.proofs.Common.{◌≡◌, ℕ, ◌<◌, List, [], ◌∷◌, ◌++◌, Option, ap, sym, ◌∙◌, subst, arith}
 use Rattle.gc_graph.specs.Limits.{most_words}

@@ -1,7 +1,7 @@
 -- The rest of the walk finds the fault of the whole, and the starts before this place have their marks.
 use Rattle.std.proofs.Common.{◌≡◌, ◌-◌, length}
 use Rattle.std.specs.Result.{result_err}
-use Rattle.gc_words.specs.Internal.Walking.{walk_on}
+use Rattle.gc_words.proofs.Public.{walk_on}
 use Rattle.gc_check.proofs.StartMarks.{MarksTo}
 use Rattle.gc_check.proofs.starts.mark_starts.Given as goal
 

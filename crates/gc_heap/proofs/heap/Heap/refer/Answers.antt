@@ -2,8 +2,7 @@
 use Rattle.std.proofs.lemmas.Grind.{common_steps}
 use Rattle.std.proofs.Common.{◌≡◌, ◌+◌, ◌≤◌, length, Some, subst, arith}
 use Rattle.gc_words.specs.Image.{Block, block_at}
-use Rattle.gc_words.specs.Internal.Walking.{StandsIn}
-use Rattle.gc_words.proofs.Public.{graph_root, some_of, stands_in}
+use Rattle.gc_words.proofs.Public.{StandsIn, graph_root, some_of, stands_in}
 use Rattle.gc_heap.specs.Heap.{HeapWords, IsHeap}
 use Rattle.gc_heap.proofs.Views.{meaning}
 use Rattle.gc_heap.proofs.heap.Heap.refer.Goals as goal

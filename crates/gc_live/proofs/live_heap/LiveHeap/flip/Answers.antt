@@ -12,7 +12,7 @@ use Rattle.gc_along.specs.Outline.{outline_of}
 use Rattle.gc_along.specs.Watch.{Watch, Watches}
 use Rattle.gc_along.specs.Tables.{Tables, CertifiedBy, watch_of}
 use Rattle.gc_beside.specs.Stays.{GoesAlong}
-use Rattle.gc_beside.specs.Internal.Live.{IsLive, GoesBeside}
+use Rattle.gc_beside.proofs.Public.{IsLive, GoesBeside}
 use Rattle.gc_live.specs.Sure.{IsSure}
 use Rattle.gc_live.proofs.Lasts.{both_flipped, both_unflipped}
 use Rattle.gc_live.proofs.live_heap.LiveHeap.flip.Goals as goal

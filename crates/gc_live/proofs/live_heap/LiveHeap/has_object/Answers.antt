@@ -3,7 +3,7 @@ use Rattle.std.proofs.Common.{◌≡◌, is_some, slice_index_or, subst}
 use Rattle.gc_graph.specs.Graph.{lookup}
 use Rattle.gc_plan.specs.State.{State}
 use Rattle.gc_along.specs.Telling.{IsMark}
-use Rattle.gc_beside.specs.Internal.Live.{IsNeverLost}
+use Rattle.gc_beside.proofs.Public.{IsNeverLost}
 use Rattle.gc_live.proofs.Starts.{told_starts}
 use Rattle.gc_live.proofs.live_heap.LiveHeap.has_object.Goals as goal
 
