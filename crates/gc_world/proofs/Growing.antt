@@ -4,7 +4,7 @@ use Rattle.gc_graph.specs.Limits.{most_words}
 use Rattle.gc_plan.specs.State.{State, opening_state}
 use Rattle.gc_plan.specs.Runs.{IsEventWithin, AreEventsWithin, after, answer, answers}
 use Rattle.gc_plan.specs.Runs as runs
-use Rattle.gc_world.specs.History.{unmarked, events_of, answers_of, RunsFrom, state_after, IsUseful, UsefulFrom, IsHistory}
+use Rattle.gc_world.specs.History.{unmarked, events_of, answers_of, state_after, IsUseful, UsefulFrom, IsHistory}
 use Rattle.gc_world.specs.declared.entry.Entry.{Entry}
 
 module _ (last : Entry) where
@@ -16,13 +16,13 @@ module _ (last : Entry) where
   events_more mutators [] h r = (r, tt)
   events_more mutators (entry ∷ entries) h r = (h.0, events_more mutators entries h.1 r)
 
-  run_more : (s : State) (entries : List Entry) → RunsFrom s entries → unmarked last.answer ≡ answer (runs.state_after s (events_of entries)) last.event
-      → RunsFrom s (entries ++ last ∷ [])
+  run_more : (s : State) (entries : List Entry) → answers_of entries ≡ answers s (events_of entries) → unmarked last.answer ≡ answer (runs.state_after s (events_of entries)) last.event
+      → answers_of (entries ++ last ∷ []) ≡ answers s (events_of (entries ++ last ∷ []))
   run_more s [] e a = ap (λ x. x ∷ []) a
   run_more s (entry ∷ entries) e a =
       let first : unmarked entry.answer ≡ answer s entry.event = cc in
       let rest : answers_of entries ≡ answers (after s entry.event) (events_of entries) = cc in
-      let more : RunsFrom (after s entry.event) (entries ++ last ∷ []) = run_more (after s entry.event) entries rest a in
+      let more : answers_of (entries ++ last ∷ []) ≡ answers (after s entry.event) (events_of (entries ++ last ∷ [])) = run_more (after s entry.event) entries rest a in
       λ i. first i ∷ more i
 
   useful_more : (s : State) (entries : List Entry) → UsefulFrom s entries → IsUseful (runs.state_after s (events_of entries)) last.event last.answer → UsefulFrom s (entries ++ last ∷ [])

@@ -12,7 +12,7 @@ use Rattle.gc_plan.specs.declared.event.Answer.TheVariants.{Collector}
 use Rattle.gc_plan.specs.Carried.{OnlyKeptIsPaired, base_of_run}
 use Rattle.gc_plan.specs.declared.step.StepReply.TheVariants.{Refused}
 use Rattle.gc_plan.proofs.Public.{Reached, opening_ok, event_keeps, run_keeps, run_within, wider_events, never_refused, carries_only_kept}
-use Rattle.gc_world.specs.History.{unmarked, events_of, answers_of, RunsFrom, state_after, IsHistory}
+use Rattle.gc_world.specs.History.{unmarked, events_of, answers_of, state_after, IsHistory}
 use Rattle.gc_world.specs.declared.entry.Entry.{Entry}
 
 module _ (size mutators : ℕ) (entries : List Entry) (h : IsHistory size mutators entries) where
@@ -33,7 +33,7 @@ module _ (size mutators : ℕ) (entries : List Entry) (h : IsHistory size mutato
 not_refused : (s : State) (event : Event) → IsState s → answer s event ≢ Collector Refused
 not_refused s event ok e = grind (arith, common_steps, never_refused)
 
-none_from : (mutators : ℕ) (entries : List Entry) (s : State) → Reached mutators s → AreEvents mutators (events_of entries) → RunsFrom s entries
+none_from : (mutators : ℕ) (entries : List Entry) (s : State) → Reached mutators s → AreEvents mutators (events_of entries) → answers_of entries ≡ answers s (events_of entries)
     → All (λ (entry : Entry). unmarked entry.answer ≢ Collector Refused) entries
 none_from mutators [] s h r e = All-nil _
 none_from mutators (entry ∷ entries) s h r e =

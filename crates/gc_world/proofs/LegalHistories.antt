@@ -13,7 +13,7 @@ use Rattle.gc_plan.specs.declared.event.Answer.TheVariants.{Mutator}
 use Rattle.gc_core.specs.Replies.{told_in}
 use Rattle.gc_core.proofs.Public.{run_is_legal}
 use Rattle.gc_plan.proofs.Public.{wider_events}
-use Rattle.gc_world.specs.History.{unmarked, events_of, answers_of, RunsFrom, told_by, told_of, IsHistory}
+use Rattle.gc_world.specs.History.{unmarked, events_of, answers_of, told_by, told_of, IsHistory}
 use Rattle.gc_world.specs.declared.entry.Entry.{Entry}
 
 -- if an answer without its mark is a mutator's, so is the answer itself
@@ -24,7 +24,7 @@ told_event : (entries : List Entry) (event : Event) (told : answered.Answer) (s 
     → told_of entries ≡ told_in (after s event) (events_of entries) → told_by event told ++ told_of entries ≡ told_in s (event ∷ events_of entries)
 told_event entries event told s e rest = grind (arith, common_steps, told_reply)
 
-told_is_run : (entries : List Entry) (s : State) → RunsFrom s entries → told_of entries ≡ told_in s (events_of entries)
+told_is_run : (entries : List Entry) (s : State) → answers_of entries ≡ answers s (events_of entries) → told_of entries ≡ told_in s (events_of entries)
 told_is_run [] s e = refl
 told_is_run (entry ∷ entries) s e =
     let first : unmarked entry.answer ≡ answer s entry.event = cc in

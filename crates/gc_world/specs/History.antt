@@ -25,12 +25,6 @@ unmarked answer = answer
 abbrev pub answers_of : List Entry → List Answer
 answers_of entries = map (λ entry. unmarked entry.answer) entries
 
--- ---- core runs
-
--- the answers are those that the core gives to the events, starting in this state
-abbrev pub RunsFrom : State → List Entry → Type 0
-RunsFrom s entries = answers_of entries ≡ runs.answers s (events_of entries)
-
 -- the state that a history leads to from an empty heap of this many words and mutators
 abbrev pub state_after : ℕ → ℕ → List Entry → State
 state_after size mutators entries = runs.state_after (opening_state size mutators) (events_of entries)
@@ -55,7 +49,8 @@ pub record IsHistory (size mutators : ℕ) (entries : List Entry) : Type 0 where
   pub some : 1 ≤ mutators
   pub few : mutators ≤ most_mutators
   pub events : runs.AreEventsWithin most_words mutators (events_of entries)
-  pub run : RunsFrom (opening_state size mutators) entries
+  -- the answers are those that the core gives to the events
+  pub run : answers_of entries ≡ runs.answers (opening_state size mutators) (events_of entries)
   pub useful : UsefulFrom (opening_state size mutators) entries
 
 -- ---- the replies that mutators got

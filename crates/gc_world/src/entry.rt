@@ -56,7 +56,7 @@ impl Model for Entry {
 }
 
 impl Entry {
-    ghost use Rattle.std.specs.Prelude.{◌≡◌, ◌↔◌, IsTrue};
+    ghost use Rattle.std.specs.Prelude.{◌≡◌, ◌↔◌, if◌then◌else◌, IsTrue};
     ghost use Rattle.gc_world.specs.World.{entry_of};
     ghost use Rattle.gc_plan.specs.declared.event.Event.{Event};
     ghost use Rattle.gc_plan.specs.declared.event.Answer.{Answer};
@@ -76,20 +76,23 @@ impl Entry {
     pub fn step(step: Step, reply: StepReply) -> Entry
         ensures { result ≡ entry_of (Event.Collect step) (Answer.Collector reply) }
     {
-        let form = Form::Step {
-            useful: false,
-            step,
-            reply,
-        };
-        Entry { form }
+        Entry::of_step(step, reply, false)
     }
 
     /// Returns the entry of a step that was chosen as the useful one, and its reply.
     pub fn useful(step: Step, reply: StepReply) -> Entry
         ensures { result ≡ entry_of (Event.Collect step) (Answer.Useful reply) }
     {
+        Entry::of_step(step, reply, true)
+    }
+
+    /// Returns the entry of a step and its reply, and whether it was chosen as the useful one.
+    pub(crate) fn of_step(step: Step, reply: StepReply, useful: bool) -> Entry
+        ensures { result ≡ entry_of (Event.Collect step)
+            (if useful then Answer.Useful reply else Answer.Collector reply) }
+    {
         let form = Form::Step {
-            useful: true,
+            useful,
             step,
             reply,
         };

@@ -45,17 +45,17 @@ impl Model for World {
 }
 
 impl World {
-    ghost use Rattle.std.specs.Prelude.{◌≡◌, ◌≢◌, ◌<◌, ◌≤◌, [], None, IfOk, OnErr};
-    ghost use Rattle.std.specs.Prelude.{is_some, IfSome};
+    ghost use Rattle.std.specs.Prelude.{◌≡◌, ◌<◌, ◌≤◌, ◌++◌, ◌∷◌, [], None, IfOk, OnErr, IsTrue};
+    ghost use Rattle.std.specs.Prelude.{if◌then◌else◌, is_some, IfSome};
     ghost use Rattle.std.specs.Option.{option_map};
     ghost use Rattle.gc_graph.specs.Limits.{most_words, most_mutators};
     ghost use Rattle.gc_heap.specs.Heap.{roomy_in};
     ghost use Rattle.gc_cert.specs.Views.{pair_in};
-    ghost use Rattle.gc_plan.specs.Steps.{mutate, collect, useful_step};
+    ghost use Rattle.gc_plan.specs.Steps.{mutate, useful_step};
     ghost use Rattle.gc_plan.specs.Runs.{IsStepWithin};
-    ghost use Rattle.gc_core.specs.Flip.{kept_after, IsCertified, PassesIfReady, HasRoomIfLarge};
+    ghost use Rattle.gc_core.specs.Flip.{IsCertified};
     ghost use Rattle.gc_world.specs.History.{IsHistory};
-    ghost use Rattle.gc_world.specs.World.{present, with_entry, HasSmallImages};
+    ghost use Rattle.gc_world.specs.World.{present, entry_of, IsCollected};
     ghost use Rattle.gc_plan.specs.declared.event.Event.{Event};
     ghost use Rattle.gc_plan.specs.declared.event.Answer.{Answer};
 
@@ -86,7 +86,9 @@ impl World {
     pub fn mutate(&mut self, m: u8, op: &Op) -> Result<Reply, NoMemory>
         requires { m < self.old.mutators }
         ensures answered { IfOk result (λ reply.
-            self.new ≡ with_entry self.old (Event.Mutate m op.now) (Answer.Mutator reply)) }
+            self.new ≡ record self.old {
+              entries = self.old.entries ++ entry_of (Event.Mutate m op.now) (Answer.Mutator reply) ∷ [];
+            }) }
         ensures step { IfOk result (λ reply.
             mutate (present self.old) m op.now ≡ (reply, present self.new)) }
         ensures refused { OnErr result (self.new ≡ self.old) }
@@ -103,20 +105,11 @@ impl World {
     /// unchanged.
     pub fn collect(&mut self, step: Step) -> Result<StepReply, NoMemory>
         requires { IsStepWithin most_words self.old.mutators step }
-        ensures answered { IfOk result (λ reply.
-            self.new ≡ record (with_entry self.old (Event.Collect step) (Answer.Collector reply)) {
-              kept = kept_after self.old.kept (present self.old) reply;
-            }) }
-        ensures step { IfOk result (λ reply. collect (present self.old) step ≡ (reply, present self.new)) }
-        ensures passes { step ≡ Step.Flip → IfOk result (PassesIfReady (present self.old)) }
-        ensures never_refused { IfOk result (λ reply. reply ≢ StepReply.Refused) }
-        ensures room { IfOk result (HasRoomIfLarge (present self.old)) }
+        ensures collected { IfOk result (λ reply.
+            IsCollected self.old self.new step reply (Answer.Collector reply)) }
         ensures refused { OnErr result (self.new ≡ self.old) }
     {
-        make_room(&mut self.history)?;
-        let reply = perform(&mut self.heap, &mut self.kept, &Sequential, step)?;
-        self.history.push_reserved(Entry::step(step, reply));
-        Ok(reply)
+        self.collect_by(&Sequential, step, false)
     }
 
     /// Performs one collector step, as `collect` does, but lets several threads check a flip with many pairs. On
@@ -127,20 +120,11 @@ impl World {
         step: Step,
     ) -> Result<StepReply, NoMemory>
         requires { IsStepWithin most_words self.old.mutators step }
-        ensures answered { IfOk result (λ reply.
-            self.new ≡ record (with_entry self.old (Event.Collect step) (Answer.Collector reply)) {
-              kept = kept_after self.old.kept (present self.old) reply;
-            }) }
-        ensures step { IfOk result (λ reply. collect (present self.old) step ≡ (reply, present self.new)) }
-        ensures passes { step ≡ Step.Flip → IfOk result (PassesIfReady (present self.old)) }
-        ensures never_refused { IfOk result (λ reply. reply ≢ StepReply.Refused) }
-        ensures room { IfOk result (HasRoomIfLarge (present self.old)) }
+        ensures collected { IfOk result (λ reply.
+            IsCollected self.old self.new step reply (Answer.Collector reply)) }
         ensures refused { OnErr result (self.new ≡ self.old) }
     {
-        make_room(&mut self.history)?;
-        let reply = perform(&mut self.heap, &mut self.kept, &Parallel::new(rt), step)?;
-        self.history.push_reserved(Entry::step(step, reply));
-        Ok(reply)
+        self.collect_by(&Parallel::new(rt), step, false)
     }
 
     /// Performs the useful step, as `collect_par` does, and returns it with its reply. The history marks the answer as
@@ -150,21 +134,36 @@ impl World {
         rt: &(impl Threads + Sync),
     ) -> Result<(Step, StepReply), NoMemory>
         ensures useful { IfOk result (λ made. made.0 ≡ useful_step (present self.old)) }
-        ensures answered { IfOk result (λ made.
-            self.new ≡ record (with_entry self.old (Event.Collect made.0) (Answer.Useful made.1)) {
-              kept = kept_after self.old.kept (present self.old) made.1;
-            }) }
-        ensures step { IfOk result (λ made. collect (present self.old) made.0 ≡ (made.1, present self.new)) }
-        ensures passes { IfOk result (λ made. made.0 ≡ Step.Flip → PassesIfReady (present self.old) made.1) }
-        ensures never_refused { IfOk result (λ made. made.1 ≢ StepReply.Refused) }
-        ensures room { IfOk result (λ made. HasRoomIfLarge (present self.old) made.1) }
+        ensures collected { IfOk result (λ made.
+            IsCollected self.old self.new made.0 made.1 (Answer.Useful made.1)) }
         ensures refused { OnErr result (self.new ≡ self.old) }
     {
-        make_room(&mut self.history)?;
         let step = self.heap.next_useful_step();
-        let reply = perform(&mut self.heap, &mut self.kept, &Parallel::new(rt), step)?;
-        self.history.push_reserved(Entry::useful(step, reply));
+        let reply = self.collect_by(&Parallel::new(rt), step, true)?;
         Ok((step, reply))
+    }
+
+    // Performs a step of the collector with this checker. If it was chosen as the useful step, its answer is marked as such.
+    fn collect_by<C: Checks>(
+        &mut self,
+        checker: &C,
+        step: Step,
+        useful: bool,
+    ) -> Result<StepReply, NoMemory>
+        requires can { C.can_check checker.now }
+        requires step { IsStepWithin most_words self.old.mutators step }
+        requires useful { IsTrue useful → step ≡ useful_step (present self.old) }
+        ensures collected { IfOk result (λ reply.
+            IsCollected self.old self.new step reply
+            (if useful then Answer.Useful reply else Answer.Collector reply)) }
+        ensures refused { OnErr result (self.new ≡ self.old) }
+    {
+        histories_grow();
+        make_room(&mut self.history)?;
+        let reply = perform(&mut self.heap, &mut self.kept, checker, step)?;
+        self.history
+            .push_reserved(Entry::of_step(step, reply, useful));
+        Ok(reply)
     }
 
     /// Returns the useful step: the one that advances the collection, or opens one.
@@ -207,7 +206,8 @@ impl World {
     pub fn take_flip(&mut self) -> Option<PairFile>
         ensures taken { option_map pair_in result ≡ self.old.kept }
         ensures certified { IfSome result (λ file. IsCertified (pair_in file)) }
-        ensures small { IfSome result (λ file. HasSmallImages (pair_in file)) }
+        ensures small { IfSome result (λ file.
+            (pair_in file).old.size ≤ most_words × (pair_in file).new.size ≤ most_words) }
         ensures rest { self.new ≡ record self.old { kept = None } }
     {
         self.kept.take()

@@ -9,4 +9,5 @@ pub returns-in-Some-clause-certified : goal.returns-in-Some-clause-certified
 returns-in-Some-clause-certified g c = λ before.
     let kept : kept_after None c.args.heap.now c.in_ok-reply.field-0.reply ≡ Some (pair_in c.in-Some.pair) = rw c.in-Some.is at c.in_ok-reply.ensures.pair refl None in
     let certified : IsCertified (pair_in c.in-Some.pair) = rw c.in-Some.is at c.in_ok-reply.ensures.certified in
-    (certified, kept_small c.args.heap.now c.in_ok-reply.field-0.reply (pair_in c.in-Some.pair) c.requires.small kept)
+    let small = kept_small c.args.heap.now c.in_ok-reply.field-0.reply (pair_in c.in-Some.pair) c.requires.small kept in
+    (certified, small.0, small.1)

@@ -7,5 +7,5 @@ pub returns-clause-answered : goal.returns-clause-answered
 returns-clause-answered g c = record {
   place = length c.history.result.now - 1;
   added = rw (c.push_reserved.ensures.items, c.in_ok-reserve.ensures.items, c.useful-entry.ensures, ← c.seat.view_is) refl;
-  possible = (_, _, last_is_possible _ _ c.deref_mut.result.now.entries _ _ c.history.result.now c.in_ok-step.ensures.answered refl (search rules) (search rules));
+  possible = (_, _, last_is_possible _ _ c.deref_mut.result.now.entries _ _ c.history.result.now c.in_ok-step.ensures.collected.answered refl (search rules) (search rules));
 }
