@@ -1,5 +1,6 @@
 pub mod FaultTexts
 pub mod Headline
+pub mod InC
 pub mod Infer
 pub mod Internal
 pub mod Paths

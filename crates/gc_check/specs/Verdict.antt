@@ -1,5 +1,5 @@
 -- The checker's answer, and its line.
-use Rattle.std.specs.Prelude.{◌≡◌, ℕ, List, [], ◌∷◌, length, map, Option, Some, ⊤, codes}
+use Rattle.std.specs.Prelude.{◌≡◌, ℕ, List, [], ◌∷◌, ◌++◌, length, map, Option, Some, None, ⊤, codes}
 use Rattle.std.specs.Option.{option_map_or}
 use Rattle.std.specs.Fmt.{decimal}
 use Rattle.gc_graph.specs.Lines.{line}
@@ -27,18 +27,25 @@ IsRefusalOf first fault.NoMemory = ⊤
 abbrev pub verdict_of : Image → Image → List (ℕ × ℕ) → Verdict
 verdict_of old new pairs = option_map_or verdict.Refused (first_fault old new pairs) (verdict.Yes (length pairs))
 
--- a refusal's number, name and places
+-- a refusal's number, its name, the place that it names, and the field
+unfoldable pub refusal_parts : Refusal → ℕ × List ℕ × Option ℕ × Option ℕ
+refusal_parts (OldShape at) = (1, codes "OldShape", Some at, None)
+refusal_parts (NewShape at) = (2, codes "NewShape", Some at, None)
+refusal_parts RootCount = (3, codes "RootCount", None, None)
+refusal_parts (OldNotStart k) = (4, codes "OldNotStart", Some k, None)
+refusal_parts (NewNotStart k) = (5, codes "NewNotStart", Some k, None)
+refusal_parts (NotRising k) = (6, codes "NotRising", Some k, None)
+refusal_parts (Twice k) = (7, codes "Twice", Some k, None)
+refusal_parts (HeaderDiffers k) = (8, codes "HeaderDiffers", Some k, None)
+refusal_parts (FieldDiffers k i) = (9, codes "FieldDiffers", Some k, Some i)
+refusal_parts (RootDiffers slot) = (10, codes "RootDiffers", Some slot, None)
+
+-- the word for a place, if there is one
+abbrev pub place_words : Option ℕ → List (List ℕ)
+place_words place = option_map_or (λ n. decimal n ∷ []) place []
+
 unfoldable pub refusal_words : Refusal → List (List ℕ)
-refusal_words (OldShape at) = codes "1" ∷ codes "OldShape" ∷ decimal at ∷ []
-refusal_words (NewShape at) = codes "2" ∷ codes "NewShape" ∷ decimal at ∷ []
-refusal_words RootCount = codes "3" ∷ codes "RootCount" ∷ []
-refusal_words (OldNotStart k) = codes "4" ∷ codes "OldNotStart" ∷ decimal k ∷ []
-refusal_words (NewNotStart k) = codes "5" ∷ codes "NewNotStart" ∷ decimal k ∷ []
-refusal_words (NotRising k) = codes "6" ∷ codes "NotRising" ∷ decimal k ∷ []
-refusal_words (Twice k) = codes "7" ∷ codes "Twice" ∷ decimal k ∷ []
-refusal_words (HeaderDiffers k) = codes "8" ∷ codes "HeaderDiffers" ∷ decimal k ∷ []
-refusal_words (FieldDiffers k i) = codes "9" ∷ codes "FieldDiffers" ∷ decimal k ∷ decimal i ∷ []
-refusal_words (RootDiffers slot) = codes "10" ∷ codes "RootDiffers" ∷ decimal slot ∷ []
+refusal_words refusal = let parts = refusal_parts refusal in decimal parts.0 ∷ parts.1 ∷ (place_words parts.2 ++ place_words parts.3)
 
 unfoldable pub verdict_words : Verdict → List (List ℕ)
 verdict_words (verdict.Yes pairs) = codes "yes" ∷ decimal pairs ∷ []

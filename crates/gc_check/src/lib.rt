@@ -3,6 +3,7 @@
 
 mod checker;
 mod checks;
+mod in_c;
 mod inference;
 mod laws;
 mod marks;
@@ -10,6 +11,7 @@ mod meet;
 mod object;
 mod object_table;
 mod partners;
+mod refusal_parts;
 mod shortest_path;
 mod starts;
 mod tables;
@@ -21,6 +23,7 @@ mod visits;
 pub use checker::{check, check_sizes, check_wide};
 pub use checks::{Checks, ComparesObjects, Sequential};
 pub use gc_words::Refusal;
+pub use in_c::{DONE, GcflipVerdict, NO_MEMORY, REFUSED};
 pub use inference::{Comparison, compare, compare_by, infer};
 pub use laws::{certified_is_replicated, small_images_mean_the_same, worked_rows};
 pub use shortest_path::{Path, path_to};

@@ -1,9 +1,10 @@
-ghost use Rattle.std.specs.Prelude.{◌≡◌, ◌∷◌, ◌++◌, ◌+◌, ◌≤◌, true, length, codes, decimal, OnOk, OnErr};
+ghost use Rattle.std.specs.Prelude.{◌≡◌, ◌∷◌, ◌++◌, ◌+◌, ◌≤◌, true, length, codes, OnOk, OnErr};
 ghost use Rattle.std.specs.Io.KnownBytes.{Appends};
 ghost use Rattle.gc_graph.specs.Streams.{bytes_written, sink_failed, SendsFront};
 ghost use Rattle.gc_graph.specs.Lines.{line};
 ghost use Rattle.gc_check.specs.Verdict.{refusal_words, verdict_line};
 
+use crate::refusal_parts::parts_of;
 use crate::verdict::Verdict;
 use gc_cert::WriteFault;
 use gc_graph::Sink;
@@ -33,38 +34,28 @@ fn print_verdict(printer: &mut Printer, verdict: &Verdict)
     ensures { printer.new ≡ printer.old ++ verdict_line verdict.now }
 {
     match verdict {
-        Verdict::Yes { pairs } => print_place(printer, b"yes ", u64::from(*pairs)),
-        Verdict::Refused(refusal) => print_refusal(printer, refusal),
+        Verdict::Yes { pairs } => {
+            printer.numbered(b"yes ", u64::from(*pairs));
+            printer.bytes(b"\n");
+        }
+        Verdict::Refused(refusal) => print_refusal(printer, *refusal),
     }
 }
 
 #[tactic(auto, unfolding(crate::specs::Verdict::refusal_words))]
-fn print_refusal(printer: &mut Printer, refusal: &Refusal)
+fn print_refusal(printer: &mut Printer, refusal: Refusal)
     requires { length printer.old + 128 ≤ 16384 }
-    ensures { printer.new ≡ printer.old ++ line (codes "refused" ∷ refusal_words refusal.now) }
+    ensures { printer.new ≡ printer.old ++ line (codes "refused" ∷ refusal_words refusal) }
 {
-    match refusal {
-        Refusal::OldShape { at } => print_place(printer, b"refused 1 OldShape ", *at),
-        Refusal::NewShape { at } => print_place(printer, b"refused 2 NewShape ", *at),
-        Refusal::RootCount => printer.bytes(b"refused 3 RootCount\n"),
-        Refusal::OldNotStart { k } => print_place(printer, b"refused 4 OldNotStart ", *k),
-        Refusal::NewNotStart { k } => print_place(printer, b"refused 5 NewNotStart ", *k),
-        Refusal::NotRising { k } => print_place(printer, b"refused 6 NotRising ", *k),
-        Refusal::Twice { k } => print_place(printer, b"refused 7 Twice ", *k),
-        Refusal::HeaderDiffers { k } => print_place(printer, b"refused 8 HeaderDiffers ", *k),
-        Refusal::FieldDiffers { k, i } => {
-            printer.numbered(b"refused 9 FieldDiffers ", *k);
-            print_place(printer, b" ", *i);
-        }
-        Refusal::RootDiffers { slot } => print_place(printer, b"refused 10 RootDiffers ", *slot),
+    let parts = parts_of(refusal);
+    printer.numbered(b"refused ", u64::from(parts.number));
+    printer.bytes(b" ");
+    printer.bytes(parts.name);
+    if let Some(place) = parts.place {
+        printer.numbered(b" ", place);
     }
-}
-
-// Prints a line that ends in a number.
-fn print_place(printer: &mut Printer, words: &[u8], place: u64)
-    requires { length printer.old + length words.now + 21 ≤ 16384 }
-    ensures { printer.new ≡ printer.old ++ (words.now ++ (decimal place ++ codes "\n")) }
-{
-    printer.numbered(words, place);
+    if let Some(field) = parts.field {
+        printer.numbered(b" ", field);
+    }
     printer.bytes(b"\n");
 }

@@ -3,22 +3,12 @@ ghost use Rattle.gc_words.specs.Certificate.{Certified};
 ghost use Rattle.gc_words.specs.Views.{image_of};
 ghost use Rattle.gc_check.specs.Headline.{Replicated};
 ghost use Rattle.gc_check.specs.Verdict.{pairs_of, verdict_of};
-ghost use Rattle.gcflip_c.specs.Answers.{yes, no_memory, IsVerdict};
-ghost use Rattle.gcflip_c.specs.Verdicts.{IsReported};
+ghost use Rattle.gc_check.specs.InC.{done, no_memory, IsReported};
+ghost use Rattle.gcflip_c.specs.Answers.{IsVerdict};
 
-use crate::verdict::GcflipVerdict;
-use gc_check::{CheckFault, check_wide};
+use gc_check::{CheckFault, GcflipVerdict, NO_MEMORY, Verdict, check_wide};
 use gc_words::{ImageRef, Pair, no_fault_where_certified};
 use std::alloc::Global;
-
-/// The certificate holds.
-pub(crate) const YES: u32 = 0;
-
-/// The certificate does not hold.
-pub(crate) const REFUSED: u32 = 48;
-
-/// An allocation failed.
-pub(crate) const NO_MEMORY: u32 = 1;
 
 /// There are 2^32 pairs or more, or more than have room.
 pub(crate) const TOO_MANY: u32 = 7;
@@ -38,7 +28,7 @@ pub(crate) const NO_PATH: u32 = 51;
 /// The path has more fields than have room.
 pub(crate) const LONG_PATH: u32 = 52;
 
-/// Checks the certificate, writes the verdict, and returns `YES` or `REFUSED`. On `NO_MEMORY` the verdict is unchanged.
+/// Checks the certificate, writes the verdict, and returns `DONE` or `REFUSED`. On `NO_MEMORY` the verdict is unchanged.
 pub(crate) fn answer(
     alloc: Global,
     old: ImageRef,
@@ -51,20 +41,14 @@ pub(crate) fn answer(
     ensures silent { result ≡ no_memory → verdict.new ≡ verdict.old }
     ensures verdict { IsVerdict result → IsReported
         (verdict_of (image_of old.entry) (image_of new.entry) (pairs_of pairs.now)) result verdict.new }
-    ensures yes { result ≡ yes → Certified (image_of old.entry) (image_of new.entry) (pairs_of pairs.now) }
-    ensures replicated { result ≡ yes
+    ensures yes { result ≡ done → Certified (image_of old.entry) (image_of new.entry) (pairs_of pairs.now) }
+    ensures replicated { result ≡ done
         → Replicated (image_of old.entry) (image_of new.entry) (pairs_of pairs.now) }
 {
     no_fault_where_certified();
     match check_wide(alloc, old, new, pairs) {
-        Ok(yes) => {
-            *verdict = GcflipVerdict::of_yes(yes.pairs);
-            YES
-        }
-        Err(CheckFault::Refused(refusal)) => {
-            *verdict = GcflipVerdict::of_refusal(refusal);
-            REFUSED
-        }
+        Ok(yes) => verdict.report(Verdict::Yes { pairs: yes.pairs }),
+        Err(CheckFault::Refused(refusal)) => verdict.report(Verdict::Refused(refusal)),
         Err(CheckFault::NoMemory) => NO_MEMORY,
     }
 }

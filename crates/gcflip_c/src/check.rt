@@ -2,12 +2,12 @@ ghost use Rattle.std.specs.Prelude.{◌≡◌, ◌⊎◌, ◌≤◌, ◌^◌, �
 ghost use Rattle.gc_words.specs.Certificate.{Certified};
 ghost use Rattle.gc_check.specs.Headline.{Replicated};
 ghost use Rattle.gc_check.specs.Verdict.{pairs_of, verdict_of};
-ghost use Rattle.gcflip_c.specs.Answers.{yes, no_memory, too_many, IsRefusal, IsVerdict};
+ghost use Rattle.gc_check.specs.InC.{done, no_memory, IsRefusal, IsReported};
+ghost use Rattle.gcflip_c.specs.Answers.{too_many, IsVerdict};
 ghost use Rattle.gcflip_c.specs.Images.{image};
-ghost use Rattle.gcflip_c.specs.Verdicts.{IsReported};
 
 use crate::answer::{TOO_MANY, answer};
-use crate::verdict::GcflipVerdict;
+use gc_check::GcflipVerdict;
 use gc_words::{ImageRef, Pair};
 use std::alloc::Global;
 
@@ -37,11 +37,11 @@ pub extern "C" fn gcflip_check(
         (image old_size old_end old_raws old_words.now old_roots.now)
         (image new_size new_end new_raws new_words.now new_roots.now) (pairs_of pairs.now))
         result verdict.new }
-    ensures yes { result ≡ yes → Certified
+    ensures yes { result ≡ done → Certified
         (image old_size old_end old_raws old_words.now old_roots.now)
         (image new_size new_end new_raws new_words.now new_roots.now) (pairs_of pairs.now) }
     // The soundness theorem, for mutators that continue in the new heap.
-    ensures replicated { result ≡ yes → Replicated
+    ensures replicated { result ≡ done → Replicated
         (image old_size old_end old_raws old_words.now old_roots.now)
         (image new_size new_end new_raws new_words.now new_roots.now) (pairs_of pairs.now) }
 {

@@ -4,13 +4,12 @@ ghost use Rattle.gc_check.specs.Headline.{Replicated};
 ghost use Rattle.gc_words.specs.Fault.{AreComparable};
 ghost use Rattle.gc_check.specs.Infer.{AreClosed, AreForced, AreTogether, Certifiable};
 ghost use Rattle.gc_check.specs.Verdict.{pairs_of, verdict_of};
-ghost use Rattle.gcflip_c.specs.Answers.{yes, no_memory, too_many, refused, IsRefusal, IsVerdict};
+ghost use Rattle.gc_check.specs.InC.{done, no_memory, refused, IsRefusal, IsReported};
+ghost use Rattle.gcflip_c.specs.Answers.{too_many, IsVerdict};
 ghost use Rattle.gcflip_c.specs.Images.{image};
-ghost use Rattle.gcflip_c.specs.Verdicts.{IsReported};
 
-use crate::answer::{NO_MEMORY, REFUSED, TOO_MANY, YES};
-use crate::verdict::GcflipVerdict;
-use gc_check::{Verdict, compare};
+use crate::answer::TOO_MANY;
+use gc_check::{GcflipVerdict, NO_MEMORY, Verdict, compare};
 use gc_graph::NoMemory;
 use gc_words::{ImageRef, Pair};
 use std::alloc::Global;
@@ -56,10 +55,10 @@ pub extern "C" fn gcflip_infer(
         (image new_size new_end new_raws new_words.now new_roots.now)
         → AreClosed (image old_size old_end old_raws old_words.now old_roots.now)
         (image new_size new_end new_raws new_words.now new_roots.now) (pairs_of (take count.new pairs.new)) }
-    ensures yes { result ≡ yes → Certified
+    ensures yes { result ≡ done → Certified
         (image old_size old_end old_raws old_words.now old_roots.now)
         (image new_size new_end new_raws new_words.now new_roots.now) (pairs_of (take count.new pairs.new)) }
-    ensures replicated { result ≡ yes → Replicated
+    ensures replicated { result ≡ done → Replicated
         (image old_size old_end old_raws old_words.now old_roots.now)
         (image new_size new_end new_raws new_words.now new_roots.now) (pairs_of (take count.new pairs.new)) }
     // No certificate holds.
@@ -92,13 +91,7 @@ pub extern "C" fn gcflip_infer(
     pairs[..found].copy_from_slice(comparison.pairs.as_slice());
     *count = found;
     match comparison.verdict {
-        Verdict::Yes { pairs: number } => {
-            *verdict = GcflipVerdict::of_yes(number);
-            YES
-        }
-        Verdict::Refused(refusal) => {
-            *verdict = GcflipVerdict::of_refusal(refusal);
-            REFUSED
-        }
+        Verdict::Yes { pairs } => verdict.report(Verdict::Yes { pairs }),
+        Verdict::Refused(refusal) => verdict.report(Verdict::Refused(refusal)),
     }
 }

@@ -6,12 +6,10 @@ mod check;
 mod inference;
 mod path;
 mod text;
-mod verdict;
 mod version;
 
 pub use check::gcflip_check;
 pub use inference::gcflip_infer;
 pub use path::gcflip_path;
 pub use text::gcflip_check_text;
-pub use verdict::GcflipVerdict;
 pub use version::gcflip_version;

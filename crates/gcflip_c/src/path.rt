@@ -1,11 +1,12 @@
 ghost use Rattle.std.specs.Prelude.{◌≡◌, ◌≢◌, ◌⊎◌, ◌≤◌, ◌<◌, ℕ, List, Some, take, length};
 ghost use Rattle.gc_graph.specs.Graph.{Ref, Reachable, at_path};
 ghost use Rattle.gc_words.specs.Image.{IsShaped, graph_of};
-ghost use Rattle.gcflip_c.specs.Answers.{yes, no_memory, no_path, long_path};
+ghost use Rattle.gc_check.specs.InC.{done, no_memory};
+ghost use Rattle.gcflip_c.specs.Answers.{no_path, long_path};
 ghost use Rattle.gcflip_c.specs.Images.{image};
 
-use crate::answer::{LONG_PATH, NO_MEMORY, NO_PATH, YES};
-use gc_check::path_to;
+use crate::answer::{LONG_PATH, NO_PATH};
+use gc_check::{DONE, NO_MEMORY, path_to};
 use gc_graph::NoMemory;
 use gc_words::ImageRef;
 use std::alloc::Global;
@@ -26,16 +27,16 @@ pub extern "C" fn gcflip_path(
     fields: &mut [u64],
     count: &mut usize,
 ) -> u32
-    ensures answers { (result ≡ yes) ⊎ ((result ≡ no_path) ⊎ ((result ≡ long_path) ⊎ (result ≡ no_memory))) }
-    ensures leads { result ≡ yes → at_path (graph_of (image size end raws words.now roots.now)) place.new (take count.new fields.new) ≡ Some (Ref address) }
+    ensures answers { (result ≡ done) ⊎ ((result ≡ no_path) ⊎ ((result ≡ long_path) ⊎ (result ≡ no_memory))) }
+    ensures leads { result ≡ done → at_path (graph_of (image size end raws words.now roots.now)) place.new (take count.new fields.new) ≡ Some (Ref address) }
     // No path that leads there has fewer fields.
-    ensures shortest { result ≡ yes → (p : ℕ) (fs : List ℕ)
+    ensures shortest { result ≡ done → (p : ℕ) (fs : List ℕ)
         → at_path (graph_of (image size end raws words.now roots.now)) p fs ≡ Some (Ref address) → count.new ≤ length fs }
     ensures none { result ≡ no_path → IsShaped (image size end raws words.now roots.now)
         → Reachable (graph_of (image size end raws words.now roots.now)) address → ⊥ }
     ensures room { result ≡ long_path → length fields.old < count.new }
-    ensures unwritten { result ≢ yes → (place.new ≡ place.old) × (fields.new ≡ fields.old) }
-    ensures silent { result ≢ yes → result ≢ long_path → count.new ≡ count.old }
+    ensures unwritten { result ≢ done → (place.new ≡ place.old) × (fields.new ≡ fields.old) }
+    ensures silent { result ≢ done → result ≢ long_path → count.new ≡ count.old }
 {
     let image = ImageRef {
         size,
@@ -56,5 +57,5 @@ pub extern "C" fn gcflip_path(
     }
     fields[..found].copy_from_slice(path.fields.as_slice());
     *place = path.place;
-    YES
+    DONE
 }

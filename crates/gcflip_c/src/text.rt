@@ -3,12 +3,13 @@ ghost use Rattle.gc_cert.specs.Grammar.{CertifiedPair};
 ghost use Rattle.gc_cert.specs.Faults.{IsReadAsPair, IsPairFaultOf};
 ghost use Rattle.gc_cert.specs.declared.fault.PairFault.{PairFault};
 ghost use Rattle.gc_check.specs.Headline.{Replicated};
-ghost use Rattle.gcflip_c.specs.Answers.{yes, no_memory, too_large, bad_line, ends_early, IsRefusal, IsVerdict};
-ghost use Rattle.gcflip_c.specs.Verdicts.{IsReportedOf, refused_in_c};
+ghost use Rattle.gc_check.specs.InC.{done, no_memory, IsRefusal};
+ghost use Rattle.gcflip_c.specs.Answers.{too_large, bad_line, ends_early, IsVerdict};
+ghost use Rattle.gcflip_c.specs.Verdicts.{IsReportedOf, line_in_c};
 
-use crate::answer::{BAD_LINE, ENDS_EARLY, NO_MEMORY, TOO_LARGE, answer};
-use crate::verdict::GcflipVerdict;
+use crate::answer::{BAD_LINE, ENDS_EARLY, TOO_LARGE, answer};
 use gc_cert::{PairFault, read_pair, texts_have_one_reading};
+use gc_check::{GcflipVerdict, NO_MEMORY};
 use gc_graph::Source;
 use std::alloc::Global;
 
@@ -22,11 +23,11 @@ pub extern "C" fn gcflip_check_text(alloc: Global, text: &[u8], verdict: &mut Gc
     // This is the verdict on the pair that the text spells.
     ensures verdict { IsVerdict result → IsReportedOf text.now result verdict.new }
     // The soundness theorem, for the images that the text spells.
-    ensures replicated { result ≡ yes → (pair : CertifiedPair) → IsReadAsPair pair text.now
+    ensures replicated { result ≡ done → (pair : CertifiedPair) → IsReadAsPair pair text.now
         → Replicated pair.old pair.new pair.pairs }
     // A bad text gives its first fault.
     ensures large { result ≡ too_large → IsPairFaultOf PairFault.TooLarge text.now }
-    ensures line { result ≡ bad_line → (verdict.new ≡ refused_in_c 0 verdict.new.place 0)
+    ensures line { result ≡ bad_line → (verdict.new ≡ line_in_c verdict.new.place)
         × IsPairFaultOf (PairFault.BadLine verdict.new.place) text.now }
     ensures early { result ≡ ends_early → IsPairFaultOf PairFault.EndsEarly text.now }
 {
@@ -42,10 +43,22 @@ pub extern "C" fn gcflip_check_text(alloc: Global, text: &[u8], verdict: &mut Gc
         ),
         Err(PairFault::TooLarge) => TOO_LARGE,
         Err(PairFault::BadLine(line)) => {
-            *verdict = GcflipVerdict::of_line(line);
+            *verdict = of_line(line);
             BAD_LINE
         }
         Err(PairFault::EndsEarly) => ENDS_EARLY,
         Err(PairFault::Read) | Err(PairFault::NoMemory) => NO_MEMORY,
+    }
+}
+
+/// Returns the report of a text in which the line with this number is bad.
+fn of_line(line: u64) -> GcflipVerdict
+    ensures { result ≡ line_in_c line }
+{
+    GcflipVerdict {
+        refusal: 0,
+        pairs: 0,
+        place: line,
+        field: 0,
     }
 }

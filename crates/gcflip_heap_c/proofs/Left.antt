@@ -14,7 +14,7 @@ use Rattle.gc_plan.specs.declared.step.StepReply.{StepReply}
 use Rattle.gc_plan.specs.declared.step.StepReply.TheVariants.{NoRoom, Flipped}
 use Rattle.gcflip_heap_c.specs.Internal.Leaving.{LeavesLess}
 use Rattle.gcflip_heap_c.specs.Work.{with_size, sized_step, goes_on}
-use Rattle.gcflip_heap_c.specs.Readings.{entry_count, logged_in, idle_counts, open_counts, counts_of}
+use Rattle.gcflip_heap_c.specs.Readings.{counts_of}
 use Rattle.gcflip_heap_c.specs.Pace.{steps_left, CountsAll}
 
 pub some_left : (s : State) → 1 ≤ work_left s
@@ -53,50 +53,16 @@ leaves_reply size s now t step r same is lowers advances entries made = grind (a
 
 -- ---- the counts
 
--- the entries of the first logs, this many of them
-abbrev first_entries : List (List (ℕ × ℕ)) → ℕ → ℕ
-first_entries logs zero = 0
-first_entries logs (suc m) = first_entries logs m + length (unwrap_or (slice_get logs m) [])
-
-first_of : (log : List (ℕ × ℕ)) (logs : List (List (ℕ × ℕ))) (m : ℕ) → first_entries (log ∷ logs) (suc m) ≡ length log + first_entries logs m
-first_of log logs zero = omega arith
-first_of log logs (suc m) = let others = first_of log logs m in omega arith
-
-all_entries : (logs : List (List (ℕ × ℕ))) → first_entries logs (length logs) ≡ entries_in logs
-all_entries [] = refl
-all_entries (log ∷ logs) = let first = first_of log logs (length logs) in let others = all_entries logs in omega arith
-
-entries_idle : (s : State) → s.collection ≡ None → (m : ℕ) → entry_count s m ≡ 0
-entries_idle s is zero = refl
-entries_idle s is (suc m) = grind (arith, common_steps, entries_idle s is m)
-
-entries_open : (s : State) (c : Collection) → s.collection ≡ Some c → (m : ℕ) → entry_count s m ≡ first_entries c.logs m
-entries_open s c is zero = refl
-entries_open s c is (suc m) = grind (arith, common_steps, entries_open s c is m)
-
-entries_counted : (s : State) → IfSome s.collection (IsOpened s) → entry_count s s.mutators ≡ entries_left s
-entries_counted s k = go s.collection refl k
-  where
-    go : (o : Option Collection) → s.collection ≡ o → IfSome o (IsOpened s) → entry_count s s.mutators ≡ option_map_or (λ (c : Collection). entries_in c.logs) o 0
-    go None is k = entries_idle s is s.mutators
-    go (Some c) is k = entries_open s c is s.mutators ∙ (ap (first_entries c.logs) (sym k.logs) ∙ all_entries c.logs)
-
-logged_with : (s : State) (o : Option Collection) → (option_map_or (open_counts s) o (idle_counts s)).logged ≡ logged_in s
-logged_with s o = grind (arith, common_steps)
-
-logged_at : (s : State) → (counts_of s).logged ≡ logged_in s
-logged_at s = logged_with s s.collection
-
 pub end_at : (s : State) → (counts_of s).end ≡ heap_end s
 end_at s = grind (arith, common_steps)
 
-pub logged_low : (s : State) → IfSome s.collection (IsOpened s) → (counts_of s).logged ≤ entries_left s
-logged_low s k = omega (arith, logged_at s, entries_counted s k)
+pub logged_low : (s : State) → (counts_of s).logged ≤ entries_left s
+logged_low s = grind (arith, common_steps)
 
-pub logged_all : (s : State) → IfSome s.collection (IsOpened s) → CountsAll (counts_of s) → (counts_of s).logged ≡ entries_left s
-logged_all s k all = omega (arith, all, logged_at s, entries_counted s k)
+pub logged_all : (s : State) → CountsAll (counts_of s) → (counts_of s).logged ≡ entries_left s
+logged_all s all = grind (arith, common_steps)
 
 -- the steps that the counts leave are enough for the work
-pub counts_bound : (s : State) → ((c : Collection) → s.collection ≡ Some c → work_left s ≤ (heap_end s - c.scan_place) + entries_in c.logs + 1) → IfSome s.collection (IsOpened s)
+pub counts_bound : (s : State) → ((c : Collection) → s.collection ≡ Some c → work_left s ≤ (heap_end s - c.scan_place) + entries_in c.logs + 1)
     → CountsAll (counts_of s) → work_left s ≤ steps_left (counts_of s)
-counts_bound s bounded k all = grind (arith, common_steps, logged_at, logged_all)
+counts_bound s bounded all = grind (arith, common_steps, logged_all)

@@ -1,6 +1,6 @@
 -- What paced work leaves in the logs, and that it stays ahead of the mutators, but for the steps that it owes.
 use Rattle.std.proofs.lemmas.Grind.{common_steps}
-use Rattle.std.proofs.Common.{◌≡◌, ◌≢◌, ◌⊎◌, ℕ, ◌+◌, ◌≤◌, true, Some, None, ap, ◌∙◌, subst, arith}
+use Rattle.std.proofs.Common.{◌≡◌, ◌⊎◌, ℕ, ◌+◌, ◌≤◌, true, false, Some, None, ap, ◌∙◌, subst, arith}
 use Rattle.std.specs.Prelude.{min, IsTrue, IfSome}
 use Rattle.std.proofs.lemmas.Bool.{and_from, or_left, or_right, le-leb, cases_lt}
 use Rattle.gc_plan.specs.State.{State}
@@ -11,7 +11,7 @@ use Rattle.gc_plan.proofs.Public.{left_bounded}
 use Rattle.gcflip_heap_c.specs.Replies.{step_reply_in_c}
 use Rattle.gcflip_heap_c.specs.Readings.{counts_of}
 use Rattle.gcflip_heap_c.specs.Work.{IsRun, IsEnd, IsWork, goes_on}
-use Rattle.gcflip_heap_c.specs.Pace.{steps_left, spent, steps_due, Pays, took_its_words, owed_after, pace_after, no_work, CountsAll, HasEnded, IsPacedWork}
+use Rattle.gcflip_heap_c.specs.Pace.{steps_left, spent, steps_due, Pays, took_its_words, is_over, owed_after, pace_after, no_work, CountsAll, HasEnded, IsPacedWork}
 use Rattle.gcflip_heap_c.specs.declared.pace.GcflipPace.{GcflipPace}
 use Rattle.gcflip_heap_c.specs.declared.reading.GcflipCounts.{GcflipCounts}
 use Rattle.gcflip_heap_c.specs.declared.work.GcflipWork.{GcflipWork}
@@ -20,8 +20,11 @@ use Rattle.gcflip_heap_c.proofs.Left.{some_left, entries_low, end_at, logged_low
 -- ---- replies as numbers
 
 -- a reply that is no flip and found room does not end the work
-on_of : (reply : StepReply) → step_reply_in_c reply ≢ 43 → step_reply_in_c reply ≢ 36 → goes_on reply ≡ true
-on_of reply flip room = grind (arith, common_steps)
+on_of : (work : GcflipWork) (reply : StepReply) → work.last ≡ step_reply_in_c reply → is_over work ≡ false → goes_on reply ≡ true
+on_of work reply last going = grind (arith, common_steps)
+
+over_of : (work : GcflipWork) (reply : StepReply) → work.last ≡ step_reply_in_c reply → goes_on reply ≡ false → is_over work ≡ true
+over_of work reply last ends = grind (arith, common_steps)
 
 -- ---- the work of one call
 
@@ -37,21 +40,21 @@ pub due_work : (before : GcflipPace) (due : ℕ) (s t : State) (work : GcflipWor
 due_work before due s t work whole within = grind (arith, common_steps, and_from, le-leb, or_left, or_right, cases_lt)
 
 -- the steps lowered the work that is left by their number
-work_falls : (before : GcflipPace) (due : ℕ) (s t : State) (work : GcflipWork) → IsDueWork before due s t work → work.last ≢ 43 → work.last ≢ 36 → work_left t + work.steps ≤ work_left s
-work_falls before due s t work done flip room = done.run.falls (on_of done.reply (λ e. flip (done.last ∙ e)) (λ e. room (done.last ∙ e)))
+work_falls : (before : GcflipPace) (due : ℕ) (s t : State) (work : GcflipWork) → IsDueWork before due s t work → is_over work ≡ false → work_left t + work.steps ≤ work_left s
+work_falls before due s t work done going = done.run.falls (on_of work done.reply done.last going)
 
 work_ends : (before : GcflipPace) (due : ℕ) (s t : State) (work : GcflipWork) → IsDueWork before due s t work → work_left s ≤ due → HasEnded t work ⊎ IsTrue (took_its_words before work)
-work_ends before due s t work done low = grind (arith, common_steps)
+work_ends before due s t work done low = grind (arith, common_steps, over_of)
 
 module _ (s t : State) (before : GcflipPace) (work : GcflipWork) (due : ℕ)
-    (heap : IsSpaceGraph s.size s.heap.free s.heap.graph) (opened : IfSome s.collection (IsOpened s)) (still : IfSome t.collection (IsOpened t))
+    (heap : IsSpaceGraph s.size s.heap.free s.heap.graph) (opened : IfSome s.collection (IsOpened s))
     (none : due ≡ 0 → (t ≡ s) × (work ≡ no_work)) (some : 1 ≤ due → IsDueWork before due s t work) where
   -- no step was due, or some were performed
   split : (due ≡ 0) ⊎ (1 ≤ due)
   split = grind (arith, common_steps)
 
   bound : CountsAll (counts_of s) → work_left s ≤ steps_left (counts_of s)
-  bound all = counts_bound s (λ c is. left_bounded s c heap opened is) opened all
+  bound all = counts_bound s (λ c is. left_bounded s c heap opened is) all
 
   logs_of : CountsAll (counts_of s) → (counts_of t).logged + work.steps ≤ steps_left (counts_of s)
   logs_of all = grind (arith, common_steps, logged_low, bound, split)
@@ -59,36 +62,36 @@ module _ (s t : State) (before : GcflipPace) (work : GcflipWork) (due : ℕ)
   enough_of : CountsAll (counts_of s) → steps_left (counts_of s) ≤ due → HasEnded t work ⊎ IsTrue (took_its_words before work)
   enough_of all most = work_ends before due s t work (some (omega (arith, most, some_left s, bound all))) (omega (arith, most, bound all))
 
-  begun_of : (counts_of s).is_open ≡ 0 → 1 ≤ work.steps → work.last ≢ 43 → work.last ≢ 36 → work_left t ≤ (counts_of s).end
-  begun_of idle steps flip room = grind (arith, common_steps, work_falls, end_at, split)
+  begun_of : (counts_of s).is_open ≡ 0 → 1 ≤ work.steps → is_over work ≡ false → work_left t ≤ (counts_of s).end
+  begun_of idle steps going = grind (arith, common_steps, work_falls, end_at, split)
 
   -- the work after the call, which owes so many steps
-  ahead_of : (most gone owed : ℕ) → min (min gone (steps_left (counts_of s))) 4294967295 ≤ due → gone ≤ 4294967295 → CountsAll (counts_of s) → work.steps + owed ≡ due → work.last ≢ 43 → work.last ≢ 36
+  ahead_of : (most gone owed : ℕ) → min (min gone (steps_left (counts_of s))) 4294967295 ≤ due → gone ≤ 4294967295 → CountsAll (counts_of s) → work.steps + owed ≡ due → is_over work ≡ false
       → work_left s ≤ most + gone → work_left t ≤ most + owed
-  ahead_of most gone owed pays few all made flip room low = grind (arith, common_steps, some_left, bound, work_falls, split)
+  ahead_of most gone owed pays few all made going low = grind (arith, common_steps, some_left, bound, work_falls, split)
 
 paced_work : (wanted : ℕ) (s t : State) (before after : GcflipPace) (work : GcflipWork)
-    → IsSpaceGraph s.size s.heap.free s.heap.graph → IfSome s.collection (IsOpened s) → IfSome t.collection (IsOpened t)
+    → IsSpaceGraph s.size s.heap.free s.heap.graph → IfSome s.collection (IsOpened s)
     → (steps_due before (counts_of s) wanted ≡ 0 → (t ≡ s) × (work ≡ no_work))
     → (1 ≤ steps_due before (counts_of s) wanted → before.words ≡ 0 → IsWork None None (steps_due before (counts_of s) wanted) s t work)
     → (1 ≤ steps_due before (counts_of s) wanted → 1 ≤ before.words → IsWork None (Some before.words) (min (steps_due before (counts_of s) wanted) before.words) s t work)
     → Pays before (counts_of s) (steps_due before (counts_of s) wanted) → after ≡ pace_after before (steps_due before (counts_of s) wanted) work (counts_of t)
     → IsPacedWork wanted s t before after work
-paced_work wanted s t before after work heap opened still none some within paid pace = record {
+paced_work wanted s t before after work heap opened none some within paid pace = record {
   none = none;
   some = some;
   within = within;
   paid = paid;
   pace = pace;
-  logs = logs_of s t before work due heap opened still none performed;
-  enough = enough_of s t before work due heap opened still none performed;
-  begun = begun_of s t before work due heap opened still none performed;
+  logs = logs_of s t before work due heap opened none performed;
+  enough = enough_of s t before work due heap opened none performed;
+  begun = begun_of s t before work due heap opened none performed;
   ahead = λ most on low.
       let owes : after.owed ≡ owed_after before due work = ap (λ (p : GcflipPace). p.owed) pace in
-      let left = ahead_of s t before work due heap opened still none performed most (before.owed + spent before (counts_of s)) (owed_after before due work) (paid on.collecting) on.few on.counted
-      on.performed on.unflipped on.roomy (omega (arith, low)) in
+      let left = ahead_of s t before work due heap opened none performed most (before.owed + spent before (counts_of s)) (owed_after before due work) (paid on.collecting) on.few on.counted
+      on.performed on.going (omega (arith, low)) in
       omega (arith, left, owes);
-  fewer = omega (arith, logged_low t still, entries_low t);
+  fewer = omega (arith, logged_low t, entries_low t);
 }
   where
     due : ℕ
@@ -103,11 +106,11 @@ pub paced_call : (wanted due : ℕ) (s t : State) (before after : GcflipPace) (w
     → (due ≡ 0 → (t ≡ s) × (work ≡ no_work)) → (1 ≤ due → before.words ≡ 0 → IsWork None None due s t work) → (1 ≤ due → 1 ≤ before.words → IsWork None (Some before.words) (min due before.words) s t work)
     → after ≡ pace_after before due work later
     → counts ≡ counts_of s → later ≡ counts_of t
-    → IsSpaceGraph s.size s.heap.free s.heap.graph → IfSome s.collection (IsOpened s) → IfSome t.collection (IsOpened t)
+    → IsSpaceGraph s.size s.heap.free s.heap.graph → IfSome s.collection (IsOpened s)
     → IsPacedWork wanted s t before after work
-paced_call wanted due s t before after work counts later is pays none some within pace at then heap opened still =
+paced_call wanted due s t before after work counts later is pays none some within pace at then heap opened =
     let same : due ≡ steps_due before (counts_of s) wanted = is ∙ ap (λ (n : GcflipCounts). steps_due before n wanted) at in
-    paced_work wanted s t before after work heap opened still
+    paced_work wanted s t before after work heap opened
     (subst (λ (n : ℕ). n ≡ 0 → (t ≡ s) × (work ≡ no_work)) same none)
     (subst (λ (n : ℕ). 1 ≤ n → before.words ≡ 0 → IsWork None None n s t work) same some)
     (subst (λ (n : ℕ). 1 ≤ n → 1 ≤ before.words → IsWork None (Some before.words) (min n before.words) s t work) same within)

@@ -14,7 +14,7 @@ use Rattle.gc_plan.proofs.Public.{collect_keeps, mutate_keeps, useful_ranges, co
 use Rattle.gcflip_heap_c.specs.Readings.{counts_of}
 use Rattle.gcflip_heap_c.specs.Work.{with_size, after_useful}
 use Rattle.gcflip_heap_c.specs.Pace.{steps_due, CountsAll, IsAhead, IsPacedWork}
-use Rattle.gcflip_heap_c.specs.Turns.{Turn, after_commands, AreCommands, AreTurns, after_turns, last_pace, Remembers}
+use Rattle.gcflip_heap_c.specs.Turns.{Turn, after_commands, AreCommands, AreTurns, after_turns, Remembers}
 use Rattle.gcflip_heap_c.specs.declared.pace.GcflipPace.{GcflipPace}
 use Rattle.gcflip_heap_c.specs.declared.work.GcflipWork.{GcflipWork}
 use Rattle.gcflip_heap_c.proofs.Left.{entries_low, end_at, logged_low, logged_all}
@@ -83,7 +83,7 @@ call_remembers : (wanted : ℕ) (s t : State) (before after : GcflipPace) (work 
 call_remembers wanted s t before after work paced = grind (arith, common_steps)
 
 turns_ahead : (s : State) (pace : GcflipPace) (turns : List Turn) (most : ℕ) → IsState s → Remembers pace s → AreTurns s pace turns → work_left s ≤ most + pace.owed
-    → IsState (after_turns s turns) × (work_left (after_turns s turns) ≤ most + (last_pace pace turns).owed)
+    → IsState (after_turns s pace turns).0 × (work_left (after_turns s pace turns).0 ≤ most + (after_turns s pace turns).1.owed)
 turns_ahead s pace [] most h remembers k low = (h, low)
 turns_ahead s pace (turn ∷ turns) most h remembers k low =
     let one = k.0 in
@@ -97,21 +97,21 @@ turns_ahead s pace (turn ∷ turns) most h remembers k low =
     kept k.1 (omega (arith, ahead))
 
 pub turns_work : (s : State) (pace : GcflipPace) (turns : List Turn) (most : ℕ) → IsState s → Remembers pace s → AreTurns s pace turns → work_left s ≤ most + pace.owed
-    → work_left (after_turns s turns) ≤ most + (last_pace pace turns).owed
+    → work_left (after_turns s pace turns).0 ≤ most + (after_turns s pace turns).1.owed
 turns_work s pace turns most h remembers k low = (turns_ahead s pace turns most h remembers k low).1
 
 pub turns_logs : (s : State) (pace : GcflipPace) (turns : List Turn) (most : ℕ) → IsState s → Remembers pace s → AreTurns s pace turns → work_left s ≤ most + pace.owed
-    → (counts_of (after_turns s turns)).logged < most + (last_pace pace turns).owed
+    → (counts_of (after_turns s pace turns).0).logged < most + (after_turns s pace turns).1.owed
 turns_logs s pace turns most h remembers k low =
     let last = turns_ahead s pace turns most h remembers k low in
-    omega (arith, last.1, logged_low (after_turns s turns) (last.0).collection, entries_low (after_turns s turns))
+    omega (arith, last.1, logged_low (after_turns s pace turns).0, entries_low (after_turns s pace turns).0)
 
 -- ---- where words are not bounded, no step is owed
 
 call_owes : (wanted : ℕ) (s t : State) (before after : GcflipPace) (work : GcflipWork) → IsPacedWork wanted s t before after work → before.words ≡ 0 → (after.words ≡ 0) × (after.owed ≡ 0)
 call_owes wanted s t before after work paced free = grind (arith, common_steps, cond_both, leb-true, and_parts)
 
-pub turns_owe : (s : State) (pace : GcflipPace) (turns : List Turn) → AreTurns s pace turns → pace.words ≡ 0 → pace.owed ≡ 0 → (last_pace pace turns).owed ≡ 0
+pub turns_owe : (s : State) (pace : GcflipPace) (turns : List Turn) → AreTurns s pace turns → pace.words ≡ 0 → pace.owed ≡ 0 → (after_turns s pace turns).1.owed ≡ 0
 turns_owe s pace [] k free none = none
 turns_owe s pace (turn ∷ turns) k free none =
     let call = call_owes turn.wanted (after_commands s turn.commands) turn.state pace turn.pace turn.work (k.0).work free in

@@ -1,8 +1,10 @@
 -- What a call returns, and the state after it; and a call that performs a step of a mutator, such as one of its commands.
-use Rattle.std.specs.Prelude.{◌≡◌, ℕ, ◌≤◌, ◌↔◌, Option, None, IsSomeAnd}
+use Rattle.std.specs.Prelude.{◌≡◌, ◌⊎◌, ℕ, ◌↔◌, Option, None, IsSomeAnd}
 use Rattle.gc_graph.specs.declared.reply.Reply.{Reply}
+use Rattle.gc_check.specs.InC.{no_memory, IsRefusal}
 use Rattle.gc_plan.specs.State.{State}
-use Rattle.gcflip_heap_c.specs.Replies.{IsRefusal, reply_in_c}
+use Rattle.gcflip_heap_c.specs.Answers.{out_of_range, closed_handle}
+use Rattle.gcflip_heap_c.specs.Replies.{reply_in_c}
 
 -- What a call returns, and the state after it. `takes` holds of the states in which its arguments are in range. `did` relates the states
 -- before and after a call that is not refused.
@@ -10,9 +12,9 @@ pub record IsCall (takes : State → Type 0) (did : State → State → Type 0) 
   pub done : ¬ IsRefusal answer → IsSomeAnd old (λ s. IsSomeAnd new (did s))
   -- a refused call changes nothing
   pub refused : IsRefusal answer → new ≡ old
-  pub answers : IsRefusal answer → answer ≤ 3
-  pub outside : (answer ≡ 2) ↔ IsSomeAnd old (λ s. ¬ takes s)
-  pub closed : (answer ≡ 3) ↔ (old ≡ None)
+  pub answers : IsRefusal answer → (answer ≡ no_memory) ⊎ (answer ≡ out_of_range) ⊎ (answer ≡ closed_handle)
+  pub outside : (answer ≡ out_of_range) ↔ IsSomeAnd old (λ s. ¬ takes s)
+  pub closed : (answer ≡ closed_handle) ↔ (old ≡ None)
 
 -- in the state `old` the step gets a reply for which `shown` holds, and leads to the state `new`
 abbrev pub Replies : {R : Type 0} → (State → R × State) → (R → Type 0) → State → State → Type 0

@@ -1,10 +1,12 @@
 -- The steps that are due at a call of paced work: a function of the heap's counts and of a pace, which remembers counts of the call before.
-use Rattle.std.specs.Prelude.{◌≡◌, ◌≢◌, ◌⊎◌, ℕ, ◌+◌, ◌-◌, ◌*◌, ◌/◌, ◌<◌, ◌≤◌, ◌==◌, ◌&&◌, ◌||◌, nat_lt, nat_le, min, max, if◌then◌else◌, IsTrue, Bool, Some, None}
+use Rattle.std.specs.Prelude.{◌≡◌, ◌⊎◌, ℕ, ◌+◌, ◌-◌, ◌*◌, ◌/◌, ◌<◌, ◌≤◌, ◌==◌, ◌&&◌, ◌||◌, nat_lt, nat_le, min, max, if◌then◌else◌, IsTrue, Bool, false, Some, None}
 use Rattle.gc_plan.specs.State.{State}
 use Rattle.gc_plan.specs.Steps.{useful_step}
 use Rattle.gc_plan.specs.Progress.{work_left}
+use Rattle.gc_plan.specs.declared.step.StepReply.TheVariants.{NoRoom, Flipped}
 use Rattle.gc_core.specs.CollectedHeap.{Allocates}
 use Rattle.gcflip_heap_c.specs.Readings.{counts_of}
+use Rattle.gcflip_heap_c.specs.Replies.{step_reply_in_c}
 use Rattle.gcflip_heap_c.specs.Work.{IsWork}
 use Rattle.gcflip_heap_c.specs.declared.pace.GcflipPace.{GcflipPace}
 use Rattle.gcflip_heap_c.specs.declared.reading.GcflipCounts.{GcflipCounts}
@@ -60,18 +62,22 @@ pace_from pace counts = record pace { left = counts.end; end = counts.end; logge
 abbrev pub took_its_words : GcflipPace → GcflipWork → Bool
 took_its_words pace work = nat_lt 0 pace.words && (nat_le pace.words work.steps || nat_le pace.words work.copied)
 
--- The steps that are owed after this work: those of the steps due that it left because it took its words. A call that flipped, which 43
--- stands for, or found no room, which 36 stands for, owes none.
+-- the last step flipped
+abbrev pub has_flipped : GcflipWork → Bool
+has_flipped work = work.last == step_reply_in_c (Flipped work.pairs)
+
+-- the last step flipped or found no room
+abbrev pub is_over : GcflipWork → Bool
+is_over work = has_flipped work || (work.last == step_reply_in_c NoRoom)
+
+-- The steps that are owed after this work: those of the steps due that it left because it took its words.
 abbrev pub owed_after : GcflipPace → ℕ → GcflipWork → ℕ
-owed_after pace due work =
-    if (work.last == 43) || (work.last == 36) then 0
-    else if took_its_words pace work then due - work.steps
-    else 0
+owed_after pace due work = if is_over work then 0 else if took_its_words pace work then due - work.steps else 0
 
 -- the pace after this work, for which so many steps were due, and which led to these counts
 abbrev pub pace_after : GcflipPace → ℕ → GcflipWork → GcflipCounts → GcflipPace
 pace_after pace due work counts =
-    record pace { left = (if work.last == 43 then counts.end else pace.left); end = counts.end; logged = counts.logged; owed = owed_after pace due work }
+    record pace { left = (if has_flipped work then counts.end else pace.left); end = counts.end; logged = counts.logged; owed = owed_after pace due work }
 
 -- ---- paced work
 
@@ -82,9 +88,9 @@ no_work = record { steps = 0; copied = 0; last = 0; pairs = 0 }
 abbrev pub CountsAll : GcflipCounts → Type 0
 CountsAll counts = counts.logged < 4294967295
 
--- the last step flipped, which 43 stands for, or it found no room, which 36 stands for, or the next step allocates
+-- the last step flipped or found no room, or the next one allocates
 abbrev pub HasEnded : State → GcflipWork → Type 0
-HasEnded t work = ((work.last ≡ 43) ⊎ (work.last ≡ 36)) ⊎ Allocates t (useful_step t)
+HasEnded t work = IsTrue (is_over work) ⊎ Allocates t (useful_step t)
 
 -- A collection was open, and each step that was due was performed or is owed. The call neither flipped nor lacked room, and the counts are
 -- exact.
@@ -93,8 +99,7 @@ pub record WorkGoesOn (wanted : ℕ) (s : State) (before : GcflipPace) (work : G
   pub counted : CountsAll (counts_of s)
   pub few : before.owed + spent before (counts_of s) ≤ 4294967295
   pub performed : work.steps + owed_after before (steps_due before (counts_of s) wanted) work ≡ steps_due before (counts_of s) wanted
-  pub unflipped : work.last ≢ 43
-  pub roomy : work.last ≢ 36
+  pub going : is_over work ≡ false
 
 -- besides the steps owed, and what was spent since the call before, at most this much work is left
 abbrev pub IsAhead : ℕ → GcflipPace → State → Type 0
@@ -114,6 +119,6 @@ pub record IsPacedWork (wanted : ℕ) (s t : State) (before after : GcflipPace) 
   pub enough : CountsAll (counts_of s) → steps_left (counts_of s) ≤ steps_due before (counts_of s) wanted → HasEnded t work ⊎ IsTrue (took_its_words before work)
   -- The call that begins a collection leaves at most as much work as the heap's end. From then on, no call leaves more than the call before,
   -- besides the steps that it owes. All logs together have fewer entries than the work that is left.
-  pub begun : (counts_of s).is_open ≡ 0 → 1 ≤ work.steps → work.last ≢ 43 → work.last ≢ 36 → work_left t ≤ (counts_of s).end
+  pub begun : (counts_of s).is_open ≡ 0 → 1 ≤ work.steps → is_over work ≡ false → work_left t ≤ (counts_of s).end
   pub ahead : (most : ℕ) → WorkGoesOn wanted s before work → IsAhead most before s → IsAhead most after t
   pub fewer : (counts_of t).logged < work_left t

@@ -3,20 +3,23 @@ use Rattle.std.specs.Prelude.{◌≡◌, ℕ, ◌+◌, nat_le, if◌then◌else�
 use Rattle.std.specs.Option.{unwrap_or, option_map_or}
 use Rattle.gc_graph.specs.Graph.{name_of, root}
 use Rattle.gc_graph.specs.Slots.{SlotName, place}
+use Rattle.gc_check.specs.InC.{done}
+use Rattle.gc_graph.specs.declared.reply.Reply.TheVariants.{NoObject, NoField}
 use Rattle.gc_plan.specs.State.{State}
+use Rattle.gcflip_heap_c.specs.Replies.{reply_in_c}
 
--- C's array takes as many numbers of a raw object as it is long, from field `first` on; the answer is 0. It stays as it was where there is no
--- raw object, or the object has fewer fields; the answer is 18 or 19.
+-- C's array takes as many numbers of a raw object as it is long, from field `first` on. It stays as it was where there is no raw object, or the
+-- object has fewer fields, and the answer says so.
 abbrev pub Reads : ℕ → Option (List ℕ) → List ℕ → List ℕ → ℕ → Type 0
-Reads first None before after answer = (answer ≡ 18) × (after ≡ before)
+Reads first None before after answer = (answer ≡ reply_in_c NoObject) × (after ≡ before)
 Reads first (Some numbers) before after answer =
     let has_fields = nat_le (first + length before) (length numbers) in
-    (answer ≡ if has_fields then 0 else 19) × (after ≡ if has_fields then slice_range numbers first (first + length before) else before)
+    (answer ≡ if has_fields then done else reply_in_c NoField) × (after ≡ if has_fields then slice_range numbers first (first + length before) else before)
 
 -- the address of the object that mutator m's slot refers to
 abbrev pub address_in : State → SlotName → ℕ → Option ℕ
 address_in state slot m = name_of (root state.heap.graph (place slot m))
 
--- C's variable takes the address, and the answer is 0; if there is none, it stays as it was, and the answer is 18
+-- C's variable takes the address; if there is none, it stays as it was, and the answer says so
 abbrev pub TellsAddress : Option ℕ → ℕ → ℕ → ℕ → Type 0
-TellsAddress address before after answer = (answer ≡ option_map_or (λ _. 0) address 18) × (after ≡ unwrap_or address before)
+TellsAddress address before after answer = (answer ≡ option_map_or (λ _. done) address (reply_in_c NoObject)) × (after ≡ unwrap_or address before)

@@ -1,5 +1,6 @@
 -- Replies as C sees them: the number that a call returns, and what it writes about a value that it saw.
-use Rattle.std.specs.Prelude.{ℕ, ◌≤◌, ◌<◌}
+use Rattle.std.specs.Prelude.{ℕ}
+use Rattle.gc_check.specs.InC.{done}
 use Rattle.gc_graph.specs.declared.reply.Reply.{Reply}
 use Rattle.gc_graph.specs.declared.reply.Reply.TheVariants.{Full, Made, Done, NoObject, NoField, NoNumber, Saw, Yes, No}
 use Rattle.gc_graph.specs.declared.reply.View.{View}
@@ -10,10 +11,6 @@ use Rattle.gc_plan.specs.declared.step.StepReply.{StepReply}
 use Rattle.gc_plan.specs.declared.step.StepReply.TheVariants as steps
 use Rattle.gcflip_heap_c.specs.declared.reply.GcflipView.{GcflipView}
 
--- the call was refused, and did nothing
-abbrev pub IsRefusal : ℕ → Type 0
-IsRefusal answer = (1 ≤ answer) × (answer < 16)
-
 -- ---- commands
 
 abbrev pub seen_in_c : View → ℕ
@@ -23,7 +20,7 @@ seen_in_c (Obj kind len) = 26
 seen_in_c (RawObj kind len) = 27
 
 abbrev pub reply_in_c : Reply → ℕ
-reply_in_c Done = 0
+reply_in_c Done = done
 reply_in_c Made = 16
 reply_in_c Full = 17
 reply_in_c NoObject = 18
@@ -35,11 +32,11 @@ reply_in_c (Saw view) = seen_in_c view
 
 -- the number that a `get` returns; `get` does not read an object that it found
 abbrev pub fetched_in_c : Fetched → ℕ
-fetched_in_c fetches.NoObject = 18
-fetched_in_c fetches.NoField = 19
-fetched_in_c fetches.Nil = 24
-fetched_in_c (fetches.Num n) = 25
-fetched_in_c fetches.Object = 26
+fetched_in_c fetches.NoObject = reply_in_c NoObject
+fetched_in_c fetches.NoField = reply_in_c NoField
+fetched_in_c fetches.Nil = seen_in_c Nil
+fetched_in_c (fetches.Num n) = seen_in_c (Num n)
+fetched_in_c fetches.Object = seen_in_c (Obj 0 0)
 
 -- C's variable after a `get`: the number that it saw, if it saw one
 abbrev pub number_after : ℕ → Fetched → ℕ

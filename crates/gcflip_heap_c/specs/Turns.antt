@@ -36,14 +36,10 @@ abbrev pub AreTurns : State → GcflipPace → List Turn → Type 0
 AreTurns s pace [] = ⊤
 AreTurns s pace (turn ∷ turns) = IsTurn s pace turn × AreTurns turn.state turn.pace turns
 
-abbrev pub after_turns : State → List Turn → State
-after_turns s [] = s
-after_turns s (turn ∷ turns) = after_turns turn.state turns
-
--- the pace after the last of these turns, or this pace if there is none
-abbrev pub last_pace : GcflipPace → List Turn → GcflipPace
-last_pace pace [] = pace
-last_pace pace (turn ∷ turns) = last_pace turn.pace turns
+-- the state and the pace after these turns
+abbrev pub after_turns : State → GcflipPace → List Turn → State × GcflipPace
+after_turns s pace [] = (s, pace)
+after_turns s pace (turn ∷ turns) = after_turns turn.state turn.pace turns
 
 -- the pace remembers the counts of this state
 pub record Remembers (pace : GcflipPace) (s : State) : Type 0 where

@@ -1,13 +1,14 @@
 //! The exports that perform mutators' commands, with C's numbers as arguments.
 
 ghost use Rattle.std.specs.Prelude.{◌≡◌, ◌≢◌, ◌<◌, ◌^◌, ◌∷◌, [], length, map, IsSomeAnd, IsSome};
+ghost use Rattle.gc_check.specs.InC.{no_memory, IsRefusal};
 ghost use Rattle.gc_graph.specs.Limits.{lengths};
 ghost use Rattle.gc_graph.specs.declared.command.Op.{Op};
 ghost use Rattle.gc_heap.specs.Commands.{fetched_of};
 ghost use Rattle.gc_plan.specs.Steps.{mutate};
 ghost use Rattle.gc_core.specs.CollectedHeap.{new_from_step};
 ghost use Rattle.gcflip_heap_c.specs.Commands.{IsCall, IsCommandCall, Replies};
-ghost use Rattle.gcflip_heap_c.specs.Replies.{IsRefusal, reply_in_c, fetched_in_c, number_after, view_after};
+ghost use Rattle.gcflip_heap_c.specs.Replies.{reply_in_c, fetched_in_c, number_after, view_after};
 ghost use Rattle.gcflip_heap_c.specs.Slots.{NamesSlots, numbered_slot};
 
 use crate::answer::{CLOSED, NO_MEMORY, OUT_OF_RANGE};
@@ -31,7 +32,7 @@ pub extern "C" fn gcflip_heap_new_object(
 ) -> u32
     ensures call { IsCommandCall (NamesSlots m (d ∷ []))
         (λ state. mutate state m (Op.New (numbered_slot d) kind count)) heap.old.state heap.new.state result }
-    ensures memory { result ≢ 1 }
+    ensures memory { result ≢ no_memory }
     ensures former { heap.new.former ≡ heap.old.former }
 {
     if heap.is_empty() {
@@ -61,7 +62,7 @@ pub extern "C" fn gcflip_heap_new_raw(
 ) -> u32
     ensures call { IsCommandCall (NamesSlots m (d ∷ []))
         (λ state. mutate state m (Op.NewRaw (numbered_slot d) kind count)) heap.old.state heap.new.state result }
-    ensures memory { result ≢ 1 }
+    ensures memory { result ≢ no_memory }
     ensures former { heap.new.former ≡ heap.old.former }
 {
     if heap.is_empty() {
@@ -85,7 +86,7 @@ pub extern "C" fn gcflip_heap_new_raw(
 pub extern "C" fn gcflip_heap_set_number(heap: &mut GcflipHeap, m: u8, d: u8, n: u64) -> u32
     ensures call { IsCommandCall (λ state. NamesSlots m (d ∷ []) state × (n < 2 ^ 63))
         (λ state. mutate state m (Op.Num (numbered_slot d) n)) heap.old.state heap.new.state result }
-    ensures memory { result ≢ 1 }
+    ensures memory { result ≢ no_memory }
     ensures former { heap.new.former ≡ heap.old.former }
 {
     if heap.is_empty() {
@@ -108,7 +109,7 @@ pub extern "C" fn gcflip_heap_set_number(heap: &mut GcflipHeap, m: u8, d: u8, n:
 #[unsafe(no_mangle)]
 pub extern "C" fn gcflip_heap_set_nil(heap: &mut GcflipHeap, m: u8, d: u8) -> u32
     ensures call { IsCommandCall (NamesSlots m (d ∷ [])) (λ state. mutate state m (Op.Nil (numbered_slot d))) heap.old.state heap.new.state result }
-    ensures memory { result ≢ 1 }
+    ensures memory { result ≢ no_memory }
     ensures former { heap.new.former ≡ heap.old.former }
 {
     if heap.is_empty() {
@@ -129,7 +130,7 @@ pub extern "C" fn gcflip_heap_set_nil(heap: &mut GcflipHeap, m: u8, d: u8) -> u3
 pub extern "C" fn gcflip_heap_move(heap: &mut GcflipHeap, m: u8, d: u8, s: u8) -> u32
     ensures call { IsCommandCall (NamesSlots m (d ∷ s ∷ []))
         (λ state. mutate state m (Op.Move (numbered_slot d) (numbered_slot s))) heap.old.state heap.new.state result }
-    ensures memory { result ≢ 1 }
+    ensures memory { result ≢ no_memory }
     ensures former { heap.new.former ≡ heap.old.former }
 {
     if heap.is_empty() {
@@ -162,7 +163,7 @@ pub extern "C" fn gcflip_heap_get(
     ensures call { IsCall (NamesSlots m (d ∷ s ∷ [])) (Replies (λ state. mutate state m (Op.Get (numbered_slot d) (numbered_slot s) i))
         (λ reply. (result ≡ fetched_in_c (fetched_of reply)) × (number.new ≡ number_after number.old (fetched_of reply)))) heap.old.state heap.new.state result }
     ensures silent { IsRefusal result → number.new ≡ number.old }
-    ensures memory { result ≢ 1 }
+    ensures memory { result ≢ no_memory }
     ensures former { heap.new.former ≡ heap.old.former }
 {
     if heap.is_empty() {
@@ -187,7 +188,7 @@ pub extern "C" fn gcflip_heap_get(
 pub extern "C" fn gcflip_heap_put(heap: &mut GcflipHeap, m: u8, s: u8, i: u16, t: u8) -> u32
     ensures call { IsCommandCall (NamesSlots m (s ∷ t ∷ []))
         (λ state. mutate state m (Op.Put (numbered_slot s) i (numbered_slot t))) heap.old.state heap.new.state result }
-    ensures memory { result ≡ 1 → IsSomeAnd heap.old.state (λ s. IsSome s.collection) }
+    ensures memory { result ≡ no_memory → IsSomeAnd heap.old.state (λ s. IsSome s.collection) }
     ensures former { heap.new.former ≡ heap.old.former }
 {
     if heap.is_empty() {
@@ -225,7 +226,7 @@ pub extern "C" fn gcflip_heap_put_number(
 ) -> u32
     ensures call { IsCommandCall (λ state. NamesSlots m (s ∷ t ∷ []) state × (n < 2 ^ 63))
         (λ state. mutate (mutate state m (Op.Num (numbered_slot t) n)).1 m (Op.Put (numbered_slot s) i (numbered_slot t))) heap.old.state heap.new.state result }
-    ensures memory { result ≡ 1 → IsSomeAnd heap.old.state (λ s. IsSome s.collection) }
+    ensures memory { result ≡ no_memory → IsSomeAnd heap.old.state (λ s. IsSome s.collection) }
     ensures former { heap.new.former ≡ heap.old.former }
 {
     if heap.is_empty() {
@@ -257,7 +258,7 @@ pub extern "C" fn gcflip_heap_put_number(
 pub extern "C" fn gcflip_heap_put_nil(heap: &mut GcflipHeap, m: u8, s: u8, i: u16, t: u8) -> u32
     ensures call { IsCommandCall (NamesSlots m (s ∷ t ∷ []))
         (λ state. mutate (mutate state m (Op.Nil (numbered_slot t))).1 m (Op.Put (numbered_slot s) i (numbered_slot t))) heap.old.state heap.new.state result }
-    ensures memory { result ≡ 1 → IsSomeAnd heap.old.state (λ s. IsSome s.collection) }
+    ensures memory { result ≡ no_memory → IsSomeAnd heap.old.state (λ s. IsSome s.collection) }
     ensures former { heap.new.former ≡ heap.old.former }
 {
     if heap.is_empty() {
@@ -293,7 +294,7 @@ pub extern "C" fn gcflip_heap_new_pair(
 ) -> u32
     ensures call { IsCommandCall (NamesSlots m (d ∷ s ∷ t ∷ []))
         (λ state. new_from_step state m (numbered_slot d) kind (numbered_slot s ∷ numbered_slot t ∷ [])) heap.old.state heap.new.state result }
-    ensures memory { result ≡ 1 → IsSomeAnd heap.old.state (λ s. IsSome s.collection) }
+    ensures memory { result ≡ no_memory → IsSomeAnd heap.old.state (λ s. IsSome s.collection) }
     ensures former { heap.new.former ≡ heap.old.former }
 {
     if heap.is_empty() {
@@ -330,7 +331,7 @@ pub extern "C" fn gcflip_heap_new_from(
 ) -> u32
     ensures call { IsCommandCall (λ state. NamesSlots m (d ∷ fields.now) state × (length fields.now < lengths))
         (λ state. new_from_step state m (numbered_slot d) kind (map numbered_slot fields.now)) heap.old.state heap.new.state result }
-    ensures memory { result ≡ 1 → IsSomeAnd heap.old.state (λ s. IsSome s.collection) }
+    ensures memory { result ≡ no_memory → IsSomeAnd heap.old.state (λ s. IsSome s.collection) }
     ensures former { heap.new.former ≡ heap.old.former }
 {
     if heap.is_empty() {
@@ -358,7 +359,7 @@ pub extern "C" fn gcflip_heap_new_from(
 pub extern "C" fn gcflip_heap_same(heap: &mut GcflipHeap, m: u8, s: u8, t: u8) -> u32
     ensures call { IsCommandCall (NamesSlots m (s ∷ t ∷ []))
         (λ state. mutate state m (Op.Same (numbered_slot s) (numbered_slot t))) heap.old.state heap.new.state result }
-    ensures memory { result ≢ 1 }
+    ensures memory { result ≢ no_memory }
     ensures former { heap.new.former ≡ heap.old.former }
 {
     if heap.is_empty() {
@@ -388,7 +389,7 @@ pub extern "C" fn gcflip_heap_look(
     ensures call { IsCall (NamesSlots m (s ∷ [])) (Replies (λ state. mutate state m (Op.Look (numbered_slot s)))
         (λ reply. (result ≡ reply_in_c reply) × (view.new ≡ view_after view.old reply))) heap.old.state heap.new.state result }
     ensures silent { IsRefusal result → view.new ≡ view.old }
-    ensures memory { result ≢ 1 }
+    ensures memory { result ≢ no_memory }
     ensures former { heap.new.former ≡ heap.old.former }
 {
     if heap.is_empty() {

@@ -1,6 +1,7 @@
 //! The export that copies fields from one object to another.
 
 ghost use Rattle.std.specs.Prelude.{◌≡◌, ◌≢◌, ◌∷◌, [], IsSome, IsSomeAnd};
+ghost use Rattle.gc_check.specs.InC.{no_memory};
 ghost use Rattle.gc_core.specs.Copying.{copy_fields_step};
 ghost use Rattle.gcflip_heap_c.specs.Commands.{IsCommandCall};
 ghost use Rattle.gcflip_heap_c.specs.Slots.{NamesSlots, numbered_slot};
@@ -27,7 +28,7 @@ pub extern "C" fn gcflip_heap_copy_fields(
 ) -> u32
     ensures call { IsCommandCall (λ state. NamesSlots m (d ∷ s ∷ t ∷ []) state × (t ≢ d) × (t ≢ s))
         (λ state. copy_fields_step state m (numbered_slot d) to (numbered_slot s) from (numbered_slot t) count) heap.old.state heap.new.state result }
-    ensures memory { result ≡ 1 → IsSomeAnd heap.old.state (λ s. IsSome s.collection) }
+    ensures memory { result ≡ no_memory → IsSomeAnd heap.old.state (λ s. IsSome s.collection) }
     ensures former { heap.new.former ≡ heap.old.former }
 {
     if heap.is_empty() {

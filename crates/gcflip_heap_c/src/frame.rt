@@ -1,11 +1,12 @@
 //! The exports on extra roots, and on frames, which are stacks of them.
 
 ghost use Rattle.std.specs.Prelude.{◌≡◌, ◌≢◌, ◌<◌, ◌≤◌, ◌-◌, ◌↔◌, ◌∷◌, [], suc, IsTrue};
+ghost use Rattle.gc_check.specs.InC.{done, no_memory, IsRefusal};
 ghost use Rattle.gc_plan.specs.State.{extra_roots_of};
 ghost use Rattle.gc_core.specs.ExtraRoots.{clear_step};
+ghost use Rattle.gcflip_heap_c.specs.Answers.{frame_full, frame_empty};
 ghost use Rattle.gcflip_heap_c.specs.Commands.{IsCall, IsCommandCall};
 ghost use Rattle.gcflip_heap_c.specs.ExtraRoots.{load_step, store_step, pop_step, HasFrame, NamesFrame, IsFrameCall};
-ghost use Rattle.gcflip_heap_c.specs.Replies.{IsRefusal};
 ghost use Rattle.gcflip_heap_c.specs.Slots.{NamesSlots};
 
 use crate::answer::{CLOSED, DONE, FRAME_EMPTY, FRAME_FULL, OUT_OF_RANGE};
@@ -38,7 +39,7 @@ fn is_frame(heap: &LiveHeap, frame: &GcflipFrame) -> bool
 pub extern "C" fn gcflip_heap_root_load(heap: &mut GcflipHeap, m: u8, d: u8, k: u32) -> u32
     ensures call { IsCommandCall (λ state. NamesSlots m (d ∷ []) state × (k < extra_roots_of state))
         (λ state. load_step state m d k) heap.old.state heap.new.state result }
-    ensures memory { result ≢ 1 }
+    ensures memory { result ≢ no_memory }
     ensures former { heap.new.former ≡ heap.old.former }
 {
     if heap.is_empty() {
@@ -59,7 +60,7 @@ pub extern "C" fn gcflip_heap_root_load(heap: &mut GcflipHeap, m: u8, d: u8, k: 
 pub extern "C" fn gcflip_heap_root_store(heap: &mut GcflipHeap, m: u8, k: u32, s: u8) -> u32
     ensures call { IsCommandCall (λ state. NamesSlots m (s ∷ []) state × (k < extra_roots_of state))
         (λ state. store_step state m k s) heap.old.state heap.new.state result }
-    ensures memory { result ≢ 1 }
+    ensures memory { result ≢ no_memory }
     ensures former { heap.new.former ≡ heap.old.former }
 {
     if heap.is_empty() {
@@ -79,8 +80,8 @@ pub extern "C" fn gcflip_heap_root_store(heap: &mut GcflipHeap, m: u8, k: u32, s
 #[unsafe(no_mangle)]
 pub extern "C" fn gcflip_heap_root_clear(heap: &mut GcflipHeap, from: u32, to: u32) -> u32
     ensures call { IsCall (λ state. (from ≤ to) × (to ≤ extra_roots_of state))
-        (λ old new. (result ≡ 0) × (clear_step old from (to - from) ≡ new)) heap.old.state heap.new.state result }
-    ensures memory { result ≢ 1 }
+        (λ old new. (result ≡ done) × (clear_step old from (to - from) ≡ new)) heap.old.state heap.new.state result }
+    ensures memory { result ≢ no_memory }
     ensures former { heap.new.former ≡ heap.old.former }
 {
     if heap.is_empty() {
@@ -102,7 +103,7 @@ pub extern "C" fn gcflip_heap_frame_push(
     s: u8,
     frame: &mut GcflipFrame,
 ) -> u32
-    ensures call { IsFrameCall (NamesFrame m s frame.old) (frame.old.top ≡ frame.old.end) 5
+    ensures call { IsFrameCall (NamesFrame m s frame.old) (frame.old.top ≡ frame.old.end) frame_full
         (λ state. store_step state m frame.old.top s) heap.old.state heap.new.state result }
     ensures frame { ¬ IsRefusal result → frame.new ≡ record frame.old { top = suc frame.old.top } }
     ensures silent { IsRefusal result → frame.new ≡ frame.old }
@@ -135,7 +136,7 @@ pub extern "C" fn gcflip_heap_frame_pop(
     d: u8,
     frame: &mut GcflipFrame,
 ) -> u32
-    ensures call { IsFrameCall (NamesFrame m d frame.old) (frame.old.top ≡ frame.old.first) 6
+    ensures call { IsFrameCall (NamesFrame m d frame.old) (frame.old.top ≡ frame.old.first) frame_empty
         (λ state. pop_step state m d (frame.old.top - 1)) heap.old.state heap.new.state result }
     ensures frame { ¬ IsRefusal result → frame.new ≡ record frame.old { top = frame.old.top - 1 } }
     ensures silent { IsRefusal result → frame.new ≡ frame.old }

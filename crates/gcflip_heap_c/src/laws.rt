@@ -5,7 +5,7 @@ ghost use Rattle.gc_plan.specs.State.{State};
 ghost use Rattle.gc_plan.specs.Belonging.{IsState};
 ghost use Rattle.gc_plan.specs.Progress.{work_left};
 ghost use Rattle.gcflip_heap_c.specs.Readings.{counts_of};
-ghost use Rattle.gcflip_heap_c.specs.Turns.{Turn, AreTurns, Remembers, after_turns, last_pace};
+ghost use Rattle.gcflip_heap_c.specs.Turns.{Turn, AreTurns, Remembers, after_turns};
 ghost use Rattle.gcflip_heap_c.specs.declared.pace.GcflipPace.{GcflipPace};
 
 /// If calls of paced work alone keep a collection going, with commands between them, then after each call all logs together have fewer
@@ -14,10 +14,10 @@ ghost use Rattle.gcflip_heap_c.specs.declared.pace.GcflipPace.{GcflipPace};
 pub fn paced_work_bounds_logs()
     ensures work { (s : State) (pace : GcflipPace) (turns : List Turn) (most : ℕ)
         → IsState s → Remembers pace s → AreTurns s pace turns → work_left s ≤ most + pace.owed
-        → work_left (after_turns s turns) ≤ most + (last_pace pace turns).owed }
+        → work_left (after_turns s pace turns).0 ≤ most + (after_turns s pace turns).1.owed }
     ensures logs { (s : State) (pace : GcflipPace) (turns : List Turn) (most : ℕ)
         → IsState s → Remembers pace s → AreTurns s pace turns → work_left s ≤ most + pace.owed
-        → (counts_of (after_turns s turns)).logged < most + (last_pace pace turns).owed }
+        → (counts_of (after_turns s pace turns).0).logged < most + (after_turns s pace turns).1.owed }
     ensures owes { (s : State) (pace : GcflipPace) (turns : List Turn)
-        → AreTurns s pace turns → pace.words ≡ 0 → pace.owed ≡ 0 → (last_pace pace turns).owed ≡ 0 }
+        → AreTurns s pace turns → pace.words ≡ 0 → pace.owed ≡ 0 → (after_turns s pace turns).1.owed ≡ 0 }
 {}

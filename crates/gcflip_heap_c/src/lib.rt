@@ -22,7 +22,7 @@ mod slots;
 mod stepping;
 mod work;
 
-pub use checking::{GcflipFlipChecks, GcflipVerdict, gcflip_heap_check, gcflip_heap_flip_checks};
+pub use checking::{GcflipFlipChecks, gcflip_heap_check, gcflip_heap_flip_checks};
 pub use commands::{
     gcflip_heap_get, gcflip_heap_look, gcflip_heap_move, gcflip_heap_new_from,
     gcflip_heap_new_object, gcflip_heap_new_pair, gcflip_heap_new_raw, gcflip_heap_put,

@@ -2,6 +2,7 @@
 
 ghost use Rattle.std.specs.Prelude.{◌≡◌, ◌≢◌, ◌↔◌, ◌∷◌, [], IsTrue, IsSome, IsSomeAnd, map};
 ghost use Rattle.std.specs.List.{AllByRecursion};
+ghost use Rattle.gc_check.specs.InC.{no_memory};
 ghost use Rattle.gc_core.specs.Mixed.{new_with_step};
 ghost use Rattle.gcflip_heap_c.specs.Commands.{IsCommandCall};
 ghost use Rattle.gcflip_heap_c.specs.Mixed.{is_source, source_of as source_in, AreSources};
@@ -96,7 +97,7 @@ pub extern "C" fn gcflip_heap_new_with(
 ) -> u32
     ensures call { IsCommandCall (λ state. NamesSlots m (d ∷ t ∷ []) state × (t ≢ d) × AreSources fields.now)
         (λ state. new_with_step state m (numbered_slot d) kind (numbered_slot t) (map source_in fields.now)) heap.old.state heap.new.state result }
-    ensures memory { result ≡ 1 → IsSomeAnd heap.old.state (λ s. IsSome s.collection) }
+    ensures memory { result ≡ no_memory → IsSomeAnd heap.old.state (λ s. IsSome s.collection) }
     ensures former { heap.new.former ≡ heap.old.former }
 {
     if heap.is_empty() {

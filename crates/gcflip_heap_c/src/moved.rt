@@ -1,10 +1,10 @@
 //! The export that tells where the last flip moved an object, for a table by address.
 
 ghost use Rattle.std.specs.Prelude.{◌≡◌, ◌≢◌, IsSome, IsSomeAnd};
+ghost use Rattle.gc_check.specs.InC.{no_memory, IsRefusal};
 ghost use Rattle.gc_copy.specs.Words.{moved_in};
 ghost use Rattle.gcflip_heap_c.specs.Commands.{IsCall};
 ghost use Rattle.gcflip_heap_c.specs.Raws.{TellsAddress};
-ghost use Rattle.gcflip_heap_c.specs.Replies.{IsRefusal};
 
 use crate::answer::{CLOSED, DONE, NO_OBJECT, OUT_OF_RANGE};
 use crate::handle::GcflipHeap;
@@ -34,7 +34,7 @@ pub extern "C" fn gcflip_heap_moved(heap: &mut GcflipHeap, old: u32, address: &m
         heap.old.state heap.new.state result }
     ensures heap { heap.new.state ≡ heap.old.state }
     ensures silent { IsRefusal result → address.new ≡ address.old }
-    ensures memory { result ≢ 1 }
+    ensures memory { result ≢ no_memory }
     ensures former { heap.new.former ≡ heap.old.former }
 {
     if heap.is_empty() {

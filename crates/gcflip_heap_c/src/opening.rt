@@ -1,8 +1,10 @@
 //! The exports that open and close a heap.
 
 ghost use Rattle.std.specs.Prelude.{◌≡◌, ◌<◌, ◌≤◌, ◌⊎◌, ◌↔◌, None, Some, IsSome, IsTrue, IfOk};
+ghost use Rattle.gc_check.specs.InC.{done, no_memory};
 ghost use Rattle.gc_heap.specs.ExtraRoots as heaps;
 ghost use Rattle.gc_copy.specs.Opening.{opening_state_with};
+ghost use Rattle.gcflip_heap_c.specs.Answers.{out_of_range, closed_handle, open_handle};
 ghost use Rattle.gcflip_heap_c.specs.Opening.{CanOpenWith, options_in};
 ghost use Rattle.gcflip_heap_c.specs.Internal.Opening.{checking_in};
 
@@ -49,13 +51,13 @@ pub extern "C" fn gcflip_heap_open(
     heap: &mut GcflipHeap,
     options: &GcflipOptions,
 ) -> u32
-    ensures answers { (result ≤ 2) ⊎ (result ≡ 4) }
-    ensures done { result ≡ 0 → heap.new.state ≡ Some (opening_state_with (options_in options.now)) }
+    ensures answers { (result ≡ done) ⊎ ((result ≡ no_memory) ⊎ ((result ≡ out_of_range) ⊎ (result ≡ open_handle))) }
+    ensures done { result ≡ done → heap.new.state ≡ Some (opening_state_with (options_in options.now)) }
     // No flip has been.
-    ensures former { result ≡ 0 → heap.new.former ≡ None }
+    ensures former { result ≡ done → heap.new.former ≡ None }
     ensures refused { 1 ≤ result → (heap.new.state ≡ heap.old.state) × (heap.new.former ≡ heap.old.former) }
-    ensures open { (result ≡ 4) ↔ IsSome heap.old.state }
-    ensures outside { (result ≡ 2) ↔ ((heap.old.state ≡ None) × (¬ CanOpenWith options.now)) }
+    ensures open { (result ≡ open_handle) ↔ IsSome heap.old.state }
+    ensures outside { (result ≡ out_of_range) ↔ ((heap.old.state ≡ None) × (¬ CanOpenWith options.now)) }
 {
     if !heap.is_empty() {
         return OPEN;
@@ -83,10 +85,10 @@ pub extern "C" fn gcflip_heap_open(
 /// and 1 if the allocation fails. The heap stays as it is.
 #[unsafe(no_mangle)]
 pub extern "C" fn gcflip_heap_touch(alloc: Global, heap: &mut GcflipHeap) -> u32
-    ensures answers { (result ≤ 1) ⊎ (result ≡ 3) }
+    ensures answers { (result ≡ done) ⊎ ((result ≡ no_memory) ⊎ (result ≡ closed_handle)) }
     ensures heap { heap.new.state ≡ heap.old.state }
     ensures former { heap.new.former ≡ heap.old.former }
-    ensures closed { (result ≡ 3) ↔ (heap.old.state ≡ None) }
+    ensures closed { (result ≡ closed_handle) ↔ (heap.old.state ≡ None) }
 {
     if heap.is_empty() {
         return CLOSED;
@@ -139,8 +141,8 @@ fn boxed_heap(
 /// Frees the heap, and leaves the handle without one. Returns 0, or 3 if the handle had no heap.
 #[unsafe(no_mangle)]
 pub extern "C" fn gcflip_heap_close(alloc: Global, heap: &mut GcflipHeap) -> u32
-    ensures answers { (result ≡ 0) ⊎ (result ≡ 3) }
-    ensures closed { (result ≡ 3) ↔ (heap.old.state ≡ None) }
+    ensures answers { (result ≡ done) ⊎ (result ≡ closed_handle) }
+    ensures closed { (result ≡ closed_handle) ↔ (heap.old.state ≡ None) }
     ensures none { heap.new.state ≡ None }
 {
     match heap.take(alloc) {

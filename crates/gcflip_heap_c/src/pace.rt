@@ -1,8 +1,10 @@
 //! The pace of collector steps: how many are due, as a function of counts, and the exports that perform them.
 
 ghost use Rattle.std.specs.Prelude.{◌≡◌, ◌⊎◌, ◌<◌, ◌≤◌, ◌↔◌, ◌^◌, ◌+◌, ◌*◌, min, Some, None, IsSomeAnd, IsTrue, IfOk, OnErr};
+ghost use Rattle.gc_check.specs.InC.{done, no_memory};
 ghost use Rattle.gc_plan.specs.Steps.{useful_step};
 ghost use Rattle.gc_core.specs.CollectedHeap.{Allocates};
+ghost use Rattle.gcflip_heap_c.specs.Answers.{out_of_range, closed_handle};
 ghost use Rattle.gcflip_heap_c.specs.Readings as readings;
 ghost use Rattle.gcflip_heap_c.specs.Pace as paces;
 ghost use Rattle.gcflip_heap_c.specs.Commands.{IsCall};
@@ -10,7 +12,7 @@ ghost use Rattle.gcflip_heap_c.specs.Pace.{IsPace, IsPacedWork};
 ghost use Rattle.gcflip_heap_c.specs.Former.{LeavesAfter};
 ghost use Rattle.gcflip_heap_c.specs.Work.{IsWork};
 
-use crate::answer::{CLOSED, DONE, NO_MEMORY, OUT_OF_RANGE};
+use crate::answer::{CLOSED, DONE, FLIPPED, NO_MEMORY, NO_ROOM, OUT_OF_RANGE};
 use crate::handle::GcflipHeap;
 use crate::reading::{GcflipCounts, counts_of};
 use crate::work::{GcflipWork, work_on, work_within_on};
@@ -22,12 +24,6 @@ const LOWEST_FACTOR: u32 = 100;
 
 /// The highest factor of a pace, in hundredths.
 const HIGHEST_FACTOR: u32 = 10_000;
-
-/// The number that stands for a flip, as the reply to a step.
-const FLIPPED: u32 = 43;
-
-/// The number that stands for a step that found no room.
-const NO_ROOM: u32 = 36;
 
 /// When a collection begins and how fast it goes on, and what paced work remembers of the call before, as C sees it.
 #[repr(C)]
@@ -151,12 +147,12 @@ fn is_fit(pace: &GcflipPace) -> bool
 /// Makes the pace remember this heap as it is, as if it had just flipped. Returns 2 if the factor is out of range.
 #[unsafe(no_mangle)]
 pub extern "C" fn gcflip_heap_pace(heap: &mut GcflipHeap, pace: &mut GcflipPace) -> u32
-    ensures answers { (result ≡ 0) ⊎ ((result ≡ 2) ⊎ (result ≡ 3)) }
-    ensures pace { result ≡ 0 → IsSomeAnd heap.old.state (λ s. pace.new ≡ paces.pace_from pace.old (readings.counts_of s)) }
+    ensures answers { (result ≡ done) ⊎ ((result ≡ out_of_range) ⊎ (result ≡ closed_handle)) }
+    ensures pace { result ≡ done → IsSomeAnd heap.old.state (λ s. pace.new ≡ paces.pace_from pace.old (readings.counts_of s)) }
     ensures heap { heap.new.state ≡ heap.old.state }
     ensures silent { 1 ≤ result → pace.new ≡ pace.old }
-    ensures outside { (result ≡ 2) ↔ IsSomeAnd heap.old.state (λ s. ¬ IsPace pace.old) }
-    ensures closed { (result ≡ 3) ↔ (heap.old.state ≡ None) }
+    ensures outside { (result ≡ out_of_range) ↔ IsSomeAnd heap.old.state (λ s. ¬ IsPace pace.old) }
+    ensures closed { (result ≡ closed_handle) ↔ (heap.old.state ≡ None) }
     ensures former { heap.new.former ≡ heap.old.former }
 {
     if heap.is_empty() {
@@ -254,7 +250,6 @@ fn work_at_pace(heap: &mut KeptHeap, pace: &GcflipPace, wanted: u32) -> Result<P
     heap.live.is_sound();
     let due = gcflip_pace_due(pace, &counts_of(&heap.live), wanted);
     let work = work_due(heap, pace.words, due)?;
-    heap.live.is_sound();
     let pace = pace_after(pace, due, &work, &counts_of(&heap.live));
     Ok(Paced { work, pace })
 }
@@ -269,11 +264,11 @@ pub extern "C" fn gcflip_heap_work_paced(
     wanted: u32,
     work: &mut GcflipWork,
 ) -> u32
-    ensures call { IsCall (λ _. IsPace pace.old) (λ s t. (result ≡ 0) × IsPacedWork wanted s t pace.old pace.new work.new)
+    ensures call { IsCall (λ _. IsPace pace.old) (λ s t. (result ≡ done) × IsPacedWork wanted s t pace.old pace.new work.new)
         heap.old.state heap.new.state result }
     ensures silent { 1 ≤ result → (pace.new ≡ pace.old) × (work.new ≡ work.old) }
-    ensures memory { result ≡ 1 → IsSomeAnd heap.old.state (λ s. Allocates s (useful_step s)) }
-    ensures former { result ≡ 0 → IsSomeAnd heap.old.state (λ s. LeavesAfter None work.new.steps s heap.old.former heap.new.former) }
+    ensures memory { result ≡ no_memory → IsSomeAnd heap.old.state (λ s. Allocates s (useful_step s)) }
+    ensures former { result ≡ done → IsSomeAnd heap.old.state (λ s. LeavesAfter None work.new.steps s heap.old.former heap.new.former) }
     ensures kept { 1 ≤ result → heap.new.former ≡ heap.old.former }
 {
     if heap.is_empty() {

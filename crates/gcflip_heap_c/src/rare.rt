@@ -2,6 +2,7 @@
 //! last. So the common case of the export calls at most what makes the standing checker's rows longer, and saves fewer registers.
 
 ghost use Rattle.std.specs.Prelude.{◌≡◌, ◌≢◌, ◌<◌, ◌^◌, ◌∷◌, [], Some, IsSome};
+ghost use Rattle.gc_check.specs.InC.{no_memory};
 ghost use Rattle.gc_graph.specs.declared.command.Op.{Op};
 ghost use Rattle.gc_plan.specs.Steps.{mutate};
 ghost use Rattle.gc_core.specs.CollectedHeap.{new_from_step};
@@ -23,7 +24,7 @@ pub(crate) fn new_long(heap: &mut LiveHeap, m: u8, d: u8, kind: u8, count: u16) 
     requires { m < heap.old.mutators }
     ensures call { IsCommandCall (NamesSlots m (d ∷ []))
         (λ state. mutate state m (Op.New (numbered_slot d) kind count)) (Some heap.old) (Some heap.new) result }
-    ensures memory { result ≢ 1 }
+    ensures memory { result ≢ no_memory }
 {
     let Some(d) = slot(d) else {
         return OUT_OF_RANGE;
@@ -37,7 +38,7 @@ pub(crate) fn new_long_raw(heap: &mut LiveHeap, m: u8, d: u8, kind: u8, count: u
     requires { m < heap.old.mutators }
     ensures call { IsCommandCall (NamesSlots m (d ∷ []))
         (λ state. mutate state m (Op.NewRaw (numbered_slot d) kind count)) (Some heap.old) (Some heap.new) result }
-    ensures memory { result ≢ 1 }
+    ensures memory { result ≢ no_memory }
 {
     let Some(d) = slot(d) else {
         return OUT_OF_RANGE;
@@ -51,7 +52,7 @@ pub(crate) fn put_while_open(heap: &mut LiveHeap, m: u8, s: u8, i: u16, t: u8) -
     requires { m < heap.old.mutators }
     ensures call { IsCommandCall (NamesSlots m (s ∷ t ∷ []))
         (λ state. mutate state m (Op.Put (numbered_slot s) i (numbered_slot t))) (Some heap.old) (Some heap.new) result }
-    ensures memory { result ≡ 1 → IsSome heap.old.collection }
+    ensures memory { result ≡ no_memory → IsSome heap.old.collection }
 {
     if s >= SLOT_NUMBERS || t >= SLOT_NUMBERS {
         return OUT_OF_RANGE;
@@ -69,7 +70,7 @@ pub(crate) fn put_number_while_open(heap: &mut LiveHeap, m: u8, s: u8, i: u16, t
     requires { m < heap.old.mutators }
     ensures call { IsCommandCall (λ state. NamesSlots m (s ∷ t ∷ []) state × (n < 2 ^ 63))
         (λ state. mutate (mutate state m (Op.Num (numbered_slot t) n)).1 m (Op.Put (numbered_slot s) i (numbered_slot t))) (Some heap.old) (Some heap.new) result }
-    ensures memory { result ≡ 1 → IsSome heap.old.collection }
+    ensures memory { result ≡ no_memory → IsSome heap.old.collection }
 {
     if s >= SLOT_NUMBERS || t >= SLOT_NUMBERS {
         return OUT_OF_RANGE;
@@ -90,7 +91,7 @@ pub(crate) fn new_pair_while_open(heap: &mut LiveHeap, m: u8, d: u8, kind: u8, s
     requires { m < heap.old.mutators }
     ensures call { IsCommandCall (NamesSlots m (d ∷ s ∷ t ∷ []))
         (λ state. new_from_step state m (numbered_slot d) kind (numbered_slot s ∷ numbered_slot t ∷ [])) (Some heap.old) (Some heap.new) result }
-    ensures memory { result ≡ 1 → IsSome heap.old.collection }
+    ensures memory { result ≡ no_memory → IsSome heap.old.collection }
 {
     if d >= SLOT_NUMBERS || s >= SLOT_NUMBERS || t >= SLOT_NUMBERS {
         return OUT_OF_RANGE;

@@ -1,11 +1,11 @@
 //! The exports that read or write the numbers of a raw object at once, and the one that tells the address of an object.
 
 ghost use Rattle.std.specs.Prelude.{◌≡◌, ◌≢◌, ◌<◌, ◌∷◌, [], IsSome, IsSomeAnd};
+ghost use Rattle.gc_check.specs.InC.{no_memory, IsRefusal};
 ghost use Rattle.gc_heap.specs.Raws.{raw_numbers};
 ghost use Rattle.gc_core.specs.Writing.{put_numbers_step};
 ghost use Rattle.gcflip_heap_c.specs.Commands.{IsCall, IsCommandCall};
 ghost use Rattle.gcflip_heap_c.specs.Raws.{Reads, address_in, TellsAddress};
-ghost use Rattle.gcflip_heap_c.specs.Replies.{IsRefusal};
 ghost use Rattle.gcflip_heap_c.specs.Slots.{NamesSlots, numbered_slot};
 
 use crate::answer::{CLOSED, DONE, NO_FIELD, NO_MEMORY, NO_OBJECT, OUT_OF_RANGE};
@@ -45,7 +45,7 @@ pub extern "C" fn gcflip_heap_raw_read(
         heap.old.state heap.new.state result }
     ensures heap { heap.new.state ≡ heap.old.state }
     ensures silent { IsRefusal result → words.new ≡ words.old }
-    ensures memory { result ≢ 1 }
+    ensures memory { result ≢ no_memory }
     ensures former { heap.new.former ≡ heap.old.former }
 {
     if heap.is_empty() {
@@ -75,7 +75,7 @@ pub extern "C" fn gcflip_heap_raw_write(
 ) -> u32
     ensures call { IsCommandCall (λ state. NamesSlots m (s ∷ t ∷ []) state × (s ≢ t))
         (λ state. put_numbers_step state m (numbered_slot s) first (numbered_slot t) words.now) heap.old.state heap.new.state result }
-    ensures memory { result ≡ 1 → IsSomeAnd heap.old.state (λ s. IsSome s.collection) }
+    ensures memory { result ≡ no_memory → IsSomeAnd heap.old.state (λ s. IsSome s.collection) }
     ensures former { heap.new.former ≡ heap.old.former }
 {
     if heap.is_empty() {
@@ -118,7 +118,7 @@ pub extern "C" fn gcflip_heap_address(heap: &mut GcflipHeap, m: u8, s: u8, addre
         heap.old.state heap.new.state result }
     ensures heap { heap.new.state ≡ heap.old.state }
     ensures silent { IsRefusal result → address.new ≡ address.old }
-    ensures memory { result ≢ 1 }
+    ensures memory { result ≢ no_memory }
     ensures former { heap.new.former ≡ heap.old.former }
 {
     if heap.is_empty() {

@@ -1,7 +1,9 @@
 //! The exports that read a heap: counts for a runtime's decisions, and logs and copies of both spaces for debuggers.
 
 ghost use Rattle.std.specs.Prelude.{◌≡◌, ◌≤◌, ◌⊎◌, ◌↔◌, None, Some, IfSome, IsSomeAnd, IsTrue, IsFalse, length};
+ghost use Rattle.gc_check.specs.InC.{done};
 ghost use Rattle.gc_core.specs.Readings.{heap_image, new_words, log_of};
+ghost use Rattle.gcflip_heap_c.specs.Answers.{out_of_range, closed_handle};
 ghost use Rattle.gcflip_heap_c.specs.Readings.{counts_of, logged_in, log_entry_at, FitsImage};
 
 use crate::answer::{CLOSED, DONE, OUT_OF_RANGE};
@@ -47,9 +49,11 @@ pub struct GcflipLogEntry {
 }
 
 /// Returns the number of entries in all logs, up to the largest `u32`.
+#[tactic(auto, using(crate::proofs::Logged::entries_next, crate::proofs::Logged::entries_end))]
 fn logged_in(heap: &LiveHeap) -> u32
     ensures { result ≡ logged_in heap.now }
 {
+    heap.is_sound();
     let mut total: u128 = 0;
     for m in 0..heap.mutators() {
         total += heap.log_len(m) as u128;
@@ -87,11 +91,11 @@ pub(crate) fn counts_of(heap: &LiveHeap) -> GcflipCounts
 /// Reads the sizes of the heap, and how far its open collection has come.
 #[unsafe(no_mangle)]
 pub extern "C" fn gcflip_heap_counts(heap: &mut GcflipHeap, counts: &mut GcflipCounts) -> u32
-    ensures answers { (result ≡ 0) ⊎ (result ≡ 3) }
+    ensures answers { (result ≡ done) ⊎ (result ≡ closed_handle) }
     ensures counts { IfSome heap.old.state (λ s. counts.new ≡ counts_of s) }
     ensures heap { heap.new.state ≡ heap.old.state }
-    ensures silent { result ≡ 3 → counts.new ≡ counts.old }
-    ensures closed { (result ≡ 3) ↔ (heap.old.state ≡ None) }
+    ensures silent { result ≡ closed_handle → counts.new ≡ counts.old }
+    ensures closed { (result ≡ closed_handle) ↔ (heap.old.state ≡ None) }
     ensures former { heap.new.former ≡ heap.old.former }
 {
     if heap.is_empty() {
@@ -104,12 +108,12 @@ pub extern "C" fn gcflip_heap_counts(heap: &mut GcflipHeap, counts: &mut GcflipC
 /// Reads the number of entries in mutator `m`'s log, which is 0 if no collection is open.
 #[unsafe(no_mangle)]
 pub extern "C" fn gcflip_heap_log_length(heap: &mut GcflipHeap, m: u8, count: &mut usize) -> u32
-    ensures answers { (result ≡ 0) ⊎ ((result ≡ 2) ⊎ (result ≡ 3)) }
-    ensures count { result ≡ 0 → IsSomeAnd heap.old.state (λ s. count.new ≡ length (log_of s m)) }
+    ensures answers { (result ≡ done) ⊎ ((result ≡ out_of_range) ⊎ (result ≡ closed_handle)) }
+    ensures count { result ≡ done → IsSomeAnd heap.old.state (λ s. count.new ≡ length (log_of s m)) }
     ensures heap { heap.new.state ≡ heap.old.state }
     ensures silent { 1 ≤ result → count.new ≡ count.old }
-    ensures outside { (result ≡ 2) ↔ IsSomeAnd heap.old.state (λ s. s.mutators ≤ m) }
-    ensures closed { (result ≡ 3) ↔ (heap.old.state ≡ None) }
+    ensures outside { (result ≡ out_of_range) ↔ IsSomeAnd heap.old.state (λ s. s.mutators ≤ m) }
+    ensures closed { (result ≡ closed_handle) ↔ (heap.old.state ≡ None) }
     ensures former { heap.new.former ≡ heap.old.former }
 {
     if heap.is_empty() {
@@ -149,12 +153,12 @@ pub extern "C" fn gcflip_heap_log_entry(
     k: usize,
     entry: &mut GcflipLogEntry,
 ) -> u32
-    ensures answers { (result ≡ 0) ⊎ ((result ≡ 2) ⊎ (result ≡ 3)) }
-    ensures entry { result ≡ 0 → IsSomeAnd heap.old.state (λ s. log_entry_at s m k ≡ Some entry.new) }
+    ensures answers { (result ≡ done) ⊎ ((result ≡ out_of_range) ⊎ (result ≡ closed_handle)) }
+    ensures entry { result ≡ done → IsSomeAnd heap.old.state (λ s. log_entry_at s m k ≡ Some entry.new) }
     ensures heap { heap.new.state ≡ heap.old.state }
     ensures silent { 1 ≤ result → entry.new ≡ entry.old }
-    ensures outside { (result ≡ 2) ↔ IsSomeAnd heap.old.state (λ s. log_entry_at s m k ≡ None) }
-    ensures closed { (result ≡ 3) ↔ (heap.old.state ≡ None) }
+    ensures outside { (result ≡ out_of_range) ↔ IsSomeAnd heap.old.state (λ s. log_entry_at s m k ≡ None) }
+    ensures closed { (result ≡ closed_handle) ↔ (heap.old.state ≡ None) }
     ensures former { heap.new.former ≡ heap.old.former }
 {
     if heap.is_empty() {
@@ -190,13 +194,13 @@ pub extern "C" fn gcflip_heap_image(
     words: &mut [u64],
     roots: &mut [u64],
 ) -> u32
-    ensures answers { (result ≡ 0) ⊎ ((result ≡ 2) ⊎ (result ≡ 3)) }
-    ensures image { result ≡ 0 → IsSomeAnd heap.old.state (λ s. (words.new ≡ (heap_image s).words)
+    ensures answers { (result ≡ done) ⊎ ((result ≡ out_of_range) ⊎ (result ≡ closed_handle)) }
+    ensures image { result ≡ done → IsSomeAnd heap.old.state (λ s. (words.new ≡ (heap_image s).words)
         × (roots.new ≡ (heap_image s).roots)) }
     ensures heap { heap.new.state ≡ heap.old.state }
     ensures silent { 1 ≤ result → (words.new ≡ words.old) × (roots.new ≡ roots.old) }
-    ensures outside { (result ≡ 2) ↔ IsSomeAnd heap.old.state (λ s. ¬ FitsImage words.old roots.old s) }
-    ensures closed { (result ≡ 3) ↔ (heap.old.state ≡ None) }
+    ensures outside { (result ≡ out_of_range) ↔ IsSomeAnd heap.old.state (λ s. ¬ FitsImage words.old roots.old s) }
+    ensures closed { (result ≡ closed_handle) ↔ (heap.old.state ≡ None) }
     ensures former { heap.new.former ≡ heap.old.former }
 {
     if heap.is_empty() {
@@ -229,12 +233,12 @@ fn copy_new_words(heap: &LiveHeap, words: &mut [u64]) -> bool
 /// exactly that length, or if no collection is open.
 #[unsafe(no_mangle)]
 pub extern "C" fn gcflip_heap_new_words(heap: &mut GcflipHeap, words: &mut [u64]) -> u32
-    ensures answers { (result ≡ 0) ⊎ ((result ≡ 2) ⊎ (result ≡ 3)) }
-    ensures words { result ≡ 0 → IsSomeAnd heap.old.state (λ s. new_words s ≡ Some words.new) }
+    ensures answers { (result ≡ done) ⊎ ((result ≡ out_of_range) ⊎ (result ≡ closed_handle)) }
+    ensures words { result ≡ done → IsSomeAnd heap.old.state (λ s. new_words s ≡ Some words.new) }
     ensures heap { heap.new.state ≡ heap.old.state }
     ensures silent { 1 ≤ result → words.new ≡ words.old }
-    ensures outside { (result ≡ 2) ↔ IsSomeAnd heap.old.state (λ s. ¬ IsSomeAnd (new_words s) (λ new. length words.old ≡ length new)) }
-    ensures closed { (result ≡ 3) ↔ (heap.old.state ≡ None) }
+    ensures outside { (result ≡ out_of_range) ↔ IsSomeAnd heap.old.state (λ s. ¬ IsSomeAnd (new_words s) (λ new. length words.old ≡ length new)) }
+    ensures closed { (result ≡ closed_handle) ↔ (heap.old.state ≡ None) }
     ensures former { heap.new.former ≡ heap.old.former }
 {
     if heap.is_empty() {

@@ -1,6 +1,7 @@
 //! The export that makes a reference of an address, for a table of weak references.
 
 ghost use Rattle.std.specs.Prelude.{◌≡◌, ◌≢◌, ◌∷◌, []};
+ghost use Rattle.gc_check.specs.InC.{no_memory};
 ghost use Rattle.gc_core.specs.Referring.{refer_step};
 ghost use Rattle.gcflip_heap_c.specs.Commands.{IsCommandCall};
 ghost use Rattle.gcflip_heap_c.specs.Slots.{NamesSlots, numbered_slot};
@@ -17,7 +18,7 @@ use gc_words::OldAddr;
 pub extern "C" fn gcflip_heap_refer(heap: &mut GcflipHeap, m: u8, d: u8, address: u32) -> u32
     ensures call { IsCommandCall (NamesSlots m (d ∷ []))
         (λ state. refer_step state m (numbered_slot d) address) heap.old.state heap.new.state result }
-    ensures memory { result ≢ 1 }
+    ensures memory { result ≢ no_memory }
     ensures former { heap.new.former ≡ heap.old.former }
 {
     if heap.is_empty() {

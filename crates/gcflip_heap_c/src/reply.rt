@@ -1,9 +1,10 @@
 //! Replies as C sees them.
 
 ghost use Rattle.std.specs.Prelude.{◌≡◌};
-ghost use Rattle.gcflip_heap_c.specs.Replies.{IsRefusal, seen_in_c, reply_in_c, fetched_in_c, number_after, view_in_c, view_after, step_reply_in_c, pairs_after};
+ghost use Rattle.gc_check.specs.InC.{IsRefusal};
+ghost use Rattle.gcflip_heap_c.specs.Replies.{seen_in_c, reply_in_c, fetched_in_c, number_after, view_in_c, view_after, step_reply_in_c, pairs_after};
 
-use crate::answer::DONE;
+use crate::answer::{DONE, FLIPPED, NIL, NO_FIELD, NO_OBJECT, NO_ROOM, NUMBER, OBJECT};
 use gc_copy::StepReply;
 use gc_graph::{Reply, View};
 use gc_heap::Fetched;
@@ -24,9 +25,9 @@ fn seen(view: &View) -> u32
     ensures { result ≡ seen_in_c view.now }
 {
     match view {
-        View::Nil => 24,
-        View::Num(_) => 25,
-        View::Obj { .. } => 26,
+        View::Nil => NIL,
+        View::Num(_) => NUMBER,
+        View::Obj { .. } => OBJECT,
         View::RawObj { .. } => 27,
     }
 }
@@ -40,8 +41,8 @@ pub(crate) fn of_reply(reply: &Reply) -> u32
         Reply::Done => DONE,
         Reply::Made => 16,
         Reply::Full => 17,
-        Reply::NoObject => 18,
-        Reply::NoField => 19,
+        Reply::NoObject => NO_OBJECT,
+        Reply::NoField => NO_FIELD,
         Reply::NoNumber => 20,
         Reply::Yes => 21,
         Reply::No => 22,
@@ -56,14 +57,14 @@ pub(crate) fn of_fetched(fetched: Fetched, number: &mut u64) -> u32
     ensures made { ¬ IsRefusal result }
 {
     match fetched {
-        Fetched::NoObject => 18,
-        Fetched::NoField => 19,
-        Fetched::Nil => 24,
+        Fetched::NoObject => NO_OBJECT,
+        Fetched::NoField => NO_FIELD,
+        Fetched::Nil => NIL,
         Fetched::Num(n) => {
             *number = n.get();
-            25
+            NUMBER
         }
-        Fetched::Object => 26,
+        Fetched::Object => OBJECT,
     }
 }
 
@@ -105,14 +106,14 @@ pub(crate) fn of_step(reply: StepReply) -> u32
         StepReply::Begun => 33,
         StepReply::Idle => 34,
         StepReply::Clean => 35,
-        StepReply::NoRoom => 36,
+        StepReply::NoRoom => NO_ROOM,
         StepReply::Copied => 37,
         StepReply::Passed => 38,
         StepReply::Scanned => 39,
         StepReply::Applied => 40,
         StepReply::NotReady => 41,
         StepReply::Refused => 42,
-        StepReply::Flipped { .. } => 43,
+        StepReply::Flipped { .. } => FLIPPED,
         StepReply::Dropped => 44,
     }
 }

@@ -1,13 +1,15 @@
 //! The exports that perform collector steps.
 
 ghost use Rattle.std.specs.Prelude.{◌≡◌, ◌≢◌, ◌⊎◌, ◌↔◌, ◌<◌, ◌≤◌, None, IfSome, IsSomeAnd, ⊤};
+ghost use Rattle.gc_check.specs.InC.{done, no_memory, IsRefusal};
 ghost use Rattle.gc_plan.specs.declared.step.Step.{Step};
 ghost use Rattle.gc_plan.specs.Steps.{collect, useful_step};
 ghost use Rattle.gc_core.specs.CollectedHeap.{Allocates};
 ghost use Rattle.gc_core.specs.Flip.{FormerAfter, HasRoomIfLarge};
+ghost use Rattle.gcflip_heap_c.specs.Answers.{closed_handle};
 ghost use Rattle.gcflip_heap_c.specs.Commands.{IsCall, Replies};
 ghost use Rattle.gcflip_heap_c.specs.Steps.{IsStepCall, ShowsReply, step_in_c};
-ghost use Rattle.gcflip_heap_c.specs.Replies.{IsRefusal, step_reply_in_c, pairs_after};
+ghost use Rattle.gcflip_heap_c.specs.Replies.{step_reply_in_c, pairs_after};
 ghost use Rattle.gcflip_heap_c.specs.Work.{IsSoundReply};
 
 use crate::answer::{CLOSED, DONE, NO_MEMORY, OUT_OF_RANGE};
@@ -46,11 +48,11 @@ fn of_useful(step: Step) -> GcflipStep
 /// Writes the useful step to `step`, and performs none.
 #[unsafe(no_mangle)]
 pub extern "C" fn gcflip_heap_useful(heap: &mut GcflipHeap, step: &mut GcflipStep) -> u32
-    ensures answers { (result ≡ 0) ⊎ (result ≡ 3) }
+    ensures answers { (result ≡ done) ⊎ (result ≡ closed_handle) }
     ensures step { IfSome heap.old.state (λ s. step.new ≡ step_in_c (useful_step s)) }
     ensures heap { heap.new.state ≡ heap.old.state }
-    ensures silent { result ≡ 3 → step.new ≡ step.old }
-    ensures closed { (result ≡ 3) ↔ (heap.old.state ≡ None) }
+    ensures silent { result ≡ closed_handle → step.new ≡ step.old }
+    ensures closed { (result ≡ closed_handle) ↔ (heap.old.state ≡ None) }
     ensures former { heap.new.former ≡ heap.old.former }
 {
     if heap.is_empty() {
@@ -64,7 +66,7 @@ pub extern "C" fn gcflip_heap_useful(heap: &mut GcflipHeap, step: &mut GcflipSte
 #[unsafe(no_mangle)]
 pub extern "C" fn gcflip_heap_step_begin(heap: &mut GcflipHeap) -> u32
     ensures call { IsStepCall (λ _. ⊤) Step.Begin heap.old.state heap.new.state result }
-    ensures memory { result ≡ 1 → IsSomeAnd heap.old.state (λ s. Allocates s Step.Begin) }
+    ensures memory { result ≡ no_memory → IsSomeAnd heap.old.state (λ s. Allocates s Step.Begin) }
     // The old space of the last flip stays until a collection begins.
     ensures former { ¬ IsRefusal result → IsSomeAnd heap.old.state (λ s. FormerAfter s heap.old.former (collect s Step.Begin).0 heap.new.former) }
     ensures kept { IsRefusal result → heap.new.former ≡ heap.old.former }
@@ -82,7 +84,7 @@ pub extern "C" fn gcflip_heap_step_begin(heap: &mut GcflipHeap) -> u32
 #[unsafe(no_mangle)]
 pub extern "C" fn gcflip_heap_step_begin_sized(heap: &mut GcflipHeap, size: u32) -> u32
     ensures call { IsStepCall (λ _. 1 ≤ size) (Step.BeginSized size) heap.old.state heap.new.state result }
-    ensures memory { result ≡ 1 → IsSomeAnd heap.old.state (λ s. Allocates s (Step.BeginSized size)) }
+    ensures memory { result ≡ no_memory → IsSomeAnd heap.old.state (λ s. Allocates s (Step.BeginSized size)) }
     // The old space of the last flip stays until a collection begins.
     ensures former { ¬ IsRefusal result → IsSomeAnd heap.old.state (λ s. FormerAfter s heap.old.former (collect s (Step.BeginSized size)).0 heap.new.former) }
     ensures kept { IsRefusal result → heap.new.former ≡ heap.old.former }
@@ -103,7 +105,7 @@ pub extern "C" fn gcflip_heap_step_begin_sized(heap: &mut GcflipHeap, size: u32)
 #[unsafe(no_mangle)]
 pub extern "C" fn gcflip_heap_step_roots(heap: &mut GcflipHeap) -> u32
     ensures call { IsStepCall (λ _. ⊤) Step.Roots heap.old.state heap.new.state result }
-    ensures memory { result ≢ 1 }
+    ensures memory { result ≢ no_memory }
     ensures room { ¬ IsRefusal result → IsSomeAnd heap.old.state (λ s. ShowsReply (HasRoomIfLarge s) result) }
     ensures former { heap.new.former ≡ heap.old.former }
 {
@@ -117,7 +119,7 @@ pub extern "C" fn gcflip_heap_step_roots(heap: &mut GcflipHeap) -> u32
 #[unsafe(no_mangle)]
 pub extern "C" fn gcflip_heap_step_scan(heap: &mut GcflipHeap) -> u32
     ensures call { IsStepCall (λ _. ⊤) Step.Scan heap.old.state heap.new.state result }
-    ensures memory { result ≢ 1 }
+    ensures memory { result ≢ no_memory }
     ensures room { ¬ IsRefusal result → IsSomeAnd heap.old.state (λ s. ShowsReply (HasRoomIfLarge s) result) }
     ensures former { heap.new.former ≡ heap.old.former }
 {
@@ -131,7 +133,7 @@ pub extern "C" fn gcflip_heap_step_scan(heap: &mut GcflipHeap) -> u32
 #[unsafe(no_mangle)]
 pub extern "C" fn gcflip_heap_step_apply(heap: &mut GcflipHeap, m: u8) -> u32
     ensures call { IsStepCall (λ s. m < s.mutators) (Step.Apply m) heap.old.state heap.new.state result }
-    ensures memory { result ≢ 1 }
+    ensures memory { result ≢ no_memory }
     ensures room { ¬ IsRefusal result → IsSomeAnd heap.old.state (λ s. ShowsReply (HasRoomIfLarge s) result) }
     ensures former { heap.new.former ≡ heap.old.former }
 {
@@ -151,7 +153,7 @@ pub extern "C" fn gcflip_heap_step_apply(heap: &mut GcflipHeap, m: u8) -> u32
 pub extern "C" fn gcflip_heap_step_flip(heap: &mut GcflipHeap, pairs: &mut u32) -> u32
     ensures call { IsCall (λ _. ⊤) (Replies (λ s. collect s Step.Flip)
         (λ reply. (result ≡ step_reply_in_c reply) × (pairs.new ≡ pairs_after pairs.old reply))) heap.old.state heap.new.state result }
-    ensures memory { result ≡ 1 → IsSomeAnd heap.old.state (λ s. Allocates s Step.Flip) }
+    ensures memory { result ≡ no_memory → IsSomeAnd heap.old.state (λ s. Allocates s Step.Flip) }
     // It flips only if the certificate holds. It is not refused, and a ready collection flips.
     ensures flips { ¬ IsRefusal result → IsSomeAnd heap.old.state (λ s. IsSomeAnd heap.new.state (Replies (λ s. collect s Step.Flip)
         (λ reply. (result ≡ step_reply_in_c reply) × IsSoundReply s reply) s)) }
@@ -176,7 +178,7 @@ pub extern "C" fn gcflip_heap_step_flip(heap: &mut GcflipHeap, pairs: &mut u32) 
 #[unsafe(no_mangle)]
 pub extern "C" fn gcflip_heap_step_give_up(heap: &mut GcflipHeap) -> u32
     ensures call { IsStepCall (λ _. ⊤) Step.Drop heap.old.state heap.new.state result }
-    ensures memory { result ≢ 1 }
+    ensures memory { result ≢ no_memory }
     ensures former { heap.new.former ≡ heap.old.former }
 {
     if heap.is_empty() {

@@ -1,6 +1,7 @@
 //! Many useful steps in one call.
 
 ghost use Rattle.std.specs.Prelude.{◌≡◌, ◌⊎◌, ◌<◌, ◌≤◌, ◌-◌, ℕ, suc, true, false, ⊤, Option, Some, None, IfSome, IsSomeAnd, IsTrue, ◌↔◌, Ok, IfOk, OnErr};
+ghost use Rattle.gc_check.specs.InC.{done, no_memory};
 ghost use Rattle.gc_plan.specs.State.{State};
 ghost use Rattle.gc_plan.specs.Steps.{collect, useful_step};
 ghost use Rattle.gc_plan.specs.Runs.{IsStep};
@@ -279,11 +280,11 @@ fn is_fit(size: Option<u32>, most: u32) -> bool
 
 // Performs at most `most` useful steps, unless an argument is out of range.
 fn work_sized(heap: &mut GcflipHeap, size: Option<u32>, most: u32, work: &mut GcflipWork) -> u32
-    ensures call { IsCall (λ _. (1 ≤ most) × IfSome size (λ words. 1 ≤ words)) (λ s t. (result ≡ 0) × IsWork size None most s t work.new)
+    ensures call { IsCall (λ _. (1 ≤ most) × IfSome size (λ words. 1 ≤ words)) (λ s t. (result ≡ done) × IsWork size None most s t work.new)
         heap.old.state heap.new.state result }
     ensures silent { 1 ≤ result → work.new ≡ work.old }
-    ensures memory { result ≡ 1 → IsSomeAnd heap.old.state (λ s. Allocates s (sized_step size s)) }
-    ensures former { result ≡ 0 → IsSomeAnd heap.old.state (λ s. LeavesAfter size work.new.steps s heap.old.former heap.new.former) }
+    ensures memory { result ≡ no_memory → IsSomeAnd heap.old.state (λ s. Allocates s (sized_step size s)) }
+    ensures former { result ≡ done → IsSomeAnd heap.old.state (λ s. LeavesAfter size work.new.steps s heap.old.former heap.new.former) }
     ensures kept { 1 ≤ result → heap.new.former ≡ heap.old.former }
 {
     if heap.is_empty() {
@@ -305,10 +306,10 @@ fn work_sized(heap: &mut GcflipHeap, size: Option<u32>, most: u32, work: &mut Gc
 /// that finds no room. If an allocation fails, stops before that step, and returns 1 only if that was the first step.
 #[unsafe(no_mangle)]
 pub extern "C" fn gcflip_heap_work(heap: &mut GcflipHeap, most: u32, work: &mut GcflipWork) -> u32
-    ensures call { IsCall (λ _. 1 ≤ most) (λ s t. (result ≡ 0) × IsWork None None most s t work.new) heap.old.state heap.new.state result }
+    ensures call { IsCall (λ _. 1 ≤ most) (λ s t. (result ≡ done) × IsWork None None most s t work.new) heap.old.state heap.new.state result }
     ensures silent { 1 ≤ result → work.new ≡ work.old }
-    ensures memory { result ≡ 1 → IsSomeAnd heap.old.state (λ s. Allocates s (useful_step s)) }
-    ensures former { result ≡ 0 → IsSomeAnd heap.old.state (λ s. LeavesAfter None work.new.steps s heap.old.former heap.new.former) }
+    ensures memory { result ≡ no_memory → IsSomeAnd heap.old.state (λ s. Allocates s (useful_step s)) }
+    ensures former { result ≡ done → IsSomeAnd heap.old.state (λ s. LeavesAfter None work.new.steps s heap.old.former heap.new.former) }
     ensures kept { 1 ≤ result → heap.new.former ≡ heap.old.former }
 {
     work_sized(heap, None, most, work)
@@ -322,11 +323,11 @@ pub extern "C" fn gcflip_heap_work_sized(
     size: u32,
     work: &mut GcflipWork,
 ) -> u32
-    ensures call { IsCall (λ _. (1 ≤ most) × (1 ≤ size)) (λ s t. (result ≡ 0) × IsWork (Some size) None most s t work.new)
+    ensures call { IsCall (λ _. (1 ≤ most) × (1 ≤ size)) (λ s t. (result ≡ done) × IsWork (Some size) None most s t work.new)
         heap.old.state heap.new.state result }
     ensures silent { 1 ≤ result → work.new ≡ work.old }
-    ensures memory { result ≡ 1 → IsSomeAnd heap.old.state (λ s. Allocates s (sized_step (Some size) s)) }
-    ensures former { result ≡ 0 → IsSomeAnd heap.old.state (λ s. LeavesAfter (Some size) work.new.steps s heap.old.former heap.new.former) }
+    ensures memory { result ≡ no_memory → IsSomeAnd heap.old.state (λ s. Allocates s (sized_step (Some size) s)) }
+    ensures former { result ≡ done → IsSomeAnd heap.old.state (λ s. LeavesAfter (Some size) work.new.steps s heap.old.former heap.new.former) }
     ensures kept { 1 ≤ result → heap.new.former ≡ heap.old.former }
 {
     work_sized(heap, Some(size), most, work)
@@ -340,10 +341,10 @@ pub extern "C" fn gcflip_heap_work_within(
     words: u32,
     work: &mut GcflipWork,
 ) -> u32
-    ensures call { IsCall (λ _. 1 ≤ most) (λ s t. (result ≡ 0) × IsWork None (Some words) most s t work.new) heap.old.state heap.new.state result }
+    ensures call { IsCall (λ _. 1 ≤ most) (λ s t. (result ≡ done) × IsWork None (Some words) most s t work.new) heap.old.state heap.new.state result }
     ensures silent { 1 ≤ result → work.new ≡ work.old }
-    ensures memory { result ≡ 1 → IsSomeAnd heap.old.state (λ s. Allocates s (useful_step s)) }
-    ensures former { result ≡ 0 → IsSomeAnd heap.old.state (λ s. LeavesAfter None work.new.steps s heap.old.former heap.new.former) }
+    ensures memory { result ≡ no_memory → IsSomeAnd heap.old.state (λ s. Allocates s (useful_step s)) }
+    ensures former { result ≡ done → IsSomeAnd heap.old.state (λ s. LeavesAfter None work.new.steps s heap.old.former heap.new.former) }
     ensures kept { 1 ≤ result → heap.new.former ≡ heap.old.former }
 {
     if heap.is_empty() {
