@@ -1,14 +1,12 @@
 -- Steps on extra roots, and what calls on frames return, which are stacks of extra roots.
 use Rattle.std.specs.Prelude.{◌≡◌, ◌⊎◌, ℕ, ◌∷◌, [], ◌≤◌, ◌↔◌, Option, None, IsSomeAnd}
-use Rattle.gc_check.specs.InC.{IsRefusal}
 use Rattle.gc_graph.specs.declared.command.Op.TheVariants.{Move}
 use Rattle.gc_graph.specs.declared.reply.Reply.{Reply}
 use Rattle.gc_heap.specs.ExtraRoots.{extra_slot}
 use Rattle.gc_plan.specs.State.{State, extra_roots_of}
 use Rattle.gc_plan.specs.Steps.{mutate}
 use Rattle.gc_core.specs.ExtraRoots.{clear_step}
-use Rattle.gcflip_heap_c.specs.Answers.{out_of_range, closed_handle}
-use Rattle.gcflip_heap_c.specs.Commands.{Replies}
+use Rattle.gcflip_heap_c.specs.Commands.{IsCallOr, Replies}
 use Rattle.gcflip_heap_c.specs.Replies.{reply_in_c}
 use Rattle.gcflip_heap_c.specs.Slots.{numbered_slot, NamesSlots}
 use Rattle.gcflip_heap_c.specs.declared.frame.GcflipFrame.{GcflipFrame}
@@ -35,13 +33,8 @@ HasFrame frame s = (frame.first ≤ frame.top) × (frame.top ≤ frame.end) × (
 abbrev pub NamesFrame : ℕ → ℕ → GcflipFrame → State → Type 0
 NamesFrame m slot frame s = NamesSlots m (slot ∷ []) s × HasFrame frame s
 
--- What a call on a frame returns, and the state after it, as `IsCommandCall` says of other calls. `lacks` says that the frame has no place or
--- no value for the call, which then returns `lack`.
+-- What a call on a frame returns, and the state after it. `lacks` says that the frame has no place or no value for the call, which then
+-- returns `lack`.
 pub record IsFrameCall (takes : State → Type 0) (lacks : Type 0) (lack : ℕ) (step : State → Reply × State) (old new : Option State) (answer : ℕ) : Type 0 where
-  pub done : ¬ IsRefusal answer → IsSomeAnd old (λ s. IsSomeAnd new (Replies step (λ reply. answer ≡ reply_in_c reply) s))
-  -- a refused call changes nothing
-  pub refused : IsRefusal answer → new ≡ old
-  pub answers : IsRefusal answer → (answer ≡ out_of_range) ⊎ (answer ≡ closed_handle) ⊎ (answer ≡ lack)
-  pub outside : (answer ≡ out_of_range) ↔ IsSomeAnd old (λ s. ¬ takes s)
+  pub call : IsCallOr lack takes (Replies step (λ reply. answer ≡ reply_in_c reply)) old new answer
   pub lacking : (answer ≡ lack) ↔ IsSomeAnd old (λ s. takes s × lacks)
-  pub closed : (answer ≡ closed_handle) ↔ (old ≡ None)

@@ -5,8 +5,6 @@ use Rattle.gc_graph.specs.declared.reply.Reply.{Reply}
 use Rattle.gc_graph.specs.declared.reply.Reply.TheVariants.{Full, Made, Done, NoObject, NoField, NoNumber, Saw, Yes, No}
 use Rattle.gc_graph.specs.declared.reply.View.{View}
 use Rattle.gc_graph.specs.declared.reply.View.TheVariants.{Nil, Num, Obj, RawObj}
-use Rattle.gc_heap.specs.declared.taken.Fetched.{Fetched}
-use Rattle.gc_heap.specs.declared.taken.Fetched.TheVariants as fetches
 use Rattle.gc_plan.specs.declared.step.StepReply.{StepReply}
 use Rattle.gc_plan.specs.declared.step.StepReply.TheVariants as steps
 use Rattle.gcflip_heap_c.specs.declared.reply.GcflipView.{GcflipView}
@@ -30,18 +28,17 @@ reply_in_c Yes = 21
 reply_in_c No = 22
 reply_in_c (Saw view) = seen_in_c view
 
--- the number that a `get` returns; `get` does not read an object that it found
-abbrev pub fetched_in_c : Fetched → ℕ
-fetched_in_c fetches.NoObject = reply_in_c NoObject
-fetched_in_c fetches.NoField = reply_in_c NoField
-fetched_in_c fetches.Nil = seen_in_c Nil
-fetched_in_c (fetches.Num n) = seen_in_c (Num n)
-fetched_in_c fetches.Object = seen_in_c (Obj 0 0)
+-- the number that a `get` with this reply returns; `get` does not read an object that it found
+abbrev pub got_in_c : Reply → ℕ
+got_in_c NoField = reply_in_c NoField
+got_in_c (Saw (RawObj kind len)) = seen_in_c (Obj kind len)
+got_in_c (Saw view) = seen_in_c view
+got_in_c reply = reply_in_c NoObject
 
 -- C's variable after a `get`: the number that it saw, if it saw one
-abbrev pub number_after : ℕ → Fetched → ℕ
-number_after before (fetches.Num n) = n
-number_after before fetched = before
+abbrev pub number_after : ℕ → Reply → ℕ
+number_after before (Saw (Num n)) = n
+number_after before reply = before
 
 abbrev pub view_in_c : View → GcflipView
 view_in_c Nil = record { kind = 0; count = 0; number = 0 }

@@ -4,11 +4,10 @@ ghost use Rattle.std.specs.Prelude.{◌≡◌, ◌≢◌, ◌<◌, ◌^◌, ◌�
 ghost use Rattle.gc_check.specs.InC.{no_memory, IsRefusal};
 ghost use Rattle.gc_graph.specs.Limits.{lengths};
 ghost use Rattle.gc_graph.specs.declared.command.Op.{Op};
-ghost use Rattle.gc_heap.specs.Commands.{fetched_of};
 ghost use Rattle.gc_plan.specs.Steps.{mutate};
 ghost use Rattle.gc_core.specs.CollectedHeap.{new_from_step};
 ghost use Rattle.gcflip_heap_c.specs.Commands.{IsCall, IsCommandCall, Replies};
-ghost use Rattle.gcflip_heap_c.specs.Replies.{reply_in_c, fetched_in_c, number_after, view_after};
+ghost use Rattle.gcflip_heap_c.specs.Replies.{reply_in_c, got_in_c, number_after, view_after};
 ghost use Rattle.gcflip_heap_c.specs.Slots.{NamesSlots, numbered_slot};
 
 use crate::answer::{CLOSED, NO_MEMORY, OUT_OF_RANGE};
@@ -161,7 +160,7 @@ pub extern "C" fn gcflip_heap_get(
     number: &mut u64,
 ) -> u32
     ensures call { IsCall (NamesSlots m (d ∷ s ∷ [])) (Replies (λ state. mutate state m (Op.Get (numbered_slot d) (numbered_slot s) i))
-        (λ reply. (result ≡ fetched_in_c (fetched_of reply)) × (number.new ≡ number_after number.old (fetched_of reply)))) heap.old.state heap.new.state result }
+        (λ reply. (result ≡ got_in_c reply) × (number.new ≡ number_after number.old reply))) heap.old.state heap.new.state result }
     ensures silent { IsRefusal result → number.new ≡ number.old }
     ensures memory { result ≢ no_memory }
     ensures former { heap.new.former ≡ heap.old.former }

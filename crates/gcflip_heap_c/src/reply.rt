@@ -2,7 +2,9 @@
 
 ghost use Rattle.std.specs.Prelude.{◌≡◌};
 ghost use Rattle.gc_check.specs.InC.{IsRefusal};
-ghost use Rattle.gcflip_heap_c.specs.Replies.{seen_in_c, reply_in_c, fetched_in_c, number_after, view_in_c, view_after, step_reply_in_c, pairs_after};
+ghost use Rattle.gc_graph.specs.declared.reply.Reply.{Reply};
+ghost use Rattle.gc_heap.specs.Commands.{fetched_of};
+ghost use Rattle.gcflip_heap_c.specs.Replies.{seen_in_c, reply_in_c, got_in_c, number_after, view_in_c, view_after, step_reply_in_c, pairs_after};
 
 use crate::answer::{DONE, FLIPPED, NIL, NO_FIELD, NO_OBJECT, NO_ROOM, NUMBER, OBJECT};
 use gc_copy::StepReply;
@@ -52,8 +54,8 @@ pub(crate) fn of_reply(reply: &Reply) -> u32
 
 /// Returns C's number for what a `get` saw. If it saw a number, writes that to `number`.
 pub(crate) fn of_fetched(fetched: Fetched, number: &mut u64) -> u32
-    ensures value { result ≡ fetched_in_c fetched }
-    ensures number { number.new ≡ number_after number.old fetched }
+    ensures value { (reply : Reply) → fetched ≡ fetched_of reply → result ≡ got_in_c reply }
+    ensures number { (reply : Reply) → fetched ≡ fetched_of reply → number.new ≡ number_after number.old reply }
     ensures made { ¬ IsRefusal result }
 {
     match fetched {
