@@ -1,5 +1,5 @@
 -- Steps on extra roots, and what calls on frames return, which are stacks of extra roots.
-use Rattle.std.specs.Prelude.{◌≡◌, ◌⊎◌, ℕ, ◌∷◌, [], ◌≤◌, ◌↔◌, Option, None, IsSomeAnd}
+use Rattle.std.specs.Prelude.{◌≡◌, ℕ, ◌∷◌, [], ◌≤◌, ◌↔◌, Option, IsSomeAnd}
 use Rattle.gc_graph.specs.declared.command.Op.TheVariants.{Move}
 use Rattle.gc_graph.specs.declared.reply.Reply.{Reply}
 use Rattle.gc_heap.specs.ExtraRoots.{extra_slot}
