@@ -6,7 +6,9 @@ use Rattle.gc_graph.specs.Correspond.{paired}
 use Rattle.gc_words.specs.Word.{read_value}
 use Rattle.gc_words.specs.Image.{Image, Block, block_at, is_start, graph_of}
 use Rattle.gc_words.specs.Certificate.{Certified}
+use Rattle.gc_words.specs.Fault.{AreComparable}
 use Rattle.gc_check.specs.Headline.{Replicated}
+use Rattle.gc_check.specs.Verdict.{verdict_of}
 use Rattle.gc_check.specs.declared.verdict.Verdict.{Verdict}
 use Rattle.gc_check.specs.declared.verdict.Verdict.TheVariants as verdict
 
@@ -55,3 +57,11 @@ pub record AreClosed (old new : Image) (pairs : List (ℕ × ℕ)) : Type 0 wher
 abbrev pub Decides : Verdict → Image → Image → List (ℕ × ℕ) → Type 0
 Decides (verdict.Yes count) old new pairs = Certified old new pairs × Replicated old new pairs
 Decides (verdict.Refused refusal) old new pairs = Certifiable old new → ⊥
+
+-- what `compare` returns: pairs that it inferred, and the verdict on them
+pub record IsComparison (old new : Image) (pairs : List (ℕ × ℕ)) (verdict : Verdict) : Type 0 where
+  pub forced : AreForced old new pairs
+  pub together : AreTogether old new pairs
+  pub closed : AreComparable old new → AreClosed old new pairs
+  pub verdict_is : verdict ≡ verdict_of old new pairs
+  pub decides : Decides verdict old new pairs

@@ -1,16 +1,18 @@
 //! Infers a certificate from two images alone.
 
-ghost use Rattle.std.specs.Prelude.{◌≡◌, ◌<◌, ◌≤◌, ◌^◌, ◌+◌, ◌++◌, [], drop, length, vec_capacity, Err, IfOk, IfErr, IsTrue};
+ghost use Rattle.std.specs.Prelude.{◌≡◌, ℕ, ◌<◌, ◌≤◌, ◌^◌, ◌+◌, List, ◌++◌, [], drop, length, vec_capacity, Err, IfOk, IfErr, IsTrue};
 ghost use Rattle.std.specs.Option.{option_map_or};
 ghost use Rattle.gc_words.specs.Certificate.{Certified};
 ghost use Rattle.gc_words.specs.Fault.{AreComparable, table_fault, object_faults, root_fault, ◌or_else◌};
+ghost use Rattle.gc_words.specs.Image.{Image};
 ghost use Rattle.gc_words.specs.Views.{image_of};
 ghost use Rattle.gc_words.specs.declared.refusal.Refusal.{Refusal};
-ghost use Rattle.gc_check.specs.Infer.{AreClosed, AreForced, AreTogether, Certifiable, Decides};
+ghost use Rattle.gc_check.specs.Infer.{AreClosed, AreForced, AreTogether, Certifiable, Decides, IsComparison};
 ghost use Rattle.gc_check.specs.Internal.Meetings.{risen, taken_in};
 ghost use Rattle.gc_check.specs.Internal.Tables.{HasEntries, HasTables, by_address};
 ghost use Rattle.gc_check.specs.Verdict.{pairs_of, verdict_of, IsRefusalOf};
 ghost use Rattle.gc_check.specs.declared.verdict.CheckFault.{CheckFault};
+ghost use Rattle.gc_check.specs.declared.verdict.Verdict.{Verdict};
 ghost use Rattle.gc_check.specs.declared.verdict.Verdict.TheVariants as verdicts;
 
 use crate::checks::{ComparesObjects, Sequential};
@@ -36,17 +38,8 @@ pub struct Comparison {
 /// Decides whether any certificate holds of two heap images, in the calling thread. Makes no assumption about the images or who
 /// produced them. Returns `NoMemory` if an allocation fails.
 pub fn compare(alloc: Global, old: ImageRef, new: ImageRef) -> Result<Comparison, NoMemory>
-    ensures forced { IfOk result (λ comparison.
-        AreForced (image_of old.entry) (image_of new.entry) (pairs_of comparison.pairs.items)) }
-    ensures together { IfOk result (λ comparison.
-        AreTogether (image_of old.entry) (image_of new.entry) (pairs_of comparison.pairs.items)) }
-    ensures closed { IfOk result (λ comparison. AreComparable (image_of old.entry) (image_of new.entry)
-        → AreClosed (image_of old.entry) (image_of new.entry) (pairs_of comparison.pairs.items)) }
-    ensures verdict { IfOk result (λ comparison. comparison.verdict
-        ≡ verdict_of (image_of old.entry) (image_of new.entry) (pairs_of comparison.pairs.items)) }
-    // After a yes the certificate holds, and with it the soundness theorem; after a refusal none holds.
-    ensures decides { IfOk result (λ comparison.
-        Decides comparison.verdict (image_of old.entry) (image_of new.entry) (pairs_of comparison.pairs.items)) }
+    ensures { IfOk result (λ comparison. IsComparison (image_of old.entry) (image_of new.entry)
+        (pairs_of comparison.pairs.items) comparison.verdict) }
 {
     compare_by(&Sequential, alloc, old, new)
 }
@@ -60,16 +53,8 @@ pub fn compare_by<C: ComparesObjects>(
     new: ImageRef,
 ) -> Result<Comparison, NoMemory>
     requires can { C.can_compare comparer.now }
-    ensures forced { IfOk result (λ comparison.
-        AreForced (image_of old.entry) (image_of new.entry) (pairs_of comparison.pairs.items)) }
-    ensures together { IfOk result (λ comparison.
-        AreTogether (image_of old.entry) (image_of new.entry) (pairs_of comparison.pairs.items)) }
-    ensures closed { IfOk result (λ comparison. AreComparable (image_of old.entry) (image_of new.entry)
-        → AreClosed (image_of old.entry) (image_of new.entry) (pairs_of comparison.pairs.items)) }
-    ensures verdict { IfOk result (λ comparison. comparison.verdict
-        ≡ verdict_of (image_of old.entry) (image_of new.entry) (pairs_of comparison.pairs.items)) }
-    ensures decides { IfOk result (λ comparison.
-        Decides comparison.verdict (image_of old.entry) (image_of new.entry) (pairs_of comparison.pairs.items)) }
+    ensures { IfOk result (λ comparison. IsComparison (image_of old.entry) (image_of new.entry)
+        (pairs_of comparison.pairs.items) comparison.verdict) }
 {
     let Inferred {
         old,
@@ -84,14 +69,23 @@ pub fn compare_by<C: ComparesObjects>(
         }),
         Err(CheckFault::NoMemory) => return Err(NoMemory),
     };
-    no_fault_where_certified();
-    certified_is_replicated();
+    verdicts_decide();
     let verdict = verdict_on(
         comparer,
         &Tables::of_partners(old, new, pairs.as_slice(), partners),
         alike,
     );
     Ok(Comparison { pairs, verdict })
+}
+
+// The verdict on pairs that hold if any certificate does decides whether there is one.
+#[tactic(auto, using(crate::proofs::Joined::decided))]
+fn verdicts_decide()
+    ensures { (old new : Image) (pairs : List (ℕ × ℕ)) (verdict : Verdict) → verdict ≡ verdict_of old new pairs
+        → (Certifiable old new → Certified old new pairs) → Decides verdict old new pairs }
+{
+    no_fault_where_certified();
+    certified_is_replicated();
 }
 
 // Returns the verdict on pairs whose addresses are right. `alike` says that the walk has already compared them, and the roots.

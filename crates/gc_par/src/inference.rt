@@ -1,8 +1,7 @@
-ghost use Rattle.std.specs.Prelude.{◌≡◌, IfOk};
-ghost use Rattle.gc_words.specs.Fault.{AreComparable};
+ghost use Rattle.std.specs.Prelude.{IfOk};
 ghost use Rattle.gc_words.specs.Views.{image_of};
-ghost use Rattle.gc_check.specs.Infer.{AreClosed, AreForced, AreTogether, Decides};
-ghost use Rattle.gc_check.specs.Verdict.{pairs_of, verdict_of};
+ghost use Rattle.gc_check.specs.Infer.{IsComparison};
+ghost use Rattle.gc_check.specs.Verdict.{pairs_of};
 
 use crate::parallel::Parallel;
 use gc_check::{Comparison, compare_by};
@@ -20,17 +19,8 @@ pub fn compare_par(
     old: ImageRef,
     new: ImageRef,
 ) -> Result<Comparison, NoMemory>
-    ensures forced { IfOk result (λ comparison.
-        AreForced (image_of old.entry) (image_of new.entry) (pairs_of comparison.pairs.items)) }
-    ensures together { IfOk result (λ comparison.
-        AreTogether (image_of old.entry) (image_of new.entry) (pairs_of comparison.pairs.items)) }
-    ensures closed { IfOk result (λ comparison. AreComparable (image_of old.entry) (image_of new.entry)
-        → AreClosed (image_of old.entry) (image_of new.entry) (pairs_of comparison.pairs.items)) }
-    ensures verdict { IfOk result (λ comparison. comparison.verdict
-        ≡ verdict_of (image_of old.entry) (image_of new.entry) (pairs_of comparison.pairs.items)) }
-    // After a yes the certificate holds, and with it the soundness theorem; after a refusal none holds.
-    ensures decides { IfOk result (λ comparison.
-        Decides comparison.verdict (image_of old.entry) (image_of new.entry) (pairs_of comparison.pairs.items)) }
+    ensures { IfOk result (λ comparison. IsComparison (image_of old.entry) (image_of new.entry)
+        (pairs_of comparison.pairs.items) comparison.verdict) }
 {
     compare_by(&Parallel::new(rt), alloc, old, new)
 }
