@@ -1,16 +1,12 @@
 -- The steps and the pairs of a world, whose spaces are small enough for a text.
 use Rattle.std.proofs.lemmas.Grind.{common_steps}
-use Rattle.std.proofs.Common.{◌≡◌, ℕ, ◌≤◌, Option, Some, None, sym, subst, arith}
-use Rattle.std.specs.Prelude.{⊤}
-use Rattle.std.specs.Option.{option_map, option_map_or}
-use Rattle.std.proofs.lemmas.Bool.{cond_both}
+use Rattle.std.proofs.Common.{◌≡◌, ℕ, ◌≤◌, Some, None, sym, subst, arith}
+use Rattle.std.specs.Option.{option_map}
 use Rattle.gc_graph.specs.Limits.{most_words}
 use Rattle.gc_cert.specs.Grammar.{CertifiedPair}
-use Rattle.gc_plan.specs.State.{State, Collection}
-use Rattle.gc_plan.specs.Steps.{useful_with, useful_step}
+use Rattle.gc_plan.specs.State.{State}
 use Rattle.gc_plan.specs.Runs.{IsStepWithin, IsStep, HasSizesWithin}
 use Rattle.gc_plan.specs.declared.step.Step.{Step}
-use Rattle.gc_plan.specs.declared.step.Step.TheVariants as steps
 use Rattle.gc_plan.proofs.Public.{wider_step}
 use Rattle.gc_plan.specs.declared.step.StepReply.{StepReply}
 use Rattle.gc_core.specs.Flip.{kept_after, flip_pair}
@@ -21,29 +17,6 @@ use Rattle.gc_world.proofs.HistoryStates.{sizes_within}
 -- a heap can perform the step
 pub heap_step : (mutators : ℕ) (step : Step) → IsStepWithin most_words mutators step → IsStep mutators step
 heap_step mutators step within = wider_step most_words mutators step (omega arith) within
-
--- ---- the useful step has no size
-
-abbrev HasNoSize : Step → Type 0
-HasNoSize steps.Begin = ⊤
-HasNoSize (steps.BeginSized size) = ⊥
-HasNoSize steps.Roots = ⊤
-HasNoSize steps.Scan = ⊤
-HasNoSize (steps.Apply k) = ⊤
-HasNoSize steps.Flip = ⊤
-HasNoSize steps.Drop = ⊤
-
-no_size_of : (k : Option ℕ) → HasNoSize (option_map_or steps.Apply k steps.Flip)
-no_size_of k = grind (arith, common_steps)
-
-no_size_with : (s : State) (o : Option Collection) → HasNoSize (useful_with s o)
-no_size_with s o = grind (arith, common_steps, cond_both, no_size_of)
-
--- a useful step that a heap can perform is one of a world
-pub useful_within : (s : State) (mutators : ℕ) (step : Step) → step ≡ useful_step s → IsStep mutators step → IsStepWithin most_words mutators step
-useful_within s mutators step is r = grind (arith, common_steps, no_size_with)
-
--- ---- sizes
 
 -- the spaces of a world are small
 pub world_within : (now : State) (past : Past) → IsWorld now past → HasSizesWithin most_words now
