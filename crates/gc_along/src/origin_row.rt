@@ -2,6 +2,7 @@
 
 use crate::zeros::{add_addresses, add_words, touch_addresses, touch_words};
 use gc_graph::NoMemory;
+use gc_words::{is_marked, mark};
 use std::alloc::Global;
 use std::marker::Model;
 
@@ -123,8 +124,7 @@ impl OriginRow {
         if place >= self.len {
             return 0;
         }
-        let starts = (self.starts[place / PER_WORD] >> (place % PER_WORD)) & 1 == 1;
-        if !starts {
+        if !is_marked(self.starts.as_slice(), place) {
             return 0;
         }
         self.originals[place / 2]
@@ -140,7 +140,7 @@ impl OriginRow {
         let at = self.len;
         let len = at + usize::from(fields) + 2;
         grow(&mut self.starts, &mut self.originals, words_of(len));
-        self.starts[at / PER_WORD] |= 1 << (at % PER_WORD);
+        mark(self.starts.as_mut_slice(), at);
         self.originals[at / 2] = original;
         self.len = len;
     }

@@ -1,19 +1,17 @@
 -- A walk marks the starts of a space one after the other.
 use Rattle.std.proofs.lemmas.Grind.{common_steps}
-use Rattle.std.proofs.Common.{◌≡◌, ◌≢◌, ℕ, zero, suc, ◌-◌, ◌+◌, ◌/◌, ◌%◌, ◌<◌, ◌≤◌, Bool, true, false, cond, ◌==◌, List, length, take, drop, replicate, Option, Some, None, Result, is_some, refl, sym, ◌∙◌, ap, subst, arith, []}
+use Rattle.std.proofs.Common.{◌≡◌, ◌≢◌, ℕ, zero, suc, ◌-◌, ◌+◌, ◌/◌, ◌<◌, ◌≤◌, Bool, true, false, cond, ◌==◌, List, length, take, drop, replicate, Option, Some, None, Result, is_some, refl, sym, ◌∙◌, ap, subst, arith, []}
 use Rattle.std.specs.Prelude.{slice_index, IsOk}
 use Rattle.std.specs.Result.{result_unwrap_or}
-use Rattle.std.specs.Int.{bit_at}
-use Rattle.std.proofs.lemmas.Nat.Bits.{bit_at-zero}
 use Rattle.std.proofs.lemmas.Bool.{eq-eqb, ne_eqb, cases_eq}
 use Rattle.std.proofs.lemmas.List.{length-replicate}
 use Rattle.gc_words.specs.Word.{header_in}
 use Rattle.gc_words.specs.Image.{Block, walk_words, with_front, block_in, block_at, header_of, header_at, is_start}
 use Rattle.gc_words.specs.Walking.{next_after, next_in, next_of}
-use Rattle.gc_words.proofs.Public.{walk_from, block_from, StandsIn, step, Behind, behind, has_start_from, stands_in, header_counted}
+use Rattle.gc_words.proofs.Public.{walk_from, block_from, StandsIn, step, Behind, behind, has_start_from, stands_in, header_counted, no_mark}
 use Rattle.gc_words.specs.declared.header.Header.{Header}
 use Rattle.gc_check.specs.Internal.Starts.{starts_from}
-use Rattle.gc_check.specs.Internal.Tables.{is_marked}
+use Rattle.gc_words.specs.Marks.{is_marked}
 
 -- if the walk reaches the end, the starts are the marked places and those still to come from `at` on
 pub record MarksTo (words bits : List ℕ) (at : ℕ) : Type 0 where
@@ -25,13 +23,9 @@ nothing_at zero a = refl
 nothing_at (suc n) zero = refl
 nothing_at (suc n) (suc a) = nothing_at n a
 
-no_mark : (n place : ℕ) → is_marked (replicate n 0) place ≡ false
-unfolding is_marked
-no_mark n place = ap (λ word. bit_at word (place % 64) == 1) (nothing_at n (place / 64)) ∙ ap (λ b. b == 1) (bit_at-zero (place % 64))
-
 -- nothing is marked, and the walk begins
 pub none_marked : (words bits : List ℕ) → bits ≡ replicate (length words / 64 + 1) 0 → MarksTo words bits 1
-none_marked words bits e = grind (arith, common_steps, length-replicate, no_mark)
+none_marked words bits e = grind (arith, common_steps, length-replicate, no_mark, nothing_at)
 
 -- an object is marked, and the walk continues after it
 pub marks_next : (raws : Bool) (words bits after : List ℕ) (at next : ℕ) → at < length words → next_in raws words at ≡ Some next → length after ≡ length bits → is_marked after at ≡ true

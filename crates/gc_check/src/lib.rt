@@ -6,7 +6,6 @@ mod checks;
 mod in_c;
 mod inference;
 mod laws;
-mod marks;
 mod meet;
 mod object;
 mod object_table;

@@ -1,6 +1,5 @@
-use crate::marks::{is_marked, mark};
 use crate::verdict::CheckFault;
-use gc_words::{ImageRef, Refusal, ShapeFault, next_in};
+use gc_words::{ImageRef, Refusal, ShapeFault, is_marked, mark, next_in};
 use std::alloc::{AllocError, Global};
 use std::marker::Model;
 

@@ -17,4 +17,5 @@ pub mod FirstFault
 pub mod FoundFault
 pub mod FaultPlace
 pub mod Certified
+pub mod MarkBits
 pub mod Public

@@ -2,6 +2,7 @@ pub mod Word
 pub mod Image
 pub mod Internal
 pub mod Layout
+pub mod Marks
 pub mod Spelling
 pub mod Space
 pub mod Walking

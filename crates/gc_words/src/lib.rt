@@ -6,6 +6,7 @@ mod header;
 mod image;
 mod laws;
 mod layout;
+mod marks;
 mod refusal;
 mod shape;
 mod space;
@@ -21,6 +22,7 @@ pub use laws::{
     raws_change_no_objects, shape_fault_is_first, words_are_read_back, worked_rows,
 };
 pub use layout::{field_index, lower_links};
+pub use marks::{is_marked, mark};
 pub use refusal::Refusal;
 pub use shape::{ShapeFault, next_in, walk};
 pub use space::Space;

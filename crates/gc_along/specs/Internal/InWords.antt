@@ -1,7 +1,8 @@
 -- How the rows of a standing checker stand in words.
-use Rattle.std.specs.Prelude.{◌≡◌, ℕ, ◌+◌, ◌*◌, ◌/◌, ◌%◌, ◌^◌, ◌≤◌, ◌==◌, if◌then◌else◌, Bool, false, min, suc, List, [], ◌∷◌, length, map, slice_index, slice_index_or}
-use Rattle.std.specs.Int.{bit_at}
+use Rattle.std.specs.Prelude.{◌≡◌, ℕ, ◌+◌, ◌*◌, ◌/◌, ◌%◌, ◌^◌, ◌≤◌, ◌==◌, if◌then◌else◌, false, min, suc, List, [], ◌∷◌, length, map, slice_index, slice_index_or}
 use Rattle.std.specs.List.{range_with_len}
+use Rattle.gc_graph.specs.Limits.{largest_space}
+use Rattle.gc_words.specs.Marks.{is_marked}
 
 -- ---- codes, of two bits each
 
@@ -24,7 +25,7 @@ codes_in words len = map (code_at words) (range_with_len 0 len)
 
 -- the places of so many words, as far as an address tells them
 abbrev pub room_of : ℕ → ℕ
-room_of words = min (32 * words) 4294967295
+room_of words = min (32 * words) largest_space
 
 -- there are as many words as the places take, or more, as far as an address tells their places, and all codes behind them are 0
 pub record HasCodes (words : List ℕ) (len : ℕ) : Type 0 where
@@ -52,13 +53,9 @@ pub record Origins : Type 0 where
   pub origins : List ℕ
   pub room : ℕ
 
--- a bit for each place tells whether a replica starts there, of which a word holds 64
-unfoldable pub starts_at : List ℕ → ℕ → Bool
-starts_at bits place = bit_at (slice_index bits (place / 64)) (place % 64) == 1
-
--- where a replica starts, the entry of its half of an address
+-- where a replica starts, which a mark tells, the entry of its half of an address
 unfoldable pub origin_at : List ℕ → List ℕ → ℕ → ℕ
-origin_at starts originals place = if starts_at starts place then slice_index originals (place / 2) else 0
+origin_at starts originals place = if is_marked starts place then slice_index originals (place / 2) else 0
 
 -- the originals of the first places
 unfoldable pub origins_in : List ℕ → List ℕ → ℕ → List ℕ
@@ -66,10 +63,10 @@ origins_in starts originals len = map (origin_at starts originals) (range_with_l
 
 -- the places of so many words of bits and of so many originals, as far as an address tells them
 abbrev pub room_for : ℕ → ℕ → ℕ
-room_for words originals = min (64 * min words (originals / 32)) 4294967295
+room_for words originals = min (64 * min words (originals / 32)) largest_space
 
--- there are as many words of bits as the places take, with originals for all their bits, and no replica starts at the last place or behind it
+-- there are as many words of marks as the places take, with originals for all their bits, and no replica starts at the last place or behind it
 pub record HasOrigins (starts originals : List ℕ) (len : ℕ) : Type 0 where
   pub bits : length starts ≡ (len + 63) / 64
   pub halves : length originals ≡ 32 * length starts
-  pub rest : (place : ℕ) → len ≤ place + 1 → starts_at starts place ≡ false
+  pub rest : (place : ℕ) → len ≤ place + 1 → is_marked starts place ≡ false

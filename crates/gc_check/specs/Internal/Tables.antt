@@ -1,20 +1,16 @@
 -- The contents of the checker's tables, and the faults that they find one by one.
-use Rattle.std.specs.Prelude.{◌≡◌, ℕ, ◌+◌, ◌/◌, ◌%◌, ◌<◌, ◌≤◌, ◌^◌, ◌==◌, nat_le, if◌then◌else◌, Bool, not, List, length, map, slice_index, Option, None, IsOk}
+use Rattle.std.specs.Prelude.{◌≡◌, ℕ, ◌+◌, ◌/◌, ◌<◌, ◌≤◌, ◌^◌, ◌==◌, nat_le, if◌then◌else◌, not, List, length, map, slice_index, Option, None, IsOk}
 use Rattle.std.specs.Bool.{then_some}
 use Rattle.std.specs.List.{list_any, range_with_len}
-use Rattle.std.specs.Int.{bit_at}
 use Rattle.gc_graph.specs.Correspond.{paired}
 use Rattle.gc_words.specs.Image.{Image, walk_words, is_start}
 use Rattle.gc_words.specs.Fault.{◌or_else◌, table_fault}
+use Rattle.gc_words.specs.Marks.{is_marked}
 use Rattle.gc_words.specs.declared.refusal.Refusal.{Refusal}
 use Rattle.gc_words.specs.declared.refusal.Refusal.TheVariants.{OldNotStart, NewNotStart, NotRising, Twice}
 use Rattle.gc_cert.specs.Grammar.{CertifiedPair}
 
 -- ---- a mark for each place
-
--- the mark is a bit, 64 in a word
-unfoldable pub is_marked : List ℕ → ℕ → Bool
-is_marked bits place = bit_at (slice_index bits (place / 64)) (place % 64) == 1
 
 -- exactly the places at which objects start are marked
 pub record MarksStarts (words bits : List ℕ) : Type 0 where

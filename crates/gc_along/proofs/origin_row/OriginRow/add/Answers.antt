@@ -1,5 +1,7 @@
 -- The bit and the entry of the last place are those of the replica, and no other place has another original.
-use Rattle.std.proofs.Common.{◌+◌, ◌*◌, ◌/◌, ◌%◌, ◌^◌, bit_or, set, ◌∷◌, ◌++◌, replicate, ◌∙◌, ap, arith}
+use Rattle.std.proofs.Common.{◌≡◌, length, ◌+◌, ◌/◌, set, ◌∷◌, ◌++◌, replicate, ◌∙◌, ap, arith}
+use Rattle.std.specs.Vec.{with_items}
+use Rattle.std.proofs.lemmas.List.{with_items_is}
 use Rattle.gc_along.specs.Internal.InWords.{Origins}
 use Rattle.gc_along.proofs.Halves.{IsAdded, seen_fits, added}
 use Rattle.gc_along.proofs.origin_row.OriginRow.add.Goals as goal
@@ -19,10 +21,12 @@ grow-requires c =
       room_for_halves = omega arith;
     }
 
-row : (c : After-index_mut) → IsAdded c.self.inside.starts.items c.self.inside.originals.items
-    (set c.grow.new.starts.items (c.self.inside.len / 64) (bit_or c.index_mut.result.now (1 * 2 ^ (c.self.inside.len % 64) % 18446744073709551616))) (set c.grow.new.originals.items (c.self.inside.len / 2) c.args.original)
+row : (c : After-index_mut) → IsAdded c.self.inside.starts.items c.self.inside.originals.items (with_items c.grow.new.starts c.mark.new.bits).items (set c.grow.new.originals.items (c.self.inside.len / 2) c.args.original)
     c.self.inside.len (c.self.inside.len + c.from.result + 2) c.args.fields c.args.original
-row c = added _ _ _ _ _ _ _ _ _ c.args.fields c.args.original _ c.self.invariant.0 c.self.inside.starts.ok.0 c.self.inside.originals.ok.0 c.grow.ensures.starts c.grow.ensures.originals (omega (arith, c.from.ensures)) c.words_of.ensures c.index_mut.ensures.value
+row c =
+    let long : length c.mark.new.bits ≡ c.grow.new.starts.len = omega (arith, c.mark.ensures.len, c.as_mut_slice.ensures.len, c.grow.new.starts.ok.0) in
+    added _ _ _ _ _ _ _ _ _ _ _ c.args.fields c.args.original c.self.invariant.0 c.self.inside.starts.ok.0 c.self.inside.originals.ok.0 (c.as_mut_slice.ensures.value ∙ c.grow.ensures.starts) c.grow.ensures.originals (omega (arith, c.from.ensures)) c.words_of.ensures
+    c.mark.ensures.len c.mark.ensures.marked c.mark.ensures.others (with_items_is c.grow.new.starts c.mark.new.bits long)
 
 pub invariant_of-self : goal.invariant_of-self
 invariant_of-self c = (
