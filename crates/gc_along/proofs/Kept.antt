@@ -5,7 +5,7 @@ use Rattle.std.specs.Prelude.{if◌then◌else◌}
 use Rattle.std.specs.List.{sum_by}
 use Rattle.std.proofs.lemmas.Bool.{cases_eq, cases_lt}
 use Rattle.std.proofs.lemmas.List.{get_or-set_other, get_or-set_same, length-replicate, length-map, map-append, get_or-map, get_or_past, get_or_append_left}
-use Rattle.std.proofs.lemmas.List.Sums.{sum_by-set, sum_by-append}
+use Rattle.std.proofs.lemmas.List.Sums.{sum_by-set, sum_by-append, count_by-le-length}
 use Rattle.gc_words.specs.Layout.{fields_place}
 use Rattle.gc_words.specs.declared.header.Header.{Header}
 use Rattle.gc_along.specs.Watch.{bit}
@@ -14,7 +14,6 @@ use Rattle.gc_along.specs.Internal.Tables.{IsLostOrKept}
 use Rattle.gc_along.specs.Events.{code_of, object_codes, with_due, replica_added, IsClaim, IsCopy, Placed, HasNoReplica}
 use Rattle.gc_along.specs.Claims.{OwesNone}
 use Rattle.gc_along.proofs.Codes.{code_set}
-use Rattle.gc_along.proofs.Rows.{at_most}
 
 -- what is not lost
 pub kept_of : (t : Tables) → IsLostOrKept t → t.lost ≡ false → IsKept t
@@ -23,7 +22,7 @@ kept_of t h found = grind (arith, common_steps)
 -- ---- the count
 
 pub few_due : (codes : List ℕ) → missing_in codes ≤ length codes
-few_due codes = let m : sum_by bit (due_in codes) ≤ length (due_in codes) = at_most (due_in codes) in omega (arith, length-map codes (λ code. code == 3))
+few_due codes = let m : missing_in codes ≤ length (due_in codes) = count_by-le-length (λ due. due) (due_in codes) in omega (arith, length-map codes (λ code. code == 3))
 
 pub code_is : (due : Bool) → (code_of due == 3) ≡ due
 code_is due = grind (arith, common_steps)

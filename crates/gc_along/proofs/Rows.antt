@@ -1,18 +1,8 @@
--- There are at most as many marks as places, and rows of roots that are alike before their nils are alike whole.
+-- Rows of roots that are alike before their nils are alike whole.
 use Rattle.std.proofs.lemmas.Grind.{common_steps}
-use Rattle.std.proofs.Common.{◌≡◌, ℕ, zero, suc, ◌+◌, ◌<◌, ◌≤◌, Bool, true, false, List, [], ◌∷◌, ◌++◌, length, replicate, get_or, ◌∙◌, ap, arith, rules}
+use Rattle.std.proofs.Common.{◌≡◌, ℕ, zero, suc, ◌<◌, ◌≤◌, Bool, true, List, [], ◌∷◌, ◌++◌, length, replicate, get_or, arith, rules}
 use Rattle.std.specs.Prelude.{IsTrue}
-use Rattle.std.specs.List.{sum_by, AllZip}
-use Rattle.std.proofs.lemmas.List.Sums.{sum_by-append}
-use Rattle.gc_along.specs.Watch.{bit}
-
-step : (d : Bool) (ds : List Bool) → sum_by bit (d ∷ ds) ≡ bit d + sum_by bit ds
-step d ds = sum_by-append bit (d ∷ []) ds ∙ ap (λ n. n + sum_by bit ds) (let z : 0 + bit d ≡ bit d = omega arith in z)
-
-pub at_most : (ds : List Bool) → sum_by bit ds ≤ length ds
-at_most [] = omega arith
-at_most (true ∷ ds) = let ih : sum_by bit ds ≤ length ds = at_most ds in let s : sum_by bit (true ∷ ds) ≡ 1 + sum_by bit ds = step true ds in omega arith
-at_most (false ∷ ds) = let ih : sum_by bit ds ≤ length ds = at_most ds in let s : sum_by bit (false ∷ ds) ≡ 0 + sum_by bit ds = step false ds in omega arith
+use Rattle.std.specs.List.{AllZip}
 
 -- behind some roots and the nils that follow them, one reads nil too
 nil_behind : (ws : List ℕ) (n i : ℕ) → length ws ≤ i → ◌≡◌ {A = ℕ} (get_or (ws ++ replicate n 0) i 0) 0

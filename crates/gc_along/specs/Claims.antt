@@ -1,5 +1,6 @@
 -- What has to be true of what a checker is told, so that it does not become lost.
 use Rattle.std.specs.Prelude.{◌≡◌, ◌≤◌, ◌<◌, ◌+◌, ◌%◌, ◌^◌, ℕ, IsFalse, false, List, length, slice_index, slice_index_or}
+use Rattle.gc_graph.specs.Limits.{largest_space}
 use Rattle.gc_words.specs.Layout.{field_place, fields_place, link_place}
 use Rattle.gc_words.specs.declared.header.Header.{Header}
 use Rattle.gc_along.specs.Outline.{ImageOutline}
@@ -15,7 +16,7 @@ CanMake old t = length t.olds < length old → (h : Header) × IsNext (length t.
 -- if the new space has an object more, its claim is true, and there is room for it
 abbrev pub CanPlaceNext : List ℕ → List ℕ → Tables → Type 0
 CanPlaceNext old new t = length t.news < length new
-    → (h : Header) × (a : ℕ) × IsClaim old new t h a × (a < 4294967295) × (length t.news + (h.len + 2) ≤ t.room)
+    → (h : Header) × (a : ℕ) × IsClaim old new t h a × (a < largest_space) × (length t.news + (h.len + 2) ≤ t.room)
 
 -- a raw object that is a copy of its original owes nothing
 abbrev pub OwesNone : List ℕ → List ℕ → Tables → Tables → Type 0
@@ -31,7 +32,7 @@ pub record IsLinked (old : List ℕ) (t : Tables) (a b : ℕ) : Type 0 where
   pub low : 1 ≤ a
   pub within : link_place a < length old
   pub link : slice_index old (link_place a) % 2 ^ 32 ≡ b
-  pub high : b < 4294967295
+  pub high : b < largest_space
   pub origin : slice_index_or t.origins b 0 ≡ a
 
 -- if the object at a has a replica, its link leads there, and both have field i

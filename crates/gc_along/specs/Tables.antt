@@ -1,10 +1,10 @@
 -- The tables of a standing checker, and the watch that they hold.
-use Rattle.std.specs.Prelude.{◌≡◌, ◌≤◌, ℕ, Bool, ◌==◌, List, length, map, slice_index_or, IsFalse}
-use Rattle.std.specs.List.{sum_by}
+use Rattle.std.specs.Prelude.{◌≡◌, ◌≤◌, ℕ, Bool, ◌==◌, List, length, count_by, map, slice_index_or, IsFalse}
+use Rattle.gc_graph.specs.Limits.{largest_space}
 use Rattle.gc_words.specs.Image.{Image}
 use Rattle.gc_words.specs.Certificate.{Certified}
 use Rattle.gc_along.specs.Outline.{ImageOutline, outline_of}
-use Rattle.gc_along.specs.Watch.{Watch, Watches, bit}
+use Rattle.gc_along.specs.Watch.{Watch, Watches}
 use Rattle.gc_along.specs.Origins.{pairs_in}
 
 -- By old place, as far as the walk has come: 0, 1 for a start, 2 for one whose replica was seen. By new place: 0, 1 for a
@@ -23,13 +23,13 @@ due_in codes = map (λ code. code == 3) codes
 
 -- how many are due
 abbrev pub missing_in : List ℕ → ℕ
-missing_in codes = sum_by bit (due_in codes)
+missing_in codes = count_by (λ due. due) (due_in codes)
 
 -- The rows agree: the count is right, there is an original or 0 for each new place, and no original has two replicas, since
 -- its mark tells that one was seen.
 pub record IsKept (t : Tables) : Type 0 where
   pub counted : t.missing ≡ missing_in t.news
-  pub few : length t.news ≤ 4294967295
+  pub few : length t.news ≤ largest_space
   pub rows : length t.origins ≡ length t.news
   pub taken : (b : ℕ) → 1 ≤ slice_index_or t.origins b 0 → slice_index_or t.olds (slice_index_or t.origins b 0) 0 ≡ 2
 

@@ -1,6 +1,7 @@
 -- What a checker that goes along with a collection has seen of two spaces, and what is known of their words by it.
-use Rattle.std.specs.Prelude.{◌≡◌, ◌≢◌, ◌⊎◌, ℕ, ◌<◌, ◌≤◌, ◌+◌, Bool, true, false, not, List, ◌∷◌, [], ◌++◌, length, take, replicate, slice_index, slice_get, slice_set, slice_index_or, Option, Some, None, IsTrue}
-use Rattle.std.specs.List.{All, AllPairs, AllZip, sum_by}
+use Rattle.std.specs.Prelude.{◌≡◌, ◌≢◌, ◌⊎◌, ℕ, ◌<◌, ◌≤◌, ◌+◌, Bool, true, false, not, if◌then◌else◌, List, ◌∷◌, [], ◌++◌, length, take, replicate, slice_index, slice_get, slice_set, slice_index_or, Option, Some, None, IsTrue}
+use Rattle.std.specs.List.{All, AllPairs, AllZip, count_by}
+use Rattle.gc_graph.specs.Limits.{largest_space}
 use Rattle.gc_words.specs.Word.{read_header, words_correspond, field_words_correspond}
 use Rattle.gc_words.specs.Image.{Block, block_at}
 use Rattle.gc_words.specs.Space.{SpaceWords, IsSpace}
@@ -20,12 +21,11 @@ abbrev pub is_due_at : Watch → ℕ → Bool
 is_due_at w place = slice_index_or w.due place false
 
 abbrev pub bit : Bool → ℕ
-bit true = 1
-bit false = 0
+bit due = if due then 1 else 0
 
 -- how many places are due
 abbrev pub due_count : Watch → ℕ
-due_count w = sum_by bit w.due
+due_count w = count_by (λ due. due) w.due
 
 -- field i of the replica at place b
 abbrev pub is_due : Watch → ℕ → ℕ → Bool
@@ -39,7 +39,7 @@ mark w place due = record w { due = slice_set w.due place due }
 
 -- the words up to a place, as a space of their own
 abbrev pub front : ℕ → List ℕ → SpaceWords
-front n words = record { size = 4294967295; words = take n words }
+front n words = record { size = largest_space; words = take n words }
 
 -- a walk has come to this place
 pub record IsSeen (n : ℕ) (words : List ℕ) : Type 0 where
@@ -78,7 +78,7 @@ pub record HasSeenAll (old new : List ℕ) (w : Watch) : Type 0 where
 pub record IsSized (outline : ImageOutline) : Type 0 where
   pub low : 1 ≤ outline.end
   pub high : outline.end ≤ outline.size
-  pub size : outline.size ≤ 4294967295
+  pub size : outline.size ≤ largest_space
   pub count : outline.count ≡ outline.end
   pub raws : outline.raws ≡ true
 
@@ -107,7 +107,7 @@ looked w h b i v u = mark w (field_place b i) (not (field_words_correspond h w.p
 pub record IsNext (n : ℕ) (words : List ℕ) (h : Header) : Type 0 where
   pub header : read_header (slice_index words n) ≡ Some h
   pub within : n + (h.len + 2) ≤ length words
-  pub bound : n + (h.len + 2) ≤ 4294967295
+  pub bound : n + (h.len + 2) ≤ largest_space
 
 -- the walks gone on by one object
 abbrev pub old_walked : Watch → Header → Watch

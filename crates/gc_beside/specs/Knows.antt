@@ -1,5 +1,5 @@
 -- A standing checker beside a collected heap that is never lost: what its tables know.
-use Rattle.std.specs.Prelude.{◌≡◌, ◌≢◌, ◌≤◌, ◌<◌, ℕ, Bool, List, length, Option, Some, None, slice_index_or, IsTrue}
+use Rattle.std.specs.Prelude.{◌≡◌, ◌≢◌, ◌≤◌, ◌<◌, ℕ, Bool, List, length, Option, unwrap_or, slice_index_or, IsTrue}
 use Rattle.gc_graph.specs.Graph.{Object}
 use Rattle.gc_words.specs.Layout.{field_place}
 use Rattle.gc_plan.specs.State.{Replica, Collection, State}
@@ -38,8 +38,7 @@ pub record Knows (s : State) (c : Collection) (t : Tables) : Type 0 where
 
 -- the open collection, or one that is just begun
 abbrev pub open_or_fresh : State → Option Collection → Collection
-open_or_fresh s None = fresh_collection s.mutators 1
-open_or_fresh s (Some c) = c
+open_or_fresh s collection = unwrap_or collection (fresh_collection s.mutators 1)
 
 abbrev pub KnowsAll : State → Tables → Type 0
 KnowsAll s t = Knows s (open_or_fresh s s.collection) t

@@ -5,7 +5,7 @@ use Rattle.std.proofs.lemmas.Grind.{common_steps}
 use Rattle.std.proofs.Common.{◌≡◌, ◌≢◌, ℕ, zero, suc, ◌+◌, ◌<◌, ◌≤◌, ◌^◌, Bool, true, false, cond, not, ◌==◌, List, [], ◌∷◌, ◌++◌, length, map, reverse, replicate, take, drop, get_or, set, Option, Some, None, refl, sym, ◌∙◌, ap, subst, inl, inr, arith, length-set, get_or-set_same, get_or-set_other}
 use Rattle.std.specs.Prelude.{slice_get, slice_index, vec_capacity, is_some, IsTrue}
 use Rattle.std.proofs.lemmas.Bool.{cases_order, cases_eq}
-use Rattle.gc_graph.specs.Graph.{Value, Nil, Num, Ref, Object, Graph, lookup, field_of, follow, at_path, name_of, Reachable}
+use Rattle.gc_graph.specs.Graph.{Value, Nil, Num, Ref, Graph, lookup, fields_of, field_of, follow, at_path, name_of, Reachable}
 use Rattle.gc_words.specs.Word.{value_of, field_value}
 use Rattle.gc_words.specs.Image.{Image, Block, blocks, block_at, header_of, header_at, is_start, graph_of}
 use Rattle.gc_words.specs.declared.header.Header.{Header}
@@ -13,7 +13,7 @@ use Rattle.gc_words.proofs.Public.{object_option, lookup_of_blocks}
 use Rattle.gc_check.specs.Internal.Starts.{starts_from}
 use Rattle.gc_check.specs.Internal.Meetings.{taken_in}
 use Rattle.gc_check.specs.Internal.Tables.{HasEntries}
-use Rattle.gc_check.specs.Internal.Visits.{fields_of, values_of, RefersAt, references, IsNode, along, roots_visit, visit_at, IsFoundBy, IsFound, AreVisits, Visited, LeadsToVisits, AreAllVisited, AreWithin, Continues, HasReferences, NoneRefers, IsFirstReference, HoldsVisits, visit_numbers, HoldsWalk}
+use Rattle.gc_check.specs.Internal.Visits.{values_of, RefersAt, references, IsNode, along, roots_visit, visit_at, IsFoundBy, IsFound, AreVisits, Visited, LeadsToVisits, AreAllVisited, AreWithin, Continues, HasReferences, NoneRefers, IsFirstReference, HoldsVisits, visit_numbers, HoldsWalk}
 use Rattle.gc_check.specs.declared.visits.Node.{Node}
 use Rattle.gc_check.specs.declared.visits.Node.TheVariants as node
 use Rattle.gc_check.specs.declared.visits.Visit.{Visit}

@@ -1,6 +1,6 @@
 -- Two words meet, and perhaps they are one more pair.
 use Rattle.std.proofs.lemmas.Grind.{common_steps}
-use Rattle.std.proofs.Common.{◌≡◌, ℕ, zero, suc, ◌<◌, ◌≤◌, ◌+◌, Bool, true, cond, not, ◌&&◌, ◌||◌, ◌==◌, List, [], ◌∷◌, ◌++◌, length, replicate, get_or, set, refl, sym, ◌∙◌, ap, subst, arith, length-set}
+use Rattle.std.proofs.Common.{◌≡◌, ℕ, suc, ◌<◌, ◌≤◌, ◌+◌, Bool, true, cond, not, ◌&&◌, ◌||◌, ◌==◌, List, [], ◌∷◌, ◌++◌, length, replicate, get_or, set, refl, sym, ◌∙◌, ap, subst, arith, length-set}
 use Rattle.std.specs.Prelude.{slice_index, vec_capacity}
 use Rattle.std.specs.List.{list_any}
 use Rattle.std.proofs.lemmas.Bool.{eqb-true, eq-eqb, ne_eqb, and_parts, cases_Bool, both_ways}
@@ -13,6 +13,8 @@ use Rattle.gc_check.specs.Internal.Starts.{starts_from}
 use Rattle.gc_check.specs.Internal.Tables.{HasEntries}
 use Rattle.gc_check.specs.Internal.Meetings.{is_free, swapped, taken_in, partners_in, originals_in, HoldsFound}
 use Rattle.std.proofs.lemmas.List.{get_or-map, length-append}
+use Rattle.std.proofs.lemmas.List.Sums.{sum_by-cons, sum_by-set, count_by-le-length}
+use Rattle.std.proofs.lemmas.List.Folds.{sum_by-replicate}
 use Rattle.gc_check.specs.Pairs.{pair_at}
 use Rattle.gc_check.specs.Verdict.{pairs_of}
 use Rattle.gc_check.proofs.StartMarks.{low_start, start_within}
@@ -63,26 +65,20 @@ has_original old new f a b held s t e = grind (arith, common_steps, old_entry, t
 
 -- ---- the number of pairs
 
+abbrev taken : ℕ → ℕ
+taken entry = cond (not (entry == 0)) 1 0
+
 pub taken_few : (row : List ℕ) → taken_in row ≤ length row
-taken_few [] = omega arith
-taken_few (entry ∷ row) = from (entry == 0) (taken_few row)
-  where
-    from : (b : Bool) → taken_in row ≤ length row → cond b (taken_in row) (suc (taken_in row)) ≤ suc (length row)
-    from b h = grind (arith, common_steps)
+taken_few row = count_by-le-length (λ entry. not (entry == 0)) row
 
 pub taken_one : (row : List ℕ) (k x : ℕ) → k < length row → slice_index row k ≡ 0 → 1 ≤ x → taken_in (set row k x) ≡ suc (taken_in row)
-taken_one [] k x inside free some = absurd (omega arith)
-taken_one (entry ∷ row) zero x inside free some =
-    ap (λ b. cond b (taken_in row) (suc (taken_in row))) (ne_eqb x 0 (λ e. omega arith))
-    ∙ ap suc (sym (ap (λ b. cond b (taken_in row) (suc (taken_in row))) (eq-eqb entry 0 free)))
-taken_one (entry ∷ row) (suc k) x inside free some = from (entry == 0) (taken_one row k x (omega arith) free some)
-  where
-    from : (b : Bool) → taken_in (set row k x) ≡ suc (taken_in row) → cond b (taken_in (set row k x)) (suc (taken_in (set row k x))) ≡ suc (cond b (taken_in row) (suc (taken_in row)))
-    from b e = grind (arith, common_steps)
+taken_one row k x inside free some =
+    let now = sum_by-set taken row k x 0 inside in
+    let now_taken : taken x ≡ 1 = ap (λ b. cond (not b) 1 0) (ne_eqb x 0 (λ e. omega arith)) in
+    omega (arith, ap taken free)
 
 pub taken_none : (n : ℕ) → taken_in (replicate n 0) ≡ 0
-taken_none zero = refl
-taken_none (suc n) = taken_none n
+taken_none n = let all = sum_by-replicate taken n 0 in omega arith
 
 -- ---- room for a pair of each old object
 
@@ -92,8 +88,8 @@ StandAtStarts words at row = (k : ℕ) → not (slice_index row k == 0) ≡ true
 
 pub few_taken : (words : List ℕ) (at : ℕ) (row : List ℕ) → StandAtStarts words at row → taken_in row ≤ starts_from words at (length row)
 few_taken words at [] h = omega arith
-few_taken words at (entry ∷ row) h =
-    one (entry == 0) (is_start words at) (λ some. subst (λ place. is_start words place ≡ true) here (h 0 some)) (few_taken words (suc at) row (λ k some. subst (λ place. is_start words place ≡ true) (after k) (h (suc k) some)))
+few_taken words at (entry ∷ row) h = subst (λ n. n ≤ starts_from words at (suc (length row))) (sym (sum_by-cons taken entry row))
+    (one (entry == 0) (is_start words at) (λ some. subst (λ place. is_start words place ≡ true) here (h 0 some)) (few_taken words (suc at) row (λ k some. subst (λ place. is_start words place ≡ true) (after k) (h (suc k) some))))
   where
     here : at + 0 ≡ at
     here = omega arith
@@ -102,7 +98,7 @@ few_taken words at (entry ∷ row) h =
     after k = omega arith
 
     one : (b start : Bool) → (not b ≡ true → start ≡ true) → taken_in row ≤ starts_from words (suc at) (length row)
-        → cond b (taken_in row) (suc (taken_in row)) ≤ cond start (suc (starts_from words (suc at) (length row))) (starts_from words (suc at) (length row))
+        → cond (not b) 1 0 + taken_in row ≤ cond start (suc (starts_from words (suc at) (length row))) (starts_from words (suc at) (length row))
     one b start e few = grind (arith, common_steps)
 
 -- the entries after one more, at a start

@@ -3,8 +3,8 @@ use Rattle.std.proofs.lemmas.Grind.{common_steps}
 use Rattle.std.proofs.Common.{◌≡◌, ℕ, suc, zero, true, List, [], ◌∷◌, length, take, Option, Some, None, refl, ap, subst, arith}
 use Rattle.std.specs.Prelude.{slice_get}
 use Rattle.std.specs.List.{AllZip}
-use Rattle.gc_graph.specs.Graph.{Value, Ref, Graph, object_of, field_of, follow, at_path, Reachable, fresh_name}
-use Rattle.gc_graph.specs.Correspond.{paired, correspond, Agree, Corresponding}
+use Rattle.gc_graph.specs.Graph.{Value, Ref, Object, Graph, object_of, field_of, follow, at_path, Reachable, fresh_name}
+use Rattle.gc_graph.specs.Correspond.{paired, correspond, Agree, EqualFieldByField, Corresponding}
 use Rattle.gc_graph.specs.Machine.{Roomy, roomy_step}
 use Rattle.gc_graph.specs.Runs.{replies}
 use Rattle.gc_graph.specs.declared.command.Op.{Op}
@@ -17,8 +17,13 @@ module _ (pairs : List (ℕ × ℕ)) (g h : Graph) (c : Corresponding pairs g h)
   get_agrees (v ∷ vs) (w ∷ ws) zero z = z.0
   get_agrees (v ∷ vs) (w ∷ ws) (suc i) z = get_agrees vs ws i z.1
 
+  found_agrees : (o q : Option Object) (i : ℕ) → EqualFieldByField pairs o q → Agree pairs (field_of o i) (field_of q i)
+  found_agrees None q i e = absurd e
+  found_agrees (Some o) None i e = absurd e
+  found_agrees (Some o) (Some q) i e = get_agrees o.fields q.fields i e.3
+
   field_agrees : (v w : Value) (i : ℕ) → correspond pairs v w ≡ true → Agree pairs (field_of (object_of g.objects v) i) (field_of (object_of h.objects w) i)
-  field_agrees v w i e = grind (arith, common_steps, get_agrees)
+  field_agrees v w i e = grind (arith, common_steps, found_agrees)
 
   follow_agrees : (fields : List ℕ) (v w : Option Value) → Agree pairs v w → Agree pairs (follow g.objects v fields) (follow h.objects w fields)
   follow_agrees fields None None a = tt

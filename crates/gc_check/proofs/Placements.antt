@@ -1,6 +1,6 @@
 -- What follows if the images and the addresses of the pairs have no fault.
 use Rattle.std.proofs.lemmas.Grind.{common_steps}
-use Rattle.std.proofs.Common.{◌≡◌, ℕ, zero, suc, ◌<◌, true, false, cond, ap, not, ◌==◌, List, [], ◌∷◌, length, get_or, take, Some, None, refl, subst, arith, sym, ◌∙◌}
+use Rattle.std.proofs.Common.{◌≡◌, ℕ, zero, suc, ◌<◌, true, false, cond, ap, ◌==◌, List, [], ◌∷◌, length, get_or, take, Some, None, refl, subst, arith, sym, ◌∙◌}
 use Rattle.std.specs.Prelude.{IsOk}
 use Rattle.std.specs.Option.{option_map}
 use Rattle.std.proofs.lemmas.Bool.{eqb-true, eq-eqb, not-false}

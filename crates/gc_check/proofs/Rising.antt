@@ -4,6 +4,7 @@ use Rattle.std.proofs.Common.{◌≡◌, ℕ, ◌+◌, ◌*◌, List, drop, ◌�
 use Rattle.std.specs.Prelude.{slice_index}
 use Rattle.std.proofs.lemmas.Bool.{eq-eqb, cases_lt}
 use Rattle.std.proofs.lemmas.List.{drop_all, drop_more}
+use Rattle.std.proofs.lemmas.List.Sums.{sum_by-cons}
 use Rattle.gc_check.specs.Internal.Meetings.{risen, taken_in}
 use Rattle.gc_check.specs.Internal.Tables.{HasEntries, by_address}
 use Rattle.gc_check.proofs.ByAddress.{zero_at}
@@ -14,7 +15,7 @@ pub record Passed (row : List ℕ) (place next : ℕ) : Type 0 where
   pub taken_is : taken_in (drop place row) ≡ taken_in (drop next row)
 
 passed : (row : List ℕ) (place : ℕ) → slice_index row place ≡ 0 → Passed row place (place + 1)
-passed row place none = grind (arith, common_steps, cases_lt, drop_more, eq-eqb, drop_all)
+passed row place none = grind (arith, common_steps, cases_lt, drop_more, sum_by-cons, eq-eqb, drop_all)
 
 -- an entry that is 0 has no pair at either place
 pub both_passed : (words entries : List ℕ) (half : ℕ) → HasEntries words entries → slice_index entries half ≡ 0 → Passed (by_address words entries) (2 * half) (2 * (half + 1))

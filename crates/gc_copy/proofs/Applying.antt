@@ -1,6 +1,6 @@
 -- The code that applies a log's oldest entry, and the test whether a collection is ready.
 use Rattle.std.proofs.lemmas.Grind.{common_steps}
-use Rattle.std.proofs.Common.{◌≡◌, inl, ℕ, suc, Bool, true, false, ◌&&◌, not, List, [], ◌∷◌, drop, length, Option, Some, None, is_some, refl, ap, sym, ◌∙◌, subst, length-set, arith}
+use Rattle.std.proofs.Common.{◌≡◌, inl, ℕ, ◌+◌, Bool, true, false, ◌&&◌, not, List, [], ◌∷◌, drop, length, Option, Some, None, is_some, refl, ap, sym, ◌∙◌, subst, length-set, arith}
 use Rattle.std.specs.Prelude.{IsSome, slice_get, slice_set}
 use Rattle.std.specs.List.{list_all}
 use Rattle.std.specs.Option.{option_map, unwrap_or}
@@ -9,7 +9,6 @@ use Rattle.gc_words.specs.Image.{field_at}
 use Rattle.gc_heap.specs.Heap.{HeapWords, graph_in}
 use Rattle.gc_plan.specs.State.{Collection, moved}
 use Rattle.gc_plan.specs.Steps.{log_at, with_log, is_empty, first_log, with_replica, apply_entry, apply_log, if_room, scan_done, roots_done, is_ready, write_replica}
-use Rattle.gc_copy.specs.Internal.Entries.{oldest}
 use Rattle.gc_copy.specs.Words.{Log, CollectionWords, IsCollection, collection_in, open_state, BelongsTo}
 use Rattle.gc_copy.specs.Internal.Words.{KeepsGraph, KeepsRest}
 use Rattle.gc_plan.specs.declared.step.Step.TheVariants as steps
@@ -38,7 +37,7 @@ module _ (heap : HeapWords) (x : CollectionWords) (m : ℕ) (log : Log) (there :
   entries_are : log_at (collection_in x) m ≡ log.entries
   entries_are = ap (λ (o : Option (List (ℕ × ℕ))). unwrap_or o []) (entries_at x.logs m log there)
 
-  module _ (entry : ℕ × ℕ) (first : Some entry ≡ oldest log.entries) where
+  module _ (entry : ℕ × ℕ) (first : Some entry ≡ slice_get log.entries 0) where
     entries_split : log_at (collection_in x) m ≡ entry ∷ drop 1 log.entries
     entries_split = grind (arith, common_steps, entries_are)
 
@@ -71,7 +70,7 @@ module _ (heap : HeapWords) (x : CollectionWords) (m : ℕ) (log : Log) (there :
 -- all logs are empty exactly if there is no first log with an entry
 none_first : (k : ℕ) (logs : List (List (ℕ × ℕ))) (b : Bool) → is_some (first_log k logs) ≡ b → list_all is_empty logs ≡ not b
 none_first k [] b e = ap not e
-none_first k (log ∷ logs) b e = grind (arith, common_steps, is_some, none_first (suc k) logs b)
+none_first k (log ∷ logs) b e = grind (arith, common_steps, is_some, none_first (k + 1) logs b)
 
 pub ready_where : (c : Collection) (g : Graph) (o : Option ℕ) (r : Bool) → o ≡ first_log 0 c.logs → is_some o ≡ false → scan_done c ≡ true → r ≡ roots_done c g → r ≡ is_ready c g
 ready_where c g o r first none scan roots = grind (arith, common_steps, none_first)

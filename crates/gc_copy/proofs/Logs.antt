@@ -1,12 +1,12 @@
 -- An entry that is noted or dropped in one log is noted or dropped in the collection.
-use Rattle.std.proofs.Math.Seq.{map-set_same, drop-cons}
+use Rattle.std.proofs.Math.Seq.{map-set_same}
 use Rattle.std.proofs.lemmas.Grind.{common_steps}
-use Rattle.std.proofs.Common.{◌≡◌, ℕ, suc, ◌+◌, ◌<◌, ◌≤◌, true, false, List, [], ◌∷◌, ◌++◌, map, drop, length, get_or, Option, Some, ap, sym, ◌∙◌, subst, arith}
+use Rattle.std.proofs.Common.{◌≡◌, ℕ, ◌+◌, ◌<◌, ◌≤◌, true, false, cond, not, List, [], ◌∷◌, ◌++◌, map, drop, length, get_or, Option, Some, ap, sym, ◌∙◌, subst, arith}
 use Rattle.std.specs.Prelude.{slice_get, slice_set}
 use Rattle.std.proofs.lemmas.Option.{slice_get-get_or, slice_get-map, get_or_from_slice_get, slice_get_within}
 use Rattle.std.specs.Option.{option_map}
-use Rattle.std.proofs.lemmas.Bool.{cond-true, cond-false, cases_eq}
-use Rattle.std.proofs.lemmas.List.{length-map, map-set}
+use Rattle.std.proofs.lemmas.Bool.{cond-false, cases_eq}
+use Rattle.std.proofs.lemmas.List.{length-map, map-set, drop_more}
 use Rattle.gc_heap.specs.Heap.{HeapWords, graph_in}
 use Rattle.gc_plan.specs.Steps.{log_at, with_log, is_empty, first_log}
 use Rattle.gc_plan.specs.Belonging.{HasField, Belongs}
@@ -66,14 +66,12 @@ first_from logs m = first_log m (map entries_of (drop m logs))
 pub there_in : (c outer : CollectionWords) (m : ℕ) (log : Log) → c ≡ outer → m < length outer.logs → log ≡ get_or c.logs m log → slice_get c.logs m ≡ Some log
 there_in c outer m log seen less is = grind (arith, common_steps, slice_get-get_or)
 
-drop_at : (logs : List Log) (m : ℕ) (log : Log) → slice_get logs m ≡ Some log → drop m logs ≡ log ∷ drop (suc m) logs
-drop_at logs m log e = drop-cons logs m log (slice_get_within logs m log e) ∙ ap (λ l. l ∷ drop (suc m) logs) (get_or_from_slice_get logs m log log e)
+drop_at : (logs : List Log) (m : ℕ) (log : Log) → slice_get logs m ≡ Some log → drop m logs ≡ log ∷ drop (m + 1) logs
+drop_at logs m log e = drop_more logs m log (slice_get_within logs m log e) ∙ ap (λ l. l ∷ drop (m + 1) logs) (get_or_from_slice_get logs m log log e)
 
 pub first_here : (c : CollectionWords) (m : ℕ) (log : Log) → slice_get c.logs m ≡ Some log → is_empty log.entries ≡ false → first_from c.logs m ≡ Some m
 first_here c m log there full = grind (arith, common_steps, drop_at, cond-false)
 
 pub first_later : (c : CollectionWords) (m : ℕ) (log : Log) → slice_get c.logs m ≡ Some log → is_empty log.entries ≡ true → first_from c.logs (m + 1) ≡ first_from c.logs m
 first_later c m log there empty =
-    ap (first_from c.logs) (let e : m + 1 ≡ suc m = omega arith in e)
-    ∙ sym (ap (λ ls. first_log m (map entries_of ls)) (drop_at c.logs m log there)
-    ∙ cond-true (is_empty log.entries) (first_log (suc m) (map entries_of (drop (suc m) c.logs))) (Some m) empty)
+    sym (ap (λ ls. first_log m (map entries_of ls)) (drop_at c.logs m log there) ∙ ap (λ b. cond (not b) (Some m) (first_from c.logs (m + 1))) empty)

@@ -12,7 +12,6 @@ use Rattle.std.specs.List.{HoldsAt}
 use Rattle.gc_plan.specs.Steps.{is_empty}
 use Rattle.gc_copy.specs.declared.log.LogEntry.{LogEntry}
 use Rattle.gc_copy.specs.Entries.{entry_in}
-use Rattle.gc_copy.specs.Internal.Entries.{oldest}
 use Rattle.gc_copy.specs.Internal.Segments.{segment, joined, AreSegments, IsLog}
 
 slice_get_before : {X : Type 0} (xs ys : List X) (k : ℕ) → k < length xs → slice_get (xs ++ ys) k ≡ slice_get xs k
@@ -97,9 +96,6 @@ module _ {Z : Type 0} where
 
     pub entry_in_last : (k : ℕ) → full ≤ (gone + k) / segment → slice_get (left_in ss last gone) k ≡ option_map entry_in (slice_get last.items (gone + k - full * segment))
     entry_in_last k more = grind (arith, common_steps, at_place, joined_long, slice_get_after)
-
-    pub oldest_is : oldest (left_in ss last gone) ≡ slice_get (left_in ss last gone) 0
-    oldest_is = grind (arith, common_steps)
 
   -- ---- one entry more
 

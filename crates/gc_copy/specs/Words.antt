@@ -1,6 +1,7 @@
 -- A collection as contracts see it: a new space whose links are the originals' addresses, logs with spare capacity, and the scan
 -- pointer.
 use Rattle.std.specs.Prelude.{◌≡◌, ◌↔◌, ℕ, ◌-◌, ◌%◌, ◌<◌, ◌^◌, ◌*◌, ◌==◌, if◌then◌else◌, List, ◌++◌, drop, length, map, replicate, slice_get, IsTrue, IsSome, Option, Some, None}
+use Rattle.std.specs.Option.{option_map_or}
 use Rattle.gc_graph.specs.Graph.{Graph, lookup}
 use Rattle.gc_words.specs.Word.{word_of}
 use Rattle.gc_words.specs.Image.{Block, blocks, is_start, object_of_block}
@@ -105,8 +106,7 @@ pub record AreMoved (roots : List ℕ) (heap : HeapWords) (c : Collection) : Typ
 
 -- the number of entries that mutator m's log can take without an allocation
 abbrev pub spare_in : Option Log → ℕ
-spare_in None = 0
-spare_in (Some log) = log.spare
+spare_in log = option_map_or (λ log. log.spare) log 0
 
 abbrev pub spare_of : CollectionWords → ℕ → ℕ
 spare_of c m = spare_in (slice_get c.logs m)

@@ -54,7 +54,6 @@ impl MutationLog {
     ghost use Rattle.std.specs.Option.{option_map};
     ghost use Rattle.gc_plan.specs.Steps.{is_empty};
     ghost use Rattle.gc_copy.specs.Entries.{entry_in};
-    ghost use Rattle.gc_copy.specs.Internal.Entries.{oldest};
 
     /// Returns a log without entries. Does not allocate.
     pub(crate) fn new(alloc: Global) -> MutationLog
@@ -171,7 +170,7 @@ impl MutationLog {
 
     /// Returns the oldest entry.
     pub(crate) fn oldest(&self) -> Option<LogEntry>
-        ensures { option_map entry_in result ≡ oldest self.now.entries }
+        ensures { option_map entry_in result ≡ slice_get self.now.entries 0 }
     {
         if self.full > 0 {
             self.segments[0].get(self.gone).copied()

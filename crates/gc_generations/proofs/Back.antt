@@ -1,6 +1,6 @@
 -- A certificate of the whole heap in which old objects are their own replicas is one of the minor collection.
 use Rattle.std.proofs.lemmas.Grind.{common_steps}
-use Rattle.std.proofs.Common.{◌≡◌, ◌≢◌, ◌⊎◌, inl, inr, ℕ, zero, suc, ◌<◌, ◌≤◌, Bool, true, false, ◌&&◌, ◌==◌, List, [], ◌∷◌, ◌++◌, map, length, get_or, Some, is_some, slice_get, refl, ap, sym, ◌∙◌, subst, arith}
+use Rattle.std.proofs.Common.{◌≡◌, ◌≢◌, ◌⊎◌, inl, inr, ℕ, zero, suc, ◌<◌, ◌≤◌, Bool, true, false, ◌&&◌, ◌==◌, List, [], ◌∷◌, ◌++◌, map, length, get_or, Some, is_some, slice_get, unwrap_or, refl, ap, sym, ◌∙◌, subst, arith}
 use Rattle.std.specs.Prelude.{IsOk, IsTrue}
 use Rattle.std.specs.List.{All, AllPairs, AllZip, list_any}
 use Rattle.std.proofs.lemmas.Bool.{or_left, or_right, eqb-true, eq-eqb, and_parts, and_from, or_cases, lt-ltb}
@@ -12,7 +12,7 @@ use Rattle.gc_words.specs.Image.{Block, walk, blocks, block_in, block_at, header
 use Rattle.gc_words.specs.Certificate.{BlocksCorrespond, Certified}
 use Rattle.gc_words.specs.declared.header.Header.{Header}
 use Rattle.gc_words.proofs.Public.{meant, some_of, block_of_header}
-use Rattle.gc_generations.specs.Minor.{lies_below, words_correspond_above, field_words_correspond_above, young_blocks, BlocksCorrespondAbove, MinorCertified, word_or_nil, word_of_field, whole, identity, IsStanding, IsPlainField, IsCandidate}
+use Rattle.gc_generations.specs.Minor.{lies_below, words_correspond_above, field_words_correspond_above, young_blocks, BlocksCorrespondAbove, MinorCertified, word_of_field, whole, identity, IsStanding, IsPlainField, IsCandidate}
 use Rattle.gc_generations.proofs.Lists.{any_left, paired_all, selves, self_paired, found_left, found_right}
 use Rattle.gc_generations.proofs.Fronts.{whole_blocks, old_below, not_old}
 
@@ -42,7 +42,7 @@ zip_join : {X A B : Type 0} (R : A → B → Type 0) (f : X → A) (g : X → B)
 zip_join R f g [] xs ys all z = z
 zip_join R f g (r ∷ rs) xs ys all z = (All-head (λ r. R (f r) (g r)) r rs all, zip_join R f g rs xs ys (All-tail (λ r. R (f r) (g r)) r rs all) z)
 
-zip_at : (R : ℕ → ℕ → Type 0) (xs ys : List ℕ) (i : ℕ) → AllZip R xs ys → i < length xs → R (word_or_nil (slice_get xs i)) (word_or_nil (slice_get ys i))
+zip_at : (R : ℕ → ℕ → Type 0) (xs ys : List ℕ) (i : ℕ) → AllZip R xs ys → i < length xs → R (unwrap_or (slice_get xs i) 0) (unwrap_or (slice_get ys i) 0)
 zip_at R [] ys i z h = absurd (omega arith)
 zip_at R (x ∷ xs) [] i z h = absurd z
 zip_at R (x ∷ xs) (y ∷ ys) zero z h = z.0
@@ -116,7 +116,7 @@ module _ (size : ℕ) (front after young kept roots new_roots : List ℕ) (remem
       blocks_alike : BlocksCorrespond all_pairs (Some is.block) (Some after_block.0)
       blocks_alike = subst (λ q. BlocksCorrespond all_pairs (Some is.block) q) new_there (subst (λ o. BlocksCorrespond all_pairs o (block_at (after ++ kept) r.0)) old_there (paired_all Alike all_pairs r.0 r.0 self certified.objects))
 
-      at_field : IsTrue (field_words_correspond is.block.header all_pairs (word_or_nil (slice_get is.block.fields r.1)) (word_or_nil (slice_get after_block.0.fields r.1)))
+      at_field : IsTrue (field_words_correspond is.block.header all_pairs (unwrap_or (slice_get is.block.fields r.1) 0) (unwrap_or (slice_get after_block.0.fields r.1) 0))
       at_field = zip_at (λ v w. IsTrue (field_words_correspond is.block.header all_pairs v w)) is.block.fields after_block.0.fields r.1 blocks_alike.1 is.within
 
       alike : words_correspond all_pairs (word_of_field front r) (word_of_field after r) ≡ true

@@ -1,6 +1,6 @@
 -- The certificate of a minor collection, with each old object as its own replica, is a certificate of the whole heap.
 use Rattle.std.proofs.lemmas.Grind.{common_steps}
-use Rattle.std.proofs.Common.{◌≡◌, ◌≢◌, inl, inr, ℕ, ◌<◌, ◌≤◌, Bool, true, false, List, ◌++◌, length, Option, Some, None, is_some, slice_get, refl, ap, sym, ◌∙◌, subst, arith}
+use Rattle.std.proofs.Common.{◌≡◌, ◌≢◌, inl, inr, ℕ, ◌<◌, ◌≤◌, Bool, true, false, List, ◌++◌, length, Option, Some, None, is_some, slice_get, unwrap_or, refl, ap, sym, ◌∙◌, subst, arith}
 use Rattle.std.specs.Prelude.{IsOk, IsTrue}
 use Rattle.std.specs.List.{All, AllPairs, AllZip}
 use Rattle.std.proofs.lemmas.Bool.{cases_Bool, eqb-true, eq-eqb, and_parts, or_cases, ltb-true, leb-true, leb-false}
@@ -12,7 +12,7 @@ use Rattle.gc_words.specs.Certificate.{BlocksCorrespond, Certified}
 use Rattle.gc_words.specs.Closed.{IsRootWord, IsWordOfField, IsFieldWord, HasFieldWords}
 use Rattle.gc_words.specs.declared.header.Header.{Header}
 use Rattle.gc_words.proofs.Public.{stands_in, some_of, block_of_header}
-use Rattle.gc_generations.specs.Minor.{is_young, words_correspond_above, field_words_correspond_above, young_blocks, BlocksCorrespondAbove, word_or_nil, word_of_field, whole, identity, IsStanding, IsMinor}
+use Rattle.gc_generations.specs.Minor.{is_young, words_correspond_above, field_words_correspond_above, young_blocks, BlocksCorrespondAbove, word_of_field, whole, identity, IsStanding, IsMinor}
 use Rattle.gc_generations.proofs.Lists.{any_left, any_right, paired_all, all_zip_from, zip_weaker, zip_split, all_at, found_left, found_right, all_found, self_paired, all_selves, selves_rise, starts_found}
 use Rattle.gc_generations.proofs.Fronts.{whole_blocks, whole_shaped, old_below, not_old, young_above, old_rise}
 
@@ -91,8 +91,8 @@ module _ (size : ℕ) (front after young kept roots new_roots : List ℕ) (remem
       = paired_all (λ r. IsTrue (words_correspond_above (length front) pairs (word_of_field front r) (word_of_field after r))) remembered a i is root_parts.0 in
       subst (λ w. words_correspond_above (length front) pairs v w ≡ true) (word_is f) (subst (λ v. words_correspond_above (length front) pairs v (word_of_field after (a, i)) ≡ true) (word_is e) there)
     where
-      word_is : {o : Option ℕ} {x : ℕ} → o ≡ Some x → word_or_nil o ≡ x
-      word_is e = ap word_or_nil e
+      word_is : {o : Option ℕ} {x : ℕ} → o ≡ Some x → unwrap_or o 0 ≡ x
+      word_is e = ap (λ o. unwrap_or o 0) e
 
   old_field : (a i v w : ℕ) (b : Block) → block_at front a ≡ Some b → b.header.raw ≡ false → slice_get b.fields i ≡ Some v → field_at after a i ≡ Some w → words_correspond all_pairs v w ≡ true
   old_field a i v w b found plain e f =

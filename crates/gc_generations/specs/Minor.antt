@@ -1,6 +1,6 @@
 -- Minor collections. The objects below an address, the base, are old; those from it on are young. A minor collection replaces the
 -- young objects, and changes old objects only in their remembered fields.
-use Rattle.std.specs.Prelude.{[], ◌≡◌, ◌≢◌, ℕ, ◌<◌, ◌≤◌, ◌==◌, nat_lt, nat_le, Bool, true, false, ◌&&◌, ◌||◌, not, if◌then◌else◌, List, ◌∷◌, ◌++◌, length, map, slice_get, Option, Some, None, IsOk, IsTrue, IsFalse}
+use Rattle.std.specs.Prelude.{[], ◌≡◌, ◌≢◌, ℕ, ◌<◌, ◌≤◌, ◌==◌, nat_lt, nat_le, Bool, true, false, ◌&&◌, ◌||◌, not, if◌then◌else◌, List, ◌∷◌, ◌++◌, length, map, slice_get, Option, Some, None, unwrap_or, IsOk, IsTrue, IsFalse}
 use Rattle.std.specs.Result.{result_unwrap_or}
 use Rattle.std.specs.List.{All, AllPairs, AllZip, list_any}
 use Rattle.gc_graph.specs.Graph.{Value, Nil, Num, Ref}
@@ -60,13 +60,9 @@ pub record MinorCertified (base : ℕ) (young kept old_roots new_roots : List �
 
 -- ---- old objects
 
-abbrev pub word_or_nil : Option ℕ → ℕ
-word_or_nil None = 0
-word_or_nil (Some w) = w
-
--- the word of a field, which is named by its object's address and its number
+-- the word of a field, which is named by its object's address and its number; 0 if there is no such field
 abbrev pub word_of_field : List ℕ → ℕ × ℕ → ℕ
-word_of_field words place = word_or_nil (field_at words place.0 place.1)
+word_of_field words place = unwrap_or (field_at words place.0 place.1) 0
 
 -- The remembered set is complete: a field of an old object that refers to a young one is in it.
 pub record IsComplete (front : List ℕ) (remembered : List (ℕ × ℕ)) : Type 0 where

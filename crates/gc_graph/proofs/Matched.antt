@@ -6,7 +6,7 @@ use Rattle.std.specs.Option.{unwrap_or}
 use Rattle.std.specs.List.{AllZip, AllByRecursion, flat_map, list_any}
 use Rattle.std.proofs.lemmas.Bool.{eqb-true, eqb-false, eq-eqb, ne_eqb, cases_Bool, both_ways, and_from, and_right}
 use Rattle.gc_graph.specs.Slots.{place}
-use Rattle.gc_graph.specs.Graph.{Value, Nil, Num, Ref, Object, Graph, lookup, object_of, field_of, root, set_root, first_value, new_object, add_object, set_field, names_of, IsUnused}
+use Rattle.gc_graph.specs.Graph.{Value, Nil, Ref, Object, Graph, lookup, object_of, field_of, root, set_root, first_value, new_object, add_object, set_field, names_of, IsUnused}
 use Rattle.gc_graph.specs.Machine.{view_of, view_of_object, same, is_number, get_field, put_field, step}
 use Rattle.gc_graph.specs.Correspond.{paired, correspond, Corresponding}
 use Rattle.gc_graph.proofs.Matching.{Alike, nils, numbers, partners, without_objects, ObjectsAlike, Matched}

@@ -9,21 +9,20 @@ use Rattle.std.specs.List.{AllByRecursion}
 use Rattle.std.proofs.lemmas.List.{length-map, map-set}
 use Rattle.std.specs.Vec.{with_item}
 use Rattle.std.proofs.lemmas.Bool.{lt-ltb, le-ltb, eq-eqb, ne_eqb, cases_order}
-use Rattle.std.specs.Prelude.{slice_get, slice_set, replicate}
+use Rattle.std.specs.Prelude.{slice_get, slice_set, replicate, option_map}
 use Rattle.gc_graph.specs.Graph.{Value, Object, Graph, lookup, object_of, field_of, set_root, set_field, with_field}
 use Rattle.gc_graph.specs.Machine.{view_of, get_field}
 use Rattle.gc_graph.specs.declared.reply.View.{View}
 use Rattle.gc_graph.specs.declared.reply.Reply.{Reply}
 use Rattle.gc_graph.specs.declared.reply.Reply.TheVariants.{Saw}
 use Rattle.gc_graph.specs.Records.{plain_value, object_of_record, named_object, objects_of}
-use Rattle.gc_graph.specs.Internal.Records.{record_option}
 use Rattle.gc_graph.specs.declared.objects.Record.{Record}
 use Rattle.gc_graph.specs.declared.objects.PlainValue.{PlainValue}
 
 at_key : (q k : ℕ) → is_eq (nat_cmp q k) ≡ (k == q)
 at_key q k = grind (arith, common_steps, cases_order, le-ltb, eq-eqb, lt-ltb, ne_eqb)
 
-pub found_record : (es : List (ℕ × Record)) (q : ℕ) → record_option (entries.lookup (tree.is_at (nat_cmp q)) es) ≡ lookup (objects_of es) q
+pub found_record : (es : List (ℕ × Record)) (q : ℕ) → option_map object_of_record (entries.lookup (tree.is_at (nat_cmp q)) es) ≡ lookup (objects_of es) q
 found_record [] q = refl
 found_record (e ∷ es) q = grind (arith, common_steps, at_key, found_record es q)
 
@@ -70,14 +69,14 @@ get_past (x ∷ xs) (suc i) h = get_past xs i (omega arith)
 
 pub field_there : (es : List (ℕ × Record)) (q i n : ℕ) (r : Record) → Some r ≡ entries.lookup (tree.is_at (nat_cmp q)) es → n ≡ length r.fields.items → i < n → true ≡ is_some (field_of (lookup (objects_of es) q) i)
 field_there es q i n r e l h =
-    sym (ap (λ o. is_some (field_of o i)) (sym (found_record es q) ∙ ap record_option (sym e)) ∙ get_there (map plain_value r.fields.items) i (let m : length (map plain_value r.fields.items) ≡ length r.fields.items = length-map r.fields.items plain_value in omega arith))
+    sym (ap (λ o. is_some (field_of o i)) (sym (found_record es q) ∙ ap (option_map object_of_record) (sym e)) ∙ get_there (map plain_value r.fields.items) i (let m : length (map plain_value r.fields.items) ≡ length r.fields.items = length-map r.fields.items plain_value in omega arith))
 
 pub field_past : (es : List (ℕ × Record)) (q i n : ℕ) (r : Record) → Some r ≡ entries.lookup (tree.is_at (nat_cmp q)) es → n ≡ length r.fields.items → n ≤ i → false ≡ is_some (field_of (lookup (objects_of es) q) i)
 field_past es q i n r e l h =
-    sym (ap (λ o. is_some (field_of o i)) (sym (found_record es q) ∙ ap record_option (sym e)) ∙ get_past (map plain_value r.fields.items) i (let m : length (map plain_value r.fields.items) ≡ length r.fields.items = length-map r.fields.items plain_value in omega arith))
+    sym (ap (λ o. is_some (field_of o i)) (sym (found_record es q) ∙ ap (option_map object_of_record) (sym e)) ∙ get_past (map plain_value r.fields.items) i (let m : length (map plain_value r.fields.items) ≡ length r.fields.items = length-map r.fields.items plain_value in omega arith))
 
 pub record_gone : (es : List (ℕ × Record)) (q i : ℕ) → None ≡ entries.lookup (tree.is_at (nat_cmp q)) es → false ≡ is_some (field_of (lookup (objects_of es) q) i)
-record_gone es q i e = sym (ap (λ o. is_some (field_of o i)) (sym (found_record es q) ∙ ap record_option (sym e)))
+record_gone es q i e = sym (ap (λ o. is_some (field_of o i)) (sym (found_record es q) ∙ ap (option_map object_of_record) (sym e)))
 
 -- ---- a field that exists
 

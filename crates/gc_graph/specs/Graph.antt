@@ -1,6 +1,6 @@
 -- The object graph that a mutator sees: named objects and roots.
 use Rattle.std.specs.Prelude.{◌≡◌, ℕ, suc, ◌==◌, Bool, true, false, if◌then◌else◌, max, List, [], ◌∷◌, ◌++◌, map, replicate, slice_get, slice_set, Option, Some, None, IsFalse}
-use Rattle.std.specs.Option.{unwrap_or, option_to_list}
+use Rattle.std.specs.Option.{unwrap_or, option_and_then, option_map_or, option_to_list}
 use Rattle.std.specs.List.{flat_map, list_any, fold}
 use Rattle.gc_graph.specs.Slots.{roots_of}
 
@@ -30,15 +30,21 @@ abbrev pub lookup : List (ℕ × Object) → ℕ → Option Object
 lookup [] name = None
 lookup (entry ∷ rest) name = if entry.0 == name then Some entry.1 else lookup rest name
 
+-- the name, if the value is a reference
+abbrev pub name_of : Value → Option ℕ
+name_of (Ref name) = Some name
+name_of v = None
+
 -- the object that a value refers to
 abbrev pub object_of : List (ℕ × Object) → Value → Option Object
-object_of objects (Ref name) = lookup objects name
-object_of objects v = None
+object_of objects v = option_and_then (lookup objects) (name_of v)
+
+abbrev pub fields_of : Option Object → List Value
+fields_of o = option_map_or (λ object. object.fields) o []
 
 -- field i, if the object exists and has that field
 abbrev pub field_of : Option Object → ℕ → Option Value
-field_of None i = None
-field_of (Some object) i = slice_get object.fields i
+field_of o i = slice_get (fields_of o) i
 
 -- the value of a root, or nil past the end of the roots
 abbrev pub root : Graph → ℕ → Value
@@ -61,11 +67,6 @@ abbrev pub Reachable : Graph → ℕ → Type 0
 Reachable g name = (place : ℕ) × (fields : List ℕ) × (at_path g place fields ≡ Some (Ref name))
 
 -- ---- names
-
--- the name, if the value is a reference
-abbrev pub name_of : Value → Option ℕ
-name_of (Ref name) = Some name
-name_of v = None
 
 abbrev pub names_of : Value → List ℕ
 names_of v = option_to_list (name_of v)

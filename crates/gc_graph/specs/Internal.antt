@@ -3,6 +3,5 @@ pub mod Codes
 pub mod Machine
 pub mod Messages
 pub mod PlainMachine
-pub mod Records
 pub mod Slots
 pub mod Tokens

@@ -1,5 +1,6 @@
 -- Parsers that take tokens from the front of a line.
 use Rattle.std.specs.Prelude.{ℕ, nat_le, ◌&&◌, List, [], ◌∷◌, Option, Some, None, if◌then◌else◌}
+use Rattle.std.specs.Option.{option_and_then, option_map_or}
 use Rattle.std.specs.Borrow.{Bor}
 use Rattle.std.specs.Fmt.{decimal}
 use Rattle.std.specs.Str.{bytes_eq}
@@ -8,13 +9,11 @@ use Rattle.gc_graph.specs.Lines.{tokens_of}
 
 -- the tokens of the rest of a line, or none after its end
 abbrev pub tokens_left : Option (Bor (List ℕ)) → List (List ℕ)
-tokens_left None = []
-tokens_left (Some rest) = tokens_of rest.now
+tokens_left rest = option_map_or (λ bytes. tokens_of bytes.now) rest []
 
 infixl 10 ◌>>=◌
 abbrev pub ◌>>=◌ : {A B : Type 0} → Option A → (A → Option B) → Option B
-None >>= f = None
-(Some x) >>= f = f x
+o >>= f = option_and_then f o
 
 -- the number that the token spells in decimal, without leading zeros, if it is at most `most`
 unfoldable pub number_of_token : ℕ → List ℕ → Option ℕ

@@ -5,7 +5,6 @@ ghost use Rattle.gc_graph.specs.Graph.{object_of, lookup, field_of, root as root
 ghost use Rattle.gc_graph.specs.Machine.{view_of, view_of_object, same as same_in, get_field, put_field};
 ghost use Rattle.gc_graph.specs.Bounded.{AreBelow, AreShort};
 ghost use Rattle.gc_graph.specs.Records.{plain_value, object_of_record, objects_of, graph_of};
-ghost use Rattle.gc_graph.specs.Internal.Records.{record_option};
 
 use crate::number::Number;
 use crate::reply::{Reply, View};
@@ -65,7 +64,7 @@ type Records = BTreeMap<u64, Record>;
 /// Returns the object with this name.
 #[tactic(auto, using(crate::proofs::Plains::found_record))]
 fn record_of(records: &Records, name: u64) -> Option<&Record>
-    ensures { record_option (option_map (λ r. r.now) result) ≡ lookup (objects_of records.now.entries) name }
+    ensures { option_map object_of_record (option_map (λ r. r.now) result) ≡ lookup (objects_of records.now.entries) name }
 {
     records.get(&name)
 }

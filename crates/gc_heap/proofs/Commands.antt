@@ -54,7 +54,9 @@ pub points : (inside h : HeapWords) (s a w : ℕ) → inside ≡ h → IsHeap in
 points inside h s a w view heap less read name =
     let less : s < length inside.roots = subst (λ (h : HeapWords). s < length h.roots) (sym view) less in
     let read : w ≡ slice_index inside.roots s = read_root inside inside.roots s w refl less read in
-    grind (arith, named, root_value, root_word, some_of, object_found)
+    let target : root (graph_in inside) s ≡ Ref a = root_value inside.roots s ∙ ap value_of (sym read) ∙ named (value_of w) a name in
+    let b = some_of (block_at inside.space.words a) (grind (arith, common_steps, named, root_word)) in
+    record { block = b.0; found = b.1; target = target; object = ap (object_of (graph_in inside).objects) target ∙ object_found inside.space.words a ∙ ap (option_map object_of_block) b.1 }
 
 -- a field of the graph's object
 field_value_at : (h : HeapWords) (s a i : ℕ) (p : Points h s a) → field_of (object_of (graph_in h).objects (root (graph_in h) s)) i ≡ option_map (field_value p.block.header) (field_at h.space.words a i)

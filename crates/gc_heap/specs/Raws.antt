@@ -1,12 +1,13 @@
 -- The numbers in a raw object.
-use Rattle.std.specs.Prelude.{ℕ, List, map, Option, Some, None, if◌then◌else◌}
+use Rattle.std.specs.Prelude.{ℕ, List, map, Option}
+use Rattle.std.specs.Bool.{then_some}
+use Rattle.std.specs.Option.{option_and_then}
 use Rattle.gc_graph.specs.Graph.{Object, Graph, object_of, root, number_of}
 use Rattle.gc_graph.specs.Slots.{SlotName, place}
 
 -- the numbers in the fields of an object, if it is raw
 abbrev pub numbers_in : Option Object → Option (List ℕ)
-numbers_in None = None
-numbers_in (Some object) = if object.raw then Some (map number_of object.fields) else None
+numbers_in o = option_and_then (λ object. then_some object.raw (map number_of object.fields)) o
 
 -- the numbers in the raw object that mutator m's slot refers to
 abbrev pub raw_numbers : Graph → SlotName → ℕ → Option (List ℕ)

@@ -15,6 +15,8 @@ use Rattle.gc_plan.specs.Carried.{is_begun, base_after, base_of_run, IsLiveSince
 use Rattle.gc_plan.specs.Members.{In}
 use Rattle.gc_plan.specs.Belonging.{RefersTo, IsState}
 use Rattle.gc_graph.specs.declared.command.Op.{Op}
+use Rattle.gc_graph.specs.declared.command.Op.TheVariants as ops
+use Rattle.gc_graph.specs.Slots.{place}
 use Rattle.gc_graph.specs.declared.reply.Reply.{Reply}
 use Rattle.gc_plan.specs.declared.step.Step.{Step}
 use Rattle.gc_plan.specs.declared.step.Step.TheVariants as steps
@@ -76,6 +78,10 @@ new_closed P g raw d kind len name h p = record {
   where
     first_refers : (b : Bool) → RefersTo P (first_value b)
     first_refers b = grind (arith, common_steps)
+
+step_closed : (P : ℕ → Type 0) (g : Graph) (m : ℕ) (op : Op) (name : ℕ) → LeadsOnlyTo P g → P name → LeadsOnlyTo P (step g m op name).1
+step_closed P g m (ops.Get d s i) name h p = get_closed P g (place d m) _ _ h (λ w. field_refers P g (root g (place s m)) i w h (root_refers P g (place s m) h))
+step_closed P g m op name h p = grind (arith, common_steps, new_closed, root_closed, root_refers, put_closed)
 
 -- ---- replicas
 
@@ -219,7 +225,7 @@ record Follows (mutators : ℕ) (base s : State) : Type 0 where
   carried : CarriesIn (IsLiveSince base) (heap_end base) s s.collection
 
 mutate_carries : (base s : State) (m : ℕ) (op : Op) → CarriesIn (IsLiveSince base) (heap_end base) s s.collection → CarriesIn (IsLiveSince base) (heap_end base) (mutate s m op).1 (mutate s m op).1.collection
-mutate_carries base s m op h = grind (arith, common_steps, cond_both, new_closed, root_closed, root_refers, get_closed, field_refers, put_closed)
+mutate_carries base s m op h = grind (arith, common_steps, cond_both, step_closed)
 
 event_carries : (mutators : ℕ) (base s : State) (event : Event) → Follows mutators base s → IsEvent mutators event → Follows mutators (base_after base s event) (after s event)
 event_carries mutators base s (Mutate m op) h r = record { reached = event_keeps mutators s (Mutate m op) h.reached r; carried = mutate_carries base s m op h.carried }

@@ -43,12 +43,12 @@ scan_brings s c k before = subst Brings (sym (cond-false (scan_done c) (Clean, s
 -- the first log with an entry has one; if there is no such log, all are empty
 pub found_log : (logs : List (List (ℕ × ℕ))) (k m : ℕ) → first_log k logs ≡ Some m → (j : ℕ) × (m ≡ k + j) × (is_empty (unwrap_or (slice_get logs j) []) ≡ false)
 found_log [] k m h = absurd cc
-found_log ([] ∷ logs) k m h = let r = found_log logs (suc k) m h in (suc r.0, (let e = r.1 in omega arith), r.2)
+found_log ([] ∷ logs) k m h = let r = found_log logs (k + 1) m h in (suc r.0, (let e = r.1 in omega arith), r.2)
 found_log ((entry ∷ log) ∷ logs) k m h = (zero, (let e : k ≡ m = cc h in omega arith), refl)
 
 no_log : (logs : List (List (ℕ × ℕ))) (k : ℕ) → first_log k logs ≡ None → list_all is_empty logs ≡ true
 no_log [] k h = refl
-no_log ([] ∷ logs) k h = no_log logs (suc k) h
+no_log ([] ∷ logs) k h = no_log logs (k + 1) h
 no_log ((entry ∷ log) ∷ logs) k h = absurd cc
 
 pub useful_changes : (s : State) → IsSpaceGraph s.size s.heap.free s.heap.graph → IfSome s.collection (IsOpened s) → ((collect s (useful_step s)).0 ≡ NoRoom) ⊎ (is_change (collect s (useful_step s)).0 ≡ true)

@@ -3,12 +3,14 @@ use Rattle.std.proofs.lemmas.Grind.{common_steps}
 use Rattle.std.proofs.Common.{◌≡◌, ⊎_elim, ℕ, Bool, true, ◌&&◌, arith, List, Option, Some, None, refl, sym, subst}
 use Rattle.std.specs.Prelude.{not}
 use Rattle.std.proofs.lemmas.Bool.{cond_both}
-use Rattle.gc_graph.specs.Graph.{Value, Nil, Num, Ref, Object, Graph, lookup, object_of, field_of, set_root, add_object, first_value, new_object}
+use Rattle.gc_graph.specs.Graph.{Value, Nil, Num, Ref, Object, Graph, lookup, object_of, field_of, root, set_root, add_object, first_value, new_object}
 use Rattle.gc_graph.specs.Correspond.{correspond}
-use Rattle.gc_graph.specs.Machine.{step, is_number, put_field}
+use Rattle.gc_graph.specs.Machine.{step, is_number, get_field, put_field}
 use Rattle.gc_plan.specs.Runs.{HasRange}
 use Rattle.gc_graph.specs.declared.reply.Reply.{Reply}
 use Rattle.gc_graph.specs.declared.command.Op.{Op}
+use Rattle.gc_graph.specs.declared.command.Op.TheVariants as ops
+use Rattle.gc_graph.specs.Slots.{place}
 use Rattle.gc_plan.specs.State.{Collection, moved}
 use Rattle.gc_plan.specs.Members.{In}
 use Rattle.gc_plan.specs.Belonging.{IsSmall, HasSmallNumbers}
@@ -26,6 +28,9 @@ field_small g (Ref a) i w h e = go (lookup g.objects a) refl e
 
 small_root : (g : Graph) (d : ℕ) (v : Value) → HasSmallNumbers g → IsSmall v → HasSmallNumbers (set_root g d v)
 small_root g d v h s = record { fields = h.fields; roots = λ w k. ⊎_elim (λ e. subst IsSmall e s) (h.roots w) (in_set w g.roots d v k) }
+
+small_got : (g : Graph) (d i : ℕ) (v : Value) → HasSmallNumbers g → HasSmallNumbers (get_field g d (object_of g.objects v) (field_of (object_of g.objects v) i)).1
+small_got g d i v h = grind (arith, common_steps, small_root, field_small)
 
 small_put : (g : Graph) (v : Value) (target : Option Object) (found : Option Value) (i : ℕ) (w : Value) → HasSmallNumbers g → IsSmall w → HasSmallNumbers (put_field g v target found i w).1
 small_put g Nil target found i w h s = h
@@ -53,7 +58,8 @@ small_new g raw d kind len name h = record {
     first_small b = grind (arith, common_steps)
 
 pub step_small : (g : Graph) (m : ℕ) (op : Op) (name : ℕ) → HasSmallNumbers g → HasRange op → HasSmallNumbers (step g m op name).1
-step_small g m op name h r = grind (arith, common_steps, small_new, small_root, get_in, field_small, small_put)
+step_small g m (ops.Get d s i) name h r = small_got g (place d m) i (root g (place s m)) h
+step_small g m op name h r = grind (arith, common_steps, small_new, small_root, get_in, small_put)
 
 -- ---- in the new space
 

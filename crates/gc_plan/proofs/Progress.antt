@@ -3,8 +3,11 @@ use Rattle.std.proofs.lemmas.Grind.{common_steps}
 use Rattle.std.specs.Prelude.{IfSome}
 use Rattle.std.specs.Option.{option_map, option_map_or, unwrap_or}
 use Rattle.std.proofs.Common.{◌≡◌, ◌≢◌, inl, inr, ⊎_elim, ℕ, zero, suc, ◌+◌, ◌-◌, ◌<◌, ◌≤◌, nat_lt, true, false, List, [], ◌∷◌, ◌++◌, map, length, set, replicate, slice_get, flat_map, Option, Some, None, refl, ap, sym, ◌∙◌, subst, arith, rules}
-use Rattle.std.proofs.lemmas.Bool.{cond-true, cond-false, cond_both, lt-ltb, le-ltb, eqb-false}
-use Rattle.std.proofs.lemmas.List.{length-append}
+use Rattle.std.proofs.lemmas.Bool.{cond-true, cond-false, cond_both, lt-ltb, le-ltb, eqb-false, cases_lt}
+use Rattle.std.proofs.lemmas.List.{length-append, get_or_past}
+use Rattle.std.proofs.lemmas.List.Sums.{sum_by-cons, sum_by_push, sum_by-set}
+use Rattle.std.proofs.lemmas.List.Folds.{sum_by-replicate}
+use Rattle.std.proofs.lemmas.Option.{unwrap_or-slice_get}
 use Rattle.gc_graph.specs.Graph.{Value, Object, Graph, lookup, field_of, names_of}
 use Rattle.gc_graph.specs.declared.command.Op.{Op}
 use Rattle.gc_plan.specs.State.{Replica, Collection, State, objects_end, new_end, heap_end, replica_at, moved}
@@ -34,12 +37,12 @@ in_placed r (q ∷ rest) (inr h) = inr (in_placed r rest h)
 -- they are fewer than the words from the place on
 scans_fit : (p at : ℕ) (rs : List Replica) (end : ℕ) → Laid at (map placed rs) end → p ≤ end → (scans_from p rs + at ≤ end) × (scans_from p rs + p ≤ end)
 scans_fit p at [] end h low = grind (arith, common_steps)
-scans_fit p at (r ∷ rest) end h low = grind (arith, common_steps, scans_fit p (at + (length r.object.fields + 2)) rest end h.1 low)
+scans_fit p at (r ∷ rest) end h low = grind (arith, common_steps, sum_by-cons, scans_fit p (at + (length r.object.fields + 2)) rest end h.1 low)
 
 -- all of them lie behind two such places
 scans_same : (p q at : ℕ) (rs : List Replica) (end : ℕ) → Laid at (map placed rs) end → p ≤ at → q ≤ at → scans_from p rs ≡ scans_from q rs
 scans_same p q at [] end h low lower = refl
-scans_same p q at (r ∷ rest) end h low lower = grind (arith, common_steps, scans_same p q (at + (length r.object.fields + 2)) rest end h.1 (omega arith) (omega arith))
+scans_same p q at (r ∷ rest) end h low lower = grind (arith, common_steps, sum_by-cons, scans_same p q (at + (length r.object.fields + 2)) rest end h.1 (omega arith) (omega arith))
 
 -- passing a replica takes its scans away
 scans_pass : (at : ℕ) (rs : List Replica) (end : ℕ) (r : Replica) → Laid at (map placed rs) end → In r rs
@@ -51,7 +54,7 @@ scans_pass at (q ∷ rest) end r h (inl e) =
     let past : scans_of (q.place + (length q.object.fields + 2)) q ≡ 0 = cond-true (nat_lt q.place (q.place + (length q.object.fields + 2))) 0 (length q.object.fields + 1) (lt-ltb q.place (q.place + (length q.object.fields + 2)) (omega arith)) in
     let now : scans_of q.place q ≡ length q.object.fields + 1 = cond-false (nat_lt q.place q.place) 0 (length q.object.fields + 1) (le-ltb q.place q.place (omega arith)) in
     let others = scans_same (q.place + (length q.object.fields + 2)) q.place (at + (length q.object.fields + 2)) rest end h.1 (omega arith) (omega arith) in
-    omega arith)
+    omega (arith, sum_by-cons (scans_of (q.place + (length q.object.fields + 2))) q rest, sum_by-cons (scans_of q.place) q rest))
 scans_pass at (q ∷ rest) end r h (inr k) =
     let here : q.place ≡ at = h.0 in
     let range = laid_range (at + (length q.object.fields + 2)) (map placed rest) end (placed r) h.1 (in_placed r rest k) in
@@ -59,19 +62,18 @@ scans_pass at (q ∷ rest) end r h (inr k) =
     let one : scans_of (r.place + (length r.object.fields + 2)) q ≡ 0 = cond-true (nat_lt q.place (r.place + (length r.object.fields + 2))) 0 (length q.object.fields + 1) (lt-ltb q.place (r.place + (length r.object.fields + 2)) (omega arith)) in
     let other : scans_of r.place q ≡ 0 = cond-true (nat_lt q.place r.place) 0 (length q.object.fields + 1) (lt-ltb q.place r.place (omega arith)) in
     let others = scans_pass (at + (length q.object.fields + 2)) rest end r h.1 k in
-    omega arith
+    omega (arith, sum_by-cons (scans_of (r.place + (length r.object.fields + 2))) q rest, sum_by-cons (scans_of r.place) q rest)
 
 -- the scans of a replica that is not before the place are among them
 scans_have : (p : ℕ) (rs : List Replica) (r : Replica) → In r rs → p ≤ r.place → length r.object.fields + 1 ≤ scans_from p rs
 scans_have p [] r k low = absurd k
-scans_have p (q ∷ rest) r (inl e) low = grind (arith, common_steps)
-scans_have p (q ∷ rest) r (inr k) low = let others = scans_have p rest r k low in omega arith
+scans_have p (q ∷ rest) r (inl e) low = grind (arith, common_steps, sum_by-cons)
+scans_have p (q ∷ rest) r (inr k) low = let others = scans_have p rest r k low in omega (arith, sum_by-cons (scans_of p) q rest)
 
 -- ---- replicas that are placed and written
 
 scans_push : (p : ℕ) (rs : List Replica) (r : Replica) → scans_from p (rs ++ r ∷ []) ≡ scans_from p rs + scans_of p r
-scans_push p [] r = omega arith
-scans_push p (q ∷ rest) r = let others = scans_push p rest r in omega arith
+scans_push p rs r = sum_by_push (scans_of p) rs r
 
 ends_push : (at : ℕ) (rs : List Replica) (r : Replica) → objects_end at (map placed (rs ++ r ∷ [])) ≡ objects_end at (map placed rs) + (length r.object.fields + 2)
 ends_push at [] r = refl
@@ -82,7 +84,7 @@ scans_few p r = cond_both (nat_lt r.place p) 0 (length r.object.fields + 1) (λ 
 
 scans_written : (p name i : ℕ) (w : Value) (rs : List Replica) → scans_from p (map (with_written name i w) rs) ≡ scans_from p rs
 scans_written p name i w [] = refl
-scans_written p name i w (r ∷ rest) = grind (arith, common_steps, with_written_pair, with_written_length, scans_written p name i w rest)
+scans_written p name i w (r ∷ rest) = grind (arith, common_steps, sum_by-cons, with_written_pair, with_written_length, scans_written p name i w rest)
 
 ends_written : (at name i : ℕ) (w : Value) (rs : List Replica) → objects_end at (map placed (map (with_written name i w) rs)) ≡ objects_end at (map placed rs)
 ends_written at name i w [] = refl
@@ -126,18 +128,15 @@ entry_later c g entry next is = grind (arith, common_steps, brought_later, same_
 
 -- the oldest entry of a log is one of all
 entries_taken : (logs : List (List (ℕ × ℕ))) (m : ℕ) (entry : ℕ × ℕ) (rest : List (ℕ × ℕ)) → unwrap_or (slice_get logs m) [] ≡ entry ∷ rest → suc (entries_in (set logs m rest)) ≡ entries_in logs
-entries_taken [] m entry rest e = absurd cc
-entries_taken (log ∷ logs) zero entry rest e = let len : length log ≡ suc (length rest) = ap length e in omega arith
-entries_taken (log ∷ logs) (suc m) entry rest e = let others = entries_taken logs m entry rest e in omega arith
+entries_taken logs m entry rest e = grind (arith, common_steps, cases_lt, get_or_past, unwrap_or-slice_get, sum_by-set)
 
 entries_added : (logs : List (List (ℕ × ℕ))) (m : ℕ) (more : List (ℕ × ℕ)) → m < length logs → entries_in (set logs m (unwrap_or (slice_get logs m) [] ++ more)) ≡ entries_in logs + length more
-entries_added [] m more less = absurd (omega arith)
-entries_added (log ∷ logs) zero more less = let len = length-append log more in omega arith
-entries_added (log ∷ logs) (suc m) more less = let others = entries_added logs m more (omega arith) in omega arith
+entries_added logs m more less =
+    let now = sum_by-set (λ log. length log) logs m (unwrap_or (slice_get logs m) [] ++ more) [] less in
+    omega (arith, length-append (unwrap_or (slice_get logs m) []) more, ap length (unwrap_or-slice_get logs m []))
 
 no_entries : (n : ℕ) → entries_in (replicate n []) ≡ 0
-no_entries zero = refl
-no_entries (suc n) = let others = no_entries n in omega arith
+no_entries n = sum_by-replicate {X = List (ℕ × ℕ)} (λ log. length log) n [] ∙ omega arith
 
 -- ---- the number
 

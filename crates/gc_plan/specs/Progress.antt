@@ -1,5 +1,6 @@
 -- What an open collection has left to do, as a number of steps.
-use Rattle.std.specs.Prelude.{◌≡◌, ◌≢◌, ◌⊎◌, ℕ, zero, suc, ◌+◌, ◌-◌, ◌<◌, nat_lt, if◌then◌else◌, List, [], ◌∷◌, length, IsTrue}
+use Rattle.std.specs.Prelude.{◌≡◌, ◌≢◌, ◌⊎◌, ℕ, zero, suc, ◌+◌, ◌-◌, ◌<◌, nat_lt, if◌then◌else◌, List, length, IsTrue}
+use Rattle.std.specs.List.{sum_by}
 use Rattle.std.specs.Option.{option_map_or}
 use Rattle.gc_plan.specs.State.{Replica, Collection, State, heap_end, new_end}
 use Rattle.gc_plan.specs.Steps.{collect, is_change, useful_step}
@@ -10,8 +11,7 @@ use Rattle.gc_plan.specs.declared.step.StepReply.TheVariants.{NoRoom, Flipped}
 
 -- the entries in these logs
 abbrev pub entries_in : List (List (ℕ × ℕ)) → ℕ
-entries_in [] = 0
-entries_in (log ∷ logs) = length log + entries_in logs
+entries_in logs = sum_by (λ log. length log) logs
 
 -- the steps that scan this replica: one for each field, and one to pass it; none if it lies before this place
 abbrev pub scans_of : ℕ → Replica → ℕ
@@ -19,8 +19,7 @@ scans_of place r = if nat_lt r.place place then 0 else length r.object.fields + 
 
 -- the steps that scan the replicas from this place on
 abbrev pub scans_from : ℕ → List Replica → ℕ
-scans_from place [] = 0
-scans_from place (r ∷ rest) = scans_of place r + scans_from place rest
+scans_from place replicas = sum_by (scans_of place) replicas
 
 -- the same from the scan pointer on
 abbrev pub scans_left : Collection → ℕ

@@ -1,6 +1,6 @@
 -- Runs of a heap with its collector: the states and answers that lists of events lead to.
 use Rattle.std.specs.Prelude.{ℕ, ◌<◌, ◌≤◌, ◌==◌, ◌^◌, if◌then◌else◌, List, [], ◌∷◌, length, ⊤, IfSome}
-use Rattle.std.specs.List.{flat_map}
+use Rattle.std.specs.List.{AllByRecursion, flat_map}
 use Rattle.gc_graph.specs.Limits.{largest_space, kinds, lengths}
 use Rattle.gc_graph.specs.Slots.{roots_of}
 use Rattle.gc_graph.specs.Range.{IsCommand}
@@ -26,8 +26,7 @@ IsEventWithin most mutators (Mutate m op) = (m < mutators) × IsCommand op
 IsEventWithin most mutators (Collect step) = IsStepWithin most mutators step
 
 abbrev pub AreEventsWithin : ℕ → ℕ → List Event → Type 0
-AreEventsWithin most mutators [] = ⊤
-AreEventsWithin most mutators (event ∷ events) = IsEventWithin most mutators event × AreEventsWithin most mutators events
+AreEventsWithin most mutators events = AllByRecursion (IsEventWithin most mutators) events
 
 -- the same of a heap, which takes a space of any size
 abbrev pub IsStep : ℕ → Step → Type 0
@@ -52,8 +51,7 @@ IsRootEvent mutators (Mutate m op) = (m < mutators) × HasRange op
 IsRootEvent mutators (Collect step) = IsStep mutators step
 
 abbrev pub AreRootEvents : ℕ → List Event → Type 0
-AreRootEvents mutators [] = ⊤
-AreRootEvents mutators (event ∷ events) = IsRootEvent mutators event × AreRootEvents mutators events
+AreRootEvents mutators events = AllByRecursion (IsRootEvent mutators) events
 
 abbrev pub after : State → Event → State
 after s (Mutate m op) = (mutate s m op).1

@@ -1,7 +1,7 @@
 -- The reply to each command of a mutator and to each step of the collector, and the state after it.
 use Rattle.std.specs.Prelude.{ℕ, suc, ◌==◌, nat_lt, Bool, true, false, ◌&&◌, ◌||◌, not, if◌then◌else◌, List, [], ◌∷◌, ◌++◌, length, map, replicate, slice_get, slice_set, Option, Some, None, is_none, is_some, ⊤}
 use Rattle.std.specs.Option.{option_map, option_map_or, unwrap_or}
-use Rattle.std.specs.List.{list_all, flat_map, find}
+use Rattle.std.specs.List.{list_all, flat_map, find, position_from}
 use Rattle.gc_words.specs.Layout.{next_place}
 use Rattle.gc_graph.specs.Slots.{place}
 use Rattle.gc_graph.specs.Graph.{Value, Ref, Object, Graph, root, names_of, lookup, field_of, with_field}
@@ -206,8 +206,7 @@ is_change reply = true
 
 -- the number of the first log that has an entry, if the logs are numbered from k on
 abbrev pub first_log : ℕ → List (List (ℕ × ℕ)) → Option ℕ
-first_log k [] = None
-first_log k (log ∷ logs) = if is_empty log then first_log (suc k) logs else Some k
+first_log k logs = position_from (λ log. not (is_empty log)) k logs
 
 abbrev pub useful_with : State → Option Collection → Step
 useful_with s None = steps.Begin

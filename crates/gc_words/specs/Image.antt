@@ -1,5 +1,6 @@
 -- The words of a space: a reserved word, then objects back to back. An image also has root words.
 use Rattle.std.specs.Prelude.{◌≡◌, ℕ, zero, suc, ◌+◌, ◌-◌, ◌≤◌, ◌==◌, nat_le, Bool, true, if◌then◌else◌, List, [], ◌∷◌, length, take, drop, map, replicate, slice_get, slice_index, slice_set, Option, Some, None, Result, Ok, Err, IsOk, is_some}
+use Rattle.std.specs.Option.{option_map, option_and_then}
 use Rattle.std.specs.Result.{result_unwrap_or}
 use Rattle.gc_graph.specs.Limits.{largest_space}
 use Rattle.gc_graph.specs.Graph.{Object, Graph}
@@ -75,16 +76,14 @@ abbrev pub is_start : List ℕ → ℕ → Bool
 is_start words place = is_some (block_at words place)
 
 abbrev pub header_of : Option Block → Option Header
-header_of None = None
-header_of (Some b) = Some b.header
+header_of o = option_map (λ b. b.header) o
 
 -- the header of the object that starts at this address
 abbrev pub header_at : List ℕ → ℕ → Option Header
 header_at words place = header_of (block_at words place)
 
 abbrev pub field_in : Option Block → ℕ → Option ℕ
-field_in None i = None
-field_in (Some b) i = slice_get b.fields i
+field_in o i = option_and_then (λ b. slice_get b.fields i) o
 
 -- field word i of the object that starts at this address
 abbrev pub field_at : List ℕ → ℕ → ℕ → Option ℕ

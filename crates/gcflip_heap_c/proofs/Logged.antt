@@ -2,6 +2,7 @@
 use Rattle.std.proofs.lemmas.Grind.{common_steps}
 use Rattle.std.proofs.Common.{◌≡◌, ℕ, zero, suc, ◌+◌, List, [], ◌∷◌, drop, length, slice_get, Option, Some, None, refl, subst, arith}
 use Rattle.std.specs.Prelude.{IfSome}
+use Rattle.std.proofs.lemmas.List.Sums.{sum_by-cons}
 use Rattle.std.specs.Option.{option_map_or, unwrap_or}
 use Rattle.gc_plan.specs.Belonging.{IsOpened}
 use Rattle.gc_plan.specs.Progress.{entries_in}
@@ -16,7 +17,7 @@ entries_from s m = option_map_or (λ c. entries_in (drop m c.logs)) s.collection
 next_in : (logs : List (List (ℕ × ℕ))) (m : ℕ) → entries_in (drop m logs) ≡ length (unwrap_or (slice_get logs m) []) + entries_in (drop (suc m) logs)
 next_in [] zero = refl
 next_in [] (suc m) = refl
-next_in (log ∷ logs) zero = refl
+next_in (log ∷ logs) zero = sum_by-cons (λ log. length log) log logs
 next_in (log ∷ logs) (suc m) = next_in logs m
 
 none_behind : (logs : List (List (ℕ × ℕ))) → entries_in (drop (length logs) logs) ≡ 0

@@ -4,6 +4,7 @@ use Rattle.std.specs.Option.{option_map_or, unwrap_or}
 use Rattle.std.proofs.Common.{◌≡◌, ℕ, zero, suc, ◌+◌, ◌<◌, ◌≤◌, List, [], ◌∷◌, ◌++◌, set, slice_get, Option, None, refl, sym, subst, arith}
 use Rattle.std.proofs.lemmas.Bool.{cond_both, and_parts, leb-true}
 use Rattle.std.proofs.lemmas.List.{length-append}
+use Rattle.std.proofs.lemmas.List.Sums.{sum_by-cons}
 use Rattle.gc_graph.specs.declared.command.Op.{Op}
 use Rattle.gc_plan.specs.State.{Collection, State, heap_end}
 use Rattle.gc_plan.specs.Belonging.{IsState}
@@ -24,8 +25,10 @@ use Rattle.gcflip_heap_c.proofs.Paced.{due_work}
 
 entries_more : (logs : List (List (ℕ × ℕ))) (m : ℕ) (more : List (ℕ × ℕ)) → entries_in logs ≤ entries_in (set logs m (unwrap_or (slice_get logs m) [] ++ more))
 entries_more [] m more = omega arith
-entries_more (log ∷ logs) zero more = let len = length-append log more in omega arith
-entries_more (log ∷ logs) (suc m) more = let others = entries_more logs m more in omega arith
+entries_more (log ∷ logs) zero more = omega (arith, length-append log more, sum_by-cons (λ log. length log) log logs, sum_by-cons (λ log. length log) (log ++ more) logs)
+entries_more (log ∷ logs) (suc m) more =
+    let others = entries_more logs m more in
+    omega (arith, sum_by-cons (λ log. length log) log logs, sum_by-cons (λ log. length log) log (set logs m (unwrap_or (slice_get logs m) [] ++ more)))
 
 entries_grow : (o : Option Collection) (m : ℕ) (more : List (ℕ × ℕ)) → option_map_or (λ (c : Collection). entries_in c.logs) o 0 ≤ option_map_or (λ (c : Collection). entries_in c.logs) (logged o m more) 0
 entries_grow o m more = grind (arith, common_steps, entries_more)

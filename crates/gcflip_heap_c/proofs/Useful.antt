@@ -19,7 +19,7 @@ use Rattle.gcflip_heap_c.specs.Work.{IsSoundReply, IsLarge, with_size, sized_ste
 
 none_first : (logs : List (List (ℕ × ℕ))) (k : ℕ) → list_all is_empty logs ≡ true → first_log k logs ≡ None
 none_first [] k e = refl
-none_first ([] ∷ logs) k e = none_first logs (suc k) e
+none_first ([] ∷ logs) k e = none_first logs (k + 1) e
 none_first ((entry ∷ log) ∷ logs) k e = absurd cc
 
 flips_if_ready : (s : State) (c : Collection) → s.collection ≡ Some c → is_ready c s.heap.graph ≡ true → useful_step s ≡ steps.Flip

@@ -1,7 +1,7 @@
 -- The pairs that a walk over two images from their roots finds: words that stand at the same place are met, and two
 -- references that meet are a pair, unless one of them has a partner.
 use Rattle.std.specs.Prelude.{◌≡◌, ℕ, suc, ◌<◌, ◌≤◌, ◌==◌, Bool, true, false, not, vec_capacity, ◌&&◌, if◌then◌else◌, List, [], ◌∷◌, ◌++◌, length, map, Option, Some, None, IsTrue, ⊤}
-use Rattle.std.specs.List.{All, AllZip, list_any}
+use Rattle.std.specs.List.{All, AllZip, list_any, count_by}
 use Rattle.gc_graph.specs.Graph.{Value, Nil, Num, Ref}
 use Rattle.gc_words.specs.Word.{read_value, words_correspond}
 use Rattle.gc_words.specs.Image.{Image, Block, is_start, block_at}
@@ -102,8 +102,7 @@ swapped pairs = map (λ p. (p.1, p.0)) pairs
 
 -- the number of entries that are not 0
 abbrev pub taken_in : List ℕ → ℕ
-taken_in [] = 0
-taken_in (entry ∷ rest) = if entry == 0 then taken_in rest else suc (taken_in rest)
+taken_in row = count_by (λ entry. not (entry == 0)) row
 
 -- the partners of old and of new addresses, by address
 abbrev pub partners_in : Image → Found → List ℕ

@@ -1,6 +1,6 @@
 -- A walk in breadth from the roots of an image: its visits, each with the reference by which it was found.
-use Rattle.std.specs.Prelude.{◌≡◌, ◌↔◌, ℕ, suc, ◌<◌, ◌≤◌, ◌^◌, ◌==◌, true, not, List, [], length, map, slice_get, slice_index, slice_index_or, vec_capacity, Option, Some, None, IsTrue, ⊤}
-use Rattle.gc_graph.specs.Graph.{Value, Ref, Object, Graph, lookup, follow, name_of}
+use Rattle.std.specs.Prelude.{◌≡◌, ◌↔◌, ℕ, suc, ◌<◌, ◌≤◌, ◌^◌, ◌==◌, true, not, List, length, map, slice_get, slice_index, slice_index_or, vec_capacity, Option, Some, IsTrue, ⊤}
+use Rattle.gc_graph.specs.Graph.{Value, Ref, Graph, lookup, fields_of, follow, name_of}
 use Rattle.gc_words.specs.Word.{value_of}
 use Rattle.gc_words.specs.Image.{Image, graph_of, is_start}
 use Rattle.gc_check.specs.Internal.Starts.{starts_from}
@@ -13,10 +13,6 @@ use Rattle.gc_check.specs.declared.visits.Visits.{Visits}
 use Rattle.gc_check.specs.declared.visits.Reference.{Reference}
 
 -- ---- nodes
-
-abbrev pub fields_of : Option Object → List Value
-fields_of None = []
-fields_of (Some object) = object.fields
 
 -- the values of a node: the roots, or the fields of an object
 abbrev pub values_of : Graph → Node → List Value

@@ -1,11 +1,7 @@
--- The oldest entry of a log, and whether a reply lets an entry be logged.
-use Rattle.std.specs.Prelude.{ℕ, List, [], ◌∷◌, Option, Some, None}
+-- Whether a reply lets an entry be logged.
+use Rattle.std.specs.Prelude.{ℕ, Option, None}
 use Rattle.gc_graph.specs.declared.reply.Reply.{Reply}
 use Rattle.gc_graph.specs.declared.reply.Reply.TheVariants.{Done}
-
-abbrev pub oldest : List (ℕ × ℕ) → Option (ℕ × ℕ)
-oldest [] = None
-oldest (entry ∷ rest) = Some entry
 
 -- the field that a command wrote, if the reply is `Done`
 abbrev pub if_done : Reply → Option (ℕ × ℕ) → Option (ℕ × ℕ)

@@ -1,5 +1,5 @@
 -- The object with this header lies within the words, and its fields follow its link.
-use Rattle.std.proofs.Common.{◌≡◌, ◌+◌, ◌-◌, ◌∙◌, ap, arith, take, drop, Some}
+use Rattle.std.proofs.Common.{◌≡◌, ◌+◌, ◌∙◌, ap, arith, take, drop, Some}
 use Rattle.gc_check.proofs.StartMarks.{header_stands}
 use Rattle.gc_check.proofs.object.fields_at.Goals as goal
 

@@ -46,7 +46,10 @@ returns-in-Ok-clause-belongs c =
     c.self.invariant.0 (subst (BelongsTo c.args.heap.now) (sym c.self.view_is) c.requires.belongs) c.in-Ok.ensures.graph (rest at.After-drop_oldest) (subst (BelongsTo c.apply_entry.new.heap) (sym c.self-2.view_is) c.in-Ok.ensures.belongs) (done at.After-drop_oldest) (has at.After-drop_oldest) c.drop_oldest.ensures
 
 pub returns-in-Err-clause-step : goal.returns-in-Err-clause-step
-returns-in-Err-clause-step c = grind (arith, common_steps, there_in, stays)
+returns-in-Err-clause-step c =
+    let at = goal.at.returns-in-Err-clause-step c in
+    let kept = stays c.args.heap.now (the_view c.self.inside) c.args.m c.index.result.now (there at.In-Some) (c.in-Some.entry.object.0, c.in-Some.entry.field) c.in-Some.ensures in
+    grind (arith, common_steps, kept)
 
 pub returns-in-Err-clause-room : goal.returns-in-Err-clause-room
 returns-in-Err-clause-room c larger same =

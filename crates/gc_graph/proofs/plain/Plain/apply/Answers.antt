@@ -1,7 +1,6 @@
 -- By cases of the commands: the reply and the new graph are the machine's, and the number of roots stays.
 use Rattle.std.proofs.lemmas.Grind.{common_steps}
 use Rattle.std.proofs.Common.{true, false, refl, arith}
-use Rattle.gc_graph.specs.Slots.{place}
 use Rattle.gc_graph.specs.Records.{graph_of, plain_value}
 use Rattle.gc_graph.specs.declared.command.Op.TheVariants.{Get, Put}
 use Rattle.gc_graph.proofs.Stepping.{answered_roots, answered, seen, kept, new_answered_if_ok, got_step, put_step}

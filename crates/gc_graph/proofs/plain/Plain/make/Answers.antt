@@ -1,6 +1,6 @@
 -- Without room nothing changes; else the object gets a name above all others, and its words are no longer free.
 use Rattle.std.proofs.lemmas.Grind.{common_steps}
-use Rattle.std.proofs.Common.{◌≡◌, ◌+◌, ◌-◌, ◌≤◌, ◌∙◌, ap, subst, sym, arith}
+use Rattle.std.proofs.Common.{◌≡◌, ◌+◌, ◌≤◌, ◌∙◌, ap, subst, sym, arith}
 use Rattle.gc_graph.specs.Limits.{most_words}
 use Rattle.gc_graph.specs.Graph.{Graph, set_root, add_object, new_object, Ref}
 use Rattle.gc_graph.specs.Records.{graph_of}

@@ -1,6 +1,7 @@
 -- The field words of the raw object in the slot are its numbers, and any other object has none.
 use Rattle.std.proofs.lemmas.Grind.{common_steps}
 use Rattle.std.proofs.Common.{◌≡◌, ◌<◌, ◌≤◌, ℕ, List, [], ◌∷◌, map, length, Bool, Some, None, true, cond, refl, sym, ap, ◌∙◌, subst, arith}
+use Rattle.std.specs.Bool.{then_some}
 use Rattle.gc_graph.specs.Graph.{Num, object_of, root, number_of}
 use Rattle.gc_graph.specs.Slots.{roots_of}
 use Rattle.gc_words.specs.Word.{value_of, field_value}
@@ -16,7 +17,7 @@ numbers_back : (header : Header) (words : List ℕ) → header.raw ≡ true → 
 numbers_back header [] raw = refl
 numbers_back header (w ∷ words) raw = λ i. ap (λ raw. number_of (cond raw (Num w) (value_of w))) raw i ∷ numbers_back header words raw i
 
-numbers_or_none : (header : Header) (words : List ℕ) (raw : Bool) → header.raw ≡ raw → cond raw (Some words) None ≡ cond raw (Some (map number_of (map (field_value header) words))) None
+numbers_or_none : (header : Header) (words : List ℕ) (raw : Bool) → header.raw ≡ raw → cond raw (Some words) None ≡ then_some raw (map number_of (map (field_value header) words))
 numbers_or_none header words raw is = grind (arith, common_steps, numbers_back)
 
 pub returns : goal.returns
