@@ -7,7 +7,8 @@ use Rattle.std.proofs.lemmas.Bool.{le-leb}
 use Rattle.std.proofs.lemmas.List.{take-map, drop-map, length-map}
 use Rattle.std.proofs.lemmas.List.Folds.{list_all-map}
 use Rattle.std.proofs.lemmas.Slice.{between_is}
-use Rattle.gc_graph.specs.Graph.{Num, Object, Graph, root, name_of}
+use Rattle.std.specs.Option.{option_map, option_and_then}
+use Rattle.gc_graph.specs.Graph.{Num, Object, Graph, lookup, root, name_of}
 use Rattle.gc_graph.specs.declared.command.Op.TheVariants.{Get, Put}
 use Rattle.gc_graph.specs.declared.reply.Reply.{Reply}
 use Rattle.gc_graph.specs.declared.reply.Reply.TheVariants.{Done, NoNumber}
@@ -18,7 +19,6 @@ use Rattle.gc_words.specs.Word.{value_of, field_value}
 use Rattle.gc_words.specs.Image.{Block, block_at, header_at, header_of, object_of_block}
 use Rattle.gc_words.proofs.Public.{object_found, fields_counted}
 use Rattle.gc_heap.specs.Heap.{HeapWords, IsHeap, graph_in}
-use Rattle.gc_heap.proofs.Public.{named}
 use Rattle.gc_plan.specs.State.{State}
 use Rattle.gc_plan.specs.Steps.{mutate}
 use Rattle.gc_core.specs.Internal.KnownRoots.{KnowsRoots}
@@ -35,7 +35,9 @@ object_with header fields = object_of_block (record { header = header; fields = 
 
 pub object_there : (h : HeapWords) (m a : ℕ) (slot : SlotName) (header : Header) (fields : List ℕ) → Some a ≡ name_of (root (graph_in h) (place slot m)) → header_at h.space.words a ≡ Some header
     → ((b : Block) → block_at h.space.words a ≡ Some b → fields ≡ b.fields) → Some (object_with header fields) ≡ object_in (graph_in h) slot m
-object_there h m a slot header fields name met are = grind (arith, common_steps, named, object_found)
+object_there h m a slot header fields name met are =
+    let found : object_in (graph_in h) slot m ≡ option_map object_of_block (block_at h.space.words a) = ap (option_and_then (lookup (graph_in h).objects)) (sym name) ∙ object_found h.space.words a in
+    grind (arith, common_steps, found)
 
 -- it has as many field words as its header says
 pub fields_there : (h : HeapWords) (a : ℕ) (header : Header) (fields : List ℕ) → IsHeap h → header_at h.space.words a ≡ Some header → ((b : Block) → block_at h.space.words a ≡ Some b → fields ≡ b.fields) → length fields ≡ header.len
