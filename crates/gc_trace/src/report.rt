@@ -1,8 +1,8 @@
 use gc_cert::WriteFault;
 use gc_copy::heaps_have_addresses_as_names;
-use gc_plan::StepReply;
 use gc_graph::text::Printer;
 use gc_graph::{Reply, Sink};
+use gc_plan::StepReply;
 use gc_words::Space;
 use gc_world::{Answer, World, runs_keep_states};
 use std::io::Write;
