@@ -33,7 +33,8 @@ IsAhead words at a = (e : ℕ × Block) × In e (result_unwrap_or (walk_from wor
 abbrev pub HasOriginals : List ℕ → HeapWords → Type 0
 HasOriginals words heap = (r : Replica) → In r (replicas_in words) → (is_start heap.space.words r.original ≡ true) × (r.original < 2 ^ 32)
 
--- The heap differs from the old one only in links. An object's link is not above the mark, or its replica is still ahead.
+-- The heap differs from the old one only in links. An object's link is not above the mark, or its replica is still ahead. The original of
+-- each replica has no link, or its replica is still ahead.
 pub record Clears (epoch : ℕ) (words : List ℕ) (old now : HeapWords) (at : ℕ) : Type 0 where
   pub done : List (ℕ × Block)
   pub met : Met words at done
@@ -41,6 +42,7 @@ pub record Clears (epoch : ℕ) (words : List ℕ) (old now : HeapWords) (at : �
   pub sound : IsHeap now
   pub graph : KeepsGraph old now
   pub links : (a : ℕ) → is_start old.space.words a ≡ true → (link_at now.space.words a - mark_of epoch ≡ 0) ⊎ IsAhead words at a
+  pub cleared : (r : Replica) → In r (replicas_in words) → (link_at now.space.words r.original ≡ 0) ⊎ IsAhead words at r.original
 
 -- ---- its steps
 
@@ -56,6 +58,7 @@ clears_none heap x c seen sound is belongs = record {
   sound = sound;
   graph = same_graph heap;
   links = λ a start. from a start (replica_of (collection_in x) a) refl;
+  cleared = λ r l. inr (ahead r l);
 }
   where
     k : BelongsTo heap x
@@ -67,12 +70,15 @@ clears_none heap x c seen sound is belongs = record {
     there : (o : Option Block) (object : Object) → option_map object_of_block o ≡ Some object → is_some o ≡ true
     there o object e = grind (arith, common_steps)
 
+    ahead : (r : Replica) → In r (replicas_in x.space.words) → IsAhead x.space.words 1 r.original
+    ahead r l = let entry = in_map_from (replica_entry x.space.words) r (blocks x.space.words) l in (entry.0, subst (In entry.0) met.split entry.1, ap (λ (q : Replica). q.original) entry.2)
+
     from : (a : ℕ) → is_start heap.space.words a ≡ true → (o : Option Replica) → replica_of (collection_in x) a ≡ o → (link_at heap.space.words a - mark_of x.epoch ≡ 0) ⊎ IsAhead x.space.words 1 a
     from a start None e = inl (k.links a start ∙ ap (λ (o : Option Replica). option_map_or (λ (r : Replica). r.place) o 0) e)
     from a start (Some r) e =
         let found = replica_in (collection_in x) a r e in
-        let entry = in_map_from (replica_entry x.space.words) r (blocks x.space.words) found.0 in
-        inr (entry.0, subst (In entry.0) met.split entry.1, ap (λ (q : Replica). q.original) entry.2 ∙ found.1)
+        let there = ahead r found.0 in
+        inr (there.0, there.1, there.2 ∙ found.1)
 
 -- the original that the link of the replica here leads to
 pub original_here : (epoch : ℕ) (words : List ℕ) (old now : HeapWords) (at : ℕ) → Clears epoch words old now at → at < length words → (is_start now.space.words (link_at words at) ≡ true) × (link_at words at < 2 ^ 32)
@@ -93,6 +99,7 @@ clears_more epoch words old now new at next k less e is sound =
       sound = subst IsHeap is sound;
       graph = then_kept old now after k.graph (linked_heap now (link_at words at) 0 k.sound there);
       links = λ a begins. ⊎_elim (λ same. inl (cleared a (eqb-true (link_at words at) a same))) (λ other. beside a (eqb-false (link_at words at) a other) (k.links a begins)) (cases_Bool (link_at words at == a));
+      cleared = λ r l. ⊎_elim (λ same. inl (zero r.original (eqb-true (link_at words at) r.original same))) (λ other. still r.original (eqb-false (link_at words at) r.original other) (k.cleared r l)) (cases_Bool (link_at words at == r.original));
     })
   where
     after : HeapWords
@@ -107,8 +114,11 @@ clears_more epoch words old now new at next k less e is sound =
     there : is_start now.space.words (link_at words at) ≡ true
     there = (original_here epoch words old now at k less).0
 
+    zero : (a : ℕ) → link_at words at ≡ a → link_at after.space.words a ≡ 0
+    zero a same = ap (link_at after.space.words) (sym same) ∙ link_written_there now.space (link_at words at) 0 (k.sound).space there
+
     cleared : (a : ℕ) → link_at words at ≡ a → link_at after.space.words a - mark_of epoch ≡ 0
-    cleared a same = let zero : link_at after.space.words a ≡ 0 = ap (link_at after.space.words) (sym same) ∙ link_written_there now.space (link_at words at) 0 (k.sound).space there in omega arith
+    cleared a same = let none : link_at after.space.words a ≡ 0 = zero a same in omega arith
 
     behind_it : (a : ℕ) → (link_at words at ≡ a → ⊥) → IsAhead words at a → IsAhead words next a
     behind_it a other ahead = grind (arith, common_steps, b)
@@ -116,10 +126,17 @@ clears_more epoch words old now new at next k less e is sound =
     beside : (a : ℕ) → (link_at words at ≡ a → ⊥) → (link_at now.space.words a - mark_of epoch ≡ 0) ⊎ IsAhead words at a → (link_at after.space.words a - mark_of epoch ≡ 0) ⊎ IsAhead words next a
     beside a other h = grind (arith, common_steps, link_written_beside, behind_it)
 
+    still : (a : ℕ) → (link_at words at ≡ a → ⊥) → (link_at now.space.words a ≡ 0) ⊎ IsAhead words at a → (link_at after.space.words a ≡ 0) ⊎ IsAhead words next a
+    still a other h = grind (arith, common_steps, link_written_beside, behind_it)
+
 -- ---- after the last replica
 
 pub none_above : (epoch : ℕ) (words : List ℕ) (old now : HeapWords) (at : ℕ) → Clears epoch words old now at → length words ≤ at → LinksNothing epoch now
 none_above epoch words old now at k past a start = grind (arith, common_steps, start_kept, at_end)
+
+pub none_left : (epoch : ℕ) (words : List ℕ) (old now : HeapWords) (at : ℕ) → Clears epoch words old now at → length words ≤ at
+    → (r : Replica) → In r (replicas_in words) → link_at now.space.words r.original ≡ 0
+none_left epoch words old now at k past r l = grind (arith, common_steps, at_end)
 
 -- the heap without a collection is that of the old one
 pub dropped_state : (epoch : ℕ) (words : List ℕ) (old now : HeapWords) (at : ℕ) → Clears epoch words old now at → idle_state now ≡ idle_state old

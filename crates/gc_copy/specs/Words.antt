@@ -34,6 +34,10 @@ pub record RoomWords : Type 0 where
   pub former : List ℕ
   pub epoch : ℕ
 
+-- the words of memory that such room takes, if there is any
+abbrev pub held_in : Option RoomWords → ℕ
+held_in room = option_map_or (λ (r : RoomWords). r.size) room 0
+
 -- ---- the collection that the words represent
 
 -- an object of the new space as a replica; its link is its original's address

@@ -18,6 +18,7 @@ ghost use Rattle.gc_copy.specs.Opening.{opening_state_with};
 ghost use Rattle.gc_plan.specs.Linked.{image_of_graph, linked_image, old_image, new_image, LeadsTo};
 ghost use Rattle.gc_plan.specs.Steps.{written, WritesField, mutate, collect, is_ready};
 ghost use Rattle.gc_plan.specs.Belonging.{IsSpaceGraph, IsState};
+ghost use Rattle.gc_plan.specs.Carried.{CarriesOnlyKeptFrom};
 ghost use Rattle.gc_plan.specs.Runs.{AreRootEvents, state_after};
 ghost use Rattle.gc_plan.specs.declared.event.Event.{Event};
 ghost use Rattle.gc_plan.specs.declared.step.Step.{Step};
@@ -91,6 +92,9 @@ pub fn extra_roots_are_kept()
     ensures runs { (options : HeapOptions) (events : List Event)
         → 1 ≤ options.size → options.size ≤ largest_space → AreRootEvents options.mutators events
         → IsState (state_after (opening_state_with options) events) }
+    // Each original of an open collection was reachable when the collection began, or was made later.
+    ensures carried { (options : HeapOptions)
+        → 1 ≤ options.size → options.size ≤ largest_space → CarriesOnlyKeptFrom (opening_state_with options) }
 {}
 
 /// If a new space of words is at least as large as the old one, no step lacks room.

@@ -8,10 +8,10 @@ use Rattle.gc_graph.specs.Graph.{Value, Nil, Num, Ref, Object, Graph, lookup, ob
 use Rattle.gc_graph.specs.Machine.{step, get_field, is_number, put_field}
 use Rattle.gc_plan.specs.State.{Replica, Collection, State, opening_state, heap_end, replica_of, replica_at, pairs_of, moved}
 use Rattle.gc_plan.specs.Steps.{mutate, log_at, with_log, place_replica, with_replica, with_written, write_replica, bring_value, bring_up_to_date, if_room, root_target, copy_root, scan_done, scan_replica, apply_entry, apply_log, is_ready, passes_check, step_in, step_idle, next_field}
-use Rattle.gc_plan.specs.Runs.{IsEvent, AreEvents, after, state_after}
+use Rattle.gc_plan.specs.Runs.{IsRootEvent, AreRootEvents, after, state_after}
 use Rattle.gc_plan.specs.declared.event.Event.{Event}
 use Rattle.gc_plan.specs.declared.event.Event.TheVariants.{Mutate, Collect}
-use Rattle.gc_plan.specs.Carried.{is_begun, base_after, base_of_run, IsLiveSince, CarriesOnlyKept, LeadsOnlyTo, OnlyKeptIsNamed, NamesOnlyKept, OnlyKeptIsPaired}
+use Rattle.gc_plan.specs.Carried.{is_begun, base_after, base_of_run, IsLiveSince, CarriesOnlyKept, CarriesOnlyKeptFrom, LeadsOnlyTo, OnlyKeptIsNamed, NamesOnlyKept, OnlyKeptIsPaired}
 use Rattle.gc_plan.specs.Members.{In}
 use Rattle.gc_plan.specs.Belonging.{RefersTo, IsState}
 use Rattle.gc_graph.specs.declared.command.Op.{Op}
@@ -26,7 +26,7 @@ use Rattle.gc_plan.proofs.Lists.{in_push, in_map_from, in_flat_map_from, in_set,
 use Rattle.gc_plan.proofs.Heap.{laid_range, lookup_in, lookup_laid, set_from, written_entry, written_in}
 use Rattle.gc_plan.proofs.Replicas.{pair, replica_in}
 use Rattle.gc_plan.proofs.Steps.{unreplicated_some}
-use Rattle.gc_plan.proofs.Runs.{Reached, opening_ok, event_keeps}
+use Rattle.gc_plan.proofs.Runs.{Reached, opening_ok, root_event_keeps, root_events}
 use Rattle.gc_words.proofs.Public.{some_of}
 
 -- ---- commands
@@ -227,9 +227,9 @@ record Follows (mutators : ℕ) (base s : State) : Type 0 where
 mutate_carries : (base s : State) (m : ℕ) (op : Op) → CarriesIn (IsLiveSince base) (heap_end base) s s.collection → CarriesIn (IsLiveSince base) (heap_end base) (mutate s m op).1 (mutate s m op).1.collection
 mutate_carries base s m op h = grind (arith, common_steps, cond_both, step_closed)
 
-event_carries : (mutators : ℕ) (base s : State) (event : Event) → Follows mutators base s → IsEvent mutators event → Follows mutators (base_after base s event) (after s event)
-event_carries mutators base s (Mutate m op) h r = record { reached = event_keeps mutators s (Mutate m op) h.reached r; carried = mutate_carries base s m op h.carried }
-event_carries mutators base s (Collect step) h r = record { reached = event_keeps mutators s (Collect step) h.reached r; carried = go s.collection refl h.carried step }
+event_carries : (mutators : ℕ) (base s : State) (event : Event) → Follows mutators base s → IsRootEvent mutators event → Follows mutators (base_after base s event) (after s event)
+event_carries mutators base s (Mutate m op) h r = record { reached = root_event_keeps mutators s (Mutate m op) h.reached r; carried = mutate_carries base s m op h.carried }
+event_carries mutators base s (Collect step) h r = record { reached = root_event_keeps mutators s (Collect step) h.reached r; carried = go s.collection refl h.carried step }
   where
     Goal : StepReply × State → Type 0
     Goal next = let first = cond (is_begun next.0) s base in CarriesIn (IsLiveSince first) (heap_end first) next.1 next.1.collection
@@ -250,24 +250,31 @@ event_carries mutators base s (Collect step) h r = record { reached = event_keep
     go None is k steps.Drop = idle is
     go (Some c) is k step = quiet (option_map_or (λ (c : Collection). step_in s c step) (Some c) (step_idle s step)) (open_quiet (IsLiveSince base) (heap_end base) s c step is (subst (CarriesIn (IsLiveSince base) (heap_end base) s) is k))
 
-run_carries : (mutators : ℕ) (events : List Event) (base s : State) → Follows mutators base s → AreEvents mutators events → Follows mutators (base_of_run base s events) (state_after s events)
+run_carries : (mutators : ℕ) (events : List Event) (base s : State) → Follows mutators base s → AreRootEvents mutators events → Follows mutators (base_of_run base s events) (state_after s events)
 run_carries mutators [] base s h r = h
 run_carries mutators (event ∷ events) base s h r = run_carries mutators events (base_after base s event) (after s event) (event_carries mutators base s event h r.0) r.1
 
+kept_named : (base s : State) (o : Option Collection) → CarriesIn (IsLiveSince base) (heap_end base) s o → OnlyKeptIsNamed base s.heap.graph o
+kept_named base s None k = tt
+kept_named base s (Some c) k = (k.0, all_from_in (λ (p : ℕ × ℕ). IsLiveSince base p.0) (pairs_of c) (λ p l. let q = in_map_from pair p c.replicas l in subst (λ (x : ℕ × ℕ). IsLiveSince base x.0) q.2 (k.1 q.0 q.1)))
+
+named_paired : (base : State) (g : Graph) (o : Option Collection) → OnlyKeptIsNamed base g o → OnlyKeptIsPaired base o
+named_paired base g None k = tt
+named_paired base g (Some c) k = k.1
+
+pub carries_from : (s : State) → IsState s → s.collection ≡ None → CarriesOnlyKeptFrom s
+carries_from s ok none events r =
+    let base : State = base_of_run s s events in
+    let end : State = state_after s events in
+    let f = run_carries s.mutators events s s (record { reached = record { ok = ok; count = refl }; carried = subst (CarriesIn (IsLiveSince s) (heap_end s) s) (sym none) tt }) r in
+    named_paired base end.heap.graph end.collection (kept_named base end _ f.carried)
+
 pub names_only_kept : NamesOnlyKept
 names_only_kept size mutators events low high r =
-    let f = run_carries mutators events (opening_state size mutators) (opening_state size mutators) (record { reached = record { ok = opening_ok size mutators low high; count = refl }; carried = tt }) r in
-    go (base_of_run (opening_state size mutators) (opening_state size mutators) events) (state_after (opening_state size mutators) events) _ f.carried
-  where
-    go : (base s : State) (o : Option Collection) → CarriesIn (IsLiveSince base) (heap_end base) s o → OnlyKeptIsNamed base s.heap.graph o
-    go base s None k = tt
-    go base s (Some c) k = (k.0, all_from_in (λ (p : ℕ × ℕ). IsLiveSince base p.0) (pairs_of c) (λ p l. let q = in_map_from pair p c.replicas l in subst (λ (x : ℕ × ℕ). IsLiveSince base x.0) q.2 (k.1 q.0 q.1)))
+    let f = run_carries mutators events (opening_state size mutators) (opening_state size mutators) (record { reached = record { ok = opening_ok size mutators low high; count = refl }; carried = tt }) (root_events mutators events r) in
+    kept_named (base_of_run (opening_state size mutators) (opening_state size mutators) events) (state_after (opening_state size mutators) events) _ f.carried
 
 pub carries_only_kept : CarriesOnlyKept
 carries_only_kept size mutators events low high r =
     let end : State = state_after (opening_state size mutators) events in
-    go (base_of_run (opening_state size mutators) (opening_state size mutators) events) end.heap.graph end.collection (names_only_kept size mutators events low high r)
-  where
-    go : (base : State) (g : Graph) (o : Option Collection) → OnlyKeptIsNamed base g o → OnlyKeptIsPaired base o
-    go base g None k = tt
-    go base g (Some c) k = k.1
+    named_paired (base_of_run (opening_state size mutators) (opening_state size mutators) events) end.heap.graph end.collection (names_only_kept size mutators events low high r)

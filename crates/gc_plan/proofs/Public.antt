@@ -1,5 +1,5 @@
 -- What other crates cite of this crate's proofs and internal definitions, passed on from one place. Declares nothing.
-pub use Rattle.gc_plan.proofs.Carried.{carries_only_kept}
+pub use Rattle.gc_plan.proofs.Carried.{carries_from, carries_only_kept}
 pub use Rattle.gc_plan.proofs.Commands.{Evolves, WrittenBy, root_fine, step_evolves, unchanged}
 pub use Rattle.gc_plan.proofs.Flips.{certified, corresponding_graphs, field_words_of_corresponding, flips, pairs_once, pairs_rise}
 pub use Rattle.gc_plan.proofs.Heap.{end_push, laid_apart, laid_end_is, laid_push, laid_range, lookup_in, lookup_laid, refers_map, set_from}

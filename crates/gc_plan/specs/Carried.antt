@@ -5,7 +5,7 @@ use Rattle.gc_graph.specs.Limits.{largest_space}
 use Rattle.gc_graph.specs.Graph.{Value, Object, Graph, Reachable}
 use Rattle.gc_plan.specs.State.{Collection, State, opening_state, heap_end, pairs_of}
 use Rattle.gc_plan.specs.Steps.{collect}
-use Rattle.gc_plan.specs.Runs.{AreEvents, after, state_after}
+use Rattle.gc_plan.specs.Runs.{AreEvents, AreRootEvents, after, state_after}
 use Rattle.gc_plan.specs.Members.{In}
 use Rattle.gc_plan.specs.Belonging.{RefersTo}
 use Rattle.gc_plan.specs.declared.event.Event.{Event}
@@ -37,6 +37,10 @@ OnlyKeptIsPaired base collection = IfSome collection (λ c. All (λ p. IsLiveSin
 abbrev pub CarriesOnlyKept : Type 0
 CarriesOnlyKept = (size mutators : ℕ) (events : List Event) → 1 ≤ size → size ≤ largest_space → AreEvents mutators events
     → (let opening = opening_state size mutators in OnlyKeptIsPaired (base_of_run opening opening events) (state_after opening events).collection)
+
+-- The same of every run from this state, in which no collection is open. Commands may name extra roots.
+abbrev pub CarriesOnlyKeptFrom : State → Type 0
+CarriesOnlyKeptFrom s = (events : List Event) → AreRootEvents s.mutators events → OnlyKeptIsPaired (base_of_run s s events) (state_after s events).collection
 
 -- P holds of each name in a root, and of each name in a field of an object that satisfies P
 pub record LeadsOnlyTo (P : ℕ → Type 0) (g : Graph) : Type 0 where

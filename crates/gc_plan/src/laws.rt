@@ -17,7 +17,7 @@ ghost use Rattle.gc_plan.specs.Belonging.{HasRawNumbers, IsSpaceGraph, HasField,
 ghost use Rattle.gc_plan.specs.Runs.{HasRange, IsStep, InEveryRun};
 ghost use Rattle.gc_plan.specs.Passing.{HasImage, PassesWhereReady, NeverRefused, AlwaysHasRoom, ScansToTheEnd, HasFewPairs};
 ghost use Rattle.gc_plan.specs.Progress.{ChangesLower, Advances, Ends, entries_in, entries_left, work_left};
-ghost use Rattle.gc_plan.specs.Carried.{CarriesOnlyKept, NamesOnlyKept};
+ghost use Rattle.gc_plan.specs.Carried.{CarriesOnlyKept, CarriesOnlyKeptFrom, NamesOnlyKept};
 ghost use Rattle.gc_plan.specs.Staying.{KnowsRoot, root_written};
 ghost use Rattle.gc_plan.specs.Rows.{Rows, SizedRows, FlipPairRows};
 ghost use Rattle.gc_plan.specs.declared.step.Step.{Step};
@@ -126,10 +126,12 @@ pub fn answers_tell_changes()
 
 /// In every run, each original of an open collection was reachable when the collection began, or was made
 /// later. The same is true of each object that a root, or a field of such an object, refers to.
-#[tactic(auto, using(crate::proofs::Carried::carries_only_kept, crate::proofs::Carried::names_only_kept))]
+#[tactic(auto, using(crate::proofs::Carried::carries_only_kept, crate::proofs::Carried::carries_from, crate::proofs::Carried::names_only_kept))]
 pub fn only_kept_is_carried()
     ensures pairs { CarriesOnlyKept }
     ensures names { NamesOnlyKept }
+    // So it is in runs from any well-formed state without a collection, whose commands may name extra roots.
+    ensures extra_roots { (s : State) → IsState s → s.collection ≡ None → CarriesOnlyKeptFrom s }
 {}
 
 /// If the new space is at least as large as the old one, no step lacks room.

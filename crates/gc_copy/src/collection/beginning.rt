@@ -17,6 +17,8 @@ impl Collection {
         requires { HasNoLinks heap.now }
         ensures step { IfOk result (λ c. collect (idle_state heap.now) Step.Begin ≡ (StepReply.Begun, open_state heap.now c)) }
         ensures belongs { IfOk result (BelongsTo heap.now) }
+        // Its links have no mark.
+        ensures epoch { IfOk result (λ c. c.epoch ≡ 0) }
     {
         Collection::begin_sized(alloc, heap, heap.space().size())
     }
@@ -27,6 +29,8 @@ impl Collection {
         requires low { 1 ≤ size }
         ensures step { IfOk result (λ c. collect (idle_state heap.now) (Step.BeginSized size) ≡ (StepReply.Begun, open_state heap.now c)) }
         ensures belongs { IfOk result (BelongsTo heap.now) }
+        // Its links have no mark.
+        ensures epoch { IfOk result (λ c. c.epoch ≡ 0) }
     {
         let room = Room::new(alloc, size, heap.mutators())?;
         Ok(Collection::begin_in(room, heap, 0))

@@ -4,7 +4,8 @@ ghost use Rattle.gc_words.specs.Spelling.{link_at};
 ghost use Rattle.gc_words.specs.Space.{image_with, without_links};
 ghost use Rattle.gc_words.specs.Views.{image_of, addresses};
 ghost use Rattle.gc_heap.specs.Heap.{IsHeap, graph_in};
-ghost use Rattle.gc_plan.specs.State.{pairs_of};
+ghost use Rattle.gc_plan.specs.Members.{In};
+ghost use Rattle.gc_plan.specs.State.{Replica, pairs_of};
 ghost use Rattle.gc_plan.specs.Steps.{collect, is_ready};
 ghost use Rattle.gc_copy.specs.Words.{IsCollection, AreMoved, collection_in, idle_state, open_state, BelongsTo, HasNoLinks, LinksNothing, TellsMoves, entries_of, new_root_words};
 ghost use Rattle.gc_copy.specs.Internal.Words.{KeepsGraph};
@@ -145,6 +146,21 @@ impl Collection {
         ensures step { collect (open_state heap.old self) Step.Drop ≡ (StepReply.Dropped, idle_state heap.new) }
         ensures heap { self.epoch ≡ 0 → heap.new ≡ record heap.old { space = without_links heap.old.space } }
         ensures links { LinksNothing self.epoch heap.new }
+        // In every epoch no original keeps a link.
+        ensures originals { (r : Replica) → In r (collection_in self).replicas → link_at heap.new.space.words r.original ≡ 0 }
+        ensures sound { IsHeap heap.new }
+    {
+        let _room = self.clear_into(heap);
+    }
+
+    /// Ends the collection as `drop_into` does, and returns its memory for the next one.
+    pub fn clear_into(self, heap: &mut Heap) -> Room
+        requires { BelongsTo heap.old self }
+        ensures step { collect (open_state heap.old self) Step.Drop ≡ (StepReply.Dropped, idle_state heap.new) }
+        ensures heap { self.epoch ≡ 0 → heap.new ≡ record heap.old { space = without_links heap.old.space } }
+        ensures links { LinksNothing self.epoch heap.new }
+        ensures originals { (r : Replica) → In r (collection_in self).replicas → link_at heap.new.space.words r.original ≡ 0 }
+        ensures room { (result.size ≡ self.space.size) × (result.mutators ≡ heap.old.mutators) }
         ensures sound { IsHeap heap.new }
     {
         // Here the prover learns that the heap is sound.
@@ -154,6 +170,17 @@ impl Collection {
             let original = OldAddr(self.space.link(at) as u32);
             heap.set_link(original, NewAddr(0));
             at = self.space.next_start(at);
+        }
+        let Collection {
+            space,
+            mut logs,
+            ..
+        } = self;
+        clear_logs(&mut logs);
+        Room {
+            space,
+            logs,
+            epoch: 0,
         }
     }
 }

@@ -17,6 +17,7 @@ impl Collection {
         ensures kept { (k : ℕ) → spare_of self.old k ≤ spare_of self.new k }
         ensures collection { collection_in self.new ≡ collection_in self.old }
         ensures space { self.new.space ≡ self.old.space }
+        ensures epoch { self.new.epoch ≡ self.old.epoch }
         ensures belongs { (heap : HeapWords) → BelongsTo heap self.old → BelongsTo heap self.new }
     {
         self.reserve_more(m, 1)
@@ -30,6 +31,7 @@ impl Collection {
         ensures kept { (k : ℕ) → spare_of self.old k ≤ spare_of self.new k }
         ensures collection { collection_in self.new ≡ collection_in self.old }
         ensures space { self.new.space ≡ self.old.space }
+        ensures epoch { self.new.epoch ≡ self.old.epoch }
         ensures belongs { (heap : HeapWords) → BelongsTo heap self.old → BelongsTo heap self.new }
     {
         self.logs[m as usize].reserve(more)
@@ -42,6 +44,7 @@ impl Collection {
         ensures collection { collection_in self.new
             ≡ with_log (collection_in self.old) m (log_at (collection_in self.old) m ++ (object.0, field) ∷ []) }
         ensures space { self.new.space ≡ self.old.space }
+        ensures epoch { self.new.epoch ≡ self.old.epoch }
         ensures spare { spare_of self.old m ≤ spare_of self.new m + 1 }
         // If only this field was out of date, the collection belongs to the heap again.
         ensures belongs { (heap : HeapWords) → HasField (graph_in heap).objects object.0 field

@@ -26,6 +26,7 @@ impl Collection {
         requires room { 1 ≤ spare_of self.old m }
         ensures step { mutate (open_state heap.old self.old) m (Op.Put s i t) ≡ (result, open_state heap.new self.new) }
         ensures belongs { BelongsTo heap.new self.new }
+        ensures epoch { self.new.epoch ≡ self.old.epoch }
         ensures mutators { heap.new.mutators ≡ heap.old.mutators }
         ensures spare { spare_of self.old m ≤ spare_of self.new m + 1 }
     {
@@ -58,6 +59,7 @@ impl Collection {
         requires field { (len : ℕ) × TakesFields heap.old (place d m) object.0 len × (i < len) }
         ensures step { mutate (open_state heap.old self.old) m (Op.Put d i t) ≡ (result, open_state heap.new self.new) }
         ensures belongs { BelongsTo heap.new self.new }
+        ensures epoch { self.new.epoch ≡ self.old.epoch }
         ensures mutators { heap.new.mutators ≡ heap.old.mutators }
         ensures spare { spare_of self.old m ≤ spare_of self.new m + 1 }
         ensures fields { (len : ℕ) → TakesFields heap.old (place d m) object.0 len → TakesFields heap.new (place d m) object.0 len }
@@ -91,6 +93,7 @@ impl Collection {
         requires number { number < 2 ^ 63 }
         ensures step { mutate (mutate (open_state heap.old self.old) m (Op.Num t number)).1 m (Op.Put s field t) ≡ (Reply.Done, open_state heap.new self.new) }
         ensures belongs { BelongsTo heap.new self.new }
+        ensures epoch { self.new.epoch ≡ self.old.epoch }
         ensures mutators { heap.new.mutators ≡ heap.old.mutators }
         ensures spare { spare_of self.old m ≤ spare_of self.new m + 1 }
         ensures fields { (len : ℕ) → TakesNumbers heap.old (place s m) object.0 len → TakesNumbers heap.new (place s m) object.0 len }

@@ -1,6 +1,6 @@
-ghost use Rattle.std.specs.Prelude.{◌≡◌, ◌≤◌, ◌+◌, [], IfOk, IfSome, map, replicate};
+ghost use Rattle.std.specs.Prelude.{◌≡◌, ◌≤◌, ◌-◌, [], IfOk, map, replicate};
 ghost use Rattle.std.specs.Option.{option_map};
-ghost use Rattle.gc_copy.specs.Words.{entries_of, moved_in};
+ghost use Rattle.gc_copy.specs.Words.{entries_of, held_in, moved_in};
 
 use super::copying::link_mark;
 use crate::log::MutationLog;
@@ -58,7 +58,7 @@ impl Room {
     /// Frees the memory of the last `words` words of the space, of which the room then keeps none. Returns the rest, or `None` if there is no
     /// other word. Allocates nothing.
     pub fn without(self, words: u32) -> Option<Room>
-        ensures { IfSome result (λ room. room.size + words ≡ self.size) }
+        ensures { held_in result ≡ self.size - words }
     {
         let Room { space, logs, .. } = self;
         let left = space.size().saturating_sub(words);

@@ -26,6 +26,7 @@ impl Collection {
         ensures step { collect (open_state heap.old self.old) Step.Roots ≡ (result, open_state heap.new self.new) }
         ensures room { heap.old.space.size ≤ self.old.space.size → result ≢ StepReply.NoRoom }
         ensures belongs { BelongsTo heap.new self.new }
+        ensures epoch { self.new.epoch ≡ self.old.epoch }
         ensures mutators { heap.new.mutators ≡ heap.old.mutators }
     {
         let first = self.first_root(heap);
@@ -40,6 +41,7 @@ impl Collection {
         ensures step { collect (open_state heap.old self.old) Step.Roots ≡ (result, open_state heap.new self.new) }
         ensures room { heap.old.space.size ≤ self.old.space.size → result ≢ StepReply.NoRoom }
         ensures belongs { BelongsTo heap.new self.new }
+        ensures epoch { self.new.epoch ≡ self.old.epoch }
         ensures mutators { heap.new.mutators ≡ heap.old.mutators }
     {
         new_spaces_have_room();
@@ -63,6 +65,7 @@ impl Collection {
         ensures step { collect (open_state heap.old self.old) Step.Scan ≡ (result, open_state heap.new self.new) }
         ensures room { heap.old.space.size ≤ self.old.space.size → result ≢ StepReply.NoRoom }
         ensures belongs { BelongsTo heap.new self.new }
+        ensures epoch { self.new.epoch ≡ self.old.epoch }
         ensures mutators { heap.new.mutators ≡ heap.old.mutators }
     {
         new_spaces_have_room();
@@ -97,6 +100,7 @@ impl Collection {
         ensures step { collect (open_state heap.old self.old) (Step.Apply m) ≡ (result, open_state heap.new self.new) }
         ensures room { heap.old.space.size ≤ self.old.space.size → result ≢ StepReply.NoRoom }
         ensures belongs { BelongsTo heap.new self.new }
+        ensures epoch { self.new.epoch ≡ self.old.epoch }
         ensures mutators { heap.new.mutators ≡ heap.old.mutators }
     {
         new_spaces_have_room();

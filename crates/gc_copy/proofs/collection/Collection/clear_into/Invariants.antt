@@ -1,7 +1,7 @@
 -- So far, an object of the heap has no link above the mark, or its replica is still ahead.
 use Rattle.std.proofs.Common.{◌-◌, length}
 use Rattle.gc_copy.proofs.Dropping.{Clears}
-use Rattle.gc_copy.proofs.collection.Collection.drop_into.Given as goal
+use Rattle.gc_copy.proofs.collection.Collection.clear_into.Given as goal
 
 -- the originals of the replicas before this place have no link
 abbrev pub invariant-loop-at : goal.invariant-loop-at

@@ -4,10 +4,11 @@ use Rattle.std.proofs.Common.{◌≡◌, arith, rules, ◌<◌, ℕ, List, sym, 
 use Rattle.std.specs.Prelude.{◌^◌}
 use Rattle.gc_words.specs.Image.{is_start}
 use Rattle.gc_heap.specs.Heap.{HeapWords}
-use Rattle.gc_copy.specs.Words.{CollectionWords}
+use Rattle.gc_plan.specs.Members.{In}
+use Rattle.gc_copy.specs.Words.{CollectionWords, replicas_in}
 use Rattle.gc_copy.proofs.ObjectWalks.{start_met}
-use Rattle.gc_copy.proofs.Dropping.{Clears, clears_none, original_here, clears_more, none_above, dropped_state, all_cleared}
-use Rattle.gc_copy.proofs.collection.Collection.drop_into.Goals as goal
+use Rattle.gc_copy.proofs.Dropping.{Clears, clears_none, original_here, clears_more, none_above, none_left, dropped_state, all_cleared}
+use Rattle.gc_copy.proofs.collection.Collection.clear_into.Goals as goal
 
 pub loop-at-init : goal.loop-at-init
 loop-at-init c = clears_none c.args.heap.now _ c.args.self c.self.view_is c.space.ensures.sound c.self.invariant.0 c.requires
@@ -43,3 +44,6 @@ returns-clause-step c = grind (arith, common_steps, dropped_state)
 
 pub returns-clause-links : goal.returns-clause-links
 returns-clause-links c = grind (arith, common_steps, none_above)
+
+pub returns-clause-originals : goal.returns-clause-originals
+returns-clause-originals c = λ r l. none_left c.self.inside.epoch c.self.inside.space.words c.args.heap.now c.loop-at.heap c.loop-at.at.0 c.loop-at.invariant (omega arith) r (subst (λ y. In r (replicas_in y)) (ap (λ (y : CollectionWords). y.space.words) (sym c.self.view_is)) l)
