@@ -14,7 +14,9 @@ use Rattle.gc_words.specs.declared.header.Header.{Header}
 use Rattle.gc_along.specs.Watch.{Watch, IsSeen, IsNext, IsWatched, Watches, OldIsDue, NewIsDue, mark, is_due, pair_at, seen_at, looked}
 use Rattle.gc_along.specs.Origins.{pairs_in, pairs_from}
 use Rattle.gc_along.specs.Outline.{outline_of}
-use Rattle.gc_along.specs.Tables.{Tables, IsKept, CertifiedBy, watch_of, due_in}
+use Rattle.gc_along.specs.Tables.{Tables, IsKept, watch_of, due_in}
+use Rattle.gc_along.specs.Claims.{Accepts}
+use Rattle.gc_along.proofs.Seen.{certified}
 use Rattle.gc_along.specs.Telling.{MarksAreStarts, Tells}
 use Rattle.gc_along.specs.Events.{code_of, object_codes, with_news, with_due, old_added, replica_added, IsClaim, IsCopy, Made, Placed, IsFieldOf, Looked, IsReplicaAt, HasNoReplica, Wrote, Applied, Freed, opening_tables, flipped_tables}
 use Rattle.gc_along.proofs.Codes.{code_set}
@@ -59,8 +61,12 @@ module _ (t : Tables) (k : ℕ) (d : ℕ × ℕ) (l : k < length (pairs_in t.ori
 
 -- ---- a yes
 
-pub sound : (old new : Image) (t : Tables) → Tells old.words new.words t → CertifiedBy t (outline_of old) (outline_of new) → Certified old new (pairs_in t.origins)
-sound old new t tells said = said.1 old new refl refl tells.watches
+pub sound_watched : (old new : Image) (t : Tables) → IsKept t → Watches old.words new.words (watch_of t) → Accepts t (outline_of old) (outline_of new) → Certified old new (pairs_in t.origins)
+sound_watched old new t kept watches said =
+    certified old new (watch_of t) watches (record { old_seen = said.old_seen; new_seen = said.new_seen; none_due = sym kept.counted ∙ said.none_due }) said.old_sized said.new_sized said.roots
+
+pub sound : (old new : Image) (t : Tables) → Tells old.words new.words t → Accepts t (outline_of old) (outline_of new) → Certified old new (pairs_in t.origins)
+sound old new t tells said = sound_watched old new t tells.kept tells.watches said
 
 -- ---- nothing is seen of a new space
 

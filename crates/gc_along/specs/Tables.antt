@@ -1,10 +1,7 @@
 -- The tables of a standing checker, and the watch that they hold.
-use Rattle.std.specs.Prelude.{◌≡◌, ◌≤◌, ℕ, Bool, ◌==◌, List, length, count_by, map, slice_index_or, IsFalse}
+use Rattle.std.specs.Prelude.{◌≡◌, ◌≤◌, ℕ, Bool, ◌==◌, List, length, count_by, map, slice_index_or}
 use Rattle.gc_graph.specs.Limits.{largest_space}
-use Rattle.gc_words.specs.Image.{Image}
-use Rattle.gc_words.specs.Certificate.{Certified}
-use Rattle.gc_along.specs.Outline.{ImageOutline, outline_of}
-use Rattle.gc_along.specs.Watch.{Watch, Watches}
+use Rattle.gc_along.specs.Watch.{Watch}
 use Rattle.gc_along.specs.Origins.{pairs_in}
 
 -- By old place, as far as the walk has come: 0, 1 for a start, 2 for one whose replica was seen. By new place: 0, 1 for a
@@ -35,9 +32,3 @@ pub record IsKept (t : Tables) : Type 0 where
 
 abbrev pub watch_of : Tables → Watch
 watch_of t = record { pairs = pairs_in t.origins; old_seen = length t.olds; new_seen = length t.news; due = due_in t.news }
-
--- what a yes says of two outlines: nothing was lost, and the certificate holds of all images with these outlines if the tables tell the
--- truth of their words
-abbrev pub CertifiedBy : Tables → ImageOutline → ImageOutline → Type 0
-CertifiedBy t o n = IsFalse t.lost × ((old new : Image) → outline_of old ≡ o → outline_of new ≡ n
-    → Watches old.words new.words (watch_of t) → Certified old new (pairs_in t.origins))

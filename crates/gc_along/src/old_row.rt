@@ -1,7 +1,7 @@
 //! The codes of the old space. Those of a collection that was given up count no more.
 
 ghost use Rattle.std.specs.Prelude.{◌≡◌, ◌<◌, ◌≤◌, ◌+◌, ◌++◌, ◌∷◌, [], ℕ, IfOk, OnOk, IsTrue, length, replicate, slice_index, slice_index_or, slice_set};
-ghost use Rattle.gc_along.specs.Internal.InWords.{Codes, freed};
+ghost use Rattle.gc_along.specs.Internal.InWords.{freed};
 
 use crate::code_row::CodeRow;
 use crate::walking::{START, TAKEN};
@@ -32,12 +32,17 @@ pub(crate) struct OldRow {
 }
 
 impl Model for OldRow {
-    ghost use Rattle.std.specs.Prelude.{ℕ, ◌≤◌, slice_index_or};
-    ghost use Rattle.gc_along.specs.Internal.InWords.{Codes, codes_now};
+    ghost use Rattle.std.specs.Prelude.{ℕ, ◌≤◌, ◌-◌, ◌*◌, slice_index_or, vec_capacity};
+    ghost use Rattle.gc_along.specs.Internal.InWords.{OldCodes, codes_now};
 
-    ghost Value = { Codes };
+    ghost Value = { OldCodes };
 
-    ghost view = { λ row. record { codes = codes_now row.epochs.items row.epoch 0 row.row.codes; room = row.row.room } };
+    ghost view = { λ row. record {
+      codes = codes_now row.epochs.items row.epoch 0 row.row.codes;
+      room = row.row.room;
+      covered = 256 * vec_capacity row.epochs;
+      left = 4294967295 - row.epoch;
+    } };
 
     ghost invariant = { λ row. (block : ℕ) → slice_index_or row.epochs.items block 0 ≤ row.epoch };
 }
@@ -46,7 +51,9 @@ impl OldRow {
     /// Returns a row of place 0 alone, whose code is 0, with room for so many places. Allocates twice.
     pub(crate) fn new(alloc: Global, places: u32) -> Result<OldRow, NoMemory>
         requires { 1 ≤ places }
-        ensures { IfOk result (λ row. (row.codes ≡ 0 ∷ []) × (places ≤ row.room)) }
+        ensures codes { IfOk result (λ row. row.codes ≡ 0 ∷ []) }
+        ensures room { IfOk result (λ row. places ≤ row.room) }
+        ensures covered { IfOk result (λ row. places ≤ row.covered) }
     {
         let row = CodeRow::new(alloc, places)?;
         let epochs = Vec::with_capacity(alloc, blocks_of(places))?;
@@ -59,7 +66,7 @@ impl OldRow {
 
     /// Returns a row of no places, without room. Does not allocate.
     pub(crate) fn absent(alloc: Global) -> OldRow
-        ensures { result ≡ record { codes = []; room = 0 } }
+        ensures { (result.codes ≡ []) × (result.room ≡ 0) }
     {
         OldRow {
             row: CodeRow::absent(alloc),
@@ -72,7 +79,7 @@ impl OldRow {
     pub(crate) fn reserve(&mut self, places: u32) -> Result<(), NoMemory>
         ensures codes { self.new.codes ≡ self.old.codes }
         ensures room { self.old.room ≤ self.new.room }
-        ensures reserved { OnOk result (places ≤ self.new.room) }
+        ensures reserved { OnOk result ((places ≤ self.new.room) × (places ≤ self.new.covered)) }
     {
         let blocks = blocks_of(places);
         if self.epochs.len() < blocks {
@@ -166,6 +173,8 @@ impl OldRow {
         ensures len { length self.new.codes ≡ length self.old.codes }
         ensures codes { (a : ℕ) → slice_index_or self.new.codes a 0 ≡ freed (slice_index_or self.old.codes a 0) }
         ensures room { self.old.room ≤ self.new.room }
+        // No code is written but in the last epoch.
+        ensures left { 1 ≤ self.old.left → self.new.left + 1 ≡ self.old.left }
     {
         keep_below_last(&mut self.row, &mut self.epochs, &mut self.epoch);
         self.epoch += 1;
@@ -258,6 +267,7 @@ fn keep_below_last(row: &mut CodeRow, epochs: &mut Vec<u32>, epoch: &mut u32)
     ensures low { (b : ℕ) → slice_index_or epochs.new.items b 0 ≤ epoch.new }
     ensures last { epoch.new < 4294967295 }
     ensures room { row.old.room ≤ row.new.room }
+    ensures same { epoch.old < 4294967295 → (epoch.new ≡ epoch.old) × (epochs.new ≡ epochs.old) × (row.new ≡ row.old) }
 {
     if *epoch == u32::MAX {
         settle_all(row, epochs, epoch);

@@ -1,12 +1,12 @@
 use crate::code_row::CodeRow;
 use crate::old_row::OldRow;
 use crate::origin_row::OriginRow;
+use crate::origins_tell_pairs;
 use crate::outline::Outline;
 use crate::walking::{
     DUE, START, TAKEN, add_codes, claim_in, code_of, is_copy, next_header, next_within,
 };
 use crate::watcher::Watcher;
-use crate::{origins_tell_pairs, what_is_seen_is_certified};
 use gc_graph::NoMemory;
 use gc_words::{Addr, Header, Value, decode_wide, field_index};
 use std::alloc::Global;
@@ -62,7 +62,7 @@ impl Standing {
     ghost use Rattle.gc_along.specs.Origins.{pairs_in};
     ghost use Rattle.gc_along.specs.Outline.{outline_in};
     ghost use Rattle.gc_along.specs.Watch.{RootsCorrespond};
-    ghost use Rattle.gc_along.specs.Tables.{CertifiedBy};
+    ghost use Rattle.gc_along.specs.Tables.{IsKept};
     ghost use Rattle.gc_along.specs.Telling.{IsMark, Tells};
     ghost use Rattle.gc_along.specs.Events.{Made, Placed, Looked, Wrote, Applied, Freed, WalkedAnew, IsFieldOf, HasNoReplica, object_codes, absent_tables, opening_tables, flipped_tables, with_due};
     ghost use Rattle.gc_along.specs.Claims.{Accepts, CanApply, CanLook, CanMake, CanPlaceNext, CanWrite, IsLinked, OwesNone};
@@ -490,10 +490,9 @@ impl Standing {
 
     /// Returns whether all is seen and compared, and the roots correspond.
     pub fn says_yes(&self, old: Outline, new: Outline) -> bool
-        ensures yes { IsTrue result → CertifiedBy self.now (outline_in old.entry) (outline_in new.entry) }
-        ensures accepts { Accepts self.now (outline_in old.entry) (outline_in new.entry) → IsTrue result }
+        ensures exact { IsTrue result ↔ Accepts self.now (outline_in old.entry) (outline_in new.entry) }
+        ensures kept { IsTrue result → IsKept self.now }
     {
-        what_is_seen_is_certified();
         if self.lost {
             return false;
         }
@@ -547,10 +546,10 @@ impl Standing {
 }
 
 impl Watcher for Standing {
-    ghost use Rattle.gc_along.specs.Tables.{CertifiedBy};
+    ghost use Rattle.gc_along.specs.Tables.{IsKept};
     ghost use Rattle.gc_along.specs.Claims.{Accepts};
 
-    ghost accepted = { CertifiedBy };
+    ghost accepted = { λ t old new. IsKept t × Accepts t old new };
 
     ghost sure = { Accepts };
 

@@ -8,14 +8,18 @@ ghost use Rattle.gc_words.specs.Layout.{field_place, link_place};
 ghost use Rattle.gc_along.specs.Events.{Applied, Freed, Looked, Made, Placed, Wrote, flipped_tables, opening_tables};
 ghost use Rattle.gc_along.specs.Origins.{pairs_in};
 ghost use Rattle.gc_along.specs.Outline.{outline_of};
-ghost use Rattle.gc_along.specs.Tables.{CertifiedBy, Tables, watch_of};
+ghost use Rattle.gc_along.specs.Claims.{Accepts};
+ghost use Rattle.gc_along.specs.Tables.{IsKept, Tables, watch_of};
 ghost use Rattle.gc_along.specs.Telling.{Tells};
-ghost use Rattle.gc_along.specs.Watch.{NewIsDue};
+ghost use Rattle.gc_along.specs.Watch.{NewIsDue, Watches};
 
 /// A yes of tables that tell the truth is sound. Nothing is assumed of the collector.
 pub fn a_yes_is_sound()
-    ensures { (old new : Image) (t : Tables) → Tells old.words new.words t → CertifiedBy t (outline_of old) (outline_of new)
+    ensures told { (old new : Image) (t : Tables) → Tells old.words new.words t → Accepts t (outline_of old) (outline_of new)
         → Certified old new (pairs_in t.origins) }
+    // It is enough that the tables agree, and that their watch is true of the words.
+    ensures watched { (old new : Image) (t : Tables) → IsKept t → Watches old.words new.words (watch_of t)
+        → Accepts t (outline_of old) (outline_of new) → Certified old new (pairs_in t.origins) }
 {}
 
 /// Each event of a standing checker leaves its tables telling the truth.

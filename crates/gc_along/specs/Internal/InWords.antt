@@ -11,6 +11,14 @@ pub record Codes : Type 0 where
   pub codes : List ℕ
   pub room : ℕ
 
+-- The same for old places. For so many places each block of 256 can have an epoch of its own, and so many times all codes can be freed before
+-- they are written.
+pub record OldCodes : Type 0 where
+  pub codes : List ℕ
+  pub room : ℕ
+  pub covered : ℕ
+  pub left : ℕ
+
 -- the code that has two bits of this word
 abbrev pub code_in : ℕ → ℕ → ℕ
 code_in word k = word / 2 ^ (2 * k) % 4

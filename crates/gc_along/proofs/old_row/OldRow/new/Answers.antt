@@ -4,5 +4,5 @@ use Rattle.std.proofs.Common.{arith}
 use Rattle.gc_along.proofs.Freed.{now_first}
 use Rattle.gc_along.proofs.old_row.OldRow.new.Goals as goal
 
-pub returns : goal.returns
-returns c = grind (arith, common_steps, now_first)
+pub returns-clause-codes : goal.returns-clause-codes
+returns-clause-codes c = grind (arith, common_steps, now_first)
