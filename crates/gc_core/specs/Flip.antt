@@ -1,6 +1,6 @@
 -- What a flip shows its checker, and the pair of heaps that the checker accepts.
 use Rattle.std.specs.Prelude.{◌≡◌, ◌≢◌, ◌≤◌, ℕ, length, Option, None, IfSome, IsSomeAnd, IsTrue}
-use Rattle.std.specs.Option.{option_map}
+use Rattle.std.specs.Option.{option_map, option_map_or}
 use Rattle.gc_words.specs.Certificate.{Certified}
 use Rattle.gc_along.specs.Outline.{ImageOutline, outline_of}
 use Rattle.gc_cert.specs.Grammar.{CertifiedPair}
@@ -44,6 +44,17 @@ HasAccepted accepted pair = accepted (outline_of pair.old) (outline_of pair.new)
 -- if the open collection is ready, a checker that went along is sure of the outlines of its pair's images
 abbrev pub IsSureIfReady : (ImageOutline → ImageOutline → Type 0) → State → Type 0
 IsSureIfReady sure s = IfSome s.collection (λ c. IsTrue (is_ready c s.heap.graph) → HasAccepted sure (flip_pair s c))
+
+-- ---- the memory that a step leaves
+
+-- the words of the open collection's new space, if there is one
+abbrev pub new_size : State → ℕ
+new_size s = option_map_or (λ (c : Collection). c.size) s.collection 0
+
+-- the words of room that a step leaves which gets this reply in this state: a flip leaves the old space
+abbrev pub left_by : State → StepReply → ℕ
+left_by s (Flipped pairs) = s.size
+left_by s reply = 0
 
 -- ---- the old space of the last flip
 

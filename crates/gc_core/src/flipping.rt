@@ -24,7 +24,8 @@ use std::alloc::Global;
 
 impl CollectedHeap {
     ghost use Rattle.gc_core.specs.CollectedHeap.{Allocates};
-    ghost use Rattle.gc_core.specs.Flip.{FlipsOnly, FormerAfter, IsSureIfReady, PassesIfReady, kept_after};
+    ghost use Rattle.gc_core.specs.Flip.{FlipsOnly, FormerAfter, IsSureIfReady, PassesIfReady, kept_after, left_by};
+    ghost use Rattle.gc_copy.specs.Words.{held_in};
     ghost use Rattle.gc_cert.specs.Grammar.{CertifiedPair};
     ghost use Rattle.std.specs.Prelude.{Option};
     ghost use Rattle.gc_core.specs.declared.flip.Keep.{Keep};
@@ -90,6 +91,7 @@ impl CollectedHeap {
         // What the other checker accepted is certified.
         ensures sound { IfOk result (λ flip. IsTrue flip.whole → FlipsOnly IsCertified self.old flip.reply) }
         ensures room { IfOk result (λ flip. FormerAfter self.old None flip.reply flip.room) }
+        ensures held { IfOk result (λ flip. held_in flip.room ≡ left_by self.old flip.reply) }
         // Where the one that went along does not refuse, the other is not asked, and the flip asks for no memory.
         ensures alone { IsSureIfReady (W.sure along.now) self.old → IsOkAnd result (λ flip. IsFalse flip.whole) }
         // A ready collection passes, so no flip is refused.
@@ -129,6 +131,7 @@ impl CollectedHeap {
         ensures asked { IfOk result (λ flip. FlipsOnly (C.says_yes checker.now) self.old flip.reply) }
         ensures sound { IfOk result (λ flip. FlipsOnly IsCertified self.old flip.reply) }
         ensures room { IfOk result (λ flip. FormerAfter self.old None flip.reply flip.room) }
+        ensures held { IfOk result (λ flip. held_in flip.room ≡ left_by self.old flip.reply) }
         ensures passes { IfOk result (λ flip. PassesIfReady self.old flip.reply) }
         ensures never_refused { IfOk result (λ flip. flip.reply ≢ StepReply.Refused) }
         ensures refused { OnErr result (self.new ≡ self.old) }
@@ -150,6 +153,7 @@ impl CollectedHeap {
         ensures step { collect self.old Step.Flip ≡ (result.reply, self.new) }
         ensures whole { IsTrue result.whole }
         ensures room { FormerAfter self.old None result.reply result.room }
+        ensures held { held_in result.room ≡ left_by self.old result.reply }
         ensures passes { PassesIfReady self.old result.reply }
         ensures never_refused { result.reply ≢ StepReply.Refused }
         ensures mutators { self.new.mutators ≡ self.old.mutators }

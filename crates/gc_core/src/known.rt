@@ -72,6 +72,8 @@ impl KnownRoots {
         ensures knows { (s : State) → KnowsRoots self s
             → ((k : ℕ) → from ≤ k → k < to → root s.heap.graph (roots_of s.mutators + k) ≡ Nil) → KnowsRoots result s }
         ensures count { result.count ≡ self.count }
+        // A later search reads no root from `from` on, if all behind it were cleared.
+        ensures used { self.used ≤ to → result.used ≡ min self.used from }
     {
         let from = from as usize;
         if (to as usize) < self.used || self.used <= from {
@@ -136,6 +138,8 @@ pub(crate) fn search(collection: &Collection, heap: &Heap, known: KnownRoots) ->
     ensures first { option_map (λ r. r.target.0) result.missing ≡ root_target (collection_in collection.now) (graph_in heap.now) }
     ensures next { IfSome result.missing (FindsFirst result.known (open_state heap.now collection.now)) }
     ensures start { IfSome result.missing (λ r. IsTrue (is_start heap.now.space.words r.target.0)) }
+    // The next search reads none of them again.
+    ensures all { result.missing ≡ None → (result.known.slots ≡ roots_of heap.now.mutators) × (result.known.extra ≡ known.used) × (result.known.used ≡ known.used) }
 {
     let slots = root_count(heap.mutators());
     if let Some(missing) = collection.missing_root(heap, known.slots, slots) {

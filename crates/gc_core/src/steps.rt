@@ -19,7 +19,8 @@ impl CollectedHeap {
     ghost use Rattle.gc_plan.specs.Steps.{collect, useful_step};
     ghost use Rattle.gc_plan.specs.Runs.{IsStep};
     ghost use Rattle.gc_plan.specs.declared.step.StepReply.{StepReply};
-    ghost use Rattle.gc_core.specs.Flip.{FlipsOnly, FormerAfter, IsCertified, PassesIfReady, HasRoomIfLarge};
+    ghost use Rattle.gc_core.specs.Flip.{FlipsOnly, FormerAfter, IsCertified, PassesIfReady, HasRoomIfLarge, new_size};
+    ghost use Rattle.gc_copy.specs.Words.{held_in};
     ghost use Rattle.gc_core.specs.CollectedHeap.{Allocates};
 
     /// Performs one collector step. A flip happens only if the checker accepts the certificate; its pair is not
@@ -166,6 +167,7 @@ impl CollectedHeap {
     /// are above no mark in the next epoch. The time depends on the number of mutators and of log entries alone, but for one call in 2^32.
     pub fn abandon(&mut self) -> (StepReply, Option<Room>)
         ensures step { collect self.old Step.Drop ≡ (result.0, self.new) }
+        ensures held { held_in result.1 ≡ new_size self.old }
         ensures mutators { self.new.mutators ≡ self.old.mutators }
     {
         let Some(collection) = self.collection.take() else {
@@ -174,8 +176,8 @@ impl CollectedHeap {
         let epoch = collection.epoch();
         if epoch == u32::MAX {
             self.epoch = epoch;
-            collection.drop_into(&mut self.heap);
-            return (StepReply::Dropped, None);
+            let room = collection.clear_into(&mut self.heap);
+            return (StepReply::Dropped, Some(room));
         }
         let (room, next) = collection.abandon(&self.heap);
         self.epoch = next;
