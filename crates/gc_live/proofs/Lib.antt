@@ -6,3 +6,4 @@ pub mod LastsOn
 pub mod Filled
 pub mod Puts
 pub mod Starts
+mod Counts

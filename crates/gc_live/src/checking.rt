@@ -1,5 +1,7 @@
 //! When a flip is checked whole, and how many were.
 
+ghost use Rattle.std.specs.Prelude.{◌≡◌, ◌+◌, ◌<◌, ◌^◌, nat_le, nat_lt, ◌&&◌};
+
 /// When the checker looks at a collection.
 #[derive(Clone, Copy, Debug, Drop, PartialEq, Eq)]
 pub enum Checking {
@@ -23,8 +25,12 @@ pub struct FlipChecks {
 }
 
 impl FlipChecks {
+    ghost use Rattle.gc_live.specs.Live.{counted};
+
     // With one flip more. A count stays at the largest number that it can hold.
-    pub(crate) fn with(self, whole: bool) -> FlipChecks {
+    pub(crate) fn with(self, whole: bool) -> FlipChecks
+        ensures { result ≡ counted whole self }
+    {
         let FlipChecks {
             along,
             whole: wholes,
@@ -53,8 +59,13 @@ pub(crate) struct Turn {
 }
 
 impl Turn {
+    ghost use Rattle.gc_live.specs.Live.{opening_turns, since_after};
+
     // Returns the turn of a heap that was just opened.
-    pub(crate) fn at_open(checking: Checking) -> Turn {
+    pub(crate) fn at_open(checking: Checking) -> Turn
+        ensures each { result.each ≡ (opening_turns checking).each }
+        ensures since { result.since ≡ 0 }
+    {
         let each = match checking {
             Checking::AtFlip => 1,
             Checking::Along { whole_each } => whole_each,
@@ -62,13 +73,18 @@ impl Turn {
         Turn { each, since: 0 }
     }
 
-    // Whether the next flip is to be checked whole.
-    pub(crate) fn is_due(self) -> bool {
+    // Whether the next flip is to be checked whole for its number.
+    pub(crate) fn is_due(self) -> bool
+        ensures { result ≡ (nat_lt 0 self.each && nat_le self.each (self.since + 1)) }
+    {
         self.each != 0 && self.since >= self.each - 1
     }
 
     // After a flip that was checked whole, or was not.
-    pub(crate) fn after(self, whole: bool) -> Turn {
+    pub(crate) fn after(self, whole: bool) -> Turn
+        ensures each { result.each ≡ self.each }
+        ensures since { result.since ≡ since_after whole self.since }
+    {
         let since = if whole {
             0
         } else {

@@ -17,9 +17,10 @@ impl LiveHeap {
     /// `Full` if there is no room; then nothing has changed. Does not allocate.
     #[inline(always)]
     pub fn new_object(&mut self, m: u8, d: Slot, kind: u8, len: u16) -> Reply
-        requires { m < self.old.mutators }
-        ensures step { mutate self.old m (Op.New d kind len) ≡ (result, self.new) }
-        ensures mutators { self.new.mutators ≡ self.old.mutators }
+        requires { m < self.old.core.mutators }
+        ensures step { mutate self.old.core m (Op.New d kind len) ≡ (result, self.new.core) }
+        ensures mutators { self.new.core.mutators ≡ self.old.core.mutators }
+        ensures beside { self.new.beside ≡ self.old.beside }
     {
         self.inner.is_sound();
         let reply = self.inner.new_object(m, d, kind, len);
@@ -31,9 +32,10 @@ impl LiveHeap {
     /// Makes a raw object, as `new_object` makes an object. Its fields are plain numbers, all 0. Does not allocate.
     #[inline(always)]
     pub fn new_raw(&mut self, m: u8, d: Slot, kind: u8, len: u16) -> Reply
-        requires { m < self.old.mutators }
-        ensures step { mutate self.old m (Op.NewRaw d kind len) ≡ (result, self.new) }
-        ensures mutators { self.new.mutators ≡ self.old.mutators }
+        requires { m < self.old.core.mutators }
+        ensures step { mutate self.old.core m (Op.NewRaw d kind len) ≡ (result, self.new.core) }
+        ensures mutators { self.new.core.mutators ≡ self.old.core.mutators }
+        ensures beside { self.new.beside ≡ self.old.beside }
     {
         self.inner.is_sound();
         let reply = self.inner.new_raw(m, d, kind, len);
@@ -45,9 +47,10 @@ impl LiveHeap {
     /// Sets `d` to the number. Returns `Done`. Does not allocate.
     #[inline(always)]
     pub fn num(&mut self, m: u8, d: Slot, n: Number) -> Reply
-        requires { m < self.old.mutators }
-        ensures step { mutate self.old m (Op.Num d n) ≡ (result, self.new) }
-        ensures mutators { self.new.mutators ≡ self.old.mutators }
+        requires { m < self.old.core.mutators }
+        ensures step { mutate self.old.core m (Op.Num d n) ≡ (result, self.new.core) }
+        ensures mutators { self.new.core.mutators ≡ self.old.core.mutators }
+        ensures beside { self.new.beside ≡ self.old.beside }
     {
         self.inner.is_sound();
         self.inner.num(m, d, n)
@@ -56,9 +59,10 @@ impl LiveHeap {
     /// Sets `d` to nil. Returns `Done`. Does not allocate.
     #[inline(always)]
     pub fn nil(&mut self, m: u8, d: Slot) -> Reply
-        requires { m < self.old.mutators }
-        ensures step { mutate self.old m (Op.Nil d) ≡ (result, self.new) }
-        ensures mutators { self.new.mutators ≡ self.old.mutators }
+        requires { m < self.old.core.mutators }
+        ensures step { mutate self.old.core m (Op.Nil d) ≡ (result, self.new.core) }
+        ensures mutators { self.new.core.mutators ≡ self.old.core.mutators }
+        ensures beside { self.new.beside ≡ self.old.beside }
     {
         self.inner.is_sound();
         self.inner.nil(m, d)
@@ -67,9 +71,10 @@ impl LiveHeap {
     /// Sets `d` to what `s` holds. Returns `Done`. Does not allocate.
     #[inline(always)]
     pub fn move_slot(&mut self, m: u8, d: Slot, s: Slot) -> Reply
-        requires { m < self.old.mutators }
-        ensures step { mutate self.old m (Op.Move d s) ≡ (result, self.new) }
-        ensures mutators { self.new.mutators ≡ self.old.mutators }
+        requires { m < self.old.core.mutators }
+        ensures step { mutate self.old.core m (Op.Move d s) ≡ (result, self.new.core) }
+        ensures mutators { self.new.core.mutators ≡ self.old.core.mutators }
+        ensures beside { self.new.beside ≡ self.old.beside }
     {
         self.inner.is_sound();
         self.inner.move_slot(m, d, s)
@@ -79,9 +84,10 @@ impl LiveHeap {
     /// allocate.
     #[inline(always)]
     pub fn get(&mut self, m: u8, d: Slot, s: Slot, i: u16) -> Reply
-        requires { m < self.old.mutators }
-        ensures step { mutate self.old m (Op.Get d s i) ≡ (result, self.new) }
-        ensures mutators { self.new.mutators ≡ self.old.mutators }
+        requires { m < self.old.core.mutators }
+        ensures step { mutate self.old.core m (Op.Get d s i) ≡ (result, self.new.core) }
+        ensures mutators { self.new.core.mutators ≡ self.old.core.mutators }
+        ensures beside { self.new.beside ≡ self.old.beside }
     {
         self.inner.is_sound();
         self.inner.get(m, d, s, i)
@@ -91,9 +97,10 @@ impl LiveHeap {
     /// allocate.
     #[inline(always)]
     pub fn fetch(&mut self, m: u8, d: Slot, s: Slot, i: u16) -> Fetched
-        requires { m < self.old.mutators }
-        ensures fetches { Fetches self.old m d s i result self.new }
-        ensures mutators { self.new.mutators ≡ self.old.mutators }
+        requires { m < self.old.core.mutators }
+        ensures fetches { Fetches self.old.core m d s i result self.new.core }
+        ensures mutators { self.new.core.mutators ≡ self.old.core.mutators }
+        ensures beside { self.new.beside ≡ self.old.beside }
     {
         self.inner.is_sound();
         self.inner.fetch(m, d, s, i)
@@ -104,11 +111,12 @@ impl LiveHeap {
     /// call return `NoMemory`, and the heap is unchanged.
     #[inline(always)]
     pub fn put(&mut self, m: u8, s: Slot, i: u16, t: Slot) -> Result<Reply, NoMemory>
-        requires { m < self.old.mutators }
-        ensures step { IfOk result (λ reply. mutate self.old m (Op.Put s i t) ≡ (reply, self.new)) }
+        requires { m < self.old.core.mutators }
+        ensures step { IfOk result (λ reply. mutate self.old.core m (Op.Put s i t) ≡ (reply, self.new.core)) }
         ensures refused { OnErr result (self.new ≡ self.old) }
-        ensures open { OnErr result (IsSome self.old.collection) }
-        ensures mutators { self.new.mutators ≡ self.old.mutators }
+        ensures open { OnErr result (IsSome self.old.core.collection) }
+        ensures mutators { self.new.core.mutators ≡ self.old.core.mutators }
+        ensures beside { self.new.beside ≡ self.old.beside }
     {
         self.inner.is_sound();
         if !self.inner.is_open() {
@@ -139,11 +147,12 @@ impl LiveHeap {
         t: Slot,
         n: Number,
     ) -> Result<Reply, NoMemory>
-        requires { m < self.old.mutators }
-        ensures step { IfOk result (λ reply. mutate (mutate self.old m (Op.Num t n)).1 m (Op.Put s i t) ≡ (reply, self.new)) }
+        requires { m < self.old.core.mutators }
+        ensures step { IfOk result (λ reply. mutate (mutate self.old.core m (Op.Num t n)).1 m (Op.Put s i t) ≡ (reply, self.new.core)) }
         ensures refused { OnErr result (self.new ≡ self.old) }
-        ensures open { OnErr result (IsSome self.old.collection) }
-        ensures mutators { self.new.mutators ≡ self.old.mutators }
+        ensures open { OnErr result (IsSome self.old.core.collection) }
+        ensures mutators { self.new.core.mutators ≡ self.old.core.mutators }
+        ensures beside { self.new.beside ≡ self.old.beside }
     {
         self.inner.is_sound();
         let reply = self.inner.put_number(m, s, i, t, n)?;
@@ -165,11 +174,12 @@ impl LiveHeap {
     /// refers to. Returns the reply to the `put`. Returns `NoMemory` only while a collection is open; the heap is then
     /// unchanged.
     pub fn put_nil(&mut self, m: u8, s: Slot, i: u16, t: Slot) -> Result<Reply, NoMemory>
-        requires { m < self.old.mutators }
-        ensures step { IfOk result (λ reply. mutate (mutate self.old m (Op.Nil t)).1 m (Op.Put s i t) ≡ (reply, self.new)) }
+        requires { m < self.old.core.mutators }
+        ensures step { IfOk result (λ reply. mutate (mutate self.old.core m (Op.Nil t)).1 m (Op.Put s i t) ≡ (reply, self.new.core)) }
         ensures refused { OnErr result (self.new ≡ self.old) }
-        ensures open { OnErr result (IsSome self.old.collection) }
-        ensures mutators { self.new.mutators ≡ self.old.mutators }
+        ensures open { OnErr result (IsSome self.old.core.collection) }
+        ensures mutators { self.new.core.mutators ≡ self.old.core.mutators }
+        ensures beside { self.new.beside ≡ self.old.beside }
     {
         self.inner.is_sound();
         let reply = self.inner.put_nil(m, s, i, t)?;
@@ -193,11 +203,12 @@ impl LiveHeap {
     /// `NoMemory` only while a collection is open; the heap is then unchanged.
     #[inline(always)]
     pub fn cons(&mut self, m: u8, d: Slot, kind: u8, s: Slot, t: Slot) -> Result<Reply, NoMemory>
-        requires { m < self.old.mutators }
-        ensures step { IfOk result (λ reply. new_from_step self.old m d kind (s ∷ t ∷ []) ≡ (reply, self.new)) }
+        requires { m < self.old.core.mutators }
+        ensures step { IfOk result (λ reply. new_from_step self.old.core m d kind (s ∷ t ∷ []) ≡ (reply, self.new.core)) }
         ensures refused { OnErr result (self.new ≡ self.old) }
-        ensures open { OnErr result (IsSome self.old.collection) }
-        ensures mutators { self.new.mutators ≡ self.old.mutators }
+        ensures open { OnErr result (IsSome self.old.core.collection) }
+        ensures mutators { self.new.core.mutators ≡ self.old.core.mutators }
+        ensures beside { self.new.beside ≡ self.old.beside }
     {
         self.inner.is_sound();
         let reply = self.inner.cons(m, d, kind, s, t)?;
@@ -217,13 +228,14 @@ impl LiveHeap {
         kind: u8,
         fields: &R,
     ) -> Result<Reply, NoMemory>
-        requires mutator { m < self.old.mutators }
+        requires mutator { m < self.old.core.mutators }
         requires row { R.is_row fields.now }
         ensures step { IfOk result (λ reply.
-            new_from_step self.old m d kind (R.slots fields.now) ≡ (reply, self.new)) }
+            new_from_step self.old.core m d kind (R.slots fields.now) ≡ (reply, self.new.core)) }
         ensures refused { OnErr result (self.new ≡ self.old) }
-        ensures open { OnErr result (IsSome self.old.collection) }
-        ensures mutators { self.new.mutators ≡ self.old.mutators }
+        ensures open { OnErr result (IsSome self.old.core.collection) }
+        ensures mutators { self.new.core.mutators ≡ self.old.core.mutators }
+        ensures beside { self.new.beside ≡ self.old.beside }
     {
         self.inner.is_sound();
         let reply = self.inner.new_from(m, d, kind, fields)?;
@@ -235,8 +247,8 @@ impl LiveHeap {
     /// Compares what `s` and `t` hold. Returns `Yes` or `No`. Changes nothing.
     #[inline(always)]
     pub fn same(&self, m: u8, s: Slot, t: Slot) -> Reply
-        requires { m < self.now.mutators }
-        ensures { mutate self.now m (Op.Same s t) ≡ (result, self.now) }
+        requires { m < self.now.core.mutators }
+        ensures { mutate self.now.core m (Op.Same s t) ≡ (result, self.now.core) }
     {
         self.inner.same(m, s, t)
     }
@@ -244,8 +256,8 @@ impl LiveHeap {
     /// Returns `Saw` with what `s` holds. Changes nothing.
     #[inline(always)]
     pub fn look(&self, m: u8, s: Slot) -> Reply
-        requires { m < self.now.mutators }
-        ensures { mutate self.now m (Op.Look s) ≡ (result, self.now) }
+        requires { m < self.now.core.mutators }
+        ensures { mutate self.now.core m (Op.Look s) ≡ (result, self.now.core) }
     {
         self.inner.look(m, s)
     }

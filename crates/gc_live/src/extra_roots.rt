@@ -15,17 +15,18 @@ impl LiveHeap {
 
     /// Returns the number of extra roots.
     pub fn extra_roots(&self) -> u32
-        ensures { result ≡ extra_roots_of self.now }
+        ensures { result ≡ extra_roots_of self.now.core }
     {
         self.inner.extra_roots()
     }
 
     /// Sets `d` to what extra root `k` holds. Returns `Done`. Does not allocate, and logs nothing.
     pub fn load(&mut self, m: u8, d: Slot, k: u32) -> Reply
-        requires mutator { m < self.old.mutators }
-        requires root { k < extra_roots_of self.old }
-        ensures step { mutate self.old m (Op.Move d (extra_slot self.old.mutators m k)) ≡ (result, self.new) }
-        ensures mutators { self.new.mutators ≡ self.old.mutators }
+        requires mutator { m < self.old.core.mutators }
+        requires root { k < extra_roots_of self.old.core }
+        ensures step { mutate self.old.core m (Op.Move d (extra_slot self.old.core.mutators m k)) ≡ (result, self.new.core) }
+        ensures mutators { self.new.core.mutators ≡ self.old.core.mutators }
+        ensures beside { self.new.beside ≡ self.old.beside }
     {
         self.inner.is_sound();
         self.inner.load(m, d, k)
@@ -33,10 +34,11 @@ impl LiveHeap {
 
     /// Sets extra root `k` to what `s` holds. Returns `Done`. Does not allocate, and logs nothing.
     pub fn store(&mut self, m: u8, k: u32, s: Slot) -> Reply
-        requires mutator { m < self.old.mutators }
-        requires root { k < extra_roots_of self.old }
-        ensures step { mutate self.old m (Op.Move (extra_slot self.old.mutators m k) s) ≡ (result, self.new) }
-        ensures mutators { self.new.mutators ≡ self.old.mutators }
+        requires mutator { m < self.old.core.mutators }
+        requires root { k < extra_roots_of self.old.core }
+        ensures step { mutate self.old.core m (Op.Move (extra_slot self.old.core.mutators m k) s) ≡ (result, self.new.core) }
+        ensures mutators { self.new.core.mutators ≡ self.old.core.mutators }
+        ensures beside { self.new.beside ≡ self.old.beside }
     {
         self.inner.is_sound();
         self.inner.store(m, k, s)
@@ -45,9 +47,10 @@ impl LiveHeap {
     /// Sets the extra roots from `from` on, and below `to`, to nil. Does not allocate, and logs nothing. A collection does not read extra
     /// roots above the last one that was set and not cleared.
     pub fn clear(&mut self, from: u32, to: u32)
-        requires { to ≤ extra_roots_of self.old }
-        ensures step { clear_step self.old from (to - from) ≡ self.new }
-        ensures mutators { self.new.mutators ≡ self.old.mutators }
+        requires { to ≤ extra_roots_of self.old.core }
+        ensures step { clear_step self.old.core from (to - from) ≡ self.new.core }
+        ensures mutators { self.new.core.mutators ≡ self.old.core.mutators }
+        ensures beside { self.new.beside ≡ self.old.beside }
     {
         self.inner.is_sound();
         self.inner.clear(from, to);

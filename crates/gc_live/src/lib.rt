@@ -6,6 +6,7 @@ mod commands;
 mod extra_roots;
 mod flipping;
 mod kept_heap;
+mod laws;
 mod live_heap;
 mod reading;
 mod referring;
@@ -15,4 +16,5 @@ mod writing;
 
 pub use checking::{Checking, FlipChecks};
 pub use kept_heap::KeptHeap;
+pub use laws::flips_are_counted;
 pub use live_heap::LiveHeap;

@@ -27,11 +27,18 @@ pub struct LiveHeap {
 }
 
 impl Model for LiveHeap {
-    ghost use Rattle.gc_plan.specs.State.{State};
+    ghost use Rattle.gc_copy.specs.Words.{held_in};
+    ghost use Rattle.gc_live.specs.Live.{Live};
 
-    ghost Value = { State };
+    ghost Value = { Live };
 
-    ghost view = { λ h. h.inner };
+    ghost view = { λ h. record {
+      core = h.inner;
+      beside = record {
+        turns = record { along = h.along; each = h.turn.each; since = h.turn.since; checks = h.checks };
+        rooms = record { spare = held_in h.spare; leaving = held_in h.leaving };
+      };
+    } };
 
     ghost use Rattle.std.specs.Prelude.{IsTrue};
     ghost use Rattle.gc_beside.proofs.Public.{IsLive, IsNeverLost};
@@ -47,13 +54,16 @@ impl LiveHeap {
     ghost use Rattle.gc_heap.specs.ExtraRoots.{CanOpen};
     ghost use Rattle.gc_plan.specs.Belonging.{IsSpaceGraph, IsOpened};
     ghost use Rattle.gc_heap.specs.Heap.{roomy_in};
+    ghost use Rattle.gc_live.specs.declared.checking.Checking.{Checking};
+    ghost use Rattle.gc_live.specs.Live.{opening_beside};
 
     /// Returns an empty heap of `size` words, at least 1, for 1 to 16 mutators, whose flips are checked along with the collection.
     pub fn open(alloc: Global, size: u32, mutators: u8) -> Result<LiveHeap, NoMemory>
         requires low { 1 ≤ size }
         requires some { 1 ≤ mutators }
         requires few { mutators ≤ most_mutators }
-        ensures { IfOk result (λ heap. heap ≡ opening_state size mutators) }
+        ensures core { IfOk result (λ heap. heap.core ≡ opening_state size mutators) }
+        ensures beside { IfOk result (λ heap. heap.beside ≡ opening_beside (Checking.Along 0)) }
     {
         let checking = Checking::Along { whole_each: 0 };
         LiveHeap::open_with(alloc, &HeapOptions::new(size, mutators), checking)
@@ -66,7 +76,9 @@ impl LiveHeap {
         checking: Checking,
     ) -> Result<LiveHeap, NoMemory>
         requires { CanOpen options.now }
-        ensures { IfOk result (λ heap. heap ≡ opening_state_with options.now) }
+        ensures core { IfOk result (λ heap. heap.core ≡ opening_state_with options.now) }
+        // The checking that was asked for is that of the heap.
+        ensures beside { IfOk result (λ heap. heap.beside ≡ opening_beside checking) }
     {
         let inner = CollectedHeap::open_with(alloc, options)?;
         let along = matches!(checking, Checking::Along { .. });
@@ -84,26 +96,28 @@ impl LiveHeap {
 
     /// Returns the mutators' heap.
     pub fn heap(&self) -> &Heap
-        ensures { roomy_in result.now ≡ self.now.heap }
+        ensures { roomy_in result.now ≡ self.now.core.heap }
     {
         self.inner.heap()
     }
 
     /// Returns how many flips each checker has accepted.
-    pub fn flip_checks(&self) -> FlipChecks {
+    pub fn flip_checks(&self) -> FlipChecks
+        ensures { result ≡ self.now.beside.turns.checks }
+    {
         self.checks
     }
 
     /// Returns the number of mutators, 1 to 16.
     pub fn mutators(&self) -> u8
-        ensures { result ≡ self.now.mutators }
+        ensures { result ≡ self.now.core.mutators }
     {
         self.inner.mutators()
     }
 
     /// Returns whether a collection is open.
     pub fn is_open(&self) -> bool
-        ensures { result ≡ is_some self.now.collection }
+        ensures { result ≡ is_some self.now.core.collection }
     {
         self.inner.is_open()
     }
@@ -111,8 +125,8 @@ impl LiveHeap {
     /// Does nothing. Each state of a heap is sound: its objects lie back to back, and an open collection belongs to it.
     #[inline(always)]
     pub fn is_sound(&self)
-        ensures heap { IsSpaceGraph self.now.size self.now.heap.free self.now.heap.graph }
-        ensures open { IfSome self.now.collection (IsOpened self.now) }
+        ensures heap { IsSpaceGraph self.now.core.size self.now.core.heap.free self.now.core.heap.graph }
+        ensures open { IfSome self.now.core.collection (IsOpened self.now.core) }
     {
         self.inner.is_sound();
     }

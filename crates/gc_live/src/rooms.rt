@@ -1,11 +1,14 @@
 //! The memory of the next collection, and memory that is given back.
 
-ghost use Rattle.std.specs.Prelude.{◌≡◌, ◌≤◌, ◌⊎◌, None, IfOk, OnErr};
+ghost use Rattle.std.specs.Prelude.{◌≡◌, ◌≢◌, ◌≤◌, ◌⊎◌, ◌==◌, None, IfOk, OnOk, OnErr, if◌then◌else◌};
 ghost use Rattle.gc_plan.specs.Steps.{collect};
 ghost use Rattle.gc_plan.specs.declared.step.Step.{Step};
 ghost use Rattle.gc_plan.specs.declared.step.StepReply.{StepReply};
 ghost use Rattle.gc_core.specs.CollectedHeap.{Allocates};
 ghost use Rattle.gc_core.specs.Flip.{FormerAfter};
+ghost use Rattle.gc_copy.specs.Words.{held_in};
+ghost use Rattle.gc_live.specs.Live.{HasBegun, rooms_given_back, rooms_given_up, rooms_touched, with_rooms};
+ghost use Rattle.gc_live.specs.Internal.Rooms.{rooms_in};
 
 use crate::live_heap::LiveHeap;
 use gc_copy::{Room, StepReply};
@@ -29,7 +32,10 @@ impl LiveHeap {
     /// Does the same with the space of the next collection, unless one is open. Allocates that space if there is none. On `NoMemory` nothing has
     /// changed.
     pub fn touch_spare(&mut self, alloc: Global) -> Result<(), NoMemory>
-        ensures { self.new ≡ self.old }
+        ensures core { self.new.core ≡ self.old.core }
+        ensures turns { self.new.beside.turns ≡ self.old.beside.turns }
+        ensures rooms { OnOk result (self.new.beside.rooms ≡ rooms_touched self.old) }
+        ensures refused { OnErr result (self.new ≡ self.old) }
     {
         self.inner.is_sound();
         if self.inner.is_open() {
@@ -43,7 +49,7 @@ impl LiveHeap {
     /// Frees some of the memory that no collection will use, if there is any: at most 32,768 words of it. The heap stays as it is.
     #[inline(always)]
     pub fn give_back(&mut self)
-        ensures { self.new ≡ self.old }
+        ensures { self.new ≡ with_rooms self.old (rooms_given_back self.old.beside.rooms) }
     {
         if self.leaving.is_some() {
             self.free_slice();
@@ -52,7 +58,7 @@ impl LiveHeap {
 
     // Frees the next slice.
     fn free_slice(&mut self)
-        ensures { self.new ≡ self.old }
+        ensures { self.new ≡ with_rooms self.old (rooms_given_back self.old.beside.rooms) }
     {
         if let Some(room) = self.leaving.take() {
             self.leaving = room.without(SLICE);
@@ -60,9 +66,11 @@ impl LiveHeap {
     }
 }
 
-/// Writes to all memory of this room, if there is room of this size. Returns whether there is.
+/// Writes to all memory of this room, if there is room of this size, at least 1. Returns whether there is.
 pub(crate) fn touch_if(room: &mut Option<Room>, size: u32) -> bool
-    ensures { room.new ≡ room.old }
+    requires { 1 ≤ size }
+    ensures room { room.new ≡ room.old }
+    ensures size { result ≡ (held_in room.old == size) }
 {
     match room {
         Some(room) if room.size() == size => {
@@ -80,9 +88,11 @@ fn touch_room(
     size: u32,
     mutators: u8,
 ) -> Result<(), NoMemory>
-    requires low { 1 ≤ size }
+    requires { 1 ≤ size }
+    ensures held { OnOk result (held_in room.new ≡ size) }
+    ensures refused { OnErr result (room.new ≡ room.old) }
 {
-    if !is_of_size(room, size) {
+    if words_of(room) != size {
         *room = Some(Room::new(alloc, size, mutators)?);
     }
     if let Some(room) = room {
@@ -92,14 +102,16 @@ fn touch_room(
 }
 
 /// Frees this room at once, if that is due.
-pub(crate) fn free_if(room: &mut Option<Room>, due: bool) {
+pub(crate) fn free_if(room: &mut Option<Room>, due: bool)
+    ensures { held_in room.new ≡ (if due then 0 else held_in room.old) }
+{
     if due {
         *room = None;
     }
 }
 
-/// Opens a collection in the room that the last flip left, or else in the spare room, if that has this size. Room of another size leaves from
-/// then on. If no collection begins, all room stays.
+/// Opens a collection in the room that the last flip left, or else in the spare room, if that has this size, or else in new room. One of the
+/// other rooms leaves from then on: what the flip left, or else the spare room. If no collection begins, all room stays.
 pub(crate) fn begin_in_room(
     heap: &mut CollectedHeap,
     size: u32,
@@ -114,11 +126,19 @@ pub(crate) fn begin_in_room(
     ensures refused { OnErr result ((heap.new ≡ heap.old) × (left.new ≡ left.old)) }
     ensures allocates { OnErr result (Allocates heap.old (Step.BeginSized size)) }
     ensures mutators { heap.new.mutators ≡ heap.old.mutators }
+    ensures rooms { IfOk result (λ reply. reply ≡ StepReply.Begun
+        → HasBegun size (held_in left.old) (rooms_in spare.old leaving.old) (rooms_in spare.new leaving.new)) }
+    ensures busy { IfOk result (λ reply. reply ≡ StepReply.Busy → rooms_in spare.new leaving.new ≡ rooms_in spare.old leaving.old) }
+    ensures freed { OnErr result ((leaving.new ≡ leaving.old) × ((spare.new ≡ spare.old) ⊎ (spare.new ≡ None))) }
 {
-    if is_of_size(left, size) {
-        return heap.begin_in(size, left);
+    if words_of(left) == size {
+        let reply = heap.begin_in(size, left)?;
+        if let StepReply::Begun = reply {
+            *leaving = spare.take();
+        }
+        return Ok(reply);
     }
-    if is_of_size(spare, size) {
+    if words_of(spare) == size {
         let reply = heap.begin_in(size, spare)?;
         if let StepReply::Begun = reply {
             leave(left, spare, leaving);
@@ -144,6 +164,8 @@ fn begin_anew(
     ensures refused { OnErr result (heap.new ≡ heap.old) }
     ensures allocates { OnErr result (Allocates heap.old (Step.BeginSized size)) }
     ensures mutators { heap.new.mutators ≡ heap.old.mutators }
+    ensures spare { (spare.new ≡ spare.old) ⊎ (spare.new ≡ None) }
+    ensures busy { IfOk result (λ reply. reply ≡ StepReply.Busy → spare.new ≡ spare.old) }
 {
     match heap.begin_in(size, &mut None) {
         Err(NoMemory) if spare.is_some() => {
@@ -155,11 +177,13 @@ fn begin_anew(
 }
 
 /// Keeps the room of a collection that was given up as the spare room, or has it leave if there is a spare room already.
-pub(crate) fn keep_room(room: Option<Room>, spare: &mut Option<Room>, leaving: &mut Option<Room>) {
-    if room.is_none() {
+pub(crate) fn keep_room(room: Option<Room>, spare: &mut Option<Room>, leaving: &mut Option<Room>)
+    ensures { rooms_in spare.new leaving.new ≡ rooms_given_up (held_in room) (rooms_in spare.old leaving.old) }
+{
+    if words_of(&room) == 0 {
         return;
     }
-    if spare.is_none() {
+    if words_of(spare) == 0 {
         *spare = room;
     } else {
         *leaving = room;
@@ -168,18 +192,24 @@ pub(crate) fn keep_room(room: Option<Room>, spare: &mut Option<Room>, leaving: &
 
 // Has the room leave that a begin did not take: what is left of the last flip's old space, or else the spare room.
 fn leave(left: &mut Option<Room>, spare: &mut Option<Room>, leaving: &mut Option<Room>)
-    ensures { left.new ≡ None }
+    ensures left { left.new ≡ None }
+    ensures none { held_in left.old ≡ 0 → (spare.new ≡ None) × (held_in leaving.new ≡ held_in spare.old) }
+    ensures some { held_in left.old ≢ 0 → (spare.new ≡ spare.old) × (leaving.new ≡ left.old) }
 {
-    *leaving = match left.take() {
-        None => spare.take(),
-        former => former,
-    };
+    let room = left.take();
+    if words_of(&room) == 0 {
+        *leaving = spare.take();
+    } else {
+        *leaving = room;
+    }
 }
 
-// Whether there is room of so many words.
-fn is_of_size(room: &Option<Room>, size: u32) -> bool {
+// How many words this room has: 0 if there is none.
+fn words_of(room: &Option<Room>) -> u32
+    ensures { result ≡ held_in room.now }
+{
     match room {
-        None => false,
-        Some(room) => room.size() == size,
+        None => 0,
+        Some(room) => room.size(),
     }
 }

@@ -14,19 +14,25 @@ impl LiveHeap {
     ghost use Rattle.gc_core.specs.CollectedHeap.{Allocates};
     ghost use Rattle.gc_plan.specs.declared.step.Step.{Step};
     ghost use Rattle.gc_plan.specs.declared.step.StepReply.{StepReply};
-    ghost use Rattle.gc_core.specs.Flip.{FormerAfter, HasRoomIfLarge};
+    ghost use Rattle.gc_core.specs.Flip.{FormerAfter, HasRoomIfLarge, new_size};
+    ghost use Rattle.gc_copy.specs.Words.{held_in};
+    ghost use Rattle.gc_live.specs.Live.{HasBegun, WereRefused, rooms_given_up};
 
     /// Opens a collection whose new space has `size` words, at least 1, in the room that a flip left if that has so many. Returns `Begun`, or
     /// `Busy` if a collection is already open. On `NoMemory` and `Busy` nothing has changed, and the room stays. The memory of room of another
     /// size is given back by later calls of `give_back`, or else by the next begin.
     pub fn begin_in(&mut self, size: u32, left: &mut Option<Room>) -> Result<StepReply, NoMemory>
         requires low { 1 ≤ size }
-        ensures step { IfOk result (λ reply. collect self.old (Step.BeginSized size) ≡ (reply, self.new)) }
+        ensures step { IfOk result (λ reply. collect self.old.core (Step.BeginSized size) ≡ (reply, self.new.core)) }
         ensures reply { IfOk result (λ reply. (reply ≡ StepReply.Begun) ⊎ (reply ≡ StepReply.Busy)) }
-        ensures left { IfOk result (λ reply. FormerAfter self.old left.old reply left.new) }
-        ensures refused { OnErr result ((self.new ≡ self.old) × (left.new ≡ left.old)) }
-        ensures allocates { OnErr result (Allocates self.old (Step.BeginSized size)) }
-        ensures mutators { self.new.mutators ≡ self.old.mutators }
+        ensures left { IfOk result (λ reply. FormerAfter self.old.core left.old reply left.new) }
+        ensures refused { OnErr result ((self.new.core ≡ self.old.core) × (left.new ≡ left.old)) }
+        ensures allocates { OnErr result (Allocates self.old.core (Step.BeginSized size)) }
+        ensures mutators { self.new.core.mutators ≡ self.old.core.mutators }
+        ensures turns { self.new.beside.turns ≡ self.old.beside.turns }
+        ensures rooms { IfOk result (λ reply. reply ≡ StepReply.Begun → HasBegun size (held_in left.old) self.old.beside.rooms self.new.beside.rooms) }
+        ensures busy { IfOk result (λ reply. reply ≡ StepReply.Busy → self.new ≡ self.old) }
+        ensures freed { OnErr result (WereRefused self.old.beside.rooms self.new.beside.rooms) }
     {
         if self.inner.is_open() {
             return Ok(StepReply::Busy);
@@ -51,9 +57,10 @@ impl LiveHeap {
     /// there is no such root, or `Idle` if no collection is open. Does not allocate.
     #[inline(always)]
     pub fn roots(&mut self) -> StepReply
-        ensures step { collect self.old Step.Roots ≡ (result, self.new) }
-        ensures room { HasRoomIfLarge self.old result }
-        ensures mutators { self.new.mutators ≡ self.old.mutators }
+        ensures step { collect self.old.core Step.Roots ≡ (result, self.new.core) }
+        ensures room { HasRoomIfLarge self.old.core result }
+        ensures mutators { self.new.core.mutators ≡ self.old.core.mutators }
+        ensures beside { self.new.beside ≡ self.old.beside }
     {
         self.inner.is_sound();
         let reply = self.inner.roots();
@@ -72,9 +79,10 @@ impl LiveHeap {
     /// (`Passed`). Returns `Clean` if all replicas are scanned, or `Idle` if no collection is open. Does not allocate.
     #[inline(always)]
     pub fn scan(&mut self) -> StepReply
-        ensures step { collect self.old Step.Scan ≡ (result, self.new) }
-        ensures room { HasRoomIfLarge self.old result }
-        ensures mutators { self.new.mutators ≡ self.old.mutators }
+        ensures step { collect self.old.core Step.Scan ≡ (result, self.new.core) }
+        ensures room { HasRoomIfLarge self.old.core result }
+        ensures mutators { self.new.core.mutators ≡ self.old.core.mutators }
+        ensures beside { self.new.beside ≡ self.old.beside }
     {
         self.inner.is_sound();
         let space = self.inner.new_space();
@@ -98,10 +106,11 @@ impl LiveHeap {
     /// Applies the oldest entry of mutator `m`'s log. Returns `Applied` or `NoRoom`, `Clean` if the log is empty, or
     /// `Idle` if no collection is open. Does not allocate.
     pub fn apply_log(&mut self, m: u8) -> StepReply
-        requires { m < self.old.mutators }
-        ensures step { collect self.old (Step.Apply m) ≡ (result, self.new) }
-        ensures room { HasRoomIfLarge self.old result }
-        ensures mutators { self.new.mutators ≡ self.old.mutators }
+        requires { m < self.old.core.mutators }
+        ensures step { collect self.old.core (Step.Apply m) ≡ (result, self.new.core) }
+        ensures room { HasRoomIfLarge self.old.core result }
+        ensures mutators { self.new.core.mutators ≡ self.old.core.mutators }
+        ensures beside { self.new.beside ≡ self.old.beside }
     {
         self.inner.is_sound();
         let entry = self.inner.log_entry(m, 0);
@@ -124,8 +133,10 @@ impl LiveHeap {
     /// Gives the open collection up. Its new space is left for the next one, and the entries of its logs are freed. Returns `Dropped`, or `Idle`
     /// if none is open. Does not allocate. The time does not depend on how far the collection has come.
     pub fn give_up(&mut self) -> StepReply
-        ensures step { collect self.old Step.Drop ≡ (result, self.new) }
-        ensures mutators { self.new.mutators ≡ self.old.mutators }
+        ensures step { collect self.old.core Step.Drop ≡ (result, self.new.core) }
+        ensures mutators { self.new.core.mutators ≡ self.old.core.mutators }
+        ensures turns { self.new.beside.turns ≡ self.old.beside.turns }
+        ensures rooms { self.new.beside.rooms ≡ rooms_given_up (new_size self.old.core) self.old.beside.rooms }
     {
         self.inner.is_sound();
         let (reply, room) = self.inner.abandon();
@@ -137,8 +148,8 @@ impl LiveHeap {
     /// Returns the useful step: the one that advances the collection, or opens one.
     #[inline(always)]
     pub fn useful_step(&self) -> Step
-        ensures useful { result ≡ useful_step self.now }
-        ensures step { IsStep self.now.mutators result }
+        ensures useful { result ≡ useful_step self.now.core }
+        ensures step { IsStep self.now.core.mutators result }
     {
         self.inner.useful_step()
     }
@@ -147,8 +158,8 @@ impl LiveHeap {
     /// then look at no root until a command comes.
     #[inline(always)]
     pub fn next_useful_step(&mut self) -> Step
-        ensures useful { result ≡ useful_step self.old }
-        ensures step { IsStep self.old.mutators result }
+        ensures useful { result ≡ useful_step self.old.core }
+        ensures step { IsStep self.old.core.mutators result }
         ensures same { self.new ≡ self.old }
     {
         self.inner.next_useful_step()

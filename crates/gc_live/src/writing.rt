@@ -26,12 +26,13 @@ impl LiveHeap {
         t: Slot,
         words: &[u64],
     ) -> Result<Reply, NoMemory>
-        requires mutator { m < self.old.mutators }
+        requires mutator { m < self.old.core.mutators }
         requires apart { place t m ≢ place s m }
-        ensures step { IfOk result (λ reply. put_numbers_step self.old m s first t words.now ≡ (reply, self.new)) }
+        ensures step { IfOk result (λ reply. put_numbers_step self.old.core m s first t words.now ≡ (reply, self.new.core)) }
         ensures refused { OnErr result (self.new ≡ self.old) }
-        ensures open { OnErr result (IsSome self.old.collection) }
-        ensures mutators { self.new.mutators ≡ self.old.mutators }
+        ensures open { OnErr result (IsSome self.old.core.collection) }
+        ensures mutators { self.new.core.mutators ≡ self.old.core.mutators }
+        ensures beside { self.new.beside ≡ self.old.beside }
     {
         self.inner.is_sound();
         if !self.inner.is_open() {
@@ -72,13 +73,14 @@ impl LiveHeap {
         t: Slot,
         count: u16,
     ) -> Result<Reply, NoMemory>
-        requires mutator { m < self.old.mutators }
+        requires mutator { m < self.old.core.mutators }
         requires target { place t m ≢ place d m }
         requires source { place t m ≢ place s m }
-        ensures step { IfOk result (λ reply. copy_fields_step self.old m d to s from t count ≡ (reply, self.new)) }
+        ensures step { IfOk result (λ reply. copy_fields_step self.old.core m d to s from t count ≡ (reply, self.new.core)) }
         ensures refused { OnErr result (self.new ≡ self.old) }
-        ensures open { OnErr result (IsSome self.old.collection) }
-        ensures mutators { self.new.mutators ≡ self.old.mutators }
+        ensures open { OnErr result (IsSome self.old.core.collection) }
+        ensures mutators { self.new.core.mutators ≡ self.old.core.mutators }
+        ensures beside { self.new.beside ≡ self.old.beside }
     {
         self.inner.is_sound();
         if !self.inner.is_open() {
@@ -117,13 +119,14 @@ impl LiveHeap {
         t: Slot,
         fields: &R,
     ) -> Result<Reply, NoMemory>
-        requires mutator { m < self.old.mutators }
+        requires mutator { m < self.old.core.mutators }
         requires apart { place t m ≢ place d m }
         requires row { R.is_row fields.now }
-        ensures step { IfOk result (λ reply. new_with_step self.old m d kind t (R.sources fields.now) ≡ (reply, self.new)) }
+        ensures step { IfOk result (λ reply. new_with_step self.old.core m d kind t (R.sources fields.now) ≡ (reply, self.new.core)) }
         ensures refused { OnErr result (self.new ≡ self.old) }
-        ensures open { OnErr result (IsSome self.old.collection) }
-        ensures mutators { self.new.mutators ≡ self.old.mutators }
+        ensures open { OnErr result (IsSome self.old.core.collection) }
+        ensures mutators { self.new.core.mutators ≡ self.old.core.mutators }
+        ensures beside { self.new.beside ≡ self.old.beside }
     {
         self.inner.is_sound();
         let reply = self.inner.new_with(m, d, kind, t, fields)?;

@@ -1,6 +1,7 @@
 -- The checker is told of each copied field, at the address that the slot had before, so it goes along and is not lost.
 use Rattle.std.proofs.Common.{subst, sym, ap, ◌∙◌, arith}
 use Rattle.gc_graph.specs.declared.reply.Reply.{Reply}
+use Rattle.gc_live.specs.Live.{Live}
 use Rattle.gc_plan.specs.State.{State}
 use Rattle.gc_core.specs.Copying.{copy_reply, copy_step, object_in}
 use Rattle.gc_live.specs.Internal.Told.{ToldTruly, ToldWritten}
@@ -21,7 +22,7 @@ invariant_of-self-in-Some c =
     let s : State = c.self.inside.inner in
     let all = c.done_copies_are_whole.ensures s c.args.m c.args.to c.args.from c.args.count c.args.d c.args.s c.args.t c.requires.target c.requires.source in
     let done = done_all s c.copy_fields-2.new.self (copy_step s c.args.m c.args.d c.args.to c.args.s c.args.from c.args.t c.args.count) _ c.in_ok-reply.reply c.in_ok-reply.ensures.step c.in-Done.is in
-    both_call_open c.self.inside.along s c.copy_fields-2.new.self c.args.self.now c.args.m c.args.to c.args.count c.place.result c.args.d c.args.t c.address-target.result c.in-Some.object c.is_open.result _ c.self.inside.watch c.tell_written.new.watch c.self.view_is c.requires.mutator c.requires.target c.has_slots.ensures c.place.ensures.value c.place.ensures.bound c.if-not-is_open.false c.is_open.ensures
+    both_call_open c.self.inside.along s c.copy_fields-2.new.self c.args.self.now.core c.args.m c.args.to c.args.count c.place.result c.args.d c.args.t c.address-target.result c.in-Some.object c.is_open.result _ c.self.inside.watch c.tell_written.new.watch (ap (λ (h : Live). h.core) c.self.view_is) c.requires.mutator c.requires.target c.has_slots.ensures c.place.ensures.value c.place.ensures.bound c.if-not-is_open.false c.is_open.ensures
     c.is_sound.ensures.heap c.is_sound.ensures.open c.is_sound-2.ensures.heap c.is_sound-2.ensures.open c.address-target.ensures c.in-Some.is
     (λ at in_roots. subst (Puts IsDone c.args.count s c.args.m c.args.d c.args.t c.args.to) done (copies_done c.args.count s c.args.m c.args.to c.args.from c.args.d c.args.s c.args.t (all in_roots (ap (λ (x : Reply × State). x.0) c.in_ok-reply.ensures.step ∙ c.in-Done.is)))) (are_old c.copy_fields-2.new.self _ c.image.ensures.shows)
     (subst (λ n. ToldWritten c.in-Some.object.0 c.args.to n c.self.inside.watch c.tell_written.new.watch) c.from.ensures c.tell_written.ensures.written) (subst (λ n. ToldTruly c.image.result.words.now c.in-Some.object.0 c.args.to n c.self.inside.watch c.tell_written.new.watch) c.from.ensures c.tell_written.ensures.truly) c.self.invariant

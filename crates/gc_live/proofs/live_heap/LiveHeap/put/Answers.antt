@@ -5,6 +5,7 @@ use Rattle.gc_graph.specs.Slots.{place}
 use Rattle.gc_graph.specs.declared.reply.Reply.{Reply}
 use Rattle.gc_graph.specs.declared.reply.Reply.TheVariants as replies
 use Rattle.gc_graph.specs.declared.command.Op.TheVariants as ops
+use Rattle.gc_live.specs.Live.{Live}
 use Rattle.gc_plan.specs.State.{Collection, State}
 use Rattle.gc_plan.specs.Steps.{mutate}
 use Rattle.gc_plan.specs.Members.{In}
@@ -24,7 +25,7 @@ invariant_of-self-in-Some c =
     let wrote_it = ap (λ (v : Value). map (λ (name : ℕ). (name, c.args.i)) (names_of v)) root_is in
     let some : c.self.inside.inner.collection ≡ None → ⊥ = (λ e. (let no : true ≡ false = sym c.if-not-is_open.false ∙ (c.is_open.ensures ∙ ap (λ (o : Option Collection). is_some o) e) in absurd cc)) in (
       lives_written c.self.inside.inner c.put-2.new.self c.args.m (ops.Put c.args.s c.args.i c.args.t) replies.Done c.self.inside.watch c.written.new.self c.is_sound.ensures.open done a c.args.i refl low wrote_it some c.written.ensures.lost c.written.ensures.wrote c.self.invariant.0,
-      λ on. lasts_written c.self.inside.inner c.self.inside.inner c.put-2.new.self c.args.m (ops.Put c.args.s c.args.i c.args.t) replies.Done _ c.self.inside.watch c.written.new.self a c.args.i (log_of_open c.self.inside.inner c.args.m c.is_sound.ensures.open (subst (λ (s : State). c.args.m < s.mutators) (sym c.self.view_is) c.requires)) c.is_sound-2.ensures.open c.is_sound-2.ensures.heap
+      λ on. lasts_written c.self.inside.inner c.self.inside.inner c.put-2.new.self c.args.m (ops.Put c.args.s c.args.i c.args.t) replies.Done _ c.self.inside.watch c.written.new.self a c.args.i (log_of_open c.self.inside.inner c.args.m c.is_sound.ensures.open (subst (λ (s : State). c.args.m < s.mutators) (sym (ap (λ (h : Live). h.core) c.self.view_is)) c.requires)) c.is_sound-2.ensures.open c.is_sound-2.ensures.heap
           (continues_same c.self.inside.inner NoName) refl done refl (subst (In {X = ℕ × ℕ} (a, c.args.i)) (sym wrote_it) (inl refl)) some (are_old c.put-2.new.self _ c.image.ensures.shows) c.written.ensures.stays c.written.ensures.wrote c.self.invariant.0 (c.self.invariant.1 on),
     )
 

@@ -1,6 +1,7 @@
 -- After both commands the slot still refers to the written object, so the checker is told of the right field that became nil.
-use Rattle.std.proofs.Common.{◌<◌, refl, sym, subst, ◌∙◌}
+use Rattle.std.proofs.Common.{◌<◌, refl, sym, subst, ◌∙◌, ap}
 use Rattle.gc_graph.specs.declared.command.Op.TheVariants as ops
+use Rattle.gc_live.specs.Live.{Live}
 use Rattle.gc_plan.specs.State.{State}
 use Rattle.gc_plan.specs.Steps.{mutate}
 use Rattle.gc_live.proofs.Begun.{none_open, some_open}
@@ -11,7 +12,7 @@ use Rattle.gc_live.proofs.live_heap.LiveHeap.put_nil.Goals as goal
 pub invariant_of-self-in-Some : goal.invariant_of-self-in-Some
 invariant_of-self-in-Some c =
     both_put c.self.inside.along c.self.inside.inner (mutate c.self.inside.inner c.args.m (ops.Nil c.args.t)).1 c.put_nil.new.self c.args.m (ops.Nil c.args.t) (mutate c.self.inside.inner c.args.m (ops.Nil c.args.t)).0 c.args.s c.args.i c.args.t c.in_ok-reply.reply _ c.self.inside.watch c.written.new.self c.address.result c.in-Some.object
-    c.is_sound.ensures.open c.is_sound-2.ensures.open c.is_sound-2.ensures.heap (subst (λ (s : State). c.args.m < s.mutators) (sym c.self.view_is) c.requires) refl refl refl c.in_ok-reply.ensures.step c.in-Done.is
+    c.is_sound.ensures.open c.is_sound-2.ensures.open c.is_sound-2.ensures.heap (subst (λ (s : State). c.args.m < s.mutators) (sym (ap (λ (h : Live). h.core) c.self.view_is)) c.requires) refl refl refl c.in_ok-reply.ensures.step c.in-Done.is
     (some_open c.put_nil.new.self.collection c.is_open.result c.if-not-is_open.false c.is_open.ensures) c.address.ensures c.in-Some.is
     (are_old c.put_nil.new.self _ c.image.ensures.shows) c.written.ensures.stays c.written.ensures.lost c.written.ensures.wrote c.self.invariant
 

@@ -1,6 +1,7 @@
 -- The checker is told of each number's field, at the address that the slot had before, so it goes along and is not lost.
 use Rattle.std.proofs.Common.{length, subst, sym, ap, ◌∙◌, arith}
 use Rattle.gc_graph.specs.declared.reply.Reply.{Reply}
+use Rattle.gc_live.specs.Live.{Live}
 use Rattle.gc_plan.specs.State.{State}
 use Rattle.gc_heap.specs.Raws.{raw_numbers}
 use Rattle.gc_core.specs.Writing.{numbers_reply, numbers_step}
@@ -21,7 +22,7 @@ invariant_of-self-in-Some c =
     let s : State = c.self.inside.inner in
     let words = c.args.words.now in
     let done = done_all s c.put_numbers-2.new.self (numbers_step s c.args.m c.args.s c.args.t c.args.first words) _ c.in_ok-reply.reply c.in_ok-reply.ensures.step c.in-Done.is in
-    both_call_open c.self.inside.along s c.put_numbers-2.new.self c.args.self.now c.args.m c.args.first (length words) c.place.result c.args.s c.args.t c.address-target.result c.in-Some.object c.is_open.result _ c.self.inside.watch c.tell_written.new.watch c.self.view_is c.requires.mutator c.requires.apart c.has_slots.ensures c.place.ensures.value c.place.ensures.bound c.if-not-is_open.false c.is_open.ensures
+    both_call_open c.self.inside.along s c.put_numbers-2.new.self c.args.self.now.core c.args.m c.args.first (length words) c.place.result c.args.s c.args.t c.address-target.result c.in-Some.object c.is_open.result _ c.self.inside.watch c.tell_written.new.watch (ap (λ (h : Live). h.core) c.self.view_is) c.requires.mutator c.requires.apart c.has_slots.ensures c.place.ensures.value c.place.ensures.bound c.if-not-is_open.false c.is_open.ensures
     c.is_sound.ensures.heap c.is_sound.ensures.open c.is_sound-2.ensures.heap c.is_sound-2.ensures.open c.address-target.ensures c.in-Some.is
     (λ at in_roots. subst (Puts IsDone (length words) s c.args.m c.args.s c.args.t c.args.first) done (numbers_all s c.args.m c.args.first c.in-Some.object.0 c.args.s c.args.t words c.requires.apart at in_roots (ap (λ (x : Reply × State). x.0) c.in_ok-reply.ensures.step ∙ c.in-Done.is))) (are_old c.put_numbers-2.new.self _ c.image.ensures.shows)
     c.tell_written.ensures.written c.tell_written.ensures.truly c.self.invariant

@@ -1,0 +1,122 @@
+-- A live heap as contracts see it: the core's state, and beside it how its flips are checked, and the memory that waits.
+use Rattle.std.specs.Prelude.{◌≡◌, ◌≢◌, ◌⊎◌, ℕ, zero, suc, ◌+◌, ◌-◌, ◌^◌, ◌==◌, ◌&&◌, ◌||◌, not, min, nat_le, nat_lt, Bool, true, false, if◌then◌else◌, is_some}
+use Rattle.gc_plan.specs.State.{State}
+use Rattle.gc_plan.specs.declared.step.StepReply.{StepReply}
+use Rattle.gc_plan.specs.declared.step.StepReply.TheVariants.{Flipped}
+use Rattle.gc_live.specs.declared.checking.Checking.{Checking}
+use Rattle.gc_live.specs.declared.checking.Checking.TheVariants.{AtFlip, Along}
+use Rattle.gc_live.specs.declared.checking.FlipChecks.{FlipChecks}
+
+-- `along`: a standing checker goes along. `each`: each flip with this number checks both spaces whole, counted from the last one that did; if
+-- it is 0, none does for its number. `since`: the flips since then. `checks`: how many flips each checker has accepted.
+pub record Turns : Type 0 where
+  pub along : Bool
+  pub each : ℕ
+  pub since : ℕ
+  pub checks : FlipChecks
+
+-- The words of room for the next collection, beside the old space of the last flip, and those of room that is given back in slices.
+pub record Rooms : Type 0 where
+  pub spare : ℕ
+  pub leaving : ℕ
+
+pub record Beside : Type 0 where
+  pub turns : Turns
+  pub rooms : Rooms
+
+pub record Live : Type 0 where
+  pub core : State
+  pub beside : Beside
+
+-- ---- how flips are checked
+
+abbrev pub no_checks : FlipChecks
+no_checks = record { along = 0; whole = 0 }
+
+-- those of a heap that was just opened, in which no flip has been
+abbrev pub opening_turns : Checking → Turns
+opening_turns AtFlip = record { along = false; each = 1; since = 0; checks = no_checks }
+opening_turns (Along whole_each) = record { along = true; each = whole_each; since = 0; checks = no_checks }
+
+-- the next flip checks both spaces whole
+abbrev pub is_due : Turns → Bool
+is_due t = not t.along || (nat_lt 0 t.each && nat_le t.each (t.since + 1))
+
+-- one flip more, which was checked whole or not; a count stays at the largest number of 64 bits
+abbrev pub counted : Bool → FlipChecks → FlipChecks
+counted whole c = if whole then record c { whole = min (c.whole + 1) (2 ^ 64 - 1) } else record c { along = min (c.along + 1) (2 ^ 64 - 1) }
+
+-- the flips since the last one that was checked whole
+abbrev pub since_after : Bool → ℕ → ℕ
+since_after whole n = if whole then 0 else min (n + 1) (2 ^ 32 - 1)
+
+abbrev pub flipped_turns : Turns → Turns
+flipped_turns t = record t { since = since_after (is_due t) t.since; checks = counted (is_due t) t.checks }
+
+-- those after a step that gets this reply
+abbrev pub turns_after : Turns → StepReply → Turns
+turns_after t (Flipped pairs) = flipped_turns t
+turns_after t reply = t
+
+-- ---- memory that waits
+
+abbrev pub no_rooms : Rooms
+no_rooms = record { spare = 0; leaving = 0 }
+
+abbrev pub opening_beside : Checking → Beside
+opening_beside checking = record { turns = opening_turns checking; rooms = no_rooms }
+
+-- A collection of this size begins, where the last flip left so many words. It takes what the flip left, or else the spare room, or else new
+-- memory. Then the spare room leaves if nothing else does, and what the flip left does otherwise.
+abbrev pub rooms_begun : ℕ → ℕ → Rooms → Rooms
+rooms_begun size left r =
+    if left == size then record { spare = 0; leaving = r.spare }
+    else if r.spare == size then record { spare = 0; leaving = left }
+    else if left == 0 then record { spare = 0; leaving = r.spare }
+    else record { spare = r.spare; leaving = left }
+
+-- the spare room is freed
+abbrev pub no_spare : Rooms → Rooms
+no_spare r = record r { spare = 0 }
+
+-- The rooms after a begin. Where the collection takes new memory, the spare room may have been freed first, because memory was refused.
+abbrev pub HasBegun : ℕ → ℕ → Rooms → Rooms → Type 0
+HasBegun size left old new = (new ≡ rooms_begun size left old) ⊎ ((left ≢ size) × (new ≡ rooms_begun size left (no_spare old)))
+
+-- Memory was refused: nothing leaves any more, and the spare room stays or is freed.
+abbrev pub WereRefused : Rooms → Rooms → Type 0
+WereRefused old new = (new ≡ record old { leaving = 0 }) ⊎ (new ≡ no_rooms)
+
+-- A collection with a new space of this many words was given up, or none was open. Its room is the spare room, or leaves if there is one.
+abbrev pub rooms_given_up : ℕ → Rooms → Rooms
+rooms_given_up words r = if words == 0 then r else if r.spare == 0 then record r { spare = words } else record r { leaving = words }
+
+-- a flip that checks both spaces whole frees what leaves first
+abbrev pub rooms_flipped : Beside → Rooms
+rooms_flipped b = if is_due b.turns then record b.rooms { leaving = 0 } else b.rooms
+
+-- The words of the last flip's old space after a flip that gets this reply: the heap's, or those that were there before.
+abbrev pub former_words : State → ℕ → StepReply → ℕ
+former_words s left (Flipped pairs) = s.size
+former_words s left reply = left
+
+-- unless a collection is open, there is room for one as large as the heap
+abbrev pub rooms_touched : Live → Rooms
+rooms_touched h = if is_some h.core.collection then h.beside.rooms else record h.beside.rooms { spare = h.core.size }
+
+-- the words that one call gives back
+abbrev pub slice : ℕ
+slice = 32768
+
+abbrev pub rooms_given_back : Rooms → Rooms
+rooms_given_back r = record r { leaving = r.leaving - slice }
+
+abbrev pub with_rooms : Live → Rooms → Live
+with_rooms h r = record h { beside = record h.beside { rooms = r } }
+
+-- ---- many flips
+
+-- after so many flips
+abbrev pub after_flips : ℕ → Turns → Turns
+after_flips zero t = t
+after_flips (suc n) t = flipped_turns (after_flips n t)
