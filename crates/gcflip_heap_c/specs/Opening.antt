@@ -1,8 +1,10 @@
 -- The options with which a heap can be opened.
-use Rattle.std.specs.Prelude.{◌≡◌, ℕ, ◌≤◌}
+use Rattle.std.specs.Prelude.{◌≡◌, ℕ, ◌≤◌, ◌==◌, if◌then◌else◌}
 use Rattle.gc_graph.specs.Limits.{most_mutators}
 use Rattle.gc_heap.specs.ExtraRoots.{most_extra_roots}
 use Rattle.gc_heap.specs.declared.options.HeapOptions.{HeapOptions}
+use Rattle.gc_live.specs.declared.checking.Checking.{Checking}
+use Rattle.gc_live.specs.declared.checking.Checking.TheVariants.{AtFlip, Along}
 use Rattle.gcflip_heap_c.specs.declared.opening.GcflipOptions.{GcflipOptions}
 
 -- the number of bytes of the record of options
@@ -16,3 +18,7 @@ CanOpenWith options = (options.bytes ≡ options_bytes) × (1 ≤ options.size) 
 
 abbrev pub options_in : GcflipOptions → HeapOptions
 options_in options = record { size = options.size; mutators = options.mutators; extra_roots = options.extra_roots }
+
+-- how the flips are checked: 0 stands for a checker that goes along, and 1 for whole checks alone
+abbrev pub checking_in : GcflipOptions → Checking
+checking_in options = if options.checking == 0 then Along options.whole_each else AtFlip

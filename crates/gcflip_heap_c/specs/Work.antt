@@ -1,5 +1,5 @@
 -- Useful steps, performed in order by one call.
-use Rattle.std.specs.Prelude.{◌≡◌, ◌≢◌, ◌⊎◌, ℕ, zero, suc, ◌+◌, ◌-◌, ◌<◌, ◌≤◌, Bool, true, false, Option, IfSome, IsSomeAnd}
+use Rattle.std.specs.Prelude.{◌≡◌, ◌≢◌, ◌⊎◌, ℕ, zero, suc, ◌+◌, ◌-◌, ◌<◌, ◌≤◌, ◌==◌, Bool, true, false, if◌then◌else◌, Option, IfSome, IsSomeAnd}
 use Rattle.std.specs.Option.{option_map, option_map_or, option_or}
 use Rattle.gc_plan.specs.State.{State, new_end, heap_end}
 use Rattle.gc_plan.specs.Steps.{collect, useful_step}
@@ -10,6 +10,7 @@ use Rattle.gc_plan.specs.declared.step.StepReply.{StepReply}
 use Rattle.gc_plan.specs.declared.step.StepReply.TheVariants.{NoRoom, Refused, Flipped}
 use Rattle.gc_core.specs.CollectedHeap.{Allocates}
 use Rattle.gc_core.specs.Flip.{FlipsOnly, IsCertified, PassesIfReady, HasRoomIfLarge}
+use Rattle.gc_live.specs.Live.{Turns, flipped_turns}
 use Rattle.gcflip_heap_c.specs.Replies.{step_reply_in_c, pairs_after}
 use Rattle.gcflip_heap_c.specs.declared.work.GcflipWork.{GcflipWork}
 
@@ -36,6 +37,10 @@ abbrev pub goes_on : StepReply → Bool
 goes_on (Flipped pairs) = false
 goes_on NoRoom = false
 goes_on reply = true
+
+-- how flips are checked after this work, of which only the last step can be a flip
+abbrev pub turns_after_work : Turns → GcflipWork → Turns
+turns_after_work turns work = if work.last == step_reply_in_c (Flipped work.pairs) then flipped_turns turns else turns
 
 -- The reply to the useful step in this state. The step flips only if the certificate holds, and it is no refused flip. If the
 -- collection is ready, it flips. If the new space is at least as large as the heap, it does not lack room.

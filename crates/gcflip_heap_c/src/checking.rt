@@ -34,9 +34,12 @@ pub extern "C" fn gcflip_heap_flip_checks(
 ) -> u32
     ensures answers { (result ≡ done) ⊎ (result ≡ closed_handle) }
     ensures heap { heap.new.state ≡ heap.old.state }
+    // The counts are those of the flips since the heap was opened.
+    ensures counts { result ≡ done → (checks.new.along ≡ heap.old.beside.turns.checks.along) × (checks.new.whole ≡ heap.old.beside.turns.checks.whole) }
     ensures silent { result ≡ closed_handle → checks.new ≡ checks.old }
     ensures closed { (result ≡ closed_handle) ↔ (heap.old.state ≡ None) }
     ensures former { heap.new.former ≡ heap.old.former }
+    ensures beside { heap.new.beside ≡ heap.old.beside }
 {
     if heap.is_empty() {
         return CLOSED;
@@ -77,6 +80,7 @@ pub extern "C" fn gcflip_heap_check(heap: &mut GcflipHeap, verdict: &mut GcflipV
     ensures memory { result ≡ no_memory → IsSomeAnd heap.old.state (λ s. Allocates s Step.Flip) }
     ensures closed { (result ≡ closed_handle) ↔ (heap.old.state ≡ None) }
     ensures former { heap.new.former ≡ heap.old.former }
+    ensures beside { heap.new.beside ≡ heap.old.beside }
 {
     if heap.is_empty() {
         return CLOSED;

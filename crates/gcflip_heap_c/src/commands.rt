@@ -33,6 +33,7 @@ pub extern "C" fn gcflip_heap_new_object(
         (λ state. mutate state m (Op.New (numbered_slot d) kind count)) heap.old.state heap.new.state result }
     ensures memory { result ≢ no_memory }
     ensures former { heap.new.former ≡ heap.old.former }
+    ensures beside { heap.new.beside ≡ heap.old.beside }
 {
     if heap.is_empty() {
         return CLOSED;
@@ -63,6 +64,7 @@ pub extern "C" fn gcflip_heap_new_raw(
         (λ state. mutate state m (Op.NewRaw (numbered_slot d) kind count)) heap.old.state heap.new.state result }
     ensures memory { result ≢ no_memory }
     ensures former { heap.new.former ≡ heap.old.former }
+    ensures beside { heap.new.beside ≡ heap.old.beside }
 {
     if heap.is_empty() {
         return CLOSED;
@@ -87,6 +89,7 @@ pub extern "C" fn gcflip_heap_set_number(heap: &mut GcflipHeap, m: u8, d: u8, n:
         (λ state. mutate state m (Op.Num (numbered_slot d) n)) heap.old.state heap.new.state result }
     ensures memory { result ≢ no_memory }
     ensures former { heap.new.former ≡ heap.old.former }
+    ensures beside { heap.new.beside ≡ heap.old.beside }
 {
     if heap.is_empty() {
         return CLOSED;
@@ -110,6 +113,7 @@ pub extern "C" fn gcflip_heap_set_nil(heap: &mut GcflipHeap, m: u8, d: u8) -> u3
     ensures call { IsCommandCall (NamesSlots m (d ∷ [])) (λ state. mutate state m (Op.Nil (numbered_slot d))) heap.old.state heap.new.state result }
     ensures memory { result ≢ no_memory }
     ensures former { heap.new.former ≡ heap.old.former }
+    ensures beside { heap.new.beside ≡ heap.old.beside }
 {
     if heap.is_empty() {
         return CLOSED;
@@ -131,6 +135,7 @@ pub extern "C" fn gcflip_heap_move(heap: &mut GcflipHeap, m: u8, d: u8, s: u8) -
         (λ state. mutate state m (Op.Move (numbered_slot d) (numbered_slot s))) heap.old.state heap.new.state result }
     ensures memory { result ≢ no_memory }
     ensures former { heap.new.former ≡ heap.old.former }
+    ensures beside { heap.new.beside ≡ heap.old.beside }
 {
     if heap.is_empty() {
         return CLOSED;
@@ -164,6 +169,7 @@ pub extern "C" fn gcflip_heap_get(
     ensures silent { IsRefusal result → number.new ≡ number.old }
     ensures memory { result ≢ no_memory }
     ensures former { heap.new.former ≡ heap.old.former }
+    ensures beside { heap.new.beside ≡ heap.old.beside }
 {
     if heap.is_empty() {
         return CLOSED;
@@ -189,6 +195,7 @@ pub extern "C" fn gcflip_heap_put(heap: &mut GcflipHeap, m: u8, s: u8, i: u16, t
         (λ state. mutate state m (Op.Put (numbered_slot s) i (numbered_slot t))) heap.old.state heap.new.state result }
     ensures memory { result ≡ no_memory → IsSomeAnd heap.old.state (λ s. IsSome s.collection) }
     ensures former { heap.new.former ≡ heap.old.former }
+    ensures beside { heap.new.beside ≡ heap.old.beside }
 {
     if heap.is_empty() {
         return CLOSED;
@@ -227,6 +234,7 @@ pub extern "C" fn gcflip_heap_put_number(
         (λ state. mutate (mutate state m (Op.Num (numbered_slot t) n)).1 m (Op.Put (numbered_slot s) i (numbered_slot t))) heap.old.state heap.new.state result }
     ensures memory { result ≡ no_memory → IsSomeAnd heap.old.state (λ s. IsSome s.collection) }
     ensures former { heap.new.former ≡ heap.old.former }
+    ensures beside { heap.new.beside ≡ heap.old.beside }
 {
     if heap.is_empty() {
         return CLOSED;
@@ -259,6 +267,7 @@ pub extern "C" fn gcflip_heap_put_nil(heap: &mut GcflipHeap, m: u8, s: u8, i: u1
         (λ state. mutate (mutate state m (Op.Nil (numbered_slot t))).1 m (Op.Put (numbered_slot s) i (numbered_slot t))) heap.old.state heap.new.state result }
     ensures memory { result ≡ no_memory → IsSomeAnd heap.old.state (λ s. IsSome s.collection) }
     ensures former { heap.new.former ≡ heap.old.former }
+    ensures beside { heap.new.beside ≡ heap.old.beside }
 {
     if heap.is_empty() {
         return CLOSED;
@@ -295,6 +304,7 @@ pub extern "C" fn gcflip_heap_new_pair(
         (λ state. new_from_step state m (numbered_slot d) kind (numbered_slot s ∷ numbered_slot t ∷ [])) heap.old.state heap.new.state result }
     ensures memory { result ≡ no_memory → IsSomeAnd heap.old.state (λ s. IsSome s.collection) }
     ensures former { heap.new.former ≡ heap.old.former }
+    ensures beside { heap.new.beside ≡ heap.old.beside }
 {
     if heap.is_empty() {
         return CLOSED;
@@ -332,6 +342,7 @@ pub extern "C" fn gcflip_heap_new_from(
         (λ state. new_from_step state m (numbered_slot d) kind (map numbered_slot fields.now)) heap.old.state heap.new.state result }
     ensures memory { result ≡ no_memory → IsSomeAnd heap.old.state (λ s. IsSome s.collection) }
     ensures former { heap.new.former ≡ heap.old.former }
+    ensures beside { heap.new.beside ≡ heap.old.beside }
 {
     if heap.is_empty() {
         return CLOSED;
@@ -360,6 +371,7 @@ pub extern "C" fn gcflip_heap_same(heap: &mut GcflipHeap, m: u8, s: u8, t: u8) -
         (λ state. mutate state m (Op.Same (numbered_slot s) (numbered_slot t))) heap.old.state heap.new.state result }
     ensures memory { result ≢ no_memory }
     ensures former { heap.new.former ≡ heap.old.former }
+    ensures beside { heap.new.beside ≡ heap.old.beside }
 {
     if heap.is_empty() {
         return CLOSED;
@@ -390,6 +402,7 @@ pub extern "C" fn gcflip_heap_look(
     ensures silent { IsRefusal result → view.new ≡ view.old }
     ensures memory { result ≢ no_memory }
     ensures former { heap.new.former ≡ heap.old.former }
+    ensures beside { heap.new.beside ≡ heap.old.beside }
 {
     if heap.is_empty() {
         return CLOSED;

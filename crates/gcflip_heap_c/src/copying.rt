@@ -30,6 +30,7 @@ pub extern "C" fn gcflip_heap_copy_fields(
         (λ state. copy_fields_step state m (numbered_slot d) to (numbered_slot s) from (numbered_slot t) count) heap.old.state heap.new.state result }
     ensures memory { result ≡ no_memory → IsSomeAnd heap.old.state (λ s. IsSome s.collection) }
     ensures former { heap.new.former ≡ heap.old.former }
+    ensures beside { heap.new.beside ≡ heap.old.beside }
 {
     if heap.is_empty() {
         return CLOSED;

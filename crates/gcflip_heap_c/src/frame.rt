@@ -29,7 +29,7 @@ pub struct GcflipFrame {
 
 /// Returns whether the numbers of the frame are in order, and the heap has its roots.
 fn is_frame(heap: &LiveHeap, frame: &GcflipFrame) -> bool
-    ensures { IsTrue result ↔ HasFrame frame.now heap.now }
+    ensures { IsTrue result ↔ HasFrame frame.now heap.now.core }
 {
     frame.first <= frame.top && frame.top <= frame.end && frame.end <= heap.extra_roots()
 }
@@ -41,6 +41,7 @@ pub extern "C" fn gcflip_heap_root_load(heap: &mut GcflipHeap, m: u8, d: u8, k: 
         (λ state. load_step state m d k) heap.old.state heap.new.state result }
     ensures memory { result ≢ no_memory }
     ensures former { heap.new.former ≡ heap.old.former }
+    ensures beside { heap.new.beside ≡ heap.old.beside }
 {
     if heap.is_empty() {
         return CLOSED;
@@ -62,6 +63,7 @@ pub extern "C" fn gcflip_heap_root_store(heap: &mut GcflipHeap, m: u8, k: u32, s
         (λ state. store_step state m k s) heap.old.state heap.new.state result }
     ensures memory { result ≢ no_memory }
     ensures former { heap.new.former ≡ heap.old.former }
+    ensures beside { heap.new.beside ≡ heap.old.beside }
 {
     if heap.is_empty() {
         return CLOSED;
@@ -83,6 +85,7 @@ pub extern "C" fn gcflip_heap_root_clear(heap: &mut GcflipHeap, from: u32, to: u
         (λ old new. (result ≡ done) × (clear_step old from (to - from) ≡ new)) heap.old.state heap.new.state result }
     ensures memory { result ≢ no_memory }
     ensures former { heap.new.former ≡ heap.old.former }
+    ensures beside { heap.new.beside ≡ heap.old.beside }
 {
     if heap.is_empty() {
         return CLOSED;
@@ -108,6 +111,7 @@ pub extern "C" fn gcflip_heap_frame_push(
     ensures frame { ¬ IsRefusal result → frame.new ≡ record frame.old { top = suc frame.old.top } }
     ensures silent { IsRefusal result → frame.new ≡ frame.old }
     ensures former { heap.new.former ≡ heap.old.former }
+    ensures beside { heap.new.beside ≡ heap.old.beside }
 {
     if heap.is_empty() {
         return CLOSED;
@@ -141,6 +145,7 @@ pub extern "C" fn gcflip_heap_frame_pop(
     ensures frame { ¬ IsRefusal result → frame.new ≡ record frame.old { top = frame.old.top - 1 } }
     ensures silent { IsRefusal result → frame.new ≡ frame.old }
     ensures former { heap.new.former ≡ heap.old.former }
+    ensures beside { heap.new.beside ≡ heap.old.beside }
 {
     if heap.is_empty() {
         return CLOSED;

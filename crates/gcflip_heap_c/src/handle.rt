@@ -4,7 +4,8 @@ ghost use Rattle.std.specs.Prelude.{◌≡◌, Option, Some, None, IsSome, Match
 ghost use Rattle.std.specs.Borrow.{sem};
 ghost use Rattle.gc_plan.specs.State.{State};
 ghost use Rattle.gc_copy.specs.Words.{RoomWords};
-ghost use Rattle.gcflip_heap_c.specs.Handle.{owns_heap, coded_state, coded_former};
+ghost use Rattle.gc_live.specs.Live.{Beside};
+ghost use Rattle.gcflip_heap_c.specs.Handle.{owns_heap, coded_state, coded_former, coded_beside};
 
 use crate::parts::Parts;
 use gc_live::KeptHeap;
@@ -14,7 +15,7 @@ use std::mem::replace;
 use std::ptr::null_mut;
 
 /// A handle: a pointer to a heap, or null. Contracts see the state of the heap, if there is one, and the old space of its last flip, until a
-/// collection begins.
+/// collection begins, and beside them how flips are checked and what memory waits.
 #[repr(C)]
 #[derive(Drop)]
 pub struct GcflipHeap {
@@ -22,10 +23,11 @@ pub struct GcflipHeap {
     alloc: Global,
     ghost state: { Option State } by { coded_state },
     ghost former: { Option RoomWords } by { coded_former },
+    ghost beside: { Beside } by { coded_beside },
 }
 
 impl Model for GcflipHeap {
-    ghost also_owns = { λ handle. owns_heap handle.alloc handle.at handle.state handle.former };
+    ghost also_owns = { λ handle. owns_heap handle.alloc handle.at handle.state handle.former handle.beside };
 }
 
 impl GcflipHeap {
@@ -50,7 +52,7 @@ impl GcflipHeap {
     pub(crate) fn kept_mut(&mut self) -> &mut KeptHeap
         requires { IsSome self.old.state }
         ensures* writes_back { sem 𝓛 (LendsHeap self.entry result) }
-        ensures value { (self.old.state ≡ Some result.now.live) × (self.old.former ≡ result.now.former) }
+        ensures value { (self.old.state ≡ Some result.now.live.core) × (self.old.former ≡ result.now.former) × (self.old.beside ≡ result.now.live.beside) }
     {
         let at = self.at as *mut KeptHeap;
         unsafe { &mut *at }
@@ -58,15 +60,16 @@ impl GcflipHeap {
 
     /// Returns a handle that has this heap.
     pub(crate) fn full(heap: Box<KeptHeap>) -> GcflipHeap
-        ensures state { result.state ≡ Some heap.value.live }
+        ensures state { result.state ≡ Some heap.value.live.core }
         ensures former { result.former ≡ heap.value.former }
+        ensures beside { result.beside ≡ heap.value.live.beside }
     {
         GcflipHeap::of_parts(Parts::of(heap))
     }
 
     /// Takes the heap out of the handle, if it has one.
     pub(crate) fn take(&mut self, alloc: Global) -> Option<Box<KeptHeap>>
-        ensures heap { MatchOption result (self.old.state ≡ None) (λ heap. self.old.state ≡ Some heap.value.live) }
+        ensures heap { MatchOption result (self.old.state ≡ None) (λ heap. self.old.state ≡ Some heap.value.live.core) }
         ensures empty { self.new.state ≡ None }
     {
         if self.is_empty() {
@@ -80,7 +83,7 @@ impl GcflipHeap {
     }
 
     fn of_parts(parts: Parts<KeptHeap, Global>) -> GcflipHeap
-        ensures { (result.state ≡ Some parts.value.live) × (result.former ≡ parts.value.former) }
+        ensures { (result.state ≡ Some parts.value.live.core) × (result.former ≡ parts.value.former) × (result.beside ≡ parts.value.live.beside) }
     {
         let Parts { at, alloc } = parts;
         let at = at as *mut u8;
@@ -89,7 +92,7 @@ impl GcflipHeap {
 
     fn into_parts(self) -> Parts<KeptHeap, Global>
         requires { IsSome self.state }
-        ensures { (Some result.value.live ≡ self.state) × (result.value.former ≡ self.former) }
+        ensures { (Some result.value.live.core ≡ self.state) × (result.value.former ≡ self.former) × (result.value.live.beside ≡ self.beside) }
     {
         let GcflipHeap { at, alloc } = self;
         let at = at as *mut KeptHeap;

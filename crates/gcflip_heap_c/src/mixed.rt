@@ -99,6 +99,7 @@ pub extern "C" fn gcflip_heap_new_with(
         (λ state. new_with_step state m (numbered_slot d) kind (numbered_slot t) (map source_in fields.now)) heap.old.state heap.new.state result }
     ensures memory { result ≡ no_memory → IsSomeAnd heap.old.state (λ s. IsSome s.collection) }
     ensures former { heap.new.former ≡ heap.old.former }
+    ensures beside { heap.new.beside ≡ heap.old.beside }
 {
     if heap.is_empty() {
         return CLOSED;

@@ -36,6 +36,7 @@ pub extern "C" fn gcflip_heap_moved(heap: &mut GcflipHeap, old: u32, address: &m
     ensures silent { IsRefusal result → address.new ≡ address.old }
     ensures memory { result ≢ no_memory }
     ensures former { heap.new.former ≡ heap.old.former }
+    ensures beside { heap.new.beside ≡ heap.old.beside }
 {
     if heap.is_empty() {
         return CLOSED;

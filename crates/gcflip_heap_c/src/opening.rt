@@ -1,12 +1,13 @@
 //! The exports that open and close a heap.
 
-ghost use Rattle.std.specs.Prelude.{◌≡◌, ◌<◌, ◌≤◌, ◌⊎◌, ◌↔◌, None, Some, IsSome, IsTrue, IfOk};
+ghost use Rattle.std.specs.Prelude.{◌≡◌, ◌<◌, ◌≤◌, ◌⊎◌, ◌↔◌, ◌==◌, None, Some, IsSome, IsTrue, IfOk, IfSome, if◌then◌else◌};
 ghost use Rattle.gc_check.specs.InC.{done, no_memory};
 ghost use Rattle.gc_heap.specs.ExtraRoots as heaps;
 ghost use Rattle.gc_copy.specs.Opening.{opening_state_with};
+ghost use Rattle.gc_copy.specs.Words.{held_in};
+ghost use Rattle.gc_live.specs.Live.{opening_beside, rooms_touched};
 ghost use Rattle.gcflip_heap_c.specs.Answers.{out_of_range, closed_handle, open_handle};
-ghost use Rattle.gcflip_heap_c.specs.Opening.{CanOpenWith, options_in};
-ghost use Rattle.gcflip_heap_c.specs.Internal.Opening.{checking_in};
+ghost use Rattle.gcflip_heap_c.specs.Opening.{CanOpenWith, checking_in, options_in};
 
 use crate::answer::{CLOSED, DONE, NO_MEMORY, OPEN, OUT_OF_RANGE};
 use crate::handle::GcflipHeap;
@@ -55,7 +56,9 @@ pub extern "C" fn gcflip_heap_open(
     ensures done { result ≡ done → heap.new.state ≡ Some (opening_state_with (options_in options.now)) }
     // No flip has been.
     ensures former { result ≡ done → heap.new.former ≡ None }
-    ensures refused { 1 ≤ result → (heap.new.state ≡ heap.old.state) × (heap.new.former ≡ heap.old.former) }
+    // Flips are checked as the options ask for, and no memory waits.
+    ensures beside { result ≡ done → heap.new.beside ≡ opening_beside (checking_in options.now) }
+    ensures refused { 1 ≤ result → (heap.new.state ≡ heap.old.state) × (heap.new.former ≡ heap.old.former) × (heap.new.beside ≡ heap.old.beside) }
     ensures open { (result ≡ open_handle) ↔ IsSome heap.old.state }
     ensures outside { (result ≡ out_of_range) ↔ ((heap.old.state ≡ None) × (¬ CanOpenWith options.now)) }
 {
@@ -88,6 +91,11 @@ pub extern "C" fn gcflip_heap_touch(alloc: Global, heap: &mut GcflipHeap) -> u32
     ensures answers { (result ≡ done) ⊎ ((result ≡ no_memory) ⊎ (result ≡ closed_handle)) }
     ensures heap { heap.new.state ≡ heap.old.state }
     ensures former { heap.new.former ≡ heap.old.former }
+    ensures turns { heap.new.beside.turns ≡ heap.old.beside.turns }
+    // Then there is room for a collection as large as the heap, unless one is open.
+    ensures rooms { result ≡ done → IfSome heap.old.state (λ s. heap.new.beside.rooms ≡ (if held_in heap.old.former == s.size
+        then heap.old.beside.rooms else rooms_touched (record { core = s; beside = heap.old.beside }))) }
+    ensures kept { 1 ≤ result → heap.new.beside ≡ heap.old.beside }
     ensures closed { (result ≡ closed_handle) ↔ (heap.old.state ≡ None) }
 {
     if heap.is_empty() {
@@ -131,8 +139,9 @@ fn boxed_heap(
     checking: Checking,
 ) -> Result<Box<KeptHeap>, NoMemory>
     requires { heaps.CanOpen options.now }
-    ensures state { IfOk result (λ heap. heap.value.live ≡ opening_state_with options.now) }
+    ensures state { IfOk result (λ heap. heap.value.live.core ≡ opening_state_with options.now) }
     ensures former { IfOk result (λ heap. heap.value.former ≡ None) }
+    ensures beside { IfOk result (λ heap. heap.value.live.beside ≡ opening_beside checking) }
 {
     let opened = KeptHeap::open_with(alloc, options, checking)?;
     Ok(Box::new(alloc, opened)?)

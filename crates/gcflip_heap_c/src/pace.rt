@@ -10,7 +10,8 @@ ghost use Rattle.gcflip_heap_c.specs.Pace as paces;
 ghost use Rattle.gcflip_heap_c.specs.Commands.{IsCall};
 ghost use Rattle.gcflip_heap_c.specs.Pace.{IsPace, IsPacedWork};
 ghost use Rattle.gcflip_heap_c.specs.Former.{LeavesAfter};
-ghost use Rattle.gcflip_heap_c.specs.Work.{IsWork};
+ghost use Rattle.gcflip_heap_c.specs.Internal.Unchanged.{IsAsBefore};
+ghost use Rattle.gcflip_heap_c.specs.Work.{IsWork, turns_after_work};
 
 use crate::answer::{CLOSED, DONE, FLIPPED, NO_MEMORY, NO_ROOM, OUT_OF_RANGE};
 use crate::handle::GcflipHeap;
@@ -220,11 +221,12 @@ fn pace_after(pace: &GcflipPace, due: u32, work: &GcflipWork, counts: &GcflipCou
 /// Performs this many useful steps, or none. Ends once it performed `words` steps, or replicas took `words` words, unless that is 0.
 fn work_due(heap: &mut KeptHeap, words: u32, due: u32) -> Result<GcflipWork, NoMemory>
     ensures none { due ≡ 0 → IfOk result (λ work. (heap.new ≡ heap.old) × (work ≡ paces.no_work)) }
-    ensures some { 1 ≤ due → words ≡ 0 → IfOk result (IsWork None None due heap.old.live heap.new.live) }
-    ensures within { 1 ≤ due → 1 ≤ words → IfOk result (IsWork None (Some words) (min due words) heap.old.live heap.new.live) }
-    ensures former { IfOk result (λ work. LeavesAfter None work.steps heap.old.live heap.old.former heap.new.former) }
-    ensures refused { OnErr result (heap.new ≡ heap.old) }
-    ensures allocates { OnErr result (Allocates heap.old.live (useful_step heap.old.live)) }
+    ensures some { 1 ≤ due → words ≡ 0 → IfOk result (IsWork None None due heap.old.live.core heap.new.live.core) }
+    ensures within { 1 ≤ due → 1 ≤ words → IfOk result (IsWork None (Some words) (min due words) heap.old.live.core heap.new.live.core) }
+    ensures former { IfOk result (λ work. LeavesAfter None work.steps heap.old.live.core heap.old.former heap.new.former) }
+    ensures turns { IfOk result (λ work. heap.new.live.beside.turns ≡ turns_after_work heap.old.live.beside.turns work) }
+    ensures refused { OnErr result (IsAsBefore heap.old heap.new) }
+    ensures allocates { OnErr result (Allocates heap.old.live.core (useful_step heap.old.live.core)) }
 {
     if due == 0 {
         return Ok(GcflipWork {
@@ -242,10 +244,11 @@ fn work_due(heap: &mut KeptHeap, words: u32, due: u32) -> Result<GcflipWork, NoM
 
 /// Performs the useful steps that are due.
 fn work_at_pace(heap: &mut KeptHeap, pace: &GcflipPace, wanted: u32) -> Result<Paced, NoMemory>
-    ensures done { IfOk result (λ made. IsPacedWork wanted heap.old.live heap.new.live pace.now made.pace made.work) }
-    ensures former { IfOk result (λ made. LeavesAfter None made.work.steps heap.old.live heap.old.former heap.new.former) }
-    ensures refused { OnErr result (heap.new ≡ heap.old) }
-    ensures allocates { OnErr result (Allocates heap.old.live (useful_step heap.old.live)) }
+    ensures done { IfOk result (λ made. IsPacedWork wanted heap.old.live.core heap.new.live.core pace.now made.pace made.work) }
+    ensures former { IfOk result (λ made. LeavesAfter None made.work.steps heap.old.live.core heap.old.former heap.new.former) }
+    ensures turns { IfOk result (λ made. heap.new.live.beside.turns ≡ turns_after_work heap.old.live.beside.turns made.work) }
+    ensures refused { OnErr result (IsAsBefore heap.old heap.new) }
+    ensures allocates { OnErr result (Allocates heap.old.live.core (useful_step heap.old.live.core)) }
 {
     heap.live.is_sound();
     let due = gcflip_pace_due(pace, &counts_of(&heap.live), wanted);
@@ -270,6 +273,8 @@ pub extern "C" fn gcflip_heap_work_paced(
     ensures memory { result ≡ no_memory → IsSomeAnd heap.old.state (λ s. Allocates s (useful_step s)) }
     ensures former { result ≡ done → IsSomeAnd heap.old.state (λ s. LeavesAfter None work.new.steps s heap.old.former heap.new.former) }
     ensures kept { 1 ≤ result → heap.new.former ≡ heap.old.former }
+    ensures turns { result ≡ done → heap.new.beside.turns ≡ turns_after_work heap.old.beside.turns work.new }
+    ensures uncounted { 1 ≤ result → heap.new.beside.turns ≡ heap.old.beside.turns }
 {
     if heap.is_empty() {
         return CLOSED;

@@ -21,9 +21,10 @@ pub(crate) const MOST_IN_LINE: u16 = 9;
 /// Makes a long object, as `gcflip_heap_new_object` does.
 #[inline(never)]
 pub(crate) fn new_long(heap: &mut LiveHeap, m: u8, d: u8, kind: u8, count: u16) -> u32
-    requires { m < heap.old.mutators }
+    requires { m < heap.old.core.mutators }
     ensures call { IsCommandCall (NamesSlots m (d ∷ []))
-        (λ state. mutate state m (Op.New (numbered_slot d) kind count)) (Some heap.old) (Some heap.new) result }
+        (λ state. mutate state m (Op.New (numbered_slot d) kind count)) (Some heap.old.core) (Some heap.new.core) result }
+    ensures beside { heap.new.beside ≡ heap.old.beside }
     ensures memory { result ≢ no_memory }
 {
     let Some(d) = slot(d) else {
@@ -35,9 +36,10 @@ pub(crate) fn new_long(heap: &mut LiveHeap, m: u8, d: u8, kind: u8, count: u16) 
 /// Makes a long raw object, as `gcflip_heap_new_raw` does.
 #[inline(never)]
 pub(crate) fn new_long_raw(heap: &mut LiveHeap, m: u8, d: u8, kind: u8, count: u16) -> u32
-    requires { m < heap.old.mutators }
+    requires { m < heap.old.core.mutators }
     ensures call { IsCommandCall (NamesSlots m (d ∷ []))
-        (λ state. mutate state m (Op.NewRaw (numbered_slot d) kind count)) (Some heap.old) (Some heap.new) result }
+        (λ state. mutate state m (Op.NewRaw (numbered_slot d) kind count)) (Some heap.old.core) (Some heap.new.core) result }
+    ensures beside { heap.new.beside ≡ heap.old.beside }
     ensures memory { result ≢ no_memory }
 {
     let Some(d) = slot(d) else {
@@ -49,10 +51,11 @@ pub(crate) fn new_long_raw(heap: &mut LiveHeap, m: u8, d: u8, kind: u8, count: u
 /// Performs `gcflip_heap_put` while a collection is open.
 #[inline(never)]
 pub(crate) fn put_while_open(heap: &mut LiveHeap, m: u8, s: u8, i: u16, t: u8) -> u32
-    requires { m < heap.old.mutators }
+    requires { m < heap.old.core.mutators }
     ensures call { IsCommandCall (NamesSlots m (s ∷ t ∷ []))
-        (λ state. mutate state m (Op.Put (numbered_slot s) i (numbered_slot t))) (Some heap.old) (Some heap.new) result }
-    ensures memory { result ≡ no_memory → IsSome heap.old.collection }
+        (λ state. mutate state m (Op.Put (numbered_slot s) i (numbered_slot t))) (Some heap.old.core) (Some heap.new.core) result }
+    ensures beside { heap.new.beside ≡ heap.old.beside }
+    ensures memory { result ≡ no_memory → IsSome heap.old.core.collection }
 {
     if s >= SLOT_NUMBERS || t >= SLOT_NUMBERS {
         return OUT_OF_RANGE;
@@ -67,10 +70,11 @@ pub(crate) fn put_while_open(heap: &mut LiveHeap, m: u8, s: u8, i: u16, t: u8) -
 /// Performs `gcflip_heap_put_number` while a collection is open.
 #[inline(never)]
 pub(crate) fn put_number_while_open(heap: &mut LiveHeap, m: u8, s: u8, i: u16, t: u8, n: u64) -> u32
-    requires { m < heap.old.mutators }
+    requires { m < heap.old.core.mutators }
     ensures call { IsCommandCall (λ state. NamesSlots m (s ∷ t ∷ []) state × (n < 2 ^ 63))
-        (λ state. mutate (mutate state m (Op.Num (numbered_slot t) n)).1 m (Op.Put (numbered_slot s) i (numbered_slot t))) (Some heap.old) (Some heap.new) result }
-    ensures memory { result ≡ no_memory → IsSome heap.old.collection }
+        (λ state. mutate (mutate state m (Op.Num (numbered_slot t) n)).1 m (Op.Put (numbered_slot s) i (numbered_slot t))) (Some heap.old.core) (Some heap.new.core) result }
+    ensures beside { heap.new.beside ≡ heap.old.beside }
+    ensures memory { result ≡ no_memory → IsSome heap.old.core.collection }
 {
     if s >= SLOT_NUMBERS || t >= SLOT_NUMBERS {
         return OUT_OF_RANGE;
@@ -88,10 +92,11 @@ pub(crate) fn put_number_while_open(heap: &mut LiveHeap, m: u8, s: u8, i: u16, t
 /// Performs `gcflip_heap_new_pair` while a collection is open.
 #[inline(never)]
 pub(crate) fn new_pair_while_open(heap: &mut LiveHeap, m: u8, d: u8, kind: u8, s: u8, t: u8) -> u32
-    requires { m < heap.old.mutators }
+    requires { m < heap.old.core.mutators }
     ensures call { IsCommandCall (NamesSlots m (d ∷ s ∷ t ∷ []))
-        (λ state. new_from_step state m (numbered_slot d) kind (numbered_slot s ∷ numbered_slot t ∷ [])) (Some heap.old) (Some heap.new) result }
-    ensures memory { result ≡ no_memory → IsSome heap.old.collection }
+        (λ state. new_from_step state m (numbered_slot d) kind (numbered_slot s ∷ numbered_slot t ∷ [])) (Some heap.old.core) (Some heap.new.core) result }
+    ensures beside { heap.new.beside ≡ heap.old.beside }
+    ensures memory { result ≡ no_memory → IsSome heap.old.core.collection }
 {
     if d >= SLOT_NUMBERS || s >= SLOT_NUMBERS || t >= SLOT_NUMBERS {
         return OUT_OF_RANGE;

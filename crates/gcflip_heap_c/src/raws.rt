@@ -17,8 +17,8 @@ use gc_live::LiveHeap;
 
 /// Copies the numbers of the raw object that the slot refers to, from field `first` on, if it has as many as the array takes.
 fn read_raw(heap: &LiveHeap, m: u8, s: Slot, first: u16, words: &mut [u64]) -> u32
-    requires { m < heap.now.mutators }
-    ensures { Reads first (raw_numbers heap.now.heap.graph s m) words.old words.new result }
+    requires { m < heap.now.core.mutators }
+    ensures { Reads first (raw_numbers heap.now.core.heap.graph s m) words.old words.new result }
 {
     let Some(numbers) = heap.raw_numbers(m, s) else {
         return NO_OBJECT;
@@ -47,6 +47,7 @@ pub extern "C" fn gcflip_heap_raw_read(
     ensures silent { IsRefusal result → words.new ≡ words.old }
     ensures memory { result ≢ no_memory }
     ensures former { heap.new.former ≡ heap.old.former }
+    ensures beside { heap.new.beside ≡ heap.old.beside }
 {
     if heap.is_empty() {
         return CLOSED;
@@ -77,6 +78,7 @@ pub extern "C" fn gcflip_heap_raw_write(
         (λ state. put_numbers_step state m (numbered_slot s) first (numbered_slot t) words.now) heap.old.state heap.new.state result }
     ensures memory { result ≡ no_memory → IsSomeAnd heap.old.state (λ s. IsSome s.collection) }
     ensures former { heap.new.former ≡ heap.old.former }
+    ensures beside { heap.new.beside ≡ heap.old.beside }
 {
     if heap.is_empty() {
         return CLOSED;
@@ -99,8 +101,8 @@ pub extern "C" fn gcflip_heap_raw_write(
 
 /// Writes the address of the object that the slot refers to, if it refers to one.
 fn read_address(heap: &LiveHeap, m: u8, s: Slot, address: &mut u32) -> u32
-    requires { m < heap.now.mutators }
-    ensures { TellsAddress (address_in heap.now s m) address.old address.new result }
+    requires { m < heap.now.core.mutators }
+    ensures { TellsAddress (address_in heap.now.core s m) address.old address.new result }
 {
     match heap.address(m, s) {
         None => NO_OBJECT,
@@ -120,6 +122,7 @@ pub extern "C" fn gcflip_heap_address(heap: &mut GcflipHeap, m: u8, s: u8, addre
     ensures silent { IsRefusal result → address.new ≡ address.old }
     ensures memory { result ≢ no_memory }
     ensures former { heap.new.former ≡ heap.old.former }
+    ensures beside { heap.new.beside ≡ heap.old.beside }
 {
     if heap.is_empty() {
         return CLOSED;

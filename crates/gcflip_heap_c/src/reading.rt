@@ -51,7 +51,7 @@ pub struct GcflipLogEntry {
 /// Returns the number of entries in all logs, up to the largest `u32`.
 #[tactic(auto, using(crate::proofs::Logged::entries_next, crate::proofs::Logged::entries_end))]
 fn logged_in(heap: &LiveHeap) -> u32
-    ensures { result ≡ logged_in heap.now }
+    ensures { result ≡ logged_in heap.now.core }
 {
     heap.is_sound();
     let mut total: u128 = 0;
@@ -63,7 +63,7 @@ fn logged_in(heap: &LiveHeap) -> u32
 
 /// Reads the counts.
 pub(crate) fn counts_of(heap: &LiveHeap) -> GcflipCounts
-    ensures { result ≡ counts_of heap.now }
+    ensures { result ≡ counts_of heap.now.core }
 {
     let mut counts = GcflipCounts {
         size: heap.size(),
@@ -97,6 +97,7 @@ pub extern "C" fn gcflip_heap_counts(heap: &mut GcflipHeap, counts: &mut GcflipC
     ensures silent { result ≡ closed_handle → counts.new ≡ counts.old }
     ensures closed { (result ≡ closed_handle) ↔ (heap.old.state ≡ None) }
     ensures former { heap.new.former ≡ heap.old.former }
+    ensures beside { heap.new.beside ≡ heap.old.beside }
 {
     if heap.is_empty() {
         return CLOSED;
@@ -115,6 +116,7 @@ pub extern "C" fn gcflip_heap_log_length(heap: &mut GcflipHeap, m: u8, count: &m
     ensures outside { (result ≡ out_of_range) ↔ IsSomeAnd heap.old.state (λ s. s.mutators ≤ m) }
     ensures closed { (result ≡ closed_handle) ↔ (heap.old.state ≡ None) }
     ensures former { heap.new.former ≡ heap.old.former }
+    ensures beside { heap.new.beside ≡ heap.old.beside }
 {
     if heap.is_empty() {
         return CLOSED;
@@ -129,8 +131,8 @@ pub extern "C" fn gcflip_heap_log_length(heap: &mut GcflipHeap, m: u8, count: &m
 
 /// Writes entry `k` of mutator `m`'s log to `entry` if it exists. Returns whether it exists.
 fn copy_entry(heap: &LiveHeap, m: u8, k: usize, entry: &mut GcflipLogEntry) -> bool
-    ensures found { IsTrue result → log_entry_at heap.now m k ≡ Some entry.new }
-    ensures none { IsFalse result → (log_entry_at heap.now m k ≡ None) × (entry.new ≡ entry.old) }
+    ensures found { IsTrue result → log_entry_at heap.now.core m k ≡ Some entry.new }
+    ensures none { IsFalse result → (log_entry_at heap.now.core m k ≡ None) × (entry.new ≡ entry.old) }
 {
     if m >= heap.mutators() {
         return false;
@@ -160,6 +162,7 @@ pub extern "C" fn gcflip_heap_log_entry(
     ensures outside { (result ≡ out_of_range) ↔ IsSomeAnd heap.old.state (λ s. log_entry_at s m k ≡ None) }
     ensures closed { (result ≡ closed_handle) ↔ (heap.old.state ≡ None) }
     ensures former { heap.new.former ≡ heap.old.former }
+    ensures beside { heap.new.beside ≡ heap.old.beside }
 {
     if heap.is_empty() {
         return CLOSED;
@@ -173,8 +176,8 @@ pub extern "C" fn gcflip_heap_log_entry(
 
 /// Copies the image if the arrays are as long as its words and roots. Returns whether they are.
 fn copy_image(heap: &LiveHeap, words: &mut [u64], roots: &mut [u64]) -> bool
-    ensures fits { IsTrue result ↔ FitsImage words.old roots.old heap.now }
-    ensures copied { IsTrue result → (words.new ≡ (heap_image heap.now).words) × (roots.new ≡ (heap_image heap.now).roots) }
+    ensures fits { IsTrue result ↔ FitsImage words.old roots.old heap.now.core }
+    ensures copied { IsTrue result → (words.new ≡ (heap_image heap.now.core).words) × (roots.new ≡ (heap_image heap.now.core).roots) }
     ensures kept { IsFalse result → (words.new ≡ words.old) × (roots.new ≡ roots.old) }
 {
     let image = heap.image();
@@ -202,6 +205,7 @@ pub extern "C" fn gcflip_heap_image(
     ensures outside { (result ≡ out_of_range) ↔ IsSomeAnd heap.old.state (λ s. ¬ FitsImage words.old roots.old s) }
     ensures closed { (result ≡ closed_handle) ↔ (heap.old.state ≡ None) }
     ensures former { heap.new.former ≡ heap.old.former }
+    ensures beside { heap.new.beside ≡ heap.old.beside }
 {
     if heap.is_empty() {
         return CLOSED;
@@ -215,8 +219,8 @@ pub extern "C" fn gcflip_heap_image(
 
 /// Copies the words of the new space if the array has that length. Returns whether it has.
 fn copy_new_words(heap: &LiveHeap, words: &mut [u64]) -> bool
-    ensures fits { IsTrue result ↔ IsSomeAnd (new_words heap.now) (λ new. length words.old ≡ length new) }
-    ensures copied { IsTrue result → new_words heap.now ≡ Some words.new }
+    ensures fits { IsTrue result ↔ IsSomeAnd (new_words heap.now.core) (λ new. length words.old ≡ length new) }
+    ensures copied { IsTrue result → new_words heap.now.core ≡ Some words.new }
     ensures kept { IsFalse result → words.new ≡ words.old }
 {
     let Some(source) = heap.new_words() else {
@@ -240,6 +244,7 @@ pub extern "C" fn gcflip_heap_new_words(heap: &mut GcflipHeap, words: &mut [u64]
     ensures outside { (result ≡ out_of_range) ↔ IsSomeAnd heap.old.state (λ s. ¬ IsSomeAnd (new_words s) (λ new. length words.old ≡ length new)) }
     ensures closed { (result ≡ closed_handle) ↔ (heap.old.state ≡ None) }
     ensures former { heap.new.former ≡ heap.old.former }
+    ensures beside { heap.new.beside ≡ heap.old.beside }
 {
     if heap.is_empty() {
         return CLOSED;

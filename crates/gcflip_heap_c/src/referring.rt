@@ -20,6 +20,7 @@ pub extern "C" fn gcflip_heap_refer(heap: &mut GcflipHeap, m: u8, d: u8, address
         (λ state. refer_step state m (numbered_slot d) address) heap.old.state heap.new.state result }
     ensures memory { result ≢ no_memory }
     ensures former { heap.new.former ≡ heap.old.former }
+    ensures beside { heap.new.beside ≡ heap.old.beside }
 {
     if heap.is_empty() {
         return CLOSED;

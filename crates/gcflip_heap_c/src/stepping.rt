@@ -1,11 +1,14 @@
 //! The exports that perform collector steps.
 
-ghost use Rattle.std.specs.Prelude.{◌≡◌, ◌≢◌, ◌⊎◌, ◌↔◌, ◌<◌, ◌≤◌, None, IfSome, IsSomeAnd, ⊤};
+ghost use Rattle.std.specs.Prelude.{◌≡◌, ◌≢◌, ◌⊎◌, ◌↔◌, ◌<◌, ◌≤◌, None, IfSome, IsSome, IsSomeAnd, IsTrue, ⊤};
 ghost use Rattle.gc_check.specs.InC.{done, no_memory, IsRefusal};
 ghost use Rattle.gc_plan.specs.declared.step.Step.{Step};
 ghost use Rattle.gc_plan.specs.Steps.{collect, useful_step};
 ghost use Rattle.gc_core.specs.CollectedHeap.{Allocates};
-ghost use Rattle.gc_core.specs.Flip.{FormerAfter, HasRoomIfLarge};
+ghost use Rattle.gc_plan.specs.declared.step.StepReply.{StepReply};
+ghost use Rattle.gc_copy.specs.Words.{held_in};
+ghost use Rattle.gc_core.specs.Flip.{FormerAfter, HasRoomIfLarge, new_size};
+ghost use Rattle.gc_live.specs.Live.{HasBegun, is_due, rooms_flipped, rooms_given_up, turns_after};
 ghost use Rattle.gcflip_heap_c.specs.Answers.{closed_handle};
 ghost use Rattle.gcflip_heap_c.specs.Commands.{IsCall, Replies};
 ghost use Rattle.gcflip_heap_c.specs.Steps.{IsStepCall, ShowsReply, step_in_c};
@@ -54,6 +57,7 @@ pub extern "C" fn gcflip_heap_useful(heap: &mut GcflipHeap, step: &mut GcflipSte
     ensures silent { result ≡ closed_handle → step.new ≡ step.old }
     ensures closed { (result ≡ closed_handle) ↔ (heap.old.state ≡ None) }
     ensures former { heap.new.former ≡ heap.old.former }
+    ensures beside { heap.new.beside ≡ heap.old.beside }
 {
     if heap.is_empty() {
         return CLOSED;
@@ -69,6 +73,8 @@ pub extern "C" fn gcflip_heap_step_begin(heap: &mut GcflipHeap) -> u32
     ensures memory { result ≡ no_memory → IsSomeAnd heap.old.state (λ s. Allocates s Step.Begin) }
     // The old space of the last flip stays until a collection begins.
     ensures former { ¬ IsRefusal result → IsSomeAnd heap.old.state (λ s. FormerAfter s heap.old.former (collect s Step.Begin).0 heap.new.former) }
+    ensures turns { heap.new.beside.turns ≡ heap.old.beside.turns }
+    ensures rooms { result ≡ step_reply_in_c StepReply.Begun → IsSomeAnd heap.old.state (λ s. HasBegun s.size (held_in heap.old.former) heap.old.beside.rooms heap.new.beside.rooms) }
     ensures kept { IsRefusal result → heap.new.former ≡ heap.old.former }
 {
     if heap.is_empty() {
@@ -87,6 +93,8 @@ pub extern "C" fn gcflip_heap_step_begin_sized(heap: &mut GcflipHeap, size: u32)
     ensures memory { result ≡ no_memory → IsSomeAnd heap.old.state (λ s. Allocates s (Step.BeginSized size)) }
     // The old space of the last flip stays until a collection begins.
     ensures former { ¬ IsRefusal result → IsSomeAnd heap.old.state (λ s. FormerAfter s heap.old.former (collect s (Step.BeginSized size)).0 heap.new.former) }
+    ensures turns { heap.new.beside.turns ≡ heap.old.beside.turns }
+    ensures rooms { result ≡ step_reply_in_c StepReply.Begun → IsSomeAnd heap.old.state (λ s. HasBegun size (held_in heap.old.former) heap.old.beside.rooms heap.new.beside.rooms) }
     ensures kept { IsRefusal result → heap.new.former ≡ heap.old.former }
 {
     if heap.is_empty() {
@@ -108,6 +116,7 @@ pub extern "C" fn gcflip_heap_step_roots(heap: &mut GcflipHeap) -> u32
     ensures memory { result ≢ no_memory }
     ensures room { ¬ IsRefusal result → IsSomeAnd heap.old.state (λ s. ShowsReply (HasRoomIfLarge s) result) }
     ensures former { heap.new.former ≡ heap.old.former }
+    ensures beside { heap.new.beside ≡ heap.old.beside }
 {
     if heap.is_empty() {
         return CLOSED;
@@ -122,6 +131,7 @@ pub extern "C" fn gcflip_heap_step_scan(heap: &mut GcflipHeap) -> u32
     ensures memory { result ≢ no_memory }
     ensures room { ¬ IsRefusal result → IsSomeAnd heap.old.state (λ s. ShowsReply (HasRoomIfLarge s) result) }
     ensures former { heap.new.former ≡ heap.old.former }
+    ensures beside { heap.new.beside ≡ heap.old.beside }
 {
     if heap.is_empty() {
         return CLOSED;
@@ -136,6 +146,7 @@ pub extern "C" fn gcflip_heap_step_apply(heap: &mut GcflipHeap, m: u8) -> u32
     ensures memory { result ≢ no_memory }
     ensures room { ¬ IsRefusal result → IsSomeAnd heap.old.state (λ s. ShowsReply (HasRoomIfLarge s) result) }
     ensures former { heap.new.former ≡ heap.old.former }
+    ensures beside { heap.new.beside ≡ heap.old.beside }
 {
     if heap.is_empty() {
         return CLOSED;
@@ -159,6 +170,11 @@ pub extern "C" fn gcflip_heap_step_flip(heap: &mut GcflipHeap, pairs: &mut u32) 
         (λ reply. (result ≡ step_reply_in_c reply) × IsSoundReply s reply) s)) }
     // The old space stays, and tells the pairs of that certificate.
     ensures former { ¬ IsRefusal result → IsSomeAnd heap.old.state (λ s. FormerAfter s heap.old.former (collect s Step.Flip).0 heap.new.former) }
+    // It is counted as checked whole if that was due.
+    ensures turns { ¬ IsRefusal result → IsSomeAnd heap.old.state (λ s. heap.new.beside.turns ≡ turns_after heap.old.beside.turns (collect s Step.Flip).0) }
+    ensures rooms { IsSome heap.old.state → heap.new.beside.rooms ≡ rooms_flipped heap.old.beside }
+    ensures due { result ≡ no_memory → IsTrue (is_due heap.old.beside.turns) }
+    ensures uncounted { IsRefusal result → heap.new.beside.turns ≡ heap.old.beside.turns }
     ensures kept { IsRefusal result → heap.new.former ≡ heap.old.former }
     ensures silent { IsRefusal result → pairs.new ≡ pairs.old }
 {
@@ -180,6 +196,9 @@ pub extern "C" fn gcflip_heap_step_give_up(heap: &mut GcflipHeap) -> u32
     ensures call { IsStepCall (λ _. ⊤) Step.Drop heap.old.state heap.new.state result }
     ensures memory { result ≢ no_memory }
     ensures former { heap.new.former ≡ heap.old.former }
+    ensures turns { heap.new.beside.turns ≡ heap.old.beside.turns }
+    // The room of the collection waits for the next one, or leaves if there is room already.
+    ensures rooms { IfSome heap.old.state (λ s. heap.new.beside.rooms ≡ rooms_given_up (new_size s) heap.old.beside.rooms) }
 {
     if heap.is_empty() {
         return CLOSED;

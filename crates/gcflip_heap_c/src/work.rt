@@ -12,8 +12,10 @@ ghost use Rattle.gcflip_heap_c.specs.Internal.Leaving.{LeavesLess};
 ghost use Rattle.gcflip_heap_c.specs.Commands.{IsCall};
 ghost use Rattle.gcflip_heap_c.specs.Replies.{step_reply_in_c, pairs_after};
 ghost use Rattle.gc_core.specs.Flip.{FormerAfter};
+ghost use Rattle.gc_live.specs.Live.{turns_after};
 ghost use Rattle.gcflip_heap_c.specs.Former.{LeavesAfter};
-ghost use Rattle.gcflip_heap_c.specs.Work.{IsSoundReply, IsRun, IsWork, with_size, sized_step, after_useful, useful_reply, goes_on, end_in, end_after};
+ghost use Rattle.gcflip_heap_c.specs.Internal.Unchanged.{IsAsBefore};
+ghost use Rattle.gcflip_heap_c.specs.Work.{IsSoundReply, IsRun, IsWork, turns_after_work, with_size, sized_step, after_useful, useful_reply, goes_on, end_in, end_after};
 
 use crate::answer::{CLOSED, DONE, NO_MEMORY, OUT_OF_RANGE};
 use crate::handle::GcflipHeap;
@@ -61,12 +63,13 @@ fn sized(step: Step, size: Option<u32>) -> Step
 #[inline(always)]
 fn one_step(heap: &mut KeptHeap, size: Option<u32>) -> Result<StepReply, NoMemory>
     requires { IfSome size (λ words. 1 ≤ words) }
-    ensures step { IfOk result (λ reply. collect heap.old.live (sized_step size heap.old.live) ≡ (reply, heap.new.live)) }
-    ensures sound { IfOk result (IsSoundReply heap.old.live) }
-    ensures former { IfOk result (λ reply. FormerAfter heap.old.live heap.old.former reply heap.new.former) }
-    ensures leaves { IfOk result (LeavesLess heap.old.live heap.new.live) }
-    ensures refused { OnErr result (heap.new ≡ heap.old) }
-    ensures allocates { OnErr result (Allocates heap.old.live (sized_step size heap.old.live)) }
+    ensures step { IfOk result (λ reply. collect heap.old.live.core (sized_step size heap.old.live.core) ≡ (reply, heap.new.live.core)) }
+    ensures sound { IfOk result (IsSoundReply heap.old.live.core) }
+    ensures former { IfOk result (λ reply. FormerAfter heap.old.live.core heap.old.former reply heap.new.former) }
+    ensures turns { IfOk result (λ reply. heap.new.live.beside.turns ≡ turns_after heap.old.live.beside.turns reply) }
+    ensures leaves { IfOk result (LeavesLess heap.old.live.core heap.new.live.core) }
+    ensures refused { OnErr result (IsAsBefore heap.old heap.new) }
+    ensures allocates { OnErr result (Allocates heap.old.live.core (sized_step size heap.old.live.core)) }
 {
     heap.live.is_sound();
     useful_steps_end();
@@ -88,17 +91,18 @@ trait Performs {
 
     fn perform(&self, heap: &mut KeptHeap, size: Option<u32>) -> Result<StepReply, NoMemory>
         requires { IfSome size (λ words. 1 ≤ words) }
-        ensures step { IfOk result (λ reply. collect heap.old.live (sized_step size heap.old.live) ≡ (reply, heap.new.live)) }
-        ensures sound { IfOk result (IsSoundReply heap.old.live) }
-        ensures former { IfOk result (λ reply. FormerAfter heap.old.live heap.old.former reply heap.new.former) }
-        ensures leaves { IfOk result (LeavesLess heap.old.live heap.new.live) }
-        ensures refused { OnErr result (heap.new ≡ heap.old) }
-        ensures failed { OnErr result (failed self.now size heap.old.live) }
-        ensures stops { OnErr result ((reply : StepReply) → stops self.now size heap.old.live reply) };
+        ensures step { IfOk result (λ reply. collect heap.old.live.core (sized_step size heap.old.live.core) ≡ (reply, heap.new.live.core)) }
+        ensures sound { IfOk result (IsSoundReply heap.old.live.core) }
+        ensures former { IfOk result (λ reply. FormerAfter heap.old.live.core heap.old.former reply heap.new.former) }
+        ensures turns { IfOk result (λ reply. heap.new.live.beside.turns ≡ turns_after heap.old.live.beside.turns reply) }
+        ensures leaves { IfOk result (LeavesLess heap.old.live.core heap.new.live.core) }
+        ensures refused { OnErr result (IsAsBefore heap.old heap.new) }
+        ensures failed { OnErr result (failed self.now size heap.old.live.core) }
+        ensures stops { OnErr result ((reply : StepReply) → stops self.now size heap.old.live.core reply) };
 
     fn has_enough(&self, heap: &LiveHeap, reply: StepReply) -> bool
-        ensures stops { result ≡ true → (size : Option ℕ) → stops self.now size heap.now reply }
-        ensures short { result ≡ false → short self.now heap.now reply };
+        ensures stops { result ≡ true → (size : Option ℕ) → stops self.now size heap.now.core reply }
+        ensures short { result ≡ false → short self.now heap.now.core reply };
 }
 
 /// Performs useful steps, of which there are never enough.
@@ -164,20 +168,22 @@ fn useful_steps<P: Performs>(
 ) -> Result<Run, NoMemory>
     requires size { IfSome size (λ words. 1 ≤ words) }
     requires some { 1 ≤ most }
-    ensures run { IfOk result (λ run. IsRun size run.steps heap.old.live heap.new.live run.reply) }
-    ensures former { IfOk result (λ run. LeavesAfter size run.steps heap.old.live heap.old.former heap.new.former) }
+    ensures run { IfOk result (λ run. IsRun size run.steps heap.old.live.core heap.new.live.core run.reply) }
+    ensures former { IfOk result (λ run. LeavesAfter size run.steps heap.old.live.core heap.old.former heap.new.former) }
+    // Only the last step can be a flip.
+    ensures turns { IfOk result (λ run. heap.new.live.beside.turns ≡ turns_after heap.old.live.beside.turns run.reply) }
     ensures within { IfOk result (λ run. run.steps ≤ most) }
     // It stops early only after such a reply, or because a step failed for lack of memory.
     ensures ended { IfOk result (λ run. run.steps < most
-        → (goes_on run.reply ≡ false) ⊎ P.stops performs.now size heap.new.live run.reply) }
+        → (goes_on run.reply ≡ false) ⊎ P.stops performs.now size heap.new.live.core run.reply) }
     // It makes no more than the steps that are left, so as many lead to such an end.
-    ensures enough { IfOk result (λ run. work_left heap.old.live ≤ most
-        → (goes_on run.reply ≡ false) ⊎ P.stops performs.now size heap.new.live run.reply) }
+    ensures enough { IfOk result (λ run. work_left heap.old.live.core ≤ most
+        → (goes_on run.reply ≡ false) ⊎ P.stops performs.now size heap.new.live.core run.reply) }
     // No step before the last one was enough.
     ensures short { IfOk result (λ run. (k : ℕ) → suc k < run.steps
-        → P.short performs.now (after_useful size (suc k) heap.old.live) (useful_reply size k heap.old.live)) }
-    ensures refused { OnErr result (heap.new ≡ heap.old) }
-    ensures failed { OnErr result (P.failed performs.now size heap.old.live) }
+        → P.short performs.now (after_useful size (suc k) heap.old.live.core) (useful_reply size k heap.old.live.core)) }
+    ensures refused { OnErr result (IsAsBefore heap.old heap.new) }
+    ensures failed { OnErr result (P.failed performs.now size heap.old.live.core) }
 {
     let mut reply = performs.perform(heap, size)?;
     for steps in 1..most {
@@ -197,7 +203,7 @@ fn useful_steps<P: Performs>(
 
 /// Returns the first word of the open collection's new space that no replica takes, or 1 if none is open.
 fn end_of_new(heap: &LiveHeap) -> u32
-    ensures { result ≡ end_in heap.now }
+    ensures { result ≡ end_in heap.now.core }
 {
     match heap.new_space() {
         None => 1,
@@ -207,7 +213,7 @@ fn end_of_new(heap: &LiveHeap) -> u32
 
 /// Returns the same after a step with this reply. After a flip, the new space is the heap's.
 fn end_behind(heap: &LiveHeap, reply: StepReply) -> u32
-    ensures { result ≡ end_after heap.now reply }
+    ensures { result ≡ end_after heap.now.core reply }
 {
     match reply {
         StepReply::Flipped { .. } => heap.end(),
@@ -219,7 +225,7 @@ fn end_behind(heap: &LiveHeap, reply: StepReply) -> u32
 #[inline(always)]
 fn report(heap: &LiveHeap, start: u32, run: Run) -> GcflipWork
     ensures steps { result.steps ≡ run.steps }
-    ensures copied { result.copied ≡ end_after heap.now run.reply - start }
+    ensures copied { result.copied ≡ end_after heap.now.core run.reply - start }
     ensures last { result.last ≡ step_reply_in_c run.reply }
     ensures pairs { result.pairs ≡ pairs_after 0 run.reply }
 {
@@ -240,10 +246,11 @@ pub(crate) fn work_on(
 ) -> Result<GcflipWork, NoMemory>
     requires size { IfSome size (λ words. 1 ≤ words) }
     requires some { 1 ≤ most }
-    ensures work { IfOk result (IsWork size None most heap.old.live heap.new.live) }
-    ensures former { IfOk result (λ work. LeavesAfter size work.steps heap.old.live heap.old.former heap.new.former) }
-    ensures refused { OnErr result (heap.new ≡ heap.old) }
-    ensures allocates { OnErr result (Allocates heap.old.live (sized_step size heap.old.live)) }
+    ensures work { IfOk result (IsWork size None most heap.old.live.core heap.new.live.core) }
+    ensures former { IfOk result (λ work. LeavesAfter size work.steps heap.old.live.core heap.old.former heap.new.former) }
+    ensures turns { IfOk result (λ work. heap.new.live.beside.turns ≡ turns_after_work heap.old.live.beside.turns work) }
+    ensures refused { OnErr result (IsAsBefore heap.old heap.new) }
+    ensures allocates { OnErr result (Allocates heap.old.live.core (sized_step size heap.old.live.core)) }
 {
     let start = end_of_new(&heap.live);
     let run = useful_steps(&Useful, heap, size, most)?;
@@ -259,10 +266,11 @@ pub(crate) fn work_within_on(
     words: u32,
 ) -> Result<GcflipWork, NoMemory>
     requires { 1 ≤ most }
-    ensures work { IfOk result (IsWork None (Some words) most heap.old.live heap.new.live) }
-    ensures former { IfOk result (λ work. LeavesAfter None work.steps heap.old.live heap.old.former heap.new.former) }
-    ensures refused { OnErr result (heap.new ≡ heap.old) }
-    ensures allocates { OnErr result (Allocates heap.old.live (sized_step None heap.old.live)) }
+    ensures work { IfOk result (IsWork None (Some words) most heap.old.live.core heap.new.live.core) }
+    ensures former { IfOk result (λ work. LeavesAfter None work.steps heap.old.live.core heap.old.former heap.new.former) }
+    ensures turns { IfOk result (λ work. heap.new.live.beside.turns ≡ turns_after_work heap.old.live.beside.turns work) }
+    ensures refused { OnErr result (IsAsBefore heap.old heap.new) }
+    ensures allocates { OnErr result (Allocates heap.old.live.core (sized_step None heap.old.live.core)) }
 {
     let start = end_of_new(&heap.live);
     let run = useful_steps(&Within { start, words }, heap, None, most)?;
@@ -286,6 +294,8 @@ fn work_sized(heap: &mut GcflipHeap, size: Option<u32>, most: u32, work: &mut Gc
     ensures memory { result ≡ no_memory → IsSomeAnd heap.old.state (λ s. Allocates s (sized_step size s)) }
     ensures former { result ≡ done → IsSomeAnd heap.old.state (λ s. LeavesAfter size work.new.steps s heap.old.former heap.new.former) }
     ensures kept { 1 ≤ result → heap.new.former ≡ heap.old.former }
+    ensures turns { result ≡ done → heap.new.beside.turns ≡ turns_after_work heap.old.beside.turns work.new }
+    ensures uncounted { 1 ≤ result → heap.new.beside.turns ≡ heap.old.beside.turns }
 {
     if heap.is_empty() {
         return CLOSED;
@@ -311,6 +321,8 @@ pub extern "C" fn gcflip_heap_work(heap: &mut GcflipHeap, most: u32, work: &mut 
     ensures memory { result ≡ no_memory → IsSomeAnd heap.old.state (λ s. Allocates s (useful_step s)) }
     ensures former { result ≡ done → IsSomeAnd heap.old.state (λ s. LeavesAfter None work.new.steps s heap.old.former heap.new.former) }
     ensures kept { 1 ≤ result → heap.new.former ≡ heap.old.former }
+    ensures turns { result ≡ done → heap.new.beside.turns ≡ turns_after_work heap.old.beside.turns work.new }
+    ensures uncounted { 1 ≤ result → heap.new.beside.turns ≡ heap.old.beside.turns }
 {
     work_sized(heap, None, most, work)
 }
@@ -329,6 +341,8 @@ pub extern "C" fn gcflip_heap_work_sized(
     ensures memory { result ≡ no_memory → IsSomeAnd heap.old.state (λ s. Allocates s (sized_step (Some size) s)) }
     ensures former { result ≡ done → IsSomeAnd heap.old.state (λ s. LeavesAfter (Some size) work.new.steps s heap.old.former heap.new.former) }
     ensures kept { 1 ≤ result → heap.new.former ≡ heap.old.former }
+    ensures turns { result ≡ done → heap.new.beside.turns ≡ turns_after_work heap.old.beside.turns work.new }
+    ensures uncounted { 1 ≤ result → heap.new.beside.turns ≡ heap.old.beside.turns }
 {
     work_sized(heap, Some(size), most, work)
 }
@@ -346,6 +360,8 @@ pub extern "C" fn gcflip_heap_work_within(
     ensures memory { result ≡ no_memory → IsSomeAnd heap.old.state (λ s. Allocates s (useful_step s)) }
     ensures former { result ≡ done → IsSomeAnd heap.old.state (λ s. LeavesAfter None work.new.steps s heap.old.former heap.new.former) }
     ensures kept { 1 ≤ result → heap.new.former ≡ heap.old.former }
+    ensures turns { result ≡ done → heap.new.beside.turns ≡ turns_after_work heap.old.beside.turns work.new }
+    ensures uncounted { 1 ≤ result → heap.new.beside.turns ≡ heap.old.beside.turns }
 {
     if heap.is_empty() {
         return CLOSED;

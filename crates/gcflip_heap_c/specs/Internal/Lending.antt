@@ -7,7 +7,7 @@ use Rattle.gc_live.specs.contracts.kept_heap.KeptHeap as Heap
 
 -- the handle after its heap became this one
 abbrev pub with_heap : GcflipHeap → Heap.the_row.Denot → GcflipHeap
-with_heap handle heap = record handle { state = Some heap.live; former = heap.former }
+with_heap handle heap = record handle { state = Some heap.live.core; former = heap.former; beside = heap.live.beside }
 
 -- once the borrow of the heap ends, the handle has its last value
 abbrev pub LendsHeap : MutBor GcflipHeap → MutBor Heap.the_row.Denot → Fml

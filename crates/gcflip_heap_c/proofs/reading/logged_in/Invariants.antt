@@ -6,4 +6,4 @@ use Rattle.gcflip_heap_c.proofs.reading.logged_in.Given as goal
 
 -- the logs that were read have all entries but those of the others; a log's length is below 2^64
 abbrev pub invariant-loop-m : goal.invariant-loop-m
-invariant-loop-m l = (l.total + entries_from l.fn.heap l.m ≡ entries_left l.fn.heap) × (l.total ≤ l.m * 2 ^ 64)
+invariant-loop-m l = (l.total + entries_from l.fn.heap.core l.m ≡ entries_left l.fn.heap.core) × (l.total ≤ l.m * 2 ^ 64)

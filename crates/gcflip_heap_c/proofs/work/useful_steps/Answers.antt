@@ -1,38 +1,42 @@
 -- A turn makes the run one useful step longer, after a step that was not enough.
-use Rattle.std.proofs.Common.{◌≡◌, ℕ, ◌+◌, suc, sym, ◌∙◌, subst, arith}
+use Rattle.std.proofs.Common.{◌≡◌, ℕ, ◌+◌, suc, ap, sym, ◌∙◌, subst, arith}
+use Rattle.gc_live.specs.Live.{Turns, turns_after}
 use Rattle.gcflip_heap_c.specs.Work.{IsRun}
 use Rattle.gcflip_heap_c.specs.Former.{LeavesAfter}
 use Rattle.gcflip_heap_c.proofs.FormerRuns.{first_left, longer_left}
+use Rattle.gcflip_heap_c.proofs.Flips.{turns_going}
 use Rattle.gcflip_heap_c.proofs.Runs.{first_run, longer_run, short_more}
 use Rattle.gcflip_heap_c.proofs.work.useful_steps.Goals as goal
 
 pub loop-steps-init : goal.loop-steps-init
 loop-steps-init g c = (
-  first_run c.args.size c.args.heap.now.live c.perform.new.heap.live c.in_ok-reply.reply c.in_ok-reply.ensures.step c.in_ok-reply.ensures.sound c.in_ok-reply.ensures.leaves,
+  first_run c.args.size c.args.heap.now.live.core c.perform.new.heap.live.core c.in_ok-reply.reply c.in_ok-reply.ensures.step c.in_ok-reply.ensures.sound c.in_ok-reply.ensures.leaves,
   λ k less. absurd (omega arith),
-  first_left c.args.size c.args.heap.now.live c.perform.new.heap.live c.in_ok-reply.reply c.args.heap.now.former c.perform.new.heap.former c.in_ok-reply.ensures.step c.in_ok-reply.ensures.former,
+  first_left c.args.size c.args.heap.now.live.core c.perform.new.heap.live.core c.in_ok-reply.reply c.args.heap.now.former c.perform.new.heap.former c.in_ok-reply.ensures.step c.in_ok-reply.ensures.former,
+  c.in_ok-reply.ensures.turns,
 )
 
 pub loop-steps-preserved : goal.loop-steps-preserved
 loop-steps-preserved g c =
     let run = c.loop-steps.invariant.0 in
     let next : suc c.loop-steps.steps ≡ c.loop-steps.steps + 1 = omega arith in (
-      subst (λ (n : ℕ). IsRun c.args.size n c.args.heap.now.live c.perform-in-loop-steps.new.heap.live c.in-Ok.next) next
-          (longer_run c.args.size c.args.heap.now.live c.loop-steps.heap.live c.perform-in-loop-steps.new.heap.live c.loop-steps.steps c.loop-steps.reply c.in-Ok.next
+      subst (λ (n : ℕ). IsRun c.args.size n c.args.heap.now.live.core c.perform-in-loop-steps.new.heap.live.core c.in-Ok.next) next
+          (longer_run c.args.size c.args.heap.now.live.core c.loop-steps.heap.live.core c.perform-in-loop-steps.new.heap.live.core c.loop-steps.steps c.loop-steps.reply c.in-Ok.next
           run (sym c.can_go_on.ensures ∙ c.if-not-can_go_on.false) c.in-Ok.ensures.step c.in-Ok.ensures.sound c.in-Ok.ensures.leaves),
-      short_more (g.P.Performs.short c.args.performs.now) c.args.size c.args.heap.now.live c.loop-steps.heap.live c.loop-steps.steps c.loop-steps.reply run
+      short_more (g.P.Performs.short c.args.performs.now) c.args.size c.args.heap.now.live.core c.loop-steps.heap.live.core c.loop-steps.steps c.loop-steps.reply run
           (c.has_enough.ensures.short c.if-has_enough.false) c.loop-steps.invariant.1,
-      subst (λ (n : ℕ). LeavesAfter c.args.size n c.args.heap.now.live c.args.heap.now.former c.perform-in-loop-steps.new.heap.former) next
-          (longer_left c.args.size c.args.heap.now.live c.loop-steps.heap.live c.perform-in-loop-steps.new.heap.live c.loop-steps.steps c.loop-steps.reply c.in-Ok.next
+      subst (λ (n : ℕ). LeavesAfter c.args.size n c.args.heap.now.live.core c.args.heap.now.former c.perform-in-loop-steps.new.heap.former) next
+          (longer_left c.args.size c.args.heap.now.live.core c.loop-steps.heap.live.core c.perform-in-loop-steps.new.heap.live.core c.loop-steps.steps c.loop-steps.reply c.in-Ok.next
           c.args.heap.now.former c.loop-steps.heap.former c.perform-in-loop-steps.new.heap.former run c.in-Ok.ensures.step c.loop-steps.invariant.2 c.in-Ok.ensures.former),
+      c.in-Ok.ensures.turns ∙ ap (λ (t : Turns). turns_after t c.in-Ok.next) (c.loop-steps.invariant.3 ∙ turns_going c.args.heap.now.live.beside.turns c.loop-steps.reply (sym c.can_go_on.ensures ∙ c.if-not-can_go_on.false)),
     )
 
 pub returns-clause-run : goal.returns-clause-run
 returns-clause-run g c =
     let all : c.loop-steps.steps ≡ c.args.most = omega arith in
-    subst (λ (n : ℕ). IsRun c.args.size n c.args.heap.now.live c.loop-steps.heap.live c.loop-steps.reply) all c.loop-steps.invariant.0
+    subst (λ (n : ℕ). IsRun c.args.size n c.args.heap.now.live.core c.loop-steps.heap.live.core c.loop-steps.reply) all c.loop-steps.invariant.0
 
 pub returns-clause-former : goal.returns-clause-former
 returns-clause-former g c =
     let all : c.loop-steps.steps ≡ c.args.most = omega arith in
-    subst (λ (n : ℕ). LeavesAfter c.args.size n c.args.heap.now.live c.args.heap.now.former c.loop-steps.heap.former) all c.loop-steps.invariant.2
+    subst (λ (n : ℕ). LeavesAfter c.args.size n c.args.heap.now.live.core c.args.heap.now.former c.loop-steps.heap.former) all c.loop-steps.invariant.2
