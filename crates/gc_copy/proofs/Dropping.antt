@@ -15,7 +15,7 @@ use Rattle.gc_words.proofs.Public.{walk_from, Behind, behind, at_end, has_next, 
 use Rattle.gc_heap.specs.Heap.{HeapWords, IsHeap}
 use Rattle.gc_plan.specs.State.{Replica, replica_of}
 use Rattle.gc_plan.specs.Members.{In}
-use Rattle.gc_copy.specs.Words.{CollectionWords, IsCollection, replica_entry, replicas_in, collection_in, idle_state, mark_of, LinksNothing, BelongsTo}
+use Rattle.gc_copy.specs.Words.{CollectionWords, IsCollection, replica_entry, replicas_in, collection_in, idle_state, mark_of, Leads, LinksNothing, BelongsTo}
 use Rattle.gc_copy.specs.Internal.Words.{KeepsGraph}
 use Rattle.gc_plan.proofs.Public.{in_map, in_map_from, replica_in}
 use Rattle.gc_copy.proofs.Spaces.{in_start}
@@ -41,7 +41,7 @@ pub record Clears (epoch : ℕ) (words : List ℕ) (old now : HeapWords) (at : �
   pub originals : HasOriginals words old
   pub sound : IsHeap now
   pub graph : KeepsGraph old now
-  pub links : (a : ℕ) → is_start old.space.words a ≡ true → (link_at now.space.words a - mark_of epoch ≡ 0) ⊎ IsAhead words at a
+  pub links : (a : ℕ) → is_start old.space.words a ≡ true → (link_at now.space.words a ≤ mark_of epoch) ⊎ IsAhead words at a
   pub cleared : (r : Replica) → In r (replicas_in words) → (link_at now.space.words r.original ≡ 0) ⊎ IsAhead words at r.original
 
 -- ---- its steps
@@ -73,8 +73,8 @@ clears_none heap x c seen sound is belongs = record {
     ahead : (r : Replica) → In r (replicas_in x.space.words) → IsAhead x.space.words 1 r.original
     ahead r l = let entry = in_map_from (replica_entry x.space.words) r (blocks x.space.words) l in (entry.0, subst (In entry.0) met.split entry.1, ap (λ (q : Replica). q.original) entry.2)
 
-    from : (a : ℕ) → is_start heap.space.words a ≡ true → (o : Option Replica) → replica_of (collection_in x) a ≡ o → (link_at heap.space.words a - mark_of x.epoch ≡ 0) ⊎ IsAhead x.space.words 1 a
-    from a start None e = inl (k.links a start ∙ ap (λ (o : Option Replica). option_map_or (λ (r : Replica). r.place) o 0) e)
+    from : (a : ℕ) → is_start heap.space.words a ≡ true → (o : Option Replica) → replica_of (collection_in x) a ≡ o → (link_at heap.space.words a ≤ mark_of x.epoch) ⊎ IsAhead x.space.words 1 a
+    from a start None e = inl (subst (λ (o : Option Replica). Leads x.epoch (option_map (λ (r : Replica). r.place) o) (link_at heap.space.words a)) e (k.links a start))
     from a start (Some r) e =
         let found = replica_in (collection_in x) a r e in
         let there = ahead r found.0 in
@@ -117,13 +117,13 @@ clears_more epoch words old now new at next k less e is sound =
     zero : (a : ℕ) → link_at words at ≡ a → link_at after.space.words a ≡ 0
     zero a same = ap (link_at after.space.words) (sym same) ∙ link_written_there now.space (link_at words at) 0 (k.sound).space there
 
-    cleared : (a : ℕ) → link_at words at ≡ a → link_at after.space.words a - mark_of epoch ≡ 0
+    cleared : (a : ℕ) → link_at words at ≡ a → link_at after.space.words a ≤ mark_of epoch
     cleared a same = let none : link_at after.space.words a ≡ 0 = zero a same in omega arith
 
     behind_it : (a : ℕ) → (link_at words at ≡ a → ⊥) → IsAhead words at a → IsAhead words next a
     behind_it a other ahead = grind (arith, common_steps, b)
 
-    beside : (a : ℕ) → (link_at words at ≡ a → ⊥) → (link_at now.space.words a - mark_of epoch ≡ 0) ⊎ IsAhead words at a → (link_at after.space.words a - mark_of epoch ≡ 0) ⊎ IsAhead words next a
+    beside : (a : ℕ) → (link_at words at ≡ a → ⊥) → (link_at now.space.words a ≤ mark_of epoch) ⊎ IsAhead words at a → (link_at after.space.words a ≤ mark_of epoch) ⊎ IsAhead words next a
     beside a other h = grind (arith, common_steps, link_written_beside, behind_it)
 
     still : (a : ℕ) → (link_at words at ≡ a → ⊥) → (link_at now.space.words a ≡ 0) ⊎ IsAhead words at a → (link_at after.space.words a ≡ 0) ⊎ IsAhead words next a
@@ -147,7 +147,7 @@ all_cleared words old now at k past =
     let is : IsSpace now.space = (k.sound).space in
     let none : mark_of 0 ≡ 0 = refl in
     let each : (e : ℕ × Block) → In e (blocks now.space.words) → link_at now.space.words e.0 ≡ 0
-    = λ e l. let above : link_at now.space.words e.0 - mark_of 0 ≡ 0 = none_above 0 words old now at k past e.0 (in_start now.space.words e l) in omega arith in
+    = λ e l. let above : link_at now.space.words e.0 ≤ mark_of 0 = none_above 0 words old now at k past e.0 (in_start now.space.words e l) in omega arith in
     let zero = spelled_agree (link_at now.space.words) no_links (blocks now.space.words) each in
     let all : now.space.words ≡ spelled no_links (blocks old.space.words) = spelled_words now.space.words is.walked is.end_low is.reserved ∙ ap (λ ws. 0 ∷ ws) zero ∙ ap (spelled no_links) (k.graph).blocks in
     λ i. record { space = record { size = (k.graph).size i; words = all i }; roots = (k.graph).roots i; mutators = (k.graph).mutators i }

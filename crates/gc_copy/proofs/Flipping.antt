@@ -28,7 +28,7 @@ use Rattle.gc_copy.proofs.OpenCollection.{opened}
 -- ---- links cleared
 
 -- the links of replicas are addresses, so none is above the mark
-pub below_the_mark : (c : CollectionWords) → IsCollection c → (epoch : ℕ) → 1 ≤ epoch → (a : ℕ) → is_start c.space.words a ≡ true → link_at c.space.words a - mark_of epoch ≡ 0
+pub below_the_mark : (c : CollectionWords) → IsCollection c → (epoch : ℕ) → 1 ≤ epoch → (a : ℕ) → is_start c.space.words a ≡ true → link_at c.space.words a ≤ mark_of epoch
 below_the_mark c is epoch high a start =
     let b = block_found_in (blocks c.space.words) a start in
     let small : link_at c.space.words a < 2 ^ 32 = is.originals (replica_entry c.space.words (a, b.0)) (in_map (replica_entry c.space.words) (a, b.0) (blocks c.space.words) b.1) in

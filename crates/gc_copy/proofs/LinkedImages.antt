@@ -1,6 +1,6 @@
 -- The images that a heap and its collection give the checker, and how commands change them.
 use Rattle.std.proofs.lemmas.Grind.{common_steps}
-use Rattle.std.proofs.Common.{◌*◌, ◌≡◌, ⊎_elim, inr, ℕ, ◌-◌, ◌≤◌, ◌<◌, true, false, List, [], ◌∷◌, map, flat_map, length, Option, Some, None, is_some, refl, ap, sym, ◌∙◌, subst, arith}
+use Rattle.std.proofs.Common.{◌*◌, ◌≡◌, ⊎_elim, inr, ℕ, ◌+◌, ◌-◌, ◌≤◌, ◌<◌, true, false, List, [], ◌∷◌, map, flat_map, length, Option, Some, None, is_some, refl, ap, sym, ◌∙◌, subst, arith}
 use Rattle.std.specs.Option.{option_map, option_map_or}
 use Rattle.std.proofs.lemmas.Bool.{cases_Bool}
 use Rattle.gc_graph.specs.Graph.{Object, lookup}
@@ -18,11 +18,11 @@ use Rattle.gc_plan.specs.Linked.{image_of_graph, linked_image, block_entry, old_
 use Rattle.gc_plan.specs.Steps.{written, is_ready}
 use Rattle.gc_plan.specs.Members.{In}
 use Rattle.gc_plan.specs.Belonging.{IsDue, Belongs, BelongsBut}
-use Rattle.gc_copy.specs.Words.{CollectionWords, IsCollection, replica_entry, collection_in, open_state, mark_of, LinksNothing, LinksReplicas, BelongsTo, BelongsToBut, HasNoLinks, new_root_words}
+use Rattle.gc_copy.specs.Words.{CollectionWords, IsCollection, replica_entry, collection_in, open_state, mark_of, Leads, LinksNothing, LinksReplicas, BelongsTo, BelongsToBut, HasNoLinks, new_root_words}
 use Rattle.gc_plan.proofs.Public.{in_map, replica_in, replicas_due, its_replicas, belongs_from, ready_parts, found_by_place, command_kept, certified}
 use Rattle.gc_copy.proofs.Words.{heap_graph, heap_image, space_blocks, space_spelled, words_back}
 use Rattle.gc_copy.proofs.Spaces.{in_start, new_objects_are}
-use Rattle.gc_copy.proofs.OpenCollection.{replica_address}
+use Rattle.gc_copy.proofs.OpenCollection.{link_above, replica_address}
 
 -- ---- links
 
@@ -46,7 +46,7 @@ links_told space links is told =
 
 -- links without a mark are what they have above it
 unmarked : (heap : HeapWords) (c : CollectionWords) → BelongsTo heap c → c.epoch ≡ 0 → LinksExactly heap (collection_in c)
-unmarked heap c k plain a start = grind (arith, common_steps)
+unmarked heap c k plain a start = let above = link_above c.epoch (replica_of (collection_in c) a) (link_at heap.space.words a) (k.links a start) in omega (arith, above, plain)
 
 pub old_shown : (heap : HeapWords) (c : CollectionWords) → IsHeap heap → BelongsTo heap c → c.epoch ≡ 0 → image_of heap ≡ old_image (open_state heap c) (collection_in c)
 old_shown heap c is k plain = grind (arith, common_steps, links_told, unmarked, in_start, words_back)
@@ -83,7 +83,9 @@ pub linked : (heap : HeapWords) (c : CollectionWords) → BelongsTo heap c → I
 linked heap c k is a r e =
     let range : (1 ≤ r.place) × (r.place < 4294967295) = replica_address (graph_in heap).objects c r is k.belongs (replica_in (collection_in c) a r e).0 in
     let mark : mark_of c.epoch ≡ c.epoch * 4294967296 = refl in
-    omega (arith, k.links a (starts heap c a r k e) ∙ ap (λ (o : Option Replica). option_map_or (λ (r : Replica). r.place) o 0) e, range.0, range.1)
+    let leads : link_at heap.space.words a ≡ mark_of c.epoch + r.place
+    = subst (λ (o : Option Replica). Leads c.epoch (option_map (λ (r : Replica). r.place) o) (link_at heap.space.words a)) e (k.links a (starts heap c a r k e)) in
+    omega (arith, leads, mark, range.0, range.1)
 
 -- a heap's words with other links are a space with the same objects
 pub other_links : (heap : HeapWords) → IsHeap heap → (links : ℕ → ℕ) → let words = (linked_image links heap.space.size (graph_in heap)).words in
@@ -102,11 +104,11 @@ lowered_words heap links mark is told = grind (arith, common_steps, spelled_agre
 -- ---- commands
 
 -- a place where no object starts has no replica
-no_link : (heap : HeapWords) (c : CollectionWords) (a : ℕ) → BelongsTo heap c → is_start heap.space.words a ≡ false → old_links (collection_in c) a ≡ 0
-no_link heap c a k none = from (replica_of (collection_in c) a) refl
+no_replica : (heap : HeapWords) (c : CollectionWords) (a : ℕ) → BelongsTo heap c → is_start heap.space.words a ≡ false → replica_of (collection_in c) a ≡ None
+no_replica heap c a k none = from (replica_of (collection_in c) a) refl
   where
-    from : (o : Option Replica) → replica_of (collection_in c) a ≡ o → option_map_or (λ (r : Replica). r.place) o 0 ≡ 0
-    from None e = refl
+    from : (o : Option Replica) → replica_of (collection_in c) a ≡ o → replica_of (collection_in c) a ≡ None
+    from None e = e
     from (Some r) e =
         let l = replica_in (collection_in c) a r e in
         let ok = (k.belongs).replicas r l.0 in
@@ -117,7 +119,13 @@ no_link heap c a k none = from (replica_of (collection_in c) a) refl
         absent o e = grind (arith, common_steps)
 
 links_kept : (heap new : HeapWords) (c : CollectionWords) → BelongsTo heap c → KeepsLinks heap.space.words new.space.words → LinksReplicas c.epoch new (collection_in c)
-links_kept heap new c k kept a there = grind (arith, common_steps, no_link, cases_Bool)
+links_kept heap new c k kept a there = ⊎_elim
+    (λ old. subst (Leads c.epoch (option_map (λ (r : Replica). r.place) (replica_of (collection_in c) a))) (sym (kept.kept a old)) (k.links a old))
+    (λ young.
+    let zero : link_at new.space.words a ≡ 0 = kept.fresh a young there in
+    let low : link_at new.space.words a ≤ mark_of c.epoch = omega (arith, zero) in
+    subst (λ (o : Option Replica). Leads c.epoch (option_map (λ (r : Replica). r.place) o) (link_at new.space.words a)) (sym (no_replica heap c a k young)) low)
+    (cases_Bool (is_start heap.space.words a))
 
 pub command_leaves : (heap new : HeapWords) (c : CollectionWords) (m : ℕ) (op : Op) (reply : Reply) → BelongsTo heap c → KeepsLinks heap.space.words new.space.words → new.mutators ≡ heap.mutators
     → roomy_step (roomy_in heap) m op (end_of heap.space) ≡ (reply, roomy_in new) → BelongsToBut (written (graph_in heap) m op reply) new c

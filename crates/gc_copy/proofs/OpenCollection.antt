@@ -21,12 +21,11 @@ use Rattle.gc_words.specs.declared.header.Header.{Header}
 use Rattle.gc_graph.specs.Graph.{name_of}
 use Rattle.gc_heap.specs.Heap.{HeapWords, IsHeap, graph_in}
 use Rattle.gc_plan.specs.State.{Replica, Collection, State, new_objects, new_end, new_free, replica_of, moved}
-use Rattle.gc_plan.specs.Linked.{old_links}
 use Rattle.gc_plan.specs.Steps.{fresh_replica, place_replica, with_replica, with_written, write_replica, bring_value, bring_up_to_date, collect}
 use Rattle.gc_plan.specs.Members.{In}
 use Rattle.gc_plan.proofs.Public.{in_push, in_right, in_map, in_map_from, find_exists, get_within, get_past, laid_range, lookup_laid, placed, place_written, with_written_pair, replica_in, open_keeps, placing_keeps, bringing_keeps}
 use Rattle.gc_plan.specs.Belonging.{IsDue, Belongs, IsOpened}
-use Rattle.gc_copy.specs.Words.{CollectionWords, IsCollection, entries_of, replicas_in, collection_in, open_state, mark_of, LinksReplicas, BelongsTo}
+use Rattle.gc_copy.specs.Words.{CollectionWords, IsCollection, entries_of, replicas_in, collection_in, open_state, mark_of, Leads, LinksReplicas, BelongsTo}
 use Rattle.gc_plan.specs.Staying.{HasReplicaOf}
 use Rattle.gc_copy.specs.Internal.Words.{replica_block, KeepsGraph, KeepsRest}
 use Rattle.gc_plan.specs.declared.step.Step.{Step}
@@ -77,13 +76,19 @@ find_push p xs y none is = grind (arith, common_steps, find-append)
 find_push_other : {X : Type 0} (p : X → Bool) (xs : List X) (y : X) → p y ≡ false → find p (xs ++ y ∷ []) ≡ find p xs
 find_push_other p xs y is = grind (arith, common_steps, find-append)
 
--- a replica is found at the same place after a write
-zero_of_none : (o : Option Replica) (p : Option Replica) → option_map (λ r. r.place) o ≡ option_map (λ (r : Replica). r.place) p → option_map_or (λ (r : Replica). r.place) o 0 ≡ option_map_or (λ (r : Replica). r.place) p 0
-zero_of_none o p e = grind (arith, common_steps)
+-- where an object's replica is, if it has one
+abbrev place_in : Collection → ℕ → Option ℕ
+place_in c a = option_map (λ (r : Replica). r.place) (replica_of c a)
 
--- writing a field does not change the old links
-links_written : (c : Collection) (name i a : ℕ) (v : Value) → old_links (write_replica c name i v) a ≡ old_links c a
-links_written c name i a v = zero_of_none (replica_of (write_replica c name i v) a) (replica_of c a) (place_written c.replicas name i a v)
+-- what a link has above the mark is the place to which it leads, or 0
+pub link_above : (epoch : ℕ) (o : Option Replica) (link : ℕ) → Leads epoch (option_map (λ (r : Replica). r.place) o) link → link - mark_of epoch ≡ option_map_or (λ (r : Replica). r.place) o 0
+link_above epoch None link leads = omega (arith, leads)
+link_above epoch (Some r) link leads = omega (arith, leads)
+
+-- writing a field of a replica moves none, so links lead where they led
+links_written : (heap : HeapWords) (epoch : ℕ) (c d : Collection) (name i : ℕ) (v : Value) → d ≡ write_replica c name i v → LinksReplicas epoch heap c → LinksReplicas epoch heap d
+links_written heap epoch c d name i v written links a start =
+    subst (λ o. Leads epoch o (link_at heap.space.words a)) (sym (ap (λ (e : Collection). place_in e a) written ∙ place_written c.replicas name i a v)) (links a start)
 
 -- ---- a replica is placed
 
@@ -95,12 +100,12 @@ links_placed heap epoch c r is start links none a there = ⊎_elim
     let found : replica_of (record c { replicas = c.replicas ++ r ∷ [] }) a ≡ Some r = find_push (λ (q : Replica). q.original == a) c.replicas r (subst (λ n. replica_of c n ≡ None) here none) t in
     let written : link_at (with_word heap.space (link_place r.original) (mark_of epoch + r.place)).words a ≡ mark_of epoch + r.place
     = subst (λ n. link_at (with_word heap.space (link_place r.original) (mark_of epoch + r.place)).words n ≡ mark_of epoch + r.place) here (link_written_there heap.space r.original (mark_of epoch + r.place) is.space start) in
-    let above : link_at (with_word heap.space (link_place r.original) (mark_of epoch + r.place)).words a - mark_of epoch ≡ r.place = omega arith in
-    above ∙ sym (ap (λ (o : Option Replica). option_map_or (λ (r : Replica). r.place) o 0) found))
+    subst (λ (o : Option Replica). Leads epoch (option_map (λ (r : Replica). r.place) o) (link_at (with_word heap.space (link_place r.original) (mark_of epoch + r.place)).words a)) (sym found) written)
     (λ f.
     let found : replica_of (record c { replicas = c.replicas ++ r ∷ [] }) a ≡ replica_of c a = find_push_other (λ (q : Replica). q.original == a) c.replicas r f in
     let old : is_start heap.space.words a ≡ true = sym (start_kept heap (record heap { space = with_word heap.space (link_place r.original) (mark_of epoch + r.place) }) a (linked_heap heap r.original (mark_of epoch + r.place) is start)) ∙ there in
-    ap (λ l. l - mark_of epoch) (link_written_beside heap.space r.original (mark_of epoch + r.place) a (eqb-false r.original a f)) ∙ links a old ∙ sym (ap (λ (o : Option Replica). option_map_or (λ (r : Replica). r.place) o 0) found))
+    subst (λ l. Leads epoch (place_in (record c { replicas = c.replicas ++ r ∷ [] }) a) l) (sym (link_written_beside heap.space r.original (mark_of epoch + r.place) a (eqb-false r.original a f)))
+        (subst (λ (o : Option Replica). Leads epoch (option_map (λ (r : Replica). r.place) o) (link_at heap.space.words a)) (sym found) (links a old)))
     (cases_Bool (r.original == a))
 
 can_place_replica : (s : SpaceWords) (b : Block) → IsSpace s → IsBlock b → HasRoomFor s b.header.len → CanPlaceBlock s (replica_block b)
@@ -332,7 +337,7 @@ pub record Tells (c : CollectionWords) (a link : ℕ) : Type 0 where
   pub address : (link ≡ 0 → ⊥) → (1 ≤ link) × (link < 4294967295)
 
 pub link_tells : (heap : HeapWords) (c : CollectionWords) (a link : ℕ) → IsCollection c → BelongsTo heap c → is_start heap.space.words a ≡ true → link ≡ link_at heap.space.words a - mark_of c.epoch → Tells c a link
-link_tells heap c a link is k start e = from (replica_of (collection_in c) a) refl (e ∙ k.links a start)
+link_tells heap c a link is k start e = from (replica_of (collection_in c) a) refl (e ∙ link_above c.epoch (replica_of (collection_in c) a) _ (k.links a start))
   where
     from : (o : Option Replica) → replica_of (collection_in c) a ≡ o → link ≡ option_map_or (λ (r : Replica). r.place) o 0 → Tells c a link
     from None f g = record { small = omega arith; none = λ z. ap (option_map (λ (r : Replica). r.place)) f; some = λ n. absurd (n g); address = λ n. absurd (n g) }
@@ -414,7 +419,7 @@ module _ (heap new : HeapWords) (c one x : CollectionWords) (name i w place : �
     belongs = closed new new x after_words (same_graph new) belongs_here refl
         (bringing_keeps (open_state new x) (collection_in x) (collection_in after_words) name i (opened new x is belongs_here)
         (brought (graph_in new) (collection_in x) (collection_in x) name i (value_of w) (plain_value_is new name i w plain_new field_new) (replicated_already (collection_in x) (graph_in new) w has_here) ∙ ap Some (sym copied)))
-        (λ a start. (belongs_here.links) a start ∙ sym (links_written (collection_in x) name i a (moved (collection_in x) (value_of w))) ∙ sym (ap (λ d. old_links d a) copied));
+        (links_written new x.epoch (collection_in x) (collection_in after_words) name i (moved (collection_in x) (value_of w)) copied belongs_here.links);
     rest = subst (λ (y : CollectionWords). KeepsRest c (record y { space = with_word y.space (field_place place i) moved_word })) (sym seen) (record { size = rest.size; logs = rest.logs; scan_place = rest.scan_place; scan_field = rest.scan_field; epoch = rest.epoch });
   })
     where
@@ -456,7 +461,7 @@ module _ (heap : HeapWords) (c x : CollectionWords) (name i w place : ℕ) (heap
     brought = step;
     belongs = closed heap heap x after_words (same_graph heap) belongs_raw refl
         (bringing_keeps (open_state heap x) (collection_in x) (collection_in after_words) name i (opened heap x is belongs_raw) step)
-        (λ a start. (belongs_raw.links) a start ∙ sym (links_written (collection_in x) name i a (Num w)) ∙ sym (ap (λ d. old_links d a) made.copied));
+        (links_written heap x.epoch (collection_in x) (collection_in after_words) name i (Num w) made.copied belongs_raw.links);
     rest = record { size = refl; logs = refl; scan_place = refl; scan_field = refl; epoch = refl };
   }))
     where

@@ -2,6 +2,6 @@
 pub use Rattle.gc_copy.proofs.Beginning.{unlinked}
 pub use Rattle.gc_copy.proofs.LinkedImages.{lowered_words, new_shown, other_links}
 pub use Rattle.gc_copy.proofs.Mutating.{idle_left, open_left, still_unlinked}
-pub use Rattle.gc_copy.proofs.OpenCollection.{placed_has, replica_object}
+pub use Rattle.gc_copy.proofs.OpenCollection.{link_above, placed_has, replica_object}
 pub use Rattle.gc_copy.proofs.Opening.{opening_with_ok}
 pub use Rattle.gc_copy.proofs.Spaces.{new_end_is}

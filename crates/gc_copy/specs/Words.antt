@@ -1,15 +1,14 @@
 -- A collection as contracts see it: a new space whose links are the originals' addresses, logs with spare capacity, and the scan
 -- pointer.
-use Rattle.std.specs.Prelude.{◌≡◌, ◌↔◌, ℕ, ◌-◌, ◌%◌, ◌<◌, ◌^◌, ◌*◌, ◌==◌, if◌then◌else◌, List, ◌++◌, drop, length, map, replicate, slice_get, IsTrue, IsSome, Option, Some, None}
-use Rattle.std.specs.Option.{option_map_or}
+use Rattle.std.specs.Prelude.{◌≡◌, ◌↔◌, ℕ, ◌+◌, ◌-◌, ◌<◌, ◌≤◌, ◌^◌, ◌*◌, ◌==◌, if◌then◌else◌, List, ◌++◌, drop, length, map, replicate, slice_get, slice_index, IsTrue, IsSome, Option, Some, None}
+use Rattle.std.specs.Option.{option_map, option_map_or}
 use Rattle.gc_graph.specs.Graph.{Graph, lookup}
 use Rattle.gc_words.specs.Word.{word_of}
 use Rattle.gc_words.specs.Image.{Block, blocks, is_start, object_of_block}
 use Rattle.gc_words.specs.Spelling.{link_at}
 use Rattle.gc_words.specs.Space.{SpaceWords, IsSpace}
 use Rattle.gc_heap.specs.Heap.{HeapWords, graph_in, roomy_in}
-use Rattle.gc_plan.specs.State.{Replica, Collection, State, new_graph}
-use Rattle.gc_plan.specs.Linked.{old_links}
+use Rattle.gc_plan.specs.State.{Replica, Collection, State, new_graph, replica_of}
 use Rattle.gc_plan.specs.Members.{In}
 use Rattle.gc_plan.specs.Belonging.{Belongs, BelongsBut}
 
@@ -18,7 +17,7 @@ pub record Log : Type 0 where
   pub entries : List (ℕ × ℕ)
   pub spare : ℕ
 
--- `epoch` says which mark the links of originals have in addition to the places of their replicas
+-- `epoch` says by which mark the links of originals lead to their replicas
 pub record CollectionWords : Type 0 where
   pub space : SpaceWords
   pub logs : List Log
@@ -26,13 +25,12 @@ pub record CollectionWords : Type 0 where
   pub scan_field : ℕ
   pub epoch : ℕ
 
--- The memory of a collection: the size of its space, and the number of empty logs. Until a collection begins in it, the space has the words
--- of the heap before the last flip, and `epoch` says which mark the links of originals have.
+-- The memory of a collection: the size of its space, and the number of empty logs. Until a collection begins in it, its words tell of each
+-- address of the space before the last flip to which place the object there went, or 0.
 pub record RoomWords : Type 0 where
   pub size : ℕ
   pub mutators : ℕ
-  pub former : List ℕ
-  pub epoch : ℕ
+  pub moves : List ℕ
 
 -- the words of memory that such room takes, if there is any
 abbrev pub held_in : Option RoomWords → ℕ
@@ -79,13 +77,18 @@ HasNoLinks heap = (a : ℕ) → IsTrue (is_start heap.space.words a) → link_at
 abbrev pub mark_of : ℕ → ℕ
 mark_of epoch = epoch * 2 ^ 32
 
--- no object has a link above the mark
-abbrev pub LinksNothing : ℕ → HeapWords → Type 0
-LinksNothing epoch heap = (a : ℕ) → IsTrue (is_start heap.space.words a) → link_at heap.space.words a - mark_of epoch ≡ 0
+-- In this epoch the link leads to this place, or nowhere.
+abbrev pub Leads : ℕ → Option ℕ → ℕ → Type 0
+Leads epoch (Some place) link = link ≡ mark_of epoch + place
+Leads epoch None link = link ≤ mark_of epoch
 
--- what an original's link has above the mark is its replica's place; no other link is above the mark
+-- no object's link leads anywhere
+abbrev pub LinksNothing : ℕ → HeapWords → Type 0
+LinksNothing epoch heap = (a : ℕ) → IsTrue (is_start heap.space.words a) → Leads epoch None (link_at heap.space.words a)
+
+-- an original's link leads to its replica, and no other link leads anywhere
 abbrev pub LinksReplicas : ℕ → HeapWords → Collection → Type 0
-LinksReplicas epoch heap c = (a : ℕ) → IsTrue (is_start heap.space.words a) → link_at heap.space.words a - mark_of epoch ≡ old_links c a
+LinksReplicas epoch heap c = (a : ℕ) → IsTrue (is_start heap.space.words a) → Leads epoch (option_map (λ r. r.place) (replica_of c a)) (link_at heap.space.words a)
 
 -- the collection belongs to the heap, the heap's links lead to the replicas, and each mutator has a log
 pub record BelongsTo (heap : HeapWords) (c : CollectionWords) : Type 0 where
@@ -117,13 +120,13 @@ spare_of c m = spare_in (slice_get c.logs m)
 
 -- ---- where objects went
 
--- the place that a link leads to: none if it is 0
+-- this place, or none if it is 0
 abbrev pub place_told : ℕ → Option ℕ
-place_told link = if link == 0 then None else Some link
+place_told place = if place == 0 then None else Some place
 
--- where the object at this address of the former words went: the low 32 bits of what its link has above the mark
+-- where the object went that was at this address
 abbrev pub moved_in : RoomWords → ℕ → Option ℕ
-moved_in room a = place_told ((link_at room.former a - mark_of room.epoch) % 2 ^ 32)
+moved_in room a = place_told (slice_index room.moves a)
 
 -- The room tells b of an object a of this graph exactly if (a, b) is one of these pairs.
 abbrev pub TellsMoves : Graph → List (ℕ × ℕ) → RoomWords → Type 0

@@ -330,7 +330,7 @@ nil_words zero p = refl
 nil_words (suc n) zero = refl
 nil_words (suc n) (suc p) = nil_words n p
 
-no_word : (a : ℕ) → slice_index (0 ∷ []) (a + 1) - 0 ≡ 0
+no_word : (a : ℕ) → slice_index (0 ∷ []) (a + 1) ≤ 0
 no_word a = grind (arith, common_steps)
 
 -- a heap that was just opened has no links

@@ -1,14 +1,14 @@
 -- What is shown of the mutators' space: an image whose links lead to the replicas, and words with the exact links.
 use Rattle.std.proofs.lemmas.Grind.{common_steps}
-use Rattle.std.proofs.Common.{◌≡◌, ◌-◌, ℕ, Option, Some, None, length, ◌∙◌, subst, arith}
+use Rattle.std.proofs.Common.{◌≡◌, ◌-◌, ◌≤◌, ℕ, Option, Some, None, length, ◌∙◌, subst, arith}
 use Rattle.std.specs.Option.{option_map, option_map_or}
 use Rattle.gc_words.specs.Image.{Image, blocks}
 use Rattle.gc_words.specs.Spelling.{link_at, spelled, no_links}
 use Rattle.gc_heap.specs.Heap.{HeapWords, IsHeap, image_of, graph_in}
-use Rattle.gc_plan.specs.State.{State}
+use Rattle.gc_plan.specs.State.{State, replica_of}
 use Rattle.gc_plan.specs.Linked.{LeadsTo, linked_image, old_links}
 use Rattle.gc_copy.specs.Words.{CollectionWords, BelongsTo, LinksNothing, collection_in, mark_of, state_of}
-use Rattle.gc_copy.proofs.Public.{lowered_words, other_links}
+use Rattle.gc_copy.proofs.Public.{link_above, lowered_words, other_links}
 use Rattle.gc_along.specs.Outline.{outline_of}
 use Rattle.gc_core.specs.Readings.{ShowsHeap, heap_image}
 
@@ -26,11 +26,11 @@ shown_open heap c s image seen is all leads = subst (λ s. ShowsHeap s image) se
 -- lowered links are the exact ones
 pub idle_words : (epoch : ℕ) (heap : HeapWords) → IsHeap heap → LinksNothing epoch heap
     → spelled (λ a. link_at heap.space.words a - mark_of epoch) (blocks heap.space.words) ≡ (heap_image (state_of heap None)).words
-idle_words epoch heap is none = lowered_words heap (option_map_or old_links None no_links) (mark_of epoch) is none
+idle_words epoch heap is none = lowered_words heap (option_map_or old_links None no_links) (mark_of epoch) is (λ a start. let low : link_at heap.space.words a ≤ mark_of epoch = none a start in omega arith)
 
 pub open_words : (heap : HeapWords) (c : CollectionWords) → IsHeap heap → BelongsTo heap c
     → spelled (λ a. link_at heap.space.words a - mark_of c.epoch) (blocks heap.space.words) ≡ (heap_image (state_of heap (Some (collection_in c)))).words
-open_words heap c is belongs = lowered_words heap (old_links (collection_in c)) (mark_of c.epoch) is belongs.links
+open_words heap c is belongs = lowered_words heap (old_links (collection_in c)) (mark_of c.epoch) is (λ a start. link_above c.epoch (replica_of (collection_in c) a) (link_at heap.space.words a) (belongs.links a start))
 
 -- the outline of an image does not depend on links
 pub same_outline : (heap : HeapWords) → IsHeap heap → (links : ℕ → ℕ) → image_of heap ≡ linked_image (link_at heap.space.words) heap.space.size (graph_in heap) → outline_of (image_of heap) ≡ outline_of (linked_image links heap.space.size (graph_in heap))

@@ -1,12 +1,12 @@
 -- What private steps leave unchanged in a heap and in a collection, and words whose targets have replicas.
-use Rattle.std.specs.Prelude.{◌≡◌, ℕ, ◌<◌, if◌then◌else◌, List, [], map, length, replicate}
+use Rattle.std.specs.Prelude.{◌≡◌, ℕ, ◌-◌, ◌%◌, ◌^◌, ◌<◌, if◌then◌else◌, List, [], map, drop, length, replicate}
 use Rattle.gc_words.specs.Word.{value_of}
 use Rattle.gc_words.specs.Image.{Block, fresh_block, blocks}
 use Rattle.gc_words.specs.Space.{SpaceWords, IsSpace}
 use Rattle.gc_heap.specs.Heap.{HeapWords, roomy_in}
 use Rattle.gc_plan.specs.State.{Collection}
 use Rattle.gc_plan.specs.Staying.{HasReplicaOf}
-use Rattle.gc_copy.specs.Words.{Log, CollectionWords, entries_of}
+use Rattle.gc_copy.specs.Words.{Log, CollectionWords, entries_of, mark_of}
 
 abbrev pub HasReplicaWord : Collection → ℕ → Type 0
 HasReplicaWord c word = HasReplicaOf c (value_of word)
@@ -30,6 +30,10 @@ pub record KeepsRest (old new : CollectionWords) : Type 0 where
   pub scan_place : new.scan_place ≡ old.scan_place
   pub scan_field : new.scan_field ≡ old.scan_field
   pub epoch : new.epoch ≡ old.epoch
+
+-- By address, the place to which a link of this epoch leads in these words, or 0: the low 32 bits of what it has above the mark.
+abbrev pub moves_of : ℕ → List ℕ → List ℕ
+moves_of epoch words = map (λ link. (link - mark_of epoch) % 2 ^ 32) (drop 1 words)
 
 -- a space, and at most 255 empty logs
 pub record IsRoom (space : SpaceWords) (each : List Log) : Type 0 where

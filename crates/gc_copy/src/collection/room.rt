@@ -16,18 +16,18 @@ use std::marker::Model;
 pub struct Room {
     pub(super) space: Space,
     pub(super) logs: Vec<MutationLog>,
-    // The mark that the links of originals have in addition to the places of their replicas, as a multiple of 2^32.
+    // The mark by which the links of originals lead to their replicas, as a multiple of 2^32.
     pub(super) epoch: u32,
 }
 
 impl Model for Room {
     ghost use Rattle.std.specs.Prelude.{length};
     ghost use Rattle.gc_copy.specs.Words.{RoomWords};
-    ghost use Rattle.gc_copy.specs.Internal.Words.{IsRoom};
+    ghost use Rattle.gc_copy.specs.Internal.Words.{IsRoom, moves_of};
 
     ghost Value = { RoomWords };
 
-    ghost view = { λ r. record { size = r.space.size; mutators = length r.logs.items; former = r.space.words; epoch = r.epoch } };
+    ghost view = { λ r. record { size = r.space.size; mutators = length r.logs.items; moves = moves_of r.epoch r.space.words } };
 
     ghost invariant = { λ r. IsRoom r.space r.logs.items };
 }
@@ -90,6 +90,7 @@ impl Room {
 
     /// Returns the address to which the last flip moved the object that was at this address before it, or `None` if it moved none. For an
     /// address at which no object started, any answer may come. Takes constant time.
+    #[tactic(auto, using(crate::proofs::Moves::moves_at))]
     pub fn moved(&self, original: OldAddr) -> Option<NewAddr>
         ensures { option_map (λ a. a.0) result ≡ moved_in self.now original.0 }
     {

@@ -13,6 +13,7 @@ use Rattle.gc_copy.specs.Words.{Log, CollectionWords, IsCollection, AreMoved, en
 use Rattle.gc_plan.proofs.Public.{ready_parts}
 use Rattle.gc_copy.proofs.Flipping.{flipped_sound, flip_is, below_the_mark}
 use Rattle.gc_copy.proofs.RootWalks.{moved_over, all_moved}
+use Rattle.gc_copy.specs.Internal.Words.{moves_of}
 use Rattle.gc_copy.proofs.Moves.{moves_told}
 use Rattle.gc_copy.proofs.collection.Collection.flip_marked.Goals as goal
 
@@ -59,5 +60,5 @@ invariant_of-room c = grind (arith, common_steps, sound, empty_logs, ready_parts
 pub returns-clause-moves : goal.returns-clause-moves
 returns-clause-moves c =
     moves_told c.args.heap.now c.args.self (subst IsCollection c.self.view_is c.self.invariant.0) c.requires.belongs
-    (record { size = c.replace_first-space.result.size; mutators = length c.self.inside.logs.items; former = c.replace_first-space.result.words; epoch = c.self.inside.epoch })
-    (ap (λ (s : SpaceWords). s.words) c.replace_first-space.ensures.space) (ap (λ (y : CollectionWords). y.epoch) c.self.view_is)
+    (record { size = c.replace_first-space.result.size; mutators = length c.self.inside.logs.items; moves = moves_of c.self.inside.epoch c.replace_first-space.result.words })
+    (λ i. moves_of (c.self.view_is i).epoch (c.replace_first-space.ensures.space i).words)
