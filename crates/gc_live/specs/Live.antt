@@ -1,8 +1,11 @@
 -- A live heap as contracts see it: the core's state, and beside it how its flips are checked, and the memory that waits.
 use Rattle.std.specs.Prelude.{◌≡◌, ◌≢◌, ◌⊎◌, ℕ, zero, suc, ◌+◌, ◌-◌, ◌^◌, ◌==◌, ◌&&◌, ◌||◌, not, min, nat_le, nat_lt, Bool, true, false, if◌then◌else◌, is_some}
 use Rattle.gc_plan.specs.State.{State}
+use Rattle.gc_plan.specs.declared.step.Step.{Step}
+use Rattle.gc_plan.specs.declared.step.Step.TheVariants.{Begin, BeginSized, Flip, Drop}
 use Rattle.gc_plan.specs.declared.step.StepReply.{StepReply}
-use Rattle.gc_plan.specs.declared.step.StepReply.TheVariants.{Flipped}
+use Rattle.gc_plan.specs.declared.step.StepReply.TheVariants.{Begun, Flipped}
+use Rattle.gc_core.specs.Flip.{new_size}
 use Rattle.gc_live.specs.declared.checking.Checking.{Checking}
 use Rattle.gc_live.specs.declared.checking.Checking.TheVariants.{AtFlip, Along}
 use Rattle.gc_live.specs.declared.checking.FlipChecks.{FlipChecks}
@@ -94,6 +97,14 @@ rooms_given_up words r = if words == 0 then r else if r.spare == 0 then record r
 -- a flip that checks both spaces whole frees what leaves first
 abbrev pub rooms_flipped : Beside → Rooms
 rooms_flipped b = if is_due b.turns then record b.rooms { leaving = 0 } else b.rooms
+
+-- The rooms after a step that gets this reply, where the last flip left so many words.
+abbrev pub HasStepped : Step → StepReply → Live → ℕ → Rooms → Type 0
+HasStepped Begin Begun h left new = HasBegun h.core.size left h.beside.rooms new
+HasStepped (BeginSized size) Begun h left new = HasBegun size left h.beside.rooms new
+HasStepped Flip reply h left new = new ≡ rooms_flipped h.beside
+HasStepped Drop reply h left new = new ≡ rooms_given_up (new_size h.core) h.beside.rooms
+HasStepped step reply h left new = new ≡ h.beside.rooms
 
 -- The words of the last flip's old space after a flip that gets this reply: the heap's, or those that were there before.
 abbrev pub former_words : State → ℕ → StepReply → ℕ

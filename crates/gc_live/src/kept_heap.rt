@@ -12,7 +12,7 @@ ghost use Rattle.gc_along.specs.Claims.{Accepts};
 ghost use Rattle.gc_along.specs.Tables.{Tables};
 ghost use Rattle.gc_copy.specs.Words.{held_in};
 ghost use Rattle.gc_core.specs.Flip.{FlipsOnly, FormerAfter, HasAccepted, IsCertified, PassesIfReady, HasRoomIfLarge};
-ghost use Rattle.gc_live.specs.Live.{HasBegun, WereRefused, former_words, is_due, opening_beside, rooms_flipped, rooms_touched, turns_after};
+ghost use Rattle.gc_live.specs.Live.{HasBegun, HasStepped, WereRefused, former_words, is_due, opening_beside, rooms_flipped, rooms_touched, turns_after};
 
 use crate::checking::Checking;
 use crate::live_heap::LiveHeap;
@@ -155,6 +155,11 @@ impl KeptHeap {
         ensures allocates { OnErr result (Allocates self.old.live.core step) }
         ensures asked { IsTrue (is_due self.old.live.beside.turns) → IfOk result (FlipsOnly (C.says_yes checker.now) self.old.live.core) }
         ensures turns { IfOk result (λ reply. self.new.live.beside.turns ≡ turns_after self.old.live.beside.turns reply) }
+        ensures rooms { IfOk result (λ reply. HasStepped step reply self.old.live (held_in self.old.former) self.new.live.beside.rooms) }
+        ensures freed { OnErr result (WereRefused self.old.live.beside.rooms self.new.live.beside.rooms) }
+        // A flip frees what leaves where a check of both spaces whole is due, and no other memory, also if memory was refused.
+        ensures flipped { step ≡ Step.Flip → self.new.live.beside.rooms ≡ rooms_flipped self.old.live.beside }
+        ensures due { step ≡ Step.Flip → OnErr result (IsTrue (is_due self.old.live.beside.turns)) }
     {
         match step {
             Step::Begin => self.begin(),
