@@ -9,9 +9,9 @@ use Rattle.gc_plan.specs.declared.event.Answer.{Answer}
 use Rattle.gc_plan.specs.declared.event.Event.{Event}
 use Rattle.gc_world.specs.History.{unmarked}
 use Rattle.gc_trace.specs.Replies.{reply_line, reply_text}
-use Rattle.gc_trace.specs.Report.{report_of, with_answer}
+use Rattle.gc_trace.specs.Report.{report_of}
 use Rattle.gc_trace.specs.declared.report.Report.{Report}
-use Rattle.gc_trace.specs.Internal.Report.{FitsU64}
+use Rattle.gc_trace.specs.Internal.Report.{FitsU64, with_answer}
 use Rattle.gc_trace.proofs.ReportCounts.{report_push, with_end, run_fits}
 
 -- ---- runs with one more event
@@ -39,10 +39,14 @@ state_is s events event heap next same moved = moved ∙ ap (λ (h : State). aft
 
 -- the counts
 counted : (s : State) (events : List Event) (event : Event) (heap : State) (report : Report) → heap ≡ state_after s events → report ≡ report_of (answers s events) s → with_answer report (answer heap event) ≡ report_of (answers s (events ++ event ∷ [])) s
-counted s events event heap report same so_far = grind (arith, common_steps, report_push, answers_pushed)
+counted s events event heap report same so_far =
+    (λ i. with_answer (so_far i) (answer (same i) event))
+    ∙ report_push (answers s events) (answer (state_after s events) event) s
+    ∙ ap (λ (told : List Answer). report_of told s) (sym (answers_pushed s events event))
 
 pub counts_are : (s : State) (events : List Event) (event : Event) (heap : State) (told : Answer) (report next : Report) → heap ≡ state_after s events → told ≡ answer heap event → report ≡ report_of (answers s events) s → next ≡ with_answer report (unmarked told) → next ≡ report_of (answers s (events ++ event ∷ [])) s
-counts_are s events event heap told report next same is so_far made = grind (arith, common_steps, plain, counted)
+counts_are s events event heap told report next same is so_far made =
+    made ∙ ap (λ (t : Answer). with_answer report (unmarked t)) is ∙ ap (with_answer report) (plain heap event) ∙ counted s events event heap report same so_far
 
 -- the next counts fit their type
 pub next_fits : (size mutators : ℕ) (events : List Event) (event : Event) (heap : State) (report : Report) → heap ≡ state_after (opening_state size mutators) events → report ≡ report_of (answers (opening_state size mutators) events) (opening_state size mutators) → length (events ++ event ∷ []) < 2 ^ 64

@@ -1,6 +1,6 @@
 -- The report of a run.
-use Rattle.std.specs.Prelude.{ℕ, ◌+◌, List, [], ◌∷◌, ◌++◌, codes}
-use Rattle.std.specs.List.{flat_map, fold, zip}
+use Rattle.std.specs.Prelude.{ℕ, List, [], ◌∷◌, ◌++◌, length, codes}
+use Rattle.std.specs.List.{flat_map, sum_by, zip}
 use Rattle.std.specs.Fmt.{decimal}
 use Rattle.gc_graph.specs.Lines.{line}
 use Rattle.gc_graph.specs.declared.reply.Reply.TheVariants as replies
@@ -10,34 +10,45 @@ use Rattle.gc_plan.specs.State.{State, heap_end}
 use Rattle.gc_plan.specs.declared.step.StepReply.TheVariants as steps
 use Rattle.gc_trace.specs.declared.report.Report.{Report}
 
--- ---- one answer
+-- ---- the counts
 
--- the count that the answer adds to; a flip also adds its pairs
-abbrev pub with_count : Report → Answer → Report
-with_count r (Mutator replies.Made) = record r { made = r.made + 1 }
-with_count r (Mutator replies.Full) = record r { full = r.full + 1 }
-with_count r (Collector steps.Begun) = record r { begun = r.begun + 1 }
-with_count r (Collector steps.Copied) = record r { copied = r.copied + 1 }
-with_count r (Collector steps.Scanned) = record r { scanned = r.scanned + 1 }
-with_count r (Collector steps.Applied) = record r { applied = r.applied + 1 }
-with_count r (Collector (steps.Flipped pairs)) = record r { flips = r.flips + 1; pairs = r.pairs + pairs }
-with_count r (Collector steps.Dropped) = record r { dropped = r.dropped + 1 }
-with_count r (Collector steps.Refused) = record r { refused = r.refused + 1 }
-with_count r answer = r
+abbrev pub no_counts : Report
+no_counts = record { events = 0; made = 0; full = 0; begun = 0; copied = 0; scanned = 0; applied = 0; flips = 0; pairs = 0; dropped = 0; refused = 0; end = 0; free = 0 }
 
--- the report after one more event, with this answer
-abbrev pub with_answer : Report → Answer → Report
-with_answer r answer = record (with_count r answer) { events = r.events + 1 }
+-- what this answer counts as, besides an event
+abbrev pub counts_as : Answer → Report
+counts_as (Mutator replies.Made) = record no_counts { made = 1 }
+counts_as (Mutator replies.Full) = record no_counts { full = 1 }
+counts_as (Collector steps.Begun) = record no_counts { begun = 1 }
+counts_as (Collector steps.Copied) = record no_counts { copied = 1 }
+counts_as (Collector steps.Scanned) = record no_counts { scanned = 1 }
+counts_as (Collector steps.Applied) = record no_counts { applied = 1 }
+counts_as (Collector (steps.Flipped pairs)) = record no_counts { flips = 1; pairs = pairs }
+counts_as (Collector steps.Dropped) = record no_counts { dropped = 1 }
+counts_as (Collector steps.Refused) = record no_counts { refused = 1 }
+counts_as answer = no_counts
 
--- ---- all answers
-
--- the report of a run without events
-abbrev pub no_counts : State → Report
-no_counts s = record { events = 0; made = 0; full = 0; begun = 0; copied = 0; scanned = 0; applied = 0; flips = 0; pairs = 0; dropped = 0; refused = 0; end = heap_end s; free = s.heap.free }
+-- how many of the answers count there
+abbrev pub total : (Report → ℕ) → List Answer → ℕ
+total count answers = sum_by (λ answer. count (counts_as answer)) answers
 
 -- the counts of a run's answers, and the end and the free words of its last state
 abbrev pub report_of : List Answer → State → Report
-report_of answers s = fold with_answer (no_counts s) answers
+report_of answers s = record {
+  events = length answers;
+  made = total (λ r. r.made) answers;
+  full = total (λ r. r.full) answers;
+  begun = total (λ r. r.begun) answers;
+  copied = total (λ r. r.copied) answers;
+  scanned = total (λ r. r.scanned) answers;
+  applied = total (λ r. r.applied) answers;
+  flips = total (λ r. r.flips) answers;
+  pairs = total (λ r. r.pairs) answers;
+  dropped = total (λ r. r.dropped) answers;
+  refused = total (λ r. r.refused) answers;
+  end = heap_end s;
+  free = s.heap.free;
+}
 
 -- ---- the text of a report
 

@@ -49,7 +49,6 @@ pub fn worked_report()
 {}
 
 /// Each replica is placed by a different step, so a report has no more pairs than events.
-#[tactic(auto, using(crate::proofs::ReportCounts::few_in_report))]
 pub fn pairs_are_placed_by_steps()
     ensures { (size mutators : ℕ) (entries : List Entry) → IsHistory size mutators entries
         → (let report = report_of (answers_of entries) (state_after size mutators entries) in

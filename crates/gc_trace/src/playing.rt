@@ -8,10 +8,10 @@ ghost use Rattle.gc_plan.specs.declared.event.Event.{Event};
 ghost use Rattle.gc_trace.specs.Faults.{ReadingMayFail};
 ghost use Rattle.gc_trace.specs.Internal.Playing.{HasPlayed, HasPlayedRest, HasResults};
 ghost use Rattle.gc_trace.specs.Internal.Reading.{IsReadingTrace, HasRead, read_so_far};
-ghost use Rattle.gc_trace.specs.Internal.Report.{FitsU64};
+ghost use Rattle.gc_trace.specs.Internal.Report.{FitsU64, with_answer};
 ghost use Rattle.gc_trace.specs.Plays.{trace_opening};
 ghost use Rattle.gc_trace.specs.Replies.{reply_text};
-ghost use Rattle.gc_trace.specs.Report.{report_of, with_answer};
+ghost use Rattle.gc_trace.specs.Report.{report_of};
 
 use crate::event_reader::EventReader;
 use crate::fault::TraceFault;

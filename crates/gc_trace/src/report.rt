@@ -60,8 +60,7 @@ impl Report {
     ghost use Rattle.gc_words.specs.Space.{free_in, end_of};
     ghost use Rattle.gc_plan.specs.declared.event.Answer.TheVariants.{Mutator, Collector};
     ghost use Rattle.gc_world.specs.History.{unmarked};
-    ghost use Rattle.gc_trace.specs.Report.{with_count, with_answer};
-    ghost use Rattle.gc_trace.specs.Internal.Report.{FitsU64};
+    ghost use Rattle.gc_trace.specs.Internal.Report.{FitsU64, with_count, with_answer};
 
     /// Returns the report of a run without events in this space.
     pub(crate) fn of_space(space: &Space) -> Report

@@ -56,12 +56,11 @@ fn play_and_drop(
     rows: &[Row],
 ) -> Result<(), NoMemory>
     requires belongs { BelongsTo heap.old collection }
+    requires epoch { collection.epoch ≡ 0 }
     ensures idle { IfOk result (λ _. HasNoLinks heap.new) }
     ensures mutators { heap.new.mutators ≡ heap.old.mutators }
 {
     play(rt, &mut collection, heap, rows)?;
-    // The links of `begin` and `begin_sized` have no mark, so dropping the collection clears them all.
-    assert!(rt; collection.epoch() == 0);
     collection.drop_into(heap);
     Ok(())
 }

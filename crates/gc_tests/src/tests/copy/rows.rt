@@ -64,6 +64,7 @@ pub fn play(
     requires { BelongsTo heap.old collection.old }
     ensures belongs { BelongsTo heap.new collection.new }
     ensures mutators { heap.new.mutators ≡ heap.old.mutators }
+    ensures epoch { collection.new.epoch ≡ collection.old.epoch }
 {
     for (place, row) in rows.iter().enumerate() {
         perform(rt, collection, heap, place, row)?;
@@ -82,6 +83,7 @@ fn perform(
     requires { BelongsTo heap.old collection.old }
     ensures belongs { BelongsTo heap.new collection.new }
     ensures mutators { heap.new.mutators ≡ heap.old.mutators }
+    ensures epoch { collection.new.epoch ≡ collection.old.epoch }
 {
     match row {
         Row::Command(m, op, reply) => {
@@ -113,6 +115,7 @@ fn mutate(collection: &mut Collection, heap: &mut Heap, m: u8, op: &Op) -> Resul
     requires mutator { m < heap.old.mutators }
     ensures belongs { BelongsTo heap.new collection.new }
     ensures mutators { heap.new.mutators ≡ heap.old.mutators }
+    ensures epoch { collection.new.epoch ≡ collection.old.epoch }
 {
     commands_keep_collections();
     let Op::Put { s, i, t } = *op else {

@@ -1,11 +1,14 @@
 -- A turn counts one more answer of the history, and the counts of a part of a history fit their type as those of all do.
-use Rattle.std.proofs.Common.{◌≡◌, ◌+◌, ◌<◌, ◌^◌, length, sym, ap, ◌∙◌, subst, rules}
+use Rattle.std.proofs.Common.{◌≡◌, ◌+◌, ◌<◌, ◌^◌, List, length, sym, ap, ◌∙◌, subst, arith, rules}
 use Rattle.gc_plan.specs.State.{heap_end}
 use Rattle.gc_words.specs.Space.{free_in, end_of}
 use Rattle.gc_graph.specs.Machine.{Roomy}
 use Rattle.gc_world.specs.World.{present}
-use Rattle.gc_world.specs.History.{IsHistory}
+use Rattle.gc_world.specs.History.{IsHistory, answers_of}
+use Rattle.gc_world.specs.declared.entry.Entry.{Entry}
+use Rattle.gc_trace.specs.Report.{report_of}
 use Rattle.gc_trace.specs.Internal.Report.{FitsU64}
+use Rattle.std.proofs.lemmas.List.{take_all}
 use Rattle.gc_trace.proofs.ReportCounts.{none_counted, next_counted, front_fits}
 use Rattle.gc_trace.proofs.SpaceEnds.{same_end}
 use Rattle.gc_trace.proofs.report.report_of.Goals as goal
@@ -34,3 +37,9 @@ pub loop-entry-preserved : goal.loop-entry-preserved
 loop-entry-preserved c =
     (rw c.answer.ensures at c.count.ensures)
     ∙ next_counted c.history-entry-items.result.now c.loop-entry.entry-index c.entry-item.result c.loop-entry.report (present c.args.world.now) c.loop-entry-test.true c.entry-item.is c.loop-entry.invariant
+
+pub returns : goal.returns
+returns c =
+    let items = c.history-entry-items.result.now in
+    c.loop-entry.invariant
+    ∙ ap (λ (front : List Entry). report_of (answers_of front) (present c.args.world.now)) (take_all c.loop-entry.entry-index items (omega arith) ∙ c.history-entry-items.ensures.entries)

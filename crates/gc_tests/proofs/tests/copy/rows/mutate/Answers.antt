@@ -1,6 +1,6 @@
 -- A command other than `Put` writes no field, and room in a log changes no entry, so the collection still belongs to the heap.
 use Rattle.std.proofs.lemmas.Grind.{common_steps}
-use Rattle.std.proofs.Common.{◌≡◌, ℕ, [], arith, subst}
+use Rattle.std.proofs.Common.{◌≡◌, ℕ, [], refl, arith, subst}
 use Rattle.gc_graph.specs.Graph.{Graph}
 use Rattle.gc_graph.specs.Slots.{SlotName}
 use Rattle.gc_graph.specs.declared.command.Op.{Op}
@@ -20,6 +20,7 @@ returns-in_default c = record {
       (subst (λ fields. BelongsToBut fields c.apply.new.self c.args.collection.now) (nothing_written (graph_in c.args.heap.now) c.args.m c.args.op.now c.apply.result c.in_default.not-Put)
       (c.commands_keep_collections.ensures.but c.args.heap.now c.apply.new.self c.args.collection.now c.args.m c.args.op.now c.apply.result c.requires.belongs c.apply.ensures.links c.apply.ensures.mutators c.apply.ensures.step));
   mutators = c.apply.ensures.mutators;
+  epoch = refl;
 }
 
 pub returns-in_err-reserve-clause-belongs : goal.returns-in_err-reserve-clause-belongs
