@@ -78,13 +78,9 @@ rooms_begun size left r =
     else if left == 0 then record { spare = 0; leaving = r.spare }
     else record { spare = r.spare; leaving = left }
 
--- the spare room is freed
-abbrev pub no_spare : Rooms → Rooms
-no_spare r = record r { spare = 0 }
-
 -- The rooms after a begin. Where the collection takes new memory, the spare room may have been freed first, because memory was refused.
 abbrev pub HasBegun : ℕ → ℕ → Rooms → Rooms → Type 0
-HasBegun size left old new = (new ≡ rooms_begun size left old) ⊎ ((left ≢ size) × (new ≡ rooms_begun size left (no_spare old)))
+HasBegun size left old new = (new ≡ rooms_begun size left old) ⊎ ((left ≢ size) × (new ≡ rooms_begun size left (record old { spare = 0 })))
 
 -- Memory was refused: nothing leaves any more, and the spare room stays or is freed.
 abbrev pub WereRefused : Rooms → Rooms → Type 0

@@ -11,12 +11,16 @@ use Rattle.gc_plan.specs.declared.event.Event.{Event}
 use Rattle.gc_world.specs.History.{unmarked, answers_of, IsHistory}
 use Rattle.gc_world.specs.declared.entry.Entry.{Entry}
 use Rattle.gc_trace.specs.declared.report.Report.{Report}
-use Rattle.gc_trace.specs.Report.{counts_as, total, report_of}
+use Rattle.gc_trace.specs.Report.{counts_as, report_of}
 use Rattle.gc_trace.specs.Internal.Report.{FitsU64, with_answer}
 use Rattle.gc_trace.proofs.PairsPlaced.{flipped_pairs, few_pairs, run_places}
 
 abbrev answer_of : Entry → Answer
 answer_of entry = unmarked entry.answer
+
+-- how many of the answers count there
+abbrev total : (Report → ℕ) → List Answer → ℕ
+total count answers = sum_by (λ answer. count (counts_as answer)) answers
 
 -- one answer more adds what it counts as
 total_push : (count : Report → ℕ) (answers : List Answer) (answer : Answer) → total count answers + count (counts_as answer) ≡ total count (answers ++ answer ∷ [])

@@ -28,24 +28,20 @@ counts_as (Collector steps.Dropped) = record no_counts { dropped = 1 }
 counts_as (Collector steps.Refused) = record no_counts { refused = 1 }
 counts_as answer = no_counts
 
--- how many of the answers count there
-abbrev pub total : (Report → ℕ) → List Answer → ℕ
-total count answers = sum_by (λ answer. count (counts_as answer)) answers
-
 -- the counts of a run's answers, and the end and the free words of its last state
 abbrev pub report_of : List Answer → State → Report
 report_of answers s = record {
   events = length answers;
-  made = total (λ r. r.made) answers;
-  full = total (λ r. r.full) answers;
-  begun = total (λ r. r.begun) answers;
-  copied = total (λ r. r.copied) answers;
-  scanned = total (λ r. r.scanned) answers;
-  applied = total (λ r. r.applied) answers;
-  flips = total (λ r. r.flips) answers;
-  pairs = total (λ r. r.pairs) answers;
-  dropped = total (λ r. r.dropped) answers;
-  refused = total (λ r. r.refused) answers;
+  made = sum_by (λ a. (counts_as a).made) answers;
+  full = sum_by (λ a. (counts_as a).full) answers;
+  begun = sum_by (λ a. (counts_as a).begun) answers;
+  copied = sum_by (λ a. (counts_as a).copied) answers;
+  scanned = sum_by (λ a. (counts_as a).scanned) answers;
+  applied = sum_by (λ a. (counts_as a).applied) answers;
+  flips = sum_by (λ a. (counts_as a).flips) answers;
+  pairs = sum_by (λ a. (counts_as a).pairs) answers;
+  dropped = sum_by (λ a. (counts_as a).dropped) answers;
+  refused = sum_by (λ a. (counts_as a).refused) answers;
   end = heap_end s;
   free = s.heap.free;
 }

@@ -30,7 +30,7 @@ sized_begin : (size : Option ℕ) (s : State) → (with_size size steps.Begin �
 sized_begin size s = grind (arith, common_steps)
 
 -- while a collection is open, no begin is useful
-sized_open : (size : Option ℕ) (s : State) (c : Collection) → with_size size (useful_with s (Some c)) ≡ useful_with s (Some c)
+pub sized_open : (size : Option ℕ) (s : State) (c : Collection) → with_size size (useful_with s (Some c)) ≡ useful_with s (Some c)
 sized_open size s c = grind (arith, common_steps, cond_both)
 
 abbrev Falls : State → StepReply × State → Type 0

@@ -86,10 +86,10 @@ paced_work wanted s t before after work heap opened none some within paid pace =
   logs = logs_of s t before work due heap opened none performed;
   enough = enough_of s t before work due heap opened none performed;
   begun = begun_of s t before work due heap opened none performed;
-  ahead = λ most on low.
+  ahead = λ on.
       let owes : after.owed ≡ owed_after before due work = ap (λ (p : GcflipPace). p.owed) pace in
-      let left = ahead_of s t before work due heap opened none performed most (before.owed + spent before (counts_of s)) (owed_after before due work) (paid on.collecting) on.few on.counted
-      on.performed on.going (omega (arith, low)) in
+      let left = ahead_of s t before work due heap opened none performed (work_left s - (before.owed + spent before (counts_of s))) (before.owed + spent before (counts_of s)) (owed_after before due work) (paid on.collecting) on.few on.counted
+      on.performed on.going (omega arith) in
       omega (arith, left, owes);
   fewer = omega (arith, logged_low t, entries_low t);
 }

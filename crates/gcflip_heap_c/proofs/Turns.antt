@@ -14,7 +14,7 @@ use Rattle.gc_plan.specs.declared.step.Step.{Step}
 use Rattle.gc_plan.proofs.Public.{collect_keeps, mutate_keeps, useful_ranges, command_raises}
 use Rattle.gcflip_heap_c.specs.Readings.{counts_of}
 use Rattle.gcflip_heap_c.specs.Work.{with_size, after_useful}
-use Rattle.gcflip_heap_c.specs.Pace.{steps_due, CountsAll, IsAhead, IsPacedWork}
+use Rattle.gcflip_heap_c.specs.Pace.{spent, steps_due, CountsAll, IsPacedWork}
 use Rattle.gcflip_heap_c.specs.Turns.{Turn, after_commands, AreCommands, AreTurns, after_turns, Remembers}
 use Rattle.gcflip_heap_c.specs.declared.pace.GcflipPace.{GcflipPace}
 use Rattle.gcflip_heap_c.specs.declared.work.GcflipWork.{GcflipWork}
@@ -56,7 +56,7 @@ raised s (command ∷ rest) h k =
     let later_work = later.work in
     record { state = later.state; end = omega arith; entries = omega arith; work = omega arith }
 
-ahead_before : (s t : State) (pace : GcflipPace) (most : ℕ) → IsState s → IsRaised s t → Remembers pace s → CountsAll (counts_of t) → work_left s ≤ most + pace.owed → IsAhead most pace t
+ahead_before : (s t : State) (pace : GcflipPace) (most : ℕ) → IsState s → IsRaised s t → Remembers pace s → CountsAll (counts_of t) → work_left s ≤ most + pace.owed → work_left t ≤ most + pace.owed + spent pace (counts_of t)
 ahead_before s t pace most h k remembers all low = grind (arith, common_steps, logged_all, logged_low, end_at)
 
 -- ---- calls
@@ -91,13 +91,14 @@ turns_ahead s pace [] most h remembers k low = (h, low)
 turns_ahead s pace (turn ∷ turns) most h remembers k low =
     let one = k.0 in
     let now = raised s turn.commands h one.commands in
-    let ahead = (one.work).ahead most one.goes_on (ahead_before s (after_commands s turn.commands) pace most h now remembers (one.goes_on).counted low) in
+    let before = ahead_before s (after_commands s turn.commands) pace most h now remembers (one.goes_on).counted low in
+    let ahead = (one.work).ahead one.goes_on in
     let kept = call_remembers turn.wanted (after_commands s turn.commands) turn.state pace turn.pace turn.work one.work in
     let end = kept.end in
     let logged = kept.logged in
     turns_ahead turn.state turn.pace turns most
     (call_keeps turn.wanted (after_commands s turn.commands) turn.state pace turn.pace turn.work one.work now.state)
-    kept k.1 (omega (arith, ahead))
+    kept k.1 (omega (arith, ahead, before))
 
 pub turns_work : (s : State) (pace : GcflipPace) (turns : List Turn) (most : ℕ) → IsState s → Remembers pace s → AreTurns s pace turns → work_left s ≤ most + pace.owed
     → work_left (after_turns s pace turns).0 ≤ most + (after_turns s pace turns).1.owed

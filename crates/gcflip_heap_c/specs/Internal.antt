@@ -2,3 +2,4 @@
 pub mod Leaving
 pub mod Lending
 pub mod Unchanged
+pub mod Waiting

@@ -3,11 +3,11 @@ use Rattle.std.specs.Prelude.{◌≡◌, ◌⊎◌, ℕ, ◌+◌, ◌-◌, ◌*�
 use Rattle.gc_plan.specs.State.{State}
 use Rattle.gc_plan.specs.Steps.{useful_step}
 use Rattle.gc_plan.specs.Progress.{work_left}
-use Rattle.gc_plan.specs.declared.step.StepReply.TheVariants.{NoRoom, Flipped}
+use Rattle.gc_plan.specs.declared.step.StepReply.TheVariants.{NoRoom}
 use Rattle.gc_core.specs.CollectedHeap.{Allocates}
 use Rattle.gcflip_heap_c.specs.Readings.{counts_of}
 use Rattle.gcflip_heap_c.specs.Replies.{step_reply_in_c}
-use Rattle.gcflip_heap_c.specs.Work.{IsWork}
+use Rattle.gcflip_heap_c.specs.Work.{IsWork, has_flipped}
 use Rattle.gcflip_heap_c.specs.declared.pace.GcflipPace.{GcflipPace}
 use Rattle.gcflip_heap_c.specs.declared.reading.GcflipCounts.{GcflipCounts}
 use Rattle.gcflip_heap_c.specs.declared.work.GcflipWork.{GcflipWork}
@@ -62,10 +62,6 @@ pace_from pace counts = record pace { left = counts.end; end = counts.end; logge
 abbrev pub took_its_words : GcflipPace → GcflipWork → Bool
 took_its_words pace work = nat_lt 0 pace.words && (nat_le pace.words work.steps || nat_le pace.words work.copied)
 
--- the last step flipped
-abbrev pub has_flipped : GcflipWork → Bool
-has_flipped work = work.last == step_reply_in_c (Flipped work.pairs)
-
 -- the last step flipped or found no room
 abbrev pub is_over : GcflipWork → Bool
 is_over work = has_flipped work || (work.last == step_reply_in_c NoRoom)
@@ -101,10 +97,6 @@ pub record WorkGoesOn (wanted : ℕ) (s : State) (before : GcflipPace) (work : G
   pub performed : work.steps + owed_after before (steps_due before (counts_of s) wanted) work ≡ steps_due before (counts_of s) wanted
   pub going : is_over work ≡ false
 
--- besides the steps owed, and what was spent since the call before, at most this much work is left
-abbrev pub IsAhead : ℕ → GcflipPace → State → Type 0
-IsAhead most pace s = work_left s ≤ most + pace.owed + spent pace (counts_of s)
-
 -- the useful steps that are due, in order, or none
 pub record IsPacedWork (wanted : ℕ) (s t : State) (before after : GcflipPace) (work : GcflipWork) : Type 0 where
   pub none : steps_due before (counts_of s) wanted ≡ 0 → (t ≡ s) × (work ≡ no_work)
@@ -117,8 +109,8 @@ pub record IsPacedWork (wanted : ℕ) (s t : State) (before after : GcflipPace) 
   pub logs : CountsAll (counts_of s) → (counts_of t).logged + work.steps ≤ steps_left (counts_of s)
   -- as many steps as are left end the collection, unless the call took its words first
   pub enough : CountsAll (counts_of s) → steps_left (counts_of s) ≤ steps_due before (counts_of s) wanted → HasEnded t work ⊎ IsTrue (took_its_words before work)
-  -- The call that begins a collection leaves at most as much work as the heap's end. From then on, no call leaves more than the call before,
-  -- besides the steps that it owes. All logs together have fewer entries than the work that is left.
+  -- The call that begins a collection leaves at most as much work as the heap's end. Any other lowers the work that is left by the steps that
+  -- were owed and by what was spent since the call before, but for the steps that it owes. All logs together have fewer entries than that work.
   pub begun : (counts_of s).is_open ≡ 0 → 1 ≤ work.steps → is_over work ≡ false → work_left t ≤ (counts_of s).end
-  pub ahead : (most : ℕ) → WorkGoesOn wanted s before work → IsAhead most before s → IsAhead most after t
+  pub ahead : WorkGoesOn wanted s before work → work_left t ≤ after.owed + (work_left s - (before.owed + spent before (counts_of s)))
   pub fewer : (counts_of t).logged < work_left t

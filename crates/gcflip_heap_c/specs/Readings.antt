@@ -27,12 +27,9 @@ counts_of s = let told : (Collection → ℕ) → ℕ = λ f. option_map_or f s.
   logged = logged_in s;
 }
 
-abbrev pub entry_in_c : ℕ × ℕ → GcflipLogEntry
-entry_in_c entry = record { object = entry.0; field = entry.1 }
-
 -- entry k of mutator m's log, if the state has that mutator and the log has that entry
 abbrev pub log_entry_at : State → ℕ → ℕ → Option GcflipLogEntry
-log_entry_at s m k = if nat_lt m s.mutators then option_map entry_in_c (slice_get (log_of s m) k) else None
+log_entry_at s m k = if nat_lt m s.mutators then option_map (λ entry. record { object = entry.0; field = entry.1 }) (slice_get (log_of s m) k) else None
 
 -- C's arrays are as long as the image's words and roots
 abbrev pub FitsImage : List ℕ → List ℕ → State → Type 0

@@ -1,16 +1,17 @@
 -- Useful steps, performed in order by one call.
-use Rattle.std.specs.Prelude.{◌≡◌, ◌≢◌, ◌⊎◌, ℕ, zero, suc, ◌+◌, ◌-◌, ◌<◌, ◌≤◌, ◌==◌, Bool, true, false, if◌then◌else◌, Option, IfSome, IsSomeAnd}
-use Rattle.std.specs.Option.{option_map, option_map_or, option_or}
+use Rattle.std.specs.Prelude.{◌≡◌, ◌≢◌, ◌⊎◌, ℕ, zero, suc, ◌+◌, ◌-◌, ◌<◌, ◌≤◌, ◌==◌, Bool, true, false, if◌then◌else◌, Option, None, IfSome, IsSome, IsSomeAnd, IsTrue}
+use Rattle.std.specs.Option.{option_map, option_map_or, option_or, unwrap_or}
+use Rattle.gc_check.specs.InC.{no_memory}
 use Rattle.gc_plan.specs.State.{State, new_end, heap_end}
 use Rattle.gc_plan.specs.Steps.{collect, useful_step}
 use Rattle.gc_plan.specs.Progress.{work_left, entries_left}
 use Rattle.gc_plan.specs.declared.step.Step.{Step}
-use Rattle.gc_plan.specs.declared.step.Step.TheVariants.{Begin, BeginSized}
+use Rattle.gc_plan.specs.declared.step.Step.TheVariants.{Begin, BeginSized, Flip}
 use Rattle.gc_plan.specs.declared.step.StepReply.{StepReply}
 use Rattle.gc_plan.specs.declared.step.StepReply.TheVariants.{NoRoom, Refused, Flipped}
 use Rattle.gc_core.specs.CollectedHeap.{Allocates}
 use Rattle.gc_core.specs.Flip.{FlipsOnly, IsCertified, PassesIfReady, HasRoomIfLarge}
-use Rattle.gc_live.specs.Live.{Turns, flipped_turns}
+use Rattle.gc_live.specs.Live.{Turns, Rooms, Beside, HasBegun, WereRefused, is_due, flipped_turns, rooms_flipped, rooms_given_back}
 use Rattle.gcflip_heap_c.specs.Replies.{step_reply_in_c, pairs_after}
 use Rattle.gcflip_heap_c.specs.declared.work.GcflipWork.{GcflipWork}
 
@@ -38,9 +39,34 @@ goes_on (Flipped pairs) = false
 goes_on NoRoom = false
 goes_on reply = true
 
+-- the last step flipped
+abbrev pub has_flipped : GcflipWork → Bool
+has_flipped work = work.last == step_reply_in_c (Flipped work.pairs)
+
 -- how flips are checked after this work, of which only the last step can be a flip
 abbrev pub turns_after_work : Turns → GcflipWork → Turns
-turns_after_work turns work = if work.last == step_reply_in_c (Flipped work.pairs) then flipped_turns turns else turns
+turns_after_work turns work = if has_flipped work then flipped_turns turns else turns
+
+-- ---- memory that waits
+
+-- The rooms while work's collection is open, where the last flip left so many words. Its first step begins the collection unless one is open.
+abbrev pub HaveOpened : Option ℕ → State → ℕ → Rooms → Rooms → Type 0
+HaveOpened size s left old opened = (IsSome s.collection → opened ≡ old) × (s.collection ≡ None → HasBegun (unwrap_or size s.size) left old opened)
+
+-- The rooms after useful steps, the last of which flips or not. Of the others none flips, and only the first may begin a collection.
+abbrev pub HaveRooms : Option ℕ → State → ℕ → Beside → Bool → Rooms → Type 0
+HaveRooms size s left b flips new =
+    (opened : Rooms) × HaveOpened size s left b.rooms opened × (new ≡ (if flips then rooms_flipped (record b { rooms = opened }) else opened))
+
+-- The rooms after work that leads to the state t, which gives one slice back after its steps. A flip that has to check both spaces whole frees
+-- what leaves even where it is refused memory.
+abbrev pub HaveWorked : Option ℕ → State → State → ℕ → Beside → GcflipWork → Rooms → Type 0
+HaveWorked size s t left b work new =
+    (flips : Bool) × (before : Rooms) × ((flips ≡ has_flipped work) ⊎ (IsTrue (is_due b.turns) × Allocates t Flip)) × HaveRooms size s left b flips before × (new ≡ rooms_given_back before)
+
+-- the rooms after a refused call: where memory was refused, some may have been freed
+abbrev pub RefusedRooms : ℕ → Rooms → Rooms → Type 0
+RefusedRooms answer old new = ((answer ≡ no_memory) × WereRefused old new) ⊎ ((answer ≢ no_memory) × (new ≡ old))
 
 -- The reply to the useful step in this state. The step flips only if the certificate holds, and it is no refused flip. If the
 -- collection is ready, it flips. If the new space is at least as large as the heap, it does not lack room.

@@ -11,7 +11,9 @@ ghost use Rattle.gcflip_heap_c.specs.Commands.{IsCall};
 ghost use Rattle.gcflip_heap_c.specs.Pace.{IsPace, IsPacedWork};
 ghost use Rattle.gcflip_heap_c.specs.Former.{LeavesAfter};
 ghost use Rattle.gcflip_heap_c.specs.Internal.Unchanged.{IsAsBefore};
-ghost use Rattle.gcflip_heap_c.specs.Work.{IsWork, turns_after_work};
+ghost use Rattle.gc_copy.specs.Words.{held_in};
+ghost use Rattle.gc_live.specs.Live.{WereRefused};
+ghost use Rattle.gcflip_heap_c.specs.Work.{IsWork, HaveWorked, RefusedRooms, turns_after_work};
 
 use crate::answer::{CLOSED, DONE, FLIPPED, NO_MEMORY, NO_ROOM, OUT_OF_RANGE};
 use crate::handle::GcflipHeap;
@@ -155,6 +157,7 @@ pub extern "C" fn gcflip_heap_pace(heap: &mut GcflipHeap, pace: &mut GcflipPace)
     ensures outside { (result ≡ out_of_range) ↔ IsSomeAnd heap.old.state (λ s. ¬ IsPace pace.old) }
     ensures closed { (result ≡ closed_handle) ↔ (heap.old.state ≡ None) }
     ensures former { heap.new.former ≡ heap.old.former }
+    ensures beside { heap.new.beside ≡ heap.old.beside }
 {
     if heap.is_empty() {
         return CLOSED;
@@ -225,7 +228,9 @@ fn work_due(heap: &mut KeptHeap, words: u32, due: u32) -> Result<GcflipWork, NoM
     ensures within { 1 ≤ due → 1 ≤ words → IfOk result (IsWork None (Some words) (min due words) heap.old.live.core heap.new.live.core) }
     ensures former { IfOk result (λ work. LeavesAfter None work.steps heap.old.live.core heap.old.former heap.new.former) }
     ensures turns { IfOk result (λ work. heap.new.live.beside.turns ≡ turns_after_work heap.old.live.beside.turns work) }
+    ensures rooms { 1 ≤ due → IfOk result (λ work. HaveWorked None heap.old.live.core heap.new.live.core (held_in heap.old.former) heap.old.live.beside work heap.new.live.beside.rooms) }
     ensures refused { OnErr result (IsAsBefore heap.old heap.new) }
+    ensures freed { OnErr result (WereRefused heap.old.live.beside.rooms heap.new.live.beside.rooms) }
     ensures allocates { OnErr result (Allocates heap.old.live.core (useful_step heap.old.live.core)) }
 {
     if due == 0 {
@@ -247,7 +252,11 @@ fn work_at_pace(heap: &mut KeptHeap, pace: &GcflipPace, wanted: u32) -> Result<P
     ensures done { IfOk result (λ made. IsPacedWork wanted heap.old.live.core heap.new.live.core pace.now made.pace made.work) }
     ensures former { IfOk result (λ made. LeavesAfter None made.work.steps heap.old.live.core heap.old.former heap.new.former) }
     ensures turns { IfOk result (λ made. heap.new.live.beside.turns ≡ turns_after_work heap.old.live.beside.turns made.work) }
+    ensures rooms { IfOk result (λ made. 1 ≤ made.work.steps
+        → HaveWorked None heap.old.live.core heap.new.live.core (held_in heap.old.former) heap.old.live.beside made.work heap.new.live.beside.rooms) }
+    ensures idle { IfOk result (λ made. made.work.steps ≡ 0 → heap.new.live.beside ≡ heap.old.live.beside) }
     ensures refused { OnErr result (IsAsBefore heap.old heap.new) }
+    ensures freed { OnErr result (WereRefused heap.old.live.beside.rooms heap.new.live.beside.rooms) }
     ensures allocates { OnErr result (Allocates heap.old.live.core (useful_step heap.old.live.core)) }
 {
     heap.live.is_sound();
@@ -274,7 +283,11 @@ pub extern "C" fn gcflip_heap_work_paced(
     ensures former { result ≡ done → IsSomeAnd heap.old.state (λ s. LeavesAfter None work.new.steps s heap.old.former heap.new.former) }
     ensures kept { 1 ≤ result → heap.new.former ≡ heap.old.former }
     ensures turns { result ≡ done → heap.new.beside.turns ≡ turns_after_work heap.old.beside.turns work.new }
+    ensures rooms { result ≡ done → 1 ≤ work.new.steps
+        → IsSomeAnd heap.old.state (λ s. IsSomeAnd heap.new.state (λ t. HaveWorked None s t (held_in heap.old.former) heap.old.beside work.new heap.new.beside.rooms)) }
+    ensures idle { result ≡ done → work.new.steps ≡ 0 → heap.new.beside ≡ heap.old.beside }
     ensures uncounted { 1 ≤ result → heap.new.beside.turns ≡ heap.old.beside.turns }
+    ensures freed { 1 ≤ result → RefusedRooms result heap.old.beside.rooms heap.new.beside.rooms }
 {
     if heap.is_empty() {
         return CLOSED;

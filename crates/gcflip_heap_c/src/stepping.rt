@@ -13,7 +13,7 @@ ghost use Rattle.gcflip_heap_c.specs.Answers.{closed_handle};
 ghost use Rattle.gcflip_heap_c.specs.Commands.{IsCall, Replies};
 ghost use Rattle.gcflip_heap_c.specs.Steps.{IsStepCall, ShowsReply, step_in_c};
 ghost use Rattle.gcflip_heap_c.specs.Replies.{step_reply_in_c, pairs_after};
-ghost use Rattle.gcflip_heap_c.specs.Work.{IsSoundReply};
+ghost use Rattle.gcflip_heap_c.specs.Work.{IsSoundReply, RefusedRooms};
 
 use crate::answer::{CLOSED, DONE, NO_MEMORY, OUT_OF_RANGE};
 use crate::handle::GcflipHeap;
@@ -75,6 +75,7 @@ pub extern "C" fn gcflip_heap_step_begin(heap: &mut GcflipHeap) -> u32
     ensures former { ¬ IsRefusal result → IsSomeAnd heap.old.state (λ s. FormerAfter s heap.old.former (collect s Step.Begin).0 heap.new.former) }
     ensures turns { heap.new.beside.turns ≡ heap.old.beside.turns }
     ensures rooms { result ≡ step_reply_in_c StepReply.Begun → IsSomeAnd heap.old.state (λ s. HasBegun s.size (held_in heap.old.former) heap.old.beside.rooms heap.new.beside.rooms) }
+    ensures freed { result ≢ step_reply_in_c StepReply.Begun → RefusedRooms result heap.old.beside.rooms heap.new.beside.rooms }
     ensures kept { IsRefusal result → heap.new.former ≡ heap.old.former }
 {
     if heap.is_empty() {
@@ -95,6 +96,7 @@ pub extern "C" fn gcflip_heap_step_begin_sized(heap: &mut GcflipHeap, size: u32)
     ensures former { ¬ IsRefusal result → IsSomeAnd heap.old.state (λ s. FormerAfter s heap.old.former (collect s (Step.BeginSized size)).0 heap.new.former) }
     ensures turns { heap.new.beside.turns ≡ heap.old.beside.turns }
     ensures rooms { result ≡ step_reply_in_c StepReply.Begun → IsSomeAnd heap.old.state (λ s. HasBegun size (held_in heap.old.former) heap.old.beside.rooms heap.new.beside.rooms) }
+    ensures freed { result ≢ step_reply_in_c StepReply.Begun → RefusedRooms result heap.old.beside.rooms heap.new.beside.rooms }
     ensures kept { IsRefusal result → heap.new.former ≡ heap.old.former }
 {
     if heap.is_empty() {

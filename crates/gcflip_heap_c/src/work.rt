@@ -9,13 +9,15 @@ ghost use Rattle.gc_plan.specs.Progress.{work_left};
 ghost use Rattle.gc_plan.specs.declared.step.StepReply.{StepReply};
 ghost use Rattle.gc_core.specs.CollectedHeap.{Allocates};
 ghost use Rattle.gcflip_heap_c.specs.Internal.Leaving.{LeavesLess};
+ghost use Rattle.gcflip_heap_c.specs.Internal.Waiting.{HasLacked, HaveRun, is_flip};
 ghost use Rattle.gcflip_heap_c.specs.Commands.{IsCall};
 ghost use Rattle.gcflip_heap_c.specs.Replies.{step_reply_in_c, pairs_after};
 ghost use Rattle.gc_core.specs.Flip.{FormerAfter};
-ghost use Rattle.gc_live.specs.Live.{turns_after};
+ghost use Rattle.gc_copy.specs.Words.{held_in};
+ghost use Rattle.gc_live.specs.Live.{WereRefused, is_due, turns_after};
 ghost use Rattle.gcflip_heap_c.specs.Former.{LeavesAfter};
 ghost use Rattle.gcflip_heap_c.specs.Internal.Unchanged.{IsAsBefore};
-ghost use Rattle.gcflip_heap_c.specs.Work.{IsSoundReply, IsRun, IsWork, turns_after_work, with_size, sized_step, after_useful, useful_reply, goes_on, end_in, end_after};
+ghost use Rattle.gcflip_heap_c.specs.Work.{IsSoundReply, IsRun, IsWork, HaveRooms, HaveWorked, RefusedRooms, turns_after_work, with_size, sized_step, after_useful, useful_reply, goes_on, end_in, end_after};
 
 use crate::answer::{CLOSED, DONE, NO_MEMORY, OUT_OF_RANGE};
 use crate::handle::GcflipHeap;
@@ -68,7 +70,11 @@ fn one_step(heap: &mut KeptHeap, size: Option<u32>) -> Result<StepReply, NoMemor
     ensures former { IfOk result (λ reply. FormerAfter heap.old.live.core heap.old.former reply heap.new.former) }
     ensures turns { IfOk result (λ reply. heap.new.live.beside.turns ≡ turns_after heap.old.live.beside.turns reply) }
     ensures leaves { IfOk result (LeavesLess heap.old.live.core heap.new.live.core) }
+    ensures rooms { IfOk result (λ reply. HaveRooms size heap.old.live.core (held_in heap.old.former) heap.old.live.beside (is_flip reply) heap.new.live.beside.rooms) }
     ensures refused { OnErr result (IsAsBefore heap.old heap.new) }
+    ensures freed { OnErr result (WereRefused heap.old.live.beside.rooms heap.new.live.beside.rooms) }
+    // While a collection is open, only a flip can lack memory.
+    ensures lacked { OnErr result (HasLacked heap.old.live heap.new.live.beside.rooms) }
     ensures allocates { OnErr result (Allocates heap.old.live.core (sized_step size heap.old.live.core)) }
 {
     heap.live.is_sound();
@@ -96,7 +102,10 @@ trait Performs {
         ensures former { IfOk result (λ reply. FormerAfter heap.old.live.core heap.old.former reply heap.new.former) }
         ensures turns { IfOk result (λ reply. heap.new.live.beside.turns ≡ turns_after heap.old.live.beside.turns reply) }
         ensures leaves { IfOk result (LeavesLess heap.old.live.core heap.new.live.core) }
+        ensures rooms { IfOk result (λ reply. HaveRooms size heap.old.live.core (held_in heap.old.former) heap.old.live.beside (is_flip reply) heap.new.live.beside.rooms) }
         ensures refused { OnErr result (IsAsBefore heap.old heap.new) }
+        ensures freed { OnErr result (WereRefused heap.old.live.beside.rooms heap.new.live.beside.rooms) }
+        ensures lacked { OnErr result (HasLacked heap.old.live heap.new.live.beside.rooms) }
         ensures failed { OnErr result (failed self.now size heap.old.live.core) }
         ensures stops { OnErr result ((reply : StepReply) → stops self.now size heap.old.live.core reply) };
 
@@ -182,7 +191,9 @@ fn useful_steps<P: Performs>(
     // No step before the last one was enough.
     ensures short { IfOk result (λ run. (k : ℕ) → suc k < run.steps
         → P.short performs.now (after_useful size (suc k) heap.old.live.core) (useful_reply size k heap.old.live.core)) }
+    ensures rooms { IfOk result (λ run. HaveRun size heap.old.live.core heap.new.live.core (held_in heap.old.former) heap.old.live.beside (is_flip run.reply) heap.new.live.beside.rooms) }
     ensures refused { OnErr result (IsAsBefore heap.old heap.new) }
+    ensures freed { OnErr result (WereRefused heap.old.live.beside.rooms heap.new.live.beside.rooms) }
     ensures failed { OnErr result (P.failed performs.now size heap.old.live.core) }
 {
     let mut reply = performs.perform(heap, size)?;
@@ -239,6 +250,7 @@ fn report(heap: &LiveHeap, start: u32, run: Run) -> GcflipWork
 }
 
 /// Performs useful steps and reports them.
+#[tactic(auto, using(crate::proofs::Waiting::worked))]
 pub(crate) fn work_on(
     heap: &mut KeptHeap,
     size: Option<u32>,
@@ -249,7 +261,9 @@ pub(crate) fn work_on(
     ensures work { IfOk result (IsWork size None most heap.old.live.core heap.new.live.core) }
     ensures former { IfOk result (λ work. LeavesAfter size work.steps heap.old.live.core heap.old.former heap.new.former) }
     ensures turns { IfOk result (λ work. heap.new.live.beside.turns ≡ turns_after_work heap.old.live.beside.turns work) }
+    ensures rooms { IfOk result (λ work. HaveWorked size heap.old.live.core heap.new.live.core (held_in heap.old.former) heap.old.live.beside work heap.new.live.beside.rooms) }
     ensures refused { OnErr result (IsAsBefore heap.old heap.new) }
+    ensures freed { OnErr result (WereRefused heap.old.live.beside.rooms heap.new.live.beside.rooms) }
     ensures allocates { OnErr result (Allocates heap.old.live.core (sized_step size heap.old.live.core)) }
 {
     let start = end_of_new(&heap.live);
@@ -269,7 +283,9 @@ pub(crate) fn work_within_on(
     ensures work { IfOk result (IsWork None (Some words) most heap.old.live.core heap.new.live.core) }
     ensures former { IfOk result (λ work. LeavesAfter None work.steps heap.old.live.core heap.old.former heap.new.former) }
     ensures turns { IfOk result (λ work. heap.new.live.beside.turns ≡ turns_after_work heap.old.live.beside.turns work) }
+    ensures rooms { IfOk result (λ work. HaveWorked None heap.old.live.core heap.new.live.core (held_in heap.old.former) heap.old.live.beside work heap.new.live.beside.rooms) }
     ensures refused { OnErr result (IsAsBefore heap.old heap.new) }
+    ensures freed { OnErr result (WereRefused heap.old.live.beside.rooms heap.new.live.beside.rooms) }
     ensures allocates { OnErr result (Allocates heap.old.live.core (sized_step None heap.old.live.core)) }
 {
     let start = end_of_new(&heap.live);
@@ -295,7 +311,9 @@ fn work_sized(heap: &mut GcflipHeap, size: Option<u32>, most: u32, work: &mut Gc
     ensures former { result ≡ done → IsSomeAnd heap.old.state (λ s. LeavesAfter size work.new.steps s heap.old.former heap.new.former) }
     ensures kept { 1 ≤ result → heap.new.former ≡ heap.old.former }
     ensures turns { result ≡ done → heap.new.beside.turns ≡ turns_after_work heap.old.beside.turns work.new }
+    ensures rooms { result ≡ done → IsSomeAnd heap.old.state (λ s. IsSomeAnd heap.new.state (λ t. HaveWorked size s t (held_in heap.old.former) heap.old.beside work.new heap.new.beside.rooms)) }
     ensures uncounted { 1 ≤ result → heap.new.beside.turns ≡ heap.old.beside.turns }
+    ensures freed { 1 ≤ result → RefusedRooms result heap.old.beside.rooms heap.new.beside.rooms }
 {
     if heap.is_empty() {
         return CLOSED;
@@ -322,7 +340,9 @@ pub extern "C" fn gcflip_heap_work(heap: &mut GcflipHeap, most: u32, work: &mut 
     ensures former { result ≡ done → IsSomeAnd heap.old.state (λ s. LeavesAfter None work.new.steps s heap.old.former heap.new.former) }
     ensures kept { 1 ≤ result → heap.new.former ≡ heap.old.former }
     ensures turns { result ≡ done → heap.new.beside.turns ≡ turns_after_work heap.old.beside.turns work.new }
+    ensures rooms { result ≡ done → IsSomeAnd heap.old.state (λ s. IsSomeAnd heap.new.state (λ t. HaveWorked None s t (held_in heap.old.former) heap.old.beside work.new heap.new.beside.rooms)) }
     ensures uncounted { 1 ≤ result → heap.new.beside.turns ≡ heap.old.beside.turns }
+    ensures freed { 1 ≤ result → RefusedRooms result heap.old.beside.rooms heap.new.beside.rooms }
 {
     work_sized(heap, None, most, work)
 }
@@ -342,7 +362,9 @@ pub extern "C" fn gcflip_heap_work_sized(
     ensures former { result ≡ done → IsSomeAnd heap.old.state (λ s. LeavesAfter (Some size) work.new.steps s heap.old.former heap.new.former) }
     ensures kept { 1 ≤ result → heap.new.former ≡ heap.old.former }
     ensures turns { result ≡ done → heap.new.beside.turns ≡ turns_after_work heap.old.beside.turns work.new }
+    ensures rooms { result ≡ done → IsSomeAnd heap.old.state (λ s. IsSomeAnd heap.new.state (λ t. HaveWorked (Some size) s t (held_in heap.old.former) heap.old.beside work.new heap.new.beside.rooms)) }
     ensures uncounted { 1 ≤ result → heap.new.beside.turns ≡ heap.old.beside.turns }
+    ensures freed { 1 ≤ result → RefusedRooms result heap.old.beside.rooms heap.new.beside.rooms }
 {
     work_sized(heap, Some(size), most, work)
 }
@@ -361,7 +383,9 @@ pub extern "C" fn gcflip_heap_work_within(
     ensures former { result ≡ done → IsSomeAnd heap.old.state (λ s. LeavesAfter None work.new.steps s heap.old.former heap.new.former) }
     ensures kept { 1 ≤ result → heap.new.former ≡ heap.old.former }
     ensures turns { result ≡ done → heap.new.beside.turns ≡ turns_after_work heap.old.beside.turns work.new }
+    ensures rooms { result ≡ done → IsSomeAnd heap.old.state (λ s. IsSomeAnd heap.new.state (λ t. HaveWorked None s t (held_in heap.old.former) heap.old.beside work.new heap.new.beside.rooms)) }
     ensures uncounted { 1 ≤ result → heap.new.beside.turns ≡ heap.old.beside.turns }
+    ensures freed { 1 ≤ result → RefusedRooms result heap.old.beside.rooms heap.new.beside.rooms }
 {
     if heap.is_empty() {
         return CLOSED;

@@ -1,10 +1,12 @@
 -- A turn makes the run one useful step longer, after a step that was not enough.
-use Rattle.std.proofs.Common.{◌≡◌, ℕ, ◌+◌, suc, ap, sym, ◌∙◌, subst, arith}
+use Rattle.std.proofs.Common.{◌≡◌, inr, ℕ, ◌+◌, suc, ap, sym, ◌∙◌, subst, arith}
 use Rattle.gc_live.specs.Live.{Turns, turns_after}
 use Rattle.gcflip_heap_c.specs.Work.{IsRun}
 use Rattle.gcflip_heap_c.specs.Former.{LeavesAfter}
 use Rattle.gcflip_heap_c.proofs.FormerRuns.{first_left, longer_left}
+use Rattle.gc_copy.specs.Words.{held_in}
 use Rattle.gcflip_heap_c.proofs.Flips.{turns_going}
+use Rattle.gcflip_heap_c.proofs.Waiting.{run_open, longer_rooms, lacked_rooms}
 use Rattle.gcflip_heap_c.proofs.Runs.{first_run, longer_run, short_more}
 use Rattle.gcflip_heap_c.proofs.work.useful_steps.Goals as goal
 
@@ -14,6 +16,7 @@ loop-steps-init g c = (
   λ k less. absurd (omega arith),
   first_left c.args.size c.args.heap.now.live.core c.perform.new.heap.live.core c.in_ok-reply.reply c.args.heap.now.former c.perform.new.heap.former c.in_ok-reply.ensures.step c.in_ok-reply.ensures.former,
   c.in_ok-reply.ensures.turns,
+  c.in_ok-reply.ensures.rooms,
 )
 
 pub loop-steps-preserved : goal.loop-steps-preserved
@@ -29,7 +32,19 @@ loop-steps-preserved g c =
           (longer_left c.args.size c.args.heap.now.live.core c.loop-steps.heap.live.core c.perform-in-loop-steps.new.heap.live.core c.loop-steps.steps c.loop-steps.reply c.in-Ok.next
           c.args.heap.now.former c.loop-steps.heap.former c.perform-in-loop-steps.new.heap.former run c.in-Ok.ensures.step c.loop-steps.invariant.2 c.in-Ok.ensures.former),
       c.in-Ok.ensures.turns ∙ ap (λ (t : Turns). turns_after t c.in-Ok.next) (c.loop-steps.invariant.3 ∙ turns_going c.args.heap.now.live.beside.turns c.loop-steps.reply (sym c.can_go_on.ensures ∙ c.if-not-can_go_on.false)),
+      longer_rooms c.args.size c.args.heap.now.live.core c.loop-steps.heap.live.core c.args.heap.now.live.beside c.loop-steps.heap.live.beside (held_in c.args.heap.now.former) (held_in c.loop-steps.heap.former)
+          c.loop-steps.reply c.in-Ok.next c.perform-in-loop-steps.new.heap.live.beside.rooms (run_open c.args.size c.loop-steps.steps c.args.heap.now.live.core c.loop-steps.heap.live.core c.loop-steps.reply run (sym c.can_go_on.ensures ∙ c.if-not-can_go_on.false))
+          (sym c.can_go_on.ensures ∙ c.if-not-can_go_on.false) (c.loop-steps.invariant.3 ∙ turns_going c.args.heap.now.live.beside.turns c.loop-steps.reply (sym c.can_go_on.ensures ∙ c.if-not-can_go_on.false))
+          c.loop-steps.invariant.4 c.in-Ok.ensures.rooms,
     )
+
+-- a flip behind the last step may have lacked memory
+pub returns-in-Err-clause-rooms : goal.returns-in-Err-clause-rooms
+returns-in-Err-clause-rooms g c =
+    let on = sym c.can_go_on.ensures ∙ c.if-not-can_go_on.false in
+    inr (lacked_rooms c.args.size c.args.heap.now.live.core c.loop-steps.heap.live c.args.heap.now.live.beside (held_in c.args.heap.now.former) c.loop-steps.reply c.perform-in-loop-steps.new.heap.live.beside.rooms
+    (run_open c.args.size c.loop-steps.steps c.args.heap.now.live.core c.loop-steps.heap.live.core c.loop-steps.reply c.loop-steps.invariant.0 on) on
+    (c.loop-steps.invariant.3 ∙ turns_going c.args.heap.now.live.beside.turns c.loop-steps.reply on) c.loop-steps.invariant.4 c.in-Err.ensures.lacked)
 
 pub returns-clause-run : goal.returns-clause-run
 returns-clause-run g c =

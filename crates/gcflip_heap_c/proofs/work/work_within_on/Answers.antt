@@ -4,7 +4,9 @@ use Rattle.gc_plan.specs.State.{State}
 use Rattle.gc_live.specs.Live.{Live}
 use Rattle.gc_core.specs.CollectedHeap.{Allocates}
 use Rattle.gcflip_heap_c.specs.Work.{IsRun, IsWork, sized_step, after_useful, useful_reply, goes_on, end_in, end_after}
+use Rattle.gc_copy.specs.Words.{held_in}
 use Rattle.gcflip_heap_c.proofs.Flips.{turns_told}
+use Rattle.gcflip_heap_c.proofs.Waiting.{worked}
 use Rattle.gcflip_heap_c.proofs.work.work_within_on.Goals as goal
 
 pub returns-clause-work : goal.returns-clause-work
@@ -30,3 +32,8 @@ returns-clause-work c =
 
 pub returns-clause-turns : goal.returns-clause-turns
 returns-clause-turns c = ap (λ (h : Live). h.beside.turns) c.give_back.ensures ∙ c.in_ok-run.ensures.turns ∙ turns_told c.args.heap.now.live.beside.turns c.report-work.result c.in_ok-run.run'.reply c.report-work.ensures.last
+
+pub returns-clause-rooms : goal.returns-clause-rooms
+returns-clause-rooms c =
+    worked None c.args.heap.now.live.core (held_in c.args.heap.now.former) c.args.heap.now.live.beside c.report-work.result c.in_ok-run.run'.reply c.useful_steps.new.heap.live c.give_back.new.self
+    c.report-work.ensures.last c.in_ok-run.ensures.rooms c.give_back.ensures
