@@ -12,7 +12,7 @@ from .harness import Outcome, addresses_numbered, difference, file_of, run
 from .traces import PLAYED, trace_and_replies
 
 # Programs that end with status 0 and print nothing.
-PROGRAMS = ["answers.c", "check.c", "refused_check.c", "check_cpp.cpp", "heap.c", "extra_roots.c", "pace.c", "refused_heap.c", "checking.c", "heap_cpp.cpp", "churn.c", "threads.c", "images.c", "adapters.c", "nursery.c"]
+PROGRAMS = ["answers.c", "check.c", "refused_check.c", "check_cpp.cpp", "heap.c", "extra_roots.c", "pace.c", "refused_heap.c", "checking.c", "rooms.c", "heap_cpp.cpp", "churn.c", "threads.c", "images.c", "adapters.c", "nursery.c"]
 
 
 def programs(_program, folder):
@@ -408,11 +408,11 @@ def limits(_program, folder):
 MOST_INSTRUCTIONS = 544
 
 
-def instructions(path, number, folder, *options):
-    """Returns how many instructions the program executes with this number as its argument, and why that is not known, or None. Options of
-    callgrind say which of them count."""
+def instructions(path, arguments, folder, *options):
+    """Returns how many instructions the program executes with these arguments, and why that is not known, or None. Options of callgrind say
+    which of them count."""
     counted = os.path.join(folder, "counted")
-    found = done(["valgrind", "--tool=callgrind", "--callgrind-out-file=" + counted, *options, path, str(number)])
+    found = done(["valgrind", "--tool=callgrind", "--callgrind-out-file=" + counted, *options, path, *[str(word) for word in arguments]])
     if found.status != 0:
         return 0, "status %d: %s" % (found.status, found.stderr.decode("utf-8", "replace"))
     with open(counted, encoding="utf-8") as file:
@@ -425,25 +425,36 @@ def work_remembers(_program, folder):
     if built is None or not has_valgrind("count_work.c"):
         return
     path, why = built.build(["gcc"], "count_work.c", built.archive())
-    (few, why_few), (many, why_many) = [instructions(path, steps, folder) for steps in (2000, 6000)] if why is None else [(0, why)] * 2
+    (few, why_few), (many, why_many) = [instructions(path, [steps], folder) for steps in (2000, 6000)] if why is None else [(0, why)] * 2
     # Each run performs its steps twice: one by one, and all in one call.
     average = (many - few) / 8000
     told = None if 0 < average <= MOST_INSTRUCTIONS else "%.0f on average" % average
     yield "instructions of a useful step", why_few or why_many or told
 
 
+# How many times the instructions of giving up may be those in a heap of 100,000 words, where the heap has 8,000,000.
+MOST_IN_A_LARGE_HEAP = 1.5
+
+
 def given_up_at_once(_program, folder):
     """Counts the instructions of giving up a collection, and of the first replica after it. They do not grow with the number of replicas: no link
-    is cleared, and codes are cleared by blocks of 256 words, when they are next read. Both heaps end with a whole block."""
+    is cleared, and codes are cleared by blocks of 256 words, when they are next read. Both heaps end with a whole block. Nor does giving up take
+    longer in a large heap."""
     built = library(folder)
     if built is None or not has_valgrind("count_give_up.c"):
         return
     path, why = built.build(["gcc"], "count_give_up.c", built.archive())
     for step, told_as in (("give_up", "giving up"), ("roots", "the first replica after giving up")):
-        counted = [instructions(path, cells, folder, "--toggle-collect=gcflip_heap_step_" + step) for cells in (640, 19200)] if why is None else [(0, why)] * 2
+        option = "--toggle-collect=gcflip_heap_step_" + step
+        counted = [instructions(path, ["pairs", cells], folder, option) for cells in (640, 19200)] if why is None else [(0, why)] * 2
         (few, why_few), (many, why_many) = counted
         told = None if 0 < many <= few + few // 20 else "%d with 640 objects, %d with 19,200" % (few, many)
         yield "instructions of " + told_as, why_few or why_many or told
+    option = "--toggle-collect=gcflip_heap_step_give_up"
+    counted = [instructions(path, ["raw", words], folder, option) for words in (100000, 8000000)] if why is None else [(0, why)] * 2
+    (small, why_small), (large, why_large) = counted
+    told = None if 0 < large <= small * MOST_IN_A_LARGE_HEAP else "%d in 100,000 words, %d in 8,000,000" % (small, large)
+    yield "instructions of giving up in a large heap", why_small or why_large or told
 
 
 GROUPS = [example_programs, long_objects, pauses, programs, musl, images, large_heaps, live_and_far, pages, limits, work_remembers, given_up_at_once, rebuilt, pkg_config, texts, plays, recorded_work, recording_that_ends, root_reads,
