@@ -90,7 +90,7 @@ static void apart_from_slots(void)
             holds(0, 18, 1000 + k);
     }
     EXPECT(gcflip_heap_root_clear(&heap, 3, 3) == GCFLIP_DONE && gcflip_heap_root_clear(&heap, FEW, FEW) == GCFLIP_DONE);
-    EXPECT(gcflip_heap_root_clear(&heap, 4, 3) == GCFLIP_OUT_OF_RANGE);
+    EXPECT(gcflip_heap_root_clear(&heap, 4, 3) == GCFLIP_OUT_OF_RANGE && gcflip_heap_root_clear(&heap, UINT32_MAX, 0) == GCFLIP_OUT_OF_RANGE);
     EXPECT(gcflip_heap_root_clear(&heap, 0, FEW + 1) == GCFLIP_OUT_OF_RANGE);
     EXPECT(gcflip_heap_root_load(&heap, 3, 0, 0) == GCFLIP_OUT_OF_RANGE);
     EXPECT(gcflip_heap_root_load(&heap, 0, 32, 0) == GCFLIP_OUT_OF_RANGE);

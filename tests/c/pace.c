@@ -91,6 +91,16 @@ static void debts(void)
     EXPECT(due(of, 51, true, 41, 5, 0) == 16);
 }
 
+/* Counts that no heap has: its end is below the scan pointer. No word is left to scan, but the entries and the flip are. */
+static void end_below_the_scan_pointer(void)
+{
+    EXPECT(due(pace_of(200, 0, 10, 30, 50, 3), 40, true, 41, 5, 0) == 4); /* 2 entries times 2, where 6 steps are left */
+    EXPECT(due(pace_of(200, 9, 10, 30, 50, 3), 40, true, 41, 5, 0) == 6);
+    EXPECT(due(pace_of(200, 0, 10, 30, 50, 3), 40, true, UINT32_MAX, 5, 160) == 6); /* no room */
+    EXPECT(due(pace_of(200, 0, 10, 30, 50, 3), 40, true, UINT32_MAX, 3, 0) == 0);   /* nothing spent */
+    EXPECT(due(pace_of(200, 0, 10, 30, 50, 3), 40, false, 41, 0, 160) == 1);
+}
+
 /* The largest counts: no sum or product wraps, and the result is cut off. */
 static void largest_counts(void)
 {
@@ -406,6 +416,7 @@ int main(void)
     beginnings();
     rates();
     debts();
+    end_below_the_scan_pointer();
     largest_counts();
     refusals();
     one_collection();

@@ -268,7 +268,8 @@ class Heap:
         return Mutator(self, number)
 
     def clear_roots(self, first: int, end: int) -> None:
-        """Puts nil into the extra roots from `first` on, and below `end`."""
+        """Puts nil into the extra roots from `first` on, and below `end`. Raises OutOfRange if the heap does not have all of them, or if `first` is
+        above `end`."""
         self._call("root_clear", first, end)
 
     # ---- Collector steps
