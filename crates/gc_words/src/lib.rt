@@ -24,6 +24,6 @@ pub use laws::{
 pub use layout::{field_index, lower_links};
 pub use marks::{is_marked, mark};
 pub use refusal::Refusal;
-pub use shape::{ShapeFault, next_in, walk};
+pub use shape::{ShapeFault, next_in, walk, walk_image};
 pub use space::Space;
 pub use value::{Addr, NewAddr, OldAddr, Value, decode, decode_wide, encode, target_of, value_in};

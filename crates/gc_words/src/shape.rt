@@ -1,8 +1,10 @@
 ghost use Rattle.std.specs.Prelude.{◌≡◌, ◌<◌, ◌≤◌, None, Some, MatchResult, length};
-ghost use Rattle.gc_words.specs.Fault.{words_fault};
+ghost use Rattle.gc_words.specs.Fault.{shape_fault, words_fault};
+ghost use Rattle.gc_words.specs.Views.{image_of};
 ghost use Rattle.gc_words.specs.Walking.{next_of, next_in};
 
 use crate::header::Header;
+use crate::image::ImageRef;
 use gc_graph::object_words;
 use thiserror::Error;
 
@@ -11,7 +13,7 @@ use thiserror::Error;
 #[error("not shaped")]
 pub struct ShapeFault {
     /// The first address at which an object should start and none does, or from which an object runs past the end. It is 0 if
-    /// the number of words is not the end, or if word 0 is not 0.
+    /// the number of words is not the end, if word 0 is not 0, or if the end of an image does not lie within its size.
     pub at: u64,
 }
 
@@ -36,6 +38,19 @@ pub fn walk(words: &[u64], end: u32, raws: bool) -> Result<(), ShapeFault>
         }
     }
     Ok(())
+}
+
+/// Checks that an image is shaped: its end lies within its size, and `walk` accepts its words. Makes no assumption about the image.
+pub fn walk_image(image: ImageRef) -> Result<(), ShapeFault>
+    ensures { MatchResult result
+        (λ _. shape_fault (image_of image.entry) ≡ None)
+        (λ fault. shape_fault (image_of image.entry) ≡ Some fault.at) }
+{
+    if (1..=image.size).contains(&image.end) {
+        walk(image.words, image.end, image.raws)
+    } else {
+        Err(ShapeFault { at: 0 })
+    }
 }
 
 /// Returns the place after the object that starts here, or `None` if this word is not a header or the object runs past
