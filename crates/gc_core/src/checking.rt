@@ -35,7 +35,7 @@ impl CollectedHeap {
     ghost use Rattle.gc_plan.specs.declared.step.Step.{Step};
 
     /// Checks the certificate of the open collection, if that is ready, by both spaces whole. The heap stays as it is. Allocates what a
-    /// checked flip does, and frees it before it returns.
+    /// checked flip does, and frees it before it returns. First it checks that the spaces of an open collection are shaped.
     pub fn check<C: Checks>(&mut self, checker: &C) -> Result<Finding, NoMemory>
         requires { C.can_check checker.now }
         ensures finding { IfOk result (λ found. found ≡ finding self.old) }
@@ -46,6 +46,9 @@ impl CollectedHeap {
         ensures allocates { OnErr result (Allocates self.old Step.Flip) }
         ensures same { self.new ≡ self.old }
     {
+        if let Some(refusal) = self.shape_refusal() {
+            return Ok(Finding::Refused(refusal));
+        }
         let Some(collection) = &mut self.collection else {
             return Ok(Finding::Idle);
         };
@@ -57,6 +60,20 @@ impl CollectedHeap {
         collection.unmark(&mut self.heap);
         let draft = Draft::new(self.alloc, &self.heap, collection)?;
         found_by(checker, self.alloc, &self.heap, collection, &draft)
+    }
+
+    /// Returns the refusal of a space that is not shaped, if a collection is open. There is none, as for `old_fault` and `new_fault`.
+    fn shape_refusal(&self) -> Option<Refusal>
+        ensures { result ≡ None }
+    {
+        if !self.is_open() {
+            return None;
+        }
+        if let Some(fault) = self.old_fault() {
+            return Some(Refusal::OldShape { at: fault.at });
+        }
+        let fault = self.new_fault()?;
+        Some(Refusal::NewShape { at: fault.at })
     }
 }
 

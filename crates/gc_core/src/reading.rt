@@ -1,6 +1,6 @@
 //! What a runtime needs for its decisions, and what a debugger shows: sizes, logs, and both spaces with their links.
 
-ghost use Rattle.std.specs.Prelude.{◌≡◌, ◌<◌, length, slice_get};
+ghost use Rattle.std.specs.Prelude.{◌≡◌, ◌<◌, None, length, slice_get};
 ghost use Rattle.std.specs.Option.{option_map};
 ghost use Rattle.gc_graph.specs.Graph.{name_of, root};
 ghost use Rattle.gc_graph.specs.Slots.{place};
@@ -13,7 +13,7 @@ ghost use Rattle.gc_core.specs.Readings.{ShowsHeap, heap_image, new_words, new_s
 use crate::collected_heap::CollectedHeap;
 use gc_copy::{LogEntry, heaps_have_addresses_as_names, images_show_links, link_mark};
 use gc_graph::Slot;
-use gc_words::{ImageRef, OldAddr, lower_links};
+use gc_words::{ImageRef, OldAddr, ShapeFault, lower_links, no_fault_where_shaped, walk_image};
 
 /// The new space of an open collection, and how far the scan has come.
 #[derive(Clone, Copy, Debug, PartialEq, Eq)]
@@ -116,6 +116,25 @@ impl CollectedHeap {
             let _ = collection.new_image(&[]);
         }
         self.heap.image()
+    }
+
+    /// Returns where the words of the mutators' space are not shaped. It is proved that they are, unless somebody else writes into the heap's
+    /// memory, so callers that show these words ask before they walk over them. Reads each header.
+    pub fn old_fault(&self) -> Option<ShapeFault>
+        ensures { result ≡ None }
+    {
+        no_fault_where_shaped();
+        walk_image(self.heap.image()).err()
+    }
+
+    /// Returns where the words of the open collection's new space (to-space) are not shaped, as `old_fault` does, and `None` if no
+    /// collection is open.
+    pub fn new_fault(&self) -> Option<ShapeFault>
+        ensures { result ≡ None }
+    {
+        no_fault_where_shaped();
+        let collection = self.collection.as_ref()?;
+        walk_image(collection.new_image(&[])).err()
     }
 
     /// Copies the words of the mutators' space with their exact links, for callers that show them to a person or to C.

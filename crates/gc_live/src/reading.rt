@@ -6,10 +6,10 @@ use crate::live_heap::LiveHeap;
 use gc_copy::LogEntry;
 use gc_core::NewSpace;
 use gc_graph::Slot;
-use gc_words::{ImageRef, OldAddr};
+use gc_words::{ImageRef, OldAddr, ShapeFault};
 
 impl LiveHeap {
-    ghost use Rattle.std.specs.Prelude.{◌≡◌, ◌<◌, length, slice_get};
+    ghost use Rattle.std.specs.Prelude.{◌≡◌, ◌<◌, None, length, slice_get};
     ghost use Rattle.gc_plan.specs.State.{heap_end};
     ghost use Rattle.gc_heap.specs.Raws.{raw_numbers};
     ghost use Rattle.gc_graph.specs.Graph.{name_of, root as root_in};
@@ -87,6 +87,22 @@ impl LiveHeap {
         ensures count { length result.words.now ≡ length (heap_image self.now.core).words }
     {
         self.inner.image()
+    }
+
+    /// Returns where the words of the mutators' space are not shaped. It is proved that they are, unless somebody else writes into the heap's
+    /// memory, so callers that show these words ask before they walk over them. Reads each header.
+    pub fn old_fault(&self) -> Option<ShapeFault>
+        ensures { result ≡ None }
+    {
+        self.inner.old_fault()
+    }
+
+    /// Returns where the words of the open collection's new space (to-space) are not shaped, as `old_fault` does, and `None` if no
+    /// collection is open.
+    pub fn new_fault(&self) -> Option<ShapeFault>
+        ensures { result ≡ None }
+    {
+        self.inner.new_fault()
     }
 
     /// Copies the words of the mutators' space with their exact links, for callers that show them to a person or to C.

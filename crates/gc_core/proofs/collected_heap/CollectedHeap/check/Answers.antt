@@ -11,7 +11,7 @@ if_ok : {X Y : Type 0} (P Q : X → Type 0) (r : Result X Y) → ((x : X) → P 
 if_ok P Q r f h = grind (arith, common_steps)
 
 pub returns-clause-asked : goal.returns-clause-asked
-returns-clause-asked g c = if_ok _ _ c.found_by.result (λ found said pairs told. pair_unmarked (g.C.Checks.says_yes c.args.checker.now) c.self.inside.heap c.unmark.new.heap c.self.inside.collection c.in-Some.collection c.unmark.new.self c.args.self.now c.in-Some.is c.self.view_is c.unmark.ensures.state c.unmark.ensures.unmarked said) c.found_by.ensures.asked
+returns-clause-asked g c = if_ok _ _ c.found_by.result (λ found said pairs told. pair_unmarked (g.C.Checks.says_yes c.args.checker.now) c.self.inside.heap c.unmark.new.heap c.self.inside.collection c.in-Some-collection.collection c.unmark.new.self c.args.self.now c.in-Some-collection.is c.self.view_is c.unmark.ensures.state c.unmark.ensures.unmarked said) c.found_by.ensures.asked
 
 pub returns-clause-sound : goal.returns-clause-sound
-returns-clause-sound g c = if_ok _ _ c.found_by.result (λ found holds pairs told. pair_unmarked IsCertified c.self.inside.heap c.unmark.new.heap c.self.inside.collection c.in-Some.collection c.unmark.new.self c.args.self.now c.in-Some.is c.self.view_is c.unmark.ensures.state c.unmark.ensures.unmarked holds) c.found_by.ensures.certified
+returns-clause-sound g c = if_ok _ _ c.found_by.result (λ found holds pairs told. pair_unmarked IsCertified c.self.inside.heap c.unmark.new.heap c.self.inside.collection c.in-Some-collection.collection c.unmark.new.self c.args.self.now c.in-Some-collection.is c.self.view_is c.unmark.ensures.state c.unmark.ensures.unmarked holds) c.found_by.ensures.certified
