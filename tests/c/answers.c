@@ -20,6 +20,7 @@ static const struct {
     {GCFLIP_TOO_LARGE, 8, "too large"},
     {GCFLIP_FAULTY, 9, "faulty"},
     {GCFLIP_NOT_BEGUN, 10, "not begun"},
+    {GCFLIP_DAMAGED, 11, "damaged"},
     {GCFLIP_MADE, 16, "made"},
     {GCFLIP_FULL, 17, "full"},
     {GCFLIP_NO_OBJECT, 18, "no object"},

@@ -12,7 +12,7 @@ from .harness import Outcome, addresses_numbered, difference, file_of, run
 from .traces import PLAYED, trace_and_replies
 
 # Programs that end with status 0 and print nothing.
-PROGRAMS = ["answers.c", "check.c", "refused_check.c", "check_cpp.cpp", "heap.c", "extra_roots.c", "pace.c", "refused_heap.c", "checking.c", "rooms.c", "heap_cpp.cpp", "churn.c", "threads.c", "images.c", "adapters.c", "nursery.c"]
+PROGRAMS = ["answers.c", "check.c", "refused_check.c", "check_cpp.cpp", "heap.c", "extra_roots.c", "pace.c", "refused_heap.c", "checking.c", "damaged.c", "rooms.c", "heap_cpp.cpp", "churn.c", "threads.c", "images.c", "adapters.c", "nursery.c"]
 
 
 def programs(_program, folder):

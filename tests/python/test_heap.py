@@ -1,6 +1,7 @@
 """Tests of the package's heap."""
 import array
 import copy
+import ctypes
 import gc
 import os
 import pickle
@@ -451,6 +452,21 @@ class Readings(unittest.TestCase):
             heap.mutator(0).new(own(0), 1, 0)
             image = heap.image()
             self.assertEqual((image.size, gcflip.check(image, image, [(1, 1)])), (16, 1))
+
+    def test_damaged_words(self):
+        """Writes over the header of the only object, as code in C may do by mistake. Beside the address of its words the heap keeps their number
+        and its size."""
+        with Heap(32) as heap:
+            heap.mutator(0).new(own(0), 1, 1)
+            image = heap.image()
+            kept = (ctypes.c_uint64 * 16).from_address(heap._handle.at)
+            place = next(k for k in range(14) if (kept[k + 1], kept[k + 2]) == (len(image.words), image.size))
+            words = (ctypes.c_uint64 * len(image.words)).from_address(kept[place])
+            header, words[1] = words[1], 0
+            with self.assertRaises(gcflip.Damaged):
+                heap.image()
+            words[1] = header
+            self.assertEqual(heap.image(), image)
 
     def test_images_are_freed(self):
         """Copies 200 images and 200 new spaces of 8 MiB each within 128 MiB, so each copy has to be freed."""

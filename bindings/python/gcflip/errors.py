@@ -20,6 +20,10 @@ class Closed(GcflipError, ValueError):
     """The heap is closed."""
 
 
+class Damaged(GcflipError):
+    """The heap's words are not those of a heap. It is proved that this does not happen, unless other code writes into the heap's memory."""
+
+
 class Reentered(GcflipError, RuntimeError):
     """This thread is in a call on the heap already: a signal handler or a finaliser called the heap from within that call."""
 

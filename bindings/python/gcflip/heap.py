@@ -13,7 +13,7 @@ from typing import Any, Callable, Iterable, NamedTuple, NoReturn, Sequence, Type
 
 from . import library
 from .checker import Block, Image, Row, _pairs_of
-from .errors import (Busy, Closed, FlipRefused, Full, GcflipError, HeapRefused, Idle, NoField, NoNumber, NoObject, NotReady,
+from .errors import (Busy, Closed, Damaged, FlipRefused, Full, GcflipError, HeapRefused, Idle, NoField, NoNumber, NoObject, NotReady,
                      OutOfMemory, OutOfRange, Reentered)
 from .library import COUNTS, HEAP, LIBRARY, MUTATOR, SLOT, Answer, CheckingNumber, StepName, in_range
 
@@ -22,6 +22,7 @@ NOTHING_DONE: dict[int, type[GcflipError]] = {
     Answer.NO_MEMORY: OutOfMemory,
     Answer.OUT_OF_RANGE: OutOfRange,
     Answer.CLOSED: Closed,
+    Answer.DAMAGED: Damaged,
 }
 REFUSED: dict[int, type[HeapRefused]] = {
     Answer.FULL: Full,
@@ -387,7 +388,8 @@ class Heap:
         return LogEntry(entry.object, entry.field)
 
     def image(self) -> Image:
-        """Copies the heap's words, links included, and the root words: the 16 shared slots, the 16 of each mutator, and the extra roots."""
+        """Copies the heap's words, links included, and the root words: the 16 shared slots, the 16 of each mutator, and the extra roots. Raises
+        Damaged if other code wrote over a header or the end of the heap."""
         def copied() -> Image:
             counts = self._counts()
             words, roots = _zeros(counts.end), _zeros(SLOTS + SLOTS * counts.mutators + self._extra_roots)
@@ -398,7 +400,7 @@ class Heap:
 
     def new_words(self) -> array.array[int]:
         """Copies the words of the open collection's new space. A replica's link is its original's address. Raises OutOfRange if no
-        collection is open."""
+        collection is open, and Damaged if other code wrote over a header or the end of that space."""
         def copied() -> array.array[int]:
             words = _zeros(self._counts().new_end)
             self._made("new_words", words.buffer_info()[0], len(words))

@@ -50,6 +50,7 @@ class Answer(enum.IntEnum):
     TOO_LARGE = 8
     FAULTY = 9
     NOT_BEGUN = 10
+    DAMAGED = 11
     MADE = 16
     FULL = 17
     NO_OBJECT = 18

@@ -20,3 +20,7 @@ frame_full = 5
 -- the frame holds no value
 abbrev pub frame_empty : ℕ
 frame_empty = 6
+
+-- the words of a space are not shaped, since other code wrote over them
+abbrev pub damaged : ℕ
+damaged = 11

@@ -68,7 +68,7 @@ fn of_finding(found: Finding, verdict: &mut GcflipVerdict) -> u32
 /// Checks both spaces of the open collection whole, if it is ready, and changes nothing. Returns 0 and writes the verdict if the certificate
 /// holds. Returns 34 if no collection is open, and 41 if it is not ready. Allocates the certificate, the moved roots and the checker's
 /// tables, and frees them before it returns. That it returns 48, with the first condition that fails, is proved never to occur, unless
-/// somebody else writes into the heap's memory.
+/// somebody else writes into the heap's memory. It tests the shape of both spaces of any open collection, before it asks whether that is ready.
 #[unsafe(no_mangle)]
 pub extern "C" fn gcflip_heap_check(heap: &mut GcflipHeap, verdict: &mut GcflipVerdict) -> u32
     ensures found { ¬ IsRefusal result → IsSomeAnd heap.old.state (λ s. TellsFinding (finding s) verdict.old verdict.new result) }

@@ -1,12 +1,12 @@
 //! The exports that read a heap: counts for a runtime's decisions, and logs and copies of both spaces for debuggers.
 
-ghost use Rattle.std.specs.Prelude.{◌≡◌, ◌≤◌, ◌⊎◌, ◌↔◌, None, Some, IfSome, IsSomeAnd, IsTrue, IsFalse, length};
+ghost use Rattle.std.specs.Prelude.{◌≡◌, ◌≢◌, ◌≤◌, ◌⊎◌, ◌↔◌, None, Some, IfSome, IsSomeAnd, IsTrue, IsFalse, length};
 ghost use Rattle.gc_check.specs.InC.{done};
 ghost use Rattle.gc_core.specs.Readings.{heap_image, new_words, log_of};
-ghost use Rattle.gcflip_heap_c.specs.Answers.{out_of_range, closed_handle};
+ghost use Rattle.gcflip_heap_c.specs.Answers.{out_of_range, closed_handle, damaged};
 ghost use Rattle.gcflip_heap_c.specs.Readings.{counts_of, logged_in, log_entry_at, FitsImage};
 
-use crate::answer::{CLOSED, DONE, OUT_OF_RANGE};
+use crate::answer::{CLOSED, DAMAGED, DONE, OUT_OF_RANGE};
 use crate::handle::GcflipHeap;
 use gc_live::LiveHeap;
 
@@ -190,7 +190,8 @@ fn copy_image(heap: &LiveHeap, words: &mut [u64], roots: &mut [u64]) -> bool
 }
 
 /// Copies the words of the mutators' space, links included, and the roots. Returns 2 if the arrays do not have
-/// exactly these lengths.
+/// exactly these lengths. First tests that the words are shaped. That it returns 11, because they are not, is proved never to occur, unless
+/// other code writes into the heap's memory.
 #[unsafe(no_mangle)]
 pub extern "C" fn gcflip_heap_image(
     heap: &mut GcflipHeap,
@@ -203,6 +204,8 @@ pub extern "C" fn gcflip_heap_image(
     ensures heap { heap.new.state ≡ heap.old.state }
     ensures silent { 1 ≤ result → (words.new ≡ words.old) × (roots.new ≡ roots.old) }
     ensures outside { (result ≡ out_of_range) ↔ IsSomeAnd heap.old.state (λ s. ¬ FitsImage words.old roots.old s) }
+    // The words of a heap are always shaped: only code that is not proved can change that.
+    ensures undamaged { result ≢ damaged }
     ensures closed { (result ≡ closed_handle) ↔ (heap.old.state ≡ None) }
     ensures former { heap.new.former ≡ heap.old.former }
     ensures beside { heap.new.beside ≡ heap.old.beside }
@@ -210,7 +213,11 @@ pub extern "C" fn gcflip_heap_image(
     if heap.is_empty() {
         return CLOSED;
     }
-    if copy_image(&heap.kept_mut().live, words, roots) {
+    let heap = &heap.kept_mut().live;
+    if heap.old_fault().is_some() {
+        return DAMAGED;
+    }
+    if copy_image(heap, words, roots) {
         DONE
     } else {
         OUT_OF_RANGE
@@ -234,7 +241,7 @@ fn copy_new_words(heap: &LiveHeap, words: &mut [u64]) -> bool
 }
 
 /// Copies the words of the open collection's new space (to-space), links included. Returns 2 if the array does not have
-/// exactly that length, or if no collection is open.
+/// exactly that length, or if no collection is open. Tests the words first, and returns 11, as `gcflip_heap_image` does.
 #[unsafe(no_mangle)]
 pub extern "C" fn gcflip_heap_new_words(heap: &mut GcflipHeap, words: &mut [u64]) -> u32
     ensures answers { (result ≡ done) ⊎ ((result ≡ out_of_range) ⊎ (result ≡ closed_handle)) }
@@ -242,6 +249,7 @@ pub extern "C" fn gcflip_heap_new_words(heap: &mut GcflipHeap, words: &mut [u64]
     ensures heap { heap.new.state ≡ heap.old.state }
     ensures silent { 1 ≤ result → words.new ≡ words.old }
     ensures outside { (result ≡ out_of_range) ↔ IsSomeAnd heap.old.state (λ s. ¬ IsSomeAnd (new_words s) (λ new. length words.old ≡ length new)) }
+    ensures undamaged { result ≢ damaged }
     ensures closed { (result ≡ closed_handle) ↔ (heap.old.state ≡ None) }
     ensures former { heap.new.former ≡ heap.old.former }
     ensures beside { heap.new.beside ≡ heap.old.beside }
@@ -249,7 +257,11 @@ pub extern "C" fn gcflip_heap_new_words(heap: &mut GcflipHeap, words: &mut [u64]
     if heap.is_empty() {
         return CLOSED;
     }
-    if copy_new_words(&heap.kept_mut().live, words) {
+    let heap = &heap.kept_mut().live;
+    if heap.new_fault().is_some() {
+        return DAMAGED;
+    }
+    if copy_new_words(heap, words) {
         DONE
     } else {
         OUT_OF_RANGE
