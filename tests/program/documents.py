@@ -307,11 +307,8 @@ def undated(line, in_ci):
 
 
 def unrefused(line, found):
-    """Yields the clauses and calls of a row at which the files of its edits, given with their crates, do not say that they are refused. The
-    files of some edits say nothing, because their functions have no proof files; then nothing is compared."""
+    """Yields the clauses and calls of a row at which the files of its edits, given with their crates, do not say that they are refused."""
     tried = [Edit(crate, edit + ".edit") for crate, edit in found]
-    if any(not edit.places for edit in tried):
-        return
     refused = {(function.split("::")[-1], clause) for edit in tried for _, function, clause in edit.places}
     for calls, clauses_named in CLAUSES_OF.findall(line):
         functions = [name.split("::")[-1] for name in re.findall(r"`([\w:]+)`", calls)]

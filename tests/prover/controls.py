@@ -7,7 +7,7 @@ from .edits import BadEdit, Edit
 from .evidence import Answer, Goal, counted
 
 CONTROLS = os.path.join(TOP, "tests", "controls", "edits")
-KIND = re.compile(r"(?m)^# control: (answers|lost|renamed|nothing|clause)$")
+KIND = re.compile(r"(?m)^# control: (answers|lost|renamed|loop|nothing|clause)$")
 
 
 class Control:
@@ -49,4 +49,6 @@ def why_wrong(control, found):
         return "no answer loses a name"
     if control.kind == "renamed" and not any(isinstance(each, Goal) for each in found):
         return "no goal stands open under a new name"
+    if control.kind == "loop" and not any(isinstance(each, Goal) and each.is_of_loop for each in found):
+        return "no goal of a loop is open"
     return None

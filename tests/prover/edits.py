@@ -49,12 +49,6 @@ def place_of(text, old, path):
     return text.index(old)
 
 
-def folders_of_proofs(crate):
-    """Returns the folders below a crate's proofs/ that have files, as paths from there."""
-    top = os.path.join(CRATES, crate, "proofs")
-    return [os.path.relpath(path, top) for path, _, names in os.walk(top) if names]
-
-
 class Edit:
     """The changes of an edit's file, the items that it changes, and the places at which it has to be refused."""
 
@@ -68,7 +62,6 @@ class Edit:
         self.items = [self.item_of(path, old) for path, old, _ in self.changes]
         self.keys = {item.key for item in self.items if item}
         self.is_alone = any(not item or not item.name for item in self.items)
-        self.has_answers = any(item and item.name and item.has_proofs_in(proofs) for proofs in folders_of_proofs(crate) for item in self.items)
         self.keep_contracts()
 
     def keep_contracts(self):
