@@ -24,7 +24,8 @@ ALL, NONE, OF_TYPE = re.compile(r"all (?:its|their) clauses"), "none", re.compil
 
 
 class Crate:
-    """A crate's calls: the clauses of each, by its name, with its type if it is a method. `files` are its source files by their paths."""
+    """A crate's calls: the clauses of each, by its name, with its type if it is a method. `files` are its source files by their paths, and
+    `items` the keys of the calls' items."""
 
     def __init__(self, files, others=()):
         self.files = files
@@ -33,7 +34,7 @@ class Crate:
         # The calls whose contracts name an internal definition.
         self.inner = []
         self.exports = self.exported("src/lib.rt") if "src/lib.rt" in files else None
-        self.calls = {}
+        self.calls, self.items = {}, {}
         for path in sorted(files):
             self.add_calls(path)
 
@@ -65,7 +66,7 @@ class Crate:
                 owner = trait or (OWNER.match(item.owner).group(1) if item.owner else None)
                 if self.is_exported(owner or item.name, body):
                     name, contract = "%s::%s" % (owner, item.name) if owner else item.name, contract_of(text, item)
-                    self.calls[name] = clauses_in(contract)
+                    self.calls[name], self.items[name] = clauses_in(contract), item.key
                     self.inner += [name] if internal_names(text) & set(re.findall(r"[^\s(){}.,]+", " ".join(contract))) else []
 
 
