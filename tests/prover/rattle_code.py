@@ -1,9 +1,10 @@
 """Reads Rattle's code as tokens, without comments, texts and clauses, and finds its functions and the arms of its matches."""
 import re
 
-CLAUSES = ("requires", "ensures", "ghost", "decreases")
+# Each of these words is reserved, so that code has it in clauses alone.
+CLAUSES = ("requires", "ensures", "ghost")
 TOKEN = re.compile(r"'\w+|\w+|::|=>|->|==|!=|<=|>=|&&|\|\||\S")
-LEFT = re.compile(r"//[^\n]*|/\*.*?\*/|b?\"(?:\\.|[^\"\\])*\"|b?'(?:\\.|[^'\\])'|\b(?:%s)\b" % "|".join(CLAUSES), re.DOTALL)
+LEFT = re.compile(r"\b[bc]?r(?P<hashes>#*)\".*?\"(?P=hashes)|//[^\n]*|/\*.*?\*/|b?\"(?:\\.|[^\"\\])*\"|b?'(?:\\.|[^'\\])'|\b(?:%s)\b" % "|".join(CLAUSES), re.DOTALL)
 CLOSING = {"(": ")", "[": "]", "{": "}"}
 
 
@@ -94,6 +95,8 @@ class Code:
         """Returns the item that begins at this keyword: its keyword, its tokens up to its braces or semicolon, and the end of it."""
         if self.tokens[at] not in ("fn", "impl", "enum", "struct", "trait", "type", "const", "use", "static"):
             return None
+        if self.tokens[at] == "fn" and self.tokens[at + 1:at + 2] == ["("]:
+            return None  # the type of a pointer to a function
         opened = self.until(at, len(self.tokens), ("{", ";") if self.tokens[at] != "use" else (";",))
         return self.tokens[at], at, opened, self.ends.get(opened, opened)
 
