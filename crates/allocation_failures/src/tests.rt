@@ -1,6 +1,7 @@
 mod checks;
 mod collected_heaps;
 mod collections;
+mod expecting;
 mod heaps;
 mod marks;
 mod seats;

@@ -1,84 +1,84 @@
 //! Collected heaps without a world around them. A flip allocates what its check needs, and copies a pair only if it
 //! is to be kept.
 
+use super::expecting::expect;
 use super::marks::{fence, retried};
 use gc_check::Sequential;
 use gc_copy::{Step, StepReply};
-use gc_core::{CollectedHeap, Flip, Keep};
-use gc_graph::{NoMemory, Op, Reply, Slot, View};
+use gc_core::{CollectedHeap, Keep};
+use gc_graph::{Op, Slot, View};
 use std::alloc::Global;
 use std::process::Abort;
-use std::test::Fail;
 
 /// Performs a command of the first mutator. No allocation fails.
-fn command(heap: &mut CollectedHeap, op: &Op) -> Result<Reply, Fail> {
-    if heap.mutators() == 0 {
-        return Err("mutator".into());
-    }
-    Ok(heap.mutate(0, op)?)
+fn command(rt: &impl Abort, heap: &mut CollectedHeap, op: &Op) {
+    assert!(rt; heap.mutators() > 0);
+    let _reply = heap.mutate(0, op).expect(rt, "a reply");
 }
 
 /// Returns a heap with 1,000 chained objects whose collection is ready to flip.
-fn chain(alloc: Global) -> Result<CollectedHeap, Fail> {
+fn chain(rt: &impl Abort, alloc: Global) -> CollectedHeap {
     let _named = View::Nil;
-    let r0 = Slot::own(0).ok_or("slot")?;
-    let r1 = Slot::own(1).ok_or("slot")?;
-    let mut heap = CollectedHeap::open(alloc, 4096, 1)?;
-    let new = Op::New {
-        d: r1,
-        kind: 0,
-        len: 1,
-    };
-    let put = Op::Put { s: r1, i: 0, t: r0 };
+    let r0 = Slot::own(0).expect(rt, "a slot");
+    let r1 = Slot::own(1).expect(rt, "a slot");
+    let link = [
+        Op::New {
+            d: r1,
+            kind: 0,
+            len: 1,
+        },
+        Op::Put { s: r1, i: 0, t: r0 },
+        Op::Move { d: r0, s: r1 },
+    ];
+    let mut heap = CollectedHeap::open(alloc, 4096, 1).expect(rt, "a heap");
     for _ in 0..1000 {
-        let _ = command(&mut heap, &new)?;
-        let _ = command(&mut heap, &put)?;
-        let _ = command(&mut heap, &Op::Move { d: r0, s: r1 })?;
+        for op in &link {
+            command(rt, &mut heap, op);
+        }
     }
+    make_ready(rt, &mut heap);
+    heap
+}
+
+/// Performs the steps of a collection up to its flip.
+fn make_ready(rt: &impl Abort, heap: &mut CollectedHeap) {
     for _ in 0..4000 {
         let step = heap.useful_step();
         if step == Step::Flip {
-            break;
+            return;
         }
-        let _ = heap.collect(&Sequential, step)?;
-    }
-    Ok(heap)
-}
-
-/// Flips. If an allocation fails, tests that the collection is still open, and retries.
-fn flip(
-    rt: &impl Abort,
-    alloc: Global,
-    heap: &mut CollectedHeap,
-    keep: Keep,
-) -> Result<Flip, NoMemory> {
-    fence(alloc)?;
-    let outcome = heap.flip(&Sequential, keep);
-    fence(alloc)?;
-    match outcome {
-        Ok(flip) => Ok(flip),
-        Err(NoMemory) => {
-            retried(alloc)?;
-            assert!(rt; heap.is_open());
-            heap.flip(&Sequential, keep)
-        }
+        let _reply = heap.collect(&Sequential, step).expect(rt, "a step");
     }
 }
 
-#[test]
-fn flip_of_1000_that_keeps_nothing(rt: HostRuntime) -> Result<(), Fail> {
-    let mut heap = chain(rt.alloc())?;
-    let flipped = flip(&rt, rt.alloc(), &mut heap, Keep::Nothing)?;
-    assert_eq!(rt; flipped.reply, StepReply::Flipped { pairs: 1000 });
-    assert!(rt; flipped.pair.is_none() && !heap.is_open());
-    Ok(())
+/// Flips a heap with 1,000 objects, and tests that it keeps the pair if that is asked for. If an allocation fails, the
+/// collection is still open.
+fn expect_flip(rt: &impl Abort, alloc: Global, keep: Keep, keeps: bool) {
+    let mut heap = chain(rt, alloc);
+    fence(alloc);
+    let mut flip = heap.flip(&Sequential, keep);
+    fence(alloc);
+    if flip.is_err() {
+        retried(alloc);
+        expect(rt, heap.is_open(), "an open collection");
+        flip = heap.flip(&Sequential, keep);
+    }
+    let flip = flip.expect(rt, "a flip");
+    expect(
+        rt,
+        flip.reply == StepReply::Flipped { pairs: 1000 },
+        "the reply",
+    );
+    expect(rt, flip.pair.is_some() == keeps, "the pair");
+    expect(rt, !heap.is_open(), "no open collection");
 }
 
 #[test]
-fn flip_of_1000_that_keeps_the_pair(rt: HostRuntime) -> Result<(), Fail> {
-    let mut heap = chain(rt.alloc())?;
-    let flipped = flip(&rt, rt.alloc(), &mut heap, Keep::Pair)?;
-    assert_eq!(rt; flipped.reply, StepReply::Flipped { pairs: 1000 });
-    assert!(rt; flipped.pair.is_some() && !heap.is_open());
-    Ok(())
+fn flip_of_1000_that_keeps_nothing(rt: HostRuntime) {
+    expect_flip(&rt, rt.alloc(), Keep::Nothing, false);
+}
+
+#[test]
+fn flip_of_1000_that_keeps_the_pair(rt: HostRuntime) {
+    expect_flip(&rt, rt.alloc(), Keep::Pair, true);
 }

@@ -1,9 +1,10 @@
 //! The shared world: its calls, its closing, and scripts in threads. A failed call leaves the seat's receipts
 //! unchanged, and the world can be closed later.
 
-ghost use Rattle.std.specs.Prelude.{◌≡◌, ◌≤◌, IfOk, vec_len};
+ghost use Rattle.std.specs.Prelude.{◌≡◌, ◌≤◌, IfOk, IfSome, vec_len};
 ghost use Rattle.gc_shared.specs.Seats.{HasSize};
 
+use super::expecting::expect;
 use super::marks::{fence, retried};
 use gc_copy::{Step, StepReply};
 use gc_graph::{Number, Op, Reply, Slot, View};
@@ -14,217 +15,225 @@ use std::sync::Wait;
 use std::test::Fail;
 use std::thread::Threads;
 
-fn call(
+/// Closes the world, and tests that it has this many events.
+fn expect_world(rt: &impl Abort, shared: Shared, seats: Vec<Seat>, events: usize) {
+    match shared.close(seats) {
+        Ok(world) => expect(rt, world.history().len() == events, "all events"),
+        Err(_) => expect(rt, false, "a world that closes"),
+    }
+}
+
+/// Opens a world for one mutator and this many collectors, and tests that all their seats are there.
+fn expect_open(rt: &impl Abort, alloc: Global, collectors: u8)
+    requires { collectors ≤ 16 }
+{
+    fence(alloc);
+    let mut opened = Shared::open(alloc, 32, 1, collectors);
+    fence(alloc);
+    if opened.is_err() {
+        retried(alloc);
+        opened = Shared::open(alloc, 32, 1, collectors);
+    }
+    let (shared, seats) = opened.expect(rt, "a world");
+    expect(rt, shared.mutators() == 1, "one mutator");
+    expect(rt, seats.len() == 1 + usize::from(collectors), "all seats");
+    expect_world(rt, shared, seats, 0);
+}
+
+#[test]
+fn shared_open(rt: HostRuntime) {
+    expect_open(&rt, rt.alloc(), 1);
+}
+
+#[test]
+fn shared_open_of_16_collectors(rt: HostRuntime) {
+    expect_open(&rt, rt.alloc(), 16);
+}
+
+/// Performs a command, and tests its reply.
+fn expect_call(
     rt: &(impl Wait + Abort),
     alloc: Global,
     shared: &Shared,
     seat: &mut Seat,
     op: &Op,
-) -> Result<Reply, CallFault> {
+    reply: Reply,
+) {
     let count = seat.receipts().len();
-    fence(alloc)?;
-    let answer = shared.call(rt, seat, op);
-    fence(alloc)?;
-    match answer {
-        Err(CallFault::NoMemory) => {
-            retried(alloc)?;
-            assert_eq!(rt; seat.receipts().len(), count);
-            shared.call(rt, seat, op)
-        }
-        answer => answer,
+    fence(alloc);
+    let mut answer = shared.call(rt, seat, op);
+    fence(alloc);
+    if answer == Err(CallFault::NoMemory) {
+        retried(alloc);
+        expect(rt, seat.receipts().len() == count, "no receipt");
+        answer = shared.call(rt, seat, op);
     }
-}
-
-fn step(
-    rt: &(impl Threads + Wait + Abort + Sync),
-    alloc: Global,
-    shared: &Shared,
-    seat: &mut Seat,
-    step: Step,
-) -> Result<StepReply, CallFault>
-    requires { HasSize step }
-{
-    let count = seat.receipts().len();
-    fence(alloc)?;
-    let answer = shared.step(rt, seat, step);
-    fence(alloc)?;
-    match answer {
-        Err(CallFault::NoMemory) => {
-            retried(alloc)?;
-            assert_eq!(rt; seat.receipts().len(), count);
-            shared.step(rt, seat, step)
-        }
-        answer => answer,
-    }
-}
-
-fn useful(
-    rt: &(impl Threads + Wait + Abort + Sync),
-    alloc: Global,
-    shared: &Shared,
-    seat: &mut Seat,
-) -> Result<(Step, StepReply), CallFault> {
-    let count = seat.receipts().len();
-    fence(alloc)?;
-    let answer = shared.useful(rt, seat);
-    fence(alloc)?;
-    match answer {
-        Err(CallFault::NoMemory) => {
-            retried(alloc)?;
-            assert_eq!(rt; seat.receipts().len(), count);
-            shared.useful(rt, seat)
-        }
-        answer => answer,
-    }
-}
-
-/// Returns the command that makes an object with one field in `r0`.
-fn new_object() -> Result<Op, Fail> {
-    let d = Slot::own(0).ok_or("slot")?;
-    Ok(Op::New { d, kind: 1, len: 1 })
-}
-
-/// Closes the world, and tests that it has this many events.
-fn expect_world(rt: &impl Abort, shared: Shared, seats: Vec<Seat>, events: usize) {
-    match shared.close(seats) {
-        Ok(world) => assert_eq!(rt; world.history().len(), events),
-        Err(fault) => panic!(rt; "not closed: {}", fault.kind),
-    }
-}
-
-/// Opens a world for this many mutators and collectors, and tests that all their seats are there.
-fn expect_open(rt: &impl Abort, alloc: Global, mutators: u8, collectors: u8) -> Result<(), Fail>
-    requires some { 1 ≤ mutators }
-    requires few { mutators ≤ 16 }
-    requires few_collectors { collectors ≤ 16 }
-{
-    fence(alloc)?;
-    let mut opened = Shared::open(alloc, 32, mutators, collectors);
-    fence(alloc)?;
-    if opened.is_err() {
-        retried(alloc)?;
-        opened = Shared::open(alloc, 32, mutators, collectors);
-    }
-    let (shared, seats) = opened?;
-    assert_eq!(rt; shared.mutators(), mutators);
-    assert_eq!(rt;
-        seats.len(),
-        usize::from(mutators) + usize::from(collectors)
+    expect(rt, answer == Ok(reply), "the reply");
+    expect(
+        rt,
+        seat.receipts().len() == count.saturating_add(1),
+        "a receipt",
     );
-    expect_world(rt, shared, seats, 0);
-    Ok(())
+}
+
+/// Opens a world for one mutator and one collector, and returns it with both seats.
+fn opened(rt: &impl Abort, alloc: Global) -> (Shared, Seat, Seat) {
+    let (shared, mut seats) = Shared::open(alloc, 32, 1, 1).expect(rt, "a world");
+    let collector = seats.pop().expect(rt, "two seats");
+    let mutator = seats.pop().expect(rt, "two seats");
+    (shared, mutator, collector)
+}
+
+/// Closes a world with these seats, and tests that it has this many events.
+fn expect_events(
+    rt: &impl Abort,
+    alloc: Global,
+    shared: Shared,
+    mutator: Seat,
+    collector: Seat,
+    events: usize,
+) {
+    let mut seats = Vec::new(alloc);
+    seats.push(mutator).expect(rt, "room");
+    seats.push(collector).expect(rt, "room");
+    expect_world(rt, shared, seats, events);
 }
 
 #[test]
-fn shared_open(rt: HostRuntime) -> Result<(), Fail> {
-    expect_open(&rt, rt.alloc(), 1, 1)
-}
-
-#[test]
-fn shared_open_of_16_collectors(rt: HostRuntime) -> Result<(), Fail> {
-    expect_open(&rt, rt.alloc(), 1, 16)
-}
-
-#[test]
-fn shared_call(rt: HostRuntime) -> Result<(), Fail> {
+fn shared_call(rt: HostRuntime) {
     let _named = View::Nil;
     let alloc = rt.alloc();
-    let new = new_object()?;
-    let r0 = Slot::own(0).ok_or("slot")?;
+    let r0 = Slot::own(0).expect(&rt, "a slot");
+    let new = Op::New {
+        d: r0,
+        kind: 1,
+        len: 1,
+    };
     let put = Op::Put { s: r0, i: 0, t: r0 };
-    let (shared, mut seats) = Shared::open(alloc, 32, 1, 1)?;
-    let mut collector = seats.pop().ok_or("two seats")?;
-    let mut mutator = seats.pop().ok_or("two seats")?;
-    assert!(rt; call(&rt, alloc, &shared, &mut mutator, &new) == Ok(Reply::Made));
+    let (shared, mut mutator, mut collector) = opened(&rt, alloc);
+    expect_call(&rt, alloc, &shared, &mut mutator, &new, Reply::Made);
     let begun = shared.step(&rt, &mut collector, Step::Begin);
-    assert!(rt; begun == Ok(StepReply::Begun));
+    expect(&rt, begun == Ok(StepReply::Begun), "an open collection");
     // While a collection is open, this also needs room in the log.
-    assert!(rt; call(&rt, alloc, &shared, &mut mutator, &put) == Ok(Reply::Done));
-    assert_eq!(rt; mutator.receipts().len(), 2);
-    seats.push(mutator)?;
-    seats.push(collector)?;
-    expect_world(&rt, shared, seats, 3);
-    Ok(())
+    expect_call(&rt, alloc, &shared, &mut mutator, &put, Reply::Done);
+    expect_events(&rt, alloc, shared, mutator, collector, 3);
 }
 
-/// Performs this begin and a flip.
+/// Performs this step, or the useful one if none is given. Returns the step and its reply.
+fn collected(
+    rt: &(impl Threads + Wait + Sync),
+    shared: &Shared,
+    seat: &mut Seat,
+    step: Option<Step>,
+) -> Result<(Step, StepReply), CallFault>
+    requires { IfSome step HasSize }
+{
+    match step {
+        Some(step) => Ok((step, shared.step(rt, seat, step)?)),
+        None => shared.useful(rt, seat),
+    }
+}
+
+/// Performs a step, and tests which one it was, and its reply.
+fn expect_step(
+    rt: &(impl Threads + Wait + Abort + Sync),
+    alloc: Global,
+    shared: &Shared,
+    seat: &mut Seat,
+    step: Option<Step>,
+    expected: (Step, StepReply),
+)
+    requires { IfSome step HasSize }
+{
+    let count = seat.receipts().len();
+    fence(alloc);
+    let mut answer = collected(rt, shared, seat, step);
+    fence(alloc);
+    if answer == Err(CallFault::NoMemory) {
+        retried(alloc);
+        expect(rt, seat.receipts().len() == count, "no receipt");
+        answer = collected(rt, shared, seat, step);
+    }
+    expect(rt, answer == Ok(expected), "the reply");
+    expect(
+        rt,
+        seat.receipts().len() == count.saturating_add(1),
+        "a receipt",
+    );
+}
+
+/// Performs a begin and a flip. `begin` is the begin that is asked for, and `flip` the flip, or none for useful steps.
 fn expect_steps(
     rt: &(impl Threads + Wait + Abort + Sync),
     alloc: Global,
-    begin: Step,
-) -> Result<(), Fail>
-    requires { HasSize begin }
+    begin: Option<Step>,
+    flip: Option<Step>,
+)
+    requires begin { IfSome begin HasSize }
+    requires flip { IfSome flip HasSize }
 {
-    let (shared, mut seats) = Shared::open(alloc, 32, 1, 1)?;
-    let mut collector = seats.pop().ok_or("two seats")?;
-    let begun = step(rt, alloc, &shared, &mut collector, begin);
-    assert!(rt; begun == Ok(StepReply::Begun));
-    let flipped = step(rt, alloc, &shared, &mut collector, Step::Flip);
-    assert!(rt; flipped == Ok(StepReply::Flipped { pairs: 0 }));
-    assert_eq!(rt; collector.receipts().len(), 2);
-    seats.push(collector)?;
-    expect_world(rt, shared, seats, 2);
-    Ok(())
+    let (shared, mutator, mut collector) = opened(rt, alloc);
+    let begun = (begin.unwrap_or(Step::Begin), StepReply::Begun);
+    expect_step(rt, alloc, &shared, &mut collector, begin, begun);
+    let flipped = (Step::Flip, StepReply::Flipped { pairs: 0 });
+    expect_step(rt, alloc, &shared, &mut collector, flip, flipped);
+    expect_events(rt, alloc, shared, mutator, collector, 2);
 }
 
 #[test]
-fn shared_step(rt: HostRuntime) -> Result<(), Fail> {
-    expect_steps(&rt, rt.alloc(), Step::Begin)
+fn shared_step(rt: HostRuntime) {
+    expect_steps(&rt, rt.alloc(), Some(Step::Begin), Some(Step::Flip));
 }
 
 #[test]
-fn shared_step_of_a_size(rt: HostRuntime) -> Result<(), Fail> {
-    expect_steps(&rt, rt.alloc(), Step::BeginSized(64))
+fn shared_step_of_a_size(rt: HostRuntime) {
+    expect_steps(
+        &rt,
+        rt.alloc(),
+        Some(Step::BeginSized(64)),
+        Some(Step::Flip),
+    );
 }
 
 #[test]
-fn shared_useful(rt: HostRuntime) -> Result<(), Fail> {
-    let alloc = rt.alloc();
-    let (shared, mut seats) = Shared::open(alloc, 32, 1, 1)?;
-    let mut collector = seats.pop().ok_or("two seats")?;
-    let begun = useful(&rt, alloc, &shared, &mut collector);
-    assert!(rt; begun == Ok((Step::Begin, StepReply::Begun)));
-    let flipped = useful(&rt, alloc, &shared, &mut collector);
-    assert!(rt; flipped == Ok((Step::Flip, StepReply::Flipped { pairs: 0 })));
-    assert_eq!(rt; collector.receipts().len(), 2);
-    seats.push(collector)?;
-    expect_world(&rt, shared, seats, 2);
-    Ok(())
+fn shared_useful(rt: HostRuntime) {
+    expect_steps(&rt, rt.alloc(), None, None);
 }
 
-#[test]
-fn shared_close(rt: HostRuntime) -> Result<(), Fail> {
-    let alloc = rt.alloc();
-    let (shared, mut seats) = Shared::open(alloc, 32, 1, 1)?;
-    let mut collector = seats.pop().ok_or("two seats")?;
+/// Returns a world with a begin and a flip, and its seats.
+fn flipped(rt: &(impl Threads + Wait + Abort + Sync), alloc: Global) -> (Shared, Vec<Seat>) {
+    let (shared, mut seats) = Shared::open(alloc, 32, 1, 1).expect(rt, "a world");
+    let mut collector = seats.pop().expect(rt, "two seats");
     for expected in [StepReply::Begun, StepReply::Flipped { pairs: 0 }] {
-        let made = shared.useful(&rt, &mut collector);
-        assert!(rt; made == Ok((collector_step(expected), expected)));
+        let made = shared.useful(rt, &mut collector);
+        expect(
+            rt,
+            matches!(made, Ok((_, reply)) if reply == expected),
+            "the reply",
+        );
     }
-    seats.push(collector)?;
-    fence(alloc)?;
+    seats.push(collector).expect(rt, "room");
+    (shared, seats)
+}
+
+#[test]
+fn shared_close(rt: HostRuntime) {
+    let alloc = rt.alloc();
+    let (shared, seats) = flipped(&rt, alloc);
+    fence(alloc);
     let closed = shared.close(seats);
-    fence(alloc)?;
+    fence(alloc);
     let mut world = match closed {
         Ok(world) => world,
         Err(fault) => {
-            retried(alloc)?;
-            assert_eq!(rt; fault.kind, CloseKind::NoMemory);
+            retried(alloc);
+            expect(&rt, fault.kind == CloseKind::NoMemory, "the fault");
             fault.world
         }
     };
     // Whether or not an allocation failed, the world has its whole history and its kept pair.
-    assert_eq!(rt; world.history().len(), 2);
-    assert!(rt; world.take_flip().is_some());
-    Ok(())
-}
-
-/// Returns the step that gets this reply.
-fn collector_step(reply: StepReply) -> Step {
-    match reply {
-        StepReply::Begun => Step::Begin,
-        _ => Step::Flip,
-    }
+    expect(&rt, world.history().len() == 2, "two events");
+    expect(&rt, world.take_flip().is_some(), "a kept pair");
 }
 
 /// A gate that lets every call pass.
@@ -274,17 +283,17 @@ fn threads_run_scripts(rt: HostRuntime) -> Result<(), Fail> {
     let _named = View::Nil;
     let alloc = rt.alloc();
     let scripts = scripts(alloc)?;
-    fence(alloc)?;
+    fence(alloc);
     let run = run_threads(&rt, alloc, 64, scripts, 40, &Open);
-    fence(alloc)?;
+    fence(alloc);
     match run {
-        Ok(world) => assert_eq!(rt; world.history().len(), 44),
+        Ok(world) => expect(&rt, world.history().len() == 44, "all events"),
         Err(fault) => {
-            retried(alloc)?;
+            retried(alloc);
             let allowed = fault == ThreadsFault::NotStarted
                 || fault == ThreadsFault::NoMemory
                 || fault == ThreadsFault::Close(CloseKind::NoMemory);
-            assert!(rt; allowed);
+            expect(&rt, allowed, "a fault that a failed allocation causes");
         }
     }
     Ok(())

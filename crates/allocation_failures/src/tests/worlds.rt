@@ -1,342 +1,310 @@
 //! Worlds: opening, commands and collector steps. If an allocation fails, the history does not have the event; after
 //! the retry it has the event once.
 
-ghost use Rattle.std.specs.Prelude.{◌≡◌, ◌<◌};
+ghost use Rattle.std.specs.Prelude.{◌≡◌, ◌<◌, ◌^◌};
 ghost use Rattle.gc_graph.specs.Limits.{most_words};
 ghost use Rattle.gc_plan.specs.Runs.{IsStepWithin};
+ghost use Rattle.gc_trace.specs.Grammar.{IsRecording};
+ghost use Rattle.gc_trace.specs.Views.{recording};
 
+use super::expecting::expect;
 use super::marks::{fence, retried};
 use super::texts::{BEFORE_BEGIN, BEFORE_FLIP, LOG_ACROSS_TWO_MUTATORS, WRITE_WHILE_SCANNING};
 use gc_copy::{Step, StepReply};
-use gc_graph::{MOST_MUTATORS, MOST_WORDS, NoMemory, Op, Reply, Slot, Source, View};
-use gc_trace::{read_trace, run_trace};
+use gc_graph::{MOST_MUTATORS, MOST_WORDS, NoMemory, Op, Slot, Source, View};
+use gc_trace::{Trace, read_trace, run_trace};
 use gc_world::{Event, World};
 use std::alloc::Global;
 use std::process::Abort;
-use std::test::Fail;
 use std::thread::Threads;
 
-/// Returns a world after the events of the text.
-fn world_after(alloc: Global, text: &[u8]) -> Result<World, Fail> {
-    let trace = read_trace(alloc, &mut Source::new(text))?;
-    Ok(run_trace(alloc, &trace)?)
+fn trace_of(rt: &impl Abort, alloc: Global, text: &[u8]) -> Trace
+    ensures { IsRecording (recording result) }
+{
+    read_trace(alloc, &mut Source::new(text)).expect(rt, "a trace")
 }
 
-fn mutate(
-    rt: &impl Abort,
-    alloc: Global,
-    world: &mut World,
-    m: u8,
-    op: &Op,
-) -> Result<Reply, NoMemory>
+#[test]
+fn world_open(rt: HostRuntime) {
+    let alloc = rt.alloc();
+    fence(alloc);
+    let mut made = World::open(alloc, 9, 2);
+    fence(alloc);
+    if made.is_err() {
+        retried(alloc);
+        made = World::open(alloc, 9, 2);
+    }
+    let world = made.expect(&rt, "a world");
+    expect(&rt, world.size() == 9 && world.mutators() == 2, "the space");
+    expect(&rt, world.history().is_empty(), "no event");
+}
+
+/// Performs a command. If an allocation fails, the history stays as long as it was.
+fn mutate(rt: &impl Abort, alloc: Global, world: &mut World, m: u8, op: &Op)
     requires { m < world.old.mutators }
     ensures { world.new.mutators ≡ world.old.mutators }
 {
     let count = world.history().len();
-    fence(alloc)?;
-    let answer = world.mutate(m, op);
-    fence(alloc)?;
-    match answer {
-        Ok(reply) => Ok(reply),
-        Err(NoMemory) => {
-            retried(alloc)?;
-            assert_eq!(rt; world.history().len(), count);
-            world.mutate(m, op)
-        }
+    fence(alloc);
+    let mut answer = world.mutate(m, op);
+    fence(alloc);
+    if answer.is_err() {
+        retried(alloc);
+        expect(rt, world.history().len() == count, "no event");
+        answer = world.mutate(m, op);
     }
-}
-
-fn collect(
-    rt: &impl Abort,
-    alloc: Global,
-    world: &mut World,
-    step: Step,
-) -> Result<StepReply, NoMemory>
-    requires { IsStepWithin most_words world.old.mutators step }
-    ensures { world.new.mutators ≡ world.old.mutators }
-{
-    let count = world.history().len();
-    let open = world.is_open();
-    fence(alloc)?;
-    let answer = world.collect(step);
-    fence(alloc)?;
-    match answer {
-        Ok(reply) => Ok(reply),
-        Err(NoMemory) => {
-            retried(alloc)?;
-            assert_eq!(rt; world.history().len(), count);
-            assert_eq!(rt; world.is_open(), open);
-            world.collect(step)
-        }
-    }
-}
-
-fn collect_par(
-    rt: &(impl Threads + Abort + Sync),
-    alloc: Global,
-    world: &mut World,
-    step: Step,
-) -> Result<StepReply, NoMemory>
-    requires { IsStepWithin most_words world.old.mutators step }
-    ensures { world.new.mutators ≡ world.old.mutators }
-{
-    let count = world.history().len();
-    let open = world.is_open();
-    fence(alloc)?;
-    let answer = world.collect_par(rt, step);
-    fence(alloc)?;
-    match answer {
-        Ok(reply) => Ok(reply),
-        Err(NoMemory) => {
-            retried(alloc)?;
-            assert_eq!(rt; world.history().len(), count);
-            assert_eq!(rt; world.is_open(), open);
-            world.collect_par(rt, step)
-        }
-    }
-}
-
-fn collect_useful(
-    rt: &(impl Threads + Abort + Sync),
-    alloc: Global,
-    world: &mut World,
-) -> Result<(Step, StepReply), NoMemory>
-    ensures { world.new.mutators ≡ world.old.mutators }
-{
-    let count = world.history().len();
-    let open = world.is_open();
-    fence(alloc)?;
-    let answer = world.collect_useful(rt);
-    fence(alloc)?;
-    match answer {
-        Ok(made) => Ok(made),
-        Err(NoMemory) => {
-            retried(alloc)?;
-            assert_eq!(rt; world.history().len(), count);
-            assert_eq!(rt; world.is_open(), open);
-            world.collect_useful(rt)
-        }
-    }
+    let _reply = answer.expect(rt, "a reply");
 }
 
 /// Performs one event of a trace. Only the allocations of commands are counted, so only they can fail.
-fn perform(rt: &impl Abort, alloc: Global, world: &mut World, event: &Event) -> Result<(), Fail> {
+fn perform(rt: &impl Abort, alloc: Global, world: &mut World, event: &Event) {
     match event {
         Event::Mutate { m, op } => {
             let m = *m;
-            if m >= world.mutators() {
-                return Err("mutator".into());
-            }
-            let _ = mutate(rt, alloc, world, m, op)?;
+            assert!(rt; m < world.mutators());
+            mutate(rt, alloc, world, m, op);
         }
         Event::Collect(step) => {
             let step = *step;
-            if !step.is_within(MOST_WORDS, world.mutators()) {
-                return Err("step".into());
-            }
-            let _ = world.collect(step)?;
+            assert!(rt; step.is_within(MOST_WORDS, world.mutators()));
+            let _reply = world.collect(step).expect(rt, "a step");
         }
     }
-    Ok(())
 }
 
-/// Performs the events of the text, and returns the world.
-fn world_by_events(rt: &impl Abort, alloc: Global, text: &[u8]) -> Result<World, Fail> {
-    let trace = read_trace(alloc, &mut Source::new(text))?;
-    if trace.size == 0
-        || trace.size > MOST_WORDS
-        || trace.mutators == 0
-        || trace.mutators > MOST_MUTATORS
-    {
-        return Err("space".into());
-    }
-    let mut world = World::open(alloc, trace.size, trace.mutators)?;
+/// Opens the world of a trace.
+fn opened(rt: &impl Abort, alloc: Global, trace: &Trace) -> World {
+    let size = trace.size;
+    let mutators = trace.mutators;
+    assert!(rt; size > 0 && size <= MOST_WORDS);
+    assert!(rt; mutators > 0 && mutators <= MOST_MUTATORS);
+    World::open(alloc, size, mutators).expect(rt, "a world")
+}
+
+/// Performs the events of a trace, and tests that the world has them all, with the replies that it has with ample memory.
+fn expect_events(rt: &impl Abort, alloc: Global, text: &[u8], events: usize) {
+    let trace = trace_of(rt, alloc, text);
+    let usual = run_trace(alloc, &trace).expect(rt, "a world");
+    let mut world = opened(rt, alloc, &trace);
     for event in &trace.events {
-        perform(rt, alloc, &mut world, event)?;
+        perform(rt, alloc, &mut world, event);
     }
-    Ok(world)
+    expect(rt, world.history().len() == events, "all events");
+    expect(rt, world.history() == usual.history(), "the usual replies");
 }
 
 #[test]
-fn world_open(rt: HostRuntime) -> Result<(), Fail> {
-    fence(rt.alloc())?;
-    let mut made = World::open(rt.alloc(), 9, 2);
-    fence(rt.alloc())?;
-    if made.is_err() {
-        retried(rt.alloc())?;
-        made = World::open(rt.alloc(), 9, 2);
-    }
-    let world = made?;
-    assert!(rt; world.size() == 9 && world.mutators() == 2 && world.history().is_empty());
-    Ok(())
+fn world_mutate_while_scanning(rt: HostRuntime) {
+    expect_events(&rt, rt.alloc(), WRITE_WHILE_SCANNING, 11);
 }
 
 #[test]
-fn world_mutate_while_scanning(rt: HostRuntime) -> Result<(), Fail> {
-    let usual = world_after(rt.alloc(), WRITE_WHILE_SCANNING)?;
-    let world = world_by_events(&rt, rt.alloc(), WRITE_WHILE_SCANNING)?;
-    assert_eq!(rt; world.history().len(), 11);
-    assert!(rt; world.history() == usual.history());
-    Ok(())
+fn world_mutate_across_logs(rt: HostRuntime) {
+    expect_events(&rt, rt.alloc(), LOG_ACROSS_TWO_MUTATORS, 15);
 }
 
-#[test]
-fn world_mutate_across_logs(rt: HostRuntime) -> Result<(), Fail> {
-    let usual = world_after(rt.alloc(), LOG_ACROSS_TWO_MUTATORS)?;
-    let world = world_by_events(&rt, rt.alloc(), LOG_ACROSS_TWO_MUTATORS)?;
-    assert_eq!(rt; world.history().len(), 15);
-    assert!(rt; world.history() == usual.history());
-    Ok(())
+/// How a collector step is asked for.
+#[derive(Clone, Copy)]
+enum Way {
+    Alone,
+    InThreads,
+    /// The world picks the step.
+    Useful,
 }
 
-#[test]
-fn world_collect_begin(rt: HostRuntime) -> Result<(), Fail> {
-    let mut world = world_after(rt.alloc(), BEFORE_BEGIN)?;
-    let begun = collect(&rt, rt.alloc(), &mut world, Step::Begin)?;
-    assert_eq!(rt; begun, StepReply::Begun);
-    assert!(rt; world.is_open() && world.history().len() == 3);
-    Ok(())
-}
-
-#[test]
-fn world_collect_par_begin(rt: HostRuntime) -> Result<(), Fail> {
-    let mut world = world_after(rt.alloc(), BEFORE_BEGIN)?;
-    let begun = collect_par(&rt, rt.alloc(), &mut world, Step::Begin)?;
-    assert_eq!(rt; begun, StepReply::Begun);
-    assert!(rt; world.is_open() && world.history().len() == 3);
-    Ok(())
-}
-
-#[test]
-fn world_collect_useful_begin(rt: HostRuntime) -> Result<(), Fail> {
-    let mut world = world_after(rt.alloc(), BEFORE_BEGIN)?;
-    let begun = collect_useful(&rt, rt.alloc(), &mut world)?;
-    assert!(rt; begun == (Step::Begin, StepReply::Begun));
-    assert!(rt; world.is_open() && world.history().len() == 3);
-    Ok(())
-}
-
-/// Tests that the world flipped in its tenth event and keeps the pair.
-fn expect_flip(rt: &impl Abort, mut world: World) {
-    assert!(rt; !world.is_open() && world.history().len() == 10);
-    match world.take_flip() {
-        Some(file) => assert_eq!(rt; file.new.roots.get(16).copied(), Some(2)),
-        None => panic!(rt; "no pair"),
+fn collected(
+    rt: &(impl Threads + Sync),
+    way: Way,
+    world: &mut World,
+    step: Step,
+) -> Result<(Step, StepReply), NoMemory>
+    requires { IsStepWithin most_words world.old.mutators step }
+    ensures { world.new.mutators ≡ world.old.mutators }
+{
+    match way {
+        Way::Alone => Ok((step, world.collect(step)?)),
+        Way::InThreads => Ok((step, world.collect_par(rt, step)?)),
+        Way::Useful => world.collect_useful(rt),
     }
 }
 
-#[test]
-fn world_collect_flip(rt: HostRuntime) -> Result<(), Fail> {
-    let mut world = world_after(rt.alloc(), BEFORE_FLIP)?;
-    let flipped = collect(&rt, rt.alloc(), &mut world, Step::Flip)?;
-    assert_eq!(rt; flipped, StepReply::Flipped { pairs: 1 });
-    expect_flip(&rt, world);
-    Ok(())
+/// Performs a collector step, and tests its reply. If an allocation fails, the history stays as long as it was, and an open
+/// collection stays open.
+fn expect_step(
+    rt: &(impl Threads + Abort + Sync),
+    alloc: Global,
+    way: Way,
+    world: &mut World,
+    step: Step,
+    reply: StepReply,
+)
+    requires { IsStepWithin most_words world.old.mutators step }
+{
+    let count = world.history().len();
+    let open = world.is_open();
+    fence(alloc);
+    let mut answer = collected(rt, way, world, step);
+    fence(alloc);
+    if answer.is_err() {
+        retried(alloc);
+        expect(rt, world.history().len() == count, "no event");
+        expect(rt, world.is_open() == open, "the same collection");
+        answer = collected(rt, way, world, step);
+    }
+    expect(rt, answer == Ok((step, reply)), "the reply");
+    expect(
+        rt,
+        world.history().len() == count.saturating_add(1),
+        "one event",
+    );
+}
+
+/// Begins a collection after two events.
+fn expect_begin(rt: &(impl Threads + Abort + Sync), alloc: Global, way: Way) {
+    let trace = trace_of(rt, alloc, BEFORE_BEGIN);
+    let mut world = run_trace(alloc, &trace).expect(rt, "a world");
+    expect_step(rt, alloc, way, &mut world, Step::Begin, StepReply::Begun);
+    expect(rt, world.is_open(), "an open collection");
+    expect(rt, world.history().len() == 3, "three events");
 }
 
 #[test]
-fn world_collect_par_flip(rt: HostRuntime) -> Result<(), Fail> {
-    let mut world = world_after(rt.alloc(), BEFORE_FLIP)?;
-    let flipped = collect_par(&rt, rt.alloc(), &mut world, Step::Flip)?;
-    assert_eq!(rt; flipped, StepReply::Flipped { pairs: 1 });
-    expect_flip(&rt, world);
-    Ok(())
+fn world_collect_begin(rt: HostRuntime) {
+    expect_begin(&rt, rt.alloc(), Way::Alone);
 }
 
 #[test]
-fn world_collect_useful_flip(rt: HostRuntime) -> Result<(), Fail> {
-    let mut world = world_after(rt.alloc(), BEFORE_FLIP)?;
-    let flipped = collect_useful(&rt, rt.alloc(), &mut world)?;
-    assert!(rt; flipped == (Step::Flip, StepReply::Flipped { pairs: 1 }));
-    expect_flip(&rt, world);
-    Ok(())
+fn world_collect_par_begin(rt: HostRuntime) {
+    expect_begin(&rt, rt.alloc(), Way::InThreads);
+}
+
+#[test]
+fn world_collect_useful_begin(rt: HostRuntime) {
+    expect_begin(&rt, rt.alloc(), Way::Useful);
+}
+
+/// Flips in the tenth event, and tests that the world keeps the pair.
+fn expect_flip(rt: &(impl Threads + Abort + Sync), alloc: Global, way: Way) {
+    let trace = trace_of(rt, alloc, BEFORE_FLIP);
+    let mut world = run_trace(alloc, &trace).expect(rt, "a world");
+    expect_step(
+        rt,
+        alloc,
+        way,
+        &mut world,
+        Step::Flip,
+        StepReply::Flipped { pairs: 1 },
+    );
+    expect(rt, !world.is_open(), "no open collection");
+    expect(rt, world.history().len() == 10, "ten events");
+    let file = world.take_flip().expect(rt, "a pair");
+    expect(rt, file.new.roots.get(16).copied() == Some(2), "a root");
+}
+
+#[test]
+fn world_collect_flip(rt: HostRuntime) {
+    expect_flip(&rt, rt.alloc(), Way::Alone);
+}
+
+#[test]
+fn world_collect_par_flip(rt: HostRuntime) {
+    expect_flip(&rt, rt.alloc(), Way::InThreads);
+}
+
+#[test]
+fn world_collect_useful_flip(rt: HostRuntime) {
+    expect_flip(&rt, rt.alloc(), Way::Useful);
 }
 
 /// Performs a command of the first mutator. No allocation fails.
-fn command(world: &mut World, op: &Op) -> Result<Reply, Fail> {
-    if world.mutators() == 0 {
-        return Err("mutator".into());
-    }
-    Ok(world.mutate(0, op)?)
+fn command(rt: &impl Abort, world: &mut World, op: &Op) {
+    assert!(rt; world.mutators() > 0);
+    let _reply = world.mutate(0, op).expect(rt, "a reply");
 }
 
-/// Returns a world with this many chained objects, 2,700 at most, that is ready to flip, after this many events.
-fn chain(
-    rt: &(impl Threads + Sync),
-    alloc: Global,
-    objects: u32,
-    events: usize,
-) -> Result<World, Fail> {
+/// Returns a world with this many chained objects, 2,700 at most.
+fn chain(rt: &impl Abort, alloc: Global, objects: u32) -> World {
     let _named = View::Nil;
-    let r0 = Slot::own(0).ok_or("slot")?;
-    let r1 = Slot::own(1).ok_or("slot")?;
-    let mut world = World::open(alloc, 8192, 1)?;
-    let new = Op::New {
-        d: r1,
-        kind: 0,
-        len: 1,
-    };
-    let put = Op::Put { s: r1, i: 0, t: r0 };
+    let r0 = Slot::own(0).expect(rt, "a slot");
+    let r1 = Slot::own(1).expect(rt, "a slot");
+    let link = [
+        Op::New {
+            d: r1,
+            kind: 0,
+            len: 1,
+        },
+        Op::Put { s: r1, i: 0, t: r0 },
+        Op::Move { d: r0, s: r1 },
+    ];
+    let mut world = World::open(alloc, 8192, 1).expect(rt, "a world");
     for _ in 0..objects {
-        let _ = command(&mut world, &new)?;
-        let _ = command(&mut world, &put)?;
-        let _ = command(&mut world, &Op::Move { d: r0, s: r1 })?;
+        for op in &link {
+            command(rt, &mut world, op);
+        }
     }
+    world
+}
+
+/// Performs the steps of a collection up to its flip, and then commands until the world has this many events.
+fn make_ready(rt: &(impl Threads + Abort + Sync), world: &mut World, events: usize) {
     for _ in 0..10000 {
         if world.useful_step() == Step::Flip {
             break;
         }
-        let _ = world.collect_useful(rt)?;
+        let _reply = world.collect_useful(rt).expect(rt, "a step");
     }
+    let look = Op::Look {
+        s: Slot::own(0).expect(rt, "a slot"),
+    };
     for _ in world.history().len()..events {
-        let _ = command(&mut world, &Op::Look { s: r0 })?;
+        command(rt, world, &look);
     }
-    Ok(world)
+}
+
+/// Flips a world with this many chained objects, after this many events.
+fn expect_long_flip(
+    rt: &(impl Threads + Abort + Sync),
+    alloc: Global,
+    way: Way,
+    objects: u32,
+    events: usize,
+) {
+    let mut world = chain(rt, alloc, objects);
+    make_ready(rt, &mut world, events);
+    expect(rt, world.history().len() == events, "so many events");
+    expect_step(
+        rt,
+        alloc,
+        way,
+        &mut world,
+        Step::Flip,
+        StepReply::Flipped { pairs: objects },
+    );
 }
 
 /// After 8,192 events the history has no room for one more.
 #[test]
-fn flip_of_1000_with_a_full_history(rt: HostRuntime) -> Result<(), Fail> {
-    let mut world = chain(&rt, rt.alloc(), 1000, 8192)?;
-    let flipped = collect(&rt, rt.alloc(), &mut world, Step::Flip)?;
-    assert_eq!(rt; flipped, StepReply::Flipped { pairs: 1000 });
-    assert_eq!(rt; world.history().len(), 8193);
-    Ok(())
+fn flip_of_1000_with_a_full_history(rt: HostRuntime) {
+    expect_long_flip(&rt, rt.alloc(), Way::Alone, 1000, 8192);
 }
 
 #[test]
-fn flip_of_1000_with_a_spare_place(rt: HostRuntime) -> Result<(), Fail> {
-    let mut world = chain(&rt, rt.alloc(), 1000, 8191)?;
-    let flipped = collect(&rt, rt.alloc(), &mut world, Step::Flip)?;
-    assert_eq!(rt; flipped, StepReply::Flipped { pairs: 1000 });
-    assert_eq!(rt; world.history().len(), 8192);
-    Ok(())
+fn flip_of_1000_with_a_spare_place(rt: HostRuntime) {
+    expect_long_flip(&rt, rt.alloc(), Way::Alone, 1000, 8191);
 }
 
 #[test]
-fn flip_of_1000_in_threads(rt: HostRuntime) -> Result<(), Fail> {
-    let mut world = chain(&rt, rt.alloc(), 1000, 8191)?;
-    let flipped = collect_par(&rt, rt.alloc(), &mut world, Step::Flip)?;
-    assert_eq!(rt; flipped, StepReply::Flipped { pairs: 1000 });
-    assert_eq!(rt; world.history().len(), 8192);
-    Ok(())
+fn flip_of_1000_in_threads(rt: HostRuntime) {
+    expect_long_flip(&rt, rt.alloc(), Way::InThreads, 1000, 8191);
 }
 
 /// With 2,048 pairs or more, the check asks for threads.
 #[test]
-fn flip_of_2500_in_threads(rt: HostRuntime) -> Result<(), Fail> {
-    let mut world = chain(&rt, rt.alloc(), 2500, 16383)?;
-    let flipped = collect_par(&rt, rt.alloc(), &mut world, Step::Flip)?;
-    assert_eq!(rt; flipped, StepReply::Flipped { pairs: 2500 });
-    assert_eq!(rt; world.history().len(), 16384);
-    Ok(())
+fn flip_of_2500_in_threads(rt: HostRuntime) {
+    expect_long_flip(&rt, rt.alloc(), Way::InThreads, 2500, 16383);
 }
 
 #[test]
-fn useful_flip_of_2500_in_threads(rt: HostRuntime) -> Result<(), Fail> {
-    let mut world = chain(&rt, rt.alloc(), 2500, 16383)?;
-    let flipped = collect_useful(&rt, rt.alloc(), &mut world)?;
-    assert!(rt; flipped == (Step::Flip, StepReply::Flipped { pairs: 2500 }));
-    assert_eq!(rt; world.history().len(), 16384);
-    Ok(())
+fn useful_flip_of_2500_in_threads(rt: HostRuntime) {
+    expect_long_flip(&rt, rt.alloc(), Way::Useful, 2500, 16383);
 }
