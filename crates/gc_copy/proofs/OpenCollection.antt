@@ -105,7 +105,7 @@ links_placed heap epoch c r is start links none a there = ⊎_elim
     let found : replica_of (record c { replicas = c.replicas ++ r ∷ [] }) a ≡ replica_of c a = find_push_other (λ (q : Replica). q.original == a) c.replicas r f in
     let old : is_start heap.space.words a ≡ true = sym (start_kept heap (record heap { space = with_word heap.space (link_place r.original) (mark_of epoch + r.place) }) a (linked_heap heap r.original (mark_of epoch + r.place) is start)) ∙ there in
     subst (λ l. Leads epoch (place_in (record c { replicas = c.replicas ++ r ∷ [] }) a) l) (sym (link_written_beside heap.space r.original (mark_of epoch + r.place) a (eqb-false r.original a f)))
-        (subst (λ (o : Option Replica). Leads epoch (option_map (λ (r : Replica). r.place) o) (link_at heap.space.words a)) (sym found) (links a old)))
+    (subst (λ (o : Option Replica). Leads epoch (option_map (λ (r : Replica). r.place) o) (link_at heap.space.words a)) (sym found) (links a old)))
     (cases_Bool (r.original == a))
 
 can_place_replica : (s : SpaceWords) (b : Block) → IsSpace s → IsBlock b → HasRoomFor s b.header.len → CanPlaceBlock s (replica_block b)

@@ -42,8 +42,8 @@ opening_turns AtFlip = record { along = false; each = 1; since = 0; checks = no_
 opening_turns (Along whole_each) = record { along = true; each = whole_each; since = 0; checks = no_checks }
 
 -- the next flip checks both spaces whole
-abbrev pub is_due : Turns → Bool
-is_due t = not t.along || (nat_lt 0 t.each && nat_le t.each (t.since + 1))
+abbrev pub checks_whole : Turns → Bool
+checks_whole t = not t.along || (nat_lt 0 t.each && nat_le t.each (t.since + 1))
 
 -- one flip more, which was checked whole or not; a count stays at the largest number of 64 bits
 abbrev pub counted : Bool → FlipChecks → FlipChecks
@@ -54,7 +54,7 @@ abbrev pub since_after : Bool → ℕ → ℕ
 since_after whole n = if whole then 0 else min (n + 1) (2 ^ 32 - 1)
 
 abbrev pub flipped_turns : Turns → Turns
-flipped_turns t = record t { since = since_after (is_due t) t.since; checks = counted (is_due t) t.checks }
+flipped_turns t = record t { since = since_after (checks_whole t) t.since; checks = counted (checks_whole t) t.checks }
 
 -- those after a step that gets this reply
 abbrev pub turns_after : Turns → StepReply → Turns
@@ -92,7 +92,7 @@ rooms_given_up words r = if words == 0 then r else if r.spare == 0 then record r
 
 -- a flip that checks both spaces whole frees what leaves first
 abbrev pub rooms_flipped : Beside → Rooms
-rooms_flipped b = if is_due b.turns then record b.rooms { leaving = 0 } else b.rooms
+rooms_flipped b = if checks_whole b.turns then record b.rooms { leaving = 0 } else b.rooms
 
 -- The rooms after a step that gets this reply, where the last flip left so many words.
 abbrev pub HasStepped : Step → StepReply → Live → ℕ → Rooms → Type 0

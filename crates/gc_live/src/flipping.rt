@@ -19,7 +19,7 @@ impl LiveHeap {
     ghost use Rattle.gc_along.specs.Claims.{Accepts};
     ghost use Rattle.gc_along.specs.Tables.{Tables};
     ghost use Rattle.gc_copy.specs.Words.{held_in};
-    ghost use Rattle.gc_live.specs.Live.{is_due, rooms_flipped, turns_after};
+    ghost use Rattle.gc_live.specs.Live.{checks_whole, rooms_flipped, turns_after};
     ghost use Rattle.gc_core.specs.Flip.{FlipsOnly, FormerAfter, HasAccepted, IsCertified, PassesIfReady, left_by};
     ghost use Rattle.gc_core.specs.Checking.{finding, HoldsOnly};
 
@@ -44,12 +44,12 @@ impl LiveHeap {
         requires { C.can_check checker.now }
         ensures step { IfOk result (λ flip. collect self.old.core Step.Flip ≡ (flip.reply, self.new.core)) }
         // Both spaces are checked whole exactly where that is due.
-        ensures due { IfOk result (λ flip. flip.whole ≡ is_due self.old.beside.turns) }
+        ensures due { IfOk result (λ flip. flip.whole ≡ checks_whole self.old.beside.turns) }
         ensures turns { IfOk result (λ flip. self.new.beside.turns ≡ turns_after self.old.beside.turns flip.reply) }
         // Then a flip happens only if this checker said yes.
-        ensures asked { IsTrue (is_due self.old.beside.turns) → IfOk result (λ flip. FlipsOnly (C.says_yes checker.now) self.old.core flip.reply) }
+        ensures asked { IsTrue (checks_whole self.old.beside.turns) → IfOk result (λ flip. FlipsOnly (C.says_yes checker.now) self.old.core flip.reply) }
         // Otherwise it happens only if tables of a standing checker accept both images.
-        ensures along { IsFalse (is_due self.old.beside.turns) → IfOk result (λ flip.
+        ensures along { IsFalse (checks_whole self.old.beside.turns) → IfOk result (λ flip.
             (t : Tables) × FlipsOnly (HasAccepted (Accepts t)) self.old.core flip.reply) }
         // A flip happens only if the certificate holds.
         ensures sound { IfOk result (λ flip. FlipsOnly IsCertified self.old.core flip.reply) }
@@ -61,7 +61,7 @@ impl LiveHeap {
         ensures refused { OnErr result ((self.new.core ≡ self.old.core) × (self.new.beside.turns ≡ self.old.beside.turns)) }
         // Only the flip of a ready collection allocates, and only where a check of both spaces whole is due.
         ensures allocates { OnErr result (Allocates self.old.core Step.Flip) }
-        ensures memory { OnErr result (IsTrue (is_due self.old.beside.turns)) }
+        ensures memory { OnErr result (IsTrue (checks_whole self.old.beside.turns)) }
         ensures mutators { self.new.core.mutators ≡ self.old.core.mutators }
     {
         self.inner.is_sound();

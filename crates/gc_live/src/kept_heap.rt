@@ -12,7 +12,7 @@ ghost use Rattle.gc_along.specs.Claims.{Accepts};
 ghost use Rattle.gc_along.specs.Tables.{Tables};
 ghost use Rattle.gc_copy.specs.Words.{held_in};
 ghost use Rattle.gc_core.specs.Flip.{FlipsOnly, FormerAfter, HasAccepted, IsCertified, PassesIfReady, HasRoomIfLarge};
-ghost use Rattle.gc_live.specs.Live.{HasBegun, HasStepped, WereRefused, former_words, is_due, opening_beside, rooms_flipped, rooms_touched, turns_after};
+ghost use Rattle.gc_live.specs.Live.{HasBegun, HasStepped, WereRefused, former_words, checks_whole, opening_beside, rooms_flipped, rooms_touched, turns_after};
 
 use crate::checking::Checking;
 use crate::live_heap::LiveHeap;
@@ -117,9 +117,9 @@ impl KeptHeap {
         ensures passes { IfOk result (PassesIfReady self.old.live.core) }
         ensures never_refused { IfOk result (λ reply. reply ≢ StepReply.Refused) }
         // Where a check of both spaces whole is due, a flip happens only if this checker said yes.
-        ensures asked { IsTrue (is_due self.old.live.beside.turns) → IfOk result (FlipsOnly (C.says_yes checker.now) self.old.live.core) }
+        ensures asked { IsTrue (checks_whole self.old.live.beside.turns) → IfOk result (FlipsOnly (C.says_yes checker.now) self.old.live.core) }
         // Otherwise it happens only if tables of a standing checker accept both images.
-        ensures along { IsFalse (is_due self.old.live.beside.turns) → IfOk result (λ reply.
+        ensures along { IsFalse (checks_whole self.old.live.beside.turns) → IfOk result (λ reply.
             (t : Tables) × FlipsOnly (HasAccepted (Accepts t)) self.old.live.core reply) }
         ensures turns { IfOk result (λ reply. self.new.live.beside.turns ≡ turns_after self.old.live.beside.turns reply) }
         ensures rooms { self.new.live.beside.rooms ≡ rooms_flipped self.old.live.beside }
@@ -129,7 +129,7 @@ impl KeptHeap {
             × (self.new.live.beside.turns ≡ self.old.live.beside.turns)) }
         // Only the flip of a ready collection allocates, and only where a check of both spaces whole is due.
         ensures allocates { OnErr result (Allocates self.old.live.core Step.Flip) }
-        ensures memory { OnErr result (IsTrue (is_due self.old.live.beside.turns)) }
+        ensures memory { OnErr result (IsTrue (checks_whole self.old.live.beside.turns)) }
     {
         let AlongFlip { reply, room, .. } = self.live.flip(checker)?;
         if let StepReply::Flipped { .. } = reply {
@@ -153,13 +153,13 @@ impl KeptHeap {
         ensures refused { OnErr result ((self.new.live.core ≡ self.old.live.core) × (self.new.former ≡ self.old.former)
             × (self.new.live.beside.turns ≡ self.old.live.beside.turns)) }
         ensures allocates { OnErr result (Allocates self.old.live.core step) }
-        ensures asked { IsTrue (is_due self.old.live.beside.turns) → IfOk result (FlipsOnly (C.says_yes checker.now) self.old.live.core) }
+        ensures asked { IsTrue (checks_whole self.old.live.beside.turns) → IfOk result (FlipsOnly (C.says_yes checker.now) self.old.live.core) }
         ensures turns { IfOk result (λ reply. self.new.live.beside.turns ≡ turns_after self.old.live.beside.turns reply) }
         ensures rooms { IfOk result (λ reply. HasStepped step reply self.old.live (held_in self.old.former) self.new.live.beside.rooms) }
         ensures freed { OnErr result (WereRefused self.old.live.beside.rooms self.new.live.beside.rooms) }
         // A flip frees what leaves where a check of both spaces whole is due, and no other memory, also if memory was refused.
         ensures flipped { step ≡ Step.Flip → self.new.live.beside.rooms ≡ rooms_flipped self.old.live.beside }
-        ensures due { step ≡ Step.Flip → OnErr result (IsTrue (is_due self.old.live.beside.turns)) }
+        ensures due { step ≡ Step.Flip → OnErr result (IsTrue (checks_whole self.old.live.beside.turns)) }
     {
         match step {
             Step::Begin => self.begin(),

@@ -65,9 +65,9 @@ HasAddress (Ref a) = (1 ≤ a) × (a < largest_space)
 HasAddress v = ⊤
 
 -- if the value is a reference, a space of this size has its address
-abbrev pub IsWithin : ℕ → Value → Type 0
-IsWithin size (Ref a) = (1 ≤ a) × (a < size)
-IsWithin size v = ⊤
+abbrev pub HasAddressWithin : ℕ → Value → Type 0
+HasAddressWithin size (Ref a) = (1 ≤ a) × (a < size)
+HasAddressWithin size v = ⊤
 
 -- the value of a field word of an object with this header: each word of a raw object is a number
 abbrev pub field_value : Header → ℕ → Value

@@ -2,7 +2,7 @@ ghost use Rattle.std.specs.Prelude.{◌≡◌, ◌≤◌, Some, IfSome, IsTrue};
 ghost use Rattle.std.specs.Option.{option_map};
 ghost use Rattle.gc_graph.specs.Graph.{name_of};
 ghost use Rattle.gc_graph.specs.Limits.{most_words};
-ghost use Rattle.gc_words.specs.Word.{is_value, value_of, read_value, read_value_within, word_of, HasAddress, IsWithin};
+ghost use Rattle.gc_words.specs.Word.{is_value, value_of, read_value, read_value_within, word_of, HasAddress, HasAddressWithin};
 ghost use Rattle.gc_words.specs.Views.{graph_value};
 
 use gc_graph::{MOST_WORDS, Number};
@@ -95,7 +95,7 @@ pub fn encode(value: Value) -> u64
     requires { HasAddress (graph_value value) }
     ensures word { result ≡ word_of (graph_value value) }
     ensures read_back { read_value result ≡ Some (graph_value value) }
-    ensures decoded { IsWithin most_words (graph_value value) → read_value_within most_words result ≡ Some (graph_value value) }
+    ensures decoded { HasAddressWithin most_words (graph_value value) → read_value_within most_words result ≡ Some (graph_value value) }
 {
     match value {
         Value::Nil => 0,

@@ -1,6 +1,6 @@
 -- What paced work leaves in the logs, and that it stays ahead of the mutators, but for the steps that it owes.
 use Rattle.std.proofs.lemmas.Grind.{common_steps}
-use Rattle.std.proofs.Common.{◌≡◌, ◌⊎◌, ℕ, ◌+◌, ◌≤◌, true, false, Some, None, ap, ◌∙◌, subst, arith}
+use Rattle.std.proofs.Common.{◌≡◌, ◌⊎◌, ℕ, ◌+◌, ◌-◌, ◌≤◌, true, false, Some, None, ap, ◌∙◌, subst, arith}
 use Rattle.std.specs.Prelude.{min, IsTrue, IfSome}
 use Rattle.std.proofs.lemmas.Bool.{and_from, or_left, or_right, le-leb, cases_lt}
 use Rattle.gc_plan.specs.State.{State}

@@ -1,6 +1,6 @@
 -- The memory that waits after useful steps: only the first opens a collection, and only the last flips.
 use Rattle.std.proofs.lemmas.Grind.{common_steps}
-use Rattle.std.proofs.Common.{◌≡◌, ◌⊎◌, ⊎_elim, inl, inr, ℕ, zero, suc, ◌-◌, Bool, true, false, cond, List, [], ◌∷◌, length, Option, Some, None, is_some, Result, Ok, Err, refl, sym, ap, ◌∙◌, subst, arith}
+use Rattle.std.proofs.Common.{◌≡◌, ◌⊎◌, ⊎_elim, inl, inr, ℕ, zero, suc, ◌-◌, Bool, true, false, cond, List, [], ◌∷◌, length, Option, Some, None, is_some, Result, Ok, Err, ◌<◌, ◌≤◌, refl, sym, ap, ◌∙◌, subst, arith}
 use Rattle.std.specs.Prelude.{IfOk, IfSome, IsSome, OnErr, IsTrue, ⊤}
 use Rattle.std.specs.Option.{option_map, option_map_or, unwrap_or}
 use Rattle.std.proofs.lemmas.Bool.{cond_both}
@@ -12,7 +12,7 @@ use Rattle.gc_plan.specs.declared.step.Step.TheVariants as steps
 use Rattle.gc_plan.specs.declared.step.StepReply.{StepReply}
 use Rattle.gc_plan.specs.declared.step.StepReply.TheVariants.{Begun, Clean, NotReady, Refused, Flipped}
 use Rattle.gc_core.specs.CollectedHeap.{Allocates}
-use Rattle.gc_live.specs.Live.{Live, Beside, Rooms, Turns, HasBegun, HasStepped, is_due, rooms_flipped, rooms_given_back, with_rooms}
+use Rattle.gc_live.specs.Live.{Live, Beside, Rooms, Turns, HasBegun, HasStepped, checks_whole, rooms_flipped, rooms_given_back, with_rooms}
 use Rattle.gcflip_heap_c.specs.Internal.Leaving.{LeavesLess}
 use Rattle.gcflip_heap_c.specs.Internal.Waiting.{HasLacked, HaveRun, is_flip}
 use Rattle.gcflip_heap_c.specs.Replies.{step_reply_in_c}
@@ -142,8 +142,8 @@ rooms_reply size h now left t new step (Ok reply) same is made less stepped =
 rooms_reply size h now left t new step (Err e) same is made less stepped = tt
 
 -- while a collection is open, a useful step that lacks memory is a flip that has to check both spaces whole
-lacks : (size : Option ℕ) (h : Live) (new : Rooms) (c : Collection) (step : Step) → IsUseful step → Allocates h.core step → (step ≡ steps.Flip → IsTrue (is_due h.beside.turns)) → (step ≡ steps.Flip → new ≡ rooms_flipped h.beside)
-    → IsTrue (is_due h.beside.turns) × Allocates h.core steps.Flip × (new ≡ record h.beside.rooms { leaving = 0 })
+lacks : (size : Option ℕ) (h : Live) (new : Rooms) (c : Collection) (step : Step) → IsUseful step → Allocates h.core step → (step ≡ steps.Flip → IsTrue (checks_whole h.beside.turns)) → (step ≡ steps.Flip → new ≡ rooms_flipped h.beside)
+    → IsTrue (checks_whole h.beside.turns) × Allocates h.core steps.Flip × (new ≡ record h.beside.rooms { leaving = 0 })
 lacks size h new c steps.Begin k allocates due flipped = absurd k
 lacks size h new c (steps.BeginSized n) k allocates due flipped = absurd k
 lacks size h new c steps.Roots k allocates due flipped = absurd allocates
@@ -153,16 +153,16 @@ lacks size h new c steps.Flip k allocates due flipped = (due refl, allocates, fl
 lacks size h new c steps.Drop k allocates due flipped = absurd k
 
 pub lacks_reply : {E : Type 0} (size : Option ℕ) (h now : Live) (new : Rooms) (step : Step) (r : Result StepReply E) → now ≡ h → step ≡ sized_step size h.core → OnErr r (Allocates now.core step)
-    → (step ≡ steps.Flip → OnErr r (IsTrue (is_due now.beside.turns))) → (step ≡ steps.Flip → new ≡ rooms_flipped now.beside) → OnErr r (HasLacked h new)
+    → (step ≡ steps.Flip → OnErr r (IsTrue (checks_whole now.beside.turns))) → (step ≡ steps.Flip → new ≡ rooms_flipped now.beside) → OnErr r (HasLacked h new)
 lacks_reply size h now new step (Ok reply) same is allocates due flipped = tt
 lacks_reply size h now new step (Err e) same is allocates due flipped = from h.core.collection refl
   where
-    from : (o : Option Collection) → h.core.collection ≡ o → IfSome o (λ _. IsTrue (is_due h.beside.turns) × Allocates h.core steps.Flip × (new ≡ record h.beside.rooms { leaving = 0 }))
+    from : (o : Option Collection) → h.core.collection ≡ o → IfSome o (λ _. IsTrue (checks_whole h.beside.turns) × Allocates h.core steps.Flip × (new ≡ record h.beside.rooms { leaving = 0 }))
     from None e = tt
     from (Some c) e =
         let step_is : step ≡ useful_with h.core (Some c) = is ∙ ap (λ o. with_size size (useful_with h.core o)) e ∙ sized_open size h.core c in
         lacks size h new c step (subst IsUseful (sym step_is) (useful_open h.core c)) (subst (λ (x : Live). Allocates x.core step) same allocates)
-        (λ flip. subst (λ (x : Live). IsTrue (is_due x.beside.turns)) same (due flip)) (λ flip. flipped flip ∙ ap (λ (x : Live). rooms_flipped x.beside) same)
+        (λ flip. subst (λ (x : Live). IsTrue (checks_whole x.beside.turns)) same (due flip)) (λ flip. flipped flip ∙ ap (λ (x : Live). rooms_flipped x.beside) same)
 
 -- ---- many steps
 
@@ -184,24 +184,38 @@ longer_rooms size s t b bt left other reply next new is_open on turns before aft
 
 -- a flip that was refused memory behind these steps
 lacked : (size : Option ℕ) (s : State) (t : Live) (c : Collection) (b : Beside) (left : ℕ) (new : Rooms) → t.core.collection ≡ Some c → t.beside.turns ≡ b.turns → HaveRooms size s left b false t.beside.rooms → HasLacked t new
-    → IsTrue (is_due b.turns) × Allocates t.core steps.Flip × HaveRooms size s left b true new
-lacked size s t c b left new is_open turns before lacks =
-    let h = subst (λ (o : Option Collection). IfSome o (λ _. IsTrue (is_due t.beside.turns) × Allocates t.core steps.Flip × (new ≡ record t.beside.rooms { leaving = 0 }))) is_open lacks in
-    let due : IsTrue (is_due b.turns) = subst (λ (x : Turns). IsTrue (is_due x)) turns h.0 in
+    → IsTrue (checks_whole b.turns) × Allocates t.core steps.Flip × HaveRooms size s left b true new
+lacked size s t c b left new is_open turns before none =
+    let h = subst (λ (o : Option Collection). IfSome o (λ _. IsTrue (checks_whole t.beside.turns) × Allocates t.core steps.Flip × (new ≡ record t.beside.rooms { leaving = 0 }))) is_open none in
+    let due : IsTrue (checks_whole b.turns) = subst (λ (x : Turns). IsTrue (checks_whole x)) turns h.0 in
     (due, h.1, (before.0, before.1, h.2 ∙ ap (λ (r : Rooms). record r { leaving = 0 }) before.2 ∙ sym (ap (λ x. cond x (record before.0 { leaving = 0 }) before.0) due)))
 
+quiet_on : (reply : StepReply) → goes_on reply ≡ true → is_flip reply ≡ false
+quiet_on reply on = grind (arith, common_steps)
+
 pub lacked_rooms : (size : Option ℕ) (s : State) (t : Live) (b : Beside) (left : ℕ) (reply : StepReply) (new : Rooms) → IsOpen t.core → goes_on reply ≡ true → t.beside.turns ≡ b.turns → HaveRooms size s left b (is_flip reply) t.beside.rooms
-    → HasLacked t new → IsTrue (is_due b.turns) × Allocates t.core steps.Flip × HaveRooms size s left b true new
-lacked_rooms size s t b left reply new is_open on turns before lacks = grind (arith, common_steps, lacked)
+    → HasLacked t new → IsTrue (checks_whole b.turns) × Allocates t.core steps.Flip × HaveRooms size s left b true new
+lacked_rooms size s t b left reply new is_open on turns before none = from t.core.collection refl
+  where
+    from : (o : Option Collection) → t.core.collection ≡ o → IsTrue (checks_whole b.turns) × Allocates t.core steps.Flip × HaveRooms size s left b true new
+    from None e = absurd (let no : false ≡ true = ap is_some (sym e) ∙ is_open in cc)
+    from (Some c) e = lacked size s t c b left new e turns (subst (λ flips. HaveRooms size s left b flips t.beside.rooms) (quiet_on reply on) before) none
 
 -- the report tells whether the last step was a flip
 flip_told : (work : GcflipWork) (reply : StepReply) → work.last ≡ step_reply_in_c reply → is_flip reply ≡ has_flipped work
 flip_told work reply last = grind (arith, common_steps)
 
 -- what work leaves once it gave a slice back
-pub worked : (size : Option ℕ) (s : State) (left : ℕ) (b : Beside) (work : GcflipWork) (reply : StepReply) (before new : Live) → work.last ≡ step_reply_in_c reply → HaveRun size s before.core left b (is_flip reply) before.beside.rooms
+pub worked : (size : Option ℕ) (s : State) (left : ℕ) (b : Beside) (work : GcflipWork) (reply : StepReply) (before new : Live) → 1 ≤ work.steps → work.last ≡ step_reply_in_c reply → HaveRun size s before.core left b (is_flip reply) before.beside.rooms
     → new ≡ with_rooms before (rooms_given_back before.beside.rooms) → HaveWorked size s new.core left b work new.beside.rooms
-worked size s left b work reply before new last run is = subst (λ (x : Live). HaveWorked size s x.core left b work x.beside.rooms) (sym is) (⊎_elim
-    (λ rooms. (is_flip reply, before.beside.rooms, inl (flip_told work reply last), rooms, refl))
-    (λ lacks. (true, before.beside.rooms, inr (lacks.0, lacks.1), lacks.2, refl))
-    run)
+worked size s left b work reply before new steps last run is = subst (λ (x : Live). HaveWorked size s x.core left b work x.beside.rooms) (sym is) (record {
+  none = λ zero. absurd (omega arith);
+  some = λ _. ⊎_elim
+      (λ rooms. (is_flip reply, before.beside.rooms, inl (flip_told work reply last), rooms, refl))
+      (λ lacks. (true, before.beside.rooms, inr (lacks.0, lacks.1), lacks.2, refl))
+      run;
+})
+
+-- no work
+pub unworked : (h : Live) (left : ℕ) (work : GcflipWork) → work.steps ≡ 0 → HaveWorked None h.core h.core left h.beside work h.beside.rooms
+unworked h left work zero = record { none = λ _. refl; some = λ steps. absurd (omega arith) }

@@ -11,7 +11,7 @@ use Rattle.gc_plan.specs.declared.step.StepReply.{StepReply}
 use Rattle.gc_plan.specs.declared.step.StepReply.TheVariants.{NoRoom, Refused, Flipped}
 use Rattle.gc_core.specs.CollectedHeap.{Allocates}
 use Rattle.gc_core.specs.Flip.{FlipsOnly, IsCertified, PassesIfReady, HasRoomIfLarge}
-use Rattle.gc_live.specs.Live.{Turns, Rooms, Beside, HasBegun, WereRefused, is_due, flipped_turns, rooms_flipped, rooms_given_back}
+use Rattle.gc_live.specs.Live.{Turns, Rooms, Beside, HasBegun, WereRefused, checks_whole, flipped_turns, rooms_flipped, rooms_given_back}
 use Rattle.gcflip_heap_c.specs.Replies.{step_reply_in_c, pairs_after}
 use Rattle.gcflip_heap_c.specs.declared.work.GcflipWork.{GcflipWork}
 
@@ -58,11 +58,12 @@ abbrev pub HaveRooms : Option ℕ → State → ℕ → Beside → Bool → Room
 HaveRooms size s left b flips new =
     (opened : Rooms) × HaveOpened size s left b.rooms opened × (new ≡ (if flips then rooms_flipped (record b { rooms = opened }) else opened))
 
--- The rooms after work that leads to the state t, which gives one slice back after its steps. A flip that has to check both spaces whole frees
--- what leaves even where it is refused memory.
-abbrev pub HaveWorked : Option ℕ → State → State → ℕ → Beside → GcflipWork → Rooms → Type 0
-HaveWorked size s t left b work new =
-    (flips : Bool) × (before : Rooms) × ((flips ≡ has_flipped work) ⊎ (IsTrue (is_due b.turns) × Allocates t Flip)) × HaveRooms size s left b flips before × (new ≡ rooms_given_back before)
+-- The rooms after work that leads to the state t: as before if it performed no step. Otherwise it gives one slice back after its steps. A flip
+-- that has to check both spaces whole frees what leaves even where it is refused memory.
+pub record HaveWorked (size : Option ℕ) (s t : State) (left : ℕ) (b : Beside) (work : GcflipWork) (new : Rooms) : Type 0 where
+  pub none : work.steps ≡ 0 → new ≡ b.rooms
+  pub some : 1 ≤ work.steps → (flips : Bool) × (before : Rooms) × ((flips ≡ has_flipped work) ⊎ (IsTrue (checks_whole b.turns) × Allocates t Flip))
+      × HaveRooms size s left b flips before × (new ≡ rooms_given_back before)
 
 -- the rooms after a refused call: where memory was refused, some may have been freed
 abbrev pub RefusedRooms : ℕ → Rooms → Rooms → Type 0

@@ -222,13 +222,14 @@ fn pace_after(pace: &GcflipPace, due: u32, work: &GcflipWork, counts: &GcflipCou
 }
 
 /// Performs this many useful steps, or none. Ends once it performed `words` steps, or replicas took `words` words, unless that is 0.
+#[tactic(auto, using(crate::proofs::Waiting::unworked))]
 fn work_due(heap: &mut KeptHeap, words: u32, due: u32) -> Result<GcflipWork, NoMemory>
     ensures none { due ≡ 0 → IfOk result (λ work. (heap.new ≡ heap.old) × (work ≡ paces.no_work)) }
     ensures some { 1 ≤ due → words ≡ 0 → IfOk result (IsWork None None due heap.old.live.core heap.new.live.core) }
     ensures within { 1 ≤ due → 1 ≤ words → IfOk result (IsWork None (Some words) (min due words) heap.old.live.core heap.new.live.core) }
     ensures former { IfOk result (λ work. LeavesAfter None work.steps heap.old.live.core heap.old.former heap.new.former) }
     ensures turns { IfOk result (λ work. heap.new.live.beside.turns ≡ turns_after_work heap.old.live.beside.turns work) }
-    ensures rooms { 1 ≤ due → IfOk result (λ work. HaveWorked None heap.old.live.core heap.new.live.core (held_in heap.old.former) heap.old.live.beside work heap.new.live.beside.rooms) }
+    ensures rooms { IfOk result (λ work. HaveWorked None heap.old.live.core heap.new.live.core (held_in heap.old.former) heap.old.live.beside work heap.new.live.beside.rooms) }
     ensures refused { OnErr result (IsAsBefore heap.old heap.new) }
     ensures freed { OnErr result (WereRefused heap.old.live.beside.rooms heap.new.live.beside.rooms) }
     ensures allocates { OnErr result (Allocates heap.old.live.core (useful_step heap.old.live.core)) }
@@ -252,9 +253,7 @@ fn work_at_pace(heap: &mut KeptHeap, pace: &GcflipPace, wanted: u32) -> Result<P
     ensures done { IfOk result (λ made. IsPacedWork wanted heap.old.live.core heap.new.live.core pace.now made.pace made.work) }
     ensures former { IfOk result (λ made. LeavesAfter None made.work.steps heap.old.live.core heap.old.former heap.new.former) }
     ensures turns { IfOk result (λ made. heap.new.live.beside.turns ≡ turns_after_work heap.old.live.beside.turns made.work) }
-    ensures rooms { IfOk result (λ made. 1 ≤ made.work.steps
-        → HaveWorked None heap.old.live.core heap.new.live.core (held_in heap.old.former) heap.old.live.beside made.work heap.new.live.beside.rooms) }
-    ensures idle { IfOk result (λ made. made.work.steps ≡ 0 → heap.new.live.beside ≡ heap.old.live.beside) }
+    ensures rooms { IfOk result (λ made. HaveWorked None heap.old.live.core heap.new.live.core (held_in heap.old.former) heap.old.live.beside made.work heap.new.live.beside.rooms) }
     ensures refused { OnErr result (IsAsBefore heap.old heap.new) }
     ensures freed { OnErr result (WereRefused heap.old.live.beside.rooms heap.new.live.beside.rooms) }
     ensures allocates { OnErr result (Allocates heap.old.live.core (useful_step heap.old.live.core)) }
@@ -283,9 +282,7 @@ pub extern "C" fn gcflip_heap_work_paced(
     ensures former { result ≡ done → IsSomeAnd heap.old.state (λ s. LeavesAfter None work.new.steps s heap.old.former heap.new.former) }
     ensures kept { 1 ≤ result → heap.new.former ≡ heap.old.former }
     ensures turns { result ≡ done → heap.new.beside.turns ≡ turns_after_work heap.old.beside.turns work.new }
-    ensures rooms { result ≡ done → 1 ≤ work.new.steps
-        → IsSomeAnd heap.old.state (λ s. IsSomeAnd heap.new.state (λ t. HaveWorked None s t (held_in heap.old.former) heap.old.beside work.new heap.new.beside.rooms)) }
-    ensures idle { result ≡ done → work.new.steps ≡ 0 → heap.new.beside ≡ heap.old.beside }
+    ensures rooms { result ≡ done → IsSomeAnd heap.old.state (λ s. IsSomeAnd heap.new.state (λ t. HaveWorked None s t (held_in heap.old.former) heap.old.beside work.new heap.new.beside.rooms)) }
     ensures uncounted { 1 ≤ result → heap.new.beside.turns ≡ heap.old.beside.turns }
     ensures freed { 1 ≤ result → RefusedRooms result heap.old.beside.rooms heap.new.beside.rooms }
 {

@@ -8,7 +8,7 @@ ghost use Rattle.gc_core.specs.CollectedHeap.{Allocates};
 ghost use Rattle.gc_plan.specs.declared.step.StepReply.{StepReply};
 ghost use Rattle.gc_copy.specs.Words.{held_in};
 ghost use Rattle.gc_core.specs.Flip.{FormerAfter, HasRoomIfLarge, new_size};
-ghost use Rattle.gc_live.specs.Live.{HasBegun, is_due, rooms_flipped, rooms_given_up, turns_after};
+ghost use Rattle.gc_live.specs.Live.{HasBegun, checks_whole, rooms_flipped, rooms_given_up, turns_after};
 ghost use Rattle.gcflip_heap_c.specs.Answers.{closed_handle};
 ghost use Rattle.gcflip_heap_c.specs.Commands.{IsCall, Replies};
 ghost use Rattle.gcflip_heap_c.specs.Steps.{IsStepCall, ShowsReply, step_in_c};
@@ -175,7 +175,7 @@ pub extern "C" fn gcflip_heap_step_flip(heap: &mut GcflipHeap, pairs: &mut u32) 
     // It is counted as checked whole if that was due.
     ensures turns { ¬ IsRefusal result → IsSomeAnd heap.old.state (λ s. heap.new.beside.turns ≡ turns_after heap.old.beside.turns (collect s Step.Flip).0) }
     ensures rooms { IsSome heap.old.state → heap.new.beside.rooms ≡ rooms_flipped heap.old.beside }
-    ensures due { result ≡ no_memory → IsTrue (is_due heap.old.beside.turns) }
+    ensures due { result ≡ no_memory → IsTrue (checks_whole heap.old.beside.turns) }
     ensures uncounted { IsRefusal result → heap.new.beside.turns ≡ heap.old.beside.turns }
     ensures kept { IsRefusal result → heap.new.former ≡ heap.old.former }
     ensures silent { IsRefusal result → pairs.new ≡ pairs.old }

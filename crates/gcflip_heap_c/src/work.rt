@@ -14,7 +14,7 @@ ghost use Rattle.gcflip_heap_c.specs.Commands.{IsCall};
 ghost use Rattle.gcflip_heap_c.specs.Replies.{step_reply_in_c, pairs_after};
 ghost use Rattle.gc_core.specs.Flip.{FormerAfter};
 ghost use Rattle.gc_copy.specs.Words.{held_in};
-ghost use Rattle.gc_live.specs.Live.{WereRefused, is_due, turns_after};
+ghost use Rattle.gc_live.specs.Live.{WereRefused, turns_after};
 ghost use Rattle.gcflip_heap_c.specs.Former.{LeavesAfter};
 ghost use Rattle.gcflip_heap_c.specs.Internal.Unchanged.{IsAsBefore};
 ghost use Rattle.gcflip_heap_c.specs.Work.{IsSoundReply, IsRun, IsWork, HaveRooms, HaveWorked, RefusedRooms, turns_after_work, with_size, sized_step, after_useful, useful_reply, goes_on, end_in, end_after};
@@ -250,7 +250,6 @@ fn report(heap: &LiveHeap, start: u32, run: Run) -> GcflipWork
 }
 
 /// Performs useful steps and reports them.
-#[tactic(auto, using(crate::proofs::Waiting::worked))]
 pub(crate) fn work_on(
     heap: &mut KeptHeap,
     size: Option<u32>,

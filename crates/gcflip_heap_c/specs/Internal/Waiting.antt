@@ -5,7 +5,7 @@ use Rattle.gc_plan.specs.declared.step.Step.TheVariants.{Flip}
 use Rattle.gc_plan.specs.declared.step.StepReply.{StepReply}
 use Rattle.gc_plan.specs.declared.step.StepReply.TheVariants.{Flipped}
 use Rattle.gc_core.specs.CollectedHeap.{Allocates}
-use Rattle.gc_live.specs.Live.{Live, Rooms, Beside, is_due}
+use Rattle.gc_live.specs.Live.{Live, Rooms, Beside, checks_whole}
 use Rattle.gcflip_heap_c.specs.Work.{HaveRooms}
 
 -- the step with this reply is a flip
@@ -15,8 +15,8 @@ is_flip reply = false
 
 -- If a collection is open, the useful step lacked memory because it is a flip that has to check both spaces whole. Nothing leaves any more.
 abbrev pub HasLacked : Live → Rooms → Type 0
-HasLacked h new = IfSome h.core.collection (λ _. IsTrue (is_due h.beside.turns) × Allocates h.core Flip × (new ≡ record h.beside.rooms { leaving = 0 }))
+HasLacked h new = IfSome h.core.collection (λ _. IsTrue (checks_whole h.beside.turns) × Allocates h.core Flip × (new ≡ record h.beside.rooms { leaving = 0 }))
 
 -- the rooms after useful steps that lead to the state t: a flip behind them may have been refused memory
 abbrev pub HaveRun : Option ℕ → State → State → ℕ → Beside → Bool → Rooms → Type 0
-HaveRun size s t left b flips new = HaveRooms size s left b flips new ⊎ (IsTrue (is_due b.turns) × Allocates t Flip × HaveRooms size s left b true new)
+HaveRun size s t left b flips new = HaveRooms size s left b flips new ⊎ (IsTrue (checks_whole b.turns) × Allocates t Flip × HaveRooms size s left b true new)

@@ -4,6 +4,9 @@ use Rattle.gc_live.specs.Live.{Turns, turns_after}
 use Rattle.gcflip_heap_c.specs.Work.{IsRun}
 use Rattle.gcflip_heap_c.specs.Former.{LeavesAfter}
 use Rattle.gcflip_heap_c.proofs.FormerRuns.{first_left, longer_left}
+use Rattle.gc_plan.specs.State.{State}
+use Rattle.gc_plan.specs.declared.step.Step.TheVariants.{Flip}
+use Rattle.gc_core.specs.CollectedHeap.{Allocates}
 use Rattle.gc_copy.specs.Words.{held_in}
 use Rattle.gcflip_heap_c.proofs.Flips.{turns_going}
 use Rattle.gcflip_heap_c.proofs.Waiting.{run_open, longer_rooms, lacked_rooms}
@@ -42,9 +45,10 @@ loop-steps-preserved g c =
 pub returns-in-Err-clause-rooms : goal.returns-in-Err-clause-rooms
 returns-in-Err-clause-rooms g c =
     let on = sym c.can_go_on.ensures ∙ c.if-not-can_go_on.false in
-    inr (lacked_rooms c.args.size c.args.heap.now.live.core c.loop-steps.heap.live c.args.heap.now.live.beside (held_in c.args.heap.now.former) c.loop-steps.reply c.perform-in-loop-steps.new.heap.live.beside.rooms
+    let lacks = lacked_rooms c.args.size c.args.heap.now.live.core c.loop-steps.heap.live c.args.heap.now.live.beside (held_in c.args.heap.now.former) c.loop-steps.reply c.perform-in-loop-steps.new.heap.live.beside.rooms
     (run_open c.args.size c.loop-steps.steps c.args.heap.now.live.core c.loop-steps.heap.live.core c.loop-steps.reply c.loop-steps.invariant.0 on) on
-    (c.loop-steps.invariant.3 ∙ turns_going c.args.heap.now.live.beside.turns c.loop-steps.reply on) c.loop-steps.invariant.4 c.in-Err.ensures.lacked)
+    (c.loop-steps.invariant.3 ∙ turns_going c.args.heap.now.live.beside.turns c.loop-steps.reply on) c.loop-steps.invariant.4 c.in-Err.ensures.lacked in
+    inr (lacks.0, subst (λ (s : State). Allocates s Flip) (sym c.in-Err.ensures.refused.core) lacks.1, lacks.2)
 
 pub returns-clause-run : goal.returns-clause-run
 returns-clause-run g c =

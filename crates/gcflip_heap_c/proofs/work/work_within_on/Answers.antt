@@ -36,4 +36,4 @@ returns-clause-turns c = ap (λ (h : Live). h.beside.turns) c.give_back.ensures 
 pub returns-clause-rooms : goal.returns-clause-rooms
 returns-clause-rooms c =
     worked None c.args.heap.now.live.core (held_in c.args.heap.now.former) c.args.heap.now.live.beside c.report-work.result c.in_ok-run.run'.reply c.useful_steps.new.heap.live c.give_back.new.self
-    c.report-work.ensures.last c.in_ok-run.ensures.rooms c.give_back.ensures
+    (omega (arith, c.in_ok-run.ensures.run.some, c.report-work.ensures.steps)) c.report-work.ensures.last c.in_ok-run.ensures.rooms c.give_back.ensures

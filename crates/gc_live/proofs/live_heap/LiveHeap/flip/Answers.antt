@@ -18,7 +18,7 @@ use Rattle.gc_along.specs.Tables.{Tables, IsKept, watch_of}
 use Rattle.gc_beside.specs.Stays.{GoesAlong}
 use Rattle.gc_beside.proofs.Public.{IsLive, IsNeverLost, GoesBeside}
 use Rattle.gc_plan.specs.declared.step.StepReply.TheVariants.{Flipped}
-use Rattle.gc_live.specs.Live.{Live, Turns, flipped_turns, is_due, turns_after}
+use Rattle.gc_live.specs.Live.{Live, Turns, flipped_turns, checks_whole, turns_after}
 use Rattle.gc_live.proofs.Lasts.{both_flipped, both_unflipped, sure_if_ready}
 use Rattle.gc_live.proofs.live_heap.LiveHeap.flip.Given as given
 use Rattle.gc_live.proofs.live_heap.LiveHeap.flip.Goals as goal
@@ -89,12 +89,12 @@ flips : (t : Turns) (reply : StepReply) (n : ℕ) → reply ≡ Flipped n → tu
 flips t reply n is = ap (turns_after t) is
 
 -- what the call found is what contracts see
-whole_is : (g : given.Over) (c : Joined-flip g) → c.if-not-self.whole ≡ is_due c.args.self.now.beside.turns
+whole_is : (g : given.Over) (c : Joined-flip g) → c.if-not-self.whole ≡ checks_whole c.args.self.now.beside.turns
 whole_is g c =
     let x : Bool = nat_lt 0 c.self.inside.turn.each && nat_le c.self.inside.turn.each (c.self.inside.turn.since + 1) in
     elim c.if-not-self.branch [
-      | then-not-self w ↦ w.whole-is ∙ due_then c.self.inside.along x w.if-not-self.true ∙ ap (λ (h : Live). is_due h.beside.turns) c.self.view_is
-      | else-not-self w ↦ w.whole-is ∙ w.is_due-whole.ensures ∙ sym (due_else c.self.inside.along x w.if-not-self.false) ∙ ap (λ (h : Live). is_due h.beside.turns) c.self.view_is
+      | then-not-self w ↦ w.whole-is ∙ due_then c.self.inside.along x w.if-not-self.true ∙ ap (λ (h : Live). checks_whole h.beside.turns) c.self.view_is
+      | else-not-self w ↦ w.whole-is ∙ w.is_due-whole.ensures ∙ sym (due_else c.self.inside.along x w.if-not-self.false) ∙ ap (λ (h : Live). checks_whole h.beside.turns) c.self.view_is
     ]
 
 -- where no whole check is due, the standing checker goes along and is sure
@@ -115,7 +115,7 @@ returns-clause-due g c = ⊎_elim
 
 pub returns-clause-turns : goal.returns-clause-turns
 returns-clause-turns g c =
-    let due : c.in_ok-flip.flip.whole ≡ is_due c.args.self.now.beside.turns = returns-clause-due g c in
+    let due : c.in_ok-flip.flip.whole ≡ checks_whole c.args.self.now.beside.turns = returns-clause-due g c in
     let view = ap (λ (h : Live). h.beside.turns) c.self.view_is in
     grind (arith, common_steps, flips, unflipped)
 
@@ -123,12 +123,12 @@ pub returns-clause-along : goal.returns-clause-along
 returns-clause-along g c not_due = (c.self.inside.watch, weaker_said c.self.inside.watch c.args.self.now.core c.in_ok-flip.flip.reply (subst (λ (h : Live). FlipsOnly (HasAccepted (Said c.self.inside.watch)) h.core c.in_ok-flip.flip.reply) c.self.view_is (c.in_ok-flip.ensures.along (returns-clause-due g c ∙ not_due))))
 
 pub returns-in_err-flip-clause-memory : goal.returns-in_err-flip-clause-memory
-returns-in_err-flip-clause-memory g c = on_err c.from_residual.result (IsTrue (is_due c.args.self.now.beside.turns)) (
+returns-in_err-flip-clause-memory g c = on_err c.from_residual.result (IsTrue (checks_whole c.args.self.now.beside.turns)) (
     let x : Bool = nat_lt 0 c.self.inside.turn.each && nat_le c.self.inside.turn.each (c.self.inside.turn.since + 1) in
     elim c.if-not-self.branch [
-      | then-not-self w ↦ sym (ap (λ (h : Live). is_due h.beside.turns) c.self.view_is) ∙ sym (due_then c.self.inside.along x w.if-not-self.true) ∙ ap not w.if-not-self.true
+      | then-not-self w ↦ sym (ap (λ (h : Live). checks_whole h.beside.turns) c.self.view_is) ∙ sym (due_then c.self.inside.along x w.if-not-self.true) ∙ ap not w.if-not-self.true
       | else-not-self w ↦ ⊎_elim
-          (λ whole. sym (ap (λ (h : Live). is_due h.beside.turns) c.self.view_is) ∙ due_else c.self.inside.along x w.if-not-self.false ∙ sym w.is_due-whole.ensures ∙ sym w.whole-is ∙ whole)
+          (λ whole. sym (ap (λ (h : Live). checks_whole h.beside.turns) c.self.view_is) ∙ due_else c.self.inside.along x w.if-not-self.false ∙ sym w.is_due-whole.ensures ∙ sym w.whole-is ∙ whole)
           (λ none. absurd (c.in_err-flip.ensures.alone none (is_sure c.self.inside.along c.self.inside.inner c.self.inside.watch c.is_sound.ensures.heap c.is_sound.ensures.open (w.if-not-self.false) c.self.invariant)))
           (cases_Bool c.if-not-self.whole)
     ])
