@@ -1,21 +1,23 @@
-"""Tests of the documents: what they cite exists, what they quote is in the code, and the commands that they show print what the
-documents say. Each must-fail edit can be applied."""
+"""Tests of the documents that need nothing built: what they cite exists, and what they quote is in the code. Each must-fail edit can be applied.
+
+What needs the program, the library or a verdict is in documents_built."""
 import collections
+import contextlib
+import functools
 import glob
+import importlib.machinery
+import importlib.util
+import io
 import os
 import re
-import shutil
-import subprocess
-import sys
 
-from prover.axioms import PRODUCTS, counts_in, lines_to_keep, row_of, verdict_of
+from prover.axioms import PRODUCTS, counts_in, lines_to_keep
 from prover.crates import CRATES, TOP, crates_listed
-from prover.doors import faults, imports_of, public_for_nobody, rows
+from prover.doors import faults, imports_of, passed_on, public_for_nobody
 from prover.edits import BadEdit, Edit, edits_of
 from prover.meanings import unlisted
 
-from .c_builds import library
-from .harness import Skipped, addresses_numbered
+from .harness import Skipped
 
 SOURCES = (".rt", ".antt", ".edit", ".py", ".c", ".txt")
 WORD = re.compile(r"[A-Za-z_]\w{3,}")
@@ -58,8 +60,13 @@ def blocks(document, language):
     return found
 
 
+@functools.lru_cache(maxsize=None)
 def sources():
-    """Yields the paths of all sources of the repository, with their texts."""
+    """Returns the paths of all sources of the repository, with their texts. Reads them once."""
+    return list(sources_below_top())
+
+
+def sources_below_top():
     for folder in ("crates", "tests", "bench", "bindings", "examples", "tools"):
         for path, folders, names in os.walk(os.path.join(TOP, folder)):
             folders[:] = [name for name in folders if name not in ("out", "__pycache__")]
@@ -160,6 +167,7 @@ def files(_program, _folder):
 
 # ---- clauses
 
+@functools.lru_cache(maxsize=None)
 def contracts_of(crate):
     """Returns the clauses of each function of a crate by the function's name. Functions with the same name share an entry."""
     found = {}
@@ -292,6 +300,11 @@ def edits_in(line):
         yield re.findall(r"`(\w+)`", quoted), listed.split(", ")
 
 
+@functools.lru_cache(maxsize=None)
+def edit_named(crate, name):
+    return Edit(crate, name)
+
+
 def found_in(edits, crates_named):
     """Returns the pairs of a crate and an edit of these names that exist."""
     return {(crate, edit) for crate in crates_named for edit in edits if edit + ".edit" in edits_of(crate)}
@@ -308,7 +321,7 @@ def undated(line, in_ci):
 
 def unrefused(line, found):
     """Yields the clauses and calls of a row at which the files of its edits, given with their crates, do not say that they are refused."""
-    tried = [Edit(crate, edit + ".edit") for crate, edit in found]
+    tried = [edit_named(crate, edit + ".edit") for crate, edit in found]
     refused = {(function.split("::")[-1], clause) for edit in tried for _, function, clause in edit.places}
     for calls, clauses_named in CLAUSES_OF.findall(line):
         functions = [name.split("::")[-1] for name in re.findall(r"`([\w:]+)`", calls)]
@@ -475,7 +488,7 @@ def doors(_program, _folder):
     """Crates cite other crates' proofs and internal definitions through proofs/Public.antt alone, which passes on nothing that no crate cites. A lemma is public
     only for another file."""
     yield "doors", "; ".join(list(faults())[:10]) or None
-    yield "crates with a door", None if list(rows()) else "none"
+    yield "crates with a door", None if any(map(passed_on, crates_listed())) else "none"
     for text, wanted in IMPORTS:
         found = list(imports_of("gc_heap", text))
         yield "imports in %r" % text, None if found == wanted else "found %s" % found
@@ -624,24 +637,8 @@ def compiling_line(document):
     return (found.group(0).strip(), found.group(2)) if found else (None, None)
 
 
-def run_of_c(document, folder):
-    """Runs the document's line that compiles and starts a program, with the library as it is now, and compares what it prints with the only block
-    of text. Addresses of the machine may differ."""
-    line, _ = compiling_line(document)
-    built = library(folder) if line else None
-    if built is None:
-        return Skipped("there is no library") if line else "there is no line that compiles a program"
-    line = line.replace("bindings/c/out/libgcflip.a", built.archive()[0]).replace("bindings/c", os.path.join(TOP, "bindings", "c"))
-    ran = subprocess.run(["bash", "-c", line], cwd=folder, stdout=subprocess.PIPE, stderr=subprocess.STDOUT)
-    shown = ["\n".join(block) + "\n" for block in blocks(document, "text")]
-    same = [addresses_numbered(ran.stdout)] == [addresses_numbered(text.encode()) for text in shown]
-    return None if same and ran.returncode == 0 else "status %d, printed %r, but %r is shown" % (ran.returncode, ran.stdout, shown)
-
-
-def c_of_readme(_program, folder):
-    """Runs README's line that compiles and starts a program, and compares what it prints with the block of text behind the line. The line
-    compiles the program whose code README shows."""
-    yield "C of README.md runs", run_of_c("README.md", folder)
+def c_of_readme(_program, _folder):
+    """Checks that the program which README's line compiles has the code that README shows."""
     source = compiling_line("README.md")[1]
     code = " ".join(text_of(source).split()) if source else ""
     missing = [piece[:60] for block in blocks("README.md", "c") for piece in pieces(block) if piece not in code]
@@ -674,8 +671,8 @@ def wrong_in_adapter(shown, lines):
         yield "the blocks do not show the adapter in order, from: %s" % differing
 
 
-def adapter_shown(_program, folder):
-    """Checks that docs/CERTIFY.md shows its adapter line for line, says how many lines it has, and shows what it prints."""
+def adapter_shown(_program, _folder):
+    """Checks that docs/CERTIFY.md shows its adapter line for line, and says how many lines it has."""
     shown, source = blocks(CERTIFY, "c"), compiling_line(CERTIFY)[1]
     if source is None:
         yield "the adapter of %s" % CERTIFY, "there is no line that compiles it"
@@ -689,7 +686,6 @@ def adapter_shown(_program, folder):
     changed = [block[:-1] + [block[-1] + " "] if number == begun else block for number, block in enumerate(shown)]
     for what, other in [("changed", changed), ("left out", shown[:begun] + shown[begun + 1:]), ("in another order", shown[:begun] + shown[:begun - 1:-1])]:
         yield "a block that is %s is found" % what, None if list(wrong_in_adapter(other, lines)) else "it is not"
-    yield "the adapter of %s runs" % CERTIFY, run_of_c(CERTIFY, folder)
 
 
 # What README's first screen has, in this order, and how many lines it is.
@@ -722,27 +718,6 @@ def shown_commands(document):
                 output.append(line)
 
 
-def without_program(command, program):
-    """Returns the command to run, with the program under test instead of the built one."""
-    return command.replace("crates/gcflip/out/gcflip", program)
-
-
-def wrong_output(command, output, program):
-    """Returns why a command does not print what a document shows, or None."""
-    if " rt " in command and shutil.which("rt") is None:
-        return Skipped("there is no rt on the path")
-    found = subprocess.run(["bash", "-c", without_program(command, program)], cwd=TOP, stdout=subprocess.PIPE,
-                           stderr=subprocess.PIPE, timeout=600)
-    printed = found.stdout.decode("utf-8", "replace")
-    return None if printed == output else "printed %r, but %r is shown" % (printed, output)
-
-
-def commands(program, _folder):
-    for document in documents():
-        for command, output in shown_commands(document):
-            yield "%s: %s" % (document, command), wrong_output(command, output, program)
-
-
 def commands_of_tables(_program, _folder):
     """Skips the commands of README that take too long, and checks that README still shows them."""
     shown = text_of("README.md")
@@ -752,10 +727,22 @@ def commands_of_tables(_program, _folder):
 
 # ---- definitions
 
+@functools.lru_cache(maxsize=None)
+def definitions_tool():
+    """Returns tools/definitions as a module, which reads the definitions once for all its runs."""
+    loader = importlib.machinery.SourceFileLoader("definitions_tool", os.path.join(TOP, "tools", "definitions"))
+    tool = importlib.util.module_from_spec(importlib.util.spec_from_loader(loader.name, loader))
+    loader.exec_module(tool)
+    return tool
+
+
+@functools.lru_cache(maxsize=None)
 def printed_by_definitions(*words):
     """Runs tools/definitions, and returns its status and its output."""
-    found = subprocess.run([sys.executable, os.path.join(TOP, "tools", "definitions"), *words], stdout=subprocess.PIPE)
-    return found.returncode, found.stdout.decode()
+    out = io.StringIO()
+    with contextlib.redirect_stdout(out):
+        status = definitions_tool().main(list(words))
+    return status, out.getvalue()
 
 
 def definitions(_program, _folder):
@@ -892,12 +879,8 @@ logic=proved functions=7 axioms=5 target=x86-64 sum=0
 
 
 def axioms(_program, _folder):
-    """Compares the table of docs/TRUST.md with what the verdicts of the products rest on."""
-    shown = text_of("docs/TRUST.md")
-    for name in PRODUCTS:
-        counts, why = verdict_of(name)
-        yield "axioms of %s" % name, why or (None if row_of(name, counts) in shown else "docs/TRUST.md has no row %s" % row_of(name, counts))
-    rows = re.findall(r"(?m)^\| `(\w+)`, [^|]* \| \d+ \| [^|]* \|$", shown)
+    """Checks that the table of docs/TRUST.md has a row for each product, and that a verdict is read rightly."""
+    rows = re.findall(r"(?m)^\| `(\w+)`, [^|]* \| \d+ \| [^|]* \|$", text_of("docs/TRUST.md"))
     yield "products of docs/TRUST.md", None if rows == list(PRODUCTS) else "they are %s" % rows
     lines = "\n".join(lines_to_keep(PRINTED)) + "\n"
     for old, new, wanted in [("", "", ({"libc": 4, "os": 1}, None)), ("(4 of", "(3 of", "its axioms are"), ("logic=proved", "logic=not-proved", "it has no verdict"),
@@ -915,7 +898,7 @@ def meanings(_program, _folder):
 def why_not_applied(crate, name):
     """Returns why a must-fail edit cannot be applied, or None."""
     try:
-        Edit(crate, name).texts_in(os.path.join(CRATES, crate))
+        edit_named(crate, name).texts_in(os.path.join(CRATES, crate))
     except BadEdit as why:
         return str(why)
     return None
@@ -927,4 +910,4 @@ def applied_edits(_program, _folder):
             yield "edit %s/%s" % (crate, name), why_not_applied(crate, name)
 
 
-GROUPS = [names, words, files, memory_answers, names_of_calls, old_names, edits, edits_in_ci, crates_tried, hand_tried, doors, preambles, first_lines, meanings, applied_edits, quotes, names_in_c, outputs_in_c, c_of_readme, adapter_shown, first_screen, commands, commands_of_tables, definitions, counts, products, architecture, glossary, told_again, axioms]
+GROUPS = [names, words, files, memory_answers, names_of_calls, old_names, edits, edits_in_ci, crates_tried, hand_tried, doors, preambles, first_lines, meanings, applied_edits, quotes, names_in_c, outputs_in_c, c_of_readme, adapter_shown, first_screen, commands_of_tables, definitions, counts, products, architecture, glossary, told_again, axioms]

@@ -1,4 +1,5 @@
 """The crates of this repository, and the prover's arguments for one of them."""
+import functools
 import os
 import subprocess
 
@@ -20,8 +21,9 @@ class Crate:
         return "src/main.rt" if os.path.exists(os.path.join(self.folder, "src", "main.rt")) else "src/lib.rt"
 
 
+@functools.lru_cache(maxsize=None)
 def crates_listed():
-    """Returns the crates of crates.txt, by their names."""
+    """Returns the crates of crates.txt, by their names. Reads the file once."""
     with open(os.path.join(TOP, "crates.txt"), encoding="utf-8") as lines:
         listed = [Crate(line) for line in (line.partition("#")[0].strip() for line in lines) if line]
     return {crate.name: crate for crate in listed}

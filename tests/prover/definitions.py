@@ -1,4 +1,5 @@
 """The definitions in `specs/`: those that public contracts reach, directly or through other definitions."""
+import functools
 import os
 import re
 
@@ -96,6 +97,7 @@ def module_of(path, crate):
     return "Rattle.%s.specs.%s" % (crate, inner.replace(os.sep, "."))
 
 
+@functools.lru_cache(maxsize=None)
 def read_all(crates):
     """Returns all definitions by (module, name), and by their constructors, with the imports of their files."""
     known, imports = {}, {}

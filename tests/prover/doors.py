@@ -46,12 +46,18 @@ def names_in(row):
     return [name.strip().partition(" as ")[0] for name in row.split(",")]
 
 
+def paths_in(text):
+    """Returns the lemmas in a source's attributes: the crate, the module and the name of each."""
+    # Most sources have none, and to look for the words alone is much faster.
+    return PATH.findall(text) if "::proofs::" in text or "::specs::Internal::" in text else []
+
+
 def imports_of(crate, text):
     """Yields each import from behind another crate's door: the crate, the module, and the names, or None if it is the module's own."""
     listed = crates_listed()
     found = [(other, module, names_in(row)) for _, other, module, row in USE.findall(text)]
     found += [(other, module, None) for other, module in WHOLE.findall(text)]
-    found += [(other, module.replace("::", "."), [name]) for other, module, name in PATH.findall(text)]
+    found += [(other, module.replace("::", "."), [name]) for other, module, name in paths_in(text)]
     for other, module, names in found:
         if other != crate and other in listed and not OF_A_TYPE.search(module):
             yield other, module, names
@@ -82,7 +88,7 @@ def imported_within(crate, texts):
     for text in texts:
         found |= {(module, name) for _, other, module, row in USE.findall(text) if other == crate for name in names_in(row)}
         found |= {(module, name) for other, module in WHOLE.findall(text) if other == crate for name in NAME.findall(text)}
-        found |= {(module.replace("::", "."), name) for other, module, name in PATH.findall(text) if other == "crate"}
+        found |= {(module.replace("::", "."), name) for other, module, name in paths_in(text) if other == "crate"}
     return found
 
 

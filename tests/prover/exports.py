@@ -68,6 +68,8 @@ class Code:
         self.known, self.definition_imports = known, definition_imports
         self.types = {}
         self.files = {}
+        # What each exported function, each type and each definition names, once it was asked for.
+        self.named = {}
         for crate in sorted(os.listdir(CRATES)):
             for path in files_below(os.path.join(CRATES, crate, "src"), ".rt"):
                 inner = os.path.relpath(path, os.path.join(CRATES, crate))
@@ -126,18 +128,28 @@ class Code:
         for name in sorted(part.types):
             yield "type", self.type_named(part, name)
 
+    def named_by_exports(self, crate):
+        """Returns the exported functions of a crate, and the nodes that each names."""
+        if ("exports", crate) not in self.named:
+            self.named["exports", crate] = [(name, list(self.nodes_of(part))) for name, part in self.exported(crate)]
+        return self.named["exports", crate]
+
+    def named_by(self, node):
+        """Returns the nodes that a type or a definition names."""
+        if node not in self.named:
+            kind, key = node
+            self.named[node] = list(self.nodes_of(self.types[key]) if kind == "type" else
+                                    self.nodes_in("\n".join(self.known[key].lines), *self.definition_imports[key[0]], key[0]))
+        return self.named[node]
+
     def reached_by(self, crates, left_out=()):
         """Returns the definitions that the contracts of the exported functions of these crates reach, without the functions of these names.
         Worked rows do not count."""
-        queue = [node for crate in crates for name, part in self.exported(crate) if name not in left_out for node in self.nodes_of(part)]
+        queue = [node for crate in crates for name, nodes in self.named_by_exports(crate) if name not in left_out for node in nodes]
         reached = set()
         while queue:
-            kind, key = node = queue.pop()
-            if key is None or node in reached:
-                continue
-            reached.add(node)
-            if kind == "type":
-                queue += self.nodes_of(self.types[key])
-            else:
-                queue += self.nodes_in("\n".join(self.known[key].lines), *self.definition_imports[key[0]], key[0])
+            node = queue.pop()
+            if node[1] is not None and node not in reached:
+                reached.add(node)
+                queue += self.named_by(node)
         return {key for kind, key in reached if kind == "definition" and not key[0].endswith("Rows")}

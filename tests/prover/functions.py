@@ -1,5 +1,9 @@
 """The functions of a source file, with their names as the prover has them, and the clauses of their contracts."""
+import functools
 import re
+
+# How many texts are kept with what was found in them: edits and rows ask for the same files again and again.
+KEPT = 256
 
 HEAD = re.compile(r"""(?m)^(?: *(?://|#\[).*\n)* *(?:pub(?:\([^)]*\))? )?(?:(?:(?:const|unsafe|extern "C") )*fn (\w+)|(?:const|struct|enum|trait|impl)\b[^\n{]*)""")
 IMPL = re.compile(r"impl(?:<[^>]*>)? *(?:(?:\w+::)*(\w+(?:<\w+>)?) for )?(\w+)")
@@ -30,6 +34,7 @@ class Item:
         return folder.split("/")[-len(self.tail()):] == self.tail()
 
 
+@functools.lru_cache(maxsize=KEPT)
 def items_of(path, text):
     """Returns the items of a source file, in order. Each begins with its comments and attributes, and ends where the next one begins."""
     heads, owner, found = list(HEAD.finditer(text)), "", []
@@ -62,6 +67,7 @@ def contract_of(text, item):
     return lines[clauses[0]:openings[0] if openings else len(lines)]
 
 
+@functools.lru_cache(maxsize=KEPT)
 def contracts_of(path, text):
     """Returns the contract of each function of a source file by its owner and name, the ghost members of the types, and the imports of
     definitions, which say what the words of clauses mean."""
