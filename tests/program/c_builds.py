@@ -7,7 +7,7 @@ import os
 import shutil
 import subprocess
 
-from .harness import Outcome, file_of
+from .harness import Outcome, file_of, skip
 
 TOP = os.path.join(os.path.dirname(os.path.abspath(__file__)), "..", "..")
 SOURCES = os.path.join(TOP, "tests", "c")
@@ -19,10 +19,6 @@ WARNINGS = ["-Wall", "-Wextra", "-Wpedantic", "-Werror"]
 SANITIZERS = ["-g", "-fsanitize=address,undefined", "-fno-sanitize-recover=all"]
 # Runs a program, and ends it with status 99 if it reads what was never written, or loses a block.
 VALGRIND = ["valgrind", "-q", "--error-exitcode=99", "--leak-check=full"]
-
-
-def skip(what, why):
-    print("SKIPPED %s: %s" % (what, why), flush=True)
 
 
 def done(words, timeout=SECONDS, **more):

@@ -6,9 +6,9 @@ import shutil
 import time
 
 from . import pairs
-from .c_builds import EXAMPLE_PROGRAMS, SANITIZERS, SOURCES, TOP, VALGRIND, compilers, done, has_valgrind, library, skip, usable
+from .c_builds import EXAMPLE_PROGRAMS, SANITIZERS, SOURCES, TOP, VALGRIND, compilers, done, has_valgrind, library, usable
 from .examples import FOLDER as EXAMPLES, content, names_of
-from .harness import Outcome, addresses_numbered, difference, file_of, run
+from .harness import Outcome, addresses_numbered, difference, file_of, run, skip
 from .traces import PLAYED, trace_and_replies
 
 # Programs that end with status 0 and print nothing.

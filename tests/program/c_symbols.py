@@ -6,8 +6,8 @@ import os
 import re
 import shutil
 
-from .c_builds import TOP, WARNINGS, done, library, skip
-from .harness import file_of
+from .c_builds import TOP, WARNINGS, done, library
+from .harness import file_of, skip
 
 BINDINGS = os.path.join(TOP, "bindings")
 LIST = os.path.join(BINDINGS, "c", "symbols.txt")

@@ -12,7 +12,7 @@ import tempfile
 import time
 
 from .c_builds import TOP, done, library
-from .harness import Skipped
+from .harness import Skipped, python_with
 from prover.axioms import PRODUCTS, kept
 
 TOOL = os.path.join(TOP, "tools", "dist")
@@ -150,9 +150,14 @@ def wheel(program, folder):
         yield "the wheel", why
         return
     site = os.path.join(folder, "venv")
-    made = done([sys.executable, "-m", "venv", site])
+    # A virtual environment has pip from this module.
+    found = python_with("ensurepip")
+    if found is None:
+        yield "the wheel", Skipped("no Python here makes a virtual environment")
+        return
+    made = done([found, "-m", "venv", site])
     if made.status != 0:
-        yield "the wheel", Skipped("there is no venv")
+        yield "a virtual environment", made.stderr.decode()
         return
     before = files_below(site)
     python = os.path.join(site, "bin", "python")

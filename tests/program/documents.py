@@ -17,7 +17,7 @@ from prover.doors import faults, imports_of, passed_on, public_for_nobody
 from prover.edits import BadEdit, Edit, edits_of
 from prover.meanings import unlisted
 
-from .harness import Skipped
+from .harness import Skipped, skips_listed, wrong_skips
 
 SOURCES = (".rt", ".antt", ".edit", ".py", ".c", ".txt")
 WORD = re.compile(r"[A-Za-z_]\w{3,}")
@@ -26,11 +26,6 @@ QUOTED = {"rust": (".rt", ".rs"), "antt": (".rt", ".antt"), "c": (".c", ".h")}
 # Arguments in usage lines, and names of things outside the repository.
 FOREIGN = {"CRATE", "DESTDIR", "EDIT", "FUNCTION", "GROUP", "KIND", "MODULE", "PATH", "PROGRAM", "SLOT", "TURNS", "WHAT_IS_WRONG",
            "dac8208d650f15bf", "rattle", "try_lock"}
-# Commands that README shows and that are not run here, each with the reason.
-TOO_LONG = {
-    "(cd crates/gcflip && rt run < ../../examples/refusals.trace)": "it proves everything first",
-    "tests/all": "it runs these tests",
-}
 
 
 def documents():
@@ -719,10 +714,23 @@ def shown_commands(document):
 
 
 def commands_of_tables(_program, _folder):
-    """Skips the commands of README that take too long, and checks that README still shows them."""
+    """Skips the commands of README that take too long, which tests/skips.txt lists, and checks that README still shows them."""
     shown = text_of("README.md")
-    for command, why in TOO_LONG.items():
-        yield "README.md: %s" % command, Skipped(why) if "`%s`" % command in shown else "README does not show it"
+    for name, why in skips_listed().items():
+        document, _, command = name.partition(": ")
+        if document == "README.md":
+            yield name, Skipped(why) if "`%s`" % command in shown else "README does not show it"
+
+
+# Skipped cases, the listed ones, whether CI runs, and which of the cases fail for that.
+SKIPS = [(["a"], {}, True, ["a"]), (["a"], {}, False, []), (["a"], {"a": "it is slow"}, True, []), (["a", "b", "b"], {"a": "it is slow"}, True, ["b"])]
+
+
+def skips(_program, _folder):
+    """Checks that CI fails where a case is skipped that tests/skips.txt does not list."""
+    for names_skipped, listed, in_ci, wanted in SKIPS:
+        found = list(wrong_skips(names_skipped, listed, in_ci))
+        yield "skipped %s of %s, in CI: %s" % (names_skipped, list(listed), in_ci), None if found == wanted else "found %s" % found
 
 
 # ---- definitions
@@ -910,4 +918,4 @@ def applied_edits(_program, _folder):
             yield "edit %s/%s" % (crate, name), why_not_applied(crate, name)
 
 
-GROUPS = [names, words, files, memory_answers, names_of_calls, old_names, edits, edits_in_ci, crates_tried, hand_tried, doors, preambles, first_lines, meanings, applied_edits, quotes, names_in_c, outputs_in_c, c_of_readme, adapter_shown, first_screen, commands_of_tables, definitions, counts, products, architecture, glossary, told_again, axioms]
+GROUPS = [names, words, files, memory_answers, names_of_calls, old_names, edits, edits_in_ci, crates_tried, hand_tried, doors, preambles, first_lines, meanings, applied_edits, quotes, names_in_c, outputs_in_c, c_of_readme, adapter_shown, first_screen, commands_of_tables, skips, definitions, counts, products, architecture, glossary, told_again, axioms]

@@ -3,14 +3,44 @@ import os
 import re
 import resource
 import subprocess
+import sys
 
 # No case needs this much. A program that hangs or takes all memory is a failure, and does not harm the machine.
 SECONDS = 60
 BYTES = 4 << 30
 
 
+# The names of the cases that were not run, in order.
+skipped = []
+
+
 class Skipped(str):
     """Why a case was not run, given instead of why a case failed."""
+
+
+def skip(name, why):
+    """Says that a case is not run, and why."""
+    print("SKIPPED %s: %s" % (name, why), flush=True)
+    skipped.append(name)
+
+
+def skips_listed():
+    """Returns the cases that CI may skip, and why, as tests/skips.txt lists them."""
+    with open(os.path.join(os.path.dirname(os.path.abspath(__file__)), "..", "skips.txt"), encoding="utf-8") as file:
+        return dict(line.rstrip("\n").split(" | ", 1) for line in file if line.strip() and not line.startswith("#"))
+
+
+def wrong_skips(names, listed, in_ci):
+    """Yields the names of skipped cases that CI may not skip. Elsewhere each may be skipped."""
+    yield from (name for name in dict.fromkeys(names) if in_ci and name not in listed)
+
+
+def python_with(module):
+    """Returns the first Python that has a module: the one that runs the tests, or the system's, for which Debian's packages are. Returns None if neither has it."""
+    for python in (sys.executable, "/usr/bin/python3"):
+        if os.path.exists(python) and subprocess.run([python, "-c", "import " + module], stderr=subprocess.DEVNULL).returncode == 0:
+            return python
+    return None
 
 
 class Outcome:

@@ -4,10 +4,10 @@ import re
 import shutil
 import sys
 
-from .c_builds import TOP, done, library, skip
+from .c_builds import TOP, done, library
 from .c_library import texts_and_lines, traces_and_replies
 from .examples import names_of
-from .harness import Outcome, Skipped, difference, file_of
+from .harness import Outcome, Skipped, difference, file_of, python_with, skip
 
 PACKAGE = os.path.join(TOP, "bindings", "python")
 TESTS = os.path.join(TOP, "tests", "python")
@@ -18,14 +18,15 @@ TOUR = os.path.join(TOP, "examples", "python")
 def built_package(folder):
     """Returns the folder with the package as built by its pyproject.toml, and why it could not be built, or None. Without setuptools
     the folder is the source."""
-    if done([sys.executable, "-c", "import setuptools"]).status != 0:
+    python = python_with("setuptools")
+    if python is None:
         skip("the built Python package", "no setuptools; the source is tested")
         return PACKAGE, None
     # setuptools writes next to the source, and takes the examples from the top of the repository.
     source = shutil.copytree(PACKAGE, os.path.join(folder, "bindings", "python"), ignore=shutil.ignore_patterns("__pycache__"))
     shutil.copytree(os.path.join(TOP, "examples"), os.path.join(folder, "examples"), ignore=shutil.ignore_patterns("__pycache__"))
     target = os.path.join(folder, "site")
-    made = done([sys.executable, "-c", "import setuptools; setuptools.setup()", "build", "--build-lib", target], cwd=source)
+    made = done([python, "-c", "import setuptools; setuptools.setup()", "build", "--build-lib", target], cwd=source)
     if made.status != 0:
         return target, made.stderr.decode()
     missing = packaged(source) - packaged(target) | {os.path.join(EXAMPLES, name + ending) for ending in (".trace", ".pair") for name in names_of(ending)
@@ -47,11 +48,13 @@ class Python:
 
     def __init__(self, built, folder):
         path, self.why = built_package(folder)
+        # One test of one file reads arrays of NumPy.
+        self.python = python_with("numpy") or sys.executable
         self.environment = dict(os.environ, PYTHONPATH=path, PYTHONDONTWRITEBYTECODE="1",
                                 GCFLIP_LIBRARY=os.path.join(built.lib, "libgcflip.so"))
 
     def run(self, *words):
-        return done([sys.executable, *words], env=self.environment)
+        return done([self.python, *words], env=self.environment)
 
 
 def prepared(folder):
@@ -66,14 +69,14 @@ def suites(_program, folder):
     if python is None:
         return
     yield "the package is built", python.why
-    without_numpy = python.run("-c", "import numpy").status != 0
     for name in ("test_checker.py", "test_inference.py", "test_heap.py", "test_explore.py"):
-        found = python.run(os.path.join(TESTS, name))
-        # One test of one file reads arrays of NumPy.
-        skipped = without_numpy and found.stderr.endswith(b"\nOK (skipped=1)\n") and name == "test_checker.py"
-        if skipped:
-            skip("a test of %s" % name, "there is no NumPy")
-        yield name, None if found.status == 0 and (skipped or found.stderr.endswith(b"\nOK\n")) else found.stderr.decode()
+        found = python.run(os.path.join(TESTS, name), "-v")
+        told = found.stderr.decode()
+        reasons = re.findall(r"(?m) \.\.\. skipped (['\"])(.*)\1$", told)
+        for _, why in reasons:
+            skip("a test of %s" % name, why)
+        ends = "\nOK (skipped=%d)\n" % len(reasons) if reasons else "\nOK\n"
+        yield name, None if found.status == 0 and told.endswith(ends) else told
     shown = python.run("-m", "doctest", "-v", README)
     last = shown.stdout.decode().strip().split("\n")[-1]
     yield "what README shows", None if shown.status == 0 and last == "Test passed." else shown.stdout.decode()

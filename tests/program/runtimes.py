@@ -7,7 +7,8 @@ import subprocess
 import sys
 import tempfile
 
-from .c_builds import SANITIZERS, TOP, done, library, skip, usable
+from .c_builds import SANITIZERS, TOP, done, library, usable
+from .harness import skip
 
 OCAML = os.path.join(TOP, "examples", "ocaml")
 JVM = os.path.join(TOP, "examples", "jvm")

@@ -2,10 +2,10 @@
 import os
 import shutil
 
-from .c_builds import TOP, done, library, skip
+from .c_builds import TOP, done, library
 from .c_library import texts_and_lines, traces_and_replies
 from .examples import names_of
-from .harness import Outcome, difference, file_of
+from .harness import Outcome, difference, file_of, skip
 from .python import content_of
 
 CRATE = os.path.join(TOP, "bindings", "rust")

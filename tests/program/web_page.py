@@ -8,7 +8,7 @@ import subprocess
 import sys
 
 from . import browser
-from .c_builds import skip
+from .harness import skip
 from .python import prepared
 
 ADDRESS = re.compile(r"http://127\.0\.0\.1:(\d+)/([\w-]{32})/")

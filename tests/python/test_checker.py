@@ -185,8 +185,7 @@ class Memory(unittest.TestCase):
         try:
             reserved = mmap.mmap(-1, 8 << 32, flags=mmap.MAP_PRIVATE | mmap.MAP_ANONYMOUS | MAP_NORESERVE)
         except OSError as error:
-            print("SKIPPED too many pairs: no 32 GiB of addresses: %s" % error)
-            return
+            self.skipTest("no 32 GiB of addresses: %s" % error)
         with at_most(64 << 20), self.assertRaises(gcflip.TooManyPairs):
             check(NEITHER, NEITHER, memoryview(reserved).cast("I"))
 
