@@ -15,6 +15,11 @@ from .c_builds import TOP, done, library
 from .harness import Skipped, python_with
 from prover.axioms import PRODUCTS, kept
 
+sys.path.append(os.path.join(TOP, "tools"))
+
+from distribution import trees  # noqa: E402
+from distribution.links import linked, links_in  # noqa: E402
+
 TOOL = os.path.join(TOP, "tools", "dist")
 # A user waits at most so long for the first run from a package.
 SECONDS = 10
@@ -269,4 +274,28 @@ def versions(_program, _folder):
         yield "the version in %s" % name, None if "@VERSION@" in text and not re.search(r"\d+\.\d+\.\d+", text) else "it is written there"
 
 
-GROUPS = [release, archive, wheel, deb, crate, completions, versions]
+# Links of docs/ONE.md, and what a package makes of them that has this page at doc/ONE.md, docs/TWO.md at doc/TWO.md, and a header at include/a.h.
+PLACES = {"docs/ONE.md": "doc/ONE.md", "docs/TWO.md": "doc/TWO.md", "a.h": "include/a.h"}
+LINKS = [("[two](TWO.md#part) and [one](#part)", "[two](TWO.md#part) and [one](#part)"), ("[it](../a.h)", "[it](../include/a.h)"), ("[it](../b.h)", "it"),
+         ("![a picture](a.svg)", "a picture"), ("[page](https://a.org/b)", "[page](https://a.org/b)"), ("```c\nf[i](x)\n```", "```c\nf[i](x)\n```")]
+
+
+def links(_program, _folder):
+    """Checks that each link of a document in a package leads to a file or a folder of the package."""
+    packed = trees.described("share/doc/herbpond")
+    there = set(packed) | {os.path.dirname(path) for path in packed}
+    documents = {path: leaf.data.decode() for path, leaf in packed.items() if path.endswith(".md")}
+    for path, text in documents.items():
+        broken = [target for target in links_in(text) if os.path.normpath(os.path.join(os.path.dirname(path), target)) not in there]
+        yield "links of %s" % path, ", ".join(broken) or None
+    linking = [path for path, text in documents.items() if list(links_in(text))]
+    yield "documents with links", None if "share/doc/herbpond/README.md" in linking and len(linking) > 4 else "they are %s" % linking
+    alone = {"the wheel": trees.readme(trees.PYTHON), "the crate": trees.crate_tree()["README.md"].data}
+    for name, text in alone.items():
+        yield "links of the README of %s" % name, ", ".join(links_in(text.decode())) or None
+    for text, wanted in LINKS:
+        found = linked(text, "docs/ONE.md", PLACES)
+        yield "the link %s" % text, None if found == wanted else "it becomes %s" % found
+
+
+GROUPS = [release, archive, wheel, deb, crate, completions, versions, links]

@@ -5,10 +5,14 @@ import subprocess
 import tempfile
 from typing import NamedTuple
 
+from .links import linked
+
 TOP = os.path.normpath(os.path.join(os.path.dirname(os.path.abspath(__file__)), "..", ".."))
 HERE = os.path.dirname(os.path.abspath(__file__))
 SHARED = "libgcflip.so.0"
-DOCUMENTS = ["README.md", "CHANGELOG.md", "docs/FORMATS.md", "docs/EMBEDDING.md", "docs/CERTIFY.md", "docs/GLOSSARY.md", "docs/EXPLORE.md"]
+TRUST = "docs/TRUST.md"
+PYTHON, RUST = "bindings/python/README.md", "bindings/rust/README.md"
+DOCUMENTS = ["README.md", "CHANGELOG.md", TRUST, "docs/FORMATS.md", "docs/EMBEDDING.md", "docs/CERTIFY.md", "docs/GLOSSARY.md", "docs/EXPLORE.md"]
 COMPLETIONS = {"share/bash-completion/completions/gcflip": "gcflip.bash", "share/zsh/site-functions/_gcflip": "_gcflip",
                "share/fish/vendor_completions.d/gcflip.fish": "gcflip.fish"}
 HEADERS = ["gcflip_answers.h", "gcflip.h", "gcflip_heap.h", "gcflip_images.h", "gcflip_record.h", "gcflip_allocator.h"]
@@ -49,13 +53,47 @@ def below(folder, wanted=lambda path: True):
 
 
 def verdicts():
-    """Returns TRUST.md with the verdicts that this build kept."""
+    """Returns what TRUST.md says of this build: the verdicts that it kept."""
     found = [b"# Verdicts of this build\n"]
     for crate in ("gcflip_c", "gcflip_heap_c", "gcflip"):
         kept = os.path.join(TOP, "crates", crate, "out", "verdict.txt")
         text = open(kept, "rb").read() if os.path.exists(kept) else b"no verdict was kept\n"
         found.append(b"## %s\n\n```\n%s```\n" % (crate.encode(), text))
-    return read("docs", "TRUST.md") + b"\n" + b"\n".join(found)
+    return b"\n" + b"\n".join(found)
+
+
+def examples():
+    """Returns the paths of the examples of a package, and of the page that explains them."""
+    return [*below("bindings/c/examples"), "examples/README.md", *below("examples", lambda path: path.endswith((".trace", ".replies", ".pair", ".verdict")))]
+
+
+def places(documents):
+    """Returns the places of documents, pictures, examples and headers in the archive and in the Debian package, by their paths in the repository."""
+    found = {path: "%s/%s" % (documents, os.path.basename(path)) for path in DOCUMENTS}
+    found.update({path: "%s/pictures/%s" % (documents, os.path.basename(path)) for path in below("docs/pictures")})
+    found.update({path: "%s/examples/%s" % (documents, os.path.basename(path)) for path in examples()})
+    found.update({"bindings/c/" + name: "include/" + name for name in HEADERS})
+    return found
+
+
+def described(documents):
+    """Returns the documents, pictures, examples and headers of the archive and of the Debian package, as a tree."""
+    placed = places(documents)
+    # A document may link to all examples by their folder.
+    targets = dict(placed, examples=documents + "/examples")
+    found = {place: Leaf(read_linked(path, targets) if path.endswith(".md") else read(path)) for path, place in placed.items()}
+    found[placed[TRUST]] = Leaf(found[placed[TRUST]].data + verdicts())
+    return found
+
+
+def read_linked(path, targets):
+    """Returns a document of the repository with the links that it has in a package."""
+    return linked(read(path).decode(), path, targets).encode()
+
+
+def readme(path):
+    """Returns a README that stands alone, with no other file of the repository beside it."""
+    return read_linked(path, {})
 
 
 def stripped(path):
@@ -67,7 +105,7 @@ def stripped(path):
             return file.read()
 
 
-def tree(program, libraries, libdir="lib", documents="share/doc/herbpond"):
+def tree(program, libraries, libdir="lib"):
     """Returns the files of the archive and of the Debian package, below their prefix. `libraries` is the folder with both libraries."""
     def outside(path):
         with open(path, "rb") as file:
@@ -82,13 +120,9 @@ def tree(program, libraries, libdir="lib", documents="share/doc/herbpond"):
         libdir + "/cmake/gcflip/gcflip-config.cmake": Leaf(filled("gcflip-config.cmake", libdir)),
         libdir + "/cmake/gcflip/gcflip-config-version.cmake": Leaf(filled("gcflip-config-version.cmake", libdir)),
         "share/man/man1/gcflip.1": Leaf(filled("gcflip.1", libdir)),
-        documents + "/TRUST.md": Leaf(verdicts()),
     }
     found.update({path: Leaf(filled(name, libdir)) for path, name in COMPLETIONS.items()})
-    found.update({"include/" + name: Leaf(read("bindings", "c", name)) for name in HEADERS})
-    found.update({documents + "/" + os.path.basename(name): Leaf(read(name)) for name in DOCUMENTS})
-    examples = list(below("bindings/c/examples")) + list(below("examples", lambda path: path.endswith((".trace", ".replies", ".pair", ".verdict"))))
-    found.update({documents + "/examples/" + os.path.basename(path): Leaf(read(path)) for path in examples})
+    found.update(described("share/doc/herbpond"))
     return found
 
 
@@ -111,4 +145,4 @@ def wheel_tree(libraries):
 
 
 def crate_tree():
-    return {os.path.relpath(path, "bindings/rust"): Leaf(read(path)) for path in below("bindings/rust")}
+    return {os.path.relpath(path, "bindings/rust"): Leaf(readme(path) if path == RUST else read(path)) for path in below("bindings/rust")}
