@@ -1,6 +1,7 @@
 """Tests of the documents that need what CI builds: the commands and the programs that they show print what the documents say, and the table of
 docs/TRUST.md is that of the kept verdicts."""
 import os
+import re
 import shutil
 import subprocess
 
@@ -33,14 +34,13 @@ def commands(program, _folder):
             yield "%s: %s" % (document, command), wrong_output(command, output, program)
 
 
-def run_of_c(document, folder):
-    """Runs the document's line that compiles and starts a program, with the library as it is now, and compares what it prints with the only block
-    of text. Addresses of the machine may differ."""
+def run_of_c(document, archive, folder):
+    """Runs the document's line that compiles and starts a program, with this archive, and compares what it prints with the only block of text.
+    Addresses of the machine may differ."""
     line, _ = compiling_line(document)
-    built = library(folder) if line else None
-    if built is None:
-        return Skipped("there is no library") if line else "there is no line that compiles a program"
-    line = line.replace("bindings/c/out/libgcflip.a", built.archive()[0]).replace("bindings/c", os.path.join(TOP, "bindings", "c"))
+    if line is None:
+        return "there is no line that compiles a program"
+    line = re.sub(r"bindings/c/out/\w+\.a", archive, line).replace("bindings/c", os.path.join(TOP, "bindings", "c"))
     ran = subprocess.run(["bash", "-c", line], cwd=folder, stdout=subprocess.PIPE, stderr=subprocess.STDOUT)
     shown = ["\n".join(block) + "\n" for block in blocks(document, "text")]
     same = [addresses_numbered(ran.stdout)] == [addresses_numbered(text.encode()) for text in shown]
@@ -48,10 +48,17 @@ def run_of_c(document, folder):
 
 
 def c_programs(_program, folder):
-    """Runs the lines of README and of docs/CERTIFY.md that compile and start a program, and compares what it prints with the block of text that they
-    show."""
+    """Runs the lines of README and of docs/CERTIFY.md that compile and start a program, with the library as it is now, and compares what it prints with
+    the block of text that they show. The program of docs/CERTIFY.md needs the checker alone."""
+    built = library(folder)
+    if built is None:
+        yield "C of documents", Skipped("there is no library")
+        return
     for document in ("README.md", CERTIFY):
-        yield "C of %s runs" % document, run_of_c(document, folder)
+        yield "C of %s runs" % document, run_of_c(document, built.archive()[0], folder)
+    made = built.install(built.prefix, "checker")
+    yield "the archive of the checker", None if made.status == 0 else made.stderr.decode()
+    yield "C of %s runs with the checker alone" % CERTIFY, run_of_c(CERTIFY, os.path.join(folder, "out", "libgcflip_checker.a"), folder)
 
 
 def axioms(_program, _folder):
