@@ -1,7 +1,6 @@
-"""Tests of the documents that need nothing built: what they cite exists, and what they quote is in the code. Each must-fail edit can be applied.
+"""Tests of the documents that need nothing built: what they cite exists, and what they quote is in the code.
 
 What needs the program, the library or a verdict is in documents_built."""
-import collections
 import contextlib
 import functools
 import glob
@@ -13,9 +12,7 @@ import re
 
 from prover.axioms import PRODUCTS, counts_in, lines_to_keep
 from prover.crates import CRATES, TOP, crates_listed
-from prover.doors import faults, imports_of, passed_on, public_for_nobody
-from prover.edits import BadEdit, Edit, edits_of
-from prover.meanings import unlisted
+from prover.edits import edit_named, edits_of
 
 from .harness import Skipped, skips_listed, wrong_skips
 
@@ -295,11 +292,6 @@ def edits_in(line):
         yield re.findall(r"`(\w+)`", quoted), listed.split(", ")
 
 
-@functools.lru_cache(maxsize=None)
-def edit_named(crate, name):
-    return Edit(crate, name)
-
-
 def found_in(edits, crates_named):
     """Returns the pairs of a crate and an edit of these names that exist."""
     return {(crate, edit) for crate in crates_named for edit in edits if edit + ".edit" in edits_of(crate)}
@@ -400,179 +392,6 @@ def edits(_program, _folder):
     in_ci = {tuple(word.split("/")) for word in text_of("tests/edits_in_ci.txt").split()}
     wrong = [line[:60] for line in rows if line.startswith("| ") and not line.startswith("| wrong body |") and undated(line, in_ci)]
     yield "dates of docs/TESTING.md", ", ".join(wrong) or None
-
-
-# CI tries at least so many edits of a crate, or all if it has fewer.
-LEAST_IN_CI = 4
-
-
-def wrong_in_ci(words, edits_by_crate):
-    """Yields what is wrong with the list of the edits that CI tries, given the edits of each crate."""
-    yield from ["there is no edit %s" % word for word in words if word.partition("/")[2] not in edits_by_crate.get(word.partition("/")[0], [])]
-    yield from ["%s does not stand in order, or twice" % word for before, word in zip(words, words[1:]) if before >= word]
-    for crate, names in sorted(edits_by_crate.items()):
-        listed = sum(word.startswith(crate + "/") for word in words)
-        if listed < min(LEAST_IN_CI, len(names)):
-            yield "%d of the %d edits of %s" % (listed, len(names), crate)
-
-
-# Lists of a crate with the edits a, b, c, d and e, and what is wrong with each.
-LISTS = [("a b c d", []), ("a b c e", []), ("a b c", ["3 of the 5 edits of gc_one"]), ("a c b d", ["gc_one/b does not stand in order, or twice"]),
-         ("a b c c d", ["gc_one/c does not stand in order, or twice"]), ("a b c d f", ["there is no edit gc_one/f"])]
-
-
-def edits_in_ci(_program, _folder):
-    """Checks the list of the edits that CI tries: each exists, and each crate has some."""
-    words = text_of("tests/edits_in_ci.txt").split()
-    of_crates = {crate: [name[:-len(".edit")] for name in edits_of(crate)] for crate in crates_listed() if edits_of(crate)}
-    yield "tests/edits_in_ci.txt", ", ".join(wrong_in_ci(words, of_crates)) or None
-    for names, wanted in LISTS:
-        found = list(wrong_in_ci(["gc_one/" + name for name in names.split()], {"gc_one": list("abcde")}))
-        yield "the list %s" % names, None if found == wanted else "found %s" % found
-
-
-def unproved_in(texts):
-    """Yields what would go unproved if CI runs the tests of a crate without a proof, given the texts of its source: code of a library that has tests alone
-    there, and tests that stand elsewhere than in the module that CI leaves out of its proof."""
-    root = next(path for path in ("src/main.rt", "src/lib.rt") if path in texts)
-    if not texts[root].endswith("\n#[cfg(test)]\nmod tests;\n"):
-        yield "its module of tests does not end %s" % root
-    others = {path: text for path, text in texts.items() if not path.startswith("src/tests")}
-    yield from sorted("a test in %s" % path for path, text in others.items() if len(re.findall(r"cfg\(test\)|#\[test\]", text)) > (path == root))
-    if root == "src/lib.rt":
-        yield from sorted("code in %s" % path for path, text in others.items() if re.search(r"\bfn\b", text))
-
-
-# The root of a crate's source and another file, and what is found in them.
-TRIED = [("src/main.rt", "fn main() {}\n\n#[cfg(test)]\nmod tests;\n", "fn a() {}\n", []),
-         ("src/main.rt", "fn main() {}\n\n#[cfg(test)]\nmod tests;\n", "#[test]\nfn a() {}\n", ["a test in src/one.rt"]),
-         ("src/main.rt", "mod tests;\n\nfn main() {}\n", "fn a() {}\n", ["its module of tests does not end src/main.rt"]),
-         ("src/lib.rt", "\n#[cfg(test)]\nmod tests;\n", "fn a() {}\n", ["code in src/one.rt"])]
-
-
-def crates_tried(_program, _folder):
-    """Checks the crates whose tests CI runs without a proof: all else of them is proved."""
-    for crate in text_of("tests/crates_tried.txt").split():
-        folder = os.path.join(TOP, "crates", crate)
-        paths = [os.path.relpath(path, folder) for path in glob.glob(os.path.join(folder, "src", "**", "*.rt"), recursive=True)]
-        yield "code of %s" % crate, ", ".join(unproved_in({path: text_of(os.path.join("crates", crate, path)) for path in paths})) or None
-    for root, text, other, wanted in TRIED:
-        found = list(unproved_in({root: text, "src/one.rt": other}))
-        yield "a crate with %r and %r" % (text, other), None if found == wanted else "found %s" % found
-
-
-# ---- what proofs cite of other crates
-
-# Sources of gc_heap, with the imports across crates that are found in them.
-IMPORTS = [("use Rattle.gc_words.proofs.Walks.{a, b as c}", [("gc_words", "proofs.Walks", ["a", "b"])]),
-           ("use Rattle.gc_words.proofs.Walks as walks", [("gc_words", "proofs.Walks", None)]),
-           ("#[tactic(auto, using(gc_words::proofs::Walks::a))]", [("gc_words", "proofs.Walks", ["a"])]),
-           ("ghost use Rattle.gc_words.specs.Internal.Walking.{a};", [("gc_words", "specs.Internal.Walking", ["a"])]),
-           ("use Rattle.gc_words.specs.Objects.{a}\nuse Rattle.gc_heap.specs.Internal.Steps.{a}", []),
-           ("use Rattle.gc_heap.proofs.Commands.{a}\nuse Rattle.std.proofs.Common.{a}", []), ("use Rattle.gc_words.proofs.space.Space.TheLaws as laws", [])]
-
-
-# A proof file and another file of its crate, with the lemmas of the first that are public for nobody.
-LEMMAS = [("pub a : A\na = b\n", "use Rattle.c.proofs.One.{a}", []), ("pub a : A\na = b\n", "", ["a"]), ("a : A\na = b\n", "", []),
-          ("pub a : A\n    → B\na x = b\n\npub c : IsSome a\nc = d\n", "using(crate::proofs::One::c)", []), ("pub a-b : A\na-b x = b\n", "a", ["a-b"]),
-          ("  pub a : A\n  a x = b\n\n  pub c : A\n  c = a\n", "use Rattle.c.proofs.One.{c}", ["a"]), ("pub a : A\na = b\n", "use Rattle.c.proofs.Two.{a}", ["a"]),
-          ("pub a : A\na = b\n", "use Rattle.d.proofs.One.{a}\na", ["a"]), ("pub a : A\na = b\n", "use Rattle.c.proofs.One as one\none.a", []), ("record A : Type 0 where\n  pub a : A\n\nabbrev pub b : A\nb = a\n", "", [])]
-
-
-def doors(_program, _folder):
-    """Crates cite other crates' proofs and internal definitions through proofs/Public.antt alone, which passes on nothing that no crate cites. A lemma is public
-    only for another file."""
-    yield "doors", "; ".join(list(faults())[:10]) or None
-    yield "crates with a door", None if any(map(passed_on, crates_listed())) else "none"
-    for text, wanted in IMPORTS:
-        found = list(imports_of("gc_heap", text))
-        yield "imports in %r" % text, None if found == wanted else "found %s" % found
-    for text, other, wanted in LEMMAS:
-        found = [name for _, name in public_for_nobody("c", {"proofs/One.antt": text, "src/other.rt": other})]
-        yield "public lemmas in %r beside %r" % (text, other), None if found == wanted else "found %s" % found
-
-
-# ---- lines that the answers of a proof file repeat
-
-# How many lines in a row two declarations may not share, if each begins with `let`. A short name for a path is no fact, and is passed over.
-REPEATED = 3
-SHORT_NAME = re.compile(r"let [\w'-]+ = [\w.'-]+ in$")
-
-
-def repeated_lines(text):
-    """Yields the first of each run of lines that two declarations of a proof file repeat, each a `let`."""
-    starts = collections.defaultdict(set)
-    declaration, lines = 0, []
-    for line in text.split("\n"):
-        if line[:1].strip():
-            declaration, lines = declaration + 1, []
-        if not SHORT_NAME.match(line.strip()):
-            lines = (lines + [line.strip()])[-REPEATED:]
-        if len(lines) == REPEATED and all(each.startswith("let ") for each in lines):
-            starts[tuple(lines)].add(declaration)
-    yield from (run[0] for run, places in starts.items() if len(places) > 1)
-
-
-# Two answers, with the first lines of what they repeat.
-TWO_ANSWERS = "use Rattle.a.B.{c}\n\npub a : A\na c =\n%s    d\n\npub b : B\nb c =\n%s    e\n"
-LETS = ["    let p = f 1 in\n", "    let q : A = a.b in\n", "    let r = g 3 in\n"]
-ANSWERS = [("".join(LETS), "".join(LETS), ["let p = f 1 in"]), ("".join(LETS[:2]), "".join(LETS[:2]), []), ("".join(LETS), "".join(LETS[1:]), []),
-           ("".join(LETS * 2), "", []), ("    f\n" + "".join(LETS), "".join(LETS) + "    g\n", ["let p = f 1 in"]), ("    x;\n    y;\n    z;\n", "    x;\n    y;\n    z;\n", []),
-           ("    let s = a.b in\n" + "".join(LETS), "".join(LETS[:2] + ["    let t = c-d.e in\n"] + LETS[2:]), ["let p = f 1 in"]), ("    let s = a.b in\n" * 3, "    let s = a.b in\n" * 3, [])]
-
-
-def preambles(_program, _folder):
-    """What several answers of a proof file need stands once in it: no two repeat three lines that name facts."""
-    for path in sorted(glob.glob(os.path.join(TOP, "crates", "*", "proofs", "**", "*.antt"), recursive=True)):
-        found = list(repeated_lines(text_of(os.path.relpath(path, TOP))))
-        if found:
-            yield "answers in %s" % os.path.relpath(path, TOP), "two repeat %r" % found[0]
-    for one, other, wanted in ANSWERS:
-        found = list(repeated_lines(TWO_ANSWERS % (one, other)))
-        yield "answers with %r and %r" % (one, other), None if found == wanted else "found %s" % found
-
-
-# ---- first lines of proof files
-
-# What a sentence of a first line is: it begins with a capital letter or a name in backquotes, and ends with a full stop.
-SENTENCE = re.compile(r"[A-Z`].*[^.]\.$")
-
-
-def head_of(text):
-    """Returns what the comment at the head of a proof file says, in one line: nothing if the file does not begin with a comment."""
-    lines = text.split("\n")
-    count = next((number for number, line in enumerate(lines) if not line.startswith("-- ")), len(lines))
-    return " ".join(line[3:].strip() for line in lines[:count])
-
-
-def wrong_heads(texts):
-    """Yields each proof file of a crate that does not say first what it proves, or says what another file says, given the files' texts."""
-    first = {}
-    for path, text in sorted(texts.items()):
-        head = head_of(text)
-        if not SENTENCE.match(head):
-            yield "%s does not begin with a sentence" % path
-        elif head in first:
-            yield "%s begins as %s" % (path, first[head])
-        first.setdefault(head, path)
-
-
-# Proof files of a crate by their texts, and what is wrong with them.
-HEADS = [(["-- A sum is one.\nuse b\n", "-- A sum goes\n-- up by one.\nuse b\n"], []), (["use b\n"], ["0 does not begin with a sentence"]),
-         (["-- A sum is one\nuse b\n"], ["0 does not begin with a sentence"]), (["-- ---- sums.\nuse b\n"], ["0 does not begin with a sentence"]),
-         (["-- A sum is one.\nuse b\n", "-- A sum is one.\nuse c\n"], ["1 begins as 0"])]
-
-
-def first_lines(_program, _folder):
-    """Checks that each proof file says in its first line what it proves, and that no two files of a crate say the same."""
-    for crate in crates_listed():
-        paths = glob.glob(os.path.join(CRATES, crate, "proofs", "**", "*.antt"), recursive=True)
-        wrong = list(wrong_heads({os.path.relpath(path, TOP): text_of(path) for path in paths}))
-        if paths:
-            yield "first lines of the proofs of %s" % crate, "; ".join(wrong[:10]) or None
-    for texts, wanted in HEADS:
-        found = list(wrong_heads({str(number): text for number, text in enumerate(texts)}))
-        yield "first lines of %r" % texts, None if found == wanted else "found %s" % found
 
 
 # ---- quoted code
@@ -898,24 +717,5 @@ def axioms(_program, _folder):
         yield "a verdict with %r" % new, None if is_right else "found %s" % (found,)
 
 
-def meanings(_program, _folder):
-    """Checks that each name of a definition has one meaning, or that tests/two_meanings.txt says why it has several."""
-    yield "names with one meaning", "; ".join(unlisted()) or None
-
-
-def why_not_applied(crate, name):
-    """Returns why a must-fail edit cannot be applied, or None."""
-    try:
-        edit_named(crate, name).texts_in(os.path.join(CRATES, crate))
-    except BadEdit as why:
-        return str(why)
-    return None
-
-
-def applied_edits(_program, _folder):
-    for crate in crates_listed():
-        for name in edits_of(crate):
-            yield "edit %s/%s" % (crate, name), why_not_applied(crate, name)
-
-
-GROUPS = [names, words, files, memory_answers, names_of_calls, old_names, edits, edits_in_ci, crates_tried, hand_tried, doors, preambles, first_lines, meanings, applied_edits, quotes, names_in_c, outputs_in_c, c_of_readme, adapter_shown, first_screen, commands_of_tables, skips, definitions, counts, products, architecture, glossary, told_again, axioms]
+GROUPS = [names, words, files, memory_answers, names_of_calls, old_names, edits, hand_tried, quotes, names_in_c, outputs_in_c, c_of_readme, adapter_shown, first_screen,
+          commands_of_tables, skips, definitions, counts, products, architecture, glossary, told_again, axioms]

@@ -1,4 +1,5 @@
 """Must-fail edits: wrong bodies that the prover has to reject. CONTRIBUTING.md says how one is written."""
+import functools
 import hashlib
 import os
 import re
@@ -85,6 +86,12 @@ class Edit:
     def texts_in(self, folder):
         """Returns the changed files by their paths, as the edit makes them from those of the folder, which is the crate's or a copy."""
         return changed_texts([self], folder)
+
+
+@functools.lru_cache(maxsize=None)
+def edit_named(crate, name):
+    """Returns an edit of a crate. Reads it once."""
+    return Edit(crate, name)
 
 
 def changed_texts(edits, folder):
