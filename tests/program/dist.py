@@ -288,6 +288,9 @@ def links(_program, _folder):
     for path, text in documents.items():
         broken = [target for target in links_in(text) if os.path.normpath(os.path.join(os.path.dirname(path), target)) not in there]
         yield "links of %s" % path, ", ".join(broken) or None
+    for source, path in trees.places("share/doc/herbpond").items():
+        if path in documents:
+            yield "pictures of %s" % path, None if trees.read(source).count(b"![") == documents[path].count("![") else "some are lost"
     linking = [path for path, text in documents.items() if list(links_in(text))]
     yield "documents with links", None if "share/doc/herbpond/README.md" in linking and len(linking) > 4 else "they are %s" % linking
     alone = {"the wheel": trees.readme(trees.PYTHON), "the crate": trees.crate_tree()["README.md"].data}

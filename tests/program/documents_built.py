@@ -8,7 +8,7 @@ import subprocess
 from prover.axioms import PRODUCTS, row_of, verdict_of
 from prover.crates import TOP
 
-from .c_builds import library
+from .c_builds import done, library
 from .documents import CERTIFY, blocks, compiling_line, documents, shown_commands, text_of
 from .harness import Skipped, addresses_numbered
 
@@ -56,6 +56,8 @@ def c_programs(_program, folder):
         return
     for document in ("README.md", CERTIFY):
         yield "C of %s runs" % document, run_of_c(document, built.archive()[0], folder)
+    steps = done(["make", "-n", "-B", "-C", os.path.join(TOP, "bindings", "c"), "checker"]).stdout.decode()
+    yield "the archive of the checker needs no collector", None if "/gcflip_c/" in steps and "gcflip_heap_c" not in steps else steps
     made = built.install(built.prefix, "checker")
     yield "the archive of the checker", None if made.status == 0 else made.stderr.decode()
     yield "C of %s runs with the checker alone" % CERTIFY, run_of_c(CERTIFY, os.path.join(folder, "out", "libgcflip_checker.a"), folder)

@@ -71,6 +71,7 @@ def places(documents):
     """Returns the places of documents, pictures, examples and headers in the archive and in the Debian package, by their paths in the repository."""
     found = {path: "%s/%s" % (documents, os.path.basename(path)) for path in DOCUMENTS}
     found.update({path: "%s/pictures/%s" % (documents, os.path.basename(path)) for path in below("docs/pictures")})
+    found.update({path: "%s/%s" % (documents, path) for path in below("examples/pictures")})
     found.update({path: "%s/examples/%s" % (documents, os.path.basename(path)) for path in examples()})
     found.update({"bindings/c/" + name: "include/" + name for name in HEADERS})
     return found
