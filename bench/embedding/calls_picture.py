@@ -1,14 +1,17 @@
-"""Draws how long the calls of programs took: for each program, how many calls took 1 to 2 microseconds, 2 to 4, and so on."""
+"""Draws how long the calls of programs took: for each program, how many calls took 1 to 2 microseconds, 2 to 4, and so on.
+
+With two programs the picture is 400 pixels high, so that it fits on README's first screen."""
 import math
 
 from gcflip_drawing.picture import MARGIN, Picture
 
 # The picture is narrow, so that a phone shows it in full size.
-LEFT, TOP, HEIGHT, BAR, GAP, BELOW = 80, 64, 110, 12, 4, 46
+LEFT, TOP, HEIGHT, BAR, GAP, BELOW = 80, 76, 110, 12, 4, 52
 # One in so many rows has its label.
 LABELLED = 4
-# The roles of the two ways of checking, and what they are called.
-WAYS = [("copied", "checked along"), ("log", "checked at the flip")]
+# The roles of the two checkers, what they are called, and where their names stand.
+WAYS = [("copied", "standing checker (default)", MARGIN), ("log", "whole check at each flip", MARGIN + 200)]
+TIMES, CALLS = "time of one call, less than", "calls"
 
 
 def label(row):
@@ -24,12 +27,13 @@ def height(count, decades):
 def draw_program(picture, name, ways, rows, top):
     decades = math.ceil(math.log10(max(max(counts) for counts in ways)))
     bottom, right = top + HEIGHT, LEFT + rows * (BAR + GAP)
-    picture.text(LEFT, top - 8, name, "label")
+    picture.text(LEFT, top - 10, name, "label")
+    picture.text(LEFT - 6, top - 10, CALLS, "small", "end")
     for decade in range(0, decades + 1, 2):
         y = bottom - height(10 ** decade, decades)
         picture.line([(LEFT, y), (right, y)], "grid")
         picture.text(LEFT - 6, y + 4, "{:,}".format(10 ** decade), "small", "end")
-    for (role, way), counts, shift in zip(WAYS, ways, (0, BAR / 2)):
+    for (role, way, _), counts, shift in zip(WAYS, ways, (0, BAR / 2)):
         for row, count in enumerate(counts):
             if count:
                 high = height(count, decades)
@@ -40,6 +44,7 @@ def draw_program(picture, name, ways, rows, top):
         at = LEFT + (row + 1) * (BAR + GAP)
         picture.line([(at, bottom), (at, bottom + 4)], "axis")
         picture.text(at, bottom + 16, label(row), "small", "middle")
+    picture.text(right, bottom + 28, TIMES, "small", "end")
 
 
 def drawn(programs):
@@ -47,9 +52,9 @@ def drawn(programs):
     rows = max(len(counts) for _, ways in programs for counts in ways)
     picture = Picture("Calls of the incremental collector by their times")
     picture.text(MARGIN, 24, "Calls by their times", "title")
-    for number, (role, way) in enumerate(WAYS):
-        picture.box(LEFT + 130 * number, 34, 18, 12, role)
-        picture.text(LEFT + 130 * number + 26, 44, way, "small")
+    for role, way, left in WAYS:
+        picture.box(left, 36, 18, 12, role)
+        picture.text(left + 24, 46, way, "small")
     for number, (name, ways) in enumerate(programs):
         draw_program(picture, name, ways, rows, TOP + 20 + number * (HEIGHT + BELOW))
     return picture.sized(LEFT + rows * (BAR + GAP) + MARGIN, TOP + len(programs) * (HEIGHT + BELOW))

@@ -502,19 +502,22 @@ def adapter_shown(_program, _folder):
         yield "a block that is %s is found" % what, None if list(wrong_in_adapter(other, lines)) else "it is not"
 
 
-# What README's first screen has, in this order, and how many lines it is.
-FIRST_SCREEN, FIRST_LINES = ["proved", "For whom", "Why", "$ tools/draw"], 25
+# What README's first screen has, in this order, how many lines it is, and how many words README may have.
+FIRST_SCREEN = ["is the project", "](docs/pictures/pauses.svg)", "make run", "make test", "What is proved", "**standing checker**", "**whole check**", "`whole_each`", "when not to use it"]
+FIRST_LINES, MOST_WORDS = 30, 1300
 
 
 def first_screen(_program, _folder):
-    """Checks that README says within its first lines what is proved, for whom, why, and how to run it, and names limits and tables later."""
-    lines = text_of("README.md").split("\n")[:FIRST_LINES]
-    shown = "\n".join(lines)
-    places = [shown.find(part) for part in FIRST_SCREEN]
+    """Checks that README says within its first lines what Herbpond is, how to run it, what is proved and which checker is the default where, with limits
+    and tables behind."""
+    whole = text_of("README.md")
+    lines = whole.split("\n")[:FIRST_LINES]
+    places = ["\n".join(lines).find(part) for part in FIRST_SCREEN]
     yield "first screen of README.md", None if -1 not in places and places == sorted(places) else "places %s of %s" % (places, FIRST_SCREEN)
     yield "no table on the first screen", None if not any(line.startswith("|") for line in lines) else "there is one"
-    whole = text_of("README.md")
     yield "C before the tables", None if -1 < whole.find("```c\n") < whole.find("\n|") else "a table comes first"
+    count = len(whole.split())
+    yield "words of README.md", None if count <= MOST_WORDS else "they are %d" % count
 
 
 # ---- commands
