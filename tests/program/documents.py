@@ -186,8 +186,8 @@ def add_contracts(text, found):
 
 HEAP_CALL = re.compile(r"\bgcflip_heap_(\w+)\(")
 # The sentences that list the calls on a heap which can run out of memory, behind the checker's, and those which can while a collection is open.
-TOLD = {"bindings/c/gcflip_heap.h": r"- only (.*?) can return GCFLIP_NO_MEMORY, and, while a collection is open, (.*?)\.",
-        "docs/EMBEDDING.md": r"can run out of memory: both checks, `infer`, `path`, (.*?), and, while a collection is open, (.*?)\."}
+TOLD = {"bindings/c/gcflip_heap.h": r"- only (.*?) can return GCFLIP_NO_MEMORY\. While a collection is open, so can (.*?)\.",
+        "docs/EMBEDDING.md": r"can run out of memory: both checks, `infer`, `path`, (.*?)\. While a collection is open, so can (.*?)\."}
 
 
 def told_in(text, pattern):
