@@ -63,7 +63,7 @@ module _ (s : State) (c : Collection) (is_open : IsOpen s) where
   step_open steps.Flip k on = flip_open (is_ready c s.heap.graph) (passes_check s c) on
   step_open steps.Drop k on = absurd k
 
-pub stays_open : (size : Option ℕ) (s : State) → goes_on (collect s (sized_step size s)).0 ≡ true → IsOpen (collect s (sized_step size s)).1
+stays_open : (size : Option ℕ) (s : State) → goes_on (collect s (sized_step size s)).0 ≡ true → IsOpen (collect s (sized_step size s)).1
 stays_open size s on = grind (arith, common_steps, step_open)
 
 -- ---- one step
@@ -120,7 +120,7 @@ begun_rooms size s t b left reply new none made h =
     )
 
 -- what the useful step leaves, by what the step leaves
-pub step_rooms : (size : Option ℕ) (s t : State) (b : Beside) (left : ℕ) (reply : StepReply) (new : Rooms) → collect s (sized_step size s) ≡ (reply, t) → LeavesLess s t reply
+step_rooms : (size : Option ℕ) (s t : State) (b : Beside) (left : ℕ) (reply : StepReply) (new : Rooms) → collect s (sized_step size s) ≡ (reply, t) → LeavesLess s t reply
     → HasStepped (sized_step size s) reply (record { core = s; beside = b }) left new → HaveRooms size s left b (is_flip reply) new
 step_rooms size s t b left reply new made less h = from s.collection refl
   where
@@ -209,7 +209,7 @@ flip_told work reply last = grind (arith, common_steps)
 pub worked : (size : Option ℕ) (s : State) (left : ℕ) (b : Beside) (work : GcflipWork) (reply : StepReply) (before new : Live) → 1 ≤ work.steps → work.last ≡ step_reply_in_c reply → HaveRun size s before.core left b (is_flip reply) before.beside.rooms
     → new ≡ with_rooms before (rooms_given_back before.beside.rooms) → HaveWorked size s new.core left b work new.beside.rooms
 worked size s left b work reply before new steps last run is = subst (λ (x : Live). HaveWorked size s x.core left b work x.beside.rooms) (sym is) (record {
-  none = λ zero. absurd (omega arith);
+  none = λ no. absurd (omega arith);
   some = λ _. ⊎_elim
       (λ rooms. (is_flip reply, before.beside.rooms, inl (flip_told work reply last), rooms, refl))
       (λ lacks. (true, before.beside.rooms, inr (lacks.0, lacks.1), lacks.2, refl))
@@ -218,4 +218,4 @@ worked size s left b work reply before new steps last run is = subst (λ (x : Li
 
 -- no work
 pub unworked : (h : Live) (left : ℕ) (work : GcflipWork) → work.steps ≡ 0 → HaveWorked None h.core h.core left h.beside work h.beside.rooms
-unworked h left work zero = record { none = λ _. refl; some = λ steps. absurd (omega arith) }
+unworked h left work none = record { none = λ _. refl; some = λ steps. absurd (omega arith) }

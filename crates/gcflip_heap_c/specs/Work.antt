@@ -62,8 +62,7 @@ HaveRooms size s left b flips new =
 -- that has to check both spaces whole frees what leaves even where it is refused memory.
 pub record HaveWorked (size : Option ℕ) (s t : State) (left : ℕ) (b : Beside) (work : GcflipWork) (new : Rooms) : Type 0 where
   pub none : work.steps ≡ 0 → new ≡ b.rooms
-  pub some : 1 ≤ work.steps → (flips : Bool) × (before : Rooms) × ((flips ≡ has_flipped work) ⊎ (IsTrue (checks_whole b.turns) × Allocates t Flip))
-      × HaveRooms size s left b flips before × (new ≡ rooms_given_back before)
+  pub some : 1 ≤ work.steps → (flips : Bool) × (before : Rooms) × ((flips ≡ has_flipped work) ⊎ (IsTrue (checks_whole b.turns) × Allocates t Flip)) × HaveRooms size s left b flips before × (new ≡ rooms_given_back before)
 
 -- the rooms after a refused call: where memory was refused, some may have been freed
 abbrev pub RefusedRooms : ℕ → Rooms → Rooms → Type 0
