@@ -15,12 +15,12 @@ HEADERS = os.path.join("bindings", "c", "*.h")
 
 FENCE = re.compile(r" *```")
 # What ends a paragraph: a table, a picture and a heading are none.
-OF_THEIR_OWN = re.compile(r" *(?:\||\[?!\[|#)")
+OF_THEIR_OWN = re.compile(r" *(?:\||!\[|#)")
 ITEM = re.compile(r"^ *(?:[-*]|\d+\.) ")
 INDENTED = "    "
 COMMENT = re.compile(r"/\*(.*?)\*/", re.S)
 # The end of a sentence, before the first letter of the next. A name or a path may begin with a small letter.
-END = re.compile(r"(?<=[.?!])[)*\"']* +(?=[(*\"']*(?:[A-Z0-9`\[]|\w+[_/]))")
+END = re.compile(r"(?<=[.?!])[)*\"']* +(?=[(*\"']*(?:[A-Z0-9\[]|\w+[_/]))")
 CODE = re.compile(r"`[^`]+`")
 LINK = re.compile(r"!?\[([^\[\]]*)\]\([^)]*\)")
 
@@ -75,21 +75,22 @@ def lengths(_program, _folder):
 
 # A sentence as long as one may be, and one that has a word more.
 RIGHT, LONG = "The " + 23 * "long " + "sentence.", "The " + 24 * "long " + "sentence."
-# Texts with the name of a file each, and how many of their sentences are too long.
-TEXTS = [("a.md", RIGHT, 0), ("a.md", LONG, 1), ("a.md", LONG.replace("long ", "long\n", 12), 1), ("a.md", RIGHT + " " + LONG + " " + RIGHT, 1),
-         ("a.md", "| %s | b |" % LONG, 0), ("a.md", "```c\n%s\n```" % LONG, 0), ("a.md", "Code:\n\n    %s\n" % LONG, 0), ("a.md", "# " + LONG, 0),
-         ("a.md", "```c\na\n```\n%s" % LONG, 1), ("a.md", "- %s\n- %s" % (RIGHT[:-1], RIGHT[:-1]), 0), ("a.md", "- a\n  %s" % LONG, 1),
-         ("a.md", "Words:\n- %s" % LONG, 1), ("a.md", "`%s`" % LONG, 0), ("a.md", "%s `a` is %s" % (RIGHT, RIGHT), 1), ("a.md", RIGHT + " [A](b c) is.", 0), ("a.h", "/* %s gcflip_a does. */" % RIGHT, 0),
-         ("a.md", LONG.replace("long sentence", "[long](a.md) sentence"), 1), ("a.md", LONG.replace("long sentence", "`a b` - sentence"), 1),
-         ("a.h", "/* %s */" % LONG, 1), ("a.h", "/*\n * %s\n */" % LONG.replace("long ", "long\n * ", 12), 1), ("a.h", "/* %s */\nint a; %s" % (RIGHT, LONG), 0),
-         ("a.h", "/* - %s\n * - %s */" % (RIGHT[:-1], RIGHT[:-1]), 0), ("a.h", "/* Code:\n *\n *     %s */" % LONG, 0)]
+# Texts of documents, and of headers, and how many of their sentences are too long.
+IN_DOCUMENTS = [(RIGHT, 0), (LONG, 1), (LONG.replace("long ", "long\n", 12), 1), (RIGHT + " " + LONG + " " + RIGHT, 1), ("- a\n  %s" % LONG, 1),
+                ("| %s | b |" % LONG, 0), ("```c\n%s\n```" % LONG, 0), ("Code:\n\n    %s\n" % LONG, 0), ("# " + LONG, 0), ("```c\na\n```\n%s" % LONG, 1),
+                ("- %s\n- %s" % (RIGHT[:-1], RIGHT[:-1]), 0), ("Words:\n- %s" % LONG, 1), ("`%s`" % LONG, 0), ("%s `a` is %s" % (RIGHT, RIGHT), 1),
+                (RIGHT + " [A](b c) is.", 0), (LONG.replace("long sentence", "[long](a.md) sentence"), 1),
+                (LONG.replace("long sentence", "`a b` - sentence"), 1), (RIGHT.replace("long sentence", "long - sentence"), 0)]
+IN_HEADERS = [("/* %s */" % LONG, 1), ("/*\n * %s\n */" % LONG.replace("long ", "long\n * ", 12), 1), ("/* %s */\nint a; %s" % (RIGHT, LONG), 0),
+              ("/* - %s\n * - %s */" % (RIGHT[:-1], RIGHT[:-1]), 0), ("/* Code:\n *\n *     %s */" % LONG, 0), ("/* %s gcflip_a does. */" % RIGHT, 0)]
 
 
 def controls(_program, _folder):
     """Checks that long sentences are found, and that tables, code and headings are passed over."""
-    for path, text, wanted in TEXTS:
-        found = len(list(long_sentences(path, text)))
-        yield "%s with %r" % (path, text), None if found == wanted else "found %d" % found
+    for path, texts in (("a.md", IN_DOCUMENTS), ("a.h", IN_HEADERS)):
+        for text, wanted in texts:
+            found = len(list(long_sentences(path, text)))
+            yield "%s with %r" % (path, text), None if found == wanted else "found %d" % found
 
 
 GROUPS = [lengths, controls]
