@@ -13,23 +13,23 @@ from . import pairs
 from .c_builds import library
 from .documents import documents
 from .harness import Skipped, file_of, run
+from .picture_parts import SVG, TOP, overlapping, shapes_of, strictly_within, wrong, wrong_drawing
+from .readable_rows import NARROW, example, paired, readable
 from .traces import PLAYED, refused_texts, trace_and_replies
 
-TOP = os.path.normpath(os.path.join(os.path.dirname(os.path.abspath(__file__)), "..", ".."))
-TOOL = os.path.join(TOP, "tools", "draw")
-SVG = "{http://www.w3.org/2000/svg}"
-sys.path[:0] = [os.path.join(TOP, "tools"), os.path.join(TOP, "bindings", "python")]
-
-from drawing import crates_picture, svg  # noqa: E402
+# The module picture_parts has put the packages on the path.
+from drawing import crates_picture  # noqa: E402
 from gcflip.explore.stage import played  # noqa: E402
 from gcflip_drawing import pair_picture, timeline  # noqa: E402
 from gcflip_drawing.excerpt import excerpt_of  # noqa: E402
 from gcflip_drawing.graph_picture import drawn_as_graph  # noqa: E402
 from gcflip_drawing.pair_text import read_pair, written  # noqa: E402
-from gcflip_drawing.picture import Picture, text_width  # noqa: E402
+from gcflip_drawing.picture import Picture  # noqa: E402
 from gcflip_drawing.trace_text import BadTrace, read_trace  # noqa: E402
 from gcflip_drawing.verdicts import MEANINGS, Verdict  # noqa: E402
 from gcflip_drawing.words_picture import drawn_word_by_word, grid_of  # noqa: E402
+
+TOOL = os.path.join(TOP, "tools", "draw")
 
 
 def draw(*words, shared="no library", path=None):
@@ -45,80 +45,6 @@ def shared_library(folder):
     """Returns the path of the shared library, or None, with a line that says so, if it cannot be built."""
     built = library(folder)
     return built and os.path.join(built.lib, "libgcflip.so")
-
-
-# ---- the parts of a picture
-
-def shapes_of(picture, role):
-    return [shape for shape in picture.shapes if shape["role"] == role]
-
-
-def curve_of(arrow):
-    """Returns points of the curve of an arrow, which is drawn towards its second point."""
-    start, bend, end = arrow["points"]
-    return [tuple((1 - t) ** 2 * a + 2 * t * (1 - t) * b + t * t * c for a, b, c in zip(start, bend, end)) for t in [part / 64 for part in range(65)]]
-
-
-def corners(shape):
-    """Returns the points of a shape that have to be inside the frame."""
-    if shape["kind"] == "box":
-        return [(shape["x"], shape["y"]), (shape["x"] + shape["width"], shape["y"] + shape["height"])]
-    if shape["kind"] == "arrow":
-        return curve_of(shape)
-    if shape["kind"] != "text":
-        return shape["points"]
-    x, y, width = shape["x"], shape["y"], text_width(shape["text"], shape["role"])
-    if shape["turned"]:
-        return [(x, y), (x, y + width)]
-    before = {"start": 0, "middle": width / 2, "end": width}[shape["anchor"]]
-    return [(x - before, y - 8), (x - before + width, y + 3)]
-
-
-def outside(picture):
-    """Returns a shape that leaves the frame, or None."""
-    for shape in picture.shapes:
-        for x, y in corners(shape):
-            if not (0 <= x <= picture.width and 0 <= y <= picture.height):
-                return shape
-    return None
-
-
-def too_wide(picture):
-    """Returns a text that does not fit into its box, or None."""
-    for shape in picture.shapes:
-        if shape["kind"] == "box" and shape["text"] and text_width(shape["text"], "value") > shape["width"] + 1:
-            return shape
-    return None
-
-
-def overlapping(picture):
-    """Returns two texts on one line that overlap, or None."""
-    texts = [shape for shape in picture.shapes if shape["kind"] == "text" and not shape["turned"]]
-    spans = sorted((shape["y"], min(x for x, _ in corners(shape)), max(x for x, _ in corners(shape)), shape["text"]) for shape in texts)
-    return next(((one[3], other[3]) for one, other in zip(spans, spans[1:]) if one[0] == other[0] and one[2] > other[1] + 1), None)
-
-
-def wrong_drawing(picture):
-    """Returns what is wrong with a picture and its SVG, or None."""
-    stray = outside(picture)
-    if stray:
-        return "outside of %d by %d: %s" % (picture.width, picture.height, stray)
-    if too_wide(picture):
-        return "too wide for its box: %s" % too_wide(picture)
-    root = ElementTree.fromstring(svg.render(picture))
-    drawn = [node for node in root if node.tag in (SVG + "rect", SVG + "polyline", SVG + "polygon", SVG + "path")]
-    wanted = sum(1 for shape in picture.shapes if shape["kind"] != "text")
-    # The ground is one more.
-    if root.tag != SVG + "svg" or len(drawn) != wanted + 1:
-        return "%d shapes of %d are drawn" % (len(drawn) - 1, wanted)
-    classes = {node.get("class") for node in root.iter() if node.get("class")}
-    styled = set(re.findall(r"(?m)^(?:text)?\.([\w-]+) \{", root.find(SVG + "style").text))
-    return "no style for %s" % (classes - styled) if classes - styled else None
-
-
-def example(name):
-    with open(os.path.join(TOP, "examples", name), encoding="ascii") as file:
-        return file.read()
 
 
 # ---- pairs
@@ -250,15 +176,6 @@ def large_pairs(_program, _folder):
     yield "the refused objects of a large pair are marked", None if found == wanted else "marked %s" % found
 
 
-def paired(count, columns):
-    """Returns a pair text of objects with two fields, and of replicas in another order: every `columns`-th object first."""
-    order = [k for first in range(columns) for k in range(first, count, columns)]
-    words = "0\n" + "16777218\n0\n1\n1\n" * count
-    lines = "".join("%d %d\n" % (1 + 4 * k, 1 + 4 * at) for at, k in sorted(enumerate(order), key=lambda item: item[1]))
-    space = "%d %d\n%sroots 0\n" % (4 * count + 1, 4 * count + 1, words)
-    return "heappair 1\nold %snew %spairs %d\n%send\n" % (space, space, count, lines)
-
-
 def slanted(picture):
     """Returns parts of lines of pairs that are not upright beside or behind a row of a space. Those of the legend are level."""
     rows = [(shape["y"], shape["y"] + shape["height"]) for shape in picture.shapes if shape["kind"] == "box" and "object at " in shape["tip"]]
@@ -294,10 +211,6 @@ def bundles(_program, _folder):
     yield "drawing of 3000 pairs", wrong_drawing(drawn)
     # The replicas keep the order of the objects, so that the lines are in few bundles, each large enough to say its number.
     yield "bundles of 3000 pairs", None if told == 3000 else "they count %d" % told
-
-
-def wrong(found, wanted):
-    return None if found == wanted else "%s, wanted %s" % (found, wanted)
 
 
 def excerpts(_program, _folder):
@@ -409,10 +322,6 @@ def played_timelines():
 def lines_of(picture, role):
     """Returns the points of all lines and arrows whose roles begin so."""
     return [shape["points"] for shape in picture.shapes if shape["kind"] in ("line", "arrow") and shape["role"].startswith(role)]
-
-
-def strictly_within(point, box):
-    return box["x"] < point[0] < box["x"] + box["width"] and box["y"] < point[1] < box["y"] + box["height"]
 
 
 def touches(point, box):
@@ -614,8 +523,8 @@ def kept(program, folder):
         yield "%s is up to date" % name, None if same else "draw it again: tools/draw %s -o %s" % (" ".join(words), name)
 
 
-# A phone is 390 pixels wide, and shows a document in a column of 358. Its pictures are drawn for that width, and no text is lower than 9 pixels there.
-NARROW, COLUMN, LEAST_TEXT = 390, 358, 9
+# A phone shows a document in a column of 358 pixels. No text of a picture is lower than 9 pixels there.
+COLUMN, LEAST_TEXT = 358, 9
 SHOWN = re.compile(r"!\[[^]]*\]\(([^)]*\.svg)\)")
 
 
@@ -709,7 +618,7 @@ def crossed(root):
     def inside(point, box, margin):
         return box[0] - margin < point[0] < box[0] + box[2] + margin and box[1] - margin < point[1] < box[1] + box[3] + margin
 
-    for path in root.iter(SVG + "path"):
+    for path in root.findall(SVG + "path"):
         if path.get("class"):
             points = points_of(path.get("d"))
             for box in boxes:
@@ -742,5 +651,5 @@ def drawn_by_hand(_program, _folder):
         yield "ends of arrows of docs/pictures/%s.svg" % name, far_ends(root) and "%s ends at nothing" % far_ends(root)
 
 
-GROUPS = [examples, small_pairs, graphs, faults, large_pairs, bundles, excerpts, written_pairs, faults_of_traces, timelines, crates, messages, tool, widths, paths, long_paths, kept,
+GROUPS = [examples, small_pairs, graphs, faults, large_pairs, bundles, readable, excerpts, written_pairs, faults_of_traces, timelines, crates, messages, tool, widths, paths, long_paths, kept,
           legible, drawn_by_hand]

@@ -6,9 +6,10 @@ import time
 import xml.etree.ElementTree as ElementTree
 
 from . import pairs
-from .drawings import SVG, drawn_example, svg
+from .drawings import drawn_example
 from .examples import content, names_of
 from .harness import file_of, run
+from .picture_parts import SVG, svg
 from .web_page import complaints, page, wrong
 
 # The module drawings has put the package on the path.

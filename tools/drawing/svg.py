@@ -15,6 +15,7 @@ STYLES = {
     "free": "fill: none; stroke: #d0d7de; stroke-dasharray: 3 3",
     "reserved": "fill: #d0d7de; stroke: #8c959f",
     "changed": "fill: #ffdcf1; stroke: #bf3989",
+    "broken": "fill: #57606a",
     "logged": "fill: none; stroke: #bc4c00; stroke-width: 3",
     "scan": "fill: #8250df",
     "unknown": "fill: #ffebe9; stroke: #cf222e",

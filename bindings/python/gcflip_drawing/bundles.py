@@ -2,12 +2,14 @@
 the band between the spaces."""
 from typing import NamedTuple
 
-# Fewer lines are drawn one by one, straight; still fewer if they pass behind rows.
+# Fewer lines are drawn one by one; still fewer if they pass behind rows.
 LEAST_LINES, LEAST_BEHIND_ROWS = 9, 4
 # The width of a picture has so many parts. Lines from one part to one part are a bundle.
 PARTS = 6
 # The band between the spaces, and how far inside it the bundles begin and end.
 BAND, INSIDE = 120, 28
+# Labels beside a space are not farther from it than this. Lines are upright there.
+LABELS = 15
 # Half the width of a bundle with all lines; others have their share of it, within these.
 WHOLE, THIN, THICK = 16, 1, 7
 # Lines that begin in rows above one another are beside one another, so that each can be told from the next.
@@ -66,12 +68,24 @@ def draw_way(picture, begin, end, half, role):
     picture.area([(x - across, y + down), (x + across, y - down), (to_x + across, to_y - down), (to_x - across, to_y + down)], role)
 
 
+def is_upright(line):
+    """Returns whether a line has one place across the picture."""
+    return beside(line.start, line.row) == beside(line.end, line.end_row)
+
+
+def draw_few_lines(picture, lines, upper, lower, role):
+    """Draws each line by itself. It is upright up to the labels of both spaces, so that it crosses no row aslant and no label."""
+    for line in lines:
+        first, last = beside(line.start, line.row), beside(line.end, line.end_row)
+        way = [] if is_upright(line) else [(first, upper + LABELS), (last, lower - LABELS)]
+        picture.line([(first, line.start[1]), *way, (last, line.end[1])], role)
+
+
 def draw_lines(picture, lines, width, upper, lower, role):
-    """Draws lines from the space above `upper` to the space below `lower`, straight if they are few. A bundle is the thicker the more
+    """Draws lines from the space above `upper` to the space below `lower`, each by itself if they are few. A bundle is the thicker the more
     lines it has."""
     if not is_bundled(lines):
-        for line in lines:
-            picture.line([line.start, line.end], role)
+        draw_few_lines(picture, lines, upper, lower, role)
         return
     high, low = upper + INSIDE, lower - INSIDE
     total = lines_in(lines)
@@ -83,8 +97,8 @@ def draw_lines(picture, lines, width, upper, lower, role):
             if count == 1:
                 picture.line([(first, line.start[1]), (first, high), (last, low), (last, line.end[1])], role)
             elif line.is_drawn:
-                picture.line([(first, line.start[1]), (first, upper), begin], role)
-                picture.line([end, (last, lower), (last, line.end[1])], role)
+                picture.line([(first, line.start[1]), (first, upper + LABELS), begin], role)
+                picture.line([end, (last, lower - LABELS), (last, line.end[1])], role)
         if count > 1:
             draw_way(picture, begin, end, max(THIN, min(THICK, WHOLE * count / total)), role + "-bundle")
         if count > 1 and count >= TOLD * total:

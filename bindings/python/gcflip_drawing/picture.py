@@ -63,7 +63,8 @@ class Picture:
         self.shapes.append({"kind": kind, "role": role, **rest})
 
     def sized(self, width, height):
-        """Sets the size, wider if a text needs it, and returns the picture."""
+        """Sets the size, wider if a text needs it, puts texts in front of all other shapes, and returns the picture."""
+        self.shapes.sort(key=lambda shape: shape["kind"] == "text")
         ends = [shape["x"] + text_width(shape["text"], shape["role"]) + MARGIN for shape in self.shapes
                 if shape["kind"] == "text" and shape["anchor"] == "start" and not shape["turned"]]
         self.width, self.height = max([width] + ends), height

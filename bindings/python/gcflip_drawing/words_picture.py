@@ -4,7 +4,7 @@ from typing import NamedTuple
 
 from gcflip.inference import root_name
 
-from .bundles import BAND, Line, draw_lines, is_bundled
+from .bundles import BAND, Line, beside, draw_lines, is_bundled, is_upright
 from .heap import references, shown, target
 from .picture import MARGIN, Picture, text_width
 from .scene import counted, objects_of
@@ -12,7 +12,8 @@ from .scene import counted, objects_of
 CELL, HEIGHT = 50, 30
 ROOT_X, ROOT_WIDTH = 24, 96
 GAP = 34
-BETWEEN = 44
+# The distance of the spaces if lines between them are upright, and if they are not.
+BETWEEN, BETWEEN_SLANTED = 44, 72
 # An entirely free row is lower, and nothing is drawn between such rows.
 FREE_HEIGHT, FREE_GAP, LABEL_GAP = 10, 4, 16
 # A caption and a legend need this many columns.
@@ -59,6 +60,8 @@ class Side:
         # The rows with words of objects, if the free rows after them are drawn lower.
         self.high_rows = max(1, -(-len(space.words) // grid.columns)) if grid.is_whole else self.rows
         self.has_arrows = grid.has_roots and self.high_rows <= MOST_ROWS_WITH_ARROWS
+        # For each line to the other space: the row in which it ends, and where it is across the picture.
+        self.lines = []
         self.changed = {mark.address + i for mark in marks if mark.is_old == is_old and mark.role == "changed" for i in range(mark.size)}
 
     def label(self, thing):
@@ -66,12 +69,12 @@ class Side:
         address, more = self.space.address_of(thing.start), self.space.more_fields(thing.start)
         return "%d and %s" % (address, counted(more, "more field")) if more else str(address)
 
-    def roots_of(self, thing, most):
-        """Returns the names of the roots that refer to an object, as a second label of so many characters, if there are no arrows from them."""
+    def roots_of(self, thing):
+        """Returns the names of the roots that refer to an object, as a second label, if there are no arrows from them."""
         address = self.space.address_of(thing.start)
         names = [] if self.has_arrows else [
             name for name, word in zip(root_names(len(self.space.roots)), self.space.roots) if target(word, self.space.beyond) == address]
-        return short("\u2190 " + ", ".join(names), most) if names else ""
+        return "\u2190 " + ", ".join(names) if names else ""
 
     def drawn_words(self):
         """Returns the number of words that have a cell."""
@@ -109,6 +112,14 @@ class Side:
         x, y = self.place(address)
         return x + CELL / 2, y + HEIGHT if self.is_old else y
 
+    def passing(self, row):
+        """Returns where lines to the other space pass a row in which they do not end."""
+        return sorted(x for end, x in self.lines if (end < row if self.is_old else end > row))
+
+    def beside_labels(self, row):
+        """Returns where lines to the other space pass the labels of a row."""
+        return sorted(x for end, x in self.lines if (end <= row if self.is_old else end >= row))
+
     def away(self, distance):
         """Returns a distance away from the other space."""
         return -distance if self.is_old else distance
@@ -127,6 +138,8 @@ MOST_IN_CELL, LEAST_OF_ROOTS = 6, 5
 BESIDE_AN_ARROW = 13
 # An object that goes on in the next row reaches so far beyond the end of its row, and begins as far before the next one.
 BEYOND = 9
+# The distance of a label from a line between the spaces, and that of a free cell.
+BESIDE_A_LINE, FREE_BESIDE_A_LINE = 3, 5
 
 
 def short(text, most=MOST_IN_CELL):
@@ -146,13 +159,28 @@ def draw_word(picture, side, address, role, text, tip):
         picture.box(x + 3, y + 3, CELL - 6, HEIGHT - 6, role, short(text), tip)
 
 
-def draw_object(picture, side, thing):
+def draw_outline(picture, side, thing):
+    """Draws the outline of an object. Where it goes on in the next row, both ends have a mark."""
     for address, count in side.segments(thing.start, thing.size()):
         x, y = side.place(address)
         tip = "object at %d" if address == thing.start else "rest of the object at %d"
         before = BEYOND if address != thing.start else 0
         after = BEYOND if address + count < thing.start + thing.size() else 0
         picture.box(x - before, y, before + count * CELL + after, HEIGHT, side.space.sort(thing), tip=tip % side.space.address_of(thing.start) + side.space.tail)
+        if before:
+            draw_broken_end(picture, x - BEYOND, y)
+        if after:
+            draw_broken_end(picture, x + count * CELL, y)
+
+
+def draw_broken_end(picture, x, y):
+    """Draws the mark of an object that goes on in another row."""
+    middle = y + HEIGHT / 2
+    picture.area([(x + 1, middle - 5), (x + BEYOND - 2, middle), (x + 1, middle + 5)], "broken")
+
+
+def draw_object(picture, side, thing):
+    draw_outline(picture, side, thing)
     name = "raw" if thing.raw else "kind"
     draw_word(picture, side, thing.start, "head", "%s %d" % (name, thing.kind), "header: kind %d, %s" % (thing.kind, counted(thing.count + side.space.more_fields(thing.start), "field")))
     link = side.space.words[thing.start + 1]
@@ -160,16 +188,60 @@ def draw_object(picture, side, thing):
     for i, word in enumerate(thing.fields):
         said = str(word) if thing.raw else shown(word, side.space.beyond)
         draw_word(picture, side, thing.start + 2 + i, "cell", said, "field %d: word %d" % (i, word))
-    x, y = side.inner_edge(thing.start)
-    y += 11 if side.is_old else -4
-    label, left = side.label(thing), x - CELL / 2 + 2
-    picture.text(left, y, label, "small")
-    # Arrows and lines that end at the object have their ends between the two labels. The next object has its label behind this one.
-    beside = max(x + BESIDE_AN_ARROW, left + text_width(label + " ", "small"))
-    _, count = next(side.segments(thing.start, thing.size()))
-    roots = side.roots_of(thing, max(LEAST_OF_ROOTS, int((left + count * CELL - beside) / text_width("x", "small"))))
+    draw_labels(picture, side, thing)
+
+
+def draw_labels(picture, side, thing):
+    """Draws the address of an object, with the names of its roots, and names the object at each of its rests."""
+    (_, count), *rests = side.segments(thing.start, thing.size())
+    (left, _), y, row = side.place(thing.start), label_base(side, thing.start), thing.start // side.grid.columns
+    label, end, lines = side.label(thing), left + count * CELL, side.beside_labels(row)
+    draw_names_of_rests(picture, side, side.space.address_of(thing.start), rests)
+    x = free_place(left + 2, end, label, lines)
+    picture.text(x, y, label, "small")
+    # Arrows that end at the object have their ends between the two labels. The next object has its label behind this one.
+    beside_it = max(left + CELL / 2 + BESIDE_AN_ARROW, x + text_width(label + " ", "small"))
+    roots = side.roots_of(thing)
     if roots:
-        picture.text(beside, y, roots, "small")
+        roots = fitting(roots, beside_it, end, lines)
+        picture.text(free_place(beside_it, end, roots, lines), y, roots, "small")
+
+
+def draw_names_of_rests(picture, side, name, rests):
+    """Writes below each rest of an object, which is a first word and a number of words, whose it is."""
+    for address, count in rests:
+        (x, y), row = side.place(address), address // side.grid.columns
+        lines = side.beside_labels(row) if side.is_old else side.passing(row)
+        left, end, shorter = x - BEYOND, x + count * CELL, "of %d" % name
+        text = next((text for text in ("rest of %d" % name, shorter, "\u2026%d" % name) if has_room(text, left, end, lines)), shorter)
+        picture.text(free_place(left, end, text, lines), y + HEIGHT + 11, text, "small")
+
+
+def label_base(side, address):
+    """Returns the base of the labels of the row that has a word."""
+    y = side.inner_edge(address)[1]
+    return y + 11 if side.is_old else y - 4
+
+
+def free_place(left, end, text, lines):
+    """Returns the first place of a label from `left` on at which it is beside these lines. If it would leave `end` there, it is at `left`."""
+    x, width = left, text_width(text, "small")
+    for line in lines:
+        if x - BESIDE_A_LINE < line < x + width + BESIDE_A_LINE:
+            x = line + BESIDE_A_LINE
+    return x if x + width <= end else left
+
+
+def has_room(text, left, end, lines):
+    """Returns whether a label has room from `left` to `end`, beside these lines."""
+    x, width = free_place(left, end, text, lines), text_width(text, "small")
+    return x + width <= end and not any(x < line < x + width for line in lines)
+
+
+def fitting(text, left, end, lines):
+    """Returns as much of a label as has room beside these lines, but not less than a few characters."""
+    parts = (short(text, most) for most in range(len(text), LEAST_OF_ROOTS, -1))
+    return next((part for part in parts if has_room(part, left, end, lines)), short(text, LEAST_OF_ROOTS))
 
 
 def draw_rest(picture, side):
@@ -188,8 +260,22 @@ def draw_rest(picture, side):
         height = side.row_height(address)
         inset = 3 if height == HEIGHT else 0
         text = "%d free" % (side.space.size - len(words)) if address == free.start and height == HEIGHT else ""
-        text = text if text_width(text, "value") <= count * CELL - 8 else ""
-        picture.box(x + 3, y + inset, count * CELL - 6, height - 2 * inset, "free", text)
+        parts = list(parts_between(x + 3, x + count * CELL - 3, side.passing(address // side.grid.columns)))
+        named = max(parts, key=lambda part: part[1] - part[0], default=None)
+        for part in parts:
+            said = text if part == named and text_width(text, "value") <= part[1] - part[0] - 2 else ""
+            picture.box(part[0], y + inset, part[1] - part[0], height - 2 * inset, "free", said)
+
+
+def parts_between(left, right, lines):
+    """Yields the parts of free cells, as left and right end, between the lines that pass them."""
+    for line in lines:
+        if left < line + FREE_BESIDE_A_LINE and line - FREE_BESIDE_A_LINE < right:
+            if line - FREE_BESIDE_A_LINE > left:
+                yield left, line - FREE_BESIDE_A_LINE
+            left = line + FREE_BESIDE_A_LINE
+    if left < right:
+        yield left, right
 
 
 def draw_references(picture, side):
@@ -363,8 +449,12 @@ def drawn_word_by_word(scene, grid=Grid()):
     old, old_height = side_of(scene, scene.old, True, heading_y + 2 + rows[0][1], grid)
     sides, bottom, bundled = [old], old.top + old_height, False
     if scene.new:
-        bundled = is_bundled(joined_lines([old, Side(scene.new, False, 0, grid)], scene))
-        new, new_height = side_of(scene, scene.new, False, bottom + (BAND if bundled else BETWEEN), grid)
+        lines = joined_lines([old, Side(scene.new, False, 0, grid)], scene)
+        bundled = is_bundled(lines)
+        between = BAND if bundled else BETWEEN if all(map(is_upright, lines)) else BETWEEN_SLANTED
+        new, new_height = side_of(scene, scene.new, False, bottom + between, grid)
+        old.lines = [(line.row, beside(line.start, line.row)) for line in lines]
+        new.lines = [(line.end_row, beside(line.end, line.end_row)) for line in lines]
         sides.append(new)
         rows.append((new.top + new_height + 4, 0 if grid.has_roots else height_of_root_rows(scene.new, scene.root, width)))
         bottom = picture.paragraph(ROOT_X, sum(rows[1]) + 14, heading(scene.new), "label", width)
