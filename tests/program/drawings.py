@@ -18,7 +18,7 @@ from .readable_rows import NARROW, example, paired, readable
 from .traces import PLAYED, refused_texts, trace_and_replies
 
 # The module picture_parts has put the packages on the path.
-from drawing import crates_picture  # noqa: E402
+from drawing import crates_picture, svg  # noqa: E402
 from gcflip.explore.stage import played  # noqa: E402
 from gcflip_drawing import pair_picture, timeline  # noqa: E402
 from gcflip_drawing.excerpt import excerpt_of  # noqa: E402
@@ -557,6 +557,37 @@ def legible(_program, _folder):
     yield "pictures are shown", None if len(pictures) > 10 else "only %s" % pictures
 
 
+# A colour, and a style sheet's rules for a dark ground, which are its last ones.
+COLOUR = re.compile("#[0-9a-f]{6}")
+DARK_RULES = re.compile(r"@media \(prefers-color-scheme: dark\) \{\n(.*)\n\}\Z", re.DOTALL)
+
+
+def colours_of(rules):
+    """Returns for each rule, by its name, the number of its colours. A rule that has none is left out."""
+    rules = (rule.split(" { ") for rule in rules.split("\n") if COLOUR.search(rule))
+    return {name.strip(): len(COLOUR.findall(style)) for name, style in rules}
+
+
+def without_dark_colours(text):
+    """Returns what in an SVG text keeps its colour where the reader prefers a dark ground."""
+    style = text.split("<style>\n", 1)[1].split("\n</style>", 1)[0]
+    dark = DARK_RULES.search(style)
+    if dark is None:
+        return ["no rules"]
+    light, others = colours_of(style[:dark.start()]), colours_of(dark.group(1))
+    outside = COLOUR.findall(text.replace(style, ""))
+    return sorted(name for name, count in light.items() if others.get(name) != count) + outside
+
+
+def dark(_program, _folder):
+    """Checks that each picture of a document has a dark ground for readers who prefer it: each colour has another one there, and no shape has one of its own."""
+    for name in shown_pictures():
+        with open(os.path.join(TOP, name), encoding="utf-8") as file:
+            yield "dark colours of %s" % name, wrong(without_dark_colours(file.read()), [])
+    same = [colour for colour, other in svg.DARK.items() if colour == other]
+    yield "each colour has another one", wrong(same, [])
+
+
 def widths(program, folder):
     """Checks pictures of several widths: nothing is outside, they are about as wide as they should be, and the verdict is whole."""
     shared = shared_library(folder)
@@ -607,7 +638,7 @@ def points_of(path):
 
 
 # Boxes that stand for a place, and that curves may run through.
-OPEN_BOXES = ("space", "band", "free")
+OPEN_BOXES = ("space", "band", "free", "ground")
 
 
 def crossed(root):
@@ -652,4 +683,4 @@ def drawn_by_hand(_program, _folder):
 
 
 GROUPS = [examples, small_pairs, graphs, faults, large_pairs, bundles, readable, excerpts, written_pairs, faults_of_traces, timelines, crates, messages, tool, widths, paths, long_paths, kept,
-          legible, drawn_by_hand]
+          legible, dark, drawn_by_hand]

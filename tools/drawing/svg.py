@@ -1,4 +1,5 @@
 """Renders a picture as SVG."""
+import re
 from xml.sax.saxutils import escape
 
 from gcflip_drawing.picture import BOLD, TEXT_SIZES
@@ -77,6 +78,15 @@ STYLES = {
     "no-room": "fill: #bc4c00",
 }
 
+# The colour of a reader who prefers a dark ground, for each colour of a style.
+DARK = {
+    "#ffffff": "#0d1117", "#24292f": "#e6edf3", "#57606a": "#a5adb8", "#6e7781": "#9198a1", "#8c959f": "#7d8590", "#afb8c1": "#545d68",
+    "#d0d7de": "#30363d", "#eaeef2": "#21262d", "#f6f8fa": "#161b22", "#0969da": "#58a6ff", "#ddf4ff": "#0c2d4f", "#54aeff": "#1f6feb",
+    "#1a7f37": "#56d364", "#dafbe1": "#12341d", "#4ac26b": "#2ea043", "#9a6700": "#d4a72c", "#fff8c5": "#3d3000", "#d4a72c": "#9e6a03",
+    "#cf222e": "#ff7b72", "#ffebe9": "#46161a", "#bc4c00": "#f0883e", "#fff1e5": "#47230b", "#8250df": "#c297ff", "#fbefff": "#33204f",
+    "#bf3989": "#f778ba", "#ffdcf1": "#5b1746", "#ffeff7": "#4a1536", "#1b7c83": "#76d7dc", "#d5f2f3": "#0d3b3e",
+}
+
 TEXT_COLOURS = {"small": "#57606a", "verdict": "#1a7f37", "refusal": "#cf222e"}
 
 HEADS = ["reference", "stale", "rooted", *(role for role in STYLES if role.startswith("uses"))]
@@ -136,17 +146,32 @@ def style_sheet(shapes):
         halo = "; stroke: #ffffff; stroke-width: 3px; paint-order: stroke" if role == "small" else ""
         if role in texts:
             rules.append("text.%s { font-size: %dpx%s%s%s }" % (role, size, bold, colour, halo))
-    return "\n".join(rules)
+    rules += [".head-%s { fill: %s }" % (role, STYLES[role].split("stroke: ")[1].split(";")[0]) for role in heads_of(shapes)]
+    return "\n".join(rules + dark_rules(rules))
+
+
+def dark_rules(rules):
+    """Returns the rules that replace the colours of these where the reader prefers a dark ground."""
+    found = []
+    for rule in rules:
+        name, _, style = rule.rstrip(" }").partition(" { ")
+        coloured = [re.sub("#[0-9a-f]{6}", lambda colour: DARK[colour.group()], part) for part in style.split("; ") if "#" in part]
+        if coloured:
+            found.append("  %s { %s }" % (name, "; ".join(coloured)))
+    return ["@media (prefers-color-scheme: dark) {", *found, "}"]
+
+
+def heads_of(shapes):
+    """Returns the roles of the arrows that have a head."""
+    arrows = {shape["role"] for shape in shapes if shape["kind"] == "arrow"}
+    return [role for role in HEADS if role in arrows]
 
 
 def markers(shapes):
     """Yields the heads of the arrows among these shapes."""
-    arrows = {shape["role"] for shape in shapes if shape["kind"] == "arrow"}
-    for role in HEADS:
-        colour = STYLES[role].split("stroke: ")[1].split(";")[0]
-        if role in arrows:
-            yield ('<marker id="head-%s" viewBox="0 0 8 8" refX="8" refY="4" markerWidth="7" markerHeight="7" orient="auto">'
-                   '<path d="M0,0 L8,4 L0,8 z" style="fill: %s"/></marker>' % (role, colour))
+    for role in heads_of(shapes):
+        yield ('<marker id="head-%s" viewBox="0 0 8 8" refX="8" refY="4" markerWidth="7" markerHeight="7" orient="auto">'
+               '<path class="head-%s" d="M0,0 L8,4 L0,8 z"/></marker>' % (role, role))
 
 
 def render(picture):
