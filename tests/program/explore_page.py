@@ -235,8 +235,14 @@ def checks(program, folder):
 FIRST_TRACE, SECOND_TRACE = "write_while_scanning", "sharing_and_a_cycle"
 
 
+# The boxes of the spaces of a drawing that are not whole in view.
+OUT_OF_VIEW = """return [...document.querySelectorAll("#%s svg :is(.object, .raw, .garbage, .reserved, .free)")].map((it) => it.getBoundingClientRect())
+    .filter((it) => it.top < 0 || it.left < 0 || it.bottom > innerHeight || it.right > innerWidth).length;"""
+
+
 def tour(program, folder):
-    """Checks that each stop of the tour shows the event that it is about, with the program's reply, and that the reader's own trace comes back."""
+    """Checks that each stop of the tour shows the event that it is about, with the program's reply and whole spaces on a laptop, and that the reader's own
+    trace comes back."""
     own = "heaptrace 1\nspace 24 mutators 1\nm 0 new r0 7 1\nm 0 look r0\n"
     with page(folder) as shown:
         if shown is None:
@@ -251,6 +257,7 @@ def tour(program, folder):
         shown.set("#trace-editor textarea", own)
         shown.wait_for("event", "of 2 events")
         shown.step(1, 2)
+        shown.resize(1280, 800)
         shown.click("tour-start")
         for at, stop in enumerate(stops):
             shown.wait_for("tour-title", stop["title"])
@@ -267,6 +274,10 @@ def tour(program, folder):
             hidden = shown.run("return [...document.querySelectorAll('.pointed')].filter((it) => !it.offsetParent).map((it) => it.id);")
             yield "what stop %d points at is shown" % at, wrong(hidden, [])
             shown.wait("document.activeElement.id === 'tour-title'")
+            drawing = "pair-picture" if stop.get("checks") else "picture"
+            # It is drawn again if its place has another width.
+            shown.wait("Math.abs(document.querySelector('#%s svg').getBoundingClientRect().width - document.getElementById('%s').clientWidth) < 60" % (drawing, drawing))
+            yield "both spaces of stop %d are in view" % at, wrong(shown.run(OUT_OF_VIEW % drawing), 0)
             if at == 6:
                 said = shown.text("certificate-body")
                 yield "the tour's checker refuses", wrong("refused 9 FieldDiffers 0 0" in said, True)

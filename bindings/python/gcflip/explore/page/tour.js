@@ -72,7 +72,7 @@ export const STOPS = [
   {
     position: 10, reply: "flipped 1", look: ["picture"], title: "The flip",
     text: ["The collector handed over the certificate, the checker accepted its one pair, and the collection is over. The root r0 refers to " +
-      "the replica, and the old space is gone, with all garbage that was in it."],
+      "the replica. Nobody uses the old space any more, nor the garbage that is in it. It is kept until the next collection."],
   },
   {
     position: 11, reply: "saw num 9", look: ["trace", "event"], title: "Nothing was lost",
