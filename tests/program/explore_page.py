@@ -606,6 +606,24 @@ def hurry(_program, folder):
         yield "no complaint", complaints(shown)
 
 
+def progress(_program, folder):
+    """Checks that a bar is shown while the server takes long for an answer, and not for a quick one."""
+    with page(folder) as shown:
+        if shown is None:
+            return
+        shown.run("window.quick = window.fetch;")
+        shown.step(1, 11)
+        yield "no bar for a quick answer", wrong(shown.run("return document.getElementById('busy').hidden;"), True)
+        shown.run("window.fetch = async (...words) => { await new Promise((done) => { window.release = done; }); return window.quick(...words); };")
+        shown.click("play-step")
+        shown.wait("!document.getElementById('busy').hidden")
+        yield "a bar for a slow answer", wrong(shown.run("return document.querySelector('#busy progress').getBoundingClientRect().width > 0;"), True)
+        shown.run("window.release(); window.fetch = window.quick;")
+        shown.wait_for("event", "Event 2 of 11")
+        yield "the bar goes with the answer", wrong(shown.run("return document.getElementById('busy').hidden;"), True)
+        yield "no complaint", complaints(shown)
+
+
 def shapes_in_page(shown, picture):
     """Returns the shapes that the page draws for a description: names, roles and attributes."""
     return shown.run("""const { render } = await import("./picture.js");

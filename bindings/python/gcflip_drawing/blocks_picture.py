@@ -3,7 +3,7 @@ from collections import Counter
 from typing import NamedTuple
 
 from .bundles import BAND, Line, draw_lines, is_bundled
-from .heap import RAW, length_of
+from .heap import RAW
 from .picture import MARGIN, Picture
 from .scene import counted, objects_of
 from .words_picture import LINES, ROOT_X, bundle_entry, draw_caption
@@ -62,9 +62,13 @@ class Side:
         add(0, behind, places["reserved"])
         live, plain, raw, garbage = self.space.live, places["object"], places["raw"], places["garbage"]
         for start, header in self.space.objects.headers.items():
-            size = length_of(header) + 2
-            add(start, size, garbage if start not in live else raw if header >= RAW else plain)
-            behind = start + size
+            behind, block = start + (header & 65535) + 2, start // scale
+            sort = garbage if start not in live else raw if header >= RAW else plain
+            # Most objects are within one block.
+            if behind <= (block + 1) * scale:
+                counts[block][sort] += behind - start
+            else:
+                add(start, behind - start, sort)
         add(behind, end - behind, places["unknown"])
         add(end, drawn - end, places["free"])
         return [SORTS[max(range(len(SORTS)), key=count.__getitem__)] for count in counts]

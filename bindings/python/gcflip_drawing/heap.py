@@ -61,7 +61,8 @@ def walk(words, raws):
     headers, at, end = {}, 1, len(words)
     while at < end:
         word = words[at]
-        behind = at + length_of(word) + 2
+        # A call of length_of for each object would take as long as all else here.
+        behind = at + (word & 65535) + 2
         if behind > end or not (PLAIN <= word < PLAIN + HEADERS or raws and RAW <= word < RAW + HEADERS):
             break
         headers[at] = word

@@ -91,8 +91,9 @@ def read_accepted(text):
     old, at = accepted_image(lines, 1)
     new, at = accepted_image(lines, at)
     count = int(lines[at].split(" ")[1])
-    pairs = [(int(first), int(second)) for first, _, second in (line.partition(" ") for line in lines[at + 1:at + 1 + count])]
-    return PairText(lines[0] == "heappair 2", old, new, pairs)
+    places = map(int, " ".join(lines[at + 1:at + 1 + count]).split())
+    # Each pair is the next two places.
+    return PairText(lines[0] == "heappair 2", old, new, list(zip(places, places)))
 
 
 def accepted_image(lines, at):

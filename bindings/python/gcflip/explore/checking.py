@@ -1,6 +1,7 @@
 """Checks pair texts and image texts, draws them, and spoils pairs."""
 from __future__ import annotations
 
+import bisect
 import copy
 import functools
 import random
@@ -11,7 +12,7 @@ from gcflip import BadText, Refused, check_text, compare, explained
 from gcflip.inference import root_name
 from gcflip_drawing.blocks_picture import blocks_of
 from gcflip_drawing.excerpt import MOST_OBJECTS, excerpt_of, starts_between
-from gcflip_drawing.heap import beyond, header_of, shown, walk
+from gcflip_drawing.heap import Object, beyond, header_of, shown, walk
 from gcflip_drawing.images_text import read_images
 from gcflip_drawing.pair_picture import scene_of
 from gcflip_drawing.pair_text import Image, PairText, Unreadable, read_accepted, written
@@ -47,7 +48,11 @@ class Opened(NamedTuple):
 def opened(text: bytes) -> Opened:
     """Reads and checks a pair text, or an image text, whose pairs are inferred. What it returns is kept for later requests about the same text, so nobody
     may change it. Raises BadText or Unreadable."""
-    pair, refused = compared(text) if text.startswith(HEADING) else read_and_checked(text)
+    return found_for(text, *(compared(text) if text.startswith(HEADING) else read_and_checked(text)))
+
+
+def found_for(text: bytes, pair: PairText, refused: Refused | None) -> Opened:
+    """Returns what the page shows of a text, whose pair and refusal are known."""
     verdict = Verdict(str(refused) if refused else "yes %d" % len(pair.pairs))
     scene = scene_of(pair, "The pair of heaps", verdict)
     # The page shows the verdict above the picture.
@@ -71,12 +76,17 @@ def checked(text: bytes, width: int, changed: Place | None = None) -> dict[str, 
 
 def read_and_checked(text: bytes) -> tuple[PairText, Refused | None]:
     """Returns the pair of a text, and the checker's refusal, or None if it says yes. Raises BadText."""
-    refused = None
+    refused = refusal_of(text)
+    return read_accepted(text.decode("ascii")), refused
+
+
+def refusal_of(text: bytes) -> Refused | None:
+    """Returns the checker's refusal of a pair text, or None if it says yes. Raises BadText."""
     try:
         check_text(text)
     except Refused as refusal:
-        refused = refusal
-    return read_accepted(text.decode("ascii")), refused
+        return refusal
+    return None
 
 
 def compared(text: bytes) -> tuple[PairText, Refused | None]:
@@ -206,11 +216,22 @@ def name_of(pair: PairText, place: Place) -> str:
         return "%s of the %s heap" % (root_name(place.at, len(row_of(pair, place.heap, "roots"))), place.heap)
     if place.at == 0:
         return "the reserved word 0 of the %s heap" % place.heap
-    for start, thing in walk(row_of(pair, place.heap, "words"), pair.raws).items():
-        if start <= place.at < start + thing.size():
-            part = {start: "the header", start + 1: "the link"}.get(place.at, "field %d" % (place.at - start - 2))
-            return "%s of the object at %d of the %s heap" % (part, start, place.heap)
+    thing = object_around(pair, place)
+    if thing is not None:
+        part = {0: "the header", 1: "the link"}.get(place.at - thing.start, "field %d" % (place.at - thing.start - 2))
+        return "%s of the object at %d of the %s heap" % (part, thing.start, place.heap)
     return "word %d of the %s heap" % (place.at, place.heap)
+
+
+def object_around(pair: PairText, place: Place) -> Object | None:
+    """Returns the object that has a word, or None if the word belongs to none, or is a root."""
+    if place.row == "roots":
+        return None
+    objects = walk(row_of(pair, place.heap, "words"), pair.raws)
+    starts = list(objects)
+    at = bisect.bisect_right(starts, place.at) - 1
+    thing = objects[starts[at]] if at >= 0 else None
+    return thing if thing is not None and place.at < thing.start + thing.size() else None
 
 
 def other_words(word: int, chosen: random.Random) -> list[int]:
@@ -221,21 +242,29 @@ def other_words(word: int, chosen: random.Random) -> list[int]:
 
 def why_accepted(pair: PairText, place: Place) -> str:
     """Explains why the checker says yes although a word changed."""
-    objects = walk(row_of(pair, place.heap, "words"), pair.raws) if place.row == "words" else {}
-    if any(place.at == start + 1 for start in objects):
+    thing = object_around(pair, place)
+    if thing is not None and place.at == thing.start + 1:
         return "It is a link word, and no check reads links."
     paired = {places[0 if place.heap == "old" else 1] for places in pair.pairs}
-    if any(start <= place.at < start + thing.size() and start not in paired for start, thing in objects.items()):
+    if thing is not None and thing.start not in paired:
         return "It belongs to an object that is in no pair, and that no reachable object refers to: garbage, which need not be copied."
     return "The pair still meets all conditions."
 
 
-def places_to_spoil(pair: PairText, chosen: random.Random) -> list[Place]:
-    """Returns the places of one heap's words, or in one case of four those of its roots that are not nil."""
+def place_to_spoil(pair: PairText, chosen: random.Random) -> Place:
+    """Returns the place of a word of one heap, or in one case of four of one of its roots that are not nil."""
     heap = chosen.choice(["old", "new"])
-    words = [Place(heap, "words", at) for at in range(len(row_of(pair, heap, "words")))]
-    roots = [Place(heap, "roots", at) for at, word in enumerate(row_of(pair, heap, "roots")) if word != 0]
-    return roots if roots and chosen.randrange(4) == 0 else words
+    roots = [at for at, word in enumerate(row_of(pair, heap, "roots")) if word != 0]
+    if roots and chosen.randrange(4) == 0:
+        return Place(heap, "roots", chosen.choice(roots))
+    return Place(heap, "words", chosen.randrange(len(row_of(pair, heap, "words"))))
+
+
+def pair_of(text: bytes) -> PairText:
+    """Returns the pair of a pair text. Nobody may change it, since it is kept. Raises BadText."""
+    if text.startswith(HEADING):
+        return read_and_checked(text)[0]
+    return opened(text).pair
 
 
 def copied(pair: PairText) -> PairText:
@@ -245,13 +274,15 @@ def copied(pair: PairText) -> PairText:
 
 def spoiled(text: bytes, width: int, chosen: random.Random) -> dict[str, Any]:
     """Changes one random word of a pair text. Returns the new text, the change, and what the checker says. Raises BadText."""
-    pair = copied(read_and_checked(text)[0])
-    place = chosen.choice(places_to_spoil(pair, chosen))
+    pair = copied(pair_of(text))
+    place = place_to_spoil(pair, chosen)
     name, row = name_of(pair, place), row_of(pair, place.heap, place.row)
     before, after = row[place.at], chosen.choice(other_words(row[place.at], chosen))
     row[place.at] = after
     new_text = written(pair)
-    found = checked(new_text.encode("ascii"), width, place)
+    new_bytes = new_text.encode("ascii")
+    # The pair is known, so that the new text is checked, and not read.
+    found = drawn(found_for(new_bytes, pair, refusal_of(new_bytes)), width, place)
     said = "Changed %s from %d to %d." % (name, before, after)
     if not found["refused"]:
         said += " The checker still says yes. " + why_accepted(pair, place)

@@ -9,6 +9,18 @@ const MOST_SHOWN = 400000;
 // Of a longer text so many lines are shown, around the place that matters, and cannot be edited.
 const MOST_LINES = 2000;
 
+// Returns the first lines of a text.
+function head(text, count) {
+  let end = -1;
+  for (let line = 0; line < count; line += 1) {
+    end = text.indexOf("\n", end + 1);
+    if (end < 0) {
+      return text;
+    }
+  }
+  return text.slice(0, end);
+}
+
 export class Editor {
   // `onEdit` is called with the text a moment after an edit, and `onLine` with the number of a line that is clicked.
   constructor(place, label, onEdit, onLine = () => {}) {
@@ -46,13 +58,15 @@ export class Editor {
     this.cut = text.length > MOST_SHOWN;
     this.area.readOnly = this.cut;
     this.before = 0;
-    this.lines = this.cut ? text.split("\n") : null;
-    this.area.value = this.cut ? this.part(1) : text;
+    // A long text is divided into its lines when one behind the first ones is asked for.
+    this.lines = null;
+    this.area.value = this.cut ? head(text, MOST_LINES) : text;
     this.note(() => undefined, null, null);
   }
 
   // Returns the lines of a long text around one of them, which are shown in its place.
   part(line) {
+    this.lines ??= this.text.split("\n");
     this.before = Math.max(0, Math.min(line - 1 - MOST_LINES / 2, this.lines.length - MOST_LINES));
     return this.lines.slice(this.before, this.before + MOST_LINES).join("\n");
   }

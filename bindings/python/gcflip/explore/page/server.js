@@ -3,8 +3,31 @@
 // The server keeps the heaps of each tab apart.
 const SESSION = crypto.randomUUID();
 
+// A bar says that the server works on an answer, if it takes so many milliseconds.
+const PATIENCE = 500;
+const waiting = new Set();
+
+function showBar() {
+  document.getElementById("busy").hidden = waiting.size === 0;
+}
+
 // Returns the answer to a request. Throws an Error with a message for the reader if there is none.
 export async function ask(name, data) {
+  const request = {};
+  const timer = setTimeout(() => {
+    waiting.add(request);
+    showBar();
+  }, PATIENCE);
+  try {
+    return await answered(name, data);
+  } finally {
+    clearTimeout(timer);
+    waiting.delete(request);
+    showBar();
+  }
+}
+
+async function answered(name, data) {
   let response;
   try {
     response = await fetch(name, {
