@@ -379,7 +379,7 @@ LIMITS = [r"words of a space \| (\d+),", r"mutators \| (\d+)", r"slots \| (\d+) 
           r"fields of an object \| (\d+);", r"kinds \| (\d+)", r"numbers \| below 2\^(\d+)", r"bytes of a pair text, of a trace \| (\d+), "]
 # The address space of the page's example in KiB, the words of a heap that begins only a smaller collection, with a standing checker and without, and
 # the words of that collection.
-EXAMPLE = (r"under `ulimit -v (\d+)`, a heap of (\d+) million words opens and cannot begin a collection of its own size, but can begin one of (\d+) million "
+EXAMPLE = (r"Under `ulimit -v (\d+)`, a heap of (\d+) million words opens\. It cannot begin a collection of its own size, but it can begin one of (\d+) million "
            r"words\. With `GCFLIP_AT_FLIP` a heap of (\d+) million words does the same; with a standing checker it does not open\.")
 
 
