@@ -3,10 +3,11 @@
 #include "expect.h"
 #include "gcflip_allocator.h"
 #include "gcflip_heap.h"
+#include "known_blocks.h"
 #include <stdlib.h>
 #include <string.h>
 
-enum { WORDS = 4096, BLOCKS = 64, ROOTS = 100, FLIPS = 200, LIST = 16 };
+enum { WORDS = 4096, ROOTS = 100, FLIPS = 200, LIST = 16 };
 
 static gcflip_heap heap = GCFLIP_NO_HEAP;
 static gcflip_work work;
@@ -16,19 +17,6 @@ static uint64_t number, state = 1;
 
 /* ---- The allocator, which knows its blocks */
 
-static struct {
-    void *at;
-    size_t size;
-} blocks[BLOCKS];
-
-static size_t slot_of(const void *at)
-{
-    size_t slot = 0;
-    while (blocks[slot].at != at)
-        EXPECT(++slot < BLOCKS);
-    return slot;
-}
-
 /* A block is zeroed, so that no word of a freed one is found in it. */
 struct gcflip_memory rattle_alloc(size_t size, size_t alignment)
 {
@@ -36,8 +24,7 @@ struct gcflip_memory rattle_alloc(size_t size, size_t alignment)
     struct gcflip_memory memory = {true, calloc(1, size + 1)};
     (void)alignment;
     EXPECT(memory.at != NULL);
-    blocks[slot].at = memory.at;
-    blocks[slot].size = size;
+    know_block(slot, memory.at, size);
     return memory;
 }
 
@@ -47,14 +34,13 @@ struct gcflip_memory rattle_realloc(void *old, size_t used, size_t size, size_t 
     struct gcflip_memory memory = {true, realloc(old, size + 1)};
     (void)used, (void)alignment;
     EXPECT(memory.at != NULL);
-    blocks[slot].at = memory.at;
-    blocks[slot].size = size;
+    know_block(slot, memory.at, size);
     return memory;
 }
 
 void rattle_dealloc(void *old)
 {
-    blocks[slot_of(old)].at = NULL;
+    know_block(slot_of(old), NULL, 0);
     free(old);
 }
 
@@ -286,7 +272,6 @@ int main(void)
     random_program(GCFLIP_ALONG, UINT32_MAX);
     checks_of_a_random_program();
     foreign_writes();
-    for (size_t slot = 0; slot < BLOCKS; slot++)
-        EXPECT(blocks[slot].at == NULL);
+    expect_no_block();
     return 0;
 }

@@ -5,49 +5,47 @@
 #include "expect.h"
 #include "gcflip_allocator.h"
 #include "gcflip_heap.h"
+#include "known_blocks.h"
 #include <string.h>
 #include <sys/mman.h>
 
-enum { BLOCKS = 64, PAGE = 4096, ROOTS = 4, MOST_OBJECTS = 32, LIST = 0, FIRST_HEADER = 16777216, NO_HEADER = FIRST_HEADER - 1 };
+enum { PAGE = 4096, ROOTS = 4, MOST_OBJECTS = 32, LIST = 0, FIRST_HEADER = 16777216, NO_HEADER = FIRST_HEADER - 1 };
 
 static gcflip_heap heap = GCFLIP_NO_HEAP;
 static gcflip_counts counts;
 
 /* ---- The allocator, which knows its blocks */
 
-static struct {
-    void *at, *mapped;
-    size_t size, length;
-} blocks[BLOCKS];
-
-static size_t slot_of(const void *at)
+/* The bytes between the beginning of a block of this size and the page behind it. */
+static size_t used_bytes(size_t size)
 {
-    size_t slot = 0;
-    while (blocks[slot].at != at)
-        EXPECT(++slot < BLOCKS);
-    return slot;
+    return (size + 15) / 16 * 16;
+}
+
+/* The bytes of the pages that the block takes. */
+static size_t page_bytes(size_t size)
+{
+    return (used_bytes(size) + PAGE - 1) / PAGE * PAGE;
 }
 
 /* A block ends where the page behind it begins, if its size is a multiple of 16. All its words are 0. */
 struct gcflip_memory rattle_alloc(size_t size, size_t alignment)
 {
-    size_t slot = slot_of(NULL), taken = (size + 15) / 16 * 16, pages = (taken + PAGE - 1) / PAGE;
     struct gcflip_memory memory = {true, NULL};
+    char *mapped = mmap(NULL, page_bytes(size) + 2 * PAGE, PROT_NONE, MAP_PRIVATE | MAP_ANONYMOUS, -1, 0);
     (void)alignment;
-    blocks[slot].size = size;
-    blocks[slot].length = (pages + 2) * PAGE;
-    blocks[slot].mapped = mmap(NULL, blocks[slot].length, PROT_NONE, MAP_PRIVATE | MAP_ANONYMOUS, -1, 0);
-    EXPECT(blocks[slot].mapped != MAP_FAILED);
-    EXPECT(mprotect((char *)blocks[slot].mapped + PAGE, pages * PAGE, PROT_READ | PROT_WRITE) == 0);
-    memory.at = blocks[slot].at = (char *)blocks[slot].mapped + PAGE + pages * PAGE - taken;
+    EXPECT(mapped != MAP_FAILED);
+    EXPECT(mprotect(mapped + PAGE, page_bytes(size), PROT_READ | PROT_WRITE) == 0);
+    memory.at = mapped + PAGE + page_bytes(size) - used_bytes(size);
+    know_block(slot_of(NULL), memory.at, size);
     return memory;
 }
 
 void rattle_dealloc(void *old)
 {
-    size_t slot = slot_of(old);
-    EXPECT(munmap(blocks[slot].mapped, blocks[slot].length) == 0);
-    blocks[slot].at = NULL;
+    size_t slot = slot_of(old), size = blocks[slot].size;
+    EXPECT(munmap((char *)old + used_bytes(size) - page_bytes(size) - PAGE, page_bytes(size) + 2 * PAGE) == 0);
+    know_block(slot, NULL, 0);
 }
 
 struct gcflip_memory rattle_realloc(void *old, size_t used, size_t size, size_t alignment)
@@ -333,7 +331,6 @@ int main(void)
 {
     try_checking(GCFLIP_ALONG);
     try_checking(GCFLIP_AT_FLIP);
-    for (size_t slot = 0; slot < BLOCKS; slot++)
-        EXPECT(blocks[slot].at == NULL);
+    expect_no_block();
     return 0;
 }
