@@ -13,5 +13,6 @@ pub mod Freed
 pub mod Halves
 pub mod Kept
 pub mod Marks
+pub mod RowsDue
 pub mod ToldTruth
 pub mod Public

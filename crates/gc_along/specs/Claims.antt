@@ -43,6 +43,10 @@ CanApply old new a i t = slice_index_or t.olds a 0 ≡ 2 → (b : ℕ) × IsLink
 abbrev pub CanWrite : List ℕ → ℕ → ℕ → Tables → Type 0
 CanWrite old a i t = slice_index_or t.olds a 0 ≡ 2 → (b : ℕ) × IsLinked old t a b × (field_place b i < length t.news)
 
+-- the same of so many fields from field i on
+abbrev pub CanWriteRow : List ℕ → ℕ → ℕ → ℕ → Tables → Type 0
+CanWriteRow old a i n t = 1 ≤ n → slice_index_or t.olds a 0 ≡ 2 → (b : ℕ) × IsLinked old t a b × (field_place b i + n ≤ length t.news)
+
 -- nothing is lost or due, as many words were seen as both images have, and the roots correspond
 pub record Accepts (t : Tables) (old new : ImageOutline) : Type 0 where
   pub found : IsFalse t.lost

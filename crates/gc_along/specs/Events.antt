@@ -1,5 +1,5 @@
 -- What the events do to the tables of a standing checker that is not lost.
-use Rattle.std.specs.Prelude.{◌≡◌, ◌⊎◌, ◌≢◌, ◌≤◌, ◌<◌, ℕ, Some, Bool, true, false, not, if◌then◌else◌, List, [], ◌∷◌, ◌++◌, length, take, drop, replicate, slice_index, slice_index_or, slice_set}
+use Rattle.std.specs.Prelude.{◌≡◌, ◌⊎◌, ◌≢◌, ◌≤◌, ◌<◌, ℕ, zero, suc, Some, Bool, true, false, not, if◌then◌else◌, List, [], ◌∷◌, ◌++◌, length, take, drop, replicate, slice_index, slice_index_or, slice_set}
 use Rattle.gc_words.specs.Word.{read_header, field_words_correspond}
 use Rattle.gc_words.specs.Layout.{field_place, fields_place, link_place}
 use Rattle.gc_words.specs.declared.header.Header.{Header}
@@ -90,6 +90,11 @@ HasNoReplica t a = (b : ℕ) → 1 ≤ slice_index_or t.origins b 0 → slice_in
 abbrev pub Wrote : ℕ → ℕ → Tables → Tables → Type 0
 Wrote a i t after = (HasNoReplica t a × (after ≡ t))
     ⊎ ((b : ℕ) × IsReplicaAt t a b × (field_place b i < length t.news) × (after ≡ with_due t (field_place b i) true))
+
+-- so many fields of the object at a, from field i on, are due in its replica, one after the other
+abbrev pub WroteRow : ℕ → ℕ → ℕ → Tables → Tables → Type 0
+WroteRow a i zero t after = t ≡ after
+WroteRow a i (suc n) t after = (next : Tables) × Wrote a i t next × WroteRow a (suc i) n next after
 
 -- field i of the replica of the object at a was compared, if it has one
 abbrev pub Applied : List ℕ → List ℕ → ℕ → ℕ → Tables → Tables → Type 0

@@ -1,2 +1,3 @@
 pub mod InWords
+pub mod Rows
 pub mod Tables

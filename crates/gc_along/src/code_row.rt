@@ -39,6 +39,7 @@ impl Model for CodeRow {
 impl CodeRow {
     ghost use Rattle.std.specs.Prelude.{◌≡◌, ◌+◌, ◌<◌, ◌≤◌, ◌∷◌, ◌++◌, ◌-◌, [], IfOk, OnOk, IsTrue, length, replicate, take, slice_index, slice_index_or, slice_set, ◌⊎◌, ◌≢◌, ◌%◌, ◌/◌, ℕ};
     ghost use Rattle.gc_along.specs.Internal.InWords.{freed};
+    ghost use Rattle.gc_along.specs.Internal.Rows.{dues_from, row_set};
 
     /// Returns a row of place 0 alone, whose code is 0, with room for so many places. Allocates once.
     pub(crate) fn new(alloc: Global, places: u32) -> Result<CodeRow, NoMemory>
@@ -200,6 +201,35 @@ impl CodeRow {
         }
     }
 
+    /// Gives so many places from this one on code 3, one word of codes after the other.
+    pub(crate) fn fill_from(&mut self, first: usize, count: usize)
+        requires within { first + count ≤ length self.old.codes }
+        requires few { first + count ≤ 4295098367 }
+        ensures codes { self.new.codes ≡ row_set self.old.codes first count }
+        ensures room { self.old.room ≤ self.new.room }
+    {
+        let end = first + count;
+        let mut from = first;
+        while from < end {
+            let some = min(PER_WORD - from % PER_WORD, end - from);
+            self.fill_in_word(from, some);
+            from += some;
+        }
+    }
+
+    /// Returns how many of so many places from this one on have code 3.
+    pub(crate) fn count_from(&self, first: usize, count: usize) -> usize
+        requires within { first + count ≤ length self.now.codes }
+        requires few { first + count ≤ 4295098367 }
+        ensures { result ≡ dues_from self.now.codes first count }
+    {
+        let mut dues = 0;
+        for k in 0..count {
+            dues += counted(self.get(first + k));
+        }
+        dues
+    }
+
     /// Frees the codes of this word.
     pub(crate) fn free(&mut self, word: usize)
         ensures len { length self.new.codes ≡ length self.old.codes }
@@ -229,8 +259,17 @@ impl CodeRow {
     }
 }
 
-ghost use Rattle.std.specs.Prelude.{◌≡◌, ◌≢◌, ◌⊎◌, ℕ, ◌+◌, ◌-◌, ◌/◌, ◌<◌, ◌≤◌, ◌++◌, replicate, vec_len, vec_capacity};
+ghost use Rattle.std.specs.Prelude.{◌≡◌, ◌≢◌, ◌⊎◌, ◌==◌, ℕ, ◌+◌, ◌-◌, ◌/◌, ◌<◌, ◌≤◌, ◌++◌, replicate, vec_len, vec_capacity};
+ghost use Rattle.gc_along.specs.Watch.{bit};
 ghost use Rattle.gc_along.specs.Internal.InWords.{code_in, freed};
+
+// 1 for code 3, and 0 for any other.
+#[inline(always)]
+fn counted(code: u8) -> usize
+    ensures { result ≡ bit (code == 3) }
+{
+    if code == 3 { 1 } else { 0 }
+}
 
 // The number of words for so many places.
 #[inline(always)]

@@ -64,8 +64,9 @@ impl Standing {
     ghost use Rattle.gc_along.specs.Watch.{RootsCorrespond};
     ghost use Rattle.gc_along.specs.Tables.{IsKept};
     ghost use Rattle.gc_along.specs.Telling.{IsMark, Tells};
-    ghost use Rattle.gc_along.specs.Events.{Made, Placed, Looked, Wrote, Applied, Freed, WalkedAnew, IsFieldOf, HasNoReplica, object_codes, absent_tables, opening_tables, flipped_tables, with_due};
-    ghost use Rattle.gc_along.specs.Claims.{Accepts, CanApply, CanLook, CanMake, CanPlaceNext, CanWrite, IsLinked, OwesNone};
+    ghost use Rattle.gc_along.specs.Events.{Made, Placed, Looked, Wrote, WroteRow, Applied, Freed, WalkedAnew, IsFieldOf, HasNoReplica, object_codes, absent_tables, opening_tables, flipped_tables, with_due};
+    ghost use Rattle.gc_along.specs.Internal.Rows.{with_due_row};
+    ghost use Rattle.gc_along.specs.Claims.{Accepts, CanApply, CanLook, CanMake, CanPlaceNext, CanWrite, CanWriteRow, IsLinked, OwesNone};
 
     /// Returns a checker for spaces of up to `size` words, at least 1.
     pub fn new(alloc: Global, size: u32) -> Result<Standing, NoMemory>
@@ -324,6 +325,43 @@ impl Standing {
             None => self.lose(),
             Some(at) => self.set_written(field_index(Addr(at), i)),
         }
+    }
+
+    /// So many fields of the object at `a`, from field `first` on, were written: they are due in its replica, if it has one. The replica
+    /// is found once.
+    #[tactic(auto, using(crate::proofs::RowsDue::unwritten, crate::proofs::RowsDue::wrote_row))]
+    pub fn written_row(&mut self, old: &[u64], a: u32, first: u16, count: usize)
+        requires { first + count ≤ 65536 }
+        ensures lost { IsTrue self.old.lost → IsTrue self.new.lost }
+        ensures wrote { IsFalse self.new.lost → WroteRow a first count self.old self.new }
+        ensures stays { IsFalse self.old.lost → CanWriteRow old.now a first count self.old → IsFalse self.new.lost }
+    {
+        if self.lost || count == 0 {
+            return;
+        }
+        if !self.is_taken(a) {
+            return;
+        }
+        match self.replica(old, a) {
+            None => self.lose(),
+            Some(at) => self.set_row(field_index(Addr(at), first), count),
+        }
+    }
+
+    // Takes so many places from this one on for due, if there are such places.
+    fn set_row(&mut self, place: usize, count: usize)
+        requires found { IsFalse self.old.lost }
+        requires few { place + count ≤ 4295098367 }
+        ensures wrote { IsFalse self.new.lost → (place + count ≤ length self.old.news) × (self.new ≡ with_due_row self.old place count) }
+        ensures stays { place + count ≤ length self.old.news → IsFalse self.new.lost }
+    {
+        if place + count > self.news.len() {
+            self.lost = true;
+            return;
+        }
+        let dues = self.news.count_from(place, count);
+        self.news.fill_from(place, count);
+        self.missing += count - dues;
     }
 
     // Takes this place for due, if there is such a place.

@@ -17,4 +17,8 @@ pub mod Beside
 pub mod Lives
 pub mod LivesOn
 pub mod LivesThrough
+pub mod Ran
+pub mod Follows
+pub mod FollowsSteps
+pub mod FollowsEnds
 pub mod Public

@@ -24,7 +24,7 @@ use Rattle.gc_beside.proofs.Told.{told_wrote}
 use Rattle.gc_beside.proofs.Lives.{or_lost}
 
 -- the open collections before and after commands have the same replicas
-abbrev SameReplicas : Option Collection → Option Collection → Type 0
+abbrev pub SameReplicas : Option Collection → Option Collection → Type 0
 SameReplicas None None = Unit {0}
 SameReplicas None (Some d) = ⊥
 SameReplicas (Some c) None = ⊥

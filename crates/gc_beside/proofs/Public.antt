@@ -10,3 +10,7 @@ pub use Rattle.gc_beside.proofs.StepsKnown.{entry_known, entry_looked, entry_pla
 pub use Rattle.gc_beside.proofs.Told.{told_wrote}
 pub use Rattle.gc_beside.proofs.Words.{watches}
 pub use Rattle.gc_beside.specs.Internal.Live.{GoesBeside, IsLive, IsNeverLost, heap_words, replica_words}
+pub use Rattle.gc_beside.proofs.Follows.{AreOld, IsAmong, follows_closed, follows_made, follows_new, follows_opening, follows_put, follows_quiet, follows_same, follows_written}
+pub use Rattle.gc_beside.proofs.FollowsEnds.{follows_dropped, follows_flipped}
+pub use Rattle.gc_beside.proofs.FollowsSteps.{follows_applied, follows_passed, follows_roots, follows_scanned}
+pub use Rattle.gc_beside.proofs.Ran.{HasLog, NoName, Ran, carried, log_after, log_of_open, noted, number_ran, ran_none, ran_on, ran_one}

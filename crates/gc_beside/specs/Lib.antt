@@ -1,3 +1,4 @@
 pub mod Stays
 pub mod Knows
+pub mod Follows
 pub mod Internal

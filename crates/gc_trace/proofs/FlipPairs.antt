@@ -14,11 +14,11 @@ use Rattle.gc_plan.specs.Runs.{HasSizesWithin, after}
 use Rattle.gc_plan.specs.Belonging.{IsState}
 use Rattle.gc_plan.specs.Passing.{HasFewPairs}
 use Rattle.gc_plan.specs.declared.step.StepReply.{StepReply}
-use Rattle.gc_core.specs.Flip.{flip_pair, kept_after, IsCertified}
+use Rattle.gc_collected.specs.Flip.{flip_pair, kept_after, IsCertified}
 use Rattle.gc_plan.specs.declared.event.Event.{Event}
 use Rattle.gc_plan.specs.declared.event.Event.TheVariants.{Mutate, Collect}
 use Rattle.gc_plan.specs.Steps.{collect}
-use Rattle.gc_core.specs.Performing.{flip_at}
+use Rattle.gc_collected.specs.Performing.{flip_at}
 use Rattle.gc_trace.specs.Flips.{flips}
 
 -- ---- what is kept

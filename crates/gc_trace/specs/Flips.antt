@@ -3,7 +3,7 @@ use Rattle.std.specs.Prelude.{ℕ, ◌-◌, List, [], ◌∷◌, ◌++◌, Optio
 use Rattle.gc_cert.specs.Grammar.{CertifiedPair}
 use Rattle.gc_plan.specs.State.{State}
 use Rattle.gc_plan.specs.Runs.{after}
-use Rattle.gc_core.specs.Performing.{flip_at}
+use Rattle.gc_collected.specs.Performing.{flip_at}
 use Rattle.gc_plan.specs.declared.event.Event.{Event}
 use Rattle.gc_trace.specs.Grammar.{Recording}
 use Rattle.gc_trace.specs.Plays.{trace_opening}

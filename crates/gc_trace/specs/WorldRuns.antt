@@ -1,7 +1,7 @@
 -- What the events of a trace do to a world.
 use Rattle.std.specs.Prelude.{◌≡◌, [], ◌∷◌, ◌++◌}
 use Rattle.gc_plan.specs.Runs.{after}
-use Rattle.gc_core.specs.Performing.{kept_with}
+use Rattle.gc_collected.specs.Performing.{kept_with}
 use Rattle.gc_world.specs.History.{events_of}
 use Rattle.gc_world.specs.World.{Past, present}
 use Rattle.gc_plan.specs.declared.event.Event.{Event}

@@ -5,7 +5,7 @@ ghost use Rattle.gc_cert.specs.Counts.{HasCounts};
 ghost use Rattle.gc_cert.specs.Views.{pair_in};
 ghost use Rattle.gc_plan.specs.Belonging.{IsState};
 ghost use Rattle.gc_plan.specs.Runs.{IsEventWithin, HasSizesWithin, after};
-ghost use Rattle.gc_core.specs.Performing.{flip_at};
+ghost use Rattle.gc_collected.specs.Performing.{flip_at};
 ghost use Rattle.gc_trace.specs.Flips.{nth_flip};
 ghost use Rattle.gc_trace.specs.Grammar.{IsRecording};
 ghost use Rattle.gc_trace.specs.Views.{recording};
@@ -13,7 +13,7 @@ ghost use Rattle.gc_trace.specs.Views.{recording};
 use crate::trace::Trace;
 use gc_cert::PairFile;
 use gc_check::Sequential;
-use gc_core::{CollectedHeap, Keep};
+use gc_collected::{CollectedHeap, Keep};
 use gc_graph::NoMemory;
 use gc_plan::{Event, scans_and_pairs_are_bounded, states_are_kept};
 use std::alloc::Global;
@@ -21,20 +21,23 @@ use std::alloc::Global;
 /// Performs the event. If it flips, returns the pair of the flip.
 #[tactic(auto, using(crate::proofs::Sizes::heap_event))]
 fn flip_in(heap: &mut CollectedHeap, event: &Event) -> Result<Option<PairFile>, NoMemory>
-    requires event { IsEventWithin most_words heap.old.mutators event.now }
-    requires few { heap.old.mutators ≤ most_mutators }
-    requires sound { IsState heap.old }
-    requires small { HasSizesWithin most_words heap.old }
-    ensures flip { IfOk result (λ kept. option_map pair_in kept ≡ flip_at heap.old event.now) }
+    requires event { IsEventWithin most_words heap.old.core.mutators event.now }
+    requires few { heap.old.core.mutators ≤ most_mutators }
+    requires sound { IsState heap.old.core }
+    requires small { HasSizesWithin most_words heap.old.core }
+    requires taken { heap.old.beside.pair ≡ None }
+    ensures flip { IfOk result (λ kept. option_map pair_in kept ≡ flip_at heap.old.core event.now) }
     ensures counts { IfOk result (λ kept. IfSome kept (λ file. HasCounts (pair_in file))) }
-    ensures happened { OnOk result (heap.new ≡ after heap.old event.now) }
-    ensures sound { OnOk result (IsState heap.new) }
-    ensures small { OnOk result (HasSizesWithin most_words heap.new) }
-    ensures mutators { heap.new.mutators ≡ heap.old.mutators }
+    ensures happened { OnOk result (heap.new.core ≡ after heap.old.core event.now) }
+    ensures sound { OnOk result (IsState heap.new.core) }
+    ensures small { OnOk result (HasSizesWithin most_words heap.new.core) }
+    ensures taken { OnOk result (heap.new.beside.pair ≡ None) }
+    ensures mutators { heap.new.core.mutators ≡ heap.old.core.mutators }
 {
     states_are_kept();
     scans_and_pairs_are_bounded();
-    Ok(heap.perform(&Sequential, event, Keep::Pair)?.pair)
+    heap.perform(&Sequential, event, Keep::Pair)?;
+    Ok(heap.take_pair())
 }
 
 /// Returns the pair of the trace's n-th flip, counted from 1, or `None` if the trace has fewer flips.

@@ -19,7 +19,7 @@ use crate::replies::{LINE, print_answer};
 use crate::report::Report;
 use gc_check::Sequential;
 use gc_copy::heaps_have_addresses_as_names;
-use gc_core::{CollectedHeap, Keep};
+use gc_collected::{CollectedHeap, Keep};
 use gc_graph::text::Printer;
 use gc_graph::{NoMemory, Source};
 use gc_plan::{Event, states_are_kept};
@@ -64,8 +64,8 @@ impl Player {
         requires some { 1 ≤ mutators }
         requires few { mutators ≤ most_mutators }
         ensures played { IfOk result (HasPlayed (opening_state size mutators) []) }
-        ensures sound { IfOk result (λ player. IsState player.heap) }
-        ensures mutators { IfOk result (λ player. player.heap.mutators ≡ mutators) }
+        ensures sound { IfOk result (λ player. IsState player.heap.core) }
+        ensures mutators { IfOk result (λ player. player.heap.core.mutators ≡ mutators) }
         ensures gather { IfOk result (λ player. player.gather ≡ gather) }
     {
         states_are_kept();
@@ -84,17 +84,17 @@ impl Player {
     /// Plays one more event.
     #[tactic(auto, using(crate::proofs::Sizes::heap_event))]
     fn take(&mut self, event: &Event) -> Result<(), NoMemory>
-        requires event { IsEventWithin most_words self.old.heap.mutators event.now }
-        requires sound { IsState self.old.heap }
-        requires fits { FitsU64 (with_answer self.old.report (answer self.old.heap event.now)) }
+        requires event { IsEventWithin most_words self.old.heap.core.mutators event.now }
+        requires sound { IsState self.old.heap.core }
+        requires fits { FitsU64 (with_answer self.old.report (answer self.old.heap.core event.now)) }
         ensures played { OnOk result ((s : State) (events : List Event) → HasPlayed s events self.old
             → HasPlayed s (events ++ event.now ∷ []) self.new) }
-        ensures sound { OnOk result (IsState self.new.heap) }
-        ensures mutators { self.new.heap.mutators ≡ self.old.heap.mutators }
+        ensures sound { OnOk result (IsState self.new.heap.core) }
+        ensures mutators { self.new.heap.core.mutators ≡ self.old.heap.core.mutators }
         ensures gather { self.new.gather ≡ self.old.gather }
     {
         states_are_kept();
-        let answer = self.heap.perform(&Sequential, event, Keep::Nothing)?.answer;
+        let answer = self.heap.perform(&Sequential, event, Keep::Room)?;
         self.report.count(&answer);
         let Gather::Replies = self.gather else {
             return Ok(());
@@ -114,12 +114,12 @@ impl Player {
         requires number { lines.old.number ≡ 3 }
         requires unfailed { source_failed reader.old ≡ false }
         requires opened { HasPlayed (trace_opening (read_so_far lines.old [])) [] self.old }
-        requires sound { IsState self.old.heap }
-        requires mutators { self.old.heap.mutators ≡ lines.old.mutators }
+        requires sound { IsState self.old.heap.core }
+        requires mutators { self.old.heap.core.mutators ≡ lines.old.mutators }
         ensures played { OnOk result (HasPlayedRest lines.old (bytes_left R.remaining reader.old) self.new) }
         ensures fault { IfErr result (λ fault. (text : List ℕ)
             → HasRead text [] lines.old (bytes_left R.remaining reader.old) → ReadingMayFail fault text) }
-        ensures sound { OnOk result (IsState self.new.heap) }
+        ensures sound { OnOk result (IsState self.new.heap.core) }
         ensures gather { self.new.gather ≡ self.old.gather }
         ensures read { (result ≡ Err TraceFault.Read) ↔ (source_failed reader.new ≡ true) }
     {
@@ -131,7 +131,7 @@ impl Player {
 
     /// Takes the results after the last event. The player stays where it is: a copy would take 16 KiB of stack.
     fn finish(&mut self, alloc: Global) -> Result<Played, NoMemory>
-        requires sound { IsState self.old.heap }
+        requires sound { IsState self.old.heap.core }
         ensures report { (s : State) (events : List Event) → HasPlayed s events self.old
             → IfOk result (λ played. played.report ≡ report_of (answers s events) (state_after s events)) }
         ensures replies { (s : State) (events : List Event) → HasPlayed s events self.old → self.old.gather ≡ Gather.Replies

@@ -10,8 +10,8 @@ use Rattle.gc_plan.specs.declared.event.Event.{Event}
 use Rattle.gc_plan.specs.declared.event.Event.TheVariants.{Mutate}
 use Rattle.gc_plan.specs.declared.event.Answer as answered
 use Rattle.gc_plan.specs.declared.event.Answer.TheVariants.{Mutator}
-use Rattle.gc_core.specs.Replies.{told_in}
-use Rattle.gc_core.proofs.Public.{run_is_legal}
+use Rattle.gc_collected.specs.Replies.{told_in}
+use Rattle.gc_collected.proofs.Public.{run_is_legal}
 use Rattle.gc_plan.proofs.Public.{wider_events}
 use Rattle.gc_world.specs.History.{unmarked, events_of, answers_of, told_by, told_of, IsHistory}
 use Rattle.gc_world.specs.declared.entry.Entry.{Entry}

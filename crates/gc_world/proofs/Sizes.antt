@@ -1,17 +1,19 @@
 -- The steps and the pairs of a world, whose spaces are small enough for a text.
 use Rattle.std.proofs.lemmas.Grind.{common_steps}
-use Rattle.std.proofs.Common.{◌≡◌, ℕ, ◌≤◌, Some, None, sym, subst, arith}
+use Rattle.std.proofs.Common.{◌≡◌, ℕ, ◌≤◌, Option, Some, None, refl, ap, sym, subst, arith}
+use Rattle.std.specs.Prelude.{IfSome}
 use Rattle.std.specs.Option.{option_map}
 use Rattle.gc_graph.specs.Limits.{most_words}
 use Rattle.gc_cert.specs.Grammar.{CertifiedPair}
-use Rattle.gc_plan.specs.State.{State}
+use Rattle.gc_plan.specs.State.{Collection, State}
 use Rattle.gc_plan.specs.Runs.{IsStepWithin, IsStep, HasSizesWithin}
 use Rattle.gc_plan.specs.declared.step.Step.{Step}
 use Rattle.gc_plan.proofs.Public.{wider_step}
 use Rattle.gc_plan.specs.declared.step.StepReply.{StepReply}
-use Rattle.gc_core.specs.Flip.{kept_after, flip_pair}
+use Rattle.gc_plan.specs.declared.step.StepReply.TheVariants.{Flipped}
+use Rattle.gc_collected.specs.Flip.{FlipsOnly, IsCertified, kept_after, flip_pair}
 use Rattle.gc_world.specs.World.{Past}
-use Rattle.gc_world.specs.Internal.World.{IsWorld}
+use Rattle.gc_world.specs.Internal.World.{IsKeptPair, IsWorld}
 use Rattle.gc_world.proofs.HistoryStates.{sizes_within}
 
 -- a heap can perform the step
@@ -26,6 +28,13 @@ world_within now past w = subst (HasSizesWithin most_words) (sym w.state) (sizes
 small_pair : (s : State) (pair : CertifiedPair) → HasSizesWithin most_words s → option_map (flip_pair s) s.collection ≡ Some pair → (pair.old.size ≤ most_words) × (pair.new.size ≤ most_words)
 small_pair s pair small is = grind (arith, common_steps)
 
--- so is the pair that is kept after a step
-pub kept_small : (s : State) (reply : StepReply) (pair : CertifiedPair) → HasSizesWithin most_words s → kept_after None s reply ≡ Some pair → (pair.old.size ≤ most_words) × (pair.new.size ≤ most_words)
-kept_small s reply pair small is = grind (arith, common_steps, small_pair)
+-- after a step the pair that is kept is certified, and small
+pub still_kept : (s : State) (kept : Option CertifiedPair) (reply : StepReply) → HasSizesWithin most_words s → FlipsOnly IsCertified s reply → IsKeptPair kept → IsKeptPair (kept_after kept s reply)
+still_kept s kept reply small flips was = grind (arith, common_steps, flipped)
+  where
+    flipped : (n : ℕ) → reply ≡ Flipped n → IsKeptPair (option_map (flip_pair s) s.collection)
+    flipped n is = new s.collection refl (flips n is)
+      where
+        new : (o : Option Collection) → s.collection ≡ o → IfSome o (λ c. IsCertified (flip_pair s c)) → IsKeptPair (option_map (flip_pair s) o)
+        new None e c = tt
+        new (Some d) e c = (let sizes = small_pair s (flip_pair s d) small (ap (option_map (flip_pair s)) e) in (c, sizes.0, sizes.1))

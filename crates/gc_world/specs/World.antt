@@ -10,7 +10,7 @@ use Rattle.gc_plan.specs.declared.step.Step.{Step}
 use Rattle.gc_plan.specs.declared.step.Step.TheVariants.{Flip}
 use Rattle.gc_plan.specs.declared.step.StepReply.{StepReply}
 use Rattle.gc_plan.specs.declared.step.StepReply.TheVariants.{Refused}
-use Rattle.gc_core.specs.Flip.{kept_after, PassesIfReady, HasRoomIfLarge}
+use Rattle.gc_collected.specs.Flip.{kept_after, PassesIfReady, HasRoomIfLarge}
 use Rattle.gc_world.specs.History.{state_after}
 use Rattle.gc_world.specs.declared.entry.Entry.{Entry}
 

@@ -3,7 +3,7 @@ use crate::laws::histories_grow;
 use gc_cert::PairFile;
 use gc_check::{Checks, Sequential};
 use gc_copy::{Step, StepReply};
-use gc_core::{CollectedHeap, Flip, Keep};
+use gc_collected::{CollectedHeap, Keep};
 use gc_graph::{NoMemory, Op, Reply};
 use gc_heap::Heap;
 use gc_par::Parallel;
@@ -11,19 +11,16 @@ use std::alloc::Global;
 use std::marker::Model;
 use std::thread::Threads;
 
-/// A collected heap with its history: every event with its answer. A flip keeps the pair of heaps that the checker
+/// A collected heap with its history: every event with its answer. The heap keeps the pair of a flip that the checker
 /// accepted, until `take_flip` takes it.
 #[derive(Debug, Drop)]
 pub struct World {
     size: u32,
     heap: CollectedHeap,
     history: Vec<Entry>,
-    kept: Option<PairFile>,
 }
 
 impl Model for World {
-    ghost use Rattle.std.specs.Option.{option_map};
-    ghost use Rattle.gc_cert.specs.Views.{pair_in};
     ghost use Rattle.gc_world.specs.World.{Past};
     ghost use Rattle.gc_world.specs.Internal.World.{IsWorld};
 
@@ -31,16 +28,16 @@ impl Model for World {
 
     ghost view = { λ w. record {
       size = w.size;
-      mutators = w.heap.mutators;
+      mutators = w.heap.core.mutators;
       entries = w.history.items;
-      kept = option_map pair_in w.kept;
+      kept = w.heap.beside.pair;
     } };
 
-    ghost invariant = { λ w. IsWorld w.heap (record {
+    ghost invariant = { λ w. IsWorld w.heap.core (record {
       size = w.size;
-      mutators = w.heap.mutators;
+      mutators = w.heap.core.mutators;
       entries = w.history.items;
-      kept = option_map pair_in w.kept;
+      kept = w.heap.beside.pair;
     }) };
 }
 
@@ -53,7 +50,7 @@ impl World {
     ghost use Rattle.gc_cert.specs.Views.{pair_in};
     ghost use Rattle.gc_plan.specs.Steps.{mutate, useful_step};
     ghost use Rattle.gc_plan.specs.Runs.{IsStepWithin};
-    ghost use Rattle.gc_core.specs.Flip.{IsCertified};
+    ghost use Rattle.gc_collected.specs.Flip.{IsCertified};
     ghost use Rattle.gc_world.specs.History.{IsHistory};
     ghost use Rattle.gc_world.specs.World.{present, entry_of, IsCollected};
     ghost use Rattle.gc_plan.specs.declared.event.Event.{Event};
@@ -78,7 +75,6 @@ impl World {
             size,
             heap,
             history: Vec::new(alloc),
-            kept: None,
         })
     }
 
@@ -160,7 +156,7 @@ impl World {
     {
         histories_grow();
         make_room(&mut self.history)?;
-        let reply = perform(&mut self.heap, &mut self.kept, checker, step)?;
+        let reply = perform(&mut self.heap, checker, step)?;
         self.history
             .push_reserved(Entry::of_step(step, reply, useful));
         Ok(reply)
@@ -210,7 +206,7 @@ impl World {
             (pair_in file).old.size ≤ most_words × (pair_in file).new.size ≤ most_words) }
         ensures rest { self.new ≡ record self.old { kept = None } }
     {
-        self.kept.take()
+        self.heap.take_pair()
     }
 
     /// Returns the history: all events with their answers, in order.
@@ -223,13 +219,11 @@ impl World {
 }
 
 ghost use Rattle.std.specs.Prelude.{◌≡◌, ◌≢◌, ◌<◌, ◌++◌, ◌∷◌, [], IfOk, OnOk, OnErr, vec_len, vec_capacity};
-ghost use Rattle.std.specs.Option.{option_map};
 ghost use Rattle.gc_graph.specs.Limits.{most_words};
 ghost use Rattle.gc_graph.specs.Range.{IsCommand};
-ghost use Rattle.gc_cert.specs.Views.{pair_in};
 ghost use Rattle.gc_plan.specs.Steps.{collect};
 ghost use Rattle.gc_plan.specs.Runs.{IsStepWithin, HasSizesWithin};
-ghost use Rattle.gc_core.specs.Flip.{kept_after, PassesIfReady, HasRoomIfLarge};
+ghost use Rattle.gc_collected.specs.Flip.{kept_after, PassesIfReady, HasRoomIfLarge};
 ghost use Rattle.gc_plan.specs.declared.step.Step.{Step};
 ghost use Rattle.gc_plan.specs.declared.step.StepReply.{StepReply};
 ghost use Rattle.gc_world.specs.World.{entry_of};
@@ -255,32 +249,24 @@ fn record_command(history: &mut Vec<Entry>, m: u8, op: Op, reply: &Reply)
     history.push_reserved(Entry::command(m, &op, reply));
 }
 
-// Performs a step, and keeps the pair if it flipped.
+// Performs a step. The heap keeps the pair of a flip.
 #[tactic(auto, using(crate::proofs::Sizes::heap_step))]
 fn perform<C: Checks>(
     heap: &mut CollectedHeap,
-    kept: &mut Option<PairFile>,
     checker: &C,
     step: Step,
 ) -> Result<StepReply, NoMemory>
     requires can { C.can_check checker.now }
-    requires step { IsStepWithin most_words heap.old.mutators step }
-    requires small { HasSizesWithin most_words heap.old }
-    ensures step { IfOk result (λ reply. collect heap.old step ≡ (reply, heap.new)) }
-    ensures passes { step ≡ Step.Flip → IfOk result (PassesIfReady heap.old) }
+    requires step { IsStepWithin most_words heap.old.core.mutators step }
+    requires small { HasSizesWithin most_words heap.old.core }
+    ensures step { IfOk result (λ reply. collect heap.old.core step ≡ (reply, heap.new.core)) }
+    ensures passes { step ≡ Step.Flip → IfOk result (PassesIfReady heap.old.core) }
     ensures never_refused { IfOk result (λ reply. reply ≢ StepReply.Refused) }
-    ensures room { IfOk result (HasRoomIfLarge heap.old) }
-    ensures kept { IfOk result (λ reply. option_map pair_in kept.new
-        ≡ kept_after (option_map pair_in kept.old) heap.old reply) }
-    ensures certified { IsKeptPair (option_map pair_in kept.old) → IsKeptPair (option_map pair_in kept.new) }
-    ensures refused { OnErr result (heap.new ≡ heap.old) }
-    ensures unkept { OnErr result (kept.new ≡ kept.old) }
-    ensures mutators { heap.new.mutators ≡ heap.old.mutators }
+    ensures room { IfOk result (HasRoomIfLarge heap.old.core) }
+    ensures kept { IfOk result (λ reply. heap.new.beside.pair ≡ kept_after heap.old.beside.pair heap.old.core reply) }
+    ensures certified { OnOk result (IsKeptPair heap.old.beside.pair → IsKeptPair heap.new.beside.pair) }
+    ensures refused { OnErr result ((heap.new.core ≡ heap.old.core) × (heap.new.beside.pair ≡ heap.old.beside.pair)) }
+    ensures mutators { heap.new.core.mutators ≡ heap.old.core.mutators }
 {
-    let Flip { reply, pair } = heap.collect_keeping(checker, step, Keep::Pair)?;
-    match pair {
-        None => {}
-        Some(pair) => *kept = Some(pair),
-    }
-    Ok(reply)
+    heap.collect(checker, step, Keep::Pair)
 }

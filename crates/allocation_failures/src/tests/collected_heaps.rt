@@ -4,8 +4,8 @@
 use super::expecting::expect;
 use super::marks::{fence, retried};
 use gc_check::Sequential;
+use gc_collected::{CollectedHeap, Keep};
 use gc_copy::{Step, StepReply};
-use gc_core::{CollectedHeap, Keep};
 use gc_graph::{Op, Slot, View};
 use std::alloc::Global;
 use std::process::Abort;
@@ -47,7 +47,7 @@ fn make_ready(rt: &impl Abort, heap: &mut CollectedHeap) {
         if step == Step::Flip {
             return;
         }
-        let _reply = heap.collect(&Sequential, step).expect(rt, "a step");
+        let _reply = heap.collect(&Sequential, step, Keep::Room).expect(rt, "a step");
     }
 }
 
@@ -56,26 +56,22 @@ fn make_ready(rt: &impl Abort, heap: &mut CollectedHeap) {
 fn expect_flip(rt: &impl Abort, alloc: Global, keep: Keep, keeps: bool) {
     let mut heap = chain(rt, alloc);
     fence(alloc);
-    let mut flip = heap.flip(&Sequential, keep);
+    let mut reply = heap.flip(&Sequential, keep);
     fence(alloc);
-    if flip.is_err() {
+    if reply.is_err() {
         retried(alloc);
         expect(rt, heap.is_open(), "an open collection");
-        flip = heap.flip(&Sequential, keep);
+        reply = heap.flip(&Sequential, keep);
     }
-    let flip = flip.expect(rt, "a flip");
-    expect(
-        rt,
-        flip.reply == StepReply::Flipped { pairs: 1000 },
-        "the reply",
-    );
-    expect(rt, flip.pair.is_some() == keeps, "the pair");
+    let reply = reply.expect(rt, "a flip");
+    expect(rt, reply == StepReply::Flipped { pairs: 1000 }, "the reply");
+    expect(rt, heap.take_pair().is_some() == keeps, "the pair");
     expect(rt, !heap.is_open(), "no open collection");
 }
 
 #[test]
-fn flip_of_1000_that_keeps_nothing(rt: HostRuntime) {
-    expect_flip(&rt, rt.alloc(), Keep::Nothing, false);
+fn flip_of_1000_that_keeps_room(rt: HostRuntime) {
+    expect_flip(&rt, rt.alloc(), Keep::Room, false);
 }
 
 #[test]

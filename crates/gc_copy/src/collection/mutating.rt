@@ -30,15 +30,39 @@ impl Collection {
         ensures mutators { heap.new.mutators ≡ heap.old.mutators }
         ensures spare { spare_of self.old m ≤ spare_of self.new m + 1 }
     {
+        let (reply, _) = self.put_noted(heap, m, s, i, t);
+        reply
+    }
+
+    /// The same. Also returns the entry that it logged, so that the caller can tell a monitor of the field.
+    #[inline(always)]
+    pub fn put_noted(
+        &mut self,
+        heap: &mut Heap,
+        m: u8,
+        s: Slot,
+        i: u16,
+        t: Slot,
+    ) -> (Reply, Option<LogEntry>)
+        requires belongs { BelongsTo heap.old self.old }
+        requires mutator { m < heap.old.mutators }
+        requires room { 1 ≤ spare_of self.old m }
+        ensures step { mutate (open_state heap.old self.old) m (Op.Put s i t) ≡ (result.0, open_state heap.new self.new) }
+        ensures entry { option_to_list (option_map entry_in result.1) ≡ written (graph_in heap.old) m (Op.Put s i t) result.0 }
+        ensures belongs { BelongsTo heap.new self.new }
+        ensures epoch { self.new.epoch ≡ self.old.epoch }
+        ensures mutators { heap.new.mutators ≡ heap.old.mutators }
+        ensures spare { spare_of self.old m ≤ spare_of self.new m + 1 }
+    {
         // Here the prover learns that the heap is sound.
         let _ = heap.space();
         let put = put_field(heap, m, s, i);
         let reply = heap.put(m, s, i, t);
         let Some(entry) = written_field(put, &reply) else {
-            return reply;
+            return (reply, None);
         };
         self.note(m, entry.object, entry.field);
-        reply
+        (reply, Some(entry))
     }
 
     /// Performs mutator `m`'s `Put` of `t` into field `i` of the object that `d` refers to, and logs the field. The object is known to
@@ -57,6 +81,7 @@ impl Collection {
         requires mutator { m < heap.old.mutators }
         requires room { 1 ≤ spare_of self.old m }
         requires field { (len : ℕ) × TakesFields heap.old (place d m) object.0 len × (i < len) }
+        ensures done { result ≡ Reply.Done }
         ensures step { mutate (open_state heap.old self.old) m (Op.Put d i t) ≡ (result, open_state heap.new self.new) }
         ensures belongs { BelongsTo heap.new self.new }
         ensures epoch { self.new.epoch ≡ self.old.epoch }

@@ -1,11 +1,12 @@
 ghost use Rattle.std.specs.Option.{option_map};
 ghost use Rattle.gc_words.specs.Image.{is_start};
-ghost use Rattle.std.specs.Prelude.{IsTrue, IfSome, ◌≡◌, ◌≢◌, ◌<◌, ◌≤◌, ◌==◌, ◌||◌};
+ghost use Rattle.std.specs.Prelude.{IsTrue, IfSome, Some, None, slice_get, ◌≡◌, ◌≢◌, ◌<◌, ◌≤◌, ◌==◌, ◌||◌};
 ghost use Rattle.gc_words.specs.Space.{image_with};
 ghost use Rattle.gc_words.specs.Certificate.{Certified};
 ghost use Rattle.gc_heap.specs.Heap.{image_of, graph_in};
 ghost use Rattle.gc_plan.specs.State.{pairs_of};
-ghost use Rattle.gc_plan.specs.Steps.{collect, root_target, roots_done as roots_done_in, scan_done as scan_done_in, is_ready};
+ghost use Rattle.gc_copy.specs.Entries.{entry_in};
+ghost use Rattle.gc_plan.specs.Steps.{collect, log_at, root_target, roots_done as roots_done_in, scan_done as scan_done_in, is_ready};
 ghost use Rattle.gc_copy.specs.Words.{collection_in, open_state, BelongsTo, new_root_words};
 ghost use Rattle.gc_plan.specs.declared.step.Step.{Step};
 ghost use Rattle.gc_plan.specs.declared.step.StepReply.{StepReply};
@@ -14,6 +15,7 @@ use super::Collection;
 use super::copying::NoRoom;
 use super::roots::MissingRoot;
 use crate::laws::{images_show_links, new_spaces_have_room};
+use crate::log::LogEntry;
 use gc_heap::Heap;
 use gc_plan::StepReply;
 use gc_words::{Header, NewAddr, OldAddr};
@@ -103,18 +105,35 @@ impl Collection {
         ensures epoch { self.new.epoch ≡ self.old.epoch }
         ensures mutators { heap.new.mutators ≡ heap.old.mutators }
     {
+        let (reply, _) = self.apply_noted(m, heap);
+        reply
+    }
+
+    /// The same. Also returns the entry, if it was applied, so that the caller can tell a monitor of its field.
+    #[inline(always)]
+    pub fn apply_noted(&mut self, m: u8, heap: &mut Heap) -> (StepReply, Option<LogEntry>)
+        requires belongs { BelongsTo heap.old self.old }
+        requires mutator { m < heap.old.mutators }
+        ensures step { collect (open_state heap.old self.old) (Step.Apply m) ≡ (result.0, open_state heap.new self.new) }
+        ensures applied { IfSome result.1 (λ entry. (result.0 ≡ StepReply.Applied) × (slice_get (log_at (collection_in self.old) m) 0 ≡ Some (entry_in entry))) }
+        ensures other { result.1 ≡ None → result.0 ≢ StepReply.Applied }
+        ensures room { heap.old.space.size ≤ self.old.space.size → result.0 ≢ StepReply.NoRoom }
+        ensures belongs { BelongsTo heap.new self.new }
+        ensures epoch { self.new.epoch ≡ self.old.epoch }
+        ensures mutators { heap.new.mutators ≡ heap.old.mutators }
+    {
         new_spaces_have_room();
         // Here the prover learns that the heap is sound.
         let _ = heap.space();
         let Some(entry) = self.logs[m as usize].oldest() else {
-            return StepReply::Clean;
+            return (StepReply::Clean, None);
         };
         match self.apply_entry(heap, entry) {
             Ok(()) => {
                 self.logs[m as usize].drop_oldest();
-                StepReply::Applied
+                (StepReply::Applied, Some(entry))
             }
-            Err(NoRoom) => StepReply::NoRoom,
+            Err(NoRoom) => (StepReply::NoRoom, None),
         }
     }
 

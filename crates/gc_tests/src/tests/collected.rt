@@ -3,8 +3,8 @@ mod rows;
 ghost use Rattle.std.specs.Prelude.{◌≡◌, IfOk};
 
 use gc_check::Sequential;
+use gc_collected::{CollectedHeap, Keep, NewSpace};
 use gc_copy::{LogEntry, Step, StepReply};
-use gc_core::{CollectedHeap, Keep, NewSpace};
 use gc_graph::{NoMemory, Reply, View};
 use gc_test_kit::commands::{get, new, num, own, put, saw};
 use gc_words::{NewAddr, OldAddr, Pair};
@@ -15,7 +15,7 @@ use std::test::Fail;
 
 /// Returns a heap with an open collection, in which a number was written into an object after its field was scanned.
 fn written_while_scanning(rt: &impl Abort, alloc: Global) -> Result<CollectedHeap, NoMemory>
-    ensures { IfOk result (λ heap. heap.mutators ≡ 1) }
+    ensures { IfOk result (λ heap. heap.core.mutators ≡ 1) }
 {
     let r0 = own(0);
     let r1 = own(1);
@@ -38,17 +38,17 @@ fn written_while_scanning(rt: &impl Abort, alloc: Global) -> Result<CollectedHea
 fn flip_and_keep(
     heap: &mut CollectedHeap,
 ) -> Result<(StepReply, Option<(usize, Option<Pair>, Option<u64>)>), NoMemory>
-    ensures { heap.new.mutators ≡ heap.old.mutators }
+    ensures { heap.new.core.mutators ≡ heap.old.core.mutators }
 {
-    let flip = heap.flip(&Sequential, Keep::Pair)?;
-    let kept = flip.pair.as_ref().map(|file| {
+    let reply = heap.flip(&Sequential, Keep::Pair)?;
+    let kept = heap.take_pair().as_ref().map(|file| {
         (
             file.pairs.len(),
             file.pairs.first().copied(),
             file.new.roots.get(16).copied(),
         )
     });
-    Ok((flip.reply, kept))
+    Ok((reply, kept))
 }
 
 #[test]
@@ -129,13 +129,16 @@ fn words_of_an_open_collection(rt: HostRuntime) -> Result<(), Fail> {
 }
 
 #[test]
-fn a_flip_that_keeps_nothing(rt: HostRuntime) -> Result<(), Fail> {
+fn a_flip_that_keeps_room(rt: HostRuntime) -> Result<(), Fail> {
     let mut heap = written_while_scanning(&rt, rt.alloc())?;
     let rows = [Row::Step(Step::Apply(0), StepReply::Applied)];
     play(&rt, &mut heap, &rows)?;
-    let flip = heap.flip(&Sequential, Keep::Nothing)?;
-    assert_eq!(rt; flip.reply, StepReply::Flipped { pairs: 1 });
-    assert!(rt; flip.pair.is_none());
+    assert!(rt; heap.former().is_none());
+    let reply = heap.flip(&Sequential, Keep::Room)?;
+    assert_eq!(rt; reply, StepReply::Flipped { pairs: 1 });
+    assert!(rt; heap.take_pair().is_none());
+    let went = heap.former().and_then(|room| room.moved(OldAddr(1)));
+    assert!(rt; went == Some(NewAddr(1)));
     assert!(rt; !heap.is_open());
     Ok(())
 }
@@ -219,7 +222,7 @@ fn a_reference_is_made_of_an_address(rt: HostRuntime) -> Result<(), Fail> {
     assert!(rt; !heap.has_object(OldAddr(5)));
     assert!(rt; 0 < heap.mutators());
     assert!(rt; heap.has_object(at));
-    heap.refer(0, r1, at);
+    assert_eq!(rt; heap.refer(0, r1, at), Reply::Done);
     assert!(rt; 0 < heap.mutators());
     assert_eq!(rt; heap.look(0, r1), Reply::Saw(View::Obj { kind: 7, len: 2 }));
     let rows = [

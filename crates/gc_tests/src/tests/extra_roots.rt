@@ -2,8 +2,8 @@ ghost use Rattle.std.specs.Prelude.{◌≤◌};
 ghost use Rattle.gc_heap.specs.ExtraRoots.{CanOpen, most_extra_roots};
 
 use gc_check::Sequential;
+use gc_collected::{Checking, CollectedHeap, Keep};
 use gc_copy::StepReply;
-use gc_core::{CollectedHeap, Keep};
 use gc_graph::{Reply, Slot, View};
 use gc_heap::{Heap, HeapOptions};
 use gc_test_kit::commands::own;
@@ -61,7 +61,7 @@ fn extra_roots_survive_a_flip(rt: HostRuntime) -> Result<(), Fail> {
     let _named = View::Nil;
     let r0 = own(0);
     let r1 = own(1);
-    let mut heap = CollectedHeap::open_with(rt.alloc(), &with_extra_roots(3))?;
+    let mut heap = CollectedHeap::open_with(rt.alloc(), &with_extra_roots(3), Checking::AtFlip)?;
     assert_eq!(rt; heap.extra_roots(), 3);
     make(&rt, &mut heap, 0, r0, 7);
     store(&rt, &mut heap, 0, 2, r0);
@@ -77,8 +77,8 @@ fn extra_roots_survive_a_flip(rt: HostRuntime) -> Result<(), Fail> {
     assert!(rt; heap.roots() == StepReply::Clean);
     assert!(rt; heap.scan() == StepReply::Passed);
     assert!(rt; heap.scan() == StepReply::Passed);
-    let flip = heap.flip(&Sequential, Keep::Nothing)?;
-    assert!(rt; flip.reply == StepReply::Flipped { pairs: 2 });
+    let reply = heap.flip(&Sequential, Keep::Room)?;
+    assert!(rt; reply == StepReply::Flipped { pairs: 2 });
     assert!(rt; load(&rt, &mut heap, 1, r1, 2) == object(7));
     assert!(rt; load(&rt, &mut heap, 0, r1, 0) == object(8));
     assert!(rt; load(&rt, &mut heap, 0, r1, 1) == Reply::Saw(View::Nil));

@@ -18,7 +18,7 @@ use Rattle.gc_trace.specs.declared.playing.Player.{Player}
 -- the player has played these events, starting in state s: it has the last state, the counts and, if it gathers them,
 -- the reply lines
 pub record HasPlayed (s : State) (events : List Event) (player : Player) : Type 0 where
-  pub state : player.heap ≡ state_after s events
+  pub state : player.heap.core ≡ state_after s events
   pub counts : player.report ≡ report_of (answers s events) s
   pub lines : player.gather ≡ Replies → player.text.items ++ player.printer ≡ reply_text (answers s events)
 

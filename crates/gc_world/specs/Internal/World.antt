@@ -1,7 +1,7 @@
 -- How the fields of a world fit together.
 use Rattle.std.specs.Prelude.{◌≡◌, ◌≤◌, Option, IfSome}
 use Rattle.gc_graph.specs.Limits.{most_words}
-use Rattle.gc_core.specs.Flip.{IsCertified}
+use Rattle.gc_collected.specs.Flip.{IsCertified}
 use Rattle.gc_plan.specs.State.{State}
 use Rattle.gc_cert.specs.Grammar.{CertifiedPair}
 use Rattle.gc_world.specs.History.{IsHistory}

@@ -4,8 +4,8 @@ ghost use Rattle.std.specs.Prelude.{◌≡◌, ◌<◌};
 ghost use Rattle.gc_plan.specs.Runs.{IsStep};
 
 use gc_check::Sequential;
+use gc_collected::{CollectedHeap, Keep};
 use gc_copy::{Step, StepReply};
-use gc_core::{CollectedHeap, Keep};
 use gc_graph::{NoMemory, Op, Reply};
 use std::fmt::Debug;
 use std::process::Abort;
@@ -27,8 +27,8 @@ pub enum Row {
 
 /// Performs the rows in order and tests each answer.
 pub fn play(rt: &impl Abort, heap: &mut CollectedHeap, rows: &[Row]) -> Result<(), NoMemory>
-    requires { 0 < heap.old.mutators }
-    ensures { heap.new.mutators ≡ heap.old.mutators }
+    requires { 0 < heap.old.core.mutators }
+    ensures { heap.new.core.mutators ≡ heap.old.core.mutators }
 {
     for (place, row) in rows.iter().enumerate() {
         perform(rt, heap, place, row)?;
@@ -43,14 +43,14 @@ fn perform(
     place: usize,
     row: &Row,
 ) -> Result<(), NoMemory>
-    requires { 0 < heap.old.mutators }
-    ensures { heap.new.mutators ≡ heap.old.mutators }
+    requires { 0 < heap.old.core.mutators }
+    ensures { heap.new.core.mutators ≡ heap.old.core.mutators }
 {
     match row {
         Row::Command(op, reply) => expect(rt, place, heap.mutate(0, op)?, *reply),
         Row::Step(step, reply) => {
             assert!(rt; step.is_within(u32::MAX, heap.mutators()), "row {place}");
-            expect(rt, place, heap.collect(&Sequential, *step)?, *reply);
+            expect(rt, place, heap.collect(&Sequential, *step, Keep::Room)?, *reply);
         }
         Row::Call(step, reply) => {
             assert!(rt; step.is_within(u32::MAX, heap.mutators()), "row {place}");
@@ -69,8 +69,8 @@ fn expect<T: Copy + PartialEq + Debug>(rt: &impl Abort, place: usize, got: T, wa
 
 /// Performs a step by the call named after it.
 fn call(heap: &mut CollectedHeap, step: Step) -> Result<StepReply, NoMemory>
-    requires { IsStep heap.old.mutators step }
-    ensures { heap.new.mutators ≡ heap.old.mutators }
+    requires { IsStep heap.old.core.mutators step }
+    ensures { heap.new.core.mutators ≡ heap.old.core.mutators }
 {
     match step {
         Step::Begin => heap.begin(),
@@ -78,7 +78,7 @@ fn call(heap: &mut CollectedHeap, step: Step) -> Result<StepReply, NoMemory>
         Step::Roots => Ok(heap.roots()),
         Step::Scan => Ok(heap.scan()),
         Step::Apply(m) => Ok(heap.apply_log(m)),
-        Step::Flip => Ok(heap.flip(&Sequential, Keep::Nothing)?.reply),
+        Step::Flip => heap.flip(&Sequential, Keep::Room),
         Step::Drop => Ok(heap.give_up()),
     }
 }

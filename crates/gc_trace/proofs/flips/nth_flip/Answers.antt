@@ -8,6 +8,7 @@ use Rattle.gc_plan.specs.Runs.{HasSizesWithin}
 use Rattle.gc_plan.proofs.Public.{opening_within}
 use Rattle.std.specs.Option.{option_map}
 use Rattle.gc_cert.specs.Views.{pair_in}
+use Rattle.gc_collected.specs.Collected.{Beside}
 use Rattle.gc_trace.specs.Flips.{nth_flip, flips}
 use Rattle.gc_trace.specs.Views.{recording}
 use Rattle.gc_trace.proofs.FlipPairs.{Counted, next_flip}
@@ -24,11 +25,12 @@ counted c =
 pub loop-event-init : goal.loop-event-init
 loop-event-init c =
     let t = c.args.trace.now in
-    let opened = c.in_ok-heap.ensures in
+    let opened = c.in_ok-heap.ensures.core in
     record {
       mutators = ap (λ (s : State). s.mutators) opened;
       sound = subst IsState (sym opened) (c.states_are_kept.ensures.opening t.size t.mutators (search rules) (search rules));
       small = subst (HasSizesWithin most_words) (sym opened) (opening_within most_words t.size t.mutators (search rules));
+      taken = ap (λ (b : Beside). b.pair) c.in_ok-heap.ensures.beside;
       flips = ap (λ (s : State). slice_get (flips s t.events.items) (c.args.n - 1)) opened;
     }
 
@@ -38,7 +40,8 @@ loop-event-preserved c =
       mutators = c.flip_in.ensures.mutators ∙ c.loop-event.invariant.mutators;
       sound = c.in_ok-kept.ensures.sound;
       small = c.in_ok-kept.ensures.small;
+      taken = c.in_ok-kept.ensures.taken;
       flips =
-          next_flip c.loop-event.heap c.flip_in.new.heap c.args.trace.now.events.items c.loop-event.event-index c.loop-event.before c.match-kept.before c.event-item.result _ (nth_flip c.args.n (recording c.args.trace.now))
+          next_flip c.loop-event.heap.core c.flip_in.new.heap.core c.args.trace.now.events.items c.loop-event.event-index c.loop-event.before c.match-kept.before c.event-item.result _ (nth_flip c.args.n (recording c.args.trace.now))
           (rw c.deref-event-items.ensures.value at c.loop-event-test.true) (rw c.deref-event-items.ensures.value at c.event-item.is) c.in_ok-kept.ensures.happened c.in_ok-kept.ensures.flip c.loop-event.invariant.flips (counted c);
     }

@@ -13,6 +13,6 @@ returns-clause-report c s events h =
     let heap = c.heap.result.now in
     let sound = c.space.ensures.sound in
     let space = c.space.ensures.value in
-    let end : end_of heap.space ≡ heap_end player.heap = same_end heap player.heap sound (c.heaps_have_addresses_as_names.ensures.graph heap sound) c.requires.sound c.heap.ensures in
-    report_is s events player.heap player.report c.with_space.result (end_of c.space.result.now) (free_in c.space.result.now) h.state h.counts c.with_space.ensures
+    let end : end_of heap.space ≡ heap_end player.heap.core = same_end heap player.heap.core sound (c.heaps_have_addresses_as_names.ensures.graph heap sound) c.requires.sound c.heap.ensures in
+    report_is s events player.heap.core player.report c.with_space.result (end_of c.space.result.now) (free_in c.space.result.now) h.state h.counts c.with_space.ensures
     (ap end_of space ∙ end) (ap free_in space ∙ ap (λ (r : Roomy). r.free) c.heap.ensures)

@@ -6,4 +6,4 @@ use Rattle.gc_trace.proofs.playing.Player.open.Goals as goal
 pub returns-clause-sound : goal.returns-clause-sound
 returns-clause-sound c =
     let high : c.args.size ≤ 1048576 = c.requires.high in
-    subst IsState (sym c.in_ok-heap.ensures) (c.states_are_kept.ensures.opening c.args.size c.args.mutators c.requires.low (omega arith))
+    subst IsState (sym c.in_ok-heap.ensures.core) (c.states_are_kept.ensures.opening c.args.size c.args.mutators c.requires.low (omega arith))

@@ -19,8 +19,8 @@ invariant-loop-event g l = (events : List Event) × record {
   reading : IsReadingTrace l.lines;
   all : AllByRecursion (λ event. HasLine l.lines.version event × IsOf l.lines.mutators event) events;
   heading : read_so_far l.lines [] ≡ read_so_far l.initial.lines [];
-  sound : IsState l.self.heap;
-  mutators : l.self.heap.mutators ≡ l.lines.mutators;
+  sound : IsState l.self.heap.core;
+  mutators : l.self.heap.core.mutators ≡ l.lines.mutators;
   gather : l.self.gather ≡ l.initial.self.gather;
   good : source_failed l.reader ≡ false;
 }

@@ -8,7 +8,7 @@ use Rattle.gc_plan.specs.Steps.{written}
 use Rattle.gc_copy.specs.Entries.{entry_in}
 use Rattle.gc_copy.specs.Words.{collection_in}
 use Rattle.gc_copy.proofs.Mutating.{nothing_noted, mutate_is, wrote, nothing_belongs, one_but}
-use Rattle.gc_copy.proofs.collection.Collection.put.Goals as goal
+use Rattle.gc_copy.proofs.collection.Collection.put_noted.Goals as goal
 
 none_written : (c : goal.In_default) → written (graph_in c.args.heap.now) c.args.m (Put c.args.s c.args.i c.args.t) c.put-reply.result ≡ []
 none_written c = wrote (graph_in c.args.heap.now) c.args.m (Put c.args.s c.args.i c.args.t) c.put-reply.result (option_map entry_in c.put_field-put.result) None (c.put_field-put.ensures c.args.t) c.in_default.ensures
@@ -32,3 +32,9 @@ pub returns-clause-belongs : goal.returns-clause-belongs
 returns-clause-belongs c =
     let one = one_but c.args.heap.now c.put-reply.new.self c.args.self.now c.args.m (Put c.args.s c.args.i c.args.t) c.put-reply.result c.in-Some.entry.object.0 c.in-Some.entry.field c.requires.belongs c.put-reply.ensures.performs.links c.put-reply.ensures.performs.mutators c.put-reply.ensures.performs.step (one_written c) in
     c.note.ensures.belongs c.put-reply.new.self one.1 one.0
+
+pub returns-in_default-clause-entry : goal.returns-in_default-clause-entry
+returns-in_default-clause-entry c = sym (none_written c)
+
+pub returns-clause-entry : goal.returns-clause-entry
+returns-clause-entry c = sym (one_written c)

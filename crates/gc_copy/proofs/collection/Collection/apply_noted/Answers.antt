@@ -13,8 +13,8 @@ use Rattle.gc_plan.specs.declared.step.StepReply.{StepReply}
 use Rattle.gc_plan.specs.declared.step.StepReply.TheVariants.{Applied}
 use Rattle.gc_copy.proofs.Logs.{there_in}
 use Rattle.gc_copy.proofs.Applying.{field_there, stays, applied, applied_belongs}
-use Rattle.gc_copy.proofs.collection.Collection.apply_log.Goals as goal
-use Rattle.gc_copy.proofs.collection.Collection.apply_log.Goals.{In-Some, After-drop_oldest}
+use Rattle.gc_copy.proofs.collection.Collection.apply_noted.Goals as goal
+use Rattle.gc_copy.proofs.collection.Collection.apply_noted.Goals.{In-Some, After-drop_oldest}
 
 -- the log of the mutator
 there : (c : In-Some) → slice_get (the_view c.self.inside).logs c.args.m ≡ Some c.index.result.now

@@ -1,0 +1,119 @@
+-- The copies of fields in one call are the single copies in order, and keep what is known of the roots.
+use Rattle.std.proofs.lemmas.Grind.{common_steps}
+use Rattle.std.proofs.Common.{◌≡◌, ◌<◌, ◌≤◌, ◌+◌, ◌-◌, ℕ, zero, suc, List, [], ◌∷◌, length, map, take, drop, Some, None, Option, true, refl, sym, ap, subst, ◌∙◌, arith}
+use Rattle.std.specs.Prelude.{slice_range, not, ◌||◌, Bool, cond, ◌&&◌}
+use Rattle.std.specs.List.{list_all}
+use Rattle.std.proofs.lemmas.Bool.{le-leb}
+use Rattle.std.proofs.lemmas.List.{take-map, drop-map, length-map}
+use Rattle.std.proofs.lemmas.List.Folds.{list_all-map}
+use Rattle.std.proofs.lemmas.Slice.{between_is}
+use Rattle.std.specs.Option.{option_map, option_and_then}
+use Rattle.gc_graph.specs.Graph.{Num, Object, Graph, lookup, root, name_of}
+use Rattle.gc_graph.specs.declared.command.Op.TheVariants.{Get, Put}
+use Rattle.gc_graph.specs.declared.reply.Reply.{Reply}
+use Rattle.gc_graph.specs.declared.reply.Reply.TheVariants.{Done, NoNumber}
+use Rattle.gc_graph.specs.Machine.{is_number}
+use Rattle.gc_graph.specs.Slots.{SlotName, place, roots_of}
+use Rattle.gc_words.specs.declared.header.Header.{Header}
+use Rattle.gc_words.specs.Word.{value_of, field_value}
+use Rattle.gc_words.specs.Image.{Block, block_at, header_at, header_of, object_of_block}
+use Rattle.gc_words.proofs.Public.{object_found, fields_counted}
+use Rattle.gc_heap.specs.Heap.{HeapWords, IsHeap, graph_in}
+use Rattle.gc_plan.specs.State.{State}
+use Rattle.gc_plan.specs.Steps.{mutate}
+use Rattle.gc_along.specs.Tables.{Tables}
+use Rattle.gc_copy.specs.Words.{CollectionWords, collection_in, idle_state, state_of}
+use Rattle.gc_beside.specs.Follows.{Follows}
+use Rattle.gc_beside.proofs.Public.{Ran, follows_closed, ran_none, ran_on, ran_one}
+use Rattle.gc_collected.specs.Internal.KnownRoots.{KnowsRoots}
+use Rattle.gc_collected.specs.declared.known.KnownRoots.{KnownRoots}
+use Rattle.gc_collected.specs.Copying.{object_in, copy_reply, copy_step}
+use Rattle.gc_collected.proofs.Marks.{WritesBelow, forgetting, slot_below, one_below, slot_command, put_knows}
+use Rattle.gc_collected.proofs.NumbersPut.{forgotten}
+
+-- ---- the object that a slot refers to
+
+-- an object with this header and these field words
+abbrev pub object_with : Header → List ℕ → Object
+object_with header fields = object_of_block (record { header = header; fields = fields })
+
+pub object_there : (h : HeapWords) (m a : ℕ) (slot : SlotName) (header : Header) (fields : List ℕ) → Some a ≡ name_of (root (graph_in h) (place slot m)) → header_at h.space.words a ≡ Some header
+    → ((b : Block) → block_at h.space.words a ≡ Some b → fields ≡ b.fields) → Some (object_with header fields) ≡ object_in (graph_in h) slot m
+object_there h m a slot header fields name met are =
+    let found : object_in (graph_in h) slot m ≡ option_map object_of_block (block_at h.space.words a) = ap (option_and_then (lookup (graph_in h).objects)) (sym name) ∙ object_found h.space.words a in
+    grind (arith, common_steps, found)
+
+-- it has as many field words as its header says
+pub fields_there : (h : HeapWords) (a : ℕ) (header : Header) (fields : List ℕ) → IsHeap h → header_at h.space.words a ≡ Some header → ((b : Block) → block_at h.space.words a ≡ Some b → fields ≡ b.fields) → length fields ≡ header.len
+fields_there h a header fields heap met are = go (block_at h.space.words a) refl
+  where
+    go : (o : Option Block) → block_at h.space.words a ≡ o → length fields ≡ header.len
+    go None is = absurd (let no : None ≡ Some header = sym (ap header_of is) ∙ met in cc)
+    go (Some b) is =
+        let same : b.header ≡ header = (let both : Some b.header ≡ Some header = sym (ap header_of is) ∙ met in cc) in
+        ap length (are b is) ∙ sym (length-map b.fields (field_value b.header)) ∙ fields_counted h.space.words a b heap.space.walked is ∙ ap (λ (h : Header). h.len) same
+
+-- ---- the reply
+
+-- a part of the values
+range_of_map : {X Y : Type 0} (f : X → Y) (xs : List X) (i j : ℕ) → slice_range (map f xs) i j ≡ map f (slice_range xs i j)
+range_of_map f xs i j = between_is (map f xs) i j ∙ ap (drop i) (take-map f j xs) ∙ drop-map f i (take j xs) ∙ ap (map f) (sym (between_is xs i j))
+
+-- a raw object holds numbers
+raw_numbers_all : (header : Header) (words : List ℕ) → header.raw ≡ true → list_all (λ w. is_number (field_value header w)) words ≡ true
+raw_numbers_all header [] raw = refl
+raw_numbers_all header (w ∷ rest) raw = ap (λ b. is_number (cond b (Num w) (value_of w)) && list_all (λ w. is_number (field_value header w)) rest) raw ∙ raw_numbers_all header rest raw
+
+pub raw_taken : (target source : Header) (words : List ℕ) → source.raw ≡ true → true ≡ (not target.raw || list_all (λ w. is_number (field_value source w)) words)
+raw_taken target source words raw = grind (arith, common_steps, raw_numbers_all)
+
+-- with enough fields in both, the reply says whether the values are taken
+pub fitting_reply : (to from count first last : ℕ) (target source : Header) (old words : List ℕ) (g : Graph) (m : ℕ) (d s : SlotName) (taken : Bool) (reply : Reply)
+    → Some (object_with target old) ≡ object_in g d m → Some (object_with source words) ≡ object_in g s m → to + count ≤ length old → first ≡ from → last ≡ from + count → last ≤ length words
+    → taken ≡ (not target.raw || list_all (λ w. is_number (field_value source w)) (slice_range words first last)) → reply ≡ cond taken Done NoNumber → reply ≡ copy_reply to from count (object_in g d m) (object_in g s m)
+fitting_reply to from count first last target source old words g m d s taken reply one other low begin at high asks same = grind (arith, common_steps, list_all-map, range_of_map, le-leb, length-map)
+
+-- ---- the commands
+
+-- one field more
+pub one_copied : (old two first : State) (m i j k count : ℕ) (d s t : SlotName) → k < count → copy_step old m d (i + k) s (j + k) t (count - k) ≡ copy_step first m d i s j t count
+    → (mutate (mutate old m (Get t s (j + k))).1 m (Put d (i + k) t)).1 ≡ two → copy_step two m d (i + (k + 1)) s (j + (k + 1)) t (count - (k + 1)) ≡ copy_step first m d i s j t count
+one_copied old two first m i j k count d s t less so_far step =
+    let more : count - k ≡ suc (count - (k + 1)) = omega (arith, less) in
+    let at : i + (k + 1) ≡ suc (i + k) = omega arith in
+    let from : j + (k + 1) ≡ suc (j + k) = omega arith in
+    ap (λ n. copy_step two m d n s (j + (k + 1)) t (count - (k + 1))) at ∙ ap (λ n. copy_step two m d (suc (i + k)) s n t (count - (k + 1))) from
+    ∙ ap (λ (x : State). copy_step x m d (suc (i + k)) s (suc (j + k)) t (count - (k + 1))) (sym step)
+    ∙ sym (ap (copy_step old m d (i + k) s (j + k) t) more) ∙ so_far
+
+-- ---- what is known of the roots
+
+pub copies_know : (count : ℕ) (known : KnownRoots) (s : State) (m i j : ℕ) (d from t : SlotName) → t.index < 16 → m < s.mutators → KnowsRoots known s
+    → KnowsRoots (forgetting known) (copy_step s m d i from j t count)
+copies_know zero known s m i j d from t low less k = forgotten known s k
+copies_know (suc count) known s m i j d from t low less k =
+    let one = mutate s m (Get t from j) in
+    let two = mutate one.1 m (Put d i t) in
+    let below : WritesBelow (roots_of s.mutators) m (Get t from j) = λ q. one_below (place t m) q (roots_of s.mutators) (slot_below t m s.mutators low less) in
+    let got : KnowsRoots (forgetting known) one.1 = slot_command known s m (Get t from j) below k in
+    copies_know count (forgetting known) two.1 m (suc i) (suc j) d from t low less (put_knows (forgetting known) one.1 two.1 m i d t two.0 refl got)
+
+-- ---- what was written
+
+abbrev Any : ℕ → ℕ → Type 0
+Any a i = Unit {0}
+
+copies_ran : (count : ℕ) (s : State) (m i j : ℕ) (d from t : SlotName) → Ran s (copy_step s m d i from j t count) Any
+copies_ran zero s m i j d from t = ran_none s Any
+copies_ran (suc count) s m i j d from t =
+    let one = mutate s m (Get t from j) in
+    let two = mutate one.1 m (Put d i t) in
+    ran_on s two.1 (copy_step two.1 m d (suc i) from (suc j) t count) Any Any Any (λ a k w. tt) (λ a k w. tt)
+    (ran_on s one.1 two.1 _ _ Any (λ a k w. tt) (λ a k w. tt) (ran_one s one.1 m (Get t from j) one.0 refl refl) (ran_one one.1 two.1 m (Put d i t) two.0 refl refl)) (copies_ran count two.1 m (suc i) (suc j) d from t)
+
+-- while no collection is open a monitor is told nothing
+pub copies_follow : (count : ℕ) (heap new : HeapWords) (o : Option CollectionWords) (m i j : ℕ) (d from t : SlotName) (w : Tables) → o ≡ None → copy_step (idle_state heap) m d i from j t count ≡ idle_state new
+    → Follows (state_of heap (option_map collection_in o)) w → Follows (state_of new (option_map collection_in o)) w
+copies_follow count heap new o m i j d from t w none step f =
+    subst (λ o. Follows (state_of new (option_map collection_in o)) w) (sym none)
+    (follows_closed (idle_state heap) (idle_state new) w Any refl (subst (λ (x : State). Ran (idle_state heap) x Any) step (copies_ran count (idle_state heap) m i j d from t)) (subst (λ o. Follows (state_of heap (option_map collection_in o)) w) none f))

@@ -1,0 +1,78 @@
+-- A monitor that follows a collected heap goes on following it through commands.
+use Rattle.std.proofs.lemmas.Grind.{common_steps}
+use Rattle.std.proofs.Common.{◌≡◌, ℕ, ◌<◌, [], Option, Some, None, true, false, Bool, refl, ap, sym, subst, ◌∙◌, arith}
+use Rattle.std.specs.Prelude.{IfSome}
+use Rattle.std.specs.Option.{option_map}
+use Rattle.gc_graph.specs.Graph.{Graph}
+use Rattle.gc_graph.specs.Machine.{words_taken}
+use Rattle.gc_graph.specs.Slots.{SlotName}
+use Rattle.gc_graph.specs.declared.command.Op.{Op}
+use Rattle.gc_graph.specs.declared.reply.Reply.{Reply}
+use Rattle.gc_words.specs.Image.{Image}
+use Rattle.gc_words.specs.Spelling.{link_at}
+use Rattle.gc_words.specs.Space.{free_in}
+use Rattle.gc_heap.specs.Heap.{HeapWords, IsHeap, graph_in, image_of}
+use Rattle.gc_heap.specs.Commands.{Performs}
+use Rattle.gc_plan.specs.State.{State}
+use Rattle.gc_plan.specs.Linked.{linked_image}
+use Rattle.gc_plan.specs.Steps.{WritesField, mutate, written}
+use Rattle.gc_plan.specs.Members.{In}
+use Rattle.gc_plan.specs.Belonging.{IsOpened, IsSpaceGraph}
+use Rattle.gc_along.specs.Claims.{CanMake}
+use Rattle.gc_along.specs.Events.{Made}
+use Rattle.gc_along.specs.Tables.{Tables}
+use Rattle.gc_copy.specs.Words.{CollectionWords, collection_in, idle_state, state_of}
+use Rattle.gc_beside.specs.Follows.{Follows}
+use Rattle.gc_beside.proofs.Public.{follows_closed, follows_new, follows_quiet, new_op, ran_one}
+use Rattle.gc_collected.specs.Internal.CollectedHeap.{BelongsIfOpen, Fits}
+use Rattle.gc_collected.specs.Internal.KnownRoots.{KnowsRoots}
+use Rattle.gc_collected.specs.declared.known.KnownRoots.{KnownRoots}
+use Rattle.gc_collected.proofs.Marks.{SetsPlain, forgetting}
+use Rattle.gc_collected.proofs.OtherCommands.{SetsSlot, it_belongs, performed, plain_set, slot_set}
+
+no_put : (g : Graph) (m : ℕ) (op : Op) (reply : Reply) → ¬ WritesField op → written g m op reply ≡ []
+no_put g m op reply none = grind (arith, common_steps)
+
+-- a command that writes no field and makes no object
+pub quiet : (now : State) (heap new : HeapWords) (o : Option CollectionWords) (m : ℕ) (op : Op) (reply : Reply) (t : Tables) → state_of heap (option_map collection_in o) ≡ now → IfSome now.collection (IsOpened now)
+    → IsHeap heap → ¬ WritesField op → words_taken op ≡ 0 → Performs heap m op reply new → BelongsIfOpen heap o → Follows (state_of heap (option_map collection_in o)) t → Follows (state_of new (option_map collection_in o)) t
+quiet now heap new o m op reply t view is_open sound none few performs belongs =
+    let s = state_of heap (option_map collection_in o) in
+    follows_quiet s (state_of new (option_map collection_in o)) t _ (subst (λ (x : State). IfSome x.collection (IsOpened x)) (sym view) is_open)
+    (ran_one s (state_of new (option_map collection_in o)) m op reply (performed heap new o m op reply sound none performs belongs) few)
+    (λ a i w. subst (λ ws. In {X = ℕ × ℕ} (a, i) ws) (no_put (graph_in heap) m op reply none) w)
+
+-- a command while no collection is open
+pub closed : (heap new : HeapWords) (o : Option CollectionWords) (m : ℕ) (op : Op) (reply : Reply) (t : Tables) → ((c : CollectionWords) → o ≡ Some c → ⊥) → words_taken op ≡ 0 → mutate (state_of heap (option_map collection_in o)) m op ≡ (reply, state_of new (option_map collection_in o))
+    → Follows (state_of heap (option_map collection_in o)) t → Follows (state_of new (option_map collection_in o)) t
+closed heap new o m op reply t none few said = follows_closed (state_of heap (option_map collection_in o)) (state_of new (option_map collection_in o)) t _ (is_none o none)
+    (ran_one (state_of heap (option_map collection_in o)) (state_of new (option_map collection_in o)) m op reply said few)
+  where
+    is_none : (o : Option CollectionWords) → ((c : CollectionWords) → o ≡ Some c → ⊥) → option_map collection_in o ≡ None
+    is_none None n = refl
+    is_none (Some c) n = absurd (n c refl)
+
+-- a `New` or a `NewRaw`, of which the monitor is told
+pub newly : (now : State) (heap new : HeapWords) (o : Option CollectionWords) (m : ℕ) (op : Op) (reply : Reply) (t after : Tables) (raw : Bool) (d : SlotName) (kind len : ℕ) → op ≡ new_op raw d kind len → state_of heap (option_map collection_in o) ≡ now → IfSome now.collection (IsOpened now)
+    → IsSpaceGraph now.size now.heap.free now.heap.graph → IsHeap heap → ¬ WritesField op → Performs heap m op reply new → BelongsIfOpen heap o → IsSpaceGraph new.space.size (free_in new.space) (graph_in new) → image_of new ≡ linked_image (link_at new.space.words) new.space.size (graph_in new)
+    → (t.lost ≡ false → CanMake new.space.words t → after.lost ≡ false) → (after.lost ≡ false → Made new.space.words t after) → Follows (state_of heap (option_map collection_in o)) t → Follows (state_of new (option_map collection_in o)) after
+newly now heap new o m op reply t after raw d kind len is view is_open before sound none performs belongs later shows =
+    let s = state_of heap (option_map collection_in o) in
+    follows_new s (state_of new (option_map collection_in o)) m op reply raw d kind len (link_at new.space.words) new.space.words t after is (subst (λ (x : State). IfSome x.collection (IsOpened x)) (sym view) is_open)
+    (subst (λ (x : State). IsSpaceGraph x.size x.heap.free x.heap.graph) (sym view) before) later (performed heap new o m op reply sound none performs belongs) (ap (λ (image : Image). image.words) shows)
+
+-- ---- with what is known of the roots
+
+-- a command that sets one slot, and makes no object
+pub slot_followed : {C : Type 0} (now : State) (epoch : ℕ) (known : KnownRoots) (heap new : HeapWords) (o : Option CollectionWords) (m : ℕ) (op : Op) (reply : Reply) (t : Tables) (along : Bool) → state_of heap (option_map collection_in o) ≡ now → m < now.mutators → IfSome now.collection (IsOpened now)
+    → IsHeap heap → Performs heap m op reply new → ¬ WritesField op → SetsSlot op → words_taken op ≡ 0 → (Fits epoch heap o × KnowsRoots known (state_of heap (option_map collection_in o)) × C) × (along ≡ true → Follows (state_of heap (option_map collection_in o)) t)
+    → (Fits epoch new o × KnowsRoots (forgetting known) (state_of new (option_map collection_in o)) × C) × (along ≡ true → Follows (state_of new (option_map collection_in o)) t)
+slot_followed now epoch known heap new o m op reply t along view less is_open sound performs none low few k =
+    (slot_set now epoch known heap new o m op reply view less sound performs none low k.0, λ on. quiet now heap new o m op reply t view is_open sound none few performs (it_belongs epoch heap o (k.0).0) (k.1 on))
+
+-- one that sets it to nil or to a number
+pub plain_followed : {C : Type 0} (now : State) (epoch : ℕ) (known : KnownRoots) (heap new : HeapWords) (o : Option CollectionWords) (m : ℕ) (op : Op) (reply : Reply) (t : Tables) (along : Bool) → state_of heap (option_map collection_in o) ≡ now → m < now.mutators → IfSome now.collection (IsOpened now)
+    → IsHeap heap → Performs heap m op reply new → ¬ WritesField op → SetsPlain op → SetsSlot op → words_taken op ≡ 0 → (Fits epoch heap o × KnowsRoots known (state_of heap (option_map collection_in o)) × C) × (along ≡ true → Follows (state_of heap (option_map collection_in o)) t)
+    → (Fits epoch new o × KnowsRoots known (state_of new (option_map collection_in o)) × C) × (along ≡ true → Follows (state_of new (option_map collection_in o)) t)
+plain_followed now epoch known heap new o m op reply t along view less is_open sound performs none plain low few k =
+    (plain_set now epoch known heap new o m op reply view less sound performs none plain low k.0, λ on. quiet now heap new o m op reply t view is_open sound none few performs (it_belongs epoch heap o (k.0).0) (k.1 on))

@@ -1,0 +1,21 @@
+-- Lemmas about calls that are several commands, what is known of roots, what a heap shows, the pair of a flip, the monitor, and runs.
+mod Beside
+mod Copies
+mod Core
+mod Counts
+mod FirstLog
+mod Followed
+mod KeptPair
+pub mod LegalRuns
+mod Marks
+mod NewFrom
+mod Noted
+mod NumbersPut
+mod OtherCommands
+mod Parts
+pub mod Public
+mod Referred
+mod Reserved
+mod Shown
+mod SourcesPut
+mod Starts

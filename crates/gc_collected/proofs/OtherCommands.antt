@@ -1,0 +1,121 @@
+-- Commands that write no field: they change only the heap, whether a collection is open or not.
+use Rattle.std.proofs.lemmas.Grind.{common_steps}
+use Rattle.std.proofs.Common.{◌≡◌, ℕ, ◌+◌, ◌<◌, length, Option, Some, None, ap, sym, subst, arith, rules}
+use Rattle.std.specs.Prelude.{IfSome, min, max}
+use Rattle.gc_graph.specs.Slots.{SlotName, roots_of}
+use Rattle.std.specs.Option.{option_map}
+use Rattle.gc_graph.specs.declared.command.Op.{Op}
+use Rattle.gc_graph.specs.declared.reply.Reply.{Reply}
+use Rattle.gc_heap.specs.Heap.{HeapWords, IsHeap, graph_in}
+use Rattle.gc_heap.specs.Commands.{Performs}
+use Rattle.gc_plan.specs.Steps.{WritesField, mutate}
+use Rattle.gc_copy.specs.Words.{CollectionWords, BelongsTo, collection_in, state_of, open_state}
+use Rattle.gc_copy.proofs.Public.{open_left, idle_left, still_unlinked}
+use Rattle.gc_plan.specs.State.{State}
+use Rattle.gc_plan.specs.Staying.{root_written}
+use Rattle.gc_collected.specs.Internal.CollectedHeap.{BelongsIfOpen, Fits}
+use Rattle.gc_collected.specs.Internal.KnownRoots.{KnowsRoots}
+use Rattle.gc_collected.specs.declared.known.KnownRoots.{KnownRoots}
+use Rattle.gc_graph.specs.declared.command.Op.TheVariants as ops
+use Rattle.gc_collected.proofs.Marks.{WritesBelow, SetsPlain, forgetting, slot_below, slot_command, plain_command, put_knows, stored_command}
+use Rattle.gc_collected.proofs.Reserved.{AfterFirst}
+
+pub still_fits : (epoch : ℕ) (heap new : HeapWords) (o : Option CollectionWords) (m : ℕ) (op : Op) (reply : Reply) → IsHeap heap → ¬ WritesField op → Performs heap m op reply new → Fits epoch heap o → Fits epoch new o
+still_fits epoch heap new None m op reply is none performs fits = still_unlinked epoch heap new m op reply performs fits
+still_fits epoch heap new (Some c) m op reply is none performs fits = (open_left heap new c m op reply is fits none performs).1
+
+pub it_belongs : (epoch : ℕ) (heap : HeapWords) (o : Option CollectionWords) → Fits epoch heap o → BelongsIfOpen heap o
+it_belongs epoch heap o fits = grind (arith, common_steps)
+
+pub still_belongs : (heap new : HeapWords) (o : Option CollectionWords) (m : ℕ) (op : Op) (reply : Reply) → IsHeap heap → ¬ WritesField op → Performs heap m op reply new → BelongsIfOpen heap o → BelongsIfOpen new o
+still_belongs heap new None m op reply is none performs belongs = tt
+still_belongs heap new (Some c) m op reply is none performs belongs = (open_left heap new c m op reply is belongs none performs).1
+
+pub performed : (heap new : HeapWords) (o : Option CollectionWords) (m : ℕ) (op : Op) (reply : Reply) → IsHeap heap → ¬ WritesField op → Performs heap m op reply new → BelongsIfOpen heap o
+    → mutate (state_of heap (option_map collection_in o)) m op ≡ (reply, state_of new (option_map collection_in o))
+performed heap new None m op reply is none performs belongs = idle_left heap new m op reply is performs
+performed heap new (Some c) m op reply is none performs belongs = (open_left heap new c m op reply is belongs none performs).0
+
+pub mutated : (epoch : ℕ) (heap new : HeapWords) (o : Option CollectionWords) (m : ℕ) (op : Op) (reply : Reply) → IsHeap heap → ¬ WritesField op → Performs heap m op reply new → Fits epoch heap o
+    → mutate (state_of heap (option_map collection_in o)) m op ≡ (reply, state_of new (option_map collection_in o))
+mutated epoch heap new o m op reply is none performs fits = performed heap new o m op reply is none performs (it_belongs epoch heap o fits)
+
+-- the same, of a state that is known by its own name
+pub said : (s : State) (epoch : ℕ) (heap new : HeapWords) (o : Option CollectionWords) (m : ℕ) (op : Op) (reply : Reply) → state_of heap (option_map collection_in o) ≡ s → Fits epoch heap o → IsHeap heap → ¬ WritesField op → Performs heap m op reply new
+    → mutate s m op ≡ (reply, state_of new (option_map collection_in o))
+said s epoch heap new o m op reply is fits sound none performs = subst (λ (t : State). mutate t m op ≡ (reply, state_of new (option_map collection_in o))) is (mutated epoch heap new o m op reply sound none performs fits)
+
+-- afterwards the marks are those for an extra root that was written
+pub fits_stored : (epoch : ℕ) (known : KnownRoots) (heap new : HeapWords) (o : Option CollectionWords) (m i : ℕ) (op : Op) (reply : Reply) → IsHeap heap → ¬ WritesField op → Performs heap m op reply new → root_written m op ≡ Some (roots_of heap.mutators + i)
+    → roots_of heap.mutators + i < length (graph_in heap).roots → Fits epoch heap o
+    → KnowsRoots known (state_of heap (option_map collection_in o)) → Fits epoch new o × KnowsRoots (record { slots = known.slots; extra = min known.extra i; used = max known.used (i + 1); count = known.count }) (state_of new (option_map collection_in o))
+fits_stored epoch known heap new o m i op reply is none performs at within fits k = (
+  still_fits epoch heap new o m op reply is none performs fits,
+  subst (KnowsRoots (record { slots = known.slots; extra = min known.extra i; used = max known.used (i + 1); count = known.count })) (ap (λ (x : Reply × State). x.1) (mutated epoch heap new o m op reply is none performs fits))
+      (stored_command known (state_of heap (option_map collection_in o)) m i op at within k),
+)
+
+-- the place of the slot that a command sets, if it sets one, is below those of the extra roots
+abbrev pub SetsSlot : Op → Type 0
+SetsSlot (ops.New d kind len) = d.index < 16
+SetsSlot (ops.NewRaw d kind len) = d.index < 16
+SetsSlot (ops.Num d n) = d.index < 16
+SetsSlot (ops.Nil d) = d.index < 16
+SetsSlot (ops.Move d t) = d.index < 16
+SetsSlot (ops.Get d t i) = d.index < 16
+SetsSlot (ops.Put t i u) = ⊥
+SetsSlot (ops.Same t u) = ⊥
+SetsSlot (ops.Look t) = ⊥
+
+sets_below : (mutators m : ℕ) (op : Op) → m < mutators → SetsSlot op → WritesBelow (roots_of mutators) m op
+sets_below mutators m op less low = grind (arith, common_steps, slot_below)
+
+-- after a command that sets one slot nothing is known of the slots
+pub slot_set : {C : Type 0} (s : State) (epoch : ℕ) (known : KnownRoots) (heap new : HeapWords) (o : Option CollectionWords) (m : ℕ) (op : Op) (reply : Reply) → state_of heap (option_map collection_in o) ≡ s → m < s.mutators → IsHeap heap → Performs heap m op reply new → ¬ WritesField op → SetsSlot op
+    → Fits epoch heap o × KnowsRoots known (state_of heap (option_map collection_in o)) × C → Fits epoch new o × KnowsRoots (forgetting known) (state_of new (option_map collection_in o)) × C
+slot_set s epoch known heap new o m op reply is less sound performs none low k = (
+  still_fits epoch heap new o m op reply sound none performs k.0,
+  subst (KnowsRoots (forgetting known)) (ap (λ (x : Reply × State). x.1) (mutated epoch heap new o m op reply sound none performs k.0))
+      (slot_command known (state_of heap (option_map collection_in o)) m op (sets_below heap.mutators m op (subst (λ (t : State). m < t.mutators) (sym is) less) low) k.1),
+  k.2,
+)
+
+-- a slot that is set to nil or a number needs no replica, so the marks stay
+pub plain_set : {C : Type 0} (s : State) (epoch : ℕ) (known : KnownRoots) (heap new : HeapWords) (o : Option CollectionWords) (m : ℕ) (op : Op) (reply : Reply) → state_of heap (option_map collection_in o) ≡ s → m < s.mutators → IsHeap heap → Performs heap m op reply new → ¬ WritesField op → SetsPlain op → SetsSlot op
+    → Fits epoch heap o × KnowsRoots known (state_of heap (option_map collection_in o)) × C → Fits epoch new o × KnowsRoots known (state_of new (option_map collection_in o)) × C
+plain_set s epoch known heap new o m op reply is less sound performs none plain low k = (
+  still_fits epoch heap new o m op reply sound none performs k.0,
+  subst (KnowsRoots known) (ap (λ (x : Reply × State). x.1) (mutated epoch heap new o m op reply sound none performs k.0))
+      (plain_command known (state_of heap (option_map collection_in o)) m op plain (sets_below heap.mutators m op (subst (λ (t : State). m < t.mutators) (sym is) less) low) k.1),
+  k.2,
+)
+
+-- while no collection is open, every command changes only the heap
+pub idle_mutated : (epoch : ℕ) (heap new : HeapWords) (o : Option CollectionWords) (m : ℕ) (op : Op) (reply : Reply) → IsHeap heap → ((c : CollectionWords) → o ≡ Some c → ⊥) → Performs heap m op reply new → Fits epoch heap o
+    → (mutate (state_of heap (option_map collection_in o)) m op ≡ (reply, state_of new (option_map collection_in o))) × Fits epoch new o
+idle_mutated epoch heap new o m op reply is none performs fits = search (rules, idle_left, still_unlinked)
+
+-- ---- a slot is set to nil or a number, and then written to a field
+
+pub plain_put_knows : (known : KnownRoots) (s one new : State) (m i : ℕ) (op : Op) (d t : SlotName) (first reply : Reply) → SetsPlain op → SetsSlot op → m < s.mutators → mutate s m op ≡ (first, one) → mutate one m (ops.Put d i t) ≡ (reply, new) → KnowsRoots known s → KnowsRoots known new
+plain_put_knows known s one new m i op d t first reply plain low less a b k =
+    put_knows known one new m i d t reply b (subst (KnowsRoots known) (ap (λ (x : Reply × State). x.1) a) (plain_command known s m op plain (sets_below s.mutators m op less low) k))
+
+-- while no collection is open
+pub plain_put_idle : {C : Type 0} (s : State) (epoch : ℕ) (known : KnownRoots) (heap one new : HeapWords) (o : Option CollectionWords) (m i : ℕ) (op : Op) (d t : SlotName) (first reply : Reply) → state_of heap (option_map collection_in o) ≡ s → m < s.mutators → SetsPlain op → SetsSlot op
+    → ((c : CollectionWords) → o ≡ Some c → ⊥) → IsHeap heap → IsHeap one → Performs heap m op first one → Performs one m (ops.Put d i t) reply new
+    → Fits epoch heap o × KnowsRoots known (state_of heap (option_map collection_in o)) × C → Fits epoch new o × KnowsRoots known (state_of new (option_map collection_in o)) × C
+plain_put_idle s epoch known heap one new o m i op d t first reply is less plain low none sound sound' sets puts k =
+    let at : HeapWords → State = λ h. state_of h (option_map collection_in o) in
+    let a = idle_mutated epoch heap one o m op first sound none sets k.0 in
+    let b = idle_mutated epoch one new o m (ops.Put d i t) reply sound' none puts a.1 in
+    (b.1, plain_put_knows known (at heap) (at one) (at new) m i op d t first reply plain low (subst (λ (s : State). m < s.mutators) (sym is) less) a.0 b.0 k.1, k.2)
+
+-- while one is open
+pub plain_put_open : {known : KnownRoots} {heap one : HeapWords} {logs : CollectionWords} {now : State} {m : ℕ} {op : Op} {first : Reply} (new : State) (i : ℕ) (d t : SlotName) (reply : Reply) → AfterFirst known heap one logs now m op first → SetsPlain op → SetsSlot op
+    → mutate (open_state one logs) m (ops.Put d i t) ≡ (reply, new) → (mutate (mutate now m op).1 m (ops.Put d i t) ≡ (reply, new)) × KnowsRoots known new
+plain_put_open {known} {heap} {one} {logs} {now} {m} {op} {first} new i d t reply k plain low puts = (
+  subst (λ s. mutate (mutate s m op).1 m (ops.Put d i t) ≡ (reply, new)) k.before
+      (subst (λ s. mutate s m (ops.Put d i t) ≡ (reply, new)) (sym (ap (λ (x : Reply × State). x.1) k.performs)) puts),
+  plain_put_knows known (open_state heap logs) (open_state one logs) new m i op d t first reply plain low k.mutator k.performs puts k.knows,
+)

@@ -1,0 +1,37 @@
+-- A turn sets one more extra root to nil, a command that writes no field, so an open collection still belongs to the heap.
+use Rattle.std.proofs.Common.{◌≡◌, ◌+◌, ◌-◌, length, sym, ◌∙◌, ap, arith}
+use Rattle.std.specs.Option.{option_map}
+use Rattle.std.proofs.lemmas.List.{length-map}
+use Rattle.gc_graph.specs.declared.command.Op.TheVariants.{Nil}
+use Rattle.gc_graph.specs.declared.reply.Reply.{Reply}
+use Rattle.gc_words.specs.Word.{value_of}
+use Rattle.gc_heap.specs.ExtraRoots.{extra_slot}
+use Rattle.gc_plan.specs.State.{State}
+use Rattle.gc_copy.specs.Words.{collection_in, state_of}
+use Rattle.gc_plan.proofs.Public.{roots_counted}
+use Rattle.gc_collected.specs.ExtraRoots.{clear_step}
+use Rattle.gc_collected.proofs.Marks.{clear_next}
+use Rattle.gc_collected.proofs.OtherCommands.{still_fits, still_belongs, performed}
+use Rattle.gc_collected.proofs.extra_roots.clear_each.Goals as goal
+
+pub loop-k-preserved : goal.loop-k-preserved
+loop-k-preserved c =
+    let heap = c.loop-k.heap in
+    let new = c.clear-done.new.self in
+    let o = c.args.collection.now in
+    let op = Nil (extra_slot heap.mutators 0 c.loop-k.k) in
+    let before : State = state_of heap (option_map collection_in o) in
+    let step = performed heap new o 0 op c.clear-done.result c.space.ensures.sound (λ none. none) c.clear-done.ensures.performs c.loop-k.invariant.belongs in
+    let rest = c.args.to - (c.loop-k.k + 1) in
+    let count : length new.roots ≡ length heap.roots =
+    sym (length-map new.roots value_of) ∙ sym (ap (λ (x : Reply × State). length x.1.heap.graph.roots) step) ∙ roots_counted before 0 op ∙ length-map heap.roots value_of in
+    let mutators = c.clear-done.ensures.performs.mutators in
+    record {
+      rest = ap (λ (x : Reply × State). clear_step x.1 (c.loop-k.k + 1) rest) (sym step)
+          ∙ sym (clear_next before c.loop-k.k (c.loop-k.k + 1) rest (c.args.to - c.loop-k.k) (omega (arith, c.loop-k-test.true)) (omega arith))
+          ∙ c.loop-k.invariant.rest;
+      belongs = still_belongs heap new o 0 op c.clear-done.result c.space.ensures.sound (λ none. none) c.clear-done.ensures.performs c.loop-k.invariant.belongs;
+      fits = λ epoch fits. still_fits epoch heap new o 0 op c.clear-done.result c.space.ensures.sound (λ none. none) c.clear-done.ensures.performs (c.loop-k.invariant.fits epoch fits);
+      extra = omega (arith, count, mutators, c.loop-k.invariant.extra);
+      mutators = mutators ∙ c.loop-k.invariant.mutators;
+    }

@@ -1,0 +1,13 @@
+pub mod Checking
+pub mod Collected
+pub mod CollectedHeap
+pub mod Copying
+pub mod ExtraRoots
+pub mod Flip
+pub mod Internal
+pub mod Mixed
+pub mod Performing
+pub mod Readings
+pub mod Referring
+pub mod Replies
+pub mod Writing

@@ -1,0 +1,35 @@
+-- Numbers that are written to a raw object in one call.
+use Rattle.std.specs.Prelude.{ℕ, suc, ◌+◌, ◌^◌, nat_le, nat_lt, Bool, if◌then◌else◌, List, [], ◌∷◌, length, Option, Some, None}
+use Rattle.std.specs.List.{list_all}
+use Rattle.gc_graph.specs.Slots.{SlotName}
+use Rattle.gc_graph.specs.declared.command.Op.TheVariants.{Num, Put}
+use Rattle.gc_graph.specs.declared.reply.Reply.{Reply}
+use Rattle.gc_graph.specs.declared.reply.Reply.TheVariants.{Done, NoObject, NoField, NoNumber}
+use Rattle.gc_heap.specs.Raws.{raw_numbers}
+use Rattle.gc_plan.specs.State.{State}
+use Rattle.gc_plan.specs.Steps.{mutate}
+
+abbrev pub is_number_word : ℕ → Bool
+is_number_word w = nat_lt w (2 ^ 63)
+
+-- the fields from i on take these numbers: for each number a `Num` of t and a `Put` of t, in order
+abbrev pub numbers_step : State → ℕ → SlotName → SlotName → ℕ → List ℕ → State
+numbers_step old m s t i [] = old
+numbers_step old m s t i (n ∷ rest) = numbers_step (mutate (mutate old m (Num t n)).1 m (Put s i t)).1 m s t (suc i) rest
+
+-- the reply: whether there is a raw object, it has the fields, and all words are numbers
+abbrev pub numbers_reply : ℕ → List ℕ → Option (List ℕ) → Reply
+numbers_reply first words None = NoObject
+numbers_reply first words (Some fields) =
+    if nat_le (first + length words) (length fields) then (if list_all is_number_word words then Done else NoNumber) else NoField
+
+-- the state after a call that writes all or nothing: only the reply `Done` changes it
+abbrev pub after_reply : Reply → State → State → State
+after_reply Done old new = new
+after_reply reply old new = old
+
+-- numbers for the fields, from `first` on, of the raw object in slot s
+abbrev pub put_numbers_step : State → ℕ → SlotName → ℕ → SlotName → List ℕ → Reply × State
+put_numbers_step old m s first t words =
+    let reply = numbers_reply first words (raw_numbers old.heap.graph s m) in
+    (reply, after_reply reply old (numbers_step old m s t first words))

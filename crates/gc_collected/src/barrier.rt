@@ -1,0 +1,350 @@
+//! The write barrier, and what a monitor is told of each step and of each object made. Each function here has the heap, its open collection and
+//! the monitor at hand; the monitor may be absent. Those whose names end in `_in` serve a heap with or without an open collection. None of them
+//! can fail: where one needs room in a log, `reserve_in` makes it.
+
+ghost use Rattle.std.specs.Prelude.{ℕ, ◌≡◌, ◌≢◌, ◌<◌, ◌≤◌, ◌+◌, ◌^◌, length, IfSome, IsSome, IsTrue, OnOk, OnErr, None};
+ghost use Rattle.std.specs.Option.{option_map};
+ghost use Rattle.std.specs.List.{All};
+ghost use Rattle.gc_graph.specs.Slots.{place};
+ghost use Rattle.gc_graph.specs.declared.command.Op.{Op};
+ghost use Rattle.gc_graph.specs.declared.reply.Reply.{Reply};
+ghost use Rattle.gc_heap.specs.Filling.{TakesFields, TakesNumbers};
+ghost use Rattle.gc_words.specs.Image.{is_start};
+ghost use Rattle.gc_words.specs.Space.{end_of};
+ghost use Rattle.gc_heap.specs.Heap.{HeapWords, IsHeap, graph_in};
+ghost use Rattle.gc_plan.specs.Steps.{collect, mutate, root_target};
+ghost use Rattle.gc_plan.specs.declared.step.Step.{Step};
+ghost use Rattle.gc_plan.specs.declared.step.StepReply.{StepReply};
+ghost use Rattle.gc_plan.specs.Belonging.{IsSpaceGraph, IsOpened};
+ghost use Rattle.gc_copy.specs.Words.{collection_in, open_state, spare_of, BelongsTo};
+ghost use Rattle.gc_beside.proofs.Public.{AreOld, replica_words};
+ghost use Rattle.gc_beside.specs.Follows.{Follows};
+ghost use Rattle.gc_collected.specs.Writing.{numbers_step};
+ghost use Rattle.gc_collected.specs.Internal.CollectedHeap.{BelongsIfOpen, Fits, HasSpare, state_in};
+
+use gc_along::Standing;
+use gc_copy::{
+    Collection, MissingRoot, StepReply, heaps_have_addresses_as_names, images_show_links,
+};
+use gc_graph::{NoMemory, Reply, Slot};
+use gc_heap::Heap;
+use gc_words::OldAddr;
+
+/// Does nothing. A heap and the collection that belongs to it are sound, and their words show them.
+#[inline(always)]
+pub(crate) fn are_shown(heap: &Heap, collection: &Collection)
+    requires { BelongsTo heap.now collection.now }
+    ensures sound { IsHeap heap.now }
+    ensures heap { let s = open_state heap.now collection.now in IsSpaceGraph s.size s.heap.free s.heap.graph }
+    ensures opened { IsOpened (open_state heap.now collection.now) (collection_in collection.now) }
+    ensures old { AreOld (open_state heap.now collection.now) heap.now.space.words }
+    ensures new { collection.now.space.words ≡ replica_words (collection_in collection.now) }
+{
+    heaps_have_addresses_as_names();
+    images_show_links();
+    // Here the prover learns that the heap is sound.
+    let _ = heap.space();
+    // And here, that the collection is.
+    let _ = collection.new_image(&[]);
+}
+
+/// Performs mutator `m`'s `Put`. A field that it writes is logged, and the monitor is told of it. Needs room in the log.
+#[inline(always)]
+pub(crate) fn put(
+    collection: &mut Collection,
+    heap: &mut Heap,
+    watch: &mut Standing,
+    m: u8,
+    s: Slot,
+    i: u16,
+    t: Slot,
+) -> Reply
+    requires belongs { BelongsTo heap.old collection.old }
+    requires mutator { m < heap.old.mutators }
+    requires room { 1 ≤ spare_of collection.old m }
+    ensures step { mutate (open_state heap.old collection.old) m (Op.Put s i t) ≡ (result, open_state heap.new collection.new) }
+    ensures belongs { BelongsTo heap.new collection.new }
+    ensures mutators { heap.new.mutators ≡ heap.old.mutators }
+    ensures spare { spare_of collection.old m ≤ spare_of collection.new m + 1 }
+    ensures follows { Follows (open_state heap.old collection.old) watch.old → Follows (open_state heap.new collection.new) watch.new }
+{
+    are_shown(heap, collection);
+    let (reply, entry) = collection.put_noted(heap, m, s, i, t);
+    let Some(entry) = entry else {
+        return reply;
+    };
+    are_shown(heap, collection);
+    watch.written(heap.space().words(), entry.object.0, entry.field);
+    reply
+}
+
+/// Writes the numbers to the object in `s`, which has `count` fields, as a `Num` of `t` and a `Put` of `t` for each of them do. Each field is
+/// logged, and the monitor is told of all of them at once. Needs room in the log.
+pub(crate) fn fill_numbers(
+    collection: &mut Collection,
+    heap: &mut Heap,
+    watch: &mut Standing,
+    m: u8,
+    s: Slot,
+    object: OldAddr,
+    count: u16,
+    first: u16,
+    t: Slot,
+    numbers: &[u64],
+)
+    requires belongs { BelongsTo heap.old collection.old }
+    requires mutator { m < heap.old.mutators }
+    requires apart { place t m ≢ place s m }
+    requires takes { TakesNumbers heap.old (place s m) object.0 count }
+    requires fields { first + length numbers.now ≤ count }
+    requires numbers { All (λ n. n < 2 ^ 63) numbers.now }
+    requires room { length numbers.now ≤ spare_of collection.old m }
+    ensures step { numbers_step (open_state heap.old collection.old) m s t first numbers.now
+        ≡ open_state heap.new collection.new }
+    ensures belongs { BelongsTo heap.new collection.new }
+    ensures mutators { heap.new.mutators ≡ heap.old.mutators }
+    ensures follows { Follows (open_state heap.old collection.old) watch.old → Follows (open_state heap.new collection.new) watch.new }
+{
+    are_shown(heap, collection);
+    heap.fill_numbers(m, s, object, first, t, numbers);
+    for k in 0..numbers.len() {
+        collection.note(m, object, first + k as u16);
+    }
+    are_shown(heap, collection);
+    watch.written_row(heap.space().words(), object.0, first, numbers.len());
+}
+
+/// Replicates the target of the first root whose target has no replica, as `Collection::replicate_root` does. The monitor is told of the replica.
+pub(crate) fn replicate_root(
+    collection: &mut Collection,
+    heap: &mut Heap,
+    watch: &mut Standing,
+    first: Option<MissingRoot>,
+) -> StepReply
+    requires belongs { BelongsTo heap.old collection.old }
+    requires first { option_map (λ r. r.target.0) first ≡ root_target (collection_in collection.old) (graph_in heap.old) }
+    requires start { IfSome first (λ r. IsTrue (is_start heap.old.space.words r.target.0)) }
+    ensures step { collect (open_state heap.old collection.old) Step.Roots ≡ (result, open_state heap.new collection.new) }
+    ensures room { heap.old.space.size ≤ collection.old.space.size → result ≢ StepReply.NoRoom }
+    ensures belongs { BelongsTo heap.new collection.new }
+    ensures mutators { heap.new.mutators ≡ heap.old.mutators }
+    ensures follows { Follows (open_state heap.old collection.old) watch.old → Follows (open_state heap.new collection.new) watch.new }
+{
+    are_shown(heap, collection);
+    let reply = collection.replicate_root(heap, first);
+    let StepReply::Copied = reply else {
+        return reply;
+    };
+    are_shown(heap, collection);
+    watch.placed(heap.space().words(), collection.new_image(&[]).words);
+    reply
+}
+
+/// Performs a scan step, as `Collection::scan` does. The monitor is told of a new replica, and then looks at the scanned field.
+#[inline(always)]
+pub(crate) fn scan(collection: &mut Collection, heap: &mut Heap, watch: &mut Standing) -> StepReply
+    requires { BelongsTo heap.old collection.old }
+    ensures step { collect (open_state heap.old collection.old) Step.Scan ≡ (result, open_state heap.new collection.new) }
+    ensures room { heap.old.space.size ≤ collection.old.space.size → result ≢ StepReply.NoRoom }
+    ensures belongs { BelongsTo heap.new collection.new }
+    ensures mutators { heap.new.mutators ≡ heap.old.mutators }
+    ensures follows { Follows (open_state heap.old collection.old) watch.old → Follows (open_state heap.new collection.new) watch.new }
+{
+    are_shown(heap, collection);
+    let place = collection.scan_place();
+    let field = collection.scan_field();
+    let reply = collection.scan(heap);
+    are_shown(heap, collection);
+    let StepReply::Scanned = reply else {
+        return reply;
+    };
+    let old = heap.space().words();
+    let new = collection.new_image(&[]).words;
+    watch.placed(old, new);
+    watch.look(old, new, place, field);
+    reply
+}
+
+/// Applies the oldest entry of mutator `m`'s log, as `Collection::apply_log` does. The monitor is told of a new replica, and then looks at the
+/// entry's field.
+pub(crate) fn apply_log(
+    collection: &mut Collection,
+    m: u8,
+    heap: &mut Heap,
+    watch: &mut Standing,
+) -> StepReply
+    requires belongs { BelongsTo heap.old collection.old }
+    requires mutator { m < heap.old.mutators }
+    ensures step { collect (open_state heap.old collection.old) (Step.Apply m) ≡ (result, open_state heap.new collection.new) }
+    ensures room { heap.old.space.size ≤ collection.old.space.size → result ≢ StepReply.NoRoom }
+    ensures belongs { BelongsTo heap.new collection.new }
+    ensures mutators { heap.new.mutators ≡ heap.old.mutators }
+    ensures follows { Follows (open_state heap.old collection.old) watch.old → Follows (open_state heap.new collection.new) watch.new }
+{
+    are_shown(heap, collection);
+    let (reply, entry) = collection.apply_noted(m, heap);
+    let Some(entry) = entry else {
+        return reply;
+    };
+    are_shown(heap, collection);
+    let old = heap.space().words();
+    let new = collection.new_image(&[]).words;
+    watch.placed(old, new);
+    watch.applied(old, new, entry.object.0, entry.field);
+    reply
+}
+
+// ---- with or without an open collection
+
+/// Makes room for `more` further entries in mutator `m`'s log, if a collection is open.
+#[inline(always)]
+pub(crate) fn reserve_in(
+    collection: &mut Option<Collection>,
+    m: u8,
+    more: usize,
+) -> Result<(), NoMemory>
+    requires log { IfSome collection.old (λ c. m < length c.logs) }
+    ensures room { OnOk result (HasSpare collection.new m more) }
+    ensures same { option_map collection_in collection.new ≡ option_map collection_in collection.old }
+    ensures fits { (epoch : ℕ) (heap : HeapWords) → Fits epoch heap collection.old → Fits epoch heap collection.new }
+    ensures open { OnErr result (IsSome collection.old) }
+{
+    match collection {
+        None => Ok(()),
+        Some(collection) => collection.reserve_more(m, more),
+    }
+}
+
+/// Performs mutator `m`'s `New`. The monitor is told of the object.
+#[inline(always)]
+pub(crate) fn new_in(
+    collection: &Option<Collection>,
+    heap: &mut Heap,
+    watch: &mut Standing,
+    m: u8,
+    d: Slot,
+    kind: u8,
+    len: u16,
+) -> Reply
+    requires belongs { BelongsIfOpen heap.old collection.now }
+    requires mutator { m < heap.old.mutators }
+    ensures step { mutate (state_in heap.old collection.now) m (Op.New d kind len) ≡ (result, state_in heap.new collection.now) }
+    ensures fits { (epoch : ℕ) → Fits epoch heap.old collection.now → Fits epoch heap.new collection.now }
+    ensures belongs { BelongsIfOpen heap.new collection.now }
+    ensures mutators { heap.new.mutators ≡ heap.old.mutators }
+    ensures follows { Follows (state_in heap.old collection.now) watch.old → Follows (state_in heap.new collection.now) watch.new }
+    // Unless there was no room, the object takes its fields.
+    ensures fields { result ≢ Reply.Full → TakesFields heap.new (place d m) (end_of heap.old.space) len }
+{
+    heaps_have_addresses_as_names();
+    are_sound_in(collection, heap);
+    // Here the prover learns that the heap is sound.
+    let _ = heap.space();
+    let reply = heap.new_object(m, d, kind, len);
+    watch.made(heap.space().words());
+    reply
+}
+
+/// Performs mutator `m`'s `Put`, as `put` does if a collection is open. Then it needs room in the log.
+#[inline(always)]
+pub(crate) fn put_in(
+    collection: &mut Option<Collection>,
+    heap: &mut Heap,
+    watch: &mut Standing,
+    m: u8,
+    s: Slot,
+    i: u16,
+    t: Slot,
+) -> Reply
+    requires belongs { BelongsIfOpen heap.old collection.old }
+    requires mutator { m < heap.old.mutators }
+    requires room { HasSpare collection.old m 1 }
+    ensures step { mutate (state_in heap.old collection.old) m (Op.Put s i t) ≡ (result, state_in heap.new collection.new) }
+    ensures fits { (epoch : ℕ) → Fits epoch heap.old collection.old → Fits epoch heap.new collection.new }
+    ensures belongs { BelongsIfOpen heap.new collection.new }
+    ensures mutators { heap.new.mutators ≡ heap.old.mutators }
+    ensures follows { Follows (state_in heap.old collection.old) watch.old → Follows (state_in heap.new collection.new) watch.new }
+    ensures spare { (n : ℕ) → HasSpare collection.old m (n + 1) → HasSpare collection.new m n }
+{
+    // Here the prover learns that the heap is sound.
+    let _ = heap.space();
+    match collection {
+        None => heap.put(m, s, i, t),
+        Some(collection) => put(collection, heap, watch, m, s, i, t),
+    }
+}
+
+/// Performs mutator `m`'s `Put` of `t` into field `i` of the object that `d` refers to. The object is known to take it, as for
+/// `Heap::fill_field`, so the reply is `Done`. If a collection is open, the field is logged, which needs room in the log, and the monitor is
+/// told of it.
+#[inline(always)]
+pub(crate) fn fill_in(
+    collection: &mut Option<Collection>,
+    heap: &mut Heap,
+    watch: &mut Standing,
+    m: u8,
+    d: Slot,
+    object: OldAddr,
+    i: u16,
+    t: Slot,
+) -> Reply
+    requires belongs { BelongsIfOpen heap.old collection.old }
+    requires mutator { m < heap.old.mutators }
+    requires field { (len : ℕ) × TakesFields heap.old (place d m) object.0 len × (i < len) }
+    requires room { HasSpare collection.old m 1 }
+    ensures step { mutate (state_in heap.old collection.old) m (Op.Put d i t) ≡ (result, state_in heap.new collection.new) }
+    ensures fits { (epoch : ℕ) → Fits epoch heap.old collection.old → Fits epoch heap.new collection.new }
+    ensures belongs { BelongsIfOpen heap.new collection.new }
+    ensures mutators { heap.new.mutators ≡ heap.old.mutators }
+    ensures follows { Follows (state_in heap.old collection.old) watch.old → Follows (state_in heap.new collection.new) watch.new }
+    ensures fields { (len : ℕ) → TakesFields heap.old (place d m) object.0 len → TakesFields heap.new (place d m) object.0 len }
+    ensures spare { (n : ℕ) → HasSpare collection.old m (n + 1) → HasSpare collection.new m n }
+{
+    // Here the prover learns that the heap is sound.
+    let _ = heap.space();
+    match collection {
+        None => heap.fill_field(m, d, object, i, t),
+        Some(collection) => fill(collection, heap, watch, m, d, object, i, t),
+    }
+}
+
+// The same, in an open collection.
+#[inline(always)]
+fn fill(
+    collection: &mut Collection,
+    heap: &mut Heap,
+    watch: &mut Standing,
+    m: u8,
+    d: Slot,
+    object: OldAddr,
+    i: u16,
+    t: Slot,
+) -> Reply
+    requires belongs { BelongsTo heap.old collection.old }
+    requires mutator { m < heap.old.mutators }
+    requires field { (len : ℕ) × TakesFields heap.old (place d m) object.0 len × (i < len) }
+    requires room { 1 ≤ spare_of collection.old m }
+    ensures step { mutate (open_state heap.old collection.old) m (Op.Put d i t) ≡ (result, open_state heap.new collection.new) }
+    ensures belongs { BelongsTo heap.new collection.new }
+    ensures mutators { heap.new.mutators ≡ heap.old.mutators }
+    ensures fields { (len : ℕ) → TakesFields heap.old (place d m) object.0 len → TakesFields heap.new (place d m) object.0 len }
+    ensures spare { spare_of collection.old m ≤ spare_of collection.new m + 1 }
+    ensures follows { Follows (open_state heap.old collection.old) watch.old → Follows (open_state heap.new collection.new) watch.new }
+{
+    are_shown(heap, collection);
+    let reply = collection.fill_field(heap, m, d, object, i, t);
+    are_shown(heap, collection);
+    watch.written(heap.space().words(), object.0, i);
+    reply
+}
+
+/// Does nothing. A collection that belongs to a heap is sound.
+#[inline(always)]
+pub(crate) fn are_sound_in(collection: &Option<Collection>, heap: &Heap)
+    requires { BelongsIfOpen heap.now collection.now }
+    ensures { IfSome (state_in heap.now collection.now).collection (IsOpened (state_in heap.now collection.now)) }
+{
+    if let Some(collection) = collection {
+        are_shown(heap, collection);
+    }
+}

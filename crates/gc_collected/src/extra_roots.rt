@@ -1,0 +1,89 @@
+//! Commands on extra roots.
+
+ghost use Rattle.std.specs.Prelude.{◌≡◌, ◌<◌, ◌≤◌, ◌-◌, ℕ, IfSome};
+ghost use Rattle.std.specs.Option.{option_map};
+ghost use Rattle.gc_graph.specs.declared.command.Op.{Op};
+ghost use Rattle.gc_graph.specs.declared.reply.Reply.{Reply};
+ghost use Rattle.gc_heap.specs.ExtraRoots.{extra_slot};
+ghost use Rattle.gc_heap.specs.Heap.{extra_roots_in};
+ghost use Rattle.gc_plan.specs.State.{extra_roots_of};
+ghost use Rattle.gc_plan.specs.Steps.{mutate};
+ghost use Rattle.gc_copy.specs.Words.{BelongsTo, collection_in, state_of};
+ghost use Rattle.gc_collected.specs.ExtraRoots.{clear_step};
+ghost use Rattle.gc_collected.specs.Internal.CollectedHeap.{Fits};
+
+use crate::collected_heap::CollectedHeap;
+use gc_copy::Collection;
+use gc_graph::{Reply, Slot};
+use gc_heap::Heap;
+
+impl CollectedHeap {
+    /// Returns the number of extra roots.
+    pub fn extra_roots(&self) -> u32
+        ensures { result ≡ extra_roots_of self.now.core }
+    {
+        self.heap.extra_roots()
+    }
+
+    /// Sets `d` to what extra root `k` holds. Returns `Done`. Does not allocate, and logs nothing.
+    pub fn load(&mut self, m: u8, d: Slot, k: u32) -> Reply
+        requires mutator { m < self.old.core.mutators }
+        requires root { k < extra_roots_of self.old.core }
+        ensures step { mutate self.old.core m (Op.Move d (extra_slot self.old.core.mutators m k)) ≡ (result, self.new.core) }
+        ensures mutators { self.new.core.mutators ≡ self.old.core.mutators }
+        ensures beside { self.new.beside ≡ self.old.beside }
+    {
+        self.is_sound();
+        // Here the prover learns that the heap is sound, and the slot in range.
+        let _ = self.heap.space();
+        let _ = d.index();
+        self.known.slots = 0;
+        self.heap.load(m, d, k)
+    }
+
+    /// Sets extra root `k` to what `s` holds. Returns `Done`. Does not allocate, and logs nothing.
+    pub fn store(&mut self, m: u8, k: u32, s: Slot) -> Reply
+        requires mutator { m < self.old.core.mutators }
+        requires root { k < extra_roots_of self.old.core }
+        ensures step { mutate self.old.core m (Op.Move (extra_slot self.old.core.mutators m k) s) ≡ (result, self.new.core) }
+        ensures mutators { self.new.core.mutators ≡ self.old.core.mutators }
+        ensures beside { self.new.beside ≡ self.old.beside }
+    {
+        self.is_sound();
+        // Here the prover learns that the heap is sound.
+        let _ = self.heap.space();
+        self.known = self.known.stored(k);
+        self.heap.store(m, k, s)
+    }
+
+    /// Sets the extra roots from `from` on, and below `to`, to nil. Does not allocate, and logs nothing. A collection does not read extra
+    /// roots above the last one that was set and not cleared.
+    pub fn clear(&mut self, from: u32, to: u32)
+        requires { to ≤ extra_roots_of self.old.core }
+        ensures step { clear_step self.old.core from (to - from) ≡ self.new.core }
+        ensures mutators { self.new.core.mutators ≡ self.old.core.mutators }
+        ensures beside { self.new.beside ≡ self.old.beside }
+    {
+        self.is_sound();
+        // Here the prover learns that the heap is sound.
+        let _ = self.heap.space();
+        clear_each(&mut self.heap, &self.collection, from, to);
+        self.known = self.known.cleared(from, to);
+    }
+}
+
+/// Sets these extra roots to nil. The collection, if one is open, stays as it is.
+fn clear_each(heap: &mut Heap, collection: &Option<Collection>, from: u32, to: u32)
+    requires belongs { IfSome collection.now (BelongsTo heap.old) }
+    requires within { to ≤ extra_roots_in heap.old }
+    ensures step { clear_step (state_of heap.old (option_map collection_in collection.now)) from (to - from)
+        ≡ state_of heap.new (option_map collection_in collection.now) }
+    ensures fits { (epoch : ℕ) → Fits epoch heap.old collection.now → Fits epoch heap.new collection.now }
+    ensures mutators { heap.new.mutators ≡ heap.old.mutators }
+{
+    for k in from..to {
+        // Here the prover learns that the heap is sound.
+        let _ = heap.space();
+        let _done = heap.clear(k);
+    }
+}

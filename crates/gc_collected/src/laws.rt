@@ -1,0 +1,35 @@
+//! Laws: consequences of the definitions. They need no history.
+
+ghost use Rattle.std.specs.Prelude.{◌≡◌, ℕ, List, ◌≤◌, ◌<◌, ◌-◌, ◌/◌, ◌^◌};
+ghost use Rattle.gc_graph.specs.Legal.{IsLegal, IsLegalFrom};
+ghost use Rattle.gc_graph.specs.Limits.{largest_space};
+ghost use Rattle.gc_heap.specs.ExtraRoots.{opening_with};
+ghost use Rattle.gc_heap.specs.declared.options.HeapOptions.{HeapOptions};
+ghost use Rattle.gc_plan.specs.State.{opening_state};
+ghost use Rattle.gc_copy.specs.Opening.{opening_state_with};
+ghost use Rattle.gc_plan.specs.Runs.{AreEvents, AreRootEvents};
+ghost use Rattle.gc_plan.specs.declared.event.Event.{Event};
+ghost use Rattle.gc_collected.specs.Replies.{told_in};
+ghost use Rattle.gc_collected.specs.Collected.{after_flips, opening_turns};
+ghost use Rattle.gc_collected.specs.declared.checks.Checking.{Checking};
+
+/// In every run, with commands and steps in any interleaving, mutators get replies that are possible without a
+/// collector. The one exception is that an allocation may find the heap full.
+pub fn runs_are_legal()
+    ensures slots { (size mutators : ℕ) (events : List Event)
+        → 1 ≤ size → size ≤ largest_space → AreEvents mutators events
+        → IsLegal mutators (told_in (opening_state size mutators) events) }
+    // The same for a heap with extra roots, whose commands may name them.
+    ensures extra_roots { (options : HeapOptions) (events : List Event)
+        → 1 ≤ options.size → options.size ≤ largest_space → AreRootEvents options.mutators events
+        → IsLegalFrom (opening_with options).graph (told_in (opening_state_with options) events) }
+{}
+
+/// Of n flips of a heap whose flips check both spaces whole, all did. Of n flips of one whose checker goes along, each one with the number
+/// `whole_each` did, so n / `whole_each`, or none if it is 0.
+pub fn flips_are_counted()
+    ensures at_flip { (n : ℕ) → n < 2 ^ 64 → (after_flips n (opening_turns Checking.AtFlip)).checks ≡ record { along = 0; whole = n } }
+    ensures along { (n : ℕ) → n < 2 ^ 64 → (after_flips n (opening_turns (Checking.Along 0))).checks ≡ record { along = n; whole = 0 } }
+    ensures each { (e n : ℕ) → 1 ≤ e → e < 2 ^ 32 → n < 2 ^ 64
+        → (after_flips n (opening_turns (Checking.Along e))).checks ≡ record { along = n - n / e; whole = n / e } }
+{}

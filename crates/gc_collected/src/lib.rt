@@ -1,0 +1,32 @@
+//! The collected heap: mutator commands, collector steps and checked flips, with a monitor or without one. It keeps no history.
+#![tactic(auto)]
+
+mod barrier;
+mod checking;
+mod checks;
+mod collected_heap;
+mod commands;
+mod copying;
+mod extra_roots;
+mod filling;
+mod flip;
+mod flipping;
+mod known;
+mod laws;
+mod mixed;
+mod performing;
+mod reading;
+mod referring;
+mod rooms;
+mod steps;
+mod watching;
+mod writing;
+
+pub use checking::Finding;
+pub use checks::{Checking, FlipChecks};
+pub use collected_heap::CollectedHeap;
+pub use filling::SlotRow;
+pub use flip::Keep;
+pub use laws::{flips_are_counted, runs_are_legal};
+pub use mixed::{FieldSource, SourceRow};
+pub use reading::NewSpace;

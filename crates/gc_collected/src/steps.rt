@@ -1,0 +1,265 @@
+//! The steps of a collection, but for its flip, and the choice of the useful step.
+
+ghost use Rattle.std.specs.Prelude.{◌≡◌, not, if◌then◌else◌};
+ghost use Rattle.std.specs.Option.{option_map_or};
+ghost use Rattle.gc_plan.specs.Steps.{scan_done, first_log};
+ghost use Rattle.gc_copy.specs.Words.{collection_in};
+ghost use Rattle.gc_plan.specs.declared.step.Step.{Step};
+
+use crate::barrier;
+use crate::collected_heap::CollectedHeap;
+use crate::flip::Keep;
+use crate::known::{Searched, all_known, search};
+use crate::rooms::{keep_room, room_for};
+use gc_check::Checks;
+use gc_copy::{Collection, Step, StepReply};
+use gc_graph::{NoMemory, root_count};
+use gc_plan::root_replicas_stay;
+use std::cmp::max;
+
+impl CollectedHeap {
+    ghost use Rattle.std.specs.Prelude.{◌≡◌, ◌≢◌, ◌<◌, ◌≤◌, ◌⊎◌, None, IfOk, IsTrue, IsFalse, OnErr};
+    ghost use Rattle.gc_plan.specs.Steps.{collect, useful_step};
+    ghost use Rattle.gc_plan.specs.Runs.{IsStep};
+    ghost use Rattle.gc_plan.specs.declared.step.StepReply.{StepReply};
+    ghost use Rattle.gc_along.specs.Claims.{Accepts};
+    ghost use Rattle.gc_along.specs.Tables.{Tables};
+    ghost use Rattle.gc_collected.specs.Collected.{BeginsIn, HasStepped, IsUnchangedButRooms, WereRefused, checks_whole, rooms_flipped, rooms_given_up, turns_after};
+    ghost use Rattle.gc_collected.specs.CollectedHeap.{Allocates};
+    ghost use Rattle.gc_collected.specs.Flip.{FlipsOnly, FormerAfter, HasAccepted, HasRoomIfLarge, IsCertified, PassesIfReady, new_size, pair_after};
+
+    /// Performs one collector step. A flip happens only if a checker accepts it. On `NoMemory` nothing has changed but the memory that
+    /// waits. Only a step that opens a collection and the flip of a ready one can return it.
+    #[inline(always)]
+    pub fn collect<C: Checks>(
+        &mut self,
+        checker: &C,
+        step: Step,
+        keep: Keep,
+    ) -> Result<StepReply, NoMemory>
+        requires can { C.can_check checker.now }
+        requires step { IsStep self.old.core.mutators step }
+        ensures step { IfOk result (λ reply. collect self.old.core step ≡ (reply, self.new.core)) }
+        // Where both spaces are to be checked whole, a flip happens only if this checker said yes.
+        ensures asked { IsTrue (checks_whole keep self.old.beside.turns) → IfOk result (FlipsOnly (C.says_yes checker.now) self.old.core) }
+        // Otherwise it happens only if tables of a standing checker accept both images.
+        ensures along { IsFalse (checks_whole keep self.old.beside.turns) → IfOk result (λ reply.
+            (t : Tables) × FlipsOnly (HasAccepted (Accepts t)) self.old.core reply) }
+        // A flip happens only if the certificate holds.
+        ensures sound { IfOk result (FlipsOnly IsCertified self.old.core) }
+        // A ready collection passes, so no flip is refused.
+        ensures passes { step ≡ Step.Flip → IfOk result (PassesIfReady self.old.core) }
+        ensures never_refused { IfOk result (λ reply. reply ≢ StepReply.Refused) }
+        ensures room { IfOk result (HasRoomIfLarge self.old.core) }
+        ensures turns { IfOk result (λ reply. self.new.beside.turns ≡ turns_after keep self.old.beside.turns reply) }
+        ensures rooms { IfOk result (λ reply. HasStepped keep step reply self.old self.new.beside.rooms) }
+        ensures former { IfOk result (λ reply. FormerAfter keep self.old.core self.old.beside.former reply self.new.beside.former) }
+        ensures pair { IfOk result (λ reply. self.new.beside.pair ≡ pair_after keep self.old.beside.pair self.old.core reply) }
+        ensures refused { OnErr result (IsUnchangedButRooms self.old self.new) }
+        ensures freed { OnErr result (WereRefused self.old.beside.rooms self.new.beside.rooms) }
+        // A flip frees what leaves where a check of both spaces whole is due, and no other memory, also if memory was refused.
+        ensures flipped { step ≡ Step.Flip → self.new.beside.rooms ≡ rooms_flipped keep self.old.beside }
+        ensures due { step ≡ Step.Flip → OnErr result (IsTrue (checks_whole keep self.old.beside.turns)) }
+        ensures allocates { OnErr result (Allocates self.old.core step) }
+        ensures mutators { self.new.core.mutators ≡ self.old.core.mutators }
+    {
+        match step {
+            Step::Begin => self.begin(),
+            Step::BeginSized(size) => self.begin_sized(size),
+            Step::Roots => Ok(self.roots()),
+            Step::Scan => Ok(self.scan()),
+            Step::Apply(m) => Ok(self.apply_log(m)),
+            Step::Flip => self.flip(checker, keep),
+            Step::Drop => Ok(self.give_up()),
+        }
+    }
+
+    /// Opens a collection whose new space has `size` words, at least 1. Returns `Begun`, or `Busy` if one is already open. The collection takes
+    /// the room that the last flip left if that has so many words, or else the spare room, or else new memory. Room that it does not take is
+    /// given back by later calls of `give_back`, or else by the next begin. On `NoMemory` none is open, and only the spare room and what was
+    /// leaving may have been freed.
+    pub fn begin_sized(&mut self, size: u32) -> Result<StepReply, NoMemory>
+        requires low { 1 ≤ size }
+        ensures step { IfOk result (λ reply. collect self.old.core (Step.BeginSized size) ≡ (reply, self.new.core)) }
+        ensures reply { IfOk result (λ reply. (reply ≡ StepReply.Begun) ⊎ (reply ≡ StepReply.Busy)) }
+        ensures busy { IfOk result (λ reply. reply ≡ StepReply.Busy → self.new ≡ self.old) }
+        ensures turns { self.new.beside.turns ≡ self.old.beside.turns }
+        ensures rooms { IfOk result (λ reply. reply ≡ StepReply.Begun → BeginsIn size self.old.beside self.new.beside.rooms) }
+        ensures former { IfOk result (λ reply. reply ≡ StepReply.Begun → self.new.beside.former ≡ None) }
+        ensures pair { self.new.beside.pair ≡ self.old.beside.pair }
+        ensures refused { OnErr result (IsUnchangedButRooms self.old self.new) }
+        ensures freed { OnErr result (WereRefused self.old.beside.rooms self.new.beside.rooms) }
+        ensures allocates { OnErr result (Allocates self.old.core (Step.BeginSized size)) }
+        ensures mutators { self.new.core.mutators ≡ self.old.core.mutators }
+    {
+        if self.collection.is_some() {
+            return Ok(StepReply::Busy);
+        }
+        self.is_sound();
+        // What is left of it could be what this collection needs.
+        self.leaving = None;
+        self.watch.reserve(max(size, self.heap.space().size()))?;
+        let room = room_for(
+            self.alloc,
+            size,
+            self.heap.mutators(),
+            &mut self.former,
+            &mut self.spare,
+            &mut self.leaving,
+        )?;
+        self.collection = Some(Collection::begin_in(room, &self.heap, self.epoch));
+        self.known.slots = 0;
+        self.known.extra = 0;
+        Ok(StepReply::Begun)
+    }
+
+    /// Opens a collection whose new space is as large as the heap, as `begin_sized` does.
+    pub fn begin(&mut self) -> Result<StepReply, NoMemory>
+        ensures step { IfOk result (λ reply. collect self.old.core Step.Begin ≡ (reply, self.new.core)) }
+        ensures reply { IfOk result (λ reply. (reply ≡ StepReply.Begun) ⊎ (reply ≡ StepReply.Busy)) }
+        ensures busy { IfOk result (λ reply. reply ≡ StepReply.Busy → self.new ≡ self.old) }
+        ensures turns { self.new.beside.turns ≡ self.old.beside.turns }
+        ensures rooms { IfOk result (λ reply. reply ≡ StepReply.Begun → BeginsIn self.old.core.size self.old.beside self.new.beside.rooms) }
+        ensures former { IfOk result (λ reply. reply ≡ StepReply.Begun → self.new.beside.former ≡ None) }
+        ensures pair { self.new.beside.pair ≡ self.old.beside.pair }
+        ensures refused { OnErr result (IsUnchangedButRooms self.old self.new) }
+        ensures freed { OnErr result (WereRefused self.old.beside.rooms self.new.beside.rooms) }
+        ensures allocates { OnErr result (Allocates self.old.core Step.Begin) }
+        ensures mutators { self.new.core.mutators ≡ self.old.core.mutators }
+    {
+        let size = self.heap.space().size();
+        self.begin_sized(size)
+    }
+
+    /// Replicates the target of the first root whose target has no replica. Returns `Copied` or `NoRoom`, `Clean` if
+    /// there is no such root, or `Idle` if no collection is open. Does not allocate.
+    pub fn roots(&mut self) -> StepReply
+        ensures step { collect self.old.core Step.Roots ≡ (result, self.new.core) }
+        ensures room { HasRoomIfLarge self.old.core result }
+        ensures mutators { self.new.core.mutators ≡ self.old.core.mutators }
+        ensures beside { self.new.beside ≡ self.old.beside }
+    {
+        let Some(collection) = &mut self.collection else {
+            return StepReply::Idle;
+        };
+        let Searched { known, missing } = search(collection, &self.heap, self.known);
+        let reply =
+            barrier::replicate_root(collection, &mut self.heap, &mut self.watch, missing);
+        self.known = match reply {
+            StepReply::Copied => known.advanced(root_count(self.heap.mutators())),
+            _ => known,
+        };
+        reply
+    }
+
+    /// Brings the field at the scan pointer up to date (`Scanned` or `NoRoom`), or moves on to the next replica
+    /// (`Passed`). Returns `Clean` if all replicas are scanned, or `Idle` if no collection is open. Does not allocate.
+    #[inline(always)]
+    pub fn scan(&mut self) -> StepReply
+        ensures step { collect self.old.core Step.Scan ≡ (result, self.new.core) }
+        ensures room { HasRoomIfLarge self.old.core result }
+        ensures mutators { self.new.core.mutators ≡ self.old.core.mutators }
+        ensures beside { self.new.beside ≡ self.old.beside }
+    {
+        root_replicas_stay();
+        match &mut self.collection {
+            None => StepReply::Idle,
+            Some(collection) => barrier::scan(collection, &mut self.heap, &mut self.watch),
+        }
+    }
+
+    /// Applies the oldest entry of mutator `m`'s log. Returns `Applied` or `NoRoom`, `Clean` if the log is empty, or
+    /// `Idle` if no collection is open. Does not allocate.
+    pub fn apply_log(&mut self, m: u8) -> StepReply
+        requires { m < self.old.core.mutators }
+        ensures step { collect self.old.core (Step.Apply m) ≡ (result, self.new.core) }
+        ensures room { HasRoomIfLarge self.old.core result }
+        ensures mutators { self.new.core.mutators ≡ self.old.core.mutators }
+        ensures beside { self.new.beside ≡ self.old.beside }
+    {
+        root_replicas_stay();
+        match &mut self.collection {
+            None => StepReply::Idle,
+            Some(collection) => {
+                barrier::apply_log(collection, m, &mut self.heap, &mut self.watch)
+            }
+        }
+    }
+
+    /// Gives the open collection up. Its new space is left for the next one, and the entries of its logs are freed. Returns `Dropped`, or `Idle`
+    /// if none is open. Does not allocate. The time does not depend on how far the collection has come.
+    pub fn give_up(&mut self) -> StepReply
+        ensures step { collect self.old.core Step.Drop ≡ (result, self.new.core) }
+        ensures mutators { self.new.core.mutators ≡ self.old.core.mutators }
+        ensures beside { self.new.beside ≡ record self.old.beside { rooms = rooms_given_up (new_size self.old.core) self.old.beside.rooms } }
+    {
+        self.is_sound();
+        let Some(collection) = self.collection.take() else {
+            return StepReply::Idle;
+        };
+        let epoch = collection.epoch();
+        let room = if epoch == u32::MAX {
+            self.epoch = epoch;
+            collection.clear_into(&mut self.heap)
+        } else {
+            let (room, next) = collection.abandon(&self.heap);
+            self.epoch = next;
+            room
+        };
+        keep_room(Some(room), &mut self.spare, &mut self.leaving);
+        self.watch.dropped();
+        StepReply::Dropped
+    }
+
+    /// Returns the useful step: the one that advances the collection, or opens one.
+    #[inline(always)]
+    pub fn useful_step(&self) -> Step
+        ensures useful { result ≡ useful_step self.now.core }
+        ensures step { IsStep self.now.core.mutators result }
+    {
+        let Some(collection) = &self.collection else {
+            return Step::Begin;
+        };
+        if search(collection, &self.heap, self.known).missing.is_some() {
+            return Step::Roots;
+        }
+        step_after_roots(collection)
+    }
+
+    /// Returns the useful step, and leaves the heap as it is. Remembers how far it searched the roots, so that the next call reads
+    /// only those that a command wrote since, and those that the search did not reach.
+    #[inline(always)]
+    pub fn next_useful_step(&mut self) -> Step
+        ensures useful { result ≡ useful_step self.old.core }
+        ensures step { IsStep self.old.core.mutators result }
+        ensures same { self.new ≡ self.old }
+    {
+        let Some(collection) = &self.collection else {
+            return Step::Begin;
+        };
+        if all_known(collection, &self.heap, self.known) {
+            return step_after_roots(collection);
+        }
+        let Searched { known, missing } = search(collection, &self.heap, self.known);
+        self.known = known;
+        if missing.is_some() {
+            return Step::Roots;
+        }
+        step_after_roots(collection)
+    }
+}
+
+/// Returns the useful step of a collection that has a replica of each root's target.
+#[inline(always)]
+fn step_after_roots(collection: &Collection) -> Step
+    ensures { result ≡ (if not (scan_done (collection_in collection.now)) then Step.Scan
+        else option_map_or Step.Apply (first_log 0 (collection_in collection.now).logs) Step.Flip) }
+{
+    if !collection.scan_done() {
+        return Step::Scan;
+    }
+    match collection.next_log() {
+        Some(m) => Step::Apply(m),
+        None => Step::Flip,
+    }
+}
