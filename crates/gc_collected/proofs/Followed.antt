@@ -22,8 +22,10 @@ use Rattle.gc_along.specs.Claims.{CanMake}
 use Rattle.gc_along.specs.Events.{Made}
 use Rattle.gc_along.specs.Tables.{Tables}
 use Rattle.gc_copy.specs.Words.{CollectionWords, collection_in, idle_state, state_of}
-use Rattle.gc_beside.specs.Follows.{Follows}
-use Rattle.gc_beside.proofs.Public.{follows_closed, follows_new, follows_quiet, new_op, ran_one}
+use Rattle.gc_collected.specs.Internal.Follows.{Follows}
+use Rattle.gc_collected.proofs.Monitor.Follows.{follows_closed, follows_new, follows_quiet}
+use Rattle.gc_collected.proofs.Monitor.Grown.{new_op}
+use Rattle.gc_collected.proofs.Monitor.Ran.{ran_one}
 use Rattle.gc_collected.specs.Internal.CollectedHeap.{BelongsIfOpen, Fits}
 use Rattle.gc_collected.specs.Internal.KnownRoots.{KnowsRoots}
 use Rattle.gc_collected.specs.declared.known.KnownRoots.{KnownRoots}

@@ -4,10 +4,12 @@ mod Copies
 mod Core
 mod Counts
 mod FirstLog
+mod Flips
 mod Followed
 mod KeptPair
 pub mod LegalRuns
 mod Marks
+mod Monitor
 mod NewFrom
 mod Noted
 mod NumbersPut

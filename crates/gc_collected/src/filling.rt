@@ -3,7 +3,7 @@
 ghost use Rattle.std.specs.Prelude.{ℕ, ◌≡◌, ◌<◌, ◌≤◌, ◌+◌, List, length, get_or};
 ghost use Rattle.gc_graph.specs.Slots.{SlotName, place};
 ghost use Rattle.gc_heap.specs.Filling.{TakesFields};
-ghost use Rattle.gc_beside.specs.Follows.{Follows};
+ghost use Rattle.gc_collected.specs.Internal.Follows.{Follows};
 ghost use Rattle.gc_collected.specs.CollectedHeap.{fill_step};
 ghost use Rattle.gc_collected.specs.Internal.CollectedHeap.{BelongsIfOpen, Fits, HasSpare, state_in};
 

@@ -19,7 +19,6 @@ use crate::flip::{Approved, Draft, Keep, new_image_copied};
 use crate::known::{KnownRoots, search};
 use crate::rooms::free_if;
 use gc_along::{Outline, Watcher, a_yes_is_sound};
-use gc_beside::watches_know_the_words;
 use gc_cert::{Image, PairFile};
 use gc_check::Checks;
 use gc_copy::{Collection, Room, StepReply, heaps_have_addresses_as_names, images_show_links};

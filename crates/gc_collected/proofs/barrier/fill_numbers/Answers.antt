@@ -3,7 +3,8 @@ use Rattle.std.proofs.Common.{◌≡◌, ◌≤◌, ◌<◌, length, sym, ◌∙
 use Rattle.gc_plan.specs.State.{Collection}
 use Rattle.gc_plan.specs.Belonging.{IsLogged}
 use Rattle.gc_copy.specs.Words.{collection_in, open_state}
-use Rattle.gc_beside.proofs.Public.{AreOld, follows_written, IsAmong}
+use Rattle.gc_collected.proofs.Monitor.Follows.{follows_written, IsAmong}
+use Rattle.gc_collected.specs.Internal.Beside.{AreOld}
 use Rattle.gc_collected.proofs.Noted.{noted_all, noted_next, noted_none}
 use Rattle.gc_collected.proofs.barrier.fill_numbers.Goals as goal
 

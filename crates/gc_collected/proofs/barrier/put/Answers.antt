@@ -9,7 +9,9 @@ use Rattle.gc_along.specs.Claims.{CanWrite}
 use Rattle.gc_copy.specs.Entries.{entry_in}
 use Rattle.gc_copy.specs.Words.{open_state}
 use Rattle.gc_copy.specs.declared.log.LogEntry.{LogEntry}
-use Rattle.gc_beside.proofs.Public.{AreOld, follows_put, follows_quiet, ran_one}
+use Rattle.gc_collected.proofs.Monitor.Follows.{follows_put, follows_quiet}
+use Rattle.gc_collected.proofs.Monitor.Ran.{ran_one}
+use Rattle.gc_collected.specs.Internal.Beside.{AreOld}
 use Rattle.gc_collected.proofs.barrier.put.Goals as goal
 
 pub returns-in_default-clause-follows : goal.returns-in_default-clause-follows

@@ -5,7 +5,7 @@ use Rattle.gc_plan.specs.State.{State}
 use Rattle.gc_copy.specs.Words.{collection_in, open_state, state_of}
 use Rattle.gc_plan.specs.declared.step.Step.TheVariants as steps
 use Rattle.gc_plan.specs.declared.step.StepReply.{StepReply}
-use Rattle.gc_beside.specs.Follows.{Follows}
+use Rattle.gc_collected.specs.Internal.Follows.{Follows}
 use Rattle.gc_collected.specs.Internal.KnownRoots.{KnowsRoots}
 use Rattle.gc_collected.proofs.Marks.{step_knows, with_row}
 use Rattle.gc_collected.proofs.collected_heap.CollectedHeap.apply_log.Goals as goal

@@ -8,8 +8,8 @@ use Rattle.gc_graph.specs.Machine.{Roomy}
 use Rattle.gc_along.specs.Tables.{Tables}
 use Rattle.gc_along.specs.Events.{opening_tables}
 use Rattle.gc_copy.specs.Words.{idle_state}
-use Rattle.gc_beside.specs.Follows.{Follows}
-use Rattle.gc_beside.proofs.Public.{follows_opening}
+use Rattle.gc_collected.specs.Internal.Follows.{Follows}
+use Rattle.gc_collected.proofs.Monitor.Follows.{follows_opening}
 use Rattle.gc_collected.specs.declared.known.KnownRoots.{KnownRoots}
 use Rattle.gc_collected.proofs.Marks.{no_links, opening_knows}
 use Rattle.gc_collected.proofs.collected_heap.CollectedHeap.open_with.Goals as goal

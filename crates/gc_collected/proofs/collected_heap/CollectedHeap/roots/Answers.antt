@@ -3,7 +3,7 @@ use Rattle.std.proofs.Common.{refl, sym, ◌∙◌, ap, subst, arith}
 use Rattle.gc_graph.specs.Slots.{roots_of}
 use Rattle.gc_plan.specs.State.{State}
 use Rattle.std.specs.Option.{option_map}
-use Rattle.gc_beside.specs.Follows.{Follows}
+use Rattle.gc_collected.specs.Internal.Follows.{Follows}
 use Rattle.gc_copy.specs.Words.{collection_in, open_state, state_of}
 use Rattle.gc_plan.specs.declared.step.Step.TheVariants as steps
 use Rattle.gc_plan.specs.declared.step.StepReply.{StepReply}
