@@ -1,4 +1,4 @@
--- A `NewRaw` writes one slot and no field of an older object, so an open collection stays.
+-- A `NewRaw` writes one slot and no field of an older object, so an open collection stays, and the monitor is told of the new object.
 use Rattle.std.proofs.Common.{◌≡◌, true, false, refl, ap, subst, ◌∙◌, arith}
 use Rattle.gc_graph.specs.declared.command.Op.TheVariants.{NewRaw}
 use Rattle.gc_along.specs.Claims.{CanMake}
