@@ -18,6 +18,7 @@ mod Parts
 pub mod Public
 mod Referred
 mod Reserved
+mod Rooted
 mod Shown
 mod SourcesPut
 mod Starts

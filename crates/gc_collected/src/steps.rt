@@ -143,8 +143,7 @@ impl CollectedHeap {
             return StepReply::Idle;
         };
         let Searched { known, missing } = search(collection, &self.heap, self.known);
-        let reply =
-            barrier::replicate_root(collection, &mut self.heap, &mut self.watch, missing);
+        let reply = barrier::replicate_root(collection, &mut self.heap, &mut self.watch, missing);
         self.known = match reply {
             StepReply::Copied => known.advanced(root_count(self.heap.mutators())),
             _ => known,
