@@ -23,3 +23,4 @@ mod Rooted
 mod Shown
 mod SourcesPut
 mod Starts
+mod Stepped
