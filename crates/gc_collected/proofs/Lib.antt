@@ -22,3 +22,4 @@ mod Reserved
 mod Shown
 mod SourcesPut
 mod Starts
+mod Stepped
