@@ -5,7 +5,6 @@ use Rattle.std.specs.Option.{option_map}
 use Rattle.gc_plan.specs.State.{State}
 use Rattle.gc_plan.specs.Steps.{collect}
 use Rattle.gc_plan.specs.declared.step.Step.TheVariants as steps
-use Rattle.gc_plan.specs.declared.step.StepReply.{StepReply}
 use Rattle.gc_plan.specs.declared.step.StepReply.TheVariants.{NotReady, Flipped}
 use Rattle.gc_copy.specs.Words.{CollectionWords, collection_in, open_state, state_of}
 use Rattle.gc_collected.specs.Flip.{PassesIfReady}

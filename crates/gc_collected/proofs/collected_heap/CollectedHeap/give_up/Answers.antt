@@ -21,8 +21,7 @@ invariant_of-self-2 c =
     let new = c.end-room.new.heap in
     let was : open_state heap c.in-Some.collection ≡ state_of heap (option_map collection_in c.self.inside.collection) = ap (λ o. state_of heap (option_map collection_in o)) (sym c.in-Some.is ∙ c.take.ensures.value) in
     let knows : KnowsRoots c.self.inside.known (idle_state new) = subst (KnowsRoots c.self.inside.known) (ap (λ (x : StepReply × State). x.1) c.end-room.ensures.step)
-        (step_knows c.self.inside.known (open_state heap c.in-Some.collection) (collection_in c.in-Some.collection) steps.Drop refl (λ e. cc) (subst (KnowsRoots c.self.inside.known) (sym was) (c.self.invariant.0).1)) in
-    (
+    (step_knows c.self.inside.known (open_state heap c.in-Some.collection) (collection_in c.in-Some.collection) steps.Drop refl (λ e. cc) (subst (KnowsRoots c.self.inside.known) (sym was) (c.self.invariant.0).1)) in (
       (
         subst (λ o. Fits c.end-room.result.1 new o) (sym c.take.ensures.after) c.end-room.ensures.links,
         subst (λ o. KnowsRoots c.self.inside.known (state_of new (option_map collection_in o))) (sym c.take.ensures.after) knows,
