@@ -282,7 +282,7 @@ pub extern "C" fn gcflip_heap_work_paced(
     ensures pair { heap.new.beside.pair ≡ heap.old.beside.pair }
     ensures turns { result ≡ done → heap.new.beside.turns ≡ turns_after_work heap.old.beside.turns work.new }
     ensures rooms { result ≡ done → IsSomeAnd heap.old.state (λ s. IsSomeAnd heap.new.state (λ t. HaveWorked None s t heap.old.beside work.new heap.new.beside.rooms)) }
-    // A refused call changes no more than the memory that waits.
+    // A refused call changes nothing but the memory that waits.
     ensures kept { 1 ≤ result → heap.new.beside ≡ record heap.old.beside { rooms = heap.new.beside.rooms } }
     ensures freed { 1 ≤ result → RefusedRooms result heap.old.beside.rooms heap.new.beside.rooms }
 {

@@ -176,7 +176,7 @@ pub extern "C" fn gcflip_heap_step_flip(heap: &mut GcflipHeap, pairs: &mut u32) 
     ensures rooms { IsSome heap.old.state → heap.new.beside.rooms ≡ rooms_flipped Keep.Room heap.old.beside }
     ensures due { result ≡ no_memory → IsTrue (checks_whole Keep.Room heap.old.beside.turns) }
     ensures pair { heap.new.beside.pair ≡ heap.old.beside.pair }
-    // A refused call changes no more than the memory that waits.
+    // A refused call changes nothing but the memory that waits.
     ensures kept { IsRefusal result → heap.new.beside ≡ record heap.old.beside { rooms = heap.new.beside.rooms } }
     ensures silent { IsRefusal result → pairs.new ≡ pairs.old }
 {
