@@ -12,12 +12,12 @@ use Rattle.gc_collected.specs.Collected.{Beside, Collected, opening_beside}
 use Rattle.gc_collected.specs.contracts.collected_heap.CollectedHeap.{the_row}
 use Rattle.gc_collected.specs.declared.checks.Checking.TheVariants.{AtFlip}
 
--- the heap has this state, and this is beside it
+-- the heap in the box has this state, and this beside it
 abbrev pub owns_heap : Global → Ptr → Option State → Beside → Fml
 owns_heap alloc at None beside = feq Ptr at null_ptr
 owns_heap alloc at (Some state) beside = box_owns (ghosts.dealloc_token alloc) the_row at (record { core = state; beside = beside })
 
--- Each part of a heap is stored as a whole heap, whose other part is some constant.
+-- A state is stored as a heap with a constant beside it, and what is beside a state as a heap with a constant state.
 abbrev pub coded_state : Coded (Option State)
 coded_state = coded_option (code_by Collected the_row.coded (λ s. record { core = s; beside = opening_beside AtFlip }) (λ h. h.core) (λ _. refl))
 
