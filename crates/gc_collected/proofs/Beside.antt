@@ -12,8 +12,8 @@ use Rattle.gc_copy.specs.Words.{CollectionWords, IsCollection, BelongsTo, collec
 use Rattle.gc_copy.proofs.Public.{new_shown, other_links}
 use Rattle.gc_collected.specs.Internal.CollectedHeap.{Fits}
 use Rattle.gc_along.specs.Watch.{Watch, Watches}
-use Rattle.gc_beside.specs.Stays.{GoesAlong}
-use Rattle.gc_beside.proofs.Public.{watches}
+use Rattle.gc_collected.specs.Internal.Stays.{GoesAlong}
+use Rattle.gc_collected.proofs.Monitor.Words.{watches}
 
 -- the heap's end
 end_is : (heap : HeapWords) → IsHeap heap → heap.space.size - (heap.space.size - end_of heap.space) ≡ end_of heap.space

@@ -23,8 +23,9 @@ use Rattle.gc_plan.specs.State.{State}
 use Rattle.gc_plan.specs.Steps.{mutate}
 use Rattle.gc_along.specs.Tables.{Tables}
 use Rattle.gc_copy.specs.Words.{CollectionWords, collection_in, idle_state, state_of}
-use Rattle.gc_beside.specs.Follows.{Follows}
-use Rattle.gc_beside.proofs.Public.{Ran, follows_closed, ran_none, ran_on, ran_one}
+use Rattle.gc_collected.specs.Internal.Follows.{Follows}
+use Rattle.gc_collected.proofs.Monitor.Follows.{follows_closed}
+use Rattle.gc_collected.proofs.Monitor.Ran.{Ran, ran_none, ran_on, ran_one}
 use Rattle.gc_collected.specs.Internal.KnownRoots.{KnowsRoots}
 use Rattle.gc_collected.specs.declared.known.KnownRoots.{KnownRoots}
 use Rattle.gc_collected.specs.Copying.{object_in, copy_reply, copy_step}

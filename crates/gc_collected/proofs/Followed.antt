@@ -1,6 +1,6 @@
 -- A monitor that follows a collected heap goes on following it through commands.
 use Rattle.std.proofs.lemmas.Grind.{common_steps}
-use Rattle.std.proofs.Common.{◌≡◌, ℕ, ◌<◌, [], Option, Some, None, true, false, Bool, refl, ap, sym, subst, ◌∙◌, arith}
+use Rattle.std.proofs.Common.{◌≡◌, ℕ, ◌<◌, [], Option, Some, None, true, false, Bool, refl, ap, sym, subst, arith}
 use Rattle.std.specs.Prelude.{IfSome}
 use Rattle.std.specs.Option.{option_map}
 use Rattle.gc_graph.specs.Graph.{Graph}
@@ -21,9 +21,12 @@ use Rattle.gc_plan.specs.Belonging.{IsOpened, IsSpaceGraph}
 use Rattle.gc_along.specs.Claims.{CanMake}
 use Rattle.gc_along.specs.Events.{Made}
 use Rattle.gc_along.specs.Tables.{Tables}
-use Rattle.gc_copy.specs.Words.{CollectionWords, collection_in, idle_state, state_of}
-use Rattle.gc_beside.specs.Follows.{Follows}
-use Rattle.gc_beside.proofs.Public.{follows_closed, follows_new, follows_quiet, new_op, ran_one}
+use Rattle.gc_copy.specs.Words.{CollectionWords, collection_in, state_of}
+use Rattle.gc_copy.proofs.Public.{idle_left}
+use Rattle.gc_collected.specs.Internal.Follows.{Follows}
+use Rattle.gc_collected.proofs.Monitor.Follows.{follows_closed, follows_new, follows_quiet}
+use Rattle.gc_collected.proofs.Monitor.Grown.{new_op}
+use Rattle.gc_collected.proofs.Monitor.Ran.{ran_one}
 use Rattle.gc_collected.specs.Internal.CollectedHeap.{BelongsIfOpen, Fits}
 use Rattle.gc_collected.specs.Internal.KnownRoots.{KnowsRoots}
 use Rattle.gc_collected.specs.declared.known.KnownRoots.{KnownRoots}
@@ -51,6 +54,12 @@ closed heap new o m op reply t none few said = follows_closed (state_of heap (op
     is_none : (o : Option CollectionWords) → ((c : CollectionWords) → o ≡ Some c → ⊥) → option_map collection_in o ≡ None
     is_none None n = refl
     is_none (Some c) n = absurd (n c refl)
+
+-- the same, of what the heap alone performs
+pub closed_put : (heap new : HeapWords) (o : Option CollectionWords) (m : ℕ) (op : Op) (reply : Reply) (t : Tables) → o ≡ None → words_taken op ≡ 0 → IsHeap heap → Performs heap m op reply new → Follows (state_of heap (option_map collection_in o)) t → Follows (state_of new (option_map collection_in o)) t
+closed_put heap new o m op reply t none few sound performs f =
+    closed heap new o m op reply t (λ c some. cc) few
+    (subst (λ o. mutate (state_of heap (option_map collection_in o)) m op ≡ (reply, state_of new (option_map collection_in o))) (sym none) (idle_left heap new m op reply sound performs)) f
 
 -- a `New` or a `NewRaw`, of which the monitor is told
 pub newly : (now : State) (heap new : HeapWords) (o : Option CollectionWords) (m : ℕ) (op : Op) (reply : Reply) (t after : Tables) (raw : Bool) (d : SlotName) (kind len : ℕ) → op ≡ new_op raw d kind len → state_of heap (option_map collection_in o) ≡ now → IfSome now.collection (IsOpened now)

@@ -1,13 +1,16 @@
 -- Lemmas about calls that are several commands, what is known of roots, what a heap shows, the pair of a flip, the monitor, and runs.
+mod Begins
 mod Beside
 mod Copies
 mod Core
 mod Counts
 mod FirstLog
+mod Flips
 mod Followed
 mod KeptPair
 pub mod LegalRuns
 mod Marks
+mod Monitor
 mod NewFrom
 mod Noted
 mod NumbersPut
@@ -16,6 +19,8 @@ mod Parts
 pub mod Public
 mod Referred
 mod Reserved
+mod Rooted
 mod Shown
 mod SourcesPut
 mod Starts
+mod Stepped

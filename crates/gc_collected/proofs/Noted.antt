@@ -1,6 +1,6 @@
 -- Numbers that are written at once, whose fields are then logged one after the other.
 use Rattle.std.proofs.lemmas.Grind.{common_steps}
-use Rattle.std.proofs.Common.{◌≡◌, inl, inr, ⊎_elim, ◌∷◌, [], ◌++◌, ◌+◌, ◌<◌, ◌≤◌, ℕ, suc, get_or, drop, length, map, List, Some, refl, sym, ◌∙◌, ap, subst, arith}
+use Rattle.std.proofs.Common.{◌≡◌, inl, inr, ◌∷◌, [], ◌++◌, ◌+◌, ◌<◌, ◌≤◌, ℕ, suc, get_or, drop, length, map, List, Some, refl, sym, ◌∙◌, ap, subst, arith}
 use Rattle.std.proofs.lemmas.Bool.{cases_eq}
 use Rattle.std.proofs.lemmas.List.{drop_more, length-drop, length-map}
 use Rattle.gc_graph.specs.Graph.{Ref, names_of, root}
@@ -16,7 +16,8 @@ use Rattle.gc_plan.specs.Belonging.{HasField, IsLogged}
 use Rattle.gc_plan.proofs.Public.{root_kept}
 use Rattle.gc_copy.specs.Words.{CollectionWords, BelongsTo, BelongsToBut, collection_in, open_state, spare_of}
 use Rattle.gc_copy.proofs.Public.{mutate_is, one_but, open_left}
-use Rattle.gc_beside.proofs.Public.{HasLog, IsAmong, Ran, carried, number_ran, ran_none, ran_on}
+use Rattle.gc_collected.proofs.Monitor.Follows.{IsAmong}
+use Rattle.gc_collected.proofs.Monitor.Ran.{HasLog, Ran, carried, number_ran, ran_none, ran_on}
 use Rattle.gc_collected.specs.Writing.{numbers_step}
 
 -- so many numbers are logged: the heap was like this after them, and the others lead from it to the last heap

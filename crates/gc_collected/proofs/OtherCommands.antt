@@ -1,7 +1,7 @@
 -- Commands that write no field: they change only the heap, whether a collection is open or not.
 use Rattle.std.proofs.lemmas.Grind.{common_steps}
 use Rattle.std.proofs.Common.{◌≡◌, ℕ, ◌+◌, ◌<◌, length, Option, Some, None, ap, sym, subst, arith, rules}
-use Rattle.std.specs.Prelude.{IfSome, min, max}
+use Rattle.std.specs.Prelude.{min, max}
 use Rattle.gc_graph.specs.Slots.{SlotName, roots_of}
 use Rattle.std.specs.Option.{option_map}
 use Rattle.gc_graph.specs.declared.command.Op.{Op}
@@ -9,7 +9,7 @@ use Rattle.gc_graph.specs.declared.reply.Reply.{Reply}
 use Rattle.gc_heap.specs.Heap.{HeapWords, IsHeap, graph_in}
 use Rattle.gc_heap.specs.Commands.{Performs}
 use Rattle.gc_plan.specs.Steps.{WritesField, mutate}
-use Rattle.gc_copy.specs.Words.{CollectionWords, BelongsTo, collection_in, state_of, open_state}
+use Rattle.gc_copy.specs.Words.{CollectionWords, collection_in, state_of}
 use Rattle.gc_copy.proofs.Public.{open_left, idle_left, still_unlinked}
 use Rattle.gc_plan.specs.State.{State}
 use Rattle.gc_plan.specs.Staying.{root_written}
@@ -18,7 +18,6 @@ use Rattle.gc_collected.specs.Internal.KnownRoots.{KnowsRoots}
 use Rattle.gc_collected.specs.declared.known.KnownRoots.{KnownRoots}
 use Rattle.gc_graph.specs.declared.command.Op.TheVariants as ops
 use Rattle.gc_collected.proofs.Marks.{WritesBelow, SetsPlain, forgetting, slot_below, slot_command, plain_command, put_knows, stored_command}
-use Rattle.gc_collected.proofs.Reserved.{AfterFirst}
 
 pub still_fits : (epoch : ℕ) (heap new : HeapWords) (o : Option CollectionWords) (m : ℕ) (op : Op) (reply : Reply) → IsHeap heap → ¬ WritesField op → Performs heap m op reply new → Fits epoch heap o → Fits epoch new o
 still_fits epoch heap new None m op reply is none performs fits = still_unlinked epoch heap new m op reply performs fits
@@ -67,7 +66,7 @@ SetsSlot (ops.Put t i u) = ⊥
 SetsSlot (ops.Same t u) = ⊥
 SetsSlot (ops.Look t) = ⊥
 
-sets_below : (mutators m : ℕ) (op : Op) → m < mutators → SetsSlot op → WritesBelow (roots_of mutators) m op
+pub sets_below : (mutators m : ℕ) (op : Op) → m < mutators → SetsSlot op → WritesBelow (roots_of mutators) m op
 sets_below mutators m op less low = grind (arith, common_steps, slot_below)
 
 -- after a command that sets one slot nothing is known of the slots
@@ -101,21 +100,8 @@ pub plain_put_knows : (known : KnownRoots) (s one new : State) (m i : ℕ) (op :
 plain_put_knows known s one new m i op d t first reply plain low less a b k =
     put_knows known one new m i d t reply b (subst (KnowsRoots known) (ap (λ (x : Reply × State). x.1) a) (plain_command known s m op plain (sets_below s.mutators m op less low) k))
 
--- while no collection is open
-pub plain_put_idle : {C : Type 0} (s : State) (epoch : ℕ) (known : KnownRoots) (heap one new : HeapWords) (o : Option CollectionWords) (m i : ℕ) (op : Op) (d t : SlotName) (first reply : Reply) → state_of heap (option_map collection_in o) ≡ s → m < s.mutators → SetsPlain op → SetsSlot op
-    → ((c : CollectionWords) → o ≡ Some c → ⊥) → IsHeap heap → IsHeap one → Performs heap m op first one → Performs one m (ops.Put d i t) reply new
-    → Fits epoch heap o × KnowsRoots known (state_of heap (option_map collection_in o)) × C → Fits epoch new o × KnowsRoots known (state_of new (option_map collection_in o)) × C
-plain_put_idle s epoch known heap one new o m i op d t first reply is less plain low none sound sound' sets puts k =
-    let at : HeapWords → State = λ h. state_of h (option_map collection_in o) in
-    let a = idle_mutated epoch heap one o m op first sound none sets k.0 in
-    let b = idle_mutated epoch one new o m (ops.Put d i t) reply sound' none puts a.1 in
-    (b.1, plain_put_knows known (at heap) (at one) (at new) m i op d t first reply plain low (subst (λ (s : State). m < s.mutators) (sym is) less) a.0 b.0 k.1, k.2)
+-- ---- what is known of the roots
 
--- while one is open
-pub plain_put_open : {known : KnownRoots} {heap one : HeapWords} {logs : CollectionWords} {now : State} {m : ℕ} {op : Op} {first : Reply} (new : State) (i : ℕ) (d t : SlotName) (reply : Reply) → AfterFirst known heap one logs now m op first → SetsPlain op → SetsSlot op
-    → mutate (open_state one logs) m (ops.Put d i t) ≡ (reply, new) → (mutate (mutate now m op).1 m (ops.Put d i t) ≡ (reply, new)) × KnowsRoots known new
-plain_put_open {known} {heap} {one} {logs} {now} {m} {op} {first} new i d t reply k plain low puts = (
-  subst (λ s. mutate (mutate s m op).1 m (ops.Put d i t) ≡ (reply, new)) k.before
-      (subst (λ s. mutate s m (ops.Put d i t) ≡ (reply, new)) (sym (ap (λ (x : Reply × State). x.1) k.performs)) puts),
-  plain_put_knows known (open_state heap logs) (open_state one logs) new m i op d t first reply plain low k.mutator k.performs puts k.knows,
-)
+-- after a command that sets one slot
+pub slot_known : (known : KnownRoots) (s s' : State) (m : ℕ) (op : Op) (reply : Reply) → m < s.mutators → SetsSlot op → mutate s m op ≡ (reply, s') → KnowsRoots known s → KnowsRoots (forgetting known) s'
+slot_known known s s' m op reply less low said k = subst (KnowsRoots (forgetting known)) (ap (λ (x : Reply × State). x.1) said) (slot_command known s m op (sets_below s.mutators m op less low) k)

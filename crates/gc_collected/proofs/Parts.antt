@@ -1,11 +1,12 @@
 -- Room in the logs of an open collection changes neither the state nor what is known of it.
-use Rattle.std.proofs.Common.{◌≡◌, ℕ, Bool, true, Option, sym, ap, ◌∙◌, subst}
+use Rattle.std.proofs.Common.{◌≡◌, ◌<◌, ℕ, Bool, true, length, Option, Some, None, sym, ap, ◌∙◌, subst, arith}
+use Rattle.std.specs.Prelude.{IfSome}
 use Rattle.std.specs.Option.{option_map}
 use Rattle.gc_heap.specs.Heap.{HeapWords}
 use Rattle.gc_plan.specs.State.{State}
 use Rattle.gc_along.specs.Tables.{Tables}
 use Rattle.gc_copy.specs.Words.{CollectionWords, collection_in, state_of}
-use Rattle.gc_beside.specs.Follows.{Follows}
+use Rattle.gc_collected.specs.Internal.Follows.{Follows}
 use Rattle.gc_collected.specs.Internal.CollectedHeap.{Fits, state_in}
 use Rattle.gc_collected.specs.Internal.KnownRoots.{KnowsRoots}
 use Rattle.gc_collected.specs.declared.known.KnownRoots.{KnownRoots}
@@ -21,3 +22,8 @@ still_known epoch known heap o p t along same fits k = (
   (fits epoch heap (k.0).0, subst (λ x. KnowsRoots known (state_of heap x)) (sym same) (k.0).1, (k.0).2),
   λ on. subst (λ x. Follows (state_of heap x) t) (sym same) (k.1 on),
 )
+
+-- each mutator has a log in the open collection
+pub has_log : (epoch : ℕ) (heap : HeapWords) (o : Option CollectionWords) (m : ℕ) → m < heap.mutators → Fits epoch heap o → IfSome o (λ c. m < length c.logs)
+has_log epoch heap None m less fits = tt
+has_log epoch heap (Some c) m less fits = let same : length c.logs ≡ heap.mutators = fits.logs in omega (arith, same, less)

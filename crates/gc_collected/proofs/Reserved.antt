@@ -1,16 +1,11 @@
 -- Room in the logs of an open collection changes neither its state nor what is known of the roots. While none is open, the heap is all.
-use Rattle.std.proofs.Common.{◌≡◌, ℕ, ◌<◌, Option, Some, None, refl, sym, ap, ◌∙◌, subst}
+use Rattle.std.proofs.Common.{◌≡◌, ℕ, Option, Some, None, refl, sym, ap, ◌∙◌, subst}
 use Rattle.std.specs.Option.{option_map}
-use Rattle.gc_graph.specs.declared.command.Op.{Op}
-use Rattle.gc_graph.specs.declared.reply.Reply.{Reply}
-use Rattle.gc_heap.specs.Heap.{HeapWords, IsHeap}
-use Rattle.gc_heap.specs.Commands.{Performs}
+use Rattle.gc_heap.specs.Heap.{HeapWords}
 use Rattle.gc_plan.specs.State.{Collection, State}
-use Rattle.gc_plan.specs.Steps.{WritesField, mutate}
 use Rattle.gc_copy.specs.Words.{CollectionWords, BelongsTo, LinksNothing, collection_in, state_of, open_state, idle_state}
-use Rattle.gc_copy.proofs.Public.{open_left}
 use Rattle.gc_along.specs.Tables.{Tables}
-use Rattle.gc_beside.specs.Follows.{Follows}
+use Rattle.gc_collected.specs.Internal.Follows.{Follows}
 use Rattle.gc_collected.specs.Internal.CollectedHeap.{Fits}
 use Rattle.gc_collected.specs.Internal.KnownRoots.{KnowsRoots}
 use Rattle.gc_collected.specs.declared.known.KnownRoots.{KnownRoots}
@@ -27,29 +22,6 @@ reserved epoch known heap o c next is same belongs k = (
   subst (KnowsRoots known) (sym (opened_at heap o c next (state_of heap (option_map collection_in o)) is same refl)) k.1,
   k.2,
 )
-
--- after the first command of a call, which writes no field
-pub record AfterFirst (known : KnownRoots) (heap new : HeapWords) (logs : CollectionWords) (now : State) (m : ℕ) (op : Op) (reply : Reply) : Type 0 where
-  pub mutator : m < heap.mutators
-  pub before : open_state heap logs ≡ now
-  pub knows : KnowsRoots known (open_state heap logs)
-  pub performs : mutate (open_state heap logs) m op ≡ (reply, open_state new logs)
-  pub belongs : BelongsTo new logs
-  pub mutators : new.mutators ≡ now.mutators
-
-pub after_first : {C : Type 0} (epoch : ℕ) (known : KnownRoots) (heap new : HeapWords) (o : Option CollectionWords) (c logs : CollectionWords) (now : State) (m : ℕ) (op : Op) (reply : Reply) → ¬ WritesField op → o ≡ Some c → collection_in logs ≡ collection_in c → ((heap : HeapWords) → BelongsTo heap c → BelongsTo heap logs)
-    → state_of heap (option_map collection_in o) ≡ now → m < now.mutators → IsHeap heap → Performs heap m op reply new → Fits epoch heap o × KnowsRoots known (state_of heap (option_map collection_in o)) × C → AfterFirst known heap new logs now m op reply
-after_first epoch known heap new o c logs now m op reply none is same belongs view less sound performs k =
-    let at = reserved epoch known heap o c logs is same belongs k in
-    let left = open_left heap new logs m op reply sound at.0 none performs in
-    record {
-      mutator = subst (λ (s : State). m < s.mutators) (sym view) less;
-      before = opened_at heap o c logs now is same view;
-      knows = at.1;
-      performs = left.0;
-      belongs = left.1;
-      mutators = performs.mutators ∙ ap (λ (s : State). s.mutators) view;
-    }
 
 -- while none is open
 pub none_open : {C : Type 0} (epoch : ℕ) (known after : KnownRoots) (heap new : HeapWords) (o : Option CollectionWords) → o ≡ None → (LinksNothing epoch heap → LinksNothing epoch new) → (KnowsRoots known (idle_state heap) → KnowsRoots after (idle_state new))

@@ -5,19 +5,16 @@ use Rattle.gc_graph.specs.Slots.{SlotName, place, roots_of}
 use Rattle.gc_graph.specs.declared.command.Op.TheVariants.{New, Num, Put}
 use Rattle.gc_graph.specs.declared.reply.Reply.{Reply}
 use Rattle.gc_graph.specs.declared.reply.Reply.TheVariants as replies
-use Rattle.gc_heap.specs.Heap.{HeapWords}
 use Rattle.gc_plan.specs.State.{State}
 use Rattle.gc_plan.specs.Steps.{mutate}
-use Rattle.gc_copy.specs.Words.{CollectionWords, open_state}
 use Rattle.gc_collected.specs.Mixed.{source_step, sources_step, mixed, new_with_step}
 use Rattle.gc_collected.specs.declared.mixed.FieldSource.{FieldSource}
 use Rattle.gc_collected.specs.declared.mixed.FieldSource.TheVariants as sources
 use Rattle.gc_collected.specs.Internal.KnownRoots.{KnowsRoots}
 use Rattle.gc_collected.specs.declared.known.KnownRoots.{KnownRoots}
 use Rattle.gc_collected.proofs.Marks.{WritesBelow, forgetting, slot_below, one_below, slot_command, put_knows}
-use Rattle.gc_collected.proofs.Reserved.{AfterFirst}
 
-pub made_with : (old made new : State) (m kind count : ℕ) (d t : SlotName) (fields : List FieldSource) (reply : Reply) → count ≡ length fields → mutate old m (New d kind count) ≡ (reply, made) → (reply ≡ replies.Full → ⊥)
+made_with : (old made new : State) (m kind count : ℕ) (d t : SlotName) (fields : List FieldSource) (reply : Reply) → count ≡ length fields → mutate old m (New d kind count) ≡ (reply, made) → (reply ≡ replies.Full → ⊥)
     → sources_step made m d t 0 fields ≡ new → new_with_step old m d kind t fields ≡ (reply, new)
 made_with old made new m kind count d t fields reply same first other fill = grind (arith, common_steps)
 
@@ -57,7 +54,7 @@ mixed_knows known (replies.Saw view) made m d t fields low less k = sources_know
 mixed_knows known replies.Yes made m d t fields low less k = sources_know fields known made m 0 d t low less k
 mixed_knows known replies.No made m d t fields low less k = sources_know fields known made m 0 d t low less k
 
-pub with_knows : (known : KnownRoots) (s new : State) (m kind : ℕ) (d t : SlotName) (fields : List FieldSource) (reply : Reply) → d.index < 16 → t.index < 16 → m < s.mutators → new_with_step s m d kind t fields ≡ (reply, new) → KnowsRoots known s
+with_knows : (known : KnownRoots) (s new : State) (m kind : ℕ) (d t : SlotName) (fields : List FieldSource) (reply : Reply) → d.index < 16 → t.index < 16 → m < s.mutators → new_with_step s m d kind t fields ≡ (reply, new) → KnowsRoots known s
     → KnowsRoots (forgetting known) new
 with_knows known s new m kind d t fields reply high low less steps k =
     let op = New d kind (length fields) in
@@ -65,21 +62,18 @@ with_knows known s new m kind d t fields reply high low less steps k =
     subst (KnowsRoots (forgetting known)) (ap (λ (x : Reply × State). x.1) steps)
     (mixed_knows known (mutate s m op).0 (mutate s m op).1 m d t fields low less (slot_command known s m op below k))
 
--- ---- while a collection is open
+-- ---- the whole call, and what is known of the roots after it
 
 -- without room the `New` is all
-pub with_full : {known : KnownRoots} {heap new : HeapWords} {logs : CollectionWords} {now : State} {m kind count : ℕ} {d : SlotName} {reply : Reply} (t : SlotName) (fields : List FieldSource) → AfterFirst known heap new logs now m (New d kind count) reply → d.index < 16 → t.index < 16 → count ≡ length fields → reply ≡ replies.Full
-    → (new_with_step now m d kind t fields ≡ (reply, open_state new logs)) × KnowsRoots (forgetting known) (open_state new logs)
-with_full {known} {heap} {new} {logs} {now} {m} {kind} {count} {d} {reply} t fields k high low same full =
-    let old = open_state heap logs in
-    let made = open_state new logs in
-    let step = full_with old made m kind count d t fields reply same k.performs full in
-    (subst (λ s. new_with_step s m d kind t fields ≡ (reply, made)) k.before step, with_knows known old made m kind d t fields reply high low k.mutator step k.knows)
+pub with_full : (known : KnownRoots) (now made : State) (m kind count : ℕ) (d t : SlotName) (fields : List FieldSource) (reply : Reply) → d.index < 16 → t.index < 16 → m < now.mutators → count ≡ length fields → mutate now m (New d kind count) ≡ (reply, made) → reply ≡ replies.Full → KnowsRoots known now
+    → (new_with_step now m d kind t fields ≡ (reply, made)) × KnowsRoots (forgetting known) made
+with_full known now made m kind count d t fields reply high low less same first full k =
+    let step = full_with now made m kind count d t fields reply same first full in
+    (step, with_knows known now made m kind d t fields reply high low less step k)
 
 -- with room the fields are filled
-pub with_filled : {known : KnownRoots} {heap new : HeapWords} {logs : CollectionWords} {now : State} {m kind count : ℕ} {d : SlotName} {reply : Reply} (t : SlotName) (fields : List FieldSource) (after : State) → AfterFirst known heap new logs now m (New d kind count) reply → d.index < 16 → t.index < 16 → count ≡ length fields
-    → (reply ≡ replies.Full → ⊥) → sources_step (open_state new logs) m d t 0 fields ≡ after → (new_with_step now m d kind t fields ≡ (reply, after)) × KnowsRoots (forgetting known) after
-with_filled {known} {heap} {new} {logs} {now} {m} {kind} {count} {d} {reply} t fields after k high low same other fill =
-    let old = open_state heap logs in
-    let step = made_with old (open_state new logs) after m kind count d t fields reply same k.performs other fill in
-    (subst (λ s. new_with_step s m d kind t fields ≡ (reply, after)) k.before step, with_knows known old after m kind d t fields reply high low k.mutator step k.knows)
+pub with_filled : (known : KnownRoots) (now made new : State) (m kind count : ℕ) (d t : SlotName) (fields : List FieldSource) (reply : Reply) → d.index < 16 → t.index < 16 → m < now.mutators → count ≡ length fields → mutate now m (New d kind count) ≡ (reply, made)
+    → (reply ≡ replies.Full → ⊥) → sources_step made m d t 0 fields ≡ new → KnowsRoots known now → (new_with_step now m d kind t fields ≡ (reply, new)) × KnowsRoots (forgetting known) new
+with_filled known now made new m kind count d t fields reply high low less same first other fill k =
+    let step = made_with now made new m kind count d t fields reply same first other fill in
+    (step, with_knows known now new m kind d t fields reply high low less step k)

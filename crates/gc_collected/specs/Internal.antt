@@ -1,5 +1,9 @@
 -- Definitions that only private contracts and proofs use. They are not part of the public interface.
+pub mod Beside
 pub mod CollectedHeap
 pub mod Flip
+pub mod Follows
 pub mod KnownRoots
+pub mod Knows
 pub mod Rooms
+pub mod Stays

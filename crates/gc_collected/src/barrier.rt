@@ -17,8 +17,8 @@ ghost use Rattle.gc_plan.specs.declared.step.Step.{Step};
 ghost use Rattle.gc_plan.specs.declared.step.StepReply.{StepReply};
 ghost use Rattle.gc_plan.specs.Belonging.{IsSpaceGraph, IsOpened};
 ghost use Rattle.gc_copy.specs.Words.{collection_in, open_state, spare_of, BelongsTo};
-ghost use Rattle.gc_beside.proofs.Public.{AreOld, replica_words};
-ghost use Rattle.gc_beside.specs.Follows.{Follows};
+ghost use Rattle.gc_collected.specs.Internal.Beside.{AreOld, replica_words};
+ghost use Rattle.gc_collected.specs.Internal.Follows.{Follows};
 ghost use Rattle.gc_collected.specs.Writing.{numbers_step};
 ghost use Rattle.gc_collected.specs.Internal.CollectedHeap.{BelongsIfOpen, Fits, HasSpare, state_in};
 

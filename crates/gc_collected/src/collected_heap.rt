@@ -53,7 +53,7 @@ impl Model for CollectedHeap {
     ghost use Rattle.std.specs.Option.{option_map};
     ghost use Rattle.gc_cert.specs.Views.{pair_in};
     ghost use Rattle.gc_copy.specs.Words.{collection_in, held_in, state_of};
-    ghost use Rattle.gc_beside.specs.Follows.{Follows};
+    ghost use Rattle.gc_collected.specs.Internal.Follows.{Follows};
     ghost use Rattle.gc_collected.specs.Internal.CollectedHeap.{Fits};
     ghost use Rattle.gc_collected.specs.Internal.KnownRoots.{KnowsRoots};
 

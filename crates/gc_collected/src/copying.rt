@@ -10,7 +10,7 @@ ghost use Rattle.gc_words.specs.Image.{object_of_block};
 ghost use Rattle.gc_graph.specs.declared.command.Op.{Op};
 ghost use Rattle.gc_heap.specs.Heap.{graph_in};
 ghost use Rattle.gc_plan.specs.Steps.{mutate};
-ghost use Rattle.gc_beside.specs.Follows.{Follows};
+ghost use Rattle.gc_collected.specs.Internal.Follows.{Follows};
 ghost use Rattle.gc_collected.specs.Internal.CollectedHeap.{BelongsIfOpen, Fits, HasSpare, state_in};
 ghost use Rattle.gc_collected.specs.Copying.{object_in, copy_reply as reply_in, copy_step, copy_fields_step};
 

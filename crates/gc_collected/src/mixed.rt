@@ -2,7 +2,7 @@
 
 ghost use Rattle.std.specs.Prelude.{ℕ, ◌≡◌, ◌≢◌, ◌<◌, ◌≤◌, ◌+◌, List, length, get_or, IfOk, OnErr, IsSome};
 ghost use Rattle.gc_graph.specs.Slots.{place};
-ghost use Rattle.gc_beside.specs.Follows.{Follows};
+ghost use Rattle.gc_collected.specs.Internal.Follows.{Follows};
 ghost use Rattle.gc_collected.specs.Mixed.{source_step, sources_step, new_with_step};
 ghost use Rattle.gc_collected.specs.declared.mixed.FieldSource.{FieldSource};
 ghost use Rattle.gc_collected.specs.Internal.CollectedHeap.{BelongsIfOpen, Fits, HasSpare, state_in};
@@ -74,11 +74,27 @@ impl CollectedHeap {
         let count = fields.count();
         reserve_in(&mut self.collection, m, usize::from(count))?;
         self.known.slots = 0;
-        let made = new_in(&self.collection, &mut self.heap, &mut self.watch, m, d, kind, count);
+        let made = new_in(
+            &self.collection,
+            &mut self.heap,
+            &mut self.watch,
+            m,
+            d,
+            kind,
+            count,
+        );
         if let Reply::Full = made {
             return Ok(made);
         }
-        fill_all(&mut self.collection, &mut self.heap, &mut self.watch, m, d, t, fields);
+        fill_all(
+            &mut self.collection,
+            &mut self.heap,
+            &mut self.watch,
+            m,
+            d,
+            t,
+            fields,
+        );
         Ok(made)
     }
 }

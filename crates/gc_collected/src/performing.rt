@@ -13,7 +13,7 @@ impl CollectedHeap {
     ghost use Rattle.gc_plan.specs.declared.event.Answer.{Answer};
     ghost use Rattle.gc_plan.specs.declared.step.StepReply.{StepReply};
     ghost use Rattle.gc_collected.specs.Collected.{IsUnchangedButRooms, checks_whole};
-    ghost use Rattle.gc_collected.specs.Flip.{FlipsOnly};
+    ghost use Rattle.gc_collected.specs.Flip.{FlipsOnly, IsCertified};
     ghost use Rattle.gc_collected.specs.Performing.{kept_with};
 
     /// Performs one event: a mutator's command or a collector step. On `NoMemory` nothing has changed but the memory that waits.
@@ -30,6 +30,8 @@ impl CollectedHeap {
         // Where both spaces are to be checked whole, a flip happens only if this checker said yes.
         ensures asked { IsTrue (checks_whole keep self.old.beside.turns) → IfOk result (λ done. (reply : StepReply) → done ≡ Answer.Collector reply
             → FlipsOnly (C.says_yes checker.now) self.old.core reply) }
+        // A flip happens only if the certificate holds.
+        ensures sound { IfOk result (λ done. (reply : StepReply) → done ≡ Answer.Collector reply → FlipsOnly IsCertified self.old.core reply) }
         ensures pair { OnOk result (self.new.beside.pair ≡ kept_with keep self.old.beside.pair self.old.core event.now) }
         ensures refused { OnErr result (IsUnchangedButRooms self.old self.new) }
         ensures mutators { self.new.core.mutators ≡ self.old.core.mutators }

@@ -75,7 +75,7 @@ impl CollectedHeap {
     /// other addresses.
     pub fn address(&self, m: u8, slot: Slot) -> Option<OldAddr>
         requires { m < self.now.core.mutators }
-        ensures { option_map (λ a. a.0) result ≡ name_of (root_in self.now.core.heap.graph (place slot m)) }
+        ensures { option_map (λ a. a.0) result ≡ name_of (root self.now.core.heap.graph (place slot m)) }
     {
         self.heap.target(m, slot)
     }

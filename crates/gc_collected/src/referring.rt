@@ -6,7 +6,7 @@ ghost use Rattle.gc_graph.specs.Graph.{lookup};
 ghost use Rattle.gc_collected.specs.Referring.{refer_step};
 
 use crate::collected_heap::CollectedHeap;
-use gc_beside::marks_tell_starts;
+use crate::watching::marks_tell_starts;
 use gc_graph::{Reply, Slot};
 use gc_words::{Addr, OldAddr};
 

@@ -1,12 +1,33 @@
-ghost use Rattle.std.specs.Prelude.{◌≡◌, Some};
-ghost use Rattle.gc_plan.specs.State.{Collection, heap_end};
-ghost use Rattle.gc_collected.specs.Flip.{flip_pair};
+//! What a watch and the tables of a monitor tell, as laws.
+
+ghost use Rattle.std.specs.Prelude.{◌≡◌, ◌↔◌, ℕ, Some, slice_index_or};
+ghost use Rattle.gc_words.specs.Space.{end_of};
+ghost use Rattle.gc_heap.specs.Heap.{HeapWords, IsHeap, graph_in};
+ghost use Rattle.gc_plan.specs.Belonging.{IsNamed};
+ghost use Rattle.gc_plan.specs.State.{Collection, State, heap_end};
+ghost use Rattle.gc_copy.specs.Words.{BelongsTo, CollectionWords, IsCollection, collection_in};
+ghost use Rattle.gc_along.specs.Tables.{Tables};
+ghost use Rattle.gc_along.specs.Telling.{IsMark};
 ghost use Rattle.gc_along.specs.Watch.{Watch, Watches};
-ghost use Rattle.gc_beside.specs.Stays.{GoesAlong};
+ghost use Rattle.gc_collected.specs.Flip.{flip_pair};
+ghost use Rattle.gc_collected.specs.Internal.Knows.{KnowsAll};
+ghost use Rattle.gc_collected.specs.Internal.Stays.{GoesAlong};
 
 use crate::collected_heap::CollectedHeap;
-use gc_beside::watches_know_the_words;
 use gc_copy::images_show_links;
+
+/// A watch that goes along with a collection watches the words of both spaces: each field is due or corresponds.
+pub(crate) fn watches_know_the_words()
+    ensures words { (heap : HeapWords) (c : CollectionWords) (w : Watch)
+        → IsHeap heap → IsCollection c → BelongsTo heap c
+        → GoesAlong (graph_in heap).objects (end_of heap.space) (collection_in c) w
+        → Watches heap.space.words c.space.words w }
+{}
+
+/// The marks of tables that know a heap tell where its objects start.
+pub(crate) fn marks_tell_starts()
+    ensures { (s : State) (t : Tables) (a : ℕ) → KnowsAll s t → IsMark (slice_index_or t.olds a 0) ↔ IsNamed s.heap.graph.objects a }
+{}
 
 impl CollectedHeap {
     /// Does nothing. A watch that goes along with the open collection watches the words of both images.

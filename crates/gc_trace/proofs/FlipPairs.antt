@@ -1,6 +1,6 @@
 -- The pairs of a run's flips.
 use Rattle.std.proofs.lemmas.Grind.{common_steps}
-use Rattle.std.proofs.Common.{◌≡◌, ℕ, suc, ◌+◌, ◌<◌, ◌≤◌, List, ◌∷◌, ◌++◌, drop, length, get_or, refl, sym, ap, ◌∙◌, arith, Option, Some, None, ◌⊎◌}
+use Rattle.std.proofs.Common.{◌≡◌, ℕ, suc, ◌+◌, ◌<◌, ◌≤◌, List, ◌∷◌, ◌++◌, drop, length, get_or, refl, sym, ap, subst, ◌∙◌, arith, Option, Some, None, ◌⊎◌}
 use Rattle.std.specs.Prelude.{slice_get, IfSome}
 use Rattle.gc_graph.specs.Limits.{most_words}
 use Rattle.std.specs.Option.{option_map, option_to_list}
@@ -10,11 +10,12 @@ use Rattle.gc_cert.specs.Counts.{HasCounts}
 use Rattle.gc_cert.specs.Views.{pair_in}
 use Rattle.gc_cert.specs.declared.image.PairFile.{PairFile}
 use Rattle.gc_plan.specs.State.{State, Collection}
-use Rattle.gc_plan.specs.Runs.{HasSizesWithin, after}
+use Rattle.gc_plan.specs.Runs.{HasSizesWithin, after, answer}
 use Rattle.gc_plan.specs.Belonging.{IsState}
 use Rattle.gc_plan.specs.Passing.{HasFewPairs}
 use Rattle.gc_plan.specs.declared.step.StepReply.{StepReply}
-use Rattle.gc_collected.specs.Flip.{flip_pair, kept_after, IsCertified}
+use Rattle.gc_collected.specs.Flip.{FlipsOnly, flip_pair, kept_after, IsCertified}
+use Rattle.gc_plan.specs.declared.event.Answer.TheVariants.{Collector}
 use Rattle.gc_plan.specs.declared.event.Event.{Event}
 use Rattle.gc_plan.specs.declared.event.Event.TheVariants.{Mutate, Collect}
 use Rattle.gc_plan.specs.Steps.{collect}
@@ -42,6 +43,19 @@ flip_counts s (Collect step) pair ok sizes small few certified is = kept_counts 
 pub counts_of_kept : (s : State) (event : Event) (kept : Option PairFile) → IsState s → HasSizesWithin most_words s → HasFewPairs s → s.mutators ≤ 16 → option_map pair_in kept ≡ flip_at s event
     → IfSome kept (λ file. IsCertified (pair_in file)) → IfSome kept (λ file. HasCounts (pair_in file))
 counts_of_kept s event kept ok sizes small few is certified = grind (arith, common_steps, flip_counts)
+
+-- it is certified
+pub flip_certified : (s : State) (event : Event) (kept : Option PairFile) → option_map pair_in kept ≡ flip_at s event → ((reply : StepReply) → answer s event ≡ Collector reply → FlipsOnly IsCertified s reply) → IfSome kept (λ file. IsCertified (pair_in file))
+flip_certified s event None is sound = tt
+flip_certified s (Mutate m op) (Some file) is sound = absurd cc
+flip_certified s (Collect step) (Some file) is sound = by_reply (collect s step).0 is (sound (collect s step).0 refl)
+  where
+    certain : (o : Option Collection) → Some (pair_in file) ≡ option_map (flip_pair s) o → IfSome o (λ c. IsCertified (flip_pair s c)) → IsCertified (pair_in file)
+    certain None e h = absurd cc
+    certain (Some c) e h = subst IsCertified (let same : flip_pair s c ≡ pair_in file = cc in same) h
+
+    by_reply : (reply : StepReply) → Some (pair_in file) ≡ kept_after None s reply → FlipsOnly IsCertified s reply → IsCertified (pair_in file)
+    by_reply reply e flips = grind (arith, common_steps, certain)
 
 -- ---- the n-th flip
 

@@ -1,7 +1,7 @@
 -- The steps and the pairs of a world, whose spaces are small enough for a text.
 use Rattle.std.proofs.lemmas.Grind.{common_steps}
-use Rattle.std.proofs.Common.{◌≡◌, ℕ, ◌≤◌, Option, Some, None, refl, ap, sym, subst, arith}
-use Rattle.std.specs.Prelude.{IfSome}
+use Rattle.std.proofs.Common.{◌≡◌, ℕ, ◌≤◌, Option, Some, None, Result, Ok, Err, refl, ap, sym, subst, arith}
+use Rattle.std.specs.Prelude.{IfOk, IfSome, OnOk}
 use Rattle.std.specs.Option.{option_map}
 use Rattle.gc_graph.specs.Limits.{most_words}
 use Rattle.gc_cert.specs.Grammar.{CertifiedPair}
@@ -38,3 +38,8 @@ still_kept s kept reply small flips was = grind (arith, common_steps, flipped)
         new : (o : Option Collection) → s.collection ≡ o → IfSome o (λ c. IsCertified (flip_pair s c)) → IsKeptPair (option_map (flip_pair s) o)
         new None e c = tt
         new (Some d) e c = (let sizes = small_pair s (flip_pair s d) small (ap (option_map (flip_pair s)) e) in (c, sizes.0, sizes.1))
+
+-- also where the step may have been refused
+pub kept_if : {E : Type 0} (s : State) (r : Result StepReply E) (old new : Option CertifiedPair) → HasSizesWithin most_words s → IfOk r (λ reply. new ≡ kept_after old s reply) → IfOk r (FlipsOnly IsCertified s) → OnOk r (IsKeptPair old → IsKeptPair new)
+kept_if s (Ok reply) old new small is sound = λ was. subst IsKeptPair (sym is) (still_kept s old reply small sound was)
+kept_if s (Err e) old new small is sound = tt

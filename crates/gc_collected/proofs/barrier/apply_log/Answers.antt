@@ -8,7 +8,10 @@ use Rattle.gc_plan.specs.Steps.{log_at}
 use Rattle.gc_copy.specs.Entries.{entry_in}
 use Rattle.gc_copy.specs.Words.{collection_in, open_state}
 use Rattle.gc_copy.specs.declared.log.LogEntry.{LogEntry}
-use Rattle.gc_beside.proofs.Public.{AreOld, follows_applied, follows_same, apply_or_same}
+use Rattle.gc_collected.proofs.Monitor.Follows.{follows_same}
+use Rattle.gc_collected.proofs.Monitor.FollowsSteps.{follows_applied}
+use Rattle.gc_collected.proofs.Monitor.SameSteps.{apply_or_same}
+use Rattle.gc_collected.specs.Internal.Beside.{AreOld}
 use Rattle.gc_collected.proofs.barrier.apply_log.Goals as goal
 
 first_entry : (log : List (ℕ × ℕ)) (entry : ℕ × ℕ) → slice_get log 0 ≡ Some entry → (rest : List (ℕ × ℕ)) × (log ≡ entry ∷ rest)

@@ -2,9 +2,11 @@
 use Rattle.std.proofs.Common.{refl, ap, sym, subst, ◌∙◌}
 use Rattle.gc_words.specs.Image.{Image}
 use Rattle.gc_plan.specs.declared.step.StepReply.{StepReply}
-use Rattle.gc_plan.specs.State.{State}
 use Rattle.gc_copy.specs.Words.{collection_in, open_state}
-use Rattle.gc_beside.proofs.Public.{AreOld, follows_roots, follows_same, roots_or_same}
+use Rattle.gc_collected.proofs.Monitor.Follows.{follows_same}
+use Rattle.gc_collected.proofs.Monitor.FollowsSteps.{follows_roots}
+use Rattle.gc_collected.proofs.Monitor.SameSteps.{roots_or_same}
+use Rattle.gc_collected.specs.Internal.Beside.{AreOld}
 use Rattle.gc_collected.proofs.barrier.replicate_root.Goals as goal
 
 pub returns-in_default-clause-follows : goal.returns-in_default-clause-follows

@@ -2,11 +2,13 @@
 use Rattle.std.proofs.Common.{⊎_elim, refl, ap, sym, subst, ◌∙◌}
 use Rattle.gc_words.specs.Image.{Image}
 use Rattle.gc_plan.specs.declared.step.StepReply.{StepReply}
-use Rattle.gc_plan.specs.State.{State}
 use Rattle.gc_along.specs.Claims.{CanLook}
 use Rattle.gc_along.specs.Events.{Looked}
 use Rattle.gc_copy.specs.Words.{collection_in, open_state}
-use Rattle.gc_beside.proofs.Public.{AreOld, follows_passed, follows_same, follows_scanned, scan_or_same}
+use Rattle.gc_collected.proofs.Monitor.Follows.{follows_same}
+use Rattle.gc_collected.proofs.Monitor.FollowsSteps.{follows_passed, follows_scanned}
+use Rattle.gc_collected.proofs.Monitor.SameSteps.{scan_or_same}
+use Rattle.gc_collected.specs.Internal.Beside.{AreOld}
 use Rattle.gc_collected.proofs.barrier.scan.Goals as goal
 
 pub returns-in_default-clause-follows : goal.returns-in_default-clause-follows

@@ -4,8 +4,7 @@ use Rattle.std.specs.Option.{option_map}
 use Rattle.gc_heap.specs.Heap.{extra_roots_in}
 use Rattle.gc_copy.specs.Words.{collection_in, state_of}
 use Rattle.gc_collected.specs.ExtraRoots.{clear_step}
-use Rattle.gc_collected.specs.Internal.CollectedHeap.{Fits}
-use Rattle.gc_collected.proofs.OtherCommands.{BelongsIfOpen}
+use Rattle.gc_collected.specs.Internal.CollectedHeap.{BelongsIfOpen, Fits}
 use Rattle.gc_collected.proofs.extra_roots.clear_each.Given as goal
 
 -- the roots so far are nil, and making the rest nil makes all nil

@@ -5,7 +5,7 @@ use Rattle.gc_plan.specs.State.{State}
 use Rattle.gc_copy.specs.Words.{collection_in, open_state, state_of}
 use Rattle.gc_plan.specs.declared.step.Step.TheVariants as steps
 use Rattle.gc_plan.specs.declared.step.StepReply.{StepReply}
-use Rattle.gc_beside.specs.Follows.{Follows}
+use Rattle.gc_collected.specs.Internal.Follows.{Follows}
 use Rattle.gc_collected.specs.Internal.KnownRoots.{KnowsRoots}
 use Rattle.gc_collected.proofs.Marks.{step_knows, with_row}
 use Rattle.gc_collected.proofs.collected_heap.CollectedHeap.apply_log.Goals as goal
@@ -13,11 +13,11 @@ use Rattle.gc_collected.proofs.collected_heap.CollectedHeap.apply_log.Goals as g
 pub invariant_of-self-in-Some : goal.invariant_of-self-in-Some
 invariant_of-self-in-Some c = (
   with_row c.self.invariant.0.2 (
-    let before = subst (λ o. KnowsRoots c.self.inside.known (state_of c.self.inside.heap (option_map collection_in o))) c.in-Some.is c.self.invariant.0.1 in (
-      c.apply_log.ensures.belongs,
-      subst (KnowsRoots c.self.inside.known) (ap (λ (x : StepReply × State). x.1) c.apply_log.ensures.step)
-          (step_knows c.self.inside.known (open_state c.self.inside.heap c.in-Some.collection) (collection_in c.in-Some.collection) (steps.Apply c.args.m) refl (λ e. cc e) before),
-    )
-    ),
+      let before = subst (λ o. KnowsRoots c.self.inside.known (state_of c.self.inside.heap (option_map collection_in o))) c.in-Some.is c.self.invariant.0.1 in (
+        c.apply_log.ensures.belongs,
+        subst (KnowsRoots c.self.inside.known) (ap (λ (x : StepReply × State). x.1) c.apply_log.ensures.step)
+            (step_knows c.self.inside.known (open_state c.self.inside.heap c.in-Some.collection) (collection_in c.in-Some.collection) (steps.Apply c.args.m) refl (λ e. cc e) before),
+      )
+      ),
   λ on. c.apply_log.ensures.follows (subst (λ o. Follows (state_of c.self.inside.heap (option_map collection_in o)) c.self.inside.watch) c.in-Some.is (c.self.invariant.1 on)),
 )

@@ -1,21 +1,24 @@
 -- A `New` writes one slot and no field of an older object, so an open collection stays.
-use Rattle.std.proofs.Common.{◌≡◌, true, false, refl, ap, subst, ◌∙◌, arith, rules}
+use Rattle.std.proofs.Common.{◌<◌, sym, subst, arith}
 use Rattle.gc_graph.specs.declared.command.Op.TheVariants.{New}
-use Rattle.gc_along.specs.Claims.{CanMake}
-use Rattle.gc_along.specs.Events.{Made}
+use Rattle.gc_plan.specs.State.{State}
+use Rattle.gc_collected.specs.Internal.CollectedHeap.{state_in}
 use Rattle.gc_collected.proofs.Core.{core_is}
-use Rattle.gc_collected.proofs.Followed.{newly}
-use Rattle.gc_collected.proofs.OtherCommands.{slot_set, said}
+use Rattle.gc_collected.proofs.OtherCommands.{it_belongs, slot_known}
 use Rattle.gc_collected.proofs.collected_heap.CollectedHeap.new_object.Goals as goal
 
-pub invariant_of-self : goal.invariant_of-self
-invariant_of-self c = (
-  slot_set c.args.self.now.core c.self.inside.epoch c.self.inside.known c.self.inside.heap c.new_object-reply.new.self c.self.inside.collection c.args.m (New c.args.d c.args.kind c.args.len) c.new_object-reply.result (core_is c.self.view_is) c.requires c.space.ensures.sound c.new_object-reply.ensures.performs (λ none. none) (omega (arith, c.index.ensures.value, c.index.ensures.bound)) c.self.invariant.0,
-  λ on. newly c.args.self.now.core c.self.inside.epoch c.self.inside.heap c.new_object-reply.new.self c.self.inside.collection c.args.m (New c.args.d c.args.kind c.args.len) c.new_object-reply.result c.self.inside.watch c.made.new.self false c.args.d c.args.kind c.args.len refl (core_is c.self.view_is) c.is_sound.ensures.open c.is_sound.ensures.heap c.space.ensures.sound (λ none. none) c.new_object-reply.ensures.performs c.self.invariant.0.0
-      (c.heaps_have_addresses_as_names.ensures.graph c.new_object-reply.new.self c.space-2.ensures.sound) (c.heaps_have_addresses_as_names.ensures.image c.new_object-reply.new.self c.space-2.ensures.sound)
-      (subst (λ ws. c.self.inside.watch.lost ≡ false → CanMake ws c.self.inside.watch → c.made.new.self.lost ≡ false) (c.words.ensures.value ∙ ap (λ x. x.words) c.space-2.ensures.value) c.made.ensures.stays)
-      (subst (λ ws. c.made.new.self.lost ≡ false → Made ws c.self.inside.watch c.made.new.self) (c.words.ensures.value ∙ ap (λ x. x.words) c.space-2.ensures.value) c.made.ensures.made) (c.self.invariant.1 on),
-)
+pub new_in-requires-clause-belongs : goal.new_in-requires-clause-belongs
+new_in-requires-clause-belongs c = it_belongs c.self.inside.epoch c.self.inside.heap c.self.inside.collection c.self.invariant.0.0
 
-pub returns-clause-step : goal.returns-clause-step
-returns-clause-step c = search (rules, said)
+pub invariant_of-self : goal.invariant_of-self
+invariant_of-self c =
+    let heap = c.self.inside.heap in
+    let o = c.self.inside.collection in
+    let less : c.args.m < heap.mutators = subst (λ (s : State). c.args.m < s.mutators) (sym (core_is c.self.view_is)) c.requires in (
+      (
+        c.new_in.ensures.fits c.self.inside.epoch c.self.invariant.0.0,
+        slot_known c.self.inside.known (state_in heap o) (state_in c.new_in.new.heap o) c.args.m (New c.args.d c.args.kind c.args.len) c.new_in.result less (omega (arith, c.index.ensures.value, c.index.ensures.bound)) c.new_in.ensures.step c.self.invariant.0.1,
+        c.self.invariant.0.2,
+      ),
+      λ on. c.new_in.ensures.follows (c.self.invariant.1 on),
+    )

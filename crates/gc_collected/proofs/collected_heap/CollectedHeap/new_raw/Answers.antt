@@ -1,5 +1,5 @@
--- A `NewRaw` writes one slot and no field of an older object, so an open collection stays.
-use Rattle.std.proofs.Common.{◌≡◌, true, false, refl, ap, subst, ◌∙◌, arith, rules}
+-- A `NewRaw` writes one slot and no field of an older object, so an open collection stays, and the monitor is told of the new object.
+use Rattle.std.proofs.Common.{◌≡◌, true, false, refl, ap, subst, ◌∙◌, arith}
 use Rattle.gc_graph.specs.declared.command.Op.TheVariants.{NewRaw}
 use Rattle.gc_along.specs.Claims.{CanMake}
 use Rattle.gc_along.specs.Events.{Made}
@@ -18,4 +18,4 @@ invariant_of-self c = (
 )
 
 pub returns-clause-step : goal.returns-clause-step
-returns-clause-step c = search (rules, said)
+returns-clause-step c = said c.args.self.now.core c.self.inside.epoch c.self.inside.heap c.new_raw-reply.new.self c.self.inside.collection c.args.m (NewRaw c.args.d c.args.kind c.args.len) c.new_raw-reply.result (core_is c.self.view_is) c.self.invariant.0.0 c.space.ensures.sound (λ none. none) c.new_raw-reply.ensures.performs

@@ -1,6 +1,5 @@
 -- A heap that was just opened has no links and no root but nil ones, the row for moved roots has room for all of them, and the monitor follows it.
-use Rattle.std.proofs.lemmas.Grind.{common_steps}
-use Rattle.std.proofs.Common.{◌≡◌, ◌≤◌, ℕ, List, length, refl, arith, ap, sym, subst, ◌∙◌}
+use Rattle.std.proofs.Common.{◌≡◌, ◌≤◌, ℕ, List, length, refl, arith, ap, sym, ◌∙◌}
 use Rattle.gc_heap.specs.Heap.{HeapWords, roomy_in}
 use Rattle.gc_heap.specs.ExtraRoots.{CanOpen, opening_with}
 use Rattle.gc_heap.specs.declared.options.HeapOptions.{HeapOptions}
@@ -8,8 +7,8 @@ use Rattle.gc_graph.specs.Machine.{Roomy}
 use Rattle.gc_along.specs.Tables.{Tables}
 use Rattle.gc_along.specs.Events.{opening_tables}
 use Rattle.gc_copy.specs.Words.{idle_state}
-use Rattle.gc_beside.specs.Follows.{Follows}
-use Rattle.gc_beside.proofs.Public.{follows_opening}
+use Rattle.gc_collected.specs.Internal.Follows.{Follows}
+use Rattle.gc_collected.proofs.Monitor.Follows.{follows_opening}
 use Rattle.gc_collected.specs.declared.known.KnownRoots.{KnownRoots}
 use Rattle.gc_collected.proofs.Marks.{no_links, opening_knows}
 use Rattle.gc_collected.proofs.collected_heap.CollectedHeap.open_with.Goals as goal

@@ -6,5 +6,5 @@ use Rattle.gc_world.proofs.world.World.mutate.Goals as goal
 
 pub invariant_of-self-2 : goal.invariant_of-self-2
 invariant_of-self-2 c =
-    commanded c.self.inside.heap c.mutate.new.self c.args.self.now _ c.args.m c.args.op.now c.in_ok-reply.reply (subst (IsWorld c.self.inside.heap) c.self.view_is c.self.invariant) c.requires c.record_command.ensures.command c.in_ok-reply.ensures.step
+    commanded c.self.inside.heap.core c.mutate.new.self.core c.args.self.now _ c.args.m c.args.op.now c.in_ok-reply.reply (subst (IsWorld c.self.inside.heap.core) c.self.view_is c.self.invariant) c.requires c.record_command.ensures.command c.in_ok-reply.ensures.step
     (rw (c.record_command.ensures.entry, c.make_room.ensures.items, c.in_ok-reply.ensures.mutators, ← c.self.view_is) refl) (rw (← c.self.view_is) refl)

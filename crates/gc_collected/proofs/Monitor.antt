@@ -1,0 +1,23 @@
+-- A monitor beside a collection: what events do to its watch, what its tables know, and that it follows the heap.
+pub mod Agree
+pub mod Beside
+pub mod Brought
+pub mod Claimed
+pub mod CommandsKnown
+pub mod EndsKnown
+pub mod Events
+pub mod Follows
+pub mod FollowsEnds
+pub mod FollowsSteps
+pub mod Grown
+pub mod Growth
+pub mod Known
+pub mod Leads
+pub mod Ran
+pub mod Ready
+pub mod SameSteps
+pub mod Shown
+pub mod Stays
+pub mod StepsKnown
+pub mod Told
+pub mod Words

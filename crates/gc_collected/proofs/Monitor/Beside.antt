@@ -1,0 +1,105 @@
+-- The tables of a standing checker beside a heap's state, through the collector's steps.
+use Rattle.std.proofs.lemmas.Grind.{common_steps}
+use Rattle.std.specs.Option.{option_map}
+use Rattle.std.proofs.Common.{◌≡◌, inl, inr, ⊎_elim, ℕ, suc, ◌==◌, Bool, true, false, cond, ◌||◌, List, ◌∷◌, map, length, Option, Some, None, is_some, refl, ap, sym, ◌∙◌, subst, arith}
+use Rattle.std.proofs.lemmas.Bool.{cases_Bool, cond-true, cond-false, eqb-true}
+use Rattle.gc_plan.specs.State.{Replica, Collection, State, heap_end, new_end, replica_of, replica_at}
+use Rattle.gc_plan.specs.Steps.{with_log, place_replica, bring_up_to_date, with_collection, if_room, root_target, copy_root, scan_done, scan, scan_replica, next_object, apply_entry, apply_log, next_field}
+use Rattle.gc_plan.specs.Members.{In}
+use Rattle.gc_plan.specs.Belonging.{IsOpened, IsSpaceGraph}
+use Rattle.gc_plan.specs.declared.step.StepReply.{StepReply}
+use Rattle.gc_plan.specs.declared.step.StepReply.TheVariants.{Clean, NoRoom, Copied, Passed, Scanned, Applied}
+use Rattle.gc_plan.proofs.Public.{in_map, in_map_from, find_some, in_left, pair}
+use Rattle.gc_collected.specs.Internal.Stays.{LosesOnly}
+use Rattle.gc_along.specs.Tables.{Tables, watch_of}
+use Rattle.gc_along.specs.Events.{Placed, Looked, Applied as AppliedTo}
+use Rattle.gc_collected.specs.Internal.Beside.{replica_words}
+use Rattle.gc_collected.proofs.Monitor.Events.{Goes, roots_copied, field_scanned, replica_passed, entry_applied}
+use Rattle.gc_collected.proofs.Monitor.Growth.{IsAdded, HasSame, Adds, adds_none, adds_placed, adds_brought, adds_alike}
+use Rattle.gc_collected.proofs.Monitor.Told.{ShowsReplicas, shows_replicas, Told, told_placed, told_looked, told_applied}
+
+-- an original keeps its replica's place
+pub pair_stays : (c next : Collection) (r : Replica) → Adds c next → In r c.replicas → (q : Replica) × In q next.replicas × (pair q ≡ pair r)
+pair_stays c next r adds l = in_map_from pair (pair r) next.replicas (⊎_elim
+    (λ (h : HasSame c next). subst (In (pair r)) (sym h.pairs) (in_map pair r c.replicas l))
+    (λ (h : (r : Replica) × IsAdded c next r). subst (In (pair r)) (sym h.1.pairs) (in_left (pair r) (map pair c.replicas) _ (in_map pair r c.replicas l)))
+    adds)
+
+module _ (s : State) (c : Collection) (t : Tables) (heap : IsSpaceGraph s.size s.heap.free s.heap.graph) (opened : IsOpened s c) (goes : Goes s c (watch_of t)) where
+  shown : (next : Collection) → IsOpened s next → ShowsReplicas next (replica_words next)
+  shown next k = shows_replicas s next heap k
+
+  told_by : (old : List ℕ) (next : Collection) (after : Tables) → IsOpened s next → Adds c next → Placed old (replica_words next) t after → Told (heap_end s) c next t after
+  told_by old next after k adds is = told_placed (heap_end s) c next (replica_words next) t goes.fits (shown next k) old after adds is
+
+  pub roots_go : (old : List ℕ) (after : Tables) (next : Collection) (s' : State) → IsOpened s next → copy_root s c (root_target c s.heap.graph) ≡ (Copied, s') → s'.collection ≡ Some next
+      → Placed old (replica_words next) t after → Goes s next (watch_of after)
+  roots_go old after next s' k said is placed = go (root_target c s.heap.graph) refl said
+    where
+      adds : (name : ℕ) (o : Option Collection) → place_replica c name (Rattle.gc_graph.specs.Graph.lookup s.heap.graph.objects name) ≡ o → if_room s Copied o ≡ (Copied, s') → Adds c next
+      adds name None e u = absurd (let no : NoRoom ≡ Copied = ap (λ (x : StepReply × State). x.0) u in cc)
+      adds name (Some d) e u = grind (arith, common_steps, adds_placed)
+
+      go : (o : Option ℕ) → root_target c s.heap.graph ≡ o → copy_root s c o ≡ (Copied, s') → Goes s next (watch_of after)
+      go None e u = absurd (let no : Clean ≡ Copied = ap (λ (x : StepReply × State). x.0) u in cc)
+      go (Some name) e u =
+          let h = told_by old next after k (adds name _ refl u) placed in
+          roots_copied s s' c next (watch_of t) (watch_of after) opened goes said is h.0 h.1
+
+  pub scan_go : (old : List ℕ) (mid after : Tables) (next : Collection) (s' : State) → IsOpened s next → scan s c ≡ (Scanned, s') → s'.collection ≡ Some next
+      → Placed old (replica_words next) t mid → Looked old (replica_words next) c.scan_place c.scan_field mid after → Goes s next (watch_of after)
+  scan_go old mid after next s' k said is placed looked = start (scan_done c) said
+    where
+      at_replica : (r : Replica) → replica_at c c.scan_place ≡ Some r → (o : Option Collection) → bring_up_to_date c s.heap.graph r.original c.scan_field ≡ o → if_room s Scanned (option_map next_field o) ≡ (Scanned, s') → Goes s next (watch_of after)
+      at_replica r found None e u = absurd (let no : NoRoom ≡ Scanned = ap (λ (x : StepReply × State). x.0) u in cc)
+      at_replica r found (Some d) e u =
+          let came : record d { scan_field = suc d.scan_field } ≡ next = (let a : Some (record d { scan_field = suc d.scan_field }) ≡ s'.collection = ap (λ (x : StepReply × State). x.1.collection) u in cc) in
+          let rs : next.replicas ≡ d.replicas = sym (ap (λ (x : Collection). x.replicas) came) in
+          let adds : Adds c next = adds_alike c d next rs (adds_brought c d s.heap.graph r.original c.scan_field e) in
+          let f = find_some (λ (r : Replica). r.place == c.scan_place) c.replicas r found in
+          let q = pair_stays c next r adds f.0 in
+          let place : q.0.place ≡ c.scan_place = ap (λ (p : ℕ × ℕ). p.1) q.2 ∙ eqb-true r.place c.scan_place f.1 in
+          let h = told_by old next mid k adds placed in
+          let l = told_looked (heap_end s) (new_end c) (watch_of t) next (replica_words next) (shown next k) old mid after q.0 c.scan_place c.scan_field q.1 place h.0 h.1 looked in
+          field_scanned s s' c next r (watch_of t) (watch_of after) opened goes found said is l.0 (subst (λ n. LosesOnly (new_end c) n c.scan_field (watch_of t) next (watch_of after)) (ap (λ (p : ℕ × ℕ). p.0) q.2) l.1)
+
+      at : (o : Option Replica) → replica_at c c.scan_place ≡ o → scan_replica s c o ≡ (Scanned, s') → Goes s next (watch_of after)
+      at None e u = absurd (let no : Clean ≡ Scanned = ap (λ (x : StepReply × State). x.0) u in cc)
+      at (Some r) e u = elim (cases_Bool (r.object.raw || (c.scan_field == length r.object.fields))) [
+        | inl y ↦ absurd (let no : Passed ≡ Scanned = ap (λ (x : StepReply × State). x.0) (sym (cond-true _ (Passed, with_collection s (Some (next_object c r))) (if_room s Scanned (option_map next_field (bring_up_to_date c s.heap.graph r.original c.scan_field))) y) ∙ u) in cc)
+        | inr n ↦ at_replica r e _ refl (sym (cond-false _ (Passed, with_collection s (Some (next_object c r))) (if_room s Scanned (option_map next_field (bring_up_to_date c s.heap.graph r.original c.scan_field))) n) ∙ u)
+      ]
+
+      start : (b : Bool) → cond b (Clean, s) (scan_replica s c (replica_at c c.scan_place)) ≡ (Scanned, s') → Goes s next (watch_of after)
+      start true u = absurd (let no : Clean ≡ Scanned = ap (λ (x : StepReply × State). x.0) u in cc)
+      start false u = at (replica_at c c.scan_place) refl u
+
+  pub passed_go : (next : Collection) (s' : State) → scan s c ≡ (Passed, s') → s'.collection ≡ Some next → Goes s next (watch_of t)
+  passed_go next s' said is = grind (arith, common_steps, replica_passed)
+
+  pub apply_go : (old : List ℕ) (mid after : Tables) (m : ℕ) (entry : ℕ × ℕ) (rest : List (ℕ × ℕ)) (next : Collection) (s' : State) → IsOpened s next → apply_log s c m (entry ∷ rest) ≡ (Applied, s') → s'.collection ≡ Some next
+      → Placed old (replica_words next) t mid → AppliedTo old (replica_words next) entry.0 entry.1 mid after → Goes s next (watch_of after)
+  apply_go old mid after m entry rest next s' k said is placed applied =
+      let h = told_by old next mid k adds placed in
+      let l = told_applied (heap_end s) (new_end c) (watch_of t) next (replica_words next) (shown next k) old mid after entry.0 entry.1 h.0 h.1 applied in
+      entry_applied s s' c next m entry rest (watch_of t) (watch_of after) opened goes said is l.0 l.1
+    where
+      c' : Collection
+      c' = with_log c m rest
+
+      with_old : (d : Collection) → Adds c' d → Adds c d
+      with_old d (inl h) = inl (record { pairs = h.pairs; end = h.end })
+      with_old d (inr h) = inr (h.0, record { there = h.1.there; place = h.1.place; pairs = h.1.pairs; end = h.1.end })
+
+      added : (d : Collection) (b : Bool) → cond b (bring_up_to_date c' s.heap.graph entry.0 entry.1) (Some c') ≡ Some d → Adds c' d
+      added d true e = adds_brought c' d s.heap.graph entry.0 entry.1 e
+      added d false e = let same : c' ≡ d = cc e in subst (Adds c') same (adds_none c')
+
+      at : (o : Option Collection) → apply_entry c' s.heap.graph entry ≡ o → if_room s Applied o ≡ (Applied, s') → Adds c next
+      at None e u = absurd (let no : NoRoom ≡ Applied = ap (λ (x : StepReply × State). x.0) u in cc)
+      at (Some d) e u =
+          let came : d ≡ next = (let a : Some d ≡ s'.collection = ap (λ (x : StepReply × State). x.1.collection) u in cc) in
+          subst (Adds c) came (with_old d (added d (is_some (replica_of c entry.0)) e))
+
+      adds : Adds c next
+      adds = at (apply_entry c' s.heap.graph entry) refl said

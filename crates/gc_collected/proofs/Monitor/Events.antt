@@ -1,0 +1,137 @@
+-- The core's steps and commands, with what the watch may lose and has to mark at each.
+use Rattle.std.proofs.lemmas.Grind.{common_steps}
+use Rattle.std.specs.Option.{option_map}
+use Rattle.std.proofs.Common.{◌≡◌, ◌⊎◌, inr, ⊎_elim, ℕ, suc, ◌==◌, nat_lt, Bool, true, false, cond, ◌||◌, List, ◌∷◌, length, flat_map, Option, Some, None, is_some, refl, ap, sym, ◌∙◌, subst, arith}
+use Rattle.std.proofs.lemmas.Bool.{cases_Bool, cond-true, cond-false, cond_both}
+use Rattle.gc_graph.specs.Graph.{lookup, names_of}
+use Rattle.gc_graph.specs.Machine.{Roomy, words_taken, roomy_step}
+use Rattle.gc_graph.specs.declared.command.Op.{Op}
+use Rattle.gc_graph.specs.declared.reply.Reply.{Reply}
+use Rattle.gc_plan.specs.State.{Replica, Collection, State, heap_end, new_end, replica_of, replica_at}
+use Rattle.gc_plan.specs.Steps.{written, log_at, with_log, mutate, place_replica, bring_up_to_date, with_collection, if_room, root_target, copy_root, scan_done, scan, scan_replica, next_object, apply_entry, apply_log, next_field}
+use Rattle.gc_plan.specs.Members.{In}
+use Rattle.gc_plan.specs.Belonging.{IsOpened}
+use Rattle.gc_plan.specs.declared.step.StepReply.{StepReply}
+use Rattle.gc_plan.specs.declared.step.StepReply.TheVariants.{Clean, NoRoom, Copied, Passed, Scanned, Applied}
+use Rattle.gc_plan.proofs.Public.{Evolves, WrittenBy, unchanged, step_evolves, replicas_due, unreplicated_some, no_replica, AreReplicas}
+use Rattle.gc_words.proofs.Public.{none_of}
+use Rattle.gc_along.specs.Watch.{Watch}
+use Rattle.gc_collected.specs.Internal.Stays.{DueFor, WatchFits, GoesAlong, LosesOnly, LosesNone, MarksWritten}
+use Rattle.gc_collected.proofs.Monitor.Stays.{Sound, sound, watched, brought, placed_next, commanded, moved_on}
+
+-- the watch goes along with this collection of the state's heap
+abbrev pub Goes : State → Collection → Watch → Type 0
+Goes s c w = GoesAlong s.heap.graph.objects (heap_end s) c w
+
+-- what fits a collection fits one with the same replicas
+refit : (end : ℕ) (c next : Collection) (w : Watch) → next.replicas ≡ c.replicas → WatchFits end next w → WatchFits end c w
+refit end c next w same f = grind (arith, common_steps)
+
+abbrev Gives : StepReply × State → StepReply → State → Type 0
+Gives x said s' = x ≡ (said, s')
+
+-- the collection after a step with this reply
+came_of : (s s' : State) (reply said : StepReply) (d next : Collection) → Gives (reply, with_collection s (Some d)) said s' → s'.collection ≡ Some next → d ≡ next
+came_of s s' reply said d next h is = let e : Some d ≡ Some next = ap (λ (x : StepReply × State). x.1.collection) h ∙ is in cc
+
+-- ---- `Roots`
+
+pub roots_copied : (s s' : State) (c next : Collection) (w later : Watch) → IsOpened s c → Goes s c w
+    → copy_root s c (root_target c s.heap.graph) ≡ (Copied, s') → s'.collection ≡ Some next
+    → WatchFits (heap_end s) next later → LosesNone (new_end c) w next later → Goes s next later
+roots_copied s s' c next w later k h said is fits loses = go (root_target c s.heap.graph) refl said
+  where
+    at : (name : ℕ) → replica_of c name ≡ None → (o : Option Collection) → place_replica c name (lookup s.heap.graph.objects name) ≡ o → if_room s Copied o ≡ (Copied, s') → Goes s next later
+    at name none None e t = absurd (let no : NoRoom ≡ Copied = ap (λ (x : StepReply × State). x.0) t in cc)
+    at name none (Some d) e t = placed_next s.heap.graph.objects (heap_end s) c next w later name (sound s.heap.graph.objects c k.belongs) h none (e ∙ ap Some (came_of s s' Copied Copied d next t is)) fits loses
+
+    go : (t : Option ℕ) → root_target c s.heap.graph ≡ t → copy_root s c t ≡ (Copied, s') → Goes s next later
+    go None e t = absurd (let no : Clean ≡ Copied = ap (λ (x : StepReply × State). x.0) t in cc)
+    go (Some name) e t = at name (unreplicated_some c (flat_map names_of s.heap.graph.roots) name e).0 (place_replica c name (lookup s.heap.graph.objects name)) refl t
+
+-- ---- `Scan`
+
+scan_before_end : (s s' : State) (c : Collection) (r : Replica) (reply : StepReply) → replica_at c c.scan_place ≡ Some r → (scan_done c ≡ true → Gives (Clean, s) reply s' → ⊥)
+    → scan s c ≡ (reply, s') → scan_replica s c (Some r) ≡ (reply, s')
+scan_before_end s s' c r reply found other said = grind (arith, common_steps, cond-true, cond-false, cases_Bool)
+
+pub field_scanned : (s s' : State) (c next : Collection) (r : Replica) (w later : Watch) → IsOpened s c → Goes s c w
+    → replica_at c c.scan_place ≡ Some r → scan s c ≡ (Scanned, s') → s'.collection ≡ Some next
+    → WatchFits (heap_end s) next later → LosesOnly (new_end c) r.original c.scan_field w next later → Goes s next later
+field_scanned s s' c next r w later k h found said is fits loses = go (r.object.raw || (c.scan_field == length r.object.fields)) (scan_before_end s s' c r Scanned found (λ u t. (let no : Clean ≡ Scanned = ap (λ (x : StepReply × State). x.0) t in cc)) said)
+  where
+    at : (o : Option Collection) → bring_up_to_date c s.heap.graph r.original c.scan_field ≡ o → if_room s Scanned (option_map next_field o) ≡ (Scanned, s') → Goes s next later
+    at None e t = absurd (let no : NoRoom ≡ Scanned = ap (λ (x : StepReply × State). x.0) t in cc)
+    at (Some n) e t =
+        let same : record n { scan_field = suc n.scan_field } ≡ next = came_of s s' Scanned Scanned (record n { scan_field = suc n.scan_field }) next t is in
+        let rs : next.replicas ≡ n.replicas = sym (ap (λ (x : Collection). x.replicas) same) in
+        moved_on s.heap.graph.objects (heap_end s) n next later rs
+        (brought s.heap.graph (heap_end s) c n w later r.original c.scan_field (sound s.heap.graph.objects c k.belongs) h e (refit (heap_end s) n next later rs fits)
+        (λ q l. loses q (subst (In q) (sym rs) l)))
+
+    go : (b : Bool) → cond b (Passed, with_collection s (Some (next_object c r))) (if_room s Scanned (option_map next_field (bring_up_to_date c s.heap.graph r.original c.scan_field))) ≡ (Scanned, s') → Goes s next later
+    go true t = absurd (let no : Passed ≡ Scanned = ap (λ (x : StepReply × State). x.0) t in cc)
+    go false t = at (bring_up_to_date c s.heap.graph r.original c.scan_field) refl t
+
+pub replica_passed : (s s' : State) (c next : Collection) (r : Replica) (w : Watch) → Goes s c w
+    → replica_at c c.scan_place ≡ Some r → scan s c ≡ (Passed, s') → s'.collection ≡ Some next → Goes s next w
+replica_passed s s' c next r w h found said is = grind (arith, common_steps, scan_before_end, moved_on, came_of)
+
+-- ---- `Apply`
+
+pub entry_applied : (s s' : State) (c next : Collection) (m : ℕ) (entry : ℕ × ℕ) (rest : List (ℕ × ℕ)) (w later : Watch) → IsOpened s c → Goes s c w
+    → apply_log s c m (entry ∷ rest) ≡ (Applied, s') → s'.collection ≡ Some next
+    → WatchFits (heap_end s) next later → LosesOnly (new_end c) entry.0 entry.1 w next later → Goes s next later
+entry_applied s s' c next m entry rest w later k h said is fits loses = at (apply_entry c' s.heap.graph entry) refl said
+  where
+    c' : Collection
+    c' = with_log c m rest
+
+    fine : Sound s.heap.graph.objects c'
+    fine = let f = sound s.heap.graph.objects c k.belongs in record { laid = f.laid; room = f.room; once = f.once; numbers = f.numbers }
+
+    there : Goes s c' w
+    there = moved_on s.heap.graph.objects (heap_end s) c c' w refl h
+
+    -- an entry of an object without a replica
+    skipped : replica_of c entry.0 ≡ None → c' ≡ next → Goes s next later
+    skipped none same =
+        let rs : next.replicas ≡ c.replicas = sym (ap (λ (x : Collection). x.replicas) same) in
+        let ok : AreReplicas s.heap.graph.objects c.size (DueFor later) c.replicas =
+        replicas_due s.heap.graph.objects c.size (DueFor w) (DueFor later) c.replicas (watched s.heap.graph.objects (heap_end s) c w (sound s.heap.graph.objects c k.belongs) h)
+        (λ r l j n d. ⊎_elim (λ x. absurd (no_replica c entry.0 r none l x.0)) (λ x. x) (loses r (subst (In r) (sym rs) l) j n (inr d))) in
+        moved_on s.heap.graph.objects (heap_end s) c next later rs (record { fits = refit (heap_end s) c next later rs fits; replicas = ok.each })
+
+    go : (d : Collection) → d ≡ next → (b : Bool) → is_some (replica_of c entry.0) ≡ b → cond b (bring_up_to_date c' s.heap.graph entry.0 entry.1) (Some c') ≡ Some d → Goes s next later
+    go d same true t f = brought s.heap.graph (heap_end s) c' next w later entry.0 entry.1 fine there (f ∙ ap Some same) fits loses
+    go d same false t f = skipped (none_of (replica_of c entry.0) t) (let e : c' ≡ d = cc f in e ∙ same)
+
+    at : (o : Option Collection) → apply_entry c' s.heap.graph entry ≡ o → if_room s Applied o ≡ (Applied, s') → Goes s next later
+    at None e t = absurd (let no : NoRoom ≡ Applied = ap (λ (x : StepReply × State). x.0) t in cc)
+    at (Some d) e t = go d (came_of s s' Applied Applied d next t is) (is_some (replica_of c entry.0)) refl e
+
+-- ---- commands
+
+pub command_evolves : (h : Roomy) (m : ℕ) (op : Op) (name : ℕ) → (let next = roomy_step h m op name in Evolves h.graph.objects next.1.graph.objects (WrittenBy h.graph m op next.0))
+command_evolves h m op name =
+    cond_both (nat_lt h.free (words_taken op)) _ _ (λ (next : Reply × Roomy). Evolves h.graph.objects next.1.graph.objects (WrittenBy h.graph m op next.0))
+    (λ full. unchanged h.graph.objects _)
+    (λ fits. step_evolves h.graph m op name)
+
+pub command_made : (s s' : State) (c next : Collection) (m : ℕ) (op : Op) (reply : Reply) (w later : Watch) → IsOpened s c → Goes s c w
+    → s.collection ≡ Some c → mutate s m op ≡ (reply, s') → s'.collection ≡ Some next
+    → WatchFits (heap_end s') next later → MarksWritten (WrittenBy s.heap.graph m op reply) w c later → Goes s' next later
+command_made s s' c next m op reply w later k h before said is fits marks =
+    let made = roomy_step s.heap m op (heap_end s) in
+    let reply_is : made.0 ≡ reply = ap (λ (x : Reply × State). x.0) said in
+    let heap_is : made.1 ≡ s'.heap = ap (λ (x : Reply × State). x.1.heap) said in
+    let same : Some (with_log c m (Rattle.std.proofs.Common.◌++◌ (log_at c m) (written s.heap.graph m op made.0))) ≡ Some next
+    = ap (λ o. Rattle.gc_plan.specs.Steps.logged o m (written s.heap.graph m op made.0)) (sym before) ∙ (ap (λ (x : Reply × State). x.1.collection) said ∙ is) in
+    let one : with_log c m (Rattle.std.proofs.Common.◌++◌ (log_at c m) (written s.heap.graph m op made.0)) ≡ next = cc same in
+    let rs : next.replicas ≡ c.replicas = sym (ap (λ (x : Collection). x.replicas) one) in
+    let evolves : Evolves s.heap.graph.objects s'.heap.graph.objects (WrittenBy s.heap.graph m op reply)
+    = subst (λ (x : Reply). Evolves s.heap.graph.objects s'.heap.graph.objects (WrittenBy s.heap.graph m op x)) reply_is
+    (subst (λ (x : Roomy). Evolves s.heap.graph.objects x.graph.objects (WrittenBy s.heap.graph m op made.0)) heap_is (command_evolves s.heap m op (heap_end s))) in
+    moved_on s'.heap.graph.objects (heap_end s') c next later rs
+    (commanded s.heap.graph.objects s'.heap.graph.objects (WrittenBy s.heap.graph m op reply) (heap_end s) (heap_end s') c w later (sound s.heap.graph.objects c k.belongs) h evolves
+    (refit (heap_end s') c next later rs fits) marks)

@@ -1,0 +1,17 @@
+-- The collector's steps whose reply says that they did nothing.
+use Rattle.std.proofs.lemmas.Grind.{common_steps}
+use Rattle.std.proofs.Common.{◌≡◌, ◌⊎◌, ℕ, Some, arith}
+use Rattle.gc_plan.specs.State.{Collection, State}
+use Rattle.gc_plan.specs.Steps.{collect}
+use Rattle.gc_plan.specs.declared.step.Step.TheVariants as steps
+use Rattle.gc_plan.specs.declared.step.StepReply.{StepReply}
+use Rattle.gc_plan.specs.declared.step.StepReply.TheVariants.{Copied, Passed, Scanned, Applied}
+
+pub roots_or_same : (s s' : State) (reply : StepReply) → collect s steps.Roots ≡ (reply, s') → (reply ≡ Copied → ⊥) → s' ≡ s
+roots_or_same s s' reply said other = grind (arith, common_steps)
+
+pub scan_or_same : (s s' : State) (reply : StepReply) → collect s steps.Scan ≡ (reply, s') → (reply ≡ Scanned → ⊥) → (s' ≡ s) ⊎ ((reply ≡ Passed) × (next : Collection) × (s'.collection ≡ Some next))
+scan_or_same s s' reply said other = grind (arith, common_steps)
+
+pub apply_or_same : (s s' : State) (m : ℕ) (reply : StepReply) → collect s (steps.Apply m) ≡ (reply, s') → (reply ≡ Applied → ⊥) → s' ≡ s
+apply_or_same s s' m reply said other = grind (arith, common_steps)

@@ -1,0 +1,44 @@
+-- A monitor that follows a collected heap goes on following it where extra roots become nil, or a root takes a reference: no object changes.
+use Rattle.std.proofs.Common.{◌≡◌, inl, ℕ, zero, suc, refl, subst, sym}
+use Rattle.std.specs.Prelude.{IfSome}
+use Rattle.gc_graph.specs.declared.command.Op.TheVariants.{Nil}
+use Rattle.gc_graph.specs.declared.reply.Reply.{Reply}
+use Rattle.gc_heap.specs.ExtraRoots.{extra_slot}
+use Rattle.gc_plan.specs.State.{State}
+use Rattle.gc_plan.specs.Steps.{mutate}
+use Rattle.gc_plan.specs.Belonging.{IsOpened}
+use Rattle.gc_plan.proofs.Public.{WrittenBy}
+use Rattle.gc_along.specs.Tables.{Tables}
+use Rattle.gc_collected.specs.ExtraRoots.{clear_step}
+use Rattle.gc_collected.specs.Referring.{with_reference}
+use Rattle.gc_collected.specs.Internal.Follows.{Follows}
+use Rattle.gc_collected.proofs.Monitor.Follows.{follows_quiet}
+use Rattle.gc_collected.proofs.Monitor.Ran.{Ran, ran_none, ran_on, ran_one}
+
+-- no field was written
+abbrev Never : ℕ → ℕ → Type 0
+Never a i = ⊥
+
+-- ---- extra roots are cleared
+
+clear_ran : (n : ℕ) (s : State) (k : ℕ) → Ran s (clear_step s k n) Never
+clear_ran zero s k = ran_none s Never
+clear_ran (suc n) s k =
+    let op = Nil (extra_slot s.mutators 0 k) in
+    let one : Reply × State = mutate s 0 op in
+    ran_on s one.1 (clear_step one.1 (suc k) n) (WrittenBy s.heap.graph 0 op one.0) Never Never (λ a i w. w) (λ a i w. w) (ran_one s one.1 0 op one.0 refl refl) (clear_ran n one.1 (suc k))
+
+pub follows_cleared : (s s' : State) (k n : ℕ) (t : Tables) → IfSome s.collection (IsOpened s) → clear_step s k n ≡ s' → Follows s t → Follows s' t
+follows_cleared s s' k n t is_open is = follows_quiet s s' t Never is_open (subst (λ (x : State). Ran s x Never) is (clear_ran n s k)) (λ a i w. w)
+
+-- ---- a root takes a reference
+
+refer_ran : (s : State) (p a : ℕ) → Ran s (with_reference s p a) Never
+refer_ran s p a = let same = ran_none s Never in record {
+  leads = record { collection = same.leads.collection; evolves = same.leads.evolves };
+  end = refl;
+  on = record { mutators = refl; size = refl; collection = same.on.collection; names = λ b n. inl n; kept = λ b n. n };
+}
+
+pub follows_referred : (s s' : State) (p a : ℕ) (t : Tables) → IfSome s.collection (IsOpened s) → s' ≡ with_reference s p a → Follows s t → Follows s' t
+follows_referred s s' p a t is_open is = follows_quiet s s' t Never is_open (subst (λ (x : State). Ran s x Never) (sym is) (refer_ran s p a)) (λ b i w. w)
