@@ -1,10 +1,9 @@
 -- The memory that waits after useful steps: only the first opens a collection, and only the last flips.
 use Rattle.std.proofs.lemmas.Grind.{common_steps}
-use Rattle.std.proofs.Common.{◌≡◌, ◌⊎◌, ⊎_elim, inl, inr, ℕ, zero, suc, ◌-◌, Bool, true, false, cond, List, [], ◌∷◌, length, Option, Some, None, is_some, Result, Ok, Err, ◌<◌, ◌≤◌, refl, sym, ap, ◌∙◌, subst, arith}
-use Rattle.std.specs.Prelude.{IfOk, IfSome, IsSome, OnErr, IsTrue, ⊤}
-use Rattle.std.specs.Option.{option_map, option_map_or, unwrap_or}
+use Rattle.std.proofs.Common.{◌≡◌, ⊎_elim, inl, inr, ℕ, zero, suc, ◌-◌, Bool, true, false, cond, List, length, Option, Some, None, is_some, Result, Ok, Err, ◌≤◌, refl, sym, ap, ◌∙◌, subst, arith}
+use Rattle.std.specs.Prelude.{IfOk, IfSome, OnErr, IsTrue, ⊤}
+use Rattle.std.specs.Option.{option_map_or, unwrap_or}
 use Rattle.std.proofs.lemmas.Bool.{cond_both}
-use Rattle.gc_graph.specs.Graph.{Value, Object, Graph}
 use Rattle.gc_plan.specs.State.{Collection, State, replica_at}
 use Rattle.gc_plan.specs.Steps.{scan_done, root_target, is_ready, passes_check, useful_with, log_at, if_room, copy_root, scan_replica, apply_log, flipped, step_in, step_idle, collect}
 use Rattle.gc_plan.specs.declared.step.Step.{Step}
