@@ -655,7 +655,7 @@ def architecture(_program, _folder):
 
 
 # Words that the documents use in one sense, beside those that README and docs/EMBEDDING.md introduce.
-IN_ONE_SENSE = {"extra root", "frame", "pace", "standing checker", "snapshot"}
+IN_ONE_SENSE = {"extra root", "frame", "monitor", "pace", "room", "standing checker", "snapshot"}
 
 
 def glossary(_program, _folder):
