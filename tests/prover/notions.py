@@ -5,8 +5,8 @@ import os
 from .crates import CRATES, TOP, crates_listed
 
 DOCUMENT = os.path.join(TOP, "docs", "ARCHITECTURE.md")
-BEGIN = "<!-- tools/notions --write makes this table. -->\n"
-END = "<!-- The table ends here. -->\n"
+BEGIN = "<!-- tools/notions --write makes this table. -->\n\n"
+END = "\n<!-- The table ends here. -->\n"
 HEAD = "| file | its first comment |\n|---|---|\n"
 # Files that only list modules.
 LISTS = {"Lib", "Internal"}
