@@ -646,7 +646,11 @@ def architecture(_program, _folder):
     jobs = {cells[-2].strip(" |"): cells[-1:] for cells in rows_behind("docs/ARCHITECTURE.md", "# Architecture")}
     wrong = [crate for crate in crates_listed() if not (len(jobs.get(crate, [])) == 1 and re.search(r"[a-z]{2}", jobs[crate][0]))]
     yield "jobs of crates", ", ".join(wrong) or None
-    yield "the table of tools/notions", "; ".join(notions.faults()) or None
+    yield "the table of tools/notions", "; ".join(notions.faults(notions.parts()[1])) or None
+    first, second = notions.table().split("\n")[2:4]
+    for what, row in [("changed", first + " "), ("left out", ""), ("in another order", second + "\n" + first)]:
+        shown = notions.table().replace(first + "\n", row and row + "\n", 1)
+        yield "a row that is %s is found" % what, None if any(notions.faults(shown)) else "it is not"
     sources_of = [text_of(os.path.join("crates", "gcflip_heap_c", "src", name)) for name in ("handle.rt", "parts.rt")]
     bodies = [body for text in sources_of for body in re.split(r"\bfn \w+", text)[1:]]
     count = ["no", "one", "two", "three", "four", "five", "six", "seven", "eight", "nine"][len([body for body in bodies if re.search(r"\bat\b", body)])]

@@ -47,8 +47,8 @@ def parts():
     return before + begin, shown, end + behind
 
 
-def faults():
-    """Yields what is wrong: files without a first comment, files with that of another one, and rows that the document or the table alone has."""
+def faults(shown):
+    """Yields what is wrong: files without a first comment, files with that of another one, and rows that the shown table or the right one alone has."""
     known = {}
     for name, comment in rows():
         if not comment:
@@ -57,9 +57,9 @@ def faults():
     for names in known.values():
         if len(names) > 1:
             yield "%s begin with the same comment" % ", ".join(names)
-    shown, wanted = parts()[1].split("\n"), table().split("\n")
-    if shown != wanted:
-        alone = ["missing: " + row for row in wanted if row not in shown] + ["too many: " + row for row in shown if row not in wanted]
+    rows_shown, wanted = shown.split("\n"), table().split("\n")
+    if rows_shown != wanted:
+        alone = ["missing: " + row for row in wanted if row not in rows_shown] + ["too many: " + row for row in rows_shown if row not in wanted]
         yield "%s; tools/notions --write makes the table" % ("; ".join(alone) or "the rows have another order")
 
 
