@@ -28,12 +28,12 @@ use Rattle.std_alloc.proofs.BoxSteps.Form.{D, X, B, R, τ, word, handle}
 use Rattle.std_alloc.proofs.BoxSteps.Steps.{box_out, box_in}
 use Rattle.gcflip_heap_c.proofs.HeapBox.{heap_box, there}
 use Rattle.gc_plan.specs.State.{State}
-use Rattle.gc_live.specs.contracts.kept_heap.KeptHeap as Heap
+use Rattle.gc_collected.specs.contracts.collected_heap.CollectedHeap as Heap
 use Rattle.gcflip_heap_c.specs.Internal.Lending.{with_heap}
-use Rattle.gcflip_heap_c.specs.contracts.handle.GcflipHeap.kept_mut as f
+use Rattle.gcflip_heap_c.specs.contracts.handle.GcflipHeap.heap_mut as f
 use Rattle.gcflip_heap_c.specs.contracts.handle.GcflipHeap.{the_row as Handle}
-use Rattle.gcflip_heap_c.proofs.handle.GcflipHeap.kept_mut.Statement.{statement}
-use Rattle.gcflip_heap_c.proofs.handle.GcflipHeap.kept_mut.Code as code
+use Rattle.gcflip_heap_c.proofs.handle.GcflipHeap.heap_mut.Statement.{statement}
+use Rattle.gcflip_heap_c.proofs.handle.GcflipHeap.heap_mut.Code as code
 
 abbrev stayed : Stays f.ended.signature.params f.ended.kept
 stayed = (stay_dropped (mut_ref_to (0 ∷ []) tt (plain (λ _. Handle))) no, tt)
@@ -53,8 +53,8 @@ module _ (h : Handle.Denot) (rb ro b o : ℕ) (bits : Val) where
         box_in heap_box ! boxed b o w place refl $ use1 𝓛 (‵ (Handle.own_val (with_heap h w) (held ∷ []))) (id⊢ 𝓤 _) $ move ! (1 ∷ 0 ∷ []) $ fjoin ! $
         fpack ! (List Val) (λ us. fsep (cell_at full_share Handle.mir us rb ro) (Handle.own_val (with_heap h w) us)) (held ∷ []) $ done !
 
-pub kept_mut_spec : {M : Type 1} → statement M
-kept_mut_spec 𝓤 𝓛 𝓜 𝓡 wired =
+pub heap_mut_spec : {M : Type 1} → statement M
+heap_mut_spec 𝓤 𝓛 𝓜 𝓡 wired =
     let c = f.clauses 𝓛 𝓜.mem 𝓡.returns in let W = walk_of 𝓛 f.ended stayed c in let 𝓣 = tables 𝓤 𝓛.H 𝓜 𝓡 𝓡.env in
     proved 𝓛 f.ended stayed c 𝓜 𝓡 (Goes-spent_ref 𝓛 1 (0 ∷ []) tt (plain (λ _. Handle)), tt)
     f.Key.name code.function (code.unfolded 𝓤 𝓛.H 𝓜 𝓡 wired)
@@ -63,7 +63,7 @@ kept_mut_spec 𝓤 𝓛 𝓜 𝓡 wired =
     let y : W.Ghost = ((κs, qs, bounds, a, (vs, tt)), tt) in
     qed 𝓛 (((‵ (flft κ q) ⊛ ‵ ftrue) ⊛ ‵ ((MutRef (named 0) κ Handle).own_val a.0 vs) ⊛ ‵ ftrue) ∷ raw (fact 𝓤 (IsSome h.state)) ∷ []) ∵
     move ! (1 ∷ []) $ heard ! _ (λ is. let heap = there h.state is in
-    let kept : X heap_box = record { live = record { core = heap.0; beside = h.beside }; former = h.former } in
+    let kept : X heap_box = record { core = heap.0; beside = h.beside } in
     let boxed : D heap_box = record { ptr = h.at; alloc = h.alloc; value = kept } in
     split ! $ split ! $ move ! (2 ∷ []) $ split ! $ keep ! (0 ∷ 2 ∷ []) $
     enter ! _ _ _ _ _ $ alloc_all ! (λ l. pass_all ! refl ((tt, tt), tt) $
@@ -85,4 +85,4 @@ kept_mut_spec 𝓤 𝓛 𝓜 𝓡 wired =
     returns ! (look_at ! 0 refl) $ free_all ! refl $ keep ! (0 ∷ []) $
     use1 𝓛 (‵ ((MutRef (named 0) κ Heap.the_row).own_val (record { ref_ptr = (b, o); ghost_name = δ; now = kept }) (vptr b o ∷ [])) ⊛ ‵ (flft κ q) ⊛ ‵ (follows Handle Heap.the_row γ δ (with_heap h))) (id⊢ 𝓤 _) $ split ! $ move ! (1 ∷ []) $ split ! $ move ! (2 ∷ 0 ∷ 1 ∷ []) $
     suffices ! _ (ends_at 𝓛 f.ended stayed c y (vptr b o) (record { ref_ptr = (b, o); ghost_name = δ; now = kept }) (tt, tt) (tt, tt)) $
-    nothing ! $ nothing ! $ fjoin ! $ join ! $ nothing ! $ move ! (2 ∷ 0 ∷ []) $ join ! $ join ! $ frame ! $ says ! (heap.1, refl, refl) $ done !))))))
+    nothing ! $ nothing ! $ fjoin ! $ join ! $ nothing ! $ move ! (2 ∷ 0 ∷ []) $ join ! $ join ! $ frame ! $ says ! (heap.1, refl) $ done !))))))
