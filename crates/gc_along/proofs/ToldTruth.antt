@@ -365,6 +365,3 @@ pub new_more_tells : (old new more : List ℕ) (t : Tables) → Tells old new t 
 new_more_tells old new more t tells = grind (arith, common_steps, kept, seen_more, same_seen, take-append-le)
 
 -- ---- a walk over the old space anew
-
-pub walked_on : (old : List ℕ) (t after : Tables) → Made old t after → t ≡ record (opening_tables t.room) { olds = t.olds } → after ≡ record (opening_tables after.room) { olds = after.olds }
-walked_on old t after made h = grind (arith, common_steps, cases_lt)

@@ -101,18 +101,6 @@ old_goes_on old new w h is next = record {
   once = is.once;
 }
 
-pub new_goes_on : (old new : List ℕ) (w : Watch) (h : Header) → Watches old new w → IsNext w.new_seen new h → Watches old new (new_walked w h)
-new_goes_on old new w h is next = record {
-  old_seen = is.old_seen;
-  new_seen = seen_next w.new_seen new h is.new_seen next;
-  pairs = λ k d l. let p = get_or w.pairs k d in
-      grown (new_walked w h) p.1 (seen_at w.old_seen old p.0) (seen_at w.new_seen new p.1) _ _ (λ c e. e) (λ c e. kept w.new_seen new h is.new_seen next p.1 c e)
-      (watched_by w (new_walked w h) p.1 _ _ (λ c d e f i v u x y. ⊎_elim (λ t. inl (true_stays w.due (replicate (h.len + 2) false) (field_place p.1 i) t)) (λ t. inr t)) (is.pairs k d l));
-  row = length-append w.due (replicate (h.len + 2) false) ∙ (λ i. is.row i + length-replicate (h.len + 2) false i);
-  rising = is.rising;
-  once = is.once;
-}
-
 below_seen : (old new : List ℕ) (w : Watch) (p : ℕ × ℕ) → Watches old new w → (o q : Option Block) → seen_at w.new_seen new p.1 ≡ q → IsWatched w p.1 o q → p.1 < w.new_seen
 below_seen old new w p is (Some c) (Some d) e h =
     let s = stands_in (take w.new_seen new) p.1 d is.new_seen.space.walked e in

@@ -110,11 +110,6 @@ opening_tables room = record { olds = 0 ∷ []; news = 0 ∷ []; origins = 0 ∷
 abbrev pub absent_tables : Tables
 absent_tables = record { olds = []; news = []; origins = []; missing = 0; room = 0; lost = true }
 
--- the whole old space is walked, and nothing is seen of a new one
-pub record WalkedAnew (old : List ℕ) (after : Tables) : Type 0 where
-  pub count : length after.olds ≡ length old
-  pub rest : after ≡ record (opening_tables after.room) { olds = after.olds }
-
 -- the new row is the old one, and the next new space is empty
 abbrev pub flipped_tables : Tables → Tables
 flipped_tables t = record t { olds = t.news; news = 0 ∷ []; origins = 0 ∷ []; missing = 0 }

@@ -13,10 +13,7 @@ mod walking;
 mod watcher;
 mod zeros;
 
-pub use laws::{
-    due_places_are_counted, looks_keep_watching, origins_tell_pairs, the_answer_is_exact,
-    walks_keep_watching, what_is_seen_is_certified, writes_keep_watching,
-};
+pub use laws::origins_tell_pairs;
 pub use outline::Outline;
 pub use standing::Standing;
 pub use telling::{a_yes_is_sound, events_keep_telling, writes_keep_telling};

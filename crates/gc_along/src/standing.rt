@@ -63,8 +63,8 @@ impl Standing {
     ghost use Rattle.gc_along.specs.Outline.{outline_in};
     ghost use Rattle.gc_along.specs.Watch.{RootsCorrespond};
     ghost use Rattle.gc_along.specs.Tables.{IsKept};
-    ghost use Rattle.gc_along.specs.Telling.{IsMark, Tells};
-    ghost use Rattle.gc_along.specs.Events.{Made, Placed, Looked, Wrote, WroteRow, Applied, Freed, WalkedAnew, IsFieldOf, HasNoReplica, object_codes, absent_tables, opening_tables, flipped_tables, with_due};
+    ghost use Rattle.gc_along.specs.Telling.{IsMark};
+    ghost use Rattle.gc_along.specs.Events.{Made, Placed, Looked, Wrote, WroteRow, Applied, Freed, IsFieldOf, HasNoReplica, object_codes, absent_tables, opening_tables, flipped_tables, with_due};
     ghost use Rattle.gc_along.specs.Internal.Rows.{with_due_row};
     ghost use Rattle.gc_along.specs.Claims.{Accepts, CanApply, CanLook, CanMake, CanPlaceNext, CanWrite, CanWriteRow, IsLinked, OwesNone};
 
@@ -123,37 +123,6 @@ impl Standing {
         self.olds.touch();
         self.news.touch();
         self.origins.touch();
-    }
-
-    /// A collection begins. If the checker is lost, it walks over the old space anew, unless it is absent or its tables have no room for
-    /// the space.
-    pub fn begun(&mut self, old: &[u64])
-        ensures kept { IsFalse self.old.lost → self.new ≡ self.old }
-        ensures anew { IsTrue self.old.lost → IsFalse self.new.lost → WalkedAnew old.now self.new }
-        ensures tells { IsTrue self.old.lost → IsFalse self.new.lost → slice_index old.now 0 ≡ 0 → Tells old.now (0 ∷ []) self.new }
-    {
-        if !self.lost || self.room == 0 || old.is_empty() {
-            return;
-        }
-        self.clear();
-        for _ in 0..old.len() {
-            self.made(old);
-        }
-        if self.olds.len() != old.len() {
-            self.lost = true;
-        }
-    }
-
-    // Nothing is seen of either space.
-    fn clear(&mut self)
-        requires { 1 ≤ self.old.room }
-        ensures { self.new ≡ opening_tables self.old.room }
-    {
-        self.olds.restart();
-        self.news.restart();
-        self.origins.restart();
-        self.missing = 0;
-        self.lost = false;
     }
 
     /// The walk over the old space goes on by one object, if there is one.

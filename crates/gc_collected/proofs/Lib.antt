@@ -1,4 +1,5 @@
 -- Lemmas about calls that are several commands, what is known of roots, what a heap shows, the pair of a flip, the monitor, and runs.
+mod Begins
 mod Beside
 mod Copies
 mod Core
@@ -22,3 +23,4 @@ mod Rooted
 mod Shown
 mod SourcesPut
 mod Starts
+mod Stepped

@@ -145,9 +145,9 @@ fn decide<W: Watcher, C: Checks>(
     ensures row { known.count ≤ vec_capacity roots.new }
     ensures approved { IfOk result (λ decided. MatchResult decided
         (λ approved. IsTrue (is_ready (collection_in collection.old) (graph_in heap.old))
-            × IsFlipOf heap.new collection.new roots.new.items approved × (keep_in approved ≡ keep))
+        × IsFlipOf heap.new collection.new roots.new.items approved × (keep_in approved ≡ keep))
         (IsNoFlip whole (is_ready (collection_in collection.old) (graph_in heap.old))
-            (HasAccepted (W.sure along.now) (flip_pair (open_state heap.old collection.old) (collection_in collection.old))))) }
+        (HasAccepted (W.sure along.now) (flip_pair (open_state heap.old collection.old) (collection_in collection.old))))) }
     // A flip rests on the yes of the checker that was to be asked.
     ensures asked { IfOk result (λ decided. IfOk decided (λ approved. AsAsked whole
         (C.says_yes checker.now (flip_pair (open_state heap.old collection.old) (collection_in collection.old)))
@@ -314,4 +314,3 @@ fn is_accepted<W: Watcher>(along: &W, heap: &Heap, collection: &Collection, root
     let new = Outline::with_nils(collection.new_image(roots), nils);
     along.accepts(old, new)
 }
-

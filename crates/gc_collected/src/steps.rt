@@ -2,9 +2,10 @@
 
 ghost use Rattle.std.specs.Prelude.{◌≡◌, not, if◌then◌else◌};
 ghost use Rattle.std.specs.Option.{option_map_or};
-ghost use Rattle.gc_plan.specs.Steps.{scan_done, first_log};
-ghost use Rattle.gc_copy.specs.Words.{collection_in};
+ghost use Rattle.gc_plan.specs.Steps.{collect, scan_done, first_log};
+ghost use Rattle.gc_copy.specs.Words.{BelongsTo, LinksNothing, collection_in, idle_state, open_state};
 ghost use Rattle.gc_plan.specs.declared.step.Step.{Step};
+ghost use Rattle.gc_plan.specs.declared.step.StepReply.{StepReply};
 
 use crate::barrier;
 use crate::collected_heap::CollectedHeap;
@@ -12,8 +13,9 @@ use crate::flip::Keep;
 use crate::known::{Searched, all_known, search};
 use crate::rooms::{keep_room, room_for};
 use gc_check::Checks;
-use gc_copy::{Collection, Step, StepReply};
+use gc_copy::{Collection, Room, Step, StepReply};
 use gc_graph::{NoMemory, root_count};
+use gc_heap::Heap;
 use gc_plan::root_replicas_stay;
 use std::cmp::max;
 
@@ -196,15 +198,8 @@ impl CollectedHeap {
         let Some(collection) = self.collection.take() else {
             return StepReply::Idle;
         };
-        let epoch = collection.epoch();
-        let room = if epoch == u32::MAX {
-            self.epoch = epoch;
-            collection.clear_into(&mut self.heap)
-        } else {
-            let (room, next) = collection.abandon(&self.heap);
-            self.epoch = next;
-            room
-        };
+        let (room, epoch) = end(collection, &mut self.heap);
+        self.epoch = epoch;
         keep_room(Some(room), &mut self.spare, &mut self.leaving);
         self.watch.dropped();
         StepReply::Dropped
@@ -261,4 +256,19 @@ fn step_after_roots(collection: &Collection) -> Step
         Some(m) => Step::Apply(m),
         None => Step::Flip,
     }
+}
+
+// Ends this collection without a flip. Returns its memory, and the epoch of the next collection's links.
+fn end(collection: Collection, heap: &mut Heap) -> (Room, u32)
+    requires { BelongsTo heap.old collection }
+    ensures step { collect (open_state heap.old collection) Step.Drop ≡ (StepReply.Dropped, idle_state heap.new) }
+    ensures links { LinksNothing result.1 heap.new }
+    ensures size { result.0.size ≡ collection.space.size }
+{
+    let epoch = collection.epoch();
+    if epoch == u32::MAX {
+        let room = collection.clear_into(heap);
+        return (room, epoch);
+    }
+    collection.abandon(heap)
 }

@@ -40,6 +40,6 @@ keep_in (Pair draft copy) = keeps.Pair
 abbrev pub AsAsked : Bool → Type 0 → Type 0 → Type 0
 AsAsked whole said accepted = (IsTrue whole → said) × (IsFalse whole → accepted)
 
--- why there is no flip: the collection is not ready, or the standing checker is not sure and refuses
+-- why there is no flip: the collection is not ready, or it is, and the standing checker is not sure and refuses
 abbrev pub IsNoFlip : Bool → Bool → Type 0 → StepReply → Type 0
-IsNoFlip whole ready sure reply = ((reply ≡ NotReady) × IsFalse ready) ⊎ ((reply ≡ Refused) × IsFalse whole × (sure → ⊥))
+IsNoFlip whole ready sure reply = ((reply ≡ NotReady) × IsFalse ready) ⊎ ((reply ≡ Refused) × IsFalse whole × IsTrue ready × (sure → ⊥))

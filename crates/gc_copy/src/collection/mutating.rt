@@ -95,39 +95,6 @@ impl Collection {
         self.note(m, object, i);
         reply
     }
-
-    /// Writes this number to a field of the raw object that `s` refers to, as a `Num` of `t` and a `Put` of `t` do, and logs the
-    /// field. The object is known to take it, as for `Heap::fill_numbers`. Needs room in the log.
-    #[inline(always)]
-    pub fn fill_number(
-        &mut self,
-        heap: &mut Heap,
-        m: u8,
-        s: Slot,
-        object: OldAddr,
-        field: u16,
-        t: Slot,
-        number: u64,
-    )
-        requires belongs { BelongsTo heap.old self.old }
-        requires mutator { m < heap.old.mutators }
-        requires room { 1 ≤ spare_of self.old m }
-        requires apart { place t m ≢ place s m }
-        requires field { (len : ℕ) × TakesNumbers heap.old (place s m) object.0 len × (field < len) }
-        requires few { field < 65535 }
-        requires number { number < 2 ^ 63 }
-        ensures step { mutate (mutate (open_state heap.old self.old) m (Op.Num t number)).1 m (Op.Put s field t) ≡ (Reply.Done, open_state heap.new self.new) }
-        ensures belongs { BelongsTo heap.new self.new }
-        ensures epoch { self.new.epoch ≡ self.old.epoch }
-        ensures mutators { heap.new.mutators ≡ heap.old.mutators }
-        ensures spare { spare_of self.old m ≤ spare_of self.new m + 1 }
-        ensures fields { (len : ℕ) → TakesNumbers heap.old (place s m) object.0 len → TakesNumbers heap.new (place s m) object.0 len }
-    {
-        // Here the prover learns that the heap is sound.
-        let _ = heap.space();
-        heap.fill_numbers(m, s, object, field, t, &[number]);
-        self.note(m, object, field);
-    }
 }
 
 // Returns the field that a put writes if its reply is `Done`.

@@ -1,6 +1,5 @@
 -- A heap that was just opened has no links and no root but nil ones, the row for moved roots has room for all of them, and the monitor follows it.
-use Rattle.std.proofs.lemmas.Grind.{common_steps}
-use Rattle.std.proofs.Common.{◌≡◌, ◌≤◌, ℕ, List, length, refl, arith, ap, sym, subst, ◌∙◌}
+use Rattle.std.proofs.Common.{◌≡◌, ◌≤◌, ℕ, List, length, refl, arith, ap, sym, ◌∙◌}
 use Rattle.gc_heap.specs.Heap.{HeapWords, roomy_in}
 use Rattle.gc_heap.specs.ExtraRoots.{CanOpen, opening_with}
 use Rattle.gc_heap.specs.declared.options.HeapOptions.{HeapOptions}

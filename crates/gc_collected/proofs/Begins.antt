@@ -1,0 +1,55 @@
+-- A monitor that has room for both spaces of a collection goes on following a heap in which that begins.
+use Rattle.std.proofs.Common.{◌≡◌, ◌⊎◌, ⊎_elim, ◌<◌, ◌≤◌, ℕ, false, Option, Some, None, ap, sym, ◌∙◌, subst, arith}
+use Rattle.gc_heap.specs.Heap.{HeapWords}
+use Rattle.gc_plan.specs.State.{Collection, State, heap_end}
+use Rattle.gc_plan.specs.Steps.{fresh_collection, with_collection}
+use Rattle.gc_plan.specs.Belonging.{IsSpaceGraph}
+use Rattle.gc_along.specs.Tables.{Tables, watch_of}
+use Rattle.gc_along.specs.Watch.{Watch, opening_watch}
+use Rattle.gc_copy.specs.Words.{state_of}
+use Rattle.gc_collected.specs.Internal.Beside.{GoesBeside}
+use Rattle.gc_collected.specs.Internal.Follows.{Follows}
+use Rattle.gc_collected.specs.Internal.KnownRoots.{KnowsRoots}
+use Rattle.gc_collected.specs.Internal.Knows.{Knows, open_or_fresh}
+use Rattle.gc_collected.specs.Internal.Stays.{GoesAlong}
+use Rattle.gc_collected.specs.declared.known.KnownRoots.{KnownRoots}
+use Rattle.gc_collected.proofs.Monitor.EndsKnown.{begun_known}
+use Rattle.gc_collected.proofs.Monitor.Stays.{begun}
+
+module _ (s : State) (t after : Tables) (closed : s.collection ≡ None) (heap : IsSpaceGraph s.size s.heap.free s.heap.graph) (n : ℕ) (more : after ≡ record t { room = after.room }) (room : (t.room ≡ 0) ⊎ (n ≤ after.room)) (old_fits : s.size ≤ n) (f : Follows s t) where
+  knows : Knows s (fresh_collection s.mutators 1) t
+  knows = subst (λ o. Knows s (open_or_fresh s o) t) closed f.knows
+
+  watched : watch_of after ≡ opening_watch (heap_end s)
+  watched = ap watch_of more ∙ subst (λ o. GoesBeside s o (watch_of t)) closed f.goes
+
+  found : after.lost ≡ false
+  found = ap (λ (x : Tables). x.lost) more ∙ f.found
+
+  low : 1 ≤ s.size
+  low = let less : s.heap.free < s.size = heap.room in omega arith
+
+  roomy : n ≤ after.room
+  roomy = let old : s.size ≤ t.room = f.knows.old_room in let some : 1 ≤ s.size = low in ⊎_elim (λ none. omega (arith, none)) (λ high. high) room
+
+  pub follows_begun : (s' : State) (size : ℕ) → s' ≡ with_collection s (Some (fresh_collection s.mutators size)) → size ≤ n → Follows s' after
+  follows_begun s' size is new_fits =
+      let high : n ≤ after.room = roomy in
+      let k = begun_known s 1 size t after more (omega arith) (omega arith) knows in
+      subst (λ (x : State). Follows x after) (sym is) (record {
+        found = found;
+        goes = subst (λ (w : Watch). GoesAlong s.heap.graph.objects (heap_end s) (fresh_collection s.mutators size) w) (sym watched) (begun s.heap.graph.objects (heap_end s) s.mutators size);
+        knows = record { kept = k.kept; due = k.due; marks = k.marks; old_room = k.old_room; new_room = k.new_room };
+      })
+
+-- no root is known to have a replica
+pub begun_knows : (known : KnownRoots) (heap : HeapWords) (was now : Option Collection) → KnowsRoots known (state_of heap was) → KnowsRoots (record { slots = 0; extra = 0; used = known.used; count = known.count }) (state_of heap now)
+begun_knows known heap was now k = record {
+  slots_high = omega arith;
+  extra_high = omega arith;
+  used_high = k.used_high;
+  counted = k.counted;
+  slots = λ p less. absurd (omega (arith, less));
+  extra = λ i less. absurd (omega (arith, less));
+  unused = k.unused;
+}
