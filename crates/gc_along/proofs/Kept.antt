@@ -8,7 +8,7 @@ use Rattle.std.proofs.lemmas.List.{get_or-set_other, get_or-set_same, length-rep
 use Rattle.std.proofs.lemmas.List.Sums.{sum_by-set, sum_by-append, count_by-le-length}
 use Rattle.gc_words.specs.Layout.{fields_place}
 use Rattle.gc_words.specs.declared.header.Header.{Header}
-use Rattle.gc_along.specs.Watch.{bit}
+use Rattle.gc_along.specs.Internal.Watch.{bit}
 use Rattle.gc_along.specs.Tables.{Tables, IsKept, due_in, missing_in}
 use Rattle.gc_along.specs.Internal.Tables.{IsLostOrKept}
 use Rattle.gc_along.specs.Events.{code_of, object_codes, with_due, replica_added, IsClaim, IsCopy, Placed, HasNoReplica}

@@ -3,7 +3,6 @@ pub mod Seen
 pub mod Looks
 pub mod Written
 pub mod Walked
-pub mod Exact
 pub mod Rows
 pub mod Origins
 pub mod Codes

@@ -4,7 +4,7 @@ use Rattle.std.proofs.Common.{◌≡◌, ◌⊎◌, inl, inr, ⊎_elim, ℕ, zer
 use Rattle.std.proofs.lemmas.Bool.{cases_eq}
 use Rattle.std.proofs.lemmas.List.{ext_get_or, get_or-set_other, get_or-set_same}
 use Rattle.gc_words.specs.Layout.{field_place}
-use Rattle.gc_along.specs.Watch.{bit}
+use Rattle.gc_along.specs.Internal.Watch.{bit}
 use Rattle.gc_along.specs.Tables.{Tables, IsKept, missing_in}
 use Rattle.gc_along.specs.Events.{HasNoReplica, IsReplicaAt, WroteRow, with_due, with_news}
 use Rattle.gc_along.specs.Internal.Rows.{dues_from, row_set, with_due_row}

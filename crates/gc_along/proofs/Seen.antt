@@ -1,10 +1,11 @@
 -- Where all is seen, the certificate holds.
 use Rattle.std.proofs.lemmas.Grind.{common_steps}
-use Rattle.std.proofs.Common.{◌≡◌, ⊎_elim, ℕ, zero, suc, ◌==◌, Bool, true, false, get_or, List, [], ◌∷◌, length, take, Option, Some, None, IsTrue, refl, sym, ◌∙◌, ap, subst, arith}
+use Rattle.std.proofs.Common.{◌≡◌, ⊎_elim, ℕ, zero, suc, ◌+◌, ◌==◌, Bool, true, false, get_or, List, [], ◌∷◌, length, take, Option, Some, None, IsTrue, refl, sym, ◌∙◌, ap, subst, arith}
 use Rattle.std.specs.Prelude.{slice_get}
 use Rattle.std.specs.List.{AllZip, sum_by, list_all}
 use Rattle.std.proofs.lemmas.Bool.{eq-eqb}
 use Rattle.std.proofs.lemmas.List.Folds.{sum_by-zero}
+use Rattle.std.proofs.lemmas.List.Sums.{sum_by-append}
 use Rattle.std.proofs.lemmas.List.{take_all}
 use Rattle.std.proofs.lemmas.List.Elements.{All-weaker}
 use Rattle.gc_words.specs.Word.{field_words_correspond}
@@ -12,7 +13,8 @@ use Rattle.gc_words.specs.Image.{Image, Block, HasShape, IsShaped, block_at}
 use Rattle.gc_words.specs.Certificate.{BlocksCorrespond, Certified}
 use Rattle.gc_words.proofs.Public.{stands_in}
 use Rattle.gc_along.specs.Outline.{outline_of}
-use Rattle.gc_along.specs.Watch.{Watch, IsSeen, IsWatched, Watches, HasSeenAll, IsSized, RootsCorrespond, is_due, seen_at, bit}
+use Rattle.gc_along.specs.Watch.{Watch, IsSeen, IsWatched, Watches, IsSized, RootsCorrespond, is_due, is_due_at, seen_at}
+use Rattle.gc_along.specs.Internal.Watch.{HasSeenAll, bit}
 
 pub all_of : (n : ℕ) (words : List ℕ) → n ≡ length words → take n words ≡ words
 all_of n words e = take_all n words (omega arith)
@@ -28,6 +30,14 @@ none_in [] h place = refl
 none_in (true ∷ ds) h place = absurd (let no : false ≡ true = h in cc)
 none_in (false ∷ ds) h zero = refl
 none_in (false ∷ ds) h (suc place) = none_in ds h place
+
+all_in : (ds : List Bool) → ((place : ℕ) → get_or ds place false ≡ false) → sum_by bit ds ≡ 0
+all_in [] h = refl
+all_in (true ∷ ds) h = absurd (let no : true ≡ false = h 0 in cc)
+all_in (false ∷ ds) h = sum_by-append bit (false ∷ []) ds ∙ ap (λ n. 0 + n) (all_in ds (λ place. h (suc place)))
+
+pub all_done : (w : Watch) → ((place : ℕ) → is_due_at w place ≡ false) → due_count w ≡ 0
+all_done w h = all_in w.due h
 
 -- fields of which none is due
 zip : (R : ℕ → ℕ → Type 0) (vs us : List ℕ) → length vs ≡ length us → ((i v u : ℕ) → slice_get vs i ≡ Some v → slice_get us i ≡ Some u → R v u) → AllZip R vs us

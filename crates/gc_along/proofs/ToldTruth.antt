@@ -11,7 +11,8 @@ use Rattle.gc_words.proofs.Public.{StandsIn, block_from, stands_in, field_read, 
 use Rattle.gc_words.specs.Certificate.{Certified}
 use Rattle.gc_words.specs.Layout.{field_place, link_place}
 use Rattle.gc_words.specs.declared.header.Header.{Header}
-use Rattle.gc_along.specs.Watch.{Watch, IsSeen, IsNext, IsWatched, Watches, OldIsDue, NewIsDue, mark, is_due, pair_at, seen_at, looked}
+use Rattle.gc_along.specs.Watch.{Watch, IsSeen, IsNext, IsWatched, Watches, NewIsDue, is_due, seen_at}
+use Rattle.gc_along.specs.Internal.Watch.{OldIsDue, mark, pair_at, looked}
 use Rattle.gc_along.specs.Origins.{pairs_in, pairs_from}
 use Rattle.gc_along.specs.Outline.{outline_of}
 use Rattle.gc_along.specs.Tables.{Tables, IsKept, watch_of, due_in}

@@ -8,7 +8,8 @@ use Rattle.gc_words.specs.Image.{Block, block_at, is_start, field_at, with_field
 use Rattle.gc_words.specs.Space.{IsSpace}
 use Rattle.gc_words.specs.Layout.{field_place, link_place}
 use Rattle.gc_words.proofs.Public.{field_read, field_written, link_written, header_read, field_block, field_beside}
-use Rattle.gc_along.specs.Watch.{Watch, IsSeen, IsWatched, Watches, OldIsDue, NewIsDue, is_due, seen_at, front}
+use Rattle.gc_along.specs.Watch.{Watch, IsSeen, IsWatched, Watches, NewIsDue, is_due, seen_at, front}
+use Rattle.gc_along.specs.Internal.Watch.{OldIsDue}
 
 -- the element at place j after a write at place i
 get_set : (xs : List ℕ) (i j y z : ℕ) → slice_get (set xs i y) j ≡ Some z → ((j ≡ i) × (y ≡ z)) ⊎ ((j ≢ i) × (slice_get xs j ≡ Some z))

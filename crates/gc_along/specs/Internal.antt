@@ -1,3 +1,4 @@
 pub mod InWords
 pub mod Rows
 pub mod Tables
+pub mod Watch

@@ -1,6 +1,6 @@
 -- What a checker that goes along with a collection has seen of two spaces, and what is known of their words by it.
-use Rattle.std.specs.Prelude.{◌≡◌, ◌≢◌, ◌⊎◌, ℕ, ◌<◌, ◌≤◌, ◌+◌, Bool, true, false, not, if◌then◌else◌, List, ◌∷◌, [], ◌++◌, length, take, replicate, slice_index, slice_get, slice_set, slice_index_or, Option, Some, None, IsTrue}
-use Rattle.std.specs.List.{All, AllPairs, AllZip, count_by}
+use Rattle.std.specs.Prelude.{◌≡◌, ◌≢◌, ◌⊎◌, ℕ, ◌<◌, ◌≤◌, ◌+◌, Bool, true, false, List, length, take, slice_index, slice_get, slice_index_or, Option, Some, None, IsTrue}
+use Rattle.std.specs.List.{All, AllPairs, AllZip}
 use Rattle.gc_graph.specs.Limits.{largest_space}
 use Rattle.gc_words.specs.Word.{read_header, words_correspond, field_words_correspond}
 use Rattle.gc_words.specs.Image.{Block, block_at}
@@ -20,20 +20,9 @@ pub record Watch : Type 0 where
 abbrev pub is_due_at : Watch → ℕ → Bool
 is_due_at w place = slice_index_or w.due place false
 
-abbrev pub bit : Bool → ℕ
-bit due = if due then 1 else 0
-
--- how many places are due
-abbrev pub due_count : Watch → ℕ
-due_count w = count_by (λ due. due) w.due
-
 -- field i of the replica at place b
 abbrev pub is_due : Watch → ℕ → ℕ → Bool
 is_due w b i = is_due_at w (field_place b i)
-
--- with a place that is due or not
-abbrev pub mark : Watch → ℕ → Bool → Watch
-mark w place due = record w { due = slice_set w.due place due }
 
 -- ---- what is seen of a space
 
@@ -66,12 +55,6 @@ pub record Watches (old new : List ℕ) (w : Watch) : Type 0 where
   pub rising : AllPairs (λ p q. p.1 < q.1) w.pairs
   pub once : AllPairs (λ p q. p.0 ≢ q.0) w.pairs
 
--- both walks are at the end, and nothing is due
-pub record HasSeenAll (old new : List ℕ) (w : Watch) : Type 0 where
-  pub old_seen : w.old_seen ≡ length old
-  pub new_seen : w.new_seen ≡ length new
-  pub none_due : due_count w ≡ 0
-
 -- ---- at the flip
 
 -- the numbers of an image
@@ -87,44 +70,12 @@ RootsCorrespond pairs vs ws = AllZip (λ v w. IsTrue (words_correspond pairs v w
 
 -- ---- what happens
 
--- pair k
-abbrev pub pair_at : Watch → ℕ → ℕ × ℕ
-pair_at w k = slice_index_or w.pairs k (0, 0)
-
--- field i of old object a is due in its replica, if it has one
-abbrev pub OldIsDue : Watch → ℕ → ℕ → Type 0
-OldIsDue w a i = All (λ p. p.0 ≡ a → IsTrue (is_due w p.1 i)) w.pairs
-
 -- field i of the replica at place b is due
 abbrev pub NewIsDue : Watch → ℕ → ℕ → Type 0
 NewIsDue w b i = All (λ p. p.1 ≡ b → IsTrue (is_due w b i)) w.pairs
-
--- field i of pair k compared: it is due where the words do not correspond
-abbrev pub looked : Watch → Header → ℕ → ℕ → ℕ → ℕ → Watch
-looked w h b i v u = mark w (field_place b i) (not (field_words_correspond h w.pairs v u))
 
 -- the next object that a walk comes to
 pub record IsNext (n : ℕ) (words : List ℕ) (h : Header) : Type 0 where
   pub header : read_header (slice_index words n) ≡ Some h
   pub within : n + (h.len + 2) ≤ length words
   pub bound : n + (h.len + 2) ≤ largest_space
-
--- the walks gone on by one object
-abbrev pub old_walked : Watch → Header → Watch
-old_walked w h = record w { old_seen = w.old_seen + (h.len + 2) }
-
-abbrev pub new_walked : Watch → Header → Watch
-new_walked w h = record w { new_seen = w.new_seen + (h.len + 2); due = w.due ++ replicate (h.len + 2) false }
-
--- the next new object seen as the replica of a, and its fields due
-abbrev pub placed : Watch → ℕ → Header → Watch
-placed w a h = record {
-  pairs = w.pairs ++ (a, w.new_seen) ∷ [];
-  old_seen = w.old_seen;
-  new_seen = w.new_seen + (h.len + 2);
-  due = w.due ++ false ∷ false ∷ replicate h.len true;
-}
-
--- of an empty new space, where the old one is seen up to a place
-abbrev pub opening_watch : ℕ → Watch
-opening_watch n = record { pairs = []; old_seen = n; new_seen = 1; due = false ∷ [] }

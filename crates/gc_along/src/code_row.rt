@@ -260,7 +260,7 @@ impl CodeRow {
 }
 
 ghost use Rattle.std.specs.Prelude.{◌≡◌, ◌≢◌, ◌⊎◌, ◌==◌, ℕ, ◌+◌, ◌-◌, ◌/◌, ◌<◌, ◌≤◌, ◌++◌, replicate, vec_len, vec_capacity};
-ghost use Rattle.gc_along.specs.Watch.{bit};
+ghost use Rattle.gc_along.specs.Internal.Watch.{bit};
 ghost use Rattle.gc_along.specs.Internal.InWords.{code_in, freed};
 
 // 1 for code 3, and 0 for any other.

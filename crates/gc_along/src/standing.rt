@@ -569,7 +569,8 @@ ghost use Rattle.std.specs.Prelude.{◌≡◌, ◌⊎◌, ◌↔◌, ◌≤◌, 
 ghost use Rattle.gc_graph.specs.Graph.{Ref};
 ghost use Rattle.gc_words.specs.Word.{read_value, words_correspond};
 ghost use Rattle.gc_along.specs.Outline.{outline_in};
-ghost use Rattle.gc_along.specs.Watch.{IsSized, bit};
+ghost use Rattle.gc_along.specs.Watch.{IsSized};
+ghost use Rattle.gc_along.specs.Internal.Watch.{bit};
 
 // Whether the word is nil or a number.
 #[inline(always)]

@@ -113,8 +113,3 @@ copies_ran (suc count) s m i j d from t =
     (ran_on s one.1 two.1 _ _ Any (λ a k w. tt) (λ a k w. tt) (ran_one s one.1 m (Get t from j) one.0 refl refl) (ran_one one.1 two.1 m (Put d i t) two.0 refl refl)) (copies_ran count two.1 m (suc i) (suc j) d from t)
 
 -- while no collection is open a monitor is told nothing
-pub copies_follow : (count : ℕ) (heap new : HeapWords) (o : Option CollectionWords) (m i j : ℕ) (d from t : SlotName) (w : Tables) → o ≡ None → copy_step (idle_state heap) m d i from j t count ≡ idle_state new
-    → Follows (state_of heap (option_map collection_in o)) w → Follows (state_of new (option_map collection_in o)) w
-copies_follow count heap new o m i j d from t w none step f =
-    subst (λ o. Follows (state_of new (option_map collection_in o)) w) (sym none)
-    (follows_closed (idle_state heap) (idle_state new) w Any refl (subst (λ (x : State). Ran (idle_state heap) x Any) step (copies_ran count (idle_state heap) m i j d from t)) (subst (λ o. Follows (state_of heap (option_map collection_in o)) w) none f))

@@ -45,8 +45,6 @@ forgetting known = record { slots = 0; extra = known.extra; used = known.used; c
 -- ---- roots in use
 
 -- there are as many roots as those in use
-pub use_within : (known : KnownRoots) (s : State) (heap : HeapWords) (slots : ℕ) → KnowsRoots known s → s.heap.graph ≡ graph_in heap → slots ≡ roots_of s.mutators → slots + known.used ≤ length heap.roots
-use_within known s heap slots k graph same = grind (arith, common_steps, length-map)
 
 -- and those behind them are nil
 pub nil_behind : (known : KnownRoots) (s : State) (slots : ℕ) → KnowsRoots known s → slots ≡ roots_of s.mutators → (p : ℕ) → slots + known.used ≤ p → root s.heap.graph p ≡ Nil

@@ -24,6 +24,3 @@ still_known epoch known heap o p t along same fits k = (
 )
 
 -- each mutator has a log in the open collection
-pub has_log : (epoch : ℕ) (heap : HeapWords) (o : Option CollectionWords) (m : ℕ) → m < heap.mutators → Fits epoch heap o → IfSome o (λ c. m < length c.logs)
-has_log epoch heap None m less fits = tt
-has_log epoch heap (Some c) m less fits = let same : length c.logs ≡ heap.mutators = fits.logs in omega (arith, same, less)

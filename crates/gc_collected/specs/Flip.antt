@@ -43,10 +43,6 @@ HasRoomIfLarge s reply = IfSome s.collection (λ c. s.size ≤ c.size → reply 
 abbrev pub HasAccepted : (ImageOutline → ImageOutline → Type 0) → CertifiedPair → Type 0
 HasAccepted accepted pair = accepted (outline_of pair.old) (outline_of pair.new)
 
--- if the open collection is ready, a checker that went along is sure of the outlines of its pair's images
-abbrev pub IsSureIfReady : (ImageOutline → ImageOutline → Type 0) → State → Type 0
-IsSureIfReady sure s = IfSome s.collection (λ c. IsTrue (is_ready c s.heap.graph) → HasAccepted sure (flip_pair s c))
-
 -- ---- what a step leaves
 
 -- the words of the open collection's new space, if there is one

@@ -8,13 +8,9 @@ use Rattle.gc_heap.specs.Heap.{HeapWords, graph_in}
 use Rattle.gc_plan.specs.State.{Replica, Collection, replica_of}
 use Rattle.gc_plan.specs.Steps.{fresh_collection}
 use Rattle.gc_plan.specs.Belonging.{Belongs}
-use Rattle.gc_copy.specs.Words.{Log, replicas_in, entries_of, collection_in, HasNoLinks, Leads, LinksNothing, BelongsTo}
+use Rattle.gc_copy.specs.Words.{Log, replicas_in, entries_of, collection_in, Leads, LinksNothing, BelongsTo}
 use Rattle.gc_plan.proofs.Public.{begun_belongs}
 use Rattle.gc_copy.proofs.Words.{words_numbers}
-
--- where no object has a link, none is above any mark
-pub unlinked : (heap : HeapWords) (epoch : ℕ) → HasNoLinks heap → LinksNothing epoch heap
-unlinked heap epoch none a start = let zero : link_at heap.space.words a ≡ 0 = none a start in omega arith
 
 pub begun : (heap : HeapWords) (space : SpaceWords) (logs : List Log) (size : ℕ) (epoch : ℕ) → LinksNothing epoch heap → 1 ≤ size → space ≡ empty_space size → map entries_of logs ≡ replicate heap.mutators []
     → BelongsTo heap (record { space = space; logs = logs; scan_place = 1; scan_field = 0; epoch = epoch })

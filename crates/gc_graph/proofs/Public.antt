@@ -3,7 +3,7 @@ pub use Rattle.gc_graph.proofs.Bounds.{all_push}
 pub use Rattle.gc_graph.proofs.Compose.{composed, joined}
 pub use Rattle.gc_graph.proofs.Decimals.{decimals, number_again, number_found, one_front}
 pub use Rattle.gc_graph.proofs.LineLemmas.{AllHaveNo, Cut, HasNo-decimal, HasNo-joined, HasNo-lacks, HasNo-name, cut, joined-tokens_of, lacks, not_cut, one_cut, tokens_of-joined}
-pub use Rattle.gc_graph.proofs.Lookups.{lookup_set_none, lookup_set_other, lookup_set_same, paired_cases, with_field_option}
+pub use Rattle.gc_graph.proofs.Lookups.{lookup_set_none, paired_cases}
 pub use Rattle.gc_graph.proofs.Matched.{AlikeAfter, matched_of, step_alike}
 pub use Rattle.gc_graph.proofs.Matching.{Matched}
 pub use Rattle.gc_graph.proofs.PieceSteps.{all_waits, ends_there, if_known, no_byte, within_all}

@@ -1,11 +1,11 @@
 -- What other crates cite of this crate's proofs and internal definitions, passed on from one place. Declares nothing.
 pub use Rattle.gc_plan.proofs.Carried.{carries_from, carries_only_kept}
-pub use Rattle.gc_plan.proofs.Commands.{Evolves, WrittenBy, root_fine, step_evolves, unchanged}
+pub use Rattle.gc_plan.proofs.Commands.{Evolves, WrittenBy, step_evolves, unchanged}
 pub use Rattle.gc_plan.proofs.Flips.{certified, corresponding_graphs, field_words_of_corresponding, flips, pairs_once, pairs_rise}
-pub use Rattle.gc_plan.proofs.Heap.{end_push, laid_apart, laid_end_is, laid_push, laid_range, lookup_in, lookup_laid, refers_map, set_from}
+pub use Rattle.gc_plan.proofs.Heap.{end_push, laid_apart, laid_end_is, laid_range, lookup_in, lookup_laid, refers_map, set_from}
 pub use Rattle.gc_plan.proofs.Images.{IsAddress, block_found, end_is, laid_out, named_address, words_laid}
 pub use Rattle.gc_plan.proofs.Links.{found_by_name, found_by_place, same_original, write_is_set}
-pub use Rattle.gc_plan.proofs.Lists.{all_from_in, find_exists, find_some, get_in, get_past, get_set, get_set_other, get_set_same, get_within, in_get, in_left, in_map, in_map_from, in_push, in_replicate, in_right, map_same}
+pub use Rattle.gc_plan.proofs.Lists.{all_from_in, find_exists, find_some, get_in, get_past, get_set_other, get_set_same, get_within, in_get, in_left, in_map, in_map_from, in_push, in_replicate, in_right, map_same}
 pub use Rattle.gc_plan.proofs.Numbers.{small_corresponding}
 pub use Rattle.gc_plan.proofs.Progress.{command_raises, left_bounded, useful_ranges}
 pub use Rattle.gc_plan.proofs.Replicas.{AreReplicas, HasReplica, IsPlace, fresh_raw, in_paired, pair, paired_in, pairs_written, place_written, placed, refers_corresponding, replica_exists, replica_in, replicas_due, replicas_end, replicas_evolve, with_written_length, with_written_pair}

@@ -1,6 +1,6 @@
 -- Places in a row that become due.
 use Rattle.std.specs.Prelude.{ℕ, zero, suc, ◌+◌, ◌==◌, true, List, slice_index_or, slice_set}
-use Rattle.gc_along.specs.Watch.{bit}
+use Rattle.gc_along.specs.Internal.Watch.{bit}
 use Rattle.gc_along.specs.Tables.{Tables}
 use Rattle.gc_along.specs.Events.{with_due}
 

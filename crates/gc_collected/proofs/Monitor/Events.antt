@@ -117,21 +117,3 @@ command_evolves h m op name =
     cond_both (nat_lt h.free (words_taken op)) _ _ (λ (next : Reply × Roomy). Evolves h.graph.objects next.1.graph.objects (WrittenBy h.graph m op next.0))
     (λ full. unchanged h.graph.objects _)
     (λ fits. step_evolves h.graph m op name)
-
-pub command_made : (s s' : State) (c next : Collection) (m : ℕ) (op : Op) (reply : Reply) (w later : Watch) → IsOpened s c → Goes s c w
-    → s.collection ≡ Some c → mutate s m op ≡ (reply, s') → s'.collection ≡ Some next
-    → WatchFits (heap_end s') next later → MarksWritten (WrittenBy s.heap.graph m op reply) w c later → Goes s' next later
-command_made s s' c next m op reply w later k h before said is fits marks =
-    let made = roomy_step s.heap m op (heap_end s) in
-    let reply_is : made.0 ≡ reply = ap (λ (x : Reply × State). x.0) said in
-    let heap_is : made.1 ≡ s'.heap = ap (λ (x : Reply × State). x.1.heap) said in
-    let same : Some (with_log c m (Rattle.std.proofs.Common.◌++◌ (log_at c m) (written s.heap.graph m op made.0))) ≡ Some next
-    = ap (λ o. Rattle.gc_plan.specs.Steps.logged o m (written s.heap.graph m op made.0)) (sym before) ∙ (ap (λ (x : Reply × State). x.1.collection) said ∙ is) in
-    let one : with_log c m (Rattle.std.proofs.Common.◌++◌ (log_at c m) (written s.heap.graph m op made.0)) ≡ next = cc same in
-    let rs : next.replicas ≡ c.replicas = sym (ap (λ (x : Collection). x.replicas) one) in
-    let evolves : Evolves s.heap.graph.objects s'.heap.graph.objects (WrittenBy s.heap.graph m op reply)
-    = subst (λ (x : Reply). Evolves s.heap.graph.objects s'.heap.graph.objects (WrittenBy s.heap.graph m op x)) reply_is
-    (subst (λ (x : Roomy). Evolves s.heap.graph.objects x.graph.objects (WrittenBy s.heap.graph m op made.0)) heap_is (command_evolves s.heap m op (heap_end s))) in
-    moved_on s'.heap.graph.objects (heap_end s') c next later rs
-    (commanded s.heap.graph.objects s'.heap.graph.objects (WrittenBy s.heap.graph m op reply) (heap_end s) (heap_end s') c w later (sound s.heap.graph.objects c k.belongs) h evolves
-    (refit (heap_end s') c next later rs fits) marks)

@@ -14,7 +14,8 @@ use Rattle.gc_plan.specs.Members.{In}
 use Rattle.gc_plan.specs.Linked.{LeadsTo, LeadsToOpen}
 use Rattle.gc_plan.specs.Belonging.{IsLogged, IsOpened, IsSpaceGraph}
 use Rattle.gc_plan.proofs.Public.{WrittenBy, laid_range, lookup_in, pair, replicas_end}
-use Rattle.gc_along.specs.Watch.{Watch, opening_watch}
+use Rattle.gc_along.specs.Watch.{Watch}
+use Rattle.gc_along.proofs.Public.{opening_watch}
 use Rattle.gc_along.specs.Tables.{Tables, watch_of}
 use Rattle.gc_along.specs.Claims.{CanMake, CanWrite, CanWriteRow, IsLinked}
 use Rattle.gc_along.specs.Events.{Made, Wrote, WroteRow, opening_tables}

@@ -12,7 +12,7 @@ use Rattle.gc_plan.specs.declared.step.StepReply.{StepReply}
 use Rattle.gc_plan.proofs.Public.{begun_belongs}
 use Rattle.gc_along.specs.Events.{Freed, flipped_tables}
 use Rattle.gc_along.specs.Tables.{Tables, watch_of}
-use Rattle.gc_along.specs.Watch.{opening_watch}
+use Rattle.gc_along.proofs.Public.{opening_watch}
 use Rattle.gc_collected.specs.Internal.Beside.{GoesBeside}
 use Rattle.gc_collected.specs.Internal.Knows.{Knows, KnowsAll, open_or_fresh}
 use Rattle.gc_collected.specs.Internal.Follows.{Follows}

@@ -9,7 +9,8 @@ use Rattle.gc_plan.specs.Steps.{place_replica, bring_up_to_date, fresh_collectio
 use Rattle.gc_plan.specs.Members.{Distinct}
 use Rattle.gc_plan.specs.Belonging.{Laid, HasRawNumbers, Belongs}
 use Rattle.gc_plan.proofs.Public.{Evolves, Grown, placing, bringing, pair, replicas_end, AreReplicas, replicas_due, replicas_evolve}
-use Rattle.gc_along.specs.Watch.{Watch, is_due, opening_watch}
+use Rattle.gc_along.specs.Watch.{Watch, is_due}
+use Rattle.gc_along.proofs.Public.{opening_watch}
 use Rattle.gc_collected.specs.Internal.Stays.{DueFor, WatchFits, GoesAlong, LosesOnly, LosesNone, MarksWritten}
 
 -- what the steps need of a collection, whatever its logs and its scan pointer

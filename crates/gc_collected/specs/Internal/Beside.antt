@@ -2,7 +2,8 @@
 use Rattle.std.specs.Prelude.{◌≡◌, ℕ, List, Option, Some, None}
 use Rattle.gc_plan.specs.State.{Collection, State, heap_end, new_objects}
 use Rattle.gc_plan.specs.Linked.{LeadsToOpen, linked_space, new_links}
-use Rattle.gc_along.specs.Watch.{Watch, opening_watch}
+use Rattle.gc_along.specs.Watch.{Watch}
+use Rattle.gc_along.proofs.Public.{opening_watch}
 use Rattle.gc_collected.specs.Internal.Stays.{GoesAlong}
 
 -- the watch has seen the heap, and goes along with the open collection, if there is one

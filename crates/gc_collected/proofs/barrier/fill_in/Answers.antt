@@ -1,4 +1,4 @@
--- While no collection is open the monitor is told nothing.
+-- A field that is filled while no collection is open: the monitor is told nothing.
 use Rattle.std.proofs.Common.{refl}
 use Rattle.gc_graph.specs.declared.command.Op.TheVariants.{Put}
 use Rattle.gc_collected.proofs.Followed.{closed_put}

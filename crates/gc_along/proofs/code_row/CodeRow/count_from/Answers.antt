@@ -2,7 +2,7 @@
 use Rattle.std.proofs.lemmas.Grind.{common_steps}
 use Rattle.std.proofs.Common.{◌≡◌, ◌≤◌, ◌+◌, ◌-◌, ◌==◌, Bool, ap, subst, sym, ◌∙◌, arith}
 use Rattle.std.specs.Prelude.{slice_index}
-use Rattle.gc_along.specs.Watch.{bit}
+use Rattle.gc_along.specs.Internal.Watch.{bit}
 use Rattle.gc_along.specs.Internal.Rows.{dues_from}
 use Rattle.gc_along.proofs.RowsDue.{count_step}
 use Rattle.gc_along.proofs.code_row.CodeRow.count_from.Goals as goal

@@ -1,4 +1,4 @@
--- A turn fills the rest of a word, or what is left.
+-- The row is filled from a place up to its end.
 use Rattle.std.proofs.Common.{◌+◌, ◌≤◌, inl, inr, ⊎_elim, arith}
 use Rattle.gc_along.proofs.RowsDue.{row_filled}
 use Rattle.gc_along.proofs.code_row.CodeRow.fill_from.Goals as goal
