@@ -10,8 +10,9 @@ import io
 import os
 import re
 
+from prover import notions
 from prover.axioms import PRODUCTS, counts_in, lines_to_keep
-from prover.crates import CRATES, TOP, crates_listed
+from prover.crates import TOP, crates_listed
 from prover.edits import edit_named, edits_of
 
 from .harness import Skipped, skips_listed, wrong_skips
@@ -600,7 +601,7 @@ def counts(_program, _folder):
 
 PRODUCTS_BEGIN = "| crate | the checker for C | the heap for C | the world | the program |\n"
 # Crates with definitions that no contract of the checker for C reaches.
-BESIDE_THE_CHECKER = {"gc_along", "gc_beside", "gc_copy", "gc_core", "gc_heap", "gc_plan", "gc_trace", "gc_world", "gcflip_heap_c"}
+BESIDE_THE_CHECKER = {"gc_along", "gc_collected", "gc_copy", "gc_heap", "gc_plan", "gc_trace", "gc_world", "gcflip_heap_c"}
 
 
 def lines_by_file(printed):
@@ -633,36 +634,23 @@ def products(_program, _folder):
 
 # ---- the map of docs/ARCHITECTURE.md, and what documents say twice
 
-# Files of definitions that are no notion of their own: lists of imports, examples, what structs of the code mean, the texts of faults.
-NO_NOTION = re.compile(r"(?:Lib|Internal|Views|FaultTexts|\w*Rows)$")
-
-
 def rows_behind(document, heading):
     """Returns the cells of each row of the first table behind a heading of a document."""
     table = re.search(r"(?m)^\|.*\n\|---.*\n((?:\|.*\n)+)", text_of(document).partition(heading)[2]).group(1)
     return [line.strip("|").split(" | ") for line in table.split("\n") if line]
 
 
-def specs_named(cells):
-    """Returns the files of definitions that these cells name: `crate/specs/Name`, and each `Name` behind it."""
-    found, crate = set(), None
-    for name in re.findall(r"`([\w/.]+)`", " ".join(cells)):
-        crate = name.split("/")[0] if "/specs/" in name else crate
-        found.add(name if "/" in name else "%s/specs/%s" % (crate, name))
-    return found
-
-
 def architecture(_program, _folder):
-    """Checks that docs/ARCHITECTURE.md has a job for each crate and a row for each file of public definitions, and that it and the README of
-    gcflip_heap_c tell the number of functions with raw pointers."""
+    """Checks that docs/ARCHITECTURE.md has a job for each crate and the table that tools/notions makes, and that it and the README of gcflip_heap_c tell the
+    number of functions with raw pointers."""
     jobs = {cells[-2].strip(" |"): cells[-1:] for cells in rows_behind("docs/ARCHITECTURE.md", "# Architecture")}
     wrong = [crate for crate in crates_listed() if not (len(jobs.get(crate, [])) == 1 and re.search(r"[a-z]{2}", jobs[crate][0]))]
     yield "jobs of crates", ", ".join(wrong) or None
-    named = set().union(*[specs_named(cells[1:2]) for cells in rows_behind("docs/ARCHITECTURE.md", "## Where each notion is defined")])
-    meanings = {part for cells in rows_behind("docs/ARCHITECTURE.md", "## Representations") for part in re.findall(r"`(\w+)\.\w+`", cells[2])}
-    specs = [os.path.relpath(path, CRATES)[:-len(".antt")] for path in glob.glob(os.path.join(CRATES, "*", "specs", "*.antt"))]
-    missing = [path for path in sorted(specs) if not NO_NOTION.search(path) and path not in named and path.split("/")[-1] not in meanings]
-    yield "files of public definitions", ", ".join(missing) or None
+    yield "the table of tools/notions", "; ".join(notions.faults(notions.parts()[1])) or None
+    first, second = notions.table().split("\n")[2:4]
+    for what, row in [("changed", first + " "), ("left out", ""), ("in another order", second + "\n" + first)]:
+        shown = notions.table().replace(first + "\n", row and row + "\n", 1)
+        yield "a row that is %s is found" % what, None if any(notions.faults(shown)) else "it is not"
     sources_of = [text_of(os.path.join("crates", "gcflip_heap_c", "src", name)) for name in ("handle.rt", "parts.rt")]
     bodies = [body for text in sources_of for body in re.split(r"\bfn \w+", text)[1:]]
     count = ["no", "one", "two", "three", "four", "five", "six", "seven", "eight", "nine"][len([body for body in bodies if re.search(r"\bat\b", body)])]
@@ -671,7 +659,7 @@ def architecture(_program, _folder):
 
 
 # Words that the documents use in one sense, beside those that README and docs/EMBEDDING.md introduce.
-IN_ONE_SENSE = {"extra root", "frame", "pace", "standing checker", "snapshot"}
+IN_ONE_SENSE = {"extra root", "frame", "monitor", "pace", "room", "standing checker", "snapshot"}
 
 
 def glossary(_program, _folder):

@@ -55,7 +55,7 @@ PLACES = {
     "gcflip_heap_c/src/work.rt": {("work_sized", BY_ARM): 1, ("gcflip_heap_work_within", BY_ARM): 1},
     "gcflip_heap_c/src/checking.rt": {("gcflip_heap_check", BY_ARM): 1},
     "gc_copy/src/log.rt": {("add_segment", BY_HAND): 1},
-    "gc_core/src/checking.rt": {("found_by", BY_ARM): 1},
+    "gc_collected/src/checking.rt": {("found_by", BY_ARM): 1},
     "gc_shared/src/closing.rt": {("fault", BY_ARM): 1},
     "gc_shared/src/fault.rt": {("from", BY_FROM): 5, ("from", BY_ARM): 1},
     "gc_trace/src/playing.rt": {("play_all", BY_ARM): 1},

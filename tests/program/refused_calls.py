@@ -23,7 +23,7 @@ RETRY = 1000033
 # The number of refused requests, if it follows from the data that a call has to keep.
 EXACTLY = {
     # The pairs, the new roots, and the checker's three tables.
-    "collected_heaps::flip_of_1000_that_keeps_nothing": 5,
+    "collected_heaps::flip_of_1000_that_keeps_room": 5,
     # The same, and the words and roots of the kept pair.
     "collected_heaps::flip_of_1000_that_keeps_the_pair": 7,
     # The same, and an entry of the history.

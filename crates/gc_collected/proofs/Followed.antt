@@ -1,6 +1,6 @@
 -- A monitor that follows a collected heap goes on following it through commands.
 use Rattle.std.proofs.lemmas.Grind.{common_steps}
-use Rattle.std.proofs.Common.{◌≡◌, ℕ, ◌<◌, [], Option, Some, None, true, false, Bool, refl, ap, sym, subst, ◌∙◌, arith}
+use Rattle.std.proofs.Common.{◌≡◌, ℕ, ◌<◌, [], Option, Some, None, true, false, Bool, refl, ap, sym, subst, arith}
 use Rattle.std.specs.Prelude.{IfSome}
 use Rattle.std.specs.Option.{option_map}
 use Rattle.gc_graph.specs.Graph.{Graph}
@@ -21,7 +21,7 @@ use Rattle.gc_plan.specs.Belonging.{IsOpened, IsSpaceGraph}
 use Rattle.gc_along.specs.Claims.{CanMake}
 use Rattle.gc_along.specs.Events.{Made}
 use Rattle.gc_along.specs.Tables.{Tables}
-use Rattle.gc_copy.specs.Words.{CollectionWords, collection_in, idle_state, state_of}
+use Rattle.gc_copy.specs.Words.{CollectionWords, collection_in, state_of}
 use Rattle.gc_copy.proofs.Public.{idle_left}
 use Rattle.gc_collected.specs.Internal.Follows.{Follows}
 use Rattle.gc_collected.proofs.Monitor.Follows.{follows_closed, follows_new, follows_quiet}

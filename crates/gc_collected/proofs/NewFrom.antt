@@ -1,6 +1,6 @@
 -- The commands that make an object and fill its fields, in order.
 use Rattle.std.proofs.lemmas.Grind.{common_steps}
-use Rattle.std.proofs.Common.{◌≡◌, ◌<◌, ◌+◌, ℕ, suc, List, [], ◌∷◌, length, drop, get_or, sym, ◌∙◌, ap, subst, arith}
+use Rattle.std.proofs.Common.{◌≡◌, ◌<◌, ◌+◌, ℕ, suc, List, [], ◌∷◌, length, drop, get_or, sym, ◌∙◌, ap, arith}
 use Rattle.std.proofs.lemmas.List.{drop_more}
 use Rattle.gc_graph.specs.Slots.{SlotName}
 use Rattle.gc_graph.specs.declared.command.Op.TheVariants.{New, Put}

@@ -1,7 +1,7 @@
 -- Commands that write no field: they change only the heap, whether a collection is open or not.
 use Rattle.std.proofs.lemmas.Grind.{common_steps}
 use Rattle.std.proofs.Common.{◌≡◌, ℕ, ◌+◌, ◌<◌, length, Option, Some, None, ap, sym, subst, arith, rules}
-use Rattle.std.specs.Prelude.{IfSome, min, max}
+use Rattle.std.specs.Prelude.{min, max}
 use Rattle.gc_graph.specs.Slots.{SlotName, roots_of}
 use Rattle.std.specs.Option.{option_map}
 use Rattle.gc_graph.specs.declared.command.Op.{Op}
@@ -9,7 +9,7 @@ use Rattle.gc_graph.specs.declared.reply.Reply.{Reply}
 use Rattle.gc_heap.specs.Heap.{HeapWords, IsHeap, graph_in}
 use Rattle.gc_heap.specs.Commands.{Performs}
 use Rattle.gc_plan.specs.Steps.{WritesField, mutate}
-use Rattle.gc_copy.specs.Words.{CollectionWords, BelongsTo, collection_in, state_of, open_state}
+use Rattle.gc_copy.specs.Words.{CollectionWords, collection_in, state_of}
 use Rattle.gc_copy.proofs.Public.{open_left, idle_left, still_unlinked}
 use Rattle.gc_plan.specs.State.{State}
 use Rattle.gc_plan.specs.Staying.{root_written}

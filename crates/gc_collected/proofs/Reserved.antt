@@ -1,14 +1,9 @@
 -- Room in the logs of an open collection changes neither its state nor what is known of the roots. While none is open, the heap is all.
-use Rattle.std.proofs.Common.{◌≡◌, ℕ, ◌<◌, Option, Some, None, refl, sym, ap, ◌∙◌, subst}
+use Rattle.std.proofs.Common.{◌≡◌, ℕ, Option, Some, None, refl, sym, ap, ◌∙◌, subst}
 use Rattle.std.specs.Option.{option_map}
-use Rattle.gc_graph.specs.declared.command.Op.{Op}
-use Rattle.gc_graph.specs.declared.reply.Reply.{Reply}
-use Rattle.gc_heap.specs.Heap.{HeapWords, IsHeap}
-use Rattle.gc_heap.specs.Commands.{Performs}
+use Rattle.gc_heap.specs.Heap.{HeapWords}
 use Rattle.gc_plan.specs.State.{Collection, State}
-use Rattle.gc_plan.specs.Steps.{WritesField, mutate}
 use Rattle.gc_copy.specs.Words.{CollectionWords, BelongsTo, LinksNothing, collection_in, state_of, open_state, idle_state}
-use Rattle.gc_copy.proofs.Public.{open_left}
 use Rattle.gc_along.specs.Tables.{Tables}
 use Rattle.gc_collected.specs.Internal.Follows.{Follows}
 use Rattle.gc_collected.specs.Internal.CollectedHeap.{Fits}

@@ -1,12 +1,12 @@
 -- Fields that are copied from one object to another in one call.
-use Rattle.std.specs.Prelude.{◌≡◌, ⊤, ℕ, zero, suc, ◌+◌, nat_le, Bool, ◌&&◌, ◌||◌, not, if◌then◌else◌, List, length, Option, Some, slice_range}
+use Rattle.std.specs.Prelude.{ℕ, zero, suc, ◌+◌, nat_le, Bool, ◌&&◌, ◌||◌, not, if◌then◌else◌, List, length, Option, Some, slice_range}
 use Rattle.std.specs.List.{list_all}
 use Rattle.gc_graph.specs.Slots.{SlotName, place}
 use Rattle.gc_graph.specs.Graph.{Value, Object, Graph, object_of, root}
 use Rattle.gc_graph.specs.Machine.{is_number}
 use Rattle.gc_graph.specs.declared.command.Op.TheVariants.{Get, Put}
 use Rattle.gc_graph.specs.declared.reply.Reply.{Reply}
-use Rattle.gc_graph.specs.declared.reply.Reply.TheVariants.{Done, Saw, NoObject, NoField, NoNumber}
+use Rattle.gc_graph.specs.declared.reply.Reply.TheVariants.{Done, NoObject, NoField, NoNumber}
 use Rattle.gc_plan.specs.State.{State}
 use Rattle.gc_plan.specs.Steps.{mutate}
 use Rattle.gc_collected.specs.Writing.{after_reply}

@@ -51,7 +51,15 @@ impl CollectedHeap {
         let _ = self.heap.space();
         let _ = d.index();
         self.known.slots = 0;
-        new_in(&self.collection, &mut self.heap, &mut self.watch, m, d, kind, len)
+        new_in(
+            &self.collection,
+            &mut self.heap,
+            &mut self.watch,
+            m,
+            d,
+            kind,
+            len,
+        )
     }
 
     /// Makes a raw object, as `new_object` makes an object. Its fields are plain numbers, all 0. Does not allocate.
@@ -172,15 +180,7 @@ impl CollectedHeap {
             return Ok(self.heap.put(m, s, i, t));
         };
         collection.reserve(m)?;
-        Ok(put(
-            collection,
-            &mut self.heap,
-            &mut self.watch,
-            m,
-            s,
-            i,
-            t,
-        ))
+        Ok(put(collection, &mut self.heap, &mut self.watch, m, s, i, t))
     }
 
     /// Performs a `num` and a `put` in one call: sets `t` to the number, and then writes it to field `i` of the object

@@ -57,12 +57,38 @@ impl CollectedHeap {
         let object = OldAddr(self.heap.space().end());
         reserve_in(&mut self.collection, m, 2)?;
         self.known.slots = 0;
-        let made = new_in(&self.collection, &mut self.heap, &mut self.watch, m, d, kind, 2);
+        let made = new_in(
+            &self.collection,
+            &mut self.heap,
+            &mut self.watch,
+            m,
+            d,
+            kind,
+            2,
+        );
         if let Reply::Full = made {
             return Ok(made);
         }
-        let _first = fill_in(&mut self.collection, &mut self.heap, &mut self.watch, m, d, object, 0, s);
-        let _second = fill_in(&mut self.collection, &mut self.heap, &mut self.watch, m, d, object, 1, t);
+        let _first = fill_in(
+            &mut self.collection,
+            &mut self.heap,
+            &mut self.watch,
+            m,
+            d,
+            object,
+            0,
+            s,
+        );
+        let _second = fill_in(
+            &mut self.collection,
+            &mut self.heap,
+            &mut self.watch,
+            m,
+            d,
+            object,
+            1,
+            t,
+        );
         Ok(made)
     }
 
@@ -93,11 +119,27 @@ impl CollectedHeap {
         let count = fields.count();
         reserve_in(&mut self.collection, m, usize::from(count))?;
         self.known.slots = 0;
-        let made = new_in(&self.collection, &mut self.heap, &mut self.watch, m, d, kind, count);
+        let made = new_in(
+            &self.collection,
+            &mut self.heap,
+            &mut self.watch,
+            m,
+            d,
+            kind,
+            count,
+        );
         if let Reply::Full = made {
             return Ok(made);
         }
-        fill_all(&mut self.collection, &mut self.heap, &mut self.watch, m, d, object, fields);
+        fill_all(
+            &mut self.collection,
+            &mut self.heap,
+            &mut self.watch,
+            m,
+            d,
+            object,
+            fields,
+        );
         Ok(made)
     }
 }

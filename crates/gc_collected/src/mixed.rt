@@ -74,11 +74,27 @@ impl CollectedHeap {
         let count = fields.count();
         reserve_in(&mut self.collection, m, usize::from(count))?;
         self.known.slots = 0;
-        let made = new_in(&self.collection, &mut self.heap, &mut self.watch, m, d, kind, count);
+        let made = new_in(
+            &self.collection,
+            &mut self.heap,
+            &mut self.watch,
+            m,
+            d,
+            kind,
+            count,
+        );
         if let Reply::Full = made {
             return Ok(made);
         }
-        fill_all(&mut self.collection, &mut self.heap, &mut self.watch, m, d, t, fields);
+        fill_all(
+            &mut self.collection,
+            &mut self.heap,
+            &mut self.watch,
+            m,
+            d,
+            t,
+            fields,
+        );
         Ok(made)
     }
 }

@@ -1,12 +1,8 @@
 //! Minor collections of a heap with two generations: what a certificate of the young objects alone says of the whole heap.
 #![tactic(auto)]
 
-mod barrier;
-mod encoding;
 mod laws;
 
-pub use barrier::{is_old, is_young, must_remember};
-pub use encoding::encode_word;
 pub use laws::{
     base_one_is_the_present_certificate, commands_keep_heaps_standing,
     encoded_certificates_are_enough, encoded_certificates_certify_whole_heaps,

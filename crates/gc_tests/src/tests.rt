@@ -4,7 +4,6 @@ mod check;
 mod collected;
 mod copy;
 mod extra_roots;
-mod generations;
 mod graph;
 mod heap;
 mod words;

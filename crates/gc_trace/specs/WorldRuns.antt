@@ -2,6 +2,7 @@
 use Rattle.std.specs.Prelude.{◌≡◌, [], ◌∷◌, ◌++◌}
 use Rattle.gc_plan.specs.Runs.{after}
 use Rattle.gc_collected.specs.Performing.{kept_with}
+use Rattle.gc_collected.specs.declared.flip.Keep.TheVariants.{Pair}
 use Rattle.gc_world.specs.History.{events_of}
 use Rattle.gc_world.specs.World.{Past, present}
 use Rattle.gc_plan.specs.declared.event.Event.{Event}
@@ -13,7 +14,7 @@ pub record Happens (old : Past) (event : Event) (new : Past) : Type 0 where
   pub mutators : new.mutators ≡ old.mutators
   pub events : events_of new.entries ≡ events_of old.entries ++ event ∷ []
   pub state : present new ≡ after (present old) event
-  pub kept : new.kept ≡ kept_with old.kept (present old) event
+  pub kept : new.kept ≡ kept_with Pair old.kept (present old) event
 
 -- all events of the trace happened, each once and in order, in a world with the trace's size and number of mutators
 pub record HasRun (t : Recording) (past : Past) : Type 0 where

@@ -2,15 +2,16 @@
 use Rattle.std.proofs.lemmas.Grind.{common_steps}
 use Rattle.std.proofs.Common.{◌≡◌, true, arith}
 use Rattle.gc_plan.specs.declared.step.StepReply.{StepReply}
-use Rattle.gc_live.specs.Live.{Turns, turns_after}
+use Rattle.gc_collected.specs.Collected.{Turns, turns_after}
+use Rattle.gc_collected.specs.declared.flip.Keep.TheVariants.{Room}
 use Rattle.gcflip_heap_c.specs.Replies.{step_reply_in_c}
 use Rattle.gcflip_heap_c.specs.Work.{goes_on, turns_after_work}
 use Rattle.gcflip_heap_c.specs.declared.work.GcflipWork.{GcflipWork}
 
 -- a step after which work goes on is no flip
-pub turns_going : (t : Turns) (reply : StepReply) → goes_on reply ≡ true → turns_after t reply ≡ t
+pub turns_going : (t : Turns) (reply : StepReply) → goes_on reply ≡ true → turns_after Room t reply ≡ t
 turns_going t reply on = grind (arith, common_steps)
 
 -- the report tells whether the last step was a flip
-pub turns_told : (t : Turns) (work : GcflipWork) (reply : StepReply) → work.last ≡ step_reply_in_c reply → turns_after t reply ≡ turns_after_work t work
+pub turns_told : (t : Turns) (work : GcflipWork) (reply : StepReply) → work.last ≡ step_reply_in_c reply → turns_after Room t reply ≡ turns_after_work t work
 turns_told t work reply last = grind (arith, common_steps)

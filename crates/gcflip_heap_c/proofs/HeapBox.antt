@@ -10,8 +10,8 @@ use Rattle.std_alloc.proofs.BoxSteps.Form.{Bx}
 use Rattle.std.specs.contracts.alloc.Global as Global
 use Rattle.std.specs.contracts.impls.GlobalAllocator.TheImpl.{ghosts, dict}
 use Rattle.std.proofs.alloc.Global.TheLaws as global
-use Rattle.gc_live.specs.contracts.kept_heap.KeptHeap as Heap
-use Rattle.gc_live.proofs.kept_heap.KeptHeap.TheLaws as heap
+use Rattle.gc_collected.specs.contracts.collected_heap.CollectedHeap as Heap
+use Rattle.gc_collected.proofs.collected_heap.CollectedHeap.TheLaws as heap
 use Rattle.gcflip_heap_c.specs.contracts.parts.Parts as Parts
 use Rattle.gcflip_heap_c.specs.contracts.handle.GcflipHeap as Handle
 

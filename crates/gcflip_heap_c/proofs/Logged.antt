@@ -8,7 +8,7 @@ use Rattle.gc_plan.specs.Belonging.{IsOpened}
 use Rattle.gc_plan.specs.Progress.{entries_in}
 use Rattle.gc_plan.specs.State.{Collection, State}
 use Rattle.gc_plan.specs.Steps.{log_at}
-use Rattle.gc_core.specs.Readings.{log_of}
+use Rattle.gc_collected.specs.Readings.{log_of}
 
 -- the entries in the logs of this mutator and of those after it
 abbrev pub entries_from : State → ℕ → ℕ

@@ -12,7 +12,7 @@ use Rattle.gc_plan.specs.declared.step.Step.{Step}
 use Rattle.gc_plan.specs.declared.step.Step.TheVariants as steps
 use Rattle.gc_plan.specs.declared.step.StepReply.{StepReply}
 use Rattle.gc_plan.specs.declared.step.StepReply.TheVariants.{Clean, NoRoom, NotReady, Refused, Flipped}
-use Rattle.gc_core.specs.Flip.{FlipsOnly, IsCertified, PassesIfReady, HasRoomIfLarge}
+use Rattle.gc_collected.specs.Flip.{FlipsOnly, IsCertified, PassesIfReady, HasRoomIfLarge}
 use Rattle.gcflip_heap_c.specs.Work.{IsSoundReply, IsLarge, with_size, sized_step, after_useful, useful_reply, goes_on}
 
 -- ---- a ready collection

@@ -5,9 +5,9 @@ use Rattle.gc_check.specs.declared.in_c.GcflipVerdict.{GcflipVerdict}
 use Rattle.gc_check.specs.declared.verdict.Verdict.TheVariants as verdict
 use Rattle.gc_plan.specs.State.{State}
 use Rattle.gc_plan.specs.declared.step.StepReply.TheVariants as steps
-use Rattle.gc_core.specs.Flip.{flip_pair, IsCertified}
-use Rattle.gc_core.specs.declared.checking.Finding.{Finding}
-use Rattle.gc_core.specs.declared.checking.Finding.TheVariants.{Idle, NotReady, Holds, Refused}
+use Rattle.gc_collected.specs.Flip.{flip_pair, IsCertified}
+use Rattle.gc_collected.specs.declared.checking.Finding.{Finding}
+use Rattle.gc_collected.specs.declared.checking.Finding.TheVariants.{Idle, NotReady, Holds, Refused}
 use Rattle.gcflip_heap_c.specs.Replies.{step_reply_in_c}
 
 -- The answer of a check that found this, and C's verdict before and after it. It is written if the check looked at the certificate.

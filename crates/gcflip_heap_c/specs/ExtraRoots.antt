@@ -5,7 +5,7 @@ use Rattle.gc_graph.specs.declared.reply.Reply.{Reply}
 use Rattle.gc_heap.specs.ExtraRoots.{extra_slot}
 use Rattle.gc_plan.specs.State.{State, extra_roots_of}
 use Rattle.gc_plan.specs.Steps.{mutate}
-use Rattle.gc_core.specs.ExtraRoots.{clear_step}
+use Rattle.gc_collected.specs.ExtraRoots.{clear_step}
 use Rattle.gcflip_heap_c.specs.Commands.{IsCallOr, Replies}
 use Rattle.gcflip_heap_c.specs.Replies.{reply_in_c}
 use Rattle.gcflip_heap_c.specs.Slots.{numbered_slot, NamesSlots}

@@ -2,8 +2,8 @@
 use Rattle.std.specs.Prelude.{◌<◌, ◌^◌, ◌==◌, ◌&&◌, ◌||◌, nat_lt, Bool, IsTrue, if◌then◌else◌, List, length}
 use Rattle.std.specs.List.{AllByRecursion}
 use Rattle.gc_graph.specs.Limits.{lengths}
-use Rattle.gc_core.specs.declared.mixed.FieldSource.{FieldSource}
-use Rattle.gc_core.specs.declared.mixed.FieldSource.TheVariants.{Nil, Number, Slot}
+use Rattle.gc_collected.specs.declared.mixed.FieldSource.{FieldSource}
+use Rattle.gc_collected.specs.declared.mixed.FieldSource.TheVariants.{Nil, Number, Slot}
 use Rattle.gcflip_heap_c.specs.declared.mixed.GcflipField.{GcflipField}
 use Rattle.gcflip_heap_c.specs.Slots.{slot_numbers, numbered_slot}
 

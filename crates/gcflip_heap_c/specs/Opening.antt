@@ -3,8 +3,8 @@ use Rattle.std.specs.Prelude.{◌≡◌, ℕ, ◌≤◌, ◌==◌, if◌then◌e
 use Rattle.gc_graph.specs.Limits.{most_mutators}
 use Rattle.gc_heap.specs.ExtraRoots.{most_extra_roots}
 use Rattle.gc_heap.specs.declared.options.HeapOptions.{HeapOptions}
-use Rattle.gc_live.specs.declared.checking.Checking.{Checking}
-use Rattle.gc_live.specs.declared.checking.Checking.TheVariants.{AtFlip, Along}
+use Rattle.gc_collected.specs.declared.checks.Checking.{Checking}
+use Rattle.gc_collected.specs.declared.checks.Checking.TheVariants.{AtFlip, Along}
 use Rattle.gcflip_heap_c.specs.declared.opening.GcflipOptions.{GcflipOptions}
 
 -- the number of bytes of the record of options

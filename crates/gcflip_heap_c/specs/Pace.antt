@@ -4,7 +4,7 @@ use Rattle.gc_plan.specs.State.{State}
 use Rattle.gc_plan.specs.Steps.{useful_step}
 use Rattle.gc_plan.specs.Progress.{work_left}
 use Rattle.gc_plan.specs.declared.step.StepReply.TheVariants.{NoRoom}
-use Rattle.gc_core.specs.CollectedHeap.{Allocates}
+use Rattle.gc_collected.specs.CollectedHeap.{Allocates}
 use Rattle.gcflip_heap_c.specs.Readings.{counts_of}
 use Rattle.gcflip_heap_c.specs.Replies.{step_reply_in_c}
 use Rattle.gcflip_heap_c.specs.Work.{IsWork, has_flipped}

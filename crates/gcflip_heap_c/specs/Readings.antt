@@ -3,7 +3,7 @@ use Rattle.std.specs.Prelude.{◌≡◌, ℕ, min, nat_lt, if◌then◌else◌, 
 use Rattle.std.specs.Option.{option_map, option_map_or}
 use Rattle.gc_plan.specs.State.{State, Collection, new_end, heap_end, extra_roots_of}
 use Rattle.gc_plan.specs.Progress.{entries_left}
-use Rattle.gc_core.specs.Readings.{heap_image, log_of}
+use Rattle.gc_collected.specs.Readings.{heap_image, log_of}
 use Rattle.gcflip_heap_c.specs.declared.reading.GcflipCounts.{GcflipCounts}
 use Rattle.gcflip_heap_c.specs.declared.reading.GcflipLogEntry.{GcflipLogEntry}
 

@@ -9,9 +9,10 @@ use Rattle.gc_plan.specs.declared.step.Step.{Step}
 use Rattle.gc_plan.specs.declared.step.Step.TheVariants.{Begin, BeginSized, Flip}
 use Rattle.gc_plan.specs.declared.step.StepReply.{StepReply}
 use Rattle.gc_plan.specs.declared.step.StepReply.TheVariants.{NoRoom, Refused, Flipped}
-use Rattle.gc_core.specs.CollectedHeap.{Allocates}
-use Rattle.gc_core.specs.Flip.{FlipsOnly, IsCertified, PassesIfReady, HasRoomIfLarge}
-use Rattle.gc_live.specs.Live.{Turns, Rooms, Beside, HasBegun, WereRefused, checks_whole, flipped_turns, rooms_flipped, rooms_given_back}
+use Rattle.gc_collected.specs.CollectedHeap.{Allocates}
+use Rattle.gc_collected.specs.Flip.{FlipsOnly, IsCertified, PassesIfReady, HasRoomIfLarge}
+use Rattle.gc_collected.specs.Collected.{Turns, Rooms, Beside, BeginsIn, WereRefused, checks_whole, flipped_turns, rooms_flipped, rooms_given_back}
+use Rattle.gc_collected.specs.declared.flip.Keep.TheVariants.{Room}
 use Rattle.gcflip_heap_c.specs.Replies.{step_reply_in_c, pairs_after}
 use Rattle.gcflip_heap_c.specs.declared.work.GcflipWork.{GcflipWork}
 
@@ -45,24 +46,24 @@ has_flipped work = work.last == step_reply_in_c (Flipped work.pairs)
 
 -- how flips are checked after this work, of which only the last step can be a flip
 abbrev pub turns_after_work : Turns → GcflipWork → Turns
-turns_after_work turns work = if has_flipped work then flipped_turns turns else turns
+turns_after_work turns work = if has_flipped work then flipped_turns Room turns else turns
 
 -- ---- memory that waits
 
--- The rooms while work's collection is open, where the last flip left so many words. Its first step begins the collection unless one is open.
-abbrev pub HaveOpened : Option ℕ → State → ℕ → Rooms → Rooms → Type 0
-HaveOpened size s left old opened = (IsSome s.collection → opened ≡ old) × (s.collection ≡ None → HasBegun (unwrap_or size s.size) left old opened)
+-- The rooms while work's collection is open. Its first step begins the collection unless one is open.
+abbrev pub HaveOpened : Option ℕ → State → Beside → Rooms → Type 0
+HaveOpened size s b opened = (IsSome s.collection → opened ≡ b.rooms) × (s.collection ≡ None → BeginsIn (unwrap_or size s.size) b opened)
 
 -- The rooms after useful steps, the last of which flips or not. Of the others none flips, and only the first may begin a collection.
-abbrev pub HaveRooms : Option ℕ → State → ℕ → Beside → Bool → Rooms → Type 0
-HaveRooms size s left b flips new =
-    (opened : Rooms) × HaveOpened size s left b.rooms opened × (new ≡ (if flips then rooms_flipped (record b { rooms = opened }) else opened))
+abbrev pub HaveRooms : Option ℕ → State → Beside → Bool → Rooms → Type 0
+HaveRooms size s b flips new =
+    (opened : Rooms) × HaveOpened size s b opened × (new ≡ (if flips then rooms_flipped Room (record b { rooms = opened }) else opened))
 
 -- The rooms after work that leads to the state t: as before if it performed no step. Otherwise it gives one slice back after its steps. A flip
 -- that has to check both spaces whole frees what leaves even where it is refused memory.
-pub record HaveWorked (size : Option ℕ) (s t : State) (left : ℕ) (b : Beside) (work : GcflipWork) (new : Rooms) : Type 0 where
+pub record HaveWorked (size : Option ℕ) (s t : State) (b : Beside) (work : GcflipWork) (new : Rooms) : Type 0 where
   pub none : work.steps ≡ 0 → new ≡ b.rooms
-  pub some : 1 ≤ work.steps → (flips : Bool) × (before : Rooms) × ((flips ≡ has_flipped work) ⊎ (IsTrue (checks_whole b.turns) × Allocates t Flip)) × HaveRooms size s left b flips before × (new ≡ rooms_given_back before)
+  pub some : 1 ≤ work.steps → (flips : Bool) × (before : Rooms) × ((flips ≡ has_flipped work) ⊎ (IsTrue (checks_whole Room b.turns) × Allocates t Flip)) × HaveRooms size s b flips before × (new ≡ rooms_given_back before)
 
 -- the rooms after a refused call: where memory was refused, some may have been freed
 abbrev pub RefusedRooms : ℕ → Rooms → Rooms → Type 0

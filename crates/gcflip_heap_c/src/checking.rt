@@ -3,8 +3,8 @@
 ghost use Rattle.std.specs.Prelude.{◌≡◌, ◌⊎◌, ◌↔◌, None, IsSomeAnd};
 ghost use Rattle.gc_check.specs.InC.{done, no_memory, IsRefusal};
 ghost use Rattle.gc_plan.specs.declared.step.Step.{Step};
-ghost use Rattle.gc_core.specs.Checking.{finding};
-ghost use Rattle.gc_core.specs.CollectedHeap.{Allocates};
+ghost use Rattle.gc_collected.specs.Checking.{finding};
+ghost use Rattle.gc_collected.specs.CollectedHeap.{Allocates};
 ghost use Rattle.gcflip_heap_c.specs.Answers.{closed_handle};
 ghost use Rattle.gcflip_heap_c.specs.Checking.{TellsFinding, IsSoundFinding};
 
@@ -12,8 +12,8 @@ use crate::answer::{CLOSED, DONE, NO_MEMORY};
 use crate::handle::GcflipHeap;
 use crate::reply::of_step;
 use gc_check::{GcflipVerdict, Sequential, Verdict};
+use gc_collected::Finding;
 use gc_copy::StepReply;
-use gc_core::Finding;
 use gc_graph::NoMemory;
 
 /// How many flips each checker has accepted since the heap was opened, as C sees it.
@@ -38,13 +38,12 @@ pub extern "C" fn gcflip_heap_flip_checks(
     ensures counts { result ≡ done → (checks.new.along ≡ heap.old.beside.turns.checks.along) × (checks.new.whole ≡ heap.old.beside.turns.checks.whole) }
     ensures silent { result ≡ closed_handle → checks.new ≡ checks.old }
     ensures closed { (result ≡ closed_handle) ↔ (heap.old.state ≡ None) }
-    ensures former { heap.new.former ≡ heap.old.former }
     ensures beside { heap.new.beside ≡ heap.old.beside }
 {
     if heap.is_empty() {
         return CLOSED;
     }
-    let counted = heap.kept_mut().live.flip_checks();
+    let counted = heap.heap_mut().flip_checks();
     *checks = GcflipFlipChecks {
         along: counted.along,
         whole: counted.whole,
@@ -79,13 +78,12 @@ pub extern "C" fn gcflip_heap_check(heap: &mut GcflipHeap, verdict: &mut GcflipV
     ensures answers { IsRefusal result → (result ≡ no_memory) ⊎ (result ≡ closed_handle) }
     ensures memory { result ≡ no_memory → IsSomeAnd heap.old.state (λ s. Allocates s Step.Flip) }
     ensures closed { (result ≡ closed_handle) ↔ (heap.old.state ≡ None) }
-    ensures former { heap.new.former ≡ heap.old.former }
     ensures beside { heap.new.beside ≡ heap.old.beside }
 {
     if heap.is_empty() {
         return CLOSED;
     }
-    match heap.kept_mut().live.check(&Sequential) {
+    match heap.heap_mut().check(&Sequential) {
         Ok(found) => of_finding(found, verdict),
         Err(NoMemory) => NO_MEMORY,
     }

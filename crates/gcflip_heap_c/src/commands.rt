@@ -5,7 +5,7 @@ ghost use Rattle.gc_check.specs.InC.{no_memory, IsRefusal};
 ghost use Rattle.gc_graph.specs.Limits.{lengths};
 ghost use Rattle.gc_graph.specs.declared.command.Op.{Op};
 ghost use Rattle.gc_plan.specs.Steps.{mutate};
-ghost use Rattle.gc_core.specs.CollectedHeap.{new_from_step};
+ghost use Rattle.gc_collected.specs.CollectedHeap.{new_from_step};
 ghost use Rattle.gcflip_heap_c.specs.Commands.{IsCall, IsCommandCall, Replies};
 ghost use Rattle.gcflip_heap_c.specs.Replies.{reply_in_c, got_in_c, number_after, view_after};
 ghost use Rattle.gcflip_heap_c.specs.Slots.{NamesSlots, numbered_slot};
@@ -32,13 +32,12 @@ pub extern "C" fn gcflip_heap_new_object(
     ensures call { IsCommandCall (NamesSlots m (d ∷ []))
         (λ state. mutate state m (Op.New (numbered_slot d) kind count)) heap.old.state heap.new.state result }
     ensures memory { result ≢ no_memory }
-    ensures former { heap.new.former ≡ heap.old.former }
     ensures beside { heap.new.beside ≡ heap.old.beside }
 {
     if heap.is_empty() {
         return CLOSED;
     }
-    let heap = &mut heap.kept_mut().live;
+    let heap = heap.heap_mut();
     if m >= heap.mutators() {
         return OUT_OF_RANGE;
     }
@@ -63,13 +62,12 @@ pub extern "C" fn gcflip_heap_new_raw(
     ensures call { IsCommandCall (NamesSlots m (d ∷ []))
         (λ state. mutate state m (Op.NewRaw (numbered_slot d) kind count)) heap.old.state heap.new.state result }
     ensures memory { result ≢ no_memory }
-    ensures former { heap.new.former ≡ heap.old.former }
     ensures beside { heap.new.beside ≡ heap.old.beside }
 {
     if heap.is_empty() {
         return CLOSED;
     }
-    let heap = &mut heap.kept_mut().live;
+    let heap = heap.heap_mut();
     if m >= heap.mutators() {
         return OUT_OF_RANGE;
     }
@@ -88,13 +86,12 @@ pub extern "C" fn gcflip_heap_set_number(heap: &mut GcflipHeap, m: u8, d: u8, n:
     ensures call { IsCommandCall (λ state. NamesSlots m (d ∷ []) state × (n < 2 ^ 63))
         (λ state. mutate state m (Op.Num (numbered_slot d) n)) heap.old.state heap.new.state result }
     ensures memory { result ≢ no_memory }
-    ensures former { heap.new.former ≡ heap.old.former }
     ensures beside { heap.new.beside ≡ heap.old.beside }
 {
     if heap.is_empty() {
         return CLOSED;
     }
-    let heap = &mut heap.kept_mut().live;
+    let heap = heap.heap_mut();
     if m >= heap.mutators() {
         return OUT_OF_RANGE;
     }
@@ -112,13 +109,12 @@ pub extern "C" fn gcflip_heap_set_number(heap: &mut GcflipHeap, m: u8, d: u8, n:
 pub extern "C" fn gcflip_heap_set_nil(heap: &mut GcflipHeap, m: u8, d: u8) -> u32
     ensures call { IsCommandCall (NamesSlots m (d ∷ [])) (λ state. mutate state m (Op.Nil (numbered_slot d))) heap.old.state heap.new.state result }
     ensures memory { result ≢ no_memory }
-    ensures former { heap.new.former ≡ heap.old.former }
     ensures beside { heap.new.beside ≡ heap.old.beside }
 {
     if heap.is_empty() {
         return CLOSED;
     }
-    let heap = &mut heap.kept_mut().live;
+    let heap = heap.heap_mut();
     if m >= heap.mutators() {
         return OUT_OF_RANGE;
     }
@@ -134,13 +130,12 @@ pub extern "C" fn gcflip_heap_move(heap: &mut GcflipHeap, m: u8, d: u8, s: u8) -
     ensures call { IsCommandCall (NamesSlots m (d ∷ s ∷ []))
         (λ state. mutate state m (Op.Move (numbered_slot d) (numbered_slot s))) heap.old.state heap.new.state result }
     ensures memory { result ≢ no_memory }
-    ensures former { heap.new.former ≡ heap.old.former }
     ensures beside { heap.new.beside ≡ heap.old.beside }
 {
     if heap.is_empty() {
         return CLOSED;
     }
-    let heap = &mut heap.kept_mut().live;
+    let heap = heap.heap_mut();
     if m >= heap.mutators() {
         return OUT_OF_RANGE;
     }
@@ -168,13 +163,12 @@ pub extern "C" fn gcflip_heap_get(
         (λ reply. (result ≡ got_in_c reply) × (number.new ≡ number_after number.old reply))) heap.old.state heap.new.state result }
     ensures silent { IsRefusal result → number.new ≡ number.old }
     ensures memory { result ≢ no_memory }
-    ensures former { heap.new.former ≡ heap.old.former }
     ensures beside { heap.new.beside ≡ heap.old.beside }
 {
     if heap.is_empty() {
         return CLOSED;
     }
-    let heap = &mut heap.kept_mut().live;
+    let heap = heap.heap_mut();
     if m >= heap.mutators() {
         return OUT_OF_RANGE;
     }
@@ -194,13 +188,12 @@ pub extern "C" fn gcflip_heap_put(heap: &mut GcflipHeap, m: u8, s: u8, i: u16, t
     ensures call { IsCommandCall (NamesSlots m (s ∷ t ∷ []))
         (λ state. mutate state m (Op.Put (numbered_slot s) i (numbered_slot t))) heap.old.state heap.new.state result }
     ensures memory { result ≡ no_memory → IsSomeAnd heap.old.state (λ s. IsSome s.collection) }
-    ensures former { heap.new.former ≡ heap.old.former }
     ensures beside { heap.new.beside ≡ heap.old.beside }
 {
     if heap.is_empty() {
         return CLOSED;
     }
-    let heap = &mut heap.kept_mut().live;
+    let heap = heap.heap_mut();
     if m >= heap.mutators() {
         return OUT_OF_RANGE;
     }
@@ -233,13 +226,12 @@ pub extern "C" fn gcflip_heap_put_number(
     ensures call { IsCommandCall (λ state. NamesSlots m (s ∷ t ∷ []) state × (n < 2 ^ 63))
         (λ state. mutate (mutate state m (Op.Num (numbered_slot t) n)).1 m (Op.Put (numbered_slot s) i (numbered_slot t))) heap.old.state heap.new.state result }
     ensures memory { result ≡ no_memory → IsSomeAnd heap.old.state (λ s. IsSome s.collection) }
-    ensures former { heap.new.former ≡ heap.old.former }
     ensures beside { heap.new.beside ≡ heap.old.beside }
 {
     if heap.is_empty() {
         return CLOSED;
     }
-    let heap = &mut heap.kept_mut().live;
+    let heap = heap.heap_mut();
     if m >= heap.mutators() {
         return OUT_OF_RANGE;
     }
@@ -266,13 +258,12 @@ pub extern "C" fn gcflip_heap_put_nil(heap: &mut GcflipHeap, m: u8, s: u8, i: u1
     ensures call { IsCommandCall (NamesSlots m (s ∷ t ∷ []))
         (λ state. mutate (mutate state m (Op.Nil (numbered_slot t))).1 m (Op.Put (numbered_slot s) i (numbered_slot t))) heap.old.state heap.new.state result }
     ensures memory { result ≡ no_memory → IsSomeAnd heap.old.state (λ s. IsSome s.collection) }
-    ensures former { heap.new.former ≡ heap.old.former }
     ensures beside { heap.new.beside ≡ heap.old.beside }
 {
     if heap.is_empty() {
         return CLOSED;
     }
-    let heap = &mut heap.kept_mut().live;
+    let heap = heap.heap_mut();
     if m >= heap.mutators() {
         return OUT_OF_RANGE;
     }
@@ -303,13 +294,12 @@ pub extern "C" fn gcflip_heap_new_pair(
     ensures call { IsCommandCall (NamesSlots m (d ∷ s ∷ t ∷ []))
         (λ state. new_from_step state m (numbered_slot d) kind (numbered_slot s ∷ numbered_slot t ∷ [])) heap.old.state heap.new.state result }
     ensures memory { result ≡ no_memory → IsSomeAnd heap.old.state (λ s. IsSome s.collection) }
-    ensures former { heap.new.former ≡ heap.old.former }
     ensures beside { heap.new.beside ≡ heap.old.beside }
 {
     if heap.is_empty() {
         return CLOSED;
     }
-    let heap = &mut heap.kept_mut().live;
+    let heap = heap.heap_mut();
     if m >= heap.mutators() {
         return OUT_OF_RANGE;
     }
@@ -341,13 +331,12 @@ pub extern "C" fn gcflip_heap_new_from(
     ensures call { IsCommandCall (λ state. NamesSlots m (d ∷ fields.now) state × (length fields.now < lengths))
         (λ state. new_from_step state m (numbered_slot d) kind (map numbered_slot fields.now)) heap.old.state heap.new.state result }
     ensures memory { result ≡ no_memory → IsSomeAnd heap.old.state (λ s. IsSome s.collection) }
-    ensures former { heap.new.former ≡ heap.old.former }
     ensures beside { heap.new.beside ≡ heap.old.beside }
 {
     if heap.is_empty() {
         return CLOSED;
     }
-    let heap = &mut heap.kept_mut().live;
+    let heap = heap.heap_mut();
     if m >= heap.mutators() {
         return OUT_OF_RANGE;
     }
@@ -370,13 +359,12 @@ pub extern "C" fn gcflip_heap_same(heap: &mut GcflipHeap, m: u8, s: u8, t: u8) -
     ensures call { IsCommandCall (NamesSlots m (s ∷ t ∷ []))
         (λ state. mutate state m (Op.Same (numbered_slot s) (numbered_slot t))) heap.old.state heap.new.state result }
     ensures memory { result ≢ no_memory }
-    ensures former { heap.new.former ≡ heap.old.former }
     ensures beside { heap.new.beside ≡ heap.old.beside }
 {
     if heap.is_empty() {
         return CLOSED;
     }
-    let heap = &mut heap.kept_mut().live;
+    let heap = heap.heap_mut();
     if m >= heap.mutators() {
         return OUT_OF_RANGE;
     }
@@ -401,13 +389,12 @@ pub extern "C" fn gcflip_heap_look(
         (λ reply. (result ≡ reply_in_c reply) × (view.new ≡ view_after view.old reply))) heap.old.state heap.new.state result }
     ensures silent { IsRefusal result → view.new ≡ view.old }
     ensures memory { result ≢ no_memory }
-    ensures former { heap.new.former ≡ heap.old.former }
     ensures beside { heap.new.beside ≡ heap.old.beside }
 {
     if heap.is_empty() {
         return CLOSED;
     }
-    let heap = &mut heap.kept_mut().live;
+    let heap = heap.heap_mut();
     if m >= heap.mutators() {
         return OUT_OF_RANGE;
     }

@@ -2,7 +2,7 @@
 
 ghost use Rattle.std.specs.Prelude.{◌≡◌, ◌≢◌, ◌∷◌, [], IsSome, IsSomeAnd};
 ghost use Rattle.gc_check.specs.InC.{no_memory};
-ghost use Rattle.gc_core.specs.Copying.{copy_fields_step};
+ghost use Rattle.gc_collected.specs.Copying.{copy_fields_step};
 ghost use Rattle.gcflip_heap_c.specs.Commands.{IsCommandCall};
 ghost use Rattle.gcflip_heap_c.specs.Slots.{NamesSlots, numbered_slot};
 
@@ -29,13 +29,12 @@ pub extern "C" fn gcflip_heap_copy_fields(
     ensures call { IsCommandCall (λ state. NamesSlots m (d ∷ s ∷ t ∷ []) state × (t ≢ d) × (t ≢ s))
         (λ state. copy_fields_step state m (numbered_slot d) to (numbered_slot s) from (numbered_slot t) count) heap.old.state heap.new.state result }
     ensures memory { result ≡ no_memory → IsSomeAnd heap.old.state (λ s. IsSome s.collection) }
-    ensures former { heap.new.former ≡ heap.old.former }
     ensures beside { heap.new.beside ≡ heap.old.beside }
 {
     if heap.is_empty() {
         return CLOSED;
     }
-    let heap = &mut heap.kept_mut().live;
+    let heap = heap.heap_mut();
     if m >= heap.mutators() || t == d || t == s {
         return OUT_OF_RANGE;
     }

@@ -3,7 +3,7 @@
 ghost use Rattle.std.specs.Prelude.{◌≡◌, ◌≢◌, ◌<◌, ◌≤◌, ◌-◌, ◌↔◌, ◌∷◌, [], suc, IsTrue};
 ghost use Rattle.gc_check.specs.InC.{done, no_memory, IsRefusal};
 ghost use Rattle.gc_plan.specs.State.{extra_roots_of};
-ghost use Rattle.gc_core.specs.ExtraRoots.{clear_step};
+ghost use Rattle.gc_collected.specs.ExtraRoots.{clear_step};
 ghost use Rattle.gcflip_heap_c.specs.Answers.{frame_full, frame_empty};
 ghost use Rattle.gcflip_heap_c.specs.Commands.{IsCall, IsCommandCall};
 ghost use Rattle.gcflip_heap_c.specs.ExtraRoots.{load_step, store_step, pop_step, HasFrame, NamesFrame, IsFrameCall};
@@ -13,7 +13,7 @@ use crate::answer::{CLOSED, DONE, FRAME_EMPTY, FRAME_FULL, OUT_OF_RANGE};
 use crate::handle::GcflipHeap;
 use crate::reply::of_reply;
 use crate::slots::slot;
-use gc_live::LiveHeap;
+use gc_collected::CollectedHeap;
 
 /// A frame: the extra roots from `first` on and below `end` as a stack, as C sees it. Those below `top` hold its values.
 #[repr(C)]
@@ -28,7 +28,7 @@ pub struct GcflipFrame {
 }
 
 /// Returns whether the numbers of the frame are in order, and the heap has its roots.
-fn is_frame(heap: &LiveHeap, frame: &GcflipFrame) -> bool
+fn is_frame(heap: &CollectedHeap, frame: &GcflipFrame) -> bool
     ensures { IsTrue result ↔ HasFrame frame.now heap.now.core }
 {
     frame.first <= frame.top && frame.top <= frame.end && frame.end <= heap.extra_roots()
@@ -40,13 +40,12 @@ pub extern "C" fn gcflip_heap_root_load(heap: &mut GcflipHeap, m: u8, d: u8, k: 
     ensures call { IsCommandCall (λ state. NamesSlots m (d ∷ []) state × (k < extra_roots_of state))
         (λ state. load_step state m d k) heap.old.state heap.new.state result }
     ensures memory { result ≢ no_memory }
-    ensures former { heap.new.former ≡ heap.old.former }
     ensures beside { heap.new.beside ≡ heap.old.beside }
 {
     if heap.is_empty() {
         return CLOSED;
     }
-    let heap = &mut heap.kept_mut().live;
+    let heap = heap.heap_mut();
     if m >= heap.mutators() || k >= heap.extra_roots() {
         return OUT_OF_RANGE;
     }
@@ -62,13 +61,12 @@ pub extern "C" fn gcflip_heap_root_store(heap: &mut GcflipHeap, m: u8, k: u32, s
     ensures call { IsCommandCall (λ state. NamesSlots m (s ∷ []) state × (k < extra_roots_of state))
         (λ state. store_step state m k s) heap.old.state heap.new.state result }
     ensures memory { result ≢ no_memory }
-    ensures former { heap.new.former ≡ heap.old.former }
     ensures beside { heap.new.beside ≡ heap.old.beside }
 {
     if heap.is_empty() {
         return CLOSED;
     }
-    let heap = &mut heap.kept_mut().live;
+    let heap = heap.heap_mut();
     if m >= heap.mutators() || k >= heap.extra_roots() {
         return OUT_OF_RANGE;
     }
@@ -84,13 +82,12 @@ pub extern "C" fn gcflip_heap_root_clear(heap: &mut GcflipHeap, from: u32, to: u
     ensures call { IsCall (λ state. (from ≤ to) × (to ≤ extra_roots_of state))
         (λ old new. (result ≡ done) × (clear_step old from (to - from) ≡ new)) heap.old.state heap.new.state result }
     ensures memory { result ≢ no_memory }
-    ensures former { heap.new.former ≡ heap.old.former }
     ensures beside { heap.new.beside ≡ heap.old.beside }
 {
     if heap.is_empty() {
         return CLOSED;
     }
-    let heap = &mut heap.kept_mut().live;
+    let heap = heap.heap_mut();
     if from > to || to > heap.extra_roots() {
         return OUT_OF_RANGE;
     }
@@ -110,13 +107,12 @@ pub extern "C" fn gcflip_heap_frame_push(
         (λ state. store_step state m frame.old.top s) heap.old.state heap.new.state result }
     ensures frame { ¬ IsRefusal result → frame.new ≡ record frame.old { top = suc frame.old.top } }
     ensures silent { IsRefusal result → frame.new ≡ frame.old }
-    ensures former { heap.new.former ≡ heap.old.former }
     ensures beside { heap.new.beside ≡ heap.old.beside }
 {
     if heap.is_empty() {
         return CLOSED;
     }
-    let heap = &mut heap.kept_mut().live;
+    let heap = heap.heap_mut();
     if m >= heap.mutators() || !is_frame(heap, frame) {
         return OUT_OF_RANGE;
     }
@@ -144,13 +140,12 @@ pub extern "C" fn gcflip_heap_frame_pop(
         (λ state. pop_step state m d (frame.old.top - 1)) heap.old.state heap.new.state result }
     ensures frame { ¬ IsRefusal result → frame.new ≡ record frame.old { top = frame.old.top - 1 } }
     ensures silent { IsRefusal result → frame.new ≡ frame.old }
-    ensures former { heap.new.former ≡ heap.old.former }
     ensures beside { heap.new.beside ≡ heap.old.beside }
 {
     if heap.is_empty() {
         return CLOSED;
     }
-    let heap = &mut heap.kept_mut().live;
+    let heap = heap.heap_mut();
     if m >= heap.mutators() || !is_frame(heap, frame) {
         return OUT_OF_RANGE;
     }

@@ -3,7 +3,7 @@
 ghost use Rattle.std.specs.Prelude.{◌≡◌, ◌≢◌, ◌↔◌, ◌∷◌, [], IsTrue, IsSome, IsSomeAnd, map};
 ghost use Rattle.std.specs.List.{AllByRecursion};
 ghost use Rattle.gc_check.specs.InC.{no_memory};
-ghost use Rattle.gc_core.specs.Mixed.{new_with_step};
+ghost use Rattle.gc_collected.specs.Mixed.{new_with_step};
 ghost use Rattle.gcflip_heap_c.specs.Commands.{IsCommandCall};
 ghost use Rattle.gcflip_heap_c.specs.Mixed.{is_source, source_of as source_in, AreSources};
 ghost use Rattle.gcflip_heap_c.specs.Slots.{NamesSlots, numbered_slot};
@@ -12,7 +12,7 @@ use crate::answer::{CLOSED, NO_MEMORY, OUT_OF_RANGE};
 use crate::handle::GcflipHeap;
 use crate::reply::of_reply;
 use crate::slots::{SLOT_NUMBERS, numbered_slot, slot};
-use gc_core::{FieldSource, SourceRow};
+use gc_collected::{FieldSource, SourceRow};
 use gc_graph::{NoMemory, Number};
 
 /// What a field of a new object takes, as C says it.
@@ -98,13 +98,12 @@ pub extern "C" fn gcflip_heap_new_with(
     ensures call { IsCommandCall (λ state. NamesSlots m (d ∷ t ∷ []) state × (t ≢ d) × AreSources fields.now)
         (λ state. new_with_step state m (numbered_slot d) kind (numbered_slot t) (map source_in fields.now)) heap.old.state heap.new.state result }
     ensures memory { result ≡ no_memory → IsSomeAnd heap.old.state (λ s. IsSome s.collection) }
-    ensures former { heap.new.former ≡ heap.old.former }
     ensures beside { heap.new.beside ≡ heap.old.beside }
 {
     if heap.is_empty() {
         return CLOSED;
     }
-    let heap = &mut heap.kept_mut().live;
+    let heap = heap.heap_mut();
     if m >= heap.mutators() || t == d {
         return OUT_OF_RANGE;
     }

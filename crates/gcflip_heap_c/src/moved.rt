@@ -30,18 +30,17 @@ fn read_moved(former: &Room, old: u32, address: &mut u32) -> u32
 /// nothing back, and takes constant time.
 #[unsafe(no_mangle)]
 pub extern "C" fn gcflip_heap_moved(heap: &mut GcflipHeap, old: u32, address: &mut u32) -> u32
-    ensures call { IsCall (λ _. IsSome heap.old.former) (λ _ _. IsSomeAnd heap.old.former (λ room. TellsAddress (moved_in room old) address.old address.new result))
+    ensures call { IsCall (λ _. IsSome heap.old.beside.former) (λ _ _. IsSomeAnd heap.old.beside.former (λ room. TellsAddress (moved_in room old) address.old address.new result))
         heap.old.state heap.new.state result }
     ensures heap { heap.new.state ≡ heap.old.state }
     ensures silent { IsRefusal result → address.new ≡ address.old }
     ensures memory { result ≢ no_memory }
-    ensures former { heap.new.former ≡ heap.old.former }
     ensures beside { heap.new.beside ≡ heap.old.beside }
 {
     if heap.is_empty() {
         return CLOSED;
     }
-    match &heap.kept_mut().former {
+    match heap.heap_mut().former() {
         None => OUT_OF_RANGE,
         Some(former) => read_moved(former, old, address),
     }

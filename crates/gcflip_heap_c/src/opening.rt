@@ -1,19 +1,18 @@
 //! The exports that open and close a heap.
 
-ghost use Rattle.std.specs.Prelude.{◌≡◌, ◌<◌, ◌≤◌, ◌⊎◌, ◌↔◌, ◌==◌, None, Some, IsSome, IsTrue, IfOk, IfSome, if◌then◌else◌};
+ghost use Rattle.std.specs.Prelude.{◌≡◌, ◌<◌, ◌≤◌, ◌⊎◌, ◌↔◌, None, Some, IsSome, IsSomeAnd, IsTrue, IfOk};
 ghost use Rattle.gc_check.specs.InC.{done, no_memory};
 ghost use Rattle.gc_heap.specs.ExtraRoots as heaps;
 ghost use Rattle.gc_copy.specs.Opening.{opening_state_with};
-ghost use Rattle.gc_copy.specs.Words.{held_in};
-ghost use Rattle.gc_live.specs.Live.{opening_beside, rooms_touched};
+ghost use Rattle.gc_collected.specs.Collected.{opening_beside, rooms_touched};
 ghost use Rattle.gcflip_heap_c.specs.Answers.{out_of_range, closed_handle, open_handle};
 ghost use Rattle.gcflip_heap_c.specs.Opening.{CanOpenWith, checking_in, options_in};
 
 use crate::answer::{CLOSED, DONE, NO_MEMORY, OPEN, OUT_OF_RANGE};
 use crate::handle::GcflipHeap;
+use gc_collected::{Checking, CollectedHeap};
 use gc_graph::{MOST_MUTATORS, NoMemory};
 use gc_heap::{HeapOptions, MOST_EXTRA_ROOTS};
-use gc_live::{Checking, KeptHeap};
 use std::alloc::Global;
 
 /// The number of bytes of `GcflipOptions`.
@@ -54,11 +53,9 @@ pub extern "C" fn gcflip_heap_open(
 ) -> u32
     ensures answers { (result ≡ done) ⊎ ((result ≡ no_memory) ⊎ ((result ≡ out_of_range) ⊎ (result ≡ open_handle))) }
     ensures done { result ≡ done → heap.new.state ≡ Some (opening_state_with (options_in options.now)) }
-    // No flip has been.
-    ensures former { result ≡ done → heap.new.former ≡ None }
-    // Flips are checked as the options ask for, and no memory waits.
+    // Flips are checked as the options ask for, no memory waits, and no flip has been.
     ensures beside { result ≡ done → heap.new.beside ≡ opening_beside (checking_in options.now) }
-    ensures refused { 1 ≤ result → (heap.new.state ≡ heap.old.state) × (heap.new.former ≡ heap.old.former) × (heap.new.beside ≡ heap.old.beside) }
+    ensures refused { 1 ≤ result → (heap.new.state ≡ heap.old.state) × (heap.new.beside ≡ heap.old.beside) }
     ensures open { (result ≡ open_handle) ↔ IsSome heap.old.state }
     ensures outside { (result ≡ out_of_range) ↔ ((heap.old.state ≡ None) × (¬ CanOpenWith options.now)) }
 {
@@ -87,21 +84,19 @@ pub extern "C" fn gcflip_heap_open(
 /// space is left out. Allocates the space for the next collection, unless a flip has left one. Returns 0, or 3 if the handle has no heap,
 /// and 1 if the allocation fails. The heap stays as it is.
 #[unsafe(no_mangle)]
-pub extern "C" fn gcflip_heap_touch(alloc: Global, heap: &mut GcflipHeap) -> u32
+pub extern "C" fn gcflip_heap_touch(heap: &mut GcflipHeap) -> u32
     ensures answers { (result ≡ done) ⊎ ((result ≡ no_memory) ⊎ (result ≡ closed_handle)) }
     ensures heap { heap.new.state ≡ heap.old.state }
-    ensures former { heap.new.former ≡ heap.old.former }
-    ensures turns { heap.new.beside.turns ≡ heap.old.beside.turns }
-    // Then there is room for a collection as large as the heap, unless one is open.
-    ensures rooms { result ≡ done → IfSome heap.old.state (λ s. heap.new.beside.rooms ≡ (if held_in heap.old.former == s.size
-        then heap.old.beside.rooms else rooms_touched (record { core = s; beside = heap.old.beside }))) }
+    // Then there is room for a collection as large as the heap, unless one is open. Nothing else has changed.
+    ensures rooms { result ≡ done → IsSomeAnd heap.old.state (λ s.
+        heap.new.beside ≡ record heap.old.beside { rooms = rooms_touched (record { core = s; beside = heap.old.beside }) }) }
     ensures kept { 1 ≤ result → heap.new.beside ≡ heap.old.beside }
     ensures closed { (result ≡ closed_handle) ↔ (heap.old.state ≡ None) }
 {
     if heap.is_empty() {
         return CLOSED;
     }
-    match heap.kept_mut().touch(alloc) {
+    match heap.heap_mut().touch() {
         Ok(()) => DONE,
         Err(NoMemory) => NO_MEMORY,
     }
@@ -137,13 +132,12 @@ fn boxed_heap(
     alloc: Global,
     options: &HeapOptions,
     checking: Checking,
-) -> Result<Box<KeptHeap>, NoMemory>
+) -> Result<Box<CollectedHeap>, NoMemory>
     requires { heaps.CanOpen options.now }
-    ensures state { IfOk result (λ heap. heap.value.live.core ≡ opening_state_with options.now) }
-    ensures former { IfOk result (λ heap. heap.value.former ≡ None) }
-    ensures beside { IfOk result (λ heap. heap.value.live.beside ≡ opening_beside checking) }
+    ensures state { IfOk result (λ heap. heap.value.core ≡ opening_state_with options.now) }
+    ensures beside { IfOk result (λ heap. heap.value.beside ≡ opening_beside checking) }
 {
-    let opened = KeptHeap::open_with(alloc, options, checking)?;
+    let opened = CollectedHeap::open_with(alloc, options, checking)?;
     Ok(Box::new(alloc, opened)?)
 }
 

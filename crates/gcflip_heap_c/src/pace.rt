@@ -3,24 +3,22 @@
 ghost use Rattle.std.specs.Prelude.{◌≡◌, ◌⊎◌, ◌<◌, ◌≤◌, ◌↔◌, ◌^◌, ◌+◌, ◌*◌, min, Some, None, IsSomeAnd, IsTrue, IfOk, OnErr};
 ghost use Rattle.gc_check.specs.InC.{done, no_memory};
 ghost use Rattle.gc_plan.specs.Steps.{useful_step};
-ghost use Rattle.gc_core.specs.CollectedHeap.{Allocates};
+ghost use Rattle.gc_collected.specs.CollectedHeap.{Allocates};
 ghost use Rattle.gcflip_heap_c.specs.Answers.{out_of_range, closed_handle};
 ghost use Rattle.gcflip_heap_c.specs.Readings as readings;
 ghost use Rattle.gcflip_heap_c.specs.Pace as paces;
 ghost use Rattle.gcflip_heap_c.specs.Commands.{IsCall};
 ghost use Rattle.gcflip_heap_c.specs.Pace.{IsPace, IsPacedWork};
 ghost use Rattle.gcflip_heap_c.specs.Former.{LeavesAfter};
-ghost use Rattle.gcflip_heap_c.specs.Internal.Unchanged.{IsAsBefore};
-ghost use Rattle.gc_copy.specs.Words.{held_in};
-ghost use Rattle.gc_live.specs.Live.{WereRefused};
+ghost use Rattle.gc_collected.specs.Collected.{IsUnchangedButRooms, WereRefused};
 ghost use Rattle.gcflip_heap_c.specs.Work.{IsWork, HaveWorked, RefusedRooms, turns_after_work};
 
 use crate::answer::{CLOSED, DONE, FLIPPED, NO_MEMORY, NO_ROOM, OUT_OF_RANGE};
 use crate::handle::GcflipHeap;
 use crate::reading::{GcflipCounts, counts_of};
 use crate::work::{GcflipWork, work_on, work_within_on};
+use gc_collected::CollectedHeap;
 use gc_graph::NoMemory;
-use gc_live::KeptHeap;
 
 /// The lowest factor of a pace, in hundredths.
 const LOWEST_FACTOR: u32 = 100;
@@ -156,7 +154,6 @@ pub extern "C" fn gcflip_heap_pace(heap: &mut GcflipHeap, pace: &mut GcflipPace)
     ensures silent { 1 ≤ result → pace.new ≡ pace.old }
     ensures outside { (result ≡ out_of_range) ↔ IsSomeAnd heap.old.state (λ s. ¬ IsPace pace.old) }
     ensures closed { (result ≡ closed_handle) ↔ (heap.old.state ≡ None) }
-    ensures former { heap.new.former ≡ heap.old.former }
     ensures beside { heap.new.beside ≡ heap.old.beside }
 {
     if heap.is_empty() {
@@ -165,7 +162,7 @@ pub extern "C" fn gcflip_heap_pace(heap: &mut GcflipHeap, pace: &mut GcflipPace)
     if !is_fit(pace) {
         return OUT_OF_RANGE;
     }
-    let counts = counts_of(&heap.kept_mut().live);
+    let counts = counts_of(heap.heap_mut());
     pace.left = counts.end;
     pace.end = counts.end;
     pace.logged = counts.logged;
@@ -223,16 +220,17 @@ fn pace_after(pace: &GcflipPace, due: u32, work: &GcflipWork, counts: &GcflipCou
 
 /// Performs this many useful steps, or none. Ends once it performed `words` steps, or replicas took `words` words, unless that is 0.
 #[tactic(auto, using(crate::proofs::Waiting::unworked))]
-fn work_due(heap: &mut KeptHeap, words: u32, due: u32) -> Result<GcflipWork, NoMemory>
+fn work_due(heap: &mut CollectedHeap, words: u32, due: u32) -> Result<GcflipWork, NoMemory>
     ensures none { due ≡ 0 → IfOk result (λ work. (heap.new ≡ heap.old) × (work ≡ paces.no_work)) }
-    ensures some { 1 ≤ due → words ≡ 0 → IfOk result (IsWork None None due heap.old.live.core heap.new.live.core) }
-    ensures within { 1 ≤ due → 1 ≤ words → IfOk result (IsWork None (Some words) (min due words) heap.old.live.core heap.new.live.core) }
-    ensures former { IfOk result (λ work. LeavesAfter None work.steps heap.old.live.core heap.old.former heap.new.former) }
-    ensures turns { IfOk result (λ work. heap.new.live.beside.turns ≡ turns_after_work heap.old.live.beside.turns work) }
-    ensures rooms { IfOk result (λ work. HaveWorked None heap.old.live.core heap.new.live.core (held_in heap.old.former) heap.old.live.beside work heap.new.live.beside.rooms) }
-    ensures refused { OnErr result (IsAsBefore heap.old heap.new) }
-    ensures freed { OnErr result (WereRefused heap.old.live.beside.rooms heap.new.live.beside.rooms) }
-    ensures allocates { OnErr result (Allocates heap.old.live.core (useful_step heap.old.live.core)) }
+    ensures some { 1 ≤ due → words ≡ 0 → IfOk result (IsWork None None due heap.old.core heap.new.core) }
+    ensures within { 1 ≤ due → 1 ≤ words → IfOk result (IsWork None (Some words) (min due words) heap.old.core heap.new.core) }
+    ensures former { IfOk result (λ work. LeavesAfter None work.steps heap.old.core heap.old.beside.former heap.new.beside.former) }
+    ensures turns { IfOk result (λ work. heap.new.beside.turns ≡ turns_after_work heap.old.beside.turns work) }
+    ensures rooms { IfOk result (λ work. HaveWorked None heap.old.core heap.new.core heap.old.beside work heap.new.beside.rooms) }
+    ensures pair { heap.new.beside.pair ≡ heap.old.beside.pair }
+    ensures refused { OnErr result (IsUnchangedButRooms heap.old heap.new) }
+    ensures freed { OnErr result (WereRefused heap.old.beside.rooms heap.new.beside.rooms) }
+    ensures allocates { OnErr result (Allocates heap.old.core (useful_step heap.old.core)) }
 {
     if due == 0 {
         return Ok(GcflipWork {
@@ -249,19 +247,20 @@ fn work_due(heap: &mut KeptHeap, words: u32, due: u32) -> Result<GcflipWork, NoM
 }
 
 /// Performs the useful steps that are due.
-fn work_at_pace(heap: &mut KeptHeap, pace: &GcflipPace, wanted: u32) -> Result<Paced, NoMemory>
-    ensures done { IfOk result (λ made. IsPacedWork wanted heap.old.live.core heap.new.live.core pace.now made.pace made.work) }
-    ensures former { IfOk result (λ made. LeavesAfter None made.work.steps heap.old.live.core heap.old.former heap.new.former) }
-    ensures turns { IfOk result (λ made. heap.new.live.beside.turns ≡ turns_after_work heap.old.live.beside.turns made.work) }
-    ensures rooms { IfOk result (λ made. HaveWorked None heap.old.live.core heap.new.live.core (held_in heap.old.former) heap.old.live.beside made.work heap.new.live.beside.rooms) }
-    ensures refused { OnErr result (IsAsBefore heap.old heap.new) }
-    ensures freed { OnErr result (WereRefused heap.old.live.beside.rooms heap.new.live.beside.rooms) }
-    ensures allocates { OnErr result (Allocates heap.old.live.core (useful_step heap.old.live.core)) }
+fn work_at_pace(heap: &mut CollectedHeap, pace: &GcflipPace, wanted: u32) -> Result<Paced, NoMemory>
+    ensures done { IfOk result (λ made. IsPacedWork wanted heap.old.core heap.new.core pace.now made.pace made.work) }
+    ensures former { IfOk result (λ made. LeavesAfter None made.work.steps heap.old.core heap.old.beside.former heap.new.beside.former) }
+    ensures turns { IfOk result (λ made. heap.new.beside.turns ≡ turns_after_work heap.old.beside.turns made.work) }
+    ensures rooms { IfOk result (λ made. HaveWorked None heap.old.core heap.new.core heap.old.beside made.work heap.new.beside.rooms) }
+    ensures pair { heap.new.beside.pair ≡ heap.old.beside.pair }
+    ensures refused { OnErr result (IsUnchangedButRooms heap.old heap.new) }
+    ensures freed { OnErr result (WereRefused heap.old.beside.rooms heap.new.beside.rooms) }
+    ensures allocates { OnErr result (Allocates heap.old.core (useful_step heap.old.core)) }
 {
-    heap.live.is_sound();
-    let due = gcflip_pace_due(pace, &counts_of(&heap.live), wanted);
+    heap.is_sound();
+    let due = gcflip_pace_due(pace, &counts_of(heap), wanted);
     let work = work_due(heap, pace.words, due)?;
-    let pace = pace_after(pace, due, &work, &counts_of(&heap.live));
+    let pace = pace_after(pace, due, &work, &counts_of(heap));
     Ok(Paced { work, pace })
 }
 
@@ -279,11 +278,12 @@ pub extern "C" fn gcflip_heap_work_paced(
         heap.old.state heap.new.state result }
     ensures silent { 1 ≤ result → (pace.new ≡ pace.old) × (work.new ≡ work.old) }
     ensures memory { result ≡ no_memory → IsSomeAnd heap.old.state (λ s. Allocates s (useful_step s)) }
-    ensures former { result ≡ done → IsSomeAnd heap.old.state (λ s. LeavesAfter None work.new.steps s heap.old.former heap.new.former) }
-    ensures kept { 1 ≤ result → heap.new.former ≡ heap.old.former }
+    ensures former { result ≡ done → IsSomeAnd heap.old.state (λ s. LeavesAfter None work.new.steps s heap.old.beside.former heap.new.beside.former) }
+    ensures pair { heap.new.beside.pair ≡ heap.old.beside.pair }
     ensures turns { result ≡ done → heap.new.beside.turns ≡ turns_after_work heap.old.beside.turns work.new }
-    ensures rooms { result ≡ done → IsSomeAnd heap.old.state (λ s. IsSomeAnd heap.new.state (λ t. HaveWorked None s t (held_in heap.old.former) heap.old.beside work.new heap.new.beside.rooms)) }
-    ensures uncounted { 1 ≤ result → heap.new.beside.turns ≡ heap.old.beside.turns }
+    ensures rooms { result ≡ done → IsSomeAnd heap.old.state (λ s. IsSomeAnd heap.new.state (λ t. HaveWorked None s t heap.old.beside work.new heap.new.beside.rooms)) }
+    // A refused call changes nothing but the memory that waits.
+    ensures kept { 1 ≤ result → heap.new.beside ≡ record heap.old.beside { rooms = heap.new.beside.rooms } }
     ensures freed { 1 ≤ result → RefusedRooms result heap.old.beside.rooms heap.new.beside.rooms }
 {
     if heap.is_empty() {
@@ -292,7 +292,7 @@ pub extern "C" fn gcflip_heap_work_paced(
     if !is_fit(pace) {
         return OUT_OF_RANGE;
     }
-    match work_at_pace(heap.kept_mut(), pace, wanted) {
+    match work_at_pace(heap.heap_mut(), pace, wanted) {
         Ok(made) => {
             *work = made.work;
             *pace = made.pace;

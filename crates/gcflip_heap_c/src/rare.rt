@@ -5,22 +5,22 @@ ghost use Rattle.std.specs.Prelude.{◌≡◌, ◌≢◌, ◌<◌, ◌^◌, ◌�
 ghost use Rattle.gc_check.specs.InC.{no_memory};
 ghost use Rattle.gc_graph.specs.declared.command.Op.{Op};
 ghost use Rattle.gc_plan.specs.Steps.{mutate};
-ghost use Rattle.gc_core.specs.CollectedHeap.{new_from_step};
+ghost use Rattle.gc_collected.specs.CollectedHeap.{new_from_step};
 ghost use Rattle.gcflip_heap_c.specs.Commands.{IsCommandCall};
 ghost use Rattle.gcflip_heap_c.specs.Slots.{NamesSlots, numbered_slot};
 
 use crate::answer::{NO_MEMORY, OUT_OF_RANGE};
 use crate::reply::of_reply;
 use crate::slots::{SLOT_NUMBERS, numbered_slot, slot};
+use gc_collected::CollectedHeap;
 use gc_graph::{NoMemory, Number};
-use gc_live::LiveHeap;
 
 /// The most fields of an object that is filled in line: gc_words writes a link and so many fields without a call.
 pub(crate) const MOST_IN_LINE: u16 = 9;
 
 /// Makes a long object, as `gcflip_heap_new_object` does.
 #[inline(never)]
-pub(crate) fn new_long(heap: &mut LiveHeap, m: u8, d: u8, kind: u8, count: u16) -> u32
+pub(crate) fn new_long(heap: &mut CollectedHeap, m: u8, d: u8, kind: u8, count: u16) -> u32
     requires { m < heap.old.core.mutators }
     ensures call { IsCommandCall (NamesSlots m (d ∷ []))
         (λ state. mutate state m (Op.New (numbered_slot d) kind count)) (Some heap.old.core) (Some heap.new.core) result }
@@ -35,7 +35,7 @@ pub(crate) fn new_long(heap: &mut LiveHeap, m: u8, d: u8, kind: u8, count: u16) 
 
 /// Makes a long raw object, as `gcflip_heap_new_raw` does.
 #[inline(never)]
-pub(crate) fn new_long_raw(heap: &mut LiveHeap, m: u8, d: u8, kind: u8, count: u16) -> u32
+pub(crate) fn new_long_raw(heap: &mut CollectedHeap, m: u8, d: u8, kind: u8, count: u16) -> u32
     requires { m < heap.old.core.mutators }
     ensures call { IsCommandCall (NamesSlots m (d ∷ []))
         (λ state. mutate state m (Op.NewRaw (numbered_slot d) kind count)) (Some heap.old.core) (Some heap.new.core) result }
@@ -50,7 +50,7 @@ pub(crate) fn new_long_raw(heap: &mut LiveHeap, m: u8, d: u8, kind: u8, count: u
 
 /// Performs `gcflip_heap_put` while a collection is open.
 #[inline(never)]
-pub(crate) fn put_while_open(heap: &mut LiveHeap, m: u8, s: u8, i: u16, t: u8) -> u32
+pub(crate) fn put_while_open(heap: &mut CollectedHeap, m: u8, s: u8, i: u16, t: u8) -> u32
     requires { m < heap.old.core.mutators }
     ensures call { IsCommandCall (NamesSlots m (s ∷ t ∷ []))
         (λ state. mutate state m (Op.Put (numbered_slot s) i (numbered_slot t))) (Some heap.old.core) (Some heap.new.core) result }
@@ -69,7 +69,14 @@ pub(crate) fn put_while_open(heap: &mut LiveHeap, m: u8, s: u8, i: u16, t: u8) -
 
 /// Performs `gcflip_heap_put_number` while a collection is open.
 #[inline(never)]
-pub(crate) fn put_number_while_open(heap: &mut LiveHeap, m: u8, s: u8, i: u16, t: u8, n: u64) -> u32
+pub(crate) fn put_number_while_open(
+    heap: &mut CollectedHeap,
+    m: u8,
+    s: u8,
+    i: u16,
+    t: u8,
+    n: u64,
+) -> u32
     requires { m < heap.old.core.mutators }
     ensures call { IsCommandCall (λ state. NamesSlots m (s ∷ t ∷ []) state × (n < 2 ^ 63))
         (λ state. mutate (mutate state m (Op.Num (numbered_slot t) n)).1 m (Op.Put (numbered_slot s) i (numbered_slot t))) (Some heap.old.core) (Some heap.new.core) result }
@@ -91,7 +98,14 @@ pub(crate) fn put_number_while_open(heap: &mut LiveHeap, m: u8, s: u8, i: u16, t
 
 /// Performs `gcflip_heap_new_pair` while a collection is open.
 #[inline(never)]
-pub(crate) fn new_pair_while_open(heap: &mut LiveHeap, m: u8, d: u8, kind: u8, s: u8, t: u8) -> u32
+pub(crate) fn new_pair_while_open(
+    heap: &mut CollectedHeap,
+    m: u8,
+    d: u8,
+    kind: u8,
+    s: u8,
+    t: u8,
+) -> u32
     requires { m < heap.old.core.mutators }
     ensures call { IsCommandCall (NamesSlots m (d ∷ s ∷ t ∷ []))
         (λ state. new_from_step state m (numbered_slot d) kind (numbered_slot s ∷ numbered_slot t ∷ [])) (Some heap.old.core) (Some heap.new.core) result }

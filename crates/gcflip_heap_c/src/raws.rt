@@ -3,7 +3,7 @@
 ghost use Rattle.std.specs.Prelude.{◌≡◌, ◌≢◌, ◌<◌, ◌∷◌, [], IsSome, IsSomeAnd};
 ghost use Rattle.gc_check.specs.InC.{no_memory, IsRefusal};
 ghost use Rattle.gc_heap.specs.Raws.{raw_numbers};
-ghost use Rattle.gc_core.specs.Writing.{put_numbers_step};
+ghost use Rattle.gc_collected.specs.Writing.{put_numbers_step};
 ghost use Rattle.gcflip_heap_c.specs.Commands.{IsCall, IsCommandCall};
 ghost use Rattle.gcflip_heap_c.specs.Raws.{Reads, address_in, TellsAddress};
 ghost use Rattle.gcflip_heap_c.specs.Slots.{NamesSlots, numbered_slot};
@@ -12,11 +12,11 @@ use crate::answer::{CLOSED, DONE, NO_FIELD, NO_MEMORY, NO_OBJECT, OUT_OF_RANGE};
 use crate::handle::GcflipHeap;
 use crate::reply::of_reply;
 use crate::slots::slot;
+use gc_collected::CollectedHeap;
 use gc_graph::{NoMemory, Slot};
-use gc_live::LiveHeap;
 
 /// Copies the numbers of the raw object that the slot refers to, from field `first` on, if it has as many as the array takes.
-fn read_raw(heap: &LiveHeap, m: u8, s: Slot, first: u16, words: &mut [u64]) -> u32
+fn read_raw(heap: &CollectedHeap, m: u8, s: Slot, first: u16, words: &mut [u64]) -> u32
     requires { m < heap.now.core.mutators }
     ensures { Reads first (raw_numbers heap.now.core.heap.graph s m) words.old words.new result }
 {
@@ -46,13 +46,12 @@ pub extern "C" fn gcflip_heap_raw_read(
     ensures heap { heap.new.state ≡ heap.old.state }
     ensures silent { IsRefusal result → words.new ≡ words.old }
     ensures memory { result ≢ no_memory }
-    ensures former { heap.new.former ≡ heap.old.former }
     ensures beside { heap.new.beside ≡ heap.old.beside }
 {
     if heap.is_empty() {
         return CLOSED;
     }
-    let heap = &mut heap.kept_mut().live;
+    let heap = heap.heap_mut();
     let Some(s) = slot(s) else {
         return OUT_OF_RANGE;
     };
@@ -77,13 +76,12 @@ pub extern "C" fn gcflip_heap_raw_write(
     ensures call { IsCommandCall (λ state. NamesSlots m (s ∷ t ∷ []) state × (s ≢ t))
         (λ state. put_numbers_step state m (numbered_slot s) first (numbered_slot t) words.now) heap.old.state heap.new.state result }
     ensures memory { result ≡ no_memory → IsSomeAnd heap.old.state (λ s. IsSome s.collection) }
-    ensures former { heap.new.former ≡ heap.old.former }
     ensures beside { heap.new.beside ≡ heap.old.beside }
 {
     if heap.is_empty() {
         return CLOSED;
     }
-    let heap = &mut heap.kept_mut().live;
+    let heap = heap.heap_mut();
     if m >= heap.mutators() || s == t {
         return OUT_OF_RANGE;
     }
@@ -100,7 +98,7 @@ pub extern "C" fn gcflip_heap_raw_write(
 }
 
 /// Writes the address of the object that the slot refers to, if it refers to one.
-fn read_address(heap: &LiveHeap, m: u8, s: Slot, address: &mut u32) -> u32
+fn read_address(heap: &CollectedHeap, m: u8, s: Slot, address: &mut u32) -> u32
     requires { m < heap.now.core.mutators }
     ensures { TellsAddress (address_in heap.now.core s m) address.old address.new result }
 {
@@ -121,13 +119,12 @@ pub extern "C" fn gcflip_heap_address(heap: &mut GcflipHeap, m: u8, s: u8, addre
     ensures heap { heap.new.state ≡ heap.old.state }
     ensures silent { IsRefusal result → address.new ≡ address.old }
     ensures memory { result ≢ no_memory }
-    ensures former { heap.new.former ≡ heap.old.former }
     ensures beside { heap.new.beside ≡ heap.old.beside }
 {
     if heap.is_empty() {
         return CLOSED;
     }
-    let heap = &mut heap.kept_mut().live;
+    let heap = heap.heap_mut();
     let Some(s) = slot(s) else {
         return OUT_OF_RANGE;
     };

@@ -2,13 +2,13 @@
 
 ghost use Rattle.std.specs.Prelude.{◌≡◌, ◌≢◌, ◌≤◌, ◌⊎◌, ◌↔◌, None, Some, IfSome, IsSomeAnd, IsTrue, IsFalse, length};
 ghost use Rattle.gc_check.specs.InC.{done};
-ghost use Rattle.gc_core.specs.Readings.{heap_image, new_words, log_of};
+ghost use Rattle.gc_collected.specs.Readings.{heap_image, new_words, log_of};
 ghost use Rattle.gcflip_heap_c.specs.Answers.{out_of_range, closed_handle, damaged};
 ghost use Rattle.gcflip_heap_c.specs.Readings.{counts_of, logged_in, log_entry_at, FitsImage};
 
 use crate::answer::{CLOSED, DAMAGED, DONE, OUT_OF_RANGE};
 use crate::handle::GcflipHeap;
-use gc_live::LiveHeap;
+use gc_collected::CollectedHeap;
 
 /// The sizes of a heap, and how far its open collection has come, as C sees them. Sizes and addresses are in words.
 #[repr(C)]
@@ -50,7 +50,7 @@ pub struct GcflipLogEntry {
 
 /// Returns the number of entries in all logs, up to the largest `u32`.
 #[tactic(auto, using(crate::proofs::Logged::entries_next, crate::proofs::Logged::entries_end))]
-fn logged_in(heap: &LiveHeap) -> u32
+fn logged_in(heap: &CollectedHeap) -> u32
     ensures { result ≡ logged_in heap.now.core }
 {
     heap.is_sound();
@@ -62,7 +62,7 @@ fn logged_in(heap: &LiveHeap) -> u32
 }
 
 /// Reads the counts.
-pub(crate) fn counts_of(heap: &LiveHeap) -> GcflipCounts
+pub(crate) fn counts_of(heap: &CollectedHeap) -> GcflipCounts
     ensures { result ≡ counts_of heap.now.core }
 {
     let mut counts = GcflipCounts {
@@ -96,13 +96,12 @@ pub extern "C" fn gcflip_heap_counts(heap: &mut GcflipHeap, counts: &mut GcflipC
     ensures heap { heap.new.state ≡ heap.old.state }
     ensures silent { result ≡ closed_handle → counts.new ≡ counts.old }
     ensures closed { (result ≡ closed_handle) ↔ (heap.old.state ≡ None) }
-    ensures former { heap.new.former ≡ heap.old.former }
     ensures beside { heap.new.beside ≡ heap.old.beside }
 {
     if heap.is_empty() {
         return CLOSED;
     }
-    *counts = counts_of(&heap.kept_mut().live);
+    *counts = counts_of(heap.heap_mut());
     DONE
 }
 
@@ -115,13 +114,12 @@ pub extern "C" fn gcflip_heap_log_length(heap: &mut GcflipHeap, m: u8, count: &m
     ensures silent { 1 ≤ result → count.new ≡ count.old }
     ensures outside { (result ≡ out_of_range) ↔ IsSomeAnd heap.old.state (λ s. s.mutators ≤ m) }
     ensures closed { (result ≡ closed_handle) ↔ (heap.old.state ≡ None) }
-    ensures former { heap.new.former ≡ heap.old.former }
     ensures beside { heap.new.beside ≡ heap.old.beside }
 {
     if heap.is_empty() {
         return CLOSED;
     }
-    let heap = &mut heap.kept_mut().live;
+    let heap = heap.heap_mut();
     if m >= heap.mutators() {
         return OUT_OF_RANGE;
     }
@@ -130,7 +128,7 @@ pub extern "C" fn gcflip_heap_log_length(heap: &mut GcflipHeap, m: u8, count: &m
 }
 
 /// Writes entry `k` of mutator `m`'s log to `entry` if it exists. Returns whether it exists.
-fn copy_entry(heap: &LiveHeap, m: u8, k: usize, entry: &mut GcflipLogEntry) -> bool
+fn copy_entry(heap: &CollectedHeap, m: u8, k: usize, entry: &mut GcflipLogEntry) -> bool
     ensures found { IsTrue result → log_entry_at heap.now.core m k ≡ Some entry.new }
     ensures none { IsFalse result → (log_entry_at heap.now.core m k ≡ None) × (entry.new ≡ entry.old) }
 {
@@ -161,13 +159,12 @@ pub extern "C" fn gcflip_heap_log_entry(
     ensures silent { 1 ≤ result → entry.new ≡ entry.old }
     ensures outside { (result ≡ out_of_range) ↔ IsSomeAnd heap.old.state (λ s. log_entry_at s m k ≡ None) }
     ensures closed { (result ≡ closed_handle) ↔ (heap.old.state ≡ None) }
-    ensures former { heap.new.former ≡ heap.old.former }
     ensures beside { heap.new.beside ≡ heap.old.beside }
 {
     if heap.is_empty() {
         return CLOSED;
     }
-    if copy_entry(&heap.kept_mut().live, m, k, entry) {
+    if copy_entry(heap.heap_mut(), m, k, entry) {
         DONE
     } else {
         OUT_OF_RANGE
@@ -175,7 +172,7 @@ pub extern "C" fn gcflip_heap_log_entry(
 }
 
 /// Copies the image if the arrays are as long as its words and roots. Returns whether they are.
-fn copy_image(heap: &LiveHeap, words: &mut [u64], roots: &mut [u64]) -> bool
+fn copy_image(heap: &CollectedHeap, words: &mut [u64], roots: &mut [u64]) -> bool
     ensures fits { IsTrue result ↔ FitsImage words.old roots.old heap.now.core }
     ensures copied { IsTrue result → (words.new ≡ (heap_image heap.now.core).words) × (roots.new ≡ (heap_image heap.now.core).roots) }
     ensures kept { IsFalse result → (words.new ≡ words.old) × (roots.new ≡ roots.old) }
@@ -207,13 +204,12 @@ pub extern "C" fn gcflip_heap_image(
     // The words of a heap are always shaped: only code that is not proved can change that.
     ensures undamaged { result ≢ damaged }
     ensures closed { (result ≡ closed_handle) ↔ (heap.old.state ≡ None) }
-    ensures former { heap.new.former ≡ heap.old.former }
     ensures beside { heap.new.beside ≡ heap.old.beside }
 {
     if heap.is_empty() {
         return CLOSED;
     }
-    let heap = &heap.kept_mut().live;
+    let heap = &*heap.heap_mut();
     if heap.old_fault().is_some() {
         return DAMAGED;
     }
@@ -225,7 +221,7 @@ pub extern "C" fn gcflip_heap_image(
 }
 
 /// Copies the words of the new space if the array has that length. Returns whether it has.
-fn copy_new_words(heap: &LiveHeap, words: &mut [u64]) -> bool
+fn copy_new_words(heap: &CollectedHeap, words: &mut [u64]) -> bool
     ensures fits { IsTrue result ↔ IsSomeAnd (new_words heap.now.core) (λ new. length words.old ≡ length new) }
     ensures copied { IsTrue result → new_words heap.now.core ≡ Some words.new }
     ensures kept { IsFalse result → words.new ≡ words.old }
@@ -251,13 +247,12 @@ pub extern "C" fn gcflip_heap_new_words(heap: &mut GcflipHeap, words: &mut [u64]
     ensures outside { (result ≡ out_of_range) ↔ IsSomeAnd heap.old.state (λ s. ¬ IsSomeAnd (new_words s) (λ new. length words.old ≡ length new)) }
     ensures undamaged { result ≢ damaged }
     ensures closed { (result ≡ closed_handle) ↔ (heap.old.state ≡ None) }
-    ensures former { heap.new.former ≡ heap.old.former }
     ensures beside { heap.new.beside ≡ heap.old.beside }
 {
     if heap.is_empty() {
         return CLOSED;
     }
-    let heap = &heap.kept_mut().live;
+    let heap = &*heap.heap_mut();
     if heap.new_fault().is_some() {
         return DAMAGED;
     }

@@ -2,7 +2,7 @@
 
 ghost use Rattle.std.specs.Prelude.{◌≡◌, ◌≢◌, ◌∷◌, []};
 ghost use Rattle.gc_check.specs.InC.{no_memory};
-ghost use Rattle.gc_core.specs.Referring.{refer_step};
+ghost use Rattle.gc_collected.specs.Referring.{refer_step};
 ghost use Rattle.gcflip_heap_c.specs.Commands.{IsCommandCall};
 ghost use Rattle.gcflip_heap_c.specs.Slots.{NamesSlots, numbered_slot};
 
@@ -19,13 +19,12 @@ pub extern "C" fn gcflip_heap_refer(heap: &mut GcflipHeap, m: u8, d: u8, address
     ensures call { IsCommandCall (NamesSlots m (d ∷ []))
         (λ state. refer_step state m (numbered_slot d) address) heap.old.state heap.new.state result }
     ensures memory { result ≢ no_memory }
-    ensures former { heap.new.former ≡ heap.old.former }
     ensures beside { heap.new.beside ≡ heap.old.beside }
 {
     if heap.is_empty() {
         return CLOSED;
     }
-    let heap = &mut heap.kept_mut().live;
+    let heap = heap.heap_mut();
     if m >= heap.mutators() {
         return OUT_OF_RANGE;
     }

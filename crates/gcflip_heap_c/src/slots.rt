@@ -5,7 +5,7 @@ ghost use Rattle.std.specs.List.{AllByRecursion};
 ghost use Rattle.gc_graph.specs.Limits.{lengths};
 ghost use Rattle.gcflip_heap_c.specs.Slots.{slot_numbers, numbered_slot};
 
-use gc_core::SlotRow;
+use gc_collected::SlotRow;
 use gc_graph::Slot;
 
 /// The number of slots that a mutator can name: sixteen of its own, and the sixteen that all mutators share.

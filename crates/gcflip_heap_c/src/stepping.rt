@@ -1,14 +1,14 @@
 //! The exports that perform collector steps.
 
-ghost use Rattle.std.specs.Prelude.{◌≡◌, ◌≢◌, ◌⊎◌, ◌↔◌, ◌<◌, ◌≤◌, None, IfSome, IsSome, IsSomeAnd, IsTrue, ⊤};
+ghost use Rattle.std.specs.Prelude.{◌≡◌, ◌≢◌, ◌⊎◌, ◌↔◌, ◌<◌, ◌≤◌, None, IfSome, IsSome, IsSomeAnd, IsTrue, MatchOption, ⊤};
 ghost use Rattle.gc_check.specs.InC.{done, no_memory, IsRefusal};
 ghost use Rattle.gc_plan.specs.declared.step.Step.{Step};
 ghost use Rattle.gc_plan.specs.Steps.{collect, useful_step};
-ghost use Rattle.gc_core.specs.CollectedHeap.{Allocates};
+ghost use Rattle.gc_collected.specs.CollectedHeap.{Allocates};
 ghost use Rattle.gc_plan.specs.declared.step.StepReply.{StepReply};
-ghost use Rattle.gc_copy.specs.Words.{held_in};
-ghost use Rattle.gc_core.specs.Flip.{FormerAfter, HasRoomIfLarge, new_size};
-ghost use Rattle.gc_live.specs.Live.{HasBegun, checks_whole, rooms_flipped, rooms_given_up, turns_after};
+ghost use Rattle.gc_collected.specs.Flip.{FormerAfter, HasRoomIfLarge, new_size};
+ghost use Rattle.gc_collected.specs.Collected.{BeginsIn, checks_whole, rooms_flipped, rooms_given_up, turns_after};
+ghost use Rattle.gc_collected.specs.declared.flip.Keep.{Keep};
 ghost use Rattle.gcflip_heap_c.specs.Answers.{closed_handle};
 ghost use Rattle.gcflip_heap_c.specs.Commands.{IsCall, Replies};
 ghost use Rattle.gcflip_heap_c.specs.Steps.{IsStepCall, ShowsReply, step_in_c};
@@ -19,6 +19,7 @@ use crate::answer::{CLOSED, DONE, NO_MEMORY, OUT_OF_RANGE};
 use crate::handle::GcflipHeap;
 use crate::reply::{of_step, pairs_of};
 use gc_check::Sequential;
+use gc_collected::Keep;
 use gc_copy::Step;
 use gc_graph::NoMemory;
 
@@ -56,13 +57,12 @@ pub extern "C" fn gcflip_heap_useful(heap: &mut GcflipHeap, step: &mut GcflipSte
     ensures heap { heap.new.state ≡ heap.old.state }
     ensures silent { result ≡ closed_handle → step.new ≡ step.old }
     ensures closed { (result ≡ closed_handle) ↔ (heap.old.state ≡ None) }
-    ensures former { heap.new.former ≡ heap.old.former }
     ensures beside { heap.new.beside ≡ heap.old.beside }
 {
     if heap.is_empty() {
         return CLOSED;
     }
-    *step = of_useful(heap.kept_mut().live.next_useful_step());
+    *step = of_useful(heap.heap_mut().next_useful_step());
     DONE
 }
 
@@ -72,16 +72,17 @@ pub extern "C" fn gcflip_heap_step_begin(heap: &mut GcflipHeap) -> u32
     ensures call { IsStepCall (λ _. ⊤) Step.Begin heap.old.state heap.new.state result }
     ensures memory { result ≡ no_memory → IsSomeAnd heap.old.state (λ s. Allocates s Step.Begin) }
     // The old space of the last flip stays until a collection begins.
-    ensures former { ¬ IsRefusal result → IsSomeAnd heap.old.state (λ s. FormerAfter s heap.old.former (collect s Step.Begin).0 heap.new.former) }
+    ensures former { ¬ IsRefusal result → IsSomeAnd heap.old.state (λ s. FormerAfter Keep.Room s heap.old.beside.former (collect s Step.Begin).0 heap.new.beside.former) }
     ensures turns { heap.new.beside.turns ≡ heap.old.beside.turns }
-    ensures rooms { result ≡ step_reply_in_c StepReply.Begun → IsSomeAnd heap.old.state (λ s. HasBegun s.size (held_in heap.old.former) heap.old.beside.rooms heap.new.beside.rooms) }
+    ensures rooms { result ≡ step_reply_in_c StepReply.Begun → IsSomeAnd heap.old.state (λ s. BeginsIn s.size heap.old.beside heap.new.beside.rooms) }
     ensures freed { result ≢ step_reply_in_c StepReply.Begun → RefusedRooms result heap.old.beside.rooms heap.new.beside.rooms }
-    ensures kept { IsRefusal result → heap.new.former ≡ heap.old.former }
+    ensures pair { heap.new.beside.pair ≡ heap.old.beside.pair }
+    ensures kept { IsRefusal result → heap.new.beside.former ≡ heap.old.beside.former }
 {
     if heap.is_empty() {
         return CLOSED;
     }
-    match heap.kept_mut().begin() {
+    match heap.heap_mut().begin() {
         Ok(begun) => of_step(begun),
         Err(NoMemory) => NO_MEMORY,
     }
@@ -93,11 +94,12 @@ pub extern "C" fn gcflip_heap_step_begin_sized(heap: &mut GcflipHeap, size: u32)
     ensures call { IsStepCall (λ _. 1 ≤ size) (Step.BeginSized size) heap.old.state heap.new.state result }
     ensures memory { result ≡ no_memory → IsSomeAnd heap.old.state (λ s. Allocates s (Step.BeginSized size)) }
     // The old space of the last flip stays until a collection begins.
-    ensures former { ¬ IsRefusal result → IsSomeAnd heap.old.state (λ s. FormerAfter s heap.old.former (collect s (Step.BeginSized size)).0 heap.new.former) }
+    ensures former { ¬ IsRefusal result → IsSomeAnd heap.old.state (λ s. FormerAfter Keep.Room s heap.old.beside.former (collect s (Step.BeginSized size)).0 heap.new.beside.former) }
     ensures turns { heap.new.beside.turns ≡ heap.old.beside.turns }
-    ensures rooms { result ≡ step_reply_in_c StepReply.Begun → IsSomeAnd heap.old.state (λ s. HasBegun size (held_in heap.old.former) heap.old.beside.rooms heap.new.beside.rooms) }
+    ensures rooms { result ≡ step_reply_in_c StepReply.Begun → IsSomeAnd heap.old.state (λ s. BeginsIn size heap.old.beside heap.new.beside.rooms) }
     ensures freed { result ≢ step_reply_in_c StepReply.Begun → RefusedRooms result heap.old.beside.rooms heap.new.beside.rooms }
-    ensures kept { IsRefusal result → heap.new.former ≡ heap.old.former }
+    ensures pair { heap.new.beside.pair ≡ heap.old.beside.pair }
+    ensures kept { IsRefusal result → heap.new.beside.former ≡ heap.old.beside.former }
 {
     if heap.is_empty() {
         return CLOSED;
@@ -105,7 +107,7 @@ pub extern "C" fn gcflip_heap_step_begin_sized(heap: &mut GcflipHeap, size: u32)
     if size < 1 {
         return OUT_OF_RANGE;
     }
-    match heap.kept_mut().begin_sized(size) {
+    match heap.heap_mut().begin_sized(size) {
         Ok(begun) => of_step(begun),
         Err(NoMemory) => NO_MEMORY,
     }
@@ -117,13 +119,12 @@ pub extern "C" fn gcflip_heap_step_roots(heap: &mut GcflipHeap) -> u32
     ensures call { IsStepCall (λ _. ⊤) Step.Roots heap.old.state heap.new.state result }
     ensures memory { result ≢ no_memory }
     ensures room { ¬ IsRefusal result → IsSomeAnd heap.old.state (λ s. ShowsReply (HasRoomIfLarge s) result) }
-    ensures former { heap.new.former ≡ heap.old.former }
     ensures beside { heap.new.beside ≡ heap.old.beside }
 {
     if heap.is_empty() {
         return CLOSED;
     }
-    of_step(heap.kept_mut().live.roots())
+    of_step(heap.heap_mut().roots())
 }
 
 /// Brings the field at the scan pointer up to date, or moves on to the next replica.
@@ -132,13 +133,12 @@ pub extern "C" fn gcflip_heap_step_scan(heap: &mut GcflipHeap) -> u32
     ensures call { IsStepCall (λ _. ⊤) Step.Scan heap.old.state heap.new.state result }
     ensures memory { result ≢ no_memory }
     ensures room { ¬ IsRefusal result → IsSomeAnd heap.old.state (λ s. ShowsReply (HasRoomIfLarge s) result) }
-    ensures former { heap.new.former ≡ heap.old.former }
     ensures beside { heap.new.beside ≡ heap.old.beside }
 {
     if heap.is_empty() {
         return CLOSED;
     }
-    of_step(heap.kept_mut().live.scan())
+    of_step(heap.heap_mut().scan())
 }
 
 /// Applies the oldest entry of mutator `m`'s log.
@@ -147,13 +147,12 @@ pub extern "C" fn gcflip_heap_step_apply(heap: &mut GcflipHeap, m: u8) -> u32
     ensures call { IsStepCall (λ s. m < s.mutators) (Step.Apply m) heap.old.state heap.new.state result }
     ensures memory { result ≢ no_memory }
     ensures room { ¬ IsRefusal result → IsSomeAnd heap.old.state (λ s. ShowsReply (HasRoomIfLarge s) result) }
-    ensures former { heap.new.former ≡ heap.old.former }
     ensures beside { heap.new.beside ≡ heap.old.beside }
 {
     if heap.is_empty() {
         return CLOSED;
     }
-    let heap = &mut heap.kept_mut().live;
+    let heap = heap.heap_mut();
     if m >= heap.mutators() {
         return OUT_OF_RANGE;
     }
@@ -171,19 +170,20 @@ pub extern "C" fn gcflip_heap_step_flip(heap: &mut GcflipHeap, pairs: &mut u32) 
     ensures flips { ¬ IsRefusal result → IsSomeAnd heap.old.state (λ s. IsSomeAnd heap.new.state (Replies (λ s. collect s Step.Flip)
         (λ reply. (result ≡ step_reply_in_c reply) × IsSoundReply s reply) s)) }
     // The old space stays, and tells the pairs of that certificate.
-    ensures former { ¬ IsRefusal result → IsSomeAnd heap.old.state (λ s. FormerAfter s heap.old.former (collect s Step.Flip).0 heap.new.former) }
+    ensures former { ¬ IsRefusal result → IsSomeAnd heap.old.state (λ s. FormerAfter Keep.Room s heap.old.beside.former (collect s Step.Flip).0 heap.new.beside.former) }
     // It is counted as checked whole if that was due.
-    ensures turns { ¬ IsRefusal result → IsSomeAnd heap.old.state (λ s. heap.new.beside.turns ≡ turns_after heap.old.beside.turns (collect s Step.Flip).0) }
-    ensures rooms { IsSome heap.old.state → heap.new.beside.rooms ≡ rooms_flipped heap.old.beside }
-    ensures due { result ≡ no_memory → IsTrue (checks_whole heap.old.beside.turns) }
-    ensures uncounted { IsRefusal result → heap.new.beside.turns ≡ heap.old.beside.turns }
-    ensures kept { IsRefusal result → heap.new.former ≡ heap.old.former }
+    ensures turns { ¬ IsRefusal result → IsSomeAnd heap.old.state (λ s. heap.new.beside.turns ≡ turns_after Keep.Room heap.old.beside.turns (collect s Step.Flip).0) }
+    ensures rooms { IsSome heap.old.state → heap.new.beside.rooms ≡ rooms_flipped Keep.Room heap.old.beside }
+    ensures due { result ≡ no_memory → IsTrue (checks_whole Keep.Room heap.old.beside.turns) }
+    ensures pair { heap.new.beside.pair ≡ heap.old.beside.pair }
+    // A refused call changes nothing but the memory that waits.
+    ensures kept { IsRefusal result → heap.new.beside ≡ record heap.old.beside { rooms = heap.new.beside.rooms } }
     ensures silent { IsRefusal result → pairs.new ≡ pairs.old }
 {
     if heap.is_empty() {
         return CLOSED;
     }
-    match heap.kept_mut().flip(&Sequential) {
+    match heap.heap_mut().flip(&Sequential, Keep::Room) {
         Ok(reply) => {
             *pairs = pairs_of(reply, *pairs);
             of_step(reply)
@@ -197,13 +197,12 @@ pub extern "C" fn gcflip_heap_step_flip(heap: &mut GcflipHeap, pairs: &mut u32) 
 pub extern "C" fn gcflip_heap_step_give_up(heap: &mut GcflipHeap) -> u32
     ensures call { IsStepCall (λ _. ⊤) Step.Drop heap.old.state heap.new.state result }
     ensures memory { result ≢ no_memory }
-    ensures former { heap.new.former ≡ heap.old.former }
-    ensures turns { heap.new.beside.turns ≡ heap.old.beside.turns }
-    // The room of the collection waits for the next one, or leaves if there is room already.
-    ensures rooms { IfSome heap.old.state (λ s. heap.new.beside.rooms ≡ rooms_given_up (new_size s) heap.old.beside.rooms) }
+    // The room of the collection waits for the next one, or leaves if there is room already. Nothing else beside the state changes.
+    ensures rooms { MatchOption heap.old.state (heap.new.beside ≡ heap.old.beside)
+        (λ s. heap.new.beside ≡ record heap.old.beside { rooms = rooms_given_up (new_size s) heap.old.beside.rooms }) }
 {
     if heap.is_empty() {
         return CLOSED;
     }
-    of_step(heap.kept_mut().live.give_up())
+    of_step(heap.heap_mut().give_up())
 }

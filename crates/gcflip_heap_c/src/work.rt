@@ -7,25 +7,24 @@ ghost use Rattle.gc_plan.specs.Steps.{collect, useful_step};
 ghost use Rattle.gc_plan.specs.Runs.{IsStep};
 ghost use Rattle.gc_plan.specs.Progress.{work_left};
 ghost use Rattle.gc_plan.specs.declared.step.StepReply.{StepReply};
-ghost use Rattle.gc_core.specs.CollectedHeap.{Allocates};
+ghost use Rattle.gc_collected.specs.CollectedHeap.{Allocates};
 ghost use Rattle.gcflip_heap_c.specs.Internal.Leaving.{LeavesLess};
 ghost use Rattle.gcflip_heap_c.specs.Internal.Waiting.{HasLacked, HaveRun, is_flip};
 ghost use Rattle.gcflip_heap_c.specs.Commands.{IsCall};
 ghost use Rattle.gcflip_heap_c.specs.Replies.{step_reply_in_c, pairs_after};
-ghost use Rattle.gc_core.specs.Flip.{FormerAfter};
-ghost use Rattle.gc_copy.specs.Words.{held_in};
-ghost use Rattle.gc_live.specs.Live.{WereRefused, turns_after};
+ghost use Rattle.gc_collected.specs.Flip.{FormerAfter};
+ghost use Rattle.gc_collected.specs.Collected.{IsUnchangedButRooms, WereRefused, turns_after};
+ghost use Rattle.gc_collected.specs.declared.flip.Keep.{Keep};
 ghost use Rattle.gcflip_heap_c.specs.Former.{LeavesAfter};
-ghost use Rattle.gcflip_heap_c.specs.Internal.Unchanged.{IsAsBefore};
 ghost use Rattle.gcflip_heap_c.specs.Work.{IsSoundReply, IsRun, IsWork, HaveRooms, HaveWorked, RefusedRooms, turns_after_work, with_size, sized_step, after_useful, useful_reply, goes_on, end_in, end_after};
 
 use crate::answer::{CLOSED, DONE, NO_MEMORY, OUT_OF_RANGE};
 use crate::handle::GcflipHeap;
 use crate::reply::{of_step, pairs_of};
 use gc_check::Sequential;
+use gc_collected::{CollectedHeap, Keep};
 use gc_copy::{Step, StepReply};
 use gc_graph::NoMemory;
-use gc_live::{KeptHeap, LiveHeap};
 use gc_plan::useful_steps_end;
 
 /// What a call of work did, as C sees it.
@@ -63,24 +62,25 @@ fn sized(step: Step, size: Option<u32>) -> Step
 
 /// Performs the useful step. If that is a begin, the new space gets `size` words, or as many as the heap has.
 #[inline(always)]
-fn one_step(heap: &mut KeptHeap, size: Option<u32>) -> Result<StepReply, NoMemory>
+fn one_step(heap: &mut CollectedHeap, size: Option<u32>) -> Result<StepReply, NoMemory>
     requires { IfSome size (λ words. 1 ≤ words) }
-    ensures step { IfOk result (λ reply. collect heap.old.live.core (sized_step size heap.old.live.core) ≡ (reply, heap.new.live.core)) }
-    ensures sound { IfOk result (IsSoundReply heap.old.live.core) }
-    ensures former { IfOk result (λ reply. FormerAfter heap.old.live.core heap.old.former reply heap.new.former) }
-    ensures turns { IfOk result (λ reply. heap.new.live.beside.turns ≡ turns_after heap.old.live.beside.turns reply) }
-    ensures leaves { IfOk result (LeavesLess heap.old.live.core heap.new.live.core) }
-    ensures rooms { IfOk result (λ reply. HaveRooms size heap.old.live.core (held_in heap.old.former) heap.old.live.beside (is_flip reply) heap.new.live.beside.rooms) }
-    ensures refused { OnErr result (IsAsBefore heap.old heap.new) }
-    ensures freed { OnErr result (WereRefused heap.old.live.beside.rooms heap.new.live.beside.rooms) }
+    ensures step { IfOk result (λ reply. collect heap.old.core (sized_step size heap.old.core) ≡ (reply, heap.new.core)) }
+    ensures sound { IfOk result (IsSoundReply heap.old.core) }
+    ensures former { IfOk result (λ reply. FormerAfter Keep.Room heap.old.core heap.old.beside.former reply heap.new.beside.former) }
+    ensures turns { IfOk result (λ reply. heap.new.beside.turns ≡ turns_after Keep.Room heap.old.beside.turns reply) }
+    ensures leaves { IfOk result (LeavesLess heap.old.core heap.new.core) }
+    ensures rooms { IfOk result (λ reply. HaveRooms size heap.old.core heap.old.beside (is_flip reply) heap.new.beside.rooms) }
+    ensures pair { heap.new.beside.pair ≡ heap.old.beside.pair }
+    ensures refused { OnErr result (IsUnchangedButRooms heap.old heap.new) }
+    ensures freed { OnErr result (WereRefused heap.old.beside.rooms heap.new.beside.rooms) }
     // While a collection is open, only a flip can lack memory.
-    ensures lacked { OnErr result (HasLacked heap.old.live heap.new.live.beside.rooms) }
-    ensures allocates { OnErr result (Allocates heap.old.live.core (sized_step size heap.old.live.core)) }
+    ensures lacked { OnErr result (HasLacked heap.old heap.new.beside.rooms) }
+    ensures allocates { OnErr result (Allocates heap.old.core (sized_step size heap.old.core)) }
 {
-    heap.live.is_sound();
+    heap.is_sound();
     useful_steps_end();
-    let step = sized(heap.live.next_useful_step(), size);
-    heap.collect(&Sequential, step)
+    let step = sized(heap.next_useful_step(), size);
+    heap.collect(&Sequential, step, Keep::Room)
 }
 
 /// Performs single steps for `useful_steps`, and tells when they are enough. Generic code knows nothing of `failed`, and gets it only
@@ -95,21 +95,22 @@ trait Performs {
     // Holds of the state after a step with this reply if that is not enough.
     ghost short: { Self → State → StepReply → Type 0 };
 
-    fn perform(&self, heap: &mut KeptHeap, size: Option<u32>) -> Result<StepReply, NoMemory>
+    fn perform(&self, heap: &mut CollectedHeap, size: Option<u32>) -> Result<StepReply, NoMemory>
         requires { IfSome size (λ words. 1 ≤ words) }
-        ensures step { IfOk result (λ reply. collect heap.old.live.core (sized_step size heap.old.live.core) ≡ (reply, heap.new.live.core)) }
-        ensures sound { IfOk result (IsSoundReply heap.old.live.core) }
-        ensures former { IfOk result (λ reply. FormerAfter heap.old.live.core heap.old.former reply heap.new.former) }
-        ensures turns { IfOk result (λ reply. heap.new.live.beside.turns ≡ turns_after heap.old.live.beside.turns reply) }
-        ensures leaves { IfOk result (LeavesLess heap.old.live.core heap.new.live.core) }
-        ensures rooms { IfOk result (λ reply. HaveRooms size heap.old.live.core (held_in heap.old.former) heap.old.live.beside (is_flip reply) heap.new.live.beside.rooms) }
-        ensures refused { OnErr result (IsAsBefore heap.old heap.new) }
-        ensures freed { OnErr result (WereRefused heap.old.live.beside.rooms heap.new.live.beside.rooms) }
-        ensures lacked { OnErr result (HasLacked heap.old.live heap.new.live.beside.rooms) }
-        ensures failed { OnErr result (failed self.now size heap.old.live.core) }
-        ensures stops { OnErr result ((reply : StepReply) → stops self.now size heap.old.live.core reply) };
+        ensures step { IfOk result (λ reply. collect heap.old.core (sized_step size heap.old.core) ≡ (reply, heap.new.core)) }
+        ensures sound { IfOk result (IsSoundReply heap.old.core) }
+        ensures former { IfOk result (λ reply. FormerAfter Keep.Room heap.old.core heap.old.beside.former reply heap.new.beside.former) }
+        ensures turns { IfOk result (λ reply. heap.new.beside.turns ≡ turns_after Keep.Room heap.old.beside.turns reply) }
+        ensures leaves { IfOk result (LeavesLess heap.old.core heap.new.core) }
+        ensures rooms { IfOk result (λ reply. HaveRooms size heap.old.core heap.old.beside (is_flip reply) heap.new.beside.rooms) }
+        ensures pair { heap.new.beside.pair ≡ heap.old.beside.pair }
+        ensures refused { OnErr result (IsUnchangedButRooms heap.old heap.new) }
+        ensures freed { OnErr result (WereRefused heap.old.beside.rooms heap.new.beside.rooms) }
+        ensures lacked { OnErr result (HasLacked heap.old heap.new.beside.rooms) }
+        ensures failed { OnErr result (failed self.now size heap.old.core) }
+        ensures stops { OnErr result ((reply : StepReply) → stops self.now size heap.old.core reply) };
 
-    fn has_enough(&self, heap: &LiveHeap, reply: StepReply) -> bool
+    fn has_enough(&self, heap: &CollectedHeap, reply: StepReply) -> bool
         ensures stops { result ≡ true → (size : Option ℕ) → stops self.now size heap.now.core reply }
         ensures short { result ≡ false → short self.now heap.now.core reply };
 }
@@ -125,12 +126,12 @@ impl Performs for Useful {
     ghost short = { λ _ _ _. ⊤ };
 
     #[inline(always)]
-    fn perform(&self, heap: &mut KeptHeap, size: Option<u32>) -> Result<StepReply, NoMemory> {
+    fn perform(&self, heap: &mut CollectedHeap, size: Option<u32>) -> Result<StepReply, NoMemory> {
         one_step(heap, size)
     }
 
     #[inline(always)]
-    fn has_enough(&self, _heap: &LiveHeap, _reply: StepReply) -> bool {
+    fn has_enough(&self, _heap: &CollectedHeap, _reply: StepReply) -> bool {
         false
     }
 }
@@ -150,12 +151,12 @@ impl Performs for Within {
     ghost short = { λ w s reply. end_after s reply - w.start < w.words };
 
     #[inline(always)]
-    fn perform(&self, heap: &mut KeptHeap, size: Option<u32>) -> Result<StepReply, NoMemory> {
+    fn perform(&self, heap: &mut CollectedHeap, size: Option<u32>) -> Result<StepReply, NoMemory> {
         one_step(heap, size)
     }
 
     #[inline(always)]
-    fn has_enough(&self, heap: &LiveHeap, reply: StepReply) -> bool {
+    fn has_enough(&self, heap: &CollectedHeap, reply: StepReply) -> bool {
         end_behind(heap, reply).saturating_sub(self.start) >= self.words
     }
 }
@@ -171,37 +172,38 @@ fn can_go_on(reply: StepReply) -> bool
 /// allocation fails, it stops before that step, and returns `NoMemory` only if that was the first step.
 fn useful_steps<P: Performs>(
     performs: &P,
-    heap: &mut KeptHeap,
+    heap: &mut CollectedHeap,
     size: Option<u32>,
     most: u32,
 ) -> Result<Run, NoMemory>
     requires size { IfSome size (λ words. 1 ≤ words) }
     requires some { 1 ≤ most }
-    ensures run { IfOk result (λ run. IsRun size run.steps heap.old.live.core heap.new.live.core run.reply) }
-    ensures former { IfOk result (λ run. LeavesAfter size run.steps heap.old.live.core heap.old.former heap.new.former) }
+    ensures run { IfOk result (λ run. IsRun size run.steps heap.old.core heap.new.core run.reply) }
+    ensures former { IfOk result (λ run. LeavesAfter size run.steps heap.old.core heap.old.beside.former heap.new.beside.former) }
     // Only the last step can be a flip.
-    ensures turns { IfOk result (λ run. heap.new.live.beside.turns ≡ turns_after heap.old.live.beside.turns run.reply) }
+    ensures turns { IfOk result (λ run. heap.new.beside.turns ≡ turns_after Keep.Room heap.old.beside.turns run.reply) }
     ensures within { IfOk result (λ run. run.steps ≤ most) }
     // It stops early only after such a reply, or because a step failed for lack of memory.
     ensures ended { IfOk result (λ run. run.steps < most
-        → (goes_on run.reply ≡ false) ⊎ P.stops performs.now size heap.new.live.core run.reply) }
+        → (goes_on run.reply ≡ false) ⊎ P.stops performs.now size heap.new.core run.reply) }
     // It makes no more than the steps that are left, so as many lead to such an end.
-    ensures enough { IfOk result (λ run. work_left heap.old.live.core ≤ most
-        → (goes_on run.reply ≡ false) ⊎ P.stops performs.now size heap.new.live.core run.reply) }
+    ensures enough { IfOk result (λ run. work_left heap.old.core ≤ most
+        → (goes_on run.reply ≡ false) ⊎ P.stops performs.now size heap.new.core run.reply) }
     // No step before the last one was enough.
     ensures short { IfOk result (λ run. (k : ℕ) → suc k < run.steps
-        → P.short performs.now (after_useful size (suc k) heap.old.live.core) (useful_reply size k heap.old.live.core)) }
-    ensures rooms { IfOk result (λ run. HaveRun size heap.old.live.core heap.new.live.core (held_in heap.old.former) heap.old.live.beside (is_flip run.reply) heap.new.live.beside.rooms) }
-    ensures refused { OnErr result (IsAsBefore heap.old heap.new) }
-    ensures freed { OnErr result (WereRefused heap.old.live.beside.rooms heap.new.live.beside.rooms) }
-    ensures failed { OnErr result (P.failed performs.now size heap.old.live.core) }
+        → P.short performs.now (after_useful size (suc k) heap.old.core) (useful_reply size k heap.old.core)) }
+    ensures rooms { IfOk result (λ run. HaveRun size heap.old.core heap.new.core heap.old.beside (is_flip run.reply) heap.new.beside.rooms) }
+    ensures pair { heap.new.beside.pair ≡ heap.old.beside.pair }
+    ensures refused { OnErr result (IsUnchangedButRooms heap.old heap.new) }
+    ensures freed { OnErr result (WereRefused heap.old.beside.rooms heap.new.beside.rooms) }
+    ensures failed { OnErr result (P.failed performs.now size heap.old.core) }
 {
     let mut reply = performs.perform(heap, size)?;
     for steps in 1..most {
         if !can_go_on(reply) {
             return Ok(Run { steps, reply });
         }
-        if performs.has_enough(&heap.live, reply) {
+        if performs.has_enough(heap, reply) {
             return Ok(Run { steps, reply });
         }
         match performs.perform(heap, size) {
@@ -213,7 +215,7 @@ fn useful_steps<P: Performs>(
 }
 
 /// Returns the first word of the open collection's new space that no replica takes, or 1 if none is open.
-fn end_of_new(heap: &LiveHeap) -> u32
+fn end_of_new(heap: &CollectedHeap) -> u32
     ensures { result ≡ end_in heap.now.core }
 {
     match heap.new_space() {
@@ -223,7 +225,7 @@ fn end_of_new(heap: &LiveHeap) -> u32
 }
 
 /// Returns the same after a step with this reply. After a flip, the new space is the heap's.
-fn end_behind(heap: &LiveHeap, reply: StepReply) -> u32
+fn end_behind(heap: &CollectedHeap, reply: StepReply) -> u32
     ensures { result ≡ end_after heap.now.core reply }
 {
     match reply {
@@ -234,7 +236,7 @@ fn end_behind(heap: &LiveHeap, reply: StepReply) -> u32
 
 /// Returns what C is told of these steps. The new space ended at `start` before them.
 #[inline(always)]
-fn report(heap: &LiveHeap, start: u32, run: Run) -> GcflipWork
+fn report(heap: &CollectedHeap, start: u32, run: Run) -> GcflipWork
     ensures steps { result.steps ≡ run.steps }
     ensures copied { result.copied ≡ end_after heap.now.core run.reply - start }
     ensures last { result.last ≡ step_reply_in_c run.reply }
@@ -251,46 +253,48 @@ fn report(heap: &LiveHeap, start: u32, run: Run) -> GcflipWork
 
 /// Performs useful steps and reports them.
 pub(crate) fn work_on(
-    heap: &mut KeptHeap,
+    heap: &mut CollectedHeap,
     size: Option<u32>,
     most: u32,
 ) -> Result<GcflipWork, NoMemory>
     requires size { IfSome size (λ words. 1 ≤ words) }
     requires some { 1 ≤ most }
-    ensures work { IfOk result (IsWork size None most heap.old.live.core heap.new.live.core) }
-    ensures former { IfOk result (λ work. LeavesAfter size work.steps heap.old.live.core heap.old.former heap.new.former) }
-    ensures turns { IfOk result (λ work. heap.new.live.beside.turns ≡ turns_after_work heap.old.live.beside.turns work) }
-    ensures rooms { IfOk result (λ work. HaveWorked size heap.old.live.core heap.new.live.core (held_in heap.old.former) heap.old.live.beside work heap.new.live.beside.rooms) }
-    ensures refused { OnErr result (IsAsBefore heap.old heap.new) }
-    ensures freed { OnErr result (WereRefused heap.old.live.beside.rooms heap.new.live.beside.rooms) }
-    ensures allocates { OnErr result (Allocates heap.old.live.core (sized_step size heap.old.live.core)) }
+    ensures work { IfOk result (IsWork size None most heap.old.core heap.new.core) }
+    ensures former { IfOk result (λ work. LeavesAfter size work.steps heap.old.core heap.old.beside.former heap.new.beside.former) }
+    ensures turns { IfOk result (λ work. heap.new.beside.turns ≡ turns_after_work heap.old.beside.turns work) }
+    ensures rooms { IfOk result (λ work. HaveWorked size heap.old.core heap.new.core heap.old.beside work heap.new.beside.rooms) }
+    ensures pair { heap.new.beside.pair ≡ heap.old.beside.pair }
+    ensures refused { OnErr result (IsUnchangedButRooms heap.old heap.new) }
+    ensures freed { OnErr result (WereRefused heap.old.beside.rooms heap.new.beside.rooms) }
+    ensures allocates { OnErr result (Allocates heap.old.core (sized_step size heap.old.core)) }
 {
-    let start = end_of_new(&heap.live);
+    let start = end_of_new(heap);
     let run = useful_steps(&Useful, heap, size, most)?;
-    let work = report(&heap.live, start, run);
-    heap.live.give_back();
+    let work = report(heap, start, run);
+    heap.give_back();
     Ok(work)
 }
 
 /// Performs useful steps until replicas have taken `words` words, and reports them.
 pub(crate) fn work_within_on(
-    heap: &mut KeptHeap,
+    heap: &mut CollectedHeap,
     most: u32,
     words: u32,
 ) -> Result<GcflipWork, NoMemory>
     requires { 1 ≤ most }
-    ensures work { IfOk result (IsWork None (Some words) most heap.old.live.core heap.new.live.core) }
-    ensures former { IfOk result (λ work. LeavesAfter None work.steps heap.old.live.core heap.old.former heap.new.former) }
-    ensures turns { IfOk result (λ work. heap.new.live.beside.turns ≡ turns_after_work heap.old.live.beside.turns work) }
-    ensures rooms { IfOk result (λ work. HaveWorked None heap.old.live.core heap.new.live.core (held_in heap.old.former) heap.old.live.beside work heap.new.live.beside.rooms) }
-    ensures refused { OnErr result (IsAsBefore heap.old heap.new) }
-    ensures freed { OnErr result (WereRefused heap.old.live.beside.rooms heap.new.live.beside.rooms) }
-    ensures allocates { OnErr result (Allocates heap.old.live.core (sized_step None heap.old.live.core)) }
+    ensures work { IfOk result (IsWork None (Some words) most heap.old.core heap.new.core) }
+    ensures former { IfOk result (λ work. LeavesAfter None work.steps heap.old.core heap.old.beside.former heap.new.beside.former) }
+    ensures turns { IfOk result (λ work. heap.new.beside.turns ≡ turns_after_work heap.old.beside.turns work) }
+    ensures rooms { IfOk result (λ work. HaveWorked None heap.old.core heap.new.core heap.old.beside work heap.new.beside.rooms) }
+    ensures pair { heap.new.beside.pair ≡ heap.old.beside.pair }
+    ensures refused { OnErr result (IsUnchangedButRooms heap.old heap.new) }
+    ensures freed { OnErr result (WereRefused heap.old.beside.rooms heap.new.beside.rooms) }
+    ensures allocates { OnErr result (Allocates heap.old.core (sized_step None heap.old.core)) }
 {
-    let start = end_of_new(&heap.live);
+    let start = end_of_new(heap);
     let run = useful_steps(&Within { start, words }, heap, None, most)?;
-    let work = report(&heap.live, start, run);
-    heap.live.give_back();
+    let work = report(heap, start, run);
+    heap.give_back();
     Ok(work)
 }
 
@@ -307,11 +311,12 @@ fn work_sized(heap: &mut GcflipHeap, size: Option<u32>, most: u32, work: &mut Gc
         heap.old.state heap.new.state result }
     ensures silent { 1 ≤ result → work.new ≡ work.old }
     ensures memory { result ≡ no_memory → IsSomeAnd heap.old.state (λ s. Allocates s (sized_step size s)) }
-    ensures former { result ≡ done → IsSomeAnd heap.old.state (λ s. LeavesAfter size work.new.steps s heap.old.former heap.new.former) }
-    ensures kept { 1 ≤ result → heap.new.former ≡ heap.old.former }
+    ensures former { result ≡ done → IsSomeAnd heap.old.state (λ s. LeavesAfter size work.new.steps s heap.old.beside.former heap.new.beside.former) }
+    ensures pair { heap.new.beside.pair ≡ heap.old.beside.pair }
     ensures turns { result ≡ done → heap.new.beside.turns ≡ turns_after_work heap.old.beside.turns work.new }
-    ensures rooms { result ≡ done → IsSomeAnd heap.old.state (λ s. IsSomeAnd heap.new.state (λ t. HaveWorked size s t (held_in heap.old.former) heap.old.beside work.new heap.new.beside.rooms)) }
-    ensures uncounted { 1 ≤ result → heap.new.beside.turns ≡ heap.old.beside.turns }
+    ensures rooms { result ≡ done → IsSomeAnd heap.old.state (λ s. IsSomeAnd heap.new.state (λ t. HaveWorked size s t heap.old.beside work.new heap.new.beside.rooms)) }
+    // A refused call changes nothing but the memory that waits.
+    ensures kept { 1 ≤ result → heap.new.beside ≡ record heap.old.beside { rooms = heap.new.beside.rooms } }
     ensures freed { 1 ≤ result → RefusedRooms result heap.old.beside.rooms heap.new.beside.rooms }
 {
     if heap.is_empty() {
@@ -320,7 +325,7 @@ fn work_sized(heap: &mut GcflipHeap, size: Option<u32>, most: u32, work: &mut Gc
     if !is_fit(size, most) {
         return OUT_OF_RANGE;
     }
-    match work_on(heap.kept_mut(), size, most) {
+    match work_on(heap.heap_mut(), size, most) {
         Ok(made) => {
             *work = made;
             DONE
@@ -336,11 +341,12 @@ pub extern "C" fn gcflip_heap_work(heap: &mut GcflipHeap, most: u32, work: &mut 
     ensures call { IsCall (λ _. 1 ≤ most) (λ s t. (result ≡ done) × IsWork None None most s t work.new) heap.old.state heap.new.state result }
     ensures silent { 1 ≤ result → work.new ≡ work.old }
     ensures memory { result ≡ no_memory → IsSomeAnd heap.old.state (λ s. Allocates s (useful_step s)) }
-    ensures former { result ≡ done → IsSomeAnd heap.old.state (λ s. LeavesAfter None work.new.steps s heap.old.former heap.new.former) }
-    ensures kept { 1 ≤ result → heap.new.former ≡ heap.old.former }
+    ensures former { result ≡ done → IsSomeAnd heap.old.state (λ s. LeavesAfter None work.new.steps s heap.old.beside.former heap.new.beside.former) }
+    ensures pair { heap.new.beside.pair ≡ heap.old.beside.pair }
     ensures turns { result ≡ done → heap.new.beside.turns ≡ turns_after_work heap.old.beside.turns work.new }
-    ensures rooms { result ≡ done → IsSomeAnd heap.old.state (λ s. IsSomeAnd heap.new.state (λ t. HaveWorked None s t (held_in heap.old.former) heap.old.beside work.new heap.new.beside.rooms)) }
-    ensures uncounted { 1 ≤ result → heap.new.beside.turns ≡ heap.old.beside.turns }
+    ensures rooms { result ≡ done → IsSomeAnd heap.old.state (λ s. IsSomeAnd heap.new.state (λ t. HaveWorked None s t heap.old.beside work.new heap.new.beside.rooms)) }
+    // A refused call changes nothing but the memory that waits.
+    ensures kept { 1 ≤ result → heap.new.beside ≡ record heap.old.beside { rooms = heap.new.beside.rooms } }
     ensures freed { 1 ≤ result → RefusedRooms result heap.old.beside.rooms heap.new.beside.rooms }
 {
     work_sized(heap, None, most, work)
@@ -358,11 +364,12 @@ pub extern "C" fn gcflip_heap_work_sized(
         heap.old.state heap.new.state result }
     ensures silent { 1 ≤ result → work.new ≡ work.old }
     ensures memory { result ≡ no_memory → IsSomeAnd heap.old.state (λ s. Allocates s (sized_step (Some size) s)) }
-    ensures former { result ≡ done → IsSomeAnd heap.old.state (λ s. LeavesAfter (Some size) work.new.steps s heap.old.former heap.new.former) }
-    ensures kept { 1 ≤ result → heap.new.former ≡ heap.old.former }
+    ensures former { result ≡ done → IsSomeAnd heap.old.state (λ s. LeavesAfter (Some size) work.new.steps s heap.old.beside.former heap.new.beside.former) }
+    ensures pair { heap.new.beside.pair ≡ heap.old.beside.pair }
     ensures turns { result ≡ done → heap.new.beside.turns ≡ turns_after_work heap.old.beside.turns work.new }
-    ensures rooms { result ≡ done → IsSomeAnd heap.old.state (λ s. IsSomeAnd heap.new.state (λ t. HaveWorked (Some size) s t (held_in heap.old.former) heap.old.beside work.new heap.new.beside.rooms)) }
-    ensures uncounted { 1 ≤ result → heap.new.beside.turns ≡ heap.old.beside.turns }
+    ensures rooms { result ≡ done → IsSomeAnd heap.old.state (λ s. IsSomeAnd heap.new.state (λ t. HaveWorked (Some size) s t heap.old.beside work.new heap.new.beside.rooms)) }
+    // A refused call changes nothing but the memory that waits.
+    ensures kept { 1 ≤ result → heap.new.beside ≡ record heap.old.beside { rooms = heap.new.beside.rooms } }
     ensures freed { 1 ≤ result → RefusedRooms result heap.old.beside.rooms heap.new.beside.rooms }
 {
     work_sized(heap, Some(size), most, work)
@@ -379,11 +386,12 @@ pub extern "C" fn gcflip_heap_work_within(
     ensures call { IsCall (λ _. 1 ≤ most) (λ s t. (result ≡ done) × IsWork None (Some words) most s t work.new) heap.old.state heap.new.state result }
     ensures silent { 1 ≤ result → work.new ≡ work.old }
     ensures memory { result ≡ no_memory → IsSomeAnd heap.old.state (λ s. Allocates s (useful_step s)) }
-    ensures former { result ≡ done → IsSomeAnd heap.old.state (λ s. LeavesAfter None work.new.steps s heap.old.former heap.new.former) }
-    ensures kept { 1 ≤ result → heap.new.former ≡ heap.old.former }
+    ensures former { result ≡ done → IsSomeAnd heap.old.state (λ s. LeavesAfter None work.new.steps s heap.old.beside.former heap.new.beside.former) }
+    ensures pair { heap.new.beside.pair ≡ heap.old.beside.pair }
     ensures turns { result ≡ done → heap.new.beside.turns ≡ turns_after_work heap.old.beside.turns work.new }
-    ensures rooms { result ≡ done → IsSomeAnd heap.old.state (λ s. IsSomeAnd heap.new.state (λ t. HaveWorked None s t (held_in heap.old.former) heap.old.beside work.new heap.new.beside.rooms)) }
-    ensures uncounted { 1 ≤ result → heap.new.beside.turns ≡ heap.old.beside.turns }
+    ensures rooms { result ≡ done → IsSomeAnd heap.old.state (λ s. IsSomeAnd heap.new.state (λ t. HaveWorked None s t heap.old.beside work.new heap.new.beside.rooms)) }
+    // A refused call changes nothing but the memory that waits.
+    ensures kept { 1 ≤ result → heap.new.beside ≡ record heap.old.beside { rooms = heap.new.beside.rooms } }
     ensures freed { 1 ≤ result → RefusedRooms result heap.old.beside.rooms heap.new.beside.rooms }
 {
     if heap.is_empty() {
@@ -392,7 +400,7 @@ pub extern "C" fn gcflip_heap_work_within(
     if most == 0 {
         return OUT_OF_RANGE;
     }
-    match work_within_on(heap.kept_mut(), most, words) {
+    match work_within_on(heap.heap_mut(), most, words) {
         Ok(made) => {
             *work = made;
             DONE

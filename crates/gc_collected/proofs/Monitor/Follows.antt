@@ -1,6 +1,6 @@
 -- A monitor goes on following a heap: the mutators' commands.
 use Rattle.std.proofs.lemmas.Grind.{common_steps}
-use Rattle.std.proofs.Common.{◌≡◌, ◌⊎◌, inl, inr, ⊎_elim, ℕ, zero, suc, ◌+◌, ◌-◌, ◌<◌, ◌≤◌, Bool, true, false, List, [], ◌∷◌, length, Option, Some, None, refl, ap, sym, ◌∙◌, subst, arith}
+use Rattle.std.proofs.Common.{◌≡◌, ◌⊎◌, inl, inr, ⊎_elim, ℕ, zero, suc, ◌+◌, ◌<◌, ◌≤◌, Bool, true, false, List, [], ◌∷◌, length, Option, Some, None, refl, ap, sym, ◌∙◌, subst, arith}
 use Rattle.std.specs.Prelude.{IfSome}
 use Rattle.std.proofs.lemmas.Bool.{cases_Bool, eqb-true, eq-eqb}
 use Rattle.gc_graph.specs.Machine.{words_taken}
@@ -173,9 +173,9 @@ pub follows_put : (s s' : State) (m a i : ℕ) (op : Op) (reply : Reply) (old : 
 follows_put s s' m a i op reply old t after is_open is_open' heap less said none is not_closed olds stays wrote f =
     follows_written s s' a i 1 (WrittenBy s.heap.graph m op reply) old t after is_open is_open' heap (ran_one s s' m op reply said none)
     (λ x j w. ⊎_elim
-        (λ (p : (a, i) ≡ (x, j)). (sym (ap (λ (p : ℕ × ℕ). p.0) p), (let e : i ≡ j = ap (λ (p : ℕ × ℕ). p.1) p in omega arith), (let e : i ≡ j = ap (λ (p : ℕ × ℕ). p.1) p in omega arith)))
-        (λ z. absurd z)
-        (subst (λ ws. In {X = ℕ × ℕ} (x, j) ws) (sym is) w))
+    (λ (p : (a, i) ≡ (x, j)). (sym (ap (λ (p : ℕ × ℕ). p.0) p), (let e : i ≡ j = ap (λ (p : ℕ × ℕ). p.1) p in omega arith), (let e : i ≡ j = ap (λ (p : ℕ × ℕ). p.1) p in omega arith)))
+    (λ z. absurd z)
+    (subst (λ ws. In {X = ℕ × ℕ} (x, j) ws) (sym is) w))
     not_closed
     (λ d there j low high. (let same : i ≡ j = omega arith in
     subst (IsLogged d a) same (noted s s' m op reply a i (log_of_open s m is_open less) said (subst (In {X = ℕ × ℕ} (a, i)) is (inl refl)) d there)))

@@ -1,9 +1,7 @@
 -- The object in the slot takes the field, so a `Put` writes it; the monitor is told of the field that was logged.
 use Rattle.std.proofs.Common.{◌≡◌, ◌∷◌, [], ℕ, map, refl, sym, ap, subst, ◌∙◌}
-use Rattle.gc_graph.specs.Graph.{Value, names_of, root}
-use Rattle.gc_graph.specs.Slots.{place}
+use Rattle.gc_graph.specs.Graph.{Value, names_of}
 use Rattle.gc_graph.specs.declared.command.Op.TheVariants.{Put}
-use Rattle.gc_graph.specs.declared.reply.Reply.{Reply}
 use Rattle.gc_graph.specs.declared.reply.Reply.TheVariants.{Done}
 use Rattle.gc_heap.specs.Heap.{graph_in}
 use Rattle.gc_plan.specs.Steps.{written}

@@ -1,5 +1,5 @@
 -- The numbers are written at once, and their fields are logged one by one; then the monitor is told of all of them.
-use Rattle.std.proofs.Common.{◌≡◌, ◌≤◌, ◌<◌, length, sym, ◌∙◌, ap, subst, arith}
+use Rattle.std.proofs.Common.{◌≡◌, length, sym, ◌∙◌, ap, subst, arith}
 use Rattle.gc_plan.specs.State.{Collection}
 use Rattle.gc_plan.specs.Belonging.{IsLogged}
 use Rattle.gc_copy.specs.Words.{collection_in, open_state}

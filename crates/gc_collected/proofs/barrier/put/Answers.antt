@@ -1,11 +1,10 @@
 -- A `Put` that writes nothing tells the monitor nothing; else the monitor is told of the field that was logged.
-use Rattle.std.proofs.Common.{◌≡◌, [], ◌∷◌, ℕ, List, Option, Some, None, refl, sym, ap, subst, ◌∙◌}
+use Rattle.std.proofs.Common.{◌≡◌, [], ℕ, Option, refl, sym, ap, subst, ◌∙◌}
 use Rattle.std.specs.Option.{option_map, option_to_list}
 use Rattle.gc_graph.specs.declared.command.Op.TheVariants.{Put}
 use Rattle.gc_heap.specs.Heap.{graph_in}
 use Rattle.gc_plan.specs.Members.{In}
 use Rattle.gc_plan.specs.Steps.{written}
-use Rattle.gc_along.specs.Claims.{CanWrite}
 use Rattle.gc_copy.specs.Entries.{entry_in}
 use Rattle.gc_copy.specs.Words.{open_state}
 use Rattle.gc_copy.specs.declared.log.LogEntry.{LogEntry}

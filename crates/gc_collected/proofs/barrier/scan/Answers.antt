@@ -2,7 +2,6 @@
 use Rattle.std.proofs.Common.{⊎_elim, refl, ap, sym, subst, ◌∙◌}
 use Rattle.gc_words.specs.Image.{Image}
 use Rattle.gc_plan.specs.declared.step.StepReply.{StepReply}
-use Rattle.gc_plan.specs.State.{State}
 use Rattle.gc_along.specs.Claims.{CanLook}
 use Rattle.gc_along.specs.Events.{Looked}
 use Rattle.gc_copy.specs.Words.{collection_in, open_state}

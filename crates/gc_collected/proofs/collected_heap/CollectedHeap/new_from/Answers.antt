@@ -1,5 +1,5 @@
 -- A `New` that is `Full` ends the call; else one `Put` for each slot follows, and what is known of extra roots is still true.
-use Rattle.std.proofs.Common.{◌≡◌, ◌<◌, sym, subst, arith}
+use Rattle.std.proofs.Common.{◌<◌, sym, subst, arith}
 use Rattle.gc_plan.specs.State.{State}
 use Rattle.gc_collected.specs.Internal.CollectedHeap.{state_in}
 use Rattle.gc_collected.proofs.Core.{core_is}

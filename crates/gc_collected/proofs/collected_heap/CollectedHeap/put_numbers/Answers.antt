@@ -24,8 +24,7 @@ ready c = (let r = reserved c.self.inside.epoch c.self.inside.known c.self.insid
 pub invariant_of-self : goal.invariant_of-self
 invariant_of-self c =
     let all = written (goal.at.invariant_of-self c).After-fill_numbers in
-    let less : c.args.m < c.self.inside.heap.mutators = subst (λ (s : State). c.args.m < s.mutators) (sym (core_is c.self.view_is)) c.requires.mutator in
-    (
+    let less : c.args.m < c.self.inside.heap.mutators = subst (λ (s : State). c.args.m < s.mutators) (sym (core_is c.self.view_is)) c.requires.mutator in (
       none_open c.self.inside.epoch c.self.inside.known c.self.inside.known c.self.inside.heap c.fill_numbers.new.self c.self.inside.collection c.in_default-collection.is (λ links. all.1)
           (λ k. subst (KnowsRoots c.self.inside.known) all.0 (numbers_know c.args.words.now c.self.inside.known (idle_state c.self.inside.heap) c.args.m c.args.first c.args.s c.args.t (omega (arith, c.index.ensures.value, c.index.ensures.bound)) less k)) c.self.invariant.0,
       λ on. numbers_follow c.args.words.now c.self.inside.heap c.fill_numbers.new.self c.self.inside.collection c.args.m c.args.first c.args.s c.args.t c.self.inside.watch c.in_default-collection.is all.0 (c.self.invariant.1 on),

@@ -11,15 +11,14 @@ use Rattle.std.proofs.Crossing.{frees}
 use Rattle.std_alloc.proofs.SendSync.{quiet, lies}
 use Rattle.gcflip_heap_c.specs.Handle.{owns_heap}
 use Rattle.gc_plan.specs.State.{State}
-use Rattle.gc_copy.specs.Words.{RoomWords}
-use Rattle.gc_live.specs.Live.{Beside}
-use Rattle.gc_live.specs.contracts.kept_heap.KeptHeap as Row
-use Rattle.gc_live.proofs.kept_heap.KeptHeap.TheSendSync.{the_send as heap_send}
+use Rattle.gc_collected.specs.Collected.{Beside}
+use Rattle.gc_collected.specs.contracts.collected_heap.CollectedHeap as Row
+use Rattle.gc_collected.proofs.collected_heap.CollectedHeap.TheSendSync.{the_send as heap_send}
 use Rattle.gcflip_heap_c.specs.contracts.handle.GcflipHeap.{the_row}
 
-keyless : (alloc : Global) (at : Ptr) (state : Option State) (former : Option RoomWords) (beside : Beside) → Keyless (owns_heap alloc at state former beside)
-keyless alloc at None former beside = tt
-keyless alloc at (Some state) former beside = (lies Row.the_row heap_send at (record { live = record { core = state; beside = beside }; former = former }), frees.frees alloc (raw (lone Row.the_row.mir)) at)
+keyless : (alloc : Global) (at : Ptr) (state : Option State) (beside : Beside) → Keyless (owns_heap alloc at state beside)
+keyless alloc at None beside = tt
+keyless alloc at (Some state) beside = (lies Row.the_row heap_send at (record { core = state; beside = beside }), frees.frees alloc (raw (lone Row.the_row.mir)) at)
 
 pub send : IsSend the_row
 send = grind (arith, common_steps, keyless, quiet)

@@ -29,9 +29,8 @@ use Rattle.std.proofs.GlobalToken.{dealloc_token-Testable}
 use Rattle.std.proofs.raw_atomic.Walks.{proved}
 use Rattle.gcflip_heap_c.specs.Handle.{owns_heap}
 use Rattle.gc_plan.specs.State.{State}
-use Rattle.gc_copy.specs.Words.{RoomWords}
-use Rattle.gc_live.specs.Live.{Beside}
-use Rattle.gc_live.specs.contracts.kept_heap.KeptHeap as Row
+use Rattle.gc_collected.specs.Collected.{Beside}
+use Rattle.gc_collected.specs.contracts.collected_heap.CollectedHeap as Row
 use Rattle.gcflip_heap_c.specs.contracts.handle.GcflipHeap.is_empty as f
 use Rattle.gcflip_heap_c.specs.contracts.handle.GcflipHeap.{the_row as R}
 use Rattle.gcflip_heap_c.proofs.handle.GcflipHeap.is_empty.Statement.{statement}
@@ -59,16 +58,16 @@ answer (block_ptr b o) None e = absurd (subst InBlock e tt)
 answer (block_ptr b o) (Some x) t = (false, refl, refl)
 answer null_ptr (Some x) t = absurd t
 
-module _ {M : Type 1} {𝓤 : Ura M} (𝓛 : Logic 𝓤) (a : Global) (p : Ptr) (former : Option RoomWords) (beside : Beside) where
-  tested : (x : X) → ent 𝓤 (sem 𝓛 (owns_heap a p (Some x) former beside)) (guard 𝓤 (Testable p) (sem 𝓛 (owns_heap a p (Some x) former beside)))
+module _ {M : Type 1} {𝓤 : Ura M} (𝓛 : Logic 𝓤) (a : Global) (p : Ptr) (beside : Beside) where
+  tested : (x : X) → ent 𝓤 (sem 𝓛 (owns_heap a p (Some x) beside)) (guard 𝓤 (Testable p) (sem 𝓛 (owns_heap a p (Some x) beside)))
   tested x = fact_use 𝓤 (Testable p)
-      (via 𝓤 _ (snd∗ 𝓤 (sem 𝓛 (lies_at Row.the_row full_share p (record { live = record { core = x; beside = beside }; former = former }))) (sem 𝓛 (ghosts.dealloc_token a (bare (lone Row.the_row.mir)) p))) (dealloc_token-Testable 𝓛 a (bare (lone Row.the_row.mir)) p))
-      (guard_i 𝓤 (Testable p) (sem 𝓛 (owns_heap a p (Some x) former beside)))
+      (via 𝓤 _ (snd∗ 𝓤 (sem 𝓛 (lies_at Row.the_row full_share p (record { core = x; beside = beside }))) (sem 𝓛 (ghosts.dealloc_token a (bare (lone Row.the_row.mir)) p))) (dealloc_token-Testable 𝓛 a (bare (lone Row.the_row.mir)) p))
+      (guard_i 𝓤 (Testable p) (sem 𝓛 (owns_heap a p (Some x) beside)))
 
-  tells : (row : Option X) → ent 𝓤 (sem 𝓛 (owns_heap a p row former beside)) (guard 𝓤 (Testable p × Placed p row) (sem 𝓛 (owns_heap a p row former beside)))
+  tells : (row : Option X) → ent 𝓤 (sem 𝓛 (owns_heap a p row beside)) (guard 𝓤 (Testable p × Placed p row) (sem 𝓛 (owns_heap a p row beside)))
   tells None = qed 𝓛 (‵ (feq Ptr p null_ptr) ∷ []) ∵ feq_l ! (λ e. check ! (subst Testable (sym e) (lit< tt), e) $ feq_i ! Ptr p null_ptr e $ done !)
   tells (Some x) =
-      let Owns = λ (q : Ptr). box_owns (ghosts.dealloc_token a) Row.the_row q (record { live = record { core = x; beside = beside }; former = former }) in
+      let Owns = λ (q : Ptr). box_owns (ghosts.dealloc_token a) Row.the_row q (record { core = x; beside = beside }) in
       qed 𝓛 (‵ (Owns p) ∷ []) ∵ use1 𝓛 (given (Testable p) (‵ (Owns p))) (tested x) $ learn ! (λ t.
       in_a_block ! p Owns (fst∗ 𝓤 (never 𝓤) (sem 𝓛 (ghosts.dealloc_token a (bare (lone Row.the_row.mir)) null_ptr))) (λ b o e.
       check ! (t, subst InBlock (sym e) tt) $ rewrite ! 0 (λ (q : Ptr). ‵ (Owns q)) (sym e) refl $ done !))
@@ -86,7 +85,7 @@ is_empty_spec 𝓤 𝓛 𝓜 𝓡 wired =
     enter ! _ _ _ _ _ $ alloc_all ! (λ l. pass_all ! refl ((tt, tt), tt) $
     fsplit3 ! $ move ! (1 ∷ 2 ∷ 3 ∷ []) $ opens ! tt R b o (λ us.
     move ! (1 ∷ []) $ peeks ! R _ (shows 𝓛 R) h us (λ seen. fsplit ! $ move ! (1 ∷ []) $
-    use1 𝓛 (given (Testable h.at × Placed h.at h.state) (‵ (owns_heap h.alloc h.at h.state h.former h.beside))) (tells 𝓛 h.alloc h.at h.former h.beside h.state) $ learn ! (λ there.
+    use1 𝓛 (given (Testable h.at × Placed h.at h.state) (‵ (owns_heap h.alloc h.at h.state h.beside))) (tells 𝓛 h.alloc h.at h.beside h.state) $ learn ! (λ there.
     let found = answer h.at h.state there.1 in
     let word = lowers.val_is h us seen in
     let Cell = λ (ws : List Val). ‵ (cell_at full_share R.mir ws b o) in

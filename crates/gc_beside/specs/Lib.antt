@@ -1,4 +1,0 @@
-pub mod Stays
-pub mod Knows
-pub mod Follows
-pub mod Internal

@@ -1,2 +1,0 @@
--- What other crates cite of this crate's proofs and internal definitions, passed on from one place. Declares nothing.
-pub use Rattle.gc_core.proofs.LegalRuns.{run_is_legal}

@@ -1,4 +1,0 @@
--- Definitions that only private contracts and proofs use. They are not part of the public interface.
-pub mod CollectedHeap
-pub mod Flip
-pub mod KnownRoots

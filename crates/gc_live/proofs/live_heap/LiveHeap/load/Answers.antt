@@ -1,9 +1,0 @@
--- A load makes no object and writes no field, so the checker goes along as it is.
-use Rattle.std.proofs.Common.{refl}
-use Rattle.gc_graph.specs.declared.command.Op.TheVariants as ops
-use Rattle.gc_heap.specs.ExtraRoots.{extra_slot}
-use Rattle.gc_live.proofs.LastsOn.{both_quiet}
-use Rattle.gc_live.proofs.live_heap.LiveHeap.load.Goals as goal
-
-pub invariant_of-self : goal.invariant_of-self
-invariant_of-self c = both_quiet c.self.inside.along c.self.inside.inner c.load.new.self c.args.m (ops.Move c.args.d (extra_slot c.self.inside.inner.mutators c.args.m c.args.k)) c.load.result c.self.inside.watch c.is_sound.ensures.open c.load.ensures.step refl refl c.self.invariant

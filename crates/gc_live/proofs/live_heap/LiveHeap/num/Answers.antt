@@ -1,8 +1,0 @@
--- A `Num` makes no object and writes no field, so the checker goes along as it is.
-use Rattle.std.proofs.Common.{refl}
-use Rattle.gc_graph.specs.declared.command.Op.TheVariants as ops
-use Rattle.gc_live.proofs.LastsOn.{both_quiet}
-use Rattle.gc_live.proofs.live_heap.LiveHeap.num.Goals as goal
-
-pub invariant_of-self : goal.invariant_of-self
-invariant_of-self c = both_quiet c.self.inside.along c.self.inside.inner c.num.new.self c.args.m (ops.Num c.args.d c.args.n) c.num.result c.self.inside.watch c.is_sound.ensures.open c.num.ensures.step refl refl c.self.invariant
