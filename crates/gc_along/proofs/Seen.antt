@@ -14,7 +14,7 @@ use Rattle.gc_words.specs.Certificate.{BlocksCorrespond, Certified}
 use Rattle.gc_words.proofs.Public.{stands_in}
 use Rattle.gc_along.specs.Outline.{outline_of}
 use Rattle.gc_along.specs.Watch.{Watch, IsSeen, IsWatched, Watches, IsSized, RootsCorrespond, is_due, is_due_at, seen_at}
-use Rattle.gc_along.specs.Internal.Watch.{HasSeenAll, bit}
+use Rattle.gc_along.specs.Internal.Watch.{HasSeenAll, bit, due_count}
 
 pub all_of : (n : ℕ) (words : List ℕ) → n ≡ length words → take n words ≡ words
 all_of n words e = take_all n words (omega arith)
