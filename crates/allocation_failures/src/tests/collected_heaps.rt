@@ -47,7 +47,9 @@ fn make_ready(rt: &impl Abort, heap: &mut CollectedHeap) {
         if step == Step::Flip {
             return;
         }
-        let _reply = heap.collect(&Sequential, step, Keep::Room).expect(rt, "a step");
+        let _reply = heap
+            .collect(&Sequential, step, Keep::Room)
+            .expect(rt, "a step");
     }
 }
 

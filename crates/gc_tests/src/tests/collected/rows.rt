@@ -50,7 +50,12 @@ fn perform(
         Row::Command(op, reply) => expect(rt, place, heap.mutate(0, op)?, *reply),
         Row::Step(step, reply) => {
             assert!(rt; step.is_within(u32::MAX, heap.mutators()), "row {place}");
-            expect(rt, place, heap.collect(&Sequential, *step, Keep::Room)?, *reply);
+            expect(
+                rt,
+                place,
+                heap.collect(&Sequential, *step, Keep::Room)?,
+                *reply,
+            );
         }
         Row::Call(step, reply) => {
             assert!(rt; step.is_within(u32::MAX, heap.mutators()), "row {place}");

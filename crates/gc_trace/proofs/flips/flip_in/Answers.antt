@@ -19,7 +19,7 @@ returns-clause-counts c =
     let s = c.args.heap.now.core in
     let made = c.in-Ok.ensures in
     let is : option_map pair_in c.take_pair.result ≡ flip_at s c.args.event.now =
-      c.take_pair.ensures.taken ∙ made.pair ∙ ap (λ (kept : Option CertifiedPair). kept_with Pair kept s c.args.event.now) c.requires.taken in
+    c.take_pair.ensures.taken ∙ made.pair ∙ ap (λ (kept : Option CertifiedPair). kept_with Pair kept s c.args.event.now) c.requires.taken in
     counts_of_kept s c.args.event.now c.take_pair.result c.requires.sound c.requires.small (c.scans_and_pairs_are_bounded.ensures.pairs s c.requires.sound) c.requires.few is (flip_certified s c.args.event.now c.take_pair.result is (λ reply e. made.sound reply (made.answer ∙ e)))
 
 pub returns-clause-small : goal.returns-clause-small
