@@ -29,7 +29,7 @@ wrote_row (suc n) a b i t is within =
 
 -- ---- the codes
 
-pub row_length : (n p : ℕ) (codes : List ℕ) → length (row_set codes p n) ≡ length codes
+row_length : (n p : ℕ) (codes : List ℕ) → length (row_set codes p n) ≡ length codes
 row_length zero p codes = refl
 row_length (suc n) p codes = row_length n (suc p) (set codes p 3) ∙ length-set codes p 3
 
@@ -67,7 +67,7 @@ dues_same : (n p q : ℕ) (codes : List ℕ) → p < q → dues_from (set codes 
 dues_same zero p q codes less = refl
 dues_same (suc n) p q codes less = (λ i. bit (get_or-set_other codes p q 3 0 (λ e. omega arith) i == 3) + dues_same n p (suc q) codes (omega arith) i)
 
-pub row_count : (n p : ℕ) (codes : List ℕ) → p + n ≤ length codes → missing_in (row_set codes p n) + dues_from codes p n ≡ missing_in codes + n
+row_count : (n p : ℕ) (codes : List ℕ) → p + n ≤ length codes → missing_in (row_set codes p n) + dues_from codes p n ≡ missing_in codes + n
 row_count zero p codes fits = refl
 row_count (suc n) p codes fits =
     let rest : missing_in (row_set (set codes p 3) (suc p) n) + dues_from (set codes p 3) (suc p) n ≡ missing_in (set codes p 3) + n = row_count n (suc p) (set codes p 3) (omega (arith, length-set codes p 3)) in
@@ -85,7 +85,7 @@ rows_are : (n p : ℕ) (t : Tables) (codes : List ℕ) → with_due_row (with_ne
 rows_are zero p t codes = refl
 rows_are (suc n) p t codes = rows_are n (suc p) t (set codes p 3)
 
-pub row_is : (n p : ℕ) (t : Tables) → IsKept t → with_due_row t p n ≡ with_news t (row_set t.news p n)
+row_is : (n p : ℕ) (t : Tables) → IsKept t → with_due_row t p n ≡ with_news t (row_set t.news p n)
 row_is n p t k = ap (λ (x : Tables). with_due_row x p n) (λ i. record t { missing = k.counted i }) ∙ rows_are n p t t.news
 
 pub kept_row : (n p : ℕ) (t : Tables) → IsKept t → IsKept (with_due_row t p n)

@@ -25,7 +25,7 @@ shape_of n words seen e = subst (λ ws. HasShape true 4294967295 (length ws) ws)
 shaped_of : (n : ℕ) (image : Image) → IsSeen n image.words → n ≡ length image.words → IsSized (outline_of image) → IsShaped image
 shaped_of n image seen e sized = grind (arith, common_steps, shape_of)
 
-pub none_in : (ds : List Bool) → list_all (λ d. bit d == 0) ds ≡ true → (place : ℕ) → get_or ds place false ≡ false
+none_in : (ds : List Bool) → list_all (λ d. bit d == 0) ds ≡ true → (place : ℕ) → get_or ds place false ≡ false
 none_in [] h place = refl
 none_in (true ∷ ds) h place = absurd (let no : false ≡ true = h in cc)
 none_in (false ∷ ds) h zero = refl

@@ -53,7 +53,7 @@ numbers_done old new m first count s t words same fits numbers steps = grind (ar
 abbrev Any : ℕ → ℕ → Type 0
 Any a i = Unit {0}
 
-pub numbers_ran : (numbers : List ℕ) (s : State) (m i : ℕ) (d t : SlotName) → Ran s (numbers_step s m d t i numbers) Any
+numbers_ran : (numbers : List ℕ) (s : State) (m i : ℕ) (d t : SlotName) → Ran s (numbers_step s m d t i numbers) Any
 numbers_ran [] s m i d t = ran_none s Any
 numbers_ran (n ∷ rest) s m i d t =
     let one = mutate s m (ops.Num t n) in

@@ -66,7 +66,7 @@ SetsSlot (ops.Put t i u) = ⊥
 SetsSlot (ops.Same t u) = ⊥
 SetsSlot (ops.Look t) = ⊥
 
-pub sets_below : (mutators m : ℕ) (op : Op) → m < mutators → SetsSlot op → WritesBelow (roots_of mutators) m op
+sets_below : (mutators m : ℕ) (op : Op) → m < mutators → SetsSlot op → WritesBelow (roots_of mutators) m op
 sets_below mutators m op less low = grind (arith, common_steps, slot_below)
 
 -- after a command that sets one slot nothing is known of the slots

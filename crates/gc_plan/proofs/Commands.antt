@@ -85,7 +85,7 @@ step_numbers g m (ops.Look s) name h = h
 keeps_root : (size free : ℕ) (g : Graph) (d : ℕ) (v : Value) → IsSpaceGraph size free g → RefersTo (IsNamed g.objects) v → IsSpaceGraph size free (set_root g d v)
 keeps_root size free g d v h f = grind (arith, common_steps, in_set)
 
-pub root_fine : (size free : ℕ) (g : Graph) (p : ℕ) → IsSpaceGraph size free g → RefersTo (IsNamed g.objects) (root g p)
+root_fine : (size free : ℕ) (g : Graph) (p : ℕ) → IsSpaceGraph size free g → RefersTo (IsNamed g.objects) (root g p)
 root_fine size free g p h = grind (arith, common_steps, get_in)
 
 field_fine : (size free : ℕ) (g : Graph) (v : Value) (i : ℕ) (w : Value) → IsSpaceGraph size free g → field_of (object_of g.objects v) i ≡ Some w → RefersTo (IsNamed g.objects) w

@@ -29,7 +29,7 @@ small_pair : (s : State) (pair : CertifiedPair) → HasSizesWithin most_words s 
 small_pair s pair small is = grind (arith, common_steps)
 
 -- after a step the pair that is kept is certified, and small
-pub still_kept : (s : State) (kept : Option CertifiedPair) (reply : StepReply) → HasSizesWithin most_words s → FlipsOnly IsCertified s reply → IsKeptPair kept → IsKeptPair (kept_after kept s reply)
+still_kept : (s : State) (kept : Option CertifiedPair) (reply : StepReply) → HasSizesWithin most_words s → FlipsOnly IsCertified s reply → IsKeptPair kept → IsKeptPair (kept_after kept s reply)
 still_kept s kept reply small flips was = grind (arith, common_steps, flipped)
   where
     flipped : (n : ℕ) → reply ≡ Flipped n → IsKeptPair (option_map (flip_pair s) s.collection)

@@ -60,7 +60,7 @@ HasLog (Some c) m = m < length c.logs
 pub log_of_open : (s : State) (m : ℕ) → IfSome s.collection (IsOpened s) → m < s.mutators → HasLog s.collection m
 log_of_open s m is_open less = grind (arith, common_steps)
 
-pub log_after : (s s' : State) (m n : ℕ) (op : Op) (reply : Reply) → mutate s n op ≡ (reply, s') → HasLog s.collection m → HasLog s'.collection m
+log_after : (s s' : State) (m n : ℕ) (op : Op) (reply : Reply) → mutate s n op ≡ (reply, s') → HasLog s.collection m → HasLog s'.collection m
 log_after s s' m n op reply said h = grind (arith, common_steps)
 
 log_new : (logs : List (List (ℕ × ℕ))) (m : ℕ) (more : List (ℕ × ℕ)) (e : ℕ × ℕ) → m < length logs → In e more → In e (unwrap_or (slice_get (slice_set logs m (unwrap_or (slice_get logs m) [] ++ more)) m) [])
