@@ -14,7 +14,7 @@ use Rattle.gc_words.specs.Space.{IsSpace}
 use Rattle.gc_words.specs.Layout.{field_place}
 use Rattle.gc_words.specs.declared.header.Header.{Header}
 use Rattle.gc_along.specs.Watch.{Watch, IsSeen, IsNext, IsWatched, Watches, is_due, seen_at, front}
-use Rattle.gc_along.specs.Internal.Watch.{old_walked, new_walked, placed, opening_watch}
+use Rattle.gc_along.specs.Internal.Watch.{old_walked, placed, opening_watch}
 use Rattle.gc_along.proofs.Looks.{watched_by}
 
 -- ---- one object more

@@ -1,5 +1,5 @@
 -- So many places are due, and the count goes up by those that were not.
-use Rattle.std.proofs.Common.{◌≡◌, ◌≤◌, ◌+◌, ◌-◌, length, inr, ap, subst, sym, ◌∙◌, arith}
+use Rattle.std.proofs.Common.{◌≡◌, ◌+◌, ◌-◌, length, inr, ap, subst, sym, ◌∙◌, arith}
 use Rattle.gc_along.specs.Tables.{Tables, IsKept}
 use Rattle.gc_along.specs.Internal.Rows.{with_due_row}
 use Rattle.gc_along.specs.contracts.standing.Standing.{the_view}
