@@ -13,7 +13,7 @@ use Rattle.gc_heap.proofs.Public.{extra_place}
 use Rattle.gc_collected.specs.ExtraRoots.{clear_step}
 use Rattle.std.proofs.lemmas.List.{length-map, length-replicate}
 use Rattle.gc_words.specs.Word.{value_of}
-use Rattle.gc_heap.specs.Heap.{HeapWords, empty_heap, graph_in}
+use Rattle.gc_heap.specs.Heap.{HeapWords, empty_heap}
 use Rattle.gc_graph.specs.declared.command.Op.{Op}
 use Rattle.gc_graph.specs.declared.command.Op.TheVariants as ops
 use Rattle.gc_graph.specs.declared.reply.Reply.{Reply}
