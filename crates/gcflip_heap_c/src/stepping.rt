@@ -159,8 +159,9 @@ pub extern "C" fn gcflip_heap_step_apply(heap: &mut GcflipHeap, m: u8) -> u32
     of_step(heap.apply_log(m))
 }
 
-/// Flips if the open collection is ready and a checker accepts it. Then writes the number of pairs to `pairs`. Allocates the moved roots. If
-/// both spaces are checked whole, it also allocates the certificate and the checker's tables, and frees them before it returns.
+/// Flips if the open collection is ready and a checker accepts it. Then writes the number of pairs to `pairs`. Allocates nothing if the
+/// standing checker decides. If both spaces are checked whole, it allocates the moved roots, the certificate and the checker's tables, and
+/// frees them before it returns.
 #[unsafe(no_mangle)]
 pub extern "C" fn gcflip_heap_step_flip(heap: &mut GcflipHeap, pairs: &mut u32) -> u32
     ensures call { IsCall (λ _. ⊤) (Replies (λ s. collect s Step.Flip)
