@@ -14,7 +14,6 @@ use Rattle.gc_plan.specs.declared.event.Event.{Event}
 use Rattle.gc_plan.specs.declared.event.Answer.{Answer}
 use Rattle.gc_plan.specs.declared.event.Answer.TheVariants.{Collector}
 use Rattle.gc_plan.specs.declared.step.Step.{Step}
-use Rattle.gc_plan.specs.declared.step.Step.TheVariants as steps
 use Rattle.gc_plan.specs.declared.step.StepReply.{StepReply}
 use Rattle.gc_plan.specs.declared.step.StepReply.TheVariants.{Flipped}
 use Rattle.gc_world.specs.History.{IsHistory, answers_of}

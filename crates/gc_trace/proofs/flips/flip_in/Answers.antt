@@ -5,7 +5,6 @@ use Rattle.std.specs.Option.{option_map}
 use Rattle.gc_graph.specs.Limits.{most_words}
 use Rattle.gc_cert.specs.Grammar.{CertifiedPair}
 use Rattle.gc_cert.specs.Views.{pair_in}
-use Rattle.gc_plan.specs.State.{State}
 use Rattle.gc_plan.specs.Runs.{HasSizesWithin}
 use Rattle.gc_plan.proofs.Public.{event_within}
 use Rattle.gc_collected.specs.Collected.{Collected}
