@@ -677,8 +677,8 @@ def told_again(_program, _folder):
     yield "inferred pairs in examples/certify/README.md", None if told in text_of("examples/certify/README.md") else "it does not say that a check %s" % told
     rows = dict(line.split()[:2] for line in text_of("bench/embedding/commands.txt").split("\n") if line.startswith("get_"))
     told = "a `get` takes %s to %s" % (rows["get_object"], rows["get_number"])
-    for document in ("docs/DECISIONS.md", "bench/embedding/README.md"):
-        yield "instructions of a get in %s" % document, None if told in text_of(document).replace("A `get`", "a `get`") else "it does not say that %s" % told
+    for document in ("docs/decisions/speed.md", "bench/embedding/README.md"):
+        yield "instructions of a get in %s" % document, None if told in " ".join(text_of(document).split()).replace("A `get`", "a `get`") else "it does not say that %s" % told
     quoted = [document for document in documents() if re.search(r"functions=\d", text_of(document))]
     yield "counts of functions", ", ".join(quoted) or None
 
