@@ -36,7 +36,9 @@ fn flip_in(heap: &mut CollectedHeap, event: &Event) -> Result<Option<PairFile>, 
 {
     states_are_kept();
     scans_and_pairs_are_bounded();
-    heap.perform(&Sequential, event, Keep::Pair)?;
+    let Ok(_) = heap.perform(&Sequential, event, Keep::Pair) else {
+        return Err(NoMemory);
+    };
     Ok(heap.take_pair())
 }
 

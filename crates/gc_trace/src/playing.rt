@@ -94,7 +94,9 @@ impl Player {
         ensures gather { self.new.gather ≡ self.old.gather }
     {
         states_are_kept();
-        let answer = self.heap.perform(&Sequential, event, Keep::Room)?;
+        let Ok(answer) = self.heap.perform(&Sequential, event, Keep::Room) else {
+            return Err(NoMemory);
+        };
         self.report.count(&answer);
         let Gather::Replies = self.gather else {
             return Ok(());
