@@ -307,6 +307,61 @@ static void weak_in_one_snapshot(void)
     }
 }
 
+/* An object whose field is a weak reference to the other one, and both are roots. */
+static void write_weak_pair(gcflip_snapshot *snapshot, uint64_t shift)
+{
+    uint32_t at = gcflip_snapshot_object(snapshot, 100 + shift, 1, 70000);
+    for (uint64_t i = 0; i < 70000; i++)
+        gcflip_snapshot_set(snapshot, at, i, 0);
+    gcflip_snapshot_object(snapshot, 200 + shift, 2, 0);
+    gcflip_snapshot_set_weak(snapshot, at, 40000, 200 + shift);
+    gcflip_snapshot_root(snapshot, gcflip_snapshot_reference(snapshot, 100 + shift));
+    gcflip_snapshot_root(snapshot, gcflip_snapshot_reference(snapshot, 200 + shift));
+}
+
+static void begin_weak_pairs(void)
+{
+    empty();
+    write_weak_pair(before, 0);
+    write_weak_pair(after, 1000);
+}
+
+static uint32_t inferred(void)
+{
+    return gcflip_collection_infer(c, &verdict);
+}
+
+/* The last word of a field counts, also if an earlier one was a weak reference, and also after a check. */
+static void weak_references_taken_back(void)
+{
+    begin_weak_pairs();
+    gcflip_snapshot_set_weak(after, 1, 40000, 0);
+    EXPECT(inferred() == GCFLIP_FAULTY && gcflip_collection_fault(c) == GCFLIP_FAULT_WEAK);
+    begin_weak_pairs();
+    gcflip_snapshot_set_weak(after, 1, 40000, 0);
+    gcflip_snapshot_set_weak(after, 1, 40000, 1200); /* it is not cleared any more */
+    EXPECT(inferred() == GCFLIP_YES);
+    gcflip_snapshot_set(after, 1, 40000, 0);
+    EXPECT(inferred() == GCFLIP_REFUSED && is_verdict(GCFLIP_FIELD_DIFFERS, 0, 2, 7232)); /* only one snapshot has a weak reference there */
+    gcflip_snapshot_set(before, 1, 40000, 0);
+    EXPECT(inferred() == GCFLIP_YES);
+    gcflip_snapshot_set(before, 1, 40000, gcflip_snapshot_reference(before, 200));
+    EXPECT(inferred() == GCFLIP_REFUSED && is_verdict(GCFLIP_FIELD_DIFFERS, 0, 2, 7232));
+    gcflip_snapshot_set(after, 1, 40000, gcflip_snapshot_reference(after, 1200));
+    EXPECT(inferred() == GCFLIP_YES);
+    gcflip_snapshot_set_weak(before, 1, 40000, 200);
+    gcflip_snapshot_set_weak(after, 1, 40000, 1200);
+    EXPECT(inferred() == GCFLIP_YES);
+    gcflip_snapshot_set_weak(after, 1, 40000, 0);
+    EXPECT(inferred() == GCFLIP_FAULTY && gcflip_collection_fault(c) == GCFLIP_FAULT_WEAK);
+    empty();
+    gcflip_snapshot_set_weak(before, gcflip_snapshot_object(before, 100, 1, 2), 0, 999);
+    EXPECT(gcflip_snapshot_doubts(before, NULL, NULL) == 2); /* no object is at 999, and a field was never set */
+    gcflip_snapshot_set(before, 1, 0, 0);
+    gcflip_snapshot_set(before, 1, 1, 0);
+    EXPECT(gcflip_snapshot_doubts(before, NULL, NULL) == 0);
+}
+
 /* ---- Texts. */
 
 static uint32_t written(char **text, size_t *length)
@@ -975,6 +1030,7 @@ int main(int count, char **arguments)
     insides();
     weak();
     weak_in_one_snapshot();
+    weak_references_taken_back();
     texts();
     moved_text();
     if (count == 1)

@@ -49,7 +49,7 @@ def images(_program, folder):
     if built is None:
         return
     sources = [os.path.join(TOP, "bindings", "c", name) for name in ("gcflip_images.c", "images_adapter.c", "images_told.c")]
-    for name, more in [("images.c", sources), ("adapters.c", sources), ("refused_images.c", [])]:
+    for name, more in [("images.c", sources), ("adapters.c", sources), ("refused_images.c", []), ("epochs.c", [])]:
         if usable(folder, "gcflip_images.c with sanitizers", ["gcc", *SANITIZERS]):
             path, why = built.build(["gcc", *SANITIZERS], name, [*more, *built.archive()])
             yield "%s, the source with sanitizers" % name, why or difference(done([path]), Outcome())
@@ -457,5 +457,23 @@ def given_up_at_once(_program, folder):
     yield "instructions of giving up in a large heap", why_small or why_large or told
 
 
-GROUPS = [example_programs, long_objects, pauses, programs, musl, images, large_heaps, live_and_far, pages, limits, work_remembers, given_up_at_once, rebuilt, pkg_config, texts, plays, recorded_work, recording_that_ends, root_reads,
+# The most instructions that a begin of one object may take after a collection of many, as a multiple of those after one of a single object.
+MOST_AFTER_MANY = 1.05
+
+
+def begins_after_many(_program, folder):
+    """Counts the instructions of begins of one object. They do not grow with the largest snapshot that the collection ever took, whose tables are
+    not cleared slot by slot."""
+    built = library(folder)
+    if built is None or not has_valgrind("count_begins.c"):
+        return
+    path, why = built.build(["gcc"], "count_begins.c", built.archive())
+    option = "--toggle-collect=begin_small_ones"
+    counted = [instructions(path, [objects], folder, option) for objects in (1, 20000)] if why is None else [(0, why)] * 2
+    (few, why_few), (many, why_many) = counted
+    told = None if 0 < many <= few * MOST_AFTER_MANY else "%d after 1 object, %d after 20,000" % (few, many)
+    yield "instructions of a begin after a large one", why_few or why_many or told
+
+
+GROUPS = [example_programs, long_objects, pauses, programs, musl, images, large_heaps, live_and_far, pages, limits, work_remembers, given_up_at_once, begins_after_many, rebuilt, pkg_config, texts, plays, recorded_work, recording_that_ends, root_reads,
           long_run, short_soak]
