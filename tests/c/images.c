@@ -947,7 +947,7 @@ static void self_test_lines(void)
 {
     const gcflip_names names = {NULL, root_name, kind_name, field_name};
     const gcflip_range range = {heap_after, 7};
-    gcflip_self_test test = {NULL, &range, 1, 0, 1, false, read_less, NULL, &names, 0, 0};
+    gcflip_self_test test = {.ranges = &range, .range_count = 1, .seed = 1, .read = read_less, .names = &names};
     char *text;
     size_t length;
     FILE *file = open_memstream(&text, &length);
@@ -992,7 +992,7 @@ static void self_test(void)
 {
     bool lax = false;
     const gcflip_range ranges[] = {{heap_after, 2}, {heap_after + 2, 5}};
-    gcflip_self_test test = {&lax, ranges, 2, 0, 1, false, read_again, reason, NULL, 0, 0};
+    gcflip_self_test test = {.given = &lax, .ranges = ranges, .range_count = 2, .seed = 1, .read = read_again, .reason = reason};
     char *text;
     size_t length;
     empty();

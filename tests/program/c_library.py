@@ -3,6 +3,7 @@ import json
 import os
 import re
 import shutil
+import signal
 import time
 
 from . import pairs
@@ -12,7 +13,7 @@ from .harness import Outcome, addresses_numbered, difference, file_of, run, skip
 from .traces import PLAYED, trace_and_replies
 
 # Programs that end with status 0 and print nothing.
-PROGRAMS = ["answers.c", "check.c", "refused_check.c", "check_cpp.cpp", "heap.c", "extra_roots.c", "pace.c", "refused_heap.c", "checking.c", "damaged.c", "rooms.c", "heap_cpp.cpp", "churn.c", "threads.c", "images.c", "adapters.c", "nursery.c"]
+PROGRAMS = ["answers.c", "check.c", "refused_check.c", "check_cpp.cpp", "heap.c", "extra_roots.c", "pace.c", "refused_heap.c", "checking.c", "damaged.c", "rooms.c", "heap_cpp.cpp", "churn.c", "threads.c", "images.c", "adapters.c", "nursery.c", "self_tests.c"]
 
 
 def programs(_program, folder):
@@ -48,14 +49,30 @@ def images(_program, folder):
     built = library(folder)
     if built is None:
         return
-    sources = [os.path.join(TOP, "bindings", "c", name) for name in ("gcflip_images.c", "images_adapter.c", "images_told.c")]
-    for name, more in [("images.c", sources), ("adapters.c", sources), ("refused_images.c", []), ("epochs.c", [])]:
+    sources = [os.path.join(TOP, "bindings", "c", name) for name in ("gcflip_images.c", "images_adapter.c", "images_told.c", "images_tests.c")]
+    for name, more in [("images.c", sources), ("adapters.c", sources), ("self_tests.c", sources), ("refused_images.c", []), ("epochs.c", [])]:
         if usable(folder, "gcflip_images.c with sanitizers", ["gcc", *SANITIZERS]):
             path, why = built.build(["gcc", *SANITIZERS], name, [*more, *built.archive()])
             yield "%s, the source with sanitizers" % name, why or difference(done([path]), Outcome())
         if has_valgrind(name):
             path, why = built.build(["gcc"], name, built.archive())
             yield "%s by valgrind" % name, why or difference(done([*VALGRIND, path, "small"]), Outcome())
+
+
+# The lines of the bits that self_tests.c flips until it reads at the address 2^64 - 8: all bits of four words, and the first one of the fifth.
+BITS_UP_TO_THE_CRASH = 4 * 64 + 1
+
+
+def crash_in_a_self_test(_program, folder):
+    """An adapter that compares sums of addresses crashes in the self-test, and the last line says at which bit."""
+    built = library(folder)
+    if built is None:
+        return
+    path, why = built.build(["gcc"], "self_tests.c", built.archive())
+    found = done([path, "sums"]) if why is None else Outcome()
+    lines = found.stdout.decode().splitlines()
+    crashed = found.status == -signal.SIGSEGV and len(lines) == BITS_UP_TO_THE_CRASH and lines[-1].startswith("bit 0 of the word at 0x")
+    yield "the bit of a crash", why or (None if crashed else "status %d, last of %d lines: %s" % (found.status, len(lines), lines[-1:]))
 
 
 def objects():
@@ -475,5 +492,5 @@ def begins_after_many(_program, folder):
     yield "instructions of a begin after a large one", why_few or why_many or told
 
 
-GROUPS = [example_programs, long_objects, pauses, programs, musl, images, large_heaps, live_and_far, pages, limits, work_remembers, given_up_at_once, begins_after_many, rebuilt, pkg_config, texts, plays, recorded_work, recording_that_ends, root_reads,
+GROUPS = [example_programs, long_objects, pauses, programs, musl, images, crash_in_a_self_test, large_heaps, live_and_far, pages, limits, work_remembers, given_up_at_once, begins_after_many, rebuilt, pkg_config, texts, plays, recorded_work, recording_that_ends, root_reads,
           long_run, short_soak]
