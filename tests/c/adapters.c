@@ -422,7 +422,7 @@ static const char *kind_name(void *given, uint32_t kind)
 }
 
 static size_t one = 1;
-static const gcflip_names names = {&one, root_name, kind_name, NULL};
+static const gcflip_names names = {.given = &one, .root = root_name, .kind = kind_name};
 static const gcflip_adapter tracer = {&one, trace, trace, true, false, &names};
 
 /* Writes a cycle of two cells with a third one behind them, from some word of a space on, and makes the second root refer to it. */
@@ -470,9 +470,10 @@ static void traced_collections(void)
     EXPECT(gcflip_collection_end(c, NULL) == GCFLIP_REFUSED);
     begin_cycle(&tracer);
     heap_roots[1] = address_of(old_space + 1); /* the collector did not update it */
-    char wanted[200];
+    char wanted[300];
     snprintf(wanted, sizeof wanted, "refused 10 RootDiffers 1\n  the list\n"
-                                    "  before 0x%llx (cons, 2 fields)\n  after  0x%llx: no object starts there\n",
+                                    "  before 0x%llx (cons, 2 fields)\n  after  0x%llx: no object starts there\n"
+                                    "  that is still the old address; the object before has no replica\n",
              (unsigned long long)address_of(old_space + 1), (unsigned long long)address_of(old_space + 1));
     EXPECT(end_told(wanted) == GCFLIP_REFUSED);
     begin_cycle(&tracer);

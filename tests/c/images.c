@@ -551,7 +551,7 @@ static void expect_printed(char *printed, const char *wanted)
 
 static void expect_told(const char *wanted, bool named)
 {
-    const gcflip_names names = {NULL, root_name, kind_name, field_name};
+    const gcflip_names names = {.root = root_name, .kind = kind_name, .field = field_name};
     char *text;
     size_t length;
     FILE *file = open_memstream(&text, &length);
@@ -568,7 +568,8 @@ static void explanations(void)
     gcflip_snapshot_set(after, 1, 0, gcflip_snapshot_reference(after, 404));
     expect_refused(GCFLIP_FIELD_DIFFERS, 0, 0);
     expect_told("refused 9 FieldDiffers 0 0\n  the object 0x64 (cons, 2 fields) with the replica 0x12c (cons, 2 fields)\n  head\n"
-                "  before 0xc8 (kind 4, 1 field)\n  after  0x194: no object starts there\n  reached by the global `all`\n", true);
+                "  before 0xc8 (kind 4, 1 field)\n  after  0x194: no object starts there\n"
+                "  no object started there before the collection either; the replica of the object before is 0x190 (kind 4, 1 field)\n  reached by the global `all`\n", true);
     list();
     gcflip_snapshot_set(after, 5, 0, gcflip_snapshot_fixed(after, 4096));
     expect_refused(GCFLIP_FIELD_DIFFERS, 1, 0);
@@ -583,7 +584,8 @@ static void explanations(void)
     expect_refused(GCFLIP_ROOT_COUNT, 0, 0);
     expect_told("refused 3 RootCount\n  2 roots before, 3 after\n", true);
     EXPECT(weak_answer(200, OLD_TARGET, 200, true, false) == GCFLIP_REFUSED);
-    expect_told("refused 10 RootDiffers 1\n  root 1\n  before 0xc8 (kind 2, 0 fields)\n  after  0xc8: no object starts there\n", true);
+    expect_told("refused 10 RootDiffers 1\n  root 1\n  before 0xc8 (kind 2, 0 fields)\n  after  0xc8: no object starts there\n"
+                "  that is still the old address; the replica of the object before is 0x4b0 (kind 2, 0 fields)\n", true);
     EXPECT(weak_answer(0, 200, 200, true, false) == GCFLIP_FAULTY);
     expect_told("no verdict: a weak reference was cleared, and its target has a replica: field 0 of 0x64 (kind 1, 1 field) was 0xc8 (kind 2, 0 fields)\n", true);
     EXPECT(weak_answer(200, 0, 200, true, false) == GCFLIP_FAULTY);
@@ -602,6 +604,50 @@ static void explanations(void)
     expect_told("refused 9 FieldDiffers 2 7232\n  the object the part from field 32768 of 0x3e8 (kind 9, 70000 fields) with the replica "
                 "the part from field 32768 of 0x7d0 (kind 9, 70000 fields)\n  field 40000\n  before the constant 0x9c40\n"
                 "  after  the constant 0x7\n  reached by root 0\n", false);
+}
+
+static const char *object_name(void *given, const gcflip_snapshot *snapshot, uint64_t address, uint32_t kind)
+{
+    EXPECT(given == NULL && (kind == 3 || kind == 4));
+    return kind == 4 ? NULL : snapshot == before && address == 100 ? "the list before" : snapshot == after && address == 300 ? "the list after" : NULL;
+}
+
+/* Expects this about the list, whose first field has another word now, given by its address. There are more objects, at 500 before and at 500 and 600
+   after, and one pair of them if `has_pair`. */
+static void expect_target(uint64_t now, bool has_pair, const char *wanted)
+{
+    char whole[800], *text;
+    size_t length;
+    const gcflip_names names = {.kind = kind_name, .object = object_name};
+    list();
+    gcflip_snapshot_object(before, 500, 4, 0);
+    gcflip_snapshot_object(after, 500, 4, 0);
+    gcflip_snapshot_set(after, gcflip_snapshot_object(after, 600, 4, 1), 0, 0);
+    if (has_pair)
+        gcflip_collection_pair(c, 500, 500);
+    gcflip_snapshot_set(after, 1, 0, gcflip_snapshot_reference(after, now));
+    expect_refused(GCFLIP_FIELD_DIFFERS, 0, 0);
+    FILE *file = open_memstream(&text, &length);
+    gcflip_collection_explain(c, &names, file);
+    fclose(file);
+    snprintf(whole, sizeof whole, "refused 9 FieldDiffers 0 0\n  the object 0x64 (the list before: cons, 2 fields) with the replica 0x12c (the list after: cons, 2 fields)\n"
+                                  "  field 0\n  before 0xc8 (kind 4, 1 field)\n  after  %s  reached by root 0\n", wanted);
+    expect_printed(text, whole);
+}
+
+/* What became of the object at 200, whose replica is at 400. */
+static void targets_explained(void)
+{
+    expect_target(0, true, "nil\n");
+    expect_target(200, true, "0xc8: no object starts there\n  that is still the old address; the replica of the object before is 0x190 (kind 4, 1 field)\n");
+    expect_target(100, true, "0x64: no object starts there\n  that is the old address of another object, 0x64 (the list before: cons, 2 fields)"
+                             "; the replica of the object before is 0x190 (kind 4, 1 field)\n");
+    expect_target(204, true, "0xcc: no object starts there\n  no object started there before the collection either"
+                             "; the replica of the object before is 0x190 (kind 4, 1 field)\n");
+    expect_target(500, true, "0x1f4 (kind 4, 0 fields)\n  that is the replica of another object, 0x1f4 (kind 4, 0 fields)"
+                             "; the replica of the object before is 0x190 (kind 4, 1 field)\n");
+    expect_target(600, true, "0x258 (kind 4, 1 field)\n  the object was copied twice: 0x190 (kind 4, 1 field) and 0x258 (kind 4, 1 field)\n");
+    expect_target(500, false, "0x1f4 (kind 4, 0 fields)\n  that is no replica; the replica of the object before is 0x190 (kind 4, 1 field)\n");
 }
 
 /* A raw object in parts has words, and not fields. */
@@ -626,11 +672,11 @@ static void pairs_explained(void)
     gcflip_collection_pair(c, 100, 404);
     gcflip_collection_pair(c, 108, 300);
     expect_refused(GCFLIP_NEW_NOT_START, 0, 0);
-    expect_told("refused 5 NewNotStart 0\n  the first pair that was added without both objects: 0x64 with the replica 0x194\n", true);
+    expect_told("refused 5 NewNotStart 0\n  the first pair that was added without both objects: 0x64 (cons, 2 fields), with the replica 0x194, where no object starts\n", true);
     list();
     gcflip_collection_pair(c, 108, 300);
     expect_refused(GCFLIP_OLD_NOT_START, 0, 0); /* two pairs have one new address, and this one has the old address 0 */
-    expect_told("refused 4 OldNotStart 0\n  the first pair that was added without both objects: 0x6c with the replica 0x12c\n", true);
+    expect_told("refused 4 OldNotStart 0\n  the first pair that was added without both objects: 0x6c, where no object starts, with the replica 0x12c (cons, 2 fields)\n", true);
     list();
     gcflip_snapshot_object(after, 500, 4, 1);
     gcflip_collection_pair(c, 200, 500);
@@ -702,7 +748,7 @@ static void without_verdict(void)
 
 static void expect_doubts(gcflip_snapshot *snapshot, size_t count, const char *wanted)
 {
-    const gcflip_names names = {NULL, root_name, kind_name, field_name};
+    const gcflip_names names = {.root = root_name, .kind = kind_name, .field = field_name};
     char *text;
     size_t length;
     FILE *file = open_memstream(&text, &length);
@@ -777,7 +823,7 @@ static void many_doubts_of_a_snapshot(void)
 
 static void expect_addresses(uint64_t from, uint64_t to, size_t count, const char *wanted)
 {
-    const gcflip_names names = {NULL, root_name, kind_name, field_name};
+    const gcflip_names names = {.root = root_name, .kind = kind_name, .field = field_name};
     char *text;
     size_t length;
     FILE *file = open_memstream(&text, &length);
@@ -945,7 +991,7 @@ static void expect_line(const char *text, const char *first, const char *second)
 /* What is printed of a spared bit, and of a heap that is refused without a flip. */
 static void self_test_lines(void)
 {
-    const gcflip_names names = {NULL, root_name, kind_name, field_name};
+    const gcflip_names names = {.root = root_name, .kind = kind_name, .field = field_name};
     const gcflip_range range = {heap_after, 7};
     gcflip_self_test test = {.ranges = &range, .range_count = 1, .seed = 1, .read = read_less, .names = &names};
     char *text;
@@ -1038,6 +1084,7 @@ int main(int count, char **arguments)
     ephemerons();
     staying();
     explanations();
+    targets_explained();
     long_raw_objects_have_words();
     pairs_explained();
     without_verdict();
