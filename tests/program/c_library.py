@@ -301,7 +301,7 @@ EXAMPLE_OUTPUT = {"extra_roots.c": b"pushed 1000\nflipped 1001\nthe last one pop
                   # There are 20 words. Each of the 7 objects has 3 bits of its age, and the string has 3 bytes of padding. A vector is the second
                   # object that the roots reach.
                   "semispace.c": b"yes 7\nspared 21: how many collections an object has survived\nspared 24: padding behind a byte string\n"
-                                 b"flipped 1280 bits: refused 1235, explained 45, unexplained 0\nyes 7\nrefused 9 FieldDiffers 1 4\n"
+                                 b"flipped 1280 bits: refused 1235, explained 45, unexplained 0\nyes 7\nyes 7\nyes 7\nyes 7\nrefused 9 FieldDiffers 1 4\n"
                                  b"  the object 0x#0 (vector, 5 fields) with the replica 0x#1 (vector, 5 fields)\n  field 4\n"
                                  b"  before 0x#2 (pair, 2 fields)\n  after  0x#2: no object starts there\n"
                                  b"  that is still the old address; the replica of the object before is 0x#3 (pair, 2 fields)\n  reached by global 0\n",
