@@ -473,7 +473,7 @@ static void traced_collections(void)
     char wanted[300];
     snprintf(wanted, sizeof wanted, "refused 10 RootDiffers 1\n  the list\n"
                                     "  before 0x%llx (cons, 2 fields)\n  after  0x%llx: no object starts there\n"
-                                    "  that is still the old address; the object before has no replica\n",
+                                    "  that is still the old address; no pair has the object before\n",
              (unsigned long long)address_of(old_space + 1), (unsigned long long)address_of(old_space + 1));
     EXPECT(end_told(wanted) == GCFLIP_REFUSED);
     begin_cycle(&tracer);

@@ -635,9 +635,23 @@ static void expect_target(uint64_t now, bool has_pair, const char *wanted)
     expect_printed(text, whole);
 }
 
+/* Expects these lines about a word of gcflip_snapshot_doubtful, in a field that referred to the object at 200. */
+static void expect_own_doubt(uint64_t word, const char *wanted)
+{
+    char whole[400];
+    list();
+    gcflip_snapshot_set(after, 1, 0, gcflip_snapshot_doubtful(after, word, "in the nursery"));
+    expect_refused(GCFLIP_FIELD_DIFFERS, 0, 0);
+    snprintf(whole, sizeof whole, "refused 9 FieldDiffers 0 0\n  the object 0x64 (cons, 2 fields) with the replica 0x12c (cons, 2 fields)\n  head\n"
+                                  "  before 0xc8 (kind 4, 1 field)\n  after  0x%x: in the nursery\n%s  reached by the global `all`\n", (unsigned)word, wanted);
+    expect_told(whole, true);
+}
+
 /* What became of the object at 200, whose replica is at 400. */
 static void targets_explained(void)
 {
+    expect_own_doubt(200, "  that is still the old address; the replica of the object before is 0x190 (kind 4, 1 field)\n");
+    expect_own_doubt(7, "");
     expect_target(0, true, "nil\n");
     expect_target(200, true, "0xc8: no object starts there\n  that is still the old address; the replica of the object before is 0x190 (kind 4, 1 field)\n");
     expect_target(100, true, "0x64: no object starts there\n  that is the old address of another object, 0x64 (the list before: cons, 2 fields)"
