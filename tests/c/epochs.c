@@ -27,10 +27,8 @@ int main(void)
         fill(first, 3);
         clear_table(&table);
     }
-    fill(1, KEYS);
-    for (size_t i = 0; i < table.size; i++)
-        if (table.slots[i].epoch == table.epoch)
-            table.slots[i].epoch = UINT32_MAX;
+    fill(1, 2 * KEYS - 1); /* it grows in a later epoch */
+    EXPECT(table.epoch == 1); /* that of a table that has grown */
     table.epoch = UINT32_MAX; /* as after so many times */
     clear_table(&table);
     fill(2, 3);

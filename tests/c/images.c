@@ -354,6 +354,19 @@ static void weak_references_taken_back(void)
     EXPECT(inferred() == GCFLIP_YES);
     gcflip_snapshot_set_weak(after, 1, 40000, 0);
     EXPECT(inferred() == GCFLIP_FAULTY && gcflip_collection_fault(c) == GCFLIP_FAULT_WEAK);
+    for (int side = 0; side < 2; side++) { /* taken back in one snapshot alone, before any check */
+        begin_weak_pairs();
+        gcflip_snapshot_set(side == 0 ? before : after, 1, 40000, 0);
+        EXPECT(inferred() == GCFLIP_REFUSED && is_verdict(GCFLIP_FIELD_DIFFERS, 0, 2, 7232));
+    }
+    begin_weak_pairs();
+    gcflip_snapshot_set_weak(after, 1, 40000, 0);
+    gcflip_snapshot_set(after, 1, 40000, gcflip_snapshot_reference(after, 1200)); /* it is no weak reference that was cleared */
+    EXPECT(inferred() == GCFLIP_REFUSED && is_verdict(GCFLIP_FIELD_DIFFERS, 0, 2, 7232));
+    begin_weak_pairs();
+    gcflip_snapshot_set_weak(after, 1, 40000, 0);
+    gcflip_snapshot_set_weak(before, 1, 40000, 0); /* a finaliser keeps the target, and the collector clears the reference all the same */
+    EXPECT(inferred() == GCFLIP_YES);
     empty();
     gcflip_snapshot_set_weak(before, gcflip_snapshot_object(before, 100, 1, 2), 0, 999);
     EXPECT(gcflip_snapshot_doubts(before, NULL, NULL) == 2); /* no object is at 999, and a field was never set */
@@ -612,8 +625,8 @@ static const char *object_name(void *given, const gcflip_snapshot *snapshot, uin
     return kind == 4 ? NULL : snapshot == before && address == 100 ? "the list before" : snapshot == after && address == 300 ? "the list after" : NULL;
 }
 
-/* Expects this about the list, whose first field has another word now, given by its address. There are more objects, at 500 before and at 500 and 600
-   after, and one pair of them if `has_pair`. */
+/* Expects this about the list, whose first field has another word now, given by its address. There are more objects, at 500 and 700 before and at 500,
+   600 and 700 after. Those at 700 are a pair, and those at 500 if `has_pair`. */
 static void expect_target(uint64_t now, bool has_pair, const char *wanted)
 {
     char whole[800], *text;
@@ -623,6 +636,9 @@ static void expect_target(uint64_t now, bool has_pair, const char *wanted)
     gcflip_snapshot_object(before, 500, 4, 0);
     gcflip_snapshot_object(after, 500, 4, 0);
     gcflip_snapshot_set(after, gcflip_snapshot_object(after, 600, 4, 1), 0, 0);
+    gcflip_snapshot_set(before, gcflip_snapshot_object(before, 700, 4, 1), 0, 0);
+    gcflip_snapshot_set(after, gcflip_snapshot_object(after, 700, 4, 1), 0, 0);
+    gcflip_collection_pair(c, 700, 700);
     if (has_pair)
         gcflip_collection_pair(c, 500, 500);
     gcflip_snapshot_set(after, 1, 0, gcflip_snapshot_reference(after, now));
@@ -661,6 +677,8 @@ static void targets_explained(void)
     expect_target(500, true, "0x1f4 (kind 4, 0 fields)\n  that is the replica of another object, 0x1f4 (kind 4, 0 fields)"
                              "; the replica of the object before is 0x190 (kind 4, 1 field)\n");
     expect_target(600, true, "0x258 (kind 4, 1 field)\n  the object was copied twice: 0x190 (kind 4, 1 field) and 0x258 (kind 4, 1 field)\n");
+    expect_target(700, true, "0x2bc (kind 4, 1 field)\n  that is the replica of another object, 0x2bc (kind 4, 1 field)"
+                             "; the replica of the object before is 0x190 (kind 4, 1 field)\n");
     expect_target(500, false, "0x1f4 (kind 4, 0 fields)\n  that is no replica; the replica of the object before is 0x190 (kind 4, 1 field)\n");
 }
 
