@@ -130,6 +130,7 @@ static void lists(void)
     EXPECT(gcflip_collection_pairs(c) == 3);
     EXPECT(gcflip_collection_has_replica(c, 300) && !gcflip_collection_has_replica(c, 100));
     gcflip_snapshot_object(after, 500, 4, 0);
+    EXPECT(!gcflip_collection_has_replica(c, 500)); /* the last check did not know it */
     expect_yes(3);
     EXPECT(gcflip_collection_has_replica(c, 400) && !gcflip_collection_has_replica(c, 500));
     EXPECT(gcflip_collection_infer(c, &verdict) == GCFLIP_YES && is_verdict(0, 3, 0, 0));
