@@ -126,7 +126,7 @@ static const char *kind_name(void *given, uint32_t kind)
 
 void adapter_refused(void)
 {
-    const gcflip_names names = {NULL, root_name, kind_name, NULL};
+    const gcflip_names names = {.root = root_name, .kind = kind_name};
     const char *path = getenv("CERTIFY_TEXT");
     gcflip_collection_explain(adapter_collection, &names, stderr);
     FILE *file = path ? fopen(path, "w") : NULL;

@@ -396,7 +396,7 @@ static void after_with_flips(void)
             ranges[count++] = (gcflip_range){(uint64_t *)Hp_val(adapter_objects[i].now), Whsize_hd(adapter_objects[i].header)};
         }
     if (checked == 4 && count != 0) {
-        gcflip_self_test test = {NULL, ranges, count, flips, 1, false, read_after, reason, NULL, 0, 0};
+        gcflip_self_test test = {.ranges = ranges, .range_count = count, .flips = flips, .seed = 1, .read = read_after, .reason = reason};
         gcflip_collection_self_test(adapter_collection, &test, stderr);
     }
     free(ranges);

@@ -422,7 +422,7 @@ static const char *kind_name(void *given, uint32_t kind)
 }
 
 static size_t one = 1;
-static const gcflip_names names = {&one, root_name, kind_name, NULL};
+static const gcflip_names names = {.given = &one, .root = root_name, .kind = kind_name};
 static const gcflip_adapter tracer = {&one, trace, trace, true, false, &names};
 
 /* Writes a cycle of two cells with a third one behind them, from some word of a space on, and makes the second root refer to it. */
@@ -470,9 +470,10 @@ static void traced_collections(void)
     EXPECT(gcflip_collection_end(c, NULL) == GCFLIP_REFUSED);
     begin_cycle(&tracer);
     heap_roots[1] = address_of(old_space + 1); /* the collector did not update it */
-    char wanted[200];
+    char wanted[300];
     snprintf(wanted, sizeof wanted, "refused 10 RootDiffers 1\n  the list\n"
-                                    "  before 0x%llx (cons, 2 fields)\n  after  0x%llx: no object starts there\n",
+                                    "  before 0x%llx (cons, 2 fields)\n  after  0x%llx: no object starts there\n"
+                                    "  that is still the old address; no pair has the object before\n",
              (unsigned long long)address_of(old_space + 1), (unsigned long long)address_of(old_space + 1));
     EXPECT(end_told(wanted) == GCFLIP_REFUSED);
     begin_cycle(&tracer);
@@ -776,6 +777,22 @@ static void self_tests_with_bounds(void)
                   "hint: constants that are old addresses: 1, first root 0: 0x5\n");
 }
 
+/* No object is named for the word in front of the first one, whose address has no tag. */
+static void spared_in_front(void)
+{
+    const gcflip_range range = {new_space + 4, 1};
+    const gcflip_self_test test = {.ranges = &range, .range_count = 1};
+    char wanted[9000] = "";
+    begin_cycle(&tracer);
+    EXPECT(gcflip_collection_end(c, NULL) == GCFLIP_YES);
+    for (unsigned bit = 0; bit < 64; bit++) {
+        size_t used = strlen(wanted);
+        snprintf(wanted + used, sizeof wanted - used, "spared for no reason: bit %u of the word at 0x%llx\n", bit, (unsigned long long)address_of(new_space + 4));
+    }
+    strcat(wanted, "flipped 64 bits: refused 0, explained 0, unexplained 64\n");
+    EXPECT(tested(&test, wanted).unexplained == 64);
+}
+
 static bool read_as_it_was(void *given, gcflip_collection *collection)
 {
     trace(given, gcflip_after(collection));
@@ -929,6 +946,7 @@ int main(void)
     types_in_references();
     nearest();
     self_tests_with_bounds();
+    spared_in_front();
     self_tests_by_adapter();
     padding();
     gcflip_collection_close(c);

@@ -130,6 +130,7 @@ static void lists(void)
     EXPECT(gcflip_collection_pairs(c) == 3);
     EXPECT(gcflip_collection_has_replica(c, 300) && !gcflip_collection_has_replica(c, 100));
     gcflip_snapshot_object(after, 500, 4, 0);
+    EXPECT(!gcflip_collection_has_replica(c, 500)); /* the last check did not know it */
     expect_yes(3);
     EXPECT(gcflip_collection_has_replica(c, 400) && !gcflip_collection_has_replica(c, 500));
     EXPECT(gcflip_collection_infer(c, &verdict) == GCFLIP_YES && is_verdict(0, 3, 0, 0));
@@ -305,6 +306,74 @@ static void weak_in_one_snapshot(void)
         gcflip_collection_pair(c, 100, 100);
         expect_refused(GCFLIP_FIELD_DIFFERS, 0, 0);
     }
+}
+
+/* An object whose field is a weak reference to the other one, and both are roots. */
+static void write_weak_pair(gcflip_snapshot *snapshot, uint64_t shift)
+{
+    uint32_t at = gcflip_snapshot_object(snapshot, 100 + shift, 1, 70000);
+    for (uint64_t i = 0; i < 70000; i++)
+        gcflip_snapshot_set(snapshot, at, i, 0);
+    gcflip_snapshot_object(snapshot, 200 + shift, 2, 0);
+    gcflip_snapshot_set_weak(snapshot, at, 40000, 200 + shift);
+    gcflip_snapshot_root(snapshot, gcflip_snapshot_reference(snapshot, 100 + shift));
+    gcflip_snapshot_root(snapshot, gcflip_snapshot_reference(snapshot, 200 + shift));
+}
+
+static void begin_weak_pairs(void)
+{
+    empty();
+    write_weak_pair(before, 0);
+    write_weak_pair(after, 1000);
+}
+
+static uint32_t inferred(void)
+{
+    return gcflip_collection_infer(c, &verdict);
+}
+
+/* The last word of a field counts, also if an earlier one was a weak reference, and also after a check. */
+static void weak_references_taken_back(void)
+{
+    begin_weak_pairs();
+    gcflip_snapshot_set_weak(after, 1, 40000, 0);
+    EXPECT(inferred() == GCFLIP_FAULTY && gcflip_collection_fault(c) == GCFLIP_FAULT_WEAK);
+    begin_weak_pairs();
+    gcflip_snapshot_set_weak(after, 1, 40000, 0);
+    gcflip_snapshot_set_weak(after, 1, 40000, 1200); /* it is not cleared any more */
+    EXPECT(inferred() == GCFLIP_YES);
+    gcflip_snapshot_set(after, 1, 40000, 0);
+    EXPECT(inferred() == GCFLIP_REFUSED && is_verdict(GCFLIP_FIELD_DIFFERS, 0, 2, 7232)); /* only one snapshot has a weak reference there */
+    gcflip_snapshot_set(before, 1, 40000, 0);
+    EXPECT(inferred() == GCFLIP_YES);
+    gcflip_snapshot_set(before, 1, 40000, gcflip_snapshot_reference(before, 200));
+    EXPECT(inferred() == GCFLIP_REFUSED && is_verdict(GCFLIP_FIELD_DIFFERS, 0, 2, 7232));
+    gcflip_snapshot_set(after, 1, 40000, gcflip_snapshot_reference(after, 1200));
+    EXPECT(inferred() == GCFLIP_YES);
+    gcflip_snapshot_set_weak(before, 1, 40000, 200);
+    gcflip_snapshot_set_weak(after, 1, 40000, 1200);
+    EXPECT(inferred() == GCFLIP_YES);
+    gcflip_snapshot_set_weak(after, 1, 40000, 0);
+    EXPECT(inferred() == GCFLIP_FAULTY && gcflip_collection_fault(c) == GCFLIP_FAULT_WEAK);
+    for (int side = 0; side < 2; side++) { /* taken back in one snapshot alone, before any check */
+        begin_weak_pairs();
+        gcflip_snapshot_set(side == 0 ? before : after, 1, 40000, 0);
+        EXPECT(inferred() == GCFLIP_REFUSED && is_verdict(GCFLIP_FIELD_DIFFERS, 0, 2, 7232));
+    }
+    begin_weak_pairs();
+    gcflip_snapshot_set_weak(after, 1, 40000, 0);
+    gcflip_snapshot_set(after, 1, 40000, gcflip_snapshot_reference(after, 1200)); /* it is no weak reference that was cleared */
+    EXPECT(inferred() == GCFLIP_REFUSED && is_verdict(GCFLIP_FIELD_DIFFERS, 0, 2, 7232));
+    begin_weak_pairs();
+    gcflip_snapshot_set_weak(after, 1, 40000, 0);
+    gcflip_snapshot_set_weak(before, 1, 40000, 0); /* a finaliser keeps the target, and the collector clears the reference all the same */
+    EXPECT(inferred() == GCFLIP_YES);
+    empty();
+    gcflip_snapshot_set_weak(before, gcflip_snapshot_object(before, 100, 1, 2), 0, 999);
+    EXPECT(gcflip_snapshot_doubts(before, NULL, NULL) == 2); /* no object is at 999, and a field was never set */
+    gcflip_snapshot_set(before, 1, 0, 0);
+    gcflip_snapshot_set(before, 1, 1, 0);
+    EXPECT(gcflip_snapshot_doubts(before, NULL, NULL) == 0);
 }
 
 /* ---- Texts. */
@@ -496,7 +565,7 @@ static void expect_printed(char *printed, const char *wanted)
 
 static void expect_told(const char *wanted, bool named)
 {
-    const gcflip_names names = {NULL, root_name, kind_name, field_name};
+    const gcflip_names names = {.root = root_name, .kind = kind_name, .field = field_name};
     char *text;
     size_t length;
     FILE *file = open_memstream(&text, &length);
@@ -513,7 +582,8 @@ static void explanations(void)
     gcflip_snapshot_set(after, 1, 0, gcflip_snapshot_reference(after, 404));
     expect_refused(GCFLIP_FIELD_DIFFERS, 0, 0);
     expect_told("refused 9 FieldDiffers 0 0\n  the object 0x64 (cons, 2 fields) with the replica 0x12c (cons, 2 fields)\n  head\n"
-                "  before 0xc8 (kind 4, 1 field)\n  after  0x194: no object starts there\n  reached by the global `all`\n", true);
+                "  before 0xc8 (kind 4, 1 field)\n  after  0x194: no object starts there\n"
+                "  no object started there before the collection either; the replica of the object before is 0x190 (kind 4, 1 field)\n  reached by the global `all`\n", true);
     list();
     gcflip_snapshot_set(after, 5, 0, gcflip_snapshot_fixed(after, 4096));
     expect_refused(GCFLIP_FIELD_DIFFERS, 1, 0);
@@ -528,7 +598,8 @@ static void explanations(void)
     expect_refused(GCFLIP_ROOT_COUNT, 0, 0);
     expect_told("refused 3 RootCount\n  2 roots before, 3 after\n", true);
     EXPECT(weak_answer(200, OLD_TARGET, 200, true, false) == GCFLIP_REFUSED);
-    expect_told("refused 10 RootDiffers 1\n  root 1\n  before 0xc8 (kind 2, 0 fields)\n  after  0xc8: no object starts there\n", true);
+    expect_told("refused 10 RootDiffers 1\n  root 1\n  before 0xc8 (kind 2, 0 fields)\n  after  0xc8: no object starts there\n"
+                "  that is still the old address; the replica of the object before is 0x4b0 (kind 2, 0 fields)\n", true);
     EXPECT(weak_answer(0, 200, 200, true, false) == GCFLIP_FAULTY);
     expect_told("no verdict: a weak reference was cleared, and its target has a replica: field 0 of 0x64 (kind 1, 1 field) was 0xc8 (kind 2, 0 fields)\n", true);
     EXPECT(weak_answer(200, 0, 200, true, false) == GCFLIP_FAULTY);
@@ -547,6 +618,69 @@ static void explanations(void)
     expect_told("refused 9 FieldDiffers 2 7232\n  the object the part from field 32768 of 0x3e8 (kind 9, 70000 fields) with the replica "
                 "the part from field 32768 of 0x7d0 (kind 9, 70000 fields)\n  field 40000\n  before the constant 0x9c40\n"
                 "  after  the constant 0x7\n  reached by root 0\n", false);
+}
+
+static const char *object_name(void *given, const gcflip_snapshot *snapshot, uint64_t address, uint32_t kind)
+{
+    EXPECT(given == NULL && (kind == 3 || kind == 4));
+    return kind == 4 ? NULL : snapshot == before && address == 100 ? "the list before" : snapshot == after && address == 300 ? "the list after" : NULL;
+}
+
+/* Expects this about the list, whose first field has another word now, given by its address. There are more objects, at 500 and 700 before and at 500,
+   600 and 700 after. Those at 700 are a pair, and those at 500 if `has_pair`. */
+static void expect_target(uint64_t now, bool has_pair, const char *wanted)
+{
+    char whole[800], *text;
+    size_t length;
+    const gcflip_names names = {.kind = kind_name, .object = object_name};
+    list();
+    gcflip_snapshot_object(before, 500, 4, 0);
+    gcflip_snapshot_object(after, 500, 4, 0);
+    gcflip_snapshot_set(after, gcflip_snapshot_object(after, 600, 4, 1), 0, 0);
+    gcflip_snapshot_set(before, gcflip_snapshot_object(before, 700, 4, 1), 0, 0);
+    gcflip_snapshot_set(after, gcflip_snapshot_object(after, 700, 4, 1), 0, 0);
+    gcflip_collection_pair(c, 700, 700);
+    if (has_pair)
+        gcflip_collection_pair(c, 500, 500);
+    gcflip_snapshot_set(after, 1, 0, gcflip_snapshot_reference(after, now));
+    expect_refused(GCFLIP_FIELD_DIFFERS, 0, 0);
+    FILE *file = open_memstream(&text, &length);
+    gcflip_collection_explain(c, &names, file);
+    fclose(file);
+    snprintf(whole, sizeof whole, "refused 9 FieldDiffers 0 0\n  the object 0x64 (the list before: cons, 2 fields) with the replica 0x12c (the list after: cons, 2 fields)\n"
+                                  "  field 0\n  before 0xc8 (kind 4, 1 field)\n  after  %s  reached by root 0\n", wanted);
+    expect_printed(text, whole);
+}
+
+/* Expects these lines about a word of gcflip_snapshot_doubtful, in a field that referred to the object at 200. */
+static void expect_own_doubt(uint64_t word, const char *wanted)
+{
+    char whole[400];
+    list();
+    gcflip_snapshot_set(after, 1, 0, gcflip_snapshot_doubtful(after, word, "in the nursery"));
+    expect_refused(GCFLIP_FIELD_DIFFERS, 0, 0);
+    snprintf(whole, sizeof whole, "refused 9 FieldDiffers 0 0\n  the object 0x64 (cons, 2 fields) with the replica 0x12c (cons, 2 fields)\n  head\n"
+                                  "  before 0xc8 (kind 4, 1 field)\n  after  0x%x: in the nursery\n%s  reached by the global `all`\n", (unsigned)word, wanted);
+    expect_told(whole, true);
+}
+
+/* What became of the object at 200, whose replica is at 400. */
+static void targets_explained(void)
+{
+    expect_own_doubt(200, "  that is still the old address; the replica of the object before is 0x190 (kind 4, 1 field)\n");
+    expect_own_doubt(7, "");
+    expect_target(0, true, "nil\n");
+    expect_target(200, true, "0xc8: no object starts there\n  that is still the old address; the replica of the object before is 0x190 (kind 4, 1 field)\n");
+    expect_target(100, true, "0x64: no object starts there\n  that is the old address of another object, 0x64 (the list before: cons, 2 fields)"
+                             "; the replica of the object before is 0x190 (kind 4, 1 field)\n");
+    expect_target(204, true, "0xcc: no object starts there\n  no object started there before the collection either"
+                             "; the replica of the object before is 0x190 (kind 4, 1 field)\n");
+    expect_target(500, true, "0x1f4 (kind 4, 0 fields)\n  that is the replica of another object, 0x1f4 (kind 4, 0 fields)"
+                             "; the replica of the object before is 0x190 (kind 4, 1 field)\n");
+    expect_target(600, true, "0x258 (kind 4, 1 field)\n  the object was copied twice: 0x190 (kind 4, 1 field) and 0x258 (kind 4, 1 field)\n");
+    expect_target(700, true, "0x2bc (kind 4, 1 field)\n  that is the replica of another object, 0x2bc (kind 4, 1 field)"
+                             "; the replica of the object before is 0x190 (kind 4, 1 field)\n");
+    expect_target(500, false, "0x1f4 (kind 4, 0 fields)\n  that is no replica; the replica of the object before is 0x190 (kind 4, 1 field)\n");
 }
 
 /* A raw object in parts has words, and not fields. */
@@ -571,11 +705,11 @@ static void pairs_explained(void)
     gcflip_collection_pair(c, 100, 404);
     gcflip_collection_pair(c, 108, 300);
     expect_refused(GCFLIP_NEW_NOT_START, 0, 0);
-    expect_told("refused 5 NewNotStart 0\n  the first pair that was added without both objects: 0x64 with the replica 0x194\n", true);
+    expect_told("refused 5 NewNotStart 0\n  the first pair that was added without both objects: 0x64 (cons, 2 fields), with the replica 0x194, where no object starts\n", true);
     list();
     gcflip_collection_pair(c, 108, 300);
     expect_refused(GCFLIP_OLD_NOT_START, 0, 0); /* two pairs have one new address, and this one has the old address 0 */
-    expect_told("refused 4 OldNotStart 0\n  the first pair that was added without both objects: 0x6c with the replica 0x12c\n", true);
+    expect_told("refused 4 OldNotStart 0\n  the first pair that was added without both objects: 0x6c, where no object starts, with the replica 0x12c (cons, 2 fields)\n", true);
     list();
     gcflip_snapshot_object(after, 500, 4, 1);
     gcflip_collection_pair(c, 200, 500);
@@ -647,7 +781,7 @@ static void without_verdict(void)
 
 static void expect_doubts(gcflip_snapshot *snapshot, size_t count, const char *wanted)
 {
-    const gcflip_names names = {NULL, root_name, kind_name, field_name};
+    const gcflip_names names = {.root = root_name, .kind = kind_name, .field = field_name};
     char *text;
     size_t length;
     FILE *file = open_memstream(&text, &length);
@@ -722,7 +856,7 @@ static void many_doubts_of_a_snapshot(void)
 
 static void expect_addresses(uint64_t from, uint64_t to, size_t count, const char *wanted)
 {
-    const gcflip_names names = {NULL, root_name, kind_name, field_name};
+    const gcflip_names names = {.root = root_name, .kind = kind_name, .field = field_name};
     char *text;
     size_t length;
     FILE *file = open_memstream(&text, &length);
@@ -890,9 +1024,9 @@ static void expect_line(const char *text, const char *first, const char *second)
 /* What is printed of a spared bit, and of a heap that is refused without a flip. */
 static void self_test_lines(void)
 {
-    const gcflip_names names = {NULL, root_name, kind_name, field_name};
+    const gcflip_names names = {.root = root_name, .kind = kind_name, .field = field_name};
     const gcflip_range range = {heap_after, 7};
-    gcflip_self_test test = {NULL, &range, 1, 0, 1, false, read_less, NULL, &names, 0, 0};
+    gcflip_self_test test = {.ranges = &range, .range_count = 1, .seed = 1, .read = read_less, .names = &names};
     char *text;
     size_t length;
     FILE *file = open_memstream(&text, &length);
@@ -937,7 +1071,7 @@ static void self_test(void)
 {
     bool lax = false;
     const gcflip_range ranges[] = {{heap_after, 2}, {heap_after + 2, 5}};
-    gcflip_self_test test = {&lax, ranges, 2, 0, 1, false, read_again, reason, NULL, 0, 0};
+    gcflip_self_test test = {.given = &lax, .ranges = ranges, .range_count = 2, .seed = 1, .read = read_again, .reason = reason};
     char *text;
     size_t length;
     empty();
@@ -975,6 +1109,7 @@ int main(int count, char **arguments)
     insides();
     weak();
     weak_in_one_snapshot();
+    weak_references_taken_back();
     texts();
     moved_text();
     if (count == 1)
@@ -982,6 +1117,7 @@ int main(int count, char **arguments)
     ephemerons();
     staying();
     explanations();
+    targets_explained();
     long_raw_objects_have_words();
     pairs_explained();
     without_verdict();

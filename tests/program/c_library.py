@@ -3,6 +3,7 @@ import json
 import os
 import re
 import shutil
+import signal
 import time
 
 from . import pairs
@@ -12,7 +13,7 @@ from .harness import Outcome, addresses_numbered, difference, file_of, run, skip
 from .traces import PLAYED, trace_and_replies
 
 # Programs that end with status 0 and print nothing.
-PROGRAMS = ["answers.c", "check.c", "refused_check.c", "check_cpp.cpp", "heap.c", "extra_roots.c", "pace.c", "refused_heap.c", "checking.c", "damaged.c", "rooms.c", "heap_cpp.cpp", "churn.c", "threads.c", "images.c", "adapters.c", "nursery.c"]
+PROGRAMS = ["answers.c", "check.c", "refused_check.c", "check_cpp.cpp", "heap.c", "extra_roots.c", "pace.c", "refused_heap.c", "checking.c", "damaged.c", "rooms.c", "heap_cpp.cpp", "churn.c", "threads.c", "images.c", "adapters.c", "nursery.c", "self_tests.c"]
 
 
 def programs(_program, folder):
@@ -48,14 +49,30 @@ def images(_program, folder):
     built = library(folder)
     if built is None:
         return
-    sources = [os.path.join(TOP, "bindings", "c", name) for name in ("gcflip_images.c", "images_adapter.c", "images_told.c")]
-    for name, more in [("images.c", sources), ("adapters.c", sources), ("refused_images.c", [])]:
+    sources = [os.path.join(TOP, "bindings", "c", name) for name in ("gcflip_images.c", "images_adapter.c", "images_told.c", "images_tests.c")]
+    for name, more in [("images.c", sources), ("adapters.c", sources), ("self_tests.c", sources), ("refused_images.c", []), ("epochs.c", [])]:
         if usable(folder, "gcflip_images.c with sanitizers", ["gcc", *SANITIZERS]):
             path, why = built.build(["gcc", *SANITIZERS], name, [*more, *built.archive()])
             yield "%s, the source with sanitizers" % name, why or difference(done([path]), Outcome())
         if has_valgrind(name):
             path, why = built.build(["gcc"], name, built.archive())
             yield "%s by valgrind" % name, why or difference(done([*VALGRIND, path, "small"]), Outcome())
+
+
+# The lines of the bits that self_tests.c flips until it reads at the address 2^64 - 8: all bits of four words, and the first one of the fifth.
+BITS_UP_TO_THE_CRASH = 4 * 64 + 1
+
+
+def crash_in_a_self_test(_program, folder):
+    """An adapter that compares sums of addresses crashes in the self-test, and the last line says at which bit."""
+    built = library(folder)
+    if built is None:
+        return
+    path, why = built.build(["gcc"], "self_tests.c", built.archive())
+    found = done([path, "sums"]) if why is None else Outcome()
+    lines = found.stdout.decode().splitlines()
+    crashed = found.status == -signal.SIGSEGV and len(lines) == BITS_UP_TO_THE_CRASH and lines[-1].startswith("bit 0 of the word at 0x")
+    yield "the bit of a crash", why or (None if crashed else "status %d, last of %d lines: %s" % (found.status, len(lines), lines[-1:]))
 
 
 def objects():
@@ -284,9 +301,10 @@ EXAMPLE_OUTPUT = {"extra_roots.c": b"pushed 1000\nflipped 1001\nthe last one pop
                   # There are 20 words. Each of the 7 objects has 3 bits of its age, and the string has 3 bytes of padding. A vector is the second
                   # object that the roots reach.
                   "semispace.c": b"yes 7\nspared 21: how many collections an object has survived\nspared 24: padding behind a byte string\n"
-                                 b"flipped 1280 bits: refused 1235, explained 45, unexplained 0\nyes 7\nrefused 9 FieldDiffers 1 4\n"
+                                 b"flipped 1280 bits: refused 1235, explained 45, unexplained 0\nyes 7\nyes 7\nyes 7\nyes 7\nrefused 9 FieldDiffers 1 4\n"
                                  b"  the object 0x#0 (vector, 5 fields) with the replica 0x#1 (vector, 5 fields)\n  field 4\n"
-                                 b"  before 0x#2 (pair, 2 fields)\n  after  0x#2: no object starts there\n  reached by global 0\n",
+                                 b"  before 0x#2 (pair, 2 fields)\n  after  0x#2: no object starts there\n"
+                                 b"  that is still the old address; the replica of the object before is 0x#3 (pair, 2 fields)\n  reached by global 0\n",
                   "shared_heap.c": b"".join(b"mutator %d kept 2000 1999 1998\n" % m for m in range(3))}
 
 
@@ -457,5 +475,23 @@ def given_up_at_once(_program, folder):
     yield "instructions of giving up in a large heap", why_small or why_large or told
 
 
-GROUPS = [example_programs, long_objects, pauses, programs, musl, images, large_heaps, live_and_far, pages, limits, work_remembers, given_up_at_once, rebuilt, pkg_config, texts, plays, recorded_work, recording_that_ends, root_reads,
+# The most instructions that a begin of one object may take after a collection of many, as a multiple of those after one of a single object.
+MOST_AFTER_MANY = 1.05
+
+
+def begins_after_many(_program, folder):
+    """Counts the instructions of begins of one object. They do not grow with the largest snapshot that the collection ever took, whose tables are
+    not cleared slot by slot."""
+    built = library(folder)
+    if built is None or not has_valgrind("count_begins.c"):
+        return
+    path, why = built.build(["gcc"], "count_begins.c", built.archive())
+    option = "--toggle-collect=begin_small_ones"
+    counted = [instructions(path, [objects], folder, option) for objects in (1, 20000)] if why is None else [(0, why)] * 2
+    (few, why_few), (many, why_many) = counted
+    told = None if 0 < many <= few * MOST_AFTER_MANY else "%d after 1 object, %d after 20,000" % (few, many)
+    yield "instructions of a begin after a large one", why_few or why_many or told
+
+
+GROUPS = [example_programs, long_objects, pauses, programs, musl, images, crash_in_a_self_test, large_heaps, live_and_far, pages, limits, work_remembers, given_up_at_once, begins_after_many, rebuilt, pkg_config, texts, plays, recorded_work, recording_that_ends, root_reads,
           long_run, short_soak]

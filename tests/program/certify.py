@@ -4,7 +4,7 @@ import os
 import re
 
 from .c_builds import SANITIZERS, TOP, VALGRIND, WARNINGS, done, has_valgrind, library, usable
-from .harness import Outcome, difference, run
+from .harness import Outcome, addresses_numbered, difference, run
 from .pairs import status_of
 
 FOLDER = os.path.join(TOP, "examples", "certify")
@@ -175,6 +175,49 @@ def many_roots(program, folder):
         yield "text of " + case, difference(found, Outcome(verdict.encode() + b"\n", b"", status_of(verdict)))
 
 
+def about(kind, name, number, length):
+    return "0x#%d (%s%s, %s)" % (number, name and "entry %s: " % name, kind, length)
+
+
+def entry(name, number):
+    return about("entry", name, number, "4 fields")
+
+
+OLD_ADDRESS = "  that is still the old address; the replica of the object before is %s"
+OF_ENTRY_4 = ["  the object %s with the replica %s" % (entry("4", 0), entry("", 1))]
+OF_FIELD = ["refused 9 FieldDiffers 1 3", *OF_ENTRY_4, "  previous", "  before " + entry("2", 2), "  after  0x#2: no object starts there", OLD_ADDRESS % entry("", 3), "  reached by last"]
+OF_ROOT = ["refused 10 RootDiffers 2", "  last", "  before " + entry("4", 0), "  after  0x#0: no object starts there", OLD_ADDRESS % entry("", 1)]
+OF_LENGTH = ["refused 8 HeaderDiffers 2",
+             "  the object %s with the replica %s" % (about("text", "0", 0, "1 word"), about("text", "", 1, "0 words")), "  reached by first . name"]
+# A bug, whether pairs are inferred, and what gcflip_images prints about five entries. The adapter has no names for what lies in the new space. With inferred
+# pairs, `next` of entry 2 refers to the copy of entry 4 that no pair has.
+EXPLAINED = [
+    ("field", "pairs", OF_FIELD), ("field", "infer", OF_FIELD), ("root", "pairs", OF_ROOT), ("root", "infer", OF_ROOT),
+    ("length", "pairs", OF_LENGTH), ("length", "infer", OF_LENGTH),
+    ("twice", "pairs", ["refused 7 Twice 6", *OF_ENTRY_4, "  another replica of it is " + entry("", 2), "  reached by last"]),
+    ("twice", "infer", ["refused 9 FieldDiffers 3 2", "  the object %s with the replica %s" % (entry("2", 0), entry("", 1)), "  next", "  before " + entry("4", 2),
+                        "  after  " + entry("", 3), "  the object was copied twice: %s and %s" % (entry("", 4), entry("", 3)), "  reached by first . next"]),
+]
+
+
+def explained(_program, folder):
+    """Checks what gcflip_images prints about each planted bug: the objects by their names, both words, and what became of the object."""
+    built = library(folder)
+    if built is None:
+        return
+    bugs = ["-I" + FOLDER, *[os.path.join(FOLDER, name) for name in ("collector.c", "list.c")]]
+    path, why = built.build(["gcc", *SANITIZERS], "planted_bugs.c", [*bugs, *built.archive()])
+    yield "planted_bugs.c", why
+    if why:
+        return
+    for way in ("pairs", "infer"):
+        yield "no bug, %s" % way, difference(done([path, "none", way]), Outcome(b"yes 6\n"))
+    for bug, way, lines in EXPLAINED:
+        found = done([path, bug, way])
+        wanted = Outcome(("\n".join(lines) + "\n").encode(), b"", 1)
+        yield "%s explained, %s" % (bug, way), difference(Outcome(addresses_numbered(found.stdout), found.stderr, found.status), wanted)
+
+
 def by_valgrind(_program, folder):
     """Checks that runs with five entries, with and without bugs, read nothing that was never written, and lose no block."""
     built = library(folder)
@@ -197,4 +240,4 @@ def table_of_readme(_program, _folder):
             yield "bug %s in the table" % bug, "not there: %s" % missing if missing else None
 
 
-GROUPS = [runs, inferred, many_roots, by_valgrind, table_of_readme]
+GROUPS = [runs, inferred, many_roots, explained, by_valgrind, table_of_readme]

@@ -7,7 +7,7 @@ import subprocess
 import sys
 import tempfile
 
-from .c_builds import SANITIZERS, TOP, done, library, usable
+from .c_builds import PROVING_SECONDS, SANITIZERS, TOP, done, library, usable
 from .harness import skip
 
 OCAML = os.path.join(TOP, "examples", "ocaml")
@@ -48,6 +48,46 @@ def ocaml(_program, folder):
         yield "examples/ocaml: %s" % line, None if line in told else "not told"
     for line in re.findall(r"(?m)^SKIPPED: (.*)$", text):
         skip("a case of examples/ocaml", line)
+
+
+# What a program needs to read a Makefile, and what it prints for each example if there is nothing else.
+TO_READ = ("make", "sh", "mkdir")
+COMPILER = ("cc, of the package gcc", "ar, of the package binutils")
+MISSING = {"certify": COMPILER, "ocaml": ("ocamlopt, of the package ocaml-nox", *COMPILER),
+           "jvm": ("javac, of the package openjdk-17-jdk-headless", "python3, of the package python3", *COMPILER)}
+# The runs of examples/certify.
+OF_CERTIFY = ("no bug", "a field that is not forwarded", "an object that is copied twice", "a root that is forgotten", "a replica that is too short")
+
+
+def made_alone(folder, example, target, **more):
+    """Makes a target of an example where no library is installed, with its output in the folder. Returns the outcome."""
+    out, built, nowhere = [os.path.join(folder, name) for name in (example, "built", "nowhere")]
+    words = [shutil.which("make"), "-C", os.path.join(TOP, "examples", example), target, "PREFIX=" + nowhere, "OUT=" + out, "BUILT=" + built]
+    return done(words, timeout=PROVING_SECONDS, **more)
+
+
+def examples_alone(_program, folder):
+    """Makes the examples where no library is installed: they build the checker's library, or say what is missing, before they build anything."""
+    missing = [tool for tool in ("make", "gcc", "ar") if not shutil.which(tool)]
+    if missing:
+        skip("examples where no library is installed", "no %s" % ", ".join(missing))
+        return
+    ran = made_alone(folder, "certify", "check")
+    told = re.findall(r"(?m)^ok: (.*)$", ran.stdout.decode())
+    yield "make check of examples/certify", None if ran.status == 0 and told == list(OF_CERTIFY) else ran.stdout.decode() + ran.stderr.decode()
+    if version_of_ocaml() is not None:
+        ran = made_alone(folder, "ocaml", "all")
+        yield "examples/ocaml is built", None if ran.status == 0 else ran.stderr.decode()
+    tools = os.path.join(folder, "tools")
+    os.mkdir(tools)
+    for tool in TO_READ:
+        os.symlink(shutil.which(tool), os.path.join(tools, tool))
+    for example, signs in MISSING.items():
+        less = os.path.join(folder, "less")
+        ran = made_alone(less, example, "check", env=dict(os.environ, PATH=tools))
+        lines = re.findall(r"(?m)^missing: (.*)$", ran.stdout.decode())
+        right = ran.status == 2 and [line for line in lines if not line.startswith("rt,")] == list(signs) and not os.path.exists(less)
+        yield "what examples/%s lacks" % example, None if right else "status %d: %s" % (ran.status, lines)
 
 
 # HotSpot's collectors.
@@ -150,7 +190,8 @@ def jvm_self_test(_program, folder, flips=200):
 
 
 # The parts of the library that are C.
-C_PARTS = {"allocator.o": "allocator.c", "images.o": "gcflip_images.c", "images_adapter.o": "images_adapter.c", "images_told.o": "images_told.c"}
+C_PARTS = {"allocator.o": "allocator.c", "images.o": "gcflip_images.c", "images_adapter.o": "images_adapter.c", "images_told.o": "images_told.c",
+           "images_tests.o": "images_tests.c"}
 # Writes behind a row that Python got from malloc.
 BEYOND = "import ctypes; row = (ctypes.c_uint64 * 100)(); ctypes.memset(ctypes.addressof(row), 0, 801)"
 
@@ -201,4 +242,4 @@ def table_of_readme(_program, _folder):
         yield "row of %s" % line, None if row is None or row in text else "no row %r" % row
 
 
-GROUPS = [ocaml, jvm, jvm_self_test, jvm_sanitized, table_of_readme]
+GROUPS = [examples_alone, ocaml, jvm, jvm_self_test, jvm_sanitized, table_of_readme]
