@@ -251,7 +251,7 @@ def reads_of_roots(folder, words):
 def root_reads(_program, folder):
     """Counts how often a whole collection reads roots. Searches read an extra root at most twice, and a slot at most once for each command that wrote
     a slot; where commands wrote only numbers and nil, at most once altogether. The flip reads each root twice, and each moved one once: it moves the root, and its checker compares both.
-    A flip reads each moved one once more, when it writes it into the heap, and one that is checked whole moves the roots twice."""
+    A flip reads each moved one once more, when it writes it into the heap. So it reads four words for each root, whichever checker it asks."""
     built = library(folder)
     if built is None:
         return
@@ -266,7 +266,7 @@ def root_reads(_program, folder):
         case = "checking %s, %s" % (checking, commands or "no commands")
         yield "reads of roots by searches, %s" % case, None if EXTRA_ROOTS <= searched <= most else "%d reads, at most %d" % (searched, most)
         flipped = reads_of_roots(folder, [path, checking, FLIPPED, *commands])[1] - searched
-        wanted = (4 if checking == ALONG else 5) * (EXTRA_ROOTS + ROOT_SLOTS)
+        wanted = 4 * (EXTRA_ROOTS + ROOT_SLOTS)
         yield "reads of roots by the flip, %s" % case, None if flipped == wanted else "%d reads, wanted %d" % (flipped, wanted)
 
 

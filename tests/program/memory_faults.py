@@ -58,7 +58,8 @@ PLACES = {
     "gc_collected/src/checking.rt": {("found_by", BY_ARM): 1},
     "gc_shared/src/closing.rt": {("fault", BY_ARM): 1},
     "gc_shared/src/fault.rt": {("from", BY_FROM): 5, ("from", BY_ARM): 1},
-    "gc_trace/src/playing.rt": {("play_all", BY_ARM): 1},
+    "gc_trace/src/flips.rt": {("flip_in", BY_HAND): 1},
+    "gc_trace/src/playing.rt": {("play_all", BY_ARM): 1, ("take", BY_HAND): 1},
     "gc_trace/src/fault.rt": {("from", BY_ARM): 2, ("from", BY_FROM): 3},
     "gcflip/src/commands/threads.rt": {("from", BY_ARM): 2, ("from", BY_FROM): 1},
     "gcflip/src/program.rt": {("open", BY_HAND): 2, ("arguments", BY_HAND): 2, ("refuse", BY_HAND): 2},
@@ -70,6 +71,8 @@ BY_HAND_REASONS = {
     ("gcflip/src/program.rt", "open"): "a file's error tells that an allocation failed by its kind",
     ("gcflip/src/program.rt", "arguments"): "the error of reading the arguments tells it by its kind",
     ("gcflip/src/program.rt", "refuse"): "clap's error tells it by its kind",
+    ("gc_trace/src/flips.rt", "flip_in"): "the other case of `let Ok(..)`, which has no other fault; the prover takes no `?` there",
+    ("gc_trace/src/playing.rt", "take"): "the other case of `let Ok(..)`, which has no other fault; the prover takes no `?` there",
     ("gcflip_c/src/text.rt", "gcflip_check_text"): "the arm is also that of a failed read, and reading from memory does not fail",
 }
 
