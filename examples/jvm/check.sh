@@ -8,6 +8,7 @@ compared() {
     dumps=$out/dumps
     rm -rf "$dumps"
     mkdir -p "$dumps"
+    printed=
     java -XX:+UseSerialGC -Xmx256m -cp "$out" App 300 1 "$dumps" $2 && printed=$(python3 ./certify.py "$dumps/0a.hprof" "$dumps/0b.hprof" App)
     case $printed in
     "$3"*) echo "ok: $1" ;;

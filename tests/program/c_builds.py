@@ -4,6 +4,7 @@ bindings/c builds and installs the library. If a compiler or a sanitizer is miss
 line says so.
 """
 import os
+import re
 import shutil
 import subprocess
 
@@ -119,3 +120,14 @@ def has_valgrind(what):
         skip("%s by valgrind" % what, "it is missing")
         return False
     return True
+
+
+def instructions(path, arguments, folder, *options):
+    """Returns how many instructions the program executes with these arguments, and why that is not known, or None. Options of callgrind say
+    which of them count."""
+    counted = os.path.join(folder, "counted")
+    found = done(["valgrind", "--tool=callgrind", "--callgrind-out-file=" + counted, *options, path, *[str(word) for word in arguments]])
+    if found.status != 0:
+        return 0, "status %d: %s" % (found.status, found.stderr.decode("utf-8", "replace"))
+    with open(counted, encoding="utf-8") as file:
+        return int(re.search(r"(?m)^(?:summary|totals): (\d+)", file.read()).group(1)), None

@@ -7,7 +7,7 @@ import signal
 import time
 
 from . import pairs
-from .c_builds import EXAMPLE_PROGRAMS, SANITIZERS, SOURCES, TOP, VALGRIND, compilers, done, has_valgrind, library, usable
+from .c_builds import EXAMPLE_PROGRAMS, SANITIZERS, SOURCES, TOP, VALGRIND, compilers, done, has_valgrind, instructions, library, usable
 from .examples import FOLDER as EXAMPLES, content, names_of
 from .harness import Outcome, addresses_numbered, difference, file_of, run, skip
 from .traces import PLAYED, trace_and_replies
@@ -424,17 +424,6 @@ def limits(_program, folder):
 # The most instructions that a useful step may take on average, two for each of 272 roots. A step that looks at each of them takes at least
 # six times as many.
 MOST_INSTRUCTIONS = 544
-
-
-def instructions(path, arguments, folder, *options):
-    """Returns how many instructions the program executes with these arguments, and why that is not known, or None. Options of callgrind say
-    which of them count."""
-    counted = os.path.join(folder, "counted")
-    found = done(["valgrind", "--tool=callgrind", "--callgrind-out-file=" + counted, *options, path, *[str(word) for word in arguments]])
-    if found.status != 0:
-        return 0, "status %d: %s" % (found.status, found.stderr.decode("utf-8", "replace"))
-    with open(counted, encoding="utf-8") as file:
-        return int(re.search(r"(?m)^(?:summary|totals): (\d+)", file.read()).group(1)), None
 
 
 def work_remembers(_program, folder):

@@ -3,11 +3,10 @@
 bench/count_instructions writes instructions.txt by the functions of this file.
 """
 import os
-import re
 import subprocess
 import sys
 
-from .c_builds import TOP, done, has_valgrind
+from .c_builds import TOP, has_valgrind, instructions
 
 BENCH = os.path.join(TOP, "bench")
 TABLE = os.path.join(BENCH, "instructions.txt")
@@ -38,12 +37,9 @@ def counted(program, folder):
         if not os.path.exists(text):
             with open(text, "wb") as file:
                 subprocess.run([sys.executable, os.path.join(BENCH, maker[0]), *maker[1:]], check=True, stdout=file)
-        words = [text if word == "@" else word for word in words]
-        ran = done(["valgrind", "--tool=callgrind", "--callgrind-out-file=" + os.path.join(folder, "counts"), program, *words])
-        found = re.search(r"Collected : (\d+)", ran.stderr.decode("utf-8", "replace"))
-        if ran.status != 0 or not found:
-            return counts, "%s: status %d: %s" % (name, ran.status, ran.stderr.decode("utf-8", "replace"))
-        counts[name] = int(found.group(1))
+        counts[name], why = instructions(program, [text if word == "@" else word for word in words], folder)
+        if why:
+            return counts, "%s: %s" % (name, why)
     return counts, None
 
 
