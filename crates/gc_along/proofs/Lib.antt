@@ -5,6 +5,7 @@ pub mod Written
 pub mod Walked
 pub mod Rows
 pub mod Origins
+pub mod Runs
 pub mod Codes
 pub mod Digits
 pub mod Packed

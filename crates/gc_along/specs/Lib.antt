@@ -6,3 +6,4 @@ pub mod Telling
 pub mod Events
 pub mod Claims
 pub mod Internal
+pub mod Runs

@@ -4,7 +4,7 @@ use crate::origin_row::OriginRow;
 use crate::origins_tell_pairs;
 use crate::outline::Outline;
 use crate::walking::{
-    DUE, START, TAKEN, add_codes, claim_in, code_of, is_copy, next_header, next_within,
+    DUE, START, TAKEN, add_codes, claim_in, code_of, header_at, is_copy, next_header, next_within,
 };
 use crate::watcher::Watcher;
 use gc_graph::NoMemory;
@@ -54,7 +54,7 @@ impl Model for Standing {
 }
 
 impl Standing {
-    ghost use Rattle.std.specs.Prelude.{◌≡◌, ◌<◌, ◌≤◌, ◌==◌, ◌%◌, ◌^◌, ◌↔◌, ◌∷◌, ◌++◌, ◌+◌, [], ℕ, true, IsTrue, IsFalse, ◌⊎◌, IfOk, IfSome, OnOk, OnErr, MatchOption, length, slice_index, slice_index_or};
+    ghost use Rattle.std.specs.Prelude.{◌≡◌, ◌<◌, ◌≤◌, ◌==◌, ◌%◌, ◌^◌, ◌↔◌, ◌∷◌, ◌++◌, ◌+◌, ◌-◌, Some, [], ℕ, true, IsTrue, IsFalse, ◌⊎◌, IfOk, IfSome, OnOk, OnErr, MatchOption, length, slice_index, slice_index_or};
     ghost use Rattle.gc_graph.specs.Correspond.{paired};
     ghost use Rattle.gc_words.specs.Word.{words_correspond, field_words_correspond};
     ghost use Rattle.gc_words.specs.declared.header.Header.{Header};
@@ -66,6 +66,9 @@ impl Standing {
     ghost use Rattle.gc_along.specs.Telling.{IsMark};
     ghost use Rattle.gc_along.specs.Events.{Made, Placed, Looked, Wrote, WroteRow, Applied, Freed, IsFieldOf, HasNoReplica, object_codes, absent_tables, opening_tables, flipped_tables, with_due};
     ghost use Rattle.gc_along.specs.Internal.Rows.{with_due_row};
+    ghost use Rattle.gc_along.specs.Runs.{PlacedAll, CanPlaceAll, LookedAll, CanLookAll, LooksTo};
+    ghost use Rattle.gc_words.specs.Word.{read_header};
+    ghost use Rattle.gc_along.specs.Tables.{Tables};
     ghost use Rattle.gc_along.specs.Claims.{Accepts, CanApply, CanLook, CanMake, CanPlaceNext, CanWrite, CanWriteRow, IsLinked, OwesNone};
 
     /// Returns a checker for spaces of up to `size` words, at least 1.
@@ -184,6 +187,23 @@ impl Standing {
         self.place_next(old, new);
     }
 
+    /// The walk over the new space goes on to its end, replica by replica, each of which is that of the object that its link claims.
+    pub fn placed_all(&mut self, old: &[u64], new: &[u64])
+        ensures lost { IsTrue self.old.lost → IsTrue self.new.lost }
+        ensures placed { IsFalse self.new.lost → PlacedAll old.now new.now self.old self.new }
+        ensures stays { IsFalse self.old.lost → CanPlaceAll old.now new.now self.old → IsFalse self.new.lost }
+    {
+        if self.lost {
+            return;
+        }
+        while self.news.len() < new.len() {
+            self.place_next(old, new);
+            if self.lost {
+                return;
+            }
+        }
+    }
+
     // The walk over the new space goes on by the next object.
     #[inline(always)]
     fn place_next(&mut self, old: &[u64], new: &[u64])
@@ -256,6 +276,101 @@ impl Standing {
             return None;
         }
         Some(self.is_alike(header, old[from], new[place]))
+    }
+
+    /// Compares the fields from field `i` of the replica at `at` on, up to field `end` of the replica at `to`, as they are now.
+    pub fn look_all(&mut self, old: &[u64], new: &[u64], at: u32, i: u16, to: u32, end: u16)
+        ensures lost { IsTrue self.old.lost → IsTrue self.new.lost }
+        ensures looked { IsFalse self.new.lost → LookedAll old.now new.now at i to end self.old self.new }
+        ensures stays { IsFalse self.old.lost → CanLookAll old.now new.now at i to end self.old → IsFalse self.new.lost }
+    {
+        if self.lost {
+            return;
+        }
+        let mut place = at;
+        let mut field = i;
+        while place < to || (place == to && field < end) {
+            let Some(header) = header_at(new, place) else {
+                self.lost = true;
+                return;
+            };
+            if header.is_raw() || field == header.len() {
+                if to <= place || u32::from(header.len()) + 2 > to - place {
+                    self.lost = true;
+                    return;
+                }
+                place += u32::from(header.len()) + 2;
+                field = 0;
+            } else {
+                let stop = if place < to { header.len() } else { end };
+                if field >= stop {
+                    self.lost = true;
+                    return;
+                }
+                self.look_fields(old, new, header, place, field, stop);
+                if self.lost {
+                    return;
+                }
+                field = stop;
+            }
+        }
+        if place != to || field != end {
+            self.lost = true;
+        }
+    }
+
+    // Compares the fields from `first` on, and before `stop`, of the replica at `at`, which has this header.
+    #[inline(always)]
+    fn look_fields(
+        &mut self,
+        old: &[u64],
+        new: &[u64],
+        header: Header,
+        at: u32,
+        first: u16,
+        stop: u16,
+    )
+        requires found { IsFalse self.old.lost }
+        requires header { read_header (slice_index new.now at) ≡ Some header }
+        requires more { first < stop }
+        ensures looked { IsFalse self.new.lost → LooksTo old.now new.now at first (stop - first) self.old self.new }
+        ensures stays { ((k : ℕ) (mid : Tables) → first + k < stop → LooksTo old.now new.now at first k self.old mid → CanLook old.now new.now at (first + k) mid)
+            → IsFalse self.new.lost }
+    {
+        let original = self.origin_at(at);
+        let last = field_index(Addr(at), stop);
+        if original == 0
+            || stop > header.len()
+            || last > self.news.len()
+            || last > new.len()
+            || field_index(Addr(original), stop) > old.len()
+        {
+            self.look_each(old, new, at, first, stop);
+            return;
+        }
+        for i in first..stop {
+            let place = field_index(Addr(at), i);
+            let alike = self.is_alike(header, old[field_index(Addr(original), i)], new[place]);
+            self.set_due(place, !alike);
+        }
+    }
+
+    // Compares the fields from `first` on, and before `stop`, of the replica at `at`, if it has them.
+    #[cold]
+    #[inline(never)]
+    fn look_each(&mut self, old: &[u64], new: &[u64], at: u32, first: u16, stop: u16)
+        requires found { IsFalse self.old.lost }
+        requires more { first < stop }
+        ensures looked { IsFalse self.new.lost → LooksTo old.now new.now at first (stop - first) self.old self.new }
+        ensures stays { ((k : ℕ) (mid : Tables) → first + k < stop → LooksTo old.now new.now at first k self.old mid → CanLook old.now new.now at (first + k) mid)
+            → IsFalse self.new.lost }
+    {
+        for i in first..stop {
+            self.look(old, new, at, i);
+            if self.lost {
+                return;
+            }
+        }
     }
 
     /// Compares field `i` of the replica of the object at `a`, if it has one; its link is the claim.

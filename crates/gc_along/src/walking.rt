@@ -18,6 +18,19 @@ pub(crate) const TAKEN: u8 = 2;
 /// In the new table: a field that has yet to be compared.
 pub(crate) const DUE: u8 = 3;
 
+/// Returns the header of the object that starts at this place, if one does.
+#[inline(always)]
+pub(crate) fn header_at(words: &[u64], at: u32) -> Option<Header>
+    ensures { MatchOption result ((h : Header) → at < length words.now → read_header (slice_index words.now at) ≡ Some h → ⊥)
+        (λ h. (at < length words.now) × (read_header (slice_index words.now at) ≡ Some h)) }
+{
+    let at = at as usize;
+    if at >= words.len() {
+        return None;
+    }
+    Header::read(words[at])
+}
+
 /// Returns the header of the next object of a walk, if there is one.
 #[inline(always)]
 pub(crate) fn next_within(words: &[u64], at: usize) -> Option<Header>

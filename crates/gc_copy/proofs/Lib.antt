@@ -7,6 +7,8 @@ pub mod RootWalks
 pub mod Logs
 pub mod Segments
 pub mod Scanning
+pub mod Starts
+pub mod ScanRuns
 pub mod Applying
 pub mod ObjectWalks
 mod FieldWords

@@ -4,7 +4,7 @@ use Rattle.std.proofs.lemmas.Grind.{common_steps}
 use Rattle.gc_words.proofs.Public.{block_there, closed_field_read, stands_in, CanPlaceBlock, some_of, can_place_fresh, link_written, link_written_there, link_written_beside, object_found, field_found, graph_link, meaning_back, block_of_header, fields_counted, end_written, none_of, IsBlock, StandsIn}
 use Rattle.std.proofs.Common.{◌≡◌, ◌≢◌, ⊎_elim, inl, ℕ, ◌+◌, ◌-◌, ◌<◌, ◌≤◌, ◌==◌, nat_lt, Bool, true, false, cond, List, [], ◌∷◌, ◌++◌, length, Option, Some, None, Result, is_some, refl, ap, sym, ◌∙◌, subst, arith}
 use Rattle.std.specs.List.{find}
-use Rattle.std.proofs.lemmas.Bool.{cases_Bool, cases_lt, cond-true, cond-false, cond_both, eqb-true, eqb-false, eq-eqb, ne_eqb, le-ltb, lt-ltb}
+use Rattle.std.proofs.lemmas.Bool.{cases_Bool, cases_lt, cond-true, cond-false, cond_both, eqb-true, eqb-false, eq-eqb, ne_eqb, le-ltb, lt-ltb, ltb-false}
 use Rattle.std.proofs.lemmas.List.{length-map}
 use Rattle.std.specs.Option.{option_map, option_map_or}
 use Rattle.std.specs.Prelude.{IsOk, ◌^◌, IsSome, OnErr, IfSome}
@@ -27,10 +27,11 @@ use Rattle.gc_plan.proofs.Public.{in_push, in_right, in_map, in_map_from, find_e
 use Rattle.gc_plan.specs.Belonging.{IsDue, Belongs, IsOpened}
 use Rattle.gc_copy.specs.Words.{CollectionWords, IsCollection, entries_of, replicas_in, collection_in, open_state, mark_of, Leads, LinksReplicas, BelongsTo}
 use Rattle.gc_plan.specs.Staying.{HasReplicaOf}
-use Rattle.gc_copy.specs.Internal.Words.{replica_block, KeepsGraph, KeepsRest}
+use Rattle.gc_copy.specs.Internal.Words.{replica_block, KeepsGraph, KeepsRest, KeepsStarts}
 use Rattle.gc_plan.specs.declared.step.Step.{Step}
 use Rattle.gc_plan.specs.declared.step.Step.TheVariants as steps
 use Rattle.gc_plan.specs.declared.step.StepReply.{StepReply}
+use Rattle.gc_copy.proofs.Starts.{starts_on, starts_placed, starts_written}
 use Rattle.gc_copy.proofs.Spaces.{count_placed, replica_at_end, replica_block_object, space_placed, space_written, new_objects_are, new_end_is}
 
 -- ---- the heap without its links
@@ -125,6 +126,7 @@ pub record Placing (heap new : HeapWords) (c next : CollectionWords) (name : ℕ
   pub belongs : BelongsTo new next
   pub graph : KeepsGraph heap new
   pub rest : KeepsRest c next
+  pub starts : KeepsStarts c.space next.space
   pub counted : (n : ℕ) → n ≡ length (blocks c.space.words) → n + 1 ≡ length (blocks next.space.words)
 
 module _ (heap : HeapWords) (c : CollectionWords) (name : ℕ) (h : Header) (heap_is : IsHeap heap) (is : IsCollection c) (header : header_at heap.space.words name ≡ Some h) where
@@ -169,6 +171,7 @@ module _ (heap : HeapWords) (c : CollectionWords) (name : ℕ) (h : Header) (hea
         (subst (LinksReplicas c.epoch next_heap) (sym grown) (links_placed heap c.epoch (collection_in c) (replica_at_end c.space (replica_block block.0) name) heap_is start k.links none));
     graph = linked_heap heap name (mark_of c.epoch + end_of c.space) heap_is start;
     rest = record { size = refl; logs = refl; scan_place = refl; scan_field = refl; epoch = refl };
+    starts = starts_placed c.space (replica_block block.0) name can;
     counted = λ n e. count_placed n c.space.words next.space.words (replica_at_end c.space (replica_block block.0) name) e made.1;
   }
     where
@@ -178,8 +181,11 @@ module _ (heap : HeapWords) (c : CollectionWords) (name : ℕ) (h : Header) (hea
       next_heap : HeapWords
       next_heap = record heap { space = with_word heap.space (link_place name) (mark_of c.epoch + end_of c.space) }
 
+      can : CanPlaceBlock c.space (replica_block block.0)
+      can = can_place_replica c.space block.0 is.space stands.whole (subst (λ (k : Header). HasRoomFor c.space k.len) (sym block.2) room)
+
       made : IsSpace (next.space) × (replicas_in next.space.words ≡ replicas_in c.space.words ++ replica_at_end c.space (replica_block block.0) name ∷ [])
-      made = space_placed c.space (replica_block block.0) name (can_place_replica c.space block.0 is.space stands.whole (subst (λ (k : Header). HasRoomFor c.space k.len) (sym block.2) room))
+      made = space_placed c.space (replica_block block.0) name can
 
       grown : collection_in next ≡ record (collection_in c) { replicas = replicas_in c.space.words ++ replica_at_end c.space (replica_block block.0) name ∷ [] }
       grown = λ i. record (collection_in c) { replicas = made.1 i }
@@ -210,6 +216,27 @@ placed_has c next a (Some o) e = by (nat_lt (new_free c) (length o.fields + 2)) 
         let same : record c { replicas = c.replicas ++ fresh_replica a (new_end c) o ∷ [] } ≡ next = (let f : Some (record c { replicas = c.replicas ++ fresh_replica a (new_end c) o ∷ [] }) ≡ Some next = e in cc) in
         let r : (r : Replica) × (find (λ (q : Replica). q.original == a) (c.replicas ++ fresh_replica a (new_end c) o ∷ []) ≡ Some r) = find_exists (λ (q : Replica). q.original == a) (c.replicas ++ fresh_replica a (new_end c) o ∷ []) (fresh_replica a (new_end c) o) (in_right (fresh_replica a (new_end c) o) c.replicas (fresh_replica a (new_end c) o ∷ []) (inl refl)) (eq-eqb a a refl) in
         subst (λ (d : Collection). IsSome (replica_of d a)) same (ap is_some r.1)
+
+-- and its replica is at the old end
+pub placed_at : (c next : Collection) (a : ℕ) (o : Option Object) → replica_of c a ≡ None → place_replica c a o ≡ Some next → option_map (λ r. r.place) (replica_of next a) ≡ Some (new_end c)
+placed_at c next a None none e = absurd (let no : None ≡ Some next = e in cc)
+placed_at c next a (Some o) none e = by (nat_lt (new_free c) (length o.fields + 2)) e
+  where
+    by : (b : Bool) → cond b None (Some (record c { replicas = c.replicas ++ fresh_replica a (new_end c) o ∷ [] })) ≡ Some next → option_map (λ r. r.place) (replica_of next a) ≡ Some (new_end c)
+    by true e = absurd (let no : None ≡ Some next = e in cc)
+    by false e =
+        let same : record c { replicas = c.replicas ++ fresh_replica a (new_end c) o ∷ [] } ≡ next = (let f : Some (record c { replicas = c.replicas ++ fresh_replica a (new_end c) o ∷ [] }) ≡ Some next = e in cc) in
+        subst (λ (d : Collection). option_map (λ (r : Replica). r.place) (replica_of d a) ≡ Some (new_end c)) same
+            (ap (option_map (λ (r : Replica). r.place)) (find_push (λ (q : Replica). q.original == a) c.replicas (fresh_replica a (new_end c) o) none (eq-eqb a a refl)))
+
+-- so a word that refers to it becomes a reference to that place
+pub placed_word : (c next : Collection) (w a end : ℕ) (o : Option Object) → Some a ≡ name_of (value_of w) → replica_of c a ≡ None → place_replica c a o ≡ Some next → end ≡ new_end c → Ref end ≡ moved next (value_of w)
+placed_word c next w a end o e none p at =
+    subst (λ v. Ref end ≡ moved next v) (sym (named (value_of w) a e)) (go (replica_of next a) (placed_at c next a o none p))
+  where
+    go : (found : Option Replica) → option_map (λ (r : Replica). r.place) found ≡ Some (new_end c) → Ref end ≡ Ref (option_map_or (λ (r : Replica). r.place) found a)
+    go None f = absurd (let no : None ≡ Some (new_end c) = f in cc)
+    go (Some r) f = ap Ref (at ∙ (let s : Some (new_end c) ≡ Some r.place = sym f in cc))
 
 -- ---- a field is brought up to date
 
@@ -245,7 +272,7 @@ bringing objects c name i w place v is belongs found there means = from (replica
 
 -- ---- fields
 
-block_of_object : (words : List ℕ) (a : ℕ) (o : Object) → lookup (objects_of words) a ≡ Some o → (b : Block) × (block_at words a ≡ Some b) × (object_of_block b ≡ o)
+pub block_of_object : (words : List ℕ) (a : ℕ) (o : Object) → lookup (objects_of words) a ≡ Some o → (b : Block) × (block_at words a ≡ Some b) × (object_of_block b ≡ o)
 block_of_object words a o e = grind (arith, common_steps, object_found)
 
 -- an object has as many fields as its words say
@@ -290,6 +317,18 @@ pub replica_address : (objects : List (ℕ × Object)) (c : CollectionWords) (r 
 replica_address objects c r is belongs l =
     let range = laid_range 1 (new_objects (collection_in c)) (new_end (collection_in c)) (placed r) belongs.laid (in_map placed r (replicas_in c.space.words) l) in
     (range.0, omega (arith, range, belongs.room, (is.space).size_high))
+
+-- so is the place of a new one
+pub placed_address : (c : CollectionWords) (next : Collection) (a : ℕ) (o : Option Object) → IsCollection c → place_replica (collection_in c) a o ≡ Some next → (1 ≤ end_of c.space) × (end_of c.space < 4294967295)
+placed_address c next a None is p = absurd (let no : None ≡ Some next = p in cc)
+placed_address c next a (Some o) is p = go (nat_lt (new_free (collection_in c)) (length o.fields + 2)) refl p
+  where
+    go : (b : Bool) → nat_lt (new_free (collection_in c)) (length o.fields + 2) ≡ b → cond b None (Some (record (collection_in c) { replicas = replicas_in c.space.words ++ fresh_replica a (new_end (collection_in c)) o ∷ [] })) ≡ Some next → (1 ≤ end_of c.space) × (end_of c.space < 4294967295)
+    go true e f = absurd (let no : None ≡ Some next = f in cc)
+    go false e f =
+        let room : length o.fields + 2 ≤ c.space.size - new_end (collection_in c) = ltb-false _ _ e in
+        let at : new_end (collection_in c) ≡ end_of c.space = new_end_is c is.space in
+        ((is.space).end_low, (let size = (is.space).size_high in omega (arith, room, at, size)))
 
 moved_address : (objects : List (ℕ × Object)) (c : CollectionWords) (v : Value) → IsCollection c → Belongs objects (collection_in c) → HasReplicaOf (collection_in c) v → HasAddress (moved (collection_in c) v)
 moved_address objects c Nil is belongs h = tt
@@ -389,9 +428,10 @@ pub record Brought (heap new : HeapWords) (c next : CollectionWords) (name i : �
   pub brought : bring_up_to_date (collection_in c) (graph_in heap) name i ≡ Some (collection_in next)
   pub belongs : BelongsTo new next
   pub rest : KeepsRest c next
+  pub starts : KeepsStarts c.space next.space
 
 -- `c` is the collection before, `one` that in which what the field refers to has its replica, and `x` is its parts
-module _ (heap new : HeapWords) (c one x : CollectionWords) (name i w place : ℕ) (heap_is : IsHeap heap) (plain : (h : Header) → header_at heap.space.words name ≡ Some h → h.raw ≡ false) (is : IsCollection x) (seen : x ≡ one) (k : BelongsTo new one) (graph : KeepsGraph heap new) (rest : KeepsRest c one)
+module _ (heap new : HeapWords) (c one x : CollectionWords) (name i w place : ℕ) (heap_is : IsHeap heap) (plain : (h : Header) → header_at heap.space.words name ≡ Some h → h.raw ≡ false) (is : IsCollection x) (seen : x ≡ one) (k : BelongsTo new one) (graph : KeepsGraph heap new) (rest : KeepsRest c one) (starts : KeepsStarts c.space one.space)
     (field : field_at heap.space.words name i ≡ Some w) (target : with_replica (collection_in c) (graph_in heap) (value_of w) ≡ Some (collection_in one)) (has : HasReplicaOf (collection_in one) (value_of w))
     (replica : option_map (λ r. r.place) (replica_of (collection_in c) name) ≡ Some place) where
   belongs_here : BelongsTo new x
@@ -421,6 +461,7 @@ module _ (heap new : HeapWords) (c one x : CollectionWords) (name i w place : �
         (brought (graph_in new) (collection_in x) (collection_in x) name i (value_of w) (plain_value_is new name i w plain_new field_new) (replicated_already (collection_in x) (graph_in new) w has_here) ∙ ap Some (sym copied)))
         (links_written new x.epoch (collection_in x) (collection_in after_words) name i (moved (collection_in x) (value_of w)) copied belongs_here.links);
     rest = subst (λ (y : CollectionWords). KeepsRest c (record y { space = with_word y.space (field_place place i) moved_word })) (sym seen) (record { size = rest.size; logs = rest.logs; scan_place = rest.scan_place; scan_field = rest.scan_field; epoch = rest.epoch });
+    starts = starts_on c.space x.space after_words.space (subst (λ (y : CollectionWords). KeepsStarts c.space y.space) (sym seen) starts) (starts_written x.space place i moved_word is.space present);
   })
     where
       after_words : CollectionWords
@@ -463,6 +504,7 @@ module _ (heap : HeapWords) (c x : CollectionWords) (name i w place : ℕ) (heap
         (bringing_keeps (open_state heap x) (collection_in x) (collection_in after_words) name i (opened heap x is belongs_raw) step)
         (links_written heap x.epoch (collection_in x) (collection_in after_words) name i (Num w) made.copied belongs_raw.links);
     rest = record { size = refl; logs = refl; scan_place = refl; scan_field = refl; epoch = refl };
+    starts = starts_written x.space place i w is.space raw_present;
   }))
     where
       after_words : CollectionWords

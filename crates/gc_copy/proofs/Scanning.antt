@@ -1,12 +1,13 @@
 -- The code of the scan does the plan's scan.
 use Rattle.std.proofs.lemmas.Grind.{common_steps}
-use Rattle.gc_words.proofs.Public.{stands_in, block_of_header, fields_counted, object_found}
-use Rattle.std.proofs.Common.{◌≡◌, ⊎_elim, ℕ, ◌+◌, ◌<◌, ◌≤◌, ◌||◌, ◌⊎◌, Bool, true, false, length, Some, None, refl, ap, sym, ◌∙◌, subst, arith}
+use Rattle.gc_words.proofs.Public.{stands_in, some_of, none_at_end, block_of_header, fields_counted, object_found}
+use Rattle.std.proofs.Common.{◌≡◌, ⊎_elim, ℕ, ◌+◌, ◌<◌, ◌≤◌, ◌||◌, ◌⊎◌, ◌==◌, Bool, true, false, length, Some, None, is_some, refl, ap, sym, ◌∙◌, subst, arith}
 use Rattle.std.specs.Prelude.{◌^◌, IsSome}
 use Rattle.std.specs.Option.{option_map}
-use Rattle.std.proofs.lemmas.Bool.{cond-true, cond-false, eq-eqb, ne_eqb, eqb-false, or_left, or_right}
-use Rattle.gc_graph.specs.Graph.{lookup}
-use Rattle.gc_words.specs.Image.{Block, block_at, is_start, header_at, field_at, object_of_block, objects_of}
+use Rattle.std.proofs.lemmas.Bool.{cases_Bool, eqb-true, cond-true, cond-false, eq-eqb, ne_eqb, eqb-false, or_left, or_right}
+use Rattle.gc_graph.specs.Graph.{Object, lookup}
+use Rattle.gc_words.specs.Space.{end_of}
+use Rattle.gc_words.specs.Image.{Block, block_at, is_start, header_of, header_at, field_at, object_of_block, objects_of}
 use Rattle.gc_words.specs.Spelling.{link_at}
 use Rattle.gc_words.specs.declared.header.Header.{Header}
 use Rattle.gc_heap.specs.Heap.{HeapWords, graph_in}
@@ -19,11 +20,21 @@ use Rattle.gc_copy.specs.Internal.Words.{KeepsGraph, KeepsRest}
 use Rattle.gc_plan.specs.declared.step.Step.TheVariants as steps
 use Rattle.gc_plan.specs.declared.step.StepReply.TheVariants.{Passed, Scanned, NoRoom}
 use Rattle.gc_plan.proofs.Public.{found_by_name, found_by_place}
-use Rattle.gc_copy.proofs.Spaces.{in_start, replica_start}
-use Rattle.gc_copy.proofs.OpenCollection.{same_graph, after_step, field_present, replica_object}
+use Rattle.gc_copy.proofs.Spaces.{in_start, new_end_is, replica_start}
+use Rattle.gc_copy.proofs.OpenCollection.{same_graph, after_step, block_of_object, field_present, replica_object}
 
 neither : (a b : Bool) → a ≡ false → b ≡ false → (a || b) ≡ false
 neither a b e f = grind (arith, common_steps)
+
+-- no object starts at the end, so where one starts something is left to scan
+pub left_at_start : (x : CollectionWords) → IsCollection x → is_start x.space.words x.scan_place ≡ true → scan_done (collection_in x) ≡ false
+left_at_start x is start = ⊎_elim
+    (λ y. absurd (
+        let at : x.scan_place ≡ end_of x.space = eqb-true x.scan_place (new_end (collection_in x)) y ∙ new_end_is x is.space in
+        let no : false ≡ true = sym (ap is_some (none_at_end x.space is.space)) ∙ subst (λ n. is_start x.space.words n ≡ true) at start in
+        cc))
+    (λ n. n)
+    (cases_Bool (x.scan_place == new_end (collection_in x)))
 
 -- the collection belongs to the heap, and is not scanned to its end
 module _ (heap : HeapWords) (x : CollectionWords) (s : IsCollection x × BelongsTo heap x × (scan_done (collection_in x) ≡ false)) where
@@ -36,6 +47,9 @@ module _ (heap : HeapWords) (x : CollectionWords) (s : IsCollection x × Belongs
 
   pub start : is_start x.space.words x.scan_place ≡ true
   start = grind (arith, common_steps, replica_start, at, in_start)
+
+  pub header_there : (h : Header) × (header_at x.space.words x.scan_place ≡ Some h)
+  header_there = let b = some_of (block_at x.space.words x.scan_place) start in (b.0.header, ap header_of b.1)
 
   original : link_at x.space.words x.scan_place ≡ at.0.original
   original =
@@ -71,6 +85,20 @@ module _ (heap : HeapWords) (x : CollectionWords) (s : IsCollection x × Belongs
       let most = at.3 in
       subst (λ a. IsSome (field_at heap.space.words a x.scan_field)) (sym original)
       (field_present heap.space.words at.0.original x.scan_field ok.original ok.found (omega (arith, count h e, other)))
+
+  -- the original of a replica that is not raw is not raw either
+  pub original_plain : (h : Header) → header_at x.space.words x.scan_place ≡ Some h → h.raw ≡ false → (k : Header) → header_at heap.space.words (link_at x.space.words x.scan_place) ≡ Some k → k.raw ≡ false
+  original_plain h e plain k f =
+      let ok = s.1.belongs.replicas at.0 at.1 in
+      let b = stands_there h e in
+      let o = block_of_object heap.space.words at.0.original ok.original ok.found in
+      let header : k ≡ o.0.header = (let same : Some k ≡ Some o.0.header = sym f ∙ (ap (header_at heap.space.words) original ∙ ap header_of o.1) in cc) in
+      ap (λ (h : Header). h.raw) header
+      ∙ ap (λ (o : Object). o.raw) o.2
+      ∙ sym ok.raw
+      ∙ sym (ap (λ (o : Object). o.raw) b.3)
+      ∙ ap (λ (h : Header). h.raw) b.2
+      ∙ plain
 
   -- the number of the next field fits 16 bits
   pub next_small : (h : Header) → header_at x.space.words x.scan_place ≡ Some h → (x.scan_field ≡ h.len → ⊥) → x.scan_field + 1 < 2 ^ 16

@@ -1,7 +1,8 @@
 -- What private steps leave unchanged in a heap and in a collection, and words whose targets have replicas.
-use Rattle.std.specs.Prelude.{◌≡◌, ℕ, ◌-◌, ◌%◌, ◌^◌, ◌<◌, if◌then◌else◌, List, [], map, drop, length, replicate}
+use Rattle.std.specs.Prelude.{◌≡◌, ℕ, ◌-◌, ◌%◌, ◌^◌, ◌<◌, if◌then◌else◌, IsTrue, List, [], map, drop, length, replicate}
 use Rattle.gc_words.specs.Word.{value_of}
-use Rattle.gc_words.specs.Image.{Block, fresh_block, blocks}
+use Rattle.gc_words.specs.Image.{Block, fresh_block, blocks, header_at, is_start}
+use Rattle.gc_words.specs.Spelling.{link_at}
 use Rattle.gc_words.specs.Space.{SpaceWords, IsSpace}
 use Rattle.gc_heap.specs.Heap.{HeapWords, roomy_in}
 use Rattle.gc_plan.specs.State.{Collection}
@@ -30,6 +31,11 @@ pub record KeepsRest (old new : CollectionWords) : Type 0 where
   pub scan_place : new.scan_place ≡ old.scan_place
   pub scan_field : new.scan_field ≡ old.scan_field
   pub epoch : new.epoch ≡ old.epoch
+
+-- each object that starts in the space still starts there, with the same header and the same link
+pub record KeepsStarts (old new : SpaceWords) : Type 0 where
+  pub headers : (p : ℕ) → IsTrue (is_start old.words p) → header_at new.words p ≡ header_at old.words p
+  pub links : (p : ℕ) → IsTrue (is_start old.words p) → link_at new.words p ≡ link_at old.words p
 
 -- By address, the place to which a link of this epoch leads in these words, or 0: the low 32 bits of what it has above the mark.
 abbrev pub moves_of : ℕ → List ℕ → List ℕ

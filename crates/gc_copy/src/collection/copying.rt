@@ -1,4 +1,4 @@
-ghost use Rattle.std.specs.Prelude.{◌≤◌, ◌<◌, IfSome, ◌≡◌, OnOk, OnErr, Some, None, true, false, IsTrue, IsSome};
+ghost use Rattle.std.specs.Prelude.{◌≤◌, ◌<◌, IfSome, ◌≡◌, IfOk, OnOk, OnErr, Some, None, true, false, IsTrue, IsSome};
 ghost use Rattle.std.specs.Option.{option_map};
 ghost use Rattle.gc_graph.specs.Limits.{largest_space};
 ghost use Rattle.gc_graph.specs.Graph.{lookup};
@@ -13,7 +13,7 @@ ghost use Rattle.gc_plan.specs.Steps.{place_replica as placed_in, with_replica a
 ghost use Rattle.gc_plan.specs.Steps.{bring_up_to_date as brought_in, apply_entry as applied_in};
 ghost use Rattle.gc_copy.specs.Entries.{entry_in};
 ghost use Rattle.gc_copy.specs.Words.{collection_in, mark_of, BelongsTo};
-ghost use Rattle.gc_copy.specs.Internal.Words.{replica_block, HasReplicaWord, KeepsGraph, KeepsRest};
+ghost use Rattle.gc_copy.specs.Internal.Words.{replica_block, HasReplicaWord, KeepsGraph, KeepsRest, KeepsStarts};
 
 use super::Collection;
 use crate::log::LogEntry;
@@ -62,6 +62,7 @@ impl Collection {
     }
 
     /// Places a replica at the new end. It has the original's header. Its fields are nil, or those of the original if it is raw.
+    #[inline(always)]
     pub(super) fn place_replica(&mut self, heap: &mut Heap, original: OldAddr) -> Result<(), NoRoom>
         requires belongs { BelongsTo heap.old self.old }
         requires start { IsTrue (is_start heap.old.space.words original.0) }
@@ -73,6 +74,7 @@ impl Collection {
         ensures belongs { BelongsTo heap.new self.new }
         ensures graph { KeepsGraph heap.old heap.new }
         ensures rest { KeepsRest self.old self.new }
+        ensures starts { KeepsStarts self.old.space self.new.space }
     {
         let header = heap.space().header(Addr(original.0));
         if !self.space.has_room(header.len()) {
@@ -85,8 +87,9 @@ impl Collection {
         Ok(())
     }
 
-    /// Places a replica of the object that the word refers to, if any, unless it has one.
-    pub(super) fn replicate_target(&mut self, heap: &mut Heap, word: u64) -> Result<(), NoRoom>
+    /// Returns the word for the new space: a reference to an original becomes one to its replica, which it places first if there is none.
+    #[inline(always)]
+    pub(super) fn replicated_word(&mut self, heap: &mut Heap, word: u64) -> Result<u64, NoRoom>
         requires belongs { BelongsTo heap.old self.old }
         requires word { IsRootWord heap.old.space.words word }
         ensures placed { OnOk result (with_replica_in (collection_in self.old) (graph_in heap.old) (value_of word)
@@ -94,18 +97,22 @@ impl Collection {
         ensures full { OnErr result ((with_replica_in (collection_in self.old) (graph_in heap.old) (value_of word) ≡ None)
             × (self.new ≡ self.old) × (heap.new ≡ heap.old)) }
         ensures replica { OnOk result (HasReplicaWord (collection_in self.new) word) }
+        ensures word { IfOk result (λ written. written ≡ word_of (moved (collection_in self.new) (value_of word))) }
         ensures belongs { BelongsTo heap.new self.new }
         ensures graph { KeepsGraph heap.old heap.new }
         ensures rest { KeepsRest self.old self.new }
+        ensures starts { KeepsStarts self.old.space self.new.space }
     {
         let Some(target) = target_of(word) else {
-            return Ok(());
+            return Ok(word);
         };
         let original = OldAddr(target.0);
-        if self.replica_of(heap, original).is_some() {
-            return Ok(());
+        if let Some(replica) = self.replica_of(heap, original) {
+            return Ok(encode(Value::Ref(Addr(replica.0))));
         }
-        self.place_replica(heap, original)
+        let replica = self.space.end();
+        self.place_replica(heap, original)?;
+        Ok(encode(Value::Ref(Addr(replica))))
     }
 
     /// Reads the original's field as it is now, and writes the same nil, number or raw word to the replica. For a reference
@@ -152,7 +159,8 @@ impl Collection {
     }
 
     /// Brings a field of any other object's replica up to date.
-    fn move_field(
+    #[inline(always)]
+    pub(super) fn move_field(
         &mut self,
         heap: &mut Heap,
         original: OldAddr,
@@ -170,10 +178,10 @@ impl Collection {
         ensures belongs { BelongsTo heap.new self.new }
         ensures graph { KeepsGraph heap.old heap.new }
         ensures rest { KeepsRest self.old self.new }
+        ensures starts { KeepsStarts self.old.space self.new.space }
     {
         let word = heap.space().field(Addr(original.0), field);
-        self.replicate_target(heap, word)?;
-        let moved = self.moved_word(heap, word);
+        let moved = self.replicated_word(heap, word)?;
         self.space.set_field(Addr(replica.0), field, moved);
         Ok(())
     }

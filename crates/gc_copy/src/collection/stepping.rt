@@ -1,13 +1,17 @@
 ghost use Rattle.std.specs.Option.{option_map};
-ghost use Rattle.gc_words.specs.Image.{is_start};
-ghost use Rattle.std.specs.Prelude.{IsTrue, IfSome, Some, None, slice_get, ◌≡◌, ◌≢◌, ◌<◌, ◌≤◌, ◌==◌, ◌||◌};
+ghost use Rattle.gc_words.specs.Image.{header_at, is_start};
+ghost use Rattle.gc_words.specs.Spelling.{link_at};
+ghost use Rattle.gc_words.specs.declared.header.Header.{Header};
+ghost use Rattle.std.specs.Prelude.{IsTrue, IfSome, OnOk, OnErr, Some, None, true, false, slice_get, ◌⊎◌, ◌≡◌, ◌≢◌, ◌<◌, ◌≤◌, ◌==◌, ◌||◌};
 ghost use Rattle.gc_words.specs.Space.{image_with};
 ghost use Rattle.gc_words.specs.Certificate.{Certified};
-ghost use Rattle.gc_heap.specs.Heap.{image_of, graph_in};
-ghost use Rattle.gc_plan.specs.State.{pairs_of};
+ghost use Rattle.gc_heap.specs.Heap.{HeapWords, image_of, graph_in};
+ghost use Rattle.gc_plan.specs.State.{pairs_of, new_end};
 ghost use Rattle.gc_copy.specs.Entries.{entry_in};
 ghost use Rattle.gc_plan.specs.Steps.{collect, log_at, root_target, roots_done as roots_done_in, scan_done as scan_done_in, is_ready};
+ghost use Rattle.gc_copy.specs.Scans.{IsScanRun};
 ghost use Rattle.gc_copy.specs.Words.{collection_in, open_state, BelongsTo, new_root_words};
+ghost use Rattle.gc_copy.specs.Internal.Words.{KeepsStarts};
 ghost use Rattle.gc_plan.specs.declared.step.Step.{Step};
 ghost use Rattle.gc_plan.specs.declared.step.StepReply.{StepReply};
 
@@ -16,9 +20,10 @@ use super::copying::NoRoom;
 use super::roots::MissingRoot;
 use crate::laws::{images_show_links, new_spaces_have_room};
 use crate::log::LogEntry;
+use gc_graph::object_words;
 use gc_heap::Heap;
 use gc_plan::StepReply;
-use gc_words::{Header, NewAddr, OldAddr};
+use gc_words::{Addr, Header, NewAddr, OldAddr};
 
 impl Collection {
     /// Replicates the target of the first root whose target has no replica: `Copied`, `NoRoom`, or `Clean` if there is none. Does not
@@ -71,27 +76,125 @@ impl Collection {
         ensures mutators { heap.new.mutators ≡ heap.old.mutators }
     {
         new_spaces_have_room();
-        // Here the prover learns that the heap is sound.
+        // Here the prover learns that the heap and the collection are sound.
         let _ = heap.space();
+        let _ = &self.space;
         if self.scan_done() {
             return StepReply::Clean;
         }
-        let at = self.scan_place;
-        let field = self.scan_field;
-        let header = self.space.header(at);
-        if is_scanned(header, field) {
-            self.scan_place = self.space.next_start(at);
-            self.scan_field = 0;
-            return StepReply::Passed;
+        self.scan_replica(heap, 1, u32::MAX).reply
+    }
+
+    /// Performs scans in order, at least one and at most `most`. None follows one that finds no room, or that leaves nothing to scan, or after
+    /// which the new space ends at `until` or beyond it. Reads the header and the link of each replica once. Does not allocate.
+    pub fn scan_run(&mut self, heap: &mut Heap, most: u32, until: u32) -> ScanRun
+        requires belongs { BelongsTo heap.old self.old }
+        requires some { 1 ≤ most }
+        ensures run { IsScanRun until result.steps (open_state heap.old self.old) (open_state heap.new self.new) result.reply }
+        ensures within { result.steps ≤ most }
+        ensures belongs { BelongsTo heap.new self.new }
+        ensures epoch { self.new.epoch ≡ self.old.epoch }
+        ensures mutators { heap.new.mutators ≡ heap.old.mutators }
+    {
+        if self.scan_done() {
+            return ScanRun {
+                steps: 1,
+                reply: StepReply::Clean,
+            };
         }
-        let original = OldAddr(self.space.link(at) as u32);
-        match self.bring_up_to_date(heap, original, NewAddr(at.0), field) {
-            Ok(()) => {
-                self.scan_field = field + 1;
-                StepReply::Scanned
+        let mut run = self.scan_replica(heap, most, until);
+        while run.steps < most && self.scans_on(run.reply, until) {
+            let next = self.scan_replica(heap, most - run.steps, until);
+            run = ScanRun {
+                steps: run.steps + next.steps,
+                reply: next.reply,
+            };
+        }
+        run
+    }
+
+    // Performs such scans of the replica at the scan pointer, of which there has to be one. The last of them passes the replica, unless it ends
+    // before.
+    #[inline(always)]
+    fn scan_replica(&mut self, heap: &mut Heap, most: u32, until: u32) -> ScanRun
+        requires belongs { BelongsTo heap.old self.old }
+        requires some { 1 ≤ most }
+        requires left { scan_done_in (collection_in self.old) ≡ false }
+        ensures run { IsScanRun until result.steps (open_state heap.old self.old) (open_state heap.new self.new) result.reply }
+        ensures within { result.steps ≤ most }
+        ensures belongs { BelongsTo heap.new self.new }
+        ensures epoch { self.new.epoch ≡ self.old.epoch }
+        ensures mutators { heap.new.mutators ≡ heap.old.mutators }
+    {
+        let header = self.space.header(self.scan_place);
+        let original = OldAddr(self.space.link(self.scan_place) as u32);
+        let mut steps = 0;
+        while !is_scanned(header, self.scan_field) {
+            let Ok(()) = self.scan_next(heap, original) else {
+                return ScanRun {
+                    steps: steps + 1,
+                    reply: StepReply::NoRoom,
+                };
+            };
+            steps += 1;
+            if steps == most || self.space.end() >= until {
+                return ScanRun {
+                    steps,
+                    reply: StepReply::Scanned,
+                };
             }
-            Err(NoRoom) => StepReply::NoRoom,
         }
+        self.pass(header);
+        ScanRun {
+            steps: steps + 1,
+            reply: StepReply::Passed,
+        }
+    }
+
+    // Brings the field at the scan pointer up to date. The replica there is that of `original`, is not raw, and has such a field.
+    #[inline(always)]
+    fn scan_next(&mut self, heap: &mut Heap, original: OldAddr) -> Result<(), NoRoom>
+        requires belongs { BelongsTo heap.old self.old }
+        requires start { IsTrue (is_start self.old.space.words self.old.scan_place) }
+        requires original { link_at self.old.space.words self.old.scan_place ≡ original.0 }
+        requires field { (h : Header) → header_at self.old.space.words self.old.scan_place ≡ Some h → (h.raw ≡ false) × (self.old.scan_field ≢ h.len) }
+        ensures scanned { OnOk result (collect (open_state heap.old self.old) Step.Scan ≡ (StepReply.Scanned, open_state heap.new self.new)) }
+        ensures full { OnErr result (collect (open_state heap.old self.old) Step.Scan ≡ (StepReply.NoRoom, open_state heap.new self.new)) }
+        ensures belongs { BelongsTo heap.new self.new }
+        ensures epoch { self.new.epoch ≡ self.old.epoch }
+        ensures mutators { heap.new.mutators ≡ heap.old.mutators }
+        ensures place { self.new.scan_place ≡ self.old.scan_place }
+        // So the header and the link of the replica need not be read again.
+        ensures starts { KeepsStarts self.old.space self.new.space }
+    {
+        // Here the prover learns that the heap is sound.
+        let _ = heap.space();
+        let replica = NewAddr(self.scan_place.0);
+        let field = self.scan_field;
+        self.move_field(heap, original, replica, field)?;
+        self.scan_field = field + 1;
+        Ok(())
+    }
+
+    // Moves the scan pointer on to the next replica. The one there has this header, and is raw or scanned.
+    #[inline(always)]
+    fn pass(&mut self, header: Header)
+        requires header { header_at self.old.space.words self.old.scan_place ≡ Some header }
+        requires scanned { (header.raw ≡ true) ⊎ (self.old.scan_field ≡ header.len) }
+        ensures passed { (heap : HeapWords) → BelongsTo heap self.old → collect (open_state heap self.old) Step.Scan ≡ (StepReply.Passed, open_state heap self.new) }
+        ensures belongs { (heap : HeapWords) → BelongsTo heap self.old → BelongsTo heap self.new }
+        ensures epoch { self.new.epoch ≡ self.old.epoch }
+    {
+        self.scan_place = Addr(self.scan_place.0 + object_words(header.len()));
+        self.scan_field = 0;
+    }
+
+    // Returns whether a scan may follow one with this reply.
+    #[inline(always)]
+    fn scans_on(&self, reply: StepReply, until: u32) -> bool
+        ensures { IsTrue result → (reply ≢ StepReply.NoRoom) × (scan_done_in (collection_in self.now) ≡ false) × (new_end (collection_in self.now) < until) }
+    {
+        !matches!(reply, StepReply::NoRoom) && !self.scan_done() && self.end() < until
     }
 
     /// Removes the oldest entry of mutator `m`'s log, and brings its field up to date if its object has a replica: `Applied`. On
@@ -172,6 +275,13 @@ impl Collection {
         let _ = &self.space;
         self.next_log().is_none() && self.scan_done() && roots_done
     }
+}
+
+/// What a run of scans did: the number of steps, and the reply to the last one.
+#[derive(Clone, Copy, Debug, Drop)]
+pub struct ScanRun {
+    pub steps: u32,
+    pub reply: StepReply,
 }
 
 /// Returns whether nothing is left to scan from this field on. A raw object is never scanned.

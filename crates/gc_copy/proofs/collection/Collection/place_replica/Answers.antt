@@ -9,6 +9,7 @@ use Rattle.gc_plan.specs.State.{replica_of}
 use Rattle.gc_plan.specs.Steps.{place_replica}
 use Rattle.gc_copy.specs.contracts.collection.Collection.{the_view}
 use Rattle.gc_copy.specs.Words.{CollectionWords, collection_in, BelongsTo}
+use Rattle.gc_copy.specs.Internal.Words.{KeepsStarts}
 use Rattle.gc_copy.proofs.Spaces.{count_small}
 use Rattle.gc_copy.proofs.OpenCollection.{Placing, placed_start, placing_done, full}
 use Rattle.gc_copy.proofs.collection.Collection.place_replica.Goals as goal
@@ -46,3 +47,6 @@ returns-clause-graph c = (made c).graph
 
 pub returns-clause-rest : goal.returns-clause-rest
 returns-clause-rest c = grind (arith, common_steps, made)
+
+pub returns-clause-starts : goal.returns-clause-starts
+returns-clause-starts c = let m = made c in subst (λ (y : CollectionWords). KeepsStarts y.space c.set_link.new.self) c.self.view_is m.starts
