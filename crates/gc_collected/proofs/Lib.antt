@@ -21,6 +21,7 @@ mod Referred
 mod Reserved
 mod Rooted
 mod Shown
+mod ScansKnow
 mod SourcesPut
 mod Starts
 mod Stepped

@@ -1,13 +1,17 @@
 -- A monitor beside a collection: what events do to its watch, what its tables know, and that it follows the heap.
 pub mod Agree
+pub mod Batched
+pub mod Behind
 pub mod Beside
 pub mod Brought
 pub mod Claimed
 pub mod CommandsKnown
 pub mod EndsKnown
 pub mod Events
+pub mod Followed
 pub mod Follows
 pub mod FollowsEnds
+pub mod FollowsRuns
 pub mod FollowsSteps
 pub mod Grown
 pub mod Growth

@@ -16,6 +16,7 @@ ghost use Rattle.gc_plan.specs.Steps.{collect, mutate, root_target};
 ghost use Rattle.gc_plan.specs.declared.step.Step.{Step};
 ghost use Rattle.gc_plan.specs.declared.step.StepReply.{StepReply};
 ghost use Rattle.gc_plan.specs.Belonging.{IsSpaceGraph, IsOpened};
+ghost use Rattle.gc_copy.specs.Scans.{IsScanRun};
 ghost use Rattle.gc_copy.specs.Words.{collection_in, open_state, spare_of, BelongsTo};
 ghost use Rattle.gc_collected.specs.Internal.Beside.{AreOld, replica_words};
 ghost use Rattle.gc_collected.specs.Internal.Follows.{Follows};
@@ -24,7 +25,7 @@ ghost use Rattle.gc_collected.specs.Internal.CollectedHeap.{BelongsIfOpen, Fits,
 
 use gc_along::Standing;
 use gc_copy::{
-    Collection, MissingRoot, StepReply, heaps_have_addresses_as_names, images_show_links,
+    Collection, MissingRoot, ScanRun, StepReply, heaps_have_addresses_as_names, images_show_links,
 };
 use gc_graph::{NoMemory, Reply, Slot};
 use gc_heap::Heap;
@@ -140,8 +141,38 @@ pub(crate) fn replicate_root(
     reply
 }
 
-/// Performs a scan step, as `Collection::scan` does. The monitor is told of a new replica, and then looks at the scanned field.
-#[inline(always)]
+/// Performs scans in order, as `Collection::scan_run` does. Afterwards the monitor is told of all new replicas, and then looks at the scanned
+/// fields.
+pub(crate) fn scan_run(
+    collection: &mut Collection,
+    heap: &mut Heap,
+    watch: &mut Standing,
+    most: u32,
+    until: u32,
+) -> ScanRun
+    requires belongs { BelongsTo heap.old collection.old }
+    requires some { 1 ≤ most }
+    ensures run { IsScanRun until result.steps (open_state heap.old collection.old) (open_state heap.new collection.new) result.reply }
+    ensures within { result.steps ≤ most }
+    ensures belongs { BelongsTo heap.new collection.new }
+    ensures mutators { heap.new.mutators ≡ heap.old.mutators }
+    ensures follows { Follows (open_state heap.old collection.old) watch.old → Follows (open_state heap.new collection.new) watch.new }
+{
+    are_shown(heap, collection);
+    let place = collection.scan_place();
+    let field = collection.scan_field();
+    let run = collection.scan_run(heap, most, until);
+    are_shown(heap, collection);
+    let old = heap.space().words();
+    let new = collection.new_image(&[]).words;
+    let end = collection.scan_place();
+    let last = collection.scan_field();
+    watch.placed_all(old, new);
+    watch.look_all(old, new, place, field, end, last);
+    run
+}
+
+/// Performs one scan, as `scan_run` does.
 pub(crate) fn scan(collection: &mut Collection, heap: &mut Heap, watch: &mut Standing) -> StepReply
     requires { BelongsTo heap.old collection.old }
     ensures step { collect (open_state heap.old collection.old) Step.Scan ≡ (result, open_state heap.new collection.new) }
@@ -151,18 +182,7 @@ pub(crate) fn scan(collection: &mut Collection, heap: &mut Heap, watch: &mut Sta
     ensures follows { Follows (open_state heap.old collection.old) watch.old → Follows (open_state heap.new collection.new) watch.new }
 {
     are_shown(heap, collection);
-    let place = collection.scan_place();
-    let field = collection.scan_field();
-    let reply = collection.scan(heap);
-    are_shown(heap, collection);
-    let StepReply::Scanned = reply else {
-        return reply;
-    };
-    let old = heap.space().words();
-    let new = collection.new_image(&[]).words;
-    watch.placed(old, new);
-    watch.look(old, new, place, field);
-    reply
+    scan_run(collection, heap, watch, 1, u32::MAX).reply
 }
 
 /// Applies the oldest entry of mutator `m`'s log, as `Collection::apply_log` does. The monitor is told of a new replica, and then looks at the

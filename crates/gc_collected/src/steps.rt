@@ -13,7 +13,7 @@ use crate::flip::Keep;
 use crate::known::{Searched, all_known, search};
 use crate::rooms::{keep_room, room_for};
 use gc_check::Checks;
-use gc_copy::{Collection, Room, Step, StepReply};
+use gc_copy::{Collection, Room, ScanRun, Step, StepReply};
 use gc_graph::{NoMemory, root_count};
 use gc_heap::Heap;
 use gc_plan::root_replicas_stay;
@@ -23,6 +23,7 @@ impl CollectedHeap {
     ghost use Rattle.std.specs.Prelude.{◌≡◌, ◌≢◌, ◌<◌, ◌≤◌, ◌⊎◌, None, IfOk, IsTrue, IsFalse, OnErr};
     ghost use Rattle.gc_plan.specs.Steps.{collect, useful_step};
     ghost use Rattle.gc_plan.specs.Runs.{IsStep};
+    ghost use Rattle.gc_copy.specs.Scans.{IsScanRun};
     ghost use Rattle.gc_plan.specs.declared.step.StepReply.{StepReply};
     ghost use Rattle.gc_along.specs.Claims.{Accepts};
     ghost use Rattle.gc_along.specs.Tables.{Tables};
@@ -166,6 +167,26 @@ impl CollectedHeap {
         match &mut self.collection {
             None => StepReply::Idle,
             Some(collection) => barrier::scan(collection, &mut self.heap, &mut self.watch),
+        }
+    }
+
+    /// Performs scans in order, at least one and at most `most`. None follows one that finds no room, or that leaves nothing to scan, or after
+    /// which the new space ends at `until` or beyond it. Does not allocate.
+    pub fn scan_run(&mut self, most: u32, until: u32) -> ScanRun
+        requires { 1 ≤ most }
+        ensures run { IsScanRun until result.steps self.old.core self.new.core result.reply }
+        ensures within { result.steps ≤ most }
+        ensures mutators { self.new.core.mutators ≡ self.old.core.mutators }
+        ensures beside { self.new.beside ≡ self.old.beside }
+    {
+        match &mut self.collection {
+            None => ScanRun {
+                steps: 1,
+                reply: StepReply::Idle,
+            },
+            Some(collection) => {
+                barrier::scan_run(collection, &mut self.heap, &mut self.watch, most, until)
+            }
         }
     }
 

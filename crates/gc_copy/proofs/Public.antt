@@ -4,3 +4,4 @@ pub use Rattle.gc_copy.proofs.Mutating.{idle_left, mutate_is, one_but, open_left
 pub use Rattle.gc_copy.proofs.OpenCollection.{link_above, placed_has, replica_object}
 pub use Rattle.gc_copy.proofs.Opening.{opening_with_ok}
 pub use Rattle.gc_copy.proofs.Spaces.{new_end_is}
+pub use Rattle.gc_copy.proofs.ScanRuns.{one_scan}

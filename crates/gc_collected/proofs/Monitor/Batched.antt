@@ -21,7 +21,7 @@ use Rattle.gc_along.specs.Claims.{CanPlaceNext, OwesNone}
 use Rattle.gc_along.specs.Events.{IsClaim, IsCopy, Placed, replica_added}
 use Rattle.gc_along.specs.Runs.{PlacedRun, PlacedAll, CanPlaceAll}
 use Rattle.gc_along.specs.Tables.{Tables}
-use Rattle.gc_beside.specs.Internal.Live.{heap_words, replica_words}
+use Rattle.gc_collected.specs.Internal.Beside.{heap_words, replica_words}
 use Rattle.gc_collected.proofs.Monitor.Agree.{replicas_shown}
 use Rattle.gc_collected.proofs.Monitor.Behind.{IsBehind, still_true, still_behind, passes}
 use Rattle.gc_collected.proofs.Monitor.Brought.{FieldScanned, field_was_scanned}

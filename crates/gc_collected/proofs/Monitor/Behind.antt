@@ -18,9 +18,9 @@ use Rattle.gc_along.specs.Claims.{CanPlaceNext, CanLook, OwesNone}
 use Rattle.gc_along.specs.Events.{Placed, Looked, with_due}
 use Rattle.gc_along.specs.Tables.{Tables, watch_of, due_in}
 use Rattle.gc_along.specs.Watch.{Watch, is_due}
-use Rattle.gc_beside.specs.Internal.Live.{heap_words, replica_words}
-use Rattle.gc_beside.specs.Knows.{Knows}
-use Rattle.gc_beside.specs.Stays.{DueFor, WatchFits, GoesAlong}
+use Rattle.gc_collected.specs.Internal.Beside.{heap_words, replica_words}
+use Rattle.gc_collected.specs.Internal.Knows.{Knows}
+use Rattle.gc_collected.specs.Internal.Stays.{DueFor, WatchFits, GoesAlong}
 use Rattle.gc_collected.proofs.Monitor.Agree.{replicas_shown}
 use Rattle.gc_collected.proofs.Monitor.Beside.{pair_stays}
 use Rattle.gc_collected.proofs.Monitor.Brought.{IsFresh, Brings, brings, FieldScanned, field_was_scanned, ReplicaPassed, replica_was_passed}
@@ -69,8 +69,6 @@ caught_up s c t b = (
 )
 
 module _ (s : State) (c : Collection) (p f : ℕ) (t : Tables) (opened : IsOpened s c) (b : IsBehind s c p f t) where
-  lag : Collection
-  lag = lagging c p f
 
   pub lag_opened : IsOpened s (lagging c p f)
   lag_opened = record {

@@ -14,7 +14,7 @@ use Rattle.gc_collected.specs.Internal.Stays.{LosesOnly}
 use Rattle.gc_along.specs.Tables.{Tables, watch_of}
 use Rattle.gc_along.specs.Events.{Placed, Looked, Applied as AppliedTo}
 use Rattle.gc_collected.specs.Internal.Beside.{replica_words}
-use Rattle.gc_collected.proofs.Monitor.Events.{Goes, roots_copied, field_scanned, replica_passed, entry_applied}
+use Rattle.gc_collected.proofs.Monitor.Events.{Goes, roots_copied, entry_applied}
 use Rattle.gc_collected.proofs.Monitor.Growth.{IsAdded, HasSame, Adds, adds_none, adds_placed, adds_brought, adds_alike}
 use Rattle.gc_collected.proofs.Monitor.Told.{ShowsReplicas, shows_replicas, Told, told_placed, told_looked, told_applied}
 
@@ -45,37 +45,6 @@ module _ (s : State) (c : Collection) (t : Tables) (heap : IsSpaceGraph s.size s
       go (Some name) e u =
           let h = told_by old next after k (adds name _ refl u) placed in
           roots_copied s s' c next (watch_of t) (watch_of after) opened goes said is h.0 h.1
-
-  pub scan_go : (old : List ℕ) (mid after : Tables) (next : Collection) (s' : State) → IsOpened s next → scan s c ≡ (Scanned, s') → s'.collection ≡ Some next
-      → Placed old (replica_words next) t mid → Looked old (replica_words next) c.scan_place c.scan_field mid after → Goes s next (watch_of after)
-  scan_go old mid after next s' k said is placed looked = start (scan_done c) said
-    where
-      at_replica : (r : Replica) → replica_at c c.scan_place ≡ Some r → (o : Option Collection) → bring_up_to_date c s.heap.graph r.original c.scan_field ≡ o → if_room s Scanned (option_map next_field o) ≡ (Scanned, s') → Goes s next (watch_of after)
-      at_replica r found None e u = absurd (let no : NoRoom ≡ Scanned = ap (λ (x : StepReply × State). x.0) u in cc)
-      at_replica r found (Some d) e u =
-          let came : record d { scan_field = suc d.scan_field } ≡ next = (let a : Some (record d { scan_field = suc d.scan_field }) ≡ s'.collection = ap (λ (x : StepReply × State). x.1.collection) u in cc) in
-          let rs : next.replicas ≡ d.replicas = sym (ap (λ (x : Collection). x.replicas) came) in
-          let adds : Adds c next = adds_alike c d next rs (adds_brought c d s.heap.graph r.original c.scan_field e) in
-          let f = find_some (λ (r : Replica). r.place == c.scan_place) c.replicas r found in
-          let q = pair_stays c next r adds f.0 in
-          let place : q.0.place ≡ c.scan_place = ap (λ (p : ℕ × ℕ). p.1) q.2 ∙ eqb-true r.place c.scan_place f.1 in
-          let h = told_by old next mid k adds placed in
-          let l = told_looked (heap_end s) (new_end c) (watch_of t) next (replica_words next) (shown next k) old mid after q.0 c.scan_place c.scan_field q.1 place h.0 h.1 looked in
-          field_scanned s s' c next r (watch_of t) (watch_of after) opened goes found said is l.0 (subst (λ n. LosesOnly (new_end c) n c.scan_field (watch_of t) next (watch_of after)) (ap (λ (p : ℕ × ℕ). p.0) q.2) l.1)
-
-      at : (o : Option Replica) → replica_at c c.scan_place ≡ o → scan_replica s c o ≡ (Scanned, s') → Goes s next (watch_of after)
-      at None e u = absurd (let no : Clean ≡ Scanned = ap (λ (x : StepReply × State). x.0) u in cc)
-      at (Some r) e u = elim (cases_Bool (r.object.raw || (c.scan_field == length r.object.fields))) [
-        | inl y ↦ absurd (let no : Passed ≡ Scanned = ap (λ (x : StepReply × State). x.0) (sym (cond-true _ (Passed, with_collection s (Some (next_object c r))) (if_room s Scanned (option_map next_field (bring_up_to_date c s.heap.graph r.original c.scan_field))) y) ∙ u) in cc)
-        | inr n ↦ at_replica r e _ refl (sym (cond-false _ (Passed, with_collection s (Some (next_object c r))) (if_room s Scanned (option_map next_field (bring_up_to_date c s.heap.graph r.original c.scan_field))) n) ∙ u)
-      ]
-
-      start : (b : Bool) → cond b (Clean, s) (scan_replica s c (replica_at c c.scan_place)) ≡ (Scanned, s') → Goes s next (watch_of after)
-      start true u = absurd (let no : Clean ≡ Scanned = ap (λ (x : StepReply × State). x.0) u in cc)
-      start false u = at (replica_at c c.scan_place) refl u
-
-  pub passed_go : (next : Collection) (s' : State) → scan s c ≡ (Passed, s') → s'.collection ≡ Some next → Goes s next (watch_of t)
-  passed_go next s' said is = grind (arith, common_steps, replica_passed)
 
   pub apply_go : (old : List ℕ) (mid after : Tables) (m : ℕ) (entry : ℕ × ℕ) (rest : List (ℕ × ℕ)) (next : Collection) (s' : State) → IsOpened s next → apply_log s c m (entry ∷ rest) ≡ (Applied, s') → s'.collection ≡ Some next
       → Placed old (replica_words next) t mid → AppliedTo old (replica_words next) entry.0 entry.1 mid after → Goes s next (watch_of after)

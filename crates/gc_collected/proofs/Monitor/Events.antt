@@ -51,32 +51,6 @@ roots_copied s s' c next w later k h said is fits loses = go (root_target c s.he
 
 -- ---- `Scan`
 
-scan_before_end : (s s' : State) (c : Collection) (r : Replica) (reply : StepReply) → replica_at c c.scan_place ≡ Some r → (scan_done c ≡ true → Gives (Clean, s) reply s' → ⊥)
-    → scan s c ≡ (reply, s') → scan_replica s c (Some r) ≡ (reply, s')
-scan_before_end s s' c r reply found other said = grind (arith, common_steps, cond-true, cond-false, cases_Bool)
-
-pub field_scanned : (s s' : State) (c next : Collection) (r : Replica) (w later : Watch) → IsOpened s c → Goes s c w
-    → replica_at c c.scan_place ≡ Some r → scan s c ≡ (Scanned, s') → s'.collection ≡ Some next
-    → WatchFits (heap_end s) next later → LosesOnly (new_end c) r.original c.scan_field w next later → Goes s next later
-field_scanned s s' c next r w later k h found said is fits loses = go (r.object.raw || (c.scan_field == length r.object.fields)) (scan_before_end s s' c r Scanned found (λ u t. (let no : Clean ≡ Scanned = ap (λ (x : StepReply × State). x.0) t in cc)) said)
-  where
-    at : (o : Option Collection) → bring_up_to_date c s.heap.graph r.original c.scan_field ≡ o → if_room s Scanned (option_map next_field o) ≡ (Scanned, s') → Goes s next later
-    at None e t = absurd (let no : NoRoom ≡ Scanned = ap (λ (x : StepReply × State). x.0) t in cc)
-    at (Some n) e t =
-        let same : record n { scan_field = suc n.scan_field } ≡ next = came_of s s' Scanned Scanned (record n { scan_field = suc n.scan_field }) next t is in
-        let rs : next.replicas ≡ n.replicas = sym (ap (λ (x : Collection). x.replicas) same) in
-        moved_on s.heap.graph.objects (heap_end s) n next later rs
-        (brought s.heap.graph (heap_end s) c n w later r.original c.scan_field (sound s.heap.graph.objects c k.belongs) h e (refit (heap_end s) n next later rs fits)
-        (λ q l. loses q (subst (In q) (sym rs) l)))
-
-    go : (b : Bool) → cond b (Passed, with_collection s (Some (next_object c r))) (if_room s Scanned (option_map next_field (bring_up_to_date c s.heap.graph r.original c.scan_field))) ≡ (Scanned, s') → Goes s next later
-    go true t = absurd (let no : Passed ≡ Scanned = ap (λ (x : StepReply × State). x.0) t in cc)
-    go false t = at (bring_up_to_date c s.heap.graph r.original c.scan_field) refl t
-
-pub replica_passed : (s s' : State) (c next : Collection) (r : Replica) (w : Watch) → Goes s c w
-    → replica_at c c.scan_place ≡ Some r → scan s c ≡ (Passed, s') → s'.collection ≡ Some next → Goes s next w
-replica_passed s s' c next r w h found said is = grind (arith, common_steps, scan_before_end, moved_on, came_of)
-
 -- ---- `Apply`
 
 pub entry_applied : (s s' : State) (c next : Collection) (m : ℕ) (entry : ℕ × ℕ) (rest : List (ℕ × ℕ)) (w later : Watch) → IsOpened s c → Goes s c w

@@ -20,8 +20,8 @@ use Rattle.gc_along.specs.Claims.{CanLook}
 use Rattle.gc_along.specs.Events.{Looked}
 use Rattle.gc_along.specs.Runs.{PlacedAll, CanPlaceAll, IsBefore, LooksAt, LooksPast, LooksOn, LookRun, LookedAll, CanGoOn, CanLookAll}
 use Rattle.gc_along.specs.Tables.{Tables, watch_of}
-use Rattle.gc_beside.specs.Internal.Live.{heap_words, replica_words}
-use Rattle.gc_beside.specs.Knows.{Knows}
+use Rattle.gc_collected.specs.Internal.Beside.{heap_words, replica_words}
+use Rattle.gc_collected.specs.Internal.Knows.{Knows}
 use Rattle.gc_collected.proofs.Monitor.Agree.{replicas_shown}
 use Rattle.gc_collected.proofs.Monitor.Batched.{having, scanned_once, scanned_on, Moves, does, opened_once, all_opened, once_lasts, can_place_all, knows_all}
 use Rattle.gc_collected.proofs.Monitor.Behind.{IsBehind, begins, caught_up, can_see, sees, goes_on}

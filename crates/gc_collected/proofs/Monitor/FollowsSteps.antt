@@ -18,10 +18,10 @@ use Rattle.gc_along.specs.Tables.{Tables, watch_of}
 use Rattle.gc_collected.specs.Internal.Beside.{GoesBeside, heap_words, replica_words}
 use Rattle.gc_collected.specs.Internal.Knows.{Knows, open_or_fresh}
 use Rattle.gc_collected.specs.Internal.Follows.{Follows}
-use Rattle.gc_collected.proofs.Monitor.Beside.{roots_go, scan_go, passed_go, apply_go}
+use Rattle.gc_collected.proofs.Monitor.Beside.{roots_go, apply_go}
 use Rattle.gc_collected.proofs.Monitor.Events.{Goes}
 use Rattle.gc_collected.specs.Internal.Beside.{AreOld}
-use Rattle.gc_collected.proofs.Monitor.StepsKnown.{entry_known, entry_looked, entry_placed, passed_known, roots_known, roots_told, scan_known, scan_looked, scan_placed}
+use Rattle.gc_collected.proofs.Monitor.StepsKnown.{entry_known, entry_looked, entry_placed, roots_known, roots_told}
 
 -- a step of an open collection
 pub record InOpen (s s' : State) (step : Step) (reply : StepReply) (c next : Collection) : Type 0 where
@@ -34,11 +34,11 @@ in_open : (s s' : State) (step : Step) (reply : StepReply) (c next : Collection)
 in_open s s' step reply c next other said is_open is_open' first there = grind (arith, common_steps, steps_stay)
 
 -- what is said of words is said of the same words
-reread : (Says : List ℕ → List ℕ → Type 0) {a b x y : List ℕ} → a ≡ b → x ≡ y → Says a x → Says b y
+pub reread : (Says : List ℕ → List ℕ → Type 0) {a b x y : List ℕ} → a ≡ b → x ≡ y → Says a x → Says b y
 reread Says {a} {b} {x} {y} e f h = subst (λ ws. Says ws y) e (subst (Says a) f h)
 
 -- the monitor follows the later collection
-on_with : (s s' : State) (next : Collection) (after : Tables) → s' ≡ with_collection s (Some next) → after.lost ≡ false → Goes s next (watch_of after) → Knows s next after → Follows s' after
+pub on_with : (s s' : State) (next : Collection) (after : Tables) → s' ≡ with_collection s (Some next) → after.lost ≡ false → Goes s next (watch_of after) → Knows s next after → Follows s' after
 on_with s s' next after is found goes knows = subst (λ (x : State). Follows x after) (sym is) (record {
   found = found;
   goes = goes;
@@ -75,24 +75,6 @@ module _ (s s' : State) (c next : Collection) (old words : List ℕ) (heap : IsS
       let p = placing after x.is (roots_told s c next t olds.0 heap x.before x.opened goes knows s' x.said there) stays placed copied in
       on_with s s' next after x.is p.0 (roots_go s c t heap x.before goes (heap_words olds.0 s) after next s' x.opened x.said there p.1)
       (roots_known s c next t olds.0 heap x.before x.opened goes knows s' x.said there after p.1 p.2)
-
-  pub follows_scanned : (mid after : Tables) → collect s steps.Scan ≡ (Scanned, s')
-      → (t.lost ≡ false → CanPlaceNext old words t → mid.lost ≡ false) → (mid.lost ≡ false → Placed old words t mid) → (mid.lost ≡ false → OwesNone old words t mid)
-      → (mid.lost ≡ false → CanLook old words c.scan_place c.scan_field mid → after.lost ≡ false) → (after.lost ≡ false → Looked old words c.scan_place c.scan_field mid after) → Follows s' after
-  follows_scanned mid after said stays placed copied stays' looked =
-      let x = by steps.Scan Scanned (λ e. cc) said in
-      let o = old_is x.is in
-      let p = placing mid x.is (scan_placed s c next t olds.0 heap x.before x.opened goes knows s' x.said there) stays placed copied in
-      let see = scan_looked s c next t olds.0 heap x.before x.opened goes knows s' x.said there mid p.1 p.2 in
-      let found : after.lost ≡ false = stays' p.0 (reread (λ o n. CanLook o n c.scan_place c.scan_field mid) (sym o) (sym are) see) in
-      let seen = reread (λ o n. Looked o n c.scan_place c.scan_field mid after) o are (looked found) in
-      on_with s s' next after x.is found (scan_go s c t heap x.before goes (heap_words olds.0 s) mid after next s' x.opened x.said there p.1 seen)
-      (scan_known s c next t olds.0 heap x.before x.opened goes knows s' x.said there mid p.1 p.2 after seen)
-
-  pub follows_passed : collect s steps.Scan ≡ (Passed, s') → Follows s' t
-  follows_passed said =
-      let x = by steps.Scan Passed (λ e. cc) said in
-      on_with s s' next t x.is f.found (passed_go s c t heap x.before goes next s' x.said there) (passed_known s c next t no_links heap x.before x.opened goes knows s' x.said there)
 
   pub follows_applied : (m : ℕ) (entry : ℕ × ℕ) (rest : List (ℕ × ℕ)) (mid after : Tables) → log_at c m ≡ entry ∷ rest → collect s (steps.Apply m) ≡ (Applied, s')
       → (t.lost ≡ false → CanPlaceNext old words t → mid.lost ≡ false) → (mid.lost ≡ false → Placed old words t mid) → (mid.lost ≡ false → OwesNone old words t mid)

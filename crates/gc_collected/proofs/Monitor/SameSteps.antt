@@ -10,8 +10,5 @@ use Rattle.gc_plan.specs.declared.step.StepReply.TheVariants.{Copied, Passed, Sc
 pub roots_or_same : (s s' : State) (reply : StepReply) → collect s steps.Roots ≡ (reply, s') → (reply ≡ Copied → ⊥) → s' ≡ s
 roots_or_same s s' reply said other = grind (arith, common_steps)
 
-pub scan_or_same : (s s' : State) (reply : StepReply) → collect s steps.Scan ≡ (reply, s') → (reply ≡ Scanned → ⊥) → (s' ≡ s) ⊎ ((reply ≡ Passed) × (next : Collection) × (s'.collection ≡ Some next))
-scan_or_same s s' reply said other = grind (arith, common_steps)
-
 pub apply_or_same : (s s' : State) (m : ℕ) (reply : StepReply) → collect s (steps.Apply m) ≡ (reply, s') → (reply ≡ Applied → ⊥) → s' ≡ s
 apply_or_same s s' m reply said other = grind (arith, common_steps)

@@ -23,17 +23,17 @@ use Rattle.gc_collected.proofs.Monitor.Agree.{replicas_shown}
 use Rattle.gc_collected.proofs.Monitor.Beside.{pair_stays}
 use Rattle.gc_collected.proofs.Monitor.Brought.{IsFresh, Brings, brings_none, brings_placed, brings, RootCopied, root_copied, FieldScanned, field_was_scanned, ReplicaPassed, replica_was_passed, entry_was_applied}
 use Rattle.gc_collected.proofs.Monitor.Claimed.{origin_is, is_at, can_place, can_look, can_apply}
-use Rattle.gc_collected.proofs.Monitor.Events.{Goes, field_scanned, entry_applied}
+use Rattle.gc_collected.proofs.Monitor.Events.{Goes, entry_applied}
 use Rattle.gc_collected.proofs.Monitor.Growth.{Adds, adds_none, adds_placed, adds_brought, adds_alike}
 use Rattle.gc_collected.proofs.Monitor.Known.{KnowsBy, placed_known, looked_is, looked_known}
 use Rattle.gc_collected.proofs.Monitor.Told.{Told, told_placed, told_marked, replica_there}
 
 -- what is known in one sense is known in another, if each field that is due in the first is in the second
-knows_from : (Due : Bool → ℕ → ℕ → ℕ → Type 0) (s : State) (c : Collection) (t : Tables) → KnowsBy Due s c t → (s.size ≤ t.room) × (c.size ≤ t.room)
+pub knows_from : (Due : Bool → ℕ → ℕ → ℕ → Type 0) (s : State) (c : Collection) (t : Tables) → KnowsBy Due s c t → (s.size ≤ t.room) × (c.size ≤ t.room)
     → ((r : Replica) → In r c.replicas → (i : ℕ) → i < length r.object.fields → Due r.object.raw r.place r.original i → IsDue c r.object.raw r.place r.original i) → Knows s c t
 knows_from Due s c t h rooms less = grind (arith, common_steps)
 
-logged_same : (c next : Collection) (a i : ℕ) → next.logs ≡ c.logs → IsLogged c a i → IsLogged next a i
+pub logged_same : (c next : Collection) (a i : ℕ) → next.logs ≡ c.logs → IsLogged c a i → IsLogged next a i
 logged_same c next a i same (k, l) = (k, subst (λ logs. In {X = ℕ × ℕ} (a, i) (unwrap_or (slice_get logs k) [])) (sym same) l)
 
 pub unscanned_same : (c next : Collection) (p i : ℕ) → next.scan_place ≡ c.scan_place → next.scan_field ≡ c.scan_field → IsUnscanned c p i → IsUnscanned next p i
@@ -84,146 +84,6 @@ module _ (s : State) (c next : Collection) (t : Tables) (links : ℕ → ℕ) (h
         (λ u. inl (u.0, unscanned_same c next r.place i root_brings.scan_place root_brings.scan_field u.1))
         (λ g. inr (logged_same c next r.original i root_brings.logs g))
         d)
-
-  -- ---- `Scan`
-
-  module _ (s' : State) (said : scan s c ≡ (Scanned, s')) (is : s'.collection ≡ Some next) where
-    field : FieldScanned s c next
-    field = field_was_scanned s s' c next said is
-
-    there : In field.replica c.replicas × (field.replica.place ≡ c.scan_place)
-    there = let f = find_some (λ (r : Replica). r.place == c.scan_place) c.replicas field.replica field.found in (f.0, eqb-true field.replica.place c.scan_place f.1)
-
-    mid_brings : Brings s.heap.graph.objects c field.mid
-    mid_brings = brings s.heap.graph.objects c before.belongs.laid s.heap.graph field.mid field.replica.original c.scan_field refl (field.replica, there.0, refl) field.brought
-
-    same_replicas : next.replicas ≡ field.mid.replicas
-    same_replicas = sym (ap (λ (x : Collection). x.replicas) field.is)
-
-    scan_adds : Adds c next
-    scan_adds = adds_alike c field.mid next same_replicas (adds_brought c field.mid s.heap.graph field.replica.original c.scan_field field.brought)
-
-    scan_fresh : (q : Replica) → In q next.replicas → q.place ≡ new_end c → IsFresh s.heap.graph.objects c q
-    scan_fresh q l e = mid_brings.fresh q (subst (In q) same_replicas l) e
-
-    scan_size : next.size ≡ c.size
-    scan_size = sym (ap (λ (x : Collection). x.size) field.is) ∙ mid_brings.size
-
-    kin : (q : Replica) × In q next.replicas × (pair q ≡ pair field.replica)
-    kin = pair_stays c next field.replica scan_adds there.0
-
-    q : Replica
-    q = kin.0
-
-    q_place : kin.0.place ≡ c.scan_place
-    q_place = ap (λ (p : ℕ × ℕ). p.1) kin.2 ∙ there.1
-
-    q_original : kin.0.original ≡ field.replica.original
-    q_original = ap (λ (p : ℕ × ℕ). p.0) kin.2
-
-    q_less : c.scan_field < length kin.0.object.fields
-    q_less =
-        let x = before.belongs.replicas field.replica there.0 in
-        let y = opened.belongs.replicas kin.0 kin.1 in
-        let same : y.original ≡ x.original = (let e : Some y.original ≡ Some x.original = sym y.found ∙ (ap (lookup s.heap.graph.objects) q_original ∙ x.found) in cc) in
-        let len : length kin.0.object.fields ≡ length field.replica.object.fields = y.len ∙ (ap (λ (o : Object). length o.fields) same ∙ sym x.len) in
-        let differ : c.scan_field ≢ length field.replica.object.fields = (λ e. absurd (let no : true ≡ false = sym (eq-eqb c.scan_field (length field.replica.object.fields) e) ∙ field.more in cc)) in
-        let most : c.scan_field ≤ length field.replica.object.fields = at_most before.belongs.scan in
-        omega arith
-      where
-        at_most : IsScanPlace c.scan_place c.scan_field c → c.scan_field ≤ length field.replica.object.fields
-        at_most (inl (r, l, place, le)) =
-            let one : r ≡ field.replica = same_place 1 c.replicas (new_end c) r field.replica before.belongs.laid l there.0 (place ∙ sym there.1) in
-            subst (λ (r : Replica). c.scan_field ≤ length r.object.fields) one le
-        at_most (inr (place, zero_is)) = omega arith
-
-    pub scan_placed : CanPlaceNext (heap_words links s) (replica_words next) t
-    scan_placed = can_place s c next t links heap before opened goes knows scan_adds scan_size
-
-    module _ (mid : Tables) (placed_is : Placed (heap_words links s) (replica_words next) t mid) (owes : OwesNone (heap_words links s) (replica_words next) t mid) where
-      scan_told : Told (heap_end s) c next t mid
-      scan_told = told_placed (heap_end s) c next (replica_words next) t goes.fits (replicas_shown s next links heap opened) (heap_words links s) mid scan_adds placed_is
-
-      pub scan_looked : CanLook (heap_words links s) (replica_words next) c.scan_place c.scan_field mid
-      scan_looked = subst (λ n. CanLook (heap_words links s) (replica_words next) n c.scan_field mid) q_place (can_look s next links heap opened mid kin.0 c.scan_field kin.1 scan_told.0 q_less)
-
-      pub scan_known : (after : Tables) → Looked (heap_words links s) (replica_words next) c.scan_place c.scan_field mid after → Knows s next after
-      scan_known after looked =
-          let at_origin = ap (λ n. get_or mid.origins n 0) (sym q_place) ∙ origin_is (heap_end s) next mid kin.0 scan_told.0 kin.1 (is_at s next links heap opened kin.0 kin.1).low in
-          let later = watch_of (with_due mid (field_place c.scan_place c.scan_field) false) in
-          looked_at mid after kin.0 c.scan_place c.scan_field scan_told (placed_known s c next t links heap before opened goes knows scan_adds scan_fresh mid placed_is owes) scan_size kin.1 q_place q_less at_origin looked
-          (λ fits loses. field_scanned s s' c next field.replica (watch_of t) later before goes field.found said is fits (subst (λ n. LosesOnly (new_end c) n c.scan_field (watch_of t) next later) q_original loses))
-          (λ r i l d apart. less r i d apart)
-        where
-          place_is : next.scan_place ≡ c.scan_place
-          place_is = sym (ap (λ (x : Collection). x.scan_place) field.is) ∙ mid_brings.scan_place
-
-          field_is : next.scan_field ≡ suc c.scan_field
-          field_is = sym (ap (λ (x : Collection). x.scan_field) field.is) ∙ ap suc mid_brings.scan_field
-
-          less : (r : Replica) (i : ℕ) → IsDue c r.object.raw r.place r.original i → ((r.place ≡ kin.0.place) × (i ≡ c.scan_field) → ⊥) → IsDue next r.object.raw r.place r.original i
-          less r i (inr g) apart = inr (logged_same c next r.original i (sym (ap (λ (x : Collection). x.logs) field.is) ∙ mid_brings.logs) g)
-          less r i (inl (plain, inl far)) apart = inl (plain, inl (let p : next.scan_place ≡ c.scan_place = place_is in omega arith))
-          less r i (inl (plain, inr (at, le))) apart =
-              let other : i ≢ c.scan_field = (λ e. apart (sym at ∙ sym q_place, e)) in
-              let f : next.scan_field ≡ suc c.scan_field = field_is in
-              inl (plain, inr (place_is ∙ at, (let x : c.scan_field ≤ i = le in omega arith)))
-
-  -- the replica at the scan pointer is passed
-  pub passed_known : (s' : State) → scan s c ≡ (Passed, s') → s'.collection ≡ Some next → Knows s next t
-  passed_known s' said is = record {
-    kept = knows.kept;
-    due = λ place d. let f = knows.due place d in (f.0, subst (In f.0) (sym same_rs) f.1, f.2, f.3, f.4, less f.0 f.1 f.2 f.3 f.5);
-    marks = subst (λ rs. Marks s.heap.graph.objects rs t) (sym same_rs) knows.marks;
-    old_room = knows.old_room;
-    new_room = subst (λ n. n ≤ t.room) (ap (λ (x : Collection). x.size) passed.is) knows.new_room;
-  }
-    where
-      passed : ReplicaPassed c next
-      passed = replica_was_passed s s' c next said is
-
-      r : Replica
-      r = passed.replica
-
-      same_rs : next.replicas ≡ c.replicas
-      same_rs = sym (ap (λ (x : Collection). x.replicas) passed.is)
-
-      at : In passed.replica c.replicas × (passed.replica.place ≡ c.scan_place)
-      at = let f = find_some (λ (r : Replica). r.place == c.scan_place) c.replicas passed.replica passed.found in (f.0, eqb-true passed.replica.place c.scan_place f.1)
-
-      next_is : next.scan_place ≡ c.scan_place + (length passed.replica.object.fields + 2)
-      next_is = sym (ap (λ (x : Collection). x.scan_place) passed.is)
-
-      field_is : next.scan_field ≡ 0
-      field_is = sym (ap (λ (x : Collection). x.scan_field) passed.is)
-
-      less : (q : Replica) → In q c.replicas → (i : ℕ) → i < length q.object.fields → IsDue c q.object.raw q.place q.original i → IsDue next q.object.raw q.place q.original i
-      less q l i small (inr g) = inr (logged_same c next q.original i (sym (ap (λ (x : Collection). x.logs) passed.is)) g)
-      less q l i small (inl (plain, inl far)) =
-          let place : passed.replica.place ≡ c.scan_place = at.1 in
-          let after : passed.replica.place + (length passed.replica.object.fields + 2) ≤ q.place = ⊎_elim
-          (λ e. (let p : passed.replica.place ≡ q.place = ap (λ (e : ℕ × Object). e.0) e in absurd (omega arith)))
-          (⊎_elim (λ b. b) (λ a. (let x : q.place + (length q.object.fields + 2) ≤ passed.replica.place = a in absurd (omega arith))))
-          (laid_apart 1 (map placed c.replicas) (new_end c) (placed passed.replica) (placed q) before.belongs.laid (in_map placed passed.replica c.replicas at.0) (in_map placed q c.replicas l)) in
-          let n : next.scan_place ≡ c.scan_place + (length passed.replica.object.fields + 2) = next_is in
-          let f : next.scan_field ≡ 0 = field_is in
-          inl (
-            plain,
-            elim (cases_eq next.scan_place q.place) [
-              | inl e ↦ inr (e, omega arith)
-              | inr o ↦ inl (omega arith)
-            ],
-          )
-      less q l i small (inl (plain, inr (place, le))) =
-          let one : q ≡ passed.replica = same_place 1 c.replicas (new_end c) q passed.replica before.belongs.laid l at.0 (sym place ∙ sym at.1) in
-          let raw : passed.replica.object.raw ≡ false = ap (λ (r : Replica). r.object.raw) (sym one) ∙ plain in
-          let len : length q.object.fields ≡ length passed.replica.object.fields = ap (λ (r : Replica). length r.object.fields) one in
-          let last : c.scan_field ≡ length passed.replica.object.fields = ⊎_elim
-          (λ y. absurd (let no : true ≡ false = sym y ∙ raw in cc))
-          (λ y. eqb-true c.scan_field (length passed.replica.object.fields) y)
-          (or_cases passed.replica.object.raw (c.scan_field == length passed.replica.object.fields) passed.done) in
-          let x : c.scan_field ≤ i = le in
-          absurd (omega arith)
 
   -- ---- `Apply`
 

@@ -3,7 +3,7 @@ use Rattle.std.proofs.lemmas.Bool.{eqb-true}
 use Rattle.std.proofs.Common.{◌≡◌, ◌⊎◌, inl, inr, ⊎_elim, ℕ, suc, ◌+◌, ◌-◌, ◌<◌, ◌≤◌, true, false, Some, IsFalse, ap, sym, subst, ◌∙◌, refl, arith}
 use Rattle.gc_words.specs.declared.header.Header.{Header}
 use Rattle.gc_along.specs.Tables.{Tables}
-use Rattle.gc_along.specs.Runs.{LookRun, LooksTo, IsBefore}
+use Rattle.gc_along.specs.Runs.{LookRun, IsBefore}
 use Rattle.gc_along.proofs.Runs.{looks_join}
 use Rattle.gc_along.proofs.standing.Standing.look_all.Goals as goal
 use Rattle.gc_along.proofs.standing.Standing.look_all.Goals.{then-is_raw, else-is_raw, then-place-to, else-place-to+then-field-end, then-place-to-2, else-place-to-2, then-place-to-3, else-place-to-3}

@@ -1,5 +1,5 @@
 -- A turn compares one field more, or loses the checker.
-use Rattle.std.proofs.Common.{◌≡◌, suc, ◌+◌, ◌-◌, false, IsFalse, ap, sym, subst, ◌∙◌, arith}
+use Rattle.std.proofs.Common.{◌≡◌, suc, ◌+◌, ◌-◌, IsFalse, ap, sym, subst, ◌∙◌, arith}
 use Rattle.gc_along.specs.Events.{Looked}
 use Rattle.gc_along.specs.Runs.{LooksTo}
 use Rattle.gc_along.specs.Tables.{Tables}

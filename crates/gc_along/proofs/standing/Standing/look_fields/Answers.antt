@@ -1,5 +1,5 @@
 -- A turn compares one field more.
-use Rattle.std.proofs.Common.{◌≡◌, ℕ, suc, ◌+◌, ◌-◌, ◌<◌, ◌≤◌, false, IsFalse, length, not, ap, sym, subst, ◌∙◌, arith, length-set}
+use Rattle.std.proofs.Common.{◌≡◌, suc, ◌+◌, ◌-◌, ◌<◌, ◌≤◌, length, not, ap, sym, subst, ◌∙◌, arith, length-set}
 use Rattle.std.specs.Prelude.{slice_index, slice_index_or}
 use Rattle.gc_words.specs.Word.{field_words_correspond}
 use Rattle.gc_words.specs.Layout.{field_place}
