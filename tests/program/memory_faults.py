@@ -25,7 +25,7 @@ BY_FROM, BY_ARM, BY_HAND = "From", "arm", "by hand"
 # Numbers that calls of the libraries for C return if they did nothing.
 NAMED_ANSWERS = ("NO_MEMORY", "OUT_OF_RANGE", "CLOSED", "OPEN", "TOO_LARGE", "BAD_LINE", "ENDS_EARLY")
 # Functions of these libraries whose contract says which number they return. None of them returns that of a fault.
-EXACT = ("end_of_new", "of_reply", "of_step", "owed_after", "seen")
+EXACT = ("of_reply", "of_step", "seen")
 # Crates of tests alone.
 TESTS = ("gc_test_kit", "gc_tests", "gc_shared_tests", "gc_trace_tests", "allocation_failures")
 
@@ -51,8 +51,7 @@ PLACES = {
     "gcflip_heap_c/src/raws.rt": {("gcflip_heap_raw_write", BY_ARM): 1},
     "gcflip_heap_c/src/opening.rt": {("gcflip_heap_open", BY_ARM): 1, ("gcflip_heap_touch", BY_ARM): 1},
     "gcflip_heap_c/src/stepping.rt": {("gcflip_heap_step_begin", BY_ARM): 1, ("gcflip_heap_step_begin_sized", BY_ARM): 1, ("gcflip_heap_step_flip", BY_ARM): 1},
-    "gcflip_heap_c/src/pace.rt": {("gcflip_heap_work_paced", BY_ARM): 1},
-    "gcflip_heap_c/src/work.rt": {("work_sized", BY_ARM): 1, ("gcflip_heap_work_within", BY_ARM): 1},
+    "gcflip_heap_c/src/work.rt": {("of_work", BY_ARM): 1},
     "gcflip_heap_c/src/checking.rt": {("gcflip_heap_check", BY_ARM): 1},
     "gc_copy/src/log.rt": {("add_segment", BY_HAND): 1},
     "gc_collected/src/checking.rt": {("found_by", BY_ARM): 1},
@@ -165,6 +164,11 @@ def matches_on_block(scrutinee):
     return not scrutinee or scrutinee[-1] == "!" or any(token in BLOCKS or re.match(r"'\w+$", token) for token in scrutinee)
 
 
+def may_make_a_fault(tokens):
+    """Returns whether a macro with these tokens could write a fault or its number: it has a fault's name, a digit, or a word by which faults go on."""
+    return any(token in CAUSES or token in ("Err", "match", "?") or token[0].isdigit() for token in tokens)
+
+
 def disguises_in(code):
     """Yields why the names of faults in a file may mean something else: another name, a default, or a pattern that binds."""
     for keyword, first, opened, end in code.heads:
@@ -184,8 +188,8 @@ def disguises_in(code):
     for at, token in enumerate(code.tokens):
         if token == "match" and matches_on_block(code.tokens[at + 1:code.until_brace(at + 1)]):
             yield "line %d: a block is matched on" % code.lines[at]
-        if token == "macro_rules":
-            yield "line %d: a macro is declared" % code.lines[at]
+        if token == "macro_rules" and may_make_a_fault(code.tokens[at:code.ends[at + 3]]):
+            yield "line %d: a macro is declared that may make a fault" % code.lines[at]
     uses = " ".join(code.text(head[1], head[2]) for head in code.heads if head[0] == "use")
     bare = [at for at, token in enumerate(code.tokens) if token in ("NoMemory", "AllocError") and code.tokens[at - 1] != "::" and not declared(code, at)]
     for name in sorted({code.tokens[at] for at in bare}):

@@ -1,4 +1,2 @@
 -- Definitions that only private contracts and proofs use. They are not part of the public interface.
-pub mod Leaving
 pub mod Lending
-pub mod Waiting

@@ -8,7 +8,8 @@ ghost use Rattle.gc_collected.specs.CollectedHeap.{Allocates};
 ghost use Rattle.gcflip_heap_c.specs.Answers.{closed_handle};
 ghost use Rattle.gcflip_heap_c.specs.Checking.{TellsFinding, IsSoundFinding};
 
-use crate::answer::{CLOSED, DONE, NO_MEMORY};
+use crate::answer::{DONE, NO_MEMORY};
+use crate::guards::lent;
 use crate::handle::GcflipHeap;
 use crate::reply::of_step;
 use gc_check::{GcflipVerdict, Sequential, Verdict};
@@ -40,10 +41,7 @@ pub extern "C" fn gcflip_heap_flip_checks(
     ensures closed { (result ≡ closed_handle) ↔ (heap.old.state ≡ None) }
     ensures beside { heap.new.beside ≡ heap.old.beside }
 {
-    if heap.is_empty() {
-        return CLOSED;
-    }
-    let counted = heap.heap_mut().flip_checks();
+    let counted = lent!(heap).flip_checks();
     *checks = GcflipFlipChecks {
         along: counted.along,
         whole: counted.whole,
@@ -80,10 +78,7 @@ pub extern "C" fn gcflip_heap_check(heap: &mut GcflipHeap, verdict: &mut GcflipV
     ensures closed { (result ≡ closed_handle) ↔ (heap.old.state ≡ None) }
     ensures beside { heap.new.beside ≡ heap.old.beside }
 {
-    if heap.is_empty() {
-        return CLOSED;
-    }
-    match heap.heap_mut().check(&Sequential) {
+    match lent!(heap).check(&Sequential) {
         Ok(found) => of_finding(found, verdict),
         Err(NoMemory) => NO_MEMORY,
     }

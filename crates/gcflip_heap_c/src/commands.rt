@@ -10,14 +10,15 @@ ghost use Rattle.gcflip_heap_c.specs.Commands.{IsCall, IsCommandCall, Replies};
 ghost use Rattle.gcflip_heap_c.specs.Replies.{reply_in_c, got_in_c, number_after, view_after};
 ghost use Rattle.gcflip_heap_c.specs.Slots.{NamesSlots, numbered_slot};
 
-use crate::answer::{CLOSED, NO_MEMORY, OUT_OF_RANGE};
+use crate::answer::{NO_MEMORY, OUT_OF_RANGE};
+use crate::guards::{lent_to, slot_named};
 use crate::handle::GcflipHeap;
 use crate::rare::{
     MOST_IN_LINE, new_long, new_long_raw, new_pair_while_open, put_number_while_open,
     put_while_open,
 };
 use crate::reply::{GcflipView, of_fetched, of_look, of_reply};
-use crate::slots::{NumberedSlots, SLOT_NUMBERS, are_slots, numbered_slot, slot};
+use crate::slots::{NumberedSlots, SLOT_NUMBERS, are_slots, numbered_slot};
 use gc_graph::{NoMemory, Number};
 
 /// Makes an object of this kind with `count` fields, all nil, and puts a reference to it into slot `d`.
@@ -34,19 +35,11 @@ pub extern "C" fn gcflip_heap_new_object(
     ensures memory { result ≢ no_memory }
     ensures beside { heap.new.beside ≡ heap.old.beside }
 {
-    if heap.is_empty() {
-        return CLOSED;
-    }
-    let heap = heap.heap_mut();
-    if m >= heap.mutators() {
-        return OUT_OF_RANGE;
-    }
+    let heap = lent_to!(heap, m);
     if count > MOST_IN_LINE {
         return new_long(heap, m, d, kind, count);
     }
-    let Some(d) = slot(d) else {
-        return OUT_OF_RANGE;
-    };
+    let d = slot_named!(d);
     of_reply(&heap.new_object(m, d, kind, count))
 }
 
@@ -64,19 +57,11 @@ pub extern "C" fn gcflip_heap_new_raw(
     ensures memory { result ≢ no_memory }
     ensures beside { heap.new.beside ≡ heap.old.beside }
 {
-    if heap.is_empty() {
-        return CLOSED;
-    }
-    let heap = heap.heap_mut();
-    if m >= heap.mutators() {
-        return OUT_OF_RANGE;
-    }
+    let heap = lent_to!(heap, m);
     if count > MOST_IN_LINE {
         return new_long_raw(heap, m, d, kind, count);
     }
-    let Some(d) = slot(d) else {
-        return OUT_OF_RANGE;
-    };
+    let d = slot_named!(d);
     of_reply(&heap.new_raw(m, d, kind, count))
 }
 
@@ -88,16 +73,8 @@ pub extern "C" fn gcflip_heap_set_number(heap: &mut GcflipHeap, m: u8, d: u8, n:
     ensures memory { result ≢ no_memory }
     ensures beside { heap.new.beside ≡ heap.old.beside }
 {
-    if heap.is_empty() {
-        return CLOSED;
-    }
-    let heap = heap.heap_mut();
-    if m >= heap.mutators() {
-        return OUT_OF_RANGE;
-    }
-    let Some(d) = slot(d) else {
-        return OUT_OF_RANGE;
-    };
+    let heap = lent_to!(heap, m);
+    let d = slot_named!(d);
     let Some(number) = Number::new(n) else {
         return OUT_OF_RANGE;
     };
@@ -111,16 +88,8 @@ pub extern "C" fn gcflip_heap_set_nil(heap: &mut GcflipHeap, m: u8, d: u8) -> u3
     ensures memory { result ≢ no_memory }
     ensures beside { heap.new.beside ≡ heap.old.beside }
 {
-    if heap.is_empty() {
-        return CLOSED;
-    }
-    let heap = heap.heap_mut();
-    if m >= heap.mutators() {
-        return OUT_OF_RANGE;
-    }
-    let Some(d) = slot(d) else {
-        return OUT_OF_RANGE;
-    };
+    let heap = lent_to!(heap, m);
+    let d = slot_named!(d);
     of_reply(&heap.nil(m, d))
 }
 
@@ -132,19 +101,9 @@ pub extern "C" fn gcflip_heap_move(heap: &mut GcflipHeap, m: u8, d: u8, s: u8) -
     ensures memory { result ≢ no_memory }
     ensures beside { heap.new.beside ≡ heap.old.beside }
 {
-    if heap.is_empty() {
-        return CLOSED;
-    }
-    let heap = heap.heap_mut();
-    if m >= heap.mutators() {
-        return OUT_OF_RANGE;
-    }
-    let Some(d) = slot(d) else {
-        return OUT_OF_RANGE;
-    };
-    let Some(s) = slot(s) else {
-        return OUT_OF_RANGE;
-    };
+    let heap = lent_to!(heap, m);
+    let d = slot_named!(d);
+    let s = slot_named!(s);
     of_reply(&heap.move_slot(m, d, s))
 }
 
@@ -165,19 +124,9 @@ pub extern "C" fn gcflip_heap_get(
     ensures memory { result ≢ no_memory }
     ensures beside { heap.new.beside ≡ heap.old.beside }
 {
-    if heap.is_empty() {
-        return CLOSED;
-    }
-    let heap = heap.heap_mut();
-    if m >= heap.mutators() {
-        return OUT_OF_RANGE;
-    }
-    let Some(d) = slot(d) else {
-        return OUT_OF_RANGE;
-    };
-    let Some(s) = slot(s) else {
-        return OUT_OF_RANGE;
-    };
+    let heap = lent_to!(heap, m);
+    let d = slot_named!(d);
+    let s = slot_named!(s);
     of_fetched(heap.fetch(m, d, s, i), number)
 }
 
@@ -190,22 +139,12 @@ pub extern "C" fn gcflip_heap_put(heap: &mut GcflipHeap, m: u8, s: u8, i: u16, t
     ensures memory { result ≡ no_memory → IsSomeAnd heap.old.state (λ s. IsSome s.collection) }
     ensures beside { heap.new.beside ≡ heap.old.beside }
 {
-    if heap.is_empty() {
-        return CLOSED;
-    }
-    let heap = heap.heap_mut();
-    if m >= heap.mutators() {
-        return OUT_OF_RANGE;
-    }
+    let heap = lent_to!(heap, m);
     if heap.is_open() {
         return put_while_open(heap, m, s, i, t);
     }
-    let Some(s) = slot(s) else {
-        return OUT_OF_RANGE;
-    };
-    let Some(t) = slot(t) else {
-        return OUT_OF_RANGE;
-    };
+    let s = slot_named!(s);
+    let t = slot_named!(t);
     match heap.put(m, s, i, t) {
         Ok(reply) => of_reply(&reply),
         Err(NoMemory) => NO_MEMORY,
@@ -228,13 +167,7 @@ pub extern "C" fn gcflip_heap_put_number(
     ensures memory { result ≡ no_memory → IsSomeAnd heap.old.state (λ s. IsSome s.collection) }
     ensures beside { heap.new.beside ≡ heap.old.beside }
 {
-    if heap.is_empty() {
-        return CLOSED;
-    }
-    let heap = heap.heap_mut();
-    if m >= heap.mutators() {
-        return OUT_OF_RANGE;
-    }
+    let heap = lent_to!(heap, m);
     if heap.is_open() {
         return put_number_while_open(heap, m, s, i, t, n);
     }
@@ -260,19 +193,9 @@ pub extern "C" fn gcflip_heap_put_nil(heap: &mut GcflipHeap, m: u8, s: u8, i: u1
     ensures memory { result ≡ no_memory → IsSomeAnd heap.old.state (λ s. IsSome s.collection) }
     ensures beside { heap.new.beside ≡ heap.old.beside }
 {
-    if heap.is_empty() {
-        return CLOSED;
-    }
-    let heap = heap.heap_mut();
-    if m >= heap.mutators() {
-        return OUT_OF_RANGE;
-    }
-    let Some(s) = slot(s) else {
-        return OUT_OF_RANGE;
-    };
-    let Some(t) = slot(t) else {
-        return OUT_OF_RANGE;
-    };
+    let heap = lent_to!(heap, m);
+    let s = slot_named!(s);
+    let t = slot_named!(t);
     match heap.put_nil(m, s, i, t) {
         Ok(reply) => of_reply(&reply),
         Err(NoMemory) => NO_MEMORY,
@@ -296,13 +219,7 @@ pub extern "C" fn gcflip_heap_new_pair(
     ensures memory { result ≡ no_memory → IsSomeAnd heap.old.state (λ s. IsSome s.collection) }
     ensures beside { heap.new.beside ≡ heap.old.beside }
 {
-    if heap.is_empty() {
-        return CLOSED;
-    }
-    let heap = heap.heap_mut();
-    if m >= heap.mutators() {
-        return OUT_OF_RANGE;
-    }
+    let heap = lent_to!(heap, m);
     if heap.is_open() {
         return new_pair_while_open(heap, m, d, kind, s, t);
     }
@@ -333,16 +250,8 @@ pub extern "C" fn gcflip_heap_new_from(
     ensures memory { result ≡ no_memory → IsSomeAnd heap.old.state (λ s. IsSome s.collection) }
     ensures beside { heap.new.beside ≡ heap.old.beside }
 {
-    if heap.is_empty() {
-        return CLOSED;
-    }
-    let heap = heap.heap_mut();
-    if m >= heap.mutators() {
-        return OUT_OF_RANGE;
-    }
-    let Some(d) = slot(d) else {
-        return OUT_OF_RANGE;
-    };
+    let heap = lent_to!(heap, m);
+    let d = slot_named!(d);
     if fields.len() > usize::from(u16::MAX) || !are_slots(fields) {
         return OUT_OF_RANGE;
     }
@@ -361,19 +270,9 @@ pub extern "C" fn gcflip_heap_same(heap: &mut GcflipHeap, m: u8, s: u8, t: u8) -
     ensures memory { result ≢ no_memory }
     ensures beside { heap.new.beside ≡ heap.old.beside }
 {
-    if heap.is_empty() {
-        return CLOSED;
-    }
-    let heap = heap.heap_mut();
-    if m >= heap.mutators() {
-        return OUT_OF_RANGE;
-    }
-    let Some(s) = slot(s) else {
-        return OUT_OF_RANGE;
-    };
-    let Some(t) = slot(t) else {
-        return OUT_OF_RANGE;
-    };
+    let heap = lent_to!(heap, m);
+    let s = slot_named!(s);
+    let t = slot_named!(t);
     of_reply(&heap.same(m, s, t))
 }
 
@@ -391,15 +290,7 @@ pub extern "C" fn gcflip_heap_look(
     ensures memory { result ≢ no_memory }
     ensures beside { heap.new.beside ≡ heap.old.beside }
 {
-    if heap.is_empty() {
-        return CLOSED;
-    }
-    let heap = heap.heap_mut();
-    if m >= heap.mutators() {
-        return OUT_OF_RANGE;
-    }
-    let Some(s) = slot(s) else {
-        return OUT_OF_RANGE;
-    };
+    let heap = lent_to!(heap, m);
+    let s = slot_named!(s);
     of_look(&heap.look(m, s), view)
 }

@@ -6,10 +6,10 @@ ghost use Rattle.gc_collected.specs.Copying.{copy_fields_step};
 ghost use Rattle.gcflip_heap_c.specs.Commands.{IsCommandCall};
 ghost use Rattle.gcflip_heap_c.specs.Slots.{NamesSlots, numbered_slot};
 
-use crate::answer::{CLOSED, NO_MEMORY, OUT_OF_RANGE};
+use crate::answer::{NO_MEMORY, OUT_OF_RANGE};
+use crate::guards::{lent_to, slot_named};
 use crate::handle::GcflipHeap;
 use crate::reply::of_reply;
-use crate::slots::slot;
 use gc_graph::NoMemory;
 
 /// Copies `count` fields: from field `from` on, of the object that slot `s` refers to, to field `to` and on of the object that slot `d`
@@ -31,22 +31,13 @@ pub extern "C" fn gcflip_heap_copy_fields(
     ensures memory { result ≡ no_memory → IsSomeAnd heap.old.state (λ s. IsSome s.collection) }
     ensures beside { heap.new.beside ≡ heap.old.beside }
 {
-    if heap.is_empty() {
-        return CLOSED;
-    }
-    let heap = heap.heap_mut();
-    if m >= heap.mutators() || t == d || t == s {
+    let heap = lent_to!(heap, m);
+    if t == d || t == s {
         return OUT_OF_RANGE;
     }
-    let Some(target) = slot(d) else {
-        return OUT_OF_RANGE;
-    };
-    let Some(source) = slot(s) else {
-        return OUT_OF_RANGE;
-    };
-    let Some(value) = slot(t) else {
-        return OUT_OF_RANGE;
-    };
+    let target = slot_named!(d);
+    let source = slot_named!(s);
+    let value = slot_named!(t);
     match heap.copy_fields(m, target, to, source, from, value, count) {
         Ok(reply) => of_reply(&reply),
         Err(NoMemory) => NO_MEMORY,

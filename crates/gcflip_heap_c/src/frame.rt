@@ -6,52 +6,29 @@ ghost use Rattle.gc_plan.specs.State.{extra_roots_of};
 ghost use Rattle.gc_collected.specs.ExtraRoots.{clear_step};
 ghost use Rattle.gcflip_heap_c.specs.Answers.{frame_full, frame_empty};
 ghost use Rattle.gcflip_heap_c.specs.Commands.{IsCall, IsCommandCall};
-ghost use Rattle.gcflip_heap_c.specs.ExtraRoots.{load_step, store_step, pop_step, HasFrame, NamesFrame, IsFrameCall};
-ghost use Rattle.gcflip_heap_c.specs.Slots.{NamesSlots};
+ghost use Rattle.gc_pace.specs.Frames.{load_step, store_step, pop_step};
+ghost use Rattle.gcflip_heap_c.specs.ExtraRoots.{NamesFrame, IsFrameCall};
+ghost use Rattle.gcflip_heap_c.specs.Slots.{NamesSlots, numbered_slot};
 
-use crate::answer::{CLOSED, DONE, FRAME_EMPTY, FRAME_FULL, OUT_OF_RANGE};
+use crate::answer::{DONE, FRAME_EMPTY, FRAME_FULL, OUT_OF_RANGE};
+use crate::guards::{lent, lent_to, slot_named};
 use crate::handle::GcflipHeap;
 use crate::reply::of_reply;
-use crate::slots::slot;
-use gc_collected::CollectedHeap;
-
-/// A frame: the extra roots from `first` on and below `end` as a stack, as C sees it. Those below `top` hold its values.
-#[repr(C)]
-#[derive(Clone, Copy, Debug, Drop, PartialEq, Eq)]
-pub struct GcflipFrame {
-    /// The first extra root of the frame.
-    pub first: u32,
-    /// The extra root behind its last one.
-    pub end: u32,
-    /// The extra root that the next push sets.
-    pub top: u32,
-}
-
-/// Returns whether the numbers of the frame are in order, and the heap has its roots.
-fn is_frame(heap: &CollectedHeap, frame: &GcflipFrame) -> bool
-    ensures { IsTrue result ↔ HasFrame frame.now heap.now.core }
-{
-    frame.first <= frame.top && frame.top <= frame.end && frame.end <= heap.extra_roots()
-}
+use gc_pace::Frame;
 
 /// Copies the value of extra root `k` into slot `d`.
 #[unsafe(no_mangle)]
 pub extern "C" fn gcflip_heap_root_load(heap: &mut GcflipHeap, m: u8, d: u8, k: u32) -> u32
     ensures call { IsCommandCall (λ state. NamesSlots m (d ∷ []) state × (k < extra_roots_of state))
-        (λ state. load_step state m d k) heap.old.state heap.new.state result }
+        (λ state. load_step state m (numbered_slot d) k) heap.old.state heap.new.state result }
     ensures memory { result ≢ no_memory }
     ensures beside { heap.new.beside ≡ heap.old.beside }
 {
-    if heap.is_empty() {
-        return CLOSED;
-    }
-    let heap = heap.heap_mut();
-    if m >= heap.mutators() || k >= heap.extra_roots() {
+    let heap = lent_to!(heap, m);
+    if k >= heap.extra_roots() {
         return OUT_OF_RANGE;
     }
-    let Some(d) = slot(d) else {
-        return OUT_OF_RANGE;
-    };
+    let d = slot_named!(d);
     of_reply(&heap.load(m, d, k))
 }
 
@@ -59,20 +36,15 @@ pub extern "C" fn gcflip_heap_root_load(heap: &mut GcflipHeap, m: u8, d: u8, k: 
 #[unsafe(no_mangle)]
 pub extern "C" fn gcflip_heap_root_store(heap: &mut GcflipHeap, m: u8, k: u32, s: u8) -> u32
     ensures call { IsCommandCall (λ state. NamesSlots m (s ∷ []) state × (k < extra_roots_of state))
-        (λ state. store_step state m k s) heap.old.state heap.new.state result }
+        (λ state. store_step state m k (numbered_slot s)) heap.old.state heap.new.state result }
     ensures memory { result ≢ no_memory }
     ensures beside { heap.new.beside ≡ heap.old.beside }
 {
-    if heap.is_empty() {
-        return CLOSED;
-    }
-    let heap = heap.heap_mut();
-    if m >= heap.mutators() || k >= heap.extra_roots() {
+    let heap = lent_to!(heap, m);
+    if k >= heap.extra_roots() {
         return OUT_OF_RANGE;
     }
-    let Some(s) = slot(s) else {
-        return OUT_OF_RANGE;
-    };
+    let s = slot_named!(s);
     of_reply(&heap.store(m, k, s))
 }
 
@@ -84,10 +56,7 @@ pub extern "C" fn gcflip_heap_root_clear(heap: &mut GcflipHeap, from: u32, to: u
     ensures memory { result ≢ no_memory }
     ensures beside { heap.new.beside ≡ heap.old.beside }
 {
-    if heap.is_empty() {
-        return CLOSED;
-    }
-    let heap = heap.heap_mut();
+    let heap = lent!(heap);
     if from > to || to > heap.extra_roots() {
         return OUT_OF_RANGE;
     }
@@ -101,30 +70,23 @@ pub extern "C" fn gcflip_heap_frame_push(
     heap: &mut GcflipHeap,
     m: u8,
     s: u8,
-    frame: &mut GcflipFrame,
+    frame: &mut Frame,
 ) -> u32
     ensures call { IsFrameCall (NamesFrame m s frame.old) (frame.old.top ≡ frame.old.end) frame_full
-        (λ state. store_step state m frame.old.top s) heap.old.state heap.new.state result }
+        (λ state. store_step state m frame.old.top (numbered_slot s)) heap.old.state heap.new.state result }
     ensures frame { ¬ IsRefusal result → frame.new ≡ record frame.old { top = suc frame.old.top } }
     ensures silent { IsRefusal result → frame.new ≡ frame.old }
     ensures beside { heap.new.beside ≡ heap.old.beside }
 {
-    if heap.is_empty() {
-        return CLOSED;
-    }
-    let heap = heap.heap_mut();
-    if m >= heap.mutators() || !is_frame(heap, frame) {
+    let heap = lent_to!(heap, m);
+    if !frame.is_in(heap) {
         return OUT_OF_RANGE;
     }
-    let Some(s) = slot(s) else {
-        return OUT_OF_RANGE;
-    };
-    if frame.top == frame.end {
-        return FRAME_FULL;
+    let s = slot_named!(s);
+    match frame.push(heap, m, s) {
+        None => FRAME_FULL,
+        Some(reply) => of_reply(&reply),
     }
-    let reply = heap.store(m, frame.top, s);
-    frame.top += 1;
-    of_reply(&reply)
 }
 
 /// Moves the top of the frame down, copies the value there into slot `d`, and sets that root to nil. Returns 6 if the
@@ -134,30 +96,21 @@ pub extern "C" fn gcflip_heap_frame_pop(
     heap: &mut GcflipHeap,
     m: u8,
     d: u8,
-    frame: &mut GcflipFrame,
+    frame: &mut Frame,
 ) -> u32
     ensures call { IsFrameCall (NamesFrame m d frame.old) (frame.old.top ≡ frame.old.first) frame_empty
-        (λ state. pop_step state m d (frame.old.top - 1)) heap.old.state heap.new.state result }
+        (λ state. pop_step state m (numbered_slot d) (frame.old.top - 1)) heap.old.state heap.new.state result }
     ensures frame { ¬ IsRefusal result → frame.new ≡ record frame.old { top = frame.old.top - 1 } }
     ensures silent { IsRefusal result → frame.new ≡ frame.old }
     ensures beside { heap.new.beside ≡ heap.old.beside }
 {
-    if heap.is_empty() {
-        return CLOSED;
-    }
-    let heap = heap.heap_mut();
-    if m >= heap.mutators() || !is_frame(heap, frame) {
+    let heap = lent_to!(heap, m);
+    if !frame.is_in(heap) {
         return OUT_OF_RANGE;
     }
-    let Some(d) = slot(d) else {
-        return OUT_OF_RANGE;
-    };
-    if frame.top == frame.first {
-        return FRAME_EMPTY;
+    let d = slot_named!(d);
+    match frame.pop(heap, m, d) {
+        None => FRAME_EMPTY,
+        Some(reply) => of_reply(&reply),
     }
-    let top = frame.top - 1;
-    let reply = heap.load(m, d, top);
-    heap.clear(top, frame.top);
-    frame.top = top;
-    of_reply(&reply)
 }

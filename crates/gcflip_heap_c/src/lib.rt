@@ -6,8 +6,8 @@ mod checking;
 mod commands;
 mod copying;
 mod frame;
+mod guards;
 mod handle;
-mod laws;
 mod mixed;
 mod moved;
 mod opening;
@@ -31,18 +31,17 @@ pub use commands::{
 };
 pub use copying::gcflip_heap_copy_fields;
 pub use frame::{
-    GcflipFrame, gcflip_heap_frame_pop, gcflip_heap_frame_push, gcflip_heap_root_clear,
-    gcflip_heap_root_load, gcflip_heap_root_store,
+    gcflip_heap_frame_pop, gcflip_heap_frame_push, gcflip_heap_root_clear, gcflip_heap_root_load,
+    gcflip_heap_root_store,
 };
 pub use handle::GcflipHeap;
-pub use laws::paced_work_bounds_logs;
 pub use mixed::{GcflipField, gcflip_heap_new_with};
 pub use moved::gcflip_heap_moved;
 pub use opening::{GcflipOptions, gcflip_heap_close, gcflip_heap_open};
-pub use pace::{GcflipPace, gcflip_heap_pace, gcflip_heap_work_paced, gcflip_pace_due};
+pub use pace::{gcflip_heap_pace, gcflip_heap_work_paced, gcflip_pace_due};
 pub use raws::{gcflip_heap_address, gcflip_heap_raw_read, gcflip_heap_raw_write};
 pub use reading::{
-    GcflipCounts, GcflipLogEntry, gcflip_heap_counts, gcflip_heap_image, gcflip_heap_log_entry,
+    GcflipLogEntry, gcflip_heap_counts, gcflip_heap_image, gcflip_heap_log_entry,
     gcflip_heap_log_length, gcflip_heap_new_words,
 };
 pub use referring::gcflip_heap_refer;

@@ -8,10 +8,11 @@ ghost use Rattle.gcflip_heap_c.specs.Commands.{IsCommandCall};
 ghost use Rattle.gcflip_heap_c.specs.Mixed.{is_source, source_of as source_in, AreSources};
 ghost use Rattle.gcflip_heap_c.specs.Slots.{NamesSlots, numbered_slot};
 
-use crate::answer::{CLOSED, NO_MEMORY, OUT_OF_RANGE};
+use crate::answer::{NO_MEMORY, OUT_OF_RANGE};
+use crate::guards::{lent_to, slot_named};
 use crate::handle::GcflipHeap;
 use crate::reply::of_reply;
-use crate::slots::{SLOT_NUMBERS, numbered_slot, slot};
+use crate::slots::{SLOT_NUMBERS, numbered_slot};
 use gc_collected::{FieldSource, SourceRow};
 use gc_graph::{NoMemory, Number};
 
@@ -100,19 +101,12 @@ pub extern "C" fn gcflip_heap_new_with(
     ensures memory { result ≡ no_memory → IsSomeAnd heap.old.state (λ s. IsSome s.collection) }
     ensures beside { heap.new.beside ≡ heap.old.beside }
 {
-    if heap.is_empty() {
-        return CLOSED;
-    }
-    let heap = heap.heap_mut();
-    if m >= heap.mutators() || t == d {
+    let heap = lent_to!(heap, m);
+    if t == d {
         return OUT_OF_RANGE;
     }
-    let Some(object) = slot(d) else {
-        return OUT_OF_RANGE;
-    };
-    let Some(number) = slot(t) else {
-        return OUT_OF_RANGE;
-    };
+    let object = slot_named!(d);
+    let number = slot_named!(t);
     if fields.len() > usize::from(u16::MAX) || !are_sources(fields) {
         return OUT_OF_RANGE;
     }

@@ -6,7 +6,8 @@ ghost use Rattle.gc_copy.specs.Words.{moved_in};
 ghost use Rattle.gcflip_heap_c.specs.Commands.{IsCall};
 ghost use Rattle.gcflip_heap_c.specs.Raws.{TellsAddress};
 
-use crate::answer::{CLOSED, DONE, NO_OBJECT, OUT_OF_RANGE};
+use crate::answer::{DONE, NO_OBJECT, OUT_OF_RANGE};
+use crate::guards::lent;
 use crate::handle::GcflipHeap;
 use gc_copy::Room;
 use gc_words::OldAddr;
@@ -37,10 +38,7 @@ pub extern "C" fn gcflip_heap_moved(heap: &mut GcflipHeap, old: u32, address: &m
     ensures memory { result ≢ no_memory }
     ensures beside { heap.new.beside ≡ heap.old.beside }
 {
-    if heap.is_empty() {
-        return CLOSED;
-    }
-    match heap.heap_mut().former() {
+    match lent!(heap).former() {
         None => OUT_OF_RANGE,
         Some(former) => read_moved(former, old, address),
     }

@@ -9,6 +9,7 @@ ghost use Rattle.gcflip_heap_c.specs.Answers.{out_of_range, closed_handle, open_
 ghost use Rattle.gcflip_heap_c.specs.Opening.{CanOpenWith, checking_in, options_in};
 
 use crate::answer::{CLOSED, DONE, NO_MEMORY, OPEN, OUT_OF_RANGE};
+use crate::guards::lent;
 use crate::handle::GcflipHeap;
 use gc_collected::{Checking, CollectedHeap};
 use gc_graph::{MOST_MUTATORS, NoMemory};
@@ -93,10 +94,7 @@ pub extern "C" fn gcflip_heap_touch(heap: &mut GcflipHeap) -> u32
     ensures kept { 1 ≤ result → heap.new.beside ≡ heap.old.beside }
     ensures closed { (result ≡ closed_handle) ↔ (heap.old.state ≡ None) }
 {
-    if heap.is_empty() {
-        return CLOSED;
-    }
-    match heap.heap_mut().touch() {
+    match lent!(heap).touch() {
         Ok(()) => DONE,
         Err(NoMemory) => NO_MEMORY,
     }

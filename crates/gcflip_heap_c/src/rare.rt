@@ -10,8 +10,9 @@ ghost use Rattle.gcflip_heap_c.specs.Commands.{IsCommandCall};
 ghost use Rattle.gcflip_heap_c.specs.Slots.{NamesSlots, numbered_slot};
 
 use crate::answer::{NO_MEMORY, OUT_OF_RANGE};
+use crate::guards::slot_named;
 use crate::reply::of_reply;
-use crate::slots::{SLOT_NUMBERS, numbered_slot, slot};
+use crate::slots::{SLOT_NUMBERS, numbered_slot};
 use gc_collected::CollectedHeap;
 use gc_graph::{NoMemory, Number};
 
@@ -27,9 +28,7 @@ pub(crate) fn new_long(heap: &mut CollectedHeap, m: u8, d: u8, kind: u8, count: 
     ensures beside { heap.new.beside ≡ heap.old.beside }
     ensures memory { result ≢ no_memory }
 {
-    let Some(d) = slot(d) else {
-        return OUT_OF_RANGE;
-    };
+    let d = slot_named!(d);
     of_reply(&heap.new_object(m, d, kind, count))
 }
 
@@ -42,9 +41,7 @@ pub(crate) fn new_long_raw(heap: &mut CollectedHeap, m: u8, d: u8, kind: u8, cou
     ensures beside { heap.new.beside ≡ heap.old.beside }
     ensures memory { result ≢ no_memory }
 {
-    let Some(d) = slot(d) else {
-        return OUT_OF_RANGE;
-    };
+    let d = slot_named!(d);
     of_reply(&heap.new_raw(m, d, kind, count))
 }
 

@@ -8,10 +8,10 @@ ghost use Rattle.gcflip_heap_c.specs.Commands.{IsCall, IsCommandCall};
 ghost use Rattle.gcflip_heap_c.specs.Raws.{Reads, address_in, TellsAddress};
 ghost use Rattle.gcflip_heap_c.specs.Slots.{NamesSlots, numbered_slot};
 
-use crate::answer::{CLOSED, DONE, NO_FIELD, NO_MEMORY, NO_OBJECT, OUT_OF_RANGE};
+use crate::answer::{DONE, NO_FIELD, NO_MEMORY, NO_OBJECT, OUT_OF_RANGE};
+use crate::guards::{lent_to, slot_named};
 use crate::handle::GcflipHeap;
 use crate::reply::of_reply;
-use crate::slots::slot;
 use gc_collected::CollectedHeap;
 use gc_graph::{NoMemory, Slot};
 
@@ -48,16 +48,8 @@ pub extern "C" fn gcflip_heap_raw_read(
     ensures memory { result ≢ no_memory }
     ensures beside { heap.new.beside ≡ heap.old.beside }
 {
-    if heap.is_empty() {
-        return CLOSED;
-    }
-    let heap = heap.heap_mut();
-    let Some(s) = slot(s) else {
-        return OUT_OF_RANGE;
-    };
-    if m >= heap.mutators() {
-        return OUT_OF_RANGE;
-    }
+    let heap = lent_to!(heap, m);
+    let s = slot_named!(s);
     read_raw(heap, m, s, first, words)
 }
 
@@ -78,19 +70,12 @@ pub extern "C" fn gcflip_heap_raw_write(
     ensures memory { result ≡ no_memory → IsSomeAnd heap.old.state (λ s. IsSome s.collection) }
     ensures beside { heap.new.beside ≡ heap.old.beside }
 {
-    if heap.is_empty() {
-        return CLOSED;
-    }
-    let heap = heap.heap_mut();
-    if m >= heap.mutators() || s == t {
+    let heap = lent_to!(heap, m);
+    if s == t {
         return OUT_OF_RANGE;
     }
-    let Some(object) = slot(s) else {
-        return OUT_OF_RANGE;
-    };
-    let Some(number) = slot(t) else {
-        return OUT_OF_RANGE;
-    };
+    let object = slot_named!(s);
+    let number = slot_named!(t);
     match heap.put_numbers(m, object, first, number, words) {
         Ok(reply) => of_reply(&reply),
         Err(NoMemory) => NO_MEMORY,
@@ -121,15 +106,7 @@ pub extern "C" fn gcflip_heap_address(heap: &mut GcflipHeap, m: u8, s: u8, addre
     ensures memory { result ≢ no_memory }
     ensures beside { heap.new.beside ≡ heap.old.beside }
 {
-    if heap.is_empty() {
-        return CLOSED;
-    }
-    let heap = heap.heap_mut();
-    let Some(s) = slot(s) else {
-        return OUT_OF_RANGE;
-    };
-    if m >= heap.mutators() {
-        return OUT_OF_RANGE;
-    }
+    let heap = lent_to!(heap, m);
+    let s = slot_named!(s);
     read_address(heap, m, s, address)
 }

@@ -4,39 +4,14 @@ ghost use Rattle.std.specs.Prelude.{◌≡◌, ◌≢◌, ◌≤◌, ◌⊎◌, 
 ghost use Rattle.gc_check.specs.InC.{done};
 ghost use Rattle.gc_collected.specs.Readings.{heap_image, new_words, log_of};
 ghost use Rattle.gcflip_heap_c.specs.Answers.{out_of_range, closed_handle, damaged};
-ghost use Rattle.gcflip_heap_c.specs.Readings.{counts_of, logged_in, log_entry_at, FitsImage};
+ghost use Rattle.gc_pace.specs.Counts.{counts_of};
+ghost use Rattle.gcflip_heap_c.specs.Readings.{log_entry_at, FitsImage};
 
-use crate::answer::{CLOSED, DAMAGED, DONE, OUT_OF_RANGE};
+use crate::answer::{DAMAGED, DONE, OUT_OF_RANGE};
+use crate::guards::{lent, lent_to};
 use crate::handle::GcflipHeap;
 use gc_collected::CollectedHeap;
-
-/// The sizes of a heap, and how far its open collection has come, as C sees them. Sizes and addresses are in words.
-#[repr(C)]
-#[derive(Clone, Copy, Debug, Drop, PartialEq, Eq)]
-pub struct GcflipCounts {
-    /// The size of the mutators' space.
-    pub size: u32,
-    /// The first word that no object takes.
-    pub end: u32,
-    /// The number of words that no object takes.
-    pub free: u32,
-    /// The number of mutators.
-    pub mutators: u32,
-    /// The number of extra roots.
-    pub extra_roots: u32,
-    /// 1 if a collection is open, otherwise 0. If it is 0, so are all members after it.
-    pub is_open: u32,
-    /// The size of the new space (to-space).
-    pub new_size: u32,
-    /// The first word of the new space that no replica takes.
-    pub new_end: u32,
-    /// The address of the replica at the scan pointer, or `new_end` if all replicas are scanned.
-    pub scan_place: u32,
-    /// The number of fields of that replica that are already scanned.
-    pub scan_field: u32,
-    /// The number of entries in all logs, or 4,294,967,295 if there are more.
-    pub logged: u32,
-}
+use gc_pace::Counts;
 
 /// A log entry as C sees it: the field that a mutator wrote.
 #[repr(C)]
@@ -48,49 +23,9 @@ pub struct GcflipLogEntry {
     pub field: u32,
 }
 
-/// Returns the number of entries in all logs, up to the largest `u32`.
-#[tactic(auto, using(crate::proofs::Logged::entries_next, crate::proofs::Logged::entries_end))]
-fn logged_in(heap: &CollectedHeap) -> u32
-    ensures { result ≡ logged_in heap.now.core }
-{
-    heap.is_sound();
-    let mut total: u128 = 0;
-    for m in 0..heap.mutators() {
-        total += heap.log_len(m) as u128;
-    }
-    total.min(u128::from(u32::MAX)) as u32
-}
-
-/// Reads the counts.
-pub(crate) fn counts_of(heap: &CollectedHeap) -> GcflipCounts
-    ensures { result ≡ counts_of heap.now.core }
-{
-    let mut counts = GcflipCounts {
-        size: heap.size(),
-        end: heap.end(),
-        free: heap.free(),
-        mutators: u32::from(heap.mutators()),
-        extra_roots: heap.extra_roots(),
-        is_open: 0,
-        new_size: 0,
-        new_end: 0,
-        scan_place: 0,
-        scan_field: 0,
-        logged: logged_in(heap),
-    };
-    if let Some(space) = heap.new_space() {
-        counts.is_open = 1;
-        counts.new_size = space.size;
-        counts.new_end = space.end;
-        counts.scan_place = space.scan_place;
-        counts.scan_field = u32::from(space.scan_field);
-    }
-    counts
-}
-
 /// Reads the sizes of the heap, and how far its open collection has come.
 #[unsafe(no_mangle)]
-pub extern "C" fn gcflip_heap_counts(heap: &mut GcflipHeap, counts: &mut GcflipCounts) -> u32
+pub extern "C" fn gcflip_heap_counts(heap: &mut GcflipHeap, counts: &mut Counts) -> u32
     ensures answers { (result ≡ done) ⊎ (result ≡ closed_handle) }
     ensures counts { IfSome heap.old.state (λ s. counts.new ≡ counts_of s) }
     ensures heap { heap.new.state ≡ heap.old.state }
@@ -98,10 +33,7 @@ pub extern "C" fn gcflip_heap_counts(heap: &mut GcflipHeap, counts: &mut GcflipC
     ensures closed { (result ≡ closed_handle) ↔ (heap.old.state ≡ None) }
     ensures beside { heap.new.beside ≡ heap.old.beside }
 {
-    if heap.is_empty() {
-        return CLOSED;
-    }
-    *counts = counts_of(heap.heap_mut());
+    *counts = Counts::of(lent!(heap));
     DONE
 }
 
@@ -116,13 +48,7 @@ pub extern "C" fn gcflip_heap_log_length(heap: &mut GcflipHeap, m: u8, count: &m
     ensures closed { (result ≡ closed_handle) ↔ (heap.old.state ≡ None) }
     ensures beside { heap.new.beside ≡ heap.old.beside }
 {
-    if heap.is_empty() {
-        return CLOSED;
-    }
-    let heap = heap.heap_mut();
-    if m >= heap.mutators() {
-        return OUT_OF_RANGE;
-    }
+    let heap = lent_to!(heap, m);
     *count = heap.log_len(m);
     DONE
 }
@@ -161,10 +87,7 @@ pub extern "C" fn gcflip_heap_log_entry(
     ensures closed { (result ≡ closed_handle) ↔ (heap.old.state ≡ None) }
     ensures beside { heap.new.beside ≡ heap.old.beside }
 {
-    if heap.is_empty() {
-        return CLOSED;
-    }
-    if copy_entry(heap.heap_mut(), m, k, entry) {
+    if copy_entry(lent!(heap), m, k, entry) {
         DONE
     } else {
         OUT_OF_RANGE
@@ -206,10 +129,7 @@ pub extern "C" fn gcflip_heap_image(
     ensures closed { (result ≡ closed_handle) ↔ (heap.old.state ≡ None) }
     ensures beside { heap.new.beside ≡ heap.old.beside }
 {
-    if heap.is_empty() {
-        return CLOSED;
-    }
-    let heap = &*heap.heap_mut();
+    let heap = &*lent!(heap);
     if heap.old_fault().is_some() {
         return DAMAGED;
     }
@@ -249,10 +169,7 @@ pub extern "C" fn gcflip_heap_new_words(heap: &mut GcflipHeap, words: &mut [u64]
     ensures closed { (result ≡ closed_handle) ↔ (heap.old.state ≡ None) }
     ensures beside { heap.new.beside ≡ heap.old.beside }
 {
-    if heap.is_empty() {
-        return CLOSED;
-    }
-    let heap = &*heap.heap_mut();
+    let heap = &*lent!(heap);
     if heap.new_fault().is_some() {
         return DAMAGED;
     }

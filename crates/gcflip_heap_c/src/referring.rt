@@ -6,10 +6,9 @@ ghost use Rattle.gc_collected.specs.Referring.{refer_step};
 ghost use Rattle.gcflip_heap_c.specs.Commands.{IsCommandCall};
 ghost use Rattle.gcflip_heap_c.specs.Slots.{NamesSlots, numbered_slot};
 
-use crate::answer::{CLOSED, OUT_OF_RANGE};
+use crate::guards::{lent_to, slot_named};
 use crate::handle::GcflipHeap;
 use crate::reply::of_reply;
-use crate::slots::slot;
 use gc_words::OldAddr;
 
 /// Puts a reference to the object that starts at this address into slot `d`. Returns 18 if no object starts there; the slot then keeps its
@@ -21,15 +20,7 @@ pub extern "C" fn gcflip_heap_refer(heap: &mut GcflipHeap, m: u8, d: u8, address
     ensures memory { result ≢ no_memory }
     ensures beside { heap.new.beside ≡ heap.old.beside }
 {
-    if heap.is_empty() {
-        return CLOSED;
-    }
-    let heap = heap.heap_mut();
-    if m >= heap.mutators() {
-        return OUT_OF_RANGE;
-    }
-    let Some(d) = slot(d) else {
-        return OUT_OF_RANGE;
-    };
+    let heap = lent_to!(heap, m);
+    let d = slot_named!(d);
     of_reply(&heap.refer(m, d, OldAddr(address)))
 }

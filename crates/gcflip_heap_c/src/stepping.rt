@@ -13,9 +13,11 @@ ghost use Rattle.gcflip_heap_c.specs.Answers.{closed_handle};
 ghost use Rattle.gcflip_heap_c.specs.Commands.{IsCall, Replies};
 ghost use Rattle.gcflip_heap_c.specs.Steps.{IsStepCall, ShowsReply, step_in_c};
 ghost use Rattle.gcflip_heap_c.specs.Replies.{step_reply_in_c, pairs_after};
-ghost use Rattle.gcflip_heap_c.specs.Work.{IsSoundReply, RefusedRooms};
+ghost use Rattle.gc_pace.specs.Work.{IsSoundReply};
+ghost use Rattle.gcflip_heap_c.specs.Work.{RefusedRooms};
 
-use crate::answer::{CLOSED, DONE, NO_MEMORY, OUT_OF_RANGE};
+use crate::answer::{DONE, NO_MEMORY, OUT_OF_RANGE};
+use crate::guards::{lent, lent_to};
 use crate::handle::GcflipHeap;
 use crate::reply::{of_step, pairs_of};
 use gc_check::Sequential;
@@ -59,10 +61,7 @@ pub extern "C" fn gcflip_heap_useful(heap: &mut GcflipHeap, step: &mut GcflipSte
     ensures closed { (result ≡ closed_handle) ↔ (heap.old.state ≡ None) }
     ensures beside { heap.new.beside ≡ heap.old.beside }
 {
-    if heap.is_empty() {
-        return CLOSED;
-    }
-    *step = of_useful(heap.heap_mut().next_useful_step());
+    *step = of_useful(lent!(heap).next_useful_step());
     DONE
 }
 
@@ -79,10 +78,7 @@ pub extern "C" fn gcflip_heap_step_begin(heap: &mut GcflipHeap) -> u32
     ensures pair { heap.new.beside.pair ≡ heap.old.beside.pair }
     ensures kept { IsRefusal result → heap.new.beside.former ≡ heap.old.beside.former }
 {
-    if heap.is_empty() {
-        return CLOSED;
-    }
-    match heap.heap_mut().begin() {
+    match lent!(heap).begin() {
         Ok(begun) => of_step(begun),
         Err(NoMemory) => NO_MEMORY,
     }
@@ -101,13 +97,11 @@ pub extern "C" fn gcflip_heap_step_begin_sized(heap: &mut GcflipHeap, size: u32)
     ensures pair { heap.new.beside.pair ≡ heap.old.beside.pair }
     ensures kept { IsRefusal result → heap.new.beside.former ≡ heap.old.beside.former }
 {
-    if heap.is_empty() {
-        return CLOSED;
-    }
+    let heap = lent!(heap);
     if size < 1 {
         return OUT_OF_RANGE;
     }
-    match heap.heap_mut().begin_sized(size) {
+    match heap.begin_sized(size) {
         Ok(begun) => of_step(begun),
         Err(NoMemory) => NO_MEMORY,
     }
@@ -121,10 +115,7 @@ pub extern "C" fn gcflip_heap_step_roots(heap: &mut GcflipHeap) -> u32
     ensures room { ¬ IsRefusal result → IsSomeAnd heap.old.state (λ s. ShowsReply (HasRoomIfLarge s) result) }
     ensures beside { heap.new.beside ≡ heap.old.beside }
 {
-    if heap.is_empty() {
-        return CLOSED;
-    }
-    of_step(heap.heap_mut().roots())
+    of_step(lent!(heap).roots())
 }
 
 /// Brings the field at the scan pointer up to date, or moves on to the next replica.
@@ -135,10 +126,7 @@ pub extern "C" fn gcflip_heap_step_scan(heap: &mut GcflipHeap) -> u32
     ensures room { ¬ IsRefusal result → IsSomeAnd heap.old.state (λ s. ShowsReply (HasRoomIfLarge s) result) }
     ensures beside { heap.new.beside ≡ heap.old.beside }
 {
-    if heap.is_empty() {
-        return CLOSED;
-    }
-    of_step(heap.heap_mut().scan())
+    of_step(lent!(heap).scan())
 }
 
 /// Applies the oldest entry of mutator `m`'s log.
@@ -149,13 +137,7 @@ pub extern "C" fn gcflip_heap_step_apply(heap: &mut GcflipHeap, m: u8) -> u32
     ensures room { ¬ IsRefusal result → IsSomeAnd heap.old.state (λ s. ShowsReply (HasRoomIfLarge s) result) }
     ensures beside { heap.new.beside ≡ heap.old.beside }
 {
-    if heap.is_empty() {
-        return CLOSED;
-    }
-    let heap = heap.heap_mut();
-    if m >= heap.mutators() {
-        return OUT_OF_RANGE;
-    }
+    let heap = lent_to!(heap, m);
     of_step(heap.apply_log(m))
 }
 
@@ -181,10 +163,7 @@ pub extern "C" fn gcflip_heap_step_flip(heap: &mut GcflipHeap, pairs: &mut u32) 
     ensures kept { IsRefusal result → heap.new.beside ≡ record heap.old.beside { rooms = heap.new.beside.rooms } }
     ensures silent { IsRefusal result → pairs.new ≡ pairs.old }
 {
-    if heap.is_empty() {
-        return CLOSED;
-    }
-    match heap.heap_mut().flip(&Sequential, Keep::Room) {
+    match lent!(heap).flip(&Sequential, Keep::Room) {
         Ok(reply) => {
             *pairs = pairs_of(reply, *pairs);
             of_step(reply)
@@ -202,8 +181,5 @@ pub extern "C" fn gcflip_heap_step_give_up(heap: &mut GcflipHeap) -> u32
     ensures rooms { MatchOption heap.old.state (heap.new.beside ≡ heap.old.beside)
         (λ s. heap.new.beside ≡ record heap.old.beside { rooms = rooms_given_up (new_size s) heap.old.beside.rooms }) }
 {
-    if heap.is_empty() {
-        return CLOSED;
-    }
-    of_step(heap.heap_mut().give_up())
+    of_step(lent!(heap).give_up())
 }

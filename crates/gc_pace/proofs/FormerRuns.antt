@@ -1,0 +1,20 @@
+-- What useful steps leave of the old space of the last flip.
+use Rattle.std.proofs.lemmas.Grind.{common_steps}
+use Rattle.std.proofs.Common.{◌≡◌, ℕ, suc, Option, refl, sym, ap, subst, arith}
+use Rattle.gc_plan.specs.State.{State}
+use Rattle.gc_plan.specs.Steps.{collect}
+use Rattle.gc_plan.specs.declared.step.StepReply.{StepReply}
+use Rattle.gc_copy.specs.Words.{RoomWords}
+use Rattle.gc_collected.specs.Flip.{FormerAfter}
+use Rattle.gc_collected.specs.declared.flip.Keep.TheVariants.{Room}
+use Rattle.gc_pace.specs.Beside.{LeavesAfter}
+use Rattle.gc_pace.specs.Work.{IsRun, sized_step}
+
+-- after one step
+pub first_left : (size : Option ℕ) (s u : State) (reply : StepReply) (old new : Option RoomWords) → collect s (sized_step size s) ≡ (reply, u) → FormerAfter Room s old reply new → LeavesAfter size 1 s old new
+first_left size s u reply old new step left = (old, refl, subst (λ (r : StepReply). FormerAfter Room s old r new) (sym (ap (λ (x : StepReply × State). x.0) step)) left)
+
+-- after one step more
+pub longer_left : (size : Option ℕ) (s t u : State) (n : ℕ) (before reply : StepReply) (old mid new : Option RoomWords) → IsRun size n s t before → collect t (sized_step size t) ≡ (reply, u)
+    → LeavesAfter size n s old mid → FormerAfter Room t mid reply new → LeavesAfter size (suc n) s old new
+longer_left size s t u n before reply old mid new run step so_far left = grind (arith, common_steps)

@@ -1,0 +1,67 @@
+-- What a useful step leaves of the work, and what the counts say of it.
+use Rattle.std.proofs.lemmas.Grind.{common_steps}
+use Rattle.std.proofs.Common.{◌≡◌, ◌≢◌, ◌⊎◌, ℕ, ◌+◌, ◌-◌, ◌<◌, ◌≤◌, true, Option, Some, None, Result, arith}
+use Rattle.std.specs.Prelude.{IfOk}
+use Rattle.std.specs.Option.{option_map_or}
+use Rattle.std.proofs.lemmas.Bool.{cond_both}
+use Rattle.gc_plan.specs.State.{Collection, State, heap_end}
+use Rattle.gc_plan.specs.Progress.{entries_in, work_left, entries_left, ChangesLower, Advances}
+use Rattle.gc_plan.specs.Steps.{useful_with, collect, is_change, step_in, step_idle}
+use Rattle.gc_plan.specs.declared.step.Step.{Step}
+use Rattle.gc_plan.specs.declared.step.Step.TheVariants as steps
+use Rattle.gc_plan.specs.declared.step.StepReply.{StepReply}
+use Rattle.gc_plan.specs.declared.step.StepReply.TheVariants.{NoRoom, Flipped}
+use Rattle.gc_pace.specs.Internal.Leaving.{LeavesLess}
+use Rattle.gc_pace.specs.Work.{with_size, sized_step, goes_on}
+use Rattle.gc_pace.specs.Counts.{counts_of}
+use Rattle.gc_pace.specs.Pace.{steps_left, CountsAll}
+
+pub some_left : (s : State) → 1 ≤ work_left s
+some_left s = grind (arith, common_steps)
+
+-- each entry is work
+pub entries_low : (s : State) → entries_left s < work_left s
+entries_low s = grind (arith, common_steps)
+
+-- ---- one step
+
+sized_begin : (size : Option ℕ) (s : State) → (with_size size steps.Begin ≢ steps.Flip) × (with_size size steps.Begin ≢ steps.Drop) × (is_change (option_map_or (λ (c : Collection). step_in s c (with_size size steps.Begin)) None (step_idle s (with_size size steps.Begin))).0 ≡ true)
+sized_begin size s = grind (arith, common_steps)
+
+-- while a collection is open, no begin is useful
+pub sized_open : (size : Option ℕ) (s : State) (c : Collection) → with_size size (useful_with s (Some c)) ≡ useful_with s (Some c)
+sized_open size s c = grind (arith, common_steps, cond_both)
+
+abbrev Falls : State → StepReply × State → Type 0
+Falls s next = goes_on next.0 ≡ true → work_left next.1 < work_left s
+
+stops : (reply : StepReply) → (reply ≡ NoRoom) ⊎ ((pairs : ℕ) × (reply ≡ Flipped pairs)) → goes_on reply ≡ true → ⊥
+stops reply h on = grind (arith, common_steps)
+
+step_falls : (size : Option ℕ) (s : State) → ChangesLower s → Advances s → Falls s (collect s (sized_step size s))
+step_falls size s lowers advances = grind (arith, common_steps, sized_begin, sized_open, stops)
+
+leaves_less : (size : Option ℕ) (s t : State) (reply : StepReply) → ChangesLower s → Advances s → entries_left (collect s (sized_step size s)).1 ≤ entries_left s
+    → collect s (sized_step size s) ≡ (reply, t) → LeavesLess s t reply
+leaves_less size s t reply lowers advances entries is = grind (arith, common_steps, step_falls, entries_low)
+
+-- `now` is the state when the step is performed
+pub leaves_reply : {E : Type 0} (size : Option ℕ) (s now t : State) (step : Step) (r : Result StepReply E) → now ≡ s → step ≡ sized_step size s → ChangesLower s → Advances s
+    → ((step : Step) → entries_left (collect s step).1 ≤ entries_left s) → IfOk r (λ reply. collect now step ≡ (reply, t)) → IfOk r (LeavesLess s t)
+leaves_reply size s now t step r same is lowers advances entries made = grind (arith, common_steps, leaves_less)
+
+-- ---- the counts
+
+pub end_at : (s : State) → (counts_of s).end ≡ heap_end s
+end_at s = grind (arith, common_steps)
+
+pub logged_low : (s : State) → (counts_of s).logged ≤ entries_left s
+logged_low s = grind (arith, common_steps)
+
+pub logged_all : (s : State) → CountsAll (counts_of s) → (counts_of s).logged ≡ entries_left s
+logged_all s all = grind (arith, common_steps)
+
+-- the steps that the counts leave are enough for the work
+pub counts_bound : (s : State) → ((c : Collection) → s.collection ≡ Some c → work_left s ≤ (heap_end s - c.scan_place) + entries_in c.logs + 1)
+    → CountsAll (counts_of s) → work_left s ≤ steps_left (counts_of s)
+counts_bound s bounded all = grind (arith, common_steps, logged_all)

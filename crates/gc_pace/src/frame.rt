@@ -1,0 +1,70 @@
+//! Frames, which are stacks in the extra roots.
+
+use gc_collected::CollectedHeap;
+use gc_graph::{Reply, Slot};
+
+/// A frame: the extra roots from `first` on and below `end` as a stack. Those below `top` hold its values. C sees the same record.
+#[repr(C)]
+#[derive(Clone, Copy, Debug, Drop, PartialEq, Eq)]
+pub struct Frame {
+    /// The first extra root of the frame.
+    pub first: u32,
+    /// The extra root behind its last one.
+    pub end: u32,
+    /// The extra root that the next push sets.
+    pub top: u32,
+}
+
+impl Frame {
+    ghost use Rattle.std.specs.Prelude.{◌≡◌, ◌<◌, ◌-◌, ◌↔◌, suc, None, IfSome, IsSome, IsTrue};
+    ghost use Rattle.gc_pace.specs.Frames.{HasFrame, pop_step, store_step};
+
+    /// Returns whether the numbers of the frame are in order, and the heap has its roots.
+    #[inline(always)]
+    pub fn is_in(&self, heap: &CollectedHeap) -> bool
+        ensures { IsTrue result ↔ HasFrame self.now heap.now.core }
+    {
+        self.first <= self.top && self.top <= self.end && self.end <= heap.extra_roots()
+    }
+
+    /// Copies the value of slot `s` to the top, and moves the top up. Returns `Done`, or `None` if the frame is full. Does not allocate.
+    #[inline(always)]
+    pub fn push(&mut self, heap: &mut CollectedHeap, m: u8, s: Slot) -> Option<Reply>
+        requires mutator { m < heap.old.core.mutators }
+        requires frame { HasFrame self.old heap.old.core }
+        ensures full { (result ≡ None) ↔ (self.old.top ≡ self.old.end) }
+        ensures none { result ≡ None → (self.new ≡ self.old) × (heap.new ≡ heap.old) }
+        ensures step { IfSome result (λ reply. store_step heap.old.core m self.old.top s ≡ (reply, heap.new.core)) }
+        ensures top { IsSome result → self.new ≡ record self.old { top = suc self.old.top } }
+        ensures beside { heap.new.beside ≡ heap.old.beside }
+    {
+        if self.top == self.end {
+            return None;
+        }
+        let reply = heap.store(m, self.top, s);
+        self.top += 1;
+        Some(reply)
+    }
+
+    /// Moves the top down, copies the value there into slot `d`, and sets that root to nil. Returns `Done`, or `None` if the frame is
+    /// empty. Does not allocate.
+    #[inline(always)]
+    pub fn pop(&mut self, heap: &mut CollectedHeap, m: u8, d: Slot) -> Option<Reply>
+        requires mutator { m < heap.old.core.mutators }
+        requires frame { HasFrame self.old heap.old.core }
+        ensures empty { (result ≡ None) ↔ (self.old.top ≡ self.old.first) }
+        ensures none { result ≡ None → (self.new ≡ self.old) × (heap.new ≡ heap.old) }
+        ensures step { IfSome result (λ reply. pop_step heap.old.core m d (self.old.top - 1) ≡ (reply, heap.new.core)) }
+        ensures top { IsSome result → self.new ≡ record self.old { top = self.old.top - 1 } }
+        ensures beside { heap.new.beside ≡ heap.old.beside }
+    {
+        if self.top == self.first {
+            return None;
+        }
+        let top = self.top - 1;
+        let reply = heap.load(m, d, top);
+        heap.clear(top, self.top);
+        self.top = top;
+        Some(reply)
+    }
+}

@@ -1,0 +1,294 @@
+//! Many useful steps in one call.
+
+ghost use Rattle.std.specs.Prelude.{◌≡◌, ◌⊎◌, ◌<◌, ◌≤◌, ◌-◌, ℕ, suc, true, false, ⊤, Option, Some, None, IfSome, IsTrue, IfOk, OnErr};
+ghost use Rattle.gc_plan.specs.State.{State};
+ghost use Rattle.gc_plan.specs.Steps.{collect};
+ghost use Rattle.gc_plan.specs.Runs.{IsStep};
+ghost use Rattle.gc_plan.specs.Progress.{work_left};
+ghost use Rattle.gc_plan.specs.declared.step.StepReply.{StepReply};
+ghost use Rattle.gc_collected.specs.CollectedHeap.{Allocates};
+ghost use Rattle.gc_collected.specs.Flip.{FormerAfter};
+ghost use Rattle.gc_collected.specs.Collected.{IsUnchangedButRooms, WereRefused, turns_after};
+ghost use Rattle.gc_collected.specs.declared.flip.Keep.{Keep};
+ghost use Rattle.gc_pace.specs.Beside.{LeavesAfter, HaveRooms, LeavesBeside, WasRefused};
+ghost use Rattle.gc_pace.specs.Internal.Leaving.{LeavesLess};
+ghost use Rattle.gc_pace.specs.Internal.Waiting.{HasLacked, HaveRun};
+ghost use Rattle.gc_pace.specs.Work.{IsSoundReply, IsRun, IsWork, with_size, sized_step, after_useful, useful_reply, goes_on, is_flip, end_in, end_after};
+
+use gc_check::Sequential;
+use gc_collected::{CollectedHeap, Keep};
+use gc_copy::{Step, StepReply};
+use gc_graph::NoMemory;
+use gc_plan::useful_steps_end;
+
+/// What a call of work did.
+#[derive(Clone, Copy, Debug, Drop, PartialEq, Eq)]
+pub struct Work {
+    /// The number of steps performed.
+    pub steps: u32,
+    /// The number of words that these steps' replicas took in the new space (to-space).
+    pub copied: u32,
+    /// The reply to the last step, if one was performed.
+    pub last: Option<StepReply>,
+}
+
+impl Work {
+    ghost use Rattle.std.specs.Prelude.{◌≡◌};
+    ghost use Rattle.gc_pace.specs.Work.{has_flipped, is_over};
+
+    /// Returns whether the last step flipped.
+    pub fn has_flipped(&self) -> bool
+        ensures { result ≡ has_flipped self.now }
+    {
+        matches!(self.last, Some(StepReply::Flipped { .. }))
+    }
+
+    /// Returns whether the last step flipped or found no room.
+    pub fn is_over(&self) -> bool
+        ensures { result ≡ is_over self.now }
+    {
+        matches!(
+            self.last,
+            Some(StepReply::Flipped { .. } | StepReply::NoRoom)
+        )
+    }
+}
+
+/// The number of useful steps performed, and the reply to the last one.
+struct Run {
+    steps: u32,
+    reply: StepReply,
+}
+
+/// Returns the step, but with `size` words for the new space if it is a begin and a size is given.
+#[inline(always)]
+fn sized(step: Step, size: Option<u32>) -> Step
+    requires { IfSome size (λ words. 1 ≤ words) }
+    ensures step { result ≡ with_size size step }
+    ensures range { (mutators : ℕ) → IsStep mutators step → IsStep mutators result }
+{
+    match (step, size) {
+        (Step::Begin, Some(words)) => Step::BeginSized(words),
+        (step, _) => step,
+    }
+}
+
+/// Performs the useful step. If that is a begin, the new space gets `size` words, or as many as the heap has.
+#[inline(always)]
+fn one_step(heap: &mut CollectedHeap, size: Option<u32>) -> Result<StepReply, NoMemory>
+    requires { IfSome size (λ words. 1 ≤ words) }
+    ensures step { IfOk result (λ reply. collect heap.old.core (sized_step size heap.old.core) ≡ (reply, heap.new.core)) }
+    ensures sound { IfOk result (IsSoundReply heap.old.core) }
+    ensures former { IfOk result (λ reply. FormerAfter Keep.Room heap.old.core heap.old.beside.former reply heap.new.beside.former) }
+    ensures turns { IfOk result (λ reply. heap.new.beside.turns ≡ turns_after Keep.Room heap.old.beside.turns reply) }
+    ensures leaves { IfOk result (LeavesLess heap.old.core heap.new.core) }
+    ensures rooms { IfOk result (λ reply. HaveRooms size heap.old.core heap.old.beside (is_flip reply) heap.new.beside.rooms) }
+    ensures pair { heap.new.beside.pair ≡ heap.old.beside.pair }
+    ensures refused { OnErr result (IsUnchangedButRooms heap.old heap.new) }
+    ensures freed { OnErr result (WereRefused heap.old.beside.rooms heap.new.beside.rooms) }
+    // While a collection is open, only a flip can lack memory.
+    ensures lacked { OnErr result (HasLacked heap.old heap.new.beside.rooms) }
+    ensures allocates { OnErr result (Allocates heap.old.core (sized_step size heap.old.core)) }
+{
+    heap.is_sound();
+    useful_steps_end();
+    let step = sized(heap.next_useful_step(), size);
+    heap.collect(&Sequential, step, Keep::Room)
+}
+
+/// Performs single steps for `useful_steps`, and tells when they are enough. Generic code knows nothing of `failed`, and gets it only
+/// from a step that returned `NoMemory`.
+trait Performs {
+    // Holds of a state in which an allocation of the useful step failed.
+    ghost failed: { Self → Option ℕ → State → Type 0 };
+
+    // Holds of the state after a step with this reply, which goes on, if no further step is performed.
+    ghost stops: { Self → Option ℕ → State → StepReply → Type 0 };
+
+    // Holds of the state after a step with this reply if that is not enough.
+    ghost short: { Self → State → StepReply → Type 0 };
+
+    fn perform(&self, heap: &mut CollectedHeap, size: Option<u32>) -> Result<StepReply, NoMemory>
+        requires { IfSome size (λ words. 1 ≤ words) }
+        ensures step { IfOk result (λ reply. collect heap.old.core (sized_step size heap.old.core) ≡ (reply, heap.new.core)) }
+        ensures sound { IfOk result (IsSoundReply heap.old.core) }
+        ensures former { IfOk result (λ reply. FormerAfter Keep.Room heap.old.core heap.old.beside.former reply heap.new.beside.former) }
+        ensures turns { IfOk result (λ reply. heap.new.beside.turns ≡ turns_after Keep.Room heap.old.beside.turns reply) }
+        ensures leaves { IfOk result (LeavesLess heap.old.core heap.new.core) }
+        ensures rooms { IfOk result (λ reply. HaveRooms size heap.old.core heap.old.beside (is_flip reply) heap.new.beside.rooms) }
+        ensures pair { heap.new.beside.pair ≡ heap.old.beside.pair }
+        ensures refused { OnErr result (IsUnchangedButRooms heap.old heap.new) }
+        ensures freed { OnErr result (WereRefused heap.old.beside.rooms heap.new.beside.rooms) }
+        ensures lacked { OnErr result (HasLacked heap.old heap.new.beside.rooms) }
+        ensures failed { OnErr result (failed self.now size heap.old.core) }
+        ensures stops { OnErr result ((reply : StepReply) → stops self.now size heap.old.core reply) };
+
+    fn has_enough(&self, heap: &CollectedHeap, reply: StepReply) -> bool
+        ensures stops { result ≡ true → (size : Option ℕ) → stops self.now size heap.now.core reply }
+        ensures short { result ≡ false → short self.now heap.now.core reply };
+}
+
+/// Performs useful steps, of which there are never enough.
+struct Useful;
+
+impl Performs for Useful {
+    ghost failed = { λ _ size s. Allocates s (sized_step size s) };
+
+    ghost stops = { λ _ size s _. Allocates s (sized_step size s) };
+
+    ghost short = { λ _ _ _. ⊤ };
+
+    #[inline(always)]
+    fn perform(&self, heap: &mut CollectedHeap, size: Option<u32>) -> Result<StepReply, NoMemory> {
+        one_step(heap, size)
+    }
+
+    #[inline(always)]
+    fn has_enough(&self, _heap: &CollectedHeap, _reply: StepReply) -> bool {
+        false
+    }
+}
+
+/// Performs useful steps until replicas have taken `words` words from `start` on.
+#[derive(Drop)]
+struct Within {
+    start: u32,
+    words: u32,
+}
+
+impl Performs for Within {
+    ghost failed = { λ _ size s. Allocates s (sized_step size s) };
+
+    ghost stops = { λ w size s reply. Allocates s (sized_step size s) ⊎ (w.words ≤ end_after s reply - w.start) };
+
+    ghost short = { λ w s reply. end_after s reply - w.start < w.words };
+
+    #[inline(always)]
+    fn perform(&self, heap: &mut CollectedHeap, size: Option<u32>) -> Result<StepReply, NoMemory> {
+        one_step(heap, size)
+    }
+
+    #[inline(always)]
+    fn has_enough(&self, heap: &CollectedHeap, reply: StepReply) -> bool {
+        end_behind(heap, reply).saturating_sub(self.start) >= self.words
+    }
+}
+
+/// Returns whether work continues after this reply.
+fn can_go_on(reply: StepReply) -> bool
+    ensures { result ≡ goes_on reply }
+{
+    !matches!(reply, StepReply::Flipped { .. } | StepReply::NoRoom)
+}
+
+/// Performs at most `most` useful steps, and stops after one that flips or finds no room, and after one that is enough. If an
+/// allocation fails, it stops before that step, and returns `NoMemory` only if that was the first step.
+fn useful_steps<P: Performs>(
+    performs: &P,
+    heap: &mut CollectedHeap,
+    size: Option<u32>,
+    most: u32,
+) -> Result<Run, NoMemory>
+    requires size { IfSome size (λ words. 1 ≤ words) }
+    requires some { 1 ≤ most }
+    ensures run { IfOk result (λ run. IsRun size run.steps heap.old.core heap.new.core run.reply) }
+    ensures former { IfOk result (λ run. LeavesAfter size run.steps heap.old.core heap.old.beside.former heap.new.beside.former) }
+    // Only the last step can be a flip.
+    ensures turns { IfOk result (λ run. heap.new.beside.turns ≡ turns_after Keep.Room heap.old.beside.turns run.reply) }
+    ensures within { IfOk result (λ run. run.steps ≤ most) }
+    // It stops early only after such a reply, or because a step failed for lack of memory.
+    ensures ended { IfOk result (λ run. run.steps < most
+        → (goes_on run.reply ≡ false) ⊎ P.stops performs.now size heap.new.core run.reply) }
+    // It makes no more than the steps that are left, so as many lead to such an end.
+    ensures enough { IfOk result (λ run. work_left heap.old.core ≤ most
+        → (goes_on run.reply ≡ false) ⊎ P.stops performs.now size heap.new.core run.reply) }
+    // No step before the last one was enough.
+    ensures short { IfOk result (λ run. (k : ℕ) → suc k < run.steps
+        → P.short performs.now (after_useful size (suc k) heap.old.core) (useful_reply size k heap.old.core)) }
+    ensures rooms { IfOk result (λ run. HaveRun size heap.old.core heap.new.core heap.old.beside (is_flip run.reply) heap.new.beside.rooms) }
+    ensures pair { heap.new.beside.pair ≡ heap.old.beside.pair }
+    ensures refused { OnErr result (IsUnchangedButRooms heap.old heap.new) }
+    ensures freed { OnErr result (WereRefused heap.old.beside.rooms heap.new.beside.rooms) }
+    ensures failed { OnErr result (P.failed performs.now size heap.old.core) }
+{
+    let mut reply = performs.perform(heap, size)?;
+    for steps in 1..most {
+        if !can_go_on(reply) {
+            return Ok(Run { steps, reply });
+        }
+        if performs.has_enough(heap, reply) {
+            return Ok(Run { steps, reply });
+        }
+        match performs.perform(heap, size) {
+            Ok(next) => reply = next,
+            Err(NoMemory) => return Ok(Run { steps, reply }),
+        }
+    }
+    Ok(Run { steps: most, reply })
+}
+
+/// Returns the first word of the open collection's new space that no replica takes, or 1 if none is open.
+fn end_of_new(heap: &CollectedHeap) -> u32
+    ensures { result ≡ end_in heap.now.core }
+{
+    match heap.new_space() {
+        None => 1,
+        Some(space) => space.end,
+    }
+}
+
+/// Returns the same after a step with this reply. After a flip, the new space is the heap's.
+fn end_behind(heap: &CollectedHeap, reply: StepReply) -> u32
+    ensures { result ≡ end_after heap.now.core reply }
+{
+    match reply {
+        StepReply::Flipped { .. } => heap.end(),
+        _ => end_of_new(heap),
+    }
+}
+
+/// Returns a report of these steps. The new space ended at `start` before them.
+#[inline(always)]
+fn report(heap: &CollectedHeap, start: u32, run: Run) -> Work
+    ensures steps { result.steps ≡ run.steps }
+    ensures copied { result.copied ≡ end_after heap.now.core run.reply - start }
+    ensures last { result.last ≡ Some run.reply }
+{
+    let Run { steps, reply } = run;
+    Work {
+        steps,
+        copied: end_behind(heap, reply).saturating_sub(start),
+        last: Some(reply),
+    }
+}
+
+/// Performs at most `most` useful steps and reports them. If a step is a begin, the new space gets `size` words, or as many as the heap
+/// has. Stops after a flip, and after a step that finds no room. If an allocation fails, stops before that step, and returns `NoMemory` only if
+/// that was the first step.
+pub fn work_on(heap: &mut CollectedHeap, size: Option<u32>, most: u32) -> Result<Work, NoMemory>
+    requires size { IfSome size (λ words. 1 ≤ words) }
+    requires some { 1 ≤ most }
+    ensures work { IfOk result (IsWork size None most heap.old.core heap.new.core) }
+    ensures beside { IfOk result (LeavesBeside size heap.old heap.new) }
+    ensures refused { OnErr result (WasRefused size heap.old heap.new) }
+{
+    let start = end_of_new(heap);
+    let run = useful_steps(&Useful, heap, size, most)?;
+    let work = report(heap, start, run);
+    heap.give_back();
+    Ok(work)
+}
+
+/// Does the same, but also stops after the step with which the replicas of this call take `words` words or more.
+pub fn work_within(heap: &mut CollectedHeap, most: u32, words: u32) -> Result<Work, NoMemory>
+    requires { 1 ≤ most }
+    ensures work { IfOk result (IsWork None (Some words) most heap.old.core heap.new.core) }
+    ensures beside { IfOk result (LeavesBeside None heap.old heap.new) }
+    ensures refused { OnErr result (WasRefused None heap.old heap.new) }
+{
+    let start = end_of_new(heap);
+    let run = useful_steps(&Within { start, words }, heap, None, most)?;
+    let work = report(heap, start, run);
+    heap.give_back();
+    Ok(work)
+}
