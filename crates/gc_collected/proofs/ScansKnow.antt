@@ -1,5 +1,5 @@
 -- A run of scans removes no replica, so the roots that are known to have one still have it.
-use Rattle.std.proofs.Common.{◌≡◌, ℕ, zero, suc, Some, refl, sym, ◌∙◌, subst}
+use Rattle.std.proofs.Common.{ℕ, zero, suc, refl, sym, ◌∙◌, subst}
 use Rattle.gc_plan.specs.State.{Collection, State}
 use Rattle.gc_plan.specs.declared.step.Step.TheVariants as steps
 use Rattle.gc_plan.specs.declared.step.StepReply.{StepReply}

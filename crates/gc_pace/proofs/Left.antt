@@ -41,7 +41,7 @@ stops reply h on = grind (arith, common_steps)
 step_falls : (size : Option ℕ) (s : State) → ChangesLower s → Advances s → Falls s (collect s (sized_step size s))
 step_falls size s lowers advances = grind (arith, common_steps, sized_begin, sized_open, stops)
 
-leaves_less : (size : Option ℕ) (s t : State) (reply : StepReply) → ChangesLower s → Advances s → entries_left (collect s (sized_step size s)).1 ≤ entries_left s
+pub leaves_less : (size : Option ℕ) (s t : State) (reply : StepReply) → ChangesLower s → Advances s → entries_left (collect s (sized_step size s)).1 ≤ entries_left s
     → collect s (sized_step size s) ≡ (reply, t) → LeavesLess s t reply
 leaves_less size s t reply lowers advances entries is = grind (arith, common_steps, step_falls, entries_low)
 

@@ -6,6 +6,7 @@ pub mod Logged
 pub mod PacedCalls
 pub mod Paid
 pub mod Runs
+pub mod ScansUseful
 pub mod Turns
 pub mod Useful
 mod Waiting

@@ -22,7 +22,7 @@ abbrev GoesBelow : Option ℕ → ℕ → State → Type 0
 GoesBelow size n s = (k : ℕ) → suc k < n → goes_on (useful_reply size k s) ≡ true
 
 -- no reply lacks room if the new space was large at first
-room_of : (size : Option ℕ) (n : ℕ) (s : State) → SoundBelow size n s → GoesBelow size n s → IsLarge size s → (k : ℕ) → k < n → useful_reply size k s ≢ NoRoom
+pub room_of : (size : Option ℕ) (n : ℕ) (s : State) → SoundBelow size n s → GoesBelow size n s → IsLarge size s → (k : ℕ) → k < n → useful_reply size k s ≢ NoRoom
 room_of size n s sound going large k less = finds_room size (after_useful size k s) (large_run size n s large going k less) (sound k less).room
 
 -- the first step

@@ -1,17 +1,18 @@
 //! Many useful steps in one call.
 
-ghost use Rattle.std.specs.Prelude.{◌≡◌, ◌⊎◌, ◌<◌, ◌≤◌, ◌-◌, ℕ, suc, true, false, ⊤, Option, Some, None, IfSome, IsTrue, IfOk, OnErr};
+ghost use Rattle.std.specs.Prelude.{◌≡◌, ◌⊎◌, ◌<◌, ◌≤◌, ◌-◌, ℕ, suc, true, false, ⊤, Option, Some, None, IfSome, IsSome, IsTrue, IfOk, OnErr};
 ghost use Rattle.gc_plan.specs.State.{State};
 ghost use Rattle.gc_plan.specs.Steps.{collect};
 ghost use Rattle.gc_plan.specs.Runs.{IsStep};
 ghost use Rattle.gc_plan.specs.Progress.{work_left};
+ghost use Rattle.gc_plan.specs.declared.step.Step.{Step};
 ghost use Rattle.gc_plan.specs.declared.step.StepReply.{StepReply};
 ghost use Rattle.gc_collected.specs.CollectedHeap.{Allocates};
 ghost use Rattle.gc_collected.specs.Flip.{FormerAfter};
 ghost use Rattle.gc_collected.specs.Collected.{IsUnchangedButRooms, WereRefused, turns_after};
 ghost use Rattle.gc_collected.specs.declared.flip.Keep.{Keep};
 ghost use Rattle.gc_pace.specs.Beside.{LeavesAfter, HaveRooms, LeavesBeside, WasRefused};
-ghost use Rattle.gc_pace.specs.Internal.Leaving.{LeavesLess};
+ghost use Rattle.gc_pace.specs.Internal.Leaving.{LeavesLess, EndsBelow};
 ghost use Rattle.gc_pace.specs.Internal.Waiting.{HasLacked, HaveRun};
 ghost use Rattle.gc_pace.specs.Work.{IsSoundReply, IsRun, IsWork, with_size, sized_step, after_useful, useful_reply, goes_on, is_flip, end_in, end_after};
 
@@ -55,6 +56,7 @@ impl Work {
 }
 
 /// The number of useful steps performed, and the reply to the last one.
+#[derive(Clone, Copy, Drop)]
 struct Run {
     steps: u32,
     reply: StepReply,
@@ -73,10 +75,16 @@ fn sized(step: Step, size: Option<u32>) -> Step
     }
 }
 
-/// Performs the useful step. If that is a begin, the new space gets `size` words, or as many as the heap has.
+/// Performs this step, which is the useful one, or a begin of this size in its place.
 #[inline(always)]
-fn one_step(heap: &mut CollectedHeap, size: Option<u32>) -> Result<StepReply, NoMemory>
-    requires { IfSome size (λ words. 1 ≤ words) }
+fn one_step(
+    heap: &mut CollectedHeap,
+    size: Option<u32>,
+    step: Step,
+) -> Result<StepReply, NoMemory>
+    requires size { IfSome size (λ words. 1 ≤ words) }
+    requires useful { step ≡ sized_step size heap.old.core }
+    requires range { IsStep heap.old.core.mutators step }
     ensures step { IfOk result (λ reply. collect heap.old.core (sized_step size heap.old.core) ≡ (reply, heap.new.core)) }
     ensures sound { IfOk result (IsSoundReply heap.old.core) }
     ensures former { IfOk result (λ reply. FormerAfter Keep.Room heap.old.core heap.old.beside.former reply heap.new.beside.former) }
@@ -92,11 +100,65 @@ fn one_step(heap: &mut CollectedHeap, size: Option<u32>) -> Result<StepReply, No
 {
     heap.is_sound();
     useful_steps_end();
-    let step = sized(heap.next_useful_step(), size);
     heap.collect(&Sequential, step, Keep::Room)
 }
 
-/// Performs single steps for `useful_steps`, and tells when they are enough. Generic code knows nothing of `failed`, and gets it only
+/// Performs scans, at least one and at most `most`. The first is the useful step, and none follows one after which the new space ends at `until`
+/// or beyond it.
+#[inline(always)]
+fn some_scans(heap: &mut CollectedHeap, size: Option<u32>, most: u32, until: u32) -> Run
+    requires size { IfSome size (λ words. 1 ≤ words) }
+    requires some { 1 ≤ most }
+    requires useful { sized_step size heap.old.core ≡ Step.Scan }
+    ensures run { IsRun size result.steps heap.old.core heap.new.core result.reply }
+    ensures within { result.steps ≤ most }
+    ensures short { EndsBelow size until result.steps heap.old.core }
+    ensures former { LeavesAfter size result.steps heap.old.core heap.old.beside.former heap.new.beside.former }
+    ensures flips { is_flip result.reply ≡ false }
+    ensures open { IsSome heap.old.core.collection }
+    ensures beside { heap.new.beside ≡ heap.old.beside }
+{
+    heap.is_sound();
+    useful_steps_end();
+    let run = heap.scan_run(most, until);
+    Run {
+        steps: run.steps,
+        reply: run.reply,
+    }
+}
+
+/// Performs useful steps, at least one and at most `most`: scans, as `some_scans` does, or one step of another kind. If that is a begin, the new
+/// space gets `size` words, or as many as the heap has.
+#[inline(always)]
+fn some_steps(
+    heap: &mut CollectedHeap,
+    size: Option<u32>,
+    most: u32,
+    until: u32,
+) -> Result<Run, NoMemory>
+    requires size { IfSome size (λ words. 1 ≤ words) }
+    requires some { 1 ≤ most }
+    ensures run { IfOk result (λ run. IsRun size run.steps heap.old.core heap.new.core run.reply) }
+    ensures within { IfOk result (λ run. run.steps ≤ most) }
+    ensures short { IfOk result (λ run. EndsBelow size until run.steps heap.old.core) }
+    ensures former { IfOk result (λ run. LeavesAfter size run.steps heap.old.core heap.old.beside.former heap.new.beside.former) }
+    ensures turns { IfOk result (λ run. heap.new.beside.turns ≡ turns_after Keep.Room heap.old.beside.turns run.reply) }
+    ensures rooms { IfOk result (λ run. HaveRooms size heap.old.core heap.old.beside (is_flip run.reply) heap.new.beside.rooms) }
+    ensures pair { heap.new.beside.pair ≡ heap.old.beside.pair }
+    ensures refused { OnErr result (IsUnchangedButRooms heap.old heap.new) }
+    ensures freed { OnErr result (WereRefused heap.old.beside.rooms heap.new.beside.rooms) }
+    ensures lacked { OnErr result (HasLacked heap.old heap.new.beside.rooms) }
+    ensures allocates { OnErr result (Allocates heap.old.core (sized_step size heap.old.core)) }
+{
+    let step = sized(heap.next_useful_step(), size);
+    if let Step::Scan = step {
+        return Ok(some_scans(heap, size, most, until));
+    }
+    let reply = one_step(heap, size, step)?;
+    Ok(Run { steps: 1, reply })
+}
+
+/// Performs some steps for `useful_steps`, and tells when they are enough. Generic code knows nothing of `failed`, and gets it only
 /// from a step that returned `NoMemory`.
 trait Performs {
     // Holds of a state in which an allocation of the useful step failed.
@@ -108,14 +170,22 @@ trait Performs {
     // Holds of the state after a step with this reply if that is not enough.
     ghost short: { Self → State → StepReply → Type 0 };
 
-    fn perform(&self, heap: &mut CollectedHeap, size: Option<u32>) -> Result<StepReply, NoMemory>
-        requires { IfSome size (λ words. 1 ≤ words) }
-        ensures step { IfOk result (λ reply. collect heap.old.core (sized_step size heap.old.core) ≡ (reply, heap.new.core)) }
-        ensures sound { IfOk result (IsSoundReply heap.old.core) }
-        ensures former { IfOk result (λ reply. FormerAfter Keep.Room heap.old.core heap.old.beside.former reply heap.new.beside.former) }
-        ensures turns { IfOk result (λ reply. heap.new.beside.turns ≡ turns_after Keep.Room heap.old.beside.turns reply) }
-        ensures leaves { IfOk result (LeavesLess heap.old.core heap.new.core) }
-        ensures rooms { IfOk result (λ reply. HaveRooms size heap.old.core heap.old.beside (is_flip reply) heap.new.beside.rooms) }
+    fn perform(
+        &self,
+        heap: &mut CollectedHeap,
+        size: Option<u32>,
+        most: u32,
+    ) -> Result<Run, NoMemory>
+        requires size { IfSome size (λ words. 1 ≤ words) }
+        requires some { 1 ≤ most }
+        ensures run { IfOk result (λ run. IsRun size run.steps heap.old.core heap.new.core run.reply) }
+        ensures within { IfOk result (λ run. run.steps ≤ most) }
+        // No step before the last one was enough.
+        ensures short { IfOk result (λ run. (k : ℕ) → suc k < run.steps
+            → short self.now (after_useful size (suc k) heap.old.core) (useful_reply size k heap.old.core)) }
+        ensures former { IfOk result (λ run. LeavesAfter size run.steps heap.old.core heap.old.beside.former heap.new.beside.former) }
+        ensures turns { IfOk result (λ run. heap.new.beside.turns ≡ turns_after Keep.Room heap.old.beside.turns run.reply) }
+        ensures rooms { IfOk result (λ run. HaveRooms size heap.old.core heap.old.beside (is_flip run.reply) heap.new.beside.rooms) }
         ensures pair { heap.new.beside.pair ≡ heap.old.beside.pair }
         ensures refused { OnErr result (IsUnchangedButRooms heap.old heap.new) }
         ensures freed { OnErr result (WereRefused heap.old.beside.rooms heap.new.beside.rooms) }
@@ -139,13 +209,30 @@ impl Performs for Useful {
     ghost short = { λ _ _ _. ⊤ };
 
     #[inline(always)]
-    fn perform(&self, heap: &mut CollectedHeap, size: Option<u32>) -> Result<StepReply, NoMemory> {
-        one_step(heap, size)
+    fn perform(
+        &self,
+        heap: &mut CollectedHeap,
+        size: Option<u32>,
+        most: u32,
+    ) -> Result<Run, NoMemory> {
+        some_steps(heap, size, most, u32::MAX)
     }
 
     #[inline(always)]
     fn has_enough(&self, _heap: &CollectedHeap, _reply: StepReply) -> bool {
         false
+    }
+}
+
+/// Returns a place before which fewer than so many words lie from `start` on.
+#[inline(always)]
+fn place_behind(start: u32, words: u32) -> u32
+    ensures { (end : ℕ) → end < result → end - start < words }
+{
+    if words == 0 {
+        0
+    } else {
+        start.saturating_add(words)
     }
 }
 
@@ -164,8 +251,14 @@ impl Performs for Within {
     ghost short = { λ w s reply. end_after s reply - w.start < w.words };
 
     #[inline(always)]
-    fn perform(&self, heap: &mut CollectedHeap, size: Option<u32>) -> Result<StepReply, NoMemory> {
-        one_step(heap, size)
+    fn perform(
+        &self,
+        heap: &mut CollectedHeap,
+        size: Option<u32>,
+        most: u32,
+    ) -> Result<Run, NoMemory> {
+        let until = place_behind(self.start, self.words);
+        some_steps(heap, size, most, until)
     }
 
     #[inline(always)]
@@ -211,20 +304,25 @@ fn useful_steps<P: Performs>(
     ensures freed { OnErr result (WereRefused heap.old.beside.rooms heap.new.beside.rooms) }
     ensures failed { OnErr result (P.failed performs.now size heap.old.core) }
 {
-    let mut reply = performs.perform(heap, size)?;
-    for steps in 1..most {
-        if !can_go_on(reply) {
-            return Ok(Run { steps, reply });
+    let mut run = performs.perform(heap, size, most)?;
+    while run.steps < most {
+        if !can_go_on(run.reply) {
+            return Ok(run);
         }
-        if performs.has_enough(heap, reply) {
-            return Ok(Run { steps, reply });
+        if performs.has_enough(heap, run.reply) {
+            return Ok(run);
         }
-        match performs.perform(heap, size) {
-            Ok(next) => reply = next,
-            Err(NoMemory) => return Ok(Run { steps, reply }),
+        match performs.perform(heap, size, most - run.steps) {
+            Ok(next) => {
+                run = Run {
+                    steps: run.steps + next.steps,
+                    reply: next.reply,
+                };
+            }
+            Err(NoMemory) => return Ok(run),
         }
     }
-    Ok(Run { steps: most, reply })
+    Ok(run)
 }
 
 /// Returns the first word of the open collection's new space that no replica takes, or 1 if none is open.

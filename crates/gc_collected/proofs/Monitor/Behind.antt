@@ -1,26 +1,26 @@
 -- A standing checker whose looks are behind: it was told of all replicas, and looks at the scanned fields afterwards.
 use Rattle.std.proofs.lemmas.Grind.{common_steps}
-use Rattle.std.proofs.Common.{◌≡◌, ◌≢◌, ◌⊎◌, inl, inr, ⊎_elim, ℕ, suc, ◌+◌, ◌<◌, ◌≤◌, ◌==◌, Bool, true, false, ◌||◌, List, map, length, get_or, Some, None, refl, ap, sym, ◌∙◌, subst, arith}
-use Rattle.std.specs.Prelude.{IsTrue, IfSome, slice_get}
-use Rattle.std.proofs.lemmas.Bool.{cases_eq, cases_Bool, eqb-true, eq-eqb, or_cases, cond-true, cond-false}
+use Rattle.std.proofs.Common.{◌≡◌, ◌≢◌, ◌⊎◌, inl, inr, ⊎_elim, ℕ, suc, ◌+◌, ◌<◌, ◌≤◌, ◌==◌, Bool, true, false, ◌||◌, map, length, get_or, Some, refl, ap, sym, ◌∙◌, subst, arith}
+use Rattle.std.specs.Prelude.{IsTrue, IfSome}
+use Rattle.std.proofs.lemmas.Bool.{cases_eq, cases_Bool, eqb-true, or_cases, cond-true, cond-false}
 use Rattle.std.proofs.lemmas.List.{get_or-set_other}
-use Rattle.gc_graph.specs.Graph.{Object, lookup}
+use Rattle.gc_graph.specs.Graph.{Object}
 use Rattle.gc_words.specs.Layout.{field_place}
 use Rattle.gc_plan.specs.State.{Replica, Collection, State, heap_end, new_end}
-use Rattle.gc_plan.specs.Steps.{scan, scan_replica, step_in, with_collection, next_object}
+use Rattle.gc_plan.specs.Steps.{scan, scan_replica, with_collection}
 use Rattle.gc_plan.specs.Members.{In}
-use Rattle.gc_plan.specs.Belonging.{IsDue, IsLogged, IsUnscanned, IsScanPlace, IsReplica, IsSpaceGraph, IsOpened}
+use Rattle.gc_plan.specs.Belonging.{IsDue, IsUnscanned, IsScanPlace, IsSpaceGraph, IsOpened}
 use Rattle.gc_plan.specs.declared.step.StepReply.{StepReply}
 use Rattle.gc_plan.specs.declared.step.StepReply.TheVariants.{Passed, Scanned}
 use Rattle.gc_plan.specs.declared.step.Step.TheVariants as steps
-use Rattle.gc_plan.proofs.Public.{found_by_place, open_keeps, AreReplicas, Grown, bringing, replicas_due, replicas_end, its_replicas, belongs_from, laid_apart, laid_range, find_some, in_map, in_map_from, pair, placed, same_place}
+use Rattle.gc_plan.proofs.Public.{found_by_place, open_keeps, AreReplicas, Grown, bringing, replicas_due, replicas_end, its_replicas, belongs_from, laid_apart, laid_range, find_some, in_map, placed, same_place}
 use Rattle.gc_along.specs.Claims.{CanPlaceNext, CanLook, OwesNone}
 use Rattle.gc_along.specs.Events.{Placed, Looked, with_due}
 use Rattle.gc_along.specs.Tables.{Tables, watch_of, due_in}
 use Rattle.gc_along.specs.Watch.{Watch, is_due}
 use Rattle.gc_collected.specs.Internal.Beside.{heap_words, replica_words}
 use Rattle.gc_collected.specs.Internal.Knows.{Knows}
-use Rattle.gc_collected.specs.Internal.Stays.{DueFor, WatchFits, GoesAlong}
+use Rattle.gc_collected.specs.Internal.Stays.{WatchFits}
 use Rattle.gc_collected.proofs.Monitor.Agree.{replicas_shown}
 use Rattle.gc_collected.proofs.Monitor.Beside.{pair_stays}
 use Rattle.gc_collected.proofs.Monitor.Brought.{IsFresh, Brings, brings, FieldScanned, field_was_scanned, ReplicaPassed, replica_was_passed}
@@ -28,7 +28,7 @@ use Rattle.gc_collected.proofs.Monitor.Claimed.{is_at, can_place, can_look, orig
 use Rattle.gc_collected.proofs.Monitor.Events.{Goes}
 use Rattle.gc_collected.proofs.Monitor.Growth.{Adds, adds_brought, adds_alike}
 use Rattle.gc_collected.proofs.Monitor.Known.{KnowsBy, placed_known, looked_is, looked_known}
-use Rattle.gc_collected.proofs.Monitor.StepsKnown.{knows_from, logged_same, unscanned_same}
+use Rattle.gc_collected.proofs.Monitor.StepsKnown.{knows_from, logged_same}
 use Rattle.gc_collected.proofs.Monitor.Told.{Told, told_placed, fits_marked, marked_at}
 
 -- the collection with its scan pointer where the looks are

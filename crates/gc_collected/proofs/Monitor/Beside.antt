@@ -1,22 +1,19 @@
 -- The tables of a standing checker beside a heap's state, through the collector's steps.
 use Rattle.std.proofs.lemmas.Grind.{common_steps}
-use Rattle.std.specs.Option.{option_map}
-use Rattle.std.proofs.Common.{◌≡◌, inl, inr, ⊎_elim, ℕ, suc, ◌==◌, Bool, true, false, cond, ◌||◌, List, ◌∷◌, map, length, Option, Some, None, is_some, refl, ap, sym, ◌∙◌, subst, arith}
-use Rattle.std.proofs.lemmas.Bool.{cases_Bool, cond-true, cond-false, eqb-true}
-use Rattle.gc_plan.specs.State.{Replica, Collection, State, heap_end, new_end, replica_of, replica_at}
-use Rattle.gc_plan.specs.Steps.{with_log, place_replica, bring_up_to_date, with_collection, if_room, root_target, copy_root, scan_done, scan, scan_replica, next_object, apply_entry, apply_log, next_field}
+use Rattle.std.proofs.Common.{◌≡◌, inl, inr, ⊎_elim, ℕ, Bool, true, false, cond, List, ◌∷◌, map, Option, Some, None, is_some, refl, ap, sym, subst, arith}
+use Rattle.gc_plan.specs.State.{Replica, Collection, State, heap_end, new_end, replica_of}
+use Rattle.gc_plan.specs.Steps.{with_log, place_replica, bring_up_to_date, if_room, root_target, copy_root, apply_entry, apply_log}
 use Rattle.gc_plan.specs.Members.{In}
 use Rattle.gc_plan.specs.Belonging.{IsOpened, IsSpaceGraph}
 use Rattle.gc_plan.specs.declared.step.StepReply.{StepReply}
-use Rattle.gc_plan.specs.declared.step.StepReply.TheVariants.{Clean, NoRoom, Copied, Passed, Scanned, Applied}
-use Rattle.gc_plan.proofs.Public.{in_map, in_map_from, find_some, in_left, pair}
-use Rattle.gc_collected.specs.Internal.Stays.{LosesOnly}
+use Rattle.gc_plan.specs.declared.step.StepReply.TheVariants.{Clean, NoRoom, Copied, Applied}
+use Rattle.gc_plan.proofs.Public.{in_map, in_map_from, in_left, pair}
 use Rattle.gc_along.specs.Tables.{Tables, watch_of}
-use Rattle.gc_along.specs.Events.{Placed, Looked, Applied as AppliedTo}
+use Rattle.gc_along.specs.Events.{Placed, Applied as AppliedTo}
 use Rattle.gc_collected.specs.Internal.Beside.{replica_words}
 use Rattle.gc_collected.proofs.Monitor.Events.{Goes, roots_copied, entry_applied}
-use Rattle.gc_collected.proofs.Monitor.Growth.{IsAdded, HasSame, Adds, adds_none, adds_placed, adds_brought, adds_alike}
-use Rattle.gc_collected.proofs.Monitor.Told.{ShowsReplicas, shows_replicas, Told, told_placed, told_looked, told_applied}
+use Rattle.gc_collected.proofs.Monitor.Growth.{IsAdded, HasSame, Adds, adds_none, adds_placed, adds_brought}
+use Rattle.gc_collected.proofs.Monitor.Told.{ShowsReplicas, shows_replicas, Told, told_placed, told_applied}
 
 -- an original keeps its replica's place
 pub pair_stays : (c next : Collection) (r : Replica) → Adds c next → In r c.replicas → (q : Replica) × In q next.replicas × (pair q ≡ pair r)

@@ -1,18 +1,17 @@
 -- The core's steps and commands, with what the watch may lose and has to mark at each.
 use Rattle.std.proofs.lemmas.Grind.{common_steps}
-use Rattle.std.specs.Option.{option_map}
-use Rattle.std.proofs.Common.{◌≡◌, inr, ⊎_elim, ℕ, suc, ◌==◌, nat_lt, Bool, true, false, cond, ◌||◌, List, ◌∷◌, length, flat_map, Option, Some, None, is_some, refl, ap, sym, ◌∙◌, subst, arith}
-use Rattle.std.proofs.lemmas.Bool.{cases_Bool, cond-true, cond-false, cond_both}
+use Rattle.std.proofs.Common.{◌≡◌, inr, ⊎_elim, ℕ, nat_lt, Bool, true, false, cond, List, ◌∷◌, flat_map, Option, Some, None, is_some, refl, ap, sym, ◌∙◌, subst, arith}
+use Rattle.std.proofs.lemmas.Bool.{cond_both}
 use Rattle.gc_graph.specs.Graph.{lookup, names_of}
 use Rattle.gc_graph.specs.Machine.{Roomy, words_taken, roomy_step}
 use Rattle.gc_graph.specs.declared.command.Op.{Op}
 use Rattle.gc_graph.specs.declared.reply.Reply.{Reply}
-use Rattle.gc_plan.specs.State.{Replica, Collection, State, heap_end, new_end, replica_of, replica_at}
-use Rattle.gc_plan.specs.Steps.{with_log, place_replica, bring_up_to_date, with_collection, if_room, root_target, copy_root, scan_done, scan, scan_replica, next_object, apply_entry, apply_log, next_field}
+use Rattle.gc_plan.specs.State.{Collection, State, heap_end, new_end, replica_of}
+use Rattle.gc_plan.specs.Steps.{with_log, place_replica, bring_up_to_date, with_collection, if_room, root_target, copy_root, apply_entry, apply_log}
 use Rattle.gc_plan.specs.Members.{In}
 use Rattle.gc_plan.specs.Belonging.{IsOpened}
 use Rattle.gc_plan.specs.declared.step.StepReply.{StepReply}
-use Rattle.gc_plan.specs.declared.step.StepReply.TheVariants.{Clean, NoRoom, Copied, Passed, Scanned, Applied}
+use Rattle.gc_plan.specs.declared.step.StepReply.TheVariants.{Clean, NoRoom, Copied, Applied}
 use Rattle.gc_plan.proofs.Public.{Evolves, WrittenBy, unchanged, step_evolves, replicas_due, unreplicated_some, no_replica, AreReplicas}
 use Rattle.gc_words.proofs.Public.{none_of}
 use Rattle.gc_along.specs.Watch.{Watch}

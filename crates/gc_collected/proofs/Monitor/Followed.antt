@@ -1,20 +1,17 @@
 -- The looks of a standing checker that was told of all replicas of a run of scans: they come to the scan pointer, and then it goes along.
-use Rattle.std.proofs.lemmas.Grind.{common_steps}
 use Rattle.std.proofs.Common.{◌≡◌, ◌≢◌, ◌⊎◌, inl, inr, ⊎_elim, ℕ, zero, suc, ◌+◌, ◌<◌, ◌≤◌, ◌==◌, Bool, true, false, ◌||◌, map, length, Some, refl, ap, sym, ◌∙◌, subst, arith}
 use Rattle.std.specs.Prelude.{slice_index}
 use Rattle.std.proofs.lemmas.Bool.{eqb-true, eq-eqb, or_left, or_right}
 use Rattle.gc_graph.specs.Graph.{Object}
 use Rattle.gc_words.specs.Word.{read_header}
 use Rattle.gc_words.specs.declared.header.Header.{Header}
-use Rattle.gc_plan.specs.State.{Replica, Collection, State, heap_end, new_end}
-use Rattle.gc_plan.specs.Steps.{scan, collect, with_collection}
+use Rattle.gc_plan.specs.State.{Replica, Collection, State, new_end}
+use Rattle.gc_plan.specs.Steps.{scan, collect}
 use Rattle.gc_plan.specs.Linked.{object_header}
 use Rattle.gc_plan.specs.Members.{In}
 use Rattle.gc_plan.specs.Belonging.{IsOpened, IsSpaceGraph, IsScanPlace, IsUnscanned}
-use Rattle.gc_plan.specs.declared.step.StepReply.{StepReply}
-use Rattle.gc_plan.specs.declared.step.StepReply.TheVariants.{Passed, Scanned}
 use Rattle.gc_plan.specs.declared.step.Step.TheVariants as steps
-use Rattle.gc_plan.proofs.Public.{find_some, in_map, laid_apart, laid_range, pair, placed, same_place}
+use Rattle.gc_plan.proofs.Public.{find_some, in_map, laid_apart, laid_range, placed, same_place}
 use Rattle.gc_copy.specs.Scans.{after_scans}
 use Rattle.gc_along.specs.Claims.{CanLook}
 use Rattle.gc_along.specs.Events.{Looked}

@@ -2,7 +2,6 @@
 use Rattle.std.proofs.lemmas.Grind.{common_steps}
 use Rattle.std.proofs.Common.{◌≡◌, ℕ, false, List, ◌∷◌, Some, ap, sym, ◌∙◌, subst, arith}
 use Rattle.std.specs.Prelude.{IfSome}
-use Rattle.gc_words.specs.Spelling.{no_links}
 use Rattle.gc_plan.specs.State.{Collection, State}
 use Rattle.gc_plan.specs.Linked.{LeadsToOpen}
 use Rattle.gc_plan.specs.Steps.{log_at, apply_log, collect, step_in, with_collection}
@@ -10,10 +9,10 @@ use Rattle.gc_plan.specs.Belonging.{IsSpaceGraph, IsOpened}
 use Rattle.gc_plan.specs.declared.step.Step.{Step}
 use Rattle.gc_plan.specs.declared.step.Step.TheVariants as steps
 use Rattle.gc_plan.specs.declared.step.StepReply.{StepReply}
-use Rattle.gc_plan.specs.declared.step.StepReply.TheVariants.{Copied, Passed, Scanned, Applied}
+use Rattle.gc_plan.specs.declared.step.StepReply.TheVariants.{Copied, Applied}
 use Rattle.gc_plan.proofs.Public.{steps_stay}
-use Rattle.gc_along.specs.Claims.{CanPlaceNext, CanLook, CanApply, OwesNone}
-use Rattle.gc_along.specs.Events.{Placed, Looked, Applied as AppliedTo}
+use Rattle.gc_along.specs.Claims.{CanPlaceNext, CanApply, OwesNone}
+use Rattle.gc_along.specs.Events.{Placed, Applied as AppliedTo}
 use Rattle.gc_along.specs.Tables.{Tables, watch_of}
 use Rattle.gc_collected.specs.Internal.Beside.{GoesBeside, heap_words, replica_words}
 use Rattle.gc_collected.specs.Internal.Knows.{Knows, open_or_fresh}

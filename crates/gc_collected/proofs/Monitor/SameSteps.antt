@@ -1,11 +1,11 @@
 -- The collector's steps whose reply says that they did nothing.
 use Rattle.std.proofs.lemmas.Grind.{common_steps}
-use Rattle.std.proofs.Common.{◌≡◌, ◌⊎◌, ℕ, Some, arith}
-use Rattle.gc_plan.specs.State.{Collection, State}
+use Rattle.std.proofs.Common.{◌≡◌, ℕ, arith}
+use Rattle.gc_plan.specs.State.{State}
 use Rattle.gc_plan.specs.Steps.{collect}
 use Rattle.gc_plan.specs.declared.step.Step.TheVariants as steps
 use Rattle.gc_plan.specs.declared.step.StepReply.{StepReply}
-use Rattle.gc_plan.specs.declared.step.StepReply.TheVariants.{Copied, Passed, Scanned, Applied}
+use Rattle.gc_plan.specs.declared.step.StepReply.TheVariants.{Copied, Applied}
 
 pub roots_or_same : (s s' : State) (reply : StepReply) → collect s steps.Roots ≡ (reply, s') → (reply ≡ Copied → ⊥) → s' ≡ s
 roots_or_same s s' reply said other = grind (arith, common_steps)

@@ -1,30 +1,29 @@
 -- The tables of a standing checker know the collection through the collector's steps, and it is not lost at any.
 use Rattle.std.proofs.lemmas.Grind.{common_steps}
-use Rattle.std.proofs.Common.{◌≡◌, ◌≢◌, ◌⊎◌, inl, inr, ⊎_elim, ℕ, suc, ◌+◌, ◌<◌, ◌≤◌, ◌==◌, Bool, true, false, List, ◌∷◌, map, length, get_or, Some, None, refl, ap, sym, ◌∙◌, subst, arith, []}
+use Rattle.std.proofs.Common.{◌≡◌, ◌⊎◌, inl, inr, ⊎_elim, ℕ, ◌<◌, ◌≤◌, Bool, false, List, ◌∷◌, length, get_or, Some, None, refl, ap, sym, ◌∙◌, subst, arith, []}
 use Rattle.std.specs.Prelude.{slice_get, slice_set}
 use Rattle.std.specs.Option.{unwrap_or}
-use Rattle.std.proofs.lemmas.Bool.{cases_eq, eqb-true, eq-eqb, or_cases}
+use Rattle.std.proofs.lemmas.Bool.{cases_eq}
 use Rattle.gc_graph.specs.Graph.{Object, lookup}
 use Rattle.gc_words.specs.Layout.{field_place}
 use Rattle.gc_plan.specs.State.{Replica, Collection, State, heap_end, new_end}
 use Rattle.gc_plan.specs.Linked.{LeadsTo}
 use Rattle.gc_plan.specs.Steps.{log_at, with_log, root_target, copy_root, scan, apply_log}
 use Rattle.gc_plan.specs.Members.{In}
-use Rattle.gc_plan.specs.Belonging.{IsDue, IsLogged, IsUnscanned, IsScanPlace, IsSpaceGraph, IsOpened}
-use Rattle.gc_plan.specs.declared.step.StepReply.TheVariants.{Copied, Passed, Scanned, Applied}
-use Rattle.gc_plan.proofs.Public.{laid_apart, find_some, get_past, get_set_same, get_set_other, in_map, pair, placed, same_original, same_place}
-use Rattle.gc_along.specs.Claims.{CanPlaceNext, CanLook, CanApply, OwesNone}
+use Rattle.gc_plan.specs.Belonging.{IsDue, IsLogged, IsUnscanned, IsSpaceGraph, IsOpened}
+use Rattle.gc_plan.specs.declared.step.StepReply.TheVariants.{Copied, Applied}
+use Rattle.gc_plan.proofs.Public.{get_past, get_set_same, get_set_other, same_original}
+use Rattle.gc_along.specs.Claims.{CanPlaceNext, CanApply, OwesNone}
 use Rattle.gc_along.specs.Events.{Placed, Looked, Applied as AppliedTo, with_due}
 use Rattle.gc_along.specs.Tables.{Tables, watch_of}
 use Rattle.gc_collected.specs.Internal.Beside.{heap_words, replica_words}
-use Rattle.gc_collected.specs.Internal.Knows.{Knows, Marks}
+use Rattle.gc_collected.specs.Internal.Knows.{Knows}
 use Rattle.gc_collected.specs.Internal.Stays.{LosesOnly, WatchFits}
 use Rattle.gc_collected.proofs.Monitor.Agree.{replicas_shown}
-use Rattle.gc_collected.proofs.Monitor.Beside.{pair_stays}
-use Rattle.gc_collected.proofs.Monitor.Brought.{IsFresh, Brings, brings_none, brings_placed, brings, RootCopied, root_copied, FieldScanned, field_was_scanned, ReplicaPassed, replica_was_passed, entry_was_applied}
-use Rattle.gc_collected.proofs.Monitor.Claimed.{origin_is, is_at, can_place, can_look, can_apply}
+use Rattle.gc_collected.proofs.Monitor.Brought.{IsFresh, Brings, brings_none, brings_placed, brings, RootCopied, root_copied, entry_was_applied}
+use Rattle.gc_collected.proofs.Monitor.Claimed.{origin_is, is_at, can_place, can_apply}
 use Rattle.gc_collected.proofs.Monitor.Events.{Goes, entry_applied}
-use Rattle.gc_collected.proofs.Monitor.Growth.{Adds, adds_none, adds_placed, adds_brought, adds_alike}
+use Rattle.gc_collected.proofs.Monitor.Growth.{Adds, adds_none, adds_placed, adds_brought}
 use Rattle.gc_collected.proofs.Monitor.Known.{KnowsBy, placed_known, looked_is, looked_known}
 use Rattle.gc_collected.proofs.Monitor.Told.{Told, told_placed, told_marked, replica_there}
 
