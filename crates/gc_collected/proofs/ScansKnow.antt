@@ -7,8 +7,8 @@ use Rattle.gc_copy.specs.Scans.{IsScanRun}
 use Rattle.gc_collected.specs.declared.known.KnownRoots.{KnownRoots}
 use Rattle.gc_collected.specs.Internal.KnownRoots.{KnowsRoots}
 use Rattle.gc_collected.proofs.Marks.{step_knows}
-use Rattle.gc_collected.proofs.Monitor.Batched.{does, having, scanned_on, scanned_once}
-use Rattle.gc_collected.proofs.Monitor.Followed.{scans_are}
+use Rattle.gc_copy.proofs.Public.{does, having, scanned_on, scanned_once}
+use Rattle.gc_copy.proofs.Public.{scans_are}
 
 scans_know : (known : KnownRoots) (s : State) (n : ℕ) (c : Collection) → KnowsRoots known (having s c) → KnowsRoots known (having s (scanned_on s n c))
 scans_know known s zero c before = before

@@ -9,6 +9,7 @@ pub mod Segments
 pub mod Scanning
 pub mod Starts
 pub mod ScanRuns
+pub mod Scanned
 pub mod Applying
 pub mod ObjectWalks
 mod FieldWords

@@ -5,3 +5,4 @@ pub use Rattle.gc_copy.proofs.OpenCollection.{link_above, placed_has, replica_ob
 pub use Rattle.gc_copy.proofs.Opening.{opening_with_ok}
 pub use Rattle.gc_copy.proofs.Spaces.{new_end_is}
 pub use Rattle.gc_copy.proofs.ScanRuns.{one_scan}
+pub use Rattle.gc_copy.proofs.Scanned.{Moves, all_opened, does, having, opened_once, scanned_on, scanned_once, scans_are}

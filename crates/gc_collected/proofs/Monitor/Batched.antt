@@ -17,6 +17,7 @@ use Rattle.gc_plan.specs.declared.step.StepReply.{StepReply}
 use Rattle.gc_plan.specs.declared.step.StepReply.TheVariants.{Passed, Scanned}
 use Rattle.gc_plan.specs.declared.step.Step.TheVariants as steps
 use Rattle.gc_plan.proofs.Public.{open_keeps, find_some, in_left, in_map, pair, same_original, with_written_pair, with_written_length}
+use Rattle.gc_copy.proofs.Public.{all_opened, does, having, opened_once, scanned_on, scanned_once, Moves}
 use Rattle.gc_along.specs.Claims.{CanPlaceNext, OwesNone}
 use Rattle.gc_along.specs.Events.{IsClaim, IsCopy, Placed}
 use Rattle.gc_along.specs.Runs.{PlacedRun, PlacedAll, CanPlaceAll}
@@ -27,52 +28,6 @@ use Rattle.gc_collected.proofs.Monitor.Behind.{IsBehind, still_true, still_behin
 use Rattle.gc_collected.proofs.Monitor.Brought.{FieldScanned, field_was_scanned}
 use Rattle.gc_collected.proofs.Monitor.Growth.{Adds, IsAdded, HasSame, adds_brought, adds_alike}
 use Rattle.gc_collected.proofs.Monitor.Shown.{Shows}
-
--- ---- scans in order
-
--- the state with this collection
-abbrev pub having : State → Collection → State
-having s c = with_collection s (Some c)
-
--- the collection that a scan leads to
-abbrev pub scanned_once : State → Collection → Collection
-scanned_once s c = unwrap_or (scan (with_collection s (Some c)) c).1.collection c
-
-abbrev pub scanned_on : State → ℕ → Collection → Collection
-scanned_on s zero c = c
-scanned_on s (suc n) c = scanned_on s n (scanned_once s c)
-
--- what a scan does to the collection
-abbrev pub Moves : State → Collection → Collection → StepReply × State → Type 0
-Moves s c next r = (r ≡ (Scanned, with_collection s (Some next))) ⊎ ((r ≡ (Passed, with_collection s (Some next))) ⊎ (next ≡ c))
-
-abbrev Does : State → Collection → StepReply × State → Type 0
-Does s c r = (r.1 ≡ with_collection s (Some (unwrap_or r.1.collection c))) × Moves s c (unwrap_or r.1.collection c) r
-
-does_room : (s : State) (c : Collection) (o : Option Collection) → Does s c (if_room (having s c) Scanned o)
-does_room s c None = (refl, inr (inr refl))
-does_room s c (Some d) = (refl, inl refl)
-
-does_replica : (s : State) (c : Collection) (o : Option Replica) → Does s c (scan_replica (having s c) c o)
-does_replica s c None = (refl, inr (inr refl))
-does_replica s c (Some r) = go (r.object.raw || (c.scan_field == length r.object.fields))
-  where
-    go : (b : Bool) → Does s c (cond b (Passed, with_collection (having s c) (Some (next_object c r))) (if_room (having s c) Scanned (option_map next_field (bring_up_to_date c s.heap.graph r.original c.scan_field))))
-    go true = (refl, inr (inl refl))
-    go false = does_room s c (option_map next_field (bring_up_to_date c s.heap.graph r.original c.scan_field))
-
-pub does : (s : State) (c : Collection) → Does s c (scan (having s c) c)
-does s c = go (scan_done c)
-  where
-    go : (b : Bool) → Does s c (cond b (Rattle.gc_plan.specs.declared.step.StepReply.TheVariants.Clean, having s c) (scan_replica (having s c) c (replica_at c c.scan_place)))
-    go true = (refl, inr (inr refl))
-    go false = does_replica s c (replica_at c c.scan_place)
-
-pub opened_once : (s : State) (c : Collection) → IsOpened s c → IsOpened s (scanned_once s c)
-opened_once s c o =
-    let k = open_keeps (having s c) c steps.Scan refl (record { belongs = o.belongs; size = o.size; logs = o.logs }) (λ e. cc) in
-    let n : IsOpened (having s c) (scanned_once s c) = subst (λ (x : State). IfSome x.collection (IsOpened (having s c))) (does s c).0 k in
-    record { belongs = n.belongs; size = n.size; logs = n.logs }
 
 -- ---- replicas last
 
@@ -163,9 +118,6 @@ all_last : (s : State) (n : ℕ) (c : Collection) → IsOpened s c → Lasts c (
 all_last s zero c opened = lasts_same c c refl
 all_last s (suc n) c opened = lasts_on c (scanned_once s c) (scanned_on s n (scanned_once s c)) (once_lasts s c opened) (all_last s n (scanned_once s c) (opened_once s c opened))
 
-pub all_opened : (s : State) (n : ℕ) (c : Collection) → IsOpened s c → IsOpened s (scanned_on s n c)
-all_opened s zero c opened = opened
-all_opened s (suc n) c opened = all_opened s n (scanned_once s c) (opened_once s c opened)
 
 -- ---- what a checker is told of the next replica is the same in the words of both
 

@@ -20,7 +20,8 @@ use Rattle.gc_along.specs.Tables.{Tables, watch_of}
 use Rattle.gc_collected.specs.Internal.Beside.{heap_words, replica_words}
 use Rattle.gc_collected.specs.Internal.Knows.{Knows}
 use Rattle.gc_collected.proofs.Monitor.Agree.{replicas_shown}
-use Rattle.gc_collected.proofs.Monitor.Batched.{having, scanned_once, scanned_on, Moves, does, opened_once, all_opened, once_lasts, can_place_all, knows_all}
+use Rattle.gc_copy.proofs.Public.{scans_are, having, scanned_once, scanned_on, Moves, does, opened_once, all_opened}
+use Rattle.gc_collected.proofs.Monitor.Batched.{once_lasts, can_place_all, knows_all}
 use Rattle.gc_collected.proofs.Monitor.Behind.{IsBehind, begins, caught_up, can_see, sees, goes_on}
 use Rattle.gc_collected.proofs.Monitor.Brought.{FieldScanned, field_was_scanned, replica_was_passed, brings}
 use Rattle.gc_collected.proofs.Monitor.Events.{Goes}
@@ -215,15 +216,6 @@ module _ (s : State) (d : Collection) (links : ℕ → ℕ) (heap : IsSpaceGraph
 
 -- ---- the whole run
 
-scanned_after : (s : State) (n : ℕ) (c : Collection) → scanned_on s (suc n) c ≡ scanned_once s (scanned_on s n c)
-scanned_after s zero c = refl
-scanned_after s (suc n) c = scanned_after s n (scanned_once s c)
-
-pub scans_are : (s : State) (n : ℕ) (c : Collection) → after_scans n (having s c) ≡ having s (scanned_on s n c)
-scans_are s zero c = refl
-scans_are s (suc n) c =
-    ap (λ (x : State). (collect x steps.Scan).1) (scans_are s n c)
-    ∙ ((does s (scanned_on s n c)).0 ∙ ap (having s) (sym (scanned_after s n c)))
 
 module _ (s : State) (c : Collection) (n : ℕ) (t : Tables) (links : ℕ → ℕ) (heap : IsSpaceGraph s.size s.heap.free s.heap.graph) (opened : IsOpened s c) (goes_along : Goes s c (watch_of t)) (knows : Knows s c t) where
   abbrev last : Collection

@@ -10,9 +10,10 @@ use Rattle.gc_along.specs.Tables.{Tables, watch_of}
 use Rattle.gc_collected.specs.Internal.Beside.{AreOld, GoesBeside, heap_words, replica_words}
 use Rattle.gc_collected.specs.Internal.Follows.{Follows}
 use Rattle.gc_collected.specs.Internal.Knows.{Knows, open_or_fresh}
-use Rattle.gc_collected.proofs.Monitor.Batched.{having, scanned_on}
+use Rattle.gc_copy.proofs.Public.{having, scanned_on}
 use Rattle.gc_collected.proofs.Monitor.Events.{Goes}
-use Rattle.gc_collected.proofs.Monitor.Followed.{run_followed, run_looked, run_placed, scans_are}
+use Rattle.gc_copy.proofs.Public.{scans_are}
+use Rattle.gc_collected.proofs.Monitor.Followed.{run_followed, run_looked, run_placed}
 use Rattle.gc_collected.proofs.Monitor.FollowsSteps.{on_with, reread}
 
 -- the state with its own collection
