@@ -21,6 +21,8 @@ mod Referred
 mod Reserved
 mod Rooted
 mod Shown
+mod Sources
 mod SourcesPut
 mod Starts
 mod Stepped
+mod Together

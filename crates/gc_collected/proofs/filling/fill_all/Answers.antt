@@ -1,22 +1,23 @@
--- A turn fills the next field from the next slot, and a log takes an entry.
-use Rattle.std.proofs.Common.{◌≡◌, ◌+◌, ◌-◌, ◌<◌, length, ◌∙◌, subst, arith}
-use Rattle.gc_collected.specs.Internal.CollectedHeap.{HasSpare, state_in}
-use Rattle.gc_collected.proofs.NewFrom.{one_filled}
+-- The fields that the heap fills are logged together. The object has no replica, so the monitor has nothing to learn.
+use Rattle.std.proofs.Common.{length, subst, ◌∙◌}
+use Rattle.gc_collected.specs.Internal.Together.{LogsIfOpen, fields_from}
+use Rattle.gc_collected.proofs.Together.{fill_is, only_its, puts_make_nothing, together_fits, together_follows, together_state}
 use Rattle.gc_collected.proofs.filling.fill_all.Goals as goal
 
-pub loop-i-preserved : goal.loop-i-preserved
-loop-i-preserved g c =
-    let put = c.fill_in-put in
-    let all = length (g.R.SlotRow.slots c.args.fields.now) in
-    let less : c.loop-i.i < all = omega (arith, c.loop-i-test.true, c.count-i-end.ensures) in
-    let more : all - c.loop-i.i ≡ all - (c.loop-i.i + 1) + 1 = omega arith in
-    record {
-      rest = one_filled (state_in c.args.heap.now c.args.collection.now) (state_in c.loop-i.heap c.loop-i.collection) (state_in put.new.heap put.new.collection) c.args.m c.loop-i.i c.args.d c.slot.result put.result (g.R.SlotRow.slots c.args.fields.now) less c.slot.ensures
-          put.ensures.step c.loop-i.invariant.rest;
-      fits = λ epoch before. put.ensures.fits epoch (c.loop-i.invariant.fits epoch before);
-      belongs = put.ensures.belongs;
-      mutators = put.ensures.mutators ∙ c.loop-i.invariant.mutators;
-      follows = λ before. put.ensures.follows (c.loop-i.invariant.follows before);
-      room = put.ensures.spare (all - (c.loop-i.i + 1)) (subst (HasSpare c.loop-i.collection c.args.m) more c.loop-i.invariant.room);
-      takes = put.ensures.fields _ c.loop-i.invariant.takes;
-    }
+pub returns-clause-step : goal.returns-clause-step
+returns-clause-step g c =
+    let slots = g.R.SlotRow.slots c.args.fields.now in
+    let logs = subst (λ n. LogsIfOpen c.args.collection.now c.args.m (fields_from c.args.object.0 0 n) c.note_in.new.collection) c.count.ensures c.note_in.ensures in
+    fill_is _ c.args.m 0 c.args.d slots ∙ together_state c.args.heap.now c.fill_each.new.heap c.args.collection.now c.note_in.new.collection c.args.m _ _ c.space.ensures.sound c.fill_each.ensures.performs logs
+
+pub returns-clause-fits : goal.returns-clause-fits
+returns-clause-fits g c = λ epoch fits.
+    let logs = subst (λ n. LogsIfOpen c.args.collection.now c.args.m (fields_from c.args.object.0 0 n) c.note_in.new.collection) c.count.ensures c.note_in.ensures in
+    together_fits epoch c.args.heap.now c.fill_each.new.heap c.args.collection.now c.note_in.new.collection c.args.m _ _ c.requires.mutator c.fill_each.ensures.performs logs fits
+
+pub returns-clause-follows : goal.returns-clause-follows
+returns-clause-follows g c = λ t f.
+    let slots = g.R.SlotRow.slots c.args.fields.now in
+    let logs = subst (λ n. LogsIfOpen c.args.collection.now c.args.m (fields_from c.args.object.0 0 n) c.note_in.new.collection) c.count.ensures c.note_in.ensures in
+    together_follows c.args.heap.now c.fill_each.new.heap c.args.collection.now c.note_in.new.collection c.args.m _ _ c.args.object.0 t c.space.ensures.sound (puts_make_nothing c.args.d 0 slots) c.fill_each.ensures.performs logs
+    c.are_sound_in.ensures c.requires.fresh (only_its c.args.object.0 0 (length slots)) f

@@ -46,5 +46,5 @@ invariant_of-self-2 g c =
         (with_filled c.self.inside.known (state_in heap p) (state_in new.new.heap p) (state_in all.new.heap all.new.collection) c.args.m c.args.kind c.count-count.result c.args.d c.args.t (g.R.SourceRow.sources c.args.fields.now) new.result (omega (arith, c.index.ensures.value, c.index.ensures.bound)) (omega (arith, c.index-2.ensures.value, c.index-2.ensures.bound)) (less g (goal.at.invariant_of-self-2 g c).After-new_in-made) c.count-count.ensures new.ensures.step c.in_default.not-Full all.ensures.step (k.0).1).1,
         (k.0).2,
       ),
-      λ on. all.ensures.follows (new.ensures.follows (k.1 on)),
+      λ on. all.ensures.follows new.new.watch (new.ensures.follows (k.1 on)),
     )
