@@ -1,33 +1,42 @@
 -- Commands whose fields are logged together lead to the same state as commands that log each field at once.
 use Rattle.std.proofs.lemmas.Grind.{common_steps}
-use Rattle.std.proofs.Common.{◌≡◌, inl, inr, ℕ, zero, suc, ◌+◌, ◌-◌, ◌<◌, ◌≤◌, get_or, drop, List, [], ◌∷◌, ◌++◌, length, map, Option, Some, None, refl, ap, sym, ◌∙◌, subst, arith, append-nil, length-set}
+use Rattle.std.proofs.Common.{◌≡◌, inl, inr, ⊎_elim, ℕ, zero, suc, ◌+◌, ◌-◌, ◌<◌, ◌≤◌, get_or, drop, false, List, [], ◌∷◌, ◌++◌, length, map, Option, Some, None, refl, ap, sym, ◌∙◌, subst, arith, append-nil, length-set}
 use Rattle.std.specs.Prelude.{IfSome, slice_get, slice_set, ⊤}
 use Rattle.std.specs.Option.{option_map, unwrap_or}
 use Rattle.std.proofs.lemmas.List.{append_assoc, drop_all, drop_more, length-map, map-set}
 use Rattle.gc_graph.specs.Machine.{Roomy, words_taken}
-use Rattle.gc_graph.specs.Graph.{Ref, names_of, root}
+use Rattle.gc_graph.specs.Graph.{Object, Ref, names_of, root}
 use Rattle.gc_graph.specs.Slots.{SlotName, place}
 use Rattle.gc_graph.specs.declared.command.Op.{Op}
-use Rattle.gc_graph.specs.declared.command.Op.TheVariants.{Put}
+use Rattle.gc_graph.specs.declared.command.Op.TheVariants.{New, Put}
 use Rattle.gc_graph.specs.declared.reply.Reply.{Reply}
-use Rattle.gc_graph.specs.declared.reply.Reply.TheVariants.{Done}
+use Rattle.gc_graph.specs.declared.reply.Reply.TheVariants.{Done, Full}
+use Rattle.gc_words.specs.Image.{Image}
 use Rattle.gc_words.specs.Space.{end_of, free_in}
+use Rattle.gc_words.specs.Spelling.{link_at}
 use Rattle.gc_heap.specs.Commands.{Performs}
-use Rattle.gc_heap.specs.Heap.{HeapWords, IsHeap, graph_in, roomy_in}
-use Rattle.gc_plan.specs.State.{Collection, Replica, State}
+use Rattle.gc_heap.specs.Heap.{HeapWords, IsHeap, graph_in, image_of, roomy_in}
+use Rattle.gc_plan.specs.State.{Collection, State, heap_end}
 use Rattle.gc_plan.specs.Steps.{log_at, logged, mutate, with_log, written}
 use Rattle.gc_plan.specs.Members.{In}
 use Rattle.gc_plan.specs.Belonging.{Belongs, HasField, IsOpened, IsSpaceGraph}
-use Rattle.gc_plan.proofs.Public.{belongs_noted, field_there, in_left, in_right, laid_range, lookup_in}
+use Rattle.gc_plan.proofs.Public.{WrittenBy, belongs_noted, field_there, in_left, in_right, lookup_in, lookup_laid}
 use Rattle.gc_copy.specs.Words.{CollectionWords, BelongsTo, BelongsToBut, LinksNothing, LinksReplicas, collection_in, entries_of, state_of}
 use Rattle.gc_copy.proofs.Public.{command_leaves, still_unlinked}
+use Rattle.gc_plan.specs.Linked.{linked_image}
+use Rattle.gc_along.specs.Claims.{CanMake}
+use Rattle.gc_along.specs.Events.{Made}
 use Rattle.gc_along.specs.Tables.{Tables}
 use Rattle.gc_collected.specs.CollectedHeap.{fill_step}
-use Rattle.gc_collected.specs.Internal.CollectedHeap.{Fits, state_in}
+use Rattle.gc_collected.specs.Internal.CollectedHeap.{BelongsIfOpen, Fits, state_in}
 use Rattle.gc_collected.specs.Internal.Follows.{Follows}
-use Rattle.gc_collected.specs.Internal.Together.{IsUnreplicated, Logs, LogsIfOpen, PerformsAll, fields_from, mutate_all, puts}
-use Rattle.gc_collected.proofs.Monitor.Follows.{follows_apart}
-use Rattle.gc_collected.proofs.Monitor.Ran.{Ran, ran_none, ran_on, ran_one}
+use Rattle.gc_collected.specs.Internal.Together.{Logs, LogsIfOpen, PerformsAll, fields_from, mutate_all, puts}
+use Rattle.gc_collected.proofs.Monitor.CommandsKnown.{Continues, continues_on, continues_one}
+use Rattle.gc_collected.proofs.Monitor.Follows.{follows_made}
+use Rattle.gc_collected.proofs.Monitor.Grown.{EndsMore, ends_more}
+use Rattle.gc_collected.proofs.Monitor.Leads.{leads_on, leads_one}
+use Rattle.gc_collected.proofs.OtherCommands.{performed}
+use Rattle.gc_collected.proofs.Monitor.Ran.{NoName, Ran, ran_none, ran_on, ran_one}
 
 -- ---- a log
 
@@ -183,22 +192,44 @@ pub together_ran : (heap new : HeapWords) (o o' : Option CollectionWords) (m : �
 together_ran heap new o o' m ops fields is nothing all l =
     subst (λ (s : State). Ran (state_in heap o) s (λ a i. In {X = ℕ × ℕ} (a, i) fields)) (ap (state_of new) (logged_is o o' m fields l)) (all_ran heap new (option_map collection_in o) m ops fields is nothing all)
 
--- the fields are those of an object without a replica, so the monitor is told of none of them
-pub together_follows : (heap new : HeapWords) (o o' : Option CollectionWords) (m : ℕ) (ops : List Op) (fields : List (ℕ × ℕ)) (a : ℕ) (t : Tables) → IsHeap heap → MakeNothing ops → PerformsAll heap m ops fields new → LogsIfOpen o m fields o'
-    → IfSome (option_map collection_in o) (IsOpened (state_in heap o)) → IsUnreplicated (option_map collection_in o) a → ((b i : ℕ) → In {X = ℕ × ℕ} (b, i) fields → b ≡ a) → Follows (state_in heap o) t → Follows (state_in new o') t
-together_follows heap new o o' m ops fields a t is nothing all l is_open none only f =
-    follows_apart (state_in heap o) (state_in new o') t (λ b i. In {X = ℕ × ℕ} (b, i) fields) is_open (together_ran heap new o o' m ops fields is nothing all l)
-    (λ c e r k i w. subst (λ (p : Option Collection). IfSome p (λ c. (r : Replica) → In r c.replicas → r.original ≡ a → ⊥)) e none r k (only r.original i w)) f
+-- without room nothing changes
+pub full_same : (s s' : State) (m kind len : ℕ) (d : SlotName) (reply : Reply) → mutate s m (New d kind len) ≡ (reply, s') → reply ≡ Full → s' ≡ s
+full_same s s' m kind len d reply said full = grind (arith, common_steps, logged_none)
 
--- no replica is that of an object at the end
-pub end_unreplicated : (heap : HeapWords) (o : Option CollectionWords) → IsHeap heap → IsSpaceGraph heap.space.size (free_in heap.space) (graph_in heap) → IfSome (option_map collection_in o) (IsOpened (state_in heap o)) → IsUnreplicated (option_map collection_in o) (end_of heap.space)
-end_unreplicated heap None is sound k = tt
-end_unreplicated heap (Some c) is sound k = λ r l at.
-    let replica = k.belongs.replicas r l in
-    let range = laid_range 1 (graph_in heap).objects (heap.space.size - free_in heap.space) (r.original, replica.original) sound.laid (lookup_in (graph_in heap).objects r.original replica.original replica.found) in
-    let high : r.original + (length replica.original.fields + 2) ≤ heap.space.size - free_in heap.space = range.1 in
-    let end : heap.space.size - free_in heap.space ≡ end_of heap.space = grind (arith, common_steps) in
-    omega arith
+-- a new object, whose fields are written before the monitor is told of it
+ends_through : (s mid s' : State) (Written : ℕ → ℕ → Type 0) → IsSpaceGraph mid.size mid.heap.free mid.heap.graph → EndsMore s mid → Ran mid s' Written → EndsMore s s'
+ends_through s mid s' Written sound more ran = ⊎_elim
+    (λ same. inl (same ∙ ran.end))
+    (λ one. (let e : Object = one.0 in
+    let end : heap_end s + (length e.fields + 2) ≡ heap_end mid = one.1.1 in
+    let x = ran.leads.evolves (heap_end s) e (lookup_laid 1 mid.heap.graph.objects (heap_end mid) (heap_end s) e sound.laid one.1.0) in
+    inr (x.now, (lookup_in s'.heap.graph.objects (heap_end s) x.now x.found, omega (arith, x.len, end, ran.end)))))
+    more
+
+pub made_follows : (heap made new : HeapWords) (o o' : Option CollectionWords) (m kind len : ℕ) (d : SlotName) (reply : Reply) (ops : List Op) (fields : List (ℕ × ℕ)) (t after : Tables)
+    → IsHeap heap → IsHeap made → Performs heap m (New d kind len) reply made → MakeNothing ops → PerformsAll made m ops fields new → LogsIfOpen o m fields o' → ((b i : ℕ) → In {X = ℕ × ℕ} (b, i) fields → b ≡ end_of heap.space) → BelongsIfOpen heap o → IfSome (option_map collection_in o) (IsOpened (state_in heap o))
+    → ((heap : HeapWords) → IsHeap heap → IsSpaceGraph heap.space.size (free_in heap.space) (graph_in heap)) → IsSpaceGraph new.space.size (free_in new.space) (graph_in new) → image_of new ≡ linked_image (link_at new.space.words) new.space.size (graph_in new)
+    → (t.lost ≡ false → CanMake new.space.words t → after.lost ≡ false) → (after.lost ≡ false → Made new.space.words t after) → Follows (state_in heap o) t → Follows (state_in new o') after
+made_follows heap made new o o' m kind len d reply ops fields t after is is' p nothing all l only belongs is_open graph later shows stays told f =
+    follows_made (state_in heap o) (state_in new o') (λ b i. In {X = ℕ × ℕ} (b, i) fields) (link_at new.space.words) new.space.words t after is_open (graph heap is) later (ap (λ (image : Image). image.words) shows)
+    (ends_through (state_in heap o) (state_in made o) (state_in new o') (λ b i. In {X = ℕ × ℕ} (b, i) fields) (graph made is') (ends_more (state_in heap o) (state_in made o) m (New d kind len) reply false d kind len refl (graph heap is) one) ran)
+    (continues_on (state_in heap o) (state_in made o) (state_in new o') (λ a. a ≡ heap_end (state_in heap o)) NoName (λ a. a ≡ heap_end (state_in heap o)) (λ a n. n) (λ a n. absurd n) named ran.on)
+    (leads_on (state_in heap o) (state_in made o) (state_in new o') (WrittenBy (graph_in heap) m (New d kind len) reply) (λ b i. In {X = ℕ × ℕ} (b, i) fields) (λ b i. In {X = ℕ × ℕ} (b, i) fields) (λ b i w. absurd w) (λ b i w. w) (leads_one (state_in heap o) (state_in made o) m (New d kind len) reply one) ran.leads)
+    (λ b i w. only b i w ∙ sym end) stays told f
+  where
+    one : mutate (state_in heap o) m (New d kind len) ≡ (reply, state_in made o)
+    one = performed heap made o m (New d kind len) reply is (λ none. none) p belongs
+
+    ran : Ran (state_in made o) (state_in new o') (λ b i. In {X = ℕ × ℕ} (b, i) fields)
+    ran = together_ran made new o o' m ops fields is' nothing all l
+
+    end : heap_end (state_in heap o) ≡ end_of heap.space
+    end = grind (arith, common_steps)
+
+    named : Continues (state_in heap o) (state_in made o) (λ a. a ≡ heap_end (state_in heap o))
+    named =
+        let on = continues_one (state_in heap o) (state_in made o) m (New d kind len) reply one in
+        record { mutators = on.mutators; size = on.size; collection = on.collection; names = λ a n. ⊎_elim (λ l. inl l) (λ new. inr new.1) (on.names a n); kept = on.kept }
 
 -- ---- new objects whose fields take the values of slots
 

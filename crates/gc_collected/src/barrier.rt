@@ -19,7 +19,7 @@ ghost use Rattle.gc_plan.specs.Belonging.{IsSpaceGraph, IsOpened};
 ghost use Rattle.gc_copy.specs.Words.{collection_in, open_state, spare_of, BelongsTo};
 ghost use Rattle.gc_collected.specs.Internal.Beside.{AreOld, replica_words};
 ghost use Rattle.gc_collected.specs.Internal.Follows.{Follows};
-ghost use Rattle.gc_collected.specs.Internal.Together.{IsUnreplicated, Logs, LogsIfOpen, fields_from};
+ghost use Rattle.gc_collected.specs.Internal.Together.{Logs, LogsIfOpen, fields_from};
 ghost use Rattle.gc_collected.specs.Writing.{numbers_step};
 ghost use Rattle.gc_collected.specs.Internal.CollectedHeap.{BelongsIfOpen, Fits, HasSpare, state_in};
 
@@ -236,8 +236,6 @@ pub(crate) fn new_in(
     ensures follows { Follows (state_in heap.old collection.now) watch.old → Follows (state_in heap.new collection.now) watch.new }
     // Unless there was no room, the object takes its fields.
     ensures fields { result ≢ Reply.Full → TakesFields heap.new (place d m) (end_of heap.old.space) len }
-    // And it has no replica.
-    ensures fresh { IsUnreplicated (option_map collection_in collection.now) (end_of heap.old.space) }
 {
     heaps_have_addresses_as_names();
     are_sound_in(collection, heap);

@@ -1,23 +1,22 @@
 //! Makes objects whose fields take numbers and the values of slots.
 
 ghost use Rattle.std.specs.Prelude.{ℕ, ◌≡◌, ◌≢◌, ◌<◌, ◌≤◌, ◌+◌, ◌++◌, List, length, get_or, is_some, IfOk, IfSome, OnErr, IsSome};
-ghost use Rattle.std.specs.Option.{option_map};
 ghost use Rattle.gc_graph.specs.Slots.{place};
 ghost use Rattle.gc_graph.specs.declared.command.Op.{Op};
 ghost use Rattle.gc_heap.specs.Filling.{TakesFields};
 ghost use Rattle.gc_heap.specs.Heap.{HeapWords};
-ghost use Rattle.gc_copy.specs.Words.{collection_in, spare_of};
-ghost use Rattle.gc_along.specs.Tables.{Tables};
+ghost use Rattle.gc_copy.specs.Words.{spare_of};
 ghost use Rattle.gc_collected.specs.Internal.Follows.{Follows};
-ghost use Rattle.gc_collected.specs.Mixed.{sources_step, new_with_step};
+ghost use Rattle.gc_collected.specs.Mixed.{new_with_step};
 ghost use Rattle.gc_collected.specs.declared.mixed.FieldSource.{FieldSource};
 ghost use Rattle.gc_collected.specs.Internal.CollectedHeap.{BelongsIfOpen, Fits, HasSpare, state_in};
 ghost use Rattle.gc_collected.specs.Internal.Sources.{source_fields, source_ops, sources_fields, sources_ops};
-ghost use Rattle.gc_collected.specs.Internal.Together.{IsUnreplicated, Logs, LogsIfOpen, PerformsAll};
+ghost use Rattle.gc_collected.specs.Internal.Together.{Logs, LogsIfOpen, PerformsAll};
 
-use crate::barrier::{are_sound_in, new_in, reserve_in};
+use crate::barrier::{are_sound_in, reserve_in};
 use crate::collected_heap::CollectedHeap;
-use gc_copy::Collection;
+use gc_along::Standing;
+use gc_copy::{Collection, heaps_have_addresses_as_names};
 use gc_graph::{NoMemory, Number, Reply, Slot};
 use gc_heap::Heap;
 use gc_words::OldAddr;
@@ -79,68 +78,62 @@ impl CollectedHeap {
         let _ = self.heap.space();
         let _ = d.index();
         let _ = t.index();
-        let object = OldAddr(self.heap.space().end());
-        let count = fields.count();
         let is_open = self.collection.is_some();
-        reserve_in(&mut self.collection, m, usize::from(count))?;
+        reserve_in(&mut self.collection, m, usize::from(fields.count()))?;
         self.known.slots = 0;
-        let made = new_in(
-            &self.collection,
-            &mut self.heap,
-            &mut self.watch,
-            m,
-            d,
-            kind,
-            count,
-        );
-        if let Reply::Full = made {
-            return Ok(made);
-        }
-        fill_all(
+        Ok(make_mixed(
             &mut self.collection,
             &mut self.heap,
+            &mut self.watch,
             is_open,
             m,
             d,
-            object,
+            kind,
             t,
             fields,
-        );
-        Ok(made)
+        ))
     }
 }
 
-// Fills the new object in `d`. If a collection is open, which `is_open` says, logs each field that is filled; then the log needs room for them. The
-// object has no replica, so the monitor is told of none of them.
+// Makes an object and fills it, as `new_with` does. If a collection is open, which `is_open` says, logs each field that is filled; then the log
+// needs room for them. A new object has no replica, so the monitor is told of the object alone.
 #[inline(always)]
-fn fill_all<R: SourceRow>(
+fn make_mixed<R: SourceRow>(
     collection: &mut Option<Collection>,
     heap: &mut Heap,
+    watch: &mut Standing,
     is_open: bool,
     m: u8,
     d: Slot,
-    object: OldAddr,
+    kind: u8,
     t: Slot,
     fields: &R,
-)
+) -> Reply
     requires belongs { BelongsIfOpen heap.old collection.old }
     requires open { is_open ≡ is_some collection.old }
     requires mutator { m < heap.old.mutators }
     requires apart { place t m ≢ place d m }
     requires row { R.is_row fields.now }
-    requires takes { TakesFields heap.old (place d m) object.0 (length (R.sources fields.now)) }
-    requires fresh { IsUnreplicated (option_map collection_in collection.old) object.0 }
     requires room { HasSpare collection.old m (length (R.sources fields.now)) }
-    ensures step { sources_step (state_in heap.old collection.old) m d t 0 (R.sources fields.now) ≡ state_in heap.new collection.new }
+    ensures step { new_with_step (state_in heap.old collection.old) m d kind t (R.sources fields.now) ≡ (result, state_in heap.new collection.new) }
     ensures fits { (epoch : ℕ) → Fits epoch heap.old collection.old → Fits epoch heap.new collection.new }
     ensures mutators { heap.new.mutators ≡ heap.old.mutators }
-    ensures follows { (t : Tables) → Follows (state_in heap.old collection.old) t → Follows (state_in heap.new collection.new) t }
+    ensures follows { Follows (state_in heap.old collection.old) watch.old → Follows (state_in heap.new collection.new) watch.new }
 {
+    heaps_have_addresses_as_names();
     are_sound_in(collection, heap);
     // Here the prover learns that the heap is sound.
     let _ = heap.space();
+    let object = OldAddr(heap.space().end());
+    let count = fields.count();
+    let made = heap.new_object(m, d, kind, count);
+    if let Reply::Full = made {
+        return made;
+    }
     fill_each(heap, m, d, object, t, fields);
     note_sources(collection, is_open, m, object, fields);
+    watch.made(heap.space().words());
+    made
 }
 
 // Fills the fields of the new object in `d`, in the heap alone.

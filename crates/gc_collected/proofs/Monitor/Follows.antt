@@ -8,7 +8,7 @@ use Rattle.gc_graph.specs.Slots.{SlotName}
 use Rattle.gc_graph.specs.declared.command.Op.{Op}
 use Rattle.gc_graph.specs.declared.reply.Reply.{Reply}
 use Rattle.gc_words.specs.Layout.{field_place}
-use Rattle.gc_plan.specs.State.{Collection, Replica, State, heap_end}
+use Rattle.gc_plan.specs.State.{Collection, State, heap_end}
 use Rattle.gc_plan.specs.Steps.{mutate, written}
 use Rattle.gc_plan.specs.Members.{In}
 use Rattle.gc_plan.specs.Linked.{LeadsTo, LeadsToOpen}
@@ -57,19 +57,14 @@ goes_through s s' t after Written is_open leads none some goes = go s.collection
 known_through : (s s' : State) (t : Tables) (Written : ℕ → ℕ → Type 0) → Ran s s' Written → KnowsAll s t → KnowsAll s' t
 known_through s s' t Written ran k = quiet_known s s' t NoName ran.on (λ a x. x) k
 
--- they wrote no field of an object that has a replica
-pub follows_apart : (s s' : State) (t : Tables) (Written : ℕ → ℕ → Type 0) → IfSome s.collection (IsOpened s) → Ran s s' Written
-    → ((c : Collection) → s.collection ≡ Some c → (r : Replica) → In r c.replicas → (i : ℕ) → Written r.original i → ⊥) → Follows s t → Follows s' t
-follows_apart s s' t Written is_open ran never f = record {
-  found = f.found;
-  goes = goes_through s s' t t Written is_open ran.leads (λ e w. w ∙ ap opening_watch ran.end)
-      (λ c e k g. (subst (λ n. WatchFits n c (watch_of t)) ran.end g.fits, λ r l j u. ⊎_elim (λ d. d) (λ w. absurd (never c e r l j w)))) f.goes;
-  knows = known_through s s' t Written ran f.knows;
-}
-
 -- they wrote no field
 pub follows_quiet : (s s' : State) (t : Tables) (Written : ℕ → ℕ → Type 0) → IfSome s.collection (IsOpened s) → Ran s s' Written → ((a i : ℕ) → Written a i → ⊥) → Follows s t → Follows s' t
-follows_quiet s s' t Written is_open ran never f = follows_apart s s' t Written is_open ran (λ c e r l i w. never r.original i w) f
+follows_quiet s s' t Written is_open ran never f = record {
+  found = f.found;
+  goes = goes_through s s' t t Written is_open ran.leads (λ e w. w ∙ ap opening_watch ran.end)
+      (λ c e k g. (subst (λ n. WatchFits n c (watch_of t)) ran.end g.fits, λ r l j u. ⊎_elim (λ d. d) (λ w. absurd (never r.original j w)))) f.goes;
+  knows = known_through s s' t Written ran f.knows;
+}
 
 -- no collection is open
 pub follows_closed : (s s' : State) (t : Tables) (Written : ℕ → ℕ → Type 0) → s.collection ≡ None → Ran s s' Written → Follows s t → Follows s' t
@@ -191,7 +186,7 @@ follows_put s s' m a i op reply old t after is_open is_open' heap less said none
 
 -- ---- an object made, after which commands may write its fields
 
-follows_made : (s s' : State) (Written : ℕ → ℕ → Type 0) (links : ℕ → ℕ) (old : List ℕ) (t after : Tables) → IfSome s.collection (IsOpened s) → IsSpaceGraph s.size s.heap.free s.heap.graph → IsSpaceGraph s'.size s'.heap.free s'.heap.graph → old ≡ heap_words links s'
+pub follows_made : (s s' : State) (Written : ℕ → ℕ → Type 0) (links : ℕ → ℕ) (old : List ℕ) (t after : Tables) → IfSome s.collection (IsOpened s) → IsSpaceGraph s.size s.heap.free s.heap.graph → IsSpaceGraph s'.size s'.heap.free s'.heap.graph → old ≡ heap_words links s'
     → EndsMore s s' → Continues s s' (λ a. a ≡ heap_end s) → Leads s s' Written → ((x j : ℕ) → Written x j → x ≡ heap_end s)
     → (t.lost ≡ false → CanMake old t → after.lost ≡ false) → (after.lost ≡ false → Made old t after) → Follows s t → Follows s' after
 follows_made s s' Written links old t after is_open before later is more on leads new stays made f = record {

@@ -1,13 +1,12 @@
 -- Commands that the mutators' heap performs one after the other, and whose fields are logged together afterwards.
-use Rattle.std.specs.Prelude.{◌≡◌, ℕ, zero, suc, List, [], ◌∷◌, ◌++◌, Option, Some, None, IfSome, ⊤}
+use Rattle.std.specs.Prelude.{◌≡◌, ℕ, zero, suc, List, [], ◌∷◌, ◌++◌, Option, Some, None, ⊤}
 use Rattle.gc_graph.specs.Slots.{SlotName}
 use Rattle.gc_graph.specs.declared.command.Op.{Op}
 use Rattle.gc_graph.specs.declared.command.Op.TheVariants.{Put}
 use Rattle.gc_graph.specs.declared.reply.Reply.{Reply}
 use Rattle.gc_heap.specs.Commands.{Performs}
 use Rattle.gc_heap.specs.Heap.{HeapWords, IsHeap, graph_in}
-use Rattle.gc_plan.specs.Members.{In}
-use Rattle.gc_plan.specs.State.{Collection, Replica, State}
+use Rattle.gc_plan.specs.State.{State}
 use Rattle.gc_plan.specs.Steps.{log_at, mutate, with_log, written}
 use Rattle.gc_copy.specs.Words.{CollectionWords, collection_in}
 
@@ -42,7 +41,3 @@ fields_from a i (suc n) = (a, i) ∷ fields_from a (suc i) n
 abbrev pub puts : SlotName → ℕ → List SlotName → List Op
 puts d i [] = []
 puts d i (t ∷ rest) = Put d i t ∷ puts d (suc i) rest
-
--- no replica in the open collection, if there is one, is that of the object at a
-abbrev pub IsUnreplicated : Option Collection → ℕ → Type 0
-IsUnreplicated o a = IfSome o (λ c. (r : Replica) → In r c.replicas → r.original ≡ a → ⊥)

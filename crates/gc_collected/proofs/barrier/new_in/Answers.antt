@@ -6,7 +6,6 @@ use Rattle.gc_along.specs.Events.{Made}
 use Rattle.gc_collected.specs.Internal.CollectedHeap.{state_in}
 use Rattle.gc_collected.proofs.Followed.{newly}
 use Rattle.gc_collected.proofs.OtherCommands.{performed, still_belongs, still_fits}
-use Rattle.gc_collected.proofs.Together.{end_unreplicated}
 use Rattle.gc_collected.proofs.barrier.new_in.Goals as goal
 
 pub returns-clause-step : goal.returns-clause-step
@@ -28,6 +27,3 @@ returns-clause-follows c = λ f.
     (c.heaps_have_addresses_as_names.ensures.graph new c.space-2.ensures.sound) (c.heaps_have_addresses_as_names.ensures.image new c.space-2.ensures.sound)
     (subst (λ ws. c.args.watch.now.lost ≡ false → CanMake ws c.args.watch.now → c.made.new.self.lost ≡ false) words c.made.ensures.stays)
     (subst (λ ws. c.made.new.self.lost ≡ false → Made ws c.args.watch.now c.made.new.self) words c.made.ensures.made) f
-
-pub returns-clause-fresh : goal.returns-clause-fresh
-returns-clause-fresh c = end_unreplicated c.args.heap.now c.args.collection.now c.space.ensures.sound (c.heaps_have_addresses_as_names.ensures.graph c.args.heap.now c.space.ensures.sound) c.are_sound_in.ensures
