@@ -1,5 +1,5 @@
 -- The fields that the heap fills are logged together, and then the monitor is told of the object.
-use Rattle.std.proofs.Common.{◌≡◌, false, sym, ap, subst, ◌∙◌, arith}
+use Rattle.std.proofs.Common.{◌≡◌, false, ap, subst, ◌∙◌, arith}
 use Rattle.gc_graph.specs.declared.command.Op.TheVariants.{New}
 use Rattle.gc_words.specs.Space.{end_of}
 use Rattle.gc_along.specs.Claims.{CanMake}
