@@ -22,6 +22,8 @@ mod Reserved
 mod Rooted
 mod Shown
 mod ScansKnow
+mod Sources
 mod SourcesPut
 mod Starts
 mod Stepped
+mod Together

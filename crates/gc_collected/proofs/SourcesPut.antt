@@ -14,11 +14,11 @@ use Rattle.gc_collected.specs.Internal.KnownRoots.{KnowsRoots}
 use Rattle.gc_collected.specs.declared.known.KnownRoots.{KnownRoots}
 use Rattle.gc_collected.proofs.Marks.{WritesBelow, forgetting, slot_below, one_below, slot_command, put_knows}
 
-made_with : (old made new : State) (m kind count : ℕ) (d t : SlotName) (fields : List FieldSource) (reply : Reply) → count ≡ length fields → mutate old m (New d kind count) ≡ (reply, made) → (reply ≡ replies.Full → ⊥)
+pub made_with : (old made new : State) (m kind count : ℕ) (d t : SlotName) (fields : List FieldSource) (reply : Reply) → count ≡ length fields → mutate old m (New d kind count) ≡ (reply, made) → (reply ≡ replies.Full → ⊥)
     → sources_step made m d t 0 fields ≡ new → new_with_step old m d kind t fields ≡ (reply, new)
 made_with old made new m kind count d t fields reply same first other fill = grind (arith, common_steps)
 
-full_with : (old made : State) (m kind count : ℕ) (d t : SlotName) (fields : List FieldSource) (reply : Reply) → count ≡ length fields → mutate old m (New d kind count) ≡ (reply, made) → reply ≡ replies.Full
+pub full_with : (old made : State) (m kind count : ℕ) (d t : SlotName) (fields : List FieldSource) (reply : Reply) → count ≡ length fields → mutate old m (New d kind count) ≡ (reply, made) → reply ≡ replies.Full
     → new_with_step old m d kind t fields ≡ (reply, made)
 full_with old made m kind count d t fields reply same first full = grind (arith, common_steps)
 
@@ -54,26 +54,10 @@ mixed_knows known (replies.Saw view) made m d t fields low less k = sources_know
 mixed_knows known replies.Yes made m d t fields low less k = sources_know fields known made m 0 d t low less k
 mixed_knows known replies.No made m d t fields low less k = sources_know fields known made m 0 d t low less k
 
-with_knows : (known : KnownRoots) (s new : State) (m kind : ℕ) (d t : SlotName) (fields : List FieldSource) (reply : Reply) → d.index < 16 → t.index < 16 → m < s.mutators → new_with_step s m d kind t fields ≡ (reply, new) → KnowsRoots known s
+pub with_knows : (known : KnownRoots) (s new : State) (m kind : ℕ) (d t : SlotName) (fields : List FieldSource) (reply : Reply) → d.index < 16 → t.index < 16 → m < s.mutators → new_with_step s m d kind t fields ≡ (reply, new) → KnowsRoots known s
     → KnowsRoots (forgetting known) new
 with_knows known s new m kind d t fields reply high low less steps k =
     let op = New d kind (length fields) in
     let below : WritesBelow (roots_of s.mutators) m op = λ q. one_below (place d m) q (roots_of s.mutators) (slot_below d m s.mutators high less) in
     subst (KnowsRoots (forgetting known)) (ap (λ (x : Reply × State). x.1) steps)
     (mixed_knows known (mutate s m op).0 (mutate s m op).1 m d t fields low less (slot_command known s m op below k))
-
--- ---- the whole call, and what is known of the roots after it
-
--- without room the `New` is all
-pub with_full : (known : KnownRoots) (now made : State) (m kind count : ℕ) (d t : SlotName) (fields : List FieldSource) (reply : Reply) → d.index < 16 → t.index < 16 → m < now.mutators → count ≡ length fields → mutate now m (New d kind count) ≡ (reply, made) → reply ≡ replies.Full → KnowsRoots known now
-    → (new_with_step now m d kind t fields ≡ (reply, made)) × KnowsRoots (forgetting known) made
-with_full known now made m kind count d t fields reply high low less same first full k =
-    let step = full_with now made m kind count d t fields reply same first full in
-    (step, with_knows known now made m kind d t fields reply high low less step k)
-
--- with room the fields are filled
-pub with_filled : (known : KnownRoots) (now made new : State) (m kind count : ℕ) (d t : SlotName) (fields : List FieldSource) (reply : Reply) → d.index < 16 → t.index < 16 → m < now.mutators → count ≡ length fields → mutate now m (New d kind count) ≡ (reply, made)
-    → (reply ≡ replies.Full → ⊥) → sources_step made m d t 0 fields ≡ new → KnowsRoots known now → (new_with_step now m d kind t fields ≡ (reply, new)) × KnowsRoots (forgetting known) new
-with_filled known now made new m kind count d t fields reply high low less same first other fill k =
-    let step = made_with now made new m kind count d t fields reply same first other fill in
-    (step, with_knows known now new m kind d t fields reply high low less step k)

@@ -6,4 +6,6 @@ pub mod Follows
 pub mod KnownRoots
 pub mod Knows
 pub mod Rooms
+pub mod Sources
 pub mod Stays
+pub mod Together

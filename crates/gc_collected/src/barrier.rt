@@ -2,7 +2,7 @@
 //! the monitor at hand; the monitor may be absent. Those whose names end in `_in` serve a heap with or without an open collection. None of them
 //! can fail: where one needs room in a log, `reserve_in` makes it.
 
-ghost use Rattle.std.specs.Prelude.{ℕ, ◌≡◌, ◌≢◌, ◌<◌, ◌≤◌, ◌+◌, ◌^◌, length, IfSome, IsSome, IsTrue, OnOk, OnErr, None};
+ghost use Rattle.std.specs.Prelude.{ℕ, ◌≡◌, ◌≢◌, ◌<◌, ◌≤◌, ◌+◌, ◌^◌, length, IfSome, IsSome, IsTrue, OnOk, OnErr, None, is_some};
 ghost use Rattle.std.specs.Option.{option_map};
 ghost use Rattle.std.specs.List.{All};
 ghost use Rattle.gc_graph.specs.Slots.{place};
@@ -20,6 +20,7 @@ ghost use Rattle.gc_copy.specs.Scans.{IsScanRun};
 ghost use Rattle.gc_copy.specs.Words.{collection_in, open_state, spare_of, BelongsTo};
 ghost use Rattle.gc_collected.specs.Internal.Beside.{AreOld, replica_words};
 ghost use Rattle.gc_collected.specs.Internal.Follows.{Follows};
+ghost use Rattle.gc_collected.specs.Internal.Together.{Logs, LogsIfOpen, fields_from};
 ghost use Rattle.gc_collected.specs.Writing.{numbers_step};
 ghost use Rattle.gc_collected.specs.Internal.CollectedHeap.{BelongsIfOpen, Fits, HasSpare, state_in};
 
@@ -265,97 +266,71 @@ pub(crate) fn new_in(
     reply
 }
 
-/// Performs mutator `m`'s `Put`, as `put` does if a collection is open. Then it needs room in the log.
+/// Performs mutator `m`'s `Put`, as `put` does if a collection is open, which `is_open` says. Then it needs room in the log.
 #[inline(always)]
 pub(crate) fn put_in(
     collection: &mut Option<Collection>,
     heap: &mut Heap,
     watch: &mut Standing,
+    is_open: bool,
     m: u8,
     s: Slot,
     i: u16,
     t: Slot,
 ) -> Reply
     requires belongs { BelongsIfOpen heap.old collection.old }
+    requires open { is_open ≡ is_some collection.old }
     requires mutator { m < heap.old.mutators }
     requires room { HasSpare collection.old m 1 }
     ensures step { mutate (state_in heap.old collection.old) m (Op.Put s i t) ≡ (result, state_in heap.new collection.new) }
     ensures fits { (epoch : ℕ) → Fits epoch heap.old collection.old → Fits epoch heap.new collection.new }
     ensures belongs { BelongsIfOpen heap.new collection.new }
+    ensures open { is_some collection.new ≡ is_some collection.old }
     ensures mutators { heap.new.mutators ≡ heap.old.mutators }
     ensures follows { Follows (state_in heap.old collection.old) watch.old → Follows (state_in heap.new collection.new) watch.new }
     ensures spare { (n : ℕ) → HasSpare collection.old m (n + 1) → HasSpare collection.new m n }
 {
     // Here the prover learns that the heap is sound.
     let _ = heap.space();
-    match collection {
-        None => heap.put(m, s, i, t),
-        Some(collection) => put(collection, heap, watch, m, s, i, t),
+    if !is_open {
+        return heap.put(m, s, i, t);
     }
+    put(collection.as_mut().unwrap(), heap, watch, m, s, i, t)
 }
 
-/// Performs mutator `m`'s `Put` of `t` into field `i` of the object that `d` refers to. The object is known to take it, as for
-/// `Heap::fill_field`, so the reply is `Done`. If a collection is open, the field is logged, which needs room in the log, and the monitor is
-/// told of it.
+/// Logs so many fields of this object, from field `first` on, if a collection is open, which `is_open` says. So a caller asks before it changes the
+/// heap, and an export that has asked the same needs no second test. Needs room in the log.
 #[inline(always)]
-pub(crate) fn fill_in(
+pub(crate) fn note_in(
     collection: &mut Option<Collection>,
-    heap: &mut Heap,
-    watch: &mut Standing,
+    is_open: bool,
     m: u8,
-    d: Slot,
     object: OldAddr,
-    i: u16,
-    t: Slot,
-) -> Reply
-    requires belongs { BelongsIfOpen heap.old collection.old }
-    requires mutator { m < heap.old.mutators }
-    requires field { (len : ℕ) × TakesFields heap.old (place d m) object.0 len × (i < len) }
-    requires room { HasSpare collection.old m 1 }
-    ensures step { mutate (state_in heap.old collection.old) m (Op.Put d i t) ≡ (result, state_in heap.new collection.new) }
-    ensures fits { (epoch : ℕ) → Fits epoch heap.old collection.old → Fits epoch heap.new collection.new }
-    ensures belongs { BelongsIfOpen heap.new collection.new }
-    ensures mutators { heap.new.mutators ≡ heap.old.mutators }
-    ensures follows { Follows (state_in heap.old collection.old) watch.old → Follows (state_in heap.new collection.new) watch.new }
-    ensures fields { (len : ℕ) → TakesFields heap.old (place d m) object.0 len → TakesFields heap.new (place d m) object.0 len }
-    ensures spare { (n : ℕ) → HasSpare collection.old m (n + 1) → HasSpare collection.new m n }
+    first: u16,
+    count: u16,
+)
+    requires open { is_open ≡ is_some collection.old }
+    requires log { IfSome collection.old (λ c. m < length c.logs) }
+    requires fields { first + count ≤ 65535 }
+    requires room { HasSpare collection.old m count }
+    ensures { LogsIfOpen collection.old m (fields_from object.0 first count) collection.new }
 {
-    // Here the prover learns that the heap is sound.
-    let _ = heap.space();
-    match collection {
-        None => heap.fill_field(m, d, object, i, t),
-        Some(collection) => fill(collection, heap, watch, m, d, object, i, t),
+    if is_open {
+        note_row(collection.as_mut().unwrap(), m, object, first, count);
     }
 }
 
-// The same, in an open collection.
-#[inline(always)]
-fn fill(
-    collection: &mut Collection,
-    heap: &mut Heap,
-    watch: &mut Standing,
-    m: u8,
-    d: Slot,
-    object: OldAddr,
-    i: u16,
-    t: Slot,
-) -> Reply
-    requires belongs { BelongsTo heap.old collection.old }
-    requires mutator { m < heap.old.mutators }
-    requires field { (len : ℕ) × TakesFields heap.old (place d m) object.0 len × (i < len) }
-    requires room { 1 ≤ spare_of collection.old m }
-    ensures step { mutate (open_state heap.old collection.old) m (Op.Put d i t) ≡ (result, open_state heap.new collection.new) }
-    ensures belongs { BelongsTo heap.new collection.new }
-    ensures mutators { heap.new.mutators ≡ heap.old.mutators }
-    ensures fields { (len : ℕ) → TakesFields heap.old (place d m) object.0 len → TakesFields heap.new (place d m) object.0 len }
-    ensures spare { spare_of collection.old m ≤ spare_of collection.new m + 1 }
-    ensures follows { Follows (open_state heap.old collection.old) watch.old → Follows (open_state heap.new collection.new) watch.new }
+/// Logs so many fields of this object, from field `first` on. Needs room in the log.
+#[inline(never)]
+pub(crate) fn note_row(collection: &mut Collection, m: u8, object: OldAddr, first: u16, count: u16)
+    requires log { m < length collection.old.logs }
+    requires fields { first + count ≤ 65535 }
+    requires room { count ≤ spare_of collection.old m }
+    ensures { Logs collection.old m (fields_from object.0 first count) collection.new }
 {
-    are_shown(heap, collection);
-    let reply = collection.fill_field(heap, m, d, object, i, t);
-    are_shown(heap, collection);
-    watch.written(heap.space().words(), object.0, i);
-    reply
+    for k in 0..count {
+        collection.note(m, object, first + k);
+    }
 }
 
 /// Does nothing. A collection that belongs to a heap is sound.

@@ -206,12 +206,14 @@ impl CollectedHeap {
         // Here the prover learns that the heap is sound, and the slot in range.
         let _ = self.heap.space();
         let _ = t.index();
+        let is_open = self.collection.is_some();
         reserve_in(&mut self.collection, m, 1)?;
         let _done = self.heap.num(m, t, n);
         Ok(put_in(
             &mut self.collection,
             &mut self.heap,
             &mut self.watch,
+            is_open,
             m,
             s,
             i,
@@ -234,12 +236,14 @@ impl CollectedHeap {
         // Here the prover learns that the heap is sound, and the slot in range.
         let _ = self.heap.space();
         let _ = t.index();
+        let is_open = self.collection.is_some();
         reserve_in(&mut self.collection, m, 1)?;
         let _done = self.heap.nil(m, t);
         Ok(put_in(
             &mut self.collection,
             &mut self.heap,
             &mut self.watch,
+            is_open,
             m,
             s,
             i,

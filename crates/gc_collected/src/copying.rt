@@ -1,6 +1,6 @@
 //! Copies fields from one object to another.
 
-ghost use Rattle.std.specs.Prelude.{ℕ, ◌≡◌, ◌≢◌, ◌<◌, ◌≤◌, ◌+◌, ◌||◌, not, length, IfOk, IfSome, OnErr, IsSome};
+ghost use Rattle.std.specs.Prelude.{ℕ, ◌≡◌, ◌≢◌, ◌<◌, ◌≤◌, ◌+◌, ◌||◌, not, length, IfOk, IfSome, OnErr, IsSome, is_some};
 ghost use Rattle.std.specs.List.{list_all};
 ghost use Rattle.std.specs.Option.{option_map};
 ghost use Rattle.gc_graph.specs.Slots.{place};
@@ -55,12 +55,14 @@ impl CollectedHeap {
         let Reply::Done = reply else {
             return Ok(reply);
         };
+        let is_open = self.collection.is_some();
         reserve_in(&mut self.collection, m, usize::from(count))?;
         self.known.slots = 0;
         copy_all(
             &mut self.collection,
             &mut self.heap,
             &mut self.watch,
+            is_open,
             m,
             d,
             to,
@@ -132,6 +134,7 @@ fn copy_field(
     collection: &mut Option<Collection>,
     heap: &mut Heap,
     watch: &mut Standing,
+    is_open: bool,
     m: u8,
     d: Slot,
     i: u16,
@@ -140,12 +143,14 @@ fn copy_field(
     t: Slot,
 )
     requires belongs { BelongsIfOpen heap.old collection.old }
+    requires open { is_open ≡ is_some collection.old }
     requires mutator { m < heap.old.mutators }
     requires room { HasSpare collection.old m 1 }
     ensures step { (mutate (mutate (state_in heap.old collection.old) m (Op.Get t s j)).1 m (Op.Put d i t)).1
         ≡ state_in heap.new collection.new }
     ensures fits { (epoch : ℕ) → Fits epoch heap.old collection.old → Fits epoch heap.new collection.new }
     ensures belongs { BelongsIfOpen heap.new collection.new }
+    ensures open { is_some collection.new ≡ is_some collection.old }
     ensures mutators { heap.new.mutators ≡ heap.old.mutators }
     ensures follows { Follows (state_in heap.old collection.old) watch.old → Follows (state_in heap.new collection.new) watch.new }
     ensures spare { (n : ℕ) → HasSpare collection.old m (n + 1) → HasSpare collection.new m n }
@@ -154,7 +159,7 @@ fn copy_field(
     // Here the prover learns that the heap is sound.
     let _ = heap.space();
     let _got = heap.fetch(m, t, s, j);
-    let _put = put_in(collection, heap, watch, m, d, i, t);
+    let _put = put_in(collection, heap, watch, is_open, m, d, i, t);
 }
 
 // Copies the fields. If a collection is open, the log needs room for each of them.
@@ -163,6 +168,7 @@ fn copy_all(
     collection: &mut Option<Collection>,
     heap: &mut Heap,
     watch: &mut Standing,
+    is_open: bool,
     m: u8,
     d: Slot,
     to: u16,
@@ -172,6 +178,7 @@ fn copy_all(
     count: u16,
 )
     requires belongs { BelongsIfOpen heap.old collection.old }
+    requires open { is_open ≡ is_some collection.old }
     requires mutator { m < heap.old.mutators }
     requires target { to + count ≤ 65535 }
     requires source { from + count ≤ 65535 }
@@ -182,6 +189,17 @@ fn copy_all(
     ensures follows { Follows (state_in heap.old collection.old) watch.old → Follows (state_in heap.new collection.new) watch.new }
 {
     for k in 0..count {
-        copy_field(collection, heap, watch, m, d, to + k, s, from + k, t);
+        copy_field(
+            collection,
+            heap,
+            watch,
+            is_open,
+            m,
+            d,
+            to + k,
+            s,
+            from + k,
+            t,
+        );
     }
 }

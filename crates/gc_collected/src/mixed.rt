@@ -1,18 +1,25 @@
 //! Makes objects whose fields take numbers and the values of slots.
 
-ghost use Rattle.std.specs.Prelude.{ℕ, ◌≡◌, ◌≢◌, ◌<◌, ◌≤◌, ◌+◌, List, length, get_or, IfOk, OnErr, IsSome};
+ghost use Rattle.std.specs.Prelude.{ℕ, ◌≡◌, ◌≢◌, ◌<◌, ◌≤◌, ◌+◌, ◌++◌, List, length, get_or, is_some, IfOk, IfSome, OnErr, IsSome};
 ghost use Rattle.gc_graph.specs.Slots.{place};
+ghost use Rattle.gc_graph.specs.declared.command.Op.{Op};
+ghost use Rattle.gc_heap.specs.Filling.{TakesFields};
+ghost use Rattle.gc_heap.specs.Heap.{HeapWords};
+ghost use Rattle.gc_copy.specs.Words.{spare_of};
 ghost use Rattle.gc_collected.specs.Internal.Follows.{Follows};
-ghost use Rattle.gc_collected.specs.Mixed.{source_step, sources_step, new_with_step};
+ghost use Rattle.gc_collected.specs.Mixed.{new_with_step};
 ghost use Rattle.gc_collected.specs.declared.mixed.FieldSource.{FieldSource};
 ghost use Rattle.gc_collected.specs.Internal.CollectedHeap.{BelongsIfOpen, Fits, HasSpare, state_in};
+ghost use Rattle.gc_collected.specs.Internal.Sources.{source_fields, source_ops, sources_fields, sources_ops};
+ghost use Rattle.gc_collected.specs.Internal.Together.{Logs, LogsIfOpen, PerformsAll};
 
-use crate::barrier::{are_sound_in, new_in, put_in, reserve_in};
+use crate::barrier::{are_sound_in, reserve_in};
 use crate::collected_heap::CollectedHeap;
 use gc_along::Standing;
-use gc_copy::Collection;
+use gc_copy::{Collection, heaps_have_addresses_as_names};
 use gc_graph::{NoMemory, Number, Reply, Slot};
 use gc_heap::Heap;
+use gc_words::OldAddr;
 
 /// What a field of a new object takes.
 #[derive(Clone, Copy, Debug, Drop)]
@@ -71,90 +78,146 @@ impl CollectedHeap {
         let _ = self.heap.space();
         let _ = d.index();
         let _ = t.index();
-        let count = fields.count();
-        reserve_in(&mut self.collection, m, usize::from(count))?;
+        let is_open = self.collection.is_some();
+        reserve_in(&mut self.collection, m, usize::from(fields.count()))?;
         self.known.slots = 0;
-        let made = new_in(
-            &self.collection,
-            &mut self.heap,
-            &mut self.watch,
-            m,
-            d,
-            kind,
-            count,
-        );
-        if let Reply::Full = made {
-            return Ok(made);
-        }
-        fill_all(
+        Ok(make_mixed(
             &mut self.collection,
             &mut self.heap,
             &mut self.watch,
+            is_open,
             m,
             d,
+            kind,
             t,
             fields,
-        );
-        Ok(made)
+        ))
     }
 }
 
-// Fills one field of the new object in `d`. If a collection is open, the log needs room for an entry.
-fn fill_one(
+// Makes an object and fills it, as `new_with` does. If a collection is open, which `is_open` says, logs each field that is filled; then the log
+// needs room for them. A new object has no replica, so the monitor is told of the object alone.
+#[inline(always)]
+fn make_mixed<R: SourceRow>(
     collection: &mut Option<Collection>,
     heap: &mut Heap,
     watch: &mut Standing,
+    is_open: bool,
     m: u8,
     d: Slot,
+    kind: u8,
     t: Slot,
-    i: u16,
-    source: FieldSource,
-)
+    fields: &R,
+) -> Reply
     requires belongs { BelongsIfOpen heap.old collection.old }
+    requires open { is_open ≡ is_some collection.old }
     requires mutator { m < heap.old.mutators }
-    requires room { HasSpare collection.old m 1 }
-    ensures step { source_step (state_in heap.old collection.old) m d t i source ≡ state_in heap.new collection.new }
+    requires apart { place t m ≢ place d m }
+    requires row { R.is_row fields.now }
+    requires room { HasSpare collection.old m (length (R.sources fields.now)) }
+    ensures step { new_with_step (state_in heap.old collection.old) m d kind t (R.sources fields.now) ≡ (result, state_in heap.new collection.new) }
     ensures fits { (epoch : ℕ) → Fits epoch heap.old collection.old → Fits epoch heap.new collection.new }
-    ensures belongs { BelongsIfOpen heap.new collection.new }
     ensures mutators { heap.new.mutators ≡ heap.old.mutators }
     ensures follows { Follows (state_in heap.old collection.old) watch.old → Follows (state_in heap.new collection.new) watch.new }
-    ensures spare { (n : ℕ) → HasSpare collection.old m (n + 1) → HasSpare collection.new m n }
 {
+    heaps_have_addresses_as_names();
     are_sound_in(collection, heap);
+    // Here the prover learns that the heap is sound.
+    let _ = heap.space();
+    let object = OldAddr(heap.space().end());
+    let count = fields.count();
+    let made = heap.new_object(m, d, kind, count);
+    if let Reply::Full = made {
+        return made;
+    }
+    fill_each(heap, m, d, object, t, fields);
+    note_sources(collection, is_open, m, object, fields);
+    watch.made(heap.space().words());
+    made
+}
+
+// Fills the fields of the new object in `d`, in the heap alone.
+fn fill_each<R: SourceRow>(heap: &mut Heap, m: u8, d: Slot, object: OldAddr, t: Slot, fields: &R)
+    requires mutator { m < heap.old.mutators }
+    requires apart { place t m ≢ place d m }
+    requires row { R.is_row fields.now }
+    requires takes { TakesFields heap.old (place d m) object.0 (length (R.sources fields.now)) }
+    ensures performs { PerformsAll heap.old m (sources_ops d t 0 (R.sources fields.now)) (sources_fields object.0 0 (R.sources fields.now)) heap.new }
+    ensures mutators { heap.new.mutators ≡ heap.old.mutators }
+{
+    for i in 0..fields.count() {
+        fill_one(heap, m, d, object, t, i, fields.source(i));
+    }
+}
+
+// Fills one field of the new object in `d`, in the heap alone.
+#[inline(always)]
+fn fill_one(heap: &mut Heap, m: u8, d: Slot, object: OldAddr, t: Slot, i: u16, source: FieldSource)
+    requires mutator { m < heap.old.mutators }
+    requires apart { place t m ≢ place d m }
+    requires field { (len : ℕ) × TakesFields heap.old (place d m) object.0 len × (i < len) }
+    ensures performs { (ops : List Op) (fields : List (ℕ × ℕ)) (new : HeapWords) → PerformsAll heap.new m ops fields new
+        → PerformsAll heap.old m (source_ops d t i source ++ ops) (source_fields object.0 i source ++ fields) new }
+    ensures mutators { heap.new.mutators ≡ heap.old.mutators }
+    ensures takes { (len : ℕ) → TakesFields heap.old (place d m) object.0 len → TakesFields heap.new (place d m) object.0 len }
+{
     // Here the prover learns that the heap is sound.
     let _ = heap.space();
     match source {
         FieldSource::Nil => {}
         FieldSource::Number(n) => {
             let _set = heap.num(m, t, n);
-            let _put = put_in(collection, heap, watch, m, d, i, t);
+            let _put = heap.fill_field(m, d, object, i, t);
         }
         FieldSource::Slot(s) => {
-            let _put = put_in(collection, heap, watch, m, d, i, s);
+            let _put = heap.fill_field(m, d, object, i, s);
         }
     }
 }
 
-// Fills the fields of the new object in `d`. If a collection is open, the log needs room for each field.
-fn fill_all<R: SourceRow>(
+// Logs the fields of this object that are filled, if a collection is open, which `is_open` says. Needs room in the log.
+#[inline(always)]
+fn note_sources<R: SourceRow>(
     collection: &mut Option<Collection>,
-    heap: &mut Heap,
-    watch: &mut Standing,
+    is_open: bool,
     m: u8,
-    d: Slot,
-    t: Slot,
+    object: OldAddr,
     fields: &R,
 )
-    requires belongs { BelongsIfOpen heap.old collection.old }
-    requires mutator { m < heap.old.mutators }
+    requires open { is_open ≡ is_some collection.old }
+    requires log { IfSome collection.old (λ c. m < length c.logs) }
     requires row { R.is_row fields.now }
     requires room { HasSpare collection.old m (length (R.sources fields.now)) }
-    ensures step { sources_step (state_in heap.old collection.old) m d t 0 (R.sources fields.now) ≡ state_in heap.new collection.new }
-    ensures fits { (epoch : ℕ) → Fits epoch heap.old collection.old → Fits epoch heap.new collection.new }
-    ensures mutators { heap.new.mutators ≡ heap.old.mutators }
-    ensures follows { Follows (state_in heap.old collection.old) watch.old → Follows (state_in heap.new collection.new) watch.new }
+    ensures { LogsIfOpen collection.old m (sources_fields object.0 0 (R.sources fields.now)) collection.new }
+{
+    if is_open {
+        note_each(collection.as_mut().unwrap(), m, object, fields);
+    }
+}
+
+// Logs the fields of this object that are filled. Needs room in the log.
+#[inline(never)]
+fn note_each<R: SourceRow>(collection: &mut Collection, m: u8, object: OldAddr, fields: &R)
+    requires log { m < length collection.old.logs }
+    requires row { R.is_row fields.now }
+    requires room { length (R.sources fields.now) ≤ spare_of collection.old m }
+    ensures { Logs collection.old m (sources_fields object.0 0 (R.sources fields.now)) collection.new }
 {
     for i in 0..fields.count() {
-        fill_one(collection, heap, watch, m, d, t, i, fields.source(i));
+        note_one(collection, m, object, i, fields.source(i));
+    }
+}
+
+// Logs this field of the object, unless it takes nothing. Needs room in the log.
+#[inline(always)]
+fn note_one(collection: &mut Collection, m: u8, object: OldAddr, i: u16, source: FieldSource)
+    requires log { m < length collection.old.logs }
+    requires room { 1 ≤ spare_of collection.old m }
+    ensures logs { Logs collection.old m (source_fields object.0 i source) collection.new }
+    ensures spare { spare_of collection.old m ≤ spare_of collection.new m + 1 }
+{
+    match source {
+        FieldSource::Nil => {}
+        _ => collection.note(m, object, i),
     }
 }

@@ -1,5 +1,5 @@
 -- What other crates cite of this crate's proofs and internal definitions, passed on from one place. Declares nothing.
-pub use Rattle.gc_copy.proofs.LinkedImages.{lowered_words, new_shown, other_links}
+pub use Rattle.gc_copy.proofs.LinkedImages.{command_leaves, lowered_words, new_shown, other_links}
 pub use Rattle.gc_copy.proofs.Mutating.{idle_left, mutate_is, one_but, open_left, still_unlinked}
 pub use Rattle.gc_copy.proofs.OpenCollection.{link_above, placed_has, replica_object}
 pub use Rattle.gc_copy.proofs.Opening.{opening_with_ok}

@@ -186,7 +186,7 @@ follows_put s s' m a i op reply old t after is_open is_open' heap less said none
 
 -- ---- an object made, after which commands may write its fields
 
-follows_made : (s s' : State) (Written : ℕ → ℕ → Type 0) (links : ℕ → ℕ) (old : List ℕ) (t after : Tables) → IfSome s.collection (IsOpened s) → IsSpaceGraph s.size s.heap.free s.heap.graph → IsSpaceGraph s'.size s'.heap.free s'.heap.graph → old ≡ heap_words links s'
+pub follows_made : (s s' : State) (Written : ℕ → ℕ → Type 0) (links : ℕ → ℕ) (old : List ℕ) (t after : Tables) → IfSome s.collection (IsOpened s) → IsSpaceGraph s.size s.heap.free s.heap.graph → IsSpaceGraph s'.size s'.heap.free s'.heap.graph → old ≡ heap_words links s'
     → EndsMore s s' → Continues s s' (λ a. a ≡ heap_end s) → Leads s s' Written → ((x j : ℕ) → Written x j → x ≡ heap_end s)
     → (t.lost ≡ false → CanMake old t → after.lost ≡ false) → (after.lost ≡ false → Made old t after) → Follows s t → Follows s' after
 follows_made s s' Written links old t after is_open before later is more on leads new stays made f = record {

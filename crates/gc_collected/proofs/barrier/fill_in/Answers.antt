@@ -1,8 +1,0 @@
--- A field that is filled while no collection is open: the monitor is told nothing.
-use Rattle.std.proofs.Common.{refl}
-use Rattle.gc_graph.specs.declared.command.Op.TheVariants.{Put}
-use Rattle.gc_collected.proofs.Followed.{closed_put}
-use Rattle.gc_collected.proofs.barrier.fill_in.Goals as goal
-
-pub returns-in-None-clause-follows : goal.returns-in-None-clause-follows
-returns-in-None-clause-follows c = closed_put c.args.heap.now c.fill_field.new.self c.args.collection.now c.args.m (Put c.args.d c.args.i c.args.t) c.fill_field.result c.args.watch.now c.in-None.is refl c.space.ensures.sound c.fill_field.ensures.performs
