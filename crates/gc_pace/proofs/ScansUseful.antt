@@ -1,28 +1,29 @@
 -- Scans, of which the first is useful, are useful steps, and runs of useful steps join.
 use Rattle.std.proofs.lemmas.Grind.{common_steps}
-use Rattle.std.proofs.Common.{◌≡◌, ◌⊎◌, inl, inr, ⊎_elim, ℕ, zero, suc, ◌+◌, ◌-◌, ◌<◌, ◌≤◌, Bool, true, false, cond, Option, Some, None, is_some, refl, sym, ap, ◌∙◌, subst, arith}
-use Rattle.std.specs.Prelude.{◌≢◌, IfSome, IsTrue, is_none, slice_get}
+use Rattle.std.proofs.Common.{◌≡◌, ◌⊎◌, inl, inr, ⊎_elim, ℕ, zero, suc, ◌+◌, ◌-◌, ◌<◌, ◌≤◌, true, false, Option, Some, None, is_some, refl, sym, ap, ◌∙◌, subst, arith}
+use Rattle.std.specs.Prelude.{◌≢◌, IfSome, IsSome, is_none, slice_get}
 use Rattle.std.specs.Option.{option_map, unwrap_or}
 use Rattle.std.proofs.lemmas.Bool.{cases_lt, cond_both, and_parts, cases_Bool}
-use Rattle.gc_graph.specs.Graph.{Value, Nil, Num, Ref, Graph, root}
-use Rattle.gc_plan.specs.State.{Collection, Replica, State, replica_at, replica_of, new_end}
-use Rattle.gc_plan.specs.Steps.{scan, scan_done, scan_replica, roots_done, root_target, is_ready, collect, if_room, bring_up_to_date, next_field, next_object, with_collection}
+use Rattle.gc_graph.specs.Graph.{Value, Nil, Graph, root}
+use Rattle.gc_plan.specs.State.{Collection, Replica, State, replica_at, new_end}
+use Rattle.gc_plan.specs.Steps.{scan, scan_done, scan_replica, roots_done, root_target, is_ready, collect, if_room, bring_up_to_date, next_field}
 use Rattle.gc_plan.specs.Belonging.{IsSpaceGraph, IsOpened}
-use Rattle.gc_plan.specs.Progress.{work_left, entries_left, ChangesLower, Advances}
+use Rattle.gc_plan.specs.Progress.{entries_left, ChangesLower, Advances}
 use Rattle.gc_plan.specs.Staying.{HasReplicaOf, KnowsRoot}
 use Rattle.gc_plan.specs.declared.step.Step.{Step}
 use Rattle.gc_plan.specs.declared.step.Step.TheVariants as steps
 use Rattle.gc_plan.specs.declared.step.StepReply.{StepReply}
 use Rattle.gc_plan.specs.declared.step.StepReply.TheVariants.{Clean, NoRoom, Passed, Scanned, Refused, Flipped}
-use Rattle.gc_plan.proofs.Public.{all_replicated, collect_stays, get_in, get_within, opened_has_room, roots_replicated, HasReplica}
+use Rattle.gc_plan.proofs.Public.{all_replicated, collect_stays, get_in, opened_has_room, roots_replicated, HasReplica}
 use Rattle.gc_copy.specs.Words.{RoomWords}
 use Rattle.gc_copy.specs.Scans.{after_scans, scan_reply, ScansOn, IsScanRun}
 use Rattle.gc_collected.specs.Flip.{FormerAfter}
 use Rattle.gc_collected.specs.declared.flip.Keep.TheVariants.{Room}
-use Rattle.gc_copy.proofs.Public.{does, having, scanned_on, scanned_once, scans_are, opened_once, all_opened}
+use Rattle.gc_copy.proofs.Public.{does, having, scanned_on, scanned_once, scans_are, all_opened}
 use Rattle.gc_pace.specs.Internal.Leaving.{LeavesLess, EndsBelow}
-use Rattle.gc_pace.specs.Beside.{LeavesAfter}
-use Rattle.gc_pace.specs.Work.{sized_step, after_useful, useful_reply, goes_on, end_after, IsSoundReply, IsLarge, IsRun}
+use Rattle.gc_collected.specs.Collected.{Beside, Collected, turns_after}
+use Rattle.gc_pace.specs.Beside.{HaveRooms, LeavesAfter}
+use Rattle.gc_pace.specs.Work.{sized_step, after_useful, useful_reply, goes_on, is_flip, end_after, IsSoundReply, IsRun}
 use Rattle.gc_pace.proofs.FormerRuns.{first_left}
 use Rattle.gc_pace.proofs.Left.{leaves_less}
 use Rattle.gc_pace.proofs.Runs.{first_run, longer_run, room_of}
@@ -51,6 +52,9 @@ not_refused r h = grind (arith, common_steps)
 
 goes_unless : (r : StepReply) → IsScanReply r → r ≢ NoRoom → goes_on r ≡ true
 goes_unless r h n = grind (arith, common_steps)
+
+no_flip_reply : (r : StepReply) → IsScanReply r → is_flip r ≡ false
+no_flip_reply r h = grind (arith, common_steps)
 
 same_former : (s : State) (old : Option RoomWords) (r : StepReply) → IsScanReply r → FormerAfter Room s old r old
 same_former s old r h = grind (arith, common_steps)
@@ -186,6 +190,9 @@ module _ (size : Option ℕ) (s : State) (c : Collection) (until n : ℕ) (t : S
       subst (λ (x : State). end_after x (useful_reply size k (having s c)) < until) (state_at (suc k) (omega (arith, less)))
       (subst (λ (r : StepReply). end_after (At (suc k)) r < until) (said_at k before) ends)
 
+  pub no_flip : is_flip reply ≡ false
+  no_flip = subst (λ (r : StepReply). is_flip r ≡ false) (sym run.reply_is) (no_flip_reply _ (reply_at (n - 1)))
+
 -- ---- runs join
 
 later_state : (size : Option ℕ) (m n : ℕ) (s : State) → after_useful size n (after_useful size m s) ≡ after_useful size (n + m) s
@@ -267,11 +274,25 @@ own s c is = ap (λ (o : Option Collection). record s { collection = o }) is
 pub opened_in : (s : State) (c : Collection) → s.collection ≡ Some c → IfSome s.collection (IsOpened s) → IsOpened s c
 opened_in s c is opened = subst (λ (o : Option Collection). IfSome o (IsOpened s)) is opened
 
+-- what lies beside the state of an open collection stays, where no step flips
+pub same_rooms : (size : Option ℕ) (s : State) (b new : Beside) (reply : StepReply) → IsSome s.collection → new ≡ b → is_flip reply ≡ false → HaveRooms size s b (is_flip reply) new.rooms
+same_rooms size s b new reply some same quiet = subst (λ flips. HaveRooms size s b flips new.rooms) (sym quiet) (
+  b.rooms,
+  ((λ x. refl), λ none. absurd (let no : false ≡ true = sym (ap is_some none) ∙ some in cc)),
+  ap (λ (x : Beside). x.rooms) same,
+)
+
 -- ---- one step of another kind
 
-pub single : (size : Option ℕ) (s now u : State) (reply : StepReply) (old new : Option RoomWords) → now ≡ s → collect now (sized_step size now) ≡ (reply, u) → IsSoundReply now reply → LeavesLess now u reply → FormerAfter Room now old reply new
-    → IsRun size 1 s u reply × LeavesAfter size 1 s old new
-single size s now u reply old new same step sound leaves former = subst (λ (x : State). IsRun size 1 x u reply × LeavesAfter size 1 x old new) same (
-  first_run size now u reply step sound leaves,
-  first_left size now u reply old new step former,
+-- a useful step is a run of one
+pub single : (size : Option ℕ) (h now u : Collected) (reply : StepReply) → now ≡ h → collect now.core (sized_step size now.core) ≡ (reply, u.core) → IsSoundReply now.core reply → LeavesLess now.core u.core reply
+    → FormerAfter Room now.core now.beside.former reply u.beside.former → u.beside.turns ≡ turns_after Room now.beside.turns reply → HaveRooms size now.core now.beside (is_flip reply) u.beside.rooms → u.beside.pair ≡ now.beside.pair
+    → IsRun size 1 h.core u.core reply × LeavesAfter size 1 h.core h.beside.former u.beside.former × (u.beside.turns ≡ turns_after Room h.beside.turns reply) × HaveRooms size h.core h.beside (is_flip reply) u.beside.rooms × (u.beside.pair ≡ h.beside.pair)
+single size h now u reply same step sound leaves former turns rooms pair = subst (λ (x : Collected). IsRun size 1 x.core u.core reply × LeavesAfter size 1 x.core x.beside.former u.beside.former
+    × (u.beside.turns ≡ turns_after Room x.beside.turns reply) × HaveRooms size x.core x.beside (is_flip reply) u.beside.rooms × (u.beside.pair ≡ x.beside.pair)) same (
+  first_run size now.core u.core reply step sound leaves,
+  first_left size now.core u.core reply now.beside.former u.beside.former step former,
+  turns,
+  rooms,
+  pair,
 )

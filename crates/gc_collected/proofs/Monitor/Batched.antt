@@ -1,22 +1,20 @@
 -- A run of scans, of which a standing checker is told afterwards: of all its replicas first, and then of the scanned fields.
 use Rattle.std.proofs.lemmas.Grind.{common_steps}
-use Rattle.std.proofs.Common.{◌≡◌, ◌⊎◌, inl, inr, ⊎_elim, ℕ, zero, suc, ◌+◌, ◌<◌, ◌≤◌, ◌==◌, nat_lt, Bool, true, false, cond, ◌||◌, List, [], ◌∷◌, ◌++◌, map, length, take, drop, Option, Some, None, is_some, refl, ap, sym, ◌∙◌, subst, arith}
-use Rattle.std.specs.Prelude.{slice_index, IfSome}
-use Rattle.std.specs.Option.{option_map, unwrap_or}
+use Rattle.std.proofs.Common.{◌≡◌, ◌⊎◌, inl, inr, ⊎_elim, ℕ, zero, suc, ◌+◌, ◌<◌, ◌≤◌, ◌==◌, nat_lt, Bool, true, false, cond, List, [], ◌∷◌, ◌++◌, map, length, take, drop, Option, Some, None, is_some, refl, ap, sym, ◌∙◌, subst, arith}
+use Rattle.std.specs.Prelude.{slice_index}
+use Rattle.std.specs.Option.{option_map}
 use Rattle.std.proofs.lemmas.Bool.{cases_Bool, eqb-true}
 use Rattle.gc_graph.specs.Graph.{Value, Nil, Num, Ref, Object, Graph, lookup, field_of}
 use Rattle.gc_words.specs.Word.{read_header, header_word}
 use Rattle.gc_words.specs.Layout.{fields_place, link_place}
 use Rattle.gc_words.specs.declared.header.Header.{Header}
-use Rattle.gc_plan.specs.State.{Replica, Collection, State, new_end, new_free, replica_at, replica_of, moved}
-use Rattle.gc_plan.specs.Steps.{scan, scan_replica, scan_done, fresh_replica, place_replica, with_replica, with_written, write_replica, bring_value, bring_up_to_date, next_field, next_object, if_room, with_collection}
+use Rattle.gc_plan.specs.State.{Replica, Collection, State, new_end, new_free, replica_of, moved}
+use Rattle.gc_plan.specs.Steps.{scan, fresh_replica, place_replica, with_replica, with_written, write_replica, bring_value, bring_up_to_date}
 use Rattle.gc_plan.specs.Linked.{object_header, field_word}
 use Rattle.gc_plan.specs.Members.{In}
 use Rattle.gc_plan.specs.Belonging.{IsOpened, IsSpaceGraph}
-use Rattle.gc_plan.specs.declared.step.StepReply.{StepReply}
-use Rattle.gc_plan.specs.declared.step.StepReply.TheVariants.{Passed, Scanned}
-use Rattle.gc_plan.specs.declared.step.Step.TheVariants as steps
-use Rattle.gc_plan.proofs.Public.{open_keeps, find_some, in_left, in_map, pair, same_original, with_written_pair, with_written_length}
+use Rattle.gc_plan.specs.declared.step.StepReply.TheVariants.{Scanned}
+use Rattle.gc_plan.proofs.Public.{find_some, in_left, in_map, pair, same_original, with_written_pair, with_written_length}
 use Rattle.gc_copy.proofs.Public.{all_opened, does, having, opened_once, scanned_on, scanned_once, Moves}
 use Rattle.gc_along.specs.Claims.{CanPlaceNext, OwesNone}
 use Rattle.gc_along.specs.Events.{IsClaim, IsCopy, Placed}

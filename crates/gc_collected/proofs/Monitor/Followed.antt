@@ -6,13 +6,11 @@ use Rattle.gc_graph.specs.Graph.{Object}
 use Rattle.gc_words.specs.Word.{read_header}
 use Rattle.gc_words.specs.declared.header.Header.{Header}
 use Rattle.gc_plan.specs.State.{Replica, Collection, State, new_end}
-use Rattle.gc_plan.specs.Steps.{scan, collect}
+use Rattle.gc_plan.specs.Steps.{scan}
 use Rattle.gc_plan.specs.Linked.{object_header}
 use Rattle.gc_plan.specs.Members.{In}
 use Rattle.gc_plan.specs.Belonging.{IsOpened, IsSpaceGraph, IsScanPlace, IsUnscanned}
-use Rattle.gc_plan.specs.declared.step.Step.TheVariants as steps
 use Rattle.gc_plan.proofs.Public.{find_some, in_map, laid_apart, laid_range, placed, same_place}
-use Rattle.gc_copy.specs.Scans.{after_scans}
 use Rattle.gc_along.specs.Claims.{CanLook}
 use Rattle.gc_along.specs.Events.{Looked}
 use Rattle.gc_along.specs.Runs.{PlacedAll, CanPlaceAll, IsBefore, LooksAt, LooksPast, LooksOn, LookRun, LookedAll, CanGoOn, CanLookAll}
@@ -20,7 +18,7 @@ use Rattle.gc_along.specs.Tables.{Tables, watch_of}
 use Rattle.gc_collected.specs.Internal.Beside.{heap_words, replica_words}
 use Rattle.gc_collected.specs.Internal.Knows.{Knows}
 use Rattle.gc_collected.proofs.Monitor.Agree.{replicas_shown}
-use Rattle.gc_copy.proofs.Public.{scans_are, having, scanned_once, scanned_on, Moves, does, opened_once, all_opened}
+use Rattle.gc_copy.proofs.Public.{having, scanned_once, scanned_on, Moves, does, opened_once, all_opened}
 use Rattle.gc_collected.proofs.Monitor.Batched.{once_lasts, can_place_all, knows_all}
 use Rattle.gc_collected.proofs.Monitor.Behind.{IsBehind, begins, caught_up, can_see, sees, goes_on}
 use Rattle.gc_collected.proofs.Monitor.Brought.{FieldScanned, field_was_scanned, replica_was_passed, brings}

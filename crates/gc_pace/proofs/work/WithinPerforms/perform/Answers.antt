@@ -1,5 +1,5 @@
 -- Before the last step the new space ends below the place at which replicas have taken enough words.
-use Rattle.std.proofs.Common.{ℕ, suc, ◌-◌, ◌<◌, Result, Ok, Err}
+use Rattle.std.proofs.Common.{suc, Result, Ok, Err}
 use Rattle.std.specs.Prelude.{IfOk}
 use Rattle.gc_pace.specs.Work.{after_useful, useful_reply, end_after}
 use Rattle.gc_pace.specs.declared.work.Run.{Run}
