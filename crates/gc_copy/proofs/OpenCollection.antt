@@ -45,9 +45,6 @@ same_graph h = record { mutators = refl; size = refl; roots = refl; heap = refl;
 pub start_kept : (old new : HeapWords) (a : ℕ) → KeepsGraph old new → is_start new.space.words a ≡ is_start old.space.words a
 start_kept old new a k = ap (λ bs. is_some (block_in bs a)) k.blocks
 
-pub root_word_kept : (old new : HeapWords) (w : ℕ) → KeepsGraph old new → IsRootWord old.space.words w → IsRootWord new.space.words w
-root_word_kept old new w k is = grind (arith, common_steps, start_kept)
-
 -- mutators do not see links
 pub linked_heap : (heap : HeapWords) (name place : ℕ) → IsHeap heap → is_start heap.space.words name ≡ true → KeepsGraph heap (record heap { space = with_word heap.space (link_place name) place })
 linked_heap heap name place is start = grind (arith, common_steps, graph_link, end_written, link_written)

@@ -19,9 +19,6 @@ pub record IsScanning (until n : ℕ) (s t : State) : Type 0 where
   pub state : t ≡ after_scans n s
   pub going : (k : ℕ) → k < n → Goes until s k
 
-pub no_scans : (until : ℕ) (s : State) → IsScanning until 0 s s
-no_scans until s = record { state = refl; going = λ k less. absurd (omega arith) }
-
 -- the next scan, which got this reply
 next : (s : State) (n : ℕ) (t u : State) (reply : StepReply) → t ≡ after_scans n s → collect t Scan ≡ (reply, u) → (reply ≡ scan_reply n s) × (u ≡ after_scans (suc n) s)
 next s n t u reply is step = grind (arith, common_steps)

@@ -13,8 +13,3 @@ use Rattle.gc_pace.specs.Work.{IsRun, sized_step}
 -- after one step
 pub first_left : (size : Option ℕ) (s u : State) (reply : StepReply) (old new : Option RoomWords) → collect s (sized_step size s) ≡ (reply, u) → FormerAfter Room s old reply new → LeavesAfter size 1 s old new
 first_left size s u reply old new step left = (old, refl, subst (λ (r : StepReply). FormerAfter Room s old r new) (sym (ap (λ (x : StepReply × State). x.0) step)) left)
-
--- after one step more
-pub longer_left : (size : Option ℕ) (s t u : State) (n : ℕ) (before reply : StepReply) (old mid new : Option RoomWords) → IsRun size n s t before → collect t (sized_step size t) ≡ (reply, u)
-    → LeavesAfter size n s old mid → FormerAfter Room t mid reply new → LeavesAfter size (suc n) s old new
-longer_left size s t u n before reply old mid new run step so_far left = grind (arith, common_steps)

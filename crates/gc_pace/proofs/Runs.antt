@@ -76,18 +76,3 @@ longer_run size s t u n before reply run on step sound leaves =
         (λ early. run.going k early)
         (λ late. let last : n - 1 ≡ k = omega arith in subst (λ (j : ℕ). goes_on (useful_reply size j s) ≡ true) last (ap goes_on (sym run.reply_is) ∙ on))
         (cases_lt (suc k) n)
-
--- ---- steps that were not enough
-
--- what holds after each step but the last holds after the last too, if it holds of this state and reply
-pub short_more : (Short : State → StepReply → Type 0) (size : Option ℕ) (s t : State) (n : ℕ) (reply : StepReply) → IsRun size n s t reply → Short t reply
-    → ((k : ℕ) → suc k < n → Short (after_useful size (suc k) s) (useful_reply size k s)) → (k : ℕ) → suc k < n + 1 → Short (after_useful size (suc k) s) (useful_reply size k s)
-short_more Short size s t n reply run now before k less = ⊎_elim
-    (λ early. before k early)
-    (λ late.
-    let at : n ≡ suc k = omega arith in
-    let last : n - 1 ≡ k = omega arith in
-    let state : t ≡ after_useful size (suc k) s = run.state ∙ ap (λ (j : ℕ). after_useful size j s) at in
-    let said : reply ≡ useful_reply size k s = run.reply_is ∙ ap (λ (j : ℕ). useful_reply size j s) last in
-    subst (λ (x : State). Short x (useful_reply size k s)) state (subst (Short t) said now))
-    (cases_lt (suc k) n)
