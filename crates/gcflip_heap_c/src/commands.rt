@@ -10,16 +10,16 @@ ghost use Rattle.gcflip_heap_c.specs.Commands.{IsCall, IsCommandCall, Replies};
 ghost use Rattle.gcflip_heap_c.specs.Replies.{reply_in_c, got_in_c, number_after, view_after};
 ghost use Rattle.gcflip_heap_c.specs.Slots.{NamesSlots, numbered_slot};
 
-use crate::answer::{NO_MEMORY, OUT_OF_RANGE};
+use crate::answer::OUT_OF_RANGE;
 use crate::guards::{lent_to, slot_named};
 use crate::handle::GcflipHeap;
 use crate::rare::{
     MOST_IN_LINE, new_long, new_long_raw, new_pair_while_open, put_number_while_open,
     put_while_open,
 };
-use crate::reply::{GcflipView, of_fetched, of_look, of_reply};
+use crate::reply::{GcflipView, of_fetched, of_look, of_reply, of_result};
 use crate::slots::{NumberedSlots, SLOT_NUMBERS, are_slots, numbered_slot};
-use gc_graph::{NoMemory, Number};
+use gc_graph::Number;
 
 /// Makes an object of this kind with `count` fields, all nil, and puts a reference to it into slot `d`.
 #[unsafe(no_mangle)]
@@ -145,10 +145,7 @@ pub extern "C" fn gcflip_heap_put(heap: &mut GcflipHeap, m: u8, s: u8, i: u16, t
     }
     let s = slot_named!(s);
     let t = slot_named!(t);
-    match heap.put(m, s, i, t) {
-        Ok(reply) => of_reply(&reply),
-        Err(NoMemory) => NO_MEMORY,
-    }
+    of_result(heap.put(m, s, i, t))
 }
 
 /// Puts the number `n` into slot `t`, and then writes it to field `i` of the object that slot `s` refers to. This is a
@@ -168,6 +165,9 @@ pub extern "C" fn gcflip_heap_put_number(
     ensures beside { heap.new.beside ≡ heap.old.beside }
 {
     let heap = lent_to!(heap, m);
+    let Some(n) = Number::new(n) else {
+        return OUT_OF_RANGE;
+    };
     if heap.is_open() {
         return put_number_while_open(heap, m, s, i, t, n);
     }
@@ -175,13 +175,7 @@ pub extern "C" fn gcflip_heap_put_number(
         return OUT_OF_RANGE;
     }
     let (s, t) = (numbered_slot(s), numbered_slot(t));
-    let Some(n) = Number::new(n) else {
-        return OUT_OF_RANGE;
-    };
-    match heap.put_number(m, s, i, t, n) {
-        Ok(reply) => of_reply(&reply),
-        Err(NoMemory) => NO_MEMORY,
-    }
+    of_result(heap.put_number(m, s, i, t, n))
 }
 
 /// Puts nil into slot `t`, and then writes it to field `i` of the object that slot `s` refers to. This is a
@@ -196,10 +190,7 @@ pub extern "C" fn gcflip_heap_put_nil(heap: &mut GcflipHeap, m: u8, s: u8, i: u1
     let heap = lent_to!(heap, m);
     let s = slot_named!(s);
     let t = slot_named!(t);
-    match heap.put_nil(m, s, i, t) {
-        Ok(reply) => of_reply(&reply),
-        Err(NoMemory) => NO_MEMORY,
-    }
+    of_result(heap.put_nil(m, s, i, t))
 }
 
 /// Makes an object of this kind with two fields, which take the values of slots `s` and `t`, and puts a reference to
@@ -227,10 +218,7 @@ pub extern "C" fn gcflip_heap_new_pair(
         return OUT_OF_RANGE;
     }
     let (d, s, t) = (numbered_slot(d), numbered_slot(s), numbered_slot(t));
-    match heap.cons(m, d, kind, s, t) {
-        Ok(reply) => of_reply(&reply),
-        Err(NoMemory) => NO_MEMORY,
-    }
+    of_result(heap.cons(m, d, kind, s, t))
 }
 
 /// Makes an object of this kind, and puts a reference to it into slot `d`. `fields` has a slot number for each field,
@@ -256,10 +244,7 @@ pub extern "C" fn gcflip_heap_new_from(
         return OUT_OF_RANGE;
     }
     let fields = NumberedSlots { numbers: fields };
-    match heap.new_from(m, d, kind, &fields) {
-        Ok(reply) => of_reply(&reply),
-        Err(NoMemory) => NO_MEMORY,
-    }
+    of_result(heap.new_from(m, d, kind, &fields))
 }
 
 /// Compares the values of slots `s` and `t`.

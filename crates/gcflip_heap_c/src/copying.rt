@@ -6,11 +6,10 @@ ghost use Rattle.gc_collected.specs.Copying.{copy_fields_step};
 ghost use Rattle.gcflip_heap_c.specs.Commands.{IsCommandCall};
 ghost use Rattle.gcflip_heap_c.specs.Slots.{NamesSlots, numbered_slot};
 
-use crate::answer::{NO_MEMORY, OUT_OF_RANGE};
+use crate::answer::OUT_OF_RANGE;
 use crate::guards::{lent_to, slot_named};
 use crate::handle::GcflipHeap;
-use crate::reply::of_reply;
-use gc_graph::NoMemory;
+use crate::reply::of_result;
 
 /// Copies `count` fields: from field `from` on, of the object that slot `s` refers to, to field `to` and on of the object that slot `d`
 /// refers to. For each field this is a `gcflip_heap_get` into slot `t` and a `gcflip_heap_put` of slot `t`, in rising order and in one call,
@@ -38,8 +37,5 @@ pub extern "C" fn gcflip_heap_copy_fields(
     let target = slot_named!(d);
     let source = slot_named!(s);
     let value = slot_named!(t);
-    match heap.copy_fields(m, target, to, source, from, value, count) {
-        Ok(reply) => of_reply(&reply),
-        Err(NoMemory) => NO_MEMORY,
-    }
+    of_result(heap.copy_fields(m, target, to, source, from, value, count))
 }

@@ -8,13 +8,13 @@ ghost use Rattle.gcflip_heap_c.specs.Commands.{IsCommandCall};
 ghost use Rattle.gcflip_heap_c.specs.Mixed.{is_source, source_of as source_in, AreSources};
 ghost use Rattle.gcflip_heap_c.specs.Slots.{NamesSlots, numbered_slot};
 
-use crate::answer::{NO_MEMORY, OUT_OF_RANGE};
+use crate::answer::OUT_OF_RANGE;
 use crate::guards::{lent_to, slot_named};
 use crate::handle::GcflipHeap;
-use crate::reply::of_reply;
+use crate::reply::of_result;
 use crate::slots::{SLOT_NUMBERS, numbered_slot};
 use gc_collected::{FieldSource, SourceRow};
-use gc_graph::{NoMemory, Number};
+use gc_graph::Number;
 
 /// What a field of a new object takes, as C says it.
 #[repr(C)]
@@ -111,8 +111,5 @@ pub extern "C" fn gcflip_heap_new_with(
         return OUT_OF_RANGE;
     }
     let fields = FieldRow { fields };
-    match heap.new_with(m, object, kind, number, &fields) {
-        Ok(reply) => of_reply(&reply),
-        Err(NoMemory) => NO_MEMORY,
-    }
+    of_result(heap.new_with(m, object, kind, number, &fields))
 }

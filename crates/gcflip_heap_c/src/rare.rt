@@ -1,7 +1,7 @@
 //! Commands in the rarer cases: long objects, and writes while a collection is open. They are functions of their own, which an export calls
 //! last. So the common case of the export calls at most what makes the standing checker's rows longer, and saves fewer registers.
 
-ghost use Rattle.std.specs.Prelude.{◌≡◌, ◌≢◌, ◌<◌, ◌^◌, ◌∷◌, [], Some, IsSome};
+ghost use Rattle.std.specs.Prelude.{◌≡◌, ◌≢◌, ◌<◌, ◌∷◌, [], Some, IsSome};
 ghost use Rattle.gc_check.specs.InC.{no_memory};
 ghost use Rattle.gc_graph.specs.declared.command.Op.{Op};
 ghost use Rattle.gc_plan.specs.Steps.{mutate};
@@ -9,12 +9,12 @@ ghost use Rattle.gc_collected.specs.CollectedHeap.{new_from_step};
 ghost use Rattle.gcflip_heap_c.specs.Commands.{IsCommandCall};
 ghost use Rattle.gcflip_heap_c.specs.Slots.{NamesSlots, numbered_slot};
 
-use crate::answer::{NO_MEMORY, OUT_OF_RANGE};
+use crate::answer::OUT_OF_RANGE;
 use crate::guards::slot_named;
-use crate::reply::of_reply;
+use crate::reply::{of_reply, of_result};
 use crate::slots::{SLOT_NUMBERS, numbered_slot};
 use gc_collected::CollectedHeap;
-use gc_graph::{NoMemory, Number};
+use gc_graph::Number;
 
 /// The most fields of an object that is filled in line: gc_words writes a link and so many fields without a call.
 pub(crate) const MOST_IN_LINE: u16 = 9;
@@ -58,10 +58,7 @@ pub(crate) fn put_while_open(heap: &mut CollectedHeap, m: u8, s: u8, i: u16, t: 
         return OUT_OF_RANGE;
     }
     let (s, t) = (numbered_slot(s), numbered_slot(t));
-    match heap.put(m, s, i, t) {
-        Ok(reply) => of_reply(&reply),
-        Err(NoMemory) => NO_MEMORY,
-    }
+    of_result(heap.put(m, s, i, t))
 }
 
 /// Performs `gcflip_heap_put_number` while a collection is open.
@@ -72,10 +69,10 @@ pub(crate) fn put_number_while_open(
     s: u8,
     i: u16,
     t: u8,
-    n: u64,
+    n: Number,
 ) -> u32
     requires { m < heap.old.core.mutators }
-    ensures call { IsCommandCall (λ state. NamesSlots m (s ∷ t ∷ []) state × (n < 2 ^ 63))
+    ensures call { IsCommandCall (NamesSlots m (s ∷ t ∷ []))
         (λ state. mutate (mutate state m (Op.Num (numbered_slot t) n)).1 m (Op.Put (numbered_slot s) i (numbered_slot t))) (Some heap.old.core) (Some heap.new.core) result }
     ensures beside { heap.new.beside ≡ heap.old.beside }
     ensures memory { result ≡ no_memory → IsSome heap.old.core.collection }
@@ -84,13 +81,7 @@ pub(crate) fn put_number_while_open(
         return OUT_OF_RANGE;
     }
     let (s, t) = (numbered_slot(s), numbered_slot(t));
-    let Some(n) = Number::new(n) else {
-        return OUT_OF_RANGE;
-    };
-    match heap.put_number(m, s, i, t, n) {
-        Ok(reply) => of_reply(&reply),
-        Err(NoMemory) => NO_MEMORY,
-    }
+    of_result(heap.put_number(m, s, i, t, n))
 }
 
 /// Performs `gcflip_heap_new_pair` while a collection is open.
@@ -113,8 +104,5 @@ pub(crate) fn new_pair_while_open(
         return OUT_OF_RANGE;
     }
     let (d, s, t) = (numbered_slot(d), numbered_slot(s), numbered_slot(t));
-    match heap.cons(m, d, kind, s, t) {
-        Ok(reply) => of_reply(&reply),
-        Err(NoMemory) => NO_MEMORY,
-    }
+    of_result(heap.cons(m, d, kind, s, t))
 }

@@ -8,12 +8,12 @@ ghost use Rattle.gcflip_heap_c.specs.Commands.{IsCall, IsCommandCall};
 ghost use Rattle.gcflip_heap_c.specs.Raws.{Reads, address_in, TellsAddress};
 ghost use Rattle.gcflip_heap_c.specs.Slots.{NamesSlots, numbered_slot};
 
-use crate::answer::{DONE, NO_FIELD, NO_MEMORY, NO_OBJECT, OUT_OF_RANGE};
+use crate::answer::{DONE, NO_FIELD, NO_OBJECT, OUT_OF_RANGE};
 use crate::guards::{lent_to, slot_named};
 use crate::handle::GcflipHeap;
-use crate::reply::of_reply;
+use crate::reply::of_result;
 use gc_collected::CollectedHeap;
-use gc_graph::{NoMemory, Slot};
+use gc_graph::Slot;
 
 /// Copies the numbers of the raw object that the slot refers to, from field `first` on, if it has as many as the array takes.
 fn read_raw(heap: &CollectedHeap, m: u8, s: Slot, first: u16, words: &mut [u64]) -> u32
@@ -76,10 +76,7 @@ pub extern "C" fn gcflip_heap_raw_write(
     }
     let object = slot_named!(s);
     let number = slot_named!(t);
-    match heap.put_numbers(m, object, first, number, words) {
-        Ok(reply) => of_reply(&reply),
-        Err(NoMemory) => NO_MEMORY,
-    }
+    of_result(heap.put_numbers(m, object, first, number, words))
 }
 
 /// Writes the address of the object that the slot refers to, if it refers to one.

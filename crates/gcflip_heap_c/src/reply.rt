@@ -1,14 +1,14 @@
 //! Replies as C sees them.
 
-ghost use Rattle.std.specs.Prelude.{◌≡◌};
-ghost use Rattle.gc_check.specs.InC.{IsRefusal};
+ghost use Rattle.std.specs.Prelude.{◌≡◌, IfOk, OnErr};
+ghost use Rattle.gc_check.specs.InC.{IsRefusal, no_memory};
 ghost use Rattle.gc_graph.specs.declared.reply.Reply.{Reply};
 ghost use Rattle.gc_heap.specs.Commands.{fetched_of};
 ghost use Rattle.gcflip_heap_c.specs.Replies.{seen_in_c, reply_in_c, got_in_c, number_after, view_in_c, view_after, step_reply_in_c, pairs_after};
 
-use crate::answer::{DONE, FLIPPED, NIL, NO_FIELD, NO_OBJECT, NO_ROOM, NUMBER, OBJECT};
+use crate::answer::{DONE, FLIPPED, NIL, NO_FIELD, NO_MEMORY, NO_OBJECT, NO_ROOM, NUMBER, OBJECT};
 use gc_copy::StepReply;
-use gc_graph::{Reply, View};
+use gc_graph::{NoMemory, Reply, View};
 use gc_heap::Fetched;
 
 /// What a `look` saw, as C sees it. Members that do not apply are 0.
@@ -49,6 +49,18 @@ pub(crate) fn of_reply(reply: &Reply) -> u32
         Reply::Yes => 21,
         Reply::No => 22,
         Reply::Saw(view) => seen(view),
+    }
+}
+
+/// Returns C's number for the reply to a command that may allocate.
+#[inline(always)]
+pub(crate) fn of_result(made: Result<Reply, NoMemory>) -> u32
+    ensures reply { IfOk made (λ reply. (result ≡ reply_in_c reply) × ¬ IsRefusal result) }
+    ensures memory { OnErr made (result ≡ no_memory) }
+{
+    match made {
+        Ok(reply) => of_reply(&reply),
+        Err(NoMemory) => NO_MEMORY,
     }
 }
 
