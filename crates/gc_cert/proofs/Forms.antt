@@ -3,7 +3,7 @@ use Rattle.std.proofs.lemmas.Grind.{common_steps}
 use Rattle.std.proofs.Common.{◌≡◌, ◌≢◌, ℕ, suc, zero, ◌-◌, ◌<◌, List, [], ◌∷◌, ◌++◌, length, map, replicate, refl, sym, ap, ◌∙◌, arith, subst, length-append, Option, Some, None}
 use Rattle.std.specs.List.{AllByRecursion}
 use Rattle.std.proofs.lemmas.List.{append-nil, map-append, length-map, length-replicate}
-use Rattle.gc_graph.specs.Lines.{newline, HasNo}
+use Rattle.gc_text.specs.Lines.{newline, HasNo}
 use Rattle.gc_cert.specs.Sections.{Place, IsNextLine, HasTaken}
 use Rattle.gc_cert.specs.Internal.Sections.{alone, AreAll, Spelled, Begins, IsWrongAt, IsCutIn}
 use Rattle.gc_cert.proofs.SameLines.{All-append, head_of, same_lines}

@@ -2,9 +2,9 @@
 use Rattle.std.proofs.lemmas.Grind.{common_steps}
 use Rattle.std.proofs.Common.{◌≡◌, ◌≢◌, ℕ, ◌≤◌, List, ◌∷◌, ◌++◌, refl, ap, arith, append_assoc, Option, Some, None}
 use Rattle.std.specs.Fmt.{decimal}
-use Rattle.gc_graph.specs.Fronts.{BeginsWithNumber}
-use Rattle.gc_graph.specs.Lines.{newline, space}
-use Rattle.gc_graph.proofs.Public.{one_front}
+use Rattle.gc_text.specs.Fronts.{BeginsWithNumber}
+use Rattle.gc_text.specs.Lines.{newline, space}
+use Rattle.gc_text.proofs.Public.{one_front}
 use Rattle.gc_cert.specs.Grammar.{pair_line, IsWord, AreAddresses}
 use Rattle.gc_cert.specs.declared.fault.PairFault.{PairFault}
 use Rattle.gc_cert.specs.declared.fault.PairFault.TheVariants.{Read, TooLarge, BadLine, EndsEarly, NoMemory}

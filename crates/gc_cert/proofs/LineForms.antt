@@ -6,9 +6,9 @@ use Rattle.std.specs.Str.{bytes_eq}
 use Rattle.std.proofs.lemmas.Bool.{and_parts, leb-true, ne_eqb}
 use Rattle.std.proofs.lemmas.Option.{cond_some}
 use Rattle.std.proofs.lemmas.Slice.Eq.{bytes_eq-Decides}
-use Rattle.gc_graph.specs.Lines.{HasNo, space, joined, tokens_of}
-use Rattle.gc_graph.specs.Tokens.{◌>>=◌, Tokens, number_at, token_at, if_all_taken}
-use Rattle.gc_graph.proofs.Public.{number_found, number_again, HasNo-decimal, tokens_of-joined, joined-tokens_of, bind_some, onto, number_at_found, number_at_again, token_at_found, token_at_again, end_found, end_again, positive, some_is}
+use Rattle.gc_text.specs.Lines.{HasNo, space, joined, tokens_of}
+use Rattle.gc_text.specs.Tokens.{◌>>=◌, Tokens, number_at, token_at, if_all_taken}
+use Rattle.gc_text.proofs.Public.{number_found, number_again, HasNo-decimal, tokens_of-joined, joined-tokens_of, bind_some, onto, number_at_found, number_at_again, token_at_found, token_at_again, end_found, end_again, positive, some_is}
 use Rattle.gc_cert.specs.Grammar.{heading, pair_line, count_line, size_line, IsWord, AreAddresses, AreSizes}
 use Rattle.gc_cert.specs.Internal.Parsers.{count_of, sizes_of, address_pair, is_name, is_line, raws_in, word_in}
 use Rattle.gc_cert.specs.Internal.Sections.{Nothing, AnyFlag}

@@ -2,10 +2,10 @@
 use Rattle.std.proofs.lemmas.Grind.{common_steps}
 use Rattle.std.proofs.Common.{◌≡◌, ℕ, ◌+◌, ◌-◌, ◌≤◌, true, List, ◌++◌, length, drop, refl, sym, ap, ◌∙◌, arith, append_assoc, Option, Some}
 use Rattle.std.proofs.lemmas.List.{drop_at, length-append}
-use Rattle.gc_graph.specs.Lines.{text_of}
-use Rattle.gc_graph.specs.ReadFaults.{MayFailReading}
-use Rattle.gc_graph.specs.declared.text.pieces.ReadFault.{ReadFault}
-use Rattle.gc_graph.specs.declared.text.pieces.ReadFault.TheVariants as reading
+use Rattle.gc_text.specs.Lines.{text_of}
+use Rattle.gc_text.specs.ReadFaults.{MayFailReading}
+use Rattle.gc_text.specs.declared.pieces.ReadFault.{ReadFault}
+use Rattle.gc_text.specs.declared.pieces.ReadFault.TheVariants as reading
 use Rattle.gc_cert.specs.Faults.{limit}
 use Rattle.gc_cert.specs.Internal.Faults.{fault_of_reading}
 use Rattle.gc_cert.specs.Internal.Reading.{IsAt, CannotRead, GoesOn, MayEnd, MayFailHaving, unread}
@@ -14,7 +14,7 @@ use Rattle.gc_cert.specs.Internal.Sections.{Section, Spelled, MayStop}
 use Rattle.gc_cert.specs.Sections.{Place, HasTaken, start}
 use Rattle.gc_cert.specs.declared.fault.PairFault.{PairFault}
 use Rattle.gc_cert.specs.declared.pair_reader.PairReader.{PairReader}
-use Rattle.gc_graph.proofs.Public.{within_all, ends_there}
+use Rattle.gc_text.proofs.Public.{within_all, ends_there}
 use Rattle.gc_cert.proofs.Parts.{TextSection}
 use Rattle.gc_cert.proofs.Stops.{Delimits, BeginsWith, taken_then, wrong_within, cut_within}
 use Rattle.gc_cert.proofs.Total.{stopped, went_on}

@@ -6,8 +6,9 @@ use Rattle.std.specs.Fmt.{decimal}
 use Rattle.std.specs.List.{AllByRecursion}
 use Rattle.std.proofs.lemmas.Bool.{leb-true}
 use Rattle.std.proofs.lemmas.List.{append-nil}
-use Rattle.gc_graph.specs.Lines.{newline, text_of, tokens_of}
-use Rattle.gc_graph.proofs.Public.{Cut, cut, all_push}
+use Rattle.gc_text.specs.Lines.{newline, text_of, tokens_of}
+use Rattle.gc_graph.proofs.Public.{all_push}
+use Rattle.gc_text.proofs.Public.{Cut, cut}
 use Rattle.gc_cert.specs.Grammar.{CertifiedPair, heading, pair_line, count_line, size_line, certificate_lines, lines_of, spelling, IsWord, AreAddresses, AreSizes, IsCertificate, HasText, IsTextOf}
 use Rattle.gc_cert.specs.Internal.Grammar.{image_alone, IsImageBy}
 use Rattle.gc_cert.specs.Faults.{limit, AreFirst, HasWrongLine, HasByteBehind, IsCutOff, IsPairFaultOf, IsReadAsPair, MayFail}

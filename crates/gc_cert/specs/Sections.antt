@@ -1,6 +1,6 @@
 -- Reading a text section by section: what a section took of the text, and where a text has no such section.
 use Rattle.std.specs.Prelude.{◌≡◌, ◌≢◌, ℕ, ◌+◌, List, ◌∷◌, ◌++◌, length}
-use Rattle.gc_graph.specs.Lines.{newline, HasNo, text_of}
+use Rattle.gc_text.specs.Lines.{newline, HasNo, text_of}
 
 -- the text after the lines that were taken, and their number
 pub record Place : Type 0 where

@@ -1,6 +1,6 @@
 use crate::fault::PairFault;
 use crate::parser::{front_pair, front_word};
-use gc_graph::text::cut;
+use gc_text::cut;
 use gc_words::Pair;
 use std::marker::Model;
 
@@ -24,7 +24,7 @@ impl<'a> Model for Lines<'a> {
 
 impl<'a> Lines<'a> {
     ghost use Rattle.std.specs.Prelude.{◌≡◌, ◌<◌, ◌^◌, ◌+◌, [], ◌∷◌, length, decimal, MatchOption};
-    ghost use Rattle.gc_graph.specs.Lines.{HasNo, newline};
+    ghost use Rattle.gc_text.specs.Lines.{HasNo, newline};
     ghost use Rattle.gc_words.specs.Views.{addresses};
     ghost use Rattle.gc_cert.specs.Grammar.{pair_line, IsWord, AreAddresses};
     ghost use Rattle.gc_cert.specs.Sections.{IsNextLine, HasTaken, NoneIsFirst};

@@ -2,7 +2,7 @@ use crate::fault::PairFault;
 use crate::line_kinds::LineKind;
 use crate::lines::Lines;
 use gc_graph::Source;
-use gc_graph::text::Pieces;
+use gc_text::Pieces;
 use std::alloc::Global;
 use std::io::Read;
 
@@ -19,7 +19,7 @@ pub struct PairReader {
 
 impl PairReader {
     ghost use Rattle.std.specs.Prelude.{◌≡◌, ◌≤◌, ◌<◌, ◌+◌, ◌∷◌, ◌↔◌, ℕ, List, [], true, false, length, IfOk, MatchResult, Ok, Err, Some};
-    ghost use Rattle.gc_graph.specs.Pieces.{nothing_read};
+    ghost use Rattle.gc_text.specs.Pieces.{nothing_read};
     ghost use Rattle.gc_graph.specs.Streams.{bytes_left, source_failed};
     ghost use Rattle.gc_cert.specs.Faults.{limit};
     ghost use Rattle.gc_cert.specs.Sections.{Place, start};

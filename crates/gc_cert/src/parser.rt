@@ -1,11 +1,11 @@
 ghost use Rattle.std.specs.Prelude.{◌≡◌, ◌≤◌, ◌∷◌, ◌++◌, length, decimal, MatchOption};
-ghost use Rattle.gc_graph.specs.Lines.{newline, tokens_of};
+ghost use Rattle.gc_text.specs.Lines.{newline, tokens_of};
 ghost use Rattle.gc_words.specs.Views.{addresses};
 ghost use Rattle.gc_cert.specs.Grammar.{heading, pair_line, IsWord, AreAddresses};
 ghost use Rattle.gc_cert.specs.Sections.{NoneIsFirst};
 ghost use Rattle.gc_cert.specs.Internal.Parsers.{count_of, raws_in, sizes_of};
 
-use gc_graph::text::{Front, Tokens};
+use gc_text::{Front, Tokens};
 use gc_words::{MOST_WORDS, NewAddr, OldAddr, Pair};
 
 /// Returns the first line of a text. `raws` says whether raw headers count in its images.
@@ -31,7 +31,7 @@ pub fn raws(line: &[u8]) -> Option<bool>
 }
 
 /// Reads the number after this name.
-#[tactic(auto, unfolding(crate::specs::Internal::Parsers::count_of, gc_graph::specs::Tokens::if_all_taken))]
+#[tactic(auto, unfolding(crate::specs::Internal::Parsers::count_of, gc_text::specs::Tokens::if_all_taken))]
 pub fn count(line: &[u8], name: &[u8], most: u64) -> Option<u64>
     ensures { result ≡ count_of name.now most (tokens_of line.now) }
 {
@@ -42,7 +42,7 @@ pub fn count(line: &[u8], name: &[u8], most: u64) -> Option<u64>
 }
 
 /// Reads the size and the end after this name.
-#[tactic(auto, unfolding(crate::specs::Internal::Parsers::sizes_of, gc_graph::specs::Tokens::if_all_taken))]
+#[tactic(auto, unfolding(crate::specs::Internal::Parsers::sizes_of, gc_text::specs::Tokens::if_all_taken))]
 pub fn sizes(line: &[u8], name: &[u8]) -> Option<(u32, u32)>
     ensures { result ≡ sizes_of name.now (tokens_of line.now) }
 {

@@ -9,8 +9,8 @@ ghost use Rattle.gc_cert.specs.Views.{pair_of};
 
 use crate::fault::WriteFault;
 use crate::parser::heading;
-use gc_graph::text::Printer;
 use gc_graph::{Failed, Sink};
+use gc_text::Printer;
 use gc_words::{ImageRef, Pair};
 use std::io::Write;
 

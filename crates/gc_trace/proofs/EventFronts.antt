@@ -3,7 +3,7 @@ use Rattle.std.proofs.lemmas.Grind.{common_steps}
 use Rattle.std.proofs.Common.{◌≡◌, ℕ, ◌+◌, ◌≤◌, List, [], ◌∷◌, ◌++◌, length, refl, ap, ◌∙◌, arith, append_assoc, length-append}
 use Rattle.std.specs.Prelude.{codes}
 use Rattle.std.specs.Fmt.{decimal}
-use Rattle.gc_graph.specs.Lines.{newline, space, joined}
+use Rattle.gc_text.specs.Lines.{newline, space, joined}
 use Rattle.gc_graph.specs.declared.command.Op.{Op}
 use Rattle.gc_plan.specs.declared.step.Step.{Step}
 use Rattle.gc_plan.specs.declared.event.Event.{Event}

@@ -9,8 +9,8 @@ use Rattle.std.specs.Float.Numeral.{digits_len}
 use Rattle.gc_graph.specs.Limits.{slots_each}
 use Rattle.gc_graph.specs.Range.{IsSlot}
 use Rattle.gc_graph.specs.Slots.{SlotName, own_slot, shared_slot}
-use Rattle.gc_graph.specs.Fronts.{BeginsWithNumber}
-use Rattle.gc_graph.proofs.Public.{one_front}
+use Rattle.gc_text.specs.Fronts.{BeginsWithNumber}
+use Rattle.gc_text.proofs.Public.{one_front}
 use Rattle.gc_trace.specs.Internal.Fronts.{EndsToken}
 use Rattle.gc_trace.proofs.SmallNumbers.{one_digit, two_digits}
 

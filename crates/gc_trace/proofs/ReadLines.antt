@@ -2,10 +2,10 @@
 use Rattle.std.proofs.lemmas.Grind.{common_steps}
 use Rattle.std.proofs.Common.{◌≡◌, ◌≢◌, ℕ, ◌+◌, List, [], ◌∷◌, ◌++◌, drop, refl, sym, ap, ◌∙◌, arith, subst, append_assoc, Option}
 use Rattle.std.specs.List.{AllByRecursion}
-use Rattle.gc_graph.specs.ReadFaults.{MayFailReading}
-use Rattle.gc_graph.specs.declared.text.pieces.ReadFault.{ReadFault}
-use Rattle.gc_graph.specs.declared.text.pieces.ReadFault.TheVariants as reading
-use Rattle.gc_graph.specs.Pieces.{Progress, IsWithin}
+use Rattle.gc_text.specs.ReadFaults.{MayFailReading}
+use Rattle.gc_text.specs.declared.pieces.ReadFault.{ReadFault}
+use Rattle.gc_text.specs.declared.pieces.ReadFault.TheVariants as reading
+use Rattle.gc_text.specs.Pieces.{Progress, IsWithin}
 use Rattle.gc_plan.specs.declared.event.Event.{Event}
 use Rattle.gc_trace.specs.Grammar.{Recording, trace_heading, event_line, IsHeading, HasLine, IsOf, IsRecording}
 use Rattle.gc_trace.specs.Faults.{trace_limit, GoodBefore, HasStranger, HasBadLine, BeginsWithNoEvent, ReadingMayFail}

@@ -1,14 +1,14 @@
 ghost use Rattle.std.specs.Prelude.{◌≡◌, ◌≤◌, ◌<◌, ◌+◌, ◌-◌, ◌∷◌, ◌++◌, ◌↔◌, ℕ, List, length, drop, true, false, IfSome, IfOk, MatchOption, MatchResult, Ok, Err, Some};
-ghost use Rattle.gc_graph.specs.Pieces.{IsWithin, nothing_read};
+ghost use Rattle.gc_text.specs.Pieces.{IsWithin, nothing_read};
 ghost use Rattle.gc_graph.specs.Streams.{bytes_left, source_failed};
 ghost use Rattle.gc_trace.specs.Grammar.{IsHeading, HasLine, IsOf, newest, trace_heading, event_line};
 ghost use Rattle.gc_trace.specs.Faults.{trace_limit, HasNoHeading, BeginsWithNoEvent, ReadingMayFail};
 
 use crate::fault::TraceFault;
 use crate::front::{Heading, first_two_lines, line};
-use gc_graph::text::{Front, Pieces};
 use gc_graph::{MOST_WORDS, Source};
 use gc_plan::Event;
+use gc_text::{Front, Pieces};
 use std::alloc::Global;
 use std::io::Read;
 

@@ -1,6 +1,6 @@
 ghost use Rattle.std.specs.Prelude.{◌≡◌, ◌≢◌, ℕ, List, ◌<◌, ◌≤◌, ◌-◌, ◌∷◌, ◌++◌, [], Some, take, decimal, codes, IfSome, MatchOption};
 ghost use Rattle.gc_graph.specs.Limits.{most_words};
-ghost use Rattle.gc_graph.specs.Lines.{space};
+ghost use Rattle.gc_text.specs.Lines.{space};
 ghost use Rattle.gc_graph.specs.Range.{IsSlot, IsCommand};
 ghost use Rattle.gc_plan.specs.Runs.{IsStepWithin};
 ghost use Rattle.gc_trace.specs.Faults.{HasNoHeading, BeginsWithNoEvent};
@@ -8,9 +8,9 @@ ghost use Rattle.gc_trace.specs.Grammar.{slot, op_tokens, step_tokens, op_versio
 ghost use Rattle.gc_trace.specs.Internal.Fronts.{spaced, FindsToken, FindsTokens};
 
 use crate::trace::{RAW, SIZED};
-use gc_graph::text::Front;
 use gc_graph::{MOST_MUTATORS, MOST_WORDS, Number, Op, Slot};
 use gc_plan::{Event, Step};
+use gc_text::Front;
 
 /// The newest version of the text.
 const NEWEST: u64 = 3;

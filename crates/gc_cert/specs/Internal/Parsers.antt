@@ -2,7 +2,7 @@
 use Rattle.std.specs.Prelude.{ℕ, ◌==◌, ◌&&◌, Bool, true, false, nat_le, List, [], ◌∷◌, Option, Some, None, if◌then◌else◌}
 use Rattle.std.specs.Str.{bytes_eq}
 use Rattle.gc_graph.specs.Limits.{most_words}
-use Rattle.gc_graph.specs.Tokens.{◌>>=◌, Tokens, number_of_token, number_at, token_at, if_all_taken}
+use Rattle.gc_text.specs.Tokens.{◌>>=◌, Tokens, number_of_token, number_at, token_at, if_all_taken}
 use Rattle.gc_cert.specs.Grammar.{heading}
 
 -- each byte is above the digits, so none is a space or a line feed

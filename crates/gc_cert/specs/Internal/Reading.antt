@@ -1,6 +1,6 @@
 -- A pair text that is read piece by piece.
 use Rattle.std.specs.Prelude.{◌≡◌, ◌≢◌, ℕ, [], ◌+◌, ◌<◌, ◌≤◌, ⊤, List, length, drop, Option, Some, Result, MatchResult}
-use Rattle.gc_graph.specs.Pieces.{IsWithin, nothing_read}
+use Rattle.gc_text.specs.Pieces.{IsWithin, nothing_read}
 use Rattle.gc_cert.specs.Faults.{limit, MayFail}
 use Rattle.gc_cert.specs.Sections.{Place, HasTaken}
 use Rattle.gc_cert.specs.Internal.Sections.{Section, MayStop}

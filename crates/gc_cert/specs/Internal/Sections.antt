@@ -1,7 +1,7 @@
 -- The sections of a pair text: what each spells, how it begins, and where it goes wrong.
 use Rattle.std.specs.Prelude.{◌≡◌, ℕ, ◌+◌, ⊤, Bool, List, [], ◌∷◌, ◌++◌, length}
 use Rattle.std.specs.List.{AllByRecursion}
-use Rattle.gc_graph.specs.Lines.{newline, HasNo, text_of}
+use Rattle.gc_text.specs.Lines.{newline, HasNo, text_of}
 use Rattle.gc_cert.specs.declared.fault.PairFault.{PairFault}
 use Rattle.gc_cert.specs.declared.fault.PairFault.TheVariants.{BadLine, EndsEarly, NoMemory}
 use Rattle.gc_cert.specs.Sections.{Place, IsNextLine}

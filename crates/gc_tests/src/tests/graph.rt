@@ -2,8 +2,8 @@ mod text;
 
 ghost use Rattle.std.specs.Prelude.{◌≤◌, IfOk};
 
-use gc_graph::text::{Pieces, ReadFault};
 use gc_graph::{Failed, Number, Op, Plain, Reply, Sink, Slot, Source};
+use gc_text::{Pieces, ReadFault};
 use std::io;
 use std::io::{ErrorKind, Read, Write};
 use std::process::Abort;

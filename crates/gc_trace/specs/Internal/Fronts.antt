@@ -1,6 +1,6 @@
 -- Tokens at the start of a text.
 use Rattle.std.specs.Prelude.{◌≡◌, ◌<◌, ℕ, List, [], ◌∷◌, ◌++◌, Option, Some}
-use Rattle.gc_graph.specs.Lines.{space, newline}
+use Rattle.gc_text.specs.Lines.{space, newline}
 
 -- tokens with one space between them, and then the rest of the text
 abbrev pub spaced : List (List ℕ) → List ℕ → List ℕ

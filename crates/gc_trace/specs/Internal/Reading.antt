@@ -1,6 +1,6 @@
 -- The contents of an event reader.
 use Rattle.std.specs.Prelude.{◌≡◌, ◌+◌, ◌≤◌, ℕ, List, length, Option}
-use Rattle.gc_graph.specs.Pieces.{IsWithin}
+use Rattle.gc_text.specs.Pieces.{IsWithin}
 use Rattle.gc_plan.specs.declared.event.Event.{Event}
 use Rattle.gc_trace.specs.Faults.{trace_limit, GoodBefore}
 use Rattle.gc_trace.specs.Grammar.{Recording, IsHeading}

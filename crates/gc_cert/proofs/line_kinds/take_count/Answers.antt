@@ -1,6 +1,6 @@
 -- A count was taken with its line, or no line is left, or the line is not that of any count.
 use Rattle.std.proofs.Common.{◌≤◌, sym, arith}
-use Rattle.gc_graph.specs.Lines.{tokens_of}
+use Rattle.gc_text.specs.Lines.{tokens_of}
 use Rattle.gc_cert.specs.Grammar.{count_line}
 use Rattle.gc_cert.specs.Internal.Parsers.{count_of}
 use Rattle.gc_cert.proofs.Forms.{line_cut, line_wrong, line_taken}

@@ -1,5 +1,5 @@
 -- If the first line is not that of a pair of addresses, the section stops there with its fault.
-use Rattle.gc_graph.specs.Lines.{tokens_of}
+use Rattle.gc_text.specs.Lines.{tokens_of}
 use Rattle.gc_cert.specs.Grammar.{pair_line, AreAddresses}
 use Rattle.gc_cert.specs.Internal.Parsers.{address_pair}
 use Rattle.gc_cert.proofs.Fronts.{line_stops}

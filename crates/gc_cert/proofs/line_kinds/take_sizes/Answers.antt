@@ -1,6 +1,6 @@
 -- A size and an end were taken with their line, or no line is left, or the line is not that of any sizes.
 use Rattle.std.proofs.Common.{sym}
-use Rattle.gc_graph.specs.Lines.{tokens_of}
+use Rattle.gc_text.specs.Lines.{tokens_of}
 use Rattle.gc_cert.specs.Grammar.{size_line, AreSizes}
 use Rattle.gc_cert.specs.Internal.Parsers.{sizes_of}
 use Rattle.gc_cert.proofs.Forms.{line_cut, line_wrong, line_taken}

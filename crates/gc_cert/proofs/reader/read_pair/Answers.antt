@@ -4,7 +4,7 @@ use Rattle.std.proofs.lemmas.Result.{err_from_is_err_and}
 use Rattle.gc_graph.specs.Streams.{bytes_left}
 use Rattle.gc_cert.specs.Faults.{limit, IsReadAsPair, MayFail}
 use Rattle.gc_cert.specs.Views.{pair_in}
-use Rattle.gc_graph.proofs.Public.{if_known}
+use Rattle.gc_text.proofs.Public.{if_known}
 use Rattle.gc_cert.proofs.ReadPieces.{unread_text}
 use Rattle.gc_cert.proofs.reader.read_pair.Goals as goal
 

@@ -2,7 +2,7 @@
 use Rattle.std.proofs.Common.{◌≤◌, [], ◌∷◌, map, arith, refl}
 use Rattle.std.specs.Prelude.{codes}
 use Rattle.std.proofs.lemmas.Result.{err_from_is_err_and}
-use Rattle.gc_graph.specs.Lines.{tokens_of}
+use Rattle.gc_text.specs.Lines.{tokens_of}
 use Rattle.gc_words.specs.Views.{addresses}
 use Rattle.gc_cert.specs.Grammar.{pair_line, count_line, AreAddresses}
 use Rattle.gc_cert.specs.Internal.Parsers.{count_of, address_pair, is_line}

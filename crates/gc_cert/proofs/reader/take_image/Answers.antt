@@ -4,7 +4,7 @@ use Rattle.std.proofs.Common.{ℕ, ◌≤◌, [], ◌∷◌, ◌++◌, map, arit
 use Rattle.std.specs.Prelude.{codes}
 use Rattle.std.specs.Fmt.{decimal}
 use Rattle.std.proofs.lemmas.Result.{err_from_is_err_and}
-use Rattle.gc_graph.specs.Lines.{tokens_of}
+use Rattle.gc_text.specs.Lines.{tokens_of}
 use Rattle.gc_cert.specs.Grammar.{count_line, size_line, IsWord, AreSizes}
 use Rattle.gc_cert.specs.Internal.Parsers.{count_of, sizes_of, word_in}
 use Rattle.gc_cert.specs.Internal.Sections.{alone, AreAll}

@@ -3,7 +3,7 @@ use Rattle.std.proofs.Common.{◌≡◌, ◌∷◌, ◌++◌, [], map, rules, ar
 use Rattle.std.specs.Result.{is_ok}
 use Rattle.std.proofs.lemmas.List.{map-append}
 use Rattle.std.proofs.lemmas.Result.{err_from_is_err_and}
-use Rattle.gc_graph.specs.Lines.{tokens_of}
+use Rattle.gc_text.specs.Lines.{tokens_of}
 use Rattle.gc_graph.specs.Streams.{source_failed}
 use Rattle.gc_graph.proofs.Public.{all_push}
 use Rattle.gc_words.specs.Views.{addresses}

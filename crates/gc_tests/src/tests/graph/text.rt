@@ -1,6 +1,5 @@
-use gc_graph::text::{
-    Front, Message, Pieces, Printer, ReadFault, Sink, Source, Tokens, cut, number,
-};
+use gc_graph::{Sink, Source};
+use gc_text::{Front, Message, Pieces, Printer, ReadFault, Tokens, cut, number};
 use std::alloc::Global;
 use std::io;
 use std::io::Read;

@@ -1,7 +1,7 @@
 -- If no more comes, all that is left of the text waits, so the text is within the limit.
 use Rattle.std.proofs.Common.{rules, arith}
 use Rattle.std.proofs.lemmas.Result.{err_from_is_err_and}
-use Rattle.gc_graph.proofs.Public.{all_waits}
+use Rattle.gc_text.proofs.Public.{all_waits}
 use Rattle.gc_trace.proofs.event_reader.read_to_end.Goals as goal
 
 pub returns-in_err-read_more-clause-exact : goal.returns-in_err-read_more-clause-exact

@@ -1,7 +1,7 @@
 -- What was read belongs to the same text and is within the limit, and the reader has not failed.
 use Rattle.std.proofs.Common.{◌≡◌, ◌≤◌, ◌-◌, ℕ, List, false}
 use Rattle.gc_graph.specs.Streams.{bytes_left, source_failed}
-use Rattle.gc_graph.specs.Pieces.{IsWithin}
+use Rattle.gc_text.specs.Pieces.{IsWithin}
 use Rattle.gc_trace.specs.Faults.{trace_limit}
 use Rattle.gc_trace.proofs.event_reader.read_to_end.Given as goal
 

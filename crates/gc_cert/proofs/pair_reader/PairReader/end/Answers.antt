@@ -1,7 +1,7 @@
 -- If the input ends without a further byte, the whole text was taken; a byte that waits is a bad line.
 use Rattle.std.proofs.Common.{rules, arith, ◌≢◌, [], sym, ◌∙◌}
 use Rattle.std.proofs.lemmas.Result.{err_from_is_err_and}
-use Rattle.gc_graph.proofs.Public.{all_waits, no_byte}
+use Rattle.gc_text.proofs.Public.{all_waits, no_byte}
 use Rattle.gc_cert.proofs.ReadPieces.{cannot_go_on}
 use Rattle.gc_cert.proofs.pair_reader.PairReader.end.Goals as goal
 

@@ -2,14 +2,14 @@
 use Rattle.std.proofs.Common.{rules, arith, refl, ◌≡◌, ◌≢◌, ◌≤◌, ◌++◌, ℕ, List, [], false, drop, length, ap, sym, ◌∙◌, subst}
 use Rattle.std.proofs.lemmas.Result.{err_from_is_err_and}
 use Rattle.gc_graph.specs.Streams.{bytes_left, source_failed}
-use Rattle.gc_graph.specs.Pieces.{IsWithin}
+use Rattle.gc_text.specs.Pieces.{IsWithin}
 use Rattle.gc_plan.specs.declared.event.Event.{Event}
 use Rattle.gc_trace.specs.Faults.{trace_limit}
 use Rattle.gc_trace.specs.Grammar.{Recording, IsTraceText}
 use Rattle.gc_trace.specs.Internal.Reading.{HasRead, read_so_far}
 use Rattle.gc_trace.specs.declared.event_reader.EventReader.{EventReader}
 use Rattle.gc_trace.proofs.Total.{good_end}
-use Rattle.gc_graph.proofs.Public.{all_waits, ends_there, no_byte}
+use Rattle.gc_text.proofs.Public.{all_waits, ends_there, no_byte}
 use Rattle.gc_trace.proofs.ReadLines.{within_taken, event_taken, stranger_taken, still_counted, bad_line}
 use Rattle.gc_trace.proofs.event_reader.EventReader.next.Goals as goal
 use Rattle.gc_trace.proofs.event_reader.EventReader.next.Goals.{In-Some, In_default, After-waiting}

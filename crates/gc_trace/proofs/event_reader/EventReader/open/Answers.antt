@@ -3,7 +3,7 @@ use Rattle.std.proofs.Common.{rules, arith, refl, ◌≡◌, sym, false, subst}
 use Rattle.std.proofs.lemmas.Result.{err_from_is_err_and}
 use Rattle.gc_graph.specs.Streams.{source_failed}
 use Rattle.gc_trace.specs.Faults.{HasNoHeading}
-use Rattle.gc_graph.proofs.Public.{within_all, all_waits}
+use Rattle.gc_text.proofs.Public.{within_all, all_waits}
 use Rattle.gc_trace.proofs.ReadLines.{heading_read}
 use Rattle.gc_trace.proofs.event_reader.EventReader.open.Goals as goal
 

@@ -1,7 +1,7 @@
 -- All that was read of the text still waits, within the limit, and the reader has not failed.
 use Rattle.std.proofs.Common.{◌≡◌, ◌≤◌, ◌-◌, ◌+◌, ℕ, List, length, false, true, Some, if◌then◌else◌}
 use Rattle.gc_graph.specs.Streams.{bytes_left, source_failed}
-use Rattle.gc_graph.specs.Pieces.{IsWithin}
+use Rattle.gc_text.specs.Pieces.{IsWithin}
 use Rattle.gc_trace.specs.Faults.{trace_limit}
 use Rattle.gc_trace.proofs.event_reader.EventReader.open.Given as goal
 

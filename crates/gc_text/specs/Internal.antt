@@ -1,0 +1,3 @@
+-- Definitions that only private contracts and proofs need. They promise nothing to callers.
+pub mod Messages
+pub mod Tokens
