@@ -1,14 +1,12 @@
--- The number that a token spells, and the one that a text begins with.
+-- The number that digits spell, and the one that a text begins with.
 use Rattle.std.proofs.lemmas.Grind.{common_steps}
-use Rattle.std.proofs.Common.{◌≡◌, ℕ, ◌^◌, ◌<◌, ◌≤◌, ◌+◌, ◌-◌, ◌*◌, ◌%◌, eqb, ltb, leb, List, [], ◌∷◌, ◌++◌, length, get_or, take, drop, refl, sym, ap, ◌∙◌, arith, inl, inr, Some, None, IsTrue, ◌↔◌}
+use Rattle.std.proofs.Common.{◌≡◌, ℕ, ◌^◌, ◌<◌, ◌≤◌, ◌+◌, ◌-◌, ◌*◌, ◌%◌, eqb, ltb, leb, List, [], ◌∷◌, ◌++◌, length, get_or, take, drop, sym, ap, ◌∙◌, arith, inl, inr, IsTrue, ◌↔◌}
 use Rattle.std.specs.Prelude.{decimal}
 use Rattle.std.proofs.lemmas.Fmt.{decimal_is_IsNumeral, decimal-digits_value, length-decimal-le, first_decimal, decimal_nonempty, decimal_digit}
 use Rattle.std.proofs.lemmas.Str.Parse.{IsNumeralModel, numerals_by_value, tells_digits, digit_at, digit_from_value, digits_value_short}
 use Rattle.std.proofs.lemmas.Int.Digits.{digits_value-lt}
-use Rattle.std.proofs.lemmas.Slice.Eq.{bytes_eq-Decides}
-use Rattle.std.proofs.lemmas.Option.{cond_some}
-use Rattle.std.proofs.lemmas.Bool.{le-leb, leb-true, lt-ltb, ltb-true, eqb-true, eq-eqb, and_parts, and_from, cases_lt}
-use Rattle.std.proofs.lemmas.List.{get_or-take, length-take-le, take-append-drop, append-nil, take_all, length-drop}
+use Rattle.std.proofs.lemmas.Bool.{le-leb, leb-true, lt-ltb, ltb-true, eqb-true, eq-eqb, cases_lt}
+use Rattle.std.proofs.lemmas.List.{get_or-take, length-take-le, take-append-drop, take_all, length-drop}
 use Rattle.std.proofs.Math.Seq.{take-append_seam, drop-append_seam}
 use Rattle.std.proofs.lemmas.List.Sums.{prefix_len-le-length}
 use Rattle.core.proofs.dec2flt.DigitsLemmas.{digits_value_after_is, is_digit, ends_digits}
@@ -16,27 +14,13 @@ use Rattle.core.proofs.dec2flt.Rows.{AllDigits-digits_len}
 use Rattle.std.specs.Float.Numeral.{digits_len}
 use Rattle.std.specs.Str.Parse.{digits_value, AllDigits}
 use Rattle.gc_text.specs.Fronts.{BeginsWithNumber}
-use Rattle.gc_text.specs.Tokens.{number_of_token}
-use Rattle.gc_text.specs.Internal.Tokens.{IsDecimal}
+use Rattle.gc_text.specs.Internal.Decimals.{IsDecimal}
 
 pub decimals : IsNumeralModel (AllDigits 10) (digits_value 10)
 decimals = numerals_by_value (AllDigits 10) tells_digits
 
-pub number_found : (most : ℕ) (token : List ℕ) (n : ℕ) → number_of_token most token ≡ Some n → (token ≡ decimal n) × (n ≤ most)
-unfolding number_of_token
-number_found most token n e = grind (arith, common_steps, cond_some, and_parts, bytes_eq-Decides, leb-true)
-
-value-decimal : (n : ℕ) → n < 2 ^ 64 → digits_value 10 (decimal n) ≡ n
+pub value-decimal : (n : ℕ) → n < 2 ^ 64 → digits_value 10 (decimal n) ≡ n
 value-decimal n small = (decimal_is_IsNumeral n small).1
-
-pub number_again : (most n : ℕ) → n ≤ most → n < 2 ^ 64 → number_of_token most (decimal n) ≡ Some n
-unfolding number_of_token
-number_again most n le small = grind (arith, common_steps, value-decimal, and_from, bytes_eq-Decides, le-leb)
-
--- a token that is not the decimal of a number up to `most` has no number
-number_none : (most : ℕ) (token : List ℕ) → ((n : ℕ) → n ≤ most → token ≡ decimal n → ⊥) → number_of_token most token ≡ None
-unfolding number_of_token
-number_none most token never = grind (arith, common_steps, and_parts, leb-true, bytes_eq-Decides)
 
 pub decimal_are_digits : (n : ℕ) → n < 2 ^ 64 → AllDigits 10 (decimal n)
 decimal_are_digits n small = (decimal_is_IsNumeral n small).0.1
@@ -121,15 +105,6 @@ front_is text end value len is fits =
 pub front_none : (text : List ℕ) (end : ℕ) → end ≡ 0 + digits_len text → (0 < end → ¬ IsDecimal (take end text)) → (n : ℕ) (rest : List ℕ) → ¬ BeginsWithNumber text n rest
 front_none text end len never n rest begins = grind (arith, common_steps, digits_len-front, decimal_are_digits, take-append_seam, value-decimal, decimal_nonempty)
 
--- ---- the number of a token
-
-pub token_some : (most : ℕ) (token rest : List ℕ) (n : ℕ) → BeginsWithNumber token n rest → length rest ≡ 0 → n ≤ most → Some n ≡ number_of_token most token
-token_some most token rest n begins empty le = grind (arith, common_steps, append-nil, number_again)
-
--- a token that is not, as a whole, the decimal of a number up to `most` has no number
-pub token_none : (most : ℕ) (token : List ℕ) → most < 2 ^ 64 → ((n : ℕ) → n ≤ most → ¬ BeginsWithNumber token n []) → number_of_token most token ≡ None
-token_none most token small never = number_none most token (λ n le is. never n le (record { small = omega (arith, le, small); parts = is ∙ sym (append-nil (decimal n)); whole = refl }))
-
 pub one_front : (text : List ℕ) (m n : ℕ) (rest more : List ℕ) → BeginsWithNumber text m rest → BeginsWithNumber text n more → (m ≡ n) × (rest ≡ more)
 one_front text m n rest more p q =
     let len-m : digits_len text ≡ length (decimal m) = ap digits_len p.parts ∙ digits_len-front (decimal m) rest (decimal_are_digits m p.small) p.whole in
@@ -139,7 +114,3 @@ one_front text m n rest more p q =
     let drop-m : drop (digits_len text) text ≡ rest = rw len-m (ap (λ (t : List ℕ). drop (length (decimal m)) t) p.parts ∙ drop-append_seam (decimal m) rest) in
     let drop-n : drop (digits_len text) text ≡ more = rw len-n (ap (λ (t : List ℕ). drop (length (decimal n)) t) q.parts ∙ drop-append_seam (decimal n) more) in
     (sym (value-decimal m p.small) ∙ ap (digits_value 10) (sym take-m ∙ take-n) ∙ value-decimal n q.small, sym drop-m ∙ drop-n)
-
--- a token has no number if more follows the number that it begins with, or if that is above `most`
-pub token_other : (most : ℕ) (token rest : List ℕ) (m : ℕ) → most < 2 ^ 64 → BeginsWithNumber token m rest → (rest ≡ [] → most < m) → number_of_token most token ≡ None
-token_other most token rest m small begins other = token_none most token small (λ n le same. (let one = one_front token m n rest [] begins same in omega (arith, other one.1, one.0, le)))

@@ -1,7 +1,7 @@
--- Lemmas about texts: decimals, tokens, lines, pieces.
+-- Lemmas about texts: decimals, tokens, lines, and how a text is read.
 pub mod DecimalNumbers
+pub mod FrontNumbers
 pub mod TokenLemmas
-pub mod PieceSteps
+pub mod ReadingSteps
 pub mod LineLemmas
-pub mod TokenParsers
 pub mod Public

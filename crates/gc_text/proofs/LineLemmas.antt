@@ -6,10 +6,9 @@ use Rattle.std.specs.List.{AllByRecursion}
 use Rattle.std.specs.Str.Parse.{AllDigits}
 use Rattle.std.proofs.lemmas.Bool.{and_parts, eqb-true, eqb-false, leb-true, not-true}
 use Rattle.std.proofs.lemmas.Str.Parse.{digit_from_value}
-use Rattle.std.proofs.lemmas.List.Splits.{join_with_byte-slice_split}
-use Rattle.gc_text.specs.Lines.{HasNo, space, newline, joined, tokens_of}
+use Rattle.gc_text.specs.Lines.{HasNo, space, newline, joined}
 use Rattle.gc_text.proofs.DecimalNumbers.{decimal_are_digits}
-use Rattle.gc_text.proofs.TokenLemmas.{tokens_of-cut, tokens_of-whole}
+use Rattle.gc_text.proofs.TokenLemmas.{tokens_of, tokens_of-cut, tokens_of-whole}
 
 -- a test for literal tokens: no byte is below the digits
 abbrev all_high : List ℕ → Bool
@@ -43,10 +42,6 @@ HasNo-joined (w ∷ v ∷ tokens) h = HasNo-append newline w (space ∷ joined (
 pub tokens_of-joined : (w : List ℕ) (tokens : List (List ℕ)) → AllHaveNo space (w ∷ tokens) → tokens_of (joined (w ∷ tokens)) ≡ w ∷ tokens
 tokens_of-joined w [] h = tokens_of-whole w h.0
 tokens_of-joined w (v ∷ tokens) h = tokens_of-cut w (joined (v ∷ tokens)) h.0 ∙ ap (λ (ws : List (List ℕ)). w ∷ ws) (tokens_of-joined v tokens h.1)
-
--- the tokens of a line, joined, are the line
-pub joined-tokens_of : (line : List ℕ) → joined (tokens_of line) ≡ line
-joined-tokens_of line = join_with_byte-slice_split space line
 
 -- ---- a test for literal texts
 

@@ -1,13 +1,14 @@
--- A line is cut into tokens at its first space, and so on.
+-- A line is cut into tokens at each space.
 use Rattle.std.proofs.lemmas.Grind.{common_steps}
-use Rattle.std.proofs.Common.{◌≡◌, ◌≢◌, ℕ, Bool, cond, eqb, List, [], ◌∷◌, ◌++◌, refl, Option, IsTrue, ◌↔◌, arith}
-use Rattle.std.specs.Option.{is_some}
-use Rattle.std.proofs.Math.Bool.{not}
-use Rattle.std.specs.List.{onto_first}
+use Rattle.std.proofs.Common.{◌≡◌, ℕ, List, [], ◌∷◌, ◌++◌, refl, arith}
+use Rattle.std.specs.Prelude.{◌==◌}
+use Rattle.std.specs.List.{slice_split}
 use Rattle.std.proofs.lemmas.Bool.{ne_eqb}
-use Rattle.std.specs.Borrow.{Bor}
-use Rattle.gc_text.specs.Lines.{HasNo, space, tokens_of}
-use Rattle.gc_text.specs.Tokens.{tokens_left}
+use Rattle.gc_text.specs.Lines.{HasNo, space}
+
+-- the pieces of a line, split at each space
+abbrev pub tokens_of : List ℕ → List (List ℕ)
+tokens_of line = slice_split (λ b. b == space) line
 
 -- the first token ends at the first space
 pub tokens_of-cut : (front rest : List ℕ) → HasNo space front → tokens_of (front ++ space ∷ rest) ≡ front ∷ tokens_of rest
@@ -18,15 +19,3 @@ tokens_of-cut (x ∷ front) rest none = grind (arith, common_steps, ne_eqb, toke
 pub tokens_of-whole : (text : List ℕ) → HasNo space text → tokens_of text ≡ text ∷ []
 tokens_of-whole [] none = refl
 tokens_of-whole (x ∷ text) none = grind (arith, common_steps, ne_eqb, tokens_of-whole text none.1)
-
-onto_first-some : (b : Bool) (x : ℕ) (tokens : List (List ℕ)) → cond b ([] ∷ tokens) (onto_first x tokens) ≡ [] → tokens ≡ []
-onto_first-some b x tokens e = grind (arith, common_steps)
-
--- each line has a token
-tokens_of-some : (text : List ℕ) → tokens_of text ≢ []
-tokens_of-some [] e = cc
-tokens_of-some (x ∷ text) e = tokens_of-some text (onto_first-some (eqb x 32) x (tokens_of text) e)
-
--- no token is left exactly if nothing of the line is left
-pub tokens_left-none : (rest : Option (Bor (List ℕ))) (b : Bool) (tokens : List (List ℕ)) → tokens_left rest ≡ tokens → is_some rest ≡ not b → IsTrue b ↔ (tokens ≡ [])
-tokens_left-none rest b tokens e t = grind (arith, common_steps, tokens_of-some)

@@ -1,9 +1,8 @@
-ghost use Rattle.std.specs.Prelude.{◌≡◌, ◌<◌, ◌≤◌, ◌%◌, ◌^◌, ◌↔◌, ℕ, List, take, IfSome, IsTrue, MatchOption};
+ghost use Rattle.std.specs.Prelude.{◌≡◌, ◌<◌, ◌%◌, ◌^◌, ◌↔◌, ℕ, List, take, IsTrue, MatchOption};
 ghost use Rattle.std.specs.Str.Parse.{digits_value};
 ghost use Rattle.std.specs.Float.Numeral.{digits_len};
 ghost use Rattle.gc_text.specs.Fronts.{BeginsWithNumber};
-ghost use Rattle.gc_text.specs.Tokens.{number_of_token};
-ghost use Rattle.gc_text.specs.Internal.Tokens.{IsDecimal};
+ghost use Rattle.gc_text.specs.Internal.Decimals.{IsDecimal};
 
 use core::dec2flt::read_digits;
 
@@ -37,20 +36,6 @@ pub fn front_number(text: &[u8]) -> Option<(u64, &[u8])>
     let (end, value) = read_digits(text, 0, 0);
     if end > 0 && is_decimal(text, end, value) {
         Some((value, &text[end..]))
-    } else {
-        None
-    }
-}
-
-/// Returns the number that the token spells in decimal, if it is at most `most`.
-#[tactic(auto, using(crate::proofs::DecimalNumbers::token_some, crate::proofs::DecimalNumbers::token_none, crate::proofs::DecimalNumbers::token_other))]
-pub fn number(token: &[u8], most: u64) -> Option<u64>
-    ensures value { result ≡ number_of_token most token.now }
-    ensures small { IfSome result (λ n. n ≤ most) }
-{
-    let (value, rest) = front_number(token)?;
-    if rest.is_empty() && value <= most {
-        Some(value)
     } else {
         None
     }

@@ -16,8 +16,8 @@ impl<'a> Model for Front<'a> {
 }
 
 impl<'a> Front<'a> {
-    ghost use Rattle.std.specs.Prelude.{◌≡◌, ◌≢◌, ◌≤◌, ◌∷◌, ℕ, List, MatchOption};
-    ghost use Rattle.gc_text.specs.Fronts.{BeginsWithNumber};
+    ghost use Rattle.std.specs.Prelude.{◌≡◌, ◌≢◌, ◌≤◌, ◌∷◌, ◌++◌, ℕ, List, MatchOption, IsSome};
+    ghost use Rattle.gc_text.specs.Fronts.{BeginsWithNumber, FindsNumber};
 
     /// Starts at the front of the text.
     #[inline(always)]
@@ -50,12 +50,28 @@ impl<'a> Front<'a> {
         }
     }
 
+    /// Takes these bytes.
+    pub fn literal(&mut self, wanted: &[u8]) -> Option<()>
+        ensures taken { MatchOption result (self.new ≡ self.old) (λ _. self.old ≡ wanted.now ++ self.new) }
+        ensures found { (rest : List ℕ) → self.old ≡ wanted.now ++ rest → IsSome result × (self.new ≡ rest) }
+    {
+        if self.rest.len() < wanted.len() {
+            return None;
+        }
+        if &self.rest[..wanted.len()] != wanted {
+            return None;
+        }
+        self.rest = &self.rest[wanted.len()..];
+        Some(())
+    }
+
     /// Takes a decimal number that is at most `most`. It ends at the first byte that is not a digit.
     #[inline(always)]
     pub fn number(&mut self, most: u64) -> Option<u64>
-        ensures { MatchOption result
+        ensures taken { MatchOption result
             ((self.new ≡ self.old) × ((n : ℕ) (rest : List ℕ) → n ≤ most → ¬ BeginsWithNumber self.old n rest))
             (λ n. (n ≤ most) × BeginsWithNumber self.old n self.new) }
+        ensures found { FindsNumber most self.old result self.new }
     {
         let (n, rest) = front_number(self.rest)?;
         if n > most {

@@ -1,18 +1,19 @@
-//! Texts as bytes: reading and writing them, and their lines, tokens and numbers.
+//! Texts as bytes: reading them line by line, printing them, and the texts of faults.
 #![tactic(auto)]
 
+mod cutting;
 mod decimals;
 mod front;
+mod line_kind;
 mod lines;
 mod message;
-mod pieces;
 mod printer;
-mod tokens;
+mod read_fault;
 
-pub use decimals::number;
+pub use cutting::cut;
 pub use front::Front;
-pub use lines::cut;
+pub use line_kind::LineKind;
+pub use lines::Lines;
 pub use message::Message;
-pub use pieces::{Pieces, ReadFault};
 pub use printer::Printer;
-pub use tokens::Tokens;
+pub use read_fault::ReadFault;

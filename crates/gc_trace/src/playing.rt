@@ -113,7 +113,7 @@ impl Player {
         reader: &mut Source<R>,
     ) -> Result<(), TraceFault>
         requires reading { IsReadingTrace lines.old }
-        requires number { lines.old.number ≡ 3 }
+        requires number { lines.old.lines.taken ≡ 2 }
         requires unfailed { source_failed reader.old ≡ false }
         requires opened { HasPlayed (trace_opening (read_so_far lines.old [])) [] self.old }
         requires sound { IsState self.old.heap.core }
