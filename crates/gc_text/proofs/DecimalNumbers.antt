@@ -19,7 +19,7 @@ use Rattle.gc_text.specs.Internal.Decimals.{IsDecimal}
 pub decimals : IsNumeralModel (AllDigits 10) (digits_value 10)
 decimals = numerals_by_value (AllDigits 10) tells_digits
 
-pub value-decimal : (n : ℕ) → n < 2 ^ 64 → digits_value 10 (decimal n) ≡ n
+value-decimal : (n : ℕ) → n < 2 ^ 64 → digits_value 10 (decimal n) ≡ n
 value-decimal n small = (decimal_is_IsNumeral n small).1
 
 pub decimal_are_digits : (n : ℕ) → n < 2 ^ 64 → AllDigits 10 (decimal n)

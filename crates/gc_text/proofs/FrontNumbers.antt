@@ -1,11 +1,10 @@
--- Numbers and tokens that are found at the front of a text.
+-- Numbers that are found at the front of a text.
 use Rattle.std.proofs.lemmas.Grind.{common_steps}
 use Rattle.std.proofs.Common.{◌≡◌, ℕ, ◌<◌, ◌≤◌, ◌^◌, List, [], ◌∷◌, ◌++◌, refl, Option, Some, None, subst, arith, sym, ap, ◌∙◌, append_assoc}
 use Rattle.std.specs.Prelude.{MatchOption}
 use Rattle.std.specs.Fmt.{decimal}
 use Rattle.std.specs.Float.Numeral.{digits_len}
-use Rattle.gc_text.specs.Fronts.{BeginsWithNumber, EndsToken, spaced}
-use Rattle.gc_text.specs.Lines.{space, joined}
+use Rattle.gc_text.specs.Fronts.{BeginsWithNumber, EndsToken}
 use Rattle.gc_text.proofs.DecimalNumbers.{one_front}
 
 token_ends : (more : List ℕ) → EndsToken more → digits_len more ≡ 0
@@ -22,9 +21,3 @@ number_found most n text rest more None small out le ends is = absurd (out.1 n m
 number_found most n text rest more (Some m) small out le ends is =
     let same = one_front text m n rest more out.1 (subst (λ (t : List ℕ). BeginsWithNumber t n more) (sym is) (begins n more (omega (arith, le, small)) ends)) in
     (ap Some same.0, same.1)
-
--- joined tokens and then the rest of the text
-pub joined_spaced : (tokens : List (List ℕ)) (rest : List ℕ) → joined tokens ++ rest ≡ spaced tokens rest
-joined_spaced [] rest = refl
-joined_spaced (token ∷ []) rest = refl
-joined_spaced (token ∷ next ∷ tokens) rest = append_assoc token (space ∷ joined (next ∷ tokens)) rest ∙ ap (λ (t : List ℕ). token ++ space ∷ t) (joined_spaced (next ∷ tokens) rest)

@@ -5,7 +5,8 @@ use Rattle.std.specs.Io.KnownBytes.{Consumes, IsAtEnd}
 use Rattle.std.proofs.lemmas.List.{append-nil, drop_all, drop-drop, length-drop, length-append}
 use Rattle.std.proofs.Math.Seq.{drop-append_seam}
 use Rattle.gc_text.specs.Lines.{newline}
-use Rattle.gc_text.specs.Reading.{Progress, Place, start, nothing_read, IsAt, IsAtLast, HasTakenLine}
+use Rattle.gc_text.specs.Internal.Starting.{nothing_read}
+use Rattle.gc_text.specs.Reading.{Progress, Place, start, IsAt, IsAtLast, HasTakenLine}
 
 -- what is true of every known text, if a text is known
 pub if_known : {P : List ℕ → Type 0} (known : Option (List ℕ)) → ((text : List ℕ) → known ≡ Some text → P text) → IfSome known P

@@ -2,7 +2,6 @@
 use Rattle.std.specs.Prelude.{◌≡◌, ℕ, ◌<◌, ◌≤◌, ◌^◌, List, [], ◌∷◌, ◌++◌, Option, Some}
 use Rattle.std.specs.Fmt.{decimal}
 use Rattle.std.specs.Float.Numeral.{digits_len}
-use Rattle.gc_text.specs.Lines.{space}
 
 -- the text is `n` in decimal, where `n` is below 2 ^ 64, and then `rest`, which does not begin with a digit
 pub record BeginsWithNumber (text : List ℕ) (n : ℕ) (rest : List ℕ) : Type 0 where
@@ -18,9 +17,3 @@ EndsToken (b ∷ rest) = b < 48
 -- a number up to `most` is found at the front of the text, if it is there
 abbrev pub FindsNumber : ℕ → List ℕ → Option ℕ → List ℕ → Type 0
 FindsNumber most text found rest = (n : ℕ) (more : List ℕ) → n ≤ most → EndsToken more → text ≡ decimal n ++ more → (found ≡ Some n) × (rest ≡ more)
-
--- tokens with one space between them, and then the rest of the text
-abbrev pub spaced : List (List ℕ) → List ℕ → List ℕ
-spaced [] rest = rest
-spaced (token ∷ []) rest = token ++ rest
-spaced (token ∷ next ∷ tokens) rest = token ++ space ∷ spaced (next ∷ tokens) rest

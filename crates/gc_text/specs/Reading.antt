@@ -13,9 +13,6 @@ pub record Progress : Type 0 where
   pub ended : Bool
   pub taken : ℕ
 
-abbrev pub nothing_read : ℕ → Progress
-nothing_read limit = record { waiting = []; read = 0; limit = limit; ended = false; taken = 0 }
-
 -- a place in a text: the text after the lines that were taken, and their number
 pub record Place : Type 0 where
   pub rest : List ℕ

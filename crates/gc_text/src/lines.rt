@@ -48,7 +48,8 @@ impl Lines {
     ghost use Rattle.std.specs.Prelude.{◌≡◌, ◌+◌, ◌*◌, ◌≤◌, ◌<◌, ◌↔◌, ◌∷◌, ◌++◌, ℕ, List, true, false, length, IfOk, IfSome, MatchOption, MatchResult, Err, Ok, Some};
     ghost use Rattle.gc_graph.specs.Streams.{bytes_left, source_failed};
     ghost use Rattle.gc_text.specs.Lines.{newline};
-    ghost use Rattle.gc_text.specs.Reading.{Place, start, nothing_read, IsAt, IsAtLast, NoneIsFirst, TakesLine, CannotRead};
+    ghost use Rattle.gc_text.specs.Internal.Starting.{nothing_read};
+    ghost use Rattle.gc_text.specs.Reading.{Place, start, IsAt, IsAtLast, NoneIsFirst, TakesLine, CannotRead};
     ghost use Rattle.gc_text.specs.declared.read_fault.ReadFault.{ReadFault};
 
     /// Returns a text with a limit of `limit` bytes, before the first read.

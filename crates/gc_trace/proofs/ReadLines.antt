@@ -10,7 +10,8 @@ use Rattle.gc_text.specs.declared.read_fault.ReadFault.{ReadFault}
 use Rattle.gc_text.specs.declared.read_fault.ReadFault.TheVariants as reads
 use Rattle.gc_text.proofs.Public.{HasNo-name, HasNo-decimal, HasNo-joined, one_cut}
 use Rattle.gc_plan.specs.declared.event.Event.{Event}
-use Rattle.gc_trace.specs.Grammar.{Recording, first_line, second_line, trace_heading, event_tokens, event_line, IsVersion, AreWorldSizes, IsHeading, HasLine, IsOf, IsRecording}
+use Rattle.gc_trace.specs.Grammar.{Recording, trace_heading, event_tokens, event_line, IsHeading, HasLine, IsOf, IsRecording}
+use Rattle.gc_trace.specs.Internal.Headings.{first_line, second_line, IsVersion, AreWorldSizes}
 use Rattle.gc_trace.specs.Faults.{trace_limit, HasNoHeading, GoodBefore, HasStranger, HasBadLine, BeginsWithNoEvent, ReadingMayFail}
 use Rattle.gc_trace.specs.declared.fault.TraceFault.TheVariants.{TooLarge}
 use Rattle.gc_trace.specs.Internal.Faults.{trace_fault_of}
@@ -71,7 +72,7 @@ heading_read text r one two left fits first second at =
 abbrev line_of : Event → List ℕ
 line_of event = joined (event_tokens event)
 
-pub no_event_line : (version : ℕ) (text : List ℕ) → NoneIsFirst (HasLine version) line_of text → BeginsWithNoEvent version text
+no_event_line : (version : ℕ) (text : List ℕ) → NoneIsFirst (HasLine version) line_of text → BeginsWithNoEvent version text
 no_event_line version text none event more fits is = none event more fits (is ∙ event_line-more event more)
 
 behind_event : (event : Event) (old new : Place) → HasTakenLine (line_of event) old new → old.rest ≡ event_line event ++ new.rest

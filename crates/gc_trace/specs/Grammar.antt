@@ -4,7 +4,7 @@ use Rattle.std.specs.List.{flat_map, AllByRecursion}
 use Rattle.std.specs.Fmt.{decimal}
 use Rattle.gc_graph.specs.Limits.{most_words, most_mutators}
 use Rattle.gc_graph.specs.Slots.{SlotName}
-use Rattle.gc_text.specs.Lines.{line, ended, joined}
+use Rattle.gc_text.specs.Lines.{line}
 use Rattle.gc_graph.specs.declared.command.Op.{Op}
 use Rattle.gc_graph.specs.declared.command.Op.TheVariants as ops
 use Rattle.gc_plan.specs.Runs as runs
@@ -52,15 +52,9 @@ event_tokens (Collect step) = codes "c" ∷ step_tokens step
 unfoldable pub event_line : Event → List ℕ
 event_line event = line (event_tokens event)
 
-abbrev pub first_line : ℕ → List ℕ
-first_line version = joined (codes "heaptrace" ∷ decimal version ∷ [])
-
--- the line of the size and the number of mutators
-abbrev pub second_line : ℕ × ℕ → List ℕ
-second_line sizes = joined (codes "space" ∷ decimal sizes.0 ∷ codes "mutators" ∷ decimal sizes.1 ∷ [])
-
+-- lines 1 and 2
 unfoldable pub trace_heading : ℕ → ℕ → ℕ → List ℕ
-trace_heading version size mutators = ended (first_line version) ++ ended (second_line (size, mutators))
+trace_heading version size mutators = line (codes "heaptrace" ∷ decimal version ∷ []) ++ line (codes "space" ∷ decimal size ∷ codes "mutators" ∷ decimal mutators ∷ [])
 
 unfoldable pub trace_text : Recording → List ℕ
 trace_text t = trace_heading t.version t.size t.mutators ++ flat_map event_line t.events
@@ -70,13 +64,6 @@ trace_text t = trace_heading t.version t.size t.mutators ++ flat_map event_line 
 -- the newest version that the reader accepts
 abbrev pub newest : ℕ
 newest = 3
-
-abbrev pub IsVersion : ℕ → Type 0
-IsVersion version = (1 ≤ version) × (version ≤ newest)
-
--- a size, and a number of mutators
-abbrev pub AreWorldSizes : ℕ × ℕ → Type 0
-AreWorldSizes sizes = (1 ≤ sizes.0) × (sizes.0 ≤ most_words) × (1 ≤ sizes.1) × (sizes.1 ≤ most_mutators)
 
 abbrev pub IsHeading : ℕ → ℕ → ℕ → Type 0
 IsHeading version size mutators = (1 ≤ version) × (version ≤ newest) × (1 ≤ size) × (size ≤ most_words) × (1 ≤ mutators) × (mutators ≤ most_mutators)

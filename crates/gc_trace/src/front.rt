@@ -1,12 +1,12 @@
 ghost use Rattle.std.specs.Prelude.{◌≡◌, ◌<◌, ◌≤◌, ◌-◌, ◌∷◌, ◌++◌, [], Some, take, decimal, codes, IfSome, MatchOption};
 ghost use Rattle.gc_graph.specs.Limits.{most_words};
-ghost use Rattle.gc_text.specs.Fronts.{spaced};
 ghost use Rattle.gc_text.specs.Lines.{space, newline, joined};
 ghost use Rattle.gc_text.specs.Reading.{NoneIsFirst};
 ghost use Rattle.gc_graph.specs.Range.{IsSlot, IsCommand};
 ghost use Rattle.gc_plan.specs.Runs.{IsStepWithin};
-ghost use Rattle.gc_trace.specs.Grammar.{slot, op_tokens, step_tokens, op_version, step_version, event_tokens, first_line, second_line, IsVersion, AreWorldSizes, HasLine};
-ghost use Rattle.gc_trace.specs.Internal.Fronts.{FindsToken, FindsTokens};
+ghost use Rattle.gc_trace.specs.Grammar.{slot, op_tokens, step_tokens, op_version, step_version, event_tokens, HasLine};
+ghost use Rattle.gc_trace.specs.Internal.Headings.{first_line, second_line, IsVersion, AreWorldSizes};
+ghost use Rattle.gc_trace.specs.Internal.Fronts.{spaced, FindsToken, FindsTokens};
 
 use crate::trace::{RAW, SIZED};
 use gc_graph::{MOST_MUTATORS, MOST_WORDS, Number, Op, Slot};
@@ -373,7 +373,7 @@ fn event(version: u8, front: &mut Front<'_>) -> Option<Event>
 
 /// Takes an event's line of this version, in one pass. Returns `None` if the text does not begin with one.
 #[inline(always)]
-#[tactic(auto, using(gc_text::proofs::Public::joined_spaced))]
+#[tactic(auto, using(crate::proofs::EventFronts::joined_spaced))]
 pub fn line(version: u8, front: &mut Front<'_>) -> Option<Event>
     requires { 1 ≤ version }
     ensures { MatchOption result (NoneIsFirst (HasLine version) (λ event. joined (event_tokens event)) front.old)

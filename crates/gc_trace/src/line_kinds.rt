@@ -1,6 +1,7 @@
 ghost use Rattle.std.specs.Prelude.{◌≤◌};
 ghost use Rattle.gc_text.specs.Lines.{joined};
-ghost use Rattle.gc_trace.specs.Grammar.{event_tokens, first_line, second_line, IsVersion, AreWorldSizes, HasLine};
+ghost use Rattle.gc_trace.specs.Grammar.{event_tokens, HasLine};
+ghost use Rattle.gc_trace.specs.Internal.Headings.{first_line, second_line, IsVersion, AreWorldSizes};
 
 use crate::front::{line, sizes_line, version_line};
 use gc_plan::Event;
