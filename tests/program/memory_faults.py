@@ -32,7 +32,7 @@ TESTS = ("gc_test_kit", "gc_tests", "gc_shared_tests", "gc_trace_tests", "alloca
 # Each place where such a fault is written: the file, the function, how, and how often. Those by hand have their reasons in BY_HAND_REASONS.
 PLACES = {
     "gc_graph/src/no_memory.rt": {("from", BY_FROM): 2},
-    "gc_graph/src/text/pieces.rt": {("from", BY_FROM): 1},
+    "gc_text/src/read_fault.rt": {("from", BY_FROM): 1},
     "gc_cert/src/fault.rt": {("from", BY_ARM): 1, ("from", BY_FROM): 1},
     "gc_check/src/inference.rt": {("compare_by", BY_ARM): 1, ("infer", BY_ARM): 1},
     "gc_check/src/shortest_path.rt": {("path_to", BY_ARM): 1},

@@ -14,7 +14,7 @@ DOT = 5
 HEADING, EDGE, BAND_GAP = 15, 4, 5
 # The groups of crates, by the role of their boxes: a heading, and the crates. Each group uses itself and those before it.
 GROUPS = {
-    "crate-language": ("the language", ["gc_graph"]),
+    "crate-language": ("the language", ["gc_graph", "gc_text"]),
     "crate-words": ("words", ["gc_words", "gc_heap"]),
     "crate-plan": ("the plan", ["gc_plan"]),
     "crate-mechanism": ("the mechanism", ["gc_copy"]),

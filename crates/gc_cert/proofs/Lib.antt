@@ -4,7 +4,6 @@ pub mod OneReading
 pub mod TextLimit
 pub mod RowProofs
 pub mod Stops
-pub mod Fronts
 pub mod Forms
 pub mod LineForms
 pub mod Parts

@@ -3,12 +3,12 @@ use Rattle.std.proofs.lemmas.Grind.{common_steps}
 use Rattle.std.proofs.Common.{◌≡◌, ◌≢◌, ℕ, ◌+◌, List, [], ◌∷◌, ◌++◌, length, refl, sym, ap, ◌∙◌, arith, append_assoc, subst, inl, inr, ◌⊎◌}
 use Rattle.std.proofs.lemmas.List.{append-nil}
 use Rattle.std.proofs.lemmas.List.Concat.{flat_map-cons}
-use Rattle.gc_graph.specs.Lines.{newline, HasNo, ended, text_of}
+use Rattle.gc_text.specs.Lines.{newline, HasNo, ended, text_of}
 use Rattle.gc_cert.specs.Grammar.{CertifiedPair, lines_of, spelling, IsTextOf}
 use Rattle.gc_cert.specs.Faults.{AreFirst, AreWhole, HasWrongLine, HasByteBehind, IsCutOff, IsPairFaultOf, IsReadAsPair}
 use Rattle.gc_cert.specs.declared.fault.PairFault.{PairFault}
 use Rattle.gc_cert.specs.declared.fault.PairFault.TheVariants.{Read, TooLarge, BadLine, EndsEarly, NoMemory}
-use Rattle.gc_graph.proofs.Public.{not_cut, one_cut}
+use Rattle.gc_text.proofs.Public.{not_cut, one_cut}
 use Rattle.gc_cert.proofs.SameLines.{AreLines, All-front, are_lines, lines_same}
 
 text_more : (l : List ℕ) (ls : List (List ℕ)) (x : List ℕ) → text_of (l ∷ ls) ++ x ≡ l ++ newline ∷ (text_of ls ++ x)

@@ -8,7 +8,8 @@ use Rattle.std.proofs.lemmas.List.{append-nil, append_cancel_left, length-replic
 use Rattle.gc_words.specs.Image.{Image}
 use Rattle.gc_cert.specs.Grammar.{CertifiedPair, heading, pair_line, count_line, size_line, image_lines, certificate_lines, lines_of, IsWord, AreAddresses, AreSizes, IsCertificate, HasImageText, HasText}
 use Rattle.gc_cert.specs.Internal.Grammar.{image_alone, IsImageBy}
-use Rattle.gc_cert.specs.Sections.{Place, HasTaken}
+use Rattle.gc_text.specs.Reading.{Place}
+use Rattle.gc_cert.specs.Internal.Sections.{HasTaken}
 use Rattle.gc_cert.specs.Internal.Sections.{Nothing, AnyFlag, alone, AreAll, Section, Spelled}
 use Rattle.gc_cert.proofs.Stops.{Delimits, BeginsWith}
 use Rattle.gc_cert.proofs.Forms.{All-replicate, one_form}

@@ -3,7 +3,7 @@ use Rattle.std.proofs.lemmas.Grind.{common_steps}
 use Rattle.std.proofs.Common.{◌≡◌, ℕ, List, [], ◌∷◌, ◌++◌, map, take, drop, refl, sym, ap, ◌∙◌, append_assoc, Option, subst, length, ◌+◌, ◌<◌, ◌≤◌, get_or, arith}
 use Rattle.std.proofs.lemmas.List.{append-nil, take-append-drop, take_all, take_more, map-append}
 use Rattle.std.proofs.lemmas.List.Concat.{flat_map-append}
-use Rattle.gc_graph.specs.Lines.{ended, text_of}
+use Rattle.gc_text.specs.Lines.{ended, text_of}
 use Rattle.gc_graph.specs.Streams.{SendsFront, HasSent}
 use Rattle.gc_graph.proofs.Public.{nothing_sent, sent_then, front_sent}
 use Rattle.gc_cert.specs.Internal.PrintedLines.{Prints, PrintsFront}

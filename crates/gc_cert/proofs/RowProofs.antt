@@ -5,11 +5,11 @@ use Rattle.std.specs.Prelude.{codes}
 use Rattle.std.specs.Fmt.{digits}
 use Rattle.std.proofs.lemmas.Bool.{leb-true}
 use Rattle.std.proofs.lemmas.List.{append-nil}
-use Rattle.gc_graph.specs.Lines.{newline}
+use Rattle.gc_text.specs.Lines.{newline}
 use Rattle.gc_cert.specs.Grammar.{heading, pair_line, count_line, image_lines, certificate_lines, lines_of, spelling, HasImageText, HasText}
 use Rattle.gc_cert.specs.Faults.{limit, AreFirst, AreWhole}
 use Rattle.gc_cert.specs.Rows.{least_image, least, least_with_raws, Rows}
-use Rattle.gc_graph.proofs.Public.{HasNo-lacks}
+use Rattle.gc_text.proofs.Public.{HasNo-lacks}
 use Rattle.gc_cert.proofs.SameLines.{lines_same, lines_more, image_same, certificate_more, head_of, heading_same, count_same}
 
 short : (text : List ℕ) → leb (length text) limit ≡ true → length text ≤ limit

@@ -6,10 +6,10 @@ use Rattle.std.specs.Fmt.{decimal}
 use Rattle.std.specs.List.{AllByRecursion}
 use Rattle.std.proofs.lemmas.List.{append_cancel_left}
 use Rattle.std.proofs.lemmas.Fmt.{decimal_injective}
-use Rattle.gc_graph.specs.Lines.{HasNo, space, newline}
+use Rattle.gc_text.specs.Lines.{HasNo, space, newline}
 use Rattle.gc_words.specs.Image.{Image}
 use Rattle.gc_cert.specs.Grammar.{CertifiedPair, heading, pair_line, count_line, image_lines, certificate_lines, lines_of, IsWord, AreAddresses, HasImageText, HasText}
-use Rattle.gc_graph.proofs.Public.{HasNo-decimal, HasNo-lacks, HasNo-joined, one_cut}
+use Rattle.gc_text.proofs.Public.{HasNo-decimal, HasNo-lacks, HasNo-joined, one_cut}
 
 abbrev pub AreLines : List (List ℕ) → Type 0
 AreLines lines = AllByRecursion (HasNo newline) lines

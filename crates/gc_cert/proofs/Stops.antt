@@ -3,8 +3,9 @@ use Rattle.std.proofs.lemmas.Grind.{common_steps}
 use Rattle.std.proofs.Common.{◌≡◌, ℕ, List, [], ◌∷◌, ◌++◌, refl, sym, ap, ◌∙◌, arith, append_assoc, subst, inl, inr, ◌⊎◌, length-append}
 use Rattle.std.proofs.lemmas.List.{append-nil}
 use Rattle.std.proofs.lemmas.List.Concat.{flat_map-append}
-use Rattle.gc_graph.specs.Lines.{newline, ended, text_of}
-use Rattle.gc_cert.specs.Sections.{Place, HasTaken}
+use Rattle.gc_text.specs.Lines.{newline, ended, text_of}
+use Rattle.gc_text.specs.Reading.{Place}
+use Rattle.gc_cert.specs.Internal.Sections.{HasTaken}
 use Rattle.gc_cert.specs.Internal.Sections.{Section, Spelled, Begins, IsWrongAt, IsCutIn}
 
 -- the lines of one value begin those of no other

@@ -6,7 +6,7 @@ use Rattle.std.specs.Fmt.{decimal}
 use Rattle.std.specs.List.{AllByRecursion}
 use Rattle.std.proofs.lemmas.List.Concat.{flat_map-cons, flat_map-append}
 use Rattle.std.proofs.lemmas.Fmt.{length-decimal-le}
-use Rattle.gc_graph.specs.Lines.{newline, ended, text_of}
+use Rattle.gc_text.specs.Lines.{newline, ended, text_of}
 use Rattle.gc_words.specs.Image.{Image}
 use Rattle.gc_cert.specs.Grammar.{CertifiedPair, heading, pair_line, count_line, size_line, image_lines, certificate_lines, lines_of, spelling, IsWord, AreAddresses, HasImageText, HasText}
 use Rattle.gc_cert.specs.Faults.{limit, IsReadAsPair}

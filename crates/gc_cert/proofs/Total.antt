@@ -1,19 +1,20 @@
 -- Each text has a reading: it is a pair of images, or it has a first fault.
 use Rattle.std.proofs.lemmas.Grind.{common_steps}
-use Rattle.std.proofs.Common.{◌≡◌, ◌≢◌, ℕ, suc, zero, ◌+◌, ◌≤◌, Bool, true, leb, List, [], ◌∷◌, ◌++◌, length, map, refl, sym, ap, ◌∙◌, arith, subst, inl, inr, ◌⊎◌, length-append, Option, Some, None}
+use Rattle.std.proofs.Common.{◌≡◌, ◌≢◌, ℕ, suc, zero, ◌+◌, ◌≤◌, Bool, leb, List, [], ◌∷◌, ◌++◌, length, map, refl, sym, ap, ◌∙◌, arith, subst, inl, inr, ◌⊎◌, length-append}
 use Rattle.std.specs.Prelude.{codes}
 use Rattle.std.specs.Fmt.{decimal}
 use Rattle.std.specs.List.{AllByRecursion}
 use Rattle.std.proofs.lemmas.Bool.{leb-true}
 use Rattle.std.proofs.lemmas.List.{append-nil}
-use Rattle.gc_graph.specs.Lines.{newline, text_of, tokens_of}
-use Rattle.gc_graph.proofs.Public.{Cut, cut, all_push}
+use Rattle.gc_text.specs.Lines.{newline, text_of}
+use Rattle.gc_graph.proofs.Public.{all_push}
+use Rattle.gc_text.proofs.Public.{Cut, cut}
 use Rattle.gc_cert.specs.Grammar.{CertifiedPair, heading, pair_line, count_line, size_line, certificate_lines, lines_of, spelling, IsWord, AreAddresses, AreSizes, IsCertificate, HasText, IsTextOf}
 use Rattle.gc_cert.specs.Internal.Grammar.{image_alone, IsImageBy}
 use Rattle.gc_cert.specs.Faults.{limit, AreFirst, HasWrongLine, HasByteBehind, IsCutOff, IsPairFaultOf, IsReadAsPair, MayFail}
-use Rattle.gc_cert.specs.Sections.{Place, start, IsNextLine, HasTaken}
+use Rattle.gc_text.specs.Reading.{Place, start}
+use Rattle.gc_cert.specs.Internal.Sections.{IsNextLine, HasTaken}
 use Rattle.gc_cert.specs.Internal.Sections.{Nothing, AnyFlag, alone, AreAll, Section, Spelled, Begins, IsWrongAt, IsCutIn, MayStop}
-use Rattle.gc_cert.specs.Internal.Parsers.{count_of, sizes_of, address_pair, is_name, is_line, raws_in, word_in}
 use Rattle.gc_cert.specs.declared.fault.PairFault.{PairFault}
 use Rattle.gc_cert.specs.declared.fault.PairFault.TheVariants.{BadLine, EndsEarly}
 use Rattle.gc_cert.proofs.Stops.{Delimits, BeginsWith, taken_then, wrong_within, cut_within}
@@ -45,60 +46,60 @@ behind p c = record { rest = c.rest; taken = p.taken + 1 }
 is_next : (p : Place) (c : Cut p.rest) → IsNextLine c.line p (behind p c)
 is_next p c = record { parts = c.parts; whole = c.whole; number = refl }
 
-line_outcome : {V : Type 0} (InRange : V → Type 0) (line_of : V → List ℕ) (read : List ℕ → Option V) (p : Place) → IsForm InRange line_of read → Outcome InRange (alone line_of) p
+line_outcome : {V : Type 0} (InRange : V → Type 0) (line_of : V → List ℕ) (p : Place) → IsForm InRange line_of → Outcome InRange (alone line_of) p
 unfolding Stops Outcome
-line_outcome {V} InRange line_of read p form = elim (cut p.rest) [ inl none ↦ inr (inr (line_cut InRange line_of read p form none)) | inr c ↦ at c (read c.line) refl ]
+line_outcome {V} InRange line_of p form = elim (cut p.rest) [ inl none ↦ inr (inr (line_cut InRange line_of p (form.some, form.in_range) none)) | inr c ↦ at c (form.decided c.line) ]
   where
-    at : (c : Cut p.rest) → (o : Option V) → read c.line ≡ o → Outcome InRange (alone line_of) p
-    at c None e = inr (inl (p.taken + 1, line_wrong InRange line_of read p (behind p c) c.line (p.taken + 1) form (is_next p c) e refl))
-    at c (Some v) e = (let taken = line_taken InRange line_of read p (behind p c) c.line v form (is_next p c) e in inl (v, behind p c, taken.0, taken.1))
+    at : (c : Cut p.rest) → ((v : V) × InRange v × (c.line ≡ line_of v)) ⊎ ((v : V) → InRange v → c.line ≢ line_of v) → Outcome InRange (alone line_of) p
+    at c (inl (v, fits, is)) = inl (v, behind p c, fits, line_taken (line_of v) p (behind p c) (record { parts = c.parts ∙ ap (λ (l : List ℕ). l ++ newline ∷ c.rest) is; number = refl }))
+    at c (inr none) = inr (inl (p.taken + 1, line_wrong InRange line_of p (behind p c) c.line (p.taken + 1) (form.some, form.in_range) (is_next p c) none refl))
 
-all_outcome : {V : Type 0} (InRange : V → Type 0) (line_of : V → List ℕ) (read : List ℕ → Option V) (n : ℕ) (p : Place) → IsForm InRange line_of read → Outcome (AreAll InRange n) (map line_of) p
+all_outcome : {V : Type 0} (InRange : V → Type 0) (line_of : V → List ℕ) (n : ℕ) (p : Place) → IsForm InRange line_of → Outcome (AreAll InRange n) (map line_of) p
 unfolding Stops Outcome
-all_outcome {V} InRange line_of read n p form = go n [] p (omega arith) tt (record { parts = refl; number = omega arith })
+all_outcome {V} InRange line_of n p form = go n [] p (omega arith) tt (record { parts = refl; number = omega arith })
   where
     go : (left : ℕ) (vs : List V) (mid : Place) → length vs + left ≡ n → AllByRecursion InRange vs → HasTaken (map line_of vs) p mid → Outcome (AreAll InRange n) (map line_of) p
     go zero vs mid counted all taken = inl (vs, mid, (omega (arith, counted), all), taken)
     go (suc left) vs mid counted all taken =
-        next InRange (alone line_of) (Spelled (AreAll InRange n) (map line_of)) (map line_of vs) p mid (alone_delimits InRange line_of read form) (begins_with_one InRange line_of n vs (omega (arith, counted)) all) taken (line_outcome InRange line_of read mid form)
+        next InRange (alone line_of) (Spelled (AreAll InRange n) (map line_of)) (map line_of vs) p mid (alone_delimits InRange line_of form) (begins_with_one InRange line_of n vs (omega (arith, counted)) all) taken (line_outcome InRange line_of mid form)
         (λ v after q more. go left (vs ++ v ∷ []) after (omega (arith, counted, length-append vs (v ∷ []))) (all_push InRange vs v all q) (push_taken line_of vs v p after more))
 
 -- ---- parts
 
-image_outcome : (raws : Bool) (name : List ℕ) (p : Place) → is_name name ≡ true → Outcome (IsImageBy raws) (image_alone name) p
+image_outcome : (raws : Bool) (name : List ℕ) (p : Place) → Outcome (IsImageBy raws) (image_alone name) p
 unfolding Outcome
-image_outcome raws name p named =
-    next AreSizes (alone (λ s. size_line name s.0 s.1)) (ImageSection raws name) [] p p (alone_delimits AreSizes (λ s. size_line name s.0 s.1) (λ line. sizes_of name (tokens_of line)) (size_form name named)) (image_sizes raws name) (none_taken p)
-    (line_outcome AreSizes (λ s. size_line name s.0 s.1) (λ line. sizes_of name (tokens_of line)) p (size_form name named)) (λ s a fits first.
-    next (AreAll IsWord s.1) (map decimal) (ImageSection raws name) (size_line name s.0 s.1 ∷ []) p a (all_delimit IsWord decimal word_in s.1 word_form) (image_words raws name s fits) first (all_outcome IsWord decimal word_in s.1 a word_form) (λ words b ws second.
-    next (λ n. n ≤ 272) (alone (count_line (codes "roots"))) (ImageSection raws name) ((size_line name s.0 s.1 ∷ []) ++ map decimal words) p b (alone_delimits (λ n. n ≤ 272) (count_line (codes "roots")) (λ line. count_of (codes "roots") 272 (tokens_of line)) roots)
-    (image_count raws name s words fits ws) second (line_outcome (λ n. n ≤ 272) (count_line (codes "roots")) (λ line. count_of (codes "roots") 272 (tokens_of line)) b roots) (λ n c le third.
-    next (AreAll IsWord n) (map decimal) (ImageSection raws name) (up_to_count name s words n) p c (all_delimit IsWord decimal word_in n word_form) (image_roots raws name s words n fits ws le) third (all_outcome IsWord decimal word_in n c word_form) (λ rs d all last.
+image_outcome raws name p =
+    next AreSizes (alone (λ s. size_line name s.0 s.1)) (ImageSection raws name) [] p p (alone_delimits AreSizes (λ s. size_line name s.0 s.1) (size_form name)) (image_sizes raws name) (none_taken p)
+    (line_outcome AreSizes (λ s. size_line name s.0 s.1) p (size_form name)) (λ s a fits first.
+    next (AreAll IsWord s.1) (map decimal) (ImageSection raws name) (size_line name s.0 s.1 ∷ []) p a (all_delimit IsWord decimal s.1 word_form) (image_words raws name s fits) first (all_outcome IsWord decimal s.1 a word_form) (λ words b ws second.
+    next (λ n. n ≤ 272) (alone (count_line (codes "roots"))) (ImageSection raws name) ((size_line name s.0 s.1 ∷ []) ++ map decimal words) p b (alone_delimits (λ n. n ≤ 272) (count_line (codes "roots")) roots)
+    (image_count raws name s words fits ws) second (line_outcome (λ n. n ≤ 272) (count_line (codes "roots")) b roots) (λ n c le third.
+    next (AreAll IsWord n) (map decimal) (ImageSection raws name) (up_to_count name s words n) p c (all_delimit IsWord decimal n word_form) (image_roots raws name s words n fits ws le) third (all_outcome IsWord decimal n c word_form) (λ rs d all last.
     (let whole = image_taken raws name s words rs n p d fits ws le all last in inl (made_image raws s words rs, d, whole.0, whole.1))))))
   where
-    roots : IsForm (λ n. n ≤ 272) (count_line (codes "roots")) (λ line. count_of (codes "roots") 272 (tokens_of line))
-    roots = count_form (codes "roots") 272 refl (omega arith)
+    roots : IsForm (λ n. n ≤ 272) (count_line (codes "roots"))
+    roots = count_form (codes "roots") 272 (omega arith)
 
 certificate_outcome : (p : Place) → Outcome IsCertificate certificate_lines p
 unfolding Outcome
 certificate_outcome p =
-    next (λ n. n ≤ 524287) (alone (count_line (codes "pairs"))) CertificateSection [] p p (alone_delimits (λ n. n ≤ 524287) (count_line (codes "pairs")) (λ line. count_of (codes "pairs") 524287 (tokens_of line)) count) certificate_count (none_taken p)
-    (line_outcome (λ n. n ≤ 524287) (count_line (codes "pairs")) (λ line. count_of (codes "pairs") 524287 (tokens_of line)) p count) (λ n a le first.
-    next (AreAll AreAddresses n) (map pair_line) CertificateSection (pairs_line n ∷ []) p a (all_delimit AreAddresses pair_line (λ line. address_pair (tokens_of line)) n pair_form) (certificate_pairs n le) first
-    (all_outcome AreAddresses pair_line (λ line. address_pair (tokens_of line)) n a pair_form) (λ pairs b ps second.
-    next Nothing (alone (λ _. codes "end")) CertificateSection (up_to_end n pairs) p b (alone_delimits Nothing (λ _. codes "end") (is_line (codes "end")) (fixed_form (codes "end"))) (certificate_end n pairs le ps) second
-    (line_outcome Nothing (λ _. codes "end") (is_line (codes "end")) b (fixed_form (codes "end"))) (λ _ c _ last.
+    next (λ n. n ≤ 524287) (alone (count_line (codes "pairs"))) CertificateSection [] p p (alone_delimits (λ n. n ≤ 524287) (count_line (codes "pairs")) count) certificate_count (none_taken p)
+    (line_outcome (λ n. n ≤ 524287) (count_line (codes "pairs")) p count) (λ n a le first.
+    next (AreAll AreAddresses n) (map pair_line) CertificateSection (pairs_line n ∷ []) p a (all_delimit AreAddresses pair_line n pair_form) (certificate_pairs n le) first
+    (all_outcome AreAddresses pair_line n a pair_form) (λ pairs b ps second.
+    next Nothing (alone (λ _. codes "end")) CertificateSection (up_to_end n pairs) p b (alone_delimits Nothing (λ _. codes "end") (fixed_form (codes "end"))) (certificate_end n pairs le ps) second
+    (line_outcome Nothing (λ _. codes "end") b (fixed_form (codes "end"))) (λ _ c _ last.
     (let whole = certificate_taken n pairs p c le ps last in inl (pairs, c, whole.0, whole.1)))))
   where
-    count : IsForm (λ n. n ≤ 524287) (count_line (codes "pairs")) (λ line. count_of (codes "pairs") 524287 (tokens_of line))
-    count = count_form (codes "pairs") 524287 refl (omega arith)
+    count : IsForm (λ n. n ≤ 524287) (count_line (codes "pairs"))
+    count = count_form (codes "pairs") 524287 (omega arith)
 
 text_outcome : (p : Place) → Outcome HasText lines_of p
 unfolding Outcome
 text_outcome p =
-    next AnyFlag (alone heading) TextSection [] p p (alone_delimits AnyFlag heading raws_in heading_form) text_heading (none_taken p) (line_outcome AnyFlag heading raws_in p heading_form) (λ raws a _ first.
-    next (IsImageBy raws) (image_alone (codes "old")) TextSection (heading raws ∷ []) p a (image_delimits raws (codes "old")) (text_old raws) first (image_outcome raws (codes "old") a refl) (λ old b p-old second.
-    next (IsImageBy raws) (image_alone (codes "new")) TextSection ((heading raws ∷ []) ++ image_alone (codes "old") old) p b (image_delimits raws (codes "new")) (text_new raws old p-old) second (image_outcome raws (codes "new") b refl) (λ new c p-new third.
+    next AnyFlag (alone heading) TextSection [] p p (alone_delimits AnyFlag heading heading_form) text_heading (none_taken p) (line_outcome AnyFlag heading p heading_form) (λ raws a _ first.
+    next (IsImageBy raws) (image_alone (codes "old")) TextSection (heading raws ∷ []) p a (image_delimits raws (codes "old")) (text_old raws) first (image_outcome raws (codes "old") a) (λ old b p-old second.
+    next (IsImageBy raws) (image_alone (codes "new")) TextSection ((heading raws ∷ []) ++ image_alone (codes "old") old) p b (image_delimits raws (codes "new")) (text_new raws old p-old) second (image_outcome raws (codes "new") b) (λ new c p-new third.
     next IsCertificate certificate_lines TextSection (both_images raws old new) p c certificate_delimits (text_certificate raws old new p-old p-new) third (certificate_outcome c) (λ pairs d p-pairs last.
     (let whole = text_taken raws old new pairs p d p-old p-new p-pairs last in inl (made_pair old new pairs, d, whole.0, whole.1))))))
 

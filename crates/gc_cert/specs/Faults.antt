@@ -1,6 +1,6 @@
 -- The first fault of a text that was read to its end.
 use Rattle.std.specs.Prelude.{◌≡◌, ◌≢◌, ℕ, ◌+◌, ◌<◌, ◌≤◌, ⊤, ◌⊎◌, List, [], ◌∷◌, ◌++◌, length}
-use Rattle.gc_graph.specs.Lines.{newline, HasNo, text_of}
+use Rattle.gc_text.specs.Lines.{newline, HasNo, text_of}
 use Rattle.gc_cert.specs.Grammar.{CertifiedPair, HasText, IsTextOf, lines_of}
 use Rattle.gc_cert.specs.declared.fault.PairFault.{PairFault}
 use Rattle.gc_cert.specs.declared.fault.PairFault.TheVariants.{Read, TooLarge, BadLine, EndsEarly, NoMemory}

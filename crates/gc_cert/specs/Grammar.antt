@@ -3,7 +3,7 @@ use Rattle.std.specs.Prelude.{◌≡◌, ℕ, ◌<◌, ◌≤◌, ◌^◌, Bool,
 use Rattle.std.specs.List.{AllByRecursion}
 use Rattle.std.specs.Fmt.{decimal}
 use Rattle.gc_graph.specs.Limits.{most_words, most_pairs, most_roots}
-use Rattle.gc_graph.specs.Lines.{joined, text_of}
+use Rattle.gc_text.specs.Lines.{joined, text_of}
 use Rattle.gc_words.specs.Image.{Image}
 
 -- what contracts see of a pair file

@@ -4,5 +4,4 @@ pub mod Faults
 pub mod Grammar
 pub mod Internal
 pub mod Rows
-pub mod Sections
 pub mod Views

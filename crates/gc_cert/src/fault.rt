@@ -1,4 +1,4 @@
-use gc_graph::text::{Message, ReadFault};
+use gc_text::{Message, ReadFault};
 use std::alloc::AllocFailed;
 use thiserror::Error;
 

@@ -6,9 +6,7 @@ mod image;
 mod laws;
 mod limits;
 mod line_kinds;
-mod lines;
-mod pair_reader;
-mod parser;
+mod pair_lines;
 mod reader;
 mod writer;
 

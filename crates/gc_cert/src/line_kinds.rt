@@ -1,121 +1,87 @@
-ghost use Rattle.std.specs.Prelude.{◌≡◌, ◌≤◌, ◌∷◌, ⊤, [], List, ℕ, true, decimal, MatchResult};
-ghost use Rattle.gc_words.specs.Views.{addresses};
+ghost use Rattle.std.specs.Prelude.{◌≡◌, ◌≤◌, ◌∷◌, ◌++◌, ℕ, List, decimal, MatchOption};
+ghost use Rattle.gc_text.specs.Lines.{newline};
+ghost use Rattle.gc_text.specs.Reading.{NoneIsFirst};
 ghost use Rattle.gc_cert.specs.Grammar.{heading, pair_line, count_line, size_line, IsWord, AreAddresses, AreSizes};
-ghost use Rattle.gc_cert.specs.Internal.Parsers.{is_name};
-ghost use Rattle.gc_cert.specs.Sections.{HasTaken};
-ghost use Rattle.gc_cert.specs.Internal.Sections.{Section, alone, Spelled, Nothing, AnyFlag, MayStop};
+ghost use Rattle.gc_cert.specs.Internal.Sections.{Nothing, AnyFlag};
 
-use crate::fault::PairFault;
-use crate::lines::Lines;
-use crate::parser::{count, raws, sizes};
-use gc_words::Pair;
+use gc_text::{Front, LineKind};
+use gc_words::MOST_WORDS;
 
 /// Takes exactly this line.
-fn take_line(lines: &mut Lines<'_>, wanted: &[u8]) -> Result<(), PairFault>
-    ensures { MatchResult result (λ _. HasTaken (wanted.now ∷ []) lines.old lines.new)
-        (λ fault. MayStop (Spelled Nothing (alone (λ _. wanted.now))) fault lines.old) }
+fn take_line(front: &mut Front<'_>, wanted: &[u8]) -> Option<()>
+    ensures { MatchOption result (NoneIsFirst Nothing (λ _. wanted.now) front.old)
+        (λ _. front.old ≡ wanted.now ++ newline ∷ front.new) }
 {
-    let Some(line) = lines.line() else {
-        return Err(PairFault::EndsEarly);
-    };
-    if line == wanted {
-        Ok(())
-    } else {
-        Err(PairFault::BadLine(lines.number()))
-    }
+    front.literal(wanted)?;
+    front.byte(b'\n')?;
+    Some(())
 }
 
 /// Takes the first line, and returns whether raw headers count.
-fn take_heading(lines: &mut Lines<'_>) -> Result<bool, PairFault>
-    ensures { MatchResult result (λ raws. HasTaken (heading raws ∷ []) lines.old lines.new)
-        (λ fault. MayStop (Spelled AnyFlag (alone heading)) fault lines.old) }
+fn take_heading(front: &mut Front<'_>) -> Option<bool>
+    ensures { MatchOption result (NoneIsFirst AnyFlag heading front.old)
+        (λ raws. front.old ≡ heading raws ++ newline ∷ front.new) }
 {
-    let Some(line) = lines.line() else {
-        return Err(PairFault::EndsEarly);
-    };
-    let Some(raws) = raws(line) else {
-        return Err(PairFault::BadLine(lines.number()));
-    };
-    Ok(raws)
+    if front.literal(b"heappair 1\n").is_some() {
+        Some(false)
+    } else if front.literal(b"heappair 2\n").is_some() {
+        Some(true)
+    } else {
+        None
+    }
 }
 
 /// Takes a word of a space.
-fn take_word(lines: &mut Lines<'_>) -> Result<u64, PairFault>
-    ensures { MatchResult result (λ word. IsWord word × HasTaken (decimal word ∷ []) lines.old lines.new)
-        (λ fault. MayStop (Spelled IsWord (alone decimal)) fault lines.old) }
+#[inline(always)]
+fn take_word(front: &mut Front<'_>) -> Option<u64>
+    ensures { MatchOption result (NoneIsFirst IsWord decimal front.old)
+        (λ word. IsWord word × (front.old ≡ decimal word ++ newline ∷ front.new)) }
 {
-    let Some(word) = lines.word() else {
-        return Err(lines.fault());
-    };
-    Ok(word)
+    let word = front.number(u64::MAX)?;
+    front.byte(b'\n')?;
+    Some(word)
 }
 
 /// Takes a name and a count.
-fn take_count(lines: &mut Lines<'_>, name: &[u8], most: u64) -> Result<u64, PairFault>
-    requires { is_name name.now ≡ true }
-    ensures { MatchResult result
-        (λ count. (count ≤ most) × HasTaken (count_line name.now count ∷ []) lines.old lines.new)
-        (λ fault. MayStop (Spelled (λ n. n ≤ most) (alone (count_line name.now))) fault lines.old) }
+fn take_count(front: &mut Front<'_>, name: &[u8], most: u64) -> Option<u64>
+    ensures { MatchOption result (NoneIsFirst (λ n. n ≤ most) (count_line name.now) front.old)
+        (λ count. (count ≤ most) × (front.old ≡ count_line name.now count ++ newline ∷ front.new)) }
 {
-    let Some(line) = lines.line() else {
-        return Err(PairFault::EndsEarly);
-    };
-    let Some(count) = count(line, name, most) else {
-        return Err(PairFault::BadLine(lines.number()));
-    };
-    Ok(count)
+    front.literal(name)?;
+    front.byte(b' ')?;
+    let count = front.number(most)?;
+    front.byte(b'\n')?;
+    Some(count)
 }
 
 /// Takes a name, and the size and the end of an image.
-fn take_sizes(lines: &mut Lines<'_>, name: &[u8]) -> Result<(u32, u32), PairFault>
-    requires { is_name name.now ≡ true }
-    ensures { MatchResult result
-        (λ s. AreSizes s × HasTaken (size_line name.now s.0 s.1 ∷ []) lines.old lines.new)
-        (λ fault. MayStop (Spelled AreSizes (alone (λ s. size_line name.now s.0 s.1))) fault lines.old) }
+fn take_sizes(front: &mut Front<'_>, name: &[u8]) -> Option<(u32, u32)>
+    ensures { MatchOption result (NoneIsFirst AreSizes (λ s. size_line name.now s.0 s.1) front.old)
+        (λ s. AreSizes s × (front.old ≡ size_line name.now s.0 s.1 ++ newline ∷ front.new)) }
 {
-    let Some(line) = lines.line() else {
-        return Err(PairFault::EndsEarly);
-    };
-    let Some(sizes) = sizes(line, name) else {
-        return Err(PairFault::BadLine(lines.number()));
-    };
-    Ok(sizes)
+    front.literal(name)?;
+    front.byte(b' ')?;
+    let size = front.number(u64::from(MOST_WORDS))? as u32;
+    front.byte(b' ')?;
+    let end = front.number(u64::from(MOST_WORDS))? as u32;
+    front.byte(b'\n')?;
+    if size == 0 || end == 0 {
+        return None;
+    }
+    Some((size, end))
 }
 
-/// Takes a pair of addresses.
-fn take_pair(lines: &mut Lines<'_>) -> Result<Pair, PairFault>
-    ensures { MatchResult result
-        (λ pair. AreAddresses (addresses pair) × HasTaken (pair_line (addresses pair) ∷ []) lines.old lines.new)
-        (λ fault. MayStop (Spelled AreAddresses (alone pair_line)) fault lines.old) }
+/// Takes an old and a new address.
+#[inline(always)]
+fn take_pair(front: &mut Front<'_>) -> Option<(u32, u32)>
+    ensures { MatchOption result (NoneIsFirst AreAddresses pair_line front.old)
+        (λ pair. AreAddresses pair × (front.old ≡ pair_line pair ++ newline ∷ front.new)) }
 {
-    let Some(pair) = lines.pair() else {
-        return Err(lines.fault());
-    };
-    Ok(pair)
-}
-
-/// A kind of line of a pair text, with the value that such a line has.
-pub trait LineKind {
-    type Value;
-
-    // What a caller must establish about the kind.
-    ghost is_sound: { Self → Type 0 } = { λ _. ⊤ };
-
-    // The values that have a line.
-    ghost fits: { Self → Self.Value → Type 0 };
-
-    // The line of a value.
-    ghost line: { Self → Self.Value → List ℕ };
-
-    // All such lines.
-    ghost section: { Self → Section };
-
-    /// Takes a line of this kind.
-    fn take(&self, lines: &mut Lines<'_>) -> Result<Self::Value, PairFault>
-        requires { is_sound self.now }
-        ensures { MatchResult result
-            (λ value. fits self.now value × HasTaken (line self.now value ∷ []) lines.old lines.new)
-            (λ fault. MayStop (section self.now) fault lines.old) };
+    let old = front.number(4294967295)? as u32;
+    front.byte(b' ')?;
+    let new = front.number(4294967295)? as u32;
+    front.byte(b'\n')?;
+    Some((old, new))
 }
 
 /// The kind of exactly this line.
@@ -131,10 +97,8 @@ impl<'a> LineKind for Exactly<'a> {
 
     ghost line = { λ kind _. kind.wanted.now };
 
-    ghost section = { λ kind. Spelled Nothing (alone (λ _. kind.wanted.now)) };
-
-    fn take(&self, lines: &mut Lines<'_>) -> Result<(), PairFault> {
-        take_line(lines, self.wanted)
+    fn take(&self, front: &mut Front<'_>) -> Option<()> {
+        take_line(front, self.wanted)
     }
 }
 
@@ -149,10 +113,8 @@ impl LineKind for Heading {
 
     ghost line = { λ _ value. heading value };
 
-    ghost section = { λ _. Spelled AnyFlag (alone heading) };
-
-    fn take(&self, lines: &mut Lines<'_>) -> Result<bool, PairFault> {
-        take_heading(lines)
+    fn take(&self, front: &mut Front<'_>) -> Option<bool> {
+        take_heading(front)
     }
 }
 
@@ -167,11 +129,9 @@ impl LineKind for Word {
 
     ghost line = { λ _ value. decimal value };
 
-    ghost section = { λ _. Spelled IsWord (alone decimal) };
-
     #[inline(always)]
-    fn take(&self, lines: &mut Lines<'_>) -> Result<u64, PairFault> {
-        take_word(lines)
+    fn take(&self, front: &mut Front<'_>) -> Option<u64> {
+        take_word(front)
     }
 }
 
@@ -185,16 +145,12 @@ pub struct Count<'a> {
 impl<'a> LineKind for Count<'a> {
     type Value = u64;
 
-    ghost is_sound = { λ kind. is_name kind.name.now ≡ true };
-
     ghost fits = { λ kind value. value ≤ kind.most };
 
     ghost line = { λ kind value. count_line kind.name.now value };
 
-    ghost section = { λ kind. Spelled (λ n. n ≤ kind.most) (alone (count_line kind.name.now)) };
-
-    fn take(&self, lines: &mut Lines<'_>) -> Result<u64, PairFault> {
-        take_count(lines, self.name, self.most)
+    fn take(&self, front: &mut Front<'_>) -> Option<u64> {
+        take_count(front, self.name, self.most)
     }
 }
 
@@ -207,34 +163,28 @@ pub struct Sizes<'a> {
 impl<'a> LineKind for Sizes<'a> {
     type Value = (u32, u32);
 
-    ghost is_sound = { λ kind. is_name kind.name.now ≡ true };
-
     ghost fits = { λ _ value. AreSizes value };
 
     ghost line = { λ kind value. size_line kind.name.now value.0 value.1 };
 
-    ghost section = { λ kind. Spelled AreSizes (alone (λ s. size_line kind.name.now s.0 s.1)) };
-
-    fn take(&self, lines: &mut Lines<'_>) -> Result<(u32, u32), PairFault> {
-        take_sizes(lines, self.name)
+    fn take(&self, front: &mut Front<'_>) -> Option<(u32, u32)> {
+        take_sizes(front, self.name)
     }
 }
 
-/// A pair of addresses.
+/// An old and a new address.
 #[derive(Drop)]
 pub struct Addresses;
 
 impl LineKind for Addresses {
-    type Value = Pair;
+    type Value = (u32, u32);
 
-    ghost fits = { λ _ value. AreAddresses (addresses value) };
+    ghost fits = { λ _ value. AreAddresses value };
 
-    ghost line = { λ _ value. pair_line (addresses value) };
-
-    ghost section = { λ _. Spelled AreAddresses (alone pair_line) };
+    ghost line = { λ _ value. pair_line value };
 
     #[inline(always)]
-    fn take(&self, lines: &mut Lines<'_>) -> Result<Pair, PairFault> {
-        take_pair(lines)
+    fn take(&self, front: &mut Front<'_>) -> Option<(u32, u32)> {
+        take_pair(front)
     }
 }

@@ -8,14 +8,21 @@ ghost use Rattle.gc_cert.specs.Internal.PrintedLines.{Prints, PrintsFront};
 ghost use Rattle.gc_cert.specs.Views.{pair_of};
 
 use crate::fault::WriteFault;
-use crate::parser::heading;
-use gc_graph::text::Printer;
 use gc_graph::{Failed, Sink};
+use gc_text::Printer;
 use gc_words::{ImageRef, Pair};
 use std::io::Write;
 
 /// A bound on the bytes of any line of a pair text.
 const LINE: usize = 64;
+
+/// Returns the first line of a text. `raws` says whether raw headers count in its images.
+fn heading(raws: bool) -> &'static [u8]
+    ensures line { result.now ≡ heading raws }
+    ensures short { length result.now ≤ 16 }
+{
+    if raws { b"heappair 2" } else { b"heappair 1" }
+}
 
 /// Prints exactly this line.
 fn print_line<W: Write>(

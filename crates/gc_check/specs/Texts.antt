@@ -2,7 +2,7 @@
 use Rattle.std.specs.Prelude.{◌≡◌, ◌≢◌, ◌↔◌, ℕ, Bool, true, List, Option, IfSome, Result, Err, IfOk, OnErr, ⊤}
 use Rattle.std.specs.Io.KnownBytes.{Appends}
 use Rattle.gc_graph.specs.Streams.{SendsFront, sink_failed}
-use Rattle.gc_graph.specs.declared.text.sink.Sink.{Sink}
+use Rattle.gc_graph.specs.declared.sink.Sink.{Sink}
 use Rattle.gc_cert.specs.Grammar.{CertifiedPair}
 use Rattle.gc_cert.specs.Faults.{IsReadAsPair, MayFail}
 use Rattle.gc_cert.specs.declared.fault.PairFault.{PairFault}

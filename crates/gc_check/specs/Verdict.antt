@@ -2,7 +2,7 @@
 use Rattle.std.specs.Prelude.{◌≡◌, ℕ, List, [], ◌∷◌, ◌++◌, length, map, Option, Some, None, ⊤, codes}
 use Rattle.std.specs.Option.{option_map_or}
 use Rattle.std.specs.Fmt.{decimal}
-use Rattle.gc_graph.specs.Lines.{line}
+use Rattle.gc_text.specs.Lines.{line}
 use Rattle.gc_words.specs.Image.{Image}
 use Rattle.gc_words.specs.Fault.{first_fault}
 use Rattle.gc_words.specs.Views.{addresses}

@@ -1,6 +1,6 @@
 use gc_cert::PairFault;
 use gc_graph::NoMemory;
-use gc_graph::text::Message;
+use gc_text::Message;
 use gc_words::Refusal;
 use std::alloc::AllocError;
 use thiserror::Error;

@@ -1,14 +1,14 @@
 ghost use Rattle.std.specs.Prelude.{◌≡◌, ◌∷◌, ◌++◌, ◌+◌, ◌≤◌, true, length, codes, OnOk, OnErr};
 ghost use Rattle.std.specs.Io.KnownBytes.{Appends};
 ghost use Rattle.gc_graph.specs.Streams.{bytes_written, sink_failed, SendsFront};
-ghost use Rattle.gc_graph.specs.Lines.{line};
+ghost use Rattle.gc_text.specs.Lines.{line};
 ghost use Rattle.gc_check.specs.Verdict.{refusal_words, verdict_line};
 
 use crate::refusal_parts::parts_of;
 use crate::verdict::Verdict;
 use gc_cert::WriteFault;
 use gc_graph::Sink;
-use gc_graph::text::Printer;
+use gc_text::Printer;
 use gc_words::Refusal;
 use std::io::Write;
 

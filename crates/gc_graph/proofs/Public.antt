@@ -1,14 +1,10 @@
 -- What other crates cite of this crate's proofs and internal definitions, passed on from one place. Declares nothing.
 pub use Rattle.gc_graph.proofs.Bounds.{all_push}
 pub use Rattle.gc_graph.proofs.Compose.{composed, joined}
-pub use Rattle.gc_graph.proofs.Decimals.{decimals, number_again, number_found, one_front}
-pub use Rattle.gc_graph.proofs.LineLemmas.{AllHaveNo, Cut, HasNo-decimal, HasNo-joined, HasNo-lacks, HasNo-name, cut, joined-tokens_of, lacks, not_cut, one_cut, tokens_of-joined}
 pub use Rattle.gc_graph.proofs.Lookups.{lookup_set_none, paired_cases}
 pub use Rattle.gc_graph.proofs.Matched.{AlikeAfter, matched_of, step_alike}
 pub use Rattle.gc_graph.proofs.Matching.{Matched}
-pub use Rattle.gc_graph.proofs.PieceSteps.{all_waits, ends_there, if_known, no_byte, within_all}
 pub use Rattle.gc_graph.proofs.Replies.{fresh_unused, matched_itself, own_pairs}
 pub use Rattle.gc_graph.proofs.SentText.{front_sent, nothing_sent, sent_at_last, sent_then}
 pub use Rattle.gc_graph.proofs.Stepping.{in_place, new_step, step_roots, with_free}
-pub use Rattle.gc_graph.proofs.TokenParsers.{bind_some, end_again, end_found, number_at_again, number_at_found, onto, positive, some_is, token_at_again, token_at_found}
 pub use Rattle.gc_graph.specs.Internal.Machine.{make_object}

@@ -1,7 +1,5 @@
 -- Definitions that only private contracts and proofs need. They promise nothing to callers.
 pub mod Codes
 pub mod Machine
-pub mod Messages
 pub mod PlainMachine
 pub mod Slots
-pub mod Tokens

@@ -1,8 +1,8 @@
 -- Sources and sinks as contracts see them.
 use Rattle.std.specs.Prelude.{◌≡◌, ℕ, Bool, List, ◌++◌, Option}
 use Rattle.std.specs.Io.KnownBytes.{Appends}
-use Rattle.gc_graph.specs.declared.text.source.Source.{Source}
-use Rattle.gc_graph.specs.declared.text.sink.Sink.{Sink}
+use Rattle.gc_graph.specs.declared.source.Source.{Source}
+use Rattle.gc_graph.specs.declared.sink.Sink.{Sink}
 
 -- the bytes that the reader has left, if they are known
 abbrev pub bytes_left : {R : Type 0} → (R → Option (List ℕ)) → Source R → Option (List ℕ)

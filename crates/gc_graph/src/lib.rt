@@ -1,4 +1,4 @@
-//! Mutator commands and replies, the machine without a collector that defines what they mean, and texts as bytes.
+//! Mutator commands and replies, the machine without a collector that defines what they mean, and the streams of bytes that texts are read from and written to.
 #![tactic(auto)]
 
 mod command;
@@ -9,8 +9,9 @@ mod number;
 mod objects;
 mod plain;
 mod reply;
+mod sink;
 mod slot;
-pub mod text;
+mod source;
 
 pub use command::Op;
 pub use laws::{corresponding_graphs_reply_alike, names_do_not_matter, worked_rows};
@@ -19,5 +20,6 @@ pub use no_memory::NoMemory;
 pub use number::Number;
 pub use plain::{Plain, object_words};
 pub use reply::{Reply, View};
+pub use sink::Sink;
 pub use slot::{Slot, root_count};
-pub use text::{Failed, Sink, Source};
+pub use source::{Failed, Source};

@@ -1,5 +1,5 @@
 use gc_graph::NoMemory;
-use gc_graph::text::Message;
+use gc_text::Message;
 use gc_world::World;
 use std::alloc::AllocError;
 use std::thread::SpawnError;

@@ -6,5 +6,6 @@ mod copy;
 mod extra_roots;
 mod graph;
 mod heap;
+mod text;
 mod words;
 mod world;

@@ -5,13 +5,13 @@ use Rattle.std.proofs.lemmas.Bool.{and_parts, ne_eqb}
 use Rattle.std.specs.List.{list_all}
 use Rattle.std.specs.Prelude.{codes, ◌^◌}
 use Rattle.std.specs.Fmt.{decimal}
-use Rattle.gc_graph.specs.Lines.{HasNo, space, newline, joined, tokens_of}
+use Rattle.gc_text.specs.Lines.{HasNo, space, newline, joined}
 use Rattle.gc_graph.specs.Slots.{SlotName}
 use Rattle.gc_graph.specs.Range.{IsSlot, IsCommand}
 use Rattle.gc_graph.specs.declared.command.Op.{Op}
 use Rattle.gc_graph.specs.Limits.{most_words}
 use Rattle.gc_plan.specs.Runs.{IsStepWithin}
-use Rattle.gc_graph.proofs.Public.{HasNo-name, HasNo-decimal, HasNo-lacks, lacks, AllHaveNo, HasNo-joined, tokens_of-joined}
+use Rattle.gc_text.proofs.Public.{HasNo-name, HasNo-decimal, HasNo-lacks, lacks, AllHaveNo, HasNo-joined, tokens_of, tokens_of-joined}
 use Rattle.gc_plan.specs.declared.step.Step.{Step}
 use Rattle.gc_plan.specs.declared.event.Event.{Event}
 use Rattle.gc_plan.specs.declared.event.Event.TheVariants.{Mutate, Collect}

@@ -1,13 +1,13 @@
 -- Faults that a prefix of a text already shows.
 use Rattle.std.proofs.Common.{◌≡◌, ◌≢◌, ℕ, subst, List, ◌∷◌, ◌++◌, sym, ap, ◌∙◌}
-use Rattle.gc_graph.specs.Lines.{newline, joined, HasNo}
+use Rattle.gc_text.specs.Lines.{newline, joined, HasNo}
 use Rattle.gc_plan.specs.declared.event.Event.{Event}
 use Rattle.gc_trace.specs.Grammar.{event_tokens, trace_heading, HasLine, IsHeading}
 use Rattle.gc_trace.specs.Faults.{HasNoHeading, BeginsWithNoEvent}
 use Rattle.gc_trace.proofs.Headings.{AreSmall, heading_injective, small_heading}
 use Rattle.gc_trace.proofs.NamedEvents.{named_event, named_line, event_again}
 use Rattle.gc_trace.proofs.EventLines.{event_line-more, tokens_of-event, HasNo-event}
-use Rattle.gc_graph.proofs.Public.{one_cut, not_cut}
+use Rattle.gc_text.proofs.Public.{one_cut, not_cut}
 
 pub no_line : (version : ℕ) (rest : List ℕ) → HasNo newline rest → BeginsWithNoEvent version rest
 no_line version rest h e more fits is = not_cut newline rest (joined (event_tokens e)) more h (is ∙ event_line-more e more)

@@ -1,17 +1,14 @@
 -- Tokens that are found at the front of a text.
 use Rattle.std.proofs.lemmas.Grind.{common_steps}
-use Rattle.std.proofs.Common.{Bool, cond, ◌≢◌, true, false, ltb, ◌≡◌, ◌⊎◌, inl, inr, ℕ, ◌+◌, ◌<◌, ◌≤◌, ◌^◌, List, [], ◌∷◌, ◌++◌, refl, Option, Some, None, subst, get_or, drop, ◌-◌, arith, sym, ap}
+use Rattle.std.proofs.Common.{Bool, cond, ◌≢◌, true, false, ltb, ◌≡◌, ◌⊎◌, inl, inr, ℕ, ◌+◌, ◌<◌, ◌≤◌, List, [], ◌∷◌, ◌++◌, refl, Option, Some, get_or, drop, ◌-◌, arith, ap}
 use Rattle.std.proofs.lemmas.Bool.{ltb-true, ltb-false}
 use Rattle.std.proofs.lemmas.Option.{same_Some}
-use Rattle.std.specs.Prelude.{MatchOption, SomeIff}
+use Rattle.std.specs.Prelude.{SomeIff}
 use Rattle.std.specs.Fmt.{decimal}
-use Rattle.std.specs.Float.Numeral.{digits_len}
 use Rattle.gc_graph.specs.Limits.{slots_each}
 use Rattle.gc_graph.specs.Range.{IsSlot}
 use Rattle.gc_graph.specs.Slots.{SlotName, own_slot, shared_slot}
-use Rattle.gc_graph.specs.Fronts.{BeginsWithNumber}
-use Rattle.gc_graph.proofs.Public.{one_front}
-use Rattle.gc_trace.specs.Internal.Fronts.{EndsToken}
+use Rattle.gc_text.specs.Fronts.{EndsToken}
 use Rattle.gc_trace.proofs.SmallNumbers.{one_digit, two_digits}
 
 -- a number below 16 has one digit or two
@@ -21,13 +18,6 @@ small_decimal n small = ten (ltb n 10) refl
     ten : (b : Bool) → ltb n 10 ≡ b → ((n < 10) × (decimal n ≡ (48 + n) ∷ [])) ⊎ ((10 ≤ n) × (decimal n ≡ 49 ∷ (38 + n) ∷ []))
     ten true e = let below = ltb-true n 10 e in inl (below, one_digit (48 + n) n (omega arith) (omega arith) (omega arith))
     ten false e = let above = ltb-false n 10 e in inr (above, two_digits 49 (38 + n) n (omega arith) (omega arith) (omega arith) (omega arith) (omega arith))
-
-apart_ends : (more : List ℕ) → EndsToken more → digits_len more ≡ 0
-apart_ends more apart = grind (arith, common_steps)
-
--- the text begins with this number, and no digit follows
-pub begins : (n : ℕ) (more : List ℕ) → n < 2 ^ 64 → EndsToken more → BeginsWithNumber (decimal n ++ more) n more
-begins n more small apart = record { small = small; parts = refl; whole = apart_ends more apart }
 
 abbrev both : ℕ → ℕ → Option (ℕ × ℕ)
 both n k = Some (n, k)
@@ -54,12 +44,6 @@ small_found (b ∷ more) n m k one two small apart =
       | inl w ↦ let f = same_both m k (48 + n - 48) 1 ((rw w.1 at one) (omega arith) (omega arith) apart) in rw w.1 (small_at ((48 + n) ∷ b ∷ more) (b ∷ more) n m k 1 (omega (arith, f.0)) (f.1) refl (inl refl))
       | inr w ↦ let f = same_both m k (38 + n - 38) 2 ((rw w.1 at two) refl (omega arith) (omega (arith, small))) in rw w.1 (small_at (49 ∷ (38 + n) ∷ b ∷ more) (b ∷ more) n m k 2 (omega (arith, f.0)) (f.1) refl (inr refl))
     ]
-
-pub number_found : (most n : ℕ) (text rest more : List ℕ) (found : Option ℕ) → most < 2 ^ 64 → MatchOption found ((rest ≡ text) × ((n : ℕ) (rest : List ℕ) → n ≤ most → ¬ BeginsWithNumber text n rest)) (λ m. (m ≤ most) × BeginsWithNumber text m rest) → n ≤ most → EndsToken more → text ≡ decimal n ++ more → (found ≡ Some n) × (rest ≡ more)
-number_found most n text rest more None small out le apart is = absurd (out.1 n more le (subst (λ (t : List ℕ). BeginsWithNumber t n more) (sym is) (begins n more (omega (arith, le, small)) apart)))
-number_found most n text rest more (Some m) small out le apart is =
-    let same = one_front text m n rest more out.1 (subst (λ (t : List ℕ). BeginsWithNumber t n more) (sym is) (begins n more (omega (arith, le, small)) apart)) in
-    (ap Some same.0, same.1)
 
 abbrev letter_of : SlotName → ℕ
 letter_of s = cond s.shared 103 114

@@ -2,11 +2,10 @@
 use Rattle.std.proofs.Common.{◌≡◌, ℕ, ◌<◌, ◌^◌, List, [], ◌∷◌, ◌++◌, drop, sym, ap, ◌∙◌, subst, arith, append_assoc}
 use Rattle.std.specs.Prelude.{codes}
 use Rattle.std.specs.Fmt.{decimal}
-use Rattle.gc_graph.specs.Lines.{space, newline, line, joined}
-use Rattle.gc_graph.specs.Fronts.{BeginsWithNumber}
-use Rattle.gc_graph.proofs.Public.{one_front}
+use Rattle.gc_text.specs.Lines.{space, newline, line, joined}
+use Rattle.gc_text.specs.Fronts.{BeginsWithNumber}
+use Rattle.gc_text.proofs.Public.{begins, one_front}
 use Rattle.gc_trace.specs.Grammar.{trace_heading, IsHeading}
-use Rattle.gc_trace.proofs.FrontTokens.{begins}
 
 -- the tokens of the two lines
 abbrev version_tokens : ℕ → List (List ℕ)

@@ -7,19 +7,20 @@ use Rattle.std.specs.Str.{bytes_eq}
 use Rattle.std.specs.Str.Parse.{digits_value}
 use Rattle.std.proofs.lemmas.Fmt.{digits_value-decimal}
 use Rattle.gc_graph.specs.Limits.{most_words}
-use Rattle.gc_graph.specs.Lines.{tokens_of}
 use Rattle.gc_graph.specs.Range.{IsSlot, IsCommand}
 use Rattle.gc_graph.specs.Slots.{SlotName, own_slot}
-use Rattle.gc_graph.specs.Tokens.{Tokens}
 use Rattle.gc_graph.specs.declared.command.Op.{Op}
 use Rattle.gc_graph.specs.declared.command.Op.TheVariants as ops
-use Rattle.gc_graph.proofs.Public.{decimals}
+use Rattle.gc_text.proofs.Public.{decimals, tokens_of}
 use Rattle.gc_plan.specs.Runs.{IsStepWithin}
 use Rattle.gc_plan.specs.declared.step.Step.{Step}
 use Rattle.gc_plan.specs.declared.step.Step.TheVariants as steps
 use Rattle.gc_plan.specs.declared.event.Event.{Event}
 use Rattle.gc_plan.specs.declared.event.Event.TheVariants.{Mutate, Collect}
 use Rattle.gc_trace.specs.Grammar.{slot, op_tokens, step_tokens, event_tokens, HasLine}
+
+abbrev Tokens : Type 0
+Tokens = List (List ℕ)
 
 -- Each definition below says what a token or tokens name. What it says of other tokens does not matter: nothing else has these tokens.
 

@@ -4,7 +4,7 @@ use Rattle.std.proofs.Common.{◌≡◌, ◌≢◌, ℕ, ◌+◌, List, [], ◌�
 use Rattle.std.specs.List.{AllByRecursion, flat_map}
 use Rattle.std.proofs.lemmas.List.{append-nil}
 use Rattle.std.proofs.lemmas.List.Concat.{flat_map-cons}
-use Rattle.gc_graph.specs.Lines.{newline, joined, tokens_of}
+use Rattle.gc_text.specs.Lines.{newline, joined}
 use Rattle.gc_plan.specs.declared.event.Event.{Event}
 use Rattle.gc_trace.specs.Grammar.{Recording, event_tokens, event_line, trace_heading, trace_text, HasLine, IsOf, IsRecording, IsTraceText}
 use Rattle.gc_trace.specs.Faults.{HasNoHeading, GoodBefore, BeginsWithNoEvent, HasBadLine, HasStranger, IsTraceFaultOf, IsReadAsTrace}
@@ -13,7 +13,7 @@ use Rattle.gc_trace.specs.declared.fault.TraceFault.TheVariants.{Read, TooLarge,
 use Rattle.gc_trace.proofs.Headings.{heading_injective, small_heading}
 use Rattle.gc_trace.proofs.NamedEvents.{named_event, event_again}
 use Rattle.gc_trace.proofs.EventLines.{event_line-more, tokens_of-event, HasNo-event}
-use Rattle.gc_graph.proofs.Public.{one_cut}
+use Rattle.gc_text.proofs.Public.{one_cut, tokens_of}
 
 -- two event lines at the start of the same text are the same
 event_line_injective : (version : ℕ) (e d : Event) (x y : List ℕ) → HasLine version e → HasLine version d → event_line e ++ x ≡ event_line d ++ y → (e ≡ d) × (x ≡ y)

@@ -2,7 +2,7 @@
 use Rattle.std.proofs.Common.{◌≡◌, ℕ, List, [], ◌∷◌, ◌++◌, sym, ◌∙◌, ap, append_assoc}
 use Rattle.std.specs.List.{flat_map}
 use Rattle.std.proofs.lemmas.List.{append-nil}
-use Rattle.gc_graph.specs.Lines.{line}
+use Rattle.gc_text.specs.Lines.{line}
 
 -- a text is followed by a line of these tokens, and `Rest` holds of the result
 pub record Then (before : List ℕ) (tokens : List (List ℕ)) (Rest : List ℕ → Type 0) : Type 0 where

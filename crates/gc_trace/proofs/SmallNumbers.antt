@@ -6,7 +6,7 @@ use Rattle.std.specs.Str.Parse.{digits_value}
 use Rattle.std.proofs.lemmas.Bool.{ltb-true}
 use Rattle.std.proofs.lemmas.Fmt.{decimal-digits_value, decimal_digit}
 use Rattle.std.proofs.lemmas.Str.{digit_value_digit}
-use Rattle.gc_graph.proofs.Public.{decimals}
+use Rattle.gc_text.proofs.Public.{decimals}
 
 pub one_digit : (a n : ℕ) → 48 ≤ a → a ≤ 57 → n ≡ a - 48 → decimal n ≡ a ∷ []
 one_digit a n low high is = decimal_digit n (omega arith) ∙ ap (λ (d : ℕ). d ∷ []) (omega (arith, is))

@@ -4,7 +4,7 @@ use Rattle.std.specs.List.{flat_map, AllByRecursion}
 use Rattle.std.specs.Fmt.{decimal}
 use Rattle.gc_graph.specs.Limits.{most_words, most_mutators}
 use Rattle.gc_graph.specs.Slots.{SlotName}
-use Rattle.gc_graph.specs.Lines.{line}
+use Rattle.gc_text.specs.Lines.{line}
 use Rattle.gc_graph.specs.declared.command.Op.{Op}
 use Rattle.gc_graph.specs.declared.command.Op.TheVariants as ops
 use Rattle.gc_plan.specs.Runs as runs

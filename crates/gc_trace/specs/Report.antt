@@ -2,7 +2,7 @@
 use Rattle.std.specs.Prelude.{ℕ, List, [], ◌∷◌, ◌++◌, length, codes}
 use Rattle.std.specs.List.{flat_map, sum_by, zip}
 use Rattle.std.specs.Fmt.{decimal}
-use Rattle.gc_graph.specs.Lines.{line}
+use Rattle.gc_text.specs.Lines.{line}
 use Rattle.gc_graph.specs.declared.reply.Reply.TheVariants as replies
 use Rattle.gc_plan.specs.declared.event.Answer.{Answer}
 use Rattle.gc_plan.specs.declared.event.Answer.TheVariants.{Mutator, Collector}

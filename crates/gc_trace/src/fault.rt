@@ -1,5 +1,5 @@
 use gc_graph::NoMemory;
-use gc_graph::text::{Message, ReadFault};
+use gc_text::{Message, ReadFault};
 use std::alloc::AllocFailed;
 use thiserror::Error;
 

@@ -1,16 +1,17 @@
-ghost use Rattle.std.specs.Prelude.{◌≡◌, ◌≢◌, ℕ, List, ◌<◌, ◌≤◌, ◌-◌, ◌∷◌, ◌++◌, [], Some, take, decimal, codes, IfSome, MatchOption};
+ghost use Rattle.std.specs.Prelude.{◌≡◌, ◌<◌, ◌≤◌, ◌-◌, ◌∷◌, ◌++◌, [], Some, take, decimal, codes, IfSome, MatchOption};
 ghost use Rattle.gc_graph.specs.Limits.{most_words};
-ghost use Rattle.gc_graph.specs.Lines.{space};
+ghost use Rattle.gc_text.specs.Lines.{space, newline, joined};
+ghost use Rattle.gc_text.specs.Reading.{NoneIsFirst};
 ghost use Rattle.gc_graph.specs.Range.{IsSlot, IsCommand};
 ghost use Rattle.gc_plan.specs.Runs.{IsStepWithin};
-ghost use Rattle.gc_trace.specs.Faults.{HasNoHeading, BeginsWithNoEvent};
-ghost use Rattle.gc_trace.specs.Grammar.{slot, op_tokens, step_tokens, op_version, step_version, event_tokens, event_line, trace_heading, IsHeading, HasLine};
+ghost use Rattle.gc_trace.specs.Grammar.{slot, op_tokens, step_tokens, op_version, step_version, event_tokens, HasLine};
+ghost use Rattle.gc_trace.specs.Internal.Headings.{first_line, second_line, IsVersion, AreWorldSizes};
 ghost use Rattle.gc_trace.specs.Internal.Fronts.{spaced, FindsToken, FindsTokens};
 
 use crate::trace::{RAW, SIZED};
-use gc_graph::text::Front;
 use gc_graph::{MOST_MUTATORS, MOST_WORDS, Number, Op, Slot};
 use gc_plan::{Event, Step};
+use gc_text::Front;
 
 /// The newest version of the text.
 const NEWEST: u64 = 3;
@@ -370,63 +371,42 @@ fn event(version: u8, front: &mut Front<'_>) -> Option<Event>
     }
 }
 
-/// Takes an event line of this version, in one pass. Returns `None` if the text does not begin with one.
+/// Takes an event's line of this version, in one pass. Returns `None` if the text does not begin with one.
 #[inline(always)]
-#[tactic(auto, using(crate::proofs::EventFronts::line_spelled))]
+#[tactic(auto, using(crate::proofs::EventFronts::joined_spaced))]
 pub fn line(version: u8, front: &mut Front<'_>) -> Option<Event>
     requires { 1 ≤ version }
-    ensures { MatchOption result (BeginsWithNoEvent version front.old)
-        (λ event. HasLine version event × (front.old ≡ event_line event ++ front.new)) }
+    ensures { MatchOption result (NoneIsFirst (HasLine version) (λ event. joined (event_tokens event)) front.old)
+        (λ event. HasLine version event × (front.old ≡ joined (event_tokens event) ++ newline ∷ front.new)) }
 {
     let event = event(version, front)?;
     front.byte(b'\n')?;
     Some(event)
 }
 
-/// Takes these bytes.
-fn literal(front: &mut Front<'_>, wanted: &[u8]) -> Option<()>
-    ensures { MatchOption result ((more : List ℕ) → front.old ≢ wanted.now ++ more)
-        (λ _. front.old ≡ wanted.now ++ front.new) }
+/// Takes the first line, with its version.
+pub fn version_line(front: &mut Front<'_>) -> Option<u8>
+    ensures { MatchOption result (NoneIsFirst IsVersion first_line front.old)
+        (λ version. IsVersion version × (front.old ≡ first_line version ++ newline ∷ front.new)) }
 {
-    let text = front.rest();
-    if text.len() < wanted.len() {
-        return None;
-    }
-    if &text[..wanted.len()] != wanted {
-        return None;
-    }
-    *front = Front::new(&text[wanted.len()..]);
-    Some(())
+    front.literal(b"heaptrace ")?;
+    let version = front.number(NEWEST)? as u8;
+    front.byte(b'\n')?;
+    if version == 0 { None } else { Some(version) }
 }
 
-/// The contents of the first two lines.
-#[derive(Clone, Copy)]
-pub struct Heading {
-    pub version: u8,
-    pub size: u32,
-    pub mutators: u8,
-}
-
-/// Takes the first two lines. Returns `None` if the text does not begin with a heading.
-#[tactic(auto, using(crate::proofs::Headings::heading_spelled))]
-pub fn first_two_lines(front: &mut Front<'_>) -> Option<Heading>
-    ensures { MatchOption result (HasNoHeading front.old)
-        (λ found. IsHeading found.version found.size found.mutators
-        × (front.old ≡ trace_heading found.version found.size found.mutators ++ front.new)) }
+/// Takes the second line, with the size of the space and the number of mutators.
+pub fn sizes_line(front: &mut Front<'_>) -> Option<(u32, u8)>
+    ensures { MatchOption result (NoneIsFirst AreWorldSizes second_line front.old)
+        (λ sizes. AreWorldSizes sizes × (front.old ≡ second_line sizes ++ newline ∷ front.new)) }
 {
-    literal(front, b"heaptrace")?;
-    let version = next_number(front, NEWEST)? as u8;
-    literal(front, b"\nspace")?;
-    let words = next_number(front, u64::from(MOST_WORDS))? as u32;
-    literal(front, b" mutators")?;
-    let mutators = next_number(front, u64::from(MOST_MUTATORS))? as u8;
-    literal(front, b"\n")?;
-    if version == 0 || words == 0 || mutators == 0 {
+    front.literal(b"space ")?;
+    let size = front.number(u64::from(MOST_WORDS))? as u32;
+    front.literal(b" mutators ")?;
+    let mutators = front.number(u64::from(MOST_MUTATORS))? as u8;
+    front.byte(b'\n')?;
+    if size == 0 || mutators == 0 {
         return None;
     }
-    Some(Heading {
-        version,
-        size: words,
-        mutators,
-    })
+    Some((size, mutators))
 }

@@ -7,6 +7,7 @@ mod fault;
 mod flips;
 mod front;
 mod laws;
+mod line_kinds;
 mod player;
 mod playing;
 mod reader;

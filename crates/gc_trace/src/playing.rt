@@ -20,9 +20,9 @@ use crate::report::Report;
 use gc_check::Sequential;
 use gc_collected::{CollectedHeap, Keep};
 use gc_copy::heaps_have_addresses_as_names;
-use gc_graph::text::Printer;
 use gc_graph::{NoMemory, Source};
 use gc_plan::{Event, states_are_kept};
+use gc_text::Printer;
 use std::alloc::Global;
 use std::io::Read;
 use std::mem::replace;
@@ -113,7 +113,7 @@ impl Player {
         reader: &mut Source<R>,
     ) -> Result<(), TraceFault>
         requires reading { IsReadingTrace lines.old }
-        requires number { lines.old.number ≡ 3 }
+        requires number { lines.old.lines.taken ≡ 2 }
         requires unfailed { source_failed reader.old ≡ false }
         requires opened { HasPlayed (trace_opening (read_so_far lines.old [])) [] self.old }
         requires sound { IsState self.old.heap.core }

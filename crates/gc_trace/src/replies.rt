@@ -1,10 +1,10 @@
 ghost use Rattle.std.specs.Prelude.{◌≡◌, ◌∷◌, ◌++◌, ◌+◌, ◌≤◌, length, codes};
-ghost use Rattle.gc_graph.specs.Lines.{line};
+ghost use Rattle.gc_text.specs.Lines.{line};
 ghost use Rattle.gc_trace.specs.Replies.{reply_line, view_tokens, reply_tokens, step_reply_tokens};
 
-use gc_graph::text::Printer;
 use gc_graph::{Reply, View};
 use gc_plan::StepReply;
+use gc_text::Printer;
 use gc_world::Answer;
 use std::io::Write;
 

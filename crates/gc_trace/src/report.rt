@@ -1,8 +1,8 @@
 use gc_cert::WriteFault;
 use gc_copy::heaps_have_addresses_as_names;
-use gc_graph::text::Printer;
 use gc_graph::{Reply, Sink};
 use gc_plan::StepReply;
+use gc_text::Printer;
 use gc_words::Space;
 use gc_world::{Answer, World, runs_keep_states};
 use std::io::Write;
@@ -144,7 +144,7 @@ impl Report {
 
 ghost use Rattle.std.specs.Prelude.{◌≡◌, ◌+◌, ◌++◌, ◌∷◌, ◌≤◌, [], true, length, decimal, OnOk, OnErr};
 ghost use Rattle.std.specs.Io.KnownBytes.{Appends};
-ghost use Rattle.gc_graph.specs.Lines.{line};
+ghost use Rattle.gc_text.specs.Lines.{line};
 ghost use Rattle.gc_graph.specs.Streams.{bytes_written, sink_failed, SendsFront};
 ghost use Rattle.gc_world.specs.History.{answers_of};
 ghost use Rattle.gc_world.specs.World.{present};

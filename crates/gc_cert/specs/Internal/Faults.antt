@@ -1,6 +1,6 @@
--- A parser's failure as a fault of the text.
-use Rattle.gc_graph.specs.declared.text.pieces.ReadFault.{ReadFault}
-use Rattle.gc_graph.specs.declared.text.pieces.ReadFault.TheVariants as reading
+-- A fault of reading as a fault of the pair text.
+use Rattle.gc_text.specs.declared.read_fault.ReadFault.{ReadFault}
+use Rattle.gc_text.specs.declared.read_fault.ReadFault.TheVariants as reading
 use Rattle.gc_cert.specs.declared.fault.PairFault.{PairFault}
 use Rattle.gc_cert.specs.declared.fault.PairFault.TheVariants.{Read, TooLarge, NoMemory}
 

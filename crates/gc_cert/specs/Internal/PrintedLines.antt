@@ -1,6 +1,6 @@
 -- Printed lines are buffered after what is already buffered, or go out with it.
 use Rattle.std.specs.Prelude.{ℕ, List, ◌++◌, Option}
-use Rattle.gc_graph.specs.Lines.{text_of}
+use Rattle.gc_text.specs.Lines.{text_of}
 use Rattle.gc_graph.specs.Streams.{SendsFront, HasSent}
 
 -- what was buffered before and these lines went out, except what is still buffered

@@ -1,10 +1,21 @@
 -- The sections of a pair text: what each spells, how it begins, and where it goes wrong.
 use Rattle.std.specs.Prelude.{◌≡◌, ℕ, ◌+◌, ⊤, Bool, List, [], ◌∷◌, ◌++◌, length}
 use Rattle.std.specs.List.{AllByRecursion}
-use Rattle.gc_graph.specs.Lines.{newline, HasNo, text_of}
+use Rattle.gc_text.specs.Reading.{Place}
+use Rattle.gc_text.specs.Lines.{newline, HasNo, text_of}
 use Rattle.gc_cert.specs.declared.fault.PairFault.{PairFault}
 use Rattle.gc_cert.specs.declared.fault.PairFault.TheVariants.{BadLine, EndsEarly, NoMemory}
-use Rattle.gc_cert.specs.Sections.{Place, IsNextLine}
+
+-- these lines were taken
+pub record HasTaken (lines : List (List ℕ)) (old new : Place) : Type 0 where
+  pub parts : old.rest ≡ text_of lines ++ new.rest
+  pub number : new.taken ≡ old.taken + length lines
+
+-- the next line
+pub record IsNextLine (line : List ℕ) (old new : Place) : Type 0 where
+  pub parts : old.rest ≡ line ++ newline ∷ new.rest
+  pub whole : HasNo newline line
+  pub number : new.taken ≡ old.taken + 1
 
 -- which lines are a whole section
 abbrev pub Section : Type 1

@@ -1,9 +1,7 @@
-mod text;
-
 ghost use Rattle.std.specs.Prelude.{◌≤◌, IfOk};
 
-use gc_graph::text::{Pieces, ReadFault};
 use gc_graph::{Failed, Number, Op, Plain, Reply, Sink, Slot, Source};
+use gc_text::{Lines, ReadFault};
 use std::io;
 use std::io::{ErrorKind, Read, Write};
 use std::process::Abort;
@@ -195,8 +193,8 @@ fn a_reader_that_fails_once_is_not_asked_again(rt: HostRuntime) {
         let hitch = Hitch::Error(kind);
         expect_one_read(&rt, hitch);
         let mut reader = Hesitant::new(hitch);
-        let had = Pieces::new(rt.alloc(), 9).more(&mut Source::new(&mut reader));
-        assert_eq!(rt; had, Err(ReadFault::Read));
+        let opened = Lines::open(rt.alloc(), 9, &mut Source::new(&mut reader));
+        assert_eq!(rt; opened.err(), Some(ReadFault::Read));
         assert_eq!(rt; reader.calls, 1);
     }
 }

@@ -1,6 +1,6 @@
 -- How a reader's fault becomes a trace fault, and a trace fault becomes a player's fault.
-use Rattle.gc_graph.specs.declared.text.pieces.ReadFault.{ReadFault}
-use Rattle.gc_graph.specs.declared.text.pieces.ReadFault.TheVariants as reading
+use Rattle.gc_text.specs.declared.read_fault.ReadFault.{ReadFault}
+use Rattle.gc_text.specs.declared.read_fault.ReadFault.TheVariants as reading
 use Rattle.gc_trace.specs.declared.fault.TraceFault.{TraceFault}
 use Rattle.gc_trace.specs.declared.fault.TraceFault.TheVariants.{Read, TooLarge, NoMemory}
 use Rattle.gc_trace.specs.declared.fault.PlayFault.{PlayFault}

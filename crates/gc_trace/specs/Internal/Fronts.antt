@@ -1,17 +1,13 @@
 -- Tokens at the start of a text.
-use Rattle.std.specs.Prelude.{◌≡◌, ◌<◌, ℕ, List, [], ◌∷◌, ◌++◌, Option, Some}
-use Rattle.gc_graph.specs.Lines.{space, newline}
+use Rattle.std.specs.Prelude.{◌≡◌, ℕ, List, [], ◌∷◌, ◌++◌, Option, Some}
+use Rattle.gc_text.specs.Fronts.{EndsToken}
+use Rattle.gc_text.specs.Lines.{space, newline}
 
 -- tokens with one space between them, and then the rest of the text
 abbrev pub spaced : List (List ℕ) → List ℕ → List ℕ
 spaced [] rest = rest
 spaced (token ∷ []) rest = token ++ rest
 spaced (token ∷ next ∷ tokens) rest = token ++ space ∷ spaced (next ∷ tokens) rest
-
--- a token ends before this text: its first byte, like a space or a line feed, is below the digits and letters
-abbrev pub EndsToken : List ℕ → Type 0
-EndsToken [] = ⊥
-EndsToken (b ∷ rest) = b < 48
 
 -- a space and a token of such a value are found at the front of the text, if they are there
 abbrev pub FindsToken : {A : Type 0} → (A → Type 0) → (A → List ℕ) → List ℕ → Option A → List ℕ → Type 0

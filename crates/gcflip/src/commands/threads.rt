@@ -10,9 +10,9 @@ ghost use Rattle.gcflip.specs.Outcomes.{IsOfThreads};
 ghost use Rattle.gcflip.specs.ThreadedRuns.{IsThreadedRun, recorded};
 
 use crate::faults::Fault;
-use gc_graph::text::Message;
 use gc_graph::{NoMemory, Sink, Source};
 use gc_shared::{Gate, ThreadsFault, run_threads};
+use gc_text::Message;
 use gc_trace::{TraceFault, read_trace, scripts_are_commands, scripts_of, write_trace};
 use std::alloc::Global;
 use std::io::{Read, Write};

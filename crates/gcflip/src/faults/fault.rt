@@ -2,7 +2,7 @@ use crate::commands::ThreadsRunFault;
 use crate::faults::statuses::{play_status, run_status, threads_run_status};
 use gc_check::RunFault;
 use gc_graph::Sink;
-use gc_graph::text::{Message, Printer};
+use gc_text::{Message, Printer};
 use gc_trace::PlayFault;
 use std::io::Write;
 use thiserror::Error;
@@ -70,7 +70,7 @@ impl From<PlayFault> for Fault {
 ghost use Rattle.std.specs.Prelude.{◌≡◌, [], false};
 ghost use Rattle.std.specs.Io.KnownBytes.{Appends};
 ghost use Rattle.gc_graph.specs.Streams.{bytes_written, sink_failed, SendsFront};
-ghost use Rattle.gc_graph.specs.Lines.{ended};
+ghost use Rattle.gc_text.specs.Lines.{ended};
 ghost use Rattle.gcflip.specs.Faults.{fault_text};
 ghost use Rattle.gcflip.specs.Statuses.{status_of};
 

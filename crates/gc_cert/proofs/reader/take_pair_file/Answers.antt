@@ -5,10 +5,10 @@ use Rattle.std.proofs.lemmas.Result.{err_from_is_err_and}
 use Rattle.gc_words.specs.Views.{addresses}
 use Rattle.gc_cert.specs.Grammar.{heading, certificate_lines, IsCertificate, HasText, lines_of}
 use Rattle.gc_cert.specs.Internal.Grammar.{image_alone, IsImageBy}
-use Rattle.gc_cert.specs.Internal.Parsers.{raws_in}
-use Rattle.gc_cert.specs.Internal.Reading.{IsAt}
+use Rattle.gc_text.specs.Reading.{IsAt}
 use Rattle.gc_cert.specs.Internal.Sections.{AnyFlag, alone}
-use Rattle.gc_cert.specs.Sections.{Place, HasTaken, start}
+use Rattle.gc_text.specs.Reading.{Place, start}
+use Rattle.gc_cert.specs.Internal.Sections.{HasTaken}
 use Rattle.gc_cert.specs.Views.{image_in}
 use Rattle.gc_cert.proofs.Forms.{alone_delimits}
 use Rattle.gc_cert.proofs.LineForms.{heading_form}
@@ -22,7 +22,7 @@ pub returns-in_err-raws-clause-exact : goal.returns-in_err-raws-clause-exact
 returns-in_err-raws-clause-exact g c text h =
     let fault = err_from_is_err_and c.from_residual.result c.from_residual.ensures.1 in
     let p = start text in
-    rw (fault.1, fault.2) (ended_text text _ _ (end_within AnyFlag (alone heading) TextSection [] text p p _ _ (alone_delimits AnyFlag heading raws_in heading_form) text_heading (none_taken p) (c.in_err-raws.ensures.place text p h)))
+    rw (fault.1, fault.2) (ended_text text _ _ (end_within AnyFlag (alone heading) TextSection [] text p p _ _ (alone_delimits AnyFlag heading heading_form) text_heading (none_taken p) (c.in_err-raws.ensures.place text p h)))
 
 pub returns-in_err-old-clause-exact : goal.returns-in_err-old-clause-exact
 returns-in_err-old-clause-exact g c text h =

@@ -6,7 +6,6 @@ use Rattle.std.proofs.lemmas.Result.{err_from_is_err_and}
 use Rattle.gc_graph.specs.Streams.{source_failed}
 use Rattle.gc_graph.proofs.Public.{all_push}
 use Rattle.gc_cert.specs.Grammar.{IsWord}
-use Rattle.gc_cert.specs.Internal.Parsers.{word_in}
 use Rattle.gc_cert.specs.Internal.Sections.{alone, AreAll, Spelled}
 use Rattle.gc_cert.proofs.Forms.{alone_delimits, begins_with_one, push_taken}
 use Rattle.gc_cert.proofs.LineForms.{word_form}
@@ -18,7 +17,7 @@ returns-in_err-word-clause-place g c text p h =
     let fault = err_from_is_err_and c.from_residual.result c.from_residual.ensures.1 in
     let i = c.loop.invariant in
     let at = i.place text p h in
-    rw (fault.1, fault.2) (end_within IsWord (alone decimal) (Spelled (AreAll IsWord c.args.count) (map decimal)) (map decimal c.loop.words.items) text p at.0 _ _ (alone_delimits IsWord decimal word_in word_form)
+    rw (fault.1, fault.2) (end_within IsWord (alone decimal) (Spelled (AreAll IsWord c.args.count) (map decimal)) (map decimal c.loop.words.items) text p at.0 _ _ (alone_delimits IsWord decimal word_form)
     (begins_with_one IsWord decimal c.args.count c.loop.words.items (omega (arith, i.all.0, c.loop-test.true)) i.all.1) at.2 (c.in_err-word.ensures.place text at.0 at.1))
 
 pub loop-preserved : goal.loop-preserved
@@ -34,6 +33,6 @@ loop-preserved g c =
       place = λ text p h.
           let next = taken_on i.place c.in_ok-word.ensures.place text p h in
           (next.0, next.1, rw items (push_taken decimal words word p next.0 next.2));
-      reading = c.in_ok-word.ensures.reading;
+      limit = c.take.ensures.limit;
       good = good;
     }

@@ -4,7 +4,7 @@ use Rattle.std.proofs.lemmas.Result.{err_from_is_err_and}
 use Rattle.gc_trace.specs.Faults.{IsReadAsTrace}
 use Rattle.gc_trace.specs.Internal.Reading.{read_so_far}
 use Rattle.gc_trace.specs.Plays.{trace_opening}
-use Rattle.gc_graph.proofs.Public.{if_known}
+use Rattle.gc_text.proofs.Public.{if_known}
 use Rattle.gc_trace.proofs.playing.play_all.Goals as goal
 
 pub returns-in-Ok-clause-played : goal.returns-in-Ok-clause-played

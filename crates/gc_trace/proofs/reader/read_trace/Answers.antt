@@ -8,7 +8,7 @@ use Rattle.gc_trace.specs.Faults.{IsReadAsTrace, ReadingMayFail}
 use Rattle.gc_trace.specs.Internal.Reading.{read_so_far}
 use Rattle.gc_trace.specs.Views.{recording}
 use Rattle.gc_trace.proofs.Ranges.{in_range}
-use Rattle.gc_graph.proofs.Public.{if_known}
+use Rattle.gc_text.proofs.Public.{if_known}
 use Rattle.gc_trace.proofs.ReadLines.{same_heading, all_can, still_recording}
 use Rattle.gc_trace.proofs.reader.read_trace.Goals as goal
 

@@ -16,4 +16,4 @@ invariant-loop-events g l = record {
 }
 
 abbrev pub decreases-loop-events : goal.decreases-loop-events
-decreases-loop-events g l = trace_limit + 4 - l.lines.number
+decreases-loop-events g l = trace_limit + 1 - l.lines.lines.taken

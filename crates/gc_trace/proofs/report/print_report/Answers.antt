@@ -2,7 +2,7 @@
 use Rattle.std.proofs.Common.{refl, [], ◌∷◌, ◌++◌, ◌∙◌, ap, map, List, ℕ}
 use Rattle.std.specs.List.{flat_map, zip}
 use Rattle.std.specs.Fmt.{decimal}
-use Rattle.gc_graph.specs.Lines.{line}
+use Rattle.gc_text.specs.Lines.{line}
 use Rattle.gc_trace.specs.Report.{report_names, report_counts}
 use Rattle.gc_trace.proofs.ReportLines.{◌⨾◌, Grows, grown}
 use Rattle.gc_trace.proofs.report.print_report.Goals as goal

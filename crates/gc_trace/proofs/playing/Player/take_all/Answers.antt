@@ -20,7 +20,7 @@ pub take-requires-clause-fits : goal.take-requires-clause-fits
 take-requires-clause-fits g c =
     let i = c.loop-event.invariant in
     let event = c.in-Some.event in
-    let few : length (i.0 ++ event ∷ []) < 2 ^ 64 = omega (arith, i.1.number, i.1.reading.counted, i.1.reading.bounded, length-append i.0 (event ∷ [])) in
+    let few : length (i.0 ++ event ∷ []) < 2 ^ 64 = omega (arith, i.1.number, i.1.reading.counted, length-append i.0 (event ∷ [])) in
     next_fits c.args.lines.now.size c.args.lines.now.mutators i.0 event c.loop-event.self.heap.core c.loop-event.self.report i.1.played.state i.1.played.counts few
 
 pub loop-event-preserved : goal.loop-event-preserved

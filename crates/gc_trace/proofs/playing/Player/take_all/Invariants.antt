@@ -14,7 +14,7 @@ use Rattle.gc_trace.proofs.playing.Player.take_all.Given as goal
 abbrev pub invariant-loop-event : goal.invariant-loop-event
 invariant-loop-event g l = (events : List Event) × record {
   played : HasPlayed (trace_opening (read_so_far l.initial.lines [])) events l.self;
-  number : l.lines.number ≡ 3 + length events;
+  number : l.lines.lines.taken ≡ 2 + length events;
   read : (text : List ℕ) → HasRead text [] l.initial.lines (bytes_left g.R.Read.remaining l.initial.reader) → HasRead text events l.lines (bytes_left g.R.Read.remaining l.reader);
   reading : IsReadingTrace l.lines;
   all : AllByRecursion (λ event. HasLine l.lines.version event × IsOf l.lines.mutators event) events;
@@ -26,4 +26,4 @@ invariant-loop-event g l = (events : List Event) × record {
 }
 
 abbrev pub decreases-loop-event : goal.decreases-loop-event
-decreases-loop-event g l = trace_limit + 4 - l.lines.number
+decreases-loop-event g l = trace_limit + 1 - l.lines.lines.taken

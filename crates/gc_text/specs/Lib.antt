@@ -1,0 +1,5 @@
+pub mod Fronts
+pub mod Internal
+pub mod Lines
+pub mod Messages
+pub mod Reading
