@@ -224,7 +224,7 @@ placed_at c next a (Some o) none e = by (nat_lt (new_free c) (length o.fields + 
     by false e =
         let same : record c { replicas = c.replicas ++ fresh_replica a (new_end c) o ∷ [] } ≡ next = (let f : Some (record c { replicas = c.replicas ++ fresh_replica a (new_end c) o ∷ [] }) ≡ Some next = e in cc) in
         subst (λ (d : Collection). option_map (λ (r : Replica). r.place) (replica_of d a) ≡ Some (new_end c)) same
-            (ap (option_map (λ (r : Replica). r.place)) (find_push (λ (q : Replica). q.original == a) c.replicas (fresh_replica a (new_end c) o) none (eq-eqb a a refl)))
+        (ap (option_map (λ (r : Replica). r.place)) (find_push (λ (q : Replica). q.original == a) c.replicas (fresh_replica a (new_end c) o) none (eq-eqb a a refl)))
 
 -- so a word that refers to it becomes a reference to that place
 pub placed_word : (c next : Collection) (w a end : ℕ) (o : Option Object) → Some a ≡ name_of (value_of w) → replica_of c a ≡ None → place_replica c a o ≡ Some next → end ≡ new_end c → Ref end ≡ moved next (value_of w)

@@ -54,7 +54,7 @@ run_goes_on until n s t reply run room on = record {
   going = λ k less. ⊎_elim
       (λ early. run.going k early)
       (λ late. (let some = run.some in let last : n - 1 ≡ k = omega arith in let at : n ≡ suc k = omega arith in
-          (subst (λ (r : StepReply). r ≢ NoRoom) (run.reply_is ∙ ap (λ (j : ℕ). scan_reply j s) last) room, subst (ScansOn until) (run.state ∙ ap (λ (j : ℕ). after_scans j s) at) on)))
+      (subst (λ (r : StepReply). r ≢ NoRoom) (run.reply_is ∙ ap (λ (j : ℕ). scan_reply j s) last) room, subst (ScansOn until) (run.state ∙ ap (λ (j : ℕ). after_scans j s) at) on)))
       (cases_lt (suc k) n);
 }
 
@@ -83,12 +83,13 @@ runs_join until n m s t u reply first run = record {
     going k less = ⊎_elim
         (λ early. first.going k early)
         (λ late. (
-            let some = run.some in
-            let g = run.going (k - n) (omega (arith, less, late)) in
-            let at : n + (k - n) ≡ k = omega arith in
-            let next_at : n + suc (k - n) ≡ suc k = omega arith in
-            (subst (λ (r : StepReply). r ≢ NoRoom) (reply_behind (k - n) ∙ ap (λ (j : ℕ). scan_reply j s) at) g.0,
-            subst (ScansOn until) (behind (suc (k - n)) ∙ ap (λ (j : ℕ). after_scans j s) next_at) g.1)))
+        let some = run.some in
+        let g = run.going (k - n) (omega (arith, less, late)) in
+        let at : n + (k - n) ≡ k = omega arith in
+        let next_at : n + suc (k - n) ≡ suc k = omega arith in (
+          subst (λ (r : StepReply). r ≢ NoRoom) (reply_behind (k - n) ∙ ap (λ (j : ℕ). scan_reply j s) at) g.0,
+          subst (ScansOn until) (behind (suc (k - n)) ∙ ap (λ (j : ℕ). after_scans j s) next_at) g.1,
+        )))
         (cases_lt k n)
 
 -- a run of one scan

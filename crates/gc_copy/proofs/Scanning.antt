@@ -30,9 +30,9 @@ neither a b e f = grind (arith, common_steps)
 pub left_at_start : (x : CollectionWords) → IsCollection x → is_start x.space.words x.scan_place ≡ true → scan_done (collection_in x) ≡ false
 left_at_start x is start = ⊎_elim
     (λ y. absurd (
-        let at : x.scan_place ≡ end_of x.space = eqb-true x.scan_place (new_end (collection_in x)) y ∙ new_end_is x is.space in
-        let no : false ≡ true = sym (ap is_some (none_at_end x.space is.space)) ∙ subst (λ n. is_start x.space.words n ≡ true) at start in
-        cc))
+    let at : x.scan_place ≡ end_of x.space = eqb-true x.scan_place (new_end (collection_in x)) y ∙ new_end_is x is.space in
+    let no : false ≡ true = sym (ap is_some (none_at_end x.space is.space)) ∙ subst (λ n. is_start x.space.words n ≡ true) at start in
+    cc))
     (λ n. n)
     (cases_Bool (x.scan_place == new_end (collection_in x)))
 

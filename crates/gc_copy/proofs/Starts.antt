@@ -44,8 +44,8 @@ pub starts_written : (s : SpaceWords) (a i w : ℕ) → IsSpace s → IsSome (fi
 starts_written s a i w is some = record {
   headers = λ p start. ⊎_elim
       (λ y. (let b = some_of (block_at s.words p) start in
-          let at : block_at s.words a ≡ Some b.0 = subst (λ n. block_at s.words n ≡ Some b.0) (sym (eqb-true a p y)) b.1 in
-          subst (λ n. header_at (with_word s (field_place a i) w).words n ≡ header_at s.words n) (eqb-true a p y) (ap header_of (field_block s a i w b.0 is some at) ∙ sym (ap header_of at))))
+      let at : block_at s.words a ≡ Some b.0 = subst (λ n. block_at s.words n ≡ Some b.0) (sym (eqb-true a p y)) b.1 in
+      subst (λ n. header_at (with_word s (field_place a i) w).words n ≡ header_at s.words n) (eqb-true a p y) (ap header_of (field_block s a i w b.0 is some at) ∙ sym (ap header_of at))))
       (λ n. ap header_of (field_beside s a i w p is some (eqb-false a p n)))
       (cases_Bool (a == p));
   links = λ p start. link_beside_field s a i w p is some start;

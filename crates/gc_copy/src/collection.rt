@@ -13,8 +13,8 @@ pub use copying::link_mark;
 use gc_words::{Addr, Space};
 pub use room::Room;
 pub use roots::MissingRoot;
-pub use stepping::ScanRun;
 use std::marker::Model;
+pub use stepping::ScanRun;
 
 /// An open collection: the new space (to-space) with its replicas, a mutation log for each mutator, and the scan pointer.
 /// Replicas lie in the new space in the order in which they were placed.

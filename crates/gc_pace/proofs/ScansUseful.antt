@@ -185,8 +185,8 @@ module _ (size : Option ℕ) (s : State) (c : Collection) (until n : ℕ) (t : S
   short_scans k less =
       let before : k < n = omega (arith, less) in
       let ends : end_after (At (suc k)) (scan_reply k (having s c)) < until =
-          subst (λ m. m < until) (sym (end_now (At (suc k)) (Col (suc k)) (scan_reply k (having s c)) (ap (λ (x : State). x.collection) (at (suc k))) (reply_at k)))
-          (subst (λ (x : State). ScansOn until x) (at (suc k)) (run.going k less).1).1 in
+      subst (λ m. m < until) (sym (end_now (At (suc k)) (Col (suc k)) (scan_reply k (having s c)) (ap (λ (x : State). x.collection) (at (suc k))) (reply_at k)))
+      (subst (λ (x : State). ScansOn until x) (at (suc k)) (run.going k less).1).1 in
       subst (λ (x : State). end_after x (useful_reply size k (having s c)) < until) (state_at (suc k) (omega (arith, less)))
       (subst (λ (r : StepReply). end_after (At (suc k)) r < until) (said_at k before) ends)
 
@@ -233,7 +233,7 @@ joined size s t u m n before reply a on b = record {
         (λ late. ⊎_elim
         (λ last. (let some = a.some in let at : m - 1 ≡ k = omega arith in subst (λ j. goes_on (useful_reply size j s) ≡ true) at (ap goes_on (sym a.reply_is) ∙ on)))
         (λ past. (let at : (k - m) + m ≡ k = omega arith in subst (λ j. goes_on (useful_reply size j s) ≡ true) at
-            (ap goes_on (sym (ap (useful_reply size (k - m)) a.state ∙ later_reply size m (k - m) s)) ∙ b.going (k - m) (omega arith))))
+        (ap goes_on (sym (ap (useful_reply size (k - m)) a.state ∙ later_reply size m (k - m) s)) ∙ b.going (k - m) (omega arith))))
         (cases_lt k m))
         (cases_lt (suc k) m)
 
@@ -253,16 +253,16 @@ joined_short Short size s t m n before a now first rest k less = ⊎_elim
     (λ early. first k early)
     (λ late. ⊎_elim
     (λ last. (
-        let some = a.some in
-        let at : m - 1 ≡ k = omega arith in
-        let here : m ≡ suc k = omega arith in
-        subst (λ (r : StepReply). Short (after_useful size (suc k) s) r) (a.reply_is ∙ ap (λ j. useful_reply size j s) at)
-        (subst (λ (x : State). Short x before) (a.state ∙ ap (λ j. after_useful size j s) here) now)))
+    let some = a.some in
+    let at : m - 1 ≡ k = omega arith in
+    let here : m ≡ suc k = omega arith in
+    subst (λ (r : StepReply). Short (after_useful size (suc k) s) r) (a.reply_is ∙ ap (λ j. useful_reply size j s) at)
+    (subst (λ (x : State). Short x before) (a.state ∙ ap (λ j. after_useful size j s) here) now)))
     (λ past. (
-        let at : (k - m) + m ≡ k = omega arith in
-        let next : suc (k - m) + m ≡ suc k = omega arith in
-        subst (λ (r : StepReply). Short (after_useful size (suc k) s) r) (ap (useful_reply size (k - m)) a.state ∙ (later_reply size m (k - m) s ∙ ap (λ j. useful_reply size j s) at))
-        (subst (λ (x : State). Short x (useful_reply size (k - m) t)) (ap (after_useful size (suc (k - m))) a.state ∙ (later_state size m (suc (k - m)) s ∙ ap (λ j. after_useful size j s) next)) (rest (k - m) (omega arith)))))
+    let at : (k - m) + m ≡ k = omega arith in
+    let next : suc (k - m) + m ≡ suc k = omega arith in
+    subst (λ (r : StepReply). Short (after_useful size (suc k) s) r) (ap (useful_reply size (k - m)) a.state ∙ (later_reply size m (k - m) s ∙ ap (λ j. useful_reply size j s) at))
+    (subst (λ (x : State). Short x (useful_reply size (k - m) t)) (ap (after_useful size (suc (k - m))) a.state ∙ (later_state size m (suc (k - m)) s ∙ ap (λ j. after_useful size j s) next)) (rest (k - m) (omega arith)))))
     (cases_lt k m))
     (cases_lt (suc k) m)
 
@@ -290,9 +290,9 @@ pub single : (size : Option ℕ) (h now u : Collected) (reply : StepReply) → n
     → IsRun size 1 h.core u.core reply × LeavesAfter size 1 h.core h.beside.former u.beside.former × (u.beside.turns ≡ turns_after Room h.beside.turns reply) × HaveRooms size h.core h.beside (is_flip reply) u.beside.rooms × (u.beside.pair ≡ h.beside.pair)
 single size h now u reply same step sound leaves former turns rooms pair = subst (λ (x : Collected). IsRun size 1 x.core u.core reply × LeavesAfter size 1 x.core x.beside.former u.beside.former
     × (u.beside.turns ≡ turns_after Room x.beside.turns reply) × HaveRooms size x.core x.beside (is_flip reply) u.beside.rooms × (u.beside.pair ≡ x.beside.pair)) same (
-  first_run size now.core u.core reply step sound leaves,
-  first_left size now.core u.core reply now.beside.former u.beside.former step former,
-  turns,
-  rooms,
-  pair,
-)
+      first_run size now.core u.core reply step sound leaves,
+      first_left size now.core u.core reply now.beside.former u.beside.former step former,
+      turns,
+      rooms,
+      pair,
+    )

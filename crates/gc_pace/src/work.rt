@@ -77,11 +77,7 @@ fn sized(step: Step, size: Option<u32>) -> Step
 
 /// Performs this step, which is the useful one, or a begin of this size in its place.
 #[inline(always)]
-fn one_step(
-    heap: &mut CollectedHeap,
-    size: Option<u32>,
-    step: Step,
-) -> Result<StepReply, NoMemory>
+fn one_step(heap: &mut CollectedHeap, size: Option<u32>, step: Step) -> Result<StepReply, NoMemory>
     requires size { IfSome size (λ words. 1 ≤ words) }
     requires useful { step ≡ sized_step size heap.old.core }
     requires range { IsStep heap.old.core.mutators step }

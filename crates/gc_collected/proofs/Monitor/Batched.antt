@@ -116,7 +116,6 @@ all_last : (s : State) (n : ℕ) (c : Collection) → IsOpened s c → Lasts c (
 all_last s zero c opened = lasts_same c c refl
 all_last s (suc n) c opened = lasts_on c (scanned_once s c) (scanned_on s n (scanned_once s c)) (once_lasts s c opened) (all_last s n (scanned_once s c) (opened_once s c opened))
 
-
 -- ---- what a checker is told of the next replica is the same in the words of both
 
 -- an object with this header lies at this place of both, with the same link; if it is raw, with the same fields
@@ -300,10 +299,10 @@ module _ (s : State) (links : ℕ → ℕ) (p f : ℕ) (heap : IsSpaceGraph s.si
               by (suc m) (first, placed, owes, rest) =
                   let back = same_back (replica_words next) (replica_words last) (length t.news) (object_header q.object) (let a = fits_next in let e = place in omega arith) same_there in
                   rest_of next first later
-                      (as_before s c next p f first (still_behind (having s c) (having s next) c next p f t links heap open_now open_next (restated s c c p f t b) said refl first
-                      (told_alike (heap_words links s) (replica_words next) (replica_words last) t first (object_header q.object) back less_last less_next placed)
-                      (owes_alike (heap_words links s) (replica_words next) (replica_words last) t first (object_header q.object) same_there owes)))
-                      m mid rest
+                  (as_before s c next p f first (still_behind (having s c) (having s next) c next p f t links heap open_now open_next (restated s c c p f t b) said refl first
+                  (told_alike (heap_words links s) (replica_words next) (replica_words last) t first (object_header q.object) back less_last less_next placed)
+                  (owes_alike (heap_words links s) (replica_words next) (replica_words last) t first (object_header q.object) same_there owes)))
+                  m mid rest
 
       go : Moves s c next (scan (having s c) c) → Covers last mid
       go (inl said) = scanned said

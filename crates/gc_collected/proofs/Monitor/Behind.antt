@@ -69,7 +69,6 @@ caught_up s c t b = (
 )
 
 module _ (s : State) (c : Collection) (p f : ℕ) (t : Tables) (opened : IsOpened s c) (b : IsBehind s c p f t) where
-
   pub lag_opened : IsOpened s (lagging c p f)
   lag_opened = record {
     belongs = belongs_from (IsDue (lagging c p f)) s.heap.graph.objects (lagging c p f)
@@ -187,11 +186,14 @@ module _ (s s' : State) (c next : Collection) (p f : ℕ) (t : Tables) (links : 
       told.1 r l j m (inr d.0),
       λ n u. ⊎_elim
           (λ far. inl (let e : next.scan_place ≡ c.scan_place = place_is in omega arith))
-          (λ here. inr (place_is ∙ here.0, (
-              let g : next.scan_field ≡ suc c.scan_field = field_is in
-              let le : c.scan_field ≤ j = here.1 in
-              let differ : j ≢ c.scan_field = (λ e. other (original_at r l here.0, e)) in
-              omega arith)))
+          (λ here. inr (
+            place_is ∙ here.0,
+            (
+                let g : next.scan_field ≡ suc c.scan_field = field_is in
+                let le : c.scan_field ≤ j = here.1 in
+                let differ : j ≢ c.scan_field = (λ e. other (original_at r l here.0, e)) in
+                omega arith),
+          ))
           (d.1 n u),
     )
 
@@ -322,10 +324,13 @@ module _ (s : State) (c : Collection) (q : Replica) (f : ℕ) (t : Tables) (link
     place = inl (q, l, refl, omega arith);
     earlier = λ r i u. ⊎_elim
         (λ far. inl far)
-        (λ here. inr (here.0, (
-            let le : f ≤ i = here.1 in
-            let differ : i ≢ f = (λ e. scanned (subst (λ n. IsUnscanned c q.place n) e (subst (λ n. IsUnscanned c n i) (sym here.0) u))) in
-            omega arith)))
+        (λ here. inr (
+          here.0,
+          (
+              let le : f ≤ i = here.1 in
+              let differ : i ≢ f = (λ e. scanned (subst (λ n. IsUnscanned c q.place n) e (subst (λ n. IsUnscanned c n i) (sym here.0) u))) in
+              omega arith),
+        ))
         (b.earlier r i u);
     fits = fits_marked (heap_end s) c t (field_place q.place f) false b.fits;
     each = each_then;
@@ -356,9 +361,9 @@ module _ (s : State) (c : Collection) (q : Replica) (f : ℕ) (t : Tables) (open
   at_least : q.place + (length q.object.fields + 2) ≤ c.scan_place
   at_least = ⊎_elim
       (λ x. let at : x.0.place ≡ c.scan_place = x.2 in ⊎_elim
-          (λ e. absurd (let p : q.place ≡ x.0.place = ap (λ (e : ℕ × Object). e.0) e in omega arith))
-          (⊎_elim (λ h. (let k : q.place + (length q.object.fields + 2) ≤ x.0.place = h in omega arith)) (λ h. absurd (let k : x.0.place + (length x.0.object.fields + 2) ≤ q.place = h in omega arith)))
-          (laid_apart 1 (map placed c.replicas) (new_end c) (placed q) (placed x.0) opened.belongs.laid (in_map placed q c.replicas l) (in_map placed x.0 c.replicas x.1)))
+      (λ e. absurd (let p : q.place ≡ x.0.place = ap (λ (e : ℕ × Object). e.0) e in omega arith))
+      (⊎_elim (λ h. (let k : q.place + (length q.object.fields + 2) ≤ x.0.place = h in omega arith)) (λ h. absurd (let k : x.0.place + (length x.0.object.fields + 2) ≤ q.place = h in omega arith)))
+      (laid_apart 1 (map placed c.replicas) (new_end c) (placed q) (placed x.0) opened.belongs.laid (in_map placed q c.replicas l) (in_map placed x.0 c.replicas x.1)))
       (λ x. let at : c.scan_place ≡ new_end c = x.0 in let range = laid_range 1 (map placed c.replicas) (new_end c) (placed q) opened.belongs.laid (in_map placed q c.replicas l) in let high : q.place + (length q.object.fields + 2) ≤ new_end c = range.1 in omega arith)
       opened.belongs.scan
 

@@ -68,15 +68,15 @@ module _ (s : State) (d : Collection) (links : ℕ → ℕ) (heap : IsSpaceGraph
       let at : b ≡ new_end d = x.0 in
       let low = scan_low in
       ⊎_elim
-          (λ far. omega arith)
-          (λ here. (
-              let same : b ≡ d.scan_place = here.0 in
-              let less : i < d.scan_field = here.1 in
-              ⊎_elim
-                  (λ y. (let place : y.0.place ≡ d.scan_place = y.2 in let h = ends y.0 y.1 in omega arith))
-                  (λ y. (let field : d.scan_field ≡ 0 = y.1 in omega arith))
-                  opened.belongs.scan))
-          before)
+      (λ far. omega arith)
+      (λ here. (
+      let same : b ≡ d.scan_place = here.0 in
+      let less : i < d.scan_field = here.1 in
+      ⊎_elim
+      (λ y. (let place : y.0.place ≡ d.scan_place = y.2 in let h = ends y.0 y.1 in omega arith))
+      (λ y. (let field : d.scan_field ≡ 0 = y.1 in omega arith))
+      opened.belongs.scan))
+      before)
 
   header_of : (q : Replica) (b : ℕ) (h : Header) → In q d.replicas → q.place ≡ b → read_header (slice_index New b) ≡ Some h → object_header q.object ≡ h
   header_of q b h l at is = (let e : Some (object_header q.object) ≡ Some h = sym ((replicas_shown s d links heap opened).each q l).header ∙ (ap (λ n. read_header (slice_index New n)) at ∙ is) in cc)
@@ -109,7 +109,7 @@ module _ (s : State) (d : Collection) (links : ℕ → ℕ) (heap : IsSpaceGraph
           let len : length q.0.object.fields ≡ looked.0.len = ap (λ (h : Header). h.len) one in
           let small : i < looked.0.len = looked.2.has_field in
           let next : IsBehind s d q.0.place (suc i) after = sees s d q.0 i t links heap opened here q.1.0 (omega arith) (ap (λ (h : Header). h.raw) header ∙ plain)
-              (λ left. not_left b i before (subst (λ n. IsUnscanned d n i) at left)) after (subst (λ n. Looked Old New n i t after) (sym at) looked) in
+          (λ left. not_left b i before (subst (λ n. IsUnscanned d n i) at left)) after (subst (λ n. Looked Old New n i t after) (sym at) looked) in
           subst (λ n. IsBehind s d n j after) (at ∙ sym place) (subst (λ n. IsBehind s d q.0.place n after) (sym field) next)
 
       past : LooksPast d.scan_place h b i t c j after → IsBehind s d c j after
@@ -119,9 +119,9 @@ module _ (s : State) (d : Collection) (links : ℕ → ℕ) (heap : IsSpaceGraph
           let place_is : c ≡ b + (h.len + 2) = place in
           let low_is : c ≤ d.scan_place = low in
           let passed : (q.0.object.raw || (i == length q.0.object.fields)) ≡ true = ⊎_elim
-              (λ raw. or_left q.0.object.raw (i == length q.0.object.fields) (ap (λ (h : Header). h.raw) header ∙ raw))
-              (λ last. or_right q.0.object.raw (i == length q.0.object.fields) (eq-eqb i (length q.0.object.fields) (last ∙ sym len)))
-              done in
+          (λ raw. or_left q.0.object.raw (i == length q.0.object.fields) (ap (λ (h : Header). h.raw) header ∙ raw))
+          (λ last. or_right q.0.object.raw (i == length q.0.object.fields) (eq-eqb i (length q.0.object.fields) (last ∙ sym len)))
+          done in
           let next : IsBehind s d (q.0.place + (length q.0.object.fields + 2)) 0 t = goes_on s d q.0 i t opened here q.1.0 passed (omega arith) in
           let is : q.0.place + (length q.0.object.fields + 2) ≡ c = omega arith in
           subst (IsBehind s d c j) (sym same) (subst (λ n. IsBehind s d c n t) (sym field) (subst (λ n. IsBehind s d n 0 t) is next))
@@ -213,7 +213,6 @@ module _ (s : State) (d : Collection) (links : ℕ → ℕ) (heap : IsSpaceGraph
       )
 
 -- ---- the whole run
-
 
 module _ (s : State) (c : Collection) (n : ℕ) (t : Tables) (links : ℕ → ℕ) (heap : IsSpaceGraph s.size s.heap.free s.heap.graph) (opened : IsOpened s c) (goes_along : Goes s c (watch_of t)) (knows : Knows s c t) where
   abbrev last : Collection

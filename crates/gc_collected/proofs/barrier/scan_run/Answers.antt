@@ -15,7 +15,7 @@ returns-clause-follows c = λ f.
     let old = c.words-old.result.now in
     let new = c.new_image.result.words.now in
     let here : (c.scan_place-place.result, c.scan_field-field.result, c.scan_place-end.result, c.scan_field-last.result) ≡ (c.args.collection.now.scan_place, c.args.collection.now.scan_field, c.scan_run-run.new.self.scan_place, c.scan_run-run.new.self.scan_field)
-        = λ i. (c.scan_place-place.ensures i, c.scan_field-field.ensures i, c.scan_place-end.ensures i, c.scan_field-last.ensures i) in
+    = λ i. (c.scan_place-place.ensures i, c.scan_field-field.ensures i, c.scan_place-end.ensures i, c.scan_field-last.ensures i) in
     follows_run s s' (collection_in c.args.collection.now) (collection_in c.scan_run-run.new.self) c.args.until c.scan_run-run.result.steps c.scan_run-run.result.reply old new c.are_shown.ensures.heap c.are_shown.ensures.opened refl refl
     c.scan_run-run.ensures.run (subst (AreOld s') (sym words) c.are_shown-2.ensures.old) (ap (λ (image : Image). image.words) c.new_image.ensures.words ∙ c.are_shown-2.ensures.new) c.args.watch.now c.placed_all.new.self c.look_all.new.self f
     c.placed_all.ensures.stays c.placed_all.ensures.placed

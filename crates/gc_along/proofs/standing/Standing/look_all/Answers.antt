@@ -42,7 +42,7 @@ loop-place-preserved c =
     ] in
     let found : IsFalse c.look_fields.new.self.lost = sym (ap (λ (t : Tables). t.lost) c.self-else-field-len.view_is) ∙ c.if-self-2.false in
     let joined = looks_join c.args.old.now c.args.new.now c.args.to c.args.end run.0 c.args.at c.args.i c.args.self.now c.loop-place.place c.loop-place.field c.loop-place.self c.in-Some.header run.1 c.in-Some.ensures.1 plain
-        (c.if-place-to-3.stop - c.loop-place.field) c.look_fields.new.self (λ j less. still j (omega (arith, less))) (c.look_fields.ensures.looked found) in
+    (c.if-place-to-3.stop - c.loop-place.field) c.look_fields.new.self (λ j less. still j (omega (arith, less))) (c.look_fields.ensures.looked found) in
     let at : c.loop-place.field + (c.if-place-to-3.stop - c.loop-place.field) ≡ c.if-place-to-3.stop = omega arith in (
       found,
       (joined.0, subst (λ n. LookRun c.args.old.now c.args.new.now c.args.to c.args.end joined.0 c.args.at c.args.i c.args.self.now c.loop-place.place n c.look_fields.new.self) at joined.1),
@@ -64,12 +64,12 @@ returns-then-self-2-clause-stays c first can =
       | else-place-to-3 w ↦ ⊎_elim (λ far. absurd (omega (arith, far, w.if-place-to-3.false))) (λ here. inr (here.0, omega (arith, less, w.stop-is))) before
     ] in
     c.look_fields.ensures.stays (λ k mid less looks.
-        let joined = looks_join c.args.old.now c.args.new.now c.args.to c.args.end run.0 c.args.at c.args.i c.args.self.now c.loop-place.place c.loop-place.field c.loop-place.self c.in-Some.header run.1 c.in-Some.ensures.1 plain
-        k mid (λ j small. still j (omega (arith, small, less))) looks in
-        let go = (can joined.0 c.loop-place.place (c.loop-place.field + k) mid joined.1).0 (still k less) in
-        let one : go.header ≡ c.in-Some.header = (let e : Some go.header ≡ Some c.in-Some.header = sym go.is ∙ c.in-Some.ensures.1 in cc) in
-        let len : go.header.len ≡ c.in-Some.header.len = ap (λ (h : Header). h.len) one in
-        go.looks (ap (λ (h : Header). h.raw) one ∙ plain) (λ last. elim c.if-place-to-3.branch [
-          | then-place-to-3 w ↦ omega (arith, less, last, len, w.stop-is, w.len-stop.ensures)
-          | else-place-to-3 w ↦ (let past : c.loop-place.place + (go.header.len + 2) ≤ c.args.to = go.passes (inr last) in omega (arith, past, w.if-place-to-3.false))
-        ]))
+    let joined = looks_join c.args.old.now c.args.new.now c.args.to c.args.end run.0 c.args.at c.args.i c.args.self.now c.loop-place.place c.loop-place.field c.loop-place.self c.in-Some.header run.1 c.in-Some.ensures.1 plain
+    k mid (λ j small. still j (omega (arith, small, less))) looks in
+    let go = (can joined.0 c.loop-place.place (c.loop-place.field + k) mid joined.1).0 (still k less) in
+    let one : go.header ≡ c.in-Some.header = (let e : Some go.header ≡ Some c.in-Some.header = sym go.is ∙ c.in-Some.ensures.1 in cc) in
+    let len : go.header.len ≡ c.in-Some.header.len = ap (λ (h : Header). h.len) one in
+    go.looks (ap (λ (h : Header). h.raw) one ∙ plain) (λ last. elim c.if-place-to-3.branch [
+      | then-place-to-3 w ↦ omega (arith, less, last, len, w.stop-is, w.len-stop.ensures)
+      | else-place-to-3 w ↦ (let past : c.loop-place.place + (go.header.len + 2) ≤ c.args.to = go.passes (inr last) in omega (arith, past, w.if-place-to-3.false))
+    ]))

@@ -36,7 +36,7 @@ loop-i-preserved c =
       within = in_news;
     } in
     let alike : c.is_alike-alike.result ≡ field_words_correspond c.args.header (pairs_in t.origins) (slice_index c.args.old.now (field_place a i)) (slice_index c.args.new.now (field_place c.args.at i))
-        = c.is_alike-alike.ensures ∙ (λ j. field_words_correspond c.args.header (pairs_in t.origins) (slice_index c.args.old.now (from j)) (slice_index c.args.new.now (place j))) in
+    = c.is_alike-alike.ensures ∙ (λ j. field_words_correspond c.args.header (pairs_in t.origins) (slice_index c.args.old.now (from j)) (slice_index c.args.new.now (place j))) in
     let looked : Looked c.args.old.now c.args.new.now c.args.at i t after = (c.args.header, a, field, in_old, in_new, is ∙ (λ j. with_due t (place j) (not (alike j)))) in
     let at : suc (i - c.args.first) ≡ i + 1 - c.args.first = omega arith in
     let here : i ≡ c.args.first + (i - c.args.first) = omega arith in (

@@ -35,7 +35,7 @@ one_more : (n : ℕ) → suc n ≡ n + 1
 one_more n = omega arith
 
 pub returns-in_default-clause-run : goal.returns-in_default-clause-run
-returns-in_default-clause-run c = 
+returns-in_default-clause-run c =
     subst (λ n. IsScanRun c.args.until n (open_state c.args.heap.now c.args.self.now) (open_state c.scan_next.new.heap c.scan_next.new.self) NoRoom) (one_more c.loop-original.steps)
     (scans_last c.args.until (open_state c.args.heap.now c.args.self.now) (open_state c.loop-original.heap c.loop-original.self) (open_state c.scan_next.new.heap c.scan_next.new.self) c.loop-original.steps NoRoom c.loop-original.invariant.0 c.in_default.ensures.full)
 
