@@ -79,6 +79,26 @@ pub dues_few : (n p : ℕ) (codes : List ℕ) → dues_from codes p n ≤ n
 dues_few zero p codes = omega arith
 dues_few (suc n) p codes = let rest : dues_from codes (suc p) n ≤ n = dues_few n (suc p) codes in let one : bit (get_or codes p 0 == 3) ≤ 1 = grind (arith, common_steps) in omega arith
 
+-- places that all are due
+pub all_due : (n p : ℕ) (codes : List ℕ) → ((place : ℕ) → p ≤ place → place < p + n → get_or codes place 0 ≡ 3) → dues_from codes p n ≡ n
+all_due zero p codes all = refl
+all_due (suc n) p codes all =
+    let one : bit (get_or codes p 0 == 3) ≡ 1 = ap (λ (code : ℕ). bit (code == 3)) (all p (omega arith) (omega arith)) in
+    let rest : dues_from codes (suc p) n ≡ n = all_due n (suc p) codes (λ place low high. all place (omega arith) (omega arith)) in
+    omega arith
+
+-- places are counted in two parts
+pub dues_on : (a b p : ℕ) (codes : List ℕ) → dues_from codes p (a + b) ≡ dues_from codes p a + dues_from codes (p + a) b
+dues_on zero b p codes =
+    let all : dues_from codes p (0 + b) ≡ dues_from codes p b = ap (dues_from codes p) (let e : 0 + b ≡ b = omega arith in e) in
+    let here : dues_from codes p b ≡ dues_from codes (p + 0) b = ap (λ q. dues_from codes q b) (let e : p ≡ p + 0 = omega arith in e) in
+    omega arith
+dues_on (suc a) b p codes =
+    let all : dues_from codes p (suc a + b) ≡ bit (get_or codes p 0 == 3) + dues_from codes (suc p) (a + b) = ap (dues_from codes p) (let e : suc a + b ≡ suc (a + b) = omega arith in e) in
+    let behind : dues_from codes (suc p + a) b ≡ dues_from codes (p + suc a) b = ap (λ q. dues_from codes q b) (let e : suc p + a ≡ p + suc a = omega arith in e) in
+    let rest = dues_on a b (suc p) codes in
+    omega (arith, rest)
+
 -- ---- the tables
 
 rows_are : (n p : ℕ) (t : Tables) (codes : List ℕ) → with_due_row (with_news t codes) p n ≡ with_news t (row_set codes p n)

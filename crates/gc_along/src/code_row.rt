@@ -217,8 +217,41 @@ impl CodeRow {
         }
     }
 
-    /// Returns how many of so many places from this one on have code 3.
+    /// Returns how many of so many places from this one on have code 3, one word of codes after the other.
     pub(crate) fn count_from(&self, first: usize, count: usize) -> usize
+        requires within { first + count ≤ length self.now.codes }
+        requires few { first + count ≤ 4295098367 }
+        ensures { result ≡ dues_from self.now.codes first count }
+    {
+        let end = first + count;
+        let mut from = first;
+        let mut dues = 0;
+        while from < end {
+            let some = min(PER_WORD - from % PER_WORD, end - from);
+            dues += self.count_in_word(from, some);
+            from += some;
+        }
+        dues
+    }
+
+    // Returns how many of so many places of one word have code 3. Tells first whether all have it.
+    #[inline(always)]
+    fn count_in_word(&self, from: usize, count: usize) -> usize
+        requires some { 1 ≤ count }
+        requires word { from % 32 + count ≤ 32 }
+        requires within { from + count ≤ length self.now.codes }
+        requires few { from + count ≤ 4295098367 }
+        ensures { result ≡ dues_from self.now.codes from count }
+    {
+        let word = self.words[from / PER_WORD];
+        if filled(word, from % PER_WORD, count) == word {
+            return count;
+        }
+        self.count_each(from, count)
+    }
+
+    // Returns how many of so many places from this one on have code 3, one place after the other.
+    fn count_each(&self, first: usize, count: usize) -> usize
         requires within { first + count ≤ length self.now.codes }
         requires few { first + count ≤ 4295098367 }
         ensures { result ≡ dues_from self.now.codes first count }

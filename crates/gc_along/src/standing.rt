@@ -498,11 +498,7 @@ impl Standing {
         if link >= old.len() {
             return None;
         }
-        let claim = old[link] % PLACES;
-        if claim >= u64::from(u32::MAX) {
-            return None;
-        }
-        let at = claim as u32;
+        let at = (old[link] % PLACES) as u32;
         if self.origin_at(at) != a {
             return None;
         }

@@ -144,15 +144,14 @@ fn taken_or_new(
     room: &mut Option<Room>,
 ) -> Result<Room, NoMemory>
     requires low { 1 ≤ size }
+    requires held { held_in room.old ≡ size }
     ensures size { IfOk result (λ taken. taken.size ≡ size) }
     ensures mutators { IfOk result (λ taken. taken.mutators ≡ mutators) }
     ensures gone { OnOk result (room.new ≡ None) }
     ensures refused { OnErr result (room.new ≡ room.old) }
 {
     match room.take() {
-        Some(taken) if taken.size() == size && taken.mutators() == usize::from(mutators) => {
-            Ok(taken)
-        }
+        Some(taken) if taken.mutators() == usize::from(mutators) => Ok(taken),
         other => {
             *room = other;
             let new = Room::new(alloc, size, mutators)?;
@@ -184,16 +183,13 @@ fn new_room(
 }
 
 /// Keeps the room of a collection that was given up as the spare room, or has it leave if there is a spare room already.
-pub(crate) fn keep_room(room: Option<Room>, spare: &mut Option<Room>, leaving: &mut Option<Room>)
-    ensures { rooms_in spare.new leaving.new ≡ rooms_given_up (held_in room) (rooms_in spare.old leaving.old) }
+pub(crate) fn keep_room(room: Room, spare: &mut Option<Room>, leaving: &mut Option<Room>)
+    ensures { rooms_in spare.new leaving.new ≡ rooms_given_up room.size (rooms_in spare.old leaving.old) }
 {
-    if words_of(&room) == 0 {
-        return;
-    }
     if words_of(spare) == 0 {
-        *spare = room;
+        *spare = Some(room);
     } else {
-        *leaving = room;
+        *leaving = Some(room);
     }
 }
 
