@@ -1,4 +1,5 @@
 mod rows;
+mod runs;
 
 ghost use Rattle.std.specs.Prelude.{◌≡◌, IfOk};
 
