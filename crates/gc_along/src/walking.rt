@@ -1,6 +1,6 @@
 //! The walks over both spaces: the next object, what a replica's link claims, and the codes of an object's places.
 
-ghost use Rattle.std.specs.Prelude.{◌≡◌, ◌≤◌, ◌<◌, ◌+◌, ◌++◌, ℕ, IsTrue, MatchOption, Some, length, slice_index, slice_index_or};
+ghost use Rattle.std.specs.Prelude.{◌≡◌, ◌↔◌, ◌≤◌, ◌<◌, ◌+◌, ◌++◌, ℕ, IsTrue, MatchOption, Some, length, slice_index, slice_index_or};
 ghost use Rattle.gc_words.specs.Layout.{fields_place, link_place};
 ghost use Rattle.gc_words.specs.Word.{read_header};
 ghost use Rattle.gc_words.specs.declared.header.Header.{Header};
@@ -115,7 +115,21 @@ pub(crate) fn is_copy(header: Header, old: &[u64], new: &[u64], original: u32, a
         return false;
     }
     let first = at + 2;
-    old[from..from + len] == new[first..first + len]
+    are_equal(&old[from..from + len], &new[first..first + len])
+}
+
+// Returns whether both rows of words are equal. It goes on behind the first difference, so that several words are compared at once.
+fn are_equal(one: &[u64], other: &[u64]) -> bool
+    requires { length one.now ≡ length other.now }
+    ensures { IsTrue result ↔ (one.now ≡ other.now) }
+{
+    let mut same = true;
+    for k in 0..one.len() {
+        if one[k] != other[k] {
+            same = false;
+        }
+    }
+    same
 }
 
 /// Adds the codes of an object.
