@@ -1,5 +1,5 @@
 -- A text that a reader gives piece by piece, and that is taken line by line.
-use Rattle.std.specs.Prelude.{◌≡◌, ◌+◌, ◌<◌, ◌≤◌, ⊤, ℕ, Bool, true, false, List, [], ◌∷◌, ◌++◌, length, drop, Option, Some, MatchOption}
+use Rattle.std.specs.Prelude.{◌≡◌, ◌+◌, ◌<◌, ◌≤◌, ⊤, ℕ, Bool, true, List, ◌∷◌, ◌++◌, length, drop, Option, Some, MatchOption}
 use Rattle.gc_text.specs.Lines.{newline}
 use Rattle.gc_text.specs.declared.read_fault.ReadFault.{ReadFault}
 use Rattle.gc_text.specs.declared.read_fault.ReadFault.TheVariants.{Read, TooLarge, NoMemory}
