@@ -223,11 +223,11 @@ impl CodeRow {
         requires few { first + count ≤ 4295098367 }
         ensures { result ≡ dues_from self.now.codes first count }
     {
-        let end = first + count;
+        let behind = first + count;
         let mut from = first;
         let mut dues = 0;
-        while from < end {
-            let some = min(PER_WORD - from % PER_WORD, end - from);
+        while from < behind {
+            let some = min(PER_WORD - from % PER_WORD, behind - from);
             dues += self.count_in_word(from, some);
             from += some;
         }

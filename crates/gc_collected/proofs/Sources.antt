@@ -81,14 +81,6 @@ takes_kept heap new m n a len d t reply is apart p k = go (block_at new.space.wo
 put_wrote : (heap : HeapWords) (m i a : ℕ) (d s : SlotName) (reply : Reply) (fields : List (ℕ × ℕ)) → reply ≡ Done → root (graph_in heap) (place d m) ≡ Ref a → (a, i) ∷ fields ≡ written (graph_in heap) m (Put d i s) reply ++ fields
 put_wrote heap m i a d s reply fields done target = sym (ap (λ es. es ++ fields) (ap (written (graph_in heap) m (Put d i s)) done ∙ ap (λ v. map (λ (name : ℕ). (name, i)) (names_of v)) target))
 
-pub with_nil : (heap new : HeapWords) (m i a : ℕ) (d t : SlotName) (source : FieldSource) (ops : List Op) (fields : List (ℕ × ℕ)) → source ≡ sources.Nil → PerformsAll heap m ops fields new → PerformsAll heap m (source_ops d t i source ++ ops) (source_fields a i source ++ fields) new
-with_nil heap new m i a d t source ops fields is more = subst (λ x. PerformsAll heap m (source_ops d t i x ++ ops) (source_fields a i x ++ fields) new) (sym is) more
-
-pub with_slot : (heap next new : HeapWords) (m i a : ℕ) (d t v : SlotName) (reply : Reply) (source : FieldSource) (ops : List Op) (fields : List (ℕ × ℕ)) → source ≡ sources.Slot v → reply ≡ Done → root (graph_in heap) (place d m) ≡ Ref a → Performs heap m (Put d i v) reply next → IsHeap next
-    → PerformsAll next m ops fields new → PerformsAll heap m (source_ops d t i source ++ ops) (source_fields a i source ++ fields) new
-with_slot heap next new m i a d t v reply source ops fields is done target p sound more =
-    subst (λ x. PerformsAll heap m (source_ops d t i x ++ ops) (source_fields a i x ++ fields) new) (sym is) (next, reply, fields, p, sound, put_wrote heap m i a d v reply fields done target, more)
-
 pub with_number : (heap mid next new : HeapWords) (m i a n : ℕ) (d t : SlotName) (first reply : Reply) (source : FieldSource) (ops : List Op) (fields : List (ℕ × ℕ)) → source ≡ sources.Number n → Performs heap m (Num t n) first mid → IsHeap mid → reply ≡ Done → root (graph_in mid) (place d m) ≡ Ref a → Performs mid m (Put d i t) reply next → IsHeap next
     → PerformsAll next m ops fields new → PerformsAll heap m (source_ops d t i source ++ ops) (source_fields a i source ++ fields) new
 with_number heap mid next new m i a n d t first reply source ops fields is set mid_sound done target p sound more =
@@ -109,9 +101,3 @@ none_left heap m i a d t fields past = subst (λ xs. PerformsAll heap m (sources
 
 pub none_noted : (c : CollectionWords) (m i a : ℕ) (fields : List FieldSource) → length fields ≤ i → Logs c m (sources_fields a i (drop i fields)) c
 none_noted c m i a fields past = subst (λ xs. Logs c m (sources_fields a i xs) c) (sym (drop_all i fields past)) (noted_none c m)
-
--- a field that takes something is written
-pub something : (a i : ℕ) (source : FieldSource) → (source ≡ sources.Nil → ⊥) → (a, i) ∷ [] ≡ source_fields a i source
-something a i sources.Nil not = absurd (not refl)
-something a i (sources.Number n) not = refl
-something a i (sources.Slot v) not = refl

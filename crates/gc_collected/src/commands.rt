@@ -173,28 +173,12 @@ impl CollectedHeap {
         ensures mutators { self.new.core.mutators ≡ self.old.core.mutators }
         ensures beside { self.new.beside ≡ self.old.beside }
     {
-        if self.is_open() {
-            return self.put_logged(m, s, i, t);
-        }
         commands_leave_collections();
         // Here the prover learns that the heap is sound.
         let _ = self.heap.space();
-        Ok(self.heap.put(m, s, i, t))
-    }
-
-    /// Does what `put` does while a collection is open, which the caller knows. Needs no test of it.
-    #[inline(always)]
-    pub fn put_logged(&mut self, m: u8, s: Slot, i: u16, t: Slot) -> Result<Reply, NoMemory>
-        requires mutator { m < self.old.core.mutators }
-        requires open { IsSome self.old.core.collection }
-        ensures step { IfOk result (λ reply. mutate self.old.core m (Op.Put s i t) ≡ (reply, self.new.core)) }
-        ensures refused { OnErr result (self.new ≡ self.old) }
-        ensures mutators { self.new.core.mutators ≡ self.old.core.mutators }
-        ensures beside { self.new.beside ≡ self.old.beside }
-    {
-        // Here the prover learns that the heap is sound.
-        let _ = self.heap.space();
-        let collection = self.collection.as_mut().unwrap();
+        let Some(collection) = &mut self.collection else {
+            return Ok(self.heap.put(m, s, i, t));
+        };
         collection.reserve(m)?;
         Ok(put(collection, &mut self.heap, &mut self.watch, m, s, i, t))
     }

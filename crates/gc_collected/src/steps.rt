@@ -2,17 +2,15 @@
 
 ghost use Rattle.std.specs.Prelude.{◌≡◌, not, if◌then◌else◌};
 ghost use Rattle.std.specs.Option.{option_map_or};
-ghost use Rattle.gc_plan.specs.Steps.{collect, scan_done, first_log, useful_step};
-ghost use Rattle.gc_plan.specs.Runs.{IsStep};
+ghost use Rattle.gc_plan.specs.Steps.{collect, scan_done, first_log};
 ghost use Rattle.gc_copy.specs.Words.{BelongsTo, LinksNothing, collection_in, idle_state, open_state};
 ghost use Rattle.gc_plan.specs.declared.step.Step.{Step};
 ghost use Rattle.gc_plan.specs.declared.step.StepReply.{StepReply};
-ghost use Rattle.gc_collected.specs.Internal.KnownRoots.{KnowsRoots};
 
 use crate::barrier;
 use crate::collected_heap::CollectedHeap;
 use crate::flip::Keep;
-use crate::known::{KnownRoots, Searched, all_known, search};
+use crate::known::{Searched, all_known, search};
 use crate::rooms::{keep_room, room_for};
 use gc_check::Checks;
 use gc_copy::{Collection, Room, ScanRun, Step, StepReply};
@@ -234,10 +232,13 @@ impl CollectedHeap {
         ensures useful { result ≡ useful_step self.now.core }
         ensures step { IsStep self.now.core.mutators result }
     {
-        match &self.collection {
-            None => Step::Begin,
-            Some(collection) => useful_in(collection, &self.heap, self.known).0,
+        let Some(collection) = &self.collection else {
+            return Step::Begin;
+        };
+        if search(collection, &self.heap, self.known).missing.is_some() {
+            return Step::Roots;
         }
+        step_after_roots(collection)
     }
 
     /// Returns the useful step, and leaves the heap as it is. Remembers how far it searched the roots, so that the next call reads
@@ -251,30 +252,16 @@ impl CollectedHeap {
         let Some(collection) = &self.collection else {
             return Step::Begin;
         };
-        let (step, known) = useful_in(collection, &self.heap, self.known);
+        if all_known(collection, &self.heap, self.known) {
+            return step_after_roots(collection);
+        }
+        let Searched { known, missing } = search(collection, &self.heap, self.known);
         self.known = known;
-        step
+        if missing.is_some() {
+            return Step::Roots;
+        }
+        step_after_roots(collection)
     }
-}
-
-/// Returns the useful step of this collection, and the marks after the search for it.
-#[inline(always)]
-fn useful_in(collection: &Collection, heap: &Heap, known: KnownRoots) -> (Step, KnownRoots)
-    requires belongs { BelongsTo heap.now collection.now }
-    requires knows { KnowsRoots known (open_state heap.now collection.now) }
-    ensures useful { result.0 ≡ useful_step (open_state heap.now collection.now) }
-    ensures step { IsStep heap.now.mutators result.0 }
-    ensures knows { KnowsRoots result.1 (open_state heap.now collection.now) }
-    ensures count { result.1.count ≡ known.count }
-{
-    if all_known(collection, heap, known) {
-        return (step_after_roots(collection), known);
-    }
-    let Searched { known, missing } = search(collection, heap, known);
-    if missing.is_some() {
-        return (Step::Roots, known);
-    }
-    (step_after_roots(collection), known)
 }
 
 /// Returns the useful step of a collection that has a replica of each root's target.

@@ -48,8 +48,7 @@ pub(crate) fn new_long_raw(heap: &mut CollectedHeap, m: u8, d: u8, kind: u8, cou
 /// Performs `gcflip_heap_put` while a collection is open.
 #[inline(never)]
 pub(crate) fn put_while_open(heap: &mut CollectedHeap, m: u8, s: u8, i: u16, t: u8) -> u32
-    requires mutator { m < heap.old.core.mutators }
-    requires open { IsSome heap.old.core.collection }
+    requires { m < heap.old.core.mutators }
     ensures call { IsCommandCall (NamesSlots m (s ∷ t ∷ []))
         (λ state. mutate state m (Op.Put (numbered_slot s) i (numbered_slot t))) (Some heap.old.core) (Some heap.new.core) result }
     ensures beside { heap.new.beside ≡ heap.old.beside }
@@ -59,7 +58,7 @@ pub(crate) fn put_while_open(heap: &mut CollectedHeap, m: u8, s: u8, i: u16, t: 
         return OUT_OF_RANGE;
     }
     let (s, t) = (numbered_slot(s), numbered_slot(t));
-    of_result(heap.put_logged(m, s, i, t))
+    of_result(heap.put(m, s, i, t))
 }
 
 /// Performs `gcflip_heap_put_number` while a collection is open.

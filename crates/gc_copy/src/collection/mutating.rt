@@ -1,12 +1,11 @@
 ghost use Rattle.std.specs.Prelude.{◌≡◌, ◌≢◌, ◌<◌, ◌≤◌, ◌+◌, ◌^◌, ℕ};
 ghost use Rattle.std.specs.Option.{option_map, option_to_list};
-ghost use Rattle.gc_heap.specs.Filling.{TakesFields, TakesNumbers};
 ghost use Rattle.gc_heap.specs.Heap.{graph_in};
 ghost use Rattle.gc_plan.specs.Steps.{mutate, written};
 ghost use Rattle.gc_copy.specs.Entries.{entry_in};
 ghost use Rattle.gc_copy.specs.Internal.Entries.{if_done};
 ghost use Rattle.gc_copy.specs.Words.{open_state, spare_of, BelongsTo};
-ghost use Rattle.gc_graph.specs.Slots.{SlotName, place};
+ghost use Rattle.gc_graph.specs.Slots.{SlotName};
 ghost use Rattle.gc_graph.specs.declared.command.Op.{Op};
 ghost use Rattle.gc_graph.specs.declared.reply.Reply.{Reply};
 
@@ -15,7 +14,6 @@ use crate::laws::commands_leave_collections;
 use crate::log::LogEntry;
 use gc_graph::{Reply, Slot};
 use gc_heap::Heap;
-use gc_words::OldAddr;
 
 impl Collection {
     /// Performs mutator `m`'s `Put`, and logs the field if it was written (the write barrier). Needs room in the log (`reserve`).
@@ -63,37 +61,6 @@ impl Collection {
         };
         self.note(m, entry.object, entry.field);
         (reply, Some(entry))
-    }
-
-    /// Performs mutator `m`'s `Put` of `t` into field `i` of the object that `d` refers to, and logs the field. The object is known to
-    /// take it, as for `Heap::fill_field`, so the reply is `Done`. Needs room in the log.
-    #[inline(always)]
-    pub fn fill_field(
-        &mut self,
-        heap: &mut Heap,
-        m: u8,
-        d: Slot,
-        object: OldAddr,
-        i: u16,
-        t: Slot,
-    ) -> Reply
-        requires belongs { BelongsTo heap.old self.old }
-        requires mutator { m < heap.old.mutators }
-        requires room { 1 ≤ spare_of self.old m }
-        requires field { (len : ℕ) × TakesFields heap.old (place d m) object.0 len × (i < len) }
-        ensures done { result ≡ Reply.Done }
-        ensures step { mutate (open_state heap.old self.old) m (Op.Put d i t) ≡ (result, open_state heap.new self.new) }
-        ensures belongs { BelongsTo heap.new self.new }
-        ensures epoch { self.new.epoch ≡ self.old.epoch }
-        ensures mutators { heap.new.mutators ≡ heap.old.mutators }
-        ensures spare { spare_of self.old m ≤ spare_of self.new m + 1 }
-        ensures fields { (len : ℕ) → TakesFields heap.old (place d m) object.0 len → TakesFields heap.new (place d m) object.0 len }
-    {
-        // Here the prover learns that the heap is sound.
-        let _ = heap.space();
-        let reply = heap.fill_field(m, d, object, i, t);
-        self.note(m, object, i);
-        reply
     }
 }
 

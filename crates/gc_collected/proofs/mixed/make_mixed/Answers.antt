@@ -1,4 +1,4 @@
--- The fields that the heap fills are logged together, and then the monitor is told of the object.
+-- The fields that take something are logged together, and then the monitor is told of the object.
 use Rattle.std.proofs.Common.{◌≡◌, false, ap, subst, ◌∙◌, arith}
 use Rattle.gc_graph.specs.declared.command.Op.TheVariants.{New}
 use Rattle.gc_words.specs.Space.{end_of}

@@ -1,4 +1,4 @@
--- The object and its fields leave what is known of extra roots true.
+-- The object and its numbers and slots' values leave what is known of extra roots true.
 use Rattle.std.proofs.Common.{◌<◌, sym, subst, arith}
 use Rattle.gc_plan.specs.State.{State}
 use Rattle.gc_collected.specs.Internal.CollectedHeap.{state_in}
