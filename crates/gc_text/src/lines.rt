@@ -187,33 +187,6 @@ impl Lines {
         Some(value)
     }
 
-    /// Reads on until a line of this kind waits, and takes it. Returns `None` if the text ends without one.
-    #[inline(never)]
-    fn take_later<K: LineKind, R: Read>(
-        &mut self,
-        kind: &K,
-        reader: &mut Source<R>,
-    ) -> Result<Option<K::Value>, ReadFault>
-        requires sound { K.is_sound kind.now }
-        requires unfailed { source_failed reader.old ≡ false }
-        requires none { NoneIsFirst (K.fits kind.now) (K.line kind.now) self.old.waiting }
-        ensures fits { IfOk result (λ found. IfSome found (K.fits kind.now)) }
-        ensures place { (text : List ℕ) (place : Place) → IsAt text place self.old (bytes_left R.remaining reader.old) → MatchResult result
-            (λ found. TakesLine (K.fits kind.now) (K.line kind.now) text place found self.new (bytes_left R.remaining reader.new))
-            (λ fault. CannotRead fault self.old.limit text (bytes_left R.remaining reader.new)) }
-        ensures limit { self.new.limit ≡ self.old.limit }
-        ensures taken { IfOk result (λ found. MatchOption found (self.new.taken ≡ self.old.taken)
-            (λ _. (self.new.taken ≡ self.old.taken + 1) × (self.new.taken ≤ self.new.limit))) }
-        ensures read { (result ≡ Err ReadFault.Read) ↔ (source_failed reader.new ≡ true) }
-    {
-        while self.more(reader)? {
-            if let Some(value) = self.take_waiting(kind) {
-                return Ok(Some(value));
-            }
-        }
-        Ok(None)
-    }
-
     /// Takes the next line if it is of this kind. Returns `None` if it is not, which is known only at the end of the text.
     #[inline(always)]
     pub fn take<K: LineKind, R: Read>(
@@ -232,9 +205,13 @@ impl Lines {
             (λ _. (self.new.taken ≡ self.old.taken + 1) × (self.new.taken ≤ self.new.limit))) }
         ensures read { (result ≡ Err ReadFault.Read) ↔ (source_failed reader.new ≡ true) }
     {
-        match self.take_waiting(kind) {
-            Some(value) => Ok(Some(value)),
-            None => self.take_later(kind, reader),
+        loop {
+            if let Some(value) = self.take_waiting(kind) {
+                return Ok(Some(value));
+            }
+            if !self.more(reader)? {
+                return Ok(None);
+            }
         }
     }
 
