@@ -6,7 +6,8 @@ use Rattle.gc_words.specs.declared.header.Header.{Header}
 use Rattle.gc_along.specs.Tables.{Tables}
 use Rattle.gc_along.specs.Events.{Placed}
 use Rattle.gc_along.specs.Claims.{OwesNone}
-use Rattle.gc_along.specs.Runs.{PlacedRun, LookRun, LooksTo, IsBefore}
+use Rattle.gc_along.specs.Runs.{PlacedRun, LookRun, IsBefore}
+use Rattle.gc_along.specs.Internal.Runs.{LooksTo}
 
 pub longer_placed : (old new : List ℕ) (n : ℕ) (t mid after : Tables) → PlacedRun old new n t mid → Placed old new mid after → OwesNone old new mid after → PlacedRun old new (suc n) t after
 longer_placed old new zero t mid after is placed owes = (after, subst (λ x. Placed old new x after) is placed, subst (λ x. OwesNone old new x after) is owes, refl)

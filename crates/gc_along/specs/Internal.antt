@@ -1,4 +1,5 @@
 pub mod InWords
 pub mod Rows
+pub mod Runs
 pub mod Tables
 pub mod Watch

@@ -23,11 +23,6 @@ CanPlaceAll old new t = (n : ℕ) (mid : Tables) → PlacedRun old new n t mid �
 
 -- ---- looks
 
--- n fields of the replica at b were compared, from field i on
-abbrev pub LooksTo : List ℕ → List ℕ → ℕ → ℕ → ℕ → Tables → Tables → Type 0
-LooksTo old new b i zero t after = after ≡ t
-LooksTo old new b i (suc n) t after = (mid : Tables) × LooksTo old new b i n t mid × Looked old new b (i + n) mid after
-
 -- field i of the replica at b comes before field e of the one at p
 abbrev pub IsBefore : ℕ → ℕ → ℕ → ℕ → Type 0
 IsBefore b i p e = (b < p) ⊎ ((b ≡ p) × (i < e))

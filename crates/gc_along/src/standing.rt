@@ -66,7 +66,8 @@ impl Standing {
     ghost use Rattle.gc_along.specs.Telling.{IsMark};
     ghost use Rattle.gc_along.specs.Events.{Made, Placed, Looked, Wrote, WroteRow, Applied, Freed, IsFieldOf, HasNoReplica, object_codes, absent_tables, opening_tables, flipped_tables, with_due};
     ghost use Rattle.gc_along.specs.Internal.Rows.{with_due_row};
-    ghost use Rattle.gc_along.specs.Runs.{PlacedAll, CanPlaceAll, LookedAll, CanLookAll, LooksTo};
+    ghost use Rattle.gc_along.specs.Runs.{PlacedAll, CanPlaceAll, LookedAll, CanLookAll};
+    ghost use Rattle.gc_along.specs.Internal.Runs.{LooksTo};
     ghost use Rattle.gc_words.specs.Word.{read_header};
     ghost use Rattle.gc_along.specs.Tables.{Tables};
     ghost use Rattle.gc_along.specs.Claims.{Accepts, CanApply, CanLook, CanMake, CanPlaceNext, CanWrite, CanWriteRow, IsLinked, OwesNone};

@@ -215,7 +215,7 @@ placed_has c next a (Some o) e = by (nat_lt (new_free c) (length o.fields + 2)) 
         subst (λ (d : Collection). IsSome (replica_of d a)) same (ap is_some r.1)
 
 -- and its replica is at the old end
-pub placed_at : (c next : Collection) (a : ℕ) (o : Option Object) → replica_of c a ≡ None → place_replica c a o ≡ Some next → option_map (λ r. r.place) (replica_of next a) ≡ Some (new_end c)
+placed_at : (c next : Collection) (a : ℕ) (o : Option Object) → replica_of c a ≡ None → place_replica c a o ≡ Some next → option_map (λ r. r.place) (replica_of next a) ≡ Some (new_end c)
 placed_at c next a None none e = absurd (let no : None ≡ Some next = e in cc)
 placed_at c next a (Some o) none e = by (nat_lt (new_free c) (length o.fields + 2)) e
   where

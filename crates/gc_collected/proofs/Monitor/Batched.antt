@@ -309,7 +309,7 @@ module _ (s : State) (links : ℕ → ℕ) (p f : ℕ) (heap : IsSpaceGraph s.si
       go (inr (inl said)) = rest_of next t later (as_before s c next p f t (passes (having s c) (having s next) c next p f t open_now (restated s c c p f t b) said refl)) m mid run
       go (inr (inr same)) = rest_of next t later (subst (λ (x : Collection). IsBehind s x p f t) (sym same) b) m mid run
 
-  pub covers : (n : ℕ) (c : Collection) (t : Tables) → IsOpened s c → IsBehind s c p f t → (m : ℕ) (mid : Tables) → PlacedRun (heap_words links s) (replica_words (scanned_on s n c)) m t mid → Covers (scanned_on s n c) mid
+  covers : (n : ℕ) (c : Collection) (t : Tables) → IsOpened s c → IsBehind s c p f t → (m : ℕ) (mid : Tables) → PlacedRun (heap_words links s) (replica_words (scanned_on s n c)) m t mid → Covers (scanned_on s n c) mid
   covers zero c t opened b m mid run =
       let seen : length t.news ≡ new_end c = b.fits.new_seen in
       let count = count_is c opened in

@@ -69,7 +69,7 @@ caught_up s c t b = (
 )
 
 module _ (s : State) (c : Collection) (p f : ℕ) (t : Tables) (opened : IsOpened s c) (b : IsBehind s c p f t) where
-  pub lag_opened : IsOpened s (lagging c p f)
+  lag_opened : IsOpened s (lagging c p f)
   lag_opened = record {
     belongs = belongs_from (IsDue (lagging c p f)) s.heap.graph.objects (lagging c p f)
         (replicas_due s.heap.graph.objects c.size (IsDue c) (IsDue (lagging c p f)) c.replicas (its_replicas (IsDue c) s.heap.graph.objects c opened.belongs) (λ r l i small d. ⊎_elim (λ u. inl (u.0, b.earlier r.place i u.1)) (λ g. inr g) d))
@@ -78,7 +78,7 @@ module _ (s : State) (c : Collection) (p f : ℕ) (t : Tables) (opened : IsOpene
     logs = opened.logs;
   }
 
-  pub lag_goes : Goes s (lagging c p f) (watch_of t)
+  lag_goes : Goes s (lagging c p f) (watch_of t)
   lag_goes = record {
     fits = record { pairs = b.fits.pairs; old_seen = b.fits.old_seen; new_seen = b.fits.new_seen; row = b.fits.row };
     replicas = λ r l. (let x = b.each.each r l in record { original = x.original; found = x.found; raw = x.raw; kind = x.kind; len = x.len; current = λ i v w a e. ⊎_elim (λ d. inl d.0) (λ e. inr e) (x.current i v w a e) });

@@ -126,7 +126,7 @@ module _ (s : State) (d : Collection) (links : ℕ → ℕ) (heap : IsSpaceGraph
           let is : q.0.place + (length q.0.object.fields + 2) ≡ c = omega arith in
           subst (IsBehind s d c j) (sym same) (subst (λ n. IsBehind s d c n t) (sym field) (subst (λ n. IsBehind s d n 0 t) is next))
 
-  pub followed : (n b i : ℕ) (t : Tables) (c j : ℕ) (after : Tables) → IsBehind s d b i t → LookRun Old New d.scan_place d.scan_field n b i t c j after → IsBehind s d c j after
+  followed : (n b i : ℕ) (t : Tables) (c j : ℕ) (after : Tables) → IsBehind s d b i t → LookRun Old New d.scan_place d.scan_field n b i t c j after → IsBehind s d c j after
   followed zero b i t c j after behind (place, field, same) = subst (IsBehind s d c j) (sym same) (subst (λ n. IsBehind s d c n t) (sym field) (subst (λ n. IsBehind s d n i t) (sym place) behind))
   followed (suc n) b i t c j after behind (e, k, mid, run, on) = goes e k mid c j after (followed n b i t e k mid behind run) on
 
@@ -203,7 +203,7 @@ module _ (s : State) (d : Collection) (links : ℕ → ℕ) (heap : IsSpaceGraph
           (λ x. absurd (at_scan x.0 x.1 done))
           before
 
-  pub can_look_all : (mid : Tables) → IsBehind s d b i mid → CanLookAll (heap_words links s) (replica_words d) b i d.scan_place d.scan_field mid
+  can_look_all : (mid : Tables) → IsBehind s d b i mid → CanLookAll (heap_words links s) (replica_words d) b i d.scan_place d.scan_field mid
   can_look_all mid behind n c k after run =
       let now = followed s d links heap opened n b i mid c k after behind run in
       let low : (c < d.scan_place) ⊎ ((c ≡ d.scan_place) × (k ≤ d.scan_field)) = now.earlier d.scan_place d.scan_field (inr (refl, omega arith)) in (

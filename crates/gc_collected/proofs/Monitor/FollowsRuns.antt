@@ -21,7 +21,7 @@ own : (s : State) (c : Collection) → s.collection ≡ Some c → s ≡ having 
 own s c is = ap (λ (o : Option Collection). record s { collection = o }) is
 
 -- the state after a run of scans of an open collection
-pub ran : (s s' : State) (c : Collection) (until n : ℕ) (reply : StepReply) → s.collection ≡ Some c → IsScanRun until n s s' reply → s' ≡ having s (scanned_on s n c)
+ran : (s s' : State) (c : Collection) (until n : ℕ) (reply : StepReply) → s.collection ≡ Some c → IsScanRun until n s s' reply → s' ≡ having s (scanned_on s n c)
 ran s s' c until n reply is run = run.state ∙ (ap (after_scans n) (own s c is) ∙ scans_are s n c)
 
 module _ (s s' : State) (c d : Collection) (until n : ℕ) (reply : StepReply) (old words : List ℕ) (heap : IsSpaceGraph s.size s.heap.free s.heap.graph) (is_open : IfSome s.collection (IsOpened s))

@@ -167,7 +167,7 @@ module _ (end : ℕ) (e : ℕ) (w : Watch) (next : Collection) (words : List ℕ
           (laid_apart 1 (map placed next.replicas) (new_end next) (placed r) (placed q) shows.laid (in_map placed r next.replicas l) (in_map placed q next.replicas k))
 
   -- a field compared, of the replica of this object
-  pub told_looked : (old : List ℕ) (t after : Tables) (q : Replica) (b i : ℕ) → In q next.replicas → q.place ≡ b → WatchFits end next (watch_of t) → LosesNone e w next (watch_of t) → Looked old words b i t after
+  told_looked : (old : List ℕ) (t after : Tables) (q : Replica) (b i : ℕ) → In q next.replicas → q.place ≡ b → WatchFits end next (watch_of t) → LosesNone e w next (watch_of t) → Looked old words b i t after
       → WatchFits end next (watch_of after) × LosesOnly e q.original i w next (watch_of after)
   told_looked old t after q b i there at fits loses is = grind (arith, common_steps, told_marked)
 

@@ -1,7 +1,7 @@
 -- A turn compares one field more, or loses the checker.
 use Rattle.std.proofs.Common.{◌≡◌, suc, ◌+◌, ◌-◌, IsFalse, ap, sym, subst, ◌∙◌, arith}
 use Rattle.gc_along.specs.Events.{Looked}
-use Rattle.gc_along.specs.Runs.{LooksTo}
+use Rattle.gc_along.specs.Internal.Runs.{LooksTo}
 use Rattle.gc_along.specs.Tables.{Tables}
 use Rattle.gc_along.proofs.standing.Standing.look_each.Goals as goal
 

@@ -1,6 +1,6 @@
 -- The fields before this one were compared, and nothing is lost.
 use Rattle.std.proofs.Common.{◌-◌, IsFalse}
-use Rattle.gc_along.specs.Runs.{LooksTo}
+use Rattle.gc_along.specs.Internal.Runs.{LooksTo}
 use Rattle.gc_along.proofs.standing.Standing.look_each.Given as goal
 
 -- the fields before this one were compared

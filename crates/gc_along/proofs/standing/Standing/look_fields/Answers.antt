@@ -5,7 +5,7 @@ use Rattle.gc_words.specs.Word.{field_words_correspond}
 use Rattle.gc_words.specs.Layout.{field_place}
 use Rattle.gc_along.specs.Events.{Looked, IsFieldOf, with_due, code_of}
 use Rattle.gc_along.specs.Origins.{pairs_in}
-use Rattle.gc_along.specs.Runs.{LooksTo}
+use Rattle.gc_along.specs.Internal.Runs.{LooksTo}
 use Rattle.gc_along.specs.Tables.{Tables}
 use Rattle.gc_along.proofs.standing.Standing.look_fields.Goals as goal
 

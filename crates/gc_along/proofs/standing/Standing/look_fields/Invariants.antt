@@ -1,6 +1,6 @@
 -- The fields before this one were compared, nothing is lost, and the originals are the same.
 use Rattle.std.proofs.Common.{◌≡◌, ◌-◌, length, IsFalse}
-use Rattle.gc_along.specs.Runs.{LooksTo}
+use Rattle.gc_along.specs.Internal.Runs.{LooksTo}
 use Rattle.gc_along.proofs.standing.Standing.look_fields.Given as goal
 
 -- the fields before this one were compared
