@@ -13,6 +13,8 @@ from .harness import Outcome, file_of, skip
 TOP = os.path.join(os.path.dirname(os.path.abspath(__file__)), "..", "..")
 SOURCES = os.path.join(TOP, "tests", "c")
 EXAMPLE_PROGRAMS = os.path.join(TOP, "bindings", "c", "examples")
+# The allocator among the examples, and the program that is linked with it.
+HUGE_PAGES, HUGE_HEAP = os.path.join(EXAMPLE_PROGRAMS, "huge_pages.c"), "huge_heap.c"
 SECONDS = 120
 # Libraries that have changed are proved first.
 PROVING_SECONDS = 3600
@@ -50,6 +52,11 @@ def compilers():
         skip("the toolchain's clang", "it is missing")
 
 
+def example_sources(name):
+    """Returns the sources of an example, which are compiled before the archive."""
+    return [os.path.join(EXAMPLE_PROGRAMS, name), *([HUGE_PAGES] if name == HUGE_HEAP else [])]
+
+
 class Library:
     """The library as bindings/c installs it."""
 
@@ -81,7 +88,7 @@ class Library:
         """Returns the path of a program of bindings/c/examples, and why it was not built, or None."""
         program = os.path.join(self.folder, "example")
         words = ["gcc", "-std=c99", "-pthread", *WARNINGS, *sanitizers, "-I" + os.path.join(self.prefix, "include"), "-o", program]
-        built = done([*words, os.path.join(EXAMPLE_PROGRAMS, name), *self.archive()])
+        built = done([*words, *example_sources(name), *self.archive()])
         return program, None if built.status == 0 else "not built: %s" % built.stderr.decode()
 
     def archive(self):

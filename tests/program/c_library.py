@@ -7,7 +7,8 @@ import signal
 import time
 
 from . import pairs
-from .c_builds import EXAMPLE_PROGRAMS, SANITIZERS, SOURCES, TOP, VALGRIND, compilers, done, has_valgrind, instructions, library, usable
+from .c_builds import (EXAMPLE_PROGRAMS, HUGE_HEAP, HUGE_PAGES, SANITIZERS, SOURCES, TOP, VALGRIND, compilers, done, example_sources, has_valgrind, instructions, library,
+                       usable)
 from .examples import FOLDER as EXAMPLES, content, names_of
 from .harness import Outcome, addresses_numbered, difference, file_of, run, skip
 from .traces import PLAYED, trace_and_replies
@@ -40,7 +41,8 @@ def musl(_program, folder):
         path, why = built.build(["musl-gcc", "-static"], source, built.archive())
         yield "%s by musl-gcc" % source, why or difference(done([path]), Outcome())
     for name in sorted(EXAMPLE_OUTPUT):
-        path, why = built.build(["musl-gcc", "-static"], os.path.join(EXAMPLE_PROGRAMS, name), built.archive())
+        source, *more = example_sources(name)
+        path, why = built.build(["musl-gcc", "-static"], source, [*more, *built.archive()])
         yield "%s by musl-gcc" % name, why or difference(printed([path]), Outcome(EXAMPLE_OUTPUT[name]))
 
 
@@ -293,11 +295,14 @@ def short_soak(_program, folder):
         yield "soak.c flips, and compares images", None if len(flips) == 2 and min(flips) > 0 else "printed %r" % found.stdout
 
 
+# Whether the system's kernel has huge pages to ask for.
+HAS_HUGE_PAGES = os.path.exists("/sys/kernel/mm/transparent_hugepage")
 # The output of each example, with the addresses of the machine replaced by numbers.
 EXAMPLE_OUTPUT = {"extra_roots.c": b"pushed 1000\nflipped 1001\nthe last one popped has kind 0\n", "first_check.c": b"yes 1\n",
                   # Of 255 words the error takes 3, and 16 are the reserve, so that 59 cells of 4 words have room.
                   "full_heap.c": b"error 9 after 59 cells\nthe handler allocates: yes\nroom again: yes\n",
                   "first_heap.c": b"mutators go on\nmutators go on\nflipped 1\nsaw 42\n",
+                  HUGE_HEAP: b"flipped 100000\nthe sum is 5000050000\nboth spaces ask for huge pages: %s\n" % (b"yes" if HAS_HUGE_PAGES else b"no"),
                   # There are 20 words. Each of the 7 objects has 3 bits of its age, and the string has 3 bytes of padding. A vector is the second
                   # object that the roots reach.
                   "semispace.c": b"yes 7\nspared 21: how many collections an object has survived\nspared 24: padding behind a byte string\n"
@@ -319,7 +324,7 @@ def example_programs(_program, folder):
     built = library(folder)
     if built is None:
         return
-    for name in sorted(os.listdir(EXAMPLE_PROGRAMS)):
+    for name in sorted(set(os.listdir(EXAMPLE_PROGRAMS)) - {os.path.basename(HUGE_PAGES)}):
         path, why = built.build_example(name)
         yield name, why or difference(printed([path]), Outcome(EXAMPLE_OUTPUT[name]))
         path, why = built.build_example(name, [])
@@ -328,6 +333,26 @@ def example_programs(_program, folder):
             if name == "shared_heap.c":
                 races = done(["valgrind", "-q", "--tool=helgrind", "--error-exitcode=99", path])
                 yield "%s by helgrind" % name, why or difference(races, Outcome(EXAMPLE_OUTPUT[name]))
+
+
+def huge_pages(_program, folder):
+    """Tests the blocks of the allocator for huge pages, and that spaces on it are touched and given back. A heap without it asks for no huge pages."""
+    built = library(folder)
+    if built is None:
+        return
+    linked = [HUGE_PAGES, *built.archive()]
+    if usable(folder, "huge_pages.c with sanitizers", ["gcc", *SANITIZERS]):
+        path, why = built.build(["gcc", *SANITIZERS], "huge_pages.c", linked)
+        yield "huge_pages.c with sanitizers", why or difference(done([path]), Outcome())
+    path, why = built.build(["gcc"], "huge_pages.c", linked)
+    yield "huge_pages.c", why or difference(done([path, "plain"]), Outcome())
+    if has_valgrind("huge_pages.c"):
+        yield "huge_pages.c by valgrind", why or difference(done([*VALGRIND, path]), Outcome())
+    path, why = built.build(["gcc", "-O1"], "pages.c", linked)
+    for part in PARTS_OF_PAGES:
+        yield "pages.c with huge_pages.c, %s" % part, why or difference(done([path, part]), Outcome())
+    path, why = built.build(["gcc"], os.path.join(EXAMPLE_PROGRAMS, HUGE_HEAP), built.archive())
+    yield "%s without its allocator" % HUGE_HEAP, why or difference(done([path]), Outcome(EXAMPLE_OUTPUT[HUGE_HEAP].replace(b"yes", b"no")))
 
 
 LONG_OBJECTS = os.path.join(TOP, "examples", "long_objects")
@@ -382,13 +407,16 @@ def live_and_far(_program, folder):
     yield "far.c", why or difference(done([path, "2048"]), Outcome(wanted))
 
 
+PARTS_OF_PAGES = ("touch", "slices", "rest")
+
+
 def pages(_program, folder):
     """Tests that a heap that was touched meets no new page, and that old spaces of another size are given back, in slices or at a begin."""
     built = library(folder)
     if built is None:
         return
     path, why = built.build(["gcc", "-O1"], "pages.c", built.archive())
-    for part in ("touch", "slices", "rest"):
+    for part in PARTS_OF_PAGES:
         yield "pages.c, %s" % part, why or difference(done([path, part]), Outcome())
 
 
@@ -414,11 +442,13 @@ def limits(_program, folder):
     path, why = built.build(["gcc", "-O1"], "limits.c", built.archive())
     yield "limits.c", why or difference(done([path, *[found.group(1) for found in told]]), Outcome())
     space, along, smaller, at_flip = [int(number) for number in example.groups()]
-    path, why = built.build(["gcc", "-O1"], "address_space.c", built.archive())
     only_smaller = b"done\nno memory\nbegun\nflipped\n"
-    for size, checking, wanted in [(along, 0, only_smaller), (at_flip, 1, only_smaller), (at_flip, 0, b"no memory\n"), (smaller, 0, b"done\nbegun\nbegun\nflipped\n")]:
-        words = ["sh", "-c", "ulimit -v %d; exec \"$0\" \"$@\"" % space, path, str(size * 10 ** 6), str(smaller * 10 ** 6), str(checking)]
-        yield "%d million words, checking %d, in little address space" % (size, checking), why or difference(done(words), Outcome(wanted))
+    for allocator, sources in [("malloc", []), ("huge_pages.c", [HUGE_PAGES])]:
+        path, why = built.build(["gcc", "-O1"], "address_space.c", [*sources, *built.archive()])
+        for size, checking, wanted in [(along, 0, only_smaller), (at_flip, 1, only_smaller), (at_flip, 0, b"no memory\n"), (smaller, 0, b"done\nbegun\nbegun\nflipped\n")]:
+            words = ["sh", "-c", "ulimit -v %d; exec \"$0\" \"$@\"" % space, path, str(size * 10 ** 6), str(smaller * 10 ** 6), str(checking)]
+            case = "%d million words, checking %d, in little address space, by %s" % (size, checking, allocator)
+            yield case, why or difference(done(words), Outcome(wanted))
 
 
 # The most instructions that a useful step may take on average, two for each of 272 roots. A step that looks at each of them takes at least
@@ -482,5 +512,5 @@ def begins_after_many(_program, folder):
     yield "instructions of a begin after a large one", why_few or why_many or told
 
 
-GROUPS = [example_programs, long_objects, pauses, programs, musl, images, crash_in_a_self_test, large_heaps, live_and_far, pages, limits, work_remembers, given_up_at_once, begins_after_many, rebuilt, pkg_config, texts, plays, recorded_work, recording_that_ends, root_reads,
+GROUPS = [example_programs, huge_pages, long_objects, pauses, programs, musl, images, crash_in_a_self_test, large_heaps, live_and_far, pages, limits, work_remembers, given_up_at_once, begins_after_many, rebuilt, pkg_config, texts, plays, recorded_work, recording_that_ends, root_reads,
           long_run, short_soak]
