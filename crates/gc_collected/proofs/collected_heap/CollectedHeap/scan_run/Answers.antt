@@ -1,4 +1,4 @@
--- A run of scans removes no replica, so the roots that are known to have one still have it.
+-- What is known of the roots lasts through a run of scans, and the monitor follows it.
 use Rattle.std.proofs.Common.{subst}
 use Rattle.std.specs.Option.{option_map}
 use Rattle.gc_copy.specs.Words.{collection_in, open_state, state_of}
