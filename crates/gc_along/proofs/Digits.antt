@@ -57,7 +57,7 @@ alone_beside (suc k) zero code few other = first_digit code (quad k)
 alone_beside (suc k) (suc j) code few other = ap (λ n. digit n j) (rest_digits code (quad k)) ∙ alone_beside k j code few (λ same. other (ap suc same))
 
 -- the codes of the difference of two words
-code_xor : (a b k : ℕ) → code_in (bit_xor a b) k ≡ bit_xor (code_in a k) (code_in b k)
+pub code_xor : (a b k : ℕ) → code_in (bit_xor a b) k ≡ bit_xor (code_in a k) (code_in b k)
 code_xor a b k = ap (λ n. n % 4) (xor_shr a b (2 * k)) ∙ xor_mod (a / 2 ^ (2 * k)) (b / 2 ^ (2 * k)) 2
 
 -- as the code writes it: a word with another code at one place, and with one where there is none

@@ -27,7 +27,7 @@ zeros_at n i = grind (arith, common_steps, cases_lt, get_or-replicate, get_or_pa
 pub zeros_behind : (xs : List ℕ) (n i : ℕ) → get_or (xs ++ replicate n 0) i 0 ≡ get_or xs i 0
 zeros_behind xs n i = grind (arith, common_steps, cases_lt, get_or_append_left, get_or-append_right, get_or_past, zeros_at)
 
-no_code : (k : ℕ) → code_in 0 k ≡ 0
+pub no_code : (k : ℕ) → code_in 0 k ≡ 0
 no_code k = grind arith
 
 -- ---- one code changes
@@ -176,47 +176,47 @@ added words grown len len' code more n word with has grown_is len_is count few r
           ∙ with_first (codes_in words len) code more;
     }
 
--- ---- a run of threes
+-- ---- a run of places
 
--- the word of a place with threes from there on
-record IsFilled (words : List ℕ) (from count word : ℕ) : Type 0 where
+-- the word of a place with this code from there on
+record IsRun (code : ℕ) (words : List ℕ) (from count word : ℕ) : Type 0 where
   fits : from % 32 + count ≤ 32
-  inside : (k : ℕ) → from % 32 ≤ k → k < from % 32 + count → code_in word k ≡ 3
+  inside : (k : ℕ) → from % 32 ≤ k → k < from % 32 + count → code_in word k ≡ code
   outside : (k : ℕ) → (k < from % 32) ⊎ (from % 32 + count ≤ k) → code_in word k ≡ code_in (slice_index words (from / 32)) k
 
-filled_at : (words : List ℕ) (from count word place : ℕ) → from / 32 < length words → IsFilled words from count word → from ≤ place → place < from + count → code_at (set words (from / 32) word) place ≡ 3
+set_at : (code : ℕ) (words : List ℕ) (from count word place : ℕ) → from / 32 < length words → IsRun code words from count word → from ≤ place → place < from + count → code_at (set words (from / 32) word) place ≡ code
 unfolding code_at
-filled_at words from count word place inside f low high = grind (arith, common_steps, get_or-set_same)
+set_at code words from count word place inside f low high = grind (arith, common_steps, get_or-set_same)
 
-kept_at : (words : List ℕ) (from count word place : ℕ) → from / 32 < length words → IsFilled words from count word → (place < from) ⊎ (from + count ≤ place) → code_at (set words (from / 32) word) place ≡ code_at words place
+kept_at : (code : ℕ) (words : List ℕ) (from count word place : ℕ) → from / 32 < length words → IsRun code words from count word → (place < from) ⊎ (from + count ≤ place) → code_at (set words (from / 32) word) place ≡ code_at words place
 unfolding code_at
-kept_at words from count word place inside f out = grind (arith, common_steps, cases_eq, get_or-set_same, get_or-set_other)
+kept_at code words from count word place inside f out = grind (arith, common_steps, cases_eq, get_or-set_same, get_or-set_other)
 
 pub code_seen : (words : List ℕ) (len place : ℕ) → HasCodes words len → get_or (codes_in words len) place 0 ≡ code_at words place
 code_seen words len place h = grind (arith, common_steps, cases_lt, codes_at, get_or_past, length-codes)
 
 -- the row once that word is written
-pub record HasRun (words : List ℕ) (len from count word : ℕ) : Type 0 where
+pub record HasRun (code : ℕ) (words : List ℕ) (len from count word : ℕ) : Type 0 where
   pub has : HasCodes (set words (from / 32) word) len
-  pub filled : (place : ℕ) → from ≤ place → place < from + count → get_or (codes_in (set words (from / 32) word) len) place 0 ≡ 3
+  pub run : (place : ℕ) → from ≤ place → place < from + count → get_or (codes_in (set words (from / 32) word) len) place 0 ≡ code
   pub others : (place : ℕ) → (place < from) ⊎ (from + count ≤ place) → get_or (codes_in (set words (from / 32) word) len) place 0 ≡ get_or (codes_in words len) place 0
 
-pub run_filled : (words : List ℕ) (len room from count word n : ℕ) (seen : Codes) → HasCodes words len → record { codes = codes_in words len; room = room } ≡ seen
+pub run_set : (code : ℕ) (words : List ℕ) (len room from count word n : ℕ) (seen : Codes) → HasCodes words len → record { codes = codes_in words len; room = room } ≡ seen
     → from + count ≤ length seen.codes → 1 ≤ count → from % 32 + count ≤ 32 → n ≡ get_or words (from / 32) n
-    → ((k : ℕ) → from % 32 ≤ k → k < from % 32 + count → code_in word k ≡ 3) → ((k : ℕ) → (k < from % 32) ⊎ (from % 32 + count ≤ k) → code_in word k ≡ code_in n k) → HasRun words len from count word
-run_filled words len room from count word n seen has is within some fits read filled others =
+    → ((k : ℕ) → from % 32 ≤ k → k < from % 32 + count → code_in word k ≡ code) → ((k : ℕ) → (k < from % 32) ⊎ (from % 32 + count ≤ k) → code_in word k ≡ code_in n k) → HasRun code words len from count word
+run_set code words len room from count word n seen has is within some fits read filled others =
     let len_is = seen_length words len room seen is in
     let inside : from / 32 < length words = omega (arith, has.count) in
-    let f : IsFilled words from count word = grind (arith, common_steps, get_or_default) in
+    let f : IsRun code words from count word = grind (arith, common_steps, get_or_default) in
     let now : HasCodes (set words (from / 32) word) len = record {
       count = omega (arith, has.count, length-set words (from / 32) word);
       few = omega (arith, has.few, length-set words (from / 32) word);
-      rest = λ place past. kept_at words from count word place inside f (inr (omega arith)) ∙ has.rest place past;
+      rest = λ place past. kept_at code words from count word place inside f (inr (omega arith)) ∙ has.rest place past;
     } in
     record {
       has = now;
-      filled = λ place low high. code_seen _ len place now ∙ filled_at words from count word place inside f low high;
-      others = λ place out. code_seen _ len place now ∙ kept_at words from count word place inside f out ∙ sym (code_seen words len place has);
+      run = λ place low high. code_seen _ len place now ∙ set_at code words from count word place inside f low high;
+      others = λ place out. code_seen _ len place now ∙ kept_at code words from count word place inside f out ∙ sym (code_seen words len place has);
     }
 
 -- the last places have code 3, and the others what they had

@@ -1,12 +1,13 @@
--- Fields in a row that are due in a replica.
+-- Fields in a row that become due in a replica, or are no longer due.
 use Rattle.std.proofs.lemmas.Grind.{common_steps}
-use Rattle.std.proofs.Common.{◌≡◌, ◌⊎◌, inl, inr, ℕ, zero, suc, ◌+◌, ◌-◌, ◌<◌, ◌≤◌, ◌==◌, List, length, get_or, set, true, refl, sym, ap, subst, ◌∙◌, length-set, arith}
-use Rattle.std.proofs.lemmas.Bool.{cases_eq}
+use Rattle.std.proofs.Common.{◌≡◌, ◌⊎◌, inl, inr, ℕ, zero, suc, ◌+◌, ◌-◌, ◌<◌, ◌≤◌, ◌==◌, Bool, List, length, get_or, set, true, false, refl, sym, ap, subst, ◌∙◌, length-set, arith}
+use Rattle.std.proofs.lemmas.Bool.{cases_eq, cases_lt}
 use Rattle.std.proofs.lemmas.List.{ext_get_or, get_or-set_other, get_or-set_same}
+use Rattle.std.specs.Prelude.{if◌then◌else◌}
 use Rattle.gc_words.specs.Layout.{field_place}
 use Rattle.gc_along.specs.Internal.Watch.{bit}
 use Rattle.gc_along.specs.Tables.{Tables, IsKept, missing_in}
-use Rattle.gc_along.specs.Events.{HasNoReplica, IsReplicaAt, WroteRow, with_due, with_news}
+use Rattle.gc_along.specs.Events.{HasNoReplica, IsReplicaAt, WroteRow, code_of, with_due, with_news}
 use Rattle.gc_along.specs.Internal.Rows.{dues_from, row_set, with_due_row}
 use Rattle.gc_along.proofs.Kept.{kept_due, set_count}
 
@@ -16,63 +17,72 @@ unwritten a i zero t none = refl
 unwritten a i (suc n) t none = (t, inl (none, refl), unwritten a (suc i) n t none)
 
 -- the fields of a replica are due one after the other
-pub wrote_row : (n a b i : ℕ) (t : Tables) → IsReplicaAt t a b → field_place b i + n ≤ length t.news → WroteRow a i n t (with_due_row t (field_place b i) n)
+pub wrote_row : (n a b i : ℕ) (t : Tables) → IsReplicaAt t a b → field_place b i + n ≤ length t.news → WroteRow a i n t (with_due_row true t (field_place b i) n)
 wrote_row zero a b i t is within = refl
 wrote_row (suc n) a b i t is within =
     let next : suc (field_place b i) ≡ field_place b (suc i) = omega arith in
     let later : IsReplicaAt (with_due t (field_place b i) true) a b = record { low = is.low; taken = is.taken; origin = is.origin } in (
       with_due t (field_place b i) true,
       inr (b, is, omega arith, refl),
-      subst (λ p. WroteRow a (suc i) n (with_due t (field_place b i) true) (with_due_row (with_due t (field_place b i) true) p n)) (sym next)
+      subst (λ p. WroteRow a (suc i) n (with_due t (field_place b i) true) (with_due_row true (with_due t (field_place b i) true) p n)) (sym next)
           (wrote_row n a b (suc i) (with_due t (field_place b i) true) later (omega (arith, length-set t.news (field_place b i) 3))),
     )
 
 -- ---- the codes
 
-row_length : (n p : ℕ) (codes : List ℕ) → length (row_set codes p n) ≡ length codes
-row_length zero p codes = refl
-row_length (suc n) p codes = row_length n (suc p) (set codes p 3) ∙ length-set codes p 3
+row_length : (code n p : ℕ) (codes : List ℕ) → length (row_set code codes p n) ≡ length codes
+row_length code zero p codes = refl
+row_length code (suc n) p codes = row_length code n (suc p) (set codes p code) ∙ length-set codes p code
 
-row_before : (n p k : ℕ) (codes : List ℕ) → k < p → get_or (row_set codes p n) k 0 ≡ get_or codes k 0
-row_before zero p k codes low = refl
-row_before (suc n) p k codes low = row_before n (suc p) k (set codes p 3) (omega arith) ∙ get_or-set_other codes p k 3 0 (λ e. omega arith)
+row_before : (code n p k : ℕ) (codes : List ℕ) → k < p → get_or (row_set code codes p n) k 0 ≡ get_or codes k 0
+row_before code zero p k codes low = refl
+row_before code (suc n) p k codes low = row_before code n (suc p) k (set codes p code) (omega arith) ∙ get_or-set_other codes p k code 0 (λ e. omega arith)
 
-row_behind : (n p k : ℕ) (codes : List ℕ) → p + n ≤ k → get_or (row_set codes p n) k 0 ≡ get_or codes k 0
-row_behind zero p k codes high = refl
-row_behind (suc n) p k codes high = row_behind n (suc p) k (set codes p 3) (omega arith) ∙ get_or-set_other codes p k 3 0 (λ e. omega arith)
+row_behind : (code n p k : ℕ) (codes : List ℕ) → p + n ≤ k → get_or (row_set code codes p n) k 0 ≡ get_or codes k 0
+row_behind code zero p k codes high = refl
+row_behind code (suc n) p k codes high = row_behind code n (suc p) k (set codes p code) (omega arith) ∙ get_or-set_other codes p k code 0 (λ e. omega arith)
 
-row_within : (n p k : ℕ) (codes : List ℕ) → p + n ≤ length codes → p ≤ k → k < p + n → get_or (row_set codes p n) k 0 ≡ 3
-row_within zero p k codes fits low high = absurd (omega arith)
-row_within (suc n) p k codes fits low high = elim (cases_eq k p) [
-  | inl same ↦ row_before n (suc p) k (set codes p 3) (omega arith) ∙ (ap (λ j. get_or (set codes p 3) j 0) same ∙ get_or-set_same codes p 3 0 (omega arith))
-  | inr other ↦ row_within n (suc p) k (set codes p 3) (omega (arith, length-set codes p 3)) (omega arith) (omega arith)
+row_within : (code n p k : ℕ) (codes : List ℕ) → p + n ≤ length codes → p ≤ k → k < p + n → get_or (row_set code codes p n) k 0 ≡ code
+row_within code zero p k codes fits low high = absurd (omega arith)
+row_within code (suc n) p k codes fits low high = elim (cases_eq k p) [
+  | inl same ↦ row_before code n (suc p) k (set codes p code) (omega arith) ∙ (ap (λ j. get_or (set codes p code) j 0) same ∙ get_or-set_same codes p code 0 (omega arith))
+  | inr other ↦ row_within code n (suc p) k (set codes p code) (omega (arith, length-set codes p code)) (omega arith) (omega arith)
 ]
 
--- codes that are 3 at these places, and else what they were
-pub row_filled : (before now : List ℕ) (p n : ℕ) → length now ≡ length before → p + n ≤ length before → ((k : ℕ) → p ≤ k → k < p + n → get_or now k 0 ≡ 3) → ((k : ℕ) → (k < p) ⊎ (p + n ≤ k) → get_or now k 0 ≡ get_or before k 0) → now ≡ row_set before p n
-row_filled before now p n same fits filled others = ext_get_or 0 now (row_set before p n) (same ∙ sym (row_length n p before)) (λ k within. at k)
+-- codes that are this one at these places, and else what they were
+pub row_is_set : (code : ℕ) (before now : List ℕ) (p n : ℕ) → length now ≡ length before → p + n ≤ length before → ((k : ℕ) → p ≤ k → k < p + n → get_or now k 0 ≡ code) → ((k : ℕ) → (k < p) ⊎ (p + n ≤ k) → get_or now k 0 ≡ get_or before k 0) → now ≡ row_set code before p n
+row_is_set code before now p n same fits within_is others = ext_get_or 0 now (row_set code before p n) (same ∙ sym (row_length code n p before)) (λ k within. at k)
   where
-    at : (k : ℕ) → get_or now k 0 ≡ get_or (row_set before p n) k 0
-    at k = elim (Rattle.std.proofs.lemmas.Bool.cases_lt k p) [
-      | inl low ↦ others k (inl low) ∙ sym (row_before n p k before low)
-      | inr past ↦ elim (Rattle.std.proofs.lemmas.Bool.cases_lt k (p + n)) [
-        | inl high ↦ filled k past high ∙ sym (row_within n p k before fits past high)
-        | inr behind ↦ others k (inr behind) ∙ sym (row_behind n p k before behind)
+    at : (k : ℕ) → get_or now k 0 ≡ get_or (row_set code before p n) k 0
+    at k = elim (cases_lt k p) [
+      | inl low ↦ others k (inl low) ∙ sym (row_before code n p k before low)
+      | inr past ↦ elim (cases_lt k (p + n)) [
+        | inl high ↦ within_is k past high ∙ sym (row_within code n p k before fits past high)
+        | inr behind ↦ others k (inr behind) ∙ sym (row_behind code n p k before behind)
       ]
     ]
 
 -- ---- the count
 
-dues_same : (n p q : ℕ) (codes : List ℕ) → p < q → dues_from (set codes p 3) q n ≡ dues_from codes q n
-dues_same zero p q codes less = refl
-dues_same (suc n) p q codes less = (λ i. bit (get_or-set_other codes p q 3 0 (λ e. omega arith) i == 3) + dues_same n p (suc q) codes (omega arith) i)
+dues_same : (code n p q : ℕ) (codes : List ℕ) → p < q → dues_from (set codes p code) q n ≡ dues_from codes q n
+dues_same code zero p q codes less = refl
+dues_same code (suc n) p q codes less = (λ i. bit (get_or-set_other codes p q code 0 (λ e. omega arith) i == 3) + dues_same code n p (suc q) codes (omega arith) i)
 
-row_count : (n p : ℕ) (codes : List ℕ) → p + n ≤ length codes → missing_in (row_set codes p n) + dues_from codes p n ≡ missing_in codes + n
-row_count zero p codes fits = refl
-row_count (suc n) p codes fits =
-    let rest : missing_in (row_set (set codes p 3) (suc p) n) + dues_from (set codes p 3) (suc p) n ≡ missing_in (set codes p 3) + n = row_count n (suc p) (set codes p 3) (omega (arith, length-set codes p 3)) in
-    let one : missing_in (set codes p 3) + bit (get_or codes p 0 == 3) ≡ missing_in codes + 1 = set_count codes p true (omega arith) in
-    let same : dues_from (set codes p 3) (suc p) n ≡ dues_from codes (suc p) n = dues_same n p (suc p) codes (omega arith) in
+-- how many of so many places are due
+abbrev pub dues_of : Bool → ℕ → ℕ
+dues_of due n = if due then n else 0
+
+one_more : (due : Bool) (n : ℕ) → dues_of due (suc n) ≡ bit due + dues_of due n
+one_more due n = grind (arith, common_steps)
+
+row_count : (due : Bool) (n p : ℕ) (codes : List ℕ) → p + n ≤ length codes → missing_in (row_set (code_of due) codes p n) + dues_from codes p n ≡ missing_in codes + dues_of due n
+row_count due zero p codes fits = grind (arith, common_steps)
+row_count due (suc n) p codes fits =
+    let rest : missing_in (row_set (code_of due) (set codes p (code_of due)) (suc p) n) + dues_from (set codes p (code_of due)) (suc p) n ≡ missing_in (set codes p (code_of due)) + dues_of due n
+    = row_count due n (suc p) (set codes p (code_of due)) (omega (arith, length-set codes p (code_of due))) in
+    let one : missing_in (set codes p (code_of due)) + bit (get_or codes p 0 == 3) ≡ missing_in codes + bit due = set_count codes p due (omega arith) in
+    let same : dues_from (set codes p (code_of due)) (suc p) n ≡ dues_from codes (suc p) n = dues_same (code_of due) n p (suc p) codes (omega arith) in
+    let more : dues_of due (suc n) ≡ bit due + dues_of due n = one_more due n in
     omega arith
 
 pub dues_few : (n p : ℕ) (codes : List ℕ) → dues_from codes p n ≤ n
@@ -101,16 +111,25 @@ dues_on (suc a) b p codes =
 
 -- ---- the tables
 
-rows_are : (n p : ℕ) (t : Tables) (codes : List ℕ) → with_due_row (with_news t codes) p n ≡ with_news t (row_set codes p n)
-rows_are zero p t codes = refl
-rows_are (suc n) p t codes = rows_are n (suc p) t (set codes p 3)
+rows_are : (due : Bool) (n p : ℕ) (t : Tables) (codes : List ℕ) → with_due_row due (with_news t codes) p n ≡ with_news t (row_set (code_of due) codes p n)
+rows_are due zero p t codes = refl
+rows_are due (suc n) p t codes = rows_are due n (suc p) t (set codes p (code_of due))
 
-row_is : (n p : ℕ) (t : Tables) → IsKept t → with_due_row t p n ≡ with_news t (row_set t.news p n)
-row_is n p t k = ap (λ (x : Tables). with_due_row x p n) (λ i. record t { missing = k.counted i }) ∙ rows_are n p t t.news
+row_is : (due : Bool) (n p : ℕ) (t : Tables) → IsKept t → with_due_row due t p n ≡ with_news t (row_set (code_of due) t.news p n)
+row_is due n p t k = ap (λ (x : Tables). with_due_row due x p n) (λ i. record t { missing = k.counted i }) ∙ rows_are due n p t t.news
 
-pub kept_row : (n p : ℕ) (t : Tables) → IsKept t → IsKept (with_due_row t p n)
-kept_row zero p t k = k
-kept_row (suc n) p t k = kept_row n (suc p) (with_due t p true) (kept_due t p true k)
+pub kept_row : (due : Bool) (n p : ℕ) (t : Tables) → IsKept t → IsKept (with_due_row due t p n)
+kept_row due zero p t k = k
+kept_row due (suc n) p t k = kept_row due n (suc p) (with_due t p due) (kept_due t p due k)
+
+-- the last place of a row
+pub row_last : (due : Bool) (n p : ℕ) (t : Tables) → with_due_row due t p (suc n) ≡ with_due (with_due_row due t p n) (p + n) due
+row_last due zero p t = ap (λ q. with_due t q due) (let e : p ≡ p + 0 = omega arith in e)
+row_last due (suc n) p t = row_last due n (suc p) (with_due t p due) ∙ ap (λ q. with_due (with_due_row due (with_due t p due) (suc p) n) q due) (let e : suc p + n ≡ p + suc n = omega arith in e)
+
+-- those that are due are among those counted
+pub dues_missing : (n p : ℕ) (codes : List ℕ) → p + n ≤ length codes → dues_from codes p n ≤ missing_in codes
+dues_missing n p codes fits = let all : missing_in (row_set 0 codes p n) + dues_from codes p n ≡ missing_in codes + 0 = row_count false n p codes fits in omega arith
 
 -- ---- what the code does
 
@@ -123,10 +142,10 @@ count_step codes first k count dues all less sum =
     let rest : dues_from codes (first + (k + 1)) (count - (k + 1)) ≡ dues_from codes (suc (first + k)) (count - (k + 1)) = ap (λ p. dues_from codes p (count - (k + 1))) next in
     omega arith
 
-pub row_made : (t : Tables) (place count dues : ℕ) (news : List ℕ) → IsKept t → place + count ≤ length t.news → news ≡ row_set t.news place count → dues ≡ dues_from t.news place count → record t { news = news; missing = t.missing + (count - dues) } ≡ with_due_row t place count
-row_made t place count dues news k fits is counted =
-    let all : missing_in (row_set t.news place count) + dues_from t.news place count ≡ missing_in t.news + count = row_count count place t.news fits in
-    let few : dues_from t.news place count ≤ count = dues_few count place t.news in
+pub row_made : (due : Bool) (t : Tables) (place count dues m : ℕ) (news : List ℕ) → IsKept t → place + count ≤ length t.news → news ≡ row_set (code_of due) t.news place count → dues ≡ dues_from t.news place count
+    → m + dues ≡ t.missing + dues_of due count → record t { news = news; missing = m } ≡ with_due_row due t place count
+row_made due t place count dues m news k fits is counted sum =
+    let all : missing_in (row_set (code_of due) t.news place count) + dues_from t.news place count ≡ missing_in t.news + dues_of due count = row_count due count place t.news fits in
     let was : t.missing ≡ missing_in t.news = k.counted in
-    let now : t.missing + (count - dues) ≡ missing_in (row_set t.news place count) = omega arith in
-    (λ i. record t { news = is i; missing = now i }) ∙ sym (row_is count place t k)
+    let now : m ≡ missing_in (row_set (code_of due) t.news place count) = omega arith in
+    (λ i. record t { news = is i; missing = now i }) ∙ sym (row_is due count place t k)

@@ -37,8 +37,9 @@ impl Model for CodeRow {
 }
 
 impl CodeRow {
-    ghost use Rattle.std.specs.Prelude.{◌≡◌, ◌+◌, ◌<◌, ◌≤◌, ◌∷◌, ◌++◌, ◌-◌, [], IfOk, OnOk, IsTrue, length, replicate, take, slice_index, slice_index_or, slice_set, ◌⊎◌, ◌≢◌, ◌%◌, ◌/◌, ℕ};
+    ghost use Rattle.std.specs.Prelude.{◌≡◌, ◌+◌, ◌<◌, ◌≤◌, ◌∷◌, ◌++◌, ◌-◌, [], IfOk, OnOk, IsTrue, length, replicate, take, slice_index, slice_index_or, slice_set, ◌⊎◌, ◌≢◌, ◌%◌, ◌/◌, ℕ, IsFalse};
     ghost use Rattle.gc_along.specs.Internal.InWords.{freed};
+    ghost use Rattle.gc_along.specs.Events.{code_of};
     ghost use Rattle.gc_along.specs.Internal.Rows.{dues_from, row_set};
 
     /// Returns a row of place 0 alone, whose code is 0, with room for so many places. Allocates once.
@@ -179,7 +180,7 @@ impl CodeRow {
     {
         let from = self.len - places;
         if places >= 1 && from % PER_WORD + places <= PER_WORD {
-            self.fill_in_word(from, places);
+            self.set_in_word(from, places, true);
             return;
         }
         self.fill_words(places);
@@ -196,23 +197,23 @@ impl CodeRow {
         let mut from = len - places;
         while from < len {
             let count = min(PER_WORD - from % PER_WORD, len - from);
-            self.fill_in_word(from, count);
+            self.set_in_word(from, count, true);
             from += count;
         }
     }
 
-    /// Gives so many places from this one on code 3, one word of codes after the other.
-    pub(crate) fn fill_from(&mut self, first: usize, count: usize)
+    /// Takes so many places from this one on for due or not, one word of codes after the other: gives them code 3 or 0.
+    pub(crate) fn set_from(&mut self, first: usize, count: usize, due: bool)
         requires within { first + count ≤ length self.old.codes }
         requires few { first + count ≤ 4295098367 }
-        ensures codes { self.new.codes ≡ row_set self.old.codes first count }
+        ensures codes { self.new.codes ≡ row_set (code_of due) self.old.codes first count }
         ensures room { self.old.room ≤ self.new.room }
     {
         let end = first + count;
         let mut from = first;
         while from < end {
             let some = min(PER_WORD - from % PER_WORD, end - from);
-            self.fill_in_word(from, some);
+            self.set_in_word(from, some, due);
             from += some;
         }
     }
@@ -263,6 +264,44 @@ impl CodeRow {
         dues
     }
 
+    /// Gives so many places from this one on code 0 if all of them have code 3. Returns whether they had; else the row stays as it is.
+    #[inline(always)]
+    pub(crate) fn settle(&mut self, first: usize, count: usize) -> bool
+        requires some { 1 ≤ count }
+        requires within { first + count ≤ length self.old.codes }
+        requires few { first + count ≤ 4295098367 }
+        ensures due { IsTrue result → dues_from self.old.codes first count ≡ count }
+        ensures settled { IsTrue result → self.new.codes ≡ row_set 0 self.old.codes first count }
+        ensures stays { IsFalse result → self.new.codes ≡ self.old.codes }
+        ensures room { self.old.room ≤ self.new.room }
+    {
+        if first % PER_WORD + count > PER_WORD {
+            return self.settle_words(first, count);
+        }
+        if self.count_in_word(first, count) != count {
+            return false;
+        }
+        self.set_in_word(first, count, false);
+        true
+    }
+
+    // Does what `settle` does, one word of codes after the other.
+    #[inline(never)]
+    fn settle_words(&mut self, first: usize, count: usize) -> bool
+        requires within { first + count ≤ length self.old.codes }
+        requires few { first + count ≤ 4295098367 }
+        ensures due { IsTrue result → dues_from self.old.codes first count ≡ count }
+        ensures settled { IsTrue result → self.new.codes ≡ row_set 0 self.old.codes first count }
+        ensures stays { IsFalse result → self.new.codes ≡ self.old.codes }
+        ensures room { self.old.room ≤ self.new.room }
+    {
+        if self.count_from(first, count) != count {
+            return false;
+        }
+        self.set_from(first, count, false);
+        true
+    }
+
     /// Frees the codes of this word.
     pub(crate) fn free(&mut self, word: usize)
         ensures len { length self.new.codes ≡ length self.old.codes }
@@ -276,23 +315,24 @@ impl CodeRow {
         self.words[word] = freed(self.words[word]);
     }
 
-    // Gives so many places of one word code 3.
+    // Takes so many places of one word for due or not.
     #[inline(always)]
-    fn fill_in_word(&mut self, from: usize, count: usize)
+    fn set_in_word(&mut self, from: usize, count: usize, due: bool)
         requires some { 1 ≤ count }
         requires word { from % 32 + count ≤ 32 }
         requires within { from + count ≤ length self.old.codes }
         ensures len { length self.new.codes ≡ length self.old.codes }
-        ensures filled { (place : ℕ) → from ≤ place → place < from + count → slice_index self.new.codes place ≡ 3 }
+        ensures run { (place : ℕ) → from ≤ place → place < from + count → slice_index self.new.codes place ≡ code_of due }
         ensures others { (place : ℕ) → (place < from) ⊎ (from + count ≤ place) → slice_index self.new.codes place ≡ slice_index self.old.codes place }
         ensures room { self.old.room ≤ self.new.room }
     {
         let at = from / PER_WORD;
-        self.words[at] = filled(self.words[at], from % PER_WORD, count);
+        self.words[at] = with_run(self.words[at], from % PER_WORD, count, due);
     }
 }
 
 ghost use Rattle.std.specs.Prelude.{◌≡◌, ◌≢◌, ◌⊎◌, ◌==◌, ℕ, ◌+◌, ◌-◌, ◌/◌, ◌<◌, ◌≤◌, ◌++◌, replicate, vec_len, vec_capacity};
+ghost use Rattle.gc_along.specs.Events.{code_of};
 ghost use Rattle.gc_along.specs.Internal.Watch.{bit};
 ghost use Rattle.gc_along.specs.Internal.InWords.{code_in, freed};
 
@@ -375,6 +415,21 @@ fn freed(word: u64) -> u64
     let high = word >> 1;
     let twos = high & (high ^ word) & ONES;
     word ^ (3 * twos)
+}
+
+// The word with code 3 at so many places if they are due, else with code 0 there.
+#[inline(always)]
+fn with_run(word: u64, place: usize, count: usize, due: bool) -> u64
+    requires some { 1 ≤ count }
+    requires within { place + count ≤ 32 }
+    ensures run { (k : ℕ) → place ≤ k → k < place + count → code_in result k ≡ code_of due }
+    ensures others { (k : ℕ) → (k < place) ⊎ (place + count ≤ k) → code_in result k ≡ code_in word k }
+{
+    let all = filled(word, place, count);
+    if due {
+        return all;
+    }
+    all ^ filled(0, place, count)
 }
 
 // The word with code 3 at so many places.

@@ -39,7 +39,7 @@ impl Model for OriginRow {
 }
 
 impl OriginRow {
-    ghost use Rattle.std.specs.Prelude.{◌≡◌, ◌+◌, ◌≤◌, ◌∷◌, ◌++◌, [], IfOk, OnOk, length, replicate, slice_index_or};
+    ghost use Rattle.std.specs.Prelude.{◌≡◌, ◌+◌, ◌<◌, ◌≤◌, ◌∷◌, ◌++◌, [], IfOk, OnOk, length, replicate, slice_index_or};
 
     /// Returns a row of place 0 alone, with no original and room for so many places. Allocates twice.
     pub(crate) fn new(alloc: Global, places: u32) -> Result<OriginRow, NoMemory>
@@ -119,7 +119,8 @@ impl OriginRow {
     /// Returns the original of the replica that starts at this place, or 0.
     #[inline(always)]
     pub(crate) fn get(&self, place: usize) -> u32
-        ensures { result ≡ slice_index_or self.now.origins place 0 }
+        ensures origin { result ≡ slice_index_or self.now.origins place 0 }
+        ensures place { 1 ≤ result → place < 4294967295 }
     {
         if place >= self.len {
             return 0;

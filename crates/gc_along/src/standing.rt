@@ -54,7 +54,7 @@ impl Model for Standing {
 }
 
 impl Standing {
-    ghost use Rattle.std.specs.Prelude.{◌≡◌, ◌<◌, ◌≤◌, ◌==◌, ◌%◌, ◌^◌, ◌↔◌, ◌∷◌, ◌++◌, ◌+◌, ◌-◌, Some, [], ℕ, true, IsTrue, IsFalse, ◌⊎◌, IfOk, IfSome, OnOk, OnErr, MatchOption, length, slice_index, slice_index_or};
+    ghost use Rattle.std.specs.Prelude.{◌≡◌, ◌<◌, ◌≤◌, ◌==◌, ◌%◌, ◌^◌, ◌↔◌, ◌∷◌, ◌++◌, ◌+◌, ◌-◌, Some, [], ℕ, true, false, IsTrue, IsFalse, ◌⊎◌, IfOk, IfSome, OnOk, OnErr, MatchOption, length, slice_index, slice_index_or};
     ghost use Rattle.gc_graph.specs.Correspond.{paired};
     ghost use Rattle.gc_words.specs.Word.{words_correspond, field_words_correspond};
     ghost use Rattle.gc_words.specs.declared.header.Header.{Header};
@@ -68,7 +68,8 @@ impl Standing {
     ghost use Rattle.gc_along.specs.Internal.Rows.{with_due_row};
     ghost use Rattle.gc_along.specs.Runs.{PlacedAll, CanPlaceAll, LookedAll, CanLookAll};
     ghost use Rattle.gc_along.specs.Internal.Runs.{LooksTo};
-    ghost use Rattle.gc_words.specs.Word.{read_header};
+    ghost use Rattle.gc_graph.specs.Graph.{Ref};
+    ghost use Rattle.gc_words.specs.Word.{read_header, read_value};
     ghost use Rattle.gc_along.specs.Tables.{Tables};
     ghost use Rattle.gc_along.specs.Claims.{Accepts, CanApply, CanLook, CanMake, CanPlaceNext, CanWrite, CanWriteRow, IsLinked, OwesNone};
 
@@ -290,34 +291,72 @@ impl Standing {
         }
         let mut place = at;
         let mut field = i;
-        while place < to || (place == to && field < end) {
+        while place < to {
             let Some(header) = header_at(new, place) else {
                 self.lost = true;
                 return;
             };
-            if header.is_raw() || field == header.len() {
-                if to <= place || u32::from(header.len()) + 2 > to - place {
-                    self.lost = true;
-                    return;
-                }
-                place += u32::from(header.len()) + 2;
-                field = 0;
-            } else {
-                let stop = if place < to { header.len() } else { end };
-                if field >= stop {
-                    self.lost = true;
-                    return;
-                }
-                self.look_fields(old, new, header, place, field, stop);
-                if self.lost {
-                    return;
-                }
-                field = stop;
+            self.look_rest(old, new, header, place, field);
+            if self.lost {
+                return;
             }
+            if u32::from(header.len()) + 2 > to - place {
+                self.lost = true;
+                return;
+            }
+            place += u32::from(header.len()) + 2;
+            field = 0;
         }
-        if place != to || field != end {
+        if place != to || field > end {
             self.lost = true;
+            return;
         }
+        if field < end {
+            self.look_last(old, new, to, field, end);
+        }
+    }
+
+    // Compares the fields from `first` on of the replica at `at`, which has this header, unless it is raw.
+    #[inline(always)]
+    fn look_rest(&mut self, old: &[u64], new: &[u64], header: Header, at: u32, first: u16)
+        requires found { IsFalse self.old.lost }
+        requires header { read_header (slice_index new.now at) ≡ Some header }
+        ensures raw { IsTrue header.raw → self.new ≡ self.old }
+        ensures looked { IsFalse header.raw → IsFalse self.new.lost → (first ≤ header.len) × LooksTo old.now new.now at first (header.len - first) self.old self.new }
+        ensures stays { IsFalse header.raw → first ≤ header.len
+            → ((k : ℕ) (mid : Tables) → first + k < header.len → LooksTo old.now new.now at first k self.old mid → CanLook old.now new.now at (first + k) mid)
+            → IsFalse self.new.lost }
+    {
+        if header.is_raw() || first == header.len() {
+            return;
+        }
+        if first > header.len() {
+            self.lost = true;
+            return;
+        }
+        self.look_fields(old, new, header, at, first, header.len());
+    }
+
+    // Compares the fields from `first` on, and before `stop`, of the replica at `at`, which may not be raw.
+    #[inline(never)]
+    fn look_last(&mut self, old: &[u64], new: &[u64], at: u32, first: u16, stop: u16)
+        requires found { IsFalse self.old.lost }
+        requires more { first < stop }
+        ensures looked { IsFalse self.new.lost → (h : Header) × (read_header (slice_index new.now at) ≡ Some h) × (h.raw ≡ false)
+            × LooksTo old.now new.now at first (stop - first) self.old self.new }
+        ensures stays { (h : Header) → at < length new.now → read_header (slice_index new.now at) ≡ Some h → IsFalse h.raw
+            → ((k : ℕ) (mid : Tables) → first + k < stop → LooksTo old.now new.now at first k self.old mid → CanLook old.now new.now at (first + k) mid)
+            → IsFalse self.new.lost }
+    {
+        let Some(header) = header_at(new, at) else {
+            self.lost = true;
+            return;
+        };
+        if header.is_raw() {
+            self.lost = true;
+            return;
+        }
+        self.look_fields(old, new, header, at, first, stop);
     }
 
     // Compares the fields from `first` on, and before `stop`, of the replica at `at`, which has this header.
@@ -349,11 +388,54 @@ impl Standing {
             self.look_each(old, new, at, first, stop);
             return;
         }
-        for i in first..stop {
-            let place = field_index(Addr(at), i);
-            let alike = self.is_alike(header, old[field_index(Addr(original), i)], new[place]);
-            self.set_due(place, !alike);
+        let from = field_index(Addr(original), first);
+        let place = field_index(Addr(at), first);
+        let count = usize::from(stop - first);
+        if self.are_alike(header, old, from, new, place, count) && self.settle(place, count) {
+            return;
         }
+        self.look_each(old, new, at, first, stop);
+    }
+
+    // Whether so many words of both, from these places on, are fields that stand for each other, of objects with this header.
+    #[inline(always)]
+    fn are_alike(
+        &self,
+        header: Header,
+        old: &[u64],
+        from: usize,
+        new: &[u64],
+        place: usize,
+        count: usize,
+    ) -> bool
+        requires old { from + count ≤ length old.now }
+        requires new { place + count ≤ length new.now }
+        ensures { IsTrue result → (k : ℕ) → k < count
+            → IsTrue (field_words_correspond header (pairs_in self.now.origins) (slice_index old.now (from + k)) (slice_index new.now (place + k))) }
+    {
+        for k in 0..count {
+            if !self.is_alike(header, old[from + k], new[place + k]) {
+                return false;
+            }
+        }
+        true
+    }
+
+    // Takes so many places from this one on for compared, if all of them are due. Returns whether they were; else all stays as it is.
+    #[inline(always)]
+    fn settle(&mut self, place: usize, count: usize) -> bool
+        requires found { IsFalse self.old.lost }
+        requires some { 1 ≤ count }
+        requires within { place + count ≤ length self.old.news }
+        requires few { place + count ≤ 4295098367 }
+        ensures settled { IsTrue result → self.new ≡ with_due_row false self.old place count }
+        ensures stays { IsFalse result → self.new ≡ self.old }
+    {
+        if !self.news.settle(place, count) {
+            return false;
+        }
+        self.missing -= count;
+        true
     }
 
     // Compares the fields from `first` on, and before `stop`, of the replica at `at`, if it has them.
@@ -384,12 +466,20 @@ impl Standing {
         if self.lost {
             return;
         }
-        if !self.is_taken(a) {
-            return;
-        }
         match self.replica(old, a) {
-            None => self.lose(),
             Some(at) => self.look(old, new, at, i),
+            None => self.lose_taken(a),
+        }
+    }
+
+    // The link of the object at `a` leads to no replica. If one was seen, something is not as it was told.
+    fn lose_taken(&mut self, a: u32)
+        requires found { IsFalse self.old.lost }
+        ensures none { IsFalse self.new.lost → HasNoReplica self.old a × (self.new ≡ self.old) }
+        ensures stays { (slice_index_or self.old.olds a 0 ≡ 2 → ⊥) → IsFalse self.new.lost }
+    {
+        if self.is_taken(a) {
+            self.lost = true;
         }
     }
 
@@ -437,7 +527,7 @@ impl Standing {
     fn set_row(&mut self, place: usize, count: usize)
         requires found { IsFalse self.old.lost }
         requires few { place + count ≤ 4295098367 }
-        ensures wrote { IsFalse self.new.lost → (place + count ≤ length self.old.news) × (self.new ≡ with_due_row self.old place count) }
+        ensures wrote { IsFalse self.new.lost → (place + count ≤ length self.old.news) × (self.new ≡ with_due_row true self.old place count) }
         ensures stays { place + count ≤ length self.old.news → IsFalse self.new.lost }
     {
         if place + count > self.news.len() {
@@ -445,7 +535,7 @@ impl Standing {
             return;
         }
         let dues = self.news.count_from(place, count);
-        self.news.fill_from(place, count);
+        self.news.set_from(place, count, true);
         self.missing += count - dues;
     }
 
@@ -535,19 +625,38 @@ impl Standing {
         self.is_correspondence(old, new)
     }
 
-    // Whether the words are values that stand for each other. Equal numbers, two nils and two references are told first, since they need no full
-    // decoding.
+    // Whether the words are values that stand for each other. Equal numbers, two nils and a reference to an object and one to its replica are told
+    // first, since they need no full decoding.
     #[inline(always)]
     fn is_correspondence(&self, old: u64, new: u64) -> bool
         ensures { result ≡ words_correspond (pairs_in self.now.origins) old new }
     {
-        if old == new && is_plain(old) {
-            return true;
-        }
-        if let (Some(address), Some(other)) = (reference_in(old), reference_in(new)) {
-            return self.is_partner(address, other);
+        match reference_in(old) {
+            Some(address) => {
+                if self.refers_to_replica(new, address) {
+                    return true;
+                }
+            }
+            None => {
+                if old == new && is_plain(old) {
+                    return true;
+                }
+            }
         }
         self.is_other_correspondence(old, new)
+    }
+
+    // Whether the word refers to the replica of this object.
+    #[inline(always)]
+    fn refers_to_replica(&self, word: u64, original: Addr) -> bool
+        requires { 1 ≤ original.0 }
+        ensures { IsTrue result → (b : ℕ) × (read_value word ≡ Some (Ref b)) × IsTrue (paired (pairs_in self.now.origins) original.0 b) }
+    {
+        origins_tell_pairs();
+        if word == 0 || word % 2 == 1 {
+            return false;
+        }
+        self.origins.get((word / 2) as usize) == original.0
     }
 
     // Decodes both words, whatever they are, and returns whether they stand for each other.

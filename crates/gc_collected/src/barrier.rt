@@ -188,6 +188,7 @@ pub(crate) fn scan(collection: &mut Collection, heap: &mut Heap, watch: &mut Sta
 
 /// Applies the oldest entry of mutator `m`'s log, as `Collection::apply_log` does. The monitor is told of a new replica, and then looks at the
 /// entry's field.
+#[inline(always)]
 pub(crate) fn apply_log(
     collection: &mut Collection,
     m: u8,
@@ -213,6 +214,25 @@ pub(crate) fn apply_log(
     watch.placed(old, new);
     watch.applied(old, new, entry.object.0, entry.field);
     reply
+}
+
+/// Applies entries in order.
+pub(crate) fn apply_run(
+    collection: &mut Collection,
+    m: u8,
+    heap: &mut Heap,
+    watch: &mut Standing,
+    most: u32,
+    until: u32,
+) -> ScanRun
+{
+    let mut steps = 1;
+    let mut reply = apply_log(collection, m, heap, watch);
+    while steps < most && collection.applies_on(m, reply, until) {
+        reply = apply_log(collection, m, heap, watch);
+        steps += 1;
+    }
+    ScanRun { steps, reply }
 }
 
 // ---- with or without an open collection

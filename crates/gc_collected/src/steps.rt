@@ -208,6 +208,21 @@ impl CollectedHeap {
         }
     }
 
+    /// Applies entries.
+    pub fn apply_run(&mut self, m: u8, most: u32, until: u32) -> ScanRun
+        requires { m < self.old.core.mutators }
+    {
+        match &mut self.collection {
+            None => ScanRun {
+                steps: 1,
+                reply: StepReply::Idle,
+            },
+            Some(collection) => {
+                barrier::apply_run(collection, m, &mut self.heap, &mut self.watch, most, until)
+            }
+        }
+    }
+
     /// Gives the open collection up. Its new space is left for the next one, and the entries of its logs are freed. Returns `Dropped`, or `Idle`
     /// if none is open. Does not allocate. The time does not depend on how far the collection has come.
     pub fn give_up(&mut self) -> StepReply

@@ -150,6 +150,13 @@ fn some_steps(
     if let Step::Scan = step {
         return Ok(some_scans(heap, size, most, until));
     }
+    if let Step::Apply(m) = step {
+        let run = heap.apply_run(m, most, until);
+        return Ok(Run {
+            steps: run.steps,
+            reply: run.reply,
+        });
+    }
     let reply = one_step(heap, size, step)?;
     Ok(Run { steps: 1, reply })
 }

@@ -117,6 +117,7 @@ impl Collection {
 
     /// Reads the original's field as it is now, and writes the same nil, number or raw word to the replica. For a reference
     /// it writes one to the target's replica, which it places first if there is none.
+    #[inline(always)]
     pub(super) fn bring_up_to_date(
         &mut self,
         heap: &mut Heap,
@@ -187,6 +188,7 @@ impl Collection {
     }
 
     /// Brings the entry's field up to date, or does nothing if its object has no replica.
+    #[inline(always)]
     pub(super) fn apply_entry(&mut self, heap: &mut Heap, entry: LogEntry) -> Result<(), NoRoom>
         requires belongs { BelongsTo heap.old self.old }
         requires field { IsSome (field_at heap.old.space.words entry.object.0 entry.field) }
@@ -214,6 +216,7 @@ pub fn link_mark(epoch: u32) -> u64
 }
 
 /// Places a fresh replica in the new space, and returns its address.
+#[inline(always)]
 fn place_fresh(space: &mut Space, heap: &Heap, original: OldAddr) -> Addr
     requires start { IsTrue (is_start heap.now.space.words original.0) }
     requires room { (h : Header) → header_at heap.now.space.words original.0 ≡ Some h → HasRoomFor space.old h.len }

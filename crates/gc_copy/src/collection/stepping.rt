@@ -240,6 +240,13 @@ impl Collection {
         }
     }
 
+    /// Returns whether a further entry may follow.
+    #[inline(always)]
+    pub fn applies_on(&self, m: u8, reply: StepReply, until: u32) -> bool
+    {
+        matches!(reply, StepReply::Applied) && self.scan_done() && !self.logs[m as usize].is_empty() && self.end() < until
+    }
+
     /// Returns whether the scan pointer is at the new end.
     pub fn scan_done(&self) -> bool
         ensures { result ≡ scan_done_in (collection_in self.now) }

@@ -1,6 +1,6 @@
 -- A turn counts the places of one word.
 use Rattle.std.proofs.lemmas.Grind.{common_steps}
-use Rattle.std.proofs.Common.{◌≡◌, ◌≤◌, ◌+◌, ◌-◌, ap, sym, ◌∙◌, arith}
+use Rattle.std.proofs.Common.{◌≡◌, ◌≤◌, ◌+◌, ◌-◌, ap, arith}
 use Rattle.gc_along.specs.Internal.Rows.{dues_from}
 use Rattle.gc_along.proofs.RowsDue.{dues_few, dues_on}
 use Rattle.gc_along.proofs.code_row.CodeRow.count_from.Goals as goal

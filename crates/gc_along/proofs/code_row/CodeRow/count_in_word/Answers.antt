@@ -1,5 +1,5 @@
 -- If the word is as it is when all these places have code 3, all have it.
-use Rattle.std.proofs.Common.{◌≡◌, ◌<◌, ◌+◌, ◌-◌, ◌/◌, ◌%◌, get_or, length, sym, ◌∙◌, ap, subst, arith}
+use Rattle.std.proofs.Common.{◌≡◌, ◌+◌, ◌-◌, ◌/◌, ◌%◌, get_or, sym, ◌∙◌, ap, subst, arith}
 use Rattle.gc_along.specs.Internal.InWords.{code_in}
 use Rattle.gc_along.proofs.Packed.{code_read, seen_length}
 use Rattle.gc_along.proofs.RowsDue.{all_due}

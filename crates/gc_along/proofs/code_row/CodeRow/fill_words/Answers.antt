@@ -19,8 +19,8 @@ loop-from-init c =
       others = λ place low. refl;
     }
 
-pub fill_in_word-requires-clause-within : goal.fill_in_word-requires-clause-within
-fill_in_word-requires-clause-within c = grind (arith, common_steps, c.loop-from.invariant.len, seen_length _ _ _ _ c.self.view_is)
+pub set_in_word-requires-clause-within : goal.set_in_word-requires-clause-within
+set_in_word-requires-clause-within c = grind (arith, common_steps, c.loop-from.invariant.len, seen_length _ _ _ _ c.self.view_is)
 
 pub loop-from-smaller : goal.loop-from-smaller
 loop-from-smaller c = grind (arith, common_steps, seen_length _ _ _ _ c.self.view_is)

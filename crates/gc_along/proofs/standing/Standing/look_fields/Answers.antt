@@ -1,48 +1,33 @@
--- A turn compares one field more.
-use Rattle.std.proofs.Common.{◌≡◌, suc, ◌+◌, ◌-◌, ◌<◌, ◌≤◌, length, not, ap, sym, subst, ◌∙◌, arith, length-set}
-use Rattle.std.specs.Prelude.{slice_index, slice_index_or}
+-- All these fields are due and stand for their originals', so they are settled at once.
+use Rattle.std.proofs.Common.{◌≡◌, ℕ, ◌+◌, ◌-◌, length, false, IsTrue, ap, sym, subst, ◌∙◌, arith}
+use Rattle.std.specs.Prelude.{slice_index}
 use Rattle.gc_words.specs.Word.{field_words_correspond}
 use Rattle.gc_words.specs.Layout.{field_place}
-use Rattle.gc_along.specs.Events.{Looked, IsFieldOf, with_due, code_of}
-use Rattle.gc_along.specs.Origins.{pairs_in}
+use Rattle.gc_along.specs.Internal.Rows.{with_due_row}
 use Rattle.gc_along.specs.Internal.Runs.{LooksTo}
+use Rattle.gc_along.specs.Origins.{pairs_in}
 use Rattle.gc_along.specs.Tables.{Tables}
+use Rattle.gc_along.proofs.Runs.{looked_row, row_lost}
 use Rattle.gc_along.proofs.standing.Standing.look_fields.Goals as goal
 
-pub loop-i-preserved : goal.loop-i-preserved
-loop-i-preserved c =
-    let t = c.loop-i.self in
-    let after = c.set_due.new.self in
+pub returns-then-settle-clause-looked : goal.returns-then-settle-clause-looked
+returns-then-settle-clause-looked c = λ found.
+    let t = c.args.self.now in
     let a = c.origin_at-original.result in
-    let i = c.loop-i.i in
-    let same = c.loop-i.invariant.2 in
-    let count = c.loop-i.invariant.3 in
-    let place = c.field_index-place.ensures in
-    let from = c.field_index-in-loop-i.ensures in
-    let is : after ≡ with_due t c.field_index-place.result (not c.is_alike-alike.result) = c.set_due.ensures in
+    let n = c.args.stop - c.args.first in
+    let few : c.args.first + n ≡ c.args.stop = omega (arith, c.requires.more) in
     let last : c.field_index-last.result ≡ field_place c.args.at c.args.stop = c.field_index-last.ensures in
     let end : c.field_index.result ≡ field_place a c.args.stop = c.field_index.ensures in
-    let small : i < c.args.header.len = omega (arith, c.if-stop-len.false, c.len.ensures) in
-    let view : length c.self.inside.news.codes ≡ length c.args.self.now.news = ap (λ (x : Tables). length x.news) c.self.view_is in
-    let in_news : field_place c.args.at i < length t.news = omega (arith, c.if-last-len.false, c.len-else-stop-len.ensures, last, count, view) in
-    let in_new : field_place c.args.at i < length c.args.new.now = omega (arith, c.if-last-new.false, last) in
-    let in_old : field_place a i < length c.args.old.now = omega (arith, c.if-field_index-old.false, end) in
-    let low : 1 ≤ a = omega (arith, c.if-original-eq0.false) in
-    let field : IsFieldOf c.args.new.now t c.args.header a c.args.at i = record {
-      header = c.requires.header;
-      has_field = small;
-      origin = ap (λ os. slice_index_or os c.args.at 0) same ∙ sym c.origin_at-original.ensures;
-      low = low;
-      within = in_news;
-    } in
-    let alike : c.is_alike-alike.result ≡ field_words_correspond c.args.header (pairs_in t.origins) (slice_index c.args.old.now (field_place a i)) (slice_index c.args.new.now (field_place c.args.at i))
-    = c.is_alike-alike.ensures ∙ (λ j. field_words_correspond c.args.header (pairs_in t.origins) (slice_index c.args.old.now (from j)) (slice_index c.args.new.now (place j))) in
-    let looked : Looked c.args.old.now c.args.new.now c.args.at i t after = (c.args.header, a, field, in_old, in_new, is ∙ (λ j. with_due t (place j) (not (alike j)))) in
-    let at : suc (i - c.args.first) ≡ i + 1 - c.args.first = omega arith in
-    let here : i ≡ c.args.first + (i - c.args.first) = omega arith in (
-      ap (λ (x : Tables). x.lost) is ∙ c.loop-i.invariant.0,
-      subst (λ n. LooksTo c.args.old.now c.args.new.now c.args.at c.args.first n c.args.self.now after) at
-          (t, c.loop-i.invariant.1, subst (λ n. Looked c.args.old.now c.args.new.now c.args.at n t after) here looked),
-      ap (λ (x : Tables). x.origins) is ∙ same,
-      ap (λ (x : Tables). length x.news) is ∙ (length-set t.news c.field_index-place.result (code_of (not c.is_alike-alike.result)) ∙ count),
-    )
+    let from : c.field_index-from.result ≡ field_place a c.args.first = c.field_index-from.ensures in
+    let place : c.field_index-place.result ≡ field_place c.args.at c.args.first = c.field_index-place.ensures in
+    let count : c.from-count.result ≡ n = c.from-count.ensures in
+    let view : length c.self.inside.news.codes ≡ length t.news = ap (λ (x : Tables). length x.news) c.self.view_is in
+    let alike = c.are_alike.ensures c.if-are_alike.true in
+    let row = looked_row c.args.old.now c.args.new.now c.args.header a c.args.at c.args.first n t c.requires.header (omega (arith, c.if-original-eq0.false)) (sym c.origin_at-original.ensures)
+    (omega (arith, few, c.if-stop-len.false, c.len.ensures))
+    (omega (arith, few, c.if-last-len.false, c.len-else-stop-len.ensures, last, view)) (omega (arith, few, c.if-field_index-old.false, end)) (omega (arith, few, c.if-last-new.false, last))
+    (λ k less. subst (λ (q : ℕ × ℕ). IsTrue (field_words_correspond c.args.header (pairs_in t.origins) (slice_index c.args.old.now (q.0 + k)) (slice_index c.args.new.now (q.1 + k)))) (λ j. (from j, place j)) (alike k (omega (arith, less, count)))) in
+    subst (LooksTo c.args.old.now c.args.new.now c.args.at c.args.first n t) (sym (c.settle.ensures.settled c.if-settle.true ∙ (λ j. with_due_row false t (place j) (count j)))) row
+
+pub returns-then-settle-clause-stays : goal.returns-then-settle-clause-stays
+returns-then-settle-clause-stays c = λ can. ap (λ (t : Tables). t.lost) (c.settle.ensures.settled c.if-settle.true) ∙ (row_lost false c.from-count.result c.field_index-place.result c.args.self.now ∙ c.requires.found)

@@ -1,5 +1,5 @@
 -- So many places are due, and the count goes up by those that were not.
-use Rattle.std.proofs.Common.{◌≡◌, ◌+◌, ◌-◌, length, inr, ap, subst, sym, ◌∙◌, arith}
+use Rattle.std.proofs.Common.{◌≡◌, ◌+◌, ◌-◌, ◌≤◌, true, length, inr, ap, subst, sym, ◌∙◌, arith}
 use Rattle.gc_along.specs.Tables.{Tables, IsKept}
 use Rattle.gc_along.specs.Internal.Rows.{with_due_row}
 use Rattle.gc_along.specs.contracts.standing.Standing.{the_view}
@@ -14,21 +14,24 @@ kept : (c : goal.After-self-2-1) → IsKept (the_view c.self.inside)
 kept c = kept_of _ c.self.invariant.5 (ap (λ (t : Tables). t.lost) c.self.view_is ∙ c.requires.found)
 
 -- the tables have so many places due
-made : (c : goal.After-self-2-1) → record (the_view c.self.inside) { news = c.fill_from.new.self.codes; missing = c.self.inside.missing + (c.args.count - c.count_from-dues.result) } ≡ with_due_row (the_view c.self.inside) c.args.place c.args.count
-made c = row_made (the_view c.self.inside) c.args.place c.args.count c.count_from-dues.result c.fill_from.new.self.codes (kept c) (omega (arith, c.if-place-count.false, c.len.ensures)) c.fill_from.ensures.codes c.count_from-dues.ensures
+made : (c : goal.After-self-2-1) → record (the_view c.self.inside) { news = c.set_from.new.self.codes; missing = c.self.inside.missing + (c.args.count - c.count_from-dues.result) } ≡ with_due_row true (the_view c.self.inside) c.args.place c.args.count
+made c =
+    let few : c.count_from-dues.result ≤ c.args.count = omega (arith, c.count_from-dues.ensures, dues_few c.args.count c.args.place c.self.inside.news.codes) in
+    row_made true (the_view c.self.inside) c.args.place c.args.count c.count_from-dues.result (c.self.inside.missing + (c.args.count - c.count_from-dues.result)) c.set_from.new.self.codes (kept c)
+    (omega (arith, c.if-place-count.false, c.len.ensures)) c.set_from.ensures.codes c.count_from-dues.ensures (omega (arith, few))
 
 pub invariant_of-self-2 : goal.invariant_of-self-2
 invariant_of-self-2 c = (
   c.self.invariant.0,
   c.self.invariant.1,
   c.self.invariant.2,
-  omega (arith, c.self.invariant.3, c.fill_from.ensures.room),
+  omega (arith, c.self.invariant.3, c.set_from.ensures.room),
   c.self.invariant.4,
-  inr (subst IsKept (sym (made c)) (kept_row c.args.count c.args.place (the_view c.self.inside) (kept c))),
+  inr (subst IsKept (sym (made c)) (kept_row true c.args.count c.args.place (the_view c.self.inside) (kept c))),
 )
 
 pub returns-clause-wrote : goal.returns-clause-wrote
 returns-clause-wrote c = λ found. (
   omega (arith, c.if-place-count.false, c.len.ensures, ap (λ (t : Tables). length t.news) c.self.view_is),
-  made c ∙ ap (λ (t : Tables). with_due_row t c.args.place c.args.count) c.self.view_is,
+  made c ∙ ap (λ (t : Tables). with_due_row true t c.args.place c.args.count) c.self.view_is,
 )

@@ -1,6 +1,7 @@
--- From the first place on, the places before this one have code 3, and all others what they had.
+-- From the first place on, the places before this one have the new code, and all others what they had.
 use Rattle.std.proofs.Common.{◌≡◌, ◌⊎◌, ℕ, ◌+◌, ◌-◌, ◌<◌, ◌≤◌, length, get_or}
-use Rattle.gc_along.proofs.code_row.CodeRow.fill_from.Given as goal
+use Rattle.gc_along.specs.Events.{code_of}
+use Rattle.gc_along.proofs.code_row.CodeRow.set_from.Given as goal
 
 abbrev pub invariant-loop-from : goal.invariant-loop-from
 invariant-loop-from l = record {
@@ -8,7 +9,7 @@ invariant-loop-from l = record {
   room : l.fn.self.room ≤ l.self.room;
   low : l.first ≤ l.from;
   high : l.from ≤ l.first + l.count;
-  filled : (place : ℕ) → l.first ≤ place → place < l.from → get_or l.self.codes place 0 ≡ 3;
+  run : (place : ℕ) → l.first ≤ place → place < l.from → get_or l.self.codes place 0 ≡ code_of l.due;
   others : (place : ℕ) → (place < l.first) ⊎ (l.from ≤ place) → get_or l.self.codes place 0 ≡ get_or l.fn.self.codes place 0;
 }
 
