@@ -21,7 +21,7 @@ mod Referred
 mod Reserved
 mod Rooted
 mod Shown
-mod ScansKnow
+mod RunsKnow
 mod Sources
 mod SourcesPut
 mod Starts

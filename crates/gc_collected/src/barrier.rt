@@ -16,7 +16,7 @@ ghost use Rattle.gc_plan.specs.Steps.{collect, mutate, root_target};
 ghost use Rattle.gc_plan.specs.declared.step.Step.{Step};
 ghost use Rattle.gc_plan.specs.declared.step.StepReply.{StepReply};
 ghost use Rattle.gc_plan.specs.Belonging.{IsSpaceGraph, IsOpened};
-ghost use Rattle.gc_copy.specs.Scans.{IsScanRun};
+ghost use Rattle.gc_copy.specs.StepRuns.{IsScanRun, IsApplyRun};
 ghost use Rattle.gc_copy.specs.Words.{collection_in, open_state, spare_of, BelongsTo};
 ghost use Rattle.gc_collected.specs.Internal.Beside.{AreOld, replica_words};
 ghost use Rattle.gc_collected.specs.Internal.Follows.{Follows};
@@ -26,7 +26,7 @@ ghost use Rattle.gc_collected.specs.Internal.CollectedHeap.{BelongsIfOpen, Fits,
 
 use gc_along::Standing;
 use gc_copy::{
-    Collection, MissingRoot, ScanRun, StepReply, heaps_have_addresses_as_names, images_show_links,
+    Collection, MissingRoot, StepReply, StepRun, heaps_have_addresses_as_names, images_show_links,
 };
 use gc_graph::{NoMemory, Reply, Slot};
 use gc_heap::Heap;
@@ -150,7 +150,7 @@ pub(crate) fn scan_run(
     watch: &mut Standing,
     most: u32,
     until: u32,
-) -> ScanRun
+) -> StepRun
     requires belongs { BelongsTo heap.old collection.old }
     requires some { 1 ≤ most }
     ensures run { IsScanRun until result.steps (open_state heap.old collection.old) (open_state heap.new collection.new) result.reply }
@@ -216,7 +216,9 @@ pub(crate) fn apply_log(
     reply
 }
 
-/// Applies entries in order.
+/// Applies entries of mutator `m`'s log in order, the oldest first, at least one and at most `most`. None follows one that finds no room, or that
+/// leaves something to scan or no entry, or after which the new space ends at `until` or beyond it. The monitor is told of each as `apply_log` tells
+/// it.
 pub(crate) fn apply_run(
     collection: &mut Collection,
     m: u8,
@@ -224,7 +226,15 @@ pub(crate) fn apply_run(
     watch: &mut Standing,
     most: u32,
     until: u32,
-) -> ScanRun
+) -> StepRun
+    requires belongs { BelongsTo heap.old collection.old }
+    requires mutator { m < heap.old.mutators }
+    requires some { 1 ≤ most }
+    ensures run { IsApplyRun m until result.steps (open_state heap.old collection.old) (open_state heap.new collection.new) result.reply }
+    ensures within { result.steps ≤ most }
+    ensures belongs { BelongsTo heap.new collection.new }
+    ensures mutators { heap.new.mutators ≡ heap.old.mutators }
+    ensures follows { Follows (open_state heap.old collection.old) watch.old → Follows (open_state heap.new collection.new) watch.new }
 {
     let mut steps = 1;
     let mut reply = apply_log(collection, m, heap, watch);
@@ -232,7 +242,7 @@ pub(crate) fn apply_run(
         reply = apply_log(collection, m, heap, watch);
         steps += 1;
     }
-    ScanRun { steps, reply }
+    StepRun { steps, reply }
 }
 
 // ---- with or without an open collection

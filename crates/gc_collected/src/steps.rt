@@ -13,7 +13,7 @@ use crate::flip::Keep;
 use crate::known::{Searched, all_known, search};
 use crate::rooms::{keep_room, room_for};
 use gc_check::Checks;
-use gc_copy::{Collection, Room, ScanRun, Step, StepReply};
+use gc_copy::{Collection, Room, Step, StepReply, StepRun};
 use gc_graph::{NoMemory, root_count};
 use gc_heap::Heap;
 use gc_plan::root_replicas_stay;
@@ -23,7 +23,7 @@ impl CollectedHeap {
     ghost use Rattle.std.specs.Prelude.{◌≡◌, ◌≢◌, ◌<◌, ◌≤◌, ◌⊎◌, None, IfOk, IsTrue, IsFalse, OnErr};
     ghost use Rattle.gc_plan.specs.Steps.{collect, useful_step};
     ghost use Rattle.gc_plan.specs.Runs.{IsStep};
-    ghost use Rattle.gc_copy.specs.Scans.{IsScanRun};
+    ghost use Rattle.gc_copy.specs.StepRuns.{IsApplyRun, IsScanRun};
     ghost use Rattle.gc_plan.specs.declared.step.StepReply.{StepReply};
     ghost use Rattle.gc_along.specs.Claims.{Accepts};
     ghost use Rattle.gc_along.specs.Tables.{Tables};
@@ -172,7 +172,7 @@ impl CollectedHeap {
 
     /// Performs scans in order, at least one and at most `most`. None follows one that finds no room, or that leaves nothing to scan, or after
     /// which the new space ends at `until` or beyond it. Does not allocate.
-    pub fn scan_run(&mut self, most: u32, until: u32) -> ScanRun
+    pub fn scan_run(&mut self, most: u32, until: u32) -> StepRun
         requires { 1 ≤ most }
         ensures run { IsScanRun until result.steps self.old.core self.new.core result.reply }
         ensures within { result.steps ≤ most }
@@ -180,7 +180,7 @@ impl CollectedHeap {
         ensures beside { self.new.beside ≡ self.old.beside }
     {
         match &mut self.collection {
-            None => ScanRun {
+            None => StepRun {
                 steps: 1,
                 reply: StepReply::Idle,
             },
@@ -208,12 +208,18 @@ impl CollectedHeap {
         }
     }
 
-    /// Applies entries.
-    pub fn apply_run(&mut self, m: u8, most: u32, until: u32) -> ScanRun
-        requires { m < self.old.core.mutators }
+    /// Applies entries of mutator `m`'s log in order, the oldest first, at least one and at most `most`. None follows one that finds no room, or
+    /// that leaves something to scan or no entry, or after which the new space ends at `until` or beyond it. Does not allocate.
+    pub fn apply_run(&mut self, m: u8, most: u32, until: u32) -> StepRun
+        requires mutator { m < self.old.core.mutators }
+        requires some { 1 ≤ most }
+        ensures run { IsApplyRun m until result.steps self.old.core self.new.core result.reply }
+        ensures within { result.steps ≤ most }
+        ensures mutators { self.new.core.mutators ≡ self.old.core.mutators }
+        ensures beside { self.new.beside ≡ self.old.beside }
     {
         match &mut self.collection {
-            None => ScanRun {
+            None => StepRun {
                 steps: 1,
                 reply: StepReply::Idle,
             },

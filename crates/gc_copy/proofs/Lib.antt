@@ -8,7 +8,7 @@ pub mod Logs
 pub mod Segments
 pub mod Scanning
 pub mod Starts
-pub mod ScanRuns
+pub mod StepRuns
 pub mod Scanned
 pub mod Applying
 pub mod ObjectWalks

@@ -9,7 +9,7 @@ use Rattle.gc_plan.specs.declared.step.StepReply.{StepReply}
 use Rattle.gc_plan.specs.declared.step.StepReply.TheVariants.{Clean, Passed, Scanned}
 use Rattle.gc_plan.specs.declared.step.Step.TheVariants as steps
 use Rattle.gc_plan.proofs.Public.{open_keeps}
-use Rattle.gc_copy.specs.Scans.{after_scans}
+use Rattle.gc_copy.specs.StepRuns.{repeated}
 
 -- the state with this collection
 abbrev pub having : State → Collection → State
@@ -63,7 +63,7 @@ scanned_after : (s : State) (n : ℕ) (c : Collection) → scanned_on s (suc n) 
 scanned_after s zero c = refl
 scanned_after s (suc n) c = scanned_after s n (scanned_once s c)
 
-pub scans_are : (s : State) (n : ℕ) (c : Collection) → after_scans n (having s c) ≡ having s (scanned_on s n c)
+pub scans_are : (s : State) (n : ℕ) (c : Collection) → repeated steps.Scan n (having s c) ≡ having s (scanned_on s n c)
 scans_are s zero c = refl
 scans_are s (suc n) c =
     ap (λ (x : State). (collect x steps.Scan).1) (scans_are s n c)

@@ -2,4 +2,4 @@ pub mod Entries
 pub mod Internal
 pub mod Words
 pub mod Opening
-pub mod Scans
+pub mod StepRuns

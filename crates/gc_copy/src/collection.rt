@@ -14,7 +14,7 @@ use gc_words::{Addr, Space};
 pub use room::Room;
 pub use roots::MissingRoot;
 use std::marker::Model;
-pub use stepping::ScanRun;
+pub use stepping::StepRun;
 
 /// An open collection: the new space (to-space) with its replicas, a mutation log for each mutator, and the scan pointer.
 /// Replicas lie in the new space in the order in which they were placed.

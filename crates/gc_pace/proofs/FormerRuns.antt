@@ -1,6 +1,5 @@
 -- What useful steps leave of the old space of the last flip.
-use Rattle.std.proofs.lemmas.Grind.{common_steps}
-use Rattle.std.proofs.Common.{◌≡◌, ℕ, suc, Option, refl, sym, ap, subst, arith}
+use Rattle.std.proofs.Common.{◌≡◌, ℕ, Option, refl, sym, ap, subst}
 use Rattle.gc_plan.specs.State.{State}
 use Rattle.gc_plan.specs.Steps.{collect}
 use Rattle.gc_plan.specs.declared.step.StepReply.{StepReply}
@@ -8,7 +7,7 @@ use Rattle.gc_copy.specs.Words.{RoomWords}
 use Rattle.gc_collected.specs.Flip.{FormerAfter}
 use Rattle.gc_collected.specs.declared.flip.Keep.TheVariants.{Room}
 use Rattle.gc_pace.specs.Beside.{LeavesAfter}
-use Rattle.gc_pace.specs.Work.{IsRun, sized_step}
+use Rattle.gc_pace.specs.Work.{sized_step}
 
 -- after one step
 pub first_left : (size : Option ℕ) (s u : State) (reply : StepReply) (old new : Option RoomWords) → collect s (sized_step size s) ≡ (reply, u) → FormerAfter Room s old reply new → LeavesAfter size 1 s old new

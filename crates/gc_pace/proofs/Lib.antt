@@ -1,12 +1,14 @@
 -- Lemmas about the entries in logs, about useful steps, the work and the memory that they leave, and about work at a pace.
 mod Flips
 pub mod FormerRuns
+pub mod Joined
 pub mod Left
 pub mod Logged
 pub mod PacedCalls
 pub mod Paid
+pub mod Repeats
 pub mod Runs
-pub mod ScansUseful
+pub mod StepsUseful
 pub mod Turns
 pub mod Useful
 mod Waiting

@@ -22,10 +22,10 @@ none_first [] k e = refl
 none_first ([] ∷ logs) k e = none_first logs (k + 1) e
 none_first ((entry ∷ log) ∷ logs) k e = absurd cc
 
-flips_if_ready : (s : State) (c : Collection) → s.collection ≡ Some c → is_ready c s.heap.graph ≡ true → useful_step s ≡ steps.Flip
+pub flips_if_ready : (s : State) (c : Collection) → s.collection ≡ Some c → is_ready c s.heap.graph ≡ true → useful_step s ≡ steps.Flip
 flips_if_ready s c is ready = grind (arith, common_steps, and_parts, none_first)
 
-flips_sized : (size : Option ℕ) (step : Step) → step ≡ steps.Flip → with_size size step ≡ steps.Flip
+pub flips_sized : (size : Option ℕ) (step : Step) → step ≡ steps.Flip → with_size size step ≡ steps.Flip
 flips_sized size step e = grind (arith, common_steps)
 
 -- ---- the size of an open collection

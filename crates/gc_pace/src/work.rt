@@ -18,7 +18,7 @@ ghost use Rattle.gc_pace.specs.Work.{IsSoundReply, IsRun, IsWork, with_size, siz
 
 use gc_check::Sequential;
 use gc_collected::{CollectedHeap, Keep};
-use gc_copy::{Step, StepReply};
+use gc_copy::{Step, StepReply, StepRun};
 use gc_graph::NoMemory;
 use gc_plan::useful_steps_end;
 
@@ -53,13 +53,6 @@ impl Work {
             Some(StepReply::Flipped { .. } | StepReply::NoRoom)
         )
     }
-}
-
-/// The number of useful steps performed, and the reply to the last one.
-#[derive(Clone, Copy, Drop)]
-struct Run {
-    steps: u32,
-    reply: StepReply,
 }
 
 /// Returns the step, but with `size` words for the new space if it is a begin and a size is given.
@@ -102,7 +95,7 @@ fn one_step(heap: &mut CollectedHeap, size: Option<u32>, step: Step) -> Result<S
 /// Performs scans, at least one and at most `most`. The first is the useful step, and none follows one after which the new space ends at `until`
 /// or beyond it.
 #[inline(always)]
-fn some_scans(heap: &mut CollectedHeap, size: Option<u32>, most: u32, until: u32) -> Run
+fn some_scans(heap: &mut CollectedHeap, size: Option<u32>, most: u32, until: u32) -> StepRun
     requires size { IfSome size (λ words. 1 ≤ words) }
     requires some { 1 ≤ most }
     requires useful { sized_step size heap.old.core ≡ Step.Scan }
@@ -116,22 +109,45 @@ fn some_scans(heap: &mut CollectedHeap, size: Option<u32>, most: u32, until: u32
 {
     heap.is_sound();
     useful_steps_end();
-    let run = heap.scan_run(most, until);
-    Run {
-        steps: run.steps,
-        reply: run.reply,
-    }
+    heap.scan_run(most, until)
 }
 
-/// Performs useful steps, at least one and at most `most`: scans, as `some_scans` does, or one step of another kind. If that is a begin, the new
-/// space gets `size` words, or as many as the heap has.
+/// Applies entries of mutator `m`'s log, at least one and at most `most`. The first is the useful step, and none follows one after which the new
+/// space ends at `until` or beyond it.
+#[inline(always)]
+fn some_entries(
+    heap: &mut CollectedHeap,
+    size: Option<u32>,
+    m: u8,
+    most: u32,
+    until: u32,
+) -> StepRun
+    requires size { IfSome size (λ words. 1 ≤ words) }
+    requires some { 1 ≤ most }
+    requires useful { sized_step size heap.old.core ≡ Step.Apply m }
+    requires mutator { m < heap.old.core.mutators }
+    ensures run { IsRun size result.steps heap.old.core heap.new.core result.reply }
+    ensures within { result.steps ≤ most }
+    ensures short { EndsBelow size until result.steps heap.old.core }
+    ensures former { LeavesAfter size result.steps heap.old.core heap.old.beside.former heap.new.beside.former }
+    ensures flips { is_flip result.reply ≡ false }
+    ensures open { IsSome heap.old.core.collection }
+    ensures beside { heap.new.beside ≡ heap.old.beside }
+{
+    heap.is_sound();
+    useful_steps_end();
+    heap.apply_run(m, most, until)
+}
+
+/// Performs useful steps, at least one and at most `most`: scans, as `some_scans` does, entries, as `some_entries` does, or one step of another
+/// kind. If that is a begin, the new space gets `size` words, or as many as the heap has.
 #[inline(always)]
 fn some_steps(
     heap: &mut CollectedHeap,
     size: Option<u32>,
     most: u32,
     until: u32,
-) -> Result<Run, NoMemory>
+) -> Result<StepRun, NoMemory>
     requires size { IfSome size (λ words. 1 ≤ words) }
     requires some { 1 ≤ most }
     ensures run { IfOk result (λ run. IsRun size run.steps heap.old.core heap.new.core run.reply) }
@@ -146,19 +162,14 @@ fn some_steps(
     ensures lacked { OnErr result (HasLacked heap.old heap.new.beside.rooms) }
     ensures allocates { OnErr result (Allocates heap.old.core (sized_step size heap.old.core)) }
 {
-    let step = sized(heap.next_useful_step(), size);
-    if let Step::Scan = step {
-        return Ok(some_scans(heap, size, most, until));
+    match sized(heap.next_useful_step(), size) {
+        Step::Scan => Ok(some_scans(heap, size, most, until)),
+        Step::Apply(m) => Ok(some_entries(heap, size, m, most, until)),
+        step => {
+            let reply = one_step(heap, size, step)?;
+            Ok(StepRun { steps: 1, reply })
+        }
     }
-    if let Step::Apply(m) = step {
-        let run = heap.apply_run(m, most, until);
-        return Ok(Run {
-            steps: run.steps,
-            reply: run.reply,
-        });
-    }
-    let reply = one_step(heap, size, step)?;
-    Ok(Run { steps: 1, reply })
 }
 
 /// Performs some steps for `useful_steps`, and tells when they are enough. Generic code knows nothing of `failed`, and gets it only
@@ -178,7 +189,7 @@ trait Performs {
         heap: &mut CollectedHeap,
         size: Option<u32>,
         most: u32,
-    ) -> Result<Run, NoMemory>
+    ) -> Result<StepRun, NoMemory>
         requires size { IfSome size (λ words. 1 ≤ words) }
         requires some { 1 ≤ most }
         ensures run { IfOk result (λ run. IsRun size run.steps heap.old.core heap.new.core run.reply) }
@@ -217,7 +228,7 @@ impl Performs for Useful {
         heap: &mut CollectedHeap,
         size: Option<u32>,
         most: u32,
-    ) -> Result<Run, NoMemory> {
+    ) -> Result<StepRun, NoMemory> {
         some_steps(heap, size, most, u32::MAX)
     }
 
@@ -259,7 +270,7 @@ impl Performs for Within {
         heap: &mut CollectedHeap,
         size: Option<u32>,
         most: u32,
-    ) -> Result<Run, NoMemory> {
+    ) -> Result<StepRun, NoMemory> {
         let until = place_behind(self.start, self.words);
         some_steps(heap, size, most, until)
     }
@@ -284,7 +295,7 @@ fn useful_steps<P: Performs>(
     heap: &mut CollectedHeap,
     size: Option<u32>,
     most: u32,
-) -> Result<Run, NoMemory>
+) -> Result<StepRun, NoMemory>
     requires size { IfSome size (λ words. 1 ≤ words) }
     requires some { 1 ≤ most }
     ensures run { IfOk result (λ run. IsRun size run.steps heap.old.core heap.new.core run.reply) }
@@ -317,7 +328,7 @@ fn useful_steps<P: Performs>(
         }
         match performs.perform(heap, size, most - run.steps) {
             Ok(next) => {
-                run = Run {
+                run = StepRun {
                     steps: run.steps + next.steps,
                     reply: next.reply,
                 };
@@ -350,12 +361,12 @@ fn end_behind(heap: &CollectedHeap, reply: StepReply) -> u32
 
 /// Returns a report of these steps. The new space ended at `start` before them.
 #[inline(always)]
-fn report(heap: &CollectedHeap, start: u32, run: Run) -> Work
+fn report(heap: &CollectedHeap, start: u32, run: StepRun) -> Work
     ensures steps { result.steps ≡ run.steps }
     ensures copied { result.copied ≡ end_after heap.now.core run.reply - start }
     ensures last { result.last ≡ Some run.reply }
 {
-    let Run { steps, reply } = run;
+    let StepRun { steps, reply } = run;
     Work {
         steps,
         copied: end_behind(heap, reply).saturating_sub(start),

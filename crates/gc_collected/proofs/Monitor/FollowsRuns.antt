@@ -3,8 +3,9 @@ use Rattle.std.proofs.Common.{◌≡◌, ℕ, false, List, Option, Some, ap, sym
 use Rattle.std.specs.Prelude.{IfSome}
 use Rattle.gc_plan.specs.State.{Collection, State}
 use Rattle.gc_plan.specs.Belonging.{IsSpaceGraph, IsOpened}
+use Rattle.gc_plan.specs.declared.step.Step.TheVariants as steps
 use Rattle.gc_plan.specs.declared.step.StepReply.{StepReply}
-use Rattle.gc_copy.specs.Scans.{after_scans, IsScanRun}
+use Rattle.gc_copy.specs.StepRuns.{repeated, IsScanRun}
 use Rattle.gc_along.specs.Runs.{PlacedAll, CanPlaceAll, LookedAll, CanLookAll}
 use Rattle.gc_along.specs.Tables.{Tables, watch_of}
 use Rattle.gc_collected.specs.Internal.Beside.{AreOld, GoesBeside, heap_words, replica_words}
@@ -22,7 +23,7 @@ own s c is = ap (λ (o : Option Collection). record s { collection = o }) is
 
 -- the state after a run of scans of an open collection
 ran : (s s' : State) (c : Collection) (until n : ℕ) (reply : StepReply) → s.collection ≡ Some c → IsScanRun until n s s' reply → s' ≡ having s (scanned_on s n c)
-ran s s' c until n reply is run = run.state ∙ (ap (after_scans n) (own s c is) ∙ scans_are s n c)
+ran s s' c until n reply is run = run.state ∙ (ap (repeated steps.Scan n) (own s c is) ∙ scans_are s n c)
 
 module _ (s s' : State) (c d : Collection) (until n : ℕ) (reply : StepReply) (old words : List ℕ) (heap : IsSpaceGraph s.size s.heap.free s.heap.graph) (is_open : IfSome s.collection (IsOpened s))
     (first : s.collection ≡ Some c) (there : s'.collection ≡ Some d) (run : IsScanRun until n s s' reply) (olds : AreOld s' old) (are : words ≡ replica_words d) (t mid after : Tables) (f : Follows s t) where

@@ -2,14 +2,14 @@ ghost use Rattle.std.specs.Option.{option_map};
 ghost use Rattle.gc_words.specs.Image.{header_at, is_start};
 ghost use Rattle.gc_words.specs.Spelling.{link_at};
 ghost use Rattle.gc_words.specs.declared.header.Header.{Header};
-ghost use Rattle.std.specs.Prelude.{IsTrue, IfSome, OnOk, OnErr, Some, None, true, false, slice_get, ◌⊎◌, ◌≡◌, ◌≢◌, ◌<◌, ◌≤◌, ◌==◌, ◌||◌};
+ghost use Rattle.std.specs.Prelude.{IsTrue, IfSome, OnOk, OnErr, Some, None, true, false, length, slice_get, ◌⊎◌, ◌≡◌, ◌≢◌, ◌<◌, ◌≤◌, ◌==◌, ◌||◌};
 ghost use Rattle.gc_words.specs.Space.{image_with};
 ghost use Rattle.gc_words.specs.Certificate.{Certified};
 ghost use Rattle.gc_heap.specs.Heap.{HeapWords, image_of, graph_in};
 ghost use Rattle.gc_plan.specs.State.{pairs_of, new_end};
 ghost use Rattle.gc_copy.specs.Entries.{entry_in};
-ghost use Rattle.gc_plan.specs.Steps.{collect, log_at, root_target, roots_done as roots_done_in, scan_done as scan_done_in, is_ready};
-ghost use Rattle.gc_copy.specs.Scans.{IsScanRun};
+ghost use Rattle.gc_plan.specs.Steps.{collect, is_empty, log_at, root_target, roots_done as roots_done_in, scan_done as scan_done_in, is_ready};
+ghost use Rattle.gc_copy.specs.StepRuns.{IsScanRun};
 ghost use Rattle.gc_copy.specs.Words.{collection_in, open_state, BelongsTo, new_root_words};
 ghost use Rattle.gc_copy.specs.Internal.Words.{KeepsStarts};
 ghost use Rattle.gc_plan.specs.declared.step.Step.{Step};
@@ -87,7 +87,7 @@ impl Collection {
 
     /// Performs scans in order, at least one and at most `most`. None follows one that finds no room, or that leaves nothing to scan, or after
     /// which the new space ends at `until` or beyond it. Reads the header and the link of each replica once. Does not allocate.
-    pub fn scan_run(&mut self, heap: &mut Heap, most: u32, until: u32) -> ScanRun
+    pub fn scan_run(&mut self, heap: &mut Heap, most: u32, until: u32) -> StepRun
         requires belongs { BelongsTo heap.old self.old }
         requires some { 1 ≤ most }
         ensures run { IsScanRun until result.steps (open_state heap.old self.old) (open_state heap.new self.new) result.reply }
@@ -97,7 +97,7 @@ impl Collection {
         ensures mutators { heap.new.mutators ≡ heap.old.mutators }
     {
         if self.scan_done() {
-            return ScanRun {
+            return StepRun {
                 steps: 1,
                 reply: StepReply::Clean,
             };
@@ -105,7 +105,7 @@ impl Collection {
         let mut run = self.scan_replica(heap, most, until);
         while run.steps < most && self.scans_on(run.reply, until) {
             let next = self.scan_replica(heap, most - run.steps, until);
-            run = ScanRun {
+            run = StepRun {
                 steps: run.steps + next.steps,
                 reply: next.reply,
             };
@@ -116,7 +116,7 @@ impl Collection {
     // Performs such scans of the replica at the scan pointer, of which there has to be one. The last of them passes the replica, unless it ends
     // before.
     #[inline(always)]
-    fn scan_replica(&mut self, heap: &mut Heap, most: u32, until: u32) -> ScanRun
+    fn scan_replica(&mut self, heap: &mut Heap, most: u32, until: u32) -> StepRun
         requires belongs { BelongsTo heap.old self.old }
         requires some { 1 ≤ most }
         requires left { scan_done_in (collection_in self.old) ≡ false }
@@ -131,21 +131,21 @@ impl Collection {
         let mut steps = 0;
         while !is_scanned(header, self.scan_field) {
             let Ok(()) = self.scan_next(heap, original) else {
-                return ScanRun {
+                return StepRun {
                     steps: steps + 1,
                     reply: StepReply::NoRoom,
                 };
             };
             steps += 1;
             if steps == most || self.space.end() >= until {
-                return ScanRun {
+                return StepRun {
                     steps,
                     reply: StepReply::Scanned,
                 };
             }
         }
         self.pass(header);
-        ScanRun {
+        StepRun {
             steps: steps + 1,
             reply: StepReply::Passed,
         }
@@ -240,11 +240,18 @@ impl Collection {
         }
     }
 
-    /// Returns whether a further entry may follow.
+    /// Returns whether an entry of mutator `m`'s log may be applied by a call that got this reply for the last one: that found room, nothing is left
+    /// to scan, the log has an entry, and the new space ends before `until`.
     #[inline(always)]
     pub fn applies_on(&self, m: u8, reply: StepReply, until: u32) -> bool
+        requires { m < length self.now.logs }
+        ensures { IsTrue result → (reply ≢ StepReply.NoRoom) × (scan_done_in (collection_in self.now) ≡ true) × (is_empty (log_at (collection_in self.now) m) ≡ false)
+            × (new_end (collection_in self.now) < until) }
     {
-        matches!(reply, StepReply::Applied) && self.scan_done() && !self.logs[m as usize].is_empty() && self.end() < until
+        !matches!(reply, StepReply::NoRoom)
+            && self.scan_done()
+            && !self.logs[m as usize].is_empty()
+            && self.end() < until
     }
 
     /// Returns whether the scan pointer is at the new end.
@@ -284,9 +291,9 @@ impl Collection {
     }
 }
 
-/// What a run of scans did: the number of steps, and the reply to the last one.
+/// The number of steps performed, and the reply to the last one.
 #[derive(Clone, Copy, Debug, Drop)]
-pub struct ScanRun {
+pub struct StepRun {
     pub steps: u32,
     pub reply: StepReply,
 }

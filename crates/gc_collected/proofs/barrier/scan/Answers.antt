@@ -5,11 +5,11 @@ use Rattle.gc_plan.specs.declared.step.Step.TheVariants as steps
 use Rattle.gc_plan.specs.declared.step.StepReply.{StepReply}
 use Rattle.gc_plan.proofs.Public.{opened_has_room}
 use Rattle.gc_copy.specs.Words.{collection_in, open_state}
-use Rattle.gc_copy.proofs.Public.{one_scan}
+use Rattle.gc_copy.proofs.Public.{one_step}
 use Rattle.gc_collected.proofs.barrier.scan.Goals as goal
 
 pub returns-clause-step : goal.returns-clause-step
-returns-clause-step c = one_scan _ c.scan_run.result.steps (open_state c.args.heap.now c.args.collection.now) (open_state c.scan_run.new.heap c.scan_run.new.collection) c.scan_run.result.reply c.scan_run.ensures.run c.scan_run.ensures.within
+returns-clause-step c = one_step steps.Scan _ c.scan_run.result.steps (open_state c.args.heap.now c.args.collection.now) (open_state c.scan_run.new.heap c.scan_run.new.collection) c.scan_run.result.reply c.scan_run.ensures.run c.scan_run.ensures.within
 
 pub returns-clause-room : goal.returns-clause-room
 returns-clause-room c larger same =

@@ -9,7 +9,7 @@ use Rattle.gc_plan.specs.declared.step.Step.TheVariants.{Flip}
 use Rattle.gc_collected.specs.CollectedHeap.{Allocates}
 use Rattle.gc_pace.proofs.Flips.{turns_going}
 use Rattle.gc_pace.proofs.Waiting.{run_open, longer_rooms, lacked_rooms}
-use Rattle.gc_pace.proofs.ScansUseful.{joined, joined_left, joined_short}
+use Rattle.gc_pace.proofs.Joined.{joined, joined_left, joined_short}
 use Rattle.gc_pace.proofs.work.useful_steps.Goals as goal
 
 pub loop-run-init : goal.loop-run-init

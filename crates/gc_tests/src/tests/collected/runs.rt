@@ -4,7 +4,7 @@ ghost use Rattle.std.specs.Prelude.{◌≡◌, IfOk};
 
 use gc_check::Sequential;
 use gc_collected::{Checking, CollectedHeap, Keep};
-use gc_copy::{ScanRun, StepReply};
+use gc_copy::{StepRun, StepReply};
 use gc_graph::{NoMemory, Op};
 use gc_heap::HeapOptions;
 use gc_test_kit::commands::{new, num, own, put};
@@ -63,7 +63,7 @@ fn is_scanned(heap: &CollectedHeap) -> bool {
 }
 
 /// Performs single scans for as long as a run of at most `most` scans goes on, whose new space is to end below `until`.
-fn scan_one_by_one(heap: &mut CollectedHeap, most: u32, until: u32) -> ScanRun
+fn scan_one_by_one(heap: &mut CollectedHeap, most: u32, until: u32) -> StepRun
     requires { 1 ≤ most }
     ensures { heap.new.core.mutators ≡ heap.old.core.mutators }
 {
@@ -71,11 +71,11 @@ fn scan_one_by_one(heap: &mut CollectedHeap, most: u32, until: u32) -> ScanRun
     for steps in 1..most {
         let ends = heap.new_space().is_none_or(|space| space.end >= until);
         if reply == StepReply::NoRoom || is_scanned(heap) || ends {
-            return ScanRun { steps, reply };
+            return StepRun { steps, reply };
         }
         reply = heap.scan();
     }
-    ScanRun { steps: most, reply }
+    StepRun { steps: most, reply }
 }
 
 /// Tests that both heaps show the same words, and have come as far.

@@ -4,11 +4,11 @@ use Rattle.gc_plan.specs.State.{State}
 use Rattle.gc_plan.specs.declared.step.StepReply.{StepReply}
 use Rattle.gc_plan.specs.declared.step.Step.TheVariants as steps
 use Rattle.gc_copy.specs.Words.{IsCollection, open_state}
-use Rattle.gc_copy.proofs.ScanRuns.{one_scan}
+use Rattle.gc_copy.proofs.StepRuns.{one_step}
 use Rattle.gc_copy.proofs.collection.Collection.scan.Goals as goal
 
 pub returns-clause-step : goal.returns-clause-step
-returns-clause-step c = one_scan _ c.scan_replica.result.steps (open_state c.args.heap.now c.args.self.now) (open_state c.scan_replica.new.heap c.scan_replica.new.self) c.scan_replica.result.reply c.scan_replica.ensures.run c.scan_replica.ensures.within
+returns-clause-step c = one_step steps.Scan _ c.scan_replica.result.steps (open_state c.args.heap.now c.args.self.now) (open_state c.scan_replica.new.heap c.scan_replica.new.self) c.scan_replica.result.reply c.scan_replica.ensures.run c.scan_replica.ensures.within
 
 pub returns-clause-room : goal.returns-clause-room
 returns-clause-room c larger same =

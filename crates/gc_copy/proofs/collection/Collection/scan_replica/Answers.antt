@@ -7,12 +7,13 @@ use Rattle.gc_words.specs.Spelling.{link_at}
 use Rattle.gc_words.proofs.Public.{block_of_header}
 use Rattle.gc_plan.specs.State.{new_end}
 use Rattle.gc_plan.specs.Steps.{scan_done}
+use Rattle.gc_plan.specs.declared.step.Step.TheVariants.{Scan}
 use Rattle.gc_plan.specs.declared.step.StepReply.TheVariants.{Scanned, NoRoom}
-use Rattle.gc_copy.specs.Scans.{IsScanRun, ScansOn}
+use Rattle.gc_copy.specs.StepRuns.{IsScanRun, ScansOn}
 use Rattle.gc_copy.specs.contracts.collection.Collection.{the_view}
 use Rattle.gc_copy.specs.Words.{CollectionWords, IsCollection, BelongsTo, collection_in, open_state}
 use Rattle.gc_copy.proofs.Scanning.{left_at_start, small, start}
-use Rattle.gc_copy.proofs.ScanRuns.{IsScanning, scans_last, scans_longer}
+use Rattle.gc_copy.proofs.StepRuns.{IsRepeating, repeats_last, repeats_longer}
 use Rattle.gc_copy.proofs.Spaces.{new_end_is}
 use Rattle.gc_copy.proofs.Starts.{still_start}
 use Rattle.gc_copy.proofs.collection.Collection.scan_replica.Goals as goal
@@ -37,12 +38,12 @@ one_more n = omega arith
 pub returns-in_default-clause-run : goal.returns-in_default-clause-run
 returns-in_default-clause-run c =
     subst (λ n. IsScanRun c.args.until n (open_state c.args.heap.now c.args.self.now) (open_state c.scan_next.new.heap c.scan_next.new.self) NoRoom) (one_more c.loop-original.steps)
-    (scans_last c.args.until (open_state c.args.heap.now c.args.self.now) (open_state c.loop-original.heap c.loop-original.self) (open_state c.scan_next.new.heap c.scan_next.new.self) c.loop-original.steps NoRoom c.loop-original.invariant.0 c.in_default.ensures.full)
+    (repeats_last Scan (ScansOn c.args.until) (open_state c.args.heap.now c.args.self.now) (open_state c.loop-original.heap c.loop-original.self) (open_state c.scan_next.new.heap c.scan_next.new.self) c.loop-original.steps NoRoom c.loop-original.invariant.0 c.in_default.ensures.full)
 
 pub returns-then-steps-most-clause-run : goal.returns-then-steps-most-clause-run
 returns-then-steps-most-clause-run c =
     subst (λ n. IsScanRun c.args.until n (open_state c.args.heap.now c.args.self.now) (open_state c.scan_next.new.heap c.scan_next.new.self) Scanned) (one_more c.loop-original.steps)
-    (scans_last c.args.until (open_state c.args.heap.now c.args.self.now) (open_state c.loop-original.heap c.loop-original.self) (open_state c.scan_next.new.heap c.scan_next.new.self) c.loop-original.steps Scanned c.loop-original.invariant.0 c.in-Ok.ensures.scanned)
+    (repeats_last Scan (ScansOn c.args.until) (open_state c.args.heap.now c.args.self.now) (open_state c.loop-original.heap c.loop-original.self) (open_state c.scan_next.new.heap c.scan_next.new.self) c.loop-original.steps Scanned c.loop-original.invariant.0 c.in-Ok.ensures.scanned)
 
 module _ (c : Else-end-until) where
   -- the replica at the scan pointer starts there
@@ -63,8 +64,8 @@ module _ (c : Else-end-until) where
 pub loop-original-preserved : goal.loop-original-preserved
 loop-original-preserved c =
     let at = (goal.at.loop-original-preserved c).Else-end-until in (
-      subst (λ n. IsScanning c.args.until n (open_state c.args.heap.now c.args.self.now) (open_state c.scan_next.new.heap c.scan_next.new.self)) (one_more c.loop-original.steps)
-          (scans_longer c.args.until (open_state c.args.heap.now c.args.self.now) (open_state c.loop-original.heap c.loop-original.self) (open_state c.scan_next.new.heap c.scan_next.new.self) c.loop-original.steps Scanned c.loop-original.invariant.0
+      subst (λ n. IsRepeating Scan (ScansOn c.args.until) n (open_state c.args.heap.now c.args.self.now) (open_state c.scan_next.new.heap c.scan_next.new.self)) (one_more c.loop-original.steps)
+          (repeats_longer Scan (ScansOn c.args.until) (open_state c.args.heap.now c.args.self.now) (open_state c.loop-original.heap c.loop-original.self) (open_state c.scan_next.new.heap c.scan_next.new.self) c.loop-original.steps Scanned c.loop-original.invariant.0
           c.in-Ok.ensures.scanned (λ no. cc) (scans_on at)),
       omega (arith, c.if-steps-most.false, c.loop-original.invariant.1),
       c.in-Ok.ensures.belongs,

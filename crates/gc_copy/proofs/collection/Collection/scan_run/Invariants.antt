@@ -1,6 +1,6 @@
 -- A run of scans was performed, and the collection belongs to the heap.
 use Rattle.std.proofs.Common.{◌≡◌, ◌≤◌, ◌-◌}
-use Rattle.gc_copy.specs.Scans.{IsScanRun}
+use Rattle.gc_copy.specs.StepRuns.{IsScanRun}
 use Rattle.gc_copy.specs.Words.{open_state, BelongsTo}
 use Rattle.gc_copy.proofs.collection.Collection.scan_run.Given as goal
 

@@ -2,10 +2,10 @@
 use Rattle.std.proofs.Common.{suc, Result, Ok, Err}
 use Rattle.std.specs.Prelude.{IfOk}
 use Rattle.gc_pace.specs.Work.{after_useful, useful_reply, end_after}
-use Rattle.gc_pace.specs.declared.work.Run.{Run}
+use Rattle.gc_copy.specs.declared.collection.stepping.StepRun.{StepRun}
 use Rattle.gc_pace.proofs.work.WithinPerforms.perform.Goals as goal
 
-weaker : {E : Type 0} (r : Result Run E) (P Q : Run → Type 0) → ((x : Run) → P x → Q x) → IfOk r P → IfOk r Q
+weaker : {E : Type 0} (r : Result StepRun E) (P Q : StepRun → Type 0) → ((x : StepRun) → P x → Q x) → IfOk r P → IfOk r Q
 weaker (Ok x) P Q f h = f x h
 weaker (Err e) P Q f h = tt
 
