@@ -15,4 +15,5 @@ pub mod Kept
 pub mod Marks
 pub mod RowsDue
 pub mod ToldTruth
+pub mod Plain
 pub mod Public

@@ -457,7 +457,7 @@ impl Standing {
     }
 
     /// Compares field `i` of the replica of the object at `a`, if it has one; its link is the claim.
-    #[inline(always)]
+    #[inline(never)]
     pub fn applied(&mut self, old: &[u64], new: &[u64], a: u32, i: u16)
         ensures lost { IsTrue self.old.lost → IsTrue self.new.lost }
         ensures applied { IsFalse self.new.lost → Applied old.now new.now a i self.old self.new }
@@ -625,22 +625,18 @@ impl Standing {
         self.is_correspondence(old, new)
     }
 
-    // Whether the words are values that stand for each other. Equal numbers, two nils and a reference to an object and one to its replica are told
-    // first, since they need no full decoding.
+    // Whether the words are values that stand for each other. Nil, a number, and a reference to an object where the other word refers to its replica
+    // need no full decoding.
     #[inline(always)]
     fn is_correspondence(&self, old: u64, new: u64) -> bool
         ensures { result ≡ words_correspond (pairs_in self.now.origins) old new }
     {
-        match reference_in(old) {
-            Some(address) => {
-                if self.refers_to_replica(new, address) {
-                    return true;
-                }
-            }
-            None => {
-                if old == new && is_plain(old) {
-                    return true;
-                }
+        if is_plain(old) {
+            return old == new;
+        }
+        if let Some(address) = reference_in(old) {
+            if self.refers_to_replica(new, address) {
+                return true;
             }
         }
         self.is_other_correspondence(old, new)
@@ -786,17 +782,18 @@ impl Watcher for Standing {
     }
 }
 
-ghost use Rattle.std.specs.Prelude.{◌≡◌, ◌⊎◌, ◌↔◌, ◌≤◌, ◌+◌, ℕ, List, true, IsTrue, IfSome, Some, if◌then◌else◌, length, slice_index_or};
+ghost use Rattle.std.specs.Prelude.{◌≡◌, ◌⊎◌, ◌↔◌, ◌==◌, ◌≤◌, ◌+◌, ℕ, List, true, IsTrue, IfSome, Some, if◌then◌else◌, length, slice_index_or};
 ghost use Rattle.gc_graph.specs.Graph.{Ref};
 ghost use Rattle.gc_words.specs.Word.{read_value, words_correspond};
 ghost use Rattle.gc_along.specs.Outline.{outline_in};
 ghost use Rattle.gc_along.specs.Watch.{IsSized};
 ghost use Rattle.gc_along.specs.Internal.Watch.{bit};
 
-// Whether the word is nil or a number.
+// Whether the word is nil or a number. Such a word stands for the same word and no other.
 #[inline(always)]
+#[tactic(auto, using(crate::proofs::Plain::nil_alone, crate::proofs::Plain::number_alone))]
 fn is_plain(word: u64) -> bool
-    ensures { IsTrue result → (pairs : List (ℕ × ℕ)) → words_correspond pairs word word ≡ true }
+    ensures { IsTrue result → (pairs : List (ℕ × ℕ)) (other : ℕ) → words_correspond pairs word other ≡ (word == other) }
 {
     word == 0 || word % 2 == 1
 }
