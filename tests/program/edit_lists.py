@@ -3,6 +3,7 @@ import glob
 import os
 import re
 
+from prover.controls import controls_of
 from prover.crates import CRATES, TOP, crates_listed
 from prover.edits import BadEdit, edit_named, edits_of
 
@@ -67,11 +68,11 @@ def crates_tried(_program, _folder):
         yield "a crate with %r and %r" % (text, other), None if found == wanted else "found %s" % found
 
 
-def why_not_applied(crate, name):
-    """Returns why a must-fail edit cannot be applied, or None."""
+def why_not_applied(crate, read):
+    """Returns why a change cannot be applied to a crate, or None. `read` reads the file of the change."""
     try:
-        edit_named(crate, name).texts_in(os.path.join(CRATES, crate))
-    except BadEdit as why:
+        read().texts_in(os.path.join(CRATES, crate))
+    except (BadEdit, OSError) as why:
         return str(why)
     return None
 
@@ -79,7 +80,10 @@ def why_not_applied(crate, name):
 def applied_edits(_program, _folder):
     for crate in crates_listed():
         for name in edits_of(crate):
-            yield "edit %s/%s" % (crate, name), why_not_applied(crate, name)
+            yield "edit %s/%s" % (crate, name), why_not_applied(crate, lambda crate=crate, name=name: edit_named(crate, name))
+        for control in controls_of(crate):
+            settled = control.why_settled()
+            yield "control %s/%s" % (crate, control.name), settled if settled or not control.edit else why_not_applied(crate, lambda control=control: control.edit)
 
 
 GROUPS = [edits_in_ci, crates_tried, applied_edits]

@@ -1,4 +1,5 @@
-"""Tests with a small stack, and with less and less address space: the outcome is the usual one or 'no memory', and never a signal."""
+"""Tests with a small stack, with less and less address space, and with a text that is larger than the address space: the outcome is the usual one or 'no
+memory', and never a signal."""
 from .collecting import PAIR_OF_COLLECT_WHEN_FULL, REPORT_OF_COLLECT_WHEN_FULL
 from .allocation_failures import NO_MEMORY
 from .harness import Outcome, difference, file_of, run
@@ -7,6 +8,9 @@ from .traces import PLAYED, trace_and_replies
 STACK_KIB = 128
 # In KiB: more address space than a usual run takes, and the steps in which it shrinks.
 MOST_KIB, STEP_KIB = 6000, 4
+# A long text has so many events. A reader keeps a line of it and what it reads at once, so that this address space, in KiB, is less than the text takes.
+# `play` keeps the replies, of 5 bytes each, until the last line is read.
+EVENTS, FEW_KIB = 1_000_000, {"report": 6000, "play": 12500}
 # The status with which the loader ends a program that it cannot load.
 NOT_LOADED = 127
 
@@ -57,4 +61,12 @@ def little_address_space(program, folder):
             yield "little_address_space, %s" % name, wrong_with_little(program, arguments, wanted)
 
 
-GROUPS = [small_stack, little_address_space]
+def long_text(program, folder):
+    trace = file_of(folder, "trace", b"heaptrace 1\nspace 32 mutators 1\n" + EVENTS * b"m 0 num r0 9\n")
+    for name, limit in FEW_KIB.items():
+        shell, words = limited(program, "-v %d" % limit)
+        found = run(shell, [*words, name, trace])
+        yield "long_text, %s" % name, difference(found, Outcome(EVENTS * b"done\n" if name == "play" else found.stdout))
+
+
+GROUPS = [small_stack, little_address_space, long_text]
