@@ -2,6 +2,7 @@
 mod Flips
 pub mod FormerRuns
 pub mod Joined
+pub mod KeepsUp
 pub mod Left
 pub mod Logged
 pub mod PacedCalls

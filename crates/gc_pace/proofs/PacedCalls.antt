@@ -19,7 +19,7 @@ use Rattle.gc_pace.proofs.Left.{some_left, entries_low, end_at, logged_low, coun
 -- ---- the reply to the last step
 
 -- a reply that is no flip and found room does not end the work
-on_of : (work : Work) (reply : StepReply) → work.last ≡ Some reply → is_over work ≡ false → goes_on reply ≡ true
+pub on_of : (work : Work) (reply : StepReply) → work.last ≡ Some reply → is_over work ≡ false → goes_on reply ≡ true
 on_of work reply last going = grind (arith, common_steps)
 
 over_of : (work : Work) (reply : StepReply) → work.last ≡ Some reply → goes_on reply ≡ false → is_over work ≡ true

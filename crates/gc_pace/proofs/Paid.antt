@@ -7,7 +7,7 @@ use Rattle.gc_pace.specs.Pace.{steps_due, Pays}
 use Rattle.gc_pace.specs.declared.pace.Pace.{Pace}
 use Rattle.gc_pace.specs.declared.counts.Counts.{Counts}
 
-not_zero : (n : ℕ) → (n == 0) ≡ false → 1 ≤ n
+pub not_zero : (n : ℕ) → (n == 0) ≡ false → 1 ≤ n
 not_zero n e = grind (arith, common_steps)
 
 times : (a b : ℕ) → 1 ≤ b → a ≤ a * b

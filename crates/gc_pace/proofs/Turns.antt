@@ -37,13 +37,13 @@ end_grows : (s : State) (m : ℕ) (op : Op) → heap_end s ≤ heap_end (mutate 
 end_grows s m op = grind (arith, common_steps, cond_both)
 
 -- what commands made of the state s
-record IsRaised (s t : State) : Type 0 where
+pub record IsRaised (s t : State) : Type 0 where
   pub state : IsState t
   pub end : heap_end s ≤ heap_end t
   pub entries : entries_left s ≤ entries_left t
   pub work : work_left t + heap_end s + entries_left s ≡ work_left s + heap_end t + entries_left t
 
-raised : (s : State) (commands : List (ℕ × Op)) → IsState s → AreCommands s.mutators commands → IsRaised s (after_commands s commands)
+pub raised : (s : State) (commands : List (ℕ × Op)) → IsState s → AreCommands s.mutators commands → IsRaised s (after_commands s commands)
 raised s [] h k = record { state = h; end = omega arith; entries = omega arith; work = refl }
 raised s (command ∷ rest) h k =
     let next = (mutate s command.0 command.1).1 in
@@ -62,7 +62,7 @@ ahead_before s t pace most h k remembers all low = grind (arith, common_steps, l
 -- ---- calls
 
 -- a step stays as it is without a size
-unsized : (step : Step) → step ≡ with_size None step
+pub unsized : (step : Step) → step ≡ with_size None step
 unsized step = grind (arith, common_steps)
 
 useful_keep : (n : ℕ) (s : State) → IsState s → IsState (after_useful None n s)
@@ -72,7 +72,7 @@ useful_keep (suc n) s h =
     let now = useful_keep n s h in
     subst (λ (step : Step). IsState (collect before step).1) (unsized (useful_step before)) (collect_keeps before (useful_step before) now (useful_ranges before now.collection))
 
-call_keeps : (wanted : ℕ) (s t : State) (before after : Pace) (work : Work) → IsPacedWork wanted s t before after work → IsState s → IsState t
+pub call_keeps : (wanted : ℕ) (s t : State) (before after : Pace) (work : Work) → IsPacedWork wanted s t before after work → IsState s → IsState t
 call_keeps wanted s t before after work paced h = go (steps_due before (counts_of s) wanted) refl
   where
     go : (n : ℕ) → steps_due before (counts_of s) wanted ≡ n → IsState t
@@ -82,7 +82,7 @@ call_keeps wanted s t before after work paced h = go (steps_due before (counts_o
         let done = due_work before (steps_due before (counts_of s) wanted) s t work (paced.some busy) (paced.within busy) in
         subst IsState (sym (done.run).state) (useful_keep work.steps s h)
 
-call_remembers : (wanted : ℕ) (s t : State) (before after : Pace) (work : Work) → IsPacedWork wanted s t before after work → Remembers after t
+pub call_remembers : (wanted : ℕ) (s t : State) (before after : Pace) (work : Work) → IsPacedWork wanted s t before after work → Remembers after t
 call_remembers wanted s t before after work paced = grind (arith, common_steps)
 
 turns_ahead : (s : State) (pace : Pace) (turns : List Turn) (most : ℕ) → IsState s → Remembers pace s → AreTurns s pace turns → work_left s ≤ most + pace.owed
@@ -112,7 +112,7 @@ turns_logs s pace turns most h remembers k low =
 
 -- ---- where words are not bounded, no step is owed
 
-call_owes : (wanted : ℕ) (s t : State) (before after : Pace) (work : Work) → IsPacedWork wanted s t before after work → before.words ≡ 0 → (after.words ≡ 0) × (after.owed ≡ 0)
+pub call_owes : (wanted : ℕ) (s t : State) (before after : Pace) (work : Work) → IsPacedWork wanted s t before after work → before.words ≡ 0 → (after.words ≡ 0) × (after.owed ≡ 0)
 call_owes wanted s t before after work paced free = grind (arith, common_steps, cond_both, leb-true, and_parts)
 
 pub turns_owe : (s : State) (pace : Pace) (turns : List Turn) → AreTurns s pace turns → pace.words ≡ 0 → pace.owed ≡ 0 → (after_turns s pace turns).1.owed ≡ 0

@@ -1,11 +1,11 @@
 -- Many calls of paced work, with commands of mutators between them.
-use Rattle.std.specs.Prelude.{◌≡◌, ℕ, ◌<◌, List, [], ◌∷◌, ⊤}
+use Rattle.std.specs.Prelude.{◌≡◌, ℕ, ◌<◌, ◌≤◌, List, [], ◌∷◌, ⊤}
 use Rattle.std.specs.List.{AllByRecursion}
 use Rattle.gc_graph.specs.declared.command.Op.{Op}
 use Rattle.gc_plan.specs.State.{State}
 use Rattle.gc_plan.specs.Steps.{mutate}
 use Rattle.gc_plan.specs.Runs.{HasRange}
-use Rattle.gc_pace.specs.Pace.{WorkGoesOn, IsPacedWork}
+use Rattle.gc_pace.specs.Pace.{WorkGoesOn, IsPacedWork, steps_left}
 use Rattle.gc_pace.specs.Counts.{counts_of}
 use Rattle.gc_pace.specs.declared.pace.Pace.{Pace}
 use Rattle.gc_pace.specs.declared.work.Work.{Work}
@@ -40,6 +40,11 @@ AreTurns s pace (turn ∷ turns) = IsTurn s pace turn × AreTurns turn.state tur
 abbrev pub after_turns : State → Pace → List Turn → State × Pace
 after_turns s pace [] = (s, pace)
 after_turns s pace (turn ∷ turns) = after_turns turn.state turn.pace turns
+
+-- before each call no more steps are left than a call can perform
+abbrev pub AreFew : State → List Turn → Type 0
+AreFew s [] = ⊤
+AreFew s (turn ∷ turns) = (steps_left (counts_of (after_commands s turn.commands)) ≤ 4294967295) × AreFew turn.state turns
 
 -- the pace remembers the counts of this state
 pub record Remembers (pace : Pace) (s : State) : Type 0 where

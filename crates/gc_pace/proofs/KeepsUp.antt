@@ -1,0 +1,207 @@
+-- Steps that follow from the counts lower the work at least as fast as the room falls, in proportion.
+use Rattle.std.proofs.lemmas.Grind.{common_steps}
+use Rattle.std.proofs.lemmas.Bool.{cases_lt, eqb-true}
+use Rattle.std.proofs.lemmas.Nat.{mul-le}
+use Rattle.std.proofs.Math.Nat.{div-add-mod, le_of_mul-le-mul_right}
+use Rattle.std.proofs.Common.{◌≡◌, ◌⊎◌, inl, inr, ℕ, zero, suc, ◌+◌, ◌-◌, ◌*◌, ◌/◌, ◌%◌, ◌<◌, ◌≤◌, Bool, true, false, List, [], ◌∷◌, length, Option, Some, None, refl, ap, sym, ◌∙◌, subst, arith}
+use Rattle.std.specs.Prelude.{◌≢◌, cond}
+use Rattle.std.specs.Option.{option_map_or}
+use Rattle.gc_graph.specs.declared.command.Op.{Op}
+use Rattle.gc_plan.specs.State.{Collection, State, heap_end}
+use Rattle.gc_plan.specs.Belonging.{IsState}
+use Rattle.gc_plan.specs.Steps.{collect, flipped, is_ready, mutate, passes_check, step_in, step_idle}
+use Rattle.gc_plan.specs.Progress.{entries_left, work_left}
+use Rattle.gc_plan.specs.declared.step.Step.{Step}
+use Rattle.gc_plan.specs.declared.step.Step.TheVariants as steps
+use Rattle.gc_plan.specs.declared.step.StepReply.{StepReply}
+use Rattle.gc_plan.specs.declared.step.StepReply.TheVariants.{Flipped, NotReady, Refused}
+use Rattle.gc_plan.proofs.Public.{left_bounded, steps_stay}
+use Rattle.gc_pace.specs.Counts.{counts_of}
+use Rattle.gc_pace.specs.Work.{IsRun, after_useful, goes_on, sized_step, useful_reply}
+use Rattle.gc_pace.specs.Pace.{steps_left, spent, steps_due, took_its_words, CountsAll, HasEnded, IsPacedWork}
+use Rattle.gc_pace.specs.Turns.{Turn, AreFew, AreTurns, IsTurn, Remembers, after_commands, after_turns}
+use Rattle.gc_pace.specs.declared.counts.Counts.{Counts}
+use Rattle.gc_pace.specs.declared.pace.Pace.{Pace}
+use Rattle.gc_pace.specs.declared.work.Work.{Work}
+use Rattle.gc_pace.proofs.Left.{counts_bound, end_at, logged_all, logged_low, some_left}
+use Rattle.gc_pace.proofs.Paid.{not_zero}
+use Rattle.gc_pace.proofs.PacedCalls.{on_of}
+use Rattle.gc_pace.proofs.Turns.{IsRaised, call_keeps, call_owes, call_remembers, raised}
+
+-- ---- numbers
+
+-- Of l steps that were left, each of x words is paid for by 1 + q steps beside its own, where room times 1 + q is at least l. So l falls by as large a part as
+-- a of the free words, or more.
+in_proportion : (l before x q free later a room : ℕ) → l + x * (1 + q) ≤ before → later + a ≡ free → a ≤ x → room ≤ free → before ≤ room * (1 + q) → l * free ≤ before * later
+in_proportion l before x q free later a room falls took few low enough =
+    let one : (l + x * (1 + q)) * free ≤ before * free = mul-le (l + x * (1 + q)) free before free falls (omega arith) in
+    let two : a * before ≤ x * (free * (1 + q)) = mul-le a before x (free * (1 + q)) few (omega (arith, enough, mul-le room (1 + q) free (1 + q) low (omega arith))) in
+    let split : (l + x * (1 + q)) * free ≡ l * free + x * (free * (1 + q)) = omega arith in
+    let whole : before * free ≡ before * later + a * before = ap (λ n. before * n) (sym took) ∙ omega arith in
+    omega (arith, one, two, split, whole)
+
+-- what l steps left are at most is at most so many times the room
+rate_covers : (left room : ℕ) → 1 ≤ room → left ≤ room * (1 + left / room)
+rate_covers left room some =
+    let parts : room * (left / room) + left % room ≡ left = div-add-mod left room in
+    omega (arith, parts)
+
+-- two proportions one after the other
+on_in_proportion : (l m n a b c : ℕ) → 1 ≤ m → m * a ≤ l * b → n * b ≤ m * c → n * a ≤ l * c
+on_in_proportion l m n a b c some first then = elim (cases_lt 0 b) [
+  | inl low ↦ le_of_mul-le-mul_right {m = n * a} {n = l * c} {k = b} (
+      let one : (n * b) * a ≤ (m * c) * a = mul-le (n * b) a (m * c) a then (omega arith) in
+      let two : (m * a) * c ≤ (l * b) * c = mul-le (m * a) c (l * b) c first (omega arith) in
+      omega (arith, one, two)) low
+  | inr none ↦
+      let zero_b : b ≡ 0 = omega (arith, none) in
+      let flat : l * b ≡ 0 = ap (λ k. l * k) zero_b ∙ omega arith in
+      let small : 1 * a ≤ m * a = mul-le 1 a m a some (omega arith) in
+      let no : a ≡ 0 = omega (arith, small, first, flat) in
+      omega (arith, ap (λ k. n * k) no)
+]
+
+-- ---- steps that go on leave the mutators' heap
+
+abbrev Same : State → State → Type 0
+Same s t = (t.heap ≡ s.heap) × (t.size ≡ s.size)
+
+flip_same : (s : State) (c : Collection) (ready passes : Bool) → goes_on (cond {A = StepReply × State} ready (cond passes (Flipped (length c.replicas), flipped s c) (Refused, s)) (NotReady, s)).0 ≡ true
+    → Same s (cond {A = StepReply × State} ready (cond passes (Flipped (length c.replicas), flipped s c) (Refused, s)) (NotReady, s)).1
+flip_same s c ready passes on = grind (arith, common_steps)
+
+flips_same : (s : State) (o : Option Collection) → goes_on (option_map_or (λ c. step_in s c steps.Flip) o (step_idle s steps.Flip)).0 ≡ true → Same s (option_map_or (λ c. step_in s c steps.Flip) o (step_idle s steps.Flip)).1
+flips_same s None on = (refl, refl)
+flips_same s (Some c) on = flip_same s c (is_ready c s.heap.graph) (passes_check s c) on
+
+stays_same : (s : State) (step : Step) → step ≢ steps.Flip → Same s (collect s step).1
+stays_same s step other = let k = steps_stay s step other in (ap (λ (x : State). x.heap) k, ap (λ (x : State). x.size) k)
+
+step_same : (s : State) (step : Step) → goes_on (collect s step).0 ≡ true → Same s (collect s step).1
+step_same s steps.Begin on = stays_same s steps.Begin (λ e. cc e)
+step_same s (steps.BeginSized size) on = stays_same s (steps.BeginSized size) (λ e. cc e)
+step_same s steps.Roots on = stays_same s steps.Roots (λ e. cc e)
+step_same s steps.Scan on = stays_same s steps.Scan (λ e. cc e)
+step_same s (steps.Apply m) on = stays_same s (steps.Apply m) (λ e. cc e)
+step_same s steps.Flip on = flips_same s s.collection on
+step_same s steps.Drop on = stays_same s steps.Drop (λ e. cc e)
+
+useful_same : (n : ℕ) (s : State) → ((k : ℕ) → k < n → goes_on (useful_reply None k s) ≡ true) → Same s (after_useful None n s)
+useful_same zero s on = (refl, refl)
+useful_same (suc n) s on =
+    let before = useful_same n s (λ k less. on k (omega (arith, less))) in
+    let one = step_same (after_useful None n s) (sized_step None (after_useful None n s)) (on n (omega arith)) in
+    (one.0 ∙ before.0, one.1 ∙ before.1)
+
+run_same : (n : ℕ) (s t : State) (reply : StepReply) → IsRun None n s t reply → goes_on reply ≡ true → Same s t
+run_same n s t reply run on = subst (Same s) (sym run.state) (useful_same n s (λ k less. elim (cases_lt (suc k) n) [
+  | inl early ↦ run.going k early
+  | inr late ↦ (let some = run.some in let last : n - 1 ≡ k = omega (arith, less, late) in subst (λ j. goes_on (useful_reply None j s) ≡ true) last (ap goes_on (sym run.reply_is) ∙ on))
+]))
+
+commands_size : (s : State) (commands : List (ℕ × Op)) → (after_commands s commands).size ≡ s.size
+commands_size s [] = refl
+commands_size s (command ∷ rest) = commands_size (mutate s command.0 command.1).1 rest
+
+-- ---- one turn
+
+-- All steps that are left are due, or the steps that pay for what was spent.
+due_is : (pace : Pace) (counts : Counts) (wanted : ℕ) → 1 ≤ counts.is_open → pace.rate ≡ 0 → pace.owed ≡ 0 → steps_left counts ≤ 4294967295
+    → (steps_left counts ≤ steps_due pace counts wanted) ⊎ ((1 ≤ counts.free - wanted) × (steps_due pace counts wanted ≡ spent pace counts * (2 + steps_left counts / (counts.free - wanted))))
+due_is pace counts wanted is_open rate owed few = grind (arith, common_steps, not_zero, eqb-true)
+
+module _ (s : State) (pace : Pace) (turn : Turn) (h : IsState s) (remembers : Remembers pace s) (k : IsTurn s pace turn) (few : steps_left (counts_of (after_commands s turn.commands)) ≤ 4294967295)
+    (rate : pace.rate ≡ 0) (words : pace.words ≡ 0) (owed : pace.owed ≡ 0) where
+  u : State
+  u = after_commands s turn.commands
+
+  now : IsRaised s (after_commands s turn.commands)
+  now = raised s turn.commands h k.commands
+
+  due : ℕ
+  due = steps_due pace (counts_of (after_commands s turn.commands)) turn.wanted
+
+  -- each step that was due was performed
+  performed : turn.work.steps ≡ steps_due pace (counts_of (after_commands s turn.commands)) turn.wanted
+  performed =
+      let owes = call_owes turn.wanted (after_commands s turn.commands) turn.state pace turn.pace turn.work k.work words in
+      let none = sym (ap (λ (p : Pace). p.owed) (k.work).pace) ∙ owes.1 in
+      omega (arith, (k.goes_on).performed, none)
+
+  -- the steps lowered the work by their number, and left the mutators' heap
+  fallen : (work_left turn.state + turn.work.steps ≤ work_left (after_commands s turn.commands)) × Same (after_commands s turn.commands) turn.state
+  fallen = elim (cases_lt (steps_due pace (counts_of (after_commands s turn.commands)) turn.wanted) 1) [
+    | inl none ↦ (let zero_due : steps_due pace (counts_of (after_commands s turn.commands)) turn.wanted ≡ 0 = omega (arith, none) in
+        let idle = (k.work).none zero_due in
+        (omega (arith, ap work_left idle.0, performed, none), (ap (λ (x : State). x.heap) idle.0, ap (λ (x : State). x.size) idle.0)))
+    | inr some ↦ (let done = (k.work).some some words in
+        let on = on_of turn.work done.reply done.last (k.goes_on).going in
+        (done.run.falls on, run_same turn.work.steps (after_commands s turn.commands) turn.state done.reply done.run on))
+  ]
+
+  bound : work_left (after_commands s turn.commands) ≤ steps_left (counts_of (after_commands s turn.commands))
+  bound = counts_bound (after_commands s turn.commands) (λ c is. left_bounded (after_commands s turn.commands) c now.state.heap now.state.collection is) (k.goes_on).counted
+
+  -- what was spent is what the commands added to the work
+  added : work_left (after_commands s turn.commands) ≡ work_left s + spent pace (counts_of (after_commands s turn.commands))
+  added =
+      let logged = logged_all (after_commands s turn.commands) (k.goes_on).counted in
+      let before = logged_low s in
+      let same : (counts_of s).logged ≡ entries_left s = grind (arith, common_steps, logged, now.entries, (k.goes_on).counted) in
+      omega (arith, now.work, now.end, now.entries, remembers.end, remembers.logged, end_at s, end_at (after_commands s turn.commands), logged, same)
+
+  turn_keeps_up : work_left turn.state * s.heap.free ≤ work_left s * turn.state.heap.free
+  turn_keeps_up = elim (due_is pace (counts_of (after_commands s turn.commands)) turn.wanted (k.goes_on).collecting rate owed few) [
+    | inl all ↦ absurd (omega (arith, all, fallen.0, performed, bound, some_left turn.state))
+    | inr paid ↦
+        let room = (counts_of (after_commands s turn.commands)).free - turn.wanted in
+        let q = steps_left (counts_of (after_commands s turn.commands)) / room in
+        let x = spent pace (counts_of (after_commands s turn.commands)) in
+        let covers : steps_left (counts_of (after_commands s turn.commands)) ≤ room * (1 + q) = rate_covers (steps_left (counts_of (after_commands s turn.commands))) room paid.0 in
+        let free_then : turn.state.heap.free ≡ (after_commands s turn.commands).heap.free = ap (λ (x : Rattle.gc_graph.specs.Machine.Roomy). x.free) fallen.1.0 in
+        in_proportion (work_left turn.state) (work_left s) x q s.heap.free turn.state.heap.free (heap_end (after_commands s turn.commands) - heap_end s) room
+        (omega (arith, fallen.0, performed, paid.1, added))
+        (omega (arith, free_then, now.end, commands_size s turn.commands, h.heap.room, now.state.heap.room))
+        (omega (arith, remembers.end, end_at s, end_at (after_commands s turn.commands)))
+        (omega (arith, now.end, commands_size s turn.commands, h.heap.room, now.state.heap.room))
+        (omega (arith, covers, bound, added))
+  ]
+
+-- ---- many turns
+
+pub turns_keep_up : (s : State) (pace : Pace) (turns : List Turn) → IsState s → Remembers pace s → AreTurns s pace turns → AreFew s turns → pace.rate ≡ 0 → pace.words ≡ 0 → pace.owed ≡ 0
+    → work_left (after_turns s pace turns).0 * s.heap.free ≤ work_left s * (after_turns s pace turns).0.heap.free
+turns_keep_up s pace [] h remembers k few rate words owed = omega arith
+turns_keep_up s pace (turn ∷ turns) h remembers k few rate words owed =
+    let owes = call_owes turn.wanted (after_commands s turn.commands) turn.state pace turn.pace turn.work (k.0).work words in
+    let one = turn_keeps_up s pace turn h remembers k.0 few.0 rate words owed in
+    let now = raised s turn.commands h (k.0).commands in
+    let rest = turns_keep_up turn.state turn.pace turns (call_keeps turn.wanted (after_commands s turn.commands) turn.state pace turn.pace turn.work (k.0).work now.state)
+    (call_remembers turn.wanted (after_commands s turn.commands) turn.state pace turn.pace turn.work (k.0).work) k.1 few.1 (ap (λ (p : Pace). p.rate) ((k.0).work).pace ∙ rate) owes.0 owes.1 in
+    on_in_proportion (work_left s) (work_left turn.state) (work_left (after_turns turn.state turn.pace turns).0) s.heap.free turn.state.heap.free (after_turns turn.state turn.pace turns).0.heap.free (some_left turn.state) one rest
+
+pub turns_most : (s : State) (pace : Pace) (turns : List Turn) (most : ℕ) → IsState s → Remembers pace s → AreTurns s pace turns → AreFew s turns → pace.rate ≡ 0 → pace.words ≡ 0 → pace.owed ≡ 0
+    → 1 ≤ s.heap.free → work_left s ≤ most * s.heap.free → work_left (after_turns s pace turns).0 ≤ most * (after_turns s pace turns).0.heap.free
+turns_most s pace turns most h remembers k few rate words owed some low =
+    let t = (after_turns s pace turns).0 in
+    let ratio = turns_keep_up s pace turns h remembers k few rate words owed in
+    let wide : work_left s * t.heap.free ≤ (most * s.heap.free) * t.heap.free = mul-le (work_left s) t.heap.free (most * s.heap.free) t.heap.free low (omega arith) in
+    le_of_mul-le-mul_right {m = work_left t} {n = most * t.heap.free} {k = s.heap.free} (omega (arith, ratio, wide)) some
+
+-- ---- a call that finds no more room than it wants
+
+all_due : (pace : Pace) (counts : Counts) (wanted : ℕ) → counts.free ≤ wanted → steps_left counts ≤ 4294967295 → steps_left counts ≤ steps_due pace counts wanted
+all_due pace counts wanted low few = grind (arith, common_steps, not_zero)
+
+took_none : (before : Pace) (work : Work) → before.words ≡ 0 → took_its_words before work ≡ false
+took_none before work free = grind (arith, common_steps)
+
+pub room_or_end : (wanted : ℕ) (s t : State) (before after : Pace) (work : Work) → IsPacedWork wanted s t before after work → CountsAll (counts_of s) → steps_left (counts_of s) ≤ 4294967295 → before.words ≡ 0
+    → (wanted < (counts_of s).free) ⊎ HasEnded t work
+room_or_end wanted s t before after work paced counted few free = elim (cases_lt wanted (counts_of s).free) [
+  | inl room ↦ inl room
+  | inr none ↦ elim (paced.enough counted (all_due before (counts_of s) wanted none few)) [
+    | inl ended ↦ inr ended
+    | inr took ↦ absurd (let no : false ≡ true = sym (took_none before work free) ∙ took in cc)
+  ]
+]
