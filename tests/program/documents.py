@@ -183,66 +183,7 @@ def add_contracts(text, found):
             clauses.add(clause.group(1) or "ensures")
 
 
-# ---- calls that can run out of memory
-
-HEAP_CALL = re.compile(r"\bgcflip_heap_(\w+)\(")
-# The sentences that list the calls on a heap which can run out of memory, behind the checker's, and those which can while a collection is open.
-TOLD = {"bindings/c/gcflip_heap.h": r"- only (.*?) can return GCFLIP_NO_MEMORY\. While a collection is open, so can (.*?)\.",
-        "docs/EMBEDDING.md": r"can run out of memory: both checks, `infer`, `path`, (.*?)\. While a collection is open, so can (.*?)\."}
-
-
-def told_in(text, pattern):
-    """Returns the names of both lists of a sentence."""
-    found = re.search(pattern, " ".join(re.sub(r"(?m)^ \*", "", text).split()))
-    return tuple(set(re.findall(r"\w+", row)) - {"and"} for row in found.groups()) if found else None
-
-
-def refused_in(text):
-    """Returns the calls that a program refuses memory in any state, those that it refuses memory only while a collection is open, and those that it
-    makes where no allocation can succeed."""
-    functions = {name: HEAP_CALL.findall(body)[0] for name, body in re.findall(r"(?ms)^static uint32_t (\w+)\(void\)\s*\{(.*?)\}$", text)}
-    tried = re.findall(r"failures\((\w+), (\w+)\) == ([\w +]+)\)", text)
-    only_open = {functions[name] for _, name, count in tried if count == "0"}
-    rest = "".join(re.findall(r"(?ms)^static void (?:draw|move_roots|read_all|calls_that_do_not_allocate|free_all)\(.*?^\}$", text))
-    always = {functions[name] for _, name, _ in tried} | {"open"}
-    return always - only_open, only_open, set(HEAP_CALL.findall(rest)) - always
-
-
-def memory_answers(_program, _folder):
-    """Compares the lists of calls that can run out of memory with the calls that tests/c/refused_heap.c makes run out of it, and requires that this
-    program makes each other call where no allocation can succeed."""
-    always, only_open, never = refused_in(text_of("tests/c/refused_heap.c"))
-    for path, pattern in TOLD.items():
-        told = told_in(text_of(path), pattern)
-        yield "calls that can run out of memory, in %s" % path, None if told == (always, only_open) else "told %s, tried %s" % (told, (always, only_open))
-    known = set(HEAP_CALL.findall(text_of("bindings/c/symbols.txt")))
-    yield "calls that cannot", None if never == known - always - only_open else "tried %s, wanted %s" % (sorted(never), sorted(known - always - only_open))
-
-
-# ---- names of the bindings
-
-NAMES_BEGIN = "| C, after `gcflip_heap_` | Rust | Python |"
-# Public methods that stand for no call of C alone.
-OF_THEIR_OWN = {"Rust": {"mutator", "collect"}, "Python": {"mutator"}}
-
-
-def names_in_cell(cell, of_c):
-    """Returns the names in a cell, without the type before a name and the arguments behind it; those of C if the cell says 'the same'. A class is
-    no name of a call."""
-    names_there = [re.sub(r"^\w+::|\(.*", "", name) for name in re.findall(r"`([^`]+)`", cell)]
-    return of_c if cell.strip() == "the same" else {name for name in names_there if name[0].islower()}
-
-
-def table_of_names():
-    """Returns the names of C, of Rust and of Python in the table of docs/EMBEDDING.md."""
-    told = {"C": set(), "Rust": set(), "Python": set()}
-    for line in text_of("docs/EMBEDDING.md").partition(NAMES_BEGIN)[2].partition("\n\n")[0].split("\n")[2:]:
-        cells = line.strip("|").split(" | ")
-        of_c = names_in_cell(cells[0], set())
-        for language, cell in zip(told, cells):
-            told[language] |= names_in_cell(cell, of_c)
-    return told
-
+# ---- names of calls
 
 # What calls on a heap for C were named before they said what they do, and the documents that speak of these calls. Their tables may have these
 # words for other things.
@@ -257,28 +198,6 @@ def old_names(_program, _folder):
         lines = [(number, line) for number, line in enumerate(text_of(document).split("\n"), 1) if not line.startswith("|")]
         found = ["%s (line %d)" % (name, number) for number, line in lines for name in re.findall(r"`(\w+)`", line) if name in OLD_NAMES]
         yield "names of C's calls in %s" % document, ", ".join(found) or None
-
-
-def members(path, pattern, member):
-    """Returns the members of the blocks in a file that the pattern finds."""
-    return {name for block in re.findall(pattern, text_of(path)) for name in re.findall(member, block)}
-
-
-def names_of_calls(_program, _folder):
-    """Compares the table of names with the symbols of C and the public methods of Rust and Python. No name is both a step's and an error's."""
-    rust, python, errors = "bindings/rust/src/heap.rs", "bindings/python/gcflip/heap.py", "bindings/python/gcflip/errors.py"
-    found = {"C": {name.replace("gcflip_heap_", "") for name in re.findall(r"gcflip_(?:heap_\w+|pace_due)(?=\()", text_of("bindings/c/symbols.txt"))},
-             "Rust": members(rust, r"(?ms)^impl (?:Heap|Mutator<'_>) \{(.*?)^\}", r"(?m)^    pub fn (\w+)"),
-             "Python": members(python, r"(?ms)^class (?:Heap|Mutator):\n(.*?)(?=^\S|\Z)", r"(?m)^    def ([a-z]\w*)")}
-    for language, told in table_of_names().items():
-        wanted = found[language] - OF_THEIR_OWN.get(language, set())
-        yield "names of %s" % language, None if told == wanted else "beyond the calls: %s; missing: %s" % (sorted(told - wanted), sorted(wanted - told))
-    steps = {"Rust": members(rust, r"(?ms)^pub enum Step \{(.*?)^\}", r"(?m)^    (\w+)"),
-             "Python": {name.title().replace("_", "") for name in members(python, r"(?ms)^class Step\(enum.Enum\):\n(.*?)(?=^\S)", r"(?m)^    ([A-Z_]+) = ")}}
-    refused = {"Rust": members(rust, r"(?ms)^pub enum Error \{(.*?)^\}", r"(?m)^    (\w+)"), "Python": set(re.findall(r"(?m)^class (\w+)", text_of(errors)))}
-    for language, named in steps.items():
-        both = named & refused[language]
-        yield "steps and errors of %s" % language, None if named and refused[language] and not both else "both: %s" % sorted(both)
 
 
 # ---- edits
@@ -708,5 +627,5 @@ def axioms(_program, _folder):
         yield "a verdict with %r" % new, None if is_right else "found %s" % (found,)
 
 
-GROUPS = [names, words, files, memory_answers, names_of_calls, old_names, edits, hand_tried, quotes, names_in_c, outputs_in_c, c_of_readme, adapter_shown, first_screen,
+GROUPS = [names, words, files, old_names, edits, hand_tried, quotes, names_in_c, outputs_in_c, c_of_readme, adapter_shown, first_screen,
           commands_of_tables, skips, definitions, counts, products, architecture, glossary, told_again, axioms]
