@@ -422,9 +422,11 @@ def adapter_shown(_program, _folder):
         yield "a block that is %s is found" % what, None if list(wrong_in_adapter(other, lines)) else "it is not"
 
 
-# What README's first screen has, in this order, how many lines it is, and how many words README may have.
+# What README's first screen has, in this order, and how many lines it is.
 FIRST_SCREEN = ["is the project", "](docs/pictures/pauses.svg)", "make run", "make test", "What is proved", "**standing checker**", "**whole check**", "`whole_each`", "when not to use it"]
-FIRST_LINES, MOST_WORDS = 30, 1300
+FIRST_LINES = 30
+# How many words a page may have.
+MOST_WORDS = {"README.md": 1300, "docs/EMBEDDING.md": 3000}
 
 
 def first_screen(_program, _folder):
@@ -436,8 +438,9 @@ def first_screen(_program, _folder):
     yield "first screen of README.md", None if -1 not in places and places == sorted(places) else "places %s of %s" % (places, FIRST_SCREEN)
     yield "no table on the first screen", None if not any(line.startswith("|") for line in lines) else "there is one"
     yield "C before the tables", None if -1 < whole.find("```c\n") < whole.find("\n|") else "a table comes first"
-    count = len(whole.split())
-    yield "words of README.md", None if count <= MOST_WORDS else "they are %d" % count
+    for page, most in MOST_WORDS.items():
+        count = len(text_of(page).split())
+        yield "words of %s" % page, None if count <= most else "they are %d" % count
 
 
 # ---- commands

@@ -13,7 +13,7 @@ PROTOTYPE = r"((?:static inline )?(?!typedef|enum|struct)[a-z][\w *]*?)\b(gcflip
 # A comment, and the functions right below it.
 DECLARED = re.compile(r"(?ms)^/\*(?! ----) ((?:(?!\*/).)*?) ?\*/\n((?:%s)+)" % PROTOTYPE)
 ANSWER = re.compile(r"(?m)^    (GCFLIP_\w+) = (\d+),?")
-SENTENCE = re.compile(r"(?<=[.?!]) +(?=[A-Z`])")
+SENTENCE = re.compile(r"(?<=[.?!]) +(?=[A-Z`\"])")
 # The answers at the end of a sentence: what the function does is said before them.
 TAIL = re.compile(r"(?::| ?, or) GCFLIP_.*\.$|: GCFLIP_[^.]*\.$")
 
@@ -37,8 +37,8 @@ class Function:
         return made.group(1) if made else None
 
     def names(self, known):
-        """Returns which of these answers the comment names."""
-        return [answer for answer in known if re.search(r"\b%s\b" % answer, self.comment)]
+        """Returns which of these answers the comment names. Functions of other types return none."""
+        return [] if self.returns != "uint32_t" else [answer for answer in known if re.search(r"\b%s\b" % answer, self.comment)]
 
 
 def text_of(header):

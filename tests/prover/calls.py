@@ -170,7 +170,7 @@ class Table:
             yield from self.faults_of(function)
         for language, made in (("Rust", self.rust), ("Python", self.python)):
             yield from ["%s of %s stands for no call of C" % (name, language) for name in bindings.unnamed(symbols(), made, language)]
-        yield from ["the note on %s is about no call" % name for name, _ in notes() if name not in names]
+        yield from ["the note on %s is about no call" % name for name, _ in parts_of_notes() if is_call(name) and name not in names]
 
     def faults_of(self, function):
         clauses = self.contracts.get(function.name)
@@ -225,10 +225,14 @@ def shown(name):
     return name if " " in name else "`%s`" % name
 
 
-def notes():
-    """Returns the notes on calls: the name of each call, and the text."""
-    parts = re.split(r"(?m)^## (\w+)\n", read(NOTES))[1:]
+def parts_of_notes():
+    """Returns the parts of the notes: the heading of each, which is a call's name or begins with a capital, and its text. Links lead from the page."""
+    parts = re.split(r"(?m)^## (\w+)\n", read(NOTES).replace("](../../examples/", "](../examples/"))[1:]
     return list(zip(parts[::2], parts[1::2]))
+
+
+def is_call(heading):
+    return heading.islower()
 
 
 def line_of(cells):
@@ -246,8 +250,9 @@ def document(table):
             lines.append(("\n### %s\n" % function.section if function.section else "") + "\n" + line_of(columns) + "|%s\n" % ("---|" * len(columns)))
         lines.append(line_of(table.row(function)))
         last = function
-    told = "".join("\n### %s\n%s" % (name, text.rstrip() + "\n") for name, text in notes())
-    return "".join(lines) + "\n## More about some calls\n" + told
+    parts = [(is_call(name), "%s %s\n%s\n" % ("###" if is_call(name) else "##", name, text.rstrip())) for name, text in parts_of_notes()]
+    others, of_calls = ["\n".join(text for of_call, text in parts if of_call == wanted) for wanted in (False, True)]
+    return "".join(lines) + "\n" + others + "\n## More about some calls\n\n" + of_calls
 
 
 def faults(shown, table=None):
