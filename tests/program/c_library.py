@@ -1,4 +1,16 @@
-"""Tests of the libraries for C and C++: programs of tests/c that call them, built in every way that the machine allows."""
+"""Tests of the libraries for C and C++: programs of tests/c that call them, built in every way that the machine allows.
+
+It tests the libraries for C and C++, built and installed by bindings/c: programs of tests/c by gcc, with sanitizers, by the toolchain's clang, and by
+musl-gcc where it is; the examples by valgrind, and the one with threads by helgrind; the allocator of bindings/c/examples/huge_pages.c, with
+sanitizers, by valgrind and with little address space; the tests of examples/long_objects, with sanitizers and by valgrind; a short run of soak.c; how
+bench/embedding merges and sums up pauses; the library for adapters with its own source under sanitizers and by valgrind, and each of its allocations
+refused in turn; the words that it writes for a nursery, and its verdicts on young objects compared with those on whole heaps; a heap of 1048576 words
+with an allocator that counts blocks; the limits of docs/CALLS.md, with their example of little address space; each call that a recording knows, while
+it records, after it has ended and without a stream; that make compiles an object anew for each header that it includes; small runs of what
+tests/long/run large does, with live objects behind 1 GiB of garbage; the instructions of a useful step, of giving up a collection, and of a begin
+after a large snapshot; the bit at which an adapter crashes in the self-test; and the reads of roots in a collection of 65,536 extra roots, counted by
+valgrind. It reports what it skips for lack of a tool.
+"""
 import json
 import os
 import re

@@ -1,6 +1,12 @@
 """Tests of the documents that need nothing built: what they cite exists, and what they quote is in the code.
 
-What needs the program, the library or a verdict is in documents_built."""
+What needs the program, the library or a verdict is in documents_built.
+
+It tests names and files that documents cite; jobs, notions and words in ARCHITECTURE and GLOSSARY; numbers that two documents tell; code that they
+quote; what stands on README's first screen, and that its C is in an example; how many words pages have; the adapter of CERTIFY, line for line; what
+CI may skip; counts of definitions, by crate and by product; definitions that no public contract reaches; the products of TRUST. It needs nothing
+built, and takes five seconds.
+"""
 import contextlib
 import functools
 import glob
@@ -13,7 +19,6 @@ import re
 from prover import notions
 from prover.axioms import PRODUCTS, counts_in, lines_to_keep
 from prover.crates import TOP, crates_listed
-from prover.edits import edit_named, edits_of
 
 from .harness import Skipped, skips_listed, wrong_skips
 
@@ -158,31 +163,6 @@ def files(_program, _folder):
         yield "files of %s" % document, ", ".join(missing) or None
 
 
-# ---- clauses
-
-@functools.lru_cache(maxsize=None)
-def contracts_of(crate):
-    """Returns the clauses of each function of a crate by the function's name. Functions with the same name share an entry."""
-    found = {}
-    for path, _, names_in in os.walk(os.path.join(TOP, "crates", crate, "src")):
-        for name in sorted(names_in):
-            if name.endswith(".rt"):
-                with open(os.path.join(path, name), encoding="utf-8") as file:
-                    add_contracts(file.read(), found)
-    return found
-
-
-def add_contracts(text, found):
-    clauses = None
-    for line in text.split("\n"):
-        function = re.match(r"\s*(?:pub(?:\(crate\))? )?(?:const |extern \"C\" )?fn (\w+)", line)
-        clause = re.match(r"\s*ensures(?:\*)? (\w+)?\s*\{", line)
-        if function:
-            clauses = found.setdefault(function.group(1), set())
-        elif clause and clauses is not None:
-            clauses.add(clause.group(1) or "ensures")
-
-
 # ---- names of calls
 
 # What calls on a heap for C were named before they said what they do, and the documents that speak of these calls. Their tables may have these
@@ -198,120 +178,6 @@ def old_names(_program, _folder):
         lines = [(number, line) for number, line in enumerate(text_of(document).split("\n"), 1) if not line.startswith("|")]
         found = ["%s (line %d)" % (name, number) for number, line in lines for name in re.findall(r"`(\w+)`", line) if name in OLD_NAMES]
         yield "names of C's calls in %s" % document, ", ".join(found) or None
-
-
-# ---- edits
-
-# A function and its clauses, as the rows of docs/TESTING.md name them.
-CLAUSES_OF = re.compile(r"((?:`[\w:]+`(?: and )?)+), clauses? ((?:`\w+`(?:, | and )?)+)")
-
-
-def edits_in(line):
-    """Yields the edits that a row of docs/TESTING.md names, and the crates that it names for them."""
-    for quoted, listed in re.findall(r"edits? ((?:`\w+`(?:, )?)+) \(([\w, ]+)\)", line):
-        yield re.findall(r"`(\w+)`", quoted), listed.split(", ")
-
-
-def found_in(edits, crates_named):
-    """Returns the pairs of a crate and an edit of these names that exist."""
-    return {(crate, edit) for crate in crates_named for edit in edits if edit + ".edit" in edits_of(crate)}
-
-
-def undated(line, in_ci):
-    """Returns whether a row does not say when it was last seen: by CI if CI tries all its edits, by long runs if not, and by hand if it names none."""
-    last = line.rstrip(" |").split(" | ")[-1]
-    named = {pair for edits, crates_named in edits_in(line) for pair in found_in(edits, crates_named)}
-    if not named:
-        return not re.fullmatch(r"by hand, \d{4}-\d\d-\d\d(?:, .*)?", last)
-    return last != ("each run of CI" if named <= in_ci else "long runs")
-
-
-def unrefused(line, found):
-    """Yields the clauses and calls of a row at which the files of its edits, given with their crates, do not say that they are refused."""
-    tried = [edit_named(crate, edit + ".edit") for crate, edit in found]
-    refused = {(function.split("::")[-1], clause) for edit in tried for _, function, clause in edit.places}
-    for calls, clauses_named in CLAUSES_OF.findall(line):
-        functions = [name.split("::")[-1] for name in re.findall(r"`([\w:]+)`", calls)]
-        for clause in re.findall(r"`(\w+)`", clauses_named):
-            if not any((function, clause) in refused for function in functions):
-                yield clause, calls
-
-
-def unknown_edits(line):
-    """Yields the edits and the clauses that a row of docs/TESTING.md names and that do not exist."""
-    named = set()
-    for edits, crates_named in edits_in(line):
-        found = found_in(edits, crates_named)
-        yield from ["edit %s" % edit for edit in edits if edit not in {name for _, name in found}]
-        yield from ["an edit of %s" % crate for crate in crates_named if crate not in {name for name, _ in found}]
-        named |= found
-        contracts = [contracts_of(crate) for crate in crates_named]
-        for calls, clauses_named in CLAUSES_OF.findall(line):
-            known = set()
-            for call in re.findall(r"`([\w:]+)`", calls):
-                known.update(*[contract.get(call.split("::")[-1], set()) for contract in contracts])
-            yield from ["clause %s of %s" % (name, calls) for name in re.findall(r"`(\w+)`", clauses_named) if name not in known]
-    yield from ["%s of %s, since none of its edits is refused there" % place for place in unrefused(line, named)]
-
-
-def known_tests():
-    """Returns the names of all tests: of Rattle, of Python, and the groups of tests/run with their modules."""
-    folders = [("crates/*/src/tests.rt", r"#\[test\]\n\s*fn (\w+)"), ("crates/*/src/tests/**/*.rt", r"#\[test\]\n\s*fn (\w+)"),
-               ("tests/python/*.py", r"def (test_\w+)")]
-    found = set()
-    for pattern, name in folders:
-        for path in glob.glob(os.path.join(TOP, pattern), recursive=True):
-            found.update(re.findall(name, text_of(path)))
-    for path in glob.glob(os.path.join(TOP, "tests", "program", "*.py")):
-        groups = re.search(r"(?m)^GROUPS = \[([^\]]*)\]", text_of(path))
-        module = os.path.basename(path)[:-len(".py")]
-        found.update("%s.%s" % (module, group.strip()) for group in (groups.group(1).split(",") if groups else []))
-    return found
-
-
-# A name in a row that was tried by hand: of a test, or of a file of tests.
-TEST_NAME = re.compile(r"(?:\w+::)*([a-z]\w*_\w+)|(\w+\.(?!c$|rs$|py$)\w+)")
-TEST_FILE = re.compile(r"(?:[\w/]+/)?\w+\.(?:c|rs|py)")
-
-
-def wrong_tests(line, known):
-    """Yields the tests that a row names and that do not exist, and whether it names none. What the types refuse needs no test."""
-    cell = line.split(" | ")[1]
-    quoted = re.findall(r"`([^`]+)`", cell)
-    named = [found.group(1) or found.group(2) for found in map(TEST_NAME.fullmatch, quoted) if found]
-    files_named = [name for name in quoted if TEST_FILE.fullmatch(name)]
-    yield from ["there is no test %s" % name for name in named if name not in known]
-    yield from ["there is no file %s" % name for name in files_named if not is_file(name) and not is_file(os.path.join("tests", "c", name))]
-    if not named and not files_named and not cell.startswith("the types:"):
-        yield "no test is named by '%s'" % line[:60]
-
-
-# Rows, and what is wrong with each.
-ROWS = [("| a mistake | test `graph::one_word_is_reserved` (gc_tests) | by hand, 2026-11-24 |", []),
-        ("| a mistake | test `graph::one_word_is_gone` (gc_tests) | by hand, 2026-11-24 |", ["there is no test one_word_is_gone"]),
-        ("| a mistake | `random.nothing` | by hand, 2026-11-24 |", ["there is no test random.nothing"]),
-        ("| a mistake | `heap.c` and `heaps.c` | by hand, 2026-11-24 |", ["there is no file heaps.c"]),
-        ("| a mistake | some test | by hand, 2026-11-24 |", ["no test is named by '| a mistake | some test | by hand, 2026-11-24 |'"])]
-
-
-def hand_tried(_program, _folder):
-    """Checks that the tests exist which docs/TESTING.md names for wrong bodies that were tried by hand."""
-    rows = text_of("docs/TESTING.md").partition("## Which goal or test refuses")[2].split("\n")
-    known = known_tests()
-    wrong = [why for line in rows if line.startswith("| ") and "| by hand, " in line for why in wrong_tests(line, known)]
-    yield "tests of docs/TESTING.md", ", ".join(wrong) or None
-    for line, wanted in ROWS:
-        found = list(wrong_tests(line, known))
-        yield "the row %s" % line, None if found == wanted else "found %s" % found
-
-
-def edits(_program, _folder):
-    unknown = [name for line in text_of("docs/TESTING.md").split("\n") for name in unknown_edits(line)]
-    yield "edits of docs/TESTING.md", ", ".join(unknown) or None
-    rows = text_of("docs/TESTING.md").partition("## Which goal or test refuses")[2].split("\n")
-    in_ci = {tuple(word.split("/")) for word in text_of("tests/edits_in_ci.txt").split()}
-    wrong = [line[:60] for line in rows if line.startswith("| ") and not line.startswith("| wrong body |") and undated(line, in_ci)]
-    yield "dates of docs/TESTING.md", ", ".join(wrong) or None
 
 
 # ---- quoted code
@@ -630,5 +496,5 @@ def axioms(_program, _folder):
         yield "a verdict with %r" % new, None if is_right else "found %s" % (found,)
 
 
-GROUPS = [names, words, files, old_names, edits, hand_tried, quotes, names_in_c, outputs_in_c, c_of_readme, adapter_shown, first_screen,
+GROUPS = [names, words, files, old_names, quotes, names_in_c, outputs_in_c, c_of_readme, adapter_shown, first_screen,
           commands_of_tables, skips, definitions, counts, products, architecture, glossary, told_again, axioms]
