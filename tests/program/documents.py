@@ -373,9 +373,9 @@ def counts(_program, _folder):
     """Compares the counts of lines in the documents with those of the tool."""
     _, printed = printed_by_definitions()
     counted = [line.split()[:3] for line in printed.split("\n")[1:] if line]
-    shown = re.findall(r"(?m)^\| (\w+) \| (\d+) \| (\d+) \|$", text_of("docs/ARCHITECTURE.md"))
-    wrong = [line for line in counted if tuple(line) not in shown]
-    yield "lines of definitions", "not in docs/ARCHITECTURE.md: %s" % wrong if wrong else None
+    shown = re.findall(r"(?m)^\| (\w+) \| (\d+) \| (\d+) \|$", text_of("docs/DEFINITIONS.md"))
+    wrong = sorted(set(map(tuple, counted)) ^ set(shown))
+    yield "lines of definitions", "the tool or docs/DEFINITIONS.md alone has %s" % wrong if wrong else None
     _, printed = printed_by_definitions("--of", "Replicated")
     counted = {tuple(line.split()) for line in printed.split("\n")[:-2]}
     shown = set(re.findall(r"(?m)^ *\| `([\w/]+)` \| (\d+) \|", text_of("docs/TRUST.md")))
@@ -398,15 +398,15 @@ def lines_by_file(printed):
 
 
 def products(_program, _folder):
-    """Compares the lines of definitions that each product reaches with the table of docs/ARCHITECTURE.md. The checker for C has to reach the whole theorem and
+    """Compares the lines of definitions that each product reaches with the table of docs/DEFINITIONS.md. The checker for C has to reach the whole theorem and
     the texts' first faults, and nothing of the collector."""
     status, printed = printed_by_definitions("--products")
     counted = [line.split() for line in printed.split("\n")[1:] if line]
-    table = text_of("docs/ARCHITECTURE.md").partition(PRODUCTS_BEGIN)[2].partition("\n\n")[0]
+    table = text_of("docs/DEFINITIONS.md").partition(PRODUCTS_BEGIN)[2].partition("\n\n")[0]
     shown = [line.strip("| ").split(" | ") for line in table.split("\n")[1:]]
     wrong = [row for row in counted if row not in shown] + [row for row in shown if row not in counted]
-    yield "lines of definitions by product", None if status == 0 and counted and not wrong else "the tool or docs/ARCHITECTURE.md alone has %s" % wrong
-    for calls, lines in re.findall(r"(?m)^\|[^|]*\|((?: `\w+`,?)+) \| (\d+) \|$", text_of("docs/ARCHITECTURE.md")):
+    yield "lines of definitions by product", None if status == 0 and counted and not wrong else "the tool or docs/DEFINITIONS.md alone has %s" % wrong
+    for calls, lines in re.findall(r"(?m)^\|[^|]*\|((?: `\w+`,?)+) \| (\d+) \|$", text_of("docs/DEFINITIONS.md")):
         names = re.findall(r"\w+", calls)
         product = "gcflip_c" if {"gcflip_infer", "gcflip_path"} & set(names) else "gcflip_heap_c"
         added = sum(lines_by_file(printed_by_definitions("--products", product, *names)[1]).values())
@@ -420,7 +420,7 @@ def products(_program, _folder):
     yield "the checker for C reaches nothing of the collector", ", ".join(beside) or None
 
 
-# ---- the map of docs/ARCHITECTURE.md, and what documents say twice
+# ---- docs/ARCHITECTURE.md, and what documents say twice
 
 def rows_behind(document, heading):
     """Returns the cells of each row of the first table behind a heading of a document."""
@@ -429,7 +429,7 @@ def rows_behind(document, heading):
 
 
 def architecture(_program, _folder):
-    """Checks that docs/ARCHITECTURE.md has a job for each crate and the table that tools/notions makes, and that it and the README of gcflip_heap_c tell the
+    """Checks that docs/ARCHITECTURE.md has a job for each crate and docs/DEFINITIONS.md the table that tools/notions makes, and that the former and the README of gcflip_heap_c tell the
     number of functions with raw pointers."""
     jobs = {cells[-2].strip(" |"): cells[-1:] for cells in rows_behind("docs/ARCHITECTURE.md", "# Architecture")}
     wrong = [crate for crate in crates_listed() if not (len(jobs.get(crate, [])) == 1 and re.search(r"[a-z]{2}", jobs[crate][0]))]

@@ -1,10 +1,10 @@
-"""The table of docs/ARCHITECTURE.md that says where each notion is defined: the files of public definitions, each with its first comment."""
+"""The table of docs/DEFINITIONS.md that says where each notion is defined: the files of public definitions, each with its first comment."""
 import glob
 import os
 
 from .crates import CRATES, TOP, crates_listed
 
-DOCUMENT = os.path.join(TOP, "docs", "ARCHITECTURE.md")
+DOCUMENT = os.path.join(TOP, "docs", "DEFINITIONS.md")
 BEGIN = "<!-- tools/notions --write makes this table. -->\n\n"
 END = "\n<!-- The table ends here. -->\n"
 HEAD = "| file | its first comment |\n|---|---|\n"
@@ -43,7 +43,7 @@ def parts():
         before, begin, rest = file.read().partition(BEGIN)
     shown, end, behind = rest.partition(END)
     if not begin or not end:
-        raise ValueError("docs/ARCHITECTURE.md has no place for the table of notions")
+        raise ValueError("docs/DEFINITIONS.md has no place for the table of notions")
     return before + begin, shown, end + behind
 
 
