@@ -291,8 +291,6 @@ def adapter_shown(_program, _folder):
 # What README's first screen has, in this order, and how many lines it is.
 FIRST_SCREEN = ["is the project", "](docs/pictures/pauses.svg)", "make run", "make test", "What is proved", "**standing checker**", "**whole check**", "`whole_each`", "when not to use it"]
 FIRST_LINES = 30
-# How many words a page may have.
-MOST_WORDS = {"README.md": 1300, "docs/EMBEDDING.md": 3000}
 
 
 def first_screen(_program, _folder):
@@ -304,9 +302,27 @@ def first_screen(_program, _folder):
     yield "first screen of README.md", None if -1 not in places and places == sorted(places) else "places %s of %s" % (places, FIRST_SCREEN)
     yield "no table on the first screen", None if not any(line.startswith("|") for line in lines) else "there is one"
     yield "C before the tables", None if -1 < whole.find("```c\n") < whole.find("\n|") else "a table comes first"
+
+
+# How many words a page may have, and README and docs together without CERTIFY, which shows a whole adapter. Pages that a tool makes are no part of the sum.
+MOST_WORDS, MOST_IN_ALL = {"README.md": 1300, "docs/EMBEDDING.md": 3000, CERTIFY: 9700}, 37000
+MADE = re.compile(r"`tools/\w+ --write` makes th(?:is page|is list|e first table)")
+
+
+def counted_words(texts):
+    """Returns how many words texts have together, without those that say at their head that a tool makes them."""
+    return sum(len(text.split()) for text in texts if not MADE.search(text.partition("\n## ")[0]))
+
+
+def page_lengths(_program, _folder):
+    """Checks how many words README and the pages of docs have."""
     for page, most in MOST_WORDS.items():
         count = len(text_of(page).split())
         yield "words of %s" % page, None if count <= most else "they are %d" % count
+    count = counted_words(text_of(page) for page in documents() if page == "README.md" or page.startswith("docs/") and page != CERTIFY)
+    yield "words of README and docs", None if count <= MOST_IN_ALL else "they are %d" % count
+    found = counted_words(["# A\n\n`tools/calls --write` makes this page.\n\n## B\n\nmore", "# A\n\ntwo words\n\n## `tools/calls --write` makes this page"])
+    yield "a page that a tool makes is not counted", None if found == 10 else "they are %d" % found
 
 
 # ---- commands
@@ -496,5 +512,5 @@ def axioms(_program, _folder):
         yield "a verdict with %r" % new, None if is_right else "found %s" % (found,)
 
 
-GROUPS = [names, words, files, old_names, quotes, names_in_c, outputs_in_c, c_of_readme, adapter_shown, first_screen,
+GROUPS = [names, words, files, old_names, quotes, names_in_c, outputs_in_c, c_of_readme, adapter_shown, first_screen, page_lengths,
           commands_of_tables, skips, definitions, counts, products, architecture, glossary, told_again, axioms]
