@@ -1,9 +1,12 @@
 """Tests of docs/CALLS.md, the page with a row for each call for C: it is what tools/calls makes of the headers, the contracts, the table of instructions and the
 bindings. When a call may run out of memory is compared with the calls that a program of C makes run out of it."""
+import glob
+import os
 import re
 
 from prover import bindings, calls as page
-from prover.c_headers import symbols
+from prover.c_headers import answers, symbols
+from prover.crates import TOP
 
 from .documents import text_of
 
@@ -23,6 +26,7 @@ CHANGED_SOURCES = [("gcflip_heap_get", " Or GCFLIP_NO_MEMORY.", None, "is never 
                    ("gcflip_check", " Or GCFLIP_BAD_LINE.", None, "has answers beyond its contract"),
                    ("gcflip_heap_touch", "", ("answers", "ensures answers { (result ≡ done) ⊎ (result ≡ open_handle) }"), "does not name"),
                    ("gcflip_heap_put", "", ("memory", "ensures memory { result ≡ no_memory → ⊤ }"), "does not tell when it runs out of memory"),
+                   ("gcflip_heap_step_flip", "", ("memory", "ensures memory { result ≡ no_memory → Allocate s Step.Flip }"), "does not tell when it runs out of memory"),
                    ("gcflip_heap_set_nil", "", None, None)]
 
 
@@ -34,8 +38,8 @@ def calls(_program, _folder):
         changed = old.sub(new, shown, count=1) if isinstance(old, re.Pattern) else shown.replace(old, new, 1)
         yield "%s is found" % what, None if changed != shown and list(page.faults(changed, table)) else "it is not"
     for name, more, clause, wanted in CHANGED_SOURCES:
-        function = next(function for function in table.functions if function.name == name)
-        found = faults_with(table, function, more, clause)
+        function = next((function for function in table.functions if function.name == name), None)
+        found = faults_with(table, function, more, clause) if function else ["there is no such call"]
         yield "a contract and a comment of %s" % name, None if (wanted or "") in "; ".join(found) and bool(found) == bool(wanted) else "found %s" % found
 
 
@@ -77,6 +81,42 @@ def memory_answers(_program, _folder):
         yield what, None if found == wanted and found else "told %s, tried %s" % (sorted(found - wanted), sorted(wanted - found))
 
 
+# A call with the answer that a program expects, as in CALL == ANSWER or EXPECT(CALL, ANSWER), or two that depend on a condition.
+EXPECTED = re.compile(r"\b(gcflip_\w+)\(((?:[^()]|\((?:[^()]|\([^()]*\))*\))*)\)\s*(?:==|,)\s*(?:[\w>. ]+ \? )?(GCFLIP_\w+)(?: : (GCFLIP_\w+))?")
+# Answers that a program names and no row has, since they are proved never to occur.
+NEVER_THERE = {("gcflip_heap_step_flip", "FLIP_REFUSED")}
+# Answers of calls on a heap that these programs expect in another form: of any step, of all calls by turns, or by a variable.
+NOT_EXPECTED = {("gcflip_heap_step_scan", "NO_ROOM"), ("gcflip_heap_step_apply", "NO_ROOM"), ("gcflip_heap_check", "NOT_READY"), ("gcflip_heap_image", "DAMAGED"),
+                ("gcflip_heap_new_words", "DAMAGED")}
+
+
+def expected_in(texts, known):
+    """Returns the calls and the answers that programs of C expect of them, without GCFLIP_. 0 has one name."""
+    found = {(call, answer.replace("GCFLIP_", "")) for text in texts for call, _, *answers in EXPECTED.findall(text) for answer in answers if answer in known}
+    return {(call, answer.replace("YES", "DONE")) for call, answer in found}
+
+
+def answers_told(shown):
+    """Returns the calls of a page with the answers of their rows. The row of an inline function may name the call whose answers it has."""
+    cells = dict(re.findall(r"(?m)^\| `(gcflip_\w+)` \| [^|]* \| ([^|]*) \|", shown))
+    like = {call: re.sub(r"^as `(\w+)`$", lambda found: cells[found.group(1)], cell) for call, cell in cells.items()}
+    return {(call, answer.replace("YES", "DONE")) for call, cell in like.items() for answer in re.findall(r"`([A-Z_]+)`", cell)}
+
+
+def answers_expected(_program, _folder):
+    """Compares the answers of the rows with those that the programs of tests/c, the examples and the measurements expect of the calls: no program expects another
+    one, and some program expects each answer of a call on a heap."""
+    patterns = ("tests/c/*.c", "bindings/c/examples/*.c", "bench/*.c", "bench/embedding/*.c")
+    texts = [text_of(path) for pattern in patterns for path in sorted(glob.glob(os.path.join(TOP, pattern)))]
+    told, expected = answers_told(page.read(page.DOCUMENT)), expected_in(texts, set(answers()))
+    yield "answers beyond the rows", ", ".join("%s %s" % each for each in sorted(expected - told - NEVER_THERE) if each[1] != "NO_MEMORY") or None
+    heap_calls = {each for each in told if each[0].startswith("gcflip_heap_") and each[0] in symbols()}
+    yield "answers of rows that no program expects", ", ".join("%s %s" % each for each in sorted(heap_calls - expected - NOT_EXPECTED)) or None
+    found = expected_in(["EXPECT(gcflip_heap_put(&heap, 0, f(1, 2), i, t) == GCFLIP_NIL); must(gcflip_heap_close(&heap), a > 1 ? GCFLIP_DONE : GCFLIP_CLOSED);"], set(answers()))
+    wanted = {("gcflip_heap_put", "NIL"), ("gcflip_heap_close", "DONE"), ("gcflip_heap_close", "CLOSED")}
+    yield "answers that a program expects are read", None if found == wanted else "found %s" % sorted(found)
+
+
 def members(path, pattern, member):
     """Returns the members of the blocks in a file that the pattern finds."""
     return {name for block in re.findall(pattern, text_of(path)) for name in re.findall(member, block)}
@@ -100,4 +140,4 @@ def names_of_calls(_program, _folder):
         yield "steps and errors of %s" % language, None if named and refused[language] and not both else "both: %s" % sorted(both)
 
 
-GROUPS = [calls, memory_answers, names_of_calls]
+GROUPS = [calls, memory_answers, answers_expected, names_of_calls]

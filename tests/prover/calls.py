@@ -63,9 +63,10 @@ def clauses_of(contract):
 
 
 def allocating():
-    """Returns in which states each step allocates, by the definition of `Allocates`; all other steps allocate in none."""
+    """Returns in which states each step allocates, by the definition of `Allocates`; all other steps allocate in none. A state is None if it is not known
+    in words."""
     rows = re.findall(r"(?m)^Allocates s (?:\((\w+) \w+\)|(\w+)) = (.*)$", read(ALLOCATES))
-    return {with_size or alone: STATES[state] for with_size, alone, state in rows if state != "⊥"}
+    return {with_size or alone: STATES.get(state) for with_size, alone, state in rows if state != "⊥"}
 
 
 def memory(clauses):
@@ -75,19 +76,24 @@ def memory(clauses):
         return NEVER
     if "(λ s. IsSome s.collection)" in bound:
         return OPEN
-    step = re.search(r"Allocates s \(?(Step\.(\w+)|useful_step|sized_step)", bound)
-    if step and step.group(2):
-        whole = ", and the flip checks both spaces whole" if "checks_whole" in clauses.get("due", "") else ""
-        return "while %s%s" % (allocating()[step.group(2)], whole)
-    if step:
-        return "while %s" % " or ".join(dict.fromkeys(allocating().values()))
     if bound:
-        return None
+        return while_allocating(bound, clauses)
     if "answers" in clauses:
         return ALWAYS if "no_memory" in clauses["answers"] else NEVER
     if "IsFrameCall" in call or re.search(r"\{ result ≡ ", " ".join(clauses.values())):
         return NEVER
     return None
+
+
+def while_allocating(bound, clauses):
+    """Returns when a call may run out of memory by a clause which says that a step allocates, or None if it says something else."""
+    step = re.search(r"Allocates s \(?(?:Step\.(\w+)|useful_step|sized_step)", bound)
+    states = allocating()
+    found = list(dict.fromkeys(states.values() if not step or not step.group(1) else [states[step.group(1)]] if step.group(1) in states else []))
+    if not step or None in found:
+        return None
+    whole = ", and the flip checks both spaces whole" if "checks_whole" in clauses.get("due", "") else ""
+    return "while %s%s" % (" or ".join(found), whole) if found else NEVER
 
 
 def proved_answers(clauses):
