@@ -4,7 +4,7 @@ What needs the program, the library or a verdict is in documents_built.
 
 It tests names and files that documents cite; jobs, notions and words in ARCHITECTURE and GLOSSARY; numbers that two documents tell; code that they
 quote; what stands on README's first screen, and that its C is in an example; how many words pages have; the adapter of CERTIFY, line for line; what
-CI may skip; counts of definitions, by crate and by product; definitions that no public contract reaches; the products of TRUST. It needs nothing
+CI may skip; docs/DEFINITIONS.md; the counts of TRUST; definitions that no public contract reaches; the products of TRUST. It needs nothing
 built, and takes five seconds.
 """
 import contextlib
@@ -306,7 +306,7 @@ def first_screen(_program, _folder):
 
 # How many words a page may have, and README and docs together without CERTIFY, which shows a whole adapter. Pages that a tool makes are no part of the sum.
 MOST_WORDS, MOST_IN_ALL = {"README.md": 1300, "docs/EMBEDDING.md": 3000, CERTIFY: 9700}, 37000
-MADE = re.compile(r"`tools/\w+ --write` makes th(?:is page|is list|e first table)")
+MADE = re.compile(r"`tools/\w+ --write` makes this (?:page|list)")
 
 
 def counted_words(texts):
@@ -385,13 +385,24 @@ def definitions(_program, _folder):
     yield "definitions are reached", None if status == 0 else printed
 
 
+# Changes of the committed page of definitions that have to be found: what is replaced, and by what.
+CHANGED = [("another comment", "The object graph that a mutator sees", "The graph that a mutator sees"), ("another count", "| gc_heap | 71 | 8 |", "| gc_heap | 71 | 9 |"),
+           ("another count of a product", "| gc_pace | 0 | 149 |", "| gc_pace | 0 | 148 |"), ("another count of calls", "`gcflip_infer`, `gcflip_path` | 28 |", "`gcflip_infer`, `gcflip_path` | 82 |"),
+           ("a row that is left out", re.compile(r"(?m)^\| `gc_graph/specs/Graph` .*\n"), ""),
+           ("rows in another order", re.compile(r"(?m)^(\| `gc_graph/specs/Graph` .*\n)(\| .*\n)"), r"\2\1")]
+
+
+def definitions_page(_program, _folder):
+    """Compares docs/DEFINITIONS.md with the page that tools/notions makes, and tries changes of it."""
+    shown = notions.shown()
+    yield "docs/DEFINITIONS.md", "; ".join(notions.faults(shown)) or None
+    for what, old, new in CHANGED:
+        changed = old.sub(new, shown, count=1) if isinstance(old, re.Pattern) else shown.replace(old, new, 1)
+        yield "%s is found" % what, None if changed != shown and list(notions.faults(changed)) else "it is not"
+
+
 def counts(_program, _folder):
-    """Compares the counts of lines in the documents with those of the tool."""
-    _, printed = printed_by_definitions()
-    counted = [line.split()[:3] for line in printed.split("\n")[1:] if line]
-    shown = re.findall(r"(?m)^\| (\w+) \| (\d+) \| (\d+) \|$", text_of("docs/DEFINITIONS.md"))
-    wrong = sorted(set(map(tuple, counted)) ^ set(shown))
-    yield "lines of definitions", "the tool or docs/DEFINITIONS.md alone has %s" % wrong if wrong else None
+    """Compares the counts of lines in docs/TRUST.md with those of the tool."""
     _, printed = printed_by_definitions("--of", "Replicated")
     counted = {tuple(line.split()) for line in printed.split("\n")[:-2]}
     shown = set(re.findall(r"(?m)^ *\| `([\w/]+)` \| (\d+) \|", text_of("docs/TRUST.md")))
@@ -403,7 +414,6 @@ def counts(_program, _folder):
         yield "lines of %s" % (name or "all definitions"), None if found and found.group(1) == wanted else "they are %s" % wanted
 
 
-PRODUCTS_BEGIN = "| crate | the checker for C | the heap for C | the world | the program |\n"
 # Crates with definitions that no contract of the checker for C reaches.
 BESIDE_THE_CHECKER = {"gc_along", "gc_collected", "gc_copy", "gc_heap", "gc_pace", "gc_plan", "gc_trace", "gc_world", "gcflip_heap_c"}
 
@@ -414,19 +424,7 @@ def lines_by_file(printed):
 
 
 def products(_program, _folder):
-    """Compares the lines of definitions that each product reaches with the table of docs/DEFINITIONS.md. The checker for C has to reach the whole theorem and
-    the texts' first faults, and nothing of the collector."""
-    status, printed = printed_by_definitions("--products")
-    counted = [line.split() for line in printed.split("\n")[1:] if line]
-    table = text_of("docs/DEFINITIONS.md").partition(PRODUCTS_BEGIN)[2].partition("\n\n")[0]
-    shown = [line.strip("| ").split(" | ") for line in table.split("\n")[1:]]
-    wrong = [row for row in counted if row not in shown] + [row for row in shown if row not in counted]
-    yield "lines of definitions by product", None if status == 0 and counted and not wrong else "the tool or docs/DEFINITIONS.md alone has %s" % wrong
-    for calls, lines in re.findall(r"(?m)^\|[^|]*\|((?: `\w+`,?)+) \| (\d+) \|$", text_of("docs/DEFINITIONS.md")):
-        names = re.findall(r"\w+", calls)
-        product = "gcflip_c" if {"gcflip_infer", "gcflip_path"} & set(names) else "gcflip_heap_c"
-        added = sum(lines_by_file(printed_by_definitions("--products", product, *names)[1]).values())
-        yield "lines of definitions that only %s adds" % names[0], None if added == int(lines) else "they are %d" % added
+    """Checks that the checker for C reaches the whole theorem and the texts' first faults, and nothing of the collector."""
     reached = lines_by_file(printed_by_definitions("--products", "gcflip_c")[1])
     wanted = lines_by_file(printed_by_definitions("--of", "Replicated")[1])
     wanted.update(lines_by_file(printed_by_definitions("--of", "IsPairFaultOf")[1]))
@@ -445,16 +443,10 @@ def rows_behind(document, heading):
 
 
 def architecture(_program, _folder):
-    """Checks that docs/ARCHITECTURE.md has a job for each crate and docs/DEFINITIONS.md the table that tools/notions makes, and that the former and the README of gcflip_heap_c tell the
-    number of functions with raw pointers."""
+    """Checks that docs/ARCHITECTURE.md has a job for each crate, and that it and the README of gcflip_heap_c tell the number of functions with raw pointers."""
     jobs = {cells[-2].strip(" |"): cells[-1:] for cells in rows_behind("docs/ARCHITECTURE.md", "# Architecture")}
     wrong = [crate for crate in crates_listed() if not (len(jobs.get(crate, [])) == 1 and re.search(r"[a-z]{2}", jobs[crate][0]))]
     yield "jobs of crates", ", ".join(wrong) or None
-    yield "the table of tools/notions", "; ".join(notions.faults(notions.parts()[1])) or None
-    first, second = notions.table().split("\n")[2:4]
-    for what, row in [("changed", first + " "), ("left out", ""), ("in another order", second + "\n" + first)]:
-        shown = notions.table().replace(first + "\n", row and row + "\n", 1)
-        yield "a row that is %s is found" % what, None if any(notions.faults(shown)) else "it is not"
     sources_of = [text_of(os.path.join("crates", "gcflip_heap_c", "src", name)) for name in ("handle.rt", "parts.rt")]
     bodies = [body for text in sources_of for body in re.split(r"\bfn \w+", text)[1:]]
     count = ["no", "one", "two", "three", "four", "five", "six", "seven", "eight", "nine"][len([body for body in bodies if re.search(r"\bat\b", body)])]
@@ -513,4 +505,4 @@ def axioms(_program, _folder):
 
 
 GROUPS = [names, words, files, old_names, quotes, names_in_c, outputs_in_c, c_of_readme, adapter_shown, first_screen, page_lengths,
-          commands_of_tables, skips, definitions, counts, products, architecture, glossary, told_again, axioms]
+          commands_of_tables, skips, definitions, definitions_page, counts, products, architecture, glossary, told_again, axioms]
