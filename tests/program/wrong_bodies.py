@@ -12,7 +12,7 @@ from .documents import is_file, text_of
 # Changes of the committed page that have to be found: what is replaced, and by what.
 CHANGED = [("an edit that does something else", "2^63 counts as a number.", "2^64 counts as a number."),
            ("an edit that is refused elsewhere", "`checker::check_wide`: `refused`", "`checker::check_wide`: `yes`"),
-           ("an edit that CI is said to try", "`always_refuses` |  | `checker::check_wide`: `refused` |  |", "`always_refuses` |  | `checker::check_wide`: `refused` | CI |"),
+           ("an edit that CI is said to try", "number of roots. | `checker::check_wide`: `refused` |  |", "number of roots. | `checker::check_wide`: `refused` | CI |"),
            ("an edit that is left out", re.compile(r"(?m)^\| `always_refuses` .*\n"), ""),
            ("another day", re.compile(r"\| 2026-11-25 \|"), "| 2026-11-24 |"),
            ("another test", "`calls.memory_answers`", "`calls.calls`"),

@@ -1,6 +1,6 @@
 """docs/WRONG_BODIES.md: the must-fail edits, each with what it does and where it is refused, and the wrong bodies that were tried by hand.
 
-What an edit does is said by the comments of its file, and by its name. What was tried by hand stands in tests/tried_by_hand.txt.
+What an edit does is said by the comments of its file. What was tried by hand stands in tests/tried_by_hand.txt.
 """
 import os
 import re
@@ -25,7 +25,7 @@ def read(path):
 # ---- Must-fail edits
 
 def told(crate, name):
-    """Returns what an edit does by the comments of its file. Where it has none, its name says so."""
+    """Returns what an edit does by the comments of its file, or nothing if it has none."""
     lines = read(os.path.join(CRATES, crate, "must-fail", name)).split("\n")
     comments = [line[1:].strip() for line in lines if line.startswith("#") and not OF_REFUSALS.match(line)]
     return " ".join(comments)
@@ -82,8 +82,7 @@ wrong bodies are tried.
 EDITS = """
 ## Refused by the prover
 
-Each must-fail edit is a file of `crates/*/must-fail`, whose comments say what it does; without a comment its name does. It is refused at the functions and clauses
-behind it. If such a function is private, as a line's parser is, the public clauses rest on it: a proof knows of a function that it calls no more
+Each must-fail edit is a file of `crates/*/must-fail`, whose comments say what it does. It is refused at the functions and clauses behind it. If such a function is private, as a line's parser is, the public clauses rest on it: a proof knows of a function that it calls no more
 than its contract. Each run of CI tries the edits with a mark, and long runs try all (`tests/long/run edits`).
 """
 HAND = """
@@ -111,7 +110,8 @@ def document():
 
 
 def faults(shown):
-    """Yields what is wrong: lines of the list that have no test or no day, and lines that the shown page or the right one alone has."""
+    """Yields what is wrong: edits without a comment, lines of the list that have no test or no day, and lines that the shown page or the right one alone has."""
+    yield from ["no comment says what %s/%s does" % (crate, name) for crate in crates_listed() for name in edits_of(crate) if not told(crate, name)]
     yield from ["tests/tried_by_hand.txt has no test or no day for '%s'" % tried.does[:60] for tried in tried_by_hand() if not tried.day]
     lines, wanted = shown.split("\n"), document().split("\n")
     if lines != wanted:
