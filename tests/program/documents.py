@@ -19,6 +19,7 @@ import re
 from prover import notions
 from prover.axioms import PRODUCTS, counts_in, lines_to_keep
 from prover.crates import TOP, crates_listed
+from prover.decisions import anchor
 
 from .harness import Skipped, skips_listed, wrong_skips
 
@@ -161,6 +162,43 @@ def files(_program, _folder):
         folder = os.path.dirname(document)
         missing = [shown for shown, path in cited_files(document) if not is_file(path) and not is_file(os.path.join(folder, path))]
         yield "files of %s" % document, ", ".join(missing) or None
+
+
+# ---- anchors
+
+LINKED = re.compile(r"\]\(([^)#\s]*)#([^)\s]+)\)")
+
+
+def anchors_of(text):
+    """Returns the anchors of a document's headings. A heading that stands there before gets a number."""
+    found = []
+    for heading in re.findall(r"(?m)^#+ (.*)$", re.sub(r"(?ms)^```.*?^```", "", text)):
+        name = anchor(re.sub(r"\[([^\]]*)\]\([^)]*\)", r"\1", heading))
+        found.append(name if name not in found else "%s-%d" % (name, found.count(name)))
+    return found
+
+
+def lost_anchors(text, own, read):
+    """Yields the anchors of a document's links that their targets do not have. `own` is its path, and `read` returns the text of a path or None."""
+    for path, name in LINKED.findall(re.sub(r"(?ms)^```.*?^```", "", text)):
+        if "://" not in path and (path.endswith(".md") or not path):
+            target = read(os.path.normpath(os.path.join(os.path.dirname(own), path))) if path else text
+            if target is None or name not in anchors_of(target):
+                yield "%s#%s" % (path, name)
+
+
+def anchors(_program, _folder):
+    """Checks that each link to a heading leads to one."""
+    for document in documents():
+        yield "anchors of %s" % document, ", ".join(lost_anchors(text_of(document), document, text_or_none)) or None
+    texts = {"b.md": "# Two words, `code`\n\n## Twice\n\n## Twice\n"}
+    for link, wanted in [("b.md#two-words-code", []), ("b.md#twice-1", []), ("b.md#twice-2", ["b.md#twice-2"]), ("c.md#twice", ["c.md#twice"]), ("#own", []), ("#two", ["#two"])]:
+        found = list(lost_anchors("# Own\n\n[a](%s)\n" % link, "a.md", texts.get))
+        yield "the link %s" % link, None if found == wanted else "found %s" % found
+
+
+def text_or_none(path):
+    return text_of(path) if os.path.exists(os.path.join(TOP, path)) else None
 
 
 # ---- names of calls
@@ -504,5 +542,5 @@ def axioms(_program, _folder):
         yield "a verdict with %r" % new, None if is_right else "found %s" % (found,)
 
 
-GROUPS = [names, words, files, old_names, quotes, names_in_c, outputs_in_c, c_of_readme, adapter_shown, first_screen, page_lengths,
+GROUPS = [names, words, files, anchors, old_names, quotes, names_in_c, outputs_in_c, c_of_readme, adapter_shown, first_screen, page_lengths,
           commands_of_tables, skips, definitions, definitions_page, counts, products, architecture, glossary, told_again, axioms]
