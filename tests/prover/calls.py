@@ -87,10 +87,11 @@ def memory(clauses):
 
 def while_allocating(bound, clauses):
     """Returns when a call may run out of memory by a clause which says that a step allocates, or None if it says something else."""
-    step = re.search(r"Allocates s \(?(?:Step\.(\w+)|useful_step|sized_step)", bound)
-    states = allocating()
-    found = list(dict.fromkeys(states.values() if not step or not step.group(1) else [states[step.group(1)]] if step.group(1) in states else []))
-    if not step or None in found:
+    named = re.search(r"Allocates s \(?(?:Step\.(\w+)|useful_step|sized_step)", bound)
+    if not named:
+        return None
+    found = list(dict.fromkeys(state for step, state in allocating().items() if named.group(1) in (None, step)))
+    if None in found:
         return None
     whole = ", and the flip checks both spaces whole" if "checks_whole" in clauses.get("due", "") else ""
     return "while %s%s" % (" or ".join(found), whole) if found else NEVER
@@ -134,14 +135,19 @@ def cost_of(name, rows):
 
 # ---- The document
 
+# What functions return that return no answer, by their types.
+RETURNED = {"void": "", "bool": "true or false", "uint32_t": "a number", "uint64_t": "a number", "size_t": "a number"}
+
+
 def answers_of(function, clauses, known):
     """Returns the answers of a function in words: those that its comment names and those of its contract, but not GCFLIP_NO_MEMORY, which has a column, and
     not the second name of 0."""
     names = set(function.names(known)) | proved_answers(clauses)[0]
     names -= {"GCFLIP_NO_MEMORY"} | ({"GCFLIP_DONE"} if "GCFLIP_YES" in names else set())
     told = ", ".join("`%s`" % name.replace("GCFLIP_", "") for name in known if name in names)
-    made = function.calls()
-    return told or (made and "as `%s`" % made) or {"void": "", "bool": "true or false", "uint32_t": "a number", "uint64_t": "a number", "size_t": "a number"}.get(function.returns, "`%s`" % function.returns)
+    if told or function.calls():
+        return told or "as `%s`" % function.calls()
+    return RETURNED.get(function.returns, "`%s`" % function.returns)
 
 
 def memory_of(function, clauses):
