@@ -1,4 +1,4 @@
-/* Tests the limits that docs/EMBEDDING.md tells, which are its arguments: limits WORDS MUTATORS OWN SHARED EXTRA_ROOTS FIELDS KINDS BITS TEXT.
+/* Tests the limits that docs/CALLS.md tells, which are its arguments: limits WORDS MUTATORS OWN SHARED EXTRA_ROOTS FIELDS KINDS BITS TEXT.
  * What each allows is done, and one more is refused. */
 #include "expect.h"
 #include "gcflip_heap.h"

@@ -1,4 +1,16 @@
-"""Tests of the libraries for C and C++: programs of tests/c that call them, built in every way that the machine allows."""
+"""Tests of the libraries for C and C++: programs of tests/c that call them, built in every way that the machine allows.
+
+It tests the libraries for C and C++, built and installed by bindings/c: programs of tests/c by gcc, with sanitizers, by the toolchain's clang, and by
+musl-gcc where it is; the examples by valgrind, and the one with threads by helgrind; the allocator of bindings/c/examples/huge_pages.c, with
+sanitizers, by valgrind and with little address space; the tests of examples/long_objects, with sanitizers and by valgrind; a short run of soak.c; how
+bench/embedding merges and sums up pauses; the library for adapters with its own source under sanitizers and by valgrind, and each of its allocations
+refused in turn; the words that it writes for a nursery, and its verdicts on young objects compared with those on whole heaps; a heap of 1048576 words
+with an allocator that counts blocks; the limits of docs/CALLS.md, with their example of little address space; each call that a recording knows, while
+it records, after it has ended and without a stream; that make compiles an object anew for each header that it includes; small runs of what
+tests/long/run large does, with live objects behind 1 GiB of garbage; the instructions of a useful step, of giving up a collection, and of a begin
+after a large snapshot; the bit at which an adapter crashes in the self-test; and the reads of roots in a collection of 65,536 extra roots, counted by
+valgrind. It reports what it skips for lack of a tool.
+"""
 import json
 import os
 import re
@@ -310,7 +322,8 @@ EXAMPLE_OUTPUT = {"extra_roots.c": b"pushed 1000\nflipped 1001\nthe last one pop
                                  b"  the object 0x#0 (vector, 5 fields) with the replica 0x#1 (vector, 5 fields)\n  field 4\n"
                                  b"  before 0x#2 (pair, 2 fields)\n  after  0x#2: no object starts there\n"
                                  b"  that is still the old address; the replica of the object before is 0x#3 (pair, 2 fields)\n  reached by global 0\n",
-                  "shared_heap.c": b"".join(b"mutator %d kept 2000 1999 1998\n" % m for m in range(3))}
+                  "shared_heap.c": b"".join(b"mutator %d kept 2000 1999 1998\n" % m for m in range(3)),
+                  "weak_table.c": b"object 0 lives\nobject 1 died\n"}
 
 
 def printed(words):
@@ -420,7 +433,7 @@ def pages(_program, folder):
         yield "pages.c, %s" % part, why or difference(done([path, part]), Outcome())
 
 
-# What docs/EMBEDDING.md tells in its table of limits, in the order of the arguments of limits.c.
+# What docs/CALLS.md tells in its table of limits, in the order of the arguments of limits.c.
 LIMITS = [r"words of a space \| (\d+),", r"mutators \| (\d+)", r"slots \| (\d+) of each mutator", r"slots \| .* and (\d+) that all share", r"extra roots \| (\d+);",
           r"fields of an object \| (\d+);", r"kinds \| (\d+)", r"numbers \| below 2\^(\d+)", r"bytes of a pair text, of a trace \| (\d+), "]
 # The address space of the page's example in KiB, the words of a heap that begins only a smaller collection, with a standing checker and without, and
@@ -430,12 +443,12 @@ EXAMPLE = (r"Under `ulimit -v (\d+)`, a heap of (\d+) million words opens\. It c
 
 
 def limits(_program, folder):
-    """Tests the limits of docs/EMBEDDING.md, and its example of little address space."""
-    with open(os.path.join(TOP, "docs", "EMBEDDING.md"), encoding="utf-8") as file:
+    """Tests the limits of docs/CALLS.md, and its example of little address space."""
+    with open(os.path.join(TOP, "docs", "CALLS.md"), encoding="utf-8") as file:
         text = file.read()
     told = [re.search(r"(?m)^\| %s" % pattern, text) for pattern in LIMITS]
     example = re.search(EXAMPLE, " ".join(text.split()))
-    yield "docs/EMBEDDING.md tells its limits", None if all(told) and example else "not all of them"
+    yield "docs/CALLS.md tells its limits", None if all(told) and example else "not all of them"
     built = library(folder)
     if built is None or not all(told) or example is None:
         return

@@ -1,6 +1,10 @@
 """Compares the symbols of the libraries for C with bindings/c/symbols.txt, the list of what programs may link, and the versions with one another.
 
 A symbol in the list stays, with its type, as docs/EMBEDDING.md says under 'Compatibility'.
+
+It tests bindings/c/symbols.txt, the list of what programs may link: compared with the headers, by C99, C11 and C++11 with their types, and with the
+symbols of the archive and of the shared library, both ways; all headers in one file; the numbers that calls return; the places that say the version;
+the dates of CHANGELOG.
 """
 import os
 import re

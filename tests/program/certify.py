@@ -1,4 +1,9 @@
-"""Tests of examples/certify, an unproved collector in C. The checker accepts its flips, and refuses those with planted bugs."""
+"""Tests of examples/certify, an unproved collector in C. The checker accepts its flips, and refuses those with planted bugs.
+
+It tests examples/certify, by gcc, with sanitizers and by valgrind: lists of several lengths get a yes, each planted bug is refused at the place that
+its comment derives, and the program gives the same verdicts on the texts; the texts of images with up to 65807 roots get the verdicts that are
+derived by hand; what gcflip_images.h prints about each planted bug names the objects, both words, and what became of the object.
+"""
 import glob
 import os
 import re

@@ -2,6 +2,10 @@
 the heap in plain C, bench/embedding/plain_c.c, and compares its replies with the model of the random calls.
 
 bench/embedding/count_commands writes commands.txt by the functions of this file.
+
+It tests the instructions of a call of each command on the heap for C, by valgrind: none is a twentieth above the table in
+bench/embedding/commands.txt. In the same run it counts and prints those of the heap in plain C, bench/embedding/plain_c.c, whose replies, counts,
+logs and images it compares with the model of random.
 """
 import os
 import re

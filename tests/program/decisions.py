@@ -1,25 +1,10 @@
-"""Tests of the decisions: docs/DECISIONS.md has a line for each one, in the order of its page, and none has more than 120 words.
+"""Tests of the decisions: docs/DECISIONS.md lists each page, docs/DECISIONS_INDEX.md is what tools/decisions makes, and no decision has more than 120 words.
 
-A decision is a part of a page of docs/decisions/ with a heading of the second level. Its words are counted with those of its heading; blocks of
-code and rows of tables count too.
+The words of a decision are counted with those of its heading; blocks of code and rows of tables count too.
 """
-import glob
-import os
-import re
-
-from prover.crates import TOP
+from prover import decisions as page
 
 MOST_WORDS = 120
-INDEX = os.path.join("docs", "DECISIONS.md")
-PAGES = os.path.join("docs", "decisions", "*.md")
-# - [The two spaces swap](decisions/collections.md#the-two-spaces-swap)
-LINE = re.compile(r"(?m)^- \[(.*)\]\(decisions/(\w+\.md)#[^)]*\)$")
-
-
-def decisions_of(text):
-    """Returns the decisions of a page: the heading of each, and its text."""
-    parts = re.split(r"(?m)^## (.*)$", text)[1:]
-    return list(zip(parts[::2], parts[1::2]))
 
 
 def too_long(name, decisions):
@@ -29,40 +14,29 @@ def too_long(name, decisions):
     return "; ".join(found) or None
 
 
-def unlisted(name, decisions, index):
-    """Returns how the index differs from the decisions of a page, or None."""
-    listed = [heading for heading, page in LINE.findall(index) if page == name]
-    headings = [heading for heading, _ in decisions]
-    return None if listed == headings and headings else "%s has %s, and %s lists %s" % (name, headings, INDEX, listed)
-
-
 def decisions(_program, _folder):
-    """The index lists each decision of each page in order, and no decision is too long."""
-    with open(os.path.join(TOP, INDEX), encoding="utf-8") as file:
-        index = file.read()
-    for path in sorted(glob.glob(os.path.join(TOP, PAGES))):
-        name = os.path.basename(path)
-        with open(path, encoding="utf-8") as file:
-            found = decisions_of(file.read())
-        yield "words of decisions: %s" % name, too_long(name, found)
-        yield "index of decisions: %s" % name, unlisted(name, found, index)
+    """The index is that of the pages, each page is listed, and no decision is too long."""
+    yield "docs/DECISIONS_INDEX.md", "; ".join(page.faults(page.read(page.DOCUMENT), page.read(page.DECISIONS), page.pages())) or None
+    for name, text in page.pages().items():
+        found = page.decisions_of(text)
+        yield "words of decisions: %s" % name, too_long(name, found) or (None if found else "there is none")
 
 
 def rules(_program, _folder):
-    """Pages that break a rule are told from pages that keep it."""
-    page = "# Page\n\nWhat it has.\n\n## One\n\nText.\n\n## Two\n\nMore.\n"
-    index = "- [One](decisions/page.md#one)\n- [Two](decisions/page.md#two)\n"
-    found = decisions_of(page)
-    long = decisions_of(page.replace("More.", "more " * MOST_WORDS))
-    as_long = decisions_of(page.replace("More.", "more " * (MOST_WORDS - 1)))
-    tries = [
-        ("right", too_long("page.md", found) or unlisted("page.md", found, index), None),
-        ("as long as may be", too_long("page.md", as_long), None),
-        ("too long", too_long("page.md", long), "page.md: Two has 121 words"),
-        ("not listed", unlisted("page.md", found, index[:31]) is not None, True),
-        ("in another order", unlisted("page.md", found[::-1], index) is not None, True),
-        ("of another page", unlisted("other.md", found, index) is not None, True),
-    ]
+    """Pages and lists that break a rule are told from those that keep it."""
+    text = "# Page\n\nWhat it has.\n\n## `One` way, not two\n\nText.\n\n## Two\n\nMore.\n"
+    listed = "# Decisions\n\n- [Page](decisions/page.md): what it has\n"
+    index = page.HEAD + "\n## Page\n\n- [`One` way, not two](decisions/page.md#one-way-not-two)\n- [Two](decisions/page.md#two)\n"
+    long, as_long = [page.decisions_of(text.replace("More.", "more " * count)) for count in (MOST_WORDS, MOST_WORDS - 1)]
+    tries = [("right", list(page.faults(index, listed, {"page.md": text})), []),
+             ("as long as may be", too_long("page.md", as_long), None),
+             ("too long", too_long("page.md", long), "page.md: Two has 121 words"),
+             ("a line is missing", bool(list(page.faults(index.replace("- [Two](decisions/page.md#two)\n", ""), listed, {"page.md": text}))), True),
+             ("another order", bool(list(page.faults(index, listed, {"page.md": text.replace("## Two", "## Zero").replace("`One` way, not two", "Two").replace("## Zero", "## `One` way, not two")}))), True),
+             ("another anchor", bool(list(page.faults(index.replace("#two", "#tow"), listed, {"page.md": text}))), True),
+             ("a page that is not listed", bool(list(page.faults(index, listed, {"page.md": text, "other.md": text}))), True),
+             ("a page that is listed twice", bool(list(page.faults(index, listed + listed, {"page.md": text}))), True),
+             ("a page that does not exist", bool(list(page.faults(index, listed + "- [Other](decisions/other.md): more\n", {"page.md": text}))), True)]
     for name, told, wanted in tries:
         yield "rules of decisions: %s" % name, None if told == wanted else "told %r, wanted %r" % (told, wanted)
 

@@ -1,5 +1,10 @@
 """Tests of a release: tools/dist packs the program and the library as they are now. Each package is installed into an empty folder or root, runs
-the first programs from there, is upgraded and removed again."""
+the first programs from there, is upgraded and removed again.
+
+It tests what tools/dist packs: checksums, the same bytes if it packs again, lintian; each package installed into an empty folder or root, with first
+programs by pkg-config, CMake, pip and cargo, an upgrade, and nothing left after its removal; completions by the shells that are there; links of the
+packed documents. It reports what it skips for lack of a tool.
+"""
 import hashlib
 import os
 import re

@@ -1,6 +1,12 @@
 """Tests of the documents that need nothing built: what they cite exists, and what they quote is in the code.
 
-What needs the program, the library or a verdict is in documents_built."""
+What needs the program, the library or a verdict is in documents_built.
+
+It tests names and files that documents cite; jobs, notions and words in ARCHITECTURE and GLOSSARY; numbers that two documents tell; code that they
+quote; what stands on README's first screen, and that its C is in an example; how many words pages have; the adapter of CERTIFY, line for line; what
+CI may skip; docs/DEFINITIONS.md; the counts of TRUST; definitions that no public contract reaches; the products of TRUST. It needs nothing
+built, and takes five seconds.
+"""
 import contextlib
 import functools
 import glob
@@ -13,7 +19,7 @@ import re
 from prover import notions
 from prover.axioms import PRODUCTS, counts_in, lines_to_keep
 from prover.crates import TOP, crates_listed
-from prover.edits import edit_named, edits_of
+from prover.decisions import anchor
 
 from .harness import Skipped, skips_listed, wrong_skips
 
@@ -158,91 +164,44 @@ def files(_program, _folder):
         yield "files of %s" % document, ", ".join(missing) or None
 
 
-# ---- clauses
+# ---- anchors
 
-@functools.lru_cache(maxsize=None)
-def contracts_of(crate):
-    """Returns the clauses of each function of a crate by the function's name. Functions with the same name share an entry."""
-    found = {}
-    for path, _, names_in in os.walk(os.path.join(TOP, "crates", crate, "src")):
-        for name in sorted(names_in):
-            if name.endswith(".rt"):
-                with open(os.path.join(path, name), encoding="utf-8") as file:
-                    add_contracts(file.read(), found)
+LINKED = re.compile(r"\]\(([^)#\s]*)#([^)\s]+)\)")
+
+
+def anchors_of(text):
+    """Returns the anchors of a document's headings. A heading that stands there before gets a number."""
+    found = []
+    for heading in re.findall(r"(?m)^#+ (.*)$", re.sub(r"(?ms)^```.*?^```", "", text)):
+        name = anchor(re.sub(r"\[([^\]]*)\]\([^)]*\)", r"\1", heading))
+        found.append(name if name not in found else "%s-%d" % (name, found.count(name)))
     return found
 
 
-def add_contracts(text, found):
-    clauses = None
-    for line in text.split("\n"):
-        function = re.match(r"\s*(?:pub(?:\(crate\))? )?(?:const |extern \"C\" )?fn (\w+)", line)
-        clause = re.match(r"\s*ensures(?:\*)? (\w+)?\s*\{", line)
-        if function:
-            clauses = found.setdefault(function.group(1), set())
-        elif clause and clauses is not None:
-            clauses.add(clause.group(1) or "ensures")
+def lost_anchors(text, own, read):
+    """Yields the anchors of a document's links that their targets do not have. `own` is its path, and `read` returns the text of a path or None."""
+    for path, name in LINKED.findall(re.sub(r"(?ms)^```.*?^```", "", text)):
+        if "://" not in path and (path.endswith(".md") or not path):
+            target = read(os.path.normpath(os.path.join(os.path.dirname(own), path))) if path else text
+            if target is None or name not in anchors_of(target):
+                yield "%s#%s" % (path, name)
 
 
-# ---- calls that can run out of memory
-
-HEAP_CALL = re.compile(r"\bgcflip_heap_(\w+)\(")
-# The sentences that list the calls on a heap which can run out of memory, behind the checker's, and those which can while a collection is open.
-TOLD = {"bindings/c/gcflip_heap.h": r"- only (.*?) can return GCFLIP_NO_MEMORY\. While a collection is open, so can (.*?)\.",
-        "docs/EMBEDDING.md": r"can run out of memory: both checks, `infer`, `path`, (.*?)\. While a collection is open, so can (.*?)\."}
-
-
-def told_in(text, pattern):
-    """Returns the names of both lists of a sentence."""
-    found = re.search(pattern, " ".join(re.sub(r"(?m)^ \*", "", text).split()))
-    return tuple(set(re.findall(r"\w+", row)) - {"and"} for row in found.groups()) if found else None
+def anchors(_program, _folder):
+    """Checks that each link to a heading leads to one."""
+    for document in documents():
+        yield "anchors of %s" % document, ", ".join(lost_anchors(text_of(document), document, text_or_none)) or None
+    texts = {"b.md": "# Two words, `code`\n\n## Twice\n\n## Twice\n"}
+    for link, wanted in [("b.md#two-words-code", []), ("b.md#twice-1", []), ("b.md#twice-2", ["b.md#twice-2"]), ("c.md#twice", ["c.md#twice"]), ("#own", []), ("#two", ["#two"])]:
+        found = list(lost_anchors("# Own\n\n[a](%s)\n" % link, "a.md", texts.get))
+        yield "the link %s" % link, None if found == wanted else "found %s" % found
 
 
-def refused_in(text):
-    """Returns the calls that a program refuses memory in any state, those that it refuses memory only while a collection is open, and those that it
-    makes where no allocation can succeed."""
-    functions = {name: HEAP_CALL.findall(body)[0] for name, body in re.findall(r"(?ms)^static uint32_t (\w+)\(void\)\s*\{(.*?)\}$", text)}
-    tried = re.findall(r"failures\((\w+), (\w+)\) == ([\w +]+)\)", text)
-    only_open = {functions[name] for _, name, count in tried if count == "0"}
-    rest = "".join(re.findall(r"(?ms)^static void (?:draw|move_roots|read_all|calls_that_do_not_allocate|free_all)\(.*?^\}$", text))
-    always = {functions[name] for _, name, _ in tried} | {"open"}
-    return always - only_open, only_open, set(HEAP_CALL.findall(rest)) - always
+def text_or_none(path):
+    return text_of(path) if os.path.exists(os.path.join(TOP, path)) else None
 
 
-def memory_answers(_program, _folder):
-    """Compares the lists of calls that can run out of memory with the calls that tests/c/refused_heap.c makes run out of it, and requires that this
-    program makes each other call where no allocation can succeed."""
-    always, only_open, never = refused_in(text_of("tests/c/refused_heap.c"))
-    for path, pattern in TOLD.items():
-        told = told_in(text_of(path), pattern)
-        yield "calls that can run out of memory, in %s" % path, None if told == (always, only_open) else "told %s, tried %s" % (told, (always, only_open))
-    known = set(HEAP_CALL.findall(text_of("bindings/c/symbols.txt")))
-    yield "calls that cannot", None if never == known - always - only_open else "tried %s, wanted %s" % (sorted(never), sorted(known - always - only_open))
-
-
-# ---- names of the bindings
-
-NAMES_BEGIN = "| C, after `gcflip_heap_` | Rust | Python |"
-# Public methods that stand for no call of C alone.
-OF_THEIR_OWN = {"Rust": {"mutator", "collect"}, "Python": {"mutator"}}
-
-
-def names_in_cell(cell, of_c):
-    """Returns the names in a cell, without the type before a name and the arguments behind it; those of C if the cell says 'the same'. A class is
-    no name of a call."""
-    names_there = [re.sub(r"^\w+::|\(.*", "", name) for name in re.findall(r"`([^`]+)`", cell)]
-    return of_c if cell.strip() == "the same" else {name for name in names_there if name[0].islower()}
-
-
-def table_of_names():
-    """Returns the names of C, of Rust and of Python in the table of docs/EMBEDDING.md."""
-    told = {"C": set(), "Rust": set(), "Python": set()}
-    for line in text_of("docs/EMBEDDING.md").partition(NAMES_BEGIN)[2].partition("\n\n")[0].split("\n")[2:]:
-        cells = line.strip("|").split(" | ")
-        of_c = names_in_cell(cells[0], set())
-        for language, cell in zip(told, cells):
-            told[language] |= names_in_cell(cell, of_c)
-    return told
-
+# ---- names of calls
 
 # What calls on a heap for C were named before they said what they do, and the documents that speak of these calls. Their tables may have these
 # words for other things.
@@ -257,142 +216,6 @@ def old_names(_program, _folder):
         lines = [(number, line) for number, line in enumerate(text_of(document).split("\n"), 1) if not line.startswith("|")]
         found = ["%s (line %d)" % (name, number) for number, line in lines for name in re.findall(r"`(\w+)`", line) if name in OLD_NAMES]
         yield "names of C's calls in %s" % document, ", ".join(found) or None
-
-
-def members(path, pattern, member):
-    """Returns the members of the blocks in a file that the pattern finds."""
-    return {name for block in re.findall(pattern, text_of(path)) for name in re.findall(member, block)}
-
-
-def names_of_calls(_program, _folder):
-    """Compares the table of names with the symbols of C and the public methods of Rust and Python. No name is both a step's and an error's."""
-    rust, python, errors = "bindings/rust/src/heap.rs", "bindings/python/gcflip/heap.py", "bindings/python/gcflip/errors.py"
-    found = {"C": {name.replace("gcflip_heap_", "") for name in re.findall(r"gcflip_(?:heap_\w+|pace_due)(?=\()", text_of("bindings/c/symbols.txt"))},
-             "Rust": members(rust, r"(?ms)^impl (?:Heap|Mutator<'_>) \{(.*?)^\}", r"(?m)^    pub fn (\w+)"),
-             "Python": members(python, r"(?ms)^class (?:Heap|Mutator):\n(.*?)(?=^\S|\Z)", r"(?m)^    def ([a-z]\w*)")}
-    for language, told in table_of_names().items():
-        wanted = found[language] - OF_THEIR_OWN.get(language, set())
-        yield "names of %s" % language, None if told == wanted else "beyond the calls: %s; missing: %s" % (sorted(told - wanted), sorted(wanted - told))
-    steps = {"Rust": members(rust, r"(?ms)^pub enum Step \{(.*?)^\}", r"(?m)^    (\w+)"),
-             "Python": {name.title().replace("_", "") for name in members(python, r"(?ms)^class Step\(enum.Enum\):\n(.*?)(?=^\S)", r"(?m)^    ([A-Z_]+) = ")}}
-    refused = {"Rust": members(rust, r"(?ms)^pub enum Error \{(.*?)^\}", r"(?m)^    (\w+)"), "Python": set(re.findall(r"(?m)^class (\w+)", text_of(errors)))}
-    for language, named in steps.items():
-        both = named & refused[language]
-        yield "steps and errors of %s" % language, None if named and refused[language] and not both else "both: %s" % sorted(both)
-
-
-# ---- edits
-
-# A function and its clauses, as the rows of docs/TESTING.md name them.
-CLAUSES_OF = re.compile(r"((?:`[\w:]+`(?: and )?)+), clauses? ((?:`\w+`(?:, | and )?)+)")
-
-
-def edits_in(line):
-    """Yields the edits that a row of docs/TESTING.md names, and the crates that it names for them."""
-    for quoted, listed in re.findall(r"edits? ((?:`\w+`(?:, )?)+) \(([\w, ]+)\)", line):
-        yield re.findall(r"`(\w+)`", quoted), listed.split(", ")
-
-
-def found_in(edits, crates_named):
-    """Returns the pairs of a crate and an edit of these names that exist."""
-    return {(crate, edit) for crate in crates_named for edit in edits if edit + ".edit" in edits_of(crate)}
-
-
-def undated(line, in_ci):
-    """Returns whether a row does not say when it was last seen: by CI if CI tries all its edits, by long runs if not, and by hand if it names none."""
-    last = line.rstrip(" |").split(" | ")[-1]
-    named = {pair for edits, crates_named in edits_in(line) for pair in found_in(edits, crates_named)}
-    if not named:
-        return not re.fullmatch(r"by hand, \d{4}-\d\d-\d\d(?:, .*)?", last)
-    return last != ("each run of CI" if named <= in_ci else "long runs")
-
-
-def unrefused(line, found):
-    """Yields the clauses and calls of a row at which the files of its edits, given with their crates, do not say that they are refused."""
-    tried = [edit_named(crate, edit + ".edit") for crate, edit in found]
-    refused = {(function.split("::")[-1], clause) for edit in tried for _, function, clause in edit.places}
-    for calls, clauses_named in CLAUSES_OF.findall(line):
-        functions = [name.split("::")[-1] for name in re.findall(r"`([\w:]+)`", calls)]
-        for clause in re.findall(r"`(\w+)`", clauses_named):
-            if not any((function, clause) in refused for function in functions):
-                yield clause, calls
-
-
-def unknown_edits(line):
-    """Yields the edits and the clauses that a row of docs/TESTING.md names and that do not exist."""
-    named = set()
-    for edits, crates_named in edits_in(line):
-        found = found_in(edits, crates_named)
-        yield from ["edit %s" % edit for edit in edits if edit not in {name for _, name in found}]
-        yield from ["an edit of %s" % crate for crate in crates_named if crate not in {name for name, _ in found}]
-        named |= found
-        contracts = [contracts_of(crate) for crate in crates_named]
-        for calls, clauses_named in CLAUSES_OF.findall(line):
-            known = set()
-            for call in re.findall(r"`([\w:]+)`", calls):
-                known.update(*[contract.get(call.split("::")[-1], set()) for contract in contracts])
-            yield from ["clause %s of %s" % (name, calls) for name in re.findall(r"`(\w+)`", clauses_named) if name not in known]
-    yield from ["%s of %s, since none of its edits is refused there" % place for place in unrefused(line, named)]
-
-
-def known_tests():
-    """Returns the names of all tests: of Rattle, of Python, and the groups of tests/run with their modules."""
-    folders = [("crates/*/src/tests.rt", r"#\[test\]\n\s*fn (\w+)"), ("crates/*/src/tests/**/*.rt", r"#\[test\]\n\s*fn (\w+)"),
-               ("tests/python/*.py", r"def (test_\w+)")]
-    found = set()
-    for pattern, name in folders:
-        for path in glob.glob(os.path.join(TOP, pattern), recursive=True):
-            found.update(re.findall(name, text_of(path)))
-    for path in glob.glob(os.path.join(TOP, "tests", "program", "*.py")):
-        groups = re.search(r"(?m)^GROUPS = \[([^\]]*)\]", text_of(path))
-        module = os.path.basename(path)[:-len(".py")]
-        found.update("%s.%s" % (module, group.strip()) for group in (groups.group(1).split(",") if groups else []))
-    return found
-
-
-# A name in a row that was tried by hand: of a test, or of a file of tests.
-TEST_NAME = re.compile(r"(?:\w+::)*([a-z]\w*_\w+)|(\w+\.(?!c$|rs$|py$)\w+)")
-TEST_FILE = re.compile(r"(?:[\w/]+/)?\w+\.(?:c|rs|py)")
-
-
-def wrong_tests(line, known):
-    """Yields the tests that a row names and that do not exist, and whether it names none. What the types refuse needs no test."""
-    cell = line.split(" | ")[1]
-    quoted = re.findall(r"`([^`]+)`", cell)
-    named = [found.group(1) or found.group(2) for found in map(TEST_NAME.fullmatch, quoted) if found]
-    files_named = [name for name in quoted if TEST_FILE.fullmatch(name)]
-    yield from ["there is no test %s" % name for name in named if name not in known]
-    yield from ["there is no file %s" % name for name in files_named if not is_file(name) and not is_file(os.path.join("tests", "c", name))]
-    if not named and not files_named and not cell.startswith("the types:"):
-        yield "no test is named by '%s'" % line[:60]
-
-
-# Rows, and what is wrong with each.
-ROWS = [("| a mistake | test `graph::one_word_is_reserved` (gc_tests) | by hand, 2026-11-24 |", []),
-        ("| a mistake | test `graph::one_word_is_gone` (gc_tests) | by hand, 2026-11-24 |", ["there is no test one_word_is_gone"]),
-        ("| a mistake | `random.nothing` | by hand, 2026-11-24 |", ["there is no test random.nothing"]),
-        ("| a mistake | `heap.c` and `heaps.c` | by hand, 2026-11-24 |", ["there is no file heaps.c"]),
-        ("| a mistake | some test | by hand, 2026-11-24 |", ["no test is named by '| a mistake | some test | by hand, 2026-11-24 |'"])]
-
-
-def hand_tried(_program, _folder):
-    """Checks that the tests exist which docs/TESTING.md names for wrong bodies that were tried by hand."""
-    rows = text_of("docs/TESTING.md").partition("## Which goal or test refuses")[2].split("\n")
-    known = known_tests()
-    wrong = [why for line in rows if line.startswith("| ") and "| by hand, " in line for why in wrong_tests(line, known)]
-    yield "tests of docs/TESTING.md", ", ".join(wrong) or None
-    for line, wanted in ROWS:
-        found = list(wrong_tests(line, known))
-        yield "the row %s" % line, None if found == wanted else "found %s" % found
-
-
-def edits(_program, _folder):
-    unknown = [name for line in text_of("docs/TESTING.md").split("\n") for name in unknown_edits(line)]
-    yield "edits of docs/TESTING.md", ", ".join(unknown) or None
-    rows = text_of("docs/TESTING.md").partition("## Which goal or test refuses")[2].split("\n")
-    in_ci = {tuple(word.split("/")) for word in text_of("tests/edits_in_ci.txt").split()}
-    wrong = [line[:60] for line in rows if line.startswith("| ") and not line.startswith("| wrong body |") and undated(line, in_ci)]
-    yield "dates of docs/TESTING.md", ", ".join(wrong) or None
 
 
 # ---- quoted code
@@ -503,9 +326,9 @@ def adapter_shown(_program, _folder):
         yield "a block that is %s is found" % what, None if list(wrong_in_adapter(other, lines)) else "it is not"
 
 
-# What README's first screen has, in this order, how many lines it is, and how many words README may have.
+# What README's first screen has, in this order, and how many lines it is.
 FIRST_SCREEN = ["is the project", "](docs/pictures/pauses.svg)", "make run", "make test", "What is proved", "**standing checker**", "**whole check**", "`whole_each`", "when not to use it"]
-FIRST_LINES, MOST_WORDS = 30, 1300
+FIRST_LINES = 30
 
 
 def first_screen(_program, _folder):
@@ -517,8 +340,27 @@ def first_screen(_program, _folder):
     yield "first screen of README.md", None if -1 not in places and places == sorted(places) else "places %s of %s" % (places, FIRST_SCREEN)
     yield "no table on the first screen", None if not any(line.startswith("|") for line in lines) else "there is one"
     yield "C before the tables", None if -1 < whole.find("```c\n") < whole.find("\n|") else "a table comes first"
-    count = len(whole.split())
-    yield "words of README.md", None if count <= MOST_WORDS else "they are %d" % count
+
+
+# How many words a page may have, and README and docs together without CERTIFY, which shows a whole adapter. Pages that a tool makes are no part of the sum.
+MOST_WORDS, MOST_IN_ALL = {"README.md": 1300, "docs/EMBEDDING.md": 3000, CERTIFY: 9700}, 37000
+MADE = re.compile(r"`tools/\w+ --write` makes this (?:page|list)")
+
+
+def counted_words(texts):
+    """Returns how many words texts have together, without those that say at their head that a tool makes them."""
+    return sum(len(text.split()) for text in texts if not MADE.search(text.partition("\n## ")[0]))
+
+
+def page_lengths(_program, _folder):
+    """Checks how many words README and the pages of docs have."""
+    for page, most in MOST_WORDS.items():
+        count = len(text_of(page).split())
+        yield "words of %s" % page, None if count <= most else "they are %d" % count
+    count = counted_words(text_of(page) for page in documents() if page == "README.md" or page.startswith("docs/") and page != CERTIFY)
+    yield "words of README and docs", None if count <= MOST_IN_ALL else "they are %d" % count
+    found = counted_words(["# A\n\n`tools/calls --write` makes this page.\n\n## B\n\nmore", "# A\n\ntwo words\n\n## `tools/calls --write` makes this page"])
+    yield "a page that a tool makes is not counted", None if found == 10 else "they are %d" % found
 
 
 # ---- commands
@@ -581,13 +423,24 @@ def definitions(_program, _folder):
     yield "definitions are reached", None if status == 0 else printed
 
 
+# Changes of the committed page of definitions that have to be found: what is replaced, and by what.
+CHANGED = [("another comment", "The object graph that a mutator sees", "The graph that a mutator sees"), ("another count", "| gc_heap | 71 | 8 |", "| gc_heap | 71 | 9 |"),
+           ("another count of a product", "| gc_pace | 0 | 149 |", "| gc_pace | 0 | 148 |"), ("another count of calls", "`gcflip_infer`, `gcflip_path` | 28 |", "`gcflip_infer`, `gcflip_path` | 82 |"),
+           ("a row that is left out", re.compile(r"(?m)^\| `gc_graph/specs/Graph` .*\n"), ""),
+           ("rows in another order", re.compile(r"(?m)^(\| `gc_graph/specs/Graph` .*\n)(\| .*\n)"), r"\2\1")]
+
+
+def definitions_page(_program, _folder):
+    """Compares docs/DEFINITIONS.md with the page that tools/notions makes, and tries changes of it."""
+    shown = notions.shown()
+    yield "docs/DEFINITIONS.md", "; ".join(notions.faults(shown)) or None
+    for what, old, new in CHANGED:
+        changed = old.sub(new, shown, count=1) if isinstance(old, re.Pattern) else shown.replace(old, new, 1)
+        yield "%s is found" % what, None if changed != shown and list(notions.faults(changed)) else "it is not"
+
+
 def counts(_program, _folder):
-    """Compares the counts of lines in the documents with those of the tool."""
-    _, printed = printed_by_definitions()
-    counted = [line.split()[:3] for line in printed.split("\n")[1:] if line]
-    shown = re.findall(r"(?m)^\| (\w+) \| (\d+) \| (\d+) \|$", text_of("docs/ARCHITECTURE.md"))
-    wrong = [line for line in counted if tuple(line) not in shown]
-    yield "lines of definitions", "not in docs/ARCHITECTURE.md: %s" % wrong if wrong else None
+    """Compares the counts of lines in docs/TRUST.md with those of the tool."""
     _, printed = printed_by_definitions("--of", "Replicated")
     counted = {tuple(line.split()) for line in printed.split("\n")[:-2]}
     shown = set(re.findall(r"(?m)^ *\| `([\w/]+)` \| (\d+) \|", text_of("docs/TRUST.md")))
@@ -599,7 +452,6 @@ def counts(_program, _folder):
         yield "lines of %s" % (name or "all definitions"), None if found and found.group(1) == wanted else "they are %s" % wanted
 
 
-PRODUCTS_BEGIN = "| crate | the checker for C | the heap for C | the world | the program |\n"
 # Crates with definitions that no contract of the checker for C reaches.
 BESIDE_THE_CHECKER = {"gc_along", "gc_collected", "gc_copy", "gc_heap", "gc_pace", "gc_plan", "gc_trace", "gc_world", "gcflip_heap_c"}
 
@@ -610,19 +462,7 @@ def lines_by_file(printed):
 
 
 def products(_program, _folder):
-    """Compares the lines of definitions that each product reaches with the table of docs/ARCHITECTURE.md. The checker for C has to reach the whole theorem and
-    the texts' first faults, and nothing of the collector."""
-    status, printed = printed_by_definitions("--products")
-    counted = [line.split() for line in printed.split("\n")[1:] if line]
-    table = text_of("docs/ARCHITECTURE.md").partition(PRODUCTS_BEGIN)[2].partition("\n\n")[0]
-    shown = [line.strip("| ").split(" | ") for line in table.split("\n")[1:]]
-    wrong = [row for row in counted if row not in shown] + [row for row in shown if row not in counted]
-    yield "lines of definitions by product", None if status == 0 and counted and not wrong else "the tool or docs/ARCHITECTURE.md alone has %s" % wrong
-    for calls, lines in re.findall(r"(?m)^\|[^|]*\|((?: `\w+`,?)+) \| (\d+) \|$", text_of("docs/ARCHITECTURE.md")):
-        names = re.findall(r"\w+", calls)
-        product = "gcflip_c" if {"gcflip_infer", "gcflip_path"} & set(names) else "gcflip_heap_c"
-        added = sum(lines_by_file(printed_by_definitions("--products", product, *names)[1]).values())
-        yield "lines of definitions that only %s adds" % names[0], None if added == int(lines) else "they are %d" % added
+    """Checks that the checker for C reaches the whole theorem and the texts' first faults, and nothing of the collector."""
     reached = lines_by_file(printed_by_definitions("--products", "gcflip_c")[1])
     wanted = lines_by_file(printed_by_definitions("--of", "Replicated")[1])
     wanted.update(lines_by_file(printed_by_definitions("--of", "IsPairFaultOf")[1]))
@@ -632,7 +472,7 @@ def products(_program, _folder):
     yield "the checker for C reaches nothing of the collector", ", ".join(beside) or None
 
 
-# ---- the map of docs/ARCHITECTURE.md, and what documents say twice
+# ---- docs/ARCHITECTURE.md, and what documents say twice
 
 def rows_behind(document, heading):
     """Returns the cells of each row of the first table behind a heading of a document."""
@@ -641,16 +481,10 @@ def rows_behind(document, heading):
 
 
 def architecture(_program, _folder):
-    """Checks that docs/ARCHITECTURE.md has a job for each crate and the table that tools/notions makes, and that it and the README of gcflip_heap_c tell the
-    number of functions with raw pointers."""
+    """Checks that docs/ARCHITECTURE.md has a job for each crate, and that it and the README of gcflip_heap_c tell the number of functions with raw pointers."""
     jobs = {cells[-2].strip(" |"): cells[-1:] for cells in rows_behind("docs/ARCHITECTURE.md", "# Architecture")}
     wrong = [crate for crate in crates_listed() if not (len(jobs.get(crate, [])) == 1 and re.search(r"[a-z]{2}", jobs[crate][0]))]
     yield "jobs of crates", ", ".join(wrong) or None
-    yield "the table of tools/notions", "; ".join(notions.faults(notions.parts()[1])) or None
-    first, second = notions.table().split("\n")[2:4]
-    for what, row in [("changed", first + " "), ("left out", ""), ("in another order", second + "\n" + first)]:
-        shown = notions.table().replace(first + "\n", row and row + "\n", 1)
-        yield "a row that is %s is found" % what, None if any(notions.faults(shown)) else "it is not"
     sources_of = [text_of(os.path.join("crates", "gcflip_heap_c", "src", name)) for name in ("handle.rt", "parts.rt")]
     bodies = [body for text in sources_of for body in re.split(r"\bfn \w+", text)[1:]]
     count = ["no", "one", "two", "three", "four", "five", "six", "seven", "eight", "nine"][len([body for body in bodies if re.search(r"\bat\b", body)])]
@@ -708,5 +542,5 @@ def axioms(_program, _folder):
         yield "a verdict with %r" % new, None if is_right else "found %s" % (found,)
 
 
-GROUPS = [names, words, files, memory_answers, names_of_calls, old_names, edits, hand_tried, quotes, names_in_c, outputs_in_c, c_of_readme, adapter_shown, first_screen,
-          commands_of_tables, skips, definitions, counts, products, architecture, glossary, told_again, axioms]
+GROUPS = [names, words, files, anchors, old_names, quotes, names_in_c, outputs_in_c, c_of_readme, adapter_shown, first_screen, page_lengths,
+          commands_of_tables, skips, definitions, definitions_page, counts, products, architecture, glossary, told_again, axioms]

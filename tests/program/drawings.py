@@ -1,5 +1,13 @@
 """Tests of tools/draw: pictures are well-formed, stay inside their frame, and have the right number of objects and arrows. A
-text that cannot be drawn gets a message."""
+text that cannot be drawn gets a message.
+
+It tests tools/draw: counts of objects and arrows, nothing outside the frame, no text outside its cell, graphs of objects where Graphviz is, bundles
+of pairs that meet their lines, marks and names of objects that are broken across rows, lines of pairs that lead through no label and no free cell,
+texts in front of lines, excerpts of large heaps, timelines of played traces, pictures of several widths, the path to a refused place, messages; the
+bands of the crates and their groups in ARCHITECTURE; in the pictures drawn by hand no curve runs through a box; each text of a picture in a document
+is at least 9 pixels high on a phone; each colour of a picture has another one for readers who prefer a dark ground; the kept pictures are up to date;
+its reader names the faults of traces as the program does.
+"""
 import json
 import os
 import re

@@ -1,4 +1,8 @@
-"""Tests of examples/lisp, a Lisp in C on the collected heap: programs, errors, small heaps, full heaps, out of memory, and traces."""
+"""Tests of examples/lisp, a Lisp in C on the collected heap: programs, errors, small heaps, full heaps, out of memory, and traces.
+
+It tests examples/lisp, by gcc, with sanitizers and by valgrind: its programs, values and errors, the pace, heaps that are too small or full, each
+allocation of the library refused in turn, recorded runs played and reported, how its flips were checked and the time that they left.
+"""
 import atexit
 import functools
 import glob

@@ -3,6 +3,11 @@
 No contract can say this. So outside tests, a fault of these kinds may be written in two ways only: by `impl From` of the fault of an
 allocation or of a thread, and as the right side of a match arm whose pattern is such a fault. `?` carries it from there. PLACES lists
 all places where one is written. docs/TESTING.md says what this does not find.
+
+A fault may have no second name, no default, and no pattern that only binds its name. No `match` is on a block. A macro has no fault, `Err`, `match`, `?` or
+digit. The calls for C return numbers by their names alone: no digits, no sums, no variable. Each way round these rules that was tried is a control in
+tests/controls/memory_faults. The last to be refused was a fault behind the type of a pointer to a function, as in
+`let kept: (Option<fn(u8) -> u8>, NoMemory)`, which the test took for the head of a function.
 """
 import glob
 import os

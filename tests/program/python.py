@@ -1,4 +1,9 @@
-"""Tests of bindings/python: the package over the shared library, built by its pyproject.toml, with the programs of tests/python."""
+"""Tests of bindings/python: the package over the shared library, built by its pyproject.toml, with the programs of tests/python.
+
+It tests bindings/python, built by its pyproject.toml, by the programs of tests/python: each call and each exception but FlipRefused, which is proved
+never to come; all pair texts and traces; examples/python; the Python code of the page of gcflip.explore; files that are not the library; types, by
+mypy in strict mode where it is.
+"""
 import os
 import re
 import shutil

@@ -1,6 +1,9 @@
 """Plays random commands, steps and calls by C, Rust, Python and the program, and compares all that they show with the model of heap_model.
 
 The seed is printed. `tests/run --only random --seed N` repeats a run. `tests/long` makes many rounds.
+
+It tests random commands, steps and calls by C, Rust, Python and the program, compared with tests/program/heap_model.py, a model that is written from
+the documents: replies, counts, logs, images, recordings, reports and pairs. It prints its seed; --seed N repeats a run.
 """
 import os
 import random

@@ -1,5 +1,13 @@
 """Tests of the adapters for collectors of real runtimes. A runtime that is missing is skipped, and a line says how many cases that leaves
-out."""
+out.
+
+It tests examples/ocaml, where OCaml 4.13 is: a million pairs and more of its own collector, each kind a thousand times, each planted fault refused at
+its place, bits flipped in turn, under AddressSanitizer and by valgrind, and OCaml's compiler with each collection checked. examples/jvm, where a JDK
+is: two collections of each of HotSpot's five collectors, with weak references that are cleared and that stay, a flipped bit and a weak reference
+cleared too early found in each; one collection and both faults again with the C parts of the library and Python's rows under AddressSanitizer; bits
+of each field and length of a dump flipped, and classes exchanged. The examples are made where no library is installed: they build it, or say what is
+missing. tests/install installs both where it can; elsewhere a line says how many cases are skipped.
+"""
 import os
 import re
 import shutil

@@ -1,13 +1,53 @@
-"""The table of docs/ARCHITECTURE.md that says where each notion is defined: the files of public definitions, each with its first comment."""
+"""docs/DEFINITIONS.md: the files of public definitions, each with its first comment, and the lines of definitions that a reader has to trust."""
 import glob
 import os
 
+from . import definition_counts as counts
 from .crates import CRATES, TOP, crates_listed
 
-DOCUMENT = os.path.join(TOP, "docs", "ARCHITECTURE.md")
-BEGIN = "<!-- tools/notions --write makes this table. -->\n\n"
-END = "\n<!-- The table ends here. -->\n"
-HEAD = "| file | its first comment |\n|---|---|\n"
+DOCUMENT = os.path.join(TOP, "docs", "DEFINITIONS.md")
+HEAD = """# Definitions
+
+`tools/notions --write` makes this page, and CI checks it. [ARCHITECTURE.md](ARCHITECTURE.md#where-each-notion-is-defined) says what the files are.
+
+## Files of public definitions
+
+"""
+BY_CRATE = """
+## Lines by crate
+
+Lines of definitions that a reader of the contracts has to trust, without comments, imports and rows. `tools/definitions` counts them.
+
+"""
+BY_PRODUCT = """
+## Lines by product
+
+A reader of one product's contracts has to trust fewer of them, namely those that the contracts of its exported functions reach. A contract reaches the
+definitions that it names, and those that they name in turn. It also reaches the models of the types that the function takes and returns. Internal
+definitions count where a model needs them. `tools/definitions --products` counts these lines, and `tools/definitions --products gcflip_c` lists the
+files behind a number. The world is gc_world with gc_shared. The program's public functions count as exported. A law of a crate below a product, as
+`paced_work_bounds_logs` of gc_pace, is not exported and does not count.
+
+"""
+BY_CALL = """
+## Lines that only some calls reach
+
+A reader who does not use these calls has that much less to trust. `tools/definitions --products gcflip_c gcflip_infer gcflip_path` counts the lines that no other
+call of a product reaches.
+
+"""
+# The products, as readers know them.
+PRODUCTS = ["the checker for C", "the heap for C", "the world", "the program"]
+# Calls for one purpose, with their product.
+PURPOSES = [("pairs inferred from two images, and paths", "gcflip_c", ["gcflip_infer", "gcflip_path"]),
+            ("fields copied at once", "gcflip_heap_c", ["gcflip_heap_copy_fields"]),
+            ("objects made and filled at once", "gcflip_heap_c", ["gcflip_heap_new_pair", "gcflip_heap_new_from", "gcflip_heap_put_number", "gcflip_heap_put_nil"]),
+            ("objects filled with numbers and slots mixed", "gcflip_heap_c", ["gcflip_heap_new_with"]),
+            ("several numbers of raw objects", "gcflip_heap_c", ["gcflip_heap_raw_read", "gcflip_heap_raw_write"]),
+            ("addresses, where objects went, and references by address", "gcflip_heap_c", ["gcflip_heap_address", "gcflip_heap_moved", "gcflip_heap_refer"]),
+            ("extra roots and frames", "gcflip_heap_c", ["gcflip_heap_root_load", "gcflip_heap_root_store", "gcflip_heap_root_clear", "gcflip_heap_frame_push", "gcflip_heap_frame_pop"]),
+            ("the pace", "gcflip_heap_c", ["gcflip_pace_due", "gcflip_heap_pace", "gcflip_heap_work_paced"]),
+            ("checks of an open collection", "gcflip_heap_c", ["gcflip_heap_check", "gcflip_heap_flip_checks"])]
 # Files that only list modules.
 LISTS = {"Lib", "Internal"}
 
@@ -32,23 +72,33 @@ def rows():
                 yield "%s/specs/%s" % (crate, name), first_comment(path)
 
 
+def table_of(columns, lines):
+    """Returns a table with these columns."""
+    return "".join("| %s |\n" % " | ".join(map(str, cells)) for cells in [columns, *lines]).replace(" |\n", " |\n|%s\n" % ("---|" * len(columns)), 1)
+
+
 def table():
-    """Returns the table."""
-    return HEAD + "".join("| `%s` | %s |\n" % row for row in rows())
+    """Returns the table of files."""
+    return table_of(["file", "its first comment"], [["`%s`" % name, comment] for name, comment in rows()])
 
 
-def parts():
-    """Returns the text of the document before, in and behind the table."""
+def document():
+    """Returns the whole page."""
+    by_crate = [[crate, public, internal] for crate, (public, internal, _) in counts.by_crate().items()]
+    by_product = [[crate, *lines] for crate, lines in counts.by_product().items()]
+    by_call = [[what, ", ".join("`%s`" % call for call in calls), counts.added_by(product, calls)] for what, product, calls in PURPOSES]
+    return "".join([HEAD, table(), BY_CRATE, table_of(["crate", "public", "internal"], by_crate), BY_PRODUCT, table_of(["crate", *PRODUCTS], by_product),
+                    BY_CALL, table_of(["what", "calls of C", "lines"], by_call)])
+
+
+def shown():
+    """Returns the committed page."""
     with open(DOCUMENT, encoding="utf-8") as file:
-        before, begin, rest = file.read().partition(BEGIN)
-    shown, end, behind = rest.partition(END)
-    if not begin or not end:
-        raise ValueError("docs/ARCHITECTURE.md has no place for the table of notions")
-    return before + begin, shown, end + behind
+        return file.read()
 
 
-def faults(shown):
-    """Yields what is wrong: files without a first comment, files with that of another one, and rows that the shown table or the right one alone has."""
+def faults(text):
+    """Yields what is wrong: files without a first comment, files with that of another one, and lines that this text of the page or the right one alone has."""
     known = {}
     for name, comment in rows():
         if not comment:
@@ -57,14 +107,14 @@ def faults(shown):
     for names in known.values():
         if len(names) > 1:
             yield "%s begin with the same comment" % ", ".join(names)
-    rows_shown, wanted = shown.split("\n"), table().split("\n")
-    if rows_shown != wanted:
-        alone = ["missing: " + row for row in wanted if row not in rows_shown] + ["too many: " + row for row in rows_shown if row not in wanted]
-        yield "%s; tools/notions --write makes the table" % ("; ".join(alone) or "the rows have another order")
+    lines, wanted = text.split("\n"), document().split("\n")
+    if lines != wanted:
+        alone = ["missing: " + line for line in wanted if line not in lines] + ["too many: " + line for line in lines if line not in wanted]
+        yield "docs/DEFINITIONS.md: %s; tools/notions --write makes the page" % ("; ".join(alone) or "the lines have another order")
 
 
 def write():
-    """Writes the table into the document."""
-    before, _, behind = parts()
+    """Writes the page."""
+    text = document()
     with open(DOCUMENT, "w", encoding="utf-8") as file:
-        file.write(before + table() + behind)
+        file.write(text)

@@ -12,7 +12,7 @@ HERE = os.path.dirname(os.path.abspath(__file__))
 SHARED = "libgcflip.so.0"
 TRUST = "docs/TRUST.md"
 PYTHON, RUST = "bindings/python/README.md", "bindings/rust/README.md"
-DOCUMENTS = ["README.md", "CHANGELOG.md", TRUST, "docs/FORMATS.md", "docs/EMBEDDING.md", "docs/FAQ.md", "docs/CERTIFY.md", "docs/GLOSSARY.md", "docs/EXPLORE.md", "docs/RATTLE.md", "docs/RELATED.md"]
+DOCUMENTS = ["README.md", "CHANGELOG.md", TRUST, "docs/FORMATS.md", "docs/EMBEDDING.md", "docs/CALLS.md", "docs/FAQ.md", "docs/CERTIFY.md", "docs/GLOSSARY.md", "docs/EXPLORE.md", "docs/RATTLE.md", "docs/RELATED.md"]
 COMPLETIONS = {"share/bash-completion/completions/gcflip": "gcflip.bash", "share/zsh/site-functions/_gcflip": "_gcflip",
                "share/fish/vendor_completions.d/gcflip.fish": "gcflip.fish"}
 HEADERS = ["gcflip_answers.h", "gcflip.h", "gcflip_heap.h", "gcflip_images.h", "gcflip_record.h", "gcflip_allocator.h"]

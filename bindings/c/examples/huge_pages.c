@@ -1,6 +1,6 @@
 /* An allocator that asks Linux for huge pages, of 2 MiB each, where the libraries want a block of that size or more. All other blocks are malloc's.
  * It pays for heaps above 64 MiB: a collector reads and writes all over both spaces, and the processor finds a word sooner in few large pages than
- * in many of 4 KiB. docs/EMBEDDING.md has figures. Compile it with the program, before the archive:
+ * in many of 4 KiB. bench/embedding/README.md has figures. Compile it with the program, before the archive:
  *
  *     cc program.c huge_pages.c libgcflip.a
  *
