@@ -34,20 +34,22 @@ class Dues:
         return self.numbers.pop(0) if self.numbers else 0
 
 
-# The size of a heap, its program's line, a policy, and the outcome, for calls of ten words.
+# The size of a heap, its program's line, a policy, the outcome, and the end of the words in use, for calls of ten words.
 PLAYED = {
-    # It begins at word 51. Calls at 61 and 71 perform 10 steps each, and the one at 81 flips. 21 words are left, and 10 more follow.
-    "a step a word": (101, PLAIN, Constant(of_room(0.5), 1), Outcome([60, 10], [50, 50], 0, 1, 20, 30)),
-    # The call at 61 owes 15 times 2 steps, where 22 copy, 5 apply entries, and one flips. 23 words are left. The next beginning is at 62: the last words end at 63.
-    "entries and words that stay": (101, WRITING, Constant(of_room(0.5), 2), Outcome([60], [22 * 5 + 5 * 7], 0, 1, 27, 40)),
-    # It begins at 31 and at 61 has no room. The rest of the collection leaves 21 words. The next one begins at 41, and the last words end at 61.
-    "no steps until the room ends": (61, PLAIN, Constant(of_room(0.5), 0), Outcome([60], [100], 1, 1, 20, 40)),
+    # It begins at word 51. Calls at 61 and 71 perform 10 steps each, and the one at 81 flips. 21 words are left, and 20 more follow.
+    "a step a word": (101, PLAIN, Constant(of_room(0.5), 1), Outcome([60, 10], [50, 50], 0, 1, 20, 30), 41),
+    # The call at 61 owes 15 times 2 steps, where 22 copy, 5 apply entries, and one flips. 23 words are left. The next beginning is at 62.
+    "entries and words that stay": (101, WRITING, Constant(of_room(0.5), 2), Outcome([60], [22 * 5 + 5 * 7], 0, 1, 27, 40), 63),
+    # It begins at 31 and at 61 has no room. The rest of the collection leaves 21 words. The next one begins at 41.
+    "no steps until the room ends": (61, PLAIN, Constant(of_room(0.5), 0), Outcome([60], [100], 1, 1, 20, 40), 61),
     # No collection begins before the room ends.
-    "the world stops": (61, PLAIN, Constant(of_heap(9), 1), Outcome([60], [100], 1, 1, 20, 40)),
+    "the world stops": (61, PLAIN, Constant(of_heap(9), 1), Outcome([60], [100], 1, 1, 20, 40), 61),
+    # A call may ask for 30 words. So there is too little room at 41, three times: after 40 words, and twice after 20 more.
+    "a long object": (61, PLAIN._replace(most=30), Constant(of_room(0.5), 0), Outcome([40, 20, 20], [100, 100, 100], 3, 3, 60, 20), 41),
     # Of 1500 steps a call performs 1024, and the next one the other 476. None is due after that, and the room lasts.
-    "steps that are owed": (10001, LARGE, Dues(1500), Outcome([5010, 10], [1024 * 5, 476 * 5], 0, 0, 1500, 980)),
+    "steps that are owed": (10001, LARGE, Dues(1500), Outcome([5010, 10], [1024 * 5, 476 * 5], 0, 0, 1500, 980), 6001),
     # Owed steps are due beside new ones: 476 and 600 make 1076, of which 1024 are performed. The other 52 follow.
-    "steps that are owed add up": (10001, LARGE, Dues(1500, 600), Outcome([5010, 10, 10], [5120, 5120, 52 * 5], 0, 0, 2100, 970)),
+    "steps that are owed add up": (10001, LARGE, Dues(1500, 600), Outcome([5010, 10, 10], [5120, 5120, 52 * 5], 0, 0, 2100, 970), 6001),
 }
 
 
@@ -57,9 +59,10 @@ def shown(outcome):
 
 def by_hand(_program, _folder):
     """Heaps of a few words, whose calls are worked out in the comments."""
-    for name, (size, line, policy, wanted) in PLAYED.items():
-        found = Run(Program("hand", size, [line]), policy, COSTS, 10).outcome()
-        yield name, None if shown(found) == shown(wanted) else "%s, not %s" % (found, wanted)
+    for name, (size, line, policy, wanted, end) in PLAYED.items():
+        run = Run(Program("hand", size, [line]), policy, COSTS, 10)
+        found = run.outcome()
+        yield name, None if (shown(found), run.heap.end) == (shown(wanted), end) else "%s to %d, not %s to %d" % (found, run.heap.end, wanted, end)
 
 
 def counts(end, passed, entries, left=30, size=200):
@@ -87,7 +90,9 @@ WINDOWS = [(40, 40), (60, 55), (95, 90), (100, 90), (145, 120), (1000, 120)]
 
 
 def rules(_program, _folder):
-    """What policies ask for, where they begin, and the least share of windows."""
+    """What a program's calls cost, what policies ask for, where they begin, and the least share of windows."""
+    own = Costs(2, 3, 5, 7, 0, 0).of_program(Line(0, 0, 11, 13, 17, 19, 0, 0, 0, 0))
+    yield "costs of calls", None if own == 2 * 11 + 3 * 13 + 5 * 17 + 7 * 19 else "%d" % own
     for name, policy, room, wanted in DUE:
         found = policy.due(counts(51, 40, 5), SPENT, room)
         yield "%s, room %d" % (name, room), None if abs(found - wanted) < 1e-9 else "%s, not %s" % (found, wanted)

@@ -148,7 +148,7 @@ class Run:
             words = min(blocks * self.block, line.words - gone)
             self.heap.add(words, entries * words, added * words, density)
             self.words += words
-            self.logged += entries * words if self.heap.is_open else 0
+            self.logged += entries * words
             self.busy += own * words
             self.since += own * words
             gone += words
