@@ -129,9 +129,11 @@ def recorded(_program, _folder):
             found = Run(programs[name], compared[policy], costs).outcome()
             differs = abs(found.collections - wanted) > wanted / 8 or (found.stalls > 0) != waits
             yield "%s, %s" % (name, policy), "%d collections, not %d, and %d stalls" % (found.collections, wanted, found.stalls) if differs else None
-    for name in ("cache", "live8", "vm_deep", "lisp_strings"):
-        found = Run(programs[name], compared["half of the room, rate 2, guard 10"], costs).outcome()
-        yield "%s, with a guard" % name, "%d stalls" % found.stalls if found.stalls else None
+    # Where 70 % of the heap are live, the guard decides whether a program stalls.
+    for name in ("cache", "live8", "vm_deep"):
+        tight = programs[name]._replace(heap=int(max(line.live for line in programs[name].lines) / 0.7))
+        found = [Run(tight, compared["half of the room, rate 2" + more], costs).outcome().stalls for more in ("", ", guard 10")]
+        yield "%s, with a guard" % name, None if found[0] > 0 and found[1] == 0 else "%d stalls without, and %d with it" % tuple(found)
 
 
 # In the model a call comes before each 64 words. This heap is the first one above, with 64 words in place of 10.
@@ -140,6 +142,8 @@ TABLE = b"# command now goal\nget_object 1\nput 1\nmove 1\nnew_2 10000 - 9\nstep
 HEAD = "| program | policy | MMU at 1 ms | at 10 ms | stalls | collections | steps a word | collector's share | longest call, ms |\n%s|\n" % ("|---" * 9)
 # The calls take 6.4 M, and 0.64 M lie between them: of 10 M instructions 9.36 are theirs. All takes 19.2 M, which is less than 10 ms.
 ROW = "| hand | half of the room, rate 1 | 0.064 | - | 0 | 1 | 0.20 | 0.67 | 0.640 |\n"
+# With a heap of 256 words there is no room from the call at word 193 on. So each of the last 7 calls performs a whole collection, of 12.8 M instructions.
+TIGHT = "| hand | 3/4 of the heap, rate 3 | 0.000 | - | 7 | 7 | 1.40 | 0.93 | 1.280 |\n"
 UNREADABLE = {"a line too short": (b"program hand heap 641\n1 2 3\n", "line 2 is neither a program nor 10 counts"),
               "no program": (b"# nothing\n640 64 0 0 0 640 0 128 128 0\n", "line 2 is neither a program nor 10 counts")}
 
@@ -149,6 +153,8 @@ def tool(_program, folder):
     costs = ["--costs", file_of(folder, "costs", TABLE)]
     found = done([sys.executable, TOOL, *costs, "--program", "hand", "--policy", "half of the room, rate 1", file_of(folder, "counts", RECORDING)])
     rows = [row for row in found.stdout.decode().splitlines(keepends=True) if "rate 1.5" not in row]
+    tight = done([sys.executable, TOOL, *costs, "--live", "0.5", "--policy", "3/4 of the heap", file_of(folder, "counts", RECORDING)])
+    yield "half of the heap is live", None if (tight.status, tight.stdout.decode()) == (0, HEAD + TIGHT) else repr(tight)
     yield "a row", None if (found.status, "".join(rows)) == (0, HEAD + ROW) else repr(found)
     for name, (text, fault) in UNREADABLE.items():
         found = done([sys.executable, TOOL, *costs, file_of(folder, "other", text)])
