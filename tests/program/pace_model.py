@@ -11,7 +11,7 @@ from .harness import file_of
 sys.path.insert(0, os.path.join(TOP, "tools"))
 
 from pacing.heap import Heap, Outcome, Run, Spent, least_utilisation  # noqa: E402
-from pacing.policies import Constant, Guarded, ShareOfTime, WorkOverRoom, grown, of_heap, of_room, policies  # noqa: E402
+from pacing.policies import Constant, Guarded, ShareOfTime, WorkOverRoom, grown, late, of_heap, of_room, policies  # noqa: E402
 from pacing.recording import Costs, Line, Program, costs_of, programs_of  # noqa: E402
 
 TOOL = os.path.join(TOP, "tools", "pace_model")
@@ -84,7 +84,9 @@ DUE = [
 ]
 # Where a collection begins on a heap of 200 words of which the last flip left 30.
 BEGINNINGS = [("factor 200", grown(200, 10), 60), ("at least 80", grown(200, 80), 80), ("halfway at the latest", grown(200, 500), 115),
-              ("3/4 of the heap", of_heap(0.75), 150), ("half of the room", of_room(0.5), 115), ("none of the room", of_room(0), 30)]
+              ("3/4 of the heap", of_heap(0.75), 150), ("half of the room", of_room(0.5), 115), ("none of the room", of_room(0), 30), ("late", late, 140)]
+# The same, where the last flip left other numbers of words.
+LATE = [(10, 150), (25, 150), (40, 120), (50, 125), (120, 160)]
 # Three calls of 30, 40 and 50 with 20 and 5 between them: a window, and what calls take of it at most. From the second call to the end are 95.
 WINDOWS = [(40, 40), (60, 55), (95, 90), (100, 90), (145, 120), (1000, 120)]
 
@@ -99,6 +101,9 @@ def rules(_program, _folder):
     for name, beginning, wanted in BEGINNINGS:
         found = beginning(counts(51, 40, 5))
         yield "begins: %s" % name, None if found == wanted else "%s, not %s" % (found, wanted)
+    for left, wanted in LATE:
+        found = late(counts(51, 40, 5, left))
+        yield "begins late after %d" % left, None if found == wanted else "%s, not %s" % (found, wanted)
     for window, most in WINDOWS:
         found = least_utilisation(Outcome([10, 20, 5], [30, 40, 50], 0, 0, 0, 0), window)
         yield "window of %d" % window, None if abs(found - (1 - most / window)) < 1e-9 else "%s" % found
@@ -144,6 +149,8 @@ HEAD = "| program | policy | MMU at 1 ms | at 10 ms | stalls | collections | ste
 ROW = "| hand | half of the room, rate 1 | 0.064 | - | 0 | 1 | 0.20 | 0.67 | 0.640 |\n"
 # With a heap of 256 words there is no room from the call at word 193 on. So each of the last 7 calls performs a whole collection, of 12.8 M instructions.
 TIGHT = "| hand | 3/4 of the heap, rate 3 | 0.000 | - | 7 | 7 | 1.40 | 0.93 | 1.280 |\n"
+# A heap of 142 words has no room for 64 beside the 128 that are live.
+SMALL = "| hand | 3/4 of the heap, rate 3 | - | - | - | - | - | - | - |\n"
 UNREADABLE = {"a line too short": (b"program hand heap 641\n1 2 3\n", "line 2 is neither a program nor 10 counts"),
               "no program": (b"# nothing\n640 64 0 0 0 640 0 128 128 0\n", "line 2 is neither a program nor 10 counts")}
 
@@ -155,6 +162,8 @@ def tool(_program, folder):
     rows = [row for row in found.stdout.decode().splitlines(keepends=True) if "rate 1.5" not in row]
     tight = done([sys.executable, TOOL, *costs, "--live", "0.5", "--policy", "3/4 of the heap", file_of(folder, "counts", RECORDING)])
     yield "half of the heap is live", None if (tight.status, tight.stdout.decode()) == (0, HEAD + TIGHT) else repr(tight)
+    small = done([sys.executable, TOOL, *costs, "--live", "0.9", "--policy", "3/4 of the heap", file_of(folder, "counts", RECORDING)])
+    yield "too small a heap", None if (small.status, small.stdout.decode()) == (0, HEAD + SMALL) else repr(small)
     yield "a row", None if (found.status, "".join(rows)) == (0, HEAD + ROW) else repr(found)
     for name, (text, fault) in UNREADABLE.items():
         found = done([sys.executable, TOOL, *costs, file_of(folder, "other", text)])

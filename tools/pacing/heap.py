@@ -22,6 +22,10 @@ class Outcome(NamedTuple):
     rest: float        # the program's own time after the last of these calls
 
 
+class TooSmall(ValueError):
+    """A heap has no room for what a program wants, even after a whole collection."""
+
+
 class Spent(NamedTuple):
     """What a program did since the call before."""
     words: float
@@ -122,7 +126,7 @@ class Run:
             if heap.room() < wanted and heap.left > 1 + live:
                 took += self.whole(live, live_steps)
             elif heap.room() < wanted:
-                raise ValueError("%s: the heap is too small" % self.program.name)
+                raise TooSmall
         if took:
             self.own.append(self.since)
             self.took.append(took)

@@ -20,6 +20,12 @@ def grown(factor, least):
     return lambda heap: min(max(least, factor * heap.left // 100), (heap.left + heap.size) // 2)
 
 
+def late(heap):
+    """Begins where the room is twice what the last flip left, but at three quarters of the heap at the latest, and not before half of the room is used up. With
+    two steps for each word, as many words as are left pay for what was left and for what comes meanwhile."""
+    return max((heap.left + heap.size) // 2, min(heap.size * 3 // 4, heap.size - 2 * heap.left))
+
+
 class Constant:
     """So many steps for each word and each entry."""
 
@@ -75,8 +81,10 @@ def policies(step):
     for part, name in ((0.5, "half"), (0.25, "a quarter"), (0.0, "none")):
         for rate in (1, 1.5, 2, 3, 6) if part == 0.5 else (2,):
             found["%s of the room, rate %g" % (name, rate)] = Constant(of_room(part), rate)
-    for rate, most in ((2, 4), (2, 10), (3, 10)):
-        found["half of the room, rate %d, guard %d" % (rate, most)] = Guarded(half, rate, most)
+    for name, beginning, rate, most in (("half", half, 2, 4), ("half", half, 2, 10), ("half", half, 3, 10), ("2/3", of_room(2 / 3), 2, 10)):
+        found["%s of the room, rate %d, guard %d" % (name, rate, most)] = Guarded(beginning, rate, most)
+    for rate in (2, 3):
+        found["late, rate %d, guard 10" % rate] = Guarded(late, rate, 10)
     for share in (0.1, 0.2, 0.3):
         found["half of the room, %g of the time" % share] = ShareOfTime(half, share, step)
     return found
