@@ -86,7 +86,7 @@ DUE = [
 BEGINNINGS = [("factor 200", grown(200, 10), 60), ("at least 80", grown(200, 80), 80), ("halfway at the latest", grown(200, 500), 115),
               ("3/4 of the heap", of_heap(0.75), 150), ("half of the room", of_room(0.5), 115), ("none of the room", of_room(0), 30), ("late", late, 140)]
 # The same, where the last flip left other numbers of words.
-LATE = [(10, 150), (25, 150), (40, 120), (50, 125), (120, 160)]
+LATE = [(1, 100), (10, 150), (25, 150), (40, 120), (50, 125), (120, 160)]
 # Three calls of 30, 40 and 50 with 20 and 5 between them: a window, and what calls take of it at most. From the second call to the end are 95.
 WINDOWS = [(40, 40), (60, 55), (95, 90), (100, 90), (145, 120), (1000, 120)]
 

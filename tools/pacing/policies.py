@@ -22,8 +22,10 @@ def grown(factor, least):
 
 def late(heap):
     """Begins where the room is twice what the last flip left, but at three quarters of the heap at the latest, and not before half of the room is used up. With
-    two steps for each word, as many words as are left pay for what was left and for what comes meanwhile."""
-    return max((heap.left + heap.size) // 2, min(heap.size * 3 // 4, heap.size - 2 * heap.left))
+    two steps for each word, as many words as were left pay for these and for what comes meanwhile. The first collection begins where half of the heap is in
+    use, since nothing is known of what lives."""
+    half = (heap.left + heap.size) // 2
+    return half if heap.left == 1 else max(half, min(heap.size * 3 // 4, heap.size - 2 * heap.left))
 
 
 class Constant:
