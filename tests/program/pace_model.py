@@ -1,11 +1,11 @@
-"""Tests of tools/pace_model: heaps of a few words worked by hand, the rules of its policies, its recording and its command line.
+"""Tests of tools/pace_model: heaps of a few words worked by hand, the rules of its policies, its recording, its command line and its recorder.
 
 The collections on the recording were counted by the library, in runs of bench/embedding/programs.c. No number was taken from the model.
 """
 import os
 import sys
 
-from .c_builds import TOP, done
+from .c_builds import TOP, done, library
 from .harness import file_of
 
 sys.path.insert(0, os.path.join(TOP, "tools"))
@@ -171,4 +171,23 @@ def tool(_program, folder):
     yield "no such file", None if done([sys.executable, TOOL, os.path.join(folder, "missing")]).status == 2 else "no fault"
 
 
-GROUPS = [by_hand, rules, recorded, tool]
+# What recorded_counts.c asks for in intervals of 8 words, as record_counts.c counts it. In the first one both objects are copied for roots, and have 2 fields and
+# an end each: 8 steps. In the second one the raw object is copied and passed, and the pair copied, its 2 fields scanned and its end passed. The put and the number
+# are 2 entries, and the pair 2 more. In the third the pair is garbage at the end, but was live at first, and an object without fields is copied and passed.
+RECORDED = [[8, 4, 2, 2, 1, 2, 2, 0, 0, 8], [9, 5, 0, 0, 2, 2, 2, 8, 8, 6], [2, 2, 0, 0, 0, 1, 0, 13, 10, 2]]
+
+
+def recorder(_program, folder):
+    """The recorder counts what a program asks for, and performs no work of the program's own."""
+    built = library(folder)
+    if built is None:
+        return
+    recorder_file, options = done([sys.executable, os.path.join(BENCH, "record_counts"), "--print-options"]).stdout.decode().split(" ", 1)
+    path, why = built.build(["gcc", "-Wno-unused-parameter"], "recorded_counts.c", [recorder_file, *built.archive(), *options.split()])
+    counts = os.path.join(folder, "counts")
+    ran = done([path], env=dict(os.environ, COUNTS_FILE=counts, COUNTS_WORDS="8")) if why is None else None
+    lines = [[int(number) for number in line.split()] for line in text_of(counts).splitlines()] if ran and ran.status == 0 else []
+    yield "what a program asks for", why or (None if lines == RECORDED else "%s: %s" % (ran, lines))
+
+
+GROUPS = [by_hand, rules, recorded, tool, recorder]
