@@ -1,6 +1,6 @@
 /* Performs the calls on standard input, a line each, and prints a line for each: random_calls [RECORD].
-   Compiled with -DRECORD, it records the run into RECORD. Compiled with -DBASIC, it has no paced work, no extra roots, no moved addresses and
-   no references by address, which the heap in plain C lacks. tests/program/random_calls.py makes the calls and knows the lines.
+   Compiled with -DRECORD, it records the run into RECORD. Compiled with -DBASIC, it has no extra roots, no moved addresses and no
+   references by address, which the heap in plain C lacks. tests/program/random_calls.py makes the calls and knows the lines.
 
    Outputs that a call must leave alone are compared with what they held before. */
 #ifdef RECORD
@@ -92,14 +92,9 @@ static void print_work(const gcflip_work *work)
 static void work(uint32_t most, uint64_t size, uint64_t words)
 {
     gcflip_work work = {KEPT_32, KEPT_32, KEPT_32, KEPT_32};
-#ifdef BASIC
-    EXPECT(size == NO_BOUND && words == NO_BOUND);
-    uint32_t answer = gcflip_heap_work(&heap, most, &work);
-#else
     uint32_t answer = size != NO_BOUND    ? gcflip_heap_work_sized(&heap, most, (uint32_t)size, &work)
                       : words != NO_BOUND ? gcflip_heap_work_within(&heap, most, (uint32_t)words, &work)
                                           : gcflip_heap_work(&heap, most, &work);
-#endif
     if (answer != GCFLIP_DONE) {
         EXPECT(work.steps == KEPT_32 && work.copied == KEPT_32 && work.last == KEPT_32 && work.pairs == KEPT_32);
         printf("%s\n", reply(answer));
@@ -109,7 +104,6 @@ static void work(uint32_t most, uint64_t size, uint64_t words)
     printf("\n");
 }
 
-#ifndef BASIC
 static gcflip_pace pace;
 
 static void set_pace(void)
@@ -139,6 +133,7 @@ static void work_paced(uint32_t wanted)
     printf(", %u %u %u %u\n", pace.left, pace.end, pace.logged, pace.owed);
 }
 
+#ifndef BASIC
 static void frame(bool is_push)
 {
     gcflip_frame frame = {(uint32_t)a[2], (uint32_t)a[3], (uint32_t)a[4]};
@@ -364,12 +359,12 @@ static void perform(const char *name)
     else if (IS("raw_write")) raw_write();
     else if (IS("raw_read")) raw_read();
     else if (IS("address")) address();
-#ifndef BASIC
-    else if (IS("moved")) moved();
     else if (IS("work_sized")) work((uint32_t)a[0], a[1], NO_BOUND);
     else if (IS("work_within")) work((uint32_t)a[0], NO_BOUND, a[1]);
     else if (IS("pace")) set_pace();
     else if (IS("work_paced")) work_paced((uint32_t)a[0]);
+#ifndef BASIC
+    else if (IS("moved")) moved();
     else if (IS("frame_push")) frame(true);
     else if (IS("frame_pop")) frame(false);
 #endif
