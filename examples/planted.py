@@ -1,10 +1,10 @@
 #!/usr/bin/env python3
-"""Plants faults in a collector: planted.py FAULTS.txt [--draw N] [--seed S] [--only NAME ..] -- COMMAND ..
+"""Plants faults in a collector: planted.py FAULTS.txt [--draw N] [--seed S] [--only NAME ..] [--at-once] -- COMMAND ..
 
 FAULTS.txt has a row for each fault: its name, from which collection on it is planted, how many places for it are passed over, what it is, and a
-pattern of what has to be printed. The rows behind the first empty line are drawn: N of them, by the seed, which is the time by default. The command runs a
-program by the collector with its adapter; variables of the environment tell it the fault. It has to end with status 3, after it has said that it planted
-the fault. Prints a line for each fault, and the lines about it. The status is 0 if each was found, and what was printed names it.
+pattern of what has to be printed. The rows behind the first empty line are drawn: N of them, by the seed, which is the time by default. With --only, the
+faults that are named are planted instead, and with --at-once each at its first place. The command runs a program by the collector with its adapter;
+variables of the environment tell it the fault. It has to end with status 3, after it has said that it planted the fault. Prints a line for each fault, and the lines about it. The status is 0 if each was found, and what was printed names it.
 """
 import argparse
 import os
@@ -39,6 +39,7 @@ def main():
     parser.add_argument("--draw", type=int, default=0)
     parser.add_argument("--seed", type=int, default=int(time.time()))
     parser.add_argument("--only", nargs="*")
+    parser.add_argument("--at-once", action="store_true")
     parser.add_argument("command", nargs="+")
     given = parser.parse_args()
     always, drawn = rows_of(given.faults)
@@ -47,6 +48,8 @@ def main():
         print("%d of %d faults drawn with --seed %d" % (min(given.draw, len(drawn)), len(drawn), given.seed))
     if given.only:
         rows = [row for row in always + drawn if row[0] in given.only]
+    if given.at_once:
+        rows = [[name, "1", "0", *rest] for name, _, _, *rest in rows]
     failed = 0
     for row in rows:
         found, lines = outcome(row, given.command)
