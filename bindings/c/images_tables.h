@@ -10,7 +10,7 @@
    slots, and no table has it. */
 
 /* Returns the slot of a key, or the free one where it belongs. The search starts at the upper bits of a product, which depend on all bits of the
-   key: those of a weak reference or of a pointer into an object have its place in the upper half. */
+   key. Those of a weak reference or of a pointer into an object have its place in the upper half. */
 static size_t slot_of(const struct table *table, uint64_t key)
 {
     size_t slot = (size_t)(((key * 0x9E3779B97F4A7C15u) >> 32) * table->size >> 32);

@@ -1,6 +1,6 @@
 #!/bin/sh
-# check.sh OUT RUNTIME: runs program.erl by the emulator in OUT, and prints what each run was about. SEED chooses six of twenty faults, and FLIPS is how many
-# bits the self-test flips. The status is 0 if all is as it should be.
+# check.sh OUT RUNTIME: runs program.erl by the emulator in OUT, and prints what each run was about. SEED chooses DRAW of twenty faults, 6 by default, and FLIPS
+# is how many bits the self-test flips. The status is 0 if all is as it should be.
 out=$1
 text=$out/check.txt
 failed=0
@@ -25,7 +25,7 @@ CERTIFY_EACH=4 ring 8 1500 > "$text" 2>&1 && awk '/ minor collections and .* non
 told $? "each fourth collection"
 tail -n 2 "$text"
 
-../planted.py faults.txt --draw 6 ${SEED:+--seed "$SEED"} -- ./erl "$out" "$runtime" 'io:format("~w~n", [program:run(4, 1500)])' +S 2:2 || failed=1
+../planted.py faults.txt --draw "${DRAW:-6}" ${SEED:+--seed "$SEED"} -- ./erl "$out" "$runtime" 'io:format("~w~n", [program:run(4, 1500)])' +S 2:2 || failed=1
 
 CERTIFY_AT=300 CERTIFY_FLIPS=${FLIPS:-300} ring 8 600 > "$text" 2>&1 && grep -q "^flipped ${FLIPS:-300} bits: .*, unexplained 0$" "$text"
 told $? "the self-test"

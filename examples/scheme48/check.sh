@@ -1,6 +1,6 @@
 #!/bin/sh
-# check.sh OUT RUNTIME: runs program.scm by the machine in OUT, and prints what each run was about. SEED chooses six of twenty faults, and FLIPS is how many
-# bits the self-test flips. The status is 0 if all is as it should be.
+# check.sh OUT RUNTIME: runs program.scm by the machine in OUT, and prints what each run was about. SEED chooses DRAW of twenty faults, 6 by default, and FLIPS
+# is how many bits the self-test flips. The status is 0 if all is as it should be.
 out=$1
 text=$out/check.txt
 failed=0
@@ -20,7 +20,7 @@ CERTIFY_EACH=4 $machine < program.scm > "$text" 2>&1 && awk '/ collections, .* n
 told $? "each fourth collection"
 tail -n 2 "$text"
 
-../planted.py faults.txt --draw 6 ${SEED:+--seed "$SEED"} -- sh -c "$machine < program.scm" || failed=1
+../planted.py faults.txt --draw "${DRAW:-6}" ${SEED:+--seed "$SEED"} -- sh -c "$machine < program.scm" || failed=1
 
 CERTIFY_AT=7 CERTIFY_FLIPS=${FLIPS:-60} $machine < program.scm > "$text" 2>&1 && grep -q "^flipped ${FLIPS:-60} bits: .*, unexplained 0$" "$text"
 told $? "the self-test"

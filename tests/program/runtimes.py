@@ -53,8 +53,14 @@ def ocaml(_program, folder):
 # What a program needs to read a Makefile, and what it prints for each example if there is nothing else.
 TO_READ = ("make", "sh", "mkdir")
 COMPILER = ("cc, of the package gcc", "ar, of the package binutils")
+# What builds a runtime from its source, beside Debian's keys.
+TO_BUILD = ("python3, of the package python3", "cksum, of the package coreutils", "apt-get, of the package apt", "patch, of the package patch",
+            "tar, of the package tar")
 MISSING = {"certify": COMPILER, "ocaml": ("ocamlopt, of the package ocaml-nox", *COMPILER),
-           "jvm": ("javac, of the package openjdk-17-jdk-headless", "python3, of the package python3", *COMPILER)}
+           "jvm": ("javac, of the package openjdk-17-jdk-headless", "python3, of the package python3", *COMPILER),
+           "scheme48": (*TO_BUILD, "gzip, of the package gzip", *COMPILER),
+           "erlang": (*TO_BUILD, "xz, of the package xz-utils", "perl, of the package perl", "g++, of the package g++", *COMPILER)}
+KEYRING = "/usr/share/keyrings/debian-archive-keyring.gpg"
 # The runs of examples/certify.
 OF_CERTIFY = ("no bug", "a field that is not forwarded", "an object that is copied twice", "a root that is forgotten", "a replica that is too short")
 
@@ -86,7 +92,7 @@ def examples_alone(_program, folder):
         less = os.path.join(folder, "less")
         ran = made_alone(less, example, "check", env=dict(os.environ, PATH=tools))
         lines = re.findall(r"(?m)^missing: (.*)$", ran.stdout.decode())
-        right = ran.status == 2 and [line for line in lines if not line.startswith("rt,")] == list(signs) and not os.path.exists(less)
+        right = ran.status == 2 and [line for line in lines if not line.startswith(("rt,", KEYRING))] == list(signs) and not os.path.exists(less)
         yield "what examples/%s lacks" % example, None if right else "status %d: %s" % (ran.status, lines)
 
 
