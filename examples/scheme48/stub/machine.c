@@ -273,10 +273,11 @@ static void fill_heap(void)
     Sthe_symbol_tableS = make(VECTOR_TYPE, 8 * 1024);
     Simported_bindingsS = make(VECTOR_TYPE, 8 * 1024);
     Sexported_bindingsS = make(VECTOR_TYPE, 8 * 1024);
-    long kept = make(VECTOR_TYPE, 8 * 12), thing = pair(4, 8), last = pair(NO, NO), queue = pair(last, last);
+    long kept = make(VECTOR_TYPE, 8 * 12), thing = pair(4, 8), due = pair(32, thing), last = pair(NO, NO), queue = pair(last, last);
     symbol("dropped");
     long values[] = {symbol("kept"), pair(thing, NONE), filled(WEAK_TYPE, thing, NO, NO), filled(WEAK_TYPE, pair(12, 16), NO, NO), queue,
-        filled(CELL_TYPE, pair(20, NONE), NO, queue), filled(CELL_TYPE, pair(24, NONE), NO, queue), symbol("tepk"), make(CHANNEL_TYPE, 56), make(STRING_TYPE, 13)};
+        filled(CELL_TYPE, pair(20, NONE), NO, queue), filled(CELL_TYPE, pair(24, NONE), NO, queue), symbol("tepk"), make(CHANNEL_TYPE, 56), make(STRING_TYPE, 13),
+        filled(WEAK_TYPE, due, NO, NO)};
     memcpy(fields(kept), values, sizeof values);
     filled(CELL_TYPE, pair(28, NONE), NO, queue); /* garbage: it joins no queue */
     bind(Simported_bindingsS, values[0]);
@@ -284,7 +285,8 @@ static void fill_heap(void)
     channels[0] = values[8];
     channels[1] = make(CHANNEL_TYPE, 56);
     finalize(thing);
-    for (long i = 0; i < 3; i++)
+    finalize(due);
+    for (long i = 1; i < 3; i++)
         finalize(pair(32 + 4 * i, thing));
     Scurrent_threadS = pair(kept, kept);
     Ssession_dataS = Sinterrupt_handlersS = make(VECTOR_TYPE, 8);
