@@ -128,11 +128,11 @@ def collector(result, app, name):
         pairs += numbers(r"^yes (\d+)", lines[0])
         moved += runtimes.number_before("addresses differ", lines)
         weak += runtimes.number_before("weak references", lines)
-        cleared += runtimes.number_before("of them cleared", lines)
+        cleared += runtimes.number_before("of them null", lines)
         result.collections += status == 0
     result.add("%s, pairs" % name, sum(pairs))
     result.add("%s, addresses that differ" % name, moved)
-    result.add("%s, weak references" % name, "%d, %d of them cleared" % (weak, cleared))
+    result.add("%s, weak references" % name, "%d, %d of them null" % (weak, cleared))
     found = list(runtimes.faults_found(app, name))
     for case, why in found:
         result.require(case, why is None, why or "")

@@ -98,11 +98,10 @@ def examples_alone(_program, folder):
 
 # HotSpot's collectors.
 COLLECTORS = ("Serial", "Parallel", "G1", "Shenandoah", "Z")
-# The faults that App plants, with the first two lines that certify.py prints.
+# The faults that App plants: how the first line that certify.py prints begins, and other lines.
 JVM_FAULTS = {
-    "fault": ("refused 9 FieldDiffers", "the static field App.victim . size of java/util/LinkedList"),
-    "cleared": ("no verdict: a weak reference was cleared, and its target has a replica",
-                "the static field App.toVictim . referent of java/lang/ref/WeakReference"),
+    "fault": ("refused 9 FieldDiffers ", ("  size of java/util/LinkedList", "  reached by the static field App.victim")),
+    "cleared": ("no verdict: a weak reference was cleared, and its target has a replica: referent of java/lang/ref/WeakReference of 0x", ()),
 }
 # The cases of a collector: two collections, whether it moves objects, whether it clears weak references, and the faults.
 OF_COLLECTOR = 4 + len(JVM_FAULTS)
@@ -159,7 +158,7 @@ def faults_found(app, collector):
     for fault, wanted in JVM_FAULTS.items():
         dumps, why = app.dumps(collector, "300", "1", fault)
         status, lines = app.certified(dumps, 0)
-        found = status == 1 and lines[0].startswith(wanted[0]) and lines[1] == wanted[1]
+        found = status == 1 and lines[0].startswith(wanted[0]) and set(wanted[1]) <= set(lines)
         yield "%s, the fault %s" % (collector, fault), why or (None if found else "\n".join(lines))
 
 
@@ -176,7 +175,7 @@ def jvm(_program, folder, size="1000", rounds=2):
             status, lines = app.certified(dumps, turn)
             pairs = re.fullmatch(r"yes (\d+)", lines[0])
             moved += number_before("addresses differ", lines)
-            cleared += number_before("of them cleared", lines)
+            cleared += number_before("of them null", lines)
             whole = status == 0 and pairs and int(pairs.group(1)) > 5000 and number_before("weak references", lines) > 100
             yield "%s, collection %d" % (collector, turn), why or (None if whole else "\n".join(lines))
         yield "%s moves objects" % collector, None if moved > 1000 else "it moved %d" % moved

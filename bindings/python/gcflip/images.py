@@ -7,12 +7,14 @@ from __future__ import annotations
 
 import ctypes
 import enum
+import operator
+from array import array
 from ctypes import CFUNCTYPE, POINTER, c_bool, c_char_p, c_size_t, c_uint32, c_uint64, c_void_p
 from typing import Any, Callable, Dict, List, Optional, Tuple
 
 from .checker import Block, Row
-from .errors import Faulty, OutOfMemory, Refusal, Refused, TooManyPairs
-from .library import LIBRARY, Answer, Verdict, in_range
+from .errors import Faulty, OutOfMemory, OutOfRange, Refusal, Refused, TooManyPairs
+from .library import LIBRARY, Answer, Verdict
 
 # The calls by their names without `gcflip_`, with the types of their results and arguments.
 CALLS: Dict[str, Tuple[Any, List[Any]]] = {
@@ -81,9 +83,31 @@ class Words(enum.Enum):
     FIXED = "fixed"
 
 
+_FUNCTIONS: Dict[Words, int] = {}
+
+
 def _function(words: Words) -> int:
     """Returns the address of the library's function that makes a word of an image of each word of a row."""
-    return ctypes.cast(getattr(_CALLS, "snapshot_" + words.value), c_void_p).value or 0
+    if words not in _FUNCTIONS:
+        _FUNCTIONS[words] = ctypes.cast(getattr(_CALLS, "snapshot_" + words.value), c_void_p).value or 0
+    return _FUNCTIONS[words]
+
+
+def _fit(number: int, bits: int) -> int:
+    """Returns a number that has no more bits. ctypes would truncate it."""
+    fitting = operator.index(number)
+    if fitting >> bits != 0:
+        raise OutOfRange("%d is negative or has more than %d bits" % (fitting, bits))
+    return fitting
+
+
+def _row(row: Row) -> Tuple[int, int, Any]:
+    """Returns where the words of a row are, how many they are, and what has to live meanwhile."""
+    words: Any = array("Q", row) if isinstance(row, (tuple, list)) else row
+    if isinstance(words, array) and words.typecode == "Q":
+        return (*words.buffer_info(), words)
+    block = Block(words, "Q")
+    return block.address, block.count, block
 
 
 class Names:
@@ -143,72 +167,72 @@ class Snapshot:
 
     def object(self, address: int, kind: int, fields: int) -> int:
         """Places an object with fields, of which none is set. Returns its place, or 0 after a fault."""
-        return int(_CALLS.snapshot_object(self._at, *in_range((address, kind, fields), [c_uint64, c_uint32, c_uint64])))
+        return int(_CALLS.snapshot_object(self._at, _fit(address, 64), _fit(kind, 32), _fit(fields, 64)))
 
     def words(self, address: int, kind: int, words: Row) -> int:
         """Places an object of plain words. Returns its place, or 0 after a fault."""
-        block = Block(words, "Q")
-        return int(_CALLS.snapshot_words(self._at, *in_range((address, kind), [c_uint64, c_uint32]), block.address, block.count))
+        at, count, _held = _row(words)
+        return int(_CALLS.snapshot_words(self._at, _fit(address, 64), _fit(kind, 32), at, count))
 
     def bytes(self, address: int, kind: int, content: Any) -> int:
         """Places a byte string. Returns its place, or 0 after a fault."""
         block = Block(memoryview(content).cast("B"), "B")
-        return int(_CALLS.snapshot_bytes(self._at, *in_range((address, kind), [c_uint64, c_uint32]), block.address, block.count))
+        return int(_CALLS.snapshot_bytes(self._at, _fit(address, 64), _fit(kind, 32), block.address, block.count))
 
     def find(self, address: int) -> int:
         """Returns the place of the object that starts at this address, or 0."""
-        return int(_CALLS.snapshot_find(self._at, *in_range((address,), [c_uint64])))
+        return int(_CALLS.snapshot_find(self._at, _fit(address, 64)))
 
     def reference(self, address: int) -> int:
         """Returns the word of a reference to the object at this address, which may be placed later."""
-        return int(_CALLS.snapshot_reference(self._at, *in_range((address,), [c_uint64])))
+        return int(_CALLS.snapshot_reference(self._at, _fit(address, 64)))
 
     def inside(self, address: int, offset: int) -> int:
         """Returns the word of a reference to this byte of the object at an address."""
-        return int(_CALLS.snapshot_inside(self._at, *in_range((address, offset), [c_uint64, c_uint32])))
+        return int(_CALLS.snapshot_inside(self._at, _fit(address, 64), _fit(offset, 32)))
 
     def constant(self, word: int) -> int:
         """Returns the word for 64 bits that are no reference."""
-        return int(_CALLS.snapshot_constant(self._at, *in_range((word,), [c_uint64])))
+        return int(_CALLS.snapshot_constant(self._at, _fit(word, 64)))
 
     def fixed(self, address: int) -> int:
         """Returns the word of a reference to an object that cannot move, and that no snapshot has."""
-        return int(_CALLS.snapshot_fixed(self._at, *in_range((address,), [c_uint64])))
+        return int(_CALLS.snapshot_fixed(self._at, _fit(address, 64)))
 
     def doubtful(self, word: int, why: str) -> int:
         """Returns a word that corresponds to nothing. The reason is printed."""
         reason = self._reasons.setdefault(why, why.encode())  # the library keeps its address
-        return int(_CALLS.snapshot_doubtful(self._at, *in_range((word,), [c_uint64]), reason))
+        return int(_CALLS.snapshot_doubtful(self._at, _fit(word, 64), reason))
 
     def set(self, place: int, field: int, word: int) -> None:
         """Sets a field to a word that one of the calls above returned."""
-        _CALLS.snapshot_set(self._at, *in_range((place, field, word), [c_uint32, c_uint64, c_uint64]))
+        _CALLS.snapshot_set(self._at, _fit(place, 32), _fit(field, 64), _fit(word, 64))
 
     def set_row(self, place: int, first: int, row: Row, words: Words) -> None:
         """Sets fields that lie one behind the other to what these words become."""
-        block = Block(row, "Q")
-        _CALLS.snapshot_set_words(self._at, *in_range((place, first), [c_uint32, c_uint64]), block.address, block.count, _function(words))
+        at, count, _held = _row(row)
+        _CALLS.snapshot_set_words(self._at, _fit(place, 32), _fit(first, 64), at, count, _function(words))
 
     def root(self, word: int) -> None:
         """Adds a root."""
-        _CALLS.snapshot_root(self._at, *in_range((word,), [c_uint64]))
+        _CALLS.snapshot_root(self._at, _fit(word, 64))
 
     def roots(self, row: Row, words: Words) -> None:
         """Adds roots: what these words become."""
-        block = Block(row, "Q")
-        _CALLS.snapshot_roots(self._at, block.address, block.count, _function(words))
+        at, count, _held = _row(row)
+        _CALLS.snapshot_roots(self._at, at, count, _function(words))
 
     def next(self, first: int, end: int, alignment: int) -> int:
         """Returns an address from `first` on and below `end` that a word led to and where nothing was placed, or 0 if there is none left."""
-        return int(_CALLS.snapshot_next(self._at, *in_range((first, end, alignment), [c_uint64] * 3)))
+        return int(_CALLS.snapshot_next(self._at, _fit(first, 64), _fit(end, 64), _fit(alignment, 64)))
 
     def set_weak(self, place: int, field: int, target: int) -> None:
         """Sets a field to a weak reference to the object at this address, or to a cleared one with 0."""
-        _CALLS.snapshot_set_weak(self._at, *in_range((place, field, target), [c_uint32, c_uint64, c_uint64]))
+        _CALLS.snapshot_set_weak(self._at, _fit(place, 32), _fit(field, 64), _fit(target, 64))
 
     def weak_root(self, target: int) -> None:
         """Adds a root that is a weak reference."""
-        _CALLS.snapshot_weak_root(self._at, *in_range((target,), [c_uint64]))
+        _CALLS.snapshot_weak_root(self._at, _fit(target, 64))
 
     def doubts(self, names: Optional[Names] = None) -> str:
         """Returns lines about words that are doubtful and fields that were never set, or an empty text if there are none."""
@@ -249,7 +273,7 @@ class Collection:
 
     def pair(self, old_address: int, new_address: int) -> None:
         """Adds the pair of the objects at these addresses."""
-        _CALLS.collection_pair(self._at, *in_range((old_address, new_address), [c_uint64, c_uint64]))
+        _CALLS.collection_pair(self._at, _fit(old_address, 64), _fit(new_address, 64))
 
     def check(self) -> int:
         """Checks the collection with the pairs that were added, and returns their number with those of the library.
@@ -278,7 +302,7 @@ class Collection:
 
     def has_replica(self, new_address: int) -> bool:
         """Returns whether a pair of the last check has the object of the snapshot after at this address."""
-        return bool(_CALLS.collection_has_replica(self._at, *in_range((new_address,), [c_uint64])))
+        return bool(_CALLS.collection_has_replica(self._at, _fit(new_address, 64)))
 
     def explain(self, names: Optional[Names] = None) -> str:
         """Returns what the last check found, in lines."""
@@ -295,5 +319,5 @@ class Collection:
     def old_addresses(self, first: int = 0, end: int = 0, names: Optional[Names] = None) -> str:
         """Returns lines about constants of the snapshot after that are addresses of the snapshot before, or lie from `first` on and below `end`."""
         with _Printed() as printed:
-            _CALLS.collection_old_addresses(self._at, *in_range((first, end), [c_uint64, c_uint64]), _raw(names), printed.file)
+            _CALLS.collection_old_addresses(self._at, _fit(first, 64), _fit(end, 64), _raw(names), printed.file)
         return printed.text
