@@ -24,6 +24,7 @@ class Layout:
 
     def __init__(self, fields):
         self.fields = fields
+        self.references = [(number, kind, owner) for number, (_, kind, owner) in enumerate(fields) if kind == REFERENCE or owner != PROGRAM]
         self.values = struct.Struct(">" + "".join(LETTERS[kind] for _, kind, _ in fields))
         self.starts = []
         at = 0

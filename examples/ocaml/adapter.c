@@ -1,6 +1,4 @@
 #include "adapter.h"
-#include <stdlib.h>
-#include <string.h>
 
 gcflip_collection *adapter_collection;
 enum fault adapter_fault;
@@ -14,19 +12,6 @@ static size_t place_room, object_room;
 /* The tags of raw blocks do not fit: kinds end at 251. No constructor of a program has a tag as high as this. */
 enum { FIRST_RAW_KIND = 236 };
 
-void *adapter_grown(void *array, size_t *room, size_t count, size_t bytes)
-{
-    if (count < *room)
-        return array;
-    *room = 2 * *room + 1024;
-    array = realloc(array, *room * bytes);
-    if (array == NULL) {
-        fprintf(stderr, "certify: no memory\n");
-        exit(3);
-    }
-    return array;
-}
-
 void adapter_forget(void)
 {
     gcflip_collection_clear(adapter_collection);
@@ -35,7 +20,7 @@ void adapter_forget(void)
 
 void adapter_add_place(value *at, char what)
 {
-    adapter_places = adapter_grown(adapter_places, &place_room, adapter_place_count, sizeof *adapter_places);
+    adapter_places = kit_grown(adapter_places, &place_room, adapter_place_count, sizeof *adapter_places);
     adapter_places[adapter_place_count++] = (struct place){at, *at, 0, what};
 }
 
@@ -62,23 +47,22 @@ uint32_t adapter_found(value block, uint32_t (*placed)(gcflip_snapshot *snapshot
         return place;
     header_t header = Hd_val(block);
     place = placed(snapshot, block, header);
-    adapter_objects = adapter_grown(adapter_objects, &object_room, adapter_object_count, sizeof *adapter_objects);
-    adapter_objects[adapter_object_count++] = (struct object){block, 0, header, place};
+    adapter_objects = kit_grown(adapter_objects, &object_room, adapter_object_count, sizeof *adapter_objects);
+    adapter_objects[adapter_object_count++] = (struct object){block, 0, header, place, 0};
     return place;
 }
 
-void adapter_write_fields(gcflip_snapshot *snapshot, uint32_t place, value block, header_t header, mlsize_t most, uint64_t (*word)(value))
+void adapter_write_fields(gcflip_snapshot *snapshot, uint32_t place, value block, header_t header, mlsize_t most, gcflip_word_of word)
 {
-    mlsize_t length = Wosize_hd(header), i = 0;
+    mlsize_t length = Wosize_hd(header), code = 0;
     if (Tag_hd(header) >= No_scan_tag || length > most)
         return;
-    if (Tag_hd(header) == Closure_tag && length >= 2) {
+    if (Tag_hd(header) == Closure_tag && length >= 2) { /* code and what describes it */
         mlsize_t environment = Start_env_closinfo(Closinfo_val(block));
-        for (; i < environment && i < length; i++) /* code and what describes it */
-            gcflip_snapshot_set(snapshot, place, i, gcflip_snapshot_constant(snapshot, (uint64_t)Field(block, i)));
+        code = environment < length ? environment : length;
+        gcflip_snapshot_set_words(snapshot, place, 0, (const value *)block, code, gcflip_snapshot_constant);
     }
-    for (; i < length; i++)
-        gcflip_snapshot_set(snapshot, place, i, word(Field(block, i)));
+    gcflip_snapshot_set_words(snapshot, place, code, (const value *)block + code, length - code, word);
 }
 
 void adapter_count(header_t header)

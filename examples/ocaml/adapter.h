@@ -15,7 +15,7 @@
 #include <caml/mlvalues.h>
 #include <caml/roots.h>
 #include <caml/weak.h>
-#include <gcflip_images.h>
+#include "../adapter_kit.h"
 
 /* Faults that a switch plants. */
 enum fault { NO_FAULT, BIT_FLIPPED, ROOT_MISSED, SLOT_NOT_REMEMBERED, NO_BARRIER, BIT_AFTER_COMPACTION, WEAK_CLEARED, OFFSET_LOST, FINALISED_MISSED, LAST_MISSED };
@@ -37,6 +37,7 @@ struct object {
     value now; /* where it went, or 0 */
     header_t header;
     uint32_t place;
+    uint32_t new_place; /* of the copy, while the snapshot after is written */
 };
 
 /* A pointer into a block of closures. */
@@ -66,14 +67,12 @@ uint32_t adapter_found(value block, uint32_t (*placed)(gcflip_snapshot *snapshot
 uint32_t adapter_place(gcflip_snapshot *snapshot, value block, header_t header, mlsize_t most);
 
 /* Sets the fields of a block; `word` says what each value becomes. */
-void adapter_write_fields(gcflip_snapshot *snapshot, uint32_t place, value block, header_t header, mlsize_t most, uint64_t (*word)(value));
+void adapter_write_fields(gcflip_snapshot *snapshot, uint32_t place, value block, header_t header, mlsize_t most, gcflip_word_of word);
 
 /* Counts a pair by the kind of its block. */
 void adapter_count(header_t header);
 
 /* Prints a refusal, and ends the program with status 3. */
 void adapter_refused(void);
-
-void *adapter_grown(void *array, size_t *room, size_t count, size_t bytes);
 
 #endif

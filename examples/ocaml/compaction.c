@@ -23,7 +23,7 @@ static void list_ephemerons(void)
 {
     ephemeron_count = 0;
     for (value v = caml_ephe_list_head; v != (value)NULL; v = Field(v, CAML_EPHE_LINK_OFFSET)) {
-        ephemerons = adapter_grown(ephemerons, &ephemeron_room, ephemeron_count, sizeof *ephemerons);
+        ephemerons = kit_grown(ephemerons, &ephemeron_room, ephemeron_count, sizeof *ephemerons);
         ephemerons[ephemeron_count++] = v;
     }
     if (ephemeron_count != 0)
@@ -62,19 +62,19 @@ static void find(value v)
     adapter_found(block, placed);
 }
 
-static uint64_t old_word(value v)
+static uint64_t old_word(gcflip_snapshot *snapshot, uint64_t word)
 {
-    find(v);
-    return word_in(old_snapshot, v);
+    find((value)word);
+    return word_in(snapshot, (value)word);
 }
 
-static uint64_t new_word(value v)
+static uint64_t new_word(gcflip_snapshot *snapshot, uint64_t word)
 {
-    return word_in(new_snapshot, v);
+    return word_in(snapshot, (value)word);
 }
 
 /* The link is the collector's own. The constant in place of its offset makes the object unlike every other one. Compaction clears no field. */
-static void write_ephemeron(gcflip_snapshot *snapshot, uint32_t place, value block, uint64_t (*word)(value))
+static void write_ephemeron(gcflip_snapshot *snapshot, uint32_t place, value block, gcflip_word_of word)
 {
     mlsize_t length = Wosize_val(block);
     gcflip_snapshot_set(snapshot, place, CAML_EPHE_LINK_OFFSET, 0);
@@ -86,12 +86,12 @@ static void write_ephemeron(gcflip_snapshot *snapshot, uint32_t place, value blo
         if (v == caml_ephe_none || is_in_heap(v))
             gcflip_snapshot_set_weak(snapshot, place, i, v == caml_ephe_none ? 0 : (uint64_t)(v - offset));
         else
-            gcflip_snapshot_set(snapshot, place, i, word(v));
+            gcflip_snapshot_set(snapshot, place, i, word(snapshot, (uint64_t)v));
         adapter_pairs[offset ? WEAK_INFIX : WEAK]++;
     }
 }
 
-static void write_block(gcflip_snapshot *snapshot, uint32_t place, value block, header_t header, uint64_t (*word)(value))
+static void write_block(gcflip_snapshot *snapshot, uint32_t place, value block, header_t header, gcflip_word_of word)
 {
     if (is_ephemeron(block))
         write_ephemeron(snapshot, place, block, word);
@@ -111,7 +111,7 @@ static void write_before(void)
     list_ephemerons();
     caml_do_roots(add_root, 1);
     for (size_t i = 0; i < adapter_place_count; i++)
-        gcflip_snapshot_root(old_snapshot, old_word(adapter_places[i].before));
+        gcflip_snapshot_root(old_snapshot, old_word(old_snapshot, (uint64_t)adapter_places[i].before));
     for (size_t i = 0; i < adapter_object_count; i++) {
         struct object object = adapter_objects[i];
         if (is_ephemeron(object.real))
@@ -181,7 +181,7 @@ value certify_compact(value unit)
     each_block(place_new);
     each_block(write_new);
     for (size_t i = 0; i < adapter_place_count; i++)
-        gcflip_snapshot_root(new_snapshot, new_word(*adapter_places[i].at));
+        gcflip_snapshot_root(new_snapshot, new_word(new_snapshot, (uint64_t)*adapter_places[i].at));
     if (gcflip_collection_infer(adapter_collection, &verdict) != GCFLIP_YES) {
         fprintf(stderr, "compaction: ");
         adapter_refused();

@@ -78,7 +78,7 @@ static value with_inner(value v)
 {
     value start = v - Infix_offset_val(v);
     adapter_found(start, placed);
-    inners = adapter_grown(inners, &inner_room, inner_count, sizeof *inners);
+    inners = kit_grown(inners, &inner_room, inner_count, sizeof *inners);
     inners[inner_count++] = (struct inner){start, 0, (uint32_t)Infix_offset_val(v)};
     return start;
 }
@@ -88,11 +88,11 @@ static uint64_t inside(value v)
     return gcflip_snapshot_inside(old_snapshot, (uint64_t)with_inner(v), (uint32_t)Infix_offset_val(v));
 }
 
-static uint64_t old_word(value v)
+static uint64_t old_word(gcflip_snapshot *snapshot, uint64_t word)
 {
-    v = shortcut(v);
+    value v = shortcut((value)word);
     if (!is_young(v))
-        return other_word(old_snapshot, v);
+        return other_word(snapshot, v);
     if (Tag_val(v) == Infix_tag)
         return inside(v);
     return 2 * (uint64_t)adapter_found(v, placed);
@@ -111,18 +111,19 @@ static uint32_t new_offset(value v)
     return found ? found->offset : 0;
 }
 
-static uint64_t new_word(value v)
+static uint64_t new_word(gcflip_snapshot *snapshot, uint64_t word)
 {
+    value v = (value)word;
     if (!Is_block(v))
-        return gcflip_snapshot_constant(new_snapshot, (uint64_t)v);
-    uint32_t place = gcflip_snapshot_find(new_snapshot, (uint64_t)v), offset = new_offset(v);
+        return gcflip_snapshot_constant(snapshot, word);
+    uint32_t place = gcflip_snapshot_find(snapshot, word), offset = place != 0 ? 0 : new_offset(v);
     if (place != 0)
         return 2 * (uint64_t)place;
     if (offset != 0)
-        return gcflip_snapshot_inside(new_snapshot, (uint64_t)(v - offset), offset);
+        return gcflip_snapshot_inside(snapshot, (uint64_t)(v - offset), offset);
     if (is_young(v))
-        return gcflip_snapshot_doubtful(new_snapshot, (uint64_t)v, "in the nursery, which was emptied");
-    return gcflip_snapshot_fixed(new_snapshot, (uint64_t)v);
+        return gcflip_snapshot_doubtful(snapshot, word, "in the nursery, which was emptied");
+    return gcflip_snapshot_fixed(snapshot, word);
 }
 
 /* ---- Before. */
@@ -174,7 +175,7 @@ value __wrap_caml_final_register(value function, value v)
     bool missed = adapter_fault == FINALISED_MISSED && checked >= 3 && !fault_done;
     value result = missed ? Val_unit : __real_caml_final_register(function, v);
     if (caml_minor_gc_begin_hook != NULL && is_young(v) && Tag_val(v) != Infix_tag) {
-        finalised = adapter_grown(finalised, &finalised_room, finalised_count, sizeof *finalised);
+        finalised = kit_grown(finalised, &finalised_room, finalised_count, sizeof *finalised);
         finalised[finalised_count++] = v;
     }
     return result;
@@ -188,7 +189,7 @@ value __wrap_caml_final_register_called_without_value(value function, value v)
     bool missed = adapter_fault == LAST_MISSED && checked >= 3;
     value result = missed ? Val_unit : __real_caml_final_register_called_without_value(function, v);
     if (caml_minor_gc_begin_hook != NULL && is_young(v) && Tag_val(v) != Infix_tag) {
-        lasts = adapter_grown(lasts, &last_room, last_count, sizeof *lasts);
+        lasts = kit_grown(lasts, &last_room, last_count, sizeof *lasts);
         lasts[last_count++] = v;
     }
     return result;
@@ -254,7 +255,7 @@ static void before(void)
         } else if (place->what == 'o') {
             gcflip_snapshot_root(old_snapshot, gcflip_snapshot_constant(old_snapshot, place->offset));
         } else {
-            gcflip_snapshot_root(old_snapshot, old_word(place->before));
+            gcflip_snapshot_root(old_snapshot, old_word(old_snapshot, (uint64_t)place->before));
         }
     }
     for (size_t i = 0; i < adapter_object_count; i++) {
@@ -273,16 +274,15 @@ static bool read_after(void *given, gcflip_collection *collection)
 {
     (void)given;
     for (size_t i = 0; i < adapter_object_count; i++) {
-        const struct object *object = &adapter_objects[i];
+        struct object *object = &adapter_objects[i];
         if (object->now != 0)
-            adapter_place(new_snapshot, object->now, Hd_val(object->now), Wosize_hd(object->header));
+            object->new_place = adapter_place(new_snapshot, object->now, Hd_val(object->now), Wosize_hd(object->header));
     }
     for (size_t i = 0; i < adapter_object_count; i++) {
         const struct object *object = &adapter_objects[i];
         if (object->now == 0)
             continue;
-        uint32_t place = gcflip_snapshot_find(new_snapshot, (uint64_t)object->now);
-        adapter_write_fields(new_snapshot, place, object->now, Hd_val(object->now), Wosize_hd(object->header), new_word);
+        adapter_write_fields(new_snapshot, object->new_place, object->now, Hd_val(object->now), Wosize_hd(object->header), new_word);
         gcflip_collection_pair(collection, (uint64_t)object->real, (uint64_t)object->now);
     }
     for (size_t i = 0; i < adapter_place_count; i++) {
@@ -293,7 +293,7 @@ static bool read_after(void *given, gcflip_collection *collection)
             gcflip_snapshot_root(new_snapshot,
                                  gcflip_snapshot_constant(new_snapshot, v == caml_ephe_none ? adapter_places[i].offset : new_offset(v)));
         else
-            gcflip_snapshot_root(new_snapshot, new_word(v));
+            gcflip_snapshot_root(new_snapshot, new_word(new_snapshot, (uint64_t)v));
     }
     return true;
 }
@@ -392,7 +392,7 @@ static void after_with_flips(void)
     gcflip_range *ranges = NULL;
     for (size_t i = 0; i < adapter_object_count; i++)
         if (adapter_objects[i].now != 0) {
-            ranges = adapter_grown(ranges, &room, count, sizeof *ranges);
+            ranges = kit_grown(ranges, &room, count, sizeof *ranges);
             ranges[count++] = (gcflip_range){(uint64_t *)Hp_val(adapter_objects[i].now), Whsize_hd(adapter_objects[i].header)};
         }
     if (checked == 4 && count != 0) {

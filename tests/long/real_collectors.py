@@ -7,12 +7,12 @@ import shutil
 import subprocess
 import sys
 
-from program import runtimes
-from program.c_builds import done, library
+from program import runtimes, source_runtimes
+from program.c_builds import TOP, done, library
 
 ROUNDS, SIZE = 3, "3000"
 # How many bits the self-tests flip.
-FLIPS = {"ocaml": "20000", "sanitizers": "2000", "jvm": "400"}
+FLIPS = {"ocaml": "20000", "sanitizers": "2000", "jvm": "400", "scheme48": "1000", "erlang": "5000"}
 HOUR = 3600
 
 
@@ -128,11 +128,11 @@ def collector(result, app, name):
         pairs += numbers(r"^yes (\d+)", lines[0])
         moved += runtimes.number_before("addresses differ", lines)
         weak += runtimes.number_before("weak references", lines)
-        cleared += runtimes.number_before("of them cleared", lines)
+        cleared += runtimes.number_before("of them null", lines)
         result.collections += status == 0
     result.add("%s, pairs" % name, sum(pairs))
     result.add("%s, addresses that differ" % name, moved)
-    result.add("%s, weak references" % name, "%d, %d of them cleared" % (weak, cleared))
+    result.add("%s, weak references" % name, "%d, %d of them null" % (weak, cleared))
     found = list(runtimes.faults_found(app, name))
     for case, why in found:
         result.require(case, why is None, why or "")
@@ -180,9 +180,41 @@ def under_address_sanitizer(result, app, folder):
     result.require("certify.py under AddressSanitizer", status == 0 and pairs > 0, "\n".join(lines))
 
 
+# ---- Scheme 48 and Erlang
+
+# What a run prints about its collections: their numbers, and that of the pairs.
+COLLECTIONS = {"scheme48": r"(?m)^(\d+) collections, \1 of them checked, (\d+) pairs, none refused\nms: (.*)$",
+               "erlang": r"(?m)^(\d+ minor collections and \d+ major ones), (\d+) pairs, none refused; .*\nms: (.*)$"}
+
+
+def from_source(result, example, name, folder):
+    """Runs 'make check' of an example whose runtime is built from its source, with all the faults."""
+    built = library(folder)
+    runtime = os.path.join(source_runtimes.CACHE, example.name)
+    words = ["make", "-s", "-C", example.folder, "check", "PREFIX=" + built.prefix, "OUT=" + os.path.join(folder, example.name), "RUNTIME=" + runtime]
+    ran = subprocess.run(words, stdout=subprocess.PIPE, stderr=subprocess.STDOUT, timeout=HOUR, env=dict(os.environ, DRAW="20", FLIPS=FLIPS[example.name]))
+    text = ran.stdout.decode("utf-8", "replace")
+    result.require("make check of examples/%s" % example.name, ran.returncode == 0, text)
+    always, drawn = source_runtimes.rows(example)
+    found = re.findall(r"(?m)^ok: fault (\w+), ", text)
+    result.require("the faults of examples/%s" % example.name, sorted(found) == sorted(row[0] for row in always + drawn), ", ".join(found))
+    first = re.search(COLLECTIONS[example.name], text)
+    result.require("the collections of examples/%s" % example.name, first is not None, text)
+    if first:
+        result.collections += sum(int(number) for number in re.findall(r"\d+", first.group(1)))
+        result.add("%s, collections" % name, first.group(1))
+        result.add("%s, pairs" % name, first.group(2))
+        result.add("%s, ms" % name, first.group(3))
+    result.add("%s, faults found" % name, len(found))
+    add_self_test(result, name, text)
+
+
 def run(folder):
     """Runs all of it. Returns whether it passed, the figures, and what failed."""
     result = Result()
     ocaml(result, folder)
     jvm(result, folder)
+    done([os.path.join(TOP, "tests", "install_runtimes"), library(folder).prefix], timeout=HOUR)
+    from_source(result, source_runtimes.SCHEME48, "Scheme 48", folder)
+    from_source(result, source_runtimes.ERLANG, "Erlang", folder)
     return not result.failed, [*result.figures, ("collections", result.collections)], result.failed

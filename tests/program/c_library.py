@@ -348,6 +348,20 @@ def example_programs(_program, folder):
                 yield "%s by helgrind" % name, why or difference(races, Outcome(EXAMPLE_OUTPUT[name]))
 
 
+def image_threads(_program, folder):
+    """Checks by helgrind that threads with collections of their own do not race, and that it reports threads with one collection."""
+    built = library(folder)
+    if built is None:
+        return
+    path, why = built.build(["gcc", "-g"], "image_threads.c", built.archive())
+    yield "image_threads.c", why or difference(done([path]), Outcome())
+    if has_valgrind("image_threads.c"):
+        races = ["valgrind", "-q", "--tool=helgrind", "--error-exitcode=99", path]
+        yield "image_threads.c by helgrind", why or difference(done(races), Outcome())
+        status = done([*races, "shared"]).status
+        yield "threads with one collection, by helgrind", None if status == 99 else "status %d, wanted 99" % status
+
+
 def huge_pages(_program, folder):
     """Tests the blocks of the allocator for huge pages, and that spaces on it are touched and given back. A heap without it asks for no huge pages."""
     built = library(folder)
@@ -525,5 +539,5 @@ def begins_after_many(_program, folder):
     yield "instructions of a begin after a large one", why_few or why_many or told
 
 
-GROUPS = [example_programs, huge_pages, long_objects, pauses, programs, musl, images, crash_in_a_self_test, large_heaps, live_and_far, pages, limits, work_remembers, given_up_at_once, begins_after_many, rebuilt, pkg_config, texts, plays, recorded_work, recording_that_ends, root_reads,
+GROUPS = [example_programs, image_threads, huge_pages, long_objects, pauses, programs, musl, images, crash_in_a_self_test, large_heaps, live_and_far, pages, limits, work_remembers, given_up_at_once, begins_after_many, rebuilt, pkg_config, texts, plays, recorded_work, recording_that_ends, root_reads,
           long_run, short_soak]

@@ -61,8 +61,14 @@ def ocaml(_program, folder):
 # What a program needs to read a Makefile, and what it prints for each example if there is nothing else.
 TO_READ = ("make", "sh", "mkdir")
 COMPILER = ("cc, of the package gcc", "ar, of the package binutils")
+# What builds a runtime from its source, beside Debian's keys.
+TO_BUILD = ("python3, of the package python3", "cksum, of the package coreutils", "apt-get, of the package apt", "patch, of the package patch",
+            "tar, of the package tar")
 MISSING = {"certify": COMPILER, "ocaml": ("ocamlopt, of the package ocaml-nox", *COMPILER),
-           "jvm": ("javac, of the package openjdk-17-jdk-headless", "python3, of the package python3", *COMPILER)}
+           "jvm": ("javac, of the package openjdk-17-jdk-headless", "python3, of the package python3", *COMPILER),
+           "scheme48": (*TO_BUILD, "gzip, of the package gzip", *COMPILER),
+           "erlang": (*TO_BUILD, "xz, of the package xz-utils", "perl, of the package perl", "g++, of the package g++", *COMPILER)}
+KEYRING = "/usr/share/keyrings/debian-archive-keyring.gpg"
 # The runs of examples/certify.
 OF_CERTIFY = ("no bug", "a field that is not forwarded", "an object that is copied twice", "a root that is forgotten", "a replica that is too short")
 
@@ -94,17 +100,16 @@ def examples_alone(_program, folder):
         less = os.path.join(folder, "less")
         ran = made_alone(less, example, "check", env=dict(os.environ, PATH=tools))
         lines = re.findall(r"(?m)^missing: (.*)$", ran.stdout.decode())
-        right = ran.status == 2 and [line for line in lines if not line.startswith("rt,")] == list(signs) and not os.path.exists(less)
+        right = ran.status == 2 and [line for line in lines if not line.startswith(("rt,", KEYRING))] == list(signs) and not os.path.exists(less)
         yield "what examples/%s lacks" % example, None if right else "status %d: %s" % (ran.status, lines)
 
 
 # HotSpot's collectors.
 COLLECTORS = ("Serial", "Parallel", "G1", "Shenandoah", "Z")
-# The faults that App plants, with the first two lines that certify.py prints.
+# The faults that App plants: how the first line that certify.py prints begins, and other lines.
 JVM_FAULTS = {
-    "fault": ("refused 9 FieldDiffers", "the static field App.victim . size of java/util/LinkedList"),
-    "cleared": ("no verdict: a weak reference was cleared, and its target has a replica",
-                "the static field App.toVictim . referent of java/lang/ref/WeakReference"),
+    "fault": ("refused 9 FieldDiffers ", ("  size of java/util/LinkedList", "  reached by the static field App.victim")),
+    "cleared": ("no verdict: a weak reference was cleared, and its target has a replica: referent of java/lang/ref/WeakReference of 0x", ()),
 }
 # The cases of a collector: two collections, whether it moves objects, whether it clears weak references, and the faults.
 OF_COLLECTOR = 4 + len(JVM_FAULTS)
@@ -161,7 +166,7 @@ def faults_found(app, collector):
     for fault, wanted in JVM_FAULTS.items():
         dumps, why = app.dumps(collector, "300", "1", fault)
         status, lines = app.certified(dumps, 0)
-        found = status == 1 and lines[0].startswith(wanted[0]) and lines[1] == wanted[1]
+        found = status == 1 and lines[0].startswith(wanted[0]) and set(wanted[1]) <= set(lines)
         yield "%s, the fault %s" % (collector, fault), why or (None if found else "\n".join(lines))
 
 
@@ -178,7 +183,7 @@ def jvm(_program, folder, size="1000", rounds=2):
             status, lines = app.certified(dumps, turn)
             pairs = re.fullmatch(r"yes (\d+)", lines[0])
             moved += number_before("addresses differ", lines)
-            cleared += number_before("of them cleared", lines)
+            cleared += number_before("of them null", lines)
             whole = status == 0 and pairs and int(pairs.group(1)) > 5000 and number_before("weak references", lines) > 100
             yield "%s, collection %d" % (collector, turn), why or (None if whole else "\n".join(lines))
         yield "%s moves objects" % collector, None if moved > 1000 else "it moved %d" % moved

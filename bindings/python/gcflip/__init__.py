@@ -5,15 +5,16 @@ text. `Heap` is a heap of objects with an incremental, replicating collector. Th
 package.
 """
 from .checker import Image, Pairs, Row, check, check_text
-from .errors import (BadLine, BadText, Busy, Closed, Damaged, EndsEarly, FlipRefused, Full, GcflipError, HeapRefused, Idle, NoField, NoNumber,
+from .errors import (BadLine, BadText, Busy, Closed, Damaged, EndsEarly, Faulty, FlipRefused, Full, GcflipError, HeapRefused, Idle, NoField, NoNumber,
                      NoObject, NotReady, OutOfMemory, OutOfRange, Reentered, Refusal, Refused, TextTooLarge, TooManyPairs)
 from .heap import Checking, Counts, FieldSource, FlipChecks, Heap, Held, LogEntry, Mutator, Object, Pace, Step, Useful, Value, Work, own, shared
+from .images import Collection, Names, Snapshot, Words
 from .inference import Comparison, Path, compare, explained, path_to
 from .library import library_version
 
 __all__ = [
-    "BadLine", "BadText", "Busy", "Checking", "Closed", "Comparison", "Counts", "Damaged", "EndsEarly", "FieldSource", "FlipChecks", "FlipRefused", "Full", "GcflipError", "Heap",
-    "HeapRefused", "Held", "Idle", "Image", "LogEntry", "Mutator", "NoField", "NoNumber", "NoObject", "NotReady", "Object", "OutOfMemory", "OutOfRange",
-    "Pace", "Pairs", "Path", "Reentered", "Refusal", "Refused", "Row", "Step", "TextTooLarge", "TooManyPairs", "Useful",
-    "Value", "Work", "check", "check_text", "compare", "explained", "library_version", "own", "path_to", "shared",
+    "BadLine", "BadText", "Busy", "Checking", "Closed", "Collection", "Comparison", "Counts", "Damaged", "EndsEarly", "Faulty", "FieldSource", "FlipChecks", "FlipRefused", "Full", "GcflipError", "Heap",
+    "HeapRefused", "Held", "Idle", "Image", "LogEntry", "Mutator", "Names", "NoField", "NoNumber", "NoObject", "NotReady", "Object", "OutOfMemory", "OutOfRange",
+    "Pace", "Pairs", "Path", "Reentered", "Refusal", "Refused", "Row", "Snapshot", "Step", "TextTooLarge", "TooManyPairs", "Useful",
+    "Value", "Words", "Work", "check", "check_text", "compare", "explained", "library_version", "own", "path_to", "shared",
 ]

@@ -77,6 +77,10 @@ class TooManyPairs(GcflipError, ValueError):
     """The certificate has 2^32 pairs or more."""
 
 
+class Faulty(GcflipError):
+    """A snapshot has a fault, so there is no verdict. Its text is the first line of the explanation."""
+
+
 class BadText(GcflipError, ValueError):
     """The text is not a pair text. The exception's text is the line that `gcflip check` prints."""
 
