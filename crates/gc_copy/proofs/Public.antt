@@ -4,5 +4,5 @@ pub use Rattle.gc_copy.proofs.Mutating.{idle_left, mutate_is, one_but, open_left
 pub use Rattle.gc_copy.proofs.OpenCollection.{link_above, placed_has, replica_object}
 pub use Rattle.gc_copy.proofs.Opening.{opening_with_ok}
 pub use Rattle.gc_copy.proofs.Spaces.{new_end_is}
-pub use Rattle.gc_copy.proofs.StepRuns.{one_step, repeats_last, run_goes_on, run_of_one}
+pub use Rattle.gc_copy.proofs.StepRuns.{one_step, repeats_last, run_goes_on}
 pub use Rattle.gc_copy.proofs.Scanned.{Moves, all_opened, does, having, opened_once, scanned_on, scanned_once, scans_are}

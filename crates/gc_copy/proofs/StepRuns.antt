@@ -94,9 +94,6 @@ module _ (step : Step) (On : State → Type 0) where
           (cases_lt k n)
 
   -- a run of one step
-  pub run_of_one : (s t : State) (reply : StepReply) → collect s step ≡ (reply, t) → IsStepRun step On 1 s t reply
-  run_of_one s t reply made = record { some = omega arith; state = ap (λ (r : StepReply × State). r.1) (sym made); reply_is = ap (λ (r : StepReply × State). r.0) (sym made); going = λ k less. absurd (omega arith) }
-
   pub one_step : (n : ℕ) (s t : State) (reply : StepReply) → IsStepRun step On n s t reply → n ≤ 1 → collect s step ≡ (reply, t)
   one_step n s t reply run few =
       let some = run.some in

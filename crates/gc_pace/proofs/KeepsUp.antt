@@ -6,6 +6,7 @@ use Rattle.std.proofs.Math.Nat.{div-add-mod, le_of_mul-le-mul_right}
 use Rattle.std.proofs.Common.{◌≡◌, ◌⊎◌, inl, inr, ℕ, zero, suc, ◌+◌, ◌-◌, ◌*◌, ◌/◌, ◌%◌, ◌<◌, ◌≤◌, Bool, true, false, List, [], ◌∷◌, length, Option, Some, None, refl, ap, sym, ◌∙◌, subst, arith}
 use Rattle.std.specs.Prelude.{◌≢◌, cond}
 use Rattle.std.specs.Option.{option_map_or}
+use Rattle.gc_graph.specs.Machine.{Roomy}
 use Rattle.gc_graph.specs.declared.command.Op.{Op}
 use Rattle.gc_plan.specs.State.{Collection, State, heap_end}
 use Rattle.gc_plan.specs.Belonging.{IsState}
@@ -19,14 +20,14 @@ use Rattle.gc_plan.proofs.Public.{left_bounded, steps_stay}
 use Rattle.gc_pace.specs.Counts.{counts_of}
 use Rattle.gc_pace.specs.Work.{IsRun, after_useful, goes_on, sized_step, useful_reply}
 use Rattle.gc_pace.specs.Pace.{steps_left, spent, steps_due, took_its_words, CountsAll, HasEnded, IsPacedWork}
-use Rattle.gc_pace.specs.Turns.{Turn, AreFew, AreTurns, IsTurn, Remembers, after_commands, after_turns}
+use Rattle.gc_pace.specs.Turns.{Turn, AreFew, AreTurns, IsTurn, Remembers, after_commands, after_turns, unpaid}
 use Rattle.gc_pace.specs.declared.counts.Counts.{Counts}
 use Rattle.gc_pace.specs.declared.pace.Pace.{Pace}
 use Rattle.gc_pace.specs.declared.work.Work.{Work}
-use Rattle.gc_pace.proofs.Left.{counts_bound, end_at, logged_all, logged_low, some_left}
+use Rattle.gc_pace.proofs.Left.{counts_bound, end_at, logged_all}
 use Rattle.gc_pace.proofs.Paid.{not_zero}
-use Rattle.gc_pace.proofs.PacedCalls.{on_of}
-use Rattle.gc_pace.proofs.Turns.{IsRaised, call_keeps, call_owes, call_remembers, raised}
+use Rattle.gc_pace.proofs.PacedCalls.{due_work, on_of}
+use Rattle.gc_pace.proofs.Turns.{IsRaised, call_keeps, call_remembers, raised}
 
 -- ---- numbers
 
@@ -47,8 +48,8 @@ rate_covers left room some =
     omega (arith, parts)
 
 -- two proportions one after the other
-on_in_proportion : (l m n a b c : ℕ) → 1 ≤ m → m * a ≤ l * b → n * b ≤ m * c → n * a ≤ l * c
-on_in_proportion l m n a b c some first then = elim (cases_lt 0 b) [
+on_in_proportion : (l m n a b c : ℕ) → n ≤ m → m * a ≤ l * b → n * b ≤ m * c → n * a ≤ l * c
+on_in_proportion l m n a b c less first then = elim (cases_lt 0 b) [
   | inl low ↦ le_of_mul-le-mul_right {m = n * a} {n = l * c} {k = b} (
       let one : (n * b) * a ≤ (m * c) * a = mul-le (n * b) a (m * c) a then (omega arith) in
       let two : (m * a) * c ≤ (l * b) * c = mul-le (m * a) c (l * b) c first (omega arith) in
@@ -56,9 +57,8 @@ on_in_proportion l m n a b c some first then = elim (cases_lt 0 b) [
   | inr none ↦
       let zero_b : b ≡ 0 = omega (arith, none) in
       let flat : l * b ≡ 0 = ap (λ k. l * k) zero_b ∙ omega arith in
-      let small : 1 * a ≤ m * a = mul-le 1 a m a some (omega arith) in
-      let no : a ≡ 0 = omega (arith, small, first, flat) in
-      omega (arith, ap (λ k. n * k) no)
+      let small : n * a ≤ m * a = mul-le n a m a less (omega arith) in
+      omega (arith, small, first, flat)
 ]
 
 -- ---- steps that go on leave the mutators' heap
@@ -105,88 +105,108 @@ commands_size s (command ∷ rest) = commands_size (mutate s command.0 command.1
 
 -- ---- one turn
 
--- All steps that are left are due, or the steps that pay for what was spent.
-due_is : (pace : Pace) (counts : Counts) (wanted : ℕ) → 1 ≤ counts.is_open → pace.rate ≡ 0 → pace.owed ≡ 0 → steps_left counts ≤ 4294967295
-    → (steps_left counts ≤ steps_due pace counts wanted) ⊎ ((1 ≤ counts.free - wanted) × (steps_due pace counts wanted ≡ spent pace counts * (2 + steps_left counts / (counts.free - wanted))))
-due_is pace counts wanted is_open rate owed few = grind (arith, common_steps, not_zero, eqb-true)
+-- All steps that are left are due, or those that are owed and those that pay for what was spent.
+due_is : (pace : Pace) (counts : Counts) (wanted : ℕ) → 1 ≤ counts.is_open → pace.rate ≡ 0 → steps_left counts ≤ 4294967295
+    → (steps_left counts ≤ steps_due pace counts wanted) ⊎ ((1 ≤ counts.free - wanted) × (steps_due pace counts wanted ≡ pace.owed + spent pace counts * (2 + steps_left counts / (counts.free - wanted))))
+due_is pace counts wanted is_open rate few = grind (arith, common_steps, not_zero, eqb-true)
 
-module _ (s : State) (pace : Pace) (turn : Turn) (h : IsState s) (remembers : Remembers pace s) (k : IsTurn s pace turn) (few : steps_left (counts_of (after_commands s turn.commands)) ≤ 4294967295)
-    (rate : pace.rate ≡ 0) (words : pace.words ≡ 0) (owed : pace.owed ≡ 0) where
-  u : State
+module _ (s : State) (pace : Pace) (turn : Turn) (h : IsState s) (remembers : Remembers pace s) (k : IsTurn s pace turn) (few : steps_left (counts_of (after_commands s turn.commands)) ≤ 4294967295) (rate : pace.rate ≡ 0) where
+  abbrev u : State
   u = after_commands s turn.commands
 
-  now : IsRaised s (after_commands s turn.commands)
+  now : IsRaised s u
   now = raised s turn.commands h k.commands
 
-  due : ℕ
-  due = steps_due pace (counts_of (after_commands s turn.commands)) turn.wanted
-
-  -- each step that was due was performed
-  performed : turn.work.steps ≡ steps_due pace (counts_of (after_commands s turn.commands)) turn.wanted
-  performed =
-      let owes = call_owes turn.wanted (after_commands s turn.commands) turn.state pace turn.pace turn.work k.work words in
-      let none = sym (ap (λ (p : Pace). p.owed) (k.work).pace) ∙ owes.1 in
-      omega (arith, (k.goes_on).performed, none)
+  -- each step that was due was performed, or is owed
+  performed : turn.work.steps + turn.pace.owed ≡ steps_due pace (counts_of u) turn.wanted
+  performed = let owes = ap (λ (p : Pace). p.owed) (k.work).pace in omega (arith, (k.goes_on).performed, owes)
 
   -- the steps lowered the work by their number, and left the mutators' heap
-  fallen : (work_left turn.state + turn.work.steps ≤ work_left (after_commands s turn.commands)) × Same (after_commands s turn.commands) turn.state
-  fallen = elim (cases_lt (steps_due pace (counts_of (after_commands s turn.commands)) turn.wanted) 1) [
-    | inl none ↦ (let zero_due : steps_due pace (counts_of (after_commands s turn.commands)) turn.wanted ≡ 0 = omega (arith, none) in
+  fallen : (work_left turn.state + turn.work.steps ≤ work_left u) × Same u turn.state
+  fallen = elim (cases_lt (steps_due pace (counts_of u) turn.wanted) 1) [
+    | inl none ↦ (let zero_due : steps_due pace (counts_of u) turn.wanted ≡ 0 = omega (arith, none) in
         let idle = (k.work).none zero_due in
         (omega (arith, ap work_left idle.0, performed, none), (ap (λ (x : State). x.heap) idle.0, ap (λ (x : State). x.size) idle.0)))
-    | inr some ↦ (let done = (k.work).some some words in
+    | inr some ↦ (let done = due_work pace (steps_due pace (counts_of u) turn.wanted) u turn.state turn.work ((k.work).some some) ((k.work).within some) in
         let on = on_of turn.work done.reply done.last (k.goes_on).going in
-        (done.run.falls on, run_same turn.work.steps (after_commands s turn.commands) turn.state done.reply done.run on))
+        (done.run.falls on, run_same turn.work.steps u turn.state done.reply done.run on))
   ]
 
-  bound : work_left (after_commands s turn.commands) ≤ steps_left (counts_of (after_commands s turn.commands))
-  bound = counts_bound (after_commands s turn.commands) (λ c is. left_bounded (after_commands s turn.commands) c now.state.heap now.state.collection is) (k.goes_on).counted
+  bound : work_left u ≤ steps_left (counts_of u)
+  bound = counts_bound u (λ c is. left_bounded u c now.state.heap now.state.collection is) (k.goes_on).counted
 
   -- what was spent is what the commands added to the work
-  added : work_left (after_commands s turn.commands) ≡ work_left s + spent pace (counts_of (after_commands s turn.commands))
+  added : work_left u ≡ work_left s + spent pace (counts_of u)
   added =
-      let logged = logged_all (after_commands s turn.commands) (k.goes_on).counted in
-      let before = logged_low s in
+      let logged = logged_all u (k.goes_on).counted in
       let same : (counts_of s).logged ≡ entries_left s = grind (arith, common_steps, logged, now.entries, (k.goes_on).counted) in
-      omega (arith, now.work, now.end, now.entries, remembers.end, remembers.logged, end_at s, end_at (after_commands s turn.commands), logged, same)
+      omega (arith, now.work, now.end, now.entries, remembers.end, remembers.logged, end_at s, end_at u, logged, same)
 
-  turn_keeps_up : work_left turn.state * s.heap.free ≤ work_left s * turn.state.heap.free
-  turn_keeps_up = elim (due_is pace (counts_of (after_commands s turn.commands)) turn.wanted (k.goes_on).collecting rate owed few) [
-    | inl all ↦ absurd (omega (arith, all, fallen.0, performed, bound, some_left turn.state))
+  -- either nothing but what is owed is left, or the work fell by what pays for the room that was taken
+  turn_falls : (unpaid turn.state turn.pace ≡ 0) ⊎ ((x q room : ℕ) × (unpaid turn.state turn.pace + x * (1 + q) ≤ unpaid s pace) × (heap_end u - heap_end s ≤ x) × (room ≤ (counts_of u).free) × (unpaid s pace ≤ room * (1 + q)))
+  turn_falls = elim (due_is pace (counts_of u) turn.wanted (k.goes_on).collecting rate few) [
+    | inl all ↦ inl (omega (arith, all, fallen.0, performed, bound))
     | inr paid ↦
-        let room = (counts_of (after_commands s turn.commands)).free - turn.wanted in
-        let q = steps_left (counts_of (after_commands s turn.commands)) / room in
-        let x = spent pace (counts_of (after_commands s turn.commands)) in
-        let covers : steps_left (counts_of (after_commands s turn.commands)) ≤ room * (1 + q) = rate_covers (steps_left (counts_of (after_commands s turn.commands))) room paid.0 in
-        let free_then : turn.state.heap.free ≡ (after_commands s turn.commands).heap.free = ap (λ (x : Rattle.gc_graph.specs.Machine.Roomy). x.free) fallen.1.0 in
-        in_proportion (work_left turn.state) (work_left s) x q s.heap.free turn.state.heap.free (heap_end (after_commands s turn.commands) - heap_end s) room
-        (omega (arith, fallen.0, performed, paid.1, added))
-        (omega (arith, free_then, now.end, commands_size s turn.commands, h.heap.room, now.state.heap.room))
-        (omega (arith, remembers.end, end_at s, end_at (after_commands s turn.commands)))
-        (omega (arith, now.end, commands_size s turn.commands, h.heap.room, now.state.heap.room))
-        (omega (arith, covers, bound, added))
+        let room = (counts_of u).free - turn.wanted in
+        let q = steps_left (counts_of u) / room in
+        let x = spent pace (counts_of u) in
+        let covers : steps_left (counts_of u) ≤ room * (1 + q) = rate_covers (steps_left (counts_of u)) room paid.0 in
+        elim (cases_lt (unpaid turn.state turn.pace) 1) [
+          | inl none ↦ inl (omega (arith, none))
+          | inr some ↦ inr (
+            x,
+            q,
+            room,
+            omega (arith, some, fallen.0, performed, paid.1, added),
+            omega (arith, remembers.end, end_at s, end_at u),
+            omega arith,
+            omega (arith, covers, bound, added),
+          )
+        ]
+  ]
+
+  free_then : turn.state.heap.free + (heap_end u - heap_end s) ≡ s.heap.free
+  free_then =
+      let same : turn.state.heap.free ≡ u.heap.free = ap (λ (x : Roomy). x.free) fallen.1.0 in
+      omega (arith, same, now.end, commands_size s turn.commands, h.heap.room, now.state.heap.room)
+
+  turn_keeps_up : (unpaid turn.state turn.pace ≤ unpaid s pace) × (unpaid turn.state turn.pace * s.heap.free ≤ unpaid s pace * turn.state.heap.free)
+  turn_keeps_up = elim turn_falls [
+    | inl none ↦ (omega (arith, none), (let flat : unpaid turn.state turn.pace * s.heap.free ≡ 0 * s.heap.free = ap (λ n. n * s.heap.free) none in omega (arith, flat)))
+    | inr f ↦ (
+      omega (arith, f.3),
+      in_proportion (unpaid turn.state turn.pace) (unpaid s pace) f.0 f.1 s.heap.free turn.state.heap.free (heap_end u - heap_end s) f.2 f.3 free_then f.4
+          (let same : turn.state.heap.free ≡ u.heap.free = ap (λ (x : Roomy). x.free) fallen.1.0 in omega (arith, f.5, free_then, same)) f.6,
+    )
   ]
 
 -- ---- many turns
 
-pub turns_keep_up : (s : State) (pace : Pace) (turns : List Turn) → IsState s → Remembers pace s → AreTurns s pace turns → AreFew s turns → pace.rate ≡ 0 → pace.words ≡ 0 → pace.owed ≡ 0
-    → work_left (after_turns s pace turns).0 * s.heap.free ≤ work_left s * (after_turns s pace turns).0.heap.free
-turns_keep_up s pace [] h remembers k few rate words owed = omega arith
-turns_keep_up s pace (turn ∷ turns) h remembers k few rate words owed =
-    let owes = call_owes turn.wanted (after_commands s turn.commands) turn.state pace turn.pace turn.work (k.0).work words in
-    let one = turn_keeps_up s pace turn h remembers k.0 few.0 rate words owed in
+keep_up : (s : State) (pace : Pace) (turns : List Turn) → IsState s → Remembers pace s → AreTurns s pace turns → AreFew s turns → pace.rate ≡ 0
+    → (let last = after_turns s pace turns in (unpaid last.0 last.1 ≤ unpaid s pace) × (unpaid last.0 last.1 * s.heap.free ≤ unpaid s pace * last.0.heap.free))
+keep_up s pace [] h remembers k few rate = (omega arith, omega arith)
+keep_up s pace (turn ∷ turns) h remembers k few rate =
+    let one = turn_keeps_up s pace turn h remembers k.0 few.0 rate in
     let now = raised s turn.commands h (k.0).commands in
-    let rest = turns_keep_up turn.state turn.pace turns (call_keeps turn.wanted (after_commands s turn.commands) turn.state pace turn.pace turn.work (k.0).work now.state)
-    (call_remembers turn.wanted (after_commands s turn.commands) turn.state pace turn.pace turn.work (k.0).work) k.1 few.1 (ap (λ (p : Pace). p.rate) ((k.0).work).pace ∙ rate) owes.0 owes.1 in
-    on_in_proportion (work_left s) (work_left turn.state) (work_left (after_turns turn.state turn.pace turns).0) s.heap.free turn.state.heap.free (after_turns turn.state turn.pace turns).0.heap.free (some_left turn.state) one rest
+    let rest = keep_up turn.state turn.pace turns (call_keeps turn.wanted (after_commands s turn.commands) turn.state pace turn.pace turn.work (k.0).work now.state)
+    (call_remembers turn.wanted (after_commands s turn.commands) turn.state pace turn.pace turn.work (k.0).work) k.1 few.1 (ap (λ (p : Pace). p.rate) ((k.0).work).pace ∙ rate) in
+    let last = after_turns turn.state turn.pace turns in (
+      omega (arith, one.0, rest.0),
+      on_in_proportion (unpaid s pace) (unpaid turn.state turn.pace) (unpaid last.0 last.1) s.heap.free turn.state.heap.free last.0.heap.free rest.0 one.1 rest.1,
+    )
 
-pub turns_most : (s : State) (pace : Pace) (turns : List Turn) (most : ℕ) → IsState s → Remembers pace s → AreTurns s pace turns → AreFew s turns → pace.rate ≡ 0 → pace.words ≡ 0 → pace.owed ≡ 0
-    → 1 ≤ s.heap.free → work_left s ≤ most * s.heap.free → work_left (after_turns s pace turns).0 ≤ most * (after_turns s pace turns).0.heap.free
-turns_most s pace turns most h remembers k few rate words owed some low =
-    let t = (after_turns s pace turns).0 in
-    let ratio = turns_keep_up s pace turns h remembers k few rate words owed in
-    let wide : work_left s * t.heap.free ≤ (most * s.heap.free) * t.heap.free = mul-le (work_left s) t.heap.free (most * s.heap.free) t.heap.free low (omega arith) in
-    le_of_mul-le-mul_right {m = work_left t} {n = most * t.heap.free} {k = s.heap.free} (omega (arith, ratio, wide)) some
+pub turns_keep_up : (s : State) (pace : Pace) (turns : List Turn) → IsState s → Remembers pace s → AreTurns s pace turns → AreFew s turns → pace.rate ≡ 0
+    → (let last = after_turns s pace turns in unpaid last.0 last.1 * s.heap.free ≤ unpaid s pace * last.0.heap.free)
+turns_keep_up s pace turns h remembers k few rate = (keep_up s pace turns h remembers k few rate).1
+
+pub turns_most : (s : State) (pace : Pace) (turns : List Turn) (most : ℕ) → IsState s → Remembers pace s → AreTurns s pace turns → AreFew s turns → pace.rate ≡ 0
+    → 1 ≤ s.heap.free → work_left s ≤ most * s.heap.free + pace.owed → (let last = after_turns s pace turns in work_left last.0 ≤ most * last.0.heap.free + last.1.owed)
+turns_most s pace turns most h remembers k few rate some low =
+    let last = after_turns s pace turns in
+    let ratio = turns_keep_up s pace turns h remembers k few rate in
+    let wide : unpaid s pace * last.0.heap.free ≤ (most * s.heap.free) * last.0.heap.free = mul-le (unpaid s pace) last.0.heap.free (most * s.heap.free) last.0.heap.free (omega (arith, low)) (omega arith) in
+    let fits : unpaid last.0 last.1 ≤ most * last.0.heap.free = le_of_mul-le-mul_right {m = unpaid last.0 last.1} {n = most * last.0.heap.free} {k = s.heap.free} (omega (arith, ratio, wide)) some in
+    omega (arith, fits)
 
 -- ---- a call that finds no more room than it wants
 

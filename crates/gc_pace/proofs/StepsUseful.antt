@@ -50,7 +50,7 @@ IsRepeated step = (step ≡ steps.Scan) ⊎ ((m : ℕ) × (step ≡ steps.Apply 
 in_open : (s : State) (c : Collection) (step : Step) → s.collection ≡ Some c → collect s step ≡ step_in s c step
 in_open s c step is = ap (λ (o : Option Collection). option_map_or (λ c. step_in s c step) o (step_idle s step)) is
 
-pub does : (s : State) (c : Collection) (step : Step) → s.collection ≡ Some c → IsRepeated step → Does s (collect s step)
+does : (s : State) (c : Collection) (step : Step) → s.collection ≡ Some c → IsRepeated step → Does s (collect s step)
 does s c step is (inl e) = subst (Does s) (sym (in_open s c step is ∙ ap (step_in s c) e)) (does_scan s c is)
 does s c step is (inr (m, e)) = subst (Does s) (sym (in_open s c step is ∙ ap (step_in s c) e)) (does_apply s c is m (log_at c m))
 
@@ -96,7 +96,7 @@ module _ (step : Step) (work : IsRepeated step) (s : State) (r : IsRooted s) whe
       ap is_none none
 
   -- the collection that is open afterwards, and what it is
-  pub rooted_then : (q : IsRooted (collect s step).1) × (q.collection ≡ later)
+  rooted_then : (q : IsRooted (collect s step).1) × (q.collection ≡ later)
   rooted_then = (
     record {
       heap = subst (λ (x : State). IsSpaceGraph x.size x.heap.free x.heap.graph) (sym led) r.heap;

@@ -62,7 +62,7 @@ ahead_before s t pace most h k remembers all low = grind (arith, common_steps, l
 -- ---- calls
 
 -- a step stays as it is without a size
-pub unsized : (step : Step) → step ≡ with_size None step
+unsized : (step : Step) → step ≡ with_size None step
 unsized step = grind (arith, common_steps)
 
 useful_keep : (n : ℕ) (s : State) → IsState s → IsState (after_useful None n s)
@@ -112,7 +112,7 @@ turns_logs s pace turns most h remembers k low =
 
 -- ---- where words are not bounded, no step is owed
 
-pub call_owes : (wanted : ℕ) (s t : State) (before after : Pace) (work : Work) → IsPacedWork wanted s t before after work → before.words ≡ 0 → (after.words ≡ 0) × (after.owed ≡ 0)
+call_owes : (wanted : ℕ) (s t : State) (before after : Pace) (work : Work) → IsPacedWork wanted s t before after work → before.words ≡ 0 → (after.words ≡ 0) × (after.owed ≡ 0)
 call_owes wanted s t before after work paced free = grind (arith, common_steps, cond_both, leb-true, and_parts)
 
 pub turns_owe : (s : State) (pace : Pace) (turns : List Turn) → AreTurns s pace turns → pace.words ≡ 0 → pace.owed ≡ 0 → (after_turns s pace turns).1.owed ≡ 0

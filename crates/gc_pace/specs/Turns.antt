@@ -1,10 +1,11 @@
 -- Many calls of paced work, with commands of mutators between them.
-use Rattle.std.specs.Prelude.{◌≡◌, ℕ, ◌<◌, ◌≤◌, List, [], ◌∷◌, ⊤}
+use Rattle.std.specs.Prelude.{◌≡◌, ℕ, ◌-◌, ◌<◌, ◌≤◌, List, [], ◌∷◌, ⊤}
 use Rattle.std.specs.List.{AllByRecursion}
 use Rattle.gc_graph.specs.declared.command.Op.{Op}
 use Rattle.gc_plan.specs.State.{State}
 use Rattle.gc_plan.specs.Steps.{mutate}
 use Rattle.gc_plan.specs.Runs.{HasRange}
+use Rattle.gc_plan.specs.Progress.{work_left}
 use Rattle.gc_pace.specs.Pace.{WorkGoesOn, IsPacedWork, steps_left}
 use Rattle.gc_pace.specs.Counts.{counts_of}
 use Rattle.gc_pace.specs.declared.pace.Pace.{Pace}
@@ -40,6 +41,10 @@ AreTurns s pace (turn ∷ turns) = IsTurn s pace turn × AreTurns turn.state tur
 abbrev pub after_turns : State → Pace → List Turn → State × Pace
 after_turns s pace [] = (s, pace)
 after_turns s pace (turn ∷ turns) = after_turns turn.state turn.pace turns
+
+-- the work that is left, but for the steps that the pace owes
+abbrev pub unpaid : State → Pace → ℕ
+unpaid s pace = work_left s - pace.owed
 
 -- before each call no more steps are left than a call can perform
 abbrev pub AreFew : State → List Turn → Type 0

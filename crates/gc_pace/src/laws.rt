@@ -6,7 +6,7 @@ ghost use Rattle.gc_plan.specs.Belonging.{IsState};
 ghost use Rattle.gc_plan.specs.Progress.{work_left};
 ghost use Rattle.gc_pace.specs.Counts.{counts_of};
 ghost use Rattle.gc_pace.specs.Pace.{CountsAll, HasEnded, IsPacedWork, steps_left};
-ghost use Rattle.gc_pace.specs.Turns.{Turn, AreFew, AreTurns, Remembers, after_turns};
+ghost use Rattle.gc_pace.specs.Turns.{Turn, AreFew, AreTurns, Remembers, after_turns, unpaid};
 ghost use Rattle.gc_pace.specs.declared.pace.Pace.{Pace};
 ghost use Rattle.gc_pace.specs.declared.work.Work.{Work};
 
@@ -24,17 +24,18 @@ pub fn paced_work_bounds_logs()
         → AreTurns s pace turns → pace.words ≡ 0 → pace.owed ≡ 0 → (after_turns s pace turns).1.owed ≡ 0 }
 {}
 
-/// If the steps follow from the counts, and calls do not bound their words, then the work that is left falls at least as fast as the room, in
-/// proportion: after any number of calls, with commands between them, `work / free` is no more than at first. So work that was at most `most`
-/// times the free words stays so. A call that finds no more room than it wants performs what is left, which ends the collection.
+/// If the steps follow from the counts, then the work that is left, but for the steps that the pace owes, falls at least as fast as the room, in
+/// proportion: after any number of calls, with commands between them, `work / free` is no more than at first. So where no step was owed, and the work
+/// was at most `most` times the free words, it stays so but for the steps owed. A call that finds no more room than it wants, and whose pace does not
+/// bound its words, performs what is left, which ends the collection.
 pub fn paced_work_keeps_up()
     ensures ratio { (s : State) (pace : Pace) (turns : List Turn)
-        → IsState s → Remembers pace s → AreTurns s pace turns → AreFew s turns → pace.rate ≡ 0 → pace.words ≡ 0 → pace.owed ≡ 0
-        → work_left (after_turns s pace turns).0 * s.heap.free ≤ work_left s * (after_turns s pace turns).0.heap.free }
+        → IsState s → Remembers pace s → AreTurns s pace turns → AreFew s turns → pace.rate ≡ 0
+        → (let last = after_turns s pace turns in unpaid last.0 last.1 * s.heap.free ≤ unpaid s pace * last.0.heap.free) }
     ensures most { (s : State) (pace : Pace) (turns : List Turn) (most : ℕ)
-        → IsState s → Remembers pace s → AreTurns s pace turns → AreFew s turns → pace.rate ≡ 0 → pace.words ≡ 0 → pace.owed ≡ 0
-        → 1 ≤ s.heap.free → work_left s ≤ most * s.heap.free
-        → work_left (after_turns s pace turns).0 ≤ most * (after_turns s pace turns).0.heap.free }
+        → IsState s → Remembers pace s → AreTurns s pace turns → AreFew s turns → pace.rate ≡ 0
+        → 1 ≤ s.heap.free → work_left s ≤ most * s.heap.free + pace.owed
+        → (let last = after_turns s pace turns in work_left last.0 ≤ most * last.0.heap.free + last.1.owed) }
     ensures room { (wanted : ℕ) (s t : State) (before after : Pace) (work : Work)
         → IsPacedWork wanted s t before after work → CountsAll (counts_of s) → steps_left (counts_of s) ≤ 4294967295 → before.words ≡ 0
         → (wanted < (counts_of s).free) ⊎ HasEnded t work }
