@@ -113,6 +113,7 @@ def rules(_program, _folder):
 STOPPED = {"gcbench": 12, "trees": 5, "queue": 8, "cache": 9, "live8": 2}
 # Those with a pace, and whether the program has to wait. By default a collection of trees takes less than a line, so that the model is a third off.
 PACED = {"default: factor 200, 2 + work over room": {"gcbench": (27, False), "queue": (36, False), "cache": (26, False), "live8": (6, False)},
+         "half of the room, 2 + work over room": {"gcbench": (23, False), "trees": (10, False), "queue": (16, False), "cache": (18, False), "live8": (3, False)},
          "half of the room, rate 1": {"gcbench": (17, True), "trees": (8, False), "queue": (12, True), "cache": (13, True), "live8": (2, True)},
          "half of the room, rate 2, guard 10": {"gcbench": (21, False), "trees": (10, False), "queue": (16, False), "cache": (17, False), "live8": (3, False)}}
 
