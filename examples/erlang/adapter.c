@@ -326,6 +326,7 @@ static struct {
     struct kit_fault fault;
     long each, flips, words; /* CERTIFY_WORDS: a fault is planted in a heap of as many words or more */
     atomic_long collections, chances; /* so far, of all threads */
+    atomic_int is_tested;             /* whether the self-test was made */
     atomic_size_t minors, majors, pairs, scans;
     _Atomic(uint64_t) collecting, checking; /* in microseconds */
 } certify_run = {.once = PTHREAD_ONCE_INIT};
@@ -439,7 +440,7 @@ static void certify_end(long number, int is_major)
         kit_refused(here.collection, &here.names, is_major ? "major collection" : "minor collection", (size_t)number);
     atomic_fetch_add(is_major ? &certify_run.majors : &certify_run.minors, 1);
     atomic_fetch_add(&certify_run.pairs, gcflip_collection_pairs(here.collection));
-    if (certify_run.flips != 0 && number == certify_run.fault.at)
+    if (certify_run.flips != 0 && number >= certify_run.fault.at && !atomic_exchange(&certify_run.is_tested, 1))
         certify_test_adapter();
     if (number % 16 != 0)
         return;
