@@ -111,7 +111,7 @@ static void certify_fun(gcflip_snapshot *snapshot, uint64_t address, const ErlFu
 /* A binary off the heap. The collection may move the bytes of one that is written to. */
 static void certify_proc_bin(gcflip_snapshot *snapshot, uint64_t address, const ProcBin *bin, uint64_t most)
 {
-    if (most + 1 < PROC_BIN_SIZE)
+    if (most + 1 < PROC_BIN_SIZE || bin->thing_word != HEADER_PROC_BIN)
         return;
     int is_written = bin->flags != 0;
     uint32_t place = gcflip_snapshot_object(snapshot, address, certify_kind(bin->thing_word), 3);
@@ -145,7 +145,7 @@ static int certify_becomes_heap_binary(const ErlSubBin *sub)
 static void certify_sub_binary(gcflip_snapshot *snapshot, uint64_t address, const ErlSubBin *sub, uint64_t most)
 {
     uint64_t count = 0;
-    if (most + 1 < ERL_SUB_BIN_SIZE)
+    if (most + 1 < ERL_SUB_BIN_SIZE || sub->thing_word != HEADER_SUB_BIN)
         return;
     if (certify_is_before(snapshot) && certify_becomes_heap_binary(sub)) {
         const byte *bytes = certify_bytes_of(snapshot, sub->orig, &count);
@@ -205,7 +205,7 @@ static void certify_boxed(gcflip_snapshot *snapshot, uint64_t address, Eterm *at
     case SUB_BINARY_SUBTAG: certify_sub_binary(snapshot, address, (const ErlSubBin *)at, most); return;
     case BIN_MATCHSTATE_SUBTAG: certify_match_context(snapshot, address, (const ErlBinMatchState *)at, most); return;
     case HEAP_BINARY_SUBTAG:
-        if (most >= 1 && (most == UINT64_MAX - 1 || at[1] <= 8 * (most - 1)))
+        if (most >= 1 && header_arity(*at) <= most && *at == header_heap_bin(at[1]))
             gcflip_snapshot_bytes(snapshot, address, certify_kind(*at), ((const ErlHeapBin *)at)->data, at[1]);
         return;
     default: certify_others(snapshot, address, at, most);
@@ -324,8 +324,9 @@ static const char *const certify_fault_names[] = {
 static struct {
     pthread_once_t once;
     struct kit_fault fault;
-    long each, flips;
+    long each, flips, words; /* CERTIFY_WORDS: a fault is planted in a heap of as many words or more */
     atomic_long collections, chances; /* so far, of all threads */
+    atomic_int is_tested;             /* whether the self-test was made */
     atomic_size_t minors, majors, pairs, scans;
     _Atomic(uint64_t) collecting, checking; /* in microseconds */
 } certify_run = {.once = PTHREAD_ONCE_INIT};
@@ -335,10 +336,9 @@ _Thread_local enum certify_fault certify_fault;
 int certify_plants(int times)
 {
     long chance = atomic_fetch_add(&certify_run.chances, 1);
-    if (chance < certify_run.fault.nth || chance >= certify_run.fault.nth + times)
-        return 0;
-    fprintf(stderr, "planted: %s\n", certify_fault_names[certify_fault]);
-    return 1;
+    if (chance == certify_run.fault.nth)
+        fprintf(stderr, "planted: %s\n", certify_fault_names[certify_fault]);
+    return chance >= certify_run.fault.nth && chance < certify_run.fault.nth + times;
 }
 
 static void certify_report(void)
@@ -352,6 +352,7 @@ static void certify_begin_run(void)
     certify_run.fault = kit_planted(certify_fault_names, FAULTS);
     certify_run.each = kit_number("CERTIFY_EACH", 1);
     certify_run.flips = kit_number("CERTIFY_FLIPS", 0);
+    certify_run.words = kit_number("CERTIFY_WORDS", 0);
     atexit(certify_report);
 }
 
@@ -364,27 +365,51 @@ static void certify_begin_thread(void)
         exit(3);
 }
 
+/* Returns how many words an object has. */
+static uint64_t certify_size_of(uint64_t address)
+{
+    const Eterm *at = certify_memory_of(address);
+    if ((address & 3) == TAG_PRIMARY_LIST)
+        return 2;
+    switch (*at & _HEADER_SUBTAG_MASK) {
+    case MAP_SUBTAG:
+        if (is_flatmap_header(*at))
+            return 3 + at[1];
+        return 1 + (MAP_HEADER_TYPE(*at) != MAP_HEADER_TAG_HAMT_NODE_BITMAP) + hashmap_bitcount(MAP_HEADER_VAL(*at));
+    case FUN_SUBTAG: return ERL_FUN_SIZE + ((const ErlFunThing *)at)->num_free;
+    case SUB_BINARY_SUBTAG: return ERL_SUB_BIN_SIZE;
+    default: return 1 + header_arity(*at);
+    }
+}
+
+/* Returns why a byte of a boxed object makes no difference, or NULL. */
+static const char *certify_reason_in(const Eterm *at, uint64_t byte)
+{
+    Eterm header = *at, subtag = header & _HEADER_SUBTAG_MASK;
+    int is_magic = is_ref_thing_header(header) && is_magic_ref_thing(at);
+    if (byte / 8 == 2 && (subtag == FUN_SUBTAG || is_magic || header == HEADER_PROC_BIN || is_external_header(header)))
+        return "the link of the list of what is off the heap";
+    if (subtag == FUN_SUBTAG && byte >= offsetof(ErlFunThing, num_free) + 1 && byte < offsetof(ErlFunThing, creator))
+        return "padding in a fun";
+    if (subtag == SUB_BINARY_SUBTAG && byte >= offsetof(ErlSubBin, is_writable) + 1 && byte < offsetof(ErlSubBin, orig))
+        return "padding in a sub binary";
+    if (subtag == HEAP_BINARY_SUBTAG && byte >= 16 + at[1])
+        return "padding behind the bytes of a binary";
+    if (header == HEADER_PROC_BIN && (byte / 8 == 5 || ((const ProcBin *)at)->flags != 0))
+        return "the flags of a binary, and the place of one that is written to";
+    return NULL;
+}
+
 /* Returns why a bit of the heap makes no difference to a program, or NULL. An address has a tag, so the object of a word can start 2 bytes behind it. */
 static const char *certify_reason(void *given, const uint64_t *word, unsigned bit)
 {
     uint64_t start = 0, at = (uint64_t)word;
     (void)given;
-    if (gcflip_snapshot_nearest(gcflip_after(here.collection), at + TAG_PRIMARY_BOXED, &start) == 0 || (start & 3) != TAG_PRIMARY_BOXED)
-        return NULL;
-    Eterm header = *certify_memory_of(start);
+    bool is_found = gcflip_snapshot_nearest(gcflip_after(here.collection), at + TAG_PRIMARY_BOXED, &start) != 0;
     uint64_t offset = at - (start & ~(uint64_t)3);
-    int is_fun = (header & _HEADER_SUBTAG_MASK) == FUN_SUBTAG, is_magic = is_ref_thing_header(header) && is_magic_ref_thing(certify_memory_of(start));
-    if (offset == 16 && (is_fun || is_magic || header == HEADER_PROC_BIN || is_external_header(header)))
-        return "the link of the list of what is off the heap";
-    if (offset == 24 && is_fun && bit >= 16)
-        return "padding in a fun";
-    if (offset == 24 && (header & _HEADER_SUBTAG_MASK) == SUB_BINARY_SUBTAG && bit >= 24)
-        return "padding in a sub binary";
-    if (header == HEADER_PROC_BIN && ((ProcBin *)certify_memory_of(start))->flags != 0)
-        return "a binary that is written to, which the collector may move";
-    if (offset == 40 && header == HEADER_PROC_BIN)
-        return "the flags of a binary";
-    return NULL;
+    if (!is_found || offset / 8 >= certify_size_of(start))
+        return "what no root reaches: heap fragments and messages that were moved";
+    return (start & 3) == TAG_PRIMARY_BOXED ? certify_reason_in(certify_memory_of(start), offset + bit / 8) : NULL;
 }
 
 static void certify_test_adapter(void)
@@ -415,7 +440,7 @@ static void certify_end(long number, int is_major)
         kit_refused(here.collection, &here.names, is_major ? "major collection" : "minor collection", (size_t)number);
     atomic_fetch_add(is_major ? &certify_run.majors : &certify_run.minors, 1);
     atomic_fetch_add(&certify_run.pairs, gcflip_collection_pairs(here.collection));
-    if (certify_run.flips != 0 && number == certify_run.fault.at)
+    if (certify_run.flips != 0 && number >= certify_run.fault.at && !atomic_exchange(&certify_run.is_tested, 1))
         certify_test_adapter();
     if (number % 16 != 0)
         return;
@@ -443,7 +468,8 @@ static int certify_collect(certify_collector *collector, int is_major, Process *
         _exit(3);
     }
     double collecting = kit_now();
-    certify_fault = number >= certify_run.fault.at ? (enum certify_fault)certify_run.fault.number : NO_FAULT;
+    if (number >= certify_run.fault.at && HEAP_TOP(p) - HEAP_START(p) >= certify_run.words)
+        certify_fault = (enum certify_fault)certify_run.fault.number;
     certify_last_cons = NIL;
     int reductions = collector(p, live_hf_end, need, objv, nobj, ygen_usage, recl);
     certify_fault = NO_FAULT;

@@ -57,8 +57,11 @@ entry(Round, Binary) ->
     Fun = fun(X) -> {X, Pair, List} end,
     <<Head:3/binary, Short:7/binary, _/binary>> = <<Binary/binary, "0123456789">>,
     Heap = list_to_binary([lists:seq(65, 65 + Round rem 26)]),
+    %% A binary that was appended to is a small part of one that is larger.
+    Appended = <<Short/binary, Round:16>>,
+    Again = <<Appended/binary, Round:8>>,
     Parts = parts(<<"one two three four five six seven ", Short/binary, Heap/binary>>, []),
-    {Pair, Fun, Map, Large, Head, Parts, [Short, Heap | List], make_ref(), {Round bsl 70, -(Round bsl 70)}, Fun(Round)}.
+    {Pair, Fun, Map, Large, Head, Parts, [Short, Heap, Appended, Again | List], make_ref(), {Round bsl 70, -(Round bsl 70)}, Fun(Round)}.
 
 parts(<<" ", Rest/binary>>, Kept) ->
     [binary_part(Rest, 0, byte_size(Rest) div 2) | parts(Rest, [{Rest, byte_size(Rest)} | Kept])];

@@ -50,9 +50,9 @@ void certify_spoil_boxed(Eterm *copy, Eterm *old)
         Uint arity = arityval(header);
         if (arity > 0 && !certify_is_pointer(copy[1]) && PLANTS(boxed_bit))
             copy[1] ^= 64;
-        if (PLANTS_SOME(boxed_copied_twice, 50))
+        if (PLANTS_SOME(boxed_copied_twice, 400))
             *old = header;
-        if (PLANTS_SOME(wrong_forwarding, 50))
+        if (PLANTS_SOME(wrong_forwarding, 400))
             *old += 16;
         spoil_tuple(copy, arity);
         return;
@@ -93,7 +93,7 @@ void certify_spoil_cons(Eterm *copy, Eterm *old, Eterm *reference)
         copy[1] ^= 64;
     if (car != NIL && PLANTS(car_lost))
         copy[0] = NIL;
-    if (PLANTS_SOME(cons_copied_twice, 50)) {
+    if (PLANTS_SOME(cons_copied_twice, 20000)) {
         old[0] = car;
         old[1] = copy[1];
     }
@@ -101,6 +101,21 @@ void certify_spoil_cons(Eterm *copy, Eterm *old, Eterm *reference)
         *reference = make_list(old);
     if (before != NIL && PLANTS(conses_merged))
         *reference = before;
+}
+
+/* Makes the roots of a stack begin behind the first word that refers into the young heap. */
+static inline void certify_miss_word(Process *p, Eterm **words, Uint *count)
+{
+    for (Uint i = 0; i < *count; i++) {
+        Eterm *at = (Eterm *)((*words)[i] & ~(Eterm)3);
+        if (!certify_is_pointer((*words)[i]) || at < HEAP_START(p) || at >= HEAP_TOP(p))
+            continue;
+        if (PLANTS(stack_word_missed)) {
+            *words += i + 1;
+            *count -= i + 1;
+        }
+        return;
+    }
 }
 
 /* Sets where a match context reads, after its binary has moved. Only that of a binary on the heap changes. */

@@ -12,7 +12,7 @@ from program.c_builds import TOP, done, library
 
 ROUNDS, SIZE = 3, "3000"
 # How many bits the self-tests flip.
-FLIPS = {"ocaml": "20000", "sanitizers": "2000", "jvm": "400", "scheme48": "1000", "erlang": "5000"}
+FLIPS = {"ocaml": "20000", "sanitizers": "2000", "jvm": "400", "scheme48": "300", "erlang": "5000"}
 HOUR = 3600
 
 

@@ -49,7 +49,7 @@ ERLANG = Example(
      "sub_binary_shifted", "cdr_bit", "promoted_not_swept", "stack_word_missed", "registers_missed", "message_missed", "tuple_shortened", "elements_exchanged",
      "conses_merged", "car_lost", "float_bit", "bignum_sign", "map_value_lost", "map_size_off", "fun_arity_off", "fun_variable_lost", "binary_size_off",
      "binary_moved", "sub_binary_offset_off", "match_offset_off", "heap_binary_byte", "reference_number_off"),
-    ("boxed_bit", "dictionary_missed", "promoted_not_swept", "match_base_stale"))
+    ("boxed_bit", "dictionary_missed", "promoted_not_swept", "tuple_shortened"))
 ALL = (SCHEME48, ERLANG)
 
 
@@ -98,7 +98,7 @@ def miniatures(_program, folder):
 
 # The program, and a pattern of what is printed about its collections.
 PROGRAMS = {"scheme48": ("%(out)s/scheme48vm -i %(runtime)s/scheme48.image -h 2700000 < program.scm", r"(?m)^(\d+) collections, \1 of them checked, (\d+) pairs, none refused$"),
-            "erlang": ("./erl %(out)s %(runtime)s 'io:format(\"~~w~~n\", [program:run(4, 400)])' +S 4:4",
+            "erlang": ("CERTIFY_WORDS=3000 ./erl %(out)s %(runtime)s 'io:format(\"~w~n\", [program:run(4, 600)])' -S 4:4",
                        r"(?m)^(\d+) minor collections and [1-9]\d* major ones, (\d+) pairs, none refused; ")}
 
 

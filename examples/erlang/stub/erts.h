@@ -97,6 +97,8 @@ typedef struct {
 #define ERL_FUN_SIZE (sizeof(ErlFunThing) / sizeof(Eterm) - 1)
 #define PROC_BIN_SIZE (sizeof(ProcBin) / sizeof(Eterm))
 #define ERL_SUB_BIN_SIZE (sizeof(ErlSubBin) / sizeof(Eterm))
+#define HEADER_SUB_BIN _make_header(ERL_SUB_BIN_SIZE - 2, SUB_BINARY_SUBTAG)
+#define header_heap_bin(BYTES) _make_header(1 + ((BYTES) + 7) / 8, HEAP_BINARY_SUBTAG)
 #define HEADER_PROC_BIN _make_header(PROC_BIN_SIZE - 1, REFC_BINARY_SUBTAG)
 
 static inline byte *binary_bytes(Eterm term)

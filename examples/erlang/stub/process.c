@@ -33,7 +33,7 @@ static Uint size_of(const Eterm *at)
 static Uint copy_part(Eterm *copy, const ErlSubBin *sub)
 {
     Eterm orig = *boxed_val(sub->orig) % 4 == TAG_PRIMARY_BOXED ? *boxed_val(sub->orig) : sub->orig;
-    copy[0] = _make_header(1 + (sub->size + 7) / 8, HEAP_BINARY_SUBTAG);
+    copy[0] = header_heap_bin(sub->size);
     copy[1] = sub->size;
     memcpy(copy + 2, binary_bytes(orig) + sub->offs + PLANTS(sub_binary_shifted), sub->size);
     return 2 + (sub->size + 7) / 8;
@@ -187,12 +187,12 @@ static Eterm cons(Eterm car, Eterm cdr)
 static Eterm filled_heap(byte *outside)
 {
     const Eterm number[] = {_make_header(1, FLOAT_SUBTAG), 0x3FF8000000000000}, large[] = {_make_header(2, POS_BIG_SUBTAG), 5, 6},
-        reference[] = {_make_header(3, REF_SUBTAG), UINT32_MAX, 8, 9}, bytes[] = {_make_header(6, HEAP_BINARY_SUBTAG), 33, 0x0706050403020100, 0x0F0E0D0C0B0A0908,
+        reference[] = {_make_header(3, REF_SUBTAG), UINT32_MAX, 8, 9}, bytes[] = {header_heap_bin(33), 33, 0x0706050403020100, 0x0F0E0D0C0B0A0908,
             0x1716151413121110, 0x1F1E1D1C1B1A1918, 0x20};
     Eterm binary = boxed(bytes, 7), pair = tuple(boxed(number, 2), make_boxed(stub_literals)), list = cons(pair, cons(pair, NIL)), keys = tuple(make_small(1), make_small(2));
     const Eterm map[] = {MAP_HEADER_FLATMAP, 2, keys, pair, list};
     const ProcBin off_heap = {HEADER_PROC_BIN, 5, NULL, outside, outside, 0};
-    const ErlSubBin part = {_make_header(ERL_SUB_BIN_SIZE - 2, SUB_BINARY_SUBTAG), 5, 3, 0, 0, 0, binary}, long_part = {part.thing_word, 30, 1, 0, 0, 0, binary};
+    const ErlSubBin part = {HEADER_SUB_BIN, 5, 3, 0, 0, 0, binary}, long_part = {part.thing_word, 30, 1, 0, 0, 0, binary};
     const ErlFunThing fun = {_make_header(ERL_FUN_SIZE - 2, FUN_SUBTAG), {outside}, NULL, 1, 1, make_small(3), {pair}};
     const ErlBinMatchState state = {_make_header(5, BIN_MATCHSTATE_SUBTAG), {binary, binary_bytes(binary), 16, 264}, {0}};
     const Eterm *const objects[] = {large, reference, map, (const Eterm *)&off_heap, (const Eterm *)&part, (const Eterm *)&long_part, (const Eterm *)&fun,
