@@ -324,7 +324,7 @@ static const char *const certify_fault_names[] = {
 static struct {
     pthread_once_t once;
     struct kit_fault fault;
-    long each, flips, words; /* CERTIFY_WORDS: a fault is planted in a heap of as many words or more */
+    long each, flips, words; /* CERTIFY_WORDS: a fault is planted in a heap of as many words or more, and so is the self-test made */
     atomic_long collections, chances; /* so far, of all threads */
     atomic_int is_tested;             /* whether the self-test was made */
     atomic_size_t minors, majors, pairs, scans;
@@ -440,7 +440,8 @@ static void certify_end(long number, int is_major)
         kit_refused(here.collection, &here.names, is_major ? "major collection" : "minor collection", (size_t)number);
     atomic_fetch_add(is_major ? &certify_run.majors : &certify_run.minors, 1);
     atomic_fetch_add(&certify_run.pairs, gcflip_collection_pairs(here.collection));
-    if (certify_run.flips != 0 && number >= certify_run.fault.at && !atomic_exchange(&certify_run.is_tested, 1))
+    bool is_large = HEAP_TOP(here.process) - HEAP_START(here.process) >= certify_run.words;
+    if (certify_run.flips != 0 && number >= certify_run.fault.at && is_large && !atomic_exchange(&certify_run.is_tested, 1))
         certify_test_adapter();
     if (number % 16 != 0)
         return;
