@@ -184,7 +184,7 @@ def under_address_sanitizer(result, app, folder):
 
 # What a run prints about its collections: their numbers, and that of the pairs.
 COLLECTIONS = {"scheme48": r"(?m)^(\d+) collections, \1 of them checked, (\d+) pairs, none refused\nms: (.*)$",
-               "erlang": r"(?m)^(\d+ minor collections and \d+ major ones), (\d+) pairs, none refused; .*\nms: (.*)$"}
+               "erlang": r"(?m)^([1-9]\d* minor collections and \d+ major ones), (\d+) pairs, none refused; .*\nms: (.*)$"}
 
 
 def from_source(result, example, name, folder):
