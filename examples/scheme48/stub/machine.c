@@ -3,12 +3,13 @@
  * The words are those of Scheme 48: see adapter.c. */
 #include <stdbool.h>
 #include <stdint.h>
+#include <stdio.h>
 #include <stdlib.h>
 #include <string.h>
 #include "faults.h"
 
 enum { WORDS = 32768, STACK_WORDS = 64, CHANNELS = 2, PAIR_TYPE = 0, SYMBOL_TYPE = 1, VECTOR_TYPE = 2, CHANNEL_TYPE = 6, WEAK_TYPE = 13, BINDING_TYPE = 14,
-    CELL_TYPE = 15, STRING_TYPE = 16, CODE_TYPE = 17, NO = 1, NONE = 25 };
+    CELL_TYPE = 15, STRING_TYPE = 16, CODE_TYPE = 17, NO = 1, NONE = 25, RETURN = 12 };
 
 static long spaces[2][WORDS], *space = spaces[0], *next = spaces[0], stack[STACK_WORDS], channels[CHANNELS];
 
@@ -77,6 +78,7 @@ static long pair(long car, long cdr) { return filled(PAIR_TYPE, car, cdr, NO); }
 /* ---- The collector. */
 
 static long *from, *scan;
+static long pairs_owed; /* one for each object that is copied or added, and for each pointer into a code */
 
 static bool is_old(long word) { return is_stob(word) && fields(word) >= from && fields(word) < from + WORDS; }
 static bool is_extant(long word) { return !is_old(word) || is_stob(fields(word)[-1]); }
@@ -91,6 +93,7 @@ static long copied(long word)
     memcpy(copy, fields(word) - 1, (size_t)(1 + count) * sizeof *copy);
     next = copy + 1 + count;
     fields(word)[-1] = (long)(copy + 1) + 3;
+    pairs_owed++;
     if ((header >> 2 & 31) < STRING_TYPE && (header >> 2 & 31) != WEAK_TYPE && PLANTS(flipped_bit))
         copy[1] ^= 64;
     if (PLANTS(immutable_bit))
@@ -112,6 +115,7 @@ static void join_queue(long cell)
     if (!is_stob(queue) || type_at(queue) != PAIR_TYPE || !is_stob(fields(cell)[0]) || PLANTS(cell_not_enqueued))
         return;
     long last = copied(fields(queue)[1]), end = pair(PLANTS(queue_end_filled) ? cell : NO, NO);
+    pairs_owed++;
     fields(last)[0] = cell;
     fields(last)[1] = end;
     fields(queue)[1] = end;
@@ -205,8 +209,10 @@ static void update_roots(void)
     if (!PLANTS(thread_missed))
         Scurrent_threadS = thread;
     *(long *)permanent[2] = copied(*(long *)permanent[2]);
+    long returned_to = copied(*(long *)ScontS - RETURN + 3);
+    pairs_owed += 2;
     if (!PLANTS(return_address_not_updated))
-        *(long *)ScontS = (long)Scode_pointerS;
+        *(long *)ScontS = (long)fields(returned_to) + RETURN;
     if (!PLANTS(stack_value_missed))
         ((long *)ScontS)[1] = copied(((long *)ScontS)[1]);
 }
@@ -254,16 +260,24 @@ static void bind(long table, long name)
 
 static void finalize(long thing) { Sfinalizer_alistS = pair(pair(thing, pair(NO, NO)), Sfinalizer_alistS); }
 
-/* A code of 16 bytes: a return address 12 bytes from its start, with a frame of one value and no mask. */
+/* A code of 16 bytes, with a return address 12 bytes from its start, for a frame of one value and no mask. */
+static long make_code(void)
+{
+    long made = make(CODE_TYPE, 16);
+    unsigned char *code = (unsigned char *)fields(made);
+    memset(code, 0, 16);
+    code[RETURN - 4] = RETURN;
+    code[RETURN - 1] = 1;
+    return made;
+}
+
+/* A frame whose code nothing but its return address leads to. */
 static void fill_stack(long kept)
 {
-    unsigned char *code = (unsigned char *)fields(Slast_code_calledS = make(CODE_TYPE, 16));
-    memset(code, 0, 16);
-    code[12 - 4] = 12;
-    code[12 - 1] = 1;
-    Scode_pointerS = (char *)code + 12;
+    Slast_code_calledS = make_code();
+    Scode_pointerS = (char *)fields(Slast_code_calledS) + RETURN;
     ScontS = Sbottom_of_stackS = Sstack_endS - 16;
-    ((long *)ScontS)[0] = (long)Scode_pointerS;
+    ((long *)ScontS)[0] = (long)fields(make_code()) + RETURN;
     ((long *)ScontS)[1] = kept;
     SstackS = ScontS;
 }
@@ -300,5 +314,6 @@ int main(void)
     fill_heap();
     for (int i = 0; i < 3; i++)
         s48_collect(1);
+    fprintf(stderr, "%ld pairs are owed\n", pairs_owed);
     return Sfinalize_theseS == NONE || fields(fields(Sfinalize_theseS)[0])[1] == NO;
 }
