@@ -197,7 +197,8 @@ def from_source(result, example, name, folder):
     result.require("make check of examples/%s" % example.name, ran.returncode == 0, text)
     always, drawn = source_runtimes.rows(example)
     found = re.findall(r"(?m)^ok: fault (\w+), ", text)
-    result.require("the faults of examples/%s" % example.name, sorted(found) == sorted(row[0] for row in always + drawn), ", ".join(found))
+    missed = "; ".join(re.findall(r"(?m)^FAILED: fault (?:.*\n)+?(?=ok:|FAILED:)", text)) or "no line tells which"
+    result.require("the faults of examples/%s" % example.name, sorted(found) == sorted(row[0] for row in always + drawn), missed)
     first = re.search(COLLECTIONS[example.name], text)
     result.require("the collections of examples/%s" % example.name, first is not None, text)
     if first:
