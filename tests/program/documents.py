@@ -432,7 +432,7 @@ CHANGED = [("another comment", "The object graph that a mutator sees", "The grap
 
 def definitions_page(_program, _folder):
     """Compares docs/DEFINITIONS.md with the page that tools/notions makes, and tries changes of it."""
-    shown = notions.shown()
+    shown = text_of("docs/DEFINITIONS.md")
     yield "docs/DEFINITIONS.md", "; ".join(notions.faults(shown)) or None
     for what, old, new in CHANGED:
         changed = old.sub(new, shown, count=1) if isinstance(old, re.Pattern) else shown.replace(old, new, 1)

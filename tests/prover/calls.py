@@ -11,8 +11,9 @@ from . import bindings
 from .c_headers import HEADERS, answers, functions_of, symbols
 from .crates import CRATES, TOP
 from .functions import contract_of, items_of
+from .made_pages import differences, path_of, read
 
-DOCUMENT = os.path.join(TOP, "docs", "CALLS.md")
+DOCUMENT = path_of("CALLS.md")
 NOTES = os.path.join(TOP, "bindings", "c", "call_notes.md")
 COSTS = os.path.join(TOP, "bench", "embedding", "commands.txt")
 COUNTED = os.path.join(TOP, "bench", "embedding", "commands.c")
@@ -30,11 +31,6 @@ FORMS = {"IsCommandCall": {"no_memory", "closed_handle"}, "IsCall": {"no_memory"
 # What a state has in which a step allocates, by the definition `Allocates`.
 STATES = {"s.collection ≡ None": "no collection is open", "IsSomeAnd s.collection (λ c. IsTrue (is_ready c s.heap.graph))": "a collection is ready for its flip"}
 NEVER, OPEN, ALWAYS = "never", "while a collection is open", "always"
-
-
-def read(path):
-    with open(path, encoding="utf-8") as file:
-        return file.read()
 
 
 # ---- Contracts
@@ -271,14 +267,4 @@ def faults(shown, table=None):
     """Yields what is wrong: with the headers, and with this text of the page."""
     table = table or Table()
     yield from table.faults()
-    lines, wanted = shown.split("\n"), document(table).split("\n")
-    if lines != wanted:
-        alone = ["missing: " + line for line in wanted if line not in lines] + ["too many: " + line for line in lines if line not in wanted]
-        yield "docs/CALLS.md: %s; tools/calls --write makes the page" % ("; ".join(alone) or "the lines have another order")
-
-
-def write():
-    """Writes the page."""
-    text = document(Table())
-    with open(DOCUMENT, "w", encoding="utf-8") as file:
-        file.write(text)
+    yield from differences("CALLS.md", "calls", shown, document(table))

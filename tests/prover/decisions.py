@@ -7,9 +7,10 @@ import os
 import re
 
 from .crates import TOP
+from .made_pages import differences, path_of, read
 
 DECISIONS = os.path.join(TOP, "docs", "DECISIONS.md")
-DOCUMENT = os.path.join(TOP, "docs", "DECISIONS_INDEX.md")
+DOCUMENT = path_of("DECISIONS_INDEX.md")
 PAGES = os.path.join(TOP, "docs", "decisions", "*.md")
 # - [Collections](decisions/collections.md): steps, flips, spaces and links
 LINE = re.compile(r"(?m)^- \[[^\]]*\]\(decisions/(\w+\.md)\)")
@@ -17,11 +18,6 @@ HEAD = """# Index of decisions
 
 `tools/decisions --write` makes this list from the pages that [DECISIONS.md](DECISIONS.md) names, and CI checks it.
 """
-
-
-def read(path):
-    with open(path, encoding="utf-8") as file:
-        return file.read()
 
 
 def pages():
@@ -54,13 +50,4 @@ def faults(shown, listed, texts):
     """Yields what is wrong with a shown index: pages that are not listed once, and lines that it or the right one alone has."""
     names = LINE.findall(listed)
     yield from ["docs/DECISIONS.md does not list %s once" % name for name in sorted(set(names) | set(texts)) if names.count(name) != 1 or name not in texts]
-    lines, wanted = shown.split("\n"), index(listed, texts).split("\n")
-    if lines != wanted:
-        alone = ["missing: " + line for line in wanted if line not in lines] + ["too many: " + line for line in lines if line not in wanted]
-        yield "docs/DECISIONS_INDEX.md: %s; tools/decisions --write makes the list" % ("; ".join(alone) or "the lines have another order")
-
-
-def write():
-    """Writes the index."""
-    with open(DOCUMENT, "w", encoding="utf-8") as file:
-        file.write(index(read(DECISIONS), pages()))
+    yield from differences("DECISIONS_INDEX.md", "decisions", shown, index(listed, texts))

@@ -3,9 +3,10 @@ import glob
 import os
 
 from . import definition_counts as counts
-from .crates import CRATES, TOP, crates_listed
+from .crates import CRATES, crates_listed
+from .made_pages import differences, path_of
 
-DOCUMENT = os.path.join(TOP, "docs", "DEFINITIONS.md")
+DOCUMENT = path_of("DEFINITIONS.md")
 HEAD = """# Definitions
 
 `tools/notions --write` makes this page, and CI checks it. [ARCHITECTURE.md](ARCHITECTURE.md#where-each-notion-is-defined) says what the files are.
@@ -91,12 +92,6 @@ def document():
                     BY_CALL, table_of(["what", "calls of C", "lines"], by_call)])
 
 
-def shown():
-    """Returns the committed page."""
-    with open(DOCUMENT, encoding="utf-8") as file:
-        return file.read()
-
-
 def faults(text):
     """Yields what is wrong: files without a first comment, files with that of another one, and lines that this text of the page or the right one alone has."""
     known = {}
@@ -107,14 +102,4 @@ def faults(text):
     for names in known.values():
         if len(names) > 1:
             yield "%s begin with the same comment" % ", ".join(names)
-    lines, wanted = text.split("\n"), document().split("\n")
-    if lines != wanted:
-        alone = ["missing: " + line for line in wanted if line not in lines] + ["too many: " + line for line in lines if line not in wanted]
-        yield "docs/DEFINITIONS.md: %s; tools/notions --write makes the page" % ("; ".join(alone) or "the lines have another order")
-
-
-def write():
-    """Writes the page."""
-    text = document()
-    with open(DOCUMENT, "w", encoding="utf-8") as file:
-        file.write(text)
+    yield from differences("DEFINITIONS.md", "notions", text, document())

@@ -7,19 +7,15 @@ import re
 
 from .crates import CRATES, TOP, crates_listed
 from .edits import edit_named, edits_of
+from .made_pages import differences, path_of, read
 
-DOCUMENT = os.path.join(TOP, "docs", "WRONG_BODIES.md")
+DOCUMENT = path_of("WRONG_BODIES.md")
 BY_HAND = os.path.join(TOP, "tests", "tried_by_hand.txt")
 IN_CI = os.path.join(TOP, "tests", "edits_in_ci.txt")
 # Comments that say nothing of what an edit does.
 OF_REFUSALS = re.compile(r"# refused|# Clauses? .* refuses? it\.")
 # A wrong body, the test that refused it, and the day, with more behind a comma.
 TRIED = re.compile(r"(.+) \| (.+) \| (\d{4}-\d\d-\d\d(?:, .+)?)")
-
-
-def read(path):
-    with open(path, encoding="utf-8") as file:
-        return file.read()
 
 
 # ---- Must-fail edits
@@ -113,14 +109,4 @@ def faults(shown):
     """Yields what is wrong: edits without a comment, lines of the list that have no test or no day, and lines that the shown page or the right one alone has."""
     yield from ["no comment says what %s/%s does" % (crate, name) for crate in crates_listed() for name in edits_of(crate) if not told(crate, name)]
     yield from ["tests/tried_by_hand.txt has no test or no day for '%s'" % tried.does[:60] for tried in tried_by_hand() if not tried.day]
-    lines, wanted = shown.split("\n"), document().split("\n")
-    if lines != wanted:
-        alone = ["missing: " + line for line in wanted if line not in lines] + ["too many: " + line for line in lines if line not in wanted]
-        yield "docs/WRONG_BODIES.md: %s; tools/wrong_bodies --write makes the page" % ("; ".join(alone) or "the lines have another order")
-
-
-def write():
-    """Writes the page."""
-    text = document()
-    with open(DOCUMENT, "w", encoding="utf-8") as file:
-        file.write(text)
+    yield from differences("WRONG_BODIES.md", "wrong_bodies", shown, document())
