@@ -695,7 +695,53 @@ static void long_raw_objects_have_words(void)
     gcflip_snapshot_root(after, 0);
     gcflip_collection_pair(c, 1000, 2000);
     expect_refused(GCFLIP_HEADER_DIFFERS, 0, 0);
-    expect_told("refused 8 HeaderDiffers 0\n  the object 0x3e8 (kind 9, 70000 words) with the replica 0x7d0 (kind 9, 1 field)\n", false);
+    expect_told("refused 8 HeaderDiffers 0\n  the object 0x3e8 (kind 9, 70000 words) with the replica 0x7d0 (kind 9, 1 field)\n  header\n"
+                "  before kind 9, 70000 words\n  after  kind 9, 1 field\n  the kind is the same, the length is 69999 less, words became fields\n", false);
+}
+
+/* Expects these lines about an object with two fields, whose replica has this kind and this length. */
+static void expect_header(uint32_t kind, uint64_t length, bool is_raw, const char *wanted)
+{
+    static const uint64_t words[3];
+    char whole[400];
+    empty();
+    uint32_t place = gcflip_snapshot_object(before, 100, 3, 2);
+    gcflip_snapshot_set(before, place, 0, 0);
+    gcflip_snapshot_set(before, place, 1, 0);
+    gcflip_snapshot_root(before, gcflip_snapshot_reference(before, 100));
+    place = is_raw ? gcflip_snapshot_words(after, 300, kind, words, length) : gcflip_snapshot_object(after, 300, kind, length);
+    for (uint64_t i = 0; i < length && !is_raw; i++)
+        gcflip_snapshot_set(after, place, i, 0);
+    gcflip_snapshot_root(after, gcflip_snapshot_reference(after, 300));
+    EXPECT(gcflip_collection_infer(c, &verdict) == GCFLIP_REFUSED && is_verdict(GCFLIP_HEADER_DIFFERS, 0, 0, 0));
+    snprintf(whole, sizeof whole, "refused 8 HeaderDiffers 0\n  the object 0x64 (cons, 2 fields) with the replica 0x12c (%s  reached by the global `all`\n", wanted);
+    expect_told(whole, true);
+}
+
+/* Both headers in words, and what became of the kind and of the length. */
+static void headers_explained(void)
+{
+    static const uint64_t many[LARGE];
+    expect_header(4, 2, false, "kind 4, 2 fields)\n  header\n  before kind 3 (cons), 2 fields\n  after  kind 4, 2 fields\n  the kind is another one, the length is the same\n");
+    expect_header(3, 1, false, "cons, 1 field)\n  header\n  before kind 3 (cons), 2 fields\n  after  kind 3 (cons), 1 field\n  the kind is the same, the length is 1 less\n");
+    expect_header(3, 2, true, "cons, 2 words)\n  header\n  before kind 3 (cons), 2 fields\n  after  kind 3 (cons), 2 words\n"
+                              "  the kind is the same, the length is the same, fields became words\n");
+    expect_header(0, 3, true, "kind 0, 3 words)\n  header\n  before kind 3 (cons), 2 fields\n  after  kind 0, 3 words\n"
+                              "  the kind is another one, the length is 1 more, fields became words\n");
+    empty(); /* a part differs, and the whole is told of */
+    gcflip_snapshot_words(before, 1000, 9, many, LARGE);
+    gcflip_snapshot_words(after, 2000, 9, many, LARGE - 1);
+    gcflip_collection_pair(c, 1000, 2000);
+    expect_refused(GCFLIP_HEADER_DIFFERS, 3, 0);
+    expect_told("refused 8 HeaderDiffers 3\n  the object the part from field 65536 of 0x3e8 (kind 9, 70000 words) with the replica the part from field 65536 of 0x7d0 "
+                "(kind 9, 69999 words)\n  header\n  before kind 9, 70000 words\n  after  kind 9, 69999 words\n  the kind is the same, the length is 1 less\n", false);
+    empty(); /* a constant that has become a reference */
+    gcflip_snapshot_root(before, gcflip_snapshot_constant(before, (uint64_t)1 << 63));
+    gcflip_snapshot_object(after, 300, 3, 0);
+    gcflip_snapshot_root(after, gcflip_snapshot_reference(after, 300));
+    EXPECT(gcflip_collection_infer(c, &verdict) == GCFLIP_REFUSED && is_verdict(GCFLIP_HEADER_DIFFERS, 0, 0, 0));
+    expect_told("refused 8 HeaderDiffers 0\n  the object the constant 0x8000000000000000 with the replica 0x12c (cons, 0 fields)\n  header\n"
+                "  before a constant and no object\n  after  kind 3 (cons), 0 fields\n  reached by the global `all`\n", true);
 }
 
 /* Refusals of the list of pairs name the pair, or the earlier one. */
@@ -1119,6 +1165,7 @@ int main(int count, char **arguments)
     explanations();
     targets_explained();
     long_raw_objects_have_words();
+    headers_explained();
     pairs_explained();
     without_verdict();
     doubts_of_a_snapshot();

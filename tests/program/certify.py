@@ -193,7 +193,8 @@ OF_ENTRY_4 = ["  the object %s with the replica %s" % (entry("4", 0), entry("", 
 OF_FIELD = ["refused 9 FieldDiffers 1 3", *OF_ENTRY_4, "  previous", "  before " + entry("2", 2), "  after  0x#2: no object starts there", OLD_ADDRESS % entry("", 3), "  reached by last"]
 OF_ROOT = ["refused 10 RootDiffers 2", "  last", "  before " + entry("4", 0), "  after  0x#0: no object starts there", OLD_ADDRESS % entry("", 1)]
 OF_LENGTH = ["refused 8 HeaderDiffers 2",
-             "  the object %s with the replica %s" % (about("text", "0", 0, "1 word"), about("text", "", 1, "0 words")), "  reached by first . name"]
+             "  the object %s with the replica %s" % (about("text", "0", 0, "1 word"), about("text", "", 1, "0 words")), "  header",
+             "  before kind 1 (text), 1 word", "  after  kind 1 (text), 0 words", "  the kind is the same, the length is 1 less", "  reached by first . name"]
 # A bug, whether pairs are inferred, and what gcflip_images prints about five entries. The adapter has no names for what lies in the new space. With inferred
 # pairs, `next` of entry 2 refers to the copy of entry 4 that no pair has.
 EXPLAINED = [
