@@ -2,9 +2,10 @@
 """Plants faults in a collector: planted.py FAULTS.txt [--draw N] [--seed S] [--only NAME ..] [--at-once] -- COMMAND ..
 
 FAULTS.txt has a row for each fault: its name, from which collection on it is planted, how many places for it are passed over, what it is, and a
-pattern of what has to be printed. The rows behind the first empty line are drawn: N of them, by the seed, which is the time by default. With --only, the
-faults that are named are planted instead, and with --at-once each at its first place. The command runs a program by the collector with its adapter;
-variables of the environment tell it the fault. It has to end with status 3, after it has said that it planted the fault. Prints a line for each fault, and the lines about it. The status is 0 if each was found, and what was printed names it.
+pattern of what has to be printed. The rows behind the first empty line, if there is one, are drawn: N of them, by the seed, which is the time by
+default. With --only, the faults that are named are planted instead, and with --at-once each at its first place. The command runs a program by the
+collector with its adapter; variables of the environment tell it the fault. It has to end with status 3, after it has said that it planted the fault.
+Prints a line for each fault, and the lines about it. The status is 0 if each was found, and what was printed names it.
 """
 import argparse
 import os
@@ -18,8 +19,8 @@ import time
 def rows_of(path):
     """Returns the rows that are always planted, and those that are drawn."""
     with open(path, encoding="utf-8") as file:
-        parts = file.read().split("\n\n")
-    return [[line.split(" | ", 4) for line in part.split("\n") if line and not line.startswith("#")] for part in parts[:2]]
+        always, _, drawn = file.read().partition("\n\n")
+    return [[line.split(" | ", 4) for line in part.split("\n") if line and not line.startswith("#")] for part in (always, drawn)]
 
 
 def outcome(row, command):

@@ -64,7 +64,7 @@ COMPILER = ("cc, of the package gcc", "ar, of the package binutils")
 # What builds a runtime from its source, beside Debian's keys.
 TO_BUILD = ("python3, of the package python3", "cksum, of the package coreutils", "apt-get, of the package apt", "patch, of the package patch",
             "tar, of the package tar")
-MISSING = {"certify": COMPILER, "ocaml": ("ocamlopt, of the package ocaml-nox", *COMPILER),
+MISSING = {"certify": COMPILER, "toy": ("python3, of the package python3", *COMPILER), "ocaml": ("ocamlopt, of the package ocaml-nox", *COMPILER),
            "jvm": ("javac, of the package openjdk-17-jdk-headless", "python3, of the package python3", *COMPILER),
            "scheme48": (*TO_BUILD, "gzip, of the package gzip", *COMPILER),
            "erlang": (*TO_BUILD, "xz, of the package xz-utils", "perl, of the package perl", "g++, of the package g++", *COMPILER)}
