@@ -120,10 +120,10 @@ static void certify_proc_bin(gcflip_snapshot *snapshot, uint64_t address, const 
     certify_number(snapshot, place, 2, is_written ? 0 : (uint64_t)bin->bytes);
 }
 
-/* Finds the bytes of a binary that can be read, and their number. Returns NULL if there is none. */
+/* Finds the bytes of a binary that can be read, and their number. Returns NULL if there is none, such as at an address between words. */
 static const byte *certify_bytes_of(const gcflip_snapshot *snapshot, Eterm term, uint64_t *count)
 {
-    if ((term & 3) != TAG_PRIMARY_BOXED)
+    if ((term & 7) != TAG_PRIMARY_BOXED)
         return NULL;
     Eterm *at = certify_memory_of(term);
     uint64_t most = certify_stays(term) ? UINT64_MAX : certify_room(snapshot, at);
@@ -412,13 +412,27 @@ static const char *certify_reason(void *given, const uint64_t *word, unsigned bi
     return (start & 3) == TAG_PRIMARY_BOXED ? certify_reason_in(certify_memory_of(start), offset + bit / 8) : NULL;
 }
 
-static void certify_test_adapter(void)
+/* Finds the memory of what the collection copied: the new heap, and what was promoted. Returns how many words it has. */
+static size_t certify_find_copies(gcflip_range ranges[2])
 {
     Process *p = here.process;
     Eterm *promoted = here.old_to != NULL ? here.old_to : OLD_HEAP(p);
-    gcflip_range ranges[2] = {{(uint64_t *)HEAP_START(p), (size_t)(HEAP_TOP(p) - HEAP_START(p))}, {NULL, 0}};
-    if (promoted != NULL)
-        ranges[1] = (gcflip_range){(uint64_t *)promoted, (size_t)(OLD_HTOP(p) - promoted)};
+    ranges[0] = (gcflip_range){(uint64_t *)HEAP_START(p), (size_t)(HEAP_TOP(p) - HEAP_START(p))};
+    ranges[1] = (gcflip_range){(uint64_t *)promoted, promoted == NULL ? 0 : (size_t)(OLD_HTOP(p) - promoted)};
+    return ranges[0].count + ranges[1].count;
+}
+
+enum { WORDS_OF_A_PAIR = 8 };
+
+/* Flips bits of the heap, if it is large and the roots reach much of it: it has a pair for each 8 words. In a heap of moved fragments and messages, the roots
+ * reach so little that nearly all flips would be spared for that reason. */
+static void certify_test_adapter(void)
+{
+    gcflip_range ranges[2];
+    size_t words = certify_find_copies(ranges);
+    bool is_large = ranges[0].count >= (size_t)certify_run.words;
+    if (!is_large || gcflip_collection_pairs(here.collection) < words / WORDS_OF_A_PAIR || atomic_exchange(&certify_run.is_tested, 1))
+        return;
     const gcflip_self_test test = {.ranges = ranges, .range_count = 2, .seed = 1, .reason = certify_reason, .flips = (size_t)certify_run.flips};
     gcflip_collection_self_test(here.collection, &test, stderr);
 }
@@ -440,8 +454,7 @@ static void certify_end(long number, int is_major)
         kit_refused(here.collection, &here.names, is_major ? "major collection" : "minor collection", (size_t)number);
     atomic_fetch_add(is_major ? &certify_run.majors : &certify_run.minors, 1);
     atomic_fetch_add(&certify_run.pairs, gcflip_collection_pairs(here.collection));
-    bool is_large = HEAP_TOP(here.process) - HEAP_START(here.process) >= certify_run.words;
-    if (certify_run.flips != 0 && number >= certify_run.fault.at && is_large && !atomic_exchange(&certify_run.is_tested, 1))
+    if (certify_run.flips != 0 && number >= certify_run.fault.at && !certify_run.is_tested)
         certify_test_adapter();
     if (number % 16 != 0)
         return;

@@ -1,7 +1,7 @@
 """Tests of the adapters for runtimes that are built from their source, Scheme 48 and Erlang.
 
 Each adapter is compiled with a miniature of its runtime, which has what the adapter reads and a collector that does what the real one does. Faults are planted
-there. If tests/install_runtimes has built the runtime itself, its collections are checked, too.
+there, and the adapter tests itself. If tests/install_runtimes has built the runtime itself, its collections are checked, too.
 """
 import os
 import re
@@ -16,11 +16,11 @@ CACHE = os.environ.get("GCFLIP_RUNTIMES") or os.path.join(os.path.expanduser("~"
 
 
 class Example:
-    """An example: its folder, the source of the miniature, what its program prints at the end, and which faults are planted in the miniature and, at the places
-    that faults.txt says, in the runtime."""
+    """An example: its folder, the source of the miniature, how often that collects, what its program prints at the end, and which faults are planted in the
+    miniature and, at the places that faults.txt says, in the runtime."""
 
-    def __init__(self, name, miniature, least, in_miniature, in_runtime):
-        self.name, self.miniature, self.least, self.in_miniature, self.in_runtime = name, miniature, least, in_miniature, in_runtime
+    def __init__(self, name, miniature, collections, least, in_miniature, in_runtime):
+        self.name, self.miniature, self.collections, self.least, self.in_miniature, self.in_runtime = name, miniature, collections, least, in_miniature, in_runtime
         self.folder = os.path.join(EXAMPLES, name)
 
     def runtime(self):
@@ -39,12 +39,12 @@ class Example:
 
 
 SCHEME48 = Example(
-    "scheme48", "machine.c", r"(?m)^3 collections, 3 of them checked, (\d+) pairs, none refused$",
+    "scheme48", "machine.c", 3, r"(?m)^3 collections, 3 of them checked, (\d+) pairs, none refused$",
     ("flipped_bit", "immutable_bit", "thread_missed", "field_not_updated", "weak_cleared", "weak_not_updated", "return_address_not_updated", "symbol_dropped",
      "finalizer_lost", "binding_dropped", "stack_value_missed", "channel_dropped", "due_too_early", "due_too_late", "cell_not_enqueued", "cell_keeps_queue"),
     ("thread_missed", "weak_cleared", "due_order_turned", "cell_not_enqueued"))
 ERLANG = Example(
-    "erlang", "process.c", r"(?m)^6 minor collections and 2 major ones, (\d+) pairs, none refused; the old generation was scanned 0 times$",
+    "erlang", "process.c", 8, r"(?m)^6 minor collections and 2 major ones, (\d+) pairs, none refused; the old generation was scanned 0 times$",
     ("boxed_bit", "dictionary_missed", "cons_reference_not_updated", "boxed_copied_twice", "wrong_forwarding", "match_base_stale", "cons_copied_twice",
      "sub_binary_shifted", "cdr_bit", "promoted_not_swept", "stack_word_missed", "registers_missed", "message_missed", "tuple_shortened", "elements_exchanged",
      "conses_merged", "car_lost", "float_bit", "bignum_sign", "map_value_lost", "map_size_off", "fun_arity_off", "fun_variable_lost", "binary_size_off",
@@ -88,6 +88,21 @@ def miniature(example, built, folder):
     if owed:
         yield "the pairs of examples/%s" % example.name, None if pairs and owed.group(1) == pairs.group(1) else text
     yield from planted(example, example.in_miniature, [path], "--at-once", env=environment)
+    yield from self_tests(example, path, environment)
+
+
+FLIPS = 400
+
+
+def self_tests(example, path, environment):
+    """Runs the self-test in the heap after each collection of the miniature: at least half of the flips are refused. The third heap of Erlang's miniature is a
+    message for the most part, which no root reaches, so its adapter waits for the next one."""
+    for at in range(1, example.collections + 1):
+        ran = done([path], env=dict(environment, CERTIFY_AT=str(at), CERTIFY_FLIPS=str(FLIPS)))
+        text = ran.stderr.decode("utf-8", "replace")
+        told = re.findall(r"(?m)^flipped %d bits: refused (\d+), explained \d+, unexplained 0$" % FLIPS, text)
+        right = ran.status == 0 and len(told) == 1 and 2 * int(told[0]) >= FLIPS
+        yield "the self-test of the miniature of examples/%s, from collection %d on" % (example.name, at), None if right else text[-2000:]
 
 
 def miniatures(_program, folder):

@@ -5,7 +5,7 @@
 #include <stdlib.h>
 #include <string.h>
 
-enum { WORDS = 4096 };
+enum { WORDS = 4096, WORDS_OF_A_MESSAGE = 1500, WITH_A_MESSAGE = 3 };
 
 Eterm stub_literals[8] = {make_arityval(1), make_small(7)};
 
@@ -111,6 +111,16 @@ static void update_roots(Process *p, Eterm *registers, int count)
             update(&message->m[0]);
 }
 
+/* Moves a message to the heap at the end of one of the collections, as a whole. No root refers to it, so it is garbage at the next one. */
+static void move_message(Process *p)
+{
+    static int collections;
+    if (++collections != WITH_A_MESSAGE)
+        return;
+    for (int i = 0; i < WORDS_OF_A_MESSAGE; i++)
+        *p->htop++ = NIL;
+}
+
 /* Collects, and moves the stack to the end of the new heap, as Erlang does. */
 static int collect(Process *p, int is_major, Eterm *registers, int count)
 {
@@ -132,6 +142,7 @@ static int collect(Process *p, int is_major, Eterm *registers, int count)
     memcpy(heap + WORDS - stack, p->stop, stack * sizeof *heap);
     p->heap = heap;
     p->htop = p->high_water = gc.to;
+    move_message(p);
     p->hend = heap + WORDS;
     p->stop = p->hend - stack;
     p->old_htop = is_major ? NULL : gc.promoted;
