@@ -735,13 +735,33 @@ static void headers_explained(void)
     expect_refused(GCFLIP_HEADER_DIFFERS, 3, 0);
     expect_told("refused 8 HeaderDiffers 3\n  the object the part from field 65536 of 0x3e8 (kind 9, 70000 words) with the replica the part from field 65536 of 0x7d0 "
                 "(kind 9, 69999 words)\n  header\n  before kind 9, 70000 words\n  after  kind 9, 69999 words\n  the kind is the same, the length is 1 less\n", false);
-    empty(); /* a constant that has become a reference */
+}
+
+/* Constants and pointers into objects have no header of the runtime's. */
+static void own_headers_explained(void)
+{
+    empty();
     gcflip_snapshot_root(before, gcflip_snapshot_constant(before, (uint64_t)1 << 63));
     gcflip_snapshot_object(after, 300, 3, 0);
     gcflip_snapshot_root(after, gcflip_snapshot_reference(after, 300));
     EXPECT(gcflip_collection_infer(c, &verdict) == GCFLIP_REFUSED && is_verdict(GCFLIP_HEADER_DIFFERS, 0, 0, 0));
     expect_told("refused 8 HeaderDiffers 0\n  the object the constant 0x8000000000000000 with the replica 0x12c (cons, 0 fields)\n  header\n"
                 "  before a constant and no object\n  after  kind 3 (cons), 0 fields\n  reached by the global `all`\n", true);
+    empty();
+    gcflip_snapshot_object(before, 100, 3, 0);
+    gcflip_snapshot_root(before, gcflip_snapshot_reference(before, 100));
+    gcflip_snapshot_root(after, gcflip_snapshot_constant(after, (uint64_t)1 << 63));
+    EXPECT(gcflip_collection_infer(c, &verdict) == GCFLIP_REFUSED && is_verdict(GCFLIP_HEADER_DIFFERS, 0, 0, 0));
+    expect_told("refused 8 HeaderDiffers 0\n  the object 0x64 (cons, 0 fields) with the replica the constant 0x8000000000000000\n  header\n"
+                "  before kind 3 (cons), 0 fields\n  after  a constant and no object\n  reached by the global `all`\n", true);
+    empty();
+    gcflip_snapshot_object(before, 100, 3, 0);
+    gcflip_snapshot_root(before, gcflip_snapshot_inside(before, 100, 8));
+    gcflip_snapshot_object(after, 300, 3, 0);
+    gcflip_snapshot_root(after, gcflip_snapshot_reference(after, 300));
+    EXPECT(gcflip_collection_infer(c, &verdict) == GCFLIP_REFUSED && is_verdict(GCFLIP_HEADER_DIFFERS, 0, 0, 0));
+    expect_told("refused 8 HeaderDiffers 0\n  the object byte 8 of 0x64 (cons, 0 fields) with the replica 0x12c (cons, 0 fields)\n  header\n"
+                "  before a pointer into an object\n  after  kind 3 (cons), 0 fields\n  reached by the global `all`\n", true);
 }
 
 /* Refusals of the list of pairs name the pair, or the earlier one. */
@@ -1166,6 +1186,7 @@ int main(int count, char **arguments)
     targets_explained();
     long_raw_objects_have_words();
     headers_explained();
+    own_headers_explained();
     pairs_explained();
     without_verdict();
     doubts_of_a_snapshot();
