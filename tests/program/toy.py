@@ -111,6 +111,9 @@ def drawn(folder):
     told = [(name, word) for name, text in texts.items() for word in (*faults(), "adapter_kit", "changes.txt") if word.encode() in text]
     yield "no name is handed out", "there is %s" % told if told else None
     yield "what is handed out", None if HANDED <= set(texts) and "adapter.c" not in texts else str(list(texts))
+    ran = hand_out(os.path.join(folder, "variable"), "--fault", "record_copied_twice", *libraries)
+    found = b"records" in handed(os.path.join(folder, "variable")).get("collector.o", b"records")
+    yield "no variable of a fault is handed out", ran.stderr.decode() if ran.status != 0 else "it is" if found else None
     yield "a folder that is there", refused("is there already", target, *libraries)
     yield "an unknown fault", refused("no fault has the name nothing", os.path.join(folder, "other"), "--fault", "nothing")
     yield "an unknown name", refused("no fault has the name nothing", "--compare", target, "nothing")
