@@ -4,7 +4,6 @@ It tests 'make check' of the folder: the runtime's own tests, the program with a
 is handed out; the runtime, the adapter and the self-test with sanitizers; which fault is drawn, and that it is written nowhere; what hand_out refuses;
 and the tables of the README.
 """
-import json
 import os
 import re
 import shutil
@@ -74,13 +73,13 @@ def sanitized(folder):
     yield "the toy's self-test with sanitizers", None if ran.status == 0 and told else ran.stderr.decode("utf-8", "replace")[-2000:]
 
 
-def hand_out(*words):
-    return done([sys.executable, HAND_OUT, *words], timeout=PROVING_SECONDS)
+def hand_out(*words, **more):
+    return done([sys.executable, HAND_OUT, *words], timeout=PROVING_SECONDS, **more)
 
 
-def refused(why, *words):
+def refused(why, *words, **more):
     """Returns why hand_out does not refuse these words with status 2 and this line, or None."""
-    ran = hand_out(*words)
+    ran = hand_out(*words, **more)
     return None if ran.status == 2 and why in ran.stderr.decode() and not ran.stdout else "status %d: %s" % (ran.status, ran.stderr.decode())
 
 
@@ -115,13 +114,21 @@ def drawn(folder):
     found = b"records" in handed(os.path.join(folder, "variable")).get("collector.o", b"records")
     yield "no variable of a fault is handed out", ran.stderr.decode() if ran.status != 0 else "it is" if found else None
     yield "a folder that is there", refused("is there already", target, *libraries)
+    nothing, without = os.path.join(folder, "empty"), dict(os.environ, CC="false")
+    os.mkdir(nothing)
+    yield "no compiler", refused("the collector was not compiled", os.path.join(nothing, "toy"), *libraries, env=without)
+    yield "nothing is left without one", "there is %s" % os.listdir(nothing) if os.listdir(nothing) else None
+    yield "no folder around it", refused("No such file", os.path.join(nothing, "none", "toy"), *libraries)
     yield "an unknown fault", refused("no fault has the name nothing", os.path.join(folder, "other"), "--fault", "nothing")
     yield "an unknown name", refused("no fault has the name nothing", "--compare", target, "nothing")
     yield "no folder", refused("a folder is missing")
     yield "a folder that was not handed out", refused("No such file", "--compare", folder, "weak_cleared")
     with open(os.path.join(target, "drawn", "seal"), "w", encoding="utf-8") as file:
-        json.dump({"salt": "", "seal": "", "seconds": 0}, file)
+        file.write("salt\nseal\n0\n")
     yield "a seal of nothing", refused("was sealed with other faults", "--compare", target, "weak_cleared")
+    with open(os.path.join(target, "drawn", "seal"), "w", encoding="utf-8") as file:
+        file.write("salt\n")
+    yield "a seal without a hash", refused("not enough values", "--compare", target, "weak_cleared")
 
 
 def examples(_program, folder):
