@@ -1,10 +1,12 @@
+mod looking;
+
 use crate::code_row::CodeRow;
 use crate::old_row::OldRow;
 use crate::origin_row::OriginRow;
 use crate::origins_tell_pairs;
 use crate::outline::Outline;
 use crate::walking::{
-    DUE, START, TAKEN, add_codes, claim_in, code_of, header_at, is_copy, next_header, next_within,
+    DUE, START, TAKEN, add_codes, claim_in, code_of, is_copy, next_header, next_within,
 };
 use crate::watcher::Watcher;
 use gc_graph::NoMemory;
@@ -58,20 +60,19 @@ impl Standing {
     ghost use Rattle.gc_graph.specs.Correspond.{paired};
     ghost use Rattle.gc_words.specs.Word.{words_correspond, field_words_correspond};
     ghost use Rattle.gc_words.specs.declared.header.Header.{Header};
-    ghost use Rattle.gc_words.specs.Layout.{field_place, link_place};
+    ghost use Rattle.gc_words.specs.Layout.{link_place};
     ghost use Rattle.gc_along.specs.Origins.{pairs_in};
     ghost use Rattle.gc_along.specs.Outline.{outline_in};
     ghost use Rattle.gc_along.specs.Watch.{RootsCorrespond};
     ghost use Rattle.gc_along.specs.Tables.{IsKept};
     ghost use Rattle.gc_along.specs.Telling.{IsMark};
-    ghost use Rattle.gc_along.specs.Events.{Made, Placed, Looked, Wrote, WroteRow, Applied, Freed, IsFieldOf, HasNoReplica, object_codes, absent_tables, opening_tables, flipped_tables, with_due};
+    ghost use Rattle.gc_along.specs.Events.{Made, Placed, Wrote, WroteRow, Applied, Freed, HasNoReplica, object_codes, absent_tables, opening_tables, flipped_tables, with_due};
     ghost use Rattle.gc_along.specs.Internal.Rows.{with_due_row};
-    ghost use Rattle.gc_along.specs.Runs.{PlacedAll, CanPlaceAll, LookedAll, CanLookAll};
-    ghost use Rattle.gc_along.specs.Internal.Runs.{LooksTo};
+    ghost use Rattle.gc_along.specs.Runs.{PlacedAll, CanPlaceAll};
     ghost use Rattle.gc_graph.specs.Graph.{Ref};
     ghost use Rattle.gc_words.specs.Word.{read_header, read_value};
     ghost use Rattle.gc_along.specs.Tables.{Tables};
-    ghost use Rattle.gc_along.specs.Claims.{Accepts, CanApply, CanLook, CanMake, CanPlaceNext, CanWrite, CanWriteRow, IsLinked, OwesNone};
+    ghost use Rattle.gc_along.specs.Claims.{Accepts, CanApply, CanMake, CanPlaceNext, CanWrite, CanWriteRow, IsLinked, OwesNone};
 
     /// Returns a checker for spaces of up to `size` words, at least 1.
     pub fn new(alloc: Global, size: u32) -> Result<Standing, NoMemory>
@@ -229,231 +230,6 @@ impl Standing {
         self.origins.add(header.len(), original);
         add_codes(&mut self.news, header.len(), due);
         self.missing += due_words(header.len(), due);
-    }
-
-    /// Compares field `i` of the replica at `at` as it is now.
-    #[inline(always)]
-    pub fn look(&mut self, old: &[u64], new: &[u64], at: u32, i: u16)
-        ensures lost { IsTrue self.old.lost → IsTrue self.new.lost }
-        ensures looked { IsFalse self.new.lost → Looked old.now new.now at i self.old self.new }
-        ensures stays { IsFalse self.old.lost → CanLook old.now new.now at i self.old → IsFalse self.new.lost }
-    {
-        if self.lost {
-            return;
-        }
-        match self.compared(old, new, at, i) {
-            None => self.lose(),
-            Some(alike) => self.set_due(field_index(Addr(at), i), !alike),
-        }
-    }
-
-    // Whether field `i` of the replica at `at` stands for its original's, if there are such fields.
-    #[inline(always)]
-    fn compared(&self, old: &[u64], new: &[u64], at: u32, i: u16) -> Option<bool>
-        ensures { MatchOption result (CanLook old.now new.now at i self.now → ⊥) (λ alike. (h : Header) × (a : ℕ) × IsFieldOf new.now self.now h a at i
-            × (field_place a i < length old.now) × (field_place at i < length new.now)
-            × (alike ≡ field_words_correspond h (pairs_in self.now.origins) (slice_index old.now (field_place a i)) (slice_index new.now (field_place at i)))) }
-    {
-        let start = at as usize;
-        let original = self.origins.get(start);
-        if original == 0 {
-            return None;
-        }
-        if start >= new.len() {
-            return None;
-        }
-        let header = Header::read(new[start])?;
-        if i >= header.len() {
-            return None;
-        }
-        let place = field_index(Addr(at), i);
-        if place >= self.news.len() {
-            return None;
-        }
-        if place >= new.len() {
-            return None;
-        }
-        let from = field_index(Addr(original), i);
-        if from >= old.len() {
-            return None;
-        }
-        Some(self.is_alike(header, old[from], new[place]))
-    }
-
-    /// Compares the fields from field `i` of the replica at `at` on, up to field `end` of the replica at `to`, as they are now.
-    pub fn look_all(&mut self, old: &[u64], new: &[u64], at: u32, i: u16, to: u32, end: u16)
-        ensures lost { IsTrue self.old.lost → IsTrue self.new.lost }
-        ensures looked { IsFalse self.new.lost → LookedAll old.now new.now at i to end self.old self.new }
-        ensures stays { IsFalse self.old.lost → CanLookAll old.now new.now at i to end self.old → IsFalse self.new.lost }
-    {
-        if self.lost {
-            return;
-        }
-        let mut place = at;
-        let mut field = i;
-        while place < to {
-            let Some(header) = header_at(new, place) else {
-                self.lost = true;
-                return;
-            };
-            self.look_rest(old, new, header, place, field);
-            if self.lost {
-                return;
-            }
-            if u32::from(header.len()) + 2 > to - place {
-                self.lost = true;
-                return;
-            }
-            place += u32::from(header.len()) + 2;
-            field = 0;
-        }
-        if place != to || field > end {
-            self.lost = true;
-            return;
-        }
-        if field < end {
-            self.look_last(old, new, to, field, end);
-        }
-    }
-
-    // Compares the fields from `first` on of the replica at `at`, which has this header, unless it is raw.
-    #[inline(always)]
-    fn look_rest(&mut self, old: &[u64], new: &[u64], header: Header, at: u32, first: u16)
-        requires found { IsFalse self.old.lost }
-        requires header { read_header (slice_index new.now at) ≡ Some header }
-        ensures raw { IsTrue header.raw → self.new ≡ self.old }
-        ensures looked { IsFalse header.raw → IsFalse self.new.lost → (first ≤ header.len) × LooksTo old.now new.now at first (header.len - first) self.old self.new }
-        ensures stays { IsFalse header.raw → first ≤ header.len
-            → ((k : ℕ) (mid : Tables) → first + k < header.len → LooksTo old.now new.now at first k self.old mid → CanLook old.now new.now at (first + k) mid)
-            → IsFalse self.new.lost }
-    {
-        if header.is_raw() || first == header.len() {
-            return;
-        }
-        if first > header.len() {
-            self.lost = true;
-            return;
-        }
-        self.look_fields(old, new, header, at, first, header.len());
-    }
-
-    // Compares the fields from `first` on, and before `stop`, of the replica at `at`, which may not be raw.
-    #[inline(never)]
-    fn look_last(&mut self, old: &[u64], new: &[u64], at: u32, first: u16, stop: u16)
-        requires found { IsFalse self.old.lost }
-        requires more { first < stop }
-        ensures looked { IsFalse self.new.lost → (h : Header) × (read_header (slice_index new.now at) ≡ Some h) × (h.raw ≡ false)
-            × LooksTo old.now new.now at first (stop - first) self.old self.new }
-        ensures stays { (h : Header) → at < length new.now → read_header (slice_index new.now at) ≡ Some h → IsFalse h.raw
-            → ((k : ℕ) (mid : Tables) → first + k < stop → LooksTo old.now new.now at first k self.old mid → CanLook old.now new.now at (first + k) mid)
-            → IsFalse self.new.lost }
-    {
-        let Some(header) = header_at(new, at) else {
-            self.lost = true;
-            return;
-        };
-        if header.is_raw() {
-            self.lost = true;
-            return;
-        }
-        self.look_fields(old, new, header, at, first, stop);
-    }
-
-    // Compares the fields from `first` on, and before `stop`, of the replica at `at`, which has this header.
-    #[inline(always)]
-    fn look_fields(
-        &mut self,
-        old: &[u64],
-        new: &[u64],
-        header: Header,
-        at: u32,
-        first: u16,
-        stop: u16,
-    )
-        requires found { IsFalse self.old.lost }
-        requires header { read_header (slice_index new.now at) ≡ Some header }
-        requires more { first < stop }
-        ensures looked { IsFalse self.new.lost → LooksTo old.now new.now at first (stop - first) self.old self.new }
-        ensures stays { ((k : ℕ) (mid : Tables) → first + k < stop → LooksTo old.now new.now at first k self.old mid → CanLook old.now new.now at (first + k) mid)
-            → IsFalse self.new.lost }
-    {
-        let original = self.origin_at(at);
-        let last = field_index(Addr(at), stop);
-        if original == 0
-            || stop > header.len()
-            || last > self.news.len()
-            || last > new.len()
-            || field_index(Addr(original), stop) > old.len()
-        {
-            self.look_each(old, new, at, first, stop);
-            return;
-        }
-        let from = field_index(Addr(original), first);
-        let place = field_index(Addr(at), first);
-        let count = usize::from(stop - first);
-        if self.are_alike(header, old, from, new, place, count) && self.settle(place, count) {
-            return;
-        }
-        self.look_each(old, new, at, first, stop);
-    }
-
-    // Whether so many words of both, from these places on, are fields that stand for each other, of objects with this header.
-    #[inline(always)]
-    fn are_alike(
-        &self,
-        header: Header,
-        old: &[u64],
-        from: usize,
-        new: &[u64],
-        place: usize,
-        count: usize,
-    ) -> bool
-        requires old { from + count ≤ length old.now }
-        requires new { place + count ≤ length new.now }
-        ensures { IsTrue result → (k : ℕ) → k < count
-            → IsTrue (field_words_correspond header (pairs_in self.now.origins) (slice_index old.now (from + k)) (slice_index new.now (place + k))) }
-    {
-        for k in 0..count {
-            if !self.is_alike(header, old[from + k], new[place + k]) {
-                return false;
-            }
-        }
-        true
-    }
-
-    // Takes so many places from this one on for compared, if all of them are due. Returns whether they were; else all stays as it is.
-    #[inline(always)]
-    fn settle(&mut self, place: usize, count: usize) -> bool
-        requires found { IsFalse self.old.lost }
-        requires some { 1 ≤ count }
-        requires within { place + count ≤ length self.old.news }
-        requires few { place + count ≤ 4295098367 }
-        ensures settled { IsTrue result → self.new ≡ with_due_row false self.old place count }
-        ensures stays { IsFalse result → self.new ≡ self.old }
-    {
-        if !self.news.settle(place, count) {
-            return false;
-        }
-        self.missing -= count;
-        true
-    }
-
-    // Compares the fields from `first` on, and before `stop`, of the replica at `at`, if it has them.
-    #[cold]
-    #[inline(never)]
-    fn look_each(&mut self, old: &[u64], new: &[u64], at: u32, first: u16, stop: u16)
-        requires found { IsFalse self.old.lost }
-        requires more { first < stop }
-        ensures looked { IsFalse self.new.lost → LooksTo old.now new.now at first (stop - first) self.old self.new }
-        ensures stays { ((k : ℕ) (mid : Tables) → first + k < stop → LooksTo old.now new.now at first k self.old mid → CanLook old.now new.now at (first + k) mid)
-            → IsFalse self.new.lost }
-    {
-        for i in first..stop {
-            self.look(old, new, at, i);
-            if self.lost {
-                return;
-            }
-        }
     }
 
     /// Compares field `i` of the replica of the object at `a`, if it has one; its link is the claim.
