@@ -1,4 +1,4 @@
--- The copies of fields in one call are the single copies in order, and keep what is known of the roots.
+-- The reply to a call that copies fields; and the copies keep what is known of the roots.
 use Rattle.std.proofs.lemmas.Grind.{common_steps}
 use Rattle.std.proofs.Common.{◌≡◌, ◌<◌, ◌≤◌, ◌+◌, ◌-◌, ℕ, zero, suc, List, [], ◌∷◌, length, map, take, drop, Some, None, Option, true, refl, sym, ap, ◌∙◌, arith}
 use Rattle.std.specs.Prelude.{slice_range, not, ◌||◌, Bool, cond, ◌&&◌}
@@ -21,7 +21,6 @@ use Rattle.gc_words.proofs.Public.{object_found, fields_counted}
 use Rattle.gc_heap.specs.Heap.{HeapWords, IsHeap, graph_in}
 use Rattle.gc_plan.specs.State.{State}
 use Rattle.gc_plan.specs.Steps.{mutate}
-use Rattle.gc_collected.proofs.Monitor.Ran.{Ran, ran_none, ran_on, ran_one}
 use Rattle.gc_collected.specs.Internal.KnownRoots.{KnowsRoots}
 use Rattle.gc_collected.specs.declared.known.KnownRoots.{KnownRoots}
 use Rattle.gc_collected.specs.Copying.{object_in, copy_reply, copy_step}
@@ -70,19 +69,6 @@ pub fitting_reply : (to from count first last : ℕ) (target source : Header) (o
     → taken ≡ (not target.raw || list_all (λ w. is_number (field_value source w)) (slice_range words first last)) → reply ≡ cond taken Done NoNumber → reply ≡ copy_reply to from count (object_in g d m) (object_in g s m)
 fitting_reply to from count first last target source old words g m d s taken reply one other low begin at high asks same = grind (arith, common_steps, list_all-map, range_of_map, le-leb, length-map)
 
--- ---- the commands
-
--- one field more
-pub one_copied : (old two first : State) (m i j k count : ℕ) (d s t : SlotName) → k < count → copy_step old m d (i + k) s (j + k) t (count - k) ≡ copy_step first m d i s j t count
-    → (mutate (mutate old m (Get t s (j + k))).1 m (Put d (i + k) t)).1 ≡ two → copy_step two m d (i + (k + 1)) s (j + (k + 1)) t (count - (k + 1)) ≡ copy_step first m d i s j t count
-one_copied old two first m i j k count d s t less so_far step =
-    let more : count - k ≡ suc (count - (k + 1)) = omega (arith, less) in
-    let at : i + (k + 1) ≡ suc (i + k) = omega arith in
-    let from : j + (k + 1) ≡ suc (j + k) = omega arith in
-    ap (λ n. copy_step two m d n s (j + (k + 1)) t (count - (k + 1))) at ∙ ap (λ n. copy_step two m d (suc (i + k)) s n t (count - (k + 1))) from
-    ∙ ap (λ (x : State). copy_step x m d (suc (i + k)) s (suc (j + k)) t (count - (k + 1))) (sym step)
-    ∙ sym (ap (copy_step old m d (i + k) s (j + k) t) more) ∙ so_far
-
 -- ---- what is known of the roots
 
 pub copies_know : (count : ℕ) (known : KnownRoots) (s : State) (m i j : ℕ) (d from t : SlotName) → t.index < 16 → m < s.mutators → KnowsRoots known s
@@ -94,18 +80,3 @@ copies_know (suc count) known s m i j d from t low less k =
     let below : WritesBelow (roots_of s.mutators) m (Get t from j) = λ q. one_below (place t m) q (roots_of s.mutators) (slot_below t m s.mutators low less) in
     let got : KnowsRoots (forgetting known) one.1 = slot_command known s m (Get t from j) below k in
     copies_know count (forgetting known) two.1 m (suc i) (suc j) d from t low less (put_knows (forgetting known) one.1 two.1 m i d t two.0 refl got)
-
--- ---- what was written
-
-abbrev Any : ℕ → ℕ → Type 0
-Any a i = Unit {0}
-
-copies_ran : (count : ℕ) (s : State) (m i j : ℕ) (d from t : SlotName) → Ran s (copy_step s m d i from j t count) Any
-copies_ran zero s m i j d from t = ran_none s Any
-copies_ran (suc count) s m i j d from t =
-    let one = mutate s m (Get t from j) in
-    let two = mutate one.1 m (Put d i t) in
-    ran_on s two.1 (copy_step two.1 m d (suc i) from (suc j) t count) Any Any Any (λ a k w. tt) (λ a k w. tt)
-    (ran_on s one.1 two.1 _ _ Any (λ a k w. tt) (λ a k w. tt) (ran_one s one.1 m (Get t from j) one.0 refl refl) (ran_one one.1 two.1 m (Put d i t) two.0 refl refl)) (copies_ran count two.1 m (suc i) (suc j) d from t)
-
--- while no collection is open a monitor is told nothing

@@ -2,6 +2,7 @@
 mod Begins
 mod Beside
 mod Copies
+mod CopiesDone
 mod Core
 mod Counts
 mod FirstLog

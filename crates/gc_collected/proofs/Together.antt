@@ -187,7 +187,7 @@ all_ran heap new o m (op ∷ ops) fields is nothing (next, reply, rest, p, sound
     (ran_one (state_of heap o) mid m op reply (performed_one heap next o m op reply is p) nothing.0)
     (all_ran next new (logged o m es) m ops rest sound nothing.1 more))
 
-together_ran : (heap new : HeapWords) (o o' : Option CollectionWords) (m : ℕ) (ops : List Op) (fields : List (ℕ × ℕ)) → IsHeap heap → MakeNothing ops → PerformsAll heap m ops fields new → LogsIfOpen o m fields o'
+pub together_ran : (heap new : HeapWords) (o o' : Option CollectionWords) (m : ℕ) (ops : List Op) (fields : List (ℕ × ℕ)) → IsHeap heap → MakeNothing ops → PerformsAll heap m ops fields new → LogsIfOpen o m fields o'
     → Ran (state_in heap o) (state_in new o') (λ a i. In {X = ℕ × ℕ} (a, i) fields)
 together_ran heap new o o' m ops fields is nothing all l =
     subst (λ (s : State). Ran (state_in heap o) s (λ a i. In {X = ℕ × ℕ} (a, i) fields)) (ap (state_of new) (logged_is o o' m fields l)) (all_ran heap new (option_map collection_in o) m ops fields is nothing all)

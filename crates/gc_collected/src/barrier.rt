@@ -67,7 +67,6 @@ pub(crate) fn put(
     ensures step { mutate (open_state heap.old collection.old) m (Op.Put s i t) ≡ (result, open_state heap.new collection.new) }
     ensures belongs { BelongsTo heap.new collection.new }
     ensures mutators { heap.new.mutators ≡ heap.old.mutators }
-    ensures spare { spare_of collection.old m ≤ spare_of collection.new m + 1 }
     ensures follows { Follows (open_state heap.old collection.old) watch.old → Follows (open_state heap.new collection.new) watch.new }
 {
     are_shown(heap, collection);
@@ -315,10 +314,8 @@ pub(crate) fn put_in(
     ensures step { mutate (state_in heap.old collection.old) m (Op.Put s i t) ≡ (result, state_in heap.new collection.new) }
     ensures fits { (epoch : ℕ) → Fits epoch heap.old collection.old → Fits epoch heap.new collection.new }
     ensures belongs { BelongsIfOpen heap.new collection.new }
-    ensures open { is_some collection.new ≡ is_some collection.old }
     ensures mutators { heap.new.mutators ≡ heap.old.mutators }
     ensures follows { Follows (state_in heap.old collection.old) watch.old → Follows (state_in heap.new collection.new) watch.new }
-    ensures spare { (n : ℕ) → HasSpare collection.old m (n + 1) → HasSpare collection.new m n }
 {
     // Here the prover learns that the heap is sound.
     let _ = heap.space();

@@ -1,26 +1,27 @@
 //! Copies fields from one object to another.
 
-ghost use Rattle.std.specs.Prelude.{ℕ, ◌≡◌, ◌≢◌, ◌<◌, ◌≤◌, ◌+◌, ◌||◌, not, length, IfOk, IfSome, OnErr, IsSome, is_some};
+ghost use Rattle.std.specs.Prelude.{ℕ, ◌≡◌, ◌≢◌, ◌<◌, ◌≤◌, ◌+◌, ◌||◌, not, length, IfOk, IfSome, OnErr, IsSome};
 ghost use Rattle.std.specs.List.{list_all};
 ghost use Rattle.std.specs.Option.{option_map};
+ghost use Rattle.gc_graph.specs.Graph.{Ref, root};
 ghost use Rattle.gc_graph.specs.Slots.{place};
 ghost use Rattle.gc_graph.specs.Machine.{is_number};
 ghost use Rattle.gc_words.specs.Word.{value_of, field_value};
 ghost use Rattle.gc_words.specs.Image.{object_of_block};
-ghost use Rattle.gc_graph.specs.declared.command.Op.{Op};
+ghost use Rattle.gc_graph.specs.declared.reply.Reply.{Reply};
 ghost use Rattle.gc_heap.specs.Heap.{graph_in};
-ghost use Rattle.gc_plan.specs.Steps.{mutate};
 ghost use Rattle.gc_collected.specs.Internal.Follows.{Follows};
+ghost use Rattle.gc_collected.specs.Internal.Together.{PerformsAll, copies, fields_from};
 ghost use Rattle.gc_collected.specs.Internal.CollectedHeap.{BelongsIfOpen, Fits, HasSpare, state_in};
 ghost use Rattle.gc_collected.specs.Copying.{object_in, copy_reply as reply_in, copy_step, copy_fields_step};
 
-use crate::barrier::{are_sound_in, put_in, reserve_in};
+use crate::barrier::{are_shown, are_sound_in, note_row, reserve_in};
 use crate::collected_heap::CollectedHeap;
 use gc_along::Standing;
 use gc_copy::Collection;
 use gc_graph::{NoMemory, Reply, Slot};
 use gc_heap::Heap;
-use gc_words::{Addr, Header};
+use gc_words::{Addr, Header, OldAddr};
 
 impl CollectedHeap {
     /// Copies `count` fields: from field `from` on, of the object that `s` refers to, to field `to` and on of the object that `d` refers
@@ -55,14 +56,12 @@ impl CollectedHeap {
         let Reply::Done = reply else {
             return Ok(reply);
         };
-        let is_open = self.collection.is_some();
         reserve_in(&mut self.collection, m, usize::from(count))?;
         self.known.slots = 0;
         copy_all(
             &mut self.collection,
             &mut self.heap,
             &mut self.watch,
-            is_open,
             m,
             d,
             to,
@@ -129,46 +128,32 @@ fn copy_reply(heap: &Heap, m: u8, d: Slot, to: u16, s: Slot, from: u16, count: u
     Reply::Done
 }
 
-// Copies one field. If a collection is open, the log needs room for an entry.
-fn copy_field(
-    collection: &mut Option<Collection>,
-    heap: &mut Heap,
-    watch: &mut Standing,
-    is_open: bool,
-    m: u8,
-    d: Slot,
-    i: u16,
-    s: Slot,
-    j: u16,
-    t: Slot,
-)
-    requires belongs { BelongsIfOpen heap.old collection.old }
-    requires open { is_open ≡ is_some collection.old }
+// Copies the fields in the heap alone, where the object in `d` takes them.
+fn copy_each(heap: &mut Heap, m: u8, d: Slot, object: OldAddr, to: u16, s: Slot, from: u16, t: Slot, count: u16)
     requires mutator { m < heap.old.mutators }
-    requires room { HasSpare collection.old m 1 }
-    ensures step { (mutate (mutate (state_in heap.old collection.old) m (Op.Get t s j)).1 m (Op.Put d i t)).1
-        ≡ state_in heap.new collection.new }
-    ensures fits { (epoch : ℕ) → Fits epoch heap.old collection.old → Fits epoch heap.new collection.new }
-    ensures belongs { BelongsIfOpen heap.new collection.new }
-    ensures open { is_some collection.new ≡ is_some collection.old }
+    requires target { to + count ≤ 65535 }
+    requires source { from + count ≤ 65535 }
+    requires apart { (place t m ≢ place d m) × (place t m ≢ place s m) }
+    requires object { root (graph_in heap.old) (place d m) ≡ Ref object.0 }
+    requires takes { reply_in to from count (object_in (graph_in heap.old) d m) (object_in (graph_in heap.old) s m) ≡ Reply.Done }
+    ensures performs { PerformsAll heap.old m (copies d to s from t count) (fields_from object.0 to count) heap.new }
     ensures mutators { heap.new.mutators ≡ heap.old.mutators }
-    ensures follows { Follows (state_in heap.old collection.old) watch.old → Follows (state_in heap.new collection.new) watch.new }
-    ensures spare { (n : ℕ) → HasSpare collection.old m (n + 1) → HasSpare collection.new m n }
 {
-    are_sound_in(collection, heap);
-    // Here the prover learns that the heap is sound.
+    // Here the prover learns that the heap is sound, and the slot in range.
     let _ = heap.space();
-    let _got = heap.fetch(m, t, s, j);
-    let _put = put_in(collection, heap, watch, is_open, m, d, i, t);
+    let _ = t.index();
+    for k in 0..count {
+        let _got = heap.fetch(m, t, s, from + k);
+        let _put = heap.put(m, d, to + k, t);
+    }
 }
 
-// Copies the fields. If a collection is open, the log needs room for each of them.
-#[tactic(auto, using(crate::proofs::Copies::one_copied))]
+// Copies the fields, where the object in `d` takes them. If a collection is open, logs them, and tells the monitor of all of them at once. Then the
+// log needs room for each of them.
 fn copy_all(
     collection: &mut Option<Collection>,
     heap: &mut Heap,
     watch: &mut Standing,
-    is_open: bool,
     m: u8,
     d: Slot,
     to: u16,
@@ -178,28 +163,26 @@ fn copy_all(
     count: u16,
 )
     requires belongs { BelongsIfOpen heap.old collection.old }
-    requires open { is_open ≡ is_some collection.old }
     requires mutator { m < heap.old.mutators }
     requires target { to + count ≤ 65535 }
     requires source { from + count ≤ 65535 }
+    requires apart { (place t m ≢ place d m) × (place t m ≢ place s m) }
+    requires takes { reply_in to from count (object_in (graph_in heap.old) d m) (object_in (graph_in heap.old) s m) ≡ Reply.Done }
     requires room { HasSpare collection.old m count }
     ensures step { copy_step (state_in heap.old collection.old) m d to s from t count ≡ state_in heap.new collection.new }
     ensures fits { (epoch : ℕ) → Fits epoch heap.old collection.old → Fits epoch heap.new collection.new }
     ensures mutators { heap.new.mutators ≡ heap.old.mutators }
     ensures follows { Follows (state_in heap.old collection.old) watch.old → Follows (state_in heap.new collection.new) watch.new }
 {
-    for k in 0..count {
-        copy_field(
-            collection,
-            heap,
-            watch,
-            is_open,
-            m,
-            d,
-            to + k,
-            s,
-            from + k,
-            t,
-        );
-    }
+    are_sound_in(collection, heap);
+    // Here the prover learns that the heap is sound.
+    let _ = heap.space();
+    let object = heap.target(m, d).unwrap();
+    copy_each(heap, m, d, object, to, s, from, t, count);
+    let Some(collection) = collection else {
+        return;
+    };
+    note_row(collection, m, object, to, count);
+    are_shown(heap, collection);
+    watch.written_row(heap.space().words(), object.0, to, usize::from(count));
 }

@@ -1,22 +1,63 @@
--- A turn copies one field more, and a log takes an entry.
-use Rattle.std.proofs.Common.{◌≡◌, ◌+◌, ◌-◌, sym, ◌∙◌, subst, arith}
-use Rattle.gc_collected.specs.Internal.CollectedHeap.{HasSpare, state_in}
-use Rattle.gc_collected.proofs.Copies.{one_copied}
+-- The heap copies alone; the fields are logged together, and then the monitor is told of all of them.
+use Rattle.std.proofs.Common.{◌≡◌, Some, None, ℕ, ap, subst, sym, ◌∙◌}
+use Rattle.std.specs.Prelude.{IfSome, IsFalse, Option}
+use Rattle.gc_plan.specs.Belonging.{IsOpened}
+use Rattle.gc_copy.specs.Words.{CollectionWords, BelongsTo, open_state}
+use Rattle.gc_along.specs.Claims.{CanWriteRow}
+use Rattle.gc_along.specs.Events.{WroteRow}
+use Rattle.gc_collected.specs.Copying.{copy_step}
+use Rattle.gc_collected.specs.Internal.Beside.{AreOld}
+use Rattle.gc_collected.specs.Internal.CollectedHeap.{BelongsIfOpen, Fits, state_in}
+use Rattle.gc_collected.specs.Internal.Follows.{Follows}
+use Rattle.gc_collected.proofs.CopiesDone.{copied_state, copies_follow, copies_told}
+use Rattle.gc_collected.proofs.Together.{together_fits}
 use Rattle.gc_collected.proofs.copying.copy_all.Goals as goal
+use Rattle.gc_collected.proofs.copying.copy_all.Goals.{After-copy_each, After-note_row, In_default}
 
-pub loop-k-preserved : goal.loop-k-preserved
-loop-k-preserved c =
-    let one = c.copy_field in
-    let more : c.args.count - c.loop-k.k ≡ c.args.count - (c.loop-k.k + 1) + 1 = omega (arith, c.loop-k-test.true) in
-    record {
-      rest = one_copied (state_in c.loop-k.heap c.loop-k.collection) (state_in one.new.heap one.new.collection) (state_in c.args.heap.now c.args.collection.now) c.args.m c.args.to c.args.from c.loop-k.k c.args.count c.args.d c.args.s c.args.t c.loop-k-test.true c.loop-k.invariant.rest one.ensures.step;
-      fits = λ epoch before. one.ensures.fits epoch (c.loop-k.invariant.fits epoch before);
-      belongs = one.ensures.belongs;
-      same = one.ensures.«open» ∙ c.loop-k.invariant.same;
-      mutators = one.ensures.mutators ∙ c.loop-k.invariant.mutators;
-      follows = λ before. one.ensures.follows (c.loop-k.invariant.follows before);
-      room = one.ensures.spare (c.args.count - (c.loop-k.k + 1)) (subst (HasSpare c.loop-k.collection c.args.m) more c.loop-k.invariant.room);
-    }
+-- ---- while no collection is open
 
-pub copy_field-requires-clause-open : goal.copy_field-requires-clause-open
-copy_field-requires-clause-open c = c.requires.«open» ∙ sym c.loop-k.invariant.same
+pub returns-in_default-clause-step : goal.returns-in_default-clause-step
+returns-in_default-clause-step c =
+    subst (λ (o : Option CollectionWords). copy_step (state_in c.args.heap.now o) c.args.m c.args.d c.args.to c.args.s c.args.from c.args.t c.args.count ≡ state_in c.copy_each.new.heap o) (sym c.in_default.is)
+    (copied_state c.args.heap.now c.copy_each.new.heap None None c.args.m c.unwrap-object.result.0 c.args.to c.args.from c.args.count c.args.d c.args.s c.args.t c.space.ensures.sound c.copy_each.ensures.performs tt)
+
+pub returns-in_default-clause-fits : goal.returns-in_default-clause-fits
+returns-in_default-clause-fits c =
+    subst (λ (o : Option CollectionWords). (epoch : ℕ) → Fits epoch c.args.heap.now o → Fits epoch c.copy_each.new.heap o) (sym c.in_default.is)
+    (λ epoch fits. together_fits epoch c.args.heap.now c.copy_each.new.heap None None c.args.m _ _ c.requires.mutator c.copy_each.ensures.performs tt fits)
+
+pub returns-in_default-clause-follows : goal.returns-in_default-clause-follows
+returns-in_default-clause-follows c =
+    subst (λ (o : Option CollectionWords). Follows (state_in c.args.heap.now o) c.args.watch.now → Follows (state_in c.copy_each.new.heap o) c.args.watch.now) (sym c.in_default.is)
+    (copies_follow c.args.heap.now c.copy_each.new.heap c.args.m c.unwrap-object.result.0 c.args.to c.args.from c.args.count c.args.d c.args.s c.args.t c.args.watch.now c.space.ensures.sound c.copy_each.ensures.performs)
+
+-- ---- while one is open
+
+belonged : (c : After-note_row) → BelongsTo c.args.heap.now c.in-Some.collection
+belonged c = subst (BelongsIfOpen c.args.heap.now) c.in-Some.is c.requires.belongs
+
+belongs_now : (c : After-note_row) → BelongsTo c.copy_each.new.heap c.note_row.new.collection
+belongs_now c = together_fits 0 c.args.heap.now c.copy_each.new.heap (Some c.in-Some.collection) (Some c.note_row.new.collection) c.args.m _ _ c.requires.mutator c.copy_each.ensures.performs c.note_row.ensures (belonged c)
+
+pub are_shown-requires : goal.are_shown-requires
+are_shown-requires c = belongs_now (goal.at.are_shown-requires c).After-note_row
+
+pub returns-clause-step : goal.returns-clause-step
+returns-clause-step c =
+    subst (λ (o : Option CollectionWords). copy_step (state_in c.args.heap.now o) c.args.m c.args.d c.args.to c.args.s c.args.from c.args.t c.args.count ≡ state_in c.copy_each.new.heap (Some c.note_row.new.collection)) (sym c.in-Some.is)
+    (copied_state c.args.heap.now c.copy_each.new.heap (Some c.in-Some.collection) (Some c.note_row.new.collection) c.args.m c.unwrap-object.result.0 c.args.to c.args.from c.args.count c.args.d c.args.s c.args.t c.space.ensures.sound c.copy_each.ensures.performs c.note_row.ensures)
+
+pub returns-clause-fits : goal.returns-clause-fits
+returns-clause-fits c = λ epoch fits. belongs_now (goal.at.returns-clause-fits c).After-note_row
+
+pub returns-clause-follows : goal.returns-clause-follows
+returns-clause-follows c =
+    let words = c.words.ensures.value ∙ ap (λ x. x.words) c.space-2.ensures.value in
+    let told = c.written_row.ensures in
+    let count = c.from.ensures in
+    subst (λ (o : Option CollectionWords). Follows (state_in c.args.heap.now o) c.args.watch.now → Follows (state_in c.copy_each.new.heap (Some c.note_row.new.collection)) c.written_row.new.self) (sym c.in-Some.is)
+    (copies_told c.args.heap.now c.copy_each.new.heap c.in-Some.collection c.note_row.new.collection c.args.m c.unwrap-object.result.0 c.args.to c.args.from c.args.count c.args.d c.args.s c.args.t c.words.result.now c.args.watch.now c.written_row.new.self c.space.ensures.sound (belonged (goal.at.returns-clause-follows c).After-note_row)
+    c.requires.mutator c.copy_each.ensures.performs c.note_row.ensures (subst (λ (o : Option CollectionWords). IfSome (state_in c.args.heap.now o).collection (IsOpened (state_in c.args.heap.now o))) c.in-Some.is c.are_sound_in.ensures) c.are_shown.ensures.opened c.are_shown.ensures.heap
+    (subst (AreOld (open_state c.copy_each.new.heap c.note_row.new.collection)) (sym words) c.are_shown.ensures.old)
+    (subst (λ n. IsFalse c.args.watch.now.lost → CanWriteRow c.words.result.now c.unwrap-object.result.0 c.args.to n c.args.watch.now → IsFalse c.written_row.new.self.lost) count told.stays)
+    (subst (λ n. IsFalse c.written_row.new.self.lost → WroteRow c.unwrap-object.result.0 c.args.to n c.args.watch.now c.written_row.new.self) count told.wrote))
