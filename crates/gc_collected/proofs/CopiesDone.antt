@@ -123,7 +123,7 @@ can_go_on_within object i j count can = record {
 
 -- ---- in a graph
 
-pub both_found : (o p : Option Object) (i j count : ℕ) → copy_reply i j count o p ≡ Done → (target : Object) × (source : Object) × (o ≡ Some target) × (p ≡ Some source)
+both_found : (o p : Option Object) (i j count : ℕ) → copy_reply i j count o p ≡ Done → (target : Object) × (source : Object) × (o ≡ Some target) × (p ≡ Some source)
 both_found None p i j count done = absurd (let no : NoObject ≡ Done = done in cc)
 both_found (Some target) None i j count done = absurd (let no : NoObject ≡ Done = done in cc)
 both_found (Some target) (Some source) i j count done = (target, source, refl, refl)
@@ -169,7 +169,7 @@ module _ (g : Graph) (m a i j count : ℕ) (d s t : SlotName) (apart : place t m
   name = referred g.objects (root g (place s m)) giver found.3
 
   -- the `Get`
-  pub one_get : (unused : ℕ) → (step g m (Get t s j) unused).1 ≡ got
+  one_get : (unused : ℕ) → (step g m (Get t s j) unused).1 ≡ got
   one_get unused = grind (arith, common_steps, found.3, first_there taker giver i j count can)
 
   root_left : (q : ℕ) → place t m ≢ q → root got q ≡ root g q
@@ -182,7 +182,7 @@ module _ (g : Graph) (m a i j count : ℕ) (d s t : SlotName) (apart : place t m
   before = slice_get-get_or taker.fields i Nil (let wide = can.wide in omega arith)
 
   -- the `Put`
-  pub one_put_done : (unused : ℕ) → step got m (Put d i t) unused ≡ (Done, put)
+  one_put_done : (unused : ℕ) → step got m (Put d i t) unused ≡ (Done, put)
   one_put_done unused = grind (arith, common_steps, there, target, root_left (place d m) apart, root_set, before, accepted taker.raw (is_number value) (list_all is_number (take count (drop (suc j) giver.fields))) (first_taken taker giver i j count can))
 
   kept_target : root got (place d m) ≡ Ref a
@@ -210,7 +210,7 @@ module _ (g : Graph) (m a i j count : ℕ) (d s t : SlotName) (apart : place t m
           both (with_field taker i value) (giver_at ∙ ap (lookup put.objects) e ∙ lookup_set_same g.objects a i value taker there)
           (subst (λ o. CanCopy (with_field taker i (first_value o j)) (with_field taker i (first_value o j)) (suc i) (suc j) count) (sym one) (can_go_on_within taker i j count (subst (λ o. CanCopy taker o i j (suc count)) one can)))
 
-  pub one_copy : OneCopied g put m a i j count d s
+  one_copy : OneCopied g put m a i j count d s
   one_copy = record { target = kept_target; rest = goes_on }
 
 -- ---- in a heap
@@ -218,7 +218,7 @@ module _ (g : Graph) (m a i j count : ℕ) (d s t : SlotName) (apart : place t m
 stepped : (old new : Roomy) (m name : ℕ) (op : Op) (reply : Reply) → words_taken op ≡ 0 → roomy_step old m op name ≡ (reply, new) → step old.graph m op name ≡ (reply, new.graph)
 stepped old new m name op reply none said = grind (arith, common_steps)
 
-pub copies_on : (heap mid new last : HeapWords) (m a i j count : ℕ) (d s t : SlotName) (reply end : Reply) → IsHeap heap → m < heap.mutators → t.index < 16 → place t m ≢ place d m → place t m ≢ place s m → root (graph_in heap) (place d m) ≡ Ref a
+copies_on : (heap mid new last : HeapWords) (m a i j count : ℕ) (d s t : SlotName) (reply end : Reply) → IsHeap heap → m < heap.mutators → t.index < 16 → place t m ≢ place d m → place t m ≢ place s m → root (graph_in heap) (place d m) ≡ Ref a
     → copy_reply i j (suc count) (object_in (graph_in heap) d m) (object_in (graph_in heap) s m) ≡ Done → Performs heap m (Get t s j) reply mid → IsHeap mid → Performs mid m (Put d i t) end new → IsHeap new
     → OneCopied (graph_in heap) (graph_in new) m a i j count d s × (PerformsAll new m (copies d (suc i) s (suc j) t count) (fields_from a (suc i) count) last → PerformsAll heap m (copies d i s j t (suc count)) (fields_from a i (suc count)) last)
 copies_on heap mid new last m a i j count d s t reply end is less low apart beside target done gets sound-mid puts sound = (
@@ -253,11 +253,11 @@ copies_on heap mid new last m a i j count d s t reply end is less low apart besi
     wrote : written (graph_in mid) m (Put d i t) end ≡ (a, i) ∷ []
     wrote = ap (written (graph_in mid) m (Put d i t)) is_done ∙ ap (λ v. map (λ (name : ℕ). (name, i)) (names_of v)) target-mid
 
-pub copy_is : (count : ℕ) (old : State) (m i j : ℕ) (d s t : SlotName) → copy_step old m d i s j t count ≡ mutate_all old m (copies d i s j t count)
+copy_is : (count : ℕ) (old : State) (m i j : ℕ) (d s t : SlotName) → copy_step old m d i s j t count ≡ mutate_all old m (copies d i s j t count)
 copy_is zero old m i j d s t = refl
 copy_is (suc count) old m i j d s t = copy_is count (mutate (mutate old m (Get t s j)).1 m (Put d i t)).1 m (suc i) (suc j) d s t
 
-pub copies_make_nothing : (count i j : ℕ) (d s t : SlotName) → MakeNothing (copies d i s j t count)
+copies_make_nothing : (count i j : ℕ) (d s t : SlotName) → MakeNothing (copies d i s j t count)
 copies_make_nothing zero i j d s t = tt
 copies_make_nothing (suc count) i j d s t = (refl, (refl, copies_make_nothing count (suc i) (suc j) d s t))
 

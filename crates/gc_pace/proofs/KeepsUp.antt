@@ -99,7 +99,7 @@ run_same n s t reply run on = subst (Same s) (sym run.state) (useful_same n s (�
   | inr late ↦ (let some = run.some in let last : n - 1 ≡ k = omega (arith, less, late) in subst (λ j. goes_on (useful_reply None j s) ≡ true) last (ap goes_on (sym run.reply_is) ∙ on))
 ]))
 
-commands_size : (s : State) (commands : List (ℕ × Op)) → (after_commands s commands).size ≡ s.size
+pub commands_size : (s : State) (commands : List (ℕ × Op)) → (after_commands s commands).size ≡ s.size
 commands_size s [] = refl
 commands_size s (command ∷ rest) = commands_size (mutate s command.0 command.1).1 rest
 

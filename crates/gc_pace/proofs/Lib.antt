@@ -13,3 +13,4 @@ pub mod StepsUseful
 pub mod Turns
 pub mod Useful
 mod Waiting
+mod Waits

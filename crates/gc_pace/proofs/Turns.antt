@@ -85,7 +85,7 @@ call_keeps wanted s t before after work paced h = go (steps_due before (counts_o
 pub call_remembers : (wanted : ℕ) (s t : State) (before after : Pace) (work : Work) → IsPacedWork wanted s t before after work → Remembers after t
 call_remembers wanted s t before after work paced = grind (arith, common_steps)
 
-turns_ahead : (s : State) (pace : Pace) (turns : List Turn) (most : ℕ) → IsState s → Remembers pace s → AreTurns s pace turns → work_left s ≤ most + pace.owed
+pub turns_ahead : (s : State) (pace : Pace) (turns : List Turn) (most : ℕ) → IsState s → Remembers pace s → AreTurns s pace turns → work_left s ≤ most + pace.owed
     → IsState (after_turns s pace turns).0 × (work_left (after_turns s pace turns).0 ≤ most + (after_turns s pace turns).1.owed)
 turns_ahead s pace [] most h remembers k low = (h, low)
 turns_ahead s pace (turn ∷ turns) most h remembers k low =
@@ -112,7 +112,7 @@ turns_logs s pace turns most h remembers k low =
 
 -- ---- where words are not bounded, no step is owed
 
-call_owes : (wanted : ℕ) (s t : State) (before after : Pace) (work : Work) → IsPacedWork wanted s t before after work → before.words ≡ 0 → (after.words ≡ 0) × (after.owed ≡ 0)
+pub call_owes : (wanted : ℕ) (s t : State) (before after : Pace) (work : Work) → IsPacedWork wanted s t before after work → before.words ≡ 0 → (after.words ≡ 0) × (after.owed ≡ 0)
 call_owes wanted s t before after work paced free = grind (arith, common_steps, cond_both, leb-true, and_parts)
 
 pub turns_owe : (s : State) (pace : Pace) (turns : List Turn) → AreTurns s pace turns → pace.words ≡ 0 → pace.owed ≡ 0 → (after_turns s pace turns).1.owed ≡ 0

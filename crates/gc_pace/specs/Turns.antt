@@ -1,11 +1,11 @@
 -- Many calls of paced work, with commands of mutators between them.
-use Rattle.std.specs.Prelude.{◌≡◌, ℕ, ◌-◌, ◌<◌, ◌≤◌, List, [], ◌∷◌, ⊤}
+use Rattle.std.specs.Prelude.{◌≡◌, ℕ, ◌+◌, ◌-◌, ◌<◌, ◌≤◌, List, [], ◌∷◌, ⊤}
 use Rattle.std.specs.List.{AllByRecursion}
 use Rattle.gc_graph.specs.declared.command.Op.{Op}
 use Rattle.gc_plan.specs.State.{State}
 use Rattle.gc_plan.specs.Steps.{mutate}
 use Rattle.gc_plan.specs.Runs.{HasRange}
-use Rattle.gc_plan.specs.Progress.{work_left}
+use Rattle.gc_plan.specs.Progress.{entries_left, work_left}
 use Rattle.gc_pace.specs.Pace.{WorkGoesOn, IsPacedWork, steps_left}
 use Rattle.gc_pace.specs.Counts.{counts_of}
 use Rattle.gc_pace.specs.declared.pace.Pace.{Pace}
@@ -55,3 +55,14 @@ AreFew s (turn ∷ turns) = (steps_left (counts_of (after_commands s turn.comman
 pub record Remembers (pace : Pace) (s : State) : Type 0 where
   pub end : pace.end ≡ (counts_of s).end
   pub logged : pace.logged ≡ (counts_of s).logged
+
+-- the steps follow from the counts, no call is bounded, and no step is owed
+pub record IsUnbounded (pace : Pace) : Type 0 where
+  pub rate : pace.rate ≡ 0
+  pub words : pace.words ≡ 0
+  pub owed : pace.owed ≡ 0
+
+-- from s to t at most this many words were allocated, and this many entries logged
+pub record HaveTaken (words entries : ℕ) (s t : State) : Type 0 where
+  pub allocated : s.heap.free ≤ t.heap.free + words
+  pub logged : entries_left t ≤ entries_left s + entries
