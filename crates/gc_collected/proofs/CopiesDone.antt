@@ -68,7 +68,7 @@ numbers_kept (w ∷ values) (suc i) (suc j) n v is all = numbers_kept values i j
 -- ---- two objects
 
 -- fields of one object from i on take as many values of the other from j on
-pub record CanCopy (target source : Object) (i j count : ℕ) : Type 0 where
+record CanCopy (target source : Object) (i j count : ℕ) : Type 0 where
   wide : i + count ≤ length target.fields
   long : j + count ≤ length source.fields
   taken : (not target.raw || list_all is_number (take count (drop j source.fields))) ≡ true
@@ -83,7 +83,7 @@ copy_done : (target source : Object) (i j count : ℕ) → CanCopy target source
 copy_done target source i j count can = grind (arith, common_steps, values_taken, le-leb)
 
 -- one field further, after its value was written to the first object
-abbrev pub first_value : Object → ℕ → Value
+abbrev first_value : Object → ℕ → Value
 first_value source j = get_or source.fields j Nil
 
 first_there : (target source : Object) (i j count : ℕ) → CanCopy target source i j (suc count) → slice_get source.fields j ≡ Some (first_value source j)
@@ -134,32 +134,32 @@ referred objects (Num n) o found = absurd (let no : None ≡ Some o = found in c
 referred objects (Ref b) o found = (b, refl, found)
 
 -- what both commands for one field do
-pub record OneCopied (g new : Graph) (m a i j count : ℕ) (d s : SlotName) : Type 0 where
+record OneCopied (g new : Graph) (m a i j count : ℕ) (d s : SlotName) : Type 0 where
   target : root new (place d m) ≡ Ref a
   rest : copy_reply (suc i) (suc j) count (object_in new d m) (object_in new s m) ≡ Done
 
 module _ (g : Graph) (m a i j count : ℕ) (d s t : SlotName) (apart : place t m ≢ place d m) (beside : place t m ≢ place s m) (within : place t m < length g.roots) (target : root g (place d m) ≡ Ref a)
     (done : copy_reply i j (suc count) (object_in g d m) (object_in g s m) ≡ Done) where
 
-  abbrev pub found : (o : Object) × (p : Object) × (object_in g d m ≡ Some o) × (object_in g s m ≡ Some p)
+  abbrev found : (o : Object) × (p : Object) × (object_in g d m ≡ Some o) × (object_in g s m ≡ Some p)
   found = both_found (object_in g d m) (object_in g s m) i j (suc count) done
 
-  abbrev pub taker : Object
+  abbrev taker : Object
   taker = found.0
 
-  abbrev pub giver : Object
+  abbrev giver : Object
   giver = found.1
 
   can : CanCopy taker giver i j (suc count)
   can = can_copy taker giver i j (suc count) (sym (ap (λ o. copy_reply i j (suc count) o (Some giver)) found.2 ∙ refl) ∙ sym (ap (λ p. copy_reply i j (suc count) (object_in g d m) p) found.3) ∙ done)
 
-  abbrev pub value : Value
+  abbrev value : Value
   value = first_value giver j
 
-  abbrev pub got : Graph
+  abbrev got : Graph
   got = set_root g (place t m) value
 
-  abbrev pub put : Graph
+  abbrev put : Graph
   put = record got { objects = set_field g.objects a i value }
 
   there : lookup g.objects a ≡ Some taker
