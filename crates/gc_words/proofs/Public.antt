@@ -11,7 +11,7 @@ pub use Rattle.gc_words.proofs.References.{closed_empty, closed_field, closed_fi
 pub use Rattle.gc_words.proofs.Spelled.{cleared, laid_out, laid_out_words, length_relinked, link_spelled, relinked, spelled_words, walk_spelled}
 pub use Rattle.gc_words.proofs.Starts.{StandsAt, ok_is, stands, stands_in, walked_blocks}
 pub use Rattle.gc_words.proofs.Steps.{Behind, at_end, behind, has_next, has_start_from, same_fault, step, take_add}
-pub use Rattle.gc_words.proofs.Walks.{BlockHasField, First, Walked, fields_in, first, header_counted, object_walked, objects_set, same_walk, starts_above, walk_field, walk_placed, written_back}
+pub use Rattle.gc_words.proofs.Walks.{BlockHasField, First, Walked, fields_in, first, header_counted, object_walked, objects_set, read_back, same_walk, starts_above, walk_field, walk_placed, written_back}
 pub use Rattle.gc_words.proofs.Writes.{CanPlaceBlock, block_placed, can_place_fresh, field_read, field_written, header_read, link_written, none_of, placed, some_of, space_of}
 pub use Rattle.gc_words.specs.Internal.Spelling.{IsBlock, LaidOut}
 pub use Rattle.gc_words.specs.Internal.Walking.{StandsIn, block_from, walk_from, walk_on}

@@ -1,0 +1,94 @@
+-- Steps with both ends at hand: the log changes hands, and the targets of the mutator's roots are wanted.
+use Rattle.std.proofs.Common.{◌≡◌, ℕ, true, List, [], ◌∷◌, ◌++◌, set, refl, sym, ◌∙◌, subst, inl, inr, ⊎_elim}
+use Rattle.std.specs.Prelude.{is_some}
+use mathlib.Core.Option.{none, some}
+use lib.ListN.{get_elem?}
+use lib.Seq.{set-get_or}
+use Rattle.atomic_table.specs.Table.{step, keeps, Allows}
+use Rattle.gc_graph.specs.Graph.{Object, Ref}
+use Rattle.gc_words.specs.Word.{value_of}
+use Rattle.gc_words.specs.Image.{block_at, objects_of}
+use Rattle.gc_words.specs.Closed.{IsRootWord, RefersToStart}
+use Rattle.gc_plan.specs.State.{Collection}
+use Rattle.gc_plan.specs.Belonging.{IsOpened, IsDue, IsLogged}
+use Rattle.gc_plan.proofs.Public.{its_replicas, belongs_from, replicas_due, in_left, in_right}
+use Rattle.gc_concurrent.specs.Ends.{Known, Mine, Theirs}
+use Rattle.gc_concurrent.specs.Internal.Plans.{collection_of, plan}
+use Rattle.gc_concurrent.specs.Internal.Rule.{IsConcurrent, Seated, Sat, logs_taken, wants, tells_take, tells_root}
+use Rattle.gc_concurrent.proofs.Hands.{St, seat_set}
+use Rattle.gc_concurrent.proofs.Logs.{of_two, to_two, in_either}
+use Rattle.gc_concurrent.proofs.Loosely.{Leaves, loosely}
+use Rattle.gc_concurrent.proofs.Copying.{want}
+
+-- the mutator's entries go behind the collector's
+taken_opened : (m : Mine) (t : Theirs) → IsOpened (plan m t) (collection_of m t)
+    → IsOpened (plan (record m { log = [] }) (record t { due = t.due ++ m.log })) (collection_of (record m { log = [] }) (record t { due = t.due ++ m.log }))
+taken_opened m t h =
+    let objects : List (ℕ × Object) = objects_of m.space.words in
+    let c : Collection = collection_of m t in
+    let d : Collection = record c { logs = [] ∷ (t.due ++ m.log) ∷ [] } in
+    let forth : (a i : ℕ) → IsLogged c a i → IsLogged d a i = λ a i x. of_two (a, i) [] (t.due ++ m.log)
+    (⊎_elim (λ l. inr (in_right (a, i) t.due m.log l)) (λ l. inr (in_left (a, i) t.due m.log l)) (to_two (a, i) m.log t.due x)) in
+    let back : (a i : ℕ) → IsLogged d a i → IsLogged c a i = λ a i x. of_two (a, i) m.log t.due
+    (⊎_elim (λ (l : ⊥). absurd l) (λ l. ⊎_elim (λ u. inr u) (λ u. inl u) (in_either (a, i) t.due m.log l)) (to_two (a, i) [] (t.due ++ m.log) x)) in
+    record {
+      belongs = belongs_from (IsDue d) objects d
+          (replicas_due objects c.size (IsDue c) (IsDue d) c.replicas (its_replicas (IsDue c) objects c h.belongs) (λ r k i w u. ⊎_elim (λ x. inl x) (λ x. inr (forth r.original i x)) u))
+          (h.belongs).scan (λ a i x. (h.belongs).entries a i (back a i x)) (h.belongs).numbers;
+      size = h.size;
+      logs = refl;
+    }
+
+take_at : (slots size : ℕ) (s : St) (r : IsConcurrent size s) (k id : ℕ) (me : Sat) → get_elem? s.views id ≡ some me.0 → me.0.writes ≡ true → me.0.copies ≡ true
+    → Leaves size s k id me (λ n m. m ≡ (logs_taken me.0, me.1))
+take_at slots size s r k id me seat writes copies =
+    let own = r.seats id me.0 seat in
+    let mine : me.0.mine ≡ r.mine = ((own.0) writes).1 in
+    let theirs : me.0.theirs ≡ r.theirs = ((own.1) copies).1 in
+    let m' : Mine = record r.mine { log = [] } in
+    let t' : Theirs = record r.theirs { due = r.theirs.due ++ r.mine.log } in
+    let w : Known = record me.0 { mine = m'; theirs = t' } in (
+      w,
+      keeps,
+      tt,
+      subst (λ (ws : List ℕ). IsConcurrent size (record { words = ws; homes = s.homes; views = set s.views id w })) (sym (set-get_or s.words k 0)) (record {
+        mine = m';
+        theirs = t';
+        writer = r.writer;
+        copier = r.copier;
+        wide = r.wide;
+        sized = r.sized;
+        older = r.older;
+        now = r.now;
+        free = r.free;
+        space = r.space;
+        closed = r.closed;
+        wanted = r.wanted;
+        opened = taken_opened r.mine r.theirs r.opened;
+        seats = seat_set (Seated r.writer r.copier m' t') s.views id w
+            ((λ p. ((own.0 p).0, refl)), λ p. ((own.1 p).0, refl))
+            (λ j u other e. ((λ p. absurd (other ((((r.seats j u e).0 p).0) ∙ sym ((own.0 writes).0)))), λ p. absurd (other ((((r.seats j u e).1 p).0) ∙ sym ((own.1 copies).0)))));
+      }),
+      λ j. (record me.0 { mine = record (sym mine j) { log = [] }; theirs = record (sym theirs j) { due = (sym theirs j).due ++ (sym mine j).log } }, me.1),
+    )
+
+pub takes_rule : (slots size k id : ℕ) (me : Sat) → me.0.writes ≡ true → me.0.copies ≡ true
+    → Allows (IsConcurrent size) slots id me k (λ x. x) (tells_take (step slots k 0 0 none) me)
+takes_rule slots size k id me writes copies s r _ seat _ = loosely size s k id me (λ n m. m ≡ (logs_taken me.0, me.1)) seat (take_at slots size s r k id me seat writes copies)
+
+-- ---- roots
+
+pub roots_rule : (slots size id : ℕ) (me : Sat) (w name : ℕ) → me.0.writes ≡ true → me.0.copies ≡ true → IsRootWord me.0.mine.space.words w → value_of w ≡ Ref name
+    → Allows (IsConcurrent size) slots id me name (λ x. x) (tells_root (step slots name 0 0 none) me)
+roots_rule slots size id me w name writes copies fine is s r _ seat _ =
+    let mine : me.0.mine ≡ r.mine = ((r.seats id me.0 seat).0 writes).1 in
+    let theirs : me.0.theirs ≡ r.theirs = ((r.seats id me.0 seat).1 copies).1 in
+    let fine' : IsRootWord r.mine.space.words w = subst (λ (m : Mine). IsRootWord m.space.words w) mine fine in
+    let start : is_some (block_at r.mine.space.words name) ≡ true = subst (RefersToStart r.mine.space.words) is fine'.start in
+    loosely size s name id me (λ n m. m ≡ (record me.0 { theirs = wants name me.0.theirs }, me.1)) seat (
+      record me.0 { theirs = wants name r.theirs },
+      keeps,
+      tt,
+      want size s r name id me name seat copies start,
+      λ j. (record me.0 { theirs = wants name (sym theirs j) }, me.1),
+    )

@@ -1,0 +1,20 @@
+-- A root takes the word of another one.
+use Rattle.std.proofs.Common.{◌≡◌, ap, ◌∙◌, sym, refl, arith}
+use Rattle.std.specs.Prelude.{slice_index}
+use Rattle.gc_graph.specs.Slots.{place}
+use Rattle.gc_graph.specs.Graph.{root, set_root}
+use Rattle.gc_graph.specs.declared.command.Op.TheVariants.{Move}
+use Rattle.gc_graph.specs.declared.reply.Reply.TheVariants.{Done}
+use Rattle.gc_words.specs.Word.{value_of}
+use Rattle.gc_heap.specs.Heap.{HeapWords, graph_in}
+use Rattle.gc_heap.proofs.Public.{read_root, at_root, took_root}
+use Rattle.gc_concurrent.specs.Holders.{heap_in}
+use Rattle.gc_concurrent.proofs.commands.Commander.move_slot.Goals as goal
+
+pub returns-clause-step : goal.returns-clause-step
+returns-clause-step c =
+    let h : HeapWords = heap_in c.args.self.now in
+    let read : c.index-word.result.now ≡ slice_index h.roots c.place.result = read_root h h.roots c.place.result _ refl (let r = c.args.self.now.sound.roots in let b = c.place.ensures.bound in omega arith) c.index-word.ensures in
+    let given : root (graph_in h) (place c.args.s 0) ≡ value_of c.index-word.result.now = ap (root (graph_in h)) (sym c.place.ensures.value) ∙ at_root h c.place.result c.index-word.result.now read in
+    (took_root h (heap_in c.set_at.new.self) 0 (Move c.args.d c.args.s) c.place-2.result c.index-word.result.now (value_of c.index-word.result.now) c.set_at.result (λ none. none)
+    (λ i. (Done, set_root (graph_in h) (sym c.place-2.ensures.value i) (given i))) (λ i. value_of c.index-word.result.now) c.set_at.ensures.done c.set_at.ensures.heap).step

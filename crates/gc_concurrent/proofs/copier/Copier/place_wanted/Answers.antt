@@ -1,0 +1,153 @@
+-- The header is read, and the replica lies at the end.
+use Rattle.std.proofs.Common.{rules, ◌≡◌, ◌≢◌, ℕ, ◌+◌, ◌<◌, ◌≤◌, Bool, true, false, true≢false, List, [], ◌∷◌, ◌++◌, drop, length, slice_index, Some, None, is_some, refl, ap, sym, ◌∙◌, subst, inl, cond, arith}
+use Rattle.std.specs.Prelude.{if◌then◌else◌, nat_lt, slice_set}
+use Rattle.std.proofs.lemmas.Bool.{cond-true, cond-false}
+use Rattle.atomic_table.specs.Seated.{TableId}
+use Rattle.gc_graph.specs.Graph.{Object}
+use Rattle.gc_graph.specs.Machine.{object_words}
+use Rattle.gc_words.specs.Word.{read_header}
+use Rattle.gc_words.specs.Space.{SpaceWords, CanPlace, end_of, free_in, with_object, with_link}
+use Rattle.gc_words.specs.declared.header.Header.{Header}
+use Rattle.gc_words.proofs.Public.{written_back}
+use Rattle.gc_plan.specs.State.{replica_of, new_free, new_end}
+use Rattle.gc_plan.specs.Members.{In}
+use Rattle.gc_copy.specs.Words.{replicas_in}
+use Rattle.gc_concurrent.specs.declared.copier.Copier.{Copier}
+use Rattle.gc_concurrent.specs.Ends.{Theirs}
+use Rattle.gc_concurrent.specs.Internal.Rule.{Sat, Loose, placed_one, entries_of_fields, to_fill}
+use Rattle.gc_concurrent.specs.Ends.{its}
+use Rattle.gc_concurrent.specs.Internal.Copiers.{Claims}
+use Rattle.gc_concurrent.proofs.TiedCells.{tied, tied_words}
+use Rattle.gc_concurrent.proofs.Placing.{places}
+use Rattle.gc_concurrent.proofs.Memory.{at_place, wanted_near, unclaimed, has_room, no_room, placed_same, claims_placed, end_is}
+use Rattle.gc_concurrent.proofs.InHand.{mem, keeps_seat, theirs_is}
+use Rattle.gc_concurrent.proofs.copier.Copier.place_wanted.Goals as goal
+use Rattle.gc_concurrent.proofs.copier.Copier.place_wanted.Goals.{After-load-word}
+
+wanted_in : (a : Copier) → a.has_wanted ≡ true → In a.wanted a.seat.me.0.theirs.wanted
+wanted_in a h = subst (In a.wanted) (sym (a.wants h)) (inl refl)
+
+low : (a : Copier) → a.has_wanted ≡ true → a.wanted + 2 ≤ a.seat.me.0.theirs.old
+low a h = wanted_near a.seat.me.0.theirs a.loose a.wanted (wanted_in a h)
+
+missing : (a : Copier) (x : ℕ) → a.has_wanted ≡ true → x ≡ Rattle.std.proofs.Common.get_or a.claims.items a.wanted x → x ≡ 0 → replica_of (its a.seat.me.0.theirs) a.wanted ≡ None
+missing a x h e z =
+    let l = low a h in
+    unclaimed a.claims.items a.seat.me.0.theirs a.wanted a.loose a.claimed (omega arith) (at_place a.claims.items a.wanted x (let n = a.claimed.long in omega arith) e ∙ z)
+
+pub index-requires : goal.index-requires
+index-requires c = let l = low c.args.self.now c.requires.wanted in let n = c.args.self.now.claimed.long in omega arith
+
+pub load-word-requires : goal.load-word-requires
+load-word-requires c =
+    let a = c.args.self.now in (
+      tied _ _ _ c.deref-cells.ensures a.row.0,
+      (let l = low a c.requires.wanted in let o = a.sized.0 in let w = tied_words _ _ _ _ c.deref-cells.ensures a.row.0 a.row.1 in omega arith),
+      places _ _ _ _ a.wanted a.copies (wanted_in a c.requires.wanted) (missing a c.index.result.now c.requires.wanted c.index.ensures c.if-index-ne0.false),
+    )
+
+module _ (c : After-load-word) where
+  abbrev a : Copier
+  a = c.args.self.now
+
+  abbrev t : Theirs
+  t = c.args.self.now.seat.me.0.theirs
+
+  none : replica_of (its t) a.wanted ≡ None
+  none = missing a c.index.result.now c.requires.wanted c.index.ensures c.if-index-ne0.false
+
+  told : (o : Object) × (read_header c.load-word.result ≡ Some (record { raw = o.raw; kind = o.kind; len = length o.fields }))
+      × (c.load-word.new.seat.me ≡ (record a.seat.me.0 { theirs = if nat_lt (new_free (its t)) (object_words (length o.fields)) then t else placed_one a.wanted o t }, a.seat.me.1))
+  told = c.load-word.ensures.2.0 (wanted_in a c.requires.wanted) none
+
+  same_header : (h : Header) → read_header c.load-word.result ≡ Some h → h ≡ record { raw = told.0.raw; kind = told.0.kind; len = length told.0.fields }
+  same_header h e = let both : Some h ≡ Some (record { raw = told.0.raw; kind = told.0.kind; len = length told.0.fields }) = sym e ∙ told.1 in cc
+
+  copies : c.load-word.new.seat.me.0.copies ≡ true
+  copies = ap (λ (m : Sat). m.0.copies) told.2 ∙ a.copies
+
+  loose : ∥ Loose c.load-word.new.seat.me.0.theirs ∥₁
+  loose = c.load-word.ensures.2.1 copies
+
+  -- there is room
+  placed : (h : Header) → read_header c.load-word.result ≡ Some h → object_words h.len ≤ free_in a.space → c.load-word.new.seat.me ≡ (record a.seat.me.0 { theirs = placed_one a.wanted told.0 t }, a.seat.me.1)
+  placed h e fits = told.2 ∙ (λ i. (
+    record a.seat.me.0 {
+      theirs = cond-false (nat_lt (new_free (its t)) (object_words (length told.0.fields))) t (placed_one a.wanted told.0 t)
+          (has_room t a.space (length told.0.fields) (mem a) (let n = ap (λ (x : Header). x.len) (same_header h e) in omega arith)) i;
+    },
+    a.seat.me.1,
+  ))
+
+  -- there is none
+  stayed : (h : Header) → read_header c.load-word.result ≡ Some h → (object_words h.len ≤ free_in a.space → ⊥) → c.load-word.new.seat.me ≡ (record a.seat.me.0 { theirs = t }, a.seat.me.1)
+  stayed h e full = told.2 ∙ (λ i. (
+    record a.seat.me.0 {
+      theirs = cond-true (nat_lt (new_free (its t)) (object_words (length told.0.fields))) t (placed_one a.wanted told.0 t)
+          (no_room t a.space (length told.0.fields) (mem a) (λ f. full (let n = ap (λ (x : Header). x.len) (same_header h e) in omega arith))) i;
+    },
+    a.seat.me.1,
+  ))
+
+pub of_word-header-requires : goal.of_word-header-requires
+of_word-header-requires c = let l = (goal.at.of_word-header-requires c).After-load-word in ap is_some (told l).1
+
+pub invariant_of-self-then-not-has_room : goal.invariant_of-self-then-not-has_room
+invariant_of-self-then-not-has_room c =
+    let l = (goal.at.invariant_of-self-then-not-has_room c).After-load-word in
+    let went = stayed l c.of_word-header.result c.of_word-header.ensures (λ f. true≢false (sym (c.has_room.ensures.1 (let n = c.len.ensures in omega arith)) ∙ c.if-not-has_room.true)) in
+    let is : c.load-word.new.seat.me.0.theirs ≡ t l = theirs_is (a l).seat.me c.load-word.new.seat.me (t l) went in
+    record {
+      row = ((a l).row.0 ∙ sym c.load-word.ensures.0, ap (λ (i : TableId). i.words) c.load-word.ensures.0 ∙ (a l).row.1, (a l).row.2);
+      copies = copies l;
+      shaped = (a l).shaped;
+      sized = (ap (λ (y : Theirs). y.old) is ∙ (a l).sized.0, (a l).sized.1 ∙ sym (ap (λ (y : Theirs). y.size) is));
+      same = ap (λ (y : Theirs). y.replicas) is ∙ (a l).same;
+      scans = (ap (λ (y : Theirs). y.scan_place) is ∙ (a l).scans.0, ap (λ (y : Theirs). y.scan_field) is ∙ (a l).scans.1);
+      dues = (ap (λ (y : Theirs). y.due) is ∙ (a l).dues.0, (a l).dues.1, (a l).dues.2);
+      wants = λ w. ap (λ (y : Theirs). y.wanted) is ∙ (a l).wants w;
+      claimed = subst (Claims (a l).claims.items) (sym is) (a l).claimed;
+      loose = loose l;
+    }
+
+pub returns-then-not-has_room-clause-seat : goal.returns-then-not-has_room-clause-seat
+returns-then-not-has_room-clause-seat c =
+    let l = (goal.at.returns-then-not-has_room-clause-seat c).After-load-word in
+    keeps_seat (a l).seat.me c.load-word.new.seat.me (t l) (stayed l c.of_word-header.result c.of_word-header.ensures (λ f. true≢false (sym (c.has_room.ensures.1 (let n = c.len.ensures in omega arith)) ∙ c.if-not-has_room.true))) refl
+
+pub index_mut-requires : goal.index_mut-requires
+index_mut-requires c = let l = low c.args.self.now c.requires.wanted in let n = c.args.self.now.claimed.long in omega arith
+
+pub invariant_of-self-2 : goal.invariant_of-self-2
+invariant_of-self-2 c =
+    let l = (goal.at.invariant_of-self-2 c).After-load-word in
+    let h : Header = c.of_word-header.result in
+    let o : Object = (told l).0 in
+    let u : Theirs = placed_one (a l).wanted o (t l) in
+    let fits : object_words h.len ≤ free_in (a l).space = (let f = c.has_room.ensures.0 c.if-not-has_room.false in let n = c.len.ensures in omega arith) in
+    let can : CanPlace (a l).space h = record { shaped = (a l).shaped; header = (written_back c.load-word.result h c.of_word-header.ensures).0; room = fits } in
+    let went = placed l h c.of_word-header.ensures fits in
+    let is : c.load-word.new.seat.me.0.theirs ≡ u = theirs_is (a l).seat.me c.load-word.new.seat.me u went in
+    let at : c.place-at.result.0 ≡ end_of (a l).space = c.place-at.ensures.at in
+    let space : c.set_link.new.self ≡ with_link (with_object (a l).space h) (end_of (a l).space) (a l).wanted = c.set_link.ensures.words ∙ (λ i. with_link (c.place-at.ensures.words i) (c.place-at.ensures.at i) (c.from.ensures i)) in
+    let place : new_end (its (t l)) ≡ c.place-at.result.0 = end_is (t l) (a l).space (mem (a l)) ∙ sym at in
+    let td : (t l).due ≡ drop (a l).next (a l).due.items = (a l).dues.0 ∙ ap (λ n. entries_of_fields (a l).fill (a l).fill_next n ++ drop (a l).next (a l).due.items) c.requires.filled in
+    let header : h ≡ record { raw = o.raw; kind = o.kind; len = length o.fields } = same_header l h c.of_word-header.ensures in
+    let tf : to_fill o ≡ c.to_fill-self.result = sym (c.to_fill-self.ensures ∙ (λ i. if (header i).raw then (header i).len else 0)) in
+    record {
+      row = ((a l).row.0 ∙ sym c.load-word.ensures.0, ap (λ (i : TableId). i.words) c.load-word.ensures.0 ∙ (a l).row.1, (a l).row.2);
+      copies = copies l;
+      shaped = c.set_link.ensures.shaped;
+      sized = (ap (λ (y : Theirs). y.old) is ∙ (a l).sized.0, ap (λ (x : SpaceWords). x.size) space ∙ ((a l).sized.1 ∙ sym (ap (λ (y : Theirs). y.size) is)));
+      same = ap (λ (y : Theirs). y.replicas) is ∙ (placed_same (t l) (a l).space (a l).wanted h o (mem (a l)) header can ∙ ap (λ (x : SpaceWords). replicas_in x.words) (sym space));
+      scans = (ap (λ (y : Theirs). y.scan_place) is ∙ (a l).scans.0, ap (λ (y : Theirs). y.scan_field) is ∙ (a l).scans.1);
+      dues = (ap (λ (y : Theirs). y.due) is ∙ (λ i. entries_of_fields (a l).wanted 0 (tf i) ++ td i), (a l).dues.1, omega arith);
+      wants = λ w. absurd (true≢false (sym w));
+      claimed = subst (λ (z : ℕ × Theirs). Claims (slice_set (a l).claims.items (a l).wanted z.0) z.1) (λ i. (place i, sym is i)) (claims_placed (a l).claims.items (t l) (a l).wanted o (a l).claimed (none l) (let w = low (a l) c.requires.wanted in omega arith));
+      loose = loose l;
+    }
+
+pub returns-clause-seat : goal.returns-clause-seat
+returns-clause-seat c =
+    let l = (goal.at.returns-clause-seat c).After-load-word in
+    keeps_seat (a l).seat.me c.load-word.new.seat.me (placed_one (a l).wanted (told l).0 (t l)) (placed l c.of_word-header.result c.of_word-header.ensures (let f = c.has_room.ensures.0 c.if-not-has_room.false in let n = c.len.ensures in omega arith)) refl

@@ -1,0 +1,217 @@
+-- A field is read and written, or the scan pointer goes on.
+use Rattle.std.proofs.Common.{rules, ◌≡◌, ◌≢◌, ◌⊎◌, ℕ, suc, ◌+◌, ◌<◌, ◌≤◌, Bool, true, false, List, [], ◌∷◌, ◌++◌, drop, length, slice_index, Some, None, refl, ap, sym, ◌∙◌, subst, inl, inr, ⊎_elim, arith}
+use Rattle.atomic_table.specs.Seated.{TableId}
+use Rattle.gc_graph.specs.Graph.{Value, Ref}
+use Rattle.gc_words.specs.Word.{value_of, is_value}
+use Rattle.gc_words.specs.Layout.{field_place, next_place}
+use Rattle.gc_words.specs.Image.{is_start}
+use Rattle.gc_words.specs.Space.{SpaceWords, with_field_at}
+use Rattle.gc_words.specs.declared.header.Header.{Header}
+use Rattle.gc_words.proofs.Public.{field_within}
+use Rattle.gc_plan.specs.State.{Replica, moved}
+use Rattle.gc_copy.specs.Words.{replicas_in}
+use Rattle.gc_concurrent.specs.declared.copier.Copier.{Copier}
+use Rattle.gc_concurrent.specs.Ends.{Theirs}
+use Rattle.gc_concurrent.specs.Internal.Rule.{Loose, scanned, brought, wants, after_read, lacks, read_as, passed}
+use Rattle.gc_concurrent.specs.Ends.{its}
+use Rattle.gc_concurrent.specs.Internal.Copiers.{Claims, moved_by}
+use Rattle.gc_concurrent.proofs.TiedCells.{tied, tied_words}
+use Rattle.gc_concurrent.proofs.Copying.{scans_at}
+use Rattle.gc_concurrent.proofs.Placing.{passes}
+use Rattle.gc_concurrent.proofs.Memory.{near, old_high, target_bound, lacks_not, lacks_so, moves_so, claims_kept, claims_as, claim_low, written_same}
+use Rattle.gc_concurrent.proofs.InHand.{mem, at_scan, scan_left, scan_over, header_there, keeps_seat, theirs_is, copies_is}
+use Rattle.gc_concurrent.proofs.copier.Copier.scan_one.Goals as goal
+use Rattle.gc_concurrent.proofs.copier.Copier.scan_one.Goals.{After-load-word}
+
+pub header-header-requires : goal.header-header-requires
+header-header-requires c = let s = at_scan c.args.self.now c.requires in ap Rattle.std.proofs.Common.is_some s.found
+
+-- ---- behind a replica
+
+pub load-requires : goal.load-requires
+load-requires c =
+    let a = c.args.self.now in
+    let s = at_scan a c.requires in (
+      tied _ _ _ c.deref-cells.ensures a.row.0,
+      (let n = near a.seat.me.0.theirs a.loose s.replica s.there in let o = a.sized.0 in let w = tied_words _ _ _ _ c.deref-cells.ensures a.row.0 a.row.1 in omega arith),
+      passes _ _ _ _ _ s.replica a.copies s.there (s.place_is ∙ sym a.scans.0) (scan_over a c.requires c.header-header.result c.header-header.ensures (c.is_scanned.ensures.done c.if-is_scanned.true)),
+    )
+
+pub invariant_of-self : goal.invariant_of-self
+invariant_of-self c =
+    let a = c.args.self.now in
+    let t = a.seat.me.0.theirs in
+    let s = at_scan a c.requires in
+    let u : Theirs = passed s.replica t in
+    let went = c.load.ensures.2.0 s.replica s.there (s.place_is ∙ sym a.scans.0) (scan_over a c.requires c.header-header.result c.header-header.ensures (c.is_scanned.ensures.done c.if-is_scanned.true)) in
+    let is : c.load.new.seat.me.0.theirs ≡ u = theirs_is a.seat.me c.load.new.seat.me u went in
+    let copies : c.load.new.seat.me.0.copies ≡ true = copies_is a.seat.me c.load.new.seat.me u went a.copies in
+    let same = header_there a.space.words a.scan_place s.block c.header-header.result s.found c.header-header.ensures in
+    let many : length s.replica.object.fields ≡ c.header-header.result.len = s.many ∙ ap (λ (x : Header). x.len) same in
+    record {
+      row = (a.row.0 ∙ sym c.load.ensures.0, ap (λ (i : TableId). i.words) c.load.ensures.0 ∙ a.row.1, a.row.2);
+      copies = copies;
+      shaped = a.shaped;
+      sized = (ap (λ (x : Theirs). x.old) is ∙ a.sized.0, a.sized.1 ∙ sym (ap (λ (x : Theirs). x.size) is));
+      same = ap (λ (x : Theirs). x.replicas) is ∙ a.same;
+      scans = (
+        ap (λ (x : Theirs). x.scan_place) is ∙ ((λ i. next_place (a.scans.0 i) (many i)) ∙ sym (c.next_start.ensures.place c.header-header.result c.header-header.ensures)),
+        ap (λ (x : Theirs). x.scan_field) is,
+      );
+      dues = (ap (λ (x : Theirs). x.due) is ∙ a.dues.0, a.dues.1, a.dues.2);
+      wants = λ w. ap (λ (x : Theirs). x.wanted) is ∙ a.wants w;
+      claimed = subst (Claims a.claims.items) (sym is) (claims_as a.claims.items t u refl refl a.claimed);
+      loose = c.load.ensures.2.1 copies;
+    }
+
+pub returns-then-is_scanned-clause-seat : goal.returns-then-is_scanned-clause-seat
+returns-then-is_scanned-clause-seat c =
+    let a = c.args.self.now in
+    let s = at_scan a c.requires in
+    keeps_seat a.seat.me c.load.new.seat.me (passed s.replica a.seat.me.0.theirs)
+    (c.load.ensures.2.0 s.replica s.there (s.place_is ∙ sym a.scans.0) (scan_over a c.requires c.header-header.result c.header-header.ensures (c.is_scanned.ensures.done c.if-is_scanned.true))) refl
+
+-- ---- a field
+
+pub overflow_cast-original : goal.overflow_cast-original
+overflow_cast-original c =
+    let a = c.args.self.now in
+    let s = at_scan a c.requires in
+    let n = near a.seat.me.0.theirs a.loose s.replica s.there in let o = old_high a.seat.me.0.theirs a.loose in let l = s.link in let e = c.link.ensures in omega arith
+
+place_of : (a : Copier) (q : Replica) (link k : ℕ) → k ≡ field_place link a.scan_field → q.original ≡ link → k ≡ field_place q.original a.seat.me.0.theirs.scan_field
+place_of a q link k e l = e ∙ (λ i. field_place (sym l i) (sym a.scans.1 i))
+
+pub load-word-requires : goal.load-word-requires
+load-word-requires c =
+    let a = c.args.self.now in
+    let s = at_scan a c.requires in
+    let left = scan_left a c.requires c.header-header.result c.header-header.ensures (c.is_scanned.ensures.left c.if-is_scanned.false) in
+    let is = place_of a s.replica c.link.result c.field_index.result c.field_index.ensures (s.link ∙ sym c.link.ensures) in (
+      tied _ _ _ c.deref-cells.ensures a.row.0,
+      (let n = near a.seat.me.0.theirs a.loose s.replica s.there in let o = a.sized.0 in let w = tied_words _ _ _ _ c.deref-cells.ensures a.row.0 a.row.1 in let f = left.1 in omega arith),
+      scans_at _ _ _ _ s.replica _ is a.copies s.there (s.place_is ∙ sym a.scans.0) left.0 left.1,
+    )
+
+module _ (c : After-load-word) where
+  abbrev a : Copier
+  a = c.args.self.now
+
+  abbrev t : Theirs
+  t = c.args.self.now.seat.me.0.theirs
+
+  abbrev q : Replica
+  q = (at_scan c.args.self.now c.requires).replica
+
+  abbrev v : Value
+  v = value_of c.load-word.result
+
+  left : (q.object.raw ≡ false) × (t.scan_field < length q.object.fields)
+  left = scan_left a c.requires c.header-header.result c.header-header.ensures (c.is_scanned.ensures.left c.if-is_scanned.false)
+
+  told : (is_value c.load-word.result ≡ true) × (c.load-word.new.seat.me ≡ (record a.seat.me.0 { theirs = after_read (scanned q.original t.scan_field v) (lacks (its t) v) t }, a.seat.me.1))
+  told = let s = at_scan a c.requires in
+      c.load-word.ensures.2.0 q s.there (s.place_is ∙ sym a.scans.0) left.0 left.1 (place_of a q c.link.result c.field_index.result c.field_index.ensures (s.link ∙ sym c.link.ensures))
+
+  after : Theirs
+  after = after_read (scanned q.original t.scan_field v) (lacks (its t) v) t
+
+  loose : ∥ Loose c.load-word.new.seat.me.0.theirs ∥₁
+  loose = c.load-word.ensures.2.1 (copies_is a.seat.me c.load-word.new.seat.me (after_read (scanned q.original t.scan_field v) (lacks (its t) v) t) told.1 a.copies)
+
+  bound : (x : ℕ) → v ≡ Ref x → x + 2 ≤ t.old
+  bound x is = target_bound t v (scanned q.original t.scan_field v) a.loose
+      (subst (λ (y : Theirs). ∥ Loose y ∥₁) (theirs_is a.seat.me c.load-word.new.seat.me (after_read (scanned q.original t.scan_field v) (lacks (its t) v) t) told.1) loose) x is
+
+pub moved_word-requires-clause-value : goal.moved_word-requires-clause-value
+moved_word-requires-clause-value c = (told (goal.at.moved_word-requires-clause-value c).After-load-word).0
+
+pub moved_word-requires-clause-inside : goal.moved_word-requires-clause-inside
+moved_word-requires-clause-inside c x is =
+    let b = bound (goal.at.moved_word-requires-clause-inside c).After-load-word x is in
+    let n = ap (length {A = ℕ}) c.as_slice.ensures.value in let m = c.args.self.now.claimed.long in omega arith
+
+pub moved_word-requires-clause-places : goal.moved_word-requires-clause-places
+moved_word-requires-clause-places c = subst (λ (row : List ℕ). (a : ℕ) → slice_index row a < 4294967295) (sym c.as_slice.ensures.value) (claim_low c.args.self.now.claims.items c.args.self.now.seat.me.0.theirs c.args.self.now.loose c.args.self.now.claimed)
+
+pub set_field-requires : goal.set_field-requires
+set_field-requires c =
+    let a = c.args.self.now in
+    field_within a.space.words a.scan_place a.scan_field c.header-header.result a.shaped.walked c.header-header.ensures (c.is_scanned.ensures.left c.if-is_scanned.false).1
+
+-- the view after the read, where the target has a replica or there is none
+follows : (c : After-load-word) → lacks (its (t c)) (v c) ≡ None → c.load-word.new.seat.me ≡ (record (a c).seat.me.0 { theirs = scanned (q c).original (t c).scan_field (v c) (t c) }, (a c).seat.me.1)
+follows c nl = (told c).1 ∙ (λ i. (record (a c).seat.me.0 { theirs = after_read (scanned (q c).original (t c).scan_field (v c)) (nl i) (t c) }, (a c).seat.me.1))
+
+-- the view after the read, where the target is wanted
+wanting : (c : After-load-word) (x : ℕ) → lacks (its (t c)) (v c) ≡ Some x → c.load-word.new.seat.me ≡ (record (a c).seat.me.0 { theirs = wants x (t c) }, (a c).seat.me.1)
+wanting c x is = (told c).1 ∙ (λ i. (record (a c).seat.me.0 { theirs = after_read (scanned (q c).original (t c).scan_field (v c)) (is i) (t c) }, (a c).seat.me.1))
+
+none_lacks : (c : After-load-word) (row : List ℕ) → row ≡ (a c).claims.items → ((x : ℕ) → v c ≡ Ref x → slice_index row x ≢ 0) → (lacks (its (t c)) (v c) ≡ None) × (moved (its (t c)) (v c) ≡ moved_by row (v c))
+none_lacks c row e ne =
+    let ne' = subst (λ (r : List ℕ). (x : ℕ) → v c ≡ Ref x → slice_index r x ≢ 0) e ne in (
+      lacks_not (a c).claims.items (t c) (v c) (a c).claimed (bound c) ne',
+      moves_so (a c).claims.items (t c) (v c) (a c).claimed (bound c) ne' ∙ ap (λ (r : List ℕ). moved_by r (v c)) (sym e),
+    )
+
+one_lacks : (c : After-load-word) (row : List ℕ) (x : ℕ) → row ≡ (a c).claims.items → v c ≡ Ref x → slice_index row x ≡ 0 → lacks (its (t c)) (v c) ≡ Some x
+one_lacks c row x e is zero = lacks_so (a c).claims.items (t c) (v c) x (a c).loose (a c).claimed (let b = bound c x is in omega arith) is (ap (λ (r : List ℕ). slice_index r x) (sym e) ∙ zero)
+
+pub invariant_of-self-in-Ok : goal.invariant_of-self-in-Ok
+invariant_of-self-in-Ok c =
+    let l = (goal.at.invariant_of-self-in-Ok c).After-load-word in
+    let s = at_scan (a l) c.requires in
+    let n = none_lacks l c.as_slice.result.now c.as_slice.ensures.value c.in-Ok.ensures.placed in
+    let u : Theirs = scanned (q l).original (t l).scan_field (v l) (t l) in
+    let went = follows l n.0 in
+    let is : c.load-word.new.seat.me.0.theirs ≡ u = theirs_is (a l).seat.me c.load-word.new.seat.me u went in
+    let copies : c.load-word.new.seat.me.0.copies ≡ true = copies_is (a l).seat.me c.load-word.new.seat.me u went (a l).copies in
+    let means : read_as (q l).object.raw c.in-Ok.moved ≡ moved (its (t l)) (v l) = ap (λ b. read_as b c.in-Ok.moved) (left l).0 ∙ (c.in-Ok.ensures.moved ∙ sym n.1) in
+    let there = subst (λ (x : ℕ × ℕ). Rattle.std.specs.Prelude.IsSome (Rattle.gc_words.specs.Image.field_at (a l).space.words x.0 x.1)) (λ i. (sym s.place_is i, sym (a l).scans.1 i))
+    (field_within (a l).space.words (a l).scan_place (a l).scan_field c.header-header.result (a l).shaped.walked c.header-header.ensures (c.is_scanned.ensures.left c.if-is_scanned.false).1) in
+    let wrote : u.replicas ≡ replicas_in (with_field_at (a l).space (q l).place (t l).scan_field c.in-Ok.moved).words = written_same (t l) (a l).space (q l) (t l).scan_field c.in-Ok.moved (v l) (mem (a l)) (a l).loose s.there there means in
+    let space : c.set_field.new.self ≡ with_field_at (a l).space (q l).place (t l).scan_field c.in-Ok.moved = c.set_field.ensures.words ∙ (λ i. with_field_at (a l).space (sym s.place_is i) (sym (a l).scans.1 i) c.in-Ok.moved) in
+    record {
+      row = ((a l).row.0 ∙ sym c.load-word.ensures.0, ap (λ (i : TableId). i.words) c.load-word.ensures.0 ∙ (a l).row.1, (a l).row.2);
+      copies = copies;
+      shaped = c.set_field.ensures.shaped;
+      sized = (ap (λ (x : Theirs). x.old) is ∙ (a l).sized.0, ap (λ (x : SpaceWords). x.size) space ∙ ((a l).sized.1 ∙ sym (ap (λ (x : Theirs). x.size) is)));
+      same = ap (λ (x : Theirs). x.replicas) is ∙ (wrote ∙ ap (λ (x : SpaceWords). replicas_in x.words) (sym space));
+      scans = (ap (λ (x : Theirs). x.scan_place) is ∙ (a l).scans.0, (let e = ap (λ (x : Theirs). x.scan_field) is in let f = (a l).scans.1 in omega arith));
+      dues = (ap (λ (x : Theirs). x.due) is ∙ (a l).dues.0, (a l).dues.1, (a l).dues.2);
+      wants = λ w. ap (λ (x : Theirs). x.wanted) is ∙ (a l).wants w;
+      claimed = subst (Claims (a l).claims.items) (sym is) (claims_as (a l).claims.items (brought (q l).original (t l).scan_field (v l) (t l)) u refl refl (claims_kept (a l).claims.items (t l) (q l).original (t l).scan_field (v l) (a l).claimed));
+      loose = loose l;
+    }
+
+pub invariant_of-self-in-Err : goal.invariant_of-self-in-Err
+invariant_of-self-in-Err c =
+    let l = (goal.at.invariant_of-self-in-Err c).After-load-word in
+    let x : ℕ = c.in-Err.target.0 in
+    let u : Theirs = wants x (t l) in
+    let went = wanting l x (one_lacks l c.as_slice.result.now x c.as_slice.ensures.value c.in-Err.ensures.wanted.0 c.in-Err.ensures.wanted.1) in
+    let is : c.load-word.new.seat.me.0.theirs ≡ u = theirs_is (a l).seat.me c.load-word.new.seat.me u went in
+    let copies : c.load-word.new.seat.me.0.copies ≡ true = copies_is (a l).seat.me c.load-word.new.seat.me u went (a l).copies in
+    record {
+      row = ((a l).row.0 ∙ sym c.load-word.ensures.0, ap (λ (i : TableId). i.words) c.load-word.ensures.0 ∙ (a l).row.1, (a l).row.2);
+      copies = copies;
+      shaped = (a l).shaped;
+      sized = (ap (λ (y : Theirs). y.old) is ∙ (a l).sized.0, (a l).sized.1 ∙ sym (ap (λ (y : Theirs). y.size) is));
+      same = ap (λ (y : Theirs). y.replicas) is ∙ (a l).same;
+      scans = (ap (λ (y : Theirs). y.scan_place) is ∙ (a l).scans.0, ap (λ (y : Theirs). y.scan_field) is ∙ (a l).scans.1);
+      dues = (ap (λ (y : Theirs). y.due) is ∙ (a l).dues.0, (a l).dues.1, (a l).dues.2);
+      wants = λ _. ap (λ (y : Theirs). y.wanted) is;
+      claimed = subst (Claims (a l).claims.items) (sym is) (claims_as (a l).claims.items (t l) u refl refl (a l).claimed);
+      loose = loose l;
+    }
+
+pub returns-in-Ok-clause-seat : goal.returns-in-Ok-clause-seat
+returns-in-Ok-clause-seat c =
+    let l = (goal.at.returns-in-Ok-clause-seat c).After-load-word in
+    keeps_seat (a l).seat.me c.load-word.new.seat.me (scanned (q l).original (t l).scan_field (v l) (t l)) (follows l (none_lacks l c.as_slice.result.now c.as_slice.ensures.value c.in-Ok.ensures.placed).0) refl
+
+pub returns-in-Err-clause-seat : goal.returns-in-Err-clause-seat
+returns-in-Err-clause-seat c =
+    let l = (goal.at.returns-in-Err-clause-seat c).After-load-word in
+    let x : ℕ = c.in-Err.target.0 in
+    keeps_seat (a l).seat.me c.load-word.new.seat.me (wants x (t l)) (wanting l x (one_lacks l c.as_slice.result.now x c.as_slice.ensures.value c.in-Err.ensures.wanted.0 c.in-Err.ensures.wanted.1)) refl

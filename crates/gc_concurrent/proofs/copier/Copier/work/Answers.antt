@@ -1,0 +1,12 @@
+-- One step after another.
+use Rattle.std.proofs.Common.{arith}
+use Rattle.gc_concurrent.proofs.Memory.{scan_end}
+use Rattle.gc_concurrent.proofs.InHand.{mem}
+use Rattle.gc_concurrent.proofs.copier.Copier.work.Goals as goal
+
+pub returns-then-self-end-clause-done : goal.returns-then-self-end-clause-done
+returns-then-self-end-clause-done c =
+    let a = c.apply_one.new.self in (
+      c.apply_one.ensures.none c.if-apply_one.false,
+      scan_end a.seat.me.0.theirs a.space (mem a) a.loose (let e = a.scans.0 in omega (arith, c.if-self-end.true, c.end.ensures.value)),
+    )

@@ -1,0 +1,138 @@
+-- Where nothing is due and each root has its replica, the new space is the mutator's next one.
+use Rattle.std.proofs.Common.{◌≡◌, ◌≢◌, ℕ, ◌+◌, ◌<◌, ◌≤◌, true, List, [], length, slice_index, map, ap, sym, ◌∙◌, subst, arith}
+use Rattle.std.proofs.lemmas.List.Elements.{All-nil}
+use Rattle.gc_graph.specs.Graph.{Ref}
+use Rattle.gc_graph.specs.Correspond.{Corresponding}
+use Rattle.gc_words.specs.Word.{value_of, word_of}
+use Rattle.gc_words.specs.Space.{SpaceWords}
+use Rattle.gc_words.specs.declared.value.Addr.{Addr}
+use Rattle.gc_words.specs.Closed.{IsClosed, IsRootWord}
+use Rattle.gc_heap.specs.Heap.{IsHeap, graph_in}
+use Rattle.gc_plan.specs.State.{pairs_of}
+use Rattle.gc_plan.specs.Steps.{scan_done}
+use Rattle.gc_concurrent.specs.declared.held.Held.{Held}
+use Rattle.gc_concurrent.specs.Ends.{Mine, opening_mine}
+use Rattle.gc_concurrent.specs.Heaps.{heap_of}
+use Rattle.gc_concurrent.specs.Internal.Rule.{Sat}
+use Rattle.gc_concurrent.specs.Ends.{its}
+use Rattle.gc_concurrent.specs.declared.held.Missing.{Missing}
+use Rattle.gc_concurrent.specs.declared.held.Missing.TheVariants.{Target}
+use Rattle.gc_concurrent.specs.Internal.Copiers.{moved_by, IsTargetIn}
+use Rattle.gc_concurrent.specs.Internal.Flip.{IsDone, Flips, new_heap_of, moved_words}
+use Rattle.gc_concurrent.proofs.TiedCells.{tied, tied_words}
+use Rattle.gc_concurrent.proofs.Opening.{splits_rule}
+use Rattle.gc_concurrent.proofs.Memory.{claim_low}
+use Rattle.gc_concurrent.proofs.InHand.{mem}
+use Rattle.gc_concurrent.proofs.Turn.{root_near, roots_placed, roots_moved, ready_in, root_missing}
+use Rattle.gc_concurrent.proofs.held.Held.flip.Goals as goal
+
+near : (h : Held) (k a : ℕ) → k < length h.roots.items → value_of (slice_index h.roots.items k) ≡ Ref a → a + 2 ≤ h.copier.seat.me.0.theirs.old
+near h k a l is = let n = root_near h.copier.seat.me.0.mine h.roots.items h.sound k a l is in let e = h.ended.1 in let s = h.copier.sized.0 in omega arith
+
+pub moved_roots-moved-requires-clause-inside : goal.moved_roots-moved-requires-clause-inside
+moved_roots-moved-requires-clause-inside c k a l is =
+    let h = c.args.self in
+    let e = c.as_slice-2.ensures.value in
+    let n = near h k a (subst (λ (r : List ℕ). k < length r) e l) (subst (λ (r : List ℕ). value_of (slice_index r k) ≡ Ref a) e is) in
+    let m = ap (length {A = ℕ}) c.as_slice.ensures.value in let g = h.copier.claimed.long in omega arith
+
+pub moved_roots-moved-requires-clause-places : goal.moved_roots-moved-requires-clause-places
+moved_roots-moved-requires-clause-places c =
+    let a = c.args.self.copier in
+    subst (λ (row : List ℕ). (x : ℕ) → slice_index row x < 4294967295) (sym c.as_slice.ensures.value) (claim_low a.claims.items a.seat.me.0.theirs a.loose a.claimed)
+
+-- a root whose target has no replica
+missing_at : (h : Held) (row roots : List ℕ) (at : Addr) (e : Missing) → row ≡ h.copier.claims.items → roots ≡ h.roots.items → e ≡ Target at → IsTargetIn e row roots → IsTargetIn (Target at) h.copier.claims.items h.roots.items
+missing_at h row roots at e row_is roots_is is t = subst (λ (z : Missing × (List ℕ × List ℕ)). IsTargetIn z.0 z.1.0 z.1.1) (λ i. (is i, (row_is i, roots_is i))) t
+
+pub want-requires-clause-low : goal.want-requires-clause-low
+want-requires-clause-low c =
+    let h = c.args.self in
+    let t = missing_at h c.as_slice.result.now c.as_slice-2.result.now c.in-Target.at _ c.as_slice.ensures.value c.as_slice-2.ensures.value c.in-Target.is c.in-Err.ensures.target in
+    let n = near h t.0 c.in-Target.at.0 t.1 t.2 in
+    let s = h.copier.sized.0 in omega arith
+
+pub returns-in-Target-clause-not_ready : goal.returns-in-Target-clause-not_ready
+returns-in-Target-clause-not_ready c _ =
+    let h = c.args.self in
+    let t = missing_at h c.as_slice.result.now c.as_slice-2.result.now c.in-Target.at _ c.as_slice.ensures.value c.as_slice-2.ensures.value c.in-Target.is c.in-Err.ensures.target in
+    root_missing h.copier.seat.me.0.mine h.copier.seat.me.0.theirs h.copier.claims.items h.roots.items h.copier.claimed h.copier.loose t.0 c.in-Target.at.0 t.1 t.2
+    (let n = near h t.0 c.in-Target.at.0 t.1 t.2 in omega arith) t.3
+
+-- nothing is left to do
+done : (h : Held) (row roots : List ℕ) → row ≡ h.copier.claims.items → roots ≡ h.roots.items → (h.copier.seat.me.0.theirs.due ≡ []) × (scan_done (its h.copier.seat.me.0.theirs) ≡ true)
+    → ((k a : ℕ) → k < length roots → value_of (slice_index roots k) ≡ Ref a → slice_index row a ≢ 0) → IsDone h.roots.items h.copier.seat.me.0
+done h row roots e f idle placed = record {
+  logged = h.empty.1;
+  applied = idle.0;
+  scanned = idle.1;
+  rooted = roots_placed h.copier.claims.items h.copier.seat.me.0.theirs h.roots.items h.copier.claimed (near h)
+      (subst (λ (z : List ℕ × List ℕ). (k a : ℕ) → k < length z.1 → value_of (slice_index z.1 k) ≡ Ref a → slice_index z.0 a ≢ 0) (λ i. (e i, f i)) placed);
+}
+
+-- the moved roots
+moves : (h : Held) (row roots : List ℕ) → row ≡ h.copier.claims.items → roots ≡ h.roots.items
+    → ((k a : ℕ) → k < length roots → value_of (slice_index roots k) ≡ Ref a → slice_index row a ≢ 0) → map (λ w. word_of (moved_by row (value_of w))) roots ≡ moved_words h.copier.seat.me.0.theirs h.roots.items
+moves h row roots e f placed =
+    (λ i. map (λ w. word_of (moved_by (e i) (value_of w))) (f i))
+    ∙ roots_moved h.copier.claims.items h.copier.seat.me.0.theirs h.roots.items h.copier.claimed (near h)
+    (subst (λ (z : List ℕ × List ℕ). (k a : ℕ) → k < length z.1 → value_of (slice_index z.1 k) ≡ Ref a → slice_index z.0 a ≢ 0) (λ i. (e i, f i)) placed)
+
+-- what a load shows where nothing is left to do
+shown : (h : Held) (row roots : List ℕ) → ((roots : List ℕ) → IsHeap (heap_of h.copier.seat.me.0.mine roots) → IsDone roots h.copier.seat.me.0 → Flips roots h.copier.seat.me.0.mine h.copier.seat.me.0.theirs)
+    → row ≡ h.copier.claims.items → roots ≡ h.roots.items → (h.copier.seat.me.0.theirs.due ≡ []) × (scan_done (its h.copier.seat.me.0.theirs) ≡ true)
+    → ((k a : ℕ) → k < length roots → value_of (slice_index roots k) ≡ Ref a → slice_index row a ≢ 0) → Flips h.roots.items h.copier.seat.me.0.mine h.copier.seat.me.0.theirs
+shown h row roots told e f idle placed = told h.roots.items h.sound (done h row roots e f idle placed)
+
+-- the new heap: the new space, with the moved roots
+new_is : (h : Held) (mine : Mine) (row roots moved : List ℕ) → mine ≡ opening_mine h.copier.space → moved ≡ map (λ w. word_of (moved_by row (value_of w))) roots
+    → row ≡ h.copier.claims.items → roots ≡ h.roots.items → ((k a : ℕ) → k < length roots → value_of (slice_index roots k) ≡ Ref a → slice_index row a ≢ 0)
+    → heap_of mine moved ≡ new_heap_of h.copier.space h.roots.items h.copier.seat.me.0.theirs
+new_is h mine row roots moved is moved_is e f placed = λ i. heap_of (is i) ((moved_is ∙ moves h row roots e f placed) i)
+
+pub open_cells-requires-clause-closed : goal.open_cells-requires-clause-closed
+open_cells-requires-clause-closed c =
+    let a = c.args.self.copier in
+    let told = shown c.args.self c.as_slice.result.now c.as_slice-2.result.now c.look.ensures.told c.as_slice.ensures.value c.as_slice-2.ensures.value (c.is_idle.ensures.idle c.if-not-is_idle.false) c.in-Ok.ensures.placed in
+    subst (λ (s : SpaceWords). IsClosed s.words []) (sym c.look.ensures.space) (record { fields = ((told.heap a.space (mem a)).closed).fields; roots = All-nil (IsRootWord a.space.words) })
+
+pub split_seat-seat-requires : goal.split_seat-seat-requires
+split_seat-seat-requires c =
+    let a = c.args.self.copier in
+    let o = c.in-Ok-open_cells.opened in
+    let view = c.in-Ok-open_cells.ensures.view in (
+      tied _ _ _ c.deref.ensures o.row.0,
+      (let w = tied_words _ _ _ _ c.deref.ensures o.row.0 o.row.1 in let s = c.in-Ok-open_cells.ensures.size in let e = ap (λ (x : SpaceWords). x.size) c.look.ensures.space in let l = a.shaped.size_low in omega arith),
+      splits_rule _ _ _ (ap (λ (m : Sat). m.0.writes) view) (ap (λ (m : Sat). m.0.copies) view),
+    )
+
+pub invariant_of-result-2 : goal.invariant_of-result-2
+invariant_of-result-2 c =
+    let a = c.args.self.copier in
+    let told = shown c.args.self c.as_slice.result.now c.as_slice-2.result.now c.look.ensures.told c.as_slice.ensures.value c.as_slice-2.ensures.value (c.is_idle.ensures.idle c.if-not-is_idle.false) c.in-Ok.ensures.placed in
+    let mine : c.split_seat-seat.result.me.0.mine ≡ opening_mine a.space = ap (λ (m : Sat). m.0.mine) c.split_seat-seat.ensures.4 ∙ (ap (λ (m : Sat). m.0.mine) c.in-Ok-open_cells.ensures.view ∙ ap opening_mine c.look.ensures.space) in
+    record {
+      ended = ap (λ (m : Mine). length m.space.words) mine ∙ sym (c.end-end.ensures.value ∙ ap (λ (s : SpaceWords). length s.words) c.look.ensures.space);
+      sound = subst IsHeap (sym (new_is c.args.self _ c.as_slice.result.now c.as_slice-2.result.now _ mine c.in-Ok.ensures.moved c.as_slice.ensures.value c.as_slice-2.ensures.value c.in-Ok.ensures.placed)) (told.heap a.space (mem a));
+    }
+
+pub returns-clause-replicas : goal.returns-clause-replicas
+returns-clause-replicas c =
+    let a = c.args.self.copier in
+    let told = shown c.args.self c.as_slice.result.now c.as_slice-2.result.now c.look.ensures.told c.as_slice.ensures.value c.as_slice-2.ensures.value (c.is_idle.ensures.idle c.if-not-is_idle.false) c.in-Ok.ensures.placed in
+    ap graph_in (new_is c.args.self _ c.as_slice.result.now c.as_slice-2.result.now _ (ap (λ (m : Sat). m.0.mine) c.split_seat-seat.ensures.4 ∙ (ap (λ (m : Sat). m.0.mine) c.in-Ok-open_cells.ensures.view ∙ ap opening_mine c.look.ensures.space))
+    c.in-Ok.ensures.moved c.as_slice.ensures.value c.as_slice-2.ensures.value c.in-Ok.ensures.placed) ∙ told.graph a.space (mem a)
+
+pub returns-clause-ready : goal.returns-clause-ready
+returns-clause-ready c =
+    let h = c.args.self in
+    let d = done h c.as_slice.result.now c.as_slice-2.result.now c.as_slice.ensures.value c.as_slice-2.ensures.value (c.is_idle.ensures.idle c.if-not-is_idle.false) c.in-Ok.ensures.placed in
+    ready_in h.copier.seat.me.0.mine h.copier.seat.me.0.theirs h.roots.items d.applied d.scanned d.rooted
+
+pub returns-clause-ok : goal.returns-clause-ok
+returns-clause-ok c =
+    let a = c.args.self.copier in
+    let told = shown c.args.self c.as_slice.result.now c.as_slice-2.result.now c.look.ensures.told c.as_slice.ensures.value c.as_slice-2.ensures.value (c.is_idle.ensures.idle c.if-not-is_idle.false) c.in-Ok.ensures.placed in (
+      pairs_of (its a.seat.me.0.theirs),
+      subst (Corresponding (pairs_of (its a.seat.me.0.theirs)) (graph_in (heap_of a.seat.me.0.mine c.args.self.roots.items))) (sym (returns-clause-replicas c)) told.corresponding,
+    )

@@ -1,0 +1,14 @@
+-- The write and its entry.
+use Rattle.std.proofs.Common.{arith}
+use Rattle.gc_words.proofs.Public.{field_read}
+use Rattle.gc_concurrent.proofs.TiedCells.{tied, tied_words}
+use Rattle.gc_concurrent.proofs.Writing.{puts_at}
+use Rattle.gc_concurrent.proofs.mutator.Mutator.set_field.Goals as goal
+
+pub store-requires : goal.store-requires
+store-requires c =
+    let f = field_read c.args.self.now.seat.me.0.mine.space.words c.args.at.0 c.args.i c.requires.shaped.walked c.requires.there in (
+      tied _ _ _ c.deref-cells.ensures c.args.self.now.row.0,
+      omega (arith, c.field_index.ensures, f.within, c.requires.shaped.end_high, tied_words _ _ _ _ c.deref-cells.ensures c.args.self.now.row.0 c.args.self.now.row.1, c.args.self.now.sized),
+      puts_at _ _ _ _ c.args.at.0 c.args.i _ _ f.block c.field_index.ensures c.args.self.now.writes f.found c.requires.there (c.requires.fits f.block f.found),
+    )

@@ -1,0 +1,34 @@
+-- What the types of the mutator's and the collector's side hold: a heap, and what the collector knows of it.
+use Rattle.std.specs.Prelude.{Bool}
+use Rattle.gc_heap.specs.Heap.{HeapWords, graph_in}
+use Rattle.gc_plan.specs.Steps.{is_ready}
+use Rattle.atomic_table.specs.Seated.{TableId}
+use Rattle.gc_concurrent.specs.declared.commands.Commander.{Commander}
+use Rattle.gc_concurrent.specs.declared.copier.Copier.{Copier}
+use Rattle.gc_concurrent.specs.declared.held.Held.{Held}
+use Rattle.gc_concurrent.specs.Ends.{Theirs, its}
+use Rattle.gc_concurrent.specs.Heaps.{heap_of}
+
+-- the heap of a mutator that runs
+abbrev pub heap_in : Commander → HeapWords
+heap_in c = heap_of c.mutator.seat.me.0.mine c.roots.items
+
+-- the cells that a mutator reads and writes
+abbrev pub cells_of : Commander → TableId
+cells_of c = c.mutator.seat.table_id
+
+-- the cells that a collector reads
+abbrev pub cells_read_by : Copier → TableId
+cells_read_by c = c.seat.table_id
+
+-- what the collector knows: its new space, what is due, and how far it has scanned
+abbrev pub known_to : Copier → Theirs
+known_to c = c.seat.me.0.theirs
+
+-- the heap of the mutator that a collector holds
+abbrev pub heap_held : Held → HeapWords
+heap_held h = heap_of h.copier.seat.me.0.mine h.roots.items
+
+-- Nothing is due, every replica is scanned, and each root's target has a replica.
+abbrev pub may_flip : Held → Bool
+may_flip h = is_ready (its (known_to h.copier)) (graph_in (heap_held h))

@@ -1,0 +1,8 @@
+-- Definitions that only private contracts and proofs need. They promise nothing to callers.
+pub mod Codes
+pub mod Plans
+pub mod Rule
+pub mod Flip
+pub mod Copiers
+pub mod Props
+pub mod Handshakes

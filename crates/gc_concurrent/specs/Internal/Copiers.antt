@@ -1,0 +1,32 @@
+-- The collector's memory.
+use Rattle.std.specs.Prelude.{◌≡◌, ℕ, ◌<◌, List, length, slice_index}
+use Rattle.gc_graph.specs.Graph.{Value, Nil, Num, Ref}
+use Rattle.gc_plan.specs.Linked.{old_links}
+use Rattle.gc_words.specs.Word.{value_of}
+use Rattle.gc_concurrent.specs.declared.held.Missing.{Missing}
+use Rattle.gc_concurrent.specs.declared.held.Missing.TheVariants.{NoMemory, Target}
+use Rattle.gc_concurrent.specs.Ends.{Theirs, its}
+use Rattle.gc_concurrent.specs.Internal.Rule.{Sat}
+
+-- The row has the place of each object's replica, or 0
+pub record Claims (row : List ℕ) (t : Theirs) : Type 0 where
+  pub long : length row ≡ t.old
+  pub told : (a : ℕ) → a < t.old → slice_index row a ≡ old_links (its t) a
+
+-- the value as it refers to replicas
+abbrev pub moved_by : List ℕ → Value → Value
+moved_by row Nil = Nil
+moved_by row (Num n) = Num n
+moved_by row (Ref a) = Ref (slice_index row a)
+
+-- what a step of the collector keeps of its seat: the mutator's end, if it has it, and what it holds
+pub record KeepsSeat (a b : Sat) : Type 0 where
+  pub writes : b.0.writes ≡ a.0.writes
+  pub mine : b.0.mine ≡ a.0.mine
+  pub old : b.0.theirs.old ≡ a.0.theirs.old
+  pub holds : b.1 ≡ a.1
+
+-- the target is that of one of these root words, and has no replica
+abbrev pub IsTargetIn : Missing → List ℕ → List ℕ → Type 0
+IsTargetIn NoMemory row roots = Unit {0}
+IsTargetIn (Target at) row roots = (k : ℕ) × (k < length roots) × (value_of (slice_index roots k) ≡ Ref at.0) × (slice_index row at.0 ≡ 0)

@@ -1,0 +1,193 @@
+-- The rule of a space of objects that a collector's thread copies while a mutator reads and writes it, and what each step tells.
+-- The words of the table are those of the space. One table serves from one flip to the next.
+use Rattle.std.specs.Prelude.{[], ◌≡◌, ◌⊎◌, ℕ, zero, suc, ◌+◌, ◌<◌, ◌≤◌, Bool, true, false, List, ◌∷◌, ◌++◌, length, slice_index, drop, map, Some, None, IsSome, is_some, nat_lt, if◌then◌else◌}
+use Rattle.std.specs.declared.option.Option.{Option as Opt}
+use mathlib.Core.Option.{some}
+use lib.ListN.{get_elem?}
+use Rattle.atomic_table.specs.Table.{State, Me, Step}
+use Rattle.gc_graph.specs.Graph.{Value, Num, Ref, Object, lookup, new_object}
+use Rattle.gc_graph.specs.Machine.{object_words}
+use Rattle.gc_words.specs.Word.{IsHeader, read_header, value_of, is_value, header_word}
+use Rattle.gc_words.specs.Layout.{field_place, next_place}
+use Rattle.gc_words.specs.Image.{objects_of, field_at}
+use Rattle.gc_words.specs.Space.{IsSpace, with_object, with_field_at}
+use Rattle.gc_words.specs.Closed.{IsClosed}
+use Rattle.gc_words.specs.declared.header.Header.{Header}
+use Rattle.gc_plan.specs.State.{Replica, Collection, replica_of, moved, new_end, new_free}
+use Rattle.gc_plan.specs.Steps.{with_written}
+use Rattle.gc_plan.specs.Members.{In}
+use Rattle.gc_plan.specs.Belonging.{IsOpened, BelongsBy}
+use Rattle.gc_concurrent.specs.Ends.{Mine, Theirs, its}
+use Rattle.gc_concurrent.specs.Internal.Plans.{collection_of, plan}
+use Rattle.gc_concurrent.specs.Ends.{Known as View}
+
+-- one seat is the mutator's, and one the collector's
+abbrev pub Seated : ℕ → ℕ → Mine → Theirs → ℕ → View → Type 0
+Seated writer copier mine theirs j v = (v.writes ≡ true → (j ≡ writer) × (v.mine ≡ mine)) × (v.copies ≡ true → (j ≡ copier) × (v.theirs ≡ theirs))
+
+abbrev pub AreSeated : ℕ → ℕ → Mine → Theirs → List View → Type 0
+AreSeated writer copier mine theirs views = (j : ℕ) (v : View) → get_elem? views j ≡ some v → Seated writer copier mine theirs j v
+
+-- The mutator's words are those of the table, and the words behind them are 0. They are a closed space, and the collection is open in
+-- gc_plan's sense: a field of a replica is up to date unless it is not yet scanned, or in one of the two logs.
+pub record IsConcurrent (size : ℕ) (s : State ℕ View) : Type 0 where
+  pub mine : Mine
+  pub theirs : Theirs
+  pub writer : ℕ
+  pub copier : ℕ
+  pub wide : length s.words ≡ size
+  pub sized : mine.space.size ≡ size
+  pub older : theirs.old ≡ size
+  pub now : (k : ℕ) → k < length mine.space.words → slice_index s.words k ≡ slice_index mine.space.words k
+  pub free : (k : ℕ) → length mine.space.words ≤ k → k < size → slice_index s.words k ≡ 0
+  pub space : IsSpace mine.space
+  pub closed : IsClosed mine.space.words []
+  pub wanted : (a : ℕ) → In a theirs.wanted → (o : Object) × (lookup (objects_of mine.space.words) a ≡ Some o)
+  pub opened : IsOpened (plan mine theirs) (collection_of mine theirs)
+  pub seats : AreSeated writer copier mine theirs s.views
+
+-- the word of a field was written
+abbrev pub wrote : ℕ → ℕ → ℕ → Mine → Mine
+wrote a i w m = record m { space = with_field_at m.space a i w; log = m.log ++ (a, i) ∷ [] }
+
+-- an object was made at the end
+abbrev pub made : Header → Mine → Mine
+made h m = record m { space = with_object m.space h }
+
+-- field i of the replica of `name` becomes what this value of its original moves to
+abbrev pub brought : ℕ → ℕ → Value → Theirs → Theirs
+brought name i v t = record t { replicas = map (with_written name i (moved (its t) v)) t.replicas }
+
+abbrev pub scanned : ℕ → ℕ → Value → Theirs → Theirs
+scanned name i v t = record (brought name i v t) { scan_field = suc t.scan_field }
+
+abbrev pub applied : ℕ → ℕ → Value → Theirs → Theirs
+applied name i v t = record (brought name i v t) { due = drop 1 t.due }
+
+-- an object starts at this address
+abbrev pub wants : ℕ → Theirs → Theirs
+wants a t = record t { wanted = a ∷ [] }
+
+-- the mutator's entries become the collector's
+abbrev pub logs_taken : View → View
+logs_taken v = record v { mine = record v.mine { log = [] }; theirs = record v.theirs { due = v.theirs.due ++ v.mine.log } }
+
+-- the value of a field word of an object that is raw or not
+abbrev pub read_as : Bool → ℕ → Value
+read_as raw w = if raw then Num w else value_of w
+
+-- the value's target, if it has no replica
+abbrev pub lacks : Collection → Value → Opt ℕ
+lacks c (Ref name) = if is_some (replica_of c name) then None else Some name
+lacks c v = None
+
+-- a field was read: its replica follows, unless the target still lacks one
+abbrev pub after_read : (Theirs → Theirs) → Opt ℕ → Theirs → Theirs
+after_read follow None t = follow t
+after_read follow (Some name) t = wants name t
+
+abbrev pub passed : Replica → Theirs → Theirs
+passed q t = record t { scan_place = next_place t.scan_place (length q.object.fields); scan_field = 0 }
+
+-- fields i to i + n - 1 of this object
+abbrev pub entries_of_fields : ℕ → ℕ → ℕ → List (ℕ × ℕ)
+entries_of_fields name i zero = []
+entries_of_fields name i (suc n) = (name, i) ∷ entries_of_fields name (suc i) n
+
+-- a replica as it is placed: nil in each field, or 0 in a raw object, whose fields are then due
+abbrev pub blank_replica : ℕ → ℕ → Object → Replica
+blank_replica name place object = record { original = name; place = place; object = new_object object.raw object.kind (length object.fields) }
+
+abbrev pub to_fill : Object → ℕ
+to_fill object = if object.raw then length object.fields else 0
+
+abbrev pub placed_one : ℕ → Object → Theirs → Theirs
+placed_one name object t = record t { replicas = t.replicas ++ blank_replica name (new_end (its t)) object ∷ []; wanted = []; due = entries_of_fields name 0 (to_fill object) ++ t.due }
+
+abbrev pub entry_dropped : Theirs → Theirs
+entry_dropped t = record t { due = drop 1 t.due }
+
+-- The collection belongs to some heap in a space of this size, whatever is due.
+pub record Loose (t : Theirs) : Type 0 where
+  pub objects : List (ℕ × Object)
+  pub belongs : BelongsBy (λ _ _ _ _. Unit {0}) objects (its t)
+  pub within : (a : ℕ) (o : Object) → lookup objects a ≡ Some o → a + (length o.fields + 2) ≤ t.old
+  pub wanted : (a : ℕ) → In a t.wanted → (o : Object) × (lookup objects a ≡ Some o)
+  pub high : t.size ≤ 4294967295
+  pub old_high : t.old ≤ 4294967295
+
+abbrev pub only_writes : View → View
+only_writes v = record v { copies = false }
+
+abbrev pub only_copies : View → View
+only_copies v = record v { writes = false }
+
+-- two seats become one
+abbrev pub both_ends : View → View → View
+both_ends v w = record { writes = true; copies = true; mine = w.mine; theirs = v.theirs }
+
+abbrev pub spent_view : View
+spent_view = record { writes = false; copies = false; mine = record { space = record { size = 0; words = [] }; log = [] }; theirs = record { old = 0; size = 0; replicas = []; scan_place = 0; scan_field = 0; due = []; wanted = [] } }
+
+abbrev pub Sat : Type 0
+Sat = Me ℕ View
+
+-- the collector knows after a step that its collection belongs to some heap
+abbrev pub KnowsBelonging : Sat → Type 0
+KnowsBelonging me = me.0.copies ≡ true → ∥ Loose me.0.theirs ∥₁
+
+-- a word of the space was read
+abbrev pub tells_get : Step ℕ → Sat → ℕ → Sat → Type 0
+tells_get st me found me' = (me' ≡ me) × (st.word < length me.0.mine.space.words → found ≡ slice_index me.0.mine.space.words st.word)
+
+abbrev pub tells_put : Step ℕ → Sat → ℕ → Sat → Type 0
+tells_put st me found me' = (a i : ℕ) → st.word ≡ field_place a i → IsSome (field_at me.0.mine.space.words a i) → (me' ≡ (record me.0 { mine = wrote a i st.first me.0.mine }, me.1))
+
+abbrev pub tells_new : Step ℕ → Sat → ℕ → Sat → Type 0
+tells_new st me found me' = (h : Header) → IsHeader h → header_word h ≡ st.first → me' ≡ (record me.0 { mine = made h me.0.mine }, me.1)
+
+-- The field at the scan pointer was read. Its replica is up to date from this moment on.
+abbrev pub tells_scan_of : Theirs → Step ℕ → Sat → ℕ → Sat → Type 0
+tells_scan_of t st me found me' = ((q : Replica) → In q t.replicas → q.place ≡ t.scan_place → q.object.raw ≡ false → t.scan_field < length q.object.fields → st.word ≡ field_place q.original t.scan_field
+    → (is_value found ≡ true) × (me' ≡ (record me.0 { theirs = after_read (scanned q.original t.scan_field (value_of found)) (lacks (its t) (value_of found)) t }, me.1)))
+
+abbrev pub tells_scan : Step ℕ → Sat → ℕ → Sat → Type 0
+tells_scan st me found me' = tells_scan_of me.0.theirs st me found me' × KnowsBelonging me'
+
+-- The field of the oldest entry was read.
+abbrev pub tells_apply_of : Theirs → Step ℕ → Sat → ℕ → Sat → Type 0
+tells_apply_of t st me found me' = ((q : Replica) (i : ℕ) (rest : List (ℕ × ℕ)) → In q t.replicas → t.due ≡ (q.original, i) ∷ rest → st.word ≡ field_place q.original i
+    → (q.object.raw ≡ false → is_value found ≡ true) × (let v = read_as q.object.raw found in me' ≡ (record me.0 { theirs = after_read (applied q.original i v) (lacks (its t) v) t }, me.1)))
+
+abbrev pub tells_apply : Step ℕ → Sat → ℕ → Sat → Type 0
+tells_apply st me found me' = tells_apply_of me.0.theirs st me found me' × KnowsBelonging me'
+
+-- The header of an object that is wanted was read: it has a replica from this moment on, if there is room. The fields of a raw one are still to be brought.
+abbrev pub tells_place_of : Theirs → Step ℕ → Sat → ℕ → Sat → Type 0
+tells_place_of t st me found me' = (In st.word t.wanted → replica_of (its t) st.word ≡ None → (o : Object) × (read_header found ≡ Some (record { raw = o.raw; kind = o.kind; len = length o.fields }))
+    × (me' ≡ (record me.0 { theirs = if nat_lt (new_free (its t)) (object_words (length o.fields)) then t else placed_one st.word o t }, me.1)))
+
+abbrev pub tells_place : Step ℕ → Sat → ℕ → Sat → Type 0
+tells_place st me found me' = tells_place_of me.0.theirs st me found me' × KnowsBelonging me'
+
+-- The handshake was read, and the collector goes on behind a replica that is scanned.
+abbrev pub tells_pass_of : Theirs → Step ℕ → Sat → ℕ → Sat → Type 0
+tells_pass_of t st me found me' = ((q : Replica) → In q t.replicas → q.place ≡ t.scan_place → (q.object.raw ≡ true) ⊎ (t.scan_field ≡ length q.object.fields) → me' ≡ (record me.0 { theirs = passed q t }, me.1))
+
+abbrev pub tells_pass : Step ℕ → Sat → ℕ → Sat → Type 0
+tells_pass st me found me' = tells_pass_of me.0.theirs st me found me' × KnowsBelonging me'
+
+-- The handshake was read, and an entry whose object has no replica is left out.
+abbrev pub tells_leave_of : Theirs → Step ℕ → Sat → ℕ → Sat → Type 0
+tells_leave_of t st me found me' = ((entry : ℕ × ℕ) (rest : List (ℕ × ℕ)) → t.due ≡ entry ∷ rest → replica_of (its t) entry.0 ≡ None → me' ≡ (record me.0 { theirs = entry_dropped t }, me.1))
+
+abbrev pub tells_leave : Step ℕ → Sat → ℕ → Sat → Type 0
+tells_leave st me found me' = tells_leave_of me.0.theirs st me found me' × KnowsBelonging me'
+
+-- The mutator's log becomes the collector's.
+abbrev pub tells_take : Step ℕ → Sat → ℕ → Sat → Type 0
+tells_take st me found me' = (me' ≡ (logs_taken me.0, me.1)) × KnowsBelonging me'
+
+-- The target of one of the mutator's roots is wanted; its header was read.
+abbrev pub tells_root : Step ℕ → Sat → ℕ → Sat → Type 0
+tells_root st me found me' = (me' ≡ (record me.0 { theirs = wants st.word me.0.theirs }, me.1)) × KnowsBelonging me'

@@ -1,0 +1,136 @@
+//! A mutator and a collector in two threads, over one heap of objects.
+ghost use Rattle.std.specs.Prelude.{◌≤◌, ◌≡◌, IfOk};
+ghost use Rattle.gc_concurrent.specs.Holders.{heap_in};
+ghost use Rattle.gc_concurrent.specs.Law.{AreAllReplies, AreRepliesFromNothing};
+
+use crate::copier::Work;
+use crate::handshake::{Asking, Collector, Holding, Runner, open};
+use crate::runs::mutate_all;
+use gc_graph::{Op, Reply, View};
+use std::alloc::{AllocError, Global};
+use std::sync::Wait;
+use std::sync::atomic::{AtomicU64, Ordering};
+use std::thread;
+use std::thread::{Threads, join};
+
+fn mutate_and_stop<R: Wait>(
+    rt: &R,
+    alloc: Global,
+    runner: Runner,
+    ops: &[Op],
+    stop: &AtomicU64,
+) -> Result<Vec<Reply>, AllocError>
+    ensures { IfOk result (λ replies. AreAllReplies (heap_in runner.commander) ops.now replies.items) }
+{
+    let _named = View::Nil;
+    let done = mutate_all(rt, alloc, runner, ops);
+    stop.store(1, Ordering::SeqCst);
+    let (_runner, replies) = done?;
+    Ok(replies)
+}
+
+fn collect<R: Wait>(rt: &R, alloc: Global, collector: Collector, stop: &AtomicU64) -> u64 {
+    let mut collector = collector;
+    let mut flips = 0u64;
+    for _ in rt.forever() {
+        if stop.load(Ordering::SeqCst) != 0 {
+            break;
+        }
+        match cycle(rt, alloc, collector, stop) {
+            Some(next) => collector = next,
+            None => break,
+        }
+        flips = flips.wrapping_add(1);
+    }
+    flips
+}
+
+fn cycle<R: Wait>(
+    rt: &R,
+    alloc: Global,
+    collector: Collector,
+    stop: &AtomicU64,
+) -> Option<Collector> {
+    let mut collector = collector;
+    for _ in 0..u64::MAX {
+        if collector.work() != Work::Step {
+            break;
+        }
+    }
+    let asking = asked(rt, collector, stop)?;
+    let holding = taken(rt, asking, stop)?;
+    flipped(rt, alloc, holding, stop)
+}
+
+fn asked<R: Wait>(rt: &R, collector: Collector, stop: &AtomicU64) -> Option<Asking> {
+    let mut collector = collector;
+    for _ in rt.forever() {
+        if stop.load(Ordering::SeqCst) != 0 {
+            return None;
+        }
+        match collector.ask() {
+            Ok(asking) => return Some(asking),
+            Err(still) => collector = still,
+        }
+        thread::yield_now();
+    }
+    unreachable!()
+}
+
+fn taken<R: Wait>(rt: &R, asking: Asking, stop: &AtomicU64) -> Option<Holding> {
+    let mut asking = asking;
+    for _ in rt.forever() {
+        if stop.load(Ordering::SeqCst) != 0 {
+            return None;
+        }
+        match asking.take() {
+            Ok(holding) => return Some(holding),
+            Err(still) => asking = still,
+        }
+        asking.work();
+    }
+    unreachable!()
+}
+
+fn flipped<R: Wait>(
+    rt: &R,
+    alloc: Global,
+    holding: Holding,
+    stop: &AtomicU64,
+) -> Option<Collector> {
+    let mut holding = holding;
+    for _ in rt.forever() {
+        for _ in 0..u64::MAX {
+            if holding.work() != Work::Step {
+                break;
+            }
+        }
+        match holding.flip(alloc) {
+            Ok(collector) => return Some(collector),
+            Err(refused) => holding = refused.holding,
+        }
+    }
+    unreachable!()
+}
+
+/// Opens a heap of `size` words, and performs all commands in it, while a collector's thread collects and flips without a pause. Returns the replies.
+pub fn beside_collector<R: Threads + Wait + Sync>(
+    rt: &R,
+    alloc: Global,
+    size: u32,
+    ops: &[Op],
+) -> Result<Vec<Reply>, AllocError>
+    requires { 1 ≤ size }
+    ensures { IfOk result (λ replies. AreRepliesFromNothing ops.now replies.items) }
+{
+    let _named = View::Nil;
+    let (runner, collector) = open(alloc, size)?;
+    let flag = AtomicU64::new(0);
+    let stop = &flag;
+    let (replies, _flips) = join(
+        rt,
+        move || mutate_and_stop(rt, alloc, runner, ops, stop),
+        move || collect(rt, alloc, collector, stop),
+    );
+    replies
+}

@@ -1,0 +1,47 @@
+//! The words of a space as cells, each of which changes in one atomic step. They serve from one flip to the next.
+use atomic_table::{Seat, Table, TableRule};
+use std::alloc::Global;
+use std::marker::Model;
+
+/// What a seat knows. No value of it is made.
+pub struct CellsView {
+    pub nothing: u8,
+}
+
+impl Model for CellsView {
+    ghost use Rattle.gc_words.specs.Space.{empty_space};
+    ghost use Rattle.gc_concurrent.specs.Ends.{Known, opening_view};
+    ghost use Rattle.gc_concurrent.specs.Internal.Codes.{known_coded};
+
+    ghost Value = { Known };
+
+    ghost coded = { known_coded };
+
+    ghost view = { λ _. opening_view (empty_space 0) 0 };
+}
+
+/// What cells begin with: the size of the space, its words up to the end, and the size of the new space.
+#[derive(Drop)]
+pub struct CellsKey {
+    pub size: u32,
+    pub words: Vec<u64>,
+    pub new_size: u32,
+}
+
+/// The rule of the cells, which holds between any two steps on them.
+pub struct CellsRule;
+
+impl TableRule<u64, CellsView, CellsKey> for CellsRule {
+    ghost use Rattle.gc_concurrent.specs.Ends.{opening_view};
+    ghost use Rattle.gc_concurrent.specs.Internal.Rule.{IsConcurrent};
+
+    ghost holds = { λ k. IsConcurrent k.size };
+
+    ghost first = { λ k. opening_view (record { size = k.size; words = k.words.items }) k.new_size };
+}
+
+/// The cells with their memory. Both ends own them.
+pub type Cells = Table<u64, CellsView, CellsKey, CellsRule, Global>;
+
+/// One end of a heap: the right to step on its cells, and what its owner knows.
+pub type CellsEnd = Seat<u64, CellsView>;

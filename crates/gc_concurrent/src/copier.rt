@@ -1,0 +1,329 @@
+//! The collector's thread: it makes replicas in a space of its own.
+ghost use Rattle.std.specs.Prelude.{◌≡◌, ◌≢◌, ℕ, ◌+◌, ◌-◌, ◌*◌, ◌^◌, ◌<◌, ◌≤◌, true, false, List, [], ◌∷◌, ◌++◌, drop, length, slice_index, IfOk, IfErr, IfSome, IfNone, IsTrue, IsFalse, ◌⊎◌, ◌&&◌, if◌then◌else◌};
+ghost use Rattle.std.specs.Arc.{arc_value};
+ghost use Rattle.gc_graph.specs.Graph.{Ref};
+ghost use Rattle.gc_words.specs.Word.{is_value, value_of};
+ghost use Rattle.gc_words.specs.Space.{IsSpace, end_of};
+ghost use Rattle.gc_words.specs.Closed.{IsRootWord};
+ghost use Rattle.gc_heap.specs.Heap.{IsHeap};
+ghost use Rattle.gc_plan.specs.Steps.{is_empty, scan_done};
+ghost use Rattle.gc_copy.specs.Words.{replicas_in};
+ghost use Rattle.gc_concurrent.specs.Heaps.{heap_of};
+ghost use Rattle.gc_concurrent.specs.Internal.Flip.{IsDone, Flips};
+ghost use Rattle.gc_concurrent.specs.Ends.{its};
+ghost use Rattle.gc_concurrent.specs.Internal.Rule.{entries_of_fields, read_as, Loose};
+ghost use Rattle.gc_concurrent.specs.Internal.Copiers.{Claims, KeepsSeat, moved_by};
+ghost use Rattle.gc_concurrent.specs.Works.{WhereDone};
+ghost use Rattle.gc_concurrent.specs.Internal.Props.{replicas_prop, claims_prop, space_prop};
+
+use crate::cells::{Cells, CellsEnd};
+use crate::plays::{Applied, Flipped, Left, Passed, Placed, Rooted, Scanned};
+use gc_words::{Addr, Header, Space, Value, encode, field_index, target_of};
+use std::alloc::Global;
+use std::sync::Arc;
+
+/// What a step of the collector did. `Done`: nothing is due, and every replica is scanned. `NoRoom`: a replica found no room.
+#[derive(Clone, Copy, Debug, PartialEq, Eq)]
+pub enum Work {
+    Step,
+    Done,
+    NoRoom,
+}
+
+/// A collector. The links of the replicas in its space are the addresses of their originals.
+#[derive(Drop)]
+pub struct Copier {
+    pub(crate) cells: Arc<Cells, Global>,
+    pub seat: CellsEnd,
+    pub(crate) space: Space,
+    // The place of each object's replica, or 0.
+    pub(crate) claims: Vec<u32>,
+    // The entries taken of the mutator, of which the first `next` are done.
+    pub(crate) due: Vec<(u32, u16)>,
+    pub(crate) next: usize,
+    // The raw object that is filled, the next of its fields, and how many are left.
+    pub(crate) fill: u32,
+    pub(crate) fill_next: u16,
+    pub(crate) fill_left: u16,
+    pub(crate) scan_place: u32,
+    pub(crate) scan_field: u16,
+    // An object that is to get a replica.
+    pub(crate) has_wanted: bool,
+    pub(crate) wanted: u32,
+    pub size: u32,
+    ghost row: { ((arc_value cells).shared.table_id ≡ seat.table_id) × (seat.table_id.words ≡ size) × ((arc_value cells).shared.key.size ≡ size) },
+    ghost copies: { seat.me.0.copies ≡ true },
+    ghost shaped: { IsSpace space } by { space_prop _ },
+    ghost sized: { (seat.me.0.theirs.old ≡ size) × (space.size ≡ seat.me.0.theirs.size) },
+    ghost same: { seat.me.0.theirs.replicas ≡ replicas_in space.words } by { replicas_prop _ _ },
+    ghost scans: { (seat.me.0.theirs.scan_place ≡ scan_place) × (seat.me.0.theirs.scan_field ≡ scan_field) },
+    ghost dues: { (seat.me.0.theirs.due ≡ entries_of_fields fill fill_next fill_left ++ drop next due.items) × (next ≤ length due.items) × (fill_next + fill_left < 2 ^ 16) },
+    ghost wants: { has_wanted ≡ true → seat.me.0.theirs.wanted ≡ wanted ∷ [] },
+    ghost claimed: { Claims claims.items seat.me.0.theirs } by { claims_prop _ _ },
+    ghost loose: { ∥ Loose seat.me.0.theirs ∥₁ },
+}
+
+// The word as it refers to replicas, or its target, if that has none.
+pub(crate) fn moved_word(claims: &[u32], word: u64) -> Result<u64, Addr>
+    requires value { IsTrue (is_value word) }
+    requires inside { (a : ℕ) → value_of word ≡ Ref a → a < length claims.now }
+    requires places { (a : ℕ) → slice_index claims.now a < 4294967295 }
+    ensures moved { IfOk result (λ w. value_of w ≡ moved_by claims.now (value_of word)) }
+    ensures placed { IfOk result (λ w. (a : ℕ) → value_of word ≡ Ref a → slice_index claims.now a ≢ 0) }
+    ensures wanted { IfErr result (λ a. (value_of word ≡ Ref a.0) × (slice_index claims.now a.0 ≡ 0)) }
+{
+    let Some(at) = target_of(word) else {
+        return Ok(word);
+    };
+    let place = claims[at.0 as usize];
+    if place == 0 {
+        return Err(at);
+    }
+    Ok(encode(Value::Ref(Addr(place))))
+}
+
+// The word of a field of an object that is raw or not, as it refers to replicas, or its target, if that has none.
+fn moved_field(raw: bool, claims: &[u32], word: u64) -> Result<u64, Addr>
+    requires value { raw ≡ false → IsTrue (is_value word) }
+    requires inside { (a : ℕ) → read_as raw word ≡ Ref a → a < length claims.now }
+    requires places { (a : ℕ) → slice_index claims.now a < 4294967295 }
+    ensures moved { IfOk result (λ w. read_as raw w ≡ moved_by claims.now (read_as raw word)) }
+    ensures placed { IfOk result (λ w. (a : ℕ) → read_as raw word ≡ Ref a → slice_index claims.now a ≢ 0) }
+    ensures wanted { IfErr result (λ a. (read_as raw word ≡ Ref a.0) × (slice_index claims.now a.0 ≡ 0)) }
+{
+    if raw {
+        return Ok(word);
+    }
+    moved_word(claims, word)
+}
+
+// An entry, and what is left behind it.
+#[derive(Clone, Copy)]
+struct Oldest {
+    name: u32,
+    field: u16,
+    fill_next: u16,
+    fill_left: u16,
+    next: usize,
+}
+
+// The oldest of the entries that are due.
+fn oldest_of(
+    fill: u32,
+    fill_next: u16,
+    fill_left: u16,
+    due: &[(u32, u16)],
+    next: usize,
+) -> Option<Oldest>
+    requires fits { fill_next + fill_left < 2 ^ 16 }
+    requires low { next ≤ length due.now }
+    ensures none { IfNone result (entries_of_fields fill fill_next fill_left ++ drop next due.now ≡ []) }
+    ensures some { IfSome result (λ o. entries_of_fields fill fill_next fill_left ++ drop next due.now ≡ (o.name, o.field) ∷ (entries_of_fields fill o.fill_next o.fill_left ++ drop o.next due.now)) }
+    ensures bounds { IfSome result (λ o. (o.next ≤ length due.now) × (o.fill_next + o.fill_left < 2 ^ 16)) }
+{
+    if fill_left > 0 {
+        return Some(Oldest {
+            name: fill,
+            field: fill_next,
+            fill_next: fill_next + 1,
+            fill_left: fill_left - 1,
+            next,
+        });
+    }
+    if next >= due.len() {
+        return None;
+    }
+    let (name, field) = due[next];
+    Some(Oldest {
+        name,
+        field,
+        fill_next,
+        fill_left,
+        next: next + 1,
+    })
+}
+
+// How many fields of a new replica are to be filled.
+fn to_fill(header: Header) -> u16
+    ensures { result ≡ (if header.raw then header.len else 0) }
+{
+    if header.is_raw() { header.len() } else { 0 }
+}
+
+// Nothing of a replica with this header is left to scan.
+fn is_scanned(header: Header, field: u16) -> bool
+    ensures done { IsTrue result → (header.raw ≡ true) ⊎ (header.len ≤ field) }
+    ensures left { IsFalse result → (header.raw ≡ false) × (field < header.len) }
+{
+    header.is_raw() || field >= header.len()
+}
+
+impl Copier {
+    /// Scans the field at the scan pointer, or goes on behind the replica there.
+    fn scan_one(&mut self)
+        requires { self.old.scan_place < end_of self.old.space }
+        ensures seat { KeepsSeat self.old.seat.me self.new.seat.me }
+        ensures row { (self.new.seat.table_id ≡ self.old.seat.table_id) × (self.new.size ≡ self.old.size) }
+    {
+        let at = Addr(self.scan_place);
+        let header = self.space.header(at);
+        let cells = &*self.cells;
+        if is_scanned(header, self.scan_field) {
+            cells.shared.load::<Passed>(&mut self.seat, 0);
+            self.scan_place = self.space.next_start(at).0;
+            self.scan_field = 0;
+            return;
+        }
+        let original = Addr(self.space.link(at) as u32);
+        let word = cells
+            .shared
+            .load::<Scanned>(&mut self.seat, field_index(original, self.scan_field));
+        match moved_word(self.claims.as_slice(), word) {
+            Ok(moved) => {
+                self.space.set_field(at, self.scan_field, moved);
+                self.scan_field += 1;
+            }
+            Err(target) => {
+                self.has_wanted = true;
+                self.wanted = target.0;
+            }
+        }
+    }
+
+    /// Brings the field of the oldest entry up to date, or leaves the entry out, if its object has no replica. False if nothing is due.
+    fn apply_one(&mut self) -> bool
+        ensures seat { KeepsSeat self.old.seat.me self.new.seat.me }
+        ensures row { (self.new.seat.table_id ≡ self.old.seat.table_id) × (self.new.size ≡ self.old.size) }
+        ensures none { result ≡ false → self.new.seat.me.0.theirs.due ≡ [] }
+    {
+        let Some(oldest) = oldest_of(
+            self.fill,
+            self.fill_next,
+            self.fill_left,
+            self.due.as_slice(),
+            self.next,
+        ) else {
+            return false;
+        };
+        let place = self.claims[oldest.name as usize];
+        let cells = &*self.cells;
+        if place == 0 {
+            cells.shared.load::<Left>(&mut self.seat, 0);
+            self.fill_next = oldest.fill_next;
+            self.fill_left = oldest.fill_left;
+            self.next = oldest.next;
+            return true;
+        }
+        let at = Addr(place);
+        let header = self.space.header(at);
+        let word = cells.shared.load::<Applied>(
+            &mut self.seat,
+            field_index(Addr(oldest.name), oldest.field),
+        );
+        match moved_field(header.is_raw(), self.claims.as_slice(), word) {
+            Ok(moved) => {
+                self.space.set_field(at, oldest.field, moved);
+                self.fill_next = oldest.fill_next;
+                self.fill_left = oldest.fill_left;
+                self.next = oldest.next;
+            }
+            Err(target) => {
+                self.has_wanted = true;
+                self.wanted = target.0;
+            }
+        }
+        true
+    }
+
+    /// Gives the object that is wanted a replica. False if there is no room.
+    fn place_wanted(&mut self) -> bool
+        requires wanted { self.old.has_wanted ≡ true }
+        requires filled { self.old.fill_left ≡ 0 }
+        ensures seat { KeepsSeat self.old.seat.me self.new.seat.me }
+        ensures row { (self.new.seat.table_id ≡ self.old.seat.table_id) × (self.new.size ≡ self.old.size) }
+    {
+        let name = self.wanted;
+        if self.claims[name as usize] != 0 {
+            self.has_wanted = false;
+            return true;
+        }
+        let cells = &*self.cells;
+        let word = cells.shared.load::<Placed>(&mut self.seat, name as usize);
+        let header = Header::of_word(word);
+        if !self.space.has_room(header.len()) {
+            return false;
+        }
+        let at = self.space.place(header);
+        self.space.set_link(at, u64::from(name));
+        self.claims[name as usize] = at.0;
+        self.has_wanted = false;
+        self.fill = name;
+        self.fill_next = 0;
+        self.fill_left = to_fill(header);
+        true
+    }
+
+    /// Performs one step: fills a raw replica, places a replica that is wanted, applies an entry, or scans a field.
+    pub(crate) fn work(&mut self) -> Work
+        ensures seat { KeepsSeat self.old.seat.me self.new.seat.me }
+        ensures row { (self.new.seat.table_id ≡ self.old.seat.table_id) × (self.new.size ≡ self.old.size) }
+        ensures done { WhereDone result (self.new.seat.me.0.theirs) }
+    {
+        if self.fill_left == 0 && self.has_wanted {
+            return if self.place_wanted() {
+                Work::Step
+            } else {
+                Work::NoRoom
+            };
+        }
+        if self.apply_one() {
+            return Work::Step;
+        }
+        if self.scan_place >= self.space.end() {
+            return Work::Done;
+        }
+        self.scan_one();
+        Work::Step
+    }
+
+    /// Returns whether nothing is due and every replica is scanned.
+    pub(crate) fn is_idle(&self) -> bool
+        ensures idle { IsTrue result → (self.now.seat.me.0.theirs.due ≡ []) × (scan_done (its self.now.seat.me.0.theirs) ≡ true) }
+        ensures busy { IsFalse result → is_empty self.now.seat.me.0.theirs.due && scan_done (its self.now.seat.me.0.theirs) ≡ false }
+    {
+        if self.fill_left != 0 {
+            return false;
+        }
+        if self.next < self.due.len() {
+            return false;
+        }
+        self.scan_place >= self.space.end()
+    }
+
+    /// With both ends at hand: the target of one of the mutator's roots is to get a replica.
+    pub(crate) fn want(&mut self, at: Addr)
+        requires both { self.old.seat.me.0.writes ≡ true }
+        requires low { at.0 < self.old.size }
+        requires root { (w : ℕ) × IsRootWord self.old.seat.me.0.mine.space.words w × (value_of w ≡ Ref at.0) }
+        ensures seat { KeepsSeat self.old.seat.me self.new.seat.me }
+        ensures row { (self.new.seat.table_id ≡ self.old.seat.table_id) × (self.new.size ≡ self.old.size) }
+    {
+        let cells = &*self.cells;
+        cells.shared.load::<Rooted>(&mut self.seat, at.0 as usize);
+        self.has_wanted = true;
+        self.wanted = at.0;
+    }
+
+    /// With both ends at hand: what holds where nothing is left to do.
+    pub(crate) fn look(&mut self)
+        requires both { self.old.seat.me.0.writes ≡ true }
+        requires low { 1 ≤ self.old.size }
+        ensures same { self.new.seat.me ≡ self.old.seat.me }
+        ensures row { (self.new.seat.table_id ≡ self.old.seat.table_id) × (self.new.size ≡ self.old.size) }
+        ensures space { self.new.space ≡ self.old.space }
+        ensures told { (roots : List ℕ) → IsHeap (heap_of self.old.seat.me.0.mine roots) → IsDone roots self.old.seat.me.0 → Flips roots self.old.seat.me.0.mine self.old.seat.me.0.theirs }
+    {
+        let cells = &*self.cells;
+        cells.shared.load::<Flipped>(&mut self.seat, 0);
+    }
+}

@@ -1,0 +1,400 @@
+//! The handshake through which a mutator goes to its collector and back. No call here waits but `poll` and `wait`.
+ghost use Rattle.std.specs.Prelude.{◌≡◌, ◌≢◌, ℕ, ◌<◌, ◌≤◌, true, false, [], ◌∷◌, replicate, IfOk, MatchResult};
+ghost use Rattle.std.specs.Arc.{arc_value};
+ghost use Rattle.gc_concurrent.specs.Holders.{cells_read_by, heap_in, known_to};
+ghost use Rattle.gc_concurrent.specs.Heaps.{GoesOnIn};
+ghost use Rattle.gc_concurrent.specs.Internal.Handshakes.{hands};
+ghost use Rattle.gc_concurrent.specs.Holders.{cells_of};
+ghost use Rattle.gc_concurrent.specs.Heaps.{heap_of};
+ghost use Rattle.gc_graph.specs.Graph.{opening};
+ghost use Rattle.gc_words.specs.Space.{empty_space};
+ghost use Rattle.gc_heap.specs.Heap.{graph_in};
+ghost use Rattle.gc_concurrent.specs.Ends.{opening_theirs};
+
+use crate::commands::Commander;
+use crate::copier::{Copier, Work};
+use crate::held::{Held, NoFlip, hold, open_ends};
+use crate::plays::{Ask, Go, HandshakeRoles, Park, Resume, Start, Take};
+use atomic_table::{Seat, Table, TableRule};
+use std::alloc::{AllocError, Global};
+use std::marker::Model;
+use std::sync::{Arc, Wait};
+use std::thread;
+
+/// What a seat of the handshake knows. No value of it is made.
+pub struct HandshakeView {
+    pub nothing: u8,
+}
+
+impl Model for HandshakeView {
+    ghost use Rattle.std.specs.Prelude.{false, []};
+    ghost use Rattle.gc_words.specs.Space.{empty_space};
+    ghost use Rattle.gc_concurrent.specs.Internal.Handshakes.{HandshakeKnown, handshake_coded};
+
+    ghost Value = { HandshakeKnown };
+
+    ghost coded = { handshake_coded };
+
+    ghost view = { λ _. record {
+      goes = false;
+      keeps = false;
+      goer = record { waits = false; left = record { space = empty_space 0; roots = []; mutators = 0 }; row = record { words = 0; slots = 0; views_name = 0; atom = 0; block = 0; offset = 0; slot_names = [] } };
+      keeper = record { phase = 0; took = record { space = empty_space 0; roots = []; mutators = 0 }; row = record { words = 0; slots = 0; views_name = 0; atom = 0; block = 0; offset = 0; slot_names = [] } };
+    } };
+}
+
+/// The handshake's rule. The key is the mutator that it is opened for.
+pub struct HandshakeRule;
+
+impl TableRule<Option<Commander>, HandshakeView, Commander> for HandshakeRule {
+    ghost use Rattle.gc_concurrent.specs.Internal.Handshakes.{IsHandshake, handshake_opening};
+
+    ghost holds = { λ _. IsHandshake };
+
+    ghost first = { λ c. handshake_opening c };
+}
+
+pub type Handshake = Table<Option<Commander>, HandshakeView, Commander, HandshakeRule, Global>;
+
+pub type HandshakeEnd = Seat<Option<Commander>, HandshakeView>;
+
+/// A mutator that runs. Its thread makes commands and safepoints.
+#[derive(Drop)]
+pub struct Runner {
+    handshake: Arc<Handshake, Global>,
+    seat: HandshakeEnd,
+    pub commander: Commander,
+    ghost row: { ((arc_value handshake).shared.table_id ≡ seat.table_id) × (seat.table_id.words ≡ 1) },
+    ghost goes: { (seat.me.0.goes ≡ true) × (seat.me.0.goer.row ≡ cells_of commander) },
+    ghost holds: { hands seat.me ≡ (0, false) ∷ [] },
+}
+
+/// A mutator that has stopped. It lies in the slot of the handshake, or the collector holds it.
+#[derive(Drop)]
+pub struct Waiting {
+    handshake: Arc<Handshake, Global>,
+    pub seat: HandshakeEnd,
+    ghost row: { ((arc_value handshake).shared.table_id ≡ seat.table_id) × (seat.table_id.words ≡ 1) },
+    ghost goes: { seat.me.0.goes ≡ true },
+    ghost holds: { hands seat.me ≡ [] },
+}
+
+impl Runner {
+    ghost use Rattle.gc_concurrent.specs.Waiters.{heap_left};
+
+    /// Returns whether the collector seems to ask the mutator to stop. It loads one word, and nothing is known of the answer.
+    pub fn is_asked(&self) -> bool {
+        let handshake = &*self.handshake;
+        handshake.shared.peek(0) == 1
+    }
+
+    /// Hands the mutator over, if the collector asks for it. Otherwise the mutator runs on.
+    pub fn stop(self) -> Result<Waiting, Runner>
+        ensures { MatchResult result (λ w. heap_left w ≡ heap_in self.commander) (λ r. heap_in r.commander ≡ heap_in self.commander) }
+    {
+        let Runner {
+            handshake,
+            mut seat,
+            commander,
+        } = self;
+        let spare = handshake.shared.exchange(&mut seat, 0, Some(commander));
+        let found = handshake
+            .shared
+            .compare_exchange::<Park>(&mut seat, 0, 1, 2);
+        if found == 1 {
+            drop(spare);
+            return Ok(Waiting { handshake, seat });
+        }
+        let back = handshake.shared.exchange(&mut seat, 0, spare);
+        let Some(commander) = back else {
+            unreachable!()
+        };
+        Err(Runner {
+            handshake,
+            seat,
+            commander,
+        })
+    }
+
+    /// A safepoint: if the collector asks, stops and waits until it may go on, in the same space or in the next one.
+    pub fn poll<R: Wait>(self, rt: &R) -> Runner
+        ensures { GoesOnIn (heap_in self.commander) (heap_in result.commander) }
+    {
+        if !self.is_asked() {
+            return self;
+        }
+        match self.stop() {
+            Ok(waiting) => waiting.wait(rt),
+            Err(runner) => runner,
+        }
+    }
+}
+
+impl Waiting {
+    ghost use Rattle.gc_concurrent.specs.Waiters.{heap_left};
+
+    /// Takes the mutator back, if the collector lets it go on.
+    pub fn resume(self) -> Result<Runner, Waiting>
+        ensures { MatchResult result (λ r. GoesOnIn (heap_left self) (heap_in r.commander)) (λ w. heap_left w ≡ heap_left self) }
+    {
+        let Waiting {
+            handshake,
+            mut seat,
+        } = self;
+        let found = handshake
+            .shared
+            .compare_exchange::<Resume>(&mut seat, 0, 3, 0);
+        if found != 3 {
+            return Err(Waiting { handshake, seat });
+        }
+        let got = handshake.shared.exchange(&mut seat, 0, None);
+        let Some(commander) = got else { unreachable!() };
+        Ok(Runner {
+            handshake,
+            seat,
+            commander,
+        })
+    }
+
+    /// Waits until the mutator may go on. Waits forever if the collector never lets it.
+    pub fn wait<R: Wait>(self, rt: &R) -> Runner
+        ensures { GoesOnIn (heap_left self) (heap_in result.commander) }
+    {
+        let mut waiting = self;
+        for _ in rt.forever() {
+            match waiting.resume() {
+                Ok(runner) => return runner,
+                Err(still) => waiting = still,
+            }
+            thread::yield_now();
+        }
+        unreachable!()
+    }
+}
+
+/// A collector that has asked for nothing.
+#[derive(Drop)]
+pub struct Collector {
+    handshake: Arc<Handshake, Global>,
+    seat: HandshakeEnd,
+    pub copier: Copier,
+    ghost row: { ((arc_value handshake).shared.table_id ≡ seat.table_id) × (seat.table_id.words ≡ 1) },
+    ghost keeps: { (seat.me.0.keeps ≡ true) × (seat.me.0.keeper.phase ≡ 0) × (seat.me.0.keeper.row ≡ copier.seat.table_id) },
+    ghost holds: { hands seat.me ≡ [] },
+}
+
+/// A collector that has asked the mutator to stop. It may work on.
+#[derive(Drop)]
+pub struct Asking {
+    handshake: Arc<Handshake, Global>,
+    seat: HandshakeEnd,
+    pub copier: Copier,
+    ghost row: { ((arc_value handshake).shared.table_id ≡ seat.table_id) × (seat.table_id.words ≡ 1) },
+    ghost keeps: { (seat.me.0.keeps ≡ true) × (seat.me.0.keeper.phase ≡ 1) × (seat.me.0.keeper.row ≡ copier.seat.table_id) },
+    ghost holds: { hands seat.me ≡ [] },
+}
+
+/// A collector that holds the mutator.
+#[derive(Drop)]
+pub struct Holding {
+    handshake: Arc<Handshake, Global>,
+    seat: HandshakeEnd,
+    pub held: Held,
+    ghost row: { ((arc_value handshake).shared.table_id ≡ seat.table_id) × (seat.table_id.words ≡ 1) },
+    ghost keeps: { (seat.me.0.keeps ≡ true) × (seat.me.0.keeper.phase ≡ 2) },
+    ghost took: { heap_of held.copier.seat.me.0.mine held.roots.items ≡ seat.me.0.keeper.took },
+    ghost holds: { hands seat.me ≡ (0, false) ∷ [] },
+}
+
+impl Collector {
+    ghost use Rattle.gc_concurrent.specs.Works.{WhereDone};
+
+    /// Performs one step, beside the mutator.
+    pub fn work(&mut self) -> Work
+        ensures { WhereDone result (known_to self.new.copier) }
+    {
+        self.copier.work()
+    }
+
+    /// Asks the mutator to stop at its next safepoint. Fails while the mutator has not gone on since the last time.
+    pub fn ask(self) -> Result<Asking, Collector>
+        ensures { MatchResult result (λ asking. asking.copier ≡ self.copier) (λ collector. collector.copier ≡ self.copier) }
+    {
+        let Collector {
+            handshake,
+            mut seat,
+            copier,
+        } = self;
+        if handshake.shared.compare_exchange::<Ask>(&mut seat, 0, 0, 1) == 0 {
+            return Ok(Asking {
+                handshake,
+                seat,
+                copier,
+            });
+        }
+        Err(Collector {
+            handshake,
+            seat,
+            copier,
+        })
+    }
+}
+
+impl Asking {
+    ghost use Rattle.gc_concurrent.specs.Works.{TakesLog, WhereDone};
+
+    /// Performs one step, beside the mutator.
+    pub fn work(&mut self) -> Work
+        ensures { WhereDone result (known_to self.new.copier) }
+    {
+        self.copier.work()
+    }
+
+    /// Takes the mutator with its log, if it has stopped, nothing is due, and every replica is scanned.
+    pub fn take(self) -> Result<Holding, Asking>
+        ensures { MatchResult result (λ holding. TakesLog (known_to self.copier) (known_to holding.held.copier)) (λ asking. asking.copier ≡ self.copier) }
+    {
+        if !self.copier.is_idle() {
+            return Err(self);
+        }
+        let Asking {
+            handshake,
+            mut seat,
+            copier,
+        } = self;
+        if handshake.shared.load::<Take>(&mut seat, 0) != 2 {
+            return Err(Asking {
+                handshake,
+                seat,
+                copier,
+            });
+        }
+        let got = handshake.shared.exchange(&mut seat, 0, None);
+        let Some(commander) = got else { unreachable!() };
+        let held = hold(commander, copier);
+        Ok(Holding {
+            handshake,
+            seat,
+            held,
+        })
+    }
+}
+
+/// A flip that was not made, and why. The collector still holds the mutator.
+#[derive(Drop)]
+pub struct Unflipped {
+    pub holding: Holding,
+    pub why: NoFlip,
+}
+
+impl Holding {
+    ghost use Rattle.std.specs.Prelude.{IfErr, OnOk};
+    ghost use Rattle.gc_concurrent.specs.Works.{WhereDone};
+    ghost use Rattle.gc_concurrent.specs.Holders.{heap_held, may_flip};
+
+    /// Performs one step, while the mutator waits.
+    pub fn work(&mut self) -> Work
+        ensures done { WhereDone result (known_to self.new.held.copier) }
+        ensures heap { heap_held self.new.held ≡ heap_held self.old.held }
+    {
+        self.held.work()
+    }
+
+    /// Lets the mutator go on in the same space. The collection stays open.
+    pub fn go(self) -> Collector
+        ensures { known_to result.copier ≡ known_to self.held.copier }
+    {
+        let Holding {
+            handshake,
+            mut seat,
+            held,
+        } = self;
+        let (commander, copier) = held.release();
+        let spare = handshake.shared.exchange(&mut seat, 0, Some(commander));
+        handshake.shared.store::<Go>(&mut seat, 0, 3);
+        drop(spare);
+        Collector {
+            handshake,
+            seat,
+            copier,
+        }
+    }
+
+    /// Lets the mutator go on in the new space, and begins the next collection. Fails if something is left to do, or if an allocation fails. The
+    /// mutator's heap is then unchanged.
+    pub fn flip(self, alloc: Global) -> Result<Collector, Unflipped>
+        ensures ready { OnOk result (may_flip self.held ≡ true) }
+        ensures fresh { IfOk result (λ collector. known_to collector.copier ≡ opening_theirs (known_to self.held.copier).size (known_to self.held.copier).size) }
+        ensures heap { IfErr result (λ refused. heap_held refused.holding.held ≡ heap_held self.held) }
+        ensures not_ready { IfErr result (λ refused. refused.why ≡ NoFlip.NotReady → may_flip self.held ≡ false) }
+    {
+        let Holding {
+            handshake,
+            mut seat,
+            held,
+        } = self;
+        let (commander, copier) = match held.flip(alloc) {
+            Ok(both) => both,
+            Err((held, why)) => {
+                return Err(Unflipped {
+                    holding: Holding {
+                        handshake,
+                        seat,
+                        held,
+                    },
+                    why,
+                });
+            }
+        };
+        let spare = handshake.shared.exchange(&mut seat, 0, Some(commander));
+        handshake.shared.store::<Go>(&mut seat, 0, 3);
+        drop(spare);
+        Ok(Collector {
+            handshake,
+            seat,
+            copier,
+        })
+    }
+}
+
+/// Opens an empty heap of this many words, with 32 roots. Returns the mutator and the collector.
+pub fn open(alloc: Global, size: u32) -> Result<(Runner, Collector), AllocError>
+    requires { 1 ≤ size }
+    ensures heap { IfOk result (λ r. heap_in r.0.commander ≡ record { space = empty_space size; roots = replicate 32 0; mutators = 1 }) }
+    ensures graph { IfOk result (λ r. graph_in (heap_in r.0.commander) ≡ opening 1) }
+    ensures room { IfOk result (λ r. known_to r.1.copier ≡ opening_theirs size size) }
+    ensures pair { IfOk result (λ r. cells_of r.0.commander ≡ cells_read_by r.1.copier) }
+{
+    let (commander, copier) = open_ends(alloc, size)?;
+    let mut slots = Vec::with_capacity(alloc, 1)?;
+    slots.push_reserved(None);
+    let (table, mut seat) = match Handshake::new(alloc, &[4], slots, &commander) {
+        Ok(both) => both,
+        Err(_) => return Err(AllocError),
+    };
+    let handshake = match Arc::new(alloc, table) {
+        Ok(handshake) => handshake,
+        Err(_) => return Err(AllocError),
+    };
+    let other = Arc::try_clone(&handshake)?;
+    if handshake
+        .shared
+        .compare_exchange::<Start>(&mut seat, 0, 4, 0)
+        != 4
+    {
+        return Err(AllocError);
+    }
+    let place = handshake.shared.split_seat::<HandshakeRoles>(&mut seat);
+    Ok((
+        Runner {
+            handshake,
+            seat,
+            commander,
+        },
+        Collector {
+            handshake: other,
+            seat: place,
+            copier,
+        },
+    ))
+}

@@ -1,0 +1,369 @@
+//! Both ends of a heap in one hand: the log changes hands, roots get replicas, and the mutator goes on in the new space.
+ghost use Rattle.std.specs.Prelude.{◌≡◌, ◌≢◌, ℕ, ◌<◌, ◌≤◌, true, false, List, [], ◌∷◌, length, map, replicate, slice_index, IfOk, IfErr, IfSome, IfNone, IsTrue};
+ghost use Rattle.std.specs.Arc.{arc_value};
+ghost use Rattle.std.specs.List.{All};
+ghost use Rattle.gc_graph.specs.Graph.{Ref};
+ghost use Rattle.gc_graph.specs.Correspond.{Corresponding};
+ghost use Rattle.gc_words.specs.Word.{is_value, value_of, word_of};
+ghost use Rattle.gc_words.specs.Closed.{IsRootWord};
+ghost use Rattle.gc_words.specs.Space.{empty_space};
+ghost use Rattle.gc_heap.specs.Heap.{IsHeap, graph_in};
+ghost use Rattle.gc_plan.specs.State.{new_graph, pairs_of};
+ghost use Rattle.gc_plan.specs.Steps.{scan_done};
+ghost use Rattle.gc_plan.specs.Members.{In};
+ghost use Rattle.gc_concurrent.specs.Heaps.{heap_of};
+ghost use Rattle.gc_concurrent.specs.Internal.Props.{heap_prop};
+ghost use Rattle.gc_concurrent.specs.Ends.{its, opening_theirs};
+ghost use Rattle.gc_concurrent.specs.Internal.Rule.{entries_of_fields};
+ghost use Rattle.gc_concurrent.specs.Internal.Flip.{IsDone, Flips};
+ghost use Rattle.gc_concurrent.specs.Internal.Copiers.{KeepsSeat, moved_by, IsTargetIn};
+ghost use Rattle.gc_concurrent.specs.Heaps.{CorrespondsTo};
+
+use crate::cells::Cells;
+use crate::commands::Commander;
+use crate::copier::{Copier, Work, moved_word};
+use crate::ends::{Opened, open_cells};
+use crate::mutator::Mutator;
+use crate::plays::{Flipped, Roles, Rooted, Took};
+use gc_words::{Addr, Space};
+use std::alloc::{AllocError, Global};
+use std::sync::Arc;
+
+/// A mutator and its collector. One seat is both ends, and the mutator's log is empty.
+#[derive(Drop)]
+pub struct Held {
+    pub copier: Copier,
+    pub(crate) other: Arc<Cells, Global>,
+    pub(crate) log: Vec<(u32, u16)>,
+    pub roots: Vec<u64>,
+    pub(crate) end: u32,
+    ghost both: { copier.seat.me.0.writes ≡ true },
+    ghost row: { ((arc_value other).shared.table_id ≡ copier.seat.table_id) × ((arc_value other).shared.key.size ≡ copier.size) },
+    ghost empty: { (log.items ≡ []) × (copier.seat.me.0.mine.log ≡ []) },
+    ghost ended: { (length copier.seat.me.0.mine.space.words ≡ end) × (copier.seat.me.0.mine.space.size ≡ copier.size) },
+    ghost sound: { IsHeap (heap_of copier.seat.me.0.mine roots.items) } by { heap_prop (heap_of copier.seat.me.0.mine roots.items) },
+}
+
+/// Takes both ends in one hand, and the mutator's log. Nothing of an earlier log is due.
+pub(crate) fn hold(commander: Commander, copier: Copier) -> Held
+    requires row { commander.mutator.seat.table_id ≡ copier.seat.table_id }
+    requires applied { copier.seat.me.0.theirs.due ≡ [] }
+    ensures heap { heap_of result.copier.seat.me.0.mine result.roots.items ≡ heap_of commander.mutator.seat.me.0.mine commander.roots.items }
+    ensures row { result.copier.seat.table_id ≡ copier.seat.table_id }
+    ensures log { result.copier.seat.me.0.theirs ≡ record copier.seat.me.0.theirs { due = commander.mutator.log.items } }
+{
+    let Commander {
+        mutator,
+        roots,
+        end,
+    } = commander;
+    let Mutator {
+        cells: other,
+        seat,
+        log,
+        size: _,
+    } = mutator;
+    let Copier {
+        cells,
+        seat: mut own,
+        space,
+        claims,
+        due,
+        next: _,
+        fill,
+        fill_next: _,
+        fill_left: _,
+        scan_place,
+        scan_field,
+        has_wanted,
+        wanted,
+        size,
+    } = copier;
+    cells.shared.join_seat::<Roles>(&mut own, seat);
+    cells.shared.load::<Took>(&mut own, 0);
+    let mut spare = due;
+    spare.clear();
+    Held {
+        copier: Copier {
+            cells,
+            seat: own,
+            space,
+            claims,
+            due: log,
+            next: 0,
+            fill,
+            fill_next: 0,
+            fill_left: 0,
+            scan_place,
+            scan_field,
+            has_wanted,
+            wanted,
+            size,
+        },
+        other,
+        log: spare,
+        roots,
+        end,
+    }
+}
+
+/// Why roots were not moved.
+#[derive(Clone, Copy)]
+enum Missing {
+    NoMemory,
+    Target(Addr),
+}
+
+// The root words as they refer to replicas, or the target of one that has none.
+fn moved_roots(alloc: Global, claims: &[u32], roots: &[u64]) -> Result<Vec<u64>, Missing>
+    requires values { (k : ℕ) → k < length roots.now → IsTrue (is_value (slice_index roots.now k)) }
+    requires inside { (k a : ℕ) → k < length roots.now → value_of (slice_index roots.now k) ≡ Ref a → a < length claims.now }
+    requires places { (a : ℕ) → slice_index claims.now a < 4294967295 }
+    ensures moved { IfOk result (λ v. v.items ≡ map (λ w. word_of (moved_by claims.now (value_of w))) roots.now) }
+    ensures placed { IfOk result (λ v. (k a : ℕ) → k < length roots.now → value_of (slice_index roots.now k) ≡ Ref a → slice_index claims.now a ≢ 0) }
+    ensures target { IfErr result (λ e. IsTargetIn e claims.now roots.now) }
+{
+    let mut moved = Vec::new(alloc);
+    for k in 0..roots.len() {
+        match moved_word(claims, roots[k]) {
+            Ok(word) => {
+                if moved.push(word).is_err() {
+                    return Err(Missing::NoMemory);
+                }
+            }
+            Err(at) => return Err(Missing::Target(at)),
+        }
+    }
+    Ok(moved)
+}
+
+/// Why a flip was not made. `NotReady`: something is due or left to scan, or a root's target has no replica. `NoMemory`: an allocation failed.
+#[derive(Clone, Copy, Debug, PartialEq, Eq)]
+pub enum NoFlip {
+    NotReady,
+    NoMemory,
+}
+
+impl Held {
+    ghost use Rattle.std.specs.Prelude.{OnOk};
+    ghost use Rattle.gc_concurrent.specs.Works.{WhereDone};
+    ghost use Rattle.gc_concurrent.specs.Holders.{heap_in, heap_held, known_to, may_flip};
+
+    /// Performs one step of the collector, while the mutator waits.
+    pub(crate) fn work(&mut self) -> Work
+        ensures heap { heap_held self.new ≡ heap_held self.old }
+        ensures done { WhereDone result (known_to self.new.copier) }
+        ensures row { self.new.copier.seat.table_id ≡ self.old.copier.seat.table_id }
+    {
+        self.copier.work()
+    }
+
+    /// Lets the mutator go on in the same space.
+    pub(crate) fn release(self) -> (Commander, Copier)
+        ensures heap { heap_in result.0 ≡ heap_held self }
+        ensures known { known_to result.1 ≡ known_to self.copier }
+        ensures row { (result.0.mutator.seat.table_id ≡ result.1.seat.table_id) × (result.1.seat.table_id ≡ self.copier.seat.table_id) }
+    {
+        let Held {
+            copier,
+            other,
+            log,
+            roots,
+            end,
+        } = self;
+        let Copier {
+            cells,
+            seat: mut own,
+            space,
+            claims,
+            due,
+            next,
+            fill,
+            fill_next,
+            fill_left,
+            scan_place,
+            scan_field,
+            has_wanted,
+            wanted,
+            size,
+        } = copier;
+        let seat = cells.shared.split_seat::<Roles>(&mut own);
+        (
+            Commander {
+                mutator: Mutator {
+                    cells: other,
+                    seat,
+                    log,
+                    size,
+                },
+                roots,
+                end,
+            },
+            Copier {
+                cells,
+                seat: own,
+                space,
+                claims,
+                due,
+                next,
+                fill,
+                fill_next,
+                fill_left,
+                scan_place,
+                scan_field,
+                has_wanted,
+                wanted,
+                size,
+            },
+        )
+    }
+
+    /// The mutator goes on in the new space, and the next collection begins, unless something is left to do, or an allocation fails. If a
+    /// root's target has no replica, it is then wanted.
+    pub(crate) fn flip(mut self, alloc: Global) -> Result<(Commander, Copier), (Held, NoFlip)>
+        ensures ok { IfOk result (λ r. CorrespondsTo (heap_held self) (heap_in r.0)) }
+        ensures replicas { IfOk result (λ r. graph_in (heap_in r.0) ≡ new_graph (its (known_to self.copier)) (map value_of self.roots.items)) }
+        ensures space { IfOk result (λ r. r.0.mutator.size ≡ (known_to self.copier).size) }
+        ensures fresh { IfOk result (λ r. known_to r.1 ≡ opening_theirs (known_to self.copier).size (known_to self.copier).size) }
+        ensures ready { OnOk result (may_flip self ≡ true) }
+        ensures row { IfOk result (λ r. r.0.mutator.seat.table_id ≡ r.1.seat.table_id) }
+        ensures heap { IfErr result (λ r. heap_held r.0 ≡ heap_held self) }
+        ensures not_ready { IfErr result (λ r. r.1 ≡ NoFlip.NotReady → may_flip self ≡ false) }
+        ensures same { IfErr result (λ r. r.0.copier.seat.table_id ≡ self.copier.seat.table_id) }
+    {
+        if !self.copier.is_idle() {
+            return Err((self, NoFlip::NotReady));
+        }
+        let moved = moved_roots(alloc, self.copier.claims.as_slice(), self.roots.as_slice());
+        let roots = match moved {
+            Ok(roots) => roots,
+            Err(missing) => {
+                if let Missing::Target(at) = missing {
+                    self.copier.want(at);
+                    return Err((self, NoFlip::NotReady));
+                }
+                return Err((self, NoFlip::NoMemory));
+            }
+        };
+        let size = self.copier.space.size();
+        let Ok(claims) = Vec::from_elem(alloc, 0u32, size as usize) else {
+            return Err((self, NoFlip::NoMemory));
+        };
+        self.copier.look();
+        let Ok(opened) = open_cells(alloc, &self.copier.space, size) else {
+            return Err((self, NoFlip::NoMemory));
+        };
+        let Held {
+            copier,
+            other: _,
+            log,
+            roots: _,
+            end: _,
+        } = self;
+        let Copier {
+            cells: _,
+            seat: _,
+            space,
+            claims: _,
+            due,
+            next: _,
+            fill: _,
+            fill_next: _,
+            fill_left: _,
+            scan_place: _,
+            scan_field: _,
+            has_wanted: _,
+            wanted: _,
+            size: _,
+        } = copier;
+        let Opened {
+            one,
+            two,
+            seat: mut own,
+            size,
+        } = opened;
+        let seat = one.shared.split_seat::<Roles>(&mut own);
+        let end = space.end();
+        let mut spare = due;
+        spare.clear();
+        Ok((
+            Commander {
+                mutator: Mutator {
+                    cells: two,
+                    seat,
+                    log,
+                    size,
+                },
+                roots,
+                end,
+            },
+            Copier {
+                cells: one,
+                seat: own,
+                space: space.emptied(),
+                claims,
+                due: spare,
+                next: 0,
+                fill: 0,
+                fill_next: 0,
+                fill_left: 0,
+                scan_place: 1,
+                scan_field: 0,
+                has_wanted: false,
+                wanted: 0,
+                size,
+            },
+        ))
+    }
+}
+
+/// Opens an empty heap of this many words, with 32 roots.
+pub(crate) fn open_ends(alloc: Global, size: u32) -> Result<(Commander, Copier), AllocError>
+    requires { 1 ≤ size }
+    ensures heap { IfOk result (λ r. heap_of r.0.mutator.seat.me.0.mine r.0.roots.items ≡ record { space = empty_space size; roots = replicate 32 0; mutators = 1 }) }
+    ensures row { IfOk result (λ r. r.0.mutator.seat.table_id ≡ r.1.seat.table_id) }
+    ensures room { IfOk result (λ r. r.1.seat.me.0.theirs ≡ opening_theirs size size) }
+{
+    let space = match Space::new(alloc, size) {
+        Ok(space) => space,
+        Err(_) => return Err(AllocError),
+    };
+    let roots = Vec::from_elem(alloc, 0u64, 32)?;
+    let claims = Vec::from_elem(alloc, 0u32, size as usize)?;
+    let opened = open_cells(alloc, &space, size)?;
+    let Opened {
+        one,
+        two,
+        seat: mut own,
+        size,
+    } = opened;
+    let seat = one.shared.split_seat::<Roles>(&mut own);
+    Ok((
+        Commander {
+            mutator: Mutator {
+                cells: two,
+                seat,
+                log: Vec::new(alloc),
+                size,
+            },
+            roots,
+            end: 1,
+        },
+        Copier {
+            cells: one,
+            seat: own,
+            space: space.emptied(),
+            claims,
+            due: Vec::new(alloc),
+            next: 0,
+            fill: 0,
+            fill_next: 0,
+            fill_left: 0,
+            scan_place: 1,
+            scan_field: 0,
+            has_wanted: false,
+            wanted: 0,
+            size,
+        },
+    ))
+}

@@ -1,0 +1,21 @@
+//! A heap of objects that a mutator reads and writes while a collector's thread copies it into a space of its own.
+#![tactic(auto)]
+
+mod beside;
+mod cells;
+mod commands;
+mod copier;
+mod ends;
+mod handshake;
+mod held;
+mod machine;
+mod mutator;
+mod plays;
+mod runs;
+
+pub use beside::beside_collector;
+pub use commands::Commander;
+pub use copier::Work;
+pub use handshake::{Asking, Collector, Holding, Runner, Unflipped, Waiting, open};
+pub use held::NoFlip;
+pub use runs::{mutate, mutate_all, runs_reply_alike, what_is_shown_stays};

@@ -1,0 +1,200 @@
+//! The mutator's commands, as gc_graph's machine performs them.
+ghost use Rattle.std.specs.Prelude.{◌≡◌, ℕ, List, true, ◌<◌, ◌≤◌, ◌+◌, ◌*◌, ◌^◌, length, slice_set, IfOk, OnErr, if◌then◌else◌};
+ghost use Rattle.gc_graph.specs.Graph.{object_of, field_of, root};
+ghost use Rattle.gc_graph.specs.Machine.{get_field, view_of, same as same_in};
+ghost use Rattle.gc_words.specs.Word.{value_of, field_value};
+ghost use Rattle.gc_words.specs.Image.{objects_of};
+ghost use Rattle.gc_words.specs.Closed.{IsRootWord, IsFieldWord};
+ghost use Rattle.gc_words.specs.declared.header.Header.{Header};
+ghost use Rattle.gc_heap.specs.Heap.{graph_in};
+ghost use Rattle.gc_plan.specs.Steps.{WritesField};
+ghost use Rattle.gc_concurrent.specs.Holders.{cells_of, heap_in};
+ghost use Rattle.gc_concurrent.specs.Machines.{Does};
+
+use crate::commands::Commander;
+use gc_graph::{Number, Op, Reply, Slot, View};
+use gc_words::{Header, Value, encode, target_of, value_in};
+use std::alloc::AllocError;
+
+// The root word of the same value as this field word of an object with this header.
+fn root_word(header: Header, field: u64) -> u64
+    requires { header.raw ≡ true → field < 2 ^ 63 }
+    ensures value { value_of result ≡ field_value header field }
+    ensures word { (words : List ℕ) → IsFieldWord words header field → IsRootWord words result }
+{
+    if header.is_raw() {
+        2 * field + 1
+    } else {
+        field
+    }
+}
+
+impl Commander {
+    /// Writes a word into a root.
+    fn set_at(&mut self, place: usize, word: u64) -> Reply
+        requires root { place < length self.old.roots.items }
+        requires word { IsRootWord self.old.mutator.seat.me.0.mine.space.words word }
+        ensures done { result ≡ Reply.Done }
+        ensures heap { heap_in self.new ≡ record (heap_in self.old) { roots = slice_set self.old.roots.items place word } }
+        ensures cells { cells_of self.new ≡ cells_of self.old }
+    {
+        self.roots[place] = word;
+        Reply::Done
+    }
+
+    /// Sets `d` to the number: `Done`.
+    pub fn num(&mut self, d: Slot, n: Number) -> Reply
+        ensures step { Does (heap_in self.old) (Op.Num d n) result (heap_in self.new) }
+        ensures cells { cells_of self.new ≡ cells_of self.old }
+    {
+        let word = encode(Value::Num(n));
+        self.set_at(d.place(0), word)
+    }
+
+    /// Sets `d` to nil: `Done`.
+    pub fn nil(&mut self, d: Slot) -> Reply
+        ensures step { Does (heap_in self.old) (Op.Nil d) result (heap_in self.new) }
+        ensures cells { cells_of self.new ≡ cells_of self.old }
+    {
+        self.set_at(d.place(0), encode(Value::Nil))
+    }
+
+    /// Sets `d` to the value of `s`: `Done`.
+    pub fn move_slot(&mut self, d: Slot, s: Slot) -> Reply
+        ensures step { Does (heap_in self.old) (Op.Move d s) result (heap_in self.new) }
+        ensures cells { cells_of self.new ≡ cells_of self.old }
+    {
+        let word = self.roots[s.place(0)];
+        self.set_at(d.place(0), word)
+    }
+
+    /// Makes a new object: `Made` or `Full`.
+    pub fn new_object(&mut self, d: Slot, kind: u8, len: u16) -> Reply
+        ensures step { Does (heap_in self.old) (Op.New d kind len) result (heap_in self.new) }
+        ensures cells { cells_of self.new ≡ cells_of self.old }
+    {
+        self.make(d.place(0), false, kind, len)
+    }
+
+    /// Makes a new raw object: `Made` or `Full`.
+    pub fn new_raw(&mut self, d: Slot, kind: u8, len: u16) -> Reply
+        ensures step { Does (heap_in self.old) (Op.NewRaw d kind len) result (heap_in self.new) }
+        ensures cells { cells_of self.new ≡ cells_of self.old }
+    {
+        self.make(d.place(0), true, kind, len)
+    }
+
+    /// Returns what mutators see of the value of a word.
+    fn view(&mut self, word: u64) -> View
+        requires { IsRootWord self.old.mutator.seat.me.0.mine.space.words word }
+        ensures value { result ≡ view_of (objects_of self.old.mutator.seat.me.0.mine.space.words) (value_of word) }
+        ensures heap { heap_in self.new ≡ heap_in self.old }
+        ensures cells { cells_of self.new ≡ cells_of self.old }
+    {
+        match value_in(word) {
+            Value::Nil => View::Nil,
+            Value::Num(n) => View::Num(n),
+            Value::Ref(at) => {
+                let header = self.mutator.header(at);
+                let kind = header.kind();
+                let len = header.len();
+                if header.is_raw() {
+                    View::RawObj { kind, len }
+                } else {
+                    View::Obj { kind, len }
+                }
+            }
+        }
+    }
+
+    /// Returns what mutators see of the value of `s`: `Saw`.
+    pub fn look(&mut self, s: Slot) -> Reply
+        ensures step { Does (heap_in self.old) (Op.Look s) result (heap_in self.new) }
+        ensures cells { cells_of self.new ≡ cells_of self.old }
+    {
+        let word = self.roots[s.place(0)];
+        Reply::Saw(self.view(word))
+    }
+
+    // Whether two roots hold the same value. Equal values have equal words.
+    #[tactic(auto, using(gc_heap::proofs::Public::read_root, gc_heap::proofs::Public::root_word, gc_heap::proofs::Public::same_words, gc_heap::proofs::Public::at_root, gc_heap::proofs::Public::other_words))]
+    fn same_at(&self, s: usize, t: usize) -> Reply
+        requires one { s < length self.now.roots.items }
+        requires other { t < length self.now.roots.items }
+        ensures { result ≡ (if same_in (graph_in (heap_in self.now)).objects (root (graph_in (heap_in self.now)) s) (root (graph_in (heap_in self.now)) t) then Reply.Yes else Reply.No) }
+    {
+        if self.roots[s] == self.roots[t] {
+            Reply::Yes
+        } else {
+            Reply::No
+        }
+    }
+
+    /// Compares the values of `s` and `t`: `Yes` or `No`.
+    pub fn same(&self, s: Slot, t: Slot) -> Reply
+        ensures { Does (heap_in self.now) (Op.Same s t) result (heap_in self.now) }
+    {
+        self.same_at(s.place(0), t.place(0))
+    }
+
+    // Sets root `d` to field `i` of the object that root `s` refers to.
+    fn get_at(&mut self, d: usize, s: usize, i: u16) -> Reply
+        requires taker { d < length self.old.roots.items }
+        requires giver { s < length self.old.roots.items }
+        ensures graph { let object = object_of (graph_in (heap_in self.old)).objects (root (graph_in (heap_in self.old)) s) in
+            (result, graph_in (heap_in self.new)) ≡ get_field (graph_in (heap_in self.old)) d object (field_of object i) }
+        ensures space { (heap_in self.new).space ≡ (heap_in self.old).space }
+        ensures cells { cells_of self.new ≡ cells_of self.old }
+    {
+        let target = self.roots[s];
+        let Some(at) = target_of(target) else {
+            return Reply::NoObject;
+        };
+        let header = self.mutator.header(at);
+        if i >= header.len() {
+            return Reply::NoField;
+        }
+        let field = self.mutator.field(at, i);
+        let word = root_word(header, field);
+        let seen = self.view(word);
+        self.roots[d] = word;
+        Reply::Saw(seen)
+    }
+
+    /// Sets `d` to field `i` of the object that `s` refers to: `Saw`, `NoObject` or `NoField`.
+    pub fn get(&mut self, d: Slot, s: Slot, i: u16) -> Reply
+        ensures step { Does (heap_in self.old) (Op.Get d s i) result (heap_in self.new) }
+        ensures cells { cells_of self.new ≡ cells_of self.old }
+    {
+        self.get_at(d.place(0), s.place(0), i)
+    }
+
+    /// Writes the value of `t` to field `i` of the object that `s` refers to: `Done`, `NoObject`, `NoField` or `NoNumber`.
+    pub fn put_field(&mut self, s: Slot, i: u16, t: Slot) -> Result<Reply, AllocError>
+        ensures step { IfOk result (λ reply. Does (heap_in self.old) (Op.Put s i t) reply (heap_in self.new)) }
+        ensures err { OnErr result (heap_in self.new ≡ heap_in self.old) }
+        ensures cells { cells_of self.new ≡ cells_of self.old }
+    {
+        self.put(s.place(0), i, t.place(0))
+    }
+
+    /// Performs a command. Only a `Put` can fail, if its log cannot grow. Nothing has changed then.
+    pub fn apply(&mut self, op: &Op) -> Result<Reply, AllocError>
+        ensures step { IfOk result (λ reply. Does (heap_in self.old) op.now reply (heap_in self.new)) }
+        ensures err { OnErr result (heap_in self.new ≡ heap_in self.old) }
+        ensures memory { OnErr result (WritesField op.now) }
+        ensures cells { cells_of self.new ≡ cells_of self.old }
+    {
+        match *op {
+            Op::New { d, kind, len } => Ok(self.new_object(d, kind, len)),
+            Op::NewRaw { d, kind, len } => Ok(self.new_raw(d, kind, len)),
+            Op::Num { d, n } => Ok(self.num(d, n)),
+            Op::Nil { d } => Ok(self.nil(d)),
+            Op::Move { d, s } => Ok(self.move_slot(d, s)),
+            Op::Get { d, s, i } => Ok(self.get(d, s, i)),
+            Op::Put { s, i, t } => self.put_field(s, i, t),
+            Op::Same { s, t } => Ok(self.same(s, t)),
+            Op::Look { s } => Ok(self.look(s)),
+        }
+    }
+}

@@ -1,0 +1,93 @@
+//! The mutator's thread: what gc_words' `Space` offers, over the words of the table.
+ghost use Rattle.std.specs.Prelude.{◌≡◌, ◌+◌, ◌-◌, ◌*◌, ◌^◌, ◌<◌, ◌≤◌, true, false, [], ◌∷◌, length};
+ghost use Rattle.std.specs.Arc.{arc_value};
+
+use crate::cells::{Cells, CellsEnd};
+use crate::plays::{Got, Made, Put};
+use gc_words::{Addr, Header, field_index};
+use std::alloc::{AllocError, Global};
+use std::sync::Arc;
+
+/// A mutator. Its log lies here.
+#[derive(Drop)]
+pub struct Mutator {
+    pub(crate) cells: Arc<Cells, Global>,
+    pub seat: CellsEnd,
+    pub(crate) log: Vec<(u32, u16)>,
+    pub size: u32,
+    ghost row: { ((arc_value cells).shared.table_id ≡ seat.table_id) × (seat.table_id.words ≡ size) × ((arc_value cells).shared.key.size ≡ size) },
+    ghost writes: { seat.me.0.writes ≡ true },
+    ghost hands: { seat.me.1 ≡ [] },
+    ghost logged: { seat.me.0.mine.log ≡ log.items },
+    ghost sized: { seat.me.0.mine.space.size ≡ size },
+}
+
+impl Mutator {
+    ghost use Rattle.std.specs.Prelude.{Some, IsSome, IsTrue, OnOk, OnErr};
+    ghost use Rattle.gc_words.specs.Image.{Block, block_at, field_at, header_at, is_start};
+    ghost use Rattle.gc_words.specs.Space.{IsSpace, CanPlace, end_of, with_object, with_field_at};
+    ghost use Rattle.gc_words.specs.Closed.{IsFieldWord};
+    ghost use Rattle.gc_concurrent.specs.Ends.{Mine};
+
+    /// Reads the header of the object that starts here.
+    pub fn header(&mut self, at: Addr) -> Header
+        requires shaped { IsSpace self.old.seat.me.0.mine.space }
+        requires start { IsTrue (is_start self.old.seat.me.0.mine.space.words at.0) }
+        ensures value { header_at self.old.seat.me.0.mine.space.words at.0 ≡ Some result }
+        ensures same { self.new.seat.me ≡ self.old.seat.me }
+        ensures row { self.new.seat.table_id ≡ self.old.seat.table_id }
+        ensures size { self.new.size ≡ self.old.size }
+    {
+        let cells = &*self.cells;
+        let word = cells.shared.load::<Got>(&mut self.seat, at.0 as usize);
+        Header::of_word(word)
+    }
+
+    /// Reads field `i` of the object that starts here.
+    pub fn field(&mut self, at: Addr, i: u16) -> u64
+        requires shaped { IsSpace self.old.seat.me.0.mine.space }
+        requires there { IsSome (field_at self.old.seat.me.0.mine.space.words at.0 i) }
+        ensures value { field_at self.old.seat.me.0.mine.space.words at.0 i ≡ Some result }
+        ensures same { self.new.seat.me ≡ self.old.seat.me }
+        ensures row { self.new.seat.table_id ≡ self.old.seat.table_id }
+        ensures size { self.new.size ≡ self.old.size }
+    {
+        let cells = &*self.cells;
+        cells.shared.load::<Got>(&mut self.seat, field_index(at, i))
+    }
+
+    /// Writes field `i` of the object that starts here, and logs it.
+    pub fn set_field(&mut self, at: Addr, i: u16, word: u64) -> Result<(), AllocError>
+        requires shaped { IsSpace self.old.seat.me.0.mine.space }
+        requires there { IsSome (field_at self.old.seat.me.0.mine.space.words at.0 i) }
+        requires fits { (b : Block) → block_at self.old.seat.me.0.mine.space.words at.0 ≡ Some b → IsFieldWord self.old.seat.me.0.mine.space.words b.header word }
+        ensures ok { OnOk result (self.new.seat.me.0.mine.space ≡ with_field_at self.old.seat.me.0.mine.space at.0 i word) }
+        ensures err { OnErr result (self.new.seat.me ≡ self.old.seat.me) }
+        ensures row { self.new.seat.table_id ≡ self.old.seat.table_id }
+        ensures size { self.new.size ≡ self.old.size }
+    {
+        self.log.reserve(1)?;
+        let cells = &*self.cells;
+        cells
+            .shared
+            .store::<Put>(&mut self.seat, field_index(at, i), word);
+        self.log.push_reserved((at.0, i));
+        Ok(())
+    }
+
+    /// Places an object at the end: its header is all that is written, as the free words are 0. `end` is the end.
+    pub fn place(&mut self, end: u32, header: Header) -> Addr
+        requires end { end_of self.old.seat.me.0.mine.space ≡ end }
+        requires room { CanPlace self.old.seat.me.0.mine.space header }
+        ensures at { result.0 ≡ end_of self.old.seat.me.0.mine.space }
+        ensures words { self.new.seat.me.0.mine.space ≡ with_object self.old.seat.me.0.mine.space header }
+        ensures row { self.new.seat.table_id ≡ self.old.seat.table_id }
+        ensures size { self.new.size ≡ self.old.size }
+    {
+        let cells = &*self.cells;
+        cells
+            .shared
+            .store::<Made>(&mut self.seat, end as usize, header.word());
+        Addr(end)
+    }
+}
