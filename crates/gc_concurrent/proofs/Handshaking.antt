@@ -63,31 +63,34 @@ kept s r n homes' views' g' k' stage' one fits seats =
 
 -- ---- the mutator
 
-fresh_only : (P : Type 0) (stage : Stage) (handshake : ℕ) (g : Goer) (k : Keeper) (homes : Slots) → handshake ≡ 4 → HandshakeStands stage handshake g k homes → ((g.waits ≡ false) → (k.phase ≡ 0) → (k.row ≡ g.row) → (get_elem? homes 0 ≡ some (some None)) → P) → P
-fresh_only P fresh handshake g k homes e f h = h f.1 f.2 f.3 f.4
-fresh_only P running handshake g k homes e f h = absurd (let a = f.0 in omega arith)
-fresh_only P asked handshake g k homes e f h = absurd (let a = f.0 in omega arith)
-fresh_only P handed handshake g k homes e f h = absurd (let a = f.0 in omega arith)
-fresh_only P taken handshake g k homes e f h = absurd (let a = f.0 in omega arith)
-fresh_only P finished handshake g k homes e f h = absurd (let a = f.0 in omega arith)
+fresh_only : (P : Type 0) (stage : Stage) (handshake : ℕ) (g : Goer) (k : Keeper) (homes : Slots) → k.phase ≡ 4 → HandshakeStands stage handshake g k homes
+    → ((handshake ≡ 4) → (g.waits ≡ false) → (k.row ≡ g.row) → (get_elem? homes 0 ≡ some (some None)) → P) → P
+fresh_only P fresh handshake g k homes e f h = h f.0 f.1 f.3 f.4
+fresh_only P running handshake g k homes e f h = absurd (let a = f.2 in omega arith)
+fresh_only P asked handshake g k homes e f h = absurd (let a = f.2 in omega arith)
+fresh_only P handed handshake g k homes e f h = absurd (let a = f.2 in omega arith)
+fresh_only P taken handshake g k homes e f h = absurd (let a = f.2 in omega arith)
+fresh_only P finished handshake g k homes e f h = absurd (let a = f.2 in omega arith)
 
-pub starts_rule : (slots id : ℕ) (v : HandshakeKnown) → v.goes ≡ true → Allows IsHandshake slots id (v, []) 0 (λ g. either (eqb g 4) 0 g) (tells_start (step slots 0 4 0 none) (v, []))
-starts_rule slots id v goes s r _ here _ =
+pub starts_rule : (slots id : ℕ) (v : HandshakeKnown) → v.goes ≡ true → v.keeps ≡ true → v.keeper.phase ≡ 4 → Allows IsHandshake slots id (v, []) 0 (λ g. either (eqb g 4) 0 g) (tells_start (step slots 0 4 0 none) (v, []))
+starts_rule slots id v goes mine phase s r _ here _ =
     let me : HandshakeSat = (v, []) in
+    let to : v.keeper ≡ r.keeper = ((r.seats id v here).1 mine).1 in
+    let at : r.keeper.phase ≡ 4 = sym (ap (λ (k : Keeper). k.phase) to) ∙ phase in
     let handshake : ℕ = get_or s.words 0 0 in
     let room = r.room in
     let F : ℕ → Type 0 = λ z. (w : HandshakeKnown) × (a : Act (Option Commander)) × Valid s.homes me.1 a × IsHandshake (stepped s 0 z id me.1 w a) × tells_start (step slots 0 4 0 none) me handshake (w, carried_after me.1 a) in
     exchanged handshake 4 0 F
-    (λ e. fresh_only (F 0) r.stage handshake r.goer r.keeper s.homes e r.fits
-    (λ waits phase rows home. (
-      v,
+    (λ e. fresh_only (F 0) r.stage handshake r.goer r.keeper s.homes at r.fits
+    (λ word waits rows home. (
+      in_phase 0 v,
       takes 0 None,
       home,
-      subst (λ (vs : Views). IsHandshake (record { words = set s.words 0 0; homes = set s.homes 0 none; views = vs })) (sym (set_again s.views id v here))
-          (kept s r 0 (set s.homes 0 none) s.views r.goer r.keeper running (length-set s.homes 0 none ∙ room) (refl, waits, phase, rows) r.seats),
-      ((λ _. refl), λ ne. absurd (ne e)),
+      kept s r 0 (set s.homes 0 none) (set s.views id (in_phase 0 v)) r.goer (in_phase 0 v).keeper running (length-set s.homes 0 none ∙ room) (refl, waits, refl, ap (λ (k : Keeper). k.row) to ∙ rows)
+          (keeps_set r.goes_at r.keeps_at id r.goer r.keeper (in_phase 0 v).keeper s.views v here mine r.seats),
+      (e, refl),
     )))
-    (λ ne. (v, keeps, tt, same s id me.1 v here r, ((λ e. absurd (ne e)), λ _. refl)))
+    (λ ne. fresh_only (F handshake) r.stage handshake r.goer r.keeper s.homes at r.fits (λ word waits rows home. absurd (ne word)))
 
 asked_only : (P : Type 0) (stage : Stage) (handshake : ℕ) (g : Goer) (k : Keeper) (homes : Slots) → handshake ≡ 1 → HandshakeStands stage handshake g k homes → ((k.phase ≡ 1) → (k.row ≡ g.row) → P) → P
 asked_only P fresh handshake g k homes e f h = absurd (let a = f.0 in omega arith)

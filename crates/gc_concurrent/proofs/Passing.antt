@@ -46,8 +46,8 @@ in_hand c y more e = (y, e ∙ ap (λ (l : H). (0, y) ∷ rest l) (sym e))
 pub resumes_at : (slots id : ℕ) (me : HandshakeSat) → me.0.goes ≡ true → hands me ≡ [] → Allows IsHandshake slots id me 0 (λ g. either (eqb g 3) 0 g) (tells_resume (step slots 0 3 0 none) me)
 resumes_at slots id me goes e = subst (λ (c : H). Allows IsHandshake slots id (me.0, c) 0 (λ g. either (eqb g 3) 0 g) (tells_resume (step slots 0 3 0 none) (me.0, c))) (sym (no_hand me.1 e)) (resumes_rule slots id me.0 goes)
 
-pub starts_at : (slots id : ℕ) (me : HandshakeSat) → me.0.goes ≡ true → hands me ≡ [] → Allows IsHandshake slots id me 0 (λ g. either (eqb g 4) 0 g) (tells_start (step slots 0 4 0 none) me)
-starts_at slots id me goes e = subst (λ (c : H). Allows IsHandshake slots id (me.0, c) 0 (λ g. either (eqb g 4) 0 g) (tells_start (step slots 0 4 0 none) (me.0, c))) (sym (no_hand me.1 e)) (starts_rule slots id me.0 goes)
+pub starts_at : (slots id : ℕ) (me : HandshakeSat) → me.0.goes ≡ true → me.0.keeps ≡ true → me.0.keeper.phase ≡ 4 → hands me ≡ [] → Allows IsHandshake slots id me 0 (λ g. either (eqb g 4) 0 g) (tells_start (step slots 0 4 0 none) me)
+starts_at slots id me goes mine phase e = subst (λ (c : H). Allows IsHandshake slots id (me.0, c) 0 (λ g. either (eqb g 4) 0 g) (tells_start (step slots 0 4 0 none) (me.0, c))) (sym (no_hand me.1 e)) (starts_rule slots id me.0 goes mine phase)
 
 pub takes_gate_at : (slots id : ℕ) (me : HandshakeSat) → me.0.keeps ≡ true → me.0.keeper.phase ≡ 1 → hands me ≡ [] → Allows IsHandshake slots id me 0 (λ g. g) (tells_hand_over (step slots 0 0 0 none) me)
 takes_gate_at slots id me keeps phase e = subst (λ (c : H). Allows IsHandshake slots id (me.0, c) 0 (λ g. g) (tells_hand_over (step slots 0 0 0 none) (me.0, c))) (sym (no_hand me.1 e)) (takes_over_rule slots id me.0 keeps phase)

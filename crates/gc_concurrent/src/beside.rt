@@ -6,8 +6,8 @@ ghost use Rattle.gc_concurrent.specs.Law.{AreAllReplies, AreRepliesFromNothing};
 use crate::copier::Work;
 use crate::handshake::{Asking, Collector, Holding, Runner, open};
 use crate::runs::mutate_all;
-use gc_graph::{Op, Reply, View};
-use std::alloc::{AllocError, Global};
+use gc_graph::{NoMemory, Op, Reply, View};
+use std::alloc::Global;
 use std::sync::Wait;
 use std::sync::atomic::{AtomicU64, Ordering};
 use std::thread;
@@ -19,7 +19,7 @@ fn mutate_and_stop<R: Wait>(
     runner: Runner,
     ops: &[Op],
     stop: &AtomicU64,
-) -> Result<Vec<Reply>, AllocError>
+) -> Result<Vec<Reply>, NoMemory>
     ensures { IfOk result (λ replies. AreAllReplies (heap_in runner.commander) ops.now replies.items) }
 {
     let _named = View::Nil;
@@ -119,7 +119,7 @@ pub fn beside_collector<R: Threads + Wait + Sync>(
     alloc: Global,
     size: u32,
     ops: &[Op],
-) -> Result<Vec<Reply>, AllocError>
+) -> Result<Vec<Reply>, NoMemory>
     requires { 1 ≤ size }
     ensures { IfOk result (λ replies. AreRepliesFromNothing ops.now replies.items) }
 {

@@ -5,9 +5,8 @@ ghost use Rattle.gc_concurrent.specs.Heaps.{heap_of};
 ghost use Rattle.gc_concurrent.specs.Internal.Props.{heap_prop};
 
 use crate::mutator::Mutator;
-use gc_graph::{Reply, object_words};
+use gc_graph::{NoMemory, Reply, object_words};
 use gc_words::{Addr, Header, Value, encode, target_of, value_in};
-use std::alloc::AllocError;
 
 /// A mutator with its roots.
 #[derive(Drop)]
@@ -87,7 +86,7 @@ impl Commander {
     }
 
     /// Writes the value of root `t` to field `i` of the object that root `s` refers to.
-    pub(crate) fn put(&mut self, s: usize, i: u16, t: usize) -> Result<Reply, AllocError>
+    pub(crate) fn put(&mut self, s: usize, i: u16, t: usize) -> Result<Reply, NoMemory>
         requires target { s < length self.old.roots.items }
         requires giver { t < length self.old.roots.items }
         ensures graph { IfOk result (λ reply. let g = graph_in (heap_in self.old) in let object = object_of g.objects (root g s) in

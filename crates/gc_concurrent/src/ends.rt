@@ -8,8 +8,9 @@ ghost use Rattle.gc_concurrent.specs.Internal.Plans.{padded_to};
 ghost use Rattle.gc_concurrent.specs.Internal.Rule.{Loose};
 
 use crate::cells::{Cells, CellsEnd, CellsKey};
+use gc_graph::NoMemory;
 use gc_words::Space;
-use std::alloc::{AllocError, Global};
+use std::alloc::Global;
 use std::sync::Arc;
 
 /// New cells. One seat is both ends.
@@ -24,7 +25,7 @@ pub struct Opened {
 }
 
 // The words of the space, and zeros up to its size.
-fn padded(alloc: Global, words: &[u64], size: u32) -> Result<Vec<u64>, AllocError>
+fn padded(alloc: Global, words: &[u64], size: u32) -> Result<Vec<u64>, NoMemory>
     requires { length words.now ≤ size }
     ensures { IfOk result (λ row. row.items ≡ padded_to size words.now) }
 {
@@ -35,7 +36,7 @@ fn padded(alloc: Global, words: &[u64], size: u32) -> Result<Vec<u64>, AllocErro
 }
 
 /// Lays out a space as cells. A collection begins, in a new space of this size.
-pub(crate) fn open_cells(alloc: Global, space: &Space, new_size: u32) -> Result<Opened, AllocError>
+pub(crate) fn open_cells(alloc: Global, space: &Space, new_size: u32) -> Result<Opened, NoMemory>
     requires closed { IsClosed space.now.words [] }
     requires low { 1 ≤ new_size }
     ensures view { IfOk result (λ o. o.seat.me ≡ (opening_view space.now new_size, [])) }
@@ -52,10 +53,7 @@ pub(crate) fn open_cells(alloc: Global, space: &Space, new_size: u32) -> Result<
         new_size,
     };
     let (table, seat) = Cells::of_words(alloc, words.as_slice(), &about)?;
-    let one = match Arc::new(alloc, table) {
-        Ok(one) => one,
-        Err(_) => return Err(AllocError),
-    };
+    let one = Arc::new(alloc, table)?;
     let two = Arc::try_clone(&one)?;
     Ok(Opened {
         one,

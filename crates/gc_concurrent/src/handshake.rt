@@ -16,7 +16,8 @@ use crate::copier::{Copier, Work};
 use crate::held::{Held, NoFlip, hold, open_ends};
 use crate::plays::{Ask, Go, HandshakeRoles, Park, Resume, Start, Take};
 use atomic_table::{Seat, Table, TableRule};
-use std::alloc::{AllocError, Global};
+use gc_graph::NoMemory;
+use std::alloc::Global;
 use std::marker::Model;
 use std::sync::{Arc, Wait};
 use std::thread;
@@ -358,7 +359,7 @@ impl Holding {
 }
 
 /// Opens an empty heap of this many words, with 32 roots. Returns the mutator and the collector.
-pub fn open(alloc: Global, size: u32) -> Result<(Runner, Collector), AllocError>
+pub fn open(alloc: Global, size: u32) -> Result<(Runner, Collector), NoMemory>
     requires { 1 ≤ size }
     ensures heap { IfOk result (λ r. heap_in r.0.commander ≡ record { space = empty_space size; roots = replicate 32 0; mutators = 1 }) }
     ensures graph { IfOk result (λ r. graph_in (heap_in r.0.commander) ≡ opening 1) }
@@ -366,24 +367,12 @@ pub fn open(alloc: Global, size: u32) -> Result<(Runner, Collector), AllocError>
     ensures pair { IfOk result (λ r. cells_of r.0.commander ≡ cells_read_by r.1.copier) }
 {
     let (commander, copier) = open_ends(alloc, size)?;
-    let mut slots = Vec::with_capacity(alloc, 1)?;
-    slots.push_reserved(None);
-    let (table, mut seat) = match Handshake::new(alloc, &[4], slots, &commander) {
-        Ok(both) => both,
-        Err(_) => return Err(AllocError),
-    };
-    let handshake = match Arc::new(alloc, table) {
-        Ok(handshake) => handshake,
-        Err(_) => return Err(AllocError),
-    };
+    let (table, mut seat) = Handshake::vacant(alloc, &[4], 1, &commander)?;
+    let handshake = Arc::new(alloc, table)?;
     let other = Arc::try_clone(&handshake)?;
-    if handshake
+    handshake
         .shared
-        .compare_exchange::<Start>(&mut seat, 0, 4, 0)
-        != 4
-    {
-        return Err(AllocError);
-    }
+        .compare_exchange::<Start>(&mut seat, 0, 4, 0);
     let place = handshake.shared.split_seat::<HandshakeRoles>(&mut seat);
     Ok((
         Runner {

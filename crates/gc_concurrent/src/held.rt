@@ -25,8 +25,9 @@ use crate::copier::{Copier, Work, moved_word};
 use crate::ends::{Opened, open_cells};
 use crate::mutator::Mutator;
 use crate::plays::{Flipped, Roles, Rooted, Took};
+use gc_graph::NoMemory;
 use gc_words::{Addr, Space};
-use std::alloc::{AllocError, Global};
+use std::alloc::{AllocError, AllocFailed, Global};
 use std::sync::Arc;
 
 /// A mutator and its collector. One seat is both ends, and the mutator's log is empty.
@@ -127,8 +128,9 @@ fn moved_roots(alloc: Global, claims: &[u32], roots: &[u64]) -> Result<Vec<u64>,
     for k in 0..roots.len() {
         match moved_word(claims, roots[k]) {
             Ok(word) => {
-                if moved.push(word).is_err() {
-                    return Err(Missing::NoMemory);
+                match moved.push(word) {
+                    Ok(()) => {}
+                    Err(AllocFailed { .. }) => return Err(Missing::NoMemory),
                 }
             }
             Err(at) => return Err(Missing::Target(at)),
@@ -237,21 +239,23 @@ impl Held {
         let moved = moved_roots(alloc, self.copier.claims.as_slice(), self.roots.as_slice());
         let roots = match moved {
             Ok(roots) => roots,
-            Err(missing) => {
-                if let Missing::Target(at) = missing {
+            Err(missing) => match missing {
+                Missing::NoMemory => return Err((self, NoFlip::NoMemory)),
+                Missing::Target(at) => {
                     self.copier.want(at);
                     return Err((self, NoFlip::NotReady));
                 }
-                return Err((self, NoFlip::NoMemory));
-            }
+            },
         };
         let size = self.copier.space.size();
-        let Ok(claims) = Vec::from_elem(alloc, 0u32, size as usize) else {
-            return Err((self, NoFlip::NoMemory));
+        let claims = match Vec::from_elem(alloc, 0u32, size as usize) {
+            Ok(claims) => claims,
+            Err(AllocError) => return Err((self, NoFlip::NoMemory)),
         };
         self.copier.look();
-        let Ok(opened) = open_cells(alloc, &self.copier.space, size) else {
-            return Err((self, NoFlip::NoMemory));
+        let opened = match open_cells(alloc, &self.copier.space, size) {
+            Ok(opened) => opened,
+            Err(NoMemory) => return Err((self, NoFlip::NoMemory)),
         };
         let Held {
             copier,
@@ -318,16 +322,13 @@ impl Held {
 }
 
 /// Opens an empty heap of this many words, with 32 roots.
-pub(crate) fn open_ends(alloc: Global, size: u32) -> Result<(Commander, Copier), AllocError>
+pub(crate) fn open_ends(alloc: Global, size: u32) -> Result<(Commander, Copier), NoMemory>
     requires { 1 ≤ size }
     ensures heap { IfOk result (λ r. heap_of r.0.mutator.seat.me.0.mine r.0.roots.items ≡ record { space = empty_space size; roots = replicate 32 0; mutators = 1 }) }
     ensures row { IfOk result (λ r. r.0.mutator.seat.table_id ≡ r.1.seat.table_id) }
     ensures room { IfOk result (λ r. r.1.seat.me.0.theirs ≡ opening_theirs size size) }
 {
-    let space = match Space::new(alloc, size) {
-        Ok(space) => space,
-        Err(_) => return Err(AllocError),
-    };
+    let space = Space::new(alloc, size)?;
     let roots = Vec::from_elem(alloc, 0u64, 32)?;
     let claims = Vec::from_elem(alloc, 0u32, size as usize)?;
     let opened = open_cells(alloc, &space, size)?;

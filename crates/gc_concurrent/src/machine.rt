@@ -12,9 +12,8 @@ ghost use Rattle.gc_concurrent.specs.Holders.{cells_of, heap_in};
 ghost use Rattle.gc_concurrent.specs.Machines.{Does};
 
 use crate::commands::Commander;
-use gc_graph::{Number, Op, Reply, Slot, View};
+use gc_graph::{NoMemory, Number, Op, Reply, Slot, View};
 use gc_words::{Header, Value, encode, target_of, value_in};
-use std::alloc::AllocError;
 
 // The root word of the same value as this field word of an object with this header.
 fn root_word(header: Header, field: u64) -> u64
@@ -170,7 +169,7 @@ impl Commander {
     }
 
     /// Writes the value of `t` to field `i` of the object that `s` refers to: `Done`, `NoObject`, `NoField` or `NoNumber`.
-    pub fn put_field(&mut self, s: Slot, i: u16, t: Slot) -> Result<Reply, AllocError>
+    pub fn put_field(&mut self, s: Slot, i: u16, t: Slot) -> Result<Reply, NoMemory>
         ensures step { IfOk result (λ reply. Does (heap_in self.old) (Op.Put s i t) reply (heap_in self.new)) }
         ensures err { OnErr result (heap_in self.new ≡ heap_in self.old) }
         ensures cells { cells_of self.new ≡ cells_of self.old }
@@ -179,7 +178,7 @@ impl Commander {
     }
 
     /// Performs a command. Only a `Put` can fail, if its log cannot grow. Nothing has changed then.
-    pub fn apply(&mut self, op: &Op) -> Result<Reply, AllocError>
+    pub fn apply(&mut self, op: &Op) -> Result<Reply, NoMemory>
         ensures step { IfOk result (λ reply. Does (heap_in self.old) op.now reply (heap_in self.new)) }
         ensures err { OnErr result (heap_in self.new ≡ heap_in self.old) }
         ensures memory { OnErr result (WritesField op.now) }

@@ -4,8 +4,9 @@ ghost use Rattle.std.specs.Arc.{arc_value};
 
 use crate::cells::{Cells, CellsEnd};
 use crate::plays::{Got, Made, Put};
+use gc_graph::NoMemory;
 use gc_words::{Addr, Header, field_index};
-use std::alloc::{AllocError, Global};
+use std::alloc::Global;
 use std::sync::Arc;
 
 /// A mutator. Its log lies here.
@@ -57,7 +58,7 @@ impl Mutator {
     }
 
     /// Writes field `i` of the object that starts here, and logs it.
-    pub fn set_field(&mut self, at: Addr, i: u16, word: u64) -> Result<(), AllocError>
+    pub fn set_field(&mut self, at: Addr, i: u16, word: u64) -> Result<(), NoMemory>
         requires shaped { IsSpace self.old.seat.me.0.mine.space }
         requires there { IsSome (field_at self.old.seat.me.0.mine.space.words at.0 i) }
         requires fits { (b : Block) → block_at self.old.seat.me.0.mine.space.words at.0 ≡ Some b → IsFieldWord self.old.seat.me.0.mine.space.words b.header word }

@@ -11,13 +11,13 @@ ghost use Rattle.gc_concurrent.specs.Machines.{Does};
 ghost use Rattle.gc_concurrent.specs.Law.{Shows, AreReplies, AreAllReplies, HasNoFull, EndsAt, ShowsAfter, Serves, Ran};
 
 use crate::handshake::Runner;
-use gc_graph::{Op, Reply, View};
-use std::alloc::{AllocError, Global};
+use gc_graph::{NoMemory, Op, Reply, View};
+use std::alloc::Global;
 use std::sync::Wait;
 use std::thread;
 
 // Performs a command. The mutator is lost if its log cannot grow.
-fn performed(runner: Runner, op: &Op) -> Result<(Runner, Reply), AllocError>
+fn performed(runner: Runner, op: &Op) -> Result<(Runner, Reply), NoMemory>
     ensures { IfOk result (λ r. Does (heap_in runner.commander) op.now r.1 (heap_in r.0.commander)) }
 {
     let mut runner = runner;
@@ -31,7 +31,7 @@ pub fn mutate<R: Wait>(
     alloc: Global,
     runner: Runner,
     ops: &[Op],
-) -> Result<(Runner, Vec<Reply>), AllocError>
+) -> Result<(Runner, Vec<Reply>), NoMemory>
     ensures replies { IfOk result (λ r. AreReplies (heap_in runner.commander) ops.now r.1.items) }
     ensures fine { IfOk result (λ r. HasNoFull r.1.items) }
     ensures ends { IfOk result (λ r. EndsAt (heap_in r.0.commander) ops.now (length r.1.items)) }
@@ -65,7 +65,7 @@ pub fn runs_reply_alike()
 {}
 
 // Performs a command, and waits for the collector while there is no room.
-fn served<R: Wait>(rt: &R, runner: Runner, op: &Op) -> Result<(Runner, Reply), AllocError>
+fn served<R: Wait>(rt: &R, runner: Runner, op: &Op) -> Result<(Runner, Reply), NoMemory>
     ensures serves { IfOk result (λ r. Serves (heap_in runner.commander) op.now r.1 (heap_in r.0.commander)) }
     ensures fine { IfOk result (λ r. is_full r.1 ≡ false) }
 {
@@ -87,7 +87,7 @@ pub fn mutate_all<R: Wait>(
     alloc: Global,
     runner: Runner,
     ops: &[Op],
-) -> Result<(Runner, Vec<Reply>), AllocError>
+) -> Result<(Runner, Vec<Reply>), NoMemory>
     ensures replies { IfOk result (λ r. AreAllReplies (heap_in runner.commander) ops.now r.1.items) }
     ensures fine { IfOk result (λ r. HasNoFull r.1.items) }
     ensures count { IfOk result (λ r. length r.1.items ≡ length ops.now) }

@@ -58,7 +58,7 @@ abbrev pub IsHome : (Commander → Type 0) → Slots → Type 0
 IsHome P homes = (c : Commander) × (get_elem? homes 0 ≡ some (some (Some c))) × P c
 
 abbrev pub HandshakeStands : Stage → ℕ → Goer → Keeper → Slots → Type 0
-HandshakeStands fresh handshake g k homes = (handshake ≡ 4) × (g.waits ≡ false) × (k.phase ≡ 0) × (k.row ≡ g.row) × (get_elem? homes 0 ≡ some (some None))
+HandshakeStands fresh handshake g k homes = (handshake ≡ 4) × (g.waits ≡ false) × (k.phase ≡ 4) × (k.row ≡ g.row) × (get_elem? homes 0 ≡ some (some None))
 HandshakeStands running handshake g k homes = (handshake ≡ 0) × (g.waits ≡ false) × (k.phase ≡ 0) × (k.row ≡ g.row)
 HandshakeStands asked handshake g k homes = (handshake ≡ 1) × (g.waits ≡ false) × (k.phase ≡ 1) × (k.row ≡ g.row)
 HandshakeStands handed handshake g k homes = (handshake ≡ 2) × (g.waits ≡ true) × (k.phase ≡ 1) × IsHome (λ c. (heap_in c ≡ g.left) × (cells_of c ≡ k.row)) homes
@@ -81,7 +81,7 @@ pub record IsHandshake (s : State (Option Commander) HandshakeKnown) : Type 0 wh
 
 -- the first view
 abbrev pub handshake_opening : Commander → HandshakeKnown
-handshake_opening c = record { goes = true; keeps = true; goer = record { waits = false; left = heap_in c; row = cells_of c }; keeper = record { phase = 0; took = heap_in c; row = cells_of c } }
+handshake_opening c = record { goes = true; keeps = true; goer = record { waits = false; left = heap_in c; row = cells_of c }; keeper = record { phase = 4; took = heap_in c; row = cells_of c } }
 
 abbrev pub only_goes : HandshakeKnown → HandshakeKnown
 only_goes v = record v { keeps = false }
@@ -99,9 +99,6 @@ hands me = map (λ (x : ℕ × Option Commander). (x.0, is_some x.1)) me.1
 abbrev pub HandshakeStep : Type 0
 HandshakeStep = Step (Option Commander)
 
-abbrev pub tells_start : HandshakeStep → HandshakeSat → ℕ → HandshakeSat → Type 0
-tells_start st me found me' = (found ≡ 4 → me' ≡ (me.0, (0, None) ∷ me.1)) × (found ≢ 4 → me' ≡ me)
-
 abbrev pub parked : Commander → HandshakeKnown → HandshakeKnown
 parked c v = record v { goer = record { waits = true; left = heap_in c; row = v.goer.row } }
 
@@ -116,6 +113,10 @@ tells_resume st me found me' = (found ≡ 3 → (c : Commander) × GoesOnIn me.0
 
 abbrev pub in_phase : ℕ → HandshakeKnown → HandshakeKnown
 in_phase n v = record v { keeper = record v.keeper { phase = n } }
+
+-- a seat that is both ends of a new handshake takes the empty slot, and the mutator runs
+abbrev pub tells_start : HandshakeStep → HandshakeSat → ℕ → HandshakeSat → Type 0
+tells_start st me found me' = (found ≡ 4) × (me' ≡ (in_phase 0 me.0, (0, None) ∷ me.1))
 
 abbrev pub tells_ask : HandshakeStep → HandshakeSat → ℕ → HandshakeSat → Type 0
 tells_ask st me found me' = (found ≡ 0 → me' ≡ (in_phase 1 me.0, me.1)) × (found ≢ 0 → me' ≡ me)

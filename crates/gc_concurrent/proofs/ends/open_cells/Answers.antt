@@ -31,7 +31,7 @@ invariant_of-result c =
     let space : SpaceWords = c.args.space.now in
     let laid : c.as_slice.result.now ≡ padded_to space.size space.words = c.as_slice.ensures.value ∙ (c.in_ok-words.ensures ∙ (λ i. padded_to (c.size-size.ensures.value i) (c.words.ensures.value i))) in
     let t = c.in_ok-table.ensures in
-    let one : arc_value c.in-Ok.one ≡ c.in_ok-table.table = c.in-Ok.ensures.ok in
+    let one : arc_value c.in_ok-one.one ≡ c.in_ok-table.table = c.in_ok-one.ensures.ok in
     record {
       same = sym c.in_ok-two.ensures;
       row = (

@@ -11,6 +11,6 @@ split_seat-seat-requires c =
     let o = c.in_ok-opened.opened in
     let view = c.in_ok-opened.ensures.view in (
       tied _ _ _ c.deref.ensures o.row.0,
-      (let w = tied_words _ _ _ _ c.deref.ensures o.row.0 o.row.1 in let s = c.in_ok-opened.ensures.size in let e = ap (λ (x : SpaceWords). x.size) c.in-Ok.ensures.empty in let r = c.requires in omega arith),
+      (let w = tied_words _ _ _ _ c.deref.ensures o.row.0 o.row.1 in let s = c.in_ok-opened.ensures.size in let e = ap (λ (x : SpaceWords). x.size) c.in_ok-space.ensures.empty in let r = c.requires in omega arith),
       splits_rule _ _ _ (ap (λ (m : Sat). m.0.writes) view) (ap (λ (m : Sat). m.0.copies) view),
     )

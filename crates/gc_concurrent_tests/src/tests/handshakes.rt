@@ -1,0 +1,145 @@
+//! What each call of the handshake does, in one thread.
+use gc_concurrent::{Collector, Holding, NoFlip, Runner, Waiting, Work, open};
+use gc_graph::{Op, Reply, View};
+use gc_test_kit::commands::{get, new, num, own, put, saw};
+use std::alloc::Global;
+use std::test::Fail;
+
+/// The steps that a test lets a collector perform at most.
+const MOST_STEPS: u32 = 1_000_000;
+
+/// Performs steps beside the mutator until nothing is left to do. Returns whether there was an end.
+fn ends(collector: &mut Collector) -> bool {
+    for _ in 0..MOST_STEPS {
+        if collector.work() == Work::Done {
+            return true;
+        }
+    }
+    false
+}
+
+/// The same for a collector that holds the mutator.
+fn ends_held(holding: &mut Holding) -> bool {
+    for _ in 0..MOST_STEPS {
+        if holding.work() == Work::Done {
+            return true;
+        }
+    }
+    false
+}
+
+/// Stops the mutator, and lets its collector take it.
+fn taken(runner: Runner, mut collector: Collector) -> Result<(Waiting, Holding), Fail> {
+    if !ends(&mut collector) || runner.is_asked() {
+        return Err(Fail::from("a collection ends, and nobody is asked"));
+    }
+    let asking = collector.ask().ok().ok_or("the mutator runs")?;
+    if !runner.is_asked() {
+        return Err(Fail::from("the mutator is asked"));
+    }
+    let asking = asking.take().err().ok_or("the mutator has not stopped")?;
+    let waiting = runner.stop().ok().ok_or("the mutator is asked")?;
+    let holding = asking.take().ok().ok_or("the mutator has stopped")?;
+    Ok((waiting, holding))
+}
+
+/// Flips, after as many steps as are wanted.
+fn flipped(alloc: Global, mut holding: Holding) -> Result<Collector, Fail> {
+    for _ in 0..MOST_STEPS {
+        if !ends_held(&mut holding) {
+            break;
+        }
+        match holding.flip(alloc) {
+            Ok(collector) => return Ok(collector),
+            Err(refused) => {
+                if refused.why == NoFlip::NoMemory {
+                    break;
+                }
+                holding = refused.holding;
+            }
+        }
+    }
+    Err(Fail::from("it flips"))
+}
+
+/// Performs a command, and returns its reply.
+fn told(runner: &mut Runner, op: Op) -> Option<Reply> {
+    let _named = View::Nil;
+    runner.commander.apply(&op).ok()
+}
+
+#[test]
+fn a_flip_keeps_what_the_roots_reach(rt: HostRuntime) -> Result<(), Fail> {
+    let _named = View::Nil;
+    let alloc = rt.alloc();
+    let (mut runner, collector) = open(alloc, 64)?;
+    assert!(rt; told(&mut runner, new(own(0), 3, 2)) == Some(Reply::Made));
+    assert!(rt; told(&mut runner, num(own(1), 9)) == Some(Reply::Done));
+    assert!(rt; told(&mut runner, put(own(0), 1, own(1))) == Some(Reply::Done));
+    let (waiting, holding) = taken(runner, collector)?;
+    let waiting = waiting.resume().err().ok_or("the collector holds it")?;
+    let collector = flipped(alloc, holding)?;
+    let mut runner = waiting.resume().ok().ok_or("it may go on")?;
+    assert!(rt; told(&mut runner, get(own(2), own(0), 1)) == Some(saw(9)));
+    // The mutator has gone on, so it can be asked again.
+    let (waiting, holding) = taken(runner, collector)?;
+    let collector = flipped(alloc, holding)?;
+    let mut runner = waiting.wait(&rt);
+    assert!(rt; told(&mut runner, get(own(3), own(0), 1)) == Some(saw(9)));
+    let _still = collector.ask().ok().ok_or("it has gone on")?;
+    Ok(())
+}
+
+// The object has a replica when its field is written, so the collector learns of the write by the log alone.
+#[test]
+fn a_write_beside_the_collector_is_in_the_new_space(rt: HostRuntime) -> Result<(), Fail> {
+    let _named = View::Nil;
+    let alloc = rt.alloc();
+    let (mut runner, collector) = open(alloc, 64)?;
+    assert!(rt; told(&mut runner, new(own(0), 3, 1)) == Some(Reply::Made));
+    let (waiting, mut holding) = taken(runner, collector)?;
+    let refused = holding.flip(alloc).err().ok_or("the root has no replica")?;
+    assert!(rt; refused.why == NoFlip::NotReady);
+    holding = refused.holding;
+    assert!(rt; ends_held(&mut holding));
+    let collector = holding.go();
+    let collector = collector.ask().err().ok_or("it has not gone on")?;
+    let mut runner = waiting.resume().ok().ok_or("it may go on")?;
+    assert!(rt; told(&mut runner, num(own(1), 5)) == Some(Reply::Done));
+    assert!(rt; told(&mut runner, put(own(0), 0, own(1))) == Some(Reply::Done));
+    let (waiting, holding) = taken(runner, collector)?;
+    let _collector = flipped(alloc, holding)?;
+    let mut runner = waiting.resume().ok().ok_or("it may go on")?;
+    assert!(rt; told(&mut runner, get(own(2), own(0), 0)) == Some(saw(5)));
+    Ok(())
+}
+
+// Each flip makes room again: what no root reaches is not copied.
+#[test]
+fn unreachable_objects_make_room(rt: HostRuntime) -> Result<(), Fail> {
+    let _named = View::Nil;
+    let alloc = rt.alloc();
+    let (mut runner, mut collector) = open(alloc, 16)?;
+    for _ in 0..20 {
+        assert!(rt; told(&mut runner, new(own(0), 3, 4)) == Some(Reply::Made));
+        assert!(rt; told(&mut runner, new(own(0), 3, 4)) == Some(Reply::Made));
+        assert!(rt; told(&mut runner, new(own(0), 3, 4)) == Some(Reply::Full));
+        let (waiting, holding) = taken(runner, collector)?;
+        collector = flipped(alloc, holding)?;
+        runner = waiting.resume().ok().ok_or("it may go on")?;
+        assert!(rt; told(&mut runner, Op::Nil { d: own(0) }) == Some(Reply::Done));
+        let (waiting, holding) = taken(runner, collector)?;
+        collector = flipped(alloc, holding)?;
+        runner = waiting.resume().ok().ok_or("it may go on")?;
+    }
+    Ok(())
+}
+
+#[test]
+fn nobody_stops_unasked(rt: HostRuntime) -> Result<(), Fail> {
+    let alloc = rt.alloc();
+    let (runner, _collector) = open(alloc, 8)?;
+    let runner = runner.stop().err().ok_or("nobody asks")?;
+    let _runner = runner.poll(&rt);
+    Ok(())
+}
