@@ -11,7 +11,7 @@ use Rattle.gc_graph.specs.Slots.{SlotName, place}
 use Rattle.gc_graph.specs.declared.command.Op.{Op}
 use Rattle.gc_graph.specs.declared.command.Op.TheVariants.{Get, Put}
 use Rattle.gc_graph.specs.declared.reply.Reply.{Reply}
-use Rattle.gc_plan.proofs.Public.{get_set_other, get_set_same, in_right}
+use Rattle.gc_plan.proofs.Public.{get_set_other, get_set_same, in_right, lookup_written}
 use Rattle.gc_graph.specs.Machine.{Roomy, is_number, roomy_step, step, words_taken}
 use Rattle.gc_graph.specs.declared.reply.Reply.TheVariants.{Done, NoObject}
 use Rattle.std.proofs.lemmas.Bool.{cases_Bool, cases_eq, le-leb, leb-true, ne_eqb}
@@ -38,15 +38,13 @@ use Rattle.gc_collected.proofs.Together.{MakeNothing, together_ran, together_sta
 use Rattle.gc_collected.proofs.Monitor.Follows.{IsAmong, follows_closed, follows_written}
 
 
--- TEMPORARY
-lookup_set_same : (os : List (ℕ × Object)) (n i : ℕ) (v : Value) (o : Object) → lookup os n ≡ Some o → lookup (set_field os n i v) n ≡ Some (with_field o i v)
-lookup_set_same [] n i v o e = absurd (let no : None ≡ Some o = e in cc)
-lookup_set_same (entry ∷ os) n i v o e = grind (arith, common_steps, lookup_set_same os n i v o)
+-- ---- an object after a write
 
-lookup_set_other : (os : List (ℕ × Object)) (n i : ℕ) (v : Value) (x : ℕ) → (x ≡ n → ⊥) → lookup (set_field os n i v) x ≡ lookup os x
-lookup_set_other [] n i v x h = refl
-lookup_set_other (entry ∷ os) n i v x h = grind (arith, common_steps, ne_eqb, eqb-true, lookup_set_other os n i v x h)
--- END
+written_itself : (objects : List (ℕ × Object)) (n i : ℕ) (v : Value) (o : Object) → lookup objects n ≡ Some o → lookup (set_field objects n i v) n ≡ Some (with_field o i v)
+written_itself objects n i v o there = grind (arith, common_steps, lookup_written, eq-eqb)
+
+written_beside : (objects : List (ℕ × Object)) (n i : ℕ) (v : Value) (x : ℕ) (o : Object) → (x == n) ≡ false → lookup objects x ≡ Some o → lookup (set_field objects n i v) x ≡ Some o
+written_beside objects n i v x o other there = grind (arith, common_steps, lookup_written)
 
 -- ---- values in a row
 
@@ -189,7 +187,7 @@ module _ (g : Graph) (m a i j count : ℕ) (d s t : SlotName) (apart : place t m
   kept_target = root_left (place d m) apart ∙ target
 
   taker_now : object_in put d m ≡ Some (with_field taker i value)
-  taker_now = ap (object_of put.objects) kept_target ∙ lookup_set_same g.objects a i value taker there
+  taker_now = ap (object_of put.objects) kept_target ∙ written_itself g.objects a i value taker there
 
   giver_at : object_in put s m ≡ lookup put.objects name.0
   giver_at = ap (object_of put.objects) (root_left (place s m) beside ∙ name.1)
@@ -201,13 +199,13 @@ module _ (g : Graph) (m a i j count : ℕ) (d s t : SlotName) (apart : place t m
       both q is on = ap (λ o. copy_reply (suc i) (suc j) count o (object_in put s m)) taker_now ∙ ap (copy_reply (suc i) (suc j) count (Some (with_field taker i value))) is ∙ copy_done (with_field taker i value) q (suc i) (suc j) count on
 
       between : (name.0 == a) ≡ false → copy_reply (suc i) (suc j) count (object_in put d m) (object_in put s m) ≡ Done
-      between other = both giver (giver_at ∙ lookup_set_other g.objects a i value name.0 (λ e. absurd (let no : true ≡ false = sym (eq-eqb name.0 a e) ∙ other in cc)) ∙ name.2) (can_go_on taker giver i j count value can)
+      between other = both giver (giver_at ∙ written_beside g.objects a i value name.0 giver other name.2) (can_go_on taker giver i j count value can)
 
       within_one : (name.0 == a) ≡ true → copy_reply (suc i) (suc j) count (object_in put d m) (object_in put s m) ≡ Done
       within_one same =
           let e : name.0 ≡ a = eqb-true name.0 a same in
           let one : giver ≡ taker = (let both : Some giver ≡ Some taker = sym name.2 ∙ ap (lookup g.objects) e ∙ there in cc) in
-          both (with_field taker i value) (giver_at ∙ ap (lookup put.objects) e ∙ lookup_set_same g.objects a i value taker there)
+          both (with_field taker i value) (giver_at ∙ ap (lookup put.objects) e ∙ written_itself g.objects a i value taker there)
           (subst (λ o. CanCopy (with_field taker i (first_value o j)) (with_field taker i (first_value o j)) (suc i) (suc j) count) (sym one) (can_go_on_within taker i j count (subst (λ o. CanCopy taker o i j (suc count)) one can)))
 
   one_copy : OneCopied g put m a i j count d s
