@@ -19,7 +19,7 @@ GROUPS = {
     "crate-plan": ("the plan", ["gc_plan"]),
     "crate-mechanism": ("the mechanism", ["gc_copy"]),
     "crate-checkers": ("checkers", ["gc_cert", "gc_check", "gc_par", "gc_along", "gc_generations"]),
-    "crate-heap": ("the collected heap", ["gc_collected", "gc_pace"]),
+    "crate-heap": ("the collected heap", ["gc_roots", "gc_collected", "gc_pace"]),
     "crate-c": ("for C", ["gcflip_c", "gcflip_heap_c"]),
     "crate-recording": ("the recording", ["gc_world", "gc_shared"]),
     "crate-program": ("traces and the program", ["gc_trace", "gcflip"]),

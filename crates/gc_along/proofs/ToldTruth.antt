@@ -64,7 +64,7 @@ module _ (t : Tables) (k : ℕ) (d : ℕ × ℕ) (l : k < length (pairs_in t.ori
 
 pub sound_watched : (old new : Image) (t : Tables) → IsKept t → Watches old.words new.words (watch_of t) → Accepts t (outline_of old) (outline_of new) → Certified old new (pairs_in t.origins)
 sound_watched old new t kept watches said =
-    certified old new (watch_of t) watches (record { old_seen = said.old_seen; new_seen = said.new_seen; none_due = sym kept.counted ∙ said.none_due }) said.old_sized said.new_sized said.roots
+    certified old new (watch_of t) watches (record { old_seen = said.seen.old_seen; new_seen = said.seen.new_seen; none_due = sym kept.counted ∙ said.seen.none_due }) said.seen.old_sized said.seen.new_sized said.roots
 
 pub sound : (old new : Image) (t : Tables) → Tells old.words new.words t → Accepts t (outline_of old) (outline_of new) → Certified old new (pairs_in t.origins)
 sound old new t tells said = sound_watched old new t tells.kept tells.watches said

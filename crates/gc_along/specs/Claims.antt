@@ -47,12 +47,16 @@ CanWrite old a i t = slice_index_or t.olds a 0 ≡ 2 → (b : ℕ) × IsLinked o
 abbrev pub CanWriteRow : List ℕ → ℕ → ℕ → ℕ → Tables → Type 0
 CanWriteRow old a i n t = 1 ≤ n → slice_index_or t.olds a 0 ≡ 2 → (b : ℕ) × IsLinked old t a b × (field_place b i + n ≤ length t.news)
 
--- nothing is lost or due, as many words were seen as both images have, and the roots correspond
-pub record Accepts (t : Tables) (old new : ImageOutline) : Type 0 where
+-- nothing is lost or due, and as many words were seen as both images have
+pub record HasSeenBoth (t : Tables) (old new : ImageOutline) : Type 0 where
   pub found : IsFalse t.lost
   pub none_due : t.missing ≡ 0
   pub old_seen : length t.olds ≡ old.count
   pub new_seen : length t.news ≡ new.count
   pub old_sized : IsSized old
   pub new_sized : IsSized new
+
+-- all is seen, and the roots correspond
+pub record Accepts (t : Tables) (old new : ImageOutline) : Type 0 where
+  pub seen : HasSeenBoth t old new
   pub roots : RootsCorrespond (pairs_in t.origins) old.roots new.roots

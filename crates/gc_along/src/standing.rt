@@ -72,7 +72,7 @@ impl Standing {
     ghost use Rattle.gc_graph.specs.Graph.{Ref};
     ghost use Rattle.gc_words.specs.Word.{read_header, read_value};
     ghost use Rattle.gc_along.specs.Tables.{Tables};
-    ghost use Rattle.gc_along.specs.Claims.{Accepts, CanApply, CanMake, CanPlaceNext, CanWrite, CanWriteRow, IsLinked, OwesNone};
+    ghost use Rattle.gc_along.specs.Claims.{Accepts, CanApply, CanMake, CanPlaceNext, CanWrite, CanWriteRow, HasSeenBoth, IsLinked, OwesNone};
 
     /// Returns a checker for spaces of up to `size` words, at least 1.
     pub fn new(alloc: Global, size: u32) -> Result<Standing, NoMemory>
@@ -488,9 +488,25 @@ impl Standing {
         true
     }
 
+    /// Returns whether these root words stand for each other.
+    #[inline(always)]
+    pub fn roots_are_alike(&self, old: u64, new: u64) -> bool
+        ensures { result ≡ words_correspond (pairs_in self.now.origins) old new }
+    {
+        self.is_correspondence(old, new)
+    }
+
     /// Returns whether all is seen and compared, and the roots correspond.
     pub fn says_yes(&self, old: Outline, new: Outline) -> bool
         ensures exact { IsTrue result ↔ Accepts self.now (outline_in old.entry) (outline_in new.entry) }
+        ensures kept { IsTrue result → IsKept self.now }
+    {
+        self.has_seen_all(old, new) && self.roots_correspond(old, new)
+    }
+
+    /// Returns whether all is seen and compared but the roots, which it does not read.
+    pub fn has_seen_all(&self, old: Outline, new: Outline) -> bool
+        ensures exact { IsTrue result ↔ HasSeenBoth self.now (outline_in old.entry) (outline_in new.entry) }
         ensures kept { IsTrue result → IsKept self.now }
     {
         if self.lost {
@@ -508,10 +524,7 @@ impl Standing {
         if !is_sized(old) {
             return false;
         }
-        if !is_sized(new) {
-            return false;
-        }
-        self.roots_correspond(old, new)
+        is_sized(new)
     }
 
     /// The new space is the old one from now on, and the next new one is empty.

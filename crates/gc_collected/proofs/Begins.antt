@@ -14,6 +14,8 @@ use Rattle.gc_collected.specs.Internal.KnownRoots.{KnowsRoots}
 use Rattle.gc_collected.specs.Internal.Knows.{Knows, open_or_fresh}
 use Rattle.gc_collected.specs.Internal.Stays.{GoesAlong}
 use Rattle.gc_collected.specs.declared.known.KnownRoots.{KnownRoots}
+use Rattle.gc_roots.specs.Twins.{RootRow, KeepsTwins, begun as begun_row}
+use Rattle.gc_roots.proofs.Public.{begun_keeps}
 use Rattle.gc_collected.proofs.Monitor.EndsKnown.{begun_known}
 use Rattle.gc_collected.proofs.Monitor.Stays.{begun}
 
@@ -44,13 +46,9 @@ module _ (s : State) (t after : Tables) (closed : s.collection ≡ None) (heap :
       })
 
 -- no root is known to have a replica
-pub begun_knows : (known : KnownRoots) (heap : HeapWords) (was now : Option Collection) → KnowsRoots known (state_of heap was) → KnowsRoots (record { slots = 0; extra = 0; used = known.used; count = known.count }) (state_of heap now)
-begun_knows known heap was now k = record {
-  slots_high = omega arith;
-  extra_high = omega arith;
-  used_high = k.used_high;
-  counted = k.counted;
-  slots = λ p less. absurd (omega (arith, less));
-  extra = λ i less. absurd (omega (arith, less));
-  unused = k.unused;
+pub begun_knows : (known now : KnownRoots) (s : State) (o : Option Collection) → now.slots ≡ 0 → now.twins ≡ begun_row known.twins → KnowsRoots known s → KnowsRoots now (with_collection s o)
+begun_knows known now s o slots twins k = record {
+  slots_high = omega (arith, slots);
+  slots = λ p less. absurd (omega (arith, less, slots));
+  keeps = subst (λ (row : RootRow). KeepsTwins row (with_collection s o)) (sym twins) (begun_keeps known.twins s o k.keeps);
 }

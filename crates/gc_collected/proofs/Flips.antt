@@ -7,7 +7,7 @@ use Rattle.std.proofs.lemmas.Bool.{cases_Bool}
 use Rattle.gc_words.specs.Image.{Image}
 use Rattle.gc_words.specs.Certificate.{Certified}
 use Rattle.gc_heap.specs.Heap.{HeapWords, graph_in}
-use Rattle.gc_plan.specs.State.{State, Collection, heap_end}
+use Rattle.gc_plan.specs.State.{State, Collection, heap_end, pairs_of}
 use Rattle.gc_plan.specs.Steps.{collect, flipped, is_ready, passes_check, step_idle, step_in}
 use Rattle.gc_plan.specs.Belonging.{IsSpaceGraph, IsOpened}
 use Rattle.gc_plan.specs.declared.step.Step.TheVariants as steps
@@ -33,7 +33,7 @@ use Rattle.gc_collected.proofs.Monitor.FollowsEnds.{follows_flipped}
 use Rattle.gc_collected.proofs.Monitor.Ready.{accepts}
 
 -- what the standing checker says of two outlines
-abbrev Said : Tables → ImageOutline → ImageOutline → Type 0
+abbrev pub Said : Tables → ImageOutline → ImageOutline → Type 0
 Said t o n = IsKept t × Accepts t o n
 
 module _ (s : State) (c : Collection) (t : Tables) (first : s.collection ≡ Some c) (f : Follows s t) where
@@ -91,6 +91,10 @@ module _ (heap : HeapWords) (o : Option CollectionWords) (x : CollectionWords) (
 
   opened : IsOpened s (collection_in x)
   opened = subst (λ (o : Option Collection). IfSome o (IsOpened s)) first is_open
+
+  -- the monitor has the collection's pairs
+  pub same_pairs : whole ≡ false → pairs_in t.origins ≡ pairs_of (collection_in x)
+  same_pairs none = (goes s (collection_in x) t first (followed (on none))).fits.pairs
 
   -- a ready collection is not refused
   pub not_refused : (reply : StepReply) → IsNoFlip whole (is_ready (collection_in x) (graph_in heap)) (HasAccepted (Accepts t) (flip_pair (open_state heap x) (collection_in x))) reply

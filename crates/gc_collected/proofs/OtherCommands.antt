@@ -1,7 +1,7 @@
 -- Commands that write no field: they change only the heap, whether a collection is open or not.
 use Rattle.std.proofs.lemmas.Grind.{common_steps}
 use Rattle.std.proofs.Common.{◌≡◌, ℕ, ◌+◌, ◌<◌, length, Option, Some, None, ap, sym, subst, arith, rules}
-use Rattle.std.specs.Prelude.{min, max}
+use Rattle.std.specs.Prelude.{max}
 use Rattle.gc_graph.specs.Slots.{SlotName, roots_of}
 use Rattle.std.specs.Option.{option_map}
 use Rattle.gc_graph.specs.declared.command.Op.{Op}
@@ -14,7 +14,7 @@ use Rattle.gc_copy.proofs.Public.{open_left, idle_left, still_unlinked}
 use Rattle.gc_plan.specs.State.{State}
 use Rattle.gc_plan.specs.Staying.{root_written}
 use Rattle.gc_collected.specs.Internal.CollectedHeap.{BelongsIfOpen, Fits}
-use Rattle.gc_collected.specs.Internal.KnownRoots.{KnowsRoots}
+use Rattle.gc_collected.specs.Internal.KnownRoots.{HasWritten, KnowsRoots}
 use Rattle.gc_collected.specs.declared.known.KnownRoots.{KnownRoots}
 use Rattle.gc_graph.specs.declared.command.Op.TheVariants as ops
 use Rattle.gc_collected.proofs.Marks.{WritesBelow, SetsPlain, forgetting, slot_below, slot_command, plain_command, put_knows, stored_command}
@@ -44,14 +44,14 @@ pub said : (s : State) (epoch : ℕ) (heap new : HeapWords) (o : Option Collecti
     → mutate s m op ≡ (reply, state_of new (option_map collection_in o))
 said s epoch heap new o m op reply is fits sound none performs = subst (λ (t : State). mutate t m op ≡ (reply, state_of new (option_map collection_in o))) is (mutated epoch heap new o m op reply sound none performs fits)
 
--- afterwards the marks are those for an extra root that was written
-pub fits_stored : (epoch : ℕ) (known : KnownRoots) (heap new : HeapWords) (o : Option CollectionWords) (m i : ℕ) (op : Op) (reply : Reply) → IsHeap heap → ¬ WritesField op → Performs heap m op reply new → root_written m op ≡ Some (roots_of heap.mutators + i)
-    → roots_of heap.mutators + i < length (graph_in heap).roots → Fits epoch heap o
-    → KnowsRoots known (state_of heap (option_map collection_in o)) → Fits epoch new o × KnowsRoots (record { slots = known.slots; extra = min known.extra i; used = max known.used (i + 1); count = known.count }) (state_of new (option_map collection_in o))
-fits_stored epoch known heap new o m i op reply is none performs at within fits k = (
+-- afterwards the marks are those for an extra root that was written, and is in use
+pub fits_stored : (epoch : ℕ) (known now : KnownRoots) (heap new : HeapWords) (o : Option CollectionWords) (m i : ℕ) (op : Op) (reply : Reply) → IsHeap heap → ¬ WritesField op → Performs heap m op reply new → root_written m op ≡ Some (roots_of heap.mutators + i)
+    → roots_of heap.mutators + i < length (graph_in heap).roots → HasWritten known now i → now.twins.used ≡ max known.twins.used (i + 1) → Fits epoch heap o
+    → KnowsRoots known (state_of heap (option_map collection_in o)) → Fits epoch new o × KnowsRoots now (state_of new (option_map collection_in o))
+fits_stored epoch known now heap new o m i op reply is none performs at within written used fits k = (
   still_fits epoch heap new o m op reply is none performs fits,
-  subst (KnowsRoots (record { slots = known.slots; extra = min known.extra i; used = max known.used (i + 1); count = known.count })) (ap (λ (x : Reply × State). x.1) (mutated epoch heap new o m op reply is none performs fits))
-      (stored_command known (state_of heap (option_map collection_in o)) m i op at within k),
+  subst (KnowsRoots now) (ap (λ (x : Reply × State). x.1) (mutated epoch heap new o m op reply is none performs fits))
+      (stored_command known now (state_of heap (option_map collection_in o)) m i op at written (omega (arith, used)) (omega (arith, used, within, k.keeps.counted, k.keeps.used_high)) (λ le. absurd (omega (arith, le, used))) k),
 )
 
 -- the place of the slot that a command sets, if it sets one, is below those of the extra roots

@@ -12,12 +12,14 @@ use Rattle.gc_words.specs.Image.{Block, block_at, is_start, objects_of, object_o
 use Rattle.gc_words.proofs.Public.{object_found}
 use Rattle.gc_heap.specs.Heap.{HeapWords, graph_in}
 use Rattle.gc_plan.specs.State.{Collection, State}
-use Rattle.gc_plan.specs.Staying.{HasReplicaOf}
+use Rattle.gc_copy.specs.Twins.{IsTwin}
+use Rattle.gc_roots.specs.Twins.{twin_at}
 use Rattle.gc_copy.specs.Words.{CollectionWords, state_of}
 use Rattle.gc_collected.specs.Internal.CollectedHeap.{Fits}
 use Rattle.gc_collected.specs.Internal.KnownRoots.{KnowsRoots}
 use Rattle.gc_collected.specs.Referring.{refer_step, with_reference}
 use Rattle.gc_collected.specs.declared.known.KnownRoots.{KnownRoots}
+use Rattle.gc_collected.proofs.Marks.{forgetting}
 
 -- an object starts where the graph has one
 some_mapped : (o : Option Block) → is_some (option_map object_of_block o) ≡ is_some o
@@ -45,15 +47,19 @@ root_beside (x ∷ vs) (suc p) zero v other = refl
 root_beside (x ∷ vs) (suc p) (suc q) v other = root_beside vs p q v (λ e. other (ap suc e))
 
 -- afterwards nothing is known of the slots
-pub referred_knows : (known : KnownRoots) (s : State) (p a : ℕ) → p < roots_of s.mutators → KnowsRoots known s → KnowsRoots (record { slots = 0; extra = known.extra; used = known.used; count = known.count }) (with_reference s p a)
+pub referred_knows : (known : KnownRoots) (s : State) (p a : ℕ) → p < roots_of s.mutators → KnowsRoots known s → KnowsRoots (forgetting known) (with_reference s p a)
 referred_knows known s p a low k = record {
   slots_high = omega arith;
-  extra_high = k.extra_high;
-  used_high = omega (arith, same_length, k.used_high);
-  counted = same_length ∙ k.counted;
   slots = λ q less. absurd (omega (arith, less));
-  extra = λ i less. subst (λ v. IfSome s.collection (λ c. HasReplicaOf c v)) (sym (beside i)) (k.extra i less);
-  unused = λ i le. beside i ∙ k.unused i le;
+  keeps = record {
+    counted = k.keeps.counted ∙ sym same_length;
+    front_high = k.keeps.front_high;
+    used_high = k.keeps.used_high;
+    stale_high = k.keeps.stale_high;
+    unused = λ i le. beside i ∙ k.keeps.unused i le;
+    clean = k.keeps.clean;
+    right = λ i less none. subst (λ v. IfSome s.collection (λ c. IsTwin c v (twin_at s known.twins i))) (sym (beside i)) (k.keeps.right i less none);
+  };
 }
   where
     same_length : length (slice_set s.heap.graph.roots p (Ref a)) ≡ length s.heap.graph.roots

@@ -52,7 +52,7 @@ impl CollectedHeap {
         let Some(collection) = &mut self.collection else {
             return Ok(Finding::Idle);
         };
-        let roots_done = search(collection, &self.heap, self.known).missing.is_none();
+        let roots_done = search(collection, &self.heap, &self.watch, &mut self.known).is_none();
         if !collection.ready_with(&self.heap, roots_done) {
             return Ok(Finding::NotReady);
         }

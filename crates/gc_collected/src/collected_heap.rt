@@ -26,8 +26,6 @@ pub struct CollectedHeap {
     pub(crate) known: KnownRoots,
     /// The epoch of the next collection's links. No object has a link above its mark.
     pub(crate) epoch: u32,
-    /// A row with room for all moved roots, so that a flip need not ask for one.
-    pub(crate) roots: Vec<u64>,
     /// The monitor.
     pub(crate) watch: Standing,
     /// Whether there is one.
@@ -49,13 +47,13 @@ impl Model for CollectedHeap {
 
     ghost Value = { Collected };
 
-    ghost use Rattle.std.specs.Prelude.{◌≤◌, vec_capacity, IsTrue};
+    ghost use Rattle.std.specs.Prelude.{IsTrue};
     ghost use Rattle.std.specs.Option.{option_map};
     ghost use Rattle.gc_cert.specs.Views.{pair_in};
     ghost use Rattle.gc_copy.specs.Words.{collection_in, held_in, state_of};
     ghost use Rattle.gc_collected.specs.Internal.Follows.{Follows};
     ghost use Rattle.gc_collected.specs.Internal.CollectedHeap.{Fits};
-    ghost use Rattle.gc_collected.specs.Internal.KnownRoots.{KnowsRoots};
+    ghost use Rattle.gc_collected.specs.Internal.KnownRoots.{ComparesTwins, KnowsRoots};
 
     ghost view = { λ h. record {
       core = state_of h.heap (option_map collection_in h.collection);
@@ -68,7 +66,7 @@ impl Model for CollectedHeap {
     } };
 
     ghost invariant = { λ h. (Fits h.epoch h.heap h.collection × KnowsRoots h.known (state_of h.heap (option_map collection_in h.collection))
-        × (h.known.count ≤ vec_capacity h.roots)) × (IsTrue h.along → Follows (state_of h.heap (option_map collection_in h.collection)) h.watch) };
+        × ComparesTwins h.known) × (IsTrue h.along → Follows (state_of h.heap (option_map collection_in h.collection)) h.watch) };
 }
 
 impl CollectedHeap {
@@ -105,17 +103,16 @@ impl CollectedHeap {
         ensures beside { IfOk result (λ heap. heap.beside ≡ opening_beside checking) }
     {
         let heap = Heap::open_with(alloc, options)?;
-        let count = heap.roots().len();
-        let roots = Vec::with_capacity(alloc, count)?;
         let along = matches!(checking, Checking::Along { .. });
+        let roots = heap.roots().len() as u32;
+        let known = KnownRoots::new(alloc, roots, if along { roots } else { 0 })?;
         let watch = monitor(alloc, options.size, along)?;
         Ok(CollectedHeap {
             alloc,
             heap,
             collection: None,
-            known: KnownRoots::new(count),
+            known,
             epoch: 0,
-            roots,
             watch,
             along,
             checks: FlipChecks { along: 0, whole: 0 },

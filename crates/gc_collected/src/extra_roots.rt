@@ -11,8 +11,10 @@ ghost use Rattle.gc_plan.specs.Steps.{mutate};
 ghost use Rattle.gc_copy.specs.Words.{BelongsTo, collection_in, state_of};
 ghost use Rattle.gc_collected.specs.ExtraRoots.{clear_step};
 ghost use Rattle.gc_collected.specs.Internal.CollectedHeap.{Fits};
+ghost use Rattle.gc_collected.specs.Internal.KnownRoots.{ComparesTwins, KnowsRoots};
 
 use crate::collected_heap::CollectedHeap;
+use crate::known::KnownRoots;
 use gc_copy::Collection;
 use gc_graph::{Reply, Slot};
 use gc_heap::Heap;
@@ -52,12 +54,12 @@ impl CollectedHeap {
         self.is_sound();
         // Here the prover learns that the heap is sound.
         let _ = self.heap.space();
-        self.known = self.known.stored(k);
+        self.known.wrote(k);
         self.heap.store(m, k, s)
     }
 
-    /// Sets the extra roots from `from` on, and below `to`, to nil. Does not allocate, and logs nothing. A collection does not read extra
-    /// roots above the last one that was set and not cleared.
+    /// Sets the extra roots from `from` on, and below `to`, to nil. Does not allocate, and logs nothing. The next collection reads each root that
+    /// was cleared at most twice, and later ones read none above the last one that was set and not cleared.
     pub fn clear(&mut self, from: u32, to: u32)
         requires { to ≤ extra_roots_of self.old.core }
         ensures step { clear_step self.old.core from (to - from) ≡ self.new.core }
@@ -67,23 +69,32 @@ impl CollectedHeap {
         self.is_sound();
         // Here the prover learns that the heap is sound.
         let _ = self.heap.space();
-        clear_each(&mut self.heap, &self.collection, from, to);
-        self.known = self.known.cleared(from, to);
+        clear_each(&mut self.heap, &self.collection, &mut self.known, from, to);
     }
 }
 
 /// Sets these extra roots to nil. The collection, if one is open, stays as it is.
-fn clear_each(heap: &mut Heap, collection: &Option<Collection>, from: u32, to: u32)
+fn clear_each(
+    heap: &mut Heap,
+    collection: &Option<Collection>,
+    known: &mut KnownRoots,
+    from: u32,
+    to: u32,
+)
     requires belongs { IfSome collection.now (BelongsTo heap.old) }
     requires within { to ≤ extra_roots_in heap.old }
     ensures step { clear_step (state_of heap.old (option_map collection_in collection.now)) from (to - from)
         ≡ state_of heap.new (option_map collection_in collection.now) }
     ensures fits { (epoch : ℕ) → Fits epoch heap.old collection.now → Fits epoch heap.new collection.now }
     ensures mutators { heap.new.mutators ≡ heap.old.mutators }
+    ensures knows { KnowsRoots known.old (state_of heap.old (option_map collection_in collection.now))
+        → KnowsRoots known.new (state_of heap.new (option_map collection_in collection.now)) }
+    ensures compares { ComparesTwins known.old → ComparesTwins known.new }
 {
     for k in from..to {
         // Here the prover learns that the heap is sound.
         let _ = heap.space();
         let _done = heap.clear(k);
+        known.nilled(k);
     }
 }

@@ -49,7 +49,7 @@ impl Draft {
 /// A flip that a checker accepted, with what it needs, so that it cannot fail any more.
 #[derive(Debug, Drop)]
 pub(crate) enum Approved {
-    /// The standing checker accepts the outlines of both images. The heap's own row has the moved roots.
+    /// The standing checker accepts the outlines of both images. The twins are the new roots.
     Along,
     /// The checker of both spaces whole accepts the certificate.
     Whole(Draft),

@@ -1,29 +1,36 @@
 //! Flips: a decision, and its execution, which cannot fail.
 
-ghost use Rattle.std.specs.Prelude.{◌≡◌, ◌≢◌, ◌<◌, ◌≤◌, ◌^◌, Some, None, IfOk, IfSome, IsTrue, IsFalse, OnErr, MatchResult, List, ℕ, length, vec_capacity};
+ghost use Rattle.std.specs.Prelude.{◌≡◌, ◌≢◌, ◌<◌, ◌≤◌, ◌^◌, Some, None, IfOk, IfSome, IsTrue, IsFalse, OnErr, MatchResult, is_none, length};
 ghost use Rattle.std.specs.Option.{option_map};
 ghost use Rattle.gc_cert.specs.Views.{pair_in};
 ghost use Rattle.gc_heap.specs.Heap.{graph_in};
-ghost use Rattle.gc_plan.specs.Steps.{collect, is_ready};
-ghost use Rattle.gc_copy.specs.Words.{AreMoved, BelongsTo, IsCollection, LinksNothing, collection_in, idle_state, open_state};
+ghost use Rattle.gc_plan.specs.Steps.{collect, is_ready, root_target};
+ghost use Rattle.gc_copy.specs.Words.{AreMoved, BelongsTo, IsCollection, LinksNothing, collection_in, idle_state, new_root_words, open_state};
 ghost use Rattle.gc_plan.specs.declared.step.Step.{Step};
 ghost use Rattle.gc_plan.specs.declared.step.StepReply.{StepReply};
 ghost use Rattle.gc_collected.specs.Flip.{FormerAfter, HasAccepted, flip_pair, IsCertified, pair_after};
 ghost use Rattle.gc_collected.specs.Internal.Flip.{AsAsked, IsDraft, IsFlipOf, IsNewImage, IsNoFlip, keep_in};
-ghost use Rattle.gc_collected.specs.Internal.KnownRoots.{KnowsRoots};
+ghost use Rattle.gc_along.specs.Origins.{pairs_in};
+ghost use Rattle.gc_plan.specs.State.{pairs_of};
+ghost use Rattle.gc_roots.specs.Looks.{ComparesKnown, HasLooked};
+ghost use Rattle.gc_roots.specs.Twins.{RootRow, KeepsTwins, IsDone, SlotsAreTwins};
 ghost use Rattle.gc_collected.specs.declared.flip.Keep.{Keep};
 
+use crate::barrier::are_shown;
 use crate::checking::{Finding, found_by};
 use crate::collected_heap::CollectedHeap;
 use crate::flip::{Approved, Draft, Keep, new_image_copied};
-use crate::known::{KnownRoots, search};
+use crate::known::search;
 use crate::rooms::free_if;
-use gc_along::{Outline, Watcher, a_yes_is_sound};
+use gc_along::{Outline, Standing, Watcher, a_yes_is_sound};
 use gc_cert::{Image, PairFile};
 use gc_check::Checks;
-use gc_copy::{Collection, Room, StepReply, heaps_have_addresses_as_names, images_show_links};
+use gc_copy::{
+    Collection, Room, StepReply, Swapped, heaps_have_addresses_as_names, images_show_links,
+};
 use gc_graph::{NoMemory, root_count};
 use gc_heap::Heap;
+use gc_roots::{RootLooks, RootTwins, RootWatcher, twins_are_alike};
 use std::alloc::Global;
 
 impl CollectedHeap {
@@ -72,13 +79,21 @@ impl CollectedHeap {
         let Some(collection) = &mut self.collection else {
             return Ok(StepReply::Idle);
         };
+        let roots_done = search(collection, &self.heap, &self.watch, &mut self.known).is_none();
+        let along = root_watcher(
+            &self.watch,
+            &self.known.looks,
+            &self.known.twins,
+            &self.heap,
+            collection,
+        );
         let decided = decide(
             self.alloc,
             &mut self.heap,
             collection,
-            self.known,
-            &mut self.roots,
-            &self.watch,
+            roots_done,
+            &mut self.known.twins,
+            &along,
             checker,
             whole,
             keep,
@@ -91,11 +106,12 @@ impl CollectedHeap {
         let pairs = carry_out(
             &mut self.heap,
             collection,
-            &self.roots,
+            &mut self.known.twins,
             approved,
             &mut self.former,
             &mut self.pair,
         );
+        self.known.looks.restart();
         self.epoch = 1;
         self.checks = self.checks.with(whole);
         self.turn = self.turn.after(whole);
@@ -122,14 +138,41 @@ impl CollectedHeap {
     }
 }
 
+// Returns the monitor with what it has compared of the roots. These are alike to the new roots.
+fn root_watcher<'a>(
+    standing: &'a Standing,
+    looks: &'a RootLooks,
+    twins: &RootTwins,
+    heap: &Heap,
+    collection: &Collection,
+) -> RootWatcher<'a>
+    requires belongs { BelongsTo heap.now collection.now }
+    requires keeps { KeepsTwins twins.now (open_state heap.now collection.now) }
+    requires compares { ComparesKnown twins.now looks.now }
+    ensures standing { result.standing.now ≡ standing.now }
+    ensures looked { pairs_in result.standing.now.origins ≡ pairs_of (collection_in collection.now)
+        → HasLooked (pairs_in result.standing.now.origins) result.slots (flip_pair (open_state heap.now collection.now) (collection_in collection.now)).old.roots
+        (flip_pair (open_state heap.now collection.now) (collection_in collection.now)).new.roots result.looks.now }
+{
+    heaps_have_addresses_as_names();
+    images_show_links();
+    twins_are_alike();
+    are_shown(heap, collection);
+    RootWatcher {
+        standing,
+        looks,
+        slots: root_count(heap.mutators()),
+    }
+}
+
 // Decides whether the open collection flips. If so, returns what the flip needs: all allocations are made here. If not, returns the reply. It
 // knows of neither checker more than their bounds say, so that its clauses tell which was asked.
 fn decide<W: Watcher, C: Checks>(
     alloc: Global,
     heap: &mut Heap,
     collection: &mut Collection,
-    known: KnownRoots,
-    roots: &mut Vec<u64>,
+    roots_done: bool,
+    twins: &mut RootTwins,
     along: &W,
     checker: &C,
     whole: bool,
@@ -137,15 +180,17 @@ fn decide<W: Watcher, C: Checks>(
 ) -> Result<Result<Approved, StepReply>, NoMemory>
     requires can { C.can_check checker.now }
     requires belongs { BelongsTo heap.old collection.old }
-    requires knows { KnowsRoots known (open_state heap.old collection.old) }
-    requires row { known.count ≤ vec_capacity roots.old }
+    requires roots { roots_done ≡ is_none (root_target (collection_in collection.old) (graph_in heap.old)) }
+    requires keeps { KeepsTwins twins.old (open_state heap.old collection.old) }
+    requires done { IsTrue roots_done → IsDone twins.old }
     requires pair { keep ≡ Keep.Pair → IsTrue whole }
     ensures state { open_state heap.new collection.new ≡ open_state heap.old collection.old }
     ensures belongs { BelongsTo heap.new collection.new }
-    ensures row { known.count ≤ vec_capacity roots.new }
+    ensures keeps { KeepsTwins twins.new (open_state heap.new collection.new) }
+    ensures rest { twins.new ≡ record twins.old { twins = twins.new.twins } }
     ensures approved { IfOk result (λ decided. MatchResult decided
         (λ approved. IsTrue (is_ready (collection_in collection.old) (graph_in heap.old))
-        × IsFlipOf heap.new collection.new roots.new.items approved × (keep_in approved ≡ keep))
+        × IsFlipOf heap.new collection.new twins.new approved × (keep_in approved ≡ keep))
         (IsNoFlip whole (is_ready (collection_in collection.old) (graph_in heap.old))
         (HasAccepted (W.sure along.now) (flip_pair (open_state heap.old collection.old) (collection_in collection.old))))) }
     // A flip rests on the yes of the checker that was to be asked.
@@ -157,16 +202,15 @@ fn decide<W: Watcher, C: Checks>(
     ensures ready { OnErr result (IsTrue (is_ready (collection_in collection.old) (graph_in heap.old))) }
     ensures memory { OnErr result (IsTrue whole) }
 {
-    let roots_done = search(collection, heap, known).missing.is_none();
     if !collection.ready_with(heap, roots_done) {
         return Ok(Err(StepReply::NotReady));
     }
     if whole {
         return decide_whole(alloc, heap, collection, checker, keep);
     }
-    let in_use = root_count(heap.mutators()) + known.used;
-    collection.move_roots(heap, in_use, roots);
-    if is_accepted(along, heap, collection, roots) {
+    twins.settle(heap, collection);
+    let in_use = root_count(heap.mutators()) + twins.used();
+    if is_accepted(along, heap, collection, &twins.words()[..in_use]) {
         Ok(Ok(Approved::Along))
     } else {
         Ok(Err(StepReply::Refused))
@@ -187,7 +231,7 @@ fn decide_whole<C: Checks>(
     ensures state { open_state heap.new collection.new ≡ open_state heap.old collection.old }
     ensures belongs { BelongsTo heap.new collection.new }
     ensures approved { IfOk result (λ decided. MatchResult decided
-        (λ approved. ((roots : List ℕ) → IsFlipOf heap.new collection.new roots approved) × (keep_in approved ≡ keep)) (λ reply. ⊥)) }
+        (λ approved. ((row : RootRow) → IsFlipOf heap.new collection.new row approved) × (keep_in approved ≡ keep)) (λ reply. ⊥)) }
     ensures asked { IfOk result (λ decided. C.says_yes checker.now (flip_pair (open_state heap.old collection.old) (collection_in collection.old))) }
     ensures certified { IfOk result (λ decided. IsCertified (flip_pair (open_state heap.old collection.old) (collection_in collection.old))) }
 {
@@ -206,20 +250,22 @@ fn decide_whole<C: Checks>(
     }
 }
 
-// Carries out a flip that was approved. `roots` is the heap's own row. Keeps the old space as room, or the pair. Returns the number of pairs.
+// Carries out a flip that was approved. Keeps the old space as room, or the pair. Returns the number of pairs.
 fn carry_out(
     heap: &mut Heap,
     collection: Collection,
-    roots: &[u64],
+    twins: &mut RootTwins,
     approved: Approved,
     former: &mut Option<Room>,
     pair: &mut Option<PairFile>,
 ) -> u32
     requires belongs { BelongsTo heap.old collection }
     requires ready { IsTrue (is_ready (collection_in collection) (graph_in heap.old)) }
-    requires approved { IsFlipOf heap.old collection roots.now approved }
+    requires keeps { KeepsTwins twins.old (open_state heap.old collection) }
+    requires approved { IsFlipOf heap.old collection twins.old approved }
     ensures step { collect (open_state heap.old collection) Step.Flip ≡ (StepReply.Flipped result, idle_state heap.new) }
     ensures count { result ≡ length (collection_in collection).replicas }
+    ensures keeps { KeepsTwins twins.new (idle_state heap.new) }
     ensures links { LinksNothing 1 heap.new }
     ensures mutators { heap.new.mutators ≡ heap.old.mutators }
     ensures former { FormerAfter (keep_in approved) (open_state heap.old collection) former.old (StepReply.Flipped result) former.new }
@@ -227,8 +273,8 @@ fn carry_out(
         ≡ pair_after (keep_in approved) (option_map pair_in pair.old) (open_state heap.old collection) (StepReply.Flipped result) }
 {
     match approved {
-        Approved::Along => leave_room(heap, collection, roots, former),
-        Approved::Whole(draft) => leave_room(heap, collection, &draft.roots, former),
+        Approved::Along => leave_twins(heap, collection, twins, former),
+        Approved::Whole(draft) => leave_room(heap, collection, draft.roots, former),
         Approved::Pair(draft, copy) => {
             let (pairs, file) = leave_pair(heap, collection, draft, copy);
             *pair = Some(file);
@@ -237,23 +283,47 @@ fn carry_out(
     }
 }
 
-// Flips, and keeps the old space as room.
-fn leave_room(
+// Flips to the twins of the roots, and keeps the old space as room. Takes constant time.
+fn leave_twins(
     heap: &mut Heap,
     collection: Collection,
-    roots: &[u64],
+    twins: &mut RootTwins,
     former: &mut Option<Room>,
 ) -> u32
     requires belongs { BelongsTo heap.old collection }
     requires ready { IsTrue (is_ready (collection_in collection) (graph_in heap.old)) }
-    requires roots { AreMoved roots.now heap.old (collection_in collection) }
+    requires keeps { KeepsTwins twins.old (open_state heap.old collection) }
+    requires done { IsDone twins.old }
+    requires slots { SlotsAreTwins twins.old (open_state heap.old collection) (collection_in collection) }
+    ensures step { collect (open_state heap.old collection) Step.Flip ≡ (StepReply.Flipped result, idle_state heap.new) }
+    ensures count { result ≡ length (collection_in collection).replicas }
+    ensures keeps { KeepsTwins twins.new (idle_state heap.new) }
+    ensures links { LinksNothing 1 heap.new }
+    ensures mutators { heap.new.mutators ≡ heap.old.mutators }
+    ensures former { FormerAfter Keep.Room (open_state heap.old collection) former.old (StepReply.Flipped result) former.new }
+{
+    let (room, pairs) = twins.flip(collection, heap);
+    *former = Some(room);
+    pairs
+}
+
+// Flips to these roots, and keeps the old space as room.
+fn leave_room(
+    heap: &mut Heap,
+    collection: Collection,
+    roots: Vec<u64>,
+    former: &mut Option<Room>,
+) -> u32
+    requires belongs { BelongsTo heap.old collection }
+    requires ready { IsTrue (is_ready (collection_in collection) (graph_in heap.old)) }
+    requires roots { roots.items ≡ new_root_words heap.old (collection_in collection) }
     ensures step { collect (open_state heap.old collection) Step.Flip ≡ (StepReply.Flipped result, idle_state heap.new) }
     ensures count { result ≡ length (collection_in collection).replicas }
     ensures links { LinksNothing 1 heap.new }
     ensures mutators { heap.new.mutators ≡ heap.old.mutators }
     ensures former { FormerAfter Keep.Room (open_state heap.old collection) former.old (StepReply.Flipped result) former.new }
 {
-    let (room, pairs) = collection.flip_marked(heap, roots);
+    let Swapped { room, pairs, .. } = collection.flip_swapping(heap, roots);
     *former = Some(room);
     pairs
 }

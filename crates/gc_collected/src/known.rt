@@ -1,176 +1,164 @@
-//! How far the search for roots whose targets have no replicas has come.
+//! What a collected heap knows of its roots, and how far the search for roots whose targets have no replicas has come.
 
-ghost use Rattle.std.specs.Prelude.{◌≡◌, ◌↔◌, ◌<◌, ◌≤◌, ◌+◌, ℕ, IfSome, IsTrue, None, min, max};
+ghost use Rattle.std.specs.Prelude.{◌≡◌, ◌<◌, ◌+◌, IfOk, IfSome, IsTrue, None, length, max, replicate};
 ghost use Rattle.std.specs.Option.{option_map};
-ghost use Rattle.gc_graph.specs.Graph.{root, Nil};
 ghost use Rattle.gc_graph.specs.Slots.{roots_of};
 ghost use Rattle.gc_heap.specs.Heap.{graph_in};
 ghost use Rattle.gc_words.specs.Image.{is_start};
-ghost use Rattle.gc_plan.specs.State.{State};
-ghost use Rattle.gc_plan.specs.Staying.{KnowsRoot};
+ghost use Rattle.gc_plan.specs.Staying.{IsMissing};
 ghost use Rattle.gc_plan.specs.Steps.{root_target};
 ghost use Rattle.gc_copy.specs.Words.{collection_in, open_state, BelongsTo};
-ghost use Rattle.gc_collected.specs.Internal.KnownRoots.{KnowsRoots, FindsFirst, next_unknown_root};
+ghost use Rattle.gc_roots.specs.Twins.{IsDone, begun};
+ghost use Rattle.gc_collected.specs.Internal.KnownRoots.{ComparesTwins, HasWritten, KnowsRoots};
 
+use gc_along::Standing;
 use gc_copy::{Collection, MissingRoot};
-use gc_graph::root_count;
+use gc_graph::{NoMemory, root_count};
 use gc_heap::Heap;
-use std::cmp::{max, min};
+use gc_roots::{RootLooks, RootTwins};
+use std::alloc::Global;
 
-/// Roots whose targets are known to have replicas in the open collection, and the number of extra roots in use. The marks save a
-/// search the roots that it need not read again.
+/// Roots whose targets are known to have replicas in the open collection: the slots below a place, and the extra roots that have twins.
 ///
-/// There are two marks, since a command writes a slot much more often than a step copies an extra root's target: one mark
-/// for all roots would go back below all extra roots with each such command.
-#[derive(Clone, Copy, Debug)]
+/// A command writes a slot much more often than a step copies an extra root's target, so the slots have a mark of their own: one mark for all
+/// roots would go back below all extra roots with each such command.
+#[derive(Debug, Drop)]
 pub(crate) struct KnownRoots {
     /// The targets of the slots below this place have replicas.
     pub(crate) slots: usize,
-    /// The targets of the extra roots below this one have replicas.
-    pub(crate) extra: usize,
-    /// The extra roots from this one on are nil.
-    pub(crate) used: usize,
-    /// The number of all roots.
-    pub(crate) count: usize,
+    /// The twins of the roots. Those of the slots are written at a flip.
+    pub(crate) twins: RootTwins,
+    /// The extra roots that the monitor has compared with their twins.
+    pub(crate) looks: RootLooks,
 }
 
 impl KnownRoots {
-    /// Returns the marks of a heap with so many roots, whose extra roots are all nil.
-    pub(crate) fn new(count: usize) -> KnownRoots
-        ensures { result ≡ record { slots = 0; extra = 0; used = 0; count = count } }
+    /// Returns what is known of a heap with so many roots, which are all nil. The monitor has room for `watched` of them. Allocates five times.
+    pub(crate) fn new(alloc: Global, roots: u32, watched: u32) -> Result<KnownRoots, NoMemory>
+        ensures slots { IfOk result (λ known. known.slots ≡ 0) }
+        ensures twins { IfOk result (λ known. (known.twins.twins ≡ replicate roots 0) × (known.twins.front ≡ 0) × (known.twins.used ≡ 0) × (known.twins.stale ≡ 0)) }
+        ensures compares { IfOk result ComparesTwins }
     {
-        KnownRoots {
+        let twins = RootTwins::new(alloc, roots)?;
+        let looks = RootLooks::new(alloc, watched)?;
+        Ok(KnownRoots {
             slots: 0,
-            extra: 0,
-            used: 0,
-            count,
-        }
+            twins,
+            looks,
+        })
     }
 
-    /// Returns whether all roots are nil or known to have replicas of their targets, where `slots` is the number of slots.
+    /// Notes that extra root `k` was written.
     #[inline(always)]
-    pub(crate) fn are_complete(self, slots: usize) -> bool
-        ensures { IsTrue result ↔ ((self.slots ≡ slots) × (self.extra ≡ self.used)) }
+    pub(crate) fn wrote(&mut self, k: u32)
+        requires { k < length self.old.twins.twins }
+        ensures written { HasWritten self.old self.new k }
+        ensures used { self.new.twins.used ≡ max self.old.twins.used (k + 1) }
     {
-        self.slots == slots && self.extra == self.used
+        self.twins.wrote(k);
+        self.looks.written(k);
     }
 
-    /// Returns the marks after a command that wrote extra root `k`.
-    pub(crate) fn stored(self, k: u32) -> KnownRoots
-        ensures { result ≡ record { slots = self.slots; extra = min self.extra k; used = max self.used (k + 1); count = self.count } }
+    /// Notes that extra root `k` became nil.
+    #[inline(always)]
+    pub(crate) fn nilled(&mut self, k: u32)
+        ensures written { HasWritten self.old self.new k }
+        ensures used { self.new.twins.used ≡ self.old.twins.used }
     {
-        KnownRoots {
-            slots: self.slots,
-            extra: min(self.extra, k as usize),
-            used: max(self.used, k as usize + 1),
-            count: self.count,
-        }
+        self.twins.nilled(k);
+        self.looks.written(k);
     }
 
-    /// Returns the marks after the extra roots from `from` on, and below `to`, became nil.
-    pub(crate) fn cleared(self, from: u32, to: u32) -> KnownRoots
-        ensures knows { (s : State) → KnowsRoots self s
-            → ((k : ℕ) → from ≤ k → k < to → root s.heap.graph (roots_of s.mutators + k) ≡ Nil) → KnowsRoots result s }
-        ensures count { result.count ≡ self.count }
-        // A later search reads no root from `from` on, if all behind it were cleared.
-        ensures used { self.used ≤ to → result.used ≡ min self.used from }
+    /// Notes that a collection begins: no root is known to have a replica.
+    pub(crate) fn begin(&mut self)
+        ensures slots { self.new.slots ≡ 0 }
+        ensures twins { self.new.twins ≡ begun self.old.twins }
+        ensures compares { ComparesTwins self.new }
     {
-        let from = from as usize;
-        if (to as usize) < self.used || self.used <= from {
-            return self;
-        }
-        KnownRoots {
-            slots: self.slots,
-            extra: min(self.extra, from),
-            used: from,
-            count: self.count,
-        }
-    }
-
-    /// Returns the marks after the target of the next root got a replica, where `slots` is the number of slots.
-    pub(crate) fn advanced(self, slots: usize) -> KnownRoots
-        requires { next_unknown_root slots self < slots + self.used }
-        ensures knows { (s : State) → slots ≡ roots_of s.mutators → KnowsRoots self s
-            → KnowsRoot s (next_unknown_root slots self) → KnowsRoots result s }
-        ensures count { result.count ≡ self.count }
-    {
-        if self.slots < slots {
-            KnownRoots {
-                slots: self.slots + 1,
-                extra: self.extra,
-                used: self.used,
-                count: self.count,
-            }
-        } else {
-            KnownRoots {
-                slots: self.slots,
-                extra: self.extra + 1,
-                used: self.used,
-                count: self.count,
-            }
-        }
+        self.slots = 0;
+        self.twins.begin();
+        self.looks.restart();
     }
 }
 
-/// What a search found: the first root whose target has no replica, if there is one, and the marks after the search.
-#[derive(Drop)]
-pub(crate) struct Searched {
-    pub(crate) known: KnownRoots,
-    pub(crate) missing: Option<MissingRoot>,
-}
-
-/// Returns whether the marks say of each root that it is nil, a number or a reference to an object with a replica. Reads no root.
+/// Returns whether each root is known to have a replica of its target, if it has one. Reads no root.
 #[inline(always)]
-pub(crate) fn all_known(collection: &Collection, heap: &Heap, known: KnownRoots) -> bool
+pub(crate) fn all_known(collection: &Collection, heap: &Heap, known: &KnownRoots) -> bool
     requires belongs { BelongsTo heap.now collection.now }
-    requires knows { KnowsRoots known (open_state heap.now collection.now) }
+    requires knows { KnowsRoots known.now (open_state heap.now collection.now) }
     ensures { IsTrue result → root_target (collection_in collection.now) (graph_in heap.now) ≡ None }
 {
-    known.are_complete(root_count(heap.mutators()))
+    known.slots == root_count(heap.mutators()) && known.twins.next().is_none()
 }
 
-/// Searches the roots that are not known to have replicas of their targets. Reads each of them once, up to the first without.
-pub(crate) fn search(collection: &Collection, heap: &Heap, known: KnownRoots) -> Searched
+/// Returns the first root whose target has no replica, and remembers nothing. Reads all extra roots, if one of them may have none.
+pub(crate) fn missing(
+    collection: &Collection,
+    heap: &Heap,
+    known: &KnownRoots,
+) -> Option<MissingRoot>
     requires belongs { BelongsTo heap.now collection.now }
-    requires knows { KnowsRoots known (open_state heap.now collection.now) }
-    ensures knows { KnowsRoots result.known (open_state heap.now collection.now) }
-    ensures count { result.known.count ≡ known.count }
-    ensures first { option_map (λ r. r.target.0) result.missing ≡ root_target (collection_in collection.now) (graph_in heap.now) }
-    ensures next { IfSome result.missing (FindsFirst result.known (open_state heap.now collection.now)) }
-    ensures start { IfSome result.missing (λ r. IsTrue (is_start heap.now.space.words r.target.0)) }
-    // The next search reads none of them again.
-    ensures all { result.missing ≡ None → (result.known.slots ≡ roots_of heap.now.mutators) × (result.known.extra ≡ known.used) × (result.known.used ≡ known.used) }
+    requires knows { KnowsRoots known.now (open_state heap.now collection.now) }
+    ensures { option_map (λ r. r.target.0) result ≡ root_target (collection_in collection.now) (graph_in heap.now) }
+{
+    if all_known(collection, heap, known) {
+        return None;
+    }
+    collection.first_root(heap)
+}
+
+/// Searches the roots that are not known to have replicas of their targets, up to the first without. Reads each of them once, and brings the twin of
+/// each extra root up to date that it passes. The monitor compares it.
+pub(crate) fn search(
+    collection: &Collection,
+    heap: &Heap,
+    watch: &Standing,
+    known: &mut KnownRoots,
+) -> Option<MissingRoot>
+    requires belongs { BelongsTo heap.now collection.now }
+    requires knows { KnowsRoots known.old (open_state heap.now collection.now) }
+    ensures knows { KnowsRoots known.new (open_state heap.now collection.now) }
+    ensures compares { ComparesTwins known.old → ComparesTwins known.new }
+    ensures first { option_map (λ r. r.target.0) result ≡ root_target (collection_in collection.now) (graph_in heap.now) }
+    ensures start { IfSome result (λ r. IsTrue (is_start heap.now.space.words r.target.0)) }
+    ensures done { result ≡ None → IsDone known.new.twins }
 {
     let slots = root_count(heap.mutators());
     if let Some(missing) = collection.missing_root(heap, known.slots, slots) {
-        return Searched {
-            known: KnownRoots {
-                slots: missing.place,
-                extra: known.extra,
-                used: known.used,
-                count: known.count,
-            },
-            missing: Some(missing),
-        };
+        known.slots = missing.place;
+        return Some(missing);
     }
-    if let Some(missing) = collection.missing_root(heap, slots + known.extra, slots + known.used) {
-        return Searched {
-            known: KnownRoots {
-                slots,
-                extra: missing.place - slots,
-                used: known.used,
-                count: known.count,
-            },
-            missing: Some(missing),
-        };
+    known.slots = slots;
+    search_extra(collection, heap, watch, known)
+}
+
+/// Searches the extra roots whose twins may be out of date, as `search` does.
+fn search_extra(
+    collection: &Collection,
+    heap: &Heap,
+    watch: &Standing,
+    known: &mut KnownRoots,
+) -> Option<MissingRoot>
+    requires belongs { BelongsTo heap.now collection.now }
+    requires knows { KnowsRoots known.old (open_state heap.now collection.now) }
+    ensures knows { KnowsRoots known.new (open_state heap.now collection.now) }
+    ensures compares { ComparesTwins known.old → ComparesTwins known.new }
+    ensures missing { IfSome result (λ r. IsMissing (collection_in collection.now) (graph_in heap.now)
+        (roots_of heap.now.mutators) (length (graph_in heap.now).roots) r.place r.target.0) }
+    ensures start { IfSome result (λ r. IsTrue (is_start heap.now.space.words r.target.0)) }
+    ensures done { result ≡ None → IsDone known.new.twins }
+{
+    let slots = root_count(heap.mutators());
+    while let Some(k) = known.twins.next() {
+        match known.twins.look(heap, collection, k) {
+            Err(target) => {
+                let place = slots + k;
+                return Some(MissingRoot { place, target });
+            }
+            Ok(twin) => known
+                .looks
+                .look(watch, k as u32, heap.roots()[slots + k], twin),
+        }
     }
-    Searched {
-        known: KnownRoots {
-            slots,
-            extra: known.used,
-            used: known.used,
-            count: known.count,
-        },
-        missing: None,
-    }
+    None
 }

@@ -10,11 +10,11 @@ ghost use Rattle.gc_plan.specs.declared.step.StepReply.{StepReply};
 use crate::barrier;
 use crate::collected_heap::CollectedHeap;
 use crate::flip::Keep;
-use crate::known::{Searched, all_known, search};
+use crate::known::{all_known, missing, search};
 use crate::rooms::{keep_room, room_for};
 use gc_check::Checks;
 use gc_copy::{Collection, Room, Step, StepReply, StepRun};
-use gc_graph::{NoMemory, root_count};
+use gc_graph::NoMemory;
 use gc_heap::Heap;
 use gc_plan::root_replicas_stay;
 use std::cmp::max;
@@ -111,8 +111,7 @@ impl CollectedHeap {
             &mut self.leaving,
         )?;
         self.collection = Some(Collection::begin_in(room, &self.heap, self.epoch));
-        self.known.slots = 0;
-        self.known.extra = 0;
+        self.known.begin();
         Ok(StepReply::Begun)
     }
 
@@ -145,13 +144,8 @@ impl CollectedHeap {
         let Some(collection) = &mut self.collection else {
             return StepReply::Idle;
         };
-        let Searched { known, missing } = search(collection, &self.heap, self.known);
-        let reply = barrier::replicate_root(collection, &mut self.heap, &mut self.watch, missing);
-        self.known = match reply {
-            StepReply::Copied => known.advanced(root_count(self.heap.mutators())),
-            _ => known,
-        };
-        reply
+        let missing = search(collection, &self.heap, &self.watch, &mut self.known);
+        barrier::replicate_root(collection, &mut self.heap, &mut self.watch, missing)
     }
 
     /// Brings the field at the scan pointer up to date (`Scanned` or `NoRoom`), or moves on to the next replica
@@ -256,7 +250,7 @@ impl CollectedHeap {
         let Some(collection) = &self.collection else {
             return Step::Begin;
         };
-        if search(collection, &self.heap, self.known).missing.is_some() {
+        if missing(collection, &self.heap, &self.known).is_some() {
             return Step::Roots;
         }
         step_after_roots(collection)
@@ -273,12 +267,10 @@ impl CollectedHeap {
         let Some(collection) = &self.collection else {
             return Step::Begin;
         };
-        if all_known(collection, &self.heap, self.known) {
+        if all_known(collection, &self.heap, &self.known) {
             return step_after_roots(collection);
         }
-        let Searched { known, missing } = search(collection, &self.heap, self.known);
-        self.known = known;
-        if missing.is_some() {
+        if search(collection, &self.heap, &self.watch, &mut self.known).is_some() {
             return Step::Roots;
         }
         step_after_roots(collection)

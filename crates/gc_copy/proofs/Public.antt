@@ -4,7 +4,8 @@ pub use Rattle.gc_copy.proofs.LinkedImages.{command_leaves, lowered_words, new_s
 pub use Rattle.gc_copy.proofs.Mutating.{idle_left, mutate_is, one_but, open_left, still_unlinked}
 pub use Rattle.gc_copy.proofs.OpenCollection.{link_above, opened, placed_has, replica_object}
 pub use Rattle.gc_copy.proofs.Opening.{opening_with_ok}
+pub use Rattle.gc_copy.proofs.RootWalks.{all_moved, moved_first, moved_to, value_at}
 pub use Rattle.gc_copy.proofs.Scanned.{Moves, all_opened, does, having, opened_once, scanned_on, scanned_once, scans_are}
 pub use Rattle.gc_copy.proofs.Spaces.{in_start, new_end_is, replica_start, space_placed, space_written}
 pub use Rattle.gc_copy.proofs.StepRuns.{one_step, repeats_last, run_goes_on}
-pub use Rattle.gc_copy.proofs.Words.{block_found_in, heap_graph, space_spelled, words_back, words_numbers}
+pub use Rattle.gc_copy.proofs.Words.{block_found_in, heap_graph, space_spelled, word_back, words_back, words_numbers}

@@ -93,10 +93,6 @@ moved_first heap c words row k i within ends same past e =
         ∙ ap (map (moved_to c)) (take-append-drop k heap.roots)
         ∙ all_moved heap c
 
--- written over the first roots, they are all roots moved
-pub moved_over : (heap : HeapWords) (c : Collection) (row : List ℕ) → AreMoved row heap c → row ++ drop (length row) heap.roots ≡ new_root_words heap c
-moved_over heap c row is = ap (λ ws. row ++ ws) is.nils ∙ is.moved
-
 -- ---- searching them
 
 -- a search of all roots finds the root that a step would

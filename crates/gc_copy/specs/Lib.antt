@@ -3,3 +3,4 @@ pub mod Internal
 pub mod Words
 pub mod Opening
 pub mod StepRuns
+pub mod Twins

@@ -10,6 +10,7 @@ mod stepping;
 
 use crate::log::MutationLog;
 pub use copying::link_mark;
+pub use flipping::Swapped;
 use gc_words::{Addr, Space};
 pub use room::Room;
 pub use roots::MissingRoot;

@@ -7,7 +7,7 @@ mod laws;
 mod log;
 mod pairs;
 
-pub use collection::{Collection, MissingRoot, Room, StepRun, link_mark};
+pub use collection::{Collection, MissingRoot, Room, StepRun, Swapped, link_mark};
 pub use gc_plan::{Step, StepReply};
 pub use laws::{
     commands_keep_collections, commands_leave_collections, extra_roots_are_kept,

@@ -1,4 +1,4 @@
-ghost use Rattle.std.specs.Prelude.{◌≡◌, ◌≤◌, ◌++◌, drop, length};
+ghost use Rattle.std.specs.Prelude.{◌≡◌};
 
 mod commands;
 mod filling;
@@ -21,14 +21,6 @@ fn header_of(raw: bool, kind: u8, len: u16) -> Header
     } else {
         Header::new(kind, len)
     }
-}
-
-/// Writes these words over the first words of a row.
-fn write_first(row: &mut [u64], first: &[u64])
-    requires { length first.now ≤ length row.old }
-    ensures { row.new ≡ first.now ++ drop (length first.now) row.old }
-{
-    row[..first.len()].copy_from_slice(first);
 }
 
 /// The mutators' heap: objects in a space, and the roots of 1 to 16 mutators, which extra roots may follow. `new` and `open_with`
@@ -54,7 +46,7 @@ impl Model for Heap {
 }
 
 impl Heap {
-    ghost use Rattle.std.specs.Prelude.{◌≡◌, ◌≢◌, ◌<◌, ◌≤◌, ◌++◌, IfOk, IfSome, IsTrue, IsFalse, drop, length, slice_set, if◌then◌else◌};
+    ghost use Rattle.std.specs.Prelude.{◌≡◌, ◌≢◌, ◌<◌, ◌≤◌, IfOk, IfSome, IsTrue, IsFalse, length, slice_set, if◌then◌else◌};
     ghost use Rattle.std.specs.Option.{option_map};
     ghost use Rattle.gc_graph.specs.Limits.{most_mutators};
     ghost use Rattle.gc_graph.specs.Slots.{place as place_of};
@@ -251,19 +243,6 @@ impl Heap {
         let former_space = mem::replace(&mut self.space, space);
         let former_roots = mem::replace(&mut self.roots, roots);
         (former_space, former_roots)
-    }
-
-    /// Replaces the space and writes these words over the first roots, in place. Leaves the other roots as they are. Returns the former
-    /// space.
-    #[tactic(auto, using(std::proofs::lemmas::List::drop_all, std::proofs::lemmas::List::take_all))]
-    pub fn replace_first(&mut self, space: Space, first: &[u64]) -> Space
-        requires within { length first.now ≤ length self.old.roots }
-        requires sound { IsHeap (record self.old { space = space; roots = first.now ++ drop (length first.now) self.old.roots }) }
-        ensures heap { self.new ≡ record self.old { space = space; roots = first.now ++ drop (length first.now) self.old.roots } }
-        ensures space { result ≡ self.old.space }
-    {
-        write_first(&mut self.roots, first);
-        mem::replace(&mut self.space, space)
     }
 
     /// Makes a new object and sets the root at `place` to a reference to it, if there is room.

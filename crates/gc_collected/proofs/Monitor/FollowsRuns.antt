@@ -11,9 +11,8 @@ use Rattle.gc_along.specs.Tables.{Tables, watch_of}
 use Rattle.gc_collected.specs.Internal.Beside.{AreOld, GoesBeside, heap_words, replica_words}
 use Rattle.gc_collected.specs.Internal.Follows.{Follows}
 use Rattle.gc_collected.specs.Internal.Knows.{Knows, open_or_fresh}
-use Rattle.gc_copy.proofs.Public.{having, scanned_on}
+use Rattle.gc_copy.proofs.Public.{having, scanned_on, scans_are}
 use Rattle.gc_collected.proofs.Monitor.Events.{Goes}
-use Rattle.gc_copy.proofs.Public.{scans_are}
 use Rattle.gc_collected.proofs.Monitor.Followed.{run_followed, run_looked, run_placed}
 use Rattle.gc_collected.proofs.Monitor.FollowsSteps.{on_with, reread}
 

@@ -25,12 +25,14 @@ sized image k raws = record { low = k.end_low; high = k.end_high; size = k.size_
 pub accepts : (s : State) (c : Collection) (t : Tables) → IsSpaceGraph s.size s.heap.free s.heap.graph → IsOpened s c → is_ready c s.heap.graph ≡ true → t.lost ≡ false → Goes s c (watch_of t) → Knows s c t
     → Accepts t (outline_of (old_image s c)) (outline_of (new_image s c))
 accepts s c t heap opened ready found goes knows = record {
-  found = found;
-  none_due = knows.kept.counted ∙ all_done (watch_of t) (λ place. none place);
-  old_seen = goes.fits.old_seen ∙ sym (end_is (old_links c) s.size s.heap.free s.heap.graph heap);
-  new_seen = goes.fits.new_seen ∙ sym (replicas_shown s c (old_links c) heap opened).count;
-  old_sized = sized (old_image s c) certificate.old_shaped refl;
-  new_sized = sized (new_image s c) certificate.new_shaped refl;
+  seen = record {
+    found = found;
+    none_due = knows.kept.counted ∙ all_done (watch_of t) (λ place. none place);
+    old_seen = goes.fits.old_seen ∙ sym (end_is (old_links c) s.size s.heap.free s.heap.graph heap);
+    new_seen = goes.fits.new_seen ∙ sym (replicas_shown s c (old_links c) heap opened).count;
+    old_sized = sized (old_image s c) certificate.old_shaped refl;
+    new_sized = sized (new_image s c) certificate.new_shaped refl;
+  };
   roots = subst (λ pairs. AllZip (λ v w. IsTrue (words_correspond pairs v w)) (old_image s c).roots (new_image s c).roots) (sym goes.fits.pairs) certificate.roots;
 }
   where

@@ -7,7 +7,7 @@ ghost use Rattle.gc_heap.specs.Heap.{IsHeap, graph_in};
 ghost use Rattle.gc_plan.specs.Members.{In};
 ghost use Rattle.gc_plan.specs.State.{Replica, pairs_of};
 ghost use Rattle.gc_plan.specs.Steps.{collect, is_ready};
-ghost use Rattle.gc_copy.specs.Words.{IsCollection, AreMoved, collection_in, idle_state, open_state, BelongsTo, HasNoLinks, LinksNothing, TellsMoves, entries_of, new_root_words};
+ghost use Rattle.gc_copy.specs.Words.{IsCollection, collection_in, idle_state, open_state, BelongsTo, HasNoLinks, LinksNothing, TellsMoves, entries_of, new_root_words};
 ghost use Rattle.gc_copy.specs.Internal.Words.{KeepsGraph};
 ghost use Rattle.gc_plan.specs.declared.step.Step.{Step};
 ghost use Rattle.gc_plan.specs.declared.step.StepReply.{StepReply};
@@ -21,6 +21,16 @@ use gc_graph::NoMemory;
 use gc_heap::Heap;
 use gc_words::{Addr, ImageRef, NewAddr, OldAddr, Pair, Space};
 use std::alloc::Global;
+
+/// What the heap had before a flip that swaps its roots.
+#[derive(Debug, Drop)]
+pub struct Swapped {
+    /// Its memory, with the collection's logs, as room for the next collection.
+    pub room: Room,
+    pub roots: Vec<u64>,
+    /// The number of pairs.
+    pub pairs: u32,
+}
 
 impl Collection {
     /// Returns the certificate: each original with its replica, in the order of the replicas. Allocates once.
@@ -60,21 +70,20 @@ impl Collection {
         heap.replace(space, roots)
     }
 
-    /// Switches the mutators to the new space, and writes these roots, which `move_roots` wrote, over the first roots of the heap. Clears no
-    /// link: the new space keeps those of the replicas, which lead nowhere from epoch 1 on. Returns the room of this
-    /// collection's heap for the next one, and the number of pairs. The room tells where each object went. The time depends on the number of
-    /// these roots alone.
-    pub fn flip_marked(self, heap: &mut Heap, roots: &[u64]) -> (Room, u32)
+    /// Switches the mutators to the new space and to these roots, in the place of the heap's row. Clears no link: the new space keeps those of the
+    /// replicas, which lead nowhere from epoch 1 on. Takes constant time. Returns what the heap had: the room tells where each object went.
+    pub fn flip_swapping(self, heap: &mut Heap, roots: Vec<u64>) -> Swapped
         requires belongs { BelongsTo heap.old self }
         requires ready { IsTrue (is_ready (collection_in self) (graph_in heap.old)) }
-        requires roots { AreMoved roots.now heap.old (collection_in self) }
+        requires roots { roots.items ≡ new_root_words heap.old (collection_in self) }
         ensures step { collect (open_state heap.old self) Step.Flip
             ≡ (StepReply.Flipped (length (pairs_of (collection_in self))), idle_state heap.new) }
         ensures heap { heap.new ≡ record heap.old { space = self.space; roots = new_root_words heap.old (collection_in self) } }
         ensures links { (epoch : ℕ) → 1 ≤ epoch → LinksNothing epoch heap.new }
-        ensures room { (result.0.size ≡ heap.old.space.size) × (result.0.mutators ≡ heap.old.mutators) }
-        ensures moves { TellsMoves (graph_in heap.old) (pairs_of (collection_in self)) result.0 }
-        ensures count { result.1 ≡ length (pairs_of (collection_in self)) }
+        ensures room { (result.room.size ≡ heap.old.space.size) × (result.room.mutators ≡ heap.old.mutators) }
+        ensures moves { TellsMoves (graph_in heap.old) (pairs_of (collection_in self)) result.room }
+        ensures roots { result.roots.items ≡ heap.old.roots }
+        ensures count { result.pairs ≡ length (pairs_of (collection_in self)) }
         ensures sound { IsHeap heap.new }
     {
         // Here the prover learns that the heap is sound.
@@ -86,9 +95,13 @@ impl Collection {
             replicas,
             ..
         } = self;
-        let space = heap.replace_first(space, roots);
+        let (space, roots) = heap.replace(space, roots);
         let room = Room { space, logs, epoch };
-        (room, replicas)
+        Swapped {
+            room,
+            roots,
+            pairs: replicas,
+        }
     }
 
     /// Takes the mark from the links of originals, and clears all other links of the old space, so that its words are those of a collection

@@ -1,15 +1,16 @@
-ghost use Rattle.std.specs.Prelude.{IfSome, ◌≡◌, ◌≤◌, ◌<◌, ℕ, IfOk, IsTrue, length, None, vec_capacity, is_none};
+ghost use Rattle.std.specs.Prelude.{IfSome, ◌≡◌, ◌≤◌, ◌<◌, ℕ, IfOk, IsTrue, length, None, is_none, MatchResult, ⊤};
 ghost use Rattle.gc_plan.specs.State.{replica_of};
 ghost use Rattle.std.specs.List.{find};
 ghost use Rattle.std.specs.Option.{option_map};
 ghost use Rattle.gc_words.specs.Word.{value_of};
-ghost use Rattle.gc_graph.specs.Graph.{Nil, names_of, root};
+ghost use Rattle.gc_graph.specs.Graph.{Ref, names_of, root};
 ghost use Rattle.gc_words.specs.Image.{is_start};
 ghost use Rattle.gc_words.specs.Closed.{IsRootWord};
 ghost use Rattle.gc_heap.specs.Heap.{graph_in};
 ghost use Rattle.gc_plan.specs.Staying.{HasReplicaOf, IsMissing};
 ghost use Rattle.gc_plan.specs.Steps.{root_target, roots_done as roots_done_in};
-ghost use Rattle.gc_copy.specs.Words.{collection_in, AreMoved, BelongsTo, new_root_words};
+ghost use Rattle.gc_copy.specs.Words.{collection_in, BelongsTo, new_root_words};
+ghost use Rattle.gc_copy.specs.Twins.{IsTwin};
 
 use super::Collection;
 use gc_graph::NoMemory;
@@ -63,6 +64,21 @@ impl Collection {
         None
     }
 
+    /// Returns the word that the root at this place takes at a flip, or the object that the root refers to if that has no replica. Reads one root.
+    pub fn root_twin(&self, heap: &Heap, place: usize) -> Result<u64, OldAddr>
+        requires belongs { BelongsTo heap.now self.now }
+        requires within { place < length heap.now.roots }
+        ensures twin { MatchResult result (IsTwin (collection_in self.now) (root (graph_in heap.now) place))
+            (λ a. (root (graph_in heap.now) place ≡ Ref a.0) × (replica_of (collection_in self.now) a.0 ≡ None)) }
+        ensures start { MatchResult result (λ _. ⊤) (λ a. IsTrue (is_start heap.now.space.words a.0)) }
+    {
+        let word = heap.roots()[place];
+        if let Some(target) = self.target_without_replica(heap, word) {
+            return Err(target);
+        }
+        Ok(self.moved_word(heap, word))
+    }
+
     /// Returns the object that a word refers to, if it has no replica.
     fn target_without_replica(&self, heap: &Heap, word: u64) -> Option<OldAddr>
         requires belongs { BelongsTo heap.now self.now }
@@ -85,25 +101,9 @@ impl Collection {
         ensures { IfOk result (λ words. words.items ≡ new_root_words heap.now (collection_in self.now)) }
     {
         let mut roots = Vec::with_capacity(alloc, heap.roots().len())?;
-        self.move_roots(heap, heap.roots().len(), &mut roots);
-        Ok(roots)
-    }
-
-    /// Writes the first `in_use` of the same root words into a row that has room for them, in the place of what is in it. The other roots
-    /// have to be nil, so that they stay as they are. Does not allocate.
-    pub fn move_roots(&self, heap: &Heap, in_use: usize, row: &mut Vec<u64>)
-        requires belongs { BelongsTo heap.now self.now }
-        requires done { IsTrue (roots_done_in (collection_in self.now) (graph_in heap.now)) }
-        requires within { in_use ≤ length heap.now.roots }
-        requires nils { (p : ℕ) → in_use ≤ p → root (graph_in heap.now) p ≡ Nil }
-        requires room { in_use ≤ vec_capacity row.old }
-        ensures count { length row.new.items ≡ in_use }
-        ensures moved { AreMoved row.new.items heap.now (collection_in self.now) }
-        ensures capacity { vec_capacity row.old ≤ vec_capacity row.new }
-    {
-        row.clear();
-        for word in &heap.roots()[..in_use] {
-            row.push_reserved(self.moved_word(heap, *word));
+        for word in heap.roots() {
+            roots.push_reserved(self.moved_word(heap, *word));
         }
+        Ok(roots)
     }
 }

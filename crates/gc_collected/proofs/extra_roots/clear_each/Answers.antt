@@ -1,5 +1,5 @@
 -- A turn sets one more extra root to nil, a command that writes no field, so an open collection still belongs to the heap.
-use Rattle.std.proofs.Common.{◌≡◌, ◌+◌, ◌-◌, length, sym, ◌∙◌, ap, arith}
+use Rattle.std.proofs.Common.{◌≡◌, ◌+◌, ◌-◌, length, sym, ◌∙◌, ap, subst, arith}
 use Rattle.std.specs.Option.{option_map}
 use Rattle.std.proofs.lemmas.List.{length-map}
 use Rattle.gc_graph.specs.declared.command.Op.TheVariants.{Nil}
@@ -10,7 +10,8 @@ use Rattle.gc_plan.specs.State.{State}
 use Rattle.gc_copy.specs.Words.{collection_in, state_of}
 use Rattle.gc_plan.proofs.Public.{roots_counted}
 use Rattle.gc_collected.specs.ExtraRoots.{clear_step}
-use Rattle.gc_collected.proofs.Marks.{clear_next}
+use Rattle.gc_collected.specs.Internal.KnownRoots.{KnowsRoots}
+use Rattle.gc_collected.proofs.Marks.{clear_next, clears_knows}
 use Rattle.gc_collected.proofs.OtherCommands.{still_fits, still_belongs, performed}
 use Rattle.gc_collected.proofs.extra_roots.clear_each.Goals as goal
 
@@ -34,4 +35,6 @@ loop-k-preserved c =
       fits = λ epoch fits. still_fits epoch heap new o 0 op c.clear-done.result c.space.ensures.sound (λ none. none) c.clear-done.ensures.performs (c.loop-k.invariant.fits epoch fits);
       extra = omega (arith, count, mutators, c.loop-k.invariant.extra);
       mutators = mutators ∙ c.loop-k.invariant.mutators;
+      knows = λ h. subst (KnowsRoots c.nilled.new.self) (ap (λ (x : Reply × State). x.1) step) (clears_knows c.loop-k.known c.nilled.new.self before c.loop-k.k c.nilled.ensures.written c.nilled.ensures.used (c.loop-k.invariant.knows h));
+      compares = λ h. c.nilled.ensures.written.compares (c.loop-k.invariant.compares h);
     }

@@ -5,6 +5,7 @@ use Rattle.gc_heap.specs.Heap.{extra_roots_in}
 use Rattle.gc_copy.specs.Words.{collection_in, state_of}
 use Rattle.gc_collected.specs.ExtraRoots.{clear_step}
 use Rattle.gc_collected.specs.Internal.CollectedHeap.{BelongsIfOpen, Fits}
+use Rattle.gc_collected.specs.Internal.KnownRoots.{ComparesTwins, KnowsRoots}
 use Rattle.gc_collected.proofs.extra_roots.clear_each.Given as goal
 
 -- the roots so far are nil, and making the rest nil makes all nil
@@ -16,4 +17,6 @@ invariant-loop-k l = record {
   fits : (epoch : ℕ) → Fits epoch l.fn.heap l.collection → Fits epoch l.heap l.collection;
   extra : extra_roots_in l.heap ≡ extra_roots_in l.fn.heap;
   mutators : l.heap.mutators ≡ l.fn.heap.mutators;
+  knows : KnowsRoots l.fn.known (state_of l.fn.heap (option_map collection_in l.collection)) → KnowsRoots l.known (state_of l.heap (option_map collection_in l.collection));
+  compares : ComparesTwins l.fn.known → ComparesTwins l.known;
 }

@@ -1,5 +1,5 @@
 -- The monitor has room for both spaces, and a new collection has no replica, so it follows the heap, and no root is known to have one.
-use Rattle.std.proofs.Common.{◌≡◌, ◌≤◌, ◌∙◌, ℕ, Option, None, false, is_some, refl, sym, ap, subst, arith}
+use Rattle.std.proofs.Common.{◌≡◌, ◌≤◌, ◌∙◌, ℕ, Option, Some, None, false, is_some, refl, sym, ap, subst, arith}
 use Rattle.std.specs.Option.{option_map}
 use Rattle.std.specs.Ordering.{nat_cmp, ord_max}
 use Rattle.std.proofs.lemmas.Grind.{common_steps}
@@ -26,7 +26,7 @@ invariant_of-self-2 c =
     let closed : c.self.inside.collection ≡ None = none_open c.self.inside.collection (sym c.is_some.ensures ∙ c.if-is_some.false) in
     let high = max_high c.args.size c.size.result c.max.result c.max.ensures in
     let here : idle_state heap ≡ state_of heap (option_map collection_in c.self.inside.collection) = ap (λ o. state_of heap (option_map collection_in o)) (sym closed) in (
-      (c.begin_in.ensures.belongs, begun_knows c.self.inside.known heap _ _ (c.self.invariant.0).1, (c.self.invariant.0).2),
+      (c.begin_in.ensures.belongs, begun_knows c.self.inside.known c.begin.new.self (state_of heap (option_map collection_in c.self.inside.collection)) (Some (collection_in c.begin_in.result)) c.begin.ensures.slots c.begin.ensures.twins (c.self.invariant.0).1, c.begin.ensures.compares),
       λ on. follows_begun (idle_state heap) c.self.inside.watch c.reserve.new.self refl (subst (λ (s : State). IsSpaceGraph s.size s.heap.free s.heap.graph) (sym (here ∙ core_is c.self.view_is)) c.is_sound.ensures.heap)
           c.max.result c.reserve.ensures.tables c.in_ok-reserve.ensures.room (omega (arith, high.1, c.size.ensures.value ∙ ap (λ (s : SpaceWords). s.size) c.space.ensures.value)) (subst (λ (s : State). Follows s c.self.inside.watch) (sym here) (c.self.invariant.1 on))
           (open_state heap c.begin_in.result) c.in_ok-room.room.size (sym (ap (λ (x : StepReply × State). x.1) c.begin_in.ensures.step)) (omega (arith, high.0, c.in_ok-room.ensures.size)),

@@ -1,16 +1,12 @@
 -- The cleared roots are nil and need no replica, so what is known of the roots is still true; no object changes, so the monitor follows.
-use Rattle.std.proofs.Common.{◌≡◌, ◌+◌, ◌-◌, sym, subst, arith}
+use Rattle.std.proofs.Common.{◌≡◌, ◌-◌, sym, subst}
 use Rattle.std.specs.Prelude.{IfSome}
 use Rattle.std.specs.Option.{option_map}
-use Rattle.gc_graph.specs.Slots.{roots_of}
-use Rattle.gc_graph.specs.Graph.{Nil, root}
 use Rattle.gc_plan.specs.State.{State}
 use Rattle.gc_plan.specs.Belonging.{IsOpened}
 use Rattle.gc_copy.specs.Words.{collection_in, state_of}
-use Rattle.gc_collected.specs.Internal.KnownRoots.{KnowsRoots}
 use Rattle.gc_collected.proofs.Core.{core_is}
 use Rattle.gc_collected.proofs.OtherCommands.{it_belongs}
-use Rattle.gc_collected.proofs.Marks.{cleared_knows, cleared_nil, with_row}
 use Rattle.gc_collected.proofs.Rooted.{follows_cleared}
 use Rattle.gc_collected.proofs.collected_heap.CollectedHeap.clear.Goals as goal
 
@@ -20,13 +16,7 @@ invariant_of-self c =
     let after = state_of c.clear_each.new.heap (option_map collection_in c.self.inside.collection) in
     let from = c.args.from in
     let count = c.args.to - c.args.from in (
-      with_row (omega (arith, c.cleared-self-inside.ensures.count, c.self.invariant.0.2)) (
-        c.clear_each.ensures.fits c.self.inside.epoch c.self.invariant.0.0,
-        c.cleared-self-inside.ensures.knows after
-            (subst (KnowsRoots c.self.inside.known) c.clear_each.ensures.step (cleared_knows c.self.inside.known before from count c.self.invariant.0.1))
-            (λ i low high. subst (λ n. root after.heap.graph (roots_of n + i) ≡ Nil) (sym c.clear_each.ensures.mutators)
-            (subst (λ (s : State). root s.heap.graph (roots_of c.self.inside.heap.mutators + i) ≡ Nil) c.clear_each.ensures.step (cleared_nil before from count i low (omega (arith, low, high))))),
-      ),
+      (c.clear_each.ensures.fits c.self.inside.epoch c.self.invariant.0.0, c.clear_each.ensures.knows c.self.invariant.0.1, c.clear_each.ensures.compares c.self.invariant.0.2),
       λ on. follows_cleared before after from count c.self.inside.watch (subst (λ (s : State). IfSome s.collection (IsOpened s)) (sym (core_is c.self.view_is)) c.is_sound.ensures.open) c.clear_each.ensures.step (c.self.invariant.1 on),
     )
 

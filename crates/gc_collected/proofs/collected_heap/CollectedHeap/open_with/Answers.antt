@@ -1,4 +1,4 @@
--- A heap that was just opened has no links and no root but nil ones, the row for moved roots has room for all of them, and the monitor follows it.
+-- A heap that was just opened has no links and no root but nil ones, and the monitor follows it.
 use Rattle.std.proofs.Common.{◌≡◌, ◌≤◌, ℕ, List, length, refl, arith, ap, sym, ◌∙◌}
 use Rattle.gc_heap.specs.Heap.{HeapWords, roomy_in}
 use Rattle.gc_heap.specs.ExtraRoots.{CanOpen, opening_with}
@@ -9,7 +9,6 @@ use Rattle.gc_along.specs.Events.{opening_tables}
 use Rattle.gc_copy.specs.Words.{idle_state}
 use Rattle.gc_collected.specs.Internal.Follows.{Follows}
 use Rattle.gc_collected.proofs.Monitor.Follows.{follows_opening}
-use Rattle.gc_collected.specs.declared.known.KnownRoots.{KnownRoots}
 use Rattle.gc_collected.proofs.Marks.{no_links, opening_knows}
 use Rattle.gc_collected.proofs.collected_heap.CollectedHeap.open_with.Goals as goal
 
@@ -18,4 +17,12 @@ opened options heap t can is size new = follows_opening (idle_state heap) t (ap 
     (let free = ap (λ (h : Roomy). h.free) is in let low : 1 ≤ options.size = can.low in omega arith) (new ∙ ap opening_tables (sym size))
 
 pub invariant_of-result : goal.invariant_of-result
-invariant_of-result c = ((no_links c.args.options.now c.in_ok-heap.heap (c.in_ok-heap.ensures.empty), opening_knows c.args.options.now c.in_ok-heap.heap c.new.result _ (c.in_ok-heap.ensures.empty) (ap (λ (ws : List ℕ). length ws) c.roots-count.ensures.value) c.new.ensures, omega (arith, ap (λ (k : KnownRoots). k.count) c.new.ensures, c.in_ok-roots.ensures.capacity)), λ on. opened c.args.options.now c.in_ok-heap.heap c.in_ok-watch.watch c.requires c.in_ok-heap.ensures.opening (ap (λ (h : HeapWords). h.space.size) c.in_ok-heap.ensures.empty) (c.in_ok-watch.ensures.along on))
+invariant_of-result c =
+    let twins = c.in_ok-known.ensures.twins in (
+      (
+        no_links c.args.options.now c.in_ok-heap.heap c.in_ok-heap.ensures.empty,
+        opening_knows c.args.options.now c.in_ok-heap.heap c.in_ok-known.known _ c.in_ok-heap.ensures.empty (ap (λ (ws : List ℕ). length ws) c.roots.ensures.value) c.in_ok-known.ensures.slots twins.0 twins.1 twins.2 twins.3,
+        c.in_ok-known.ensures.compares,
+      ),
+      λ on. opened c.args.options.now c.in_ok-heap.heap c.in_ok-watch.watch c.requires c.in_ok-heap.ensures.opening (ap (λ (h : HeapWords). h.space.size) c.in_ok-heap.ensures.empty) (c.in_ok-watch.ensures.along on),
+    )

@@ -6,7 +6,7 @@ use Rattle.gc_graph.specs.declared.command.Op.TheVariants.{Put}
 use Rattle.gc_copy.specs.Words.{BelongsTo, collection_in, state_of, open_state}
 use Rattle.gc_collected.specs.Internal.KnownRoots.{KnowsRoots}
 use Rattle.gc_collected.proofs.Followed.{closed}
-use Rattle.gc_collected.proofs.Marks.{put_knows, with_row}
+use Rattle.gc_collected.proofs.Marks.{put_knows, with_looks}
 use Rattle.gc_collected.proofs.OtherCommands.{idle_mutated}
 use Rattle.gc_collected.proofs.Reserved.{opened_at, reserved, reserved_follows}
 use Rattle.gc_collected.proofs.collected_heap.CollectedHeap.put.Goals as goal
@@ -20,7 +20,7 @@ pub invariant_of-self : goal.invariant_of-self
 invariant_of-self c =
     let o = option_map collection_in c.self.inside.collection in
     let put = idle_mutated c.self.inside.epoch c.self.inside.heap c.put.new.self c.self.inside.collection c.args.m (Put c.args.s c.args.i c.args.t) c.put.result c.space.ensures.sound c.in_default.not-Some c.put.ensures.performs c.self.invariant.0.0 in (
-      with_row c.self.invariant.0.2 (put.1, put_knows c.self.inside.known (state_of c.self.inside.heap o) (state_of c.put.new.self o) c.args.m c.args.i c.args.s c.args.t c.put.result put.0 c.self.invariant.0.1),
+      with_looks c.self.invariant.0.2 (put.1, put_knows c.self.inside.known (state_of c.self.inside.heap o) (state_of c.put.new.self o) c.args.m c.args.i c.args.s c.args.t c.put.result put.0 c.self.invariant.0.1),
       λ on. closed c.self.inside.heap c.put.new.self c.self.inside.collection c.args.m (Put c.args.s c.args.i c.args.t) c.put.result c.self.inside.watch c.in_default.not-Some refl put.0 (c.self.invariant.1 on),
     )
 

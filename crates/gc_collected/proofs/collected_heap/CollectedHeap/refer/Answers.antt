@@ -10,7 +10,7 @@ use Rattle.gc_copy.specs.Words.{collection_in, state_of}
 use Rattle.gc_collected.specs.Internal.KnownRoots.{KnowsRoots}
 use Rattle.gc_collected.specs.declared.known.KnownRoots.{KnownRoots}
 use Rattle.gc_collected.proofs.Core.{core_is}
-use Rattle.gc_collected.proofs.Marks.{slot_below, with_row}
+use Rattle.gc_collected.proofs.Marks.{forgetting, slot_below, with_looks}
 use Rattle.gc_collected.proofs.Referred.{referred, referred_knows, refers, start_named, still_fits}
 use Rattle.gc_collected.proofs.Rooted.{follows_referred}
 use Rattle.gc_collected.proofs.collected_heap.CollectedHeap.refer.Goals as goal
@@ -26,11 +26,11 @@ invariant_of-self c =
     let o = c.self.inside.collection in
     let before = state_of heap (option_map collection_in o) in
     let after = state_of new (option_map collection_in o) in
-    let known : KnownRoots = record { slots = 0; extra = c.self.inside.known.extra; used = c.self.inside.known.used; count = c.self.inside.known.count } in
+    let known : KnownRoots = forgetting c.self.inside.known in
     let less : c.args.m < heap.mutators = subst (λ (s : State). c.args.m < s.mutators) (sym (core_is c.self.view_is)) c.requires in
     let low : p < roots_of heap.mutators = slot_below c.args.d c.args.m heap.mutators (omega (arith, c.index.ensures.value, c.index.ensures.bound)) less in
     let is = referred heap new p c.args.a.0 c.refer.ensures.space c.refer.ensures.graph c.refer.ensures.mutators (option_map collection_in o) in (
-      with_row c.self.invariant.0.2 (
+      with_looks c.self.invariant.0.2 (
         still_fits heap new p c.args.a.0 c.refer.ensures.space c.refer.ensures.graph c.refer.ensures.mutators c.self.inside.epoch o c.self.invariant.0.0,
         subst (KnowsRoots known) (sym is) (referred_knows c.self.inside.known before p c.args.a.0 low c.self.invariant.0.1),
       ),

@@ -7,12 +7,12 @@ use Rattle.gc_plan.specs.declared.step.Step.TheVariants as steps
 use Rattle.gc_plan.specs.declared.step.StepReply.{StepReply}
 use Rattle.gc_collected.specs.Internal.Follows.{Follows}
 use Rattle.gc_collected.specs.Internal.KnownRoots.{KnowsRoots}
-use Rattle.gc_collected.proofs.Marks.{step_knows, with_row}
+use Rattle.gc_collected.proofs.Marks.{step_knows, with_looks}
 use Rattle.gc_collected.proofs.collected_heap.CollectedHeap.scan.Goals as goal
 
 pub invariant_of-self-in-Some : goal.invariant_of-self-in-Some
 invariant_of-self-in-Some c = (
-  with_row c.self.invariant.0.2 (
+  with_looks c.self.invariant.0.2 (
       let before = subst (λ o. KnowsRoots c.self.inside.known (state_of c.self.inside.heap (option_map collection_in o))) c.in-Some.is c.self.invariant.0.1 in (
         c.scan.ensures.belongs,
         subst (KnowsRoots c.self.inside.known) (ap (λ (x : StepReply × State). x.1) c.scan.ensures.step)

@@ -1,4 +1,4 @@
--- A store is a `Move` to an extra root, so what is known of the slots and of the extra roots before it is still true, and the monitor follows.
+-- A store is a `Move` to an extra root, so what is known of the slots and of the other extra roots is still true, and the monitor follows.
 use Rattle.std.proofs.Common.{◌≡◌, ◌<◌, ◌-◌, Some, length, refl, sym, ap, subst, arith}
 use Rattle.std.specs.Option.{option_map}
 use Rattle.gc_graph.specs.Slots.{roots_of}
@@ -9,13 +9,10 @@ use Rattle.gc_plan.specs.State.{State, extra_roots_of}
 use Rattle.gc_plan.specs.Steps.{mutate}
 use Rattle.gc_copy.specs.Words.{collection_in, state_of}
 use Rattle.gc_heap.proofs.Public.{extra_place}
-use Rattle.gc_collected.specs.Internal.CollectedHeap.{Fits}
-use Rattle.gc_collected.specs.Internal.KnownRoots.{KnowsRoots}
-use Rattle.gc_collected.specs.declared.known.KnownRoots.{KnownRoots}
 use Rattle.gc_collected.proofs.Core.{core_is}
 use Rattle.gc_collected.proofs.Followed.{quiet}
 use Rattle.gc_collected.proofs.OtherCommands.{fits_stored, it_belongs, mutated}
-use Rattle.gc_collected.proofs.Marks.{with_row}
+use Rattle.gc_collected.proofs.Marks.{with_looks}
 use Rattle.gc_collected.proofs.collected_heap.CollectedHeap.store.Goals as goal
 
 pub invariant_of-self : goal.invariant_of-self
@@ -25,10 +22,9 @@ invariant_of-self c =
     let op = Move (extra_slot heap.mutators c.args.m c.args.k) c.args.s in
     let less : c.args.m < heap.mutators = subst (λ (s : State). c.args.m < s.mutators) (sym (core_is c.self.view_is)) c.requires.mutator in
     let there : c.args.k < length (graph_in heap).roots - roots_of heap.mutators = subst (λ (s : State). c.args.k < extra_roots_of s) (sym (core_is c.self.view_is)) c.requires.root in (
-      with_row (omega (arith, ap (λ (known : KnownRoots). known.count) c.stored-self-inside.ensures, c.self.invariant.0.2))
-          (subst (λ (known : KnownRoots). Fits c.self.inside.epoch c.store.new.self o × KnowsRoots known (state_of c.store.new.self (option_map collection_in o))) (sym c.stored-self-inside.ensures)
-          (fits_stored c.self.inside.epoch c.self.inside.known heap c.store.new.self o c.args.m c.args.k op c.store.result c.space.ensures.sound (λ none. none) c.store.ensures.performs
-          (ap Some (extra_place heap.mutators c.args.m c.args.k (omega (arith, less)))) (omega (arith, there)) c.self.invariant.0.0 c.self.invariant.0.1)),
+      with_looks (c.wrote.ensures.written.compares c.self.invariant.0.2)
+          (fits_stored c.self.inside.epoch c.self.inside.known c.wrote.new.self heap c.store.new.self o c.args.m c.args.k op c.store.result c.space.ensures.sound (λ none. none) c.store.ensures.performs
+          (ap Some (extra_place heap.mutators c.args.m c.args.k (omega (arith, less)))) (omega (arith, there)) c.wrote.ensures.written c.wrote.ensures.used c.self.invariant.0.0 c.self.invariant.0.1),
       λ on. quiet c.args.self.now.core heap c.store.new.self o c.args.m op c.store.result c.self.inside.watch (core_is c.self.view_is) c.is_sound.ensures.open c.space.ensures.sound (λ none. none) refl c.store.ensures.performs
           (it_belongs c.self.inside.epoch heap o c.self.invariant.0.0) (c.self.invariant.1 on),
     )

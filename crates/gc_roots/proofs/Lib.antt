@@ -1,0 +1,10 @@
+-- The proofs of roots with twins, by their subjects.
+pub mod Marks
+pub mod Rows
+pub mod Stay
+pub mod Twins
+pub mod Turns
+pub mod Looks
+pub mod Compared
+pub mod Alike
+pub mod Public

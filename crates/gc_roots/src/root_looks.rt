@@ -1,0 +1,172 @@
+//! The standing checker's row of the extra roots. It compares a root with its twin at each look, by its own pairs, and believes nobody.
+
+ghost use Rattle.std.specs.Prelude.{◌≡◌, ◌≢◌, ◌↔◌, ◌<◌, ◌≤◌, ◌*◌, ◌+◌, ◌++◌, ◌-◌, ℕ, List, length, max, replicate, slice_index, slice_set, true, false, IsTrue, IsFalse, IfOk};
+ghost use Rattle.gc_words.specs.Marks.{is_marked};
+ghost use Rattle.gc_words.specs.Word.{words_correspond};
+ghost use Rattle.gc_along.specs.Claims.{Accepts};
+ghost use Rattle.gc_along.specs.Origins.{pairs_in};
+ghost use Rattle.gc_along.specs.Outline.{outline_in};
+ghost use Rattle.gc_along.specs.Tables.{IsKept};
+ghost use Rattle.gc_roots.specs.Looks.{LookRow, HasLooked, IsCompared, IsTold, ComparesOnly};
+ghost use Rattle.gc_roots.specs.Internal.Rows.{HasLookedAtAll};
+
+use crate::due::DueRow;
+use gc_along::{Outline, Standing, Watcher};
+use gc_graph::NoMemory;
+use std::alloc::Global;
+use std::marker::Model;
+
+/// Which extra roots a standing checker has compared with their twins since they were written.
+#[derive(Debug, Drop)]
+pub struct RootLooks {
+    due: DueRow,
+    front: usize,
+    /// For so many extra roots the row has room.
+    room: usize,
+}
+
+impl Model for RootLooks {
+    ghost use Rattle.std.specs.Prelude.{◌≤◌, ◌*◌, ◌<◌, ◌^◌, length};
+    ghost use Rattle.gc_roots.specs.Looks.{LookRow};
+
+    ghost Value = { LookRow };
+
+    ghost view = { λ r. record { marks = r.due; front = r.front; room = r.room } };
+
+    ghost invariant = { λ r. (r.room ≤ 64 * length r.due) × (r.front ≤ r.room) × (r.room < 2 ^ 32) };
+}
+
+impl RootLooks {
+    /// Returns a row with room for so many extra roots, none of which was compared.
+    pub fn new(alloc: Global, extra: u32) -> Result<RootLooks, NoMemory>
+        ensures { IfOk result (λ row. (row.front ≡ 0) × (row.room ≡ extra)) }
+    {
+        let due = DueRow::new(alloc, extra)?;
+        Ok(RootLooks {
+            due,
+            front: 0,
+            room: extra as usize,
+        })
+    }
+
+    /// Nothing is compared from now on.
+    pub fn restart(&mut self)
+        ensures { self.new ≡ record self.old { front = 0 } }
+    {
+        self.front = 0;
+    }
+
+    /// Notes that extra root `k` was written, whatever it holds.
+    #[inline(always)]
+    pub fn written(&mut self, k: u32)
+        ensures looked { (pairs : List (ℕ × ℕ)) (slots x : ℕ) (olds news : List ℕ) → HasLooked pairs slots olds news self.old
+            → HasLooked pairs slots (slice_set olds (slots + k) x) news self.new }
+        ensures told { IsTold self.old self.new k }
+    {
+        let k = k as usize;
+        if k < self.front {
+            self.due.mark(k);
+        }
+    }
+
+    /// Compares extra root `k`, which holds this word, with its twin, whoever has written that.
+    pub fn look(&mut self, standing: &Standing, k: u32, word: u64, twin: u64)
+        ensures looked { (slots : ℕ) (olds news : List ℕ) → slots + k < length news → slice_index olds (slots + k) ≡ word
+            → HasLooked (pairs_in standing.now.origins) slots olds news self.old
+            → HasLooked (pairs_in standing.now.origins) slots olds (slice_set news (slots + k) twin) self.new }
+        ensures compared { words_correspond (pairs_in standing.now.origins) word twin ≡ true → k ≤ self.old.front → k < self.old.room → IsCompared self.old self.new k }
+        ensures others { ComparesOnly self.old self.new k }
+    {
+        let k = k as usize;
+        let alike = standing.roots_are_alike(word, twin);
+        if k < self.front {
+            if alike {
+                self.due.unmark(k);
+            } else {
+                self.due.mark(k);
+            }
+        } else if k == self.front && k < self.room && alike {
+            self.due.unmark(k);
+            self.front = k + 1;
+        }
+    }
+
+    /// Returns whether the first `count` extra roots were compared, and none of them was written since.
+    fn knows(&self, count: usize) -> bool
+        ensures { IsTrue result ↔ HasLookedAtAll self.now count }
+    {
+        if self.front < count {
+            return false;
+        }
+        match self.due.first() {
+            None => true,
+            Some(k) => k >= count,
+        }
+    }
+
+    /// Returns whether the checker accepts these outlines by what it has compared of the extra roots. Reads the slots, of which there are so many,
+    /// and no other root.
+    fn says_yes(&self, standing: &Standing, old: Outline, new: Outline, slots: usize) -> bool
+        ensures yes { IsTrue result → HasLooked (pairs_in standing.now.origins) slots (outline_in old.entry).roots (outline_in new.entry).roots self.now
+            → Accepts standing.now (outline_in old.entry) (outline_in new.entry) }
+        ensures kept { IsTrue result → IsKept standing.now }
+    {
+        if !standing.has_seen_all(old, new) {
+            return false;
+        }
+        if old.roots.len() != new.roots.len() {
+            return false;
+        }
+        if old.nils != new.nils {
+            return false;
+        }
+        if old.roots.len() < slots {
+            return false;
+        }
+        if !self.knows(old.roots.len() - slots) {
+            return false;
+        }
+        slots_are_alike(standing, old.roots, new.roots, slots)
+    }
+}
+
+/// A standing checker with its row of the extra roots, beside a heap with so many slots.
+#[derive(Clone, Copy, Debug)]
+pub struct RootWatcher<'a> {
+    pub standing: &'a Standing,
+    pub looks: &'a RootLooks,
+    pub slots: usize,
+}
+
+impl Watcher for RootWatcher<'_> {
+    ghost use Rattle.gc_along.specs.Claims.{Accepts};
+    ghost use Rattle.gc_along.specs.Origins.{pairs_in};
+    ghost use Rattle.gc_along.specs.Tables.{IsKept};
+    ghost use Rattle.gc_roots.specs.Looks.{HasLooked};
+
+    // It was told of each extra root that was written since it looked at it.
+    ghost accepted = { λ w old new. HasLooked (pairs_in w.standing.now.origins) w.slots old.roots new.roots w.looks.now
+        → IsKept w.standing.now × Accepts w.standing.now old new };
+
+    ghost sure = { λ w. Accepts w.standing.now };
+
+    // Where it has not compared each extra root, or not found it alike, it reads them all.
+    fn accepts(&self, old: Outline, new: Outline) -> bool {
+        self.looks.says_yes(self.standing, old, new, self.slots) || self.standing.says_yes(old, new)
+    }
+}
+
+/// Returns whether the first words of both rows stand for each other.
+fn slots_are_alike(standing: &Standing, old: &[u64], new: &[u64], slots: usize) -> bool
+    requires old { slots ≤ length old.now }
+    requires new { slots ≤ length new.now }
+    ensures all { IsTrue result → (p : ℕ) → p < slots → words_correspond (pairs_in standing.now.origins) (slice_index old.now p) (slice_index new.now p) ≡ true }
+    ensures exact { ((p : ℕ) → p < slots → words_correspond (pairs_in standing.now.origins) (slice_index old.now p) (slice_index new.now p) ≡ true) → IsTrue result }
+{
+    for place in 0..slots {
+        if !standing.roots_are_alike(old[place], new[place]) {
+            return false;
+        }
+    }
+    true
+}

@@ -1,0 +1,242 @@
+//! The row of twins, beside a heap and its open collection.
+
+ghost use Rattle.std.specs.Prelude.{◌≡◌, ◌≢◌, ◌⊎◌, ◌<◌, ◌≤◌, ◌*◌, ◌+◌, ℕ, length, max, replicate, slice_set, take, true, false, IsTrue, IfOk, IfSome, MatchResult, None, Some, ⊤};
+ghost use Rattle.gc_graph.specs.Slots.{roots_of};
+ghost use Rattle.gc_words.specs.Image.{is_start};
+ghost use Rattle.gc_heap.specs.Heap.{HeapWords, IsHeap, graph_in};
+ghost use Rattle.gc_plan.specs.State.{State, pairs_of};
+ghost use Rattle.gc_plan.specs.Staying.{IsMissing};
+ghost use Rattle.gc_plan.specs.Steps.{collect, is_ready, root_target};
+ghost use Rattle.gc_plan.specs.declared.step.Step.{Step};
+ghost use Rattle.gc_plan.specs.declared.step.StepReply.{StepReply};
+ghost use Rattle.gc_copy.specs.Words.{AreMoved, BelongsTo, LinksNothing, TellsMoves, collection_in, idle_state, open_state, new_root_words};
+ghost use Rattle.gc_roots.specs.Twins.{RootRow, KeepsTwins, IsWritten, IsLooked, IsDone, IsNextRoot, SlotsAreTwins, begun};
+
+use crate::due::DueRow;
+use gc_copy::{Collection, Room, Swapped};
+use gc_graph::{NoMemory, root_count};
+use gc_heap::Heap;
+use gc_words::OldAddr;
+use std::alloc::Global;
+use std::cmp::max;
+use std::marker::Model;
+use std::mem::replace;
+
+/// The twins of a heap's roots.
+#[derive(Debug, Drop)]
+pub struct RootTwins {
+    alloc: Global,
+    /// A word for each root.
+    twins: Vec<u64>,
+    /// Extra roots whose twins may be out of date.
+    due: DueRow,
+    /// The extra roots from this one on were not looked at in the open collection.
+    front: usize,
+    /// The extra roots from this one on are nil.
+    used: usize,
+    /// The twins from this one on, and from `front` on, are 0.
+    stale: usize,
+}
+
+impl Model for RootTwins {
+    ghost use Rattle.std.specs.Prelude.{◌≤◌, ◌*◌, ◌<◌, ◌^◌, length};
+    ghost use Rattle.gc_roots.specs.Twins.{RootRow};
+
+    ghost Value = { RootRow };
+
+    ghost view = { λ r. record { twins = r.twins.items; marks = r.due; front = r.front; used = r.used; stale = r.stale } };
+
+    ghost invariant = { λ r. (length r.twins.items ≤ 64 * length r.due) × (r.front ≤ length r.twins.items) × (r.used ≤ length r.twins.items) × (r.stale ≤ length r.twins.items)
+        × (length r.twins.items < 2 ^ 32) };
+}
+
+impl RootTwins {
+    /// Returns the row of a heap with so many roots, all of which are nil.
+    pub fn new(alloc: Global, roots: u32) -> Result<RootTwins, NoMemory>
+        ensures { IfOk result (λ row. (row.twins ≡ replicate roots 0) × (row.front ≡ 0) × (row.used ≡ 0) × (row.stale ≡ 0)) }
+    {
+        let due = DueRow::new(alloc, roots)?;
+        let twins = vec![in alloc; 0u64; roots as usize]?;
+        Ok(RootTwins {
+            alloc,
+            twins,
+            due,
+            front: 0,
+            used: 0,
+            stale: 0,
+        })
+    }
+
+    /// Notes that extra root `k` was written.
+    #[inline(always)]
+    pub fn wrote(&mut self, k: u32)
+        requires { k < length self.old.twins }
+        ensures written { IsWritten self.old self.new k }
+        ensures used { self.new.used ≡ max self.old.used (k + 1) }
+    {
+        let k = k as usize;
+        if k < self.front {
+            self.due.mark(k);
+        }
+        self.used = max(self.used, k + 1);
+    }
+
+    /// Notes that extra root `k` became nil.
+    #[inline(always)]
+    pub fn nilled(&mut self, k: u32)
+        ensures written { IsWritten self.old self.new k }
+        ensures used { self.new.used ≡ self.old.used }
+    {
+        let k = k as usize;
+        if k < self.front {
+            self.due.mark(k);
+        }
+    }
+
+    /// Notes that a collection begins, or was given up: no root was looked at.
+    pub fn begin(&mut self)
+        ensures { self.new ≡ begun self.old }
+    {
+        self.stale = max(self.stale, self.front);
+        self.front = 0;
+    }
+
+    /// Returns the first extra root that has to be looked at.
+    #[inline(always)]
+    pub fn next(&self) -> Option<usize>
+        ensures none { result ≡ None → IsDone self.now }
+        ensures next { IfSome result (IsNextRoot self.now) }
+    {
+        if let Some(k) = self.due.first() {
+            if k < self.front {
+                return Some(k);
+            }
+        }
+        if self.front < max(self.used, self.stale) {
+            Some(self.front)
+        } else {
+            None
+        }
+    }
+
+    /// Returns the number of the first extra root that is not in use.
+    #[inline(always)]
+    pub fn used(&self) -> usize
+        ensures { result ≡ self.now.used }
+    {
+        self.used
+    }
+
+    /// Returns the twins.
+    #[inline(always)]
+    pub fn words(&self) -> &[u64]
+        ensures { result.now ≡ self.now.twins }
+    {
+        &self.twins
+    }
+
+    /// Looks at extra root `k`, which is the next one, and brings its twin up to date. Returns the twin, or the root's target if that has no replica.
+    /// Notes also whether the last extra root in use has become nil, and so is no more in use.
+    pub fn look(&mut self, heap: &Heap, collection: &Collection, k: usize) -> Result<u64, OldAddr>
+        requires belongs { BelongsTo heap.now collection.now }
+        requires keeps { KeepsTwins self.old (open_state heap.now collection.now) }
+        requires next { IsNextRoot self.old k }
+        ensures keeps { KeepsTwins self.new (open_state heap.now collection.now) }
+        ensures looked { MatchResult result (IsLooked self.old self.new (roots_of heap.now.mutators) k) (λ a. (self.new ≡ self.old) × IsMissing (collection_in collection.now)
+            (graph_in heap.now) (roots_of heap.now.mutators) (length (graph_in heap.now).roots) (roots_of heap.now.mutators + k) a.0) }
+        ensures start { MatchResult result (λ _. ⊤) (λ a. IsTrue (is_start heap.now.space.words a.0)) }
+    {
+        let slots = root_count(heap.mutators());
+        match collection.root_twin(heap, slots + k) {
+            Err(target) => Err(target),
+            Ok(word) => {
+                self.looked(slots, k, word);
+                self.trim(heap, slots);
+                Ok(word)
+            }
+        }
+    }
+
+    /// Notes that the last extra root in use is not in use any more, if it is nil.
+    fn trim(&mut self, heap: &Heap, slots: usize)
+        requires slots { slots ≡ roots_of heap.now.mutators }
+        requires within { slots + self.old.used ≤ length heap.now.roots }
+        ensures keeps { (s : State) → s.heap.graph ≡ graph_in heap.now → s.mutators ≡ heap.now.mutators → KeepsTwins self.old s → KeepsTwins self.new s }
+        ensures rest { self.new ≡ record self.old { used = self.new.used } }
+    {
+        if self.used == 0 {
+            return;
+        }
+        let last = self.used - 1;
+        if heap.roots()[slots + last] == 0 {
+            self.used = last;
+        }
+    }
+
+    /// Notes that the twin of extra root `k` is this word, where there are so many slots.
+    fn looked(&mut self, slots: usize, k: usize, word: u64)
+        requires { slots + k < length self.old.twins }
+        ensures looked { IsLooked self.old self.new slots k word }
+        ensures used { self.new.used ≡ self.old.used }
+    {
+        self.twins[slots + k] = word;
+        self.due.unmark(k);
+        self.front = max(self.front, k + 1);
+    }
+
+    /// Writes the twins of the slots, where no extra root has to be looked at. Then the row is the new roots.
+    pub fn settle(&mut self, heap: &Heap, collection: &Collection)
+        requires belongs { BelongsTo heap.now collection.now }
+        requires keeps { KeepsTwins self.old (open_state heap.now collection.now) }
+        requires known { root_target (collection_in collection.now) (graph_in heap.now) ≡ None }
+        requires done { IsDone self.old }
+        ensures keeps { KeepsTwins self.new (open_state heap.now collection.now) }
+        ensures done { IsDone self.new }
+        ensures slots { SlotsAreTwins self.new (open_state heap.now collection.now) (collection_in collection.now) }
+        ensures rest { self.new ≡ record self.old { twins = self.new.twins } }
+        ensures moved { AreMoved (take (roots_of heap.now.mutators + self.new.used) self.new.twins) heap.now (collection_in collection.now) }
+    {
+        for place in 0..root_count(heap.mutators()) {
+            match collection.root_twin(heap, place) {
+                Ok(word) => self.settled(place, word),
+                Err(_target) => {}
+            }
+        }
+    }
+
+    /// Writes the twin of the root at this place.
+    fn settled(&mut self, place: usize, word: u64)
+        requires { place < length self.old.twins }
+        ensures { self.new ≡ record self.old { twins = slice_set self.old.twins place word } }
+    {
+        self.twins[place] = word;
+    }
+
+    /// Switches the mutators to the new space and to the twins. The roots that the heap had are the next row. Takes constant time. Returns the
+    /// room of this collection's heap for the next one, and the number of pairs.
+    pub fn flip(&mut self, collection: Collection, heap: &mut Heap) -> (Room, u32)
+        requires belongs { BelongsTo heap.old collection }
+        requires ready { IsTrue (is_ready (collection_in collection) (graph_in heap.old)) }
+        requires keeps { KeepsTwins self.old (open_state heap.old collection) }
+        requires done { IsDone self.old }
+        requires slots { SlotsAreTwins self.old (open_state heap.old collection) (collection_in collection) }
+        ensures step { collect (open_state heap.old collection) Step.Flip
+            ≡ (StepReply.Flipped (length (pairs_of (collection_in collection))), idle_state heap.new) }
+        ensures heap { heap.new ≡ record heap.old { space = collection.space; roots = new_root_words heap.old (collection_in collection) } }
+        ensures keeps { KeepsTwins self.new (idle_state heap.new) }
+        ensures links { (epoch : ℕ) → 1 ≤ epoch → LinksNothing epoch heap.new }
+        ensures room { (result.0.size ≡ heap.old.space.size) × (result.0.mutators ≡ heap.old.mutators) }
+        ensures moves { TellsMoves (graph_in heap.old) (pairs_of (collection_in collection)) result.0 }
+        ensures count { result.1 ≡ length (pairs_of (collection_in collection)) }
+        ensures sound { IsHeap heap.new }
+    {
+        // Here the prover learns that the heap is sound.
+        let _ = heap.space();
+        let twins = replace(&mut self.twins, Vec::new(self.alloc));
+        let Swapped { room, roots, pairs } = collection.flip_swapping(heap, twins);
+        self.twins = roots;
+        self.stale = self.used;
+        self.front = 0;
+        (room, pairs)
+    }
+}
