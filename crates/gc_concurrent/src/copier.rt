@@ -9,7 +9,7 @@ ghost use Rattle.gc_heap.specs.Heap.{IsHeap};
 ghost use Rattle.gc_plan.specs.Steps.{is_empty, scan_done};
 ghost use Rattle.gc_copy.specs.Words.{replicas_in};
 ghost use Rattle.gc_concurrent.specs.Heaps.{heap_of};
-ghost use Rattle.gc_concurrent.specs.Internal.Flip.{IsDone, Flips};
+ghost use Rattle.gc_concurrent.specs.Internal.Flip.{HasNothingLeft, Flips};
 ghost use Rattle.gc_concurrent.specs.Ends.{its};
 ghost use Rattle.gc_concurrent.specs.Internal.Rule.{entries_of_fields, read_as, Loose};
 ghost use Rattle.gc_concurrent.specs.Internal.Copiers.{Claims, KeepsSeat, moved_by};
@@ -321,7 +321,7 @@ impl Copier {
         ensures same { self.new.seat.me ≡ self.old.seat.me }
         ensures row { (self.new.seat.table_id ≡ self.old.seat.table_id) × (self.new.size ≡ self.old.size) }
         ensures space { self.new.space ≡ self.old.space }
-        ensures told { (roots : List ℕ) → IsHeap (heap_of self.old.seat.me.0.mine roots) → IsDone roots self.old.seat.me.0 → Flips roots self.old.seat.me.0.mine self.old.seat.me.0.theirs }
+        ensures told { (roots : List ℕ) → IsHeap (heap_of self.old.seat.me.0.mine roots) → HasNothingLeft roots self.old.seat.me.0 → Flips roots self.old.seat.me.0.mine self.old.seat.me.0.theirs }
     {
         let cells = &*self.cells;
         cells.shared.load::<Flipped>(&mut self.seat, 0);

@@ -15,7 +15,7 @@ ghost use Rattle.gc_concurrent.specs.Heaps.{heap_of};
 ghost use Rattle.gc_concurrent.specs.Internal.Props.{heap_prop};
 ghost use Rattle.gc_concurrent.specs.Ends.{its, opening_theirs};
 ghost use Rattle.gc_concurrent.specs.Internal.Rule.{entries_of_fields};
-ghost use Rattle.gc_concurrent.specs.Internal.Flip.{IsDone, Flips};
+ghost use Rattle.gc_concurrent.specs.Internal.Flip.{HasNothingLeft, Flips};
 ghost use Rattle.gc_concurrent.specs.Internal.Copiers.{KeepsSeat, moved_by, IsTargetIn};
 ghost use Rattle.gc_concurrent.specs.Heaps.{CorrespondsTo};
 

@@ -20,7 +20,7 @@ abbrev pub roots_alone : List ℕ → Graph
 roots_alone roots = record { objects = []; roots = map value_of roots }
 
 -- nothing is left to do, for a mutator with these roots
-pub record IsDone (roots : List ℕ) (v : Known) : Type 0 where
+pub record HasNothingLeft (roots : List ℕ) (v : Known) : Type 0 where
   pub logged : v.mine.log ≡ []
   pub applied : v.theirs.due ≡ []
   pub scanned : scan_done (its v.theirs) ≡ true
@@ -50,4 +50,4 @@ pub record Flips (roots : List ℕ) (m : Mine) (t : Theirs) : Type 0 where
 
 -- A load with both ends at hand shows that the mutator may go on in the new space.
 abbrev pub tells_flip : Step ℕ → Sat → ℕ → Sat → Type 0
-tells_flip st me found me' = (me' ≡ me) × ((roots : List ℕ) → IsHeap (heap_of me.0.mine roots) → IsDone roots me.0 → Flips roots me.0.mine me.0.theirs)
+tells_flip st me found me' = (me' ≡ me) × ((roots : List ℕ) → IsHeap (heap_of me.0.mine roots) → HasNothingLeft roots me.0 → Flips roots me.0.mine me.0.theirs)

@@ -18,7 +18,7 @@ use Rattle.gc_concurrent.specs.Ends.{its}
 use Rattle.gc_concurrent.specs.declared.held.Missing.{Missing}
 use Rattle.gc_concurrent.specs.declared.held.Missing.TheVariants.{Target}
 use Rattle.gc_concurrent.specs.Internal.Copiers.{moved_by, IsTargetIn}
-use Rattle.gc_concurrent.specs.Internal.Flip.{IsDone, Flips, new_heap_of, moved_words}
+use Rattle.gc_concurrent.specs.Internal.Flip.{HasNothingLeft, Flips, new_heap_of, moved_words}
 use Rattle.gc_concurrent.proofs.TiedCells.{tied, tied_words}
 use Rattle.gc_concurrent.proofs.Opening.{splits_rule}
 use Rattle.gc_concurrent.proofs.Memory.{claim_low}
@@ -61,7 +61,7 @@ returns-in-Target-clause-not_ready c _ =
 
 -- nothing is left to do
 done : (h : Held) (row roots : List ℕ) → row ≡ h.copier.claims.items → roots ≡ h.roots.items → (h.copier.seat.me.0.theirs.due ≡ []) × (scan_done (its h.copier.seat.me.0.theirs) ≡ true)
-    → ((k a : ℕ) → k < length roots → value_of (slice_index roots k) ≡ Ref a → slice_index row a ≢ 0) → IsDone h.roots.items h.copier.seat.me.0
+    → ((k a : ℕ) → k < length roots → value_of (slice_index roots k) ≡ Ref a → slice_index row a ≢ 0) → HasNothingLeft h.roots.items h.copier.seat.me.0
 done h row roots e f idle placed = record {
   logged = h.empty.1;
   applied = idle.0;
@@ -79,7 +79,7 @@ moves h row roots e f placed =
     (subst (λ (z : List ℕ × List ℕ). (k a : ℕ) → k < length z.1 → value_of (slice_index z.1 k) ≡ Ref a → slice_index z.0 a ≢ 0) (λ i. (e i, f i)) placed)
 
 -- what a load shows where nothing is left to do
-shown : (h : Held) (row roots : List ℕ) → ((roots : List ℕ) → IsHeap (heap_of h.copier.seat.me.0.mine roots) → IsDone roots h.copier.seat.me.0 → Flips roots h.copier.seat.me.0.mine h.copier.seat.me.0.theirs)
+shown : (h : Held) (row roots : List ℕ) → ((roots : List ℕ) → IsHeap (heap_of h.copier.seat.me.0.mine roots) → HasNothingLeft roots h.copier.seat.me.0 → Flips roots h.copier.seat.me.0.mine h.copier.seat.me.0.theirs)
     → row ≡ h.copier.claims.items → roots ≡ h.roots.items → (h.copier.seat.me.0.theirs.due ≡ []) × (scan_done (its h.copier.seat.me.0.theirs) ≡ true)
     → ((k a : ℕ) → k < length roots → value_of (slice_index roots k) ≡ Ref a → slice_index row a ≢ 0) → Flips h.roots.items h.copier.seat.me.0.mine h.copier.seat.me.0.theirs
 shown h row roots told e f idle placed = told h.roots.items h.sound (done h row roots e f idle placed)
