@@ -64,7 +64,11 @@ COMPILER = ("cc, of the package gcc", "ar, of the package binutils")
 # What builds a runtime from its source, beside Debian's keys.
 TO_BUILD = ("python3, of the package python3", "cksum, of the package coreutils", "apt-get, of the package apt", "patch, of the package patch",
             "tar, of the package tar")
-MISSING = {"certify": COMPILER, "toy": ("python3, of the package python3", *COMPILER), "ocaml": ("ocamlopt, of the package ocaml-nox", *COMPILER),
+# A file of OCaml's, which the empty path of the test does not hide: it is missing where OCaml is not installed.
+OCAML_FILE = "/usr/lib/ocaml/compiler-libs/ocamlcommon.cmxa"
+OF_OCAML_FILE = () if os.path.exists(OCAML_FILE) else (OCAML_FILE + ", of the package ocaml-compiler-libs",)
+MISSING = {"certify": COMPILER, "toy": ("python3, of the package python3", *COMPILER),
+           "ocaml": ("ocamlopt, of the package ocaml-nox", *OF_OCAML_FILE, *COMPILER),
            "jvm": ("javac, of the package openjdk-17-jdk-headless", "python3, of the package python3", *COMPILER),
            "scheme48": (*TO_BUILD, "gzip, of the package gzip", *COMPILER),
            "erlang": (*TO_BUILD, "xz, of the package xz-utils", "perl, of the package perl", "g++, of the package g++", *COMPILER)}
