@@ -26,7 +26,8 @@ from .harness import Outcome, addresses_numbered, difference, file_of, run, skip
 from .traces import PLAYED, trace_and_replies
 
 # Programs that end with status 0 and print nothing.
-PROGRAMS = ["answers.c", "check.c", "refused_check.c", "check_cpp.cpp", "heap.c", "extra_roots.c", "pace.c", "refused_heap.c", "checking.c", "damaged.c", "rooms.c", "heap_cpp.cpp", "churn.c", "threads.c", "images.c", "adapters.c", "nursery.c", "self_tests.c"]
+PROGRAMS = ["answers.c", "check.c", "refused_check.c", "check_cpp.cpp", "heap.c", "extra_roots.c", "pace.c", "refused_heap.c", "checking.c", "damaged.c", "rooms.c", "heap_cpp.cpp", "churn.c", "threads.c",
+            "images.c", "explanations.c", "flipped_bits.c", "adapters.c", "nursery.c", "self_tests.c"]
 
 
 def programs(_program, folder):
@@ -64,7 +65,8 @@ def images(_program, folder):
     if built is None:
         return
     sources = [os.path.join(TOP, "bindings", "c", name) for name in ("gcflip_images.c", "images_adapter.c", "images_told.c", "images_tests.c")]
-    for name, more in [("images.c", sources), ("adapters.c", sources), ("self_tests.c", sources), ("refused_images.c", []), ("epochs.c", [])]:
+    programs_of_images = ("images.c", "explanations.c", "flipped_bits.c", "adapters.c", "self_tests.c")
+    for name, more in [*((name, sources) for name in programs_of_images), ("refused_images.c", []), ("epochs.c", [])]:
         if usable(folder, "gcflip_images.c with sanitizers", ["gcc", *SANITIZERS]):
             path, why = built.build(["gcc", *SANITIZERS], name, [*more, *built.archive()])
             yield "%s, the source with sanitizers" % name, why or difference(done([path]), Outcome())
