@@ -147,10 +147,58 @@ static void targets_explained(void)
                              "; the replica of the object before is 0x190 (kind 4, 1 field)\n");
     expect_target(500, true, "0x1f4 (kind 4, 0 fields)\n  that is the replica of another object, 0x1f4 (kind 4, 0 fields)"
                              "; the replica of the object before is 0x190 (kind 4, 1 field)\n");
-    expect_target(600, true, "0x258 (kind 4, 1 field)\n  the object was copied twice: 0x190 (kind 4, 1 field) and 0x258 (kind 4, 1 field)\n");
+    expect_target(600, true, "0x258 (kind 4, 1 field)\n  the object was copied twice: 0x190 (kind 4, 1 field) and 0x258 (kind 4, 1 field)\n"
+                             "  objects with references to two copies: 1\n");
     expect_target(700, true, "0x2bc (kind 4, 1 field)\n  that is the replica of another object, 0x2bc (kind 4, 1 field)"
                              "; the replica of the object before is 0x190 (kind 4, 1 field)\n");
     expect_target(500, false, "0x1f4 (kind 4, 0 fields)\n  that is no replica; the replica of the object before is 0x190 (kind 4, 1 field)\n");
+}
+
+/* Places an object without fields, and returns a reference to it. */
+static uint64_t small(gcflip_snapshot *snapshot, uint64_t address, uint32_t kind)
+{
+    gcflip_snapshot_object(snapshot, address, kind, 0);
+    return gcflip_snapshot_reference(snapshot, address);
+}
+
+/* Writes a cell, a root each for three small objects, a long object, raw words, and an object with `length` fields, in both snapshots alike. */
+static void write_with_copies(gcflip_snapshot *snapshot, uint64_t cell, const uint64_t *fields, const uint64_t *roots, uint64_t of_long, uint64_t raw, uint64_t length)
+{
+    uint32_t at = gcflip_snapshot_object(snapshot, cell, 3, 6);
+    for (uint64_t i = 0; i < 6; i++)
+        gcflip_snapshot_set(snapshot, at, i, fields[i]);
+    gcflip_snapshot_root(snapshot, gcflip_snapshot_reference(snapshot, cell));
+    for (uint64_t i = 0; i < 3; i++)
+        gcflip_snapshot_root(snapshot, roots[i]);
+    gcflip_snapshot_set(snapshot, write_large(snapshot, cell + 8), 40000, of_long);
+    gcflip_snapshot_words(snapshot, cell + 16, 5, &raw, 1);
+    at = gcflip_snapshot_object(snapshot, cell + 24, 5, length);
+    for (uint64_t i = 0; i < length; i++)
+        gcflip_snapshot_set(snapshot, at, i, 0);
+}
+
+/* Each object with a second copy counts once, whether a root, a field or a field of a part refers to that. `d` has none: a field refers to an object of
+   another kind, and a raw word only looks like a reference. `f` has no first copy. */
+static void copies_counted(void)
+{
+    empty();
+    uint64_t a = small(before, 100, 4), b = small(before, 108, 5), d = small(before, 116, 6), e = small(before, 124, 8), f = small(before, 132, 9), g = small(before, 140, 10);
+    uint64_t a1 = small(after, 300, 4), a2 = small(after, 304, 4), a3 = small(after, 308, 4), b1 = small(after, 320, 5), b2 = small(after, 324, 5);
+    uint64_t d1 = small(after, 330, 6), d2 = small(after, 334, 7), d3 = small(after, 338, 6), e2 = small(after, 344, 8), f1 = small(after, 350, 9), g2 = small(after, 364, 10);
+    small(after, 340, 8);
+    small(after, 360, 10);
+    write_with_copies(before, 2000, (uint64_t[]){a, a, d, a, f, g}, (uint64_t[]){b, a, d}, e, d, 1);
+    write_with_copies(after, 3000, (uint64_t[]){a2, a1, d2, b1, f1, g2}, (uint64_t[]){b2, a3, d1}, e2, d3, 0);
+    const uint64_t pairs[][2] = {{100, 300}, {108, 320}, {116, 330}, {124, 340}, {140, 360}, {2000, 3000}, {2008, 3008}, {2016, 3016}, {2024, 3024}};
+    for (size_t i = 0; i < COUNT(pairs); i++)
+        gcflip_collection_pair(c, pairs[i][0], pairs[i][1]);
+    EXPECT(gcflip_collection_check(c, &verdict) == GCFLIP_REFUSED);
+    gcflip_snapshot_root(before, a); /* one more than the snapshot after has */
+    expect_told("refused 9 FieldDiffers 5 0\n  the object 0x7d0 (cons, 6 fields) with the replica 0xbb8 (cons, 6 fields)\n  head\n"
+                "  before 0x64 (kind 4, 0 fields)\n  after  0x130 (kind 4, 0 fields)\n"
+                "  the object was copied twice: 0x12c (kind 4, 0 fields) and 0x130 (kind 4, 0 fields)\n"
+                "  the first copy is reached by the global `all` . the tail of the first cell\n"
+                "  objects with references to two copies: 4\n  reached by the global `all`\n", true);
 }
 
 /* A raw object in parts has words, and not fields. */
@@ -498,6 +546,7 @@ int main(void)
     open_collection();
     explanations();
     targets_explained();
+    copies_counted();
     long_raw_objects_have_words();
     headers_explained();
     own_headers_explained();

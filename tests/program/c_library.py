@@ -64,7 +64,7 @@ def images(_program, folder):
     built = library(folder)
     if built is None:
         return
-    sources = [os.path.join(TOP, "bindings", "c", name) for name in ("gcflip_images.c", "images_adapter.c", "images_told.c", "images_tests.c")]
+    sources = [os.path.join(TOP, "bindings", "c", name) for name in ("gcflip_images.c", "images_adapter.c", "images_told.c", "images_texts.c", "images_tests.c")]
     programs_of_images = ("images.c", "explanations.c", "flipped_bits.c", "adapters.c", "self_tests.c")
     for name, more in [*((name, sources) for name in programs_of_images), ("refused_images.c", []), ("epochs.c", [])]:
         if usable(folder, "gcflip_images.c with sanitizers", ["gcc", *SANITIZERS]):

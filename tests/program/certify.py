@@ -202,7 +202,8 @@ EXPLAINED = [
     ("length", "pairs", OF_LENGTH), ("length", "infer", OF_LENGTH),
     ("twice", "pairs", ["refused 7 Twice 6", *OF_ENTRY_4, "  another replica of it is " + entry("", 2), "  reached by last"]),
     ("twice", "infer", ["refused 9 FieldDiffers 3 2", "  the object %s with the replica %s" % (entry("2", 0), entry("", 1)), "  next", "  before " + entry("4", 2),
-                        "  after  " + entry("", 3), "  the object was copied twice: %s and %s" % (entry("", 4), entry("", 3)), "  reached by first . next"]),
+                        "  after  " + entry("", 3), "  the object was copied twice: %s and %s" % (entry("", 4), entry("", 3)), "  the first copy is reached by last",
+                        "  objects with references to two copies: 2", "  reached by first . next"]),
 ]
 
 

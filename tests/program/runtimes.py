@@ -208,7 +208,7 @@ def jvm_self_test(_program, folder, flips=200):
 
 # The parts of the library that are C.
 C_PARTS = {"allocator.o": "allocator.c", "images.o": "gcflip_images.c", "images_adapter.o": "images_adapter.c", "images_told.o": "images_told.c",
-           "images_tests.o": "images_tests.c"}
+           "images_texts.o": "images_texts.c", "images_tests.o": "images_tests.c"}
 # Writes behind a row that Python got from malloc.
 BEYOND = "import ctypes; row = (ctypes.c_uint64 * 100)(); ctypes.memset(ctypes.addressof(row), 0, 801)"
 
