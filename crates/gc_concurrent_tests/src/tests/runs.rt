@@ -1,4 +1,6 @@
 //! Whole runs: a mutator and a collector in two threads, beside the plain machine.
+ghost use Rattle.gc_graph.specs.Machine.{HasMutator};
+
 use gc_concurrent::{beside_collector, mutate, open};
 use gc_graph::{NoMemory, Number, Op, Plain, Reply, Slot, View};
 use gc_test_kit::commands::{new, num, own};
@@ -50,14 +52,25 @@ fn commands(alloc: Global, count: usize, seed: u64) -> Result<Vec<Op>, AllocErro
     Ok(ops)
 }
 
+/// Performs a command of the machine without a collector, and keeps its reply.
+fn keep_plain_reply(plain: &mut Plain, op: &Op, replies: &mut Vec<Reply>) -> Result<(), NoMemory>
+    requires { HasMutator plain.old.graph 0 }
+    ensures { HasMutator plain.new.graph 0 }
+{
+    let _named = View::Nil;
+    let reply = plain.apply(0, op)?;
+    match replies.push(reply) {
+        Ok(()) => Ok(()),
+        Err(_) => Err(NoMemory),
+    }
+}
+
 /// Returns the replies of the machine without a collector, with room for all.
 fn plain_replies(alloc: Global, ops: &[Op]) -> Result<Vec<Reply>, NoMemory> {
-    let _named = View::Nil;
     let mut plain = Plain::new(alloc, 1 << 20, 1)?;
     let mut replies = Vec::new(alloc);
     for op in ops {
-        let reply = plain.apply(0, op)?;
-        replies.push(reply)?;
+        keep_plain_reply(&mut plain, op, &mut replies)?;
     }
     Ok(replies)
 }
