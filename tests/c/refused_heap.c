@@ -330,7 +330,7 @@ enum { NONE = 0 };
    allocations a flip makes. */
 static void allocations(int tables, int flipping)
 {
-    opening(4 + tables); /* the words, the roots, the row for moved roots, and the heap itself */
+    opening(8 + tables); /* the words, the roots, their twins, four rows of bits, and the heap itself */
     EXPECT(failures(set_up, begin) == 2); /* the new space, and the list of logs */
     EXPECT(failures(set_up, begin_sized) == 2);
     EXPECT(failures(set_up, begin_larger) == 2 + tables); /* the tables grow, too */

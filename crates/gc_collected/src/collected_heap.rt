@@ -105,7 +105,8 @@ impl CollectedHeap {
         let heap = Heap::open_with(alloc, options)?;
         let along = matches!(checking, Checking::Along { .. });
         let roots = heap.roots().len() as u32;
-        let known = KnownRoots::new(alloc, roots, if along { roots } else { 0 })?;
+        let watched = if along { heap.extra_roots() } else { 0 };
+        let known = KnownRoots::new(alloc, roots, watched)?;
         let watch = monitor(alloc, options.size, along)?;
         Ok(CollectedHeap {
             alloc,

@@ -58,8 +58,8 @@ impl CollectedHeap {
         self.heap.store(m, k, s)
     }
 
-    /// Sets the extra roots from `from` on, and below `to`, to nil. Does not allocate, and logs nothing. The next collection reads each root that
-    /// was cleared at most twice, and later ones read none above the last one that was set and not cleared.
+    /// Sets the extra roots from `from` on, and below `to`, to nil. Does not allocate, and logs nothing. A later collection reads each
+    /// root that was cleared at most three times, and those after it read none above the last one in use.
     pub fn clear(&mut self, from: u32, to: u32)
         requires { to ≤ extra_roots_of self.old.core }
         ensures step { clear_step self.old.core from (to - from) ≡ self.new.core }

@@ -188,6 +188,7 @@ fn decide<W: Watcher, C: Checks>(
     ensures belongs { BelongsTo heap.new collection.new }
     ensures keeps { KeepsTwins twins.new (open_state heap.new collection.new) }
     ensures rest { twins.new ≡ record twins.old { twins = twins.new.twins } }
+    ensures done { IfOk result (λ decided. IfOk decided (λ approved. IsDone twins.new)) }
     ensures approved { IfOk result (λ decided. MatchResult decided
         (λ approved. IsTrue (is_ready (collection_in collection.old) (graph_in heap.old))
         × IsFlipOf heap.new collection.new twins.new approved × (keep_in approved ≡ keep))
@@ -262,6 +263,7 @@ fn carry_out(
     requires belongs { BelongsTo heap.old collection }
     requires ready { IsTrue (is_ready (collection_in collection) (graph_in heap.old)) }
     requires keeps { KeepsTwins twins.old (open_state heap.old collection) }
+    requires done { IsDone twins.old }
     requires approved { IsFlipOf heap.old collection twins.old approved }
     ensures step { collect (open_state heap.old collection) Step.Flip ≡ (StepReply.Flipped result, idle_state heap.new) }
     ensures count { result ≡ length (collection_in collection).replicas }
@@ -274,8 +276,12 @@ fn carry_out(
 {
     match approved {
         Approved::Along => leave_twins(heap, collection, twins, former),
-        Approved::Whole(draft) => leave_room(heap, collection, draft.roots, former),
+        Approved::Whole(draft) => {
+            twins.expire();
+            leave_room(heap, collection, draft.roots, former)
+        }
         Approved::Pair(draft, copy) => {
+            twins.expire();
             let (pairs, file) = leave_pair(heap, collection, draft, copy);
             *pair = Some(file);
             pairs

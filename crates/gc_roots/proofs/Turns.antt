@@ -114,17 +114,16 @@ moved_prefix row heap cw n at same k =
 
 -- ---- other ends
 
--- a flip by other roots leaves the row as it is: nothing is said of a collection
-pub flipped_keeps : (row : RootRow) (s t : State) (reply : StepReply) → t.collection ≡ None → t.mutators ≡ s.mutators → collect s steps.Flip ≡ (reply, t) → KeepsTwins row s → KeepsTwins row t
-flipped_keeps row s t reply none count flips k = record {
+-- after a flip by other roots, the words of roots in use are no twins, and the others are 0
+pub expired_keeps : (row : RootRow) (s t : State) (c : Collection) (reply : StepReply) → s.collection ≡ Some c → t.mutators ≡ s.mutators → collect s steps.Flip ≡ (reply, t) → IsDone row → KeepsTwins row s → KeepsTwins (record row { front = 0; stale = row.used }) t
+expired_keeps row s t c reply is count flips done k = record {
   counted = k.counted ∙ sym long;
   front_high = omega (arith, k.front_high, mutators);
   used_high = omega (arith, k.used_high, mutators);
-  stale_high = omega (arith, k.stale_high, mutators);
-  unused = λ i le. subst (λ n. root t.heap.graph (n + i) ≡ Nil) (sym mutators)
-      (subst (λ (u : State). root u.heap.graph (roots_of s.mutators + i) ≡ Nil) after (flip_nil s (roots_of s.mutators + i) (k.unused i le)));
-  clean = λ i low le. subst (λ n. slice_index row.twins (n + i) ≡ 0) (sym mutators) (k.clean i low le);
-  right = λ i less free. subst (λ o. IfSome o (λ c. IsTwin c (root t.heap.graph (roots_of t.mutators + i)) (slice_index row.twins (roots_of t.mutators + i)))) (sym none) tt;
+  stale_high = omega (arith, k.used_high, mutators);
+  unused = λ i le. subst (λ n. root t.heap.graph (n + i) ≡ Nil) (sym mutators) (subst (λ (u : State). root u.heap.graph (roots_of s.mutators + i) ≡ Nil) after (flip_nil s (roots_of s.mutators + i) (k.unused i le)));
+  clean = λ i low le. subst (λ n. slice_index row.twins (n + i) ≡ 0) (sym mutators) (zero_word i le);
+  right = λ i less. absurd (omega (arith, less));
 }
   where
     after : (collect s steps.Flip).1 ≡ t
@@ -135,6 +134,14 @@ flipped_keeps row s t reply none count flips k = record {
 
     long : length t.heap.graph.roots ≡ length s.heap.graph.roots
     long = ap (λ (u : State). length u.heap.graph.roots) (sym after) ∙ flip_count s
+
+    -- the twin of a root that is nil
+    zero_word : (i : ℕ) → row.used ≤ i → slice_index row.twins (roots_of s.mutators + i) ≡ 0
+    zero_word i le = ⊎_elim
+        (λ less. (let twin : IsTwin c (root s.heap.graph (roots_of s.mutators + i)) (slice_index row.twins (roots_of s.mutators + i)) = subst (λ o. IfSome o (λ d. IsTwin d (root s.heap.graph (roots_of s.mutators + i)) (slice_index row.twins (roots_of s.mutators + i)))) is (k.right i less (done.none i less)) in
+        twin.word_is ∙ ap (λ v. word_of (moved c v)) (k.unused i le)))
+        (λ high. k.clean i high (omega (arith, high, done.stale)))
+        (cases_lt i row.front)
 
 zeros : (n p : ℕ) → slice_index (replicate n 0) p ≡ 0
 zeros zero p = refl

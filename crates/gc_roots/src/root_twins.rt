@@ -136,7 +136,7 @@ impl RootTwins {
     }
 
     /// Looks at extra root `k`, which is the next one, and brings its twin up to date. Returns the twin, or the root's target if that has no replica.
-    /// Notes also whether the last extra root in use has become nil, and so is no more in use.
+    /// If the root is nil, and the last one in use too, then that is in use no more.
     pub fn look(&mut self, heap: &Heap, collection: &Collection, k: usize) -> Result<u64, OldAddr>
         requires belongs { BelongsTo heap.now collection.now }
         requires keeps { KeepsTwins self.old (open_state heap.now collection.now) }
@@ -151,19 +151,22 @@ impl RootTwins {
             Err(target) => Err(target),
             Ok(word) => {
                 self.looked(slots, k, word);
-                self.trim(heap, slots);
+                self.trim(heap, slots, word);
                 Ok(word)
             }
         }
     }
 
-    /// Notes that the last extra root in use is not in use any more, if it is nil.
-    fn trim(&mut self, heap: &Heap, slots: usize)
+    /// Notes that the last extra root in use is not in use any more, if it is nil. Reads it only where the root with this twin is nil, too.
+    fn trim(&mut self, heap: &Heap, slots: usize, twin: u64)
         requires slots { slots ≡ roots_of heap.now.mutators }
         requires within { slots + self.old.used ≤ length heap.now.roots }
         ensures keeps { (s : State) → s.heap.graph ≡ graph_in heap.now → s.mutators ≡ heap.now.mutators → KeepsTwins self.old s → KeepsTwins self.new s }
         ensures rest { self.new ≡ record self.old { used = self.new.used } }
     {
+        if twin != 0 {
+            return;
+        }
         if self.used == 0 {
             return;
         }
@@ -235,8 +238,15 @@ impl RootTwins {
         let twins = replace(&mut self.twins, Vec::new(self.alloc));
         let Swapped { room, roots, pairs } = collection.flip_swapping(heap, twins);
         self.twins = roots;
+        self.expire();
+        (room, pairs)
+    }
+
+    /// Notes that the heap has flipped, where no extra root had to be looked at. The words of roots in use are no twins any more, and the others are 0.
+    pub fn expire(&mut self)
+        ensures { self.new ≡ record self.old { front = 0; stale = self.old.used } }
+    {
         self.stale = self.used;
         self.front = 0;
-        (room, pairs)
     }
 }

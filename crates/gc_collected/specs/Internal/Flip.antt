@@ -7,7 +7,7 @@ use Rattle.gc_cert.specs.declared.image.Image.{Image}
 use Rattle.gc_heap.specs.Heap.{HeapWords}
 use Rattle.gc_plan.specs.State.{pairs_of}
 use Rattle.gc_copy.specs.Words.{CollectionWords, collection_in, new_root_words, open_state}
-use Rattle.gc_roots.specs.Twins.{RootRow, IsDone, SlotsAreTwins}
+use Rattle.gc_roots.specs.Twins.{RootRow, SlotsAreTwins}
 use Rattle.gc_collected.specs.declared.flip.Draft.{Draft}
 use Rattle.gc_collected.specs.declared.flip.Approved.{Approved}
 use Rattle.gc_collected.specs.declared.flip.Approved.TheVariants.{Along, Whole, Pair}
@@ -27,7 +27,7 @@ IsNewImage c moved image = image_in image ≡ image_with c.space moved
 
 -- what was approved is the flip of this collection, by the heap's own row of twins or by a draft
 abbrev pub IsFlipOf : HeapWords → CollectionWords → RootRow → Approved → Type 0
-IsFlipOf heap c row Along = IsDone row × SlotsAreTwins row (open_state heap c) (collection_in c)
+IsFlipOf heap c row Along = SlotsAreTwins row (open_state heap c) (collection_in c)
 IsFlipOf heap c row (Whole draft) = IsDraft heap c draft
 IsFlipOf heap c row (Pair draft copy) = IsDraft heap c draft × IsNewImage c draft.roots.items copy × (c.epoch ≡ 0) × (length draft.pairs.items < 2 ^ 32)
 

@@ -16,6 +16,7 @@ flip_swapping-room-requires-clause-roots c =
 pub returns-clause-keeps : goal.returns-clause-keeps
 returns-clause-keeps c =
     let was = open_state c.args.heap.now c.args.collection in
-    turned_keeps (record { twins = c.self.inside.twins.items; marks = c.self.inside.due; front = c.self.inside.front; used = c.self.inside.used; stale = c.self.inside.stale }) was (idle_state c.flip_swapping-room.new.heap)
+    subst (λ (row : RootRow). KeepsTwins row (idle_state c.flip_swapping-room.new.heap)) (sym c.expire.ensures)
+    (turned_keeps (record { twins = c.self.inside.twins.items; marks = c.self.inside.due; front = c.self.inside.front; used = c.self.inside.used; stale = c.self.inside.stale }) was (idle_state c.flip_swapping-room.new.heap)
     c.flip_swapping-room.result.roots.items _ (ap (map value_of) (sym c.flip_swapping-room.ensures.roots)) refl (ap (λ (h : HeapWords). h.mutators) c.flip_swapping-room.ensures.heap)
-    c.flip_swapping-room.ensures.step (subst (λ r. KeepsTwins r was) (sym c.self.view_is) c.requires.keeps)
+    c.flip_swapping-room.ensures.step (subst (λ r. KeepsTwins r was) (sym c.self.view_is) c.requires.keeps))
