@@ -1,13 +1,11 @@
 -- A monitor that has room for both spaces of a collection goes on following a heap in which that begins.
 use Rattle.std.proofs.Common.{◌≡◌, ◌⊎◌, ⊎_elim, ◌<◌, ◌≤◌, ℕ, false, Option, Some, None, ap, sym, ◌∙◌, subst, arith}
-use Rattle.gc_heap.specs.Heap.{HeapWords}
 use Rattle.gc_plan.specs.State.{Collection, State, heap_end}
 use Rattle.gc_plan.specs.Steps.{fresh_collection, with_collection}
 use Rattle.gc_plan.specs.Belonging.{IsSpaceGraph}
 use Rattle.gc_along.specs.Tables.{Tables, watch_of}
 use Rattle.gc_along.specs.Watch.{Watch}
 use Rattle.gc_along.proofs.Public.{opening_watch}
-use Rattle.gc_copy.specs.Words.{state_of}
 use Rattle.gc_collected.specs.Internal.Beside.{GoesBeside}
 use Rattle.gc_collected.specs.Internal.Follows.{Follows}
 use Rattle.gc_collected.specs.Internal.KnownRoots.{KnowsRoots}

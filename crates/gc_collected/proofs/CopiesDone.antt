@@ -1,7 +1,7 @@
 -- Where a copy of fields may begin, each of its commands is done.
 use Rattle.std.proofs.lemmas.Grind.{common_steps}
 use Rattle.std.proofs.Common.{◌≡◌, ◌≢◌, ◌<◌, ◌≤◌, ◌+◌, ◌-◌, ℕ, zero, suc, List, [], ◌∷◌, ◌++◌, length, map, take, drop, Some, None, Option, Bool, true, false, refl, sym, ap, ◌∙◌, subst, cond, arith}
-use Rattle.std.specs.Prelude.{◌==◌, get_or, slice_get, slice_set, slice_range, not, ◌||◌, ◌&&◌}
+use Rattle.std.specs.Prelude.{◌==◌, get_or, slice_get, slice_set, not, ◌||◌, ◌&&◌}
 use Rattle.std.specs.List.{list_all}
 use Rattle.std.specs.Option.{unwrap_or}
 use Rattle.std.proofs.lemmas.List.{length-map, length-set}
@@ -14,7 +14,7 @@ use Rattle.gc_graph.specs.declared.reply.Reply.{Reply}
 use Rattle.gc_plan.proofs.Public.{get_set_other, get_set_same, in_right, lookup_written}
 use Rattle.gc_graph.specs.Machine.{Roomy, is_number, roomy_step, step, words_taken}
 use Rattle.gc_graph.specs.declared.reply.Reply.TheVariants.{Done, NoObject}
-use Rattle.std.proofs.lemmas.Bool.{cases_Bool, cases_eq, le-leb, leb-true, ne_eqb}
+use Rattle.std.proofs.lemmas.Bool.{cases_Bool, cases_eq, le-leb, leb-true}
 use Rattle.std.proofs.Common.{eq-eqb, eqb-true, inl, inr, ⊎_elim}
 use Rattle.gc_words.specs.Space.{end_of, free_in}
 use Rattle.gc_words.specs.Word.{value_of}
@@ -36,7 +36,6 @@ use Rattle.gc_collected.specs.Internal.Together.{Logs, LogsIfOpen, PerformsAll, 
 use Rattle.gc_collected.proofs.Marks.{slot_below}
 use Rattle.gc_collected.proofs.Together.{MakeNothing, together_ran, together_state}
 use Rattle.gc_collected.proofs.Monitor.Follows.{IsAmong, follows_closed, follows_written}
-
 
 -- ---- an object after a write
 
@@ -138,7 +137,6 @@ record OneCopied (g new : Graph) (m a i j count : ℕ) (d s : SlotName) : Type 0
 
 module _ (g : Graph) (m a i j count : ℕ) (d s t : SlotName) (apart : place t m ≢ place d m) (beside : place t m ≢ place s m) (within : place t m < length g.roots) (target : root g (place d m) ≡ Ref a)
     (done : copy_reply i j (suc count) (object_in g d m) (object_in g s m) ≡ Done) where
-
   abbrev found : (o : Object) × (p : Object) × (object_in g d m ≡ Some o) × (object_in g s m ≡ Some p)
   found = both_found (object_in g d m) (object_in g s m) i j (suc count) done
 
@@ -220,9 +218,9 @@ copies_on : (heap mid new last : HeapWords) (m a i j count : ℕ) (d s t : SlotN
     → copy_reply i j (suc count) (object_in (graph_in heap) d m) (object_in (graph_in heap) s m) ≡ Done → Performs heap m (Get t s j) reply mid → IsHeap mid → Performs mid m (Put d i t) end new → IsHeap new
     → OneCopied (graph_in heap) (graph_in new) m a i j count d s × (PerformsAll new m (copies d (suc i) s (suc j) t count) (fields_from a (suc i) count) last → PerformsAll heap m (copies d i s j t (suc count)) (fields_from a i (suc count)) last)
 copies_on heap mid new last m a i j count d s t reply end is less low apart beside target done gets sound-mid puts sound = (
-    subst (λ (g : Graph). OneCopied (graph_in heap) g m a i j count d s) (sym now) (one_copy (graph_in heap) m a i j count d s t apart beside within target done),
-    λ more. (mid, reply, fields_from a i (suc count), gets, sound-mid, refl, (new, end, fields_from a (suc i) count, puts, sound, sym (ap (λ es. es ++ fields_from a (suc i) count) wrote), more)),
-  )
+  subst (λ (g : Graph). OneCopied (graph_in heap) g m a i j count d s) (sym now) (one_copy (graph_in heap) m a i j count d s t apart beside within target done),
+  λ more. (mid, reply, fields_from a i (suc count), gets, sound-mid, refl, (new, end, fields_from a (suc i) count, puts, sound, sym (ap (λ es. es ++ fields_from a (suc i) count) wrote), more)),
+)
   where
     g : Graph
     g = graph_in heap

@@ -17,6 +17,7 @@ mod Noted
 mod NumbersPut
 mod OtherCommands
 mod Parts
+mod ByPlace
 pub mod Public
 mod Referred
 mod Reserved

@@ -1,7 +1,7 @@
 -- What commands and steps leave of the marks of a collected heap.
 use Rattle.std.proofs.lemmas.Grind.{common_steps}
 use Rattle.std.proofs.Common.{◌≡◌, ◌≢◌, ⊎_elim, ℕ, zero, suc, ◌+◌, ◌-◌, ◌<◌, ◌≤◌, nat_lt, List, [], ◌∷◌, length, map, slice_get, replicate, Option, Some, None, refl, sym, ap, ◌∙◌, subst, arith}
-use Rattle.std.specs.Prelude.{IfSome, slice_index, slice_set, min, max}
+use Rattle.std.specs.Prelude.{IfSome, slice_index, slice_set}
 use Rattle.std.specs.Option.{option_map, unwrap_or}
 use Rattle.std.proofs.lemmas.Bool.{cond_both, cases_lt, cases_eq, ltb-true}
 use Rattle.gc_graph.specs.Slots.{SlotName, place, roots_of}
@@ -24,16 +24,13 @@ use Rattle.gc_plan.specs.Staying.{HasReplicaOf, IsMissing, KnowsRoot, root_writt
 use Rattle.gc_plan.specs.Steps.{mutate, collect, root_target}
 use Rattle.gc_plan.specs.declared.step.Step.{Step}
 use Rattle.gc_plan.specs.declared.step.Step.TheVariants as steps
-use Rattle.gc_plan.specs.declared.step.StepReply.{StepReply}
-use Rattle.gc_plan.specs.declared.step.StepReply.TheVariants.{Copied}
 use Rattle.gc_copy.specs.declared.collection.roots.MissingRoot.{MissingRoot}
-use Rattle.gc_copy.proofs.Public.{placed_has}
-use Rattle.gc_plan.proofs.Public.{all_replicated, first_missing, steps_stay, collect_stays, mutate_stays, root_kept, roots_counted, flip_nil, flip_count}
+use Rattle.gc_plan.proofs.Public.{all_replicated, first_missing, steps_stay, collect_stays, mutate_stays}
 use Rattle.gc_collected.specs.CollectedHeap.{fill_step, filled, new_from_step}
 use Rattle.gc_collected.specs.Internal.CollectedHeap.{Fits}
 use Rattle.gc_collected.specs.Internal.KnownRoots.{HasWritten, KnowsRoots}
 use Rattle.gc_roots.specs.Twins.{KeepsTwins, IsDone}
-use Rattle.gc_roots.proofs.Public.{begun_keeps as begun_twins, extra_known, opening_keeps, root_command as root_twins, slot_command as slot_twins, step_keeps as step_twins}
+use Rattle.gc_roots.proofs.Public.{extra_known, opening_keeps, root_command as root_twins, slot_command as slot_twins, step_keeps as step_twins}
 use Rattle.gc_collected.specs.declared.known.KnownRoots.{KnownRoots}
 
 -- what is known of a heap and its roots, with what the monitor has compared

@@ -9,6 +9,7 @@ ghost use Rattle.gc_graph.specs.Slots.{place};
 ghost use Rattle.gc_graph.specs.declared.command.Op.{Op};
 ghost use Rattle.gc_graph.specs.declared.reply.Reply.{Reply};
 ghost use Rattle.gc_heap.specs.Filling.{TakesFields, TakesNumbers};
+ghost use Rattle.gc_heap.specs.Places.{root_at};
 ghost use Rattle.gc_words.specs.Image.{is_start};
 ghost use Rattle.gc_words.specs.Space.{end_of};
 ghost use Rattle.gc_heap.specs.Heap.{HeapWords, IsHeap, graph_in};
@@ -69,8 +70,43 @@ pub(crate) fn put(
     ensures mutators { heap.new.mutators ≡ heap.old.mutators }
     ensures follows { Follows (open_state heap.old collection.old) watch.old → Follows (open_state heap.new collection.new) watch.new }
 {
+    // Here the prover learns that the heap is sound, and how many roots there are.
+    let _ = heap.space();
+    let _ = heap.root_places();
+    put_root(
+        collection,
+        heap,
+        watch,
+        m,
+        s.place(m) as u32,
+        i,
+        t.place(m) as u32,
+    )
+}
+
+/// Performs mutator `m`'s `Put` on roots by their places, as `put` does.
+#[inline(always)]
+pub(crate) fn put_root(
+    collection: &mut Collection,
+    heap: &mut Heap,
+    watch: &mut Standing,
+    m: u8,
+    s: u32,
+    i: u16,
+    t: u32,
+) -> Reply
+    requires belongs { BelongsTo heap.old collection.old }
+    requires mutator { m < heap.old.mutators }
+    requires target { s < length heap.old.roots }
+    requires giver { t < length heap.old.roots }
+    requires room { 1 ≤ spare_of collection.old m }
+    ensures step { mutate (open_state heap.old collection.old) m (Op.Put (root_at s) i (root_at t)) ≡ (result, open_state heap.new collection.new) }
+    ensures belongs { BelongsTo heap.new collection.new }
+    ensures mutators { heap.new.mutators ≡ heap.old.mutators }
+    ensures follows { Follows (open_state heap.old collection.old) watch.old → Follows (open_state heap.new collection.new) watch.new }
+{
     are_shown(heap, collection);
-    let (reply, entry) = collection.put_noted(heap, m, s, i, t);
+    let (reply, entry) = collection.put_root(heap, m, s, i, t);
     let Some(entry) = entry else {
         return reply;
     };
@@ -291,6 +327,33 @@ pub(crate) fn new_in(
     // Here the prover learns that the heap is sound.
     let _ = heap.space();
     let reply = heap.new_object(m, d, kind, len);
+    watch.made(heap.space().words());
+    reply
+}
+
+/// Performs a `New` into a root by its place, as `new_in` does.
+#[inline(always)]
+pub(crate) fn new_root_in(
+    collection: &Option<Collection>,
+    heap: &mut Heap,
+    watch: &mut Standing,
+    d: u32,
+    kind: u8,
+    len: u16,
+) -> Reply
+    requires belongs { BelongsIfOpen heap.old collection.now }
+    requires root { d < length heap.old.roots }
+    ensures step { mutate (state_in heap.old collection.now) 0 (Op.New (root_at d) kind len) ≡ (result, state_in heap.new collection.now) }
+    ensures fits { (epoch : ℕ) → Fits epoch heap.old collection.now → Fits epoch heap.new collection.now }
+    ensures belongs { BelongsIfOpen heap.new collection.now }
+    ensures mutators { heap.new.mutators ≡ heap.old.mutators }
+    ensures follows { Follows (state_in heap.old collection.now) watch.old → Follows (state_in heap.new collection.now) watch.new }
+{
+    heaps_have_addresses_as_names();
+    are_sound_in(collection, heap);
+    // Here the prover learns that the heap is sound.
+    let _ = heap.space();
+    let reply = heap.new_at_root(d, kind, len);
     watch.made(heap.space().words());
     reply
 }

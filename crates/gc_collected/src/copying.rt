@@ -129,7 +129,17 @@ fn copy_reply(heap: &Heap, m: u8, d: Slot, to: u16, s: Slot, from: u16, count: u
 }
 
 // Copies the fields in the heap alone, where the object in `d` takes them.
-fn copy_each(heap: &mut Heap, m: u8, d: Slot, object: OldAddr, to: u16, s: Slot, from: u16, t: Slot, count: u16)
+fn copy_each(
+    heap: &mut Heap,
+    m: u8,
+    d: Slot,
+    object: OldAddr,
+    to: u16,
+    s: Slot,
+    from: u16,
+    t: Slot,
+    count: u16,
+)
     requires mutator { m < heap.old.mutators }
     requires target { to + count ≤ 65535 }
     requires source { from + count ≤ 65535 }

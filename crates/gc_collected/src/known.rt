@@ -1,6 +1,6 @@
 //! What a collected heap knows of its roots, and how far the search for roots whose targets have no replicas has come.
 
-ghost use Rattle.std.specs.Prelude.{◌≡◌, ◌<◌, ◌+◌, IfOk, IfSome, IsTrue, None, length, max, replicate};
+ghost use Rattle.std.specs.Prelude.{◌≡◌, ◌<◌, ◌≤◌, ◌+◌, ◌-◌, IfOk, IfSome, IsTrue, None, length, max, replicate};
 ghost use Rattle.std.specs.Option.{option_map};
 ghost use Rattle.gc_graph.specs.Slots.{roots_of};
 ghost use Rattle.gc_heap.specs.Heap.{graph_in};
@@ -9,7 +9,7 @@ ghost use Rattle.gc_plan.specs.Staying.{IsMissing};
 ghost use Rattle.gc_plan.specs.Steps.{root_target};
 ghost use Rattle.gc_copy.specs.Words.{collection_in, open_state, BelongsTo};
 ghost use Rattle.gc_roots.specs.Twins.{IsDone, begun};
-ghost use Rattle.gc_collected.specs.Internal.KnownRoots.{ComparesTwins, HasWritten, KnowsRoots};
+ghost use Rattle.gc_collected.specs.Internal.KnownRoots.{ComparesTwins, HasTaken, HasTakenPlain, HasWritten, KnowsRoots};
 
 use gc_along::Standing;
 use gc_copy::{Collection, MissingRoot};
@@ -57,6 +57,30 @@ impl KnownRoots {
     {
         self.twins.wrote(k);
         self.looks.written(k);
+    }
+
+    /// Notes that the root at this place was written, where there are so many slots.
+    #[inline(always)]
+    pub(crate) fn took(&mut self, place: u32, slots: usize)
+        requires within { (slots ≤ place) → place - slots < length self.old.twins.twins }
+        ensures { HasTaken self.old self.new slots place }
+    {
+        if (place as usize) < slots {
+            self.slots = 0;
+        } else {
+            self.wrote(place - slots as u32);
+        }
+    }
+
+    /// The same for nil or a number, which needs no replica.
+    #[inline(always)]
+    pub(crate) fn took_plain(&mut self, place: u32, slots: usize)
+        requires within { (slots ≤ place) → place - slots < length self.old.twins.twins }
+        ensures { HasTakenPlain self.old self.new slots place }
+    {
+        if place as usize >= slots {
+            self.wrote(place - slots as u32);
+        }
     }
 
     /// Notes that extra root `k` became nil.

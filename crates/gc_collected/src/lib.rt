@@ -15,6 +15,7 @@ mod known;
 mod laws;
 mod mixed;
 mod performing;
+mod places;
 mod reading;
 mod referring;
 mod rooms;

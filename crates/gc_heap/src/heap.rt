@@ -2,6 +2,7 @@ ghost use Rattle.std.specs.Prelude.{◌≡◌};
 
 mod commands;
 mod filling;
+mod places;
 
 use crate::options::HeapOptions;
 use crate::reading::{field_word, has_field, raw_fields, root_word};

@@ -13,6 +13,7 @@ mod moved;
 mod opening;
 mod pace;
 mod parts;
+mod places;
 mod rare;
 mod raws;
 mod reading;
@@ -39,6 +40,9 @@ pub use mixed::{GcflipField, gcflip_heap_new_with};
 pub use moved::gcflip_heap_moved;
 pub use opening::{GcflipOptions, gcflip_heap_close, gcflip_heap_open};
 pub use pace::{gcflip_heap_pace, gcflip_heap_work_paced, gcflip_pace_due};
+pub use places::{
+    gcflip_copy, gcflip_get, gcflip_look, gcflip_new, gcflip_put, gcflip_same, gcflip_set_number,
+};
 pub use raws::{gcflip_heap_address, gcflip_heap_raw_read, gcflip_heap_raw_write};
 pub use reading::{
     GcflipLogEntry, gcflip_heap_counts, gcflip_heap_image, gcflip_heap_log_entry,

@@ -1,6 +1,7 @@
-ghost use Rattle.std.specs.Prelude.{◌≡◌, ◌≢◌, ◌<◌, ◌≤◌, ◌+◌, ◌^◌, ℕ};
+ghost use Rattle.std.specs.Prelude.{◌≡◌, ◌≢◌, ◌<◌, ◌≤◌, ◌+◌, ◌^◌, ℕ, length};
 ghost use Rattle.std.specs.Option.{option_map, option_to_list};
 ghost use Rattle.gc_heap.specs.Heap.{graph_in};
+ghost use Rattle.gc_heap.specs.Places.{root_at};
 ghost use Rattle.gc_plan.specs.Steps.{mutate, written};
 ghost use Rattle.gc_copy.specs.Entries.{entry_in};
 ghost use Rattle.gc_copy.specs.Internal.Entries.{if_done};
@@ -52,10 +53,39 @@ impl Collection {
         ensures mutators { heap.new.mutators ≡ heap.old.mutators }
         ensures spare { spare_of self.old m ≤ spare_of self.new m + 1 }
     {
+        // Here the prover learns that the heap is sound, and how many roots there are.
+        let _ = heap.space();
+        let _ = heap.root_places();
+        self.put_root(heap, m, s.place(m) as u32, i, t.place(m) as u32)
+    }
+
+    /// Performs mutator `m`'s `Put` on roots by their places, and logs the field if it was written. Also returns the entry that it logged. Needs room
+    /// in the log.
+    #[inline(always)]
+    pub fn put_root(
+        &mut self,
+        heap: &mut Heap,
+        m: u8,
+        s: u32,
+        i: u16,
+        t: u32,
+    ) -> (Reply, Option<LogEntry>)
+        requires belongs { BelongsTo heap.old self.old }
+        requires mutator { m < heap.old.mutators }
+        requires target { s < length heap.old.roots }
+        requires giver { t < length heap.old.roots }
+        requires room { 1 ≤ spare_of self.old m }
+        ensures step { mutate (open_state heap.old self.old) m (Op.Put (root_at s) i (root_at t)) ≡ (result.0, open_state heap.new self.new) }
+        ensures entry { option_to_list (option_map entry_in result.1) ≡ written (graph_in heap.old) m (Op.Put (root_at s) i (root_at t)) result.0 }
+        ensures belongs { BelongsTo heap.new self.new }
+        ensures epoch { self.new.epoch ≡ self.old.epoch }
+        ensures mutators { heap.new.mutators ≡ heap.old.mutators }
+        ensures spare { spare_of self.old m ≤ spare_of self.new m + 1 }
+    {
         // Here the prover learns that the heap is sound.
         let _ = heap.space();
-        let put = put_field(heap, m, s, i);
-        let reply = heap.put(m, s, i, t);
+        let put = put_field(heap, s, i);
+        let reply = heap.put_root(s, i, t);
         let Some(entry) = written_field(put, &reply) else {
             return (reply, None);
         };
@@ -64,13 +94,13 @@ impl Collection {
     }
 }
 
-// Returns the field that a put writes if its reply is `Done`.
-fn put_field(heap: &Heap, m: u8, s: Slot, i: u16) -> Option<LogEntry>
-    requires { m < heap.now.mutators }
-    ensures { (t : SlotName) → option_to_list (option_map entry_in result) ≡ written (graph_in heap.now) m (Op.Put s i t) Reply.Done }
+// Returns the field that a put into the object of root `s` writes if its reply is `Done`.
+fn put_field(heap: &Heap, s: u32, i: u16) -> Option<LogEntry>
+    requires { s < length heap.now.roots }
+    ensures { (m : ℕ) (t : SlotName) → option_to_list (option_map entry_in result) ≡ written (graph_in heap.now) m (Op.Put (root_at s) i t) Reply.Done }
 {
     Some(LogEntry {
-        object: heap.target(m, s)?,
+        object: heap.target_root(s)?,
         field: i,
     })
 }

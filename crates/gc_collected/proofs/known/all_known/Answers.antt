@@ -1,6 +1,6 @@
 -- Where the slots are known and no extra root has to be looked at, each root's target has a replica.
 use Rattle.std.proofs.lemmas.Grind.{common_steps}
-use Rattle.std.proofs.Common.{◌≡◌, ◌<◌, refl, ◌∙◌, ap, arith}
+use Rattle.std.proofs.Common.{◌≡◌, refl, ◌∙◌, ap, arith}
 use Rattle.gc_graph.specs.Slots.{roots_of}
 use Rattle.gc_heap.specs.Heap.{graph_in}
 use Rattle.gc_copy.specs.Words.{collection_in, open_state}

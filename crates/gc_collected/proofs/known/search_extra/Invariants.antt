@@ -1,5 +1,4 @@
 -- The row is right after each look, and each look leaves one less.
-use Rattle.std.proofs.Common.{◌≡◌}
 use Rattle.gc_copy.specs.Words.{open_state}
 use Rattle.gc_roots.proofs.Public.{looks_left}
 use Rattle.gc_collected.specs.Internal.KnownRoots.{ComparesTwins, KnowsRoots}

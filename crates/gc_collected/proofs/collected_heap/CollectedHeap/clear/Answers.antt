@@ -1,5 +1,5 @@
 -- The cleared roots are nil and need no replica, so what is known of the roots is still true; no object changes, so the monitor follows.
-use Rattle.std.proofs.Common.{◌≡◌, ◌-◌, sym, subst}
+use Rattle.std.proofs.Common.{◌-◌, sym, subst}
 use Rattle.std.specs.Prelude.{IfSome}
 use Rattle.std.specs.Option.{option_map}
 use Rattle.gc_plan.specs.State.{State}

@@ -1,0 +1,106 @@
+-- Commands on roots by their places keep what is known of the roots.
+use Rattle.std.proofs.lemmas.Grind.{common_steps}
+use Rattle.std.proofs.lemmas.Bool.{cases_lt}
+use Rattle.std.proofs.Common.{◌≡◌, inl, inr, ℕ, ◌+◌, ◌-◌, ◌<◌, ◌≤◌, length, Bool, List, [], Option, Some, None, true, refl, ap, sym, ◌∙◌, subst, arith}
+use Rattle.std.specs.Prelude.{IfSome}
+use Rattle.std.specs.Option.{option_map}
+use Rattle.std.proofs.lemmas.Option.{slice_get_past}
+use Rattle.gc_graph.specs.Graph.{Value, Nil, Num, Ref, Object, Graph, field_of, lookup, object_of, root}
+use Rattle.gc_graph.specs.declared.command.Op.TheVariants.{Get, Put}
+use Rattle.gc_plan.proofs.Public.{lookup_in}
+use Rattle.gc_graph.specs.Machine.{words_taken}
+use Rattle.gc_graph.specs.Slots.{SlotName, place, roots_of}
+use Rattle.gc_graph.specs.declared.command.Op.{Op}
+use Rattle.gc_graph.specs.declared.reply.Reply.{Reply}
+use Rattle.gc_heap.specs.Commands.{Performs}
+use Rattle.gc_heap.specs.Heap.{HeapWords, IsHeap}
+use Rattle.gc_plan.specs.State.{State}
+use Rattle.gc_plan.specs.Staying.{root_written}
+use Rattle.gc_plan.specs.Steps.{WritesField, mutate}
+use Rattle.gc_plan.specs.Belonging.{IsOpened, IsSpaceGraph}
+use Rattle.gc_copy.specs.Words.{CollectionWords, collection_in, state_of}
+use Rattle.gc_along.specs.Tables.{Tables}
+use Rattle.gc_collected.specs.Internal.CollectedHeap.{Fits}
+use Rattle.gc_collected.specs.Internal.Follows.{Follows}
+use Rattle.gc_collected.specs.Internal.KnownRoots.{ComparesTwins, HasTaken, HasTakenPlain, KnowsRoots}
+use Rattle.gc_collected.specs.declared.known.KnownRoots.{KnownRoots}
+use Rattle.gc_collected.proofs.Followed.{quiet}
+use Rattle.gc_collected.proofs.Marks.{SetsPlain, one_below, plain_command, slot_command, stored_command}
+use Rattle.gc_collected.proofs.OtherCommands.{it_belongs, mutated, still_fits}
+
+-- what is known of the roots, and what the monitor has compared
+abbrev pub Known : KnownRoots → State → Type 0
+Known known s = KnowsRoots known s × ComparesTwins known
+
+-- an extra root was written, and is in use
+module _ (known now : KnownRoots) (s : State) (m p : ℕ) (op : Op) (at : root_written m op ≡ Some p) (within : p < length s.heap.graph.roots) (high : roots_of s.mutators ≤ p) where
+  here : root_written m op ≡ Some (roots_of s.mutators + (p - roots_of s.mutators))
+  here = at ∙ ap Some (omega (arith, high))
+
+pub root_known : (known now : KnownRoots) (s : State) (m p : ℕ) (op : Op) → root_written m op ≡ Some p → p < length s.heap.graph.roots → HasTaken known now (roots_of s.mutators) p → Known known s → Known now (mutate s m op).1
+root_known known now s m p op at within taken k = elim (cases_lt p (roots_of s.mutators)) [
+  | inl low ↦ subst (λ (n : KnownRoots). Known n (mutate s m op).1) (sym (taken.slot low)) (slot_command known s m op (λ q e. one_below p q (roots_of s.mutators) low (sym at ∙ e)) k.0, k.1)
+  | inr high ↦ (
+    stored_command known now s m (p - roots_of s.mutators) op (here known now s m p op at within high) (taken.extra high) (let used = taken.used high in omega (arith, used)) (let used = taken.used high in let up = k.0.keeps.used_high in let counted = k.0.keeps.counted in omega (arith, used, up, counted, within, high))
+        (λ le. absurd (let used = taken.used high in omega (arith, le, used))) k.0,
+    (taken.extra high).compares k.1,
+  )
+]
+
+-- the same, of nil or a number
+pub plain_root_known : (known now : KnownRoots) (s : State) (m p : ℕ) (op : Op) → SetsPlain op → root_written m op ≡ Some p → p < length s.heap.graph.roots → HasTakenPlain known now (roots_of s.mutators) p → Known known s → Known now (mutate s m op).1
+plain_root_known known now s m p op plain at within taken k = elim (cases_lt p (roots_of s.mutators)) [
+  | inl low ↦ subst (λ (n : KnownRoots). Known n (mutate s m op).1) (sym (taken.slot low)) (plain_command known s m op plain (λ q e. one_below p q (roots_of s.mutators) low (sym at ∙ e)) k.0, k.1)
+  | inr high ↦ (
+    stored_command known now s m (p - roots_of s.mutators) op (here known now s m p op at within high) (taken.extra high) (let used = taken.used high in omega (arith, used)) (let used = taken.used high in let up = k.0.keeps.used_high in let counted = k.0.keeps.counted in omega (arith, used, up, counted, within, high))
+        (λ le. absurd (let used = taken.used high in omega (arith, le, used))) k.0,
+    (taken.extra high).compares k.1,
+  )
+]
+
+-- ---- with the heap and the monitor
+
+abbrev pub Holds : ℕ → KnownRoots → HeapWords → Option CollectionWords → Tables → Bool → Type 0
+Holds epoch known heap o t along = (Fits epoch heap o × KnowsRoots known (state_of heap (option_map collection_in o)) × ComparesTwins known) × (along ≡ true → Follows (state_of heap (option_map collection_in o)) t)
+
+-- a command that writes no field and makes no object
+pub root_followed : (s : State) (epoch : ℕ) (known now : KnownRoots) (heap new : HeapWords) (o : Option CollectionWords) (m : ℕ) (op : Op) (reply : Reply) (t : Tables) (along : Bool) → state_of heap (option_map collection_in o) ≡ s → IfSome s.collection (IsOpened s)
+    → IsHeap heap → Performs heap m op reply new → ¬ WritesField op → words_taken op ≡ 0 → (Known known (state_of heap (option_map collection_in o)) → Known now (mutate (state_of heap (option_map collection_in o)) m op).1)
+    → Holds epoch known heap o t along → Holds epoch now new o t along
+root_followed s epoch known now heap new o m op reply t along view is_open sound performs none few knows k =
+    let known_now = subst (Known now) (ap (λ (x : Reply × State). x.1) (mutated epoch heap new o m op reply sound none performs k.0.0)) (knows (k.0.1, k.0.2)) in (
+      (still_fits epoch heap new o m op reply sound none performs k.0.0, known_now.0, known_now.1),
+      λ on. quiet s heap new o m op reply t view is_open sound none few performs (it_belongs epoch heap o k.0.0) (k.1 on),
+    )
+
+-- ---- a field that no object has
+
+named : (objects : List (ℕ × Object)) (v : Value) (o : Object) → object_of objects v ≡ Some o → (a : ℕ) × (lookup objects a ≡ Some o)
+named objects Nil o found = absurd (let no : None ≡ Some o = found in cc)
+named objects (Num n) o found = absurd (let no : None ≡ Some o = found in cc)
+named objects (Ref a) o found = (a, found)
+
+absent : (size free : ℕ) (g : Graph) (v : Value) (i : ℕ) → IsSpaceGraph size free g → 65535 ≤ i → field_of (object_of g.objects v) i ≡ None
+absent size free g v i graph high = go (object_of g.objects v) refl
+  where
+    go : (o : Option Object) → object_of g.objects v ≡ o → field_of o i ≡ None
+    go None is = slice_get_past {X = Value} [] i (omega arith)
+    go (Some o) is = let there = named g.objects v o is in slice_get_past o.fields i (let short = (graph.objects there.0 o (lookup_in g.objects there.0 o there.1)).len in omega (arith, short, high))
+
+same_get : (s : State) (m i j : ℕ) (d p : SlotName) → field_of (object_of s.heap.graph.objects (root s.heap.graph (place p m))) i ≡ None → field_of (object_of s.heap.graph.objects (root s.heap.graph (place p m))) j ≡ None → mutate s m (Get d p i) ≡ mutate s m (Get d p j)
+same_get s m i j d p one other = grind (arith, common_steps)
+
+same_put : (s : State) (m i j : ℕ) (p t : SlotName) → field_of (object_of s.heap.graph.objects (root s.heap.graph (place p m))) i ≡ None → field_of (object_of s.heap.graph.objects (root s.heap.graph (place p m))) j ≡ None → mutate s m (Put p i t) ≡ mutate s m (Put p j t)
+same_put s m i j p t one other = grind (arith, common_steps)
+
+pub get_numbered : (s : State) (m i n : ℕ) (d p : SlotName) → IsSpaceGraph s.size s.heap.free s.heap.graph → (i ≤ 65535 → n ≡ i) → (65535 < i → n ≡ 65535) → mutate s m (Get d p n) ≡ mutate s m (Get d p i)
+get_numbered s m i n d p graph small large = elim (cases_lt 65535 i) [
+  | inl high ↦ (let is = large high in same_get s m n i d p (absent s.size s.heap.free s.heap.graph (root s.heap.graph (place p m)) n graph (omega (arith, is))) (absent s.size s.heap.free s.heap.graph (root s.heap.graph (place p m)) i graph (omega (arith, high))))
+  | inr low ↦ ap (λ k. mutate s m (Get d p k)) (small low)
+]
+
+pub put_numbered : (s : State) (m i n : ℕ) (p t : SlotName) → IsSpaceGraph s.size s.heap.free s.heap.graph → (i ≤ 65535 → n ≡ i) → (65535 < i → n ≡ 65535) → mutate s m (Put p n t) ≡ mutate s m (Put p i t)
+put_numbered s m i n p t graph small large = elim (cases_lt 65535 i) [
+  | inl high ↦ (let is = large high in same_put s m n i p t (absent s.size s.heap.free s.heap.graph (root s.heap.graph (place p m)) n graph (omega (arith, is))) (absent s.size s.heap.free s.heap.graph (root s.heap.graph (place p m)) i graph (omega (arith, high))))
+  | inr low ↦ ap (λ k. mutate s m (Put p k t)) (small low)
+]

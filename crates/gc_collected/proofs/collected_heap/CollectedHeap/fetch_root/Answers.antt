@@ -1,0 +1,33 @@
+-- A `fetch_root` changes what a `Get` changes: one root.
+use Rattle.std.proofs.Common.{◌<◌, length, ap, refl, sym, ◌∙◌, subst}
+use Rattle.std.specs.Option.{option_map}
+use Rattle.gc_graph.specs.Slots.{roots_of}
+use Rattle.gc_graph.specs.declared.command.Op.TheVariants.{Get}
+use Rattle.gc_heap.specs.Places.{root_at}
+use Rattle.gc_plan.specs.State.{State}
+use Rattle.gc_copy.specs.Words.{collection_in, state_of}
+use Rattle.gc_collected.specs.Internal.KnownRoots.{HasTaken}
+use Rattle.gc_collected.proofs.ByPlace.{get_numbered, root_known, root_followed}
+use Rattle.gc_collected.proofs.Core.{core_is}
+use Rattle.gc_collected.proofs.OtherCommands.{said}
+use Rattle.gc_collected.proofs.collected_heap.CollectedHeap.fetch_root.Goals as goal
+
+pub invariant_of-self : goal.invariant_of-self
+invariant_of-self c =
+    let heap = c.self.inside.heap in
+    let s = state_of heap (option_map collection_in c.self.inside.collection) in
+    let within = subst (λ (s : State). c.args.d < length s.heap.graph.roots) (sym (core_is c.self.view_is)) c.requires.taker in
+    let taken = subst (λ n. HasTaken c.self.inside.known c.took.new.self n c.args.d) (c.root_count.ensures ∙ ap roots_of c.mutators.ensures.value) c.took.ensures in
+    root_followed c.args.self.now.core c.self.inside.epoch c.self.inside.known c.took.new.self heap c.fetch_root.new.self c.self.inside.collection 0 (Get (root_at c.args.d) (root_at c.args.s) c.field_number.result) (c.fetch_root.ensures.fetches 0).0 c.self.inside.watch c.self.inside.along (core_is c.self.view_is) c.is_sound.ensures.open c.space.ensures.sound ((c.fetch_root.ensures.fetches 0).1)
+    (λ none. none) refl (root_known c.self.inside.known c.took.new.self s 0 c.args.d (Get (root_at c.args.d) (root_at c.args.s) c.field_number.result) refl within taken) c.self.invariant
+
+pub returns-clause-mutators : goal.returns-clause-mutators
+returns-clause-mutators c = (((c.fetch_root.ensures.fetches 0).1)).mutators ∙ ap (λ (s : State). s.mutators) (core_is c.self.view_is)
+
+pub returns-clause-fetches : goal.returns-clause-fetches
+returns-clause-fetches c = (
+  (c.fetch_root.ensures.fetches 0).0,
+  sym (get_numbered c.args.self.now.core 0 c.args.i c.field_number.result (root_at c.args.d) (root_at c.args.s) c.is_sound.ensures.heap c.field_number.ensures.small c.field_number.ensures.large)
+      ∙ said c.args.self.now.core c.self.inside.epoch c.self.inside.heap c.fetch_root.new.self c.self.inside.collection 0 (Get (root_at c.args.d) (root_at c.args.s) c.field_number.result) (c.fetch_root.ensures.fetches 0).0 (core_is c.self.view_is) c.self.invariant.0.0 c.space.ensures.sound (λ none. none) ((c.fetch_root.ensures.fetches 0).1),
+  (c.fetch_root.ensures.fetches 0).2,
+)

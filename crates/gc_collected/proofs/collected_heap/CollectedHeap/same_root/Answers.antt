@@ -1,0 +1,13 @@
+-- A `Same` compares two roots and changes nothing, and its reply is the machine's.
+use Rattle.std.proofs.Common.{◌≡◌, subst}
+use Rattle.gc_graph.specs.declared.command.Op.TheVariants.{Same}
+use Rattle.gc_heap.specs.Places.{root_at}
+use Rattle.gc_plan.specs.Steps.{mutate}
+use Rattle.gc_collected.proofs.Core.{core_is}
+use Rattle.gc_collected.proofs.OtherCommands.{mutated}
+use Rattle.gc_collected.proofs.collected_heap.CollectedHeap.same_root.Goals as goal
+
+pub returns : goal.returns
+returns c =
+    let step = mutated c.self.inside.epoch c.self.inside.heap c.self.inside.heap c.self.inside.collection 0 (Same (root_at c.args.s) (root_at c.args.t)) c.same_root.result c.space.ensures.sound (λ none. none) (c.same_root.ensures.performs 0) c.self.invariant.0.0 in
+    subst (λ s. mutate s 0 (Same (root_at c.args.s) (root_at c.args.t)) ≡ (c.same_root.result, s)) (core_is c.self.view_is) step
