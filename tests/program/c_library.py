@@ -265,9 +265,9 @@ def reads_of_roots(folder, words):
 
 
 def root_reads(_program, folder):
-    """Counts how often a whole collection reads roots. Searches read an extra root at most three times: where its target has no replica, where it gets its
-    twin, and where the checker compares both; and a slot at most once for each command that wrote a slot; where commands wrote only numbers and nil, at
-    most twice altogether. A flip reads each root that it moves, and its checker compares both: the slots alone if it goes along, and otherwise all."""
+    """Counts how often a whole collection reads roots. Searches read an extra root at most four times: where its target has no replica, which the choice of
+    the step and the step find, where it gets its twin, and where the checker compares both; and a slot at most once for each command that wrote a slot;
+    where commands wrote only numbers and nil, at most once altogether. A flip reads each root that it moves, and its checker compares both: the slots alone if it goes along, and otherwise all."""
     built = library(folder)
     if built is None:
         return
@@ -278,7 +278,7 @@ def root_reads(_program, folder):
     yield "root_reads.c", why
     for checking, commands in [(ALONG, []), (ALONG, ["moves"]), (ALONG, ["numbers"]), (AT_FLIP, [])] if why is None else []:
         calls, searched = reads_of_roots(folder, [path, checking, GIVEN_UP, *commands])
-        most = 3 * EXTRA_ROOTS + ROOT_SLOTS * (calls if commands == ["moves"] else 2)
+        most = 4 * EXTRA_ROOTS + ROOT_SLOTS * (calls if commands == ["moves"] else 1)
         case = "checking %s, %s" % (checking, commands or "no commands")
         yield "reads of roots by searches, %s" % case, None if EXTRA_ROOTS <= searched <= most else "%d reads, at most %d" % (searched, most)
         flipped = reads_of_roots(folder, [path, checking, FLIPPED, *commands])[1] - searched

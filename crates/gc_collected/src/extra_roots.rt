@@ -59,7 +59,7 @@ impl CollectedHeap {
     }
 
     /// Sets the extra roots from `from` on, and below `to`, to nil. Does not allocate, and logs nothing. A later collection reads each
-    /// root that was cleared at most three times, and those after it read none above the last one in use.
+    /// root that was cleared at most four times, and those after it read none above the last one in use.
     pub fn clear(&mut self, from: u32, to: u32)
         requires { to ≤ extra_roots_of self.old.core }
         ensures step { clear_step self.old.core from (to - from) ≡ self.new.core }
