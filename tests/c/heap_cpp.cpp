@@ -92,6 +92,21 @@ void single_roots()
     EXPECT(gcflip_heap_look(&heap.handle, 0, 1, &view) == GCFLIP_NIL);
 }
 
+void roots_by_places()
+{
+    Heap heap(Stack::with_roots(64, 4));
+    gcflip_view view = {};
+    uint64_t number = 0;
+    const uint32_t extra = static_cast<uint32_t>(gcflip_heap_root_count(1)) + 3;
+    EXPECT(gcflip_new(&heap.handle, extra, 255, 1) == GCFLIP_MADE);
+    EXPECT(gcflip_set_number(&heap.handle, 0, 7) == GCFLIP_DONE);
+    EXPECT(gcflip_put(&heap.handle, 0, extra, 0, 0) == GCFLIP_DONE);
+    EXPECT(gcflip_get(&heap.handle, 31, extra, 0, &number) == GCFLIP_NUMBER && number == 7);
+    EXPECT(gcflip_same(&heap.handle, 31, 0) == GCFLIP_SAME);
+    EXPECT(gcflip_copy(&heap.handle, 0, extra) == GCFLIP_DONE);
+    EXPECT(gcflip_look(&heap.handle, 0, &view) == GCFLIP_OBJECT && view.kind == 255 && view.count == 1);
+}
+
 // Keeps addresses across a flip, and makes references of them.
 void weak_references()
 {
@@ -141,6 +156,7 @@ int main()
     EXPECT(gcflip_heap_work(&large.handle, UINT32_MAX, &work) == GCFLIP_DONE && work.last == GCFLIP_FLIPPED && work.pairs == 2);
     EXPECT(gcflip_heap_counts(&large.handle, &counts) == GCFLIP_DONE && counts.end == 1 + 65537 + 3);
     single_roots();
+    roots_by_places();
     weak_references();
     stack_of_many();
     return 0;

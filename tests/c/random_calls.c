@@ -37,10 +37,9 @@ static const char *reply(uint32_t answer)
     return replies[answer];
 }
 
-static void look(uint8_t m, uint8_t s)
+/* Prints the answer of a look, with what it saw. */
+static void print_look(uint32_t answer, gcflip_view view)
 {
-    gcflip_view view = {KEPT_32, KEPT_32, KEPT};
-    uint32_t answer = gcflip_heap_look(&heap, m, s, &view);
     printf("%s", reply(answer));
     if (GCFLIP_IS_REFUSED(answer))
         EXPECT(view.kind == KEPT_32 && view.count == KEPT_32 && view.number == KEPT);
@@ -53,17 +52,43 @@ static void look(uint8_t m, uint8_t s)
     printf("\n");
 }
 
-/* A reference that a get sees is printed without its object, since the call does not tell it. */
-static void get(uint8_t m, uint8_t d, uint8_t s, uint16_t i)
+static void look(uint8_t m, uint8_t s)
 {
-    uint64_t number = KEPT;
-    uint32_t answer = gcflip_heap_get(&heap, m, d, s, i, &number);
+    gcflip_view view = {KEPT_32, KEPT_32, KEPT};
+    uint32_t answer = gcflip_heap_look(&heap, m, s, &view);
+    print_look(answer, view);
+}
+
+static void place_look(uint32_t s)
+{
+    gcflip_view view = {KEPT_32, KEPT_32, KEPT};
+    uint32_t answer = gcflip_look(&heap, s, &view);
+    print_look(answer, view);
+}
+
+/* A reference that a get sees is printed without its object, since the call does not tell it. */
+static void print_get(uint32_t answer, uint64_t number)
+{
     printf("%s", reply(answer));
     if (answer == GCFLIP_NUMBER)
         printf(" %llu", (unsigned long long)number);
     else
         EXPECT(number == KEPT);
     printf("\n");
+}
+
+static void get(uint8_t m, uint8_t d, uint8_t s, uint16_t i)
+{
+    uint64_t number = KEPT;
+    uint32_t answer = gcflip_heap_get(&heap, m, d, s, i, &number);
+    print_get(answer, number);
+}
+
+static void place_get(uint32_t d, uint32_t s, uint32_t i)
+{
+    uint64_t number = KEPT;
+    uint32_t answer = gcflip_get(&heap, d, s, i, &number);
+    print_get(answer, number);
 }
 
 static void flip(void)
@@ -309,6 +334,18 @@ static uint32_t open_heap(void)
     return gcflip_heap_open(&heap, &options);
 }
 
+/* Performs a command on roots by their places that writes nothing. The numbers are not cut. */
+static uint32_t by_places(const char *name)
+{
+    const uint32_t d = (uint32_t)a[0], s = (uint32_t)a[1], i = (uint32_t)a[2];
+    if (IS("place_new")) return gcflip_new(&heap, d, s, i);
+    if (IS("place_num")) return gcflip_set_number(&heap, d, a[1]);
+    if (IS("place_copy")) return gcflip_copy(&heap, d, s);
+    if (IS("place_put")) return gcflip_put(&heap, d, s, i, (uint32_t)a[3]);
+    EXPECT(IS("place_same"));
+    return gcflip_same(&heap, d, s);
+}
+
 /* Performs a call that returns a reply and writes nothing. */
 static uint32_t plain(const char *name)
 {
@@ -347,6 +384,9 @@ static void perform(const char *name)
     const uint8_t m = (uint8_t)a[0], d = (uint8_t)a[1];
     if (IS("look")) look(m, d);
     else if (IS("get")) get(m, d, (uint8_t)a[2], (uint16_t)a[3]);
+    else if (IS("place_look")) place_look((uint32_t)a[0]);
+    else if (IS("place_get")) place_get((uint32_t)a[0], (uint32_t)a[1], (uint32_t)a[2]);
+    else if (strncmp(name, "place_", 6) == 0) printf("%s\n", reply(by_places(name)));
     else if (IS("flip")) flip();
     else if (IS("work")) work((uint32_t)a[0], NO_BOUND, NO_BOUND);
     else if (IS("useful")) useful();

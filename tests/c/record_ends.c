@@ -1,5 +1,5 @@
 /* Records a run until a size that no trace has: record_ends RECORD. The heap goes on without its trace. Then records heaps with extra
- * roots: a recording ends at the first call that names one, or that makes a reference of an address. Where nothing is recorded, because a
+ * roots: a recording ends at the first call that names one or a root by its place, or that makes a reference of an address. Where nothing is recorded, because a
  * recording has ended or because there is no stream, each call replies as ever and writes nothing. */
 #include "expect.h"
 #include "gcflip_record.h"
@@ -44,10 +44,34 @@ static void open_heaps(void)
     gcflip_trace = NULL;
 }
 
-/* Opens a heap with extra roots, and names one by each call in turn. Last, it makes a reference of an address. */
+/* Performs one of the commands on roots by their places. */
+static void command_by_places(int call)
+{
+    uint64_t number = 77;
+    gcflip_view view = {77, 77, 77};
+    if (call == 0)
+        EXPECT(gcflip_new(&heap, 0, 1, 1) == GCFLIP_MADE);
+    if (call == 1)
+        EXPECT(gcflip_set_number(&heap, 0, 5) == GCFLIP_DONE);
+    if (call == 2)
+        EXPECT(gcflip_copy(&heap, 0, 1) == GCFLIP_DONE);
+    if (call == 3)
+        EXPECT(gcflip_get(&heap, 0, 16, 0, &number) == GCFLIP_NO_OBJECT && number == 77);
+    if (call == 4)
+        EXPECT(gcflip_put(&heap, 0, 18, 0, 16) == GCFLIP_NO_FIELD);
+    if (call == 5)
+        EXPECT(gcflip_same(&heap, 0, 16) == GCFLIP_NOT_SAME);
+    if (call == 6)
+        EXPECT(gcflip_look(&heap, 16, &view) == GCFLIP_NUMBER && view.number == 7);
+}
+
+enum { NAMING_ROOTS = 5, WITHOUT_LINES = 6, BY_PLACES = 7 };
+
+/* Opens a heap with extra roots, and names one by each call in turn. Then it makes a reference of an address, and last it names roots by their
+ * places. */
 static void end_recordings(void)
 {
-    for (int call = 0; call < 6; call++) {
+    for (int call = 0; call < WITHOUT_LINES + BY_PLACES; call++) {
         gcflip_options options = gcflip_options_default(64, 1);
         gcflip_frame frame = {0, 4, 0};
         long lines;
@@ -58,7 +82,7 @@ static void end_recordings(void)
         EXPECT(gcflip_heap_new_object(&heap, 0, 2, 1, 0) == GCFLIP_MADE);
         EXPECT(gcflip_heap_set_number(&heap, 0, 0, 7) == GCFLIP_DONE);
         EXPECT(gcflip_heap_refer(&heap, 0, 2, 2) == GCFLIP_NO_OBJECT);
-        EXPECT(gcflip_heap_root_store(&heap, 0, 4, 0) == GCFLIP_OUT_OF_RANGE);
+        EXPECT(gcflip_heap_root_store(&heap, 0, 4, 0) == GCFLIP_OUT_OF_RANGE && gcflip_copy(&heap, 36, 0) == GCFLIP_OUT_OF_RANGE);
         EXPECT(gcflip_heap_frame_pop(&heap, 0, 0, &frame) == GCFLIP_FRAME_EMPTY && gcflip_trace_ended == 0);
         lines = ftell(gcflip_trace);
         EXPECT(lines > 0);
@@ -74,8 +98,9 @@ static void end_recordings(void)
             frame.top = 2;
             EXPECT(gcflip_heap_frame_pop(&heap, 0, 1, &frame) == GCFLIP_DONE && frame.top == 1);
         }
-        if (call == 5)
+        if (call == NAMING_ROOTS)
             EXPECT(gcflip_heap_refer(&heap, 0, 3, 1) == GCFLIP_DONE);
+        command_by_places(call - WITHOUT_LINES);
         EXPECT(gcflip_trace_ended == 1);
         EXPECT(gcflip_heap_set_number(&heap, 0, 0, 8) == GCFLIP_DONE && ftell(gcflip_trace) == lines);
         EXPECT(gcflip_heap_close(&heap) == GCFLIP_DONE);
@@ -150,9 +175,11 @@ static void make_steps(bool is_recorded)
     EXPECT(work.last == GCFLIP_FLIPPED && work.pairs == 4);
 }
 
-/* Makes the calls that name an extra root, and a reference by address. None of them has a line. */
+/* Makes the calls that name an extra root or a root by its place, and a reference by address. None of them has a line. */
 static void make_calls_without_lines(void)
 {
+    uint64_t number = 0;
+    gcflip_view view = {0, 0, 0};
     gcflip_frame frame = {0, 4, 0};
     REPLIES(gcflip_heap_root_store(&heap, 0, 3, 0), GCFLIP_DONE, false);
     REPLIES(gcflip_heap_root_load(&heap, 0, 1, 3), GCFLIP_DONE, false);
@@ -160,6 +187,15 @@ static void make_calls_without_lines(void)
     REPLIES(gcflip_heap_frame_push(&heap, 0, 0, &frame), GCFLIP_DONE, false);
     REPLIES(gcflip_heap_frame_pop(&heap, 0, 0, &frame), GCFLIP_DONE, false);
     REPLIES(gcflip_heap_refer(&heap, 0, 1, 1), GCFLIP_DONE, false);
+    REPLIES(gcflip_new(&heap, 35, 1, 1), GCFLIP_MADE, false);
+    REPLIES(gcflip_set_number(&heap, 34, 5), GCFLIP_DONE, false);
+    REPLIES(gcflip_put(&heap, 0, 35, 0, 34), GCFLIP_DONE, false);
+    REPLIES(gcflip_get(&heap, 33, 35, 0, &number), GCFLIP_NUMBER, false);
+    REPLIES(gcflip_same(&heap, 33, 34), GCFLIP_SAME, false);
+    REPLIES(gcflip_copy(&heap, 35, 34), GCFLIP_DONE, false);
+    REPLIES(gcflip_look(&heap, 35, &view), GCFLIP_NUMBER, false);
+    EXPECT(number == 5 && view.number == 5);
+    REPLIES(gcflip_heap_root_clear(&heap, 0, 4), GCFLIP_DONE, false);
 }
 
 /* Makes each call that a recording knows: while it records, after it has ended, and without a stream. */

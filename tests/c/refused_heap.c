@@ -88,6 +88,7 @@ static uint32_t begin_sized(void) { return gcflip_heap_step_begin_sized(&heap, 6
 static uint32_t begin_larger(void) { return gcflip_heap_step_begin_sized(&heap, 2 * WORDS); }
 static uint32_t touch(void) { return gcflip_heap_touch(&heap); }
 static uint32_t put(void) { return gcflip_heap_put(&heap, 0, 0, 0, 0); }
+static uint32_t put_at(void) { return gcflip_put(&heap, 0, 16, 0, 16); }
 static uint32_t put_number(void) { return gcflip_heap_put_number(&heap, 0, 0, 0, 1, 5); }
 static uint32_t put_nil(void) { return gcflip_heap_put_nil(&heap, 0, 0, 0, 1); }
 static uint32_t cons(void) { return gcflip_heap_new_pair(&heap, 0, 1, 1, 0, 0); }
@@ -227,6 +228,18 @@ static void move_roots(void)
     EXPECT(gcflip_heap_root_clear(&heap, 0, EXTRA_ROOTS) == GCFLIP_DONE);
 }
 
+/* Performs the commands on roots by their places that log nothing, with an extra root. */
+static void command_by_places(void)
+{
+    const uint32_t extra = ROOTS - 1;
+    EXPECT(gcflip_new(&heap, extra, 1, 1) == GCFLIP_MADE);
+    EXPECT(gcflip_get(&heap, 0, extra, 0, &number) == GCFLIP_NIL);
+    EXPECT(gcflip_set_number(&heap, 0, 5) == GCFLIP_DONE);
+    EXPECT(gcflip_copy(&heap, extra, 0) == GCFLIP_DONE);
+    EXPECT(gcflip_same(&heap, extra, 0) == GCFLIP_SAME);
+    EXPECT(gcflip_look(&heap, extra, &view) == GCFLIP_NUMBER);
+}
+
 /* Reads all that can be read while a collection is open, and mutator 0's log has an entry. Slot 2 refers to a raw object. */
 static void read_all(void)
 {
@@ -255,6 +268,7 @@ static void calls_that_do_not_allocate(void)
     EXPECT(gcflip_heap_new_raw(&heap, 0, 2, 1, 4) == GCFLIP_MADE);
     EXPECT(gcflip_heap_put(&heap, 0, 1, 0, 2) == GCFLIP_DONE);
     EXPECT(gcflip_heap_get(&heap, 0, 3, 1, 0, &number) == GCFLIP_OBJECT);
+    command_by_places();
     fail_allocation(0);
     EXPECT(gcflip_heap_step_begin(&heap) == GCFLIP_BEGUN);
     EXPECT(gcflip_heap_put(&heap, 0, 1, 1, 2) == GCFLIP_DONE);
@@ -268,6 +282,7 @@ static void calls_that_do_not_allocate(void)
     EXPECT(gcflip_heap_refer(&heap, 0, 4, 2) == GCFLIP_NO_OBJECT);
     EXPECT(gcflip_heap_set_nil(&heap, 0, 4) == GCFLIP_DONE);
     move_roots();
+    command_by_places();
     read_all();
     EXPECT(gcflip_heap_step_roots(&heap) == GCFLIP_COPIED);
     EXPECT(gcflip_heap_step_scan(&heap) == GCFLIP_SCANNED);
@@ -337,6 +352,9 @@ static void allocations(int tables, int flipping)
     EXPECT(failures(set_up, put) == 0);
     EXPECT(failures(set_up_open, put) == 1);
     EXPECT(failures(set_up_full_log, put) == 2);
+    EXPECT(failures(set_up, put_at) == 0);
+    EXPECT(failures(set_up_open, put_at) == 1);
+    EXPECT(failures(set_up_full_log, put_at) == 2);
     EXPECT(failures(set_up, put_number) == 0);
     EXPECT(failures(set_up_open, put_number) == 1);
     EXPECT(failures(set_up, put_nil) == 0);

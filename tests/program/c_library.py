@@ -26,7 +26,7 @@ from .harness import Outcome, addresses_numbered, difference, file_of, run, skip
 from .traces import PLAYED, trace_and_replies
 
 # Programs that end with status 0 and print nothing.
-PROGRAMS = ["answers.c", "check.c", "refused_check.c", "check_cpp.cpp", "heap.c", "extra_roots.c", "pace.c", "refused_heap.c", "checking.c", "damaged.c", "rooms.c", "heap_cpp.cpp", "churn.c", "threads.c",
+PROGRAMS = ["answers.c", "check.c", "refused_check.c", "check_cpp.cpp", "heap.c", "extra_roots.c", "places.c", "pace.c", "refused_heap.c", "checking.c", "damaged.c", "rooms.c", "heap_cpp.cpp", "churn.c", "threads.c",
             "images.c", "explanations.c", "flipped_bits.c", "adapters.c", "nursery.c", "self_tests.c"]
 
 
@@ -223,14 +223,14 @@ def recorded_work(program, folder):
 def not_in_record_ends():
     """Returns the calls that a recording knows and that tests/c/record_ends.c does not make."""
     with open(os.path.join(TOP, "bindings", "c", "gcflip_record.h"), encoding="utf-8") as file:
-        known = re.findall(r"(?m)^#define (gcflip_heap_\w+) gcflip_record_\w+$", file.read())
+        known = re.findall(r"(?m)^#define (gcflip_\w+) gcflip_record_\w+$", file.read())
     with open(os.path.join(SOURCES, "record_ends.c"), encoding="utf-8") as file:
-        made = re.findall(r"\bREPLIES\((gcflip_heap_\w+)\(", file.read())
+        made = re.findall(r"\bREPLIES\((gcflip_\w+)\(", file.read())
     return sorted(set(known) - set(made)) if known else ["any"]
 
 
 def recording_that_ends(program, folder):
-    """Checks that a recording ends at a size that no trace has and at an extra root, says so, and plays up to that place; and that then, and without
+    """Checks that a recording ends at a size that no trace has, at an extra root and at a root by its place, says so, and plays up to that place; and that then, and without
     a stream, no call writes anything."""
     missing = not_in_record_ends()
     yield "record_ends.c makes each call that a recording knows", None if not missing else "not %s" % ", ".join(missing)
@@ -243,6 +243,7 @@ def recording_that_ends(program, folder):
     said += said
     said += b"".join(b"gcflip_record.h: the recording ends here: a trace has no extra root %d\n" % root for root in (3, 3, 0, 0, 1))
     said += b"gcflip_record.h: the recording ends here: a trace has no reference by the address 1\n"
+    said += b"".join(b"gcflip_record.h: the recording ends here: a trace has no %s by places\n" % name for name in (b"new", b"set_number", b"copy", b"get", b"put", b"same", b"look"))
     said += b"gcflip_record.h: the recording ends here: a trace has no extra root 3\n"
     yield "record_ends.c", why or difference(done([path, record]), Outcome(stderr=said))
     yield "a recording that ended is played", difference(run(program, ["play", record]), Outcome(b"made\nbegun\ndropped\n"))

@@ -5,12 +5,12 @@ import os
 import re
 
 from prover import bindings, calls as page
-from prover.c_headers import answers, symbols
+from prover.c_headers import answers, heap_calls, symbols
 from prover.crates import TOP
 
 from .documents import text_of
 
-HEAP_CALL = re.compile(r"\bgcflip_heap_(\w+)\(")
+CALL = re.compile(r"\b(gcflip_\w+)\(")
 # Changes of the committed page that have to be found: what is replaced, and by what.
 CHANGED_PAGES = [("a call that is said never to run out of memory", "| while a collection is open |", "| never |"),
                  ("a cost of its own", "| 35 |", "| 27 |"),
@@ -56,19 +56,24 @@ def faults_with(table, function, more, clause):
 def refused_in(text):
     """Returns the calls that a program refuses memory in any state, those that it refuses memory only while a collection is open, and those that it
     makes where no allocation can succeed."""
-    functions = {name: HEAP_CALL.findall(body)[0] for name, body in re.findall(r"(?ms)^static uint32_t (\w+)\(void\)\s*\{(.*?)\}$", text)}
+    functions = {name: calls_in(body)[0] for name, body in re.findall(r"(?ms)^static uint32_t (\w+)\(void\)\s*\{(.*?)\}$", text)}
     tried = re.findall(r"failures\((\w+), (\w+)\) == ([\w +]+)\)", text)
     only_open = {functions[name] for _, name, count in tried if count == "0"}
-    rest = "".join(re.findall(r"(?ms)^static void (?:draw|move_roots|read_all|calls_that_do_not_allocate|free_all)\(.*?^\}$", text))
-    always = {functions[name] for _, name, _ in tried} | {"open"}
-    return always - only_open, only_open, set(HEAP_CALL.findall(rest)) - always
+    rest = "".join(re.findall(r"(?ms)^static void (?:draw|move_roots|command_by_places|read_all|calls_that_do_not_allocate|free_all)\(.*?^\}$", text))
+    always = {functions[name] for _, name, _ in tried} | {"gcflip_heap_open"}
+    return always - only_open, only_open, set(calls_in(rest)) - always
+
+
+def calls_in(text):
+    """Returns the calls on a heap that a part of a program makes, in order."""
+    return [name for name in CALL.findall(text) if name in heap_calls()]
 
 
 def told_in(shown):
     """Returns the calls on a heap that may run out of memory in other states than an open collection, those that may while one is open, and those that cannot,
     by the rows of a page."""
-    cells = dict(re.findall(r"(?m)^\| `gcflip_heap_(\w+)` (?:\|[^|]*){2}\| ([^|]*) \|", shown))
-    told = {name: cell for name, cell in cells.items() if "gcflip_heap_" + name in symbols()}
+    cells = dict(re.findall(r"(?m)^\| `(gcflip_\w+)` (?:\|[^|]*){2}\| ([^|]*) \|", shown))
+    told = {name: cell for name, cell in cells.items() if name in heap_calls()}
     never, only_open = [{name for name in told if told[name] == cell} for cell in (page.NEVER, page.OPEN)]
     return set(told) - never - only_open, only_open, never
 
@@ -110,21 +115,21 @@ def answers_expected(_program, _folder):
     texts = [text_of(path) for pattern in patterns for path in sorted(glob.glob(os.path.join(TOP, pattern)))]
     told, expected = answers_told(page.read(page.DOCUMENT)), expected_in(texts, set(answers()))
     yield "answers beyond the rows", ", ".join("%s %s" % each for each in sorted(expected - told - NEVER_THERE) if each[1] != "NO_MEMORY") or None
-    heap_calls = {each for each in told if each[0].startswith("gcflip_heap_") and each[0] in symbols()}
-    yield "answers of rows that no program expects", ", ".join("%s %s" % each for each in sorted(heap_calls - expected - NOT_EXPECTED)) or None
+    of_heaps = {each for each in told if each[0] in heap_calls()}
+    yield "answers of rows that no program expects", ", ".join("%s %s" % each for each in sorted(of_heaps - expected - NOT_EXPECTED)) or None
     found = expected_in(["EXPECT(gcflip_heap_put(&heap, 0, f(1, 2), i, t) == GCFLIP_NIL); must(gcflip_heap_close(&heap), a > 1 ? GCFLIP_DONE : GCFLIP_CLOSED);"], set(answers()))
     wanted = {("gcflip_heap_put", "NIL"), ("gcflip_heap_close", "DONE"), ("gcflip_heap_close", "CLOSED")}
     yield "answers that a program expects are read", None if found == wanted else "found %s" % sorted(found)
 
 
-def members(path, pattern, member):
-    """Returns the members of the blocks in a file that the pattern finds."""
-    return {name for block in re.findall(pattern, text_of(path)) for name in re.findall(member, block)}
+def members(paths, pattern, member):
+    """Returns the members of the blocks in some files that the pattern finds."""
+    return {name for path in paths for block in re.findall(pattern, text_of(path)) for name in re.findall(member, block)}
 
 
 def names_of_calls(_program, _folder):
     """Checks that each call of the bindings is found, also one that makes no call by itself. No name is both a step's and an error's."""
-    rust, python, errors = "bindings/rust/src/heap.rs", "bindings/python/gcflip/heap.py", "bindings/python/gcflip/errors.py"
+    rust, python = [os.path.join("bindings", "rust", "src", path) for path in bindings.HEAP_OF_RUST], ["bindings/python/gcflip/heap.py"]
     public = {"Rust": members(rust, r"(?ms)^impl (?:Heap|Mutator<'_>) \{(.*?)^\}", r"(?m)^    pub fn (\w+)"),
               "Python": members(python, r"(?ms)^class (?:Heap|Mutator):\n(.*?)(?=^\S|\Z)", r"(?m)^    def ([a-z]\w*)")}
     for language, made in (("Rust", bindings.rust()), ("Python", bindings.python())):
@@ -134,7 +139,7 @@ def names_of_calls(_program, _folder):
         yield "a call of %s that makes no call of C is found" % language, None if unnamed == ["more"] else "found %s" % unnamed
     steps = {"Rust": members(rust, r"(?ms)^pub enum Step \{(.*?)^\}", r"(?m)^    (\w+)"),
              "Python": {name.title().replace("_", "") for name in members(python, r"(?ms)^class Step\(enum.Enum\):\n(.*?)(?=^\S)", r"(?m)^    ([A-Z_]+) = ")}}
-    refused = {"Rust": members(rust, r"(?ms)^pub enum Error \{(.*?)^\}", r"(?m)^    (\w+)"), "Python": set(re.findall(r"(?m)^class (\w+)", text_of(errors)))}
+    refused = {"Rust": members(rust, r"(?ms)^pub enum Error \{(.*?)^\}", r"(?m)^    (\w+)"), "Python": set(re.findall(r"(?m)^class (\w+)", text_of("bindings/python/gcflip/errors.py")))}
     for language, named in steps.items():
         both = named & refused[language]
         yield "steps and errors of %s" % language, None if named and refused[language] and not both else "both: %s" % sorted(both)

@@ -48,6 +48,10 @@ class Space:
         return found
 
 
+class Place(int):
+    """The place of a root in the list of roots, where a command may have a slot of its mutator."""
+
+
 class NoRoom(Exception):
     """The new space has no room for a replica."""
 
@@ -69,9 +73,11 @@ class Model:
         self.factor, self.rate, self.least, self.words = 200, 0, 65536, 1024
         self.left, self.end, self.logged, self.owed = 1, 1, 0, 0
 
-    # ---- slots: a number below 16 is the mutator's own, and one from 16 to 31 is shared
+    # ---- slots: a number below 16 is the mutator's own, and one from 16 to 31 is shared. A place stands for its root
 
     def root(self, m, slot):
+        if isinstance(slot, Place):
+            return slot
         return SHARED + OWN * m + slot if slot < OWN else slot - OWN
 
     def value(self, m, slot):
@@ -148,6 +154,29 @@ class Model:
 
     def look(self, m, s):
         return "saw " + self.seen(self.value(m, s))
+
+    # ---- the same commands on roots by their places
+
+    def place_new(self, d, kind, length):
+        return self.make(0, False, Place(d), kind, length)
+
+    def place_num(self, d, n):
+        return self.num(0, Place(d), n)
+
+    def place_copy(self, d, s):
+        return self.move(0, Place(d), Place(s))
+
+    def place_get(self, d, s, i):
+        return self.get(0, Place(d), Place(s), i)
+
+    def place_put(self, m, s, i, t):
+        return self.put(m, Place(s), i, Place(t))
+
+    def place_same(self, s, t):
+        return self.same(0, Place(s), Place(t))
+
+    def place_look(self, s):
+        return self.look(0, Place(s))
 
     # ---- extra roots, behind those of the slots
 

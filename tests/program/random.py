@@ -15,7 +15,7 @@ import time
 from .c_builds import SANITIZERS, SOURCES, WARNINGS, done, library
 from .harness import Outcome, difference, file_of, run
 from .python import TESTS, Python, content_of
-from .random_calls import FRAMES, LOOSE, MOVES, PACED, random_calls, traces_of
+from .random_calls import FRAMES, LOOSE, MOVES, PACED, PLACES, random_calls, traces_of
 from .rust import prepared
 
 STARTED = int(time.time())
@@ -55,8 +55,8 @@ def first_difference(calls, printed, wanted):
 
 
 def wanted_by_c(calls):
-    """Returns the lines that the program in C prints: gcflip_heap_get says of an object only that it saw one."""
-    return ["saw obj" if call.startswith("get ") and re.match("saw (obj|raw) ", line) else line for call, line in zip(calls.calls, calls.printed)]
+    """Returns the lines that the program in C prints: gcflip_heap_get and gcflip_get say of an object only that they saw one."""
+    return ["saw obj" if call.startswith(("get ", "place_get ")) and re.match("saw (obj|raw) ", line) else line for call, line in zip(calls.calls, calls.printed)]
 
 
 def played(words, calls, wanted, **more):
@@ -82,7 +82,7 @@ def c_calls(_program, folder):
     if built is None:
         return
     driver, why = built_driver(built, "plain", [])
-    for name, calls in lists("C", PACED, LOOSE, FRAMES, MOVES):
+    for name, calls in lists("C", PACED, LOOSE, FRAMES, PLACES, MOVES):
         yield name, why or played([driver], calls, wanted_by_c(calls))
 
 
@@ -110,7 +110,7 @@ def python_calls(_program, folder):
         return
     python = Python(built, folder)
     yield "the Python package is built", python.why
-    for name, calls in lists("Python", PACED, LOOSE, MOVES):
+    for name, calls in lists("Python", PACED, LOOSE, PLACES, MOVES):
         yield name, played([sys.executable, os.path.join(TESTS, "random_calls.py")], calls, calls.printed, env=python.environment)
 
 

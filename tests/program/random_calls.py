@@ -3,7 +3,7 @@
 The model of heap_model gives the replies. The driver programs, tests/c/random_calls.c and tests/python/random_calls.py, perform the same calls
 and print a line for each.
 """
-from .heap_model import Model
+from .heap_model import Model, Place
 
 EDGES = [0, 1, 2, 1 << 31, (1 << 32) - 1, 1 << 62, (1 << 63) - 1]
 SIZES = [1, 2, 3, 8, 20, 40, 80, 120, 200, 400]
@@ -12,10 +12,12 @@ OUT_OF_RANGE, CLOSED, OPEN = "out of range", "closed", "open"
 WEIGHTS = {"new": 8, "raw": 4, "num": 5, "nil": 2, "move": 6, "get": 9, "put": 10, "put_number": 5, "put_nil": 3, "raw_write": 4, "raw_read": 3, "copy_fields": 5, "address": 2, "cons": 4, "new_from": 4, "new_with": 4, "same": 4, "look": 5,
            "begin": 2, "begin_sized": 1, "roots": 7, "scan": 14, "apply": 5, "flip": 4, "drop": 0.4, "work": 4, "useful": 4, "counts": 3, "log": 2,
            "image": 2, "new_words": 2, "wrong": 4, "session": 0.7}
-# Calls that not every driver has: paced work, extra roots, where a flip moved objects, and references by address. A trace has no lines for the last three.
+# Calls that not every driver has: paced work, extra roots, commands on roots by their places, where a flip moved objects, and references by address. A
+# trace has no lines but for paced work.
 PACED = {"work_sized": 2, "work_within": 3, "pace": 0.7, "work_paced": 6}
 LOOSE = {"root_load": 5, "root_store": 6, "root_clear": 1}
 FRAMES = {"frame_push": 4, "frame_pop": 4}
+PLACES = {"place_new": 4, "place_num": 3, "place_copy": 5, "place_get": 6, "place_put": 9, "place_same": 3, "place_look": 4}
 MOVES = {"moved": 4, "refer": 6}
 COMMANDS = ("new", "raw", "num", "nil", "move", "get", "put", "same", "look")
 
@@ -393,6 +395,57 @@ class Calls:
             self.model.root_clear(top - 1, top)
         self.call(["frame_pop", m, d, first, end, top], "%s %d" % (reply, top - (reply == "done")))
 
+    # ---- commands on roots by their places
+
+    def place(self):
+        """Returns the place of a root, mostly of one that the heap has."""
+        count = len(self.model.roots)
+        wrong = [count, count + 1, count + 256, 1 << 16, 1 << 31, (1 << 32) - 1]
+        return self.chance.choice([0, 15, 16, 31, count - 1, self.chance.randrange(count), self.chance.randrange(count)] if self.chance.random() < 0.95 else wrong)
+
+    def filled_place(self):
+        """Returns a place, mostly of a root with a reference."""
+        filled = [p for p, word in enumerate(self.model.roots) if word > 0 and word % 2 == 0]
+        return self.chance.choice(filled) if filled and self.chance.random() < 0.9 else self.place()
+
+    def place_field(self, s):
+        """Returns a field's number, mostly one that the object of the root at this place has."""
+        wide = self.chance.choice([65535, 65536, 65537, 1 << 31, (1 << 32) - 1])
+        return wide if s >= len(self.model.roots) or self.chance.random() < 0.05 else self.field(0, Place(s))
+
+    def add_by_places(self, name, places, *numbers):
+        """Adds a command on these roots, if they are there: `places` are those of the numbers that name one."""
+        reply = getattr(self.model, name)(*numbers) if all(p < len(self.model.roots) for p in places) else OUT_OF_RANGE
+        self.call([name, *numbers], reply)
+
+    def add_place_new(self):
+        d = self.place()
+        self.add_by_places("place_new", [d], d, self.chance.choice([0, 1, 7, 255]), self.length())
+
+    def add_place_num(self):
+        d = self.place()
+        self.add_by_places("place_num", [d], d, self.number())
+
+    def add_place_copy(self):
+        d, s = self.place(), self.filled_place()
+        self.add_by_places("place_copy", [d, s], d, s)
+
+    def add_place_get(self):
+        d, s = self.place(), self.filled_place()
+        self.add_by_places("place_get", [d, s], d, s, self.place_field(s))
+
+    def add_place_put(self):
+        s, t = self.filled_place(), self.place()
+        self.add_by_places("place_put", [s, t], self.mutator(), s, self.place_field(s), t)
+
+    def add_place_same(self):
+        s, t = self.filled_place(), self.filled_place()
+        self.add_by_places("place_same", [s, t], s, t)
+
+    def add_place_look(self):
+        s = self.filled_place()
+        self.add_by_places("place_look", [s], s)
+
     # ---- calls that read, and calls that are out of range
 
     def add_useful(self):
@@ -441,6 +494,10 @@ class Calls:
         """Returns calls with one argument out of range, of those that not every driver has."""
         sized = [["work_sized", 0, 5], ["work_sized", 1, 0], ["work_within", 0, 5]] if "work_sized" in self.weights else []
         sized += [["refer", beyond, 0, 1], ["refer", m, slot, 1]] if "refer" in self.weights else []
+        if "place_new" in self.weights:
+            wide = self.chance.choice([256, 65536 + 1, 1 << 31, (1 << 32) - 1])
+            sized += [["place_new", 0, wide, 1], ["place_new", 0, 1, 65536 * (1 + wide % 3)], ["place_num", 0, 1 << 63], ["place_num", 0, (1 << 64) - 1],
+                      ["place_put", beyond, 0, 0, 0], ["place_put", wide, 0, 0, 0]]
         if "root_load" not in self.weights or self.model.extra_roots == 0:
             return sized
         return sized + [["root_load", beyond, 0, 0], ["root_load", 0, slot, 0], ["root_store", beyond, 0, 0], ["root_store", 0, 0, slot]]

@@ -7,10 +7,12 @@ from .crates import TOP
 
 RUST = os.path.join(TOP, "bindings", "rust", "src")
 PYTHON = os.path.join(TOP, "bindings", "python", "gcflip")
+# The files of Rust's heap.
+HEAP_OF_RUST = ("heap.rs", os.path.join("heap", "places.rs"))
 # Public methods that stand for no call of C alone.
 OF_THEIR_OWN = {"Rust": {"mutator", "collect"}, "Python": {"mutator"}}
 # How a method of Python's Heap makes a call on the heap: by its name, behind this prefix.
-BY_NAME = {"_call": "gcflip_heap_", "_made": "gcflip_heap_", "_step": "gcflip_heap_step_"}
+BY_NAME = {"_call": "gcflip_heap_", "_made": "gcflip_heap_", "_step": "gcflip_heap_step_", "_call_roots": "gcflip_", "_made_roots": "gcflip_"}
 
 
 def read(*path):
@@ -24,7 +26,7 @@ def of_sys():
     handle = {name: {call} for name, call in re.findall(r"(?m)^    (\w+): (gcflip_\w+)\(", text)}
     for indent, name, body in re.findall(r"(?ms)^( {4}|)pub fn (\w+)\([^{]*\{\n(.*?)^\1\}$", text):
         if indent:
-            handle[name] = set(re.findall(r"\bgcflip_heap_\w+(?=\()", body))
+            handle[name] = set(re.findall(r"\bgcflip_\w+(?=\()", body))
     others = {name: set(re.findall(r"\bgcflip_\w+(?=\()", body)) for name, body in re.findall(r"(?ms)^pub fn (\w+)\([^{]*\{\n(.*?)^\}$", text)}
     return handle, others, set(re.findall(r"(?s)fn drop\(.*?\bgcflip_(\w+)\(", text))
 
@@ -33,7 +35,7 @@ def rust():
     """Returns the public calls of the crate, each with the calls for C that it makes. A method and a function may have one name."""
     handle, others, dropped = of_sys()
     methods, inner = {}, {}
-    for block in re.findall(r"(?ms)^impl (?:Heap|Mutator<'_>) \{(.*?)^\}", read(RUST, "heap.rs")):
+    for block in re.findall(r"(?ms)^impl (?:Heap|Mutator<'_>) \{(.*?)^\}", "".join(read(RUST, path) for path in HEAP_OF_RUST)):
         for name, body in re.findall(r"(?ms)^    pub fn (\w+).*?\{\n(.*?)^    \}$", block):
             of_handle = [handle[call] for call in re.findall(r"\bhandle\.(\w+)\(", body)]
             methods[name] = set().union(*of_handle, *[others[call] for call in re.findall(r"\bsys::(\w+)\(", body)])

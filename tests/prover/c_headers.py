@@ -72,3 +72,9 @@ def symbols():
     """Returns the names of the functions that a program may link."""
     with open(SYMBOLS, encoding="utf-8") as file:
         return re.findall(r"(?m)^(?!#).*?\b(gcflip_\w+)\(", file.read())
+
+
+def heap_calls():
+    """Returns the names of those that take a heap first."""
+    with open(SYMBOLS, encoding="utf-8") as file:
+        return set(re.findall(r"(?m)^(?!#).*?\b(gcflip_\w+)\((?:const )?gcflip_heap \*", file.read()))

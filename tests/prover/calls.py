@@ -124,8 +124,8 @@ def costs():
 
 
 def cost_of(name, rows):
-    """Returns the costs of a call in words. A row with the call's own name needs none."""
-    own = name.replace("gcflip_heap_", "")
+    """Returns the costs of a call in words. A row with the call's own name needs none. The rows of commands on roots by their places begin with `place`."""
+    own = name.replace("gcflip_heap_", "").replace("gcflip_", "place_")
     return ", ".join(count if row == own else "%s (`%s`)" % (count, row) for row, count in rows)
 
 

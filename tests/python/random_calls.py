@@ -9,6 +9,8 @@ REPLIES = {gcflip.Full: "full", gcflip.NoObject: "no object", gcflip.NoField: "n
            gcflip.OutOfMemory: "no memory"}
 # What the binding calls some of the calls.
 NAMES = {"root_load": "load", "root_store": "store"}
+PLACED = {"place_new": "new_root", "place_num": "set_number", "place_copy": "copy_root", "place_get": "get_root", "place_put": "put_root", "place_same": "is_same",
+          "place_look": "look_root"}
 DONE = {"new": "made", "raw": "made", "cons": "made", "num": "done", "nil": "done", "move": "done", "put": "done", "put_number": "done",
         "put_nil": "done", "copy_fields": "done", "root_load": "done", "root_store": "done", "refer": "done"}
 
@@ -52,6 +54,17 @@ def of_mutator(heap, name, numbers):
     return DONE[name]
 
 
+def by_places(heap, name, numbers):
+    """Makes a command on roots by their places."""
+    call = getattr(heap, PLACED[name])
+    if name in ("place_get", "place_look"):
+        return seen(call(*numbers))
+    if name == "place_same":
+        return "yes" if call(*numbers) else "no"
+    assert call(*numbers) is None
+    return "made" if name == "place_new" else "done"
+
+
 def reading(heap, name, numbers):
     """Makes a call that reads."""
     if name == "counts":
@@ -91,6 +104,8 @@ def performed(heap, name, numbers):
         return "done"
     if name == "work_paced":
         return paced(heap, *numbers)
+    if name in PLACED:
+        return by_places(heap, name, numbers)
     if name == "root_clear":
         heap.clear_roots(*numbers)
         return "done"

@@ -15,7 +15,7 @@ from . import library
 from .checker import Block, Image, Row, _pairs_of
 from .errors import (Busy, Closed, Damaged, FlipRefused, Full, GcflipError, HeapRefused, Idle, NoField, NoNumber, NoObject, NotReady,
                      OutOfMemory, OutOfRange, Reentered)
-from .library import COUNTS, HEAP, LIBRARY, MUTATOR, SLOT, Answer, CheckingNumber, StepName, in_range
+from .library import COUNTS, HEAP, LIBRARY, MUTATOR, ROOTS, SLOT, Answer, CheckingNumber, StepName, in_range
 
 SLOTS = 16
 NOTHING_DONE: dict[int, type[GcflipError]] = {
@@ -50,6 +50,21 @@ def _slot(number: int, first: int) -> int:
     if not 0 <= number < SLOTS:
         raise OutOfRange("there is no slot %d" % number)
     return first + number
+
+
+def place(slot: int, mutator: int = 0) -> int:
+    """Returns the place of a slot in the list of a heap's roots, for the heap's commands that take any root: 0 to 15 are the shared slots, and then come
+    those of each mutator. So it is not the slot's number, where a mutator's own come first. Raises OutOfRange if there is no such slot."""
+    if not 0 <= slot < 2 * SLOTS or mutator < 0:
+        raise OutOfRange("mutator %d has no slot %d" % (mutator, slot))
+    return slot - SLOTS if slot >= SLOTS else SLOTS + SLOTS * mutator + slot
+
+
+def extra_place(mutators: int, root: int) -> int:
+    """Returns the place of an extra root of a heap with so many mutators: behind those of all slots. Raises OutOfRange for a negative number."""
+    if mutators < 0 or root < 0:
+        raise OutOfRange("there is no extra root %d" % root)
+    return SLOTS + SLOTS * mutators + root
 
 
 class Object(NamedTuple):
@@ -368,6 +383,47 @@ class Heap:
         by another call."""
         self._call("pace", pace._raw)
 
+    # ---- Commands on roots by their places. A mutator's call on its slots has the word without `_root`.
+
+    def new_root(self, root: int, kind: int, length: int) -> None:
+        """Makes an object of a kind, 0 to 255, with `length` fields, at most 65535, all nil, and puts a reference to it into the root at this place,
+        as `place` or `extra_place` tells it. Raises Full. Like each of these calls, it raises OutOfRange if there is no such root."""
+        self._call_roots("new", root, kind, length)
+
+    def set_number(self, root: int, number: int) -> None:
+        """Puts a number below 2^63 into the root."""
+        self._call_roots("set_number", root, number)
+
+    def copy_root(self, root: int, source: int) -> None:
+        """Copies the value of root `source` into the root."""
+        self._call_roots("copy", root, source)
+
+    def get_root(self, root: int, source: int, field: int) -> Value:
+        """Reads a field of the object that root `source` refers to into the root, and returns its value. Raises NoObject and NoField."""
+        numbers = in_range((root, source, field), ROOTS["get"])
+
+        def found() -> Value:
+            number, view = ctypes.c_uint64(), library.View()
+            answer = self._made_roots("get", *numbers, number)
+            view.number = number.value
+            return _seen(self._made_roots("look", numbers[0], view) if answer == Answer.OBJECT else answer, view)
+
+        return self._turn.take(found)
+
+    def put_root(self, mutator: int, root: int, field: int, source: int) -> None:
+        """Writes the value of root `source` into a field of the object that the root refers to. While a collection is open, this mutator's log takes the
+        field, whoever's the roots are. Raises NoObject, NoField, NoNumber, and OutOfMemory while a collection is open."""
+        self._call_roots("put", mutator, root, field, source)
+
+    def is_same(self, first: int, second: int) -> bool:
+        """Returns whether both roots hold nil, equal numbers, or references to one object."""
+        return self._call_roots("same", first, second) == Answer.SAME
+
+    def look_root(self, root: int) -> Value:
+        """Returns the root's value."""
+        view = library.View()
+        return _seen(self._call_roots("look", root, view), view)
+
     # ---- Reading
 
     def counts(self) -> Counts:
@@ -434,12 +490,16 @@ class Heap:
 
     def _made(self, name: str, *arguments: Any) -> Answer:
         """Does the same if the arguments are in range and it is this call's turn."""
-        answer = Answer(getattr(LIBRARY, "gcflip_heap_" + name)(self._handle, *arguments))
-        if answer in NOTHING_DONE:
-            raise NOTHING_DONE[answer](name)
-        if answer in REFUSED:
-            raise REFUSED[answer]()
-        return answer
+        return _answered(name, getattr(LIBRARY, "gcflip_heap_" + name)(self._handle, *arguments))
+
+    def _call_roots(self, name: str, *arguments: Any) -> Answer:
+        """Makes a command on roots by their places, and returns its reply, as `_call` does."""
+        numbers = in_range(arguments, ROOTS[name])
+        return self._turn.take(lambda: self._made_roots(name, *numbers))
+
+    def _made_roots(self, name: str, *arguments: Any) -> Answer:
+        """Does the same if the arguments are in range and it is this call's turn."""
+        return _answered(name, getattr(LIBRARY, "gcflip_" + name)(self._handle, *arguments))
 
     def _prepared(self, name: str, *arguments: Any) -> Callable[[], int]:
         """Returns a function that makes one call again and again, and returns its answer. It checks the arguments once, and does not wait for other
@@ -485,6 +545,16 @@ class Heap:
             return _seen(self._made("look", *numbers[:2], view) if answer == Answer.OBJECT else answer, view)
 
         return self._turn.take(found)
+
+
+def _answered(name: str, number: int) -> Answer:
+    """Returns the reply of a call. Raises the exception for a refusal."""
+    answer = Answer(number)
+    if answer in NOTHING_DONE:
+        raise NOTHING_DONE[answer](name)
+    if answer in REFUSED:
+        raise REFUSED[answer]()
+    return answer
 
 
 def _record(field: FieldSource) -> library.Field:

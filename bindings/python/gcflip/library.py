@@ -136,6 +136,7 @@ class RawFlipChecks(ctypes.Structure):
 IMAGE: List[Any] = [c_uint32, c_uint32, c_bool, c_void_p, c_size_t, c_void_p, c_size_t]
 SLOT = c_uint8
 MUTATOR = c_uint8
+PLACE = c_uint32
 
 # The calls by their names without `gcflip_`. Those on a heap take a handle first.
 CHECKS: Dict[str, List[Any]] = {
@@ -194,6 +195,16 @@ HEAP: Dict[str, List[Any]] = {
     "moved": [c_uint32, POINTER(c_uint32)],
     "refer": [MUTATOR, SLOT, c_uint32],
 }
+# The commands on roots by their places, which take a handle first, too. Their names have no `heap_`.
+ROOTS: Dict[str, List[Any]] = {
+    "new": [PLACE, c_uint32, c_uint32],
+    "set_number": [PLACE, c_uint64],
+    "copy": [PLACE, PLACE],
+    "get": [PLACE, PLACE, c_uint32, POINTER(c_uint64)],
+    "put": [c_uint32, PLACE, c_uint32, PLACE],
+    "same": [PLACE, PLACE],
+    "look": [PLACE, POINTER(View)],
+}
 
 
 def declare(library: ctypes.CDLL, name: str, arguments: list[Any]) -> None:
@@ -231,6 +242,8 @@ def opened(path: str) -> ctypes.CDLL:
             raise OSError("%s has version %s, and this package needs %s; %s" % (path, _shown(found), _shown(VERSION // 100), HINT))
         for name, arguments in HEAP.items():
             declare(library, "gcflip_heap_" + name, [POINTER(Handle), *arguments])
+        for name, arguments in ROOTS.items():
+            declare(library, "gcflip_" + name, [POINTER(Handle), *arguments])
     except AttributeError as error:
         raise OSError("%s is not the library of this package: %s; %s" % (path, error, HINT)) from None
     return library

@@ -1,0 +1,116 @@
+//! Commands on roots by their places.
+
+use super::{replied, value_of, Heap, Result, Value, SLOTS};
+use crate::sys;
+
+/// The place of a root in the list of a heap's roots, for calls that take any root: first the shared slots, then those of each mutator, then the extra
+/// roots. So places are not numbers of slots, of which a mutator's own come first.
+///
+/// ```
+/// use gcflip::Place;
+///
+/// assert_eq!((Place::shared(3), Place::own(1, 3), Place::extra(2, 3)), (Place(3), Place(35), Place(51)));
+/// ```
+#[derive(Clone, Copy, Debug, PartialEq, Eq, Hash)]
+pub struct Place(pub u32);
+
+impl Place {
+    /// Returns the place of the shared slot with this number, 0 to 15.
+    ///
+    /// # Panics
+    ///
+    /// Panics if there is no such slot; in a constant, the program does not compile.
+    pub const fn shared(number: u8) -> Place {
+        assert!(number < SLOTS, "the slots are 0 to 15");
+        Place(number as u32)
+    }
+
+    /// Returns the place of a mutator's own slot with this number, 0 to 15.
+    ///
+    /// # Panics
+    ///
+    /// Panics if there is no such slot; in a constant, the program does not compile.
+    pub const fn own(mutator: u8, number: u8) -> Place {
+        Place(SLOTS as u32 * (1 + mutator as u32) + Place::shared(number).0)
+    }
+
+    /// Returns the place of an extra root of a heap with so many mutators. No heap has a root there if the extra root's number is too large.
+    pub const fn extra(mutators: u8, root: u32) -> Place {
+        Place(root.saturating_add(SLOTS as u32 * (1 + mutators as u32)))
+    }
+}
+
+/// Commands on any roots, also extra ones and those of several mutators. Where a mutator's call on its slots has the same word, the command has the
+/// suffix `_root`.
+impl Heap {
+    /// Makes an object of this kind with this number of fields, all nil, and puts a reference to it into the root.
+    ///
+    /// # Errors
+    ///
+    /// Returns `OutOfRange`, or `Full` if the heap has no room for it.
+    pub fn new_root(&self, root: Place, kind: u8, fields: u16) -> Result<()> {
+        replied(self.handle.new_root(root.0, kind.into(), fields.into())).map(drop)
+    }
+
+    /// Puts a number below 2^63 into the root.
+    ///
+    /// # Errors
+    ///
+    /// Returns `OutOfRange` if the number is larger, or if there is no such root.
+    pub fn set_number(&self, root: Place, number: u64) -> Result<()> {
+        replied(self.handle.num_root(root.0, number)).map(drop)
+    }
+
+    /// Copies the value of root `source` into the root.
+    ///
+    /// # Errors
+    ///
+    /// Returns `OutOfRange` if there is no such root.
+    pub fn copy_root(&self, root: Place, source: Place) -> Result<()> {
+        replied(self.handle.copy_root(root.0, source.0)).map(drop)
+    }
+
+    /// Reads a field of the object that root `source` refers to into the root, and returns its value.
+    ///
+    /// # Errors
+    ///
+    /// Returns `NoObject`, `NoField`, or `OutOfRange` if there is no such root.
+    pub fn get_root(&self, root: Place, source: Place, field: u32) -> Result<Value> {
+        let (answer, number) = self.handle.get_root(root.0, source.0, field);
+        match replied(answer)? {
+            sys::GCFLIP_NIL => Ok(Value::Nil),
+            sys::GCFLIP_NUMBER => Ok(Value::Number(number)),
+            // The library's `get` does not read the object that it finds.
+            _ => self.look_root(root),
+        }
+    }
+
+    /// Writes the value of root `source` into a field of the object that the root refers to. While a collection is open, this is logged in this
+    /// mutator's log, whoever's the roots are.
+    ///
+    /// # Errors
+    ///
+    /// Returns `NoObject`, `NoField`, `NoNumber`, or `OutOfRange` if there is no such root or mutator; or, while a collection is open, `NoMemory`.
+    pub fn put_root(&self, mutator: u8, root: Place, field: u32, source: Place) -> Result<()> {
+        replied(self.handle.put_root(mutator.into(), root.0, field, source.0)).map(drop)
+    }
+
+    /// Returns whether both roots hold nil, equal numbers, or references to one object.
+    ///
+    /// # Errors
+    ///
+    /// Returns `OutOfRange` if there is no such root.
+    pub fn is_same(&self, first: Place, second: Place) -> Result<bool> {
+        Ok(replied(self.handle.same_root(first.0, second.0))? == sys::GCFLIP_SAME)
+    }
+
+    /// Returns the root's value.
+    ///
+    /// # Errors
+    ///
+    /// Returns `OutOfRange` if there is no such root.
+    pub fn look_root(&self, root: Place) -> Result<Value> {
+        let (answer, view) = self.handle.look_root(root.0);
+        Ok(value_of(replied(answer)?, &view))
+    }
+}

@@ -1,0 +1,351 @@
+/* Tests the commands on roots by their places, with each answer but that of a failed allocation: which root a place is, which numbers are out of range or
+ * name no field, whose log has an entry, and that a collection sees what they write. */
+#include "one_heap.h"
+#include <string.h>
+
+enum { KIND = 3, MUTATORS = 3, EXTRA = 8, SLOTS = 16 + 16 * MUTATORS, PLACES = SLOTS + EXTRA };
+
+static const uint32_t beyond[] = {PLACES, PLACES + 1, 256, 65536, 1u << 31, UINT32_MAX};
+
+static void open_heap(uint32_t size, uint8_t mutators, uint32_t extra, uint8_t checking)
+{
+    gcflip_options options = gcflip_options_default(size, mutators);
+    options.extra_roots = extra;
+    options.checking = checking;
+    EXPECT(gcflip_heap_open(&heap, &options) == GCFLIP_DONE && heap.at != NULL);
+}
+
+/* Expects that the root at place p holds this number. */
+static void holds(uint32_t p, uint64_t wanted)
+{
+    EXPECT(gcflip_look(&heap, p, &view) == GCFLIP_NUMBER && view.number == wanted && view.kind == 0 && view.count == 0);
+}
+
+/* Returns the slot by which mutator m names the root at place p: first its own, then the shared ones. */
+static uint8_t slot_of(uint32_t p)
+{
+    return (uint8_t)(p < 16 ? 16 + p : p % 16);
+}
+
+static uint8_t mutator_of(uint32_t p)
+{
+    return (uint8_t)(p < 16 ? 0 : p / 16 - 1);
+}
+
+/* Each place is the root with that number in an image, and the slot or the extra root that the header says. */
+static void roots(void)
+{
+    uint64_t words[1], image[PLACES];
+    open_heap(64, MUTATORS, EXTRA, GCFLIP_ALONG);
+    EXPECT(gcflip_heap_root_count(MUTATORS) == SLOTS);
+    for (uint32_t p = 0; p < PLACES; p++)
+        EXPECT(gcflip_set_number(&heap, p, 1000 + p) == GCFLIP_DONE);
+    EXPECT(gcflip_heap_image(&heap, words, 1, image, PLACES) == GCFLIP_DONE);
+    for (uint32_t p = 0; p < PLACES; p++) {
+        holds(p, 1000 + p);
+        EXPECT(image[p] == 2 * (1000 + p) + 1);
+    }
+    for (uint32_t p = 0; p < SLOTS; p++)
+        EXPECT(gcflip_heap_look(&heap, mutator_of(p), slot_of(p), &view) == GCFLIP_NUMBER && view.number == 1000 + p);
+    for (uint32_t k = 0; k < EXTRA; k++) {
+        EXPECT(gcflip_heap_root_load(&heap, 1, 0, k) == GCFLIP_DONE);
+        holds(32, 1000 + SLOTS + k);
+    }
+    for (uint32_t p = 0; p < SLOTS; p++) {
+        EXPECT(gcflip_heap_set_number(&heap, mutator_of(p), slot_of(p), 2000 + p) == GCFLIP_DONE);
+        holds(p, 2000 + p);
+    }
+    close_heap();
+}
+
+/* No place is cut to 8 bits: with 16 mutators, 255 and 256 are slots of two of them. */
+static void many_slots(void)
+{
+    open_heap(8, 16, 0, GCFLIP_ALONG);
+    EXPECT(gcflip_set_number(&heap, 255, 5) == GCFLIP_DONE && gcflip_set_number(&heap, 256, 6) == GCFLIP_DONE);
+    EXPECT(gcflip_heap_look(&heap, 14, 15, &view) == GCFLIP_NUMBER && view.number == 5);
+    EXPECT(gcflip_heap_look(&heap, 15, 0, &view) == GCFLIP_NUMBER && view.number == 6);
+    EXPECT(gcflip_look(&heap, 0, &view) == GCFLIP_NIL);
+    EXPECT(gcflip_copy(&heap, 271, 256) == GCFLIP_DONE && gcflip_copy(&heap, 272, 256) == GCFLIP_OUT_OF_RANGE);
+    holds(271, 6);
+    close_heap();
+    open_heap(8, 1, 0, GCFLIP_ALONG);
+    EXPECT(gcflip_set_number(&heap, 31, 7) == GCFLIP_DONE && gcflip_set_number(&heap, 32, 7) == GCFLIP_OUT_OF_RANGE);
+    EXPECT(gcflip_heap_look(&heap, 0, 15, &view) == GCFLIP_NUMBER && view.number == 7);
+    EXPECT(gcflip_look(&heap, 16, &view) == GCFLIP_NIL && gcflip_look(&heap, 15, &view) == GCFLIP_NIL);
+    close_heap();
+    open_heap(8, 1, 1048576, GCFLIP_ALONG);
+    EXPECT(gcflip_set_number(&heap, 1048607, 8) == GCFLIP_DONE && gcflip_set_number(&heap, 1048608, 8) == GCFLIP_OUT_OF_RANGE);
+    EXPECT(gcflip_heap_root_load(&heap, 0, 0, 1048575) == GCFLIP_DONE);
+    holds(16, 8);
+    close_heap();
+}
+
+/* Each reply, with roots of all three sorts. */
+static void replies(void)
+{
+    const uint32_t shared = 2, own = 16 + 16 + 3, extra = SLOTS + 4;
+    open_heap(20, MUTATORS, EXTRA, GCFLIP_ALONG);
+    EXPECT(gcflip_new(&heap, extra, KIND, 2) == GCFLIP_MADE);
+    EXPECT(gcflip_look(&heap, extra, &view) == GCFLIP_OBJECT && view.kind == KIND && view.count == 2 && view.number == 0);
+    EXPECT(gcflip_look(&heap, own, &view) == GCFLIP_NIL && view.kind == 0 && view.count == 0 && view.number == 0);
+    EXPECT(gcflip_copy(&heap, own, extra) == GCFLIP_DONE);
+    EXPECT(gcflip_same(&heap, own, extra) == GCFLIP_SAME && gcflip_same(&heap, own, shared) == GCFLIP_NOT_SAME);
+    EXPECT(gcflip_set_number(&heap, shared, 9223372036854775807u) == GCFLIP_DONE);
+    EXPECT(gcflip_put(&heap, 0, own, 0, shared) == GCFLIP_DONE && gcflip_put(&heap, 2, extra, 1, own) == GCFLIP_DONE);
+    number = 77;
+    EXPECT(gcflip_get(&heap, SLOTS, extra, 1, &number) == GCFLIP_OBJECT && number == 77);
+    EXPECT(gcflip_same(&heap, SLOTS, own) == GCFLIP_SAME);
+    EXPECT(gcflip_get(&heap, 63, own, 0, &number) == GCFLIP_NUMBER && number == 9223372036854775807u);
+    holds(63, number);
+    EXPECT(gcflip_put(&heap, 1, own, 0, 0) == GCFLIP_DONE);
+    number = 77;
+    EXPECT(gcflip_get(&heap, 63, own, 0, &number) == GCFLIP_NIL && number == 77);
+    EXPECT(gcflip_look(&heap, 63, &view) == GCFLIP_NIL);
+    EXPECT(gcflip_get(&heap, 63, shared, 0, &number) == GCFLIP_NO_OBJECT && gcflip_put(&heap, 0, shared, 0, own) == GCFLIP_NO_OBJECT);
+    EXPECT(gcflip_get(&heap, 63, own, 2, &number) == GCFLIP_NO_FIELD && gcflip_put(&heap, 0, own, 2, own) == GCFLIP_NO_FIELD);
+    EXPECT(gcflip_heap_new_raw(&heap, 0, 0, KIND, 1) == GCFLIP_MADE);
+    EXPECT(gcflip_look(&heap, 16, &view) == GCFLIP_RAW_OBJECT && view.kind == KIND && view.count == 1);
+    EXPECT(gcflip_put(&heap, 0, 16, 0, own) == GCFLIP_NO_NUMBER && gcflip_put(&heap, 0, 16, 0, shared) == GCFLIP_DONE);
+    EXPECT(gcflip_get(&heap, 63, 16, 0, &number) == GCFLIP_NUMBER && number == 9223372036854775807u);
+    EXPECT(gcflip_put(&heap, 0, own, 0, 16) == GCFLIP_DONE);
+    number = 77;
+    EXPECT(gcflip_get(&heap, 63, own, 0, &number) == GCFLIP_OBJECT && number == 77); /* raw, which get does not show */
+    EXPECT(gcflip_get(&heap, own, own, 1, &number) == GCFLIP_OBJECT && gcflip_same(&heap, own, extra) == GCFLIP_SAME);
+    EXPECT(gcflip_new(&heap, extra, KIND, 11) == GCFLIP_FULL && gcflip_same(&heap, own, extra) == GCFLIP_SAME);
+    EXPECT(gcflip_new(&heap, extra, 255, 10) == GCFLIP_MADE && gcflip_look(&heap, extra, &view) == GCFLIP_OBJECT);
+    EXPECT(view.kind == 255 && view.count == 10 && gcflip_new(&heap, 0, 0, 0) == GCFLIP_FULL);
+    close_heap();
+}
+
+/* What a heap shows that a refused call has to leave alone. */
+struct picture {
+    uint64_t words[64], roots[PLACES];
+    size_t logged[MUTATORS];
+};
+
+static void draw(struct picture *picture)
+{
+    EXPECT(gcflip_heap_counts(&heap, &counts) == GCFLIP_DONE);
+    EXPECT(gcflip_heap_image(&heap, picture->words, counts.end, picture->roots, PLACES) == GCFLIP_DONE);
+    for (uint8_t m = 0; m < MUTATORS; m++)
+        EXPECT(gcflip_heap_log_length(&heap, m, &picture->logged[m]) == GCFLIP_DONE);
+}
+
+/* Each number beyond the last place, for each operand. An output is left alone. */
+static void refused_places(uint32_t p)
+{
+    const gcflip_view before = {77, 77, 77};
+    view = before;
+    number = 77;
+    EXPECT(gcflip_new(&heap, p, KIND, 0) == GCFLIP_OUT_OF_RANGE);
+    EXPECT(gcflip_set_number(&heap, p, 5) == GCFLIP_OUT_OF_RANGE);
+    EXPECT(gcflip_copy(&heap, p, 0) == GCFLIP_OUT_OF_RANGE && gcflip_copy(&heap, 0, p) == GCFLIP_OUT_OF_RANGE);
+    EXPECT(gcflip_get(&heap, p, 0, 1, &number) == GCFLIP_OUT_OF_RANGE && gcflip_get(&heap, 2, p, 1, &number) == GCFLIP_OUT_OF_RANGE);
+    EXPECT(gcflip_put(&heap, 0, p, 0, 0) == GCFLIP_OUT_OF_RANGE && gcflip_put(&heap, 0, 0, 0, p) == GCFLIP_OUT_OF_RANGE);
+    EXPECT(gcflip_same(&heap, p, 0) == GCFLIP_OUT_OF_RANGE && gcflip_same(&heap, 0, p) == GCFLIP_OUT_OF_RANGE);
+    EXPECT(gcflip_look(&heap, p, &view) == GCFLIP_OUT_OF_RANGE);
+    EXPECT(number == 77 && memcmp(&view, &before, sizeof view) == 0);
+}
+
+/* Kinds, counts, numbers and mutators that there are not. */
+static void refused_numbers(void)
+{
+    EXPECT(gcflip_new(&heap, 0, 256, 0) == GCFLIP_OUT_OF_RANGE && gcflip_new(&heap, 0, UINT32_MAX, 0) == GCFLIP_OUT_OF_RANGE);
+    EXPECT(gcflip_new(&heap, 0, 0, 65536) == GCFLIP_OUT_OF_RANGE && gcflip_new(&heap, 0, 0, UINT32_MAX) == GCFLIP_OUT_OF_RANGE);
+    EXPECT(gcflip_set_number(&heap, 0, 1ull << 63) == GCFLIP_OUT_OF_RANGE && gcflip_set_number(&heap, 0, UINT64_MAX) == GCFLIP_OUT_OF_RANGE);
+    EXPECT(gcflip_put(&heap, MUTATORS, 0, 0, 0) == GCFLIP_OUT_OF_RANGE && gcflip_put(&heap, 255, 0, 0, 0) == GCFLIP_OUT_OF_RANGE);
+    EXPECT(gcflip_put(&heap, 256, 0, 0, 0) == GCFLIP_OUT_OF_RANGE && gcflip_put(&heap, UINT32_MAX, 0, 0, 0) == GCFLIP_OUT_OF_RANGE);
+    EXPECT(gcflip_new(&heap, 0, 0, 65535) == GCFLIP_FULL);
+}
+
+/* Refused calls change nothing, whether a collection is open or not. The root at place 0 refers to an object with two fields. */
+static void refusals(void)
+{
+    static struct picture before, after;
+    open_heap(64, MUTATORS, EXTRA, GCFLIP_ALONG);
+    EXPECT(gcflip_new(&heap, 0, KIND, 2) == GCFLIP_MADE && gcflip_set_number(&heap, PLACES - 1, 6) == GCFLIP_DONE);
+    EXPECT(gcflip_put(&heap, 0, 0, 1, PLACES - 1) == GCFLIP_DONE);
+    for (int is_open = 0; is_open < 2; is_open++) {
+        draw(&before);
+        for (size_t k = 0; k < COUNT(beyond); k++)
+            refused_places(beyond[k]);
+        refused_numbers();
+        draw(&after);
+        EXPECT(memcmp(&before, &after, sizeof before) == 0);
+        if (!is_open)
+            EXPECT(gcflip_heap_step_begin(&heap) == GCFLIP_BEGUN);
+    }
+    close_heap();
+}
+
+/* No number of a field is cut to 16 bits: 65534 is the last one, and 65536 is not field 0. */
+static void long_object(void)
+{
+    static const uint32_t none[] = {65535, 65536, 65537, 131070, 1u << 31, UINT32_MAX};
+    open_heap(70000, 1, 1, GCFLIP_ALONG);
+    EXPECT(gcflip_new(&heap, 32, KIND, 65535) == GCFLIP_MADE);
+    EXPECT(gcflip_look(&heap, 32, &view) == GCFLIP_OBJECT && view.count == 65535);
+    EXPECT(gcflip_set_number(&heap, 0, 5) == GCFLIP_DONE && gcflip_set_number(&heap, 1, 6) == GCFLIP_DONE);
+    EXPECT(gcflip_put(&heap, 0, 32, 65534, 0) == GCFLIP_DONE && gcflip_put(&heap, 0, 32, 0, 0) == GCFLIP_DONE);
+    for (size_t k = 0; k < COUNT(none); k++) {
+        number = 77;
+        EXPECT(gcflip_get(&heap, 1, 32, none[k], &number) == GCFLIP_NO_FIELD && number == 77);
+        EXPECT(gcflip_put(&heap, 0, 32, none[k], 1) == GCFLIP_NO_FIELD);
+        EXPECT(gcflip_get(&heap, 1, 0, none[k], &number) == GCFLIP_NO_OBJECT && gcflip_put(&heap, 0, 0, none[k], 1) == GCFLIP_NO_OBJECT);
+        holds(1, 6);
+    }
+    EXPECT(gcflip_get(&heap, 2, 32, 65534, &number) == GCFLIP_NUMBER && number == 5);
+    EXPECT(gcflip_get(&heap, 2, 32, 0, &number) == GCFLIP_NUMBER && number == 5);
+    EXPECT(gcflip_get(&heap, 2, 32, 1, &number) == GCFLIP_NIL);
+    EXPECT(gcflip_heap_step_begin(&heap) == GCFLIP_BEGUN);
+    EXPECT(gcflip_put(&heap, 0, 32, UINT32_MAX, 1) == GCFLIP_NO_FIELD && gcflip_put(&heap, 0, 32, 65534, 1) == GCFLIP_DONE);
+    gcflip_log_entry entry = {0, 0};
+    EXPECT(gcflip_heap_log_entry(&heap, 0, 0, &entry) == GCFLIP_DONE && entry.field == 65534);
+    EXPECT(gcflip_heap_log_entry(&heap, 0, 1, &entry) == GCFLIP_OUT_OF_RANGE);
+    close_heap();
+}
+
+/* Expects that mutator m's log ends with this field, as its entry `length` - 1. */
+static void logged(uint8_t m, size_t length, uint32_t field)
+{
+    size_t found = 77;
+    gcflip_log_entry entry = {0, 0};
+    EXPECT(gcflip_heap_log_length(&heap, m, &found) == GCFLIP_DONE && found == length);
+    EXPECT(gcflip_heap_log_entry(&heap, m, length - 1, &entry) == GCFLIP_DONE && entry.object == 1 && entry.field == field);
+}
+
+/* An entry goes to the log of the mutator that is named, whoever's the roots are, and none where nothing was written. */
+static void logs(void)
+{
+    size_t length = 77;
+    open_heap(64, MUTATORS, EXTRA, GCFLIP_ALONG);
+    EXPECT(gcflip_new(&heap, 16, KIND, 3) == GCFLIP_MADE); /* in a slot of mutator 0 */
+    EXPECT(gcflip_copy(&heap, PLACES - 1, 16) == GCFLIP_DONE);
+    EXPECT(gcflip_put(&heap, 1, 16, 0, 16) == GCFLIP_DONE);
+    EXPECT(gcflip_heap_step_begin(&heap) == GCFLIP_BEGUN);
+    EXPECT(gcflip_put(&heap, 2, 16, 0, 17) == GCFLIP_DONE);
+    logged(2, 1, 0);
+    EXPECT(gcflip_put(&heap, 1, PLACES - 1, 2, 16) == GCFLIP_DONE);
+    logged(1, 1, 2);
+    EXPECT(gcflip_put(&heap, 2, PLACES - 1, 1, 48) == GCFLIP_DONE);
+    logged(2, 2, 1);
+    EXPECT(gcflip_put(&heap, 0, 16, 3, 17) == GCFLIP_NO_FIELD && gcflip_put(&heap, 0, 17, 0, 17) == GCFLIP_NO_OBJECT);
+    EXPECT(gcflip_heap_log_length(&heap, 0, &length) == GCFLIP_DONE && length == 0);
+    EXPECT(gcflip_put(&heap, 0, 16, 0, 17) == GCFLIP_DONE);
+    logged(0, 1, 0);
+    EXPECT(gcflip_heap_step_apply(&heap, 1) == GCFLIP_APPLIED && gcflip_heap_step_apply(&heap, 1) == GCFLIP_CLEAN);
+    close_heap();
+}
+
+/* Performs useful steps until only the flip is left. */
+static void make_ready(void)
+{
+    gcflip_step step = {0, 0};
+    for (;;) {
+        EXPECT(gcflip_heap_useful(&heap, &step) == GCFLIP_DONE);
+        if (step.name == GCFLIP_STEP_FLIP)
+            return;
+        EXPECT(gcflip_heap_work(&heap, 1, &work) == GCFLIP_DONE && work.last != GCFLIP_FLIPPED && work.last != GCFLIP_NO_ROOM);
+    }
+}
+
+/* Flips, after what a command wrote has its replica. */
+static void flip_with_one_more(void)
+{
+    uint32_t pairs = 77;
+    EXPECT(gcflip_heap_step_flip(&heap, &pairs) == GCFLIP_NOT_READY && pairs == 77);
+    make_ready();
+    EXPECT(gcflip_heap_step_flip(&heap, &pairs) == GCFLIP_FLIPPED && pairs > 0);
+}
+
+/* A collection that is ready is not ready any more once a command writes a reference without a replica into root d, and the object survives. */
+static void written_while_ready(uint32_t d, uint8_t checking)
+{
+    open_heap(128, MUTATORS, EXTRA, checking);
+    EXPECT(gcflip_set_number(&heap, 1, 5) == GCFLIP_DONE);
+    EXPECT(gcflip_heap_step_begin(&heap) == GCFLIP_BEGUN);
+    make_ready();
+    EXPECT(gcflip_new(&heap, d, KIND, 2) == GCFLIP_MADE && gcflip_put(&heap, 0, d, 1, 1) == GCFLIP_DONE);
+    flip_with_one_more();
+    EXPECT(gcflip_get(&heap, 2, d, 1, &number) == GCFLIP_NUMBER && number == 5);
+    EXPECT(gcflip_new(&heap, 3, KIND, 1) == GCFLIP_MADE && gcflip_put(&heap, 0, d, 0, 3) == GCFLIP_DONE && gcflip_put(&heap, 0, 3, 0, 1) == GCFLIP_DONE);
+    EXPECT(gcflip_copy(&heap, PLACES - 2, 3) == GCFLIP_DONE && gcflip_set_number(&heap, 3, 0) == GCFLIP_DONE);
+    for (int round = 0; round < 2; round++) {
+        EXPECT(gcflip_heap_step_begin(&heap) == GCFLIP_BEGUN);
+        make_ready();
+        EXPECT(gcflip_new(&heap, 4, KIND, 1) == GCFLIP_MADE && gcflip_put(&heap, 1, 4, 0, 1) == GCFLIP_DONE);
+        if (round == 0)
+            EXPECT(gcflip_copy(&heap, d, 4) == GCFLIP_DONE && gcflip_set_number(&heap, 4, 6) == GCFLIP_DONE);
+        else
+            EXPECT(gcflip_get(&heap, 4, d, 0, &number) == GCFLIP_NUMBER && gcflip_new(&heap, d, KIND + 1, 0) == GCFLIP_MADE);
+        flip_with_one_more();
+    }
+    EXPECT(gcflip_look(&heap, d, &view) == GCFLIP_OBJECT && view.kind == KIND + 1 && view.count == 0);
+    EXPECT(gcflip_get(&heap, d, PLACES - 2, 0, &number) == GCFLIP_NUMBER && number == 5);
+    close_heap();
+}
+
+/* A get of an object that has no replica yet writes its reference into root d. */
+static void got_while_open(uint32_t d, uint8_t checking)
+{
+    open_heap(128, MUTATORS, EXTRA, checking);
+    EXPECT(gcflip_new(&heap, 0, KIND, 1) == GCFLIP_MADE && gcflip_new(&heap, 1, KIND + 1, 0) == GCFLIP_MADE);
+    EXPECT(gcflip_put(&heap, 0, 0, 0, 1) == GCFLIP_DONE && gcflip_set_number(&heap, 1, 0) == GCFLIP_DONE);
+    EXPECT(gcflip_heap_step_begin(&heap) == GCFLIP_BEGUN);
+    EXPECT(gcflip_heap_step_roots(&heap) == GCFLIP_COPIED && gcflip_heap_step_roots(&heap) == GCFLIP_CLEAN);
+    EXPECT(gcflip_get(&heap, d, 0, 0, &number) == GCFLIP_OBJECT && gcflip_put(&heap, 2, 0, 0, 1) == GCFLIP_DONE);
+    EXPECT(gcflip_heap_step_roots(&heap) == GCFLIP_COPIED);
+    make_ready();
+    EXPECT(gcflip_set_number(&heap, 0, 0) == GCFLIP_DONE);
+    uint32_t pairs = 77;
+    EXPECT(gcflip_heap_step_flip(&heap, &pairs) == GCFLIP_FLIPPED && pairs == 2);
+    EXPECT(gcflip_look(&heap, d, &view) == GCFLIP_OBJECT && view.kind == KIND + 1 && view.count == 0);
+    EXPECT(gcflip_heap_work(&heap, 100, &work) == GCFLIP_DONE && work.last == GCFLIP_FLIPPED && work.pairs == 1);
+    EXPECT(gcflip_look(&heap, d, &view) == GCFLIP_OBJECT && view.kind == KIND + 1);
+    close_heap();
+}
+
+static void collections(uint8_t checking)
+{
+    static const uint32_t written[] = {9, 15, 16, 31, 32, SLOTS - 1, SLOTS, SLOTS + 3, PLACES - 1};
+    for (size_t k = 0; k < COUNT(written); k++) {
+        written_while_ready(written[k], checking);
+        got_while_open(written[k], checking);
+    }
+}
+
+/* Without a heap there is no place, and each call says so first. */
+static void closed(void)
+{
+    const gcflip_view before = {77, 77, 77};
+    const uint32_t places[] = {0, UINT32_MAX};
+    view = before;
+    number = 77;
+    for (size_t k = 0; k < COUNT(places); k++) {
+        const uint32_t p = places[k];
+        EXPECT(gcflip_new(&heap, p, p, p) == GCFLIP_CLOSED);
+        EXPECT(gcflip_set_number(&heap, p, UINT64_MAX) == GCFLIP_CLOSED);
+        EXPECT(gcflip_copy(&heap, p, p) == GCFLIP_CLOSED);
+        EXPECT(gcflip_get(&heap, p, p, p, &number) == GCFLIP_CLOSED);
+        EXPECT(gcflip_put(&heap, p, p, p, p) == GCFLIP_CLOSED);
+        EXPECT(gcflip_same(&heap, p, p) == GCFLIP_CLOSED);
+        EXPECT(gcflip_look(&heap, p, &view) == GCFLIP_CLOSED);
+    }
+    EXPECT(number == 77 && memcmp(&view, &before, sizeof view) == 0 && heap.at == NULL);
+}
+
+int main(void)
+{
+    closed();
+    roots();
+    many_slots();
+    replies();
+    refusals();
+    long_object();
+    logs();
+    collections(GCFLIP_ALONG);
+    collections(GCFLIP_AT_FLIP);
+    closed();
+    return 0;
+}
