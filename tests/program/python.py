@@ -74,7 +74,7 @@ def suites(_program, folder):
     if python is None:
         return
     yield "the package is built", python.why
-    for name in ("test_checker.py", "test_inference.py", "test_images.py", "test_heap.py", "test_explore.py"):
+    for name in ("test_checker.py", "test_inference.py", "test_images.py", "test_heap.py", "test_places.py", "test_explore.py"):
         found = python.run(os.path.join(TESTS, name), "-v")
         told = found.stderr.decode()
         reasons = re.findall(r"(?m) \.\.\. skipped (['\"])(.*)\1$", told)

@@ -13,7 +13,7 @@ import unittest
 import weakref
 
 import gcflip
-from gcflip import Heap, Held, LogEntry, Object, Step, extra_place, own, place, shared
+from gcflip import Heap, Held, LogEntry, Object, Step, own, shared
 from limits import at_most
 
 
@@ -71,63 +71,6 @@ class Checks(unittest.TestCase):
             heap.check()
         with self.assertRaises(gcflip.Closed):
             heap.flip_checks()
-
-
-class CommandsByPlaces(unittest.TestCase):
-    """Commands on roots by their places, in a heap of two mutators with three extra roots."""
-
-    def setUp(self):
-        self.heap = Heap(16, mutators=2, extra_roots=3)
-        self.addCleanup(self.heap.close)
-
-    def test_places(self):
-        self.assertEqual([place(shared(0)), place(shared(15)), place(own(0)), place(own(15)), place(own(0), 1)], [0, 15, 16, 31, 32])
-        self.assertEqual([extra_place(2, 0), extra_place(2, 2)], [48, 50])
-        for wrong in (lambda: place(32), lambda: place(-1), lambda: place(0, -1), lambda: extra_place(-1, 0), lambda: extra_place(2, -1)):
-            self.assertRaises(gcflip.OutOfRange, wrong)
-
-    def test_commands(self):
-        heap, second = self.heap, self.heap.mutator(1)
-        root, number, last = place(shared(0)), place(own(0), 1), extra_place(2, 2)
-        heap.new_root(root, 7, 2)
-        heap.set_number(number, 2 ** 63 - 1)
-        heap.put_root(1, root, 1, number)
-        heap.copy_root(last, root)
-        self.assertEqual((heap.is_same(root, last), heap.is_same(root, number)), (True, False))
-        self.assertEqual((heap.get_root(root, last, 1), heap.get_root(number, last, 0)), (2 ** 63 - 1, None))
-        self.assertEqual((heap.look_root(root), heap.look_root(number)), (2 ** 63 - 1, None))
-        heap.put_root(0, last, 0, last)
-        self.assertEqual(heap.get_root(number, last, 0), Object(7, 2))
-        self.assertEqual((second.look(shared(0)), second.look(own(0))), (2 ** 63 - 1, Object(7, 2)))
-        second.raw(own(1), 255, 1)
-        self.assertEqual(heap.look_root(place(own(1), 1)), Object(255, 1, True))
-        self.assertRaises(gcflip.NoNumber, heap.put_root, 0, place(own(1), 1), 0, last)
-        self.assertRaises(gcflip.Full, heap.new_root, root, 7, 7)
-        heap.begin()
-        heap.put_root(1, last, 1, root)
-        self.assertEqual((heap.log_length(0), heap.log_length(1)), (0, 1))
-
-    def test_refusals(self):
-        heap = self.heap
-        heap.new_root(0, 7, 1)
-        for wrong in (51, 256, 65536, 2 ** 32 - 1, 2 ** 32, -1):
-            for call in (lambda: heap.new_root(wrong, 7, 1), lambda: heap.set_number(wrong, 1), lambda: heap.copy_root(wrong, 0), lambda: heap.copy_root(1, wrong),
-                         lambda: heap.get_root(wrong, 0, 0), lambda: heap.get_root(1, wrong, 0), lambda: heap.put_root(0, wrong, 0, 1), lambda: heap.put_root(0, 0, 0, wrong),
-                         lambda: heap.is_same(wrong, 0), lambda: heap.is_same(0, wrong), lambda: heap.look_root(wrong)):
-                self.assertRaises(gcflip.OutOfRange, call)
-        for kind, length in ((256, 1), (2 ** 32 - 1, 1), (7, 65536), (7, 2 ** 32 - 1)):
-            self.assertRaises(gcflip.OutOfRange, heap.new_root, 0, kind, length)
-        for call in (lambda: heap.put_root(2, 0, 0, 1), lambda: heap.put_root(256, 0, 0, 1), lambda: heap.set_number(0, 2 ** 63), lambda: heap.set_number(0, 2 ** 64)):
-            self.assertRaises(gcflip.OutOfRange, call)
-        for field in (1, 65535, 65536, 2 ** 32 - 1):
-            self.assertRaises(gcflip.NoField, heap.get_root, 1, 0, field)
-            self.assertRaises(gcflip.NoField, heap.put_root, 0, 0, field, 1)
-            self.assertRaises(gcflip.NoObject, heap.get_root, 1, 1, field)
-            self.assertRaises(gcflip.NoObject, heap.put_root, 0, 1, field, 1)
-        self.assertEqual((heap.look_root(0), heap.look_root(1), heap.look_root(50)), (Object(7, 1), None, None))
-        heap.close()
-        self.assertRaises(gcflip.Closed, heap.look_root, 0)
-        self.assertRaises(gcflip.Closed, heap.get_root, 0, 0, 0)
 
 
 class Commands(unittest.TestCase):

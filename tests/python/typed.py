@@ -3,7 +3,7 @@ from __future__ import annotations
 
 import array
 
-from gcflip import Comparison, Counts, Heap, Image, LogEntry, Mutator, Object, Pace, Path, Refused, Step, Value, Work, check, check_text, compare, own, path_to
+from gcflip import Comparison, Counts, Heap, Image, LogEntry, Mutator, Object, Pace, Path, Refused, Step, Value, Work, check, check_text, compare, extra_place, own, path_to, place
 
 
 def collected(heap: Heap) -> int:
@@ -12,12 +12,14 @@ def collected(heap: Heap) -> int:
     value: Value = mutator.get(own(1), own(0), 0)
     if isinstance(value, Object):
         return value.length
+    root: int = place(own(0)) if heap.is_same(place(own(1)), 0) else extra_place(1, 0)
+    seen: Value = heap.get_root(root, 0, 0)
     begun: Step = heap.begin()
     work: Work = heap.work(100)
     paced: Work | None = heap.work_paced(Pace(), 4)
     counts: Counts = heap.counts()
     entry: LogEntry = heap.log_entry(0, 0)
-    return work.pairs + counts.free + entry.field + (0 if paced is None else paced.steps) + len(begun.value)
+    return work.pairs + (0 if seen is None else root) + counts.free + entry.field + (0 if paced is None else paced.steps) + len(begun.value)
 
 
 def checked(words: memoryview, roots: array.array[int]) -> int:
