@@ -22,7 +22,7 @@ use Rattle.gc_copy.specs.Words.{CollectionWords, collection_in, state_of}
 use Rattle.gc_along.specs.Tables.{Tables}
 use Rattle.gc_collected.specs.Internal.CollectedHeap.{Fits}
 use Rattle.gc_collected.specs.Internal.Follows.{Follows}
-use Rattle.gc_collected.specs.Internal.KnownRoots.{ComparesTwins, HasTaken, HasTakenPlain, KnowsRoots}
+use Rattle.gc_collected.specs.Internal.KnownRoots.{ComparesTwins, HasStored, HasStoredPlain, KnowsRoots}
 use Rattle.gc_collected.specs.declared.known.KnownRoots.{KnownRoots}
 use Rattle.gc_collected.proofs.Followed.{quiet}
 use Rattle.gc_collected.proofs.Marks.{SetsPlain, one_below, plain_command, slot_command, stored_command}
@@ -37,7 +37,7 @@ module _ (known now : KnownRoots) (s : State) (m p : ℕ) (op : Op) (at : root_w
   here : root_written m op ≡ Some (roots_of s.mutators + (p - roots_of s.mutators))
   here = at ∙ ap Some (omega (arith, high))
 
-pub root_known : (known now : KnownRoots) (s : State) (m p : ℕ) (op : Op) → root_written m op ≡ Some p → p < length s.heap.graph.roots → HasTaken known now (roots_of s.mutators) p → Known known s → Known now (mutate s m op).1
+pub root_known : (known now : KnownRoots) (s : State) (m p : ℕ) (op : Op) → root_written m op ≡ Some p → p < length s.heap.graph.roots → HasStored known now (roots_of s.mutators) p → Known known s → Known now (mutate s m op).1
 root_known known now s m p op at within taken k = elim (cases_lt p (roots_of s.mutators)) [
   | inl low ↦ subst (λ (n : KnownRoots). Known n (mutate s m op).1) (sym (taken.slot low)) (slot_command known s m op (λ q e. one_below p q (roots_of s.mutators) low (sym at ∙ e)) k.0, k.1)
   | inr high ↦ (
@@ -48,7 +48,7 @@ root_known known now s m p op at within taken k = elim (cases_lt p (roots_of s.m
 ]
 
 -- the same, of nil or a number
-pub plain_root_known : (known now : KnownRoots) (s : State) (m p : ℕ) (op : Op) → SetsPlain op → root_written m op ≡ Some p → p < length s.heap.graph.roots → HasTakenPlain known now (roots_of s.mutators) p → Known known s → Known now (mutate s m op).1
+pub plain_root_known : (known now : KnownRoots) (s : State) (m p : ℕ) (op : Op) → SetsPlain op → root_written m op ≡ Some p → p < length s.heap.graph.roots → HasStoredPlain known now (roots_of s.mutators) p → Known known s → Known now (mutate s m op).1
 plain_root_known known now s m p op plain at within taken k = elim (cases_lt p (roots_of s.mutators)) [
   | inl low ↦ subst (λ (n : KnownRoots). Known n (mutate s m op).1) (sym (taken.slot low)) (plain_command known s m op plain (λ q e. one_below p q (roots_of s.mutators) low (sym at ∙ e)) k.0, k.1)
   | inr high ↦ (

@@ -9,7 +9,7 @@ ghost use Rattle.gc_plan.specs.Staying.{IsMissing};
 ghost use Rattle.gc_plan.specs.Steps.{root_target};
 ghost use Rattle.gc_copy.specs.Words.{collection_in, open_state, BelongsTo};
 ghost use Rattle.gc_roots.specs.Twins.{IsDone, begun};
-ghost use Rattle.gc_collected.specs.Internal.KnownRoots.{ComparesTwins, HasTaken, HasTakenPlain, HasWritten, KnowsRoots};
+ghost use Rattle.gc_collected.specs.Internal.KnownRoots.{ComparesTwins, HasStored, HasStoredPlain, HasWritten, KnowsRoots};
 
 use gc_along::Standing;
 use gc_copy::{Collection, MissingRoot};
@@ -63,7 +63,7 @@ impl KnownRoots {
     #[inline(always)]
     pub(crate) fn took(&mut self, place: u32, slots: usize)
         requires within { (slots ≤ place) → place - slots < length self.old.twins.twins }
-        ensures { HasTaken self.old self.new slots place }
+        ensures { HasStored self.old self.new slots place }
     {
         if (place as usize) < slots {
             self.slots = 0;
@@ -76,7 +76,7 @@ impl KnownRoots {
     #[inline(always)]
     pub(crate) fn took_plain(&mut self, place: u32, slots: usize)
         requires within { (slots ≤ place) → place - slots < length self.old.twins.twins }
-        ensures { HasTakenPlain self.old self.new slots place }
+        ensures { HasStoredPlain self.old self.new slots place }
     {
         if place as usize >= slots {
             self.wrote(place - slots as u32);

@@ -203,7 +203,7 @@ replicated_already : (c : Collection) (g : Graph) (w : ℕ) → HasReplicaOf c (
 replicated_already c g w h = grind (arith, common_steps, cond-true)
 
 -- once placed, the target has a replica
-pub placed_has : (c next : Collection) (a : ℕ) (o : Option Object) → place_replica c a o ≡ Some next → IsSome (replica_of next a)
+placed_has : (c next : Collection) (a : ℕ) (o : Option Object) → place_replica c a o ≡ Some next → IsSome (replica_of next a)
 placed_has c next a None e = absurd (let no : None ≡ Some next = e in cc)
 placed_has c next a (Some o) e = by (nat_lt (new_free c) (length o.fields + 2)) e
   where

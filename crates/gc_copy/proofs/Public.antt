@@ -2,7 +2,7 @@
 pub use Rattle.gc_copy.proofs.Flipping.{HasObjectsOf, flip_is, flipped_sound}
 pub use Rattle.gc_copy.proofs.LinkedImages.{command_leaves, lowered_words, new_shown, other_links}
 pub use Rattle.gc_copy.proofs.Mutating.{idle_left, mutate_is, one_but, open_left, still_unlinked}
-pub use Rattle.gc_copy.proofs.OpenCollection.{link_above, opened, placed_has, replica_object}
+pub use Rattle.gc_copy.proofs.OpenCollection.{link_above, opened, replica_object}
 pub use Rattle.gc_copy.proofs.Opening.{opening_with_ok}
 pub use Rattle.gc_copy.proofs.RootWalks.{all_moved, moved_first, moved_to, value_at}
 pub use Rattle.gc_copy.proofs.Scanned.{Moves, all_opened, does, having, opened_once, scanned_on, scanned_once, scans_are}

@@ -24,13 +24,13 @@ pub record HasWritten (was now : KnownRoots) (k : ℕ) : Type 0 where
   pub compares : ComparesTwins was → ComparesTwins now
 
 -- the root at place p was written, where there are so many slots: of a slot nothing is known any more
-pub record HasTaken (was now : KnownRoots) (slots p : ℕ) : Type 0 where
+pub record HasStored (was now : KnownRoots) (slots p : ℕ) : Type 0 where
   pub slot : p < slots → now ≡ record { slots = 0; twins = was.twins; looks = was.looks }
   pub extra : slots ≤ p → HasWritten was now (p - slots)
   pub used : slots ≤ p → now.twins.used ≡ max was.twins.used (p - slots + 1)
 
 -- the same for a value that refers to no object, which needs no replica
-pub record HasTakenPlain (was now : KnownRoots) (slots p : ℕ) : Type 0 where
+pub record HasStoredPlain (was now : KnownRoots) (slots p : ℕ) : Type 0 where
   pub slot : p < slots → now ≡ was
   pub extra : slots ≤ p → HasWritten was now (p - slots)
   pub used : slots ≤ p → now.twins.used ≡ max was.twins.used (p - slots + 1)

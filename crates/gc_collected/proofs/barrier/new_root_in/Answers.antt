@@ -1,4 +1,4 @@
--- A `New` writes no field of an older object, so an open collection stays, and the monitor is told of the new object.
+-- A `New` into a root by its place writes no field of an older object, so an open collection stays, and the monitor is told of the new object.
 use Rattle.std.proofs.Common.{◌≡◌, false, refl, ap, subst, ◌∙◌}
 use Rattle.gc_graph.specs.declared.command.Op.TheVariants.{New}
 use Rattle.gc_heap.specs.Places.{root_at}

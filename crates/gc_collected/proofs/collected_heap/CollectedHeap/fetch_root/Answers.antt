@@ -6,7 +6,7 @@ use Rattle.gc_graph.specs.declared.command.Op.TheVariants.{Get}
 use Rattle.gc_heap.specs.Places.{root_at}
 use Rattle.gc_plan.specs.State.{State}
 use Rattle.gc_copy.specs.Words.{collection_in, state_of}
-use Rattle.gc_collected.specs.Internal.KnownRoots.{HasTaken}
+use Rattle.gc_collected.specs.Internal.KnownRoots.{HasStored}
 use Rattle.gc_collected.proofs.ByPlace.{get_numbered, root_known, root_followed}
 use Rattle.gc_collected.proofs.Core.{core_is}
 use Rattle.gc_collected.proofs.OtherCommands.{said}
@@ -17,7 +17,7 @@ invariant_of-self c =
     let heap = c.self.inside.heap in
     let s = state_of heap (option_map collection_in c.self.inside.collection) in
     let within = subst (λ (s : State). c.args.d < length s.heap.graph.roots) (sym (core_is c.self.view_is)) c.requires.taker in
-    let taken = subst (λ n. HasTaken c.self.inside.known c.took.new.self n c.args.d) (c.root_count.ensures ∙ ap roots_of c.mutators.ensures.value) c.took.ensures in
+    let taken = subst (λ n. HasStored c.self.inside.known c.took.new.self n c.args.d) (c.root_count.ensures ∙ ap roots_of c.mutators.ensures.value) c.took.ensures in
     root_followed c.args.self.now.core c.self.inside.epoch c.self.inside.known c.took.new.self heap c.fetch_root.new.self c.self.inside.collection 0 (Get (root_at c.args.d) (root_at c.args.s) c.field_number.result) (c.fetch_root.ensures.fetches 0).0 c.self.inside.watch c.self.inside.along (core_is c.self.view_is) c.is_sound.ensures.open c.space.ensures.sound ((c.fetch_root.ensures.fetches 0).1)
     (λ none. none) refl (root_known c.self.inside.known c.took.new.self s 0 c.args.d (Get (root_at c.args.d) (root_at c.args.s) c.field_number.result) refl within taken) c.self.invariant
 

@@ -1,4 +1,4 @@
--- A `Look` changes nothing, and its reply is the machine's.
+-- A look at a root by its place changes nothing, and its reply is the machine's.
 use Rattle.std.proofs.Common.{◌≡◌, subst}
 use Rattle.gc_graph.specs.declared.command.Op.TheVariants.{Look}
 use Rattle.gc_heap.specs.Places.{root_at}

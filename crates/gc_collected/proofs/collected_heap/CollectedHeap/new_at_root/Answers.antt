@@ -6,7 +6,7 @@ use Rattle.gc_graph.specs.declared.reply.Reply.{Reply}
 use Rattle.gc_heap.specs.Places.{root_at}
 use Rattle.gc_plan.specs.State.{State}
 use Rattle.gc_collected.specs.Internal.CollectedHeap.{state_in}
-use Rattle.gc_collected.specs.Internal.KnownRoots.{HasTaken}
+use Rattle.gc_collected.specs.Internal.KnownRoots.{HasStored}
 use Rattle.gc_collected.proofs.ByPlace.{Known, root_known}
 use Rattle.gc_collected.proofs.Core.{core_is}
 use Rattle.gc_collected.proofs.OtherCommands.{it_belongs}
@@ -20,7 +20,7 @@ invariant_of-self c =
     let heap = c.self.inside.heap in
     let o = c.self.inside.collection in
     let within = subst (λ (s : State). c.args.d < length s.heap.graph.roots) (sym (core_is c.self.view_is)) c.requires in
-    let taken = subst (λ n. HasTaken c.self.inside.known c.took.new.self n c.args.d) (c.root_count.ensures ∙ ap roots_of c.mutators.ensures.value) c.took.ensures in
+    let taken = subst (λ n. HasStored c.self.inside.known c.took.new.self n c.args.d) (c.root_count.ensures ∙ ap roots_of c.mutators.ensures.value) c.took.ensures in
     let knows = subst (Known c.took.new.self) (ap (λ (x : Reply × State). x.1) c.new_root_in.ensures.step) (root_known c.self.inside.known c.took.new.self (state_in heap o) 0 c.args.d (New (root_at c.args.d) c.args.kind c.args.len) refl within taken (c.self.invariant.0.1, c.self.invariant.0.2)) in (
       (c.new_root_in.ensures.fits c.self.inside.epoch c.self.invariant.0.0, knows.0, knows.1),
       λ on. c.new_root_in.ensures.follows (c.self.invariant.1 on),

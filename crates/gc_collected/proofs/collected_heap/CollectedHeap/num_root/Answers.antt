@@ -6,7 +6,7 @@ use Rattle.gc_graph.specs.declared.command.Op.TheVariants.{Num}
 use Rattle.gc_heap.specs.Places.{root_at}
 use Rattle.gc_plan.specs.State.{State}
 use Rattle.gc_copy.specs.Words.{collection_in, state_of}
-use Rattle.gc_collected.specs.Internal.KnownRoots.{HasTakenPlain}
+use Rattle.gc_collected.specs.Internal.KnownRoots.{HasStoredPlain}
 use Rattle.gc_collected.proofs.ByPlace.{plain_root_known, root_followed}
 use Rattle.gc_collected.proofs.Core.{core_is}
 use Rattle.gc_collected.proofs.OtherCommands.{said}
@@ -17,7 +17,7 @@ invariant_of-self c =
     let heap = c.self.inside.heap in
     let s = state_of heap (option_map collection_in c.self.inside.collection) in
     let within = subst (λ (s : State). c.args.d < length s.heap.graph.roots) (sym (core_is c.self.view_is)) c.requires in
-    let taken = subst (λ n. HasTakenPlain c.self.inside.known c.took_plain.new.self n c.args.d) (c.root_count.ensures ∙ ap roots_of c.mutators.ensures.value) c.took_plain.ensures in
+    let taken = subst (λ n. HasStoredPlain c.self.inside.known c.took_plain.new.self n c.args.d) (c.root_count.ensures ∙ ap roots_of c.mutators.ensures.value) c.took_plain.ensures in
     root_followed c.args.self.now.core c.self.inside.epoch c.self.inside.known c.took_plain.new.self heap c.num_root.new.self c.self.inside.collection 0 (Num (root_at c.args.d) c.args.n) c.num_root.result c.self.inside.watch c.self.inside.along (core_is c.self.view_is) c.is_sound.ensures.open c.space.ensures.sound (c.num_root.ensures.performs 0)
     (λ none. none) refl (plain_root_known c.self.inside.known c.took_plain.new.self s 0 c.args.d (Num (root_at c.args.d) c.args.n) tt refl within taken) c.self.invariant
 

@@ -1,4 +1,4 @@
--- A `Put` writes no root, so all that is known of the roots is still true; room in a log changes no state.
+-- A `Put` by places writes no root, so all that is known of the roots is still true; room in a log changes no state.
 use Rattle.std.proofs.lemmas.Grind.{common_steps}
 use Rattle.std.proofs.Common.{◌≡◌, ap, refl, sym, ◌∙◌, subst, arith}
 use Rattle.gc_plan.specs.State.{State}
