@@ -141,6 +141,7 @@ static void refused_places(uint32_t p)
     EXPECT(gcflip_new(&heap, p, KIND, 0) == GCFLIP_OUT_OF_RANGE);
     EXPECT(gcflip_set_number(&heap, p, 5) == GCFLIP_OUT_OF_RANGE);
     EXPECT(gcflip_copy(&heap, p, 0) == GCFLIP_OUT_OF_RANGE && gcflip_copy(&heap, 0, p) == GCFLIP_OUT_OF_RANGE);
+    EXPECT(gcflip_copy(&heap, p, p) == GCFLIP_OUT_OF_RANGE && gcflip_same(&heap, p, p) == GCFLIP_OUT_OF_RANGE);
     EXPECT(gcflip_get(&heap, p, 0, 1, &number) == GCFLIP_OUT_OF_RANGE && gcflip_get(&heap, 2, p, 1, &number) == GCFLIP_OUT_OF_RANGE);
     EXPECT(gcflip_put(&heap, 0, p, 0, 0) == GCFLIP_OUT_OF_RANGE && gcflip_put(&heap, 0, 0, 0, p) == GCFLIP_OUT_OF_RANGE);
     EXPECT(gcflip_same(&heap, p, 0) == GCFLIP_OUT_OF_RANGE && gcflip_same(&heap, 0, p) == GCFLIP_OUT_OF_RANGE);
