@@ -211,7 +211,7 @@ are for. Each row has one function of the headers for C:
   excludes it in no state. A call of work returns it only for its first step. What inline functions say is not proved.
 - **instructions**: those of one call with the loop around it, from `bench/embedding/commands.txt`. A row of that table
   about a special case has its name behind the number. In it, `open` means while a collection is open, `replica` that the object has a replica too, and a
-  number how many fields. `step`, `step_long`, `apply` and `raw_words_60` are about a step in a call of work.
+  number how many fields. Rows of commands on roots by their places begin with `place`. `step`, `step_long`, `apply` and `raw_words_60` are about a step in a call of work.
 - **Rust**, **Python**: the methods of `Heap` and `Mutator`, or the functions, that make this call, from the code of [the crate](../bindings/rust/README.md) and
   [the package](../bindings/python/README.md).
 """
