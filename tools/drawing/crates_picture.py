@@ -17,13 +17,13 @@ GROUPS = {
     "crate-language": ("the language", ["gc_graph", "gc_text"]),
     "crate-words": ("words", ["gc_words", "gc_heap"]),
     "crate-plan": ("the plan", ["gc_plan"]),
-    "crate-mechanism": ("the mechanism", ["gc_copy"]),
+    "crate-mechanism": ("the mechanism", ["gc_copy", "gc_concurrent"]),
     "crate-checkers": ("checkers", ["gc_cert", "gc_check", "gc_par", "gc_along", "gc_generations"]),
     "crate-heap": ("the collected heap", ["gc_roots", "gc_collected", "gc_pace"]),
     "crate-c": ("for C", ["gcflip_c", "gcflip_heap_c"]),
     "crate-recording": ("the recording", ["gc_world", "gc_shared"]),
     "crate-program": ("traces and the program", ["gc_trace", "gcflip"]),
-    "crate-tests": ("only tests", ["gc_test_kit", "gc_tests", "gc_shared_tests", "gc_trace_tests", "allocation_failures"]),
+    "crate-tests": ("only tests", ["gc_test_kit", "gc_tests", "gc_concurrent_tests", "gc_shared_tests", "gc_trace_tests", "allocation_failures"]),
 }
 
 
