@@ -12,6 +12,12 @@ import urllib.request
 NAMES = ["chromium", "chromium-browser", "google-chrome", "google-chrome-stable"]
 SECONDS = 30
 TEXT, CLOSE, PING, PONG = 1, 8, 9, 10
+# What the browser says of a script whose page was left while the script ran.
+LEFT = "Inspected target navigated or closed"
+
+
+class PageLeft(RuntimeError):
+    """The page was left while a script ran in it."""
 
 
 def found():
@@ -120,7 +126,8 @@ class Browser:
             message = json.loads(self.web_socket.receive())
             if message.get("id") == self.number:
                 if "error" in message:
-                    raise RuntimeError("%s: %s" % (method, message["error"]["message"]))
+                    kind = PageLeft if message["error"]["message"] == LEFT else RuntimeError
+                    raise kind("%s: %s" % (method, message["error"]["message"]))
                 return message["result"]
             self.note(message)
 
@@ -142,11 +149,14 @@ class Browser:
         return result["result"].get("value")
 
     def wait(self, condition):
-        """Waits until an expression is true in the page."""
+        """Waits until an expression is true in the page, or in the page that takes its place meanwhile."""
         end = time.monotonic() + SECONDS
         while time.monotonic() < end:
-            if self.run("return Boolean(%s);" % condition):
-                return
+            try:
+                if self.run("return Boolean(%s);" % condition):
+                    return
+            except PageLeft:
+                pass
             time.sleep(0.02)
         raise TimeoutError("in the page it did not become true that %s" % condition)
 
