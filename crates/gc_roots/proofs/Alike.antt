@@ -1,6 +1,6 @@
 -- A twin is alike to its root for a checker that has the collection's pairs, so no look of this collector is in vain.
 use Rattle.std.proofs.lemmas.Grind.{common_steps}
-use Rattle.std.proofs.Common.{◌≡◌, ℕ, ◌+◌, ◌<◌, ◌≤◌, true, false, List, length, map, Option, Some, None, refl, sym, ap, ◌∙◌, subst, arith}
+use Rattle.std.proofs.Common.{◌≡◌, ℕ, ◌+◌, ◌<◌, ◌≤◌, true, false, List, length, map, Option, Some, None, refl, ap, ◌∙◌, subst, arith}
 use Rattle.std.specs.Prelude.{IfSome, IsSome, slice_index}
 use Rattle.std.specs.Option.{option_map_or}
 use Rattle.std.proofs.lemmas.Bool.{cond-true}
@@ -9,13 +9,11 @@ use Rattle.std.proofs.lemmas.List.Elements.{All-get_or}
 use Rattle.gc_graph.specs.Slots.{roots_of}
 use Rattle.gc_graph.specs.Limits.{largest_space}
 use Rattle.gc_graph.specs.Graph.{Value, Nil, Num, Ref, Object, Graph, root}
-use Rattle.gc_graph.specs.Correspond.{correspond}
 use Rattle.gc_words.specs.Word.{is_value, value_of, word_of, read_value, read_correspond, words_correspond, HasAddress}
 use Rattle.gc_words.specs.Closed.{IsRootWord}
 use Rattle.gc_words.specs.Marks.{is_marked}
 use Rattle.gc_words.proofs.Public.{value_read_back}
 use Rattle.gc_plan.specs.State.{Replica, Collection, State, new_graph, new_objects, pairs_of, replica_of, moved, new_end}
-use Rattle.gc_plan.specs.Members.{In}
 use Rattle.gc_plan.specs.Belonging.{Belongs}
 use Rattle.gc_plan.specs.Staying.{HasReplicaOf}
 use Rattle.gc_plan.proofs.Public.{HasReplica, laid_range, in_map, replica_in, moved_corresponds}

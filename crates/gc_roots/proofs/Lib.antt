@@ -5,6 +5,7 @@ pub mod Stay
 pub mod Twins
 pub mod Turns
 pub mod Looks
+pub mod Counted
 pub mod Compared
 pub mod Alike
 pub mod Public

@@ -1,8 +1,7 @@
 -- What commands, steps, looks and flips leave of a row of twins.
-use Rattle.std.proofs.Common.{◌≡◌, ◌≢◌, ⊎_elim, ℕ, zero, suc, ◌+◌, ◌<◌, ◌≤◌, true, false, List, length, get_or-set_same, get_or-set_other, Option, Some, sym, ap, ◌∙◌, subst, arith}
+use Rattle.std.proofs.Common.{◌≡◌, ◌≢◌, ⊎_elim, ℕ, ◌+◌, ◌<◌, ◌≤◌, true, false, List, length, get_or-set_same, get_or-set_other, Option, Some, sym, ap, ◌∙◌, subst, arith}
 use Rattle.std.specs.Prelude.{IfSome, slice_index}
-use Rattle.std.proofs.lemmas.Bool.{cases_eq, lt-ltb}
-use Rattle.std.proofs.lemmas.Grind.{common_steps}
+use Rattle.std.proofs.lemmas.Bool.{cases_eq}
 use Rattle.std.proofs.lemmas.List.{length-set}
 use Rattle.gc_graph.specs.Slots.{roots_of}
 use Rattle.gc_graph.specs.Graph.{Nil, root}
@@ -15,8 +14,7 @@ use Rattle.gc_plan.specs.declared.step.Step.{Step}
 use Rattle.gc_plan.specs.declared.step.Step.TheVariants as steps
 use Rattle.gc_plan.proofs.Public.{root_kept, roots_counted, steps_stay}
 use Rattle.gc_copy.specs.Twins.{IsTwin}
-use Rattle.gc_roots.specs.Twins.{RootRow, KnowsTwin, KeepsTwins, IsWritten, IsLooked, twin_at, is_due_root, begun}
-use Rattle.gc_roots.specs.Internal.Rows.{due_below, looks_left}
+use Rattle.gc_roots.specs.Twins.{RootRow, KnowsTwin, KeepsTwins, IsWritten, IsLooked, twin_at, begun}
 use Rattle.gc_roots.proofs.Stay.{mutate_stays, collect_stays}
 
 -- ---- commands
@@ -135,34 +133,3 @@ trimmed_keeps row now s is less nil h = subst (λ r. KeepsTwins r s) (sym is) (r
   clean = h.clean;
   right = h.right;
 })
-
--- ---- how many looks are left
-
--- the root that was looked at is not due any more
-no_more_due : (row now : RootRow) (slots k word : ℕ) → IsLooked row now slots k word → is_due_root now k ≡ false
-no_more_due row now slots k word l = grind (arith, common_steps, l.front, l.none, lt-ltb)
-
--- an extra root that is due afterwards was due before
-stays_due : (row now : RootRow) (slots k word i : ℕ) → IsLooked row now slots k word → is_due_root now i ≡ true → is_due_root row i ≡ true
-stays_due row now slots k word i l due = ⊎_elim
-    (λ same. absurd (let no : is_due_root now k ≡ false = no_more_due row now slots k word l in let yes : is_due_root now k ≡ true = subst (λ q. is_due_root now q ≡ true) same due in let bad : true ≡ false = sym yes ∙ no in cc bad))
-    (λ differ. grind (arith, common_steps, l.front, l.others i differ))
-    (cases_eq i k)
-
-due_still : (row now : RootRow) (n : ℕ) → ((i : ℕ) → is_due_root now i ≡ true → is_due_root row i ≡ true) → due_below now n ≤ due_below row n
-due_still row now zero h = omega arith
-due_still row now (suc n) h = grind (arith, common_steps, due_still row now n h, h n)
-
-one_less_due : (row now : RootRow) (k n : ℕ) → ((i : ℕ) → is_due_root now i ≡ true → is_due_root row i ≡ true) → is_due_root row k ≡ true → is_due_root now k ≡ false → k < n → due_below now n < due_below row n
-one_less_due row now k zero h was none less = absurd (omega (arith, less))
-one_less_due row now k (suc n) h was none less = ⊎_elim
-    (λ same. (let before : is_due_root row n ≡ true = subst (λ q. is_due_root row q ≡ true) same was in
-    let after : is_due_root now n ≡ false = subst (λ q. is_due_root now q ≡ false) same none in
-    grind (arith, common_steps, due_still row now n h, before, after)))
-    (λ differ. grind (arith, common_steps, one_less_due row now k n h was none (omega (arith, less, differ)), h n))
-    (cases_eq k n)
-
-pub one_look_less : (row now : RootRow) (slots k word : ℕ) → IsLooked row now slots k word → is_due_root row k ≡ true → k < length row.twins → looks_left now < looks_left row
-one_look_less row now slots k word l due less =
-    subst (λ n. due_below now n < due_below row (length row.twins)) (sym (ap length l.twins ∙ length-set row.twins (slots + k) word))
-    (one_less_due row now k (length row.twins) (λ i. stays_due row now slots k word i l) due (no_more_due row now slots k word l) less)

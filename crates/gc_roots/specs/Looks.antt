@@ -1,5 +1,5 @@
 -- What the standing checker knows of the extra roots: which of them it has compared with their twins since they were written.
-use Rattle.std.specs.Prelude.{◌≡◌, ◌≢◌, ℕ, max, ◌+◌, ◌<◌, ◌≤◌, true, false, List, slice_index}
+use Rattle.std.specs.Prelude.{◌≡◌, ◌≢◌, ℕ, max, ◌+◌, ◌<◌, true, false, List, slice_index}
 use Rattle.gc_words.specs.Word.{words_correspond}
 use Rattle.gc_words.specs.Marks.{is_marked}
 use Rattle.gc_roots.specs.Twins.{RootRow}

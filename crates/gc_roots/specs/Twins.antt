@@ -1,5 +1,5 @@
 -- Twins of the roots: while a collection is open, the word that each extra root takes at the flip.
-use Rattle.std.specs.Prelude.{◌≡◌, ◌≢◌, ◌||◌, ℕ, nat_lt, not, Bool, ◌+◌, ◌≤◌, ◌<◌, max, true, false, List, length, slice_index, slice_set, IfSome}
+use Rattle.std.specs.Prelude.{◌≡◌, ◌≢◌, ◌||◌, ℕ, zero, suc, nat_lt, not, Bool, if◌then◌else◌, ◌+◌, ◌-◌, ◌≤◌, ◌<◌, max, true, false, List, length, slice_index, slice_set, IfSome}
 use Rattle.gc_graph.specs.Slots.{roots_of}
 use Rattle.gc_graph.specs.Graph.{Nil, root}
 use Rattle.gc_words.specs.Marks.{is_marked}
@@ -73,6 +73,21 @@ pub record IsNextRoot (row : RootRow) (k : ℕ) : Type 0 where
   pub low : k ≤ row.front
   pub due : is_due_root row k ≡ true
   pub before : (i : ℕ) → i < k → is_marked row.marks i ≡ false
+
+-- how many of the first extra roots are marked
+abbrev pub marks_below : List ℕ → ℕ → ℕ
+marks_below marks zero = 0
+marks_below marks (suc k) = marks_below marks k + (if is_marked marks k then 1 else 0)
+
+-- How many looks are left, if no extra root is written: at those that were looked at and written since, and at those that may be in use, or
+-- whose words may not be 0, and were not looked at.
+abbrev pub looks_left : RootRow → ℕ
+looks_left row = marks_below row.marks row.front + (max row.used row.stale - row.front)
+
+-- one look less is left, or two less, where the last extra root in use is found to be nil
+pub record LooksOnce (was now : RootRow) : Type 0 where
+  pub less : looks_left now < looks_left was
+  pub few : looks_left was ≤ looks_left now + 2
 
 -- the words of the slots are their twins
 abbrev pub SlotsAreTwins : RootRow → State → Collection → Type 0

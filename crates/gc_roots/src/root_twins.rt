@@ -10,7 +10,7 @@ ghost use Rattle.gc_plan.specs.Steps.{collect, is_ready, root_target};
 ghost use Rattle.gc_plan.specs.declared.step.Step.{Step};
 ghost use Rattle.gc_plan.specs.declared.step.StepReply.{StepReply};
 ghost use Rattle.gc_copy.specs.Words.{AreMoved, BelongsTo, LinksNothing, TellsMoves, collection_in, idle_state, open_state, new_root_words};
-ghost use Rattle.gc_roots.specs.Twins.{RootRow, KeepsTwins, IsWritten, IsLooked, IsDone, IsNextRoot, SlotsAreTwins, begun};
+ghost use Rattle.gc_roots.specs.Twins.{RootRow, KeepsTwins, IsWritten, IsLooked, IsDone, IsNextRoot, LooksOnce, SlotsAreTwins, begun, is_due_root, looks_left};
 
 use crate::due::DueRow;
 use gc_copy::{Collection, Room, Swapped};
@@ -32,6 +32,8 @@ pub struct RootTwins {
     due: DueRow,
     /// The extra roots from this one on were not looked at in the open collection.
     front: usize,
+    /// The number of marks below `front`.
+    again: usize,
     /// The extra roots from this one on are nil.
     used: usize,
     /// The twins from this one on, and from `front` on, are 0.
@@ -39,15 +41,15 @@ pub struct RootTwins {
 }
 
 impl Model for RootTwins {
-    ghost use Rattle.std.specs.Prelude.{◌≤◌, ◌*◌, ◌<◌, ◌^◌, length};
-    ghost use Rattle.gc_roots.specs.Twins.{RootRow};
+    ghost use Rattle.std.specs.Prelude.{◌≡◌, ◌≤◌, ◌*◌, ◌<◌, ◌^◌, length};
+    ghost use Rattle.gc_roots.specs.Twins.{RootRow, marks_below};
 
     ghost Value = { RootRow };
 
     ghost view = { λ r. record { twins = r.twins.items; marks = r.due; front = r.front; used = r.used; stale = r.stale } };
 
     ghost invariant = { λ r. (length r.twins.items ≤ 64 * length r.due) × (r.front ≤ length r.twins.items) × (r.used ≤ length r.twins.items) × (r.stale ≤ length r.twins.items)
-        × (length r.twins.items < 2 ^ 32) };
+        × (length r.twins.items < 2 ^ 32) × (r.again ≡ marks_below r.due r.front) };
 }
 
 impl RootTwins {
@@ -62,6 +64,7 @@ impl RootTwins {
             twins,
             due,
             front: 0,
+            again: 0,
             used: 0,
             stale: 0,
         })
@@ -75,9 +78,7 @@ impl RootTwins {
         ensures used { self.new.used ≡ max self.old.used (k + 1) }
     {
         let k = k as usize;
-        if k < self.front {
-            self.due.mark(k);
-        }
+        self.mark_looked(k);
         self.used = max(self.used, k + 1);
     }
 
@@ -88,8 +89,18 @@ impl RootTwins {
         ensures used { self.new.used ≡ self.old.used }
     {
         let k = k as usize;
-        if k < self.front {
+        self.mark_looked(k);
+    }
+
+    /// Marks extra root `k`, if it was looked at.
+    #[inline(always)]
+    fn mark_looked(&mut self, k: usize)
+        ensures written { IsWritten self.old self.new k }
+        ensures used { self.new.used ≡ self.old.used }
+    {
+        if k < self.front && !self.due.contains(k) {
             self.due.mark(k);
+            self.again += 1;
         }
     }
 
@@ -99,6 +110,7 @@ impl RootTwins {
     {
         self.stale = max(self.stale, self.front);
         self.front = 0;
+        self.again = 0;
     }
 
     /// Returns the first extra root that has to be looked at.
@@ -117,6 +129,14 @@ impl RootTwins {
         } else {
             None
         }
+    }
+
+    /// Returns the number of looks until no extra root has to be looked at, if none is written.
+    #[inline(always)]
+    pub fn looks_left(&self) -> u32
+        ensures { result ≡ looks_left self.now }
+    {
+        (self.again + max(self.used, self.stale).saturating_sub(self.front)) as u32
     }
 
     /// Returns the number of the first extra root that is not in use.
@@ -145,6 +165,8 @@ impl RootTwins {
         ensures looked { MatchResult result (IsLooked self.old self.new (roots_of heap.now.mutators) k) (λ a. (self.new ≡ self.old) × IsMissing (collection_in collection.now)
             (graph_in heap.now) (roots_of heap.now.mutators) (length (graph_in heap.now).roots) (roots_of heap.now.mutators + k) a.0) }
         ensures start { MatchResult result (λ _. ⊤) (λ a. IsTrue (is_start heap.now.space.words a.0)) }
+        // One look less is left, or two less, where the last root in use is nil.
+        ensures less { MatchResult result (λ _. LooksOnce self.old self.new) (λ _. ⊤) }
     {
         let slots = root_count(heap.mutators());
         match collection.root_twin(heap, slots + k) {
@@ -163,6 +185,7 @@ impl RootTwins {
         requires within { slots + self.old.used ≤ length heap.now.roots }
         ensures keeps { (s : State) → s.heap.graph ≡ graph_in heap.now → s.mutators ≡ heap.now.mutators → KeepsTwins self.old s → KeepsTwins self.new s }
         ensures rest { self.new ≡ record self.old { used = self.new.used } }
+        ensures used { (self.new.used ≤ self.old.used) × (self.old.used ≤ self.new.used + 1) }
     {
         if twin != 0 {
             return;
@@ -178,13 +201,19 @@ impl RootTwins {
 
     /// Notes that the twin of extra root `k` is this word, where there are so many slots.
     fn looked(&mut self, slots: usize, k: usize, word: u64)
-        requires { slots + k < length self.old.twins }
+        requires within { slots + k < length self.old.twins }
+        requires low { k ≤ self.old.front }
+        requires due { is_due_root self.old k ≡ true }
         ensures looked { IsLooked self.old self.new slots k word }
         ensures used { self.new.used ≡ self.old.used }
     {
         self.twins[slots + k] = word;
         self.due.unmark(k);
-        self.front = max(self.front, k + 1);
+        if k < self.front {
+            self.again -= 1;
+        } else {
+            self.front = k + 1;
+        }
     }
 
     /// Writes the twins of the slots, where no extra root has to be looked at. Then the row is the new roots.
@@ -248,5 +277,6 @@ impl RootTwins {
     {
         self.stale = self.used;
         self.front = 0;
+        self.again = 0;
     }
 }

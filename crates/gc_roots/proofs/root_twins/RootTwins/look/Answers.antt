@@ -6,6 +6,7 @@ use Rattle.gc_heap.specs.Heap.{graph_in}
 use Rattle.gc_copy.specs.Words.{collection_in, open_state}
 use Rattle.gc_copy.specs.Twins.{IsTwin}
 use Rattle.gc_roots.specs.Twins.{IsLooked}
+use Rattle.gc_roots.proofs.Counted.{looks_once}
 use Rattle.gc_roots.proofs.Looks.{missing_next, next_within}
 use Rattle.gc_roots.proofs.Twins.{looked_keeps}
 use Rattle.gc_roots.proofs.root_twins.RootTwins.look.Goals as goal
@@ -27,3 +28,6 @@ returns-in-Ok-clause-keeps c =
     (subst (λ n. IsLooked c.args.self.now c.looked.new.self n c.args.k c.in-Ok.word) slots c.looked.ensures.looked) c.looked.ensures.used c.requires.next.low
     (next_within c.args.self.now state c.args.k c.requires.keeps c.requires.next)
     (subst (λ n. IsTwin (collection_in c.args.collection.now) (root (graph_in c.args.heap.now) (n + c.args.k)) c.in-Ok.word) slots c.in-Ok.ensures.twin) c.requires.keeps)
+
+pub returns-in-Ok-clause-less : goal.returns-in-Ok-clause-less
+returns-in-Ok-clause-less c = looks_once c.args.self.now c.looked.new.self c.trim.new.self c.root_count-slots.result c.args.k c.in-Ok.word c.requires.next c.looked.ensures.looked c.looked.ensures.used c.trim.ensures.rest c.trim.ensures.used.0 c.trim.ensures.used.1

@@ -1,0 +1,63 @@
+-- How many marks lie below a place: what one mark more or less makes of that number, and how many looks are left afterwards.
+use Rattle.std.proofs.lemmas.Grind.{common_steps}
+use Rattle.std.proofs.Common.{◌≡◌, ◌≢◌, ⊎_elim, ℕ, zero, suc, ◌+◌, ◌<◌, ◌≤◌, true, false, List, refl, sym, ap, subst, arith}
+use Rattle.std.proofs.lemmas.Bool.{cases_eq, cases_lt, lt-ltb}
+use Rattle.gc_words.specs.Marks.{is_marked}
+use Rattle.gc_roots.specs.Twins.{RootRow, IsLooked, IsNextRoot, LooksOnce, is_due_root, marks_below}
+
+-- no more marks than places
+pub marks_bounded : (marks : List ℕ) (n : ℕ) → marks_below marks n ≤ n
+marks_bounded marks zero = omega arith
+marks_bounded marks (suc n) = grind (arith, common_steps, marks_bounded marks n)
+
+-- the same marks, as many of them
+pub same_marks : (was now : List ℕ) (n : ℕ) → ((i : ℕ) → i < n → is_marked now i ≡ is_marked was i) → marks_below now n ≡ marks_below was n
+same_marks was now zero same = refl
+same_marks was now (suc n) same = grind (arith, common_steps, same_marks was now n (λ i less. same i (omega (arith, less))), same n (omega arith))
+
+-- one mark more, at k
+pub one_mark_more : (was now : List ℕ) (k n : ℕ) → ((i : ℕ) → i ≢ k → is_marked now i ≡ is_marked was i) → is_marked was k ≡ false → is_marked now k ≡ true → k < n
+    → marks_below now n ≡ marks_below was n + 1
+one_mark_more was now k zero others none marked less = absurd (omega (arith, less))
+one_mark_more was now k (suc n) others none marked less = ⊎_elim
+    (λ same. (let before : is_marked was n ≡ false = subst (λ q. is_marked was q ≡ false) same none in
+    let after : is_marked now n ≡ true = subst (λ q. is_marked now q ≡ true) same marked in
+    grind (arith, common_steps, same_marks was now n (λ i low. others i (λ e. omega (arith, e, low, same))), before, after)))
+    (λ differ. grind (arith, common_steps, one_mark_more was now k n others none marked (omega (arith, less, differ)), others n (λ e. differ (omega (arith, e)))))
+    (cases_eq k n)
+
+-- ---- a look
+
+-- a root below the front that is due is marked
+pub due_is_marked : (row : RootRow) (k : ℕ) → k < row.front → is_due_root row k ≡ true → is_marked row.marks k ≡ true
+due_is_marked row k less due = grind (arith, common_steps, lt-ltb)
+
+-- a root below the front loses its mark
+pub one_mark_less : (was now : List ℕ) (k n : ℕ) → ((i : ℕ) → i ≢ k → is_marked now i ≡ is_marked was i) → is_marked was k ≡ true → is_marked now k ≡ false → k < n
+    → marks_below was n ≡ marks_below now n + 1
+one_mark_less was now k n others marked none less = one_mark_more now was k n (λ i differ. sym (others i differ)) none marked less
+
+-- the front passes a root without a mark
+pub front_passes : (was now : List ℕ) (k : ℕ) → ((i : ℕ) → i ≢ k → is_marked now i ≡ is_marked was i) → is_marked now k ≡ false → marks_below now (suc k) ≡ marks_below was k
+front_passes was now k others none = grind (arith, common_steps, same_marks was now k (λ i less. others i (λ e. omega (arith, e, less))), none)
+
+-- after a look at the next root, one or two looks less are left
+pub looks_once : (row mid now : RootRow) (slots k word : ℕ) → IsNextRoot row k → IsLooked row mid slots k word → mid.used ≡ row.used
+    → now ≡ record mid { used = now.used } → now.used ≤ mid.used → mid.used ≤ now.used + 1 → LooksOnce row now
+looks_once row mid now slots k word next l used is low high = subst (LooksOnce row) (sym is) (⊎_elim below at (cases_lt k row.front))
+  where
+    below : k < row.front → LooksOnce row (record mid { used = now.used })
+    below less =
+        let fewer = one_mark_less row.marks mid.marks k row.front l.others (due_is_marked row k less next.due) l.none less in
+        let same : mid.front ≡ row.front = omega (arith, l.front, less) in
+        let marks : marks_below mid.marks mid.front ≡ marks_below mid.marks row.front = ap (marks_below mid.marks) same in
+        record { less = omega (arith, fewer, same, marks, used, l.stale, low, high); few = omega (arith, fewer, same, marks, used, l.stale, low, high) }
+
+    at : row.front ≤ k → LooksOnce row (record mid { used = now.used })
+    at past =
+        let here : k ≡ row.front = omega (arith, past, next.low) in
+        let passes = front_passes row.marks mid.marks k l.others l.none in
+        let front : mid.front ≡ suc k = omega (arith, l.front, here) in
+        let marks : marks_below mid.marks mid.front ≡ marks_below mid.marks (suc k) = ap (marks_below mid.marks) front in
+        let old : marks_below row.marks row.front ≡ marks_below row.marks k = ap (marks_below row.marks) (sym here) in
+        record { less = omega (arith, passes, marks, old, front, here, used, l.stale, low, high, next.within); few = omega (arith, passes, marks, old, front, here, used, l.stale, low, high, next.within) }
