@@ -20,11 +20,10 @@ use Rattle.gc_graph.specs.declared.reply.Reply.{Reply}
 use Rattle.gc_graph.specs.declared.reply.Reply.TheVariants as replies
 use Rattle.gc_plan.specs.State.{Collection, State}
 use Rattle.gc_copy.specs.Words.{CollectionWords, LinksNothing, collection_in, state_of, idle_state}
-use Rattle.gc_plan.specs.Staying.{HasReplicaOf, IsMissing, KnowsRoot, root_written}
-use Rattle.gc_plan.specs.Steps.{mutate, collect, root_target}
+use Rattle.gc_plan.specs.Staying.{HasReplicaOf, KnowsRoot, root_written}
+use Rattle.gc_plan.specs.Steps.{mutate, collect}
 use Rattle.gc_plan.specs.declared.step.Step.{Step}
 use Rattle.gc_plan.specs.declared.step.Step.TheVariants as steps
-use Rattle.gc_copy.specs.declared.collection.roots.MissingRoot.{MissingRoot}
 use Rattle.gc_plan.proofs.Public.{all_replicated, first_missing, steps_stay, collect_stays, mutate_stays}
 use Rattle.gc_collected.specs.CollectedHeap.{fill_step, filled, new_from_step}
 use Rattle.gc_collected.specs.Internal.CollectedHeap.{Fits}
@@ -32,6 +31,9 @@ use Rattle.gc_collected.specs.Internal.KnownRoots.{HasWritten, KnowsRoots}
 use Rattle.gc_roots.specs.Twins.{KeepsTwins, IsDone}
 use Rattle.gc_roots.proofs.Public.{extra_known, opening_keeps, root_command as root_twins, slot_command as slot_twins, step_keeps as step_twins}
 use Rattle.gc_collected.specs.declared.known.KnownRoots.{KnownRoots}
+use Rattle.gc_collected.specs.declared.known.Found.{Found}
+use Rattle.gc_collected.specs.declared.known.Found.TheVariants.{Missing, AllKnown, Unfinished}
+use Rattle.gc_collected.specs.Internal.Found.{IsFirst, IsMissingExtra}
 
 -- what is known of a heap and its roots, with what the monitor has compared
 pub with_looks : {A B C : Type 0} → C → A × B → A × B × C
@@ -196,16 +198,17 @@ module _ (known : KnownRoots) (s : State) (c : Collection) (is : s.collection �
       (cases_lt p (roots_of s.mutators))
 
 -- and the first root without a replica, where the slots have theirs
-pub rest_found : (c : Collection) (g : Graph) (slots : ℕ) (found : Option MissingRoot) → ((p : ℕ) → p < slots → HasReplicaOf c (root g p)) → (found ≡ None → (p : ℕ) → HasReplicaOf c (root g p))
-    → IfSome found (λ r. IsMissing c g slots (length g.roots) r.place r.target.0) → option_map (λ (r : MissingRoot). r.target.0) found ≡ root_target c g
-rest_found c g slots None first none some = sym (all_replicated c g (λ p l. none refl p))
-rest_found c g slots (Some r) first none some = sym (first_missing c g (length g.roots) r.place r.target.0 (record {
+pub rest_found : (c : Collection) (g : Graph) (slots : ℕ) (found : Found) → ((p : ℕ) → p < slots → HasReplicaOf c (root g p)) → (found ≡ AllKnown → (p : ℕ) → HasReplicaOf c (root g p))
+    → IsMissingExtra c g slots found → IsFirst c g found
+rest_found c g slots Unfinished first none some = tt
+rest_found c g slots AllKnown first none some = all_replicated c g (λ p l. none refl p)
+rest_found c g slots (Missing r) first none some = first_missing c g (length g.roots) r.place r.target.0 (record {
   low = omega arith;
   high = some.high;
   before = λ p low less. ⊎_elim (λ a. first p a) (λ b. some.before p b less) (cases_lt p slots);
   target = some.target;
   missing = some.missing;
-}))
+})
 
 -- ---- commands that fill fields
 

@@ -1,6 +1,6 @@
 -- A collected heap as contracts see it: the core's state, and beside it how its flips are checked, the memory that waits, and what the last flip
 -- left.
-use Rattle.std.specs.Prelude.{Option, None, ◌≡◌, ◌≢◌, ◌⊎◌, ℕ, zero, suc, ◌+◌, ◌-◌, ◌^◌, ◌==◌, ◌&&◌, ◌||◌, not, min, nat_le, nat_lt, Bool, true, false, if◌then◌else◌, is_some}
+use Rattle.std.specs.Prelude.{Option, None, ◌≡◌, ◌≢◌, ◌⊎◌, ℕ, zero, suc, ◌+◌, ◌-◌, ◌*◌, ◌≤◌, ◌^◌, ◌==◌, ◌&&◌, ◌||◌, not, min, nat_le, nat_lt, Bool, true, false, if◌then◌else◌, is_some}
 use Rattle.gc_cert.specs.Grammar.{CertifiedPair}
 use Rattle.gc_copy.specs.Words.{RoomWords, held_in}
 use Rattle.gc_plan.specs.State.{State}
@@ -36,9 +36,11 @@ pub record Beside : Type 0 where
   pub former : Option RoomWords
   pub pair : Option CertifiedPair
 
+-- `roots_left`: how many looks at extra roots are left until the open collection knows each of them, or would be after a begin.
 pub record Collected : Type 0 where
   pub core : State
   pub beside : Beside
+  pub roots_left : ℕ
 
 -- ---- how flips are checked
 
@@ -133,9 +135,16 @@ rooms_given_back r = record r { leaving = r.leaving - slice }
 abbrev pub with_rooms : Collected → Rooms → Collected
 with_rooms h r = record h { beside = record h.beside { rooms = r } }
 
--- nothing has changed but the memory that waits
+-- nothing has changed but the memory that waits, and how many looks are left
 abbrev pub IsUnchangedButRooms : Collected → Collected → Type 0
-IsUnchangedButRooms old new = new ≡ with_rooms old new.beside.rooms
+IsUnchangedButRooms old new = new ≡ record (with_rooms old new.beside.rooms) { roots_left = new.roots_left }
+
+-- ---- looks at extra roots
+
+-- after so many looks one look less is left for each, or two less where the last extra root in use was found to be nil
+pub record HasLookedOn (looks old new : ℕ) : Type 0 where
+  pub less : new + looks ≤ old
+  pub few : old ≤ new + 2 * looks
 
 -- ---- many flips
 

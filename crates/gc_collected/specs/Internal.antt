@@ -2,6 +2,7 @@
 pub mod Beside
 pub mod CollectedHeap
 pub mod Flip
+pub mod Found
 pub mod Follows
 pub mod KnownRoots
 pub mod Knows

@@ -1,4 +1,4 @@
-ghost use Rattle.std.specs.Prelude.{◌≡◌, ◌<◌, ◌^◌, IfOk, IsTrue, OnErr, length};
+ghost use Rattle.std.specs.Prelude.{◌≡◌, ◌<◌, ◌≤◌, ◌^◌, IfOk, IsTrue, OnErr, length};
 ghost use Rattle.gc_heap.specs.Heap.{graph_in};
 ghost use Rattle.gc_plan.specs.Steps.{is_ready};
 ghost use Rattle.gc_copy.specs.Words.{BelongsTo, collection_in, open_state};
@@ -44,7 +44,9 @@ impl CollectedHeap {
         ensures sound { IfOk result (HoldsOnly IsCertified self.old.core) }
         // Only the check of a ready collection allocates.
         ensures allocates { OnErr result (Allocates self.old.core Step.Flip) }
-        ensures same { self.new ≡ self.old }
+        ensures core { self.new.core ≡ self.old.core }
+        ensures beside { self.new.beside ≡ self.old.beside }
+        ensures looks { self.new.roots_left ≤ self.old.roots_left }
     {
         if let Some(refusal) = self.shape_refusal() {
             return Ok(Finding::Refused(refusal));

@@ -53,7 +53,7 @@ impl Model for CollectedHeap {
     ghost use Rattle.gc_copy.specs.Words.{collection_in, held_in, state_of};
     ghost use Rattle.gc_collected.specs.Internal.Follows.{Follows};
     ghost use Rattle.gc_collected.specs.Internal.CollectedHeap.{Fits};
-    ghost use Rattle.gc_collected.specs.Internal.KnownRoots.{ComparesTwins, KnowsRoots};
+    ghost use Rattle.gc_collected.specs.Internal.KnownRoots.{ComparesTwins, KnowsRoots, roots_left_in};
 
     ghost view = { λ h. record {
       core = state_of h.heap (option_map collection_in h.collection);
@@ -63,6 +63,7 @@ impl Model for CollectedHeap {
         former = h.former;
         pair = option_map pair_in h.pair;
       };
+      roots_left = roots_left_in h.collection h.known.twins;
     } };
 
     ghost invariant = { λ h. (Fits h.epoch h.heap h.collection × KnowsRoots h.known (state_of h.heap (option_map collection_in h.collection))

@@ -8,8 +8,11 @@ ghost use Rattle.gc_words.specs.Image.{is_start};
 ghost use Rattle.gc_plan.specs.Staying.{IsMissing};
 ghost use Rattle.gc_plan.specs.Steps.{root_target};
 ghost use Rattle.gc_copy.specs.Words.{collection_in, open_state, BelongsTo};
-ghost use Rattle.gc_roots.specs.Twins.{IsDone, begun};
+ghost use Rattle.gc_roots.specs.Twins.{IsDone, begun, looks_left};
 ghost use Rattle.gc_collected.specs.Internal.KnownRoots.{ComparesTwins, HasStored, HasStoredPlain, HasWritten, KnowsRoots};
+ghost use Rattle.gc_collected.specs.Internal.Found.{IsAtStart, IsFirst, IsMissingExtra};
+ghost use Rattle.gc_collected.specs.Collected.{HasLookedOn};
+ghost use Rattle.gc_collected.specs.declared.known.Found.{Found};
 
 use gc_along::Standing;
 use gc_copy::{Collection, MissingRoot};
@@ -131,8 +134,108 @@ pub(crate) fn missing(
     collection.first_root(heap)
 }
 
-/// Searches the roots that are not known to have replicas of their targets, up to the first without. Reads each of them once, and brings the twin of
-/// each extra root up to date that it passes. The monitor compares it.
+/// What a search of the roots found.
+#[derive(Clone, Copy, Debug, Drop, PartialEq, Eq)]
+pub(crate) enum Found {
+    /// The first root whose target has no replica.
+    Missing(MissingRoot),
+    /// Each root's target has a replica.
+    AllKnown,
+    /// The search took as many looks as it might, and extra roots are left to look at.
+    Unfinished,
+}
+
+/// How far a search came.
+#[derive(Clone, Copy, Debug, Drop, PartialEq, Eq)]
+pub(crate) struct Searched {
+    /// The number of extra roots that it looked at and whose targets have replicas.
+    pub(crate) looks: u32,
+    pub(crate) found: Found,
+}
+
+/// Searches the roots that are not known to have replicas of their targets, up to the first without, and looks at no more than `most` extra roots.
+/// Reads each root once, and brings the twin of each extra root up to date that it passes. The monitor compares it.
+pub(crate) fn search_within(
+    collection: &Collection,
+    heap: &Heap,
+    watch: &Standing,
+    known: &mut KnownRoots,
+    most: u32,
+) -> Searched
+    requires belongs { BelongsTo heap.now collection.now }
+    requires knows { KnowsRoots known.old (open_state heap.now collection.now) }
+    ensures knows { KnowsRoots known.new (open_state heap.now collection.now) }
+    ensures compares { ComparesTwins known.old → ComparesTwins known.new }
+    ensures first { IsFirst (collection_in collection.now) (graph_in heap.now) result.found }
+    ensures start { IsAtStart heap.now.space.words result.found }
+    ensures done { result.found ≡ Found.AllKnown → IsDone known.new.twins }
+    ensures looks { HasLookedOn result.looks (looks_left known.old.twins) (looks_left known.new.twins) }
+    ensures within { result.looks ≤ most }
+    ensures unfinished { result.found ≡ Found.Unfinished → (result.looks ≡ most) × (1 ≤ looks_left known.new.twins) }
+{
+    let slots = root_count(heap.mutators());
+    if let Some(missing) = collection.missing_root(heap, known.slots, slots) {
+        known.slots = missing.place;
+        return Searched {
+            looks: 0,
+            found: Found::Missing(missing),
+        };
+    }
+    known.slots = slots;
+    search_extra(collection, heap, watch, known, most)
+}
+
+/// Searches the extra roots whose twins may be out of date, as `search_within` does.
+fn search_extra(
+    collection: &Collection,
+    heap: &Heap,
+    watch: &Standing,
+    known: &mut KnownRoots,
+    most: u32,
+) -> Searched
+    requires belongs { BelongsTo heap.now collection.now }
+    requires knows { KnowsRoots known.old (open_state heap.now collection.now) }
+    ensures knows { KnowsRoots known.new (open_state heap.now collection.now) }
+    ensures compares { ComparesTwins known.old → ComparesTwins known.new }
+    ensures missing { IsMissingExtra (collection_in collection.now) (graph_in heap.now) (roots_of heap.now.mutators) result.found }
+    ensures start { IsAtStart heap.now.space.words result.found }
+    ensures done { result.found ≡ Found.AllKnown → IsDone known.new.twins }
+    ensures looks { HasLookedOn result.looks (looks_left known.old.twins) (looks_left known.new.twins) }
+    ensures within { result.looks ≤ most }
+    ensures unfinished { result.found ≡ Found.Unfinished → (result.looks ≡ most) × (1 ≤ looks_left known.new.twins) }
+{
+    let slots = root_count(heap.mutators());
+    let mut looks: u32 = 0;
+    while let Some(k) = known.twins.next() {
+        if looks == most {
+            return Searched {
+                looks,
+                found: Found::Unfinished,
+            };
+        }
+        match known.twins.look(heap, collection, k) {
+            Err(target) => {
+                let place = slots + k;
+                return Searched {
+                    looks,
+                    found: Found::Missing(MissingRoot { place, target }),
+                };
+            }
+            Ok(twin) => {
+                let word = heap.roots()[slots + k];
+                known.looks.look(watch, k as u32, word, twin);
+                looks += 1;
+            }
+        }
+    }
+    Searched {
+        looks,
+        found: Found::AllKnown,
+    }
+}
+
+/// Searches the roots that are not known to have replicas of their targets, up to the first without, as `search_within` does, and however many extra
+/// roots it has to look at.
 pub(crate) fn search(
     collection: &Collection,
     heap: &Heap,
@@ -146,43 +249,12 @@ pub(crate) fn search(
     ensures first { option_map (λ r. r.target.0) result ≡ root_target (collection_in collection.now) (graph_in heap.now) }
     ensures start { IfSome result (λ r. IsTrue (is_start heap.now.space.words r.target.0)) }
     ensures done { result ≡ None → IsDone known.new.twins }
+    ensures looks { looks_left known.new.twins ≤ looks_left known.old.twins }
 {
-    let slots = root_count(heap.mutators());
-    if let Some(missing) = collection.missing_root(heap, known.slots, slots) {
-        known.slots = missing.place;
-        return Some(missing);
+    // No more looks are left than one search may take.
+    let left = known.twins.looks_left();
+    match search_within(collection, heap, watch, known, left).found {
+        Found::Missing(missing) => Some(missing),
+        Found::AllKnown | Found::Unfinished => None,
     }
-    known.slots = slots;
-    search_extra(collection, heap, watch, known)
-}
-
-/// Searches the extra roots whose twins may be out of date, as `search` does.
-fn search_extra(
-    collection: &Collection,
-    heap: &Heap,
-    watch: &Standing,
-    known: &mut KnownRoots,
-) -> Option<MissingRoot>
-    requires belongs { BelongsTo heap.now collection.now }
-    requires knows { KnowsRoots known.old (open_state heap.now collection.now) }
-    ensures knows { KnowsRoots known.new (open_state heap.now collection.now) }
-    ensures compares { ComparesTwins known.old → ComparesTwins known.new }
-    ensures missing { IfSome result (λ r. IsMissing (collection_in collection.now) (graph_in heap.now)
-        (roots_of heap.now.mutators) (length (graph_in heap.now).roots) r.place r.target.0) }
-    ensures start { IfSome result (λ r. IsTrue (is_start heap.now.space.words r.target.0)) }
-    ensures done { result ≡ None → IsDone known.new.twins }
-{
-    let slots = root_count(heap.mutators());
-    while let Some(k) = known.twins.next() {
-        match known.twins.look(heap, collection, k) {
-            Err(target) => {
-                let place = slots + k;
-                return Some(MissingRoot { place, target });
-            }
-            Ok(twin) => known
-                .looks
-                .look(watch, k as u32, heap.roots()[slots + k], twin),
-        }
-    }
-    None
 }

@@ -31,3 +31,4 @@ pub use flip::Keep;
 pub use laws::{flips_are_counted, runs_are_legal};
 pub use mixed::{FieldSource, SourceRow};
 pub use reading::NewSpace;
+pub use steps::Choice;

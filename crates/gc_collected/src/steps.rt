@@ -1,6 +1,6 @@
 //! The steps of a collection, but for its flip, and the choice of the useful step.
 
-ghost use Rattle.std.specs.Prelude.{◌≡◌, not, if◌then◌else◌};
+ghost use Rattle.std.specs.Prelude.{◌≡◌, not, if◌then◌else◌, Some};
 ghost use Rattle.std.specs.Option.{option_map_or};
 ghost use Rattle.gc_plan.specs.Steps.{collect, scan_done, first_log};
 ghost use Rattle.gc_copy.specs.Words.{BelongsTo, LinksNothing, collection_in, idle_state, open_state};
@@ -10,7 +10,7 @@ ghost use Rattle.gc_plan.specs.declared.step.StepReply.{StepReply};
 use crate::barrier;
 use crate::collected_heap::CollectedHeap;
 use crate::flip::Keep;
-use crate::known::{all_known, missing, search};
+use crate::known::{Found, Searched, all_known, missing, search, search_within};
 use crate::rooms::{keep_room, room_for};
 use gc_check::Checks;
 use gc_copy::{Collection, Room, Step, StepReply, StepRun};
@@ -19,15 +19,36 @@ use gc_heap::Heap;
 use gc_plan::root_replicas_stay;
 use std::cmp::max;
 
+/// The useful step, and the looks that it took to find it.
+#[derive(Clone, Copy, Debug, Drop, PartialEq, Eq)]
+pub struct Choice {
+    /// The number of extra roots that were looked at.
+    pub looks: u32,
+    /// The step, if it was found.
+    pub step: Option<Step>,
+}
+
+impl Choice {
+    // A step that took no look.
+    fn at_once(step: Step) -> Choice
+        ensures { (result.looks ≡ 0) × (result.step ≡ Some step) }
+    {
+        Choice {
+            looks: 0,
+            step: Some(step),
+        }
+    }
+}
+
 impl CollectedHeap {
-    ghost use Rattle.std.specs.Prelude.{◌≡◌, ◌≢◌, ◌<◌, ◌≤◌, ◌⊎◌, None, IfOk, IsTrue, IsFalse, OnErr};
+    ghost use Rattle.std.specs.Prelude.{◌≡◌, ◌≢◌, ◌<◌, ◌≤◌, ◌⊎◌, None, IfOk, IfSome, IsTrue, IsFalse, OnErr};
     ghost use Rattle.gc_plan.specs.Steps.{collect, useful_step};
     ghost use Rattle.gc_plan.specs.Runs.{IsStep};
     ghost use Rattle.gc_copy.specs.StepRuns.{IsApplyRun, IsScanRun};
     ghost use Rattle.gc_plan.specs.declared.step.StepReply.{StepReply};
     ghost use Rattle.gc_along.specs.Claims.{Accepts};
     ghost use Rattle.gc_along.specs.Tables.{Tables};
-    ghost use Rattle.gc_collected.specs.Collected.{BeginsIn, HasStepped, IsUnchangedButRooms, WereRefused, checks_whole, rooms_flipped, rooms_given_up, turns_after};
+    ghost use Rattle.gc_collected.specs.Collected.{BeginsIn, HasLookedOn, HasStepped, IsUnchangedButRooms, WereRefused, checks_whole, rooms_flipped, rooms_given_up, turns_after};
     ghost use Rattle.gc_collected.specs.CollectedHeap.{Allocates};
     ghost use Rattle.gc_collected.specs.Flip.{FlipsOnly, FormerAfter, HasAccepted, HasRoomIfLarge, IsCertified, PassesIfReady, new_size, pair_after};
 
@@ -65,6 +86,9 @@ impl CollectedHeap {
         ensures due { step ≡ Step.Flip → OnErr result (IsTrue (checks_whole keep self.old.beside.turns)) }
         ensures allocates { OnErr result (Allocates self.old.core step) }
         ensures mutators { self.new.core.mutators ≡ self.old.core.mutators }
+        // But for a flip and a collection that is given up, a step leaves no more looks than there were. Only `Roots` looks.
+        ensures looks { step ≢ Step.Flip → step ≢ Step.Drop → self.new.roots_left ≤ self.old.roots_left }
+        ensures no_looks { step ≢ Step.Flip → step ≢ Step.Drop → step ≢ Step.Roots → self.new.roots_left ≡ self.old.roots_left }
     {
         match step {
             Step::Begin => self.begin(),
@@ -93,6 +117,7 @@ impl CollectedHeap {
         ensures refused { OnErr result (IsUnchangedButRooms self.old self.new) }
         ensures freed { OnErr result (WereRefused self.old.beside.rooms self.new.beside.rooms) }
         ensures allocates { OnErr result (Allocates self.old.core (Step.BeginSized size)) }
+        ensures looks { self.new.roots_left ≡ self.old.roots_left }
         ensures mutators { self.new.core.mutators ≡ self.old.core.mutators }
     {
         if self.collection.is_some() {
@@ -127,6 +152,7 @@ impl CollectedHeap {
         ensures refused { OnErr result (IsUnchangedButRooms self.old self.new) }
         ensures freed { OnErr result (WereRefused self.old.beside.rooms self.new.beside.rooms) }
         ensures allocates { OnErr result (Allocates self.old.core Step.Begin) }
+        ensures looks { self.new.roots_left ≡ self.old.roots_left }
         ensures mutators { self.new.core.mutators ≡ self.old.core.mutators }
     {
         let size = self.heap.space().size();
@@ -140,6 +166,7 @@ impl CollectedHeap {
         ensures room { HasRoomIfLarge self.old.core result }
         ensures mutators { self.new.core.mutators ≡ self.old.core.mutators }
         ensures beside { self.new.beside ≡ self.old.beside }
+        ensures looks { self.new.roots_left ≤ self.old.roots_left }
     {
         let Some(collection) = &mut self.collection else {
             return StepReply::Idle;
@@ -156,6 +183,7 @@ impl CollectedHeap {
         ensures room { HasRoomIfLarge self.old.core result }
         ensures mutators { self.new.core.mutators ≡ self.old.core.mutators }
         ensures beside { self.new.beside ≡ self.old.beside }
+        ensures looks { self.new.roots_left ≡ self.old.roots_left }
     {
         root_replicas_stay();
         match &mut self.collection {
@@ -172,6 +200,7 @@ impl CollectedHeap {
         ensures within { result.steps ≤ most }
         ensures mutators { self.new.core.mutators ≡ self.old.core.mutators }
         ensures beside { self.new.beside ≡ self.old.beside }
+        ensures looks { self.new.roots_left ≡ self.old.roots_left }
     {
         match &mut self.collection {
             None => StepRun {
@@ -192,6 +221,7 @@ impl CollectedHeap {
         ensures room { HasRoomIfLarge self.old.core result }
         ensures mutators { self.new.core.mutators ≡ self.old.core.mutators }
         ensures beside { self.new.beside ≡ self.old.beside }
+        ensures looks { self.new.roots_left ≡ self.old.roots_left }
     {
         root_replicas_stay();
         match &mut self.collection {
@@ -211,6 +241,7 @@ impl CollectedHeap {
         ensures within { result.steps ≤ most }
         ensures mutators { self.new.core.mutators ≡ self.old.core.mutators }
         ensures beside { self.new.beside ≡ self.old.beside }
+        ensures looks { self.new.roots_left ≡ self.old.roots_left }
     {
         match &mut self.collection {
             None => StepRun {
@@ -262,7 +293,9 @@ impl CollectedHeap {
     pub fn next_useful_step(&mut self) -> Step
         ensures useful { result ≡ useful_step self.old.core }
         ensures step { IsStep self.old.core.mutators result }
-        ensures same { self.new ≡ self.old }
+        ensures core { self.new.core ≡ self.old.core }
+        ensures beside { self.new.beside ≡ self.old.beside }
+        ensures looks { self.new.roots_left ≤ self.old.roots_left }
     {
         let Some(collection) = &self.collection else {
             return Step::Begin;
@@ -274,6 +307,52 @@ impl CollectedHeap {
             return Step::Roots;
         }
         step_after_roots(collection)
+    }
+
+    /// Returns the useful step, as `next_useful_step` does, or `None` if it takes more than `most` looks at extra roots to find it.
+    #[inline(always)]
+    pub fn choose_step(&mut self, most: u32) -> Choice
+        ensures useful { IfSome result.step (λ step. step ≡ useful_step self.old.core) }
+        ensures step { IfSome result.step (IsStep self.old.core.mutators) }
+        ensures core { self.new.core ≡ self.old.core }
+        ensures beside { self.new.beside ≡ self.old.beside }
+        ensures looks { HasLookedOn result.looks self.old.roots_left self.new.roots_left }
+        ensures within { result.looks ≤ most }
+        // It took them all, and more are left.
+        ensures none { result.step ≡ None → (result.looks ≡ most) × (1 ≤ self.new.roots_left) }
+    {
+        let Some(collection) = &self.collection else {
+            return Choice::at_once(Step::Begin);
+        };
+        let known = &mut self.known;
+        if all_known(collection, &self.heap, known) {
+            return Choice::at_once(step_after_roots(collection));
+        }
+        let Searched { looks, found } = search_within(
+            collection,
+            &self.heap,
+            &self.watch,
+            known,
+            most,
+        );
+        let step = match found {
+            Found::Missing(_) => Some(Step::Roots),
+            Found::AllKnown => Some(step_after_roots(collection)),
+            Found::Unfinished => None,
+        };
+        Choice { looks, step }
+    }
+
+    /// Returns how many looks at extra roots are left until the open collection knows each of them, or would be after a begin.
+    #[inline(always)]
+    pub fn roots_left(&self) -> u32
+        ensures { result ≡ self.now.roots_left }
+    {
+        if self.collection.is_some() {
+            self.known.twins.looks_left()
+        } else {
+            self.known.twins.looks_begun()
+        }
     }
 }
 

@@ -26,6 +26,14 @@ one_mark_more was now k (suc n) others none marked less = ⊎_elim
     (λ differ. grind (arith, common_steps, one_mark_more was now k n others none marked (omega (arith, less, differ)), others n (λ e. differ (omega (arith, e)))))
     (cases_eq k n)
 
+-- a mark counts
+pub some_mark : (marks : List ℕ) (k n : ℕ) → is_marked marks k ≡ true → k < n → 1 ≤ marks_below marks n
+some_mark marks k zero marked less = absurd (omega (arith, less))
+some_mark marks k (suc n) marked less = ⊎_elim
+    (λ same. (let here : is_marked marks n ≡ true = subst (λ q. is_marked marks q ≡ true) same marked in grind (arith, common_steps, here)))
+    (λ differ. grind (arith, common_steps, some_mark marks k n marked (omega (arith, less, differ))))
+    (cases_eq k n)
+
 -- ---- a look
 
 -- a root below the front that is due is marked

@@ -115,9 +115,11 @@ impl RootTwins {
 
     /// Returns the first extra root that has to be looked at.
     #[inline(always)]
+    #[tactic(auto, using(crate::proofs::Counted::some_mark))]
     pub fn next(&self) -> Option<usize>
         ensures none { result ≡ None → IsDone self.now }
         ensures next { IfSome result (IsNextRoot self.now) }
+        ensures left { IfSome result (λ _. 1 ≤ looks_left self.now) }
     {
         if let Some(k) = self.due.first() {
             if k < self.front {
@@ -137,6 +139,14 @@ impl RootTwins {
         ensures { result ≡ looks_left self.now }
     {
         (self.again + max(self.used, self.stale).saturating_sub(self.front)) as u32
+    }
+
+    /// Returns how many looks a collection takes that begins now, if no extra root is written.
+    #[inline(always)]
+    pub fn looks_begun(&self) -> u32
+        ensures { result ≡ looks_left (begun self.now) }
+    {
+        max(self.used, max(self.stale, self.front)) as u32
     }
 
     /// Returns the number of the first extra root that is not in use.

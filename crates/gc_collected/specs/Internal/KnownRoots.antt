@@ -1,10 +1,11 @@
 -- What a collected heap knows of its roots.
-use Rattle.std.specs.Prelude.{◌≡◌, ℕ, ◌<◌, ◌≤◌, ◌+◌, ◌-◌, max}
+use Rattle.std.specs.Prelude.{◌≡◌, ℕ, ◌<◌, ◌≤◌, ◌+◌, ◌-◌, max, Option, Some, None}
 use Rattle.gc_graph.specs.Slots.{roots_of}
 use Rattle.gc_plan.specs.State.{State}
 use Rattle.gc_plan.specs.Staying.{KnowsRoot}
 use Rattle.gc_roots.specs.Looks.{ComparesKnown}
-use Rattle.gc_roots.specs.Twins.{IsWritten, KeepsTwins}
+use Rattle.gc_copy.specs.Words.{CollectionWords}
+use Rattle.gc_roots.specs.Twins.{RootRow, IsWritten, KeepsTwins, begun, looks_left}
 use Rattle.gc_collected.specs.declared.known.KnownRoots.{KnownRoots}
 
 -- If a collection is open, it has replicas of the targets of the first `slots` roots, and the row has the twins of extra roots.
@@ -12,6 +13,11 @@ pub record KnowsRoots (known : KnownRoots) (s : State) : Type 0 where
   pub slots_high : known.slots ≤ roots_of s.mutators
   pub slots : (p : ℕ) → p < known.slots → KnowsRoot s p
   pub keeps : KeepsTwins known.twins s
+
+-- The looks that are left. A begin looks at nothing before.
+abbrev pub roots_left_in : Option CollectionWords → RootRow → ℕ
+roots_left_in None row = looks_left (begun row)
+roots_left_in (Some c) row = looks_left row
 
 -- the monitor has compared only extra roots whose twins are up to date
 abbrev pub ComparesTwins : KnownRoots → Type 0
