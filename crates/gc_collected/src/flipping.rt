@@ -69,6 +69,7 @@ impl CollectedHeap {
         ensures allocates { OnErr result (Allocates self.old.core Step.Flip) }
         ensures memory { OnErr result (IsTrue (checks_whole keep self.old.beside.turns)) }
         ensures mutators { self.new.core.mutators ≡ self.old.core.mutators }
+        ensures looked { OnErr result (self.new.roots_left ≤ self.old.roots_left) }
     {
         self.is_sound();
         self.is_watched();

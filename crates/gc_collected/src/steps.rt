@@ -89,6 +89,7 @@ impl CollectedHeap {
         // But for a flip and a collection that is given up, a step leaves no more looks than there were. Only `Roots` looks.
         ensures looks { step ≢ Step.Flip → step ≢ Step.Drop → self.new.roots_left ≤ self.old.roots_left }
         ensures no_looks { step ≢ Step.Flip → step ≢ Step.Drop → step ≢ Step.Roots → self.new.roots_left ≡ self.old.roots_left }
+        ensures looked { OnErr result (self.new.roots_left ≤ self.old.roots_left) }
     {
         match step {
             Step::Begin => self.begin(),
