@@ -26,7 +26,7 @@ use Rattle.gc_pace.specs.declared.pace.Pace.{Pace}
 use Rattle.gc_pace.specs.declared.work.Work.{Work}
 use Rattle.gc_pace.proofs.Left.{counts_bound, end_at, logged_all}
 use Rattle.gc_pace.proofs.Paid.{not_zero}
-use Rattle.gc_pace.proofs.PacedCalls.{due_work, on_of}
+use Rattle.gc_pace.proofs.PacedCalls.{due_work, on_of, work_falls}
 use Rattle.gc_pace.proofs.Turns.{IsRaised, call_keeps, call_remembers, raised}
 
 -- ---- numbers
@@ -127,9 +127,14 @@ module _ (s : State) (pace : Pace) (turn : Turn) (h : IsState s) (remembers : Re
     | inl none ↦ (let zero_due : steps_due pace (counts_of u) turn.wanted ≡ 0 = omega (arith, none) in
         let idle = (k.work).none zero_due in
         (omega (arith, ap work_left idle.0, performed, none), (ap (λ (x : State). x.heap) idle.0, ap (λ (x : State). x.size) idle.0)))
-    | inr some ↦ (let done = due_work pace (steps_due pace (counts_of u) turn.wanted) u turn.state turn.work ((k.work).some some) ((k.work).within some) in
-        let on = on_of turn.work done.reply done.last (k.goes_on).going in
-        (done.run.falls on, run_same turn.work.steps u turn.state done.reply done.run on))
+    | inr some ↦ (let due = steps_due pace (counts_of u) turn.wanted in
+        let done = due_work pace due u turn.state turn.work some ((k.work).some some) ((k.work).within some) in (
+          work_falls pace due u turn.state turn.work done (k.goes_on).going,
+          elim (cases_lt turn.work.steps 1) [
+            | inl none ↦ (let idle = done.none (omega (arith, none)) in (ap (λ (x : State). x.heap) idle, ap (λ (x : State). x.size) idle))
+            | inr steps ↦ (let p = done.some steps in run_same turn.work.steps u turn.state p.0 p.1 (on_of turn.work p.0 p.2 (k.goes_on).going))
+          ],
+        ))
   ]
 
   bound : work_left u ≤ steps_left (counts_of u)
@@ -213,8 +218,8 @@ turns_most s pace turns most h remembers k few rate some low =
 all_due : (pace : Pace) (counts : Counts) (wanted : ℕ) → counts.free ≤ wanted → steps_left counts ≤ 4294967295 → steps_left counts ≤ steps_due pace counts wanted
 all_due pace counts wanted low few = grind (arith, common_steps, not_zero)
 
-took_none : (before : Pace) (work : Work) → before.words ≡ 0 → took_its_words before work ≡ false
-took_none before work free = grind (arith, common_steps)
+took_none : (before : Pace) (due : ℕ) (work : Work) → before.words ≡ 0 → took_its_words before due work ≡ false
+took_none before due work free = grind (arith, common_steps)
 
 pub room_or_end : (wanted : ℕ) (s t : State) (before after : Pace) (work : Work) → IsPacedWork wanted s t before after work → CountsAll (counts_of s) → steps_left (counts_of s) ≤ 4294967295 → before.words ≡ 0
     → (wanted < (counts_of s).free) ⊎ HasEnded t work
@@ -222,6 +227,6 @@ room_or_end wanted s t before after work paced counted few free = elim (cases_lt
   | inl room ↦ inl room
   | inr none ↦ elim (paced.enough counted (all_due before (counts_of s) wanted none few)) [
     | inl ended ↦ inr ended
-    | inr took ↦ absurd (let no : false ≡ true = sym (took_none before work free) ∙ took in cc)
+    | inr took ↦ absurd (let no : false ≡ true = sym (took_none before (steps_due before (counts_of s) wanted) work free) ∙ took in cc)
   ]
 ]

@@ -2,6 +2,7 @@
 mod Flips
 pub mod FormerRuns
 pub mod Joined
+mod Performed
 pub mod KeepsUp
 pub mod Left
 pub mod Logged

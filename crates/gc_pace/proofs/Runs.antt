@@ -1,6 +1,6 @@
 -- A run of useful steps that goes on with one more is a run.
 use Rattle.std.proofs.lemmas.Grind.{common_steps}
-use Rattle.std.proofs.Common.{◌≡◌, ℕ, suc, ◌-◌, ◌<◌, Option, true, sym, ap, ◌∙◌, subst, ⊎_elim, arith}
+use Rattle.std.proofs.Common.{◌≡◌, ℕ, suc, ◌-◌, ◌<◌, ◌≤◌, Bool, Option, true, false, refl, sym, ap, ◌∙◌, subst, ⊎_elim, arith}
 use Rattle.std.specs.Prelude.{◌≢◌}
 use Rattle.std.proofs.lemmas.Bool.{cases_lt}
 use Rattle.gc_plan.specs.State.{State}
@@ -9,6 +9,8 @@ use Rattle.gc_plan.specs.declared.step.StepReply.{StepReply}
 use Rattle.gc_plan.specs.declared.step.StepReply.TheVariants.{NoRoom}
 use Rattle.gc_pace.specs.Internal.Leaving.{LeavesLess}
 use Rattle.gc_pace.specs.Work.{sized_step, after_useful, useful_reply, goes_on, IsSoundReply, IsLarge, IsRun}
+use Rattle.gc_plan.specs.Progress.{work_left}
+use Rattle.gc_pace.proofs.Left.{some_left}
 use Rattle.gc_pace.proofs.Useful.{large_run, finds_room}
 
 made : (size : Option ℕ) (s : State) (n : ℕ) (t u : State) (reply : StepReply) → t ≡ after_useful size n s → collect t (sized_step size t) ≡ (reply, u)
@@ -24,6 +26,14 @@ GoesBelow size n s = (k : ℕ) → suc k < n → goes_on (useful_reply size k s)
 -- no reply lacks room if the new space was large at first
 pub room_of : (size : Option ℕ) (n : ℕ) (s : State) → SoundBelow size n s → GoesBelow size n s → IsLarge size s → (k : ℕ) → k < n → useful_reply size k s ≢ NoRoom
 room_of size n s sound going large k less = finds_room size (after_useful size k s) (large_run size n s large going k less) (sound k less).room
+
+-- as many steps as work is left end it
+pub run_over : (size : Option ℕ) (n : ℕ) (s t : State) (reply : StepReply) → IsRun size n s t reply → work_left s ≤ n → goes_on reply ≡ false
+run_over size n s t reply run low = from (goes_on reply) refl
+  where
+    from : (b : Bool) → goes_on reply ≡ b → goes_on reply ≡ false
+    from false e = e
+    from true e = absurd (let falls = run.falls e in omega (arith, falls, low, some_left t))
 
 -- the first step
 pub first_run : (size : Option ℕ) (s u : State) (reply : StepReply) → collect s (sized_step size s) ≡ (reply, u) → IsSoundReply s reply → LeavesLess s u reply → IsRun size 1 s u reply

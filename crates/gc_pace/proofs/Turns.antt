@@ -19,7 +19,7 @@ use Rattle.gc_pace.specs.Turns.{Turn, after_commands, AreCommands, AreTurns, aft
 use Rattle.gc_pace.specs.declared.pace.Pace.{Pace}
 use Rattle.gc_pace.specs.declared.work.Work.{Work}
 use Rattle.gc_pace.proofs.Left.{entries_low, end_at, logged_low, logged_all}
-use Rattle.gc_pace.proofs.PacedCalls.{due_work}
+use Rattle.gc_pace.proofs.PacedCalls.{due_work, work_state}
 
 -- ---- commands take no word and no entry away
 
@@ -79,8 +79,9 @@ call_keeps wanted s t before after work paced h = go (steps_due before (counts_o
     go zero e = subst IsState (sym (paced.none e).0) h
     go (suc n) e =
         let busy : 1 ≤ steps_due before (counts_of s) wanted = omega arith in
-        let done = due_work before (steps_due before (counts_of s) wanted) s t work (paced.some busy) (paced.within busy) in
-        subst IsState (sym (done.run).state) (useful_keep work.steps s h)
+        let due = steps_due before (counts_of s) wanted in
+        let done = due_work before due s t work busy (paced.some busy) (paced.within busy) in
+        subst IsState (sym (work_state before due s t work done)) (useful_keep work.steps s h)
 
 pub call_remembers : (wanted : ℕ) (s t : State) (before after : Pace) (work : Work) → IsPacedWork wanted s t before after work → Remembers after t
 call_remembers wanted s t before after work paced = grind (arith, common_steps)

@@ -1,7 +1,7 @@
 -- The memory that waits after useful steps: only the first opens a collection, and only the last flips.
 use Rattle.std.proofs.lemmas.Grind.{common_steps}
 use Rattle.std.proofs.Common.{◌≡◌, ⊎_elim, inl, inr, ℕ, zero, suc, ◌-◌, Bool, true, false, cond, List, length, Option, Some, None, is_some, Result, Ok, Err, ◌≤◌, refl, sym, ap, ◌∙◌, subst, arith}
-use Rattle.std.specs.Prelude.{IfOk, IfSome, OnErr, IsTrue, ⊤}
+use Rattle.std.specs.Prelude.{◌≢◌, IfOk, IfSome, OnErr, IsTrue, ⊤}
 use Rattle.std.specs.Option.{option_map_or, unwrap_or}
 use Rattle.std.proofs.lemmas.Bool.{cond_both}
 use Rattle.gc_plan.specs.State.{Collection, State, replica_at}
@@ -11,15 +11,16 @@ use Rattle.gc_plan.specs.declared.step.Step.TheVariants as steps
 use Rattle.gc_plan.specs.declared.step.StepReply.{StepReply}
 use Rattle.gc_plan.specs.declared.step.StepReply.TheVariants.{Begun, Clean, NotReady, Refused, Flipped}
 use Rattle.gc_collected.specs.CollectedHeap.{Allocates}
-use Rattle.gc_collected.specs.Collected.{Collected, Beside, Rooms, Turns, BeginsIn, HasStepped, checks_whole, turns_after, rooms_flipped, rooms_given_back, with_rooms}
+use Rattle.gc_collected.specs.Collected.{Collected, Beside, Rooms, Turns, BeginsIn, HasStepped, checks_whole, rooms_flipped, rooms_given_back, with_rooms}
 use Rattle.gc_collected.specs.declared.flip.Keep.TheVariants.{Room}
 use Rattle.gc_pace.specs.Internal.Leaving.{LeavesLess}
+use Rattle.gc_copy.specs.declared.collection.stepping.StepRun.{StepRun}
+use Rattle.gc_pace.specs.Internal.Performed.{HasRun, HasDone, HasSeen}
 use Rattle.gc_pace.specs.Internal.Waiting.{HasLacked, HaveRun}
 use Rattle.gc_pace.specs.Beside.{LeavesAfter, HaveRooms, HaveWorked, LeavesBeside}
 use Rattle.gc_pace.proofs.Flips.{turns_told}
 use Rattle.gc_pace.proofs.Left.{sized_open}
-use Rattle.gc_pace.specs.Work.{IsRun, is_flip, has_flipped, goes_on, after_useful, useful_reply, with_size, sized_step}
-use Rattle.gc_pace.specs.Pace.{no_work}
+use Rattle.gc_pace.specs.Work.{IsRun, is_flip, has_flipped, goes_on, after_useful, useful_reply, with_size, sized_step, no_work}
 use Rattle.gc_pace.specs.declared.work.Work.{Work}
 
 -- ---- a collection stays open through a step that does not end the work
@@ -94,7 +95,7 @@ module _ (s t : State) (c : Collection) (b : Beside) (reply : StepReply) (new : 
   flipped_rooms : (size : Option ℕ) → s.collection ≡ Some c → is_flip reply ≡ true → new ≡ rooms_flipped Room b → HaveRooms size s b (is_flip reply) new
   flipped_rooms size is_open flip same = (b.rooms, ((λ _. refl), (λ none. absurd (let no : Some c ≡ None = sym is_open ∙ none in cc))), same ∙ sym (ap (λ x. cond x (rooms_flipped Room b) b.rooms) flip))
 
-  open_rooms : (size : Option ℕ) (step : Step) → IsUseful step → s.collection ≡ Some c → step_in s c step ≡ (reply, t) → LeavesLess s t reply → HasStepped Room step reply (record { core = s; beside = b }) new
+  open_rooms : (size : Option ℕ) (step : Step) → IsUseful step → s.collection ≡ Some c → step_in s c step ≡ (reply, t) → LeavesLess s t reply → HasStepped Room step reply (record { core = s; beside = b; roots_left = 0 }) new
       → HaveRooms size s b (is_flip reply) new
   open_rooms size steps.Begin k is_open made less h = absurd k
   open_rooms size (steps.BeginSized n) k is_open made less h = absurd k
@@ -108,39 +109,69 @@ module _ (s t : State) (c : Collection) (b : Beside) (reply : StepReply) (new : 
 begins : (size : Option ℕ) (s t : State) (reply : StepReply) → s.collection ≡ None → collect s (with_size size steps.Begin) ≡ (reply, t) → reply ≡ Begun
 begins size s t reply none made = grind (arith, common_steps)
 
-has_begun : (size : Option ℕ) (s : State) (b : Beside) (new : Rooms) → HasStepped Room (with_size size steps.Begin) Begun (record { core = s; beside = b }) new → BeginsIn (unwrap_or size s.size) b new
+has_begun : (size : Option ℕ) (s : State) (b : Beside) (new : Rooms) → HasStepped Room (with_size size steps.Begin) Begun (record { core = s; beside = b; roots_left = 0 }) new → BeginsIn (unwrap_or size s.size) b new
 has_begun None s b new h = h
 has_begun (Some n) s b new h = h
 
 begun_rooms : (size : Option ℕ) (s t : State) (b : Beside) (reply : StepReply) (new : Rooms) → s.collection ≡ None → collect s (with_size size steps.Begin) ≡ (reply, t)
-    → HasStepped Room (with_size size steps.Begin) reply (record { core = s; beside = b }) new → HaveRooms size s b (is_flip reply) new
+    → HasStepped Room (with_size size steps.Begin) reply (record { core = s; beside = b; roots_left = 0 }) new → HaveRooms size s b (is_flip reply) new
 begun_rooms size s t b reply new none made h =
     let said : reply ≡ Begun = begins size s t reply none made in (
       new,
-      ((λ some. absurd (let no : false ≡ true = ap is_some (sym none) ∙ some in cc)), (λ _. has_begun size s b new (subst (λ (r : StepReply). HasStepped Room (with_size size steps.Begin) r (record { core = s; beside = b }) new) said h))),
+      ((λ some. absurd (let no : false ≡ true = ap is_some (sym none) ∙ some in cc)), (λ _. has_begun size s b new (subst (λ (r : StepReply). HasStepped Room (with_size size steps.Begin) r (record { core = s; beside = b; roots_left = 0 }) new) said h))),
       sym (ap (λ (r : StepReply). cond (is_flip r) (rooms_flipped Room (record b { rooms = new })) new) said),
     )
 
 -- what the useful step leaves, by what the step leaves
 step_rooms : (size : Option ℕ) (s t : State) (b : Beside) (reply : StepReply) (new : Rooms) → collect s (sized_step size s) ≡ (reply, t) → LeavesLess s t reply
-    → HasStepped Room (sized_step size s) reply (record { core = s; beside = b }) new → HaveRooms size s b (is_flip reply) new
+    → HasStepped Room (sized_step size s) reply (record { core = s; beside = b; roots_left = 0 }) new → HaveRooms size s b (is_flip reply) new
 step_rooms size s t b reply new made less h = from s.collection refl
   where
     from : (o : Option Collection) → s.collection ≡ o → HaveRooms size s b (is_flip reply) new
     from None e =
         let step : sized_step size s ≡ with_size size steps.Begin = ap (λ o. with_size size (useful_with s o)) e in
-        begun_rooms size s t b reply new e (ap (collect s) (sym step) ∙ made) (subst (λ (x : Step). HasStepped Room x reply (record { core = s; beside = b }) new) step h)
+        begun_rooms size s t b reply new e (ap (collect s) (sym step) ∙ made) (subst (λ (x : Step). HasStepped Room x reply (record { core = s; beside = b; roots_left = 0 }) new) step h)
     from (Some c) e =
         let step : sized_step size s ≡ useful_with s (Some c) = ap (λ o. with_size size (useful_with s o)) e ∙ sized_open size s c in
         let here : step_in s c (useful_with s (Some c)) ≡ (reply, t) = sym (ap (λ (o : Option Collection). option_map_or (λ d. step_in s d (useful_with s (Some c))) o (step_idle s (useful_with s (Some c)))) e) ∙ ap (collect s) (sym step) ∙ made in
-        open_rooms s t c b reply new size (useful_with s (Some c)) (useful_open s c) e here less (subst (λ (x : Step). HasStepped Room x reply (record { core = s; beside = b }) new) step h)
+        open_rooms s t c b reply new size (useful_with s (Some c)) (useful_open s c) e here less (subst (λ (x : Step). HasStepped Room x reply (record { core = s; beside = b; roots_left = 0 }) new) step h)
+
+-- how many looks are left tells nothing of the rooms
+stepped_alike : (step : Step) (reply : StepReply) (h : Collected) (new : Rooms) → HasStepped Room step reply h new → HasStepped Room step reply (record { core = h.core; beside = h.beside; roots_left = 0 }) new
+stepped_alike step reply h new stepped = grind (arith, common_steps)
+
+begin_other : (size : Option ℕ) → (with_size size steps.Begin ≢ steps.Flip) × (with_size size steps.Begin ≢ steps.Drop)
+begin_other size = grind (arith, common_steps)
+
+-- a useful step that does not flip is another one
+pub useful_quiet : (size : Option ℕ) (s t : State) (b : Beside) (rooms : Rooms) (step : Step) (reply : StepReply) → step ≡ sized_step size s → collect s step ≡ (reply, t) → LeavesLess s t reply → is_flip reply ≡ false
+    → (step ≢ steps.Flip) × (step ≢ steps.Drop)
+useful_quiet size s t b rooms step reply is made less quiet = from s.collection refl
+  where
+    from : (o : Option Collection) → s.collection ≡ o → (step ≢ steps.Flip) × (step ≢ steps.Drop)
+    from None e =
+        let step_is : with_size size steps.Begin ≡ step = sym (is ∙ ap (λ o. with_size size (useful_with s o)) e) in
+        subst (λ (x : Step). (x ≢ steps.Flip) × (x ≢ steps.Drop)) step_is (begin_other size)
+    from (Some c) e =
+        let step_is : step ≡ useful_with s (Some c) = is ∙ ap (λ o. with_size size (useful_with s o)) e ∙ sized_open size s c in
+        let useful : IsUseful step = subst IsUseful (sym step_is) (useful_open s c) in (
+          (λ flip. let here : step_in s c steps.Flip ≡ (reply, t) = sym (ap (λ (o : Option Collection). option_map_or (λ d. step_in s d steps.Flip) o (step_idle s steps.Flip)) e) ∙ ap (collect s) (sym flip) ∙ made in
+              let no : false ≡ true = sym quiet ∙ flips s t c b reply rooms (is_ready c s.heap.graph) (passes_check s c) less here in cc),
+          (λ drop. absurd (subst IsUseful drop useful)),
+        )
+
+-- the same, of what a step returned
+pub quiet_reply : {E : Type 0} (size : Option ℕ) (s t : State) (b : Beside) (rooms : Rooms) (step : Step) (r : Result StepReply E) → step ≡ sized_step size s → IfOk r (λ reply. collect s step ≡ (reply, t)) → IfOk r (LeavesLess s t)
+    → IfOk r (λ reply. is_flip reply ≡ false → (step ≢ steps.Flip) × (step ≢ steps.Drop))
+quiet_reply size s t b rooms step (Ok reply) is made less = useful_quiet size s t b rooms step reply is made less
+quiet_reply size s t b rooms step (Err e) is made less = tt
 
 -- the same of what a step returned, which `now` is the heap of
 pub rooms_reply : {E : Type 0} (size : Option ℕ) (h now : Collected) (t : State) (new : Rooms) (step : Step) (r : Result StepReply E) → now ≡ h → step ≡ sized_step size h.core → IfOk r (λ reply. collect now.core step ≡ (reply, t))
     → IfOk r (LeavesLess h.core t) → IfOk r (λ reply. HasStepped Room step reply now new) → IfOk r (λ reply. HaveRooms size h.core h.beside (is_flip reply) new)
 rooms_reply size h now t new step (Ok reply) same is made less stepped =
     step_rooms size h.core t h.beside reply new (ap (λ (x : Collected). collect x.core (sized_step size h.core)) (sym same) ∙ ap (collect now.core) (sym is) ∙ made) less
-    (subst (λ (x : Collected). HasStepped Room (sized_step size h.core) reply x new) same (subst (λ (x : Step). HasStepped Room x reply now new) is stepped))
+    (stepped_alike (sized_step size h.core) reply h new (subst (λ (x : Collected). HasStepped Room (sized_step size h.core) reply x new) same (subst (λ (x : Step). HasStepped Room x reply now new) is stepped)))
 rooms_reply size h now t new step (Err e) same is made less stepped = tt
 
 -- while a collection is open, a useful step that lacks memory is a flip that has to check both spaces whole
@@ -219,18 +250,28 @@ worked size s b work reply before new steps last run is = subst (λ (x : Collect
 })
 
 -- all that work leaves beside the state, once it gave a slice back
-pub leaves_beside : (size : Option ℕ) (old before new : Collected) (work : Work) (steps : ℕ) (reply : StepReply) → work.steps ≡ steps → work.last ≡ Some reply → 1 ≤ steps
-    → LeavesAfter size steps old.core old.beside.former before.beside.former → before.beside.turns ≡ turns_after Room old.beside.turns reply
-    → HaveRun size old.core before.core old.beside (is_flip reply) before.beside.rooms → before.beside.pair ≡ old.beside.pair
+pub leaves_beside : (Short : State → StepReply → Type 0) (size : Option ℕ) (old before new : Collected) (work : Work) (run : StepRun) → work.steps ≡ run.steps → work.last ≡ Some run.reply
+    → HasRun Short size old before run → HaveRun size old.core before.core old.beside (is_flip run.reply) before.beside.rooms → HasSeen old.roots_left before.roots_left work.looks (Some run)
     → new ≡ with_rooms before (rooms_given_back before.beside.rooms) → LeavesBeside size old new work
-leaves_beside size old before new work steps reply counted last some former turns rooms pair is = record {
+leaves_beside Short size old before new work run counted last done rooms seen is = record {
   former = subst (λ (x : Collected). LeavesAfter size work.steps old.core old.beside.former x.beside.former) (sym is)
-      (subst (λ (n : ℕ). LeavesAfter size n old.core old.beside.former before.beside.former) (sym counted) former);
-  turns = ap (λ (x : Collected). x.beside.turns) is ∙ turns ∙ turns_told old.beside.turns work reply last;
-  rooms = worked size old.core old.beside work reply before new (omega (arith, counted, some)) last rooms is;
-  pair = ap (λ (x : Collected). x.beside.pair) is ∙ pair;
+      (subst (λ (n : ℕ). LeavesAfter size n old.core old.beside.former before.beside.former) (sym counted) done.former);
+  turns = ap (λ (x : Collected). x.beside.turns) is ∙ done.turns ∙ turns_told old.beside.turns work run.reply last;
+  rooms = worked size old.core old.beside work run.reply before new (let some = done.run.some in omega (arith, counted, some)) last rooms is;
+  pair = ap (λ (x : Collected). x.beside.pair) is ∙ done.pair;
+  looks = record { few = seen.few; less = λ quiet. let left = ap (λ (x : Collected). x.roots_left) is in omega (arith, left, seen.less (flip_told work run.reply last ∙ quiet)) };
+}
+
+-- looks alone leave all as it is
+pub looked_beside : (Short : State → StepReply → Type 0) (size : Option ℕ) (old new : Collected) (looks : ℕ) → HasDone Short size old new None → HasSeen old.roots_left new.roots_left looks None → LeavesBeside size old new (record no_work { looks = looks })
+looked_beside Short size old new looks done seen = record {
+  former = ap (λ (b : Beside). b.former) done.1;
+  turns = ap (λ (b : Beside). b.turns) done.1;
+  rooms = record { none = λ _. ap (λ (b : Beside). b.rooms) done.1; some = λ steps. absurd (omega arith) };
+  pair = ap (λ (b : Beside). b.pair) done.1;
+  looks = record { few = seen.few; less = λ _. seen.less refl };
 }
 
 -- no work
-pub unworked : (h : Collected) → LeavesBeside None h h no_work
-unworked h = record { former = refl; turns = refl; rooms = record { none = λ _. refl; some = λ steps. absurd (omega arith) }; pair = refl }
+pub unworked : (h : Collected) → LeavesBeside None h h (record no_work { looks = 0 })
+unworked h = record { former = refl; turns = refl; rooms = record { none = λ _. refl; some = λ steps. absurd (omega arith) }; pair = refl; looks = record { few = omega arith; less = λ _. omega arith } }

@@ -12,14 +12,14 @@ use Rattle.gc_pace.specs.Turns.{Turn, AreCommands, AreFew, AreTurns, HaveTaken, 
 use Rattle.gc_pace.specs.declared.pace.Pace.{Pace}
 use Rattle.gc_pace.specs.declared.work.Work.{Work}
 use Rattle.gc_pace.proofs.KeepsUp.{commands_size, room_or_end, turns_most}
-use Rattle.gc_pace.proofs.PacedCalls.{due_work}
+use Rattle.gc_pace.proofs.PacedCalls.{due_work, work_logs}
 use Rattle.gc_pace.proofs.Turns.{IsRaised, call_owes, raised, turns_ahead}
 
 -- a call performs no more steps than work is left
 steps_bound : (wanted : ℕ) (s t : State) (before after : Pace) (work : Work) → IsPacedWork wanted s t before after work → work.steps ≤ work_left s
 steps_bound wanted s t before after work paced = elim (cases_lt (steps_due before (counts_of s) wanted) 1) [
   | inl none ↦ (let idle = paced.none (omega (arith, none)) in omega (arith, ap (λ (w : Work). w.steps) idle.1))
-  | inr some ↦ (let done = due_work before (steps_due before (counts_of s) wanted) s t work (paced.some some) (paced.within some) in omega (arith, done.run.logs))
+  | inr some ↦ (let due = steps_due before (counts_of s) wanted in let done = due_work before due s t work some (paced.some some) (paced.within some) in omega (arith, work_logs before due s t work done))
 ]
 
 -- the pace goes on without a bound, and owes nothing

@@ -1,5 +1,5 @@
 -- What useful steps leave beside the heap's state: the old space of the last flip, how flips are checked, and the memory that waits.
-use Rattle.std.specs.Prelude.{◌≡◌, ◌⊎◌, ℕ, zero, suc, ◌≤◌, Bool, if◌then◌else◌, Option, None, IsSome, IsTrue}
+use Rattle.std.specs.Prelude.{◌≡◌, ◌⊎◌, ℕ, zero, suc, ◌+◌, ◌≤◌, Bool, false, if◌then◌else◌, Option, None, IsSome, IsTrue}
 use Rattle.std.specs.Option.{unwrap_or}
 use Rattle.gc_plan.specs.State.{State}
 use Rattle.gc_plan.specs.declared.step.Step.TheVariants.{Flip}
@@ -38,6 +38,13 @@ pub record HaveWorked (size : Option ℕ) (s t : State) (b : Beside) (work : Wor
   pub none : work.steps ≡ 0 → new ≡ b.rooms
   pub some : 1 ≤ work.steps → (flips : Bool) × (before : Rooms) × ((flips ≡ has_flipped work) ⊎ (IsTrue (checks_whole Room b.turns) × Allocates t Flip)) × HaveRooms size s b flips before × (new ≡ rooms_given_back before)
 
+-- ---- looks at extra roots
+
+-- The work took no more looks than were left. Unless it flipped, each of them leaves one less, at least.
+pub record HaveFallen (old new : ℕ) (work : Work) : Type 0 where
+  pub few : work.looks ≤ old
+  pub less : has_flipped work ≡ false → new + work.looks ≤ old
+
 -- ---- a call of work
 
 -- what the work leaves beside the state
@@ -46,6 +53,7 @@ pub record LeavesBeside (size : Option ℕ) (old new : Collected) (work : Work) 
   pub turns : new.beside.turns ≡ turns_after_work old.beside.turns work
   pub rooms : HaveWorked size old.core new.core old.beside work new.beside.rooms
   pub pair : new.beside.pair ≡ old.beside.pair
+  pub looks : HaveFallen old.roots_left new.roots_left work
 
 -- the call performed no step, because an allocation of the first one failed, and changed nothing but the memory that waits
 pub record WasRefused (size : Option ℕ) (old new : Collected) : Type 0 where

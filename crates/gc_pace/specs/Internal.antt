@@ -1,3 +1,4 @@
 -- Definitions that only private contracts and proofs use. They are not part of the public interface.
 pub mod Leaving
+pub mod Performed
 pub mod Waiting

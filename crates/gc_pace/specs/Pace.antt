@@ -5,9 +5,10 @@ use Rattle.gc_plan.specs.Steps.{useful_step}
 use Rattle.gc_plan.specs.Progress.{work_left}
 use Rattle.gc_collected.specs.CollectedHeap.{Allocates}
 use Rattle.gc_pace.specs.Counts.{counts_of}
-use Rattle.gc_pace.specs.Work.{IsWork, has_flipped, is_over}
+use Rattle.gc_pace.specs.Work.{IsWork, has_flipped, is_over, no_work, units}
 use Rattle.gc_pace.specs.declared.counts.Counts.{Counts}
 use Rattle.gc_pace.specs.declared.pace.Pace.{Pace}
+use Rattle.gc_pace.specs.declared.work.Looks.TheVariants.{Count, AreFree}
 use Rattle.gc_pace.specs.declared.work.Work.{Work}
 
 -- the factor is in range
@@ -56,13 +57,18 @@ Pays pace counts due = 1 ≤ counts.is_open → min (min (pace.owed + spent pace
 abbrev pub pace_from : Pace → Counts → Pace
 pace_from pace counts = record pace { left = counts.end; end = counts.end; logged = counts.logged; owed = 0 }
 
--- the pace bounds the words of a call, and this call performed as many steps, or its replicas took as many words
-abbrev pub took_its_words : Pace → Work → Bool
-took_its_words pace work = nat_lt 0 pace.words && (nat_le pace.words work.steps || nat_le pace.words work.copied)
+-- looks took the place of steps, so many of which were due, in a call that performs no more units than this
+abbrev pub looked_instead : ℕ → ℕ → Work → Bool
+looked_instead due most work = nat_lt work.steps due && nat_le most (units Count work)
+
+-- The pace bounds the words of a call for which so many steps were due. The call performed as many steps, or its replicas took as many words, or
+-- looks took the place of steps.
+abbrev pub took_its_words : Pace → ℕ → Work → Bool
+took_its_words pace due work = nat_lt 0 pace.words && (nat_le pace.words work.steps || (nat_le pace.words work.copied || looked_instead due (min due pace.words) work))
 
 -- The steps that are owed after this work: those of the steps due that it left because it took its words.
 abbrev pub owed_after : Pace → ℕ → Work → ℕ
-owed_after pace due work = if is_over work then 0 else if took_its_words pace work then due - work.steps else 0
+owed_after pace due work = if is_over work then 0 else if took_its_words pace due work then due - work.steps else 0
 
 -- the pace after this work, for which so many steps were due, and which led to these counts
 abbrev pub pace_after : Pace → ℕ → Work → Counts → Pace
@@ -70,9 +76,6 @@ pace_after pace due work counts =
     record pace { left = (if has_flipped work then counts.end else pace.left); end = counts.end; logged = counts.logged; owed = owed_after pace due work }
 
 -- ---- paced work
-
-abbrev pub no_work : Work
-no_work = record { steps = 0; copied = 0; last = None }
 
 -- the counts leave no log entry out
 abbrev pub CountsAll : Counts → Type 0
@@ -94,15 +97,15 @@ pub record WorkGoesOn (wanted : ℕ) (s : State) (before : Pace) (work : Work) :
 -- the useful steps that are due, in order, or none
 pub record IsPacedWork (wanted : ℕ) (s t : State) (before after : Pace) (work : Work) : Type 0 where
   pub none : steps_due before (counts_of s) wanted ≡ 0 → (t ≡ s) × (work ≡ no_work)
-  pub some : 1 ≤ steps_due before (counts_of s) wanted → before.words ≡ 0 → IsWork None None (steps_due before (counts_of s) wanted) s t work
+  pub some : 1 ≤ steps_due before (counts_of s) wanted → before.words ≡ 0 → IsWork AreFree None None (steps_due before (counts_of s) wanted) s t work
   -- the same, but where the pace bounds the words, the steps end once there were as many, or replicas took as many words
-  pub within : 1 ≤ steps_due before (counts_of s) wanted → 1 ≤ before.words → IsWork None (Some before.words) (min (steps_due before (counts_of s) wanted) before.words) s t work
+  pub within : 1 ≤ steps_due before (counts_of s) wanted → 1 ≤ before.words → IsWork Count None (Some before.words) (min (steps_due before (counts_of s) wanted) before.words) s t work
   pub paid : Pays before (counts_of s) (steps_due before (counts_of s) wanted)
   pub pace : after ≡ pace_after before (steps_due before (counts_of s) wanted) work (counts_of t)
   -- the entries that remain in all logs, and the steps performed, are at most the steps that were left
   pub logs : CountsAll (counts_of s) → (counts_of t).logged + work.steps ≤ steps_left (counts_of s)
-  -- as many steps as are left end the collection, unless the call took its words first
-  pub enough : CountsAll (counts_of s) → steps_left (counts_of s) ≤ steps_due before (counts_of s) wanted → HasEnded t work ⊎ IsTrue (took_its_words before work)
+  -- as many steps as are left end the collection, unless the call took its words first, or looks took their place
+  pub enough : CountsAll (counts_of s) → steps_left (counts_of s) ≤ steps_due before (counts_of s) wanted → HasEnded t work ⊎ IsTrue (took_its_words before (steps_due before (counts_of s) wanted) work)
   -- The call that begins a collection leaves at most as much work as the heap's end. Any other lowers the work that is left by the steps that
   -- were owed and by what was spent since the call before, but for the steps that it owes. All logs together have fewer entries than that work.
   pub begun : (counts_of s).is_open ≡ 0 → 1 ≤ work.steps → is_over work ≡ false → work_left t ≤ (counts_of s).end

@@ -1,5 +1,5 @@
 -- Useful steps, performed in order by one call, and what is reported of them.
-use Rattle.std.specs.Prelude.{◌≡◌, ◌≢◌, ◌⊎◌, ℕ, zero, suc, ◌+◌, ◌-◌, ◌<◌, ◌≤◌, Bool, true, false, not, Option, Some, IfSome, IsSomeAnd}
+use Rattle.std.specs.Prelude.{◌≡◌, ◌≢◌, ◌⊎◌, ℕ, zero, suc, ◌+◌, ◌-◌, ◌/◌, ◌<◌, ◌≤◌, Bool, true, false, not, Option, Some, None, IfSome, IsSomeAnd}
 use Rattle.std.specs.Option.{option_map, option_map_or, option_or}
 use Rattle.gc_plan.specs.State.{State, new_end, heap_end}
 use Rattle.gc_plan.specs.Steps.{collect, useful_step}
@@ -10,6 +10,8 @@ use Rattle.gc_plan.specs.declared.step.StepReply.{StepReply}
 use Rattle.gc_plan.specs.declared.step.StepReply.TheVariants.{NoRoom, Refused, Flipped}
 use Rattle.gc_collected.specs.CollectedHeap.{Allocates}
 use Rattle.gc_collected.specs.Flip.{FlipsOnly, IsCertified, PassesIfReady, HasRoomIfLarge}
+use Rattle.gc_pace.specs.declared.work.Looks.{Looks}
+use Rattle.gc_pace.specs.declared.work.Looks.TheVariants.{Count, AreFree}
 use Rattle.gc_pace.specs.declared.work.Work.{Work}
 
 -- the step, but a begin takes this many words for the new space, if a number is given
@@ -93,16 +95,35 @@ end_after t reply = end_in t
 abbrev pub words_copied : State → State → StepReply → ℕ
 words_copied s t reply = end_after t reply - end_in s
 
--- What work reports of at most this many steps, if its begin takes this size. If there is a bound for the words, work also ends after the
--- step with which its replicas have taken as many.
-pub record IsWork (size words : Option ℕ) (most : ℕ) (s t : State) (work : Work) : Type 0 where
+-- the units of work: the steps, and one for each 32 looks, if looks count
+abbrev pub units : Looks → Work → ℕ
+units Count work = work.steps + work.looks / 32
+units AreFree work = work.steps
+
+abbrev pub no_work : Work
+no_work = record { steps = 0; copied = 0; last = None; looks = 0 }
+
+-- The work performed no step, because looks took all units.
+pub record LooksOnly (looks_as : Looks) (most : ℕ) (s t : State) (work : Work) : Type 0 where
+  pub state : t ≡ s
+  pub told : work ≡ record no_work { looks = work.looks }
+  pub busy : most ≤ units looks_as work
+
+-- The work performed steps, its begin taking this size. If there is a bound for the words, it also ends after the step with which its replicas
+-- have taken as many.
+pub record HasPerformed (looks_as : Looks) (size words : Option ℕ) (most : ℕ) (s t : State) (work : Work) : Type 0 where
   pub reply : StepReply
   pub run : IsRun size work.steps s t reply
   pub last : work.last ≡ Some reply
   pub copied : work.copied ≡ words_copied s t reply
   pub within : work.steps ≤ most
-  pub ended : work.steps < most → IsEnd size words t reply work.copied
-  -- as many steps as work is left are enough
-  pub enough : work_left s ≤ most → IsEnd size words t reply work.copied
+  pub ended : units looks_as work < most → IsEnd size words t reply work.copied
+  -- as many units as work is left are enough, besides those of its looks
+  pub enough : work_left s + (units looks_as work - work.steps) ≤ most → IsEnd size words t reply work.copied
   -- before the last step, replicas took fewer words than the bound
   pub short : IfSome words (λ most. (k : ℕ) → suc k < work.steps → words_copied s (after_useful size (suc k) s) (useful_reply size k s) < most)
+
+-- What work reports of at most this many units.
+pub record IsWork (looks_as : Looks) (size words : Option ℕ) (most : ℕ) (s t : State) (work : Work) : Type 0 where
+  pub none : work.steps ≡ 0 → LooksOnly looks_as most s t work
+  pub some : 1 ≤ work.steps → HasPerformed looks_as size words most s t work

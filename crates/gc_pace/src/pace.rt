@@ -1,5 +1,8 @@
 //! The pace of collector steps: how many are due, as a function of counts.
 
+ghost use Rattle.std.specs.Prelude.{◌≡◌};
+ghost use Rattle.gc_pace.specs.Pace as paces;
+
 use crate::counts::Counts;
 use crate::work::Work;
 
@@ -138,11 +141,15 @@ impl Pace {
         }
     }
 
-    /// Returns whether the pace bounds the words of a call, and this call performed as many steps, or its replicas took as many words.
-    fn took_its_words(&self, work: &Work) -> bool
-        ensures { result ≡ paces.took_its_words self.now work.now }
+    /// Returns whether the pace bounds the words of a call, for which so many steps were due, and this call performed as many steps, or its replicas
+    /// took as many words, or looks took the place of steps.
+    fn took_its_words(&self, due: u32, work: &Work) -> bool
+        ensures { result ≡ paces.took_its_words self.now due work.now }
     {
-        self.words > 0 && (work.steps >= self.words || work.copied >= self.words)
+        self.words > 0
+            && (work.steps >= self.words
+                || work.copied >= self.words
+                || looked_instead(due, due.min(self.words), work))
     }
 
     /// Returns the steps that are owed after this work, for which so many were due.
@@ -152,10 +159,17 @@ impl Pace {
         if work.is_over() {
             return 0;
         }
-        if self.took_its_words(work) {
+        if self.took_its_words(due, work) {
             due.saturating_sub(work.steps)
         } else {
             0
         }
     }
+}
+
+/// Returns whether looks took the place of steps, so many of which were due, in a call that performs no more units than this.
+fn looked_instead(due: u32, most: u32, work: &Work) -> bool
+    ensures { result ≡ paces.looked_instead due most work.now }
+{
+    work.steps < due && work.units() >= u64::from(most)
 }

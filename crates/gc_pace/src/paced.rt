@@ -2,33 +2,31 @@
 
 ghost use Rattle.std.specs.Prelude.{◌≡◌, ◌≤◌, min, Some, None, IfOk, OnErr};
 ghost use Rattle.gc_pace.specs.Beside.{LeavesBeside, WasRefused};
-ghost use Rattle.gc_pace.specs.Pace.{IsPacedWork, no_work};
-ghost use Rattle.gc_pace.specs.Work.{IsWork};
+ghost use Rattle.gc_pace.specs.Pace.{IsPacedWork};
+ghost use Rattle.gc_pace.specs.Work.{IsWork, no_work};
+ghost use Rattle.gc_pace.specs.declared.work.Looks.{Looks};
 
 use crate::counts::Counts;
 use crate::pace::Pace;
-use crate::work::{Work, work_on, work_within};
+use crate::work::{Work, only_looks, work_through, work_within};
 use gc_collected::CollectedHeap;
 use gc_graph::NoMemory;
 
-/// Performs this many useful steps, or none. Ends once it performed `words` steps, or replicas took `words` words, unless that is 0.
+/// Performs this many useful steps, or none. Unless `words` is 0, it ends once it performed `words` steps, or replicas took `words` words, and 32 looks
+/// count as a step.
 #[tactic(auto, using(crate::proofs::Waiting::unworked))]
 fn work_due(heap: &mut CollectedHeap, words: u32, due: u32) -> Result<Work, NoMemory>
     ensures none { due ≡ 0 → IfOk result (λ work. (heap.new ≡ heap.old) × (work ≡ no_work)) }
-    ensures some { 1 ≤ due → words ≡ 0 → IfOk result (IsWork None None due heap.old.core heap.new.core) }
-    ensures within { 1 ≤ due → 1 ≤ words → IfOk result (IsWork None (Some words) (min due words) heap.old.core heap.new.core) }
+    ensures some { 1 ≤ due → words ≡ 0 → IfOk result (IsWork Looks.AreFree None None due heap.old.core heap.new.core) }
+    ensures within { 1 ≤ due → 1 ≤ words → IfOk result (IsWork Looks.Count None (Some words) (min due words) heap.old.core heap.new.core) }
     ensures beside { IfOk result (LeavesBeside None heap.old heap.new) }
     ensures refused { OnErr result (WasRefused None heap.old heap.new) }
 {
     if due == 0 {
-        return Ok(Work {
-            steps: 0,
-            copied: 0,
-            last: None,
-        });
+        return Ok(only_looks(0));
     }
     if words == 0 {
-        return work_on(heap, None, due);
+        return work_through(heap, due);
     }
     work_within(heap, due.min(words), words)
 }

@@ -1,8 +1,8 @@
 //! Many useful steps in one call.
 
-ghost use Rattle.std.specs.Prelude.{◌≡◌, ◌⊎◌, ◌<◌, ◌≤◌, ◌-◌, ℕ, suc, true, false, ⊤, Option, Some, None, IfSome, IsSome, IsTrue, IfOk, OnErr};
+ghost use Rattle.std.specs.Prelude.{◌≡◌, ◌⊎◌, ◌<◌, ◌≤◌, ◌+◌, ◌*◌, ◌-◌, ◌^◌, ℕ, suc, true, false, ⊤, Option, Some, None, IfSome, IsSome, IsTrue, IfOk, OnErr};
 ghost use Rattle.gc_plan.specs.State.{State};
-ghost use Rattle.gc_plan.specs.Steps.{collect};
+ghost use Rattle.gc_plan.specs.Steps.{collect, useful_step};
 ghost use Rattle.gc_plan.specs.Runs.{IsStep};
 ghost use Rattle.gc_plan.specs.Progress.{work_left};
 ghost use Rattle.gc_plan.specs.declared.step.Step.{Step};
@@ -13,11 +13,13 @@ ghost use Rattle.gc_collected.specs.Collected.{IsUnchangedButRooms, WereRefused,
 ghost use Rattle.gc_collected.specs.declared.flip.Keep.{Keep};
 ghost use Rattle.gc_pace.specs.Beside.{LeavesAfter, HaveRooms, LeavesBeside, WasRefused};
 ghost use Rattle.gc_pace.specs.Internal.Leaving.{LeavesLess, EndsBelow};
+ghost use Rattle.gc_pace.specs.Internal.Performed.{HasDone, HasSeen, joined_run, steps_in, units_in};
 ghost use Rattle.gc_pace.specs.Internal.Waiting.{HasLacked, HaveRun};
-ghost use Rattle.gc_pace.specs.Work.{IsSoundReply, IsRun, IsWork, with_size, sized_step, after_useful, useful_reply, goes_on, is_flip, end_in, end_after};
+ghost use Rattle.gc_pace.specs.Work.{IsSoundReply, IsRun, IsWork, with_size, sized_step, after_useful, useful_reply, goes_on, is_flip, end_in, end_after, no_work};
+ghost use Rattle.gc_pace.specs.declared.work.Looks.{Looks};
 
 use gc_check::Sequential;
-use gc_collected::{CollectedHeap, Keep};
+use gc_collected::{Choice, CollectedHeap, Keep};
 use gc_copy::{Step, StepReply, StepRun};
 use gc_graph::NoMemory;
 use gc_plan::useful_steps_end;
@@ -31,11 +33,33 @@ pub struct Work {
     pub copied: u32,
     /// The reply to the last step, if one was performed.
     pub last: Option<StepReply>,
+    /// The number of looks at extra roots whose targets had replicas.
+    pub looks: u32,
+}
+
+/// So many looks that find nothing to copy count as a step.
+const LOOKS_A_UNIT: u32 = 32;
+
+/// What looks at extra roots are to a call of work.
+#[derive(Clone, Copy, Debug, Drop, PartialEq, Eq)]
+pub enum Looks {
+    /// 32 looks that find nothing to copy are a unit, as a step is.
+    Count,
+    /// A call takes as many looks as its steps need.
+    AreFree,
 }
 
 impl Work {
     ghost use Rattle.std.specs.Prelude.{◌≡◌};
-    ghost use Rattle.gc_pace.specs.Work.{has_flipped, is_over};
+    ghost use Rattle.gc_pace.specs.Work.{has_flipped, is_over, units};
+    ghost use Rattle.gc_pace.specs.declared.work.Looks.{Looks};
+
+    /// Returns the units of work: the steps, and one for each 32 looks.
+    pub fn units(&self) -> u64
+        ensures { result ≡ units Looks.Count self.now }
+    {
+        u64::from(self.steps) + u64::from(self.looks / LOOKS_A_UNIT)
+    }
 
     /// Returns whether the last step flipped.
     pub fn has_flipped(&self) -> bool
@@ -86,6 +110,8 @@ fn one_step(heap: &mut CollectedHeap, size: Option<u32>, step: Step) -> Result<S
     // While a collection is open, only a flip can lack memory.
     ensures lacked { OnErr result (HasLacked heap.old heap.new.beside.rooms) }
     ensures allocates { OnErr result (Allocates heap.old.core (sized_step size heap.old.core)) }
+    ensures looks { IfOk result (λ reply. is_flip reply ≡ false → heap.new.roots_left ≤ heap.old.roots_left) }
+    ensures looked { OnErr result (heap.new.roots_left ≤ heap.old.roots_left) }
 {
     heap.is_sound();
     useful_steps_end();
@@ -106,6 +132,7 @@ fn some_scans(heap: &mut CollectedHeap, size: Option<u32>, most: u32, until: u32
     ensures flips { is_flip result.reply ≡ false }
     ensures open { IsSome heap.old.core.collection }
     ensures beside { heap.new.beside ≡ heap.old.beside }
+    ensures looks { heap.new.roots_left ≡ heap.old.roots_left }
 {
     heap.is_sound();
     useful_steps_end();
@@ -133,22 +160,26 @@ fn some_entries(
     ensures flips { is_flip result.reply ≡ false }
     ensures open { IsSome heap.old.core.collection }
     ensures beside { heap.new.beside ≡ heap.old.beside }
+    ensures looks { heap.new.roots_left ≡ heap.old.roots_left }
 {
     heap.is_sound();
     useful_steps_end();
     heap.apply_run(m, most, until)
 }
 
-/// Performs useful steps, at least one and at most `most`: scans, as `some_scans` does, entries, as `some_entries` does, or one step of another
-/// kind. If that is a begin, the new space gets `size` words, or as many as the heap has.
+/// Performs useful steps, the first of which is this one, at least one and at most `most`: scans, as `some_scans` does, entries, as `some_entries`
+/// does, or one step of another kind. If that is a begin, the new space gets `size` words, or as many as the heap has.
 #[inline(always)]
 fn some_steps(
     heap: &mut CollectedHeap,
     size: Option<u32>,
+    step: Step,
     most: u32,
     until: u32,
 ) -> Result<StepRun, NoMemory>
     requires size { IfSome size (λ words. 1 ≤ words) }
+    requires useful { step ≡ useful_step heap.old.core }
+    requires range { IsStep heap.old.core.mutators step }
     requires some { 1 ≤ most }
     ensures run { IfOk result (λ run. IsRun size run.steps heap.old.core heap.new.core run.reply) }
     ensures within { IfOk result (λ run. run.steps ≤ most) }
@@ -161,8 +192,10 @@ fn some_steps(
     ensures freed { OnErr result (WereRefused heap.old.beside.rooms heap.new.beside.rooms) }
     ensures lacked { OnErr result (HasLacked heap.old heap.new.beside.rooms) }
     ensures allocates { OnErr result (Allocates heap.old.core (sized_step size heap.old.core)) }
+    ensures looks { IfOk result (λ run. is_flip run.reply ≡ false → heap.new.roots_left ≤ heap.old.roots_left) }
+    ensures looked { OnErr result (heap.new.roots_left ≤ heap.old.roots_left) }
 {
-    match sized(heap.next_useful_step(), size) {
+    match sized(step, size) {
         Step::Scan => Ok(some_scans(heap, size, most, until)),
         Step::Apply(m) => Ok(some_entries(heap, size, m, most, until)),
         step => {
@@ -188,9 +221,12 @@ trait Performs {
         &self,
         heap: &mut CollectedHeap,
         size: Option<u32>,
+        step: Step,
         most: u32,
     ) -> Result<StepRun, NoMemory>
         requires size { IfSome size (λ words. 1 ≤ words) }
+        requires useful { step ≡ useful_step heap.old.core }
+        requires range { IsStep heap.old.core.mutators step }
         requires some { 1 ≤ most }
         ensures run { IfOk result (λ run. IsRun size run.steps heap.old.core heap.new.core run.reply) }
         ensures within { IfOk result (λ run. run.steps ≤ most) }
@@ -204,6 +240,8 @@ trait Performs {
         ensures refused { OnErr result (IsUnchangedButRooms heap.old heap.new) }
         ensures freed { OnErr result (WereRefused heap.old.beside.rooms heap.new.beside.rooms) }
         ensures lacked { OnErr result (HasLacked heap.old heap.new.beside.rooms) }
+        ensures looks { IfOk result (λ run. is_flip run.reply ≡ false → heap.new.roots_left ≤ heap.old.roots_left) }
+        ensures looked { OnErr result (heap.new.roots_left ≤ heap.old.roots_left) }
         ensures failed { OnErr result (failed self.now size heap.old.core) }
         ensures stops { OnErr result ((reply : StepReply) → stops self.now size heap.old.core reply) };
 
@@ -227,9 +265,10 @@ impl Performs for Useful {
         &self,
         heap: &mut CollectedHeap,
         size: Option<u32>,
+        step: Step,
         most: u32,
     ) -> Result<StepRun, NoMemory> {
-        some_steps(heap, size, most, u32::MAX)
+        some_steps(heap, size, step, most, u32::MAX)
     }
 
     #[inline(always)]
@@ -269,10 +308,11 @@ impl Performs for Within {
         &self,
         heap: &mut CollectedHeap,
         size: Option<u32>,
+        step: Step,
         most: u32,
     ) -> Result<StepRun, NoMemory> {
         let until = place_behind(self.start, self.words);
-        some_steps(heap, size, most, until)
+        some_steps(heap, size, step, most, until)
     }
 
     #[inline(always)]
@@ -288,55 +328,98 @@ fn can_go_on(reply: StepReply) -> bool
     !matches!(reply, StepReply::Flipped { .. } | StepReply::NoRoom)
 }
 
-/// Performs at most `most` useful steps, and stops after one that flips or finds no room, and after one that is enough. If an
-/// allocation fails, it stops before that step, and returns `NoMemory` only if that was the first step.
+/// The useful steps that a call performed, and the looks that it took to find them.
+#[derive(Clone, Copy, Debug, Drop)]
+struct Performed {
+    looks: u32,
+    /// The steps, if there were any.
+    run: Option<StepRun>,
+}
+
+/// Returns the steps of two runs, the second of which begins where the first ended.
+#[inline(always)]
+fn joined(run: Option<StepRun>, next: StepRun) -> StepRun
+    requires { IfSome run (λ first. first.steps + next.steps < 2 ^ 32) }
+    ensures { result ≡ joined_run run next }
+{
+    match run {
+        None => next,
+        Some(first) => StepRun {
+            steps: first.steps + next.steps,
+            reply: next.reply,
+        },
+    }
+}
+
+/// Returns the looks that a call takes to choose one step.
+#[inline(always)]
+fn looks_at_once(looks_as: Looks) -> u32
+    ensures count { looks_as ≡ Looks.Count → result ≡ 32 }
+    ensures free { looks_as ≡ Looks.AreFree → result ≡ 4294967295 }
+{
+    match looks_as {
+        Looks::Count => LOOKS_A_UNIT,
+        Looks::AreFree => u32::MAX,
+    }
+}
+
+/// Performs at most `most` units of work: useful steps, and looks, if these count. Stops after a step that flips or finds no room, and after one that is
+/// enough. If an allocation fails, it stops before that step, and returns `NoMemory` only if that was the first step.
 fn useful_steps<P: Performs>(
     performs: &P,
     heap: &mut CollectedHeap,
     size: Option<u32>,
+    looks_as: Looks,
     most: u32,
-) -> Result<StepRun, NoMemory>
+) -> Result<Performed, NoMemory>
     requires size { IfSome size (λ words. 1 ≤ words) }
-    requires some { 1 ≤ most }
-    ensures run { IfOk result (λ run. IsRun size run.steps heap.old.core heap.new.core run.reply) }
-    ensures former { IfOk result (λ run. LeavesAfter size run.steps heap.old.core heap.old.beside.former heap.new.beside.former) }
-    // Only the last step can be a flip.
-    ensures turns { IfOk result (λ run. heap.new.beside.turns ≡ turns_after Keep.Room heap.old.beside.turns run.reply) }
-    ensures within { IfOk result (λ run. run.steps ≤ most) }
+    ensures done { IfOk result (λ p. HasDone (P.short performs.now) size heap.old heap.new p.run) }
+    ensures steps { IfOk result (λ p. steps_in p.run ≤ most) }
     // It stops early only after such a reply, or because a step failed for lack of memory.
-    ensures ended { IfOk result (λ run. run.steps < most
-        → (goes_on run.reply ≡ false) ⊎ P.stops performs.now size heap.new.core run.reply) }
-    // It makes no more than the steps that are left, so as many lead to such an end.
-    ensures enough { IfOk result (λ run. work_left heap.old.core ≤ most
-        → (goes_on run.reply ≡ false) ⊎ P.stops performs.now size heap.new.core run.reply) }
-    // No step before the last one was enough.
-    ensures short { IfOk result (λ run. (k : ℕ) → suc k < run.steps
-        → P.short performs.now (after_useful size (suc k) heap.old.core) (useful_reply size k heap.old.core)) }
-    ensures rooms { IfOk result (λ run. HaveRun size heap.old.core heap.new.core heap.old.beside (is_flip run.reply) heap.new.beside.rooms) }
+    ensures ended { IfOk result (λ p. units_in looks_as p.looks (steps_in p.run) < most → IfSome p.run (λ run. (goes_on run.reply ≡ false) ⊎ P.stops performs.now size heap.new.core run.reply)) }
+    ensures busy { IfOk result (λ p. p.run ≡ None → most ≤ units_in looks_as p.looks 0) }
+    ensures rooms { IfOk result (λ p. IfSome p.run (λ run. HaveRun size heap.old.core heap.new.core heap.old.beside (is_flip run.reply) heap.new.beside.rooms)) }
+    ensures looks { IfOk result (λ p. HasSeen heap.old.roots_left heap.new.roots_left p.looks p.run) }
+    ensures few { looks_as ≡ Looks.Count → IfOk result (λ p. p.looks ≤ 32 * most) }
     ensures pair { heap.new.beside.pair ≡ heap.old.beside.pair }
     ensures refused { OnErr result (IsUnchangedButRooms heap.old heap.new) }
     ensures freed { OnErr result (WereRefused heap.old.beside.rooms heap.new.beside.rooms) }
     ensures failed { OnErr result (P.failed performs.now size heap.old.core) }
 {
-    let mut run = performs.perform(heap, size, most)?;
-    while run.steps < most {
-        if !can_go_on(run.reply) {
-            return Ok(run);
-        }
-        if performs.has_enough(heap, run.reply) {
-            return Ok(run);
-        }
-        match performs.perform(heap, size, most - run.steps) {
-            Ok(next) => {
-                run = StepRun {
-                    steps: run.steps + next.steps,
-                    reply: next.reply,
-                };
-            }
-            Err(NoMemory) => return Ok(run),
+    // Here the prover learns that 32 bits hold the looks that are left.
+    let _ = heap.roots_left();
+    let limit = looks_at_once(looks_as);
+    let mut done = Performed {
+        looks: 0,
+        run: None,
+    };
+    let mut units: u32 = 0;
+    while units < most {
+        let Choice { looks, step } = heap.choose_step(limit);
+        done.looks += looks;
+        match step {
+            None => units += 1,
+            Some(step) => match performs.perform(heap, size, step, most - units) {
+                Err(NoMemory) => {
+                    if done.run.is_none() {
+                        return Err(NoMemory);
+                    }
+                    return Ok(done);
+                }
+                Ok(next) => {
+                    units += next.steps;
+                    done.run = Some(joined(done.run, next));
+                    if !can_go_on(next.reply) {
+                        return Ok(done);
+                    }
+                    if performs.has_enough(heap, next.reply) {
+                        return Ok(done);
+                    }
+                }
+            },
         }
     }
-    Ok(run)
+    Ok(done)
 }
 
 /// Returns the first word of the open collection's new space that no replica takes, or 1 if none is open.
@@ -359,48 +442,96 @@ fn end_behind(heap: &CollectedHeap, reply: StepReply) -> u32
     }
 }
 
-/// Returns a report of these steps. The new space ended at `start` before them.
+/// Returns a report of these steps and looks. The new space ended at `start` before them.
 #[inline(always)]
-fn report(heap: &CollectedHeap, start: u32, run: StepRun) -> Work
+fn report(heap: &CollectedHeap, start: u32, looks: u32, run: StepRun) -> Work
     ensures steps { result.steps ≡ run.steps }
     ensures copied { result.copied ≡ end_after heap.now.core run.reply - start }
     ensures last { result.last ≡ Some run.reply }
+    ensures looks { result.looks ≡ looks }
 {
     let StepRun { steps, reply } = run;
     Work {
         steps,
         copied: end_behind(heap, reply).saturating_sub(start),
         last: Some(reply),
+        looks,
     }
 }
 
-/// Performs at most `most` useful steps and reports them. If a step is a begin, the new space gets `size` words, or as many as the heap
-/// has. Stops after a flip, and after a step that finds no room. If an allocation fails, stops before that step, and returns `NoMemory` only if
-/// that was the first step.
+/// Returns a report of looks alone.
+#[inline(always)]
+pub(crate) fn only_looks(looks: u32) -> Work
+    ensures { result ≡ record no_work { looks = looks } }
+{
+    Work {
+        steps: 0,
+        copied: 0,
+        last: None,
+        looks,
+    }
+}
+
+/// Performs at most `most` units of work and reports them: useful steps, and looks at extra roots, of which 32 that find nothing to copy are a unit.
+/// If a step is a begin, the new space gets `size` words, or as many as the heap has. Stops after a flip, and after a step that finds no room. If an
+/// allocation fails, stops before that step, and returns `NoMemory` only if that was the first step.
 pub fn work_on(heap: &mut CollectedHeap, size: Option<u32>, most: u32) -> Result<Work, NoMemory>
     requires size { IfSome size (λ words. 1 ≤ words) }
     requires some { 1 ≤ most }
-    ensures work { IfOk result (IsWork size None most heap.old.core heap.new.core) }
+    ensures work { IfOk result (IsWork Looks.Count size None most heap.old.core heap.new.core) }
+    ensures beside { IfOk result (LeavesBeside size heap.old heap.new) }
+    ensures refused { OnErr result (WasRefused size heap.old heap.new) }
+{
+    work_as(heap, size, Looks::Count, most)
+}
+
+/// Performs at most `most` useful steps, as `work_on` does, and looks at as many extra roots as they take.
+pub(crate) fn work_through(heap: &mut CollectedHeap, most: u32) -> Result<Work, NoMemory>
+    requires { 1 ≤ most }
+    ensures work { IfOk result (IsWork Looks.AreFree None None most heap.old.core heap.new.core) }
+    ensures beside { IfOk result (LeavesBeside None heap.old heap.new) }
+    ensures refused { OnErr result (WasRefused None heap.old heap.new) }
+{
+    work_as(heap, None, Looks::AreFree, most)
+}
+
+// Performs at most `most` units of work.
+fn work_as(
+    heap: &mut CollectedHeap,
+    size: Option<u32>,
+    looks_as: Looks,
+    most: u32,
+) -> Result<Work, NoMemory>
+    requires size { IfSome size (λ words. 1 ≤ words) }
+    requires some { 1 ≤ most }
+    ensures work { IfOk result (IsWork looks_as size None most heap.old.core heap.new.core) }
     ensures beside { IfOk result (LeavesBeside size heap.old heap.new) }
     ensures refused { OnErr result (WasRefused size heap.old heap.new) }
 {
     let start = end_of_new(heap);
-    let run = useful_steps(&Useful, heap, size, most)?;
-    let work = report(heap, start, run);
+    let Performed { looks, run } = useful_steps(&Useful, heap, size, looks_as, most)?;
+    let Some(run) = run else {
+        return Ok(only_looks(looks));
+    };
+    let work = report(heap, start, looks, run);
     heap.give_back();
     Ok(work)
 }
 
-/// Does the same, but also stops after the step with which the replicas of this call take `words` words or more.
+/// Does the same as `work_on`, but also stops after the step with which the replicas of this call take `words` words or more.
 pub fn work_within(heap: &mut CollectedHeap, most: u32, words: u32) -> Result<Work, NoMemory>
     requires { 1 ≤ most }
-    ensures work { IfOk result (IsWork None (Some words) most heap.old.core heap.new.core) }
+    ensures work { IfOk result (IsWork Looks.Count None (Some words) most heap.old.core heap.new.core) }
     ensures beside { IfOk result (LeavesBeside None heap.old heap.new) }
     ensures refused { OnErr result (WasRefused None heap.old heap.new) }
 {
     let start = end_of_new(heap);
-    let run = useful_steps(&Within { start, words }, heap, None, most)?;
-    let work = report(heap, start, run);
+    let within = Within { start, words };
+    let Performed { looks, run } = useful_steps(&within, heap, None, Looks::Count, most)?;
+    let Some(run) = run else {
+        return Ok(only_looks(looks));
+    };
+    let work = report(heap, start, looks, run);
     heap.give_back();
     Ok(work)
 }

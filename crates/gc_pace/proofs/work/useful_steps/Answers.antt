@@ -1,48 +1,89 @@
--- A turn makes the run longer, after steps that were not enough.
-use Rattle.std.proofs.Common.{◌≡◌, inr, ℕ, ◌+◌, ◌<◌, suc, ap, sym, ◌∙◌, subst, arith}
-use Rattle.gc_collected.specs.Collected.{Collected, Turns, turns_after}
-use Rattle.gc_collected.specs.declared.flip.Keep.TheVariants.{Room}
-use Rattle.gc_pace.specs.Work.{IsRun, after_useful, useful_reply}
-use Rattle.gc_pace.specs.Beside.{LeavesAfter}
-use Rattle.gc_plan.specs.State.{State}
-use Rattle.gc_plan.specs.declared.step.Step.TheVariants.{Flip}
-use Rattle.gc_collected.specs.CollectedHeap.{Allocates}
-use Rattle.gc_pace.proofs.Flips.{turns_going}
-use Rattle.gc_pace.proofs.Waiting.{run_open, longer_rooms, lacked_rooms}
-use Rattle.gc_pace.proofs.Joined.{joined, joined_left, joined_short}
+-- A turn makes the run longer, after steps that were not enough, or takes looks in place of a step.
+use Rattle.std.proofs.Common.{◌≡◌, inl, inr, ◌+◌, true, sym, ap, ◌∙◌, subst, arith}
+use Rattle.gc_plan.specs.declared.step.StepReply.{StepReply}
+use Rattle.gc_copy.specs.declared.collection.stepping.StepRun.{StepRun}
+use Rattle.gc_collected.specs.Collected.{Beside, Collected}
+use Rattle.gc_pace.specs.Beside.{HaveRooms}
+use Rattle.gc_pace.specs.Internal.Performed.{HasRun, steps_in}
+use Rattle.gc_pace.specs.Work.{goes_on, is_flip}
+use Rattle.gc_pace.proofs.Performed.{further_lacked, further_rooms, joined_reply, joined_steps, more_units, quiet_so_far, run_further}
 use Rattle.gc_pace.proofs.work.useful_steps.Goals as goal
 
-pub loop-run-init : goal.loop-run-init
-loop-run-init g c = (let e = c.in_ok-run.ensures in (e.run, e.short, e.former, e.turns, e.rooms, e.pair, e.within))
+pub overflow_add-done : goal.overflow_add-done
+overflow_add-done g c = let looked = c.loop-units.invariant.looked in let seen = c.choose_step-looks.ensures.looks.less in grind (arith, looked, seen, c.roots_left.ensures, c.ranges)
 
-pub loop-run-preserved : goal.loop-run-preserved
-loop-run-preserved g c =
-    let run = c.loop-run.invariant.0 in
-    let e = c.in-Ok.ensures in
-    let m = c.loop-run.run.steps in
-    let n = c.in-Ok.next.steps in
-    let at : n + m ≡ m + n = omega arith in
-    let on = sym c.can_go_on.ensures ∙ c.if-not-can_go_on.false in
-    let turns = c.loop-run.invariant.3 ∙ turns_going c.args.heap.now.beside.turns c.loop-run.run.reply on in (
-      subst (λ (k : ℕ). IsRun c.args.size k c.args.heap.now.core c.perform-in-loop-run.new.heap.core c.in-Ok.next.reply) at
-          (joined c.args.size c.args.heap.now.core c.loop-run.heap.core c.perform-in-loop-run.new.heap.core m n c.loop-run.run.reply c.in-Ok.next.reply run on e.run),
-      subst (λ (j : ℕ). (k : ℕ) → suc k < j → g.P.Performs.short c.args.performs.now (after_useful c.args.size (suc k) c.args.heap.now.core) (useful_reply c.args.size k c.args.heap.now.core)) at
-          (joined_short (g.P.Performs.short c.args.performs.now) c.args.size c.args.heap.now.core c.loop-run.heap.core m n c.loop-run.run.reply run (c.has_enough.ensures.short c.if-has_enough.false) c.loop-run.invariant.1 e.short),
-      subst (λ (k : ℕ). LeavesAfter c.args.size k c.args.heap.now.core c.args.heap.now.beside.former c.perform-in-loop-run.new.heap.beside.former) at
-          (joined_left c.args.size c.args.heap.now.core c.loop-run.heap.core m c.loop-run.run.reply run c.args.heap.now.beside.former c.loop-run.heap.beside.former c.loop-run.invariant.2 n c.perform-in-loop-run.new.heap.beside.former e.former),
-      e.turns ∙ ap (λ (t : Turns). turns_after Room t c.in-Ok.next.reply) turns,
-      longer_rooms c.args.size c.args.heap.now.core c.loop-run.heap.core c.args.heap.now.beside c.loop-run.heap.beside
-          c.loop-run.run.reply c.in-Ok.next.reply c.perform-in-loop-run.new.heap.beside.rooms (run_open c.args.size c.loop-run.run.steps c.args.heap.now.core c.loop-run.heap.core c.loop-run.run.reply run on)
-          on turns c.loop-run.invariant.4 e.rooms,
-      e.pair ∙ c.loop-run.invariant.5,
-      (let within = e.within in let less = c.loop-run-test.true in omega arith),
-    )
-
--- a flip behind the last step may have lacked memory
 pub returns-in-Err-clause-rooms : goal.returns-in-Err-clause-rooms
 returns-in-Err-clause-rooms g c =
-    let on = sym c.can_go_on.ensures ∙ c.if-not-can_go_on.false in
-    let lacks = lacked_rooms c.args.size c.args.heap.now.core c.loop-run.heap c.args.heap.now.beside c.loop-run.run.reply c.perform-in-loop-run.new.heap.beside.rooms
-    (run_open c.args.size c.loop-run.run.steps c.args.heap.now.core c.loop-run.heap.core c.loop-run.run.reply c.loop-run.invariant.0 on) on
-    (c.loop-run.invariant.3 ∙ turns_going c.args.heap.now.beside.turns c.loop-run.run.reply on) c.loop-run.invariant.4 c.in-Err.ensures.lacked in
-    inr (lacks.0, subst (λ (s : State). Allocates s Flip) (sym (ap (λ (h : Collected). h.core) c.in-Err.ensures.refused)) lacks.1, lacks.2)
+    let chosen = c.choose_step-looks.ensures in
+    let was = c.loop-units.invariant in
+    further_lacked (g.P.Performs.short c.args.performs.now) c.args.size c.args.heap.now c.loop-units.heap c.choose_step-looks.new.self c.perform.new.heap c.loop-units.done.run chosen.core chosen.beside was.done was.on
+    (ap (λ (h : Collected). h.core) c.in-Err.ensures.refused) was.rooms c.in-Err.ensures.lacked
+
+pub returns-in-Err-clause-looks : goal.returns-in-Err-clause-looks
+returns-in-Err-clause-looks g c =
+    let looked = c.loop-units.invariant.looked in
+    let seen = c.choose_step-looks.ensures.looks.less in
+    record { few = omega (arith, looked, seen); less = λ quiet. let left = c.in-Err.ensures.looked in omega (arith, looked, seen, left) }
+
+pub returns-then-not-can_go_on-clause-done : goal.returns-then-not-can_go_on-clause-done
+returns-then-not-can_go_on-clause-done g c =
+    let chosen = c.choose_step-looks.ensures in
+    let was = c.loop-units.invariant in
+    let e = c.in-Ok.ensures in
+    subst (HasRun (g.P.Performs.short c.args.performs.now) c.args.size c.args.heap.now c.perform.new.heap) (sym c.joined.ensures)
+    (run_further (g.P.Performs.short c.args.performs.now) c.args.size c.args.heap.now c.loop-units.heap c.choose_step-looks.new.self c.perform.new.heap c.loop-units.done.run chosen.core chosen.beside was.done was.on
+    c.in-Ok.next e.run e.short e.former e.turns e.pair)
+
+pub returns-then-not-can_go_on-clause-rooms : goal.returns-then-not-can_go_on-clause-rooms
+returns-then-not-can_go_on-clause-rooms g c =
+    let chosen = c.choose_step-looks.ensures in
+    let was = c.loop-units.invariant in
+    inl (subst (λ (run : StepRun). HaveRooms c.args.size c.args.heap.now.core c.args.heap.now.beside (is_flip run.reply) c.perform.new.heap.beside.rooms) (sym c.joined.ensures)
+    (further_rooms (g.P.Performs.short c.args.performs.now) c.args.size c.args.heap.now c.loop-units.heap c.choose_step-looks.new.self c.perform.new.heap c.loop-units.done.run chosen.core chosen.beside was.done was.on
+    c.in-Ok.next was.rooms c.in-Ok.ensures.rooms))
+
+pub returns-then-has_enough-clause-done : goal.returns-then-has_enough-clause-done
+returns-then-has_enough-clause-done g c =
+    let chosen = c.choose_step-looks.ensures in
+    let was = c.loop-units.invariant in
+    let e = c.in-Ok.ensures in
+    subst (HasRun (g.P.Performs.short c.args.performs.now) c.args.size c.args.heap.now c.perform.new.heap) (sym c.joined.ensures)
+    (run_further (g.P.Performs.short c.args.performs.now) c.args.size c.args.heap.now c.loop-units.heap c.choose_step-looks.new.self c.perform.new.heap c.loop-units.done.run chosen.core chosen.beside was.done was.on
+    c.in-Ok.next e.run e.short e.former e.turns e.pair)
+
+pub returns-then-has_enough-clause-rooms : goal.returns-then-has_enough-clause-rooms
+returns-then-has_enough-clause-rooms g c =
+    let chosen = c.choose_step-looks.ensures in
+    let was = c.loop-units.invariant in
+    inl (subst (λ (run : StepRun). HaveRooms c.args.size c.args.heap.now.core c.args.heap.now.beside (is_flip run.reply) c.perform.new.heap.beside.rooms) (sym c.joined.ensures)
+    (further_rooms (g.P.Performs.short c.args.performs.now) c.args.size c.args.heap.now c.loop-units.heap c.choose_step-looks.new.self c.perform.new.heap c.loop-units.done.run chosen.core chosen.beside was.done was.on
+    c.in-Ok.next was.rooms c.in-Ok.ensures.rooms))
+
+pub returns-then-has_enough-clause-ended : goal.returns-then-has_enough-clause-ended
+returns-then-has_enough-clause-ended g c less =
+    let reply : c.joined.result.reply ≡ c.in-Ok.next.reply = ap (λ (run : StepRun). run.reply) c.joined.ensures ∙ joined_reply c.loop-units.done.run c.in-Ok.next in
+    inr (subst (λ (r : StepReply). g.P.Performs.stops c.args.performs.now c.args.size c.perform.new.heap.core r) (sym reply) (c.has_enough.ensures.stops c.if-has_enough.true c.args.size))
+
+pub loop-units-preserved : goal.loop-units-preserved
+loop-units-preserved g c =
+    let chosen = c.choose_step-looks.ensures in
+    let was = c.loop-units.invariant in
+    let e = c.in-Ok.ensures in
+    let reply : c.joined.result.reply ≡ c.in-Ok.next.reply = ap (λ (run : StepRun). run.reply) c.joined.ensures ∙ joined_reply c.loop-units.done.run c.in-Ok.next in
+    let on : goes_on c.in-Ok.next.reply ≡ true = sym c.can_go_on.ensures ∙ c.if-not-can_go_on.false in
+    let steps : c.joined.result.steps ≡ steps_in c.loop-units.done.run + c.in-Ok.next.steps = ap (λ (run : StepRun). run.steps) c.joined.ensures ∙ joined_steps c.loop-units.done.run c.in-Ok.next in
+    record {
+      done = subst (HasRun (g.P.Performs.short c.args.performs.now) c.args.size c.args.heap.now c.perform.new.heap) (sym c.joined.ensures)
+          (run_further (g.P.Performs.short c.args.performs.now) c.args.size c.args.heap.now c.loop-units.heap c.choose_step-looks.new.self c.perform.new.heap c.loop-units.done.run chosen.core chosen.beside was.done was.on
+          c.in-Ok.next e.run e.short e.former e.turns e.pair);
+      on = subst (λ (r : StepReply). (goes_on r ≡ true) × g.P.Performs.short c.args.performs.now c.perform.new.heap.core r) (sym reply) (on, c.has_enough.ensures.short c.if-has_enough.false);
+      rooms = subst (λ (run : StepRun). HaveRooms c.args.size c.args.heap.now.core c.args.heap.now.beside (is_flip run.reply) c.perform.new.heap.beside.rooms) (sym c.joined.ensures)
+          (further_rooms (g.P.Performs.short c.args.performs.now) c.args.size c.args.heap.now c.loop-units.heap c.choose_step-looks.new.self c.perform.new.heap c.loop-units.done.run chosen.core chosen.beside was.done was.on
+          c.in-Ok.next was.rooms e.rooms);
+      pair = e.pair ∙ ap (λ (b : Beside). b.pair) chosen.beside ∙ was.pair;
+      looked = let left = e.looks (quiet_so_far c.in-Ok.next.reply on) in omega (arith, left, chosen.looks.less, was.looked);
+      steps = omega (arith, steps, was.steps);
+      units = more_units c.args.looks_as c.loop-units.units c.loop-units.done.looks c.choose_step-looks.result.looks (steps_in c.loop-units.done.run) c.in-Ok.next.steps c.joined.result.steps steps was.units;
+      few = λ counts. let some = e.run.some in let low = was.few counts in let limit = c.looks_at_once-limit.ensures.count counts in omega (arith, some, low, limit, chosen.within);
+      within = let fits = e.within in let room = c.loop-units-test.true in omega (arith, fits, room);
+    }

@@ -1,21 +1,24 @@
--- So many useful steps were performed, the last got this reply, and none before it was enough.
-use Rattle.std.proofs.Common.{◌≡◌, ℕ, suc, ◌-◌, ◌<◌, ◌≤◌}
-use Rattle.gc_collected.specs.Collected.{turns_after}
-use Rattle.gc_collected.specs.declared.flip.Keep.TheVariants.{Room}
-use Rattle.gc_pace.specs.Beside.{LeavesAfter, HaveRooms}
-use Rattle.gc_pace.specs.Work.{IsRun, after_useful, useful_reply, is_flip}
+-- So many useful steps were performed, the last got this reply, none was enough, and so many looks were taken.
+use Rattle.std.proofs.Common.{◌≡◌, ◌+◌, ◌*◌, ◌-◌, ◌≤◌, true}
+use Rattle.std.specs.Prelude.{IfSome}
+use Rattle.gc_pace.specs.Beside.{HaveRooms}
+use Rattle.gc_pace.specs.Internal.Performed.{HasDone, steps_in, units_in}
+use Rattle.gc_pace.specs.Work.{goes_on, is_flip}
+use Rattle.gc_pace.specs.declared.work.Looks.TheVariants.{Count}
 use Rattle.gc_pace.proofs.work.useful_steps.Given as goal
 
--- this many useful steps were performed, the last got this reply, and none before it was enough
-abbrev pub invariant-loop-run : goal.invariant-loop-run
-invariant-loop-run g l =
-    IsRun l.fn.size l.run.steps l.fn.heap.core l.heap.core l.run.reply
-    × ((k : ℕ) → suc k < l.run.steps → g.P.Performs.short l.performs (after_useful l.fn.size (suc k) l.fn.heap.core) (useful_reply l.fn.size k l.fn.heap.core))
-    × LeavesAfter l.fn.size l.run.steps l.fn.heap.core l.fn.heap.beside.former l.heap.beside.former
-    × (l.heap.beside.turns ≡ turns_after Room l.fn.heap.beside.turns l.run.reply)
-    × HaveRooms l.fn.size l.fn.heap.core l.fn.heap.beside (is_flip l.run.reply) l.heap.beside.rooms
-    × (l.heap.beside.pair ≡ l.fn.heap.beside.pair)
-    × (l.run.steps ≤ l.most)
+abbrev pub invariant-loop-units : goal.invariant-loop-units
+invariant-loop-units g l = record {
+  done : HasDone (g.P.Performs.short l.performs) l.fn.size l.fn.heap l.heap l.done.run;
+  on : IfSome l.done.run (λ run. (goes_on run.reply ≡ true) × g.P.Performs.short l.performs l.heap.core run.reply);
+  rooms : IfSome l.done.run (λ run. HaveRooms l.fn.size l.fn.heap.core l.fn.heap.beside (is_flip run.reply) l.heap.beside.rooms);
+  pair : l.heap.beside.pair ≡ l.fn.heap.beside.pair;
+  looked : l.heap.roots_left + l.done.looks ≤ l.fn.heap.roots_left;
+  steps : steps_in l.done.run ≤ l.units;
+  units : l.units ≤ units_in l.fn.looks_as l.done.looks (steps_in l.done.run);
+  few : l.fn.looks_as ≡ Count → l.done.looks ≤ 32 * l.units;
+  within : l.units ≤ l.most;
+}
 
-abbrev pub decreases-loop-run : goal.decreases-loop-run
-decreases-loop-run g l = l.most - l.run.steps
+abbrev pub decreases-loop-units : goal.decreases-loop-units
+decreases-loop-units g l = l.most - l.units

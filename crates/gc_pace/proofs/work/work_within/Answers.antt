@@ -1,34 +1,45 @@
 -- The report has the run's steps, and the words that replicas took are counted from the new space's end at the start.
-use Rattle.std.proofs.Common.{◌≡◌, ◌⊎◌, ◌<◌, ◌≤◌, ◌-◌, ℕ, suc, false, Some, None, ap, sym, ◌∙◌, subst, arith}
+use Rattle.std.proofs.Common.{◌≡◌, ◌⊎◌, ◌<◌, ◌≤◌, ◌-◌, ℕ, suc, Option, Some, None, false, sym, ap, subst, arith}
+use Rattle.std.specs.Prelude.{IfSome}
 use Rattle.gc_plan.specs.State.{State}
-use Rattle.gc_collected.specs.Collected.{Collected}
+use Rattle.gc_copy.specs.declared.collection.stepping.StepRun.{StepRun}
 use Rattle.gc_collected.specs.CollectedHeap.{Allocates}
-use Rattle.gc_pace.specs.Work.{IsRun, IsWork, sized_step, after_useful, useful_reply, goes_on, end_in, end_after}
+use Rattle.gc_collected.specs.Collected.{Collected}
+use Rattle.gc_pace.specs.Internal.Performed.{HasDone, HasSeen, steps_in, units_in}
+use Rattle.gc_pace.specs.Internal.Waiting.{HaveRun}
+use Rattle.gc_pace.specs.Work.{IsWork, after_useful, useful_reply, end_after, end_in, goes_on, is_flip, sized_step}
+use Rattle.gc_pace.specs.declared.work.Looks.TheVariants.{Count}
+use Rattle.gc_pace.proofs.Performed.{reported}
 use Rattle.gc_pace.proofs.Waiting.{leaves_beside}
 use Rattle.gc_pace.proofs.work.work_within.Goals as goal
 
 pub returns-clause-work : goal.returns-clause-work
 returns-clause-work c =
-    let s = c.args.heap.now.core in
-    let t = c.useful_steps.new.heap.core in
-    let reply = c.in_ok-run.run'.reply in
-    let e = c.in_ok-run.ensures in
+    let old = c.args.heap.now in
+    let before = c.useful_steps.new.heap in
+    let run = c.in-Some.run' in
+    let e = c.in_ok-looks.ensures in
     let r = c.report-work.ensures in
-    let start : c.end_of_new-start.result ≡ end_in s = c.end_of_new-start.ensures in
-    let made : IsWork None (Some c.args.words) c.args.most s t c.report-work.result = record {
-      reply = reply;
-      run = subst (λ (n : ℕ). IsRun None n s t reply) (sym r.steps) e.run;
-      last = r.last;
-      within = omega (arith, e.within, r.steps);
-      ended = λ less. subst (λ (n : ℕ). (goes_on reply ≡ false) ⊎ (Allocates t (sized_step None t) ⊎ (c.args.words ≤ n))) (sym r.copied) (e.ended (omega (arith, r.steps)));
-      enough = λ few. subst (λ (n : ℕ). (goes_on reply ≡ false) ⊎ (Allocates t (sized_step None t) ⊎ (c.args.words ≤ n))) (sym r.copied) (e.enough few);
-      copied = r.copied ∙ ap (λ (n : ℕ). end_after t reply - n) start;
-      short = λ k less. subst (λ (n : ℕ). end_after (after_useful None (suc k) s) (useful_reply None k s) - n < c.args.words) start (e.short k (omega (arith, r.steps)));
-    } in
-    subst (λ (x : State). IsWork None (Some c.args.words) c.args.most s x c.report-work.result) (sym (ap (λ (h : Collected). h.core) c.give_back.ensures)) made
+    let start : c.end_of_new-start.result ≡ end_in old.core = c.end_of_new-start.ensures in
+    let done = subst (HasDone (λ t reply. end_after t reply - c.end_of_new-start.result < c.args.words) None old before) c.in-Some.is e.done in
+    let ended = subst (λ (o : Option StepRun). units_in Count c.in_ok-looks.field-0.looks (steps_in o) < c.args.most
+    → IfSome o (λ x. (goes_on x.reply ≡ false) ⊎ (Allocates before.core (sized_step None before.core) ⊎ (c.args.words ≤ end_after before.core x.reply - c.end_of_new-start.result)))) c.in-Some.is e.ended in
+    subst (λ (s : State). IsWork Count None (Some c.args.words) c.args.most old.core s c.report-work.result) (sym (ap (λ (h : Collected). h.core) c.give_back.ensures))
+    (reported (λ t reply. end_after t reply - c.end_of_new-start.result < c.args.words) Count None (Some c.args.words) c.args.most c.end_of_new-start.result old before c.report-work.result run start r.steps r.copied r.last
+    done
+    (subst (λ (o : Option StepRun). steps_in o ≤ c.args.most) c.in-Some.is e.steps)
+    (λ less. subst (λ (n : ℕ). (goes_on run.reply ≡ false) ⊎ (Allocates before.core (sized_step None before.core) ⊎ (c.args.words ≤ n))) (sym r.copied)
+    (ended (subst (λ n. units_in Count n run.steps < c.args.most) r.looks less)))
+    (λ k less. subst (λ (n : ℕ). end_after (after_useful None (suc k) old.core) (useful_reply None k old.core) - n < c.args.words) start (done.short k (omega (arith, less, r.steps)))))
 
 pub returns-clause-beside : goal.returns-clause-beside
 returns-clause-beside c =
-    leaves_beside None c.args.heap.now c.useful_steps.new.heap c.give_back.new.self c.report-work.result c.in_ok-run.run'.steps c.in_ok-run.run'.reply
-    c.report-work.ensures.steps c.report-work.ensures.last c.in_ok-run.ensures.run.some c.in_ok-run.ensures.former c.in_ok-run.ensures.turns c.in_ok-run.ensures.rooms
-    c.useful_steps.ensures.pair c.give_back.ensures
+    let old = c.args.heap.now in
+    let before = c.useful_steps.new.heap in
+    let e = c.in_ok-looks.ensures in
+    let r = c.report-work.ensures in
+    leaves_beside (λ t reply. end_after t reply - c.end_of_new-start.result < c.args.words) None old before c.give_back.new.self c.report-work.result c.in-Some.run' r.steps r.last
+    (subst (HasDone (λ t reply. end_after t reply - c.end_of_new-start.result < c.args.words) None old before) c.in-Some.is e.done)
+    (subst (λ (o : Option StepRun). IfSome o (λ x. HaveRun None old.core before.core old.beside (is_flip x.reply) before.beside.rooms)) c.in-Some.is e.rooms)
+    (subst (λ n. HasSeen old.roots_left before.roots_left n (Some c.in-Some.run')) (sym r.looks) (subst (HasSeen old.roots_left before.roots_left c.in_ok-looks.field-0.looks) c.in-Some.is e.looks))
+    c.give_back.ensures
