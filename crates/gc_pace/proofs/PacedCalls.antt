@@ -177,15 +177,15 @@ paced_work wanted s t before after work heap opened none some within paid pace =
     performed : 1 ≤ due → IsDueWork before due s t work
     performed busy = due_work before due s t work busy (some busy) (within busy)
 
--- the same, as the call finds the counts and the steps that are due
-pub paced_call : (wanted due : ℕ) (s t : State) (before after : Pace) (work : Work) (counts later : Counts)
+-- the same, as the call finds the counts and the steps that are due, whatever it finds of the looks that are left
+pub paced_call : (wanted due left later_left : ℕ) (s t : State) (before after : Pace) (work : Work) (counts later : Counts)
     → due ≡ steps_due before counts wanted → Pays before counts due
     → (due ≡ 0 → (t ≡ s) × (work ≡ no_work)) → (1 ≤ due → before.words ≡ 0 → IsWork AreFree None None due s t work) → (1 ≤ due → 1 ≤ before.words → IsWork Count None (Some before.words) (min due before.words) s t work)
     → after ≡ pace_after before due work later
-    → counts ≡ counts_of s → later ≡ counts_of t
+    → counts ≡ record (counts_of s) { roots_left = left } → later ≡ record (counts_of t) { roots_left = later_left }
     → IsSpaceGraph s.size s.heap.free s.heap.graph → IfSome s.collection (IsOpened s)
     → IsPacedWork wanted s t before after work
-paced_call wanted due s t before after work counts later is pays none some within pace at then heap opened =
+paced_call wanted due left later_left s t before after work counts later is pays none some within pace at then heap opened =
     let same : due ≡ steps_due before (counts_of s) wanted = is ∙ ap (λ (n : Counts). steps_due before n wanted) at in
     paced_work wanted s t before after work heap opened
     (subst (λ (n : ℕ). n ≡ 0 → (t ≡ s) × (work ≡ no_work)) same none)

@@ -3,13 +3,14 @@ use Rattle.std.specs.Prelude.{ℕ, min}
 use Rattle.std.specs.Option.{option_map_or}
 use Rattle.gc_plan.specs.State.{State, Collection, new_end, heap_end, extra_roots_of}
 use Rattle.gc_plan.specs.Progress.{entries_left}
+use Rattle.gc_collected.specs.Collected.{Collected}
 use Rattle.gc_pace.specs.declared.counts.Counts.{Counts}
 
 -- the entries in all logs, up to the largest number of 32 bits
 abbrev pub logged_in : State → ℕ
 logged_in s = min (entries_left s) 4294967295
 
--- the members that tell of the open collection are 0 if there is none
+-- The counts that follow from the state. The members that tell of the open collection are 0 if there is none.
 abbrev pub counts_of : State → Counts
 counts_of s = let told : (Collection → ℕ) → ℕ = λ f. option_map_or f s.collection 0 in record {
   size = s.size;
@@ -23,4 +24,9 @@ counts_of s = let told : (Collection → ℕ) → ℕ = λ f. option_map_or f s.
   scan_place = told (λ c. c.scan_place);
   scan_field = told (λ c. c.scan_field);
   logged = logged_in s;
+  roots_left = 0;
 }
+
+-- all counts of a heap, with the looks that are left
+abbrev pub counts_in : Collected → Counts
+counts_in h = record (counts_of h.core) { roots_left = h.roots_left }

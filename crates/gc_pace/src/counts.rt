@@ -31,6 +31,8 @@ pub struct Counts {
     pub scan_field: u32,
     /// The number of entries in all logs, or 4,294,967,295 if there are more.
     pub logged: u32,
+    /// The number of looks at extra roots until the open collection knows each of them, or that a collection takes which begins now.
+    pub roots_left: u32,
 }
 
 /// Returns the number of entries in all logs, up to the largest `u32`.
@@ -48,12 +50,12 @@ fn logged_in(heap: &CollectedHeap) -> u32
 
 impl Counts {
     ghost use Rattle.std.specs.Prelude.{◌≡◌, ◌<◌, ◌^◌};
-    ghost use Rattle.gc_pace.specs.Counts.{counts_of};
+    ghost use Rattle.gc_pace.specs.Counts.{counts_in};
     ghost use Rattle.gc_pace.specs.Pace as paces;
 
     /// Reads the counts of a heap.
     pub fn of(heap: &CollectedHeap) -> Counts
-        ensures { result ≡ counts_of heap.now.core }
+        ensures { result ≡ counts_in heap.now }
     {
         let mut counts = Counts {
             size: heap.size(),
@@ -67,6 +69,7 @@ impl Counts {
             scan_place: 0,
             scan_field: 0,
             logged: logged_in(heap),
+            roots_left: heap.roots_left(),
         };
         if let Some(space) = heap.new_space() {
             counts.is_open = 1;
