@@ -13,7 +13,7 @@ use Rattle.gcflip_heap_c.specs.declared.work.GcflipWork.{GcflipWork}
 
 -- C's report: the numbers that stand for the reply to the last step are 0 if no step was performed
 abbrev pub work_in_c : Work → GcflipWork
-work_in_c work = record { steps = work.steps; copied = work.copied; last = option_map_or step_reply_in_c work.last 0; pairs = option_map_or (pairs_after 0) work.last 0 }
+work_in_c work = record { steps = work.steps; copied = work.copied; last = option_map_or step_reply_in_c work.last 0; pairs = option_map_or (pairs_after 0) work.last 0; looks = work.looks }
 
 -- Work whose begin takes this size leads from one heap to another, and C is told of it. `relates` relates the states and the work.
 pub record Works (size : Option ℕ) (relates : State → State → Work → Type 0) (old new : Collected) (report : GcflipWork) : Type 0 where
@@ -25,7 +25,7 @@ pub record Works (size : Option ℕ) (relates : State → State → Work → Typ
 -- a call of such work, whose arguments are in range if `takes` holds
 abbrev pub IsWorkCall : Type 0 → Option ℕ → (State → State → Work → Type 0) → GcflipHeap → GcflipHeap → GcflipWork → ℕ → Type 0
 IsWorkCall takes size relates old new report answer =
-    IsCall (λ _. takes) (λ s t. (answer ≡ done) × Works size relates (record { core = s; beside = old.beside }) (record { core = t; beside = new.beside }) report) old.state new.state answer
+    IsCall (λ _. takes) (λ s t. (answer ≡ done) × Works size relates (record { core = s; beside = old.beside; roots_left = old.roots_left }) (record { core = t; beside = new.beside; roots_left = new.roots_left }) report) old.state new.state answer
 
 -- the rooms after a refused call: where memory was refused, some may have been freed
 abbrev pub RefusedRooms : ℕ → Rooms → Rooms → Type 0

@@ -1,10 +1,10 @@
 //! The handle by which C holds a heap.
 
-ghost use Rattle.std.specs.Prelude.{◌≡◌, Option, Some, None, IsSome, MatchBool, MatchOption};
+ghost use Rattle.std.specs.Prelude.{◌≡◌, ℕ, Option, Some, None, IsSome, MatchBool, MatchOption};
 ghost use Rattle.std.specs.Borrow.{sem};
 ghost use Rattle.gc_plan.specs.State.{State};
 ghost use Rattle.gc_collected.specs.Collected.{Beside};
-ghost use Rattle.gcflip_heap_c.specs.Handle.{owns_heap, coded_state, coded_beside};
+ghost use Rattle.gcflip_heap_c.specs.Handle.{owns_heap, coded_state, coded_beside, coded_roots_left};
 
 use crate::parts::Parts;
 use gc_collected::CollectedHeap;
@@ -13,8 +13,8 @@ use std::marker::Model;
 use std::mem::replace;
 use std::ptr::null_mut;
 
-/// A handle: a pointer to a heap, or null. Contracts see the state of the heap, if there is one, and beside it how flips are checked, the memory
-/// that waits, and what the last flip left.
+/// A handle: a pointer to a heap, or null. Contracts see the state of the heap, if there is one; beside it how flips are checked, the memory
+/// that waits, and what the last flip left; and how many looks at extra roots are left.
 #[repr(C)]
 #[derive(Drop)]
 pub struct GcflipHeap {
@@ -22,10 +22,11 @@ pub struct GcflipHeap {
     alloc: Global,
     ghost state: { Option State } by { coded_state },
     ghost beside: { Beside } by { coded_beside },
+    ghost roots_left: { ℕ } by { coded_roots_left },
 }
 
 impl Model for GcflipHeap {
-    ghost also_owns = { λ handle. owns_heap handle.alloc handle.at handle.state handle.beside };
+    ghost also_owns = { λ handle. owns_heap handle.alloc handle.at handle.state handle.beside handle.roots_left };
 }
 
 impl GcflipHeap {
@@ -50,7 +51,7 @@ impl GcflipHeap {
     pub(crate) fn heap_mut(&mut self) -> &mut CollectedHeap
         requires { IsSome self.old.state }
         ensures* writes_back { sem 𝓛 (LendsHeap self.entry result) }
-        ensures value { (self.old.state ≡ Some result.now.core) × (self.old.beside ≡ result.now.beside) }
+        ensures value { (self.old.state ≡ Some result.now.core) × (self.old.beside ≡ result.now.beside) × (self.old.roots_left ≡ result.now.roots_left) }
     {
         let at = self.at as *mut CollectedHeap;
         unsafe { &mut *at }
@@ -60,6 +61,7 @@ impl GcflipHeap {
     pub(crate) fn full(heap: Box<CollectedHeap>) -> GcflipHeap
         ensures state { result.state ≡ Some heap.value.core }
         ensures beside { result.beside ≡ heap.value.beside }
+        ensures left { result.roots_left ≡ heap.value.roots_left }
     {
         GcflipHeap::of_parts(Parts::of(heap))
     }
@@ -80,7 +82,7 @@ impl GcflipHeap {
     }
 
     fn of_parts(parts: Parts<CollectedHeap, Global>) -> GcflipHeap
-        ensures { (result.state ≡ Some parts.value.core) × (result.beside ≡ parts.value.beside) }
+        ensures { (result.state ≡ Some parts.value.core) × (result.beside ≡ parts.value.beside) × (result.roots_left ≡ parts.value.roots_left) }
     {
         let Parts { at, alloc } = parts;
         let at = at as *mut u8;
@@ -89,7 +91,7 @@ impl GcflipHeap {
 
     fn into_parts(self) -> Parts<CollectedHeap, Global>
         requires { IsSome self.state }
-        ensures { (Some result.value.core ≡ self.state) × (result.value.beside ≡ self.beside) }
+        ensures { (Some result.value.core ≡ self.state) × (result.value.beside ≡ self.beside) × (result.value.roots_left ≡ self.roots_left) }
     {
         let GcflipHeap { at, alloc } = self;
         let at = at as *mut CollectedHeap;

@@ -90,7 +90,7 @@ pub extern "C" fn gcflip_heap_touch(heap: &mut GcflipHeap) -> u32
     ensures heap { heap.new.state ≡ heap.old.state }
     // Then there is room for a collection as large as the heap, unless one is open. Nothing else has changed.
     ensures rooms { result ≡ done → IsSomeAnd heap.old.state (λ s.
-        heap.new.beside ≡ record heap.old.beside { rooms = rooms_touched (record { core = s; beside = heap.old.beside }) }) }
+        heap.new.beside ≡ record heap.old.beside { rooms = rooms_touched (record { core = s; beside = heap.old.beside; roots_left = heap.old.roots_left }) }) }
     ensures kept { 1 ≤ result → heap.new.beside ≡ heap.old.beside }
     ensures closed { (result ≡ closed_handle) ↔ (heap.old.state ≡ None) }
 {

@@ -27,7 +27,7 @@ pub struct GcflipLogEntry {
 #[unsafe(no_mangle)]
 pub extern "C" fn gcflip_heap_counts(heap: &mut GcflipHeap, counts: &mut Counts) -> u32
     ensures answers { (result ≡ done) ⊎ (result ≡ closed_handle) }
-    ensures counts { IfSome heap.old.state (λ s. counts.new ≡ counts_of s) }
+    ensures counts { IfSome heap.old.state (λ s. counts.new ≡ record (counts_of s) { roots_left = heap.old.roots_left }) }
     ensures heap { heap.new.state ≡ heap.old.state }
     ensures silent { result ≡ closed_handle → counts.new ≡ counts.old }
     ensures closed { (result ≡ closed_handle) ↔ (heap.old.state ≡ None) }

@@ -5,6 +5,7 @@ ghost use Rattle.gc_check.specs.InC.{done, no_memory};
 ghost use Rattle.gc_plan.specs.Steps.{useful_step};
 ghost use Rattle.gc_collected.specs.CollectedHeap.{Allocates};
 ghost use Rattle.gc_pace.specs.Work.{IsWork, sized_step};
+ghost use Rattle.gc_pace.specs.declared.work.Looks.{Looks};
 ghost use Rattle.gcflip_heap_c.specs.Work.{IsWorkCall, RefusedRooms, work_in_c};
 
 use crate::answer::{DONE, NO_MEMORY, OUT_OF_RANGE};
@@ -26,6 +27,8 @@ pub struct GcflipWork {
     pub last: u32,
     /// The number of pairs if the last step flipped, otherwise 0.
     pub pairs: u32,
+    /// The number of looks at extra roots whose targets had replicas.
+    pub looks: u32,
 }
 
 /// Returns the report as C sees it.
@@ -41,6 +44,7 @@ fn report(work: Work) -> GcflipWork
         copied: work.copied,
         last,
         pairs,
+        looks: work.looks,
     }
 }
 
@@ -66,9 +70,9 @@ fn is_fit(size: Option<u32>, most: u32) -> bool
     most >= 1 && !matches!(size, Some(0))
 }
 
-// Performs at most `most` useful steps, unless an argument is out of range.
+// Performs at most `most` units of work, unless an argument is out of range.
 fn work_sized(heap: &mut GcflipHeap, size: Option<u32>, most: u32, work: &mut GcflipWork) -> u32
-    ensures call { IsWorkCall ((1 ≤ most) × IfSome size (λ words. 1 ≤ words)) size (IsWork size None most) heap.old heap.new work.new result }
+    ensures call { IsWorkCall ((1 ≤ most) × IfSome size (λ words. 1 ≤ words)) size (IsWork Looks.Count size None most) heap.old heap.new work.new result }
     ensures silent { 1 ≤ result → work.new ≡ work.old }
     ensures memory { result ≡ no_memory → IsSomeAnd heap.old.state (λ s. Allocates s (sized_step size s)) }
     // A refused call changes nothing but the memory that waits.
@@ -82,11 +86,12 @@ fn work_sized(heap: &mut GcflipHeap, size: Option<u32>, most: u32, work: &mut Gc
     of_work(work_on(heap, size, most), work)
 }
 
-/// Performs at most `most` useful steps, and writes a report of them to `work`. Stops after a flip, and after a step
-/// that finds no room. If an allocation fails, stops before that step, and returns 1 only if that was the first step.
+/// Performs at most `most` units of work, and writes a report of them to `work`. A useful step is a unit, and so are 32 looks at extra roots that find
+/// nothing to copy. Stops after a flip, and after a step that finds no room. If an allocation fails, stops before that step, and returns 1 only if that
+/// was the first step.
 #[unsafe(no_mangle)]
 pub extern "C" fn gcflip_heap_work(heap: &mut GcflipHeap, most: u32, work: &mut GcflipWork) -> u32
-    ensures call { IsWorkCall (1 ≤ most) None (IsWork None None most) heap.old heap.new work.new result }
+    ensures call { IsWorkCall (1 ≤ most) None (IsWork Looks.Count None None most) heap.old heap.new work.new result }
     ensures silent { 1 ≤ result → work.new ≡ work.old }
     ensures memory { result ≡ no_memory → IsSomeAnd heap.old.state (λ s. Allocates s (useful_step s)) }
     // A refused call changes nothing but the memory that waits.
@@ -104,7 +109,7 @@ pub extern "C" fn gcflip_heap_work_sized(
     size: u32,
     work: &mut GcflipWork,
 ) -> u32
-    ensures call { IsWorkCall ((1 ≤ most) × (1 ≤ size)) (Some size) (IsWork (Some size) None most) heap.old heap.new work.new result }
+    ensures call { IsWorkCall ((1 ≤ most) × (1 ≤ size)) (Some size) (IsWork Looks.Count (Some size) None most) heap.old heap.new work.new result }
     ensures silent { 1 ≤ result → work.new ≡ work.old }
     ensures memory { result ≡ no_memory → IsSomeAnd heap.old.state (λ s. Allocates s (sized_step (Some size) s)) }
     // A refused call changes nothing but the memory that waits.
@@ -122,7 +127,7 @@ pub extern "C" fn gcflip_heap_work_within(
     words: u32,
     work: &mut GcflipWork,
 ) -> u32
-    ensures call { IsWorkCall (1 ≤ most) None (IsWork None (Some words) most) heap.old heap.new work.new result }
+    ensures call { IsWorkCall (1 ≤ most) None (IsWork Looks.Count None (Some words) most) heap.old heap.new work.new result }
     ensures silent { 1 ≤ result → work.new ≡ work.old }
     ensures memory { result ≡ no_memory → IsSomeAnd heap.old.state (λ s. Allocates s (useful_step s)) }
     // A refused call changes nothing but the memory that waits.

@@ -41,7 +41,7 @@ empty_spec 𝓤 𝓛 𝓜 𝓡 wired =
     proved_at 𝓛 f.ended stayed c 𝓜 𝓡 (Goes-dropped 𝓛 0 (plain (λ _. heap_box.al.row)) yes (λ κs x w. refl), tt)
     f.Key.name code.function (code.unfolded 𝓤 𝓛.H 𝓜 𝓡 wired) (λ y are.
     let alloc = y.0.3.0 in
-    let made : Handle.Denot = record { at = null_ptr; alloc = alloc; state = None; beside = opening_beside AtFlip } in
+    let made : Handle.Denot = record { at = null_ptr; alloc = alloc; state = None; beside = opening_beside AtFlip; roots_left = 0 } in
     qed 𝓛 ((‵ ftrue ⊛ ‵ (fsep (heap_box.al.row.own_val alloc y.0.4.0) ftrue)) ∷ raw (emp 𝓤) ∷ []) ∵
     split ! $ drop ! $ fsplit ! $ handle_tells heap_box.al ! alloc y.0.4.0 (λ bits words typed.
     regoal ! (λ (vs : List Val). prop (WpFn 𝓤 𝓛.H 𝓣.C 𝓣.Λ code.function (vs ++ []) (W.post y))) words refl $

@@ -63,7 +63,7 @@ heap_mut_spec 𝓤 𝓛 𝓜 𝓡 wired =
     let y : W.Ghost = ((κs, qs, bounds, a, (vs, tt)), tt) in
     qed 𝓛 (((‵ (flft κ q) ⊛ ‵ ftrue) ⊛ ‵ ((MutRef (named 0) κ Handle).own_val a.0 vs) ⊛ ‵ ftrue) ∷ raw (fact 𝓤 (IsSome h.state)) ∷ []) ∵
     move ! (1 ∷ []) $ heard ! _ (λ is. let heap = there h.state is in
-    let kept : X heap_box = record { core = heap.0; beside = h.beside } in
+    let kept : X heap_box = record { core = heap.0; beside = h.beside; roots_left = h.roots_left } in
     let boxed : D heap_box = record { ptr = h.at; alloc = h.alloc; value = kept } in
     split ! $ split ! $ move ! (2 ∷ []) $ split ! $ keep ! (0 ∷ 2 ∷ []) $
     enter ! _ _ _ _ _ $ alloc_all ! (λ l. pass_all ! refl ((tt, tt), tt) $
@@ -85,4 +85,4 @@ heap_mut_spec 𝓤 𝓛 𝓜 𝓡 wired =
     returns ! (look_at ! 0 refl) $ free_all ! refl $ keep ! (0 ∷ []) $
     use1 𝓛 (‵ ((MutRef (named 0) κ Heap.the_row).own_val (record { ref_ptr = (b, o); ghost_name = δ; now = kept }) (vptr b o ∷ [])) ⊛ ‵ (flft κ q) ⊛ ‵ (follows Handle Heap.the_row γ δ (with_heap h))) (id⊢ 𝓤 _) $ split ! $ move ! (1 ∷ []) $ split ! $ move ! (2 ∷ 0 ∷ 1 ∷ []) $
     suffices ! _ (ends_at 𝓛 f.ended stayed c y (vptr b o) (record { ref_ptr = (b, o); ghost_name = δ; now = kept }) (tt, tt) (tt, tt)) $
-    nothing ! $ nothing ! $ fjoin ! $ join ! $ nothing ! $ move ! (2 ∷ 0 ∷ []) $ join ! $ join ! $ frame ! $ says ! (heap.1, refl) $ done !))))))
+    nothing ! $ nothing ! $ fjoin ! $ join ! $ nothing ! $ move ! (2 ∷ 0 ∷ []) $ join ! $ join ! $ frame ! $ says ! (heap.1, refl, refl) $ done !))))))

@@ -34,7 +34,7 @@ into_parts_spec 𝓤 𝓛 𝓜 𝓡 wired =
     let handle = y.0.3.0 in
     qed 𝓛 ((‵ ftrue ⊛ ‵ (fsep (Handle.own_val handle y.0.4.0) ftrue)) ∷ raw (fact 𝓤 (IsSome handle.state)) ∷ []) ∵
     move ! (1 ∷ []) $ heard ! _ (λ is. let heap = there handle.state is in
-    let kept : X heap_box = record { core = heap.0; beside = handle.beside } in
+    let kept : X heap_box = record { core = heap.0; beside = handle.beside; roots_left = handle.roots_left } in
     let boxed : D heap_box = record { ptr = handle.at; alloc = handle.alloc; value = kept } in
     let made : Held.Denot = record { at = handle.at; alloc = handle.alloc; value = kept } in
     split ! $ drop ! $ fsplit ! $
@@ -52,5 +52,5 @@ into_parts_spec 𝓤 𝓛 𝓜 𝓡 wired =
     sets ! (of_opd ! (get ! refl)) refl (tt, tt) $
     sets ! (agg ! (and_then ! (get ! refl) (and_then ! (get ! refl) (no_more !)))) refl (box_typed heap_box bits b o typed) $
     returns ! (look_at ! 0 refl) $ free_all ! refl $
-    suffices ! _ (ends_at 𝓛 f.ended stayed c y held made (tt, tt) (tt, tt)) $ says ! (sym heap.1, refl) $
+    suffices ! _ (ends_at 𝓛 f.ended stayed c y held made (tt, tt) (tt, tt)) $ says ! (sym heap.1, refl, refl) $
     nothing ! $ nothing ! $ fjoin ! $ join ! $ nothing ! $ join ! $ done !))))

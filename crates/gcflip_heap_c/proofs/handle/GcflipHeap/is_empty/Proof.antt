@@ -1,5 +1,5 @@
 -- A handle is compared with null, and does not change.
-use Rattle.std.proofs.Common.{◌≡◌, Bool, true, false, List, [], ◌∷◌, refl, sym, subst, lit<, Option, Some, None, IsSome, MatchBool}
+use Rattle.std.proofs.Common.{◌≡◌, ℕ, Bool, true, false, List, [], ◌∷◌, refl, sym, subst, lit<, Option, Some, None, IsSome, MatchBool}
 use lib.Dec.{T}
 use seplogic.Ra.Ura.{Ura}
 use mir.Syntax.{named, ty_ptr, ptr_eq}
@@ -58,16 +58,16 @@ answer (block_ptr b o) None e = absurd (subst InBlock e tt)
 answer (block_ptr b o) (Some x) t = (false, refl, refl)
 answer null_ptr (Some x) t = absurd t
 
-module _ {M : Type 1} {𝓤 : Ura M} (𝓛 : Logic 𝓤) (a : Global) (p : Ptr) (beside : Beside) where
-  tested : (x : X) → ent 𝓤 (sem 𝓛 (owns_heap a p (Some x) beside)) (guard 𝓤 (Testable p) (sem 𝓛 (owns_heap a p (Some x) beside)))
+module _ {M : Type 1} {𝓤 : Ura M} (𝓛 : Logic 𝓤) (a : Global) (p : Ptr) (beside : Beside) (left : ℕ) where
+  tested : (x : X) → ent 𝓤 (sem 𝓛 (owns_heap a p (Some x) beside left)) (guard 𝓤 (Testable p) (sem 𝓛 (owns_heap a p (Some x) beside left)))
   tested x = fact_use 𝓤 (Testable p)
-      (via 𝓤 _ (snd∗ 𝓤 (sem 𝓛 (lies_at Row.the_row full_share p (record { core = x; beside = beside }))) (sem 𝓛 (ghosts.dealloc_token a (bare (lone Row.the_row.mir)) p))) (dealloc_token-Testable 𝓛 a (bare (lone Row.the_row.mir)) p))
-      (guard_i 𝓤 (Testable p) (sem 𝓛 (owns_heap a p (Some x) beside)))
+      (via 𝓤 _ (snd∗ 𝓤 (sem 𝓛 (lies_at Row.the_row full_share p (record { core = x; beside = beside; roots_left = left }))) (sem 𝓛 (ghosts.dealloc_token a (bare (lone Row.the_row.mir)) p))) (dealloc_token-Testable 𝓛 a (bare (lone Row.the_row.mir)) p))
+      (guard_i 𝓤 (Testable p) (sem 𝓛 (owns_heap a p (Some x) beside left)))
 
-  tells : (row : Option X) → ent 𝓤 (sem 𝓛 (owns_heap a p row beside)) (guard 𝓤 (Testable p × Placed p row) (sem 𝓛 (owns_heap a p row beside)))
+  tells : (row : Option X) → ent 𝓤 (sem 𝓛 (owns_heap a p row beside left)) (guard 𝓤 (Testable p × Placed p row) (sem 𝓛 (owns_heap a p row beside left)))
   tells None = qed 𝓛 (‵ (feq Ptr p null_ptr) ∷ []) ∵ feq_l ! (λ e. check ! (subst Testable (sym e) (lit< tt), e) $ feq_i ! Ptr p null_ptr e $ done !)
   tells (Some x) =
-      let Owns = λ (q : Ptr). box_owns (ghosts.dealloc_token a) Row.the_row q (record { core = x; beside = beside }) in
+      let Owns = λ (q : Ptr). box_owns (ghosts.dealloc_token a) Row.the_row q (record { core = x; beside = beside; roots_left = left }) in
       qed 𝓛 (‵ (Owns p) ∷ []) ∵ use1 𝓛 (given (Testable p) (‵ (Owns p))) (tested x) $ learn ! (λ t.
       in_a_block ! p Owns (fst∗ 𝓤 (never 𝓤) (sem 𝓛 (ghosts.dealloc_token a (bare (lone Row.the_row.mir)) null_ptr))) (λ b o e.
       check ! (t, subst InBlock (sym e) tt) $ rewrite ! 0 (λ (q : Ptr). ‵ (Owns q)) (sym e) refl $ done !))
@@ -85,7 +85,7 @@ is_empty_spec 𝓤 𝓛 𝓜 𝓡 wired =
     enter ! _ _ _ _ _ $ alloc_all ! (λ l. pass_all ! refl ((tt, tt), tt) $
     fsplit3 ! $ move ! (1 ∷ 2 ∷ 3 ∷ []) $ opens ! tt R b o (λ us.
     move ! (1 ∷ []) $ peeks ! R _ (shows 𝓛 R) h us (λ seen. fsplit ! $ move ! (1 ∷ []) $
-    use1 𝓛 (given (Testable h.at × Placed h.at h.state) (‵ (owns_heap h.alloc h.at h.state h.beside))) (tells 𝓛 h.alloc h.at h.beside h.state) $ learn ! (λ there.
+    use1 𝓛 (given (Testable h.at × Placed h.at h.state) (‵ (owns_heap h.alloc h.at h.state h.beside h.roots_left))) (tells 𝓛 h.alloc h.at h.beside h.roots_left h.state) $ learn ! (λ there.
     let found = answer h.at h.state there.1 in
     let word = lowers.val_is h us seen in
     let Cell = λ (ws : List Val). ‵ (cell_at full_share R.mir ws b o) in

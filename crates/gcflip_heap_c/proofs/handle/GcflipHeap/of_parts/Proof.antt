@@ -31,7 +31,7 @@ of_parts_spec 𝓤 𝓛 𝓜 𝓡 wired =
     f.Key.name code.function (code.unfolded 𝓤 𝓛.H 𝓜 𝓡 wired) (λ y are.
     let parts = y.0.3.0 in
     let boxed : D heap_box = record { ptr = parts.at; alloc = parts.alloc; value = parts.value } in
-    let made : Handle.Denot = record { at = parts.at; alloc = parts.alloc; state = Some parts.value.core; beside = parts.value.beside } in
+    let made : Handle.Denot = record { at = parts.at; alloc = parts.alloc; state = Some parts.value.core; beside = parts.value.beside; roots_left = parts.value.roots_left } in
     qed 𝓛 ((‵ ftrue ⊛ ‵ (fsep ((B heap_box).own_val boxed y.0.4.0) ftrue)) ∷ raw (emp 𝓤) ∷ []) ∵
     split ! $ drop ! $ fsplit ! $ box_out heap_box ! boxed y.0.4.0 (λ b o bits place words typed.
     let held = word heap_box bits b o in
@@ -45,5 +45,5 @@ of_parts_spec 𝓤 𝓛 𝓜 𝓡 wired =
     sets ! (of_opd ! (get ! refl)) refl (tt, tt) $
     sets ! (agg ! (and_then ! (get ! refl) (and_then ! (get ! refl) (no_more !)))) refl (box_typed heap_box bits b o typed) $
     returns ! (look_at ! 0 refl) $ free_all ! refl $
-    suffices ! _ (ends_at 𝓛 f.ended stayed c y held made (tt, tt) (tt, tt)) $ says ! (refl, refl) $
+    suffices ! _ (ends_at 𝓛 f.ended stayed c y held made (tt, tt) (tt, tt)) $ says ! (refl, refl, refl) $
     nothing ! $ nothing ! $ fjoin ! $ join ! $ nothing ! $ join ! $ done !)))
