@@ -193,14 +193,14 @@ static void few_in_use(void)
 
 static void frames(void)
 {
-    gcflip_frame frame = {2, 5, 2}, other = {5, 8, 5}, wrong = {2, 9, 2};
+    gcflip_frame frame = {2, 5, 2, 0}, other = {5, 8, 5, 5}, wrong = {2, 9, 2, 2};
     open_heap(64, 2, FEW);
     EXPECT(gcflip_heap_frame_pop(&heap, 0, 0, &frame) == GCFLIP_FRAME_EMPTY && frame.top == 2);
     for (uint32_t k = 0; k < 3; k++) {
         EXPECT(gcflip_heap_set_number(&heap, 0, 0, k) == GCFLIP_DONE);
         EXPECT(gcflip_heap_frame_push(&heap, 0, 0, &frame) == GCFLIP_DONE && frame.top == 3 + k);
     }
-    EXPECT(gcflip_heap_frame_push(&heap, 0, 0, &frame) == GCFLIP_FRAME_FULL && frame.top == 5);
+    EXPECT(gcflip_heap_frame_push(&heap, 0, 0, &frame) == GCFLIP_FRAME_FULL && frame.top == 5 && frame.high == 5);
     EXPECT(gcflip_heap_set_number(&heap, 1, 0, 77) == GCFLIP_DONE);
     EXPECT(gcflip_heap_frame_push(&heap, 1, 0, &other) == GCFLIP_DONE && other.top == 6 && other.first == 5 && other.end == 8);
     for (uint32_t k = 3; k-- > 0;) {
@@ -227,6 +227,9 @@ static void frames(void)
     EXPECT(gcflip_heap_frame_push(&heap, 0, 32, &wrong) == GCFLIP_OUT_OF_RANGE);
     EXPECT(gcflip_heap_frame_pop(&heap, 2, 0, &wrong) == GCFLIP_OUT_OF_RANGE);
     EXPECT(gcflip_heap_frame_pop(&heap, 0, 32, &wrong) == GCFLIP_OUT_OF_RANGE && wrong.top == 3);
+    wrong.high = 6;
+    EXPECT(gcflip_heap_frame_push(&heap, 0, 0, &wrong) == GCFLIP_OUT_OF_RANGE);
+    EXPECT(gcflip_heap_frame_pop(&heap, 0, 0, &wrong) == GCFLIP_OUT_OF_RANGE && wrong.top == 3 && wrong.high == 6);
     close_heap();
     EXPECT(gcflip_heap_frame_push(&heap, 0, 0, &frame) == GCFLIP_CLOSED);
     EXPECT(gcflip_heap_frame_pop(&heap, 0, 0, &frame) == GCFLIP_CLOSED);
@@ -235,10 +238,104 @@ static void frames(void)
     EXPECT(gcflip_heap_root_clear(&heap, 0, 0) == GCFLIP_CLOSED);
 }
 
+/* Trims the frame, and expects this `high` and no other change of its numbers. */
+static void trims(gcflip_frame *frame, uint32_t most, uint32_t high)
+{
+    const gcflip_frame old = *frame;
+    EXPECT(gcflip_heap_frame_trim(&heap, frame, most) == GCFLIP_DONE && frame->high == high);
+    EXPECT(frame->first == old.first && frame->end == old.end && frame->top == old.top);
+}
+
+/* Expects that a trim of this frame is out of range, and leaves its numbers. */
+static void is_not_trimmed(gcflip_frame frame)
+{
+    const gcflip_frame old = frame;
+    EXPECT(gcflip_heap_frame_trim(&heap, &frame, 1) == GCFLIP_OUT_OF_RANGE && frame.high == old.high);
+    EXPECT(frame.first == old.first && frame.end == old.end && frame.top == old.top);
+}
+
+/* What a lowered top drops lives until a trim clears its root, and is gone after the next collection. */
+static void dropped_values(void)
+{
+    gcflip_frame frame = {1, FEW, 1, 0};
+    open_heap(512, 1, FEW);
+    for (uint32_t k = 0; k < FEW - 1; k++) {
+        store_number(0, 40 + k);
+        EXPECT(gcflip_heap_root_load(&heap, 0, 0, 0) == GCFLIP_DONE);
+        EXPECT(gcflip_heap_frame_push(&heap, 0, 0, &frame) == GCFLIP_DONE && frame.top == 2 + k && frame.high == 2 + k);
+    }
+    EXPECT(gcflip_heap_set_nil(&heap, 0, 0) == GCFLIP_DONE && gcflip_heap_root_clear(&heap, 0, 1) == GCFLIP_DONE);
+    EXPECT(gcflip_heap_frame_pop(&heap, 0, 2, &frame) == GCFLIP_DONE && frame.top == 7 && frame.high == 7);
+    EXPECT(gcflip_heap_set_nil(&heap, 0, 2) == GCFLIP_DONE && collected(1) == 6);
+    frame.top = 3;
+    EXPECT(collected(1) == 6);
+    trims(&frame, 0, 7);
+    EXPECT(collected(100) == 6);
+    trims(&frame, 1, 6);
+    EXPECT(collected(1) == 5);
+    refers(5, 44);
+    /* while a collection is open, that has not seen the roots */
+    EXPECT(gcflip_heap_step_begin(&heap) == GCFLIP_BEGUN);
+    trims(&frame, 2, 4);
+    EXPECT(collected(1) == 3);
+    refers(3, 42);
+    trims(&frame, UINT32_MAX, 3);
+    EXPECT(collected(100) == 2);
+    refers(1, 40);
+    refers(2, 41);
+    trims(&frame, UINT32_MAX, 3);
+    close_heap();
+}
+
+/* A push over dropped values leaves those above it to a trim, and so does the pop after it. */
+static void pushes_over_dropped_values(void)
+{
+    gcflip_frame frame = {0, FEW, 0, 0};
+    open_heap(64, 1, FEW);
+    for (uint32_t k = 0; k < 6; k++) {
+        EXPECT(gcflip_heap_set_number(&heap, 0, 0, k) == GCFLIP_DONE);
+        EXPECT(gcflip_heap_frame_push(&heap, 0, 0, &frame) == GCFLIP_DONE);
+    }
+    frame.top = 2;
+    EXPECT(gcflip_heap_frame_push(&heap, 0, 0, &frame) == GCFLIP_DONE && frame.top == 3 && frame.high == 6);
+    EXPECT(gcflip_heap_frame_pop(&heap, 0, 1, &frame) == GCFLIP_DONE && frame.top == 2 && frame.high == 6);
+    holds(0, 1, 5);
+    for (uint32_t k = 3; k < 6; k++) {
+        EXPECT(gcflip_heap_root_load(&heap, 0, 2, k) == GCFLIP_DONE);
+        holds(0, 2, k);
+    }
+    trims(&frame, 2, 4);
+    for (uint32_t k = 0; k < FEW; k++) {
+        EXPECT(gcflip_heap_root_load(&heap, 0, 2, k) == GCFLIP_DONE);
+        if (k < 2 || k == 3)
+            holds(0, 2, k);
+        else
+            holds_nil(0, 2);
+    }
+    frame.top = 5; /* `high` is 4, and counts as 5 */
+    trims(&frame, 3, 5);
+    frame.high = 0;
+    EXPECT(gcflip_heap_frame_pop(&heap, 0, 1, &frame) == GCFLIP_DONE && frame.top == 4 && frame.high == 4);
+    frame.high = 0;
+    EXPECT(gcflip_heap_frame_push(&heap, 0, 0, &frame) == GCFLIP_DONE && frame.top == 5 && frame.high == 5);
+    frame.high = FEW;
+    trims(&frame, 3, 5);
+    EXPECT(gcflip_heap_root_load(&heap, 0, 2, 4) == GCFLIP_DONE);
+    holds(0, 2, 5);
+    is_not_trimmed((gcflip_frame){2, FEW, 3, FEW + 1}); /* `high` above the end */
+    is_not_trimmed((gcflip_frame){2, FEW, 1, 4});       /* the top below the first */
+    is_not_trimmed((gcflip_frame){2, 4, 5, 4});         /* the top above the end */
+    is_not_trimmed((gcflip_frame){2, FEW + 1, 3, 4});   /* the end above the extra roots */
+    EXPECT(gcflip_heap_root_load(&heap, 0, 2, 4) == GCFLIP_DONE);
+    holds(0, 2, 5);
+    close_heap();
+    EXPECT(gcflip_heap_frame_trim(&heap, &frame, 1) == GCFLIP_CLOSED && frame.top == 5 && frame.high == 5);
+}
+
 /* A stack of many objects, over several collections, with a command before each `work`. */
 static void many(void)
 {
-    gcflip_frame stack = {0, MANY, 0};
+    gcflip_frame stack = {0, MANY, 0, 0};
     open_heap(16 * MANY, 1, MANY);
     for (uint32_t k = 0; k < MANY; k++) {
         EXPECT(gcflip_heap_new_object(&heap, 0, 0, KIND, 1) == GCFLIP_MADE);
@@ -272,6 +369,8 @@ int main(void)
     collections();
     few_in_use();
     frames();
+    dropped_values();
+    pushes_over_dropped_values();
     many();
     return 0;
 }

@@ -16,6 +16,7 @@ FILE *gcflip_trace;
 #define MOST 70000
 #define KEPT 0x5a5a5a5a5a5a5a5aull
 #define KEPT_32 0x5a5a5a5au
+#define IS(text) (strcmp(name, text) == 0)
 
 static gcflip_heap heap = GCFLIP_NO_HEAP;
 static uint64_t a[MOST];
@@ -159,13 +160,15 @@ static void work_paced(uint32_t wanted)
 }
 
 #ifndef BASIC
-static void frame(bool is_push)
+/* Performs a call on a frame, whose numbers come first. */
+static void frame(const char *name)
 {
-    gcflip_frame frame = {(uint32_t)a[2], (uint32_t)a[3], (uint32_t)a[4]};
-    uint32_t answer = is_push ? gcflip_heap_frame_push(&heap, (uint8_t)a[0], (uint8_t)a[1], &frame)
-                              : gcflip_heap_frame_pop(&heap, (uint8_t)a[0], (uint8_t)a[1], &frame);
-    EXPECT(frame.first == a[2] && frame.end == a[3]);
-    printf("%s %u\n", reply(answer), frame.top);
+    gcflip_frame frame = {(uint32_t)a[0], (uint32_t)a[1], (uint32_t)a[2], (uint32_t)a[3]};
+    uint32_t answer = IS("frame_push")  ? gcflip_heap_frame_push(&heap, (uint8_t)a[4], (uint8_t)a[5], &frame)
+                      : IS("frame_pop") ? gcflip_heap_frame_pop(&heap, (uint8_t)a[4], (uint8_t)a[5], &frame)
+                                        : gcflip_heap_frame_trim(&heap, &frame, (uint32_t)a[4]);
+    EXPECT(frame.first == a[0] && frame.end == a[1]);
+    printf("%s %u %u\n", reply(answer), frame.top, frame.high);
 }
 #endif
 
@@ -325,8 +328,6 @@ static void moved(void)
 }
 #endif
 
-#define IS(text) (strcmp(name, text) == 0)
-
 static uint32_t open_heap(void)
 {
     gcflip_options options = gcflip_options_default((uint32_t)a[0], (uint8_t)a[1]);
@@ -405,8 +406,7 @@ static void perform(const char *name)
     else if (IS("work_paced")) work_paced((uint32_t)a[0]);
 #ifndef BASIC
     else if (IS("moved")) moved();
-    else if (IS("frame_push")) frame(true);
-    else if (IS("frame_pop")) frame(false);
+    else if (strncmp(name, "frame_", 6) == 0) frame(name);
 #endif
     else printf("%s\n", reply(plain(name)));
 }

@@ -65,7 +65,7 @@ static void command_by_places(int call)
         EXPECT(gcflip_look(&heap, 16, &view) == GCFLIP_NUMBER && view.number == 7);
 }
 
-enum { NAMING_ROOTS = 5, WITHOUT_LINES = 6, BY_PLACES = 7 };
+enum { NAMING_ROOTS = 6, WITHOUT_LINES = 7, BY_PLACES = 7 };
 
 /* Opens a heap with extra roots, and names one by each call in turn. Then it makes a reference of an address, and last it names roots by their
  * places. */
@@ -73,7 +73,7 @@ static void end_recordings(void)
 {
     for (int call = 0; call < WITHOUT_LINES + BY_PLACES; call++) {
         gcflip_options options = gcflip_options_default(64, 1);
-        gcflip_frame frame = {0, 4, 0};
+        gcflip_frame frame = {0, 4, 0, 0};
         long lines;
         options.extra_roots = 4;
         gcflip_trace = tmpfile();
@@ -97,6 +97,10 @@ static void end_recordings(void)
         if (call == 4) {
             frame.top = 2;
             EXPECT(gcflip_heap_frame_pop(&heap, 0, 1, &frame) == GCFLIP_DONE && frame.top == 1);
+        }
+        if (call == 5) {
+            frame.high = 4;
+            EXPECT(gcflip_heap_frame_trim(&heap, &frame, 2) == GCFLIP_DONE && frame.high == 2);
         }
         if (call == NAMING_ROOTS)
             EXPECT(gcflip_heap_refer(&heap, 0, 3, 1) == GCFLIP_DONE);
@@ -180,12 +184,13 @@ static void make_calls_without_lines(void)
 {
     uint64_t number = 0;
     gcflip_view view = {0, 0, 0};
-    gcflip_frame frame = {0, 4, 0};
+    gcflip_frame frame = {0, 4, 0, 0};
     REPLIES(gcflip_heap_root_store(&heap, 0, 3, 0), GCFLIP_DONE, false);
     REPLIES(gcflip_heap_root_load(&heap, 0, 1, 3), GCFLIP_DONE, false);
     REPLIES(gcflip_heap_root_clear(&heap, 0, 4), GCFLIP_DONE, false);
     REPLIES(gcflip_heap_frame_push(&heap, 0, 0, &frame), GCFLIP_DONE, false);
     REPLIES(gcflip_heap_frame_pop(&heap, 0, 0, &frame), GCFLIP_DONE, false);
+    REPLIES(gcflip_heap_frame_trim(&heap, &frame, 4), GCFLIP_DONE, false);
     REPLIES(gcflip_heap_refer(&heap, 0, 1, 1), GCFLIP_DONE, false);
     REPLIES(gcflip_new(&heap, 35, 1, 1), GCFLIP_MADE, false);
     REPLIES(gcflip_set_number(&heap, 34, 5), GCFLIP_DONE, false);

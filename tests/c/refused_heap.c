@@ -220,11 +220,14 @@ static void paced_work_before_a_failure(void)
 /* Makes the moves of extra roots. */
 static void move_roots(void)
 {
-    gcflip_frame frame = {1, EXTRA_ROOTS, 1};
+    gcflip_frame frame = {1, EXTRA_ROOTS, 1, 1};
     EXPECT(gcflip_heap_root_store(&heap, 0, 0, 1) == GCFLIP_DONE);
     EXPECT(gcflip_heap_root_load(&heap, 0, 5, 0) == GCFLIP_DONE);
     EXPECT(gcflip_heap_frame_push(&heap, 0, 1, &frame) == GCFLIP_DONE);
     EXPECT(gcflip_heap_frame_pop(&heap, 0, 5, &frame) == GCFLIP_DONE);
+    EXPECT(gcflip_heap_frame_push(&heap, 0, 1, &frame) == GCFLIP_DONE);
+    frame.top = 1;
+    EXPECT(gcflip_heap_frame_trim(&heap, &frame, 1) == GCFLIP_DONE && frame.high == 1);
     EXPECT(gcflip_heap_root_clear(&heap, 0, EXTRA_ROOTS) == GCFLIP_DONE);
 }
 

@@ -11,7 +11,7 @@ static gcflip_heap heap = GCFLIP_NO_HEAP;
 int main(int count, char **words)
 {
     gcflip_options options = gcflip_options_default(4 * MANY, 1);
-    gcflip_frame stack = {0, MANY, 0};
+    gcflip_frame stack = {0, MANY, 0, 0};
     gcflip_work work = {0, 0, 0, 0};
     gcflip_counts counts = {0, 0, 0, 0, 0, 0, 0, 0, 0, 0, 0};
     unsigned calls = 0, reads = 0;

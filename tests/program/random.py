@@ -110,7 +110,7 @@ def python_calls(_program, folder):
         return
     python = Python(built, folder)
     yield "the Python package is built", python.why
-    for name, calls in lists("Python", PACED, LOOSE, PLACES, MOVES):
+    for name, calls in lists("Python", PACED, LOOSE, FRAMES, PLACES, MOVES):
         yield name, played([sys.executable, os.path.join(TESTS, "random_calls.py")], calls, calls.printed, env=python.environment)
 
 

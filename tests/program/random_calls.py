@@ -16,7 +16,7 @@ WEIGHTS = {"new": 8, "raw": 4, "num": 5, "nil": 2, "move": 6, "get": 9, "put": 1
 # trace has no lines but for paced work.
 PACED = {"work_sized": 2, "work_within": 3, "pace": 0.7, "work_paced": 6}
 LOOSE = {"root_load": 5, "root_store": 6, "root_clear": 1}
-FRAMES = {"frame_push": 4, "frame_pop": 4}
+FRAMES = {"frame_push": 6, "frame_pop": 3, "frame_trim": 4}
 PLACES = {"place_new": 4, "place_num": 3, "place_copy": 5, "place_get": 6, "place_put": 9, "place_same": 3, "place_look": 4}
 MOVES = {"moved": 4, "refer": 6}
 COMMANDS = ("new", "raw", "num", "nil", "move", "get", "put", "same", "look")
@@ -35,6 +35,8 @@ class Calls:
         self.model = None
         # The model of each session.
         self.models = []
+        # The numbers of the frame that stays: its first root, the root behind its last one, its top, and the root behind the last one that may hold a value.
+        self.stack = None
         self.calls = []
         self.printed = []
         self.trace = []
@@ -94,6 +96,7 @@ class Calls:
         extra_roots = self.chance.choice([0, 1, 2, 5, 40]) if "root_load" in self.weights else 0
         self.model = Model(size, mutators, extra_roots)
         self.models.append(self.model)
+        self.stack = (0, extra_roots, 0, 0)
         self.call(["open", size, mutators, extra_roots], "done", ["heaptrace 3", "space %d mutators %d" % (size, mutators)])
         if "pace" in self.weights:
             self.add_pace()
@@ -376,24 +379,53 @@ class Calls:
         self.call(["root_clear", first, end], self.model.root_clear(first, end) if first <= end <= self.model.extra_roots else OUT_OF_RANGE)
 
     def frame(self):
-        """Returns the first root of a frame, the root behind its last one, and its top, mostly in order, and whether they are a frame of the heap."""
-        first, top, end = sorted(self.extra_root() for _ in range(3))
-        if self.chance.random() < 0.1:
-            first, top = top, first
-        return first, end, top, first <= top <= end <= self.model.extra_roots
+        """Returns the numbers of a frame: those of the one that stays, whose top may have dropped, or others, mostly in order."""
+        if self.chance.random() < 0.7:
+            first, end, top, high = self.stack
+            return first, end, self.chance.randint(first, top) if self.chance.random() < 0.1 else top, high
+        numbers = sorted(self.extra_root() for _ in range(4))
+        if self.chance.random() < 0.4:
+            mixed = self.chance.choice([3, 3, 4])
+            numbers[:mixed] = self.chance.sample(numbers[:mixed], mixed)
+        first, top, high, end = numbers
+        return first, end, top, high
+
+    def add_on_frame(self, name, frame, numbers, reply, top, high):
+        """Adds a call on a frame, which has this top and this `high` after it."""
+        first, end = frame[:2]
+        if reply == "done" and frame[:2] == self.stack[:2]:
+            self.stack = (first, end, top, high)
+        self.call([name, *frame, *numbers], "%s %d %d" % (reply, top, high))
+
+    def is_frame(self, first, end, top, high):
+        return first <= top <= end <= self.model.extra_roots and high <= end
 
     def add_frame_push(self):
-        m = self.mutator()
-        s, (first, end, top, is_frame) = self.filled_slot(m), self.frame()
-        reply = OUT_OF_RANGE if not is_frame else "frame full" if top == end else self.model.root_store(m, top, s)
-        self.call(["frame_push", m, s, first, end, top], "%s %d" % (reply, top + (reply == "done")))
+        m, frame = self.mutator(), self.frame()
+        (_, end, top, high), s = frame, self.filled_slot(m)
+        reply = OUT_OF_RANGE if not self.is_frame(*frame) else "frame full" if top == end else self.model.root_store(m, top, s)
+        if reply == "done":
+            top, high = top + 1, max(high, top + 1)
+        self.add_on_frame("frame_push", frame, [m, s], reply, top, high)
 
     def add_frame_pop(self):
-        m, d, (first, end, top, is_frame) = self.mutator(), self.slot(), self.frame()
-        reply = OUT_OF_RANGE if not is_frame else "frame empty" if top == first else self.model.root_load(m, d, top - 1)
+        m, d, frame = self.mutator(), self.slot(), self.frame()
+        first, _, top, high = frame
+        reply = OUT_OF_RANGE if not self.is_frame(*frame) else "frame empty" if top == first else self.model.root_load(m, d, top - 1)
         if reply == "done":
             self.model.root_clear(top - 1, top)
-        self.call(["frame_pop", m, d, first, end, top], "%s %d" % (reply, top - (reply == "done")))
+            top, high = top - 1, high if high > top else top - 1
+        self.add_on_frame("frame_pop", frame, [m, d], reply, top, high)
+
+    def add_frame_trim(self):
+        frame, most = self.frame(), self.chance.choice([0, 1, 1, 2, 3, 50, (1 << 32) - 1])
+        _, _, top, high = frame
+        reply = OUT_OF_RANGE
+        if self.is_frame(*frame):
+            last = max(top, high)
+            high = max(top, last - most)
+            reply = self.model.root_clear(high, last)
+        self.add_on_frame("frame_trim", frame, [most], reply, top, high)
 
     # ---- commands on roots by their places
 

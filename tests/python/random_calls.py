@@ -2,11 +2,11 @@
 import sys
 
 import gcflip
-from gcflip.heap import Held, Mutator, Pace, Step
+from gcflip.heap import Frame, Held, Mutator, Pace, Step
 
 REPLIES = {gcflip.Full: "full", gcflip.NoObject: "no object", gcflip.NoField: "no field", gcflip.NoNumber: "no number", gcflip.Busy: "busy",
            gcflip.Idle: "idle", gcflip.NotReady: "not ready", gcflip.OutOfRange: "out of range", gcflip.Closed: "closed",
-           gcflip.OutOfMemory: "no memory"}
+           gcflip.OutOfMemory: "no memory", gcflip.FrameFull: "frame full", gcflip.FrameEmpty: "frame empty"}
 # What the binding calls some of the calls.
 NAMES = {"root_load": "load", "root_store": "store"}
 PLACED = {"place_new": "new_root", "place_num": "set_number", "place_copy": "copy_root", "place_get": "get_root", "place_put": "put_root", "place_same": "is_same",
@@ -65,6 +65,24 @@ def by_places(heap, name, numbers):
     return "made" if name == "place_new" else "done"
 
 
+def on_frame(heap, name, numbers):
+    """Makes a call on a frame, whose numbers come first. Its top and its `high` are printed also if the call is refused."""
+    frame = Frame(*numbers[:2])
+    frame._raw.top, frame._raw.high = numbers[2:4]
+    reply = "done"
+    try:
+        if name == "frame_trim":
+            heap.trim_frame(frame, numbers[4])
+        elif name == "frame_push":
+            Mutator(heap, numbers[4]).push(frame, numbers[5])
+        else:
+            Mutator(heap, numbers[4]).pop(frame, numbers[5])
+    except gcflip.GcflipError as error:
+        reply = REPLIES[type(error)]
+    assert [frame._raw.first, frame._raw.end] == numbers[:2]
+    return "%s %d %d" % (reply, frame._raw.top, frame._raw.high)
+
+
 def reading(heap, name, numbers):
     """Makes a call that reads."""
     if name == "counts":
@@ -106,6 +124,8 @@ def performed(heap, name, numbers):
         return paced(heap, *numbers)
     if name in PLACED:
         return by_places(heap, name, numbers)
+    if name.startswith("frame_"):
+        return on_frame(heap, name, numbers)
     if name == "root_clear":
         heap.clear_roots(*numbers)
         return "done"

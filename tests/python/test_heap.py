@@ -197,6 +197,33 @@ class Commands(unittest.TestCase):
                 with self.assertRaises(gcflip.OutOfRange):
                     call()
 
+    def test_frames(self):
+        with Heap(64, extra_roots=8) as heap:
+            mutator, frame, beyond = heap.mutator(0), gcflip.Frame(1, 8), gcflip.Frame(7, 9)
+            self.assertRaises(gcflip.FrameEmpty, mutator.pop, frame, own(0))
+            for kind in range(7):
+                mutator.new(own(0), kind, 0)
+                mutator.push(frame, own(0))
+            self.assertRaises(gcflip.FrameFull, mutator.push, frame, own(0))
+            mutator.nil(own(0))
+            frame.truncate(8)
+            self.assertEqual((len(frame), frame.roots, frame.dropped_roots), (7, range(1, 8), range(8, 8)))
+            frame.truncate(2)
+            self.assertEqual((len(frame), frame.roots, frame.dropped_roots), (2, range(1, 3), range(3, 8)))
+            # What was dropped lives until it is trimmed.
+            self.assertEqual(heap.work(100).pairs, 7)
+            heap.trim_frame(frame, 3)
+            self.assertEqual((len(frame), frame.dropped_roots), (2, range(3, 5)))
+            self.assertEqual(heap.work(100).pairs, 4)
+            heap.trim_frame(frame, 2 ** 32 - 1)
+            self.assertEqual((len(frame), frame.dropped_roots), (2, range(3, 3)))
+            self.assertEqual(heap.work(100).pairs, 2)
+            mutator.pop(frame, own(0))
+            self.assertEqual((mutator.look(own(0)), len(frame), frame.dropped_roots), (gcflip.Object(1, 0), 1, range(2, 2)))
+            for call in (lambda: mutator.push(beyond, own(0)), lambda: mutator.pop(beyond, own(0)), lambda: heap.trim_frame(beyond, 1),
+                         lambda: heap.trim_frame(frame, -1), lambda: frame.truncate(-1), lambda: gcflip.Frame(0, 2 ** 32)):
+                self.assertRaises(gcflip.OutOfRange, call)
+
     def test_arguments_out_of_range(self):
         calls = [
             lambda: Heap(0), lambda: Heap(-1), lambda: Heap(1 << 32), lambda: Heap(16, 0), lambda: Heap(16, 17), lambda: Heap(16, 257),

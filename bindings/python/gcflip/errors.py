@@ -111,6 +111,14 @@ class TextTooLarge(BadText):
 # ---- Of the heap
 
 
+class FrameFull(GcflipError):
+    """The frame has no root left."""
+
+
+class FrameEmpty(GcflipError):
+    """The frame holds no value."""
+
+
 class HeapRefused(GcflipError):
     """The heap refused a command or a step. Its text is the reply that `gcflip play` prints."""
 

@@ -13,7 +13,7 @@ from typing import Any, Callable, Iterable, NamedTuple, NoReturn, Sequence, Type
 
 from . import library
 from .checker import Block, Image, Row, _pairs_of
-from .errors import (Busy, Closed, Damaged, FlipRefused, Full, GcflipError, HeapRefused, Idle, NoField, NoNumber, NoObject, NotReady,
+from .errors import (Busy, Closed, Damaged, FlipRefused, FrameEmpty, FrameFull, Full, GcflipError, HeapRefused, Idle, NoField, NoNumber, NoObject, NotReady,
                      OutOfMemory, OutOfRange, Reentered)
 from .library import COUNTS, HEAP, LIBRARY, MUTATOR, ROOTS, SLOT, Answer, CheckingNumber, StepName, in_range
 
@@ -23,6 +23,8 @@ NOTHING_DONE: dict[int, type[GcflipError]] = {
     Answer.OUT_OF_RANGE: OutOfRange,
     Answer.CLOSED: Closed,
     Answer.DAMAGED: Damaged,
+    Answer.FRAME_FULL: FrameFull,
+    Answer.FRAME_EMPTY: FrameEmpty,
 }
 REFUSED: dict[int, type[HeapRefused]] = {
     Answer.FULL: Full,
@@ -159,6 +161,33 @@ class Pace:
         return int(self._raw.owed)
 
 
+class Frame:
+    """The extra roots from `first` on and below `end` as a stack, which a mutator's `push` and `pop` use. A heap can have several frames, if no root is in two
+    of them. `len` returns the number of values."""
+
+    def __init__(self, first: int, end: int) -> None:
+        self._raw = library.RawFrame(*in_range((first, end, first, first), [ctypes.c_uint32] * 4))
+
+    def __len__(self) -> int:
+        return int(self._raw.top - self._raw.first)
+
+    @property
+    def roots(self) -> range:
+        """The extra roots that hold the values, the oldest one first."""
+        return range(self._raw.first, self._raw.top)
+
+    @property
+    def dropped_roots(self) -> range:
+        """The extra roots that may still hold dropped values."""
+        return range(self._raw.top, max(self._raw.top, self._raw.high))
+
+    def truncate(self, length: int) -> None:
+        """Drops the newest values, so that this many are left. Does nothing if there are no more. Their roots keep what they refer to alive until
+        `trim_frame` clears them, or a push overwrites them."""
+        length, = in_range((length,), [ctypes.c_uint32])
+        self._raw.top = min(self._raw.top, self._raw.first + length)
+
+
 class Counts(NamedTuple):
     """How full the heap is, and how far an open collection has come."""
 
@@ -287,6 +316,11 @@ class Heap:
         """Puts nil into the extra roots from `first` on, and below `end`. Raises OutOfRange if the heap does not have all of them, or if `first` is
         above `end`."""
         self._call("root_clear", first, end)
+
+    def trim_frame(self, frame: Frame, most: int) -> None:
+        """Puts nil into at most `most` of the roots that hold values dropped from the frame, the last ones. Raises OutOfRange if the heap does not have all
+        roots of the frame."""
+        self._call("frame_trim", frame._raw, most)
 
     # ---- Collector steps
 
@@ -605,6 +639,16 @@ class Mutator:
     def store(self, root: int, source: int) -> None:
         """Copies the value of slot `source` into an extra root."""
         self._call("root_store", root, source)
+
+    def push(self, frame: Frame, source: int) -> None:
+        """Copies the value of slot `source` to the top of the frame, and moves its top up. Raises FrameFull, and OutOfRange if the heap does not have all
+        roots of the frame."""
+        self._call("frame_push", source, frame._raw)
+
+    def pop(self, frame: Frame, slot: int) -> None:
+        """Moves the top of the frame down, copies the value there into the slot, and puts nil into that root. Raises FrameEmpty, and OutOfRange if the heap
+        does not have all roots of the frame."""
+        self._call("frame_pop", slot, frame._raw)
 
     def get(self, slot: int, source: int, field: int) -> Value:
         """Reads a field of the object that slot `source` refers to into the slot, and returns its value. Raises NoObject and NoField."""

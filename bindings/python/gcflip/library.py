@@ -122,6 +122,10 @@ class RawPace(ctypes.Structure):
     _fields_ = [(name, c_uint32) for name in ("factor", "rate", "least", "words", "left", "end", "logged", "owed")]
 
 
+class RawFrame(ctypes.Structure):
+    _fields_ = [(name, c_uint32) for name in ("first", "end", "top", "high")]
+
+
 class Options(ctypes.Structure):
     """What a heap is opened with. `bytes` is the size of this record."""
 
@@ -169,6 +173,9 @@ HEAP: Dict[str, List[Any]] = {
     "root_load": [MUTATOR, SLOT, c_uint32],
     "root_store": [MUTATOR, c_uint32, SLOT],
     "root_clear": [c_uint32, c_uint32],
+    "frame_push": [MUTATOR, SLOT, POINTER(RawFrame)],
+    "frame_pop": [MUTATOR, SLOT, POINTER(RawFrame)],
+    "frame_trim": [POINTER(RawFrame), c_uint32],
     "step_begin": [],
     "step_begin_sized": [c_uint32],
     "step_roots": [],

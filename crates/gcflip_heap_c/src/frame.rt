@@ -1,12 +1,12 @@
 //! The exports on extra roots, and on frames, which are stacks of them.
 
-ghost use Rattle.std.specs.Prelude.{◌≡◌, ◌≢◌, ◌<◌, ◌≤◌, ◌-◌, ◌↔◌, ◌∷◌, [], suc, IsTrue};
+ghost use Rattle.std.specs.Prelude.{◌≡◌, ◌≢◌, ◌<◌, ◌≤◌, ◌-◌, ◌↔◌, ◌∷◌, []};
 ghost use Rattle.gc_check.specs.InC.{done, no_memory, IsRefusal};
 ghost use Rattle.gc_plan.specs.State.{extra_roots_of};
 ghost use Rattle.gc_collected.specs.ExtraRoots.{clear_step};
 ghost use Rattle.gcflip_heap_c.specs.Answers.{frame_full, frame_empty};
 ghost use Rattle.gcflip_heap_c.specs.Commands.{IsCall, IsCommandCall};
-ghost use Rattle.gc_pace.specs.Frames.{load_step, store_step, pop_step};
+ghost use Rattle.gc_pace.specs.Frames.{HasFrame, load_step, store_step, pop_step, trim_step, pushed, popped, trimmed};
 ghost use Rattle.gcflip_heap_c.specs.ExtraRoots.{NamesFrame, IsFrameCall};
 ghost use Rattle.gcflip_heap_c.specs.Slots.{NamesSlots, numbered_slot};
 
@@ -64,7 +64,8 @@ pub extern "C" fn gcflip_heap_root_clear(heap: &mut GcflipHeap, from: u32, to: u
     DONE
 }
 
-/// Copies the value of slot `s` to the top of the frame, and moves the top up. Returns 5 if the frame is full.
+/// Copies the value of slot `s` to the top of the frame, and moves the top up, and `high` with it unless that is above. Returns 5 if
+/// the frame is full.
 #[unsafe(no_mangle)]
 pub extern "C" fn gcflip_heap_frame_push(
     heap: &mut GcflipHeap,
@@ -74,7 +75,7 @@ pub extern "C" fn gcflip_heap_frame_push(
 ) -> u32
     ensures call { IsFrameCall (NamesFrame m s frame.old) (frame.old.top ≡ frame.old.end) frame_full
         (λ state. store_step state m frame.old.top (numbered_slot s)) heap.old.state heap.new.state result }
-    ensures frame { ¬ IsRefusal result → frame.new ≡ record frame.old { top = suc frame.old.top } }
+    ensures frame { ¬ IsRefusal result → frame.new ≡ pushed frame.old }
     ensures silent { IsRefusal result → frame.new ≡ frame.old }
     ensures beside { heap.new.beside ≡ heap.old.beside }
 {
@@ -89,8 +90,8 @@ pub extern "C" fn gcflip_heap_frame_push(
     }
 }
 
-/// Moves the top of the frame down, copies the value there into slot `d`, and sets that root to nil. Returns 6 if the
-/// frame is empty.
+/// Moves the top of the frame down, copies the value there into slot `d`, and sets that root to nil. Moves `high` down too, unless it
+/// was above the top. Returns 6 if the frame is empty.
 #[unsafe(no_mangle)]
 pub extern "C" fn gcflip_heap_frame_pop(
     heap: &mut GcflipHeap,
@@ -100,7 +101,7 @@ pub extern "C" fn gcflip_heap_frame_pop(
 ) -> u32
     ensures call { IsFrameCall (NamesFrame m d frame.old) (frame.old.top ≡ frame.old.first) frame_empty
         (λ state. pop_step state m (numbered_slot d) (frame.old.top - 1)) heap.old.state heap.new.state result }
-    ensures frame { ¬ IsRefusal result → frame.new ≡ record frame.old { top = frame.old.top - 1 } }
+    ensures frame { ¬ IsRefusal result → frame.new ≡ popped frame.old }
     ensures silent { IsRefusal result → frame.new ≡ frame.old }
     ensures beside { heap.new.beside ≡ heap.old.beside }
 {
@@ -113,4 +114,26 @@ pub extern "C" fn gcflip_heap_frame_pop(
         None => FRAME_EMPTY,
         Some(reply) => of_reply(&reply),
     }
+}
+
+/// Sets at most `most` of the roots from the top of the frame on and below `high` to nil, the last ones, and lowers `high` to the first
+/// of them.
+#[unsafe(no_mangle)]
+pub extern "C" fn gcflip_heap_frame_trim(
+    heap: &mut GcflipHeap,
+    frame: &mut Frame,
+    most: u32,
+) -> u32
+    ensures call { IsCall (HasFrame frame.old) (λ old new. (result ≡ done) × (trim_step old frame.old most ≡ new)) heap.old.state heap.new.state result }
+    ensures memory { result ≢ no_memory }
+    ensures frame { ¬ IsRefusal result → frame.new ≡ trimmed frame.old most }
+    ensures silent { IsRefusal result → frame.new ≡ frame.old }
+    ensures beside { heap.new.beside ≡ heap.old.beside }
+{
+    let heap = lent!(heap);
+    if !frame.is_in(heap) {
+        return OUT_OF_RANGE;
+    }
+    frame.trim(heap, most);
+    DONE
 }

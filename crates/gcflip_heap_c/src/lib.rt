@@ -32,8 +32,8 @@ pub use commands::{
 };
 pub use copying::gcflip_heap_copy_fields;
 pub use frame::{
-    gcflip_heap_frame_pop, gcflip_heap_frame_push, gcflip_heap_root_clear, gcflip_heap_root_load,
-    gcflip_heap_root_store,
+    gcflip_heap_frame_pop, gcflip_heap_frame_push, gcflip_heap_frame_trim, gcflip_heap_root_clear,
+    gcflip_heap_root_load, gcflip_heap_root_store,
 };
 pub use handle::GcflipHeap;
 pub use mixed::{GcflipField, gcflip_heap_new_with};
