@@ -1,6 +1,6 @@
 /* Performs the calls on standard input, a line each, and prints a line for each: random_calls [RECORD].
-   Compiled with -DRECORD, it records the run into RECORD. Compiled with -DBASIC, it has no extra roots, no moved addresses and no
-   references by address, which the heap in plain C lacks. tests/program/random_calls.py makes the calls and knows the lines.
+   Compiled with -DRECORD, it records the run into RECORD. Compiled with -DBASIC, it has no moved addresses and no references by
+   address, which the heap in plain C lacks. tests/program/random_calls.py makes the calls and knows the lines.
 
    Outputs that a call must leave alone are compared with what they held before. */
 #ifdef RECORD
@@ -159,7 +159,6 @@ static void work_paced(uint32_t wanted)
     printf(", %u %u %u %u\n", pace.left, pace.end, pace.logged, pace.owed);
 }
 
-#ifndef BASIC
 /* Performs a call on a frame, whose numbers come first. */
 static void frame(const char *name)
 {
@@ -170,7 +169,6 @@ static void frame(const char *name)
     EXPECT(frame.first == a[0] && frame.end == a[1]);
     printf("%s %u %u\n", reply(answer), frame.top, frame.high);
 }
-#endif
 
 static void useful(void)
 {
@@ -370,10 +368,10 @@ static uint32_t plain(const char *name)
     if (IS("roots")) return gcflip_heap_step_roots(&heap);
     if (IS("scan")) return gcflip_heap_step_scan(&heap);
     if (IS("apply")) return gcflip_heap_step_apply(&heap, m);
-#ifndef BASIC
     if (IS("root_load")) return gcflip_heap_root_load(&heap, m, d, (uint32_t)a[2]);
     if (IS("root_store")) return gcflip_heap_root_store(&heap, m, (uint32_t)a[1], (uint8_t)a[2]);
     if (IS("root_clear")) return gcflip_heap_root_clear(&heap, (uint32_t)a[0], (uint32_t)a[1]);
+#ifndef BASIC
     if (IS("refer")) return gcflip_heap_refer(&heap, m, d, (uint32_t)a[2]);
 #endif
     EXPECT(IS("drop"));
@@ -387,6 +385,7 @@ static void perform(const char *name)
     else if (IS("get")) get(m, d, (uint8_t)a[2], (uint16_t)a[3]);
     else if (IS("place_look")) place_look((uint32_t)a[0]);
     else if (IS("place_get")) place_get((uint32_t)a[0], (uint32_t)a[1], (uint32_t)a[2]);
+    else if (strncmp(name, "frame_", 6) == 0) frame(name);
     else if (strncmp(name, "place_", 6) == 0) printf("%s\n", reply(by_places(name)));
     else if (IS("flip")) flip();
     else if (IS("work")) work((uint32_t)a[0], NO_BOUND, NO_BOUND);
@@ -406,7 +405,6 @@ static void perform(const char *name)
     else if (IS("work_paced")) work_paced((uint32_t)a[0]);
 #ifndef BASIC
     else if (IS("moved")) moved();
-    else if (strncmp(name, "frame_", 6) == 0) frame(name);
 #endif
     else printf("%s\n", reply(plain(name)));
 }
