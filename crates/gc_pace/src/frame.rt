@@ -45,13 +45,16 @@ impl Frame {
         ensures frame { IsSome result → self.new ≡ pushed self.old }
         ensures beside { heap.new.beside ≡ heap.old.beside }
     {
-        if self.top == self.end {
+        let top = self.top;
+        if top == self.end {
             return None;
         }
-        let reply = heap.store(m, self.top, s);
-        self.top += 1;
-        self.high = self.high.max(self.top);
-        Some(reply)
+        self.top = top + 1;
+        if self.high <= top {
+            self.high = top + 1;
+        }
+        let _done = heap.store(m, top, s);
+        Some(Reply::Done)
     }
 
     /// Moves the top down, copies the value there into slot `d`, and sets that root to nil. If no root above it may hold a value, moves
@@ -66,17 +69,17 @@ impl Frame {
         ensures frame { IsSome result → self.new ≡ popped self.old }
         ensures beside { heap.new.beside ≡ heap.old.beside }
     {
-        if self.top == self.first {
+        let top = self.top;
+        if top == self.first {
             return None;
         }
-        let top = self.top - 1;
-        let reply = heap.load(m, d, top);
-        heap.clear(top, self.top);
-        if self.high <= self.top {
-            self.high = top;
+        self.top = top - 1;
+        if self.high <= top {
+            self.high = top - 1;
         }
-        self.top = top;
-        Some(reply)
+        let _done = heap.load(m, d, top - 1);
+        heap.clear(top - 1, top);
+        Some(Reply::Done)
     }
 
     /// Sets at most `most` of the roots from `top` on and below `high` to nil, the last ones, and lowers `high` to the first of them.
