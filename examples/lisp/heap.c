@@ -194,8 +194,8 @@ bool pop_root(enum slot to)
 
 void clear_roots(void)
 {
-    EXPECT_REPLY(GCFLIP_DONE, root_clear, 0, stack.top);
     stack.top = 0;
+    EXPECT_REPLY(GCFLIP_DONE, frame_trim, &stack, UINT32_MAX);
 }
 
 /* ---- Fields */

@@ -20,7 +20,7 @@ public:
 // A heap with extra roots, a stack in them, and a pace of its own.
 class Stack {
 public:
-    explicit Stack(uint32_t most) : heap(with_roots(16 * most, most)), frame{0, most, 0} { pace.least = most; }
+    explicit Stack(uint32_t most) : heap(with_roots(16 * most, most)), frame{0, most, 0, 0} { pace.least = most; }
 
     // Puts a new object with this number into slot 0, after the steps that are due for its three words.
     void make(uint64_t number)
