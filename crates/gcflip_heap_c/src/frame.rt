@@ -119,12 +119,9 @@ pub extern "C" fn gcflip_heap_frame_pop(
 /// Sets at most `most` of the roots from the top of the frame on and below `high` to nil, the last ones, and lowers `high` to the first
 /// of them.
 #[unsafe(no_mangle)]
-pub extern "C" fn gcflip_heap_frame_trim(
-    heap: &mut GcflipHeap,
-    frame: &mut Frame,
-    most: u32,
-) -> u32
-    ensures call { IsCall (HasFrame frame.old) (λ old new. (result ≡ done) × (trim_step old frame.old most ≡ new)) heap.old.state heap.new.state result }
+pub extern "C" fn gcflip_heap_frame_trim(heap: &mut GcflipHeap, frame: &mut Frame, most: u32) -> u32
+    ensures call { IsCall (HasFrame frame.old) (λ old new. (result ≡ done) × (trim_step old frame.old most ≡ new))
+        heap.old.state heap.new.state result }
     ensures memory { result ≢ no_memory }
     ensures frame { ¬ IsRefusal result → frame.new ≡ trimmed frame.old most }
     ensures silent { IsRefusal result → frame.new ≡ frame.old }
