@@ -23,10 +23,13 @@ use Rattle.gc_plan.specs.declared.step.StepReply.{StepReply}
 use Rattle.gc_plan.specs.declared.step.StepReply.TheVariants.{Scanned, Applied}
 use Rattle.gc_plan.proofs.Public.{laid_range, in_map, same_place, same_original, placed, replicas_end, found_by_place, found_by_name, open_keeps}
 use Rattle.gc_concurrent.specs.Ends.{Known, Mine, Theirs}
+use Rattle.gc_concurrent.specs.Unreachable.{MayBeCopied}
 use Rattle.gc_concurrent.specs.Internal.Plans.{collection_of, plan}
+use Rattle.gc_concurrent.specs.Internal.Carrying.{KeepsUnreachableOut}
 use Rattle.gc_concurrent.specs.Internal.Rule.{IsConcurrent, scanned, applied, wants, after_read, lacks, read_as, Sat, tells_scan_of, tells_apply_of, tells_scan, tells_apply}
 use Rattle.gc_concurrent.specs.Ends.{its}
 use Rattle.gc_concurrent.proofs.Hands.{St, seats_theirs}
+use Rattle.gc_concurrent.proofs.Keeping.{kept_brought, kept_wants, kept_target}
 use Rattle.gc_concurrent.proofs.Loosely.{Leaves, loosely, block_is}
 use lib.Seq.{set-get_or}
 
@@ -34,9 +37,9 @@ use lib.Seq.{set-get_or}
 
 pub theirs_keep : (size : ℕ) (s : St) (r : IsConcurrent size s) (k id : ℕ) (v : Known) (c : List (ℕ × ℕ)) (t' : Theirs) → get_elem? s.views id ≡ some v → v.copies ≡ true → t'.old ≡ r.theirs.old
     → ((a : ℕ) → In a t'.wanted → (o : Object) × (lookup (objects_of r.mine.space.words) a ≡ Some o))
-    → IsOpened (plan r.mine r.theirs) (collection_of r.mine t')
+    → IsOpened (plan r.mine r.theirs) (collection_of r.mine t') → KeepsUnreachableOut r.mine t'
     → IsConcurrent size (stepped s k (get_or s.words k 0) id c (record v { theirs = t' }) keeps)
-theirs_keep size s r k id v c t' here copies old wanted opened =
+theirs_keep size s r k id v c t' here copies old wanted opened carries =
     subst (λ (ws : List ℕ). IsConcurrent size (record { words = ws; homes = s.homes; views = set s.views id (record v { theirs = t' }) })) (sym (set-get_or s.words k 0)) (record {
       mine = r.mine;
       theirs = t';
@@ -51,6 +54,7 @@ theirs_keep size s r k id v c t' here copies old wanted opened =
       closed = r.closed;
       wanted = wanted;
       opened = record { belongs = opened.belongs; size = opened.size; logs = opened.logs };
+      carries = carries;
       seats = seats_theirs r.writer r.copier id r.mine r.theirs t' s.views v here copies r.seats;
     })
 
@@ -133,12 +137,12 @@ scan_is s c q v k here place plain within is nl =
 
 -- a value read that lacks a replica is wanted
 pub want : (size : ℕ) (s : St) (r : IsConcurrent size s) (k id : ℕ) (me : Sat) (name : ℕ) → get_elem? s.views id ≡ some me.0 → me.0.copies ≡ true
-    → is_some (block_at r.mine.space.words name) ≡ true
+    → is_some (block_at r.mine.space.words name) ≡ true → MayBeCopied r.theirs.base name
     → IsConcurrent size (stepped s k (get_or s.words k 0) id me.1 (record me.0 { theirs = wants name r.theirs }) keeps)
-want size s r k id me name seat copies start =
+want size s r k id me name seat copies start kept =
     theirs_keep size s r k id me.0 me.1 (wants name r.theirs) seat copies refl
     (λ a h. ⊎_elim (λ (e : name ≡ a). subst (λ x. (o : Object) × (lookup (objects_of r.mine.space.words) x ≡ Some o)) e (target_there r.mine.space.words name start)) (λ (e : ⊥). absurd e) h)
-    r.opened
+    r.opened (kept_wants r.mine r.theirs r.carries name kept)
 
 -- a field word of an object that is not raw is a value
 value_of_field : (words : List ℕ) (raw : Bool) (w : ℕ) → raw ≡ false → IsWordOfField raw words w → is_value w ≡ true
@@ -201,14 +205,16 @@ scan_at slots size s r id me q seat copies here place plain within = go (lacks (
       theirs_keep size s r k id me.0 me.1 (scanned q.original t.scan_field v t) seat copies refl r.wanted
           (follow_opened r.mine t S q.original t.scan_field (suc t.scan_field) v
           (subst (λ (x : StepReply × State). IfSome x.1.collection (IsOpened S)) (scan_is S c q v (r.opened).belongs here place plain within is (lacks_same r.mine t v ∙ e))
-          (open_keeps S c steps.Scan refl r.opened (λ e. cc e)))),
+          (open_keeps S c steps.Scan refl r.opened (λ e. cc e))))
+          (kept_brought r.mine t r.carries q.original t.scan_field (moved (its t) v) (scanned q.original t.scan_field v t) refl refl refl),
       λ p l e' _ _ _. (found_value size s r q t.scan_field f plainly, λ j. (record me.0 { theirs = after_read (scanned (one p l e' j).original t.scan_field v) (sym e j) t }, me.1)),
     )
     go (Some name) e = let lack = lacking (its t) v name e in (
       record me.0 { theirs = wants name t },
       keeps,
       tt,
-      want size s r k id me name seat copies (found_start size s r q t.scan_field name f (ap (λ (b : Bool). read_as b (get_or s.words k 0)) plainly ∙ lack.0)),
+      want size s r k id me name seat copies (found_start size s r q t.scan_field name f (ap (λ (b : Bool). read_as b (get_or s.words k 0)) plainly ∙ lack.0))
+          (kept_target r.mine t r.carries q t.scan_field v name here is lack.0),
       λ p l e' _ _ _. (found_value size s r q t.scan_field f plainly, λ j. (record me.0 { theirs = after_read (scanned p.original t.scan_field v) (sym e j) t }, me.1)),
     )
 
@@ -310,14 +316,16 @@ apply_at slots size s r id me q i rest seat copies here due = go (lacks (its t) 
           (subst (λ (x : List (ℕ × ℕ) × Value). IsOpened S (record c { replicas = map (with_written q.original i x.1) t.replicas; logs = r.mine.log ∷ x.0 ∷ [] }))
           (λ j. (sym (ap (drop 1) due) j, (moved_same r.mine (without rest t) v ∙ moved_less t rest v) j))
           (subst (λ (x : StepReply × State). IfSome x.1.collection (IsOpened S)) (apply_is r.mine t q i rest v (r.opened).belongs here due is (lacks_same r.mine (without rest t) v ∙ lacks_less t rest v ∙ e))
-          (open_keeps S c (steps.Apply 1) refl r.opened (λ e. cc e)))),
+          (open_keeps S c (steps.Apply 1) refl r.opened (λ e. cc e))))
+          (kept_brought r.mine t r.carries q.original i (moved (its t) v) (applied q.original i v t) refl refl refl),
       λ p j more l e' _. let w = one p j more l e' in ((λ plain. found_value size s r q i f (sym f.raw ∙ (ap (λ (x : Replica). x.object.raw) w.0 ∙ plain))), tell None e p j w),
     )
     go (Some name) e = let lack = lacking (its t) v name e in (
       record me.0 { theirs = wants name t },
       keeps,
       tt,
-      want size s r k id me name seat copies (found_start size s r q i name f (ap (λ (b : Bool). read_as b (get_or s.words k 0)) (sym f.raw) ∙ lack.0)),
+      want size s r k id me name seat copies (found_start size s r q i name f (ap (λ (b : Bool). read_as b (get_or s.words k 0)) (sym f.raw) ∙ lack.0))
+          (kept_target r.mine t r.carries q i v name here is lack.0),
       λ p j more l e' _. let w = one p j more l e' in ((λ plain. found_value size s r q i f (sym f.raw ∙ (ap (λ (x : Replica). x.object.raw) w.0 ∙ plain))), tell (Some name) e p j w),
     )
 

@@ -27,6 +27,7 @@ use Rattle.gc_copy.proofs.Public.{heap_graph, space_spelled, words_back, block_f
 use Rattle.gc_concurrent.specs.Ends.{Mine, Theirs}
 use Rattle.gc_concurrent.specs.Internal.Plans.{collection_of, plan}
 use Rattle.gc_concurrent.specs.Heaps.{heap_of}
+use Rattle.gc_concurrent.specs.Unreachable.{CopiesNothingUnreachable}
 use Rattle.gc_concurrent.specs.Internal.Rule.{IsConcurrent, Sat}
 use Rattle.gc_concurrent.specs.Ends.{its}
 use Rattle.gc_concurrent.specs.Internal.Flip.{Flips, Holds, roots_alone, moved_words, new_heap_of, tells_flip}
@@ -71,7 +72,7 @@ still_belongs objects m t x y k =
     k.scan (λ a i e. absurd (never_logged t.size t.replicas t a i e)) k.numbers
 
 module _ (m : Mine) (t : Theirs) (roots : List ℕ) (heap_is : IsHeap (heap_of m roots)) (h : IsOpened (plan m t) (collection_of m t)) (logged : m.log ≡ []) (applied : t.due ≡ [])
-    (scanned : scan_done (its t) ≡ true) (rooted : roots_done (its t) (roots_alone roots) ≡ true) where
+    (scanned : scan_done (its t) ≡ true) (rooted : roots_done (its t) (roots_alone roots) ≡ true) (kept : CopiesNothingUnreachable t) where
   old : IsSpaceGraph m.space.size (free_in m.space) (graph_in (heap_of m roots))
   old = heap_graph (heap_of m roots) heap_is
 
@@ -171,6 +172,7 @@ module _ (m : Mine) (t : Theirs) (roots : List ℕ) (heap_is : IsHeap (heap_of m
     corresponding = subst (Corresponding (pairs_of (its t)) (graph_in (heap_of m roots))) new_graph_same (corresponding_graphs m.space.size (free_in m.space) (graph_in (heap_of m roots)) c old h.belongs h.size ready_there);
     heap = heap_there;
     graph = graph_there;
+    kept = kept;
   }
 
 -- any load with both ends at hand
@@ -189,6 +191,6 @@ flips_rule slots size k id me writes copies s r _ seat _ =
         λ roots fine done. subst (λ (x : Mine × Theirs). Flips roots x.0 x.1) (λ i. (sym mine i, sym theirs i))
             (flips_there r.mine r.theirs roots (subst (λ (m : Mine). IsHeap (heap_of m roots)) mine fine) r.opened
             (ap (λ (m : Mine). m.log) (sym mine) ∙ done.logged) (ap (λ (t : Theirs). t.due) (sym theirs) ∙ done.applied)
-            (subst (λ (t : Theirs). scan_done (its t) ≡ true) theirs done.scanned) (subst (λ (t : Theirs). roots_done (its t) (roots_alone roots) ≡ true) theirs done.rooted)),
+            (subst (λ (t : Theirs). scan_done (its t) ≡ true) theirs done.scanned) (subst (λ (t : Theirs). roots_done (its t) (roots_alone roots) ≡ true) theirs done.rooted) r.carries.copied),
       ),
     )

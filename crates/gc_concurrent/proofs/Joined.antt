@@ -1,5 +1,5 @@
 -- Steps with both ends at hand: the log changes hands, and the targets of the mutator's roots are wanted.
-use Rattle.std.proofs.Common.{◌≡◌, ℕ, true, List, [], ◌∷◌, ◌++◌, set, refl, sym, ◌∙◌, subst, inl, inr, ⊎_elim}
+use Rattle.std.proofs.Common.{◌≡◌, ℕ, true, List, [], ◌∷◌, ◌++◌, set, refl, sym, ◌∙◌, subst, inl, inr, ⊎_elim, arith}
 use Rattle.std.specs.Prelude.{is_some}
 use mathlib.Core.Option.{none, some}
 use lib.ListN.{get_elem?}
@@ -13,10 +13,12 @@ use Rattle.gc_plan.specs.State.{Collection}
 use Rattle.gc_plan.specs.Belonging.{IsOpened, IsDue, IsLogged}
 use Rattle.gc_plan.proofs.Public.{its_replicas, belongs_from, replicas_due, in_left, in_right}
 use Rattle.gc_concurrent.specs.Ends.{Known, Mine, Theirs}
+use Rattle.gc_concurrent.specs.Unreachable.{MayBeCopied}
 use Rattle.gc_concurrent.specs.Internal.Plans.{collection_of, plan}
 use Rattle.gc_concurrent.specs.Internal.Rule.{IsConcurrent, Seated, Sat, logs_taken, wants, tells_take, tells_root}
 use Rattle.gc_concurrent.proofs.Hands.{St, seat_set}
 use Rattle.gc_concurrent.proofs.Logs.{of_two, to_two, in_either}
+use Rattle.gc_concurrent.proofs.Keeping.{kept_still, kept_mine}
 use Rattle.gc_concurrent.proofs.Loosely.{Leaves, loosely}
 use Rattle.gc_concurrent.proofs.Copying.{want}
 
@@ -40,7 +42,7 @@ taken_opened m t h =
     }
 
 take_at : (slots size : ℕ) (s : St) (r : IsConcurrent size s) (k id : ℕ) (me : Sat) → get_elem? s.views id ≡ some me.0 → me.0.writes ≡ true → me.0.copies ≡ true
-    → Leaves size s k id me (λ n m. m ≡ (logs_taken me.0, me.1))
+    → Leaves size s k id me (λ n m. (m ≡ (logs_taken me.0, me.1)) × (me.0.theirs.base ≡ me.0.mine.base))
 take_at slots size s r k id me seat writes copies =
     let own = r.seats id me.0 seat in
     let mine : me.0.mine ≡ r.mine = ((own.0) writes).1 in
@@ -65,22 +67,23 @@ take_at slots size s r k id me seat writes copies =
         closed = r.closed;
         wanted = r.wanted;
         opened = taken_opened r.mine r.theirs r.opened;
+        carries = kept_mine r.mine t' (kept_still r.mine r.theirs r.carries t' refl refl refl) m' refl (omega arith) r.carries.fields;
         seats = seat_set (Seated r.writer r.copier m' t') s.views id w
             ((λ p. ((own.0 p).0, refl)), λ p. ((own.1 p).0, refl))
             (λ j u other e. ((λ p. absurd (other ((((r.seats j u e).0 p).0) ∙ sym ((own.0 writes).0)))), λ p. absurd (other ((((r.seats j u e).1 p).0) ∙ sym ((own.1 copies).0)))));
       }),
-      λ j. (record me.0 { mine = record (sym mine j) { log = [] }; theirs = record (sym theirs j) { due = (sym theirs j).due ++ (sym mine j).log } }, me.1),
+      ((λ j. (record me.0 { mine = record (sym mine j) { log = [] }; theirs = record (sym theirs j) { due = (sym theirs j).due ++ (sym mine j).log } }, me.1)), subst (λ (z : Mine × Theirs). z.1.base ≡ z.0.base) (λ j. (sym mine j, sym theirs j)) r.carries.begun),
     )
 
 pub takes_rule : (slots size k id : ℕ) (me : Sat) → me.0.writes ≡ true → me.0.copies ≡ true
     → Allows (IsConcurrent size) slots id me k (λ x. x) (tells_take (step slots k 0 0 none) me)
-takes_rule slots size k id me writes copies s r _ seat _ = loosely size s k id me (λ n m. m ≡ (logs_taken me.0, me.1)) seat (take_at slots size s r k id me seat writes copies)
+takes_rule slots size k id me writes copies s r _ seat _ = loosely size s k id me (λ n m. (m ≡ (logs_taken me.0, me.1)) × (me.0.theirs.base ≡ me.0.mine.base)) seat (take_at slots size s r k id me seat writes copies)
 
 -- ---- roots
 
-pub roots_rule : (slots size id : ℕ) (me : Sat) (w name : ℕ) → me.0.writes ≡ true → me.0.copies ≡ true → IsRootWord me.0.mine.space.words w → value_of w ≡ Ref name
+pub roots_rule : (slots size id : ℕ) (me : Sat) (w name : ℕ) → me.0.writes ≡ true → me.0.copies ≡ true → IsRootWord me.0.mine.space.words w → value_of w ≡ Ref name → MayBeCopied me.0.theirs.base name
     → Allows (IsConcurrent size) slots id me name (λ x. x) (tells_root (step slots name 0 0 none) me)
-roots_rule slots size id me w name writes copies fine is s r _ seat _ =
+roots_rule slots size id me w name writes copies fine is kept s r _ seat _ =
     let mine : me.0.mine ≡ r.mine = ((r.seats id me.0 seat).0 writes).1 in
     let theirs : me.0.theirs ≡ r.theirs = ((r.seats id me.0 seat).1 copies).1 in
     let fine' : IsRootWord r.mine.space.words w = subst (λ (m : Mine). IsRootWord m.space.words w) mine fine in
@@ -89,6 +92,6 @@ roots_rule slots size id me w name writes copies fine is s r _ seat _ =
       record me.0 { theirs = wants name r.theirs },
       keeps,
       tt,
-      want size s r name id me name seat copies start,
+      want size s r name id me name seat copies start (subst (λ (t : Theirs). MayBeCopied t.base name) theirs kept),
       λ j. (record me.0 { theirs = wants name (sym theirs j) }, me.1),
     )

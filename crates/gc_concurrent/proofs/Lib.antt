@@ -1,6 +1,7 @@
 -- Lemmas, from the cells up to whole runs.
 pub mod TiedCells
 pub mod Hands
+pub mod Keeping
 pub mod Writing
 pub mod Logs
 pub mod Loosely

@@ -11,7 +11,10 @@ use Rattle.gc_words.specs.Space.{SpaceWords, IsSpace}
 use Rattle.gc_words.specs.Image.{objects_of}
 use Rattle.gc_plan.proofs.Public.{begun_belongs}
 use Rattle.gc_copy.proofs.Public.{words_numbers}
-use Rattle.gc_words.specs.Closed.{IsClosed}
+use Rattle.gc_words.specs.Closed.{IsRootWord}
+use Rattle.gc_heap.specs.Heap.{HeapWords, IsHeap}
+use Rattle.std.proofs.lemmas.List.Elements.{All-nil}
+use Rattle.gc_concurrent.proofs.Keeping.{begins_kept}
 use Rattle.gc_concurrent.specs.Ends.{Known, Mine, Theirs, opening_mine, opening_theirs, opening_view}
 use Rattle.gc_concurrent.specs.Internal.Rule.{IsConcurrent, Loose, only_writes, only_copies, both_ends, spent_view}
 use Rattle.gc_concurrent.proofs.Hands.{seat_set}
@@ -45,6 +48,7 @@ splits_rule size id v writes copies s r here =
       closed = r.closed;
       wanted = r.wanted;
       opened = r.opened;
+      carries = r.carries;
       seats = λ j u e. ⊎_elim
           (λ (x : get_elem? vs j ≡ some u). ((λ p. absurd ((old j u x).1 p)), (old j u x).0))
           (λ (x : (j ≡ length vs) × (q ≡ u)). ((λ p. (x.0, ap (λ (z : Known). z.mine) (sym x.1) ∙ (own.0 writes).1)), λ p. absurd (true≢false (sym (ap (λ (z : Known). z.copies) x.1 ∙ p)))))
@@ -72,6 +76,7 @@ joins_rule size id other v w copies writes s r here apart there =
       closed = r.closed;
       wanted = r.wanted;
       opened = r.opened;
+      carries = r.carries;
       seats = λ j u e. ⊎_elim
           (λ (x : (j ≡ other) × (spent_view ≡ u)). ((λ p. absurd (true≢false (sym p ∙ ap (λ (z : Known). z.writes) (sym x.1)))), (λ p. absurd (true≢false (sym p ∙ ap (λ (z : Known). z.copies) (sym x.1))))))
           (λ (x : (j ≢ other) × (get_elem? vs j ≡ some u)). ⊎_elim
@@ -81,22 +86,21 @@ joins_rule size id other v w copies writes s r here apart there =
           (at_set vs other j spent_view u e);
     }
 
--- The words of the table: those of the space, and zeros up to its size.
-pub record Begins (space : SpaceWords) (new_size : ℕ) (words : List ℕ) : Type 0 where
-  pub wide : length words ≡ space.size
-  pub now : (k : ℕ) → k < length space.words → get_or words k 0 ≡ get_or space.words k 0
-  pub free : (k : ℕ) → length space.words ≤ k → k < space.size → get_or words k 0 ≡ 0
-  pub shaped : IsSpace space
-  pub closed : IsClosed space.words []
+-- The words of the table: those of the heap, and zeros up to its size.
+pub record Begins (heap : HeapWords) (new_size : ℕ) (words : List ℕ) : Type 0 where
+  pub wide : length words ≡ heap.space.size
+  pub now : (k : ℕ) → k < length heap.space.words → get_or words k 0 ≡ get_or heap.space.words k 0
+  pub free : (k : ℕ) → length heap.space.words ≤ k → k < heap.space.size → get_or words k 0 ≡ 0
+  pub sound : IsHeap heap
   pub low : 1 ≤ new_size
   pub high : new_size ≤ 4294967295
 
-pub opens_rule : (space : SpaceWords) (new_size : ℕ) (words : List ℕ) → Begins space new_size words
-    → IsConcurrent space.size (opening words [] (opening_view space new_size))
-opens_rule space new_size words b =
-    let m : Mine = opening_mine space in
-    let t : Theirs = opening_theirs space.size new_size in
-    let v : Known = opening_view space new_size in
+pub opens_rule : (heap : HeapWords) (new_size : ℕ) (words : List ℕ) → Begins heap new_size words
+    → IsConcurrent heap.space.size (opening words [] (opening_view heap new_size))
+opens_rule heap new_size words b =
+    let m : Mine = opening_mine heap in
+    let t : Theirs = opening_theirs heap heap.space.size new_size in
+    let v : Known = opening_view heap new_size in
     let low = b.low in
     record {
       mine = m;
@@ -108,10 +112,11 @@ opens_rule space new_size words b =
       older = refl;
       now = b.now;
       free = b.free;
-      space = b.shaped;
-      closed = b.closed;
+      space = (b.sound).space;
+      closed = record { fields = (b.sound).closed.fields; roots = All-nil (IsRootWord heap.space.words) };
       wanted = λ a h. absurd h;
-      opened = record { belongs = begun_belongs (objects_of space.words) 2 new_size (words_numbers space.words) low; size = b.high; logs = refl };
+      opened = record { belongs = begun_belongs (objects_of heap.space.words) 2 new_size (words_numbers heap.space.words) low; size = b.high; logs = refl };
+      carries = record { begun = refl; behind = omega arith; fields = (begins_kept heap b.sound).fields; copied = λ r l. absurd l; wanted = λ a l. absurd l };
       seats = λ j u e. ⊎_elim
           (λ (x : get_elem? [] j ≡ some u). absurd (some-ne-none u (sym x)))
           (λ (x : (j ≡ 0) × (v ≡ u)). ((λ _. (x.0, ap (λ (z : Known). z.mine) (sym x.1))), λ _. (x.0, ap (λ (z : Known). z.theirs) (sym x.1))))
@@ -126,20 +131,19 @@ behind (x ∷ xs) ys (suc k) h = behind xs ys k (omega arith) ∙ ap (λ n. get_
 pub padded_length : (space : SpaceWords) → IsSpace space → length (padded_to space.size space.words) ≡ space.size
 padded_length space is = let n : length (zeros (space.size - length space.words)) ≡ space.size - length space.words = length-replicate (space.size - length space.words) 0 in let end = is.end_high in omega (arith, length-append space.words (zeros (space.size - length space.words)), n)
 
--- a space whose words are padded with zeros
-pub begins_padded : (space : SpaceWords) (new_size : ℕ) → IsSpace space → IsClosed space.words [] → 1 ≤ new_size → new_size ≤ 4294967295 → Begins space new_size (padded_to space.size space.words)
-begins_padded space new_size is closed low high = record {
-  wide = padded_length space is;
-  now = λ k l. at_left space.words (zeros (space.size - length space.words)) k l;
-  free = λ k l h. behind space.words (zeros (space.size - length space.words)) k l ∙ zero_at (space.size - length space.words) (k - length space.words);
-  shaped = is;
-  closed = closed;
+-- a heap whose words are padded with zeros
+pub begins_padded : (heap : HeapWords) (new_size : ℕ) → IsHeap heap → 1 ≤ new_size → new_size ≤ 4294967295 → Begins heap new_size (padded_to heap.space.size heap.space.words)
+begins_padded heap new_size is low high = record {
+  wide = padded_length heap.space is.space;
+  now = λ k l. at_left heap.space.words (zeros (heap.space.size - length heap.space.words)) k l;
+  free = λ k l h. behind heap.space.words (zeros (heap.space.size - length heap.space.words)) k l ∙ zero_at (heap.space.size - length heap.space.words) (k - length heap.space.words);
+  sound = is;
   low = low;
   high = high;
 }
 
 -- what the collector knows as an epoch begins
-pub opening_loose : (space : SpaceWords) (new_size : ℕ) (words : List ℕ) → Begins space new_size words → ∥ Loose (opening_theirs space.size new_size) ∥₁
-opening_loose space new_size words b =
-    let r = opens_rule space new_size words b in
-    ∣ subst Loose (sym ((r.seats 0 (opening_view space new_size) refl).1 refl).1) (loose_of space.size (opening words [] (opening_view space new_size)) r) ∣₁
+pub opening_loose : (heap : HeapWords) (new_size : ℕ) (words : List ℕ) → Begins heap new_size words → ∥ Loose (opening_theirs heap heap.space.size new_size) ∥₁
+opening_loose heap new_size words b =
+    let r = opens_rule heap new_size words b in
+    ∣ subst Loose (sym ((r.seats 0 (opening_view heap new_size) refl).1 refl).1) (loose_of heap.space.size (opening words [] (opening_view heap new_size)) r) ∣₁

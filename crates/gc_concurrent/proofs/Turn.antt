@@ -60,7 +60,7 @@ roots_moved row t (w ∷ ws) c near placed =
 pub ready_in : (m : Mine) (t : Theirs) (roots : List ℕ) → t.due ≡ [] → scan_done (its t) ≡ true → roots_done (its t) (roots_alone roots) ≡ true → is_ready (its t) (graph_in (heap_of m roots)) ≡ true
 ready_in m t roots applied scanned rooted = λ i. list_all is_empty (applied i ∷ []) && scanned i && rooted i
 
-value_in : (roots : List ℕ) (k : ℕ) (v : Value) → k < length roots → value_of (slice_index roots k) ≡ v → In v (map value_of roots)
+pub value_in : (roots : List ℕ) (k : ℕ) (v : Value) → k < length roots → value_of (slice_index roots k) ≡ v → In v (map value_of roots)
 value_in [] k v l e = absurd (omega arith)
 value_in (w ∷ ws) zero v l e = inl e
 value_in (w ∷ ws) (suc k) v l e = inr (value_in ws k v (omega arith) e)

@@ -18,13 +18,16 @@ use Rattle.std.proofs.lemmas.List.{length-replicate}
 use Rattle.std.specs.Option.{option_map}
 use Rattle.gc_plan.specs.State.{Collection}
 use Rattle.gc_plan.specs.Members.{In}
-use Rattle.gc_plan.specs.Belonging.{HasField, IsOpened, IsDue, BelongsBy}
+use Rattle.gc_plan.specs.Belonging.{HasField, IsOpened, IsDue, BelongsBy, RefersTo}
 use Rattle.gc_plan.proofs.Public.{Evolves, field_stays, lookup_left, lookup_written, written_entry, written_raw, written_kind, written_length, written_get, belongs_but, belongs_noted, belongs_from, its_replicas, replicas_evolve}
 use Rattle.gc_copy.proofs.Public.{words_numbers}
 use Rattle.gc_concurrent.specs.Ends.{Known, Mine, Theirs}
 use Rattle.gc_concurrent.specs.Internal.Plans.{collection_of, plan}
 use Rattle.gc_concurrent.specs.Internal.Rule.{IsConcurrent, wrote, made, Sat, tells_get, tells_put, tells_new}
+use Rattle.gc_concurrent.specs.Unreachable.{MayBeCopied}
+use Rattle.gc_concurrent.specs.Internal.Carrying.{FieldsLeadTo}
 use Rattle.gc_concurrent.proofs.Hands.{St, seats_mine, same}
+use Rattle.gc_concurrent.proofs.Keeping.{kept_mine, set_leads, push_leads}
 
 -- ---- a word is read
 
@@ -90,7 +93,7 @@ set_evolves objects Touched name i v t a o k = record {
   fields = λ j w l. ⊎_elim (λ x. inl x) (λ y. inr (subst (λ n. Touched n j) (sym y.0) (subst (Touched name) (sym y.1) t))) (written_get name i v (a, o) j w l);
 }
 
-written_objects : (s : SpaceWords) (a i w : ℕ) (b : Block) → IsSpace s → IsSome (field_at s.words a i) → block_at s.words a ≡ Some b
+pub written_objects : (s : SpaceWords) (a i w : ℕ) (b : Block) → IsSpace s → IsSome (field_at s.words a i) → block_at s.words a ≡ Some b
     → objects_of (with_field_at s a i w).words ≡ set_field (objects_of s.words) a i (field_value b.header w)
 written_objects s a i w b space has found = ap (λ (g : Graph). g.objects) (graph_field s a i w b [] space has found)
 
@@ -105,9 +108,9 @@ field_there s a i b space has found =
     )
 
 put_keeps : (size : ℕ) (s : St) (r : IsConcurrent size s) (id : ℕ) (v : Known) (c : List (ℕ × ℕ)) (a i w : ℕ) (b : Block) → get_elem? s.views id ≡ some v → v.writes ≡ true
-    → block_at r.mine.space.words a ≡ Some b → IsSome (field_at r.mine.space.words a i) → IsFieldWord r.mine.space.words b.header w
+    → block_at r.mine.space.words a ≡ Some b → IsSome (field_at r.mine.space.words a i) → IsFieldWord r.mine.space.words b.header w → RefersTo (MayBeCopied r.mine.base) (field_value b.header w)
     → IsConcurrent size (stepped s (field_place a i) w id c (record v { mine = wrote a i w r.mine }) keeps)
-put_keeps size s r id v c a i w b here writes found has is =
+put_keeps size s r id v c a i w b here writes found has is kept =
     let wide = r.wide in let sized = r.sized in
     let sp : SpaceWords = r.mine.space in
     let k : ℕ = field_place a i in
@@ -135,6 +138,8 @@ put_keeps size s r id v c a i w b here writes found has is =
       wanted = λ x h. let o = r.wanted x h in let still = evolves x o.0 o.1 in (still.now, still.found);
       opened = opened_noted r.mine m' r.theirs ((a, i) ∷ []) evolves refl
           (λ x j h. ⊎_elim (λ (e : (a, i) ≡ (x, j)). subst (λ (p : ℕ × ℕ). HasField (objs m') p.0 p.1) e (field_stays (objs r.mine) (objs m') (λ x j. In {X = ℕ × ℕ} (x, j) ((a, i) ∷ [])) a i evolves was)) (λ (e : ⊥). absurd e) h) r.opened;
+      carries = kept_mine r.mine r.theirs r.carries m' refl (let l = length-set sp.words k w in omega arith)
+          (subst (FieldsLeadTo (MayBeCopied r.mine.base)) (sym objects) (set_leads (MayBeCopied r.mine.base) (objs r.mine) a i (field_value b.header w) r.carries.fields kept));
       seats = seats_mine r.writer r.copier id r.mine m' r.theirs s.views v here writes r.seats;
     }
 
@@ -159,14 +164,14 @@ one_field sp a i x j space has has' e =
     (apart a x ne)))
 
 puts : (slots size id : ℕ) (me : Sat) (a i w : ℕ) (b : Block) → me.0.writes ≡ true
-    → block_at me.0.mine.space.words a ≡ Some b → IsSome (field_at me.0.mine.space.words a i) → IsFieldWord me.0.mine.space.words b.header w
+    → block_at me.0.mine.space.words a ≡ Some b → IsSome (field_at me.0.mine.space.words a i) → IsFieldWord me.0.mine.space.words b.header w → RefersTo (MayBeCopied me.0.mine.base) (field_value b.header w)
     → Allows (IsConcurrent size) slots id me (field_place a i) (λ _. w) (λ _. tells_put (step slots (field_place a i) w 0 none) me w)
-puts slots size id me a i w b writes found has is s r _ here _ =
+puts slots size id me a i w b writes found has is kept s r _ here _ =
     let own = (r.seats id me.0 here).0 writes in
     let to : me.0.mine ≡ r.mine = own.1 in
     let has' : IsSome (field_at r.mine.space.words a i) = subst (λ (m : Mine). IsSome (field_at m.space.words a i)) to has in
     let kept = put_keeps size s r id me.0 me.1 a i w b here writes (subst (λ (m : Mine). block_at m.space.words a ≡ Some b) to found) has'
-    (subst (λ (m : Mine). IsFieldWord m.space.words b.header w) to is) in (
+    (subst (λ (m : Mine). IsFieldWord m.space.words b.header w) to is) (subst (λ (m : Mine). RefersTo (MayBeCopied m.base) (field_value b.header w)) to kept) in (
       record me.0 { mine = wrote a i w r.mine },
       keeps,
       tt,
@@ -243,6 +248,8 @@ new_keeps size s r id v c h here writes can =
       closed = closed_placed sp h can [] r.closed;
       wanted = λ x g. let o = r.wanted x g in let still = evolves x o.0 o.1 in (still.now, still.found);
       opened = opened_still r.mine m' r.theirs evolves refl r.opened;
+      carries = kept_mine r.mine r.theirs r.carries m' refl (omega arith)
+          (subst (FieldsLeadTo (MayBeCopied r.mine.base)) (sym objects) (push_leads (MayBeCopied r.mine.base) (objs r.mine) k h.raw h.kind h.len r.carries.fields));
       seats = seats_mine r.writer r.copier id r.mine m' r.theirs s.views v here writes r.seats;
     }
 
@@ -266,10 +273,10 @@ news slots size id me h writes can s r _ here _ =
 -- ---- the same for callers, who have the place and the word by equations
 
 pub puts_at : (slots size id : ℕ) (me : Sat) (a i k w : ℕ) (b : Block) → k ≡ field_place a i → me.0.writes ≡ true
-    → block_at me.0.mine.space.words a ≡ Some b → IsSome (field_at me.0.mine.space.words a i) → IsFieldWord me.0.mine.space.words b.header w
+    → block_at me.0.mine.space.words a ≡ Some b → IsSome (field_at me.0.mine.space.words a i) → IsFieldWord me.0.mine.space.words b.header w → RefersTo (MayBeCopied me.0.mine.base) (field_value b.header w)
     → Allows (IsConcurrent size) slots id me k (λ _. w) (λ _. tells_put (step slots k w 0 none) me w)
-puts_at slots size id me a i k w b is writes found has fine =
-    subst (λ (z : ℕ). Allows (IsConcurrent size) slots id me z (λ _. w) (λ _. tells_put (step slots z w 0 none) me w)) (sym is) (puts slots size id me a i w b writes found has fine)
+puts_at slots size id me a i k w b is writes found has fine kept =
+    subst (λ (z : ℕ). Allows (IsConcurrent size) slots id me z (λ _. w) (λ _. tells_put (step slots z w 0 none) me w)) (sym is) (puts slots size id me a i w b writes found has fine kept)
 
 pub news_at : (slots size id : ℕ) (me : Sat) (k w : ℕ) (h : Header) → end_of me.0.mine.space ≡ k → w ≡ header_word h → me.0.writes ≡ true → CanPlace me.0.mine.space h
     → Allows (IsConcurrent size) slots id me k (λ _. w) (λ _. tells_new (step slots k w 0 none) me w)

@@ -1,15 +1,21 @@
 -- What the mutator and the collector of a heap know of it. Each has one end of the heap.
 use Rattle.std.specs.Prelude.{[], ℕ, Bool, true, List, ◌∷◌}
 use Rattle.gc_words.specs.Space.{SpaceWords}
+use Rattle.gc_heap.specs.Heap.{HeapWords}
 use Rattle.gc_plan.specs.State.{Replica, Collection}
 
--- The space, and the fields written since the log was last taken (oldest first).
+-- the heap of one mutator: its space and its roots
+abbrev pub one_heap : SpaceWords → List ℕ → HeapWords
+one_heap space roots = record { space = space; roots = roots; mutators = 1 }
+
+-- The space, the fields written since the log was last taken (oldest first), and the heap with which the collection began.
 pub record Mine : Type 0 where
   pub space : SpaceWords
   pub log : List (ℕ × ℕ)
+  pub base : HeapWords
 
--- The size of the mutator's space, the new space as gc_plan has it, the entries taken and not yet applied, and addresses that were read and at
--- which objects start.
+-- The size of the mutator's space, the new space as gc_plan has it, the entries taken and not yet applied, addresses that were read and at
+-- which objects start, and the heap with which the collection began.
 pub record Theirs : Type 0 where
   pub old : ℕ
   pub size : ℕ
@@ -18,6 +24,7 @@ pub record Theirs : Type 0 where
   pub scan_field : ℕ
   pub due : List (ℕ × ℕ)
   pub wanted : List ℕ
+  pub base : HeapWords
 
 -- the collection as the collector knows it: its own entries alone
 abbrev pub its : Theirs → Collection
@@ -29,12 +36,12 @@ pub record Known : Type 0 where
   pub mine : Mine
   pub theirs : Theirs
 
-abbrev pub opening_mine : SpaceWords → Mine
-opening_mine space = record { space = space; log = [] }
+abbrev pub opening_mine : HeapWords → Mine
+opening_mine heap = record { space = heap.space; log = []; base = heap }
 
--- a collection in a new space of this size that has just begun
-abbrev pub opening_theirs : ℕ → ℕ → Theirs
-opening_theirs old size = record { old = old; size = size; replicas = []; scan_place = 1; scan_field = 0; due = []; wanted = [] }
+-- a collection of this heap, in a new space of this size, that has just begun
+abbrev pub opening_theirs : HeapWords → ℕ → ℕ → Theirs
+opening_theirs heap old size = record { old = old; size = size; replicas = []; scan_place = 1; scan_field = 0; due = []; wanted = []; base = heap }
 
-abbrev pub opening_view : SpaceWords → ℕ → Known
-opening_view space new_size = record { writes = true; copies = true; mine = opening_mine space; theirs = opening_theirs space.size new_size }
+abbrev pub opening_view : HeapWords → ℕ → Known
+opening_view heap new_size = record { writes = true; copies = true; mine = opening_mine heap; theirs = opening_theirs heap heap.space.size new_size }

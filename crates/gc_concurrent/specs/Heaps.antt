@@ -2,11 +2,11 @@
 use Rattle.std.specs.Prelude.{ℕ, List, ◌≡◌, ◌⊎◌}
 use Rattle.gc_heap.specs.Heap.{HeapWords, graph_in}
 use Rattle.gc_graph.specs.Correspond.{Corresponding}
-use Rattle.gc_concurrent.specs.Ends.{Mine}
+use Rattle.gc_concurrent.specs.Ends.{Mine, one_heap}
 
 -- the mutator's space, with its roots
 abbrev pub heap_of : Mine → List ℕ → HeapWords
-heap_of mine roots = record { space = mine.space; roots = roots; mutators = 1 }
+heap_of mine roots = one_heap mine.space roots
 
 -- some pairs of objects make the graphs of the two heaps correspond
 abbrev pub CorrespondsTo : HeapWords → HeapWords → Type 0

@@ -1,6 +1,7 @@
 -- Definitions that only private contracts and proofs need. They promise nothing to callers.
 pub mod Codes
 pub mod Plans
+pub mod Carrying
 pub mod Rule
 pub mod Flip
 pub mod Copiers

@@ -1,4 +1,5 @@
 pub mod Ends
+pub mod Unreachable
 pub mod Heaps
 pub mod Holders
 pub mod Waiters

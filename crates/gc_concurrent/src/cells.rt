@@ -9,22 +9,23 @@ pub struct CellsView {
 }
 
 impl Model for CellsView {
-    ghost use Rattle.gc_words.specs.Space.{empty_space};
     ghost use Rattle.gc_concurrent.specs.Ends.{Known, opening_view};
+    ghost use Rattle.gc_concurrent.specs.Internal.Rule.{no_heap};
     ghost use Rattle.gc_concurrent.specs.Internal.Codes.{known_coded};
 
     ghost Value = { Known };
 
     ghost coded = { known_coded };
 
-    ghost view = { λ _. opening_view (empty_space 0) 0 };
+    ghost view = { λ _. opening_view no_heap 0 };
 }
 
-/// What cells begin with: the size of the space, its words up to the end, and the size of the new space.
+/// What cells begin with: the size of the space, its words up to the end, the roots, and the size of the new space.
 #[derive(Drop)]
 pub struct CellsKey {
     pub size: u32,
     pub words: Vec<u64>,
+    pub roots: Vec<u64>,
     pub new_size: u32,
 }
 
@@ -32,12 +33,12 @@ pub struct CellsKey {
 pub struct CellsRule;
 
 impl TableRule<u64, CellsView, CellsKey> for CellsRule {
-    ghost use Rattle.gc_concurrent.specs.Ends.{opening_view};
+    ghost use Rattle.gc_concurrent.specs.Ends.{one_heap, opening_view};
     ghost use Rattle.gc_concurrent.specs.Internal.Rule.{IsConcurrent};
 
     ghost holds = { λ k. IsConcurrent k.size };
 
-    ghost first = { λ k. opening_view (record { size = k.size; words = k.words.items }) k.new_size };
+    ghost first = { λ k. opening_view (one_heap (record { size = k.size; words = k.words.items }) k.roots.items) k.new_size };
 }
 
 /// The cells with their memory. Both ends own them.

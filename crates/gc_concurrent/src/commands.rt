@@ -1,8 +1,11 @@
 //! A mutator with its roots. It makes objects and writes fields.
 ghost use Rattle.std.specs.Prelude.{◌≡◌, ◌+◌, ◌-◌, ◌*◌, ◌^◌, ◌<◌, ◌≤◌, true, false, [], ◌∷◌, length, suc};
-ghost use Rattle.gc_heap.specs.Heap.{IsHeap};
+ghost use Rattle.gc_words.specs.Space.{end_of};
+ghost use Rattle.gc_heap.specs.Heap.{IsHeap, graph_in};
+ghost use Rattle.gc_plan.specs.Carried.{LeadsOnlyTo};
+ghost use Rattle.gc_concurrent.specs.Unreachable.{MayBeCopied};
 ghost use Rattle.gc_concurrent.specs.Heaps.{heap_of};
-ghost use Rattle.gc_concurrent.specs.Internal.Props.{heap_prop};
+ghost use Rattle.gc_concurrent.specs.Internal.Props.{heap_prop, leads_prop};
 
 use crate::mutator::Mutator;
 use gc_graph::{NoMemory, Reply, object_words};
@@ -16,6 +19,8 @@ pub struct Commander {
     pub(crate) end: u32,
     ghost ended: { length mutator.seat.me.0.mine.space.words ≡ end },
     ghost sound: { IsHeap (heap_of mutator.seat.me.0.mine roots.items) } by { heap_prop (heap_of mutator.seat.me.0.mine roots.items) },
+    ghost behind: { end_of mutator.seat.me.0.mine.base.space ≤ end },
+    ghost kept: { LeadsOnlyTo (MayBeCopied mutator.seat.me.0.mine.base) (graph_in (heap_of mutator.seat.me.0.mine roots.items)) } by { leads_prop mutator.seat.me.0.mine.base _ },
 }
 
 fn header_of(raw: bool, kind: u8, len: u16) -> Header
@@ -64,9 +69,7 @@ impl Commander {
     ghost use Rattle.std.specs.Prelude.{IfOk, OnErr};
     ghost use Rattle.gc_graph.specs.Graph.{object_of, field_of, root};
     ghost use Rattle.gc_graph.specs.Machine.{put_field};
-    ghost use Rattle.gc_heap.specs.Heap.{graph_in};
     ghost use Rattle.gc_graph.proofs.Public.{make_object};
-    ghost use Rattle.gc_words.specs.Space.{end_of};
     ghost use Rattle.gc_heap.specs.Heap.{roomy_in};
 
     /// Makes a new object and sets a root to a reference to it, if there is room.

@@ -11,6 +11,7 @@ ghost use Rattle.gc_copy.specs.Words.{replicas_in};
 ghost use Rattle.gc_concurrent.specs.Heaps.{heap_of};
 ghost use Rattle.gc_concurrent.specs.Internal.Flip.{HasNothingLeft, Flips};
 ghost use Rattle.gc_concurrent.specs.Ends.{its};
+ghost use Rattle.gc_concurrent.specs.Unreachable.{MayBeCopied};
 ghost use Rattle.gc_concurrent.specs.Internal.Rule.{entries_of_fields, read_as, Loose};
 ghost use Rattle.gc_concurrent.specs.Internal.Copiers.{Claims, KeepsSeat, moved_by};
 ghost use Rattle.gc_concurrent.specs.Works.{WhereDone};
@@ -304,6 +305,7 @@ impl Copier {
     pub(crate) fn want(&mut self, at: Addr)
         requires both { self.old.seat.me.0.writes ≡ true }
         requires low { at.0 < self.old.size }
+        requires kept { MayBeCopied self.old.seat.me.0.theirs.base at.0 }
         requires root { (w : ℕ) × IsRootWord self.old.seat.me.0.mine.space.words w × (value_of w ≡ Ref at.0) }
         ensures seat { KeepsSeat self.old.seat.me self.new.seat.me }
         ensures row { (self.new.seat.table_id ≡ self.old.seat.table_id) × (self.new.size ≡ self.old.size) }

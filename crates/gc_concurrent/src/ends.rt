@@ -2,8 +2,8 @@
 ghost use Rattle.std.specs.Prelude.{◌≡◌, ◌≤◌, [], IfOk, length};
 ghost use Rattle.std.specs.Arc.{arc_value};
 ghost use Rattle.gc_words.specs.Space.{IsSpace};
-ghost use Rattle.gc_words.specs.Closed.{IsClosed};
-ghost use Rattle.gc_concurrent.specs.Ends.{opening_view};
+ghost use Rattle.gc_heap.specs.Heap.{IsHeap};
+ghost use Rattle.gc_concurrent.specs.Ends.{one_heap, opening_view};
 ghost use Rattle.gc_concurrent.specs.Internal.Plans.{padded_to};
 ghost use Rattle.gc_concurrent.specs.Internal.Rule.{Loose};
 
@@ -35,11 +35,16 @@ fn padded(alloc: Global, words: &[u64], size: u32) -> Result<Vec<u64>, NoMemory>
     Ok(row)
 }
 
-/// Lays out a space as cells. A collection begins, in a new space of this size.
-pub(crate) fn open_cells(alloc: Global, space: &Space, new_size: u32) -> Result<Opened, NoMemory>
-    requires closed { IsClosed space.now.words [] }
+/// Lays out a space as cells. A collection of the heap with these roots begins, in a new space of this size.
+pub(crate) fn open_cells(
+    alloc: Global,
+    space: &Space,
+    roots: &[u64],
+    new_size: u32,
+) -> Result<Opened, NoMemory>
+    requires sound { IsHeap (one_heap space.now roots.now) }
     requires low { 1 ≤ new_size }
-    ensures view { IfOk result (λ o. o.seat.me ≡ (opening_view space.now new_size, [])) }
+    ensures view { IfOk result (λ o. o.seat.me ≡ (opening_view (one_heap space.now roots.now) new_size, [])) }
     ensures size { IfOk result (λ o. o.size ≡ space.now.size) }
     ensures loose { IfOk result (λ o. ∥ Loose o.seat.me.0.theirs ∥₁) }
 {
@@ -47,9 +52,12 @@ pub(crate) fn open_cells(alloc: Global, space: &Space, new_size: u32) -> Result<
     let words = padded(alloc, space.words(), size)?;
     let mut own = Vec::new(alloc);
     own.extend_from_slice(space.words())?;
+    let mut own_roots = Vec::new(alloc);
+    own_roots.extend_from_slice(roots)?;
     let about = CellsKey {
         size,
         words: own,
+        roots: own_roots,
         new_size,
     };
     let (table, seat) = Cells::of_words(alloc, words.as_slice(), &about)?;

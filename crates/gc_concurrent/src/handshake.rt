@@ -1,5 +1,5 @@
 //! The handshake through which a mutator goes to its collector and back. No call here waits but `poll` and `wait`.
-ghost use Rattle.std.specs.Prelude.{◌≡◌, ◌≢◌, ℕ, ◌<◌, ◌≤◌, true, false, [], ◌∷◌, replicate, IfOk, MatchResult};
+ghost use Rattle.std.specs.Prelude.{◌≡◌, ◌≢◌, ℕ, ◌<◌, ◌≤◌, true, false, [], ◌∷◌, map, replicate, IfOk, MatchResult};
 ghost use Rattle.std.specs.Arc.{arc_value};
 ghost use Rattle.gc_concurrent.specs.Holders.{cells_read_by, heap_in, known_to};
 ghost use Rattle.gc_concurrent.specs.Heaps.{GoesOnIn};
@@ -9,7 +9,10 @@ ghost use Rattle.gc_concurrent.specs.Heaps.{heap_of};
 ghost use Rattle.gc_graph.specs.Graph.{opening};
 ghost use Rattle.gc_words.specs.Space.{empty_space};
 ghost use Rattle.gc_heap.specs.Heap.{graph_in};
-ghost use Rattle.gc_concurrent.specs.Ends.{opening_theirs};
+ghost use Rattle.gc_concurrent.specs.Ends.{its, opening_theirs};
+ghost use Rattle.gc_concurrent.specs.Unreachable.{CopiesNothingUnreachable};
+ghost use Rattle.gc_plan.specs.State.{new_graph};
+ghost use Rattle.gc_words.specs.Word.{value_of};
 
 use crate::commands::Commander;
 use crate::copier::{Copier, Work};
@@ -212,7 +215,8 @@ impl Collector {
 
     /// Performs one step, beside the mutator.
     pub fn work(&mut self) -> Work
-        ensures { WhereDone result (known_to self.new.copier) }
+        ensures done { WhereDone result (known_to self.new.copier) }
+        ensures base { (known_to self.new.copier).base ≡ (known_to self.old.copier).base }
     {
         self.copier.work()
     }
@@ -246,7 +250,8 @@ impl Asking {
 
     /// Performs one step, beside the mutator.
     pub fn work(&mut self) -> Work
-        ensures { WhereDone result (known_to self.new.copier) }
+        ensures done { WhereDone result (known_to self.new.copier) }
+        ensures base { (known_to self.new.copier).base ≡ (known_to self.old.copier).base }
     {
         self.copier.work()
     }
@@ -296,6 +301,7 @@ impl Holding {
     /// Performs one step, while the mutator waits.
     pub fn work(&mut self) -> Work
         ensures done { WhereDone result (known_to self.new.held.copier) }
+        ensures base { (known_to self.new.held.copier).base ≡ (known_to self.old.held.copier).base }
         ensures heap { heap_held self.new.held ≡ heap_held self.old.held }
     {
         self.held.work()
@@ -325,9 +331,12 @@ impl Holding {
     /// mutator's heap is then unchanged.
     pub fn flip(self, alloc: Global) -> Result<Collector, Unflipped>
         ensures ready { OnOk result (may_flip self.held ≡ true) }
-        ensures fresh { IfOk result (λ collector. known_to collector.copier ≡ opening_theirs (known_to self.held.copier).size (known_to self.held.copier).size) }
+        ensures fresh { IfOk result (λ collector. known_to collector.copier ≡ opening_theirs (known_to collector.copier).base (known_to self.held.copier).size (known_to self.held.copier).size) }
+        ensures graph { IfOk result (λ collector. graph_in (known_to collector.copier).base ≡ new_graph (its (known_to self.held.copier)) (map value_of self.held.roots.items)) }
+        ensures carried { OnOk result (CopiesNothingUnreachable (known_to self.held.copier)) }
         ensures heap { IfErr result (λ refused. heap_held refused.holding.held ≡ heap_held self.held) }
         ensures not_ready { IfErr result (λ refused. refused.why ≡ NoFlip.NotReady → may_flip self.held ≡ false) }
+        ensures base { IfErr result (λ refused. (known_to refused.holding.held.copier).base ≡ (known_to self.held.copier).base) }
     {
         let Holding {
             handshake,
@@ -363,7 +372,7 @@ pub fn open(alloc: Global, size: u32) -> Result<(Runner, Collector), NoMemory>
     requires { 1 ≤ size }
     ensures heap { IfOk result (λ r. heap_in r.0.commander ≡ record { space = empty_space size; roots = replicate 32 0; mutators = 1 }) }
     ensures graph { IfOk result (λ r. graph_in (heap_in r.0.commander) ≡ opening 1) }
-    ensures room { IfOk result (λ r. known_to r.1.copier ≡ opening_theirs size size) }
+    ensures room { IfOk result (λ r. known_to r.1.copier ≡ opening_theirs (heap_in r.0.commander) size size) }
     ensures pair { IfOk result (λ r. cells_of r.0.commander ≡ cells_read_by r.1.copier) }
 {
     let (commander, copier) = open_ends(alloc, size)?;

@@ -6,13 +6,15 @@ ghost use Rattle.gc_graph.specs.Graph.{Ref};
 ghost use Rattle.gc_graph.specs.Correspond.{Corresponding};
 ghost use Rattle.gc_words.specs.Word.{is_value, value_of, word_of};
 ghost use Rattle.gc_words.specs.Closed.{IsRootWord};
-ghost use Rattle.gc_words.specs.Space.{empty_space};
+ghost use Rattle.gc_words.specs.Space.{empty_space, end_of};
 ghost use Rattle.gc_heap.specs.Heap.{IsHeap, graph_in};
 ghost use Rattle.gc_plan.specs.State.{new_graph, pairs_of};
 ghost use Rattle.gc_plan.specs.Steps.{scan_done};
 ghost use Rattle.gc_plan.specs.Members.{In};
 ghost use Rattle.gc_concurrent.specs.Heaps.{heap_of};
-ghost use Rattle.gc_concurrent.specs.Internal.Props.{heap_prop};
+ghost use Rattle.gc_plan.specs.Carried.{LeadsOnlyTo};
+ghost use Rattle.gc_concurrent.specs.Unreachable.{MayBeCopied, CopiesNothingUnreachable};
+ghost use Rattle.gc_concurrent.specs.Internal.Props.{heap_prop, leads_prop};
 ghost use Rattle.gc_concurrent.specs.Ends.{its, opening_theirs};
 ghost use Rattle.gc_concurrent.specs.Internal.Rule.{entries_of_fields};
 ghost use Rattle.gc_concurrent.specs.Internal.Flip.{HasNothingLeft, Flips};
@@ -43,6 +45,9 @@ pub struct Held {
     ghost empty: { (log.items ≡ []) × (copier.seat.me.0.mine.log ≡ []) },
     ghost ended: { (length copier.seat.me.0.mine.space.words ≡ end) × (copier.seat.me.0.mine.space.size ≡ copier.size) },
     ghost sound: { IsHeap (heap_of copier.seat.me.0.mine roots.items) } by { heap_prop (heap_of copier.seat.me.0.mine roots.items) },
+    ghost behind: { end_of copier.seat.me.0.mine.base.space ≤ end },
+    ghost begun: { copier.seat.me.0.theirs.base ≡ copier.seat.me.0.mine.base },
+    ghost kept: { LeadsOnlyTo (MayBeCopied copier.seat.me.0.mine.base) (graph_in (heap_of copier.seat.me.0.mine roots.items)) } by { leads_prop copier.seat.me.0.mine.base _ },
 }
 
 /// Takes both ends in one hand, and the mutator's log. Nothing of an earlier log is due.
@@ -155,6 +160,7 @@ impl Held {
     pub(crate) fn work(&mut self) -> Work
         ensures heap { heap_held self.new ≡ heap_held self.old }
         ensures done { WhereDone result (known_to self.new.copier) }
+        ensures base { (known_to self.new.copier).base ≡ (known_to self.old.copier).base }
         ensures row { self.new.copier.seat.table_id ≡ self.old.copier.seat.table_id }
     {
         self.copier.work()
@@ -226,12 +232,14 @@ impl Held {
         ensures ok { IfOk result (λ r. CorrespondsTo (heap_held self) (heap_in r.0)) }
         ensures replicas { IfOk result (λ r. graph_in (heap_in r.0) ≡ new_graph (its (known_to self.copier)) (map value_of self.roots.items)) }
         ensures space { IfOk result (λ r. r.0.mutator.size ≡ (known_to self.copier).size) }
-        ensures fresh { IfOk result (λ r. known_to r.1 ≡ opening_theirs (known_to self.copier).size (known_to self.copier).size) }
+        ensures fresh { IfOk result (λ r. known_to r.1 ≡ opening_theirs (heap_in r.0) (known_to self.copier).size (known_to self.copier).size) }
+        ensures carried { OnOk result (CopiesNothingUnreachable (known_to self.copier)) }
         ensures ready { OnOk result (may_flip self ≡ true) }
         ensures row { IfOk result (λ r. r.0.mutator.seat.table_id ≡ r.1.seat.table_id) }
         ensures heap { IfErr result (λ r. heap_held r.0 ≡ heap_held self) }
         ensures not_ready { IfErr result (λ r. r.1 ≡ NoFlip.NotReady → may_flip self ≡ false) }
         ensures same { IfErr result (λ r. r.0.copier.seat.table_id ≡ self.copier.seat.table_id) }
+        ensures base { IfErr result (λ r. (known_to r.0.copier).base ≡ (known_to self.copier).base) }
     {
         if !self.copier.is_idle() {
             return Err((self, NoFlip::NotReady));
@@ -253,7 +261,7 @@ impl Held {
             Err(AllocError) => return Err((self, NoFlip::NoMemory)),
         };
         self.copier.look();
-        let opened = match open_cells(alloc, &self.copier.space, size) {
+        let opened = match open_cells(alloc, &self.copier.space, roots.as_slice(), size) {
             Ok(opened) => opened,
             Err(NoMemory) => return Err((self, NoFlip::NoMemory)),
         };
@@ -326,12 +334,12 @@ pub(crate) fn open_ends(alloc: Global, size: u32) -> Result<(Commander, Copier),
     requires { 1 ≤ size }
     ensures heap { IfOk result (λ r. heap_of r.0.mutator.seat.me.0.mine r.0.roots.items ≡ record { space = empty_space size; roots = replicate 32 0; mutators = 1 }) }
     ensures row { IfOk result (λ r. r.0.mutator.seat.table_id ≡ r.1.seat.table_id) }
-    ensures room { IfOk result (λ r. r.1.seat.me.0.theirs ≡ opening_theirs size size) }
+    ensures room { IfOk result (λ r. r.1.seat.me.0.theirs ≡ opening_theirs (heap_of r.0.mutator.seat.me.0.mine r.0.roots.items) size size) }
 {
     let space = Space::new(alloc, size)?;
     let roots = Vec::from_elem(alloc, 0u64, 32)?;
     let claims = Vec::from_elem(alloc, 0u32, size as usize)?;
-    let opened = open_cells(alloc, &space, size)?;
+    let opened = open_cells(alloc, &space, roots.as_slice(), size)?;
     let Opened {
         one,
         two,

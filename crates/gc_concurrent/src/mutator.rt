@@ -27,11 +27,14 @@ impl Mutator {
     ghost use Rattle.std.specs.Prelude.{Some, IsSome, IsTrue, OnOk, OnErr};
     ghost use Rattle.gc_words.specs.Image.{Block, block_at, field_at, header_at, is_start};
     ghost use Rattle.gc_words.specs.Space.{IsSpace, CanPlace, end_of, with_object, with_field_at};
+    ghost use Rattle.gc_words.specs.Word.{field_value};
     ghost use Rattle.gc_words.specs.Closed.{IsFieldWord};
+    ghost use Rattle.gc_plan.specs.Belonging.{RefersTo};
     ghost use Rattle.gc_concurrent.specs.Ends.{Mine};
+    ghost use Rattle.gc_concurrent.specs.Unreachable.{MayBeCopied};
 
     /// Reads the header of the object that starts here.
-    pub fn header(&mut self, at: Addr) -> Header
+    pub(crate) fn header(&mut self, at: Addr) -> Header
         requires shaped { IsSpace self.old.seat.me.0.mine.space }
         requires start { IsTrue (is_start self.old.seat.me.0.mine.space.words at.0) }
         ensures value { header_at self.old.seat.me.0.mine.space.words at.0 ≡ Some result }
@@ -45,7 +48,7 @@ impl Mutator {
     }
 
     /// Reads field `i` of the object that starts here.
-    pub fn field(&mut self, at: Addr, i: u16) -> u64
+    pub(crate) fn field(&mut self, at: Addr, i: u16) -> u64
         requires shaped { IsSpace self.old.seat.me.0.mine.space }
         requires there { IsSome (field_at self.old.seat.me.0.mine.space.words at.0 i) }
         ensures value { field_at self.old.seat.me.0.mine.space.words at.0 i ≡ Some result }
@@ -58,11 +61,13 @@ impl Mutator {
     }
 
     /// Writes field `i` of the object that starts here, and logs it.
-    pub fn set_field(&mut self, at: Addr, i: u16, word: u64) -> Result<(), NoMemory>
+    pub(crate) fn set_field(&mut self, at: Addr, i: u16, word: u64) -> Result<(), NoMemory>
         requires shaped { IsSpace self.old.seat.me.0.mine.space }
         requires there { IsSome (field_at self.old.seat.me.0.mine.space.words at.0 i) }
         requires fits { (b : Block) → block_at self.old.seat.me.0.mine.space.words at.0 ≡ Some b → IsFieldWord self.old.seat.me.0.mine.space.words b.header word }
+        requires kept { (b : Block) → block_at self.old.seat.me.0.mine.space.words at.0 ≡ Some b → RefersTo (MayBeCopied self.old.seat.me.0.mine.base) (field_value b.header word) }
         ensures ok { OnOk result (self.new.seat.me.0.mine.space ≡ with_field_at self.old.seat.me.0.mine.space at.0 i word) }
+        ensures base { self.new.seat.me.0.mine.base ≡ self.old.seat.me.0.mine.base }
         ensures err { OnErr result (self.new.seat.me ≡ self.old.seat.me) }
         ensures row { self.new.seat.table_id ≡ self.old.seat.table_id }
         ensures size { self.new.size ≡ self.old.size }
@@ -77,11 +82,12 @@ impl Mutator {
     }
 
     /// Places an object at the end: its header is all that is written, as the free words are 0. `end` is the end.
-    pub fn place(&mut self, end: u32, header: Header) -> Addr
+    pub(crate) fn place(&mut self, end: u32, header: Header) -> Addr
         requires end { end_of self.old.seat.me.0.mine.space ≡ end }
         requires room { CanPlace self.old.seat.me.0.mine.space header }
         ensures at { result.0 ≡ end_of self.old.seat.me.0.mine.space }
         ensures words { self.new.seat.me.0.mine.space ≡ with_object self.old.seat.me.0.mine.space header }
+        ensures base { self.new.seat.me.0.mine.base ≡ self.old.seat.me.0.mine.base }
         ensures row { self.new.seat.table_id ≡ self.old.seat.table_id }
         ensures size { self.new.size ≡ self.old.size }
     {

@@ -4,6 +4,7 @@ use mathlib.Core.Logic.{inl, inr}
 use Rattle.std.specs.Coded.{Coded, code_by, coded×, coded⊎, coded_ℕ, coded_bool, coded_list}
 use Rattle.gc_graph.specs.Graph.{Value, Nil, Num, Ref, Object}
 use Rattle.gc_words.specs.Space.{SpaceWords}
+use Rattle.gc_heap.specs.Heap.{HeapWords}
 use Rattle.gc_plan.specs.State.{Replica}
 use Rattle.gc_concurrent.specs.Ends.{Mine, Theirs, Known}
 
@@ -37,14 +38,17 @@ space_coded = code_by (ℕ × List ℕ) (coded× coded_ℕ (coded_list coded_ℕ
 abbrev pub entries_coded : Coded (List (ℕ × ℕ))
 entries_coded = coded_list (coded× coded_ℕ coded_ℕ)
 
+abbrev pub heap_coded : Coded HeapWords
+heap_coded = code_by (SpaceWords × (List ℕ × ℕ)) (coded× space_coded (coded× (coded_list coded_ℕ) coded_ℕ)) (λ h. (h.space, (h.roots, h.mutators))) (λ p. record { space = p.0; roots = p.1.0; mutators = p.1.1 }) (λ _. refl)
+
 abbrev pub mine_coded : Coded Mine
-mine_coded = code_by (SpaceWords × List (ℕ × ℕ)) (coded× space_coded entries_coded) (λ m. (m.space, m.log)) (λ p. record { space = p.0; log = p.1 }) (λ _. refl)
+mine_coded = code_by (SpaceWords × (List (ℕ × ℕ) × HeapWords)) (coded× space_coded (coded× entries_coded heap_coded)) (λ m. (m.space, (m.log, m.base))) (λ p. record { space = p.0; log = p.1.0; base = p.1.1 }) (λ _. refl)
 
 abbrev pub theirs_coded : Coded Theirs
-theirs_coded = code_by (ℕ × (ℕ × (List Replica × (ℕ × (ℕ × (List (ℕ × ℕ) × List ℕ))))))
-    (coded× coded_ℕ (coded× coded_ℕ (coded× (coded_list replica_coded) (coded× coded_ℕ (coded× coded_ℕ (coded× entries_coded (coded_list coded_ℕ)))))))
-    (λ t. (t.old, (t.size, (t.replicas, (t.scan_place, (t.scan_field, (t.due, t.wanted)))))))
-    (λ p. record { old = p.0; size = p.1.0; replicas = p.1.1.0; scan_place = p.1.1.1.0; scan_field = p.1.1.1.1.0; due = p.1.1.1.1.1.0; wanted = p.1.1.1.1.1.1 }) (λ _. refl)
+theirs_coded = code_by (ℕ × (ℕ × (List Replica × (ℕ × (ℕ × (List (ℕ × ℕ) × (List ℕ × HeapWords)))))))
+    (coded× coded_ℕ (coded× coded_ℕ (coded× (coded_list replica_coded) (coded× coded_ℕ (coded× coded_ℕ (coded× entries_coded (coded× (coded_list coded_ℕ) heap_coded)))))))
+    (λ t. (t.old, (t.size, (t.replicas, (t.scan_place, (t.scan_field, (t.due, (t.wanted, t.base))))))))
+    (λ p. record { old = p.0; size = p.1.0; replicas = p.1.1.0; scan_place = p.1.1.1.0; scan_field = p.1.1.1.1.0; due = p.1.1.1.1.1.0; wanted = p.1.1.1.1.1.1.0; base = p.1.1.1.1.1.1.1 }) (λ _. refl)
 
 abbrev pub known_coded : Coded Known
 known_coded = code_by (Bool × (Bool × (Mine × Theirs))) (coded× coded_bool (coded× coded_bool (coded× mine_coded theirs_coded)))

@@ -24,6 +24,7 @@ pub record KeepsSeat (a b : Sat) : Type 0 where
   pub writes : b.0.writes ≡ a.0.writes
   pub mine : b.0.mine ≡ a.0.mine
   pub old : b.0.theirs.old ≡ a.0.theirs.old
+  pub base : b.0.theirs.base ≡ a.0.theirs.base
   pub holds : b.1 ≡ a.1
 
 -- the target is that of one of these root words, and has no replica

@@ -11,9 +11,10 @@ use Rattle.gc_plan.specs.Linked.{linked_image}
 use Rattle.gc_plan.specs.Steps.{scan_done, roots_done}
 use Rattle.gc_copy.specs.Words.{replicas_in}
 use Rattle.atomic_table.specs.Table.{Step}
-use Rattle.gc_concurrent.specs.Ends.{Mine, Theirs, Known, its}
+use Rattle.gc_concurrent.specs.Ends.{Mine, Theirs, Known, its, one_heap}
 use Rattle.gc_concurrent.specs.Internal.Rule.{Sat}
 use Rattle.gc_concurrent.specs.Heaps.{heap_of}
+use Rattle.gc_concurrent.specs.Unreachable.{CopiesNothingUnreachable}
 
 -- these roots, as a graph without objects
 abbrev pub roots_alone : List ℕ → Graph
@@ -32,7 +33,7 @@ moved_words t roots = map word_of (map (moved (its t)) (map value_of roots))
 
 -- this space, with the moved roots
 abbrev pub new_heap_of : SpaceWords → List ℕ → Theirs → HeapWords
-new_heap_of space roots t = record { space = space; roots = moved_words t roots; mutators = 1 }
+new_heap_of space roots t = one_heap space (moved_words t roots)
 
 -- A space whose links are the originals' addresses, and whose objects are the replicas
 pub record Holds (space : SpaceWords) (t : Theirs) : Type 0 where
@@ -41,12 +42,13 @@ pub record Holds (space : SpaceWords) (t : Theirs) : Type 0 where
   pub same : t.replicas ≡ replicas_in space.words
 
 -- The image of the space, and the new space with the moved roots, pass the check. A space that holds the replicas is then a heap with the moved
--- roots, and its graph corresponds to the mutator's: the mutator may go on in it.
+-- roots, and its graph corresponds to the mutator's: the mutator may go on in it. No replica is that of an object that was unreachable at first.
 pub record Flips (roots : List ℕ) (m : Mine) (t : Theirs) : Type 0 where
   pub certified : (links : ℕ → ℕ) → Certified (image_with m.space roots) (linked_image links t.size (new_graph (its t) (map value_of roots))) (pairs_of (its t))
   pub corresponding : Corresponding (pairs_of (its t)) (graph_in (heap_of m roots)) (new_graph (its t) (map value_of roots))
   pub heap : (space : SpaceWords) → Holds space t → IsHeap (new_heap_of space roots t)
   pub graph : (space : SpaceWords) → Holds space t → graph_in (new_heap_of space roots t) ≡ new_graph (its t) (map value_of roots)
+  pub kept : CopiesNothingUnreachable t
 
 -- A load with both ends at hand shows that the mutator may go on in the new space.
 abbrev pub tells_flip : Step ℕ → Sat → ℕ → Sat → Type 0

@@ -1,14 +1,13 @@
 -- The handshake, through which a mutator goes to its collector and back. It lasts as long as the heap.
 use Rattle.std.specs.Prelude.{◌≡◌, ◌≢◌, ℕ, Bool, true, false, List, ◌∷◌, length, map, slice_index, is_some, Option, Some, None, refl}
-use Rattle.std.specs.Coded.{Coded, code_by, coded×, coded_ℕ, coded_bool, coded_list}
+use Rattle.std.specs.Coded.{Coded, code_by, coded×, coded_ℕ, coded_bool}
 use mathlib.Core.Option.{Option as Opt, some}
 use lib.ListN.{get_elem?}
 use Rattle.atomic_table.specs.Seated.{TableId, table_id_coded}
 use Rattle.atomic_table.specs.Table.{State, Me, Step, rest}
-use Rattle.gc_words.specs.Space.{SpaceWords}
 use Rattle.gc_heap.specs.Heap.{HeapWords}
 use Rattle.gc_concurrent.specs.declared.commands.Commander.{Commander}
-use Rattle.gc_concurrent.specs.Internal.Codes.{space_coded}
+use Rattle.gc_concurrent.specs.Internal.Codes.{heap_coded}
 use Rattle.gc_concurrent.specs.Holders.{cells_of, heap_in}
 use Rattle.gc_concurrent.specs.Heaps.{GoesOnIn}
 
@@ -29,9 +28,6 @@ pub record HandshakeKnown : Type 0 where
   pub keeps : Bool
   pub goer : Goer
   pub keeper : Keeper
-
-abbrev pub heap_coded : Coded HeapWords
-heap_coded = code_by (SpaceWords × (List ℕ × ℕ)) (coded× space_coded (coded× (coded_list coded_ℕ) coded_ℕ)) (λ h. (h.space, (h.roots, h.mutators))) (λ p. record { space = p.0; roots = p.1.0; mutators = p.1.1 }) (λ _. refl)
 
 abbrev pub goer_coded : Coded Goer
 goer_coded = code_by (Bool × (HeapWords × TableId)) (coded× coded_bool (coded× heap_coded table_id_coded)) (λ g. (g.waits, (g.left, g.row))) (λ p. record { waits = p.0; left = p.1.0; row = p.1.1 }) (λ _. refl)

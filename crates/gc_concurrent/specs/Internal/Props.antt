@@ -8,7 +8,11 @@ use Rattle.gc_heap.specs.Heap.{HeapWords, IsHeap}
 use Rattle.gc_words.specs.Space.{SpaceWords, IsSpace}
 use base.Stored.{Coded-set}
 use Rattle.std.specs.Coded.{coded_list}
+use Rattle.gc_graph.specs.Graph.{Graph}
 use Rattle.gc_plan.specs.State.{Replica}
+use Rattle.gc_plan.specs.Belonging.{RefersTo}
+use Rattle.gc_plan.specs.Carried.{LeadsOnlyTo}
+use Rattle.gc_concurrent.specs.Unreachable.{MayBeCopied}
 use Rattle.gc_concurrent.specs.Ends.{Theirs}
 use Rattle.gc_concurrent.specs.Internal.Codes.{replica_coded}
 use Rattle.gc_concurrent.specs.Internal.Copiers.{Claims}
@@ -30,6 +34,14 @@ field_word_prop words h w = word_of_field_prop h.raw words w
 
 pub heap_prop : (h : HeapWords) → IsProp (IsHeap h)
 heap_prop h = hlevel (props, field_word_prop, root_word_prop)
+
+refers_to_prop : (base : HeapWords) (v : Value) → IsProp (RefersTo (MayBeCopied base) v)
+refers_to_prop base Nil = hlevel props
+refers_to_prop base (Num n) = hlevel props
+refers_to_prop base (Ref a) = hlevel props
+
+pub leads_prop : (base : HeapWords) (g : Graph) → IsProp (LeadsOnlyTo (MayBeCopied base) g)
+leads_prop base g = hlevel (props, refers_to_prop)
 
 pub replicas_prop : (a b : List Replica) → IsProp (a ≡ b)
 replicas_prop a b = Coded-set (coded_list replica_coded) a b

@@ -17,7 +17,9 @@ use Rattle.gc_plan.specs.State.{Replica, Collection, replica_of, moved, new_end,
 use Rattle.gc_plan.specs.Steps.{with_written}
 use Rattle.gc_plan.specs.Members.{In}
 use Rattle.gc_plan.specs.Belonging.{IsOpened, BelongsBy}
-use Rattle.gc_concurrent.specs.Ends.{Mine, Theirs, its}
+use Rattle.gc_heap.specs.Heap.{HeapWords}
+use Rattle.gc_concurrent.specs.Ends.{Mine, Theirs, its, one_heap, opening_mine, opening_theirs}
+use Rattle.gc_concurrent.specs.Internal.Carrying.{KeepsUnreachableOut}
 use Rattle.gc_concurrent.specs.Internal.Plans.{collection_of, plan}
 use Rattle.gc_concurrent.specs.Ends.{Known as View}
 
@@ -29,7 +31,8 @@ abbrev pub AreSeated : ℕ → ℕ → Mine → Theirs → List View → Type 0
 AreSeated writer copier mine theirs views = (j : ℕ) (v : View) → get_elem? views j ≡ some v → Seated writer copier mine theirs j v
 
 -- The mutator's words are those of the table, and the words behind them are 0. They are a closed space, and the collection is open in
--- gc_plan's sense: a field of a replica is up to date unless it is not yet scanned, or in one of the two logs.
+-- gc_plan's sense: a field of a replica is up to date unless it is not yet scanned, or in one of the two logs. Nothing that was unreachable when
+-- the collection began is copied.
 pub record IsConcurrent (size : ℕ) (s : State ℕ View) : Type 0 where
   pub mine : Mine
   pub theirs : Theirs
@@ -44,6 +47,7 @@ pub record IsConcurrent (size : ℕ) (s : State ℕ View) : Type 0 where
   pub closed : IsClosed mine.space.words []
   pub wanted : (a : ℕ) → In a theirs.wanted → (o : Object) × (lookup (objects_of mine.space.words) a ≡ Some o)
   pub opened : IsOpened (plan mine theirs) (collection_of mine theirs)
+  pub carries : KeepsUnreachableOut mine theirs
   pub seats : AreSeated writer copier mine theirs s.views
 
 -- the word of a field was written
@@ -122,12 +126,16 @@ only_writes v = record v { copies = false }
 abbrev pub only_copies : View → View
 only_copies v = record v { writes = false }
 
+-- a heap without words
+abbrev pub no_heap : HeapWords
+no_heap = one_heap (record { size = 0; words = [] }) []
+
 -- two seats become one
 abbrev pub both_ends : View → View → View
 both_ends v w = record { writes = true; copies = true; mine = w.mine; theirs = v.theirs }
 
 abbrev pub spent_view : View
-spent_view = record { writes = false; copies = false; mine = record { space = record { size = 0; words = [] }; log = [] }; theirs = record { old = 0; size = 0; replicas = []; scan_place = 0; scan_field = 0; due = []; wanted = [] } }
+spent_view = record { writes = false; copies = false; mine = opening_mine no_heap; theirs = opening_theirs no_heap 0 0 }
 
 abbrev pub Sat : Type 0
 Sat = Me ℕ View
@@ -184,9 +192,9 @@ tells_leave_of t st me found me' = ((entry : ℕ × ℕ) (rest : List (ℕ × �
 abbrev pub tells_leave : Step ℕ → Sat → ℕ → Sat → Type 0
 tells_leave st me found me' = tells_leave_of me.0.theirs st me found me' × KnowsBelonging me'
 
--- The mutator's log becomes the collector's.
+-- The mutator's log becomes the collector's. Both ends know the same heap with which the collection began.
 abbrev pub tells_take : Step ℕ → Sat → ℕ → Sat → Type 0
-tells_take st me found me' = (me' ≡ (logs_taken me.0, me.1)) × KnowsBelonging me'
+tells_take st me found me' = ((me' ≡ (logs_taken me.0, me.1)) × (me.0.theirs.base ≡ me.0.mine.base)) × KnowsBelonging me'
 
 -- The target of one of the mutator's roots is wanted; its header was read.
 abbrev pub tells_root : Step ℕ → Sat → ℕ → Sat → Type 0

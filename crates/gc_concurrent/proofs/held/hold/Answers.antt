@@ -1,7 +1,10 @@
 -- Two seats become one, and the log changes hands.
 use Rattle.std.proofs.Common.{◌≡◌, [], length, ap, sym, ◌∙◌, subst, arith}
 use Rattle.atomic_table.specs.Seated.{TableId}
-use Rattle.gc_heap.specs.Heap.{IsHeap}
+use Rattle.gc_heap.specs.Heap.{IsHeap, graph_in}
+use Rattle.gc_words.specs.Space.{end_of}
+use Rattle.gc_plan.specs.Carried.{LeadsOnlyTo}
+use Rattle.gc_concurrent.specs.Unreachable.{MayBeCopied}
 use Rattle.gc_concurrent.specs.Ends.{Mine}
 use Rattle.gc_concurrent.specs.Heaps.{heap_of}
 use Rattle.gc_concurrent.specs.Internal.Rule.{Sat}
@@ -40,7 +43,7 @@ invariant_of-result-2 c =
     let a = c.args.copier in
     let m = c.args.commander.mutator in
     let joined = c.join_seat.ensures.2 in
-    let took = c.load.ensures.2.0 in
+    let took = c.load.ensures.2.0.0 in
     let mine : c.load.new.seat.me.0.mine ≡ record m.seat.me.0.mine { log = [] } = ap (λ (x : Sat). x.0.mine) took ∙ ap (λ (x : Sat). record x.0.mine { log = [] }) joined in
     let id : m.seat.table_id ≡ c.load.new.seat.table_id = c.requires.row ∙ (sym c.join_seat.ensures.0 ∙ sym c.load.ensures.0) in
     let size : m.size ≡ a.size = sym m.row.1 ∙ (ap (λ (i : TableId). i.words) c.requires.row ∙ a.row.1) in
@@ -49,5 +52,8 @@ invariant_of-result-2 c =
       row = (m.row.0 ∙ id, m.row.2 ∙ size);
       empty = (c.clear.ensures.items, ap (λ (x : Mine). x.log) mine);
       ended = (ap (λ (x : Mine). length x.space.words) mine ∙ c.args.commander.ended, ap (λ (x : Mine). x.space.size) mine ∙ (m.sized ∙ size));
+      behind = (let e = ap (λ (x : Mine). end_of x.base.space) mine in let b = c.args.commander.behind in omega arith);
+      begun = ap (λ (x : Sat). x.0.theirs.base) took ∙ (c.load.ensures.2.0.1 ∙ sym (ap (λ (x : Sat). x.0.mine.base) took));
+      kept = subst (λ (x : Mine). LeadsOnlyTo (MayBeCopied x.base) (graph_in (heap_of x c.args.commander.roots.items))) (sym mine) c.args.commander.kept;
       sound = subst (λ (x : Mine). IsHeap (heap_of x c.args.commander.roots.items)) (sym mine) c.args.commander.sound;
     }

@@ -11,6 +11,10 @@ use Rattle.gc_words.specs.Closed.{IsFieldWord, IsWordOfField, IsRootWord}
 use Rattle.gc_words.proofs.Public.{closed_field_read, field_within, field_past}
 use Rattle.gc_heap.specs.Heap.{HeapWords, IsHeap, graph_in}
 use Rattle.gc_heap.proofs.Public.{Points, points, header_is, got_no_field, got, taken_heap}
+use Rattle.gc_plan.specs.Belonging.{RefersTo}
+use Rattle.gc_plan.specs.Carried.{LeadsOnlyTo}
+use Rattle.gc_concurrent.specs.Unreachable.{MayBeCopied}
+use Rattle.gc_concurrent.proofs.Keeping.{rooted_leads, read_leads}
 use Rattle.gc_concurrent.specs.Ends.{Mine}
 use Rattle.gc_concurrent.specs.Heaps.{heap_of}
 use Rattle.gc_concurrent.specs.Holders.{heap_in}
@@ -68,10 +72,18 @@ invariant_of-self-3 c =
     let h : HeapWords = heap_in c.args.self.now in
     let f = fine e c.args.i c.field-field.result (read _ _ c.in-Some.at.0 c.args.i c.field-field.result (still e) c.field-field.ensures.value) in
     let same : heap_in c.view-seen.new.self ≡ h = c.view-seen.ensures.heap ∙ (λ i. heap_of (sym (still e ∙ (λ j. (sym c.field-field.ensures.same j).0.mine)) i) h.roots) in
+    let began : HeapWords = c.args.self.now.mutator.seat.me.0.mine.base in
+    let base : c.view-seen.new.self.mutator.seat.me.0.mine.base ≡ began = c.view-seen.ensures.base ∙ (λ i. (sym (still e ∙ (λ j. (sym c.field-field.ensures.same j).0.mine)) i).base) in
+    let r = read _ _ c.in-Some.at.0 c.args.i c.field-field.result (still e) c.field-field.ensures.value in
+    let means = c.root_word-word.ensures.value ∙ ap (λ g. field_value g c.field-field.result) (sym (header_is h c.args.s c.in-Some.at.0 c.header-header.result (giver e) c.header-header.ensures.value)) in
     record {
       ended = c.view-seen.new.self.ended;
       sound = subst (λ (x : HeapWords). IsHeap (record x { roots = slice_set x.roots c.args.d c.root_word-word.result })) (sym same)
           (taken_heap h c.args.d c.root_word-word.result c.args.self.now.sound (c.root_word-word.ensures.word h.space.words f));
+      behind = c.view-seen.new.self.behind;
+      kept = subst (λ (x : HeapWords × HeapWords). LeadsOnlyTo (MayBeCopied x.0) (graph_in (record x.1 { roots = slice_set x.1.roots c.args.d c.root_word-word.result }))) (λ i. (sym base i, sym same i))
+          (rooted_leads (MayBeCopied began) h.space h.roots c.args.d c.root_word-word.result c.args.self.now.kept
+          (subst (RefersTo (MayBeCopied began)) (sym means) (read_leads (MayBeCopied began) h c.args.s c.in-Some.at.0 c.args.i c.field-field.result (giver e) r c.args.self.now.kept)));
     }
 
 pub returns-clause-graph : goal.returns-clause-graph

@@ -1,5 +1,5 @@
 -- A root takes the word of another one.
-use Rattle.std.proofs.Common.{◌≡◌, ap, ◌∙◌, sym, refl, arith}
+use Rattle.std.proofs.Common.{◌≡◌, ap, ◌∙◌, sym, refl, subst, arith}
 use Rattle.std.specs.Prelude.{slice_index}
 use Rattle.gc_graph.specs.Slots.{place}
 use Rattle.gc_graph.specs.Graph.{root, set_root}
@@ -8,8 +8,18 @@ use Rattle.gc_graph.specs.declared.reply.Reply.TheVariants.{Done}
 use Rattle.gc_words.specs.Word.{value_of}
 use Rattle.gc_heap.specs.Heap.{HeapWords, graph_in}
 use Rattle.gc_heap.proofs.Public.{read_root, at_root, took_root}
+use Rattle.gc_plan.specs.Belonging.{RefersTo}
+use Rattle.gc_concurrent.specs.Unreachable.{MayBeCopied}
 use Rattle.gc_concurrent.specs.Holders.{heap_in}
+use Rattle.gc_concurrent.proofs.Keeping.{root_refers_to}
 use Rattle.gc_concurrent.proofs.commands.Commander.move_slot.Goals as goal
+
+pub set_at-requires-clause-kept : goal.set_at-requires-clause-kept
+set_at-requires-clause-kept c =
+    let h : HeapWords = heap_in c.args.self.now in
+    let read : c.index-word.result.now ≡ slice_index h.roots c.place.result = read_root h h.roots c.place.result _ refl (let r = c.args.self.now.sound.roots in let b = c.place.ensures.bound in omega arith) c.index-word.ensures in
+    let kept = MayBeCopied c.args.self.now.mutator.seat.me.0.mine.base in
+    subst (RefersTo kept) (at_root h c.place.result c.index-word.result.now read) (root_refers_to kept (graph_in h) c.place.result c.args.self.now.kept)
 
 pub returns-clause-step : goal.returns-clause-step
 returns-clause-step c =

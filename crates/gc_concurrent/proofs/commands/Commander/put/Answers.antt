@@ -15,6 +15,12 @@ use Rattle.gc_heap.specs.Heap.{HeapWords, IsHeap, graph_in}
 use Rattle.gc_heap.proofs.Public.{Points, points, read_root, root_word, at_root, header_is, put_no_field, put_refused, put_done, written_heap}
 use Rattle.std.specs.Prelude.{OnOk, OnErr, Result, Ok, Err}
 use Rattle.gc_concurrent.specs.Internal.Rule.{Sat}
+use Rattle.gc_words.specs.Image.{block_at}
+use Rattle.gc_words.specs.declared.header.Header.{Header}
+use Rattle.gc_plan.specs.Belonging.{RefersTo}
+use Rattle.gc_plan.specs.Carried.{LeadsOnlyTo}
+use Rattle.gc_concurrent.specs.Unreachable.{MayBeCopied}
+use Rattle.gc_concurrent.proofs.Keeping.{root_refers_to, wrote_leads}
 use Rattle.gc_concurrent.specs.Ends.{Mine}
 use Rattle.gc_concurrent.specs.Heaps.{heap_of}
 use Rattle.gc_concurrent.proofs.commands.Commander.put.Goals as goal
@@ -55,6 +61,9 @@ set_field-requires-clause-there c =
     let e = (goal.at.set_field-requires-clause-there c).After-header-header in
     subst (λ (m : Mine). IsSome (field_at m.space.words c.in-Some.at.0 c.args.i)) (still e)
     (field_within (heap e).space.words c.in-Some.at.0 c.args.i c.header-header.result c.args.self.now.sound.space.walked c.header-header.ensures.value (omega (arith, c.if-i-len.false, c.len.ensures)))
+
+some_same : {X : Type 0} {a b : X} → Some a ≡ Some b → a ≡ b
+some_same e = cc e
 
 has : (c : After-header-header) → c.args.i < c.header-header.result.len → is_some (field_at (heap c).space.words c.in-Some.at.0 c.args.i) ≡ true
 has c less = field_within (heap c).space.words c.in-Some.at.0 c.args.i c.header-header.result c.args.self.now.sound.space.walked c.header-header.ensures.value less
@@ -106,3 +115,34 @@ returns-clause-graph c =
     let made : SpaceWords → Reply × Graph = λ s. (Done, graph_in (record (heap e) { space = s })) in
     ap made (after at.After-set_field c.args.self.now.mutator.seat.me.0.mine (still e) c.in_ok-set_field.ensures.ok)
     ∙ put_done (heap e) c.args.s c.in-Some.at.0 c.args.i _ _ (target e) c.args.self.now.sound (has e (omega (arith, c.if-i-len.false, c.len.ensures))) (refused ∙ ap is_none c.in-Some-field_word.is) means
+
+-- the value of the word that is written may be referred to
+leads : (c : After-field_word) (h : Header) (w : ℕ) → (heap_header : (target_header : Header) × (target_header ≡ h)) → field_value h w ≡ value_of c.index-value.result.now → RefersTo (MayBeCopied c.args.self.now.mutator.seat.me.0.mine.base) (field_value heap_header.0 w)
+leads c h w same means = let began : HeapWords = c.args.self.now.mutator.seat.me.0.mine.base in
+    subst (RefersTo (MayBeCopied began)) (value c ∙ (sym means ∙ ap (λ g. field_value g w) (sym same.1))) (root_refers_to (MayBeCopied began) (graph_in (old c)) c.args.t c.args.self.now.kept)
+
+pub set_field-requires-clause-kept : goal.set_field-requires-clause-kept
+set_field-requires-clause-kept c b found =
+    let at = goal.at.set_field-requires-clause-kept c in
+    let e = at.After-header-header in
+    let block : (target e).block ≡ b = some_same (sym (target e).found ∙ (λ i. block_at (still e i).space.words c.in-Some.at.0) ∙ found) in
+    subst (λ (m : Mine). RefersTo (MayBeCopied m.base) (field_value b.header c.in-Some-field_word.word)) (still e)
+    (leads at.After-field_word c.header-header.result c.in-Some-field_word.word (b.header, (λ i. (sym block i).header) ∙ header e) c.in-Some-field_word.ensures.value)
+
+pub invariant_of-self-2-clause-kept : goal.invariant_of-self-2-clause-kept
+invariant_of-self-2-clause-kept c =
+    let at = goal.at.invariant_of-self-2-clause-kept c in
+    let e = at.After-header-header in
+    let h : HeapWords = heap e in
+    let began : HeapWords = c.args.self.now.mutator.seat.me.0.mine.base in
+    let base : c.set_field.new.self.seat.me.0.mine.base ≡ began = c.set_field.ensures.base ∙ (λ i. (sym (still e) i).base) in
+    subst (λ (x : HeapWords). LeadsOnlyTo (MayBeCopied x) (graph_in (heap_of c.set_field.new.self.seat.me.0.mine c.args.self.now.roots.items))) (sym base)
+    (whichever c.set_field.result
+    (c.set_field.new.self.seat.me.0.mine.space ≡ with_field_at c.header-header.new.self.seat.me.0.mine.space c.in-Some.at.0 c.args.i c.in-Some-field_word.word)
+    (c.set_field.new.self.seat.me ≡ c.header-header.new.self.seat.me)
+    (LeadsOnlyTo (MayBeCopied began) (graph_in (heap_of c.set_field.new.self.seat.me.0.mine c.args.self.now.roots.items)))
+    c.set_field.ensures.ok c.set_field.ensures.err
+    (λ ok. subst (λ s. LeadsOnlyTo (MayBeCopied began) (graph_in (record h { space = s }))) (sym (after at.After-set_field c.args.self.now.mutator.seat.me.0.mine (still e) ok))
+    (wrote_leads (MayBeCopied began) h.space h.roots c.in-Some.at.0 c.args.i _ (target e).block c.args.self.now.sound.space (has e (omega (arith, c.if-i-len.false, c.len.ensures))) (target e).found c.args.self.now.kept
+    (leads at.After-field_word c.header-header.result c.in-Some-field_word.word ((target e).block.header, header e) c.in-Some-field_word.ensures.value)))
+    (λ err. subst (λ m. LeadsOnlyTo (MayBeCopied began) (graph_in (heap_of m c.args.self.now.roots.items))) (still e ∙ ap (λ (m : Sat). m.0.mine) (sym err)) c.args.self.now.kept))

@@ -113,7 +113,7 @@ invariant_of-self-then-not-has_room c =
 pub returns-then-not-has_room-clause-seat : goal.returns-then-not-has_room-clause-seat
 returns-then-not-has_room-clause-seat c =
     let l = (goal.at.returns-then-not-has_room-clause-seat c).After-load-word in
-    keeps_seat (a l).seat.me c.load-word.new.seat.me (t l) (stayed l c.of_word-header.result c.of_word-header.ensures (λ f. true≢false (sym (c.has_room.ensures.1 (let n = c.len.ensures in omega arith)) ∙ c.if-not-has_room.true))) refl
+    keeps_seat (a l).seat.me c.load-word.new.seat.me (t l) (stayed l c.of_word-header.result c.of_word-header.ensures (λ f. true≢false (sym (c.has_room.ensures.1 (let n = c.len.ensures in omega arith)) ∙ c.if-not-has_room.true))) refl refl
 
 pub index_mut-requires : goal.index_mut-requires
 index_mut-requires c = let l = low c.args.self.now c.requires.wanted in let n = c.args.self.now.claimed.long in omega arith
@@ -150,4 +150,4 @@ invariant_of-self-2 c =
 pub returns-clause-seat : goal.returns-clause-seat
 returns-clause-seat c =
     let l = (goal.at.returns-clause-seat c).After-load-word in
-    keeps_seat (a l).seat.me c.load-word.new.seat.me (placed_one (a l).wanted (told l).0 (t l)) (placed l c.of_word-header.result c.of_word-header.ensures (let f = c.has_room.ensures.0 c.if-not-has_room.false in let n = c.len.ensures in omega arith)) refl
+    keeps_seat (a l).seat.me c.load-word.new.seat.me (placed_one (a l).wanted (told l).0 (t l)) (placed l c.of_word-header.result c.of_word-header.ensures (let f = c.has_room.ensures.0 c.if-not-has_room.false in let n = c.len.ensures in omega arith)) refl refl

@@ -1,17 +1,18 @@
 -- Where nothing is due and each root has its replica, the new space is the mutator's next one.
-use Rattle.std.proofs.Common.{◌≡◌, ◌≢◌, ℕ, ◌+◌, ◌<◌, ◌≤◌, true, List, [], length, slice_index, map, ap, sym, ◌∙◌, subst, arith}
-use Rattle.std.proofs.lemmas.List.Elements.{All-nil}
+use Rattle.std.proofs.Common.{◌≡◌, ◌≢◌, ℕ, ◌+◌, ◌<◌, ◌≤◌, true, List, [], length, slice_index, map, refl, ap, sym, ◌∙◌, subst, arith}
 use Rattle.gc_graph.specs.Graph.{Ref}
 use Rattle.gc_graph.specs.Correspond.{Corresponding}
 use Rattle.gc_words.specs.Word.{value_of, word_of}
-use Rattle.gc_words.specs.Space.{SpaceWords}
+use Rattle.gc_words.specs.Space.{SpaceWords, end_of}
 use Rattle.gc_words.specs.declared.value.Addr.{Addr}
-use Rattle.gc_words.specs.Closed.{IsClosed, IsRootWord}
-use Rattle.gc_heap.specs.Heap.{IsHeap, graph_in}
+use Rattle.gc_heap.specs.Heap.{HeapWords, IsHeap, graph_in}
+use Rattle.gc_plan.specs.Carried.{LeadsOnlyTo}
+use Rattle.gc_concurrent.specs.Unreachable.{MayBeCopied}
+use Rattle.gc_concurrent.proofs.Keeping.{begins_kept, target_leads}
 use Rattle.gc_plan.specs.State.{pairs_of}
 use Rattle.gc_plan.specs.Steps.{scan_done}
 use Rattle.gc_concurrent.specs.declared.held.Held.{Held}
-use Rattle.gc_concurrent.specs.Ends.{Mine, opening_mine}
+use Rattle.gc_concurrent.specs.Ends.{Mine, one_heap, opening_mine}
 use Rattle.gc_concurrent.specs.Heaps.{heap_of}
 use Rattle.gc_concurrent.specs.Internal.Rule.{Sat}
 use Rattle.gc_concurrent.specs.Ends.{its}
@@ -23,7 +24,7 @@ use Rattle.gc_concurrent.proofs.TiedCells.{tied, tied_words}
 use Rattle.gc_concurrent.proofs.Opening.{splits_rule}
 use Rattle.gc_concurrent.proofs.Memory.{claim_low}
 use Rattle.gc_concurrent.proofs.InHand.{mem}
-use Rattle.gc_concurrent.proofs.Turn.{root_near, roots_placed, roots_moved, ready_in, root_missing}
+use Rattle.gc_concurrent.proofs.Turn.{root_near, roots_placed, roots_moved, ready_in, root_missing, value_in}
 use Rattle.gc_concurrent.proofs.held.Held.flip.Goals as goal
 
 near : (h : Held) (k a : ℕ) → k < length h.roots.items → value_of (slice_index h.roots.items k) ≡ Ref a → a + 2 ≤ h.copier.seat.me.0.theirs.old
@@ -51,6 +52,13 @@ want-requires-clause-low c =
     let t = missing_at h c.as_slice.result.now c.as_slice-2.result.now c.in-Target.at _ c.as_slice.ensures.value c.as_slice-2.ensures.value c.in-Target.is c.in-Err.ensures.target in
     let n = near h t.0 c.in-Target.at.0 t.1 t.2 in
     let s = h.copier.sized.0 in omega arith
+
+pub want-requires-clause-kept : goal.want-requires-clause-kept
+want-requires-clause-kept c =
+    let h = c.args.self in
+    let t = missing_at h c.as_slice.result.now c.as_slice-2.result.now c.in-Target.at _ c.as_slice.ensures.value c.as_slice-2.ensures.value c.in-Target.is c.in-Err.ensures.target in
+    subst (λ (b : HeapWords). MayBeCopied b c.in-Target.at.0) (sym h.begun)
+    (target_leads (MayBeCopied h.copier.seat.me.0.mine.base) (Ref c.in-Target.at.0) c.in-Target.at.0 (h.kept.roots (Ref c.in-Target.at.0) (value_in h.roots.items t.0 (Ref c.in-Target.at.0) t.1 t.2)) refl)
 
 pub returns-in-Target-clause-not_ready : goal.returns-in-Target-clause-not_ready
 returns-in-Target-clause-not_ready c _ =
@@ -85,16 +93,17 @@ shown : (h : Held) (row roots : List ℕ) → ((roots : List ℕ) → IsHeap (he
 shown h row roots told e f idle placed = told h.roots.items h.sound (done h row roots e f idle placed)
 
 -- the new heap: the new space, with the moved roots
-new_is : (h : Held) (mine : Mine) (row roots moved : List ℕ) → mine ≡ opening_mine h.copier.space → moved ≡ map (λ w. word_of (moved_by row (value_of w))) roots
+new_is : (h : Held) (mine : Mine) (row roots moved : List ℕ) → (base : List ℕ) → mine ≡ opening_mine (one_heap h.copier.space base) → moved ≡ map (λ w. word_of (moved_by row (value_of w))) roots
     → row ≡ h.copier.claims.items → roots ≡ h.roots.items → ((k a : ℕ) → k < length roots → value_of (slice_index roots k) ≡ Ref a → slice_index row a ≢ 0)
     → heap_of mine moved ≡ new_heap_of h.copier.space h.roots.items h.copier.seat.me.0.theirs
-new_is h mine row roots moved is moved_is e f placed = λ i. heap_of (is i) ((moved_is ∙ moves h row roots e f placed) i)
+new_is h mine row roots moved base is moved_is e f placed = λ i. heap_of (is i) ((moved_is ∙ moves h row roots e f placed) i)
 
-pub open_cells-requires-clause-closed : goal.open_cells-requires-clause-closed
-open_cells-requires-clause-closed c =
+pub open_cells-requires-clause-sound : goal.open_cells-requires-clause-sound
+open_cells-requires-clause-sound c =
     let a = c.args.self.copier in
     let told = shown c.args.self c.as_slice.result.now c.as_slice-2.result.now c.look.ensures.told c.as_slice.ensures.value c.as_slice-2.ensures.value (c.is_idle.ensures.idle c.if-not-is_idle.false) c.in-Ok.ensures.placed in
-    subst (λ (s : SpaceWords). IsClosed s.words []) (sym c.look.ensures.space) (record { fields = ((told.heap a.space (mem a)).closed).fields; roots = All-nil (IsRootWord a.space.words) })
+    let moved = c.as_slice-3.ensures.value ∙ (c.in-Ok.ensures.moved ∙ moves c.args.self c.as_slice.result.now c.as_slice-2.result.now c.as_slice.ensures.value c.as_slice-2.ensures.value c.in-Ok.ensures.placed) in
+    subst (λ (z : SpaceWords × List ℕ). IsHeap (one_heap z.0 z.1)) (λ i. (sym c.look.ensures.space i, sym moved i)) (told.heap a.space (mem a))
 
 pub split_seat-seat-requires : goal.split_seat-seat-requires
 split_seat-seat-requires c =
@@ -110,18 +119,29 @@ pub invariant_of-result-2 : goal.invariant_of-result-2
 invariant_of-result-2 c =
     let a = c.args.self.copier in
     let told = shown c.args.self c.as_slice.result.now c.as_slice-2.result.now c.look.ensures.told c.as_slice.ensures.value c.as_slice-2.ensures.value (c.is_idle.ensures.idle c.if-not-is_idle.false) c.in-Ok.ensures.placed in
-    let mine : c.split_seat-seat.result.me.0.mine ≡ opening_mine a.space = ap (λ (m : Sat). m.0.mine) c.split_seat-seat.ensures.4 ∙ (ap (λ (m : Sat). m.0.mine) c.in-Ok-open_cells.ensures.view ∙ ap opening_mine c.look.ensures.space) in
+    let base : List ℕ = c.as_slice-3.result.now in
+    let mine : c.split_seat-seat.result.me.0.mine ≡ opening_mine (one_heap a.space base) = ap (λ (m : Sat). m.0.mine) c.split_seat-seat.ensures.4 ∙ (ap (λ (m : Sat). m.0.mine) c.in-Ok-open_cells.ensures.view ∙ (λ i. opening_mine (one_heap (c.look.ensures.space i) base))) in
+    let moved = c.as_slice-3.ensures.value ∙ (c.in-Ok.ensures.moved ∙ moves c.args.self c.as_slice.result.now c.as_slice-2.result.now c.as_slice.ensures.value c.as_slice-2.ensures.value c.in-Ok.ensures.placed) in
+    let heap = new_is c.args.self _ c.as_slice.result.now c.as_slice-2.result.now _ base mine c.in-Ok.ensures.moved c.as_slice.ensures.value c.as_slice-2.ensures.value c.in-Ok.ensures.placed in
+    let sound = told.heap a.space (mem a) in
     record {
       ended = ap (λ (m : Mine). length m.space.words) mine ∙ sym (c.end-end.ensures.value ∙ ap (λ (s : SpaceWords). length s.words) c.look.ensures.space);
-      sound = subst IsHeap (sym (new_is c.args.self _ c.as_slice.result.now c.as_slice-2.result.now _ mine c.in-Ok.ensures.moved c.as_slice.ensures.value c.as_slice-2.ensures.value c.in-Ok.ensures.placed)) (told.heap a.space (mem a));
+      sound = subst IsHeap (sym heap) sound;
+      behind = (let e = ap (λ (m : Mine). end_of m.base.space) mine in let l = c.end-end.ensures.value in let s = ap (λ (s : SpaceWords). end_of s) c.look.ensures.space in omega arith);
+      kept = subst (λ (z : HeapWords × HeapWords). LeadsOnlyTo (MayBeCopied z.0) (graph_in z.1)) (λ i. (sym (ap (λ (m : Mine). m.base) mine ∙ (λ j. one_heap a.space (moved j))) i, sym heap i))
+          (begins_kept (new_heap_of a.space c.args.self.roots.items a.seat.me.0.theirs) sound);
     }
 
 pub returns-clause-replicas : goal.returns-clause-replicas
 returns-clause-replicas c =
     let a = c.args.self.copier in
     let told = shown c.args.self c.as_slice.result.now c.as_slice-2.result.now c.look.ensures.told c.as_slice.ensures.value c.as_slice-2.ensures.value (c.is_idle.ensures.idle c.if-not-is_idle.false) c.in-Ok.ensures.placed in
-    ap graph_in (new_is c.args.self _ c.as_slice.result.now c.as_slice-2.result.now _ (ap (λ (m : Sat). m.0.mine) c.split_seat-seat.ensures.4 ∙ (ap (λ (m : Sat). m.0.mine) c.in-Ok-open_cells.ensures.view ∙ ap opening_mine c.look.ensures.space))
+    ap graph_in (new_is c.args.self _ c.as_slice.result.now c.as_slice-2.result.now _ c.as_slice-3.result.now (ap (λ (m : Sat). m.0.mine) c.split_seat-seat.ensures.4 ∙ (ap (λ (m : Sat). m.0.mine) c.in-Ok-open_cells.ensures.view ∙ (λ i. opening_mine (one_heap (c.look.ensures.space i) c.as_slice-3.result.now))))
     c.in-Ok.ensures.moved c.as_slice.ensures.value c.as_slice-2.ensures.value c.in-Ok.ensures.placed) ∙ told.graph a.space (mem a)
+
+pub returns-clause-carried : goal.returns-clause-carried
+returns-clause-carried c =
+    (shown c.args.self c.as_slice.result.now c.as_slice-2.result.now c.look.ensures.told c.as_slice.ensures.value c.as_slice-2.ensures.value (c.is_idle.ensures.idle c.if-not-is_idle.false) c.in-Ok.ensures.placed).kept
 
 pub returns-clause-ready : goal.returns-clause-ready
 returns-clause-ready c =
