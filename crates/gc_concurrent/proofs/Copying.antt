@@ -1,5 +1,5 @@
 -- Each step of the collector keeps the rule: it is a step of gc_plan at the moment of a load.
-use Rattle.std.proofs.Common.{◌≡◌, ℕ, suc, ◌<◌, ◌==◌, ◌||◌, Bool, true, false, List, [], ◌∷◌, length, get_or, set, map, Some, None, is_some, refl, ap, sym, ◌∙◌, subst, inl, ⊎_elim, arith}
+use Rattle.std.proofs.Common.{◌≡◌, ℕ, suc, ◌≤◌, ◌<◌, ◌==◌, ◌||◌, Bool, true, false, List, [], ◌∷◌, length, get_or, set, map, Some, None, is_some, refl, ap, sym, ◌∙◌, subst, inl, ⊎_elim, arith}
 use Rattle.std.specs.Prelude.{IfSome, drop}
 use Rattle.std.specs.Option.{option_map}
 use Rattle.std.specs.declared.option.Option.{Option as Opt}
@@ -12,6 +12,7 @@ use Rattle.gc_graph.specs.Graph.{Value, Nil, Num, Ref, Object, Graph, lookup, fi
 use Rattle.gc_words.specs.Word.{value_of, is_value, field_value}
 use Rattle.gc_words.specs.Layout.{field_place}
 use Rattle.gc_words.specs.Image.{Block, header_of, block_at, field_at, objects_of, object_of_block}
+use Rattle.gc_words.specs.Space.{end_of}
 use Rattle.gc_words.specs.Closed.{IsWordOfField, RefersToStart}
 use Rattle.gc_words.proofs.Public.{object_found, field_found, field_read, fields_counted, field_within, some_of, closed_field_read}
 use Rattle.gc_plan.specs.State.{Replica, Collection, State, replica_of, replica_at, moved, new_end}
@@ -26,9 +27,10 @@ use Rattle.gc_concurrent.specs.Ends.{Known, Mine, Theirs}
 use Rattle.gc_concurrent.specs.Unreachable.{MayBeCopied}
 use Rattle.gc_concurrent.specs.Internal.Plans.{collection_of, plan}
 use Rattle.gc_concurrent.specs.Internal.Carrying.{KeepsUnreachableOut}
-use Rattle.gc_concurrent.specs.Internal.Rule.{IsConcurrent, scanned, applied, wants, after_read, lacks, read_as, Sat, tells_scan_of, tells_apply_of, tells_scan, tells_apply}
+use Rattle.gc_concurrent.specs.Internal.Rule.{IsConcurrent, brought, scanned, applied, wants, after_read, lacks, read_as, Sat, tells_scan_of, tells_apply_of, tells_scan, tells_apply}
 use Rattle.gc_concurrent.specs.Ends.{its}
 use Rattle.gc_concurrent.proofs.Hands.{St, seats_theirs}
+use Rattle.gc_concurrent.proofs.Fitting.{end_brought}
 use Rattle.gc_concurrent.proofs.Keeping.{kept_brought, kept_wants, kept_target}
 use Rattle.gc_concurrent.proofs.Loosely.{Leaves, loosely, block_is}
 use lib.Seq.{set-get_or}
@@ -37,9 +39,9 @@ use lib.Seq.{set-get_or}
 
 pub theirs_keep : (size : ℕ) (s : St) (r : IsConcurrent size s) (k id : ℕ) (v : Known) (c : List (ℕ × ℕ)) (t' : Theirs) → get_elem? s.views id ≡ some v → v.copies ≡ true → t'.old ≡ r.theirs.old
     → ((a : ℕ) → In a t'.wanted → (o : Object) × (lookup (objects_of r.mine.space.words) a ≡ Some o))
-    → IsOpened (plan r.mine r.theirs) (collection_of r.mine t') → KeepsUnreachableOut r.mine t'
+    → IsOpened (plan r.mine r.theirs) (collection_of r.mine t') → KeepsUnreachableOut r.mine t' → new_end (its t') ≤ end_of r.mine.space
     → IsConcurrent size (stepped s k (get_or s.words k 0) id c (record v { theirs = t' }) keeps)
-theirs_keep size s r k id v c t' here copies old wanted opened carries =
+theirs_keep size s r k id v c t' here copies old wanted opened carries fits =
     subst (λ (ws : List ℕ). IsConcurrent size (record { words = ws; homes = s.homes; views = set s.views id (record v { theirs = t' }) })) (sym (set-get_or s.words k 0)) (record {
       mine = r.mine;
       theirs = t';
@@ -55,6 +57,7 @@ theirs_keep size s r k id v c t' here copies old wanted opened carries =
       wanted = wanted;
       opened = record { belongs = opened.belongs; size = opened.size; logs = opened.logs };
       carries = carries;
+      fits = fits;
       seats = seats_theirs r.writer r.copier id r.mine r.theirs t' s.views v here copies r.seats;
     })
 
@@ -133,6 +136,10 @@ scan_is s c q v k here place plain within is nl =
     ∙ cond-false (q.object.raw || (c.scan_field == length q.object.fields)) _ _ (ap (λ b. b || (c.scan_field == length q.object.fields)) plain ∙ ne_eqb c.scan_field (length q.object.fields) (λ e. omega arith))
     ∙ ap (λ o. if_room s Scanned (option_map next_field o)) (bring_is c s.heap.graph q.original c.scan_field v is nl)
 
+-- a field that follows takes no words
+brought_fits : (size : ℕ) (s : St) (r : IsConcurrent size s) (name i : ℕ) (v : Value) → new_end (its (brought name i v r.theirs)) ≤ end_of r.mine.space
+brought_fits size s r name i v = let e = end_brought r.theirs name i v in let f = r.fits in omega arith
+
 -- ---- the steps
 
 -- a value read that lacks a replica is wanted
@@ -142,7 +149,7 @@ pub want : (size : ℕ) (s : St) (r : IsConcurrent size s) (k id : ℕ) (me : Sa
 want size s r k id me name seat copies start kept =
     theirs_keep size s r k id me.0 me.1 (wants name r.theirs) seat copies refl
     (λ a h. ⊎_elim (λ (e : name ≡ a). subst (λ x. (o : Object) × (lookup (objects_of r.mine.space.words) x ≡ Some o)) e (target_there r.mine.space.words name start)) (λ (e : ⊥). absurd e) h)
-    r.opened (kept_wants r.mine r.theirs r.carries name kept)
+    r.opened (kept_wants r.mine r.theirs r.carries name kept) r.fits
 
 -- a field word of an object that is not raw is a value
 value_of_field : (words : List ℕ) (raw : Bool) (w : ℕ) → raw ≡ false → IsWordOfField raw words w → is_value w ≡ true
@@ -206,7 +213,8 @@ scan_at slots size s r id me q seat copies here place plain within = go (lacks (
           (follow_opened r.mine t S q.original t.scan_field (suc t.scan_field) v
           (subst (λ (x : StepReply × State). IfSome x.1.collection (IsOpened S)) (scan_is S c q v (r.opened).belongs here place plain within is (lacks_same r.mine t v ∙ e))
           (open_keeps S c steps.Scan refl r.opened (λ e. cc e))))
-          (kept_brought r.mine t r.carries q.original t.scan_field (moved (its t) v) (scanned q.original t.scan_field v t) refl refl refl),
+          (kept_brought r.mine t r.carries q.original t.scan_field (moved (its t) v) (scanned q.original t.scan_field v t) refl refl refl)
+          (brought_fits size s r q.original t.scan_field v),
       λ p l e' _ _ _. (found_value size s r q t.scan_field f plainly, λ j. (record me.0 { theirs = after_read (scanned (one p l e' j).original t.scan_field v) (sym e j) t }, me.1)),
     )
     go (Some name) e = let lack = lacking (its t) v name e in (
@@ -317,7 +325,8 @@ apply_at slots size s r id me q i rest seat copies here due = go (lacks (its t) 
           (λ j. (sym (ap (drop 1) due) j, (moved_same r.mine (without rest t) v ∙ moved_less t rest v) j))
           (subst (λ (x : StepReply × State). IfSome x.1.collection (IsOpened S)) (apply_is r.mine t q i rest v (r.opened).belongs here due is (lacks_same r.mine (without rest t) v ∙ lacks_less t rest v ∙ e))
           (open_keeps S c (steps.Apply 1) refl r.opened (λ e. cc e))))
-          (kept_brought r.mine t r.carries q.original i (moved (its t) v) (applied q.original i v t) refl refl refl),
+          (kept_brought r.mine t r.carries q.original i (moved (its t) v) (applied q.original i v t) refl refl refl)
+          (brought_fits size s r q.original i v),
       λ p j more l e' _. let w = one p j more l e' in ((λ plain. found_value size s r q i f (sym f.raw ∙ (ap (λ (x : Replica). x.object.raw) w.0 ∙ plain))), tell None e p j w),
     )
     go (Some name) e = let lack = lacking (its t) v name e in (

@@ -27,12 +27,11 @@ pub header_there : (words : List ℕ) (place : ℕ) (b : Block) (h : Header) →
 header_there words place b h found read = let e : Some b.header ≡ Some h = sym (ap header_of found) ∙ read in cc
 
 -- the seat after a step that changes the collector's view alone
-pub keeps_seat : (a b : Sat) (t : Theirs) → b ≡ (record a.0 { theirs = t }, a.1) → t.old ≡ a.0.theirs.old → t.base ≡ a.0.theirs.base → KeepsSeat a b
-keeps_seat a b t e old base = record {
+pub keeps_seat : (a b : Sat) (t : Theirs) → b ≡ (record a.0 { theirs = t }, a.1) → t.old ≡ a.0.theirs.old → t.base ≡ a.0.theirs.base → t.size ≡ a.0.theirs.size → KeepsSeat a b
+keeps_seat a b t e old base size = record {
   writes = ap (λ (m : Sat). m.0.writes) e;
   mine = ap (λ (m : Sat). m.0.mine) e;
-  old = ap (λ (m : Sat). m.0.theirs.old) e ∙ old;
-  base = ap (λ (m : Sat). m.0.theirs.base) e ∙ base;
+  begun = record { base = ap (λ (m : Sat). m.0.theirs.base) e ∙ base; from = ap (λ (m : Sat). m.0.theirs.old) e ∙ old; into = ap (λ (m : Sat). m.0.theirs.size) e ∙ size };
   holds = ap (λ (m : Sat). m.1) e;
 }
 

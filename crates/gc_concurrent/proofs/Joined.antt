@@ -68,6 +68,7 @@ take_at slots size s r k id me seat writes copies =
         wanted = r.wanted;
         opened = taken_opened r.mine r.theirs r.opened;
         carries = kept_mine r.mine t' (kept_still r.mine r.theirs r.carries t' refl refl refl) m' refl (omega arith) r.carries.fields;
+        fits = r.fits;
         seats = seat_set (Seated r.writer r.copier m' t') s.views id w
             ((λ p. ((own.0 p).0, refl)), λ p. ((own.1 p).0, refl))
             (λ j u other e. ((λ p. absurd (other ((((r.seats j u e).0 p).0) ∙ sym ((own.0 writes).0)))), λ p. absurd (other ((((r.seats j u e).1 p).0) ∙ sym ((own.1 copies).0)))));

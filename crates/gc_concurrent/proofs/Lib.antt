@@ -5,6 +5,7 @@ pub mod Keeping
 pub mod Writing
 pub mod Logs
 pub mod Loosely
+pub mod Fitting
 pub mod Copying
 pub mod Placing
 pub mod Joined

@@ -8,6 +8,7 @@ use Rattle.atomic_table.specs.Table.{step, keeps, stepped, Allows}
 use Rattle.gc_graph.specs.Graph.{Object, lookup, new_object, first_value}
 use Rattle.gc_graph.specs.Machine.{object_words}
 use Rattle.gc_words.specs.Word.{read_header}
+use Rattle.gc_words.specs.Space.{end_of}
 use Rattle.gc_words.specs.Image.{block_at, object_of_block, objects_of}
 use Rattle.gc_words.specs.declared.header.Header.{Header}
 use Rattle.gc_words.proofs.Public.{object_found, fields_counted, stands_in}
@@ -21,13 +22,14 @@ use Rattle.gc_plan.specs.declared.step.StepReply.TheVariants.{Passed, Applied}
 use Rattle.gc_plan.proofs.Public.{laid_push, laid_range, in_map, same_place, placed, replicas_end, found_by_place, open_keeps, AreReplicas, belongs_from, replicas_due, its_replicas, due_at_end, in_left, in_right, in_push, get_past, end_push, in_paired, paired_in, distinct_push, unnamed}
 use Rattle.std.proofs.lemmas.List.{length-replicate, map-append}
 use Rattle.std.proofs.lemmas.Grind.{common_steps}
-use Rattle.std.proofs.lemmas.Bool.{ltb-false}
+use Rattle.std.proofs.lemmas.Bool.{ltb-false, le-ltb}
 use Rattle.gc_concurrent.specs.Ends.{Mine, Theirs}
 use Rattle.gc_concurrent.specs.Internal.Plans.{collection_of, plan}
 use Rattle.gc_concurrent.specs.Internal.Rule.{IsConcurrent, passed, placed_one, blank_replica, entries_of_fields, to_fill, entry_dropped, Sat, tells_place_of, tells_pass_of, tells_leave_of, tells_place, tells_pass, tells_leave}
 use Rattle.gc_concurrent.specs.Ends.{its}
 use Rattle.gc_concurrent.proofs.Hands.{St}
 use Rattle.gc_concurrent.proofs.Logs.{of_two, to_two, in_either, in_fields, fields_in}
+use Rattle.gc_concurrent.proofs.Fitting.{next_fits, end_placed}
 use Rattle.gc_concurrent.proofs.Keeping.{kept_still, kept_placed}
 use Rattle.gc_concurrent.proofs.Loosely.{Leaves, loosely, block_is}
 use Rattle.gc_concurrent.proofs.Copying.{theirs_keep, without}
@@ -53,7 +55,7 @@ pass_at slots size s r k id me q seat copies here place done =
       tt,
       theirs_keep size s r k id me.0 me.1 (passed q t) seat copies refl r.wanted
           (subst (λ (x : StepReply × State). IfSome x.1.collection (IsOpened S)) (pass_is S c q (r.opened).belongs here place done) (open_keeps S c steps.Scan refl r.opened (λ e. cc e)))
-          (kept_still r.mine t r.carries (passed q t) refl refl refl),
+          (kept_still r.mine t r.carries (passed q t) refl refl refl) r.fits,
       λ p l e' _. let one : q ≡ p = same_place 1 t.replicas (replicas_end t.replicas) q p ((r.opened).belongs).laid here l (place ∙ sym e') in λ j. (record me.0 { theirs = passed (one j) t }, me.1),
     )
 
@@ -84,7 +86,7 @@ leave_at slots size s r k id me entry rest seat copies due missing =
       theirs_keep size s r k id me.0 me.1 (entry_dropped t) seat copies refl r.wanted
           (subst (λ (x : List (ℕ × ℕ)). IsOpened S (collection_of r.mine (without x t))) (sym (ap (drop 1) due))
           (subst (λ (x : StepReply × State). IfSome x.1.collection (IsOpened S)) is (open_keeps S c (steps.Apply 1) refl r.opened (λ e. cc e))))
-          (kept_still r.mine t r.carries (entry_dropped t) refl refl refl),
+          (kept_still r.mine t r.carries (entry_dropped t) refl refl refl) r.fits,
       λ _ _ _ _. refl,
     )
 
@@ -187,6 +189,7 @@ place_at slots size s r id me name seat copies wanted missing =
     let count : b.0.header.len ≡ length o.fields = sym many ∙ ap (λ (x : Object). length x.fields) b.2 in
     let header : b.0.header ≡ record { raw = o.raw; kind = o.kind; len = length o.fields } = λ i. record { raw = (b.2 i).raw; kind = (b.2 i).kind; len = count i } in
     let read : read_header (get_or s.words name 0) ≡ Some (record { raw = o.raw; kind = o.kind; len = length o.fields }) = ap read_header (r.now name (omega arith)) ∙ (stands.header ∙ ap (λ (h : Header). Some h) header) in
+    let next : new_end (its t) + object_words (length o.fields) ≤ end_of r.mine.space = next_fits r.mine t name o r.space r.closed r.opened r.fits missing there.1 in
     let full : Bool = nat_lt (new_free c) (object_words (length o.fields)) in
     let t' : Theirs = if full then t else placed_one name o t in (
       record me.0 { theirs = t' },
@@ -194,12 +197,19 @@ place_at slots size s r id me name seat copies wanted missing =
       tt,
       ⊎_elim
           (λ (e : full ≡ true). subst (λ (x : Theirs). IsConcurrent size (stepped s name (get_or s.words name 0) id me.1 (record me.0 { theirs = x }) keeps)) (sym (cond-true full t (placed_one name o t) e))
-          (theirs_keep size s r name id me.0 me.1 t seat copies refl r.wanted r.opened r.carries))
+          (theirs_keep size s r name id me.0 me.1 t seat copies refl r.wanted r.opened r.carries r.fits))
           (λ (e : full ≡ false). subst (λ (x : Theirs). IsConcurrent size (stepped s name (get_or s.words name 0) id me.1 (record me.0 { theirs = x }) keeps)) (sym (cond-false full t (placed_one name o t) e))
           (theirs_keep size s r name id me.0 me.1 (placed_one name o t) seat copies refl (λ a h. absurd h)
-          (placed_opened r.mine t name o r.opened missing there.1 e) (kept_placed r.mine t r.carries name o wanted)))
+          (placed_opened r.mine t name o r.opened missing there.1 e) (kept_placed r.mine t r.carries name o wanted)
+          (end_placed r.mine t name o r.space r.closed r.opened r.fits missing there.1)))
           (cases_Bool full),
-      λ _ _. (o, read, refl),
+      λ _ _. (
+        o,
+        read,
+        refl,
+        λ large. le-ltb (new_free (its t)) (object_words (length o.fields)) (let older = r.older in let sized = r.sized in let high = (r.space).end_high in let n = next in omega arith),
+        λ writes. subst (λ (m : Mine). new_end (its t) + object_words (length o.fields) ≤ end_of m.space) (sym ((r.seats id me.0 seat).0 writes).1) next,
+      ),
     )
 
 pub places : (slots size id : ℕ) (me : Sat) (name : ℕ) → me.0.copies ≡ true

@@ -140,6 +140,7 @@ put_keeps size s r id v c a i w b here writes found has is kept =
           (λ x j h. ⊎_elim (λ (e : (a, i) ≡ (x, j)). subst (λ (p : ℕ × ℕ). HasField (objs m') p.0 p.1) e (field_stays (objs r.mine) (objs m') (λ x j. In {X = ℕ × ℕ} (x, j) ((a, i) ∷ [])) a i evolves was)) (λ (e : ⊥). absurd e) h) r.opened;
       carries = kept_mine r.mine r.theirs r.carries m' refl (let l = length-set sp.words k w in omega arith)
           (subst (FieldsLeadTo (MayBeCopied r.mine.base)) (sym objects) (set_leads (MayBeCopied r.mine.base) (objs r.mine) a i (field_value b.header w) r.carries.fields kept));
+      fits = (let l = length-set sp.words k w in let f = r.fits in omega arith);
       seats = seats_mine r.writer r.copier id r.mine m' r.theirs s.views v here writes r.seats;
     }
 
@@ -250,6 +251,7 @@ new_keeps size s r id v c h here writes can =
       opened = opened_still r.mine m' r.theirs evolves refl r.opened;
       carries = kept_mine r.mine r.theirs r.carries m' refl (omega arith)
           (subst (FieldsLeadTo (MayBeCopied r.mine.base)) (sym objects) (push_leads (MayBeCopied r.mine.base) (objs r.mine) k h.raw h.kind h.len r.carries.fields));
+      fits = (let f = r.fits in omega arith);
       seats = seats_mine r.writer r.copier id r.mine m' r.theirs s.views v here writes r.seats;
     }
 

@@ -1,5 +1,5 @@
 -- What the collector's calls say that they did.
-use Rattle.std.specs.Prelude.{◌≡◌, true, []}
+use Rattle.std.specs.Prelude.{◌≡◌, ◌<◌, true, []}
 use Rattle.gc_plan.specs.Steps.{scan_done}
 use Rattle.gc_concurrent.specs.declared.copier.Work.{Work}
 use Rattle.gc_concurrent.specs.declared.copier.Work.TheVariants.{Step, Done, NoRoom}
@@ -10,6 +10,18 @@ abbrev pub WhereDone : Work → Theirs → Type 0
 WhereDone Done t = (t.due ≡ []) × (scan_done (its t) ≡ true)
 WhereDone Step t = Unit {0}
 WhereDone NoRoom t = Unit {0}
+
+-- where the step found no room for a replica, the new space is smaller than the mutator's
+abbrev pub WhereNoRoom : Work → Theirs → Type 0
+WhereNoRoom NoRoom t = t.size < t.old
+WhereNoRoom Step t = Unit {0}
+WhereNoRoom Done t = Unit {0}
+
+-- The heap with which the collection began is the same, and so are the sizes of both spaces.
+pub record KeepsBeginning (old new : Theirs) : Type 0 where
+  pub base : new.base ≡ old.base
+  pub from : new.old ≡ old.old
+  pub into : new.size ≡ old.size
 
 -- Nothing was due, and every replica was scanned. Now the entries of the mutator's log are due, and nothing else has changed.
 pub record TakesLog (old new : Theirs) : Type 0 where

@@ -14,7 +14,7 @@ ghost use Rattle.gc_concurrent.specs.Ends.{its};
 ghost use Rattle.gc_concurrent.specs.Unreachable.{MayBeCopied};
 ghost use Rattle.gc_concurrent.specs.Internal.Rule.{entries_of_fields, read_as, Loose};
 ghost use Rattle.gc_concurrent.specs.Internal.Copiers.{Claims, KeepsSeat, moved_by};
-ghost use Rattle.gc_concurrent.specs.Works.{WhereDone};
+ghost use Rattle.gc_concurrent.specs.Works.{WhereDone, WhereNoRoom};
 ghost use Rattle.gc_concurrent.specs.Internal.Props.{replicas_prop, claims_prop, space_prop};
 
 use crate::cells::{Cells, CellsEnd};
@@ -241,6 +241,7 @@ impl Copier {
         requires wanted { self.old.has_wanted ≡ true }
         requires filled { self.old.fill_left ≡ 0 }
         ensures seat { KeepsSeat self.old.seat.me self.new.seat.me }
+        ensures room { IsFalse result → self.new.seat.me.0.theirs.size < self.new.seat.me.0.theirs.old }
         ensures row { (self.new.seat.table_id ≡ self.old.seat.table_id) × (self.new.size ≡ self.old.size) }
     {
         let name = self.wanted;
@@ -269,6 +270,7 @@ impl Copier {
         ensures seat { KeepsSeat self.old.seat.me self.new.seat.me }
         ensures row { (self.new.seat.table_id ≡ self.old.seat.table_id) × (self.new.size ≡ self.old.size) }
         ensures done { WhereDone result (self.new.seat.me.0.theirs) }
+        ensures room { WhereNoRoom result (self.new.seat.me.0.theirs) }
     {
         if self.fill_left == 0 && self.has_wanted {
             return if self.place_wanted() {

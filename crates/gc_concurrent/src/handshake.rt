@@ -211,12 +211,13 @@ pub struct Holding {
 }
 
 impl Collector {
-    ghost use Rattle.gc_concurrent.specs.Works.{WhereDone};
+    ghost use Rattle.gc_concurrent.specs.Works.{KeepsBeginning, WhereDone, WhereNoRoom};
 
     /// Performs one step, beside the mutator.
     pub fn work(&mut self) -> Work
         ensures done { WhereDone result (known_to self.new.copier) }
-        ensures base { (known_to self.new.copier).base ≡ (known_to self.old.copier).base }
+        ensures room { WhereNoRoom result (known_to self.new.copier) }
+        ensures begun { KeepsBeginning (known_to self.old.copier) (known_to self.new.copier) }
     {
         self.copier.work()
     }
@@ -246,12 +247,13 @@ impl Collector {
 }
 
 impl Asking {
-    ghost use Rattle.gc_concurrent.specs.Works.{TakesLog, WhereDone};
+    ghost use Rattle.gc_concurrent.specs.Works.{KeepsBeginning, TakesLog, WhereDone, WhereNoRoom};
 
     /// Performs one step, beside the mutator.
     pub fn work(&mut self) -> Work
         ensures done { WhereDone result (known_to self.new.copier) }
-        ensures base { (known_to self.new.copier).base ≡ (known_to self.old.copier).base }
+        ensures room { WhereNoRoom result (known_to self.new.copier) }
+        ensures begun { KeepsBeginning (known_to self.old.copier) (known_to self.new.copier) }
     {
         self.copier.work()
     }
@@ -295,13 +297,14 @@ pub struct Unflipped {
 
 impl Holding {
     ghost use Rattle.std.specs.Prelude.{IfErr, OnOk};
-    ghost use Rattle.gc_concurrent.specs.Works.{WhereDone};
+    ghost use Rattle.gc_concurrent.specs.Works.{KeepsBeginning, WhereDone, WhereNoRoom};
     ghost use Rattle.gc_concurrent.specs.Holders.{heap_held, may_flip};
 
     /// Performs one step, while the mutator waits.
     pub fn work(&mut self) -> Work
         ensures done { WhereDone result (known_to self.new.held.copier) }
-        ensures base { (known_to self.new.held.copier).base ≡ (known_to self.old.held.copier).base }
+        ensures room { WhereNoRoom result (known_to self.new.held.copier) }
+        ensures begun { KeepsBeginning (known_to self.old.held.copier) (known_to self.new.held.copier) }
         ensures heap { heap_held self.new.held ≡ heap_held self.old.held }
     {
         self.held.work()
@@ -336,7 +339,7 @@ impl Holding {
         ensures carried { OnOk result (CopiesNothingUnreachable (known_to self.held.copier)) }
         ensures heap { IfErr result (λ refused. heap_held refused.holding.held ≡ heap_held self.held) }
         ensures not_ready { IfErr result (λ refused. refused.why ≡ NoFlip.NotReady → may_flip self.held ≡ false) }
-        ensures base { IfErr result (λ refused. (known_to refused.holding.held.copier).base ≡ (known_to self.held.copier).base) }
+        ensures begun { IfErr result (λ refused. KeepsBeginning (known_to self.held.copier) (known_to refused.holding.held.copier)) }
     {
         let Holding {
             handshake,

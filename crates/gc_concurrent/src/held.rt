@@ -153,14 +153,15 @@ pub enum NoFlip {
 
 impl Held {
     ghost use Rattle.std.specs.Prelude.{OnOk};
-    ghost use Rattle.gc_concurrent.specs.Works.{WhereDone};
+    ghost use Rattle.gc_concurrent.specs.Works.{KeepsBeginning, WhereDone, WhereNoRoom};
     ghost use Rattle.gc_concurrent.specs.Holders.{heap_in, heap_held, known_to, may_flip};
 
     /// Performs one step of the collector, while the mutator waits.
     pub(crate) fn work(&mut self) -> Work
         ensures heap { heap_held self.new ≡ heap_held self.old }
         ensures done { WhereDone result (known_to self.new.copier) }
-        ensures base { (known_to self.new.copier).base ≡ (known_to self.old.copier).base }
+        ensures room { WhereNoRoom result (known_to self.new.copier) }
+        ensures begun { KeepsBeginning (known_to self.old.copier) (known_to self.new.copier) }
         ensures row { self.new.copier.seat.table_id ≡ self.old.copier.seat.table_id }
     {
         self.copier.work()
@@ -239,7 +240,7 @@ impl Held {
         ensures heap { IfErr result (λ r. heap_held r.0 ≡ heap_held self) }
         ensures not_ready { IfErr result (λ r. r.1 ≡ NoFlip.NotReady → may_flip self ≡ false) }
         ensures same { IfErr result (λ r. r.0.copier.seat.table_id ≡ self.copier.seat.table_id) }
-        ensures base { IfErr result (λ r. (known_to r.0.copier).base ≡ (known_to self.copier).base) }
+        ensures begun { IfErr result (λ r. KeepsBeginning (known_to self.copier) (known_to r.0.copier)) }
     {
         if !self.copier.is_idle() {
             return Err((self, NoFlip::NotReady));

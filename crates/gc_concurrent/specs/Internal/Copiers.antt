@@ -6,6 +6,7 @@ use Rattle.gc_words.specs.Word.{value_of}
 use Rattle.gc_concurrent.specs.declared.held.Missing.{Missing}
 use Rattle.gc_concurrent.specs.declared.held.Missing.TheVariants.{NoMemory, Target}
 use Rattle.gc_concurrent.specs.Ends.{Theirs, its}
+use Rattle.gc_concurrent.specs.Works.{KeepsBeginning}
 use Rattle.gc_concurrent.specs.Internal.Rule.{Sat}
 
 -- The row has the place of each object's replica, or 0
@@ -19,12 +20,11 @@ moved_by row Nil = Nil
 moved_by row (Num n) = Num n
 moved_by row (Ref a) = Ref (slice_index row a)
 
--- what a step of the collector keeps of its seat: the mutator's end, if it has it, and what it holds
+-- what a step of the collector keeps of its seat: the mutator's end, if it has it, how the collection began, and what it holds
 pub record KeepsSeat (a b : Sat) : Type 0 where
   pub writes : b.0.writes ≡ a.0.writes
   pub mine : b.0.mine ≡ a.0.mine
-  pub old : b.0.theirs.old ≡ a.0.theirs.old
-  pub base : b.0.theirs.base ≡ a.0.theirs.base
+  pub begun : KeepsBeginning a.0.theirs b.0.theirs
   pub holds : b.1 ≡ a.1
 
 -- the target is that of one of these root words, and has no replica

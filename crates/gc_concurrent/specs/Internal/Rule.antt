@@ -10,7 +10,7 @@ use Rattle.gc_graph.specs.Machine.{object_words}
 use Rattle.gc_words.specs.Word.{IsHeader, read_header, value_of, is_value, header_word}
 use Rattle.gc_words.specs.Layout.{field_place, next_place}
 use Rattle.gc_words.specs.Image.{objects_of, field_at}
-use Rattle.gc_words.specs.Space.{IsSpace, with_object, with_field_at}
+use Rattle.gc_words.specs.Space.{IsSpace, end_of, with_object, with_field_at}
 use Rattle.gc_words.specs.Closed.{IsClosed}
 use Rattle.gc_words.specs.declared.header.Header.{Header}
 use Rattle.gc_plan.specs.State.{Replica, Collection, replica_of, moved, new_end, new_free}
@@ -32,7 +32,7 @@ AreSeated writer copier mine theirs views = (j : ℕ) (v : View) → get_elem? v
 
 -- The mutator's words are those of the table, and the words behind them are 0. They are a closed space, and the collection is open in
 -- gc_plan's sense: a field of a replica is up to date unless it is not yet scanned, or in one of the two logs. Nothing that was unreachable when
--- the collection began is copied.
+-- the collection began is copied. The replicas take no more words than the objects.
 pub record IsConcurrent (size : ℕ) (s : State ℕ View) : Type 0 where
   pub mine : Mine
   pub theirs : Theirs
@@ -48,6 +48,7 @@ pub record IsConcurrent (size : ℕ) (s : State ℕ View) : Type 0 where
   pub wanted : (a : ℕ) → In a theirs.wanted → (o : Object) × (lookup (objects_of mine.space.words) a ≡ Some o)
   pub opened : IsOpened (plan mine theirs) (collection_of mine theirs)
   pub carries : KeepsUnreachableOut mine theirs
+  pub fits : new_end (its theirs) ≤ end_of mine.space
   pub seats : AreSeated writer copier mine theirs s.views
 
 -- the word of a field was written
@@ -171,9 +172,11 @@ abbrev pub tells_apply : Step ℕ → Sat → ℕ → Sat → Type 0
 tells_apply st me found me' = tells_apply_of me.0.theirs st me found me' × KnowsBelonging me'
 
 -- The header of an object that is wanted was read: it has a replica from this moment on, if there is room. The fields of a raw one are still to be brought.
+-- There is room if the new space is as large as the old one, and the replicas then take no more words than the objects.
 abbrev pub tells_place_of : Theirs → Step ℕ → Sat → ℕ → Sat → Type 0
 tells_place_of t st me found me' = (In st.word t.wanted → replica_of (its t) st.word ≡ None → (o : Object) × (read_header found ≡ Some (record { raw = o.raw; kind = o.kind; len = length o.fields }))
-    × (me' ≡ (record me.0 { theirs = if nat_lt (new_free (its t)) (object_words (length o.fields)) then t else placed_one st.word o t }, me.1)))
+    × (me' ≡ (record me.0 { theirs = if nat_lt (new_free (its t)) (object_words (length o.fields)) then t else placed_one st.word o t }, me.1))
+    × (t.old ≤ t.size → nat_lt (new_free (its t)) (object_words (length o.fields)) ≡ false) × (me.0.writes ≡ true → new_end (its t) + object_words (length o.fields) ≤ end_of me.0.mine.space))
 
 abbrev pub tells_place : Step ℕ → Sat → ℕ → Sat → Type 0
 tells_place st me found me' = tells_place_of me.0.theirs st me found me' × KnowsBelonging me'

@@ -92,7 +92,7 @@ returns-then-place-eq0-clause-seat c =
     let t = a.seat.me.0.theirs in
     let d = due_is a c.as_slice.result.now c.in-Some.oldest.name c.in-Some.oldest.field _ c.as_slice.ensures.value c.in-Some.ensures.some in
     let missing = left_out a c.as_slice.result.now c.in-Some.oldest.name c.in-Some.oldest.field c.index-place.result.now _ c.as_slice.ensures.value c.in-Some.ensures.some c.index-place.ensures c.if-place-eq0.true in
-    keeps_seat a.seat.me c.load.new.seat.me (entry_dropped t) (c.load.ensures.2.0 (c.in-Some.oldest.name, c.in-Some.oldest.field) _ d missing) refl refl
+    keeps_seat a.seat.me c.load.new.seat.me (entry_dropped t) (c.load.ensures.2.0 (c.in-Some.oldest.name, c.in-Some.oldest.field) _ d missing) refl refl refl
 
 -- ---- its field
 
@@ -261,10 +261,10 @@ invariant_of-self-in-Err c =
 pub returns-in-Ok-clause-seat : goal.returns-in-Ok-clause-seat
 returns-in-Ok-clause-seat c =
     let l = (goal.at.returns-in-Ok-clause-seat c).After-load-word in
-    keeps_seat (a l).seat.me c.load-word.new.seat.me (applied (q l).original (i l) (v l) (t l)) (follows l (none_lacks l c.as_slice-2.result.now c.is_raw.result c.as_slice-2.ensures.value c.is_raw.ensures c.in-Ok.ensures.placed).0) refl refl
+    keeps_seat (a l).seat.me c.load-word.new.seat.me (applied (q l).original (i l) (v l) (t l)) (follows l (none_lacks l c.as_slice-2.result.now c.is_raw.result c.as_slice-2.ensures.value c.is_raw.ensures c.in-Ok.ensures.placed).0) refl refl refl
 
 pub returns-in-Err-clause-seat : goal.returns-in-Err-clause-seat
 returns-in-Err-clause-seat c =
     let l = (goal.at.returns-in-Err-clause-seat c).After-load-word in
     let x : ℕ = c.in-Err.target.0 in
-    keeps_seat (a l).seat.me c.load-word.new.seat.me (wants x (t l)) (wanting l x (one_lacks l c.as_slice-2.result.now c.is_raw.result x c.as_slice-2.ensures.value c.is_raw.ensures c.in-Err.ensures.wanted.0 c.in-Err.ensures.wanted.1)) refl refl
+    keeps_seat (a l).seat.me c.load-word.new.seat.me (wants x (t l)) (wanting l x (one_lacks l c.as_slice-2.result.now c.is_raw.result x c.as_slice-2.ensures.value c.is_raw.ensures c.in-Err.ensures.wanted.0 c.in-Err.ensures.wanted.1)) refl refl refl

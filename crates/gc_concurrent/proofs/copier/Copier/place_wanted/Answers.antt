@@ -1,5 +1,5 @@
 -- The header is read, and the replica lies at the end.
-use Rattle.std.proofs.Common.{rules, ◌≡◌, ◌≢◌, ℕ, ◌+◌, ◌<◌, ◌≤◌, Bool, true, false, true≢false, List, [], ◌∷◌, ◌++◌, drop, length, slice_index, Some, None, is_some, refl, ap, sym, ◌∙◌, subst, inl, cond, arith}
+use Rattle.std.proofs.Common.{rules, ◌≡◌, ◌≢◌, ℕ, ◌+◌, ◌<◌, ◌≤◌, Bool, true, false, true≢false, List, [], ◌∷◌, ◌++◌, drop, length, slice_index, Some, None, is_some, refl, ap, sym, ◌∙◌, subst, inl, cond, lt_of_not-le, arith}
 use Rattle.std.specs.Prelude.{if◌then◌else◌, nat_lt, slice_set}
 use Rattle.std.proofs.lemmas.Bool.{cond-true, cond-false}
 use Rattle.atomic_table.specs.Seated.{TableId}
@@ -58,6 +58,7 @@ module _ (c : After-load-word) where
 
   told : (o : Object) × (read_header c.load-word.result ≡ Some (record { raw = o.raw; kind = o.kind; len = length o.fields }))
       × (c.load-word.new.seat.me ≡ (record a.seat.me.0 { theirs = if nat_lt (new_free (its t)) (object_words (length o.fields)) then t else placed_one a.wanted o t }, a.seat.me.1))
+      × (t.old ≤ t.size → nat_lt (new_free (its t)) (object_words (length o.fields)) ≡ false) × (a.seat.me.0.writes ≡ true → new_end (its t) + object_words (length o.fields) ≤ end_of a.seat.me.0.mine.space)
   told = c.load-word.ensures.2.0 (wanted_in a c.requires.wanted) none
 
   same_header : (h : Header) → read_header c.load-word.result ≡ Some h → h ≡ record { raw = told.0.raw; kind = told.0.kind; len = length told.0.fields }
@@ -113,7 +114,15 @@ invariant_of-self-then-not-has_room c =
 pub returns-then-not-has_room-clause-seat : goal.returns-then-not-has_room-clause-seat
 returns-then-not-has_room-clause-seat c =
     let l = (goal.at.returns-then-not-has_room-clause-seat c).After-load-word in
-    keeps_seat (a l).seat.me c.load-word.new.seat.me (t l) (stayed l c.of_word-header.result c.of_word-header.ensures (λ f. true≢false (sym (c.has_room.ensures.1 (let n = c.len.ensures in omega arith)) ∙ c.if-not-has_room.true))) refl refl
+    keeps_seat (a l).seat.me c.load-word.new.seat.me (t l) (stayed l c.of_word-header.result c.of_word-header.ensures (λ f. true≢false (sym (c.has_room.ensures.1 (let n = c.len.ensures in omega arith)) ∙ c.if-not-has_room.true))) refl refl refl
+
+pub returns-then-not-has_room-clause-room : goal.returns-then-not-has_room-clause-room
+returns-then-not-has_room-clause-room c _ =
+    let l = (goal.at.returns-then-not-has_room-clause-room c).After-load-word in
+    let full = no_room (t l) (a l).space (length (told l).0.fields) (mem (a l)) (λ f. true≢false (sym (c.has_room.ensures.1 (let n = ap (λ (x : Header). x.len) (same_header l c.of_word-header.result c.of_word-header.ensures) in let m = c.len.ensures in omega arith)) ∙ c.if-not-has_room.true)) in
+    let is = theirs_is (a l).seat.me c.load-word.new.seat.me (t l) (stayed l c.of_word-header.result c.of_word-header.ensures (λ f. true≢false (sym (c.has_room.ensures.1 (let n = c.len.ensures in omega arith)) ∙ c.if-not-has_room.true))) in
+    let smaller : (t l).size < (t l).old = lt_of_not-le (λ large. true≢false (sym full ∙ (told l).3 large)) in
+    let e = ap (λ (y : Theirs). y.size) is in let f = ap (λ (y : Theirs). y.old) is in omega arith
 
 pub index_mut-requires : goal.index_mut-requires
 index_mut-requires c = let l = low c.args.self.now c.requires.wanted in let n = c.args.self.now.claimed.long in omega arith
@@ -150,4 +159,4 @@ invariant_of-self-2 c =
 pub returns-clause-seat : goal.returns-clause-seat
 returns-clause-seat c =
     let l = (goal.at.returns-clause-seat c).After-load-word in
-    keeps_seat (a l).seat.me c.load-word.new.seat.me (placed_one (a l).wanted (told l).0 (t l)) (placed l c.of_word-header.result c.of_word-header.ensures (let f = c.has_room.ensures.0 c.if-not-has_room.false in let n = c.len.ensures in omega arith)) refl refl
+    keeps_seat (a l).seat.me c.load-word.new.seat.me (placed_one (a l).wanted (told l).0 (t l)) (placed l c.of_word-header.result c.of_word-header.ensures (let f = c.has_room.ensures.0 c.if-not-has_room.false in let n = c.len.ensures in omega arith)) refl refl refl

@@ -69,7 +69,7 @@ returns-then-is_scanned-clause-seat c =
     let a = c.args.self.now in
     let s = at_scan a c.requires in
     keeps_seat a.seat.me c.load.new.seat.me (passed s.replica a.seat.me.0.theirs)
-    (c.load.ensures.2.0 s.replica s.there (s.place_is ∙ sym a.scans.0) (scan_over a c.requires c.header-header.result c.header-header.ensures (c.is_scanned.ensures.done c.if-is_scanned.true))) refl refl
+    (c.load.ensures.2.0 s.replica s.there (s.place_is ∙ sym a.scans.0) (scan_over a c.requires c.header-header.result c.header-header.ensures (c.is_scanned.ensures.done c.if-is_scanned.true))) refl refl refl
 
 -- ---- a field
 
@@ -208,10 +208,10 @@ invariant_of-self-in-Err c =
 pub returns-in-Ok-clause-seat : goal.returns-in-Ok-clause-seat
 returns-in-Ok-clause-seat c =
     let l = (goal.at.returns-in-Ok-clause-seat c).After-load-word in
-    keeps_seat (a l).seat.me c.load-word.new.seat.me (scanned (q l).original (t l).scan_field (v l) (t l)) (follows l (none_lacks l c.as_slice.result.now c.as_slice.ensures.value c.in-Ok.ensures.placed).0) refl refl
+    keeps_seat (a l).seat.me c.load-word.new.seat.me (scanned (q l).original (t l).scan_field (v l) (t l)) (follows l (none_lacks l c.as_slice.result.now c.as_slice.ensures.value c.in-Ok.ensures.placed).0) refl refl refl
 
 pub returns-in-Err-clause-seat : goal.returns-in-Err-clause-seat
 returns-in-Err-clause-seat c =
     let l = (goal.at.returns-in-Err-clause-seat c).After-load-word in
     let x : ℕ = c.in-Err.target.0 in
-    keeps_seat (a l).seat.me c.load-word.new.seat.me (wants x (t l)) (wanting l x (one_lacks l c.as_slice.result.now x c.as_slice.ensures.value c.in-Err.ensures.wanted.0 c.in-Err.ensures.wanted.1)) refl refl
+    keeps_seat (a l).seat.me c.load-word.new.seat.me (wants x (t l)) (wanting l x (one_lacks l c.as_slice.result.now x c.as_slice.ensures.value c.in-Err.ensures.wanted.0 c.in-Err.ensures.wanted.1)) refl refl refl
