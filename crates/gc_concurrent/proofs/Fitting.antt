@@ -32,6 +32,12 @@ ends_stay at name i v (r ∷ rest) = grind (arith, common_steps, with_written_le
 pub end_brought : (t : Theirs) (name i : ℕ) (v : Value) → new_end (its (brought name i v t)) ≡ new_end (its t)
 end_brought t name i v = ends_stay 1 name i _ t.replicas
 
+pub end_after : (t : Theirs) (name : ℕ) (o : Object) → new_end (its (placed_one name o t)) ≡ new_end (its t) + object_words (length o.fields)
+end_after t name o =
+    ap (objects_end 1) (map-append placed t.replicas (blank_replica name (new_end (its t)) o ∷ []))
+    ∙ (end_push 1 (map placed t.replicas) (placed (blank_replica name (new_end (its t)) o))
+    ∙ ap (λ n. new_end (its t) + (n + 2)) (length-replicate (length o.fields) (first_value o.raw)))
+
 -- ---- the next replica
 
 -- the same objects in a space without a free word, and a root that refers to one of them
@@ -82,10 +88,4 @@ module _ (m : Mine) (t : Theirs) (name : ℕ) (o : Object) (is : IsSpace m.space
   next_fits = ⊎_elim (λ e. absurd (lacks_none e)) (λ e. let l : object_words (length o.fields) ≤ new_free c = ltb-false (new_free c) (object_words (length o.fields)) e in omega arith) (cases_Bool (nat_lt (new_free c) (object_words (length o.fields))))
 
   pub end_placed : new_end (its (placed_one name o t)) ≤ end_of m.space
-  end_placed = let n = next_fits in let e = end_push_is in omega arith
-    where
-      end_push_is : new_end (its (placed_one name o t)) ≡ new_end (its t) + object_words (length o.fields)
-      end_push_is =
-          ap (objects_end 1) (map-append placed t.replicas (blank_replica name (new_end (its t)) o ∷ []))
-          ∙ (end_push 1 (map placed t.replicas) (placed (blank_replica name (new_end (its t)) o))
-          ∙ ap (λ n. new_end (its t) + (n + 2)) (length-replicate (length o.fields) (first_value o.raw)))
+  end_placed = let n = next_fits in let e = end_after t name o in omega arith

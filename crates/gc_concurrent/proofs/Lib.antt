@@ -14,6 +14,7 @@ pub mod Opening
 pub mod CatchUp
 pub mod Memory
 pub mod InHand
+pub mod Nearing
 pub mod Turn
 pub mod Handshaking
 pub mod Passing

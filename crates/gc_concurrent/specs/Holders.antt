@@ -8,6 +8,8 @@ use Rattle.gc_concurrent.specs.declared.copier.Copier.{Copier}
 use Rattle.gc_concurrent.specs.declared.held.Held.{Held}
 use Rattle.gc_concurrent.specs.Ends.{Theirs, its}
 use Rattle.gc_concurrent.specs.Heaps.{heap_of}
+use Rattle.gc_concurrent.specs.Nearing.{ComesNearer}
+use Rattle.gc_words.specs.Space.{end_of}
 
 -- the heap of a mutator that runs
 abbrev pub heap_in : Commander → HeapWords
@@ -28,6 +30,10 @@ known_to c = c.seat.me.0.theirs
 -- the heap of the mutator that a collector holds
 abbrev pub heap_held : Held → HeapWords
 heap_held h = heap_of h.copier.seat.me.0.mine h.roots.items
+
+-- Fewer steps are ahead of a collector that holds the mutator.
+abbrev pub IsNearer : Held → Held → Type 0
+IsNearer old new = ComesNearer (end_of (heap_held old).space) (known_to old.copier) (known_to new.copier)
 
 -- Nothing is due, every replica is scanned, and each root's target has a replica.
 abbrev pub may_flip : Held → Bool

@@ -5,5 +5,6 @@ pub mod Holders
 pub mod Waiters
 pub mod Machines
 pub mod Works
+pub mod Nearing
 pub mod Law
 pub mod Internal

@@ -5,9 +5,9 @@ use Rattle.gc_concurrent.specs.declared.copier.Work.{Work}
 use Rattle.gc_concurrent.specs.declared.copier.Work.TheVariants.{Step, Done, NoRoom}
 use Rattle.gc_concurrent.specs.Ends.{Theirs, its}
 
--- where the step says so, nothing is due, and every replica is scanned
+-- where the step says so, nothing is due, every replica is scanned, and no object is wanted
 abbrev pub WhereDone : Work → Theirs → Type 0
-WhereDone Done t = (t.due ≡ []) × (scan_done (its t) ≡ true)
+WhereDone Done t = (t.due ≡ []) × (scan_done (its t) ≡ true) × (t.wanted ≡ [])
 WhereDone Step t = Unit {0}
 WhereDone NoRoom t = Unit {0}
 

@@ -6,14 +6,16 @@ ghost use Rattle.gc_words.specs.Word.{is_value, value_of};
 ghost use Rattle.gc_words.specs.Space.{IsSpace, end_of};
 ghost use Rattle.gc_words.specs.Closed.{IsRootWord};
 ghost use Rattle.gc_heap.specs.Heap.{IsHeap};
+ghost use Rattle.gc_plan.specs.State.{Replica};
 ghost use Rattle.gc_plan.specs.Steps.{is_empty, scan_done};
+ghost use Rattle.gc_plan.specs.Members.{In};
 ghost use Rattle.gc_copy.specs.Words.{replicas_in};
 ghost use Rattle.gc_concurrent.specs.Heaps.{heap_of};
 ghost use Rattle.gc_concurrent.specs.Internal.Flip.{HasNothingLeft, Flips};
 ghost use Rattle.gc_concurrent.specs.Ends.{its};
 ghost use Rattle.gc_concurrent.specs.Unreachable.{MayBeCopied};
-ghost use Rattle.gc_concurrent.specs.Internal.Rule.{entries_of_fields, read_as, Loose};
-ghost use Rattle.gc_concurrent.specs.Internal.Copiers.{Claims, KeepsSeat, moved_by};
+ghost use Rattle.gc_concurrent.specs.Internal.Rule.{entries_of_fields, read_as, wants, Loose};
+ghost use Rattle.gc_concurrent.specs.Internal.Copiers.{Claims, KeepsSeat, Nears, moved_by};
 ghost use Rattle.gc_concurrent.specs.Works.{WhereDone, WhereNoRoom};
 ghost use Rattle.gc_concurrent.specs.Internal.Props.{replicas_prop, claims_prop, space_prop};
 
@@ -59,7 +61,9 @@ pub struct Copier {
     ghost same: { seat.me.0.theirs.replicas ≡ replicas_in space.words } by { replicas_prop _ _ },
     ghost scans: { (seat.me.0.theirs.scan_place ≡ scan_place) × (seat.me.0.theirs.scan_field ≡ scan_field) },
     ghost dues: { (seat.me.0.theirs.due ≡ entries_of_fields fill fill_next fill_left ++ drop next due.items) × (next ≤ length due.items) × (fill_next + fill_left < 2 ^ 16) },
-    ghost wants: { has_wanted ≡ true → seat.me.0.theirs.wanted ≡ wanted ∷ [] },
+    ghost wants: { seat.me.0.theirs.wanted ≡ (if has_wanted then wanted ∷ [] else []) },
+    ghost aimed: { has_wanted ≡ true → (fill_left ≡ 0) × (slice_index claims.items wanted ≡ 0) },
+    ghost fills: { (q : Replica) → In q seat.me.0.theirs.replicas → q.original ≡ fill → fill_left ≢ 0 → q.object.raw ≡ true },
     ghost claimed: { Claims claims.items seat.me.0.theirs } by { claims_prop _ _ },
     ghost loose: { ∥ Loose seat.me.0.theirs ∥₁ },
 }
@@ -120,6 +124,8 @@ fn oldest_of(
     requires low { next ≤ length due.now }
     ensures none { IfNone result (entries_of_fields fill fill_next fill_left ++ drop next due.now ≡ []) }
     ensures some { IfSome result (λ o. entries_of_fields fill fill_next fill_left ++ drop next due.now ≡ (o.name, o.field) ∷ (entries_of_fields fill o.fill_next o.fill_left ++ drop o.next due.now)) }
+    ensures filled { IfNone result (fill_left ≡ 0) }
+    ensures fills { IfSome result (λ o. (o.fill_left ≤ fill_left) × (fill_left ≢ 0 → o.name ≡ fill)) }
     ensures bounds { IfSome result (λ o. (o.next ≤ length due.now) × (o.fill_next + o.fill_left < 2 ^ 16)) }
 {
     if fill_left > 0 {
@@ -162,7 +168,10 @@ fn is_scanned(header: Header, field: u16) -> bool
 impl Copier {
     /// Scans the field at the scan pointer, or goes on behind the replica there.
     fn scan_one(&mut self)
-        requires { self.old.scan_place < end_of self.old.space }
+        requires low { self.old.scan_place < end_of self.old.space }
+        requires clear { self.old.has_wanted ≡ false }
+        requires filled { self.old.fill_left ≡ 0 }
+        ensures nears { Nears self.old.seat.me self.new.seat.me }
         ensures seat { KeepsSeat self.old.seat.me self.new.seat.me }
         ensures row { (self.new.seat.table_id ≡ self.old.seat.table_id) × (self.new.size ≡ self.old.size) }
     {
@@ -193,6 +202,9 @@ impl Copier {
 
     /// Brings the field of the oldest entry up to date, or leaves the entry out, if its object has no replica. False if nothing is due.
     fn apply_one(&mut self) -> bool
+        requires clear { self.old.has_wanted ≡ false }
+        ensures nears { IsTrue result → Nears self.old.seat.me self.new.seat.me }
+        ensures still { result ≡ false → (self.new.has_wanted ≡ false) × (self.new.fill_left ≡ 0) × (self.new.seat.me ≡ self.old.seat.me) }
         ensures seat { KeepsSeat self.old.seat.me self.new.seat.me }
         ensures row { (self.new.seat.table_id ≡ self.old.seat.table_id) × (self.new.size ≡ self.old.size) }
         ensures none { result ≡ false → self.new.seat.me.0.theirs.due ≡ [] }
@@ -239,16 +251,12 @@ impl Copier {
     /// Gives the object that is wanted a replica. False if there is no room.
     fn place_wanted(&mut self) -> bool
         requires wanted { self.old.has_wanted ≡ true }
-        requires filled { self.old.fill_left ≡ 0 }
+        ensures nears { IsTrue result → Nears self.old.seat.me self.new.seat.me }
         ensures seat { KeepsSeat self.old.seat.me self.new.seat.me }
         ensures room { IsFalse result → self.new.seat.me.0.theirs.size < self.new.seat.me.0.theirs.old }
         ensures row { (self.new.seat.table_id ≡ self.old.seat.table_id) × (self.new.size ≡ self.old.size) }
     {
         let name = self.wanted;
-        if self.claims[name as usize] != 0 {
-            self.has_wanted = false;
-            return true;
-        }
         let cells = &*self.cells;
         let word = cells.shared.load::<Placed>(&mut self.seat, name as usize);
         let header = Header::of_word(word);
@@ -265,14 +273,15 @@ impl Copier {
         true
     }
 
-    /// Performs one step: fills a raw replica, places a replica that is wanted, applies an entry, or scans a field.
+    /// Performs one step: places a replica that is wanted, fills a raw one, applies an entry, or scans a field.
     pub(crate) fn work(&mut self) -> Work
         ensures seat { KeepsSeat self.old.seat.me self.new.seat.me }
         ensures row { (self.new.seat.table_id ≡ self.old.seat.table_id) × (self.new.size ≡ self.old.size) }
         ensures done { WhereDone result (self.new.seat.me.0.theirs) }
         ensures room { WhereNoRoom result (self.new.seat.me.0.theirs) }
+        ensures nears { result ≡ Work.Step → Nears self.old.seat.me self.new.seat.me }
     {
-        if self.fill_left == 0 && self.has_wanted {
+        if self.has_wanted {
             return if self.place_wanted() {
                 Work::Step
             } else {
@@ -291,6 +300,7 @@ impl Copier {
 
     /// Returns whether nothing is due and every replica is scanned.
     pub(crate) fn is_idle(&self) -> bool
+        ensures filled { IsTrue result → self.now.fill_left ≡ 0 }
         ensures idle { IsTrue result → (self.now.seat.me.0.theirs.due ≡ []) × (scan_done (its self.now.seat.me.0.theirs) ≡ true) }
         ensures busy { IsFalse result → is_empty self.now.seat.me.0.theirs.due && scan_done (its self.now.seat.me.0.theirs) ≡ false }
     {
@@ -308,7 +318,10 @@ impl Copier {
         requires both { self.old.seat.me.0.writes ≡ true }
         requires low { at.0 < self.old.size }
         requires kept { MayBeCopied self.old.seat.me.0.theirs.base at.0 }
+        requires clear { slice_index self.old.claims.items at.0 ≡ 0 }
+        requires filled { self.old.fill_left ≡ 0 }
         requires root { (w : ℕ) × IsRootWord self.old.seat.me.0.mine.space.words w × (value_of w ≡ Ref at.0) }
+        ensures wants { self.new.seat.me.0.theirs ≡ wants at.0 self.old.seat.me.0.theirs }
         ensures seat { KeepsSeat self.old.seat.me self.new.seat.me }
         ensures row { (self.new.seat.table_id ≡ self.old.seat.table_id) × (self.new.size ≡ self.old.size) }
     {

@@ -298,12 +298,13 @@ pub struct Unflipped {
 impl Holding {
     ghost use Rattle.std.specs.Prelude.{IfErr, OnOk};
     ghost use Rattle.gc_concurrent.specs.Works.{KeepsBeginning, WhereDone, WhereNoRoom};
-    ghost use Rattle.gc_concurrent.specs.Holders.{heap_held, may_flip};
+    ghost use Rattle.gc_concurrent.specs.Holders.{heap_held, may_flip, IsNearer};
 
     /// Performs one step, while the mutator waits.
     pub fn work(&mut self) -> Work
         ensures done { WhereDone result (known_to self.new.held.copier) }
         ensures room { WhereNoRoom result (known_to self.new.held.copier) }
+        ensures nearer { result ≡ Work.Step → IsNearer self.old.held self.new.held }
         ensures begun { KeepsBeginning (known_to self.old.held.copier) (known_to self.new.held.copier) }
         ensures heap { heap_held self.new.held ≡ heap_held self.old.held }
     {
@@ -338,6 +339,7 @@ impl Holding {
         ensures graph { IfOk result (λ collector. graph_in (known_to collector.copier).base ≡ new_graph (its (known_to self.held.copier)) (map value_of self.held.roots.items)) }
         ensures carried { OnOk result (CopiesNothingUnreachable (known_to self.held.copier)) }
         ensures heap { IfErr result (λ refused. heap_held refused.holding.held ≡ heap_held self.held) }
+        ensures nearer { IfErr result (λ refused. refused.why ≡ NoFlip.NotReady → WhereDone Work.Done (known_to self.held.copier) → IsNearer self.held refused.holding.held) }
         ensures not_ready { IfErr result (λ refused. refused.why ≡ NoFlip.NotReady → may_flip self.held ≡ false) }
         ensures begun { IfErr result (λ refused. KeepsBeginning (known_to self.held.copier) (known_to refused.holding.held.copier)) }
     {

@@ -154,13 +154,14 @@ pub enum NoFlip {
 impl Held {
     ghost use Rattle.std.specs.Prelude.{OnOk};
     ghost use Rattle.gc_concurrent.specs.Works.{KeepsBeginning, WhereDone, WhereNoRoom};
-    ghost use Rattle.gc_concurrent.specs.Holders.{heap_in, heap_held, known_to, may_flip};
+    ghost use Rattle.gc_concurrent.specs.Holders.{heap_in, heap_held, known_to, may_flip, IsNearer};
 
     /// Performs one step of the collector, while the mutator waits.
     pub(crate) fn work(&mut self) -> Work
         ensures heap { heap_held self.new ≡ heap_held self.old }
         ensures done { WhereDone result (known_to self.new.copier) }
         ensures room { WhereNoRoom result (known_to self.new.copier) }
+        ensures nearer { result ≡ Work.Step → IsNearer self.old self.new }
         ensures begun { KeepsBeginning (known_to self.old.copier) (known_to self.new.copier) }
         ensures row { self.new.copier.seat.table_id ≡ self.old.copier.seat.table_id }
     {
@@ -238,6 +239,7 @@ impl Held {
         ensures ready { OnOk result (may_flip self ≡ true) }
         ensures row { IfOk result (λ r. r.0.mutator.seat.table_id ≡ r.1.seat.table_id) }
         ensures heap { IfErr result (λ r. heap_held r.0 ≡ heap_held self) }
+        ensures nearer { IfErr result (λ r. r.1 ≡ NoFlip.NotReady → WhereDone Work.Done (known_to self.copier) → IsNearer self r.0) }
         ensures not_ready { IfErr result (λ r. r.1 ≡ NoFlip.NotReady → may_flip self ≡ false) }
         ensures same { IfErr result (λ r. r.0.copier.seat.table_id ≡ self.copier.seat.table_id) }
         ensures begun { IfErr result (λ r. KeepsBeginning (known_to self.copier) (known_to r.0.copier)) }

@@ -1,5 +1,5 @@
 -- The collector's memory.
-use Rattle.std.specs.Prelude.{◌≡◌, ℕ, ◌<◌, List, length, slice_index}
+use Rattle.std.specs.Prelude.{◌≡◌, ℕ, ◌<◌, true, List, length, slice_index}
 use Rattle.gc_graph.specs.Graph.{Value, Nil, Num, Ref}
 use Rattle.gc_plan.specs.Linked.{old_links}
 use Rattle.gc_words.specs.Word.{value_of}
@@ -7,6 +7,8 @@ use Rattle.gc_concurrent.specs.declared.held.Missing.{Missing}
 use Rattle.gc_concurrent.specs.declared.held.Missing.TheVariants.{NoMemory, Target}
 use Rattle.gc_concurrent.specs.Ends.{Theirs, its}
 use Rattle.gc_concurrent.specs.Works.{KeepsBeginning}
+use Rattle.gc_concurrent.specs.Nearing.{ComesNearer}
+use Rattle.gc_words.specs.Space.{end_of}
 use Rattle.gc_concurrent.specs.Internal.Rule.{Sat}
 
 -- The row has the place of each object's replica, or 0
@@ -26,6 +28,10 @@ pub record KeepsSeat (a b : Sat) : Type 0 where
   pub mine : b.0.mine ≡ a.0.mine
   pub begun : KeepsBeginning a.0.theirs b.0.theirs
   pub holds : b.1 ≡ a.1
+
+-- Fewer steps are ahead of a seat that is both ends.
+abbrev pub Nears : Sat → Sat → Type 0
+Nears a b = a.0.writes ≡ true → ComesNearer (end_of a.0.mine.space) a.0.theirs b.0.theirs
 
 -- the target is that of one of these root words, and has no replica
 abbrev pub IsTargetIn : Missing → List ℕ → List ℕ → Type 0

@@ -1,6 +1,7 @@
 -- An entry is left out, or its field is read and written.
-use Rattle.std.proofs.Common.{rules, ◌≡◌, ◌≢◌, ◌⊎◌, ℕ, suc, ◌+◌, ◌<◌, ◌≤◌, Bool, true, false, List, [], ◌∷◌, ◌++◌, drop, length, slice_index, Some, None, is_some, refl, ap, sym, ◌∙◌, subst, inl, inr, ⊎_elim, arith}
-use Rattle.std.specs.Prelude.{IsSome}
+use Rattle.std.proofs.Common.{rules, ◌≡◌, ◌≢◌, ◌⊎◌, ℕ, zero, suc, ◌+◌, ◌<◌, ◌≤◌, ◌==◌, Bool, true, false, true≢false, List, [], ◌∷◌, ◌++◌, drop, length, map, slice_index, Some, None, is_some, refl, ap, sym, ◌∙◌, subst, inl, inr, ⊎_elim, arith}
+use Rattle.std.specs.Prelude.{IsSome, if◌then◌else◌}
+use Rattle.std.proofs.lemmas.Bool.{cond_both}
 use Rattle.atomic_table.specs.Seated.{TableId}
 use Rattle.gc_graph.specs.Graph.{Value, Ref}
 use Rattle.gc_words.specs.Word.{is_value}
@@ -10,6 +11,9 @@ use Rattle.gc_words.specs.Space.{SpaceWords, with_field_at}
 use Rattle.gc_words.specs.declared.header.Header.{Header}
 use Rattle.gc_words.proofs.Public.{field_within}
 use Rattle.gc_plan.specs.State.{Replica, replica_of, moved}
+use Rattle.gc_plan.specs.Steps.{with_written}
+use Rattle.gc_plan.specs.Members.{In}
+use Rattle.gc_plan.proofs.Public.{in_map_from, with_written_pair}
 use Rattle.gc_copy.specs.Words.{replicas_in}
 use Rattle.gc_concurrent.specs.declared.copier.Copier.{Copier}
 use Rattle.gc_concurrent.specs.Ends.{Theirs}
@@ -21,6 +25,7 @@ use Rattle.gc_concurrent.proofs.Copying.{applies_at}
 use Rattle.gc_concurrent.proofs.Placing.{leaves}
 use Rattle.gc_concurrent.proofs.Memory.{Stands, near, at_place, entry_low, entry_field, unclaimed, target_bound, lacks_not, lacks_so, moves_so, claims_kept, claims_as, claim_low, written_same}
 use Rattle.gc_concurrent.proofs.InHand.{mem, claim_stands, header_there, keeps_seat, theirs_is, copies_is}
+use Rattle.gc_concurrent.proofs.Nearing.{nears_by, left_nears, applied_nears, wants_nears}
 use Rattle.gc_concurrent.proofs.copier.Copier.apply_one.Goals as goal
 use Rattle.gc_concurrent.proofs.copier.Copier.apply_one.Goals.{After-load-word}
 
@@ -81,7 +86,9 @@ invariant_of-self-then-place-eq0 c =
         (let n = ap (length {A = ℕ × ℕ}) c.as_slice.ensures.value in let b = c.in-Some.ensures.bounds in omega arith),
         c.in-Some.ensures.bounds.1,
       );
-      wants = λ w. ap (λ (x : Theirs). x.wanted) is ∙ a.wants w;
+      wants = ap (λ (x : Theirs). x.wanted) is ∙ a.wants;
+      aimed = λ w. absurd (true≢false (sym w ∙ c.requires.clear));
+      fills = λ q k e n. a.fills q (subst (In q) (ap (λ (x : Theirs). x.replicas) is) k) e (λ z. n (let f = c.in-Some.ensures.fills.0 in omega arith));
       claimed = subst (Claims a.claims.items) (sym is) (claims_as a.claims.items t u refl refl a.claimed);
       loose = c.load.ensures.2.1 copies;
     }
@@ -202,9 +209,30 @@ none_lacks c row b e raw ne =
     )
 
 one_lacks : (c : After-load-word) (row : List ℕ) (b : Bool) (x : ℕ) → row ≡ (a c).claims.items → b ≡ c.header-header.result.raw → read_as b c.load-word.result ≡ Ref x → slice_index row x ≡ 0 → lacks (its (t c)) (v c) ≡ Some x
-one_lacks c row b x e raw is zero =
+one_lacks c row b x e raw is none =
     let to : v c ≡ Ref x = ap (λ b. read_as b c.load-word.result) (raw_is c b raw) ∙ is in
-    lacks_so (a c).claims.items (t c) (v c) x (a c).loose (a c).claimed (let b = bound c x to in omega arith) to (ap (λ (r : List ℕ). slice_index r x) (sym e) ∙ zero)
+    lacks_so (a c).claims.items (t c) (v c) x (a c).loose (a c).claimed (let b = bound c x to in omega arith) to (ap (λ (r : List ℕ). slice_index r x) (sym e) ∙ none)
+
+still_raw : (name i : ℕ) (w : Value) (r : Replica) → (with_written name i w r).object.raw ≡ r.object.raw
+still_raw name i w r = cond_both (r.original == name) _ _ (λ (q : Replica). q.object.raw ≡ r.object.raw) (λ _. refl) (λ _. refl)
+
+-- a field that follows leaves raw replicas raw
+fills_on : (a : Copier) (name i : ℕ) (w : Value) (p : Replica) → In p (map (with_written name i w) a.seat.me.0.theirs.replicas) → p.original ≡ a.fill → a.fill_left ≢ 0 → p.object.raw ≡ true
+fills_on a name i w p k e n =
+    let o = in_map_from (with_written name i w) p a.seat.me.0.theirs.replicas k in
+    sym (ap (λ (x : Replica). x.object.raw) o.2) ∙ (still_raw name i w o.0 ∙ a.fills o.0 o.1 (sym (ap (λ (z : ℕ × ℕ). z.0) (with_written_pair name i w o.0)) ∙ (ap (λ (x : Replica). x.original) o.2 ∙ e)) n)
+
+-- a raw object has no field that refers, so an entry whose target is wanted is none of those to fill
+only_values : (a : Copier) (name : ℕ) → (a.fill_left ≢ 0 → name ≡ a.fill) → (q : Replica) → In q a.seat.me.0.theirs.replicas → q.original ≡ name → (b : Bool) → q.object.raw ≡ b → (w x : ℕ) → read_as b w ≡ Ref x → a.fill_left ≡ 0
+only_values a name first q k e b raw w x is = go a.fill_left refl
+  where
+    refers : (b : Bool) → b ≡ true → read_as b w ≡ Ref x → ⊥
+    refers true t r = cc r
+    refers false t r = true≢false (sym t)
+
+    go : (n : ℕ) → a.fill_left ≡ n → a.fill_left ≡ 0
+    go zero z = z
+    go (suc n) z = absurd (refers b (sym raw ∙ a.fills q k (e ∙ first (λ y. absurd (omega arith))) (λ y. absurd (omega arith))) is)
 
 pub invariant_of-self-in-Ok : goal.invariant_of-self-in-Ok
 invariant_of-self-in-Ok c =
@@ -232,7 +260,9 @@ invariant_of-self-in-Ok c =
         (let n = ap (length {A = ℕ × ℕ}) c.as_slice.ensures.value in let b = c.in-Some.ensures.bounds in omega arith),
         c.in-Some.ensures.bounds.1,
       );
-      wants = λ w. ap (λ (x : Theirs). x.wanted) is ∙ (a l).wants w;
+      wants = ap (λ (x : Theirs). x.wanted) is ∙ (a l).wants;
+      aimed = λ w. absurd (true≢false (sym w ∙ c.requires.clear));
+      fills = λ p k e n. fills_on (a l) (q l).original (i l) (moved (its (t l)) (v l)) p (subst (In p) (ap (λ (x : Theirs). x.replicas) is) k) e (λ z. n (let f = c.in-Some.ensures.fills.0 in omega arith));
       claimed = subst (Claims (a l).claims.items) (sym is) (claims_as (a l).claims.items (brought (q l).original (i l) (v l) (t l)) u refl refl (claims_kept (a l).claims.items (t l) (q l).original (i l) (v l) (a l).claimed));
       loose = loose l;
     }
@@ -253,7 +283,12 @@ invariant_of-self-in-Err c =
       same = ap (λ (y : Theirs). y.replicas) is ∙ (a l).same;
       scans = (ap (λ (y : Theirs). y.scan_place) is ∙ (a l).scans.0, ap (λ (y : Theirs). y.scan_field) is ∙ (a l).scans.1);
       dues = (ap (λ (y : Theirs). y.due) is ∙ (a l).dues.0, (a l).dues.1, (a l).dues.2);
-      wants = λ _. ap (λ (y : Theirs). y.wanted) is;
+      wants = ap (λ (y : Theirs). y.wanted) is;
+      aimed = λ _. (
+        only_values (a l) c.in-Some.oldest.name c.in-Some.ensures.fills.1 (q l) (r l).0.there (r l).1 c.is_raw.result (raw_is l c.is_raw.result c.is_raw.ensures) c.load-word.result x c.in-Err.ensures.wanted.0,
+        ap (λ (z : List ℕ). slice_index z x) (sym c.as_slice-2.ensures.value) ∙ c.in-Err.ensures.wanted.1,
+      );
+      fills = λ p k e n. (a l).fills p (subst (In p) (ap (λ (y : Theirs). y.replicas) is) k) e n;
       claimed = subst (Claims (a l).claims.items) (sym is) (claims_as (a l).claims.items (t l) u refl refl (a l).claimed);
       loose = loose l;
     }
@@ -268,3 +303,24 @@ returns-in-Err-clause-seat c =
     let l = (goal.at.returns-in-Err-clause-seat c).After-load-word in
     let x : ℕ = c.in-Err.target.0 in
     keeps_seat (a l).seat.me c.load-word.new.seat.me (wants x (t l)) (wanting l x (one_lacks l c.as_slice-2.result.now c.is_raw.result x c.as_slice-2.ensures.value c.is_raw.ensures c.in-Err.ensures.wanted.0 c.in-Err.ensures.wanted.1)) refl refl refl
+
+pub returns-then-place-eq0-clause-nears : goal.returns-then-place-eq0-clause-nears
+returns-then-place-eq0-clause-nears c _ =
+    let a = c.args.self.now in
+    let t = a.seat.me.0.theirs in
+    let d = due_is a c.as_slice.result.now c.in-Some.oldest.name c.in-Some.oldest.field _ c.as_slice.ensures.value c.in-Some.ensures.some in
+    let missing = left_out a c.as_slice.result.now c.in-Some.oldest.name c.in-Some.oldest.field c.index-place.result.now _ c.as_slice.ensures.value c.in-Some.ensures.some c.index-place.ensures c.if-place-eq0.true in
+    nears_by a.seat.me c.load.new.seat.me (entry_dropped t) (c.load.ensures.2.0 (c.in-Some.oldest.name, c.in-Some.oldest.field) _ d missing) (left_nears _ t _ _ d)
+
+pub returns-in-Ok-clause-nears : goal.returns-in-Ok-clause-nears
+returns-in-Ok-clause-nears c _ =
+    let l = (goal.at.returns-in-Ok-clause-nears c).After-load-word in
+    nears_by (a l).seat.me c.load-word.new.seat.me (applied (q l).original (i l) (v l) (t l)) (follows l (none_lacks l c.as_slice-2.result.now c.is_raw.result c.as_slice-2.ensures.value c.is_raw.ensures c.in-Ok.ensures.placed).0)
+    (applied_nears _ (t l) (q l).original (i l) (v l) _ _ (r l).2)
+
+pub returns-in-Err-clause-nears : goal.returns-in-Err-clause-nears
+returns-in-Err-clause-nears c _ =
+    let l = (goal.at.returns-in-Err-clause-nears c).After-load-word in
+    let x : ℕ = c.in-Err.target.0 in
+    nears_by (a l).seat.me c.load-word.new.seat.me (wants x (t l)) (wanting l x (one_lacks l c.as_slice-2.result.now c.is_raw.result x c.as_slice-2.ensures.value c.is_raw.ensures c.in-Err.ensures.wanted.0 c.in-Err.ensures.wanted.1))
+    (wants_nears _ x (t l) ((a l).wants ∙ ap (λ b. if b then (a l).wanted ∷ [] else []) c.requires.clear))

@@ -1,5 +1,7 @@
 -- Any load tells it.
-use Rattle.std.proofs.Common.{arith}
+use Rattle.std.proofs.Common.{ap, subst, arith}
+use Rattle.gc_plan.specs.Members.{In}
+use Rattle.gc_concurrent.specs.Internal.Rule.{Sat}
 use Rattle.gc_concurrent.proofs.TiedCells.{tied, tied_words}
 use Rattle.gc_concurrent.proofs.Flip.{flips_rule}
 use Rattle.gc_concurrent.proofs.copier.Copier.look.Goals as goal
@@ -11,3 +13,6 @@ load-requires c =
       (let w = tied_words _ _ _ _ c.deref-cells.ensures a.row.0 a.row.1 in let l = c.requires.low in omega arith),
       flips_rule _ _ _ _ _ c.requires.both a.copies,
     )
+
+pub invariant_of-self-clause-fills : goal.invariant_of-self-clause-fills
+invariant_of-self-clause-fills c q k e n = c.args.self.now.fills q (subst (In q) (ap (λ (m : Sat). m.0.theirs.replicas) c.load.ensures.2.0) k) e n

@@ -1,5 +1,5 @@
 -- The header is read, and the replica lies at the end.
-use Rattle.std.proofs.Common.{rules, ◌≡◌, ◌≢◌, ℕ, ◌+◌, ◌<◌, ◌≤◌, Bool, true, false, true≢false, List, [], ◌∷◌, ◌++◌, drop, length, slice_index, Some, None, is_some, refl, ap, sym, ◌∙◌, subst, inl, cond, lt_of_not-le, arith}
+use Rattle.std.proofs.Common.{◌≡◌, ℕ, ◌+◌, ◌<◌, ◌≤◌, Bool, true, false, true≢false, [], ◌∷◌, ◌++◌, drop, length, Some, None, is_some, refl, ap, sym, ◌∙◌, subst, inl, ⊎_elim, map, lt_of_not-le, arith}
 use Rattle.std.specs.Prelude.{if◌then◌else◌, nat_lt, slice_set}
 use Rattle.std.proofs.lemmas.Bool.{cond-true, cond-false}
 use Rattle.atomic_table.specs.Seated.{TableId}
@@ -9,41 +9,40 @@ use Rattle.gc_words.specs.Word.{read_header}
 use Rattle.gc_words.specs.Space.{SpaceWords, CanPlace, end_of, free_in, with_object, with_link}
 use Rattle.gc_words.specs.declared.header.Header.{Header}
 use Rattle.gc_words.proofs.Public.{written_back}
-use Rattle.gc_plan.specs.State.{replica_of, new_free, new_end}
+use Rattle.gc_plan.specs.State.{Replica, replica_of, new_free, new_end}
 use Rattle.gc_plan.specs.Members.{In}
+use Rattle.gc_plan.proofs.Public.{in_map, in_push, unnamed}
 use Rattle.gc_copy.specs.Words.{replicas_in}
 use Rattle.gc_concurrent.specs.declared.copier.Copier.{Copier}
 use Rattle.gc_concurrent.specs.Ends.{Theirs}
-use Rattle.gc_concurrent.specs.Internal.Rule.{Sat, Loose, placed_one, entries_of_fields, to_fill}
+use Rattle.gc_concurrent.specs.Internal.Rule.{Sat, Loose, placed_one, blank_replica, entries_of_fields, to_fill}
 use Rattle.gc_concurrent.specs.Ends.{its}
 use Rattle.gc_concurrent.specs.Internal.Copiers.{Claims}
 use Rattle.gc_concurrent.proofs.TiedCells.{tied, tied_words}
 use Rattle.gc_concurrent.proofs.Placing.{places}
-use Rattle.gc_concurrent.proofs.Memory.{at_place, wanted_near, unclaimed, has_room, no_room, placed_same, claims_placed, end_is}
+use Rattle.gc_concurrent.proofs.Memory.{wanted_near, unclaimed, has_room, no_room, placed_same, claims_placed, end_is}
 use Rattle.gc_concurrent.proofs.InHand.{mem, keeps_seat, theirs_is}
+use Rattle.gc_concurrent.proofs.Nearing.{nears_by, placed_nears}
 use Rattle.gc_concurrent.proofs.copier.Copier.place_wanted.Goals as goal
 use Rattle.gc_concurrent.proofs.copier.Copier.place_wanted.Goals.{After-load-word}
 
 wanted_in : (a : Copier) → a.has_wanted ≡ true → In a.wanted a.seat.me.0.theirs.wanted
-wanted_in a h = subst (In a.wanted) (sym (a.wants h)) (inl refl)
+wanted_in a h = subst (In a.wanted) (sym (a.wants ∙ ap (λ b. if b then a.wanted ∷ [] else []) h)) (inl refl)
 
 low : (a : Copier) → a.has_wanted ≡ true → a.wanted + 2 ≤ a.seat.me.0.theirs.old
 low a h = wanted_near a.seat.me.0.theirs a.loose a.wanted (wanted_in a h)
 
-missing : (a : Copier) (x : ℕ) → a.has_wanted ≡ true → x ≡ Rattle.std.proofs.Common.get_or a.claims.items a.wanted x → x ≡ 0 → replica_of (its a.seat.me.0.theirs) a.wanted ≡ None
-missing a x h e z =
+missing : (a : Copier) → a.has_wanted ≡ true → replica_of (its a.seat.me.0.theirs) a.wanted ≡ None
+missing a h =
     let l = low a h in
-    unclaimed a.claims.items a.seat.me.0.theirs a.wanted a.loose a.claimed (omega arith) (at_place a.claims.items a.wanted x (let n = a.claimed.long in omega arith) e ∙ z)
-
-pub index-requires : goal.index-requires
-index-requires c = let l = low c.args.self.now c.requires.wanted in let n = c.args.self.now.claimed.long in omega arith
+    unclaimed a.claims.items a.seat.me.0.theirs a.wanted a.loose a.claimed (omega arith) (a.aimed h).1
 
 pub load-word-requires : goal.load-word-requires
 load-word-requires c =
     let a = c.args.self.now in (
       tied _ _ _ c.deref-cells.ensures a.row.0,
       (let l = low a c.requires.wanted in let o = a.sized.0 in let w = tied_words _ _ _ _ c.deref-cells.ensures a.row.0 a.row.1 in omega arith),
-      places _ _ _ _ a.wanted a.copies (wanted_in a c.requires.wanted) (missing a c.index.result.now c.requires.wanted c.index.ensures c.if-index-ne0.false),
+      places _ _ _ _ a.wanted a.copies (wanted_in a c.requires.wanted) (missing a c.requires.wanted),
     )
 
 module _ (c : After-load-word) where
@@ -54,7 +53,7 @@ module _ (c : After-load-word) where
   t = c.args.self.now.seat.me.0.theirs
 
   none : replica_of (its t) a.wanted ≡ None
-  none = missing a c.index.result.now c.requires.wanted c.index.ensures c.if-index-ne0.false
+  none = missing a c.requires.wanted
 
   told : (o : Object) × (read_header c.load-word.result ≡ Some (record { raw = o.raw; kind = o.kind; len = length o.fields }))
       × (c.load-word.new.seat.me ≡ (record a.seat.me.0 { theirs = if nat_lt (new_free (its t)) (object_words (length o.fields)) then t else placed_one a.wanted o t }, a.seat.me.1))
@@ -93,9 +92,9 @@ module _ (c : After-load-word) where
 pub of_word-header-requires : goal.of_word-header-requires
 of_word-header-requires c = let l = (goal.at.of_word-header-requires c).After-load-word in ap is_some (told l).1
 
-pub invariant_of-self-then-not-has_room : goal.invariant_of-self-then-not-has_room
-invariant_of-self-then-not-has_room c =
-    let l = (goal.at.invariant_of-self-then-not-has_room c).After-load-word in
+pub invariant_of-self : goal.invariant_of-self
+invariant_of-self c =
+    let l = (goal.at.invariant_of-self c).After-load-word in
     let went = stayed l c.of_word-header.result c.of_word-header.ensures (λ f. true≢false (sym (c.has_room.ensures.1 (let n = c.len.ensures in omega arith)) ∙ c.if-not-has_room.true)) in
     let is : c.load-word.new.seat.me.0.theirs ≡ t l = theirs_is (a l).seat.me c.load-word.new.seat.me (t l) went in
     record {
@@ -106,7 +105,9 @@ invariant_of-self-then-not-has_room c =
       same = ap (λ (y : Theirs). y.replicas) is ∙ (a l).same;
       scans = (ap (λ (y : Theirs). y.scan_place) is ∙ (a l).scans.0, ap (λ (y : Theirs). y.scan_field) is ∙ (a l).scans.1);
       dues = (ap (λ (y : Theirs). y.due) is ∙ (a l).dues.0, (a l).dues.1, (a l).dues.2);
-      wants = λ w. ap (λ (y : Theirs). y.wanted) is ∙ (a l).wants w;
+      wants = ap (λ (y : Theirs). y.wanted) is ∙ (a l).wants;
+      aimed = (a l).aimed;
+      fills = λ q k e n. absurd (n ((a l).aimed c.requires.wanted).0);
       claimed = subst (Claims (a l).claims.items) (sym is) (a l).claimed;
       loose = loose l;
     }
@@ -127,6 +128,11 @@ returns-then-not-has_room-clause-room c _ =
 pub index_mut-requires : goal.index_mut-requires
 index_mut-requires c = let l = low c.args.self.now c.requires.wanted in let n = c.args.self.now.claimed.long in omega arith
 
+-- only raw objects are filled
+fills_raw : (raw : Bool) (len : ℕ) → ((if raw then len else 0) ≡ 0 → ⊥) → raw ≡ true
+fills_raw true len n = refl
+fills_raw false len n = absurd (n refl)
+
 pub invariant_of-self-2 : goal.invariant_of-self-2
 invariant_of-self-2 c =
     let l = (goal.at.invariant_of-self-2 c).After-load-word in
@@ -140,7 +146,7 @@ invariant_of-self-2 c =
     let at : c.place-at.result.0 ≡ end_of (a l).space = c.place-at.ensures.at in
     let space : c.set_link.new.self ≡ with_link (with_object (a l).space h) (end_of (a l).space) (a l).wanted = c.set_link.ensures.words ∙ (λ i. with_link (c.place-at.ensures.words i) (c.place-at.ensures.at i) (c.from.ensures i)) in
     let place : new_end (its (t l)) ≡ c.place-at.result.0 = end_is (t l) (a l).space (mem (a l)) ∙ sym at in
-    let td : (t l).due ≡ drop (a l).next (a l).due.items = (a l).dues.0 ∙ ap (λ n. entries_of_fields (a l).fill (a l).fill_next n ++ drop (a l).next (a l).due.items) c.requires.filled in
+    let td : (t l).due ≡ drop (a l).next (a l).due.items = (a l).dues.0 ∙ ap (λ n. entries_of_fields (a l).fill (a l).fill_next n ++ drop (a l).next (a l).due.items) (c.args.self.now.aimed c.requires.wanted).0 in
     let header : h ≡ record { raw = o.raw; kind = o.kind; len = length o.fields } = same_header l h c.of_word-header.ensures in
     let tf : to_fill o ≡ c.to_fill-self.result = sym (c.to_fill-self.ensures ∙ (λ i. if (header i).raw then (header i).len else 0)) in
     record {
@@ -151,7 +157,12 @@ invariant_of-self-2 c =
       same = ap (λ (y : Theirs). y.replicas) is ∙ (placed_same (t l) (a l).space (a l).wanted h o (mem (a l)) header can ∙ ap (λ (x : SpaceWords). replicas_in x.words) (sym space));
       scans = (ap (λ (y : Theirs). y.scan_place) is ∙ (a l).scans.0, ap (λ (y : Theirs). y.scan_field) is ∙ (a l).scans.1);
       dues = (ap (λ (y : Theirs). y.due) is ∙ (λ i. entries_of_fields (a l).wanted 0 (tf i) ++ td i), (a l).dues.1, omega arith);
-      wants = λ w. absurd (true≢false (sym w));
+      wants = ap (λ (y : Theirs). y.wanted) is;
+      aimed = λ w. absurd (true≢false (sym w));
+      fills = λ q k e n. ⊎_elim
+          (λ there. absurd (unnamed (its (t l)) (a l).wanted (none l) (subst (λ x. In x (map (λ (r : Replica). r.original) (t l).replicas)) e (in_map (λ (r : Replica). r.original) q (t l).replicas there))))
+          (λ blank. sym (ap (λ (r : Replica). r.object.raw) blank) ∙ fills_raw o.raw (length o.fields) (λ z. n (sym tf ∙ z)))
+          (in_push q (blank_replica (a l).wanted (new_end (its (t l))) o) (t l).replicas (subst (In q) (ap (λ (y : Theirs). y.replicas) is) k));
       claimed = subst (λ (z : ℕ × Theirs). Claims (slice_set (a l).claims.items (a l).wanted z.0) z.1) (λ i. (place i, sym is i)) (claims_placed (a l).claims.items (t l) (a l).wanted o (a l).claimed (none l) (let w = low (a l) c.requires.wanted in omega arith));
       loose = loose l;
     }
@@ -160,3 +171,9 @@ pub returns-clause-seat : goal.returns-clause-seat
 returns-clause-seat c =
     let l = (goal.at.returns-clause-seat c).After-load-word in
     keeps_seat (a l).seat.me c.load-word.new.seat.me (placed_one (a l).wanted (told l).0 (t l)) (placed l c.of_word-header.result c.of_word-header.ensures (let f = c.has_room.ensures.0 c.if-not-has_room.false in let n = c.len.ensures in omega arith)) refl refl refl
+
+pub returns-clause-nears : goal.returns-clause-nears
+returns-clause-nears c _ =
+    let l = (goal.at.returns-clause-nears c).After-load-word in
+    let went = placed l c.of_word-header.result c.of_word-header.ensures (let f = c.has_room.ensures.0 c.if-not-has_room.false in let n = c.len.ensures in omega arith) in
+    λ writes. nears_by (a l).seat.me c.load-word.new.seat.me (placed_one (a l).wanted (told l).0 (t l)) went (placed_nears _ (t l) (a l).wanted (told l).0 ((told l).4 writes)) writes

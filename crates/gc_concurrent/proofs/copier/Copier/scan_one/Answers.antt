@@ -1,5 +1,6 @@
 -- A field is read and written, or the scan pointer goes on.
-use Rattle.std.proofs.Common.{rules, ◌≡◌, ◌≢◌, ◌⊎◌, ℕ, suc, ◌+◌, ◌<◌, ◌≤◌, Bool, true, false, List, [], ◌∷◌, ◌++◌, drop, length, slice_index, Some, None, refl, ap, sym, ◌∙◌, subst, inl, inr, ⊎_elim, arith}
+use Rattle.std.proofs.Common.{rules, ◌≡◌, ◌≢◌, ◌⊎◌, ℕ, suc, ◌+◌, ◌<◌, ◌≤◌, Bool, true, false, true≢false, List, [], ◌∷◌, ◌++◌, drop, length, slice_index, Some, None, refl, ap, sym, ◌∙◌, subst, inl, inr, ⊎_elim, arith}
+use Rattle.std.specs.Prelude.{if◌then◌else◌}
 use Rattle.atomic_table.specs.Seated.{TableId}
 use Rattle.gc_graph.specs.Graph.{Value, Ref}
 use Rattle.gc_words.specs.Word.{value_of, is_value}
@@ -18,32 +19,33 @@ use Rattle.gc_concurrent.specs.Internal.Copiers.{Claims, moved_by}
 use Rattle.gc_concurrent.proofs.TiedCells.{tied, tied_words}
 use Rattle.gc_concurrent.proofs.Copying.{scans_at}
 use Rattle.gc_concurrent.proofs.Placing.{passes}
-use Rattle.gc_concurrent.proofs.Memory.{near, old_high, target_bound, lacks_not, lacks_so, moves_so, claims_kept, claims_as, claim_low, written_same}
+use Rattle.gc_concurrent.proofs.Memory.{near, old_high, scan_low, target_bound, lacks_not, lacks_so, moves_so, claims_kept, claims_as, claim_low, written_same}
 use Rattle.gc_concurrent.proofs.InHand.{mem, at_scan, scan_left, scan_over, header_there, keeps_seat, theirs_is, copies_is}
+use Rattle.gc_concurrent.proofs.Nearing.{nears_by, scan_within, passed_nears, scanned_nears, wants_nears}
 use Rattle.gc_concurrent.proofs.copier.Copier.scan_one.Goals as goal
 use Rattle.gc_concurrent.proofs.copier.Copier.scan_one.Goals.{After-load-word}
 
 pub header-header-requires : goal.header-header-requires
-header-header-requires c = let s = at_scan c.args.self.now c.requires in ap Rattle.std.proofs.Common.is_some s.found
+header-header-requires c = let s = at_scan c.args.self.now c.requires.low in ap Rattle.std.proofs.Common.is_some s.found
 
 -- ---- behind a replica
 
 pub load-requires : goal.load-requires
 load-requires c =
     let a = c.args.self.now in
-    let s = at_scan a c.requires in (
+    let s = at_scan a c.requires.low in (
       tied _ _ _ c.deref-cells.ensures a.row.0,
       (let n = near a.seat.me.0.theirs a.loose s.replica s.there in let o = a.sized.0 in let w = tied_words _ _ _ _ c.deref-cells.ensures a.row.0 a.row.1 in omega arith),
-      passes _ _ _ _ _ s.replica a.copies s.there (s.place_is ∙ sym a.scans.0) (scan_over a c.requires c.header-header.result c.header-header.ensures (c.is_scanned.ensures.done c.if-is_scanned.true)),
+      passes _ _ _ _ _ s.replica a.copies s.there (s.place_is ∙ sym a.scans.0) (scan_over a c.requires.low c.header-header.result c.header-header.ensures (c.is_scanned.ensures.done c.if-is_scanned.true)),
     )
 
 pub invariant_of-self : goal.invariant_of-self
 invariant_of-self c =
     let a = c.args.self.now in
     let t = a.seat.me.0.theirs in
-    let s = at_scan a c.requires in
+    let s = at_scan a c.requires.low in
     let u : Theirs = passed s.replica t in
-    let went = c.load.ensures.2.0 s.replica s.there (s.place_is ∙ sym a.scans.0) (scan_over a c.requires c.header-header.result c.header-header.ensures (c.is_scanned.ensures.done c.if-is_scanned.true)) in
+    let went = c.load.ensures.2.0 s.replica s.there (s.place_is ∙ sym a.scans.0) (scan_over a c.requires.low c.header-header.result c.header-header.ensures (c.is_scanned.ensures.done c.if-is_scanned.true)) in
     let is : c.load.new.seat.me.0.theirs ≡ u = theirs_is a.seat.me c.load.new.seat.me u went in
     let copies : c.load.new.seat.me.0.copies ≡ true = copies_is a.seat.me c.load.new.seat.me u went a.copies in
     let same = header_there a.space.words a.scan_place s.block c.header-header.result s.found c.header-header.ensures in
@@ -59,7 +61,9 @@ invariant_of-self c =
         ap (λ (x : Theirs). x.scan_field) is,
       );
       dues = (ap (λ (x : Theirs). x.due) is ∙ a.dues.0, a.dues.1, a.dues.2);
-      wants = λ w. ap (λ (x : Theirs). x.wanted) is ∙ a.wants w;
+      wants = ap (λ (x : Theirs). x.wanted) is ∙ a.wants;
+      aimed = λ w. absurd (true≢false (sym w ∙ c.requires.clear));
+      fills = λ q k e n. absurd (n c.requires.filled);
       claimed = subst (Claims a.claims.items) (sym is) (claims_as a.claims.items t u refl refl a.claimed);
       loose = c.load.ensures.2.1 copies;
     }
@@ -67,16 +71,16 @@ invariant_of-self c =
 pub returns-then-is_scanned-clause-seat : goal.returns-then-is_scanned-clause-seat
 returns-then-is_scanned-clause-seat c =
     let a = c.args.self.now in
-    let s = at_scan a c.requires in
+    let s = at_scan a c.requires.low in
     keeps_seat a.seat.me c.load.new.seat.me (passed s.replica a.seat.me.0.theirs)
-    (c.load.ensures.2.0 s.replica s.there (s.place_is ∙ sym a.scans.0) (scan_over a c.requires c.header-header.result c.header-header.ensures (c.is_scanned.ensures.done c.if-is_scanned.true))) refl refl refl
+    (c.load.ensures.2.0 s.replica s.there (s.place_is ∙ sym a.scans.0) (scan_over a c.requires.low c.header-header.result c.header-header.ensures (c.is_scanned.ensures.done c.if-is_scanned.true))) refl refl refl
 
 -- ---- a field
 
 pub overflow_cast-original : goal.overflow_cast-original
 overflow_cast-original c =
     let a = c.args.self.now in
-    let s = at_scan a c.requires in
+    let s = at_scan a c.requires.low in
     let n = near a.seat.me.0.theirs a.loose s.replica s.there in let o = old_high a.seat.me.0.theirs a.loose in let l = s.link in let e = c.link.ensures in omega arith
 
 place_of : (a : Copier) (q : Replica) (link k : ℕ) → k ≡ field_place link a.scan_field → q.original ≡ link → k ≡ field_place q.original a.seat.me.0.theirs.scan_field
@@ -85,8 +89,8 @@ place_of a q link k e l = e ∙ (λ i. field_place (sym l i) (sym a.scans.1 i))
 pub load-word-requires : goal.load-word-requires
 load-word-requires c =
     let a = c.args.self.now in
-    let s = at_scan a c.requires in
-    let left = scan_left a c.requires c.header-header.result c.header-header.ensures (c.is_scanned.ensures.left c.if-is_scanned.false) in
+    let s = at_scan a c.requires.low in
+    let left = scan_left a c.requires.low c.header-header.result c.header-header.ensures (c.is_scanned.ensures.left c.if-is_scanned.false) in
     let is = place_of a s.replica c.link.result c.field_index.result c.field_index.ensures (s.link ∙ sym c.link.ensures) in (
       tied _ _ _ c.deref-cells.ensures a.row.0,
       (let n = near a.seat.me.0.theirs a.loose s.replica s.there in let o = a.sized.0 in let w = tied_words _ _ _ _ c.deref-cells.ensures a.row.0 a.row.1 in let f = left.1 in omega arith),
@@ -101,16 +105,16 @@ module _ (c : After-load-word) where
   t = c.args.self.now.seat.me.0.theirs
 
   abbrev q : Replica
-  q = (at_scan c.args.self.now c.requires).replica
+  q = (at_scan c.args.self.now c.requires.low).replica
 
   abbrev v : Value
   v = value_of c.load-word.result
 
   left : (q.object.raw ≡ false) × (t.scan_field < length q.object.fields)
-  left = scan_left a c.requires c.header-header.result c.header-header.ensures (c.is_scanned.ensures.left c.if-is_scanned.false)
+  left = scan_left a c.requires.low c.header-header.result c.header-header.ensures (c.is_scanned.ensures.left c.if-is_scanned.false)
 
   told : (is_value c.load-word.result ≡ true) × (c.load-word.new.seat.me ≡ (record a.seat.me.0 { theirs = after_read (scanned q.original t.scan_field v) (lacks (its t) v) t }, a.seat.me.1))
-  told = let s = at_scan a c.requires in
+  told = let s = at_scan a c.requires.low in
       c.load-word.ensures.2.0 q s.there (s.place_is ∙ sym a.scans.0) left.0 left.1 (place_of a q c.link.result c.field_index.result c.field_index.ensures (s.link ∙ sym c.link.ensures))
 
   after : Theirs
@@ -160,7 +164,7 @@ one_lacks c row x e is zero = lacks_so (a c).claims.items (t c) (v c) x (a c).lo
 pub invariant_of-self-in-Ok : goal.invariant_of-self-in-Ok
 invariant_of-self-in-Ok c =
     let l = (goal.at.invariant_of-self-in-Ok c).After-load-word in
-    let s = at_scan (a l) c.requires in
+    let s = at_scan (a l) c.requires.low in
     let n = none_lacks l c.as_slice.result.now c.as_slice.ensures.value c.in-Ok.ensures.placed in
     let u : Theirs = scanned (q l).original (t l).scan_field (v l) (t l) in
     let went = follows l n.0 in
@@ -179,7 +183,9 @@ invariant_of-self-in-Ok c =
       same = ap (λ (x : Theirs). x.replicas) is ∙ (wrote ∙ ap (λ (x : SpaceWords). replicas_in x.words) (sym space));
       scans = (ap (λ (x : Theirs). x.scan_place) is ∙ (a l).scans.0, (let e = ap (λ (x : Theirs). x.scan_field) is in let f = (a l).scans.1 in omega arith));
       dues = (ap (λ (x : Theirs). x.due) is ∙ (a l).dues.0, (a l).dues.1, (a l).dues.2);
-      wants = λ w. ap (λ (x : Theirs). x.wanted) is ∙ (a l).wants w;
+      wants = ap (λ (x : Theirs). x.wanted) is ∙ (a l).wants;
+      aimed = λ w. absurd (true≢false (sym w ∙ c.requires.clear));
+      fills = λ q k e n. absurd (n c.requires.filled);
       claimed = subst (Claims (a l).claims.items) (sym is) (claims_as (a l).claims.items (brought (q l).original (t l).scan_field (v l) (t l)) u refl refl (claims_kept (a l).claims.items (t l) (q l).original (t l).scan_field (v l) (a l).claimed));
       loose = loose l;
     }
@@ -200,7 +206,9 @@ invariant_of-self-in-Err c =
       same = ap (λ (y : Theirs). y.replicas) is ∙ (a l).same;
       scans = (ap (λ (y : Theirs). y.scan_place) is ∙ (a l).scans.0, ap (λ (y : Theirs). y.scan_field) is ∙ (a l).scans.1);
       dues = (ap (λ (y : Theirs). y.due) is ∙ (a l).dues.0, (a l).dues.1, (a l).dues.2);
-      wants = λ _. ap (λ (y : Theirs). y.wanted) is;
+      wants = ap (λ (y : Theirs). y.wanted) is;
+      aimed = λ _. (c.requires.filled, ap (λ (r : List ℕ). slice_index r x) (sym c.as_slice.ensures.value) ∙ c.in-Err.ensures.wanted.1);
+      fills = λ q k e n. absurd (n c.requires.filled);
       claimed = subst (Claims (a l).claims.items) (sym is) (claims_as (a l).claims.items (t l) u refl refl (a l).claimed);
       loose = loose l;
     }
@@ -215,3 +223,27 @@ returns-in-Err-clause-seat c =
     let l = (goal.at.returns-in-Err-clause-seat c).After-load-word in
     let x : ℕ = c.in-Err.target.0 in
     keeps_seat (a l).seat.me c.load-word.new.seat.me (wants x (t l)) (wanting l x (one_lacks l c.as_slice.result.now x c.as_slice.ensures.value c.in-Err.ensures.wanted.0 c.in-Err.ensures.wanted.1)) refl refl refl
+
+pub returns-then-is_scanned-clause-nears : goal.returns-then-is_scanned-clause-nears
+returns-then-is_scanned-clause-nears c =
+    let a = c.args.self.now in
+    let t = a.seat.me.0.theirs in
+    let s = at_scan a c.requires.low in
+    let at = s.place_is ∙ sym a.scans.0 in
+    nears_by a.seat.me c.load.new.seat.me (passed s.replica t)
+    (c.load.ensures.2.0 s.replica s.there at (scan_over a c.requires.low c.header-header.result c.header-header.ensures (c.is_scanned.ensures.done c.if-is_scanned.true)))
+    (passed_nears _ t s.replica (scan_low t a.space (mem a) a.loose (let e = a.scans.0 in let l = c.requires.low in omega arith) s.replica s.there at) (scan_within t a.loose s.replica s.there at))
+
+pub returns-in-Ok-clause-nears : goal.returns-in-Ok-clause-nears
+returns-in-Ok-clause-nears c =
+    let l = (goal.at.returns-in-Ok-clause-nears c).After-load-word in
+    let s = at_scan (a l) c.requires.low in
+    nears_by (a l).seat.me c.load-word.new.seat.me (scanned (q l).original (t l).scan_field (v l) (t l)) (follows l (none_lacks l c.as_slice.result.now c.as_slice.ensures.value c.in-Ok.ensures.placed).0)
+    (scanned_nears _ (t l) (q l).original (v l) (length (q l).object.fields) (left l).1 (scan_within (t l) (a l).loose (q l) s.there (s.place_is ∙ sym (a l).scans.0)))
+
+pub returns-in-Err-clause-nears : goal.returns-in-Err-clause-nears
+returns-in-Err-clause-nears c =
+    let l = (goal.at.returns-in-Err-clause-nears c).After-load-word in
+    let x : ℕ = c.in-Err.target.0 in
+    nears_by (a l).seat.me c.load-word.new.seat.me (wants x (t l)) (wanting l x (one_lacks l c.as_slice.result.now x c.as_slice.ensures.value c.in-Err.ensures.wanted.0 c.in-Err.ensures.wanted.1))
+    (wants_nears _ x (t l) ((a l).wants ∙ ap (λ b. if b then (a l).wanted ∷ [] else []) c.requires.clear))

@@ -25,6 +25,8 @@ use Rattle.gc_concurrent.proofs.Opening.{splits_rule}
 use Rattle.gc_concurrent.proofs.Memory.{claim_low}
 use Rattle.gc_concurrent.proofs.InHand.{mem}
 use Rattle.gc_concurrent.proofs.Turn.{root_near, roots_placed, roots_moved, ready_in, root_missing, value_in}
+use Rattle.gc_concurrent.specs.Nearing.{ComesNearer}
+use Rattle.gc_concurrent.proofs.Nearing.{wants_nears}
 use Rattle.gc_concurrent.proofs.held.Held.flip.Goals as goal
 
 near : (h : Held) (k a : ℕ) → k < length h.roots.items → value_of (slice_index h.roots.items k) ≡ Ref a → a + 2 ≤ h.copier.seat.me.0.theirs.old
@@ -59,6 +61,15 @@ want-requires-clause-kept c =
     let t = missing_at h c.as_slice.result.now c.as_slice-2.result.now c.in-Target.at _ c.as_slice.ensures.value c.as_slice-2.ensures.value c.in-Target.is c.in-Err.ensures.target in
     subst (λ (b : HeapWords). MayBeCopied b c.in-Target.at.0) (sym h.begun)
     (target_leads (MayBeCopied h.copier.seat.me.0.mine.base) (Ref c.in-Target.at.0) c.in-Target.at.0 (h.kept.roots (Ref c.in-Target.at.0) (value_in h.roots.items t.0 (Ref c.in-Target.at.0) t.1 t.2)) refl)
+
+pub want-requires-clause-clear : goal.want-requires-clause-clear
+want-requires-clause-clear c =
+    let t = missing_at c.args.self c.as_slice.result.now c.as_slice-2.result.now c.in-Target.at _ c.as_slice.ensures.value c.as_slice-2.ensures.value c.in-Target.is c.in-Err.ensures.target in t.3
+
+pub returns-in-Target-clause-nearer : goal.returns-in-Target-clause-nearer
+returns-in-Target-clause-nearer c _ done =
+    let h = c.args.self in
+    subst (ComesNearer (end_of h.copier.seat.me.0.mine.space) h.copier.seat.me.0.theirs) (sym c.want.ensures.wants) (wants_nears (end_of h.copier.seat.me.0.mine.space) c.in-Target.at.0 h.copier.seat.me.0.theirs done.2)
 
 pub returns-in-Target-clause-not_ready : goal.returns-in-Target-clause-not_ready
 returns-in-Target-clause-not_ready c _ =

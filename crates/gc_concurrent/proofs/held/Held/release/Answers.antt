@@ -1,5 +1,7 @@
 -- One seat becomes two.
-use Rattle.std.proofs.Common.{arith}
+use Rattle.std.proofs.Common.{ap, subst, arith}
+use Rattle.gc_plan.specs.Members.{In}
+use Rattle.gc_concurrent.specs.Internal.Rule.{Sat}
 use Rattle.gc_concurrent.proofs.TiedCells.{tied, tied_words}
 use Rattle.gc_concurrent.proofs.Opening.{splits_rule}
 use Rattle.gc_concurrent.proofs.held.Held.release.Goals as goal
@@ -11,3 +13,6 @@ split_seat-seat-requires c =
       (let w = tied_words _ _ _ _ c.deref.ensures a.row.0 a.row.1 in let l = c.args.self.sound.space.end_low in let h = c.args.self.sound.space.end_high in let e = c.args.self.ended.1 in omega arith),
       splits_rule _ _ _ c.args.self.both a.copies,
     )
+
+pub invariant_of-result-3-clause-fills : goal.invariant_of-result-3-clause-fills
+invariant_of-result-3-clause-fills c q k e n = c.args.self.copier.fills q (subst (In q) (ap (λ (m : Sat). m.0.theirs.replicas) c.split_seat-seat.ensures.2) k) e n
