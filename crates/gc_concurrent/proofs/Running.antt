@@ -299,7 +299,7 @@ pub shows_full : (g : Graph) (old new : HeapWords) (op : Op) (reply : Reply) →
 shows_full g old new op reply does y shows =
     subst (λ h. (g ≡ h) ⊎ ((pairs : List (ℕ × ℕ)) × Corresponding pairs g h)) (ap (λ r. r.graph) ((no_room old new op reply does y).0)) shows
 
-going_at : (first : Graph) (all : List (ℕ × Op)) (old at : HeapWords) (rest : List (ℕ × Op)) (told : List Reply) → IsHeap old → ((g : Graph) → Shows g old → Shows g at)
+pub going_at : (first : Graph) (all : List (ℕ × Op)) (old at : HeapWords) (rest : List (ℕ × Op)) (told : List Reply) → IsHeap old → ((g : Graph) → Shows g old → Shows g at)
     → Going first all (graph_in old) rest told → Going first all (graph_in at) rest told
 going_at first all old at rest told is keeps going s pairs matched room =
     let st = going s pairs matched room in

@@ -45,6 +45,13 @@ EndsAt heap ops n = (n ≤ length ops) × FindsNoRoom heap (drop n ops)
 abbrev pub ShowsAfter : HeapWords → List Op → ℕ → HeapWords → Type 0
 ShowsAfter heap ops n new = (s : Roomy) → Shows s.graph heap → HasRoom s (by_one ops) n → (pairs : List (ℕ × ℕ)) × Corresponding pairs (machine_after s n (by_one ops)).graph (graph_in new)
 
+-- Not all commands were performed. These are the replies to those that were, and the new heap is what they left.
+pub record StandsAfter (heap : HeapWords) (ops : List Op) (told : List Reply) (new : HeapWords) : Type 0 where
+  pub replies : AreReplies heap ops told
+  pub fine : HasNoFull told
+  pub fewer : length told < length ops
+  pub shown : ShowsAfter heap ops (length told) new
+
 -- The command was performed at last, in a heap that shows what the old one showed.
 pub record Serves (old : HeapWords) (op : Op) (reply : Reply) (new : HeapWords) : Type 0 where
   pub at : HeapWords

@@ -25,8 +25,10 @@ fn mutate_and_stop<R: Wait>(
     let _named = View::Nil;
     let done = mutate_all(rt, alloc, runner, ops);
     stop.store(1, Ordering::SeqCst);
-    let (_runner, replies) = done?;
-    Ok(replies)
+    match done {
+        Ok((_runner, replies)) => Ok(replies),
+        Err(_cut) => Err(NoMemory),
+    }
 }
 
 fn collect<R: Wait>(rt: &R, alloc: Global, collector: Collector, stop: &AtomicU64) -> u64 {

@@ -18,4 +18,4 @@ pub use commands::Commander;
 pub use copier::Work;
 pub use handshake::{Asking, Collector, Holding, Runner, Unflipped, Waiting, open};
 pub use held::NoFlip;
-pub use runs::{mutate, mutate_all, runs_reply_alike, what_is_shown_stays};
+pub use runs::{CutShort, mutate, mutate_all, runs_reply_alike, what_is_shown_stays};

@@ -96,7 +96,9 @@ fn a_run_ends_where_a_command_finds_no_room(rt: HostRuntime) -> Result<(), Fail>
     let alloc = rt.alloc();
     let (runner, _collector) = open(alloc, 8)?;
     let ops = [new(own(0), 3, 1), num(own(1), 5), new(own(2), 3, 3)];
-    let (_runner, replies) = mutate(&rt, alloc, runner, &ops)?;
+    let (_runner, replies) = mutate(&rt, alloc, runner, &ops)
+        .ok()
+        .ok_or("memory suffices")?;
     assert!(rt; replies.as_slice() == [Reply::Made, Reply::Done].as_slice());
     Ok(())
 }
