@@ -1,6 +1,7 @@
 mod checks;
 mod collected_heaps;
 mod collections;
+mod concurrent_heaps;
 mod expecting;
 mod heaps;
 mod marks;
