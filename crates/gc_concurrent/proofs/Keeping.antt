@@ -74,7 +74,7 @@ behind_kept base name later = λ lost. let low = lost.0 in omega arith
 
 -- ---- fields and roots that are read
 
-pub field_leads : (P : ℕ → Type 0) (objects : List (ℕ × Object)) (name i : ℕ) (v : Value) → FieldsLeadTo P objects → P name → field_of (lookup objects name) i ≡ Some v → RefersTo P v
+field_leads : (P : ℕ → Type 0) (objects : List (ℕ × Object)) (name i : ℕ) (v : Value) → FieldsLeadTo P objects → P name → field_of (lookup objects name) i ≡ Some v → RefersTo P v
 field_leads P objects name i v h p e = go (lookup objects name) refl e
   where
     go : (o : Option Object) → lookup objects name ≡ o → field_of o i ≡ Some v → RefersTo P v
@@ -121,7 +121,7 @@ push_leads P objects name raw kind len h a o k p v l = ⊎_elim
 
 -- ---- a root is written
 
-pub root_leads : (P : ℕ → Type 0) (roots : List ℕ) (place word : ℕ) → ((v : Value) → In v (map value_of roots) → RefersTo P v) → RefersTo P (value_of word) → (v : Value) → In v (map value_of (set roots place word)) → RefersTo P v
+root_leads : (P : ℕ → Type 0) (roots : List ℕ) (place word : ℕ) → ((v : Value) → In v (map value_of roots) → RefersTo P v) → RefersTo P (value_of word) → (v : Value) → In v (map value_of (set roots place word)) → RefersTo P v
 root_leads P [] place word h r v k = absurd k
 root_leads P (x ∷ xs) zero word h r v (inl e) = subst (RefersTo P) e r
 root_leads P (x ∷ xs) zero word h r v (inr k) = h v (inr k)

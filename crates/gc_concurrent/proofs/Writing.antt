@@ -93,7 +93,7 @@ set_evolves objects Touched name i v t a o k = record {
   fields = λ j w l. ⊎_elim (λ x. inl x) (λ y. inr (subst (λ n. Touched n j) (sym y.0) (subst (Touched name) (sym y.1) t))) (written_get name i v (a, o) j w l);
 }
 
-pub written_objects : (s : SpaceWords) (a i w : ℕ) (b : Block) → IsSpace s → IsSome (field_at s.words a i) → block_at s.words a ≡ Some b
+written_objects : (s : SpaceWords) (a i w : ℕ) (b : Block) → IsSpace s → IsSome (field_at s.words a i) → block_at s.words a ≡ Some b
     → objects_of (with_field_at s a i w).words ≡ set_field (objects_of s.words) a i (field_value b.header w)
 written_objects s a i w b space has found = ap (λ (g : Graph). g.objects) (graph_field s a i w b [] space has found)
 
