@@ -55,6 +55,7 @@ PLACES = {
     "gcflip_heap_c/src/checking.rt": {("gcflip_heap_check", BY_ARM): 1},
     "gc_copy/src/log.rt": {("add_segment", BY_HAND): 1},
     "gc_collected/src/checking.rt": {("found_by", BY_ARM): 1},
+    "gc_concurrent/src/beside.rt": {("mutate_and_stop", BY_HAND): 1},
     "gc_concurrent/src/held.rt": {("moved_roots", BY_ARM): 1, ("flip", BY_HAND): 3},
     "gc_shared/src/closing.rt": {("fault", BY_ARM): 1},
     "gc_shared/src/fault.rt": {("from", BY_FROM): 5, ("from", BY_ARM): 1},
@@ -68,6 +69,7 @@ PLACES = {
 # Why a place is not in one of the two ways.
 BY_HAND_REASONS = {
     ("gc_copy/src/log.rt", "add_segment"): "so many segments would take 8 EiB, more than an allocator can give",
+    ("gc_concurrent/src/beside.rt", "mutate_and_stop"): "a run that was cut short tells by its type that an allocation failed",
     ("gc_concurrent/src/held.rt", "flip"): "each is in the arm of a failed allocation, but beside the mutator that is still held",
     ("gcflip/src/program.rt", "open"): "a file's error tells that an allocation failed by its kind",
     ("gcflip/src/program.rt", "arguments"): "the error of reading the arguments tells it by its kind",
