@@ -102,12 +102,7 @@ fn flipped<R: Wait>(
 ) -> Option<Collector> {
     let mut holding = holding;
     for _ in rt.forever() {
-        for _ in 0..u64::MAX {
-            if holding.work() != Work::Step {
-                break;
-            }
-        }
-        match holding.flip(alloc) {
+        match holding.finish(alloc) {
             Ok(collector) => return Some(collector),
             Err(refused) => holding = refused.holding,
         }

@@ -280,6 +280,7 @@ impl Copier {
         ensures done { WhereDone result (self.new.seat.me.0.theirs) }
         ensures room { WhereNoRoom result (self.new.seat.me.0.theirs) }
         ensures nears { result ≡ Work.Step → Nears self.old.seat.me self.new.seat.me }
+        ensures still { result ≡ Work.Done → self.new.seat.me ≡ self.old.seat.me }
     {
         if self.has_wanted {
             return if self.place_wanted() {

@@ -305,6 +305,7 @@ impl Holding {
         ensures done { WhereDone result (known_to self.new.held.copier) }
         ensures room { WhereNoRoom result (known_to self.new.held.copier) }
         ensures nearer { result ≡ Work.Step → IsNearer self.old.held self.new.held }
+        ensures still { result ≡ Work.Done → known_to self.new.held.copier ≡ known_to self.old.held.copier }
         ensures begun { KeepsBeginning (known_to self.old.held.copier) (known_to self.new.held.copier) }
         ensures heap { heap_held self.new.held ≡ heap_held self.old.held }
     {
@@ -369,6 +370,36 @@ impl Holding {
             seat,
             copier,
         })
+    }
+
+    /// Performs steps until the collection is ready, and flips. Fails if an allocation fails, or if the new space is smaller than the mutator's.
+    pub fn finish(self, alloc: Global) -> Result<Collector, Unflipped>
+        ensures fresh { IfOk result (λ collector. known_to collector.copier ≡ opening_theirs (known_to collector.copier).base (known_to self.held.copier).size (known_to self.held.copier).size) }
+        ensures why { IfErr result (λ refused. refused.why ≡ NoFlip.NotReady → (known_to self.held.copier).size < (known_to self.held.copier).old) }
+        ensures heap { IfErr result (λ refused. heap_held refused.holding.held ≡ heap_held self.held) }
+        ensures begun { IfErr result (λ refused. KeepsBeginning (known_to self.held.copier) (known_to refused.holding.held.copier)) }
+    {
+        let mut holding = self;
+        loop {
+            match holding.work() {
+                Work::Step => {}
+                Work::NoRoom => {
+                    return Err(Unflipped {
+                        holding,
+                        why: NoFlip::NotReady,
+                    });
+                }
+                Work::Done => match holding.flip(alloc) {
+                    Ok(collector) => return Ok(collector),
+                    Err(refused) => {
+                        if refused.why == NoFlip::NoMemory {
+                            return Err(refused);
+                        }
+                        holding = refused.holding;
+                    }
+                },
+            }
+        }
     }
 }
 

@@ -162,6 +162,7 @@ impl Held {
         ensures done { WhereDone result (known_to self.new.copier) }
         ensures room { WhereNoRoom result (known_to self.new.copier) }
         ensures nearer { result ≡ Work.Step → IsNearer self.old self.new }
+        ensures still { result ≡ Work.Done → known_to self.new.copier ≡ known_to self.old.copier }
         ensures begun { KeepsBeginning (known_to self.old.copier) (known_to self.new.copier) }
         ensures row { self.new.copier.seat.table_id ≡ self.old.copier.seat.table_id }
     {

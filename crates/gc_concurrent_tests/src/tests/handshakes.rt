@@ -83,7 +83,7 @@ fn a_flip_keeps_what_the_roots_reach(rt: HostRuntime) -> Result<(), Fail> {
     assert!(rt; told(&mut runner, get(own(2), own(0), 1)) == Some(saw(9)));
     // The mutator has gone on, so it can be asked again.
     let (waiting, holding) = taken(runner, collector)?;
-    let collector = flipped(alloc, holding)?;
+    let collector = holding.finish(alloc).ok().ok_or("it flips")?;
     let mut runner = waiting.wait(&rt);
     assert!(rt; told(&mut runner, get(own(3), own(0), 1)) == Some(saw(9)));
     let _still = collector.ask().ok().ok_or("it has gone on")?;

@@ -1,0 +1,16 @@
+-- The mutator's heap is as it was, and fewer and fewer steps are ahead.
+use Rattle.std.proofs.Common.{◌≡◌}
+use Rattle.gc_words.specs.Space.{end_of}
+use Rattle.gc_concurrent.specs.Holders.{heap_held, known_to}
+use Rattle.gc_concurrent.specs.Works.{KeepsBeginning}
+use Rattle.gc_concurrent.specs.Nearing.{steps_ahead}
+use Rattle.gc_concurrent.proofs.handshake.Holding.finish.Given as goal
+
+abbrev pub invariant-loop-holding : goal.invariant-loop-holding
+invariant-loop-holding l = record {
+  heap : heap_held l.holding.held ≡ heap_held l.fn.self.held;
+  begun : KeepsBeginning (known_to l.fn.self.held.copier) (known_to l.holding.held.copier);
+}
+
+abbrev pub decreases-loop-holding : goal.decreases-loop-holding
+decreases-loop-holding l = steps_ahead (end_of (heap_held l.holding.held).space) (known_to l.holding.held.copier)
