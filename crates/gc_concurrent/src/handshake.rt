@@ -391,12 +391,10 @@ impl Holding {
                 }
                 Work::Done => match holding.flip(alloc) {
                     Ok(collector) => return Ok(collector),
-                    Err(refused) => {
-                        if refused.why == NoFlip::NoMemory {
-                            return Err(refused);
-                        }
-                        holding = refused.holding;
-                    }
+                    Err(refused) => match refused.why {
+                        NoFlip::NotReady => holding = refused.holding,
+                        NoFlip::NoMemory => return Err(refused),
+                    },
                 },
             }
         }
