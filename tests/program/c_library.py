@@ -129,7 +129,7 @@ def pkg_config(_program, folder):
     wanted = ["-I%s/include" % other, "-L%s/lib" % other, "-lgcflip"]
     yield "the words for another folder", None if built.flags(other) == wanted else "they are %s" % built.flags(other)
     loaded = os.path.basename(os.path.realpath(os.path.join(other, "lib", "libgcflip.so")))
-    yield "the shared library has a version", None if loaded == "libgcflip.so.0" else "it is %s" % loaded
+    yield "the shared library has a version", None if loaded == "libgcflip.so.1" else "it is %s" % loaded
     built.install(other, "uninstall")
     left = [name for _, _, names in os.walk(other) for name in names]
     yield "nothing is left when it is removed", None if not left else "left: %s" % left

@@ -5,7 +5,7 @@ from .harness import Outcome, difference, file_of, refusal, run
 from .pairs import LEAST
 from .traces import PLAYED, trace_and_replies
 
-HELP = b"""gcflip 0.1.0: plays the trace on standard input, or does what a subcommand says
+HELP = b"""gcflip 0.2.0: plays the trace on standard input, or does what a subcommand says
 
 Usage: gcflip [COMMAND]
 

@@ -33,7 +33,7 @@ MOST_OUTPUT = 1 << 28
 FIRST_HEAP = b"mutators go on\nmutators go on\nflipped 1\nsaw 42\n"
 CMAKE = """cmake_minimum_required(VERSION 3.10)
 project(first C)
-find_package(gcflip 0.1 REQUIRED)
+find_package(gcflip 0.2 REQUIRED)
 add_executable(first first_heap.c)
 target_link_libraries(first gcflip::gcflip)
 add_executable(first_static first_heap.c)
@@ -138,8 +138,8 @@ def archive(program, folder):
         file.write(CMAKE)
     line = "cmake -B build -DCMAKE_PREFIX_PATH=%s > log && cmake --build build > log && build/first && build/first_static" % prefix
     yield "C by CMake", within(SECONDS, began, printed(["bash", "-c", line], 2 * FIRST_HEAP, cwd=source))
-    found = printed(["bash", "-c", "cmake -B other -DCMAKE_PREFIX_PATH=%s 2>&1 | grep -c 'version: 0.1.0'" % prefix], b"1\n",
-                    cwd=with_version(source, "0.2"))
+    found = printed(["bash", "-c", "cmake -B other -DCMAKE_PREFIX_PATH=%s 2>&1 | grep -c 'version: 0.2.0'" % prefix], b"1\n",
+                    cwd=with_version(source, "0.3"))
     yield "CMake refuses another version", found
 
 
@@ -149,7 +149,7 @@ def with_version(source, version):
     with open(path, encoding="ascii") as file:
         text = file.read()
     with open(path, "w", encoding="ascii") as file:
-        file.write(text.replace("gcflip 0.1 ", "gcflip %s " % version))
+        file.write(text.replace("gcflip 0.2 ", "gcflip %s " % version))
     return source
 
 
@@ -178,7 +178,7 @@ def wheel(program, folder):
     yield "pip install", within(SECONDS, began, printed([*pip, "install", "--no-index", "--no-compile", only(out, ".whl")], b"", env=environment, cwd=folder))
     code = "import gcflip; print(gcflip.library_version()); heap = gcflip.Heap(4096); heap.mutator(0).new(0, 1, 2); print(heap.work(100).pairs)"
     began = time.monotonic()
-    yield "Python from the wheel", within(SECONDS, began, printed([python, "-c", code], b"0.1.0\n1\n", env=environment, cwd=folder))
+    yield "Python from the wheel", within(SECONDS, began, printed([python, "-c", code], b"0.2.0\n1\n", env=environment, cwd=folder))
     began, page = time.monotonic(), subprocess.Popen([python, "-m", "gcflip.explore", "--no-browser"], env=environment, cwd=folder, stdout=subprocess.PIPE, text=True)
     said = page.stdout.readline()
     page.terminate()
@@ -225,7 +225,7 @@ def crate(program, folder):
         return
     for ending in (".tar.gz", ".crate"):
         done(["tar", "-xzf", only(out, ending), "-C", folder])
-    source = only(folder, "gcflip-0.1.0")
+    source = only(folder, "gcflip-0.2.0")
     environment = dict(os.environ, GCFLIP_LIB_DIR=os.path.join(only(folder, "linux-x86_64"), "lib"))
     began = time.monotonic()
     why = printed(["cargo", "run", "--quiet", "--offline", "--locked", "--example", "first_heap"], b"Number(42)\n", cwd=source, env=environment)

@@ -291,7 +291,7 @@ def found_library(_program, folder):
         os.makedirs(at, exist_ok=True)
         shutil.copy(python.environment["GCFLIP_LIBRARY"], os.path.join(at, "libgcflip.so"))
         found = done([sys.executable, "-c", code], env=environment, cwd=package)
-        yield "the library %s" % name, wrong(found.stdout.decode(), "%s 0.1.0\n" % os.path.join(os.path.realpath(at), "libgcflip.so"))
+        yield "the library %s" % name, wrong(found.stdout.decode(), "%s 0.2.0\n" % os.path.join(os.path.realpath(at), "libgcflip.so"))
 
 
 def answers(_program, folder):

@@ -151,7 +151,7 @@ def wrong_libraries(folder):
     for path, source in ((other, "int nothing;\n"), (older, calls)):
         done(["gcc", "-shared", "-fPIC", "-o", path, file_of(folder, "source.c", source.encode())])
     return {"no shared library": (os.path.join(folder, "nothing.so"), "No such file"), "a text in place of the library": (text, "invalid ELF header"),
-            "another library": (other, "is not the library of this package"), "a library of another version": (older, "has version 0.99, and this package needs 0.1")}
+            "another library": (other, "is not the library of this package"), "a library of another version": (older, "has version 0.99, and this package needs 0.2")}
 
 
 def types(_program, folder):

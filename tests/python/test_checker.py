@@ -226,7 +226,7 @@ class Texts(unittest.TestCase):
 
 class Library(unittest.TestCase):
     def test_version(self):
-        self.assertEqual(gcflip.library_version(), "0.1.0")
+        self.assertEqual(gcflip.library_version(), "0.2.0")
 
 
 if __name__ == "__main__":

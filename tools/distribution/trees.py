@@ -9,7 +9,7 @@ from .links import linked
 
 TOP = os.path.normpath(os.path.join(os.path.dirname(os.path.abspath(__file__)), "..", ".."))
 HERE = os.path.dirname(os.path.abspath(__file__))
-SHARED = "libgcflip.so.0"
+SHARED = "libgcflip.so.1"
 TRUST = "docs/TRUST.md"
 PYTHON, RUST = "bindings/python/README.md", "bindings/rust/README.md"
 DOCUMENTS = ["README.md", "CHANGELOG.md", TRUST, "docs/FORMATS.md", "docs/EMBEDDING.md", "docs/CALLS.md", "docs/FAQ.md", "docs/CERTIFY.md", "docs/GLOSSARY.md", "docs/EXPLORE.md", "docs/RATTLE.md", "docs/RELATED.md"]

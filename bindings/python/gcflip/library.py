@@ -12,7 +12,7 @@ from .errors import OutOfRange
 
 
 # The version that this package is for, as gcflip_version tells it. A library may differ from it in its last part.
-VERSION = 100
+VERSION = 200
 
 
 class Handle(ctypes.Structure):

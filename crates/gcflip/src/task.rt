@@ -81,7 +81,7 @@ fn files<'a>(alloc: Global) -> Result<Command<'a>, Error>
 {
     let play = on_file(alloc, "play", "Plays a trace: writes a line for each reply")?;
     let with_play = Command::new(alloc, "gcflip")
-        .about("gcflip 0.1.0: plays the trace on standard input, or does what a subcommand says")
+        .about("gcflip 0.2.0: plays the trace on standard input, or does what a subcommand says")
         .subcommand(play)?;
     let check = on_file(
         alloc,
