@@ -47,7 +47,7 @@ static FILE *counts_file(void)
 
 static gcflip_counts counts_of(gcflip_heap *heap)
 {
-    gcflip_counts counts = {0, 0, 0, 0, 0, 0, 0, 0, 0, 0, 0};
+    gcflip_counts counts = {0, 0, 0, 0, 0, 0, 0, 0, 0, 0, 0, 0};
     if (gcflip_heap_counts(heap, &counts) != GCFLIP_DONE || counts.mutators != 1)
         fail("no heap, or not one mutator");
     return counts;
@@ -132,7 +132,7 @@ static uint32_t made(uint32_t reply)
     uint32_t __wrap_gcflip_heap_##name parameters;       \
     uint32_t __wrap_gcflip_heap_##name parameters        \
     {                                                    \
-        *work = (gcflip_work){0, 0, 0, 0};               \
+        *work = (gcflip_work){0, 0, 0, 0, 0};               \
         return GCFLIP_DONE;                              \
     }
 #define SLOT gcflip_heap *heap, uint8_t m, uint8_t d

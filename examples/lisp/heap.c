@@ -284,7 +284,7 @@ void after_each_flip(void (*function)(void))
 
 static gcflip_counts read_counts(void)
 {
-    gcflip_counts counts = {0, 0, 0, 0, 0, 0, 0, 0, 0, 0, 0};
+    gcflip_counts counts = {0, 0, 0, 0, 0, 0, 0, 0, 0, 0, 0, 0};
     EXPECT_REPLY(GCFLIP_DONE, counts, &counts);
     return counts;
 }
@@ -295,7 +295,7 @@ enum progress { NO_MEMORY, GOES_ON, FLIPPED };
 static enum progress work(uint32_t most)
 {
     static struct call_times times = {"gcflip_heap_work", 0, 0, 0, NULL};
-    gcflip_work made = {0, 0, 0, 0};
+    gcflip_work made = {0, 0, 0, 0, 0};
     begin_pause();
     uint32_t answer = gcflip_trace ? gcflip_record_work(&heap, most, &made) : gcflip_heap_work(&heap, most, &made);
     bool flipped = made.last == GCFLIP_FLIPPED;

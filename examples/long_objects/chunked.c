@@ -18,7 +18,7 @@ uint32_t chunked_new(gcflip_heap *heap, uint8_t m, uint8_t d, uint32_t length, u
 {
     const uint8_t chunk = (uint8_t)(scratch + 1);
     uint32_t chunks = chunks_of(length), answer;
-    gcflip_counts counts = {0, 0, 0, 0, 0, 0, 0, 0, 0, 0, 0};
+    gcflip_counts counts = {0, 0, 0, 0, 0, 0, 0, 0, 0, 0, 0, 0};
     if (chunks > CHUNKED_MOST_CHUNKS)
         return GCFLIP_OUT_OF_RANGE;
     answer = gcflip_heap_counts(heap, &counts);

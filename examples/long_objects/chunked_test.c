@@ -15,7 +15,7 @@ static void open_heap(uint32_t words)
 
 static uint32_t words_in_use(void)
 {
-    gcflip_counts counts = {0, 0, 0, 0, 0, 0, 0, 0, 0, 0, 0};
+    gcflip_counts counts = {0, 0, 0, 0, 0, 0, 0, 0, 0, 0, 0, 0};
     EXPECT(gcflip_heap_counts(&heap, &counts) == GCFLIP_DONE);
     return counts.end - 1;
 }
@@ -64,7 +64,7 @@ static void one_length(uint32_t length)
 static void through_collections(void)
 {
     enum { LENGTH = 200000 };
-    gcflip_work work = {0, 0, 0, 0};
+    gcflip_work work = {0, 0, 0, 0, 0};
     uint32_t flips = 0;
     open_heap(WORDS);
     EXPECT(chunked_new(&heap, 0, ARRAY, LENGTH, SCRATCH) == GCFLIP_MADE);

@@ -27,7 +27,7 @@ static void open_heap(uint32_t words)
 
 static void work(uint32_t most)
 {
-    gcflip_work made = {0, 0, 0, 0};
+    gcflip_work made = {0, 0, 0, 0, 0};
     EXPECT(gcflip_heap_work(&heap, most, &made) == GCFLIP_DONE && made.last != GCFLIP_NO_ROOM);
     flips += made.last == GCFLIP_FLIPPED;
 }
@@ -68,7 +68,7 @@ static uint64_t checked_rope(const uint64_t *words, uint64_t address)
 static void expect_text(uint8_t k)
 {
     static uint64_t words[WORDS], roots[32];
-    gcflip_counts counts = {0, 0, 0, 0, 0, 0, 0, 0, 0, 0, 0};
+    gcflip_counts counts = {0, 0, 0, 0, 0, 0, 0, 0, 0, 0, 0, 0};
     uint64_t found = 0;
     uint32_t height = 0, address = 0;
     EXPECT(rope_measure(&user, k, &found, &height) == GCFLIP_DONE && found == length[k]);

@@ -11,7 +11,7 @@ static void tell(uint32_t answer)
 int main(int count, char **words)
 {
     gcflip_heap heap = GCFLIP_NO_HEAP;
-    gcflip_work work = {0, 0, 0, 0};
+    gcflip_work work = {0, 0, 0, 0, 0};
     EXPECT(count == 4);
     gcflip_options options = gcflip_options_default((uint32_t)strtoul(words[1], NULL, 10), 1);
     options.checking = (uint8_t)strtoul(words[3], NULL, 10);

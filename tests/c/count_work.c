@@ -7,7 +7,7 @@
 enum { WORDS = 1 << 16, CELLS = 8000, MUTATORS = 16, SLOTS = 32, LIST = 16 };
 
 static gcflip_heap heap = GCFLIP_NO_HEAP;
-static gcflip_work work = {0, 0, 0, 0};
+static gcflip_work work = {0, 0, 0, 0, 0};
 
 static void fill(void)
 {

@@ -291,7 +291,7 @@ static void fill_heap(void)
 /* Collects by single steps with a write between them, and damages the heap after each. Returns the last reply. */
 static uint32_t collect(uint32_t size, int steps)
 {
-    gcflip_work work = {0, 0, 0, 0};
+    gcflip_work work = {0, 0, 0, 0, 0};
     EXPECT(gcflip_heap_step_begin_sized(&heap, size) == GCFLIP_BEGUN);
     for (int k = 0; k < steps; k++) {
         damage_heap();

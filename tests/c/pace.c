@@ -123,7 +123,7 @@ static bool is_pace(uint32_t left, uint32_t end, uint32_t logged)
 /* Each step of a collection of one object with one field, which takes words 1 to 3 of 11. */
 static void one_collection(void)
 {
-    const gcflip_work none = {0, 0, 0, 0};
+    const gcflip_work none = {0, 0, 0, 0, 0};
     EXPECT(open_plain_heap(&heap, 11, 2) == GCFLIP_DONE);
     pace = gcflip_pace_default();
     EXPECT(pace.factor == 200 && pace.rate == 0 && pace.least == 65536 && pace.words == 1024 && pace.owed == 0 && is_pace(1, 1, 0));
@@ -151,7 +151,7 @@ static void one_collection(void)
 static void refusals(void)
 {
     const gcflip_pace wrong[] = {{99, 0, 0, 5, 1, 1, 0, 2}, {10001, 0, 0, 5, 1, 1, 0, 2}, {0, 0, 0, 5, 1, 1, 0, 2}, {UINT32_MAX, 0, 0, 5, 1, 1, 0, 2}};
-    const gcflip_work before = {77, 77, 77, 77};
+    const gcflip_work before = {77, 77, 77, 77, 77};
     work = before;
     pace = wrong[0];
     EXPECT(gcflip_heap_pace(&heap, &pace) == GCFLIP_CLOSED);
@@ -364,7 +364,7 @@ static uint32_t calls, most_owed;
 /* Does what gcflip_heap_work_paced does, by the calls that the header names. */
 static void paced_by_hand(uint32_t wanted)
 {
-    const gcflip_work none = {0, 0, 0, 0};
+    const gcflip_work none = {0, 0, 0, 0, 0};
     uint32_t steps;
     read_counts();
     steps = gcflip_pace_due(&pace, &counts, wanted);

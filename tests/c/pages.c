@@ -54,7 +54,7 @@ static void keep_cells(uint32_t cells)
 /* Performs calls of work up to the flip, and returns the largest number of pages that one of them gave back. */
 static long collect(uint32_t size)
 {
-    gcflip_work work = {0, 0, 0, 0};
+    gcflip_work work = {0, 0, 0, 0, 0};
     long most = 0;
     while (work.last != GCFLIP_FLIPPED) {
         long before = resident();
@@ -122,7 +122,7 @@ static void touch(void)
 
 static void slices(void)
 {
-    gcflip_work work = {0, 0, 0, 0};
+    gcflip_work work = {0, 0, 0, 0, 0};
     open_heap(LARGE);
     EXPECT(gcflip_heap_touch(&heap) == GCFLIP_DONE);
     keep_cells(FEW);

@@ -106,23 +106,24 @@ static void flip(void)
 /* Prints the report of a call that worked. */
 static void print_work(const gcflip_work *work)
 {
-    printf("worked %u %u %s", work->steps, work->copied, reply(work->last));
+    printf("worked %u %u %u %s", work->steps, work->copied, work->looks, reply(work->last));
     if (work->last == GCFLIP_FLIPPED)
         printf(" %u", work->pairs);
     else
         EXPECT(work->pairs == 0);
+    EXPECT(work->steps > 0 || (work->looks > 0 && work->copied == 0 && work->last == GCFLIP_DONE));
 }
 
 /* Works with a size for the new space, unless it is NO_BOUND, or within so many words, unless they are. */
 #define NO_BOUND UINT64_MAX
 static void work(uint32_t most, uint64_t size, uint64_t words)
 {
-    gcflip_work work = {KEPT_32, KEPT_32, KEPT_32, KEPT_32};
+    gcflip_work work = {KEPT_32, KEPT_32, KEPT_32, KEPT_32, KEPT_32};
     uint32_t answer = size != NO_BOUND    ? gcflip_heap_work_sized(&heap, most, (uint32_t)size, &work)
                       : words != NO_BOUND ? gcflip_heap_work_within(&heap, most, (uint32_t)words, &work)
                                           : gcflip_heap_work(&heap, most, &work);
     if (answer != GCFLIP_DONE) {
-        EXPECT(work.steps == KEPT_32 && work.copied == KEPT_32 && work.last == KEPT_32 && work.pairs == KEPT_32);
+        EXPECT(work.steps == KEPT_32 && work.copied == KEPT_32 && work.last == KEPT_32 && work.pairs == KEPT_32 && work.looks == KEPT_32);
         printf("%s\n", reply(answer));
         return;
     }
@@ -146,13 +147,13 @@ static void set_pace(void)
 
 static void work_paced(uint32_t wanted)
 {
-    gcflip_work work = {KEPT_32, KEPT_32, KEPT_32, KEPT_32};
+    gcflip_work work = {KEPT_32, KEPT_32, KEPT_32, KEPT_32, KEPT_32};
     gcflip_counts c;
     EXPECT(gcflip_heap_counts(&heap, &c) == GCFLIP_DONE);
     uint32_t due = gcflip_pace_due(&pace, &c, wanted);
     EXPECT(gcflip_heap_work_paced(&heap, &pace, wanted, &work) == GCFLIP_DONE);
     EXPECT(work.steps + pace.owed == due || work.last == GCFLIP_FLIPPED || work.last == GCFLIP_NO_ROOM);
-    if (work.steps > 0)
+    if (work.steps > 0 || work.looks > 0)
         print_work(&work);
     else
         EXPECT(work.copied == 0 && work.last == 0 && work.pairs == 0 && printf("nothing") > 0);
@@ -195,12 +196,12 @@ static void counts(void)
     memset(&c, 0x5a, sizeof c);
     uint32_t answer = gcflip_heap_counts(&heap, &c);
     if (answer != GCFLIP_DONE) {
-        EXPECT(c.size == KEPT_32 && c.logged == KEPT_32);
+        EXPECT(c.size == KEPT_32 && c.logged == KEPT_32 && c.roots_left == KEPT_32);
         printf("%s\n", reply(answer));
         return;
     }
-    printf("counts %u %u %u %u %u %u %u %u %u %u %u\n", c.size, c.end, c.free, c.mutators, c.extra_roots, c.is_open, c.new_size, c.new_end,
-           c.scan_place, c.scan_field, c.logged);
+    printf("counts %u %u %u %u %u %u %u %u %u %u %u %u\n", c.size, c.end, c.free, c.mutators, c.extra_roots, c.is_open, c.new_size, c.new_end,
+           c.scan_place, c.scan_field, c.logged, c.roots_left);
 }
 
 static void print_log(uint8_t m)

@@ -12,7 +12,7 @@ static gcflip_heap heap = GCFLIP_NO_HEAP;
 /* Opens a collection of a size that no trace has, and flips. */
 static void begin(const char *name)
 {
-    gcflip_work work = {0, 0, 0, 0};
+    gcflip_work work = {0, 0, 0, 0, 0};
     gcflip_trace = fopen(name, "w");
     EXPECT(open_plain_heap(&heap, 64, 1) == GCFLIP_DONE);
     EXPECT(gcflip_heap_new_object(&heap, 0, 0, 1, 2) == GCFLIP_MADE);
@@ -163,7 +163,7 @@ static void make_commands(bool is_recorded)
 static void make_steps(bool is_recorded)
 {
     gcflip_pace pace = gcflip_pace_default();
-    gcflip_work work = {0, 0, 0, 0};
+    gcflip_work work = {0, 0, 0, 0, 0};
     uint32_t pairs = 0;
     REPLIES(gcflip_heap_step_begin(&heap), GCFLIP_BEGUN, is_recorded);
     REPLIES(gcflip_heap_step_roots(&heap), GCFLIP_COPIED, is_recorded);

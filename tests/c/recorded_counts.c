@@ -9,7 +9,7 @@ int main(void)
 {
     gcflip_heap heap = GCFLIP_NO_HEAP;
     gcflip_view view = {0, 0, 0};
-    gcflip_work work = {7, 7, 7, 7};
+    gcflip_work work = {7, 7, 7, 7, 7};
     uint64_t number = 0;
 
     EXPECT(open_plain_heap(&heap, WORDS, 1) == GCFLIP_DONE);

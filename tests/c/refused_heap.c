@@ -140,7 +140,7 @@ static int failures(void (*prepare)(void), uint32_t (*call)(void))
     for (int n = 1;; n++) {
         prepare();
         draw(&before);
-        const gcflip_work report = {77, 77, 77, 77};
+        const gcflip_work report = {77, 77, 77, 77, 77};
         work = report;
         pairs = 77;
         fail_allocation(n);

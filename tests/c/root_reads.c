@@ -12,8 +12,8 @@ int main(int count, char **words)
 {
     gcflip_options options = gcflip_options_default(4 * MANY, 1);
     gcflip_frame stack = {0, MANY, 0, 0};
-    gcflip_work work = {0, 0, 0, 0};
-    gcflip_counts counts = {0, 0, 0, 0, 0, 0, 0, 0, 0, 0, 0};
+    gcflip_work work = {0, 0, 0, 0, 0};
+    gcflip_counts counts = {0, 0, 0, 0, 0, 0, 0, 0, 0, 0, 0, 0};
     unsigned calls = 0, reads = 0;
     uint32_t pairs = 0;
     EXPECT(count >= 3);

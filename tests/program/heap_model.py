@@ -52,6 +52,47 @@ class Place(int):
     """The place of a root in the list of roots, where a command may have a slot of its mutator."""
 
 
+class Looks:
+    """Which extra roots the open collection has looked at, and which of them a search has to look at."""
+
+    def __init__(self):
+        # Those below `front` were looked at, and those of `again` were written since. Those from `used` on are nil. Those from `front` on have no word of an
+        # earlier collection from `stale` on.
+        self.front, self.again, self.used, self.stale = 0, set(), 0, 0
+
+    def cleared(self, k):
+        if k < self.front:
+            self.again.add(k)
+
+    def written(self, k):
+        self.cleared(k)
+        self.used = max(self.used, k + 1)
+
+    def begin(self):
+        self.front, self.again, self.stale = 0, set(), max(self.stale, self.front)
+
+    def flipped(self):
+        self.front, self.stale = 0, self.used
+
+    def next(self):
+        """Returns the first extra root to look at, or None."""
+        if self.again:
+            return min(self.again)
+        return self.front if self.front < max(self.used, self.stale) else None
+
+    def looked(self, k, words):
+        """Notes a look that found nothing to copy. If the root is nil, and the last one in use too, that is not in use any more."""
+        self.again.discard(k)
+        self.front = max(self.front, k + 1)
+        if words[k] == 0 and self.used > 0 and words[self.used - 1] == 0:
+            self.used -= 1
+
+    def left(self, is_open):
+        if not is_open:
+            return max(self.used, self.stale, self.front)
+        return len(self.again) + max(0, max(self.used, self.stale) - self.front)
+
+
 class NoRoom(Exception):
     """The new space has no room for a replica."""
 
@@ -63,6 +104,7 @@ class Model:
         self.space = Space(size)
         self.mutators, self.extra_roots = mutators, extra_roots
         self.roots = [0] * (SHARED + OWN * mutators + extra_roots)
+        self.looks = Looks()
         self.new = None
         self.logs = []
         self.scan_place = self.scan_field = 0
@@ -157,16 +199,25 @@ class Model:
 
     # ---- the same commands on roots by their places
 
+    def aimed_at(self, place):
+        """Notes that a command has this root to write. An extra root then counts as written, also if the command finds no object, no field or no room."""
+        if place >= self.extra(0):
+            self.looks.written(place - self.extra(0))
+
     def place_new(self, d, kind, length):
+        self.aimed_at(d)
         return self.make(0, False, Place(d), kind, length)
 
     def place_num(self, d, n):
+        self.aimed_at(d)
         return self.num(0, Place(d), n)
 
     def place_copy(self, d, s):
+        self.aimed_at(d)
         return self.move(0, Place(d), Place(s))
 
     def place_get(self, d, s, i):
+        self.aimed_at(d)
         return self.get(0, Place(d), Place(s), i)
 
     def place_put(self, m, s, i, t):
@@ -188,10 +239,13 @@ class Model:
         return "done"
 
     def root_store(self, m, k, s):
+        self.looks.written(k)
         self.roots[self.extra(k)] = self.value(m, s)
         return "done"
 
     def root_clear(self, first, end):
+        for k in range(first, end):
+            self.looks.cleared(k)
         self.roots[self.extra(first):self.extra(end)] = [0] * (end - first)
         return "done"
 
@@ -202,6 +256,7 @@ class Model:
             return "busy"
         self.new = Space(self.space.size if size is None else size)
         self.former = None
+        self.looks.begin()
         self.logs = [[] for _ in range(self.mutators)]
         self.scan_place, self.scan_field = 1, 0
         return "begun"
@@ -225,7 +280,20 @@ class Model:
         """Returns whether a root word needs no replica."""
         return word == 0 or word % 2 == 1 or self.space.words[word // 2 + 1] != 0
 
+    def search(self, most=None):
+        """Searches the roots for one whose target has no replica, and looks at no more than `most` extra roots. Returns how many of these had nothing to copy,
+        and whether the search came to its end."""
+        slots, words = self.roots[:self.extra(0)], self.roots[self.extra(0):]
+        looks, k = 0, self.looks.next() if all(map(self.copied, slots)) else None
+        while k is not None and looks != most:
+            if not self.copied(words[k]):
+                return looks, True
+            self.looks.looked(k, words)
+            looks, k = looks + 1, self.looks.next()
+        return looks, k is None
+
     def step_roots(self):
+        self.search()
         for word in self.roots:
             if not self.copied(word):
                 self.replica(word // 2)
@@ -253,6 +321,7 @@ class Model:
         return "applied"
 
     def step_flip(self):
+        self.search()
         if any(self.logs) or self.scan_place != len(self.new.words) or not all(map(self.copied, self.roots)):
             return "not ready"
         old = list(self.space.words), list(self.roots), self.space.size
@@ -260,6 +329,7 @@ class Model:
         self.roots = [word if word == 0 or word % 2 == 1 else 2 * self.space.words[word // 2 + 1] for word in self.roots]
         self.flips.append((old, (list(self.new.words), list(self.roots), self.new.size), pairs))
         self.former = {at: self.space.words[at + 1] for at in self.space.starts()}
+        self.looks.flipped()
         self.space, self.new, self.logs = self.new, None, []
         self.unlink()
         return "flipped %d" % len(pairs)
@@ -287,6 +357,7 @@ class Model:
         """Returns the name of the useful step, with the mutator whose log it applies."""
         if not self.new:
             return "begin"
+        self.search()
         if not all(map(self.copied, self.roots)):
             return "roots"
         if self.scan_place < len(self.new.words):
@@ -310,13 +381,14 @@ class Model:
         self.left = self.end = len(self.space.words)
         self.logged, self.owed = self.entries(), 0
 
-    def remember_work(self, due, made, copied):
-        """Makes the pace remember work that made these steps, each with its line and its reply, and copied so many words."""
+    def remember_work(self, due, made, copied, looks):
+        """Makes the pace remember work that made these steps, each with its line and its reply, copied so many words, and looked at so many extra roots."""
         last = made[-1][1] if made else ""
         self.left = len(self.space.words) if last.startswith("flipped") else self.left
         self.end, self.logged = len(self.space.words), self.entries()
-        took = max(len(made), copied) >= self.words > 0 and not last.startswith("flipped") and last != "no room"
-        self.owed = due - len(made) if took else 0
+        looked_instead = len(made) < due and len(made) + looks // 32 >= min(due, self.words)
+        took = self.words > 0 and (max(len(made), copied) >= self.words or looked_instead)
+        self.owed = due - len(made) if took and not last.startswith("flipped") and last != "no room" else 0
 
     def steps_due(self, wanted):
         """Returns the steps that are due before the program allocates so many words."""
@@ -340,4 +412,4 @@ class Model:
     def counts(self):
         end, (new_size, new_end, place, field) = len(self.space.words), self.scan_numbers()
         return [self.space.size, end, self.space.size - end, self.mutators, self.extra_roots, int(self.new is not None), new_size, new_end, place, field,
-                self.entries()]
+                self.entries(), self.looks.left(self.new is not None)]

@@ -93,7 +93,7 @@ class Calls:
             self.call(["open", *self.chance.choice([(0, 1, 0), (9, 0, 0), (9, 17, 0), (9, 255, 0)])], OUT_OF_RANGE)
         size = self.chance.choice(SIZES + [self.chance.randrange(1, 6000), 70000])
         mutators = self.chance.choice([1, 1, 2, 3, 16])
-        extra_roots = self.chance.choice([0, 1, 2, 5, 40]) if "root_load" in self.weights else 0
+        extra_roots = self.chance.choice([0, 1, 2, 5, 40, 200]) if "root_load" in self.weights else 0
         self.model = Model(size, mutators, extra_roots)
         self.models.append(self.model)
         self.stack = (0, extra_roots, 0, 0)
@@ -312,30 +312,34 @@ class Calls:
         reply = self.model.step("apply", m)
         self.call(["apply", m], reply, ["c apply %d" % m], [reply])
 
-    def worked(self, most, size=None, words=None):
-        """Performs useful steps, at least one, and returns their lines with their replies, and the report. Ends once replicas take this many
-        words, if a number is given."""
+    def worked(self, most, size=None, words=None, at_once=32):
+        """Performs at most this many units: useful steps, and searches for one that took `at_once` looks and did not come to their end. Returns the steps'
+        lines with their replies, the words copied, the looks, and the report. Ends once replicas take this many words, if a number is given."""
         start = len(self.model.new.words) if self.model.new else 1
-        made, copied, last = [], 0, None
-        while not made or (len(made) < most and not last.startswith("flipped") and last != "no room" and (words is None or copied < words)):
-            made.append(self.model.useful(size))
-            last = made[-1][1]
-            copied = len((self.model.space if last.startswith("flipped") else self.model.new).words) - start
-        return made, "worked %d %d %s" % (len(made), copied, last)
+        made, copied, looks, units, last = [], 0, 0, 0, "done"
+        while units < most and not last.startswith("flipped") and last != "no room" and (not made or words is None or copied < words):
+            units += 1
+            taken, is_found = self.model.search(at_once) if self.model.new else (0, True)
+            looks += taken
+            if is_found:
+                made.append(self.model.useful(size))
+                last = made[-1][1]
+                copied = len((self.model.space if last.startswith("flipped") else self.model.new).words) - start
+        return made, copied, looks, "worked %d %d %d %s" % (len(made), copied, looks, last)
 
     def add_work(self):
         most = self.chance.choice([1, 1, 2, 3, 5, 20, 100])
-        made, report = self.worked(most)
+        made, _, _, report = self.worked(most)
         self.call(["work", most], report, [line for line, _ in made], [reply for _, reply in made])
 
     def add_work_sized(self):
         most, size = self.chance.choice([1, 2, 20, 100]), self.chance.choice([1, len(self.model.space.words), self.model.space.size, self.model.space.size + 7])
-        made, report = self.worked(most, size)
+        made, _, _, report = self.worked(most, size)
         self.call(["work_sized", most, size], report, [line for line, _ in made], [reply for _, reply in made])
 
     def add_work_within(self):
         most, words = self.chance.choice([1, 2, 20, 100]), self.chance.choice([0, 1, 3, 4, 10, 40, (1 << 32) - 1])
-        made, report = self.worked(most, words=words)
+        made, _, _, report = self.worked(most, words=words)
         self.call(["work_within", most, words], report, [line for line, _ in made], [reply for _, reply in made])
 
     # ---- paced work
@@ -353,8 +357,12 @@ class Calls:
     def add_work_paced(self):
         model, wanted = self.model, self.chance.choice([0, 0, 1, 5, 30, self.model.space.size, (1 << 32) - 1])
         due = model.steps_due(wanted)
-        made, report = self.worked(min(due, model.words or due), words=model.words or None) if due else ([], "nothing")
-        model.remember_work(due, made, int(report.split()[2]) if made else 0)
+        made, copied, looks, report = [], 0, 0, "nothing"
+        if due and model.words:
+            made, copied, looks, report = self.worked(min(due, model.words), words=model.words)
+        elif due:
+            made, copied, looks, report = self.worked(due, at_once=None)
+        model.remember_work(due, made, copied, looks)
         remembered = "%d %d %d %d" % (model.left, model.end, model.logged, model.owed)
         self.call(["work_paced", wanted], "%s, %s" % (report, remembered), [line for line, _ in made], [reply for _, reply in made])
 

@@ -26,7 +26,8 @@ def seen(value):
 def worked(work):
     flipped = " %d" % work.pairs if work.last is Step.FLIPPED else ""
     assert flipped or work.pairs == 0
-    return "worked %d %d %s%s" % (work.steps, work.copied, work.last.value, flipped)
+    assert work.steps > 0 or (work.looks > 0 and work.copied == 0 and work.last is None)
+    return "worked %d %d %d %s%s" % (work.steps, work.copied, work.looks, work.last.value if work.last else "done", flipped)
 
 
 def of_mutator(heap, name, numbers):

@@ -270,19 +270,19 @@ class Steps(unittest.TestCase):
             mutator.put(own(0), 1, own(1))
             self.assertEqual(heap.apply(0), Step.NO_ROOM)
             self.assertEqual(heap.log_length(0), 1)
-            self.assertEqual(heap.work(5), (1, 0, Step.NO_ROOM, 0))
+            self.assertEqual(heap.work(5), (1, 0, Step.NO_ROOM, 0, 0))
             self.assertEqual(heap.drop(), Step.DROPPED)
 
     def test_work(self):
         """Performs five steps: begin, the root, the field, past the object, the flip. The replica has three words."""
         with Heap(16) as heap:
             heap.mutator(0).new(own(0), 1, 1)
-            self.assertEqual(heap.work(1), (1, 0, Step.BEGUN, 0))
-            self.assertEqual(heap.work(2), (2, 3, Step.SCANNED, 0))
-            self.assertEqual(heap.work(9), (2, 0, Step.FLIPPED, 1))
-            self.assertEqual(heap.work(9, size=20), (5, 3, Step.FLIPPED, 1))
+            self.assertEqual(heap.work(1), (1, 0, Step.BEGUN, 0, 0))
+            self.assertEqual(heap.work(2), (2, 3, Step.SCANNED, 0, 0))
+            self.assertEqual(heap.work(9), (2, 0, Step.FLIPPED, 1, 0))
+            self.assertEqual(heap.work(9, size=20), (5, 3, Step.FLIPPED, 1, 0))
             self.assertEqual(heap.counts().size, 20)
-            self.assertEqual(heap.work(9, 3), (2, 0, Step.NO_ROOM, 0))
+            self.assertEqual(heap.work(9, 3), (2, 0, Step.NO_ROOM, 0, 0))
 
     def test_work_within(self):
         """Performs the same five steps. With the second one, three words are copied."""

@@ -44,7 +44,7 @@ int main(void)
 {
     gcflip_heap heap = GCFLIP_NO_HEAP;
     const gcflip_options options = gcflip_options_default(WORDS, 1);
-    gcflip_work work = {0, 0, 0, 0};
+    gcflip_work work = {0, 0, 0, 0, 0};
     if (gcflip_heap_open(&heap, &options) != GCFLIP_DONE || gcflip_heap_touch(&heap) != GCFLIP_DONE)
         return 1;
     for (uint64_t number = 1; number <= CELLS; number++)

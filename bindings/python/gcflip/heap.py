@@ -131,17 +131,19 @@ class Work(NamedTuple):
     """What `work` did."""
 
     steps: int
-    """The number of steps performed, at least 1."""
+    """The number of steps performed; 0 if looks took all units."""
     copied: int
     """The number of words that replicas took in the new space during these steps."""
-    last: Step
-    """What the last step did."""
+    last: Step | None
+    """What the last step did, or None if none was performed."""
     pairs: int
     """The number of pairs, if the last step was a flip; else 0."""
+    looks: int
+    """The number of looks at extra roots that found nothing to copy."""
 
 
 def _work_of(work: library.Work) -> Work:
-    return Work(work.steps, work.copied, _step_of(work.last), work.pairs)
+    return Work(work.steps, work.copied, _step_of(work.last) if work.steps else None, work.pairs, work.looks)
 
 
 class Pace:
@@ -149,7 +151,7 @@ class Pace:
 
     A collection begins where the heap has `factor` hundredths, 100 to 10000, of the words that the last flip left, but at least `least` words,
     or where half of the room that the flip left is used up. `rate` steps are due for each word allocated and each entry logged; with 0
-    the counts decide. A call ends once it has performed `words` steps, or copied `words` words; with 0 it performs all steps that are due.
+    the counts decide. A call ends once it has performed `words` units, or copied `words` words; with 0 it performs all steps that are due.
     """
 
     def __init__(self, factor: int = 200, rate: int = 0, least: int = 65536, words: int = 1024) -> None:
@@ -201,7 +203,7 @@ class Counts(NamedTuple):
     extra_roots: int
     """How many the heap was opened with."""
     is_open: bool
-    """Whether a collection is open. All numbers below are 0 if none is."""
+    """Whether a collection is open. All numbers below but `roots_left` are 0 if none is."""
     new_size: int
     """The words of the new space."""
     new_end: int
@@ -212,6 +214,8 @@ class Counts(NamedTuple):
     """The number of its fields that are scanned."""
     logged: int
     """The entries in all logs."""
+    roots_left: int
+    """The looks until the open collection knows each extra root, or those of one that begins now."""
 
 
 class Checking(enum.Enum):
@@ -378,8 +382,9 @@ class Heap:
         return Useful(name.name.lower(), step.mutator if name == StepName.APPLY else None)
 
     def work(self, most: int, size: int | None = None) -> Work:
-        """Performs at most `most` useful steps, as `useful` names them; `most` is not 0. If one of them begins a collection, the new space
-        is as large as the heap, or has `size` words, at least 1.
+        """Performs at most `most` units of work, which is not 0: useful steps, as `useful` names them, and looks at extra roots. Up to 32 looks
+        search for a step; if they do not find it, they are a unit. If a step begins a collection, the new space is as large as the heap, or has
+        `size` words, at least 1.
 
         The call ends after a flip, and after a step that finds no room. If an
         allocation fails, it ends before that step; it raises OutOfMemory only if that was the first step.
@@ -393,19 +398,19 @@ class Heap:
 
     def work_within(self, most: int, words: int) -> Work:
         """Does the same as `work`, but also ends after the step with which the replicas of this call take `words` words or more. A step copies
-        at most one object, so the call passes `words` by less than one object. With 0 words it performs one step."""
+        at most one object, so the call passes `words` by less than one object. With 0 words it performs at most one step."""
         work = library.Work()
         self._call("work_within", most, words, work)
         return _work_of(work)
 
     def work_paced(self, pace: Pace, wanted: int = 0) -> Work | None:
         """Performs the useful steps that are due before the program allocates `wanted` words, and remembers the heap in the pace. Returns None
-        if none is due. Ends early for the reasons of `work`, and once it has performed as many steps, or copied as many words, as the
+        if none is due. Ends early for the reasons of `work`, and once it has performed as many units, or copied as many words, as the
         pace allows; the pace then owes the other steps. Raises OutOfRange if the pace's factor is out of range, and OutOfMemory if an
         allocation of the first step fails; then nothing has changed."""
         work = library.Work()
         self._call("work_paced", pace._raw, wanted, work)
-        return _work_of(work) if work.steps else None
+        return _work_of(work) if work.steps or work.looks else None
 
     def steps_due(self, pace: Pace, wanted: int = 0) -> int:
         """Returns the number of steps that are due. `work_paced` performs them, unless a step or the pace's bound ends it early."""

@@ -32,7 +32,7 @@ class RawStep(ctypes.Structure):
 
 
 class Work(ctypes.Structure):
-    _fields_ = [("steps", c_uint32), ("copied", c_uint32), ("last", c_uint32), ("pairs", c_uint32)]
+    _fields_ = [("steps", c_uint32), ("copied", c_uint32), ("last", c_uint32), ("pairs", c_uint32), ("looks", c_uint32)]
 
 
 class Answer(enum.IntEnum):
@@ -101,7 +101,7 @@ class CheckingNumber(enum.IntEnum):
     AT_FLIP = 1
 
 
-COUNTS = ("size", "end", "free", "mutators", "extra_roots", "is_open", "new_size", "new_end", "scan_place", "scan_field", "logged")
+COUNTS = ("size", "end", "free", "mutators", "extra_roots", "is_open", "new_size", "new_end", "scan_place", "scan_field", "logged", "roots_left")
 
 
 class Counts(ctypes.Structure):
