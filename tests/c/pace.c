@@ -29,7 +29,7 @@ static gcflip_pace pace_of(uint32_t factor, uint32_t rate, uint32_t least, uint3
 /* The steps that are due on a heap of 200 words with these counts. */
 static uint32_t due(gcflip_pace of, uint32_t end, bool is_open, uint32_t scan_place, uint32_t logged, uint32_t wanted)
 {
-    gcflip_counts c = {200, end, 200 - end, 1, 0, is_open, is_open ? 200 : 0, 0, scan_place, 0, logged};
+    gcflip_counts c = {200, end, 200 - end, 1, 0, is_open, is_open ? 200 : 0, 0, scan_place, 0, logged, 0};
     return gcflip_pace_due(&of, &c, wanted);
 }
 
@@ -105,7 +105,7 @@ static void end_below_the_scan_pointer(void)
 static void largest_counts(void)
 {
     const gcflip_pace all = {10000, UINT32_MAX, UINT32_MAX, UINT32_MAX, UINT32_MAX, 0, 0, UINT32_MAX};
-    gcflip_counts c = {UINT32_MAX, UINT32_MAX, 0, 16, 0, 1, UINT32_MAX, 1, 1, 0, UINT32_MAX};
+    gcflip_counts c = {UINT32_MAX, UINT32_MAX, 0, 16, 0, 1, UINT32_MAX, 1, 1, 0, UINT32_MAX, 0};
     EXPECT(gcflip_pace_due(&all, &c, 0) == UINT32_MAX);
     c.free = 1;
     EXPECT(gcflip_pace_due(&all, &c, 0) == UINT32_MAX);
