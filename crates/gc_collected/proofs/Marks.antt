@@ -33,7 +33,7 @@ use Rattle.gc_roots.proofs.Public.{extra_known, opening_keeps, root_command as r
 use Rattle.gc_collected.specs.declared.known.KnownRoots.{KnownRoots}
 use Rattle.gc_collected.specs.declared.known.Found.{Found}
 use Rattle.gc_collected.specs.declared.known.Found.TheVariants.{Missing, AllKnown, Unfinished}
-use Rattle.gc_collected.specs.Internal.Found.{IsFirst, IsMissingExtra}
+use Rattle.gc_collected.specs.Internal.Found.{FindsFirst, IsMissingExtra}
 
 -- what is known of a heap and its roots, with what the monitor has compared
 pub with_looks : {A B C : Type 0} → C → A × B → A × B × C
@@ -199,7 +199,7 @@ module _ (known : KnownRoots) (s : State) (c : Collection) (is : s.collection �
 
 -- and the first root without a replica, where the slots have theirs
 pub rest_found : (c : Collection) (g : Graph) (slots : ℕ) (found : Found) → ((p : ℕ) → p < slots → HasReplicaOf c (root g p)) → (found ≡ AllKnown → (p : ℕ) → HasReplicaOf c (root g p))
-    → IsMissingExtra c g slots found → IsFirst c g found
+    → IsMissingExtra c g slots found → FindsFirst c g found
 rest_found c g slots Unfinished first none some = tt
 rest_found c g slots AllKnown first none some = all_replicated c g (λ p l. none refl p)
 rest_found c g slots (Missing r) first none some = first_missing c g (length g.roots) r.place r.target.0 (record {

@@ -10,7 +10,7 @@ ghost use Rattle.gc_plan.specs.Steps.{root_target};
 ghost use Rattle.gc_copy.specs.Words.{collection_in, open_state, BelongsTo};
 ghost use Rattle.gc_roots.specs.Twins.{IsDone, begun, looks_left};
 ghost use Rattle.gc_collected.specs.Internal.KnownRoots.{ComparesTwins, HasStored, HasStoredPlain, HasWritten, KnowsRoots};
-ghost use Rattle.gc_collected.specs.Internal.Found.{IsAtStart, IsFirst, IsMissingExtra};
+ghost use Rattle.gc_collected.specs.Internal.Found.{IsAtStart, FindsFirst, IsMissingExtra};
 ghost use Rattle.gc_collected.specs.Collected.{HasLookedOn};
 ghost use Rattle.gc_collected.specs.declared.known.Found.{Found};
 
@@ -166,7 +166,7 @@ pub(crate) fn search_within(
     requires knows { KnowsRoots known.old (open_state heap.now collection.now) }
     ensures knows { KnowsRoots known.new (open_state heap.now collection.now) }
     ensures compares { ComparesTwins known.old → ComparesTwins known.new }
-    ensures first { IsFirst (collection_in collection.now) (graph_in heap.now) result.found }
+    ensures first { FindsFirst (collection_in collection.now) (graph_in heap.now) result.found }
     ensures start { IsAtStart heap.now.space.words result.found }
     ensures done { result.found ≡ Found.AllKnown → IsDone known.new.twins }
     ensures looks { HasLookedOn result.looks (looks_left known.old.twins) (looks_left known.new.twins) }

@@ -11,9 +11,9 @@ use Rattle.gc_collected.specs.CollectedHeap.{Allocates}
 use Rattle.gc_collected.specs.Collected.{Beside, Collected, Turns, turns_after}
 use Rattle.gc_collected.specs.declared.flip.Keep.TheVariants.{Room}
 use Rattle.gc_pace.specs.Beside.{HaveRooms, LeavesAfter}
-use Rattle.gc_pace.specs.Internal.Performed.{HasRun, HasDone, joined_run, steps_in, units_in}
+use Rattle.gc_pace.specs.Internal.Performed.{RanSteps, HasDone, joined_run, steps_in, units_in}
 use Rattle.gc_pace.specs.Internal.Waiting.{HasLacked, HaveRun}
-use Rattle.gc_pace.specs.Work.{IsEnd, IsRun, IsWork, after_useful, useful_reply, end_after, end_in, goes_on, is_flip, no_work, units, words_copied}
+use Rattle.gc_pace.specs.Work.{IsEnd, IsRun, IsWork, after_useful, useful_reply, end_after, end_in, goes_on, is_flip, units, words_copied}
 use Rattle.gc_pace.specs.declared.work.Work.{Work}
 use Rattle.gc_pace.specs.declared.work.Looks.{Looks}
 use Rattle.gc_pace.specs.declared.work.Looks.TheVariants.{Count, AreFree}
@@ -64,7 +64,7 @@ module _ (Short : State → StepReply → Type 0) (size : Option ℕ) (old : Col
       (turns : new.beside.turns ≡ turns_after Room mid.beside.turns next.reply)
       (pair : new.beside.pair ≡ mid.beside.pair) where
     -- the run goes on with what was done
-    goes_further : (o : Option StepRun) → HasDone Short size old mid o → IfSome o (λ first. (goes_on first.reply ≡ true) × Short mid.core first.reply) → HasRun Short size old new (joined_run o next)
+    goes_further : (o : Option StepRun) → HasDone Short size old mid o → IfSome o (λ first. (goes_on first.reply ≡ true) × Short mid.core first.reply) → RanSteps Short size old new (joined_run o next)
     goes_further None done on = record {
       run = subst (λ (s : State). IsRun size next.steps s new.core next.reply) done.0 run;
       short = subst (λ (s : State). (k : ℕ) → suc k < next.steps → Short (after_useful size (suc k) s) (useful_reply size k s)) done.0 short;
@@ -108,7 +108,7 @@ module _ (Short : State → StepReply → Type 0) (size : Option ℕ) (old was m
       → ((k : ℕ) → suc k < next.steps → Short (after_useful size (suc k) mid.core) (useful_reply size k mid.core))
       → LeavesAfter size next.steps mid.core mid.beside.former new.beside.former
       → new.beside.turns ≡ turns_after Room mid.beside.turns next.reply → new.beside.pair ≡ mid.beside.pair
-      → HasRun Short size old new (joined_run o next)
+      → RanSteps Short size old new (joined_run o next)
   run_further next run short former turns pair = goes_further Short size old mid new next run short former turns pair o (done_alike Short size old was mid o core beside done) (on_alike Short size old was mid o core on)
 
   pub further_rooms : (next : StepRun) → IfSome o (λ first. HaveRooms size old.core old.beside (is_flip first.reply) was.beside.rooms) → HaveRooms size mid.core mid.beside (is_flip next.reply) new.beside.rooms
@@ -127,7 +127,7 @@ units_of AreFree work = refl
 
 -- a run that ended where it had to is work
 pub reported : (Short : State → StepReply → Type 0) (looks_as : Looks) (size words : Option ℕ) (most start : ℕ) (old before : Collected) (work : Work) (run : StepRun)
-    → start ≡ end_in old.core → work.steps ≡ run.steps → work.copied ≡ end_after before.core run.reply - start → work.last ≡ Some run.reply → HasRun Short size old before run → run.steps ≤ most
+    → start ≡ end_in old.core → work.steps ≡ run.steps → work.copied ≡ end_after before.core run.reply - start → work.last ≡ Some run.reply → RanSteps Short size old before run → run.steps ≤ most
     → (units_in looks_as work.looks run.steps < most → IsEnd size words before.core run.reply work.copied)
     → IfSome words (λ most. (k : ℕ) → suc k < work.steps → words_copied old.core (after_useful size (suc k) old.core) (useful_reply size k old.core) < most)
     → IsWork looks_as size words most old.core before.core work
@@ -157,10 +157,3 @@ reported Short looks_as size words most start old before work run begin counted 
         low : (l : Looks) → work.steps ≤ units l work
         low Count = omega arith
         low AreFree = omega arith
-
--- so is one that took as many looks as there are units
-pub only_looked : (looks_as : Looks) (size words : Option ℕ) (most looks : ℕ) (old new : Collected) → new.core ≡ old.core → most ≤ units_in looks_as looks 0 → IsWork looks_as size words most old.core new.core (record no_work { looks = looks })
-only_looked looks_as size words most looks old new same busy = record {
-  none = λ none. record { state = same; told = refl; busy = omega (arith, busy, units_of looks_as (record no_work { looks = looks })) };
-  some = λ some. absurd (omega (arith, some));
-}

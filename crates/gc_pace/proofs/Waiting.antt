@@ -15,7 +15,7 @@ use Rattle.gc_collected.specs.Collected.{Collected, Beside, Rooms, Turns, Begins
 use Rattle.gc_collected.specs.declared.flip.Keep.TheVariants.{Room}
 use Rattle.gc_pace.specs.Internal.Leaving.{LeavesLess}
 use Rattle.gc_copy.specs.declared.collection.stepping.StepRun.{StepRun}
-use Rattle.gc_pace.specs.Internal.Performed.{HasRun, HasDone, HasSeen}
+use Rattle.gc_pace.specs.Internal.Performed.{RanSteps, HasSeen}
 use Rattle.gc_pace.specs.Internal.Waiting.{HasLacked, HaveRun}
 use Rattle.gc_pace.specs.Beside.{LeavesAfter, HaveRooms, HaveWorked, LeavesBeside}
 use Rattle.gc_pace.proofs.Flips.{turns_told}
@@ -144,7 +144,7 @@ begin_other : (size : Option ℕ) → (with_size size steps.Begin ≢ steps.Flip
 begin_other size = grind (arith, common_steps)
 
 -- a useful step that does not flip is another one
-pub useful_quiet : (size : Option ℕ) (s t : State) (b : Beside) (rooms : Rooms) (step : Step) (reply : StepReply) → step ≡ sized_step size s → collect s step ≡ (reply, t) → LeavesLess s t reply → is_flip reply ≡ false
+useful_quiet : (size : Option ℕ) (s t : State) (b : Beside) (rooms : Rooms) (step : Step) (reply : StepReply) → step ≡ sized_step size s → collect s step ≡ (reply, t) → LeavesLess s t reply → is_flip reply ≡ false
     → (step ≢ steps.Flip) × (step ≢ steps.Drop)
 useful_quiet size s t b rooms step reply is made less quiet = from s.collection refl
   where
@@ -251,7 +251,7 @@ worked size s b work reply before new steps last run is = subst (λ (x : Collect
 
 -- all that work leaves beside the state, once it gave a slice back
 pub leaves_beside : (Short : State → StepReply → Type 0) (size : Option ℕ) (old before new : Collected) (work : Work) (run : StepRun) → work.steps ≡ run.steps → work.last ≡ Some run.reply
-    → HasRun Short size old before run → HaveRun size old.core before.core old.beside (is_flip run.reply) before.beside.rooms → HasSeen old.roots_left before.roots_left work.looks (Some run)
+    → RanSteps Short size old before run → HaveRun size old.core before.core old.beside (is_flip run.reply) before.beside.rooms → HasSeen old.roots_left before.roots_left work.looks (Some run)
     → new ≡ with_rooms before (rooms_given_back before.beside.rooms) → LeavesBeside size old new work
 leaves_beside Short size old before new work run counted last done rooms seen is = record {
   former = subst (λ (x : Collected). LeavesAfter size work.steps old.core old.beside.former x.beside.former) (sym is)
@@ -260,16 +260,6 @@ leaves_beside Short size old before new work run counted last done rooms seen is
   rooms = worked size old.core old.beside work run.reply before new (let some = done.run.some in omega (arith, counted, some)) last rooms is;
   pair = ap (λ (x : Collected). x.beside.pair) is ∙ done.pair;
   looks = record { few = seen.few; less = λ quiet. let left = ap (λ (x : Collected). x.roots_left) is in omega (arith, left, seen.less (flip_told work run.reply last ∙ quiet)) };
-}
-
--- looks alone leave all as it is
-pub looked_beside : (Short : State → StepReply → Type 0) (size : Option ℕ) (old new : Collected) (looks : ℕ) → HasDone Short size old new None → HasSeen old.roots_left new.roots_left looks None → LeavesBeside size old new (record no_work { looks = looks })
-looked_beside Short size old new looks done seen = record {
-  former = ap (λ (b : Beside). b.former) done.1;
-  turns = ap (λ (b : Beside). b.turns) done.1;
-  rooms = record { none = λ _. ap (λ (b : Beside). b.rooms) done.1; some = λ steps. absurd (omega arith) };
-  pair = ap (λ (b : Beside). b.pair) done.1;
-  looks = record { few = seen.few; less = λ _. seen.less refl };
 }
 
 -- no work

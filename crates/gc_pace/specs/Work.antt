@@ -111,7 +111,7 @@ pub record LooksOnly (looks_as : Looks) (most : ℕ) (s t : State) (work : Work)
 
 -- The work performed steps, its begin taking this size. If there is a bound for the words, it also ends after the step with which its replicas
 -- have taken as many.
-pub record HasPerformed (looks_as : Looks) (size words : Option ℕ) (most : ℕ) (s t : State) (work : Work) : Type 0 where
+pub record IsWorkDone (looks_as : Looks) (size words : Option ℕ) (most : ℕ) (s t : State) (work : Work) : Type 0 where
   pub reply : StepReply
   pub run : IsRun size work.steps s t reply
   pub last : work.last ≡ Some reply
@@ -126,4 +126,4 @@ pub record HasPerformed (looks_as : Looks) (size words : Option ℕ) (most : ℕ
 -- What work reports of at most this many units.
 pub record IsWork (looks_as : Looks) (size words : Option ℕ) (most : ℕ) (s t : State) (work : Work) : Type 0 where
   pub none : work.steps ≡ 0 → LooksOnly looks_as most s t work
-  pub some : 1 ≤ work.steps → HasPerformed looks_as size words most s t work
+  pub some : 1 ≤ work.steps → IsWorkDone looks_as size words most s t work

@@ -11,7 +11,7 @@ marks_bounded marks zero = omega arith
 marks_bounded marks (suc n) = grind (arith, common_steps, marks_bounded marks n)
 
 -- the same marks, as many of them
-pub same_marks : (was now : List ℕ) (n : ℕ) → ((i : ℕ) → i < n → is_marked now i ≡ is_marked was i) → marks_below now n ≡ marks_below was n
+same_marks : (was now : List ℕ) (n : ℕ) → ((i : ℕ) → i < n → is_marked now i ≡ is_marked was i) → marks_below now n ≡ marks_below was n
 same_marks was now zero same = refl
 same_marks was now (suc n) same = grind (arith, common_steps, same_marks was now n (λ i less. same i (omega (arith, less))), same n (omega arith))
 

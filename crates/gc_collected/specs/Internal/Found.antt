@@ -9,10 +9,10 @@ use Rattle.gc_collected.specs.declared.known.Found.{Found}
 use Rattle.gc_collected.specs.declared.known.Found.TheVariants.{Missing, AllKnown, Unfinished}
 
 -- it found the target of the first root without a replica, or that there is none, unless it is unfinished
-abbrev pub IsFirst : Collection → Graph → Found → Type 0
-IsFirst c g (Missing r) = root_target c g ≡ Some r.target.0
-IsFirst c g AllKnown = root_target c g ≡ None
-IsFirst c g Unfinished = ⊤
+abbrev pub FindsFirst : Collection → Graph → Found → Type 0
+FindsFirst c g (Missing r) = root_target c g ≡ Some r.target.0
+FindsFirst c g AllKnown = root_target c g ≡ None
+FindsFirst c g Unfinished = ⊤
 
 -- a target that it found begins in these words
 abbrev pub IsAtStart : List ℕ → Found → Type 0

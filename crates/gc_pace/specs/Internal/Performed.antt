@@ -12,7 +12,7 @@ use Rattle.gc_pace.specs.declared.work.Looks.TheVariants.{Count, AreFree}
 use Rattle.gc_pace.specs.Work.{IsRun, after_useful, useful_reply, is_flip}
 
 -- a run of steps leads from one heap to another; before the last step it was short of what is enough
-pub record HasRun (Short : State → StepReply → Type 0) (size : Option ℕ) (old new : Collected) (performed : StepRun) : Type 0 where
+pub record RanSteps (Short : State → StepReply → Type 0) (size : Option ℕ) (old new : Collected) (performed : StepRun) : Type 0 where
   pub run : IsRun size performed.steps old.core new.core performed.reply
   pub short : (k : ℕ) → suc k < performed.steps → Short (after_useful size (suc k) old.core) (useful_reply size k old.core)
   pub former : LeavesAfter size performed.steps old.core old.beside.former new.beside.former
@@ -22,7 +22,7 @@ pub record HasRun (Short : State → StepReply → Type 0) (size : Option ℕ) (
 -- a run leads from one heap to another, or there was none, and the heap is as it was
 abbrev pub HasDone : (State → StepReply → Type 0) → Option ℕ → Collected → Collected → Option StepRun → Type 0
 HasDone Short size old new None = (new.core ≡ old.core) × (new.beside ≡ old.beside)
-HasDone Short size old new (Some run) = HasRun Short size old new run
+HasDone Short size old new (Some run) = RanSteps Short size old new run
 
 abbrev pub steps_in : Option StepRun → ℕ
 steps_in run = option_map_or (λ (r : StepRun). r.steps) run 0

@@ -4,7 +4,7 @@ use Rattle.gc_plan.specs.declared.step.StepReply.{StepReply}
 use Rattle.gc_copy.specs.declared.collection.stepping.StepRun.{StepRun}
 use Rattle.gc_collected.specs.Collected.{Beside, Collected}
 use Rattle.gc_pace.specs.Beside.{HaveRooms}
-use Rattle.gc_pace.specs.Internal.Performed.{HasRun, steps_in}
+use Rattle.gc_pace.specs.Internal.Performed.{RanSteps, steps_in}
 use Rattle.gc_pace.specs.Work.{goes_on, is_flip}
 use Rattle.gc_pace.proofs.Performed.{further_lacked, further_rooms, joined_reply, joined_steps, more_units, quiet_so_far, run_further}
 use Rattle.gc_pace.proofs.work.useful_steps.Goals as goal
@@ -30,7 +30,7 @@ returns-then-not-can_go_on-clause-done g c =
     let chosen = c.choose_step-looks.ensures in
     let was = c.loop-units.invariant in
     let e = c.in-Ok.ensures in
-    subst (HasRun (g.P.Performs.short c.args.performs.now) c.args.size c.args.heap.now c.perform.new.heap) (sym c.joined.ensures)
+    subst (RanSteps (g.P.Performs.short c.args.performs.now) c.args.size c.args.heap.now c.perform.new.heap) (sym c.joined.ensures)
     (run_further (g.P.Performs.short c.args.performs.now) c.args.size c.args.heap.now c.loop-units.heap c.choose_step-looks.new.self c.perform.new.heap c.loop-units.done.run chosen.core chosen.beside was.done was.on
     c.in-Ok.next e.run e.short e.former e.turns e.pair)
 
@@ -47,7 +47,7 @@ returns-then-has_enough-clause-done g c =
     let chosen = c.choose_step-looks.ensures in
     let was = c.loop-units.invariant in
     let e = c.in-Ok.ensures in
-    subst (HasRun (g.P.Performs.short c.args.performs.now) c.args.size c.args.heap.now c.perform.new.heap) (sym c.joined.ensures)
+    subst (RanSteps (g.P.Performs.short c.args.performs.now) c.args.size c.args.heap.now c.perform.new.heap) (sym c.joined.ensures)
     (run_further (g.P.Performs.short c.args.performs.now) c.args.size c.args.heap.now c.loop-units.heap c.choose_step-looks.new.self c.perform.new.heap c.loop-units.done.run chosen.core chosen.beside was.done was.on
     c.in-Ok.next e.run e.short e.former e.turns e.pair)
 
@@ -73,7 +73,7 @@ loop-units-preserved g c =
     let on : goes_on c.in-Ok.next.reply ≡ true = sym c.can_go_on.ensures ∙ c.if-not-can_go_on.false in
     let steps : c.joined.result.steps ≡ steps_in c.loop-units.done.run + c.in-Ok.next.steps = ap (λ (run : StepRun). run.steps) c.joined.ensures ∙ joined_steps c.loop-units.done.run c.in-Ok.next in
     record {
-      done = subst (HasRun (g.P.Performs.short c.args.performs.now) c.args.size c.args.heap.now c.perform.new.heap) (sym c.joined.ensures)
+      done = subst (RanSteps (g.P.Performs.short c.args.performs.now) c.args.size c.args.heap.now c.perform.new.heap) (sym c.joined.ensures)
           (run_further (g.P.Performs.short c.args.performs.now) c.args.size c.args.heap.now c.loop-units.heap c.choose_step-looks.new.self c.perform.new.heap c.loop-units.done.run chosen.core chosen.beside was.done was.on
           c.in-Ok.next e.run e.short e.former e.turns e.pair);
       on = subst (λ (r : StepReply). (goes_on r ≡ true) × g.P.Performs.short c.args.performs.now c.perform.new.heap.core r) (sym reply) (on, c.has_enough.ensures.short c.if-has_enough.false);
