@@ -11,8 +11,8 @@ use Rattle.gc_collected.specs.CollectedHeap.{Allocates}
 use Rattle.gc_plan.specs.declared.step.StepReply.{StepReply}
 use Rattle.gc_plan.proofs.Public.{left_bounded}
 use Rattle.gc_pace.specs.Counts.{counts_of}
-use Rattle.gc_pace.specs.Work.{IsRun, IsEnd, IsWork, after_useful, goes_on, is_over, no_work, sized_step, units}
-use Rattle.gc_pace.specs.declared.work.Looks.TheVariants.{Count, AreFree}
+use Rattle.gc_pace.specs.Work.{IsRun, IsEnd, IsSpent, IsWork, after_useful, goes_on, is_over, no_work, sized_step, units}
+use Rattle.gc_pace.specs.declared.work.Looks.TheVariants.{CountUpTo, AreFree}
 use Rattle.gc_pace.specs.Pace.{steps_left, spent, steps_due, Pays, took_its_words, owed_after, pace_after, CountsAll, HasEnded, IsPacedWork}
 use Rattle.gc_pace.specs.declared.pace.Pace.{Pace}
 use Rattle.gc_pace.specs.declared.counts.Counts.{Counts}
@@ -42,11 +42,11 @@ pub record IsDueWork (before : Pace) (due : ℕ) (s t : State) (work : Work) : T
   pub ends : work_left s ≤ due → HasEnded t work ⊎ IsTrue (took_its_words before due work)
 
 -- the call took its words
-took : (before : Pace) (due : ℕ) (work : Work) → 1 ≤ before.words → (before.words ≤ work.steps) ⊎ (before.words ≤ work.copied) → IsTrue (took_its_words before due work)
+took : (before : Pace) (due : ℕ) (work : Work) → 1 ≤ before.words → (before.words ≤ work.steps) ⊎ ((before.words ≤ work.looks) ⊎ (before.words ≤ work.copied)) → IsTrue (took_its_words before due work)
 took before due work bounded many = grind (arith, common_steps, le-leb)
 
 -- looks took the place of steps
-took_looks : (before : Pace) (due : ℕ) (work : Work) → 1 ≤ before.words → work.steps < due → min due before.words ≤ units Count work → IsTrue (took_its_words before due work)
+took_looks : (before : Pace) (due : ℕ) (work : Work) → 1 ≤ before.words → work.steps < due → min due before.words ≤ units work → IsTrue (took_its_words before due work)
 took_looks before due work bounded fewer many = grind (arith, common_steps, le-leb, lt-ltb)
 
 -- work that ended, or took so many words, has ended or took its words
@@ -54,27 +54,26 @@ end_or_words : (before : Pace) (due : ℕ) (t : State) (reply : StepReply) (work
     → HasEnded t work ⊎ IsTrue (took_its_words before due work)
 end_or_words before due t reply work bounded last (inl ends) = inl (inl (over_of work reply last ends))
 end_or_words before due t reply work bounded last (inr (inl allocates)) = inl (inr (unsized_allocates t allocates))
-end_or_words before due t reply work bounded last (inr (inr copied)) = inr (took before due work bounded (inr copied))
+end_or_words before due t reply work bounded last (inr (inr copied)) = inr (took before due work bounded (inr (inr copied)))
 
-due_within : (before : Pace) (due : ℕ) (s t : State) (work : Work) → 1 ≤ before.words → IsWork Count None (Some before.words) (min due before.words) s t work → IsDueWork before due s t work
-due_within before due s t work bounded w = record {
+-- a call that can do no more took its words, unless it performed all steps that were due
+spent_words : (before : Pace) (due : ℕ) (work : Work) → 1 ≤ before.words → work.steps < due → IsSpent (CountUpTo before.words) (min due before.words) work.looks work.steps → IsTrue (took_its_words before due work)
+spent_words before due work bounded fewer (inl all) = took_looks before due work bounded fewer all
+spent_words before due work bounded fewer (inr many) = took before due work bounded (inr (inl many))
+
+due_within : (before : Pace) (due : ℕ) (s t : State) (work : Work) → 1 ≤ before.words → 1 ≤ due → IsWork (CountUpTo before.words) None (Some before.words) (min due before.words) s t work → IsDueWork before due s t work
+due_within before due s t work bounded busy w = record {
   none = λ zero. (w.none zero).state;
   some = λ some. let p = w.some some in (p.reply, p.run, p.last);
-  ends = λ low. elim (cases_lt work.steps before.words) [
-    | inr many ↦ inr (took before due work bounded (inl many))
-    | inl few ↦ elim (cases_lt work.steps due) [
-      | inl fewer ↦ elim (cases_lt (units Count work) (min due before.words)) [
-        | inr all ↦ inr (took_looks before due work bounded fewer all)
-        | inl less ↦ elim (cases_lt work.steps 1) [
-          | inl zero ↦ absurd (omega (arith, less, (w.none (omega (arith, zero))).busy))
-          | inr some ↦ (let p = w.some some in end_or_words before due t p.reply work bounded p.last (p.ended less))
-        ]
+  ends = λ low. elim (cases_lt work.steps 1) [
+    | inl zero ↦ inr (spent_words before due work bounded (omega (arith, zero, busy)) (w.none (omega (arith, zero))).spent)
+    | inr some ↦ (let p = w.some some in elim (cases_lt work.steps due) [
+      | inr enough ↦ inl (inl (over_of work p.reply p.last (run_over None work.steps s t p.reply p.run (omega (arith, low, enough)))))
+      | inl fewer ↦ elim p.ended [
+        | inl spent ↦ inr (spent_words before due work bounded fewer spent)
+        | inr ends ↦ end_or_words before due t p.reply work bounded p.last ends
       ]
-      | inr enough ↦ elim (cases_lt work.steps 1) [
-        | inl zero ↦ absurd (omega (arith, zero, enough, low, some_left s))
-        | inr some ↦ (let p = w.some some in inl (inl (over_of work p.reply p.last (run_over None work.steps s t p.reply p.run (omega (arith, low, enough))))))
-      ]
-    ]
+    ])
   ];
 }
 
@@ -83,20 +82,21 @@ due_through before due s t work busy w = record {
   none = λ zero. (w.none zero).state;
   some = λ some. let p = w.some some in (p.reply, p.run, p.last);
   ends = λ low. elim (cases_lt work.steps 1) [
-    | inl zero ↦ absurd (omega (arith, zero, busy, (w.none (omega (arith, zero))).busy))
-    | inr some ↦ (let p = w.some some in inl (elim (p.enough (omega (arith, low))) [
-      | inl ends ↦ inl (over_of work p.reply p.last ends)
-      | inr (inl allocates) ↦ inr (unsized_allocates t allocates)
-      | inr (inr never) ↦ absurd never
+    | inl zero ↦ absurd (omega (arith, zero, busy, (w.none (omega (arith, zero))).spent))
+    | inr some ↦ (let p = w.some some in inl (elim p.ended [
+      | inl spent ↦ inl (over_of work p.reply p.last (run_over None work.steps s t p.reply p.run (omega (arith, low, spent))))
+      | inr (inl ends) ↦ inl (over_of work p.reply p.last ends)
+      | inr (inr (inl allocates)) ↦ inr (unsized_allocates t allocates)
+      | inr (inr (inr never)) ↦ absurd never
     ]))
   ];
 }
 
 pub due_work : (before : Pace) (due : ℕ) (s t : State) (work : Work) → 1 ≤ due
-    → (before.words ≡ 0 → IsWork AreFree None None due s t work) → (1 ≤ before.words → IsWork Count None (Some before.words) (min due before.words) s t work) → IsDueWork before due s t work
+    → (before.words ≡ 0 → IsWork AreFree None None due s t work) → (1 ≤ before.words → IsWork (CountUpTo before.words) None (Some before.words) (min due before.words) s t work) → IsDueWork before due s t work
 due_work before due s t work busy whole within = ⊎_elim
     (λ (none : before.words < 1). due_through before due s t work busy (whole (omega (arith, none))))
-    (λ (bounded : 1 ≤ before.words). due_within before due s t work bounded (within bounded))
+    (λ (bounded : 1 ≤ before.words). due_within before due s t work bounded busy (within bounded))
     (cases_lt before.words 1)
 
 -- the steps lowered the work that is left by their number
@@ -151,7 +151,7 @@ paced_work : (wanted : ℕ) (s t : State) (before after : Pace) (work : Work)
     → IsSpaceGraph s.size s.heap.free s.heap.graph → IfSome s.collection (IsOpened s)
     → (steps_due before (counts_of s) wanted ≡ 0 → (t ≡ s) × (work ≡ no_work))
     → (1 ≤ steps_due before (counts_of s) wanted → before.words ≡ 0 → IsWork AreFree None None (steps_due before (counts_of s) wanted) s t work)
-    → (1 ≤ steps_due before (counts_of s) wanted → 1 ≤ before.words → IsWork Count None (Some before.words) (min (steps_due before (counts_of s) wanted) before.words) s t work)
+    → (1 ≤ steps_due before (counts_of s) wanted → 1 ≤ before.words → IsWork (CountUpTo before.words) None (Some before.words) (min (steps_due before (counts_of s) wanted) before.words) s t work)
     → Pays before (counts_of s) (steps_due before (counts_of s) wanted) → after ≡ pace_after before (steps_due before (counts_of s) wanted) work (counts_of t)
     → IsPacedWork wanted s t before after work
 paced_work wanted s t before after work heap opened none some within paid pace = record {
@@ -180,7 +180,7 @@ paced_work wanted s t before after work heap opened none some within paid pace =
 -- the same, as the call finds the counts and the steps that are due, whatever it finds of the looks that are left
 pub paced_call : (wanted due left later_left : ℕ) (s t : State) (before after : Pace) (work : Work) (counts later : Counts)
     → due ≡ steps_due before counts wanted → Pays before counts due
-    → (due ≡ 0 → (t ≡ s) × (work ≡ no_work)) → (1 ≤ due → before.words ≡ 0 → IsWork AreFree None None due s t work) → (1 ≤ due → 1 ≤ before.words → IsWork Count None (Some before.words) (min due before.words) s t work)
+    → (due ≡ 0 → (t ≡ s) × (work ≡ no_work)) → (1 ≤ due → before.words ≡ 0 → IsWork AreFree None None due s t work) → (1 ≤ due → 1 ≤ before.words → IsWork (CountUpTo before.words) None (Some before.words) (min due before.words) s t work)
     → after ≡ pace_after before due work later
     → counts ≡ record (counts_of s) { roots_left = left } → later ≡ record (counts_of t) { roots_left = later_left }
     → IsSpaceGraph s.size s.heap.free s.heap.graph → IfSome s.collection (IsOpened s)
@@ -190,6 +190,6 @@ paced_call wanted due left later_left s t before after work counts later is pays
     paced_work wanted s t before after work heap opened
     (subst (λ (n : ℕ). n ≡ 0 → (t ≡ s) × (work ≡ no_work)) same none)
     (subst (λ (n : ℕ). 1 ≤ n → before.words ≡ 0 → IsWork AreFree None None n s t work) same some)
-    (subst (λ (n : ℕ). 1 ≤ n → 1 ≤ before.words → IsWork Count None (Some before.words) (min n before.words) s t work) same within)
+    (subst (λ (n : ℕ). 1 ≤ n → 1 ≤ before.words → IsWork (CountUpTo before.words) None (Some before.words) (min n before.words) s t work) same within)
     (subst (λ (n : ℕ). Pays before (counts_of s) n) same (subst (λ (n : Counts). Pays before n due) at pays))
     (pace ∙ (ap (λ (n : ℕ). pace_after before n work later) same ∙ ap (pace_after before (steps_due before (counts_of s) wanted) work) then))

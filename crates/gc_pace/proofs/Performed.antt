@@ -1,8 +1,7 @@
 -- A run of useful steps after what a call has done so far, which may be nothing.
 use Rattle.std.proofs.lemmas.Grind.{common_steps}
-use Rattle.std.proofs.Common.{◌≡◌, inl, inr, ℕ, suc, ◌+◌, ◌-◌, ◌<◌, ◌≤◌, true, false, Option, Some, None, refl, sym, ap, ◌∙◌, subst, arith}
+use Rattle.std.proofs.Common.{◌⊎◌, ◌≡◌, inl, inr, ℕ, suc, ◌+◌, ◌-◌, ◌<◌, ◌≤◌, true, false, Option, Some, None, refl, sym, ap, ◌∙◌, subst, arith}
 use Rattle.std.specs.Prelude.{IfSome}
-use Rattle.std.proofs.lemmas.Bool.{cases_lt}
 use Rattle.gc_plan.specs.State.{State}
 use Rattle.gc_plan.specs.declared.step.Step.TheVariants as steps
 use Rattle.gc_plan.specs.declared.step.StepReply.{StepReply}
@@ -11,12 +10,12 @@ use Rattle.gc_collected.specs.CollectedHeap.{Allocates}
 use Rattle.gc_collected.specs.Collected.{Beside, Collected, Turns, turns_after}
 use Rattle.gc_collected.specs.declared.flip.Keep.TheVariants.{Room}
 use Rattle.gc_pace.specs.Beside.{HaveRooms, LeavesAfter}
-use Rattle.gc_pace.specs.Internal.Performed.{RanSteps, HasDone, joined_run, steps_in, units_in}
+use Rattle.gc_pace.specs.Internal.Performed.{AreFew, CountedBy, RanSteps, HasDone, at_once, joined_run, steps_in}
 use Rattle.gc_pace.specs.Internal.Waiting.{HasLacked, HaveRun}
-use Rattle.gc_pace.specs.Work.{IsEnd, IsRun, IsWork, after_useful, useful_reply, end_after, end_in, goes_on, is_flip, units, words_copied}
+use Rattle.gc_pace.specs.Work.{IsEnd, IsRun, IsSpent, IsWork, after_useful, useful_reply, end_after, end_in, goes_on, is_flip, units, words_copied}
 use Rattle.gc_pace.specs.declared.work.Work.{Work}
 use Rattle.gc_pace.specs.declared.work.Looks.{Looks}
-use Rattle.gc_pace.specs.declared.work.Looks.TheVariants.{Count, AreFree}
+use Rattle.gc_pace.specs.declared.work.Looks.TheVariants.{Count, CountUpTo, AreFree}
 use Rattle.gc_pace.proofs.Flips.{turns_going}
 use Rattle.gc_pace.proofs.Joined.{joined, joined_left, joined_short}
 use Rattle.gc_pace.proofs.Runs.{run_over}
@@ -35,9 +34,16 @@ pub quiet_so_far : (reply : StepReply) → goes_on reply ≡ true → is_flip re
 quiet_so_far reply on = grind (arith, common_steps)
 
 -- the units of looks and steps, and of more of both
-pub more_units : (looks_as : Looks) (units looks more steps next all : ℕ) → all ≡ steps + next → units ≤ units_in looks_as looks steps → units + next ≤ units_in looks_as (looks + more) all
+pub more_units : (looks_as : Looks) (units looks more steps next all : ℕ) → all ≡ steps + next → CountedBy looks_as looks steps units → CountedBy looks_as (looks + more) all (units + next)
 more_units Count units looks more steps next all is low = omega (arith, is, low)
+more_units (CountUpTo n) units looks more steps next all is low = omega (arith, is, low)
 more_units AreFree units looks more steps next all is low = omega (arith, is, low)
+
+-- so many looks in one unit more
+pub few_more : (looks_as : Looks) (units next looks more : ℕ) → 1 ≤ next → more ≤ at_once looks_as looks → AreFew looks_as units looks → AreFew looks_as (units + next) (looks + more)
+few_more Count units next looks more some within low = omega (arith, some, within, low)
+few_more (CountUpTo n) units next looks more some within low = (omega (arith, some, within, low.0), omega (arith, within, low.1))
+few_more AreFree units next looks more some within low = tt
 
 module _ (Short : State → StepReply → Type 0) (size : Option ℕ) (old : Collected) where
   -- how many looks are left tells nothing of the steps
@@ -121,14 +127,10 @@ module _ (Short : State → StepReply → Type 0) (size : Option ℕ) (old was m
 
 -- ---- the report of a run
 
-units_of : (looks_as : Looks) (work : Work) → units looks_as work ≡ units_in looks_as work.looks work.steps
-units_of Count work = refl
-units_of AreFree work = refl
-
 -- a run that ended where it had to is work
 pub reported : (Short : State → StepReply → Type 0) (looks_as : Looks) (size words : Option ℕ) (most start : ℕ) (old before : Collected) (work : Work) (run : StepRun)
     → start ≡ end_in old.core → work.steps ≡ run.steps → work.copied ≡ end_after before.core run.reply - start → work.last ≡ Some run.reply → RanSteps Short size old before run → run.steps ≤ most
-    → (units_in looks_as work.looks run.steps < most → IsEnd size words before.core run.reply work.copied)
+    → IsSpent looks_as most work.looks run.steps ⊎ IsEnd size words before.core run.reply work.copied
     → IfSome words (λ most. (k : ℕ) → suc k < work.steps → words_copied old.core (after_useful size (suc k) old.core) (useful_reply size k old.core) < most)
     → IsWork looks_as size words most old.core before.core work
 reported Short looks_as size words most start old before work run begin counted copied last done within ended short = record {
@@ -139,21 +141,8 @@ reported Short looks_as size words most start old before work run begin counted 
     last = last;
     copied = copied ∙ ap (λ (n : ℕ). end_after before.core run.reply - n) begin;
     within = omega (arith, within, counted);
-    ended = λ less. ended (omega (arith, less, same));
-    enough = λ low. elim (cases_lt (units looks_as work) most) [
-      | inl less ↦ ended (omega (arith, less, same))
-      | inr all ↦ inl (run_over size run.steps old.core before.core run.reply done.run (omega (arith, low, all, counted, steps_low)))
-    ];
+    ended = subst (λ (n : ℕ). IsSpent looks_as most work.looks n ⊎ IsEnd size words before.core run.reply work.copied) (sym counted) ended;
+    enough = λ low. inl (run_over size run.steps old.core before.core run.reply done.run (omega (arith, low, counted)));
     short = short;
   };
 }
-  where
-    same : units looks_as work ≡ units_in looks_as work.looks run.steps
-    same = units_of looks_as work ∙ ap (units_in looks_as work.looks) counted
-
-    steps_low : work.steps ≤ units looks_as work
-    steps_low = low looks_as
-      where
-        low : (l : Looks) → work.steps ≤ units l work
-        low Count = omega arith
-        low AreFree = omega arith

@@ -8,7 +8,7 @@ use Rattle.gc_pace.specs.Counts.{counts_of}
 use Rattle.gc_pace.specs.Work.{IsWork, has_flipped, is_over, no_work, units}
 use Rattle.gc_pace.specs.declared.counts.Counts.{Counts}
 use Rattle.gc_pace.specs.declared.pace.Pace.{Pace}
-use Rattle.gc_pace.specs.declared.work.Looks.TheVariants.{Count, AreFree}
+use Rattle.gc_pace.specs.declared.work.Looks.TheVariants.{CountUpTo, AreFree}
 use Rattle.gc_pace.specs.declared.work.Work.{Work}
 
 -- the factor is in range
@@ -59,12 +59,12 @@ pace_from pace counts = record pace { left = counts.end; end = counts.end; logge
 
 -- looks took the place of steps, so many of which were due, in a call that performs no more units than this
 abbrev pub looked_instead : ℕ → ℕ → Work → Bool
-looked_instead due most work = nat_lt work.steps due && nat_le most (units Count work)
+looked_instead due most work = nat_lt work.steps due && nat_le most (units work)
 
--- The pace bounds the words of a call for which so many steps were due. The call performed as many steps, or its replicas took as many words, or
--- looks took the place of steps.
+-- The pace bounds the words of a call for which so many steps were due. The call performed as many steps, or took as many looks, or its replicas took
+-- as many words, or looks took the place of steps.
 abbrev pub took_its_words : Pace → ℕ → Work → Bool
-took_its_words pace due work = nat_lt 0 pace.words && (nat_le pace.words work.steps || (nat_le pace.words work.copied || looked_instead due (min due pace.words) work))
+took_its_words pace due work = nat_lt 0 pace.words && (nat_le pace.words work.steps || (nat_le pace.words work.looks || (nat_le pace.words work.copied || looked_instead due (min due pace.words) work)))
 
 -- The steps that are owed after this work: those of the steps due that it left because it took its words.
 abbrev pub owed_after : Pace → ℕ → Work → ℕ
@@ -99,7 +99,7 @@ pub record IsPacedWork (wanted : ℕ) (s t : State) (before after : Pace) (work 
   pub none : steps_due before (counts_of s) wanted ≡ 0 → (t ≡ s) × (work ≡ no_work)
   pub some : 1 ≤ steps_due before (counts_of s) wanted → before.words ≡ 0 → IsWork AreFree None None (steps_due before (counts_of s) wanted) s t work
   -- the same, but where the pace bounds the words, the steps end once there were as many, or replicas took as many words
-  pub within : 1 ≤ steps_due before (counts_of s) wanted → 1 ≤ before.words → IsWork Count None (Some before.words) (min (steps_due before (counts_of s) wanted) before.words) s t work
+  pub within : 1 ≤ steps_due before (counts_of s) wanted → 1 ≤ before.words → IsWork (CountUpTo before.words) None (Some before.words) (min (steps_due before (counts_of s) wanted) before.words) s t work
   pub paid : Pays before (counts_of s) (steps_due before (counts_of s) wanted)
   pub pace : after ≡ pace_after before (steps_due before (counts_of s) wanted) work (counts_of t)
   -- the entries that remain in all logs, and the steps performed, are at most the steps that were left

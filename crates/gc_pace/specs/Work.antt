@@ -11,7 +11,7 @@ use Rattle.gc_plan.specs.declared.step.StepReply.TheVariants.{NoRoom, Refused, F
 use Rattle.gc_collected.specs.CollectedHeap.{Allocates}
 use Rattle.gc_collected.specs.Flip.{FlipsOnly, IsCertified, PassesIfReady, HasRoomIfLarge}
 use Rattle.gc_pace.specs.declared.work.Looks.{Looks}
-use Rattle.gc_pace.specs.declared.work.Looks.TheVariants.{Count, AreFree}
+use Rattle.gc_pace.specs.declared.work.Looks.TheVariants.{Count, CountUpTo, AreFree}
 use Rattle.gc_pace.specs.declared.work.Work.{Work}
 
 -- the step, but a begin takes this many words for the new space, if a number is given
@@ -95,19 +95,24 @@ end_after t reply = end_in t
 abbrev pub words_copied : State → State → StepReply → ℕ
 words_copied s t reply = end_after t reply - end_in s
 
--- the units of work: the steps, and one for each 32 looks, if looks count
-abbrev pub units : Looks → Work → ℕ
-units Count work = work.steps + work.looks / 32
-units AreFree work = work.steps
+-- the units of work: the steps, and one for each 32 looks
+abbrev pub units : Work → ℕ
+units work = work.steps + work.looks / 32
+
+-- A call of at most so many units that took so many looks, and performed so many steps, can do no more.
+abbrev pub IsSpent : Looks → ℕ → ℕ → ℕ → Type 0
+IsSpent Count most looks steps = most ≤ steps + looks / 32
+IsSpent (CountUpTo bound) most looks steps = (most ≤ steps + looks / 32) ⊎ (bound ≤ looks)
+IsSpent AreFree most looks steps = most ≤ steps
 
 abbrev pub no_work : Work
 no_work = record { steps = 0; copied = 0; last = None; looks = 0 }
 
--- The work performed no step, because looks took all units.
+-- The work performed no step, because looks took its place.
 pub record LooksOnly (looks_as : Looks) (most : ℕ) (s t : State) (work : Work) : Type 0 where
   pub state : t ≡ s
   pub told : work ≡ record no_work { looks = work.looks }
-  pub busy : most ≤ units looks_as work
+  pub spent : IsSpent looks_as most work.looks work.steps
 
 -- The work performed steps, its begin taking this size. If there is a bound for the words, it also ends after the step with which its replicas
 -- have taken as many.
@@ -117,9 +122,9 @@ pub record IsWorkDone (looks_as : Looks) (size words : Option ℕ) (most : ℕ) 
   pub last : work.last ≡ Some reply
   pub copied : work.copied ≡ words_copied s t reply
   pub within : work.steps ≤ most
-  pub ended : units looks_as work < most → IsEnd size words t reply work.copied
-  -- as many units as work is left are enough, besides those of its looks
-  pub enough : work_left s + (units looks_as work - work.steps) ≤ most → IsEnd size words t reply work.copied
+  pub ended : IsSpent looks_as most work.looks work.steps ⊎ IsEnd size words t reply work.copied
+  -- as many steps as work is left are enough
+  pub enough : work_left s ≤ work.steps → IsEnd size words t reply work.copied
   -- before the last step, replicas took fewer words than the bound
   pub short : IfSome words (λ most. (k : ℕ) → suc k < work.steps → words_copied s (after_useful size (suc k) s) (useful_reply size k s) < most)
 

@@ -22,7 +22,8 @@ pub struct Pace {
     pub rate: u32,
     /// The words in use below which no collection begins, unless little room is left.
     pub least: u32,
-    /// A call ends once it performed this many steps, or its replicas took this many words; or 0 if it performs all steps that are due.
+    /// A call ends once it performed this many steps, or took this many looks at extra roots, or its replicas took this many words; or 0 if it
+    /// performs all steps that are due.
     pub words: u32,
     /// The heap's end after the last flip.
     pub left: u32,
@@ -141,13 +142,14 @@ impl Pace {
         }
     }
 
-    /// Returns whether the pace bounds the words of a call, for which so many steps were due, and this call performed as many steps, or its replicas
-    /// took as many words, or looks took the place of steps.
+    /// Returns whether the pace bounds the words of a call, for which so many steps were due, and this call performed as many steps, or took as many
+    /// looks, or its replicas took as many words, or looks took the place of steps.
     fn took_its_words(&self, due: u32, work: &Work) -> bool
         ensures { result ≡ paces.took_its_words self.now due work.now }
     {
         self.words > 0
             && (work.steps >= self.words
+                || work.looks >= self.words
                 || work.copied >= self.words
                 || looked_instead(due, due.min(self.words), work))
     }

@@ -8,17 +8,17 @@ ghost use Rattle.gc_pace.specs.declared.work.Looks.{Looks};
 
 use crate::counts::Counts;
 use crate::pace::Pace;
-use crate::work::{Work, only_looks, work_through, work_within};
+use crate::work::{Work, only_looks, work_bounded, work_through};
 use gc_collected::CollectedHeap;
 use gc_graph::NoMemory;
 
-/// Performs this many useful steps, or none. Unless `words` is 0, it ends once it performed `words` steps, or replicas took `words` words, and 32 looks
-/// count as a step.
+/// Performs this many useful steps, or none. Unless `words` is 0, it ends once it performed `words` steps, or took `words` looks, or replicas took `words`
+/// words, and 32 looks count as a step.
 #[tactic(auto, using(crate::proofs::Waiting::unworked))]
 fn work_due(heap: &mut CollectedHeap, words: u32, due: u32) -> Result<Work, NoMemory>
     ensures none { due ≡ 0 → IfOk result (λ work. (heap.new ≡ heap.old) × (work ≡ no_work)) }
     ensures some { 1 ≤ due → words ≡ 0 → IfOk result (IsWork Looks.AreFree None None due heap.old.core heap.new.core) }
-    ensures within { 1 ≤ due → 1 ≤ words → IfOk result (IsWork Looks.Count None (Some words) (min due words) heap.old.core heap.new.core) }
+    ensures within { 1 ≤ due → 1 ≤ words → IfOk result (IsWork (Looks.CountUpTo words) None (Some words) (min due words) heap.old.core heap.new.core) }
     ensures beside { IfOk result (LeavesBeside None heap.old heap.new) }
     ensures refused { OnErr result (WasRefused None heap.old heap.new) }
 {
@@ -28,7 +28,7 @@ fn work_due(heap: &mut CollectedHeap, words: u32, due: u32) -> Result<Work, NoMe
     if words == 0 {
         return work_through(heap, due);
     }
-    work_within(heap, due.min(words), words)
+    work_bounded(heap, due.min(words), words)
 }
 
 /// Performs the useful steps that are due before the program allocates `wanted` words, and reports them. Stops early for the reasons of

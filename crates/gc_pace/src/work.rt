@@ -13,9 +13,9 @@ ghost use Rattle.gc_collected.specs.Collected.{IsUnchangedButRooms, WereRefused,
 ghost use Rattle.gc_collected.specs.declared.flip.Keep.{Keep};
 ghost use Rattle.gc_pace.specs.Beside.{LeavesAfter, HaveRooms, LeavesBeside, WasRefused};
 ghost use Rattle.gc_pace.specs.Internal.Leaving.{LeavesLess, EndsBelow};
-ghost use Rattle.gc_pace.specs.Internal.Performed.{HasDone, HasSeen, joined_run, steps_in, units_in};
+ghost use Rattle.gc_pace.specs.Internal.Performed.{AreFew, HasDone, HasSeen, at_once, joined_run, steps_in};
 ghost use Rattle.gc_pace.specs.Internal.Waiting.{HasLacked, HaveRun};
-ghost use Rattle.gc_pace.specs.Work.{IsSoundReply, IsRun, IsWork, with_size, sized_step, after_useful, useful_reply, goes_on, is_flip, end_in, end_after, no_work};
+ghost use Rattle.gc_pace.specs.Work.{IsSoundReply, IsRun, IsWork, with_size, IsSpent, sized_step, after_useful, useful_reply, goes_on, is_flip, end_in, end_after, no_work};
 ghost use Rattle.gc_pace.specs.declared.work.Looks.{Looks};
 
 use gc_check::Sequential;
@@ -45,6 +45,8 @@ const LOOKS_A_UNIT: u32 = 32;
 pub enum Looks {
     /// 32 looks that find nothing to copy are a unit, as a step is.
     Count,
+    /// The same, and a call takes no more than this many looks.
+    CountUpTo(u32),
     /// A call takes as many looks as its steps need.
     AreFree,
 }
@@ -52,11 +54,10 @@ pub enum Looks {
 impl Work {
     ghost use Rattle.std.specs.Prelude.{◌≡◌};
     ghost use Rattle.gc_pace.specs.Work.{has_flipped, is_over, units};
-    ghost use Rattle.gc_pace.specs.declared.work.Looks.{Looks};
 
     /// Returns the units of work: the steps, and one for each 32 looks.
     pub fn units(&self) -> u64
-        ensures { result ≡ units Looks.Count self.now }
+        ensures { result ≡ units self.now }
     {
         u64::from(self.steps) + u64::from(self.looks / LOOKS_A_UNIT)
     }
@@ -351,14 +352,14 @@ fn joined(run: Option<StepRun>, next: StepRun) -> StepRun
     }
 }
 
-/// Returns the looks that a call takes to choose one step.
+/// Returns the looks that a call which took so many may take to choose a step.
 #[inline(always)]
-fn looks_at_once(looks_as: Looks) -> u32
-    ensures count { looks_as ≡ Looks.Count → result ≡ 32 }
-    ensures free { looks_as ≡ Looks.AreFree → result ≡ 4294967295 }
+fn looks_at_once(looks_as: Looks, taken: u32) -> u32
+    ensures { result ≡ at_once looks_as taken }
 {
     match looks_as {
         Looks::Count => LOOKS_A_UNIT,
+        Looks::CountUpTo(most) => LOOKS_A_UNIT.min(most.saturating_sub(taken)),
         Looks::AreFree => u32::MAX,
     }
 }
@@ -376,11 +377,11 @@ fn useful_steps<P: Performs>(
     ensures done { IfOk result (λ p. HasDone (P.short performs.now) size heap.old heap.new p.run) }
     ensures steps { IfOk result (λ p. steps_in p.run ≤ most) }
     // It stops early only after such a reply, or because a step failed for lack of memory.
-    ensures ended { IfOk result (λ p. units_in looks_as p.looks (steps_in p.run) < most → IfSome p.run (λ run. (goes_on run.reply ≡ false) ⊎ P.stops performs.now size heap.new.core run.reply)) }
-    ensures busy { IfOk result (λ p. p.run ≡ None → most ≤ units_in looks_as p.looks 0) }
+    ensures ended { IfOk result (λ p. IsSpent looks_as most p.looks (steps_in p.run) ⊎ IfSome p.run (λ run. (goes_on run.reply ≡ false) ⊎ P.stops performs.now size heap.new.core run.reply)) }
+    ensures busy { IfOk result (λ p. p.run ≡ None → IsSpent looks_as most p.looks 0) }
     ensures rooms { IfOk result (λ p. IfSome p.run (λ run. HaveRun size heap.old.core heap.new.core heap.old.beside (is_flip run.reply) heap.new.beside.rooms)) }
     ensures looks { IfOk result (λ p. HasSeen heap.old.roots_left heap.new.roots_left p.looks p.run) }
-    ensures few { looks_as ≡ Looks.Count → IfOk result (λ p. p.looks ≤ 32 * most) }
+    ensures few { IfOk result (λ p. AreFew looks_as most p.looks) }
     ensures pair { heap.new.beside.pair ≡ heap.old.beside.pair }
     ensures refused { OnErr result (IsUnchangedButRooms heap.old heap.new) }
     ensures freed { OnErr result (WereRefused heap.old.beside.rooms heap.new.beside.rooms) }
@@ -388,17 +389,23 @@ fn useful_steps<P: Performs>(
 {
     // Here the prover learns that 32 bits hold the looks that are left.
     let _ = heap.roots_left();
-    let limit = looks_at_once(looks_as);
     let mut done = Performed {
         looks: 0,
         run: None,
     };
     let mut units: u32 = 0;
     while units < most {
+        let limit = looks_at_once(looks_as, done.looks);
         let Choice { looks, step } = heap.choose_step(limit);
         done.looks += looks;
         match step {
-            None => units += 1,
+            None => {
+                // The call took all looks that it may take.
+                if looks < LOOKS_A_UNIT {
+                    return Ok(done);
+                }
+                units += 1;
+            }
             Some(step) => match performs.perform(heap, size, step, most - units) {
                 Err(NoMemory) => {
                     if done.run.is_none() {
@@ -525,9 +532,38 @@ pub fn work_within(heap: &mut CollectedHeap, most: u32, words: u32) -> Result<Wo
     ensures beside { IfOk result (LeavesBeside None heap.old heap.new) }
     ensures refused { OnErr result (WasRefused None heap.old heap.new) }
 {
+    work_within_as(heap, Looks::Count, most, words)
+}
+
+/// Does the same as `work_within`, and takes no more than `words` looks.
+pub(crate) fn work_bounded(
+    heap: &mut CollectedHeap,
+    most: u32,
+    words: u32,
+) -> Result<Work, NoMemory>
+    requires { 1 ≤ most }
+    ensures work { IfOk result (IsWork (Looks.CountUpTo words) None (Some words) most heap.old.core heap.new.core) }
+    ensures beside { IfOk result (LeavesBeside None heap.old heap.new) }
+    ensures refused { OnErr result (WasRefused None heap.old heap.new) }
+{
+    work_within_as(heap, Looks::CountUpTo(words), most, words)
+}
+
+// Performs at most `most` units of work, and stops after the step with which the replicas of this call take `words` words or more.
+fn work_within_as(
+    heap: &mut CollectedHeap,
+    looks_as: Looks,
+    most: u32,
+    words: u32,
+) -> Result<Work, NoMemory>
+    requires { 1 ≤ most }
+    ensures work { IfOk result (IsWork looks_as None (Some words) most heap.old.core heap.new.core) }
+    ensures beside { IfOk result (LeavesBeside None heap.old heap.new) }
+    ensures refused { OnErr result (WasRefused None heap.old heap.new) }
+{
     let start = end_of_new(heap);
     let within = Within { start, words };
-    let Performed { looks, run } = useful_steps(&within, heap, None, Looks::Count, most)?;
+    let Performed { looks, run } = useful_steps(&within, heap, None, looks_as, most)?;
     let Some(run) = run else {
         return Ok(only_looks(looks));
     };

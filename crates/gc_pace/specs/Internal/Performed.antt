@@ -1,5 +1,5 @@
 -- The useful steps that a call has performed so far, if there were any, and the looks that it took to find them.
-use Rattle.std.specs.Prelude.{◌≡◌, ℕ, suc, ◌+◌, ◌/◌, ◌<◌, ◌≤◌, false, Option, Some, None}
+use Rattle.std.specs.Prelude.{◌≡◌, ℕ, suc, ◌+◌, ◌-◌, ◌*◌, ◌/◌, ◌<◌, ◌≤◌, min, ⊤, false, Option, Some, None}
 use Rattle.std.specs.Option.{option_map_or}
 use Rattle.gc_plan.specs.State.{State}
 use Rattle.gc_plan.specs.declared.step.StepReply.{StepReply}
@@ -8,7 +8,7 @@ use Rattle.gc_collected.specs.Collected.{Collected, turns_after}
 use Rattle.gc_collected.specs.declared.flip.Keep.TheVariants.{Room}
 use Rattle.gc_pace.specs.Beside.{LeavesAfter}
 use Rattle.gc_pace.specs.declared.work.Looks.{Looks}
-use Rattle.gc_pace.specs.declared.work.Looks.TheVariants.{Count, AreFree}
+use Rattle.gc_pace.specs.declared.work.Looks.TheVariants.{Count, CountUpTo, AreFree}
 use Rattle.gc_pace.specs.Work.{IsRun, after_useful, useful_reply, is_flip}
 
 -- a run of steps leads from one heap to another; before the last step it was short of what is enough
@@ -27,10 +27,22 @@ HasDone Short size old new (Some run) = RanSteps Short size old new run
 abbrev pub steps_in : Option StepRun → ℕ
 steps_in run = option_map_or (λ (r : StepRun). r.steps) run 0
 
--- the units of so many looks and steps
-abbrev pub units_in : Looks → ℕ → ℕ → ℕ
-units_in Count looks steps = steps + looks / 32
-units_in AreFree looks steps = steps
+-- the looks that a call which took so many may take to choose a step
+abbrev pub at_once : Looks → ℕ → ℕ
+at_once Count taken = 32
+at_once (CountUpTo most) taken = min 32 (most - taken)
+at_once AreFree taken = 4294967295
+
+-- a call of at most so many units takes no more looks
+abbrev pub AreFew : Looks → ℕ → ℕ → Type 0
+AreFew Count most looks = looks ≤ 32 * most
+AreFew (CountUpTo bound) most looks = (looks ≤ 32 * most) × (looks ≤ bound)
+AreFew AreFree most looks = ⊤
+
+-- the units of a call in steps and in turns of looks are no more than this
+abbrev pub CountedBy : Looks → ℕ → ℕ → ℕ → Type 0
+CountedBy AreFree looks steps units = units ≤ steps
+CountedBy looks_as looks steps units = units ≤ steps + looks / 32
 
 -- two runs, the second of which begins where the first ended
 abbrev pub joined_run : Option StepRun → StepRun → StepRun

@@ -1,12 +1,12 @@
 -- A turn makes the run longer, after steps that were not enough, or takes looks in place of a step.
-use Rattle.std.proofs.Common.{◌≡◌, inl, inr, ◌+◌, true, sym, ap, ◌∙◌, subst, arith}
+use Rattle.std.proofs.Common.{◌≡◌, inl, inr, ◌+◌, ◌≤◌, true, sym, ap, ◌∙◌, subst, arith}
 use Rattle.gc_plan.specs.declared.step.StepReply.{StepReply}
 use Rattle.gc_copy.specs.declared.collection.stepping.StepRun.{StepRun}
 use Rattle.gc_collected.specs.Collected.{Beside, Collected}
 use Rattle.gc_pace.specs.Beside.{HaveRooms}
 use Rattle.gc_pace.specs.Internal.Performed.{RanSteps, steps_in}
 use Rattle.gc_pace.specs.Work.{goes_on, is_flip}
-use Rattle.gc_pace.proofs.Performed.{further_lacked, further_rooms, joined_reply, joined_steps, more_units, quiet_so_far, run_further}
+use Rattle.gc_pace.proofs.Performed.{few_more, further_lacked, further_rooms, joined_reply, joined_steps, more_units, quiet_so_far, run_further}
 use Rattle.gc_pace.proofs.work.useful_steps.Goals as goal
 
 pub overflow_add-done : goal.overflow_add-done
@@ -60,9 +60,9 @@ returns-then-has_enough-clause-rooms g c =
     c.in-Ok.next was.rooms c.in-Ok.ensures.rooms))
 
 pub returns-then-has_enough-clause-ended : goal.returns-then-has_enough-clause-ended
-returns-then-has_enough-clause-ended g c less =
+returns-then-has_enough-clause-ended g c =
     let reply : c.joined.result.reply ≡ c.in-Ok.next.reply = ap (λ (run : StepRun). run.reply) c.joined.ensures ∙ joined_reply c.loop-units.done.run c.in-Ok.next in
-    inr (subst (λ (r : StepReply). g.P.Performs.stops c.args.performs.now c.args.size c.perform.new.heap.core r) (sym reply) (c.has_enough.ensures.stops c.if-has_enough.true c.args.size))
+    inr (inr (subst (λ (r : StepReply). g.P.Performs.stops c.args.performs.now c.args.size c.perform.new.heap.core r) (sym reply) (c.has_enough.ensures.stops c.if-has_enough.true c.args.size)))
 
 pub loop-units-preserved : goal.loop-units-preserved
 loop-units-preserved g c =
@@ -84,6 +84,6 @@ loop-units-preserved g c =
       looked = let left = e.looks (quiet_so_far c.in-Ok.next.reply on) in omega (arith, left, chosen.looks.less, was.looked);
       steps = omega (arith, steps, was.steps);
       units = more_units c.args.looks_as c.loop-units.units c.loop-units.done.looks c.choose_step-looks.result.looks (steps_in c.loop-units.done.run) c.in-Ok.next.steps c.joined.result.steps steps was.units;
-      few = λ counts. let some = e.run.some in let low = was.few counts in let limit = c.looks_at_once-limit.ensures.count counts in omega (arith, some, low, limit, chosen.within);
+      few = few_more c.args.looks_as c.loop-units.units c.in-Ok.next.steps c.loop-units.done.looks c.choose_step-looks.result.looks e.run.some (subst (λ n. c.choose_step-looks.result.looks ≤ n) c.looks_at_once-limit.ensures chosen.within) was.few;
       within = let fits = e.within in let room = c.loop-units-test.true in omega (arith, fits, room);
     }

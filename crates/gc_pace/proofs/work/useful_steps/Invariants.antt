@@ -1,10 +1,9 @@
 -- So many useful steps were performed, the last got this reply, none was enough, and so many looks were taken.
-use Rattle.std.proofs.Common.{◌≡◌, ◌+◌, ◌*◌, ◌-◌, ◌≤◌, true}
+use Rattle.std.proofs.Common.{◌≡◌, ◌+◌, ◌-◌, ◌≤◌, true}
 use Rattle.std.specs.Prelude.{IfSome}
 use Rattle.gc_pace.specs.Beside.{HaveRooms}
-use Rattle.gc_pace.specs.Internal.Performed.{HasDone, steps_in, units_in}
+use Rattle.gc_pace.specs.Internal.Performed.{AreFew, CountedBy, HasDone, steps_in}
 use Rattle.gc_pace.specs.Work.{goes_on, is_flip}
-use Rattle.gc_pace.specs.declared.work.Looks.TheVariants.{Count}
 use Rattle.gc_pace.proofs.work.useful_steps.Given as goal
 
 abbrev pub invariant-loop-units : goal.invariant-loop-units
@@ -15,8 +14,8 @@ invariant-loop-units g l = record {
   pair : l.heap.beside.pair ≡ l.fn.heap.beside.pair;
   looked : l.heap.roots_left + l.done.looks ≤ l.fn.heap.roots_left;
   steps : steps_in l.done.run ≤ l.units;
-  units : l.units ≤ units_in l.fn.looks_as l.done.looks (steps_in l.done.run);
-  few : l.fn.looks_as ≡ Count → l.done.looks ≤ 32 * l.units;
+  units : CountedBy l.fn.looks_as l.done.looks (steps_in l.done.run) l.units;
+  few : AreFew l.fn.looks_as l.units l.done.looks;
   within : l.units ≤ l.most;
 }
 

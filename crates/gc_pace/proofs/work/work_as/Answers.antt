@@ -1,13 +1,13 @@
 -- A run of useful steps is reported, and work gives a slice back.
-use Rattle.std.proofs.Common.{◌≡◌, ◌⊎◌, ⊎_elim, inl, inr, ◌<◌, ◌≤◌, Option, Some, None, false, sym, ap, subst}
+use Rattle.std.proofs.Common.{◌≡◌, ◌⊎◌, ⊎_elim, inl, inr, ◌≤◌, ℕ, Option, Some, None, false, sym, ap, subst}
 use Rattle.std.specs.Prelude.{IfSome, ⊤}
 use Rattle.gc_plan.specs.State.{State}
 use Rattle.gc_copy.specs.declared.collection.stepping.StepRun.{StepRun}
 use Rattle.gc_collected.specs.CollectedHeap.{Allocates}
 use Rattle.gc_collected.specs.Collected.{Collected}
-use Rattle.gc_pace.specs.Internal.Performed.{HasDone, HasSeen, steps_in, units_in}
+use Rattle.gc_pace.specs.Internal.Performed.{HasDone, HasSeen, steps_in}
 use Rattle.gc_pace.specs.Internal.Waiting.{HaveRun}
-use Rattle.gc_pace.specs.Work.{IsWork, goes_on, is_flip, sized_step}
+use Rattle.gc_pace.specs.Work.{IsEnd, IsSpent, IsWork, goes_on, is_flip, sized_step}
 use Rattle.gc_pace.proofs.Performed.{reported}
 use Rattle.gc_pace.proofs.Waiting.{leaves_beside}
 use Rattle.gc_pace.proofs.work.work_as.Goals as goal
@@ -19,12 +19,13 @@ returns-clause-work c =
     let run = c.in-Some.run' in
     let e = c.in_ok-looks.ensures in
     let r = c.report-work.ensures in
-    let ended = subst (λ (o : Option StepRun). units_in c.args.looks_as c.in_ok-looks.field-0.looks (steps_in o) < c.args.most → IfSome o (λ x. (goes_on x.reply ≡ false) ⊎ Allocates before.core (sized_step c.args.size before.core))) c.in-Some.is e.ended in
+    let ended = subst (λ (o : Option StepRun). IsSpent c.args.looks_as c.args.most c.in_ok-looks.field-0.looks (steps_in o) ⊎ IfSome o (λ x. (goes_on x.reply ≡ false) ⊎ Allocates before.core (sized_step c.args.size before.core))) c.in-Some.is e.ended in
     subst (λ (s : State). IsWork c.args.looks_as c.args.size None c.args.most old.core s c.report-work.result) (sym (ap (λ (h : Collected). h.core) c.give_back.ensures))
     (reported (λ _ _. ⊤) c.args.looks_as c.args.size None c.args.most c.end_of_new-start.result old before c.report-work.result run c.end_of_new-start.ensures r.steps r.copied r.last
     (subst (HasDone (λ _ _. ⊤) c.args.size old before) c.in-Some.is e.done)
     (subst (λ (o : Option StepRun). steps_in o ≤ c.args.most) c.in-Some.is e.steps)
-    (λ less. ⊎_elim (λ over. inl over) (λ lacks. inr (inl lacks)) (ended (subst (λ n. units_in c.args.looks_as n run.steps < c.args.most) r.looks less))) tt)
+    (subst (λ (n : ℕ). IsSpent c.args.looks_as c.args.most n run.steps ⊎ IsEnd c.args.size None before.core run.reply c.report-work.result.copied) (sym r.looks)
+    (⊎_elim (λ spent. inl spent) (λ ends. inr (⊎_elim (λ over. inl over) (λ lacks. inr (inl lacks)) ends)) ended)) tt)
 
 pub returns-clause-beside : goal.returns-clause-beside
 returns-clause-beside c =
