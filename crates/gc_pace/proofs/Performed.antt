@@ -10,7 +10,7 @@ use Rattle.gc_collected.specs.CollectedHeap.{Allocates}
 use Rattle.gc_collected.specs.Collected.{Beside, Collected, Turns, turns_after}
 use Rattle.gc_collected.specs.declared.flip.Keep.TheVariants.{Room}
 use Rattle.gc_pace.specs.Beside.{HaveRooms, LeavesAfter}
-use Rattle.gc_pace.specs.Internal.Performed.{AreFew, CountedBy, RanSteps, HasDone, at_once, joined_run, steps_in}
+use Rattle.gc_pace.specs.Internal.Performed.{HaveFewLooks, CountedBy, RanSteps, HasDone, at_once, joined_run, steps_in}
 use Rattle.gc_pace.specs.Internal.Waiting.{HasLacked, HaveRun}
 use Rattle.gc_pace.specs.Work.{IsEnd, IsRun, IsSpent, IsWork, after_useful, useful_reply, end_after, end_in, goes_on, is_flip, units, words_copied}
 use Rattle.gc_pace.specs.declared.work.Work.{Work}
@@ -40,7 +40,7 @@ more_units (CountUpTo n) units looks more steps next all is low = omega (arith, 
 more_units AreFree units looks more steps next all is low = omega (arith, is, low)
 
 -- so many looks in one unit more
-pub few_more : (looks_as : Looks) (units next looks more : ℕ) → 1 ≤ next → more ≤ at_once looks_as looks → AreFew looks_as units looks → AreFew looks_as (units + next) (looks + more)
+pub few_more : (looks_as : Looks) (units next looks more : ℕ) → 1 ≤ next → more ≤ at_once looks_as looks → HaveFewLooks looks_as units looks → HaveFewLooks looks_as (units + next) (looks + more)
 few_more Count units next looks more some within low = omega (arith, some, within, low)
 few_more (CountUpTo n) units next looks more some within low = (omega (arith, some, within, low.0), omega (arith, within, low.1))
 few_more AreFree units next looks more some within low = tt

@@ -13,7 +13,7 @@ ghost use Rattle.gc_collected.specs.Collected.{IsUnchangedButRooms, WereRefused,
 ghost use Rattle.gc_collected.specs.declared.flip.Keep.{Keep};
 ghost use Rattle.gc_pace.specs.Beside.{LeavesAfter, HaveRooms, LeavesBeside, WasRefused};
 ghost use Rattle.gc_pace.specs.Internal.Leaving.{LeavesLess, EndsBelow};
-ghost use Rattle.gc_pace.specs.Internal.Performed.{AreFew, HasDone, HasSeen, at_once, joined_run, steps_in};
+ghost use Rattle.gc_pace.specs.Internal.Performed.{HaveFewLooks, HasDone, HasSeen, at_once, joined_run, steps_in};
 ghost use Rattle.gc_pace.specs.Internal.Waiting.{HasLacked, HaveRun};
 ghost use Rattle.gc_pace.specs.Work.{IsSoundReply, IsRun, IsWork, with_size, IsSpent, sized_step, after_useful, useful_reply, goes_on, is_flip, end_in, end_after, no_work};
 ghost use Rattle.gc_pace.specs.declared.work.Looks.{Looks};
@@ -381,7 +381,7 @@ fn useful_steps<P: Performs>(
     ensures busy { IfOk result (λ p. p.run ≡ None → IsSpent looks_as most p.looks 0) }
     ensures rooms { IfOk result (λ p. IfSome p.run (λ run. HaveRun size heap.old.core heap.new.core heap.old.beside (is_flip run.reply) heap.new.beside.rooms)) }
     ensures looks { IfOk result (λ p. HasSeen heap.old.roots_left heap.new.roots_left p.looks p.run) }
-    ensures few { IfOk result (λ p. AreFew looks_as most p.looks) }
+    ensures few { IfOk result (λ p. HaveFewLooks looks_as most p.looks) }
     ensures pair { heap.new.beside.pair ≡ heap.old.beside.pair }
     ensures refused { OnErr result (IsUnchangedButRooms heap.old heap.new) }
     ensures freed { OnErr result (WereRefused heap.old.beside.rooms heap.new.beside.rooms) }

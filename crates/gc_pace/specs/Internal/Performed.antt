@@ -34,10 +34,10 @@ at_once (CountUpTo most) taken = min 32 (most - taken)
 at_once AreFree taken = 4294967295
 
 -- a call of at most so many units takes no more looks
-abbrev pub AreFew : Looks → ℕ → ℕ → Type 0
-AreFew Count most looks = looks ≤ 32 * most
-AreFew (CountUpTo bound) most looks = (looks ≤ 32 * most) × (looks ≤ bound)
-AreFew AreFree most looks = ⊤
+abbrev pub HaveFewLooks : Looks → ℕ → ℕ → Type 0
+HaveFewLooks Count most looks = looks ≤ 32 * most
+HaveFewLooks (CountUpTo bound) most looks = (looks ≤ 32 * most) × (looks ≤ bound)
+HaveFewLooks AreFree most looks = ⊤
 
 -- the units of a call in steps and in turns of looks are no more than this
 abbrev pub CountedBy : Looks → ℕ → ℕ → ℕ → Type 0

@@ -2,7 +2,7 @@
 use Rattle.std.proofs.Common.{◌≡◌, ◌+◌, ◌-◌, ◌≤◌, true}
 use Rattle.std.specs.Prelude.{IfSome}
 use Rattle.gc_pace.specs.Beside.{HaveRooms}
-use Rattle.gc_pace.specs.Internal.Performed.{AreFew, CountedBy, HasDone, steps_in}
+use Rattle.gc_pace.specs.Internal.Performed.{HaveFewLooks, CountedBy, HasDone, steps_in}
 use Rattle.gc_pace.specs.Work.{goes_on, is_flip}
 use Rattle.gc_pace.proofs.work.useful_steps.Given as goal
 
@@ -15,7 +15,7 @@ invariant-loop-units g l = record {
   looked : l.heap.roots_left + l.done.looks ≤ l.fn.heap.roots_left;
   steps : steps_in l.done.run ≤ l.units;
   units : CountedBy l.fn.looks_as l.done.looks (steps_in l.done.run) l.units;
-  few : AreFew l.fn.looks_as l.units l.done.looks;
+  few : HaveFewLooks l.fn.looks_as l.units l.done.looks;
   within : l.units ≤ l.most;
 }
 
