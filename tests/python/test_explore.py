@@ -105,8 +105,8 @@ class Checkpoints(unittest.TestCase):
     """Heaps that are made from checkpoints, and players that go back by them."""
 
     def assert_same(self, one, other):
-        """Checks that two heaps are in the same state. One that was made from a checkpoint has extra roots, which hold nil."""
-        self.assertEqual(one.heap.counts()._replace(extra_roots=0), other.heap.counts()._replace(extra_roots=0))
+        """Checks that two heaps are in the same state. One that was made from a checkpoint has extra roots, which hold nil, and may have looks left."""
+        self.assertEqual(one.heap.counts()._replace(extra_roots=0, roots_left=0), other.heap.counts()._replace(extra_roots=0, roots_left=0))
         self.assertEqual((one.words(), one.logs()), (other.words(), other.logs()))
         count = len(one.words().old.roots)
         self.assertEqual((one.heap.image().roots[:count], set(other.heap.image().roots[count:]) - {0}), (other.heap.image().roots[:count], set()))

@@ -188,7 +188,7 @@ class Commands(unittest.TestCase):
             self.assertEqual(first.look(shared(0)), 5)
             image = heap.image()
             self.assertEqual((len(image.roots), list(image.roots[48:])), (51, [2 * 5 + 1, 0, 2]))
-            self.assertEqual(heap.counts(), (32, 3, 29, 2, 3, False, 0, 0, 0, 0, 0))
+            self.assertEqual(heap.counts(), (32, 3, 29, 2, 3, False, 0, 0, 0, 0, 0, 3))
             heap.clear_roots(0, 3)
             second.load(own(3), 2)
             self.assertIsNone(second.look(own(3)))
@@ -196,6 +196,24 @@ class Commands(unittest.TestCase):
                          lambda: heap.clear_roots(0, 4), lambda: heap.clear_roots(2, 1), lambda: Heap(32, 1, 1048577), lambda: Heap(32, 1, -1)):
                 with self.assertRaises(gcflip.OutOfRange):
                     call()
+
+    def test_looks_are_units_of_work(self):
+        with Heap(64, extra_roots=100) as heap:
+            mutator, pace = heap.mutator(0), gcflip.Pace(words=2)
+            mutator.new(own(0), 7, 1)
+            for root in range(70):
+                mutator.store(root, own(0))
+            self.assertEqual(heap.counts().roots_left, 70)
+            self.assertEqual(heap.work(2), (2, 3, Step.COPIED, 0, 0))
+            self.assertEqual(heap.work(1), (0, 0, None, 0, 32))
+            self.assertEqual(heap.counts().roots_left, 38)
+            mutator.store(5, own(0))
+            self.assertEqual(heap.counts().roots_left, 39)
+            # Four steps are due, because no room is left. The first unit is 32 looks, and the second a step that 7 looks found.
+            heap.remember(pace)
+            self.assertEqual(heap.work_paced(pace, 1 << 31), (1, 0, Step.SCANNED, 0, 39))
+            self.assertEqual(pace.owed, 3)
+            self.assertEqual(heap.work(2), (2, 0, Step.FLIPPED, 1, 0))
 
     def test_frames(self):
         with Heap(64, extra_roots=8) as heap:
@@ -288,11 +306,11 @@ class Steps(unittest.TestCase):
         """Performs the same five steps. With the second one, three words are copied."""
         with Heap(16) as heap:
             heap.mutator(0).new(own(0), 1, 1)
-            self.assertEqual(heap.work_within(9, 3), (2, 3, Step.COPIED, 0))
-            self.assertEqual(heap.work_within(9, 0), (1, 0, Step.SCANNED, 0))
-            self.assertEqual(heap.work_within(9, 1), (2, 0, Step.FLIPPED, 1))
-            self.assertEqual(heap.work_within(9, 4), (5, 3, Step.FLIPPED, 1))
-            self.assertEqual(heap.work_within(1, 3), (1, 0, Step.BEGUN, 0))
+            self.assertEqual(heap.work_within(9, 3), (2, 3, Step.COPIED, 0, 0))
+            self.assertEqual(heap.work_within(9, 0), (1, 0, Step.SCANNED, 0, 0))
+            self.assertEqual(heap.work_within(9, 1), (2, 0, Step.FLIPPED, 1, 0))
+            self.assertEqual(heap.work_within(9, 4), (5, 3, Step.FLIPPED, 1, 0))
+            self.assertEqual(heap.work_within(1, 3), (1, 0, Step.BEGUN, 0, 0))
 
 
 class Readings(unittest.TestCase):
@@ -300,11 +318,11 @@ class Readings(unittest.TestCase):
         with Heap(16, 2) as heap:
             mutator = heap.mutator(1)
             mutator.new(shared(0), 3, 1)
-            self.assertEqual(heap.counts(), (16, 4, 12, 2, 0, False, 0, 0, 0, 0, 0))
+            self.assertEqual(heap.counts(), (16, 4, 12, 2, 0, False, 0, 0, 0, 0, 0, 0))
             heap.begin(20)
             heap.roots()
             mutator.put(shared(0), 0, own(0))
-            self.assertEqual(heap.counts(), (16, 4, 12, 2, 0, True, 20, 4, 1, 0, 1))
+            self.assertEqual(heap.counts(), (16, 4, 12, 2, 0, True, 20, 4, 1, 0, 1, 0))
             self.assertIs(heap.counts().is_open, True)
             self.assertEqual((heap.log_length(0), heap.log_length(1)), (0, 1))
             self.assertEqual(heap.log_entry(1, 0), LogEntry(1, 0))
@@ -756,11 +774,11 @@ class Paced(unittest.TestCase):
             self.assertIsNone(heap.work_paced(pace))
             heap.mutator(0).new(gcflip.own(0), 1, 5)
             self.assertEqual(heap.steps_due(pace), 1)
-            self.assertEqual(heap.work_paced(pace), (1, 0, Step.BEGUN, 0))
+            self.assertEqual(heap.work_paced(pace), (1, 0, Step.BEGUN, 0, 0))
             self.assertIsNone(heap.work_paced(pace))
             # A program that wants all 92 free words waits for the flip: 7 steps for the words of the object, and the flip.
             self.assertEqual(heap.steps_due(pace, 92), 8)
-            self.assertEqual(heap.work_paced(pace, 92), (8, 7, Step.FLIPPED, 1))
+            self.assertEqual(heap.work_paced(pace, 92), (8, 7, Step.FLIPPED, 1, 0))
             heap.remember(pace)
             self.assertIsNone(heap.work_paced(pace))
 
@@ -769,14 +787,14 @@ class Paced(unittest.TestCase):
             pace = gcflip.Pace(least=8, words=10)
             for slot in range(4):
                 heap.mutator(0).new(gcflip.own(slot), 1, 8)
-            self.assertEqual(heap.work_paced(pace), (1, 0, Step.BEGUN, 0))
+            self.assertEqual(heap.work_paced(pace), (1, 0, Step.BEGUN, 0, 0))
             # A program that wants all 159 free words waits for the flip, but the first object takes ten words.
             self.assertEqual(heap.steps_due(pace, 159), 41)
-            self.assertEqual(heap.work_paced(pace, 159), (1, 10, Step.COPIED, 0))
+            self.assertEqual(heap.work_paced(pace, 159), (1, 10, Step.COPIED, 0, 0))
             self.assertEqual((pace.owed, heap.steps_due(pace)), (40, 40))
-            self.assertEqual([heap.work_paced(pace) for _ in range(3)], [(1, 10, Step.COPIED, 0)] * 3)
+            self.assertEqual([heap.work_paced(pace) for _ in range(3)], [(1, 10, Step.COPIED, 0, 0)] * 3)
             self.assertEqual(pace.owed, 37)
-            self.assertEqual([heap.work_paced(pace) for _ in range(4)], [(10, 0, Step.SCANNED, 0)] * 3 + [(7, 0, Step.FLIPPED, 4)])
+            self.assertEqual([heap.work_paced(pace) for _ in range(4)], [(10, 0, Step.SCANNED, 0, 0)] * 3 + [(7, 0, Step.FLIPPED, 4, 0)])
             self.assertEqual((pace.owed, heap.work_paced(pace)), (0, None))
 
     def test_refusals(self):
