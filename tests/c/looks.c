@@ -190,23 +190,30 @@ static void expect_paced(uint32_t wanted, uint32_t steps, uint32_t looks, uint32
     const uint32_t due = gcflip_pace_due(&pace, &counts, wanted), most = due < pace.words ? due : pace.words;
     EXPECT(gcflip_heap_work_paced(&heap, &pace, wanted, &work) == GCFLIP_DONE);
     EXPECT(work.steps == steps && work.looks == looks && work.last == last && pace.owed == owed);
-    EXPECT((steps + owed == due || last == GCFLIP_FLIPPED) && (pace.words == 0 || (steps <= most && looks <= UNIT * most)));
+    EXPECT((steps + owed == due || last == GCFLIP_FLIPPED) && (pace.words == 0 || (steps <= most && looks <= UNIT * most && looks <= pace.words)));
 }
 
 /* With a bound, looks take the place of steps, and the steps stay owed. */
 static void bounded_pace(void)
 {
     begin_paced(4);
-    expect_paced(UINT32_MAX, 1, 0, GCFLIP_COPIED, 10);
-    for (int call = 0; call < 7; call++)
-        expect_paced(0, 0, 4 * UNIT, GCFLIP_DONE, 10);
-    expect_paced(0, 1, 3 * UNIT + 8, GCFLIP_SCANNED, 9);
-    expect_paced(0, 4, 0, GCFLIP_SCANNED, 5);
-    expect_paced(0, 4, 0, GCFLIP_PASSED, 1);
-    expect_paced(0, 1, 0, GCFLIP_FLIPPED, 0);
+    expect_paced(UINT32_MAX, 1, 4, GCFLIP_COPIED, 10);
+    for (int call = 0; call < 248; call++)
+        expect_paced(0, 0, 4, GCFLIP_DONE, 10);
+    expect_paced(0, 4, 4, GCFLIP_SCANNED, 6);
+    expect_paced(0, 4, 0, GCFLIP_SCANNED, 2);
+    expect_paced(0, 2, 0, GCFLIP_FLIPPED, 0);
     close_heap();
-    /* with fewer steps due than the bound allows, there are no more units than steps due */
+    /* three units and 4 looks are 100 looks */
     begin_paced(100);
+    expect_paced(UINT32_MAX, 1, 100, GCFLIP_COPIED, 10);
+    for (int call = 0; call < 8; call++)
+        expect_paced(0, 0, 100, GCFLIP_DONE, 10);
+    expect_paced(0, 7, 100, GCFLIP_SCANNED, 3);
+    expect_paced(0, 3, 0, GCFLIP_FLIPPED, 0);
+    close_heap();
+    /* with fewer units than the bound allows looks, there are no more units than steps due */
+    begin_paced(1000);
     expect_paced(UINT32_MAX, 1, 10 * UNIT, GCFLIP_COPIED, 10);
     expect_paced(0, 0, 10 * UNIT, GCFLIP_DONE, 10);
     expect_paced(0, 0, 10 * UNIT, GCFLIP_DONE, 10);

@@ -387,7 +387,7 @@ class Model:
         self.left = len(self.space.words) if last.startswith("flipped") else self.left
         self.end, self.logged = len(self.space.words), self.entries()
         looked_instead = len(made) < due and len(made) + looks // 32 >= min(due, self.words)
-        took = self.words > 0 and (max(len(made), copied) >= self.words or looked_instead)
+        took = self.words > 0 and (max(len(made), copied, looks) >= self.words or looked_instead)
         self.owed = due - len(made) if took and not last.startswith("flipped") and last != "no room" else 0
 
     def steps_due(self, wanted):

@@ -312,15 +312,19 @@ class Calls:
         reply = self.model.step("apply", m)
         self.call(["apply", m], reply, ["c apply %d" % m], [reply])
 
-    def worked(self, most, size=None, words=None, at_once=32):
-        """Performs at most this many units: useful steps, and searches for one that took `at_once` looks and did not come to their end. Returns the steps'
-        lines with their replies, the words copied, the looks, and the report. Ends once replicas take this many words, if a number is given."""
+    def worked(self, most, size=None, words=None, at_once=32, most_looks=None):
+        """Performs at most this many units: useful steps, and searches for one that took `at_once` looks and did not come to their end. Takes no more than
+        `most_looks`, if a number is given. Returns the steps' lines with their replies, the words copied, the looks, and the report. Ends once replicas
+        take this many words, if a number is given."""
         start = len(self.model.new.words) if self.model.new else 1
         made, copied, looks, units, last = [], 0, 0, 0, "done"
         while units < most and not last.startswith("flipped") and last != "no room" and (not made or words is None or copied < words):
-            units += 1
-            taken, is_found = self.model.search(at_once) if self.model.new else (0, True)
+            limit = at_once if most_looks is None else min(at_once, most_looks - looks)
+            taken, is_found = self.model.search(limit) if self.model.new else (0, True)
             looks += taken
+            if not is_found and taken < at_once:
+                break
+            units += 1
             if is_found:
                 made.append(self.model.useful(size))
                 last = made[-1][1]
@@ -359,7 +363,7 @@ class Calls:
         due = model.steps_due(wanted)
         made, copied, looks, report = [], 0, 0, "nothing"
         if due and model.words:
-            made, copied, looks, report = self.worked(min(due, model.words), words=model.words)
+            made, copied, looks, report = self.worked(min(due, model.words), words=model.words, most_looks=model.words)
         elif due:
             made, copied, looks, report = self.worked(due, at_once=None)
         model.remember_work(due, made, copied, looks)

@@ -199,7 +199,7 @@ class Commands(unittest.TestCase):
 
     def test_looks_are_units_of_work(self):
         with Heap(64, extra_roots=100) as heap:
-            mutator, pace = heap.mutator(0), gcflip.Pace(words=2)
+            mutator, pace = heap.mutator(0), gcflip.Pace(words=32)
             mutator.new(own(0), 7, 1)
             for root in range(70):
                 mutator.store(root, own(0))
@@ -209,11 +209,13 @@ class Commands(unittest.TestCase):
             self.assertEqual(heap.counts().roots_left, 38)
             mutator.store(5, own(0))
             self.assertEqual(heap.counts().roots_left, 39)
-            # Four steps are due, because no room is left. The first unit is 32 looks, and the second a step that 7 looks found.
+            # Four steps are due, because no room is left. The call may take 32 looks, and owes the steps.
             heap.remember(pace)
-            self.assertEqual(heap.work_paced(pace, 1 << 31), (1, 0, Step.SCANNED, 0, 39))
-            self.assertEqual(pace.owed, 3)
-            self.assertEqual(heap.work(2), (2, 0, Step.FLIPPED, 1, 0))
+            self.assertEqual(heap.work_paced(pace, 1 << 31), (0, 0, None, 0, 32))
+            self.assertEqual((pace.owed, heap.counts().roots_left), (4, 7))
+            # The field, the end of its object, and the flip.
+            self.assertEqual(heap.work_paced(pace, 0), (3, 0, Step.FLIPPED, 1, 7))
+            self.assertEqual(pace.owed, 0)
 
     def test_frames(self):
         with Heap(64, extra_roots=8) as heap:

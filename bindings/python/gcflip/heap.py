@@ -151,7 +151,8 @@ class Pace:
 
     A collection begins where the heap has `factor` hundredths, 100 to 10000, of the words that the last flip left, but at least `least` words,
     or where half of the room that the flip left is used up. `rate` steps are due for each word allocated and each entry logged; with 0
-    the counts decide. A call ends once it has performed `words` units, or copied `words` words; with 0 it performs all steps that are due.
+    the counts decide. A call ends after `words` units or looks, or once it has copied `words` words; with 0 it performs all steps that
+    are due.
     """
 
     def __init__(self, factor: int = 200, rate: int = 0, least: int = 65536, words: int = 1024) -> None:
