@@ -196,9 +196,10 @@ static void expect_paced(uint32_t wanted, uint32_t steps, uint32_t looks, uint32
 /* With a bound, looks take the place of steps, and the steps stay owed. */
 static void bounded_pace(void)
 {
+    /* the words of the object end the first call */
     begin_paced(4);
-    expect_paced(UINT32_MAX, 1, 4, GCFLIP_COPIED, 10);
-    for (int call = 0; call < 248; call++)
+    expect_paced(UINT32_MAX, 1, 0, GCFLIP_COPIED, 10);
+    for (int call = 0; call < 249; call++)
         expect_paced(0, 0, 4, GCFLIP_DONE, 10);
     expect_paced(0, 4, 4, GCFLIP_SCANNED, 6);
     expect_paced(0, 4, 0, GCFLIP_SCANNED, 2);
