@@ -291,7 +291,7 @@ static gcflip_counts read_counts(void)
 
 enum progress { NO_MEMORY, GOES_ON, FLIPPED };
 
-/* Performs at most this many useful steps. */
+/* Performs at most this many units of work. */
 static enum progress work(uint32_t most)
 {
     static struct call_times times = {"gcflip_heap_work", 0, 0, 0, NULL};
