@@ -169,7 +169,7 @@ static void flipped(uint32_t last)
 
 static uint32_t work_on(uint32_t most)
 {
-    EXPECT(gcflip_heap_work(&heap, most, &work) == GCFLIP_DONE && work.steps > 0 && work.steps <= most);
+    EXPECT(gcflip_heap_work(&heap, most, &work) == GCFLIP_DONE && work.steps <= most && (work.steps > 0 || work.looks > 0));
     flipped(work.last);
     return work.last;
 }
