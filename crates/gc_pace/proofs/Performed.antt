@@ -10,9 +10,9 @@ use Rattle.gc_collected.specs.CollectedHeap.{Allocates}
 use Rattle.gc_collected.specs.Collected.{Beside, Collected, Turns, turns_after}
 use Rattle.gc_collected.specs.declared.flip.Keep.TheVariants.{Room}
 use Rattle.gc_pace.specs.Beside.{HaveRooms, LeavesAfter}
-use Rattle.gc_pace.specs.Internal.Performed.{HaveFewLooks, CountedBy, RanSteps, HasDone, at_once, joined_run, steps_in}
+use Rattle.gc_pace.specs.Internal.Performed.{CountedBy, RanSteps, HasDone, at_once, joined_run, steps_in}
 use Rattle.gc_pace.specs.Internal.Waiting.{HasLacked, HaveRun}
-use Rattle.gc_pace.specs.Work.{IsEnd, IsRun, IsSpent, IsWork, after_useful, useful_reply, end_after, end_in, goes_on, is_flip, units, words_copied}
+use Rattle.gc_pace.specs.Work.{HaveFewLooks, IsEnd, IsRun, IsSpent, IsWork, after_useful, useful_reply, end_after, end_in, goes_on, is_flip, units, words_copied}
 use Rattle.gc_pace.specs.declared.work.Work.{Work}
 use Rattle.gc_pace.specs.declared.work.Looks.{Looks}
 use Rattle.gc_pace.specs.declared.work.Looks.TheVariants.{Count, CountUpTo, AreFree}
@@ -132,8 +132,8 @@ pub reported : (Short : State → StepReply → Type 0) (looks_as : Looks) (size
     → start ≡ end_in old.core → work.steps ≡ run.steps → work.copied ≡ end_after before.core run.reply - start → work.last ≡ Some run.reply → RanSteps Short size old before run → run.steps ≤ most
     → IsSpent looks_as most work.looks run.steps ⊎ IsEnd size words before.core run.reply work.copied
     → IfSome words (λ most. (k : ℕ) → suc k < work.steps → words_copied old.core (after_useful size (suc k) old.core) (useful_reply size k old.core) < most)
-    → IsWork looks_as size words most old.core before.core work
-reported Short looks_as size words most start old before work run begin counted copied last done within ended short = record {
+    → HaveFewLooks looks_as most work.looks → IsWork looks_as size words most old.core before.core work
+reported Short looks_as size words most start old before work run begin counted copied last done within ended short few = record {
   none = λ none. absurd (let some = done.run.some in omega (arith, some, none, counted));
   some = λ some. record {
     reply = run.reply;
@@ -145,4 +145,5 @@ reported Short looks_as size words most start old before work run begin counted 
     enough = λ low. inl (run_over size run.steps old.core before.core run.reply done.run (omega (arith, low, counted)));
     short = short;
   };
+  looks = few;
 }

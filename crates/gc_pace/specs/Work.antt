@@ -1,5 +1,5 @@
 -- Useful steps, performed in order by one call, and what is reported of them.
-use Rattle.std.specs.Prelude.{◌≡◌, ◌≢◌, ◌⊎◌, ℕ, zero, suc, ◌+◌, ◌-◌, ◌/◌, ◌<◌, ◌≤◌, Bool, true, false, not, Option, Some, None, IfSome, IsSomeAnd}
+use Rattle.std.specs.Prelude.{◌≡◌, ◌≢◌, ◌⊎◌, ℕ, zero, suc, ◌+◌, ◌-◌, ◌*◌, ◌/◌, ◌<◌, ◌≤◌, ⊤, Bool, true, false, not, Option, Some, None, IfSome, IsSomeAnd}
 use Rattle.std.specs.Option.{option_map, option_map_or, option_or}
 use Rattle.gc_plan.specs.State.{State, new_end, heap_end}
 use Rattle.gc_plan.specs.Steps.{collect, useful_step}
@@ -105,6 +105,12 @@ IsSpent Count most looks steps = most ≤ steps + looks / 32
 IsSpent (CountUpTo bound) most looks steps = (most ≤ steps + looks / 32) ⊎ (bound ≤ looks)
 IsSpent AreFree most looks steps = most ≤ steps
 
+-- a call of at most so many units takes no more looks
+abbrev pub HaveFewLooks : Looks → ℕ → ℕ → Type 0
+HaveFewLooks Count most looks = looks ≤ 32 * most
+HaveFewLooks (CountUpTo bound) most looks = (looks ≤ 32 * most) × (looks ≤ bound)
+HaveFewLooks AreFree most looks = ⊤
+
 abbrev pub no_work : Work
 no_work = record { steps = 0; copied = 0; last = None; looks = 0 }
 
@@ -132,3 +138,4 @@ pub record IsWorkDone (looks_as : Looks) (size words : Option ℕ) (most : ℕ) 
 pub record IsWork (looks_as : Looks) (size words : Option ℕ) (most : ℕ) (s t : State) (work : Work) : Type 0 where
   pub none : work.steps ≡ 0 → LooksOnly looks_as most s t work
   pub some : 1 ≤ work.steps → IsWorkDone looks_as size words most s t work
+  pub looks : HaveFewLooks looks_as most work.looks

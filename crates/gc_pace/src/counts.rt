@@ -19,7 +19,7 @@ pub struct Counts {
     pub mutators: u32,
     /// The number of extra roots.
     pub extra_roots: u32,
-    /// 1 if a collection is open, otherwise 0. If it is 0, so are all members after it.
+    /// 1 if a collection is open, otherwise 0. If it is 0, so are all members after it but `roots_left`.
     pub is_open: u32,
     /// The size of the new space (to-space).
     pub new_size: u32,

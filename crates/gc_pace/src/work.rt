@@ -13,9 +13,9 @@ ghost use Rattle.gc_collected.specs.Collected.{IsUnchangedButRooms, WereRefused,
 ghost use Rattle.gc_collected.specs.declared.flip.Keep.{Keep};
 ghost use Rattle.gc_pace.specs.Beside.{LeavesAfter, HaveRooms, LeavesBeside, WasRefused};
 ghost use Rattle.gc_pace.specs.Internal.Leaving.{LeavesLess, EndsBelow};
-ghost use Rattle.gc_pace.specs.Internal.Performed.{HaveFewLooks, HasDone, HasSeen, at_once, joined_run, steps_in};
+ghost use Rattle.gc_pace.specs.Internal.Performed.{HasDone, HasSeen, at_once, joined_run, steps_in};
 ghost use Rattle.gc_pace.specs.Internal.Waiting.{HasLacked, HaveRun};
-ghost use Rattle.gc_pace.specs.Work.{IsSoundReply, IsRun, IsWork, with_size, IsSpent, sized_step, after_useful, useful_reply, goes_on, is_flip, end_in, end_after, no_work};
+ghost use Rattle.gc_pace.specs.Work.{HaveFewLooks, IsSoundReply, IsRun, IsWork, with_size, IsSpent, sized_step, after_useful, useful_reply, goes_on, is_flip, end_in, end_after, no_work};
 ghost use Rattle.gc_pace.specs.declared.work.Looks.{Looks};
 
 use gc_check::Sequential;

@@ -1,5 +1,5 @@
 -- The useful steps that a call has performed so far, if there were any, and the looks that it took to find them.
-use Rattle.std.specs.Prelude.{◌≡◌, ℕ, suc, ◌+◌, ◌-◌, ◌*◌, ◌/◌, ◌<◌, ◌≤◌, min, ⊤, false, Option, Some, None}
+use Rattle.std.specs.Prelude.{◌≡◌, ℕ, suc, ◌+◌, ◌-◌, ◌/◌, ◌<◌, ◌≤◌, min, false, Option, Some, None}
 use Rattle.std.specs.Option.{option_map_or}
 use Rattle.gc_plan.specs.State.{State}
 use Rattle.gc_plan.specs.declared.step.StepReply.{StepReply}
@@ -32,12 +32,6 @@ abbrev pub at_once : Looks → ℕ → ℕ
 at_once Count taken = 32
 at_once (CountUpTo most) taken = min 32 (most - taken)
 at_once AreFree taken = 4294967295
-
--- a call of at most so many units takes no more looks
-abbrev pub HaveFewLooks : Looks → ℕ → ℕ → Type 0
-HaveFewLooks Count most looks = looks ≤ 32 * most
-HaveFewLooks (CountUpTo bound) most looks = (looks ≤ 32 * most) × (looks ≤ bound)
-HaveFewLooks AreFree most looks = ⊤
 
 -- the units of a call in steps and in turns of looks are no more than this
 abbrev pub CountedBy : Looks → ℕ → ℕ → ℕ → Type 0

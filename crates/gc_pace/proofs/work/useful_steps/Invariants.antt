@@ -2,8 +2,8 @@
 use Rattle.std.proofs.Common.{◌≡◌, ◌+◌, ◌-◌, ◌≤◌, true}
 use Rattle.std.specs.Prelude.{IfSome}
 use Rattle.gc_pace.specs.Beside.{HaveRooms}
-use Rattle.gc_pace.specs.Internal.Performed.{HaveFewLooks, CountedBy, HasDone, steps_in}
-use Rattle.gc_pace.specs.Work.{goes_on, is_flip}
+use Rattle.gc_pace.specs.Internal.Performed.{CountedBy, HasDone, steps_in}
+use Rattle.gc_pace.specs.Work.{HaveFewLooks, goes_on, is_flip}
 use Rattle.gc_pace.proofs.work.useful_steps.Given as goal
 
 abbrev pub invariant-loop-units : goal.invariant-loop-units

@@ -7,7 +7,7 @@ use Rattle.gc_collected.specs.CollectedHeap.{Allocates}
 use Rattle.gc_collected.specs.Collected.{Collected}
 use Rattle.gc_pace.specs.Internal.Performed.{HasDone, HasSeen, steps_in}
 use Rattle.gc_pace.specs.Internal.Waiting.{HaveRun}
-use Rattle.gc_pace.specs.Work.{IsEnd, IsSpent, IsWork, goes_on, is_flip, sized_step}
+use Rattle.gc_pace.specs.Work.{HaveFewLooks, IsEnd, IsSpent, IsWork, goes_on, is_flip, sized_step}
 use Rattle.gc_pace.proofs.Performed.{reported}
 use Rattle.gc_pace.proofs.Waiting.{leaves_beside}
 use Rattle.gc_pace.proofs.work.work_as.Goals as goal
@@ -25,7 +25,7 @@ returns-clause-work c =
     (subst (HasDone (λ _ _. ⊤) c.args.size old before) c.in-Some.is e.done)
     (subst (λ (o : Option StepRun). steps_in o ≤ c.args.most) c.in-Some.is e.steps)
     (subst (λ (n : ℕ). IsSpent c.args.looks_as c.args.most n run.steps ⊎ IsEnd c.args.size None before.core run.reply c.report-work.result.copied) (sym r.looks)
-    (⊎_elim (λ spent. inl spent) (λ ends. inr (⊎_elim (λ over. inl over) (λ lacks. inr (inl lacks)) ends)) ended)) tt)
+    (⊎_elim (λ spent. inl spent) (λ ends. inr (⊎_elim (λ over. inl over) (λ lacks. inr (inl lacks)) ends)) ended)) tt (subst (HaveFewLooks c.args.looks_as c.args.most) (sym r.looks) e.few))
 
 pub returns-clause-beside : goal.returns-clause-beside
 returns-clause-beside c =

@@ -7,7 +7,7 @@ use Rattle.gc_collected.specs.CollectedHeap.{Allocates}
 use Rattle.gc_collected.specs.Collected.{Collected}
 use Rattle.gc_pace.specs.Internal.Performed.{HasDone, HasSeen, steps_in}
 use Rattle.gc_pace.specs.Internal.Waiting.{HaveRun}
-use Rattle.gc_pace.specs.Work.{IsEnd, IsSpent, IsWork, after_useful, useful_reply, end_after, end_in, goes_on, is_flip, sized_step}
+use Rattle.gc_pace.specs.Work.{HaveFewLooks, IsEnd, IsSpent, IsWork, after_useful, useful_reply, end_after, end_in, goes_on, is_flip, sized_step}
 use Rattle.gc_pace.proofs.Performed.{reported}
 use Rattle.gc_pace.proofs.Waiting.{leaves_beside}
 use Rattle.gc_pace.proofs.work.work_within_as.Goals as goal
@@ -29,7 +29,8 @@ returns-clause-work c =
     (subst (λ (o : Option StepRun). steps_in o ≤ c.args.most) c.in-Some.is e.steps)
     (subst (λ (n : ℕ). IsSpent c.args.looks_as c.args.most n run.steps ⊎ IsEnd None (Some c.args.words) before.core run.reply c.report-work.result.copied) (sym r.looks)
     (⊎_elim (λ spent. inl spent) (λ ends. inr (subst (λ (n : ℕ). (goes_on run.reply ≡ false) ⊎ (Allocates before.core (sized_step None before.core) ⊎ (c.args.words ≤ n))) (sym r.copied) ends)) ended))
-    (λ k less. subst (λ (n : ℕ). end_after (after_useful None (suc k) old.core) (useful_reply None k old.core) - n < c.args.words) start (done.short k (omega (arith, less, r.steps)))))
+    (λ k less. subst (λ (n : ℕ). end_after (after_useful None (suc k) old.core) (useful_reply None k old.core) - n < c.args.words) start (done.short k (omega (arith, less, r.steps))))
+    (subst (HaveFewLooks c.args.looks_as c.args.most) (sym r.looks) e.few))
 
 pub returns-clause-beside : goal.returns-clause-beside
 returns-clause-beside c =
