@@ -407,9 +407,9 @@ fn useful_steps<P: Performs>(
                 units += 1;
             }
             Some(step) => match performs.perform(heap, size, step, most - units) {
-                Err(NoMemory) => {
+                Err(refused) => {
                     if done.run.is_none() {
-                        return Err(NoMemory);
+                        return Err(refused);
                     }
                     return Ok(done);
                 }
