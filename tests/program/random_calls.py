@@ -19,6 +19,8 @@ LOOSE = {"root_load": 5, "root_store": 6, "root_clear": 1}
 FRAMES = {"frame_push": 6, "frame_pop": 3, "frame_trim": 4}
 PLACES = {"place_new": 4, "place_num": 3, "place_copy": 5, "place_get": 6, "place_put": 9, "place_same": 3, "place_look": 4}
 MOVES = {"moved": 4, "refer": 6}
+# Not a call: a heap to which looks at extra roots are free, as they are to the one in plain C. A step takes as many as it needs, and none is told.
+FREE_LOOKS = {"free_looks": 0}
 COMMANDS = ("new", "raw", "num", "nil", "move", "get", "put", "same", "look")
 
 
@@ -318,6 +320,8 @@ class Calls:
         take this many words, if a number is given."""
         start = len(self.model.new.words) if self.model.new else 1
         made, copied, looks, units, last = [], 0, 0, 0, "done"
+        if "free_looks" in self.weights:
+            at_once = most_looks = None
         while units < most and not last.startswith("flipped") and last != "no room" and (not made or words is None or copied < words):
             limit = at_once if most_looks is None else min(at_once, most_looks - looks)
             taken, is_found = self.model.search(limit) if self.model.new else (0, True)
@@ -329,6 +333,7 @@ class Calls:
                 made.append(self.model.useful(size))
                 last = made[-1][1]
                 copied = len((self.model.space if last.startswith("flipped") else self.model.new).words) - start
+        looks = 0 if "free_looks" in self.weights else looks
         return made, copied, looks, "worked %d %d %d %s" % (len(made), copied, looks, last)
 
     def add_work(self):
@@ -496,7 +501,10 @@ class Calls:
         self.call(["useful"], "useful " + self.model.next_step())
 
     def add_counts(self):
-        self.call(["counts"], "counts " + " ".join(map(str, self.model.counts())))
+        counts = self.model.counts()
+        if "free_looks" in self.weights:
+            counts[-1] = 0
+        self.call(["counts"], "counts " + " ".join(map(str, counts)))
 
     def add_log(self):
         m = self.mutator()
