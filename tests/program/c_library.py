@@ -241,7 +241,7 @@ def recording_that_ends(program, folder):
     path, why = built.build(["gcc", *SANITIZERS], "record_ends.c", built.archive())
     said = b"gcflip_record.h: the recording ends here: a trace has no size of 1048577 words\n"
     said += said
-    said += b"".join(b"gcflip_record.h: the recording ends here: a trace has no extra root %d\n" % root for root in (3, 3, 0, 0, 1))
+    said += b"".join(b"gcflip_record.h: the recording ends here: a trace has no extra root %d\n" % root for root in (3, 3, 0, 0, 1, 2))
     said += b"gcflip_record.h: the recording ends here: a trace has no reference by the address 1\n"
     said += b"".join(b"gcflip_record.h: the recording ends here: a trace has no %s by places\n" % name for name in (b"new", b"set_number", b"copy", b"get", b"put", b"same", b"look"))
     said += b"gcflip_record.h: the recording ends here: a trace has no extra root 3\n"
