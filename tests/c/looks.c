@@ -193,14 +193,20 @@ static void expect_paced(uint32_t wanted, uint32_t steps, uint32_t looks, uint32
     EXPECT((steps + owed == due || last == GCFLIP_FLIPPED) && (pace.words == 0 || (steps <= most && looks <= UNIT * most && looks <= pace.words)));
 }
 
+/* Each call takes looks in the place of all steps that are due. */
+static void expect_only_looks(int calls, uint32_t looks)
+{
+    for (int call = 0; call < calls; call++)
+        expect_paced(0, 0, looks, GCFLIP_DONE, 10);
+}
+
 /* With a bound, looks take the place of steps, and the steps stay owed. */
 static void bounded_pace(void)
 {
     /* the words of the object end the first call */
     begin_paced(4);
     expect_paced(UINT32_MAX, 1, 0, GCFLIP_COPIED, 10);
-    for (int call = 0; call < 249; call++)
-        expect_paced(0, 0, 4, GCFLIP_DONE, 10);
+    expect_only_looks(249, 4);
     expect_paced(0, 4, 4, GCFLIP_SCANNED, 6);
     expect_paced(0, 4, 0, GCFLIP_SCANNED, 2);
     expect_paced(0, 2, 0, GCFLIP_FLIPPED, 0);
@@ -208,16 +214,14 @@ static void bounded_pace(void)
     /* three units and 4 looks are 100 looks */
     begin_paced(100);
     expect_paced(UINT32_MAX, 1, 100, GCFLIP_COPIED, 10);
-    for (int call = 0; call < 8; call++)
-        expect_paced(0, 0, 100, GCFLIP_DONE, 10);
+    expect_only_looks(8, 100);
     expect_paced(0, 7, 100, GCFLIP_SCANNED, 3);
     expect_paced(0, 3, 0, GCFLIP_FLIPPED, 0);
     close_heap();
     /* with fewer units than the bound allows looks, there are no more units than steps due */
     begin_paced(1000);
     expect_paced(UINT32_MAX, 1, 10 * UNIT, GCFLIP_COPIED, 10);
-    expect_paced(0, 0, 10 * UNIT, GCFLIP_DONE, 10);
-    expect_paced(0, 0, 10 * UNIT, GCFLIP_DONE, 10);
+    expect_only_looks(2, 10 * UNIT);
     expect_paced(0, 9, UNIT + 8, GCFLIP_PASSED, 1);
     expect_paced(0, 1, 0, GCFLIP_FLIPPED, 0);
     close_heap();
