@@ -189,41 +189,72 @@ static void expect_paced(uint32_t wanted, uint32_t steps, uint32_t looks, uint32
     EXPECT(gcflip_heap_counts(&heap, &counts) == GCFLIP_DONE);
     const uint32_t due = gcflip_pace_due(&pace, &counts, wanted), most = due < pace.words ? due : pace.words;
     EXPECT(gcflip_heap_work_paced(&heap, &pace, wanted, &work) == GCFLIP_DONE);
-    EXPECT(work.steps == steps && work.looks == looks && work.last == last && pace.owed == owed);
-    EXPECT((steps + owed == due || last == GCFLIP_FLIPPED) && (pace.words == 0 || (steps <= most && looks <= UNIT * most && looks <= pace.words)));
+    EXPECT(work.steps == steps && work.looks == looks && work.last == last && pace.owed == owed && pace.roots == left());
+    EXPECT(steps + (pace.words == 0 ? 0 : looks / UNIT) + owed == due || last == GCFLIP_FLIPPED);
+    EXPECT(pace.words == 0 || (steps <= most && looks <= UNIT * most && looks <= pace.words));
 }
 
-/* Each call takes looks in the place of all steps that are due. */
+/* Each call takes looks in the place of all steps that are due. Each unit of them is one that is not owed any more. */
 static void expect_only_looks(int calls, uint32_t looks)
 {
-    for (int call = 0; call < calls; call++)
-        expect_paced(0, 0, looks, GCFLIP_DONE, 10);
+    for (int call = 0; call < calls; call++) {
+        EXPECT(gcflip_heap_counts(&heap, &counts) == GCFLIP_DONE);
+        expect_paced(0, 0, looks, GCFLIP_DONE, gcflip_pace_due(&pace, &counts, 0) - looks / UNIT);
+    }
 }
 
-/* With a bound, looks take the place of steps, and the steps stay owed. */
+/* With a bound, looks take the place of steps. 43 steps are left at first: 10 for the object, 32 units for 1000 looks, and the flip. */
 static void bounded_pace(void)
 {
-    /* the words of the object end the first call */
+    /* the words of the object end the first call; four looks are no unit, so the steps stay owed until fewer are left */
     begin_paced(4);
-    expect_paced(UINT32_MAX, 1, 0, GCFLIP_COPIED, 10);
+    expect_paced(UINT32_MAX, 1, 0, GCFLIP_COPIED, 42);
     expect_only_looks(249, 4);
-    expect_paced(0, 4, 4, GCFLIP_SCANNED, 6);
-    expect_paced(0, 4, 0, GCFLIP_SCANNED, 2);
+    EXPECT(pace.owed == 12);
+    expect_paced(0, 4, 4, GCFLIP_SCANNED, 8);
+    expect_paced(0, 4, 0, GCFLIP_SCANNED, 4);
     expect_paced(0, 2, 0, GCFLIP_FLIPPED, 0);
     close_heap();
     /* three units and 4 looks are 100 looks */
     begin_paced(100);
-    expect_paced(UINT32_MAX, 1, 100, GCFLIP_COPIED, 10);
+    expect_paced(UINT32_MAX, 1, 100, GCFLIP_COPIED, 39);
     expect_only_looks(8, 100);
-    expect_paced(0, 7, 100, GCFLIP_SCANNED, 3);
-    expect_paced(0, 3, 0, GCFLIP_FLIPPED, 0);
+    EXPECT(pace.owed == 15);
+    expect_paced(0, 10, 100, GCFLIP_FLIPPED, 0);
     close_heap();
     /* with fewer units than the bound allows looks, there are no more units than steps due */
     begin_paced(1000);
-    expect_paced(UINT32_MAX, 1, 10 * UNIT, GCFLIP_COPIED, 10);
-    expect_only_looks(2, 10 * UNIT);
-    expect_paced(0, 9, UNIT + 8, GCFLIP_PASSED, 1);
+    pace.owed = 11;
+    expect_paced(0, 1, 10 * UNIT, GCFLIP_COPIED, 0);
+    for (int call = 0; call < 2; call++) {
+        pace.owed = 10;
+        expect_paced(0, 0, 10 * UNIT, GCFLIP_DONE, 0);
+    }
+    pace.owed = 10;
+    expect_paced(0, 9, UNIT + 8, GCFLIP_PASSED, 0);
+    pace.owed = 1;
     expect_paced(0, 1, 0, GCFLIP_FLIPPED, 0);
+    close_heap();
+}
+
+/* Stores to roots that were looked at are paid for as puts are: each unit of looks that they ask for by a step. */
+static void stores_are_paid_for(void)
+{
+    begin_paced(1000);
+    pace.rate = 1;
+    /* the object, 31 units of looks, and 8 looks with a step */
+    EXPECT(gcflip_heap_work(&heap, 33, &work) == GCFLIP_DONE && work.steps == 2 && work.looks == ROOTS && left() == 0);
+    expect_paced(0, 0, 0, GCFLIP_DONE, 0);
+    store(7);
+    expect_paced(0, 1, 1, GCFLIP_SCANNED, 0);
+    for (uint32_t k = 0; k < UNIT + 1; k++)
+        store(k);
+    expect_paced(0, 1, UNIT + 1, GCFLIP_SCANNED, 0);
+    expect_paced(0, 0, 0, GCFLIP_DONE, 0);
+    /* a root that another call looked at again is not paid for */
+    store(7);
+    EXPECT(gcflip_heap_work(&heap, 1, &work) == GCFLIP_DONE && work.looks == 1);
+    expect_paced(0, 0, 0, GCFLIP_DONE, 0);
     close_heap();
 }
 
@@ -250,6 +281,7 @@ int main(void)
     given_up();
     exact_calls();
     bounded_pace();
+    stores_are_paid_for();
     unbounded_pace();
     return 0;
 }

@@ -22,7 +22,7 @@ static void read_counts(void)
 /* A pace that does not bound the words of a call. */
 static gcflip_pace pace_of(uint32_t factor, uint32_t rate, uint32_t least, uint32_t left, uint32_t end, uint32_t logged)
 {
-    gcflip_pace made = {factor, rate, least, 0, left, end, logged, 0};
+    gcflip_pace made = {factor, rate, least, 0, left, end, logged, 0, 0};
     return made;
 }
 
@@ -76,7 +76,7 @@ static void rates(void)
 /* The same counts with steps that are owed: they are due as well while a collection is open and there is room. */
 static void debts(void)
 {
-    gcflip_pace of = {200, 0, 10, 64, 30, 50, 3, 7};
+    gcflip_pace of = {200, 0, 10, 64, 30, 50, 3, 7, 0};
     EXPECT(due(of, 51, true, 41, 5, 0) == 13);    /* 7 + 3 times 2 */
     EXPECT(due(of, 51, true, 41, 5, 144) == 16);  /* 7 + 3 times 2 + 16 / 5, and no more than are left */
     EXPECT(due(of, 50, true, 41, 3, 0) == 7);     /* nothing spent */
@@ -89,6 +89,29 @@ static void debts(void)
     EXPECT(due(of, 51, true, 41, 5, 0) == 10);
     of.owed = UINT32_MAX;
     EXPECT(due(of, 51, true, 41, 5, 0) == 16);
+}
+
+/* The same counts, with looks at extra roots that are left: 32 of them count as a word that is left, and those that are new as one that is spent. */
+static void looks(void)
+{
+    gcflip_pace of = pace_of(200, 0, 10, 30, 50, 3);
+    gcflip_counts c = {200, 51, 149, 1, 1000, 1, 200, 0, 41, 0, 5, 33};
+    of.roots = 32;
+    EXPECT(gcflip_pace_due(&of, &c, 0) == 8);    /* 3 and a unit times 2 */
+    EXPECT(gcflip_pace_due(&of, &c, 144) == 18); /* 4 times 2 + 18 / 5, and no more than are left */
+    EXPECT(gcflip_pace_due(&of, &c, 140) == 16); /* 4 times 2 + 18 / 9 */
+    EXPECT(gcflip_pace_due(&of, &c, 149) == 18); /* no room */
+    c.roots_left = 32;
+    EXPECT(gcflip_pace_due(&of, &c, 0) == 6);
+    of.roots = 1;
+    EXPECT(gcflip_pace_due(&of, &c, 0) == 6); /* 32 looks are one unit, as one look is */
+    of.roots = 0;
+    EXPECT(gcflip_pace_due(&of, &c, 0) == 8);
+    of.roots = 500;
+    EXPECT(gcflip_pace_due(&of, &c, 0) == 6 && gcflip_pace_due(&of, &c, 149) == 17); /* fewer than before */
+    c.is_open = 0;
+    c.scan_place = c.logged = 0;
+    EXPECT(gcflip_pace_due(&of, &c, 149) == 53); /* the begin, 50 words, a unit and the flip */
 }
 
 /* Counts that no heap has: its end is below the scan pointer. No word is left to scan, but the entries and the flip are. */
@@ -104,8 +127,8 @@ static void end_below_the_scan_pointer(void)
 /* The largest counts: no sum or product wraps, and the result is cut off. */
 static void largest_counts(void)
 {
-    const gcflip_pace all = {10000, UINT32_MAX, UINT32_MAX, UINT32_MAX, UINT32_MAX, 0, 0, UINT32_MAX};
-    gcflip_counts c = {UINT32_MAX, UINT32_MAX, 0, 16, 0, 1, UINT32_MAX, 1, 1, 0, UINT32_MAX, 0};
+    const gcflip_pace all = {10000, UINT32_MAX, UINT32_MAX, UINT32_MAX, UINT32_MAX, 0, 0, UINT32_MAX, 0};
+    gcflip_counts c = {UINT32_MAX, UINT32_MAX, 0, 16, 0, 1, UINT32_MAX, 1, 1, 0, UINT32_MAX, UINT32_MAX};
     EXPECT(gcflip_pace_due(&all, &c, 0) == UINT32_MAX);
     c.free = 1;
     EXPECT(gcflip_pace_due(&all, &c, 0) == UINT32_MAX);
@@ -150,7 +173,7 @@ static void one_collection(void)
 
 static void refusals(void)
 {
-    const gcflip_pace wrong[] = {{99, 0, 0, 5, 1, 1, 0, 2}, {10001, 0, 0, 5, 1, 1, 0, 2}, {0, 0, 0, 5, 1, 1, 0, 2}, {UINT32_MAX, 0, 0, 5, 1, 1, 0, 2}};
+    const gcflip_pace wrong[] = {{99, 0, 0, 5, 1, 1, 0, 2, 3}, {10001, 0, 0, 5, 1, 1, 0, 2, 3}, {0, 0, 0, 5, 1, 1, 0, 2, 3}, {UINT32_MAX, 0, 0, 5, 1, 1, 0, 2, 3}};
     const gcflip_work before = {77, 77, 77, 77, 77};
     work = before;
     pace = wrong[0];
@@ -416,6 +439,7 @@ int main(void)
     beginnings();
     rates();
     debts();
+    looks();
     end_below_the_scan_pointer();
     largest_counts();
     refusals();

@@ -93,6 +93,11 @@ class Looks:
         return len(self.again) + max(0, max(self.used, self.stale) - self.front)
 
 
+def units_of(looks):
+    """Returns the units of work that so many looks make up, rounded up."""
+    return (looks + 31) // 32
+
+
 class NoRoom(Exception):
     """The new space has no room for a replica."""
 
@@ -113,7 +118,9 @@ class Model:
         self.former = None
         # The numbers of a pace that the program chooses, and those that it remembers.
         self.factor, self.rate, self.least, self.words = 200, 0, 65536, 1024
-        self.left, self.end, self.logged, self.owed = 1, 1, 0, 0
+        self.left, self.end, self.logged, self.owed, self.seen = 1, 1, 0, 0, 0
+        # Whether looks at extra roots count as work.
+        self.counts_looks = True
 
     # ---- slots: a number below 16 is the mutator's own, and one from 16 to 31 is shared. A place stands for its root
 
@@ -379,29 +386,32 @@ class Model:
     def remember(self):
         """Makes the pace remember the heap as it is, as after a flip."""
         self.left = self.end = len(self.space.words)
-        self.logged, self.owed = self.entries(), 0
+        self.logged, self.owed, self.seen = self.entries(), 0, self.looks_left()
 
     def remember_work(self, due, made, copied, looks):
         """Makes the pace remember work that made these steps, each with its line and its reply, copied so many words, and looked at so many extra roots."""
         last = made[-1][1] if made else ""
         self.left = len(self.space.words) if last.startswith("flipped") else self.left
-        self.end, self.logged = len(self.space.words), self.entries()
-        looked_instead = len(made) < due and len(made) + looks // 32 >= min(due, self.words)
-        took = self.words > 0 and (max(len(made), copied, looks) >= self.words or looked_instead)
-        self.owed = due - len(made) if took and not last.startswith("flipped") and last != "no room" else 0
+        self.end, self.logged, self.seen = len(self.space.words), self.entries(), self.looks_left()
+        units = len(made) + looks // 32
+        took = self.words > 0 and max(units, copied, looks) >= self.words
+        self.owed = max(0, due - units) if took and not last.startswith("flipped") and last != "no room" else 0
 
     def steps_due(self, wanted):
         """Returns the steps that are due before the program allocates so many words."""
         end, room = len(self.space.words), self.space.size - len(self.space.words) - wanted
-        steps_left = end - (self.scan_place if self.new else 0) + self.entries() + 1
+        steps_left = end - (self.scan_place if self.new else 0) + self.entries() + units_of(self.looks_left()) + 1
         if room <= 0:
             return steps_left
         if not self.new:
             return int(end >= min(max(self.least, self.factor * self.left // 100), (self.left + self.space.size) // 2))
-        spent = max(0, end - self.end) + max(0, self.entries() - self.logged)
+        spent = max(0, end - self.end) + max(0, self.entries() - self.logged) + max(0, units_of(self.looks_left()) - units_of(self.seen))
         return min(steps_left, self.owed + spent * (self.rate or 2 + steps_left // room))
 
     # ---- what the calls that read write
+
+    def looks_left(self):
+        return self.looks.left(self.new is not None) if self.counts_looks else 0
 
     def entries(self):
         return sum(map(len, self.logs)) if self.new else 0
@@ -412,4 +422,4 @@ class Model:
     def counts(self):
         end, (new_size, new_end, place, field) = len(self.space.words), self.scan_numbers()
         return [self.space.size, end, self.space.size - end, self.mutators, self.extra_roots, int(self.new is not None), new_size, new_end, place, field,
-                self.entries(), self.looks.left(self.new is not None)]
+                self.entries(), self.looks_left()]

@@ -95,8 +95,9 @@ class Calls:
             self.call(["open", *self.chance.choice([(0, 1, 0), (9, 0, 0), (9, 17, 0), (9, 255, 0)])], OUT_OF_RANGE)
         size = self.chance.choice(SIZES + [self.chance.randrange(1, 6000), 70000])
         mutators = self.chance.choice([1, 1, 2, 3, 16])
-        extra_roots = self.chance.choice([0, 1, 2, 5, 40, 200]) if "root_load" in self.weights else 0
+        extra_roots = self.chance.choice([0, 1, 2, 5, 40, 200, 1000]) if "root_load" in self.weights else 0
         self.model = Model(size, mutators, extra_roots)
+        self.model.counts_looks = "free_looks" not in self.weights
         self.models.append(self.model)
         self.stack = (0, extra_roots, 0, 0)
         self.call(["open", size, mutators, extra_roots], "done", ["heaptrace 3", "space %d mutators %d" % (size, mutators)])
@@ -301,7 +302,7 @@ class Calls:
         self.call(["begin"], reply, ["c begin"], [reply])
 
     def add_begin_sized(self):
-        size = self.chance.choice([1, 2, 3, 10, len(self.model.space.words), self.model.space.size, self.model.space.size + 7])
+        size = self.chance.choice([1, 2, 3, 10, len(self.model.space.words), self.model.space.size, self.model.space.size + 7, min(2 * self.model.space.size, 100000)])
         reply = self.model.begin(size)
         self.call(["begin_sized", size], reply, ["c begin %d" % size], [reply])
 
@@ -372,7 +373,7 @@ class Calls:
         elif due:
             made, copied, looks, report = self.worked(due, at_once=None)
         model.remember_work(due, made, copied, looks)
-        remembered = "%d %d %d %d" % (model.left, model.end, model.logged, model.owed)
+        remembered = "%d %d %d %d %d" % (model.left, model.end, model.logged, model.owed, model.seen)
         self.call(["work_paced", wanted], "%s, %s" % (report, remembered), [line for line, _ in made], [reply for _, reply in made])
 
     # ---- extra roots
@@ -501,10 +502,7 @@ class Calls:
         self.call(["useful"], "useful " + self.model.next_step())
 
     def add_counts(self):
-        counts = self.model.counts()
-        if "free_looks" in self.weights:
-            counts[-1] = 0
-        self.call(["counts"], "counts " + " ".join(map(str, counts)))
+        self.call(["counts"], "counts " + " ".join(map(str, self.model.counts())))
 
     def add_log(self):
         m = self.mutator()

@@ -110,8 +110,8 @@ def paced(heap, wanted):
     due = heap.steps_due(pace, wanted)
     work = heap.work_paced(pace, wanted)
     assert (work is None) == (due == 0)
-    assert work is None or work.steps + pace.owed == due or work.last in (Step.FLIPPED, Step.NO_ROOM)
-    return "%s, %d %d %d %d" % (worked(work) if work else "nothing", pace._raw.left, pace._raw.end, pace._raw.logged, pace.owed)
+    assert work is None or work.steps + work.looks // 32 + pace.owed >= due or work.last in (Step.FLIPPED, Step.NO_ROOM)
+    return "%s, %d %d %d %d %d" % (worked(work) if work else "nothing", pace._raw.left, pace._raw.end, pace._raw.logged, pace.owed, pace._raw.roots)
 
 
 def performed(heap, name, numbers):

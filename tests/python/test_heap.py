@@ -209,10 +209,10 @@ class Commands(unittest.TestCase):
             self.assertEqual(heap.counts().roots_left, 38)
             mutator.store(5, own(0))
             self.assertEqual(heap.counts().roots_left, 39)
-            # Four steps are due, because no room is left. The call may take 32 looks, and owes the steps.
+            # Six steps are due, because no room is left, two of them for 39 looks. The call may take 32 looks, which are one, and owes the others.
             heap.remember(pace)
             self.assertEqual(heap.work_paced(pace, 1 << 31), (0, 0, None, 0, 32))
-            self.assertEqual((pace.owed, heap.counts().roots_left), (4, 7))
+            self.assertEqual((pace.owed, heap.counts().roots_left), (5, 7))
             # The field, the end of its object, and the flip.
             self.assertEqual(heap.work_paced(pace, 0), (3, 0, Step.FLIPPED, 1, 7))
             self.assertEqual(pace.owed, 0)

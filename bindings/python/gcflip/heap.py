@@ -150,13 +150,13 @@ class Pace:
     """When a collection begins and how fast it goes on, and what paced work remembers of the call before. A pace belongs to one heap.
 
     A collection begins where the heap has `factor` hundredths, 100 to 10000, of the words that the last flip left, but at least `least` words,
-    or where half of the room that the flip left is used up. `rate` steps are due for each word allocated and each entry logged; with 0
-    the counts decide. A call ends after `words` units or looks, or once it has copied `words` words; with 0 it performs all steps that
+    or where half of the room that the flip left is used up. `rate` steps are due for each word allocated, each entry logged and
+    each 32 looks that stores to extra roots ask for; with 0 the counts decide. A call ends after `words` units or looks, or once it has copied `words` words; with 0 it performs all steps that
     are due.
     """
 
     def __init__(self, factor: int = 200, rate: int = 0, least: int = 65536, words: int = 1024) -> None:
-        self._raw = library.RawPace(*in_range((factor, rate, least, words), [ctypes.c_uint32] * 4), 1, 1, 0, 0)
+        self._raw = library.RawPace(*in_range((factor, rate, least, words), [ctypes.c_uint32] * 4), 1, 1, 0, 0, 0)
 
     @property
     def owed(self) -> int:

@@ -119,7 +119,7 @@ class Field(ctypes.Structure):
 
 
 class RawPace(ctypes.Structure):
-    _fields_ = [(name, c_uint32) for name in ("factor", "rate", "least", "words", "left", "end", "logged", "owed")]
+    _fields_ = [(name, c_uint32) for name in ("factor", "rate", "least", "words", "left", "end", "logged", "owed", "roots")]
 
 
 class RawFrame(ctypes.Structure):

@@ -1,7 +1,7 @@
 -- What commands and steps leave of the marks of a collected heap.
 use Rattle.std.proofs.lemmas.Grind.{common_steps}
 use Rattle.std.proofs.Common.{◌≡◌, ◌≢◌, ⊎_elim, ℕ, zero, suc, ◌+◌, ◌-◌, ◌<◌, ◌≤◌, nat_lt, List, [], ◌∷◌, length, map, slice_get, replicate, Option, Some, None, refl, sym, ap, ◌∙◌, subst, arith}
-use Rattle.std.specs.Prelude.{IfSome, slice_index, slice_set}
+use Rattle.std.specs.Prelude.{IfSome, max, slice_index, slice_set}
 use Rattle.std.specs.Option.{option_map, unwrap_or}
 use Rattle.std.proofs.lemmas.Bool.{cond_both, cases_lt, cases_eq, ltb-true}
 use Rattle.gc_graph.specs.Slots.{SlotName, place, roots_of}
@@ -27,9 +27,9 @@ use Rattle.gc_plan.specs.declared.step.Step.TheVariants as steps
 use Rattle.gc_plan.proofs.Public.{all_replicated, first_missing, steps_stay, collect_stays, mutate_stays}
 use Rattle.gc_collected.specs.CollectedHeap.{fill_step, filled, new_from_step}
 use Rattle.gc_collected.specs.Internal.CollectedHeap.{Fits}
-use Rattle.gc_collected.specs.Internal.KnownRoots.{HasWritten, KnowsRoots}
-use Rattle.gc_roots.specs.Twins.{KeepsTwins, IsDone}
-use Rattle.gc_roots.proofs.Public.{extra_known, opening_keeps, root_command as root_twins, slot_command as slot_twins, step_keeps as step_twins}
+use Rattle.gc_collected.specs.Internal.KnownRoots.{HasStored, HasStoredPlain, HasWritten, KnowsRoots, roots_left_in}
+use Rattle.gc_roots.specs.Twins.{AskForLooks, AsksForLook, KeepsTwins, IsDone}
+use Rattle.gc_roots.proofs.Public.{extra_known, nil_asks as nil_twins, opening_keeps, root_command as root_twins, slot_command as slot_twins, step_keeps as step_twins, taken_asks as taken_twins}
 use Rattle.gc_collected.specs.declared.known.KnownRoots.{KnownRoots}
 use Rattle.gc_collected.specs.declared.known.Found.{Found}
 use Rattle.gc_collected.specs.declared.known.Found.TheVariants.{Missing, AllKnown, Unfinished}
@@ -164,6 +164,30 @@ set_nil : (vs : List Value) (q : ℕ) → unwrap_or (slice_get (slice_set vs q N
 set_nil [] q = refl
 set_nil (v ∷ vs) zero = refl
 set_nil (v ∷ vs) (suc q) = set_nil vs q
+
+-- ---- looks
+
+-- an extra root that takes a value, or becomes nil, asks for one look at most, whether a collection is open or not
+pub taken_asks : (o : Option CollectionWords) (known now : KnownRoots) (k : ℕ) → HasWritten known now k → now.twins.used ≡ max known.twins.used (k + 1) → AsksForLook k (roots_left_in o known.twins) (roots_left_in o now.twins)
+taken_asks None known now k w used = (taken_twins known.twins now.twins k w.twins used).1
+taken_asks (Some c) known now k w used = (taken_twins known.twins now.twins k w.twins used).0
+
+pub nilled_asks : (o : Option CollectionWords) (known now : KnownRoots) (k : ℕ) → HasWritten known now k → now.twins.used ≡ known.twins.used → AskForLooks 1 (roots_left_in o known.twins) (roots_left_in o now.twins)
+nilled_asks None known now k w used = (nil_twins known.twins now.twins k w.twins used).1
+nilled_asks (Some c) known now k w used = (nil_twins known.twins now.twins k w.twins used).0
+
+-- a root at a place that takes a value: a slot asks for no look
+pub stored_asks : (o : Option CollectionWords) (known now : KnownRoots) (slots p : ℕ) → HasStored known now slots p → AsksForLook p (roots_left_in o known.twins) (roots_left_in o now.twins)
+stored_asks o known now slots p h = ⊎_elim
+    (λ less. (let same = ap (λ (x : KnownRoots). roots_left_in o x.twins) (h.slot less) in (omega (arith, same), omega (arith, same))))
+    (λ high. (let asks = taken_asks o known now (p - slots) (h.extra high) (h.used high) in (asks.0, omega (arith, asks.1))))
+    (cases_lt p slots)
+
+pub plain_asks : (o : Option CollectionWords) (known now : KnownRoots) (slots p : ℕ) → HasStoredPlain known now slots p → AsksForLook p (roots_left_in o known.twins) (roots_left_in o now.twins)
+plain_asks o known now slots p h = ⊎_elim
+    (λ less. (let same = ap (λ (x : KnownRoots). roots_left_in o x.twins) (h.slot less) in (omega (arith, same), omega (arith, same))))
+    (λ high. (let asks = taken_asks o known now (p - slots) (h.extra high) (h.used high) in (asks.0, omega (arith, asks.1))))
+    (cases_lt p slots)
 
 -- ---- steps
 

@@ -1,6 +1,6 @@
 //! Commands on extra roots.
 
-ghost use Rattle.std.specs.Prelude.{◌≡◌, ◌<◌, ◌≤◌, ◌-◌, ℕ, IfSome};
+ghost use Rattle.std.specs.Prelude.{◌≡◌, ◌<◌, ◌≤◌, ◌-◌, ℕ, IfSome, Option};
 ghost use Rattle.std.specs.Option.{option_map};
 ghost use Rattle.gc_graph.specs.declared.command.Op.{Op};
 ghost use Rattle.gc_graph.specs.declared.reply.Reply.{Reply};
@@ -8,10 +8,11 @@ ghost use Rattle.gc_heap.specs.ExtraRoots.{extra_slot};
 ghost use Rattle.gc_heap.specs.Heap.{extra_roots_in};
 ghost use Rattle.gc_plan.specs.State.{extra_roots_of};
 ghost use Rattle.gc_plan.specs.Steps.{mutate};
-ghost use Rattle.gc_copy.specs.Words.{BelongsTo, collection_in, state_of};
+ghost use Rattle.gc_copy.specs.Words.{BelongsTo, CollectionWords, collection_in, state_of};
+ghost use Rattle.gc_roots.specs.Twins.{AskForLooks, AsksForLook};
 ghost use Rattle.gc_collected.specs.ExtraRoots.{clear_step};
 ghost use Rattle.gc_collected.specs.Internal.CollectedHeap.{Fits};
-ghost use Rattle.gc_collected.specs.Internal.KnownRoots.{ComparesTwins, KnowsRoots};
+ghost use Rattle.gc_collected.specs.Internal.KnownRoots.{ComparesTwins, KnowsRoots, roots_left_in};
 
 use crate::collected_heap::CollectedHeap;
 use crate::known::KnownRoots;
@@ -34,6 +35,7 @@ impl CollectedHeap {
         ensures step { mutate self.old.core m (Op.Move d (extra_slot self.old.core.mutators m k)) ≡ (result, self.new.core) }
         ensures mutators { self.new.core.mutators ≡ self.old.core.mutators }
         ensures beside { self.new.beside ≡ self.old.beside }
+        ensures looks { self.new.roots_left ≡ self.old.roots_left }
     {
         self.is_sound();
         // Here the prover learns that the heap is sound, and the slot in range.
@@ -50,6 +52,7 @@ impl CollectedHeap {
         ensures step { mutate self.old.core m (Op.Move (extra_slot self.old.core.mutators m k) s) ≡ (result, self.new.core) }
         ensures mutators { self.new.core.mutators ≡ self.old.core.mutators }
         ensures beside { self.new.beside ≡ self.old.beside }
+        ensures looks { AsksForLook k self.old.roots_left self.new.roots_left }
     {
         self.is_sound();
         // Here the prover learns that the heap is sound.
@@ -58,13 +61,13 @@ impl CollectedHeap {
         self.heap.store(m, k, s)
     }
 
-    /// Sets the extra roots from `from` on, and below `to`, to nil. Does not allocate, and logs nothing. A later collection reads each
-    /// root that was cleared at most four times, and those after it read none above the last one in use.
+    /// Sets the extra roots from `from` on, and below `to`, to nil. Does not allocate, and logs nothing. Asks for one look at each, at most.
     pub fn clear(&mut self, from: u32, to: u32)
         requires { to ≤ extra_roots_of self.old.core }
         ensures step { clear_step self.old.core from (to - from) ≡ self.new.core }
         ensures mutators { self.new.core.mutators ≡ self.old.core.mutators }
         ensures beside { self.new.beside ≡ self.old.beside }
+        ensures looks { AskForLooks (to - from) self.old.roots_left self.new.roots_left }
     {
         self.is_sound();
         // Here the prover learns that the heap is sound.
@@ -90,6 +93,7 @@ fn clear_each(
     ensures knows { KnowsRoots known.old (state_of heap.old (option_map collection_in collection.now))
         → KnowsRoots known.new (state_of heap.new (option_map collection_in collection.now)) }
     ensures compares { ComparesTwins known.old → ComparesTwins known.new }
+    ensures looks { (o : Option CollectionWords) → AskForLooks (to - from) (roots_left_in o known.old.twins) (roots_left_in o known.new.twins) }
 {
     for k in from..to {
         // Here the prover learns that the heap is sound.

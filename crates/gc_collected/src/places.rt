@@ -5,6 +5,7 @@ ghost use Rattle.std.specs.Prelude.{◌≡◌, ◌<◌, ◌≤◌, IfOk, OnErr, 
 ghost use Rattle.gc_graph.specs.declared.command.Op.{Op};
 ghost use Rattle.gc_heap.specs.Places.{root_at};
 ghost use Rattle.gc_plan.specs.Steps.{mutate};
+ghost use Rattle.gc_roots.specs.Twins.{AsksForLook};
 ghost use Rattle.gc_collected.specs.CollectedHeap.{Fetches};
 
 use crate::barrier::{new_root_in, put_root};
@@ -30,6 +31,7 @@ impl CollectedHeap {
         ensures step { mutate self.old.core 0 (Op.New (root_at d) kind len) ≡ (result, self.new.core) }
         ensures mutators { self.new.core.mutators ≡ self.old.core.mutators }
         ensures beside { self.new.beside ≡ self.old.beside }
+        ensures looks { AsksForLook d self.old.roots_left self.new.roots_left }
     {
         // Here the prover learns that the heap is sound.
         let _ = self.heap.space();
@@ -51,6 +53,7 @@ impl CollectedHeap {
         ensures step { mutate self.old.core 0 (Op.Num (root_at d) n) ≡ (result, self.new.core) }
         ensures mutators { self.new.core.mutators ≡ self.old.core.mutators }
         ensures beside { self.new.beside ≡ self.old.beside }
+        ensures looks { AsksForLook d self.old.roots_left self.new.roots_left }
     {
         self.is_sound();
         // Here the prover learns that the heap is sound.
@@ -67,6 +70,7 @@ impl CollectedHeap {
         ensures step { mutate self.old.core 0 (Op.Move (root_at d) (root_at s)) ≡ (result, self.new.core) }
         ensures mutators { self.new.core.mutators ≡ self.old.core.mutators }
         ensures beside { self.new.beside ≡ self.old.beside }
+        ensures looks { AsksForLook d self.old.roots_left self.new.roots_left }
     {
         self.is_sound();
         // Here the prover learns that the heap is sound.
@@ -84,6 +88,7 @@ impl CollectedHeap {
         ensures fetches { Fetches self.old.core 0 (root_at d) (root_at s) i result self.new.core }
         ensures mutators { self.new.core.mutators ≡ self.old.core.mutators }
         ensures beside { self.new.beside ≡ self.old.beside }
+        ensures looks { AsksForLook d self.old.roots_left self.new.roots_left }
     {
         self.is_sound();
         // Here the prover learns that the heap is sound.
@@ -105,6 +110,7 @@ impl CollectedHeap {
         ensures open { OnErr result (IsSome self.old.core.collection) }
         ensures mutators { self.new.core.mutators ≡ self.old.core.mutators }
         ensures beside { self.new.beside ≡ self.old.beside }
+        ensures looks { self.new.roots_left ≡ self.old.roots_left }
     {
         commands_leave_collections();
         self.is_sound();

@@ -11,23 +11,24 @@ use Rattle.gc_graph.specs.declared.command.Op.{Op}
 use Rattle.gc_plan.specs.State.{Collection, State, heap_end}
 use Rattle.gc_plan.specs.Belonging.{IsState}
 use Rattle.gc_plan.specs.Steps.{collect, flipped, is_ready, mutate, passes_check, step_in, step_idle}
-use Rattle.gc_plan.specs.Progress.{entries_left, work_left}
+use Rattle.gc_plan.specs.Progress.{entries_left}
 use Rattle.gc_plan.specs.declared.step.Step.{Step}
 use Rattle.gc_plan.specs.declared.step.Step.TheVariants as steps
 use Rattle.gc_plan.specs.declared.step.StepReply.{StepReply}
 use Rattle.gc_plan.specs.declared.step.StepReply.TheVariants.{Flipped, NotReady, Refused}
 use Rattle.gc_plan.proofs.Public.{left_bounded, steps_stay}
-use Rattle.gc_pace.specs.Counts.{counts_of}
-use Rattle.gc_pace.specs.Work.{IsRun, after_useful, goes_on, sized_step, useful_reply}
-use Rattle.gc_pace.specs.Pace.{steps_left, spent, steps_due, took_its_words, CountsAll, HasEnded, IsPacedWork}
+use Rattle.gc_collected.specs.Collected.{Collected}
+use Rattle.gc_pace.specs.Counts.{counts_of, counts_in}
+use Rattle.gc_pace.specs.Work.{IsRun, after_useful, goes_on, sized_step, units, useful_reply}
+use Rattle.gc_pace.specs.Pace.{steps_left, units_left, spent, steps_due, took_its_words, CountsAll, HasEnded, IsPacedWork}
 use Rattle.gc_pace.specs.Turns.{Turn, AreFew, AreTurns, IsTurn, Remembers, after_commands, after_turns, unpaid}
 use Rattle.gc_pace.specs.declared.counts.Counts.{Counts}
 use Rattle.gc_pace.specs.declared.pace.Pace.{Pace}
 use Rattle.gc_pace.specs.declared.work.Work.{Work}
 use Rattle.gc_pace.proofs.Left.{counts_bound, end_at, logged_all}
 use Rattle.gc_pace.proofs.Paid.{not_zero}
-use Rattle.gc_pace.proofs.PacedCalls.{due_work, on_of, work_falls}
-use Rattle.gc_pace.proofs.Turns.{IsRaised, call_keeps, call_remembers, raised}
+use Rattle.gc_pace.proofs.PacedCalls.{call_work, on_of}
+use Rattle.gc_pace.proofs.Turns.{IsRaised, found_raised, turn_keeps, turn_remembers}
 
 -- ---- numbers
 
@@ -110,107 +111,109 @@ due_is : (pace : Pace) (counts : Counts) (wanted : ℕ) → 1 ≤ counts.is_open
     → (steps_left counts ≤ steps_due pace counts wanted) ⊎ ((1 ≤ counts.free - wanted) × (steps_due pace counts wanted ≡ pace.owed + spent pace counts * (2 + steps_left counts / (counts.free - wanted))))
 due_is pace counts wanted is_open rate few = grind (arith, common_steps, not_zero, eqb-true)
 
-module _ (s : State) (pace : Pace) (turn : Turn) (h : IsState s) (remembers : Remembers pace s) (k : IsTurn s pace turn) (few : steps_left (counts_of (after_commands s turn.commands)) ≤ 4294967295) (rate : pace.rate ≡ 0) where
-  abbrev u : State
-  u = after_commands s turn.commands
+module _ (heap : Collected) (pace : Pace) (turn : Turn) (h : IsState heap.core) (remembers : Remembers pace heap) (k : IsTurn heap pace turn) (few : steps_left (counts_in turn.found) ≤ 4294967295) (rate : pace.rate ≡ 0) where
+  abbrev u : Collected
+  u = turn.found
 
-  now : IsRaised s u
-  now = raised s turn.commands h k.commands
+  now : IsRaised heap.core u.core
+  now = found_raised heap pace turn h k
 
-  -- each step that was due was performed, or is owed
-  performed : turn.work.steps + turn.pace.owed ≡ steps_due pace (counts_of u) turn.wanted
+  -- each unit that was due was performed, or is owed
+  performed : steps_due pace (counts_in u) turn.wanted ≤ units turn.work + turn.pace.owed
   performed = let owes = ap (λ (p : Pace). p.owed) (k.work).pace in omega (arith, (k.goes_on).performed, owes)
 
-  -- the steps lowered the work by their number, and left the mutators' heap
-  fallen : (work_left turn.state + turn.work.steps ≤ work_left u) × Same u turn.state
-  fallen = elim (cases_lt (steps_due pace (counts_of u) turn.wanted) 1) [
-    | inl none ↦ (let zero_due : steps_due pace (counts_of u) turn.wanted ≡ 0 = omega (arith, none) in
-        let idle = (k.work).none zero_due in
-        (omega (arith, ap work_left idle.0, performed, none), (ap (λ (x : State). x.heap) idle.0, ap (λ (x : State). x.size) idle.0)))
-    | inr some ↦ (let due = steps_due pace (counts_of u) turn.wanted in
-        let done = due_work pace due u turn.state turn.work some ((k.work).some some) ((k.work).within some) in (
-          work_falls pace due u turn.state turn.work done (k.goes_on).going,
-          elim (cases_lt turn.work.steps 1) [
-            | inl none ↦ (let idle = done.none (omega (arith, none)) in (ap (λ (x : State). x.heap) idle, ap (λ (x : State). x.size) idle))
-            | inr steps ↦ (let p = done.some steps in run_same turn.work.steps u turn.state p.0 p.1 (on_of turn.work p.0 p.2 (k.goes_on).going))
-          ],
-        ))
+  fallen : units_left turn.heap + units turn.work ≤ units_left u
+  fallen = (k.work).falls (k.goes_on).going
+
+  -- the steps left the mutators' heap
+  same : Same u.core turn.heap.core
+  same = elim (cases_lt (steps_due pace (counts_in u) turn.wanted) 1) [
+    | inl none ↦ (let idle = (k.work).none (omega (arith, none)) in (ap (λ (x : State). x.heap) idle.0, ap (λ (x : State). x.size) idle.0))
+    | inr some ↦ (let done = call_work turn.wanted u turn.heap pace turn.pace turn.work k.work some in elim (cases_lt turn.work.steps 1) [
+      | inl none ↦ (let idle = done.none (omega (arith, none)) in (ap (λ (x : State). x.heap) idle, ap (λ (x : State). x.size) idle))
+      | inr steps ↦ (let p = done.some steps in run_same turn.work.steps u.core turn.heap.core p.0 p.1 (on_of turn.work p.0 p.2 (k.goes_on).going))
+    ])
   ]
 
-  bound : work_left u ≤ steps_left (counts_of u)
-  bound = counts_bound u (λ c is. left_bounded u c now.state.heap now.state.collection is) (k.goes_on).counted
+  bound : units_left u ≤ steps_left (counts_in u)
+  bound = counts_bound u (λ c is. left_bounded u.core c now.state.heap now.state.collection is) (k.goes_on).counted
 
-  -- what was spent is what the commands added to the work
-  added : work_left u ≡ work_left s + spent pace (counts_of u)
+  -- What was spent is what the commands added, or more. `least` is what was left before them, less the looks that they took away.
+  added : (least : ℕ) × (least ≤ units_left heap) × (least + spent pace (counts_in u) ≡ units_left u)
   added =
-      let logged = logged_all u (k.goes_on).counted in
-      let same : (counts_of s).logged ≡ entries_left s = grind (arith, common_steps, logged, now.entries, (k.goes_on).counted) in
-      omega (arith, now.work, now.end, now.entries, remembers.end, remembers.logged, end_at s, end_at u, logged, same)
+      let logged = logged_all u.core (k.goes_on).counted in
+      let before : (counts_of heap.core).logged ≡ entries_left heap.core = grind (arith, common_steps, logged, now.entries, (k.goes_on).counted) in
+      (
+        units_left u - spent pace (counts_in u),
+        omega (arith, now.work, now.end, now.entries, remembers.end, remembers.logged, remembers.roots, end_at heap.core, end_at u.core, logged, before),
+        omega (arith, now.work, now.end, now.entries, remembers.end, remembers.logged, remembers.roots, end_at heap.core, end_at u.core, logged, before),
+      )
 
   -- either nothing but what is owed is left, or the work fell by what pays for the room that was taken
-  turn_falls : (unpaid turn.state turn.pace ≡ 0) ⊎ ((x q room : ℕ) × (unpaid turn.state turn.pace + x * (1 + q) ≤ unpaid s pace) × (heap_end u - heap_end s ≤ x) × (room ≤ (counts_of u).free) × (unpaid s pace ≤ room * (1 + q)))
-  turn_falls = elim (due_is pace (counts_of u) turn.wanted (k.goes_on).collecting rate few) [
-    | inl all ↦ inl (omega (arith, all, fallen.0, performed, bound))
+  turn_falls : (unpaid turn.heap turn.pace ≡ 0) ⊎ ((x q room least : ℕ) × (least ≤ unpaid heap pace) × (unpaid turn.heap turn.pace + x * (1 + q) ≤ least) × (heap_end u.core - heap_end heap.core ≤ x) × (room ≤ (counts_in u).free) × (least ≤ room * (1 + q)))
+  turn_falls = elim (due_is pace (counts_in u) turn.wanted (k.goes_on).collecting rate few) [
+    | inl all ↦ inl (omega (arith, all, fallen, performed, bound))
     | inr paid ↦
-        let room = (counts_of u).free - turn.wanted in
-        let q = steps_left (counts_of u) / room in
-        let x = spent pace (counts_of u) in
-        let covers : steps_left (counts_of u) ≤ room * (1 + q) = rate_covers (steps_left (counts_of u)) room paid.0 in
-        elim (cases_lt (unpaid turn.state turn.pace) 1) [
+        let room = (counts_in u).free - turn.wanted in
+        let q = steps_left (counts_in u) / room in
+        let x = spent pace (counts_in u) in
+        let covers : steps_left (counts_in u) ≤ room * (1 + q) = rate_covers (steps_left (counts_in u)) room paid.0 in
+        let before = added in
+        elim (cases_lt (unpaid turn.heap turn.pace) 1) [
           | inl none ↦ inl (omega (arith, none))
           | inr some ↦ inr (
             x,
             q,
             room,
-            omega (arith, some, fallen.0, performed, paid.1, added),
-            omega (arith, remembers.end, end_at s, end_at u),
+            before.0 - pace.owed,
+            omega (arith, before.1),
+            omega (arith, some, fallen, performed, paid.1, before.2),
+            omega (arith, remembers.end, end_at heap.core, end_at u.core),
             omega arith,
-            omega (arith, covers, bound, added),
+            omega (arith, covers, bound, before.2),
           )
         ]
   ]
 
-  free_then : turn.state.heap.free + (heap_end u - heap_end s) ≡ s.heap.free
+  free_then : turn.heap.core.heap.free + (heap_end u.core - heap_end heap.core) ≡ heap.core.heap.free
   free_then =
-      let same : turn.state.heap.free ≡ u.heap.free = ap (λ (x : Roomy). x.free) fallen.1.0 in
-      omega (arith, same, now.end, commands_size s turn.commands, h.heap.room, now.state.heap.room)
+      let free : turn.heap.core.heap.free ≡ u.core.heap.free = ap (λ (x : Roomy). x.free) same.0 in
+      let size : u.core.size ≡ heap.core.size = ap (λ (x : State). x.size) k.found ∙ commands_size heap.core turn.commands in
+      omega (arith, free, now.end, size, h.heap.room, now.state.heap.room)
 
-  turn_keeps_up : (unpaid turn.state turn.pace ≤ unpaid s pace) × (unpaid turn.state turn.pace * s.heap.free ≤ unpaid s pace * turn.state.heap.free)
+  turn_keeps_up : (unpaid turn.heap turn.pace ≤ unpaid heap pace) × (unpaid turn.heap turn.pace * heap.core.heap.free ≤ unpaid heap pace * turn.heap.core.heap.free)
   turn_keeps_up = elim turn_falls [
-    | inl none ↦ (omega (arith, none), (let flat : unpaid turn.state turn.pace * s.heap.free ≡ 0 * s.heap.free = ap (λ n. n * s.heap.free) none in omega (arith, flat)))
-    | inr f ↦ (
-      omega (arith, f.3),
-      in_proportion (unpaid turn.state turn.pace) (unpaid s pace) f.0 f.1 s.heap.free turn.state.heap.free (heap_end u - heap_end s) f.2 f.3 free_then f.4
-          (let same : turn.state.heap.free ≡ u.heap.free = ap (λ (x : Roomy). x.free) fallen.1.0 in omega (arith, f.5, free_then, same)) f.6,
-    )
+    | inl none ↦ (omega (arith, none), (let flat : unpaid turn.heap turn.pace * heap.core.heap.free ≡ 0 * heap.core.heap.free = ap (λ n. n * heap.core.heap.free) none in omega (arith, flat)))
+    | inr f ↦
+        let free : turn.heap.core.heap.free ≡ u.core.heap.free = ap (λ (x : Roomy). x.free) same.0 in
+        let falls = in_proportion (unpaid turn.heap turn.pace) f.3 f.0 f.1 heap.core.heap.free turn.heap.core.heap.free (heap_end u.core - heap_end heap.core) f.2 f.5 free_then f.6 (omega (arith, f.7, free_then, free)) f.8 in
+        let more = mul-le f.3 turn.heap.core.heap.free (unpaid heap pace) turn.heap.core.heap.free f.4 (omega arith) in (omega (arith, f.4, f.5), omega (arith, falls, more))
   ]
 
 -- ---- many turns
 
-keep_up : (s : State) (pace : Pace) (turns : List Turn) → IsState s → Remembers pace s → AreTurns s pace turns → AreFew s turns → pace.rate ≡ 0
-    → (let last = after_turns s pace turns in (unpaid last.0 last.1 ≤ unpaid s pace) × (unpaid last.0 last.1 * s.heap.free ≤ unpaid s pace * last.0.heap.free))
-keep_up s pace [] h remembers k few rate = (omega arith, omega arith)
-keep_up s pace (turn ∷ turns) h remembers k few rate =
-    let one = turn_keeps_up s pace turn h remembers k.0 few.0 rate in
-    let now = raised s turn.commands h (k.0).commands in
-    let rest = keep_up turn.state turn.pace turns (call_keeps turn.wanted (after_commands s turn.commands) turn.state pace turn.pace turn.work (k.0).work now.state)
-    (call_remembers turn.wanted (after_commands s turn.commands) turn.state pace turn.pace turn.work (k.0).work) k.1 few.1 (ap (λ (p : Pace). p.rate) ((k.0).work).pace ∙ rate) in
-    let last = after_turns turn.state turn.pace turns in (
+keep_up : (heap : Collected) (pace : Pace) (turns : List Turn) → IsState heap.core → Remembers pace heap → AreTurns heap pace turns → AreFew turns → pace.rate ≡ 0
+    → (let last = after_turns heap pace turns in (unpaid last.0 last.1 ≤ unpaid heap pace) × (unpaid last.0 last.1 * heap.core.heap.free ≤ unpaid heap pace * last.0.core.heap.free))
+keep_up heap pace [] h remembers k few rate = (omega arith, omega arith)
+keep_up heap pace (turn ∷ turns) h remembers k few rate =
+    let one = turn_keeps_up heap pace turn h remembers k.0 few.0 rate in
+    let rest = keep_up turn.heap turn.pace turns (turn_keeps heap pace turn h k.0) (turn_remembers heap pace turn k.0) k.1 few.1 (ap (λ (p : Pace). p.rate) ((k.0).work).pace ∙ rate) in
+    let last = after_turns turn.heap turn.pace turns in (
       omega (arith, one.0, rest.0),
-      on_in_proportion (unpaid s pace) (unpaid turn.state turn.pace) (unpaid last.0 last.1) s.heap.free turn.state.heap.free last.0.heap.free rest.0 one.1 rest.1,
+      on_in_proportion (unpaid heap pace) (unpaid turn.heap turn.pace) (unpaid last.0 last.1) heap.core.heap.free turn.heap.core.heap.free last.0.core.heap.free rest.0 one.1 rest.1,
     )
 
-pub turns_keep_up : (s : State) (pace : Pace) (turns : List Turn) → IsState s → Remembers pace s → AreTurns s pace turns → AreFew s turns → pace.rate ≡ 0
-    → (let last = after_turns s pace turns in unpaid last.0 last.1 * s.heap.free ≤ unpaid s pace * last.0.heap.free)
-turns_keep_up s pace turns h remembers k few rate = (keep_up s pace turns h remembers k few rate).1
+pub turns_keep_up : (heap : Collected) (pace : Pace) (turns : List Turn) → IsState heap.core → Remembers pace heap → AreTurns heap pace turns → AreFew turns → pace.rate ≡ 0
+    → (let last = after_turns heap pace turns in unpaid last.0 last.1 * heap.core.heap.free ≤ unpaid heap pace * last.0.core.heap.free)
+turns_keep_up heap pace turns h remembers k few rate = (keep_up heap pace turns h remembers k few rate).1
 
-pub turns_most : (s : State) (pace : Pace) (turns : List Turn) (most : ℕ) → IsState s → Remembers pace s → AreTurns s pace turns → AreFew s turns → pace.rate ≡ 0
-    → 1 ≤ s.heap.free → work_left s ≤ most * s.heap.free + pace.owed → (let last = after_turns s pace turns in work_left last.0 ≤ most * last.0.heap.free + last.1.owed)
-turns_most s pace turns most h remembers k few rate some low =
-    let last = after_turns s pace turns in
-    let ratio = turns_keep_up s pace turns h remembers k few rate in
-    let wide : unpaid s pace * last.0.heap.free ≤ (most * s.heap.free) * last.0.heap.free = mul-le (unpaid s pace) last.0.heap.free (most * s.heap.free) last.0.heap.free (omega (arith, low)) (omega arith) in
-    let fits : unpaid last.0 last.1 ≤ most * last.0.heap.free = le_of_mul-le-mul_right {m = unpaid last.0 last.1} {n = most * last.0.heap.free} {k = s.heap.free} (omega (arith, ratio, wide)) some in
+pub turns_most : (heap : Collected) (pace : Pace) (turns : List Turn) (most : ℕ) → IsState heap.core → Remembers pace heap → AreTurns heap pace turns → AreFew turns → pace.rate ≡ 0
+    → 1 ≤ heap.core.heap.free → units_left heap ≤ most * heap.core.heap.free + pace.owed → (let last = after_turns heap pace turns in units_left last.0 ≤ most * last.0.core.heap.free + last.1.owed)
+turns_most heap pace turns most h remembers k few rate some low =
+    let last = after_turns heap pace turns in
+    let ratio = turns_keep_up heap pace turns h remembers k few rate in
+    let wide : unpaid heap pace * last.0.core.heap.free ≤ (most * heap.core.heap.free) * last.0.core.heap.free = mul-le (unpaid heap pace) last.0.core.heap.free (most * heap.core.heap.free) last.0.core.heap.free (omega (arith, low)) (omega arith) in
+    let fits : unpaid last.0 last.1 ≤ most * last.0.core.heap.free = le_of_mul-le-mul_right {m = unpaid last.0 last.1} {n = most * last.0.core.heap.free} {k = heap.core.heap.free} (omega (arith, ratio, wide)) some in
     omega (arith, fits)
 
 -- ---- a call that finds no more room than it wants
@@ -218,15 +221,15 @@ turns_most s pace turns most h remembers k few rate some low =
 all_due : (pace : Pace) (counts : Counts) (wanted : ℕ) → counts.free ≤ wanted → steps_left counts ≤ 4294967295 → steps_left counts ≤ steps_due pace counts wanted
 all_due pace counts wanted low few = grind (arith, common_steps, not_zero)
 
-took_none : (before : Pace) (due : ℕ) (work : Work) → before.words ≡ 0 → took_its_words before due work ≡ false
-took_none before due work free = grind (arith, common_steps)
+took_none : (before : Pace) (work : Work) → before.words ≡ 0 → took_its_words before work ≡ false
+took_none before work free = grind (arith, common_steps)
 
-pub room_or_end : (wanted : ℕ) (s t : State) (before after : Pace) (work : Work) → IsPacedWork wanted s t before after work → CountsAll (counts_of s) → steps_left (counts_of s) ≤ 4294967295 → before.words ≡ 0
-    → (wanted < (counts_of s).free) ⊎ HasEnded t work
-room_or_end wanted s t before after work paced counted few free = elim (cases_lt wanted (counts_of s).free) [
+pub room_or_end : (wanted : ℕ) (old new : Collected) (before after : Pace) (work : Work) → IsPacedWork wanted old new before after work → CountsAll (counts_in old) → steps_left (counts_in old) ≤ 4294967295 → before.words ≡ 0
+    → (wanted < (counts_in old).free) ⊎ HasEnded new.core work
+room_or_end wanted old new before after work paced counted few free = elim (cases_lt wanted (counts_in old).free) [
   | inl room ↦ inl room
-  | inr none ↦ elim (paced.enough counted (all_due before (counts_of s) wanted none few)) [
+  | inr none ↦ elim (paced.enough counted (all_due before (counts_in old) wanted none few)) [
     | inl ended ↦ inr ended
-    | inr took ↦ absurd (let no : false ≡ true = sym (took_none before (steps_due before (counts_of s) wanted) work free) ∙ took in cc)
+    | inr took ↦ absurd (let no : false ≡ true = sym (took_none before work free) ∙ took in cc)
   ]
 ]

@@ -1,6 +1,7 @@
 -- What a useful step leaves of the work, and what the counts say of it.
 use Rattle.std.proofs.lemmas.Grind.{common_steps}
-use Rattle.std.proofs.Common.{◌≡◌, ◌≢◌, ◌⊎◌, ℕ, ◌+◌, ◌-◌, ◌<◌, ◌≤◌, true, Option, Some, None, Result, arith}
+use Rattle.std.proofs.Math.Nat.{div-add-mod, mod-lt}
+use Rattle.std.proofs.Common.{◌≡◌, ◌≢◌, ◌⊎◌, ℕ, ◌+◌, ◌-◌, ◌*◌, ◌/◌, ◌%◌, ◌<◌, ◌≤◌, true, Option, Some, None, Result, arith}
 use Rattle.std.specs.Prelude.{IfOk}
 use Rattle.std.specs.Option.{option_map_or}
 use Rattle.std.proofs.lemmas.Bool.{cond_both}
@@ -13,8 +14,9 @@ use Rattle.gc_plan.specs.declared.step.StepReply.{StepReply}
 use Rattle.gc_plan.specs.declared.step.StepReply.TheVariants.{NoRoom, Flipped}
 use Rattle.gc_pace.specs.Internal.Leaving.{LeavesLess}
 use Rattle.gc_pace.specs.Work.{with_size, sized_step, goes_on}
-use Rattle.gc_pace.specs.Counts.{counts_of}
-use Rattle.gc_pace.specs.Pace.{steps_left, CountsAll}
+use Rattle.gc_collected.specs.Collected.{Collected}
+use Rattle.gc_pace.specs.Counts.{counts_of, counts_in}
+use Rattle.gc_pace.specs.Pace.{steps_left, units_of, units_left, CountsAll}
 
 pub some_left : (s : State) → 1 ≤ work_left s
 some_left s = grind (arith, common_steps)
@@ -61,7 +63,29 @@ logged_low s = grind (arith, common_steps)
 pub logged_all : (s : State) → CountsAll (counts_of s) → (counts_of s).logged ≡ entries_left s
 logged_all s all = grind (arith, common_steps)
 
+counts_enough : (s : State) (left : ℕ) → ((c : Collection) → s.collection ≡ Some c → work_left s ≤ (heap_end s - c.scan_place) + entries_in c.logs + 1)
+    → CountsAll (counts_of s) → work_left s + units_of left ≤ steps_left (record (counts_of s) { roots_left = left })
+counts_enough s left bounded all = grind (arith, common_steps, logged_all)
+
 -- the steps that the counts leave are enough for the work
-pub counts_bound : (s : State) → ((c : Collection) → s.collection ≡ Some c → work_left s ≤ (heap_end s - c.scan_place) + entries_in c.logs + 1)
-    → CountsAll (counts_of s) → work_left s ≤ steps_left (counts_of s)
-counts_bound s bounded all = grind (arith, common_steps, logged_all)
+pub counts_bound : (h : Collected) → ((c : Collection) → h.core.collection ≡ Some c → work_left h.core ≤ (heap_end h.core - c.scan_place) + entries_in c.logs + 1)
+    → CountsAll (counts_in h) → units_left h ≤ steps_left (counts_in h)
+counts_bound h bounded all = counts_enough h.core h.roots_left bounded all
+
+-- ---- looks, in units
+
+-- how many looks so many units are
+pub units_near : (looks : ℕ) → (looks ≤ 32 * units_of looks) × (32 * units_of looks ≤ looks + 31) × (32 * (looks / 32) ≤ looks)
+units_near looks =
+    let up : 32 * ((looks + 31) / 32) + (looks + 31) % 32 ≡ looks + 31 = div-add-mod (looks + 31) 32 in
+    let down : 32 * (looks / 32) + looks % 32 ≡ looks = div-add-mod looks 32 in
+    let rest = mod-lt (looks + 31) {m = 32} (omega arith) in
+    (omega (arith, up, rest), omega (arith, up), omega (arith, down))
+
+-- looks that were taken lower the units of those that are left
+pub units_fall : (old new looks : ℕ) → new + looks ≤ old → units_of new + looks / 32 ≤ units_of old
+units_fall old new looks less = omega (arith, units_near old, units_near new, units_near looks, less)
+
+-- looks that are left rise, in units, by no more than the units of those that are new
+pub units_rise : (old new looks : ℕ) → new ≤ old + looks → units_of new ≤ units_of old + units_of looks
+units_rise old new looks few = omega (arith, units_near old, units_near new, units_near looks, few)

@@ -12,14 +12,15 @@ use Rattle.gc_plan.specs.Steps.{logged, written, mutate, collect, useful_step}
 use Rattle.gc_plan.specs.Progress.{entries_in, work_left, entries_left}
 use Rattle.gc_plan.specs.declared.step.Step.{Step}
 use Rattle.gc_plan.proofs.Public.{collect_keeps, mutate_keeps, useful_ranges, command_raises}
-use Rattle.gc_pace.specs.Counts.{counts_of}
+use Rattle.gc_collected.specs.Collected.{Collected}
+use Rattle.gc_pace.specs.Counts.{counts_in}
 use Rattle.gc_pace.specs.Work.{with_size, after_useful}
-use Rattle.gc_pace.specs.Pace.{spent, steps_due, CountsAll, IsPacedWork}
-use Rattle.gc_pace.specs.Turns.{Turn, after_commands, AreCommands, AreTurns, after_turns, Remembers}
+use Rattle.gc_pace.specs.Pace.{spent, steps_due, units_of, units_left, CountsAll, IsPacedWork}
+use Rattle.gc_pace.specs.Turns.{Turn, after_commands, AreCommands, AreTurns, IsTurn, after_turns, Remembers}
 use Rattle.gc_pace.specs.declared.pace.Pace.{Pace}
 use Rattle.gc_pace.specs.declared.work.Work.{Work}
 use Rattle.gc_pace.proofs.Left.{entries_low, end_at, logged_low, logged_all}
-use Rattle.gc_pace.proofs.PacedCalls.{due_work, work_state}
+use Rattle.gc_pace.proofs.PacedCalls.{call_work, work_state}
 
 -- ---- commands take no word and no entry away
 
@@ -56,8 +57,13 @@ raised s (command ∷ rest) h k =
     let later_work = later.work in
     record { state = later.state; end = omega arith; entries = omega arith; work = omega arith }
 
-ahead_before : (s t : State) (pace : Pace) (most : ℕ) → IsState s → IsRaised s t → Remembers pace s → CountsAll (counts_of t) → work_left s ≤ most + pace.owed → work_left t ≤ most + pace.owed + spent pace (counts_of t)
-ahead_before s t pace most h k remembers all low = grind (arith, common_steps, logged_all, logged_low, end_at)
+-- what was spent since the call before is what commands added to the units that are left, or more
+pub spent_covers : (old new : Collected) (pace : Pace) → IsRaised old.core new.core → Remembers pace old → CountsAll (counts_in new) → units_left new ≤ units_left old + spent pace (counts_in new)
+spent_covers old new pace now remembers all =
+    let logged = logged_all new.core all in
+    let end = now.end in
+    let entries = now.entries in
+    omega (arith, now.work, remembers.end, remembers.logged, remembers.roots, end_at old.core, end_at new.core, logged, logged_low old.core)
 
 -- ---- calls
 
@@ -72,52 +78,54 @@ useful_keep (suc n) s h =
     let now = useful_keep n s h in
     subst (λ (step : Step). IsState (collect before step).1) (unsized (useful_step before)) (collect_keeps before (useful_step before) now (useful_ranges before now.collection))
 
-pub call_keeps : (wanted : ℕ) (s t : State) (before after : Pace) (work : Work) → IsPacedWork wanted s t before after work → IsState s → IsState t
-call_keeps wanted s t before after work paced h = go (steps_due before (counts_of s) wanted) refl
+pub call_keeps : (wanted : ℕ) (old new : Collected) (before after : Pace) (work : Work) → IsPacedWork wanted old new before after work → IsState old.core → IsState new.core
+call_keeps wanted old new before after work paced h = go (steps_due before (counts_in old) wanted) refl
   where
-    go : (n : ℕ) → steps_due before (counts_of s) wanted ≡ n → IsState t
+    go : (n : ℕ) → steps_due before (counts_in old) wanted ≡ n → IsState new.core
     go zero e = subst IsState (sym (paced.none e).0) h
     go (suc n) e =
-        let busy : 1 ≤ steps_due before (counts_of s) wanted = omega arith in
-        let due = steps_due before (counts_of s) wanted in
-        let done = due_work before due s t work busy (paced.some busy) (paced.within busy) in
-        subst IsState (sym (work_state before due s t work done)) (useful_keep work.steps s h)
+        let busy : 1 ≤ steps_due before (counts_in old) wanted = omega arith in
+        subst IsState (sym (work_state old.core new.core work (call_work wanted old new before after work paced busy))) (useful_keep work.steps old.core h)
 
-pub call_remembers : (wanted : ℕ) (s t : State) (before after : Pace) (work : Work) → IsPacedWork wanted s t before after work → Remembers after t
-call_remembers wanted s t before after work paced = grind (arith, common_steps)
+pub call_remembers : (wanted : ℕ) (old new : Collected) (before after : Pace) (work : Work) → IsPacedWork wanted old new before after work → Remembers after new
+call_remembers wanted old new before after work paced = grind (arith, common_steps)
 
-pub turns_ahead : (s : State) (pace : Pace) (turns : List Turn) (most : ℕ) → IsState s → Remembers pace s → AreTurns s pace turns → work_left s ≤ most + pace.owed
-    → IsState (after_turns s pace turns).0 × (work_left (after_turns s pace turns).0 ≤ most + (after_turns s pace turns).1.owed)
-turns_ahead s pace [] most h remembers k low = (h, low)
-turns_ahead s pace (turn ∷ turns) most h remembers k low =
+-- the state that a turn begins with stays one through its commands
+pub found_raised : (heap : Collected) (pace : Pace) (turn : Turn) → IsState heap.core → IsTurn heap pace turn → IsRaised heap.core turn.found.core
+found_raised heap pace turn h k = subst (IsRaised heap.core) (sym k.found) (raised heap.core turn.commands h k.commands)
+
+pub turn_keeps : (heap : Collected) (pace : Pace) (turn : Turn) → IsState heap.core → IsTurn heap pace turn → IsState turn.heap.core
+turn_keeps heap pace turn h k = call_keeps turn.wanted turn.found turn.heap pace turn.pace turn.work k.work (found_raised heap pace turn h k).state
+
+pub turn_remembers : (heap : Collected) (pace : Pace) (turn : Turn) → IsTurn heap pace turn → Remembers turn.pace turn.heap
+turn_remembers heap pace turn k = call_remembers turn.wanted turn.found turn.heap pace turn.pace turn.work k.work
+
+pub turns_ahead : (heap : Collected) (pace : Pace) (turns : List Turn) (most : ℕ) → IsState heap.core → Remembers pace heap → AreTurns heap pace turns → units_left heap ≤ most + pace.owed
+    → IsState (after_turns heap pace turns).0.core × (units_left (after_turns heap pace turns).0 ≤ most + (after_turns heap pace turns).1.owed)
+turns_ahead heap pace [] most h remembers k low = (h, low)
+turns_ahead heap pace (turn ∷ turns) most h remembers k low =
     let one = k.0 in
-    let now = raised s turn.commands h one.commands in
-    let before = ahead_before s (after_commands s turn.commands) pace most h now remembers (one.goes_on).counted low in
+    let before = spent_covers heap turn.found pace (found_raised heap pace turn h one) remembers (one.goes_on).counted in
     let ahead = (one.work).ahead one.goes_on in
-    let kept = call_remembers turn.wanted (after_commands s turn.commands) turn.state pace turn.pace turn.work one.work in
-    let end = kept.end in
-    let logged = kept.logged in
-    turns_ahead turn.state turn.pace turns most
-    (call_keeps turn.wanted (after_commands s turn.commands) turn.state pace turn.pace turn.work one.work now.state)
-    kept k.1 (omega (arith, ahead, before))
+    turns_ahead turn.heap turn.pace turns most (turn_keeps heap pace turn h one) (turn_remembers heap pace turn one) k.1 (omega (arith, ahead, before, low))
 
-pub turns_work : (s : State) (pace : Pace) (turns : List Turn) (most : ℕ) → IsState s → Remembers pace s → AreTurns s pace turns → work_left s ≤ most + pace.owed
-    → work_left (after_turns s pace turns).0 ≤ most + (after_turns s pace turns).1.owed
-turns_work s pace turns most h remembers k low = (turns_ahead s pace turns most h remembers k low).1
+pub turns_work : (heap : Collected) (pace : Pace) (turns : List Turn) (most : ℕ) → IsState heap.core → Remembers pace heap → AreTurns heap pace turns → units_left heap ≤ most + pace.owed
+    → units_left (after_turns heap pace turns).0 ≤ most + (after_turns heap pace turns).1.owed
+turns_work heap pace turns most h remembers k low = (turns_ahead heap pace turns most h remembers k low).1
 
-pub turns_logs : (s : State) (pace : Pace) (turns : List Turn) (most : ℕ) → IsState s → Remembers pace s → AreTurns s pace turns → work_left s ≤ most + pace.owed
-    → (counts_of (after_turns s pace turns).0).logged < most + (after_turns s pace turns).1.owed
-turns_logs s pace turns most h remembers k low =
-    let last = turns_ahead s pace turns most h remembers k low in
-    omega (arith, last.1, logged_low (after_turns s pace turns).0, entries_low (after_turns s pace turns).0)
+pub turns_logs : (heap : Collected) (pace : Pace) (turns : List Turn) (most : ℕ) → IsState heap.core → Remembers pace heap → AreTurns heap pace turns → units_left heap ≤ most + pace.owed
+    → (counts_in (after_turns heap pace turns).0).logged + units_of (after_turns heap pace turns).0.roots_left < most + (after_turns heap pace turns).1.owed
+turns_logs heap pace turns most h remembers k low =
+    let last = turns_ahead heap pace turns most h remembers k low in
+    omega (arith, last.1, logged_low (after_turns heap pace turns).0.core, entries_low (after_turns heap pace turns).0.core)
 
 -- ---- where words are not bounded, no step is owed
 
-pub call_owes : (wanted : ℕ) (s t : State) (before after : Pace) (work : Work) → IsPacedWork wanted s t before after work → before.words ≡ 0 → (after.words ≡ 0) × (after.owed ≡ 0)
-call_owes wanted s t before after work paced free = grind (arith, common_steps, cond_both, leb-true, and_parts)
+pub call_owes : (wanted : ℕ) (old new : Collected) (before after : Pace) (work : Work) → IsPacedWork wanted old new before after work → before.words ≡ 0 → (after.words ≡ 0) × (after.owed ≡ 0)
+call_owes wanted old new before after work paced free = grind (arith, common_steps, cond_both, leb-true, and_parts)
 
-pub turns_owe : (s : State) (pace : Pace) (turns : List Turn) → AreTurns s pace turns → pace.words ≡ 0 → pace.owed ≡ 0 → (after_turns s pace turns).1.owed ≡ 0
-turns_owe s pace [] k free none = none
-turns_owe s pace (turn ∷ turns) k free none =
-    let call = call_owes turn.wanted (after_commands s turn.commands) turn.state pace turn.pace turn.work (k.0).work free in
-    turns_owe turn.state turn.pace turns k.1 call.0 call.1
+pub turns_owe : (heap : Collected) (pace : Pace) (turns : List Turn) → AreTurns heap pace turns → pace.words ≡ 0 → pace.owed ≡ 0 → ((after_turns heap pace turns).1.words ≡ 0) × ((after_turns heap pace turns).1.owed ≡ 0)
+turns_owe heap pace [] k free none = (free, none)
+turns_owe heap pace (turn ∷ turns) k free none =
+    let call = call_owes turn.wanted turn.found turn.heap pace turn.pace turn.work (k.0).work free in
+    turns_owe turn.heap turn.pace turns k.1 call.0 call.1

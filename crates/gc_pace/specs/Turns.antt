@@ -5,18 +5,21 @@ use Rattle.gc_graph.specs.declared.command.Op.{Op}
 use Rattle.gc_plan.specs.State.{State}
 use Rattle.gc_plan.specs.Steps.{mutate}
 use Rattle.gc_plan.specs.Runs.{HasRange}
-use Rattle.gc_plan.specs.Progress.{entries_left, work_left}
-use Rattle.gc_pace.specs.Pace.{WorkGoesOn, IsPacedWork, steps_left}
-use Rattle.gc_pace.specs.Counts.{counts_of}
+use Rattle.gc_plan.specs.Progress.{entries_left}
+use Rattle.gc_collected.specs.Collected.{Collected}
+use Rattle.gc_pace.specs.Pace.{WorkGoesOn, IsPacedWork, steps_left, units_left}
+use Rattle.gc_pace.specs.Counts.{counts_in}
 use Rattle.gc_pace.specs.declared.pace.Pace.{Pace}
 use Rattle.gc_pace.specs.declared.work.Work.{Work}
 
--- Commands, each with its mutator, and then a call of paced work: the words wanted, what it did, and the state and the pace after it.
+-- Commands, each with its mutator, and then a call of paced work: the heap as it finds it, the words wanted, what it did, and the heap and the pace
+-- after it.
 pub record Turn : Type 0 where
   pub commands : List (ℕ × Op)
+  pub found : Collected
   pub wanted : ℕ
   pub work : Work
-  pub state : State
+  pub heap : Collected
   pub pace : Pace
 
 abbrev pub after_commands : State → List (ℕ × Op) → State
@@ -27,34 +30,35 @@ after_commands s (command ∷ rest) = after_commands (mutate s command.0 command
 abbrev pub AreCommands : ℕ → List (ℕ × Op) → Type 0
 AreCommands mutators commands = AllByRecursion (λ command. (command.0 < mutators) × HasRange command.1) commands
 
--- the turn begins in this state and with this pace; the collection is open before and after its call
-pub record IsTurn (s : State) (pace : Pace) (turn : Turn) : Type 0 where
-  pub commands : AreCommands s.mutators turn.commands
-  pub work : IsPacedWork turn.wanted (after_commands s turn.commands) turn.state pace turn.pace turn.work
-  pub goes_on : WorkGoesOn turn.wanted (after_commands s turn.commands) pace turn.work
+-- The turn begins with this heap and this pace. The collection is open before and after its call.
+pub record IsTurn (heap : Collected) (pace : Pace) (turn : Turn) : Type 0 where
+  pub commands : AreCommands heap.core.mutators turn.commands
+  pub found : turn.found.core ≡ after_commands heap.core turn.commands
+  pub work : IsPacedWork turn.wanted turn.found turn.heap pace turn.pace turn.work
+  pub goes_on : WorkGoesOn turn.wanted (counts_in turn.found) pace turn.work
 
-abbrev pub AreTurns : State → Pace → List Turn → Type 0
-AreTurns s pace [] = ⊤
-AreTurns s pace (turn ∷ turns) = IsTurn s pace turn × AreTurns turn.state turn.pace turns
+abbrev pub AreTurns : Collected → Pace → List Turn → Type 0
+AreTurns heap pace [] = ⊤
+AreTurns heap pace (turn ∷ turns) = IsTurn heap pace turn × AreTurns turn.heap turn.pace turns
 
--- the state and the pace after these turns
-abbrev pub after_turns : State → Pace → List Turn → State × Pace
-after_turns s pace [] = (s, pace)
-after_turns s pace (turn ∷ turns) = after_turns turn.state turn.pace turns
+-- the heap and the pace after these turns
+abbrev pub after_turns : Collected → Pace → List Turn → Collected × Pace
+after_turns heap pace [] = (heap, pace)
+after_turns heap pace (turn ∷ turns) = after_turns turn.heap turn.pace turns
 
--- the work that is left, but for the steps that the pace owes
-abbrev pub unpaid : State → Pace → ℕ
-unpaid s pace = work_left s - pace.owed
+-- the work that is left, in units, but for the steps that the pace owes
+abbrev pub unpaid : Collected → Pace → ℕ
+unpaid heap pace = units_left heap - pace.owed
 
 -- before each call no more steps are left than a call can perform
-abbrev pub AreFew : State → List Turn → Type 0
-AreFew s [] = ⊤
-AreFew s (turn ∷ turns) = (steps_left (counts_of (after_commands s turn.commands)) ≤ 4294967295) × AreFew turn.state turns
+abbrev pub AreFew : List Turn → Type 0
+AreFew turns = AllByRecursion (λ (turn : Turn). steps_left (counts_in turn.found) ≤ 4294967295) turns
 
--- the pace remembers the counts of this state
-pub record Remembers (pace : Pace) (s : State) : Type 0 where
-  pub end : pace.end ≡ (counts_of s).end
-  pub logged : pace.logged ≡ (counts_of s).logged
+-- the pace remembers the counts of this heap
+pub record Remembers (pace : Pace) (heap : Collected) : Type 0 where
+  pub end : pace.end ≡ (counts_in heap).end
+  pub logged : pace.logged ≡ (counts_in heap).logged
+  pub roots : pace.roots ≡ heap.roots_left
 
 -- the steps follow from the counts, no call is bounded, and no step is owed
 pub record IsUnbounded (pace : Pace) : Type 0 where
@@ -62,7 +66,8 @@ pub record IsUnbounded (pace : Pace) : Type 0 where
   pub words : pace.words ≡ 0
   pub owed : pace.owed ≡ 0
 
--- from s to t at most this many words were allocated, and this many entries logged
-pub record HaveTaken (words entries : ℕ) (s t : State) : Type 0 where
-  pub allocated : s.heap.free ≤ t.heap.free + words
-  pub logged : entries_left t ≤ entries_left s + entries
+-- from one heap to the other at most this many words were allocated, this many entries logged, and the looks that are left rose by at most this many
+pub record HaveTaken (words entries looks : ℕ) (old new : Collected) : Type 0 where
+  pub allocated : old.core.heap.free ≤ new.core.heap.free + words
+  pub logged : entries_left new.core ≤ entries_left old.core + entries
+  pub stored : new.roots_left ≤ old.roots_left + looks

@@ -1,7 +1,8 @@
 //! The counts of a heap, from which a policy decides when to collect and how fast.
 
-ghost use Rattle.std.specs.Prelude.{◌≡◌};
+ghost use Rattle.std.specs.Prelude.{◌≡◌, ◌<◌, ◌^◌};
 ghost use Rattle.gc_pace.specs.Counts.{logged_in};
+ghost use Rattle.gc_pace.specs.Pace.{units_of};
 
 use gc_collected::CollectedHeap;
 
@@ -48,6 +49,14 @@ fn logged_in(heap: &CollectedHeap) -> u32
     total.min(u128::from(u32::MAX)) as u32
 }
 
+/// Returns the units of work that so many looks make up, rounded up.
+pub(crate) fn units_of(looks: u32) -> u64
+    ensures value { result ≡ units_of looks }
+    ensures bound { result < 2 ^ 28 }
+{
+    (u64::from(looks) + 31) / 32
+}
+
 impl Counts {
     ghost use Rattle.std.specs.Prelude.{◌≡◌, ◌<◌, ◌^◌};
     ghost use Rattle.gc_pace.specs.Counts.{counts_in};
@@ -81,12 +90,12 @@ impl Counts {
         counts
     }
 
-    /// Returns an upper bound on the useful steps that are left until the flip, if no mutator acts.
+    /// Returns an upper bound on the units of work that are left until the flip, if no mutator acts.
     pub(crate) fn steps_left(&self) -> u64
         ensures value { result ≡ paces.steps_left self.now }
         ensures bound { result < 2 ^ 34 }
     {
         let unscanned = self.end.saturating_sub(self.scan_place);
-        u64::from(unscanned) + u64::from(self.logged) + 1
+        u64::from(unscanned) + u64::from(self.logged) + units_of(self.roots_left) + 1
     }
 }

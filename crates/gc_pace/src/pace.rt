@@ -3,7 +3,7 @@
 ghost use Rattle.std.specs.Prelude.{◌≡◌};
 ghost use Rattle.gc_pace.specs.Pace as paces;
 
-use crate::counts::Counts;
+use crate::counts::{Counts, units_of};
 use crate::work::Work;
 
 /// The lowest factor of a pace, in hundredths.
@@ -18,12 +18,12 @@ const HIGHEST_FACTOR: u32 = 10_000;
 pub struct Pace {
     /// A collection begins where this many hundredths of the words that the last flip left are in use: 100 to 10,000.
     pub factor: u32,
-    /// The steps for each word allocated and each entry logged, or 0 if they follow from the counts.
+    /// The steps for each word allocated, each entry logged and each 32 looks more that stores to roots ask for, or 0 if they follow from the counts.
     pub rate: u32,
     /// The words in use below which no collection begins, unless little room is left.
     pub least: u32,
-    /// A call ends once it performed this many steps, or took this many looks at extra roots, or its replicas took this many words; or 0 if it
-    /// performs all steps that are due.
+    /// A call ends once it performed this many units of work, or took this many looks at extra roots, or its replicas took this many words; or 0
+    /// if it performs all steps that are due.
     pub words: u32,
     /// The heap's end after the last flip.
     pub left: u32,
@@ -33,6 +33,8 @@ pub struct Pace {
     pub logged: u32,
     /// The number of steps that were due at the last call and that its bound left undone.
     pub owed: u32,
+    /// The looks at extra roots that were left after the last call.
+    pub roots: u32,
 }
 
 impl Pace {
@@ -65,6 +67,7 @@ impl Pace {
         self.end = counts.end;
         self.logged = counts.logged;
         self.owed = 0;
+        self.roots = counts.roots_left;
     }
 
     /// Remembers the counts after this work, for which so many steps were due.
@@ -77,16 +80,18 @@ impl Pace {
         }
         self.end = counts.end;
         self.logged = counts.logged;
+        self.roots = counts.roots_left;
     }
 
-    /// Returns the number of words allocated and entries logged since the call before.
+    /// Returns the number of words allocated, entries logged and units of looks that rose since the call before.
     fn spent(&self, counts: &Counts) -> u64
         ensures value { result ≡ paces.spent self.now counts.now }
         ensures bound { result < 2 ^ 34 }
     {
         let allocated = counts.end.saturating_sub(self.end);
         let logged = counts.logged.saturating_sub(self.logged);
-        u64::from(allocated) + u64::from(logged)
+        let stored = units_of(counts.roots_left).saturating_sub(units_of(self.roots));
+        u64::from(allocated) + u64::from(logged) + stored
     }
 
     /// Returns the number of words in use at which a collection begins.
@@ -98,7 +103,7 @@ impl Pace {
         grown.max(u64::from(self.least)).min(halfway)
     }
 
-    /// Returns the number of steps for each word and each entry, where this much room is left.
+    /// Returns the number of steps for each word, entry and unit spent, where this much room is left.
     fn rate(&self, counts: &Counts, room: u32) -> u64
         requires { 1 ≤ room }
         ensures value { result ≡ paces.rate_of self.now counts.now room }
@@ -142,16 +147,15 @@ impl Pace {
         }
     }
 
-    /// Returns whether the pace bounds the words of a call, for which so many steps were due, and this call performed as many steps, or took as many
-    /// looks, or its replicas took as many words, or looks took the place of steps.
-    fn took_its_words(&self, due: u32, work: &Work) -> bool
-        ensures { result ≡ paces.took_its_words self.now due work.now }
+    /// Returns whether the pace bounds the words of a call, and this one performed as many units, or took as many looks, or its replicas took as many
+    /// words.
+    fn took_its_words(&self, work: &Work) -> bool
+        ensures { result ≡ paces.took_its_words self.now work.now }
     {
         self.words > 0
-            && (work.steps >= self.words
+            && (work.units() >= u64::from(self.words)
                 || work.looks >= self.words
-                || work.copied >= self.words
-                || looked_instead(due, due.min(self.words), work))
+                || work.copied >= self.words)
     }
 
     /// Returns the steps that are owed after this work, for which so many were due.
@@ -161,17 +165,10 @@ impl Pace {
         if work.is_over() {
             return 0;
         }
-        if self.took_its_words(due, work) {
-            due.saturating_sub(work.steps)
+        if self.took_its_words(work) {
+            u64::from(due).saturating_sub(work.units()) as u32
         } else {
             0
         }
     }
-}
-
-/// Returns whether looks took the place of steps, so many of which were due, in a call that performs no more units than this.
-fn looked_instead(due: u32, most: u32, work: &Work) -> bool
-    ensures { result ≡ paces.looked_instead due most work.now }
-{
-    work.steps < due && work.units() >= u64::from(most)
 }

@@ -1,9 +1,10 @@
 -- How many marks lie below a place: what one mark more or less makes of that number, and how many looks are left afterwards.
 use Rattle.std.proofs.lemmas.Grind.{common_steps}
-use Rattle.std.proofs.Common.{◌≡◌, ◌≢◌, ⊎_elim, ℕ, zero, suc, ◌+◌, ◌<◌, ◌≤◌, true, false, List, refl, sym, ap, subst, arith}
-use Rattle.std.proofs.lemmas.Bool.{cases_eq, cases_lt, lt-ltb}
+use Rattle.std.specs.Prelude.{max}
+use Rattle.std.proofs.Common.{◌≡◌, ◌≢◌, ⊎_elim, ℕ, zero, suc, ◌+◌, ◌<◌, ◌≤◌, true, false, List, refl, sym, ap, ◌∙◌, subst, arith}
+use Rattle.std.proofs.lemmas.Bool.{cases_Bool, cases_eq, cases_lt, lt-ltb}
 use Rattle.gc_words.specs.Marks.{is_marked}
-use Rattle.gc_roots.specs.Twins.{RootRow, IsLooked, IsNextRoot, LooksOnce, is_due_root, marks_below}
+use Rattle.gc_roots.specs.Twins.{RootRow, AskForLooks, AsksForLook, IsLooked, IsNextRoot, IsWritten, LooksOnce, begun, is_due_root, looks_left, marks_below}
 
 -- no more marks than places
 pub marks_bounded : (marks : List ℕ) (n : ℕ) → marks_below marks n ≤ n
@@ -69,3 +70,37 @@ looks_once row mid now slots k word next l used is low high = subst (LooksOnce r
         let marks : marks_below mid.marks mid.front ≡ marks_below mid.marks (suc k) = ap (marks_below mid.marks) front in
         let old : marks_below row.marks row.front ≡ marks_below row.marks k = ap (marks_below row.marks) (sym here) in
         record { less = omega (arith, passes, marks, old, front, here, used, l.stale, low, high, next.within); few = omega (arith, passes, marks, old, front, here, used, l.stale, low, high, next.within) }
+
+-- ---- a write
+
+-- a root that is marked changes the number of marks by one at most
+marked_once : (was now : List ℕ) (k n : ℕ) → ((i : ℕ) → i ≢ k → is_marked now i ≡ is_marked was i) → is_marked now k ≡ true → k < n → (marks_below was n ≤ marks_below now n) × (marks_below now n ≤ marks_below was n + 1)
+marked_once was now k n others marked less = ⊎_elim
+    (λ before. (let same = same_marks was now n (λ i low. ⊎_elim (λ e. subst (λ q. is_marked now q ≡ is_marked was q) e (marked ∙ sym before)) (λ differ. others i (λ e. differ (sym e))) (cases_eq k i)) in (omega (arith, same), omega (arith, same))))
+    (λ before. (let more = one_mark_more was now k n others before marked less in (omega (arith, more), omega (arith, more))))
+    (cases_Bool (is_marked was k))
+
+-- the marks after a write
+written_marks : (row now : RootRow) (k : ℕ) → IsWritten row now k
+    → (marks_below row.marks row.front ≤ marks_below now.marks now.front) × (marks_below now.marks now.front ≤ marks_below row.marks row.front + 1) × (row.front ≤ k → marks_below now.marks now.front ≤ row.front)
+written_marks row now k w = ⊎_elim
+    (λ (less : k < row.front). (let once = marked_once row.marks now.marks k row.front w.others (w.marked less) less in (omega (arith, front, once), omega (arith, front, once), λ past. absurd (omega (arith, past, less)))))
+    (λ (past : row.front ≤ k). (let same = same_marks row.marks now.marks row.front (λ i low. w.others i (λ e. omega (arith, e, low, past))) in
+    (omega (arith, front, same), omega (arith, front, same), λ _. omega (arith, front, same, marks_bounded row.marks row.front))))
+    (cases_lt k row.front)
+  where
+    front : marks_below now.marks now.front ≡ marks_below now.marks row.front
+    front = ap (marks_below now.marks) w.front
+
+-- a value that a root takes asks for one look at most, unless no root from this one on was in use
+pub taken_asks : (row now : RootRow) (k : ℕ) → IsWritten row now k → now.used ≡ max row.used (k + 1)
+    → AsksForLook k (looks_left row) (looks_left now) × AsksForLook k (looks_left (begun row)) (looks_left (begun now))
+taken_asks row now k w used =
+    let marks = written_marks row now k w in
+    ((omega (arith, marks, w.front, w.stale, used), omega (arith, marks.1.1, w.front, w.stale, used, marks.0, marks.1.0, cases_lt k row.front)), (omega (arith, w.front, w.stale, used), omega (arith, w.front, w.stale, used)))
+
+-- a root that becomes nil asks for one look at most
+pub nil_asks : (row now : RootRow) (k : ℕ) → IsWritten row now k → now.used ≡ row.used → AskForLooks 1 (looks_left row) (looks_left now) × AskForLooks 1 (looks_left (begun row)) (looks_left (begun now))
+nil_asks row now k w used =
+    let marks = written_marks row now k w in
+    ((omega (arith, marks, w.front, w.stale, used), omega (arith, marks, w.front, w.stale, used)), (omega (arith, w.front, w.stale, used), omega (arith, w.front, w.stale, used)))

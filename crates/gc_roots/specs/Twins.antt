@@ -89,6 +89,14 @@ pub record LooksOnce (was now : RootRow) : Type 0 where
   pub less : looks_left now < looks_left was
   pub few : looks_left was ≤ looks_left now + 2
 
+-- from `was` to `now` looks that are left none was taken away, and at most so many were added
+abbrev pub AskForLooks : ℕ → ℕ → ℕ → Type 0
+AskForLooks most was now = (was ≤ now) × (now ≤ was + most)
+
+-- the same for a value that extra root k takes: it adds one at most, unless no root from k on was in use
+abbrev pub AsksForLook : ℕ → ℕ → ℕ → Type 0
+AsksForLook k was now = (was ≤ now) × (now ≤ max (was + 1) (k + 1))
+
 -- the words of the slots are their twins
 abbrev pub SlotsAreTwins : RootRow → State → Collection → Type 0
 SlotsAreTwins row s c = (p : ℕ) → p < roots_of s.mutators → IsTwin c (root s.heap.graph p) (slice_index row.twins p)

@@ -1,6 +1,6 @@
 //! Laws: what commands and steps leave of the rows, whoever wrote them.
 
-ghost use Rattle.std.specs.Prelude.{◌≡◌, ◌≢◌, ◌<◌, ◌≤◌, ◌+◌, ◌++◌, ℕ, List, Some, None, true, length, map};
+ghost use Rattle.std.specs.Prelude.{◌≡◌, ◌≢◌, ◌<◌, ◌≤◌, ◌+◌, ◌++◌, ℕ, List, Some, None, true, length, map, max};
 ghost use Rattle.gc_graph.specs.Slots.{roots_of};
 ghost use Rattle.gc_graph.specs.Graph.{Nil, root};
 ghost use Rattle.gc_graph.specs.declared.command.Op.{Op};
@@ -14,7 +14,7 @@ ghost use Rattle.gc_plan.specs.State.{Collection, State, new_graph, pairs_of};
 ghost use Rattle.gc_plan.specs.Staying.{root_written};
 ghost use Rattle.gc_plan.specs.Steps.{mutate, collect, with_collection, root_target};
 ghost use Rattle.gc_plan.specs.declared.step.Step.{Step};
-ghost use Rattle.gc_roots.specs.Twins.{RootRow, KeepsTwins, IsWritten, IsDone, SlotsAreTwins, begun};
+ghost use Rattle.gc_roots.specs.Twins.{RootRow, AskForLooks, AsksForLook, KeepsTwins, IsWritten, IsDone, SlotsAreTwins, begun, looks_left};
 ghost use Rattle.gc_roots.specs.Looks.{LookRow, ComparesKnown, HasLooked};
 
 /// A command that writes no extra root leaves the row of twins as it is. After one that writes an extra root, the row in which this root is
@@ -25,6 +25,15 @@ pub fn commands_keep_twins()
     ensures roots { (row now : RootRow) (s : State) (m k : ℕ) (op : Op) → root_written m op ≡ Some (roots_of s.mutators + k) → IsWritten row now k → row.used ≤ now.used
         → roots_of s.mutators + now.used ≤ length row.twins → (now.used ≤ k → root (mutate s m op).1.heap.graph (roots_of s.mutators + k) ≡ Nil)
         → KeepsTwins row s → KeepsTwins now (mutate s m op).1 }
+{}
+
+/// A write of an extra root takes no look away, and asks for one at most, unless no root from it on was in use. That is so for an open collection, and for
+/// one that begins afterwards.
+pub fn writes_ask_for_looks()
+    ensures takes { (row now : RootRow) (k : ℕ) → IsWritten row now k → now.used ≡ max row.used (k + 1)
+        → AsksForLook k (looks_left row) (looks_left now) × AsksForLook k (looks_left (begun row)) (looks_left (begun now)) }
+    ensures becomes_nil { (row now : RootRow) (k : ℕ) → IsWritten row now k → now.used ≡ row.used
+        → AskForLooks 1 (looks_left row) (looks_left now) × AskForLooks 1 (looks_left (begun row)) (looks_left (begun now)) }
 {}
 
 /// A step of the collector that does not flip leaves the row as it is: it moves no replica and takes none away. Where a collection begins or ends

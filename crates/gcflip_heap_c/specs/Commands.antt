@@ -3,8 +3,10 @@ use Rattle.std.specs.Prelude.{◌≡◌, ◌⊎◌, ℕ, ◌↔◌, Option, None
 use Rattle.gc_graph.specs.declared.reply.Reply.{Reply}
 use Rattle.gc_check.specs.InC.{no_memory, IsRefusal}
 use Rattle.gc_plan.specs.State.{State}
+use Rattle.gc_collected.specs.Collected.{Collected}
 use Rattle.gcflip_heap_c.specs.Answers.{out_of_range, closed_handle}
 use Rattle.gcflip_heap_c.specs.Replies.{reply_in_c}
+use Rattle.gcflip_heap_c.specs.declared.handle.GcflipHeap.{GcflipHeap}
 
 -- What a call returns, and the state after it. `takes` holds of the states in which its arguments are in range. `did` relates the states
 -- before and after a call that is not refused. `other` is the number of a refusal for a reason of its own.
@@ -27,3 +29,7 @@ Replies {R} step shown old new = (reply : R) × (step old ≡ (reply, new)) × s
 -- a call that performs a step, and returns the number of its reply
 abbrev pub IsCommandCall : (State → Type 0) → (State → Reply × State) → Option State → Option State → ℕ → Type 0
 IsCommandCall takes step old new answer = IsCall takes (Replies step (λ reply. answer ≡ reply_in_c reply)) old new answer
+
+-- the heap of a handle that has this state
+abbrev pub heap_in : GcflipHeap → State → Collected
+heap_in handle s = record { core = s; beside = handle.beside; roots_left = handle.roots_left }

@@ -4,8 +4,9 @@ ghost use Rattle.std.specs.Prelude.{◌≡◌, ◌⊎◌, ◌≤◌, ◌↔◌, 
 ghost use Rattle.gc_check.specs.InC.{done, no_memory};
 ghost use Rattle.gc_plan.specs.Steps.{useful_step};
 ghost use Rattle.gc_collected.specs.CollectedHeap.{Allocates};
-ghost use Rattle.gc_pace.specs.Counts.{counts_of};
+ghost use Rattle.gc_pace.specs.Counts.{counts_in};
 ghost use Rattle.gc_pace.specs.Pace.{IsPace, IsPacedWork, Pays, pace_from, steps_due};
+ghost use Rattle.gcflip_heap_c.specs.Commands.{heap_in};
 ghost use Rattle.gcflip_heap_c.specs.Answers.{out_of_range, closed_handle};
 ghost use Rattle.gcflip_heap_c.specs.Work.{IsWorkCall, RefusedRooms};
 
@@ -29,7 +30,7 @@ pub extern "C" fn gcflip_pace_due(pace: &Pace, counts: &Counts, wanted: u32) -> 
 #[unsafe(no_mangle)]
 pub extern "C" fn gcflip_heap_pace(heap: &mut GcflipHeap, pace: &mut Pace) -> u32
     ensures answers { (result ≡ done) ⊎ ((result ≡ out_of_range) ⊎ (result ≡ closed_handle)) }
-    ensures pace { result ≡ done → IsSomeAnd heap.old.state (λ s. pace.new ≡ pace_from pace.old (counts_of s)) }
+    ensures pace { result ≡ done → IsSomeAnd heap.old.state (λ s. pace.new ≡ pace_from pace.old (counts_in (heap_in heap.old s))) }
     ensures heap { heap.new.state ≡ heap.old.state }
     ensures silent { 1 ≤ result → pace.new ≡ pace.old }
     ensures outside { (result ≡ out_of_range) ↔ IsSomeAnd heap.old.state (λ s. ¬ IsPace pace.old) }
@@ -45,8 +46,8 @@ pub extern "C" fn gcflip_heap_pace(heap: &mut GcflipHeap, pace: &mut Pace) -> u3
 }
 
 /// Performs the useful steps that are due before the program allocates `wanted` words, and writes a report of them to `work`. Stops early
-/// for the reasons of `gcflip_heap_work` and, if the pace bounds the words, once it performed as many steps, or its replicas took as many
-/// words. The pace keeps the steps that are left then.
+/// for the reasons of `gcflip_heap_work` and, if the pace bounds the words, once it performed as many units, or took as many looks, or its replicas took
+/// as many words. The pace keeps the steps that are left then.
 #[unsafe(no_mangle)]
 pub extern "C" fn gcflip_heap_work_paced(
     heap: &mut GcflipHeap,
@@ -54,7 +55,7 @@ pub extern "C" fn gcflip_heap_work_paced(
     wanted: u32,
     work: &mut GcflipWork,
 ) -> u32
-    ensures call { IsWorkCall (IsPace pace.old) None (λ s t. IsPacedWork wanted s t pace.old pace.new) heap.old heap.new work.new result }
+    ensures call { IsWorkCall (IsPace pace.old) None (λ old new. IsPacedWork wanted old new pace.old pace.new) heap.old heap.new work.new result }
     ensures silent { 1 ≤ result → (pace.new ≡ pace.old) × (work.new ≡ work.old) }
     ensures memory { result ≡ no_memory → IsSomeAnd heap.old.state (λ s. Allocates s (useful_step s)) }
     // A refused call changes nothing but the memory that waits.

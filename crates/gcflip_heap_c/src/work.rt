@@ -72,7 +72,7 @@ fn is_fit(size: Option<u32>, most: u32) -> bool
 
 // Performs at most `most` units of work, unless an argument is out of range.
 fn work_sized(heap: &mut GcflipHeap, size: Option<u32>, most: u32, work: &mut GcflipWork) -> u32
-    ensures call { IsWorkCall ((1 ≤ most) × IfSome size (λ words. 1 ≤ words)) size (IsWork Looks.Count size None most) heap.old heap.new work.new result }
+    ensures call { IsWorkCall ((1 ≤ most) × IfSome size (λ words. 1 ≤ words)) size (λ old new. IsWork Looks.Count size None most old.core new.core) heap.old heap.new work.new result }
     ensures silent { 1 ≤ result → work.new ≡ work.old }
     ensures memory { result ≡ no_memory → IsSomeAnd heap.old.state (λ s. Allocates s (sized_step size s)) }
     // A refused call changes nothing but the memory that waits.
@@ -91,7 +91,7 @@ fn work_sized(heap: &mut GcflipHeap, size: Option<u32>, most: u32, work: &mut Gc
 /// was the first step.
 #[unsafe(no_mangle)]
 pub extern "C" fn gcflip_heap_work(heap: &mut GcflipHeap, most: u32, work: &mut GcflipWork) -> u32
-    ensures call { IsWorkCall (1 ≤ most) None (IsWork Looks.Count None None most) heap.old heap.new work.new result }
+    ensures call { IsWorkCall (1 ≤ most) None (λ old new. IsWork Looks.Count None None most old.core new.core) heap.old heap.new work.new result }
     ensures silent { 1 ≤ result → work.new ≡ work.old }
     ensures memory { result ≡ no_memory → IsSomeAnd heap.old.state (λ s. Allocates s (useful_step s)) }
     // A refused call changes nothing but the memory that waits.
@@ -109,7 +109,7 @@ pub extern "C" fn gcflip_heap_work_sized(
     size: u32,
     work: &mut GcflipWork,
 ) -> u32
-    ensures call { IsWorkCall ((1 ≤ most) × (1 ≤ size)) (Some size) (IsWork Looks.Count (Some size) None most) heap.old heap.new work.new result }
+    ensures call { IsWorkCall ((1 ≤ most) × (1 ≤ size)) (Some size) (λ old new. IsWork Looks.Count (Some size) None most old.core new.core) heap.old heap.new work.new result }
     ensures silent { 1 ≤ result → work.new ≡ work.old }
     ensures memory { result ≡ no_memory → IsSomeAnd heap.old.state (λ s. Allocates s (sized_step (Some size) s)) }
     // A refused call changes nothing but the memory that waits.
@@ -127,7 +127,7 @@ pub extern "C" fn gcflip_heap_work_within(
     words: u32,
     work: &mut GcflipWork,
 ) -> u32
-    ensures call { IsWorkCall (1 ≤ most) None (IsWork Looks.Count None (Some words) most) heap.old heap.new work.new result }
+    ensures call { IsWorkCall (1 ≤ most) None (λ old new. IsWork Looks.Count None (Some words) most old.core new.core) heap.old heap.new work.new result }
     ensures silent { 1 ≤ result → work.new ≡ work.old }
     ensures memory { result ≡ no_memory → IsSomeAnd heap.old.state (λ s. Allocates s (useful_step s)) }
     // A refused call changes nothing but the memory that waits.

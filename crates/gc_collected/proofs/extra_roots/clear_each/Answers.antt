@@ -11,7 +11,7 @@ use Rattle.gc_copy.specs.Words.{collection_in, state_of}
 use Rattle.gc_plan.proofs.Public.{roots_counted}
 use Rattle.gc_collected.specs.ExtraRoots.{clear_step}
 use Rattle.gc_collected.specs.Internal.KnownRoots.{KnowsRoots}
-use Rattle.gc_collected.proofs.Marks.{clear_next, clears_knows}
+use Rattle.gc_collected.proofs.Marks.{clear_next, clears_knows, nilled_asks}
 use Rattle.gc_collected.proofs.OtherCommands.{still_fits, still_belongs, performed}
 use Rattle.gc_collected.proofs.extra_roots.clear_each.Goals as goal
 
@@ -37,4 +37,6 @@ loop-k-preserved c =
       mutators = mutators ∙ c.loop-k.invariant.mutators;
       knows = λ h. subst (KnowsRoots c.nilled.new.self) (ap (λ (x : Reply × State). x.1) step) (clears_knows c.loop-k.known c.nilled.new.self before c.loop-k.k c.nilled.ensures.written c.nilled.ensures.used (c.loop-k.invariant.knows h));
       compares = λ h. c.nilled.ensures.written.compares (c.loop-k.invariant.compares h);
+      looks = λ o. (let so_far = c.loop-k.invariant.looks o in let one = nilled_asks o c.loop-k.known c.nilled.new.self c.loop-k.k c.nilled.ensures.written c.nilled.ensures.used in
+      (omega (arith, so_far.0, one.0), omega (arith, so_far.1, one.1, c.loop-k-test.true)));
     }

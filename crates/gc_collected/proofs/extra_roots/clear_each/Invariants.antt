@@ -1,11 +1,12 @@
 -- The extra roots so far are nil, clearing the rest makes the whole call, and an open collection still belongs to the heap.
-use Rattle.std.proofs.Common.{◌≡◌, ◌-◌, ℕ}
+use Rattle.std.proofs.Common.{◌≡◌, ◌-◌, ℕ, Option}
 use Rattle.std.specs.Option.{option_map}
 use Rattle.gc_heap.specs.Heap.{extra_roots_in}
-use Rattle.gc_copy.specs.Words.{collection_in, state_of}
+use Rattle.gc_copy.specs.Words.{CollectionWords, collection_in, state_of}
+use Rattle.gc_roots.specs.Twins.{AskForLooks}
 use Rattle.gc_collected.specs.ExtraRoots.{clear_step}
 use Rattle.gc_collected.specs.Internal.CollectedHeap.{BelongsIfOpen, Fits}
-use Rattle.gc_collected.specs.Internal.KnownRoots.{ComparesTwins, KnowsRoots}
+use Rattle.gc_collected.specs.Internal.KnownRoots.{ComparesTwins, KnowsRoots, roots_left_in}
 use Rattle.gc_collected.proofs.extra_roots.clear_each.Given as goal
 
 -- the roots so far are nil, and making the rest nil makes all nil
@@ -19,4 +20,5 @@ invariant-loop-k l = record {
   mutators : l.heap.mutators ≡ l.fn.heap.mutators;
   knows : KnowsRoots l.fn.known (state_of l.fn.heap (option_map collection_in l.collection)) → KnowsRoots l.known (state_of l.heap (option_map collection_in l.collection));
   compares : ComparesTwins l.fn.known → ComparesTwins l.known;
+  looks : (o : Option CollectionWords) → AskForLooks (l.k - l.from) (roots_left_in o l.fn.known.twins) (roots_left_in o l.known.twins);
 }

@@ -3,4 +3,4 @@ use Rattle.gc_pace.proofs.Turns.{turns_work, turns_logs, turns_owe}
 use Rattle.gc_pace.proofs.laws.paced_work_bounds_logs.Goals as goal
 
 pub returns : goal.returns
-returns c = record { work = turns_work; logs = turns_logs; owes = turns_owe }
+returns c = record { work = turns_work; logs = turns_logs; owes = λ heap pace turns k free none. (turns_owe heap pace turns k free none).1 }
