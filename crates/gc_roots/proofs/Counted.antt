@@ -97,10 +97,14 @@ pub taken_asks : (row now : RootRow) (k : ℕ) → IsWritten row now k → now.u
     → AsksForLook k (looks_left row) (looks_left now) × AsksForLook k (looks_left (begun row)) (looks_left (begun now))
 taken_asks row now k w used =
     let marks = written_marks row now k w in
-    ((omega (arith, marks, w.front, w.stale, used), omega (arith, marks.1.1, w.front, w.stale, used, marks.0, marks.1.0, cases_lt k row.front)), (omega (arith, w.front, w.stale, used), omega (arith, w.front, w.stale, used)))
+    let few : looks_left now ≤ max (looks_left row + 1) (k + 1) = ⊎_elim
+        (λ (less : k < row.front). omega (arith, marks.1, w.front, w.stale, used, less))
+        (λ (past : row.front ≤ k). omega (arith, marks.0, marks.2 past, w.front, w.stale, used, past))
+        (cases_lt k row.front) in
+    ((omega (arith, marks.0, w.front, w.stale, used), few), (omega (arith, w.front, w.stale, used), omega (arith, w.front, w.stale, used)))
 
 -- a root that becomes nil asks for one look at most
 pub nil_asks : (row now : RootRow) (k : ℕ) → IsWritten row now k → now.used ≡ row.used → AskForLooks 1 (looks_left row) (looks_left now) × AskForLooks 1 (looks_left (begun row)) (looks_left (begun now))
 nil_asks row now k w used =
     let marks = written_marks row now k w in
-    ((omega (arith, marks, w.front, w.stale, used), omega (arith, marks, w.front, w.stale, used)), (omega (arith, w.front, w.stale, used), omega (arith, w.front, w.stale, used)))
+    ((omega (arith, marks.0, w.front, w.stale, used), omega (arith, marks.1, w.front, w.stale, used)), (omega (arith, w.front, w.stale, used), omega (arith, w.front, w.stale, used)))

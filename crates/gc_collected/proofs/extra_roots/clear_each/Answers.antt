@@ -37,6 +37,10 @@ loop-k-preserved c =
       mutators = mutators ∙ c.loop-k.invariant.mutators;
       knows = λ h. subst (KnowsRoots c.nilled.new.self) (ap (λ (x : Reply × State). x.1) step) (clears_knows c.loop-k.known c.nilled.new.self before c.loop-k.k c.nilled.ensures.written c.nilled.ensures.used (c.loop-k.invariant.knows h));
       compares = λ h. c.nilled.ensures.written.compares (c.loop-k.invariant.compares h);
+      within = omega (arith, c.loop-k-test.true);
       looks = λ o. (let so_far = c.loop-k.invariant.looks o in let one = nilled_asks o c.loop-k.known c.nilled.new.self c.loop-k.k c.nilled.ensures.written c.nilled.ensures.used in
       (omega (arith, so_far.0, one.0), omega (arith, so_far.1, one.1, c.loop-k-test.true)));
     }
+
+pub returns-clause-looks : goal.returns-clause-looks
+returns-clause-looks c o = let h = c.loop-k.invariant.looks o in (h.0, omega (arith, h.1, c.loop-k.invariant.within))

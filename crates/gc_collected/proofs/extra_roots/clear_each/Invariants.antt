@@ -1,5 +1,5 @@
 -- The extra roots so far are nil, clearing the rest makes the whole call, and an open collection still belongs to the heap.
-use Rattle.std.proofs.Common.{◌≡◌, ◌-◌, ℕ, Option}
+use Rattle.std.proofs.Common.{◌≡◌, ◌≤◌, ◌-◌, ℕ, Option}
 use Rattle.std.specs.Option.{option_map}
 use Rattle.gc_heap.specs.Heap.{extra_roots_in}
 use Rattle.gc_copy.specs.Words.{CollectionWords, collection_in, state_of}
@@ -20,5 +20,6 @@ invariant-loop-k l = record {
   mutators : l.heap.mutators ≡ l.fn.heap.mutators;
   knows : KnowsRoots l.fn.known (state_of l.fn.heap (option_map collection_in l.collection)) → KnowsRoots l.known (state_of l.heap (option_map collection_in l.collection));
   compares : ComparesTwins l.fn.known → ComparesTwins l.known;
+  within : l.k - l.from ≤ l.to - l.from;
   looks : (o : Option CollectionWords) → AskForLooks (l.k - l.from) (roots_left_in o l.fn.known.twins) (roots_left_in o l.known.twins);
 }

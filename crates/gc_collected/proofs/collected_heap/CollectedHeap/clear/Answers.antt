@@ -5,7 +5,9 @@ use Rattle.std.specs.Option.{option_map}
 use Rattle.gc_plan.specs.State.{State}
 use Rattle.gc_plan.specs.Belonging.{IsOpened}
 use Rattle.gc_copy.specs.Words.{collection_in, state_of}
-use Rattle.gc_collected.proofs.Core.{core_is}
+use Rattle.gc_roots.specs.Twins.{AskForLooks}
+use Rattle.gc_collected.specs.Internal.KnownRoots.{roots_left_in}
+use Rattle.gc_collected.proofs.Core.{core_is, left_is}
 use Rattle.gc_collected.proofs.OtherCommands.{it_belongs}
 use Rattle.gc_collected.proofs.Rooted.{follows_cleared}
 use Rattle.gc_collected.proofs.collected_heap.CollectedHeap.clear.Goals as goal
@@ -22,3 +24,6 @@ invariant_of-self c =
 
 pub clear_each-requires-clause-belongs : goal.clear_each-requires-clause-belongs
 clear_each-requires-clause-belongs c = it_belongs c.self.inside.epoch c.self.inside.heap c.self.inside.collection c.self.invariant.0.0
+
+pub returns-clause-looks : goal.returns-clause-looks
+returns-clause-looks c = subst (λ n. AskForLooks (c.args.to - c.args.from) n (roots_left_in c.self.inside.collection c.clear_each.new.known.twins)) (left_is c.self.view_is) (c.clear_each.ensures.looks c.self.inside.collection)

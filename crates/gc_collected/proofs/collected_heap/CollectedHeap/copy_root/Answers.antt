@@ -6,9 +6,11 @@ use Rattle.gc_graph.specs.declared.command.Op.TheVariants.{Move}
 use Rattle.gc_heap.specs.Places.{root_at}
 use Rattle.gc_plan.specs.State.{State}
 use Rattle.gc_copy.specs.Words.{collection_in, state_of}
-use Rattle.gc_collected.specs.Internal.KnownRoots.{HasStored}
+use Rattle.gc_collected.specs.Internal.KnownRoots.{HasStored, roots_left_in}
+use Rattle.gc_roots.specs.Twins.{AsksForLook}
 use Rattle.gc_collected.proofs.ByPlace.{root_known, root_followed}
-use Rattle.gc_collected.proofs.Core.{core_is}
+use Rattle.gc_collected.proofs.Core.{core_is, left_is}
+use Rattle.gc_collected.proofs.Marks.{stored_asks}
 use Rattle.gc_collected.proofs.OtherCommands.{said}
 use Rattle.gc_collected.proofs.collected_heap.CollectedHeap.copy_root.Goals as goal
 
@@ -26,3 +28,7 @@ returns-clause-mutators c = ((c.copy_root.ensures.performs 0)).mutators ∙ ap (
 
 pub returns-clause-step : goal.returns-clause-step
 returns-clause-step c = said c.args.self.now.core c.self.inside.epoch c.self.inside.heap c.copy_root.new.self c.self.inside.collection 0 (Move (root_at c.args.d) (root_at c.args.s)) c.copy_root.result (core_is c.self.view_is) c.self.invariant.0.0 c.space.ensures.sound (λ none. none) (c.copy_root.ensures.performs 0)
+
+pub returns-clause-looks : goal.returns-clause-looks
+returns-clause-looks c = subst (λ n. AsksForLook c.args.d n (roots_left_in c.self.inside.collection c.took.new.self.twins)) (left_is c.self.view_is)
+    (stored_asks c.self.inside.collection c.self.inside.known c.took.new.self c.root_count.result c.args.d c.took.ensures)

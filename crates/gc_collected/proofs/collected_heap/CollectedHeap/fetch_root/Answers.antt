@@ -6,9 +6,11 @@ use Rattle.gc_graph.specs.declared.command.Op.TheVariants.{Get}
 use Rattle.gc_heap.specs.Places.{root_at}
 use Rattle.gc_plan.specs.State.{State}
 use Rattle.gc_copy.specs.Words.{collection_in, state_of}
-use Rattle.gc_collected.specs.Internal.KnownRoots.{HasStored}
+use Rattle.gc_collected.specs.Internal.KnownRoots.{HasStored, roots_left_in}
+use Rattle.gc_roots.specs.Twins.{AsksForLook}
 use Rattle.gc_collected.proofs.ByPlace.{get_numbered, root_known, root_followed}
-use Rattle.gc_collected.proofs.Core.{core_is}
+use Rattle.gc_collected.proofs.Core.{core_is, left_is}
+use Rattle.gc_collected.proofs.Marks.{stored_asks}
 use Rattle.gc_collected.proofs.OtherCommands.{said}
 use Rattle.gc_collected.proofs.collected_heap.CollectedHeap.fetch_root.Goals as goal
 
@@ -31,3 +33,7 @@ returns-clause-fetches c = (
       ∙ said c.args.self.now.core c.self.inside.epoch c.self.inside.heap c.fetch_root.new.self c.self.inside.collection 0 (Get (root_at c.args.d) (root_at c.args.s) c.field_number.result) (c.fetch_root.ensures.fetches 0).0 (core_is c.self.view_is) c.self.invariant.0.0 c.space.ensures.sound (λ none. none) ((c.fetch_root.ensures.fetches 0).1),
   (c.fetch_root.ensures.fetches 0).2,
 )
+
+pub returns-clause-looks : goal.returns-clause-looks
+returns-clause-looks c = subst (λ n. AsksForLook c.args.d n (roots_left_in c.self.inside.collection c.took.new.self.twins)) (left_is c.self.view_is)
+    (stored_asks c.self.inside.collection c.self.inside.known c.took.new.self c.root_count.result c.args.d c.took.ensures)

@@ -6,9 +6,11 @@ use Rattle.gc_graph.specs.declared.reply.Reply.{Reply}
 use Rattle.gc_heap.specs.Places.{root_at}
 use Rattle.gc_plan.specs.State.{State}
 use Rattle.gc_collected.specs.Internal.CollectedHeap.{state_in}
-use Rattle.gc_collected.specs.Internal.KnownRoots.{HasStored}
+use Rattle.gc_collected.specs.Internal.KnownRoots.{HasStored, roots_left_in}
+use Rattle.gc_roots.specs.Twins.{AsksForLook}
 use Rattle.gc_collected.proofs.ByPlace.{Known, root_known}
-use Rattle.gc_collected.proofs.Core.{core_is}
+use Rattle.gc_collected.proofs.Core.{core_is, left_is}
+use Rattle.gc_collected.proofs.Marks.{stored_asks}
 use Rattle.gc_collected.proofs.OtherCommands.{it_belongs}
 use Rattle.gc_collected.proofs.collected_heap.CollectedHeap.new_at_root.Goals as goal
 
@@ -25,3 +27,7 @@ invariant_of-self c =
       (c.new_root_in.ensures.fits c.self.inside.epoch c.self.invariant.0.0, knows.0, knows.1),
       λ on. c.new_root_in.ensures.follows (c.self.invariant.1 on),
     )
+
+pub returns-clause-looks : goal.returns-clause-looks
+returns-clause-looks c = subst (λ n. AsksForLook c.args.d n (roots_left_in c.self.inside.collection c.took.new.self.twins)) (left_is c.self.view_is)
+    (stored_asks c.self.inside.collection c.self.inside.known c.took.new.self c.root_count.result c.args.d c.took.ensures)

@@ -8,11 +8,13 @@ use Rattle.gc_heap.specs.Heap.{graph_in}
 use Rattle.gc_plan.specs.State.{State, extra_roots_of}
 use Rattle.gc_plan.specs.Steps.{mutate}
 use Rattle.gc_copy.specs.Words.{collection_in, state_of}
+use Rattle.gc_roots.specs.Twins.{AsksForLook}
 use Rattle.gc_heap.proofs.Public.{extra_place}
-use Rattle.gc_collected.proofs.Core.{core_is}
+use Rattle.gc_collected.specs.Internal.KnownRoots.{roots_left_in}
+use Rattle.gc_collected.proofs.Core.{core_is, left_is}
 use Rattle.gc_collected.proofs.Followed.{quiet}
 use Rattle.gc_collected.proofs.OtherCommands.{fits_stored, it_belongs, mutated}
-use Rattle.gc_collected.proofs.Marks.{with_looks}
+use Rattle.gc_collected.proofs.Marks.{taken_asks, with_looks}
 use Rattle.gc_collected.proofs.collected_heap.CollectedHeap.store.Goals as goal
 
 pub invariant_of-self : goal.invariant_of-self
@@ -33,3 +35,7 @@ pub returns-clause-step : goal.returns-clause-step
 returns-clause-step c =
     let step = mutated c.self.inside.epoch c.self.inside.heap c.store.new.self c.self.inside.collection c.args.m (Move (extra_slot c.self.inside.heap.mutators c.args.m c.args.k) c.args.s) c.store.result c.space.ensures.sound (λ none. none) c.store.ensures.performs c.self.invariant.0.0 in
     subst (λ (s : State). mutate s c.args.m (Move (extra_slot s.mutators c.args.m c.args.k) c.args.s) ≡ (c.store.result, state_of c.store.new.self (option_map collection_in c.self.inside.collection))) (core_is c.self.view_is) step
+
+pub returns-clause-looks : goal.returns-clause-looks
+returns-clause-looks c = subst (λ n. AsksForLook c.args.k n (roots_left_in c.self.inside.collection c.wrote.new.self.twins)) (left_is c.self.view_is)
+    (taken_asks c.self.inside.collection c.self.inside.known c.wrote.new.self c.args.k c.wrote.ensures.written c.wrote.ensures.used)
