@@ -1,8 +1,8 @@
 -- What paced work leaves in the logs, and that it stays ahead of the mutators, but for the steps that it owes.
 use Rattle.std.proofs.lemmas.Grind.{common_steps}
-use Rattle.std.proofs.Common.{◌≡◌, ◌⊎◌, inl, inr, ⊎_elim, ℕ, ◌+◌, ◌-◌, ◌/◌, ◌<◌, ◌≤◌, true, false, Some, None, sym, ap, ◌∙◌, subst, arith}
+use Rattle.std.proofs.Common.{◌≡◌, ◌⊎◌, inl, inr, ℕ, ◌+◌, ◌-◌, ◌/◌, ◌≤◌, true, false, Some, None, sym, ap, ◌∙◌, subst, arith}
 use Rattle.std.specs.Prelude.{min, IsTrue, IfSome}
-use Rattle.std.proofs.lemmas.Bool.{le-leb, lt-ltb, cases_lt}
+use Rattle.std.proofs.lemmas.Bool.{le-leb, cases_lt}
 use Rattle.gc_plan.specs.State.{State}
 use Rattle.gc_plan.specs.Belonging.{IsSpaceGraph, IsOpened}
 use Rattle.gc_plan.specs.Progress.{entries_left, work_left}
@@ -11,11 +11,11 @@ use Rattle.gc_collected.specs.Collected.{Collected}
 use Rattle.gc_collected.specs.CollectedHeap.{Allocates}
 use Rattle.gc_plan.specs.declared.step.StepReply.{StepReply}
 use Rattle.gc_plan.proofs.Public.{left_bounded}
-use Rattle.gc_pace.specs.Counts.{counts_of, counts_in}
+use Rattle.gc_pace.specs.Counts.{counts_in}
 use Rattle.gc_pace.specs.Beside.{HaveFallen}
 use Rattle.gc_pace.specs.Work.{IsRun, IsEnd, IsSpent, IsWork, after_useful, goes_on, has_flipped, is_over, no_work, sized_step, units}
 use Rattle.gc_pace.specs.declared.work.Looks.TheVariants.{CountUpTo, AreFree}
-use Rattle.gc_pace.specs.Pace.{steps_left, units_of, units_left, spent, steps_due, Pays, took_its_words, owed_after, pace_after, CountsAll, HasEnded, IsPacedWork}
+use Rattle.gc_pace.specs.Pace.{steps_left, units_of, units_left, spent, steps_due, Pays, took_its_words, owed_after, pace_after, CountsAll, HasEnded, WorkGoesOn, IsPacedWork}
 use Rattle.gc_pace.specs.declared.pace.Pace.{Pace}
 use Rattle.gc_pace.specs.declared.counts.Counts.{Counts}
 use Rattle.gc_pace.specs.declared.work.Work.{Work}
@@ -69,7 +69,7 @@ end_or_words before t reply work bounded last (inr (inr copied)) = inr (took bef
 
 -- no more units were looks than all that were left
 few_units : (left looks : ℕ) → looks ≤ left → looks / 32 ≤ units_of left
-few_units left looks few = omega (arith, units_fall left 0 looks few)
+few_units left looks few = omega (arith, units_fall left 0 looks (omega (arith, few)))
 
 -- a call that can do no more took its words, or performed all units that were due
 spent_words : (before : Pace) (due : ℕ) (work : Work) → 1 ≤ before.words → IsSpent (CountUpTo before.words) (min due before.words) work.looks work.steps → (due ≤ units work) ⊎ IsTrue (took_its_words before work)
@@ -137,7 +137,7 @@ module _ (wanted : ℕ) (old new : Collected) (before after : Pace) (work : Work
     (some : 1 ≤ steps_due before (counts_in old) wanted → before.words ≡ 0 → IsWork AreFree None None (steps_due before (counts_in old) wanted) old.core new.core work)
     (within : 1 ≤ steps_due before (counts_in old) wanted → 1 ≤ before.words → IsWork (CountUpTo before.words) None (Some before.words) (min (steps_due before (counts_in old) wanted) before.words) old.core new.core work)
     (paid : Pays before (counts_in old) (steps_due before (counts_in old) wanted)) (pace : after ≡ pace_after before (steps_due before (counts_in old) wanted) work (counts_in new)) where
-  due : ℕ
+  abbrev due : ℕ
   due = steps_due before (counts_in old) wanted
 
   -- useful steps in order, or none

@@ -1,7 +1,7 @@
 -- A call that finds no more room than it wants has few steps left.
 use Rattle.std.proofs.lemmas.Bool.{cases_lt}
 use Rattle.std.proofs.lemmas.Nat.{mul-le}
-use Rattle.std.proofs.Common.{◌≡◌, ◌⊎◌, inl, inr, ℕ, ◌+◌, ◌*◌, ◌<◌, ◌≤◌, List, [], ◌∷◌, ap, sym, ◌∙◌, subst, arith}
+use Rattle.std.proofs.Common.{◌≡◌, ◌⊎◌, inl, inr, ℕ, ◌+◌, ◌*◌, ◌<◌, ◌≤◌, List, ap, sym, ◌∙◌, subst, arith}
 use Rattle.gc_graph.specs.declared.command.Op.{Op}
 use Rattle.gc_plan.specs.State.{State}
 use Rattle.gc_plan.specs.Belonging.{IsState}
