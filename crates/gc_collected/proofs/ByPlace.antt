@@ -80,7 +80,7 @@ named objects Nil o found = absurd (let no : None ≡ Some o = found in cc)
 named objects (Num n) o found = absurd (let no : None ≡ Some o = found in cc)
 named objects (Ref a) o found = (a, found)
 
-absent : (size free : ℕ) (g : Graph) (v : Value) (i : ℕ) → IsSpaceGraph size free g → 65535 ≤ i → field_of (object_of g.objects v) i ≡ None
+pub absent : (size free : ℕ) (g : Graph) (v : Value) (i : ℕ) → IsSpaceGraph size free g → 65535 ≤ i → field_of (object_of g.objects v) i ≡ None
 absent size free g v i graph high = go (object_of g.objects v) refl
   where
     go : (o : Option Object) → object_of g.objects v ≡ o → field_of o i ≡ None
@@ -90,7 +90,7 @@ absent size free g v i graph high = go (object_of g.objects v) refl
 same_get : (s : State) (m i j : ℕ) (d p : SlotName) → field_of (object_of s.heap.graph.objects (root s.heap.graph (place p m))) i ≡ None → field_of (object_of s.heap.graph.objects (root s.heap.graph (place p m))) j ≡ None → mutate s m (Get d p i) ≡ mutate s m (Get d p j)
 same_get s m i j d p one other = grind (arith, common_steps)
 
-same_put : (s : State) (m i j : ℕ) (p t : SlotName) → field_of (object_of s.heap.graph.objects (root s.heap.graph (place p m))) i ≡ None → field_of (object_of s.heap.graph.objects (root s.heap.graph (place p m))) j ≡ None → mutate s m (Put p i t) ≡ mutate s m (Put p j t)
+pub same_put : (s : State) (m i j : ℕ) (p t : SlotName) → field_of (object_of s.heap.graph.objects (root s.heap.graph (place p m))) i ≡ None → field_of (object_of s.heap.graph.objects (root s.heap.graph (place p m))) j ≡ None → mutate s m (Put p i t) ≡ mutate s m (Put p j t)
 same_put s m i j p t one other = grind (arith, common_steps)
 
 pub get_numbered : (s : State) (m i n : ℕ) (d p : SlotName) → IsSpaceGraph s.size s.heap.free s.heap.graph → (i ≤ 65535 → n ≡ i) → (65535 < i → n ≡ 65535) → mutate s m (Get d p n) ≡ mutate s m (Get d p i)

@@ -29,3 +29,4 @@ mod SourcesPut
 mod Starts
 mod Stepped
 mod Together
+mod ValuesPut

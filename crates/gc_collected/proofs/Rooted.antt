@@ -1,6 +1,7 @@
--- A monitor that follows a collected heap goes on following it where extra roots become nil, or a root takes a reference: no object changes.
+-- A monitor that follows a collected heap goes on following it where extra roots become nil, or a root takes a value: no object changes.
 use Rattle.std.proofs.Common.{◌≡◌, inl, ℕ, zero, suc, refl, subst, sym}
 use Rattle.std.specs.Prelude.{IfSome}
+use Rattle.gc_graph.specs.Graph.{Value}
 use Rattle.gc_graph.specs.declared.command.Op.TheVariants.{Nil}
 use Rattle.gc_graph.specs.declared.reply.Reply.{Reply}
 use Rattle.gc_heap.specs.ExtraRoots.{extra_slot}
@@ -10,8 +11,8 @@ use Rattle.gc_plan.specs.Belonging.{IsOpened}
 use Rattle.gc_plan.proofs.Public.{WrittenBy}
 use Rattle.gc_along.specs.Tables.{Tables}
 use Rattle.gc_collected.specs.ExtraRoots.{clear_step}
-use Rattle.gc_collected.specs.Referring.{with_reference}
 use Rattle.gc_collected.specs.Internal.Follows.{Follows}
+use Rattle.gc_collected.specs.Internal.Values.{with_value}
 use Rattle.gc_collected.proofs.Monitor.Follows.{follows_quiet}
 use Rattle.gc_collected.proofs.Monitor.Ran.{Ran, ran_none, ran_on, ran_one}
 
@@ -31,14 +32,14 @@ clear_ran (suc n) s k =
 pub follows_cleared : (s s' : State) (k n : ℕ) (t : Tables) → IfSome s.collection (IsOpened s) → clear_step s k n ≡ s' → Follows s t → Follows s' t
 follows_cleared s s' k n t is_open is = follows_quiet s s' t Never is_open (subst (λ (x : State). Ran s x Never) is (clear_ran n s k)) (λ a i w. w)
 
--- ---- a root takes a reference
+-- ---- a root takes a value
 
-refer_ran : (s : State) (p a : ℕ) → Ran s (with_reference s p a) Never
-refer_ran s p a = let same = ran_none s Never in record {
+valued_ran : (s : State) (p : ℕ) (v : Value) → Ran s (with_value s p v) Never
+valued_ran s p v = let same = ran_none s Never in record {
   leads = record { collection = same.leads.collection; evolves = same.leads.evolves };
   end = refl;
   on = record { mutators = refl; size = refl; collection = same.on.collection; names = λ b n. inl n; kept = λ b n. n };
 }
 
-pub follows_referred : (s s' : State) (p a : ℕ) (t : Tables) → IfSome s.collection (IsOpened s) → s' ≡ with_reference s p a → Follows s t → Follows s' t
-follows_referred s s' p a t is_open is = follows_quiet s s' t Never is_open (subst (λ (x : State). Ran s x Never) (sym is) (refer_ran s p a)) (λ b i w. w)
+pub follows_valued : (s s' : State) (p : ℕ) (v : Value) (t : Tables) → IfSome s.collection (IsOpened s) → s' ≡ with_value s p v → Follows s t → Follows s' t
+follows_valued s s' p v t is_open is = follows_quiet s s' t Never is_open (subst (λ (x : State). Ran s x Never) (sym is) (valued_ran s p v)) (λ b i w. w)

@@ -10,3 +10,4 @@ pub mod Rooms
 pub mod Sources
 pub mod Stays
 pub mod Together
+pub mod Values

@@ -10,4 +10,6 @@ pub mod Performing
 pub mod Readings
 pub mod Referring
 pub mod Replies
+pub mod Values
+pub mod Viewing
 pub mod Writing

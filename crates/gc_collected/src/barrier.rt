@@ -380,12 +380,51 @@ pub(crate) fn put_in(
     ensures mutators { heap.new.mutators ≡ heap.old.mutators }
     ensures follows { Follows (state_in heap.old collection.old) watch.old → Follows (state_in heap.new collection.new) watch.new }
 {
+    // Here the prover learns that the heap is sound, and how many roots there are.
+    let _ = heap.space();
+    let _ = heap.root_places();
+    put_root_in(
+        collection,
+        heap,
+        watch,
+        is_open,
+        m,
+        s.place(m) as u32,
+        i,
+        t.place(m) as u32,
+    )
+}
+
+/// Performs mutator `m`'s `Put` on roots by their places, as `put_in` does.
+#[inline(always)]
+pub(crate) fn put_root_in(
+    collection: &mut Option<Collection>,
+    heap: &mut Heap,
+    watch: &mut Standing,
+    is_open: bool,
+    m: u8,
+    s: u32,
+    i: u16,
+    t: u32,
+) -> Reply
+    requires belongs { BelongsIfOpen heap.old collection.old }
+    requires open { is_open ≡ is_some collection.old }
+    requires mutator { m < heap.old.mutators }
+    requires target { s < length heap.old.roots }
+    requires giver { t < length heap.old.roots }
+    requires room { HasSpare collection.old m 1 }
+    ensures step { mutate (state_in heap.old collection.old) m (Op.Put (root_at s) i (root_at t)) ≡ (result, state_in heap.new collection.new) }
+    ensures fits { (epoch : ℕ) → Fits epoch heap.old collection.old → Fits epoch heap.new collection.new }
+    ensures belongs { BelongsIfOpen heap.new collection.new }
+    ensures mutators { heap.new.mutators ≡ heap.old.mutators }
+    ensures follows { Follows (state_in heap.old collection.old) watch.old → Follows (state_in heap.new collection.new) watch.new }
+{
     // Here the prover learns that the heap is sound.
     let _ = heap.space();
     if !is_open {
-        return heap.put(m, s, i, t);
+        return heap.put_root(s, i, t);
     }
-    put(collection.as_mut().unwrap(), heap, watch, m, s, i, t)
+    put_root(collection.as_mut().unwrap(), heap, watch, m, s, i, t)
 }
 
 /// Logs so many fields of this object, from field `first` on, if a collection is open, which `is_open` says. So a caller asks before it changes the

@@ -20,6 +20,8 @@ mod reading;
 mod referring;
 mod rooms;
 mod steps;
+mod values;
+mod viewing;
 mod watching;
 mod writing;
 
@@ -32,3 +34,4 @@ pub use laws::{flips_are_counted, runs_are_legal};
 pub use mixed::{FieldSource, SourceRow};
 pub use reading::NewSpace;
 pub use steps::Choice;
+pub use values::Plain;

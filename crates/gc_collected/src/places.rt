@@ -150,7 +150,7 @@ impl CollectedHeap {
 
 // Returns the number of a field that objects have if they have field `i`: none has a field with the number 65,535 or above.
 #[inline(always)]
-fn field_number(i: u32) -> u16
+pub(crate) fn field_number(i: u32) -> u16
     ensures small { i ≤ 65535 → result ≡ i }
     ensures large { 65535 < i → result ≡ 65535 }
 {

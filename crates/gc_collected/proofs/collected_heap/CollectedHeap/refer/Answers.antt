@@ -3,6 +3,7 @@ use Rattle.std.proofs.lemmas.Grind.{common_steps}
 use Rattle.std.proofs.Common.{◌<◌, is_some, sym, subst, arith}
 use Rattle.std.specs.Prelude.{IfSome}
 use Rattle.std.specs.Option.{option_map}
+use Rattle.gc_graph.specs.Graph.{Ref}
 use Rattle.gc_graph.specs.Slots.{place, roots_of}
 use Rattle.gc_plan.specs.State.{State}
 use Rattle.gc_plan.specs.Belonging.{IsOpened}
@@ -12,7 +13,7 @@ use Rattle.gc_collected.specs.declared.known.KnownRoots.{KnownRoots}
 use Rattle.gc_collected.proofs.Core.{core_is}
 use Rattle.gc_collected.proofs.Marks.{forgetting, slot_below, with_looks}
 use Rattle.gc_collected.proofs.Referred.{referred, referred_knows, refers, start_named, still_fits}
-use Rattle.gc_collected.proofs.Rooted.{follows_referred}
+use Rattle.gc_collected.proofs.Rooted.{follows_valued}
 use Rattle.gc_collected.proofs.collected_heap.CollectedHeap.refer.Goals as goal
 
 pub refer-requires : goal.refer-requires
@@ -34,7 +35,7 @@ invariant_of-self c =
         still_fits heap new p c.args.a.0 c.refer.ensures.space c.refer.ensures.graph c.refer.ensures.mutators c.self.inside.epoch o c.self.invariant.0.0,
         subst (KnowsRoots known) (sym is) (referred_knows c.self.inside.known before p c.args.a.0 low c.self.invariant.0.1),
       ),
-      λ on. follows_referred before after p c.args.a.0 c.self.inside.watch (subst (λ (s : State). IfSome s.collection (IsOpened s)) (sym (core_is c.self.view_is)) c.is_sound.ensures.open) is (c.self.invariant.1 on),
+      λ on. follows_valued before after p (Ref c.args.a.0) c.self.inside.watch (subst (λ (s : State). IfSome s.collection (IsOpened s)) (sym (core_is c.self.view_is)) c.is_sound.ensures.open) is (c.self.invariant.1 on),
     )
 
 pub returns-clause-step : goal.returns-clause-step
