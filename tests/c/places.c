@@ -81,6 +81,13 @@ static void many_slots(void)
     close_heap();
 }
 
+/* Expects that a peek gives this answer and sees this; where it gives no value, that it leaves the output alone. */
+static void sees(uint32_t s, uint32_t i, uint32_t answer, uint32_t kind, uint32_t count, uint64_t seen)
+{
+    view = (gcflip_view){77, 77, 77};
+    EXPECT(gcflip_peek(&heap, s, i, &view) == answer && view.kind == kind && view.count == count && view.number == seen);
+}
+
 /* Each reply, with roots of all three sorts. */
 static void replies(void)
 {
@@ -93,6 +100,8 @@ static void replies(void)
     EXPECT(gcflip_same(&heap, own, extra) == GCFLIP_SAME && gcflip_same(&heap, own, shared) == GCFLIP_NOT_SAME);
     EXPECT(gcflip_set_number(&heap, shared, 9223372036854775807u) == GCFLIP_DONE);
     EXPECT(gcflip_put(&heap, 0, own, 0, shared) == GCFLIP_DONE && gcflip_put(&heap, 2, extra, 1, own) == GCFLIP_DONE);
+    sees(extra, 1, GCFLIP_OBJECT, KIND, 2, 0);
+    sees(extra, 0, GCFLIP_NUMBER, 0, 0, 9223372036854775807u);
     number = 77;
     EXPECT(gcflip_get(&heap, SLOTS, extra, 1, &number) == GCFLIP_OBJECT && number == 77);
     EXPECT(gcflip_same(&heap, SLOTS, own) == GCFLIP_SAME);
@@ -102,8 +111,12 @@ static void replies(void)
     number = 77;
     EXPECT(gcflip_get(&heap, 63, own, 0, &number) == GCFLIP_NIL && number == 77);
     EXPECT(gcflip_look(&heap, 63, &view) == GCFLIP_NIL);
+    sees(own, 0, GCFLIP_NIL, 0, 0, 0);
     EXPECT(gcflip_get(&heap, 63, shared, 0, &number) == GCFLIP_NO_OBJECT && gcflip_put(&heap, 0, shared, 0, own) == GCFLIP_NO_OBJECT);
     EXPECT(gcflip_get(&heap, 63, own, 2, &number) == GCFLIP_NO_FIELD && gcflip_put(&heap, 0, own, 2, own) == GCFLIP_NO_FIELD);
+    sees(shared, 0, GCFLIP_NO_OBJECT, 77, 77, 77);
+    sees(63, 0, GCFLIP_NO_OBJECT, 77, 77, 77); /* nil */
+    sees(own, 2, GCFLIP_NO_FIELD, 77, 77, 77);
     EXPECT(gcflip_heap_new_raw(&heap, 0, 0, KIND, 1) == GCFLIP_MADE);
     EXPECT(gcflip_look(&heap, 16, &view) == GCFLIP_RAW_OBJECT && view.kind == KIND && view.count == 1);
     EXPECT(gcflip_put(&heap, 0, 16, 0, own) == GCFLIP_NO_NUMBER && gcflip_put(&heap, 0, 16, 0, shared) == GCFLIP_DONE);
@@ -111,6 +124,13 @@ static void replies(void)
     EXPECT(gcflip_put(&heap, 0, own, 0, 16) == GCFLIP_DONE);
     number = 77;
     EXPECT(gcflip_get(&heap, 63, own, 0, &number) == GCFLIP_OBJECT && number == 77); /* raw, which get does not show */
+    sees(own, 0, GCFLIP_RAW_OBJECT, KIND, 1, 0);
+    EXPECT(gcflip_peek(&heap, own, 0, &view) == GCFLIP_RAW_OBJECT && gcflip_peek(&heap, own, 1, &view) == GCFLIP_OBJECT);
+    EXPECT(gcflip_peek(&heap, shared, 0, &view) == GCFLIP_NO_OBJECT && gcflip_peek(&heap, own, 2, &view) == GCFLIP_NO_FIELD);
+    EXPECT(gcflip_put_nil(&heap, 0, 16, 0) == GCFLIP_NO_NUMBER && gcflip_put_nil(&heap, 0, shared, 0) == GCFLIP_NO_OBJECT);
+    EXPECT(gcflip_put_nil(&heap, 0, own, 2) == GCFLIP_NO_FIELD && gcflip_put_number(&heap, 0, own, 2, 5) == GCFLIP_NO_FIELD);
+    EXPECT(gcflip_put_number(&heap, 0, shared, 0, 5) == GCFLIP_NO_OBJECT);
+    sees(16, 0, GCFLIP_NUMBER, 0, 0, 9223372036854775807u);
     EXPECT(gcflip_get(&heap, own, own, 1, &number) == GCFLIP_OBJECT && gcflip_same(&heap, own, extra) == GCFLIP_SAME);
     EXPECT(gcflip_new(&heap, extra, KIND, 11) == GCFLIP_FULL && gcflip_same(&heap, own, extra) == GCFLIP_SAME);
     EXPECT(gcflip_new(&heap, extra, 255, 10) == GCFLIP_MADE && gcflip_look(&heap, extra, &view) == GCFLIP_OBJECT);
@@ -140,6 +160,8 @@ static void refused_places(uint32_t p)
     number = 77;
     EXPECT(gcflip_new(&heap, p, KIND, 0) == GCFLIP_OUT_OF_RANGE);
     EXPECT(gcflip_set_number(&heap, p, 5) == GCFLIP_OUT_OF_RANGE);
+    EXPECT(gcflip_set_nil(&heap, p) == GCFLIP_OUT_OF_RANGE && gcflip_peek(&heap, p, 1, &view) == GCFLIP_OUT_OF_RANGE);
+    EXPECT(gcflip_put_number(&heap, 0, p, 0, 5) == GCFLIP_OUT_OF_RANGE && gcflip_put_nil(&heap, 0, p, 0) == GCFLIP_OUT_OF_RANGE);
     EXPECT(gcflip_copy(&heap, p, 0) == GCFLIP_OUT_OF_RANGE && gcflip_copy(&heap, 0, p) == GCFLIP_OUT_OF_RANGE);
     EXPECT(gcflip_copy(&heap, p, p) == GCFLIP_OUT_OF_RANGE && gcflip_same(&heap, p, p) == GCFLIP_OUT_OF_RANGE);
     EXPECT(gcflip_get(&heap, p, 0, 1, &number) == GCFLIP_OUT_OF_RANGE && gcflip_get(&heap, 2, p, 1, &number) == GCFLIP_OUT_OF_RANGE);
@@ -157,6 +179,9 @@ static void refused_numbers(void)
     EXPECT(gcflip_set_number(&heap, 0, 1ull << 63) == GCFLIP_OUT_OF_RANGE && gcflip_set_number(&heap, 0, UINT64_MAX) == GCFLIP_OUT_OF_RANGE);
     EXPECT(gcflip_put(&heap, MUTATORS, 0, 0, 0) == GCFLIP_OUT_OF_RANGE && gcflip_put(&heap, 255, 0, 0, 0) == GCFLIP_OUT_OF_RANGE);
     EXPECT(gcflip_put(&heap, 256, 0, 0, 0) == GCFLIP_OUT_OF_RANGE && gcflip_put(&heap, UINT32_MAX, 0, 0, 0) == GCFLIP_OUT_OF_RANGE);
+    EXPECT(gcflip_put_number(&heap, 0, 0, 0, 1ull << 63) == GCFLIP_OUT_OF_RANGE && gcflip_put_number(&heap, 0, 0, 0, UINT64_MAX) == GCFLIP_OUT_OF_RANGE);
+    EXPECT(gcflip_put_number(&heap, MUTATORS, 0, 0, 5) == GCFLIP_OUT_OF_RANGE && gcflip_put_number(&heap, 256, 0, 0, 5) == GCFLIP_OUT_OF_RANGE);
+    EXPECT(gcflip_put_nil(&heap, MUTATORS, 0, 0) == GCFLIP_OUT_OF_RANGE && gcflip_put_nil(&heap, UINT32_MAX, 0, 0) == GCFLIP_OUT_OF_RANGE);
     EXPECT(gcflip_new(&heap, 0, 0, 65535) == GCFLIP_FULL);
 }
 
@@ -192,13 +217,18 @@ static void long_object(void)
     for (size_t k = 0; k < COUNT(none); k++) {
         number = 77;
         EXPECT(gcflip_get(&heap, 1, 32, none[k], &number) == GCFLIP_NO_FIELD && number == 77);
-        EXPECT(gcflip_put(&heap, 0, 32, none[k], 1) == GCFLIP_NO_FIELD);
+        EXPECT(gcflip_put(&heap, 0, 32, none[k], 1) == GCFLIP_NO_FIELD && gcflip_put_number(&heap, 0, 32, none[k], 1) == GCFLIP_NO_FIELD);
+        EXPECT(gcflip_put_nil(&heap, 0, 32, none[k]) == GCFLIP_NO_FIELD && gcflip_put_nil(&heap, 0, 0, none[k]) == GCFLIP_NO_OBJECT);
+        sees(32, none[k], GCFLIP_NO_FIELD, 77, 77, 77);
         EXPECT(gcflip_get(&heap, 1, 0, none[k], &number) == GCFLIP_NO_OBJECT && gcflip_put(&heap, 0, 0, none[k], 1) == GCFLIP_NO_OBJECT);
         holds(1, 6);
     }
     EXPECT(gcflip_get(&heap, 2, 32, 65534, &number) == GCFLIP_NUMBER && number == 5);
     EXPECT(gcflip_get(&heap, 2, 32, 0, &number) == GCFLIP_NUMBER && number == 5);
     EXPECT(gcflip_get(&heap, 2, 32, 1, &number) == GCFLIP_NIL);
+    EXPECT(gcflip_put_number(&heap, 0, 32, 65533, 9) == GCFLIP_DONE);
+    sees(32, 65533, GCFLIP_NUMBER, 0, 0, 9);
+    sees(32, 65534, GCFLIP_NUMBER, 0, 0, 5);
     EXPECT(gcflip_heap_step_begin(&heap) == GCFLIP_BEGUN);
     EXPECT(gcflip_put(&heap, 0, 32, UINT32_MAX, 1) == GCFLIP_NO_FIELD && gcflip_put(&heap, 0, 32, 65534, 1) == GCFLIP_DONE);
     gcflip_log_entry entry = {0, 0};
@@ -239,6 +269,73 @@ static void logs(void)
     close_heap();
 }
 
+/* Puts of nil and of numbers change their field and no root, whatever the roots hold, and log it where `m` says. */
+static void values(uint8_t checking)
+{
+    static const uint32_t objects[] = {0, 1, 15, 16, 33, SLOTS, PLACES - 1};
+    static struct picture before, after;
+    open_heap(64, MUTATORS, EXTRA, checking);
+    EXPECT(gcflip_new(&heap, 2, KIND, 2) == GCFLIP_MADE); /* at 1, with the raw object at 5 */
+    EXPECT(gcflip_heap_new_raw(&heap, 0, 0, KIND, 2) == GCFLIP_MADE);
+    for (uint32_t p = 0; p < PLACES; p++)
+        if (p != 2 && p != 16)
+            EXPECT(p % 3 == 0 ? gcflip_copy(&heap, p, 2) == GCFLIP_DONE : p % 3 == 1 ? gcflip_set_number(&heap, p, p) == GCFLIP_DONE : gcflip_set_nil(&heap, p) == GCFLIP_DONE);
+    for (int is_open = 0; is_open < 2; is_open++) {
+        for (size_t k = 0; k < COUNT(objects); k++) {
+            const uint32_t p = objects[k];
+            const uint32_t made = p % 3 == 0 || p == 16 ? GCFLIP_DONE : GCFLIP_NO_OBJECT;
+            draw(&before);
+            EXPECT(gcflip_put_number(&heap, 1, p, 1, 40 + k) == made);
+            EXPECT(made != GCFLIP_DONE || (gcflip_peek(&heap, p, 1, &view) == GCFLIP_NUMBER && view.number == 40 + k));
+            EXPECT(gcflip_put_nil(&heap, 2, p, 1) == (p == 16 ? GCFLIP_NO_NUMBER : made));
+            EXPECT(made != GCFLIP_DONE || gcflip_peek(&heap, p, 1, &view) == (p == 16 ? GCFLIP_NUMBER : GCFLIP_NIL));
+            draw(&after);
+            EXPECT(memcmp(before.roots, after.roots, sizeof before.roots) == 0);
+            EXPECT(after.logged[0] == 0 && after.logged[1] == before.logged[1] + (is_open && made == GCFLIP_DONE));
+            EXPECT(after.logged[2] == before.logged[2] + (is_open && made == GCFLIP_DONE && p != 16));
+        }
+        if (!is_open)
+            EXPECT(gcflip_heap_step_begin(&heap) == GCFLIP_BEGUN);
+    }
+    EXPECT(gcflip_heap_work(&heap, 1000, &work) == GCFLIP_DONE && work.last == GCFLIP_FLIPPED && work.pairs == 2);
+    EXPECT(gcflip_peek(&heap, 2, 1, &view) == GCFLIP_NIL && gcflip_peek(&heap, 16, 1, &view) == GCFLIP_NUMBER && view.number == 43);
+    close_heap();
+}
+
+/* A walk over the heap meets each object once, also those that no root reaches, and no other address has one. */
+static void walk(uint8_t checking)
+{
+    uint32_t met = 0;
+    open_heap(64, 1, 0, checking);
+    EXPECT(gcflip_object_at(&heap, 1, &view) == GCFLIP_NIL && view.kind == 0 && view.count == 0 && view.number == 0);
+    EXPECT(gcflip_new(&heap, 0, KIND, 3) == GCFLIP_MADE && gcflip_heap_new_raw(&heap, 0, 0, 255, 2) == GCFLIP_MADE);
+    EXPECT(gcflip_new(&heap, 0, KIND + 1, 0) == GCFLIP_MADE); /* the first one is garbage now */
+    EXPECT(gcflip_object_at(&heap, 1, &view) == GCFLIP_OBJECT && view.kind == KIND && view.count == 3 && view.number == 0);
+    EXPECT(gcflip_object_at(&heap, 6, &view) == GCFLIP_RAW_OBJECT && view.kind == 255 && view.count == 2);
+    EXPECT(gcflip_object_at(&heap, 10, &view) == GCFLIP_OBJECT && view.kind == KIND + 1 && view.count == 0);
+    for (uint32_t a = 0; a < 70; a++)
+        met += gcflip_object_at(&heap, a, &view) != GCFLIP_NIL;
+    EXPECT(met == 3 && gcflip_object_at(&heap, UINT32_MAX, &view) == GCFLIP_NIL && gcflip_object_at(&heap, 1u << 31, &view) == GCFLIP_NIL);
+    EXPECT(gcflip_heap_work(&heap, 1000, &work) == GCFLIP_DONE && work.last == GCFLIP_FLIPPED);
+    met = 0;
+    EXPECT(gcflip_heap_counts(&heap, &counts) == GCFLIP_DONE && counts.end == 7);
+    for (uint32_t a = 1; a < counts.end; a += view.count + 2, met++)
+        EXPECT(gcflip_object_at(&heap, a, &view) != GCFLIP_NIL);
+    EXPECT(met == 2);
+    close_heap();
+}
+
+/* The room is what no object takes, in a new heap all but one word. */
+static void room(void)
+{
+    open_heap(20, 1, 0, GCFLIP_ALONG);
+    EXPECT(gcflip_room(&heap) == 19 && gcflip_new(&heap, 0, KIND, 3) == GCFLIP_MADE && gcflip_room(&heap) == 14);
+    EXPECT(gcflip_heap_step_begin(&heap) == GCFLIP_BEGUN && gcflip_room(&heap) == 14);
+    EXPECT(gcflip_new(&heap, 0, KIND, 13) == GCFLIP_FULL && gcflip_room(&heap) == 14);
+    EXPECT(gcflip_new(&heap, 0, KIND, 12) == GCFLIP_MADE && gcflip_room(&heap) == 0);
+    close_heap();
+}
+
 /* Performs useful steps until only the flip is left. */
 static void make_ready(void)
 {
@@ -249,6 +346,28 @@ static void make_ready(void)
             return;
         EXPECT(gcflip_heap_work(&heap, 1, &work) == GCFLIP_DONE && work.last != GCFLIP_FLIPPED && work.last != GCFLIP_NO_ROOM);
     }
+}
+
+/* A put of a number, or a root that becomes nil or a number, leaves a collection that is ready ready once its entries are applied, and no search of the roots
+ * begins again. The objects without other references die. */
+static void values_while_ready(uint32_t d, uint8_t checking)
+{
+    uint32_t pairs = 77;
+    open_heap(128, MUTATORS, EXTRA, checking);
+    EXPECT(gcflip_new(&heap, d, KIND, 2) == GCFLIP_MADE && gcflip_copy(&heap, 1, d) == GCFLIP_DONE);
+    EXPECT(gcflip_heap_step_begin(&heap) == GCFLIP_BEGUN);
+    make_ready();
+    EXPECT(gcflip_heap_counts(&heap, &counts) == GCFLIP_DONE && counts.roots_left == 0);
+    EXPECT(gcflip_put_number(&heap, 0, d, 1, 5) == GCFLIP_DONE && gcflip_put_nil(&heap, 1, d, 0) == GCFLIP_DONE);
+    EXPECT(gcflip_heap_counts(&heap, &counts) == GCFLIP_DONE && counts.roots_left == 0 && counts.logged == 2);
+    EXPECT(gcflip_heap_step_flip(&heap, &pairs) == GCFLIP_NOT_READY && gcflip_heap_step_apply(&heap, 0) == GCFLIP_APPLIED);
+    EXPECT(gcflip_heap_step_apply(&heap, 1) == GCFLIP_APPLIED && gcflip_heap_step_flip(&heap, &pairs) == GCFLIP_FLIPPED && pairs == 1);
+    sees(d, 1, GCFLIP_NUMBER, 0, 0, 5);
+    EXPECT(gcflip_set_nil(&heap, 1) == GCFLIP_DONE && gcflip_set_nil(&heap, d) == GCFLIP_DONE && gcflip_look(&heap, d, &view) == GCFLIP_NIL);
+    EXPECT(gcflip_room(&heap) == 123);
+    EXPECT(gcflip_heap_work(&heap, 1000, &work) == GCFLIP_DONE && work.last == GCFLIP_FLIPPED && work.pairs == 0);
+    EXPECT(gcflip_room(&heap) == 127);
+    close_heap();
 }
 
 /* Flips, after what a command wrote has its replica. */
@@ -313,6 +432,7 @@ static void collections(uint8_t checking)
     for (size_t k = 0; k < COUNT(written); k++) {
         written_while_ready(written[k], checking);
         got_while_open(written[k], checking);
+        values_while_ready(written[k], checking);
     }
 }
 
@@ -327,13 +447,18 @@ static void closed(void)
         const uint32_t p = places[k];
         EXPECT(gcflip_new(&heap, p, p, p) == GCFLIP_CLOSED);
         EXPECT(gcflip_set_number(&heap, p, UINT64_MAX) == GCFLIP_CLOSED);
+        EXPECT(gcflip_set_nil(&heap, p) == GCFLIP_CLOSED);
         EXPECT(gcflip_copy(&heap, p, p) == GCFLIP_CLOSED);
+        EXPECT(gcflip_peek(&heap, p, p, &view) == GCFLIP_CLOSED);
+        EXPECT(gcflip_put_number(&heap, p, p, p, UINT64_MAX) == GCFLIP_CLOSED);
+        EXPECT(gcflip_put_nil(&heap, p, p, p) == GCFLIP_CLOSED);
         EXPECT(gcflip_get(&heap, p, p, p, &number) == GCFLIP_CLOSED);
         EXPECT(gcflip_put(&heap, p, p, p, p) == GCFLIP_CLOSED);
         EXPECT(gcflip_same(&heap, p, p) == GCFLIP_CLOSED);
         EXPECT(gcflip_look(&heap, p, &view) == GCFLIP_CLOSED);
+        EXPECT(gcflip_object_at(&heap, p, &view) == GCFLIP_CLOSED);
     }
-    EXPECT(number == 77 && memcmp(&view, &before, sizeof view) == 0 && heap.at == NULL);
+    EXPECT(number == 77 && memcmp(&view, &before, sizeof view) == 0 && heap.at == NULL && gcflip_room(&heap) == 0);
 }
 
 int main(void)
@@ -345,6 +470,11 @@ int main(void)
     refusals();
     long_object();
     logs();
+    room();
+    walk(GCFLIP_ALONG);
+    walk(GCFLIP_AT_FLIP);
+    values(GCFLIP_ALONG);
+    values(GCFLIP_AT_FLIP);
     collections(GCFLIP_ALONG);
     collections(GCFLIP_AT_FLIP);
     closed();

@@ -38,11 +38,11 @@ static const char *reply(uint32_t answer)
     return replies[answer];
 }
 
-/* Prints the answer of a look, with what it saw. */
+/* Prints the answer of a look or a peek, with what it saw. */
 static void print_look(uint32_t answer, gcflip_view view)
 {
     printf("%s", reply(answer));
-    if (GCFLIP_IS_REFUSED(answer))
+    if (GCFLIP_IS_REFUSED(answer) || answer == GCFLIP_NO_OBJECT || answer == GCFLIP_NO_FIELD)
         EXPECT(view.kind == KEPT_32 && view.count == KEPT_32 && view.number == KEPT);
     else if (answer == GCFLIP_NUMBER)
         EXPECT(view.kind == 0 && view.count == 0 && printf(" %llu", (unsigned long long)view.number) > 0);
@@ -83,6 +83,13 @@ static void get(uint8_t m, uint8_t d, uint8_t s, uint16_t i)
     uint64_t number = KEPT;
     uint32_t answer = gcflip_heap_get(&heap, m, d, s, i, &number);
     print_get(answer, number);
+}
+
+static void place_peek(uint32_t s, uint32_t i)
+{
+    gcflip_view view = {KEPT_32, KEPT_32, KEPT};
+    uint32_t answer = gcflip_peek(&heap, s, i, &view);
+    print_look(answer, view);
 }
 
 static void place_get(uint32_t d, uint32_t s, uint32_t i)
@@ -315,6 +322,13 @@ static void address(void)
 }
 
 #ifndef BASIC
+static void object_at(uint32_t address)
+{
+    gcflip_view view = {KEPT_32, KEPT_32, KEPT};
+    uint32_t answer = gcflip_object_at(&heap, address, &view);
+    print_look(answer, view);
+}
+
 static void moved(void)
 {
     uint32_t found = 77;
@@ -340,8 +354,11 @@ static uint32_t by_places(const char *name)
     const uint32_t d = (uint32_t)a[0], s = (uint32_t)a[1], i = (uint32_t)a[2];
     if (IS("place_new")) return gcflip_new(&heap, d, s, i);
     if (IS("place_num")) return gcflip_set_number(&heap, d, a[1]);
+    if (IS("place_nil")) return gcflip_set_nil(&heap, d);
     if (IS("place_copy")) return gcflip_copy(&heap, d, s);
     if (IS("place_put")) return gcflip_put(&heap, d, s, i, (uint32_t)a[3]);
+    if (IS("place_put_number")) return gcflip_put_number(&heap, d, s, i, a[3]);
+    if (IS("place_put_nil")) return gcflip_put_nil(&heap, d, s, i);
     EXPECT(IS("place_same"));
     return gcflip_same(&heap, d, s);
 }
@@ -385,6 +402,8 @@ static void perform(const char *name)
     if (IS("look")) look(m, d);
     else if (IS("get")) get(m, d, (uint8_t)a[2], (uint16_t)a[3]);
     else if (IS("place_look")) place_look((uint32_t)a[0]);
+    else if (IS("place_peek")) place_peek((uint32_t)a[0], (uint32_t)a[1]);
+    else if (IS("room")) printf("room %u\n", gcflip_room(&heap));
     else if (IS("place_get")) place_get((uint32_t)a[0], (uint32_t)a[1], (uint32_t)a[2]);
     else if (strncmp(name, "frame_", 6) == 0) frame(name);
     else if (strncmp(name, "place_", 6) == 0) printf("%s\n", reply(by_places(name)));
@@ -406,6 +425,7 @@ static void perform(const char *name)
     else if (IS("work_paced")) work_paced((uint32_t)a[0]);
 #ifndef BASIC
     else if (IS("moved")) moved();
+    else if (IS("object_at")) object_at((uint32_t)a[0]);
 #endif
     else printf("%s\n", reply(plain(name)));
 }

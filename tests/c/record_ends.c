@@ -63,9 +63,17 @@ static void command_by_places(int call)
         EXPECT(gcflip_same(&heap, 0, 16) == GCFLIP_NOT_SAME);
     if (call == 6)
         EXPECT(gcflip_look(&heap, 16, &view) == GCFLIP_NUMBER && view.number == 7);
+    if (call == 7)
+        EXPECT(gcflip_set_nil(&heap, 16) == GCFLIP_DONE);
+    if (call == 8)
+        EXPECT(gcflip_peek(&heap, 16, 0, &view) == GCFLIP_NO_OBJECT && view.number == 77);
+    if (call == 9)
+        EXPECT(gcflip_put_number(&heap, 0, 18, 0, 5) == GCFLIP_NO_FIELD);
+    if (call == 10)
+        EXPECT(gcflip_put_nil(&heap, 0, 16, 0) == GCFLIP_NO_OBJECT);
 }
 
-enum { NAMING_ROOTS = 6, WITHOUT_LINES = 7, BY_PLACES = 7 };
+enum { NAMING_ROOTS = 6, WITHOUT_LINES = 7, BY_PLACES = 11 };
 
 /* Opens a heap with extra roots, and names one by each call in turn. Then it makes a reference of an address, and last it names roots by their
  * places. */
@@ -196,9 +204,14 @@ static void make_calls_without_lines(void)
     REPLIES(gcflip_set_number(&heap, 34, 5), GCFLIP_DONE, false);
     REPLIES(gcflip_put(&heap, 0, 35, 0, 34), GCFLIP_DONE, false);
     REPLIES(gcflip_get(&heap, 33, 35, 0, &number), GCFLIP_NUMBER, false);
+    REPLIES(gcflip_put_nil(&heap, 0, 35, 0), GCFLIP_DONE, false);
+    REPLIES(gcflip_put_number(&heap, 0, 35, 0, 6), GCFLIP_DONE, false);
+    REPLIES(gcflip_peek(&heap, 35, 0, &view), GCFLIP_NUMBER, false);
+    EXPECT(view.number == 6);
     REPLIES(gcflip_same(&heap, 33, 34), GCFLIP_SAME, false);
     REPLIES(gcflip_copy(&heap, 35, 34), GCFLIP_DONE, false);
     REPLIES(gcflip_look(&heap, 35, &view), GCFLIP_NUMBER, false);
+    REPLIES(gcflip_set_nil(&heap, 33), GCFLIP_DONE, false);
     EXPECT(number == 5 && view.number == 5);
     REPLIES(gcflip_heap_root_clear(&heap, 0, 4), GCFLIP_DONE, false);
 }

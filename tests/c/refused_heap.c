@@ -89,6 +89,8 @@ static uint32_t begin_larger(void) { return gcflip_heap_step_begin_sized(&heap, 
 static uint32_t touch(void) { return gcflip_heap_touch(&heap); }
 static uint32_t put(void) { return gcflip_heap_put(&heap, 0, 0, 0, 0); }
 static uint32_t put_at(void) { return gcflip_put(&heap, 0, 16, 0, 16); }
+static uint32_t put_number_at(void) { return gcflip_put_number(&heap, 0, 16, 0, 5); }
+static uint32_t put_nil_at(void) { return gcflip_put_nil(&heap, 0, 16, 0); }
 static uint32_t put_number(void) { return gcflip_heap_put_number(&heap, 0, 0, 0, 1, 5); }
 static uint32_t put_nil(void) { return gcflip_heap_put_nil(&heap, 0, 0, 0, 1); }
 static uint32_t cons(void) { return gcflip_heap_new_pair(&heap, 0, 1, 1, 0, 0); }
@@ -237,6 +239,8 @@ static void command_by_places(void)
     const uint32_t extra = ROOTS - 1;
     EXPECT(gcflip_new(&heap, extra, 1, 1) == GCFLIP_MADE);
     EXPECT(gcflip_get(&heap, 0, extra, 0, &number) == GCFLIP_NIL);
+    EXPECT(gcflip_peek(&heap, extra, 0, &view) == GCFLIP_NIL);
+    EXPECT(gcflip_set_nil(&heap, 0) == GCFLIP_DONE && gcflip_room(&heap) > 0);
     EXPECT(gcflip_set_number(&heap, 0, 5) == GCFLIP_DONE);
     EXPECT(gcflip_copy(&heap, extra, 0) == GCFLIP_DONE);
     EXPECT(gcflip_same(&heap, extra, 0) == GCFLIP_SAME);
@@ -256,6 +260,7 @@ static void read_all(void)
     EXPECT(gcflip_heap_log_entry(&heap, 0, 0, &entry) == GCFLIP_DONE);
     EXPECT(gcflip_heap_raw_read(&heap, 0, 2, 0, numbers, COUNT(numbers)) == GCFLIP_DONE);
     EXPECT(gcflip_heap_address(&heap, 0, 2, &address) == GCFLIP_DONE);
+    EXPECT(gcflip_object_at(&heap, address, &view) == GCFLIP_RAW_OBJECT);
     EXPECT(gcflip_heap_moved(&heap, address, &address) == GCFLIP_OUT_OF_RANGE);
     EXPECT(gcflip_heap_pace(&heap, &pace) == GCFLIP_DONE);
     EXPECT(gcflip_heap_useful(&heap, &step) == GCFLIP_DONE);
@@ -358,6 +363,11 @@ static void allocations(int tables, int flipping)
     EXPECT(failures(set_up, put_at) == 0);
     EXPECT(failures(set_up_open, put_at) == 1);
     EXPECT(failures(set_up_full_log, put_at) == 2);
+    EXPECT(failures(set_up, put_number_at) == 0);
+    EXPECT(failures(set_up_open, put_number_at) == 1);
+    EXPECT(failures(set_up_full_log, put_number_at) == 2);
+    EXPECT(failures(set_up, put_nil_at) == 0);
+    EXPECT(failures(set_up_open, put_nil_at) == 1);
     EXPECT(failures(set_up, put_number) == 0);
     EXPECT(failures(set_up_open, put_number) == 1);
     EXPECT(failures(set_up, put_nil) == 0);

@@ -169,6 +169,9 @@ class Model:
         self.set(m, d, self.value(m, s))
         return "done"
 
+    def object_at(self, at):
+        return "saw " + (self.seen(2 * at) if at in self.space.starts() else "nil")
+
     def refer(self, m, d, at):
         if at not in self.space.starts():
             return "no object"
@@ -186,7 +189,11 @@ class Model:
         return "saw " + self.seen(self.value(m, d))
 
     def put(self, m, s, i, t):
-        at, word = self.target(m, s), self.value(m, t)
+        return self.write(m, s, i, self.value(m, t))
+
+    def write(self, m, s, i, word):
+        """Puts a value."""
+        at = self.target(m, s)
         if at is None:
             return "no object"
         if i >= self.space.length(at):
@@ -219,6 +226,11 @@ class Model:
         self.aimed_at(d)
         return self.num(0, Place(d), n)
 
+    def place_nil(self, d):
+        if d >= self.extra(0):
+            self.looks.cleared(d - self.extra(0))
+        return self.nil(0, Place(d))
+
     def place_copy(self, d, s):
         self.aimed_at(d)
         return self.move(0, Place(d), Place(s))
@@ -227,8 +239,23 @@ class Model:
         self.aimed_at(d)
         return self.get(0, Place(d), Place(s), i)
 
+    def place_peek(self, s, i):
+        at = self.target(0, Place(s))
+        if at is None:
+            return "no object"
+        if i >= self.space.length(at):
+            return "no field"
+        word = self.space.words[at + 2 + i]
+        return "saw " + self.seen(2 * word + 1 if self.space.is_raw(at) else word)
+
     def place_put(self, m, s, i, t):
         return self.put(m, Place(s), i, Place(t))
+
+    def place_put_number(self, m, s, i, n):
+        return self.write(m, Place(s), i, 2 * n + 1)
+
+    def place_put_nil(self, m, s, i):
+        return self.write(m, Place(s), i, 0)
 
     def place_same(self, s, t):
         return self.same(0, Place(s), Place(t))

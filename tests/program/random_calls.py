@@ -17,8 +17,9 @@ WEIGHTS = {"new": 8, "raw": 4, "num": 5, "nil": 2, "move": 6, "get": 9, "put": 1
 PACED = {"work_sized": 2, "work_within": 3, "pace": 0.7, "work_paced": 6}
 LOOSE = {"root_load": 5, "root_store": 6, "root_clear": 1}
 FRAMES = {"frame_push": 6, "frame_pop": 3, "frame_trim": 4}
-PLACES = {"place_new": 4, "place_num": 3, "place_copy": 5, "place_get": 6, "place_put": 9, "place_same": 3, "place_look": 4}
-MOVES = {"moved": 4, "refer": 6}
+PLACES = {"place_new": 4, "place_num": 3, "place_nil": 2, "place_copy": 5, "place_get": 6, "place_peek": 4, "place_put": 9, "place_put_number": 5, "place_put_nil": 3, "place_same": 3,
+          "place_look": 4, "room": 2}
+MOVES = {"moved": 4, "refer": 6, "object_at": 3}
 # Not a call: a heap to which looks at extra roots are free, as they are to the one in plain C. A step takes as many as it needs, and none is told.
 FREE_LOOKS = {"free_looks": 0}
 COMMANDS = ("new", "raw", "num", "nil", "move", "get", "put", "same", "look")
@@ -212,13 +213,19 @@ class Calls:
             old = self.chance.choice(dead if dead and self.chance.random() < 0.5 else list(former))
             self.call(["moved", old], "moved %d" % former[old] if former[old] else "no object")
 
-    def add_refer(self):
-        """Adds a reference by address: mostly to an object, which may be one that nothing refers to, else by some number."""
-        m, d, starts = self.mutator(), self.slot(), self.model.space.starts()
-        end = len(self.model.space.words)
+    def any_address(self):
+        """Returns an address: mostly that of an object, which may be one that nothing refers to, else some number."""
+        starts, end = self.model.space.starts(), len(self.model.space.words)
         other = self.chance.choice([0, end, end - 1, self.chance.randrange(end + 2), 1 << 31, (1 << 32) - 1, self.chance.randrange(1 << 32)])
-        at = self.chance.choice(starts) if starts and self.chance.random() < 0.7 else other
+        return self.chance.choice(starts) if starts and self.chance.random() < 0.7 else other
+
+    def add_refer(self):
+        m, d, at = self.mutator(), self.slot(), self.any_address()
         self.call(["refer", m, d, at], self.model.refer(m, d, at))
+
+    def add_object_at(self):
+        at = self.any_address()
+        self.call(["object_at", at], self.model.object_at(at))
 
     def add_raw_write(self):
         m = self.mutator()
@@ -476,6 +483,10 @@ class Calls:
         d = self.place()
         self.add_by_places("place_num", [d], d, self.number())
 
+    def add_place_nil(self):
+        d = self.place()
+        self.add_by_places("place_nil", [d], d)
+
     def add_place_copy(self):
         d, s = self.place(), self.filled_place()
         self.add_by_places("place_copy", [d, s], d, s)
@@ -484,9 +495,21 @@ class Calls:
         d, s = self.place(), self.filled_place()
         self.add_by_places("place_get", [d, s], d, s, self.place_field(s))
 
+    def add_place_peek(self):
+        s = self.filled_place()
+        self.add_by_places("place_peek", [s], s, self.place_field(s))
+
     def add_place_put(self):
         s, t = self.filled_place(), self.place()
         self.add_by_places("place_put", [s, t], self.mutator(), s, self.place_field(s), t)
+
+    def add_place_put_number(self):
+        s = self.filled_place()
+        self.add_by_places("place_put_number", [s], self.mutator(), s, self.place_field(s), self.number())
+
+    def add_place_put_nil(self):
+        s = self.filled_place()
+        self.add_by_places("place_put_nil", [s], self.mutator(), s, self.place_field(s))
 
     def add_place_same(self):
         s, t = self.filled_place(), self.filled_place()
@@ -500,6 +523,9 @@ class Calls:
 
     def add_useful(self):
         self.call(["useful"], "useful " + self.model.next_step())
+
+    def add_room(self):
+        self.call(["room"], "room %d" % (self.model.space.size - len(self.model.space.words)))
 
     def add_counts(self):
         self.call(["counts"], "counts " + " ".join(map(str, self.model.counts())))
@@ -547,7 +573,8 @@ class Calls:
         if "place_new" in self.weights:
             wide = self.chance.choice([256, 65536 + 1, 1 << 31, (1 << 32) - 1])
             sized += [["place_new", 0, wide, 1], ["place_new", 0, 1, 65536 * (1 + wide % 3)], ["place_num", 0, 1 << 63], ["place_num", 0, (1 << 64) - 1],
-                      ["place_put", beyond, 0, 0, 0], ["place_put", wide, 0, 0, 0]]
+                      ["place_put", beyond, 0, 0, 0], ["place_put", wide, 0, 0, 0], ["place_put_number", beyond, 0, 0, 0], ["place_put_number", 0, 0, 0, 1 << 63],
+                      ["place_put_number", 0, 0, 0, (1 << 64) - 1], ["place_put_nil", beyond, 0, 0], ["place_put_nil", wide, 0, 0]]
         if "root_load" not in self.weights or self.model.extra_roots == 0:
             return sized
         return sized + [["root_load", beyond, 0, 0], ["root_load", 0, slot, 0], ["root_store", beyond, 0, 0], ["root_store", 0, 0, slot]]

@@ -9,8 +9,8 @@ REPLIES = {gcflip.Full: "full", gcflip.NoObject: "no object", gcflip.NoField: "n
            gcflip.OutOfMemory: "no memory", gcflip.FrameFull: "frame full", gcflip.FrameEmpty: "frame empty"}
 # What the binding calls some of the calls.
 NAMES = {"root_load": "load", "root_store": "store"}
-PLACED = {"place_new": "new_root", "place_num": "set_number", "place_copy": "copy_root", "place_get": "get_root", "place_put": "put_root", "place_same": "is_same",
-          "place_look": "look_root"}
+PLACED = {"place_new": "new_root", "place_num": "set_number", "place_nil": "set_nil", "place_copy": "copy_root", "place_get": "get_root", "place_peek": "peek",
+          "place_put": "put_root", "place_put_number": "put_number_root", "place_put_nil": "put_nil_root", "place_same": "is_same", "place_look": "look_root"}
 DONE = {"new": "made", "raw": "made", "cons": "made", "num": "done", "nil": "done", "move": "done", "put": "done", "put_number": "done",
         "put_nil": "done", "copy_fields": "done", "root_load": "done", "root_store": "done", "refer": "done"}
 
@@ -58,7 +58,7 @@ def of_mutator(heap, name, numbers):
 def by_places(heap, name, numbers):
     """Makes a command on roots by their places."""
     call = getattr(heap, PLACED[name])
-    if name in ("place_get", "place_look"):
+    if name in ("place_get", "place_peek", "place_look"):
         return seen(call(*numbers))
     if name == "place_same":
         return "yes" if call(*numbers) else "no"
@@ -127,6 +127,10 @@ def performed(heap, name, numbers):
         return by_places(heap, name, numbers)
     if name.startswith("frame_"):
         return on_frame(heap, name, numbers)
+    if name == "object_at":
+        return seen(heap.object_at(*numbers))
+    if name == "room":
+        return "room %d" % heap.room()
     if name == "root_clear":
         heap.clear_roots(*numbers)
         return "done"

@@ -41,21 +41,53 @@ class CommandsByPlaces(unittest.TestCase):
         heap.put_root(1, last, 1, root)
         self.assertEqual((heap.log_length(0), heap.log_length(1)), (0, 1))
 
+    def test_values_without_roots(self):
+        heap, raw, root = self.heap, place(own(1), 1), extra_place(2, 2)
+        self.assertEqual(heap.room(), 15)
+        heap.new_root(root, 7, 2)
+        heap.mutator(1).raw(own(1), 255, 1)
+        self.assertEqual((heap.room(), heap.counts().free), (8, 8))
+        self.assertEqual((heap.peek(root, 0), heap.peek(raw, 0)), (None, 0))
+        self.assertEqual([heap.object_at(at) for at in (1, 5, 8, 0, 2 ** 32 - 1)], [Object(7, 2), Object(255, 1, True), None, None, None])
+        self.assertRaises(gcflip.OutOfRange, heap.object_at, 2 ** 32)
+        heap.put_root(0, root, 0, raw)
+        heap.put_number_root(0, root, 1, 2 ** 63 - 1)
+        heap.put_number_root(1, raw, 0, 6)
+        self.assertEqual((heap.peek(root, 0), heap.peek(root, 1), heap.peek(raw, 0)), (Object(255, 1, True), 2 ** 63 - 1, 6))
+        self.assertRaises(gcflip.NoNumber, heap.put_nil_root, 0, raw, 0)
+        before = heap.image().roots
+        heap.begin()
+        heap.put_nil_root(1, root, 1)
+        heap.put_number_root(0, root, 0, 5)
+        self.assertEqual((heap.peek(root, 0), heap.peek(root, 1), heap.log_length(0), heap.log_length(1)), (5, None, 1, 1))
+        self.assertEqual(heap.image().roots, before)
+        heap.set_nil(root)
+        self.assertEqual(heap.look_root(root), None)
+        heap.close()
+        self.assertEqual(heap.room(), 0)
+        self.assertRaises(gcflip.Closed, heap.object_at, 1)
+
     def test_refusals(self):
         heap = self.heap
         heap.new_root(0, 7, 1)
         for wrong in (51, 256, 65536, 2 ** 32 - 1, 2 ** 32, -1):
             for call in (lambda: heap.new_root(wrong, 7, 1), lambda: heap.set_number(wrong, 1), lambda: heap.copy_root(wrong, 0), lambda: heap.copy_root(1, wrong),
                          lambda: heap.get_root(wrong, 0, 0), lambda: heap.get_root(1, wrong, 0), lambda: heap.put_root(0, wrong, 0, 1), lambda: heap.put_root(0, 0, 0, wrong),
-                         lambda: heap.is_same(wrong, 0), lambda: heap.is_same(0, wrong), lambda: heap.look_root(wrong)):
+                         lambda: heap.is_same(wrong, 0), lambda: heap.is_same(0, wrong), lambda: heap.look_root(wrong), lambda: heap.set_nil(wrong), lambda: heap.peek(wrong, 0),
+                         lambda: heap.put_number_root(0, wrong, 0, 1), lambda: heap.put_nil_root(0, wrong, 0)):
                 self.assertRaises(gcflip.OutOfRange, call)
         for kind, length in ((256, 1), (2 ** 32 - 1, 1), (7, 65536), (7, 2 ** 32 - 1)):
             self.assertRaises(gcflip.OutOfRange, heap.new_root, 0, kind, length)
-        for call in (lambda: heap.put_root(2, 0, 0, 1), lambda: heap.put_root(256, 0, 0, 1), lambda: heap.set_number(0, 2 ** 63), lambda: heap.set_number(0, 2 ** 64)):
+        for call in (lambda: heap.put_root(2, 0, 0, 1), lambda: heap.put_root(256, 0, 0, 1), lambda: heap.set_number(0, 2 ** 63), lambda: heap.set_number(0, 2 ** 64),
+                     lambda: heap.put_number_root(2, 0, 0, 1), lambda: heap.put_number_root(0, 0, 0, 2 ** 63), lambda: heap.put_nil_root(256, 0, 0)):
             self.assertRaises(gcflip.OutOfRange, call)
         for field in (1, 65535, 65536, 2 ** 32 - 1):
             self.assertRaises(gcflip.NoField, heap.get_root, 1, 0, field)
             self.assertRaises(gcflip.NoField, heap.put_root, 0, 0, field, 1)
+            self.assertRaises(gcflip.NoField, heap.put_number_root, 0, 0, field, 1)
+            self.assertRaises(gcflip.NoField, heap.peek, 0, field)
+            self.assertRaises(gcflip.NoObject, heap.put_nil_root, 0, 1, field)
+            self.assertRaises(gcflip.NoObject, heap.peek, 1, field)
             self.assertRaises(gcflip.NoObject, heap.get_root, 1, 1, field)
             self.assertRaises(gcflip.NoObject, heap.put_root, 0, 1, field, 1)
         self.assertEqual((heap.look_root(0), heap.look_root(1), heap.look_root(50)), (Object(7, 1), None, None))

@@ -434,6 +434,10 @@ class Heap:
         """Puts a number below 2^63 into the root."""
         self._call_roots("set_number", root, number)
 
+    def set_nil(self, root: int) -> None:
+        """Puts nil into the root."""
+        self._call_roots("set_nil", root)
+
     def copy_root(self, root: int, source: int) -> None:
         """Copies the value of root `source` into the root."""
         self._call_roots("copy", root, source)
@@ -450,10 +454,25 @@ class Heap:
 
         return self._turn.take(found)
 
+    def peek(self, root: int, field: int) -> Value:
+        """Returns the value of a field of the object that the root refers to. No root takes it. Raises NoObject and NoField."""
+        view = library.View()
+        return _seen(self._call_roots("peek", root, field, view), view)
+
     def put_root(self, mutator: int, root: int, field: int, source: int) -> None:
         """Writes the value of root `source` into a field of the object that the root refers to. While a collection is open, this mutator's log takes the
         field, whoever's the roots are. Raises NoObject, NoField, NoNumber, and OutOfMemory while a collection is open."""
         self._call_roots("put", mutator, root, field, source)
+
+    def put_number_root(self, mutator: int, root: int, field: int, number: int) -> None:
+        """Writes a number below 2^63 into a field of the object that the root refers to, as `put_root` writes a value. No root changes. Raises NoObject,
+        NoField, and OutOfMemory while a collection is open."""
+        self._call_roots("put_number", mutator, root, field, number)
+
+    def put_nil_root(self, mutator: int, root: int, field: int) -> None:
+        """Writes nil into a field of the object that the root refers to, as `put_root` writes a value. No root changes. Raises NoObject, NoField, NoNumber if
+        the object is raw, and OutOfMemory while a collection is open."""
+        self._call_roots("put_nil", mutator, root, field)
 
     def is_same(self, first: int, second: int) -> bool:
         """Returns whether both roots hold nil, equal numbers, or references to one object."""
@@ -470,6 +489,10 @@ class Heap:
         """Reads how full the heap is, and how far an open collection has come."""
         counts = self._turn.take(self._counts)
         return Counts(**{name: getattr(counts, name) for name in COUNTS})._replace(is_open=bool(counts.is_open))
+
+    def room(self) -> int:
+        """Returns the number of free words, which is 0 after the heap was closed. An object takes as many as it has fields, and 2 more."""
+        return int(self._turn.take(lambda: LIBRARY.gcflip_room(self._handle)))
 
     def log_length(self, mutator: int) -> int:
         """Reads the length of a mutator's log, which is 0 while no collection is open."""
@@ -511,6 +534,13 @@ class Heap:
         address = ctypes.c_uint32()
         self._call("moved", old, address)
         return address.value
+
+    def object_at(self, address: int) -> Object | None:
+        """Returns the object that starts at this address, or None if none does. Any number below 2^32 may be given. A walk over the heap begins at 1, and goes
+        on at address + length + 2, up to the end of the heap. It also meets objects that no root reaches."""
+        view = library.View()
+        found = _seen(self._call_roots("object_at", address, view), view)
+        return found if isinstance(found, Object) else None
 
     def _counts(self) -> library.Counts:
         """Reads the counts. The caller has the turn, so they stay true until it ends."""

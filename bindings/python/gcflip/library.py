@@ -202,15 +202,21 @@ HEAP: Dict[str, List[Any]] = {
     "moved": [c_uint32, POINTER(c_uint32)],
     "refer": [MUTATOR, SLOT, c_uint32],
 }
-# The commands on roots by their places, which take a handle first, too. Their names have no `heap_`.
+# The commands on roots by their places, and calls that read, which take a handle first, too. Their names have no `heap_`.
 ROOTS: Dict[str, List[Any]] = {
     "new": [PLACE, c_uint32, c_uint32],
     "set_number": [PLACE, c_uint64],
+    "set_nil": [PLACE],
     "copy": [PLACE, PLACE],
     "get": [PLACE, PLACE, c_uint32, POINTER(c_uint64)],
+    "peek": [PLACE, c_uint32, POINTER(View)],
     "put": [c_uint32, PLACE, c_uint32, PLACE],
+    "put_number": [c_uint32, PLACE, c_uint32, c_uint64],
+    "put_nil": [c_uint32, PLACE, c_uint32],
     "same": [PLACE, PLACE],
     "look": [PLACE, POINTER(View)],
+    "object_at": [c_uint32, POINTER(View)],
+    "room": [],
 }
 
 

@@ -19,6 +19,7 @@ mod raws;
 mod reading;
 mod referring;
 mod reply;
+mod room;
 mod slots;
 mod stepping;
 mod work;
@@ -41,15 +42,17 @@ pub use moved::gcflip_heap_moved;
 pub use opening::{GcflipOptions, gcflip_heap_close, gcflip_heap_open};
 pub use pace::{gcflip_heap_pace, gcflip_heap_work_paced, gcflip_pace_due};
 pub use places::{
-    gcflip_copy, gcflip_get, gcflip_look, gcflip_new, gcflip_put, gcflip_same, gcflip_set_number,
+    gcflip_copy, gcflip_get, gcflip_look, gcflip_new, gcflip_peek, gcflip_put, gcflip_put_nil,
+    gcflip_put_number, gcflip_same, gcflip_set_nil, gcflip_set_number,
 };
 pub use raws::{gcflip_heap_address, gcflip_heap_raw_read, gcflip_heap_raw_write};
 pub use reading::{
     GcflipLogEntry, gcflip_heap_counts, gcflip_heap_image, gcflip_heap_log_entry,
     gcflip_heap_log_length, gcflip_heap_new_words,
 };
-pub use referring::gcflip_heap_refer;
+pub use referring::{gcflip_heap_refer, gcflip_object_at};
 pub use reply::GcflipView;
+pub use room::gcflip_room;
 pub use stepping::{
     GcflipStep, gcflip_heap_step_apply, gcflip_heap_step_begin, gcflip_heap_step_begin_sized,
     gcflip_heap_step_flip, gcflip_heap_step_give_up, gcflip_heap_step_roots, gcflip_heap_step_scan,

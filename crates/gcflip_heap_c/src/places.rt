@@ -1,12 +1,15 @@
 //! The exports that perform commands on any root, which they name by its place in the list of roots: first the shared slots, then each mutator's own, then
 //! the extra roots.
 
-ghost use Rattle.std.specs.Prelude.{◌≡◌, ◌≢◌, ◌<◌, ◌^◌, ◌∷◌, [], IsSomeAnd, IsSome};
+ghost use Rattle.std.specs.Prelude.{◌≡◌, ◌≢◌, ◌<◌, ◌≤◌, ◌^◌, ◌∷◌, [], IsSomeAnd, IsSome};
 ghost use Rattle.gc_check.specs.InC.{no_memory, IsRefusal};
+ghost use Rattle.gc_graph.specs.Graph.{Nil, Num};
 ghost use Rattle.gc_graph.specs.Limits.{kinds, lengths};
 ghost use Rattle.gc_graph.specs.declared.command.Op.{Op};
 ghost use Rattle.gc_heap.specs.Places.{root_at};
 ghost use Rattle.gc_plan.specs.Steps.{mutate};
+ghost use Rattle.gc_collected.specs.Values.{put_value_step};
+ghost use Rattle.gc_collected.specs.Viewing.{get_reply};
 ghost use Rattle.gcflip_heap_c.specs.Commands.{IsCall, IsCommandCall, Replies};
 ghost use Rattle.gcflip_heap_c.specs.Places.{HasRoots};
 ghost use Rattle.gcflip_heap_c.specs.Replies.{reply_in_c, got_in_c, number_after, view_after};
@@ -15,6 +18,7 @@ use crate::answer::OUT_OF_RANGE;
 use crate::guards::lent;
 use crate::handle::GcflipHeap;
 use crate::reply::{GcflipView, of_fetched, of_look, of_reply, of_result};
+use gc_collected::Plain;
 use gc_graph::Number;
 
 /// Makes an object of this kind with `count` fields, all nil, and puts a reference to it into root `d`.
@@ -48,6 +52,21 @@ pub extern "C" fn gcflip_set_number(heap: &mut GcflipHeap, d: u32, n: u64) -> u3
         return OUT_OF_RANGE;
     };
     of_reply(&heap.num_root(d, number))
+}
+
+/// Puts nil into root `d`. The heap needs a mutator, as each has that was opened.
+#[unsafe(no_mangle)]
+pub extern "C" fn gcflip_set_nil(heap: &mut GcflipHeap, d: u32) -> u32
+    ensures call { IsCommandCall (λ state. HasRoots (d ∷ []) state × (1 ≤ state.mutators))
+        (λ state. mutate state 0 (Op.Nil (root_at d))) heap.old.state heap.new.state result }
+    ensures memory { result ≢ no_memory }
+    ensures beside { heap.new.beside ≡ heap.old.beside }
+{
+    let heap = lent!(heap);
+    if d as usize >= heap.root_places() || heap.mutators() == 0 {
+        return OUT_OF_RANGE;
+    }
+    of_reply(&heap.nil_root(d))
 }
 
 /// Copies the value of root `s` into root `d`.
@@ -101,6 +120,40 @@ pub extern "C" fn gcflip_put(heap: &mut GcflipHeap, m: u32, s: u32, i: u32, t: u
     of_result(heap.put_root(m as u8, s, i, t))
 }
 
+/// Writes the number `n`, which must be below 2^63, to field `i` of the object that root `s` refers to. No root changes. While a collection is open, the
+/// field is logged in mutator `m`'s log. Allocates only then.
+#[unsafe(no_mangle)]
+pub extern "C" fn gcflip_put_number(heap: &mut GcflipHeap, m: u32, s: u32, i: u32, n: u64) -> u32
+    ensures call { IsCommandCall (λ state. (m < state.mutators) × HasRoots (s ∷ []) state × (n < 2 ^ 63))
+        (λ state. put_value_step state m s i (Num n)) heap.old.state heap.new.state result }
+    ensures memory { result ≡ no_memory → IsSomeAnd heap.old.state (λ s. IsSome s.collection) }
+    ensures beside { heap.new.beside ≡ heap.old.beside }
+{
+    let heap = lent!(heap);
+    if m >= u32::from(heap.mutators()) || s as usize >= heap.root_places() {
+        return OUT_OF_RANGE;
+    }
+    let Some(number) = Number::new(n) else {
+        return OUT_OF_RANGE;
+    };
+    of_result(heap.put_plain(m as u8, s, i, Plain::Number(number)))
+}
+
+/// Writes nil to field `i` of the object that root `s` refers to, as `gcflip_put_number` writes a number.
+#[unsafe(no_mangle)]
+pub extern "C" fn gcflip_put_nil(heap: &mut GcflipHeap, m: u32, s: u32, i: u32) -> u32
+    ensures call { IsCommandCall (λ state. (m < state.mutators) × HasRoots (s ∷ []) state)
+        (λ state. put_value_step state m s i Nil) heap.old.state heap.new.state result }
+    ensures memory { result ≡ no_memory → IsSomeAnd heap.old.state (λ s. IsSome s.collection) }
+    ensures beside { heap.new.beside ≡ heap.old.beside }
+{
+    let heap = lent!(heap);
+    if m >= u32::from(heap.mutators()) || s as usize >= heap.root_places() {
+        return OUT_OF_RANGE;
+    }
+    of_result(heap.put_plain(m as u8, s, i, Plain::Nil))
+}
+
 /// Compares the values of two roots.
 #[unsafe(no_mangle)]
 pub extern "C" fn gcflip_same(heap: &mut GcflipHeap, s: u32, t: u32) -> u32
@@ -131,4 +184,20 @@ pub extern "C" fn gcflip_look(heap: &mut GcflipHeap, s: u32, view: &mut GcflipVi
         return OUT_OF_RANGE;
     }
     of_look(&heap.look_root(s), view)
+}
+
+/// Reads field `i` of the object that root `s` refers to, as `gcflip_get` does, but into no root. Writes what it saw to `view`.
+#[unsafe(no_mangle)]
+pub extern "C" fn gcflip_peek(heap: &mut GcflipHeap, s: u32, i: u32, view: &mut GcflipView) -> u32
+    ensures call { IsCall (HasRoots (s ∷ [])) (λ old new. (new ≡ old) × (result ≡ reply_in_c (get_reply old s i))
+        × (view.new ≡ view_after view.old (get_reply old s i))) heap.old.state heap.new.state result }
+    ensures silent { IsRefusal result → view.new ≡ view.old }
+    ensures memory { result ≢ no_memory }
+    ensures beside { heap.new.beside ≡ heap.old.beside }
+{
+    let heap = lent!(heap);
+    if s as usize >= heap.root_places() {
+        return OUT_OF_RANGE;
+    }
+    of_look(&heap.peek_root(s, i), view)
 }

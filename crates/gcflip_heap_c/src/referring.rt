@@ -1,14 +1,17 @@
-//! The export that makes a reference of an address, for a table of weak references.
+//! The exports that take any address: one makes a reference of it, for a table of weak references, and one tells the object there, for a walk over the heap.
 
-ghost use Rattle.std.specs.Prelude.{◌≡◌, ◌≢◌, ◌∷◌, []};
-ghost use Rattle.gc_check.specs.InC.{no_memory};
+ghost use Rattle.std.specs.Prelude.{◌≡◌, ◌≢◌, ◌∷◌, [], ⊤};
+ghost use Rattle.gc_check.specs.InC.{no_memory, IsRefusal};
 ghost use Rattle.gc_collected.specs.Referring.{refer_step};
-ghost use Rattle.gcflip_heap_c.specs.Commands.{IsCommandCall};
+ghost use Rattle.gc_collected.specs.Viewing.{view_at};
+ghost use Rattle.gcflip_heap_c.specs.Commands.{IsCall, IsCommandCall};
+ghost use Rattle.gcflip_heap_c.specs.Replies.{seen_in_c, view_in_c};
 ghost use Rattle.gcflip_heap_c.specs.Slots.{NamesSlots, numbered_slot};
 
-use crate::guards::{lent_to, slot_named};
+use crate::guards::{lent, lent_to, slot_named};
 use crate::handle::GcflipHeap;
-use crate::reply::of_reply;
+use crate::reply::{GcflipView, of_look, of_reply};
+use gc_graph::Reply;
 use gc_words::OldAddr;
 
 /// Puts a reference to the object that starts at this address into slot `d`. Returns 18 if no object starts there; the slot then keeps its
@@ -23,4 +26,22 @@ pub extern "C" fn gcflip_heap_refer(heap: &mut GcflipHeap, m: u8, d: u8, address
     let heap = lent_to!(heap, m);
     let d = slot_named!(d);
     of_reply(&heap.refer(m, d, OldAddr(address)))
+}
+
+/// Tells what a look at a reference to this address would see, and writes it to `view`: nil if no object starts there. Takes constant time where the
+/// standing checker goes along, and else walks over the objects before the address.
+#[unsafe(no_mangle)]
+pub extern "C" fn gcflip_object_at(
+    heap: &mut GcflipHeap,
+    address: u32,
+    view: &mut GcflipView,
+) -> u32
+    ensures call { IsCall (λ _. ⊤) (λ old new. (new ≡ old) × (result ≡ seen_in_c (view_at old address)) × (view.new ≡ view_in_c (view_at old address)))
+        heap.old.state heap.new.state result }
+    ensures silent { IsRefusal result → view.new ≡ view.old }
+    ensures memory { result ≢ no_memory }
+    ensures beside { heap.new.beside ≡ heap.old.beside }
+{
+    let heap = lent!(heap);
+    of_look(&Reply::Saw(heap.view_at(OldAddr(address))), view)
 }

@@ -61,6 +61,15 @@ impl Heap {
         replied(self.handle.num_root(root.0, number)).map(drop)
     }
 
+    /// Puts nil into the root.
+    ///
+    /// # Errors
+    ///
+    /// Returns `OutOfRange` if there is no such root.
+    pub fn set_nil(&self, root: Place) -> Result<()> {
+        replied(self.handle.nil_root(root.0)).map(drop)
+    }
+
     /// Copies the value of root `source` into the root.
     ///
     /// # Errors
@@ -85,6 +94,16 @@ impl Heap {
         }
     }
 
+    /// Returns the value of a field of the object that the root refers to. No root takes it.
+    ///
+    /// # Errors
+    ///
+    /// Returns `NoObject`, `NoField`, or `OutOfRange` if there is no such root.
+    pub fn peek(&self, root: Place, field: u32) -> Result<Value> {
+        let (answer, view) = self.handle.peek_root(root.0, field);
+        Ok(value_of(replied(answer)?, &view))
+    }
+
     /// Writes the value of root `source` into a field of the object that the root refers to. While a collection is open, this is logged in this
     /// mutator's log, whoever's the roots are.
     ///
@@ -93,6 +112,26 @@ impl Heap {
     /// Returns `NoObject`, `NoField`, `NoNumber`, or `OutOfRange` if there is no such root or mutator; or, while a collection is open, `NoMemory`.
     pub fn put_root(&self, mutator: u8, root: Place, field: u32, source: Place) -> Result<()> {
         replied(self.handle.put_root(mutator.into(), root.0, field, source.0)).map(drop)
+    }
+
+    /// Writes a number below 2^63 into a field of the object that the root refers to, as `put_root` writes a value. No root changes.
+    ///
+    /// # Errors
+    ///
+    /// Returns `NoObject`, `NoField`, or `OutOfRange` if the number is larger, or if there is no such root or mutator; or, while a collection is open,
+    /// `NoMemory`.
+    pub fn put_number_root(&self, mutator: u8, root: Place, field: u32, number: u64) -> Result<()> {
+        replied(self.handle.put_number_root(mutator.into(), root.0, field, number)).map(drop)
+    }
+
+    /// Writes nil into a field of the object that the root refers to, as `put_root` writes a value. No root changes.
+    ///
+    /// # Errors
+    ///
+    /// Returns `NoObject`, `NoField`, `NoNumber` if the object is raw, or `OutOfRange` if there is no such root or mutator; or, while a collection is open,
+    /// `NoMemory`.
+    pub fn put_nil_root(&self, mutator: u8, root: Place, field: u32) -> Result<()> {
+        replied(self.handle.put_nil_root(mutator.into(), root.0, field)).map(drop)
     }
 
     /// Returns whether both roots hold nil, equal numbers, or references to one object.
