@@ -30,7 +30,7 @@ BY_FROM, BY_ARM, BY_HAND = "From", "arm", "by hand"
 # Numbers that calls of the libraries for C return if they did nothing.
 NAMED_ANSWERS = ("NO_MEMORY", "OUT_OF_RANGE", "CLOSED", "OPEN", "TOO_LARGE", "BAD_LINE", "ENDS_EARLY")
 # Functions of these libraries whose contract says which number they return. None of them returns that of a fault.
-EXACT = ("of_reply", "of_step", "seen")
+EXACT = ("of_reply", "of_step", "seen", "gcflip_room")
 # Crates of tests alone.
 TESTS = ("gc_test_kit", "gc_tests", "gc_concurrent_tests", "gc_shared_tests", "gc_trace_tests", "allocation_failures")
 

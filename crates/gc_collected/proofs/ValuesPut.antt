@@ -25,7 +25,7 @@ use Rattle.gc_plan.specs.Steps.{WritesField, logged, mutate, written}
 use Rattle.gc_copy.specs.Twins.{IsTwin}
 use Rattle.gc_copy.specs.Words.{state_of}
 use Rattle.gc_roots.specs.Twins.{twin_at}
-use Rattle.gc_collected.specs.Values.{plain_value, put_value_step, with_roots}
+use Rattle.gc_collected.specs.Values.{value_of_plain, put_value_step, with_roots}
 use Rattle.gc_collected.specs.declared.values.Plain.{Plain}
 use Rattle.gc_collected.specs.declared.values.Plain.TheVariants as plains
 use Rattle.gc_collected.specs.declared.known.KnownRoots.{KnownRoots}
@@ -163,7 +163,7 @@ value_known known s m p i v k =
 
 -- ---- a slot takes nil or a number
 
-pub plain_taken : (h new : HeapWords) (o : Option Collection) (m : ℕ) (d : SlotName) (plain : Plain) (reply : Reply) → Performs h m (sets d plain) reply new → state_of new o ≡ with_value (state_of h o) (place d m) (plain_value plain)
+pub plain_taken : (h new : HeapWords) (o : Option Collection) (m : ℕ) (d : SlotName) (plain : Plain) (reply : Reply) → Performs h m (sets d plain) reply new → state_of new o ≡ with_value (state_of h o) (place d m) (value_of_plain plain)
 plain_taken h new o m d plains.Nil reply p = grind (arith, common_steps, in_place)
 plain_taken h new o m d (plains.Number n) reply p = grind (arith, common_steps, in_place)
 

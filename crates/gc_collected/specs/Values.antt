@@ -10,9 +10,9 @@ use Rattle.gc_plan.specs.Steps.{mutate}
 use Rattle.gc_collected.specs.declared.values.Plain.{Plain}
 use Rattle.gc_collected.specs.declared.values.Plain.TheVariants.{Nil, Number}
 
-abbrev pub plain_value : Plain → Value
-plain_value Nil = graphs.Nil
-plain_value (Number n) = graphs.Num n
+abbrev pub value_of_plain : Plain → Value
+value_of_plain Nil = graphs.Nil
+value_of_plain (Number n) = graphs.Num n
 
 -- the same state with these roots
 abbrev pub with_roots : State → List Value → State

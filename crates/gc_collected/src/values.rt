@@ -11,7 +11,7 @@ ghost use Rattle.gc_heap.specs.Heap.{IsHeap};
 ghost use Rattle.gc_heap.specs.Places.{root_at};
 ghost use Rattle.gc_copy.specs.Words.{CollectionWords};
 ghost use Rattle.gc_plan.specs.Steps.{mutate};
-ghost use Rattle.gc_collected.specs.Values.{plain_value, put_value_step};
+ghost use Rattle.gc_collected.specs.Values.{value_of_plain, put_value_step};
 ghost use Rattle.gc_collected.specs.Internal.CollectedHeap.{BelongsIfOpen, Fits, HasSpare, state_in};
 ghost use Rattle.gc_collected.specs.Internal.Follows.{Follows};
 ghost use Rattle.gc_collected.specs.Internal.Values.{sets, with_value};
@@ -60,7 +60,7 @@ impl CollectedHeap {
     pub fn put_plain(&mut self, m: u8, s: u32, i: u32, value: Plain) -> Result<Reply, NoMemory>
         requires mutator { m < self.old.core.mutators }
         requires target { s < length self.old.core.heap.graph.roots }
-        ensures step { IfOk result (λ reply. put_value_step self.old.core m s i (plain_value value) ≡ (reply, self.new.core)) }
+        ensures step { IfOk result (λ reply. put_value_step self.old.core m s i (value_of_plain value) ≡ (reply, self.new.core)) }
         ensures refused { OnErr result (self.new ≡ self.old) }
         ensures open { OnErr result (IsSome self.old.core.collection) }
         ensures mutators { self.new.core.mutators ≡ self.old.core.mutators }
@@ -126,7 +126,7 @@ fn put_plain_in(
     requires mutator { m < heap.old.mutators }
     requires target { s < length heap.old.roots }
     requires room { HasSpare collection.old m 1 }
-    ensures step { put_value_step (state_in heap.old collection.old) m s i (plain_value value) ≡ (result, state_in heap.new collection.new) }
+    ensures step { put_value_step (state_in heap.old collection.old) m s i (value_of_plain value) ≡ (result, state_in heap.new collection.new) }
     ensures fits { (epoch : ℕ) → Fits epoch heap.old collection.old → Fits epoch heap.new collection.new }
     ensures mutators { heap.new.mutators ≡ heap.old.mutators }
     ensures follows { Follows (state_in heap.old collection.old) watch.old → Follows (state_in heap.new collection.new) watch.new }

@@ -14,7 +14,7 @@ use Rattle.gc_heap.specs.Places.{root_at}
 use Rattle.gc_heap.proofs.Public.{at_root, root_word}
 use Rattle.gc_plan.specs.Steps.{mutate}
 use Rattle.gc_copy.specs.Words.{collection_in}
-use Rattle.gc_collected.specs.Values.{plain_value}
+use Rattle.gc_collected.specs.Values.{value_of_plain}
 use Rattle.gc_collected.specs.Internal.CollectedHeap.{state_in}
 use Rattle.gc_collected.specs.Internal.Values.{sets, with_value}
 use Rattle.gc_collected.proofs.Followed.{quiet}
@@ -68,9 +68,9 @@ returns-clause-step c =
     let two = state_in c.put_root_in-reply.new.heap c.put_root_in-reply.new.collection in
     let counted : length (graph_in heap).roots ≡ length heap.roots = length-map heap.roots value_of in
     let is : value_of (slice_index_or c.roots.result.now c.from.result 0) ≡ root (graph_in heap) p = sym (at_root heap p (slice_index_or c.roots.result.now c.from.result 0) (held before)) in
-    put_through s (state_in c.set_plain-set.new.heap o) two (state_in c.restore.new.heap c.put_root_in-reply.new.collection) c.args.m c.args.s p c.args.i (plain_value c.args.value) c.put_root_in-reply.result c.slot_beside-slot.ensures.apart
+    put_through s (state_in c.set_plain-set.new.heap o) two (state_in c.restore.new.heap c.put_root_in-reply.new.collection) c.args.m c.args.s p c.args.i (value_of_plain c.args.value) c.put_root_in-reply.result c.slot_beside-slot.ensures.apart
     (omega (arith, counted, c.requires.target)) (omega (arith, counted, within before))
-    (plain_taken heap c.set_plain-set.new.heap (option_map collection_in o) c.args.m c.slot_beside-slot.result c.args.value c.set_plain-set.result c.set_plain-set.ensures.performs ∙ ap (λ q. with_value s q (plain_value c.args.value)) (at before))
+    (plain_taken heap c.set_plain-set.new.heap (option_map collection_in o) c.args.m c.slot_beside-slot.result c.args.value c.set_plain-set.result c.set_plain-set.ensures.performs ∙ ap (λ q. with_value s q (value_of_plain c.args.value)) (at before))
     (puts (goal.at.returns-clause-step c).After-put_root_in-reply)
     (c.restore.ensures.state c.put_root_in-reply.new.collection ∙ (λ k. with_value two (at before k) (is k)))
 

@@ -2,7 +2,7 @@
 use Rattle.std.proofs.Common.{◌≡◌, ap, ◌∙◌, sym, subst}
 use Rattle.gc_graph.specs.declared.reply.Reply.{Reply}
 use Rattle.gc_plan.specs.State.{State}
-use Rattle.gc_collected.specs.Values.{plain_value, put_value_step}
+use Rattle.gc_collected.specs.Values.{value_of_plain, put_value_step}
 use Rattle.gc_collected.specs.Internal.CollectedHeap.{state_in}
 use Rattle.gc_collected.specs.Internal.KnownRoots.{KnowsRoots}
 use Rattle.gc_collected.proofs.Core.{core_is}
@@ -24,7 +24,7 @@ invariant_of-self-2 c =
     let k = still_known c.self.inside.epoch c.self.inside.known c.self.inside.heap c.self.inside.collection c.reserve_in.new.collection c.self.inside.watch c.self.inside.along c.reserve_in.ensures.same c.reserve_in.ensures.fits c.self.invariant in (
       (
         put.ensures.fits c.self.inside.epoch (k.0).0,
-        subst (KnowsRoots c.self.inside.known) (ap (λ (x : Reply × State). x.1) put.ensures.step) (value_known c.self.inside.known s c.args.m c.args.s c.field_number.result (plain_value c.args.value) (k.0).1),
+        subst (KnowsRoots c.self.inside.known) (ap (λ (x : Reply × State). x.1) put.ensures.step) (value_known c.self.inside.known s c.args.m c.args.s c.field_number.result (value_of_plain c.args.value) (k.0).1),
         (k.0).2,
       ),
       λ on. put.ensures.follows (k.1 on),
@@ -34,5 +34,5 @@ pub returns-clause-step : goal.returns-clause-step
 returns-clause-step c =
     let view = same_state c.self.inside.heap c.self.inside.collection c.reserve_in.new.collection c.args.self.now.core c.reserve_in.ensures.same (core_is c.self.view_is) in
     let number = c.field_number in
-    sym (value_numbered c.args.self.now.core c.args.m c.args.s c.args.i number.result (plain_value c.args.value) c.is_sound.ensures.heap number.ensures.small number.ensures.large)
-    ∙ subst (λ (s : State). put_value_step s c.args.m c.args.s number.result (plain_value c.args.value) ≡ (c.put_plain_in.result, state_in c.put_plain_in.new.heap c.put_plain_in.new.collection)) view c.put_plain_in.ensures.step
+    sym (value_numbered c.args.self.now.core c.args.m c.args.s c.args.i number.result (value_of_plain c.args.value) c.is_sound.ensures.heap number.ensures.small number.ensures.large)
+    ∙ subst (λ (s : State). put_value_step s c.args.m c.args.s number.result (value_of_plain c.args.value) ≡ (c.put_plain_in.result, state_in c.put_plain_in.new.heap c.put_plain_in.new.collection)) view c.put_plain_in.ensures.step
