@@ -3,12 +3,13 @@
 A symbol in the list stays, with its type, as docs/EMBEDDING.md says under 'Compatibility'.
 
 It tests bindings/c/symbols.txt, the list of what programs may link: compared with the headers, by C99, C11 and C++11 with their types, and with the
-symbols of the archive and of the shared library, both ways; all headers in one file; the numbers that calls return; the places that say the version;
-the dates of CHANGELOG.
+symbols of the archive and of the shared library, both ways; all headers in one file; the numbers that calls return, with their classes in C and
+Python; the places that say the version; the dates of CHANGELOG.
 """
 import os
 import re
 import shutil
+import sys
 
 from .c_builds import TOP, WARNINGS, done, library
 from .harness import file_of, skip
@@ -118,14 +119,70 @@ def versions(_program, _folder):
     yield "the sections of CHANGELOG.md have dates, newest first", None if dates and dated and dates == sorted(set(dates), reverse=True) else "they have %s" % dates
 
 
+def listed_answers():
+    """Returns the text of the enum that lists the answers."""
+    return read("bindings", "c", "gcflip_answers.h").partition("enum gcflip_answer {")[2].partition("};")[0]
+
+
 def answers(_program, _folder):
     """Compares the numbers that calls return, which gcflip_answers.h lists, with the rows of tests/c/answers.c and with Python's."""
-    listed_in_c = read("bindings", "c", "gcflip_answers.h").partition("enum gcflip_answer {")[2].partition("};")[0]
-    numbers = re.findall(r"(?m)^    GCFLIP_(\w+ = \d+)", listed_in_c)
+    numbers = re.findall(r"(?m)^    GCFLIP_(\w+ = \d+)", listed_answers())
     rows = re.findall(r"(?m)^    \{GCFLIP_(\w+), (\d+), ", read("tests", "c", "answers.c"))
     yield "answers that tests/c/answers.c names", why_not_equal(["%s = %s" % row for row in rows] + ["YES = 0"], numbers)
     python = read("bindings", "python", "gcflip", "library.py").partition("class Answer(enum.IntEnum):")[2].partition("\n\n\n")[0]
     yield "answers of Python", why_not_equal(re.findall(r"(?m)^    (\w+ = \d+)$", python), numbers)
 
 
-GROUPS = [symbols, types, answers, versions]
+# Files of definitions by which contracts name answers, and the answers of gcflip_images.h, which has no contracts.
+DEFINITIONS = [("gc_check", "InC"), ("gcflip_c", "Answers"), ("gcflip_heap_c", "Answers"), ("gcflip_heap_c", "Replies")]
+WITHOUT_CONTRACTS = {"FAULTY", "NOT_BEGUN"}
+IN_DEFINITION = re.compile(r"(?m)^(?:\w+|(?:seen|reply|step_reply)_in_c .*) = (\d+)$")
+# Prints the class of each number that has room in the enum, and more.
+CLASSES_IN_C = b"""#include "gcflip_answers.h"
+#include <stdio.h>
+int main(void)
+{
+    for (uint32_t answer = 0; answer < 64; answer++)
+        printf("%u\\n", gcflip_class_of(answer));
+    return 0;
+}
+"""
+# Prints the names of each exception and of its bases.
+CLASSES_IN_PYTHON = """import gcflip.errors as errors
+for kind in vars(errors).values():
+    if isinstance(kind, type) and issubclass(kind, errors.GcflipError):
+        print(*[base.__name__ for base in kind.__mro__])
+"""
+CLASSES = ("Ok", "Lack", "Mismatch", "Misuse")
+# Exceptions with another name than their answer, and the one that stands for none: a call within a call.
+ANSWER_OF = {"OutOfMemory": "NO_MEMORY", "TooManyPairs": "TOO_MANY", "TextTooLarge": "TOO_LARGE", "Reentered": None}
+# What the exceptions have beyond their answers: the bases of several.
+BASES = {"GcflipError", "Lack", "Mismatch", "Misuse", "HeapRefused", "BadText"}
+
+
+def answer_of(exception):
+    """Returns the name of the answer that an exception stands for, or None."""
+    return ANSWER_OF[exception] if exception in ANSWER_OF else re.sub(r"(?<!^)([A-Z])", r"_\1", exception).upper()
+
+
+def classes(_program, folder):
+    """Compares the answers with those that contracts name, and their classes in C with the bases of Python's exceptions."""
+    numbers = {name: int(number) for name, number in re.findall(r"(?m)^    GCFLIP_(\w+) = (\d+)", listed_answers())}
+    proved = {number for crate, file in DEFINITIONS for number in IN_DEFINITION.findall(read("crates", crate, "specs", file + ".antt"))}
+    told = {str(number) for name, number in numbers.items() if name not in WITHOUT_CONTRACTS}
+    yield "the header lists the answers of the contracts", why_not_equal(told, proved)
+    program = os.path.join(folder, "classes")
+    built = done(["gcc", *WARNINGS, "-I" + os.path.join(BINDINGS, "c"), "-o", program, file_of(folder, "classes.c", CLASSES_IN_C)])
+    yield "the classes are compiled", None if built.status == 0 else built.stderr.decode()
+    in_c = [CLASSES[int(line)] for line in done([program]).stdout.split()]
+    yield "a number without an answer is misuse", None if {in_c[number] for number in range(64) if number not in numbers.values()} == {"Misuse"} else "it is not"
+    printed = done([sys.executable, "-c", CLASSES_IN_PYTHON], env=dict(os.environ, PYTHONPATH=os.path.join(BINDINGS, "python"), PYTHONDONTWRITEBYTECODE="1"))
+    exceptions = {line.split()[0]: set(line.split()) for line in printed.stdout.decode().splitlines()}
+    for name in sorted(set(exceptions) - BASES):
+        wanted = "Misuse" if answer_of(name) is None else in_c[numbers[answer_of(name)]]
+        yield "the class of %s in Python" % name, why_not_equal(exceptions[name] & set(CLASSES), {wanted})
+    never_raised = {name for name, number in numbers.items() if in_c[number] != "Ok"} - {answer_of(name) for name in exceptions}
+    yield "answers without an exception", why_not_equal(never_raised, {"OPEN", "NO_ROOM", "NOT_BEGUN", "LONG_PATH"})
+
+
+GROUPS = [symbols, types, answers, classes, versions]

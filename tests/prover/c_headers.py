@@ -65,7 +65,7 @@ def functions_of(header):
 
 def answers():
     """Returns the names of the answers of C, without GCFLIP_, in the order of their numbers. 0 has two names."""
-    return [name for name, _ in ANSWER.findall(text_of("gcflip_answers.h"))]
+    return [name for name, _ in ANSWER.findall(text_of("gcflip_answers.h").partition("enum gcflip_answer {")[2].partition("};")[0])]
 
 
 def symbols():

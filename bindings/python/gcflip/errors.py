@@ -8,23 +8,41 @@ class GcflipError(Exception):
     """The base of all exceptions of the package."""
 
 
-class OutOfMemory(GcflipError, MemoryError):
+# ---- Classes, which are those of gcflip_class_of in C. Each exception has one of them.
+
+
+class Lack(GcflipError):
+    """Something has no room left: memory, the heap, a frame, or an array. The program can make room, and call again."""
+
+
+class Mismatch(GcflipError):
+    """A value, a text, a copy, or the state of a collection is not what the call needs. The program can go on without it."""
+
+
+class Misuse(GcflipError):
+    """The program has a mistake, or its memory was written over."""
+
+
+# ---- Of all calls
+
+
+class OutOfMemory(Lack, MemoryError):
     """An allocation failed. The call can be retried."""
 
 
-class OutOfRange(GcflipError, ValueError):
+class OutOfRange(Misuse, ValueError):
     """An argument is out of its range."""
 
 
-class Closed(GcflipError, ValueError):
+class Closed(Misuse, ValueError):
     """The heap is closed."""
 
 
-class Damaged(GcflipError):
+class Damaged(Misuse):
     """The heap's words are not those of a heap. It is proved that this does not happen, unless other code writes into the heap's memory."""
 
 
-class Reentered(GcflipError, RuntimeError):
+class Reentered(Misuse, RuntimeError):
     """This thread is in a call on the heap already: a signal handler or a finaliser called the heap from within that call."""
 
 
@@ -56,7 +74,7 @@ class Refusal(enum.IntEnum):
     """Root `place` does not correspond."""
 
 
-class Refused(GcflipError):
+class Refused(Mismatch):
     """The checker refused the certificate. Its text is the line that `gcflip check` prints."""
 
     def __init__(self, refusal: Refusal, place: int, field: int) -> None:
@@ -73,15 +91,15 @@ class Refused(GcflipError):
         return "refused %d %s%s" % (self.refusal, self.refusal.name, places.get(self.refusal, " %d" % self.place))
 
 
-class TooManyPairs(GcflipError, ValueError):
+class TooManyPairs(Lack, ValueError):
     """The certificate has 2^32 pairs or more."""
 
 
-class Faulty(GcflipError):
+class Faulty(Mismatch):
     """A snapshot has a fault, so there is no verdict. Its text is the first line of the explanation."""
 
 
-class BadText(GcflipError, ValueError):
+class BadText(Mismatch, ValueError):
     """The text is not a pair text. The exception's text is the line that `gcflip check` prints."""
 
 
@@ -111,11 +129,11 @@ class TextTooLarge(BadText):
 # ---- Of the heap
 
 
-class FrameFull(GcflipError):
+class FrameFull(Lack):
     """The frame has no root left."""
 
 
-class FrameEmpty(GcflipError):
+class FrameEmpty(Mismatch):
     """The frame holds no value."""
 
 
@@ -128,49 +146,49 @@ class HeapRefused(GcflipError):
         super().__init__(self.reply)
 
 
-class Full(HeapRefused):
+class Full(HeapRefused, Lack):
     """The heap has no room for the object."""
 
     reply = "full"
 
 
-class NoObject(HeapRefused):
+class NoObject(HeapRefused, Mismatch):
     """The slot does not refer to an object."""
 
     reply = "no object"
 
 
-class NoField(HeapRefused):
+class NoField(HeapRefused, Mismatch):
     """The object has no such field."""
 
     reply = "no field"
 
 
-class NoNumber(HeapRefused):
+class NoNumber(HeapRefused, Mismatch):
     """The object is raw and the value is not a number."""
 
     reply = "no number"
 
 
-class Busy(HeapRefused):
+class Busy(HeapRefused, Mismatch):
     """A collection is open already."""
 
     reply = "busy"
 
 
-class Idle(HeapRefused):
+class Idle(HeapRefused, Mismatch):
     """No collection is open."""
 
     reply = "idle"
 
 
-class NotReady(HeapRefused):
+class NotReady(HeapRefused, Mismatch):
     """The collection is not ready for its flip."""
 
     reply = "not ready"
 
 
-class FlipRefused(HeapRefused):
+class FlipRefused(HeapRefused, Misuse):
     """The checker refused the certificate of a flip. It is proved that this does not happen."""
 
     reply = "refused"
