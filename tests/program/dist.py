@@ -218,18 +218,29 @@ def deb(program, folder):
 
 
 def crate(program, folder):
-    """Runs an example of the crate, unpacked into an empty folder, with the library of the archive."""
+    """Uses the crate, unpacked into an empty folder, where no library is installed: an example and all its tests. With the feature `system` it links the
+    library of the archive, and none if that is not there."""
     out, why = packed(program, folder)
     if why or shutil.which("cargo") is None:
         yield "the crate", why or Skipped("there is no cargo on the path")
         return
     for ending in (".tar.gz", ".crate"):
         done(["tar", "-xzf", only(out, ending), "-C", folder])
-    source = only(folder, "gcflip-0.2.0")
-    environment = dict(os.environ, GCFLIP_LIB_DIR=os.path.join(only(folder, "linux-x86_64"), "lib"))
+    source, installed = only(folder, "gcflip-0.2.0"), os.path.join(only(folder, "linux-x86_64"), "lib")
+    environment = {name: value for name, value in os.environ.items() if name not in ("GCFLIP_LIB_DIR", "PKG_CONFIG_PATH", "CARGO_TARGET_DIR")}
+    environment.update(PKG_CONFIG_LIBDIR=folder)
+    run = ["cargo", "run", "--quiet", "--offline", "--locked", "--example", "first_heap"]
     began = time.monotonic()
-    why = printed(["cargo", "run", "--quiet", "--offline", "--locked", "--example", "first_heap"], b"Number(42)\n", cwd=source, env=environment)
-    yield "Rust's example", within(3 * SECONDS, began, why)
+    yield "Rust's example", within(3 * SECONDS, began, printed(run, b"Number(42)\n", cwd=source, env=environment))
+    tested = done(["cargo", "test", "--offline", "--locked"], timeout=600, cwd=source, env=environment)
+    ran = re.findall(r"(?m)^test result: ok\. (\d+) passed; 0 failed; (\d+) ignored", tested.stdout.decode())
+    yield "the crate's own tests", None if tested.status == 0 and len([1 for passed, _ in ran if passed != "0"]) >= 6 else tested.stderr.decode()[-1000:]
+    yield "none of them is ignored", None if {ignored for _, ignored in ran} == {"0"} else "they are %s" % ran
+    system = [*run, "--features", "system"]
+    alone = done(system, timeout=600, cwd=source, env=environment)
+    yield "no installed library, with the feature", None if alone.status != 0 and b"-lgcflip" in alone.stderr else alone.stderr.decode()[-1000:]
+    found = printed(system, b"Number(42)\n", cwd=source, env=dict(environment, PKG_CONFIG_PATH=os.path.join(installed, "pkgconfig")))
+    yield "the installed library, with the feature", found if shutil.which("pkg-config") else Skipped("there is no pkg-config on the path")
 
 
 COMPLETE_IN_BASH = """source %s
@@ -298,7 +309,7 @@ def links(_program, _folder):
             yield "pictures of %s" % path, None if trees.read(source).count(b"![") == documents[path].count("![") else "some are lost"
     linking = [path for path, text in documents.items() if list(links_in(text))]
     yield "documents with links", None if "share/doc/herbpond/README.md" in linking and len(linking) > 4 else "they are %s" % linking
-    alone = {"the wheel": trees.readme(trees.PYTHON), "the crate": trees.crate_tree()["README.md"].data}
+    alone = {"the wheel": trees.readme(trees.PYTHON), "the crate": trees.crate_sources()["README.md"].data}
     for name, text in alone.items():
         yield "links of the README of %s" % name, ", ".join(links_in(text.decode())) or None
     for text, wanted in LINKS:

@@ -16,6 +16,9 @@ DOCUMENTS = ["README.md", "CHANGELOG.md", TRUST, "docs/FORMATS.md", "docs/EMBEDD
 COMPLETIONS = {"share/bash-completion/completions/gcflip": "gcflip.bash", "share/zsh/site-functions/_gcflip": "_gcflip",
                "share/fish/vendor_completions.d/gcflip.fish": "gcflip.fish"}
 HEADERS = ["gcflip_answers.h", "gcflip.h", "gcflip_heap.h", "gcflip_images.h", "gcflip_record.h", "gcflip_allocator.h"]
+# The headers that the tests of the crate compare it with, and where the crate has the archive.
+COMPARED = HEADERS[:3]
+ARCHIVE_OF_CRATE = "lib/x86_64-unknown-linux-gnu/libgcflip.a"
 
 
 class Leaf(NamedTuple):
@@ -28,6 +31,12 @@ class Leaf(NamedTuple):
 
 def read(*path):
     with open(os.path.join(TOP, *path), "rb") as file:
+        return file.read()
+
+
+def outside(*path):
+    """Returns the bytes of a built file."""
+    with open(os.path.join(*path), "rb") as file:
         return file.read()
 
 
@@ -102,19 +111,14 @@ def stripped(path):
     with tempfile.TemporaryDirectory() as folder:
         out = os.path.join(folder, "out")
         subprocess.run(["strip", "--strip-unneeded", "-o", out, path], check=True)
-        with open(out, "rb") as file:
-            return file.read()
+        return outside(out)
 
 
 def tree(program, libraries, libdir="lib"):
     """Returns the files of the archive and of the Debian package, below their prefix. `libraries` is the folder with both libraries."""
-    def outside(path):
-        with open(path, "rb") as file:
-            return file.read()
-
     found = {
         "bin/gcflip": Leaf(stripped(program), 0o755),
-        libdir + "/libgcflip.a": Leaf(outside(os.path.join(libraries, "libgcflip.a"))),
+        libdir + "/libgcflip.a": Leaf(outside(libraries, "libgcflip.a")),
         libdir + "/" + SHARED: Leaf(stripped(os.path.join(libraries, SHARED)), 0o644),
         libdir + "/libgcflip.so": Leaf(target=SHARED),
         libdir + "/pkgconfig/gcflip.pc": Leaf(package_file(libdir)),
@@ -145,5 +149,12 @@ def wheel_tree(libraries):
     return found
 
 
-def crate_tree():
-    return {os.path.relpath(path, "bindings/rust"): Leaf(readme(path) if path == RUST else read(path)) for path in below("bindings/rust")}
+def crate_sources():
+    """Returns the files of the crate without the archive. Its tests compare it with the headers in `c`."""
+    found = {os.path.relpath(path, "bindings/rust"): Leaf(readme(path) if path == RUST else read(path)) for path in below("bindings/rust")}
+    return {**found, **{"c/" + name: Leaf(read("bindings", "c", name)) for name in COMPARED}}
+
+
+def crate_tree(libraries):
+    """Returns the files of the crate, which links the archive that it brings where no other library is named."""
+    return {**crate_sources(), ARCHIVE_OF_CRATE: Leaf(outside(libraries, "libgcflip.a"))}
