@@ -131,7 +131,7 @@ def names_of_calls(_program, _folder):
     """Checks that each call of the bindings is found, also one that makes no call by itself. No name is both a step's and an error's."""
     rust, python = [os.path.join("bindings", "rust", "src", path) for path in bindings.HEAP_OF_RUST], ["bindings/python/gcflip/heap.py"]
     public = {"Rust": members(rust, r"(?ms)^impl (?:Heap|Mutator<'_>) \{(.*?)^\}", r"(?m)^    pub fn (\w+)"),
-              "Python": members(python, r"(?ms)^class (?:Heap|Mutator):\n(.*?)(?=^\S|\Z)", r"(?m)^    def ([a-z]\w*)")}
+              "Python": members(python, r"(?ms)^class (?:Heap|Mutator)\b.*?:\n(.*?)(?=^\S|\Z)", r"(?m)^    def ([a-z]\w*)")}
     for language, made in (("Rust", bindings.rust()), ("Python", bindings.python())):
         missing = sorted(public[language] - {name for name, _ in made})
         yield "calls of %s" % language, None if public[language] and not missing else "missing: %s" % missing

@@ -179,6 +179,8 @@ def wheel(program, folder):
     code = "import gcflip; print(gcflip.library_version()); heap = gcflip.Heap(4096); heap.mutator(0).new(0, 1, 2); print(heap.work(100).pairs)"
     began = time.monotonic()
     yield "Python from the wheel", within(SECONDS, began, printed([python, "-c", code], b"0.2.0\n1\n", env=environment, cwd=folder))
+    code = "import sys, gcflip.quick; print(gcflip.quick.HAS_EXTENSION == (sys.version_info >= (3, 10)))"
+    yield "the extension of the wheel", printed([python, "-c", code], b"True\n", env=environment, cwd=folder)
     began, page = time.monotonic(), subprocess.Popen([python, "-m", "gcflip.explore", "--no-browser"], env=environment, cwd=folder, stdout=subprocess.PIPE, text=True)
     said = page.stdout.readline()
     page.terminate()

@@ -2,7 +2,7 @@
 
 It tests bindings/python, built by its pyproject.toml, by the programs of tests/python: each call and each exception but FlipRefused, which is proved
 never to come; all pair texts and traces; examples/python; the Python code of the page of gcflip.explore; files that are not the library; types, by
-mypy in strict mode where it is.
+mypy in strict mode where it is. What uses a heap is tested with the extension, as a wheel has it, and by ctypes alone.
 """
 import os
 import re
@@ -13,6 +13,10 @@ from .c_builds import TOP, done, library
 from .c_library import texts_and_lines, traces_and_replies
 from .examples import names_of
 from .harness import Outcome, Skipped, difference, file_of, python_with, skip
+
+sys.path.append(os.path.join(TOP, "tools"))
+
+from distribution.extension import NAME, built_extension  # noqa: E402
 
 PACKAGE = os.path.join(TOP, "bindings", "python")
 TESTS = os.path.join(TOP, "tests", "python")
@@ -48,11 +52,19 @@ def packaged(folder):
             for path, _, names in os.walk(os.path.join(folder, package)) for name in names}
 
 
-class Python:
-    """Python with the package and the shared library."""
+def with_extension(package, folder, content):
+    """Returns a folder with the package and the extension, as a wheel has it."""
+    target = shutil.copytree(package, os.path.join(folder, "extended"), ignore=shutil.ignore_patterns("__pycache__"))
+    file_of(os.path.join(target, "gcflip"), NAME, content)
+    return target
 
-    def __init__(self, built, folder):
-        path, self.why = built_package(folder)
+
+class Python:
+    """Python with the package, and with the extension unless `package` names the folder of one without it, and with the shared library."""
+
+    def __init__(self, built, folder, package=None):
+        self.package, self.why = (package, None) if package else built_package(folder)
+        path = package or with_extension(self.package, folder, built_extension())
         # One test of one file reads arrays of NumPy.
         self.python = python_with("numpy") or sys.executable
         self.environment = dict(os.environ, PYTHONPATH=path, PYTHONDONTWRITEBYTECODE="1",
@@ -68,23 +80,40 @@ def prepared(folder):
     return None if built is None else Python(built, folder)
 
 
+# The files of tests: those that use a heap, which are run with the extension and without, those that use none, and the one about the extension.
+OF_HEAPS = ["test_heap.py", "test_places.py", "test_refs.py", "test_explore.py"]
+WITHOUT_HEAPS, OF_EXTENSION = ["test_checker.py", "test_inference.py", "test_images.py"], ["test_quick.py"]
+
+
 def suites(_program, folder):
     """Runs the package's test files, and the sessions of its README."""
-    python = prepared(folder)
-    if python is None:
+    built = library(folder)
+    if built is None:
         return
+    python = Python(built, folder)
     yield "the package is built", python.why
-    for name in ("test_checker.py", "test_inference.py", "test_images.py", "test_heap.py", "test_places.py", "test_explore.py"):
+    by_ctypes = Python(built, folder, python.package)
+    yield from tested(python, [*WITHOUT_HEAPS, *OF_HEAPS, *OF_EXTENSION], "")
+    yield from tested(by_ctypes, OF_HEAPS, " without the extension")
+    broken = Python(built, folder, with_extension(python.package, os.path.join(folder, "broken"), b"no library"))
+    for what, wanted, way in (("with the extension", b"True", python), ("without it", b"False", by_ctypes), ("with one that cannot be loaded", b"False", broken)):
+        found = way.run("-c", "import gcflip.quick; print(gcflip.quick.HAS_EXTENSION, gcflip.Heap(9).mutator(0).look(0))")
+        yield "the package %s" % what, difference(found, Outcome(wanted + b" None\n"))
+    shown = python.run("-m", "doctest", "-v", README)
+    last = shown.stdout.decode().strip().split("\n")[-1]
+    yield "what README shows", None if shown.status == 0 and last == "Test passed." else shown.stdout.decode()
+
+
+def tested(python, files, way):
+    """Runs files of tests."""
+    for name in files:
         found = python.run(os.path.join(TESTS, name), "-v")
         told = found.stderr.decode()
         reasons = re.findall(r"(?m) \.\.\. skipped (['\"])(.*)\1$", told)
         for _, why in reasons:
             skip("a test of %s" % name, why)
         ends = "\nOK (skipped=%d)\n" % len(reasons) if reasons else "\nOK\n"
-        yield name, None if found.status == 0 and told.endswith(ends) else told
-    shown = python.run("-m", "doctest", "-v", README)
-    last = shown.stdout.decode().strip().split("\n")[-1]
-    yield "what README shows", None if shown.status == 0 and last == "Test passed." else shown.stdout.decode()
+        yield name + way, None if found.status == 0 and told.endswith(ends) else told
 
 
 def texts(_program, folder):

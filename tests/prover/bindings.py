@@ -10,7 +10,7 @@ PYTHON = os.path.join(TOP, "bindings", "python", "gcflip")
 # The files of Rust's heap.
 HEAP_OF_RUST = ("heap.rs", os.path.join("heap", "places.rs"))
 # Public methods that stand for no call of C alone.
-OF_THEIR_OWN = {"Rust": {"mutator", "collect"}, "Python": {"mutator"}}
+OF_THEIR_OWN = {"Rust": {"mutator", "collect"}, "Python": {"mutator", "make"}}
 # How a method of Python's Heap makes a call on the heap: by its name, behind this prefix.
 BY_NAME = {"_call": "gcflip_heap_", "_made": "gcflip_heap_", "_step": "gcflip_heap_step_", "_call_roots": "gcflip_", "_made_roots": "gcflip_"}
 
@@ -65,7 +65,7 @@ def called_in(function):
 
 def functions_of_python():
     """Yields the functions of the package and the methods of its heap, each with whether it is a method and what it calls. A heap is opened by its class."""
-    for path in ("heap.py", "checker.py", "inference.py", "library.py"):
+    for path in ("heap.py", "turns.py", "checker.py", "inference.py", "library.py"):
         for node in ast.parse(read(PYTHON, path)).body:
             is_heap = isinstance(node, ast.ClassDef) and node.name in ("Heap", "Mutator")
             for member in node.body if is_heap else [node]:

@@ -3,7 +3,7 @@ from __future__ import annotations
 
 import array
 
-from gcflip import Comparison, Counts, Heap, Image, LogEntry, Mutator, Object, Pace, Path, Refused, Step, Value, Work, check, check_text, compare, extra_place, own, path_to, place
+from gcflip import Comparison, Content, Counts, Heap, Image, LogEntry, Mutator, Object, Pace, Path, Ref, Refused, Step, Value, Work, check, check_text, compare, extra_place, own, path_to, place
 
 
 def collected(heap: Heap) -> int:
@@ -22,6 +22,14 @@ def collected(heap: Heap) -> int:
     return work.pairs + (0 if seen is None else root) + counts.free + entry.field + (0 if paced is None else paced.steps) + len(begun.value)
 
 
+def held(heap: Heap) -> int:
+    first: Ref = heap.make(kind=1, length=2)
+    first[0], first[1] = 42, heap.make(2, 0)
+    content: Content = first[1]
+    numbers: list[int] = [value for value in first if isinstance(value, int)]
+    return numbers[0] if isinstance(content, Ref) and content.same(first) else first.kind + len(first)
+
+
 def checked(words: memoryview, roots: array.array[int]) -> int:
     image: Image = Image(words, roots, size=8)
     try:
@@ -36,6 +44,9 @@ def refused_by_mypy(heap: Heap) -> None:
     heap.work("100")  # wrong
     length: int = heap.mutator(0).get(own(1), own(0), 0)  # wrong
     heap.mutators  # wrong
+    heap.make(1, 2)["first"]  # wrong
+    heap.make(1, 2)[0] = "text"  # wrong
+    number: int = heap.make(1, 2)[0]  # wrong
     check(Image([0], []), Image([0], []), [(1, 2, 3)])  # wrong
     Image("words", [])  # wrong
     word: str = heap.new_words()[0]  # wrong

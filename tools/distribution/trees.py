@@ -5,6 +5,7 @@ import subprocess
 import tempfile
 from typing import NamedTuple
 
+from .extension import NAME, built_extension
 from .links import linked
 
 TOP = os.path.normpath(os.path.join(os.path.dirname(os.path.abspath(__file__)), "..", ".."))
@@ -140,7 +141,7 @@ def package_file(libdir):
 
 def wheel_tree(libraries):
     """Returns the files of the wheel, without its own descriptions."""
-    found = {"gcflip/libgcflip.so": Leaf(stripped(os.path.join(libraries, SHARED)), 0o755)}
+    found = {"gcflip/libgcflip.so": Leaf(stripped(os.path.join(libraries, SHARED)), 0o755), "gcflip/" + NAME: Leaf(built_extension(), 0o755)}
     for package in ("gcflip", "gcflip_drawing"):
         for path in below("bindings/python/" + package):
             found[os.path.relpath(path, "bindings/python")] = Leaf(read(path))

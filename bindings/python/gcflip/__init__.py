@@ -11,10 +11,11 @@ from .heap import Checking, Counts, FieldSource, FlipChecks, Frame, Heap, Held, 
 from .images import Collection, Names, Snapshot, Words
 from .inference import Comparison, Path, compare, explained, path_to
 from .library import library_version
+from .refs import Content, Ref
 
 __all__ = [
-    "BadLine", "BadText", "Busy", "Checking", "Closed", "Collection", "Comparison", "Counts", "Damaged", "EndsEarly", "Faulty", "FieldSource", "FlipChecks", "FlipRefused", "Frame", "FrameEmpty", "FrameFull", "Full", "GcflipError", "Heap",
+    "BadLine", "BadText", "Busy", "Checking", "Closed", "Collection", "Comparison", "Content", "Counts", "Damaged", "EndsEarly", "Faulty", "FieldSource", "FlipChecks", "FlipRefused", "Frame", "FrameEmpty", "FrameFull", "Full", "GcflipError", "Heap",
     "HeapRefused", "Held", "Idle", "Image", "Lack", "LogEntry", "Mismatch", "Misuse", "Mutator", "Names", "NoField", "NoNumber", "NoObject", "NotReady", "Object", "OutOfMemory", "OutOfRange",
-    "Pace", "Pairs", "Path", "Reentered", "Refusal", "Refused", "Row", "Snapshot", "Step", "TextTooLarge", "TooManyPairs", "Useful",
+    "Pace", "Pairs", "Path", "Reentered", "Ref", "Refusal", "Refused", "Row", "Snapshot", "Step", "TextTooLarge", "TooManyPairs", "Useful",
     "Value", "Words", "Work", "check", "check_text", "compare", "explained", "extra_place", "library_version", "own", "path_to", "place", "shared",
 ]

@@ -158,7 +158,7 @@ class NoObject(HeapRefused, Mismatch):
     reply = "no object"
 
 
-class NoField(HeapRefused, Mismatch):
+class NoField(HeapRefused, Mismatch, IndexError):
     """The object has no such field."""
 
     reply = "no field"

@@ -7,14 +7,13 @@ import enum
 import functools
 import operator
 import os
-import threading
 import weakref
-from typing import Any, Callable, Iterable, NamedTuple, NoReturn, Sequence, TypeVar, Union
+from typing import Any, Callable, Iterable, NamedTuple, NoReturn, Sequence, Union
 
-from . import library
+from . import library, quick, refs, turns
 from .checker import Block, Image, Row, _pairs_of
 from .errors import (Busy, Closed, Damaged, FlipRefused, FrameEmpty, FrameFull, Full, GcflipError, HeapRefused, Idle, NoField, NoNumber, NoObject, NotReady,
-                     OutOfMemory, OutOfRange, Reentered)
+                     OutOfMemory, OutOfRange)
 from .library import COUNTS, HEAP, LIBRARY, MUTATOR, ROOTS, SLOT, Answer, CheckingNumber, StepName, in_range
 
 SLOTS = 16
@@ -245,40 +244,7 @@ class LogEntry(NamedTuple):
     field: int
 
 
-Returned = TypeVar("Returned")
-
-
-class Turn:
-    """Lets in one call at a time: other threads wait, and the thread that is in a call already is refused."""
-
-    def __init__(self) -> None:
-        # The lock is taken again by its own thread, which finds that it is busy instead of waiting for itself.
-        self.lock = threading.RLock()
-        self.busy = False
-
-    def take(self, act: Callable[[], Returned]) -> Returned:
-        """Runs a function while no other one runs. Raises Reentered if this thread runs one already."""
-        with self.lock:
-            if self.busy:
-                raise Reentered("a call on this heap was made from within another one")
-            try:
-                self.busy = True
-                return act()
-            finally:
-                self.busy = False
-
-
-def _close(handle: library.Handle, turn: Turn, process: int) -> None:
-    """Frees a heap when no call uses it any more. In a forked child the lock may belong to a thread that the child does not have, so that the
-    child does not wait for it."""
-    if turn.lock.acquire(blocking=os.getpid() == process):
-        try:
-            LIBRARY.gcflip_heap_close(handle)
-        finally:
-            turn.lock.release()
-
-
-class Heap:
+class Heap(quick.Quickened):
     """A heap, and a context manager that closes it. Several threads may call it: a lock lets in one call at a time.
 
     All calls raise Closed after `close`, OutOfRange if an argument is out of its range, and Reentered if this thread is in a call on the heap
@@ -291,11 +257,13 @@ class Heap:
         spaces whole; with 0 none does. Raises OutOfMemory."""
         numbers = in_range((size, extra_roots, mutators, CheckingNumber[checking.name], whole_each),
                            [ctypes.c_uint32, ctypes.c_uint32, ctypes.c_uint8, ctypes.c_uint8, ctypes.c_uint32])
-        self._turn = Turn()
+        self._turn = turns.Turn()
         self._handle = library.Handle()
         self._extra_roots = numbers[1]
         self._call("open", library.Options(ctypes.sizeof(library.Options), *numbers))
-        self._close = weakref.finalize(self, _close, self._handle, self._turn, os.getpid())
+        self._close = weakref.finalize(self, turns._close, self._handle, self._turn, os.getpid())
+        self._pool = refs.RootPool(extra_place(numbers[2], 0), self._extra_roots, Pace())
+        quick.bind(self, self._handle, self._turn, 0)
 
     def __enter__(self) -> Heap:
         return self
@@ -316,6 +284,24 @@ class Heap:
         if not 0 <= number < self.counts().mutators:
             raise OutOfRange("there is no mutator %d" % number)
         return Mutator(self, number)
+
+    def make(self, kind: int, length: int) -> refs.Ref:
+        """Makes an object of a kind, 0 to 255, with `length` fields, at most 65535, all nil, and returns a reference to it, which owns an extra root. So a heap
+        that was opened with n + 1 extra roots has room for n references, and the program does not use these roots in another way. Before that the steps
+        of the collector that are due are performed, and whole collections if there is still no room. Raises FrameFull if no root is left, Full if
+        there is no room after whole collections, and OutOfMemory if there is none and a collection gets no memory."""
+        return refs.made(self, self._pool, kind, length)
+
+    def _collect(self, pace: Pace) -> None:
+        """Performs a whole collection, after the open one if there is one, and lets the pace remember it."""
+        for _ in range(1 + self.counts().is_open):
+            while True:
+                last = self.work((1 << 32) - 1).last
+                if last is Step.FLIPPED:
+                    break
+                if last is Step.NO_ROOM:
+                    self.drop()
+        self.remember(pace)
 
     def clear_roots(self, first: int, end: int) -> None:
         """Puts nil into the extra roots from `first` on, and below `end`. Raises OutOfRange if the heap does not have all of them, or if `first` is
@@ -639,13 +625,17 @@ def _zeros(count: int) -> array.array[int]:
     return array.array("Q", bytes(8 * count))
 
 
-class Mutator:
+class Mutator(quick.Quickened):
     """A client of a heap, with sixteen slots of its own (`own`) in addition to the shared ones (`shared`). Slots are roots. All mutators
     share the extra roots, which a heap has if it was opened with them; they are numbered from 0."""
 
     def __init__(self, heap: Heap, number: int) -> None:
         self.heap = heap
         self.number = number
+        quick.bind(self, heap._handle, heap._turn, number)
+
+    def __copy__(self) -> Mutator:
+        return Mutator(self.heap, self.number)
 
     def new(self, slot: int, kind: int, length: int) -> None:
         """Makes an object of a kind, 0 to 255, with `length` fields, at most 65535, all nil, and puts a reference to it into the
@@ -776,3 +766,6 @@ def _seen(answer: Answer, view: library.View) -> Value:
     if answer == Answer.NUMBER:
         return int(view.number)
     return Object(view.kind, view.count, answer == Answer.RAW_OBJECT)
+
+
+quick.quicken(Heap, Mutator, Object)

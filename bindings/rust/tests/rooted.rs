@@ -135,6 +135,31 @@ fn without_a_root_nothing_is_made() -> Result<()> {
     Ok(())
 }
 
+#[test]
+fn the_collector_keeps_pace() -> Result<()> {
+    let heap = Rooted::open(1 << 20, 1)?;
+    for _ in 0..50_000 {
+        heap.make::<Pair>()?;
+    }
+    // The heap has room for five times as many words, so that only paced work can have freed some.
+    assert!(heap.counts().end < 50_000 * WORDS, "{:?}", heap.counts());
+    Ok(())
+}
+
+#[test]
+fn a_whole_collection_begins_after_the_open_one() -> Result<()> {
+    let heap = Rooted::open(1 << 20, 3)?;
+    let mut list = heap.make::<Pair>()?;
+    while !heap.counts().is_open {
+        let pair = heap.make::<Pair>()?;
+        pair.put_root(NEXT, &list)?;
+        list = pair;
+    }
+    drop(list);
+    assert_eq!(heap.collect()?, 0);
+    Ok(())
+}
+
 /// A pair of the model: its number, and the index of the next pair.
 #[derive(Clone, Copy, Default)]
 struct Model {

@@ -1,0 +1,16 @@
+from typing import Any, Callable, Mapping, Tuple
+
+CALLS: Tuple[str, ...]
+FUNCTIONS: Tuple[str, ...]
+
+class Flag:
+    busy: bool
+
+class Caller:
+    def _bind(self, owner: object, address: int, flag: Flag, mutator: int) -> None: ...
+
+class Slots(Caller): ...
+class Roots(Caller): ...
+
+def begin(addresses: Mapping[str, Any]) -> None: ...
+def defer(functions: Mapping[str, Callable[..., Any]], object_class: type) -> None: ...

@@ -1,0 +1,167 @@
+"""References that own a root: objects of a heap as objects of Python. `Heap.make` makes them."""
+from __future__ import annotations
+
+import contextlib
+import itertools
+from typing import TYPE_CHECKING, Iterator, NoReturn, Union
+
+from .errors import Closed, FrameFull, Full, OutOfMemory, OutOfRange
+
+if TYPE_CHECKING:
+    from .heap import Heap, Pace
+
+Content = Union[None, int, "Ref"]
+"""What a field holds: None for nil, a number, or a reference."""
+
+# The log of this mutator has the fields that references write.
+MUTATOR = 0
+WORDS_OF_HEADER = 2
+# The collector works once for so many words, because a call of work takes longer than the making of an object.
+BLOCK = 512
+
+
+class RootPool:
+    """The extra roots of a heap, for its references. The first one always holds nil. One that no reference owns holds nil or a number."""
+
+    def __init__(self, first_place: int, count: int, pace: Pace) -> None:
+        self.first_place = first_place
+        self.count = count
+        self.pace = pace
+        # The words that objects may take before the collector has to work again.
+        self.credit = 0
+        # Roots that were given back. They are taken before those that were never used, so that few roots are in use.
+        self.unused: list[int] = []
+        self.fresh = itertools.count(1)
+        # Roots that were given back while a call was under way. They are cleared later.
+        self.uncleared: list[int] = []
+
+    def take(self, heap: Heap) -> int:
+        """Returns a root that no reference owns. Raises FrameFull if there is none."""
+        if self.uncleared:
+            self.clear(heap)
+        try:
+            return self.unused.pop()
+        except IndexError:
+            root = next(self.fresh)
+        if root >= self.count:
+            raise FrameFull("no extra root is left for another reference")
+        return root
+
+    def clear(self, heap: Heap) -> None:
+        """Tries once more to clear each root that has to be cleared. Another thread may do the same."""
+        for _ in range(len(self.uncleared)):
+            with contextlib.suppress(IndexError):
+                self.give_back(heap, self.uncleared.pop(0))
+
+    def give_back(self, heap: Heap, root: int) -> None:
+        """Puts nil into a root, and keeps it for another reference. Within a call on the heap it is left for later."""
+        if heap._turn.busy:
+            self.uncleared.append(root)
+        else:
+            heap.copy_root(self.first_place + root, self.first_place)
+            self.unused.append(root)
+
+
+class Ref:
+    """A reference to an object of a heap, which keeps the object alive: it owns an extra root, and gives it back when Python deletes it. `Heap.make`
+    makes an object and returns a reference to it.
+
+    Fields are read and written by their numbers, and `for` goes through them in order. A field holds None, a number below 2^63, or another reference. A
+    number that is no field's raises NoField, which is an IndexError. All of this raises Closed after the heap was closed. Each use needs one root that no
+    reference owns, and raises FrameFull if there is none.
+    """
+
+    __slots__ = ("heap", "_pool", "_root", "__weakref__")
+
+    def __init__(self, heap: Heap, pool: RootPool) -> None:
+        self._root = 0
+        self.heap = heap
+        self._pool = pool
+        self._root = pool.take(heap)
+
+    @property
+    def place(self) -> int:
+        """The place of the root, for commands of the heap on roots by their places."""
+        return self._pool.first_place + self._root
+
+    @property
+    def kind(self) -> int:
+        """The kind of the object."""
+        return self._seen()[0]
+
+    @property
+    def raw(self) -> bool:
+        """Whether the object's fields are plain numbers."""
+        return self._seen()[2]
+
+    def __len__(self) -> int:
+        return self._seen()[1]
+
+    def __iter__(self) -> Iterator[Content]:
+        return map(self.__getitem__, range(len(self)))
+
+    def __getitem__(self, field: int) -> Content:
+        found = Ref(self.heap, self._pool)
+        value = self.heap.get_root(found.place, self.place, field)
+        if isinstance(value, tuple):
+            return found
+        found._free()
+        return value
+
+    def __setitem__(self, field: int, content: Content) -> None:
+        if isinstance(content, Ref):
+            if content._pool is not self._pool:
+                raise OutOfRange("the reference is one of another heap")
+            self.heap.put_root(MUTATOR, self.place, field, content.place)
+        elif content is None:
+            self.heap.put_root(MUTATOR, self.place, field, self._pool.first_place)
+        else:
+            passing = Ref(self.heap, self._pool)
+            self.heap.set_number(passing.place, content)
+            self.heap.put_root(MUTATOR, self.place, field, passing.place)
+            passing._free()
+
+    def same(self, other: Ref) -> bool:
+        """Returns whether both refer to one object. Objects of two heaps are never one."""
+        return self._pool is other._pool and self.heap.is_same(self.place, other.place)
+
+    def __copy__(self) -> Ref:
+        copy = Ref(self.heap, self._pool)
+        self.heap.copy_root(copy.place, self.place)
+        return copy
+
+    def __reduce_ex__(self, protocol: object) -> NoReturn:
+        raise TypeError("a reference cannot be pickled")
+
+    def __del__(self) -> None:
+        if self._root:
+            with contextlib.suppress(Closed):
+                self._pool.give_back(self.heap, self._root)
+
+    def _free(self) -> None:
+        """Gives back the root, which holds nil or a number."""
+        root, self._root = self._root, 0
+        self._pool.unused.append(root)
+
+    def _seen(self) -> tuple[int, int, bool]:
+        seen = self.heap.look_root(self.place)
+        assert isinstance(seen, tuple)
+        return seen
+
+
+def made(heap: Heap, pool: RootPool, kind: int, length: int) -> Ref:
+    """Makes an object and returns a reference to it, as `Heap.make` says."""
+    ref = Ref(heap, pool)
+    words = length + WORDS_OF_HEADER
+    if words > pool.credit:
+        pool.credit = words + BLOCK
+        # An object that has room does not wait for the memory of a collection.
+        with contextlib.suppress(OutOfMemory):
+            heap.work_paced(pool.pace, pool.credit)
+    pool.credit -= words
+    try:
+        heap.new_root(ref.place, kind, length)
+    except Full:
+        heap._collect(pool.pace)
+        heap.new_root(ref.place, kind, length)
+    return ref

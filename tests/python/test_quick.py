@@ -1,0 +1,185 @@
+"""Tests of the extension, which has to be there: its methods do what the functions of Python do."""
+import copy
+import random
+import threading
+import unittest
+
+import gcflip
+from gcflip import Heap, Mutator, own, place, quick, turns
+from limits import at_most
+
+PLACES = [place(own(0)), place(own(1)), 0, 48, 50]
+SLOTS = [own(0), own(1), own(2), 16, 31]
+FIELDS, KINDS, NUMBERS = [0, 1, 2], [0, 1, 255], [0, 7, (1 << 63) - 1]
+
+
+class Index:
+    """A number that is no int."""
+
+    def __index__(self):
+        return 1
+
+
+# Arguments that a call may refuse.
+ODD = [32, 51, 255, 256, 65535, 65536, (1 << 32) - 1, 1 << 32, 1 << 63, (1 << 64) - 1, 1 << 64, -1, True, Index(), 1.0, "1", None]
+# The arguments of each function: names, with ordinary values.
+OF_MUTATORS = {
+    "new": {"slot": SLOTS, "kind": KINDS, "length": FIELDS}, "raw": {"slot": SLOTS, "kind": KINDS, "length": FIELDS}, "num": {"slot": SLOTS, "number": NUMBERS}, "nil": {"slot": SLOTS},
+    "move": {"slot": SLOTS, "source": SLOTS}, "load": {"slot": SLOTS, "root": FIELDS}, "store": {"root": FIELDS, "source": SLOTS}, "get": {"slot": SLOTS, "source": SLOTS, "field": FIELDS},
+    "put": {"slot": SLOTS, "field": FIELDS, "source": SLOTS}, "put_number": {"slot": SLOTS, "field": FIELDS, "source": SLOTS, "number": NUMBERS},
+    "put_nil": {"slot": SLOTS, "field": FIELDS, "source": SLOTS}, "cons": {"slot": SLOTS, "kind": KINDS, "first": SLOTS, "second": SLOTS}, "same": {"first": SLOTS, "second": SLOTS},
+    "look": {"slot": SLOTS},
+}
+OF_HEAPS = {
+    "new_root": {"root": PLACES, "kind": KINDS, "length": FIELDS}, "set_number": {"root": PLACES, "number": NUMBERS}, "copy_root": {"root": PLACES, "source": PLACES},
+    "get_root": {"root": PLACES, "source": PLACES, "field": FIELDS}, "put_root": {"mutator": [0, 1], "root": PLACES, "field": FIELDS, "source": PLACES},
+    "is_same": {"first": PLACES, "second": PLACES}, "look_root": {"root": PLACES},
+}
+# Arguments with which each call does what it is for, if `prepare` came before it.
+RIGHT = {name: [values[min(at, len(values) - 1)] for at, values in enumerate(arguments.values())] for name, arguments in {**OF_MUTATORS, **OF_HEAPS}.items()}
+
+
+def prepare(heap):
+    """Puts objects of three fields into two slots, whose places are the first of PLACES."""
+    for slot in (own(0), own(1)):
+        heap.mutator(0).new(slot, 1, 3)
+
+
+def by_python(cls, *given, **named):
+    """Makes an object of a class without the methods of the extension."""
+    made = object.__new__(cls)
+    made.__init__(*given, **named)
+    return made
+
+
+def outcome(call, given, named):
+    """Returns what a call returns, or what it raises."""
+    try:
+        value = call(*given, **named)
+        return type(value), value
+    except Exception as error:
+        return type(error), str(error)
+
+
+def calls_of(heap, number=0):
+    """Returns the calls of a heap and of one of its mutators by their names."""
+    mutator = heap.mutator(number)
+    return {**{name: getattr(mutator, name) for name in OF_MUTATORS}, **{name: getattr(heap, name) for name in OF_HEAPS}}
+
+
+class Quick(unittest.TestCase):
+    def test_the_extension_makes_the_calls(self):
+        self.assertEqual((quick.HAS_EXTENSION, {*OF_MUTATORS, *OF_HEAPS}), (True, set(quick._quick.FUNCTIONS)))
+        with Heap(64) as heap:
+            for name, call in calls_of(heap).items():
+                self.assertEqual(type(call).__name__, "builtin_function_or_method", name)
+            mutator = heap.mutator(0)
+            self.assertTrue(isinstance(heap, Heap) and isinstance(mutator, Mutator))
+            self.assertEqual((type(heap).__name__, type(mutator).__name__, type(heap).__module__), ("Heap", "Mutator", "gcflip.heap"))
+            self.assertEqual(copy.copy(mutator).look(own(0)), None)
+
+    def test_the_same_as_python(self):
+        """Makes calls that look random on two heaps, one of them without the extension, and compares all that can be seen."""
+        for seed in range(8):
+            draw = random.Random(seed)
+            options = {"size": 60, "mutators": 2, "extra_roots": 3}
+            with Heap(**options) as heap, by_python(Heap, **options) as other:
+                mutators = [(heap.mutator(number), by_python(Mutator, other, number)) for number in range(2)]
+                for _ in range(4000):
+                    self.compare(draw, heap, other, mutators)
+                    if draw.random() < 0.05:
+                        most = draw.randrange(1, 20)
+                        self.assertEqual(heap.work(most), other.work(most))
+                self.assertEqual((heap.image(), heap.counts()), (other.image(), other.counts()))
+
+    def compare(self, draw, heap, other, mutators):
+        name = draw.choice([*OF_MUTATORS, *OF_HEAPS])
+        quicker, slower = draw.choice(mutators) if name in OF_MUTATORS else (heap, other)
+        values = {**OF_MUTATORS, **OF_HEAPS}[name]
+        given = [draw.choice(ODD if draw.random() < 0.03 else values[argument]) for argument in values]
+        named = {}
+        if draw.random() < 0.1:
+            place_of_first = draw.randrange(len(given) + 1)
+            named = dict(zip(list(values)[place_of_first:], given[place_of_first:]))
+            given = given[:place_of_first]
+        elif draw.random() < 0.02:
+            given = draw.choice([given[:-1], [*given, 0], []])
+        found, wanted = outcome(getattr(quicker, name), given, named), outcome(getattr(slower, name), given, named)
+        self.assertEqual(found, wanted, "%s of %s, %s" % (name, given, named))
+
+    def test_closed(self):
+        with Heap(64, extra_roots=3) as heap:
+            calls = calls_of(heap)
+        for name, call in calls.items():
+            with self.assertRaises(gcflip.Closed, msg=name):
+                call(*RIGHT[name])
+
+    def test_a_call_within_a_call(self):
+        with Heap(64, extra_roots=3) as heap:
+            for name, call in calls_of(heap).items():
+                with self.assertRaises(gcflip.Reentered, msg=name):
+                    heap._turn.take(lambda: call(*RIGHT[name]))
+
+    def test_another_thread_waits(self):
+        with Heap(4096, 2, extra_roots=3) as heap:
+            for name, call in calls_of(heap).items():
+                prepare(heap)
+                inside, go, ended = threading.Event(), threading.Event(), threading.Event()
+                first = threading.Thread(target=lambda: heap._turn.take(lambda: (inside.set(), go.wait(10))))
+                second = threading.Thread(target=lambda: (call(*RIGHT[name]), ended.set()))
+                first.start()
+                inside.wait(10)
+                second.start()
+                self.assertFalse(ended.wait(0.02), name)
+                go.set()
+                second.join(10)
+                first.join(10)
+                self.assertTrue(ended.is_set(), name)
+
+    def test_a_close_is_a_call(self):
+        """While a heap is freed, the extension makes no call on it."""
+        heap, seen = Heap(64), []
+
+        class Library:
+            @staticmethod
+            def gcflip_heap_close(_handle):
+                seen.append(heap._turn.busy)
+
+        before, turns.LIBRARY = turns.LIBRARY, Library
+        try:
+            turns._close(heap._handle, heap._turn, -1)
+        finally:
+            turns.LIBRARY = before
+        self.assertEqual((seen, heap._turn.busy), ([True], False))
+        heap.close()
+
+    def test_no_call_keeps_memory(self):
+        """Makes each call often enough that a lost object would be seen, with right and with wrong arguments."""
+        with Heap(4096, 2, extra_roots=3) as heap:
+            calls = calls_of(heap)
+            with at_most(16 << 20):
+                for name, call in calls.items():
+                    prepare(heap)
+                    if name not in ("new", "raw", "cons", "new_root"):
+                        for _ in range(100000):
+                            outcome(call, RIGHT[name], {})
+                    for _ in range(4000):
+                        outcome(call, [], {"wrong": 1})
+                        outcome(call, [1 << 64] * len(RIGHT[name]), {})
+                prepare(heap)
+                calls["put"](own(0), 0, own(1))
+                for _ in range(100000):
+                    self.assertEqual(calls["get"](own(2), own(0), 0), (1, 3, False))
+
+    def test_a_caller_is_bound_once(self):
+        with Heap(64) as heap:
+            with self.assertRaises(RuntimeError):
+                heap._bind(heap._handle, 0, heap._turn, 0)
+            with self.assertRaises(TypeError):
+                object.__new__(type(heap))._bind(heap._handle, 0, object(), 0)
+            with self.assertRaises(AttributeError):
+                object.__new__(type(heap)).look_root(0)
+
+
+if __name__ == "__main__":
+    unittest.main()

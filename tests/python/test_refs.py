@@ -1,0 +1,250 @@
+"""Tests of references that own a root."""
+import copy
+import gc
+import pickle
+import random
+import sys
+import threading
+import unittest
+
+import gcflip
+from gcflip import Heap, Ref, own, place
+
+
+def collect(heap):
+    """Performs a whole collection while none is open, and returns the number of pairs."""
+    work = heap.work(1 << 20)
+    while work.last is not gcflip.Step.FLIPPED:
+        work = heap.work(1 << 20)
+    return work.pairs
+
+
+class Fields(unittest.TestCase):
+    def setUp(self):
+        self.heap = Heap(64, extra_roots=8)
+        self.addCleanup(self.heap.close)
+
+    def test_values(self):
+        first, second = self.heap.make(7, 3), self.heap.make(255, 0)
+        self.assertEqual((first.kind, len(first), first.raw, list(first)), (7, 3, False, [None] * 3))
+        self.assertEqual((second.kind, len(second), list(second)), (255, 0, []))
+        first[0] = (1 << 63) - 1
+        first[1] = second
+        first[2] = first
+        collect(self.heap)
+        self.assertEqual(first[0], (1 << 63) - 1)
+        self.assertTrue(first[1].same(second) and first[2].same(first) and not first.same(second))
+        first[0] = first[1] = None
+        self.assertEqual(list(first)[:2], [None, None])
+        self.assertEqual([type(value) for value in first], [type(None), type(None), Ref])
+
+    def test_raw_objects(self):
+        first = self.heap.make(1, 1)
+        self.heap.mutator(0).raw(own(3), 9, 2)
+        self.heap.put_root(0, first.place, 0, place(own(3)))
+        raw = first[0]
+        raw[1] = 5
+        self.assertEqual((raw.kind, raw.raw, list(raw)), (9, True, [0, 5]))
+        for wrong in (None, first):
+            with self.assertRaises(gcflip.NoNumber):
+                raw[1] = wrong
+        self.assertEqual(list(raw), [0, 5])
+
+    def test_refused(self):
+        first, other = self.heap.make(1, 2), Heap(64, extra_roots=8)
+        first[0], stranger = 4, other.make(1, 1)
+        for act, error in ((lambda: first[2], gcflip.NoField), (lambda: first[2], IndexError), (lambda: first[-1], gcflip.OutOfRange), (lambda: first["0"], TypeError),
+                           (lambda: first.__setitem__(2, None), gcflip.NoField), (lambda: first.__setitem__(2, 1), gcflip.NoField),
+                           (lambda: first.__setitem__(0, 1 << 63), gcflip.OutOfRange), (lambda: first.__setitem__(0, -1), gcflip.OutOfRange),
+                           (lambda: first.__setitem__(0, stranger), gcflip.OutOfRange), (lambda: first.__setitem__(0, 1.5), TypeError),
+                           (lambda: self.heap.make(256, 0), gcflip.OutOfRange), (lambda: self.heap.make(0, 65536), gcflip.OutOfRange), (lambda: self.heap.make(0, -1), gcflip.OutOfRange),
+                           (lambda: pickle.dumps(first), TypeError), (lambda: copy.deepcopy(first), TypeError)):
+            with self.assertRaises(error):
+                act()
+        self.assertEqual((list(first), first.same(stranger)), ([4, None], False))
+        # None of these calls has lost a root: of eight, one holds nil and one is that of `first`.
+        self.assertEqual(len([self.heap.make(1, 0) for _ in range(6)]), 6)
+
+    def test_closed(self):
+        first = self.heap.make(1, 1)
+        self.heap.close()
+        for act in (lambda: first[0], lambda: first.__setitem__(0, 1), lambda: len(first), lambda: first.kind, lambda: self.heap.make(1, 1)):
+            with self.assertRaises(gcflip.Closed):
+                act()
+
+
+class Roots(unittest.TestCase):
+    """What keeps objects alive, and how many references there can be."""
+
+    def test_a_reference_keeps_its_object_alive(self):
+        with Heap(64, extra_roots=4) as heap:
+            first = heap.make(1, 1)
+            first[0] = heap.make(2, 0)
+            self.assertEqual(collect(heap), 2)
+            second = first[0]
+            del first
+            self.assertEqual(collect(heap), 1)
+            third = copy.copy(second)
+            self.assertTrue(third.same(second))
+            del second
+            self.assertEqual((collect(heap), third.kind), (1, 2))
+            third = None
+            self.assertEqual((collect(heap), heap.counts().free), (0, 63))
+
+    def test_no_value_that_passed_keeps_an_object_alive(self):
+        with Heap(64, extra_roots=4) as heap:
+            first = heap.make(1, 2)
+            first[0], first[1] = 5, heap.make(1, 0)
+            self.assertEqual((first[0], first[1].kind, len(list(first))), (5, 1, 2))
+            first[1] = None
+            self.assertEqual(collect(heap), 1)
+
+    def test_no_root_is_left(self):
+        with Heap(64, extra_roots=3) as heap:
+            first, second = heap.make(1, 1), heap.make(2, 1)
+            before = heap.counts()
+            for act in (lambda: heap.make(3, 0), lambda: first[0], lambda: copy.copy(first)):
+                with self.assertRaises(gcflip.FrameFull):
+                    act()
+            self.assertEqual((heap.counts(), first.kind), (before, 1))
+            del second
+            self.assertEqual((heap.make(3, 0).kind, first[0]), (3, None))
+        for count in (0, 1):
+            with Heap(64, extra_roots=count) as heap, self.assertRaises(gcflip.FrameFull):
+                heap.make(1, 0)
+
+    def test_a_full_heap(self):
+        with Heap(64, extra_roots=100) as heap:
+            held = [heap.make(1, 1) for _ in range(21)]
+            for number, ref in enumerate(held):
+                ref[0] = number
+            for _ in range(2):
+                with self.assertRaises(gcflip.Full):
+                    heap.make(1, 1)
+            self.assertEqual([ref[0] for ref in held], list(range(21)))
+            del held[4], ref
+            self.assertEqual((heap.make(9, 1).kind, [ref[0] for ref in held]), (9, [*range(4), *range(5, 21)]))
+
+    def test_a_whole_collection_begins_after_the_open_one(self):
+        """Fills a heap, lets a collection copy all of it, and then drops it: only another collection finds room."""
+        with Heap(64, extra_roots=100) as heap:
+            held = [heap.make(1, 1) for _ in range(21)]
+            heap.begin()
+            while heap.roots() is gcflip.Step.COPIED:
+                pass
+            held.clear()
+            self.assertEqual((heap.make(2, 1).kind, heap.counts().free), (2, 60))
+
+    def test_the_collector_keeps_pace(self):
+        with Heap(1 << 20, extra_roots=2) as heap:
+            for _ in range(50000):
+                heap.make(1, 2)
+            self.assertLess(heap.counts().end, 4 * 50000)
+
+    def test_garbage_is_collected(self):
+        """Makes a thousand times as many objects as have room, while a list grows that is kept."""
+        with Heap(4096, extra_roots=8) as heap:
+            kept = None
+            for number in range(100000):
+                ref = heap.make(1, 2)
+                ref[0] = number
+                if number % 1000 == 0:
+                    ref[1], kept = kept, ref
+            numbers = []
+            while kept is not None:
+                numbers.append(kept[0])
+                kept = kept[1]
+            self.assertEqual(numbers, list(range(99000, -1, -1000)))
+
+    def test_a_reference_that_goes_within_a_call(self):
+        with Heap(64, extra_roots=3) as heap:
+            for _ in range(5):
+                held = [heap.make(1, 0), heap.make(1, 0)]
+                heap._turn.take(held.clear)
+            self.assertEqual([ref.kind for ref in (heap.make(1, 0), heap.make(2, 0))], [1, 2])
+
+    def test_a_heap_goes_with_its_last_reference(self):
+        heap = Heap(64, extra_roots=3)
+        ref, close = heap.make(1, 0), heap._close
+        del heap
+        self.assertTrue(close.alive)
+        del ref
+        gc.collect()
+        self.assertFalse(close.alive)
+
+
+class Random(unittest.TestCase):
+    def test_random_uses(self):
+        """Compares uses that look random with a model, in which an object is a list."""
+        for seed in range(20):
+            draw = random.Random(seed)
+            with Heap(200, extra_roots=14) as heap:
+                held = []
+                for _ in range(1500):
+                    self.use(draw, heap, held)
+                    if draw.random() < 0.1:
+                        heap.work(draw.randrange(1, 9))
+                held.clear()
+                collect(heap)
+                self.assertEqual((collect(heap), heap.counts().free), (0, 199))
+
+    def use(self, draw, heap, held):
+        act = draw.randrange(6)
+        if not held or act == 0 and len(held) < 10:
+            length = draw.randrange(4)
+            try:
+                held.append((heap.make(len(held), length), [None] * length))
+            except gcflip.Full:
+                held.pop()
+        elif act == 1:
+            held.pop(draw.randrange(len(held)))
+        elif act < 4 and (chosen := draw.choice(held))[1]:
+            field, (ref, model) = draw.randrange(len(chosen[1])), chosen
+            other = draw.choice(held)
+            ref[field], model[field] = draw.choice([(None, None), (draw.randrange(1 << 63),) * 2, other])
+        else:
+            ref, model = draw.choice(held)
+            for _ in range(8):
+                for content, wanted in zip(ref, model):
+                    self.assertEqual(len(content) if isinstance(content, Ref) else content, len(wanted) if isinstance(wanted, list) else wanted)
+                inner = [field for field, wanted in enumerate(model) if isinstance(wanted, list)]
+                if not inner:
+                    break
+                field = draw.choice(inner)
+                ref, model = ref[field], model[field]
+            for known, of_known in held:
+                self.assertEqual(known.same(ref), of_known is model)
+
+
+class Threads(unittest.TestCase):
+    def test_threads_make_objects(self):
+        """Lets each of four threads make lists of its own in one heap, with whole collections in between."""
+        before = sys.getswitchinterval()
+        sys.setswitchinterval(1e-5)
+        self.addCleanup(sys.setswitchinterval, before)
+        with Heap(4096, extra_roots=64) as heap:
+            found = []
+            threads = [threading.Thread(target=self.make_lists, args=(heap, number, found)) for number in range(4)]
+            for thread in threads:
+                thread.start()
+            for thread in threads:
+                thread.join()
+            self.assertEqual(sorted(found), [0, 1, 2, 3])
+            del threads
+            collect(heap)
+            self.assertEqual((collect(heap), heap.counts().free), (0, 4095))
+
+    def make_lists(self, heap, number, found):
+        for _ in range(20):
+            last = None
+            for place_in_list in range(50):
+                ref = heap.make(number, 2)
+                ref[0], ref[1], last = place_in_list, last, ref
+            for place_in_list in range(49, -1, -1):
+                assert (last.kind, last[0]) == (number, place_in_list)
+                last = last[1]
+        found.append(number)
+
+
+if __name__ == "__main__":
+    unittest.main()
