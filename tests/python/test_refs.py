@@ -71,6 +71,15 @@ class Fields(unittest.TestCase):
         for act in (lambda: first[0], lambda: first.__setitem__(0, 1), lambda: len(first), lambda: first.kind, lambda: self.heap.make(1, 1)):
             with self.assertRaises(gcflip.Closed):
                 act()
+        # Python shows what a deletion raises, and goes on.
+        shown, before = [], sys.unraisablehook
+        sys.unraisablehook = shown.append
+        try:
+            del first
+            gc.collect()
+        finally:
+            sys.unraisablehook = before
+        self.assertEqual(shown, [])
 
 
 class Roots(unittest.TestCase):
@@ -161,6 +170,8 @@ class Roots(unittest.TestCase):
             for _ in range(5):
                 held = [heap.make(1, 0), heap.make(1, 0)]
                 heap._turn.take(held.clear)
+            # The roots of both are cleared, and not only the one that is taken.
+            self.assertEqual((heap.make(3, 0).kind, collect(heap)), (3, 0))
             self.assertEqual([ref.kind for ref in (heap.make(1, 0), heap.make(2, 0))], [1, 2])
 
     def test_a_heap_goes_with_its_last_reference(self):

@@ -3,7 +3,7 @@ from __future__ import annotations
 
 import contextlib
 import itertools
-from typing import TYPE_CHECKING, Iterator, NoReturn, Union
+from typing import TYPE_CHECKING, Iterator, Union
 
 from .errors import Closed, FrameFull, Full, OutOfMemory, OutOfRange
 
@@ -129,9 +129,6 @@ class Ref:
         copy = Ref(self.heap, self._pool)
         self.heap.copy_root(copy.place, self.place)
         return copy
-
-    def __reduce_ex__(self, protocol: object) -> NoReturn:
-        raise TypeError("a reference cannot be pickled")
 
     def __del__(self) -> None:
         if self._root:
