@@ -16,14 +16,14 @@ use Rattle.gc_words.specs.Certificate.{Certified}
 use Rattle.gc_words.proofs.Public.{relinked, link_spelled, laid_out_words, closed_objects, some_of}
 use Rattle.gc_heap.specs.Heap.{HeapWords, IsHeap, graph_in}
 use Rattle.gc_plan.specs.State.{Replica, Collection, State, new_graph, pairs_of, new_objects, new_end, moved, replica_of}
-use Rattle.gc_plan.specs.Linked.{linked_image, old_links}
+use Rattle.gc_plan.specs.Linked.{linked_image, old_links, new_links}
 use Rattle.gc_plan.specs.Steps.{is_empty, is_ready, scan_done, roots_done}
 use Rattle.gc_plan.specs.Members.{In}
 use Rattle.gc_plan.specs.Belonging.{IsSpaceGraph, IsOpened, IsDue, IsLogged, Belongs}
 use Rattle.gc_plan.specs.declared.step.StepReply.{StepReply}
-use Rattle.gc_plan.proofs.Public.{IsReady, certified, corresponding_graphs, flips, lookup_in, named_address, belongs_from, its_replicas, replicas_due}
+use Rattle.gc_plan.proofs.Public.{IsReady, certified, corresponding_graphs, flips, lookup_in, in_map_from, named_address, belongs_from, its_replicas, replicas_due}
 use Rattle.gc_copy.specs.Words.{CollectionWords, IsCollection, BelongsTo, LinksReplicas, Leads, collection_in, open_state, replicas_in}
-use Rattle.gc_copy.proofs.Public.{heap_graph, space_spelled, words_back, block_found_in, HasObjectsOf, flipped_sound, flip_is, opened}
+use Rattle.gc_copy.proofs.Public.{heap_graph, space_spelled, words_back, block_found_in, HasObjectsOf, flipped_sound, flip_is, new_shown, opened}
 use Rattle.gc_concurrent.specs.Ends.{Mine, Theirs}
 use Rattle.gc_concurrent.specs.Internal.Plans.{collection_of, plan}
 use Rattle.gc_concurrent.specs.Heaps.{heap_of}
@@ -76,6 +76,15 @@ module _ (m : Mine) (t : Theirs) (roots : List ℕ) (heap_is : IsHeap (heap_of m
   old : IsSpaceGraph m.space.size (free_in m.space) (graph_in (heap_of m roots))
   old = heap_graph (heap_of m roots) heap_is
 
+  original_low : (r : Replica) → In r t.replicas → r.original < 2 ^ 32
+  original_low r l =
+      let there = (h.belongs).replicas r l in
+      let address = named_address m.space.size (free_in m.space) (graph_in (heap_of m roots)) r.original old (there.original, lookup_in (objects_of m.space.words) r.original there.original there.found) in
+      omega arith
+
+  pair_low : (p : ℕ × ℕ) → In p (pairs_of (its t)) → p.0 < 2 ^ 32
+  pair_low p l = let r = in_map_from (λ (q : Replica). (q.original, q.place)) p t.replicas l in let low = original_low r.0 r.1 in let e = ap (λ (q : ℕ × ℕ). q.0) r.2 in omega arith
+
   module _ (space : SpaceWords) (holds : Holds space t) where
     abbrev x : CollectionWords
     x = record { space = space; logs = record { entries = []; spare = 0 } ∷ []; scan_place = t.scan_place; scan_field = t.scan_field; epoch = 0 }
@@ -115,14 +124,8 @@ module _ (m : Mine) (t : Theirs) (roots : List ℕ) (heap_is : IsHeap (heap_of m
     to : BelongsTo other x
     to = record { belongs = belongs; links = linked; logs = refl }
 
-    originals : (r : Replica) → In r (replicas_in space.words) → r.original < 2 ^ 32
-    originals r l =
-        let there = (h.belongs).replicas r (subst (In r) (sym holds.same) l) in
-        let address = named_address m.space.size (free_in m.space) (graph_in (heap_of m roots)) r.original old (there.original, lookup_in (objects_of m.space.words) r.original there.original there.found) in
-        omega arith
-
     is : IsCollection x
-    is = record { space = holds.shaped; logs = omega arith; originals = originals }
+    is = record { space = holds.shaped; logs = omega arith; originals = λ r l. original_low r (subst (In r) (sym holds.same) l) }
 
     ready : is_ready (collection_in x) (graph_in other) ≡ true
     ready =
@@ -150,6 +153,12 @@ module _ (m : Mine) (t : Theirs) (roots : List ℕ) (heap_is : IsHeap (heap_of m
         ap (λ ws. graph_in (record { space = space; roots = ws; mutators = 1 })) (sym same_words) ∙ (g
         ∙ λ i. record { objects = new_objects (record (its t) { replicas = sym holds.same i }); roots = map (λ v. moved_is v i) (map value_of roots) })
 
+    image_there : image_with space (moved_words t roots) ≡ linked_image (new_links (its t)) t.size (new_graph (its t) (map value_of roots))
+    image_there =
+        ap (image_with space) (sym same_words) ∙ (new_shown other x is to
+        ∙ λ i. linked_image (new_links (record (its t) { replicas = sym holds.same i })) (holds.sized i)
+        (record { objects = new_objects (record (its t) { replicas = sym holds.same i }); roots = map (λ v. moved_is v i) (map value_of roots) }))
+
   abbrev c : Collection
   c = collection_of m t
 
@@ -172,6 +181,8 @@ module _ (m : Mine) (t : Theirs) (roots : List ℕ) (heap_is : IsHeap (heap_of m
     corresponding = subst (Corresponding (pairs_of (its t)) (graph_in (heap_of m roots))) new_graph_same (corresponding_graphs m.space.size (free_in m.space) (graph_in (heap_of m roots)) c old h.belongs h.size ready_there);
     heap = heap_there;
     graph = graph_there;
+    image = image_there;
+    low = pair_low;
     kept = kept;
   }
 

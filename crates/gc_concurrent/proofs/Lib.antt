@@ -10,6 +10,7 @@ pub mod Copying
 pub mod Placing
 pub mod Joined
 pub mod Flip
+pub mod Certificates
 pub mod Opening
 pub mod CatchUp
 pub mod Memory

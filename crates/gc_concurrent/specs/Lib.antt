@@ -6,5 +6,6 @@ pub mod Waiters
 pub mod Machines
 pub mod Works
 pub mod Nearing
+pub mod Checking
 pub mod Law
 pub mod Internal

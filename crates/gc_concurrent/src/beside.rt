@@ -6,6 +6,7 @@ ghost use Rattle.gc_concurrent.specs.Law.{AreAllReplies, AreRepliesFromNothing};
 use crate::copier::Work;
 use crate::handshake::{Asking, Collector, Holding, Runner, open};
 use crate::runs::mutate_all;
+use gc_check::Sequential;
 use gc_graph::{NoMemory, Op, Reply, View};
 use std::alloc::Global;
 use std::sync::Wait;
@@ -102,7 +103,7 @@ fn flipped<R: Wait>(
 ) -> Option<Collector> {
     let mut holding = holding;
     for _ in rt.forever() {
-        match holding.finish(alloc) {
+        match holding.finish(alloc, &Sequential) {
             Ok(collector) => return Some(collector),
             Err(refused) => holding = refused.holding,
         }
@@ -110,7 +111,8 @@ fn flipped<R: Wait>(
     unreachable!()
 }
 
-/// Opens a heap of `size` words, and performs all commands in it, while a collector's thread collects and flips without a pause. Returns the replies.
+/// Opens a heap of `size` words, and performs all commands in it, while a collector's thread collects and flips without a pause. Each flip
+/// asks `Sequential`. Returns the replies.
 pub fn beside_collector<R: Threads + Wait + Sync>(
     rt: &R,
     alloc: Global,

@@ -11,6 +11,7 @@ ghost use Rattle.gc_words.specs.Space.{empty_space};
 ghost use Rattle.gc_heap.specs.Heap.{graph_in};
 ghost use Rattle.gc_concurrent.specs.Ends.{its, opening_theirs};
 ghost use Rattle.gc_concurrent.specs.Unreachable.{CopiesNothingUnreachable};
+ghost use Rattle.gc_concurrent.specs.Checking.{CertifiesFlip, FlippedBy, flip_shown};
 ghost use Rattle.gc_plan.specs.State.{new_graph};
 ghost use Rattle.gc_words.specs.Word.{value_of};
 
@@ -19,6 +20,7 @@ use crate::copier::{Copier, Work};
 use crate::held::{Held, NoFlip, hold, open_ends};
 use crate::plays::{Ask, Go, HandshakeRoles, Park, Resume, Start, Take};
 use atomic_table::{Seat, Table, TableRule};
+use gc_check::Checks;
 use gc_graph::NoMemory;
 use std::alloc::Global;
 use std::marker::Model;
@@ -332,10 +334,17 @@ impl Holding {
         }
     }
 
-    /// Lets the mutator go on in the new space, and begins the next collection. Fails if something is left to do, or if an allocation fails. The
-    /// mutator's heap is then unchanged.
-    pub fn flip(self, alloc: Global) -> Result<Collector, Unflipped>
+    /// Lets the mutator go on in the new space, and begins the next collection, if the checker says yes. It checks both spaces whole, so the time grows
+    /// with the heap. Fails if something is left to do, if the checker refuses, or if an allocation fails. The mutator's heap is then unchanged.
+    ///
+    /// A ready collection is proved to pass. It is checked all the same, so that a flip rests on the checker's theorem alone, which knows nothing of
+    /// the collector.
+    pub fn flip<C: Checks>(self, alloc: Global, checker: &C) -> Result<Collector, Unflipped>
+        requires { C.can_check checker.now }
         ensures ready { OnOk result (may_flip self.held ≡ true) }
+        ensures asked { OnOk result (C.says_yes checker.now (flip_shown (heap_held self.held) (known_to self.held.copier))) }
+        ensures certified { OnOk result (CertifiesFlip (heap_held self.held) (known_to self.held.copier)) }
+        ensures never_refused { IfErr result (λ refused. refused.why ≢ NoFlip.Refused) }
         ensures fresh { IfOk result (λ collector. known_to collector.copier ≡ opening_theirs (known_to collector.copier).base (known_to self.held.copier).size (known_to self.held.copier).size) }
         ensures graph { IfOk result (λ collector. graph_in (known_to collector.copier).base ≡ new_graph (its (known_to self.held.copier)) (map value_of self.held.roots.items)) }
         ensures carried { OnOk result (CopiesNothingUnreachable (known_to self.held.copier)) }
@@ -349,7 +358,7 @@ impl Holding {
             mut seat,
             held,
         } = self;
-        let (commander, copier) = match held.flip(alloc) {
+        let (commander, copier) = match held.flip(alloc, checker) {
             Ok(both) => both,
             Err((held, why)) => {
                 return Err(Unflipped {
@@ -372,8 +381,12 @@ impl Holding {
         })
     }
 
-    /// Performs steps until the collection is ready, and flips. Fails if an allocation fails, or if the new space is smaller than the mutator's.
-    pub fn finish(self, alloc: Global) -> Result<Collector, Unflipped>
+    /// Performs steps until the collection is ready, and flips if the checker says yes. Fails if the checker refuses, if an allocation fails, or if the
+    /// new space is smaller than the mutator's.
+    pub fn finish<C: Checks>(self, alloc: Global, checker: &C) -> Result<Collector, Unflipped>
+        requires { C.can_check checker.now }
+        ensures asked { IfOk result (λ collector. FlippedBy (C.says_yes checker.now) (heap_held self.held) (known_to collector.copier).base) }
+        ensures never_refused { IfErr result (λ refused. refused.why ≢ NoFlip.Refused) }
         ensures fresh { IfOk result (λ collector. known_to collector.copier ≡ opening_theirs (known_to collector.copier).base (known_to self.held.copier).size (known_to self.held.copier).size) }
         ensures why { IfErr result (λ refused. refused.why ≡ NoFlip.NotReady → (known_to self.held.copier).size < (known_to self.held.copier).old) }
         ensures heap { IfErr result (λ refused. heap_held refused.holding.held ≡ heap_held self.held) }
@@ -389,11 +402,11 @@ impl Holding {
                         why: NoFlip::NotReady,
                     });
                 }
-                Work::Done => match holding.flip(alloc) {
+                Work::Done => match holding.flip(alloc, checker) {
                     Ok(collector) => return Ok(collector),
                     Err(refused) => match refused.why {
                         NoFlip::NotReady => holding = refused.holding,
-                        NoFlip::NoMemory => return Err(refused),
+                        NoFlip::Refused | NoFlip::NoMemory => return Err(refused),
                     },
                 },
             }

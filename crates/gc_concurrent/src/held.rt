@@ -20,6 +20,7 @@ ghost use Rattle.gc_concurrent.specs.Internal.Rule.{entries_of_fields};
 ghost use Rattle.gc_concurrent.specs.Internal.Flip.{HasNothingLeft, Flips};
 ghost use Rattle.gc_concurrent.specs.Internal.Copiers.{KeepsSeat, moved_by, IsTargetIn};
 ghost use Rattle.gc_concurrent.specs.Heaps.{CorrespondsTo};
+ghost use Rattle.gc_concurrent.specs.Checking.{CertifiesFlip, flip_shown};
 
 use crate::cells::Cells;
 use crate::commands::Commander;
@@ -27,6 +28,7 @@ use crate::copier::{Copier, Work, moved_word};
 use crate::ends::{Opened, open_cells};
 use crate::mutator::Mutator;
 use crate::plays::{Flipped, Roles, Rooted, Took};
+use gc_check::Checks;
 use gc_graph::NoMemory;
 use gc_words::{Addr, Space};
 use std::alloc::{AllocError, AllocFailed, Global};
@@ -144,11 +146,25 @@ fn moved_roots(alloc: Global, claims: &[u32], roots: &[u64]) -> Result<Vec<u64>,
     Ok(moved)
 }
 
-/// Why a flip was not made. `NotReady`: something is due or left to scan, or a root's target has no replica. `NoMemory`: an allocation failed.
+/// Why a flip was not made.
 #[derive(Clone, Copy, Debug, PartialEq, Eq)]
 pub enum NoFlip {
+    /// Something is due or left to scan, or a root's target has no replica.
     NotReady,
+    /// The checker refused the certificate. This is proved never to occur.
+    Refused,
+    /// An allocation failed.
     NoMemory,
+}
+
+impl From<NoMemory> for NoFlip {
+    ghost use Rattle.gc_concurrent.specs.declared.held.NoFlip.TheVariants as reasons;
+
+    ghost from_gives = { λ _ made. made ≡ reasons.NoMemory };
+
+    fn from(_refused: NoMemory) -> NoFlip {
+        NoFlip::NoMemory
+    }
 }
 
 impl Held {
@@ -229,15 +245,23 @@ impl Held {
         )
     }
 
-    /// The mutator goes on in the new space, and the next collection begins, unless something is left to do, or an allocation fails. If a
-    /// root's target has no replica, it is then wanted.
-    pub(crate) fn flip(mut self, alloc: Global) -> Result<(Commander, Copier), (Held, NoFlip)>
+    /// The mutator goes on in the new space, and the next collection begins, unless something is left to do, the checker refuses, or an allocation
+    /// fails. If a root's target has no replica, it is then wanted.
+    pub(crate) fn flip<C: Checks>(
+        mut self,
+        alloc: Global,
+        checker: &C,
+    ) -> Result<(Commander, Copier), (Held, NoFlip)>
+        requires { C.can_check checker.now }
         ensures ok { IfOk result (λ r. CorrespondsTo (heap_held self) (heap_in r.0)) }
         ensures replicas { IfOk result (λ r. graph_in (heap_in r.0) ≡ new_graph (its (known_to self.copier)) (map value_of self.roots.items)) }
         ensures space { IfOk result (λ r. r.0.mutator.size ≡ (known_to self.copier).size) }
         ensures fresh { IfOk result (λ r. known_to r.1 ≡ opening_theirs (heap_in r.0) (known_to self.copier).size (known_to self.copier).size) }
         ensures carried { OnOk result (CopiesNothingUnreachable (known_to self.copier)) }
         ensures ready { OnOk result (may_flip self ≡ true) }
+        ensures asked { OnOk result (C.says_yes checker.now (flip_shown (heap_held self) (known_to self.copier))) }
+        ensures certified { OnOk result (CertifiesFlip (heap_held self) (known_to self.copier)) }
+        ensures never_refused { IfErr result (λ r. r.1 ≢ NoFlip.Refused) }
         ensures row { IfOk result (λ r. r.0.mutator.seat.table_id ≡ r.1.seat.table_id) }
         ensures heap { IfErr result (λ r. heap_held r.0 ≡ heap_held self) }
         ensures nearer { IfErr result (λ r. r.1 ≡ NoFlip.NotReady → WhereDone Work.Done (known_to self.copier) → IsNearer self r.0) }
@@ -259,12 +283,14 @@ impl Held {
                 }
             },
         };
+        if let Err(why) = self.check(alloc, checker, roots.as_slice()) {
+            return Err((self, why));
+        }
         let size = self.copier.space.size();
         let claims = match Vec::from_elem(alloc, 0u32, size as usize) {
             Ok(claims) => claims,
             Err(AllocError) => return Err((self, NoFlip::NoMemory)),
         };
-        self.copier.look();
         let opened = match open_cells(alloc, &self.copier.space, roots.as_slice(), size) {
             Ok(opened) => opened,
             Err(NoMemory) => return Err((self, NoFlip::NoMemory)),

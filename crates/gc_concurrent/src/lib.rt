@@ -3,6 +3,7 @@
 
 mod beside;
 mod cells;
+mod checking;
 mod commands;
 mod copier;
 mod ends;

@@ -2,6 +2,7 @@
 
 use super::expecting::expect;
 use super::marks::{fence, retried};
+use gc_check::Sequential;
 use gc_concurrent::{
     Collector, CutShort, Holding, NoFlip, Runner, Waiting, Work, mutate, mutate_all, open,
 };
@@ -118,7 +119,7 @@ fn held(
     let mut holding = asking.take().ok().expect(rt, "a mutator that has stopped");
     finish(&mut holding);
     let refused = holding
-        .flip(alloc)
+        .flip(alloc, &Sequential)
         .err()
         .expect(rt, "a root without a replica");
     expect(rt, refused.why == NoFlip::NotReady, "not ready");
@@ -136,14 +137,14 @@ fn concurrent_flip(rt: HostRuntime) {
     expect_reply(&rt, &mut runner, &put(&rt), Reply::Done);
     let (waiting, holding) = held(&rt, alloc, runner, collector);
     fence(alloc);
-    let flip = holding.flip(alloc);
+    let flip = holding.flip(alloc, &Sequential);
     fence(alloc);
     let collector = match flip {
         Ok(collector) => collector,
         Err(refused) => {
             retried(alloc);
             expect(&rt, refused.why == NoFlip::NoMemory, "too little memory");
-            refused.holding.flip(alloc).ok().expect(&rt, "a flip")
+            refused.holding.flip(alloc, &Sequential).ok().expect(&rt, "a flip")
         }
     };
     let mut runner = waiting.resume().ok().expect(&rt, "a mutator that goes on");

@@ -1,13 +1,14 @@
 -- What holds where both ends are at hand and nothing is due.
-use Rattle.std.specs.Prelude.{[], ◌≡◌, ℕ, true, List, map}
+use Rattle.std.specs.Prelude.{[], ◌≡◌, ◌<◌, ◌^◌, ℕ, true, List, map}
 use Rattle.gc_graph.specs.Graph.{Graph}
 use Rattle.gc_graph.specs.Correspond.{Corresponding}
 use Rattle.gc_words.specs.Word.{value_of, word_of}
 use Rattle.gc_words.specs.Space.{SpaceWords, IsSpace, image_with}
 use Rattle.gc_words.specs.Certificate.{Certified}
 use Rattle.gc_heap.specs.Heap.{HeapWords, IsHeap, graph_in}
-use Rattle.gc_plan.specs.State.{new_graph, pairs_of, moved}
-use Rattle.gc_plan.specs.Linked.{linked_image}
+use Rattle.gc_plan.specs.State.{Replica, new_graph, pairs_of, moved}
+use Rattle.gc_plan.specs.Linked.{linked_image, new_links}
+use Rattle.gc_plan.specs.Members.{In}
 use Rattle.gc_plan.specs.Steps.{scan_done, roots_done}
 use Rattle.gc_copy.specs.Words.{replicas_in}
 use Rattle.atomic_table.specs.Table.{Step}
@@ -41,13 +42,23 @@ pub record Holds (space : SpaceWords) (t : Theirs) : Type 0 where
   pub sized : space.size ≡ t.size
   pub same : t.replicas ≡ replicas_in space.words
 
+-- each link of such a space, with the address of the object that has it
+abbrev pub linked : Replica → ℕ × ℕ
+linked r = (r.original, r.place)
+
+abbrev pub linked_in : List ℕ → List (ℕ × ℕ)
+linked_in words = map linked (replicas_in words)
+
 -- The image of the space, and the new space with the moved roots, pass the check. A space that holds the replicas is then a heap with the moved
--- roots, and its graph corresponds to the mutator's: the mutator may go on in it. No replica is that of an object that was unreachable at first.
+-- roots, and its graph corresponds to the mutator's: the mutator may go on in it. It is the new space, with its links. No replica is that of an
+-- object that was unreachable at first.
 pub record Flips (roots : List ℕ) (m : Mine) (t : Theirs) : Type 0 where
   pub certified : (links : ℕ → ℕ) → Certified (image_with m.space roots) (linked_image links t.size (new_graph (its t) (map value_of roots))) (pairs_of (its t))
   pub corresponding : Corresponding (pairs_of (its t)) (graph_in (heap_of m roots)) (new_graph (its t) (map value_of roots))
   pub heap : (space : SpaceWords) → Holds space t → IsHeap (new_heap_of space roots t)
   pub graph : (space : SpaceWords) → Holds space t → graph_in (new_heap_of space roots t) ≡ new_graph (its t) (map value_of roots)
+  pub image : (space : SpaceWords) → Holds space t → image_with space (moved_words t roots) ≡ linked_image (new_links (its t)) t.size (new_graph (its t) (map value_of roots))
+  pub low : (p : ℕ × ℕ) → In p (pairs_of (its t)) → p.0 < 2 ^ 32
   pub kept : CopiesNothingUnreachable t
 
 -- A load with both ends at hand shows that the mutator may go on in the new space.

@@ -1,7 +1,9 @@
 //! What each call of the handshake does, in one thread.
+use gc_check::{CheckFault, Checks, Sequential, Yes};
 use gc_concurrent::{Collector, Holding, NoFlip, Runner, Waiting, Work, open};
 use gc_graph::{Op, Reply, View};
 use gc_test_kit::commands::{get, new, num, own, put, saw};
+use gc_words::{ImageRef, Pair};
 use std::alloc::Global;
 use std::test::Fail;
 
@@ -49,10 +51,10 @@ fn flipped(alloc: Global, mut holding: Holding) -> Result<Collector, Fail> {
         if !ends_held(&mut holding) {
             break;
         }
-        match holding.flip(alloc) {
+        match holding.flip(alloc, &Sequential) {
             Ok(collector) => return Ok(collector),
             Err(refused) => {
-                if refused.why == NoFlip::NoMemory {
+                if refused.why != NoFlip::NotReady {
                     break;
                 }
                 holding = refused.holding;
@@ -60,6 +62,43 @@ fn flipped(alloc: Global, mut holding: Holding) -> Result<Collector, Fail> {
         }
     }
     Err(Fail::from("it flips"))
+}
+
+/// A checker that never has enough memory.
+struct WithoutMemory;
+
+impl Checks for WithoutMemory {
+    ghost use Rattle.std.specs.Prelude.{⊥};
+
+    ghost says_yes = { λ _ _. ⊥ };
+
+    fn check(
+        &self,
+        _alloc: Global,
+        _old: ImageRef,
+        _new: ImageRef,
+        _cert: &[Pair],
+    ) -> Result<Yes, CheckFault> {
+        Err(CheckFault::NoMemory)
+    }
+}
+
+/// Asks this checker for a flip, after as many steps as are wanted. Returns the collector that still holds the mutator.
+fn refused_for_memory(alloc: Global, mut holding: Holding) -> Result<Holding, Fail> {
+    for _ in 0..MOST_STEPS {
+        if !ends_held(&mut holding) {
+            break;
+        }
+        let refused = holding
+            .flip(alloc, &WithoutMemory)
+            .err()
+            .ok_or("its checker has no memory")?;
+        holding = refused.holding;
+        if refused.why == NoFlip::NoMemory {
+            return Ok(holding);
+        }
+    }
+    Err(Fail::from("its checker is asked"))
 }
 
 /// Performs a command, and returns its reply.
@@ -83,7 +122,7 @@ fn a_flip_keeps_what_the_roots_reach(rt: HostRuntime) -> Result<(), Fail> {
     assert!(rt; told(&mut runner, get(own(2), own(0), 1)) == Some(saw(9)));
     // The mutator has gone on, so it can be asked again.
     let (waiting, holding) = taken(runner, collector)?;
-    let collector = holding.finish(alloc).ok().ok_or("it flips")?;
+    let collector = holding.finish(alloc, &Sequential).ok().ok_or("it flips")?;
     let mut runner = waiting.wait(&rt);
     assert!(rt; told(&mut runner, get(own(3), own(0), 1)) == Some(saw(9)));
     let _still = collector.ask().ok().ok_or("it has gone on")?;
@@ -98,7 +137,7 @@ fn a_write_beside_the_collector_is_in_the_new_space(rt: HostRuntime) -> Result<(
     let (mut runner, collector) = open(alloc, 64)?;
     assert!(rt; told(&mut runner, new(own(0), 3, 1)) == Some(Reply::Made));
     let (waiting, mut holding) = taken(runner, collector)?;
-    let refused = holding.flip(alloc).err().ok_or("the root has no replica")?;
+    let refused = holding.flip(alloc, &Sequential).err().ok_or("the root has no replica")?;
     assert!(rt; refused.why == NoFlip::NotReady);
     holding = refused.holding;
     assert!(rt; ends_held(&mut holding));
@@ -110,6 +149,31 @@ fn a_write_beside_the_collector_is_in_the_new_space(rt: HostRuntime) -> Result<(
     let (waiting, holding) = taken(runner, collector)?;
     let _collector = flipped(alloc, holding)?;
     let mut runner = waiting.resume().ok().ok_or("it may go on")?;
+    assert!(rt; told(&mut runner, get(own(2), own(0), 0)) == Some(saw(5)));
+    Ok(())
+}
+
+// After a flip that its checker prevents, the mutator has its objects, and the collection goes on: it sees a later write, and flips.
+#[test]
+fn a_flip_without_a_yes_changes_nothing(rt: HostRuntime) -> Result<(), Fail> {
+    let _named = View::Nil;
+    let alloc = rt.alloc();
+    let (mut runner, collector) = open(alloc, 64)?;
+    assert!(rt; told(&mut runner, new(own(0), 3, 2)) == Some(Reply::Made));
+    assert!(rt; told(&mut runner, num(own(1), 9)) == Some(Reply::Done));
+    assert!(rt; told(&mut runner, put(own(0), 1, own(1))) == Some(Reply::Done));
+    let (waiting, holding) = taken(runner, collector)?;
+    let holding = refused_for_memory(alloc, holding)?;
+    let waiting = waiting.resume().err().ok_or("the collector holds it")?;
+    let collector = holding.go();
+    let mut runner = waiting.resume().ok().ok_or("it may go on")?;
+    assert!(rt; told(&mut runner, get(own(2), own(0), 1)) == Some(saw(9)));
+    assert!(rt; told(&mut runner, num(own(1), 5)) == Some(Reply::Done));
+    assert!(rt; told(&mut runner, put(own(0), 0, own(1))) == Some(Reply::Done));
+    let (waiting, holding) = taken(runner, collector)?;
+    let _collector = flipped(alloc, holding)?;
+    let mut runner = waiting.resume().ok().ok_or("it may go on")?;
+    assert!(rt; told(&mut runner, get(own(2), own(0), 1)) == Some(saw(9)));
     assert!(rt; told(&mut runner, get(own(2), own(0), 0)) == Some(saw(5)));
     Ok(())
 }

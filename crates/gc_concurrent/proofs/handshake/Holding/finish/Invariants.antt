@@ -7,10 +7,10 @@ use Rattle.gc_concurrent.specs.Nearing.{steps_ahead}
 use Rattle.gc_concurrent.proofs.handshake.Holding.finish.Given as goal
 
 abbrev pub invariant-loop-holding : goal.invariant-loop-holding
-invariant-loop-holding l = record {
+invariant-loop-holding g l = record {
   heap : heap_held l.holding.held ≡ heap_held l.fn.self.held;
   begun : KeepsBeginning (known_to l.fn.self.held.copier) (known_to l.holding.held.copier);
 }
 
 abbrev pub decreases-loop-holding : goal.decreases-loop-holding
-decreases-loop-holding l = steps_ahead (end_of (heap_held l.holding.held).space) (known_to l.holding.held.copier)
+decreases-loop-holding g l = steps_ahead (end_of (heap_held l.holding.held).space) (known_to l.holding.held.copier)

@@ -6,7 +6,7 @@ use Rattle.gc_concurrent.proofs.Passing.{handshake_tied, handshake_word, filled,
 use Rattle.gc_concurrent.proofs.handshake.Holding.flip.Goals as goal
 
 pub store-requires : goal.store-requires
-store-requires c =
+store-requires g c =
     let a = c.args.self in (
       c.exchange-spare.ensures.0 ∙ handshake_tied _ _ _ c.deref-2.ensures a.row.0,
       handshake_word _ _ _ c.deref-2.ensures a.row.0 a.row.1,
@@ -14,4 +14,4 @@ store-requires c =
     )
 
 pub exchange-spare-requires : goal.exchange-spare-requires
-exchange-spare-requires c = let a = c.args.self in let o = one_hand a.seat.me.1 _ a.holds in (handshake_tied _ _ _ c.deref.ensures a.row.0, in_hand _ _ _ o.1)
+exchange-spare-requires g c = let a = c.args.self in let o = one_hand a.seat.me.1 _ a.holds in (handshake_tied _ _ _ c.deref.ensures a.row.0, in_hand _ _ _ o.1)

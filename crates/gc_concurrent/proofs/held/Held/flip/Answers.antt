@@ -19,7 +19,7 @@ use Rattle.gc_concurrent.specs.Ends.{its}
 use Rattle.gc_concurrent.specs.declared.held.Missing.{Missing}
 use Rattle.gc_concurrent.specs.declared.held.Missing.TheVariants.{Target}
 use Rattle.gc_concurrent.specs.Internal.Copiers.{moved_by, IsTargetIn}
-use Rattle.gc_concurrent.specs.Internal.Flip.{HasNothingLeft, Flips, new_heap_of, moved_words}
+use Rattle.gc_concurrent.specs.Internal.Flip.{HasNothingLeft, new_heap_of, moved_words}
 use Rattle.gc_concurrent.proofs.TiedCells.{tied, tied_words}
 use Rattle.gc_concurrent.proofs.Opening.{splits_rule}
 use Rattle.gc_concurrent.proofs.Memory.{claim_low}
@@ -33,14 +33,14 @@ near : (h : Held) (k a : ℕ) → k < length h.roots.items → value_of (slice_i
 near h k a l is = let n = root_near h.copier.seat.me.0.mine h.roots.items h.sound k a l is in let e = h.ended.1 in let s = h.copier.sized.0 in omega arith
 
 pub moved_roots-moved-requires-clause-inside : goal.moved_roots-moved-requires-clause-inside
-moved_roots-moved-requires-clause-inside c k a l is =
+moved_roots-moved-requires-clause-inside g c k a l is =
     let h = c.args.self in
     let e = c.as_slice-2.ensures.value in
     let n = near h k a (subst (λ (r : List ℕ). k < length r) e l) (subst (λ (r : List ℕ). value_of (slice_index r k) ≡ Ref a) e is) in
     let m = ap (length {A = ℕ}) c.as_slice.ensures.value in let g = h.copier.claimed.long in omega arith
 
 pub moved_roots-moved-requires-clause-places : goal.moved_roots-moved-requires-clause-places
-moved_roots-moved-requires-clause-places c =
+moved_roots-moved-requires-clause-places g c =
     let a = c.args.self.copier in
     subst (λ (row : List ℕ). (x : ℕ) → slice_index row x < 4294967295) (sym c.as_slice.ensures.value) (claim_low a.claims.items a.seat.me.0.theirs a.loose a.claimed)
 
@@ -49,30 +49,30 @@ missing_at : (h : Held) (row roots : List ℕ) (at : Addr) (e : Missing) → row
 missing_at h row roots at e row_is roots_is is t = subst (λ (z : Missing × (List ℕ × List ℕ)). IsTargetIn z.0 z.1.0 z.1.1) (λ i. (is i, (row_is i, roots_is i))) t
 
 pub want-requires-clause-low : goal.want-requires-clause-low
-want-requires-clause-low c =
+want-requires-clause-low g c =
     let h = c.args.self in
     let t = missing_at h c.as_slice.result.now c.as_slice-2.result.now c.in-Target.at _ c.as_slice.ensures.value c.as_slice-2.ensures.value c.in-Target.is c.in-Err.ensures.target in
     let n = near h t.0 c.in-Target.at.0 t.1 t.2 in
     let s = h.copier.sized.0 in omega arith
 
 pub want-requires-clause-kept : goal.want-requires-clause-kept
-want-requires-clause-kept c =
+want-requires-clause-kept g c =
     let h = c.args.self in
     let t = missing_at h c.as_slice.result.now c.as_slice-2.result.now c.in-Target.at _ c.as_slice.ensures.value c.as_slice-2.ensures.value c.in-Target.is c.in-Err.ensures.target in
     subst (λ (b : HeapWords). MayBeCopied b c.in-Target.at.0) (sym h.begun)
     (target_leads (MayBeCopied h.copier.seat.me.0.mine.base) (Ref c.in-Target.at.0) c.in-Target.at.0 (h.kept.roots (Ref c.in-Target.at.0) (value_in h.roots.items t.0 (Ref c.in-Target.at.0) t.1 t.2)) refl)
 
 pub want-requires-clause-clear : goal.want-requires-clause-clear
-want-requires-clause-clear c =
+want-requires-clause-clear g c =
     let t = missing_at c.args.self c.as_slice.result.now c.as_slice-2.result.now c.in-Target.at _ c.as_slice.ensures.value c.as_slice-2.ensures.value c.in-Target.is c.in-Err.ensures.target in t.3
 
 pub returns-in-Target-clause-nearer : goal.returns-in-Target-clause-nearer
-returns-in-Target-clause-nearer c _ done =
+returns-in-Target-clause-nearer g c _ done =
     let h = c.args.self in
     subst (ComesNearer (end_of h.copier.seat.me.0.mine.space) h.copier.seat.me.0.theirs) (sym c.want.ensures.wants) (wants_nears (end_of h.copier.seat.me.0.mine.space) c.in-Target.at.0 h.copier.seat.me.0.theirs done.2)
 
 pub returns-in-Target-clause-not_ready : goal.returns-in-Target-clause-not_ready
-returns-in-Target-clause-not_ready c _ =
+returns-in-Target-clause-not_ready g c _ =
     let h = c.args.self in
     let t = missing_at h c.as_slice.result.now c.as_slice-2.result.now c.in-Target.at _ c.as_slice.ensures.value c.as_slice-2.ensures.value c.in-Target.is c.in-Err.ensures.target in
     root_missing h.copier.seat.me.0.mine h.copier.seat.me.0.theirs h.copier.claims.items h.roots.items h.copier.claimed h.copier.loose t.0 c.in-Target.at.0 t.1 t.2
@@ -97,73 +97,76 @@ moves h row roots e f placed =
     ∙ roots_moved h.copier.claims.items h.copier.seat.me.0.theirs h.roots.items h.copier.claimed (near h)
     (subst (λ (z : List ℕ × List ℕ). (k a : ℕ) → k < length z.1 → value_of (slice_index z.1 k) ≡ Ref a → slice_index z.0 a ≢ 0) (λ i. (e i, f i)) placed)
 
--- what a load shows where nothing is left to do
-shown : (h : Held) (row roots : List ℕ) → ((roots : List ℕ) → IsHeap (heap_of h.copier.seat.me.0.mine roots) → HasNothingLeft roots h.copier.seat.me.0 → Flips roots h.copier.seat.me.0.mine h.copier.seat.me.0.theirs)
-    → row ≡ h.copier.claims.items → roots ≡ h.roots.items → (h.copier.seat.me.0.theirs.due ≡ []) × (scan_done (its h.copier.seat.me.0.theirs) ≡ true)
-    → ((k a : ℕ) → k < length roots → value_of (slice_index roots k) ≡ Ref a → slice_index row a ≢ 0) → Flips h.roots.items h.copier.seat.me.0.mine h.copier.seat.me.0.theirs
-shown h row roots told e f idle placed = told h.roots.items h.sound (done h row roots e f idle placed)
-
 -- the new heap: the new space, with the moved roots
 new_is : (h : Held) (mine : Mine) (row roots moved : List ℕ) → (base : List ℕ) → mine ≡ opening_mine (one_heap h.copier.space base) → moved ≡ map (λ w. word_of (moved_by row (value_of w))) roots
     → row ≡ h.copier.claims.items → roots ≡ h.roots.items → ((k a : ℕ) → k < length roots → value_of (slice_index roots k) ≡ Ref a → slice_index row a ≢ 0)
     → heap_of mine moved ≡ new_heap_of h.copier.space h.roots.items h.copier.seat.me.0.theirs
 new_is h mine row roots moved base is moved_is e f placed = λ i. heap_of (is i) ((moved_is ∙ moves h row roots e f placed) i)
 
+pub check-requires-clause-left : goal.check-requires-clause-left
+check-requires-clause-left g c =
+    done c.args.self c.as_slice.result.now c.as_slice-2.result.now c.as_slice.ensures.value c.as_slice-2.ensures.value (c.is_idle.ensures.idle c.if-not-is_idle.false) c.in-Ok.ensures.placed
+
+pub check-requires-clause-moved : goal.check-requires-clause-moved
+check-requires-clause-moved g c =
+    c.as_slice-3.ensures.value
+    ∙ (c.in-Ok.ensures.moved ∙ moves c.args.self c.as_slice.result.now c.as_slice-2.result.now c.as_slice.ensures.value c.as_slice-2.ensures.value c.in-Ok.ensures.placed)
+
 pub open_cells-requires-clause-sound : goal.open_cells-requires-clause-sound
-open_cells-requires-clause-sound c =
+open_cells-requires-clause-sound g c =
     let a = c.args.self.copier in
-    let told = shown c.args.self c.as_slice.result.now c.as_slice-2.result.now c.look.ensures.told c.as_slice.ensures.value c.as_slice-2.ensures.value (c.is_idle.ensures.idle c.if-not-is_idle.false) c.in-Ok.ensures.placed in
-    let moved = c.as_slice-3.ensures.value ∙ (c.in-Ok.ensures.moved ∙ moves c.args.self c.as_slice.result.now c.as_slice-2.result.now c.as_slice.ensures.value c.as_slice-2.ensures.value c.in-Ok.ensures.placed) in
-    subst (λ (z : SpaceWords × List ℕ). IsHeap (one_heap z.0 z.1)) (λ i. (sym c.look.ensures.space i, sym moved i)) (told.heap a.space (mem a))
+    let told = c.check.ensures.told in
+    let moved = c.as_slice-4.ensures.value ∙ (c.in-Ok.ensures.moved ∙ moves c.args.self c.as_slice.result.now c.as_slice-2.result.now c.as_slice.ensures.value c.as_slice-2.ensures.value c.in-Ok.ensures.placed) in
+    subst (λ (z : SpaceWords × List ℕ). IsHeap (one_heap z.0 z.1)) (λ i. (sym c.check.ensures.space i, sym moved i)) (told.heap a.space (mem a))
 
 pub split_seat-seat-requires : goal.split_seat-seat-requires
-split_seat-seat-requires c =
+split_seat-seat-requires g c =
     let a = c.args.self.copier in
     let o = c.in-Ok-open_cells.opened in
     let view = c.in-Ok-open_cells.ensures.view in (
       tied _ _ _ c.deref.ensures o.row.0,
-      (let w = tied_words _ _ _ _ c.deref.ensures o.row.0 o.row.1 in let s = c.in-Ok-open_cells.ensures.size in let e = ap (λ (x : SpaceWords). x.size) c.look.ensures.space in let l = a.shaped.size_low in omega arith),
+      (let w = tied_words _ _ _ _ c.deref.ensures o.row.0 o.row.1 in let s = c.in-Ok-open_cells.ensures.size in let e = ap (λ (x : SpaceWords). x.size) c.check.ensures.space in let l = a.shaped.size_low in omega arith),
       splits_rule _ _ _ (ap (λ (m : Sat). m.0.writes) view) (ap (λ (m : Sat). m.0.copies) view),
     )
 
 pub invariant_of-result-2 : goal.invariant_of-result-2
-invariant_of-result-2 c =
+invariant_of-result-2 g c =
     let a = c.args.self.copier in
-    let told = shown c.args.self c.as_slice.result.now c.as_slice-2.result.now c.look.ensures.told c.as_slice.ensures.value c.as_slice-2.ensures.value (c.is_idle.ensures.idle c.if-not-is_idle.false) c.in-Ok.ensures.placed in
-    let base : List ℕ = c.as_slice-3.result.now in
-    let mine : c.split_seat-seat.result.me.0.mine ≡ opening_mine (one_heap a.space base) = ap (λ (m : Sat). m.0.mine) c.split_seat-seat.ensures.4 ∙ (ap (λ (m : Sat). m.0.mine) c.in-Ok-open_cells.ensures.view ∙ (λ i. opening_mine (one_heap (c.look.ensures.space i) base))) in
-    let moved = c.as_slice-3.ensures.value ∙ (c.in-Ok.ensures.moved ∙ moves c.args.self c.as_slice.result.now c.as_slice-2.result.now c.as_slice.ensures.value c.as_slice-2.ensures.value c.in-Ok.ensures.placed) in
+    let told = c.check.ensures.told in
+    let base : List ℕ = c.as_slice-4.result.now in
+    let mine : c.split_seat-seat.result.me.0.mine ≡ opening_mine (one_heap a.space base) = ap (λ (m : Sat). m.0.mine) c.split_seat-seat.ensures.4 ∙ (ap (λ (m : Sat). m.0.mine) c.in-Ok-open_cells.ensures.view ∙ (λ i. opening_mine (one_heap (c.check.ensures.space i) base))) in
+    let moved = c.as_slice-4.ensures.value ∙ (c.in-Ok.ensures.moved ∙ moves c.args.self c.as_slice.result.now c.as_slice-2.result.now c.as_slice.ensures.value c.as_slice-2.ensures.value c.in-Ok.ensures.placed) in
     let heap = new_is c.args.self _ c.as_slice.result.now c.as_slice-2.result.now _ base mine c.in-Ok.ensures.moved c.as_slice.ensures.value c.as_slice-2.ensures.value c.in-Ok.ensures.placed in
     let sound = told.heap a.space (mem a) in
     record {
-      ended = ap (λ (m : Mine). length m.space.words) mine ∙ sym (c.end-end.ensures.value ∙ ap (λ (s : SpaceWords). length s.words) c.look.ensures.space);
+      ended = ap (λ (m : Mine). length m.space.words) mine ∙ sym (c.end-end.ensures.value ∙ ap (λ (s : SpaceWords). length s.words) c.check.ensures.space);
       sound = subst IsHeap (sym heap) sound;
-      behind = (let e = ap (λ (m : Mine). end_of m.base.space) mine in let l = c.end-end.ensures.value in let s = ap (λ (s : SpaceWords). end_of s) c.look.ensures.space in omega arith);
+      behind = (let e = ap (λ (m : Mine). end_of m.base.space) mine in let l = c.end-end.ensures.value in let s = ap (λ (s : SpaceWords). end_of s) c.check.ensures.space in omega arith);
       kept = subst (λ (z : HeapWords × HeapWords). LeadsOnlyTo (MayBeCopied z.0) (graph_in z.1)) (λ i. (sym (ap (λ (m : Mine). m.base) mine ∙ (λ j. one_heap a.space (moved j))) i, sym heap i))
           (begins_kept (new_heap_of a.space c.args.self.roots.items a.seat.me.0.theirs) sound);
     }
 
 pub returns-clause-replicas : goal.returns-clause-replicas
-returns-clause-replicas c =
+returns-clause-replicas g c =
     let a = c.args.self.copier in
-    let told = shown c.args.self c.as_slice.result.now c.as_slice-2.result.now c.look.ensures.told c.as_slice.ensures.value c.as_slice-2.ensures.value (c.is_idle.ensures.idle c.if-not-is_idle.false) c.in-Ok.ensures.placed in
-    ap graph_in (new_is c.args.self _ c.as_slice.result.now c.as_slice-2.result.now _ c.as_slice-3.result.now (ap (λ (m : Sat). m.0.mine) c.split_seat-seat.ensures.4 ∙ (ap (λ (m : Sat). m.0.mine) c.in-Ok-open_cells.ensures.view ∙ (λ i. opening_mine (one_heap (c.look.ensures.space i) c.as_slice-3.result.now))))
+    let told = c.check.ensures.told in
+    ap graph_in (new_is c.args.self _ c.as_slice.result.now c.as_slice-2.result.now _ c.as_slice-4.result.now (ap (λ (m : Sat). m.0.mine) c.split_seat-seat.ensures.4 ∙ (ap (λ (m : Sat). m.0.mine) c.in-Ok-open_cells.ensures.view ∙ (λ i. opening_mine (one_heap (c.check.ensures.space i) c.as_slice-4.result.now))))
     c.in-Ok.ensures.moved c.as_slice.ensures.value c.as_slice-2.ensures.value c.in-Ok.ensures.placed) ∙ told.graph a.space (mem a)
 
 pub returns-clause-carried : goal.returns-clause-carried
-returns-clause-carried c =
-    (shown c.args.self c.as_slice.result.now c.as_slice-2.result.now c.look.ensures.told c.as_slice.ensures.value c.as_slice-2.ensures.value (c.is_idle.ensures.idle c.if-not-is_idle.false) c.in-Ok.ensures.placed).kept
+returns-clause-carried g c =
+    (c.check.ensures.told).kept
 
 pub returns-clause-ready : goal.returns-clause-ready
-returns-clause-ready c =
+returns-clause-ready g c =
     let h = c.args.self in
     let d = done h c.as_slice.result.now c.as_slice-2.result.now c.as_slice.ensures.value c.as_slice-2.ensures.value (c.is_idle.ensures.idle c.if-not-is_idle.false) c.in-Ok.ensures.placed in
     ready_in h.copier.seat.me.0.mine h.copier.seat.me.0.theirs h.roots.items d.applied d.scanned d.rooted
 
 pub returns-clause-ok : goal.returns-clause-ok
-returns-clause-ok c =
+returns-clause-ok g c =
     let a = c.args.self.copier in
-    let told = shown c.args.self c.as_slice.result.now c.as_slice-2.result.now c.look.ensures.told c.as_slice.ensures.value c.as_slice-2.ensures.value (c.is_idle.ensures.idle c.if-not-is_idle.false) c.in-Ok.ensures.placed in (
+    let told = c.check.ensures.told in (
       pairs_of (its a.seat.me.0.theirs),
-      subst (Corresponding (pairs_of (its a.seat.me.0.theirs)) (graph_in (heap_of a.seat.me.0.mine c.args.self.roots.items))) (sym (returns-clause-replicas c)) told.corresponding,
+      subst (Corresponding (pairs_of (its a.seat.me.0.theirs)) (graph_in (heap_of a.seat.me.0.mine c.args.self.roots.items))) (sym (returns-clause-replicas g c)) told.corresponding,
     )

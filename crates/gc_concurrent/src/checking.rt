@@ -1,0 +1,124 @@
+//! A flip asks its checker. Both ends are in hand, so the words of both spaces stay as they are meanwhile.
+ghost use Rattle.std.specs.Prelude.{◌≡◌, ℕ, ◌<◌, ◌≤◌, ◌^◌, IfErr, IfOk, IsTrue, OnOk, length, map, true};
+ghost use Rattle.gc_words.specs.Image.{is_start};
+ghost use Rattle.gc_words.specs.Space.{IsSpace};
+ghost use Rattle.gc_words.specs.Spelling.{link_at};
+ghost use Rattle.gc_words.specs.Views.{addresses};
+ghost use Rattle.gc_plan.specs.Members.{In};
+ghost use Rattle.gc_concurrent.specs.Checking.{CertifiesFlip, flip_shown};
+ghost use Rattle.gc_concurrent.specs.Internal.Flip.{Flips, HasNothingLeft, linked_in, moved_words};
+
+use crate::cells::{Cells, CellsEnd};
+use crate::copier::Copier;
+use crate::held::{Held, NoFlip};
+use crate::plays::Got;
+use gc_check::{CheckFault, Checks};
+use gc_graph::NoMemory;
+use gc_words::{Addr, ImageRef, NewAddr, OldAddr, Pair, Space, no_fault_where_certified};
+use std::alloc::Global;
+
+// Loads the words of the mutator's space, one by one. Allocates once.
+fn loaded(alloc: Global, cells: &Cells, seat: &mut CellsEnd, end: u32) -> Result<Vec<u64>, NoMemory>
+    requires cells { seat.old.table_id ≡ cells.now.shared.table_id }
+    requires wide { end ≤ cells.now.shared.table_id.words }
+    requires writes { seat.old.me.0.writes ≡ true }
+    requires end { length seat.old.me.0.mine.space.words ≡ end }
+    ensures words { IfOk result (λ words. words.items ≡ seat.old.me.0.mine.space.words) }
+    ensures same { seat.new.me ≡ seat.old.me }
+    ensures row { seat.new.table_id ≡ seat.old.table_id }
+{
+    let mut words = Vec::with_capacity(alloc, end as usize)?;
+    for k in 0..end {
+        let word = cells.shared.load::<Got>(seat, k as usize);
+        words.push(word)?;
+    }
+    Ok(words)
+}
+
+// Returns the pair of the replica that starts here.
+fn pair_at(space: &Space, at: Addr) -> Pair
+    requires start { IsTrue (is_start space.now.words at.0) }
+    requires low { link_at space.now.words at.0 < 2 ^ 32 }
+    ensures { addresses result ≡ (link_at space.now.words at.0, at.0) }
+{
+    Pair {
+        old: OldAddr(space.link(at) as u32),
+        new: NewAddr(at.0),
+    }
+}
+
+// Returns the certificate: each original with its replica, in the order of the replicas.
+fn certificate(alloc: Global, space: &Space) -> Result<Vec<Pair>, NoMemory>
+    requires shaped { IsSpace space.now }
+    requires low { (p : ℕ × ℕ) → In p (linked_in space.now.words) → p.0 < 2 ^ 32 }
+    ensures pairs { IfOk result (λ pairs. map addresses pairs.items ≡ linked_in space.now.words) }
+    ensures few { IfOk result (λ pairs. length pairs.items < 2 ^ 32) }
+{
+    let mut pairs = Vec::new(alloc);
+    let mut place = 1;
+    while place < space.end() {
+        pairs.push(pair_at(space, Addr(place)))?;
+        place = space.next_start(Addr(place)).0;
+    }
+    Ok(pairs)
+}
+
+impl Copier {
+    /// With both ends at hand: loads the words of the mutator's space. Allocates once.
+    fn old_words(&mut self, alloc: Global, end: u32) -> Result<Vec<u64>, NoMemory>
+        requires both { self.old.seat.me.0.writes ≡ true }
+        requires end { length self.old.seat.me.0.mine.space.words ≡ end }
+        requires fits { end ≤ self.old.size }
+        ensures words { IfOk result (λ words. words.items ≡ self.old.seat.me.0.mine.space.words) }
+        ensures same { self.new.seat.me ≡ self.old.seat.me }
+        ensures row { (self.new.seat.table_id ≡ self.old.seat.table_id) × (self.new.size ≡ self.old.size) }
+        ensures space { self.new.space ≡ self.old.space }
+    {
+        let cells = &*self.cells;
+        loaded(alloc, cells, &mut self.seat, end)
+    }
+}
+
+impl Held {
+    ghost use Rattle.gc_concurrent.specs.Holders.{heap_held, known_to};
+
+    /// Asks the checker whether the mutator may go on in the new space with these roots, if nothing is left to do. Fails if the checker refuses,
+    /// which is proved never to occur, or if an allocation fails.
+    pub(crate) fn check<C: Checks>(
+        &mut self,
+        alloc: Global,
+        checker: &C,
+        moved: &[u64],
+    ) -> Result<(), NoFlip>
+        requires can { C.can_check checker.now }
+        requires left { HasNothingLeft self.old.roots.items self.old.copier.seat.me.0 }
+        requires moved { moved.now ≡ moved_words (known_to self.old.copier) self.old.roots.items }
+        ensures asked { OnOk result (C.says_yes checker.now (flip_shown (heap_held self.old) (known_to self.old.copier))) }
+        ensures certified { OnOk result (CertifiesFlip (heap_held self.old) (known_to self.old.copier)) }
+        ensures memory { IfErr result (λ why. why ≡ NoFlip.NoMemory) }
+        ensures told { Flips self.old.roots.items self.old.copier.seat.me.0.mine self.old.copier.seat.me.0.theirs }
+        ensures same { self.new.copier.seat.me ≡ self.old.copier.seat.me }
+        ensures row { self.new.copier.seat.table_id ≡ self.old.copier.seat.table_id }
+        ensures space { self.new.copier.space ≡ self.old.copier.space }
+        ensures roots { self.new.roots ≡ self.old.roots }
+    {
+        self.copier.look();
+        let end = self.end;
+        let words = self.copier.old_words(alloc, end)?;
+        let pairs = certificate(alloc, &self.copier.space)?;
+        let old = ImageRef {
+            size: self.copier.size,
+            end,
+            words: words.as_slice(),
+            roots: self.roots.as_slice(),
+            raws: true,
+        };
+        let new = self.copier.space.image(moved);
+        no_fault_where_certified();
+        match checker.check(alloc, old, new, pairs.as_slice()) {
+            Ok(_) => Ok(()),
+            Err(CheckFault::Refused(_)) => Err(NoFlip::Refused),
+            Err(CheckFault::NoMemory) => Err(NoFlip::NoMemory),
+        }
+    }
+}
