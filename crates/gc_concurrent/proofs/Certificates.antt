@@ -69,4 +69,3 @@ one_listed words at next pairs more pair k less e is after =
       few = (let place = b.step.place in let few = k.few in let long = ap (length {A = Pair}) after in omega (arith, length-append pairs (pair ∷ [])));
       within = b.step.within;
     }
-

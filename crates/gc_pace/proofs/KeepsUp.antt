@@ -142,8 +142,7 @@ module _ (heap : Collected) (pace : Pace) (turn : Turn) (h : IsState heap.core) 
   added : (least : ℕ) × (least ≤ units_left heap) × (least + spent pace (counts_in u) ≡ units_left u)
   added =
       let logged = logged_all u.core (k.goes_on).counted in
-      let before : (counts_of heap.core).logged ≡ entries_left heap.core = grind (arith, common_steps, logged, now.entries, (k.goes_on).counted) in
-      (
+      let before : (counts_of heap.core).logged ≡ entries_left heap.core = grind (arith, common_steps, logged, now.entries, (k.goes_on).counted) in (
         units_left u - spent pace (counts_in u),
         omega (arith, now.work, now.end, now.entries, remembers.end, remembers.logged, remembers.roots, end_at heap.core, end_at u.core, logged, before),
         omega (arith, now.work, now.end, now.entries, remembers.end, remembers.logged, remembers.roots, end_at heap.core, end_at u.core, logged, before),

@@ -75,7 +75,7 @@ counts_bound h bounded all = counts_enough h.core h.roots_left bounded all
 -- ---- looks, in units
 
 -- how many looks so many units are
-pub units_near : (looks : ℕ) → (looks ≤ 32 * units_of looks) × (32 * units_of looks ≤ looks + 31) × (32 * (looks / 32) ≤ looks)
+units_near : (looks : ℕ) → (looks ≤ 32 * units_of looks) × (32 * units_of looks ≤ looks + 31) × (32 * (looks / 32) ≤ looks)
 units_near looks =
     let up : 32 * ((looks + 31) / 32) + (looks + 31) % 32 ≡ looks + 31 = div-add-mod (looks + 31) 32 in
     let down : 32 * (looks / 32) + looks % 32 ≡ looks = div-add-mod looks 32 in

@@ -44,7 +44,7 @@ pub record IsDueWork (s t : State) (work : Work) : Type 0 where
 
 module _ (before : Pace) (due : ℕ) (s t : State) (work : Work) (busy : 1 ≤ due)
     (whole : before.words ≡ 0 → IsWork AreFree None None due s t work) (within : 1 ≤ before.words → IsWork (CountUpTo before.words) None (Some before.words) (min due before.words) s t work) where
-  pub due_work : IsDueWork s t work
+  due_work : IsDueWork s t work
   due_work = elim (cases_lt before.words 1) [
     | inl none ↦ (let w = whole (omega (arith, none)) in record {
       none = λ zero. (w.none zero).state;
@@ -107,14 +107,14 @@ ends_through due s t work busy w low = elim (cases_lt work.steps 1) [
 ]
 
 -- the steps lowered the work that is left by their number
-pub work_falls : (s t : State) (work : Work) → IsDueWork s t work → is_over work ≡ false → work_left t + work.steps ≤ work_left s
+work_falls : (s t : State) (work : Work) → IsDueWork s t work → is_over work ≡ false → work_left t + work.steps ≤ work_left s
 work_falls s t work done going = elim (cases_lt work.steps 1) [
   | inl zero ↦ (let same = ap work_left (done.none (omega (arith, zero))) in omega (arith, same, zero))
   | inr some ↦ (let p = done.some some in p.1.falls (on_of work p.0 p.2 going))
 ]
 
 -- the steps, and the entries that remain, are no more than the work that was left
-pub work_logs : (s t : State) (work : Work) → IsDueWork s t work → entries_left t + work.steps ≤ work_left s
+work_logs : (s t : State) (work : Work) → IsDueWork s t work → entries_left t + work.steps ≤ work_left s
 work_logs s t work done = elim (cases_lt work.steps 1) [
   | inl zero ↦ (let same = ap entries_left (done.none (omega (arith, zero))) in omega (arith, same, zero, entries_low s))
   | inr some ↦ (done.some some).1.logs

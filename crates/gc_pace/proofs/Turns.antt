@@ -58,7 +58,7 @@ raised s (command ∷ rest) h k =
     record { state = later.state; end = omega arith; entries = omega arith; work = omega arith }
 
 -- what was spent since the call before is what commands added to the units that are left, or more
-pub spent_covers : (old new : Collected) (pace : Pace) → IsRaised old.core new.core → Remembers pace old → CountsAll (counts_in new) → units_left new ≤ units_left old + spent pace (counts_in new)
+spent_covers : (old new : Collected) (pace : Pace) → IsRaised old.core new.core → Remembers pace old → CountsAll (counts_in new) → units_left new ≤ units_left old + spent pace (counts_in new)
 spent_covers old new pace now remembers all =
     let logged = logged_all new.core all in
     let end = now.end in
@@ -78,7 +78,7 @@ useful_keep (suc n) s h =
     let now = useful_keep n s h in
     subst (λ (step : Step). IsState (collect before step).1) (unsized (useful_step before)) (collect_keeps before (useful_step before) now (useful_ranges before now.collection))
 
-pub call_keeps : (wanted : ℕ) (old new : Collected) (before after : Pace) (work : Work) → IsPacedWork wanted old new before after work → IsState old.core → IsState new.core
+call_keeps : (wanted : ℕ) (old new : Collected) (before after : Pace) (work : Work) → IsPacedWork wanted old new before after work → IsState old.core → IsState new.core
 call_keeps wanted old new before after work paced h = go (steps_due before (counts_in old) wanted) refl
   where
     go : (n : ℕ) → steps_due before (counts_in old) wanted ≡ n → IsState new.core
@@ -87,7 +87,7 @@ call_keeps wanted old new before after work paced h = go (steps_due before (coun
         let busy : 1 ≤ steps_due before (counts_in old) wanted = omega arith in
         subst IsState (sym (work_state old.core new.core work (call_work wanted old new before after work paced busy))) (useful_keep work.steps old.core h)
 
-pub call_remembers : (wanted : ℕ) (old new : Collected) (before after : Pace) (work : Work) → IsPacedWork wanted old new before after work → Remembers after new
+call_remembers : (wanted : ℕ) (old new : Collected) (before after : Pace) (work : Work) → IsPacedWork wanted old new before after work → Remembers after new
 call_remembers wanted old new before after work paced = grind (arith, common_steps)
 
 -- the state that a turn begins with stays one through its commands
@@ -121,7 +121,7 @@ turns_logs heap pace turns most h remembers k low =
 
 -- ---- where words are not bounded, no step is owed
 
-pub call_owes : (wanted : ℕ) (old new : Collected) (before after : Pace) (work : Work) → IsPacedWork wanted old new before after work → before.words ≡ 0 → (after.words ≡ 0) × (after.owed ≡ 0)
+call_owes : (wanted : ℕ) (old new : Collected) (before after : Pace) (work : Work) → IsPacedWork wanted old new before after work → before.words ≡ 0 → (after.words ≡ 0) × (after.owed ≡ 0)
 call_owes wanted old new before after work paced free = grind (arith, common_steps, cond_both, leb-true, and_parts)
 
 pub turns_owe : (heap : Collected) (pace : Pace) (turns : List Turn) → AreTurns heap pace turns → pace.words ≡ 0 → pace.owed ≡ 0 → ((after_turns heap pace turns).1.words ≡ 0) × ((after_turns heap pace turns).1.owed ≡ 0)

@@ -98,9 +98,9 @@ pub taken_asks : (row now : RootRow) (k : ℕ) → IsWritten row now k → now.u
 taken_asks row now k w used =
     let marks = written_marks row now k w in
     let few : looks_left now ≤ max (looks_left row + 1) (k + 1) = ⊎_elim
-        (λ (less : k < row.front). omega (arith, marks.1, w.front, w.stale, used, less))
-        (λ (past : row.front ≤ k). omega (arith, marks.0, marks.2 past, w.front, w.stale, used, past))
-        (cases_lt k row.front) in
+    (λ (less : k < row.front). omega (arith, marks.1, w.front, w.stale, used, less))
+    (λ (past : row.front ≤ k). omega (arith, marks.0, marks.2 past, w.front, w.stale, used, past))
+    (cases_lt k row.front) in
     ((omega (arith, marks.0, w.front, w.stale, used), few), (omega (arith, w.front, w.stale, used), omega (arith, w.front, w.stale, used)))
 
 -- a root that becomes nil asks for one look at most

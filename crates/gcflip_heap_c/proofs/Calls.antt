@@ -8,7 +8,7 @@ use Rattle.gc_plan.specs.State.{State}
 use Rattle.gc_collected.specs.Collected.{Collected}
 use Rattle.gc_pace.specs.Beside.{LeavesBeside, WasRefused}
 use Rattle.gc_pace.specs.declared.work.Work.{Work}
-use Rattle.gcflip_heap_c.specs.Commands.{IsCommandCall, heap_in}
+use Rattle.gcflip_heap_c.specs.Commands.{IsCommandCall, heap_behind}
 use Rattle.gcflip_heap_c.specs.Internal.Lending.{with_heap}
 use Rattle.gcflip_heap_c.specs.Replies.{reply_in_c}
 use Rattle.gcflip_heap_c.specs.Work.{IsWorkCall, Works, work_in_c}
@@ -28,12 +28,12 @@ call_made {E} takes step old new (Err e) answer fits stepped kept told none = ca
 -- ---- work
 
 -- the heap that a handle holds
-held : (handle : GcflipHeap) (heap : Collected) → handle.beside ≡ heap.beside → handle.roots_left ≡ heap.roots_left → heap_in handle heap.core ≡ heap
+held : (handle : GcflipHeap) (heap : Collected) → handle.beside ≡ heap.beside → handle.roots_left ≡ heap.roots_left → heap_behind handle heap.core ≡ heap
 held handle heap beside left = grind (arith, common_steps)
 
 -- a call that performed work, or was refused memory
 work_of : {E : Type 0} (takes : Type 0) (size : Option ℕ) (relates : Collected → Collected → Work → Type 0) (old new : GcflipHeap) (before after : Collected) (made : Result Work E) (report : GcflipWork) (answer : ℕ)
-    → takes → old.state ≡ Some before.core → new.state ≡ Some after.core → IfOk made (λ work. Works size relates (heap_in old before.core) (heap_in new after.core) report) → OnErr made (after.core ≡ before.core)
+    → takes → old.state ≡ Some before.core → new.state ≡ Some after.core → IfOk made (λ work. Works size relates (heap_behind old before.core) (heap_behind new after.core) report) → OnErr made (after.core ≡ before.core)
     → IfOk made (λ _. answer ≡ done) → OnErr made (answer ≡ no_memory) → IsWorkCall takes size relates old new report answer
 work_of takes size relates old new before after made report answer fits was is did none told refused = grind (arith, common_steps)
 

@@ -31,5 +31,5 @@ abbrev pub IsCommandCall : (State → Type 0) → (State → Reply × State) →
 IsCommandCall takes step old new answer = IsCall takes (Replies step (λ reply. answer ≡ reply_in_c reply)) old new answer
 
 -- the heap of a handle that has this state
-abbrev pub heap_in : GcflipHeap → State → Collected
-heap_in handle s = record { core = s; beside = handle.beside; roots_left = handle.roots_left }
+abbrev pub heap_behind : GcflipHeap → State → Collected
+heap_behind handle s = record { core = s; beside = handle.beside; roots_left = handle.roots_left }

@@ -5,7 +5,7 @@ use Rattle.gc_check.specs.InC.{done, no_memory}
 use Rattle.gc_collected.specs.Collected.{Collected, Rooms, WereRefused}
 use Rattle.gc_pace.specs.Beside.{LeavesBeside}
 use Rattle.gc_pace.specs.declared.work.Work.{Work}
-use Rattle.gcflip_heap_c.specs.Commands.{IsCall, heap_in}
+use Rattle.gcflip_heap_c.specs.Commands.{IsCall, heap_behind}
 use Rattle.gcflip_heap_c.specs.Replies.{step_reply_in_c, pairs_after}
 use Rattle.gcflip_heap_c.specs.declared.handle.GcflipHeap.{GcflipHeap}
 use Rattle.gcflip_heap_c.specs.declared.work.GcflipWork.{GcflipWork}
@@ -24,7 +24,7 @@ pub record Works (size : Option ℕ) (relates : Collected → Collected → Work
 -- a call of such work, whose arguments are in range if `takes` holds
 abbrev pub IsWorkCall : Type 0 → Option ℕ → (Collected → Collected → Work → Type 0) → GcflipHeap → GcflipHeap → GcflipWork → ℕ → Type 0
 IsWorkCall takes size relates old new report answer =
-    IsCall (λ _. takes) (λ s t. (answer ≡ done) × Works size relates (heap_in old s) (heap_in new t) report) old.state new.state answer
+    IsCall (λ _. takes) (λ s t. (answer ≡ done) × Works size relates (heap_behind old s) (heap_behind new t) report) old.state new.state answer
 
 -- the rooms after a refused call: where memory was refused, some may have been freed
 abbrev pub RefusedRooms : ℕ → Rooms → Rooms → Type 0

@@ -5,7 +5,7 @@ ghost use Rattle.gc_check.specs.InC.{done, no_memory};
 ghost use Rattle.gc_heap.specs.ExtraRoots as heaps;
 ghost use Rattle.gc_copy.specs.Opening.{opening_state_with};
 ghost use Rattle.gc_collected.specs.Collected.{opening_beside, rooms_touched};
-ghost use Rattle.gcflip_heap_c.specs.Commands.{heap_in};
+ghost use Rattle.gcflip_heap_c.specs.Commands.{heap_behind};
 ghost use Rattle.gcflip_heap_c.specs.Answers.{out_of_range, closed_handle, open_handle};
 ghost use Rattle.gcflip_heap_c.specs.Opening.{CanOpenWith, checking_in, options_in};
 
@@ -91,7 +91,7 @@ pub extern "C" fn gcflip_heap_touch(heap: &mut GcflipHeap) -> u32
     ensures heap { heap.new.state ≡ heap.old.state }
     // Then there is room for a collection as large as the heap, unless one is open. Nothing else has changed.
     ensures rooms { result ≡ done → IsSomeAnd heap.old.state (λ s.
-        heap.new.beside ≡ record heap.old.beside { rooms = rooms_touched (heap_in heap.old s) }) }
+        heap.new.beside ≡ record heap.old.beside { rooms = rooms_touched (heap_behind heap.old s) }) }
     ensures kept { 1 ≤ result → heap.new.beside ≡ heap.old.beside }
     ensures closed { (result ≡ closed_handle) ↔ (heap.old.state ≡ None) }
 {

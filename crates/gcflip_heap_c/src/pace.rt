@@ -6,7 +6,7 @@ ghost use Rattle.gc_plan.specs.Steps.{useful_step};
 ghost use Rattle.gc_collected.specs.CollectedHeap.{Allocates};
 ghost use Rattle.gc_pace.specs.Counts.{counts_in};
 ghost use Rattle.gc_pace.specs.Pace.{IsPace, IsPacedWork, Pays, pace_from, steps_due};
-ghost use Rattle.gcflip_heap_c.specs.Commands.{heap_in};
+ghost use Rattle.gcflip_heap_c.specs.Commands.{heap_behind};
 ghost use Rattle.gcflip_heap_c.specs.Answers.{out_of_range, closed_handle};
 ghost use Rattle.gcflip_heap_c.specs.Work.{IsWorkCall, RefusedRooms};
 
@@ -30,7 +30,7 @@ pub extern "C" fn gcflip_pace_due(pace: &Pace, counts: &Counts, wanted: u32) -> 
 #[unsafe(no_mangle)]
 pub extern "C" fn gcflip_heap_pace(heap: &mut GcflipHeap, pace: &mut Pace) -> u32
     ensures answers { (result ≡ done) ⊎ ((result ≡ out_of_range) ⊎ (result ≡ closed_handle)) }
-    ensures pace { result ≡ done → IsSomeAnd heap.old.state (λ s. pace.new ≡ pace_from pace.old (counts_in (heap_in heap.old s))) }
+    ensures pace { result ≡ done → IsSomeAnd heap.old.state (λ s. pace.new ≡ pace_from pace.old (counts_in (heap_behind heap.old s))) }
     ensures heap { heap.new.state ≡ heap.old.state }
     ensures silent { 1 ≤ result → pace.new ≡ pace.old }
     ensures outside { (result ≡ out_of_range) ↔ IsSomeAnd heap.old.state (λ s. ¬ IsPace pace.old) }

@@ -3,7 +3,7 @@
 ghost use Rattle.std.specs.Prelude.{◌≡◌, ◌≢◌, ◌≤◌, ◌⊎◌, ◌↔◌, None, Some, IfSome, IsSomeAnd, IsTrue, IsFalse, length};
 ghost use Rattle.gc_check.specs.InC.{done};
 ghost use Rattle.gc_collected.specs.Readings.{heap_image, new_words, log_of};
-ghost use Rattle.gcflip_heap_c.specs.Commands.{heap_in};
+ghost use Rattle.gcflip_heap_c.specs.Commands.{heap_behind};
 ghost use Rattle.gcflip_heap_c.specs.Answers.{out_of_range, closed_handle, damaged};
 ghost use Rattle.gc_pace.specs.Counts.{counts_in};
 ghost use Rattle.gcflip_heap_c.specs.Readings.{log_entry_at, FitsImage};
@@ -28,7 +28,7 @@ pub struct GcflipLogEntry {
 #[unsafe(no_mangle)]
 pub extern "C" fn gcflip_heap_counts(heap: &mut GcflipHeap, counts: &mut Counts) -> u32
     ensures answers { (result ≡ done) ⊎ (result ≡ closed_handle) }
-    ensures counts { IfSome heap.old.state (λ s. counts.new ≡ counts_in (heap_in heap.old s)) }
+    ensures counts { IfSome heap.old.state (λ s. counts.new ≡ counts_in (heap_behind heap.old s)) }
     ensures heap { heap.new.state ≡ heap.old.state }
     ensures silent { result ≡ closed_handle → counts.new ≡ counts.old }
     ensures closed { (result ≡ closed_handle) ↔ (heap.old.state ≡ None) }

@@ -144,7 +144,11 @@ fn concurrent_flip(rt: HostRuntime) {
         Err(refused) => {
             retried(alloc);
             expect(&rt, refused.why == NoFlip::NoMemory, "too little memory");
-            refused.holding.flip(alloc, &Sequential).ok().expect(&rt, "a flip")
+            refused
+                .holding
+                .flip(alloc, &Sequential)
+                .ok()
+                .expect(&rt, "a flip")
         }
     };
     let mut runner = waiting.resume().ok().expect(&rt, "a mutator that goes on");

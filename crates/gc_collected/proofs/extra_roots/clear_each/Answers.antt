@@ -39,7 +39,7 @@ loop-k-preserved c =
       compares = λ h. c.nilled.ensures.written.compares (c.loop-k.invariant.compares h);
       within = omega (arith, c.loop-k-test.true);
       looks = λ o. (let so_far = c.loop-k.invariant.looks o in let one = nilled_asks o c.loop-k.known c.nilled.new.self c.loop-k.k c.nilled.ensures.written c.nilled.ensures.used in
-      (omega (arith, so_far.0, one.0), omega (arith, so_far.1, one.1, c.loop-k-test.true)));
+          (omega (arith, so_far.0, one.0), omega (arith, so_far.1, one.1, c.loop-k-test.true)));
     }
 
 pub returns-clause-looks : goal.returns-clause-looks
