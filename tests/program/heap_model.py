@@ -118,7 +118,7 @@ class Model:
         self.former = None
         # The numbers of a pace that the program chooses, and those that it remembers.
         self.factor, self.rate, self.least, self.words = 200, 0, 65536, 1024
-        self.left, self.end, self.logged, self.owed, self.seen = 1, 1, 0, 0, 0
+        self.left, self.end, self.logged, self.owed, self.looks_then = 1, 1, 0, 0, 0
         # Whether looks at extra roots count as work.
         self.counts_looks = True
 
@@ -413,13 +413,13 @@ class Model:
     def remember(self):
         """Makes the pace remember the heap as it is, as after a flip."""
         self.left = self.end = len(self.space.words)
-        self.logged, self.owed, self.seen = self.entries(), 0, self.looks_left()
+        self.logged, self.owed, self.looks_then = self.entries(), 0, self.looks_left()
 
     def remember_work(self, due, made, copied, looks):
         """Makes the pace remember work that made these steps, each with its line and its reply, copied so many words, and looked at so many extra roots."""
         last = made[-1][1] if made else ""
         self.left = len(self.space.words) if last.startswith("flipped") else self.left
-        self.end, self.logged, self.seen = len(self.space.words), self.entries(), self.looks_left()
+        self.end, self.logged, self.looks_then = len(self.space.words), self.entries(), self.looks_left()
         units = len(made) + looks // 32
         took = self.words > 0 and max(units, copied, looks) >= self.words
         self.owed = max(0, due - units) if took and not last.startswith("flipped") and last != "no room" else 0
@@ -432,7 +432,7 @@ class Model:
             return steps_left
         if not self.new:
             return int(end >= min(max(self.least, self.factor * self.left // 100), (self.left + self.space.size) // 2))
-        spent = max(0, end - self.end) + max(0, self.entries() - self.logged) + max(0, units_of(self.looks_left()) - units_of(self.seen))
+        spent = max(0, end - self.end) + max(0, self.entries() - self.logged) + max(0, units_of(self.looks_left()) - units_of(self.looks_then))
         return min(steps_left, self.owed + spent * (self.rate or 2 + steps_left // room))
 
     # ---- what the calls that read write

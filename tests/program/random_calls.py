@@ -380,7 +380,7 @@ class Calls:
         elif due:
             made, copied, looks, report = self.worked(due, at_once=None)
         model.remember_work(due, made, copied, looks)
-        remembered = "%d %d %d %d %d" % (model.left, model.end, model.logged, model.owed, model.seen)
+        remembered = "%d %d %d %d %d" % (model.left, model.end, model.logged, model.owed, model.looks_then)
         self.call(["work_paced", wanted], "%s, %s" % (report, remembered), [line for line, _ in made], [reply for _, reply in made])
 
     # ---- extra roots
