@@ -1,6 +1,5 @@
 -- The certificate lists the objects of a space in the order of addresses, each by its link and its address.
 use Rattle.std.proofs.Common.{◌≡◌, ℕ, ◌<◌, ◌≤◌, true, List, [], ◌∷◌, ◌++◌, map, length, Some, refl, ap, sym, ◌∙◌, subst, inl, inr, arith, append_assoc, length-append}
-use Rattle.std.proofs.lemmas.Grind.{common_steps}
 use Rattle.std.proofs.lemmas.List.{map-append}
 use Rattle.std.specs.Prelude.{◌^◌, IsOk}
 use Rattle.std.specs.Result.{result_unwrap_or}
@@ -10,7 +9,7 @@ use Rattle.gc_words.specs.Spelling.{link_at}
 use Rattle.gc_words.specs.Views.{addresses}
 use Rattle.gc_words.specs.Walking.{next_of}
 use Rattle.gc_words.specs.declared.image.Pair.{Pair}
-use Rattle.gc_words.proofs.Public.{walk_from, block_from, Behind, behind, at_end, has_next, some_of}
+use Rattle.gc_words.proofs.Public.{walk_from, block_from, Behind, behind, has_next, some_of}
 use Rattle.gc_plan.specs.Members.{In}
 use Rattle.gc_plan.proofs.Public.{in_map}
 use Rattle.gc_copy.specs.Words.{replica_entry, replicas_in}
