@@ -1,12 +1,13 @@
 """Tests of the extension, which has to be there: its methods do what the functions of Python do."""
 import copy
+import gc
 import random
 import threading
+import tracemalloc
 import unittest
 
 import gcflip
 from gcflip import Heap, Mutator, own, place, quick, turns
-from limits import at_most
 
 PLACES = [place(own(0)), place(own(1)), 0, 48, 50]
 SLOTS = [own(0), own(1), own(2), 16, 31]
@@ -104,6 +105,8 @@ class Quick(unittest.TestCase):
             given = given[:place_of_first]
         elif draw.random() < 0.02:
             given = draw.choice([given[:-1], [*given, 0], []])
+        elif draw.random() < 0.02:
+            named = {"wrong": 1}
         found, wanted = outcome(getattr(quicker, name), given, named), outcome(getattr(slower, name), given, named)
         self.assertEqual(found, wanted, "%s of %s, %s" % (name, given, named))
 
@@ -154,22 +157,25 @@ class Quick(unittest.TestCase):
         heap.close()
 
     def test_no_call_keeps_memory(self):
-        """Makes each call often enough that a lost object would be seen, with right and with wrong arguments."""
-        with Heap(4096, 2, extra_roots=3) as heap:
-            calls = calls_of(heap)
-            with at_most(16 << 20):
-                for name, call in calls.items():
+        """Makes each call 500 times, with right and with wrong arguments: none keeps an object of Python, of which the least has more than 20 bytes."""
+        tracemalloc.start()
+        self.addCleanup(tracemalloc.stop)
+        with Heap(1 << 20, 2, extra_roots=3) as heap:
+            for name, call in calls_of(heap).items():
+                for given, named in ((RIGHT[name], {}), ([], {"wrong": 1}), ([1 << 64] * len(RIGHT[name]), {})):
                     prepare(heap)
-                    if name not in ("new", "raw", "cons", "new_root"):
-                        for _ in range(100000):
-                            outcome(call, RIGHT[name], {})
-                    for _ in range(4000):
-                        outcome(call, [], {"wrong": 1})
-                        outcome(call, [1 << 64] * len(RIGHT[name]), {})
-                prepare(heap)
-                calls["put"](own(0), 0, own(1))
-                for _ in range(100000):
-                    self.assertEqual(calls["get"](own(2), own(0), 0), (1, 3, False))
+                    heap.mutator(0).put(own(1), 2, own(0))
+                    self.assertLess(self.kept(lambda: outcome(call, given, named)), 10000, "%s of %s, %s" % (name, given, named))
+
+    def kept(self, act):
+        """Returns how many bytes more Python has after 500 acts than after one."""
+        act()
+        gc.collect()
+        before = tracemalloc.get_traced_memory()[0]
+        for _ in range(500):
+            act()
+        gc.collect()
+        return tracemalloc.get_traced_memory()[0] - before
 
     def test_a_caller_is_bound_once(self):
         with Heap(64) as heap:
