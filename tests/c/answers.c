@@ -47,6 +47,7 @@ static const struct {
     {GCFLIP_FLIP_REFUSED, 42, "flip refused", GCFLIP_MISUSE},
     {GCFLIP_FLIPPED, 43, "flipped", GCFLIP_OK},
     {GCFLIP_DROPPED, 44, "dropped", GCFLIP_OK},
+    {GCFLIP_STARVED, 45, "starved", GCFLIP_LACK},
     {GCFLIP_REFUSED, 48, "refused", GCFLIP_MISMATCH},
     {GCFLIP_BAD_LINE, 49, "bad line", GCFLIP_MISMATCH},
     {GCFLIP_ENDS_EARLY, 50, "ends early", GCFLIP_MISMATCH},

@@ -11,7 +11,7 @@
 static long requests, failing;
 static long blocks;
 static size_t bytes;
-static bool failed;
+static bool failed, fail_all;
 
 /* A header with its size precedes each block. */
 union header {
@@ -24,7 +24,14 @@ static inline void fail_allocation(long n)
 {
     requests = 0;
     failing = n;
-    failed = false;
+    failed = fail_all = false;
+}
+
+/* Makes each allocation from now on fail. */
+static inline void fail_allocations(void)
+{
+    fail_allocation(1);
+    fail_all = true;
 }
 
 static inline bool has_failed(void)
@@ -48,7 +55,7 @@ static bool fails(void)
     requests++;
     if (requests == failing)
         failed = true;
-    return requests == failing;
+    return requests == failing || fail_all;
 }
 
 /* Returns the block after its header, or a failure. */

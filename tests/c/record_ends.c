@@ -185,6 +185,8 @@ static void make_steps(bool is_recorded)
     REPLIES(gcflip_heap_work_within(&heap, 1, 128, &work), GCFLIP_DONE, is_recorded);
     REPLIES(gcflip_heap_work_paced(&heap, &pace, UINT32_MAX, &work), GCFLIP_DONE, is_recorded); /* no room, and fewer than 1,024 steps left: it flips */
     EXPECT(work.last == GCFLIP_FLIPPED && work.pairs == 4);
+    REPLIES(gcflip_reserve(&heap, &pace, UINT32_MAX, &work), GCFLIP_FULL, is_recorded);
+    EXPECT(work.last == GCFLIP_FLIPPED && work.pairs == 4);
 }
 
 /* Makes the calls that name an extra root or a root by its place, and a reference by address. None of them has a line. */

@@ -327,6 +327,27 @@ static void failed_begin(void)
     free_all();
 }
 
+/* Where there is room, no memory is wanted for it. Else all of it is refused, the answer says so, and neither the heap nor the pace has changed. */
+static void starved(void)
+{
+    static struct picture before, after;
+    gcflip_pace pace = gcflip_pace_default(), same;
+    uint32_t room;
+    set_up();
+    room = gcflip_room(&heap);
+    draw(&before);
+    fail_allocations();
+    EXPECT(gcflip_reserve(&heap, &pace, room, &work) == GCFLIP_DONE && work.steps == 0);
+    same = pace;
+    EXPECT(gcflip_reserve(&heap, &pace, room + 1, &work) == GCFLIP_STARVED && has_failed() && work.steps == 0 && work.last == GCFLIP_DONE);
+    EXPECT(memcmp(&pace, &same, sizeof pace) == 0);
+    fail_allocation(0);
+    draw(&after);
+    EXPECT(memcmp(&before, &after, sizeof before) == 0);
+    EXPECT(gcflip_reserve(&heap, &pace, room + 1, &work) == GCFLIP_FULL && work.last == GCFLIP_FLIPPED);
+    free_all();
+}
+
 /* A heap whose collection was given up. Its space stays for the next one. */
 static void set_up_given_up(void)
 {
@@ -404,6 +425,7 @@ static void allocations(int tables, int flipping)
     paced_work_before_a_failure();
     calls_that_do_not_allocate();
     failed_begin();
+    starved();
     begin_after_a_refusal();
 }
 

@@ -67,6 +67,21 @@ class CommandsByPlaces(unittest.TestCase):
         self.assertEqual(heap.room(), 0)
         self.assertRaises(gcflip.Closed, heap.object_at, 1)
 
+    def test_room_is_reserved(self):
+        heap, pace = Heap(64), gcflip.Pace()
+        self.addCleanup(heap.close)
+        self.assertEqual((heap.reserve(pace, 10), heap.room()), (None, 63))
+        heap.new_root(0, 7, 40)
+        self.assertRaises(gcflip.Full, heap.reserve, pace, 22)
+        self.assertEqual(heap.room(), 21)
+        heap.set_nil(0)
+        self.assertEqual((heap.reserve(pace, 22).last, heap.room()), (gcflip.Step.FLIPPED, 63))
+        heap.new_root(0, 7, 40)
+        heap.begin(8)
+        self.assertRaises(gcflip.OutOfMemory, heap.reserve, pace, 22)
+        self.assertEqual(heap.room(), 21)
+        self.assertRaises(gcflip.OutOfRange, heap.reserve, pace, 2 ** 32)
+
     def test_refusals(self):
         heap = self.heap
         heap.new_root(0, 7, 1)

@@ -399,6 +399,15 @@ class Heap(quick.Quickened):
         self._call("work_paced", pace._raw, wanted, work)
         return _work_of(work) if work.steps or work.looks else None
 
+    def reserve(self, pace: Pace, words: int) -> Work | None:
+        """Makes room for so many words: performs the steps that are due, as `work_paced` does, and collections if fewer words are free then. Reports all
+        steps, or returns None if there were none. Raises Full if fewer words are free though a whole collection flipped, and OutOfMemory if none did,
+        because memory was refused or the open collection's new space is too small. Raises OutOfRange if the pace's factor is out of range."""
+        work = library.Work()
+        if self._call_roots("reserve", pace._raw, words, work) == Answer.STARVED:
+            raise OutOfMemory("reserve")
+        return _work_of(work) if work.steps or work.looks else None
+
     def steps_due(self, pace: Pace, wanted: int = 0) -> int:
         """Returns the number of steps that are due. `work_paced` performs them, unless a step or the pace's bound ends it early."""
         wanted, = in_range((wanted,), [ctypes.c_uint32])

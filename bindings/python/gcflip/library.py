@@ -75,6 +75,7 @@ class Answer(enum.IntEnum):
     FLIP_REFUSED = 42
     FLIPPED = 43
     DROPPED = 44
+    STARVED = 45
     REFUSED = 48
     BAD_LINE = 49
     ENDS_EARLY = 50
@@ -217,6 +218,7 @@ ROOTS: Dict[str, List[Any]] = {
     "look": [PLACE, POINTER(View)],
     "object_at": [c_uint32, POINTER(View)],
     "room": [],
+    "reserve": [POINTER(RawPace), c_uint32, POINTER(Work)],
 }
 
 

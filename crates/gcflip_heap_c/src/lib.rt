@@ -52,7 +52,7 @@ pub use reading::{
 };
 pub use referring::{gcflip_heap_refer, gcflip_object_at};
 pub use reply::GcflipView;
-pub use room::gcflip_room;
+pub use room::{gcflip_reserve, gcflip_room};
 pub use stepping::{
     GcflipStep, gcflip_heap_step_apply, gcflip_heap_step_begin, gcflip_heap_step_begin_sized,
     gcflip_heap_step_flip, gcflip_heap_step_give_up, gcflip_heap_step_roots, gcflip_heap_step_scan,

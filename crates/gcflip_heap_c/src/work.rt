@@ -32,7 +32,7 @@ pub struct GcflipWork {
 }
 
 /// Returns the report as C sees it.
-fn report(work: Work) -> GcflipWork
+pub(crate) fn report(work: Work) -> GcflipWork
     ensures { result ≡ work_in_c work }
 {
     let (last, pairs) = match work.last {
