@@ -1,9 +1,14 @@
 /* Tests what a call that reserves room answers and leaves: with room at once, after a collection, after two, in vain, and where a collection cannot end. */
-#include "one_heap.h"
+#include "expect.h"
+#include "gcflip_heap.h"
 #include <string.h>
 
 enum { KIND = 3, WORDS = 64 };
 
+static gcflip_heap heap = GCFLIP_NO_HEAP;
+static gcflip_view view;
+static gcflip_work work;
+static gcflip_counts counts;
 static gcflip_pace pace;
 
 static void open_heap(uint8_t checking)
@@ -12,6 +17,11 @@ static void open_heap(uint8_t checking)
     options.checking = checking;
     EXPECT(gcflip_heap_open(&heap, &options) == GCFLIP_DONE);
     pace = gcflip_pace_default();
+}
+
+static void close_heap(void)
+{
+    EXPECT(gcflip_heap_close(&heap) == GCFLIP_DONE && heap.at == NULL);
 }
 
 /* Expects this answer, that it is the right one for the room that is left, and that the pace remembers the heap. */
