@@ -8,7 +8,8 @@ use Rattle.gc_plan.specs.State.{State}
 use Rattle.gc_collected.specs.Collected.{Collected}
 use Rattle.gc_pace.specs.Beside.{LeavesBeside, WasRefused}
 use Rattle.gc_pace.specs.declared.work.Work.{Work}
-use Rattle.gcflip_heap_c.specs.Commands.{IsCommandCall, heap_behind}
+use Rattle.gcflip_heap_c.specs.Commands.{IsCall, IsCommandCall, heap_behind}
+use Rattle.gcflip_heap_c.specs.Room.{TellsRoom}
 use Rattle.gcflip_heap_c.specs.Internal.Lending.{with_heap}
 use Rattle.gcflip_heap_c.specs.Replies.{reply_in_c}
 use Rattle.gcflip_heap_c.specs.Work.{IsWorkCall, Works, work_in_c}
@@ -47,3 +48,19 @@ work_made {E} takes size relates old before after (Ok work) report was answer fi
     (record { work = work; did = subst (λ (h : Collected). relates h after work) same did; beside = subst (λ (h : Collected). LeavesBeside size h after work) same beside; told = told.1 }) none told.0 none
 work_made {E} takes size relates old before after (Err e) report was answer fits is did beside refused told none =
     work_of {E = E} takes size relates old (with_heap old after) before after (Err e) report answer fits is.0 refl did (ap (λ (h : Collected). h.core) (refused.unchanged)) did none.0
+
+-- ---- room
+
+-- none of the answers to a reserve is a refusal
+pub tells_unrefused : (words free answer : ℕ) → TellsRoom words free answer → ¬ IsRefusal answer
+tells_unrefused words free answer tells refused = grind (arith, common_steps)
+
+heap_of : (takes : Type 0) (did : Collected → Collected → Type 0) (old new : GcflipHeap) (before after : Collected) (answer : ℕ) → takes → old.state ≡ Some before.core → did (heap_behind old before.core) (heap_behind new after.core) → ¬ IsRefusal answer
+    → IsCall (λ _. takes) (λ s t. did (heap_behind old s) (heap_behind new t)) old.state (Some after.core) answer
+heap_of takes did old new before after answer fits was made kept = grind (arith, common_steps)
+
+-- the argument is in range, and the heap in the handle made this of a call that is refused for no other reason
+pub heap_made : (takes : Type 0) (did : Collected → Collected → Type 0) (old : GcflipHeap) (before after : Collected) (answer : ℕ) → takes → (old.state ≡ Some before.core) × (old.beside ≡ before.beside) × (old.roots_left ≡ before.roots_left)
+    → did before after → ¬ IsRefusal answer → IsCall (λ _. takes) (λ s t. did (heap_behind old s) (heap_behind (with_heap old after) t)) old.state (Some after.core) answer
+heap_made takes did old before after answer fits is made kept =
+    heap_of takes did old (with_heap old after) before after answer fits is.0 (subst (λ (h : Collected). did h after) (sym (held old before is.1 is.2)) made) kept

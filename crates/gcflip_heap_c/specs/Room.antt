@@ -5,7 +5,7 @@ use Rattle.gc_graph.specs.declared.reply.Reply.TheVariants.{Full}
 use Rattle.gc_plan.specs.State.{State}
 use Rattle.gc_collected.specs.Collected.{Collected}
 use Rattle.gc_pace.specs.Beside.{LeavesBeside, WasRefused}
-use Rattle.gc_pace.specs.Counts.{counts_of}
+use Rattle.gc_pace.specs.Counts.{counts_in}
 use Rattle.gc_pace.specs.Pace.{IsPacedWork, pace_from}
 use Rattle.gc_pace.specs.Work.{IsWork, has_flipped, no_work}
 use Rattle.gc_pace.specs.declared.pace.Pace.{Pace}
@@ -61,9 +61,9 @@ pub record Reserves (words : ℕ) (before after : Pace) (old new : Collected) (r
   pub paced : Collected
   pub pace : Pace
   pub due : Work
-  pub works : (IsPacedWork words old.core paced.core before pace due × LeavesBeside None old paced due) ⊎ (WasRefused None old paced × (pace ≡ before) × (due ≡ no_work))
+  pub works : (IsPacedWork words old paced before pace due × LeavesBeside None old paced due) ⊎ (WasRefused None old paced × (pace ≡ before) × (due ≡ no_work))
   pub rest : ((words ≤ paced.core.heap.free) × (new ≡ paced) × (after ≡ pace) × (report ≡ work_in_c due))
-      ⊎ ((paced.core.heap.free < words) × (made : GcflipWork) × Collects paced new made answer × (after ≡ (if answer == starved then pace else pace_from pace (counts_of new.core)))
+      ⊎ ((paced.core.heap.free < words) × (made : GcflipWork) × Collects paced new made answer × (after ≡ (if answer == starved then pace else pace_from pace (counts_in new)))
       × (report ≡ joined_report (work_in_c due) made))
 
 -- The answer says whether there is room, and if not, whether a whole collection was in vain.

@@ -4,10 +4,10 @@ ghost use Rattle.std.specs.Prelude.{◌≡◌, ◌≢◌, ◌⊎◌, ◌==◌, N
 ghost use Rattle.std.specs.Option.{option_map_or};
 ghost use Rattle.gc_check.specs.InC.{no_memory, IsRefusal};
 ghost use Rattle.gc_pace.specs.Beside.{LeavesBeside, WasRefused};
-ghost use Rattle.gc_pace.specs.Counts.{counts_of};
+ghost use Rattle.gc_pace.specs.Counts.{counts_in};
 ghost use Rattle.gc_pace.specs.Pace.{IsPace, IsPacedWork, pace_from};
 ghost use Rattle.gc_pace.specs.Work.{no_work};
-ghost use Rattle.gcflip_heap_c.specs.Commands.{IsCall};
+ghost use Rattle.gcflip_heap_c.specs.Commands.{IsCall, heap_behind};
 ghost use Rattle.gcflip_heap_c.specs.Room.{Collects, Finishes, Reserves, TellsRoom, full, joined_report, starved};
 
 use crate::answer::{DONE, OUT_OF_RANGE};
@@ -47,7 +47,7 @@ pub extern "C" fn gcflip_reserve(
     work: &mut GcflipWork,
 ) -> u32
     ensures call { IsCall (λ _. IsPace pace.old) (λ s t. TellsRoom words t.heap.free result × Reserves words pace.old pace.new
-        (record { core = s; beside = heap.old.beside; roots_left = heap.old.roots_left }) (record { core = t; beside = heap.new.beside; roots_left = heap.new.roots_left }) work.new result) heap.old.state heap.new.state result }
+        (heap_behind heap.old s) (heap_behind heap.new t) work.new result) heap.old.state heap.new.state result }
     ensures silent { IsRefusal result → (pace.new ≡ pace.old) × (work.new ≡ work.old) }
     ensures memory { result ≢ no_memory }
     ensures kept { IsRefusal result → heap.new.beside ≡ heap.old.beside }
@@ -77,7 +77,7 @@ fn reserve(heap: &mut CollectedHeap, pace: &mut Pace, words: u32, work: &mut Gcf
 
 // Performs the useful steps that are due, and returns what they did: nothing if memory was refused for the first one.
 fn at_pace(heap: &mut CollectedHeap, pace: &mut Pace, words: u32) -> Work
-    ensures { (IsPacedWork words heap.old.core heap.new.core pace.old pace.new result × LeavesBeside None heap.old heap.new result)
+    ensures { (IsPacedWork words heap.old heap.new pace.old pace.new result × LeavesBeside None heap.old heap.new result)
         ⊎ (WasRefused None heap.old heap.new × (pace.new ≡ pace.old) × (result ≡ no_work)) }
 {
     match work_at_pace(heap, pace, words) {
@@ -88,7 +88,7 @@ fn at_pace(heap: &mut CollectedHeap, pace: &mut Pace, words: u32) -> Work
 
 // Makes the pace remember the heap as it is after a flip that it did not ask for.
 fn remember_unless_starved(heap: &CollectedHeap, pace: &mut Pace, answer: u32)
-    ensures { pace.new ≡ (if answer == starved then pace.old else pace_from pace.old (counts_of heap.now.core)) }
+    ensures { pace.new ≡ (if answer == starved then pace.old else pace_from pace.old (counts_in heap.now)) }
 {
     if answer != STARVED {
         pace.remember(&Counts::of(heap));

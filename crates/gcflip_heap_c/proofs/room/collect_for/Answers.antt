@@ -1,7 +1,7 @@
 -- Where one collection is enough, or no other would help, there is no second call of work. It was whole if no collection was open before it.
 use Rattle.std.proofs.lemmas.Grind.{common_steps}
-use Rattle.std.proofs.Common.{◌≡◌, None, true, inl, refl, ◌∙◌, arith}
-use Rattle.gc_pace.specs.Work.{has_flipped, no_work}
+use Rattle.std.proofs.Common.{◌≡◌, inl, refl, ◌∙◌, arith}
+use Rattle.gc_pace.specs.Work.{no_work}
 use Rattle.gcflip_heap_c.specs.Room.{FlipsAnew, full, joined_report}
 use Rattle.gcflip_heap_c.proofs.room.collect_for.Goals as goal
 use Rattle.gcflip_heap_c.proofs.room.collect_for.Goals.{After-joined, else-anew-2, then-anew-2}
