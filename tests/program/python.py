@@ -59,12 +59,23 @@ def with_extension(package, folder, content):
     return target
 
 
+def extension():
+    """Returns the extension, or None, with a line that says so, if it cannot be built."""
+    try:
+        return built_extension()
+    except OSError as error:
+        skip("the extension of the Python package", error.strerror)
+        return None
+
+
 class Python:
     """Python with the package, and with the extension unless `package` names the folder of one without it, and with the shared library."""
 
     def __init__(self, built, folder, package=None):
         self.package, self.why = (package, None) if package else built_package(folder)
-        path = package or with_extension(self.package, folder, built_extension())
+        content = None if package else extension()
+        self.is_extended = content is not None
+        path = with_extension(self.package, folder, content) if content else self.package
         # One test of one file reads arrays of NumPy.
         self.python = python_with("numpy") or sys.executable
         self.environment = dict(os.environ, PYTHONPATH=path, PYTHONDONTWRITEBYTECODE="1",
@@ -86,19 +97,28 @@ WITHOUT_HEAPS, OF_EXTENSION = ["test_checker.py", "test_inference.py", "test_ima
 
 
 def suites(_program, folder):
-    """Runs the package's test files, and the sessions of its README."""
+    """Runs the package's test files."""
     built = library(folder)
     if built is None:
         return
     python = Python(built, folder)
     yield "the package is built", python.why
     by_ctypes = Python(built, folder, python.package)
-    yield from tested(python, [*WITHOUT_HEAPS, *OF_HEAPS, *OF_EXTENSION], "")
-    yield from tested(by_ctypes, OF_HEAPS, " without the extension")
+    yield from tested(by_ctypes, [*WITHOUT_HEAPS, *OF_HEAPS], " by ctypes")
+    if not python.is_extended:
+        return
+    yield from tested(python, [*OF_HEAPS, *OF_EXTENSION], "")
     broken = Python(built, folder, with_extension(python.package, os.path.join(folder, "broken"), b"no library"))
     for what, wanted, way in (("with the extension", b"True", python), ("without it", b"False", by_ctypes), ("with one that cannot be loaded", b"False", broken)):
         found = way.run("-c", "import gcflip.quick; print(gcflip.quick.HAS_EXTENSION, gcflip.Heap(9).mutator(0).look(0))")
         yield "the package %s" % what, difference(found, Outcome(wanted + b" None\n"))
+
+
+def documents(_program, folder):
+    """Runs the sessions of the package's README."""
+    python = prepared(folder)
+    if python is None:
+        return
     shown = python.run("-m", "doctest", "-v", README)
     last = shown.stdout.decode().strip().split("\n")[-1]
     yield "what README shows", None if shown.status == 0 and last == "Test passed." else shown.stdout.decode()
@@ -202,4 +222,4 @@ def types(_program, folder):
     yield "types of a program", None if refused == wrong and wrong else "refused %s, wanted %s: %s" % (refused, wrong, found.stdout.decode())
 
 
-GROUPS = [suites, texts, plays, tour, not_found, types]
+GROUPS = [suites, documents, texts, plays, tour, not_found, types]
