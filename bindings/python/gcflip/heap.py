@@ -286,10 +286,10 @@ class Heap(quick.Quickened):
         return Mutator(self, number)
 
     def make(self, kind: int, length: int) -> refs.Ref:
-        """Makes an object of a kind, 0 to 255, with `length` fields, at most 65535, all nil, and returns a reference to it, which owns an extra root. So a heap
-        that was opened with n + 1 extra roots has room for n references, and the program does not use these roots in another way. Before that the steps
-        of the collector that are due are performed, and whole collections if there is still no room. Raises FrameFull if no root is left, Full if
-        there is no room after whole collections, and OutOfMemory if there is none and a collection gets no memory."""
+        """Makes an object of a kind, 0 to 255, with `length` fields, at most 65535, all nil, and returns a reference to it, which owns an extra root. First
+        performs the steps of the collector that are due, and whole collections if there is still no room. A heap that was opened with n + 1 extra roots
+        has room for n references; the program does not use these roots in another way. Raises FrameFull if no root is left, Full if there is no room
+        after whole collections, and OutOfMemory if there is none and a collection gets no memory."""
         return refs.made(self, self._pool, kind, length)
 
     def _collect(self, pace: Pace) -> None:
