@@ -487,7 +487,7 @@ class Heap(quick.Quickened):
 
     def room(self) -> int:
         """Returns the number of free words, which is 0 after the heap was closed. An object takes as many as it has fields, and 2 more."""
-        return int(self._turn.take(lambda: LIBRARY.gcflip_room(self._handle)))
+        return self._turn.take(self._room)
 
     def log_length(self, mutator: int) -> int:
         """Reads the length of a mutator's log, which is 0 while no collection is open."""
@@ -536,6 +536,9 @@ class Heap(quick.Quickened):
         view = library.View()
         found = _seen(self._call_roots("object_at", address, view), view)
         return found if isinstance(found, Object) else None
+
+    def _room(self) -> int:
+        return int(LIBRARY.gcflip_room(self._handle))
 
     def _counts(self) -> library.Counts:
         """Reads the counts. The caller has the turn, so they stay true until it ends."""
