@@ -134,7 +134,7 @@ def answers(_program, _folder):
 
 
 # Files of definitions by which contracts name answers, and the answers of gcflip_images.h, which has no contracts.
-DEFINITIONS = [("gc_check", "InC"), ("gcflip_c", "Answers"), ("gcflip_heap_c", "Answers"), ("gcflip_heap_c", "Replies")]
+DEFINITIONS = [("gc_check", "InC"), ("gcflip_c", "Answers"), ("gcflip_heap_c", "Answers"), ("gcflip_heap_c", "Replies"), ("gcflip_heap_c", "Room")]
 WITHOUT_CONTRACTS = {"FAULTY", "NOT_BEGUN"}
 IN_DEFINITION = re.compile(r"(?m)^(?:\w+|(?:seen|reply|step_reply)_in_c .*) = (\d+)$")
 # Prints the class of each number that has room in the enum, and more.
@@ -182,7 +182,7 @@ def classes(_program, folder):
         wanted = "Misuse" if answer_of(name) is None else in_c[numbers[answer_of(name)]]
         yield "the class of %s in Python" % name, why_not_equal(exceptions[name] & set(CLASSES), {wanted})
     never_raised = {name for name, number in numbers.items() if in_c[number] != "Ok"} - {answer_of(name) for name in exceptions}
-    yield "answers without an exception", why_not_equal(never_raised, {"OPEN", "NO_ROOM", "NOT_BEGUN", "LONG_PATH"})
+    yield "answers without an exception", why_not_equal(never_raised, {"OPEN", "NO_ROOM", "NOT_BEGUN", "STARVED", "LONG_PATH"})
 
 
 GROUPS = [symbols, types, answers, classes, versions]
