@@ -4,7 +4,8 @@ use super::expecting::expect;
 use super::marks::{fence, retried};
 use gc_check::Sequential;
 use gc_concurrent::{
-    Collector, CutShort, Holding, NoFlip, Runner, Waiting, Work, mutate, mutate_all, open,
+    Collector, CutShort, Holding, NoFlip, Runner, Unflipped, Waiting, Work, mutate, mutate_all,
+    open,
 };
 use gc_graph::{Number, Op, Reply, Slot, View};
 use std::alloc::Global;
@@ -107,6 +108,14 @@ fn finish(holding: &mut Holding) {
     }
 }
 
+/// Stops the mutator, and lets its collector take it.
+fn taken(rt: &impl Abort, runner: Runner, collector: Collector) -> (Waiting, Holding) {
+    let asking = collector.ask().ok().expect(rt, "a mutator that runs");
+    let waiting = runner.stop().ok().expect(rt, "a mutator that is asked");
+    let holding = asking.take().ok().expect(rt, "a mutator that has stopped");
+    (waiting, holding)
+}
+
 /// Stops the mutator, and lets its collector take it and copy all.
 fn held(
     rt: &impl Abort,
@@ -114,9 +123,7 @@ fn held(
     runner: Runner,
     collector: Collector,
 ) -> (Waiting, Holding) {
-    let asking = collector.ask().ok().expect(rt, "a mutator that runs");
-    let waiting = runner.stop().ok().expect(rt, "a mutator that is asked");
-    let mut holding = asking.take().ok().expect(rt, "a mutator that has stopped");
+    let (waiting, mut holding) = taken(rt, runner, collector);
     finish(&mut holding);
     let refused = holding
         .flip(alloc, &Sequential)
@@ -128,32 +135,63 @@ fn held(
     (waiting, holding)
 }
 
-#[test]
-fn concurrent_flip(rt: HostRuntime) {
+/// Makes an object whose field has the number 9. Flips as soon as all is copied, between two fences.
+fn try_flip(rt: &impl Abort, alloc: Global) -> (Waiting, Result<Collector, Unflipped>) {
     let _named = View::Nil;
-    let alloc = rt.alloc();
-    let (mut runner, collector) = opened(&rt, alloc);
-    prepare(&rt, &mut runner);
-    expect_reply(&rt, &mut runner, &put(&rt), Reply::Done);
-    let (waiting, holding) = held(&rt, alloc, runner, collector);
+    let (mut runner, collector) = opened(rt, alloc);
+    prepare(rt, &mut runner);
+    expect_reply(rt, &mut runner, &put(rt), Reply::Done);
+    let (waiting, holding) = held(rt, alloc, runner, collector);
     fence(alloc);
     let flip = holding.flip(alloc, &Sequential);
     fence(alloc);
+    (waiting, flip)
+}
+
+/// Returns the collector that still holds the mutator. Tests that memory ran out.
+fn still_held(rt: &impl Abort, alloc: Global, unflipped: Unflipped) -> Holding {
+    retried(alloc);
+    expect(rt, unflipped.why == NoFlip::NoMemory, "too little memory");
+    unflipped.holding
+}
+
+/// Takes the mutator back, and tests that its object has the number.
+fn resumed_with_nine(rt: &impl Abort, waiting: Waiting) -> Runner {
+    let _named = View::Nil;
+    let mut runner = waiting.resume().ok().expect(rt, "a mutator that goes on");
+    expect_reply(rt, &mut runner, &get(rt), Reply::Saw(nine(rt)));
+    runner
+}
+
+#[test]
+fn concurrent_flip(rt: HostRuntime) {
+    let alloc = rt.alloc();
+    let (waiting, flip) = try_flip(&rt, alloc);
     let collector = match flip {
         Ok(collector) => collector,
-        Err(refused) => {
-            retried(alloc);
-            expect(&rt, refused.why == NoFlip::NoMemory, "too little memory");
-            refused
-                .holding
-                .flip(alloc, &Sequential)
-                .ok()
-                .expect(&rt, "a flip")
+        Err(unflipped) => {
+            let again = still_held(&rt, alloc, unflipped).flip(alloc, &Sequential);
+            again.ok().expect(&rt, "a flip")
         }
     };
-    let mut runner = waiting.resume().ok().expect(&rt, "a mutator that goes on");
-    expect_reply(&rt, &mut runner, &get(&rt), Reply::Saw(nine(&rt)));
+    let _runner = resumed_with_nine(&rt, waiting);
     let _asking = collector.ask().ok().expect(&rt, "the next collection");
+}
+
+// After a flip that is not tried again, the mutator goes on in its heap, and the collector flips later.
+#[test]
+fn concurrent_flip_put_off(rt: HostRuntime) {
+    let alloc = rt.alloc();
+    let (waiting, flip) = try_flip(&rt, alloc);
+    let collector = match flip {
+        Ok(collector) => collector,
+        Err(unflipped) => still_held(&rt, alloc, unflipped).go(),
+    };
+    let runner = resumed_with_nine(&rt, waiting);
+    let (waiting, holding) = taken(&rt, runner, collector);
+    let flip = holding.finish(alloc, &Sequential);
+    let _collector = flip.ok().expect(&rt, "a flip");
+    let _runner = resumed_with_nine(&rt, waiting);
 }
 
 /// Performs the commands again from the one on for which memory ran out. Returns all replies.

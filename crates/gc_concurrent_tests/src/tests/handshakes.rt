@@ -137,7 +137,10 @@ fn a_write_beside_the_collector_is_in_the_new_space(rt: HostRuntime) -> Result<(
     let (mut runner, collector) = open(alloc, 64)?;
     assert!(rt; told(&mut runner, new(own(0), 3, 1)) == Some(Reply::Made));
     let (waiting, mut holding) = taken(runner, collector)?;
-    let refused = holding.flip(alloc, &Sequential).err().ok_or("the root has no replica")?;
+    let refused = holding
+        .flip(alloc, &Sequential)
+        .err()
+        .ok_or("the root has no replica")?;
     assert!(rt; refused.why == NoFlip::NotReady);
     holding = refused.holding;
     assert!(rt; ends_held(&mut holding));
