@@ -29,7 +29,7 @@ static const char *const replies[] = {
     [GCFLIP_RAW_OBJECT] = "saw raw", [GCFLIP_BUSY] = "busy", [GCFLIP_BEGUN] = "begun", [GCFLIP_IDLE] = "idle", [GCFLIP_CLEAN] = "clean",
     [GCFLIP_NO_ROOM] = "no room", [GCFLIP_COPIED] = "copied", [GCFLIP_PASSED] = "passed", [GCFLIP_SCANNED] = "scanned",
     [GCFLIP_APPLIED] = "applied", [GCFLIP_NOT_READY] = "not ready", [GCFLIP_FLIP_REFUSED] = "refused", [GCFLIP_FLIPPED] = "flipped",
-    [GCFLIP_DROPPED] = "dropped", [GCFLIP_FRAME_FULL] = "frame full", [GCFLIP_FRAME_EMPTY] = "frame empty",
+    [GCFLIP_DROPPED] = "dropped", [GCFLIP_STARVED] = "starved", [GCFLIP_FRAME_FULL] = "frame full", [GCFLIP_FRAME_EMPTY] = "frame empty",
 };
 
 static const char *reply(uint32_t answer)
@@ -152,6 +152,16 @@ static void set_pace(void)
     printf("%s\n", reply(answer));
 }
 
+/* Prints the report of a call at the pace, and what the pace remembers. */
+static void print_paced(const gcflip_work *work)
+{
+    if (work->steps > 0 || work->looks > 0)
+        print_work(work);
+    else
+        EXPECT(work->copied == 0 && work->last == 0 && work->pairs == 0 && printf("nothing") > 0);
+    printf(", %u %u %u %u %u\n", pace.left, pace.end, pace.logged, pace.owed, pace.roots);
+}
+
 static void work_paced(uint32_t wanted)
 {
     gcflip_work work = {KEPT_32, KEPT_32, KEPT_32, KEPT_32, KEPT_32};
@@ -160,12 +170,19 @@ static void work_paced(uint32_t wanted)
     uint32_t due = gcflip_pace_due(&pace, &c, wanted);
     EXPECT(gcflip_heap_work_paced(&heap, &pace, wanted, &work) == GCFLIP_DONE);
     EXPECT(work.steps + work.looks / 32 + pace.owed >= due || work.last == GCFLIP_FLIPPED || work.last == GCFLIP_NO_ROOM);
-    if (work.steps > 0 || work.looks > 0)
-        print_work(&work);
-    else
-        EXPECT(work.copied == 0 && work.last == 0 && work.pairs == 0 && printf("nothing") > 0);
-    printf(", %u %u %u %u %u\n", pace.left, pace.end, pace.logged, pace.owed, pace.roots);
+    print_paced(&work);
 }
+
+#ifndef BASIC
+static void reserve(uint32_t words)
+{
+    gcflip_work work = {KEPT_32, KEPT_32, KEPT_32, KEPT_32, KEPT_32};
+    uint32_t answer = gcflip_reserve(&heap, &pace, words, &work);
+    EXPECT((answer == GCFLIP_DONE) == (gcflip_room(&heap) >= words));
+    printf("%s, ", reply(answer));
+    print_paced(&work);
+}
+#endif
 
 /* Performs a call on a frame, whose numbers come first. */
 static void frame(const char *name)
@@ -426,6 +443,7 @@ static void perform(const char *name)
 #ifndef BASIC
     else if (IS("moved")) moved();
     else if (IS("object_at")) object_at((uint32_t)a[0]);
+    else if (IS("reserve")) reserve((uint32_t)a[0]);
 #endif
     else printf("%s\n", reply(plain(name)));
 }

@@ -15,7 +15,7 @@ import time
 from .c_builds import SANITIZERS, SOURCES, WARNINGS, done, library
 from .harness import Outcome, difference, file_of, run
 from .python import TESTS, Python, content_of
-from .random_calls import FRAMES, LOOSE, MOVES, PACED, PLACES, random_calls, traces_of
+from .random_calls import FRAMES, LOOSE, MOVES, PACED, PLACES, RESERVES, random_calls, traces_of
 from .rust import prepared
 
 STARTED = int(time.time())
@@ -82,7 +82,7 @@ def c_calls(_program, folder):
     if built is None:
         return
     driver, why = built_driver(built, "plain", [])
-    for name, calls in lists("C", PACED, LOOSE, FRAMES, PLACES, MOVES):
+    for name, calls in lists("C", PACED, RESERVES, LOOSE, FRAMES, PLACES, MOVES):
         yield name, why or played([driver], calls, wanted_by_c(calls))
 
 
@@ -93,7 +93,7 @@ def recordings(program, folder):
         return
     driver, why = built_driver(built, "recording", ["-DRECORD"])
     record = os.path.join(folder, "record")
-    for name, calls in lists("recorded", PACED):
+    for name, calls in lists("recorded", PACED, RESERVES):
         yield name, why or played([driver, record], calls, wanted_by_c(calls))
         recorded = (content_of(record) or b"").decode().splitlines()
         yield "the recording of %s" % name, first_difference(calls.trace, recorded, calls.trace)

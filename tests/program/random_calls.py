@@ -15,6 +15,7 @@ WEIGHTS = {"new": 8, "raw": 4, "num": 5, "nil": 2, "move": 6, "get": 9, "put": 1
 # Calls that not every driver has: paced work, extra roots, commands on roots by their places, where a flip moved objects, and references by address. A
 # trace has no lines but for paced work.
 PACED = {"work_sized": 2, "work_within": 3, "pace": 0.7, "work_paced": 6}
+RESERVES = {"reserve": 3}
 LOOSE = {"root_load": 5, "root_store": 6, "root_clear": 1}
 FRAMES = {"frame_push": 6, "frame_pop": 3, "frame_trim": 4}
 PLACES = {"place_new": 4, "place_num": 3, "place_nil": 2, "place_copy": 5, "place_get": 6, "place_peek": 4, "place_put": 9, "place_put_number": 5, "place_put_nil": 3, "place_same": 3,
@@ -383,6 +384,32 @@ class Calls:
         remembered = "%d %d %d %d %d" % (model.left, model.end, model.logged, model.owed, model.looks_then)
         self.call(["work_paced", wanted], "%s, %s" % (report, remembered), [line for line, _ in made], [reply for _, reply in made])
 
+    def room(self):
+        return self.model.space.size - len(self.model.space.words)
+
+    def add_reserve(self):
+        """Adds a call that makes room: the steps that are due, and up to two calls of work without a bound while there is too little room."""
+        model = self.model
+        words = self.chance.choice([0, 1, 5, 30, model.space.size // 2, model.space.size - 1, model.space.size, (1 << 32) - 1])
+        due, parts, answer = model.steps_due(words), [], "done"
+        if due:
+            parts.append(self.worked(min(due, model.words), words=model.words, most_looks=model.words) if model.words else self.worked(due, at_once=None))
+        model.remember_work(due, *(parts[0][:3] if parts else ([], 0, 0)))
+        is_anew = False
+        while self.room() < words and answer == "done":
+            is_anew = model.new is None
+            parts.append(self.worked((1 << 32) - 1))
+            has_flipped = parts[-1][0] and parts[-1][0][-1][1].startswith("flipped")
+            if self.room() < words and (is_anew or not has_flipped):
+                answer = "full" if is_anew and has_flipped else "starved"
+        if answer == "full" or len(parts) > (1 if due else 0) and answer == "done":
+            model.remember()
+        made = [step for part in parts for step in part[0]]
+        counts = (len(made), sum(part[1] for part in parts), sum(part[2] for part in parts))
+        report = "worked %d %d %d %s" % (*counts, made[-1][1] if made else "done") if made or counts[2] else "nothing"
+        remembered = "%d %d %d %d %d" % (model.left, model.end, model.logged, model.owed, model.looks_then)
+        self.call(["reserve", words], "%s, %s, %s" % (answer, report, remembered), [line for line, _ in made], [reply for _, reply in made])
+
     # ---- extra roots
 
     def extra_root(self):
@@ -525,7 +552,7 @@ class Calls:
         self.call(["useful"], "useful " + self.model.next_step())
 
     def add_room(self):
-        self.call(["room"], "room %d" % (self.model.space.size - len(self.model.space.words)))
+        self.call(["room"], "room %d" % self.room())
 
     def add_counts(self):
         self.call(["counts"], "counts " + " ".join(map(str, self.model.counts())))
