@@ -1,0 +1,571 @@
+/* The heap of one interpreter. NOT PROVED: this header is a thin layer in C over the proved calls of gcflip_heap.h, and tests/c/herbpond.c tests it.
+ *
+ * An operand is a root. 0 to 30 are registers, and HP_STACK(k) is place k of the stack, below its top. The program holds no pointers and no
+ * addresses, so a collection may go on in each call that makes an object.
+ *
+ * No answer is left unchecked. A call of this layer returns what it read. If it cannot do its work, it calls the program's hook, which does not
+ * return: it ends the program, or leaves by longjmp or by a C++ exception. gcflip_class_of says whether something has no room left, a value is
+ * not what the call needs, or the program has a mistake. The heap can be used after that. The calls of gcflip_heap.h can be made on `heap` too. */
+#ifndef HERBPOND_H
+#define HERBPOND_H
+
+#include "gcflip_heap.h"
+
+#include <math.h>
+#include <stdbool.h>
+#include <stdio.h>
+#include <stdlib.h>
+#include <string.h>
+
+/* The place of a root. */
+typedef uint32_t hp_root;
+
+enum {
+    HP_SCRATCH = 31,      /* the layer's own register, which holds nil between calls */
+    HP_SCRATCH_SLOT = 15, /* its slot */
+    HP_REGISTERS = 32,    /* the place of the stack's first root */
+    HP_KIND_BOX = 255,    /* the kind of a raw object that holds a double; a program uses kinds 0 to 254 */
+    HP_BLOCK = 512        /* the words that objects may take between two calls of the collector, if so many are free */
+};
+
+#define HP_STACK(k) ((hp_root)HP_REGISTERS + (hp_root)(k))
+
+/* ---- The heap */
+
+/* What the layer counted since the heap was opened. */
+typedef struct hp_stats {
+    uint64_t objects; /* the objects that were made */
+    uint64_t words;   /* the words that they took */
+    uint64_t flips;
+    uint64_t steps;   /* the steps of the collector */
+    uint64_t copied;  /* the words that replicas took */
+    uint64_t waits;   /* the allocations that waited for a whole collection */
+} hp_stats;
+
+typedef struct hp hp;
+
+/* The program's hook. It gets the answer, and the name of the call that failed. It does not return. */
+typedef void hp_hook(hp *h, uint32_t answer, const char *call);
+
+struct hp {
+    gcflip_heap heap;
+    gcflip_pace pace;
+    gcflip_frame stack;
+    hp_hook *failed;
+    const char *const *names; /* the names of kinds 0 to name_count - 1 */
+    uint32_t name_count;
+    uint32_t most;   /* the words up to which the heap grows */
+    uint32_t credit; /* the words that objects may take before the collector works again; so many are free */
+    hp_stats stats;
+};
+
+/* Calls the hook if the class of the answer is not GCFLIP_OK. Returns the answer otherwise. */
+static inline uint32_t hp_answered(hp *h, uint32_t answer, const char *call)
+{
+    if (gcflip_class_of(answer) != GCFLIP_OK) {
+        h->failed(h, answer, call);
+        fprintf(stderr, "herbpond: the hook returned: %s: %s\n", call, gcflip_answer_text(answer));
+        abort();
+    }
+    return answer;
+}
+
+/* Opens a heap of `words` words, whose stack has `places` places, and calls `failed` for each call that fails. The record needs no value before. */
+static inline void hp_open(hp *h, uint32_t words, uint32_t places, hp_hook *failed)
+{
+    gcflip_options options = gcflip_options_default(words, 1);
+
+    memset(h, 0, sizeof *h);
+    h->heap.at = NULL;
+    h->pace = gcflip_pace_default();
+    h->stack.end = places;
+    h->failed = failed;
+    h->most = words;
+    options.extra_roots = places;
+    hp_answered(h, gcflip_heap_open(&h->heap, &options), "hp_open");
+}
+
+/* Frees the heap. */
+static inline void hp_close(hp *h)
+{
+    hp_answered(h, gcflip_heap_close(&h->heap), "hp_close");
+}
+
+/* Lets the heap grow up to `most` words. A collection takes a larger space if more than half of the heap was in use after the last flip, or if
+ * there is too little room. */
+static inline void hp_growing(hp *h, uint32_t most)
+{
+    h->most = most;
+}
+
+/* Returns how full the heap is, and how far an open collection has come. */
+static inline gcflip_counts hp_counts(hp *h)
+{
+    gcflip_counts counts;
+
+    memset(&counts, 0, sizeof counts);
+    hp_answered(h, gcflip_heap_counts(&h->heap, &counts), "hp_counts");
+    return counts;
+}
+
+/* ---- The stack */
+
+/* Returns the root of one more place at the top of the stack. Its value is any, until the program writes it. */
+static inline hp_root hp_push(hp *h)
+{
+    if (h->stack.top == h->stack.end)
+        hp_answered(h, GCFLIP_FRAME_FULL, "hp_push");
+    h->stack.top++;
+    if (h->stack.high < h->stack.top)
+        h->stack.high = h->stack.top;
+    return HP_STACK(h->stack.top - 1);
+}
+
+/* Drops the `count` places at the top of the stack. A collection that begins later does not see their values. */
+static inline void hp_drop(hp *h, uint32_t count)
+{
+    if (count > h->stack.top)
+        hp_answered(h, GCFLIP_FRAME_EMPTY, "hp_drop");
+    h->stack.top -= count;
+}
+
+/* Clears the places above the top of the stack, so that a collection does not see what they held. */
+static inline void hp_trim(hp *h)
+{
+    if (h->stack.high > h->stack.top)
+        hp_answered(h, gcflip_heap_frame_trim(&h->heap, &h->stack, UINT32_MAX), "hp_trim");
+}
+
+/* Returns an operand: a register, or a root below the top of the stack. */
+static inline hp_root hp_operand(hp *h, hp_root root, const char *call)
+{
+    if (root == HP_SCRATCH || root >= HP_STACK(h->stack.top))
+        hp_answered(h, GCFLIP_OUT_OF_RANGE, call);
+    return root;
+}
+
+/* ---- Room */
+
+/* Counts the steps that the collector performed. */
+static inline void hp_worked(hp *h, const gcflip_work *work)
+{
+    h->stats.steps += work->steps;
+    h->stats.copied += work->copied;
+    h->stats.flips += work->last == GCFLIP_FLIPPED;
+}
+
+/* Ends the open collection by its flip, or performs a whole one if none is open: GCFLIP_DONE, GCFLIP_NO_MEMORY or GCFLIP_NO_ROOM. */
+static inline uint32_t hp_flip(hp *h)
+{
+    gcflip_work work = {0, 0, 0, 0, 0};
+
+    while (work.last != GCFLIP_FLIPPED) {
+        uint32_t answer = gcflip_heap_work(&h->heap, UINT32_MAX, &work);
+
+        if (answer != GCFLIP_DONE || work.last == GCFLIP_NO_ROOM)
+            return answer != GCFLIP_DONE ? answer : work.last;
+        hp_worked(h, &work);
+    }
+    return gcflip_heap_pace(&h->heap, &h->pace);
+}
+
+/* Begins a collection with a larger space, if none is open and the heap may grow, and if `now` is true, or one is due and more than half of the
+ * heap was in use after the last flip. If the system refuses the memory, the next steps begin a collection with a space of the same size. */
+static inline void hp_grow(hp *h, uint32_t words, bool now)
+{
+    gcflip_counts counts = hp_counts(h);
+    uint64_t wanted = 2 * (uint64_t)counts.size + words;
+
+    if (counts.is_open || counts.size >= h->most)
+        return;
+    if (now || ((uint64_t)h->pace.left * 2 > counts.size && gcflip_pace_due(&h->pace, &counts, words) > 0)) {
+        uint32_t answer = gcflip_heap_step_begin_sized(&h->heap, wanted < h->most ? (uint32_t)wanted : h->most);
+
+        if (answer != GCFLIP_NO_MEMORY)
+            hp_answered(h, answer, "hp_grow");
+    }
+}
+
+/* Makes room for `words` words. Performs the steps that are due. If fewer words are free then, it ends the open collection, and performs one more
+ * if that does not help. Returns GCFLIP_DONE if so many words are free, GCFLIP_FULL if a collection that began in this call flipped and they are
+ * not, or GCFLIP_NO_MEMORY if the system refused the memory for a collection. */
+static inline uint32_t hp_make_room(hp *h, uint32_t words)
+{
+    gcflip_work work = {0, 0, 0, 0, 0};
+    uint32_t answer;
+    int flips;
+
+    hp_trim(h);
+    hp_grow(h, words, false);
+    answer = gcflip_heap_work_paced(&h->heap, &h->pace, words, &work);
+    if (answer == GCFLIP_DONE)
+        hp_worked(h, &work);
+    else if (answer != GCFLIP_NO_MEMORY)
+        return answer;
+    if (gcflip_room(&h->heap) >= words)
+        return GCFLIP_DONE;
+    h->stats.waits++;
+    for (flips = hp_counts(h).is_open ? 2 : 1; flips > 0; flips--) {
+        hp_grow(h, words, true);
+        answer = hp_flip(h);
+        if (answer != GCFLIP_DONE || gcflip_room(&h->heap) >= words)
+            return answer;
+    }
+    return GCFLIP_FULL;
+}
+
+/* Makes room for objects of `words` words together. The collector does not work again before they are made. */
+static inline void hp_reserve(hp *h, uint32_t words)
+{
+    uint32_t room;
+
+    if (words <= h->credit)
+        return;
+    h->credit = 0;
+    hp_answered(h, hp_make_room(h, words), "hp_reserve");
+    room = gcflip_room(&h->heap);
+    h->credit = words;
+    if (words < HP_BLOCK)
+        h->credit = room < HP_BLOCK ? room : (uint32_t)HP_BLOCK;
+}
+
+/* Performs the steps that are due. Loops that make no objects call it, because writes are work for an open collection. */
+static inline void hp_safepoint(hp *h)
+{
+    hp_answered(h, hp_make_room(h, 0), "hp_safepoint");
+}
+
+/* Ends the open collection, and performs a whole one, which frees all that no root reaches now. */
+static inline void hp_collect(hp *h)
+{
+    hp_trim(h);
+    if (hp_counts(h).is_open)
+        hp_answered(h, hp_flip(h), "hp_collect");
+    hp_answered(h, hp_flip(h), "hp_collect");
+    h->credit = 0;
+}
+
+/* ---- Values: nil, integers, doubles, specials, and references to objects
+ *
+ * A number of the heap has 63 bits. Its lowest bit is 0 for an integer, and 1 for the others. Doubles from 2^-254 up to 2^257, zeros, infinities
+ * and NaN are numbers, as Ruby's flonums. Each NaN becomes the same one. Other doubles are raw objects of two fields. A special is a number from
+ * 0 to 2^52 - 1, which the program gives a meaning: a truth value, a character, or a symbol. */
+
+enum hp_type { HP_NIL, HP_INT, HP_DOUBLE, HP_SPECIAL, HP_OBJECT, HP_RAW };
+
+typedef struct hp_value {
+    enum hp_type type;
+    uint32_t kind;    /* of an object; else 0 */
+    uint32_t count;   /* the number of its fields; else 0 */
+    int64_t integer;  /* of an integer; else 0 */
+    uint64_t special; /* of a special; else 0 */
+    double real;      /* of a double that is a number; else 0 */
+} hp_value;
+
+#define HP_LEAST_INT (-((int64_t)1 << 61))
+#define HP_MOST_INT (((int64_t)1 << 61) - 1)
+#define HP_SPECIALS ((uint64_t)1 << 52)
+
+/* A code is the number without its lowest bit. Bit 61 of a double's code is its sign, and bits 0 to 60 are those of the double. Bits 52 to 60 are 256
+ * for no such double: with bit 61 clear this is a special, and with bit 61 set one of five doubles. */
+#define HP_CODE_SIGN ((uint64_t)1 << 61)
+#define HP_CODE_RARE ((uint64_t)256 << 52)
+enum { HP_RARE_NAN = 4 }; /* 0 and 1 are the zeros, 2 and 3 the infinities, odd the negative ones */
+
+/* Returns the number of an integer from HP_LEAST_INT to HP_MOST_INT. */
+static inline uint64_t hp_code_of_int(int64_t integer)
+{
+    return (uint64_t)integer << 1 & INT64_MAX;
+}
+
+/* Returns the number of a special. */
+static inline uint64_t hp_code_of_special(uint64_t special)
+{
+    return (HP_CODE_RARE | special) << 1 | 1;
+}
+
+/* Writes the number of a double, and returns true. Returns false for one that needs a box. */
+static inline bool hp_code_of_double(double real, uint64_t *number)
+{
+    uint64_t bits, rare = HP_RARE_NAN;
+    uint32_t exponent;
+
+    memcpy(&bits, &real, sizeof bits);
+    exponent = (uint32_t)(bits >> 52) & 0x7ff;
+    if (exponent > 0x300 && exponent < 0x500) {
+        *number = (bits >> 63 << 61 | (bits & (HP_CODE_SIGN - 1))) << 1 | 1;
+        return true;
+    }
+    if (bits << 1 != 0 && exponent != 0x7ff)
+        return false;
+    if (bits << 1 == 0)
+        rare = bits >> 63;
+    else if (bits << 12 == 0)
+        rare = 2 + (bits >> 63);
+    *number = (HP_CODE_SIGN | HP_CODE_RARE | rare) << 1 | 1;
+    return true;
+}
+
+/* Returns the double with this code. */
+static inline double hp_double_of(uint64_t code)
+{
+    const double rare[] = {0.0, -0.0, (double)INFINITY, -(double)INFINITY, (double)NAN};
+    uint64_t bits = code >> 61 << 63 | (code & (HP_CODE_SIGN - 1));
+    double real;
+
+    if ((code >> 52 & 0x1ff) == 0x100)
+        return rare[code & 7];
+    bits |= code >> 60 & 1 ? (uint64_t)1 << 61 : (uint64_t)1 << 62;
+    memcpy(&real, &bits, sizeof real);
+    return real;
+}
+
+/* Returns the value that a number stands for. */
+static inline hp_value hp_value_of(uint64_t number)
+{
+    hp_value value = {HP_INT, 0, 0, 0, 0, 0};
+    uint64_t code = number >> 1;
+
+    if ((number & 1) == 0) {
+        value.integer = code >= HP_CODE_SIGN ? (int64_t)(code - HP_CODE_SIGN) + HP_LEAST_INT : (int64_t)code;
+    } else if (code < HP_CODE_SIGN && (code >> 52 & 0x1ff) == 0x100) {
+        value.type = HP_SPECIAL;
+        value.special = code & (HP_SPECIALS - 1);
+    } else {
+        value.type = HP_DOUBLE;
+        value.real = hp_double_of(code);
+    }
+    return value;
+}
+
+/* Returns the value that a look or a peek saw. */
+static inline hp_value hp_seen(uint32_t answer, const gcflip_view *view)
+{
+    hp_value value = {HP_NIL, 0, 0, 0, 0, 0};
+
+    if (answer == GCFLIP_NUMBER)
+        return hp_value_of(view->number);
+    if (answer != GCFLIP_NIL) {
+        value.type = answer == GCFLIP_OBJECT ? HP_OBJECT : HP_RAW;
+        value.kind = view->kind;
+        value.count = view->count;
+    }
+    return value;
+}
+
+/* ---- Commands. d takes a value, s and t are read, and i is a field, counted from 0 */
+
+/* Puts nil into d. */
+static inline void hp_set_nil(hp *h, hp_root d)
+{
+    hp_answered(h, gcflip_set_nil(&h->heap, hp_operand(h, d, "hp_set_nil")), "hp_set_nil");
+}
+
+/* Puts an integer into d. One below HP_LEAST_INT or above HP_MOST_INT is out of range. */
+static inline void hp_set_int(hp *h, hp_root d, int64_t integer)
+{
+    if (integer < HP_LEAST_INT || integer > HP_MOST_INT)
+        hp_answered(h, GCFLIP_OUT_OF_RANGE, "hp_set_int");
+    hp_answered(h, gcflip_set_number(&h->heap, hp_operand(h, d, "hp_set_int"), hp_code_of_int(integer)), "hp_set_int");
+}
+
+/* Puts a special into d. One of HP_SPECIALS or above is out of range. */
+static inline void hp_set_special(hp *h, hp_root d, uint64_t special)
+{
+    if (special >= HP_SPECIALS)
+        hp_answered(h, GCFLIP_OUT_OF_RANGE, "hp_set_special");
+    hp_answered(h, gcflip_set_number(&h->heap, hp_operand(h, d, "hp_set_special"), hp_code_of_special(special)), "hp_set_special");
+}
+
+/* Copies the value of s into d. */
+static inline void hp_copy(hp *h, hp_root d, hp_root s)
+{
+    hp_answered(h, gcflip_copy(&h->heap, hp_operand(h, d, "hp_copy"), hp_operand(h, s, "hp_copy")), "hp_copy");
+}
+
+/* Returns the value of s. */
+static inline hp_value hp_look(hp *h, hp_root s)
+{
+    gcflip_view view = {0, 0, 0};
+    uint32_t answer = hp_answered(h, gcflip_look(&h->heap, hp_operand(h, s, "hp_look"), &view), "hp_look");
+
+    return hp_seen(answer, &view);
+}
+
+/* Returns whether s refers to an object of this kind. */
+static inline bool hp_is(hp *h, hp_root s, uint32_t kind)
+{
+    hp_value value = hp_look(h, s);
+
+    return value.type >= HP_OBJECT && value.kind == kind;
+}
+
+/* Returns whether s and t hold nil, the same number, or references to one object. */
+static inline bool hp_same(hp *h, hp_root s, hp_root t)
+{
+    return hp_answered(h, gcflip_same(&h->heap, hp_operand(h, s, "hp_same"), hp_operand(h, t, "hp_same")), "hp_same") == GCFLIP_SAME;
+}
+
+/* Copies field i of s into d. */
+static inline void hp_get(hp *h, hp_root d, hp_root s, uint32_t i)
+{
+    uint64_t number = 0;
+
+    hp_answered(h, gcflip_get(&h->heap, hp_operand(h, d, "hp_get"), hp_operand(h, s, "hp_get"), i, &number), "hp_get");
+}
+
+/* Returns the value in field i of s, which is not raw. No root takes it. */
+static inline hp_value hp_field(hp *h, hp_root s, uint32_t i)
+{
+    gcflip_view view = {0, 0, 0};
+    uint32_t answer = hp_answered(h, gcflip_peek(&h->heap, hp_operand(h, s, "hp_field"), i, &view), "hp_field");
+
+    return hp_seen(answer, &view);
+}
+
+/* Gives the open collection up if a write was answered by GCFLIP_NO_MEMORY, because its log could not grow. Returns whether it did so: the write
+ * then needs no memory. */
+static inline bool hp_gave_up(hp *h, uint32_t answer)
+{
+    if (answer != GCFLIP_NO_MEMORY)
+        return false;
+    hp_answered(h, gcflip_heap_step_give_up(&h->heap), "hp_gave_up");
+    return true;
+}
+
+/* Writes the value of t into field i of s. Does not fail for lack of memory. */
+static inline void hp_put(hp *h, hp_root s, uint32_t i, hp_root t)
+{
+    uint32_t answer;
+
+    do
+        answer = gcflip_put(&h->heap, 0, hp_operand(h, s, "hp_put"), i, hp_operand(h, t, "hp_put"));
+    while (hp_gave_up(h, answer));
+    hp_answered(h, answer, "hp_put");
+}
+
+/* Writes a plain number below 2^63 into field i of s, which may be raw. Does not fail for lack of memory. */
+static inline void hp_put_word(hp *h, hp_root s, uint32_t i, uint64_t word)
+{
+    uint32_t answer;
+
+    do
+        answer = gcflip_put_number(&h->heap, 0, hp_operand(h, s, "hp_put_word"), i, word);
+    while (hp_gave_up(h, answer));
+    hp_answered(h, answer, "hp_put_word");
+}
+
+/* Returns the plain number in field i of s, which is raw. */
+static inline uint64_t hp_word(hp *h, hp_root s, uint32_t i)
+{
+    gcflip_view view = {0, 0, 0};
+
+    if (hp_answered(h, gcflip_peek(&h->heap, hp_operand(h, s, "hp_word"), i, &view), "hp_word") != GCFLIP_NUMBER)
+        hp_answered(h, GCFLIP_NO_NUMBER, "hp_word");
+    return view.number;
+}
+
+/* Writes an integer into field i of s. One below HP_LEAST_INT or above HP_MOST_INT is out of range. */
+static inline void hp_put_int(hp *h, hp_root s, uint32_t i, int64_t integer)
+{
+    if (integer < HP_LEAST_INT || integer > HP_MOST_INT)
+        hp_answered(h, GCFLIP_OUT_OF_RANGE, "hp_put_int");
+    hp_put_word(h, s, i, hp_code_of_int(integer));
+}
+
+/* Makes room for an object of this kind with `count` fields, and counts it. */
+static inline void hp_pay(hp *h, uint32_t kind, uint32_t count, const char *call)
+{
+    if (kind > 255 || count > 65535)
+        hp_answered(h, GCFLIP_OUT_OF_RANGE, call);
+    hp_reserve(h, count + 2);
+    h->credit -= count + 2;
+    h->stats.objects++;
+    h->stats.words += count + 2;
+}
+
+/* Makes an object with `count` fields, at most 65535, all nil, and puts a reference to it into d. */
+static inline void hp_new(hp *h, hp_root d, uint32_t kind, uint32_t count)
+{
+    hp_operand(h, d, "hp_new");
+    hp_pay(h, kind, count, "hp_new");
+    hp_answered(h, gcflip_new(&h->heap, d, kind, count), "hp_new");
+}
+
+/* Makes a raw object with `count` fields, at most 65535, all 0, and puts a reference to it into d. */
+static inline void hp_new_raw(hp *h, hp_root d, uint32_t kind, uint32_t count)
+{
+    hp_operand(h, d, "hp_new_raw");
+    hp_pay(h, kind, count, "hp_new_raw");
+    hp_answered(h, gcflip_heap_new_raw(&h->heap, 0, HP_SCRATCH_SLOT, (uint8_t)kind, (uint16_t)count), "hp_new_raw");
+    hp_answered(h, gcflip_copy(&h->heap, d, HP_SCRATCH), "hp_new_raw");
+    hp_answered(h, gcflip_set_nil(&h->heap, HP_SCRATCH), "hp_new_raw");
+}
+
+/* Puts a double into d: a number, or a reference to a box of its low and its high half. */
+static inline void hp_set_double(hp *h, hp_root d, double real)
+{
+    uint64_t bits, number;
+
+    if (hp_code_of_double(real, &number)) {
+        hp_answered(h, gcflip_set_number(&h->heap, hp_operand(h, d, "hp_set_double"), number), "hp_set_double");
+        return;
+    }
+    memcpy(&bits, &real, sizeof bits);
+    hp_new_raw(h, d, HP_KIND_BOX, 2);
+    hp_put_word(h, d, 0, bits & UINT32_MAX);
+    hp_put_word(h, d, 1, bits >> 32);
+}
+
+/* Returns the double in s. Another value is no number. */
+static inline double hp_double(hp *h, hp_root s)
+{
+    hp_value value = hp_look(h, s);
+    uint64_t bits;
+    double real;
+
+    if (value.type == HP_DOUBLE)
+        return value.real;
+    if (value.type != HP_RAW || value.kind != HP_KIND_BOX)
+        hp_answered(h, GCFLIP_NO_NUMBER, "hp_double");
+    bits = hp_word(h, s, 0) | hp_word(h, s, 1) << 32;
+    memcpy(&real, &bits, sizeof real);
+    return real;
+}
+
+/* ---- Kinds, and a walk over the heap */
+
+/* Names kinds 0 to count - 1. The names stay the program's. */
+static inline void hp_name_kinds(hp *h, const char *const *names, uint32_t count)
+{
+    h->names = names;
+    h->name_count = count;
+}
+
+/* Returns the name of a kind, or "" if it has none. */
+static inline const char *hp_kind_name(const hp *h, uint32_t kind)
+{
+    return kind < h->name_count ? h->names[kind] : "";
+}
+
+typedef struct hp_object {
+    uint32_t address; /* 0 before the first object */
+    hp_value value;   /* what a look at a reference to it sees */
+} hp_object;
+
+/* Moves on to the next object of the heap, and returns true. Returns false behind the last one. A walk begins with address 0, and ends before the next
+ * object is made or the collector works. It also meets objects that no root reaches. */
+static inline bool hp_next(hp *h, hp_object *object)
+{
+    uint32_t address = object->address == 0 ? 1 : object->address + object->value.count + 2;
+    gcflip_view view = {0, 0, 0};
+    uint32_t answer = hp_answered(h, gcflip_object_at(&h->heap, address, &view), "hp_next");
+
+    if (answer == GCFLIP_NIL)
+        return false;
+    object->address = address;
+    object->value = hp_seen(answer, &view);
+    return true;
+}
+
+#endif

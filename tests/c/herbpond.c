@@ -1,0 +1,483 @@
+/* Tests herbpond.h: the numbers of values, the stack, room and growth, what the hook gets, refused allocations, and the walk. */
+#include "own_allocator.h"
+#include "expect.h"
+#include "herbpond.h"
+#include <setjmp.h>
+#include <signal.h>
+#include <sys/wait.h>
+#include <unistd.h>
+
+static hp h;
+
+/* ---- The hook: a call that is expected to fail comes back by it, with the answer and the name of the call */
+
+static jmp_buf back;
+static bool expected, returned;
+static uint32_t got;
+static char from[32];
+
+static void hook(hp *failed_heap, uint32_t answer, const char *call)
+{
+    if (!expected || failed_heap != &h) {
+        fprintf(stderr, "%s failed: %s\n", call, gcflip_answer_text(answer));
+        exit(1);
+    }
+    got = answer;
+    snprintf(from, sizeof from, "%s", call);
+    longjmp(back, 1);
+}
+
+#define FAILS(call, answer, name)                            \
+    do {                                                     \
+        expected = true;                                     \
+        returned = false;                                    \
+        if (setjmp(back) == 0) {                             \
+            call;                                            \
+            returned = true;                                 \
+        }                                                    \
+        expected = false;                                    \
+        EXPECT(!returned && got == (answer));                \
+        EXPECT(strcmp(from, name) == 0);                     \
+    } while (0)
+
+static uint64_t random_state = 88172645463325252u;
+
+static uint64_t random_bits(void)
+{
+    random_state ^= random_state << 13;
+    random_state ^= random_state >> 7;
+    random_state ^= random_state << 17;
+    return random_state;
+}
+
+/* Returns how many objects the heap has, and in `words` how many words they take. */
+static uint32_t walked(uint32_t *words)
+{
+    hp_object object = {0, {HP_NIL, 0, 0, 0, 0, 0}};
+    uint32_t count = 0;
+    *words = 0;
+    for (; hp_next(&h, &object); count++)
+        *words += object.value.count + 2;
+    EXPECT(hp_counts(&h).end == *words + 1);
+    return count;
+}
+
+/* Expects that a collection leaves so many objects. */
+static void expect_objects(uint32_t count)
+{
+    uint32_t words;
+    hp_collect(&h);
+    EXPECT(walked(&words) == count);
+}
+
+/* ---- Values */
+
+static void one_integer(int64_t integer)
+{
+    uint64_t number = hp_code_of_int(integer);
+    hp_value value = hp_value_of(number);
+    EXPECT(number < (uint64_t)1 << 63 && number % 2 == 0);
+    EXPECT(value.type == HP_INT && value.integer == integer && value.kind == 0 && value.count == 0 && value.special == 0);
+    hp_set_int(&h, 0, integer);
+    value = hp_look(&h, 0);
+    EXPECT(value.type == HP_INT && value.integer == integer);
+    hp_put_int(&h, 1, 1, integer);
+    value = hp_field(&h, 1, 1);
+    EXPECT(value.type == HP_INT && value.integer == integer);
+}
+
+static void integers(void)
+{
+    hp_open(&h, 1000, 4, hook);
+    hp_new(&h, 1, 7, 2);
+    EXPECT(hp_code_of_int(0) == 0 && hp_code_of_int(1) == 2 && hp_code_of_int(-1) == 0x7ffffffffffffffe);
+    EXPECT(hp_code_of_int(HP_LEAST_INT) == 0x4000000000000000 && hp_code_of_int(HP_MOST_INT) == 0x3ffffffffffffffe);
+    EXPECT(HP_LEAST_INT == -2305843009213693952 && HP_MOST_INT == 2305843009213693951);
+    for (int bit = 0; bit < 61; bit++)
+        for (int64_t more = -1; more <= 1; more++) {
+            one_integer(((int64_t)1 << bit) + more);
+            one_integer(-((int64_t)1 << bit) + more);
+        }
+    one_integer(HP_LEAST_INT);
+    one_integer(HP_LEAST_INT + 1);
+    one_integer(HP_MOST_INT);
+    for (int i = 0; i < 100000; i++)
+        one_integer((int64_t)(random_bits() >> 2 >> random_bits() % 62) * (random_bits() % 2 == 0 ? 1 : -1) / 2);
+    hp_set_int(&h, 0, 5);
+    hp_put_int(&h, 1, 1, 6);
+    FAILS(hp_set_int(&h, 0, HP_MOST_INT + 1), GCFLIP_OUT_OF_RANGE, "hp_set_int");
+    FAILS(hp_set_int(&h, 0, HP_LEAST_INT - 1), GCFLIP_OUT_OF_RANGE, "hp_set_int");
+    FAILS(hp_set_int(&h, 0, INT64_MIN), GCFLIP_OUT_OF_RANGE, "hp_set_int");
+    FAILS(hp_put_int(&h, 1, 1, HP_MOST_INT + 1), GCFLIP_OUT_OF_RANGE, "hp_put_int");
+    FAILS(hp_put_int(&h, 1, 1, HP_LEAST_INT - 1), GCFLIP_OUT_OF_RANGE, "hp_put_int");
+    EXPECT(hp_look(&h, 0).integer == 5 && hp_field(&h, 1, 1).integer == 6);
+    hp_close(&h);
+}
+
+static uint64_t bits_of(double real)
+{
+    uint64_t bits;
+    memcpy(&bits, &real, sizeof bits);
+    return bits;
+}
+
+/* A double comes back bit by bit, but for a NaN. It needs a box if its size is below 2^-254 and not 0, or at least 2^257 and not infinite. */
+static void one_double(uint64_t bits, bool in_heap)
+{
+    double real;
+    uint64_t number = 0;
+    memcpy(&real, &bits, sizeof real);
+    bool wants_box = !isnan(real) && !isinf(real) && real != 0 && (fabs(real) < 0x1p-254 || fabs(real) >= 0x1p257);
+    EXPECT(hp_code_of_double(real, &number) == !wants_box);
+    if (!wants_box) {
+        hp_value value = hp_value_of(number);
+        EXPECT(number < (uint64_t)1 << 63 && number % 2 == 1 && value.type == HP_DOUBLE && value.integer == 0);
+        EXPECT(isnan(real) ? isnan(value.real) : bits_of(value.real) == bits);
+    }
+    if (in_heap) {
+        hp_set_double(&h, 2, real);
+        EXPECT((hp_look(&h, 2).type == HP_RAW) == wants_box);
+        EXPECT(isnan(real) ? isnan(hp_double(&h, 2)) : bits_of(hp_double(&h, 2)) == bits);
+    }
+}
+
+static void doubles(void)
+{
+    const uint64_t fractions[] = {0, 1, 0x8000000000000, 0xfffffffffffff};
+    uint64_t number;
+    hp_open(&h, 1000, 4, hook);
+    EXPECT(hp_code_of_double(1.0, &number) && number == 0x3fe0000000000001);
+    EXPECT(hp_code_of_double(-2.0, &number) && number == 0x4000000000000001);
+    EXPECT(hp_code_of_double(0.0, &number) && number == 0x6000000000000001);
+    for (uint64_t exponent = 0; exponent < 2048; exponent++)
+        for (uint64_t sign = 0; sign < 2; sign++)
+            for (size_t i = 0; i < COUNT(fractions); i++)
+                one_double(sign << 63 | exponent << 52 | fractions[i], true);
+    for (int i = 0; i < 1000000; i++)
+        one_double(random_bits(), i % 16 == 0);
+    hp_set_int(&h, 0, 1);
+    FAILS(hp_double(&h, 0), GCFLIP_NO_NUMBER, "hp_double");
+    hp_new_raw(&h, 0, 7, 2);
+    FAILS(hp_double(&h, 0), GCFLIP_NO_NUMBER, "hp_double");
+    hp_close(&h);
+}
+
+static void one_special(uint64_t special)
+{
+    hp_value value = hp_value_of(hp_code_of_special(special));
+    EXPECT(value.type == HP_SPECIAL && value.special == special && value.integer == 0);
+    hp_set_special(&h, 3, special);
+    value = hp_look(&h, 3);
+    EXPECT(value.type == HP_SPECIAL && value.special == special);
+}
+
+static void specials(void)
+{
+    hp_open(&h, 100, 4, hook);
+    EXPECT(hp_code_of_special(0) == 0x2000000000000001 && HP_SPECIALS == 4503599627370496);
+    for (uint64_t special = 1; special < HP_SPECIALS; special *= 2) {
+        one_special(special - 1);
+        one_special(special);
+    }
+    one_special(HP_SPECIALS - 1);
+    for (int i = 0; i < 10000; i++)
+        one_special(random_bits() >> 12);
+    hp_set_special(&h, 3, 9);
+    FAILS(hp_set_special(&h, 3, HP_SPECIALS), GCFLIP_OUT_OF_RANGE, "hp_set_special");
+    EXPECT(hp_look(&h, 3).special == 9);
+    hp_set_int(&h, 4, 9);
+    hp_set_double(&h, 5, 9.0);
+    EXPECT(!hp_same(&h, 3, 4) && !hp_same(&h, 4, 5) && hp_same(&h, 3, 3));
+    hp_close(&h);
+}
+
+/* ---- The stack */
+
+static void stack(void)
+{
+    hp_open(&h, 1000, 3, hook);
+    FAILS(hp_drop(&h, 1), GCFLIP_FRAME_EMPTY, "hp_drop");
+    for (uint32_t k = 0; k < 3; k++) {
+        EXPECT(hp_push(&h) == HP_STACK(k) && HP_STACK(k) == 32 + k);
+        hp_new(&h, HP_STACK(k), k, 0);
+    }
+    FAILS(hp_push(&h), GCFLIP_FRAME_FULL, "hp_push");
+    EXPECT(h.stack.top == 3);
+    expect_objects(3);
+    hp_drop(&h, 2);
+    FAILS(hp_drop(&h, 2), GCFLIP_FRAME_EMPTY, "hp_drop");
+    FAILS(hp_look(&h, HP_STACK(1)), GCFLIP_OUT_OF_RANGE, "hp_look");
+    FAILS(hp_set_nil(&h, HP_STACK(1)), GCFLIP_OUT_OF_RANGE, "hp_set_nil");
+    FAILS(hp_copy(&h, 0, HP_STACK(1)), GCFLIP_OUT_OF_RANGE, "hp_copy");
+    FAILS(hp_copy(&h, HP_STACK(1), 0), GCFLIP_OUT_OF_RANGE, "hp_copy");
+    FAILS(hp_set_int(&h, HP_SCRATCH, 1), GCFLIP_OUT_OF_RANGE, "hp_set_int");
+    FAILS(hp_new(&h, HP_STACK(1), 0, 0), GCFLIP_OUT_OF_RANGE, "hp_new");
+    expect_objects(1);
+    EXPECT(hp_is(&h, HP_STACK(0), 0));
+    /* a place that is pushed again before a collection looks, and dropped again */
+    for (uint32_t k = 1; k < 3; k++)
+        hp_new(&h, hp_push(&h), 9, 0);
+    hp_drop(&h, 2);
+    hp_set_nil(&h, hp_push(&h));
+    hp_drop(&h, 1);
+    expect_objects(1);
+    hp_drop(&h, 1);
+    expect_objects(0);
+    /* all registers but the layer's own */
+    for (hp_root r = 0; r < HP_SCRATCH; r++)
+        hp_new_raw(&h, r, r, 0);
+    expect_objects(31);
+    for (hp_root r = 0; r < HP_SCRATCH; r++) {
+        EXPECT(hp_is(&h, r, r));
+        hp_set_nil(&h, r);
+    }
+    expect_objects(0);
+    hp_close(&h);
+}
+
+/* ---- The hook */
+
+static void hooks(void)
+{
+    hp_open(&h, 100, 4, hook);
+    hp_new(&h, 0, 3, 2);
+    hp_new_raw(&h, 1, 4, 2);
+    hp_set_int(&h, 2, 8);
+    /* a lack */
+    FAILS(hp_new(&h, 3, 3, 98), GCFLIP_FULL, "hp_reserve");
+    FAILS(hp_new_raw(&h, 3, 3, 65535), GCFLIP_FULL, "hp_reserve");
+    /* a mismatch */
+    FAILS(hp_get(&h, 3, 2, 0), GCFLIP_NO_OBJECT, "hp_get");
+    FAILS(hp_get(&h, 3, 0, 2), GCFLIP_NO_FIELD, "hp_get");
+    FAILS(hp_get(&h, 3, 0, 65536), GCFLIP_NO_FIELD, "hp_get");
+    FAILS(hp_field(&h, 3, 0), GCFLIP_NO_OBJECT, "hp_field");
+    FAILS(hp_field(&h, 0, 2), GCFLIP_NO_FIELD, "hp_field");
+    FAILS(hp_put(&h, 2, 0, 0), GCFLIP_NO_OBJECT, "hp_put");
+    FAILS(hp_put(&h, 0, 2, 0), GCFLIP_NO_FIELD, "hp_put");
+    FAILS(hp_put(&h, 1, 0, 0), GCFLIP_NO_NUMBER, "hp_put");
+    FAILS(hp_put_word(&h, 1, 2, 0), GCFLIP_NO_FIELD, "hp_put_word");
+    FAILS(hp_word(&h, 0, 0), GCFLIP_NO_NUMBER, "hp_word");
+    FAILS(hp_word(&h, 1, 2), GCFLIP_NO_FIELD, "hp_word");
+    /* a mistake */
+    FAILS(hp_new(&h, 3, 256, 1), GCFLIP_OUT_OF_RANGE, "hp_new");
+    FAILS(hp_new_raw(&h, 3, 256, 1), GCFLIP_OUT_OF_RANGE, "hp_new_raw");
+    FAILS(hp_new(&h, 3, 1, 65536), GCFLIP_OUT_OF_RANGE, "hp_new");
+    FAILS(hp_new_raw(&h, 3, 1, UINT32_MAX), GCFLIP_OUT_OF_RANGE, "hp_new_raw");
+    FAILS(hp_put_word(&h, 1, 0, (uint64_t)1 << 63), GCFLIP_OUT_OF_RANGE, "hp_put_word");
+    /* nothing has changed */
+    EXPECT(hp_look(&h, 3).type == HP_NIL && hp_field(&h, 0, 0).type == HP_NIL && hp_word(&h, 1, 0) == 0 && hp_look(&h, 2).integer == 8);
+    EXPECT(h.stats.objects == 2 && h.stats.words == 8);
+    hp_put(&h, 0, 1, 1);
+    hp_put_word(&h, 1, 1, INT64_MAX);
+    hp_get(&h, 3, 0, 1);
+    EXPECT(hp_same(&h, 3, 1) && hp_word(&h, 3, 1) == INT64_MAX && hp_field(&h, 0, 1).type == HP_RAW && hp_field(&h, 0, 1).kind == 4 && hp_look(&h, 0).type == HP_OBJECT);
+    hp_close(&h);
+    FAILS(hp_look(&h, 0), GCFLIP_CLOSED, "hp_look");
+    FAILS(hp_close(&h), GCFLIP_CLOSED, "hp_close");
+    FAILS(hp_open(&h, 0, 4, hook), GCFLIP_OUT_OF_RANGE, "hp_open");
+    FAILS(hp_open(&h, 100, 1048577, hook), GCFLIP_OUT_OF_RANGE, "hp_open");
+}
+
+static void hook_that_returns(hp *failed_heap, uint32_t answer, const char *call)
+{
+    (void)failed_heap;
+    (void)answer;
+    (void)call;
+}
+
+/* A hook that returns ends the program, so that the call does not. */
+static void returning(void)
+{
+    int status;
+    pid_t child = fork();
+    EXPECT(child >= 0);
+    if (child == 0) {
+        fclose(stderr);
+        hp_open(&h, 100, 0, hook_that_returns);
+        hp_drop(&h, 1);
+        _exit(0);
+    }
+    EXPECT(waitpid(child, &status, 0) == child && WIFSIGNALED(status) && WTERMSIG(status) == SIGABRT);
+}
+
+/* ---- Room */
+
+/* Makes a list of pairs (number, rest) in register 0 with the numbers 1 to `count`, the last one first. */
+static void make_list(uint32_t count)
+{
+    hp_set_nil(&h, 0);
+    for (uint32_t i = 1; i <= count; i++) {
+        hp_new(&h, 1, 5, 2);
+        hp_put_int(&h, 1, 0, i);
+        hp_put(&h, 1, 1, 0);
+        hp_copy(&h, 0, 1);
+    }
+    hp_set_nil(&h, 1);
+}
+
+/* Expects that register 0 holds the list of so many pairs. Register 0 is nil afterwards. */
+static void expect_list(uint32_t count)
+{
+    for (; hp_look(&h, 0).type != HP_NIL; count--) {
+        EXPECT(hp_field(&h, 0, 0).integer == count);
+        hp_get(&h, 0, 0, 1);
+    }
+    EXPECT(count == 0);
+}
+
+/* The words for which room was made can be taken without a step of the collector, and no word less is reserved. */
+static void reserves(void)
+{
+    gcflip_flip_checks checks;
+    uint64_t steps, waits;
+    hp_open(&h, 3000, 4, hook);
+    make_list(10);
+    for (int round = 0; round < 50; round++) {
+        hp_reserve(&h, 2959); /* 10 pairs of 4 words, word 0, and all the others */
+        steps = h.stats.steps;
+        hp_new_raw(&h, 1, 1, 1957);
+        hp_new(&h, 2, 1, 998);
+        EXPECT(h.stats.steps == steps && gcflip_room(&h.heap) == 0);
+        hp_set_nil(&h, 1);
+        hp_set_nil(&h, 2);
+    }
+    waits = h.stats.waits;
+    FAILS(hp_reserve(&h, 2960), GCFLIP_FULL, "hp_reserve");
+    EXPECT(h.stats.waits == waits + 1);
+    EXPECT(gcflip_heap_flip_checks(&h.heap, &checks) == GCFLIP_DONE && h.stats.flips == checks.along + checks.whole && h.stats.flips >= 50);
+    EXPECT(h.stats.objects == 110 && h.stats.words == 40 + 50 * 2959);
+    expect_list(10);
+    /* small objects need not a call of the collector each, and it works before the heap is full */
+    h.pace.least = 0;
+    for (uint32_t i = 0; i < 100000; i++)
+        hp_new(&h, 1, 1, i % 8);
+    EXPECT(gcflip_heap_flip_checks(&h.heap, &checks) == GCFLIP_DONE && h.stats.flips == checks.along + checks.whole);
+    hp_close(&h);
+}
+
+/* A loop that makes no objects brings an open collection to its end. */
+static void safepoints(void)
+{
+    hp_open(&h, 100000, 4, hook);
+    make_list(1000);
+    EXPECT(gcflip_heap_step_begin(&h.heap) == GCFLIP_BEGUN);
+    for (uint32_t i = 0; i < 100000 && h.stats.flips == 0; i++) {
+        hp_put_int(&h, 0, 0, 1000);
+        hp_safepoint(&h);
+    }
+    EXPECT(h.stats.flips == 1);
+    expect_list(1000);
+    hp_close(&h);
+}
+
+static void growth(void)
+{
+    hp_open(&h, 2000, 4, hook);
+    FAILS(make_list(500), GCFLIP_FULL, "hp_reserve");
+    EXPECT(hp_counts(&h).size == 2000);
+    hp_growing(&h, 30000);
+    make_list(500);
+    EXPECT(hp_counts(&h).size > 2000 && hp_counts(&h).size <= 30000);
+    expect_list(500);
+    hp_collect(&h);
+    make_list(7400); /* 29,600 words */
+    EXPECT(hp_counts(&h).size == 30000);
+    expect_list(7400);
+    FAILS(make_list(7500), GCFLIP_FULL, "hp_reserve");
+    EXPECT(hp_counts(&h).size == 30000);
+    hp_set_nil(&h, 0);
+    hp_set_nil(&h, 1);
+    expect_objects(0);
+    EXPECT(gcflip_room(&h.heap) == 29999);
+    /* one object that is larger than the heap */
+    hp_close(&h);
+    hp_open(&h, 100, 4, hook);
+    hp_growing(&h, 100000);
+    hp_new(&h, 0, 1, 65535);
+    EXPECT(hp_look(&h, 0).count == 65535 && hp_counts(&h).size <= 100000);
+    hp_close(&h);
+}
+
+/* ---- Refused memory */
+
+static void refused(void)
+{
+    uint32_t words;
+    fail_allocation(1);
+    FAILS(hp_open(&h, 1000, 4, hook), GCFLIP_NO_MEMORY, "hp_open");
+    fail_allocation(0);
+    EXPECT(blocks_in_use() == 0);
+    /* a collection that is due and cannot begin: there is room, so objects are made */
+    hp_open(&h, 1000, 4, hook);
+    h.pace.least = 0;
+    make_list(100);
+    fail_allocations();
+    hp_reserve(&h, 590); /* more than HP_BLOCK, so that the collector is called; 1000 words less word 0 and 400 are free */
+    EXPECT(has_failed() && h.stats.flips == 0);
+    hp_new(&h, 1, 1, 588);
+    /* without room, the lack of memory is the reason */
+    hp_set_nil(&h, 1);
+    fail_allocations();
+    FAILS(hp_new(&h, 1, 1, 588), GCFLIP_NO_MEMORY, "hp_reserve");
+    fail_allocation(0);
+    hp_new(&h, 1, 1, 588);
+    EXPECT(walked(&words) == 101);
+    expect_list(100);
+    hp_close(&h);
+    /* a write whose log cannot grow gives the collection up, and is done */
+    hp_open(&h, 1000, 4, hook);
+    for (int kind = 0; kind < 2; kind++) {
+        make_list(1);
+        EXPECT(gcflip_heap_step_begin(&h.heap) == GCFLIP_BEGUN);
+        for (uint32_t i = 0; hp_counts(&h).is_open; i++) {
+            EXPECT(i < 1000);
+            fail_allocation(1);
+            if (kind == 0)
+                hp_put(&h, 0, 1, 0);
+            else
+                hp_put_int(&h, 0, 0, (int64_t)i + 5);
+            EXPECT(kind == 0 ? hp_field(&h, 0, 1).type == HP_OBJECT : hp_field(&h, 0, 0).integer == (int64_t)i + 5);
+        }
+        EXPECT(has_failed());
+        fail_allocation(0);
+    }
+    hp_close(&h);
+    EXPECT(blocks_in_use() == 0);
+}
+
+/* ---- The walk */
+
+static void walks(void)
+{
+    static const char *const names[] = {"pair", "text"};
+    hp_object object = {0, {HP_NIL, 0, 0, 0, 0, 0}};
+    hp_open(&h, 100, 4, hook);
+    EXPECT(!hp_next(&h, &object) && object.address == 0);
+    hp_new(&h, 0, 0, 2);
+    hp_new_raw(&h, 1, 1, 0);
+    hp_new(&h, 2, 250, 5);
+    EXPECT(hp_next(&h, &object) && object.address == 1 && object.value.type == HP_OBJECT && object.value.kind == 0 && object.value.count == 2);
+    EXPECT(hp_next(&h, &object) && object.address == 5 && object.value.type == HP_RAW && object.value.kind == 1 && object.value.count == 0);
+    EXPECT(hp_next(&h, &object) && object.address == 7 && object.value.type == HP_OBJECT && object.value.kind == 250 && object.value.count == 5);
+    EXPECT(!hp_next(&h, &object) && object.address == 7);
+    EXPECT(strcmp(hp_kind_name(&h, 0), "") == 0);
+    hp_name_kinds(&h, names, 2);
+    EXPECT(strcmp(hp_kind_name(&h, 0), "pair") == 0 && strcmp(hp_kind_name(&h, 1), "text") == 0 && strcmp(hp_kind_name(&h, 2), "") == 0);
+    hp_close(&h);
+}
+
+int main(void)
+{
+    integers();
+    doubles();
+    specials();
+    stack();
+    hooks();
+    returning();
+    reserves();
+    safepoints();
+    growth();
+    refused();
+    walks();
+    return 0;
+}
