@@ -54,7 +54,7 @@ struct hp {
     hp_hook *failed;
     const char *const *names; /* the names of kinds 0 to name_count - 1 */
     uint32_t name_count;
-    uint32_t most;   /* the words up to which the heap grows */
+    uint32_t most;   /* the words up to which the heap grows; 0 if it does not */
     uint32_t credit; /* the words that objects may take before the collector works again; so many are free */
     hp_stats stats;
 };
@@ -80,7 +80,6 @@ static inline void hp_open(hp *h, uint32_t words, uint32_t places, hp_hook *fail
     h->pace = gcflip_pace_default();
     h->stack.end = places;
     h->failed = failed;
-    h->most = words;
     options.extra_roots = places;
     hp_answered(h, gcflip_heap_open(&h->heap, &options), "hp_open");
 }
@@ -242,7 +241,6 @@ static inline void hp_collect(hp *h)
     if (hp_counts(h).is_open)
         hp_answered(h, hp_flip(h), "hp_collect");
     hp_answered(h, hp_flip(h), "hp_collect");
-    h->credit = 0;
 }
 
 /* ---- Values: nil, integers, doubles, specials, and references to objects

@@ -68,6 +68,7 @@ static void expect_objects(uint32_t count)
     uint32_t words;
     hp_collect(&h);
     EXPECT(walked(&words) == count);
+    EXPECT(h.pace.left == words + 1 && h.pace.end == words + 1 && h.pace.owed == 0);
 }
 
 /* ---- Values */
@@ -213,7 +214,7 @@ static void stack(void)
     FAILS(hp_set_int(&h, HP_SCRATCH, 1), GCFLIP_OUT_OF_RANGE, "hp_set_int");
     FAILS(hp_new(&h, HP_STACK(1), 0, 0), GCFLIP_OUT_OF_RANGE, "hp_new");
     expect_objects(1);
-    EXPECT(hp_is(&h, HP_STACK(0), 0));
+    EXPECT(hp_is(&h, HP_STACK(0), 0) && !hp_is(&h, HP_STACK(0), 1) && !hp_is(&h, 0, 0));
     /* a place that is pushed again before a collection looks, and dropped again */
     for (uint32_t k = 1; k < 3; k++)
         hp_new(&h, hp_push(&h), 9, 0);
@@ -232,6 +233,10 @@ static void stack(void)
         hp_set_nil(&h, r);
     }
     expect_objects(0);
+    /* what was dropped is no reason for a full heap */
+    hp_new_raw(&h, hp_push(&h), 1, 900);
+    hp_drop(&h, 1);
+    hp_new_raw(&h, 0, 1, 950);
     hp_close(&h);
 }
 
@@ -370,6 +375,40 @@ static void safepoints(void)
     hp_close(&h);
 }
 
+/* The steps of a collection are a begin, a copy of the first pair, two scans and a pass for each pair, and a flip. If one is open, another one begins after
+ * it. */
+static void collects(void)
+{
+    gcflip_work work;
+    hp_open(&h, 1000, 4, hook);
+    make_list(10);
+    hp_collect(&h);
+    EXPECT(h.stats.flips == 1 && h.stats.copied == 40 && h.stats.steps == 1 + 1 + 10 * 3 + 1);
+    EXPECT(gcflip_heap_work(&h.heap, 20, &work) == GCFLIP_DONE && hp_counts(&h).is_open);
+    hp_set_nil(&h, 0);
+    expect_objects(0);
+    EXPECT(h.stats.flips == 3);
+    hp_close(&h);
+}
+
+/* A collection takes a larger space if more than half of the heap is in use, before an allocation has to wait. */
+static void early_growth(bool is_refused)
+{
+    hp_open(&h, 20000, 4, hook);
+    h.pace.least = 0;
+    hp_growing(&h, 100000);
+    make_list(2600); /* 10,400 words */
+    hp_collect(&h);
+    EXPECT(hp_counts(&h).size == 20000 && h.stats.waits == 0);
+    fail_allocation(is_refused ? -1 : 0);
+    for (uint32_t i = 0; i < (is_refused ? 1000 : 100000) && hp_counts(&h).size == 20000; i++)
+        hp_new(&h, 1, 1, 6);
+    EXPECT(h.stats.waits == 0 && has_failed() == is_refused && (hp_counts(&h).size == 20000) == is_refused);
+    fail_allocation(0);
+    expect_list(2600);
+    hp_close(&h);
+}
+
 static void growth(void)
 {
     hp_open(&h, 2000, 4, hook);
@@ -476,7 +515,10 @@ int main(void)
     returning();
     reserves();
     safepoints();
+    collects();
     growth();
+    early_growth(false);
+    early_growth(true);
     refused();
     walks();
     return 0;
