@@ -3,7 +3,7 @@
  * An operand is a root. 0 to 30 are registers, and HP_STACK(k) is place k of the stack, below its top. The program holds no pointers and no
  * addresses, so a collection may go on in each call that makes an object.
  *
- * No answer is left unchecked. A call of this layer returns what it read. If it cannot do its work, it calls the program's hook, which does not
+ * No answer is left unchecked. A call of this layer returns what it read. If it cannot do its work, it calls the program's hook. The hook does not
  * return: it ends the program, or leaves by longjmp or by a C++ exception. gcflip_class_of says whether something has no room left, a value is
  * not what the call needs, or the program has a mistake. The heap can be used after that. The calls of gcflip_heap.h can be made on `heap` too. */
 #ifndef HERBPOND_H
@@ -90,8 +90,8 @@ static inline void hp_close(hp *h)
     hp_answered(h, gcflip_heap_close(&h->heap), "hp_close");
 }
 
-/* Lets the heap grow up to `most` words. A collection takes a larger space if more than half of the heap was in use after the last flip, or if
- * there is too little room. */
+/* Lets the heap grow up to `most` words. A collection takes a larger space if there is too little room. It also does so if more than half of
+ * the heap was in use after the last flip. */
 static inline void hp_growing(hp *h, uint32_t most)
 {
     h->most = most;
@@ -100,9 +100,8 @@ static inline void hp_growing(hp *h, uint32_t most)
 /* Returns how full the heap is, and how far an open collection has come. */
 static inline gcflip_counts hp_counts(hp *h)
 {
-    gcflip_counts counts;
+    gcflip_counts counts = {0, 0, 0, 0, 0, 0, 0, 0, 0, 0, 0, 0};
 
-    memset(&counts, 0, sizeof counts);
     hp_answered(h, gcflip_heap_counts(&h->heap, &counts), "hp_counts");
     return counts;
 }
@@ -168,8 +167,8 @@ static inline uint32_t hp_flip(hp *h)
     return gcflip_heap_pace(&h->heap, &h->pace);
 }
 
-/* Begins a collection with a larger space, if none is open and the heap may grow, and if `now` is true, or one is due and more than half of the
- * heap was in use after the last flip. If the system refuses the memory, the next steps begin a collection with a space of the same size. */
+/* Begins a collection with a larger space, if none is open and the heap may grow. If `now` is false, one has also to be due, and more than half of
+ * the heap in use after the last flip. If the system refuses the memory, the next steps begin one of the same size. */
 static inline void hp_grow(hp *h, uint32_t words, bool now)
 {
     gcflip_counts counts = hp_counts(h);
@@ -186,8 +185,8 @@ static inline void hp_grow(hp *h, uint32_t words, bool now)
 }
 
 /* Makes room for `words` words. Performs the steps that are due. If fewer words are free then, it ends the open collection, and performs one more
- * if that does not help. Returns GCFLIP_DONE if so many words are free, GCFLIP_FULL if a collection that began in this call flipped and they are
- * not, or GCFLIP_NO_MEMORY if the system refused the memory for a collection. */
+ * if that does not help. Returns GCFLIP_DONE if so many words are free. Else it returns GCFLIP_FULL if a collection that began in this call
+ * flipped, or GCFLIP_NO_MEMORY if the system refused the memory for one. */
 static inline uint32_t hp_make_room(hp *h, uint32_t words)
 {
     gcflip_work work = {0, 0, 0, 0, 0};
@@ -265,7 +264,7 @@ typedef struct hp_value {
 #define HP_SPECIALS ((uint64_t)1 << 52)
 
 /* A code is the number without its lowest bit. Bit 61 of a double's code is its sign, and bits 0 to 60 are those of the double. Bits 52 to 60 are 256
- * for no such double: with bit 61 clear this is a special, and with bit 61 set one of five doubles. */
+ * for no such double. A code with 256 there is a special if bit 61 is clear, and one of five other doubles if it is set. */
 #define HP_CODE_SIGN ((uint64_t)1 << 61)
 #define HP_CODE_RARE ((uint64_t)256 << 52)
 enum { HP_RARE_NAN = 4 }; /* 0 and 1 are the zeros, 2 and 3 the infinities, odd the negative ones */

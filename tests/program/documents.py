@@ -207,7 +207,7 @@ def text_or_none(path):
 # words for other things.
 OLD_NAMES = {"new", "raw", "cons", "num", "nil", "begin", "begin_sized", "roots", "scan", "apply", "flip", "drop"}
 SPEAK_OF_C = ["docs/EMBEDDING.md", "docs/CERTIFY.md", "bench/embedding/README.md", "examples/certify/README.md", "examples/lisp/README.md",
-              "examples/long_objects/README.md", "examples/minivm/README.md"]
+              "examples/long_objects/README.md"]
 
 
 def old_names(_program, _folder):
