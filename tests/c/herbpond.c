@@ -400,7 +400,9 @@ static void early_growth(bool is_refused)
     make_list(2600); /* 10,400 words */
     hp_collect(&h);
     EXPECT(hp_counts(&h).size == 20000 && h.stats.waits == 0);
-    fail_allocation(is_refused ? -1 : 0);
+    fail_allocation(0);
+    if (is_refused)
+        fail_allocations();
     for (uint32_t i = 0; i < (is_refused ? 1000 : 100000) && hp_counts(&h).size == 20000; i++)
         hp_new(&h, 1, 1, 6);
     EXPECT(h.stats.waits == 0 && has_failed() == is_refused && (hp_counts(&h).size == 20000) == is_refused);
