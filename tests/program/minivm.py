@@ -21,7 +21,7 @@ PRINTED = {
     "lists": b"2020000\n55\nan array of 2\n",
     "texts": b"\nabcdefg\nabcdefgh\nabcdefghijklmno\n15\ntrue\nfalse\nfalse\n5000\n12345/-7\n",
     "tables": b"3000\n0\n2247001\n1499\nnil\nnil\na table of 3000\n1122751000\n",
-    "grows": b"50005000\n50005000\n2\n",
+    "grows": b"50005000\n50005000\n2\n/: division by 0\n",
     "errors": b"/: division by 0\n+: a text is no integer\n[]: index 2 of an array of 2\n*: the result has more than 62 bits\n2305843009213693951\n"
               b"+: the result has more than 62 bits\n-2305843009213693952\n-: the result has more than 62 bits\n/: the result has more than 62 bits\n"
               b"stack overflow\ntwo takes 2 arguments\n/: division by 0!\na key is an integer or a text\n",
@@ -30,7 +30,7 @@ PRINTED = {
 ENDS_BY = {"errors": b"error: push: an integer is no array\n"}
 # The texts among the constants of a program, with that of the error for a full heap. Nothing else is reachable at the end.
 CONSTANTS = {"fib": 1, "lists": 2, "texts": 22, "tables": 3, "grows": 1, "errors": 3}
-FULL_HEAP = b"out of memory\nout of memory\n2\n"
+FULL_HEAP = b"out of memory\nout of memory\n2\n/: division by 0\n"
 STATS = re.compile(rb"made (\d+) objects of (\d+) words; (\d+) flips, (\d+) waits; the heap has (\d+) words\n"
                    rb"reachable: (\d+) of a text\nreachable: (\d+) of an array\nreachable: (\d+) of a part\nreachable: (\d+) of a table\n$")
 WRONG_TEXTS = {
