@@ -6,7 +6,7 @@
 
 enum kind { PAIR = 1, STRING };
 enum code { INT, REAL, TEXT, GET, SET, ADD, LESS, NEW_PAIR, JUMP, JUMP_IF_ZERO, CALL, RETURN, PRINT, HALT };
-enum { WORDS = 100000, PLACES = 1000, MOST_CALLS = 100 };
+enum { WORDS = 100000, PLACES = 1000, MOST_CALLS = 100, MOST_BYTES = 65535 };
 
 static hp vm;
 
@@ -73,6 +73,8 @@ static void join(hp_root d, hp_root s, hp_root t)
 {
     uint32_t first = hp_look(&vm, s).count, second = hp_look(&vm, t).count;
 
+    if (first + second > MOST_BYTES)
+        fail("the string is too long");
     hp_new_raw(&vm, d, STRING, first + second);
     for (uint32_t i = 0; i < first; i++)
         hp_put_word(&vm, d, i, hp_word(&vm, s, i));
@@ -146,7 +148,10 @@ static void add(void)
     } else if (is_double(top(1)) || is_double(top(0))) {
         hp_set_double(&vm, top(1), number(top(1)) + number(top(0)));
     } else {
-        hp_set_int(&vm, top(1), integer(top(1)) + integer(top(0)));
+        int64_t sum = integer(top(1)) + integer(top(0));
+        if (sum < HP_LEAST_INT || sum > HP_MOST_INT)
+            fail("the sum has more than 62 bits");
+        hp_set_int(&vm, top(1), sum);
     }
     hp_drop(&vm, 1);
 }

@@ -48,8 +48,13 @@ def text_of(document):
 
 def blocks(document, language):
     """Returns the lines of each fenced block of this language in a document."""
+    return blocks_of(text_of(document), language)
+
+
+def blocks_of(text, language):
+    """Returns the lines of each fenced block of this language in a text."""
     found, current = [], None
-    for line in text_of(document).split("\n"):
+    for line in text.split("\n"):
         if line.startswith("```"):
             if current is not None:
                 found.append(current)

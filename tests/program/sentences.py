@@ -10,7 +10,7 @@ import re
 from prover.crates import TOP
 
 MOST_WORDS = 25
-PAGES = ["README.md", "docs/EMBEDDING.md", "docs/CALLS.md", "docs/FAQ.md", "docs/CERTIFY.md", "docs/TRUST.md", "docs/RATTLE.md", "docs/RELATED.md"]
+PAGES = ["README.md", "docs/TUTORIAL.md", "docs/EMBEDDING.md", "docs/CALLS.md", "docs/FAQ.md", "docs/CERTIFY.md", "docs/TRUST.md", "docs/RATTLE.md", "docs/RELATED.md"]
 HEADERS = os.path.join("bindings", "c", "*.h")
 
 FENCE = re.compile(r" *```")
