@@ -131,14 +131,17 @@ def controls(_program, _folder):
 
 # ---- Programs
 
-def built_steps(folder, built, text):
-    """Yields each way of building a step, the path of the program, and why it was not built, or None."""
-    source = file_of(folder, "step.c", text.encode())
-    for name, words in [("gcc", ["gcc", "-O2"]), ("gcc with sanitizers", ["gcc", *SANITIZERS])]:
-        if usable(folder, "the tutorial by %s" % name, words):
-            program = os.path.join(folder, "step")
-            made = done([*words, "-std=c11", *WARNINGS, "-I" + os.path.join(built.prefix, "include"), "-o", program, source, *built.archive()])
-            yield name, program, None if made.status == 0 else "not built: %s" % made.stderr.decode()
+def ways(folder):
+    """Returns the ways of building a step that are there: a name and the first words of the command."""
+    known = [("gcc", ["gcc", "-O2"]), ("gcc with sanitizers", ["gcc", *SANITIZERS])]
+    return [(name, words) for name, words in known if usable(folder, "the tutorial by %s" % name, words)]
+
+
+def wrong_run(words, text, built, folder, wanted):
+    """Builds a step. Returns why it was not built, or why its outcome is not the one that is wanted, or None."""
+    program, source = os.path.join(folder, "step"), file_of(folder, "step.c", text.encode())
+    made = done([*words, "-std=c11", *WARNINGS, "-I" + os.path.join(built.prefix, "include"), "-o", program, source, *built.archive()])
+    return difference(done([program]), wanted) if made.status == 0 else "not built: %s" % made.stderr.decode()
 
 
 def wrong_output(number, printed):
@@ -149,24 +152,23 @@ def wrong_output(number, printed):
     return None if all(FEWEST_FLIPS <= int(flips) <= MOST_FLIPS for flips in found.groups()) else "%s flips" % found.groups()
 
 
-def outputs(built, folder, shown):
-    """Yields what each step prints, which the page shows."""
+def outputs(known, built, folder, shown):
+    """Checks what each step prints, which the page shows, for each way of building it."""
     for number, text in sorted(steps().items()):
         printed = "\n".join(blocks_of(shown[number], "text")[0]) + "\n"
         yield "the output of section %d" % number, wrong_output(number, printed)
-        for way, program, why in built_steps(folder, built, text):
-            yield "step %d by %s" % (number, way), why or difference(done([program]), Outcome(printed.encode()))
+        for name, words in known:
+            yield "step %d by %s" % (number, name), wrong_run(words, text, built, folder, Outcome(printed.encode()))
 
 
-def questions(built, folder, shown):
-    """Yields the outcome of each question. What it asks for is an edit at one place of the step."""
+def questions(words, built, folder, shown):
+    """Checks the outcome of each question, for one way of building. What a question asks for is an edit at one place of the step."""
     for number, text in sorted(steps().items()):
         new, _, old = QUESTION.search(shown[number]).groups()
         replaced, outcome = asked()[number]
         old = old or replaced
         yield "the question of step %d" % number, None if text.count(old) == 1 and new not in text else "%r is at %d places" % (old, text.count(old))
-        for way, program, why in built_steps(folder, built, text.replace(old, new)):
-            yield "the question of step %d by %s" % (number, way), why or difference(done([program]), outcome)
+        yield "the answer of step %d" % number, wrong_run(words, text.replace(old, new), built, folder, outcome)
 
 
 def line(built, folder):
@@ -179,13 +181,14 @@ def line(built, folder):
 
 
 def programs(_program, folder):
-    """Builds each step by gcc and with sanitizers, and checks what it prints, and what it prints after the edit of its question. Runs the page's line."""
+    """Builds each step by gcc and with sanitizers, and checks what it prints, also after the edit of its question. Runs the page's line."""
     built = library(folder)
     if built is None:
         return
-    shown = sections_of(text_of(PAGE))
-    yield from outputs(built, folder, shown)
-    yield from questions(built, folder, shown)
+    shown, known = sections_of(text_of(PAGE)), ways(folder)
+    yield from outputs(known, built, folder, shown)
+    for _, words in known[-1:]:
+        yield from questions(words, built, folder, shown)
     yield "the line of %s" % PAGE, difference(line(built, folder), Outcome(PRINTED[1].encode()))
 
 
