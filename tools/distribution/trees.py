@@ -12,8 +12,9 @@ TOP = os.path.normpath(os.path.join(os.path.dirname(os.path.abspath(__file__)), 
 HERE = os.path.dirname(os.path.abspath(__file__))
 SHARED = "libgcflip.so.1"
 TRUST = "docs/TRUST.md"
+TUTORIAL = "examples/tutorial"
 PYTHON, RUST = "bindings/python/README.md", "bindings/rust/README.md"
-DOCUMENTS = ["README.md", "CHANGELOG.md", TRUST, "docs/FORMATS.md", "docs/EMBEDDING.md", "docs/CALLS.md", "docs/FAQ.md", "docs/CERTIFY.md", "docs/GLOSSARY.md", "docs/EXPLORE.md", "docs/RATTLE.md", "docs/RELATED.md"]
+DOCUMENTS = ["README.md", "CHANGELOG.md", TRUST, "docs/FORMATS.md", "docs/TUTORIAL.md", "docs/EMBEDDING.md", "docs/CALLS.md", "docs/FAQ.md", "docs/CERTIFY.md", "docs/GLOSSARY.md", "docs/EXPLORE.md", "docs/RATTLE.md", "docs/RELATED.md"]
 COMPLETIONS = {"share/bash-completion/completions/gcflip": "gcflip.bash", "share/zsh/site-functions/_gcflip": "_gcflip",
                "share/fish/vendor_completions.d/gcflip.fish": "gcflip.fish"}
 HEADERS = ["gcflip_answers.h", "gcflip.h", "gcflip_heap.h", "gcflip_images.h", "gcflip_record.h", "gcflip_allocator.h", "herbpond.h"]
@@ -81,7 +82,7 @@ def places(documents):
     """Returns the places of documents, pictures, examples and headers in the archive and in the Debian package, by their paths in the repository."""
     found = {path: "%s/%s" % (documents, os.path.basename(path)) for path in DOCUMENTS}
     found.update({path: "%s/pictures/%s" % (documents, os.path.basename(path)) for path in below("docs/pictures")})
-    found.update({path: "%s/%s" % (documents, path) for path in below("examples/pictures")})
+    found.update({path: "%s/%s" % (documents, path) for folder in ("examples/pictures", TUTORIAL) for path in below(folder)})
     found.update({path: "%s/examples/%s" % (documents, os.path.basename(path)) for path in examples()})
     found.update({"bindings/c/" + name: "include/" + name for name in HEADERS})
     return found
@@ -90,8 +91,8 @@ def places(documents):
 def described(documents):
     """Returns the documents, pictures, examples and headers of the archive and of the Debian package, as a tree."""
     placed = places(documents)
-    # A document may link to all examples by their folder.
-    targets = dict(placed, examples=documents + "/examples")
+    # A document may link to all examples, and to the steps of the tutorial, by their folder.
+    targets = dict(placed, **{folder: "%s/%s" % (documents, folder) for folder in ("examples", TUTORIAL)})
     found = {place: Leaf(read_linked(path, targets) if path.endswith(".md") else read(path)) for path, place in placed.items()}
     found[placed[TRUST]] = Leaf(found[placed[TRUST]].data + verdicts())
     return found
