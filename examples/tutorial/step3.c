@@ -4,7 +4,7 @@
 #include <inttypes.h>
 
 enum kind { PAIR = 1 };
-enum code { INT, GET, SET, ADD, LESS, NEW_PAIR, JUMP, JUMP_IF_ZERO, CALL, RETURN, PRINT, HALT };
+enum code { INT, GET, SET, ADD, LESS, NEW_PAIR, FIRST, REST, JUMP, JUMP_IF_ZERO, CALL, RETURN, PRINT, HALT };
 enum { WORDS = 100000, PLACES = 1000, MOST_CALLS = 100 };
 
 static hp vm;
@@ -119,6 +119,8 @@ static void run(const int *at)
         case ADD: add(); break;
         case LESS: hp_set_int(&vm, top(1), integer(top(1)) < integer(top(0))); hp_drop(&vm, 1); break;
         case NEW_PAIR: new_pair(); break;
+        case FIRST: hp_get(&vm, top(0), top(0), 0); break;
+        case REST: hp_get(&vm, top(0), top(0), 1); break;
         case JUMP: at = jump(at); break;
         case JUMP_IF_ZERO: at = integer(top(0)) == 0 ? jump(at) : at + 1; hp_drop(&vm, 1); break;
         case CALL: at = enter(functions[at[0]], (uint32_t)at[1], at + 2); break;
@@ -130,7 +132,7 @@ static void run(const int *at)
 
 int main(void)
 {
-    const int codes[] = {INT, 20, CALL, FIB, 1, PRINT, INT, 1000000, INT, 0, CALL, LIST, 2, HALT};
+    const int codes[] = {INT, 20, CALL, FIB, 1, PRINT, INT, 1000000, INT, 0, CALL, LIST, 2, FIRST, PRINT, HALT};
 
     hp_open(&vm, WORDS, PLACES, failed);
     run(codes);

@@ -4,7 +4,7 @@
 #include <inttypes.h>
 
 enum kind { PAIR = 1, STRING };
-enum code { INT, TEXT, GET, SET, ADD, LESS, NEW_PAIR, JUMP, JUMP_IF_ZERO, CALL, RETURN, PRINT, HALT };
+enum code { INT, TEXT, GET, SET, ADD, LESS, NEW_PAIR, FIRST, REST, JUMP, JUMP_IF_ZERO, CALL, RETURN, PRINT, HALT };
 enum { WORDS = 100000, PLACES = 1000, MOST_CALLS = 100 };
 
 static hp vm;
@@ -57,8 +57,6 @@ static void print(hp_root s)
     if (hp_is(&vm, s, STRING))
         for (uint32_t i = 0; i < hp_look(&vm, s).count; i++)
             putchar((int)hp_word(&vm, s, i));
-    else if (hp_is(&vm, s, PAIR))
-        printf("a pair");
     else
         printf("%" PRId64, integer(s));
     putchar('\n');
@@ -163,6 +161,8 @@ static void run(const int *at)
         case ADD: add(); break;
         case LESS: hp_set_int(&vm, top(1), integer(top(1)) < integer(top(0))); hp_drop(&vm, 1); break;
         case NEW_PAIR: new_pair(); break;
+        case FIRST: hp_get(&vm, top(0), top(0), 0); break;
+        case REST: hp_get(&vm, top(0), top(0), 1); break;
         case JUMP: at = jump(at); break;
         case JUMP_IF_ZERO: at = integer(top(0)) == 0 ? jump(at) : at + 1; hp_drop(&vm, 1); break;
         case CALL: at = enter(functions[at[0]], (uint32_t)at[1], at + 2); break;

@@ -5,7 +5,7 @@
 #include <setjmp.h>
 
 enum kind { PAIR = 1, STRING };
-enum code { INT, REAL, TEXT, GET, SET, ADD, LESS, NEW_PAIR, JUMP, JUMP_IF_ZERO, CALL, RETURN, PRINT, HALT };
+enum code { INT, REAL, TEXT, GET, SET, ADD, LESS, NEW_PAIR, FIRST, REST, JUMP, JUMP_IF_ZERO, CALL, RETURN, PRINT, HALT };
 enum { WORDS = 100000, PLACES = 1000, MOST_CALLS = 100, MOST_BYTES = 65535 };
 
 static hp vm;
@@ -48,6 +48,14 @@ static int64_t integer(hp_root s)
     return value.integer;
 }
 
+/* Returns the root, if it refers to a pair. */
+static hp_root pair(hp_root s)
+{
+    if (!hp_is(&vm, s, PAIR))
+        fail("not a pair");
+    return s;
+}
+
 static bool is_double(hp_root s)
 {
     return hp_look(&vm, s).type == HP_DOUBLE || hp_is(&vm, s, HP_KIND_BOX);
@@ -87,8 +95,6 @@ static void print(hp_root s)
     if (hp_is(&vm, s, STRING))
         for (uint32_t i = 0; i < hp_look(&vm, s).count; i++)
             putchar((int)hp_word(&vm, s, i));
-    else if (hp_is(&vm, s, PAIR))
-        printf("a pair");
     else if (is_double(s))
         printf("%g", hp_double(&vm, s));
     else
@@ -202,6 +208,8 @@ static void run(const int *at)
         case ADD: add(); break;
         case LESS: hp_set_int(&vm, top(1), integer(top(1)) < integer(top(0))); hp_drop(&vm, 1); break;
         case NEW_PAIR: new_pair(); break;
+        case FIRST: hp_get(&vm, top(0), pair(top(0)), 0); break;
+        case REST: hp_get(&vm, top(0), pair(top(0)), 1); break;
         case JUMP: at = jump(at); break;
         case JUMP_IF_ZERO: at = integer(top(0)) == 0 ? jump(at) : at + 1; hp_drop(&vm, 1); break;
         case CALL: at = enter(functions[at[0]], (uint32_t)at[1], at + 2); break;
@@ -226,12 +234,12 @@ int main(void)
 {
     const int sum[] = {TEXT, 0, INT, 1, ADD, PRINT, HALT};
     const int pairs[] = {INT, 1000000, INT, 0, CALL, LIST, 2, PRINT, HALT};
-    const int numbers[] = {INT, 20, CALL, FIB, 1, PRINT, HALT};
+    const int others[] = {TEXT, 0, TEXT, 1, ADD, PRINT, INT, 20, CALL, FIB, 1, PRINT, HALT};
 
     hp_open(&vm, WORDS, PLACES, failed);
     attempt(sum);
     attempt(pairs);
-    attempt(numbers);
+    attempt(others);
     hp_close(&vm);
     return 0;
 }
