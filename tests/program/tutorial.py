@@ -70,6 +70,25 @@ def asked():
     }
 
 
+# Codes that double a value, and programs for the last step at the edges of what values may be, each with what it prints. An integer is at least -2^61
+# and less than 2^61, and 14 doublings of "herb" make 65,536 bytes, which is one more than an object has fields.
+TWICE = "GET, 0, GET, 0, ADD, SET, 0, "
+AT_EDGES = [
+    ("INT, 1, " + 60 * TWICE + "GET, 0, PRINT, HALT", "%d\n" % 2 ** 60),
+    ("INT, 1, " + 61 * TWICE + "HALT", "error: the sum has more than 62 bits\n"),
+    ("INT, -1, " + 61 * TWICE + "GET, 0, PRINT, HALT", "%d\n" % -2 ** 61),
+    ("INT, -1, " + 62 * TWICE + "HALT", "error: the sum has more than 62 bits\n"),
+    ("TEXT, 0, " + 2 * TWICE + "GET, 0, PRINT, HALT", 4 * "herb" + "\n"),
+    ("TEXT, 0, " + 13 * TWICE + "HALT", ""),
+    ("TEXT, 0, " + 14 * TWICE + "HALT", "error: the string is too long\n"),
+    ("REAL, 1, REAL, 1, ADD, PRINT, HALT", "%g\n" % (1e300 + 1e300)),
+    ("INT, 1, FIRST, HALT", "error: not a pair\n"),
+    ("TEXT, 0, REST, HALT", "error: not a pair\n"),
+    ("INT, 1, INT, 2, NEW_PAIR, REST, PRINT, HALT", "2\n"),
+    ("INT, 1, INT, 2, NEW_PAIR, PRINT, HALT", "error: not an integer\n"),
+]
+
+
 # ---- The page and the files
 
 def sections_of(page):
@@ -173,6 +192,13 @@ def questions(words, built, folder, shown):
         yield "the answer of step %d" % number, wrong_run(words, text.replace(old, new), built, folder, outcome)
 
 
+def wrong_at_edges(words, text, built, folder):
+    """Builds the last step with the programs of AT_EDGES before its own. Returns why its outcome is not the one that is wanted, or None."""
+    attempts = "".join("    attempt((const int[]){%s});\n" % codes for codes, _ in AT_EDGES)
+    wanted = "".join(printed for _, printed in AT_EDGES) + PRINTED[len(PRINTED)]
+    return wrong_run(words, text.replace("    attempt(sum);\n", attempts + "    attempt(sum);\n"), built, folder, Outcome(wanted.encode()))
+
+
 def line(built, folder):
     """Returns the outcome of the page's line that builds and runs a step, beside the steps and with the installed library."""
     found = re.search(r"(?m)^    (gcc .* && /tmp/step)$", text_of(PAGE))
@@ -191,6 +217,7 @@ def programs(_program, folder):
     yield from outputs(known, built, folder, shown)
     for _, words in known[-1:]:
         yield from questions(words, built, folder, shown)
+        yield "the last step at the edges of values", wrong_at_edges(words, steps()[len(PRINTED)], built, folder)
     yield "the line of %s" % PAGE, difference(line(built, folder), Outcome(PRINTED[1].encode()))
 
 
