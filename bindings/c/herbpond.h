@@ -144,12 +144,15 @@ static inline hp_root hp_operand(hp *h, hp_root root, const char *call)
 
 /* ---- Room */
 
-/* Counts the steps that the collector performed. */
+/* Counts the steps that the collector performed, and its flips. */
 static inline void hp_worked(hp *h, const gcflip_work *work)
 {
+    gcflip_flip_checks checks = {0, 0};
+
+    hp_answered(h, gcflip_heap_flip_checks(&h->heap, &checks), "hp_worked");
     h->stats.steps += work->steps;
     h->stats.copied += work->copied;
-    h->stats.flips += work->last == GCFLIP_FLIPPED;
+    h->stats.flips = checks.along + checks.whole;
 }
 
 /* Ends the open collection by its flip, or performs a whole one if none is open: GCFLIP_DONE, GCFLIP_NO_MEMORY or GCFLIP_NO_ROOM. */
@@ -184,14 +187,26 @@ static inline void hp_grow(hp *h, uint32_t words, bool now)
     }
 }
 
-/* Makes room for `words` words. Performs the steps that are due. If fewer words are free then, it ends the open collection, and performs one more
- * if that does not help. Returns GCFLIP_DONE if so many words are free. Else it returns GCFLIP_FULL if a collection that began in this call
- * flipped, or GCFLIP_NO_MEMORY if the system refused the memory for one. */
+/* Makes room by whole collections, where too little is free: GCFLIP_DONE, GCFLIP_FULL or GCFLIP_STARVED. */
+static inline uint32_t hp_wait(hp *h, uint32_t words)
+{
+    gcflip_work work = {0, 0, 0, 0, 0};
+    uint32_t answer;
+
+    hp_grow(h, words, true);
+    answer = gcflip_reserve(&h->heap, &h->pace, words, &work);
+    if (!GCFLIP_IS_REFUSED(answer))
+        hp_worked(h, &work);
+    return answer;
+}
+
+/* Makes room for `words` words. Performs the steps that are due. If fewer words are free then, it waits for whole collections, and for one that takes
+ * a larger space if the heap may grow. Returns GCFLIP_DONE if so many words are free, GCFLIP_FULL if a collection that began in this call flipped and
+ * they are not, or GCFLIP_NO_MEMORY if the system refused the memory for a collection. */
 static inline uint32_t hp_make_room(hp *h, uint32_t words)
 {
     gcflip_work work = {0, 0, 0, 0, 0};
     uint32_t answer;
-    int flips;
 
     hp_trim(h);
     hp_grow(h, words, false);
@@ -203,13 +218,10 @@ static inline uint32_t hp_make_room(hp *h, uint32_t words)
     if (gcflip_room(&h->heap) >= words)
         return GCFLIP_DONE;
     h->stats.waits++;
-    for (flips = hp_counts(h).is_open ? 2 : 1; flips > 0; flips--) {
-        hp_grow(h, words, true);
-        answer = hp_flip(h);
-        if (answer != GCFLIP_DONE || gcflip_room(&h->heap) >= words)
-            return answer;
-    }
-    return GCFLIP_FULL;
+    answer = hp_wait(h, words);
+    if (answer == GCFLIP_FULL && hp_counts(h).size < h->most)
+        answer = hp_wait(h, words);
+    return answer == GCFLIP_STARVED ? (uint32_t)GCFLIP_NO_MEMORY : answer;
 }
 
 /* Makes room for objects of `words` words together. The collector does not work again before they are made. */
