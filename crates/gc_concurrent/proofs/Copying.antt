@@ -27,7 +27,7 @@ use Rattle.gc_concurrent.specs.Ends.{Known, Mine, Theirs}
 use Rattle.gc_concurrent.specs.Unreachable.{MayBeCopied}
 use Rattle.gc_concurrent.specs.Internal.Plans.{collection_of, plan}
 use Rattle.gc_concurrent.specs.Internal.Carrying.{KeepsUnreachableOut}
-use Rattle.gc_concurrent.specs.Internal.Rule.{IsConcurrent, brought, scanned, applied, wants, after_read, lacks, read_as, Sat, tells_scan_of, tells_apply_of, tells_scan, tells_apply}
+use Rattle.gc_concurrent.specs.Internal.Rule.{IsAtRest, IsConcurrent, brought, scanned, applied, wants, after_read, lacks, read_as, Sat, tells_scan_of, tells_apply_of, tells_scan, tells_apply}
 use Rattle.gc_concurrent.specs.Ends.{its}
 use Rattle.gc_concurrent.proofs.Hands.{St, seats_theirs}
 use Rattle.gc_concurrent.proofs.Fitting.{end_brought}
@@ -39,9 +39,9 @@ use lib.Seq.{set-get_or}
 
 pub theirs_keep : (size : ℕ) (s : St) (r : IsConcurrent size s) (k id : ℕ) (v : Known) (c : List (ℕ × ℕ)) (t' : Theirs) → get_elem? s.views id ≡ some v → v.copies ≡ true → t'.old ≡ r.theirs.old
     → ((a : ℕ) → In a t'.wanted → (o : Object) × (lookup (objects_of r.mine.space.words) a ≡ Some o))
-    → IsOpened (plan r.mine r.theirs) (collection_of r.mine t') → KeepsUnreachableOut r.mine t' → new_end (its t') ≤ end_of r.mine.space
+    → IsOpened (plan r.mine r.theirs) (collection_of r.mine t') → KeepsUnreachableOut r.mine t' → new_end (its t') ≤ end_of r.mine.space → (r.mine.logs ≡ false → IsAtRest r.mine t')
     → IsConcurrent size (stepped s k (get_or s.words k 0) id c (record v { theirs = t' }) keeps)
-theirs_keep size s r k id v c t' here copies old wanted opened carries fits =
+theirs_keep size s r k id v c t' here copies old wanted opened carries fits rests =
     subst (λ (ws : List ℕ). IsConcurrent size (record { words = ws; homes = s.homes; views = set s.views id (record v { theirs = t' }) })) (sym (set-get_or s.words k 0)) (record {
       mine = r.mine;
       theirs = t';
@@ -58,8 +58,14 @@ theirs_keep size s r k id v c t' here copies old wanted opened carries fits =
       opened = record { belongs = opened.belongs; size = opened.size; logs = opened.logs };
       carries = carries;
       fits = fits;
+      rests = rests;
       seats = seats_theirs r.writer r.copier id r.mine r.theirs t' s.views v here copies r.seats;
     })
+
+-- ---- what is at rest has no replicas
+
+pub replica_works : (m : Mine) (t : Theirs) (q : Replica) → (m.logs ≡ false → IsAtRest m t) → In q t.replicas → m.logs ≡ false → ⊥
+replica_works m t q rests here e = subst (In q) (rests e).copied here
 
 -- ---- the collector's own collection finds the same replicas
 
@@ -109,7 +115,7 @@ target_starts : (words : List ℕ) (raw : Bool) (w name : ℕ) → IsWordOfField
 target_starts words true w name is e = absurd cc
 target_starts words false w name is e = subst (RefersToStart words) e is.start
 
-target_there : (words : List ℕ) (name : ℕ) → is_some (block_at words name) ≡ true → (o : Object) × (lookup (objects_of words) name ≡ Some o)
+pub target_there : (words : List ℕ) (name : ℕ) → is_some (block_at words name) ≡ true → (o : Object) × (lookup (objects_of words) name ≡ Some o)
 target_there words name start = let b = some_of (block_at words name) start in (object_of_block b.0, object_found words name ∙ ap (option_map object_of_block) b.1)
 
 lacking : (c : Collection) (v : Value) (name : ℕ) → lacks c v ≡ Some name → (v ≡ Ref name) × (replica_of c name ≡ None)
@@ -143,13 +149,13 @@ brought_fits size s r name i v = let e = end_brought r.theirs name i v in let f 
 -- ---- the steps
 
 -- a value read that lacks a replica is wanted
-pub want : (size : ℕ) (s : St) (r : IsConcurrent size s) (k id : ℕ) (me : Sat) (name : ℕ) → get_elem? s.views id ≡ some me.0 → me.0.copies ≡ true
-    → is_some (block_at r.mine.space.words name) ≡ true → MayBeCopied r.theirs.base name
+want : (size : ℕ) (s : St) (r : IsConcurrent size s) (k id : ℕ) (me : Sat) (name : ℕ) → get_elem? s.views id ≡ some me.0 → me.0.copies ≡ true
+    → is_some (block_at r.mine.space.words name) ≡ true → MayBeCopied r.theirs.base name → (r.mine.logs ≡ false → ⊥)
     → IsConcurrent size (stepped s k (get_or s.words k 0) id me.1 (record me.0 { theirs = wants name r.theirs }) keeps)
-want size s r k id me name seat copies start kept =
+want size s r k id me name seat copies start kept works =
     theirs_keep size s r k id me.0 me.1 (wants name r.theirs) seat copies refl
     (λ a h. ⊎_elim (λ (e : name ≡ a). subst (λ x. (o : Object) × (lookup (objects_of r.mine.space.words) x ≡ Some o)) e (target_there r.mine.space.words name start)) (λ (e : ⊥). absurd e) h)
-    r.opened (kept_wants r.mine r.theirs r.carries name kept) r.fits
+    r.opened (kept_wants r.mine r.theirs r.carries name kept) r.fits (λ e. absurd (works e))
 
 -- a field word of an object that is not raw is a value
 value_of_field : (words : List ℕ) (raw : Bool) (w : ℕ) → raw ≡ false → IsWordOfField raw words w → is_value w ≡ true
@@ -214,7 +220,7 @@ scan_at slots size s r id me q seat copies here place plain within = go (lacks (
           (subst (λ (x : StepReply × State). IfSome x.1.collection (IsOpened S)) (scan_is S c q v (r.opened).belongs here place plain within is (lacks_same r.mine t v ∙ e))
           (open_keeps S c steps.Scan refl r.opened (λ e. cc e))))
           (kept_brought r.mine t r.carries q.original t.scan_field (moved (its t) v) (scanned q.original t.scan_field v t) refl refl refl)
-          (brought_fits size s r q.original t.scan_field v),
+          (brought_fits size s r q.original t.scan_field v) (λ e. absurd (replica_works r.mine t q r.rests here e)),
       λ p l e' _ _ _. (found_value size s r q t.scan_field f plainly, λ j. (record me.0 { theirs = after_read (scanned (one p l e' j).original t.scan_field v) (sym e j) t }, me.1)),
     )
     go (Some name) e = let lack = lacking (its t) v name e in (
@@ -222,7 +228,7 @@ scan_at slots size s r id me q seat copies here place plain within = go (lacks (
       keeps,
       tt,
       want size s r k id me name seat copies (found_start size s r q t.scan_field name f (ap (λ (b : Bool). read_as b (get_or s.words k 0)) plainly ∙ lack.0))
-          (kept_target r.mine t r.carries q t.scan_field v name here is lack.0),
+          (kept_target r.mine t r.carries q t.scan_field v name here is lack.0) (replica_works r.mine t q r.rests here),
       λ p l e' _ _ _. (found_value size s r q t.scan_field f plainly, λ j. (record me.0 { theirs = after_read (scanned p.original t.scan_field v) (sym e j) t }, me.1)),
     )
 
@@ -326,7 +332,7 @@ apply_at slots size s r id me q i rest seat copies here due = go (lacks (its t) 
           (subst (λ (x : StepReply × State). IfSome x.1.collection (IsOpened S)) (apply_is r.mine t q i rest v (r.opened).belongs here due is (lacks_same r.mine (without rest t) v ∙ lacks_less t rest v ∙ e))
           (open_keeps S c (steps.Apply 1) refl r.opened (λ e. cc e))))
           (kept_brought r.mine t r.carries q.original i (moved (its t) v) (applied q.original i v t) refl refl refl)
-          (brought_fits size s r q.original i v),
+          (brought_fits size s r q.original i v) (λ e. absurd (replica_works r.mine t q r.rests here e)),
       λ p j more l e' _. let w = one p j more l e' in ((λ plain. found_value size s r q i f (sym f.raw ∙ (ap (λ (x : Replica). x.object.raw) w.0 ∙ plain))), tell None e p j w),
     )
     go (Some name) e = let lack = lacking (its t) v name e in (
@@ -334,7 +340,7 @@ apply_at slots size s r id me q i rest seat copies here due = go (lacks (its t) 
       keeps,
       tt,
       want size s r k id me name seat copies (found_start size s r q i name f (ap (λ (b : Bool). read_as b (get_or s.words k 0)) (sym f.raw) ∙ lack.0))
-          (kept_target r.mine t r.carries q i v name here is lack.0),
+          (kept_target r.mine t r.carries q i v name here is lack.0) (replica_works r.mine t q r.rests here),
       λ p j more l e' _. let w = one p j more l e' in ((λ plain. found_value size s r q i f (sym f.raw ∙ (ap (λ (x : Replica). x.object.raw) w.0 ∙ plain))), tell (Some name) e p j w),
     )
 

@@ -1,11 +1,11 @@
 -- Steps with both ends at hand: the log changes hands, and the targets of the mutator's roots are wanted.
-use Rattle.std.proofs.Common.{◌≡◌, ℕ, true, List, [], ◌∷◌, ◌++◌, set, refl, sym, ◌∙◌, subst, inl, inr, ⊎_elim, arith}
-use Rattle.std.specs.Prelude.{is_some}
+use Rattle.std.proofs.Common.{◌≡◌, ℕ, true, true≢false, List, [], ◌∷◌, ◌++◌, set, refl, sym, ◌∙◌, subst, inl, inr, ⊎_elim, arith}
+use Rattle.std.specs.Prelude.{is_some, Some}
 use mathlib.Core.Option.{none, some}
 use lib.ListN.{get_elem?}
 use lib.Seq.{set-get_or}
 use Rattle.atomic_table.specs.Table.{step, keeps, Allows}
-use Rattle.gc_graph.specs.Graph.{Object, Ref}
+use Rattle.gc_graph.specs.Graph.{Object, Ref, lookup}
 use Rattle.gc_words.specs.Word.{value_of}
 use Rattle.gc_words.specs.Image.{block_at, objects_of}
 use Rattle.gc_words.specs.Closed.{IsRootWord, RefersToStart}
@@ -15,12 +15,20 @@ use Rattle.gc_plan.proofs.Public.{its_replicas, belongs_from, replicas_due, in_l
 use Rattle.gc_concurrent.specs.Ends.{Known, Mine, Theirs}
 use Rattle.gc_concurrent.specs.Unreachable.{MayBeCopied}
 use Rattle.gc_concurrent.specs.Internal.Plans.{collection_of, plan}
-use Rattle.gc_concurrent.specs.Internal.Rule.{IsConcurrent, Seated, Sat, logs_taken, wants, tells_take, tells_root}
+use Rattle.gc_concurrent.specs.Internal.Rule.{AreSeated, IsConcurrent, Seated, Sat, logs_taken, root_wanted, wants, tells_take, tells_root}
 use Rattle.gc_concurrent.proofs.Hands.{St, seat_set}
 use Rattle.gc_concurrent.proofs.Logs.{of_two, to_two, in_either}
-use Rattle.gc_concurrent.proofs.Keeping.{kept_still, kept_mine}
+use Rattle.gc_concurrent.proofs.Keeping.{kept_still, kept_mine, kept_wants}
 use Rattle.gc_concurrent.proofs.Loosely.{Leaves, loosely}
-use Rattle.gc_concurrent.proofs.Copying.{want}
+use Rattle.gc_concurrent.proofs.Copying.{target_there}
+
+-- a step of a seat that is both ends
+both_seats : (writer copier id : ℕ) (mine mine' : Mine) (theirs theirs' : Theirs) (views : List Known) (v w : Known) → get_elem? views id ≡ some v → v.writes ≡ true → v.copies ≡ true
+    → w.mine ≡ mine' → w.theirs ≡ theirs' → AreSeated writer copier mine theirs views → AreSeated writer copier mine' theirs' (set views id w)
+both_seats writer copier id mine mine' theirs theirs' views v w seat writes copies is_mine is_theirs h = let own = h id v seat in
+    seat_set (Seated writer copier mine' theirs') views id w
+    ((λ _. ((own.0 writes).0, is_mine)), λ _. ((own.1 copies).0, is_theirs))
+    (λ j u other e. ((λ p. absurd (other (((h j u e).0 p).0 ∙ sym (own.0 writes).0))), λ p. absurd (other (((h j u e).1 p).0 ∙ sym (own.1 copies).0))))
 
 -- the mutator's entries go behind the collector's
 taken_opened : (m : Mine) (t : Theirs) → IsOpened (plan m t) (collection_of m t)
@@ -69,9 +77,8 @@ take_at slots size s r k id me seat writes copies =
         opened = taken_opened r.mine r.theirs r.opened;
         carries = kept_mine r.mine t' (kept_still r.mine r.theirs r.carries t' refl refl refl) m' refl (omega arith) r.carries.fields;
         fits = r.fits;
-        seats = seat_set (Seated r.writer r.copier m' t') s.views id w
-            ((λ p. ((own.0 p).0, refl)), λ p. ((own.1 p).0, refl))
-            (λ j u other e. ((λ p. absurd (other ((((r.seats j u e).0 p).0) ∙ sym ((own.0 writes).0)))), λ p. absurd (other ((((r.seats j u e).1 p).0) ∙ sym ((own.1 copies).0)))));
+        rests = λ e. let k = r.rests e in record { logged = refl; copied = k.copied; due = (λ j. k.due j ++ k.logged j); wanted = k.wanted };
+        seats = both_seats r.writer r.copier id r.mine m' r.theirs t' s.views me.0 w seat writes copies refl refl r.seats;
       }),
       ((λ j. (record me.0 { mine = record (sym mine j) { log = [] }; theirs = record (sym theirs j) { due = (sym theirs j).due ++ (sym mine j).log } }, me.1)), subst (λ (z : Mine × Theirs). z.1.base ≡ z.0.base) (λ j. (sym mine j, sym theirs j)) r.carries.begun),
     )
@@ -89,10 +96,31 @@ roots_rule slots size id me w name writes copies fine is kept s r _ seat _ =
     let theirs : me.0.theirs ≡ r.theirs = ((r.seats id me.0 seat).1 copies).1 in
     let fine' : IsRootWord r.mine.space.words w = subst (λ (m : Mine). IsRootWord m.space.words w) mine fine in
     let start : is_some (block_at r.mine.space.words name) ≡ true = subst (RefersToStart r.mine.space.words) is fine'.start in
-    loosely size s name id me (λ n m. m ≡ (record me.0 { theirs = wants name me.0.theirs }, me.1)) seat (
-      record me.0 { theirs = wants name r.theirs },
+    let m' : Mine = record r.mine { logs = true } in
+    let t' : Theirs = wants name r.theirs in
+    let w : Known = record me.0 { mine = m'; theirs = t' } in
+    loosely size s name id me (λ n m. m ≡ (root_wanted name me.0, me.1)) seat (
+      w,
       keeps,
       tt,
-      want size s r name id me name seat copies start (subst (λ (t : Theirs). MayBeCopied t.base name) theirs kept),
-      λ j. (record me.0 { theirs = wants name (sym theirs j) }, me.1),
+      subst (λ (ws : List ℕ). IsConcurrent size (record { words = ws; homes = s.homes; views = set s.views id w })) (sym (set-get_or s.words name 0)) (record {
+        mine = m';
+        theirs = t';
+        writer = r.writer;
+        copier = r.copier;
+        wide = r.wide;
+        sized = r.sized;
+        older = r.older;
+        now = r.now;
+        free = r.free;
+        space = r.space;
+        closed = r.closed;
+        wanted = λ a h. ⊎_elim (λ (e : name ≡ a). subst (λ x. (o : Object) × (lookup (objects_of r.mine.space.words) x ≡ Some o)) e (target_there r.mine.space.words name start)) (λ (e : ⊥). absurd e) h;
+        opened = record { belongs = r.opened.belongs; size = r.opened.size; logs = r.opened.logs };
+        carries = kept_mine r.mine t' (kept_wants r.mine r.theirs r.carries name (subst (λ (t : Theirs). MayBeCopied t.base name) theirs kept)) m' refl (omega arith) r.carries.fields;
+        fits = r.fits;
+        rests = λ e. absurd (true≢false e);
+        seats = both_seats r.writer r.copier id r.mine m' r.theirs t' s.views me.0 w seat writes copies refl refl r.seats;
+      }),
+      λ j. (record me.0 { mine = record (sym mine j) { logs = true }; theirs = wants name (sym theirs j) }, me.1),
     )

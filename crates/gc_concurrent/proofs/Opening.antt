@@ -50,6 +50,7 @@ splits_rule size id v writes copies s r here =
       opened = r.opened;
       carries = r.carries;
       fits = r.fits;
+      rests = r.rests;
       seats = λ j u e. ⊎_elim
           (λ (x : get_elem? vs j ≡ some u). ((λ p. absurd ((old j u x).1 p)), (old j u x).0))
           (λ (x : (j ≡ length vs) × (q ≡ u)). ((λ p. (x.0, ap (λ (z : Known). z.mine) (sym x.1) ∙ (own.0 writes).1)), λ p. absurd (true≢false (sym (ap (λ (z : Known). z.copies) x.1 ∙ p)))))
@@ -79,6 +80,7 @@ joins_rule size id other v w copies writes s r here apart there =
       opened = r.opened;
       carries = r.carries;
       fits = r.fits;
+      rests = r.rests;
       seats = λ j u e. ⊎_elim
           (λ (x : (j ≡ other) × (spent_view ≡ u)). ((λ p. absurd (true≢false (sym p ∙ ap (λ (z : Known). z.writes) (sym x.1)))), (λ p. absurd (true≢false (sym p ∙ ap (λ (z : Known). z.copies) (sym x.1))))))
           (λ (x : (j ≢ other) × (get_elem? vs j ≡ some u)). ⊎_elim
@@ -120,6 +122,7 @@ opens_rule heap new_size words b =
       opened = record { belongs = begun_belongs (objects_of heap.space.words) 2 new_size (words_numbers heap.space.words) low; size = b.high; logs = refl };
       carries = record { begun = refl; behind = omega arith; fields = (begins_kept heap b.sound).fields; copied = λ r l. absurd l; wanted = λ a l. absurd l };
       fits = (let e = (b.sound).space.end_low in omega arith);
+      rests = λ _. record { logged = refl; copied = refl; due = refl; wanted = refl };
       seats = λ j u e. ⊎_elim
           (λ (x : get_elem? [] j ≡ some u). absurd (some-ne-none u (sym x)))
           (λ (x : (j ≡ 0) × (v ≡ u)). ((λ _. (x.0, ap (λ (z : Known). z.mine) (sym x.1))), λ _. (x.0, ap (λ (z : Known). z.theirs) (sym x.1))))

@@ -32,7 +32,7 @@ use Rattle.gc_concurrent.proofs.Logs.{of_two, to_two, in_either, in_fields, fiel
 use Rattle.gc_concurrent.proofs.Fitting.{next_fits, end_placed}
 use Rattle.gc_concurrent.proofs.Keeping.{kept_still, kept_placed}
 use Rattle.gc_concurrent.proofs.Loosely.{Leaves, loosely, block_is}
-use Rattle.gc_concurrent.proofs.Copying.{theirs_keep, without}
+use Rattle.gc_concurrent.proofs.Copying.{theirs_keep, replica_works, without}
 
 -- ---- the collector goes on behind a replica
 
@@ -55,7 +55,7 @@ pass_at slots size s r k id me q seat copies here place done =
       tt,
       theirs_keep size s r k id me.0 me.1 (passed q t) seat copies refl r.wanted
           (subst (λ (x : StepReply × State). IfSome x.1.collection (IsOpened S)) (pass_is S c q (r.opened).belongs here place done) (open_keeps S c steps.Scan refl r.opened (λ e. cc e)))
-          (kept_still r.mine t r.carries (passed q t) refl refl refl) r.fits,
+          (kept_still r.mine t r.carries (passed q t) refl refl refl) r.fits (λ e. absurd (replica_works r.mine t q r.rests here e)),
       λ p l e' _. let one : q ≡ p = same_place 1 t.replicas (replicas_end t.replicas) q p ((r.opened).belongs).laid here l (place ∙ sym e') in λ j. (record me.0 { theirs = passed (one j) t }, me.1),
     )
 
@@ -86,7 +86,8 @@ leave_at slots size s r k id me entry rest seat copies due missing =
       theirs_keep size s r k id me.0 me.1 (entry_dropped t) seat copies refl r.wanted
           (subst (λ (x : List (ℕ × ℕ)). IsOpened S (collection_of r.mine (without x t))) (sym (ap (drop 1) due))
           (subst (λ (x : StepReply × State). IfSome x.1.collection (IsOpened S)) is (open_keeps S c (steps.Apply 1) refl r.opened (λ e. cc e))))
-          (kept_still r.mine t r.carries (entry_dropped t) refl refl refl) r.fits,
+          (kept_still r.mine t r.carries (entry_dropped t) refl refl refl) r.fits
+          (λ e. let none : [] ≡ entry ∷ rest = sym (r.rests e).due ∙ due in absurd cc),
       λ _ _ _ _. refl,
     )
 
@@ -197,11 +198,12 @@ place_at slots size s r id me name seat copies wanted missing =
       tt,
       ⊎_elim
           (λ (e : full ≡ true). subst (λ (x : Theirs). IsConcurrent size (stepped s name (get_or s.words name 0) id me.1 (record me.0 { theirs = x }) keeps)) (sym (cond-true full t (placed_one name o t) e))
-          (theirs_keep size s r name id me.0 me.1 t seat copies refl r.wanted r.opened r.carries r.fits))
+          (theirs_keep size s r name id me.0 me.1 t seat copies refl r.wanted r.opened r.carries r.fits r.rests))
           (λ (e : full ≡ false). subst (λ (x : Theirs). IsConcurrent size (stepped s name (get_or s.words name 0) id me.1 (record me.0 { theirs = x }) keeps)) (sym (cond-false full t (placed_one name o t) e))
           (theirs_keep size s r name id me.0 me.1 (placed_one name o t) seat copies refl (λ a h. absurd h)
           (placed_opened r.mine t name o r.opened missing there.1 e) (kept_placed r.mine t r.carries name o wanted)
-          (end_placed r.mine t name o r.space r.closed r.opened r.fits missing there.1)))
+          (end_placed r.mine t name o r.space r.closed r.opened r.fits missing there.1)
+          (λ e'. absurd (subst (In name) (r.rests e').wanted wanted))))
           (cases_Bool full),
       λ _ _. (
         o,

@@ -1,5 +1,6 @@
 -- Each step of the mutator keeps the rule.
-use Rattle.std.proofs.Common.{◌≡◌, ◌≢◌, ◌⊎◌, ℕ, zero, suc, ◌+◌, ◌-◌, ◌<◌, ◌≤◌, true, List, [], ◌∷◌, ◌++◌, length, get_or, set, replicate, Some, sym, refl, ap, ◌∙◌, subst, length-append, inl, inr, ⊎_elim, arith, length-set, get_or-set_other, get_or-set_same}
+use Rattle.std.proofs.lemmas.Bool.{cond-true, cond-false, cases_Bool}
+use Rattle.std.proofs.Common.{◌≡◌, ◌≢◌, ◌⊎◌, ℕ, zero, suc, ◌+◌, ◌-◌, ◌<◌, ◌≤◌, true, false, List, [], ◌∷◌, ◌++◌, length, get_or, set, replicate, Some, sym, refl, ap, ◌∙◌, subst, length-append, inl, inr, ⊎_elim, arith, length-set, get_or-set_other, get_or-set_same}
 use Rattle.std.specs.Prelude.{is_some, IsSome}
 use mathlib.Core.Logic.{dite}
 use mathlib.Core.Option.{none, some}
@@ -23,7 +24,7 @@ use Rattle.gc_plan.proofs.Public.{Evolves, field_stays, lookup_left, lookup_writ
 use Rattle.gc_copy.proofs.Public.{words_numbers}
 use Rattle.gc_concurrent.specs.Ends.{Known, Mine, Theirs}
 use Rattle.gc_concurrent.specs.Internal.Plans.{collection_of, plan}
-use Rattle.gc_concurrent.specs.Internal.Rule.{IsConcurrent, wrote, made, Sat, tells_get, tells_put, tells_new}
+use Rattle.gc_concurrent.specs.Internal.Rule.{IsAtRest, IsConcurrent, wrote, made, Sat, tells_get, tells_put, tells_new}
 use Rattle.gc_concurrent.specs.Unreachable.{MayBeCopied}
 use Rattle.gc_concurrent.specs.Internal.Carrying.{FieldsLeadTo}
 use Rattle.gc_concurrent.proofs.Hands.{St, seats_mine, same}
@@ -58,6 +59,29 @@ opened_noted mine mine' t entries evolves logged there h =
     record {
       belongs = subst (λ l. BelongsBy (IsDue (with_logs l)) (objs mine') (with_logs l)) (sym logged)
           (belongs_noted (objs mine') c 0 entries (omega arith) (belongs_but (objs mine) (objs mine') c (λ a i. In {X = ℕ × ℕ} (a, i) entries) h.belongs evolves (words_numbers mine'.space.words)) there);
+      size = h.size;
+      logs = refl;
+    }
+  where
+    with_logs : List (ℕ × ℕ) → Collection
+    with_logs l = record { size = t.size; replicas = t.replicas; logs = l ∷ t.due ∷ []; scan_place = t.scan_place; scan_field = t.scan_field }
+
+-- a field is written while the collection is at rest
+opened_rests : (mine mine' : Mine) (t : Theirs) (Touched : ℕ → ℕ → Type 0) → Evolves (objs mine) (objs mine') Touched → mine'.log ≡ mine.log → t.replicas ≡ []
+    → IsOpened (plan mine t) (collection_of mine t) → IsOpened (plan mine' t) (collection_of mine' t)
+opened_rests mine mine' t Touched evolves logged empty h =
+    let k = h.belongs in
+    let still : BelongsBy (IsDue (with_logs mine.log)) (objs mine') (with_logs mine.log) = record {
+      laid = k.laid;
+      room = k.room;
+      once = k.once;
+      replicas = λ r l. absurd (subst (In r) empty l);
+      scan = k.scan;
+      entries = λ a i x. field_stays (objs mine) (objs mine') Touched a i evolves (k.entries a i x);
+      numbers = words_numbers mine'.space.words;
+    } in
+    record {
+      belongs = subst (λ l. BelongsBy (IsDue (with_logs l)) (objs mine') (with_logs l)) (sym logged) still;
       size = h.size;
       logs = refl;
     }
@@ -107,6 +131,21 @@ field_there s a i b space has found =
       let n = fields_counted s.words a b space.walked found in let k = f.has_field in let e = ap (λ (x : Block). x.header.len) same in omega arith,
     )
 
+-- the collection after a write, whether it is logged or at rest
+opened_wrote : (mine : Mine) (t : Theirs) (a i w : ℕ) → Evolves (objs mine) (objs (wrote a i w mine)) (λ x j. In {X = ℕ × ℕ} (x, j) ((a, i) ∷ []))
+    → ((x j : ℕ) → In {X = ℕ × ℕ} (x, j) ((a, i) ∷ []) → HasField (objs (wrote a i w mine)) x j) → (mine.logs ≡ false → IsAtRest mine t)
+    → IsOpened (plan mine t) (collection_of mine t) → IsOpened (plan (wrote a i w mine) t) (collection_of (wrote a i w mine) t)
+opened_wrote mine t a i w evolves there rests h = ⊎_elim
+    (λ (e : mine.logs ≡ true). opened_noted mine (wrote a i w mine) t ((a, i) ∷ []) evolves (cond-true mine.logs (mine.log ++ (a, i) ∷ []) mine.log e) there h)
+    (λ (e : mine.logs ≡ false). opened_rests mine (wrote a i w mine) t (λ x j. In {X = ℕ × ℕ} (x, j) ((a, i) ∷ [])) evolves
+    (cond-false mine.logs (mine.log ++ (a, i) ∷ []) mine.log e) (rests e).copied h)
+    (cases_Bool mine.logs)
+
+-- at rest it stays so
+rests_wrote : (mine : Mine) (t : Theirs) (a i w : ℕ) → (mine.logs ≡ false → IsAtRest mine t) → mine.logs ≡ false → IsAtRest (wrote a i w mine) t
+rests_wrote mine t a i w rests e =
+    let k = rests e in record { logged = cond-false mine.logs (mine.log ++ (a, i) ∷ []) mine.log e ∙ k.logged; copied = k.copied; due = k.due; wanted = k.wanted }
+
 put_keeps : (size : ℕ) (s : St) (r : IsConcurrent size s) (id : ℕ) (v : Known) (c : List (ℕ × ℕ)) (a i w : ℕ) (b : Block) → get_elem? s.views id ≡ some v → v.writes ≡ true
     → block_at r.mine.space.words a ≡ Some b → IsSome (field_at r.mine.space.words a i) → IsFieldWord r.mine.space.words b.header w → RefersTo (MayBeCopied r.mine.base) (field_value b.header w)
     → IsConcurrent size (stepped s (field_place a i) w id c (record v { mine = wrote a i w r.mine }) keeps)
@@ -136,11 +175,12 @@ put_keeps size s r id v c a i w b here writes found has is kept =
       space = (field_written sp a i w r.space has).0;
       closed = closed_field sp a i w b [] r.space has found is r.closed;
       wanted = λ x h. let o = r.wanted x h in let still = evolves x o.0 o.1 in (still.now, still.found);
-      opened = opened_noted r.mine m' r.theirs ((a, i) ∷ []) evolves refl
-          (λ x j h. ⊎_elim (λ (e : (a, i) ≡ (x, j)). subst (λ (p : ℕ × ℕ). HasField (objs m') p.0 p.1) e (field_stays (objs r.mine) (objs m') (λ x j. In {X = ℕ × ℕ} (x, j) ((a, i) ∷ [])) a i evolves was)) (λ (e : ⊥). absurd e) h) r.opened;
+      opened = opened_wrote r.mine r.theirs a i w evolves
+          (λ x j h. ⊎_elim (λ (e : (a, i) ≡ (x, j)). subst (λ (p : ℕ × ℕ). HasField (objs m') p.0 p.1) e (field_stays (objs r.mine) (objs m') (λ x j. In {X = ℕ × ℕ} (x, j) ((a, i) ∷ [])) a i evolves was)) (λ (e : ⊥). absurd e) h) r.rests r.opened;
       carries = kept_mine r.mine r.theirs r.carries m' refl (let l = length-set sp.words k w in omega arith)
           (subst (FieldsLeadTo (MayBeCopied r.mine.base)) (sym objects) (set_leads (MayBeCopied r.mine.base) (objs r.mine) a i (field_value b.header w) r.carries.fields kept));
       fits = (let l = length-set sp.words k w in let f = r.fits in omega arith);
+      rests = rests_wrote r.mine r.theirs a i w r.rests;
       seats = seats_mine r.writer r.copier id r.mine m' r.theirs s.views v here writes r.seats;
     }
 
@@ -252,6 +292,7 @@ new_keeps size s r id v c h here writes can =
       carries = kept_mine r.mine r.theirs r.carries m' refl (omega arith)
           (subst (FieldsLeadTo (MayBeCopied r.mine.base)) (sym objects) (push_leads (MayBeCopied r.mine.base) (objs r.mine) k h.raw h.kind h.len r.carries.fields));
       fits = (let f = r.fits in omega arith);
+      rests = λ e. let k = r.rests e in record { logged = k.logged; copied = k.copied; due = k.due; wanted = k.wanted };
       seats = seats_mine r.writer r.copier id r.mine m' r.theirs s.views v here writes r.seats;
     }
 

@@ -1,5 +1,5 @@
 -- What the mutator and the collector of a heap know of it. Each has one end of the heap.
-use Rattle.std.specs.Prelude.{[], ℕ, Bool, true, List, ◌∷◌}
+use Rattle.std.specs.Prelude.{[], ℕ, Bool, true, false, List, ◌∷◌}
 use Rattle.gc_words.specs.Space.{SpaceWords}
 use Rattle.gc_heap.specs.Heap.{HeapWords}
 use Rattle.gc_plan.specs.State.{Replica, Collection}
@@ -8,9 +8,11 @@ use Rattle.gc_plan.specs.State.{Replica, Collection}
 abbrev pub one_heap : SpaceWords → List ℕ → HeapWords
 one_heap space roots = record { space = space; roots = roots; mutators = 1 }
 
--- The space, the fields written since the log was last taken (oldest first), and the heap with which the collection began.
+-- The space, whether writes are logged, the fields that were logged since the log was last taken (oldest first), and the heap with which the
+-- collection began.
 pub record Mine : Type 0 where
   pub space : SpaceWords
+  pub logs : Bool
   pub log : List (ℕ × ℕ)
   pub base : HeapWords
 
@@ -37,7 +39,7 @@ pub record Known : Type 0 where
   pub theirs : Theirs
 
 abbrev pub opening_mine : HeapWords → Mine
-opening_mine heap = record { space = heap.space; log = []; base = heap }
+opening_mine heap = record { space = heap.space; logs = false; log = []; base = heap }
 
 -- a collection of this heap, in a new space of this size, that has just begun
 abbrev pub opening_theirs : HeapWords → ℕ → ℕ → Theirs

@@ -15,6 +15,10 @@ use Rattle.gc_words.specs.Space.{end_of}
 abbrev pub heap_in : Commander → HeapWords
 heap_in c = heap_of c.mutator.seat.me.0.mine c.roots.items
 
+-- whether a mutator that runs logs its writes
+abbrev pub logs_writes : Commander → Bool
+logs_writes c = c.mutator.seat.me.0.mine.logs
+
 -- the cells that a mutator reads and writes
 abbrev pub cells_of : Commander → TableId
 cells_of c = c.mutator.seat.table_id

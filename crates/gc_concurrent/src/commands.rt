@@ -65,7 +65,7 @@ fn field_word(header: Header, word: u64) -> Option<u64>
 }
 
 impl Commander {
-    ghost use Rattle.gc_concurrent.specs.Holders.{cells_of, heap_in};
+    ghost use Rattle.gc_concurrent.specs.Holders.{cells_of, heap_in, logs_writes};
     ghost use Rattle.std.specs.Prelude.{IfOk, OnErr};
     ghost use Rattle.gc_graph.specs.Graph.{object_of, field_of, root};
     ghost use Rattle.gc_graph.specs.Machine.{put_field};
@@ -96,6 +96,7 @@ impl Commander {
             (reply, graph_in (heap_in self.new)) ≡ put_field g (root g s) object (field_of object i) i (root g t)) }
         ensures end { IfOk result (λ _. (length (heap_in self.new).space.words ≡ length (heap_in self.old).space.words) × ((heap_in self.new).space.size ≡ (heap_in self.old).space.size)) }
         ensures err { OnErr result (heap_in self.new ≡ heap_in self.old) }
+        ensures logs { OnErr result (logs_writes self.old ≡ true) }
         ensures cells { cells_of self.new ≡ cells_of self.old }
     {
         let target = self.roots[s];

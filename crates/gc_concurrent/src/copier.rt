@@ -15,7 +15,7 @@ ghost use Rattle.gc_concurrent.specs.Internal.Flip.{HasNothingLeft, Flips};
 ghost use Rattle.gc_concurrent.specs.Ends.{its};
 ghost use Rattle.gc_concurrent.specs.Unreachable.{MayBeCopied};
 ghost use Rattle.gc_concurrent.specs.Internal.Rule.{entries_of_fields, read_as, wants, Loose};
-ghost use Rattle.gc_concurrent.specs.Internal.Copiers.{Claims, KeepsSeat, Nears, moved_by};
+ghost use Rattle.gc_concurrent.specs.Internal.Copiers.{Claims, KeepsSeat, Nears, logging, moved_by};
 ghost use Rattle.gc_concurrent.specs.Works.{WhereDone, WhereNoRoom};
 ghost use Rattle.gc_concurrent.specs.Internal.Props.{replicas_prop, claims_prop, space_prop};
 
@@ -314,7 +314,7 @@ impl Copier {
         self.scan_place >= self.space.end()
     }
 
-    /// With both ends at hand: the target of one of the mutator's roots is to get a replica.
+    /// With both ends at hand: the target of one of the mutator's roots is to get a replica. The mutator has to log its writes from now on.
     pub(crate) fn want(&mut self, at: Addr)
         requires both { self.old.seat.me.0.writes ≡ true }
         requires low { at.0 < self.old.size }
@@ -323,7 +323,7 @@ impl Copier {
         requires filled { self.old.fill_left ≡ 0 }
         requires root { (w : ℕ) × IsRootWord self.old.seat.me.0.mine.space.words w × (value_of w ≡ Ref at.0) }
         ensures wants { self.new.seat.me.0.theirs ≡ wants at.0 self.old.seat.me.0.theirs }
-        ensures seat { KeepsSeat self.old.seat.me self.new.seat.me }
+        ensures seat { KeepsSeat (logging self.old.seat.me) self.new.seat.me }
         ensures row { (self.new.seat.table_id ≡ self.old.seat.table_id) × (self.new.size ≡ self.old.size) }
     {
         let cells = &*self.cells;

@@ -1,7 +1,7 @@
 //! The handshake through which a mutator goes to its collector and back. No call here waits but `poll` and `wait`.
 ghost use Rattle.std.specs.Prelude.{◌≡◌, ◌≢◌, ℕ, ◌<◌, ◌≤◌, true, false, [], ◌∷◌, map, replicate, IfOk, MatchResult};
 ghost use Rattle.std.specs.Arc.{arc_value};
-ghost use Rattle.gc_concurrent.specs.Holders.{cells_read_by, heap_in, known_to};
+ghost use Rattle.gc_concurrent.specs.Holders.{cells_read_by, heap_in, known_to, logs_writes};
 ghost use Rattle.gc_concurrent.specs.Heaps.{GoesOnIn};
 ghost use Rattle.gc_concurrent.specs.Internal.Handshakes.{hands};
 ghost use Rattle.gc_concurrent.specs.Holders.{cells_of};
@@ -421,6 +421,7 @@ pub fn open(alloc: Global, size: u32) -> Result<(Runner, Collector), NoMemory>
     ensures graph { IfOk result (λ r. graph_in (heap_in r.0.commander) ≡ opening 1) }
     ensures room { IfOk result (λ r. known_to r.1.copier ≡ opening_theirs (heap_in r.0.commander) size size) }
     ensures pair { IfOk result (λ r. cells_of r.0.commander ≡ cells_read_by r.1.copier) }
+    ensures rests { IfOk result (λ r. logs_writes r.0.commander ≡ false) }
 {
     let (commander, copier) = open_ends(alloc, size)?;
     let (table, mut seat) = Handshake::vacant(alloc, &[4], 1, &commander)?;

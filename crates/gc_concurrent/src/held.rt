@@ -39,11 +39,13 @@ use std::sync::Arc;
 pub struct Held {
     pub copier: Copier,
     pub(crate) other: Arc<Cells, Global>,
+    pub(crate) logs: bool,
     pub(crate) log: Vec<(u32, u16)>,
     pub roots: Vec<u64>,
     pub(crate) end: u32,
     ghost both: { copier.seat.me.0.writes ≡ true },
     ghost row: { ((arc_value other).shared.table_id ≡ copier.seat.table_id) × ((arc_value other).shared.key.size ≡ copier.size) },
+    ghost logging: { copier.seat.me.0.mine.logs ≡ logs },
     ghost empty: { (log.items ≡ []) × (copier.seat.me.0.mine.log ≡ []) },
     ghost ended: { (length copier.seat.me.0.mine.space.words ≡ end) × (copier.seat.me.0.mine.space.size ≡ copier.size) },
     ghost sound: { IsHeap (heap_of copier.seat.me.0.mine roots.items) } by { heap_prop (heap_of copier.seat.me.0.mine roots.items) },
@@ -68,6 +70,7 @@ pub(crate) fn hold(commander: Commander, copier: Copier) -> Held
     let Mutator {
         cells: other,
         seat,
+        logs,
         log,
         size: _,
     } = mutator;
@@ -109,6 +112,7 @@ pub(crate) fn hold(commander: Commander, copier: Copier) -> Held
             size,
         },
         other,
+        logs,
         log: spare,
         roots,
         end,
@@ -170,7 +174,7 @@ impl From<NoMemory> for NoFlip {
 impl Held {
     ghost use Rattle.std.specs.Prelude.{OnOk};
     ghost use Rattle.gc_concurrent.specs.Works.{KeepsBeginning, WhereDone, WhereNoRoom};
-    ghost use Rattle.gc_concurrent.specs.Holders.{heap_in, heap_held, known_to, may_flip, IsNearer};
+    ghost use Rattle.gc_concurrent.specs.Holders.{heap_in, heap_held, known_to, logs_writes, may_flip, IsNearer};
 
     /// Performs one step of the collector, while the mutator waits.
     pub(crate) fn work(&mut self) -> Work
@@ -194,6 +198,7 @@ impl Held {
         let Held {
             copier,
             other,
+            logs,
             log,
             roots,
             end,
@@ -220,6 +225,7 @@ impl Held {
                 mutator: Mutator {
                     cells: other,
                     seat,
+                    logs,
                     log,
                     size,
                 },
@@ -257,6 +263,7 @@ impl Held {
         ensures replicas { IfOk result (λ r. graph_in (heap_in r.0) ≡ new_graph (its (known_to self.copier)) (map value_of self.roots.items)) }
         ensures space { IfOk result (λ r. r.0.mutator.size ≡ (known_to self.copier).size) }
         ensures fresh { IfOk result (λ r. known_to r.1 ≡ opening_theirs (heap_in r.0) (known_to self.copier).size (known_to self.copier).size) }
+        ensures rests { IfOk result (λ r. logs_writes r.0 ≡ false) }
         ensures carried { OnOk result (CopiesNothingUnreachable (known_to self.copier)) }
         ensures ready { OnOk result (may_flip self ≡ true) }
         ensures asked { OnOk result (C.says_yes checker.now (flip_shown (heap_held self) (known_to self.copier))) }
@@ -279,6 +286,7 @@ impl Held {
                 Missing::NoMemory => return Err((self, NoFlip::NoMemory)),
                 Missing::Target(at) => {
                     self.copier.want(at);
+                    self.logs = true;
                     return Err((self, NoFlip::NotReady));
                 }
             },
@@ -298,6 +306,7 @@ impl Held {
         let Held {
             copier,
             other: _,
+            logs: _,
             log,
             roots: _,
             end: _,
@@ -333,6 +342,7 @@ impl Held {
                 mutator: Mutator {
                     cells: two,
                     seat,
+                    logs: false,
                     log,
                     size,
                 },
@@ -365,6 +375,7 @@ pub(crate) fn open_ends(alloc: Global, size: u32) -> Result<(Commander, Copier),
     ensures heap { IfOk result (λ r. heap_of r.0.mutator.seat.me.0.mine r.0.roots.items ≡ record { space = empty_space size; roots = replicate 32 0; mutators = 1 }) }
     ensures row { IfOk result (λ r. r.0.mutator.seat.table_id ≡ r.1.seat.table_id) }
     ensures room { IfOk result (λ r. r.1.seat.me.0.theirs ≡ opening_theirs (heap_of r.0.mutator.seat.me.0.mine r.0.roots.items) size size) }
+    ensures rests { IfOk result (λ r. r.0.mutator.seat.me.0.mine.logs ≡ false) }
 {
     let space = Space::new(alloc, size)?;
     let roots = Vec::from_elem(alloc, 0u64, 32)?;
@@ -382,6 +393,7 @@ pub(crate) fn open_ends(alloc: Global, size: u32) -> Result<(Commander, Copier),
             mutator: Mutator {
                 cells: two,
                 seat,
+                logs: false,
                 log: Vec::new(alloc),
                 size,
             },

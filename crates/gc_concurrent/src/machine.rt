@@ -10,7 +10,7 @@ ghost use Rattle.gc_heap.specs.Heap.{graph_in};
 ghost use Rattle.gc_plan.specs.Steps.{WritesField};
 ghost use Rattle.gc_plan.specs.Belonging.{RefersTo};
 ghost use Rattle.gc_concurrent.specs.Unreachable.{MayBeCopied};
-ghost use Rattle.gc_concurrent.specs.Holders.{cells_of, heap_in};
+ghost use Rattle.gc_concurrent.specs.Holders.{cells_of, heap_in, logs_writes};
 ghost use Rattle.gc_concurrent.specs.Machines.{Does};
 
 use crate::commands::Commander;
@@ -176,16 +176,18 @@ impl Commander {
     pub fn put_field(&mut self, s: Slot, i: u16, t: Slot) -> Result<Reply, NoMemory>
         ensures step { IfOk result (λ reply. Does (heap_in self.old) (Op.Put s i t) reply (heap_in self.new)) }
         ensures err { OnErr result (heap_in self.new ≡ heap_in self.old) }
+        ensures logs { OnErr result (logs_writes self.old ≡ true) }
         ensures cells { cells_of self.new ≡ cells_of self.old }
     {
         self.put(s.place(0), i, t.place(0))
     }
 
-    /// Performs a command. Only a `Put` can fail, if its log cannot grow. Nothing has changed then.
+    /// Performs a command. Only a `Put` can fail, if the collector has begun to copy and the log cannot grow. Nothing has changed then.
     pub fn apply(&mut self, op: &Op) -> Result<Reply, NoMemory>
         ensures step { IfOk result (λ reply. Does (heap_in self.old) op.now reply (heap_in self.new)) }
         ensures err { OnErr result (heap_in self.new ≡ heap_in self.old) }
         ensures memory { OnErr result (WritesField op.now) }
+        ensures logs { OnErr result (logs_writes self.old ≡ true) }
         ensures cells { cells_of self.new ≡ cells_of self.old }
     {
         match *op {

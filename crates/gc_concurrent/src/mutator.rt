@@ -14,11 +14,14 @@ use std::sync::Arc;
 pub struct Mutator {
     pub(crate) cells: Arc<Cells, Global>,
     pub seat: CellsEnd,
+    /// Whether writes are logged. They are once the collector has begun to copy.
+    pub(crate) logs: bool,
     pub(crate) log: Vec<(u32, u16)>,
     pub size: u32,
     ghost row: { ((arc_value cells).shared.table_id ≡ seat.table_id) × (seat.table_id.words ≡ size) × ((arc_value cells).shared.key.size ≡ size) },
     ghost writes: { seat.me.0.writes ≡ true },
     ghost hands: { seat.me.1 ≡ [] },
+    ghost logging: { seat.me.0.mine.logs ≡ logs },
     ghost logged: { seat.me.0.mine.log ≡ log.items },
     ghost sized: { seat.me.0.mine.space.size ≡ size },
 }
@@ -60,7 +63,7 @@ impl Mutator {
         cells.shared.load::<Got>(&mut self.seat, field_index(at, i))
     }
 
-    /// Writes field `i` of the object that starts here, and logs it.
+    /// Writes field `i` of the object that starts here, and logs it, once the collector has begun to copy.
     pub(crate) fn set_field(&mut self, at: Addr, i: u16, word: u64) -> Result<(), NoMemory>
         requires shaped { IsSpace self.old.seat.me.0.mine.space }
         requires there { IsSome (field_at self.old.seat.me.0.mine.space.words at.0 i) }
@@ -69,15 +72,20 @@ impl Mutator {
         ensures ok { OnOk result (self.new.seat.me.0.mine.space ≡ with_field_at self.old.seat.me.0.mine.space at.0 i word) }
         ensures base { self.new.seat.me.0.mine.base ≡ self.old.seat.me.0.mine.base }
         ensures err { OnErr result (self.new.seat.me ≡ self.old.seat.me) }
+        ensures logs { OnErr result (self.old.seat.me.0.mine.logs ≡ true) }
         ensures row { self.new.seat.table_id ≡ self.old.seat.table_id }
         ensures size { self.new.size ≡ self.old.size }
     {
-        self.log.reserve(1)?;
+        if self.logs {
+            self.log.reserve(1)?;
+        }
         let cells = &*self.cells;
         cells
             .shared
             .store::<Put>(&mut self.seat, field_index(at, i), word);
-        self.log.push_reserved((at.0, i));
+        if self.logs {
+            self.log.push_reserved((at.0, i));
+        }
         Ok(())
     }
 

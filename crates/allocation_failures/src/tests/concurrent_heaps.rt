@@ -81,24 +81,6 @@ fn concurrent_open(rt: HostRuntime) {
     prepare(&rt, &mut runner);
 }
 
-#[test]
-fn concurrent_put_with_a_full_log(rt: HostRuntime) {
-    let _named = View::Nil;
-    let alloc = rt.alloc();
-    let (mut runner, _collector) = opened(&rt, alloc);
-    prepare(&rt, &mut runner);
-    fence(alloc);
-    let mut answer = runner.commander.apply(&put(&rt));
-    fence(alloc);
-    if answer.is_err() {
-        retried(alloc);
-        expect_reply(&rt, &mut runner, &get(&rt), Reply::Saw(View::Nil));
-        answer = runner.commander.apply(&put(&rt));
-    }
-    expect(&rt, answer == Ok(Reply::Done), "a field that is written");
-    expect_reply(&rt, &mut runner, &get(&rt), Reply::Saw(nine(&rt)));
-}
-
 /// Performs steps until nothing is left to do.
 fn finish(holding: &mut Holding) {
     for _ in 0..1_000 {
@@ -114,6 +96,32 @@ fn taken(rt: &impl Abort, runner: Runner, collector: Collector) -> (Waiting, Hol
     let waiting = runner.stop().ok().expect(rt, "a mutator that is asked");
     let holding = asking.take().ok().expect(rt, "a mutator that has stopped");
     (waiting, holding)
+}
+
+// A write is logged once the collector has begun to copy.
+#[test]
+fn concurrent_put_with_a_full_log(rt: HostRuntime) {
+    let _named = View::Nil;
+    let alloc = rt.alloc();
+    let (mut runner, collector) = opened(&rt, alloc);
+    prepare(&rt, &mut runner);
+    let (waiting, holding) = taken(&rt, runner, collector);
+    let refused = holding
+        .flip(alloc, &Sequential)
+        .err()
+        .expect(&rt, "a root without a replica");
+    let _collector = refused.holding.go();
+    let mut runner = waiting.resume().ok().expect(&rt, "a mutator that goes on");
+    fence(alloc);
+    let mut answer = runner.commander.apply(&put(&rt));
+    fence(alloc);
+    if answer.is_err() {
+        retried(alloc);
+        expect_reply(&rt, &mut runner, &get(&rt), Reply::Saw(View::Nil));
+        answer = runner.commander.apply(&put(&rt));
+    }
+    expect(&rt, answer == Ok(Reply::Done), "a field that is written");
+    expect_reply(&rt, &mut runner, &get(&rt), Reply::Saw(nine(&rt)));
 }
 
 /// Stops the mutator, and lets its collector take it and copy all.

@@ -42,7 +42,8 @@ abbrev pub heap_coded : Coded HeapWords
 heap_coded = code_by (SpaceWords × (List ℕ × ℕ)) (coded× space_coded (coded× (coded_list coded_ℕ) coded_ℕ)) (λ h. (h.space, (h.roots, h.mutators))) (λ p. record { space = p.0; roots = p.1.0; mutators = p.1.1 }) (λ _. refl)
 
 abbrev pub mine_coded : Coded Mine
-mine_coded = code_by (SpaceWords × (List (ℕ × ℕ) × HeapWords)) (coded× space_coded (coded× entries_coded heap_coded)) (λ m. (m.space, (m.log, m.base))) (λ p. record { space = p.0; log = p.1.0; base = p.1.1 }) (λ _. refl)
+mine_coded = code_by (SpaceWords × (Bool × (List (ℕ × ℕ) × HeapWords))) (coded× space_coded (coded× coded_bool (coded× entries_coded heap_coded)))
+    (λ m. (m.space, (m.logs, (m.log, m.base)))) (λ p. record { space = p.0; logs = p.1.0; log = p.1.1.0; base = p.1.1.1 }) (λ _. refl)
 
 abbrev pub theirs_coded : Coded Theirs
 theirs_coded = code_by (ℕ × (ℕ × (List Replica × (ℕ × (ℕ × (List (ℕ × ℕ) × (List ℕ × HeapWords)))))))

@@ -29,6 +29,10 @@ pub record KeepsSeat (a b : Sat) : Type 0 where
   pub begun : KeepsBeginning a.0.theirs b.0.theirs
   pub holds : b.1 ≡ a.1
 
+-- the seat, whose mutator logs its writes
+abbrev pub logging : Sat → Sat
+logging me = (record me.0 { mine = record me.0.mine { logs = true } }, me.1)
+
 -- Fewer steps are ahead of a seat that is both ends.
 abbrev pub Nears : Sat → Sat → Type 0
 Nears a b = a.0.writes ≡ true → ComesNearer (end_of a.0.mine.space) a.0.theirs b.0.theirs

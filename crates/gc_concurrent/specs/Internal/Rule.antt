@@ -30,9 +30,16 @@ Seated writer copier mine theirs j v = (v.writes ≡ true → (j ≡ writer) × 
 abbrev pub AreSeated : ℕ → ℕ → Mine → Theirs → List View → Type 0
 AreSeated writer copier mine theirs views = (j : ℕ) (v : View) → get_elem? views j ≡ some v → Seated writer copier mine theirs j v
 
+-- Nothing was logged, and nothing is copied, due or wanted.
+pub record IsAtRest (m : Mine) (t : Theirs) : Type 0 where
+  pub logged : m.log ≡ []
+  pub copied : t.replicas ≡ []
+  pub due : t.due ≡ []
+  pub wanted : t.wanted ≡ []
+
 -- The mutator's words are those of the table, and the words behind them are 0. They are a closed space, and the collection is open in
 -- gc_plan's sense: a field of a replica is up to date unless it is not yet scanned, or in one of the two logs. Nothing that was unreachable when
--- the collection began is copied. The replicas take no more words than the objects.
+-- the collection began is copied. The replicas take no more words than the objects. While writes are not logged, the collection is at rest.
 pub record IsConcurrent (size : ℕ) (s : State ℕ View) : Type 0 where
   pub mine : Mine
   pub theirs : Theirs
@@ -49,11 +56,12 @@ pub record IsConcurrent (size : ℕ) (s : State ℕ View) : Type 0 where
   pub opened : IsOpened (plan mine theirs) (collection_of mine theirs)
   pub carries : KeepsUnreachableOut mine theirs
   pub fits : new_end (its theirs) ≤ end_of mine.space
+  pub rests : mine.logs ≡ false → IsAtRest mine theirs
   pub seats : AreSeated writer copier mine theirs s.views
 
--- the word of a field was written
+-- the word of a field was written, and logged unless the collection is at rest
 abbrev pub wrote : ℕ → ℕ → ℕ → Mine → Mine
-wrote a i w m = record m { space = with_field_at m.space a i w; log = m.log ++ (a, i) ∷ [] }
+wrote a i w m = record m { space = with_field_at m.space a i w; log = if m.logs then m.log ++ (a, i) ∷ [] else m.log }
 
 -- an object was made at the end
 abbrev pub made : Header → Mine → Mine
@@ -199,6 +207,10 @@ tells_leave st me found me' = tells_leave_of me.0.theirs st me found me' × Know
 abbrev pub tells_take : Step ℕ → Sat → ℕ → Sat → Type 0
 tells_take st me found me' = ((me' ≡ (logs_taken me.0, me.1)) × (me.0.theirs.base ≡ me.0.mine.base)) × KnowsBelonging me'
 
--- The target of one of the mutator's roots is wanted; its header was read.
+-- The target of one of the mutator's roots is wanted. From now on writes are logged.
+abbrev pub root_wanted : ℕ → View → View
+root_wanted a v = record v { mine = record v.mine { logs = true }; theirs = wants a v.theirs }
+
+-- The header of such a target was read.
 abbrev pub tells_root : Step ℕ → Sat → ℕ → Sat → Type 0
-tells_root st me found me' = (me' ≡ (record me.0 { theirs = wants st.word me.0.theirs }, me.1)) × KnowsBelonging me'
+tells_root st me found me' = (me' ≡ (root_wanted st.word me.0, me.1)) × KnowsBelonging me'
