@@ -18,7 +18,7 @@ from prover.rattle_code import Code
 
 MEMORY, THREADS = "memory", "threads"
 # The names of faults, and what they tell of. Those of the second table are faults of the standard library, which patterns may have too.
-FAULTS = {"NoMemory": MEMORY, "NO_MEMORY": MEMORY, "OutOfMemory": MEMORY, "NotStarted": THREADS}
+FAULTS = {"NoMemory": MEMORY, "NO_MEMORY": MEMORY, "STARVED": MEMORY, "OutOfMemory": MEMORY, "NotStarted": THREADS}
 CAUSES = {**FAULTS, "AllocError": MEMORY, "AllocFailed": MEMORY, "SpawnError": THREADS}
 WRITTEN = {**FAULTS, "AllocError": MEMORY, "AllocFailed": MEMORY, "SpawnError": THREADS}
 # What begins a block that has a value, beside a label.
@@ -51,6 +51,7 @@ PLACES = {
     "gcflip_heap_c/src/reply.rt": {("of_result", BY_ARM): 1},
     "gcflip_heap_c/src/opening.rt": {("gcflip_heap_open", BY_ARM): 1, ("gcflip_heap_touch", BY_ARM): 1},
     "gcflip_heap_c/src/stepping.rt": {("gcflip_heap_step_begin", BY_ARM): 1, ("gcflip_heap_step_begin_sized", BY_ARM): 1, ("gcflip_heap_step_flip", BY_ARM): 1},
+    "gcflip_heap_c/src/room.rt": {("answer_of", BY_HAND): 1, ("remember_unless_starved", BY_HAND): 1},
     "gcflip_heap_c/src/work.rt": {("of_work", BY_ARM): 1},
     "gcflip_heap_c/src/checking.rt": {("gcflip_heap_check", BY_ARM): 1},
     "gc_copy/src/log.rt": {("add_segment", BY_HAND): 1},
@@ -72,6 +73,8 @@ BY_HAND_REASONS = {
     ("gc_copy/src/log.rt", "add_segment"): "so many segments would take 8 EiB, more than an allocator can give",
     ("gc_concurrent/src/beside.rt", "mutate_and_stop"): "a run that was cut short tells by its type that an allocation failed",
     ("gc_concurrent/src/held.rt", "flip"): "each is in the arm of a failed allocation, but beside the mutator that is still held",
+    ("gcflip_heap_c/src/room.rt", "answer_of"): "too few words are free, and no collection that began in this call flipped; a step does so unless memory is refused",
+    ("gcflip_heap_c/src/room.rt", "remember_unless_starved"): "it compares an answer with this one",
     ("gcflip/src/program.rt", "open"): "a file's error tells that an allocation failed by its kind",
     ("gcflip/src/program.rt", "arguments"): "the error of reading the arguments tells it by its kind",
     ("gcflip/src/program.rt", "refuse"): "clap's error tells it by its kind",
