@@ -97,6 +97,7 @@ impl Commander {
         ensures end { IfOk result (λ _. (length (heap_in self.new).space.words ≡ length (heap_in self.old).space.words) × ((heap_in self.new).space.size ≡ (heap_in self.old).space.size)) }
         ensures err { OnErr result (heap_in self.new ≡ heap_in self.old) }
         ensures logs { OnErr result (logs_writes self.old ≡ true) }
+        ensures roots { length self.new.roots.items ≡ length self.old.roots.items }
         ensures cells { cells_of self.new ≡ cells_of self.old }
     {
         let target = self.roots[s];

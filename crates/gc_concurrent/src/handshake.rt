@@ -8,7 +8,8 @@ ghost use Rattle.gc_concurrent.specs.Holders.{cells_of};
 ghost use Rattle.gc_concurrent.specs.Heaps.{heap_of};
 ghost use Rattle.gc_graph.specs.Graph.{opening};
 ghost use Rattle.gc_words.specs.Space.{empty_space};
-ghost use Rattle.gc_heap.specs.Heap.{graph_in};
+ghost use Rattle.gc_heap.specs.ExtraRoots.{most_extra_roots};
+ghost use Rattle.gc_heap.specs.Heap.{empty_heap, graph_in};
 ghost use Rattle.gc_concurrent.specs.Ends.{its, opening_theirs};
 ghost use Rattle.gc_concurrent.specs.Unreachable.{CopiesNothingUnreachable};
 ghost use Rattle.gc_concurrent.specs.Checking.{CertifiesFlip, FlippedBy, flip_shown};
@@ -414,7 +415,7 @@ impl Holding {
     }
 }
 
-/// Opens an empty heap of this many words, with 32 roots. Returns the mutator and the collector.
+/// Opens an empty heap of this many words, with 32 slots and no extra roots. Returns the mutator and the collector.
 pub fn open(alloc: Global, size: u32) -> Result<(Runner, Collector), NoMemory>
     requires { 1 ≤ size }
     ensures heap { IfOk result (λ r. heap_in r.0.commander ≡ record { space = empty_space size; roots = replicate 32 0; mutators = 1 }) }
@@ -423,7 +424,20 @@ pub fn open(alloc: Global, size: u32) -> Result<(Runner, Collector), NoMemory>
     ensures pair { IfOk result (λ r. cells_of r.0.commander ≡ cells_read_by r.1.copier) }
     ensures rests { IfOk result (λ r. logs_writes r.0.commander ≡ false) }
 {
-    let (commander, copier) = open_ends(alloc, size)?;
+    open_with(alloc, size, 0)
+}
+
+/// Opens an empty heap of this many words, with 32 slots and so many extra roots, at most gc_heap's `MOST_EXTRA_ROOTS`. Returns the mutator and
+/// the collector. All roots are nil.
+pub fn open_with(alloc: Global, size: u32, extra: u32) -> Result<(Runner, Collector), NoMemory>
+    requires size { 1 ≤ size }
+    requires extra { extra ≤ most_extra_roots }
+    ensures heap { IfOk result (λ r. heap_in r.0.commander ≡ empty_heap (record { size = size; mutators = 1; extra_roots = extra })) }
+    ensures room { IfOk result (λ r. known_to r.1.copier ≡ opening_theirs (heap_in r.0.commander) size size) }
+    ensures pair { IfOk result (λ r. cells_of r.0.commander ≡ cells_read_by r.1.copier) }
+    ensures rests { IfOk result (λ r. logs_writes r.0.commander ≡ false) }
+{
+    let (commander, copier) = open_ends(alloc, size, extra)?;
     let (table, mut seat) = Handshake::vacant(alloc, &[4], 1, &commander)?;
     let handshake = Arc::new(alloc, table)?;
     let other = Arc::try_clone(&handshake)?;

@@ -1,13 +1,14 @@
 //! Both ends of a heap in one hand: the log changes hands, roots get replicas, and the mutator goes on in the new space.
-ghost use Rattle.std.specs.Prelude.{◌≡◌, ◌≢◌, ℕ, ◌<◌, ◌≤◌, true, false, List, [], ◌∷◌, length, map, replicate, slice_index, IfOk, IfErr, IfSome, IfNone, IsTrue};
+ghost use Rattle.std.specs.Prelude.{◌≡◌, ◌≢◌, ℕ, ◌<◌, ◌≤◌, true, false, List, [], ◌∷◌, length, map, slice_index, IfOk, IfErr, IfSome, IfNone, IsTrue};
 ghost use Rattle.std.specs.Arc.{arc_value};
 ghost use Rattle.std.specs.List.{All};
 ghost use Rattle.gc_graph.specs.Graph.{Ref};
 ghost use Rattle.gc_graph.specs.Correspond.{Corresponding};
 ghost use Rattle.gc_words.specs.Word.{is_value, value_of, word_of};
 ghost use Rattle.gc_words.specs.Closed.{IsRootWord};
-ghost use Rattle.gc_words.specs.Space.{empty_space, end_of};
-ghost use Rattle.gc_heap.specs.Heap.{IsHeap, graph_in};
+ghost use Rattle.gc_words.specs.Space.{end_of};
+ghost use Rattle.gc_heap.specs.ExtraRoots.{most_extra_roots};
+ghost use Rattle.gc_heap.specs.Heap.{IsHeap, empty_heap, graph_in};
 ghost use Rattle.gc_plan.specs.State.{new_graph, pairs_of};
 ghost use Rattle.gc_plan.specs.Steps.{scan_done};
 ghost use Rattle.gc_plan.specs.Members.{In};
@@ -369,16 +370,21 @@ impl Held {
     }
 }
 
-/// Opens an empty heap of this many words, with 32 roots.
-pub(crate) fn open_ends(alloc: Global, size: u32) -> Result<(Commander, Copier), NoMemory>
-    requires { 1 ≤ size }
-    ensures heap { IfOk result (λ r. heap_of r.0.mutator.seat.me.0.mine r.0.roots.items ≡ record { space = empty_space size; roots = replicate 32 0; mutators = 1 }) }
+/// Opens an empty heap of this many words, with 32 slots and so many extra roots.
+pub(crate) fn open_ends(
+    alloc: Global,
+    size: u32,
+    extra: u32,
+) -> Result<(Commander, Copier), NoMemory>
+    requires size { 1 ≤ size }
+    requires extra { extra ≤ most_extra_roots }
+    ensures heap { IfOk result (λ r. heap_of r.0.mutator.seat.me.0.mine r.0.roots.items ≡ empty_heap (record { size = size; mutators = 1; extra_roots = extra })) }
     ensures row { IfOk result (λ r. r.0.mutator.seat.table_id ≡ r.1.seat.table_id) }
     ensures room { IfOk result (λ r. r.1.seat.me.0.theirs ≡ opening_theirs (heap_of r.0.mutator.seat.me.0.mine r.0.roots.items) size size) }
     ensures rests { IfOk result (λ r. r.0.mutator.seat.me.0.mine.logs ≡ false) }
 {
     let space = Space::new(alloc, size)?;
-    let roots = Vec::from_elem(alloc, 0u64, 32)?;
+    let roots = Vec::from_elem(alloc, 0u64, 32 + extra as usize)?;
     let claims = Vec::from_elem(alloc, 0u32, size as usize)?;
     let opened = open_cells(alloc, &space, roots.as_slice(), size)?;
     let Opened {

@@ -11,12 +11,13 @@ mod handshake;
 mod held;
 mod machine;
 mod mutator;
+mod places;
 mod plays;
 mod runs;
 
 pub use beside::beside_collector;
 pub use commands::Commander;
 pub use copier::Work;
-pub use handshake::{Asking, Collector, Holding, Runner, Unflipped, Waiting, open};
+pub use handshake::{Asking, Collector, Holding, Runner, Unflipped, Waiting, open, open_with};
 pub use held::NoFlip;
 pub use runs::{CutShort, mutate, mutate_all, runs_reply_alike, what_is_shown_stays};

@@ -32,7 +32,7 @@ fn root_word(header: Header, field: u64) -> u64
 
 impl Commander {
     /// Writes a word into a root.
-    fn set_at(&mut self, place: usize, word: u64) -> Reply
+    pub(crate) fn set_at(&mut self, place: usize, word: u64) -> Reply
         requires root { place < length self.old.roots.items }
         requires word { IsRootWord self.old.mutator.seat.me.0.mine.space.words word }
         requires kept { RefersTo (MayBeCopied self.old.mutator.seat.me.0.mine.base) (value_of word) }
@@ -49,8 +49,7 @@ impl Commander {
         ensures step { Does (heap_in self.old) (Op.Num d n) result (heap_in self.new) }
         ensures cells { cells_of self.new ≡ cells_of self.old }
     {
-        let word = encode(Value::Num(n));
-        self.set_at(d.place(0), word)
+        self.num_root(d.place(0) as u32, n)
     }
 
     /// Sets `d` to nil: `Done`.
@@ -58,7 +57,7 @@ impl Commander {
         ensures step { Does (heap_in self.old) (Op.Nil d) result (heap_in self.new) }
         ensures cells { cells_of self.new ≡ cells_of self.old }
     {
-        self.set_at(d.place(0), encode(Value::Nil))
+        self.nil_root(d.place(0) as u32)
     }
 
     /// Sets `d` to the value of `s`: `Done`.
@@ -66,8 +65,7 @@ impl Commander {
         ensures step { Does (heap_in self.old) (Op.Move d s) result (heap_in self.new) }
         ensures cells { cells_of self.new ≡ cells_of self.old }
     {
-        let word = self.roots[s.place(0)];
-        self.set_at(d.place(0), word)
+        self.copy_root(d.place(0) as u32, s.place(0) as u32)
     }
 
     /// Makes a new object: `Made` or `Full`.
@@ -75,7 +73,7 @@ impl Commander {
         ensures step { Does (heap_in self.old) (Op.New d kind len) result (heap_in self.new) }
         ensures cells { cells_of self.new ≡ cells_of self.old }
     {
-        self.make(d.place(0), false, kind, len)
+        self.new_root(d.place(0) as u32, kind, len)
     }
 
     /// Makes a new raw object: `Made` or `Full`.
@@ -83,11 +81,11 @@ impl Commander {
         ensures step { Does (heap_in self.old) (Op.NewRaw d kind len) result (heap_in self.new) }
         ensures cells { cells_of self.new ≡ cells_of self.old }
     {
-        self.make(d.place(0), true, kind, len)
+        self.new_raw_root(d.place(0) as u32, kind, len)
     }
 
     /// Returns what mutators see of the value of a word.
-    fn view(&mut self, word: u64) -> View
+    pub(crate) fn view(&mut self, word: u64) -> View
         requires { IsRootWord self.old.mutator.seat.me.0.mine.space.words word }
         ensures value { result ≡ view_of (objects_of self.old.mutator.seat.me.0.mine.space.words) (value_of word) }
         ensures heap { heap_in self.new ≡ heap_in self.old }
@@ -115,13 +113,12 @@ impl Commander {
         ensures step { Does (heap_in self.old) (Op.Look s) result (heap_in self.new) }
         ensures cells { cells_of self.new ≡ cells_of self.old }
     {
-        let word = self.roots[s.place(0)];
-        Reply::Saw(self.view(word))
+        self.look_root(s.place(0) as u32)
     }
 
     // Whether two roots hold the same value. Equal values have equal words.
     #[tactic(auto, using(gc_heap::proofs::Public::read_root, gc_heap::proofs::Public::root_word, gc_heap::proofs::Public::same_words, gc_heap::proofs::Public::at_root, gc_heap::proofs::Public::other_words))]
-    fn same_at(&self, s: usize, t: usize) -> Reply
+    pub(crate) fn same_at(&self, s: usize, t: usize) -> Reply
         requires one { s < length self.now.roots.items }
         requires other { t < length self.now.roots.items }
         ensures { result ≡ (if same_in (graph_in (heap_in self.now)).objects (root (graph_in (heap_in self.now)) s) (root (graph_in (heap_in self.now)) t) then Reply.Yes else Reply.No) }
@@ -137,11 +134,11 @@ impl Commander {
     pub fn same(&self, s: Slot, t: Slot) -> Reply
         ensures { Does (heap_in self.now) (Op.Same s t) result (heap_in self.now) }
     {
-        self.same_at(s.place(0), t.place(0))
+        self.same_root(s.place(0) as u32, t.place(0) as u32)
     }
 
     // Sets root `d` to field `i` of the object that root `s` refers to.
-    fn get_at(&mut self, d: usize, s: usize, i: u16) -> Reply
+    pub(crate) fn get_at(&mut self, d: usize, s: usize, i: u16) -> Reply
         requires taker { d < length self.old.roots.items }
         requires giver { s < length self.old.roots.items }
         ensures graph { let object = object_of (graph_in (heap_in self.old)).objects (root (graph_in (heap_in self.old)) s) in
@@ -169,7 +166,7 @@ impl Commander {
         ensures step { Does (heap_in self.old) (Op.Get d s i) result (heap_in self.new) }
         ensures cells { cells_of self.new ≡ cells_of self.old }
     {
-        self.get_at(d.place(0), s.place(0), i)
+        self.get_root(d.place(0) as u32, s.place(0) as u32, i)
     }
 
     /// Writes the value of `t` to field `i` of the object that `s` refers to: `Done`, `NoObject`, `NoField` or `NoNumber`.
@@ -179,7 +176,7 @@ impl Commander {
         ensures logs { OnErr result (logs_writes self.old ≡ true) }
         ensures cells { cells_of self.new ≡ cells_of self.old }
     {
-        self.put(s.place(0), i, t.place(0))
+        self.put_root(s.place(0) as u32, i, t.place(0) as u32)
     }
 
     /// Performs a command. Only a `Put` can fail, if the collector has begun to copy and the log cannot grow. Nothing has changed then.

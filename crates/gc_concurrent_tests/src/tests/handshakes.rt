@@ -1,7 +1,7 @@
 //! What each call of the handshake does, in one thread.
 use gc_check::{CheckFault, Checks, Sequential, Yes};
-use gc_concurrent::{Collector, Holding, NoFlip, Runner, Waiting, Work, open};
-use gc_graph::{Op, Reply, View};
+use gc_concurrent::{Collector, Holding, NoFlip, Runner, Waiting, Work, open, open_with};
+use gc_graph::{Number, Op, Reply, View};
 use gc_test_kit::commands::{get, new, num, own, put, saw};
 use gc_words::{ImageRef, Pair};
 use std::alloc::Global;
@@ -126,6 +126,41 @@ fn a_flip_keeps_what_the_roots_reach(rt: HostRuntime) -> Result<(), Fail> {
     let mut runner = waiting.wait(&rt);
     assert!(rt; told(&mut runner, get(own(3), own(0), 1)) == Some(saw(9)));
     let _still = collector.ask().ok().ok_or("it has gone on")?;
+    Ok(())
+}
+
+// A heap of 64 words has 32 slots and five extra roots, from 32 to 36. Root 36 refers to an object of two fields, the second of which refers to one that
+// holds 9.
+#[test]
+fn a_flip_moves_extra_roots(rt: HostRuntime) -> Result<(), Fail> {
+    let _named = View::Nil;
+    let alloc = rt.alloc();
+    let (mut runner, collector) = open_with(alloc, 64, 5)?;
+    let heap = &mut runner.commander;
+    assert!(rt; heap.count_roots() == 37);
+    assert!(rt; heap.new_root(36, 3, 2) == Reply::Made);
+    assert!(rt; heap.new_root(35, 4, 1) == Reply::Made);
+    assert!(rt; heap.num_root(34, Number::new(9).ok_or("a number")?) == Reply::Done);
+    assert!(rt; heap.put_root(35, 0, 34) == Ok(Reply::Done));
+    assert!(rt; heap.put_root(36, 1, 35) == Ok(Reply::Done));
+    assert!(rt; heap.new_raw_root(33, 5, 1) == Reply::Made);
+    assert!(rt; heap.put_root(33, 0, 36) == Ok(Reply::NoNumber));
+    assert!(rt; heap.nil_root(35) == Reply::Done);
+    let (waiting, holding) = taken(runner, collector)?;
+    let _collector = flipped(alloc, holding)?;
+    let mut runner = waiting.resume().ok().ok_or("it may go on")?;
+    let heap = &mut runner.commander;
+    assert!(rt; heap.look_root(36) == Reply::Saw(View::Obj { kind: 3, len: 2 }));
+    assert!(rt; heap.look_root(33) == Reply::Saw(View::RawObj { kind: 5, len: 1 }));
+    assert!(rt; heap.look_root(35) == Reply::Saw(View::Nil));
+    assert!(rt; heap.get_root(35, 36, 1) == Reply::Saw(View::Obj { kind: 4, len: 1 }));
+    assert!(rt; heap.get_root(32, 35, 0) == saw(9));
+    assert!(rt; heap.same_root(32, 34) == Reply::Yes);
+    assert!(rt; heap.copy_root(0, 36) == Reply::Done);
+    assert!(rt; heap.same_root(0, 36) == Reply::Yes);
+    assert!(rt; heap.same_root(35, 36) == Reply::No);
+    assert!(rt; heap.get_root(1, 36, 2) == Reply::NoField);
+    assert!(rt; heap.get_root(1, 34, 0) == Reply::NoObject);
     Ok(())
 }
 

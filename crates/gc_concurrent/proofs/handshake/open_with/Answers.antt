@@ -4,7 +4,7 @@ use Rattle.atomic_table.specs.Seated.{TableId}
 use Rattle.gc_concurrent.specs.Internal.Handshakes.{HandshakeSat, hands}
 use Rattle.gc_concurrent.proofs.Handshaking.{handshake_opens, handshake_splits}
 use Rattle.gc_concurrent.proofs.Passing.{Handshake, handshake_tied, handshake_word, starts_at}
-use Rattle.gc_concurrent.proofs.handshake.open.Goals as goal
+use Rattle.gc_concurrent.proofs.handshake.open_with.Goals as goal
 
 pub vacant-requires : goal.vacant-requires
 vacant-requires c = handshake_opens c.in_ok-commander.commander _ _ refl refl
