@@ -10,7 +10,6 @@ pub mod Copying
 pub mod Placing
 pub mod Joined
 pub mod Flip
-pub mod Certificates
 pub mod Opening
 pub mod CatchUp
 pub mod Memory

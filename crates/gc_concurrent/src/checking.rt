@@ -1,20 +1,16 @@
 //! A flip asks its checker. Both ends are in hand, so the words of both spaces stay as they are meanwhile.
-ghost use Rattle.std.specs.Prelude.{◌≡◌, ℕ, ◌<◌, ◌≤◌, ◌^◌, IfErr, IfOk, IsTrue, OnOk, length, map, true};
-ghost use Rattle.gc_words.specs.Image.{is_start};
-ghost use Rattle.gc_words.specs.Space.{IsSpace};
-ghost use Rattle.gc_words.specs.Spelling.{link_at};
-ghost use Rattle.gc_words.specs.Views.{addresses};
-ghost use Rattle.gc_plan.specs.Members.{In};
+ghost use Rattle.std.specs.Prelude.{◌≡◌, ◌≤◌, IfErr, IfOk, OnOk, length, true};
 ghost use Rattle.gc_concurrent.specs.Checking.{CertifiesFlip, flip_shown};
-ghost use Rattle.gc_concurrent.specs.Internal.Flip.{Flips, HasNothingLeft, linked_in, moved_words};
+ghost use Rattle.gc_concurrent.specs.Internal.Flip.{Flips, HasNothingLeft, moved_words};
 
 use crate::cells::{Cells, CellsEnd};
 use crate::copier::Copier;
 use crate::held::{Held, NoFlip};
 use crate::plays::Got;
 use gc_check::{CheckFault, Checks};
+use gc_copy::linked_pairs;
 use gc_graph::NoMemory;
-use gc_words::{Addr, ImageRef, NewAddr, OldAddr, Pair, Space, no_fault_where_certified};
+use gc_words::{ImageRef, no_fault_where_certified};
 use std::alloc::Global;
 
 // Loads the words of the mutator's space, one by one. Allocates once.
@@ -33,34 +29,6 @@ fn loaded(alloc: Global, cells: &Cells, seat: &mut CellsEnd, end: u32) -> Result
         words.push(word)?;
     }
     Ok(words)
-}
-
-// Returns the pair of the replica that starts here.
-fn pair_at(space: &Space, at: Addr) -> Pair
-    requires start { IsTrue (is_start space.now.words at.0) }
-    requires low { link_at space.now.words at.0 < 2 ^ 32 }
-    ensures { addresses result ≡ (link_at space.now.words at.0, at.0) }
-{
-    Pair {
-        old: OldAddr(space.link(at) as u32),
-        new: NewAddr(at.0),
-    }
-}
-
-// Returns the certificate: each original with its replica, in the order of the replicas.
-fn certificate(alloc: Global, space: &Space) -> Result<Vec<Pair>, NoMemory>
-    requires shaped { IsSpace space.now }
-    requires low { (p : ℕ × ℕ) → In p (linked_in space.now.words) → p.0 < 2 ^ 32 }
-    ensures pairs { IfOk result (λ pairs. map addresses pairs.items ≡ linked_in space.now.words) }
-    ensures few { IfOk result (λ pairs. length pairs.items < 2 ^ 32) }
-{
-    let mut pairs = Vec::new(alloc);
-    let mut place = 1;
-    while place < space.end() {
-        pairs.push(pair_at(space, Addr(place)))?;
-        place = space.next_start(Addr(place)).0;
-    }
-    Ok(pairs)
 }
 
 impl Copier {
@@ -105,7 +73,9 @@ impl Held {
         self.copier.look();
         let end = self.end;
         let words = self.copier.old_words(alloc, end)?;
-        let pairs = certificate(alloc, &self.copier.space)?;
+        // Each object takes two words or more.
+        let most = self.copier.space.end() / 2;
+        let pairs = linked_pairs(alloc, &self.copier.space, most)?;
         let old = ImageRef {
             size: self.copier.size,
             end,

@@ -14,3 +14,4 @@ pub use laws::{
     heaps_have_addresses_as_names, images_show_links, new_spaces_have_room,
 };
 pub use log::LogEntry;
+pub use pairs::linked_pairs;

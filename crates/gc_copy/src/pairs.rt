@@ -11,8 +11,8 @@ use gc_graph::NoMemory;
 use gc_words::{Addr, NewAddr, OldAddr, Pair, Space};
 use std::alloc::Global;
 
-/// Returns a pair for each of the `count` objects, its link and its own address, in the order of addresses. Allocates once.
-pub(crate) fn linked_pairs(alloc: Global, space: &Space, count: u32) -> Result<Vec<Pair>, NoMemory>
+/// Returns a pair for each object of a space, its link and its own address, in the order of addresses. Allocates once, if there are `count` objects at most.
+pub fn linked_pairs(alloc: Global, space: &Space, count: u32) -> Result<Vec<Pair>, NoMemory>
     requires shaped { IsSpace space.now }
     requires links { (r : Replica) → In r (replicas_in space.now.words) → r.original < 2 ^ 32 }
     ensures few { IfOk result (λ pairs. length pairs.items < 2 ^ 32) }

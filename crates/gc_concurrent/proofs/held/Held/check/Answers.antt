@@ -12,7 +12,9 @@ use Rattle.gc_check.specs.declared.verdict.CheckFault.{CheckFault}
 use Rattle.gc_check.specs.declared.verdict.CheckFault.TheVariants.{Refused}
 use Rattle.gc_cert.specs.Grammar.{CertifiedPair}
 use Rattle.gc_plan.specs.Linked.{new_links}
+use Rattle.gc_copy.specs.Words.{replicas_in}
 use Rattle.gc_plan.specs.Members.{In}
+use Rattle.gc_plan.proofs.Public.{in_map}
 use Rattle.gc_plan.specs.State.{pairs_of}
 use Rattle.gc_concurrent.specs.Checking.{flip_shown}
 use Rattle.gc_concurrent.specs.Ends.{its}
@@ -56,10 +58,11 @@ asks h size words roots moved space new pairs told s w r sp m n p =
 no_fault : (first : Option Refusal) (fault : CheckFault) (refusal : Refusal) → first ≡ None → fault ≡ Refused refusal → IsRefusalOf first fault → ⊥
 no_fault first fault refusal none is told = let some : first ≡ Some refusal = subst (IsRefusalOf first) is told in grind (arith, common_steps)
 
-pub certificate-requires-clause-low : goal.certificate-requires-clause-low
-certificate-requires-clause-low g c p l =
-    (c.look.ensures.told c.args.self.now.roots.items c.args.self.now.sound c.requires.left).low p
-    (subst (In p) (linked_is c.args.self.now c.old_words.new.self.space (c.old_words.ensures.space ∙ c.look.ensures.space)) l)
+pub linked_pairs-requires-clause-links : goal.linked_pairs-requires-clause-links
+linked_pairs-requires-clause-links g c r l =
+    let space : SpaceWords = c.old_words.new.self.space in
+    (c.look.ensures.told c.args.self.now.roots.items c.args.self.now.sound c.requires.left).low (linked r)
+    (subst (In (linked r)) (linked_is c.args.self.now space (c.old_words.ensures.space ∙ c.look.ensures.space)) (in_map linked r (replicas_in space.words) l))
 
 pub returns-in-Err-Refused-clause-memory : goal.returns-in-Err-Refused-clause-memory
 returns-in-Err-Refused-clause-memory g c =
