@@ -12,7 +12,7 @@ use Rattle.atomic_table.proofs.Lists.{at_set, set_here, set_again, exchanged}
 use Rattle.gc_concurrent.specs.declared.commands.Commander.{Commander}
 use Rattle.gc_concurrent.specs.Holders.{heap_in}
 use Rattle.gc_concurrent.specs.Heaps.{GoesOnIn}
-use Rattle.gc_concurrent.specs.Internal.Handshakes.{Goer, Keeper, HandshakeKnown, Stage, fresh, running, asked, handed, taken, finished, Slots, HandshakeStands, HandshakeSeated, IsHandshake, handshake_opening, only_goes, only_keeps, HandshakeSat, parked, resumed, in_phase, took_it, let_go, tells_start, tells_park, tells_resume, tells_ask, tells_hand_over, tells_go}
+use Rattle.gc_concurrent.specs.Internal.Handshakes.{Goer, Keeper, HandshakeKnown, Stage, fresh, running, asked, handed, taken, finished, Slots, HandshakeStands, HandshakeSeated, IsHandshake, handshake_opening, only_goes, only_keeps, HandshakeSat, parked, resumed, in_phase, took_it, let_go, tells_start, tells_park, tells_resume, tells_ask, tells_hand_over, tells_withdraw, tells_go}
 use Rattle.gc_concurrent.specs.Holders.{cells_of}
 
 abbrev pub GSt : Type 0
@@ -92,10 +92,10 @@ starts_rule slots id v goes mine phase s r _ here _ =
     )))
     (λ ne. fresh_only (F handshake) r.stage handshake r.goer r.keeper s.homes at r.fits (λ word waits rows home. absurd (ne word)))
 
-asked_only : (P : Type 0) (stage : Stage) (handshake : ℕ) (g : Goer) (k : Keeper) (homes : Slots) → handshake ≡ 1 → HandshakeStands stage handshake g k homes → ((k.phase ≡ 1) → (k.row ≡ g.row) → P) → P
+asked_only : (P : Type 0) (stage : Stage) (handshake : ℕ) (g : Goer) (k : Keeper) (homes : Slots) → handshake ≡ 1 → HandshakeStands stage handshake g k homes → ((g.waits ≡ false) → (k.phase ≡ 1) → (k.row ≡ g.row) → P) → P
 asked_only P fresh handshake g k homes e f h = absurd (let a = f.0 in omega arith)
 asked_only P running handshake g k homes e f h = absurd (let a = f.0 in omega arith)
-asked_only P asked handshake g k homes e f h = h f.2 f.3
+asked_only P asked handshake g k homes e f h = h f.1 f.2 f.3
 asked_only P handed handshake g k homes e f h = absurd (let a = f.0 in omega arith)
 asked_only P taken handshake g k homes e f h = absurd (let a = f.0 in omega arith)
 asked_only P finished handshake g k homes e f h = absurd (let a = f.0 in omega arith)
@@ -111,7 +111,7 @@ parks_rule slots id v c goes row s r _ here _ =
     let F : ℕ → Type 0 = λ z. (w : HandshakeKnown) × (a : Act (Option Commander)) × Valid s.homes me.1 a × IsHandshake (stepped s 0 z id me.1 w a) × tells_park (step slots 0 1 2 none) me handshake (w, carried_after me.1 a) in
     exchanged handshake 1 2 F
     (λ e. asked_only (F 2) r.stage handshake r.goer r.keeper s.homes e r.fits
-    (λ phase rows. (
+    (λ _ phase rows. (
       parked c v,
       gives,
       tt,
@@ -211,6 +211,45 @@ takes_over_rule slots id v keeps' phase s r _ here _ =
       ((λ _. (c, row ∙ ap (λ (k : Keeper). k.row) (sym to), refl)), λ ne. absurd (ne e)),
     )))
     (λ ne. (v, keeps, tt, same s id me.1 v here r, ((λ e. absurd (ne e)), λ _. refl)))
+
+-- while the collector asks, the mutator has stopped unless the word is 1
+stopped_only : (P : Type 0) (stage : Stage) (handshake : ℕ) (g : Goer) (k : Keeper) (homes : Slots) → handshake ≢ 1 → k.phase ≡ 1 → HandshakeStands stage handshake g k homes
+    → ((handshake ≡ 2) → (g.waits ≡ true) → (c : Commander) → (get_elem? homes 0 ≡ some (some (Some c))) → (heap_in c ≡ g.left) → (cells_of c ≡ k.row) → P) → P
+stopped_only P fresh handshake g k homes n p f h = absurd (let a = f.2 in omega arith)
+stopped_only P running handshake g k homes n p f h = absurd (let a = f.2 in omega arith)
+stopped_only P asked handshake g k homes n p f h = absurd (n f.0)
+stopped_only P handed handshake g k homes n p f h = let c = f.3 in h f.0 f.1 c.0 c.1 c.2.0 c.2.1
+stopped_only P taken handshake g k homes n p f h = absurd (let a = f.2 in omega arith)
+stopped_only P finished handshake g k homes n p f h = absurd (let a = f.2 in omega arith)
+
+pub withdraws_rule : (slots id : ℕ) (v : HandshakeKnown) → v.keeps ≡ true → v.keeper.phase ≡ 1 → Allows IsHandshake slots id (v, []) 0 (λ g. either (eqb g 1) 0 g) (tells_withdraw (step slots 0 1 0 none) (v, []))
+withdraws_rule slots id v keeps' phase s r _ here _ =
+    let own = (r.seats id v here).1 keeps' in
+    let to : v.keeper ≡ r.keeper = own.1 in
+    let phase' : r.keeper.phase ≡ 1 = ap (λ (k : Keeper). k.phase) (sym to) ∙ phase in
+    let me : HandshakeSat = (v, []) in
+    let handshake : ℕ = get_or s.words 0 0 in
+    let room = r.room in
+    let F : ℕ → Type 0 = λ z. (w : HandshakeKnown) × (a : Act (Option Commander)) × Valid s.homes me.1 a × IsHandshake (stepped s 0 z id me.1 w a) × tells_withdraw (step slots 0 1 0 none) me handshake (w, carried_after me.1 a) in
+    exchanged handshake 1 0 F
+    (λ e. asked_only (F 0) r.stage handshake r.goer r.keeper s.homes e r.fits
+    (λ waits phase rows. (
+      in_phase 0 v,
+      keeps,
+      tt,
+      kept s r 0 s.homes (set s.views id (in_phase 0 v)) r.goer (in_phase 0 v).keeper running r.room (refl, waits, refl, ap (λ (k : Keeper). k.row) to ∙ rows)
+          (keeps_set r.goes_at r.keeps_at id r.goer r.keeper (in_phase 0 v).keeper s.views v here keeps' r.seats),
+      ((λ _. refl), λ ne. absurd (ne e)),
+    )))
+    (λ ne. stopped_only (F handshake) r.stage handshake r.goer r.keeper s.homes ne phase' r.fits
+    (λ two waits c home left row. (
+      took_it c v,
+      takes 0 (Some c),
+      home,
+      kept s r handshake (set s.homes 0 none) (set s.views id (took_it c v)) r.goer (took_it c v).keeper taken (length-set s.homes 0 none ∙ room) (two, waits, refl, left)
+          (keeps_set r.goes_at r.keeps_at id r.goer r.keeper (took_it c v).keeper s.views v here keeps' r.seats),
+      ((λ e. absurd (ne e)), λ _. (c, row ∙ ap (λ (k : Keeper). k.row) (sym to), refl)),
+    )))
 
 taken_only : (P : Type 0) (stage : Stage) (handshake : ℕ) (g : Goer) (k : Keeper) (homes : Slots) → k.phase ≡ 2 → HandshakeStands stage handshake g k homes → ((g.waits ≡ true) → (k.took ≡ g.left) → P) → P
 taken_only P fresh handshake g k homes p f h = absurd (let a = f.2 in omega arith)

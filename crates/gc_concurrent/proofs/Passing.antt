@@ -11,9 +11,9 @@ use Rattle.gc_concurrent.specs.declared.commands.Commander.{Commander}
 use Rattle.gc_concurrent.specs.declared.handshake.HandshakeRule.{HandshakeRule}
 use Rattle.gc_concurrent.specs.Holders.{heap_in}
 use Rattle.gc_concurrent.specs.Heaps.{GoesOnIn}
-use Rattle.gc_concurrent.specs.Internal.Handshakes.{HandshakeKnown, IsHandshake, HandshakeSat, hands, tells_start, tells_park, tells_resume, tells_hand_over, tells_go}
+use Rattle.gc_concurrent.specs.Internal.Handshakes.{HandshakeKnown, IsHandshake, HandshakeSat, hands, tells_start, tells_park, tells_resume, tells_hand_over, tells_withdraw, tells_go}
 use Rattle.gc_concurrent.specs.Holders.{cells_of}
-use Rattle.gc_concurrent.proofs.Handshaking.{starts_rule, parks_rule, resumes_rule, takes_over_rule, goes_rule}
+use Rattle.gc_concurrent.proofs.Handshaking.{starts_rule, parks_rule, resumes_rule, takes_over_rule, withdraws_rule, goes_rule}
 
 abbrev pub Handshake : Type 0
 Handshake = Table (Option Commander) HandshakeKnown Commander HandshakeRule Global
@@ -51,6 +51,13 @@ starts_at slots id me goes mine phase e = subst (λ (c : H). Allows IsHandshake 
 
 pub takes_gate_at : (slots id : ℕ) (me : HandshakeSat) → me.0.keeps ≡ true → me.0.keeper.phase ≡ 1 → hands me ≡ [] → Allows IsHandshake slots id me 0 (λ g. g) (tells_hand_over (step slots 0 0 0 none) me)
 takes_gate_at slots id me keeps phase e = subst (λ (c : H). Allows IsHandshake slots id (me.0, c) 0 (λ g. g) (tells_hand_over (step slots 0 0 0 none) (me.0, c))) (sym (no_hand me.1 e)) (takes_over_rule slots id me.0 keeps phase)
+
+pub withdraws_at : (slots id : ℕ) (me : HandshakeSat) → me.0.keeps ≡ true → me.0.keeper.phase ≡ 1 → hands me ≡ [] → Allows IsHandshake slots id me 0 (λ g. either (eqb g 1) 0 g) (tells_withdraw (step slots 0 1 0 none) me)
+withdraws_at slots id me keeps phase e = subst (λ (c : H). Allows IsHandshake slots id (me.0, c) 0 (λ g. either (eqb g 1) 0 g) (tells_withdraw (step slots 0 1 0 none) (me.0, c))) (sym (no_hand me.1 e)) (withdraws_rule slots id me.0 keeps phase)
+
+-- a seat with one slot in hand has no other
+pub taken_alone : (me me' : HandshakeSat) (v : HandshakeKnown) (x : ℕ × Option Commander) → hands me ≡ [] → me' ≡ (v, x ∷ me.1) → me' ≡ (v, x ∷ [])
+taken_alone me me' v x e is = is ∙ ap (λ (l : H). (v, x ∷ l)) (no_hand me.1 e)
 
 -- the seat after its slot was filled
 pub filled : (me me' : HandshakeSat) (b : Bool) (y : Option Commander) → hands me ≡ (0, b) ∷ [] → me' ≡ (me.0, (0, y) ∷ rest me.1) → me' ≡ (me.0, (0, y) ∷ [])

@@ -72,6 +72,13 @@ impl Commander {
     ghost use Rattle.gc_graph.proofs.Public.{make_object};
     ghost use Rattle.gc_heap.specs.Heap.{roomy_in};
 
+    /// Returns the number of free words.
+    pub fn room(&self) -> u32
+        ensures { result ≡ (roomy_in (heap_in self.now)).free }
+    {
+        self.mutator.size - self.end
+    }
+
     /// Makes a new object and sets a root to a reference to it, if there is room.
     #[tactic(auto, using(gc_heap::proofs::Public::made))]
     pub(crate) fn make(&mut self, place: usize, raw: bool, kind: u8, len: u16) -> Reply

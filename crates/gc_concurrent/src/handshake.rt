@@ -18,7 +18,7 @@ ghost use Rattle.gc_words.specs.Word.{value_of};
 use crate::commands::Commander;
 use crate::copier::{Copier, Work};
 use crate::held::{Held, NoFlip, hold, open_ends};
-use crate::plays::{Ask, Go, HandshakeRoles, Park, Resume, Start, Take};
+use crate::plays::{Ask, Go, HandshakeRoles, Park, Resume, Start, Take, Withdraw};
 use atomic_table::{Seat, Table, TableRule};
 use gc_check::Checks;
 use gc_graph::NoMemory;
@@ -287,6 +287,35 @@ impl Asking {
             seat,
             held,
         })
+    }
+}
+
+impl Asking {
+    /// Asks no longer. A mutator that has stopped may go on in the same space. The collection goes on as it stands.
+    pub fn withdraw(self) -> Collector
+        ensures { result.copier ≡ self.copier }
+    {
+        let Asking {
+            handshake,
+            mut seat,
+            copier,
+        } = self;
+        let found = handshake
+            .shared
+            .compare_exchange::<Withdraw>(&mut seat, 0, 1, 0);
+        if found == 1 {
+            return Collector {
+                handshake,
+                seat,
+                copier,
+            };
+        }
+        handshake.shared.store::<Go>(&mut seat, 0, 3);
+        Collector {
+            handshake,
+            seat,
+            copier,
+        }
     }
 }
 

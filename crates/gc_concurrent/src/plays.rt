@@ -142,6 +142,14 @@ impl Play<Option<Commander>, HandshakeView> for Ask {
     ghost then = { tells_ask };
 }
 
+pub(crate) struct Withdraw;
+
+impl Play<Option<Commander>, HandshakeView> for Withdraw {
+    ghost use Rattle.gc_concurrent.specs.Internal.Handshakes.{tells_withdraw};
+
+    ghost then = { tells_withdraw };
+}
+
 pub(crate) struct Take;
 
 impl Play<Option<Commander>, HandshakeView> for Take {

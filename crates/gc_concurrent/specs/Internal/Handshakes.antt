@@ -123,6 +123,10 @@ took_it c v = record v { keeper = record { phase = 2; took = heap_in c; row = v.
 abbrev pub tells_hand_over : HandshakeStep → HandshakeSat → ℕ → HandshakeSat → Type 0
 tells_hand_over st me found me' = (found ≡ 2 → (c : Commander) × (cells_of c ≡ me.0.keeper.row) × (me' ≡ (took_it c me.0, (0, Some c) ∷ me.1))) × (found ≢ 2 → me' ≡ me)
 
+-- the collector asks no longer, or takes the mutator that has stopped
+abbrev pub tells_withdraw : HandshakeStep → HandshakeSat → ℕ → HandshakeSat → Type 0
+tells_withdraw st me found me' = (found ≡ 1 → me' ≡ (in_phase 0 me.0, me.1)) × (found ≢ 1 → (c : Commander) × (cells_of c ≡ me.0.keeper.row) × (me' ≡ (took_it c me.0, (0, Some c) ∷ me.1)))
+
 abbrev pub let_go : Commander → HandshakeKnown → HandshakeKnown
 let_go c v = record v { keeper = record { phase = 0; took = v.keeper.took; row = cells_of c } }
 
