@@ -11,8 +11,7 @@
  * the call was refused. A refused command changes nothing, neither the heap nor its output arguments. gcflip_beside_room alone returns a count.
  *
  * The promise, proved for the code behind these calls:
- * - each command gets the reply of a heap without a collector, whatever the collector's thread does meanwhile, except that an allocation may find the
- *   heap full;
+ * - each command gets the reply of a heap without a collector, whatever the collector's thread does. Only an allocation may find the heap full;
  * - after a safepoint the mutator goes on in the same heap, or in one whose objects correspond to those of the old one;
  * - a flip happens only if its certificate holds, and no flip is refused by the checker;
  * - nothing is proved of time: that a thread gets on is tested.
@@ -57,8 +56,8 @@ enum gcflip_beside_answer {
 
 /* ---- Opening and closing */
 
-/* Opens an empty heap of `size` words, at least 1, whose roots hold nil, and begins a collection: GCFLIP_DONE, or GCFLIP_OPEN if a handle has an end
- * already. GCFLIP_NO_MEMORY if an allocation fails. The new space of each collection has as many words as the heap. */
+/* Opens an empty heap of `size` words, at least 1, and begins a collection: GCFLIP_DONE, or GCFLIP_OPEN if a handle has an end already. All roots hold
+ * nil. GCFLIP_NO_MEMORY if an allocation fails. The new space of each collection has as many words as the heap. */
 uint32_t gcflip_beside_open(gcflip_mutator *mutator, gcflip_collector *collector, uint32_t size);
 
 /* Drops the mutator with its objects: GCFLIP_DONE. The collector's handle can still be used and closed. The last of both closes frees the heap. */
@@ -70,7 +69,7 @@ uint32_t gcflip_beside_close_collector(gcflip_collector *collector);
 
 /* ---- Commands, by the mutator's thread
  *
- * Each returns GCFLIP_PARKED while the mutator has stopped. A place of 32 or more is out of range, a kind is 0 to 255, a count 0 to 65535, fields are
+ * Each returns GCFLIP_PARKED while the mutator has stopped. A place of 32 or more is out of range. A kind is 0 to 255, and a count 0 to 65535. Fields are
  * counted from 0, and a number is below 2^63. */
 
 /* Makes an object with `count` fields, all nil, and puts a reference to it into root d: GCFLIP_MADE or GCFLIP_FULL. The object takes count + 2

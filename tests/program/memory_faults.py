@@ -56,6 +56,7 @@ PLACES = {
     "gcflip_heap_c/src/work.rt": {("of_work", BY_ARM): 1},
     "gcflip_heap_c/src/checking.rt": {("gcflip_heap_check", BY_ARM): 1},
     "gc_in_c/src/reply.rt": {("of_result", BY_ARM): 1},
+    "gcflip_beside_c/src/commands.rt": {("gcflip_beside_get", BY_ARM): 1, ("gcflip_beside_look", BY_ARM): 1},
     "gcflip_beside_c/src/opening.rt": {("gcflip_beside_open", BY_ARM): 1},
     "gcflip_beside_c/src/collecting.rt": {("why", BY_ARM): 1},
     "gc_copy/src/log.rt": {("add_segment", BY_HAND): 1},

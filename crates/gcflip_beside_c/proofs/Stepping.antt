@@ -1,6 +1,6 @@
 -- Steps in a row leave the same outline.
-use Rattle.std.proofs.Common.{◌≡◌, ◌≢◌, ℕ, ◌+◌, ◌≤◌, refl, sym, subst, arith}
-use Rattle.gcflip_beside_c.specs.Stages.{outline, IsHolding, ahead}
+use Rattle.std.proofs.Common.{◌≡◌, sym, subst}
+use Rattle.gcflip_beside_c.specs.Stages.{outline, IsHolding}
 use Rattle.gcflip_beside_c.specs.Standing.{Standing, closed, runs, parked, works, asks, holds, IsCollector}
 
 collector_outlined : (s : Standing) → IsCollector s → IsCollector (outline s)

@@ -18,8 +18,8 @@ abbrev pub no_room : ℕ
 no_room = 36
 
 -- the mutator may go on in the new space
-abbrev pub flipped : ℕ
-flipped = 43
+abbrev pub flip_made : ℕ
+flip_made = 43
 
 -- something is left to do before the flip
 abbrev pub not_ready : ℕ

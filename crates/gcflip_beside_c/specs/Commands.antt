@@ -17,7 +17,7 @@ RunsOn did old new = ⊥
 
 -- Where a handle stands before and after a command, and its answer. `takes` holds if the arguments are in range. `did` relates the heaps before and
 -- after a command that is performed.
-pub record IsCall (takes : Type 0) (did : HeapWords → HeapWords → Type 0) (old new : Standing) (answer : ℕ) : Type 0 where
+pub record IsBesideCall (takes : Type 0) (did : HeapWords → HeapWords → Type 0) (old new : Standing) (answer : ℕ) : Type 0 where
   pub done : ¬ IsRefusal answer → RunsOn did old new
   -- a refused call changes nothing
   pub refused : IsRefusal answer → new ≡ old
@@ -27,12 +27,12 @@ pub record IsCall (takes : Type 0) (did : HeapWords → HeapWords → Type 0) (o
   pub closed : (answer ≡ closed_handle) ↔ ((¬ IsRunning old) × (¬ IsParked old))
 
 -- gc_graph's machine performs the command with this reply, for which `shown` holds
-abbrev pub Replies : Op → (Reply → Type 0) → HeapWords → HeapWords → Type 0
-Replies op shown old new = (reply : Reply) × Does old op reply new × shown reply
+abbrev pub GetsReply : Op → (Reply → Type 0) → HeapWords → HeapWords → Type 0
+GetsReply op shown old new = (reply : Reply) × Does old op reply new × shown reply
 
 -- a call that performs the command, and returns the number of its reply
-abbrev pub IsCommandCall : Type 0 → Op → Standing → Standing → ℕ → Type 0
-IsCommandCall takes op old new answer = IsCall takes (Replies op (λ reply. answer ≡ reply_in_c reply)) old new answer
+abbrev pub IsBesideCommand : Type 0 → Op → Standing → Standing → ℕ → Type 0
+IsBesideCommand takes op old new answer = IsBesideCall takes (GetsReply op (λ reply. answer ≡ reply_in_c reply)) old new answer
 
 -- the free words of a mutator that runs
 abbrev pub room_in : Standing → ℕ

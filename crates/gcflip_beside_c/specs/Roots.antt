@@ -7,9 +7,9 @@ abbrev pub roots : ℕ
 roots = 32
 
 -- the slot of the one mutator at this place
-abbrev pub root_at : ℕ → SlotName
-root_at p = if nat_lt p 16 then shared_slot p else own_slot (p - 16)
+abbrev pub root_placed : ℕ → SlotName
+root_placed p = if nat_lt p 16 then shared_slot p else own_slot (p - 16)
 
 -- the field with this number. No object has so many fields that its last number has one, which stands for all that follow.
-abbrev pub field_at : ℕ → ℕ
-field_at i = if nat_lt i lengths then i else lengths - 1
+abbrev pub field_named : ℕ → ℕ
+field_named i = if nat_lt i lengths then i else lengths - 1

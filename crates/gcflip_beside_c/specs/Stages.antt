@@ -14,12 +14,9 @@ use Rattle.gc_concurrent.specs.Heaps.{GoesOnIn}
 use Rattle.gc_concurrent.specs.Nearing.{steps_ahead}
 use Rattle.gc_concurrent.specs.Works.{KeepsBeginning, TakesLog, WhereDone}
 use Rattle.gc_concurrent.specs.Checking.{FlippedBy, CertifiesFlip, flip_shown}
-use Rattle.gc_concurrent.specs.declared.held.NoFlip.{NoFlip}
-use Rattle.gc_concurrent.specs.declared.held.NoFlip.TheVariants as reasons
-use Rattle.gc_concurrent.specs.declared.copier.Work.{Work}
 use Rattle.gc_concurrent.specs.declared.copier.Work.TheVariants as work
 use Rattle.gc_in_c.specs.Answers.{closed_handle, out_of_range}
-use Rattle.gcflip_beside_c.specs.Answers.{parked_mutator, not_yet, not_ready, clean, no_room, flipped}
+use Rattle.gcflip_beside_c.specs.Answers.{parked_mutator, not_yet, not_ready, clean, no_room, flip_made}
 use Rattle.gcflip_beside_c.specs.Standing.{Standing, runs, parked, works, asks, holds, IsCollector}
 
 -- ---- the mutator
@@ -31,13 +28,13 @@ Stops (parked heap) new answer = (answer ≡ parked_mutator) × (new ≡ parked 
 Stops old new answer = (answer ≡ closed_handle) × (new ≡ old)
 
 -- a mutator runs, in the heap with which it stopped or in one whose graph corresponds to it
-abbrev pub GoesOn : HeapWords → Standing → Type 0
-GoesOn heap (runs later) = GoesOnIn heap later
-GoesOn heap new = ⊥
+abbrev pub RunsAgain : HeapWords → Standing → Type 0
+RunsAgain heap (runs later) = GoesOnIn heap later
+RunsAgain heap new = ⊥
 
 abbrev pub Resumes : Standing → Standing → ℕ → Type 0
 Resumes (runs heap) new answer = (answer ≡ done) × (new ≡ runs heap)
-Resumes (parked heap) new answer = ((answer ≡ done) × GoesOn heap new) ⊎ ((answer ≡ not_yet) × (new ≡ parked heap))
+Resumes (parked heap) new answer = ((answer ≡ done) × RunsAgain heap new) ⊎ ((answer ≡ not_yet) × (new ≡ parked heap))
 Resumes old new answer = (answer ≡ closed_handle) × (new ≡ old)
 
 -- ---- the collector
@@ -72,16 +69,8 @@ LacksRoom (asks t) = t.size < t.old
 LacksRoom (holds t heap) = t.size < t.old
 LacksRoom s = ⊥
 
--- one step of a collector
-pub record StepsOn (step : Work) (old new : Standing) : Type 0 where
-  pub kept : outline new ≡ outline old
-  -- while the mutator is held, each step lowers the number of steps ahead
-  pub nearer : IsHolding old → step ≡ work.Step → ahead new + 1 ≤ ahead old
-  pub idle : step ≡ work.Done → IsIdle new
-  pub room : step ≡ work.NoRoom → LacksRoom new
-
 -- so many steps, or fewer where nothing is left or a replica found no room
-pub record Works (most : ℕ) (old new : Standing) (answer : ℕ) : Type 0 where
+pub record HasWorked (most : ℕ) (old new : Standing) (answer : ℕ) : Type 0 where
   pub kept : outline new ≡ outline old
   pub nearer : IsHolding old → answer ≡ done → ahead new + most ≤ ahead old
   pub idle : answer ≡ clean → IsIdle new
@@ -89,8 +78,8 @@ pub record Works (most : ℕ) (old new : Standing) (answer : ℕ) : Type 0 where
   pub answers : (answer ≡ done) ⊎ (answer ≡ clean) ⊎ (answer ≡ no_room)
 
 -- a call of work, whose argument is at least 1
-pub record IsWorkCall (most : ℕ) (old new : Standing) (answer : ℕ) : Type 0 where
-  pub worked : IsCollector old → 1 ≤ most → Works most old new answer
+pub record IsBesideWork (most : ℕ) (old new : Standing) (answer : ℕ) : Type 0 where
+  pub worked : IsCollector old → 1 ≤ most → HasWorked most old new answer
   pub closed : ¬ IsCollector old → (answer ≡ closed_handle) × (new ≡ old)
   pub outside : IsCollector old → most ≡ 0 → (answer ≡ out_of_range) × (new ≡ old)
 
@@ -105,11 +94,11 @@ abbrev pub HoldsAfter : Theirs → Standing → Type 0
 HoldsAfter t (holds u heap) = TakesLog t u
 HoldsAfter t new = ⊥
 
-abbrev pub Takes : Standing → Standing → ℕ → Type 0
-Takes (works t) new answer = (answer ≡ not_yet) × (new ≡ works t)
-Takes (asks t) new answer = ((answer ≡ done) × HoldsAfter t new) ⊎ ((answer ≡ not_yet) × (new ≡ asks t))
-Takes (holds t heap) new answer = (answer ≡ done) × (new ≡ holds t heap)
-Takes old new answer = (answer ≡ closed_handle) × (new ≡ old)
+abbrev pub TakesMutator : Standing → Standing → ℕ → Type 0
+TakesMutator (works t) new answer = (answer ≡ not_yet) × (new ≡ works t)
+TakesMutator (asks t) new answer = ((answer ≡ done) × HoldsAfter t new) ⊎ ((answer ≡ not_yet) × (new ≡ asks t))
+TakesMutator (holds t heap) new answer = (answer ≡ done) × (new ≡ holds t heap)
+TakesMutator old new answer = (answer ≡ closed_handle) × (new ≡ old)
 
 -- The mutator may go on, and the collection stays open.
 abbrev pub Goes : Standing → Standing → ℕ → Type 0
@@ -119,8 +108,8 @@ Goes (holds t heap) new answer = (answer ≡ done) × (new ≡ works t)
 Goes old new answer = (answer ≡ closed_handle) × (new ≡ old)
 
 -- The certificate of a pair of images holds. This is what Sequential's yes says.
-abbrev pub IsCertified : CertifiedPair → Type 0
-IsCertified pair = Certified pair.old pair.new pair.pairs
+abbrev pub IsCertifiedPair : CertifiedPair → Type 0
+IsCertifiedPair pair = Certified pair.old pair.new pair.pairs
 
 -- A flip of this heap, after which the next collection has begun, in an empty space as large as the new one, with the graph of the replicas. A checker
 -- said this of it.
@@ -142,29 +131,24 @@ abbrev pub HoldsOn : (Theirs → Type 0) → HeapWords → Standing → Type 0
 HoldsOn P heap (holds u later) = (later ≡ heap) × P u
 HoldsOn P heap new = ⊥
 
-abbrev pub why_in_c : NoFlip → ℕ
-why_in_c reasons.NotReady = not_ready
-why_in_c reasons.NoMemory = no_memory
-why_in_c reasons.Refused = not_ready
-
 -- Something was left to do. After `clean` fewer steps are ahead now, since a root's target is wanted.
 pub record IsUnready (t : Theirs) (heap : HeapWords) (u : Theirs) : Type 0 where
   pub unready : is_ready (its t) (graph_in heap) ≡ false
   pub nearer : WhereDone work.Done t → steps_ahead (end_of heap.space) u < steps_ahead (end_of heap.space) t
   pub begun : KeepsBeginning t u
 
-abbrev pub Flips : (CertifiedPair → Type 0) → Standing → Standing → ℕ → Type 0
-Flips says (works t) new answer = (answer ≡ not_yet) × (new ≡ works t)
-Flips says (asks t) new answer = (answer ≡ not_yet) × (new ≡ asks t)
-Flips says (holds t heap) new answer =
-    ((answer ≡ flipped) × WorksAfter (IsFlip says t heap) new) ⊎ ((answer ≡ not_ready) × HoldsOn (IsUnready t heap) heap new) ⊎ ((answer ≡ no_memory) × HoldsOn (KeepsBeginning t) heap new)
-Flips says old new answer = (answer ≡ closed_handle) × (new ≡ old)
+abbrev pub FlipsHeld : (CertifiedPair → Type 0) → Standing → Standing → ℕ → Type 0
+FlipsHeld says (works t) new answer = (answer ≡ not_yet) × (new ≡ works t)
+FlipsHeld says (asks t) new answer = (answer ≡ not_yet) × (new ≡ asks t)
+FlipsHeld says (holds t heap) new answer =
+    ((answer ≡ flip_made) × WorksAfter (IsFlip says t heap) new) ⊎ ((answer ≡ not_ready) × HoldsOn (IsUnready t heap) heap new) ⊎ ((answer ≡ no_memory) × HoldsOn (KeepsBeginning t) heap new)
+FlipsHeld says old new answer = (answer ≡ closed_handle) × (new ≡ old)
 
 -- The steps that were left led to such a flip. It is refused only for lack of memory, or if the new space is smaller than the mutator's.
-abbrev pub Finishes : (CertifiedPair → Type 0) → Standing → Standing → ℕ → Type 0
-Finishes says (works t) new answer = (answer ≡ not_yet) × (new ≡ works t)
-Finishes says (asks t) new answer = (answer ≡ not_yet) × (new ≡ asks t)
-Finishes says (holds t heap) new answer =
-    ((answer ≡ flipped) × WorksAfter (λ u. FlippedBy says heap u.base × (u ≡ opening_theirs u.base t.size t.size)) new)
+abbrev pub FinishesHeld : (CertifiedPair → Type 0) → Standing → Standing → ℕ → Type 0
+FinishesHeld says (works t) new answer = (answer ≡ not_yet) × (new ≡ works t)
+FinishesHeld says (asks t) new answer = (answer ≡ not_yet) × (new ≡ asks t)
+FinishesHeld says (holds t heap) new answer =
+    ((answer ≡ flip_made) × WorksAfter (λ u. FlippedBy says heap u.base × (u ≡ opening_theirs u.base t.size t.size)) new)
     ⊎ ((answer ≡ not_ready) × (t.size < t.old) × HoldsOn (KeepsBeginning t) heap new) ⊎ ((answer ≡ no_memory) × HoldsOn (KeepsBeginning t) heap new)
-Finishes says old new answer = (answer ≡ closed_handle) × (new ≡ old)
+FinishesHeld says old new answer = (answer ≡ closed_handle) × (new ≡ old)

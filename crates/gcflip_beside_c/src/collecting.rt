@@ -1,7 +1,8 @@
 //! The exports of the collector's end. None of them waits.
 
 ghost use Rattle.std.specs.Prelude.{◌≡◌, ◌≢◌};
-ghost use Rattle.gcflip_beside_c.specs.Stages.{Asks, Takes, Goes, Flips, Finishes, IsCertified, why_in_c, StepsOn, Works, IsWorkCall};
+ghost use Rattle.gcflip_beside_c.specs.Internal.Stepping.{StepsOn, why_in_c};
+ghost use Rattle.gcflip_beside_c.specs.Stages.{Asks, TakesMutator, Goes, FlipsHeld, FinishesHeld, IsCertifiedPair, HasWorked, IsBesideWork};
 ghost use Rattle.gcflip_beside_c.specs.Standing.{standing, standing_of, IsCollector};
 
 use crate::answer::{
@@ -32,7 +33,7 @@ fn step(end: &mut End) -> Work
 #[tactic(auto, using(crate::proofs::Stepping::collector_still, crate::proofs::Stepping::holding_still))]
 fn steps(end: &mut End, most: u32) -> u32
     requires { IsCollector (standing_of end.old) }
-    ensures { Works most (standing_of end.old) (standing_of end.new) result }
+    ensures { HasWorked most (standing_of end.old) (standing_of end.new) result }
 {
     for k in 0..most {
         match step(end) {
@@ -48,7 +49,7 @@ fn steps(end: &mut End, most: u32) -> u32
 /// no collector, and 2 if `most` is 0.
 #[unsafe(no_mangle)]
 pub extern "C" fn gcflip_beside_work(collector: &mut GcflipEnd, most: u32) -> u32
-    ensures { IsWorkCall most (standing collector.old.end) (standing collector.new.end) result }
+    ensures { IsBesideWork most (standing collector.old.end) (standing collector.new.end) result }
 {
     let end = lent!(collector);
     if !end.is_collector() {
@@ -87,7 +88,7 @@ pub extern "C" fn gcflip_beside_ask(collector: &mut GcflipEnd) -> u32
 }
 
 fn taken(end: End) -> (End, u32)
-    ensures { Takes (standing_of end) (standing_of result.0) result.1 }
+    ensures { TakesMutator (standing_of end) (standing_of result.0) result.1 }
 {
     match end {
         End::Working(collector) => (End::Working(collector), NOT_YET),
@@ -100,11 +101,11 @@ fn taken(end: End) -> (End, u32)
     }
 }
 
-/// Takes the mutator with its log, if it has stopped and no step is left. Returns 0 if the collector holds it, 13 if not yet, and 3 if the handle has no
+/// TakesMutator the mutator with its log, if it has stopped and no step is left. Returns 0 if the collector holds it, 13 if not yet, and 3 if the handle has no
 /// collector.
 #[unsafe(no_mangle)]
 pub extern "C" fn gcflip_beside_take(collector: &mut GcflipEnd) -> u32
-    ensures { Takes (standing collector.old.end) (standing collector.new.end) result }
+    ensures { TakesMutator (standing collector.old.end) (standing collector.new.end) result }
 {
     let end = lent!(collector);
     let (next, answer) = taken(replace(end, End::Nothing));
@@ -148,7 +149,7 @@ fn why(refused: NoFlip) -> u32
 
 fn flipped<C: Checks>(alloc: Global, checker: &C, end: End) -> (End, u32)
     requires { C.can_check checker.now }
-    ensures { Flips (C.says_yes checker.now) (standing_of end) (standing_of result.0) result.1 }
+    ensures { FlipsHeld (C.says_yes checker.now) (standing_of end) (standing_of result.0) result.1 }
 {
     match end {
         End::Working(collector) => (End::Working(collector), NOT_YET),
@@ -161,13 +162,13 @@ fn flipped<C: Checks>(alloc: Global, checker: &C, end: End) -> (End, u32)
     }
 }
 
-/// Flips if the collection is ready: the mutator that the collector holds may go on in the new space, and the next collection begins. The flip is made only
+/// FlipsHeld if the collection is ready: the mutator that the collector holds may go on in the new space, and the next collection begins. The flip is made only
 /// if the checker accepts both spaces whole. Returns 43 if it flipped, and 41 if something is left to do; a root's target without a replica is then wanted.
 /// Returns 13 if the collector does not hold the mutator, 3 if the handle has no collector, and 1 if an allocation fails. If it does not flip, the
 /// mutator's heap is unchanged, and the collector still holds it.
 #[unsafe(no_mangle)]
 pub extern "C" fn gcflip_beside_flip(alloc: Global, collector: &mut GcflipEnd) -> u32
-    ensures { Flips IsCertified (standing collector.old.end) (standing collector.new.end) result }
+    ensures { FlipsHeld IsCertifiedPair (standing collector.old.end) (standing collector.new.end) result }
 {
     let end = lent!(collector);
     let (next, answer) = flipped(alloc, &Sequential, replace(end, End::Nothing));
@@ -177,7 +178,7 @@ pub extern "C" fn gcflip_beside_flip(alloc: Global, collector: &mut GcflipEnd) -
 
 fn finished<C: Checks>(alloc: Global, checker: &C, end: End) -> (End, u32)
     requires { C.can_check checker.now }
-    ensures { Finishes (C.says_yes checker.now) (standing_of end) (standing_of result.0) result.1 }
+    ensures { FinishesHeld (C.says_yes checker.now) (standing_of end) (standing_of result.0) result.1 }
 {
     match end {
         End::Working(collector) => (End::Working(collector), NOT_YET),
@@ -194,7 +195,7 @@ fn finished<C: Checks>(alloc: Global, checker: &C, end: End) -> (End, u32)
 /// collector. Returns 1 if an allocation fails. The mutator's heap is then unchanged, and the collector still holds it.
 #[unsafe(no_mangle)]
 pub extern "C" fn gcflip_beside_finish(alloc: Global, collector: &mut GcflipEnd) -> u32
-    ensures { Finishes IsCertified (standing collector.old.end) (standing collector.new.end) result }
+    ensures { FinishesHeld IsCertifiedPair (standing collector.old.end) (standing collector.new.end) result }
 {
     let end = lent!(collector);
     let (next, answer) = finished(alloc, &Sequential, replace(end, End::Nothing));

@@ -7,8 +7,8 @@ ghost use Rattle.gc_graph.specs.declared.command.Op.{Op};
 ghost use Rattle.gc_plan.specs.Steps.{WritesField};
 ghost use Rattle.gc_concurrent.specs.Machines.{Does};
 ghost use Rattle.gc_in_c.specs.Replies.{reply_in_c, got_in_c, number_after, view_after};
-ghost use Rattle.gcflip_beside_c.specs.Commands.{IsCall, IsCommandCall, Replies, RunsOn, room_in};
-ghost use Rattle.gcflip_beside_c.specs.Roots.{roots, root_at, field_at};
+ghost use Rattle.gcflip_beside_c.specs.Commands.{IsBesideCall, IsBesideCommand, GetsReply, RunsOn, room_in};
+ghost use Rattle.gcflip_beside_c.specs.Roots.{roots, root_placed, field_named};
 ghost use Rattle.gcflip_beside_c.specs.Standing.{standing, standing_of, cells_at, cells_of_end, IsRunning};
 
 use crate::answer::{NO_MEMORY, OUT_OF_RANGE};
@@ -37,7 +37,7 @@ fn performed(end: &mut End, op: &Op) -> Result<Reply, NoMemory>
 /// Makes an object of this kind with `count` fields, all nil, and puts a reference to it into root `d`.
 #[unsafe(no_mangle)]
 pub extern "C" fn gcflip_beside_new(mutator: &mut GcflipEnd, d: u32, kind: u32, count: u32) -> u32
-    ensures call { IsCommandCall ((d < roots) × (kind < kinds) × (count < lengths)) (Op.New (root_at d) kind count)
+    ensures call { IsBesideCommand ((d < roots) × (kind < kinds) × (count < lengths)) (Op.New (root_placed d) kind count)
         (standing mutator.old.end) (standing mutator.new.end) result }
     ensures memory { result ≢ no_memory }
     ensures cells { cells_at mutator.new.end ≡ cells_at mutator.old.end }
@@ -65,7 +65,7 @@ pub extern "C" fn gcflip_beside_new_raw(
     kind: u32,
     count: u32,
 ) -> u32
-    ensures call { IsCommandCall ((d < roots) × (kind < kinds) × (count < lengths)) (Op.NewRaw (root_at d) kind count)
+    ensures call { IsBesideCommand ((d < roots) × (kind < kinds) × (count < lengths)) (Op.NewRaw (root_placed d) kind count)
         (standing mutator.old.end) (standing mutator.new.end) result }
     ensures memory { result ≢ no_memory }
     ensures cells { cells_at mutator.new.end ≡ cells_at mutator.old.end }
@@ -88,7 +88,7 @@ pub extern "C" fn gcflip_beside_new_raw(
 /// Puts the number `n`, which must be below 2^63, into root `d`.
 #[unsafe(no_mangle)]
 pub extern "C" fn gcflip_beside_set_number(mutator: &mut GcflipEnd, d: u32, n: u64) -> u32
-    ensures call { IsCommandCall ((d < roots) × (n < 2 ^ 63)) (Op.Num (root_at d) n) (standing mutator.old.end) (standing mutator.new.end) result }
+    ensures call { IsBesideCommand ((d < roots) × (n < 2 ^ 63)) (Op.Num (root_placed d) n) (standing mutator.old.end) (standing mutator.new.end) result }
     ensures memory { result ≢ no_memory }
     ensures cells { cells_at mutator.new.end ≡ cells_at mutator.old.end }
 {
@@ -103,7 +103,7 @@ pub extern "C" fn gcflip_beside_set_number(mutator: &mut GcflipEnd, d: u32, n: u
 /// Puts nil into root `d`.
 #[unsafe(no_mangle)]
 pub extern "C" fn gcflip_beside_set_nil(mutator: &mut GcflipEnd, d: u32) -> u32
-    ensures call { IsCommandCall (d < roots) (Op.Nil (root_at d)) (standing mutator.old.end) (standing mutator.new.end) result }
+    ensures call { IsBesideCommand (d < roots) (Op.Nil (root_placed d)) (standing mutator.old.end) (standing mutator.new.end) result }
     ensures memory { result ≢ no_memory }
     ensures cells { cells_at mutator.new.end ≡ cells_at mutator.old.end }
 {
@@ -115,7 +115,7 @@ pub extern "C" fn gcflip_beside_set_nil(mutator: &mut GcflipEnd, d: u32) -> u32
 /// Copies the value of root `s` into root `d`.
 #[unsafe(no_mangle)]
 pub extern "C" fn gcflip_beside_copy(mutator: &mut GcflipEnd, d: u32, s: u32) -> u32
-    ensures call { IsCommandCall ((d < roots) × (s < roots)) (Op.Move (root_at d) (root_at s))
+    ensures call { IsBesideCommand ((d < roots) × (s < roots)) (Op.Move (root_placed d) (root_placed s))
         (standing mutator.old.end) (standing mutator.new.end) result }
     ensures memory { result ≢ no_memory }
     ensures cells { cells_at mutator.new.end ≡ cells_at mutator.old.end }
@@ -136,7 +136,7 @@ pub extern "C" fn gcflip_beside_get(
     i: u32,
     number: &mut u64,
 ) -> u32
-    ensures call { IsCall ((d < roots) × (s < roots)) (Replies (Op.Get (root_at d) (root_at s) (field_at i))
+    ensures call { IsBesideCall ((d < roots) × (s < roots)) (GetsReply (Op.Get (root_placed d) (root_placed s) (field_named i))
         (λ reply. (result ≡ got_in_c reply) × (number.new ≡ number_after number.old reply))) (standing mutator.old.end) (standing mutator.new.end) result }
     ensures silent { IsRefusal result → number.new ≡ number.old }
     ensures memory { result ≢ no_memory }
@@ -154,7 +154,7 @@ pub extern "C" fn gcflip_beside_get(
 /// Writes the value of root `t` to field `i` of the object that root `s` refers to, and logs the field. Only this command allocates.
 #[unsafe(no_mangle)]
 pub extern "C" fn gcflip_beside_put(mutator: &mut GcflipEnd, s: u32, i: u32, t: u32) -> u32
-    ensures call { IsCommandCall ((s < roots) × (t < roots)) (Op.Put (root_at s) (field_at i) (root_at t))
+    ensures call { IsBesideCommand ((s < roots) × (t < roots)) (Op.Put (root_placed s) (field_named i) (root_placed t))
         (standing mutator.old.end) (standing mutator.new.end) result }
     ensures cells { cells_at mutator.new.end ≡ cells_at mutator.old.end }
 {
@@ -167,7 +167,7 @@ pub extern "C" fn gcflip_beside_put(mutator: &mut GcflipEnd, s: u32, i: u32, t: 
 /// Compares the values of two roots.
 #[unsafe(no_mangle)]
 pub extern "C" fn gcflip_beside_same(mutator: &mut GcflipEnd, s: u32, t: u32) -> u32
-    ensures call { IsCommandCall ((s < roots) × (t < roots)) (Op.Same (root_at s) (root_at t))
+    ensures call { IsBesideCommand ((s < roots) × (t < roots)) (Op.Same (root_placed s) (root_placed t))
         (standing mutator.old.end) (standing mutator.new.end) result }
     ensures memory { result ≢ no_memory }
     ensures cells { cells_at mutator.new.end ≡ cells_at mutator.old.end }
@@ -180,12 +180,8 @@ pub extern "C" fn gcflip_beside_same(mutator: &mut GcflipEnd, s: u32, t: u32) ->
 
 /// Looks at the value of root `s`, and writes what it saw to `view`.
 #[unsafe(no_mangle)]
-pub extern "C" fn gcflip_beside_look(
-    mutator: &mut GcflipEnd,
-    s: u32,
-    view: &mut GcflipView,
-) -> u32
-    ensures call { IsCall (s < roots) (Replies (Op.Look (root_at s))
+pub extern "C" fn gcflip_beside_look(mutator: &mut GcflipEnd, s: u32, view: &mut GcflipView) -> u32
+    ensures call { IsBesideCall (s < roots) (GetsReply (Op.Look (root_placed s))
         (λ reply. (result ≡ reply_in_c reply) × (view.new ≡ view_after view.old reply))) (standing mutator.old.end) (standing mutator.new.end) result }
     ensures silent { IsRefusal result → view.new ≡ view.old }
     ensures memory { result ≢ no_memory }
