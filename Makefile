@@ -20,6 +20,10 @@ libraries: ## proves both libraries for C, and builds bindings/c/out/libgcflip.a
 	@tools/build gcflip_c gcflip_heap_c
 	@$(MAKE) --no-print-directory -C bindings/c
 
+beside: ## proves the heap whose collector works in another thread, and builds bindings/c/out/libgcflip_beside.a
+	@tools/build gcflip_beside_c
+	@$(MAKE) --no-print-directory -C bindings/c beside
+
 checker: ## proves the checker for C without the collector, and builds bindings/c/out/libgcflip_checker.a
 	@tools/build gcflip_c
 	@$(MAKE) --no-print-directory -C bindings/c checker
@@ -31,4 +35,4 @@ explore: ## shows a collection in a web page; builds the libraries first if bind
 	@test -n "$$GCFLIP_LIBRARY" || test -e bindings/c/out/libgcflip.so || $(MAKE) --no-print-directory libraries
 	@cd bindings/python && python3 -m gcflip.explore
 
-.PHONY: list run test prove libraries checker dist explore
+.PHONY: list run test prove libraries beside checker dist explore

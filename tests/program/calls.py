@@ -86,8 +86,8 @@ def memory_answers(_program, _folder):
         yield what, None if found == wanted and found else "told %s, tried %s" % (sorted(found - wanted), sorted(wanted - found))
 
 
-# A call with the answer that a program expects, as in CALL == ANSWER or EXPECT(CALL, ANSWER), or two that depend on a condition.
-EXPECTED = re.compile(r"\b(gcflip_\w+)\(((?:[^()]|\((?:[^()]|\([^()]*\))*\))*)\)\s*(?:==|,)\s*(?:[\w>. ]+ \? )?(GCFLIP_\w+)(?: : (GCFLIP_\w+))?")
+# A call with the answer that a program expects, which is no call of the heap with a collector's thread, as in CALL == ANSWER or EXPECT(CALL, ANSWER), or two that depend on a condition.
+EXPECTED = re.compile(r"\b(gcflip_(?!beside_|thread_)\w+)\(((?:[^()]|\((?:[^()]|\([^()]*\))*\))*)\)\s*(?:==|,)\s*(?:[\w>. ]+ \? )?(GCFLIP_\w+)(?: : (GCFLIP_\w+))?")
 # Answers that a program names and no row has, since they are proved never to occur.
 NEVER_THERE = {("gcflip_heap_step_flip", "FLIP_REFUSED")}
 # Answers of calls on a heap that these programs expect in another form: of any step, of all calls by turns, or by a variable.

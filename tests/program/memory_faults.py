@@ -30,7 +30,9 @@ BY_FROM, BY_ARM, BY_HAND = "From", "arm", "by hand"
 # Numbers that calls of the libraries for C return if they did nothing.
 NAMED_ANSWERS = ("NO_MEMORY", "OUT_OF_RANGE", "CLOSED", "OPEN", "TOO_LARGE", "BAD_LINE", "ENDS_EARLY")
 # Functions of these libraries whose contract says which number they return. None of them returns that of a fault.
-EXACT = ("of_reply", "of_step", "seen", "gcflip_room")
+EXACT = ("of_reply", "of_step", "seen", "gcflip_room", "gcflip_beside_room")
+# Those that pass on the number that a function of their own file made beside the next stage. What that writes is looked at as elsewhere.
+PASSED_ON = ("gcflip_beside_safepoint", "gcflip_beside_resume", "gcflip_beside_ask", "gcflip_beside_take", "gcflip_beside_go", "gcflip_beside_flip", "gcflip_beside_finish")
 # Crates of tests alone.
 TESTS = ("gc_test_kit", "gc_tests", "gc_concurrent_tests", "gc_shared_tests", "gc_trace_tests", "allocation_failures")
 
@@ -54,6 +56,10 @@ PLACES = {
     "gcflip_heap_c/src/room.rt": {("answer_of", BY_HAND): 1, ("remember_unless_starved", BY_HAND): 1},
     "gcflip_heap_c/src/work.rt": {("of_work", BY_ARM): 1},
     "gcflip_heap_c/src/checking.rt": {("gcflip_heap_check", BY_ARM): 1},
+    "gc_in_c/src/reply.rt": {("of_result", BY_ARM): 1},
+    "gcflip_beside_c/src/commands.rt": {("gcflip_beside_get", BY_ARM): 1, ("gcflip_beside_look", BY_ARM): 1},
+    "gcflip_beside_c/src/opening.rt": {("gcflip_beside_open", BY_ARM): 1},
+    "gcflip_beside_c/src/collecting.rt": {("why", BY_ARM): 1},
     "gc_copy/src/log.rt": {("add_segment", BY_HAND): 1},
     "gc_collected/src/checking.rt": {("found_by", BY_ARM): 1},
     "gc_concurrent/src/beside.rt": {("mutate_and_stop", BY_HAND): 1},
@@ -209,8 +215,8 @@ def numbers_in(code):
     """Yields the numbers without a name that a call of the libraries for C returns, and each function that may answer for one: it returns a number that
     has a name, or 32 bits and no contract says which."""
     for keyword, first, opened, end in code.heads:
-        is_answer = code.text(first, opened).endswith("-> u32") and code.tokens[first + 1] not in EXACT
-        if keyword == "fn" and (is_answer or any(token in NAMED_ANSWERS for token in code.tokens[opened:end])):
+        is_answer = code.text(first, opened).endswith("-> u32") and code.tokens[first + 1] not in EXACT + PASSED_ON
+        if keyword == "fn" and code.tokens[first + 1] not in PASSED_ON and (is_answer or any(token in NAMED_ANSWERS for token in code.tokens[opened:end])):
             for at in range(opened, end):
                 before, token, behind = code.tokens[at - 1:at + 2]
                 if token in (*NAMED_ANSWERS, "DONE") and ({before, behind} & set("+-*/%^|&") or behind == "as"):
@@ -261,7 +267,7 @@ def places(_program, _folder):
             seen.add(shown)
             wrong = [place.why for place in found if place.why and (shown, place.function) not in BY_HAND_REASONS]
             wrong += list(differences(shown, counted(found), listed)) + list(disguises_in(code))
-            wrong += list(numbers_in(code)) if crate in ("gcflip_c", "gcflip_heap_c") else []
+            wrong += list(numbers_in(code)) if crate in ("gcflip_c", "gcflip_heap_c", "gcflip_beside_c") else []
             yield "faults of %s" % shown, ", ".join(wrong) or None
     gone = sorted(set(PLACES) - seen)
     yield "files of the list", "there is no %s" % ", ".join(gone) if gone else None

@@ -11,7 +11,7 @@ from .definitions import NAME, files_below, imports_in, resolve
 from .functions import contract_of, items_of
 
 # The products, and the crates whose exported functions each one offers.
-PRODUCTS = {"gcflip_c": ["gcflip_c"], "gcflip_heap_c": ["gcflip_heap_c"], "gc_world": ["gc_world", "gc_shared"], "gcflip": ["gcflip"]}
+PRODUCTS = {"gcflip_c": ["gcflip_c"], "gcflip_heap_c": ["gcflip_heap_c"], "gcflip_beside_c": ["gcflip_beside_c"], "gc_world": ["gc_world", "gc_shared"], "gcflip": ["gcflip"]}
 PUBLIC = re.compile(r"\s*pub (?:const |unsafe |extern \"C\" )*fn ")
 TYPE = re.compile(r"(?m)^(?:pub(?:\([^)]*\))? )?(struct|enum|union|trait) (\w+).*")
 FIELD = re.compile(r"(?m)^ *(?:pub(?:\([^)]*\))? )?(\w+): (?!\{)(.*)")

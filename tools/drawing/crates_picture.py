@@ -20,7 +20,7 @@ GROUPS = {
     "crate-mechanism": ("the mechanism", ["gc_copy"]),
     "crate-checkers": ("checkers", ["gc_cert", "gc_check", "gc_par", "gc_along", "gc_generations"]),
     "crate-heap": ("collected heaps", ["gc_roots", "gc_collected", "gc_pace", "gc_concurrent"]),
-    "crate-c": ("for C", ["gcflip_c", "gcflip_heap_c"]),
+    "crate-c": ("for C", ["gc_in_c", "gcflip_c", "gcflip_heap_c", "gcflip_beside_c"]),
     "crate-recording": ("the recording", ["gc_world", "gc_shared"]),
     "crate-program": ("traces and the program", ["gc_trace", "gcflip"]),
     "crate-tests": ("only tests", ["gc_test_kit", "gc_tests", "gc_concurrent_tests", "gc_shared_tests", "gc_trace_tests", "allocation_failures"]),

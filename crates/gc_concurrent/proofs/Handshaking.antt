@@ -222,14 +222,15 @@ stopped_only P handed handshake g k homes n p f h = let c = f.3 in h f.0 f.1 c.0
 stopped_only P taken handshake g k homes n p f h = absurd (let a = f.2 in omega arith)
 stopped_only P finished handshake g k homes n p f h = absurd (let a = f.2 in omega arith)
 
+-- the collector's end knows the keeper
+keeper_of : (s : GSt) (r : IsHandshake s) (id : ℕ) (v : HandshakeKnown) → get_elem? s.views id ≡ some v → v.keeps ≡ true → v.keeper ≡ r.keeper
+keeper_of s r id v here mine = ((r.seats id v here).1 mine).1
+
 pub withdraws_rule : (slots id : ℕ) (v : HandshakeKnown) → v.keeps ≡ true → v.keeper.phase ≡ 1 → Allows IsHandshake slots id (v, []) 0 (λ g. either (eqb g 1) 0 g) (tells_withdraw (step slots 0 1 0 none) (v, []))
 withdraws_rule slots id v keeps' phase s r _ here _ =
-    let own = (r.seats id v here).1 keeps' in
-    let to : v.keeper ≡ r.keeper = own.1 in
-    let phase' : r.keeper.phase ≡ 1 = ap (λ (k : Keeper). k.phase) (sym to) ∙ phase in
+    let to = keeper_of s r id v here keeps' in
     let me : HandshakeSat = (v, []) in
     let handshake : ℕ = get_or s.words 0 0 in
-    let room = r.room in
     let F : ℕ → Type 0 = λ z. (w : HandshakeKnown) × (a : Act (Option Commander)) × Valid s.homes me.1 a × IsHandshake (stepped s 0 z id me.1 w a) × tells_withdraw (step slots 0 1 0 none) me handshake (w, carried_after me.1 a) in
     exchanged handshake 1 0 F
     (λ e. asked_only (F 0) r.stage handshake r.goer r.keeper s.homes e r.fits
@@ -241,12 +242,12 @@ withdraws_rule slots id v keeps' phase s r _ here _ =
           (keeps_set r.goes_at r.keeps_at id r.goer r.keeper (in_phase 0 v).keeper s.views v here keeps' r.seats),
       ((λ _. refl), λ ne. absurd (ne e)),
     )))
-    (λ ne. stopped_only (F handshake) r.stage handshake r.goer r.keeper s.homes ne phase' r.fits
+    (λ ne. stopped_only (F handshake) r.stage handshake r.goer r.keeper s.homes ne (subst (λ (k : Keeper). k.phase ≡ 1) to phase) r.fits
     (λ two waits c home left row. (
       took_it c v,
       takes 0 (Some c),
       home,
-      kept s r handshake (set s.homes 0 none) (set s.views id (took_it c v)) r.goer (took_it c v).keeper taken (length-set s.homes 0 none ∙ room) (two, waits, refl, left)
+      kept s r handshake (set s.homes 0 none) (set s.views id (took_it c v)) r.goer (took_it c v).keeper taken (length-set s.homes 0 none ∙ r.room) (two, waits, refl, left)
           (keeps_set r.goes_at r.keeps_at id r.goer r.keeper (took_it c v).keeper s.views v here keeps' r.seats),
       ((λ e. absurd (ne e)), λ _. (c, row ∙ ap (λ (k : Keeper). k.row) (sym to), refl)),
     )))

@@ -1,0 +1,148 @@
+/* A heap of objects whose collector works in another thread, without a lock: one mutator, and a collector that copies the objects beside it.
+ * Every flip has to pass the checker.
+ *
+ * A safepoint is a call. A program that makes none is never stopped, and then no collection ends.
+ *
+ * A heap has two handles, one for each end. Each is used by one thread at a time, and the two threads may call at the same time. No call of this
+ * header waits or starts a thread. gcflip_thread.h starts the collector's thread and waits, for programs that want no loops of their own.
+ *
+ * Before its first use a handle has no end, so the program initializes it with GCFLIP_NO_END, or sets its `at` to NULL. gcflip_beside_open gives both
+ * handles their ends, and each has a close of its own. Every call returns a number of gcflip_answers.h or of this header: the reply, or the reason why
+ * the call was refused. A refused command changes nothing, neither the heap nor its output arguments. gcflip_beside_room alone returns a count.
+ *
+ * The promise, proved for the code behind these calls:
+ * - each command gets the reply of a heap without a collector, whatever the collector's thread does. Only an allocation may find the heap full;
+ * - after a safepoint the mutator goes on in the same heap, or in one whose objects correspond to those of the old one;
+ * - a flip happens only if its certificate holds, and no flip is refused by the checker;
+ * - nothing is proved of time: that a thread gets on is tested.
+ *
+ * What the caller owes, since nothing checks C code:
+ * - no pointer is NULL, no two pointers of a call overlap, and the memory behind each is initialized;
+ * - a handle is not copied, and only these calls write it. It may be moved in memory, and may go to another thread. A lock, or the start or join of a
+ *   thread, orders the uses;
+ * - no call is made from a signal handler, or in the forked child of a process with threads. */
+#ifndef GCFLIP_BESIDE_H
+#define GCFLIP_BESIDE_H
+
+#include "gcflip_answers.h"
+#include "gcflip_heap.h"
+
+#include <stdint.h>
+
+#ifdef __cplusplus
+extern "C" {
+#endif
+
+/* The mutator's end. */
+typedef struct gcflip_mutator {
+    void *at; /* the address of the end; NULL in a handle without one */
+} gcflip_mutator;
+
+/* The collector's end. */
+typedef struct gcflip_collector {
+    void *at; /* the address of the end; NULL in a handle without one */
+} gcflip_collector;
+
+#define GCFLIP_NO_END {NULL}
+
+/* The answers that only these calls return. After both, nothing has changed. */
+enum gcflip_beside_answer {
+    GCFLIP_PARKED = 12, /* the mutator has stopped at a safepoint, and its collector has not let it go on */
+    GCFLIP_NOT_YET = 13 /* the other end is not so far: call again later */
+};
+
+/* The number of roots. Each is named by its place, 0 to 31. */
+#define GCFLIP_BESIDE_ROOTS 32u
+
+/* ---- Opening and closing */
+
+/* Opens an empty heap of `size` words, at least 1, and begins a collection: GCFLIP_DONE, or GCFLIP_OPEN if a handle has an end already. All roots hold
+ * nil. GCFLIP_NO_MEMORY if an allocation fails. The new space of each collection has as many words as the heap. */
+uint32_t gcflip_beside_open(gcflip_mutator *mutator, gcflip_collector *collector, uint32_t size);
+
+/* Drops the mutator with its objects: GCFLIP_DONE. The collector's handle can still be used and closed. The last of both closes frees the heap. */
+uint32_t gcflip_beside_close_mutator(gcflip_mutator *mutator);
+
+/* Drops the collector: GCFLIP_DONE. A mutator that has stopped may go on with all its objects, and is never asked again. The last of both closes
+ * frees the heap. */
+uint32_t gcflip_beside_close_collector(gcflip_collector *collector);
+
+/* ---- Commands, by the mutator's thread
+ *
+ * Each returns GCFLIP_PARKED while the mutator has stopped. A place of 32 or more is out of range. A kind is 0 to 255, and a count 0 to 65535. Fields are
+ * counted from 0, and a number is below 2^63. */
+
+/* Makes an object with `count` fields, all nil, and puts a reference to it into root d: GCFLIP_MADE or GCFLIP_FULL. The object takes count + 2
+ * words. After GCFLIP_FULL, a flip may make room. */
+uint32_t gcflip_beside_new(gcflip_mutator *mutator, uint32_t d, uint32_t kind, uint32_t count);
+
+/* Makes a raw object with `count` fields, and puts a reference to it into root d: GCFLIP_MADE or GCFLIP_FULL. Its fields are plain numbers, all 0. */
+uint32_t gcflip_beside_new_raw(gcflip_mutator *mutator, uint32_t d, uint32_t kind, uint32_t count);
+
+/* Puts the number n into root d: GCFLIP_DONE. */
+uint32_t gcflip_beside_set_number(gcflip_mutator *mutator, uint32_t d, uint64_t n);
+
+/* Puts nil into root d: GCFLIP_DONE. */
+uint32_t gcflip_beside_set_nil(gcflip_mutator *mutator, uint32_t d);
+
+/* Copies the value of root s into root d: GCFLIP_DONE. */
+uint32_t gcflip_beside_copy(gcflip_mutator *mutator, uint32_t d, uint32_t s);
+
+/* Reads field i of the object that root s refers to into root d. Returns what it saw, GCFLIP_NIL, GCFLIP_NUMBER or GCFLIP_OBJECT, or else
+ * GCFLIP_NO_OBJECT or GCFLIP_NO_FIELD. Writes `number` only if it saw a number. */
+uint32_t gcflip_beside_get(gcflip_mutator *mutator, uint32_t d, uint32_t s, uint32_t i, uint64_t *number);
+
+/* Writes the value of root t into field i of the object that root s refers to: GCFLIP_DONE, GCFLIP_NO_OBJECT, GCFLIP_NO_FIELD or GCFLIP_NO_NUMBER.
+ * Logs the field, so it returns GCFLIP_NO_MEMORY if the log cannot grow. The log is emptied when the collector takes the mutator. */
+uint32_t gcflip_beside_put(gcflip_mutator *mutator, uint32_t s, uint32_t i, uint32_t t);
+
+/* Compares the values of roots s and t: GCFLIP_SAME or GCFLIP_NOT_SAME. */
+uint32_t gcflip_beside_same(gcflip_mutator *mutator, uint32_t s, uint32_t t);
+
+/* Looks at the value of root s: GCFLIP_NIL, GCFLIP_NUMBER, GCFLIP_OBJECT or GCFLIP_RAW_OBJECT. Writes what it saw to `view`. */
+uint32_t gcflip_beside_look(gcflip_mutator *mutator, uint32_t s, gcflip_view *view);
+
+/* Returns the number of free words, which is 0 while the mutator has stopped, and if the handle has no mutator. */
+uint32_t gcflip_beside_room(const gcflip_mutator *mutator);
+
+/* ---- Safepoints, by the mutator's thread */
+
+/* Stops the mutator if the collector asks for it: GCFLIP_DONE if it runs on, which takes one load, or GCFLIP_PARKED if it has stopped. */
+uint32_t gcflip_beside_safepoint(gcflip_mutator *mutator);
+
+/* Lets a mutator that has stopped go on: GCFLIP_DONE if it runs, or GCFLIP_NOT_YET while its collector has not let it. */
+uint32_t gcflip_beside_resume(gcflip_mutator *mutator);
+
+/* ---- The collector, by the collector's thread
+ *
+ * A collection is always open, and the next one begins at each flip. Its steps bring replicas up to date with the originals, beside the mutator or
+ * while the collector holds it. To flip, the collector asks the mutator to stop, takes it, and lets it go on in the new space. */
+
+/* Performs `most` steps, at least 1: GCFLIP_DONE, or GCFLIP_CLEAN once nothing is left to do. GCFLIP_NO_ROOM never comes, because the new space is as
+ * large as the heap. */
+uint32_t gcflip_beside_work(gcflip_collector *collector, uint32_t most);
+
+/* Asks the mutator to stop at its next safepoint: GCFLIP_DONE, also if it is asked or held already. GCFLIP_NOT_YET if it has not gone on since it was
+ * let go. */
+uint32_t gcflip_beside_ask(gcflip_collector *collector);
+
+/* Takes the mutator with its log: GCFLIP_DONE if the collector holds it. GCFLIP_NOT_YET if the mutator has not been asked or has not stopped, or if
+ * steps are left. */
+uint32_t gcflip_beside_take(gcflip_collector *collector);
+
+/* Asks no longer, and lets a mutator that has stopped go on in the same space: GCFLIP_DONE. The collection stays open, and no work is lost. */
+uint32_t gcflip_beside_go(gcflip_collector *collector);
+
+/* Flips if the collection is ready: GCFLIP_FLIPPED. The mutator may then go on in the new space. GCFLIP_NOT_READY if steps are left; a root's object
+ * without a replica gets one by the next steps. GCFLIP_NOT_YET if the collector does not hold the mutator. The checker goes through both spaces whole,
+ * while the mutator waits. After GCFLIP_NO_MEMORY the collector still holds the mutator, whose heap is unchanged. */
+uint32_t gcflip_beside_flip(gcflip_collector *collector);
+
+/* Performs all steps that are left, and flips, while the mutator waits: GCFLIP_FLIPPED. GCFLIP_NOT_YET if the collector does not hold the mutator. After
+ * GCFLIP_NO_MEMORY some steps may have been performed. The collector still holds the mutator, whose heap is unchanged. */
+uint32_t gcflip_beside_finish(gcflip_collector *collector);
+
+#ifdef __cplusplus
+}
+#endif
+#endif

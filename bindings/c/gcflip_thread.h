@@ -1,0 +1,51 @@
+/* A heap of gcflip_beside.h whose collector runs in a thread of its own, which sleeps until a collection is due. gcflip_thread.c is not proved: it is a
+ * loop around the proved calls, with POSIX threads, one lock and two condition variables.
+ *
+ * All calls are made by one thread, the mutator's. It performs the commands of gcflip_beside.h on gcflip_thread_mutator, and makes safepoints by
+ * gcflip_thread_safepoint. A program that makes none is never stopped, and then no collection ends. */
+#ifndef GCFLIP_THREAD_H
+#define GCFLIP_THREAD_H
+
+#include "gcflip_beside.h"
+
+#include <stdint.h>
+
+#ifdef __cplusplus
+extern "C" {
+#endif
+
+typedef struct gcflip_thread gcflip_thread;
+
+/* What has happened since the heap was opened. Times are in nanoseconds of the monotonic clock. */
+typedef struct gcflip_thread_counts {
+    uint64_t flips;        /* the flips that were made */
+    uint64_t failed;       /* the flips for which memory ran out */
+    uint64_t stops;        /* the safepoints at which the mutator stopped */
+    uint64_t waited;       /* the time that the mutator waited at safepoints, together */
+    uint64_t longest_wait; /* the longest wait of a safepoint */
+} gcflip_thread_counts;
+
+/* Opens a heap of `size` words, at least 1, and starts its collector's thread: GCFLIP_DONE. A collection is due once `words` words were allocated since
+ * the last flip. If an allocation or the start of the thread fails, it returns GCFLIP_NO_MEMORY and writes NULL. */
+uint32_t gcflip_thread_open(gcflip_thread **thread, uint32_t size, uint32_t words);
+
+/* Returns the handle for commands. Safepoints are made by gcflip_thread_safepoint alone. */
+gcflip_mutator *gcflip_thread_mutator(gcflip_thread *thread);
+
+/* A safepoint: wakes the collector if a collection is due. If the collector asks for it, stops, and waits until the mutator may go on: GCFLIP_DONE. */
+uint32_t gcflip_thread_safepoint(gcflip_thread *thread);
+
+/* Wakes the collector, and waits for its next flip: GCFLIP_FLIPPED, or GCFLIP_NO_MEMORY if the flip was not made. A program calls it after
+ * GCFLIP_FULL. */
+uint32_t gcflip_thread_collect(gcflip_thread *thread);
+
+/* Reads what has happened. */
+void gcflip_thread_read(gcflip_thread *thread, gcflip_thread_counts *counts);
+
+/* Ends the thread, and frees the heap. */
+void gcflip_thread_close(gcflip_thread *thread);
+
+#ifdef __cplusplus
+}
+#endif
+#endif

@@ -1,0 +1,13 @@
+//! What the libraries for C share: the numbers of answers and replies, what a look writes, and boxes taken apart for handles.
+#![tactic(auto)]
+
+mod answer;
+mod parts;
+mod reply;
+
+pub use answer::{
+    CLOSED, DONE, FLIPPED, NIL, NO_FIELD, NO_MEMORY, NO_OBJECT, NO_ROOM, NUMBER, OBJECT, OPEN,
+    OUT_OF_RANGE,
+};
+pub use parts::Parts;
+pub use reply::{GcflipView, of_look, of_reply, of_result};

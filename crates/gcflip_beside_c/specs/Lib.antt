@@ -1,0 +1,8 @@
+pub mod Answers
+pub mod Commands
+pub mod Handle
+pub mod Internal
+pub mod Opening
+pub mod Roots
+pub mod Stages
+pub mod Standing

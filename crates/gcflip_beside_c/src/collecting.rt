@@ -1,0 +1,204 @@
+//! The exports of the collector's end. None of them waits.
+
+ghost use Rattle.std.specs.Prelude.{◌≡◌, ◌≢◌};
+ghost use Rattle.gcflip_beside_c.specs.Internal.Stepping.{StepsOn, why_in_c};
+ghost use Rattle.gcflip_beside_c.specs.Stages.{Asks, TakesMutator, Goes, FlipsHeld, FinishesHeld, IsCertifiedPair, HasWorked, IsBesideWork};
+ghost use Rattle.gcflip_beside_c.specs.Standing.{standing, standing_of, IsCollector};
+
+use crate::answer::{
+    CLEAN, CLOSED, DONE, FLIPPED, NO_MEMORY, NO_ROOM, NOT_READY, NOT_YET, OUT_OF_RANGE,
+};
+use crate::end::End;
+use crate::guards::lent;
+use crate::handle::GcflipEnd;
+use gc_check::{Checks, Sequential};
+use gc_concurrent::{NoFlip, Work};
+use std::alloc::Global;
+use std::mem::replace;
+
+// Performs one step.
+fn step(end: &mut End) -> Work
+    requires { IsCollector (standing_of end.old) }
+    ensures { StepsOn result (standing_of end.old) (standing_of end.new) }
+{
+    match end {
+        End::Working(collector) => collector.work(),
+        End::Asking(asking) => asking.work(),
+        End::Holding(holding) => holding.work(),
+        _ => unreachable!(),
+    }
+}
+
+// Performs at most so many steps.
+#[tactic(auto, using(crate::proofs::Stepping::collector_still, crate::proofs::Stepping::holding_still))]
+fn steps(end: &mut End, most: u32) -> u32
+    requires { IsCollector (standing_of end.old) }
+    ensures { HasWorked most (standing_of end.old) (standing_of end.new) result }
+{
+    for k in 0..most {
+        match step(end) {
+            Work::Step => {}
+            Work::Done => return CLEAN,
+            Work::NoRoom => return NO_ROOM,
+        }
+    }
+    DONE
+}
+
+/// Performs `most` steps, or fewer if nothing is left to do. Returns 0 if it performed all of them, and 35 if nothing is left. Returns 3 if the handle has
+/// no collector, and 2 if `most` is 0.
+#[unsafe(no_mangle)]
+pub extern "C" fn gcflip_beside_work(collector: &mut GcflipEnd, most: u32) -> u32
+    ensures { IsBesideWork most (standing collector.old.end) (standing collector.new.end) result }
+{
+    let end = lent!(collector);
+    if !end.is_collector() {
+        return CLOSED;
+    }
+    if most == 0 {
+        return OUT_OF_RANGE;
+    }
+    steps(end, most)
+}
+
+fn asked(end: End) -> (End, u32)
+    ensures { Asks (standing_of end) (standing_of result.0) result.1 }
+{
+    match end {
+        End::Working(collector) => match collector.ask() {
+            Ok(asking) => (End::Asking(asking), DONE),
+            Err(collector) => (End::Working(collector), NOT_YET),
+        },
+        End::Asking(asking) => (End::Asking(asking), DONE),
+        End::Holding(holding) => (End::Holding(holding), DONE),
+        other => (other, CLOSED),
+    }
+}
+
+/// Asks the mutator to stop at its next safepoint. Returns 0 if it is asked or has stopped, 13 if it has not gone on since the last time, and 3 if the
+/// handle has no collector.
+#[unsafe(no_mangle)]
+pub extern "C" fn gcflip_beside_ask(collector: &mut GcflipEnd) -> u32
+    ensures { Asks (standing collector.old.end) (standing collector.new.end) result }
+{
+    let end = lent!(collector);
+    let (next, answer) = asked(replace(end, End::Nothing));
+    *end = next;
+    answer
+}
+
+fn taken(end: End) -> (End, u32)
+    ensures { TakesMutator (standing_of end) (standing_of result.0) result.1 }
+{
+    match end {
+        End::Working(collector) => (End::Working(collector), NOT_YET),
+        End::Asking(asking) => match asking.take() {
+            Ok(holding) => (End::Holding(holding), DONE),
+            Err(asking) => (End::Asking(asking), NOT_YET),
+        },
+        End::Holding(holding) => (End::Holding(holding), DONE),
+        other => (other, CLOSED),
+    }
+}
+
+/// TakesMutator the mutator with its log, if it has stopped and no step is left. Returns 0 if the collector holds it, 13 if not yet, and 3 if the handle has no
+/// collector.
+#[unsafe(no_mangle)]
+pub extern "C" fn gcflip_beside_take(collector: &mut GcflipEnd) -> u32
+    ensures { TakesMutator (standing collector.old.end) (standing collector.new.end) result }
+{
+    let end = lent!(collector);
+    let (next, answer) = taken(replace(end, End::Nothing));
+    *end = next;
+    answer
+}
+
+fn gone(end: End) -> (End, u32)
+    ensures { Goes (standing_of end) (standing_of result.0) result.1 }
+{
+    match end {
+        End::Working(collector) => (End::Working(collector), DONE),
+        End::Asking(asking) => (End::Working(asking.withdraw()), DONE),
+        End::Holding(holding) => (End::Working(holding.go()), DONE),
+        other => (other, CLOSED),
+    }
+}
+
+/// Asks no longer, and lets a mutator that has stopped go on in the same space. The collection stays open. Returns 0, or 3 if the handle has no collector.
+#[unsafe(no_mangle)]
+pub extern "C" fn gcflip_beside_go(collector: &mut GcflipEnd) -> u32
+    ensures { Goes (standing collector.old.end) (standing collector.new.end) result }
+{
+    let end = lent!(collector);
+    let (next, answer) = gone(replace(end, End::Nothing));
+    *end = next;
+    answer
+}
+
+// The number for a flip that was not made.
+fn why(refused: NoFlip) -> u32
+    requires { refused ≢ NoFlip.Refused }
+    ensures { result ≡ why_in_c refused }
+{
+    match refused {
+        NoFlip::NotReady => NOT_READY,
+        NoFlip::NoMemory => NO_MEMORY,
+        NoFlip::Refused => unreachable!(),
+    }
+}
+
+fn flipped<C: Checks>(alloc: Global, checker: &C, end: End) -> (End, u32)
+    requires { C.can_check checker.now }
+    ensures { FlipsHeld (C.says_yes checker.now) (standing_of end) (standing_of result.0) result.1 }
+{
+    match end {
+        End::Working(collector) => (End::Working(collector), NOT_YET),
+        End::Asking(asking) => (End::Asking(asking), NOT_YET),
+        End::Holding(holding) => match holding.flip(alloc, checker) {
+            Ok(collector) => (End::Working(collector), FLIPPED),
+            Err(refused) => (End::Holding(refused.holding), why(refused.why)),
+        },
+        other => (other, CLOSED),
+    }
+}
+
+/// FlipsHeld if the collection is ready: the mutator that the collector holds may go on in the new space, and the next collection begins. The flip is made only
+/// if the checker accepts both spaces whole. Returns 43 if it flipped, and 41 if something is left to do; a root's target without a replica is then wanted.
+/// Returns 13 if the collector does not hold the mutator, 3 if the handle has no collector, and 1 if an allocation fails. If it does not flip, the
+/// mutator's heap is unchanged, and the collector still holds it.
+#[unsafe(no_mangle)]
+pub extern "C" fn gcflip_beside_flip(alloc: Global, collector: &mut GcflipEnd) -> u32
+    ensures { FlipsHeld IsCertifiedPair (standing collector.old.end) (standing collector.new.end) result }
+{
+    let end = lent!(collector);
+    let (next, answer) = flipped(alloc, &Sequential, replace(end, End::Nothing));
+    *end = next;
+    answer
+}
+
+fn finished<C: Checks>(alloc: Global, checker: &C, end: End) -> (End, u32)
+    requires { C.can_check checker.now }
+    ensures { FinishesHeld (C.says_yes checker.now) (standing_of end) (standing_of result.0) result.1 }
+{
+    match end {
+        End::Working(collector) => (End::Working(collector), NOT_YET),
+        End::Asking(asking) => (End::Asking(asking), NOT_YET),
+        End::Holding(holding) => match holding.finish(alloc, checker) {
+            Ok(collector) => (End::Working(collector), FLIPPED),
+            Err(refused) => (End::Holding(refused.holding), why(refused.why)),
+        },
+        other => (other, CLOSED),
+    }
+}
+
+/// Performs all steps that are left, and flips. Returns 43 if it flipped, 13 if the collector does not hold the mutator, and 3 if the handle has no
+/// collector. Returns 1 if an allocation fails. The mutator's heap is then unchanged, and the collector still holds it.
+#[unsafe(no_mangle)]
+pub extern "C" fn gcflip_beside_finish(alloc: Global, collector: &mut GcflipEnd) -> u32
+    ensures { FinishesHeld IsCertifiedPair (standing collector.old.end) (standing collector.new.end) result }
+{
+    let end = lent!(collector);
+    let (next, answer) = finished(alloc, &Sequential, replace(end, End::Nothing));
+    *end = next;
+    answer
+}

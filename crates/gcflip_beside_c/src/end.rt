@@ -1,0 +1,47 @@
+//! One end of a heap, at each of its stages.
+
+ghost use Rattle.std.specs.Prelude.{MatchBool};
+ghost use Rattle.gcflip_beside_c.specs.Standing.{standing_of, IsRunning, IsParked, IsMutator, IsCollector};
+
+use gc_concurrent::{Asking, Collector, Holding, Runner, Waiting};
+
+/// The mutator's end or the collector's. `Nothing` stands in its place while a call leads it from one stage to another.
+#[derive(Drop)]
+pub enum End {
+    Nothing,
+    Running(Runner),
+    Parked(Waiting),
+    Working(Collector),
+    Asking(Asking),
+    Holding(Holding),
+}
+
+impl End {
+    /// Returns whether this is a mutator that runs.
+    pub(crate) fn is_running(&self) -> bool
+        ensures { MatchBool result (IsRunning (standing_of self.now)) (¬ IsRunning (standing_of self.now)) }
+    {
+        matches!(self, End::Running(_))
+    }
+
+    /// Returns whether this is a mutator that has stopped.
+    pub(crate) fn is_parked(&self) -> bool
+        ensures { MatchBool result (IsParked (standing_of self.now)) (¬ IsParked (standing_of self.now)) }
+    {
+        matches!(self, End::Parked(_))
+    }
+
+    /// Returns whether this is a mutator.
+    pub(crate) fn is_mutator(&self) -> bool
+        ensures { MatchBool result (IsMutator (standing_of self.now)) (¬ IsMutator (standing_of self.now)) }
+    {
+        matches!(self, End::Running(_) | End::Parked(_))
+    }
+
+    /// Returns whether this is a collector.
+    pub(crate) fn is_collector(&self) -> bool
+        ensures { MatchBool result (IsCollector (standing_of self.now)) (¬ IsCollector (standing_of self.now)) }
+    {
+        matches!(self, End::Working(_) | End::Asking(_) | End::Holding(_))
+    }
+}

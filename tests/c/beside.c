@@ -1,0 +1,404 @@
+/* Each answer of the calls of gcflip_beside.h, in one thread that has both ends; a close in each order and at each stage; and each allocation refused in
+   turn. Links its own allocation functions instead of the library's. */
+#include "expect.h"
+#include "gcflip_beside.h"
+#include "own_allocator.h"
+#include <stdbool.h>
+
+enum { WORDS = 256, MANY = 100000 };
+
+#define KEPT 0x5a5a5a5a5a5a5a5aull
+#define KEPT_32 0x5a5a5a5au
+
+static gcflip_mutator mutator = GCFLIP_NO_END;
+static gcflip_collector collector = GCFLIP_NO_END;
+static uint64_t number;
+static gcflip_view view;
+
+static void open_both(uint32_t words)
+{
+    fail_allocation(0);
+    EXPECT(gcflip_beside_open(&mutator, &collector, words) == GCFLIP_DONE);
+}
+
+static void close_both(void)
+{
+    EXPECT(gcflip_beside_close_mutator(&mutator) == GCFLIP_DONE);
+    EXPECT(gcflip_beside_close_collector(&collector) == GCFLIP_DONE);
+    EXPECT(blocks_in_use() == 0);
+}
+
+/* An object of kind 1 in root 0, whose field 1 has the number 7. */
+static void make_one(void)
+{
+    EXPECT(gcflip_beside_new(&mutator, 0, 1, 2) == GCFLIP_MADE);
+    EXPECT(gcflip_beside_set_number(&mutator, 1, 7) == GCFLIP_DONE);
+    EXPECT(gcflip_beside_put(&mutator, 0, 1, 1) == GCFLIP_DONE);
+}
+
+static void expect_one(void)
+{
+    EXPECT(gcflip_beside_get(&mutator, 2, 0, 1, &number) == GCFLIP_NUMBER && number == 7);
+    EXPECT(gcflip_beside_look(&mutator, 0, &view) == GCFLIP_OBJECT && view.kind == 1 && view.count == 2 && view.number == 0);
+}
+
+/* Lets the collector take the mutator. */
+static void take(void)
+{
+    EXPECT(gcflip_beside_ask(&collector) == GCFLIP_DONE);
+    EXPECT(gcflip_beside_safepoint(&mutator) == GCFLIP_PARKED);
+    EXPECT(gcflip_beside_work(&collector, MANY) == GCFLIP_CLEAN);
+    EXPECT(gcflip_beside_take(&collector) == GCFLIP_DONE);
+}
+
+/* Every command returns this answer, and changes none of its outputs. */
+static void expect_refused(uint32_t answer)
+{
+    number = KEPT;
+    view = (gcflip_view){KEPT_32, KEPT_32, KEPT};
+    EXPECT(gcflip_beside_new(&mutator, 0, 1, 2) == answer);
+    EXPECT(gcflip_beside_new_raw(&mutator, 0, 1, 2) == answer);
+    EXPECT(gcflip_beside_set_number(&mutator, 0, 1) == answer);
+    EXPECT(gcflip_beside_set_nil(&mutator, 0) == answer);
+    EXPECT(gcflip_beside_copy(&mutator, 0, 1) == answer);
+    EXPECT(gcflip_beside_get(&mutator, 0, 1, 0, &number) == answer);
+    EXPECT(gcflip_beside_put(&mutator, 0, 0, 1) == answer);
+    EXPECT(gcflip_beside_same(&mutator, 0, 1) == answer);
+    EXPECT(gcflip_beside_look(&mutator, 0, &view) == answer);
+    /* also where an argument is out of range */
+    EXPECT(gcflip_beside_set_nil(&mutator, 32) == answer);
+    EXPECT(gcflip_beside_room(&mutator) == 0);
+    EXPECT(number == KEPT && view.kind == KEPT_32 && view.count == KEPT_32 && view.number == KEPT);
+}
+
+static void closed_handles(void)
+{
+    expect_refused(GCFLIP_CLOSED);
+    EXPECT(gcflip_beside_safepoint(&mutator) == GCFLIP_CLOSED);
+    EXPECT(gcflip_beside_resume(&mutator) == GCFLIP_CLOSED);
+    EXPECT(gcflip_beside_close_mutator(&mutator) == GCFLIP_CLOSED);
+    EXPECT(gcflip_beside_work(&collector, 1) == GCFLIP_CLOSED);
+    EXPECT(gcflip_beside_work(&collector, 0) == GCFLIP_CLOSED);
+    EXPECT(gcflip_beside_ask(&collector) == GCFLIP_CLOSED);
+    EXPECT(gcflip_beside_take(&collector) == GCFLIP_CLOSED);
+    EXPECT(gcflip_beside_go(&collector) == GCFLIP_CLOSED);
+    EXPECT(gcflip_beside_flip(&collector) == GCFLIP_CLOSED);
+    EXPECT(gcflip_beside_finish(&collector) == GCFLIP_CLOSED);
+    EXPECT(gcflip_beside_close_collector(&collector) == GCFLIP_CLOSED);
+}
+
+static void opening(void)
+{
+    EXPECT(gcflip_beside_open(&mutator, &collector, 0) == GCFLIP_OUT_OF_RANGE);
+    EXPECT(!mutator.at && !collector.at && blocks_in_use() == 0);
+    open_both(WORDS);
+    EXPECT(gcflip_beside_open(&mutator, &collector, WORDS) == GCFLIP_OPEN);
+    EXPECT(gcflip_beside_open(&mutator, &collector, 0) == GCFLIP_OPEN);
+    EXPECT(gcflip_beside_room(&mutator) == WORDS - 1);
+    for (uint32_t k = 0; k < GCFLIP_BESIDE_ROOTS; k++)
+        EXPECT(gcflip_beside_look(&mutator, k, &view) == GCFLIP_NIL && view.kind == 0 && view.count == 0 && view.number == 0);
+    EXPECT(gcflip_beside_close_mutator(&mutator) == GCFLIP_DONE);
+    EXPECT(gcflip_beside_open(&mutator, &collector, WORDS) == GCFLIP_OPEN);
+    EXPECT(gcflip_beside_close_collector(&collector) == GCFLIP_DONE);
+    EXPECT(blocks_in_use() == 0);
+    open_both(WORDS);
+    EXPECT(gcflip_beside_close_collector(&collector) == GCFLIP_DONE);
+    EXPECT(gcflip_beside_open(&mutator, &collector, WORDS) == GCFLIP_OPEN);
+    EXPECT(gcflip_beside_close_mutator(&mutator) == GCFLIP_DONE);
+    EXPECT(blocks_in_use() == 0);
+}
+
+/* The operands of each command that are out of range, and nothing changes. */
+static void out_of_range(void)
+{
+    number = KEPT;
+    view = (gcflip_view){KEPT_32, KEPT_32, KEPT};
+    EXPECT(gcflip_beside_new(&mutator, 32, 1, 2) == GCFLIP_OUT_OF_RANGE);
+    EXPECT(gcflip_beside_new(&mutator, 0, 256, 2) == GCFLIP_OUT_OF_RANGE);
+    EXPECT(gcflip_beside_new(&mutator, 0, 1, 65536) == GCFLIP_OUT_OF_RANGE);
+    EXPECT(gcflip_beside_new_raw(&mutator, UINT32_MAX, 1, 2) == GCFLIP_OUT_OF_RANGE);
+    EXPECT(gcflip_beside_new_raw(&mutator, 0, 256, 2) == GCFLIP_OUT_OF_RANGE);
+    EXPECT(gcflip_beside_new_raw(&mutator, 0, 1, 65536) == GCFLIP_OUT_OF_RANGE);
+    EXPECT(gcflip_beside_set_number(&mutator, 32, 1) == GCFLIP_OUT_OF_RANGE);
+    EXPECT(gcflip_beside_set_number(&mutator, 0, 1ull << 63) == GCFLIP_OUT_OF_RANGE);
+    EXPECT(gcflip_beside_set_nil(&mutator, 32) == GCFLIP_OUT_OF_RANGE);
+    EXPECT(gcflip_beside_copy(&mutator, 32, 0) == GCFLIP_OUT_OF_RANGE);
+    EXPECT(gcflip_beside_copy(&mutator, 0, 32) == GCFLIP_OUT_OF_RANGE);
+    EXPECT(gcflip_beside_get(&mutator, 32, 0, 0, &number) == GCFLIP_OUT_OF_RANGE);
+    EXPECT(gcflip_beside_get(&mutator, 0, 256, 0, &number) == GCFLIP_OUT_OF_RANGE);
+    EXPECT(gcflip_beside_put(&mutator, 32, 0, 0) == GCFLIP_OUT_OF_RANGE);
+    EXPECT(gcflip_beside_put(&mutator, 0, 0, 32) == GCFLIP_OUT_OF_RANGE);
+    EXPECT(gcflip_beside_same(&mutator, 32, 0) == GCFLIP_OUT_OF_RANGE);
+    EXPECT(gcflip_beside_same(&mutator, 0, 32) == GCFLIP_OUT_OF_RANGE);
+    EXPECT(gcflip_beside_look(&mutator, 32, &view) == GCFLIP_OUT_OF_RANGE);
+    EXPECT(number == KEPT && view.kind == KEPT_32 && view.count == KEPT_32 && view.number == KEPT);
+    EXPECT(gcflip_beside_work(&collector, 0) == GCFLIP_OUT_OF_RANGE);
+}
+
+/* The replies of the commands, at the edges of their operands. The values are worked by hand: an object takes its fields and two words. */
+static void commands(void)
+{
+    open_both(WORDS);
+    out_of_range();
+    for (uint32_t k = 0; k < GCFLIP_BESIDE_ROOTS; k++)
+        EXPECT(gcflip_beside_look(&mutator, k, &view) == GCFLIP_NIL);
+    make_one();
+    EXPECT(gcflip_beside_room(&mutator) == WORDS - 1 - 4);
+    expect_one();
+    EXPECT(gcflip_beside_new_raw(&mutator, 31, 255, 3) == GCFLIP_MADE);
+    EXPECT(gcflip_beside_room(&mutator) == WORDS - 1 - 4 - 5);
+    EXPECT(gcflip_beside_look(&mutator, 31, &view) == GCFLIP_RAW_OBJECT && view.kind == 255 && view.count == 3);
+    EXPECT(gcflip_beside_get(&mutator, 5, 31, 2, &number) == GCFLIP_NUMBER && number == 0);
+    EXPECT(gcflip_beside_set_number(&mutator, 16, (1ull << 63) - 1) == GCFLIP_DONE);
+    EXPECT(gcflip_beside_look(&mutator, 16, &view) == GCFLIP_NUMBER && view.number == (1ull << 63) - 1);
+    EXPECT(gcflip_beside_put(&mutator, 31, 0, 16) == GCFLIP_DONE);
+    EXPECT(gcflip_beside_get(&mutator, 5, 31, 0, &number) == GCFLIP_NUMBER && number == (1ull << 63) - 1);
+    EXPECT(gcflip_beside_put(&mutator, 31, 0, 0) == GCFLIP_NO_NUMBER);
+    EXPECT(gcflip_beside_put(&mutator, 31, 3, 16) == GCFLIP_NO_FIELD);
+    EXPECT(gcflip_beside_put(&mutator, 0, 65536, 16) == GCFLIP_NO_FIELD);
+    EXPECT(gcflip_beside_put(&mutator, 0, UINT32_MAX, 16) == GCFLIP_NO_FIELD);
+    EXPECT(gcflip_beside_put(&mutator, 16, 0, 16) == GCFLIP_NO_OBJECT);
+    EXPECT(gcflip_beside_put(&mutator, 16, 65536, 16) == GCFLIP_NO_OBJECT);
+    EXPECT(gcflip_beside_put(&mutator, 0, 0, 31) == GCFLIP_DONE);
+    number = KEPT;
+    EXPECT(gcflip_beside_get(&mutator, 6, 0, 0, &number) == GCFLIP_OBJECT);
+    EXPECT(gcflip_beside_get(&mutator, 7, 0, 2, &number) == GCFLIP_NO_FIELD);
+    EXPECT(gcflip_beside_get(&mutator, 7, 0, 65536 + 1, &number) == GCFLIP_NO_FIELD);
+    EXPECT(gcflip_beside_get(&mutator, 7, 7, 0, &number) == GCFLIP_NO_OBJECT);
+    EXPECT(gcflip_beside_same(&mutator, 6, 31) == GCFLIP_SAME);
+    EXPECT(gcflip_beside_same(&mutator, 6, 0) == GCFLIP_NOT_SAME);
+    EXPECT(gcflip_beside_same(&mutator, 7, 8) == GCFLIP_SAME);
+    EXPECT(gcflip_beside_set_nil(&mutator, 6) == GCFLIP_DONE);
+    EXPECT(gcflip_beside_put(&mutator, 0, 0, 6) == GCFLIP_DONE);
+    EXPECT(gcflip_beside_get(&mutator, 8, 0, 0, &number) == GCFLIP_NIL && number == KEPT);
+    EXPECT(gcflip_beside_copy(&mutator, 9, 0) == GCFLIP_DONE);
+    EXPECT(gcflip_beside_same(&mutator, 9, 0) == GCFLIP_SAME);
+    EXPECT(gcflip_beside_new(&mutator, 10, 1, WORDS - 12 + 1) == GCFLIP_FULL);
+    EXPECT(gcflip_beside_look(&mutator, 10, &view) == GCFLIP_NIL);
+    EXPECT(gcflip_beside_new(&mutator, 10, 1, WORDS - 12) == GCFLIP_MADE);
+    EXPECT(gcflip_beside_room(&mutator) == 0);
+    EXPECT(gcflip_beside_new(&mutator, 11, 1, 0) == GCFLIP_FULL);
+    close_both();
+}
+
+/* The stages of a handshake, with each call that comes too early. */
+static void handshakes(void)
+{
+    open_both(WORDS);
+    make_one();
+    EXPECT(gcflip_beside_safepoint(&mutator) == GCFLIP_DONE);
+    EXPECT(gcflip_beside_resume(&mutator) == GCFLIP_DONE);
+    EXPECT(gcflip_beside_take(&collector) == GCFLIP_NOT_YET);
+    EXPECT(gcflip_beside_flip(&collector) == GCFLIP_NOT_YET);
+    EXPECT(gcflip_beside_finish(&collector) == GCFLIP_NOT_YET);
+    EXPECT(gcflip_beside_go(&collector) == GCFLIP_DONE);
+    EXPECT(gcflip_beside_ask(&collector) == GCFLIP_DONE);
+    EXPECT(gcflip_beside_ask(&collector) == GCFLIP_DONE);
+    EXPECT(gcflip_beside_take(&collector) == GCFLIP_NOT_YET);
+    EXPECT(gcflip_beside_flip(&collector) == GCFLIP_NOT_YET);
+    EXPECT(gcflip_beside_finish(&collector) == GCFLIP_NOT_YET);
+    expect_one();
+    EXPECT(gcflip_beside_safepoint(&mutator) == GCFLIP_PARKED);
+    EXPECT(gcflip_beside_safepoint(&mutator) == GCFLIP_PARKED);
+    EXPECT(gcflip_beside_resume(&mutator) == GCFLIP_NOT_YET);
+    expect_refused(GCFLIP_PARKED);
+    EXPECT(gcflip_beside_take(&collector) == GCFLIP_DONE);
+    EXPECT(gcflip_beside_take(&collector) == GCFLIP_DONE);
+    EXPECT(gcflip_beside_ask(&collector) == GCFLIP_DONE);
+    EXPECT(gcflip_beside_resume(&mutator) == GCFLIP_NOT_YET);
+    EXPECT(gcflip_beside_go(&collector) == GCFLIP_DONE);
+    EXPECT(gcflip_beside_ask(&collector) == GCFLIP_NOT_YET);
+    EXPECT(gcflip_beside_resume(&mutator) == GCFLIP_DONE);
+    expect_one();
+    close_both();
+}
+
+/* The collection that flips takes one step at a time. The object in root 0 is kept, the one that only root 3 had dies. */
+static void flips(void)
+{
+    uint32_t answer, steps = 0;
+
+    open_both(WORDS);
+    make_one();
+    EXPECT(gcflip_beside_new(&mutator, 3, 2, 10) == GCFLIP_MADE);
+    EXPECT(gcflip_beside_set_nil(&mutator, 3) == GCFLIP_DONE);
+    EXPECT(gcflip_beside_room(&mutator) == WORDS - 1 - 4 - 12);
+    take();
+    EXPECT(gcflip_beside_flip(&collector) == GCFLIP_NOT_READY);
+    while ((answer = gcflip_beside_flip(&collector)) == GCFLIP_NOT_READY) {
+        EXPECT(gcflip_beside_work(&collector, 1) == GCFLIP_DONE && steps++ < WORDS);
+    }
+    EXPECT(answer == GCFLIP_FLIPPED);
+    EXPECT(gcflip_beside_flip(&collector) == GCFLIP_NOT_YET);
+    expect_refused(GCFLIP_PARKED);
+    EXPECT(gcflip_beside_resume(&mutator) == GCFLIP_DONE);
+    EXPECT(gcflip_beside_room(&mutator) == WORDS - 1 - 4);
+    expect_one();
+    take();
+    EXPECT(gcflip_beside_finish(&collector) == GCFLIP_FLIPPED);
+    EXPECT(gcflip_beside_resume(&mutator) == GCFLIP_DONE);
+    expect_one();
+    close_both();
+}
+
+/* Copying begins while the collector holds the mutator, and goes on beside it. */
+static void copies_beside(void)
+{
+    open_both(WORDS);
+    make_one();
+    take();
+    /* the field that was logged before the collection had a replica is due; then the object in root 0 is wanted */
+    EXPECT(gcflip_beside_flip(&collector) == GCFLIP_NOT_READY);
+    EXPECT(gcflip_beside_work(&collector, MANY) == GCFLIP_CLEAN);
+    EXPECT(gcflip_beside_flip(&collector) == GCFLIP_NOT_READY);
+    EXPECT(gcflip_beside_go(&collector) == GCFLIP_DONE);
+    EXPECT(gcflip_beside_resume(&mutator) == GCFLIP_DONE);
+    EXPECT(gcflip_beside_work(&collector, 1) == GCFLIP_DONE);
+    EXPECT(gcflip_beside_work(&collector, MANY) == GCFLIP_CLEAN);
+    EXPECT(gcflip_beside_set_number(&mutator, 1, 8) == GCFLIP_DONE);
+    EXPECT(gcflip_beside_put(&mutator, 0, 0, 1) == GCFLIP_DONE);
+    EXPECT(gcflip_beside_ask(&collector) == GCFLIP_DONE);
+    EXPECT(gcflip_beside_safepoint(&mutator) == GCFLIP_PARKED);
+    EXPECT(gcflip_beside_take(&collector) == GCFLIP_DONE);
+    /* the field that was logged is due */
+    EXPECT(gcflip_beside_flip(&collector) == GCFLIP_NOT_READY);
+    EXPECT(gcflip_beside_work(&collector, MANY) == GCFLIP_CLEAN);
+    EXPECT(gcflip_beside_flip(&collector) == GCFLIP_FLIPPED);
+    EXPECT(gcflip_beside_resume(&mutator) == GCFLIP_DONE);
+    EXPECT(gcflip_beside_get(&mutator, 2, 0, 0, &number) == GCFLIP_NUMBER && number == 8);
+    expect_one();
+    close_both();
+}
+
+/* Leads both ends to a stage: 0 beside each other, 1 asked, 2 stopped, 3 held, 4 let go. */
+static void lead_to(int stage)
+{
+    open_both(WORDS);
+    make_one();
+    if (stage >= 1)
+        EXPECT(gcflip_beside_ask(&collector) == GCFLIP_DONE);
+    if (stage >= 2)
+        EXPECT(gcflip_beside_safepoint(&mutator) == GCFLIP_PARKED);
+    if (stage >= 3)
+        EXPECT(gcflip_beside_take(&collector) == GCFLIP_DONE);
+    if (stage >= 4)
+        EXPECT(gcflip_beside_finish(&collector) == GCFLIP_FLIPPED);
+}
+
+/* A close in each order at each stage. After the collector's, the mutator has its objects and is never asked again. */
+static void closes(void)
+{
+    for (int stage = 0; stage <= 4; stage++) {
+        lead_to(stage);
+        close_both();
+        lead_to(stage);
+        EXPECT(gcflip_beside_close_collector(&collector) == GCFLIP_DONE && !collector.at);
+        EXPECT(gcflip_beside_resume(&mutator) == GCFLIP_DONE);
+        expect_one();
+        EXPECT(gcflip_beside_safepoint(&mutator) == GCFLIP_DONE);
+        EXPECT(gcflip_beside_new(&mutator, 4, 1, 1) == GCFLIP_MADE);
+        EXPECT(gcflip_beside_close_mutator(&mutator) == GCFLIP_DONE && !mutator.at);
+        EXPECT(blocks_in_use() == 0);
+        /* `go` withdraws at each stage too, and another handshake is possible */
+        lead_to(stage);
+        EXPECT(gcflip_beside_go(&collector) == GCFLIP_DONE);
+        EXPECT(gcflip_beside_resume(&mutator) == GCFLIP_DONE);
+        expect_one();
+        take();
+        EXPECT(gcflip_beside_finish(&collector) == GCFLIP_FLIPPED);
+        EXPECT(gcflip_beside_resume(&mutator) == GCFLIP_DONE);
+        expect_one();
+        close_both();
+    }
+}
+
+/* Each allocation of a call refused in turn. Nothing is lost, and the call then succeeds. */
+static void refused_open(void)
+{
+    for (long n = 1;; n++) {
+        fail_allocation(n);
+        if (gcflip_beside_open(&mutator, &collector, WORDS) == GCFLIP_DONE) {
+            EXPECT(!has_failed() && n > 4);
+            break;
+        }
+        EXPECT(has_failed() && !mutator.at && !collector.at && blocks_in_use() == 0);
+    }
+    close_both();
+}
+
+static void refused_put(void)
+{
+    long failures = 0;
+
+    open_both(WORDS);
+    make_one();
+    /* field 0 has the number before the one that is put */
+    EXPECT(gcflip_beside_set_number(&mutator, 1, 99) == GCFLIP_DONE);
+    EXPECT(gcflip_beside_put(&mutator, 0, 0, 1) == GCFLIP_DONE);
+    for (uint64_t k = 0; k < 100; k++) {
+        uint32_t answer;
+
+        EXPECT(gcflip_beside_set_number(&mutator, 1, 100 + k) == GCFLIP_DONE);
+        fail_allocation(1);
+        answer = gcflip_beside_put(&mutator, 0, 0, 1);
+        if (has_failed()) {
+            fail_allocation(0);
+            EXPECT(answer == GCFLIP_NO_MEMORY);
+            EXPECT(gcflip_beside_get(&mutator, 2, 0, 0, &number) == GCFLIP_NUMBER && number == 100 + k - 1);
+            failures++;
+            answer = gcflip_beside_put(&mutator, 0, 0, 1);
+        }
+        EXPECT(answer == GCFLIP_DONE);
+    }
+    EXPECT(failures > 0);
+    close_both();
+}
+
+static void refused_flip(uint32_t (*call)(gcflip_collector *))
+{
+    open_both(WORDS);
+    make_one();
+    take();
+    for (long n = 1;; n++) {
+        uint32_t answer;
+
+        fail_allocation(n);
+        while ((answer = call(&collector)) == GCFLIP_NOT_READY)
+            EXPECT(gcflip_beside_work(&collector, MANY) == GCFLIP_CLEAN);
+        if (answer == GCFLIP_FLIPPED) {
+            EXPECT(!has_failed() && n > 4);
+            break;
+        }
+        EXPECT(answer == GCFLIP_NO_MEMORY && has_failed());
+        EXPECT(gcflip_beside_resume(&mutator) == GCFLIP_NOT_YET);
+        if (n % 2) {
+            /* the mutator goes on in the same space meanwhile */
+            fail_allocation(0);
+            EXPECT(gcflip_beside_go(&collector) == GCFLIP_DONE);
+            EXPECT(gcflip_beside_resume(&mutator) == GCFLIP_DONE);
+            expect_one();
+            take();
+        }
+    }
+    EXPECT(gcflip_beside_resume(&mutator) == GCFLIP_DONE);
+    expect_one();
+    close_both();
+}
+
+int main(void)
+{
+    closed_handles();
+    opening();
+    commands();
+    handshakes();
+    flips();
+    copies_beside();
+    closes();
+    refused_open();
+    refused_put();
+    refused_flip(gcflip_beside_flip);
+    refused_flip(gcflip_beside_finish);
+    closed_handles();
+    EXPECT(blocks_in_use() == 0 && bytes_in_use() == 0);
+    return 0;
+}

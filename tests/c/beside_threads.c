@@ -1,0 +1,375 @@
+/* Random commands in the mutator's thread, compared with a plain machine that never collects, while a collector's thread collects all the time:
+   beside_threads [COMMANDS [SEED [told]]]. Each schedule has another collector: one by gcflip_thread.h, and loops on the two handles that sleep at chosen
+   points. */
+#define _POSIX_C_SOURCE 200809L
+#include "expect.h"
+#include "gcflip_thread.h"
+#include <pthread.h>
+#include <sched.h>
+#include <stdbool.h>
+#include <stdint.h>
+#include <string.h>
+#include <time.h>
+
+enum { WORDS = 1 << 13, ROOTS = GCFLIP_BESIDE_ROOTS, MOST_FIELDS = 6 };
+
+static uint64_t state;
+
+static uint32_t below(uint32_t bound)
+{
+    state ^= state << 13;
+    state ^= state >> 7;
+    state ^= state << 17;
+    return (uint32_t)((state >> 11) % bound);
+}
+
+/* ---- The plain machine: objects are never moved or freed */
+
+struct value {
+    enum { IS_NIL, IS_NUMBER, IS_REFERENCE } is;
+    uint64_t number; /* the number, or the object's place */
+};
+
+struct object {
+    uint32_t kind, count;
+    bool raw;
+    struct value fields[MOST_FIELDS];
+};
+
+static struct object *objects;
+static uint32_t made, room_for;
+static struct value roots[ROOTS];
+
+static uint32_t plain_seen(struct value value, gcflip_view *view)
+{
+    memset(view, 0, sizeof *view);
+    if (value.is == IS_NIL)
+        return GCFLIP_NIL;
+    if (value.is == IS_NUMBER) {
+        view->number = value.number;
+        return GCFLIP_NUMBER;
+    }
+    view->kind = objects[value.number].kind;
+    view->count = objects[value.number].count;
+    return objects[value.number].raw ? GCFLIP_RAW_OBJECT : GCFLIP_OBJECT;
+}
+
+static void plain_new(uint32_t d, bool raw, uint32_t kind, uint32_t count)
+{
+    struct object *object;
+
+    if (made == room_for) {
+        room_for = room_for ? 2 * room_for : 1024;
+        objects = realloc(objects, room_for * sizeof *objects);
+        EXPECT(objects);
+    }
+    object = &objects[made];
+    memset(object, 0, sizeof *object);
+    object->kind = kind;
+    object->count = count;
+    object->raw = raw;
+    for (uint32_t i = 0; i < count; i++)
+        object->fields[i] = (struct value){raw ? IS_NUMBER : IS_NIL, 0};
+    roots[d] = (struct value){IS_REFERENCE, made++};
+}
+
+static uint32_t plain_get(uint32_t d, uint32_t s, uint32_t i, uint64_t *number)
+{
+    gcflip_view view;
+    uint32_t answer;
+
+    if (roots[s].is != IS_REFERENCE)
+        return GCFLIP_NO_OBJECT;
+    if (i >= objects[roots[s].number].count)
+        return GCFLIP_NO_FIELD;
+    roots[d] = objects[roots[s].number].fields[i];
+    answer = plain_seen(roots[d], &view);
+    if (answer == GCFLIP_NUMBER)
+        *number = view.number;
+    return answer == GCFLIP_RAW_OBJECT ? GCFLIP_OBJECT : answer;
+}
+
+static uint32_t plain_put(uint32_t s, uint32_t i, uint32_t t)
+{
+    struct object *object;
+
+    if (roots[s].is != IS_REFERENCE)
+        return GCFLIP_NO_OBJECT;
+    object = &objects[roots[s].number];
+    if (i >= object->count)
+        return GCFLIP_NO_FIELD;
+    if (object->raw && roots[t].is != IS_NUMBER)
+        return GCFLIP_NO_NUMBER;
+    object->fields[i] = roots[t];
+    return GCFLIP_DONE;
+}
+
+static uint32_t plain_same(uint32_t s, uint32_t t)
+{
+    bool same = roots[s].is == roots[t].is && (roots[s].is == IS_NIL || roots[s].number == roots[t].number);
+
+    return same ? GCFLIP_SAME : GCFLIP_NOT_SAME;
+}
+
+/* ---- The collectors */
+
+/* A collector's thread: by the library's source, or a loop on the handles that collects without a pause. */
+struct schedule {
+    const char *name;
+    bool by_source;
+    uint32_t words;       /* for the source: a collection is due after so many words */
+    uint32_t sleep_beside; /* for the loop: nanoseconds that it sleeps after its steps, */
+    uint32_t sleep_held;   /* while it holds the mutator, */
+    uint32_t sleep_let_go; /* and after it has let it go */
+    bool finishes;         /* it performs all steps while it holds the mutator */
+};
+
+static const struct schedule schedules[] = {
+    {"the source, a collection for each quarter of the heap", true, WORDS / 4, 0, 0, 0, false},
+    {"the source, always due", true, 0, 0, 0, 0, false},
+    {"a loop", false, 0, 0, 0, 0, false},
+    {"a loop that sleeps beside", false, 0, 200000, 0, 0, false},
+    {"a loop that sleeps while it holds", false, 0, 0, 100000, 0, false},
+    {"a loop that finishes, and sleeps after it", false, 0, 0, 0, 300000, true},
+};
+
+static const struct schedule *schedule;
+static gcflip_thread *thread;
+static gcflip_mutator own = GCFLIP_NO_END;
+static gcflip_collector collector = GCFLIP_NO_END;
+static pthread_mutex_t lock = PTHREAD_MUTEX_INITIALIZER;
+static bool is_over;
+static uint64_t loop_flips;
+
+static bool over(void)
+{
+    bool told;
+
+    pthread_mutex_lock(&lock);
+    told = is_over;
+    pthread_mutex_unlock(&lock);
+    return told;
+}
+
+static void count_flip(void)
+{
+    pthread_mutex_lock(&lock);
+    loop_flips++;
+    pthread_mutex_unlock(&lock);
+}
+
+static uint64_t flips_of_loop(void)
+{
+    uint64_t flips;
+
+    pthread_mutex_lock(&lock);
+    flips = loop_flips;
+    pthread_mutex_unlock(&lock);
+    return flips;
+}
+
+static void sleeps(uint32_t nanoseconds)
+{
+    struct timespec time = {0, nanoseconds};
+
+    if (nanoseconds)
+        nanosleep(&time, NULL);
+}
+
+/* Waits for the other thread. Returns false if the run is over. */
+static bool until_done(uint32_t (*call)(gcflip_collector *))
+{
+    uint32_t answer;
+
+    while ((answer = call(&collector)) == GCFLIP_NOT_YET) {
+        if (over())
+            return false;
+        gcflip_beside_work(&collector, 64);
+        sched_yield();
+    }
+    EXPECT(answer == GCFLIP_DONE);
+    return true;
+}
+
+/* Flips if little is left to do, or lets the mutator go on in the same space. */
+static void held(void)
+{
+    uint32_t answer = GCFLIP_NOT_READY;
+
+    sleeps(schedule->sleep_held);
+    if (schedule->finishes)
+        answer = gcflip_beside_finish(&collector);
+    else if (gcflip_beside_work(&collector, 512) == GCFLIP_CLEAN)
+        answer = gcflip_beside_flip(&collector);
+    EXPECT(answer == GCFLIP_NOT_READY || answer == GCFLIP_FLIPPED);
+    if (answer == GCFLIP_NOT_READY)
+        EXPECT(gcflip_beside_go(&collector) == GCFLIP_DONE);
+    else
+        count_flip();
+    sleeps(schedule->sleep_let_go);
+}
+
+static void *loop(void *argument)
+{
+    (void)argument;
+    while (!over()) {
+        while (gcflip_beside_work(&collector, 256) == GCFLIP_DONE)
+            sleeps(schedule->sleep_beside);
+        if (!until_done(gcflip_beside_ask) || !until_done(gcflip_beside_take))
+            break;
+        held();
+    }
+    return NULL;
+}
+
+/* ---- The mutator */
+
+static gcflip_mutator *mutator(void)
+{
+    return schedule->by_source ? gcflip_thread_mutator(thread) : &own;
+}
+
+static void safepoint(void)
+{
+    if (schedule->by_source) {
+        EXPECT(gcflip_thread_safepoint(thread) == GCFLIP_DONE);
+        return;
+    }
+    if (gcflip_beside_safepoint(&own) == GCFLIP_DONE)
+        return;
+    while (gcflip_beside_resume(&own) == GCFLIP_NOT_YET)
+        sched_yield();
+}
+
+/* Waits for a flip. */
+static void wait_for_flip(void)
+{
+    uint64_t flips;
+
+    if (schedule->by_source) {
+        EXPECT(gcflip_thread_collect(thread) == GCFLIP_FLIPPED);
+        return;
+    }
+    flips = flips_of_loop();
+    while (flips_of_loop() == flips) {
+        safepoint();
+        sched_yield();
+    }
+}
+
+/* After a command that found no room. Objects that live may fill the heap, so each third time half of the roots become nil. */
+static void make_room(uint32_t time)
+{
+    if (time % 3 == 2)
+        for (uint32_t k = 0; k < ROOTS; k += 2) {
+            EXPECT(gcflip_beside_set_nil(mutator(), k) == GCFLIP_DONE);
+            roots[k] = (struct value){IS_NIL, 0};
+        }
+    wait_for_flip();
+}
+
+static void make(uint32_t d, bool raw)
+{
+    uint32_t kind = below(256), count = below(MOST_FIELDS + 1), answer, times = 0;
+
+    for (;;) {
+        answer = raw ? gcflip_beside_new_raw(mutator(), d, kind, count) : gcflip_beside_new(mutator(), d, kind, count);
+        if (answer != GCFLIP_FULL)
+            break;
+        make_room(times++);
+        EXPECT(times < 100000);
+    }
+    EXPECT(answer == GCFLIP_MADE);
+    plain_new(d, raw, kind, count);
+}
+
+static void command(void)
+{
+    uint32_t d = below(ROOTS), s = below(ROOTS), i = below(MOST_FIELDS + 1), which = below(16);
+    uint64_t number = 5, plain_number = 5, n = below(3) ? below(100) : state >> 1;
+    gcflip_view view, plain_view;
+    uint32_t answer;
+
+    if (which < 3)
+        make(d, which == 2);
+    else if (which == 3) {
+        EXPECT(gcflip_beside_set_number(mutator(), d, n) == GCFLIP_DONE);
+        roots[d] = (struct value){IS_NUMBER, n};
+    } else if (which == 4) {
+        EXPECT(gcflip_beside_set_nil(mutator(), d) == GCFLIP_DONE);
+        roots[d] = (struct value){IS_NIL, 0};
+    } else if (which == 5) {
+        EXPECT(gcflip_beside_copy(mutator(), d, s) == GCFLIP_DONE);
+        roots[d] = roots[s];
+    } else if (which < 9) {
+        answer = gcflip_beside_get(mutator(), d, s, i, &number);
+        EXPECT(answer == plain_get(d, s, i, &plain_number) && number == plain_number);
+    } else if (which < 13) {
+        answer = gcflip_beside_put(mutator(), d, i, s);
+        EXPECT(answer == plain_put(d, i, s));
+    } else if (which == 13) {
+        EXPECT(gcflip_beside_same(mutator(), d, s) == plain_same(d, s));
+    } else {
+        memset(&view, 0, sizeof view);
+        EXPECT(gcflip_beside_look(mutator(), d, &view) == plain_seen(roots[d], &plain_view));
+        EXPECT(memcmp(&view, &plain_view, sizeof view) == 0);
+    }
+    if (below(8) == 0)
+        safepoint();
+}
+
+static uint64_t runs(uint64_t commands)
+{
+    pthread_t other;
+    gcflip_thread_counts counts;
+
+    made = 0;
+    memset(roots, 0, sizeof roots);
+    if (schedule->by_source) {
+        EXPECT(gcflip_thread_open(&thread, WORDS, schedule->words) == GCFLIP_DONE);
+    } else {
+        is_over = false;
+        loop_flips = 0;
+        EXPECT(gcflip_beside_open(&own, &collector, WORDS) == GCFLIP_DONE);
+        EXPECT(pthread_create(&other, NULL, loop, NULL) == 0);
+    }
+    for (uint64_t k = 0; k < commands; k++) {
+        command();
+        if (k == commands / 2)
+            wait_for_flip();
+    }
+    if (schedule->by_source) {
+        gcflip_thread_read(thread, &counts);
+        gcflip_thread_close(thread);
+        EXPECT(counts.failed == 0);
+        return counts.flips;
+    }
+    pthread_mutex_lock(&lock);
+    is_over = true;
+    pthread_mutex_unlock(&lock);
+    /* the mutator may have been asked, so the collector's close finds it running or stopped */
+    gcflip_beside_safepoint(&own);
+    EXPECT(pthread_join(other, NULL) == 0);
+    EXPECT(gcflip_beside_close_collector(&collector) == GCFLIP_DONE);
+    EXPECT(gcflip_beside_resume(&own) == GCFLIP_DONE);
+    EXPECT(gcflip_beside_close_mutator(&own) == GCFLIP_DONE);
+    return flips_of_loop();
+}
+
+int main(int count, char **words)
+{
+    uint64_t commands = count > 1 ? strtoull(words[1], NULL, 10) : 100000;
+
+    for (size_t k = 0; k < COUNT(schedules); k++) {
+        uint64_t flips;
+
+        state = (count > 2 ? strtoull(words[2], NULL, 10) : 1) * 0x9e3779b97f4a7c15ull + k + 1;
+        schedule = &schedules[k];
+        flips = runs(commands);
+        EXPECT(flips > 0);
+        if (count > 3)
+            printf("%s: %llu flips\n", schedule->name, (unsigned long long)flips);
+    }
+    free(objects);
+    return 0;
+}
