@@ -27,7 +27,7 @@ from .traces import PLAYED, refused_texts, trace_and_replies
 
 # The module picture_parts has put the packages on the path.
 from drawing import crates_picture, svg  # noqa: E402
-from gcflip.explore.stage import played  # noqa: E402
+from gcflip_explore.stage import played  # noqa: E402
 from gcflip_drawing import pair_picture, timeline  # noqa: E402
 from gcflip_drawing.excerpt import excerpt_of  # noqa: E402
 from gcflip_drawing.graph_picture import drawn_as_graph  # noqa: E402

@@ -1,4 +1,4 @@
-"""Starts the server of `python3 -m gcflip.explore` and its page in a headless browser, for tests."""
+"""Starts the server of `python3 -m gcflip_explore` and its page in a headless browser, for tests."""
 import contextlib
 import http.client
 import json
@@ -24,7 +24,7 @@ class Server:
     """The server, started by its command."""
 
     def __init__(self, python, *words):
-        self.process = subprocess.Popen([sys.executable, "-m", "gcflip.explore", "--no-browser", *words], env=python.environment,
+        self.process = subprocess.Popen([sys.executable, "-m", "gcflip_explore", "--no-browser", *words], env=python.environment,
                                         preexec_fn=hear_interrupts,
                                         stdout=subprocess.PIPE, stderr=subprocess.PIPE, text=True)
         said = self.process.stdout.readline()

@@ -34,7 +34,7 @@ async function answered(name, data) {
       method: "POST", headers: { "Content-Type": "application/json" }, body: JSON.stringify({ ...data, session: SESSION }),
     });
   } catch {
-    throw new Error("The server does not answer. Is 'python3 -m gcflip.explore' still running?");
+    throw new Error("The server does not answer. Is 'python3 -m gcflip_explore' still running?");
   }
   if (!response.ok) {
     throw new Error((await response.text()).trim());

@@ -92,7 +92,7 @@ class Handler(http.server.BaseHTTPRequestHandler):
         _, _, rest = self.path.partition("/")
         token, slash, name = rest.partition("/")
         if not slash or not hmac.compare_digest(token.encode("utf-8", "replace"), self.server.token.encode()):
-            raise Refusal(403, "The address lacks the token. Open the address that 'python3 -m gcflip.explore' printed.")
+            raise Refusal(403, "The address lacks the token. Open the address that 'python3 -m gcflip_explore' printed.")
         return name
 
     def file(self, name: str) -> tuple[str, bytes]:

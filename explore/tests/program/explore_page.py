@@ -1,4 +1,4 @@
-"""Tests of the page of gcflip.explore in a headless browser. Each reply and verdict is compared with the program's."""
+"""Tests of the page of gcflip_explore in a headless browser. Each reply and verdict is compared with the program's."""
 import json
 import os
 import re

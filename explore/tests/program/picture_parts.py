@@ -4,9 +4,9 @@ import re
 import sys
 import xml.etree.ElementTree as ElementTree
 
-TOP = os.path.normpath(os.path.join(os.path.dirname(os.path.abspath(__file__)), "..", ".."))
+TOP = os.path.normpath(os.path.join(os.path.dirname(os.path.abspath(__file__)), "..", "..", ".."))
 SVG = "{http://www.w3.org/2000/svg}"
-sys.path[:0] = [os.path.join(TOP, "tools"), os.path.join(TOP, "bindings", "python")]
+sys.path[:0] = [os.path.join(TOP, "tools"), os.path.join(TOP, "bindings", "python"), os.path.join(TOP, "explore")]
 
 from drawing import svg  # noqa: E402
 from gcflip_drawing.picture import text_width  # noqa: E402

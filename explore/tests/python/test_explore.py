@@ -1,4 +1,4 @@
-"""Tests of the Python code of gcflip.explore: players, the useful step, certificates, spoiled pairs and requests."""
+"""Tests of the Python code of gcflip_explore: players, the useful step, certificates, spoiled pairs and requests."""
 import contextlib
 import functools
 import random
@@ -6,7 +6,7 @@ import unittest
 from unittest import mock
 
 import gcflip
-from gcflip.explore import checking, checkpoints, playing, record, requests, stage, state
+from gcflip_explore import checking, checkpoints, playing, record, requests, stage, state
 from gcflip_drawing import timeline
 from gcflip_drawing.heap import walk
 from gcflip_drawing.pair_text import read_accepted, read_pair, written

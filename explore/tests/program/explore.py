@@ -1,7 +1,7 @@
-"""Tests of the page of `python3 -m gcflip.explore`: its server by requests (explore_server), and the page itself in a headless browser
+"""Tests of the page of `python3 -m gcflip_explore`: its server by requests (explore_server), and the page itself in a headless browser
 (explore_page). Without a browser only the server is tested, and a line says so.
 
-It tests the page of gcflip.explore: its server by requests, with and without the token; in a headless chromium each example, a collection by buttons,
+It tests the page of gcflip_explore: its server by requests, with and without the token; in a headless chromium each example, a collection by buttons,
 dropped files, spoiled pairs, the tour, keys, contrast, small screens, what is taken back, saved and shown again after a reload, ways to an event, the
 words at the place of a refusal, each object of a long pair; slow and idle connections, tabs side by side, missing and wrong libraries. Replies,
 faults and verdicts are the program's. Without a browser it reports that it skips that part; tests/install installs one.

@@ -1,4 +1,4 @@
-"""The command `python3 -m gcflip.explore [FILE]`."""
+"""The command `python3 -m gcflip_explore [FILE]`."""
 from __future__ import annotations
 
 import argparse
@@ -14,7 +14,7 @@ from .server import MOST_TEXT, Server
 
 
 def arguments() -> argparse.Namespace:
-    parser = argparse.ArgumentParser(prog="python3 -m gcflip.explore", description="Shows the collector and the checker in a web page.")
+    parser = argparse.ArgumentParser(prog="python3 -m gcflip_explore", description="Shows the collector and the checker in a web page.")
     parser.add_argument("file", metavar="FILE", nargs="?", help="a trace, a pair text or an image text to open")
     parser.add_argument("--no-browser", action="store_true", help="only print the address")
     parser.add_argument("--port", type=int, default=0, help="the port on 127.0.0.1; any free one by default")

@@ -19,7 +19,7 @@ from .playing import Player, Players, flip_events
 MOST_SESSIONS = 8
 HERE = os.path.dirname(os.path.abspath(__file__))
 # An installed package has copies of the examples. In the repository they are at the top.
-PLACES = (os.path.join(HERE, "examples"), os.path.join(HERE, "..", "..", "..", "..", "examples"))
+PLACES = (os.path.join(HERE, "examples"), os.path.join(HERE, "..", "..", "examples"))
 EXAMPLES = next((place for place in PLACES if os.path.isdir(place)), PLACES[0])
 KINDS = {"heaptrace": "trace", "heappair": "pair", "heapimages": "pair"}
 

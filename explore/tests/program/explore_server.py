@@ -1,4 +1,4 @@
-"""Tests of the server of gcflip.explore, by requests: its refusals, the messages of its command, and its answers."""
+"""Tests of the server of gcflip_explore, by requests: its refusals, the messages of its command, and its answers."""
 import contextlib
 import http.client
 import os
@@ -11,14 +11,14 @@ import threading
 import time
 
 from . import pairs
-from .c_builds import TOP, done
+from .c_builds import done
 from .examples import FOLDER as EXAMPLES, content, names_of
 from .harness import file_of
-from .python import PACKAGE, prepared, wrong_libraries
+from .python import PACKAGE, PAGE, copied, prepared, wrong_libraries
 from .traces import PLAYED, refused_texts, trace_and_replies
 from .web_page import ADDRESS, SECONDS, Server, hear_interrupts, served, wrong
 
-PAGE = os.path.join(TOP, "bindings", "python", "gcflip", "explore", "page")
+FILES = os.path.join(PAGE, "gcflip_explore", "page")
 
 # The refused addresses, by their paths after the host. T is the token.
 REFUSED_PATHS = {
@@ -37,9 +37,9 @@ def files(_program, folder):
         if server is None:
             return
         top = "/%s/" % server.token
-        for name in sorted(os.listdir(PAGE)):
+        for name in sorted(os.listdir(FILES)):
             status, headers, body = server.request("GET", top + ("" if name == "index.html" else name))
-            with open(os.path.join(PAGE, name), "rb") as file:
+            with open(os.path.join(FILES, name), "rb") as file:
                 right = status == 200 and body == file.read()
             yield "the file %s" % name, None if right else "status %d" % status
             policy = headers.get("Content-Security-Policy", "")
@@ -242,12 +242,16 @@ def commands(_program, folder):
         return
     for name, (path, part) in wrong_libraries(folder).items():
         without = {**python.environment, "GCFLIP_LIBRARY": path}
-        found = done([sys.executable, "-m", "gcflip.explore", "--no-browser"], env=without)
+        found = done([sys.executable, "-m", "gcflip_explore", "--no-browser"], env=without)
         said = found.stderr.decode()
         right = found.status == 1 and found.stdout == b"" and said.startswith("explore: " + path) and part in said and said.count("\n") == 1
         yield name, None if right else "status %s, said %r" % (found.status, said)
-        found = done([sys.executable, "-m", "gcflip.explore", "--help"], env=without)
+        found = done([sys.executable, "-m", "gcflip_explore", "--help"], env=without)
         yield "the help with %s" % name, None if found.status == 0 and found.stdout.startswith(b"usage: ") else found.stderr.decode()
+    old = done([sys.executable, "-m", "gcflip.explore", "--help"], env={**python.environment, "PYTHONPATH": PACKAGE})
+    said = old.stderr.decode()
+    right = old.status == 0 and old.stdout.startswith(b"usage: python3 -m gcflip_explore ") and said == "explore: the command is now 'python3 -m gcflip_explore'\n"
+    yield "the old command goes on", None if right else "status %s, said %r" % (old.status, said)
     taken = socket.create_server(("127.0.0.1", 0))
     cases = {
         "a file that does not exist": ([os.path.join(folder, "nothing")], "No such file or directory"),
@@ -258,12 +262,12 @@ def commands(_program, folder):
         "a port that does not exist": (["--port", "65536"], "port 65536"),
     }
     for name, (words, part) in cases.items():
-        found = python.run("-m", "gcflip.explore", "--no-browser", *words)
+        found = python.run("-m", "gcflip_explore", "--no-browser", *words)
         said = found.stderr.decode()
         right = found.status == 1 and found.stdout == b"" and said.startswith("explore: ") and part in said and said.count("\n") == 1
         yield name, None if right else "status %s, said %r" % (found.status, said)
     taken.close()
-    process = subprocess.Popen([sys.executable, "-m", "gcflip.explore"], env={**python.environment, "BROWSER": "echo opened %s"},
+    process = subprocess.Popen([sys.executable, "-m", "gcflip_explore"], env={**python.environment, "BROWSER": "echo opened %s"},
                                stdout=subprocess.PIPE, text=True, preexec_fn=hear_interrupts)
     said = [process.stdout.readline() for _ in range(3)]
     process.send_signal(2)
@@ -284,8 +288,7 @@ def found_library(_program, folder):
         return
     environment = {name: value for name, value in os.environ.items() if name not in ("GCFLIP_LIBRARY", "LD_LIBRARY_PATH")}
     environment.update(PYTHONDONTWRITEBYTECODE="1")
-    package = os.path.join(folder, "copy", "bindings", "python")
-    shutil.copytree(PACKAGE, package, ignore=shutil.ignore_patterns("__pycache__"))
+    package = copied(PACKAGE, os.path.join(folder, "copy", "bindings", "python"))
     code = "import gcflip; from gcflip.library import place; print(place(), gcflip.library_version())"
     for name, at in [("in the repository", os.path.join(folder, "copy", "bindings", "c", "out")), ("in a wheel", os.path.join(package, "gcflip"))]:
         os.makedirs(at, exist_ok=True)
