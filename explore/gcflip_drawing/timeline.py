@@ -157,10 +157,10 @@ class Run:
         return found
 
 
-def stairs(run, values, height):
-    """Returns the points of a curve with a value in each column. `height` gives the position of a value."""
+def stairs(run, values, height, first=0):
+    """Returns the points of a curve with a value in each column from the first one on. `height` gives the position of a value."""
     points = []
-    for at, value in enumerate(values):
+    for at, value in enumerate(values, first):
         points += [(run.x(at), height(value)), (run.x(at + 1), height(value))]
     return points
 
@@ -180,7 +180,7 @@ def spans(flags):
 def draw_area(picture, run, values, height, floor, role):
     """Fills the area below a curve where it is above zero."""
     for first, count in spans([value > 0 for value in values]):
-        part = stairs(run, values, height)[2 * first:2 * (first + count)]
+        part = stairs(run, values[first:first + count], height, first)
         picture.area([(part[0][0], floor)] + part + [(part[-1][0], floor)], role)
 
 

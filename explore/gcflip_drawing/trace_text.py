@@ -112,9 +112,19 @@ def heading(version, size_in_words, mutators):
     return "heaptrace %d\nspace %d mutators %d\n" % (version, size_in_words, mutators)
 
 
-def names_mutator(event):
-    """Returns the number of the mutator that an event names, or None."""
-    return event.numbers[0] if event.name == "apply" else event.mutator
+def check_mutator(event, mutators, at):
+    """Raises BadTrace if the event of line `at` names a mutator that the trace does not have."""
+    if ((event.numbers[0] if event.name == "apply" else event.mutator) or 0) >= mutators:
+        raise BadTrace("trace: no such mutator at line %d" % at, at)
+
+
+def with_event(trace, position, event):
+    """Returns a trace with one more event at a position, in a version that has it too. Raises BadTrace if the trace cannot have it."""
+    check_mutator(event, trace.mutators, position + 3)
+    longer = trace._replace(version=max(trace.version, version_of([event])), events=[*trace.events[:position], event, *trace.events[position:]])
+    if len(heading(*longer[:3])) + sum(len(event.line) + 1 for event in longer.events) > MOST_BYTES:
+        raise BadTrace("trace: too large")
+    return longer
 
 
 def read_trace(data):
@@ -156,6 +166,5 @@ class Events:
             event = event_of(line[:-1].decode("latin-1"), self.version)
             if event is None or not line.endswith(b"\n"):
                 raise BadTrace("trace: bad line %d" % at, at)
-            if (names_mutator(event) or 0) >= self.mutators:
-                raise BadTrace("trace: no such mutator at line %d" % at, at)
+            check_mutator(event, self.mutators, at)
             yield event

@@ -11,15 +11,16 @@ import array
 from typing import Iterator, NamedTuple
 
 from gcflip import Heap, Image, OutOfMemory
-from gcflip.heap import SLOTS
+from gcflip.heap import SLOTS, extra_place
 from gcflip.library import Answer
 from gcflip_drawing.heap import RAW, header_of, length_of, target, walk
 
 from .stage import Stage, Words
 
 NO_MEMORY = int(Answer.NO_MEMORY)
-CALLS = ("new_object", "new_raw", "root_store", "root_load", "root_clear", "set_number", "set_nil", "put", "put_nil", "put_number", "raw_write", "step_begin_sized", "step_roots",
-         "step_scan", "step_apply")
+CALLS = ("new_raw", "root_store", "root_load", "root_clear", "set_number", "set_nil", "raw_write", "step_begin_sized", "step_roots", "step_scan", "step_apply")
+# Those on roots by their places.
+ON_ROOTS = ("new", "put", "put_number", "put_nil")
 # The shared slots for the object to write and for the value to write. The first one is the first of all roots.
 OBJECT, VALUE = SLOTS, SLOTS + 1
 
@@ -105,6 +106,8 @@ class Making:
         self.root_of = {start: root for root, start in enumerate(self.headers)}
         self.heap = Heap(self.old.size, len(self.logs), len(self.headers))
         self.calls = {name: self.heap._prepared(name) for name in CALLS}
+        self.calls.update({name: self.heap._prepared_on_roots(name) for name in ON_ROOTS})
+        self.first = extra_place(len(self.logs), 0)
 
     def call(self, name: str, *numbers: int) -> None:
         """Makes a call whose arguments are in range. Raises OutOfMemory."""
@@ -122,20 +125,23 @@ class Making:
             self.call("set_nil", mutator, slot)
 
     def write(self, mutator: int, start: int, field: int, word: int) -> None:
-        """Lets a mutator write a word into a field of the object at `start`, which slot OBJECT refers to."""
+        """Lets a mutator write a word into a field of the object at `start`."""
+        place = self.first + self.root_of[start]
         if self.headers[start] >= RAW or word & 1:
-            self.call("put_number", mutator, OBJECT, field, VALUE, word if self.headers[start] >= RAW else word >> 1)
+            self.call("put_number", mutator, place, field, word if self.headers[start] >= RAW else word >> 1)
         elif word:
-            self.set(mutator, VALUE, word)
-            self.call("put", mutator, OBJECT, field, VALUE)
+            self.call("put", mutator, place, field, self.first + self.root_of[word >> 1])
         else:
-            self.call("put_nil", mutator, OBJECT, field, VALUE)
+            self.call("put_nil", mutator, place, field)
 
     def make_objects(self) -> None:
         for start, header in self.headers.items():
             is_raw, kind, count = header_of(header, True)
-            self.call("new_raw" if is_raw else "new_object", 0, OBJECT, kind, count)
-            self.call("root_store", 0, self.root_of[start], OBJECT)
+            if is_raw:
+                self.call("new_raw", 0, OBJECT, kind, count)
+                self.call("root_store", 0, self.root_of[start], OBJECT)
+            else:
+                self.call("new", self.first + self.root_of[start], kind, count)
 
     def fill_objects(self) -> None:
         """Writes all fields. Where the collector has brought a replica's field up to date, the original gets the value of that moment."""
@@ -146,12 +152,12 @@ class Making:
         for start, header in self.headers.items():
             fields = words[start + 2:start + 2 + length_of(header)]
             if any(fields):
-                self.set(0, OBJECT, 2 * start)
                 self.fill(start, fields)
 
     def fill(self, start: int, fields: array.array[int]) -> None:
-        """Writes the fields of an object that slot OBJECT refers to, which all hold nil or 0."""
+        """Writes the fields of an object, which all hold nil or 0."""
         if self.headers[start] >= RAW:
+            self.set(0, OBJECT, 2 * start)
             self.call("raw_write", 0, OBJECT, 0, VALUE, fields.buffer_info()[0], len(fields))
             return
         for field, word in enumerate(fields):
@@ -170,7 +176,6 @@ class Making:
         self.apply_entries()
         for mutator, log in enumerate(self.logs):
             for start, field in zip(log[::2], log[1::2]):
-                self.set(0, OBJECT, 2 * start)
                 self.write(mutator, start, field, self.old.words[start + 2 + field])
 
     def apply_entries(self) -> None:
@@ -178,7 +183,6 @@ class Making:
         for replica in self.replicas:
             for field in range(replica.done, len(replica.fields)):
                 if replica.fields[field]:
-                    self.set(0, OBJECT, 2 * replica.original)
                     self.write(0, replica.original, field, replica.fields[field])
                     self.call("step_apply", 0)
 

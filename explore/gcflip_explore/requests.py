@@ -11,7 +11,7 @@ from typing import Any, Callable
 from gcflip import BadText
 from gcflip_drawing.images_text import MOST_WORDS
 from gcflip_drawing.pair_text import Unreadable
-from gcflip_drawing.trace_text import MOST_BYTES, BadTrace, Event, Trace, event_of, heading, read_trace, version_of
+from gcflip_drawing.trace_text import MOST_BYTES, BadTrace, Trace, event_of, read_trace, with_event
 
 from . import checking, state
 from .playing import Player, Players, flip_events
@@ -173,19 +173,18 @@ class Desk:
         return {**state.described(player, trace, asked.width()), "known": min(known, player.position), "replies": player.replies(known)}
 
     def insert(self, asked: Asked) -> dict[str, Any]:
-        """Inserts an event after the last one that was played, and plays it. Without a line, the event is the collector's useful step."""
+        """Inserts an event after the last one that was played, and plays it. Without a line, the event is the collector's useful step. Returns its line, which
+        the page inserts too: a long text is not sent again."""
         trace = asked.trace()
         position = asked.position(trace)
         line = asked.text("line") if asked.data.get("line") is not None else asked.session.players.at(trace, position).useful_line()
         event = event_of(line)
         if event is None:
             raise BadRequest("'%s' is no event." % line)
-        text = with_event(trace, position, event)
-        # The longer trace may be refused: the event's mutator may not exist.
-        longer = read(text)
+        longer = with_event(trace, position, event)
         told = self.told(asked.session.players.at(longer, position + 1), longer, asked)
         asked.session.trace = longer
-        return {"text": text, **told}
+        return {"line": line, "version": longer.version, **told}
 
     def pair(self, asked: Asked) -> dict[str, Any]:
         """Returns the certificate of an open collection as a pair text."""
@@ -218,13 +217,6 @@ class Desk:
             return checking.objects_between(text, heap, first, last, asked.width(), skipped)
         except (BadText, Unreadable) as fault:
             raise BadRequest("Only a text of two heaps has objects: %s." % fault) from None
-
-
-def with_event(trace: Trace, position: int, event: Event) -> str:
-    """Returns the text of a trace with one more event at a position, in a version that has all its events."""
-    events = [*trace.events[:position], event, *trace.events[position:]]
-    version = max(trace.version, version_of(events))
-    return heading(version, trace.size, trace.mutators) + "".join(event.line + "\n" for event in events)
 
 
 def kind_of(text: str) -> str | None:

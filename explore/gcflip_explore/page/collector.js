@@ -15,6 +15,15 @@ const MOST_PAUSES = 60;
 const MOST_UNDONE = 100;
 const REDUCED = matchMedia("(prefers-reduced-motion: reduce)");
 
+// Returns the text of a trace with the line of an inserted event, in a version that has it.
+function withEvent(text, { line, version, position }) {
+  let at = 0;
+  for (let before = FIRST + position - 2; before > 0; before -= 1) {
+    at = text.indexOf("\n", at) + 1;
+  }
+  return `heaptrace ${version}${text.slice(text.indexOf("\n"), at)}${line}\n${text.slice(at)}`;
+}
+
 export class Collector {
   // `onPair` is called with the pair text of a certificate that the reader wants to see, and `onShow` when something else is shown.
   constructor(examples, onPair, onShow) {
@@ -224,9 +233,9 @@ export class Collector {
         say(`There is no such mutator in this trace: ${line}`);
       } else {
         this.remember();
-        this.text = this.last.sent = answer.text;
+        this.text = this.last.sent = withEvent(this.text, answer);
         this.replies.length = Math.min(this.replies.length, this.position);
-        this.editor.show(answer.text);
+        this.editor.show(this.text);
         this.named("");
         this.show(answer);
       }

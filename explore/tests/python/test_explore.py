@@ -30,6 +30,12 @@ def positions():
             yield text, trace, position
 
 
+def with_line(text, found):
+    """Returns the text of a trace with the line that an answer says was inserted, as the page makes it."""
+    lines, at = text.split("\n"), found["position"] + 1
+    return "\n".join(["heaptrace %d" % found["version"], *lines[1:at], found["line"], *lines[at:]])
+
+
 def played(trace, position):
     player = playing.opened(trace.size, trace.mutators)
     player.play_to(trace, position)
@@ -175,7 +181,7 @@ class Checkpoints(unittest.TestCase):
                 for position, line in ((end - 1, None), (123, "m 0 num r0 77"), (123, None), (46, "c drop"), (45, "c begin 70"), (2, "m 0 new r0 0 1")):
                     found = answer(desk, "insert", text, position, line=line)
                     self.assertEqual(found, answer(requests.Desk(), "insert", text, position, line=line))
-                    longer = found["text"]
+                    longer = with_line(text, found)
                     for one, at in ((longer, position + 1), (text, position), (text, position - 1), (longer, position + 2), (longer, position - 2), (text, end)):
                         self.assertEqual(answer(desk, "play", one, at), answer(requests.Desk(), "play", one, at))
                 self.assertLessEqual(len(desk.session("").players.players), playing.MOST_PLAYERS)
@@ -193,7 +199,7 @@ class Checkpoints(unittest.TestCase):
         def count(name="play", **data):
             played.clear()
             found = desk.answer(name, {"text": text, "known": data["position"], "width": 900, **data})
-            return found["position"], len(played), found.get("text")
+            return found["position"], len(played), with_line(text, found) if name == "insert" else None
 
         with mock.patch.object(playing.Player, "play", counting):
             every = record.LEAST_EVENTS
@@ -473,15 +479,16 @@ class Requests(unittest.TestCase):
     def test_an_inserted_line_raises_the_version(self):
         text = "heaptrace 1\nspace 16 mutators 1\nm 0 nil r0\nm 0 nil r1\n"
         found = self.ask("insert", text=text, position=1, line="c begin 9")
-        self.assertEqual(found["text"], "heaptrace 2\nspace 16 mutators 1\nm 0 nil r0\nc begin 9\nm 0 nil r1\n")
+        longer = with_line(text, found)
+        self.assertEqual(longer, "heaptrace 2\nspace 16 mutators 1\nm 0 nil r0\nc begin 9\nm 0 nil r1\n")
         self.assertEqual((found["position"], found["total"], found["replies"]), (2, 3, ["done", "begun"]))
-        found = self.ask("insert", text=found["text"], position=3, known=2, line="m 0 raw r0 1 2")
-        self.assertEqual(found["text"].split("\n")[0], "heaptrace 3")
+        found = self.ask("insert", text=longer, position=3, known=2, line="m 0 raw r0 1 2")
+        self.assertEqual(found["version"], 3)
         self.assertEqual(found["replies"], ["done", "made"])
 
     def test_a_version_is_never_lowered(self):
-        found = self.ask("insert", text="heaptrace 3\nspace 16 mutators 1\n", line="m 0 nil r0")
-        self.assertEqual(found["text"], "heaptrace 3\nspace 16 mutators 1\nm 0 nil r0\n")
+        text = "heaptrace 3\nspace 16 mutators 1\n"
+        self.assertEqual(with_line(text, self.ask("insert", text=text, line="m 0 nil r0")), "heaptrace 3\nspace 16 mutators 1\nm 0 nil r0\n")
 
     def test_requests_that_are_refused(self):
         good = {"text": "heaptrace 1\nspace 8 mutators 1\nm 0 nil r0\n"}
@@ -515,6 +522,9 @@ class Requests(unittest.TestCase):
 
     def test_a_trace_that_is_too_long(self):
         heading = "heaptrace 1\nspace 8 mutators 1\n"
+        # A trace may have 7 bytes more.
+        text = heading + "m 0 nil r0\n" * ((16777216 - len(heading)) // 11)
+        self.assertEqual(self.ask("insert", text=text, line="m 0 nil r15")["fault"], {"message": "trace: too large", "line": None})
         found = self.ask("play", text=heading + "m 0 nil r0\n" * (16777216 // 11))
         self.assertEqual(found["fault"], {"message": "trace: too large", "line": None})
 
@@ -669,7 +679,7 @@ class RandomTraces(unittest.TestCase):
                 if chosen.randrange(4) > 0:
                     data["line"] = random_line(chosen, mutators)
                 found = desk.answer("insert", data)
-                text, position, replies = found["text"], found["position"], replies + found["replies"]
+                text, position, replies = with_line(text, found), found["position"], replies + found["replies"]
                 if found["collection"] and found["collection"]["ready"]:
                     pair = desk.answer("pair", {"text": text, "position": position})["text"]
                     self.assertEqual(desk.answer("check", {"text": pair, "width": 900})["line"], found["collection"]["verdict"])
