@@ -33,9 +33,10 @@ def faults(scene, pairs, verdict):
         yield Mark(is_old, first, size, "fault", "refused")
 
 
-def scene_of(text, title, verdict, where=""):
-    """Returns the scene of a pair text. `verdict` is the checker's, or None if it was not asked. `where` says in words where a refusal is."""
-    scene = Scene(title, Space("old space", text.old, text.raws), Space("new space", text.new, text.raws), text.pairs)
+def scene_of(text, title, verdict, where="", old=None, new=None):
+    """Returns the scene of a pair text. `verdict` is the checker's, or None if it was not asked. `where` says in words where a refusal is. A space may be
+    known from another scene."""
+    scene = Scene(title, old or Space("old space", text.old, text.raws), new or Space("new space", text.new, text.raws), text.pairs)
     scene.legend, scene.caption = LEGEND, ("not checked", "label")
     if verdict:
         scene.caption = (verdict.caption(), "refusal" if verdict.refusal else "verdict")

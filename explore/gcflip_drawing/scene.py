@@ -39,7 +39,9 @@ class Space:
         """Returns how many fields of the object at a place are not drawn."""
         return 0
 
+    @functools.cached_property
     def unreachable(self):
+        """The number of unreachable objects."""
         return len(self.objects) - sum(map(self.objects.__contains__, self.live))
 
 
@@ -49,8 +51,7 @@ def counted(count, name):
 
 def objects_of(space):
     """Returns the number of objects of a space, as a text."""
-    unreachable = space.unreachable()
-    return counted(len(space.objects), "object") + (", %d of them unreachable" % unreachable if unreachable else "")
+    return counted(len(space.objects), "object") + (", %d of them unreachable" % space.unreachable if space.unreachable else "")
 
 
 class Mark(NamedTuple):

@@ -3,7 +3,6 @@ from __future__ import annotations
 
 import bisect
 import copy
-import functools
 import random
 from typing import Any, NamedTuple
 
@@ -15,8 +14,8 @@ from gcflip_drawing.excerpt import MOST_OBJECTS, excerpt_of, starts_between
 from gcflip_drawing.heap import Object, beyond, header_of, shown, walk
 from gcflip_drawing.images_text import read_images
 from gcflip_drawing.pair_picture import scene_of
-from gcflip_drawing.pair_text import Image, PairText, Unreadable, read_accepted, written
-from gcflip_drawing.scene import Scene, counted
+from gcflip_drawing.pair_text import Image, PairText, Unreadable, read_accepted
+from gcflip_drawing.scene import Scene, Space, counted
 from gcflip_drawing.scene_picture import drawn_in_width, is_in_blocks
 from gcflip_drawing.scene_text import told
 from gcflip_drawing.verdicts import Verdict
@@ -36,38 +35,54 @@ INFERRED = "The pairs were found from the two images."
 
 
 class Opened(NamedTuple):
-    """A text that was read and checked: its pair, the verdict, where a refusal is, and the scene."""
+    """A text that was read and checked: its pair, the verdict, where a refusal is, the scene, and what was drawn of it, by widths."""
 
     pair: PairText
     verdict: Verdict
     where: str
     scene: Scene
+    drawings: dict[int, dict[str, Any]]
 
 
-@functools.lru_cache(maxsize=1)
+# The texts that were opened last, the last one behind the others: a pair, and the one from which it was spoiled. Nobody may change what they have.
+KEPT: dict[bytes, Opened] = {}
+MOST_KEPT = 2
+
+
+def keep(text: bytes, found: Opened) -> Opened:
+    """Keeps what was found of a text for later requests about it, and returns it."""
+    KEPT.pop(text, None)
+    KEPT[text] = found
+    for other in list(KEPT)[:-MOST_KEPT]:
+        KEPT.pop(other, None)
+    return found
+
+
 def opened(text: bytes) -> Opened:
-    """Reads and checks a pair text, or an image text, whose pairs are inferred. What it returns is kept for later requests about the same text, so nobody
-    may change it. Raises BadText or Unreadable."""
-    return found_for(text, *(compared(text) if text.startswith(HEADING) else read_and_checked(text)))
+    """Reads and checks a pair text, or an image text, whose pairs are inferred, unless that was done already. Raises BadText or Unreadable."""
+    return keep(text, KEPT.get(text) or found_for(text, *(compared(text) if text.startswith(HEADING) else read_and_checked(text))))
 
 
-def found_for(text: bytes, pair: PairText, refused: Refused | None) -> Opened:
-    """Returns what the page shows of a text, whose pair and refusal are known."""
+def found_for(text: bytes, pair: PairText, refused: Refused | None, **known: Space) -> Opened:
+    """Returns what the page shows of a text, whose pair and refusal are known. A space that is known need not be searched again."""
     verdict = Verdict(str(refused) if refused else "yes %d" % len(pair.pairs))
-    scene = scene_of(pair, "The pair of heaps", verdict)
+    scene = scene_of(pair, "The pair of heaps", verdict, **known)
     # The page shows the verdict above the picture.
     scene.caption = None
     place = where(pair, refused)
     if text.startswith(HEADING):
         place = "%s %s" % (INFERRED, place) if place else INFERRED
-    return Opened(pair, verdict, place, scene)
+    return Opened(pair, verdict, place, scene, {})
 
 
-def checked(text: bytes, width: int, changed: Place | None = None) -> dict[str, Any]:
+def checked(text: bytes, width: int) -> dict[str, Any]:
     """Returns the line that the checker prints for a text, its meaning, where a refusal is, and the picture if the text is a pair text or
-    an image text. Marks a changed word in the picture."""
+    an image text."""
     try:
-        return drawn(opened(text), width, changed)
+        found = opened(text)
+        if width not in found.drawings:
+            found.drawings[width] = drawn(found, width)
+        return found.drawings[width]
     except BadText as fault:
         return {"line": str(fault), "fault": True, "bad_line": getattr(fault, "line", None)}
     except Unreadable as unreadable:
@@ -167,7 +182,7 @@ def place_of(pair: PairText, verdict: Verdict) -> list[dict[str, Any]]:
 def objects_between(text: bytes, heap: str, first: int, last: int, width: int, skipped: int = 0) -> dict[str, Any]:
     """Returns some objects of a heap with a word from `first` to `last`, behind those that are skipped: tables of the first words of each, their picture,
     and how many objects the range has. Raises BadText or Unreadable."""
-    pair, _, _, scene = opened(text)
+    pair, _, _, scene, _ = opened(text)
     image: Image = getattr(pair, heap)
     starts = starts_between(scene.old if heap == "old" else scene.new, first, last)
     shown_ones = starts[skipped:skipped + MOST_OBJECTS]
@@ -260,30 +275,52 @@ def place_to_spoil(pair: PairText, chosen: random.Random) -> Place:
     return Place(heap, "words", chosen.randrange(len(row_of(pair, heap, "words"))))
 
 
-def pair_of(text: bytes) -> PairText:
-    """Returns the pair of a pair text. Nobody may change it, since it is kept. Raises BadText."""
-    if text.startswith(HEADING):
-        return read_and_checked(text)[0]
-    return opened(text).pair
+def with_word(pair: PairText, place: Place, word: int) -> PairText:
+    """Returns a pair with another word at a place. It shares the heap that stays as it is."""
+    changed = {name: getattr(pair, name) for name in ("old", "new")}
+    image = changed[place.heap]
+    rows = {"words": image.words, "roots": image.roots}
+    rows[place.row] = [*rows[place.row][:place.at], word, *rows[place.row][place.at + 1:]]
+    changed[place.heap] = Image(image.size, **rows)
+    return PairText(pair.raws, changed["old"], changed["new"], pair.pairs)
 
 
-def copied(pair: PairText) -> PairText:
-    """Returns a pair whose words can be changed."""
-    return PairText(pair.raws, *(Image(image.size, list(image.words), list(image.roots)) for image in (pair.old, pair.new)), pair.pairs)
+# So many bytes of a text are searched at once.
+PIECE = 1 << 20
+
+
+def line_start(text: bytes, line: int) -> int:
+    """Returns where a line of a text begins. Lines are counted from 1."""
+    at, behind = 0, line - 1
+    while True:
+        count = text.count(b"\n", at, at + PIECE)
+        if count > behind or at + PIECE >= len(text):
+            break
+        at, behind = at + PIECE, behind - count
+    for _ in range(behind):
+        at = text.index(b"\n", at) + 1
+    # The line that begins before a piece goes on in it.
+    return text.rfind(b"\n", 0, at) + 1
 
 
 def spoiled(text: bytes, width: int, chosen: random.Random) -> dict[str, Any]:
-    """Changes one random word of a pair text. Returns the new text, the change, and what the checker says. Raises BadText."""
-    pair = copied(pair_of(text))
+    """Changes one random word of a pair text. Returns the new text, where it differs, the change in words, and what the checker says. Raises BadText."""
+    if text.startswith(HEADING):
+        refusal_of(text)
+    found = opened(text)
+    pair = found.pair
     place = place_to_spoil(pair, chosen)
-    name, row = name_of(pair, place), row_of(pair, place.heap, place.row)
-    before, after = row[place.at], chosen.choice(other_words(row[place.at], chosen))
-    row[place.at] = after
-    new_text = written(pair)
-    new_bytes = new_text.encode("ascii")
-    # The pair is known, so that the new text is checked, and not read.
-    found = drawn(found_for(new_bytes, pair, refusal_of(new_bytes)), width, place)
-    said = "Changed %s from %d to %d." % (name, before, after)
-    if not found["refused"]:
-        said += " The checker still says yes. " + why_accepted(pair, place)
-    return {**found, "text": new_text, "said": said}
+    before = row_of(pair, place.heap, place.row)[place.at]
+    after = chosen.choice(other_words(before, chosen))
+    other = with_word(pair, place, after)
+    image: Image = getattr(pair, place.heap)
+    at = line_start(text, first_line(pair, place.heap) + 1 + place.at + (1 + len(image.words) if place.row == "roots" else 0))
+    new_text = b"%s%d%s" % (text[:at], after, text[at + len(str(before)):])
+    # The pair is known, so that the new text is checked, and not read. Nor is the other heap searched again.
+    known = {"new": found.scene.new} if place.heap == "old" else {"old": found.scene.old}
+    new = keep(new_text, found_for(new_text, other, refusal_of(new_text), **known))
+    said = "Changed %s from %d to %d." % (name_of(pair, place), before, after)
+    shown = drawn(new, width, place)
+    if not shown["refused"]:
+        said += " The checker still says yes. " + why_accepted(other, place)
+    return {**shown, "text": new_text, "change": {"at": at, "from": str(before), "to": str(after)}, "said": said}

@@ -6,7 +6,7 @@ import os
 import random
 import re
 import threading
-from typing import Any, Callable
+from typing import Any, Callable, Generic, TypeVar
 
 from gcflip import BadText
 from gcflip_drawing.images_text import MOST_WORDS
@@ -32,6 +32,21 @@ class Unknown(Exception):
     """The request leaves its text out, and the server does not have it. The page then sends the text."""
 
 
+Kind = TypeVar("Kind")
+
+
+class Last(Generic[Kind]):
+    """What the last text of a tab says, and what the one said from which the server made it."""
+
+    def __init__(self) -> None:
+        self.now: Kind | None = None
+        self.before: Kind | None = None
+
+    def made(self, other: Kind) -> None:
+        """Notes what the server made of the last text."""
+        self.now, self.before = other, self.now
+
+
 class Session:
     """What the server keeps for a tab of the browser. The page sends a long text once, and later requests are about the last one."""
 
@@ -40,8 +55,8 @@ class Session:
         self.lock = threading.Lock()
         self.chosen = random.Random()
         # The text that was checked last, and the trace that was played last.
-        self.checked: bytes | None = None
-        self.trace: Trace | None = None
+        self.checked: Last[bytes] = Last()
+        self.trace: Last[Trace] = Last()
 
     def before_next_flip(self, trace: Trace, position: int) -> Player:
         """Returns a player that has played up to before the next flip after a position, or up to the position if there is none."""
@@ -91,22 +106,25 @@ class Asked:
     def width(self) -> int:
         return self.number("width", 4000)
 
-    def checked(self) -> bytes:
-        """Returns the text of the request, or else the one that was checked last. Raises Unknown."""
+    def last(self, last: Last[Kind], read_text: Callable[[str], Kind]) -> Kind:
+        """Returns what the text of the request says. A request without one is about the last text, or with `before` about the one from which that was made.
+        Raises Unknown."""
         if "text" in self.data:
-            self.session.checked = self.text().encode("utf-8", "surrogatepass")
-        if self.session.checked is None:
+            last.now = last.before = None
+            last.now = read_text(self.text())
+        elif self.data.get("before"):
+            last.now, last.before = last.before, None
+        if last.now is None:
             raise Unknown
-        return self.session.checked
+        return last.now
+
+    def checked(self) -> bytes:
+        """Returns the text to check. Raises Unknown."""
+        return self.last(self.session.checked, lambda text: text.encode("utf-8", "surrogatepass"))
 
     def trace(self) -> Trace:
-        """Returns the trace of the request, or else the one that was played last. Raises BadTrace and Unknown."""
-        if "text" in self.data:
-            self.session.trace = None
-            self.session.trace = read(self.text())
-        if self.session.trace is None:
-            raise Unknown
-        return self.session.trace
+        """Returns the trace to play. Raises BadTrace and Unknown."""
+        return self.last(self.session.trace, read)
 
     def position(self, trace: Trace) -> int:
         return self.number("position", len(trace.events))
@@ -183,7 +201,7 @@ class Desk:
             raise BadRequest("'%s' is no event." % line)
         longer = with_event(trace, position, event)
         told = self.told(asked.session.players.at(longer, position + 1), longer, asked)
-        asked.session.trace = longer
+        asked.session.trace.made(longer)
         return {"line": line, "version": longer.version, **told}
 
     def pair(self, asked: Asked) -> dict[str, Any]:
@@ -198,12 +216,12 @@ class Desk:
         return checking.checked(asked.checked(), asked.width())
 
     def spoil(self, asked: Asked) -> dict[str, Any]:
-        """Changes one random word of a pair text."""
+        """Changes one random word of a pair text, and says where: the page changes its text too."""
         try:
             found = checking.spoiled(asked.checked(), asked.width(), asked.session.chosen)
         except BadText as fault:
             raise BadRequest("Only a pair text can be spoiled: %s." % fault) from None
-        asked.session.checked = found["text"].encode()
+        asked.session.checked.made(found.pop("text"))
         return found
 
     def look(self, asked: Asked) -> dict[str, Any]:

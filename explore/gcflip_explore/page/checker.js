@@ -28,6 +28,11 @@ function holds(frame, { clientX, clientY }) {
   return left <= clientX && clientX <= right && top <= clientY && clientY <= bottom;
 }
 
+const refusedRows = (place) => (place ?? []).flatMap((each) => each.rows).filter((row) => row.refused);
+
+// Returns the line of a text at which the editor opens, if an answer names one.
+const faultyLine = ({ place, bad_line: bad }) => bad ?? refusedRows(place)[0]?.line;
+
 export class Checker {
   // `onShow` is called when something else is shown.
   constructor(examples, onShow) {
@@ -129,11 +134,12 @@ export class Checker {
     this.editor.flush();
     return this.then(async () => {
       const answer = await this.asked("spoil", this.text, {});
-      this.last.sent = answer.text;
+      const { at, from, to } = answer.change;
       this.past.push({ text: this.text, name: this.name });
       this.own();
-      this.text = answer.text;
-      this.editor.show(answer.text);
+      this.text = this.text.slice(0, at) + to + this.text.slice(at + from.length);
+      this.last.made(this.text);
+      this.editor.show(this.text, faultyLine(answer));
       byId("spoiled").textContent = answer.said;
       this.show(answer);
     });
@@ -166,9 +172,9 @@ export class Checker {
     const verdict = byId("verdict-line");
     verdict.textContent = line + (meaning ? ` (${meaning})` : "") + (where ? ` \u2014 ${where}` : "");
     verdict.className = fault || refused ? "verdict refused" : "verdict accepted";
-    const rows = (place ?? []).flatMap((each) => each.rows).filter((row) => row.refused);
+    const rows = refusedRows(place);
     const noted = bad ? [bad] : rows.map((row) => row.line);
-    this.editor.note((each) => (noted.includes(each) ? line : undefined), null, bad ?? rows[0]?.line ?? null);
+    this.editor.note((each) => (noted.includes(each) ? line : undefined), null, faultyLine({ place, bad_line: bad }) ?? null);
     byId("pair-place").replaceChildren(...(place ?? []).map((each) => this.table(each)));
     this.looked = null;
     this.showNear({ picture: near, places: [] });

@@ -1,7 +1,7 @@
 // The tab in which a trace is played: its text, its position, and the server's description of the heap there.
 
 import { CommandButtons } from "./commands.js";
-import { Editor } from "./editor.js";
+import { Editor, startOf } from "./editor.js";
 import { byId, fill, make, save } from "./elements.js";
 import { showCertificate, showLogs, showRoots } from "./lists.js";
 import { meaning, plural } from "./meanings.js";
@@ -17,11 +17,22 @@ const REDUCED = matchMedia("(prefers-reduced-motion: reduce)");
 
 // Returns the text of a trace with the line of an inserted event, in a version that has it.
 function withEvent(text, { line, version, position }) {
-  let at = 0;
-  for (let before = FIRST + position - 2; before > 0; before -= 1) {
-    at = text.indexOf("\n", at) + 1;
-  }
+  const at = startOf(text, FIRST + position - 2);
   return `heaptrace ${version}${text.slice(text.indexOf("\n"), at)}${line}\n${text.slice(at)}`;
+}
+
+// Returns how many lines the common beginning of two texts has.
+function commonLines(one, other) {
+  let same = 0;
+  for (let most = Math.min(one.length, other.length); same < most;) {
+    const middle = Math.ceil((same + most) / 2);
+    [same, most] = one.startsWith(other.slice(same, middle), same) ? [middle, most] : [same, middle - 1];
+  }
+  let lines = 0;
+  for (let at = one.indexOf("\n"); at >= 0 && at < same; at = one.indexOf("\n", at + 1)) {
+    lines += 1;
+  }
+  return lines;
 }
 
 export class Collector {
@@ -129,7 +140,7 @@ export class Collector {
     this.named(name);
     this.take(text);
     this.position = 0;
-    this.editor.show(text);
+    this.editor.show(text, FIRST + position - 1);
     return this.asked(position, {});
   }
 
@@ -177,10 +188,7 @@ export class Collector {
 
   // Takes another text in place of this one. Returns how many of the first events are the same; their replies stay known.
   take(text) {
-    const lines = this.text.split("\n");
-    const others = text.split("\n");
-    const same = others.findIndex((line, at) => line !== lines[at]);
-    const kept = Math.max(0, (same < 0 ? others.length : same + 1) - FIRST);
+    const kept = Math.max(0, commonLines(text, this.text) - (FIRST - 1));
     this.text = text;
     this.replies.length = Math.min(this.replies.length, kept);
     return kept;
@@ -233,9 +241,10 @@ export class Collector {
         say(`There is no such mutator in this trace: ${line}`);
       } else {
         this.remember();
-        this.text = this.last.sent = withEvent(this.text, answer);
+        this.text = withEvent(this.text, answer);
+        this.last.made(this.text);
         this.replies.length = Math.min(this.replies.length, this.position);
-        this.editor.show(this.text);
+        this.editor.show(this.text, FIRST + answer.position - 1);
         this.named("");
         this.show(answer);
       }
@@ -324,10 +333,8 @@ export class Collector {
 
   // Returns a line of the trace, whose lines are counted from 1.
   line(number) {
-    if (this.split?.text !== this.text) {
-      this.split = { text: this.text, lines: this.text.split("\n") };
-    }
-    return this.split.lines[number - 1];
+    const at = startOf(this.text, number - 1);
+    return this.text.slice(at, this.text.indexOf("\n", at));
   }
 
   showEvent({ collection, position, total }) {

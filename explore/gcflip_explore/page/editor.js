@@ -9,16 +9,22 @@ const MOST_SHOWN = 400000;
 // Of a longer text so many lines are shown, around the place that matters, and cannot be edited.
 const MOST_LINES = 2000;
 
-// Returns the first lines of a text.
-function head(text, count) {
-  let end = -1;
+// Returns where the line behind so many lines begins, or the length of a text that has fewer.
+export function startOf(text, count) {
+  let at = 0;
   for (let line = 0; line < count; line += 1) {
-    end = text.indexOf("\n", end + 1);
-    if (end < 0) {
-      return text;
+    at = text.indexOf("\n", at) + 1;
+    if (at === 0) {
+      return text.length;
     }
   }
-  return text.slice(0, end);
+  return at;
+}
+
+// Returns the first lines of a text.
+function head(text, count) {
+  const at = startOf(text, count);
+  return at < text.length ? text.slice(0, at - 1) : text;
 }
 
 export class Editor {
@@ -50,25 +56,22 @@ export class Editor {
     new ResizeObserver(() => this.draw()).observe(this.area);
   }
 
-  // Shows a text. Until it is edited, `text` stays as given, even if the browser changes its line ends.
-  show(text) {
+  // Shows a text, and of a long one the lines around `line`. Until it is edited, `text` stays as given, even if the browser changes its line ends.
+  show(text, line = 1) {
     clearTimeout(this.waiting);
     this.waiting = null;
     this.text = text;
     this.cut = text.length > MOST_SHOWN;
     this.area.readOnly = this.cut;
     this.before = 0;
-    // A long text is divided into its lines when one behind the first ones is asked for.
-    this.lines = null;
-    this.area.value = this.cut ? head(text, MOST_LINES) : text;
+    this.area.value = this.cut ? this.part(line) : text;
     this.note(() => undefined, null, null);
   }
 
   // Returns the lines of a long text around one of them, which are shown in its place.
   part(line) {
-    this.lines ??= this.text.split("\n");
-    this.before = Math.max(0, Math.min(line - 1 - MOST_LINES / 2, this.lines.length - MOST_LINES));
-    return this.lines.slice(this.before, this.before + MOST_LINES).join("\n");
+    this.before = Math.max(0, line - 1 - MOST_LINES / 2);
+    return head(this.text.slice(startOf(this.text, this.before)), MOST_LINES);
   }
 
   edited() {

@@ -46,17 +46,34 @@ async function answered(name, data) {
   return answer;
 }
 
-// Asks about a text. The server keeps the last one of each tab of the page, so that a long text is sent once.
+// Asks about a text. The server keeps the last one of each tab of the page, and the one from which it made that, so that a long text is sent once.
 export class LastText {
+  // Notes a text that the server made of the last one.
+  made(text) {
+    [this.sent, this.before] = [text, this.sent];
+  }
+
   async ask(name, text, data) {
-    const known = this.sent === text ? await ask(name, data) : { unknown: true };
+    const known = await this.askedAgain(name, text, data);
     if (!known.unknown) {
       return known;
     }
-    this.sent = undefined;
+    this.sent = this.before = undefined;
     const answer = await ask(name, { ...data, text });
     this.sent = answer.fault ? undefined : text;
     return answer;
+  }
+
+  // Asks about a text that the server has, without the text.
+  async askedAgain(name, text, data) {
+    if (this.sent === text) {
+      return ask(name, data);
+    }
+    if (this.before !== text || text === undefined) {
+      return { unknown: true };
+    }
+    [this.sent, this.before] = [text, undefined];
+    return ask(name, { ...data, before: true });
   }
 }
 

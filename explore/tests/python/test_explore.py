@@ -398,8 +398,15 @@ class Checking(unittest.TestCase):
         lines, refusals = good.split("\n"), set()
         for _ in range(200):
             found = checking.spoiled(good.encode(), 900, chosen)
-            differing = [at for at, line in enumerate(found["text"].split("\n")) if line != lines[at]]
+            text, (at, before, after) = found["text"].decode(), found["change"].values()
+            differing = [at for at, line in enumerate(text.split("\n")) if line != lines[at]]
             self.assertEqual((len(differing), found["fault"]), (1, False))
+            self.assertEqual(text, good[:at] + after + good[at + len(before):])
+            # What is known of a spoiled pair is what reading it tells.
+            shown = checking.checked(found["text"], 900)
+            checking.KEPT.clear()
+            self.assertEqual(shown, checking.checked(found["text"], 900))
+            self.assertEqual((shown["line"], shown["where"]), (found["line"], found["where"]))
             refusals.add(found["line"].split(" ")[1] if found["refused"] else "yes")
             self.assertEqual("still says yes" in found["said"], not found["refused"])
         # A wrong root, header, field or shape, and a link, which no check reads.
