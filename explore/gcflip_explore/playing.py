@@ -1,12 +1,13 @@
 """Plays traces through the binding. Each reply is the shared library's, written as the line that `gcflip play` prints.
 
 A heap only goes forward. To go back, a player makes a heap from the nearest checkpoint, and plays the events behind it. What a tab of the browser
-keeps is bounded: at most MOST_PLAYERS players, each with a heap, the line and the reply of each event, the states of the timeline, and checkpoints of
+keeps is bounded: at most MOST_PLAYERS players, each with a heap, the line, the reply and the time of each event, the states of the timeline, and checkpoints of
 at most 32 MiB (MOST_WORDS of `record`).
 """
 from __future__ import annotations
 
 import contextlib
+from time import perf_counter_ns
 from typing import Callable, Iterable, Iterator, NamedTuple
 
 from gcflip import Heap
@@ -40,9 +41,12 @@ class Player:
 
     def play(self, event: Event) -> str:
         """Performs the next event, and returns the line of its reply. Raises OutOfMemory; the event is then not performed."""
-        reply = self.stage.acts.of(event)()
+        act = self.stage.acts.of(event)
+        began = perf_counter_ns()
+        reply = act()
+        time = perf_counter_ns() - began
         if self.position == len(self.record.lines):
-            self.record.add(event, reply, self.stage)
+            self.record.add(event, reply, self.stage, time)
         self.position += 1
         return reply
 

@@ -1,6 +1,7 @@
 """What is known of a trace that was played: its replies, its states, and checkpoints."""
 from __future__ import annotations
 
+import array
 import bisect
 
 from gcflip_drawing.timeline import LANES, Frame, Measure, Run, mark_of
@@ -25,6 +26,8 @@ class Record:
         self.size, self.mutators = size, mutators
         self.lines: list[str] = []
         self.replies: list[str] = []
+        # The nanoseconds that the call of each event took.
+        self.times = array.array("Q")
         # The states that differ from those before them, or that a mark of the timeline stands for, each with the number of its event.
         self.states: list[tuple[int, Measure]] = []
         # The numbers of the events that have a mark, by the mark.
@@ -37,11 +40,12 @@ class Record:
         # The last summaries of the states for the timeline, the last one first: that of a trace stays while a line is inserted and taken back.
         self.summaries: list[Run] = []
 
-    def add(self, event: Event, reply: str, stage: Stage) -> None:
-        """Adds an event with its reply. The stage is in the state after it."""
+    def add(self, event: Event, reply: str, stage: Stage, time: int) -> None:
+        """Adds an event with its reply and the nanoseconds of its call. The stage is in the state after it."""
         at = len(self.lines)
         self.lines.append(event.line)
         self.replies.append(reply)
+        self.times.append(time)
         last = self.states[-1][1] if self.states else None
         if last is None or event.mutator is None or event.name in ("new", "raw") or event.name == "put" and last.is_open:
             state, mark = stage.measured(reply), mark_of(reply)
@@ -63,7 +67,7 @@ class Record:
     def first(self, count: int) -> Record:
         """Returns a record of the first events."""
         found = Record(self.size, self.mutators)
-        found.lines, found.replies = self.lines[:count], self.replies[:count]
+        found.lines, found.replies, found.times = self.lines[:count], self.replies[:count], self.times[:count]
         found.states = self.states[:bisect.bisect_left(self.states, (count,))]
         found.marks = {mark: events[:bisect.bisect_left(events, count)] for mark, events in self.marks.items()}
         found.least = self.least

@@ -143,7 +143,8 @@ class Desk:
         self.lock = threading.Lock()
         self.file = file
         self.answers: dict[str, Callable[[Asked], dict[str, Any]]] = {
-            "start": self.start, "play": self.play, "insert": self.insert, "pair": self.pair, "check": self.check, "spoil": self.spoil, "look": self.look}
+            "start": self.start, "play": self.play, "insert": self.insert, "pair": self.pair, "check": self.check, "spoil": self.spoil, "look": self.look,
+            "pauses": self.pauses}
 
     def answer(self, name: str, data: Any) -> dict[str, Any]:
         """Answers a request. Its name is one of `answers`. Raises BadRequest."""
@@ -211,6 +212,11 @@ class Desk:
         if words.new is None:
             raise BadRequest("No collection is open, so there is no certificate.")
         return {"text": state.Certificate(words).text()}
+
+    def pauses(self, asked: Asked) -> dict[str, Any]:
+        """Returns the times of the calls up to a position of a trace."""
+        trace = asked.trace()
+        return state.pauses(asked.session.players.at(trace, asked.position(trace)), trace, asked.width())
 
     def check(self, asked: Asked) -> dict[str, Any]:
         return checking.checked(asked.checked(), asked.width())

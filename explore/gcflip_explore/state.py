@@ -6,7 +6,7 @@ from typing import Any
 
 from gcflip import Image, Refused, check, explained
 from gcflip.inference import root_name
-from gcflip_drawing import collection_picture, pair_text, timeline
+from gcflip_drawing import collection_picture, pair_text, pauses_picture, timeline
 from gcflip_drawing.collection_picture import State
 from gcflip_drawing.heap import shown, target
 from gcflip_drawing.scene import counted
@@ -97,7 +97,7 @@ def described(player: Player, trace: Trace, width: int) -> dict[str, Any]:
     opened = collection(player, words) if words.new else None
     logs = [list(zip(log[::2], log[1::2])) for log in player.stage.logs()]
     state = State(words.old, words.new, player.stage.scan(), logs, bool(opened and opened["ready"]), tuple(player.changed))
-    frame = timeline.Frame(max(160, width - timeline.LEFT - timeline.RIGHT), TIMELINE_HEIGHT, False)
+    run = run_of(player, trace, width)
     scene = collection_picture.scene_of(state, "The heap after %s" % counted(position, "event"))
     return {
         "position": position,
@@ -105,11 +105,23 @@ def described(player: Player, trace: Trace, width: int) -> dict[str, Any]:
         "picture": drawn_in_width(scene, width).described(),
         "told": told(scene),
         # Where the events are in the timeline: the left end of the first one, and the width of all.
-        "span": [timeline.LEFT, frame.width],
-        "timeline": timeline.drawn_run(trace, player.record.run_of(position, frame, len(trace.events)), "Words in use").described(),
+        "span": [timeline.LEFT, run.frame.width],
+        "timeline": timeline.drawn_run(trace, run, "Words in use").described(),
         "roots": roots(player, words),
         "logs": [{"mutator": mutator, "entries": log[:MOST_LISTED], "count": len(log)} for mutator, log in enumerate(logs)],
         "collection": opened,
         "size": counts.size,
         "mutators": counts.mutators,
     }
+
+
+def run_of(player: Player, trace: Trace, width: int) -> timeline.Run:
+    """Returns the summary of the events that were played, for pictures of this width."""
+    frame = timeline.Frame(max(160, width - timeline.LEFT - timeline.RIGHT), TIMELINE_HEIGHT, False)
+    return player.record.run_of(player.position, frame, len(trace.events))
+
+
+def pauses(player: Player, trace: Trace, width: int) -> dict[str, Any]:
+    """Returns what the page shows of the times of the calls that were played."""
+    times = player.record.times[:player.position]
+    return {"picture": pauses_picture.drawn(run_of(player, trace, width), times).described(), "told": pauses_picture.told(trace.events, times)}

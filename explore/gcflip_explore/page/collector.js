@@ -97,14 +97,17 @@ export class Collector {
       save(this.text, `${this.name || "trace"}.trace`);
     });
     byId("to-commands").addEventListener("click", () => byId("commands").scrollIntoView());
-    byId("timeline").addEventListener("click", (event) => {
-      const drawing = byId("timeline").querySelector("svg");
-      if (drawing && this.span && this.total > 0) {
-        const [left, width] = this.span;
-        const part = (event.clientX - drawing.getBoundingClientRect().left - left) / width;
-        this.goTo(Math.round(part * this.total));
-      }
-    });
+    for (const place of ["timeline", "pauses"].map(byId)) {
+      place.addEventListener("click", (event) => {
+        const drawing = place.querySelector("svg");
+        if (drawing && this.span && this.total > 0) {
+          const [left, width] = this.span;
+          const part = (event.clientX - drawing.getBoundingClientRect().left - left) / width;
+          this.goTo(Math.round(part * this.total));
+        }
+      });
+    }
+    byId("pauses-view").addEventListener("toggle", () => this.then(() => this.showPauses()));
     new ResizeObserver(() => this.resized()).observe(byId("picture"));
   }
 
@@ -246,7 +249,7 @@ export class Collector {
         this.replies.length = Math.min(this.replies.length, this.position);
         this.editor.show(this.text, FIRST + answer.position - 1);
         this.named("");
-        this.show(answer);
+        await this.show(answer);
       }
     });
   }
@@ -256,7 +259,7 @@ export class Collector {
     if (answer.fault) {
       this.showFault(answer.fault);
     } else {
-      this.show(answer);
+      await this.show(answer);
     }
   }
 
@@ -329,6 +332,19 @@ export class Collector {
     this.buttons.show(answer.mutators);
     this.enable(true);
     this.onShow();
+    return this.showPauses();
+  }
+
+  // Shows how long the calls took, if the reader wants to see it.
+  async showPauses() {
+    if (!byId("pauses-view").open || !(this.total >= 0)) {
+      return;
+    }
+    const { picture, told, fault } = await this.last.ask("pauses", this.text, { position: this.position, width: this.width() });
+    if (!fault) {
+      byId("pauses").replaceChildren(render(picture));
+      byId("pauses-text").textContent = told;
+    }
   }
 
   // Returns a line of the trace, whose lines are counted from 1.

@@ -606,6 +606,31 @@ def hurry(_program, folder):
         yield "no complaint", complaints(shown)
 
 
+def pauses(_program, folder):
+    """Checks that the reader sees the time of each call: a sentence and a picture, which go with the event, and a click that goes to an event."""
+    with page(folder) as shown:
+        if shown is None:
+            return
+        yield "no times before the reader asks", wrong(shown.run("return document.querySelectorAll('#pauses svg').length;"), 0)
+        shown.step(1, 11)
+        shown.run("document.querySelector('#pauses-view summary').click();")
+        shown.wait_for("pauses-text", "Of 1 calls, half took at most ")
+        shown.step(2, 11)
+        shown.wait_for("pauses-text", "Of 2 calls, half took at most ")
+        said = shown.text("pauses-text")
+        longest = re.search(r"The longest took [\d.]+ (?:ns|\u00b5s|ms|s): event ([12]), '(.*)'\.$", said)
+        lines = content("write_while_scanning.trace").decode().split("\n")[2:]
+        yield "the longest call", None if longest and longest.group(2) == lines[int(longest.group(1)) - 1] else said
+        shown.click("play-run")
+        shown.wait_for("pauses-text", "Of 11 calls, ")
+        yield "the flip is marked", wrong(shown.run("return [...document.querySelectorAll('#pauses rect.flip title')].length;"), 1)
+        shown.run("""const svg = document.querySelector("#pauses svg"), axis = svg.querySelector("polyline.axis").getBoundingClientRect();
+            svg.dispatchEvent(new MouseEvent("click", { bubbles: true, clientX: axis.left + axis.width * 5 / 11, clientY: axis.top + 9 }));""")
+        shown.wait_for("event", "Event 5 of 11")
+        yield "a click goes to the event", None
+        yield "no complaint", complaints(shown)
+
+
 def progress(_program, folder):
     """Checks that a bar is shown while the server takes long for an answer, and not for a quick one."""
     with page(folder) as shown:

@@ -619,6 +619,31 @@ class Requests(unittest.TestCase):
         with self.assertRaises(requests.BadRequest):
             self.ask("look", text="heappair 1\n", heap="old", first=0, last=1)
 
+    def test_times_of_calls(self):
+        """Plays events whose calls take 200, 3,000, 40,000 .. nanoseconds by a clock of the test, goes back, and inserts an event. An event keeps the time of its
+        first call, and a trace that is played from its start has times of its own."""
+        takes = [200, 3000, 40000, 90, 5000000, 700, 800, 900, 12345, 67890, 1]
+        clock = [reading for at, took in enumerate(takes) for reading in (10 ** 9 * at, 10 ** 9 * at + took)]
+        text = "heaptrace 1\nspace 16 mutators 1\nm 0 num r0 3\nm 0 look r0\nm 0 nil r0\nc begin\nc flip\n"
+        with mock.patch.object(playing, "perf_counter_ns", mock.Mock(side_effect=clock)):
+            self.assertEqual(self.ask("pauses", text=text)["told"], "No event was played yet.")
+            told = self.ask("pauses", text=text, position=5)["told"]
+            self.assertEqual(told, "Of 5 calls, half took at most 3.0 \u00b5s, and 99 of 100 at most 40 \u00b5s. The longest took 5.0 ms: event 5, 'c flip'.")
+            # Two events are played again, and their times stay.
+            told = self.ask("pauses", text=text, position=2)["told"]
+            self.assertEqual(told, "Of 2 calls, half took at most 200 ns, and 99 of 100 at most 200 ns. The longest took 3.0 \u00b5s: event 2, 'm 0 look r0'.")
+            self.ask("insert", text=text, position=2, line="m 0 nil r1")
+            self.assertEqual(list(self.desk.session("").players.players[0].record.times), [900, 12345, 67890])
+
+    def test_the_picture_of_times(self):
+        """Checks the scale, and the area of two calls of 1 and of 10 microseconds, on a chart of 160 by 110 pixels for 10 microseconds and 2 powers of ten."""
+        with mock.patch.object(playing, "perf_counter_ns", mock.Mock(side_effect=[0, 1000, 0, 10000])):
+            found = self.ask("pauses", text="heaptrace 1\nspace 16 mutators 1\nm 0 num r0 3\nm 0 nil r0\n", position=2, width=0)["picture"]["shapes"]
+        self.assertEqual([shape["text"] for shape in found if shape.get("anchor") == "end"][:3], ["100 ns", "1.0 \u00b5s", "10 \u00b5s"])
+        area, = [shape["points"] for shape in found if shape["kind"] == "area"]
+        left, top, floor = timeline.LEFT, 24, 134
+        self.assertEqual([(x, round(y)) for x, y in area], [(left, floor), (left, 79), (left + 80, 79), (left + 80, top), (left + 160, top), (left + 160, floor)])
+
     def test_a_request_without_memory_is_refused(self):
         for fault in (MemoryError(), gcflip.OutOfMemory("play")):
             with self.subTest(fault=type(fault)), mock.patch.dict(self.desk.answers, {"play": mock.Mock(side_effect=fault)}):
