@@ -2,7 +2,7 @@
 import math
 
 from .picture import Picture
-from .timeline import LEFT, RIGHT, draw_area, draw_axis, draw_cursor, spans
+from .timeline import LEFT, RIGHT, draw_area, draw_axis, draw_cursor, draw_legend, spans
 
 # The least nanoseconds of the scale, which has a line for each power of ten.
 LEAST = 100
@@ -49,13 +49,8 @@ def drawn(run, times):
             picture.box(run.x(at), height(time), max(1.5, run.step()), floor - height(time), "flip", tip="flips, %s" % shown_time(time))
     picture.line([(LEFT, top), (LEFT, floor), (run.right(), floor)], "axis")
     draw_cursor(picture, run, floor)
-    base = draw_axis(picture, run, floor)
-    x = LEFT
-    for role, name in LEGEND:
-        picture.box(x, base + 8, 18, 12, role)
-        picture.text(x + 24, base + 18, name, "small")
-        x += 44 + 6 * len(name)
-    return picture.sized(run.right() + RIGHT, base + 36)
+    bottom = draw_legend(picture, run, draw_axis(picture, run, floor + 8) + 12, LEGEND)
+    return picture.sized(run.right() + RIGHT, bottom + 28)
 
 
 def told(events, times):

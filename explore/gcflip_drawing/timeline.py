@@ -261,10 +261,10 @@ def draw_labels(picture, run, events, top):
 LEGEND = [("used", "words in use"), ("copied", "words in the new space"), ("collection", "a collection is open"), ("log", "log entries")]
 
 
-def draw_legend(picture, run, y):
+def draw_legend(picture, run, y, entries):
     """Draws a sample of each role with its name, in as many lines as needed. Returns the base of the last line."""
     x = 24
-    for role, name in LEGEND + ([("limit", "size of the space")] if run.shows_size() else []):
+    for role, name in entries:
         sample = 28 if role == "limit" else 18
         if x > 24 and x + sample + 6 + 6 * len(name) > run.right() + RIGHT:
             x, y = 24, y + 20
@@ -304,5 +304,5 @@ def drawn_run(trace, run, title):
     top = draw_axis(picture, run, top)
     if run.labelled:
         top = draw_labels(picture, run, trace.events, top + 4)
-    bottom = draw_legend(picture, run, top + 12)
+    bottom = draw_legend(picture, run, top + 12, LEGEND + ([("limit", "size of the space")] if run.shows_size() else []))
     return picture.sized(run.right() + RIGHT, bottom + 28)

@@ -291,6 +291,15 @@ class Pictures(unittest.TestCase):
                 for x, y in points:
                     self.assertTrue(0 <= x <= picture["width"] and 0 <= y <= picture["height"], (shape, picture["width"], picture["height"]))
 
+    def test_the_picture_of_times_fits(self):
+        for _, trace, position in positions():
+            for width in (326, 620, 1300):
+                picture = state.pauses(played(trace, position), trace, width)["picture"]
+                self.assertLessEqual(picture["width"], width)
+                for shape in picture["shapes"]:
+                    points = shape.get("points") or [(shape["x"], shape["y"]), (shape["x"] + shape.get("width", 0), shape["y"] + shape.get("height", 0))]
+                    self.assertTrue(all(0 <= x <= width and 0 <= y <= picture["height"] for x, y in points), shape)
+
     def test_the_legend_stands_below(self):
         for picture in self.pictures():
             names = [shape for shape in picture["shapes"] if shape.get("text") in ("reachable", "words in use")]
