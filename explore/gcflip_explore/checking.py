@@ -11,7 +11,7 @@ from gcflip import BadText, Refused, check_text, compare, explained
 from gcflip.inference import root_name
 from gcflip_drawing.blocks_picture import blocks_of
 from gcflip_drawing.excerpt import MOST_OBJECTS, excerpt_of, starts_between
-from gcflip_drawing.heap import Object, beyond, header_of, shown, walk
+from gcflip_drawing.heap import Object, beyond, header_of, shown, target, walk
 from gcflip_drawing.images_text import read_images
 from gcflip_drawing.pair_picture import scene_of
 from gcflip_drawing.pair_text import Image, PairText, Unreadable, read_accepted
@@ -285,6 +285,18 @@ def with_word(pair: PairText, place: Place, word: int) -> PairText:
     return PairText(pair.raws, changed["old"], changed["new"], pair.pairs)
 
 
+def keeps_references(pair: PairText, place: Place, *words: int) -> bool:
+    """Returns whether a word can be exchanged for another without a change of the objects, and of the references from one to another or from a root."""
+    thing = object_around(pair, place)
+    is_part = place.row == "roots" or thing is not None and place.at > thing.start
+    return is_part and not any(target(word, beyond(row_of(pair, place.heap, "words"))) for word in words)
+
+
+def with_image(space: Space, image: Image, raws: bool, keeps: bool) -> Space:
+    """Returns a space with another image, which has the same reachable objects if it keeps the references."""
+    return Space(space.name, image, raws, space.live if keeps else None)
+
+
 # So many bytes of a text are searched at once.
 PIECE = 1 << 20
 
@@ -316,9 +328,10 @@ def spoiled(text: bytes, width: int, chosen: random.Random) -> dict[str, Any]:
     image: Image = getattr(pair, place.heap)
     at = line_start(text, first_line(pair, place.heap) + 1 + place.at + (1 + len(image.words) if place.row == "roots" else 0))
     new_text = b"%s%d%s" % (text[:at], after, text[at + len(str(before)):])
-    # The pair is known, so that the new text is checked, and not read. Nor is the other heap searched again.
-    known = {"new": found.scene.new} if place.heap == "old" else {"old": found.scene.old}
-    new = keep(new_text, found_for(new_text, other, refusal_of(new_text), **known))
+    # The pair is known, so that the new text is checked, and not read. Nor is a heap searched again whose references stay.
+    spaces = {"old": found.scene.old, "new": found.scene.new}
+    spaces[place.heap] = with_image(spaces[place.heap], getattr(other, place.heap), pair.raws, keeps_references(pair, place, before, after))
+    new = keep(new_text, found_for(new_text, other, refusal_of(new_text), **spaces))
     said = "Changed %s from %d to %d." % (name_of(pair, place), before, after)
     shown = drawn(new, width, place)
     if not shown["refused"]:
