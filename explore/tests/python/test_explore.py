@@ -421,6 +421,14 @@ class Checking(unittest.TestCase):
         # A wrong root, header, field or shape, and a link, which no check reads.
         self.assertLessEqual({"yes", "1", "2", "9", "10"}, refusals)
 
+    def test_lines_are_found(self):
+        """Searches a text in pieces of every small size for the start of each line."""
+        text = b"heappair 2\nold 9 9\n0\n16777217\n\n7\nend\n"
+        starts = [0] + [at + 1 for at, byte in enumerate(text) if byte == 10][:-1]
+        for size in range(1, len(text) + 2):
+            with mock.patch.object(checking, "PIECE", size):
+                self.assertEqual([checking.line_start(text, line) for line in range(1, len(starts) + 1)], starts)
+
     def test_the_spoiled_word_is_named(self):
         good = next(example["text"] for example in PAIRS if example["name"] == "garbage_left_behind").encode()
         pair = read_pair(good.decode())
@@ -532,6 +540,9 @@ class Requests(unittest.TestCase):
         self.assertEqual(self.ask("play", position=3)["replies"], ["done", "done", "saw nil"])
         self.assertEqual(self.ask("insert", position=1, line="m 1 nil r0")["fault"]["line"], 4)
         self.assertEqual(self.ask("play", position=3)["replies"], ["done", "done", "saw nil"])
+        self.assertEqual(self.ask("play", position=2, before=True)["replies"], ["done", "saw num 3"])
+        self.assertEqual(self.ask("play", position=2, before=True), unknown)
+        self.assertEqual(self.ask("play", text=text, position=2)["total"], 2)
         self.assertEqual(self.ask("play", position=0, session="another"), unknown)
         self.assertIn("fault", self.ask("play", text="heaptrace 1\n"))
         self.assertEqual(self.ask("play"), unknown)
