@@ -31,8 +31,8 @@ checker: ## proves the checker for C without the collector, and builds bindings/
 dist: ## proves the program and the libraries, and packs a release into dist/
 	@tools/dist --build
 
-explore: ## shows a collection in a web page; builds the libraries first if bindings/c/out has none
+explore: ## shows a collection, or the text of FILE=.., in a web page; builds the libraries first if bindings/c/out has none
 	@test -n "$$GCFLIP_LIBRARY" || test -e bindings/c/out/libgcflip.so || $(MAKE) --no-print-directory libraries
-	@cd bindings/python && python3 -m gcflip.explore
+	@PYTHONPATH=bindings/python:explore python3 -m gcflip_explore $(FILE)
 
 .PHONY: list run test prove libraries beside checker dist explore

@@ -108,7 +108,8 @@ def versions(_program, _folder):
     major, minor, patch = [int(part) for part in text.split(".")]
     yield "the header's number is that of its text", None if number == 10000 * major + 100 * minor + patch else "it is %d" % number
     places = [("crates/gcflip_c/src/version.rt", r"const VERSION: u32 = (\d+);", str(number)),
-              ("bindings/python/pyproject.toml", r"(?m)^version = \"(.*)\"", text), ("bindings/rust/Cargo.toml", r"(?m)^version = \"(.*)\"", text),
+              ("bindings/python/pyproject.toml", r"(?m)^version = \"(.*)\"", text), ("explore/pyproject.toml", r"(?m)^version = \"(.*)\"", text),
+              ("explore/pyproject.toml", r"\"gcflip==(.*)\"", text), ("bindings/rust/Cargo.toml", r"(?m)^version = \"(.*)\"", text),
               ("crates/gcflip/src/task.rt", r"\.about\(\"gcflip ([\d.]+):", text), ("bindings/rust/Cargo.lock", r"name = \"gcflip\"\nversion = \"(.*)\"", text),
               ("bindings/python/gcflip/library.py", r"(?m)^VERSION = (\d+)", str(number)), ("CHANGELOG.md", r"(?m)^## (\d+\.\d+\.\d+)", text)]
     for path, pattern, wanted in places:

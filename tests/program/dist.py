@@ -93,7 +93,7 @@ def release(program, folder):
     with open(os.path.join(out, "SHA256SUMS"), encoding="ascii") as file:
         sums = dict(line.split()[::-1] for line in file)
     found = {name: hashlib.sha256(open(os.path.join(out, name), "rb").read()).hexdigest() for name in os.listdir(out) if name != "SHA256SUMS"}
-    yield "checksums", None if sums == found and len(found) == 4 else "they are %s" % found
+    yield "checksums", None if sums == found and len(found) == 5 else "they are %s" % found
     with tarfile.open(only(out, ".tar.gz")) as tar:
         trust = tar.extractfile("herbpond-%s-linux-x86_64/share/doc/herbpond/TRUST.md" % version()).read().decode()
     for product in PRODUCTS:
@@ -154,7 +154,7 @@ def with_version(source, version):
 
 
 def wheel(program, folder):
-    """Installs the wheel by pip without a network, uses it, installs it again, and removes it."""
+    """Installs the wheels by pip without a network, uses them, installs one again, and removes both."""
     out, why = packed(program, folder)
     if why:
         yield "the wheel", why
@@ -175,21 +175,34 @@ def wheel(program, folder):
     environment = {name: value for name, value in os.environ.items() if name not in ("GCFLIP_LIBRARY", "LD_LIBRARY_PATH", "PYTHONPATH")}
     environment.update(PYTHONDONTWRITEBYTECODE="1")
     began = time.monotonic()
-    yield "pip install", within(SECONDS, began, printed([*pip, "install", "--no-index", "--no-compile", only(out, ".whl")], b"", env=environment, cwd=folder))
+    install, own, page = [*pip, "install", "--no-index", "--no-compile"], only(out, "linux_x86_64.whl"), only(out, "any.whl")
+    alone = done([*install, page], env=environment, cwd=folder)
+    yield "the page needs gcflip", None if alone.status != 0 and b"gcflip==" + version().encode() in alone.stderr else alone.stderr.decode()
+    yield "pip install", within(SECONDS, began, printed([*install, own], b"", env=environment, cwd=folder))
     code = "import gcflip; print(gcflip.library_version()); heap = gcflip.Heap(4096); heap.mutator(0).new(0, 1, 2); print(heap.work(100).pairs)"
     began = time.monotonic()
     yield "Python from the wheel", within(SECONDS, began, printed([python, "-c", code], b"0.2.0\n1\n", env=environment, cwd=folder))
     code = "import sys, gcflip.quick; print(gcflip.quick.HAS_EXTENSION == (sys.version_info >= (3, 10)))"
     yield "the extension of the wheel", printed([python, "-c", code], b"True\n", env=environment, cwd=folder)
-    began, page = time.monotonic(), subprocess.Popen([python, "-m", "gcflip.explore", "--no-browser"], env=environment, cwd=folder, stdout=subprocess.PIPE, text=True)
-    said = page.stdout.readline()
-    page.terminate()
-    page.communicate()
-    yield "the page from the wheel", within(SECONDS, began, None if "http://127.0.0.1:" in said else said)
-    yield "an upgrade", printed([*pip, "install", "--no-index", "--no-compile", "--force-reinstall", only(out, ".whl")], b"", env=environment, cwd=folder)
-    done([*pip, "uninstall", "--yes", "gcflip"], env=environment, cwd=folder)
+    without = done([python, "-m", "gcflip.explore", "--no-browser"], env=environment, cwd=folder)
+    yield "the wheel of gcflip lacks the page, and says so", None if without.status == 1 and b"python3 -m gcflip_explore" in without.stderr else without.stderr.decode()
+    yield "pip install of the page", printed([*install, page], b"", env=environment, cwd=folder)
+    for command, told in (("gcflip_explore", ""), ("gcflip.explore", "explore: the command is now 'python3 -m gcflip_explore'\n")):
+        began = time.monotonic()
+        yield "the page by python -m %s" % command, within(SECONDS, began, why_no_page([python, "-m", command, "--no-browser"], told, env=environment, cwd=folder))
+    yield "an upgrade", printed([*install, "--force-reinstall", own], b"", env=environment, cwd=folder)
+    done([*pip, "uninstall", "--yes", "gcflip", "gcflip-explore"], env=environment, cwd=folder)
     left = files_below(site) - before
-    yield "nothing is left of the wheel", None if not left else "left: %s" % sorted(left)[:5]
+    yield "nothing is left of the wheels", None if not left else "left: %s" % sorted(left)[:5]
+
+
+def why_no_page(words, told, **more):
+    """Starts the server of the page, and returns why it prints no address, or tells something else on standard error, or None."""
+    server = subprocess.Popen(words, stdout=subprocess.PIPE, stderr=subprocess.PIPE, text=True, **more)
+    said = server.stdout.readline()
+    server.terminate()
+    _, complained = server.communicate()
+    return None if "http://127.0.0.1:" in said and complained == told else "%r, %r" % (said, complained)
 
 
 def deb(program, folder):

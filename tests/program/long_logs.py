@@ -16,7 +16,7 @@ LINES = ("date", "commit", "minutes", "failed")
 FIGURES = {"edits": "edits refused", "tests": "tests proved", "random": "calls", "churn": "operations", "second_compiler": "cases passed", "large": "collections", "soak": "commands",
            "runtimes": "collections", "releases": "files", "pages": "texts"}
 # The folders whose trees in git a log names, so that it says of which code it tells when its commit was merged under another name.
-FOLDERS = ("crates", "bindings")
+FOLDERS = ("crates", "bindings", "explore")
 # The parts that have no log as yet. CI says so aloud.
 WITHOUT_LOG = ()
 DAY = 24 * 60 * 60

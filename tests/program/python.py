@@ -1,7 +1,7 @@
-"""Tests of bindings/python: the package over the shared library, built by its pyproject.toml, with the programs of tests/python.
+"""Tests of bindings/python and explore: the packages over the shared library, built by their pyproject.toml, with the programs of tests/python.
 
 It tests bindings/python, built by its pyproject.toml, by the programs of tests/python: each call and each exception but FlipRefused, which is proved
-never to come; all pair texts and traces; examples/python; the Python code of the page of gcflip.explore; files that are not the library; types, by
+never to come; all pair texts and traces; examples/python; the Python code of explore, the page's package; files that are not the library; types, by
 mypy in strict mode where it is. What uses a heap is tested with the extension, as a wheel has it, and by ctypes alone.
 """
 import os
@@ -18,43 +18,56 @@ sys.path.append(os.path.join(TOP, "tools"))
 
 from distribution.extension import NAME, built_extension  # noqa: E402
 
-PACKAGE = os.path.join(TOP, "bindings", "python")
+PACKAGE, PAGE = os.path.join(TOP, "bindings", "python"), os.path.join(TOP, "explore")
+# The packages of each project.
+PROJECTS = {PACKAGE: ("gcflip",), PAGE: ("gcflip_explore", "gcflip_drawing")}
 TESTS = os.path.join(TOP, "tests", "python")
 README = os.path.join(PACKAGE, "README.md")
 TOUR = os.path.join(TOP, "examples", "python")
 
 
-def built_package(folder):
-    """Returns the folder with the package as built by its pyproject.toml, and why it could not be built, or None. Without setuptools
-    the folder is the source."""
-    python = python_with("setuptools")
+def copied(source, target):
+    """Copies a folder without what Python makes, and returns the path of the copy."""
+    return shutil.copytree(source, target, ignore=shutil.ignore_patterns("__pycache__"))
+
+
+def built_packages(folder):
+    """Returns the folder with the packages as built by their pyproject.toml, and why they could not be built, or None. Without setuptools
+    it has their sources."""
+    python, target = python_with("setuptools"), os.path.join(folder, "site")
+    # The page's package takes the examples from the top of the repository.
+    copied(os.path.join(TOP, "examples"), os.path.join(folder, "examples"))
     if python is None:
-        skip("the built Python package", "no setuptools; the source is tested")
-        return PACKAGE, None
-    # setuptools writes next to the source, and takes the examples from the top of the repository.
-    source = shutil.copytree(PACKAGE, os.path.join(folder, "bindings", "python"), ignore=shutil.ignore_patterns("__pycache__"))
-    shutil.copytree(os.path.join(TOP, "examples"), os.path.join(folder, "examples"), ignore=shutil.ignore_patterns("__pycache__"))
-    target = os.path.join(folder, "site")
-    made = done([python, "-c", "import setuptools; setuptools.setup()", "build", "--build-lib", target], cwd=source)
-    if made.status != 0:
-        return target, made.stderr.decode()
-    missing = packaged(source) - packaged(target) | {os.path.join(EXAMPLES, name + ending) for ending in (".trace", ".pair") for name in names_of(ending)
-                                                     if not os.path.exists(os.path.join(target, EXAMPLES, name + ending))}
+        skip("the built Python packages", "no setuptools; the sources are tested")
+        for project, packages in PROJECTS.items():
+            for name in packages:
+                copied(os.path.join(project, name), os.path.join(target, name))
+        return target, None
+    for project in PROJECTS:
+        # setuptools writes next to the source.
+        source = copied(project, os.path.join(folder, os.path.relpath(project, TOP)))
+        made = done([python, "-c", "import setuptools; setuptools.setup()", "build", "--build-lib", target], cwd=source)
+        if made.status != 0:
+            return target, made.stderr.decode()
+    missing = wanted_files() - files_of(target)
     return target, "it lacks %s" % ", ".join(sorted(missing)) if missing else None
 
 
-EXAMPLES = os.path.join("gcflip", "explore", "examples")
+def wanted_files():
+    """Returns the paths of all files of the packages, with those of the examples, below the folder into which they are installed."""
+    examples = {os.path.join("gcflip_explore", "examples", name + ending) for ending in (".trace", ".pair") for name in names_of(ending)}
+    return examples.union(*[files_of(project, packages) for project, packages in PROJECTS.items()])
 
 
-def packaged(folder):
-    """Returns the paths of all files of the packages in a folder."""
-    return {os.path.relpath(os.path.join(path, name), folder) for package in ("gcflip", "gcflip_drawing")
-            for path, _, names in os.walk(os.path.join(folder, package)) for name in names}
+def files_of(folder, packages=("",)):
+    """Returns the paths of the files of some packages in a folder, or of all its files, but none that Python makes."""
+    return {os.path.relpath(os.path.join(path, name), folder) for package in packages
+            for path, _, names in os.walk(os.path.join(folder, package)) for name in names if not path.endswith("__pycache__")}
 
 
 def with_extension(package, folder, content):
     """Returns a folder with the package and the extension, as a wheel has it."""
-    target = shutil.copytree(package, os.path.join(folder, "extended"), ignore=shutil.ignore_patterns("__pycache__"))
+    target = copied(package, os.path.join(folder, "extended"))
     file_of(os.path.join(target, "gcflip"), NAME, content)
     return target
 
@@ -72,7 +85,7 @@ class Python:
     """Python with the package, and with the extension unless `package` names the folder of one without it, and with the shared library."""
 
     def __init__(self, built, folder, package=None):
-        self.package, self.why = (package, None) if package else built_package(folder)
+        self.package, self.why = (package, None) if package else built_packages(folder)
         content = None if package else extension()
         self.is_extended = content is not None
         path = with_extension(self.package, folder, content) if content else self.package
@@ -92,7 +105,7 @@ def prepared(folder):
 
 
 # The files of tests: those that use a heap, which are run with the extension and without, those that use none, and the one about the extension.
-OF_HEAPS = ["test_heap.py", "test_places.py", "test_refs.py", "test_explore.py"]
+OF_HEAPS = ["test_heap.py", "test_places.py", "test_refs.py", os.path.join(PAGE, "tests", "python", "test_explore.py")]
 WITHOUT_HEAPS, OF_EXTENSION = ["test_checker.py", "test_inference.py", "test_images.py"], ["test_quick.py"]
 
 
@@ -102,7 +115,7 @@ def suites(_program, folder):
     if built is None:
         return
     python = Python(built, folder)
-    yield "the package is built", python.why
+    yield "the packages are built", python.why
     by_ctypes = Python(built, folder, python.package)
     yield from tested(by_ctypes, [*WITHOUT_HEAPS, *OF_HEAPS], " by ctypes")
     if not python.is_extended:
@@ -131,9 +144,9 @@ def tested(python, files, way):
         told = found.stderr.decode()
         reasons = re.findall(r"(?m) \.\.\. skipped (['\"])(.*)\1$", told)
         for _, why in reasons:
-            skip("a test of %s" % name, why)
+            skip("a test of %s" % os.path.basename(name), why)
         ends = "\nOK (skipped=%d)\n" % len(reasons) if reasons else "\nOK\n"
-        yield name + way, None if found.status == 0 and told.endswith(ends) else told
+        yield os.path.basename(name) + way, None if found.status == 0 and told.endswith(ends) else told
 
 
 def texts(_program, folder):

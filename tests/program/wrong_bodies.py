@@ -22,12 +22,12 @@ CHANGED = [("an edit that does something else", "2^63 counts as a number.", "2^6
 def known_tests():
     """Returns the names of all tests: of Rattle, of Python, and the groups of tests/run with their modules."""
     folders = [("crates/*/src/tests.rt", r"#\[test\]\n\s*fn (\w+)"), ("crates/*/src/tests/**/*.rt", r"#\[test\]\n\s*fn (\w+)"),
-               ("tests/python/*.py", r"def (test_\w+)")]
+               ("tests/python/*.py", r"def (test_\w+)"), ("explore/tests/python/*.py", r"def (test_\w+)")]
     found = set()
     for pattern, name in folders:
         for path in glob.glob(os.path.join(TOP, pattern), recursive=True):
             found.update(re.findall(name, text_of(path)))
-    for path in glob.glob(os.path.join(TOP, "tests", "program", "*.py")):
+    for path in glob.glob(os.path.join(TOP, "tests", "program", "*.py")) + glob.glob(os.path.join(TOP, "explore", "tests", "program", "*.py")):
         groups = re.search(r"(?m)^GROUPS = \[([^\]]*)\]", text_of(path))
         module = os.path.basename(path)[:-len(".py")]
         found.update("%s.%s" % (module, group.strip()) for group in (groups.group(1).split(",") if groups else []))

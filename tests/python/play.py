@@ -1,7 +1,7 @@
 """Plays traces and writes the lines of their replies, as `gcflip play` does: play [TRACE REPLIES] ..."""
 import sys
 
-from gcflip.explore.playing import opened
+from gcflip_explore.playing import opened
 from gcflip_drawing.trace_text import read_trace
 
 for source, target in zip(sys.argv[1::2], sys.argv[2::2]):

@@ -46,7 +46,7 @@ def packed_wheel(tree, name, version, metadata, tag):
     folder = "%s-%s.dist-info/" % (name, version)
     files = {path: leaf.data for path, leaf in tree.items()}
     files[folder + "METADATA"] = metadata
-    files[folder + "WHEEL"] = b"Wheel-Version: 1.0\nGenerator: tools/dist\nRoot-Is-Purelib: false\nTag: %s\n" % tag.encode()
+    files[folder + "WHEEL"] = b"Wheel-Version: 1.0\nGenerator: tools/dist\nRoot-Is-Purelib: %s\nTag: %s\n" % (b"true" if tag.endswith("-any") else b"false", tag.encode())
     rows = ["%s,sha256=%s,%d" % (path, digest(data), len(data)) for path, data in sorted(files.items())]
     files[folder + "RECORD"] = ("\n".join(rows) + "\n%sRECORD,,\n" % folder).encode()
     out = io.BytesIO()

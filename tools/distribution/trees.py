@@ -13,8 +13,8 @@ HERE = os.path.dirname(os.path.abspath(__file__))
 SHARED = "libgcflip.so.1"
 TRUST = "docs/TRUST.md"
 TUTORIAL = "examples/tutorial"
-PYTHON, RUST = "bindings/python/README.md", "bindings/rust/README.md"
-DOCUMENTS = ["README.md", "CHANGELOG.md", TRUST, "docs/FORMATS.md", "docs/TUTORIAL.md", "docs/EMBEDDING.md", "docs/CALLS.md", "docs/FAQ.md", "docs/CERTIFY.md", "docs/GLOSSARY.md", "docs/EXPLORE.md", "docs/RATTLE.md", "docs/RELATED.md"]
+PYTHON, RUST, PAGE = "bindings/python/README.md", "bindings/rust/README.md", "docs/EXPLORE.md"
+DOCUMENTS = ["README.md", "CHANGELOG.md", TRUST, "docs/FORMATS.md", "docs/TUTORIAL.md", "docs/EMBEDDING.md", "docs/CALLS.md", "docs/FAQ.md", "docs/CERTIFY.md", "docs/GLOSSARY.md", PAGE, "docs/RATTLE.md", "docs/RELATED.md"]
 COMPLETIONS = {"share/bash-completion/completions/gcflip": "gcflip.bash", "share/zsh/site-functions/_gcflip": "_gcflip",
                "share/fish/vendor_completions.d/gcflip.fish": "gcflip.fish"}
 HEADERS = ["gcflip_answers.h", "gcflip.h", "gcflip_heap.h", "gcflip_images.h", "gcflip_record.h", "gcflip_allocator.h", "herbpond.h"]
@@ -140,14 +140,22 @@ def package_file(libdir):
     return text.replace("libdir=${prefix}/lib", "libdir=${prefix}/" + libdir).encode()
 
 
+def packages(folder, *names):
+    """Returns the files of some packages of a folder."""
+    return {os.path.relpath(path, folder): Leaf(read(path)) for name in names for path in below("%s/%s" % (folder, name))}
+
+
 def wheel_tree(libraries):
-    """Returns the files of the wheel, without its own descriptions."""
+    """Returns the files of the wheel of gcflip, without its own descriptions."""
     found = {"gcflip/libgcflip.so": Leaf(stripped(os.path.join(libraries, SHARED)), 0o755), "gcflip/" + NAME: Leaf(built_extension(), 0o755)}
-    for package in ("gcflip", "gcflip_drawing"):
-        for path in below("bindings/python/" + package):
-            found[os.path.relpath(path, "bindings/python")] = Leaf(read(path))
+    return {**found, **packages("bindings/python", "gcflip")}
+
+
+def page_tree():
+    """Returns the files of the wheel of the page, with copies of the examples."""
+    found = packages("explore", "gcflip_explore", "gcflip_drawing")
     for path in below("examples", lambda path: path.count("/") == 1 and path.endswith((".trace", ".pair", "README.md"))):
-        found["gcflip/explore/examples/" + os.path.basename(path)] = Leaf(read(path))
+        found["gcflip_explore/examples/" + os.path.basename(path)] = Leaf(read(path))
     return found
 
 

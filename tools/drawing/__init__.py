@@ -1,4 +1,4 @@
 """The parts that only tools/draw needs: the SVG renderer and the graph of the crates.
 
-Pictures are laid out by the package `gcflip_drawing` of bindings/python, which the page of `gcflip.explore` shares.
+Pictures are laid out by the package `gcflip_drawing` of explore/, which the page shares.
 """

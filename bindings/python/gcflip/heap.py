@@ -575,6 +575,10 @@ class Heap(quick.Quickened):
         call = getattr(LIBRARY, "gcflip_heap_" + name)
         return functools.partial(call, self._handle, *in_range(arguments, HEAP[name]))
 
+    def _prepared_on_roots(self, name: str) -> Callable[..., int]:
+        """Returns a function that makes a call on roots by their places, under the same conditions. It takes the arguments, and does not check them."""
+        return functools.partial(getattr(LIBRARY, "gcflip_" + name), self._handle)
+
     def _new_from(self, mutator: int, slot: int, kind: int, sources: Sequence[int]) -> None:
         """Makes an object whose fields take the values of slots."""
         sources = list(sources)
