@@ -93,7 +93,8 @@ uint32_t gcflip_beside_copy(gcflip_mutator *mutator, uint32_t d, uint32_t s);
 uint32_t gcflip_beside_get(gcflip_mutator *mutator, uint32_t d, uint32_t s, uint32_t i, uint64_t *number);
 
 /* Writes the value of root t into field i of the object that root s refers to: GCFLIP_DONE, GCFLIP_NO_OBJECT, GCFLIP_NO_FIELD or GCFLIP_NO_NUMBER.
- * Logs the field, so it returns GCFLIP_NO_MEMORY if the log cannot grow. The log is emptied when the collector takes the mutator. */
+ * Once the collector has begun to copy, the call logs the field, and returns GCFLIP_NO_MEMORY if the log cannot grow. The log is emptied when the
+ * collector takes the mutator. */
 uint32_t gcflip_beside_put(gcflip_mutator *mutator, uint32_t s, uint32_t i, uint32_t t);
 
 /* Compares the values of roots s and t: GCFLIP_SAME or GCFLIP_NOT_SAME. */
@@ -115,8 +116,9 @@ uint32_t gcflip_beside_resume(gcflip_mutator *mutator);
 
 /* ---- The collector, by the collector's thread
  *
- * A collection is always open, and the next one begins at each flip. Its steps bring replicas up to date with the originals, beside the mutator or
- * while the collector holds it. To flip, the collector asks the mutator to stop, takes it, and lets it go on in the new space. */
+ * The next collection begins at each flip, and rests until a flip finds a root's object without a replica: until then nothing is copied, and no
+ * write is logged. Its steps bring replicas up to date with the originals, beside the mutator or while the collector holds it. To flip, the
+ * collector asks the mutator to stop, takes it, and lets it go on in the new space. */
 
 /* Performs `most` steps, at least 1: GCFLIP_DONE, or GCFLIP_CLEAN once nothing is left to do. GCFLIP_NO_ROOM never comes, because the new space is as
  * large as the heap. */

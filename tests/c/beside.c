@@ -247,8 +247,7 @@ static void copies_beside(void)
     open_both(WORDS);
     make_one();
     take();
-    /* the field that was logged before the collection had a replica is due; then the object in root 0 is wanted */
-    EXPECT(gcflip_beside_flip(&collector) == GCFLIP_NOT_READY);
+    /* no write was logged; the object in root 0 is wanted */
     EXPECT(gcflip_beside_work(&collector, MANY) == GCFLIP_CLEAN);
     EXPECT(gcflip_beside_flip(&collector) == GCFLIP_NOT_READY);
     EXPECT(gcflip_beside_go(&collector) == GCFLIP_DONE);
@@ -326,12 +325,28 @@ static void refused_open(void)
     close_both();
 }
 
+/* The collector wants the object in root 0, so that it copies from now on, and lets the mutator go on. */
+static void begin_to_copy(void)
+{
+    take();
+    EXPECT(gcflip_beside_flip(&collector) == GCFLIP_NOT_READY);
+    EXPECT(gcflip_beside_go(&collector) == GCFLIP_DONE);
+    EXPECT(gcflip_beside_resume(&mutator) == GCFLIP_DONE);
+}
+
+/* A put is logged, and so needs memory, once the collector has begun to copy, and no longer than up to its flip. */
 static void refused_put(void)
 {
     long failures = 0;
 
     open_both(WORDS);
     make_one();
+    for (int k = 0; k < 100; k++) {
+        fail_allocation(1);
+        EXPECT(gcflip_beside_put(&mutator, 0, 0, 1) == GCFLIP_DONE && !has_failed());
+        fail_allocation(0);
+    }
+    begin_to_copy();
     /* field 0 has the number before the one that is put */
     EXPECT(gcflip_beside_set_number(&mutator, 1, 99) == GCFLIP_DONE);
     EXPECT(gcflip_beside_put(&mutator, 0, 0, 1) == GCFLIP_DONE);
@@ -351,6 +366,15 @@ static void refused_put(void)
         EXPECT(answer == GCFLIP_DONE);
     }
     EXPECT(failures > 0);
+    take();
+    EXPECT(gcflip_beside_finish(&collector) == GCFLIP_FLIPPED);
+    EXPECT(gcflip_beside_resume(&mutator) == GCFLIP_DONE);
+    EXPECT(gcflip_beside_get(&mutator, 2, 0, 0, &number) == GCFLIP_NUMBER && number == 199);
+    for (int k = 0; k < 100; k++) {
+        fail_allocation(1);
+        EXPECT(gcflip_beside_put(&mutator, 0, 0, 1) == GCFLIP_DONE && !has_failed());
+        fail_allocation(0);
+    }
     close_both();
 }
 

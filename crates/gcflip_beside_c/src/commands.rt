@@ -151,7 +151,8 @@ pub extern "C" fn gcflip_beside_get(
     }
 }
 
-/// Writes the value of root `t` to field `i` of the object that root `s` refers to, and logs the field. Only this command allocates.
+/// Writes the value of root `t` to field `i` of the object that root `s` refers to, and logs the field once the collector has begun to copy. Only this command
+/// allocates.
 #[unsafe(no_mangle)]
 pub extern "C" fn gcflip_beside_put(mutator: &mut GcflipEnd, s: u32, i: u32, t: u32) -> u32
     ensures call { IsBesideCommand ((s < roots) × (t < roots)) (Op.Put (root_placed s) (field_named i) (root_placed t))
