@@ -1,7 +1,7 @@
 """Tests of the library for C whose collector works in another thread: programs of tests/c that call it, and the example.
 
-It tests libgcflip_beside.a, built and installed by bindings/c, with its two headers: each answer, each close and each refused allocation, also by
-valgrind; random commands beside a collector's thread under six schedules, a million in all, compared with a machine that never collects; the source
+It tests libgcflip_beside.a, built and installed by bindings/c, with its two headers: each answer, each close and each refused allocation, in one
+thread and in two, also by valgrind; random commands beside a collector's thread under six schedules, a million in all, compared with a machine that never collects; the source
 gcflip_thread.c with sanitizers, ThreadSanitizer among them; the headers by C99 and C++11; the exported symbols; a run of examples/beside. It reports
 what it skips for lack of a tool.
 """
@@ -46,8 +46,9 @@ def programs(_program, folder):
     for name, words, _cpp in compilers():
         if not usable(folder, name, words):
             continue
-        path, why = built.build(words, "beside.c", built.archive())
-        yield "beside.c by %s" % name, why or difference(done([path]), Outcome())
+        for source in ("beside.c", "beside_refused.c"):
+            path, why = built.build(words, source, built.archive())
+            yield "%s by %s" % (source, name), why or difference(done([path]), Outcome())
         path, why = built.build(words, "beside_threads.c", built.archive())
         yield "beside_threads.c by %s" % name, why or difference(done([path, str(COMMANDS)]), Outcome())
 
@@ -63,7 +64,7 @@ def sanitized(_program, folder):
             path, why = built.build(["gcc", *words], "beside_threads.c", [source, *built.archive()])
             yield "beside_threads.c with %s" % kind, why or difference(done([path, "5000", "2"]), Outcome())
     if has_valgrind("beside.c"):
-        for name, words in [("beside.c", []), ("beside_threads.c", ["2000", "3"])]:
+        for name, words in [("beside.c", []), ("beside_refused.c", []), ("beside_threads.c", ["2000", "3"])]:
             path, why = built.build(["gcc"], name, built.archive())
             yield "%s by valgrind" % name, why or difference(done([*VALGRIND, path, *words]), Outcome())
 

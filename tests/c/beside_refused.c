@@ -1,0 +1,95 @@
+/* A collector's thread whose flip finds no memory: the program is told, keeps its objects, and a later flip succeeds. Links its own allocation functions,
+   which both threads call. */
+#include "expect.h"
+#include "gcflip_thread.h"
+#include <gcflip_allocator.h>
+#include <stdbool.h>
+
+enum { WORDS = 4096 };
+
+static _Atomic bool refuses;
+static _Atomic long blocks;
+
+static struct gcflip_memory memory_at(void *at)
+{
+    static char nowhere;
+    struct gcflip_memory memory = {at != NULL, at ? at : &nowhere};
+    return memory;
+}
+
+struct gcflip_memory rattle_alloc(size_t size, size_t alignment)
+{
+    void *at = refuses ? NULL : malloc(size ? size : alignment);
+    blocks += at != NULL;
+    return memory_at(at);
+}
+
+struct gcflip_memory rattle_realloc(void *old, size_t used, size_t size, size_t alignment)
+{
+    (void)used;
+    return memory_at(refuses ? NULL : realloc(old, size ? size : alignment));
+}
+
+void rattle_dealloc(void *old)
+{
+    blocks -= 1;
+    free(old);
+}
+
+static gcflip_thread *thread;
+
+static void expect_object(void)
+{
+    gcflip_mutator *mutator = gcflip_thread_mutator(thread);
+    uint64_t number = 0;
+
+    EXPECT(gcflip_beside_get(mutator, 2, 0, 1, &number) == GCFLIP_NUMBER && number == 7);
+}
+
+static void opening(void)
+{
+    gcflip_thread *opened = thread;
+
+    EXPECT(gcflip_thread_open(&opened, 0, 1) == GCFLIP_OUT_OF_RANGE && opened == NULL);
+    refuses = true;
+    EXPECT(gcflip_thread_open(&opened, WORDS, 1) == GCFLIP_NO_MEMORY && opened == NULL);
+    refuses = false;
+    EXPECT(blocks == 0);
+}
+
+int main(void)
+{
+    gcflip_thread_counts counts;
+    gcflip_mutator *mutator;
+
+    opening();
+    EXPECT(gcflip_thread_open(&thread, WORDS, WORDS) == GCFLIP_DONE);
+    mutator = gcflip_thread_mutator(thread);
+    EXPECT(gcflip_beside_new(mutator, 0, 1, 2) == GCFLIP_MADE);
+    EXPECT(gcflip_beside_set_number(mutator, 1, 7) == GCFLIP_DONE);
+    EXPECT(gcflip_beside_put(mutator, 0, 1, 1) == GCFLIP_DONE);
+    EXPECT(gcflip_beside_new(mutator, 3, 1, 100) == GCFLIP_MADE);
+    EXPECT(gcflip_beside_set_nil(mutator, 3) == GCFLIP_DONE);
+    for (uint64_t k = 1; k <= 3; k++) {
+        refuses = true;
+        EXPECT(gcflip_thread_collect(thread) == GCFLIP_NO_MEMORY);
+        refuses = false;
+        gcflip_thread_read(thread, &counts);
+        EXPECT(counts.flips == 0 && counts.failed == k);
+        EXPECT(gcflip_beside_room(mutator) == WORDS - 1 - 4 - 102);
+        expect_object();
+        EXPECT(gcflip_thread_safepoint(thread) == GCFLIP_DONE);
+    }
+    EXPECT(gcflip_thread_collect(thread) == GCFLIP_FLIPPED);
+    gcflip_thread_read(thread, &counts);
+    EXPECT(counts.flips == 1 && counts.failed == 3 && counts.stops >= 4);
+    EXPECT(counts.longest_wait > 0 && counts.longest_wait <= counts.waited);
+    expect_object();
+    /* the object that only root 3 had may have a replica, since the collection began with it */
+    EXPECT(gcflip_thread_collect(thread) == GCFLIP_FLIPPED);
+    EXPECT(gcflip_beside_room(mutator) == WORDS - 1 - 4);
+    expect_object();
+    gcflip_thread_close(thread);
+    EXPECT(blocks == 0);
+    return 0;
+}
