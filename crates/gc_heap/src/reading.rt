@@ -2,7 +2,7 @@
 
 ghost use Rattle.std.specs.Prelude.{◌≡◌, ◌↔◌, Some, None, IsTrue, IsSome, IfSome, is_none, not, ◌&&◌, ◌<◌, ◌^◌, if◌then◌else◌};
 ghost use Rattle.std.specs.Option.{option_map};
-ghost use Rattle.gc_graph.specs.Graph.{Num};
+ghost use Rattle.gc_graph.specs.Graph.{Num, Ref};
 ghost use Rattle.gc_graph.specs.Machine.{view_of, is_number};
 ghost use Rattle.gc_graph.specs.declared.reply.Reply.TheVariants.{Saw};
 ghost use Rattle.gc_heap.specs.Commands.{fetched_of};
@@ -34,16 +34,23 @@ pub fn view(space: &Space, word: u64) -> View
     match value_in(word) {
         Value::Nil => View::Nil,
         Value::Num(n) => View::Num(n),
-        Value::Ref(at) => {
-            let header = space.header(at);
-            let kind = header.kind();
-            let len = header.len();
-            if header.is_raw() {
-                View::RawObj { kind, len }
-            } else {
-                View::Obj { kind, len }
-            }
-        }
+        Value::Ref(at) => object_view(space, at),
+    }
+}
+
+/// Returns what a mutator sees of a reference to the object that starts here.
+pub fn object_view(space: &Space, at: Addr) -> View
+    requires start { IsTrue (is_start space.now.words at.0) }
+    requires shaped { IsSpace space.now }
+    ensures { result ≡ view_of (objects_of space.now.words) (Ref at.0) }
+{
+    let header = space.header(at);
+    let kind = header.kind();
+    let len = header.len();
+    if header.is_raw() {
+        View::RawObj { kind, len }
+    } else {
+        View::Obj { kind, len }
     }
 }
 

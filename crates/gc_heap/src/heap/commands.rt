@@ -17,7 +17,7 @@ use super::Heap;
 use crate::reading::{fetched, view};
 use crate::taken::{Fetched, Taken};
 use gc_graph::{Number, Reply, Slot, root_count};
-use gc_words::{Addr, OldAddr, Value, encode};
+use gc_words::{OldAddr, Value, encode};
 
 impl Heap {
     /// Makes an object of this kind with `len` fields, all nil, and sets `d` to a reference to it: `Made`, or `Full`.
@@ -128,7 +128,7 @@ impl Heap {
     {
         // Here the prover learns how many roots there are.
         let _ = &self.roots;
-        let _done = self.set_at(d.place(m), encode(Value::Ref(Addr(a.0))));
+        self.refer_root(d.place(m) as u32, a);
     }
 
     // Returns the place of extra root `k` in the list of roots.

@@ -9,6 +9,7 @@ ghost use Rattle.gc_graph.specs.declared.command.Op.{Op};
 ghost use Rattle.gc_heap.specs.Heap.{IsHeap, KeepsLinks, graph_in};
 ghost use Rattle.gc_heap.specs.Commands.{Performs};
 ghost use Rattle.gc_heap.specs.Filling.{TakesFields, TakesNumbers, WritesNumbers};
+ghost use Rattle.gc_heap.specs.Places.{root_at};
 
 use super::Heap;
 use gc_graph::{Reply, Slot};
@@ -31,6 +32,21 @@ impl Heap {
         self.fill_at(d.place(m), object, i, t.place(m))
     }
 
+    /// Performs a `Put` of root `t` into field `i` of the object that root `d` refers to. The object is known to take it, so neither root `d` nor the
+    /// object is read, and the reply is `Done`.
+    #[inline(always)]
+    pub fn fill_root(&mut self, d: u32, object: OldAddr, i: u16, t: u32) -> Reply
+        requires giver { t < length self.old.roots }
+        requires field { (len : ℕ) × TakesFields self.old d object.0 len × (i < len) }
+        ensures done { result ≡ Reply.Done }
+        ensures performs { (m : ℕ) → Performs self.old m (Op.Put (root_at d) i (root_at t)) result self.new }
+        ensures roots { self.new.roots ≡ self.old.roots }
+        ensures fields { (len : ℕ) → TakesFields self.old d object.0 len → TakesFields self.new d object.0 len }
+        ensures sound { IsHeap self.new }
+    {
+        self.fill_at(d as usize, object, i, t as usize)
+    }
+
     // Writes the value of root `t` to field `i` of the object that root `s` refers to, and does not read root `s`.
     #[inline(always)]
     fn fill_at(&mut self, s: usize, object: OldAddr, i: u16, t: usize) -> Reply
@@ -43,6 +59,7 @@ impl Heap {
         ensures end { length self.new.space.words ≡ length self.old.space.words }
         ensures size { self.new.space.size ≡ self.old.space.size }
         ensures mutators { self.new.mutators ≡ self.old.mutators }
+        ensures roots { self.new.roots ≡ self.old.roots }
         ensures fields { (len : ℕ) → TakesFields self.old s object.0 len → TakesFields self.new s object.0 len }
         ensures sound { IsHeap self.new }
     {

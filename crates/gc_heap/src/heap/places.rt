@@ -1,12 +1,16 @@
 //! Commands on roots by their places in the list of roots: first the shared slots, then each mutator's own, then the extra roots. Each is the command
-//! of any mutator, for whom the root has the name `root_at`. None allocates.
+//! of any mutator, for whom the root has the name `root_at`, but for `set_root` and `refer_root`. None allocates.
 
-ghost use Rattle.std.specs.Prelude.{◌≡◌, ◌<◌, ℕ, length, IfSome, IsTrue};
+ghost use Rattle.std.specs.Prelude.{◌≡◌, ◌≢◌, ◌<◌, ℕ, length, IfSome, IsTrue};
 ghost use Rattle.std.specs.Option.{option_map};
-ghost use Rattle.gc_graph.specs.Graph.{name_of, root};
+ghost use Rattle.gc_graph.specs.Graph.{Ref, name_of, root, set_root};
 ghost use Rattle.gc_graph.specs.declared.command.Op.{Op};
+ghost use Rattle.gc_words.specs.Closed.{IsRootWord};
 ghost use Rattle.gc_words.specs.Image.{is_start};
+ghost use Rattle.gc_words.specs.Space.{end_of};
+ghost use Rattle.gc_words.specs.Word.{value_of};
 ghost use Rattle.gc_heap.specs.Commands.{Performs, Fetches};
+ghost use Rattle.gc_heap.specs.Filling.{TakesFields};
 ghost use Rattle.gc_heap.specs.Heap.{IsHeap, graph_in};
 ghost use Rattle.gc_heap.specs.Internal.Taken.{taken_reply, IsTakenWord};
 ghost use Rattle.gc_heap.specs.Places.{root_at};
@@ -15,7 +19,7 @@ use super::Heap;
 use crate::reading::{fetched, view};
 use crate::taken::{Fetched, Taken};
 use gc_graph::{Number, Reply};
-use gc_words::{OldAddr, Value, encode, target_of};
+use gc_words::{Addr, OldAddr, Value, encode, target_of};
 
 impl Heap {
     /// Returns the number of roots.
@@ -31,9 +35,21 @@ impl Heap {
     pub fn new_at_root(&mut self, d: u32, kind: u8, len: u16) -> Reply
         requires { d < length self.old.roots }
         ensures performs { (m : ℕ) → Performs self.old m (Op.New (root_at d) kind len) result self.new }
+        // Unless there was no room, the object takes its fields.
+        ensures fields { result ≢ Reply.Full → TakesFields self.new d (end_of self.old.space) len }
         ensures sound { IsHeap self.new }
     {
         self.make_at(d as usize, false, kind, len)
+    }
+
+    /// Makes a raw object, as `new_at_root` makes others: its fields are plain numbers, all 0.
+    #[inline(always)]
+    pub fn new_raw_at_root(&mut self, d: u32, kind: u8, len: u16) -> Reply
+        requires { d < length self.old.roots }
+        ensures performs { (m : ℕ) → Performs self.old m (Op.NewRaw (root_at d) kind len) result self.new }
+        ensures sound { IsHeap self.new }
+    {
+        self.make_at(d as usize, true, kind, len)
     }
 
     /// Sets root `d` to the number: `Done`.
@@ -44,6 +60,43 @@ impl Heap {
         ensures sound { IsHeap self.new }
     {
         self.set_at(d as usize, encode(Value::Num(n)))
+    }
+
+    /// Sets root `d` to nil: `Done`.
+    #[inline(always)]
+    pub fn nil_root(&mut self, d: u32) -> Reply
+        requires { d < length self.old.roots }
+        ensures performs { (m : ℕ) → Performs self.old m (Op.Nil (root_at d)) result self.new }
+        ensures sound { IsHeap self.new }
+    {
+        self.set_at(d as usize, encode(Value::Nil))
+    }
+
+    /// Sets root `d` to the value of this word.
+    #[inline(always)]
+    pub fn set_root(&mut self, d: u32, word: u64)
+        requires root { d < length self.old.roots }
+        requires word { IsRootWord self.old.space.words word }
+        ensures space { self.new.space ≡ self.old.space }
+        ensures graph { graph_in self.new ≡ set_root (graph_in self.old) d (value_of word) }
+        ensures mutators { self.new.mutators ≡ self.old.mutators }
+        ensures sound { IsHeap self.new }
+    {
+        let _done = self.set_at(d as usize, word);
+    }
+
+    /// Sets root `d` to a reference to the object that starts at `a`. This is no command of a mutator: none of these names an address.
+    pub fn refer_root(&mut self, d: u32, a: OldAddr)
+        requires root { d < length self.old.roots }
+        requires start { IsTrue (is_start self.old.space.words a.0) }
+        ensures space { self.new.space ≡ self.old.space }
+        ensures graph { graph_in self.new ≡ set_root (graph_in self.old) d (Ref a.0) }
+        ensures mutators { self.new.mutators ≡ self.old.mutators }
+        ensures sound { IsHeap self.new }
+    {
+        // Here the prover learns that the heap is sound.
+        let _ = &self.roots;
+        let _done = self.set_at(d as usize, encode(Value::Ref(Addr(a.0))));
     }
 
     /// Sets root `d` to the value of root `s`: `Done`.

@@ -5,7 +5,7 @@ use Rattle.gc_words.specs.Image.{Block, block_at}
 use Rattle.gc_words.proofs.Public.{StandsIn, graph_root, some_of, stands_in}
 use Rattle.gc_heap.specs.Heap.{HeapWords, IsHeap}
 use Rattle.gc_heap.proofs.Views.{meaning}
-use Rattle.gc_heap.proofs.heap.Heap.refer.Goals as goal
+use Rattle.gc_heap.proofs.heap.Heap.refer_root.Goals as goal
 
 pub encode-requires : goal.encode-requires
 encode-requires c =
