@@ -1,12 +1,13 @@
 -- Commands on roots by their places keep what is known of the roots.
 use Rattle.std.proofs.lemmas.Grind.{common_steps}
-use Rattle.std.proofs.lemmas.Bool.{cases_lt}
+use Rattle.std.proofs.lemmas.Bool.{cases_lt, cond_both, ltb-true}
 use Rattle.std.proofs.Common.{◌≡◌, inl, inr, ℕ, ◌+◌, ◌-◌, ◌<◌, ◌≤◌, length, Bool, List, [], Option, Some, None, true, refl, ap, sym, ◌∙◌, subst, arith}
-use Rattle.std.specs.Prelude.{IfSome}
+use Rattle.std.specs.Prelude.{IfSome, max}
 use Rattle.std.specs.Option.{option_map}
 use Rattle.std.proofs.lemmas.Option.{slice_get_past}
 use Rattle.gc_graph.specs.Graph.{Value, Nil, Num, Ref, Object, Graph, field_of, lookup, object_of, root}
 use Rattle.gc_graph.specs.declared.command.Op.TheVariants.{Get, Put}
+use Rattle.gc_graph.specs.declared.command.Op.TheVariants as ops
 use Rattle.gc_plan.proofs.Public.{lookup_in}
 use Rattle.gc_graph.specs.Machine.{words_taken}
 use Rattle.gc_graph.specs.Slots.{SlotName, place, roots_of}
@@ -14,6 +15,7 @@ use Rattle.gc_graph.specs.declared.command.Op.{Op}
 use Rattle.gc_graph.specs.declared.reply.Reply.{Reply}
 use Rattle.gc_heap.specs.Commands.{Performs}
 use Rattle.gc_heap.specs.Heap.{HeapWords, IsHeap}
+use Rattle.gc_heap.specs.Places.{root_at}
 use Rattle.gc_plan.specs.State.{State}
 use Rattle.gc_plan.specs.Staying.{root_written}
 use Rattle.gc_plan.specs.Steps.{WritesField, mutate}
@@ -22,10 +24,10 @@ use Rattle.gc_copy.specs.Words.{CollectionWords, collection_in, state_of}
 use Rattle.gc_along.specs.Tables.{Tables}
 use Rattle.gc_collected.specs.Internal.CollectedHeap.{Fits}
 use Rattle.gc_collected.specs.Internal.Follows.{Follows}
-use Rattle.gc_collected.specs.Internal.KnownRoots.{ComparesTwins, HasStored, HasStoredPlain, KnowsRoots}
+use Rattle.gc_collected.specs.Internal.KnownRoots.{ComparesTwins, HasStored, HasWritten, KnowsRoots}
 use Rattle.gc_collected.specs.declared.known.KnownRoots.{KnownRoots}
 use Rattle.gc_collected.proofs.Followed.{quiet}
-use Rattle.gc_collected.proofs.Marks.{SetsPlain, one_below, plain_command, slot_command, stored_command}
+use Rattle.gc_collected.proofs.Marks.{SetsPlain, one_below, plain_command, set_nil, slot_command, stored_command}
 use Rattle.gc_collected.proofs.OtherCommands.{it_belongs, mutated, still_fits}
 
 -- what is known of the roots, and what the monitor has compared
@@ -37,25 +39,46 @@ module _ (known now : KnownRoots) (s : State) (m p : ℕ) (op : Op) (at : root_w
   here : root_written m op ≡ Some (roots_of s.mutators + (p - roots_of s.mutators))
   here = at ∙ ap Some (omega (arith, high))
 
-pub root_known : (known now : KnownRoots) (s : State) (m p : ℕ) (op : Op) → root_written m op ≡ Some p → p < length s.heap.graph.roots → HasStored known now (roots_of s.mutators) p → Known known s → Known now (mutate s m op).1
-root_known known now s m p op at within taken k = elim (cases_lt p (roots_of s.mutators)) [
-  | inl low ↦ subst (λ (n : KnownRoots). Known n (mutate s m op).1) (sym (taken.slot low)) (slot_command known s m op (λ q e. one_below p q (roots_of s.mutators) low (sym at ∙ e)) k.0, k.1)
-  | inr high ↦ (
-    stored_command known now s m (p - roots_of s.mutators) op (here known now s m p op at within high) (taken.extra high) (let used = taken.used high in omega (arith, used)) (let used = taken.used high in let up = k.0.keeps.used_high in let counted = k.0.keeps.counted in omega (arith, used, up, counted, within, high))
-        (λ le. absurd (let used = taken.used high in omega (arith, le, used))) k.0,
-    (taken.extra high).compares k.1,
-  )
+-- an extra root was written, and is in use unless it is nil
+extra_known : (was now : KnownRoots) (s : State) (m p : ℕ) (op : Op) → root_written m op ≡ Some p → p < length s.heap.graph.roots → roots_of s.mutators ≤ p → HasWritten was now (p - roots_of s.mutators) → was.twins.used ≤ now.twins.used
+    → roots_of s.mutators + now.twins.used ≤ length was.twins.twins → (now.twins.used ≤ p - roots_of s.mutators → root (mutate s m op).1.heap.graph (roots_of s.mutators + (p - roots_of s.mutators)) ≡ Nil) → Known was s → Known now (mutate s m op).1
+extra_known was now s m p op at within high written more counted nil k =
+    (stored_command was now s m (p - roots_of s.mutators) op (here was now s m p op at within high) written more counted nil k.0, written.compares k.1)
+
+-- the same of a root at a place that took a value
+taken_known : (was now : KnownRoots) (known : ℕ) (s : State) (m p : ℕ) (op : Op) → root_written m op ≡ Some p → p < length s.heap.graph.roots → HasStored was now known (max was.twins.used (p - roots_of s.mutators + 1)) (roots_of s.mutators) p
+    → roots_of s.mutators ≤ p → Known was s → Known now (mutate s m op).1
+taken_known was now known s m p op at within taken high k =
+    let used = taken.used high in
+    let up = k.0.keeps.used_high in
+    let counted = k.0.keeps.counted in
+    extra_known was now s m p op at within high (taken.extra high) (omega (arith, used)) (omega (arith, used, up, counted, within, high)) (λ le. absurd (omega (arith, le, used))) k
+
+pub root_known : (was now : KnownRoots) (s : State) (m p : ℕ) (op : Op) → root_written m op ≡ Some p → p < length s.heap.graph.roots → HasStored was now 0 (max was.twins.used (p - roots_of s.mutators + 1)) (roots_of s.mutators) p → Known was s → Known now (mutate s m op).1
+root_known was now s m p op at within taken k = elim (cases_lt p (roots_of s.mutators)) [
+  | inl low ↦ subst (λ (n : KnownRoots). Known n (mutate s m op).1) (sym (taken.slot low)) (slot_command was s m op (λ q e. one_below p q (roots_of s.mutators) low (sym at ∙ e)) k.0, k.1)
+  | inr high ↦ taken_known was now 0 s m p op at within taken high k
 ]
 
--- the same, of nil or a number
-pub plain_root_known : (known now : KnownRoots) (s : State) (m p : ℕ) (op : Op) → SetsPlain op → root_written m op ≡ Some p → p < length s.heap.graph.roots → HasStoredPlain known now (roots_of s.mutators) p → Known known s → Known now (mutate s m op).1
-plain_root_known known now s m p op plain at within taken k = elim (cases_lt p (roots_of s.mutators)) [
-  | inl low ↦ subst (λ (n : KnownRoots). Known n (mutate s m op).1) (sym (taken.slot low)) (plain_command known s m op plain (λ q e. one_below p q (roots_of s.mutators) low (sym at ∙ e)) k.0, k.1)
-  | inr high ↦ (
-    stored_command known now s m (p - roots_of s.mutators) op (here known now s m p op at within high) (taken.extra high) (let used = taken.used high in omega (arith, used)) (let used = taken.used high in let up = k.0.keeps.used_high in let counted = k.0.keeps.counted in omega (arith, used, up, counted, within, high))
-        (λ le. absurd (let used = taken.used high in omega (arith, le, used))) k.0,
-    (taken.extra high).compares k.1,
-  )
+-- nothing changes for a slot that takes nil or a number
+plain_slot : (was now : KnownRoots) (used : ℕ) (s : State) (m p : ℕ) (op : Op) → SetsPlain op → root_written m op ≡ Some p → HasStored was now was.slots used (roots_of s.mutators) p → p < roots_of s.mutators → Known was s → Known now (mutate s m op).1
+plain_slot was now used s m p op plain at taken low k =
+    subst (λ (n : KnownRoots). Known n (mutate s m op).1) (sym (taken.slot low)) (plain_command was s m op plain (λ q e. one_below p q (roots_of s.mutators) low (sym at ∙ e)) k.0, k.1)
+
+pub plain_root_known : (was now : KnownRoots) (s : State) (m p : ℕ) (op : Op) → SetsPlain op → root_written m op ≡ Some p → p < length s.heap.graph.roots → HasStored was now was.slots (max was.twins.used (p - roots_of s.mutators + 1)) (roots_of s.mutators) p
+    → Known was s → Known now (mutate s m op).1
+plain_root_known was now s m p op plain at within taken k = elim (cases_lt p (roots_of s.mutators)) [
+  | inl low ↦ plain_slot was now _ s m p op plain at taken low k
+  | inr high ↦ taken_known was now was.slots s m p op at within taken high k
+]
+
+nil_made : (s : State) (p q : ℕ) → q ≡ p → root (mutate s 0 (ops.Nil (root_at p))).1.heap.graph q ≡ Nil
+nil_made s p q same = grind (arith, common_steps, cond_both, ltb-true, set_nil)
+
+pub nil_root_known : (was now : KnownRoots) (s : State) (p : ℕ) → p < length s.heap.graph.roots → HasStored was now was.slots was.twins.used (roots_of s.mutators) p → Known was s → Known now (mutate s 0 (ops.Nil (root_at p))).1
+nil_root_known was now s p within taken k = elim (cases_lt p (roots_of s.mutators)) [
+  | inl low ↦ plain_slot was now _ s 0 p (ops.Nil (root_at p)) tt refl taken low k
+  | inr high ↦ (let used = taken.used high in extra_known was now s 0 p (ops.Nil (root_at p)) refl within high (taken.extra high) (omega (arith, used)) (omega (arith, used, k.0.keeps.used_high)) (λ le. nil_made s p _ (omega (arith, high))) k)
 ]
 
 -- ---- with the heap and the monitor

@@ -27,7 +27,7 @@ use Rattle.gc_plan.specs.declared.step.Step.TheVariants as steps
 use Rattle.gc_plan.proofs.Public.{all_replicated, first_missing, steps_stay, collect_stays, mutate_stays}
 use Rattle.gc_collected.specs.CollectedHeap.{fill_step, filled, new_from_step}
 use Rattle.gc_collected.specs.Internal.CollectedHeap.{Fits}
-use Rattle.gc_collected.specs.Internal.KnownRoots.{HasStored, HasStoredPlain, HasWritten, KnowsRoots, roots_left_in}
+use Rattle.gc_collected.specs.Internal.KnownRoots.{HasStored, HasWritten, KnowsRoots, roots_left_in}
 use Rattle.gc_roots.specs.Twins.{AskForLooks, AsksForLook, KeepsTwins, IsDone}
 use Rattle.gc_roots.proofs.Public.{extra_known, nil_asks as nil_twins, opening_keeps, root_command as root_twins, slot_command as slot_twins, step_keeps as step_twins, taken_asks as taken_twins}
 use Rattle.gc_collected.specs.declared.known.KnownRoots.{KnownRoots}
@@ -160,7 +160,7 @@ stored_command known now s m i op at written more high nil k = record {
 
 -- ---- nil
 
-set_nil : (vs : List Value) (q : ℕ) → unwrap_or (slice_get (slice_set vs q Nil) q) Nil ≡ Nil
+pub set_nil : (vs : List Value) (q : ℕ) → unwrap_or (slice_get (slice_set vs q Nil) q) Nil ≡ Nil
 set_nil [] q = refl
 set_nil (v ∷ vs) zero = refl
 set_nil (v ∷ vs) (suc q) = set_nil vs q
@@ -177,16 +177,17 @@ nilled_asks None known now k w used = (nil_twins known.twins now.twins k w.twins
 nilled_asks (Some c) known now k w used = (nil_twins known.twins now.twins k w.twins used).0
 
 -- a root at a place that takes a value: a slot asks for no look
-pub stored_asks : (o : Option CollectionWords) (known now : KnownRoots) (slots p : ℕ) → HasStored known now slots p → AsksForLook p (roots_left_in o known.twins) (roots_left_in o now.twins)
-stored_asks o known now slots p h = ⊎_elim
+pub stored_asks : (o : Option CollectionWords) (was now : KnownRoots) (known slots p : ℕ) → HasStored was now known (max was.twins.used (p - slots + 1)) slots p → AsksForLook p (roots_left_in o was.twins) (roots_left_in o now.twins)
+stored_asks o was now known slots p h = ⊎_elim
     (λ less. (let same = ap (λ (x : KnownRoots). roots_left_in o x.twins) (h.slot less) in (omega (arith, same), omega (arith, same))))
-    (λ high. (let asks = taken_asks o known now (p - slots) (h.extra high) (h.used high) in (asks.0, omega (arith, asks.1))))
+    (λ high. (let asks = taken_asks o was now (p - slots) (h.extra high) (h.used high) in (asks.0, omega (arith, asks.1))))
     (cases_lt p slots)
 
-pub plain_asks : (o : Option CollectionWords) (known now : KnownRoots) (slots p : ℕ) → HasStoredPlain known now slots p → AsksForLook p (roots_left_in o known.twins) (roots_left_in o now.twins)
-plain_asks o known now slots p h = ⊎_elim
-    (λ less. (let same = ap (λ (x : KnownRoots). roots_left_in o x.twins) (h.slot less) in (omega (arith, same), omega (arith, same))))
-    (λ high. (let asks = taken_asks o known now (p - slots) (h.extra high) (h.used high) in (asks.0, omega (arith, asks.1))))
+-- a root at a place that becomes nil
+pub nil_asks : (o : Option CollectionWords) (was now : KnownRoots) (known slots p : ℕ) → HasStored was now known was.twins.used slots p → AskForLooks 1 (roots_left_in o was.twins) (roots_left_in o now.twins)
+nil_asks o was now known slots p h = ⊎_elim
+    (λ less. (let same = ap (λ (x : KnownRoots). roots_left_in o x.twins) (h.slot less) in omega (arith, same)))
+    (λ high. nilled_asks o was now (p - slots) (h.extra high) (h.used high))
     (cases_lt p slots)
 
 -- ---- steps
@@ -251,13 +252,11 @@ filled_knows known (replies.Saw view) made m d fields k = fill_knows known made 
 filled_knows known replies.Yes made m d fields k = fill_knows known made m d 0 fields k
 filled_knows known replies.No made m d fields k = fill_knows known made m d 0 fields k
 
-pub from_knows : (known : KnownRoots) (s new : State) (m kind : ℕ) (d : SlotName) (fields : List SlotName) (reply : Reply) → d.index < 16 → m < s.mutators → new_from_step s m d kind fields ≡ (reply, new) → KnowsRoots known s
-    → KnowsRoots (forgetting known) new
-from_knows known s new m kind d fields reply low less steps k =
+pub from_knows : (known : KnownRoots) (s new : State) (m kind : ℕ) (d : SlotName) (fields : List SlotName) (reply : Reply) → new_from_step s m d kind fields ≡ (reply, new) → KnowsRoots known (mutate s m (ops.New d kind (length fields))).1
+    → KnowsRoots known new
+from_knows known s new m kind d fields reply steps k =
     let op = ops.New d kind (length fields) in
-    let below : WritesBelow (roots_of s.mutators) m op = λ q. one_below (place d m) q (roots_of s.mutators) (slot_below d m s.mutators low less) in
-    subst (KnowsRoots (forgetting known)) (ap (λ (x : Reply × State). x.1) steps)
-    (filled_knows (forgetting known) (mutate s m op).0 (mutate s m op).1 m d fields (slot_command known s m op below k))
+    subst (KnowsRoots known) (ap (λ (x : Reply × State). x.1) steps) (filled_knows known (mutate s m op).0 (mutate s m op).1 m d fields k)
 
 pub put_knows : (known : KnownRoots) (s new : State) (m i : ℕ) (d t : SlotName) (reply : Reply) → mutate s m (ops.Put d i t) ≡ (reply, new) → KnowsRoots known s → KnowsRoots known new
 put_knows known s new m i d t reply steps k = subst (KnowsRoots known) (ap (λ (x : Reply × State). x.1) steps) (quiet_command known s m (ops.Put d i t) refl k)

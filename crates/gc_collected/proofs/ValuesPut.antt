@@ -1,19 +1,18 @@
 -- A value that is put through a root, which then holds again what it held, is put by itself.
 use Rattle.std.proofs.lemmas.Grind.{common_steps}
 use Rattle.std.proofs.lemmas.Bool.{cases_Bool, cases_lt}
-use Rattle.std.proofs.Common.{◌≡◌, inl, inr, ◌≢◌, ℕ, zero, suc, ◌<◌, ◌≤◌, List, [], ◌∷◌, ◌++◌, length, map, Option, Some, None, is_some, refl, sym, ap, ◌∙◌, subst, arith}
+use Rattle.std.proofs.Common.{◌≡◌, inl, inr, ◌≢◌, ℕ, zero, suc, ◌<◌, ◌≤◌, List, [], ◌∷◌, ◌++◌, length, map, Option, Some, None, is_some, refl, sym, ap, ◌∙◌, arith}
 use Rattle.std.specs.Prelude.{IfSome, IsTrue, slice_get, slice_set}
 use Rattle.std.specs.Option.{unwrap_or}
 use Rattle.gc_graph.specs.Graph.{Value, Nil, Num, Ref, Object, Graph, field_of, lookup, names_of, object_of, root, set_field}
 use Rattle.gc_graph.specs.Machine.{put_field, words_taken}
 use Rattle.gc_graph.specs.Slots.{SlotName, place}
 use Rattle.gc_graph.specs.declared.command.Op.TheVariants.{Put}
-use Rattle.gc_graph.specs.declared.command.Op.TheVariants as ops
 use Rattle.gc_graph.specs.declared.reply.Reply.{Reply}
 use Rattle.gc_graph.specs.declared.reply.Reply.TheVariants as replies
 use Rattle.gc_graph.proofs.Public.{in_place}
 use Rattle.gc_words.specs.Closed.{IsRootWord, RefersToStart}
-use Rattle.gc_words.specs.Image.{is_start, objects_of}
+use Rattle.gc_words.specs.Image.{is_start}
 use Rattle.gc_words.specs.Word.{value_of}
 use Rattle.gc_heap.specs.Commands.{Performs}
 use Rattle.gc_heap.specs.Heap.{HeapWords, graph_in}
@@ -33,7 +32,6 @@ use Rattle.gc_collected.specs.Internal.KnownRoots.{KnowsRoots}
 use Rattle.gc_collected.specs.Internal.Values.{sets, with_value}
 use Rattle.gc_collected.proofs.ByPlace.{absent, same_put}
 use Rattle.gc_collected.proofs.Referred.{start_named}
-use Rattle.gc_collected.proofs.Together.{logged_none}
 
 -- ---- a put reads two roots and writes none
 
@@ -207,15 +205,6 @@ sets_no_field d (plains.Number n) = λ none. none
 pub sets_no_words : (d : SlotName) (plain : Plain) → words_taken (sets d plain) ≡ 0
 sets_no_words d plains.Nil = refl
 sets_no_words d (plains.Number n) = refl
-
--- whoever sets a root to nil does the same
-nil_set : (s : State) (m : ℕ) (d : SlotName) → mutate s m (ops.Nil d) ≡ (replies.Done, with_value s (place d m) Nil)
-nil_set s m d =
-    ap (λ x. (x.0, record s { heap = x.1; collection = logged s.collection m [] })) (in_place s.heap m (ops.Nil d) (heap_end s) (λ none. none))
-    ∙ ap (λ o. (replies.Done, record (with_value s (place d m) Nil) { collection = o })) (logged_none s.collection m)
-
-pub nil_alike : (s : State) (m p : ℕ) (d : SlotName) → place d m ≡ p → mutate s 0 (ops.Nil (root_at p)) ≡ mutate s m (ops.Nil d)
-nil_alike s m p d at = nil_set s 0 (root_at p) ∙ (ap (λ q. (replies.Done, with_value s q Nil)) (sym at) ∙ sym (nil_set s m d))
 
 -- ---- a field that no object has
 

@@ -135,6 +135,10 @@ rooms_given_back r = record r { leaving = r.leaving - slice }
 abbrev pub with_rooms : Collected → Rooms → Collected
 with_rooms h r = record h { beside = record h.beside { rooms = r } }
 
+-- no memory waits, and nobody can ask any more where the last flip moved an object
+abbrev pub released : Beside → Beside
+released b = record b { rooms = no_rooms; former = None }
+
 -- nothing has changed but the memory that waits, and how many looks are left
 abbrev pub IsUnchangedButRooms : Collected → Collected → Type 0
 IsUnchangedButRooms old new = new ≡ record (with_rooms old new.beside.rooms) { roots_left = new.roots_left }

@@ -1,10 +1,11 @@
 -- The steps that allocate, the outcome of `fetch`, and commands that make an object and fill its fields.
-use Rattle.std.specs.Prelude.{◌≡◌, ℕ, suc, List, [], ◌∷◌, length, None, IsSomeAnd, IsTrue}
+use Rattle.std.specs.Prelude.{◌≡◌, ℕ, zero, suc, List, [], ◌∷◌, length, None, IsSomeAnd, IsTrue}
 use Rattle.gc_graph.specs.Slots.{SlotName}
 use Rattle.gc_graph.specs.declared.command.Op.TheVariants.{New, Get, Put}
 use Rattle.gc_graph.specs.declared.reply.Reply.{Reply}
 use Rattle.gc_graph.specs.declared.reply.Reply.TheVariants.{Full}
 use Rattle.gc_heap.specs.Commands.{fetched_of}
+use Rattle.gc_heap.specs.Places.{root_at}
 use Rattle.gc_heap.specs.declared.taken.Fetched.{Fetched}
 use Rattle.gc_plan.specs.State.{State}
 use Rattle.gc_plan.specs.Steps.{mutate, is_ready}
@@ -38,3 +39,8 @@ abbrev pub new_from_step : State → ℕ → SlotName → ℕ → List SlotName 
 new_from_step old m d kind fields =
     let made = mutate old m (New d kind (length fields)) in
     (made.0, filled made.0 made.1 m d fields)
+
+-- so many roots in a row, by their places, from place p on
+abbrev pub roots_from : ℕ → ℕ → List SlotName
+roots_from p zero = []
+roots_from p (suc n) = root_at p ∷ roots_from (suc p) n

@@ -10,6 +10,7 @@ pub mod Performing
 pub mod Readings
 pub mod Referring
 pub mod Replies
+pub mod Spreading
 pub mod Values
 pub mod Viewing
 pub mod Writing

@@ -1,48 +1,45 @@
-//! Makes objects whose fields take the values of slots.
+//! Makes objects whose fields take the values of roots.
 
-ghost use Rattle.std.specs.Prelude.{ℕ, ◌≡◌, ◌<◌, ◌≤◌, ◌+◌, List, length, get_or, is_some, ⊤, ◌∷◌, []};
+ghost use Rattle.std.specs.Prelude.{ℕ, ◌≡◌, ◌<◌, ◌≤◌, ◌+◌, ◌^◌, ◌∷◌, [], List, length, get_or, is_some, IfOk, OnErr, IsSome};
 ghost use Rattle.gc_graph.specs.Slots.{SlotName, place};
 ghost use Rattle.gc_heap.specs.Filling.{TakesFields};
-ghost use Rattle.gc_collected.specs.Internal.Follows.{Follows};
-ghost use Rattle.gc_collected.specs.CollectedHeap.{new_from_step};
+ghost use Rattle.gc_heap.specs.Places.{root_at};
+ghost use Rattle.gc_collected.specs.CollectedHeap.{new_from_step, roots_from};
 ghost use Rattle.gc_collected.specs.Internal.CollectedHeap.{BelongsIfOpen, Fits, HasSpare, state_in};
+ghost use Rattle.gc_collected.specs.Internal.Follows.{Follows};
 ghost use Rattle.gc_collected.specs.Internal.Together.{PerformsAll, fields_from, puts};
 
 use crate::barrier::{are_sound_in, note_in, reserve_in};
 use crate::collected_heap::CollectedHeap;
 use gc_along::Standing;
 use gc_copy::{Collection, heaps_have_addresses_as_names};
-use gc_graph::{NoMemory, Reply, Slot};
+use gc_graph::{NoMemory, Reply, Slot, root_count};
 use gc_heap::Heap;
 use gc_words::OldAddr;
 
-/// Slots in a row, under whatever names their owner knows them.
-pub trait SlotRow {
-    // Holds of a row whose names are all those of slots.
-    ghost is_row: { Self → Type 0 };
+/// Roots in a row, under whatever names their owner knows them.
+pub trait RootRow {
+    // Holds of a row whose names are all, for this mutator, those of roots of a heap with so many roots.
+    ghost is_row: { Self → ℕ → ℕ → Type 0 };
 
-    ghost slots: { Self → List SlotName };
+    ghost names: { Self → List SlotName };
 
-    /// Returns the number of slots.
+    /// Returns the number of roots.
     fn count(&self) -> u16
-        requires { is_row self.now }
-        ensures { result ≡ length (slots self.now) };
+        requires { (m : ℕ) × (roots : ℕ) × is_row self.now m roots }
+        ensures { result ≡ length (names self.now) };
 
-    /// Returns slot `i`, counted from 0.
-    fn slot(&self, i: u16) -> Slot
-        requires row { is_row self.now }
-        requires inside { i < length (slots self.now) }
-        ensures { result ≡ get_or (slots self.now) i result };
+    /// Returns the place of root `i`, counted from 0, which mutator `m` names.
+    fn place(&self, m: u8, i: u16) -> u32
+        requires row { (roots : ℕ) × is_row self.now m roots }
+        requires inside { i < length (names self.now) }
+        ensures place { result ≡ place (get_or (names self.now) i (root_at 0)) m }
+        ensures within { (roots : ℕ) → is_row self.now m roots → result < roots };
 }
 
 impl CollectedHeap {
-    ghost use Rattle.std.specs.Prelude.{◌≡◌, ◌<◌, ◌∷◌, [], IfOk, OnErr, IsSome};
-    ghost use Rattle.gc_collected.specs.CollectedHeap.{new_from_step};
-
     /// Makes an object of this kind with two fields, which take what `s` and `t` hold, and sets `d` to a reference to
-    /// it. This is a `new_object` followed by two `put`s, in one call. Returns `Made`, or `Full` if there is no room;
-    /// then nothing has changed. `d` is set first, so a field filled from slot `d` refers to the object itself. Returns
-    /// `NoMemory` only while a collection is open; the heap is then unchanged.
+    /// it, as `new_pair_at_root` does by places.
     #[inline(always)]
     pub fn cons(&mut self, m: u8, d: Slot, kind: u8, s: Slot, t: Slot) -> Result<Reply, NoMemory>
         requires { m < self.old.core.mutators }
@@ -52,23 +49,19 @@ impl CollectedHeap {
         ensures mutators { self.new.core.mutators ≡ self.old.core.mutators }
         ensures beside { self.new.beside ≡ self.old.beside }
     {
-        self.new_from(
-            m,
-            d,
-            kind,
-            &TwoSlots {
-                first: s,
-                second: t,
-            },
-        )
+        self.is_sound();
+        // Here the prover learns that the heap is sound.
+        let _ = self.heap.space();
+        let pair = Pair {
+            first: s.place(m) as u32,
+            second: t.place(m) as u32,
+        };
+        self.new_from_roots(m, d.place(m) as u32, kind, &pair)
     }
 
-    /// Makes an object of this kind and sets `d` to a reference to it. `fields` has a slot for each field, which takes
-    /// what that slot holds. This is a `new_object` followed by a `put` for each field, in one call. Returns `Made`, or
-    /// `Full` if there is no room; then nothing has changed. `d` is set first, so a field filled from slot `d` refers to
-    /// the object itself. Returns `NoMemory` only while a collection is open; the heap is then unchanged.
+    /// Makes an object of this kind and sets `d` to a reference to it, as `new_from_roots` does by places.
     #[inline(always)]
-    pub fn new_from<R: SlotRow>(
+    pub fn new_from<R: RootRow>(
         &mut self,
         m: u8,
         d: Slot,
@@ -76,20 +69,102 @@ impl CollectedHeap {
         fields: &R,
     ) -> Result<Reply, NoMemory>
         requires mutator { m < self.old.core.mutators }
-        requires row { R.is_row fields.now }
+        requires row { R.is_row fields.now m (length self.old.core.heap.graph.roots) }
         ensures step { IfOk result (λ reply.
-            new_from_step self.old.core m d kind (R.slots fields.now) ≡ (reply, self.new.core)) }
+            new_from_step self.old.core m d kind (R.names fields.now) ≡ (reply, self.new.core)) }
         ensures refused { OnErr result (self.new ≡ self.old) }
         ensures open { OnErr result (IsSome self.old.core.collection) }
         ensures mutators { self.new.core.mutators ≡ self.old.core.mutators }
         ensures beside { self.new.beside ≡ self.old.beside }
     {
-        // Here the prover learns that the heap is sound, and the slot in range.
+        // Here the prover learns that the heap is sound.
         let _ = self.heap.space();
-        let _ = d.index();
+        self.new_from_roots(m, d.place(m) as u32, kind, fields)
+    }
+
+    /// Makes an object of this kind with two fields, which take what roots `s` and `t` hold, and sets root `d` to a reference to it. This is
+    /// `new_from_roots` with these two roots.
+    #[inline(always)]
+    pub fn new_pair_at_root(
+        &mut self,
+        m: u8,
+        d: u32,
+        kind: u8,
+        s: u32,
+        t: u32,
+    ) -> Result<Reply, NoMemory>
+        requires mutator { m < self.old.core.mutators }
+        requires object { d < length self.old.core.heap.graph.roots }
+        requires first { s < length self.old.core.heap.graph.roots }
+        requires second { t < length self.old.core.heap.graph.roots }
+        ensures step { IfOk result (λ reply.
+            new_from_step self.old.core m (root_at d) kind (root_at s ∷ root_at t ∷ []) ≡ (reply, self.new.core)) }
+        ensures refused { OnErr result (self.new ≡ self.old) }
+        ensures open { OnErr result (IsSome self.old.core.collection) }
+        ensures mutators { self.new.core.mutators ≡ self.old.core.mutators }
+        ensures beside { self.new.beside ≡ self.old.beside }
+    {
+        let pair = Pair {
+            first: s,
+            second: t,
+        };
+        self.new_from_roots(m, d, kind, &pair)
+    }
+
+    /// Makes an object of this kind with `count` fields, which take what the roots from `first` on hold, and sets root `d` to a reference to it. This
+    /// is `new_from_roots` with these roots.
+    #[inline(always)]
+    pub fn gather(
+        &mut self,
+        m: u8,
+        d: u32,
+        kind: u8,
+        first: u32,
+        count: u16,
+    ) -> Result<Reply, NoMemory>
+        requires mutator { m < self.old.core.mutators }
+        requires object { d < length self.old.core.heap.graph.roots }
+        requires range { first + count ≤ length self.old.core.heap.graph.roots }
+        ensures step { IfOk result (λ reply.
+            new_from_step self.old.core m (root_at d) kind (roots_from first count) ≡ (reply, self.new.core)) }
+        ensures refused { OnErr result (self.new ≡ self.old) }
+        ensures open { OnErr result (IsSome self.old.core.collection) }
+        ensures mutators { self.new.core.mutators ≡ self.old.core.mutators }
+        ensures beside { self.new.beside ≡ self.old.beside }
+    {
+        // Here the prover learns how many roots there may be.
+        let _ = self.root_places();
+        let range = Range { first, count };
+        self.new_from_roots(m, d, kind, &range)
+    }
+
+    /// Makes an object of this kind and sets root `d` to a reference to it. `fields` has a root for each field, which takes what that root holds.
+    /// This is a `new_at_root` followed by mutator `m`'s `put_root` for each field, in one call. Returns `Made`, or `Full` if there is no room; then
+    /// nothing has changed. Root `d` is set first, so a field filled from it refers to the object itself. Returns `NoMemory` only while a collection
+    /// is open; the heap is then unchanged.
+    #[inline(always)]
+    pub fn new_from_roots<R: RootRow>(
+        &mut self,
+        m: u8,
+        d: u32,
+        kind: u8,
+        fields: &R,
+    ) -> Result<Reply, NoMemory>
+        requires mutator { m < self.old.core.mutators }
+        requires object { d < length self.old.core.heap.graph.roots }
+        requires row { R.is_row fields.now m (length self.old.core.heap.graph.roots) }
+        ensures step { IfOk result (λ reply.
+            new_from_step self.old.core m (root_at d) kind (R.names fields.now) ≡ (reply, self.new.core)) }
+        ensures refused { OnErr result (self.new ≡ self.old) }
+        ensures open { OnErr result (IsSome self.old.core.collection) }
+        ensures mutators { self.new.core.mutators ≡ self.old.core.mutators }
+        ensures beside { self.new.beside ≡ self.old.beside }
+    {
+        // Here the prover learns that the heap is sound.
+        let _ = self.heap.space();
         let is_open = self.collection.is_some();
         reserve_in(&mut self.collection, m, usize::from(fields.count()))?;
-        self.known.slots = 0;
+        self.known.took(d, root_count(self.heap.mutators()));
         Ok(make_filled(
             &mut self.collection,
             &mut self.heap,
@@ -103,17 +178,17 @@ impl CollectedHeap {
     }
 }
 
-// Two slots in a row.
+// Two roots, by their places.
 #[derive(Drop)]
-struct TwoSlots {
-    first: Slot,
-    second: Slot,
+struct Pair {
+    first: u32,
+    second: u32,
 }
 
-impl SlotRow for TwoSlots {
-    ghost is_row = { λ row. ⊤ };
+impl RootRow for Pair {
+    ghost is_row = { λ row m roots. (row.first < roots) × (row.second < roots) };
 
-    ghost slots = { λ row. row.first ∷ row.second ∷ [] };
+    ghost names = { λ row. root_at row.first ∷ root_at row.second ∷ [] };
 
     #[inline(always)]
     fn count(&self) -> u16 {
@@ -121,30 +196,54 @@ impl SlotRow for TwoSlots {
     }
 
     #[inline(always)]
-    fn slot(&self, i: u16) -> Slot {
+    fn place(&self, m: u8, i: u16) -> u32 {
         if i == 0 { self.first } else { self.second }
     }
 }
 
-// Makes an object and fills it from these slots, as `new_from` does. If a collection is open, which `is_open` says, logs each field; then the log
-// needs room for them. A new object has no replica, so the monitor is told of the object alone.
+// So many roots, from the one at place `first` on.
+#[derive(Drop)]
+struct Range {
+    first: u32,
+    count: u16,
+}
+
+impl RootRow for Range {
+    ghost is_row = { λ row m roots. (row.first + row.count ≤ roots) × (row.first + row.count < 2 ^ 32) };
+
+    ghost names = { λ row. roots_from row.first row.count };
+
+    #[inline(always)]
+    fn count(&self) -> u16 {
+        self.count
+    }
+
+    #[inline(always)]
+    fn place(&self, m: u8, i: u16) -> u32 {
+        self.first + u32::from(i)
+    }
+}
+
+// Makes an object and fills it from these roots, as `new_from_roots` does. If a collection is open, which `is_open` says, logs each field; then the
+// log needs room for them. A new object has no replica, so the monitor is told of the object alone.
 #[inline(always)]
-fn make_filled<R: SlotRow>(
+fn make_filled<R: RootRow>(
     collection: &mut Option<Collection>,
     heap: &mut Heap,
     watch: &mut Standing,
     is_open: bool,
     m: u8,
-    d: Slot,
+    d: u32,
     kind: u8,
     fields: &R,
 ) -> Reply
     requires belongs { BelongsIfOpen heap.old collection.old }
     requires open { is_open ≡ is_some collection.old }
     requires mutator { m < heap.old.mutators }
-    requires row { R.is_row fields.now }
-    requires room { HasSpare collection.old m (length (R.slots fields.now)) }
-    ensures step { new_from_step (state_in heap.old collection.old) m d kind (R.slots fields.now) ≡ (result, state_in heap.new collection.new) }
+    requires object { d < length heap.old.roots }
+    requires row { R.is_row fields.now m (length heap.old.roots) }
+    requires room { HasSpare collection.old m (length (R.names fields.now)) }
+    ensures step { new_from_step (state_in heap.old collection.old) m (root_at d) kind (R.names fields.now) ≡ (result, state_in heap.new collection.new) }
     ensures fits { (epoch : ℕ) → Fits epoch heap.old collection.old → Fits epoch heap.new collection.new }
     ensures mutators { heap.new.mutators ≡ heap.old.mutators }
     ensures follows { Follows (state_in heap.old collection.old) watch.old → Follows (state_in heap.new collection.new) watch.new }
@@ -155,7 +254,7 @@ fn make_filled<R: SlotRow>(
     let _ = heap.space();
     let object = OldAddr(heap.space().end());
     let count = fields.count();
-    let made = heap.new_object(m, d, kind, count);
+    let made = heap.new_at_root(d, kind, count);
     if let Reply::Full = made {
         return made;
     }
@@ -165,16 +264,15 @@ fn make_filled<R: SlotRow>(
     made
 }
 
-// Fills the new object in `d` from these slots, in the heap alone.
+// Fills the new object in root `d` from these roots, in the heap alone.
 #[inline(always)]
-fn fill_each<R: SlotRow>(heap: &mut Heap, m: u8, d: Slot, object: OldAddr, fields: &R)
-    requires mutator { m < heap.old.mutators }
-    requires row { R.is_row fields.now }
-    requires takes { TakesFields heap.old (place d m) object.0 (length (R.slots fields.now)) }
-    ensures performs { PerformsAll heap.old m (puts d 0 (R.slots fields.now)) (fields_from object.0 0 (length (R.slots fields.now))) heap.new }
+fn fill_each<R: RootRow>(heap: &mut Heap, m: u8, d: u32, object: OldAddr, fields: &R)
+    requires row { R.is_row fields.now m (length heap.old.roots) }
+    requires takes { TakesFields heap.old d object.0 (length (R.names fields.now)) }
+    ensures performs { PerformsAll heap.old m (puts (root_at d) 0 (R.names fields.now)) (fields_from object.0 0 (length (R.names fields.now))) heap.new }
     ensures mutators { heap.new.mutators ≡ heap.old.mutators }
 {
     for i in 0..fields.count() {
-        let _put = heap.fill_field(m, d, object, i, fields.slot(i));
+        let _put = heap.fill_root(d, object, i, fields.place(m, i));
     }
 }

@@ -9,7 +9,7 @@ ghost use Rattle.gc_plan.specs.Staying.{IsMissing};
 ghost use Rattle.gc_plan.specs.Steps.{root_target};
 ghost use Rattle.gc_copy.specs.Words.{collection_in, open_state, BelongsTo};
 ghost use Rattle.gc_roots.specs.Twins.{IsDone, begun, looks_left};
-ghost use Rattle.gc_collected.specs.Internal.KnownRoots.{ComparesTwins, HasStored, HasStoredPlain, HasWritten, KnowsRoots};
+ghost use Rattle.gc_collected.specs.Internal.KnownRoots.{ComparesTwins, HasStored, HasWritten, KnowsRoots};
 ghost use Rattle.gc_collected.specs.Internal.Found.{IsAtStart, FindsFirst, IsMissingExtra};
 ghost use Rattle.gc_collected.specs.Collected.{HasLookedOn};
 ghost use Rattle.gc_collected.specs.declared.known.Found.{Found};
@@ -66,7 +66,7 @@ impl KnownRoots {
     #[inline(always)]
     pub(crate) fn took(&mut self, place: u32, slots: usize)
         requires within { (slots ≤ place) → place - slots < length self.old.twins.twins }
-        ensures { HasStored self.old self.new slots place }
+        ensures { HasStored self.old self.new 0 (max self.old.twins.used (place - slots + 1)) slots place }
     {
         if (place as usize) < slots {
             self.slots = 0;
@@ -79,10 +79,20 @@ impl KnownRoots {
     #[inline(always)]
     pub(crate) fn took_plain(&mut self, place: u32, slots: usize)
         requires within { (slots ≤ place) → place - slots < length self.old.twins.twins }
-        ensures { HasStoredPlain self.old self.new slots place }
+        ensures { HasStored self.old self.new self.old.slots (max self.old.twins.used (place - slots + 1)) slots place }
     {
         if place as usize >= slots {
             self.wrote(place - slots as u32);
+        }
+    }
+
+    /// Notes that the root at this place became nil, where there are so many slots.
+    #[inline(always)]
+    pub(crate) fn took_nil(&mut self, place: u32, slots: usize)
+        ensures { HasStored self.old self.new self.old.slots self.old.twins.used slots place }
+    {
+        if slots <= place as usize {
+            self.nilled(place - slots as u32);
         }
     }
 

@@ -1,7 +1,8 @@
 //! Commands on roots by their places in the list of roots: first the shared slots, then each mutator's own, then the extra roots. Each is a command of
 //! the machine, for which the root at a place has the name `root_at`.
 
-ghost use Rattle.std.specs.Prelude.{◌≡◌, ◌<◌, ◌≤◌, IfOk, OnErr, IsSome, length};
+ghost use Rattle.std.specs.Prelude.{◌≡◌, ◌<◌, ◌≤◌, ◌^◌, IfOk, OnErr, IsSome, length};
+ghost use Rattle.gc_graph.specs.Slots.{roots_of};
 ghost use Rattle.gc_graph.specs.declared.command.Op.{Op};
 ghost use Rattle.gc_heap.specs.Places.{root_at};
 ghost use Rattle.gc_plan.specs.Steps.{mutate};
@@ -10,7 +11,7 @@ ghost use Rattle.gc_collected.specs.CollectedHeap.{Fetches};
 
 use crate::barrier::{new_root_in, put_root};
 use crate::collected_heap::CollectedHeap;
-use gc_copy::commands_leave_collections;
+use gc_copy::{commands_leave_collections, heaps_have_addresses_as_names};
 use gc_graph::{NoMemory, Number, Reply, root_count};
 use gc_heap::Fetched;
 
@@ -18,8 +19,12 @@ impl CollectedHeap {
     /// Returns the number of roots.
     #[inline(always)]
     pub fn root_places(&self) -> usize
-        ensures { result ≡ length self.now.core.heap.graph.roots }
+        ensures count { result ≡ length self.now.core.heap.graph.roots }
+        ensures few { result < 2 ^ 32 }
+        ensures slots { roots_of self.now.core.mutators ≤ result }
     {
+        // Here the prover learns that the heap is sound, and has few mutators.
+        let _ = self.heap.mutators();
         self.heap.root_places()
     }
 
@@ -44,6 +49,25 @@ impl CollectedHeap {
             kind,
             len,
         )
+    }
+
+    /// Makes a raw object, as `new_at_root` makes an object. Its fields are plain numbers, all 0. Does not allocate.
+    #[inline(always)]
+    pub fn new_raw_at_root(&mut self, d: u32, kind: u8, len: u16) -> Reply
+        requires { d < length self.old.core.heap.graph.roots }
+        ensures step { mutate self.old.core 0 (Op.NewRaw (root_at d) kind len) ≡ (result, self.new.core) }
+        ensures mutators { self.new.core.mutators ≡ self.old.core.mutators }
+        ensures beside { self.new.beside ≡ self.old.beside }
+        ensures looks { AsksForLook d self.old.roots_left self.new.roots_left }
+    {
+        self.is_sound();
+        // Here the prover learns that the heap is sound.
+        let _ = self.heap.space();
+        heaps_have_addresses_as_names();
+        self.known.took(d, root_count(self.heap.mutators()));
+        let reply = self.heap.new_raw_at_root(d, kind, len);
+        self.watch.made(self.heap.space().words());
+        reply
     }
 
     /// Sets root `d` to the number. Returns `Done`. Does not allocate.

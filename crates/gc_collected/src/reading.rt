@@ -80,6 +80,16 @@ impl CollectedHeap {
         self.heap.target(m, slot)
     }
 
+    /// Returns the address of the object that root `s` refers to, as `address` does.
+    pub fn address_root(&self, s: u32) -> Option<OldAddr>
+        requires { s < length self.now.core.heap.graph.roots }
+        ensures { option_map (λ a. a.0) result ≡ name_of (root self.now.core.heap.graph s) }
+    {
+        // Here the prover learns that the heap is sound.
+        let _ = self.heap.space();
+        self.heap.target_root(s)
+    }
+
     /// Returns the number of entries in mutator `m`'s log: 0 if no collection is open.
     pub fn log_len(&self, m: u8) -> usize
         requires { m < self.now.core.mutators }

@@ -3,7 +3,7 @@
 ghost use Rattle.std.specs.Prelude.{◌≡◌, ◌≢◌, ◌≤◌, ◌⊎◌, ◌==◌, None, IfOk, OnOk, OnErr, if◌then◌else◌};
 ghost use Rattle.std.specs.Option.{option_map};
 ghost use Rattle.gc_copy.specs.Words.{held_in};
-ghost use Rattle.gc_collected.specs.Collected.{HasBegun, rooms_given_back, rooms_given_up, rooms_touched, with_rooms};
+ghost use Rattle.gc_collected.specs.Collected.{HasBegun, released, rooms_given_back, rooms_given_up, rooms_touched, with_rooms};
 ghost use Rattle.gc_collected.specs.Internal.Rooms.{rooms_in};
 
 use crate::collected_heap::CollectedHeap;
@@ -36,6 +36,16 @@ impl CollectedHeap {
         ensures { option_map (λ room. room.now) result ≡ self.now.beside.former }
     {
         self.former.as_ref()
+    }
+
+    /// Frees all memory that waits: what the last flip left, the spare room, and what is given back. The heap and an open collection stay as they are. The
+    /// next collection allocates its space.
+    pub fn release(&mut self)
+        ensures { self.new ≡ record self.old { beside = released self.old.beside } }
+    {
+        self.former = None;
+        self.spare = None;
+        self.leaving = None;
     }
 
     /// Frees some of the memory that no collection will use, if there is any: at most 32,768 words of it. The heap stays as it is.

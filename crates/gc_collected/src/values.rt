@@ -1,29 +1,24 @@
 //! Commands by places that set a root or a field to nil or to a number. No other root takes the value.
 
-ghost use Rattle.std.specs.Prelude.{ℕ, ◌≡◌, ◌≢◌, ◌<◌, ◌≤◌, length, is_some, IfOk, OnErr, IsSome, IsTrue, Option};
-ghost use Rattle.gc_graph.specs.Slots.{place, roots_of, shared_slot};
+ghost use Rattle.std.specs.Prelude.{ℕ, ◌≡◌, ◌≢◌, ◌<◌, length, is_some, IfOk, OnErr, IsSome};
 ghost use Rattle.gc_graph.specs.declared.command.Op.{Op};
-ghost use Rattle.gc_graph.specs.declared.reply.Reply.{Reply};
-ghost use Rattle.gc_words.specs.Closed.{IsRootWord};
-ghost use Rattle.gc_words.specs.Word.{value_of};
 ghost use Rattle.gc_heap.specs.Commands.{Performs};
 ghost use Rattle.gc_heap.specs.Heap.{IsHeap};
 ghost use Rattle.gc_heap.specs.Places.{root_at};
-ghost use Rattle.gc_copy.specs.Words.{CollectionWords};
 ghost use Rattle.gc_plan.specs.Steps.{mutate};
+ghost use Rattle.gc_roots.specs.Twins.{AskForLooks};
 ghost use Rattle.gc_collected.specs.Values.{value_of_plain, put_value_step};
 ghost use Rattle.gc_collected.specs.Internal.CollectedHeap.{BelongsIfOpen, Fits, HasSpare, state_in};
 ghost use Rattle.gc_collected.specs.Internal.Follows.{Follows};
-ghost use Rattle.gc_collected.specs.Internal.Values.{sets, with_value};
+ghost use Rattle.gc_collected.specs.Internal.Values.{sets};
 
 use crate::barrier::{are_sound_in, put_root_in, reserve_in};
 use crate::collected_heap::CollectedHeap;
 use crate::places::field_number;
 use gc_along::Standing;
 use gc_copy::Collection;
-use gc_graph::{NoMemory, Number, Reply, Slot, root_count};
+use gc_graph::{NoMemory, Number, Reply, root_count};
 use gc_heap::Heap;
-use gc_words::{OldAddr, Value, value_in};
 
 /// A value that refers to no object.
 #[derive(Clone, Copy, Debug, Drop)]
@@ -34,23 +29,19 @@ pub enum Plain {
 
 impl CollectedHeap {
     /// Sets root `d` to nil. Returns `Done`. Does not allocate.
+    #[inline(always)]
     pub fn nil_root(&mut self, d: u32) -> Reply
-        requires root { d < length self.old.core.heap.graph.roots }
-        requires mutator { 1 ≤ self.old.core.mutators }
+        requires { d < length self.old.core.heap.graph.roots }
         ensures step { mutate self.old.core 0 (Op.Nil (root_at d)) ≡ (result, self.new.core) }
         ensures mutators { self.new.core.mutators ≡ self.old.core.mutators }
         ensures beside { self.new.beside ≡ self.old.beside }
+        ensures looks { AskForLooks 1 self.old.roots_left self.new.roots_left }
     {
+        self.is_sound();
         // Here the prover learns that the heap is sound.
         let _ = self.heap.space();
-        let slots = root_count(self.heap.mutators()) as u32;
-        if d >= slots {
-            let k = d - slots;
-            self.clear(k, k + 1);
-            return Reply::Done;
-        }
-        let (m, slot) = slot_at(d);
-        self.nil(m, slot)
+        self.known.took_nil(d, root_count(self.heap.mutators()));
+        self.heap.nil_root(d)
     }
 
     /// Writes nil or a number to field `i` of the object that root `s` refers to, as mutator `m`'s `Put` of a root that holds it. No root changes. Returns
@@ -84,32 +75,17 @@ impl CollectedHeap {
     }
 }
 
-// Returns the slot at this place in the list of roots, and a mutator that has it.
+// Returns the place of a root beside root `s`.
 #[inline(always)]
-fn slot_at(p: u32) -> (u8, Slot)
-    requires { p < roots_of 256 }
-    ensures place { place result.1 result.0 ≡ p }
-    ensures mutator { (mutators : ℕ) → 1 ≤ mutators → p < roots_of mutators → result.0 < mutators }
+fn root_beside(s: u32) -> u32
+    ensures low { result < 2 }
+    ensures apart { result ≢ s }
 {
-    let index = (p % 16) as u8;
-    if p < 16 {
-        (0, Slot::shared(index).unwrap())
-    } else {
-        ((p / 16 - 1) as u8, Slot::own(index).unwrap())
-    }
+    if s == 0 { 1 } else { 0 }
 }
 
-// Returns a shared slot that is not root `s`.
-#[inline(always)]
-fn slot_beside(s: u32) -> Slot
-    ensures shared { result ≡ shared_slot result.index }
-    ensures apart { result.index ≢ s }
-{
-    Slot::shared(if s == 0 { 1 } else { 0 }).unwrap()
-}
-
-// Performs a `Put` of the value by mutator `m`, as `put_plain` does. If a collection is open, which `is_open` says, the log needs room. A shared slot that
-// is not root `s` holds the value for the `Put`, and then what it held before.
+// Performs a `Put` of the value by mutator `m`, as `put_plain` does. If a collection is open, which `is_open` says, the log needs room. A root beside root
+// `s` holds the value for the `Put`, and then what it held before.
 #[inline(always)]
 fn put_plain_in(
     collection: &mut Option<Collection>,
@@ -134,47 +110,24 @@ fn put_plain_in(
     are_sound_in(collection, heap);
     // Here the prover learns that the heap is sound.
     let _ = heap.space();
-    let slot = slot_beside(s);
-    let t = slot.index();
-    let held = heap.roots()[usize::from(t)];
-    let _set = set_plain(heap, m, slot, value);
-    let reply = put_root_in(collection, heap, watch, is_open, m, s, i, u32::from(t));
+    let t = root_beside(s);
+    let held = heap.roots()[t as usize];
+    let _set = set_plain(heap, t, value);
+    let reply = put_root_in(collection, heap, watch, is_open, m, s, i, t);
     are_sound_in(collection, heap);
-    restore(heap, m, slot, held);
+    heap.set_root(t, held);
     reply
 }
 
-// Performs mutator `m`'s `Num` or `Nil` of slot `d`.
+// Performs a `Num` or a `Nil` of root `d`.
 #[inline(always)]
-fn set_plain(heap: &mut Heap, m: u8, d: Slot, value: Plain) -> Reply
-    requires { m < heap.old.mutators }
-    ensures performs { Performs heap.old m (sets d value) result heap.new }
+fn set_plain(heap: &mut Heap, d: u32, value: Plain) -> Reply
+    requires { d < length heap.old.roots }
+    ensures performs { (m : ℕ) → Performs heap.old m (sets (root_at d) value) result heap.new }
     ensures sound { IsHeap heap.new }
 {
     match value {
-        Plain::Nil => heap.nil(m, d),
-        Plain::Number(n) => heap.num(m, d, n),
-    }
-}
-
-// Sets slot `d` of mutator `m` to the value of this word.
-#[inline(always)]
-fn restore(heap: &mut Heap, m: u8, d: Slot, word: u64)
-    requires mutator { m < heap.old.mutators }
-    requires word { IsRootWord heap.old.space.words word }
-    ensures state { (o : Option CollectionWords) → state_in heap.new o ≡ with_value (state_in heap.old o) (place d m) (value_of word) }
-    ensures fits { (epoch : ℕ) (o : Option CollectionWords) → Fits epoch heap.old o → Fits epoch heap.new o }
-    ensures mutators { heap.new.mutators ≡ heap.old.mutators }
-{
-    // Here the prover learns that the heap is sound.
-    let _ = heap.space();
-    match value_in(word) {
-        Value::Nil => {
-            let _done = heap.nil(m, d);
-        }
-        Value::Num(n) => {
-            let _done = heap.num(m, d, n);
-        }
-        Value::Ref(a) => heap.refer(m, d, OldAddr(a.0)),
+        Plain::Nil => heap.nil_root(d),
+        Plain::Number(n) => heap.num_root(d, n),
     }
 }

@@ -1,19 +1,15 @@
 //! What mutators would see without a root for it: the value of a field, and the object at an address. Nothing here changes a heap.
 
-ghost use Rattle.std.specs.Prelude.{◌≡◌, ◌<◌, length, IsTrue};
-ghost use Rattle.gc_graph.specs.Graph.{Ref, object_of, field_of, root};
-ghost use Rattle.gc_graph.specs.Machine.{get_field, view_of};
+ghost use Rattle.std.specs.Prelude.{◌≡◌, ◌<◌, length};
+ghost use Rattle.gc_graph.specs.Graph.{object_of, field_of, root};
+ghost use Rattle.gc_graph.specs.Machine.{get_field};
 ghost use Rattle.gc_heap.specs.Heap.{graph_in};
-ghost use Rattle.gc_words.specs.Closed.{IsFieldWord};
-ghost use Rattle.gc_words.specs.Image.{is_start, objects_of};
-ghost use Rattle.gc_words.specs.Space.{IsSpace};
-ghost use Rattle.gc_words.specs.Word.{field_value};
 ghost use Rattle.gc_collected.specs.Viewing.{get_reply, view_at};
 
 use crate::collected_heap::CollectedHeap;
-use gc_graph::{Number, Reply, View};
-use gc_heap::Heap;
-use gc_words::{Addr, Header, OldAddr, Space, Value, value_in};
+use gc_graph::{Reply, View};
+use gc_heap::{Heap, object_view, root_word, view};
+use gc_words::{Addr, OldAddr};
 
 impl CollectedHeap {
     /// Returns the reply to a `Get` of field `i` of the object that root `s` refers to: `Saw`, or else `NoObject` or `NoField`. No root takes the value.
@@ -54,38 +50,6 @@ fn peek(heap: &Heap, s: u32, i: u32) -> Reply
         return Reply::NoField;
     }
     let field = space.field(at, i as u16);
-    Reply::Saw(field_view(space, header, field))
-}
-
-// Returns what a mutator sees of the value of a field word of an object with this header.
-#[inline(always)]
-fn field_view(space: &Space, header: Header, field: u64) -> View
-    requires word { IsFieldWord space.now.words header field }
-    requires shaped { IsSpace space.now }
-    ensures { result ≡ view_of (objects_of space.now.words) (field_value header field) }
-{
-    if header.is_raw() {
-        return View::Num(Number::new(field).unwrap());
-    }
-    match value_in(field) {
-        Value::Nil => View::Nil,
-        Value::Num(n) => View::Num(n),
-        Value::Ref(at) => object_view(space, at),
-    }
-}
-
-// Returns what a mutator sees of a reference to the object that starts here.
-fn object_view(space: &Space, at: Addr) -> View
-    requires start { IsTrue (is_start space.now.words at.0) }
-    requires shaped { IsSpace space.now }
-    ensures { result ≡ view_of (objects_of space.now.words) (Ref at.0) }
-{
-    let header = space.header(at);
-    let kind = header.kind();
-    let len = header.len();
-    if header.is_raw() {
-        View::RawObj { kind, len }
-    } else {
-        View::Obj { kind, len }
-    }
+    let word = root_word(space, header, field);
+    Reply::Saw(view(space, word))
 }

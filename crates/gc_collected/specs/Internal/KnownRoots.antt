@@ -1,5 +1,5 @@
 -- What a collected heap knows of its roots.
-use Rattle.std.specs.Prelude.{◌≡◌, ℕ, ◌<◌, ◌≤◌, ◌+◌, ◌-◌, max, Option, Some, None}
+use Rattle.std.specs.Prelude.{◌≡◌, ℕ, ◌<◌, ◌≤◌, ◌-◌, Option, Some, None}
 use Rattle.gc_graph.specs.Slots.{roots_of}
 use Rattle.gc_plan.specs.State.{State}
 use Rattle.gc_plan.specs.Staying.{KnowsRoot}
@@ -29,14 +29,9 @@ pub record HasWritten (was now : KnownRoots) (k : ℕ) : Type 0 where
   pub twins : IsWritten was.twins now.twins k
   pub compares : ComparesTwins was → ComparesTwins now
 
--- the root at place p was written, where there are so many slots: of a slot nothing is known any more
-pub record HasStored (was now : KnownRoots) (slots p : ℕ) : Type 0 where
-  pub slot : p < slots → now ≡ record { slots = 0; twins = was.twins; looks = was.looks }
+-- The root at place p was written, where there are so many slots. If it is one of them, the first `known` slots are still known. Else the row is in
+-- use below `bound`.
+pub record HasStored (was now : KnownRoots) (known bound slots p : ℕ) : Type 0 where
+  pub slot : p < slots → now ≡ record { slots = known; twins = was.twins; looks = was.looks }
   pub extra : slots ≤ p → HasWritten was now (p - slots)
-  pub used : slots ≤ p → now.twins.used ≡ max was.twins.used (p - slots + 1)
-
--- the same for a value that refers to no object, which needs no replica
-pub record HasStoredPlain (was now : KnownRoots) (slots p : ℕ) : Type 0 where
-  pub slot : p < slots → now ≡ was
-  pub extra : slots ≤ p → HasWritten was now (p - slots)
-  pub used : slots ≤ p → now.twins.used ≡ max was.twins.used (p - slots + 1)
+  pub used : slots ≤ p → now.twins.used ≡ bound

@@ -11,7 +11,7 @@ use Rattle.gc_words.specs.Image.{block_at, field_at, header_at, is_start, object
 use Rattle.gc_words.specs.Word.{field_value}
 use Rattle.gc_words.specs.declared.header.Header.{Header}
 use Rattle.gc_words.proofs.Public.{closed_field_read, field_found, field_past, field_within, object_found, some_of}
-use Rattle.gc_heap.specs.Heap.{HeapWords, IsHeap, graph_in}
+use Rattle.gc_heap.specs.Heap.{HeapWords, graph_in}
 use Rattle.gc_heap.proofs.Public.{Points, got_no_field, header_is, named}
 use Rattle.gc_collected.proofs.viewing.peek.Goals as goal
 use Rattle.gc_collected.proofs.viewing.peek.Goals.{After-len}
@@ -48,11 +48,11 @@ field-field-requires c =
     subst (λ s. is_some (field_at s.words c.in-Some.at.0 c.args.i) ≡ true) (sym c.space-space.ensures.value)
     (field_within c.args.heap.now.space.words c.in-Some.at.0 c.args.i c.header-header.result c.target_root.ensures.sound.space.walked (header (goal.at.field-field-requires c).After-len) (omega (arith, c.len.ensures, c.from.ensures, c.if-i-from.false)))
 
-pub field_view-requires-clause-word : goal.field_view-requires-clause-word
-field_view-requires-clause-word c =
+pub root_word-word-requires : goal.root_word-word-requires
+root_word-word-requires c =
     let h : HeapWords = c.args.heap.now in
     let p = points h c.args.s c.in-Some.at.0 c.in-Some.ensures.name c.in-Some.ensures.start in
-    let is = header_is h c.args.s c.in-Some.at.0 c.header-header.result p (header (goal.at.field_view-requires-clause-word c).After-len) in
+    let is = header_is h c.args.s c.in-Some.at.0 c.header-header.result p (header (goal.at.root_word-word-requires c).After-len) in
     let read = subst (λ s. field_at s.words c.in-Some.at.0 c.args.i ≡ Some c.field-field.result) c.space-space.ensures.value c.field-field.ensures in
     subst (λ s. IsFieldWord s.words c.header-header.result c.field-field.result) (sym c.space-space.ensures.value)
     (subst (λ g. IsFieldWord h.space.words g c.field-field.result) is (closed_field_read h.space.words h.roots c.in-Some.at.0 c.args.i c.field-field.result p.block c.target_root.ensures.sound.closed p.found read))
@@ -63,5 +63,5 @@ returns c =
     let p = points h c.args.s c.in-Some.at.0 c.in-Some.ensures.name c.in-Some.ensures.start in
     let is = header_is h c.args.s c.in-Some.at.0 c.header-header.result p (header (goal.at.returns c).After-len) in
     let read = subst (λ s. field_at s.words c.in-Some.at.0 c.args.i ≡ Some c.field-field.result) c.space-space.ensures.value c.field-field.ensures in
-    ap Saw (c.field_view.ensures ∙ ap (λ s. view_of (objects_of s.words) (field_value c.header-header.result c.field-field.result)) c.space-space.ensures.value)
+    ap Saw (c.view.ensures ∙ (λ k. view_of (objects_of (c.space-space.ensures.value k).words) (c.root_word-word.ensures.value k)))
     ∙ seen h c.args.s c.in-Some.at.0 c.args.i c.field-field.result c.header-header.result p is read

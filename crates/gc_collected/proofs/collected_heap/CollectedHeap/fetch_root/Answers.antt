@@ -1,5 +1,6 @@
 -- A `fetch_root` changes what a `Get` changes: one root.
-use Rattle.std.proofs.Common.{◌<◌, length, ap, refl, sym, ◌∙◌, subst}
+use Rattle.std.proofs.Common.{◌+◌, ◌-◌, ◌<◌, length, ap, refl, sym, ◌∙◌, subst}
+use Rattle.std.specs.Prelude.{max}
 use Rattle.std.specs.Option.{option_map}
 use Rattle.gc_graph.specs.Slots.{roots_of}
 use Rattle.gc_graph.specs.declared.command.Op.TheVariants.{Get}
@@ -19,7 +20,7 @@ invariant_of-self c =
     let heap = c.self.inside.heap in
     let s = state_of heap (option_map collection_in c.self.inside.collection) in
     let within = subst (λ (s : State). c.args.d < length s.heap.graph.roots) (sym (core_is c.self.view_is)) c.requires.taker in
-    let taken = subst (λ n. HasStored c.self.inside.known c.took.new.self n c.args.d) (c.root_count.ensures ∙ ap roots_of c.mutators.ensures.value) c.took.ensures in
+    let taken = subst (λ n. HasStored c.self.inside.known c.took.new.self 0 (max c.self.inside.known.twins.used (c.args.d - n + 1)) n c.args.d) (c.root_count.ensures ∙ ap roots_of c.mutators.ensures.value) c.took.ensures in
     root_followed c.args.self.now.core c.self.inside.epoch c.self.inside.known c.took.new.self heap c.fetch_root.new.self c.self.inside.collection 0 (Get (root_at c.args.d) (root_at c.args.s) c.field_number.result) (c.fetch_root.ensures.fetches 0).0 c.self.inside.watch c.self.inside.along (core_is c.self.view_is) c.is_sound.ensures.open c.space.ensures.sound ((c.fetch_root.ensures.fetches 0).1)
     (λ none. none) refl (root_known c.self.inside.known c.took.new.self s 0 c.args.d (Get (root_at c.args.d) (root_at c.args.s) c.field_number.result) refl within taken) c.self.invariant
 
@@ -36,4 +37,4 @@ returns-clause-fetches c = (
 
 pub returns-clause-looks : goal.returns-clause-looks
 returns-clause-looks c = subst (λ n. AsksForLook c.args.d n (roots_left_in c.self.inside.collection c.took.new.self.twins)) (left_is c.self.view_is)
-    (stored_asks c.self.inside.collection c.self.inside.known c.took.new.self c.root_count.result c.args.d c.took.ensures)
+    (stored_asks c.self.inside.collection c.self.inside.known c.took.new.self 0 c.root_count.result c.args.d c.took.ensures)
