@@ -105,6 +105,7 @@ void roots_by_places()
     EXPECT(gcflip_same(&heap.handle, 31, 0) == GCFLIP_SAME);
     EXPECT(gcflip_put_number(&heap.handle, 0, extra, 0, 8) == GCFLIP_DONE && gcflip_peek(&heap.handle, extra, 0, &view) == GCFLIP_NUMBER && view.number == 8);
     EXPECT(gcflip_put_nil(&heap.handle, 0, extra, 0) == GCFLIP_DONE && gcflip_set_nil(&heap.handle, 31) == GCFLIP_DONE && gcflip_room(&heap.handle) == 60);
+    EXPECT(gcflip_gather(&heap.handle, 0, 1, 9, 0, 2) == GCFLIP_MADE && gcflip_spread(&heap.handle, 2, 1, 1) == GCFLIP_DONE);
     EXPECT(gcflip_copy(&heap.handle, 0, extra) == GCFLIP_DONE);
     EXPECT(gcflip_look(&heap.handle, 0, &view) == GCFLIP_OBJECT && view.kind == 255 && view.count == 1);
 }

@@ -182,6 +182,15 @@ static void reserve(uint32_t words)
     printf("%s, ", reply(answer));
     print_paced(&work);
 }
+
+static void collect(void)
+{
+    gcflip_work work = {KEPT_32, KEPT_32, KEPT_32, KEPT_32, KEPT_32};
+    uint32_t answer = gcflip_collect(&heap, &work);
+    printf("%s, ", reply(answer));
+    print_work(&work);
+    printf("\n");
+}
 #endif
 
 /* Performs a call on a frame, whose numbers come first. */
@@ -327,15 +336,21 @@ static void raw_read(void)
         printf("%s\n", reply(answer));
 }
 
+/* Prints the answer of a call that tells an address, with what it wrote. */
+static void print_address(const char *name, uint32_t answer, uint32_t found)
+{
+    EXPECT(answer == GCFLIP_DONE || found == 77);
+    if (answer == GCFLIP_DONE)
+        printf("%s %u\n", name, found);
+    else
+        printf("%s\n", reply(answer));
+}
+
 static void address(void)
 {
     uint32_t found = 77;
     uint32_t answer = gcflip_heap_address(&heap, (uint8_t)a[0], (uint8_t)a[1], &found);
-    EXPECT(answer == GCFLIP_DONE || found == 77);
-    if (answer == GCFLIP_DONE)
-        printf("address %u\n", found);
-    else
-        printf("%s\n", reply(answer));
+    print_address("address", answer, found);
 }
 
 #ifndef BASIC
@@ -346,15 +361,20 @@ static void object_at(uint32_t address)
     print_look(answer, view);
 }
 
-static void moved(void)
+static void place_address(uint32_t s)
 {
     uint32_t found = 77;
-    uint32_t answer = gcflip_heap_moved(&heap, (uint32_t)a[0], &found);
-    EXPECT(answer == GCFLIP_DONE || found == 77);
-    if (answer == GCFLIP_DONE)
-        printf("moved %u\n", found);
-    else
-        printf("%s\n", reply(answer));
+    uint32_t answer = gcflip_address(&heap, s, &found);
+    print_address("address", answer, found);
+}
+
+/* The call has two names. */
+static void moved(uint32_t old)
+{
+    uint32_t found = 77, again = 77;
+    uint32_t answer = gcflip_heap_moved(&heap, old, &found);
+    EXPECT(gcflip_moved(&heap, old, &again) == answer && again == found);
+    print_address("moved", answer, found);
 }
 #endif
 
@@ -365,17 +385,34 @@ static uint32_t open_heap(void)
     return gcflip_heap_open(&heap, &options);
 }
 
+/* Makes an object of the roots whose places are the numbers from the fourth on. */
+static uint32_t place_new_from(size_t read)
+{
+    static uint32_t fields[MOST];
+    for (size_t k = 3; k < read; k++)
+        fields[k - 3] = (uint32_t)a[k];
+    return gcflip_new_from(&heap, (uint32_t)a[0], (uint32_t)a[1], (uint32_t)a[2], fields, read - 3);
+}
+
 /* Performs a command on roots by their places that writes nothing. The numbers are not cut. */
-static uint32_t by_places(const char *name)
+static uint32_t by_places(const char *name, size_t read)
 {
     const uint32_t d = (uint32_t)a[0], s = (uint32_t)a[1], i = (uint32_t)a[2];
     if (IS("place_new")) return gcflip_new(&heap, d, s, i);
+    if (IS("place_raw")) return gcflip_new_raw(&heap, d, s, i);
+    if (IS("place_pair")) return gcflip_new_pair(&heap, d, s, i, (uint32_t)a[3], (uint32_t)a[4]);
+    if (IS("place_new_from")) return place_new_from(read);
+    if (IS("place_gather")) return gcflip_gather(&heap, d, s, i, (uint32_t)a[3], (uint32_t)a[4]);
+    if (IS("place_spread")) return gcflip_spread(&heap, d, s, i);
     if (IS("place_num")) return gcflip_set_number(&heap, d, a[1]);
     if (IS("place_nil")) return gcflip_set_nil(&heap, d);
     if (IS("place_copy")) return gcflip_copy(&heap, d, s);
     if (IS("place_put")) return gcflip_put(&heap, d, s, i, (uint32_t)a[3]);
     if (IS("place_put_number")) return gcflip_put_number(&heap, d, s, i, a[3]);
     if (IS("place_put_nil")) return gcflip_put_nil(&heap, d, s, i);
+#ifndef BASIC
+    if (IS("place_refer")) return gcflip_refer(&heap, d, s);
+#endif
     EXPECT(IS("place_same"));
     return gcflip_same(&heap, d, s);
 }
@@ -413,7 +450,7 @@ static uint32_t plain(const char *name)
     return gcflip_heap_step_give_up(&heap);
 }
 
-static void perform(const char *name)
+static void perform(const char *name, size_t read)
 {
     const uint8_t m = (uint8_t)a[0], d = (uint8_t)a[1];
     if (IS("look")) look(m, d);
@@ -422,8 +459,11 @@ static void perform(const char *name)
     else if (IS("place_peek")) place_peek((uint32_t)a[0], (uint32_t)a[1]);
     else if (IS("room")) printf("room %u\n", gcflip_room(&heap));
     else if (IS("place_get")) place_get((uint32_t)a[0], (uint32_t)a[1], (uint32_t)a[2]);
+#ifndef BASIC
+    else if (IS("place_address")) place_address((uint32_t)a[0]);
+#endif
     else if (strncmp(name, "frame_", 6) == 0) frame(name);
-    else if (strncmp(name, "place_", 6) == 0) printf("%s\n", reply(by_places(name)));
+    else if (strncmp(name, "place_", 6) == 0) printf("%s\n", reply(by_places(name, read)));
     else if (IS("flip")) flip();
     else if (IS("work")) work((uint32_t)a[0], NO_BOUND, NO_BOUND);
     else if (IS("useful")) useful();
@@ -441,9 +481,11 @@ static void perform(const char *name)
     else if (IS("pace")) set_pace();
     else if (IS("work_paced")) work_paced((uint32_t)a[0]);
 #ifndef BASIC
-    else if (IS("moved")) moved();
+    else if (IS("moved")) moved((uint32_t)a[0]);
     else if (IS("object_at")) object_at((uint32_t)a[0]);
     else if (IS("reserve")) reserve((uint32_t)a[0]);
+    else if (IS("collect")) collect();
+    else if (IS("release")) printf("%s\n", reply(gcflip_release(&heap)));
 #endif
     else printf("%s\n", reply(plain(name)));
 }
@@ -465,7 +507,7 @@ int main(int count, char **words)
             EXPECT(read < MOST);
             a[read++] = strtoull(word, NULL, 10);
         }
-        perform(name);
+        perform(name, read);
     }
 #ifdef RECORD
     EXPECT(!ferror(gcflip_trace) && fclose(gcflip_trace) == 0);

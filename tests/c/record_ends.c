@@ -47,6 +47,7 @@ static void open_heaps(void)
 /* Performs one of the commands on roots by their places. */
 static void command_by_places(int call)
 {
+    static const uint32_t places[] = {16, 18};
     uint64_t number = 77;
     gcflip_view view = {77, 77, 77};
     if (call == 0)
@@ -71,9 +72,19 @@ static void command_by_places(int call)
         EXPECT(gcflip_put_number(&heap, 0, 18, 0, 5) == GCFLIP_NO_FIELD);
     if (call == 10)
         EXPECT(gcflip_put_nil(&heap, 0, 16, 0) == GCFLIP_NO_OBJECT);
+    if (call == 11)
+        EXPECT(gcflip_new_raw(&heap, 0, 1, 1) == GCFLIP_MADE);
+    if (call == 12)
+        EXPECT(gcflip_new_pair(&heap, 0, 0, 1, 16, 18) == GCFLIP_MADE);
+    if (call == 13)
+        EXPECT(gcflip_new_from(&heap, 0, 0, 1, places, 2) == GCFLIP_MADE);
+    if (call == 14)
+        EXPECT(gcflip_gather(&heap, 0, 0, 1, 16, 3) == GCFLIP_MADE);
+    if (call == 15)
+        EXPECT(gcflip_spread(&heap, 0, 18, 0) == GCFLIP_DONE);
 }
 
-enum { NAMING_ROOTS = 6, WITHOUT_LINES = 7, BY_PLACES = 11 };
+enum { NAMING_ROOTS = 6, WITHOUT_LINES = 7, BY_PLACES = 16 };
 
 /* Opens a heap with extra roots, and names one by each call in turn. Then it makes a reference of an address, and last it names roots by their
  * places. */

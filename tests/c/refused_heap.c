@@ -91,6 +91,13 @@ static uint32_t put(void) { return gcflip_heap_put(&heap, 0, 0, 0, 0); }
 static uint32_t put_at(void) { return gcflip_put(&heap, 0, 16, 0, 16); }
 static uint32_t put_number_at(void) { return gcflip_put_number(&heap, 0, 16, 0, 5); }
 static uint32_t put_nil_at(void) { return gcflip_put_nil(&heap, 0, 16, 0); }
+static uint32_t pair_at(void) { return gcflip_new_pair(&heap, 0, 17, 1, 16, 16); }
+static uint32_t gather(void) { return gcflip_gather(&heap, 0, 17, 1, 0, 30); }
+static uint32_t new_from_at(void)
+{
+    static const uint32_t fields[40] = {16};
+    return gcflip_new_from(&heap, 0, 17, 1, fields, 40);
+}
 static uint32_t put_number(void) { return gcflip_heap_put_number(&heap, 0, 0, 0, 1, 5); }
 static uint32_t put_nil(void) { return gcflip_heap_put_nil(&heap, 0, 0, 0, 1); }
 static uint32_t cons(void) { return gcflip_heap_new_pair(&heap, 0, 1, 1, 0, 0); }
@@ -238,6 +245,7 @@ static void command_by_places(void)
 {
     const uint32_t extra = ROOTS - 1;
     EXPECT(gcflip_new(&heap, extra, 1, 1) == GCFLIP_MADE);
+    EXPECT(gcflip_new_raw(&heap, 1, 1, 1) == GCFLIP_MADE && gcflip_spread(&heap, 2, extra, 1) == GCFLIP_DONE);
     EXPECT(gcflip_get(&heap, 0, extra, 0, &number) == GCFLIP_NIL);
     EXPECT(gcflip_peek(&heap, extra, 0, &view) == GCFLIP_NIL);
     EXPECT(gcflip_set_nil(&heap, 0) == GCFLIP_DONE && gcflip_room(&heap) > 0);
@@ -260,8 +268,10 @@ static void read_all(void)
     EXPECT(gcflip_heap_log_entry(&heap, 0, 0, &entry) == GCFLIP_DONE);
     EXPECT(gcflip_heap_raw_read(&heap, 0, 2, 0, numbers, COUNT(numbers)) == GCFLIP_DONE);
     EXPECT(gcflip_heap_address(&heap, 0, 2, &address) == GCFLIP_DONE);
+    EXPECT(gcflip_address(&heap, 18, &address) == GCFLIP_DONE);
     EXPECT(gcflip_object_at(&heap, address, &view) == GCFLIP_RAW_OBJECT);
-    EXPECT(gcflip_heap_moved(&heap, address, &address) == GCFLIP_OUT_OF_RANGE);
+    EXPECT(gcflip_heap_moved(&heap, address, &address) == GCFLIP_OUT_OF_RANGE && gcflip_moved(&heap, address, &address) == GCFLIP_OUT_OF_RANGE);
+    EXPECT(gcflip_release(&heap) == GCFLIP_BUSY && gcflip_refer(&heap, 18, address) == GCFLIP_DONE);
     EXPECT(gcflip_heap_pace(&heap, &pace) == GCFLIP_DONE);
     EXPECT(gcflip_heap_useful(&heap, &step) == GCFLIP_DONE);
     EXPECT(gcflip_heap_flip_checks(&heap, &checks) == GCFLIP_DONE);
@@ -345,6 +355,14 @@ static void starved(void)
     draw(&after);
     EXPECT(memcmp(&before, &after, sizeof before) == 0);
     EXPECT(gcflip_reserve(&heap, &pace, room + 1, &work) == GCFLIP_FULL && work.last == GCFLIP_FLIPPED);
+    EXPECT(gcflip_release(&heap) == GCFLIP_DONE);
+    draw(&before);
+    fail_allocations();
+    EXPECT(gcflip_collect(&heap, &work) == GCFLIP_STARVED && has_failed() && work.steps == 0 && work.last == GCFLIP_DONE);
+    fail_allocation(0);
+    draw(&after);
+    EXPECT(memcmp(&before, &after, sizeof before) == 0);
+    EXPECT(gcflip_collect(&heap, &work) == GCFLIP_DONE && work.last == GCFLIP_FLIPPED);
     free_all();
 }
 
@@ -393,6 +411,13 @@ static void allocations(int tables, int flipping)
     EXPECT(failures(set_up_open, put_number) == 1);
     EXPECT(failures(set_up, put_nil) == 0);
     EXPECT(failures(set_up_open, put_nil) == 1);
+    EXPECT(failures(set_up, pair_at) == 0);
+    EXPECT(failures(set_up_open, pair_at) == 1);
+    EXPECT(failures(set_up_full_log, pair_at) == 2);
+    EXPECT(failures(set_up, new_from_at) == 0);
+    EXPECT(failures(set_up_open, new_from_at) == 1);
+    EXPECT(failures(set_up, gather) == 0);
+    EXPECT(failures(set_up_open, gather) == 1);
     EXPECT(failures(set_up, cons) == 0);
     EXPECT(failures(set_up_open, cons) == 1);
     EXPECT(failures(set_up, new_from) == 0);

@@ -222,6 +222,33 @@ class Model:
         self.aimed_at(d)
         return self.make(0, False, Place(d), kind, length)
 
+    def place_raw(self, d, kind, length):
+        self.aimed_at(d)
+        return self.make(0, True, Place(d), kind, length)
+
+    def place_new_from(self, m, d, kind, *places):
+        self.aimed_at(d)
+        reply = self.make(m, False, Place(d), kind, len(places))
+        for i, p in enumerate(places if reply == "made" else ()):
+            assert self.put(m, Place(d), i, Place(p)) == "done"
+        return reply
+
+    def place_pair(self, m, d, kind, s, t):
+        return self.place_new_from(m, d, kind, s, t)
+
+    def place_gather(self, m, d, kind, first, count):
+        return self.place_new_from(m, d, kind, *range(first, first + count))
+
+    def place_spread(self, first, s, count):
+        at = self.target(0, Place(s))
+        if at is None:
+            return "no object"
+        if count > self.space.length(at):
+            return "no field"
+        for k in range(count):
+            assert self.place_get(first + k, s, k).startswith("saw ")
+        return "done"
+
     def place_num(self, d, n):
         self.aimed_at(d)
         return self.num(0, Place(d), n)
@@ -256,6 +283,15 @@ class Model:
 
     def place_put_nil(self, m, s, i):
         return self.write(m, Place(s), i, 0)
+
+    def place_refer(self, d, at):
+        if at in self.space.starts():
+            self.aimed_at(d)
+        return self.refer(0, Place(d), at)
+
+    def place_address(self, s):
+        at = self.target(0, Place(s))
+        return "address %d" % at if at else "no object"
 
     def place_same(self, s, t):
         return self.same(0, Place(s), Place(t))

@@ -15,12 +15,12 @@ WEIGHTS = {"new": 8, "raw": 4, "num": 5, "nil": 2, "move": 6, "get": 9, "put": 1
 # Calls that not every driver has: paced work, extra roots, commands on roots by their places, where a flip moved objects, and references by address. A
 # trace has no lines but for paced work.
 PACED = {"work_sized": 2, "work_within": 3, "pace": 0.7, "work_paced": 6}
-RESERVES = {"reserve": 3}
+RESERVES = {"reserve": 3, "collect": 0.7, "release": 1}
 LOOSE = {"root_load": 5, "root_store": 6, "root_clear": 1}
 FRAMES = {"frame_push": 6, "frame_pop": 3, "frame_trim": 4}
-PLACES = {"place_new": 4, "place_num": 3, "place_nil": 2, "place_copy": 5, "place_get": 6, "place_peek": 4, "place_put": 9, "place_put_number": 5, "place_put_nil": 3, "place_same": 3,
-          "place_look": 4, "room": 2}
-MOVES = {"moved": 4, "refer": 6, "object_at": 3}
+PLACES = {"place_new": 4, "place_raw": 2, "place_pair": 3, "place_new_from": 3, "place_gather": 3, "place_spread": 4, "place_num": 3, "place_nil": 2, "place_copy": 5, "place_get": 6, "place_peek": 4, "place_put": 9, "place_put_number": 5, "place_put_nil": 3,
+          "place_same": 3, "place_look": 4, "room": 2}
+MOVES = {"moved": 4, "refer": 4, "place_refer": 4, "place_address": 2, "object_at": 3}
 # Not a call: a heap to which looks at extra roots are free, as they are to the one in plain C. A step takes as many as it needs, and none is told.
 FREE_LOOKS = {"free_looks": 0}
 COMMANDS = ("new", "raw", "num", "nil", "move", "get", "put", "same", "look")
@@ -410,6 +410,22 @@ class Calls:
         remembered = "%d %d %d %d %d" % (model.left, model.end, model.logged, model.owed, model.looks_then)
         self.call(["reserve", words], "%s, %s, %s" % (answer, report, remembered), [line for line, _ in made], [reply for _, reply in made])
 
+    def add_collect(self):
+        """Adds a call that performs a whole collection: the open one ends first, if there is one."""
+        parts = [self.worked((1 << 32) - 1)] if self.model.new else []
+        if self.model.new is None:
+            parts.append(self.worked((1 << 32) - 1))
+        made = [step for part in parts for step in part[0]]
+        last = made[-1][1]
+        report = "worked %d %d %d %s" % (len(made), sum(part[1] for part in parts), sum(part[2] for part in parts), last)
+        answer = "done" if last.startswith("flipped") else last if last == "no room" else "starved"
+        self.call(["collect"], "%s, %s" % (answer, report), [line for line, _ in made], [reply for _, reply in made])
+
+    def add_release(self):
+        if not self.model.new:
+            self.model.former = None
+        self.call(["release"], "busy" if self.model.new else "done")
+
     # ---- extra roots
 
     def extra_root(self):
@@ -506,6 +522,36 @@ class Calls:
         d = self.place()
         self.add_by_places("place_new", [d], d, self.chance.choice([0, 1, 7, 255]), self.length())
 
+    def add_place_raw(self):
+        d = self.place()
+        self.add_by_places("place_raw", [d], d, self.chance.choice([0, 1, 7, 255]), self.length())
+
+    def add_place_pair(self):
+        d, s, t = self.place(), self.place(), self.place()
+        self.add_by_places("place_pair", [d, s, t], self.mutator(), d, self.chance.randrange(256), s, t)
+
+    def add_place_new_from(self):
+        d, fields = self.place(), [self.place() for _ in range(self.chance.choice([0, 1, 2, 3, 7, 30]))]
+        self.add_by_places("place_new_from", [d, *fields], self.mutator(), d, self.chance.randrange(256), *fields)
+
+    def range_of_roots(self):
+        """Returns a place and how many roots there are from there on: as many as the heap has, mostly, or more."""
+        first = self.place()
+        room = max(0, len(self.model.roots) - first)
+        return first, self.chance.choice([0, 1, 2, room, room + 1, self.chance.randrange(room + 1)] if room < 65000 else [0, 1, 2, 30, 65536])
+
+    def add_place_gather(self):
+        d, (first, count), m, kind = self.place(), self.range_of_roots(), self.mutator(), self.chance.randrange(256)
+        self.add_by_places("place_gather", [d, first + count - 1 if count else 0] if first + count <= len(self.model.roots) else [1 << 32], m, d, kind, first, count)
+
+    def add_place_spread(self):
+        s, (first, count) = self.filled_place(), self.range_of_roots()
+        at = self.model.target(0, Place(s)) if s < len(self.model.roots) else None
+        if at and self.chance.random() < 0.6:
+            count = self.model.space.length(at) + self.chance.choice([0, 0, 0, 1])
+        fits = first + count <= len(self.model.roots) and not first <= s < first + count
+        self.add_by_places("place_spread", [s] if fits else [1 << 32], first, s, count)
+
     def add_place_num(self):
         d = self.place()
         self.add_by_places("place_num", [d], d, self.number())
@@ -537,6 +583,14 @@ class Calls:
     def add_place_put_nil(self):
         s = self.filled_place()
         self.add_by_places("place_put_nil", [s], self.mutator(), s, self.place_field(s))
+
+    def add_place_refer(self):
+        d = self.place()
+        self.add_by_places("place_refer", [d], d, self.any_address())
+
+    def add_place_address(self):
+        s = self.filled_place()
+        self.add_by_places("place_address", [s], s)
 
     def add_place_same(self):
         s, t = self.filled_place(), self.filled_place()
@@ -601,7 +655,10 @@ class Calls:
             wide = self.chance.choice([256, 65536 + 1, 1 << 31, (1 << 32) - 1])
             sized += [["place_new", 0, wide, 1], ["place_new", 0, 1, 65536 * (1 + wide % 3)], ["place_num", 0, 1 << 63], ["place_num", 0, (1 << 64) - 1],
                       ["place_put", beyond, 0, 0, 0], ["place_put", wide, 0, 0, 0], ["place_put_number", beyond, 0, 0, 0], ["place_put_number", 0, 0, 0, 1 << 63],
-                      ["place_put_number", 0, 0, 0, (1 << 64) - 1], ["place_put_nil", beyond, 0, 0], ["place_put_nil", wide, 0, 0]]
+                      ["place_put_number", 0, 0, 0, (1 << 64) - 1], ["place_put_nil", beyond, 0, 0], ["place_put_nil", wide, 0, 0],
+                      ["place_raw", 0, wide, 1], ["place_raw", 0, 1, 65536 * (1 + wide % 3)], ["place_pair", beyond, 0, 0, 0, 0], ["place_pair", 0, 0, wide, 0, 0],
+                      ["place_new_from", beyond, 0, 0, 0], ["place_new_from", 0, 0, wide, 0], ["place_gather", beyond, 0, 0, 0, 1], ["place_gather", 0, 0, wide, 0, 1],
+                      ["place_gather", 0, 0, 0, 0, 65536], ["place_spread", 0, 0, 1], ["place_spread", 1, 0, (1 << 32) - 1]]
         if "root_load" not in self.weights or self.model.extra_roots == 0:
             return sized
         return sized + [["root_load", beyond, 0, 0], ["root_load", 0, slot, 0], ["root_store", beyond, 0, 0], ["root_store", 0, 0, slot]]

@@ -24,7 +24,7 @@ CLAUSE = re.compile(r" *ensures\*? (?:(\w+) )?\{")
 IN_CONTRACTS = {"done": "GCFLIP_DONE", "no_memory": "GCFLIP_NO_MEMORY", "out_of_range": "GCFLIP_OUT_OF_RANGE", "closed_handle": "GCFLIP_CLOSED",
                 "open_handle": "GCFLIP_OPEN", "frame_full": "GCFLIP_FRAME_FULL", "frame_empty": "GCFLIP_FRAME_EMPTY", "too_many": "GCFLIP_TOO_MANY",
                 "too_large": "GCFLIP_TOO_LARGE", "bad_line": "GCFLIP_BAD_LINE", "ends_early": "GCFLIP_ENDS_EARLY", "no_path": "GCFLIP_NO_PATH",
-                "long_path": "GCFLIP_LONG_PATH", "refused": "GCFLIP_REFUSED", "damaged": "GCFLIP_DAMAGED"}
+                "long_path": "GCFLIP_LONG_PATH", "busy": "GCFLIP_BUSY", "refused": "GCFLIP_REFUSED", "damaged": "GCFLIP_DAMAGED"}
 # Forms of the clause `call`: the reasons of a refusal that each has, beside arguments out of range.
 FORMS = {"IsCommandCall": {"no_memory", "closed_handle"}, "IsCall": {"no_memory", "closed_handle"}, "IsStepCall": {"no_memory", "closed_handle"},
          "IsWorkCall": {"no_memory", "closed_handle"}, "IsFrameCall": {"closed_handle"}}

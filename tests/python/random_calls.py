@@ -9,7 +9,8 @@ REPLIES = {gcflip.Full: "full", gcflip.NoObject: "no object", gcflip.NoField: "n
            gcflip.OutOfMemory: "no memory", gcflip.FrameFull: "frame full", gcflip.FrameEmpty: "frame empty"}
 # What the binding calls some of the calls.
 NAMES = {"root_load": "load", "root_store": "store"}
-PLACED = {"place_new": "new_root", "place_num": "set_number", "place_nil": "set_nil", "place_copy": "copy_root", "place_get": "get_root", "place_peek": "peek",
+PLACED = {"place_new": "new_root", "place_raw": "new_raw_root", "place_pair": "new_pair_root", "place_new_from": "new_from_root", "place_gather": "gather", "place_spread": "spread", "place_refer": "refer_root", "place_address": "address_root",
+          "place_num": "set_number", "place_nil": "set_nil", "place_copy": "copy_root", "place_get": "get_root", "place_peek": "peek",
           "place_put": "put_root", "place_put_number": "put_number_root", "place_put_nil": "put_nil_root", "place_same": "is_same", "place_look": "look_root"}
 DONE = {"new": "made", "raw": "made", "cons": "made", "num": "done", "nil": "done", "move": "done", "put": "done", "put_number": "done",
         "put_nil": "done", "copy_fields": "done", "root_load": "done", "root_store": "done", "refer": "done"}
@@ -62,8 +63,12 @@ def by_places(heap, name, numbers):
         return seen(call(*numbers))
     if name == "place_same":
         return "yes" if call(*numbers) else "no"
+    if name == "place_address":
+        return "address %d" % call(*numbers)
+    if name == "place_new_from":
+        numbers[3:] = [numbers[3:]]
     assert call(*numbers) is None
-    return "made" if name == "place_new" else "done"
+    return "made" if name in ("place_new", "place_raw", "place_pair", "place_new_from", "place_gather") else "done"
 
 
 def on_frame(heap, name, numbers):

@@ -67,6 +67,41 @@ class CommandsByPlaces(unittest.TestCase):
         self.assertEqual(heap.room(), 0)
         self.assertRaises(gcflip.Closed, heap.object_at, 1)
 
+    def test_rows_of_roots(self):
+        heap = Heap(40, mutators=2, extra_roots=6)
+        self.addCleanup(heap.close)
+        for root in range(54):
+            heap.set_number(root, 100 + root)
+        heap.new_pair_root(0, 0, 7, 17, 53)
+        heap.new_from_root(1, 33, 8, [33, 2, 2])
+        heap.gather(0, 1, 9, 47, 3)
+        heap.new_raw_root(3, 255, 2)
+        self.assertEqual([heap.look_root(root) for root in (0, 33, 1, 3)], [Object(7, 2), Object(8, 3), Object(9, 3), Object(255, 2, True)])
+        self.assertEqual([heap.peek(0, i) for i in range(2)], [117, 153])
+        self.assertEqual([heap.peek(33, i) for i in range(3)], [Object(8, 3), 102, 102])
+        self.assertEqual([heap.peek(1, i) for i in range(3)], [147, 148, 149])
+        heap.spread(51, 1, 3)
+        heap.spread(4, 3, 2)
+        self.assertEqual([heap.look_root(root) for root in (50, 51, 52, 53, 4, 5, 6)], [150, 147, 148, 149, 0, 0, 106])
+        self.assertRaises(gcflip.NoField, heap.spread, 10, 1, 4)
+        self.assertRaises(gcflip.NoObject, heap.spread, 10, 9, 1)
+        for call in (lambda: heap.spread(51, 1, 4), lambda: heap.spread(1, 1, 1), lambda: heap.spread(0, 54, 1), lambda: heap.spread(0, 1, 2 ** 32), lambda: heap.gather(0, 54, 7, 0, 1),
+                     lambda: heap.gather(0, 0, 7, 53, 2), lambda: heap.gather(2, 0, 7, 0, 1), lambda: heap.gather(0, 0, 256, 0, 1), lambda: heap.new_pair_root(0, 0, 7, 0, 54),
+                     lambda: heap.new_pair_root(256, 0, 7, 0, 0), lambda: heap.new_from_root(0, 0, 7, [0, 54]), lambda: heap.new_from_root(0, 0, 7, [-1]),
+                     lambda: heap.new_from_root(0, 0, 7, [0] * 65536), lambda: heap.new_raw_root(0, 7, 65536), lambda: heap.new_raw_root(54, 7, 1)):
+            self.assertRaises(gcflip.OutOfRange, call)
+        for call in (lambda: heap.new_raw_root(0, 7, 20), lambda: heap.gather(0, 0, 7, 0, 20), lambda: heap.new_from_root(0, 0, 7, [0] * 20)):
+            self.assertRaises(gcflip.Full, call)
+        heap.begin()
+        heap.new_pair_root(1, 0, 7, 17, 53)
+        heap.new_from_root(0, 0, 7, [])
+        heap.gather(1, 0, 7, 0, 1)
+        self.assertEqual((heap.log_length(0), heap.log_length(1)), (0, 3))
+        heap.close()
+        for call in (lambda: heap.new_raw_root(0, 7, 1), lambda: heap.new_pair_root(0, 0, 7, 0, 0), lambda: heap.new_from_root(0, 0, 7, []), lambda: heap.gather(0, 0, 7, 0, 1),
+                     lambda: heap.spread(1, 0, 1)):
+            self.assertRaises(gcflip.Closed, call)
+
     def test_room_is_reserved(self):
         heap, pace = Heap(64), gcflip.Pace()
         self.addCleanup(heap.close)

@@ -33,6 +33,8 @@ OF_MUTATORS = {
 }
 OF_HEAPS = {
     "new_root": {"root": PLACES, "kind": KINDS, "length": FIELDS}, "set_number": {"root": PLACES, "number": NUMBERS}, "copy_root": {"root": PLACES, "source": PLACES},
+    "new_raw_root": {"root": PLACES, "kind": KINDS, "length": FIELDS}, "new_pair_root": {"mutator": [0, 1], "root": PLACES, "kind": KINDS, "first": PLACES, "second": PLACES},
+    "gather": {"mutator": [0, 1], "root": PLACES, "kind": KINDS, "first": PLACES, "count": [0, 1, 2]}, "spread": {"first": [0, 5, 16, 30, 48], "source": PLACES, "count": [0, 1, 2]},
     "get_root": {"root": PLACES, "source": PLACES, "field": FIELDS}, "put_root": {"mutator": [0, 1], "root": PLACES, "field": FIELDS, "source": PLACES},
     "is_same": {"first": PLACES, "second": PLACES}, "look_root": {"root": PLACES},
 }

@@ -408,6 +408,24 @@ class Heap(quick.Quickened):
             raise OutOfMemory("reserve")
         return _work_of(work) if work.steps or work.looks else None
 
+    def collect(self) -> Work:
+        """Performs a whole collection that begins now, so that what is garbage now is gone, and reports all steps. First ends the open collection, if there is
+        one. Raises OutOfMemory if memory was refused, or a new space was too small. In the second case
+        the collection is still open, and `drop` gives it up."""
+        work = library.Work()
+        if self._call_roots("collect", work) != Answer.DONE:
+            raise OutOfMemory("collect")
+        return _work_of(work)
+
+    def safepoint(self, pace: Pace) -> None:
+        """Performs the steps that are due, as `reserve` does for no word: for a loop that writes and makes no object."""
+        self.reserve(pace, 0)
+
+    def release(self) -> None:
+        """Frees the space that waits for the next collection, which then allocates it. After this call `moved` raises OutOfRange. Raises Busy, and frees
+        nothing, while a collection is open."""
+        self._call_roots("release")
+
     def steps_due(self, pace: Pace, wanted: int = 0) -> int:
         """Returns the number of steps that are due. `work_paced` performs them, unless a step or the pace's bound ends it early."""
         wanted, = in_range((wanted,), [ctypes.c_uint32])
@@ -424,6 +442,32 @@ class Heap(quick.Quickened):
         """Makes an object of a kind, 0 to 255, with `length` fields, at most 65535, all nil, and puts a reference to it into the root at this place,
         as `place` or `extra_place` tells it. Raises Full. Like each of these calls, it raises OutOfRange if there is no such root."""
         self._call_roots("new", root, kind, length)
+
+    def new_raw_root(self, root: int, kind: int, length: int) -> None:
+        """Makes a raw object of a kind with `length` fields, all 0, and puts a reference to it into the root. Raises Full."""
+        self._call_roots("new_raw", root, kind, length)
+
+    def new_pair_root(self, mutator: int, root: int, kind: int, first: int, second: int) -> None:
+        """Makes an object of a kind with two fields, which take the values of roots `first` and `second`. This is `new_from_root` with these two roots."""
+        self._call_roots("new_pair", mutator, root, kind, first, second)
+
+    def new_from_root(self, mutator: int, root: int, kind: int, sources: Sequence[int]) -> None:
+        """Makes an object of a kind with a field for each source, at most 65535, which takes that root's value, and puts a reference to it into the root. The
+        root is set first, so a field that takes its value refers to the object itself. While a collection is open, this mutator's log takes the fields.
+        Raises Full, and OutOfMemory while a collection is open."""
+        sources = list(sources)
+        mutator, root, kind, *places = in_range((mutator, root, kind, *sources), (*ROOTS["new_from"][:3], *[library.PLACE] * len(sources)))
+        numbers = (ctypes.c_uint32 * max(1, len(places)))(*places)
+        self._turn.take(lambda: self._made_roots("new_from", mutator, root, kind, numbers, len(places)))
+
+    def gather(self, mutator: int, root: int, kind: int, first: int, count: int) -> None:
+        """Makes an object of a kind with `count` fields, which take the values of the roots from `first` on. This is `new_from_root` with these roots."""
+        self._call_roots("gather", mutator, root, kind, first, count)
+
+    def spread(self, first: int, source: int, count: int) -> None:
+        """Reads the first `count` fields of the object that root `source` refers to into the roots from `first` on. All are read or none. Raises NoObject,
+        NoField if the object has fewer fields, and OutOfRange also if `source` is one of these roots."""
+        self._call_roots("spread", first, source, count)
 
     def set_number(self, root: int, number: int) -> None:
         """Puts a number below 2^63 into the root."""
@@ -478,6 +522,17 @@ class Heap(quick.Quickened):
         view = library.View()
         return _seen(self._call_roots("look", root, view), view)
 
+    def address_root(self, root: int) -> int:
+        """Returns the address of the object that the root refers to. The next flip gives objects other addresses. Raises NoObject if it refers to none."""
+        address = ctypes.c_uint32()
+        self._call_roots("address", root, address)
+        return address.value
+
+    def refer_root(self, root: int, address: int) -> None:
+        """Puts a reference to the object that starts at this address into the root, as `Mutator.refer` does. Raises NoObject if no object starts there; the root
+        then keeps its value."""
+        self._call_roots("refer", root, address)
+
     # ---- Reading
 
     def counts(self) -> Counts:
@@ -527,7 +582,7 @@ class Heap(quick.Quickened):
         died, and OutOfRange if a collection has begun since the flip, or if no flip has been. If no object had that
         address, it may raise either, or return any number."""
         address = ctypes.c_uint32()
-        self._call("moved", old, address)
+        self._call_roots("moved", old, address)
         return address.value
 
     def object_at(self, address: int) -> Object | None:

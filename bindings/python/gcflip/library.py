@@ -206,6 +206,11 @@ HEAP: Dict[str, List[Any]] = {
 # The commands on roots by their places, and calls that read, which take a handle first, too. Their names have no `heap_`.
 ROOTS: Dict[str, List[Any]] = {
     "new": [PLACE, c_uint32, c_uint32],
+    "new_raw": [PLACE, c_uint32, c_uint32],
+    "new_pair": [c_uint32, PLACE, c_uint32, PLACE, PLACE],
+    "new_from": [c_uint32, PLACE, c_uint32, c_void_p, c_size_t],
+    "gather": [c_uint32, PLACE, c_uint32, PLACE, c_uint32],
+    "spread": [PLACE, PLACE, c_uint32],
     "set_number": [PLACE, c_uint64],
     "set_nil": [PLACE],
     "copy": [PLACE, PLACE],
@@ -216,9 +221,14 @@ ROOTS: Dict[str, List[Any]] = {
     "put_nil": [c_uint32, PLACE, c_uint32],
     "same": [PLACE, PLACE],
     "look": [PLACE, POINTER(View)],
+    "address": [PLACE, POINTER(c_uint32)],
+    "moved": [c_uint32, POINTER(c_uint32)],
+    "refer": [PLACE, c_uint32],
     "object_at": [c_uint32, POINTER(View)],
     "room": [],
     "reserve": [POINTER(RawPace), c_uint32, POINTER(Work)],
+    "collect": [POINTER(Work)],
+    "release": [],
 }
 
 

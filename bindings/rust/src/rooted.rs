@@ -122,9 +122,6 @@ impl Rooted {
     ///
     /// Returns `NoMemory`. The steps before the failure stay done.
     pub fn collect(&self) -> Result<u32> {
-        if self.heap.counts().is_open {
-            self.heap.collect()?;
-        }
         let pairs = self.heap.collect()?;
         self.heap.remember(&mut self.pace.borrow_mut())?;
         Ok(pairs)

@@ -1,5 +1,6 @@
 -- What a call that reserves room leaves: the steps that are due, and collections while there is too little room.
-use Rattle.std.specs.Prelude.{◌≡◌, ◌⊎◌, ℕ, ◌+◌, ◌<◌, ◌≤◌, ◌^◌, ◌-◌, ◌==◌, min, true, if◌then◌else◌, None}
+use Rattle.std.specs.Prelude.{◌≡◌, ◌⊎◌, ℕ, ◌+◌, ◌<◌, ◌≤◌, ◌^◌, ◌-◌, ◌==◌, min, true, if◌then◌else◌, None, IsSome}
+use Rattle.std.specs.Option.{option_map_or}
 use Rattle.gc_check.specs.InC.{done}
 use Rattle.gc_graph.specs.declared.reply.Reply.TheVariants.{Full}
 use Rattle.gc_plan.specs.State.{State}
@@ -11,13 +12,19 @@ use Rattle.gc_pace.specs.Work.{IsWork, has_flipped, no_work}
 use Rattle.gc_pace.specs.declared.pace.Pace.{Pace}
 use Rattle.gc_pace.specs.declared.work.Looks.TheVariants.{Count}
 use Rattle.gc_pace.specs.declared.work.Work.{Work}
-use Rattle.gcflip_heap_c.specs.Replies.{reply_in_c}
+use Rattle.gc_plan.specs.declared.step.StepReply.{StepReply}
+use Rattle.gc_plan.specs.declared.step.StepReply.TheVariants.{Busy, NoRoom}
+use Rattle.gcflip_heap_c.specs.Replies.{reply_in_c, step_reply_in_c}
 use Rattle.gcflip_heap_c.specs.Work.{work_in_c}
 use Rattle.gcflip_heap_c.specs.declared.work.GcflipWork.{GcflipWork}
 
 -- fewer words are free, after a whole collection
 abbrev pub full : ℕ
 full = reply_in_c Full
+
+-- a collection is open
+abbrev pub busy : ℕ
+busy = step_reply_in_c Busy
 
 -- fewer words are free, and no whole collection was performed: memory was refused, or the open collection's new space is too small
 abbrev pub starved : ℕ
@@ -71,3 +78,26 @@ pub record TellsRoom (words free answer : ℕ) : Type 0 where
   pub answers : (answer ≡ done) ⊎ (answer ≡ full) ⊎ (answer ≡ starved)
   pub room : answer ≡ done → words ≤ free
   pub less : ¬ (answer ≡ done) → free < words
+
+-- ---- whole collections
+
+-- why work ended before a flip: a step found no room for a replica, or memory was refused
+abbrev pub lack_shown : StepReply → ℕ
+lack_shown NoRoom = step_reply_in_c NoRoom
+lack_shown reply = starved
+
+abbrev pub lack_of : Work → ℕ
+lack_of work = option_map_or lack_shown work.last starved
+
+abbrev pub whole_answer : Work → ℕ
+whole_answer work = if has_flipped work then done else lack_of work
+
+-- The open collection ends, if there is one. Unless it is open still, a whole one follows, which begins then. The answer is that of the last.
+pub record CollectsAnew (old new : Collected) (report : GcflipWork) (answer : ℕ) : Type 0 where
+  pub between : Collected
+  pub first : Work
+  pub second : Work
+  pub ends : ((old.core.collection ≡ None) × (between ≡ old) × (first ≡ no_work)) ⊎ (IsSome old.core.collection × Finishes old between first)
+  pub anew : (IsSome between.core.collection × (new ≡ between) × (second ≡ no_work) × (answer ≡ lack_of first))
+      ⊎ ((between.core.collection ≡ None) × Finishes between new second × (answer ≡ whole_answer second))
+  pub told : report ≡ joined_report (work_in_c first) (work_in_c second)

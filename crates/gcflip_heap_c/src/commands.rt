@@ -243,6 +243,8 @@ pub extern "C" fn gcflip_heap_new_from(
     if fields.len() > usize::from(u16::MAX) || !are_slots(fields) {
         return OUT_OF_RANGE;
     }
+    // Here the prover learns how many roots there are.
+    let _ = heap.root_places();
     let fields = NumberedSlots { numbers: fields };
     of_result(heap.new_from(m, d, kind, &fields))
 }

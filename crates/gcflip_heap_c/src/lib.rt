@@ -20,6 +20,7 @@ mod reading;
 mod referring;
 mod reply;
 mod room;
+mod rows;
 mod slots;
 mod stepping;
 mod work;
@@ -38,21 +39,22 @@ pub use frame::{
 };
 pub use handle::GcflipHeap;
 pub use mixed::{GcflipField, gcflip_heap_new_with};
-pub use moved::gcflip_heap_moved;
+pub use moved::{gcflip_heap_moved, gcflip_moved};
 pub use opening::{GcflipOptions, gcflip_heap_close, gcflip_heap_open};
 pub use pace::{gcflip_heap_pace, gcflip_heap_work_paced, gcflip_pace_due};
 pub use places::{
-    gcflip_copy, gcflip_get, gcflip_look, gcflip_new, gcflip_peek, gcflip_put, gcflip_put_nil,
-    gcflip_put_number, gcflip_same, gcflip_set_nil, gcflip_set_number,
+    gcflip_copy, gcflip_get, gcflip_look, gcflip_new, gcflip_new_raw, gcflip_peek, gcflip_put,
+    gcflip_put_nil, gcflip_put_number, gcflip_same, gcflip_set_nil, gcflip_set_number,
 };
-pub use raws::{gcflip_heap_address, gcflip_heap_raw_read, gcflip_heap_raw_write};
+pub use raws::{gcflip_address, gcflip_heap_address, gcflip_heap_raw_read, gcflip_heap_raw_write};
 pub use reading::{
     GcflipLogEntry, gcflip_heap_counts, gcflip_heap_image, gcflip_heap_log_entry,
     gcflip_heap_log_length, gcflip_heap_new_words,
 };
-pub use referring::{gcflip_heap_refer, gcflip_object_at};
+pub use referring::{gcflip_heap_refer, gcflip_object_at, gcflip_refer};
 pub use reply::GcflipView;
-pub use room::{gcflip_reserve, gcflip_room};
+pub use room::{gcflip_collect, gcflip_release, gcflip_reserve, gcflip_room};
+pub use rows::{gcflip_gather, gcflip_new_from, gcflip_new_pair, gcflip_spread};
 pub use stepping::{
     GcflipStep, gcflip_heap_step_apply, gcflip_heap_step_begin, gcflip_heap_step_begin_sized,
     gcflip_heap_step_flip, gcflip_heap_step_give_up, gcflip_heap_step_roots, gcflip_heap_step_scan,

@@ -1,4 +1,4 @@
-//! The export that tells where the last flip moved an object, for a table by address.
+//! The exports that tell where the last flip moved an object, for a table by address.
 
 ghost use Rattle.std.specs.Prelude.{◌≡◌, ◌≢◌, IsSome, IsSomeAnd};
 ghost use Rattle.gc_check.specs.InC.{no_memory, IsRefusal};
@@ -30,7 +30,7 @@ fn read_moved(former: &Room, old: u32, address: &mut u32) -> u32
 /// if a collection has begun since the flip, or no flip has been. For an `old` at which no object started, any of these may come. Calls
 /// nothing back, and takes constant time.
 #[unsafe(no_mangle)]
-pub extern "C" fn gcflip_heap_moved(heap: &mut GcflipHeap, old: u32, address: &mut u32) -> u32
+pub extern "C" fn gcflip_moved(heap: &mut GcflipHeap, old: u32, address: &mut u32) -> u32
     ensures call { IsCall (λ _. IsSome heap.old.beside.former) (λ _ _. IsSomeAnd heap.old.beside.former (λ room. TellsAddress (moved_in room old) address.old address.new result))
         heap.old.state heap.new.state result }
     ensures heap { heap.new.state ≡ heap.old.state }
@@ -42,4 +42,17 @@ pub extern "C" fn gcflip_heap_moved(heap: &mut GcflipHeap, old: u32, address: &m
         None => OUT_OF_RANGE,
         Some(former) => read_moved(former, old, address),
     }
+}
+
+/// Does what `gcflip_moved` does. It has this name beside the calls on slots.
+#[unsafe(no_mangle)]
+pub extern "C" fn gcflip_heap_moved(heap: &mut GcflipHeap, old: u32, address: &mut u32) -> u32
+    ensures call { IsCall (λ _. IsSome heap.old.beside.former) (λ _ _. IsSomeAnd heap.old.beside.former (λ room. TellsAddress (moved_in room old) address.old address.new result))
+        heap.old.state heap.new.state result }
+    ensures heap { heap.new.state ≡ heap.old.state }
+    ensures silent { IsRefusal result → address.new ≡ address.old }
+    ensures memory { result ≢ no_memory }
+    ensures beside { heap.new.beside ≡ heap.old.beside }
+{
+    gcflip_moved(heap, old, address)
 }

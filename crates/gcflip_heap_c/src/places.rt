@@ -1,7 +1,7 @@
 //! The exports that perform commands on any root, which they name by its place in the list of roots: first the shared slots, then each mutator's own, then
 //! the extra roots.
 
-ghost use Rattle.std.specs.Prelude.{◌≡◌, ◌≢◌, ◌<◌, ◌≤◌, ◌^◌, ◌∷◌, [], IsSomeAnd, IsSome};
+ghost use Rattle.std.specs.Prelude.{◌≡◌, ◌≢◌, ◌<◌, ◌^◌, ◌∷◌, [], IsSomeAnd, IsSome};
 ghost use Rattle.gc_check.specs.InC.{no_memory, IsRefusal};
 ghost use Rattle.gc_graph.specs.Graph.{Nil, Num};
 ghost use Rattle.gc_graph.specs.Limits.{kinds, lengths};
@@ -36,6 +36,21 @@ pub extern "C" fn gcflip_new(heap: &mut GcflipHeap, d: u32, kind: u32, count: u3
     of_reply(&heap.new_at_root(d, kind as u8, count as u16))
 }
 
+/// Makes a raw object of this kind, with `count` fields that are numbers, all 0. Puts a reference to it into root `d`.
+#[unsafe(no_mangle)]
+pub extern "C" fn gcflip_new_raw(heap: &mut GcflipHeap, d: u32, kind: u32, count: u32) -> u32
+    ensures call { IsCommandCall (λ state. HasRoots (d ∷ []) state × (kind < kinds) × (count < lengths))
+        (λ state. mutate state 0 (Op.NewRaw (root_at d) kind count)) heap.old.state heap.new.state result }
+    ensures memory { result ≢ no_memory }
+    ensures beside { heap.new.beside ≡ heap.old.beside }
+{
+    let heap = lent!(heap);
+    if d as usize >= heap.root_places() || kind > 255 || count > 65535 {
+        return OUT_OF_RANGE;
+    }
+    of_reply(&heap.new_raw_at_root(d, kind as u8, count as u16))
+}
+
 /// Puts the number `n`, which must be below 2^63, into root `d`.
 #[unsafe(no_mangle)]
 pub extern "C" fn gcflip_set_number(heap: &mut GcflipHeap, d: u32, n: u64) -> u32
@@ -54,16 +69,16 @@ pub extern "C" fn gcflip_set_number(heap: &mut GcflipHeap, d: u32, n: u64) -> u3
     of_reply(&heap.num_root(d, number))
 }
 
-/// Puts nil into root `d`. The heap needs a mutator, as each has that was opened.
+/// Puts nil into root `d`.
 #[unsafe(no_mangle)]
 pub extern "C" fn gcflip_set_nil(heap: &mut GcflipHeap, d: u32) -> u32
-    ensures call { IsCommandCall (λ state. HasRoots (d ∷ []) state × (1 ≤ state.mutators))
+    ensures call { IsCommandCall (HasRoots (d ∷ []))
         (λ state. mutate state 0 (Op.Nil (root_at d))) heap.old.state heap.new.state result }
     ensures memory { result ≢ no_memory }
     ensures beside { heap.new.beside ≡ heap.old.beside }
 {
     let heap = lent!(heap);
-    if d as usize >= heap.root_places() || heap.mutators() == 0 {
+    if d as usize >= heap.root_places() {
         return OUT_OF_RANGE;
     }
     of_reply(&heap.nil_root(d))

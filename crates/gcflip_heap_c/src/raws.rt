@@ -1,19 +1,23 @@
-//! The exports that read or write the numbers of a raw object at once, and the one that tells the address of an object.
+//! The exports that read or write the numbers of a raw object at once, and those that tell the address of an object.
 
 ghost use Rattle.std.specs.Prelude.{◌≡◌, ◌≢◌, ◌<◌, ◌∷◌, [], IsSome, IsSomeAnd};
 ghost use Rattle.gc_check.specs.InC.{no_memory, IsRefusal};
+ghost use Rattle.std.specs.Option.{option_map};
+ghost use Rattle.gc_heap.specs.Places.{root_at};
 ghost use Rattle.gc_heap.specs.Raws.{raw_numbers};
 ghost use Rattle.gc_collected.specs.Writing.{put_numbers_step};
 ghost use Rattle.gcflip_heap_c.specs.Commands.{IsCall, IsCommandCall};
+ghost use Rattle.gcflip_heap_c.specs.Places.{HasRoots};
 ghost use Rattle.gcflip_heap_c.specs.Raws.{Reads, address_in, TellsAddress};
 ghost use Rattle.gcflip_heap_c.specs.Slots.{NamesSlots, numbered_slot};
 
 use crate::answer::{DONE, NO_FIELD, NO_OBJECT, OUT_OF_RANGE};
-use crate::guards::{lent_to, slot_named};
+use crate::guards::{lent, lent_to, slot_named};
 use crate::handle::GcflipHeap;
 use crate::reply::of_result;
 use gc_collected::CollectedHeap;
 use gc_graph::Slot;
+use gc_words::OldAddr;
 
 /// Copies the numbers of the raw object that the slot refers to, from field `first` on, if it has as many as the array takes.
 fn read_raw(heap: &CollectedHeap, m: u8, s: Slot, first: u16, words: &mut [u64]) -> u32
@@ -79,12 +83,11 @@ pub extern "C" fn gcflip_heap_raw_write(
     of_result(heap.put_numbers(m, object, first, number, words))
 }
 
-/// Writes the address of the object that the slot refers to, if it refers to one.
-fn read_address(heap: &CollectedHeap, m: u8, s: Slot, address: &mut u32) -> u32
-    requires { m < heap.now.core.mutators }
-    ensures { TellsAddress (address_in heap.now.core s m) address.old address.new result }
+/// Writes this address, if there is one.
+fn tell_address(found: Option<OldAddr>, address: &mut u32) -> u32
+    ensures { TellsAddress (option_map (λ a. a.0) found) address.old address.new result }
 {
-    match heap.address(m, s) {
+    match found {
         None => NO_OBJECT,
         Some(at) => {
             *address = at.0;
@@ -105,5 +108,22 @@ pub extern "C" fn gcflip_heap_address(heap: &mut GcflipHeap, m: u8, s: u8, addre
 {
     let heap = lent_to!(heap, m);
     let s = slot_named!(s);
-    read_address(heap, m, s, address)
+    tell_address(heap.address(m, s), address)
+}
+
+/// Writes the address of the object that root `s` refers to to `address`, as `gcflip_heap_address` does.
+#[unsafe(no_mangle)]
+pub extern "C" fn gcflip_address(heap: &mut GcflipHeap, s: u32, address: &mut u32) -> u32
+    ensures call { IsCall (HasRoots (s ∷ [])) (λ state _. TellsAddress (address_in state (root_at s) 0) address.old address.new result)
+        heap.old.state heap.new.state result }
+    ensures heap { heap.new.state ≡ heap.old.state }
+    ensures silent { IsRefusal result → address.new ≡ address.old }
+    ensures memory { result ≢ no_memory }
+    ensures beside { heap.new.beside ≡ heap.old.beside }
+{
+    let heap = lent!(heap);
+    if s as usize >= heap.root_places() {
+        return OUT_OF_RANGE;
+    }
+    tell_address(heap.address_root(s), address)
 }

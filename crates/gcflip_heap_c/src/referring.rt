@@ -1,13 +1,16 @@
-//! The exports that take any address: one makes a reference of it, for a table of weak references, and one tells the object there, for a walk over the heap.
+//! The exports that take any address: two make a reference of it, for a table of weak references, and one tells the object there, for a walk over the heap.
 
 ghost use Rattle.std.specs.Prelude.{◌≡◌, ◌≢◌, ◌∷◌, [], ⊤};
 ghost use Rattle.gc_check.specs.InC.{no_memory, IsRefusal};
+ghost use Rattle.gc_heap.specs.Places.{root_at};
 ghost use Rattle.gc_collected.specs.Referring.{refer_step};
 ghost use Rattle.gc_collected.specs.Viewing.{view_at};
 ghost use Rattle.gcflip_heap_c.specs.Commands.{IsCall, IsCommandCall};
+ghost use Rattle.gcflip_heap_c.specs.Places.{HasRoots};
 ghost use Rattle.gcflip_heap_c.specs.Replies.{seen_in_c, view_in_c};
 ghost use Rattle.gcflip_heap_c.specs.Slots.{NamesSlots, numbered_slot};
 
+use crate::answer::OUT_OF_RANGE;
 use crate::guards::{lent, lent_to, slot_named};
 use crate::handle::GcflipHeap;
 use crate::reply::{GcflipView, of_look, of_reply};
@@ -26,6 +29,21 @@ pub extern "C" fn gcflip_heap_refer(heap: &mut GcflipHeap, m: u8, d: u8, address
     let heap = lent_to!(heap, m);
     let d = slot_named!(d);
     of_reply(&heap.refer(m, d, OldAddr(address)))
+}
+
+/// Puts a reference to the object that starts at this address into root `d`, as `gcflip_heap_refer` does.
+#[unsafe(no_mangle)]
+pub extern "C" fn gcflip_refer(heap: &mut GcflipHeap, d: u32, address: u32) -> u32
+    ensures call { IsCommandCall (HasRoots (d ∷ []))
+        (λ state. refer_step state 0 (root_at d) address) heap.old.state heap.new.state result }
+    ensures memory { result ≢ no_memory }
+    ensures beside { heap.new.beside ≡ heap.old.beside }
+{
+    let heap = lent!(heap);
+    if d as usize >= heap.root_places() {
+        return OUT_OF_RANGE;
+    }
+    of_reply(&heap.refer_root(d, OldAddr(address)))
 }
 
 /// Tells what a look at a reference to this address would see, and writes it to `view`: nil if no object starts there. Takes constant time where the

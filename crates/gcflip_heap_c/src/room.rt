@@ -1,20 +1,24 @@
-//! The exports that tell and make room.
+//! The exports that tell, make and free room.
 
-ghost use Rattle.std.specs.Prelude.{◌≡◌, ◌≢◌, ◌⊎◌, ◌==◌, None, IsTrue, if◌then◌else◌};
+ghost use Rattle.std.specs.Prelude.{◌≡◌, ◌≢◌, ◌⊎◌, ◌↔◌, ◌==◌, ⊤, None, IsSome, IsSomeAnd, IsTrue, if◌then◌else◌};
 ghost use Rattle.std.specs.Option.{option_map_or};
-ghost use Rattle.gc_check.specs.InC.{no_memory, IsRefusal};
+ghost use Rattle.gc_check.specs.InC.{done, no_memory, IsRefusal};
+ghost use Rattle.gc_collected.specs.Collected.{released};
 ghost use Rattle.gc_pace.specs.Beside.{LeavesBeside, WasRefused};
 ghost use Rattle.gc_pace.specs.Counts.{counts_in};
 ghost use Rattle.gc_pace.specs.Pace.{IsPace, IsPacedWork, pace_from};
 ghost use Rattle.gc_pace.specs.Work.{no_work};
+ghost use Rattle.gcflip_heap_c.specs.Answers.{closed_handle};
 ghost use Rattle.gcflip_heap_c.specs.Commands.{IsCall, heap_behind};
-ghost use Rattle.gcflip_heap_c.specs.Room.{Collects, Finishes, Reserves, TellsRoom, full, joined_report, starved};
+ghost use Rattle.gcflip_heap_c.specs.Room.{Collects, CollectsAnew, Finishes, Reserves, TellsRoom, busy, full, joined_report, lack_of as lack_in, starved, whole_answer as answer_in};
 
-use crate::answer::{DONE, OUT_OF_RANGE};
+use crate::answer::{DONE, NO_ROOM, OUT_OF_RANGE};
 use crate::guards::lent;
 use crate::handle::GcflipHeap;
+use crate::reply::of_step;
 use crate::work::{GcflipWork, report};
 use gc_collected::CollectedHeap;
+use gc_copy::StepReply;
 use gc_graph::NoMemory;
 use gc_pace::{Counts, Pace, Work, work_at_pace, work_on};
 
@@ -57,6 +61,91 @@ pub extern "C" fn gcflip_reserve(
         return OUT_OF_RANGE;
     }
     reserve(heap, pace, words, work)
+}
+
+/// Performs a whole collection that begins in this call, so that what is garbage now is gone afterwards. Ends the open one first, if there is one. Returns
+/// 36 where a step of the last collection found no room, and 45 where memory was refused for one; that collection is then open, or did not begin.
+#[unsafe(no_mangle)]
+pub extern "C" fn gcflip_collect(heap: &mut GcflipHeap, work: &mut GcflipWork) -> u32
+    ensures call { IsCall (λ _. ⊤) (λ s t. CollectsAnew (heap_behind heap.old s) (heap_behind heap.new t) work.new result)
+        heap.old.state heap.new.state result }
+    ensures silent { IsRefusal result → work.new ≡ work.old }
+    ensures memory { result ≢ no_memory }
+    ensures kept { IsRefusal result → heap.new.beside ≡ heap.old.beside }
+{
+    let heap = lent!(heap);
+    let made = collect_anew(heap);
+    *work = made.report;
+    made.answer
+}
+
+/// Frees the memory that waits: the old space of the last flip, which is room for the next collection, and other room. Returns 32, and frees nothing,
+/// while a collection is open.
+#[unsafe(no_mangle)]
+pub extern "C" fn gcflip_release(heap: &mut GcflipHeap) -> u32
+    ensures answers { (result ≡ done) ⊎ (result ≡ busy) ⊎ (result ≡ closed_handle) }
+    ensures heap { heap.new.state ≡ heap.old.state }
+    ensures freed { result ≡ done → heap.new.beside ≡ released heap.old.beside }
+    ensures kept { result ≢ done → heap.new.beside ≡ heap.old.beside }
+    ensures open { (result ≡ busy) ↔ IsSomeAnd heap.old.state (λ s. IsSome s.collection) }
+    ensures closed { (result ≡ closed_handle) ↔ (heap.old.state ≡ None) }
+{
+    let heap = lent!(heap);
+    if heap.is_open() {
+        return of_step(StepReply::Busy);
+    }
+    heap.release();
+    DONE
+}
+
+// Ends the open collection, if there is one, and performs a whole one unless it is open still.
+fn collect_anew(heap: &mut CollectedHeap) -> Made
+    ensures { CollectsAnew heap.old heap.new result.report result.answer }
+{
+    let first = end_open(heap);
+    if heap.is_open() {
+        return Made {
+            answer: lack_of(first),
+            report: joined(report(first), report(NOTHING)),
+        };
+    }
+    let second = finish(heap);
+    Made {
+        answer: whole_answer(second),
+        report: joined(report(first), report(second)),
+    }
+}
+
+// Ends the open collection, if there is one, and returns what was done.
+fn end_open(heap: &mut CollectedHeap) -> Work
+    ensures { ((heap.old.core.collection ≡ None) × (heap.new ≡ heap.old) × (result ≡ no_work)) ⊎ (IsSome heap.old.core.collection × Finishes heap.old heap.new result) }
+{
+    if heap.is_open() {
+        finish(heap)
+    } else {
+        NOTHING
+    }
+}
+
+// Returns why work ended before a flip.
+fn lack_of(work: Work) -> u32
+    ensures { result ≡ lack_in work }
+{
+    match work.last {
+        Some(StepReply::NoRoom) => NO_ROOM,
+        _ => STARVED,
+    }
+}
+
+// Returns the answer of a collection that began with this work.
+fn whole_answer(work: Work) -> u32
+    ensures { result ≡ answer_in work }
+{
+    if work.has_flipped() {
+        DONE
+    } else {
+        lack_of(work)
+    }
 }
 
 // Reserves room, as `gcflip_reserve` does.

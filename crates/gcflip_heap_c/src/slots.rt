@@ -1,11 +1,12 @@
 //! Slots by the numbers that C gives them.
 
-ghost use Rattle.std.specs.Prelude.{◌≡◌, ◌<◌, ◌↔◌, nat_lt, if◌then◌else◌, Some, None, IsTrue, length, map};
+ghost use Rattle.std.specs.Prelude.{◌≡◌, ◌<◌, ◌≤◌, ◌+◌, ◌↔◌, nat_lt, if◌then◌else◌, Some, None, IsTrue, length, map};
 ghost use Rattle.std.specs.List.{AllByRecursion};
 ghost use Rattle.gc_graph.specs.Limits.{lengths};
+ghost use Rattle.gc_graph.specs.Slots.{roots_of};
 ghost use Rattle.gcflip_heap_c.specs.Slots.{slot_numbers, numbered_slot};
 
-use gc_collected::SlotRow;
+use gc_collected::RootRow;
 use gc_graph::Slot;
 
 /// The number of slots that a mutator can name: sixteen of its own, and the sixteen that all mutators share.
@@ -55,17 +56,18 @@ pub(crate) struct NumberedSlots<'a> {
     pub(crate) numbers: &'a [u8],
 }
 
-impl SlotRow for NumberedSlots<'_> {
-    ghost is_row = { λ row. (length row.numbers.now < lengths) × AllByRecursion (λ n. n < slot_numbers) row.numbers.now };
+impl RootRow for NumberedSlots<'_> {
+    ghost is_row = { λ row m roots. (length row.numbers.now < lengths) × AllByRecursion (λ n. n < slot_numbers) row.numbers.now × (roots_of (m + 1) ≤ roots) };
 
-    ghost slots = { λ row. map numbered_slot row.numbers.now };
+    ghost names = { λ row. map numbered_slot row.numbers.now };
 
     fn count(&self) -> u16 {
         self.numbers.len() as u16
     }
 
     #[inline(always)]
-    fn slot(&self, i: u16) -> Slot {
-        numbered_slot(self.numbers[usize::from(i)])
+    #[tactic(auto, using(crate::proofs::Entries::named_at, crate::proofs::Entries::below_at))]
+    fn place(&self, m: u8, i: u16) -> u32 {
+        numbered_slot(self.numbers[usize::from(i)]).place(m) as u32
     }
 }

@@ -1,6 +1,6 @@
 //! Commands on roots by their places.
 
-use super::{replied, value_of, Heap, Result, Value, SLOTS};
+use super::{found, replied, value_of, Heap, Result, Value, SLOTS};
 use crate::sys;
 
 /// The place of a root in the list of a heap's roots, for calls that take any root: first the shared slots, then those of each mutator, then the extra
@@ -12,6 +12,7 @@ use crate::sys;
 /// assert_eq!((Place::shared(3), Place::own(1, 3), Place::extra(2, 3)), (Place(3), Place(35), Place(51)));
 /// ```
 #[derive(Clone, Copy, Debug, PartialEq, Eq, Hash)]
+#[repr(transparent)]
 pub struct Place(pub u32);
 
 impl Place {
@@ -50,6 +51,53 @@ impl Heap {
     /// Returns `OutOfRange`, or `Full` if the heap has no room for it.
     pub fn new_root(&self, root: Place, kind: u8, fields: u16) -> Result<()> {
         replied(self.handle.new_root(root.0, kind.into(), fields.into())).map(drop)
+    }
+
+    /// Makes a raw object of this kind with this number of fields, all 0, and puts a reference to it into the root.
+    ///
+    /// # Errors
+    ///
+    /// Returns `OutOfRange`, or `Full` if the heap has no room for it.
+    pub fn new_raw_root(&self, root: Place, kind: u8, fields: u16) -> Result<()> {
+        replied(self.handle.new_raw_root(root.0, kind.into(), fields.into())).map(drop)
+    }
+
+    /// Makes an object of this kind with two fields, which take the values of roots `first` and `second`. This is `new_from_root` with these two roots.
+    ///
+    /// # Errors
+    ///
+    /// Returns the errors of `new_from_root`.
+    pub fn new_pair_root(&self, mutator: u8, root: Place, kind: u8, first: Place, second: Place) -> Result<()> {
+        replied(self.handle.new_pair_root(mutator.into(), root.0, kind.into(), first.0, second.0)).map(drop)
+    }
+
+    /// Makes an object of this kind with a field for each source, which takes that root's value, and puts a reference to it into the root. The root is
+    /// set first, so a field that takes its value refers to the object itself. While a collection is open, the fields are logged in this mutator's log.
+    ///
+    /// # Errors
+    ///
+    /// Returns `Full` if the heap has no room for it, or `OutOfRange` if there is no such root or mutator, or more than 65,535 sources; or, while a
+    /// collection is open, `NoMemory`.
+    pub fn new_from_root(&self, mutator: u8, root: Place, kind: u8, sources: &[Place]) -> Result<()> {
+        replied(self.handle.new_from_roots(mutator.into(), root.0, kind.into(), sources)).map(drop)
+    }
+
+    /// Makes an object of this kind with `count` fields, which take the values of the roots from `first` on. This is `new_from_root` with these roots.
+    ///
+    /// # Errors
+    ///
+    /// Returns the errors of `new_from_root`.
+    pub fn gather(&self, mutator: u8, root: Place, kind: u8, first: Place, count: u32) -> Result<()> {
+        replied(self.handle.gather(mutator.into(), root.0, kind.into(), first.0, count)).map(drop)
+    }
+
+    /// Reads the first `count` fields of the object that root `source` refers to into the roots from `first` on. All are read or none.
+    ///
+    /// # Errors
+    ///
+    /// Returns `NoObject`, `NoField` if the object has fewer fields, or `OutOfRange` if there are no such roots, or `source` is one of them.
+    pub fn spread(&self, first: Place, source: Place, count: u32) -> Result<()> {
+        replied(self.handle.spread(first.0, source.0, count)).map(drop)
     }
 
     /// Puts a number below 2^63 into the root.
@@ -151,5 +199,24 @@ impl Heap {
     pub fn look_root(&self, root: Place) -> Result<Value> {
         let (answer, view) = self.handle.look_root(root.0);
         Ok(value_of(replied(answer)?, &view))
+    }
+
+    /// Returns the address of the object that the root refers to, or `None` if it refers to none. The next flip gives objects other addresses.
+    ///
+    /// # Errors
+    ///
+    /// Returns `OutOfRange` if there is no such root.
+    pub fn address_root(&self, root: Place) -> Result<Option<u32>> {
+        let (answer, address) = self.handle.address_root(root.0);
+        found(answer, address)
+    }
+
+    /// Puts a reference to the object that starts at this address into the root, as [`Mutator::refer`](super::Mutator::refer) does.
+    ///
+    /// # Errors
+    ///
+    /// Returns `NoObject` if no object starts there, or `OutOfRange` if there is no such root. The root then keeps its value.
+    pub fn refer_root(&self, root: Place, address: u32) -> Result<()> {
+        replied(self.handle.refer_root(root.0, address)).map(drop)
     }
 }
