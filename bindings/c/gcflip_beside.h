@@ -116,7 +116,7 @@ uint32_t gcflip_beside_resume(gcflip_mutator *mutator);
 
 /* ---- The collector, by the collector's thread
  *
- * The next collection begins at each flip, and rests until a flip finds a root's object without a replica: until then nothing is copied, and no
+ * The next collection begins at each flip. It rests until a flip finds a root's object without a replica. Until then nothing is copied, and no
  * write is logged. Its steps bring replicas up to date with the originals, beside the mutator or while the collector holds it. To flip, the
  * collector asks the mutator to stop, takes it, and lets it go on in the new space. */
 

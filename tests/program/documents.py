@@ -486,15 +486,16 @@ def rows_behind(document, heading):
 
 
 def architecture(_program, _folder):
-    """Checks that docs/ARCHITECTURE.md has a job for each crate, and that it and the README of gcflip_heap_c tell the number of functions with raw pointers."""
+    """Checks that docs/ARCHITECTURE.md has a job for each crate, and that it and the READMEs tell the number of functions with raw pointers."""
     jobs = {cells[-2].strip(" |"): cells[-1:] for cells in rows_behind("docs/ARCHITECTURE.md", "# Architecture")}
     wrong = [crate for crate in crates_listed() if not (len(jobs.get(crate, [])) == 1 and re.search(r"[a-z]{2}", jobs[crate][0]))]
     yield "jobs of crates", ", ".join(wrong) or None
-    sources_of = [text_of(os.path.join("crates", "gcflip_heap_c", "src", name)) for name in ("handle.rt", "parts.rt")]
-    bodies = [body for text in sources_of for body in re.split(r"\bfn \w+", text)[1:]]
-    count = ["no", "one", "two", "three", "four", "five", "six", "seven", "eight", "nine"][len([body for body in bodies if re.search(r"\bat\b", body)])]
-    for document in ("docs/ARCHITECTURE.md", "crates/gcflip_heap_c/README.md"):
-        yield "functions with raw pointers in %s" % document, None if "%s functions" % count in text_of(document) else "they are %s" % count
+    for path in ("gcflip_heap_c/src/handle.rt", "gcflip_beside_c/src/handle.rt", "gc_in_c/src/parts.rt"):
+        bodies = re.split(r"\bfn \w+", text_of(os.path.join("crates", path)))[1:]
+        count = ["no", "one", "two", "three", "four", "five", "six", "seven", "eight", "nine"][len([body for body in bodies if re.search(r"\bat\b", body)])]
+        told = {"parts.rt": ("Its %s calls use raw pointers", "in %s of gc_in_c")}.get(os.path.basename(path), ("%s functions", "%s functions of each"))
+        for document, words in zip((os.path.join("crates", path.partition("/")[0], "README.md"), "docs/ARCHITECTURE.md"), told):
+            yield "functions with raw pointers of %s in %s" % (path, document), None if words % count in text_of(document) else "they are %s" % count
 
 
 # Words that the documents use in one sense, beside those that README and docs/EMBEDDING.md introduce.

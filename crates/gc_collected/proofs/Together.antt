@@ -65,7 +65,7 @@ logged_twice : (o : Option Collection) (m : ℕ) (e f : List (ℕ × ℕ)) → l
 logged_twice None m e f = refl
 logged_twice (Some c) m e f = ap (λ (d : Collection). Some d) (appended_twice c m e f)
 
-pub logged_none : (o : Option Collection) (m : ℕ) → logged o m [] ≡ o
+logged_none : (o : Option Collection) (m : ℕ) → logged o m [] ≡ o
 logged_none None m = refl
 logged_none (Some c) m = ap (λ (d : Collection). Some d) (appended_none c m)
 

@@ -11,7 +11,7 @@ use Rattle.gc_pace.specs.declared.work.Work.{Work}
 use Rattle.gcflip_heap_c.specs.Commands.{IsCall, IsCommandCall, Replies, heap_behind}
 use Rattle.gcflip_heap_c.specs.Room.{CollectsAnew, TellsRoom, lack_of, whole_answer}
 use Rattle.gcflip_heap_c.specs.Internal.Lending.{with_heap}
-use Rattle.gcflip_heap_c.specs.Replies.{reply_in_c}
+use Rattle.gc_in_c.specs.Replies.{reply_in_c}
 use Rattle.gcflip_heap_c.specs.Work.{IsWorkCall, Works, work_in_c}
 use Rattle.gcflip_heap_c.specs.declared.handle.GcflipHeap.{GcflipHeap}
 use Rattle.gcflip_heap_c.specs.declared.work.GcflipWork.{GcflipWork}

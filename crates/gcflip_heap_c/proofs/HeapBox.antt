@@ -12,7 +12,7 @@ use Rattle.std.specs.contracts.impls.GlobalAllocator.TheImpl.{ghosts, dict}
 use Rattle.std.proofs.alloc.Global.TheLaws as global
 use Rattle.gc_collected.specs.contracts.collected_heap.CollectedHeap as Heap
 use Rattle.gc_collected.proofs.collected_heap.CollectedHeap.TheLaws as heap
-use Rattle.gcflip_heap_c.specs.contracts.parts.Parts as Parts
+use Rattle.gc_in_c.specs.contracts.parts.Parts as Parts
 use Rattle.gcflip_heap_c.specs.contracts.handle.GcflipHeap as Handle
 
 abbrev pub heap_box : Bx

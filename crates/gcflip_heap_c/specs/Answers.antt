@@ -1,18 +1,6 @@
 -- The numbers with which only the heap's calls are refused. Replies have the numbers of `Replies`.
 use Rattle.std.specs.Prelude.{ℕ}
 
--- an argument is out of range
-abbrev pub out_of_range : ℕ
-out_of_range = 2
-
--- the handle has no heap
-abbrev pub closed_handle : ℕ
-closed_handle = 3
-
--- the handle already has a heap
-abbrev pub open_handle : ℕ
-open_handle = 4
-
 -- the frame has no place left
 abbrev pub frame_full : ℕ
 frame_full = 5

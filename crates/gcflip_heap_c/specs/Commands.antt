@@ -4,8 +4,8 @@ use Rattle.gc_graph.specs.declared.reply.Reply.{Reply}
 use Rattle.gc_check.specs.InC.{no_memory, IsRefusal}
 use Rattle.gc_plan.specs.State.{State}
 use Rattle.gc_collected.specs.Collected.{Collected}
-use Rattle.gcflip_heap_c.specs.Answers.{out_of_range, closed_handle}
-use Rattle.gcflip_heap_c.specs.Replies.{reply_in_c}
+use Rattle.gc_in_c.specs.Answers.{out_of_range, closed_handle}
+use Rattle.gc_in_c.specs.Replies.{reply_in_c}
 use Rattle.gcflip_heap_c.specs.declared.handle.GcflipHeap.{GcflipHeap}
 
 -- What a call returns, and the state after it. `takes` holds of the states in which its arguments are in range. `did` relates the states

@@ -5,7 +5,7 @@ use Rattle.gc_plan.specs.State.{State}
 use Rattle.gc_pace.specs.Frames.{HasFrame}
 use Rattle.gc_pace.specs.declared.frame.Frame.{Frame}
 use Rattle.gcflip_heap_c.specs.Commands.{IsCallOr, Replies}
-use Rattle.gcflip_heap_c.specs.Replies.{reply_in_c}
+use Rattle.gc_in_c.specs.Replies.{reply_in_c}
 use Rattle.gcflip_heap_c.specs.Slots.{NamesSlots}
 
 -- the state has mutator m and the frame, and this number is that of a slot

@@ -8,5 +8,5 @@ abbrev pub HasRoots : List ℕ → State → Type 0
 HasRoots places s = AllByRecursion (λ p. p < length s.heap.graph.roots) places
 
 -- the state has a root at each of so many places, from this one on
-abbrev pub HasRange : ℕ → ℕ → State → Type 0
-HasRange first count s = first + count ≤ length s.heap.graph.roots
+abbrev pub HasRootRange : ℕ → ℕ → State → Type 0
+HasRootRange first count s = first + count ≤ length s.heap.graph.roots

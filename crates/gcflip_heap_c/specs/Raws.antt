@@ -6,7 +6,7 @@ use Rattle.gc_graph.specs.Slots.{SlotName, place}
 use Rattle.gc_check.specs.InC.{done}
 use Rattle.gc_graph.specs.declared.reply.Reply.TheVariants.{NoObject, NoField}
 use Rattle.gc_plan.specs.State.{State}
-use Rattle.gcflip_heap_c.specs.Replies.{reply_in_c}
+use Rattle.gc_in_c.specs.Replies.{reply_in_c}
 
 -- C's array takes as many numbers of a raw object as it is long, from field `first` on. It stays as it was where there is no raw object, or the
 -- object has fewer fields, and the answer says so.

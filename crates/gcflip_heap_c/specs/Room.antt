@@ -14,7 +14,8 @@ use Rattle.gc_pace.specs.declared.work.Looks.TheVariants.{Count}
 use Rattle.gc_pace.specs.declared.work.Work.{Work}
 use Rattle.gc_plan.specs.declared.step.StepReply.{StepReply}
 use Rattle.gc_plan.specs.declared.step.StepReply.TheVariants.{Busy, NoRoom}
-use Rattle.gcflip_heap_c.specs.Replies.{reply_in_c, step_reply_in_c}
+use Rattle.gc_in_c.specs.Replies.{reply_in_c}
+use Rattle.gcflip_heap_c.specs.Replies.{step_reply_in_c}
 use Rattle.gcflip_heap_c.specs.Work.{work_in_c}
 use Rattle.gcflip_heap_c.specs.declared.work.GcflipWork.{GcflipWork}
 

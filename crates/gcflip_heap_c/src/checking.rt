@@ -5,7 +5,7 @@ ghost use Rattle.gc_check.specs.InC.{done, no_memory, IsRefusal};
 ghost use Rattle.gc_plan.specs.declared.step.Step.{Step};
 ghost use Rattle.gc_collected.specs.Checking.{finding};
 ghost use Rattle.gc_collected.specs.CollectedHeap.{Allocates};
-ghost use Rattle.gcflip_heap_c.specs.Answers.{closed_handle};
+ghost use Rattle.gc_in_c.specs.Answers.{closed_handle};
 ghost use Rattle.gcflip_heap_c.specs.Checking.{TellsFinding, IsSoundFinding};
 
 use crate::answer::{DONE, NO_MEMORY};

@@ -7,7 +7,7 @@ ghost use Rattle.gc_graph.specs.declared.command.Op.{Op};
 ghost use Rattle.gc_plan.specs.Steps.{mutate};
 ghost use Rattle.gc_collected.specs.CollectedHeap.{new_from_step};
 ghost use Rattle.gcflip_heap_c.specs.Commands.{IsCall, IsCommandCall, Replies};
-ghost use Rattle.gcflip_heap_c.specs.Replies.{reply_in_c, got_in_c, number_after, view_after};
+ghost use Rattle.gc_in_c.specs.Replies.{reply_in_c, got_in_c, number_after, view_after};
 ghost use Rattle.gcflip_heap_c.specs.Slots.{NamesSlots, numbered_slot};
 
 use crate::answer::OUT_OF_RANGE;
@@ -17,9 +17,10 @@ use crate::rare::{
     MOST_IN_LINE, new_long, new_long_raw, new_pair_while_open, put_number_while_open,
     put_while_open,
 };
-use crate::reply::{GcflipView, of_fetched, of_look, of_reply, of_result};
+use crate::reply::of_fetched;
 use crate::slots::{NumberedSlots, SLOT_NUMBERS, are_slots, numbered_slot};
 use gc_graph::Number;
+use gc_in_c::{GcflipView, of_look, of_reply, of_result};
 
 /// Makes an object of this kind with `count` fields, all nil, and puts a reference to it into slot `d`.
 #[unsafe(no_mangle)]

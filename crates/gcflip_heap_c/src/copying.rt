@@ -9,7 +9,7 @@ ghost use Rattle.gcflip_heap_c.specs.Slots.{NamesSlots, numbered_slot};
 use crate::answer::OUT_OF_RANGE;
 use crate::guards::{lent_to, slot_named};
 use crate::handle::GcflipHeap;
-use crate::reply::of_result;
+use gc_in_c::of_result;
 
 /// Copies `count` fields: from field `from` on, of the object that slot `s` refers to, to field `to` and on of the object that slot `d`
 /// refers to. For each field this is a `gcflip_heap_get` into slot `t` and a `gcflip_heap_put` of slot `t`, in rising order and in one call,

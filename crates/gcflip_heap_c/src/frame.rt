@@ -13,7 +13,7 @@ ghost use Rattle.gcflip_heap_c.specs.Slots.{NamesSlots, numbered_slot};
 use crate::answer::{DONE, FRAME_EMPTY, FRAME_FULL, OUT_OF_RANGE};
 use crate::guards::{lent, lent_to, slot_named};
 use crate::handle::GcflipHeap;
-use crate::reply::of_reply;
+use gc_in_c::of_reply;
 use gc_pace::Frame;
 
 /// Copies the value of extra root `k` into slot `d`.

@@ -6,8 +6,8 @@ ghost use Rattle.gc_plan.specs.State.{State};
 ghost use Rattle.gc_collected.specs.Collected.{Beside};
 ghost use Rattle.gcflip_heap_c.specs.Handle.{owns_heap, coded_state, coded_beside, coded_roots_left};
 
-use crate::parts::Parts;
 use gc_collected::CollectedHeap;
+use gc_in_c::Parts;
 use std::alloc::Global;
 use std::marker::Model;
 use std::mem::replace;

@@ -12,7 +12,6 @@ mod mixed;
 mod moved;
 mod opening;
 mod pace;
-mod parts;
 mod places;
 mod rare;
 mod raws;
@@ -37,6 +36,7 @@ pub use frame::{
     gcflip_heap_frame_pop, gcflip_heap_frame_push, gcflip_heap_frame_trim, gcflip_heap_root_clear,
     gcflip_heap_root_load, gcflip_heap_root_store,
 };
+pub use gc_in_c::GcflipView;
 pub use handle::GcflipHeap;
 pub use mixed::{GcflipField, gcflip_heap_new_with};
 pub use moved::{gcflip_heap_moved, gcflip_moved};
@@ -52,7 +52,6 @@ pub use reading::{
     gcflip_heap_log_length, gcflip_heap_new_words,
 };
 pub use referring::{gcflip_heap_refer, gcflip_object_at, gcflip_refer};
-pub use reply::GcflipView;
 pub use room::{gcflip_collect, gcflip_release, gcflip_reserve, gcflip_room};
 pub use rows::{gcflip_gather, gcflip_new_from, gcflip_new_pair, gcflip_spread};
 pub use stepping::{

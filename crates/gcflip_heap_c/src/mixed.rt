@@ -11,10 +11,10 @@ ghost use Rattle.gcflip_heap_c.specs.Slots.{NamesSlots, numbered_slot};
 use crate::answer::OUT_OF_RANGE;
 use crate::guards::{lent_to, slot_named};
 use crate::handle::GcflipHeap;
-use crate::reply::of_result;
 use crate::slots::{SLOT_NUMBERS, numbered_slot};
 use gc_collected::{FieldSource, SourceRow};
 use gc_graph::Number;
+use gc_in_c::of_result;
 
 /// What a field of a new object takes, as C says it.
 #[repr(C)]

@@ -6,7 +6,7 @@ ghost use Rattle.gc_heap.specs.ExtraRoots as heaps;
 ghost use Rattle.gc_copy.specs.Opening.{opening_state_with};
 ghost use Rattle.gc_collected.specs.Collected.{opening_beside, rooms_touched};
 ghost use Rattle.gcflip_heap_c.specs.Commands.{heap_behind};
-ghost use Rattle.gcflip_heap_c.specs.Answers.{out_of_range, closed_handle, open_handle};
+ghost use Rattle.gc_in_c.specs.Answers.{out_of_range, closed_handle, open_handle};
 ghost use Rattle.gcflip_heap_c.specs.Opening.{CanOpenWith, checking_in, options_in};
 
 use crate::answer::{CLOSED, DONE, NO_MEMORY, OPEN, OUT_OF_RANGE};

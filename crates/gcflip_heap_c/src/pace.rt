@@ -7,7 +7,7 @@ ghost use Rattle.gc_collected.specs.CollectedHeap.{Allocates};
 ghost use Rattle.gc_pace.specs.Counts.{counts_in};
 ghost use Rattle.gc_pace.specs.Pace.{IsPace, IsPacedWork, Pays, pace_from, steps_due};
 ghost use Rattle.gcflip_heap_c.specs.Commands.{heap_behind};
-ghost use Rattle.gcflip_heap_c.specs.Answers.{out_of_range, closed_handle};
+ghost use Rattle.gc_in_c.specs.Answers.{out_of_range, closed_handle};
 ghost use Rattle.gcflip_heap_c.specs.Work.{IsWorkCall, RefusedRooms};
 
 use crate::answer::{DONE, OUT_OF_RANGE};

@@ -12,14 +12,15 @@ ghost use Rattle.gc_collected.specs.Values.{put_value_step};
 ghost use Rattle.gc_collected.specs.Viewing.{get_reply};
 ghost use Rattle.gcflip_heap_c.specs.Commands.{IsCall, IsCommandCall, Replies};
 ghost use Rattle.gcflip_heap_c.specs.Places.{HasRoots};
-ghost use Rattle.gcflip_heap_c.specs.Replies.{reply_in_c, got_in_c, number_after, view_after};
+ghost use Rattle.gc_in_c.specs.Replies.{reply_in_c, got_in_c, number_after, view_after};
 
 use crate::answer::OUT_OF_RANGE;
 use crate::guards::lent;
 use crate::handle::GcflipHeap;
-use crate::reply::{GcflipView, of_fetched, of_look, of_reply, of_result};
+use crate::reply::of_fetched;
 use gc_collected::Plain;
 use gc_graph::Number;
+use gc_in_c::{GcflipView, of_look, of_reply, of_result};
 
 /// Makes an object of this kind with `count` fields, all nil, and puts a reference to it into root `d`.
 #[unsafe(no_mangle)]

@@ -11,10 +11,10 @@ ghost use Rattle.gcflip_heap_c.specs.Slots.{NamesSlots, numbered_slot};
 
 use crate::answer::OUT_OF_RANGE;
 use crate::guards::slot_named;
-use crate::reply::{of_reply, of_result};
 use crate::slots::{SLOT_NUMBERS, numbered_slot};
 use gc_collected::CollectedHeap;
 use gc_graph::Number;
+use gc_in_c::{of_reply, of_result};
 
 /// The most fields of an object that is filled in line: gc_words writes a link and so many fields without a call.
 pub(crate) const MOST_IN_LINE: u16 = 9;

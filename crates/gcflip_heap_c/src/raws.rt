@@ -14,9 +14,9 @@ ghost use Rattle.gcflip_heap_c.specs.Slots.{NamesSlots, numbered_slot};
 use crate::answer::{DONE, NO_FIELD, NO_OBJECT, OUT_OF_RANGE};
 use crate::guards::{lent, lent_to, slot_named};
 use crate::handle::GcflipHeap;
-use crate::reply::of_result;
 use gc_collected::CollectedHeap;
 use gc_graph::Slot;
+use gc_in_c::of_result;
 use gc_words::OldAddr;
 
 /// Copies the numbers of the raw object that the slot refers to, from field `first` on, if it has as many as the array takes.

@@ -4,7 +4,8 @@ ghost use Rattle.std.specs.Prelude.{◌≡◌, ◌≢◌, ◌≤◌, ◌⊎◌, 
 ghost use Rattle.gc_check.specs.InC.{done};
 ghost use Rattle.gc_collected.specs.Readings.{heap_image, new_words, log_of};
 ghost use Rattle.gcflip_heap_c.specs.Commands.{heap_behind};
-ghost use Rattle.gcflip_heap_c.specs.Answers.{out_of_range, closed_handle, damaged};
+ghost use Rattle.gc_in_c.specs.Answers.{out_of_range, closed_handle};
+ghost use Rattle.gcflip_heap_c.specs.Answers.{damaged};
 ghost use Rattle.gc_pace.specs.Counts.{counts_in};
 ghost use Rattle.gcflip_heap_c.specs.Readings.{log_entry_at, FitsImage};
 

@@ -7,14 +7,14 @@ ghost use Rattle.gc_collected.specs.Referring.{refer_step};
 ghost use Rattle.gc_collected.specs.Viewing.{view_at};
 ghost use Rattle.gcflip_heap_c.specs.Commands.{IsCall, IsCommandCall};
 ghost use Rattle.gcflip_heap_c.specs.Places.{HasRoots};
-ghost use Rattle.gcflip_heap_c.specs.Replies.{seen_in_c, view_in_c};
+ghost use Rattle.gc_in_c.specs.Replies.{seen_in_c, view_in_c};
 ghost use Rattle.gcflip_heap_c.specs.Slots.{NamesSlots, numbered_slot};
 
 use crate::answer::OUT_OF_RANGE;
 use crate::guards::{lent, lent_to, slot_named};
 use crate::handle::GcflipHeap;
-use crate::reply::{GcflipView, of_look, of_reply};
 use gc_graph::Reply;
+use gc_in_c::{GcflipView, of_look, of_reply};
 use gc_words::OldAddr;
 
 /// Puts a reference to the object that starts at this address into slot `d`. Returns 18 if no object starts there; the slot then keeps its

@@ -8,7 +8,7 @@ ghost use Rattle.gc_pace.specs.Beside.{LeavesBeside, WasRefused};
 ghost use Rattle.gc_pace.specs.Counts.{counts_in};
 ghost use Rattle.gc_pace.specs.Pace.{IsPace, IsPacedWork, pace_from};
 ghost use Rattle.gc_pace.specs.Work.{no_work};
-ghost use Rattle.gcflip_heap_c.specs.Answers.{closed_handle};
+ghost use Rattle.gc_in_c.specs.Answers.{closed_handle};
 ghost use Rattle.gcflip_heap_c.specs.Commands.{IsCall, heap_behind};
 ghost use Rattle.gcflip_heap_c.specs.Room.{Collects, CollectsAnew, Finishes, Reserves, TellsRoom, busy, full, joined_report, lack_of as lack_in, starved, whole_answer as answer_in};
 

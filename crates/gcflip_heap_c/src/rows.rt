@@ -8,13 +8,13 @@ ghost use Rattle.gc_heap.specs.Places.{root_at};
 ghost use Rattle.gc_collected.specs.CollectedHeap.{new_from_step, roots_from};
 ghost use Rattle.gc_collected.specs.Spreading.{spread_step};
 ghost use Rattle.gcflip_heap_c.specs.Commands.{IsCommandCall};
-ghost use Rattle.gcflip_heap_c.specs.Places.{HasRange, HasRoots};
+ghost use Rattle.gcflip_heap_c.specs.Places.{HasRootRange, HasRoots};
 
 use crate::answer::OUT_OF_RANGE;
 use crate::guards::lent;
 use crate::handle::GcflipHeap;
-use crate::reply::{of_reply, of_result};
 use gc_collected::{CollectedHeap, RootRow};
+use gc_in_c::{of_reply, of_result};
 
 // Returns whether each of these is the place of a root, of which there are so many.
 fn are_places(places: &[u32], roots: usize) -> bool
@@ -31,7 +31,7 @@ fn are_places(places: &[u32], roots: usize) -> bool
 // Returns whether the heap has a root at each of so many places, from `first` on.
 #[inline(always)]
 fn has_range(heap: &CollectedHeap, first: u32, count: u32) -> bool
-    ensures { IsTrue result ↔ HasRange first count heap.now.core }
+    ensures { IsTrue result ↔ HasRootRange first count heap.now.core }
 {
     u64::from(first) + u64::from(count) <= heap.root_places() as u64
 }
@@ -124,7 +124,7 @@ pub extern "C" fn gcflip_gather(
     first: u32,
     count: u32,
 ) -> u32
-    ensures call { IsCommandCall (λ state. (m < state.mutators) × HasRoots (d ∷ []) state × (kind < kinds) × (count < lengths) × HasRange first count state)
+    ensures call { IsCommandCall (λ state. (m < state.mutators) × HasRoots (d ∷ []) state × (kind < kinds) × (count < lengths) × HasRootRange first count state)
         (λ state. new_from_step state m (root_at d) kind (roots_from first count)) heap.old.state heap.new.state result }
     ensures memory { result ≡ no_memory → IsSomeAnd heap.old.state (λ s. IsSome s.collection) }
     ensures beside { heap.new.beside ≡ heap.old.beside }
@@ -143,7 +143,7 @@ pub extern "C" fn gcflip_gather(
 /// `gcflip_get` for each, in rising order and in one call. All are read or none. Returns 19 if the object has fewer fields.
 #[unsafe(no_mangle)]
 pub extern "C" fn gcflip_spread(heap: &mut GcflipHeap, first: u32, s: u32, count: u32) -> u32
-    ensures call { IsCommandCall (λ state. HasRoots (s ∷ []) state × HasRange first count state × ((s < first) ⊎ (first + count ≤ s)))
+    ensures call { IsCommandCall (λ state. HasRoots (s ∷ []) state × HasRootRange first count state × ((s < first) ⊎ (first + count ≤ s)))
         (λ state. spread_step state first s count) heap.old.state heap.new.state result }
     ensures memory { result ≢ no_memory }
     ensures beside { heap.new.beside ≡ heap.old.beside }

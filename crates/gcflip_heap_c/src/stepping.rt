@@ -9,7 +9,7 @@ ghost use Rattle.gc_plan.specs.declared.step.StepReply.{StepReply};
 ghost use Rattle.gc_collected.specs.Flip.{FormerAfter, HasRoomIfLarge, new_size};
 ghost use Rattle.gc_collected.specs.Collected.{BeginsIn, checks_whole, rooms_flipped, rooms_given_up, turns_after};
 ghost use Rattle.gc_collected.specs.declared.flip.Keep.{Keep};
-ghost use Rattle.gcflip_heap_c.specs.Answers.{closed_handle};
+ghost use Rattle.gc_in_c.specs.Answers.{closed_handle};
 ghost use Rattle.gcflip_heap_c.specs.Commands.{IsCall, Replies};
 ghost use Rattle.gcflip_heap_c.specs.Steps.{IsStepCall, ShowsReply, step_in_c};
 ghost use Rattle.gcflip_heap_c.specs.Replies.{step_reply_in_c, pairs_after};

@@ -1,4 +1,4 @@
--- The call made of its heap what it returns, and the handle holds that heap.
+-- What whole collections made of the heap, and the handle holds it.
 use Rattle.std.proofs.Common.{◌≡◌, Some, subst}
 use Rattle.gc_collected.specs.Collected.{Collected}
 use Rattle.gcflip_heap_c.specs.Room.{CollectsAnew}
