@@ -245,3 +245,33 @@ fn nobody_stops_unasked(rt: HostRuntime) -> Result<(), Fail> {
     let _runner = runner.poll(&rt);
     Ok(())
 }
+
+#[test]
+fn a_question_is_withdrawn(rt: HostRuntime) -> Result<(), Fail> {
+    let _named = View::Nil;
+    let (mut runner, collector) = open(rt.alloc(), 64)?;
+    assert!(rt; runner.commander.room() == 63);
+    assert!(rt; told(&mut runner, new(own(0), 3, 2)) == Some(Reply::Made));
+    assert!(rt; runner.commander.room() == 59);
+    // Before the mutator has stopped.
+    let asking = collector.ask().ok().ok_or("the mutator runs")?;
+    assert!(rt; runner.is_asked());
+    let collector = asking.withdraw();
+    assert!(rt; !runner.is_asked());
+    let runner = runner.stop().err().ok_or("nobody is asked")?;
+    // And after it.
+    let asking = collector.ask().ok().ok_or("it runs again")?;
+    let waiting = runner.stop().ok().ok_or("it is asked")?;
+    let waiting = waiting.resume().err().ok_or("it has to wait")?;
+    let collector = asking.withdraw();
+    let mut runner = waiting.resume().ok().ok_or("it may go on")?;
+    assert!(rt; told(&mut runner, num(own(1), 9)) == Some(Reply::Done));
+    let (waiting, holding) = taken(runner, collector)?;
+    let _collector = holding
+        .finish(rt.alloc(), &Sequential)
+        .ok()
+        .ok_or("it flips")?;
+    let runner = waiting.resume().ok().ok_or("it may go on")?;
+    assert!(rt; runner.commander.room() == 59);
+    Ok(())
+}
