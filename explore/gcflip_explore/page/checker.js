@@ -149,20 +149,32 @@ export class Checker {
     return Math.floor(byId("pair-picture").clientWidth);
   }
 
+  // Returns whether what is shown was drawn for another width.
+  isStale() {
+    return this.drawnWidth !== undefined && this.width() > 0 && this.width() !== this.drawnWidth;
+  }
+
   resized() {
     clearTimeout(this.waiting);
-    if (this.text !== undefined && this.width() > 0 && this.width() !== this.drawnWidth) {
+    if (this.isStale()) {
       this.waiting = setTimeout(() => this.drawAgain(), 200);
     }
   }
 
-  // Draws for another width, and shows the same objects again.
+  // Draws for another width, with the same objects below. They are those that are shown when its turn comes.
   drawAgain() {
-    const { looked } = this;
-    this.check(this.text);
-    if (looked) {
-      this.zoom(...looked);
-    }
+    return this.then(async () => {
+      if (!this.isStale()) {
+        return;
+      }
+      const { looked } = this;
+      const answer = await this.asked("check", this.text, {});
+      const objects = looked && await this.asked("look", this.text, looked);
+      this.show(answer);
+      if (objects) {
+        this.showLooked(looked, objects);
+      }
+    });
   }
 
   show({ line, fault, refused, meaning, where, picture, told, place, block, near, bad_line: bad }) {
@@ -202,16 +214,18 @@ export class Checker {
   }
 
   zoom(heap, first, last, skipped = 0) {
-    return this.then(async () => {
-      const answer = await this.asked("look", this.text, { heap, first, last, skipped });
-      this.looked = [heap, first, last, skipped];
-      this.showNear(answer, this.pages(answer));
-    });
+    const range = { heap, first, last, skipped };
+    return this.then(async () => this.showLooked(range, await this.asked("look", this.text, range)));
+  }
+
+  showLooked(range, answer) {
+    this.looked = range;
+    this.showNear(answer, this.pages(answer));
   }
 
   // Returns a line that says which objects of a range are shown, with buttons that go to the others.
   pages({ count, skipped, shown }) {
-    const [heap, first, last] = this.looked;
+    const { heap, first, last } = this.looked;
     const range = first === last ? `word ${first}` : `words ${first} to ${last}`;
     const those = count === 0 ? "no object" : shown === count ? plural(count, "object") : `objects ${skipped + 1} to ${skipped + shown} of ${count}`;
     const button = (name, to, enabled) => make("button", { disabled: !enabled, onclick: () => this.zoom(heap, first, last, to) }, name);

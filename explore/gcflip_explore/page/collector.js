@@ -273,11 +273,16 @@ export class Collector {
     return Math.floor(byId("picture").clientWidth);
   }
 
-  // Redraws in another width.
+  // Returns whether what is shown was drawn for another width.
+  isStale() {
+    return this.drawnWidth !== undefined && this.width() > 0 && this.width() !== this.drawnWidth;
+  }
+
+  // Redraws in another width, which the picture may have again when its turn comes.
   resized() {
     clearTimeout(this.waiting);
-    if (this.drawnWidth !== undefined && this.width() > 0 && this.width() !== this.drawnWidth) {
-      this.waiting = setTimeout(() => this.then(() => this.asked(this.position, {})), 200);
+    if (this.isStale()) {
+      this.waiting = setTimeout(() => this.then(() => (this.isStale() ? this.asked(this.position, {}) : undefined)), 200);
     }
   }
 

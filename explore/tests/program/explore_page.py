@@ -515,7 +515,8 @@ def zooms(_program, folder):
         shown.wait("document.querySelector('#pair-looked [role=status]')")
         said = shown.run("return document.querySelector('#pair-looked [role=status]').textContent;")
         found = [int(word) for word in re.findall(r"\d+", said)]
-        middle = (first + last) // 2
+        # The click is half of the run behind its first word. Between two blocks it is in the right one.
+        middle = (first + last + 1) // 2
         right = said.startswith("The old heap, words ") and first < found[0] <= middle <= found[1] < last
         yield "a click shows the block there", None if right else "%r, of a run from %d to %d" % (said, first, last)
         wanted = [1 + size * number for number in range(count) if 1 + size * number <= found[1] and 1 + size * (number + 1) > found[0]]
