@@ -38,13 +38,13 @@ held handle heap is = grind (arith, common_steps)
 
 -- the argument is in range, and the heap in the handle made this of the call, or was refused memory
 held_made : {R E : Type 0} (takes : Type 0) (did : Collected → Collected → Type 0) (old : GcflipHeap) (before after : Collected) (made : Result R E) (answer : ℕ) → takes → Holds old before → IfOk made (λ _. did before after × ¬ IsRefusal answer)
-    → OnErr made ((after ≡ before) × (answer ≡ no_memory)) → IsCall (λ _. takes) (λ s t. did (heap_behind old s) (heap_behind (with_heap old after) t)) old.state (Some after.core) answer
+    → OnErr made ((after.core ≡ before.core) × (answer ≡ no_memory)) → IsCall (λ _. takes) (λ s t. did (heap_behind old s) (heap_behind (with_heap old after) t)) old.state (Some after.core) answer
 held_made {R} {E} takes did old before after (Ok x) answer fits is told none =
     subst (λ o. IsCall (λ _. takes) (λ s t. did (heap_behind old s) (heap_behind (with_heap old after) t)) o (Some after.core) answer) (sym is.0)
     (made_of {R = R} {E = E} (λ _. takes) (λ s t. did (heap_behind old s) (heap_behind (with_heap old after) t)) before.core after.core (Ok x) answer fits (subst (λ (h : Collected). did h after) (sym (held old before is)) told.0, told.1) none)
 held_made {R} {E} takes did old before after (Err e) answer fits is told none =
     subst (λ o. IsCall (λ _. takes) (λ s t. did (heap_behind old s) (heap_behind (with_heap old after) t)) o (Some after.core) answer) (sym is.0)
-    (made_of {R = R} {E = E} (λ _. takes) (λ s t. did (heap_behind old s) (heap_behind (with_heap old after) t)) before.core after.core (Err e) answer fits told (ap (λ (h : Collected). h.core) none.0, none.1))
+    (made_of {R = R} {E = E} (λ _. takes) (λ s t. did (heap_behind old s) (heap_behind (with_heap old after) t)) before.core after.core (Err e) answer fits told none)
 
 -- zero is no refusal
 done_unrefused : (answer : ℕ) → answer ≡ done → ¬ IsRefusal answer
@@ -58,7 +58,7 @@ work_made {E} takes size relates old before after (Ok work) report was answer fi
     held_made {R = Work} {E = E} takes (λ h n. (answer ≡ done) × Works size relates h n report) old before after (Ok work) answer fits is
     ((told.0, record { work = work; did = did; beside = beside; told = told.1 }), done_unrefused answer told.0) none
 work_made {E} takes size relates old before after (Err e) report was answer fits is did beside refused told none =
-    held_made {R = Work} {E = E} takes (λ h n. (answer ≡ done) × Works size relates h n report) old before after (Err e) answer fits is told (refused.unchanged, none.0)
+    held_made {R = Work} {E = E} takes (λ h n. (answer ≡ done) × Works size relates h n report) old before after (Err e) answer fits is told (ap (λ (h : Collected). h.core) refused.unchanged, none.0)
 
 -- ---- room
 
