@@ -246,6 +246,7 @@ static void command_by_places(void)
     const uint32_t extra = ROOTS - 1;
     EXPECT(gcflip_new(&heap, extra, 1, 1) == GCFLIP_MADE);
     EXPECT(gcflip_new_raw(&heap, 1, 1, 1) == GCFLIP_MADE && gcflip_spread(&heap, 2, extra, 1) == GCFLIP_DONE);
+    EXPECT(gcflip_set_nil(&heap, 1) == GCFLIP_DONE);
     EXPECT(gcflip_get(&heap, 0, extra, 0, &number) == GCFLIP_NIL);
     EXPECT(gcflip_peek(&heap, extra, 0, &view) == GCFLIP_NIL);
     EXPECT(gcflip_set_nil(&heap, 0) == GCFLIP_DONE && gcflip_room(&heap) > 0);

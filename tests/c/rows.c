@@ -55,6 +55,8 @@ static void raw(void)
     EXPECT(gcflip_new_raw(&heap, 0, 0, 8) == GCFLIP_FULL && gcflip_room(&heap) == 9);
     refers(0, GCFLIP_RAW_OBJECT, 255, 3);
     EXPECT(gcflip_new_raw(&heap, 0, 0, 7) == GCFLIP_MADE && gcflip_room(&heap) == 0);
+    number = 1;
+    EXPECT(gcflip_get(&heap, 0, 0, 6, &number) == GCFLIP_NUMBER && number == 0);
     close_heap();
 }
 
