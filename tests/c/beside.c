@@ -365,6 +365,7 @@ static void refused_put(void)
         }
         EXPECT(answer == GCFLIP_DONE);
     }
+    fail_allocation(0);
     EXPECT(failures > 0);
     take();
     EXPECT(gcflip_beside_finish(&collector) == GCFLIP_FLIPPED);

@@ -135,7 +135,7 @@ def answers(_program, _folder):
 
 
 # Files of definitions by which contracts name answers, and the answers of gcflip_images.h, which has no contracts.
-DEFINITIONS = [("gc_check", "InC"), ("gcflip_c", "Answers"), ("gcflip_heap_c", "Answers"), ("gcflip_heap_c", "Replies"), ("gcflip_heap_c", "Room")]
+DEFINITIONS = [("gc_check", "InC"), ("gcflip_c", "Answers"), ("gc_in_c", "Answers"), ("gc_in_c", "Replies"), ("gcflip_heap_c", "Answers"), ("gcflip_heap_c", "Replies"), ("gcflip_heap_c", "Room")]
 WITHOUT_CONTRACTS = {"FAULTY", "NOT_BEGUN"}
 IN_DEFINITION = re.compile(r"(?m)^(?:\w+|(?:seen|reply|step_reply)_in_c .*) = (\d+)$")
 # Prints the class of each number that has room in the enum, and more.
