@@ -198,11 +198,15 @@ static void make_steps(bool is_recorded)
     EXPECT(work.last == GCFLIP_FLIPPED && work.pairs == 4);
     REPLIES(gcflip_reserve(&heap, &pace, UINT32_MAX, &work), GCFLIP_FULL, is_recorded);
     EXPECT(work.last == GCFLIP_FLIPPED && work.pairs == 4);
+    REPLIES(gcflip_collect(&heap, &work), GCFLIP_DONE, is_recorded);
+    EXPECT(work.last == GCFLIP_FLIPPED && work.pairs == 4);
 }
 
 /* Makes the calls that name an extra root or a root by its place, and a reference by address. None of them has a line. */
 static void make_calls_without_lines(void)
 {
+    static const uint32_t places[] = {33, 34};
+    gcflip_pace pace = gcflip_pace_default();
     uint64_t number = 0;
     gcflip_view view = {0, 0, 0};
     gcflip_frame frame = {0, 4, 0, 0};
@@ -225,6 +229,13 @@ static void make_calls_without_lines(void)
     REPLIES(gcflip_copy(&heap, 35, 34), GCFLIP_DONE, false);
     REPLIES(gcflip_look(&heap, 35, &view), GCFLIP_NUMBER, false);
     REPLIES(gcflip_set_nil(&heap, 33), GCFLIP_DONE, false);
+    REPLIES(gcflip_new_raw(&heap, 35, 1, 1), GCFLIP_MADE, false);
+    REPLIES(gcflip_new_pair(&heap, 0, 35, 1, 33, 34), GCFLIP_MADE, false);
+    REPLIES(gcflip_new_from(&heap, 0, 35, 1, places, COUNT(places)), GCFLIP_MADE, false);
+    REPLIES(gcflip_gather(&heap, 0, 35, 1, 32, 3), GCFLIP_MADE, false);
+    REPLIES(gcflip_spread(&heap, 32, 35, 3), GCFLIP_DONE, false);
+    REPLIES(gcflip_refer(&heap, 33, 1), GCFLIP_DONE, false);
+    REPLIES(gcflip_safepoint(&heap, &pace), GCFLIP_DONE, false);
     EXPECT(number == 5 && view.number == 5);
     REPLIES(gcflip_heap_root_clear(&heap, 0, 4), GCFLIP_DONE, false);
 }
