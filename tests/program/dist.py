@@ -18,7 +18,7 @@ import time
 
 from .c_builds import TOP, done, library
 from .harness import Skipped, python_with
-from prover.axioms import PRODUCTS, kept
+from prover.axioms import PACKED, kept
 
 sys.path.append(os.path.join(TOP, "tools"))
 
@@ -96,7 +96,7 @@ def release(program, folder):
     yield "checksums", None if sums == found and len(found) == 5 else "they are %s" % found
     with tarfile.open(only(out, ".tar.gz")) as tar:
         trust = tar.extractfile("herbpond-%s-linux-x86_64/share/doc/herbpond/TRUST.md" % version()).read().decode()
-    for product in PRODUCTS:
+    for product in PACKED:
         verdict = trust.partition("## %s\n" % product)[2].partition("\n## ")[0]
         if os.path.exists(kept(product)):
             yield "the verdict of %s in TRUST.md" % product, None if "logic=proved " in verdict and "axioms=" in verdict else "it is %r" % verdict

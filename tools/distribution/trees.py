@@ -5,6 +5,8 @@ import subprocess
 import tempfile
 from typing import NamedTuple
 
+from prover.axioms import PACKED
+
 from .extension import NAME, built_extension
 from .links import linked
 
@@ -66,7 +68,7 @@ def below(folder, wanted=lambda path: True):
 def verdicts():
     """Returns what TRUST.md says of this build: the verdicts that it kept."""
     found = [b"# Verdicts of this build\n"]
-    for crate in ("gcflip_c", "gcflip_heap_c", "gcflip"):
+    for crate in PACKED:
         kept = os.path.join(TOP, "crates", crate, "out", "verdict.txt")
         text = open(kept, "rb").read() if os.path.exists(kept) else b"no verdict was kept\n"
         found.append(b"## %s\n\n```\n%s```\n" % (crate.encode(), text))
