@@ -51,6 +51,24 @@ static void take(void)
     EXPECT(gcflip_beside_take(&collector) == GCFLIP_DONE);
 }
 
+/* Ends the collection while the mutator waits, which then goes on. */
+static void collect(void)
+{
+    take();
+    EXPECT(gcflip_beside_finish(&collector) == GCFLIP_FLIPPED);
+    EXPECT(gcflip_beside_resume(&mutator) == GCFLIP_DONE);
+}
+
+/* The collector wants the object in root 0, so that it copies from now on, and lets the mutator go on. No write was logged before, so nothing is due. */
+static void begin_to_copy(void)
+{
+    take();
+    EXPECT(gcflip_beside_work(&collector, 1) == GCFLIP_CLEAN);
+    EXPECT(gcflip_beside_flip(&collector) == GCFLIP_NOT_READY);
+    EXPECT(gcflip_beside_go(&collector) == GCFLIP_DONE);
+    EXPECT(gcflip_beside_resume(&mutator) == GCFLIP_DONE);
+}
+
 /* Every command returns this answer, and changes none of its outputs. */
 static void expect_refused(uint32_t answer)
 {
@@ -234,9 +252,7 @@ static void flips(void)
     EXPECT(gcflip_beside_resume(&mutator) == GCFLIP_DONE);
     EXPECT(gcflip_beside_room(&mutator) == WORDS - 1 - 4);
     expect_one();
-    take();
-    EXPECT(gcflip_beside_finish(&collector) == GCFLIP_FLIPPED);
-    EXPECT(gcflip_beside_resume(&mutator) == GCFLIP_DONE);
+    collect();
     expect_one();
     close_both();
 }
@@ -246,12 +262,7 @@ static void copies_beside(void)
 {
     open_both(WORDS);
     make_one();
-    take();
-    /* no write was logged; the object in root 0 is wanted */
-    EXPECT(gcflip_beside_work(&collector, MANY) == GCFLIP_CLEAN);
-    EXPECT(gcflip_beside_flip(&collector) == GCFLIP_NOT_READY);
-    EXPECT(gcflip_beside_go(&collector) == GCFLIP_DONE);
-    EXPECT(gcflip_beside_resume(&mutator) == GCFLIP_DONE);
+    begin_to_copy();
     EXPECT(gcflip_beside_work(&collector, 1) == GCFLIP_DONE);
     EXPECT(gcflip_beside_work(&collector, MANY) == GCFLIP_CLEAN);
     EXPECT(gcflip_beside_set_number(&mutator, 1, 8) == GCFLIP_DONE);
@@ -303,9 +314,7 @@ static void closes(void)
         EXPECT(gcflip_beside_go(&collector) == GCFLIP_DONE);
         EXPECT(gcflip_beside_resume(&mutator) == GCFLIP_DONE);
         expect_one();
-        take();
-        EXPECT(gcflip_beside_finish(&collector) == GCFLIP_FLIPPED);
-        EXPECT(gcflip_beside_resume(&mutator) == GCFLIP_DONE);
+        collect();
         expect_one();
         close_both();
     }
@@ -325,13 +334,14 @@ static void refused_open(void)
     close_both();
 }
 
-/* The collector wants the object in root 0, so that it copies from now on, and lets the mutator go on. */
-static void begin_to_copy(void)
+/* A put needs no memory where it is not logged. */
+static void put_without_memory(void)
 {
-    take();
-    EXPECT(gcflip_beside_flip(&collector) == GCFLIP_NOT_READY);
-    EXPECT(gcflip_beside_go(&collector) == GCFLIP_DONE);
-    EXPECT(gcflip_beside_resume(&mutator) == GCFLIP_DONE);
+    for (int k = 0; k < 100; k++) {
+        fail_allocation(1);
+        EXPECT(gcflip_beside_put(&mutator, 0, 0, 1) == GCFLIP_DONE && !has_failed());
+        fail_allocation(0);
+    }
 }
 
 /* A put is logged, and so needs memory, once the collector has begun to copy, and no longer than up to its flip. */
@@ -341,11 +351,7 @@ static void refused_put(void)
 
     open_both(WORDS);
     make_one();
-    for (int k = 0; k < 100; k++) {
-        fail_allocation(1);
-        EXPECT(gcflip_beside_put(&mutator, 0, 0, 1) == GCFLIP_DONE && !has_failed());
-        fail_allocation(0);
-    }
+    put_without_memory();
     begin_to_copy();
     /* field 0 has the number before the one that is put */
     EXPECT(gcflip_beside_set_number(&mutator, 1, 99) == GCFLIP_DONE);
@@ -367,15 +373,9 @@ static void refused_put(void)
     }
     fail_allocation(0);
     EXPECT(failures > 0);
-    take();
-    EXPECT(gcflip_beside_finish(&collector) == GCFLIP_FLIPPED);
-    EXPECT(gcflip_beside_resume(&mutator) == GCFLIP_DONE);
+    collect();
     EXPECT(gcflip_beside_get(&mutator, 2, 0, 0, &number) == GCFLIP_NUMBER && number == 199);
-    for (int k = 0; k < 100; k++) {
-        fail_allocation(1);
-        EXPECT(gcflip_beside_put(&mutator, 0, 0, 1) == GCFLIP_DONE && !has_failed());
-        fail_allocation(0);
-    }
+    put_without_memory();
     close_both();
 }
 

@@ -1,11 +1,12 @@
 /* Tests the commands on roots by their places, with each answer but that of a failed allocation: which root a place is, which numbers are out of range or
  * name no field, whose log has an entry, and that a collection sees what they write. */
 #include "one_heap.h"
-#include <string.h>
 
 enum { KIND = 3, MUTATORS = 3, EXTRA = 8, SLOTS = 16 + 16 * MUTATORS, PLACES = SLOTS + EXTRA };
 
 static const uint32_t beyond[] = {PLACES, PLACES + 1, 256, 65536, 1u << 31, UINT32_MAX};
+
+#include "picture.h"
 
 static void open_heap(uint32_t size, uint8_t mutators, uint32_t extra, uint8_t checking)
 {
@@ -138,20 +139,6 @@ static void replies(void)
     close_heap();
 }
 
-/* What a heap shows that a refused call has to leave alone. */
-struct picture {
-    uint64_t words[64], roots[PLACES];
-    size_t logged[MUTATORS];
-};
-
-static void draw(struct picture *picture)
-{
-    EXPECT(gcflip_heap_counts(&heap, &counts) == GCFLIP_DONE);
-    EXPECT(gcflip_heap_image(&heap, picture->words, counts.end, picture->roots, PLACES) == GCFLIP_DONE);
-    for (uint8_t m = 0; m < MUTATORS; m++)
-        EXPECT(gcflip_heap_log_length(&heap, m, &picture->logged[m]) == GCFLIP_DONE);
-}
-
 /* Each number beyond the last place, for each operand. An output is left alone. */
 static void refused_places(uint32_t p)
 {
@@ -188,20 +175,10 @@ static void refused_numbers(void)
 /* Refused calls change nothing, whether a collection is open or not. The root at place 0 refers to an object with two fields. */
 static void refusals(void)
 {
-    static struct picture before, after;
     open_heap(64, MUTATORS, EXTRA, GCFLIP_ALONG);
     EXPECT(gcflip_new(&heap, 0, KIND, 2) == GCFLIP_MADE && gcflip_set_number(&heap, PLACES - 1, 6) == GCFLIP_DONE);
     EXPECT(gcflip_put(&heap, 0, 0, 1, PLACES - 1) == GCFLIP_DONE);
-    for (int is_open = 0; is_open < 2; is_open++) {
-        draw(&before);
-        for (size_t k = 0; k < COUNT(beyond); k++)
-            refused_places(beyond[k]);
-        refused_numbers();
-        draw(&after);
-        EXPECT(memcmp(&before, &after, sizeof before) == 0);
-        if (!is_open)
-            EXPECT(gcflip_heap_step_begin(&heap) == GCFLIP_BEGUN);
-    }
+    expect_unchanged(refused_places, refused_numbers);
     close_heap();
 }
 

@@ -1,11 +1,12 @@
 /* Tests the commands by places that make an object of several roots, or set several roots to the fields of one, and those on addresses: each answer, which roots
  * they read and write, and whose log has the fields. */
 #include "one_heap.h"
-#include <string.h>
 
 enum { KIND = 3, MUTATORS = 2, EXTRA = 8, SLOTS = 16 + 16 * MUTATORS, PLACES = SLOTS + EXTRA };
 
 static const uint32_t beyond[] = {PLACES, PLACES + 1, 256, 65536, 1u << 31, UINT32_MAX};
+
+#include "picture.h"
 
 static void open_heap(uint32_t size, uint8_t checking)
 {
@@ -133,21 +134,6 @@ static void spreads(void)
     close_heap();
 }
 
-/* What a refused call has to leave alone. */
-struct picture {
-    uint64_t words[64], roots[PLACES];
-    size_t logged[MUTATORS];
-};
-
-static void draw(struct picture *picture)
-{
-    memset(picture, 0, sizeof *picture);
-    EXPECT(gcflip_heap_counts(&heap, &counts) == GCFLIP_DONE);
-    EXPECT(gcflip_heap_image(&heap, picture->words, counts.end, picture->roots, PLACES) == GCFLIP_DONE);
-    for (uint8_t m = 0; m < MUTATORS; m++)
-        EXPECT(gcflip_heap_log_length(&heap, m, &picture->logged[m]) == GCFLIP_DONE);
-}
-
 /* Each number beyond the last place, for each operand. */
 static void refused_places(uint32_t p)
 {
@@ -182,19 +168,9 @@ static void refused_numbers(void)
 /* Refused calls change nothing, whether a collection is open or not. Root 0 refers to an object with two fields. */
 static void refusals(void)
 {
-    static struct picture before, after;
     open_heap(64, GCFLIP_ALONG);
     EXPECT(gcflip_new(&heap, 0, KIND, 2) == GCFLIP_MADE && gcflip_put_number(&heap, 0, 0, 1, 5) == GCFLIP_DONE);
-    for (int is_open = 0; is_open < 2; is_open++) {
-        draw(&before);
-        for (size_t k = 0; k < COUNT(beyond); k++)
-            refused_places(beyond[k]);
-        refused_numbers();
-        draw(&after);
-        EXPECT(memcmp(&before, &after, sizeof before) == 0);
-        if (!is_open)
-            EXPECT(gcflip_heap_step_begin(&heap) == GCFLIP_BEGUN);
-    }
+    expect_unchanged(refused_places, refused_numbers);
     close_heap();
 }
 

@@ -7,10 +7,9 @@ what it skips for lack of a tool.
 """
 import os
 import re
-import shutil
 
-from .c_builds import SANITIZERS, SOURCES, TOP, VALGRIND, WARNINGS, Library, compilers, done, has_valgrind, usable
-from .harness import Outcome, difference, file_of, skip
+from .c_builds import SANITIZERS, SOURCES, TOP, VALGRIND, WARNINGS, Library, compilers, done, has_valgrind, library, usable
+from .harness import Outcome, difference, file_of
 
 BINDINGS = os.path.join(TOP, "bindings", "c")
 HEADERS = ["gcflip_beside.h", "gcflip_thread.h"]
@@ -30,16 +29,8 @@ class Beside(Library):
         return [os.path.join(self.lib, "libgcflip_beside.a")]
 
 
-def library(folder):
-    missing = [tool for tool in ("make", "gcc", "g++", "ar") if not shutil.which(tool)]
-    if missing:
-        skip("the library beside", "no %s" % ", ".join(missing))
-        return None
-    return Beside(folder)
-
-
 def programs(_program, folder):
-    built = library(folder)
+    built = library(folder, Beside)
     if built is None:
         return
     yield "the library is installed", None if built.made.status == 0 else built.made.stderr.decode()
@@ -55,7 +46,7 @@ def programs(_program, folder):
 
 def sanitized(_program, folder):
     """The source of the thread with sanitizers, and both programs by valgrind. The proved archive is not instrumented."""
-    built = library(folder)
+    built = library(folder, Beside)
     if built is None:
         return
     source = os.path.join(BINDINGS, "gcflip_thread.c")
@@ -71,7 +62,7 @@ def sanitized(_program, folder):
 
 def symbols(_program, folder):
     """Each call that a header declares is exported, and no other; and the headers stand alone, in C and in C++."""
-    built = library(folder)
+    built = library(folder, Beside)
     if built is None:
         return
     for header in HEADERS:
@@ -87,7 +78,7 @@ def symbols(_program, folder):
 
 def example(_program, folder):
     """The program of examples/beside ends with the right sum, and collections have flipped."""
-    built = library(folder)
+    built = library(folder, Beside)
     if built is None:
         return
     path = os.path.join(folder, "beside")

@@ -98,13 +98,13 @@ class Library:
         return ["-L" + self.lib, "-Wl,-rpath," + self.lib, "-lgcflip"]
 
 
-def library(folder):
-    """Returns the installed library, or None, with a line that says so, if nothing can be built."""
+def library(folder, kind=Library):
+    """Returns the installed library of this kind, or None, with a line that says so, if nothing can be built."""
     missing = [tool for tool in ("make", "gcc", "g++", "ar") if not shutil.which(tool)]
     if missing:
         skip("the libraries for C", "no %s" % ", ".join(missing))
         return None
-    return Library(folder)
+    return kind(folder)
 
 
 def usable(folder, name, compiler):

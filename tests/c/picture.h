@@ -1,0 +1,39 @@
+/* What a refused call on the heap of one_heap.h leaves alone. The program that includes this has defined PLACES, the number of the heap's roots, MUTATORS, and
+ * `beyond`, numbers that are no places. */
+#ifndef PICTURE_H
+#define PICTURE_H
+
+#include "one_heap.h"
+#include <string.h>
+
+struct picture {
+    uint64_t words[64], roots[PLACES];
+    size_t logged[MUTATORS];
+};
+
+static void draw(struct picture *picture)
+{
+    memset(picture, 0, sizeof *picture);
+    EXPECT(gcflip_heap_counts(&heap, &counts) == GCFLIP_DONE);
+    EXPECT(gcflip_heap_image(&heap, picture->words, counts.end, picture->roots, PLACES) == GCFLIP_DONE);
+    for (uint8_t m = 0; m < MUTATORS; m++)
+        EXPECT(gcflip_heap_log_length(&heap, m, &picture->logged[m]) == GCFLIP_DONE);
+}
+
+/* Makes calls that are refused, those of the first kind for each number beyond the places. They change nothing, whether a collection is open or not. */
+static void expect_unchanged(void (*refused_places)(uint32_t), void (*refused_numbers)(void))
+{
+    static struct picture before, after;
+    for (int is_open = 0; is_open < 2; is_open++) {
+        draw(&before);
+        for (size_t k = 0; k < COUNT(beyond); k++)
+            refused_places(beyond[k]);
+        refused_numbers();
+        draw(&after);
+        EXPECT(memcmp(&before, &after, sizeof before) == 0);
+        if (!is_open)
+            EXPECT(gcflip_heap_step_begin(&heap) == GCFLIP_BEGUN);
+    }
+}
+
+#endif
