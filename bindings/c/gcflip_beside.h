@@ -8,7 +8,8 @@
  *
  * Before its first use a handle has no end, so the program initializes it with GCFLIP_NO_END, or sets its `at` to NULL. gcflip_beside_open gives both
  * handles their ends, and each has a close of its own. Every call returns a number of gcflip_answers.h or of this header: the reply, or the reason why
- * the call was refused. A refused command changes nothing, neither the heap nor its output arguments. gcflip_beside_room alone returns a count.
+ * the call was refused. A refused command changes nothing, neither the heap nor its output arguments. gcflip_beside_room and gcflip_beside_roots return
+ * counts.
  *
  * The promise, proved for the code behind these calls:
  * - each command gets the reply of a heap without a collector, whatever the collector's thread does. Only an allocation may find the heap full;
@@ -51,14 +52,14 @@ enum gcflip_beside_answer {
     GCFLIP_NOT_YET = 13 /* the other end is not so far: call again later */
 };
 
-/* The number of roots. Each is named by its place, 0 to 31. */
+/* The number of roots of each heap, whose places are 0 to 31. The places of the extra roots, if a heap has any, follow from 32 on. */
 #define GCFLIP_BESIDE_ROOTS 32u
 
 /* ---- Opening and closing */
 
-/* Opens an empty heap of `size` words, at least 1, and begins a collection: GCFLIP_DONE, or GCFLIP_OPEN if a handle has an end already. All roots hold
- * nil. GCFLIP_NO_MEMORY if an allocation fails. The new space of each collection has as many words as the heap. */
-uint32_t gcflip_beside_open(gcflip_mutator *mutator, gcflip_collector *collector, uint32_t size);
+/* Opens an empty heap of `size` words, at least 1, with at most 1048576 extra roots, and begins a collection: GCFLIP_DONE, or GCFLIP_OPEN if a handle
+ * has an end already. All roots hold nil. GCFLIP_NO_MEMORY if an allocation fails. The new space of each collection has as many words as the heap. */
+uint32_t gcflip_beside_open(gcflip_mutator *mutator, gcflip_collector *collector, uint32_t size, uint32_t extra_roots);
 
 /* Drops the mutator with its objects: GCFLIP_DONE. The collector's handle can still be used and closed. The last of both closes frees the heap. */
 uint32_t gcflip_beside_close_mutator(gcflip_mutator *mutator);
@@ -69,8 +70,8 @@ uint32_t gcflip_beside_close_collector(gcflip_collector *collector);
 
 /* ---- Commands, by the mutator's thread
  *
- * Each returns GCFLIP_PARKED while the mutator has stopped. A place of 32 or more is out of range. A kind is 0 to 255, and a count 0 to 65535. Fields are
- * counted from 0, and a number is below 2^63. */
+ * Each returns GCFLIP_PARKED while the mutator has stopped. They name roots by their places, extra roots too. A place that no root has is out of range.
+ * A kind is 0 to 255, and a count 0 to 65535. Fields are counted from 0, and a number is below 2^63. */
 
 /* Makes an object with `count` fields, all nil, and puts a reference to it into root d: GCFLIP_MADE or GCFLIP_FULL. The object takes count + 2
  * words. After GCFLIP_FULL, a flip may make room. */
@@ -105,6 +106,9 @@ uint32_t gcflip_beside_look(gcflip_mutator *mutator, uint32_t s, gcflip_view *vi
 
 /* Returns the number of free words, which is 0 while the mutator has stopped, and if the handle has no mutator. */
 uint32_t gcflip_beside_room(const gcflip_mutator *mutator);
+
+/* Returns the number of roots, GCFLIP_BESIDE_ROOTS and the extra ones. It is 0 while the mutator has stopped, and if the handle has no mutator. */
+uint32_t gcflip_beside_roots(const gcflip_mutator *mutator);
 
 /* ---- Safepoints, by the mutator's thread */
 

@@ -292,7 +292,7 @@ static void drops_lock(gcflip_thread *thread)
     pthread_mutex_destroy(&thread->lock);
 }
 
-uint32_t gcflip_thread_open(gcflip_thread **opened, uint32_t size, uint32_t words)
+uint32_t gcflip_thread_open(gcflip_thread **opened, uint32_t size, uint32_t extra_roots, uint32_t words)
 {
     gcflip_thread *thread = calloc(1, sizeof *thread);
     uint32_t answer;
@@ -301,7 +301,7 @@ uint32_t gcflip_thread_open(gcflip_thread **opened, uint32_t size, uint32_t word
     if (thread == NULL) {
         return GCFLIP_NO_MEMORY;
     }
-    answer = gcflip_beside_open(&thread->mutator, &thread->collector, size);
+    answer = gcflip_beside_open(&thread->mutator, &thread->collector, size, extra_roots);
     if (answer == GCFLIP_DONE) {
         thread->words = words;
         thread->room = gcflip_beside_room(&thread->mutator);

@@ -25,9 +25,9 @@ typedef struct gcflip_thread_counts {
     uint64_t longest_wait; /* the longest wait of a safepoint */
 } gcflip_thread_counts;
 
-/* Opens a heap of `size` words, at least 1, and starts its collector's thread: GCFLIP_DONE. A collection is due once `words` words were allocated since
- * the last flip. If an allocation or the start of the thread fails, it returns GCFLIP_NO_MEMORY and writes NULL. */
-uint32_t gcflip_thread_open(gcflip_thread **thread, uint32_t size, uint32_t words);
+/* Opens a heap of `size` words, at least 1, with at most 1048576 extra roots, and starts its collector's thread: GCFLIP_DONE. A collection is due once
+ * `words` words were allocated since the last flip. If an allocation or the start of the thread fails, it returns GCFLIP_NO_MEMORY and writes NULL. */
+uint32_t gcflip_thread_open(gcflip_thread **thread, uint32_t size, uint32_t extra_roots, uint32_t words);
 
 /* Returns the handle for commands. Safepoints are made by gcflip_thread_safepoint alone. */
 gcflip_mutator *gcflip_thread_mutator(gcflip_thread *thread);

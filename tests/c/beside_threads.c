@@ -11,7 +11,7 @@
 #include <string.h>
 #include <time.h>
 
-enum { WORDS = 1 << 13, ROOTS = GCFLIP_BESIDE_ROOTS, MOST_FIELDS = 6 };
+enum { WORDS = 1 << 13, EXTRA = 40, ROOTS = GCFLIP_BESIDE_ROOTS + EXTRA, MOST_FIELDS = 6 };
 
 static uint64_t state;
 
@@ -326,11 +326,11 @@ static uint64_t runs(uint64_t commands)
     made = 0;
     memset(roots, 0, sizeof roots);
     if (schedule->by_source) {
-        EXPECT(gcflip_thread_open(&thread, WORDS, schedule->words) == GCFLIP_DONE);
+        EXPECT(gcflip_thread_open(&thread, WORDS, EXTRA, schedule->words) == GCFLIP_DONE);
     } else {
         is_over = false;
         loop_flips = 0;
-        EXPECT(gcflip_beside_open(&own, &collector, WORDS) == GCFLIP_DONE);
+        EXPECT(gcflip_beside_open(&own, &collector, WORDS, EXTRA) == GCFLIP_DONE);
         EXPECT(pthread_create(&other, NULL, loop, NULL) == 0);
     }
     for (uint64_t k = 0; k < commands; k++) {

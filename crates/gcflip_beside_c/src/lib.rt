@@ -9,7 +9,6 @@ mod guards;
 mod handle;
 mod opening;
 mod reply;
-mod roots;
 mod stops;
 
 pub use collecting::{
@@ -18,8 +17,8 @@ pub use collecting::{
 };
 pub use commands::{
     gcflip_beside_copy, gcflip_beside_get, gcflip_beside_look, gcflip_beside_new,
-    gcflip_beside_new_raw, gcflip_beside_put, gcflip_beside_room, gcflip_beside_same,
-    gcflip_beside_set_nil, gcflip_beside_set_number,
+    gcflip_beside_new_raw, gcflip_beside_put, gcflip_beside_room, gcflip_beside_roots,
+    gcflip_beside_same, gcflip_beside_set_nil, gcflip_beside_set_number,
 };
 pub use handle::GcflipEnd;
 pub use opening::{gcflip_beside_close_collector, gcflip_beside_close_mutator, gcflip_beside_open};
