@@ -120,9 +120,10 @@ uint32_t gcflip_beside_resume(gcflip_mutator *mutator);
 
 /* ---- The collector, by the collector's thread
  *
- * The next collection begins at each flip. It rests until a flip finds a root's object without a replica. Until then nothing is copied, and no
- * write is logged. Its steps bring replicas up to date with the originals, beside the mutator or while the collector holds it. To flip, the
- * collector asks the mutator to stop, takes it, and lets it go on in the new space. */
+ * The next collection begins at each flip. It rests until the collector takes the mutator, and copies the objects of its roots. Until then nothing is
+ * copied, and no write is logged. Its steps copy what these reach, and bring replicas up to date with the originals, beside the mutator or while
+ * the collector holds it. To flip, the collector takes the mutator again, copies the objects of roots that were written meanwhile, performs the
+ * steps that are left, and lets the mutator go on in the new space. */
 
 /* Performs `most` steps, at least 1: GCFLIP_DONE, or GCFLIP_CLEAN once nothing is left to do. GCFLIP_NO_ROOM never comes, because the new space is as
  * large as the heap. */
@@ -139,13 +140,19 @@ uint32_t gcflip_beside_take(gcflip_collector *collector);
 /* Asks no longer, and lets a mutator that has stopped go on in the same space: GCFLIP_DONE. The collection stays open, and no work is lost. */
 uint32_t gcflip_beside_go(gcflip_collector *collector);
 
-/* Flips if the collection is ready: GCFLIP_FLIPPED. The mutator may then go on in the new space. GCFLIP_NOT_READY if steps are left; a root's object
- * without a replica gets one by the next steps. GCFLIP_NOT_YET if the collector does not hold the mutator. The checker goes through both spaces whole,
- * while the mutator waits. After GCFLIP_NO_MEMORY the collector still holds the mutator, whose heap is unchanged. */
+/* Copies the object of each root that has no replica, while the mutator waits: GCFLIP_DONE. Its fields are left to steps, also beside the mutator, but
+ * those of raw objects are copied too. GCFLIP_NOT_YET if the collector does not hold the mutator. The call does not allocate. Its time grows with
+ * the number of roots, and with the fields of raw objects to which they refer. */
+uint32_t gcflip_beside_place_roots(gcflip_collector *collector);
+
+/* Flips if the collection is ready: GCFLIP_FLIPPED. The mutator may then go on in the new space. GCFLIP_NOT_READY if steps are left, or if a root's
+ * object has no replica. GCFLIP_NOT_YET if the collector does not hold the mutator. The checker goes through both spaces whole, while the mutator
+ * waits. After GCFLIP_NOT_READY and GCFLIP_NO_MEMORY nothing has changed. */
 uint32_t gcflip_beside_flip(gcflip_collector *collector);
 
-/* Performs all steps that are left, and flips, while the mutator waits: GCFLIP_FLIPPED. GCFLIP_NOT_YET if the collector does not hold the mutator. After
- * GCFLIP_NO_MEMORY some steps may have been performed. The collector still holds the mutator, whose heap is unchanged. */
+/* Copies the objects of roots, performs all steps that are left, and flips, while the mutator waits: GCFLIP_FLIPPED. GCFLIP_NOT_YET if the collector
+ * does not hold the mutator. After GCFLIP_NO_MEMORY some steps may have been performed. The collector still holds the mutator, whose heap is
+ * unchanged. */
 uint32_t gcflip_beside_finish(gcflip_collector *collector);
 
 #ifdef __cplusplus

@@ -99,33 +99,26 @@ static bool stops(gcflip_thread *thread)
     return !closing;
 }
 
-/* Takes the mutator, brings the replicas up to date, and flips, in a bounded number of steps. Returns the answer of the last call. */
+/* Takes the mutator and copies the objects of its roots. Flips if few steps are left. Returns the answer of the flip, or GCFLIP_NOT_READY. */
 static uint32_t flips_held(gcflip_thread *thread)
 {
-    uint32_t steps = 0;
-
-    if (gcflip_beside_take(&thread->collector) != GCFLIP_DONE) {
+    if (gcflip_beside_take(&thread->collector) != GCFLIP_DONE || gcflip_beside_place_roots(&thread->collector) != GCFLIP_DONE) {
         return GCFLIP_NOT_READY;
     }
-    while (steps < STEPS_HELD) {
-        uint32_t answer = gcflip_beside_work(&thread->collector, STEPS_HELD / 16);
-
-        steps += STEPS_HELD / 16;
-        if (answer == GCFLIP_CLEAN) {
-            answer = gcflip_beside_flip(&thread->collector);
-        }
-        if (answer != GCFLIP_DONE && answer != GCFLIP_NOT_READY) {
-            return answer;
-        }
+    if (gcflip_beside_work(&thread->collector, STEPS_HELD) != GCFLIP_CLEAN) {
+        return GCFLIP_NOT_READY;
     }
-    return GCFLIP_NOT_READY;
+    return gcflip_beside_flip(&thread->collector);
 }
 
-/* Tells the mutator that it may go on, and counts a collection that has ended. */
-static void lets_go(gcflip_thread *thread, uint32_t answer)
+/* Tells the mutator that it may go on, and counts a collection that has ended after so many stops. */
+static void lets_go(gcflip_thread *thread, uint32_t answer, uint32_t stops)
 {
     pthread_mutex_lock(&thread->lock);
     thread->counts.flips += answer == GCFLIP_FLIPPED;
+    if (answer == GCFLIP_FLIPPED && stops > thread->counts.most_stops) {
+        thread->counts.most_stops = stops;
+    }
     thread->counts.failed += answer == GCFLIP_NO_MEMORY;
     thread->is_let_go = true;
     pthread_cond_signal(&thread->let_go);
@@ -148,7 +141,7 @@ static void collects(gcflip_thread *thread)
         if (answer != GCFLIP_FLIPPED) {
             gcflip_beside_go(&thread->collector);
         }
-        lets_go(thread, answer);
+        lets_go(thread, answer, k);
     }
 }
 

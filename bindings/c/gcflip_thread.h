@@ -21,6 +21,7 @@ typedef struct gcflip_thread_counts {
     uint64_t flips;        /* the flips that were made */
     uint64_t failed;       /* the flips for which memory ran out */
     uint64_t stops;        /* the safepoints at which the mutator stopped */
+    uint64_t most_stops;   /* the stops of the flip that took most */
     uint64_t waited;       /* the time that the mutator waited at safepoints, together */
     uint64_t longest_wait; /* the longest wait of a safepoint */
 } gcflip_thread_counts;

@@ -64,12 +64,12 @@ static void collect(void)
     EXPECT(gcflip_beside_resume(&mutator) == GCFLIP_DONE);
 }
 
-/* The collector wants the object in root 0, so that it copies from now on, and lets the mutator go on. No write was logged before, so nothing is due. */
+/* The collector copies the objects of the roots, and lets the mutator go on. No write was logged before, so nothing was due. */
 static void begin_to_copy(void)
 {
     take();
     EXPECT(gcflip_beside_work(&collector, 1) == GCFLIP_CLEAN);
-    EXPECT(gcflip_beside_flip(&collector) == GCFLIP_NOT_READY);
+    EXPECT(gcflip_beside_place_roots(&collector) == GCFLIP_DONE);
     EXPECT(gcflip_beside_go(&collector) == GCFLIP_DONE);
     EXPECT(gcflip_beside_resume(&mutator) == GCFLIP_DONE);
 }
@@ -106,6 +106,7 @@ static void closed_handles(void)
     EXPECT(gcflip_beside_ask(&collector) == GCFLIP_CLOSED);
     EXPECT(gcflip_beside_take(&collector) == GCFLIP_CLOSED);
     EXPECT(gcflip_beside_go(&collector) == GCFLIP_CLOSED);
+    EXPECT(gcflip_beside_place_roots(&collector) == GCFLIP_CLOSED);
     EXPECT(gcflip_beside_flip(&collector) == GCFLIP_CLOSED);
     EXPECT(gcflip_beside_finish(&collector) == GCFLIP_CLOSED);
     EXPECT(gcflip_beside_close_collector(&collector) == GCFLIP_CLOSED);
@@ -312,12 +313,14 @@ static void handshakes(void)
     EXPECT(gcflip_beside_safepoint(&mutator) == GCFLIP_DONE);
     EXPECT(gcflip_beside_resume(&mutator) == GCFLIP_DONE);
     EXPECT(gcflip_beside_take(&collector) == GCFLIP_NOT_YET);
+    EXPECT(gcflip_beside_place_roots(&collector) == GCFLIP_NOT_YET);
     EXPECT(gcflip_beside_flip(&collector) == GCFLIP_NOT_YET);
     EXPECT(gcflip_beside_finish(&collector) == GCFLIP_NOT_YET);
     EXPECT(gcflip_beside_go(&collector) == GCFLIP_DONE);
     EXPECT(gcflip_beside_ask(&collector) == GCFLIP_DONE);
     EXPECT(gcflip_beside_ask(&collector) == GCFLIP_DONE);
     EXPECT(gcflip_beside_take(&collector) == GCFLIP_NOT_YET);
+    EXPECT(gcflip_beside_place_roots(&collector) == GCFLIP_NOT_YET);
     EXPECT(gcflip_beside_flip(&collector) == GCFLIP_NOT_YET);
     EXPECT(gcflip_beside_finish(&collector) == GCFLIP_NOT_YET);
     expect_one();
@@ -347,7 +350,13 @@ static void flips(void)
     EXPECT(gcflip_beside_set_nil(&mutator, 3) == GCFLIP_DONE);
     EXPECT(gcflip_beside_room(&mutator) == WORDS - 1 - 4 - 12);
     take();
+    /* the object in root 0 has no replica, and no step gives it one */
     EXPECT(gcflip_beside_flip(&collector) == GCFLIP_NOT_READY);
+    EXPECT(gcflip_beside_work(&collector, 1) == GCFLIP_CLEAN);
+    EXPECT(gcflip_beside_flip(&collector) == GCFLIP_NOT_READY);
+    fail_allocation(1);
+    EXPECT(gcflip_beside_place_roots(&collector) == GCFLIP_DONE && gcflip_beside_place_roots(&collector) == GCFLIP_DONE && !has_failed());
+    fail_allocation(0);
     while ((answer = gcflip_beside_flip(&collector)) == GCFLIP_NOT_READY) {
         EXPECT(gcflip_beside_work(&collector, 1) == GCFLIP_DONE && steps++ < WORDS);
     }
@@ -359,6 +368,28 @@ static void flips(void)
     expect_one();
     collect();
     expect_one();
+    close_both();
+}
+
+/* The fields of a raw object that a root refers to are copied with it, so that one step is left, which goes over them. */
+static void raw_roots(void)
+{
+    open_both(WORDS);
+    for (uint32_t d = 0; d < 3; d++) {
+        EXPECT(gcflip_beside_new_raw(&mutator, d, 1, 3) == GCFLIP_MADE);
+        EXPECT(gcflip_beside_set_number(&mutator, 9, 70 + d) == GCFLIP_DONE);
+        EXPECT(gcflip_beside_put(&mutator, d, 2, 9) == GCFLIP_DONE);
+    }
+    take();
+    EXPECT(gcflip_beside_place_roots(&collector) == GCFLIP_DONE);
+    EXPECT(gcflip_beside_work(&collector, 3) == GCFLIP_DONE);
+    EXPECT(gcflip_beside_work(&collector, 1) == GCFLIP_CLEAN);
+    EXPECT(gcflip_beside_flip(&collector) == GCFLIP_FLIPPED);
+    EXPECT(gcflip_beside_resume(&mutator) == GCFLIP_DONE);
+    for (uint32_t d = 0; d < 3; d++) {
+        EXPECT(gcflip_beside_get(&mutator, 9, d, 0, &number) == GCFLIP_NUMBER && number == 0);
+        EXPECT(gcflip_beside_get(&mutator, 9, d, 2, &number) == GCFLIP_NUMBER && number == 70 + d);
+    }
     close_both();
 }
 
@@ -385,7 +416,7 @@ static void copies_beside(void)
     close_both();
 }
 
-/* Leads both ends to a stage: 0 beside each other, 1 asked, 2 stopped, 3 held, 4 let go. */
+/* Leads both ends to a stage: 0 beside each other, 1 asked, 2 stopped, 3 held, 4 held with the object in root 0 copied, 5 let go. */
 static void lead_to(int stage)
 {
     open_both(WORDS);
@@ -397,13 +428,15 @@ static void lead_to(int stage)
     if (stage >= 3)
         EXPECT(gcflip_beside_take(&collector) == GCFLIP_DONE);
     if (stage >= 4)
+        EXPECT(gcflip_beside_place_roots(&collector) == GCFLIP_DONE);
+    if (stage >= 5)
         EXPECT(gcflip_beside_finish(&collector) == GCFLIP_FLIPPED);
 }
 
 /* A close in each order at each stage. After the collector's, the mutator has its objects and is never asked again. */
 static void closes(void)
 {
-    for (int stage = 0; stage <= 4; stage++) {
+    for (int stage = 0; stage <= 5; stage++) {
         lead_to(stage);
         close_both();
         lead_to(stage);
@@ -496,8 +529,10 @@ static void refused_flip(uint32_t (*call)(gcflip_collector *))
         uint32_t answer;
 
         fail_allocation(n);
-        while ((answer = call(&collector)) == GCFLIP_NOT_READY)
+        while ((answer = call(&collector)) == GCFLIP_NOT_READY) {
+            EXPECT(gcflip_beside_place_roots(&collector) == GCFLIP_DONE);
             EXPECT(gcflip_beside_work(&collector, MANY) == GCFLIP_CLEAN);
+        }
         if (answer == GCFLIP_FLIPPED) {
             EXPECT(!has_failed() && n > 4);
             break;
@@ -529,6 +564,7 @@ int main(void)
     many_extra_roots();
     handshakes();
     flips();
+    raw_roots();
     copies_beside();
     closes();
     refused_open();

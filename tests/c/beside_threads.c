@@ -199,8 +199,11 @@ static void held(void)
     sleeps(schedule->sleep_held);
     if (schedule->finishes)
         answer = gcflip_beside_finish(&collector);
-    else if (gcflip_beside_work(&collector, 512) == GCFLIP_CLEAN)
-        answer = gcflip_beside_flip(&collector);
+    else {
+        EXPECT(gcflip_beside_place_roots(&collector) == GCFLIP_DONE);
+        if (gcflip_beside_work(&collector, 512) == GCFLIP_CLEAN)
+            answer = gcflip_beside_flip(&collector);
+    }
     EXPECT(answer == GCFLIP_NOT_READY || answer == GCFLIP_FLIPPED);
     if (answer == GCFLIP_NOT_READY)
         EXPECT(gcflip_beside_go(&collector) == GCFLIP_DONE);

@@ -1,6 +1,6 @@
 -- A collector asks no longer, or puts back the mutator as it took it.
-use Rattle.std.proofs.Common.{refl, ap, sym, ◌∙◌, inl}
-use Rattle.gc_concurrent.specs.Internal.Handshakes.{HandshakeSat, took_it}
+use Rattle.std.proofs.Common.{refl, ◌∙◌, inl}
+use Rattle.gc_concurrent.specs.Internal.Handshakes.{took_it}
 use Rattle.gc_concurrent.proofs.Passing.{handshake_tied, handshake_word, withdraws_at, taken_alone, goes_at}
 use Rattle.gc_concurrent.proofs.handshake.Asking.withdraw.Goals as goal
 
