@@ -11,22 +11,26 @@
 #include <stdlib.h>
 #include <time.h>
 
-/* The steps between two looks at whether the heap is being closed. */
-#define STEPS_BESIDE 4096u
+/* The steps between two looks at whether the heap is being closed. After them a mutator that waits learns how far the collector is. */
+#define STEPS_BESIDE 1024u
 
-/* The steps that the collector performs at most while it holds the mutator, before it lets it go on in the same space. */
+/* The steps that the collector performs at most while it holds the mutator, before it lets it go on in the same space: so many, and one for each 16 words of the
+ * heap. The check of a flip goes through all words, and takes longer. */
 #define STEPS_HELD 2048u
+#define WORDS_EACH_STEP_HELD 16u
 
 /* The stops of one collection after which the collector performs all steps that are left, so that each collection ends. */
 #define MOST_STOPS 64u
 
 struct gcflip_thread {
+    uint32_t size, factor, least; /* as the heap was opened */
+
     /* the mutator's thread alone */
     gcflip_mutator mutator;
-    uint32_t words;      /* a collection is due after so many words */
-    uint32_t room;       /* the free words after the last flip */
-    bool has_called;     /* the collector was woken since then */
-    uint64_t seen_flips; /* the flips that the mutator has seen */
+    uint32_t floor;      /* a safepoint that finds fewer free words calls the collector, or lets it catch up */
+    bool has_called;     /* a collection is under way */
+    uint32_t begun;      /* the free words when it was called for */
+    uint64_t seen_ends;  /* the ends of collections that the mutator has seen */
 
     /* the collector's thread alone */
     gcflip_collector collector;
@@ -41,7 +45,9 @@ struct gcflip_thread {
     bool is_asked;
     bool is_parked;
     bool is_let_go;
+    bool is_waiting; /* the mutator waits for steps */
     bool is_closing;
+    uint64_t steps;  /* those beside the mutator, of the collection that is under way */
     gcflip_thread_counts counts;
 };
 
@@ -55,25 +61,23 @@ static uint64_t now(void)
 
 /* ---- The collector's thread */
 
-static bool is_closing(gcflip_thread *thread)
-{
-    bool closing;
-
-    pthread_mutex_lock(&thread->lock);
-    closing = thread->is_closing;
-    pthread_mutex_unlock(&thread->lock);
-    return closing;
-}
-
 /* Performs steps beside the mutator until none is left. Returns false if the heap is being closed. */
 static bool works_beside(gcflip_thread *thread)
 {
-    while (gcflip_beside_work(&thread->collector, STEPS_BESIDE) == GCFLIP_DONE) {
-        if (is_closing(thread)) {
-            return false;
+    uint32_t answer = GCFLIP_DONE;
+    bool is_closing = false;
+
+    while (answer == GCFLIP_DONE && !is_closing) {
+        answer = gcflip_beside_work(&thread->collector, STEPS_BESIDE);
+        pthread_mutex_lock(&thread->lock);
+        thread->steps += answer == GCFLIP_DONE ? STEPS_BESIDE : 0;
+        if (thread->is_waiting) {
+            pthread_cond_signal(&thread->let_go);
         }
+        is_closing = thread->is_closing;
+        pthread_mutex_unlock(&thread->lock);
     }
-    return true;
+    return !is_closing;
 }
 
 /* Asks the mutator to stop, and sleeps until it has. Returns false if the heap is being closed. */
@@ -105,7 +109,7 @@ static uint32_t flips_held(gcflip_thread *thread)
     if (gcflip_beside_take(&thread->collector) != GCFLIP_DONE || gcflip_beside_place_roots(&thread->collector) != GCFLIP_DONE) {
         return GCFLIP_NOT_READY;
     }
-    if (gcflip_beside_work(&thread->collector, STEPS_HELD) != GCFLIP_CLEAN) {
+    if (gcflip_beside_work(&thread->collector, STEPS_HELD + thread->size / WORDS_EACH_STEP_HELD) != GCFLIP_CLEAN) {
         return GCFLIP_NOT_READY;
     }
     return gcflip_beside_flip(&thread->collector);
@@ -167,26 +171,77 @@ static void *run(void *argument)
 
 /* ---- The mutator's thread */
 
-static void calls(gcflip_thread *thread)
+static uint32_t room(gcflip_thread *thread)
 {
-    pthread_mutex_lock(&thread->lock);
-    thread->due = true;
-    pthread_cond_signal(&thread->called);
-    pthread_mutex_unlock(&thread->lock);
-    thread->has_called = true;
+    return gcflip_beside_room(&thread->mutator);
 }
 
-/* Notes the room after a flip. The caller has the lock. */
-static void sees_flips(gcflip_thread *thread)
+/* The words in use at which a collection begins, after one that left so many: gcflip_pace_due has the same policy. */
+static uint32_t beginning(const gcflip_thread *thread, uint32_t left)
 {
-    if (thread->seen_flips != thread->counts.flips + thread->counts.failed) {
-        thread->seen_flips = thread->counts.flips + thread->counts.failed;
-        thread->room = gcflip_beside_room(&thread->mutator);
-        thread->has_called = false;
+    uint64_t grown = (uint64_t)thread->factor * left / 100, halfway = ((uint64_t)left + thread->size) / 2;
+
+    if (grown < thread->least) {
+        grown = thread->least;
+    }
+    return (uint32_t)(grown < halfway ? grown : halfway);
+}
+
+/* No collection is under way. The next one begins where its beginning is reached. */
+static void rests(gcflip_thread *thread)
+{
+    thread->has_called = false;
+    thread->floor = thread->size - beginning(thread, thread->size - room(thread)) + 1;
+}
+
+/* The room below which the mutator waits: all of what there was but an eighth before the first step, and an eighth of it after as many steps as words were in
+ * use. A collection seldom takes more steps. The caller has the lock. */
+static uint32_t floor_after(const gcflip_thread *thread, uint64_t steps)
+{
+    uint64_t spare = thread->begun / 8, shared = thread->begun - 2 * spare, in_use = thread->size - thread->begun;
+
+    return (uint32_t)(spare + (steps < in_use ? shared - shared * steps / in_use : 0));
+}
+
+/* Wakes the collector for a collection, unless one is under way. */
+static void calls(gcflip_thread *thread)
+{
+    if (thread->has_called) {
+        return;
+    }
+    thread->has_called = true;
+    thread->begun = room(thread);
+    pthread_mutex_lock(&thread->lock);
+    thread->due = true;
+    thread->steps = 0;
+    thread->floor = floor_after(thread, 0);
+    pthread_cond_signal(&thread->called);
+    pthread_mutex_unlock(&thread->lock);
+}
+
+static uint64_t ends(const gcflip_thread *thread)
+{
+    return thread->counts.flips + thread->counts.failed;
+}
+
+/* Notes that a collection has ended, if it has. The caller has the lock. */
+static void sees_ends(gcflip_thread *thread)
+{
+    if (thread->seen_ends != ends(thread)) {
+        thread->seen_ends = ends(thread);
+        rests(thread);
     }
 }
 
-/* Sleeps until the mutator may go on. */
+/* Remembers the longest wait of a safepoint. The caller has the lock. */
+static void keeps_longest(gcflip_thread *thread, uint64_t waited)
+{
+    if (waited > thread->counts.longest_wait) {
+        thread->counts.longest_wait = waited;
+    }
+}
+
+/* Sleeps until the mutator, which has stopped, may go on. */
 static void waits(gcflip_thread *thread)
 {
     uint64_t begun = now(), waited;
@@ -200,13 +255,66 @@ static void waits(gcflip_thread *thread)
     }
     thread->is_parked = false;
     pthread_cond_signal(&thread->called);
-    sees_flips(thread);
+    sees_ends(thread);
     waited = now() - begun;
     thread->counts.stops++;
     thread->counts.waited += waited;
-    if (waited > thread->counts.longest_wait) {
-        thread->counts.longest_wait = waited;
+    keeps_longest(thread, waited);
+    pthread_mutex_unlock(&thread->lock);
+}
+
+/* Sleeps until `is_over`, which is asked with the lock. Stops meanwhile whenever the collector asks for it. */
+static void stands_by(gcflip_thread *thread, bool (*is_over)(const gcflip_thread *thread, uint64_t argument), uint64_t argument)
+{
+    for (;;) {
+        bool over;
+
+        pthread_mutex_lock(&thread->lock);
+        while (!(over = is_over(thread, argument)) && !thread->is_asked) {
+            pthread_cond_wait(&thread->let_go, &thread->lock);
+        }
+        pthread_mutex_unlock(&thread->lock);
+        if (over) {
+            return;
+        }
+        if (gcflip_beside_safepoint(&thread->mutator) == GCFLIP_PARKED) {
+            waits(thread);
+        }
     }
+}
+
+/* The collector is far enough, with some room to spare so that a wait pays, or the collection has ended. */
+static bool has_caught_up(const gcflip_thread *thread, uint64_t free_words)
+{
+    return !thread->has_called || free_words >= (uint64_t)floor_after(thread, thread->steps) + thread->begun / 32;
+}
+
+/* The mutator has less room than the collector's steps let it have: lets the collector catch up. */
+static void falls_back(gcflip_thread *thread)
+{
+    uint64_t begun, before, free_words = room(thread);
+    bool is_ahead;
+
+    pthread_mutex_lock(&thread->lock);
+    thread->floor = floor_after(thread, thread->steps);
+    is_ahead = free_words < thread->floor;
+    thread->is_waiting = is_ahead;
+    before = thread->counts.waited;
+    pthread_mutex_unlock(&thread->lock);
+    if (!is_ahead) {
+        return;
+    }
+    begun = now();
+    stands_by(thread, has_caught_up, free_words);
+    begun = now() - begun;
+    pthread_mutex_lock(&thread->lock);
+    thread->is_waiting = false;
+    if (thread->has_called) {
+        thread->floor = floor_after(thread, thread->steps);
+    }
+    thread->counts.throttled++;
+    thread->counts.waited = before + begun;
+    keeps_longest(thread, begun);
     pthread_mutex_unlock(&thread->lock);
 }
 
@@ -215,36 +323,32 @@ uint32_t gcflip_thread_safepoint(gcflip_thread *thread)
     if (gcflip_beside_safepoint(&thread->mutator) == GCFLIP_PARKED) {
         waits(thread);
     }
-    if (!thread->has_called && thread->room - gcflip_beside_room(&thread->mutator) >= thread->words) {
+    if (room(thread) < thread->floor) {
         calls(thread);
+        falls_back(thread);
     }
     return GCFLIP_DONE;
 }
 
+static bool has_ended(const gcflip_thread *thread, uint64_t so_far)
+{
+    return ends(thread) != so_far;
+}
+
 uint32_t gcflip_thread_collect(gcflip_thread *thread)
 {
-    uint64_t flips, failed;
-    bool has_ended = false, has_flipped = false;
+    uint64_t so_far, flips;
+    bool has_flipped;
 
     pthread_mutex_lock(&thread->lock);
+    so_far = ends(thread);
     flips = thread->counts.flips;
-    failed = thread->counts.failed;
     pthread_mutex_unlock(&thread->lock);
     calls(thread);
-    while (!has_ended) {
-        pthread_mutex_lock(&thread->lock);
-        while (!thread->is_asked && thread->counts.flips == flips && thread->counts.failed == failed) {
-            pthread_cond_wait(&thread->let_go, &thread->lock);
-        }
-        pthread_mutex_unlock(&thread->lock);
-        if (gcflip_beside_safepoint(&thread->mutator) == GCFLIP_PARKED) {
-            waits(thread);
-        }
-        pthread_mutex_lock(&thread->lock);
-        has_flipped = thread->counts.flips != flips;
-        has_ended = has_flipped || thread->counts.failed != failed;
-        pthread_mutex_unlock(&thread->lock);
-    }
+    stands_by(thread, has_ended, so_far);
+    pthread_mutex_lock(&thread->lock);
+    has_flipped = thread->counts.flips != flips;
+    pthread_mutex_unlock(&thread->lock);
     return has_flipped ? GCFLIP_FLIPPED : GCFLIP_NO_MEMORY;
 }
 
@@ -285,19 +389,25 @@ static void drops_lock(gcflip_thread *thread)
     pthread_mutex_destroy(&thread->lock);
 }
 
-uint32_t gcflip_thread_open(gcflip_thread **opened, uint32_t size, uint32_t extra_roots, uint32_t words)
+uint32_t gcflip_thread_open(gcflip_thread **opened, uint32_t size, uint32_t extra_roots, const gcflip_pace *pace)
 {
-    gcflip_thread *thread = calloc(1, sizeof *thread);
+    gcflip_thread *thread;
     uint32_t answer;
 
     *opened = NULL;
+    if (pace->factor < 100 || pace->factor > 10000) {
+        return GCFLIP_OUT_OF_RANGE;
+    }
+    thread = calloc(1, sizeof *thread);
     if (thread == NULL) {
         return GCFLIP_NO_MEMORY;
     }
     answer = gcflip_beside_open(&thread->mutator, &thread->collector, size, extra_roots);
     if (answer == GCFLIP_DONE) {
-        thread->words = words;
-        thread->room = gcflip_beside_room(&thread->mutator);
+        thread->size = size;
+        thread->factor = pace->factor;
+        thread->least = pace->least;
+        rests(thread);
         if (makes_lock(thread)) {
             if (pthread_create(&thread->thread, NULL, run, thread) == 0) {
                 *opened = thread;

@@ -49,11 +49,17 @@ static void expect_object(void)
 static void opening(void)
 {
     gcflip_thread *opened = thread;
+    gcflip_pace pace = gcflip_pace_default();
 
-    EXPECT(gcflip_thread_open(&opened, 0, 0, 1) == GCFLIP_OUT_OF_RANGE && opened == NULL);
-    EXPECT(gcflip_thread_open(&opened, WORDS, 1048577, 1) == GCFLIP_OUT_OF_RANGE && opened == NULL);
+    EXPECT(gcflip_thread_open(&opened, 0, 0, &pace) == GCFLIP_OUT_OF_RANGE && opened == NULL);
+    EXPECT(gcflip_thread_open(&opened, WORDS, 1048577, &pace) == GCFLIP_OUT_OF_RANGE && opened == NULL);
+    pace.factor = 99;
+    EXPECT(gcflip_thread_open(&opened, WORDS, 0, &pace) == GCFLIP_OUT_OF_RANGE && opened == NULL);
+    pace.factor = 10001;
+    EXPECT(gcflip_thread_open(&opened, WORDS, 0, &pace) == GCFLIP_OUT_OF_RANGE && opened == NULL);
+    pace.factor = 100;
     refuses = true;
-    EXPECT(gcflip_thread_open(&opened, WORDS, EXTRA, 1) == GCFLIP_NO_MEMORY && opened == NULL);
+    EXPECT(gcflip_thread_open(&opened, WORDS, EXTRA, &pace) == GCFLIP_NO_MEMORY && opened == NULL);
     refuses = false;
     EXPECT(blocks == 0);
 }
@@ -62,9 +68,10 @@ int main(void)
 {
     gcflip_thread_counts counts;
     gcflip_mutator *mutator;
+    gcflip_pace pace = gcflip_pace_default();
 
     opening();
-    EXPECT(gcflip_thread_open(&thread, WORDS, EXTRA, WORDS) == GCFLIP_DONE);
+    EXPECT(gcflip_thread_open(&thread, WORDS, EXTRA, &pace) == GCFLIP_DONE);
     mutator = gcflip_thread_mutator(thread);
     EXPECT(gcflip_beside_new(mutator, LAST, 1, 2) == GCFLIP_MADE);
     EXPECT(gcflip_beside_set_number(mutator, 1, 7) == GCFLIP_DONE);

@@ -4,7 +4,7 @@
 #include "gcflip_thread.h"
 #include <stdbool.h>
 
-enum { WORDS = 1 << 18, LISTED = 4000, MOST_EXTRA = 1000, NUMBER = 0, LIST = 1, FIRST = 2 };
+enum { WORDS = 1 << 18, LISTED = 20000, MOST_EXTRA = 1000, NUMBER = 0, LIST = 1, FIRST = 2 };
 
 static gcflip_thread *thread;
 static gcflip_mutator *mutator;
@@ -37,8 +37,9 @@ static void few_stops(uint32_t extra_roots, bool raw)
 {
     uint32_t roots = GCFLIP_BESIDE_ROOTS + extra_roots;
     gcflip_thread_counts counts;
+    gcflip_pace pace = gcflip_pace_default();
 
-    EXPECT(gcflip_thread_open(&thread, WORDS, extra_roots, WORDS) == GCFLIP_DONE);
+    EXPECT(gcflip_thread_open(&thread, WORDS, extra_roots, &pace) == GCFLIP_DONE);
     mutator = gcflip_thread_mutator(thread);
     EXPECT(gcflip_beside_roots(mutator) == roots);
     make_objects(roots, raw);
@@ -56,8 +57,9 @@ static void few_stops(uint32_t extra_roots, bool raw)
 static void one_stop(void)
 {
     gcflip_thread_counts counts;
+    gcflip_pace pace = gcflip_pace_default();
 
-    EXPECT(gcflip_thread_open(&thread, WORDS, MOST_EXTRA, WORDS) == GCFLIP_DONE);
+    EXPECT(gcflip_thread_open(&thread, WORDS, MOST_EXTRA, &pace) == GCFLIP_DONE);
     mutator = gcflip_thread_mutator(thread);
     EXPECT(gcflip_beside_new(mutator, GCFLIP_BESIDE_ROOTS + MOST_EXTRA - 1, 1, 2) == GCFLIP_MADE);
     EXPECT(gcflip_thread_collect(thread) == GCFLIP_FLIPPED);
