@@ -1,7 +1,7 @@
 /* A collector's thread for a heap of gcflip_beside.h. This file is not proved, unlike the calls that it makes. Tests run it.
  *
  * Each handle is used by its own thread alone. The lock guards the words in between: what is due, whether the mutator has stopped, and what was
- * done. The thread sleeps on `called` while nothing is due, and a mutator that has stopped sleeps on `let_go`. Nothing spins. */
+ * done. The thread sleeps on `called` while nothing is due, and a mutator that has stopped or waits for steps sleeps on `let_go`. Nothing spins. */
 #define _POSIX_C_SOURCE 200809L
 
 #include "gcflip_thread.h"
@@ -14,8 +14,8 @@
 /* The steps between two looks at whether the heap is being closed. After them a mutator that waits learns how far the collector is. */
 #define STEPS_BESIDE 1024u
 
-/* The steps that the collector performs at most while it holds the mutator, before it lets it go on in the same space: so many, and one for each 16 words of the
- * heap. The check of a flip goes through all words, and takes longer. */
+/* The steps that the collector performs at most while it holds the mutator, before it lets it go on in the same space: so many, and one for each 16 words
+ * of the heap. The check of a flip goes through all words, and takes longer. */
 #define STEPS_HELD 2048u
 #define WORDS_EACH_STEP_HELD 16u
 
@@ -27,10 +27,10 @@ struct gcflip_thread {
 
     /* the mutator's thread alone */
     gcflip_mutator mutator;
-    uint32_t floor;      /* a safepoint that finds fewer free words calls the collector, or lets it catch up */
-    bool has_called;     /* a collection is under way */
-    uint32_t begun;      /* the free words when it was called for */
-    uint64_t seen_ends;  /* the ends of collections that the mutator has seen */
+    uint32_t floor;     /* a safepoint that finds fewer free words calls the collector, or lets it catch up */
+    bool has_called;    /* a collection is under way */
+    uint32_t begun;     /* the free words when it was called for */
+    uint64_t seen_ends; /* the ends of collections that the mutator has seen */
 
     /* the collector's thread alone */
     gcflip_collector collector;
@@ -38,16 +38,16 @@ struct gcflip_thread {
     pthread_t thread;
     pthread_mutex_t lock;
     pthread_cond_t called; /* for the collector: something is due, the mutator has stopped or gone on, or the heap is being closed */
-    pthread_cond_t let_go; /* for the mutator: it may go on, is asked to stop, or a collection has ended */
+    pthread_cond_t let_go; /* for the mutator: it may go on, is asked to stop, or the collector has got on */
 
     /* under the lock */
     bool due;
     bool is_asked;
     bool is_parked;
     bool is_let_go;
-    bool is_waiting; /* the mutator waits for steps */
+    bool is_waiting; /* the mutator waits for the collector's steps */
     bool is_closing;
-    uint64_t steps;  /* those beside the mutator, of the collection that is under way */
+    uint64_t steps; /* those beside the mutator, of the collection that is under way */
     gcflip_thread_counts counts;
 };
 
@@ -194,8 +194,8 @@ static void rests(gcflip_thread *thread)
     thread->floor = thread->size - beginning(thread, thread->size - room(thread)) + 1;
 }
 
-/* The room below which the mutator waits: all of what there was but an eighth before the first step, and an eighth of it after as many steps as words were in
- * use. A collection seldom takes more steps. The caller has the lock. */
+/* The room below which the mutator waits: seven eighths of what there was before the first step, and one eighth after as many steps as words were in use.
+ * Few collections take more steps. */
 static uint32_t floor_after(const gcflip_thread *thread, uint64_t steps)
 {
     uint64_t spare = thread->begun / 8, shared = thread->begun - 2 * spare, in_use = thread->size - thread->begun;

@@ -289,9 +289,7 @@ impl Asking {
             held,
         })
     }
-}
 
-impl Asking {
     /// Asks no longer. A mutator that has stopped may go on in the same space. The collection goes on as it stands.
     pub fn withdraw(self) -> Collector
         ensures { result.copier ≡ self.copier }
@@ -304,14 +302,9 @@ impl Asking {
         let found = handshake
             .shared
             .compare_exchange::<Withdraw>(&mut seat, 0, 1, 0);
-        if found == 1 {
-            return Collector {
-                handshake,
-                seat,
-                copier,
-            };
+        if found != 1 {
+            handshake.shared.store::<Go>(&mut seat, 0, 3);
         }
-        handshake.shared.store::<Go>(&mut seat, 0, 3);
         Collector {
             handshake,
             seat,

@@ -14,10 +14,9 @@ use crate::answer::{CLOSED, OUT_OF_RANGE, PARKED};
 use crate::end::End;
 use crate::guards::{in_range, running};
 use crate::handle::GcflipEnd;
-use crate::reply::of_got;
 use gc_concurrent::Commander;
 use gc_graph::Number;
-use gc_in_c::{GcflipView, of_look, of_reply, of_result};
+use gc_in_c::{GcflipView, of_got, of_look, of_reply, of_result};
 
 // The field with this number. No object has field 65535, which stands for all that follow.
 fn field(i: u32) -> u16

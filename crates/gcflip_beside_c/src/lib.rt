@@ -8,7 +8,6 @@ mod end;
 mod guards;
 mod handle;
 mod opening;
-mod reply;
 mod stops;
 
 pub use collecting::{
