@@ -8,7 +8,8 @@
  *
  * Before its first use a handle has no end, so the program initializes it with GCFLIP_NO_END, or sets its `at` to NULL. gcflip_beside_open gives both
  * handles their ends, and each has a close of its own. Every call returns a number of gcflip_answers.h or of this header: the reply, or the reason why
- * the call was refused. A refused command changes nothing, neither the heap nor its output arguments. gcflip_beside_room alone returns a count.
+ * the call was refused. A refused command changes nothing, neither the heap nor its output arguments. gcflip_beside_room and gcflip_beside_roots return
+ * counts.
  *
  * The promise, proved for the code behind these calls:
  * - each command gets the reply of a heap without a collector, whatever the collector's thread does. Only an allocation may find the heap full;
@@ -51,14 +52,14 @@ enum gcflip_beside_answer {
     GCFLIP_NOT_YET = 13 /* the other end is not so far: call again later */
 };
 
-/* The number of roots. Each is named by its place, 0 to 31. */
+/* The number of roots of each heap, whose places are 0 to 31. The places of the extra roots, if a heap has any, follow from 32 on. */
 #define GCFLIP_BESIDE_ROOTS 32u
 
 /* ---- Opening and closing */
 
-/* Opens an empty heap of `size` words, at least 1, and begins a collection: GCFLIP_DONE, or GCFLIP_OPEN if a handle has an end already. All roots hold
- * nil. GCFLIP_NO_MEMORY if an allocation fails. The new space of each collection has as many words as the heap. */
-uint32_t gcflip_beside_open(gcflip_mutator *mutator, gcflip_collector *collector, uint32_t size);
+/* Opens an empty heap of `size` words, at least 1, with at most 1048576 extra roots, and begins a collection: GCFLIP_DONE, or GCFLIP_OPEN if a handle
+ * has an end already. All roots hold nil. GCFLIP_NO_MEMORY if an allocation fails. The new space of each collection has as many words as the heap. */
+uint32_t gcflip_beside_open(gcflip_mutator *mutator, gcflip_collector *collector, uint32_t size, uint32_t extra_roots);
 
 /* Drops the mutator with its objects: GCFLIP_DONE. The collector's handle can still be used and closed. The last of both closes frees the heap. */
 uint32_t gcflip_beside_close_mutator(gcflip_mutator *mutator);
@@ -69,8 +70,8 @@ uint32_t gcflip_beside_close_collector(gcflip_collector *collector);
 
 /* ---- Commands, by the mutator's thread
  *
- * Each returns GCFLIP_PARKED while the mutator has stopped. A place of 32 or more is out of range. A kind is 0 to 255, and a count 0 to 65535. Fields are
- * counted from 0, and a number is below 2^63. */
+ * Each returns GCFLIP_PARKED while the mutator has stopped. They name roots by their places, extra roots too. A place that no root has is out of range.
+ * A kind is 0 to 255, and a count 0 to 65535. Fields are counted from 0, and a number is below 2^63. */
 
 /* Makes an object with `count` fields, all nil, and puts a reference to it into root d: GCFLIP_MADE or GCFLIP_FULL. The object takes count + 2
  * words. After GCFLIP_FULL, a flip may make room. */
@@ -106,6 +107,9 @@ uint32_t gcflip_beside_look(gcflip_mutator *mutator, uint32_t s, gcflip_view *vi
 /* Returns the number of free words, which is 0 while the mutator has stopped, and if the handle has no mutator. */
 uint32_t gcflip_beside_room(const gcflip_mutator *mutator);
 
+/* Returns the number of roots, GCFLIP_BESIDE_ROOTS and the extra ones. It is 0 while the mutator has stopped, and if the handle has no mutator. */
+uint32_t gcflip_beside_roots(const gcflip_mutator *mutator);
+
 /* ---- Safepoints, by the mutator's thread */
 
 /* Stops the mutator if the collector asks for it: GCFLIP_DONE if it runs on, which takes one load, or GCFLIP_PARKED if it has stopped. */
@@ -116,9 +120,10 @@ uint32_t gcflip_beside_resume(gcflip_mutator *mutator);
 
 /* ---- The collector, by the collector's thread
  *
- * The next collection begins at each flip. It rests until a flip finds a root's object without a replica. Until then nothing is copied, and no
- * write is logged. Its steps bring replicas up to date with the originals, beside the mutator or while the collector holds it. To flip, the
- * collector asks the mutator to stop, takes it, and lets it go on in the new space. */
+ * The next collection begins at each flip. It rests until the collector takes the mutator, and copies the objects of its roots. Until then nothing is
+ * copied, and no write is logged. Its steps copy what these reach, and bring replicas up to date with the originals, beside the mutator or while
+ * the collector holds it. To flip, the collector takes the mutator again, copies the objects of roots that were written meanwhile, performs the
+ * steps that are left, and lets the mutator go on in the new space. */
 
 /* Performs `most` steps, at least 1: GCFLIP_DONE, or GCFLIP_CLEAN once nothing is left to do. GCFLIP_NO_ROOM never comes, because the new space is as
  * large as the heap. */
@@ -135,13 +140,19 @@ uint32_t gcflip_beside_take(gcflip_collector *collector);
 /* Asks no longer, and lets a mutator that has stopped go on in the same space: GCFLIP_DONE. The collection stays open, and no work is lost. */
 uint32_t gcflip_beside_go(gcflip_collector *collector);
 
-/* Flips if the collection is ready: GCFLIP_FLIPPED. The mutator may then go on in the new space. GCFLIP_NOT_READY if steps are left; a root's object
- * without a replica gets one by the next steps. GCFLIP_NOT_YET if the collector does not hold the mutator. The checker goes through both spaces whole,
- * while the mutator waits. After GCFLIP_NO_MEMORY the collector still holds the mutator, whose heap is unchanged. */
+/* Copies the object of each root that has no replica, while the mutator waits: GCFLIP_DONE. Its fields are left to steps, also beside the mutator, but
+ * those of raw objects are copied too. GCFLIP_NOT_YET if the collector does not hold the mutator. The call does not allocate. Its time grows with
+ * the number of roots, and with the fields of raw objects to which they refer. */
+uint32_t gcflip_beside_place_roots(gcflip_collector *collector);
+
+/* Flips if the collection is ready: GCFLIP_FLIPPED. The mutator may then go on in the new space. GCFLIP_NOT_READY if steps are left, or if a root's
+ * object has no replica. GCFLIP_NOT_YET if the collector does not hold the mutator. The checker goes through both spaces whole, while the mutator
+ * waits. After GCFLIP_NOT_READY and GCFLIP_NO_MEMORY nothing has changed. */
 uint32_t gcflip_beside_flip(gcflip_collector *collector);
 
-/* Performs all steps that are left, and flips, while the mutator waits: GCFLIP_FLIPPED. GCFLIP_NOT_YET if the collector does not hold the mutator. After
- * GCFLIP_NO_MEMORY some steps may have been performed. The collector still holds the mutator, whose heap is unchanged. */
+/* Copies the objects of roots, performs all steps that are left, and flips, while the mutator waits: GCFLIP_FLIPPED. GCFLIP_NOT_YET if the collector
+ * does not hold the mutator. After GCFLIP_NO_MEMORY some steps may have been performed. The collector still holds the mutator, whose heap is
+ * unchanged. */
 uint32_t gcflip_beside_finish(gcflip_collector *collector);
 
 #ifdef __cplusplus

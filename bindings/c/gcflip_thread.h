@@ -2,7 +2,11 @@
  * loop around the proved calls, with POSIX threads, one lock and two condition variables.
  *
  * All calls are made by one thread, the mutator's. It performs the commands of gcflip_beside.h on gcflip_thread_mutator, and makes safepoints by
- * gcflip_thread_safepoint. A program that makes none is never stopped, and then no collection ends. */
+ * gcflip_thread_safepoint. A program that makes none is never stopped, and then no collection ends.
+ *
+ * A collection begins by the policy of gcflip_pace in gcflip_heap.h, whose members `factor` and `least` count here. If the mutator then allocates
+ * faster than the collector copies, its safepoints wait for the collector. So the heap is found full only if live objects leave too little room, or
+ * if the program allocates much between two safepoints: more than an eighth of the words that were free when the collection began. */
 #ifndef GCFLIP_THREAD_H
 #define GCFLIP_THREAD_H
 
@@ -21,22 +25,27 @@ typedef struct gcflip_thread_counts {
     uint64_t flips;        /* the flips that were made */
     uint64_t failed;       /* the flips for which memory ran out */
     uint64_t stops;        /* the safepoints at which the mutator stopped */
+    uint64_t most_stops;   /* the stops of the flip that took most */
+    uint64_t throttled;    /* the safepoints that waited until the collector had caught up, or had flipped */
     uint64_t waited;       /* the time that the mutator waited at safepoints, together */
     uint64_t longest_wait; /* the longest wait of a safepoint */
 } gcflip_thread_counts;
 
-/* Opens a heap of `size` words, at least 1, and starts its collector's thread: GCFLIP_DONE. A collection is due once `words` words were allocated since
- * the last flip. If an allocation or the start of the thread fails, it returns GCFLIP_NO_MEMORY and writes NULL. */
-uint32_t gcflip_thread_open(gcflip_thread **thread, uint32_t size, uint32_t words);
+/* Opens a heap of `size` words, at least 1, with at most 1048576 extra roots, and starts its collector's thread: GCFLIP_DONE. Of the pace, `factor` and
+ * `least` count: a collection begins where the words in use are at least `factor` hundredths of those that the last flip left, and at least `least`,
+ * or where half of the room that the last flip left is used up. gcflip_pace_default fits most programs. A factor below 100 or above 10000 is out of
+ * range. If an allocation or the start of the thread fails, it returns GCFLIP_NO_MEMORY. It writes NULL if it does not return GCFLIP_DONE. */
+uint32_t gcflip_thread_open(gcflip_thread **thread, uint32_t size, uint32_t extra_roots, const gcflip_pace *pace);
 
 /* Returns the handle for commands. Safepoints are made by gcflip_thread_safepoint alone. */
 gcflip_mutator *gcflip_thread_mutator(gcflip_thread *thread);
 
-/* A safepoint: wakes the collector if a collection is due. If the collector asks for it, stops, and waits until the mutator may go on: GCFLIP_DONE. */
+/* A safepoint: GCFLIP_DONE. If the collector asks for it, stops, and waits until the mutator may go on. Wakes the collector if a collection is due. If the
+ * mutator is ahead of the collector, waits until this has caught up, or has flipped. */
 uint32_t gcflip_thread_safepoint(gcflip_thread *thread);
 
-/* Wakes the collector, and waits for its next flip: GCFLIP_FLIPPED, or GCFLIP_NO_MEMORY if the flip was not made. A program calls it after
- * GCFLIP_FULL. */
+/* Wakes the collector unless a collection is under way, and waits for its flip: GCFLIP_FLIPPED, or GCFLIP_NO_MEMORY if the flip was not made. A program
+ * calls it after GCFLIP_FULL. */
 uint32_t gcflip_thread_collect(gcflip_thread *thread);
 
 /* Reads what has happened. */

@@ -75,8 +75,9 @@ int main(int count, char **words)
 {
     uint64_t turns = count > 1 ? strtoull(words[1], NULL, 10) : 20000, wanted = 0, found = 0, number;
     gcflip_thread_counts counts;
+    gcflip_pace pace = gcflip_pace_default();
 
-    expect("open", gcflip_thread_open(&thread, WORDS, WORDS / 4), GCFLIP_DONE);
+    expect("open", gcflip_thread_open(&thread, WORDS, 0, &pace), GCFLIP_DONE);
     mutator = gcflip_thread_mutator(thread);
     make(ROW, KIND_ROW, TREES);
     for (uint64_t turn = 0; turn < turns; turn++) {

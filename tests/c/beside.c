@@ -1,11 +1,11 @@
-/* Each answer of the calls of gcflip_beside.h, in one thread that has both ends; a close in each order and at each stage; and each allocation refused in
-   turn. Links its own allocation functions instead of the library's. */
+/* Each answer of the calls of gcflip_beside.h, in one thread that has both ends; extra roots over flips; a close in each order and at each stage; and each
+   allocation refused in turn. Links its own allocation functions instead of the library's. */
 #include "expect.h"
 #include "gcflip_beside.h"
 #include "own_allocator.h"
 #include <stdbool.h>
 
-enum { WORDS = 256, MANY = 100000 };
+enum { WORDS = 256, MANY = 100000, MOST_EXTRA = 1048576 };
 
 #define KEPT 0x5a5a5a5a5a5a5a5aull
 #define KEPT_32 0x5a5a5a5au
@@ -15,10 +15,15 @@ static gcflip_collector collector = GCFLIP_NO_END;
 static uint64_t number;
 static gcflip_view view;
 
-static void open_both(uint32_t words)
+static void open_with(uint32_t words, uint32_t extra_roots)
 {
     fail_allocation(0);
-    EXPECT(gcflip_beside_open(&mutator, &collector, words) == GCFLIP_DONE);
+    EXPECT(gcflip_beside_open(&mutator, &collector, words, extra_roots) == GCFLIP_DONE);
+}
+
+static void open_both(uint32_t words)
+{
+    open_with(words, 0);
 }
 
 static void close_both(void)
@@ -59,12 +64,12 @@ static void collect(void)
     EXPECT(gcflip_beside_resume(&mutator) == GCFLIP_DONE);
 }
 
-/* The collector wants the object in root 0, so that it copies from now on, and lets the mutator go on. No write was logged before, so nothing is due. */
+/* The collector copies the objects of the roots, and lets the mutator go on. No write was logged before, so nothing was due. */
 static void begin_to_copy(void)
 {
     take();
     EXPECT(gcflip_beside_work(&collector, 1) == GCFLIP_CLEAN);
-    EXPECT(gcflip_beside_flip(&collector) == GCFLIP_NOT_READY);
+    EXPECT(gcflip_beside_place_roots(&collector) == GCFLIP_DONE);
     EXPECT(gcflip_beside_go(&collector) == GCFLIP_DONE);
     EXPECT(gcflip_beside_resume(&mutator) == GCFLIP_DONE);
 }
@@ -86,6 +91,7 @@ static void expect_refused(uint32_t answer)
     /* also where an argument is out of range */
     EXPECT(gcflip_beside_set_nil(&mutator, 32) == answer);
     EXPECT(gcflip_beside_room(&mutator) == 0);
+    EXPECT(gcflip_beside_roots(&mutator) == 0);
     EXPECT(number == KEPT && view.kind == KEPT_32 && view.count == KEPT_32 && view.number == KEPT);
 }
 
@@ -100,55 +106,79 @@ static void closed_handles(void)
     EXPECT(gcflip_beside_ask(&collector) == GCFLIP_CLOSED);
     EXPECT(gcflip_beside_take(&collector) == GCFLIP_CLOSED);
     EXPECT(gcflip_beside_go(&collector) == GCFLIP_CLOSED);
+    EXPECT(gcflip_beside_place_roots(&collector) == GCFLIP_CLOSED);
     EXPECT(gcflip_beside_flip(&collector) == GCFLIP_CLOSED);
     EXPECT(gcflip_beside_finish(&collector) == GCFLIP_CLOSED);
     EXPECT(gcflip_beside_close_collector(&collector) == GCFLIP_CLOSED);
 }
 
-static void opening(void)
+/* An open that is refused gives no handle an end. */
+static void expect_unopened(uint32_t words, uint32_t extra_roots, uint32_t answer)
 {
-    EXPECT(gcflip_beside_open(&mutator, &collector, 0) == GCFLIP_OUT_OF_RANGE);
+    EXPECT(gcflip_beside_open(&mutator, &collector, words, extra_roots) == answer);
     EXPECT(!mutator.at && !collector.at && blocks_in_use() == 0);
-    open_both(WORDS);
-    EXPECT(gcflip_beside_open(&mutator, &collector, WORDS) == GCFLIP_OPEN);
-    EXPECT(gcflip_beside_open(&mutator, &collector, 0) == GCFLIP_OPEN);
-    EXPECT(gcflip_beside_room(&mutator) == WORDS - 1);
-    for (uint32_t k = 0; k < GCFLIP_BESIDE_ROOTS; k++)
-        EXPECT(gcflip_beside_look(&mutator, k, &view) == GCFLIP_NIL && view.kind == 0 && view.count == 0 && view.number == 0);
-    EXPECT(gcflip_beside_close_mutator(&mutator) == GCFLIP_DONE);
-    EXPECT(gcflip_beside_open(&mutator, &collector, WORDS) == GCFLIP_OPEN);
-    EXPECT(gcflip_beside_close_collector(&collector) == GCFLIP_DONE);
-    EXPECT(blocks_in_use() == 0);
-    open_both(WORDS);
-    EXPECT(gcflip_beside_close_collector(&collector) == GCFLIP_DONE);
-    EXPECT(gcflip_beside_open(&mutator, &collector, WORDS) == GCFLIP_OPEN);
-    EXPECT(gcflip_beside_close_mutator(&mutator) == GCFLIP_DONE);
-    EXPECT(blocks_in_use() == 0);
 }
 
-/* The operands of each command that are out of range, and nothing changes. */
-static void out_of_range(void)
+static void expect_nil_roots(uint32_t count)
+{
+    EXPECT(gcflip_beside_roots(&mutator) == count);
+    for (uint32_t k = 0; k < count; k++)
+        EXPECT(gcflip_beside_look(&mutator, k, &view) == GCFLIP_NIL && view.kind == 0 && view.count == 0 && view.number == 0);
+    EXPECT(gcflip_beside_look(&mutator, count, &view) == GCFLIP_OUT_OF_RANGE);
+}
+
+static void opening(void)
+{
+    expect_unopened(0, 0, GCFLIP_OUT_OF_RANGE);
+    expect_unopened(0, 1, GCFLIP_OUT_OF_RANGE);
+    expect_unopened(WORDS, MOST_EXTRA + 1, GCFLIP_OUT_OF_RANGE);
+    expect_unopened(WORDS, UINT32_MAX, GCFLIP_OUT_OF_RANGE);
+    open_both(WORDS);
+    EXPECT(gcflip_beside_open(&mutator, &collector, WORDS, 0) == GCFLIP_OPEN);
+    EXPECT(gcflip_beside_open(&mutator, &collector, 0, 0) == GCFLIP_OPEN);
+    EXPECT(gcflip_beside_open(&mutator, &collector, WORDS, UINT32_MAX) == GCFLIP_OPEN);
+    EXPECT(gcflip_beside_room(&mutator) == WORDS - 1);
+    expect_nil_roots(GCFLIP_BESIDE_ROOTS);
+    EXPECT(gcflip_beside_close_mutator(&mutator) == GCFLIP_DONE);
+    EXPECT(gcflip_beside_open(&mutator, &collector, WORDS, 0) == GCFLIP_OPEN);
+    EXPECT(gcflip_beside_close_collector(&collector) == GCFLIP_DONE);
+    EXPECT(blocks_in_use() == 0);
+    open_both(WORDS);
+    EXPECT(gcflip_beside_close_collector(&collector) == GCFLIP_DONE);
+    EXPECT(gcflip_beside_open(&mutator, &collector, WORDS, 0) == GCFLIP_OPEN);
+    EXPECT(gcflip_beside_close_mutator(&mutator) == GCFLIP_DONE);
+    EXPECT(blocks_in_use() == 0);
+    open_with(WORDS, 1);
+    expect_nil_roots(33);
+    close_both();
+    open_with(WORDS, MOST_EXTRA);
+    expect_nil_roots(32 + MOST_EXTRA);
+    close_both();
+}
+
+/* The operands of each command that are out of range, and nothing changes. No root has the place `none`, which follows that of the last root. */
+static void out_of_range(uint32_t none)
 {
     number = KEPT;
     view = (gcflip_view){KEPT_32, KEPT_32, KEPT};
-    EXPECT(gcflip_beside_new(&mutator, 32, 1, 2) == GCFLIP_OUT_OF_RANGE);
+    EXPECT(gcflip_beside_new(&mutator, none, 1, 2) == GCFLIP_OUT_OF_RANGE);
     EXPECT(gcflip_beside_new(&mutator, 0, 256, 2) == GCFLIP_OUT_OF_RANGE);
     EXPECT(gcflip_beside_new(&mutator, 0, 1, 65536) == GCFLIP_OUT_OF_RANGE);
     EXPECT(gcflip_beside_new_raw(&mutator, UINT32_MAX, 1, 2) == GCFLIP_OUT_OF_RANGE);
     EXPECT(gcflip_beside_new_raw(&mutator, 0, 256, 2) == GCFLIP_OUT_OF_RANGE);
     EXPECT(gcflip_beside_new_raw(&mutator, 0, 1, 65536) == GCFLIP_OUT_OF_RANGE);
-    EXPECT(gcflip_beside_set_number(&mutator, 32, 1) == GCFLIP_OUT_OF_RANGE);
+    EXPECT(gcflip_beside_set_number(&mutator, none, 1) == GCFLIP_OUT_OF_RANGE);
     EXPECT(gcflip_beside_set_number(&mutator, 0, 1ull << 63) == GCFLIP_OUT_OF_RANGE);
-    EXPECT(gcflip_beside_set_nil(&mutator, 32) == GCFLIP_OUT_OF_RANGE);
-    EXPECT(gcflip_beside_copy(&mutator, 32, 0) == GCFLIP_OUT_OF_RANGE);
-    EXPECT(gcflip_beside_copy(&mutator, 0, 32) == GCFLIP_OUT_OF_RANGE);
-    EXPECT(gcflip_beside_get(&mutator, 32, 0, 0, &number) == GCFLIP_OUT_OF_RANGE);
+    EXPECT(gcflip_beside_set_nil(&mutator, none) == GCFLIP_OUT_OF_RANGE);
+    EXPECT(gcflip_beside_copy(&mutator, none, 0) == GCFLIP_OUT_OF_RANGE);
+    EXPECT(gcflip_beside_copy(&mutator, 0, none) == GCFLIP_OUT_OF_RANGE);
+    EXPECT(gcflip_beside_get(&mutator, none, 0, 0, &number) == GCFLIP_OUT_OF_RANGE);
     EXPECT(gcflip_beside_get(&mutator, 0, 256, 0, &number) == GCFLIP_OUT_OF_RANGE);
-    EXPECT(gcflip_beside_put(&mutator, 32, 0, 0) == GCFLIP_OUT_OF_RANGE);
-    EXPECT(gcflip_beside_put(&mutator, 0, 0, 32) == GCFLIP_OUT_OF_RANGE);
-    EXPECT(gcflip_beside_same(&mutator, 32, 0) == GCFLIP_OUT_OF_RANGE);
-    EXPECT(gcflip_beside_same(&mutator, 0, 32) == GCFLIP_OUT_OF_RANGE);
-    EXPECT(gcflip_beside_look(&mutator, 32, &view) == GCFLIP_OUT_OF_RANGE);
+    EXPECT(gcflip_beside_put(&mutator, none, 0, 0) == GCFLIP_OUT_OF_RANGE);
+    EXPECT(gcflip_beside_put(&mutator, 0, 0, none) == GCFLIP_OUT_OF_RANGE);
+    EXPECT(gcflip_beside_same(&mutator, none, 0) == GCFLIP_OUT_OF_RANGE);
+    EXPECT(gcflip_beside_same(&mutator, 0, none) == GCFLIP_OUT_OF_RANGE);
+    EXPECT(gcflip_beside_look(&mutator, none, &view) == GCFLIP_OUT_OF_RANGE);
     EXPECT(number == KEPT && view.kind == KEPT_32 && view.count == KEPT_32 && view.number == KEPT);
     EXPECT(gcflip_beside_work(&collector, 0) == GCFLIP_OUT_OF_RANGE);
 }
@@ -157,9 +187,8 @@ static void out_of_range(void)
 static void commands(void)
 {
     open_both(WORDS);
-    out_of_range();
-    for (uint32_t k = 0; k < GCFLIP_BESIDE_ROOTS; k++)
-        EXPECT(gcflip_beside_look(&mutator, k, &view) == GCFLIP_NIL);
+    out_of_range(32);
+    expect_nil_roots(32);
     make_one();
     EXPECT(gcflip_beside_room(&mutator) == WORDS - 1 - 4);
     expect_one();
@@ -199,6 +228,83 @@ static void commands(void)
     close_both();
 }
 
+/* Each command on the last extra root, whose place is 36, with slots and with other extra roots; over a flip beside, and one while the mutator waits. */
+static void extra_roots(void)
+{
+    open_with(WORDS, 5);
+    out_of_range(37);
+    expect_nil_roots(37);
+    make_one();
+    EXPECT(gcflip_beside_new(&mutator, 36, 3, 2) == GCFLIP_MADE);
+    EXPECT(gcflip_beside_new_raw(&mutator, 35, 4, 1) == GCFLIP_MADE);
+    EXPECT(gcflip_beside_set_number(&mutator, 34, 9) == GCFLIP_DONE);
+    EXPECT(gcflip_beside_put(&mutator, 35, 0, 34) == GCFLIP_DONE);
+    EXPECT(gcflip_beside_put(&mutator, 36, 1, 35) == GCFLIP_DONE);
+    EXPECT(gcflip_beside_put(&mutator, 35, 0, 36) == GCFLIP_NO_NUMBER);
+    EXPECT(gcflip_beside_set_nil(&mutator, 35) == GCFLIP_DONE);
+    EXPECT(gcflip_beside_copy(&mutator, 33, 36) == GCFLIP_DONE);
+    begin_to_copy();
+    EXPECT(gcflip_beside_work(&collector, MANY) == GCFLIP_CLEAN);
+    /* a write of a field, and one of an extra root, that the collector has copied */
+    EXPECT(gcflip_beside_put(&mutator, 36, 0, 0) == GCFLIP_DONE);
+    EXPECT(gcflip_beside_set_nil(&mutator, 33) == GCFLIP_DONE);
+    for (int flip = 0; flip < 2; flip++) {
+        collect();
+        EXPECT(gcflip_beside_roots(&mutator) == 37);
+        EXPECT(gcflip_beside_look(&mutator, 36, &view) == GCFLIP_OBJECT && view.kind == 3 && view.count == 2);
+        EXPECT(gcflip_beside_look(&mutator, 35, &view) == GCFLIP_NIL);
+        EXPECT(gcflip_beside_look(&mutator, 34, &view) == GCFLIP_NUMBER && view.number == 9);
+        EXPECT(gcflip_beside_look(&mutator, 33, &view) == GCFLIP_NIL);
+        EXPECT(gcflip_beside_look(&mutator, 32, &view) == GCFLIP_NIL);
+        EXPECT(gcflip_beside_get(&mutator, 33, 36, 1, &number) == GCFLIP_OBJECT);
+        EXPECT(gcflip_beside_look(&mutator, 33, &view) == GCFLIP_RAW_OBJECT && view.kind == 4 && view.count == 1);
+        EXPECT(gcflip_beside_get(&mutator, 32, 33, 0, &number) == GCFLIP_NUMBER && number == 9);
+        EXPECT(gcflip_beside_same(&mutator, 32, 34) == GCFLIP_SAME);
+        EXPECT(gcflip_beside_same(&mutator, 33, 36) == GCFLIP_NOT_SAME);
+        EXPECT(gcflip_beside_get(&mutator, 33, 36, 0, &number) == GCFLIP_OBJECT);
+        EXPECT(gcflip_beside_same(&mutator, 33, 0) == GCFLIP_SAME);
+        EXPECT(gcflip_beside_get(&mutator, 33, 36, 2, &number) == GCFLIP_NO_FIELD);
+        EXPECT(gcflip_beside_get(&mutator, 33, 34, 0, &number) == GCFLIP_NO_OBJECT);
+        EXPECT(gcflip_beside_set_nil(&mutator, 32) == GCFLIP_DONE && gcflip_beside_set_nil(&mutator, 33) == GCFLIP_DONE);
+        expect_one();
+    }
+    /* 255 words without the 4 of the object in root 0, the 4 of the one in root 36, and the 3 of the raw one */
+    EXPECT(gcflip_beside_room(&mutator) == WORDS - 1 - 4 - 4 - 3);
+    close_both();
+}
+
+/* 10,000 extra roots. Each third one refers to an object of its own with one field, each third to that of the root before, and the others hold numbers. */
+static void many_extra_roots(void)
+{
+    enum { EXTRA = 10000, FIRST = 32, OBJECTS = (EXTRA + 2) / 3 };
+
+    open_with(1 << 16, EXTRA);
+    for (uint32_t k = 0; k < EXTRA; k++) {
+        EXPECT(gcflip_beside_set_number(&mutator, 0, k) == GCFLIP_DONE);
+        if (k % 3 == 0) {
+            EXPECT(gcflip_beside_new(&mutator, FIRST + k, 1, 1) == GCFLIP_MADE);
+            EXPECT(gcflip_beside_put(&mutator, FIRST + k, 0, 0) == GCFLIP_DONE);
+        } else {
+            EXPECT(gcflip_beside_copy(&mutator, FIRST + k, k % 3 == 1 ? FIRST + k - 1 : 0) == GCFLIP_DONE);
+        }
+    }
+    for (int flip = 0; flip < 2; flip++) {
+        collect();
+        EXPECT(gcflip_beside_roots(&mutator) == FIRST + EXTRA);
+        EXPECT(gcflip_beside_room(&mutator) == (1 << 16) - 1 - 3 * OBJECTS);
+        for (uint32_t k = 0; k < EXTRA; k++) {
+            if (k % 3 == 2)
+                EXPECT(gcflip_beside_look(&mutator, FIRST + k, &view) == GCFLIP_NUMBER && view.number == k);
+            else
+                EXPECT(gcflip_beside_get(&mutator, 1, FIRST + k, 0, &number) == GCFLIP_NUMBER && number == k - k % 3);
+            if (k % 3 == 1)
+                EXPECT(gcflip_beside_same(&mutator, FIRST + k, FIRST + k - 1) == GCFLIP_SAME);
+        }
+        EXPECT(gcflip_beside_look(&mutator, FIRST + EXTRA, &view) == GCFLIP_OUT_OF_RANGE);
+    }
+    close_both();
+}
+
 /* The stages of a handshake, with each call that comes too early. */
 static void handshakes(void)
 {
@@ -207,12 +313,14 @@ static void handshakes(void)
     EXPECT(gcflip_beside_safepoint(&mutator) == GCFLIP_DONE);
     EXPECT(gcflip_beside_resume(&mutator) == GCFLIP_DONE);
     EXPECT(gcflip_beside_take(&collector) == GCFLIP_NOT_YET);
+    EXPECT(gcflip_beside_place_roots(&collector) == GCFLIP_NOT_YET);
     EXPECT(gcflip_beside_flip(&collector) == GCFLIP_NOT_YET);
     EXPECT(gcflip_beside_finish(&collector) == GCFLIP_NOT_YET);
     EXPECT(gcflip_beside_go(&collector) == GCFLIP_DONE);
     EXPECT(gcflip_beside_ask(&collector) == GCFLIP_DONE);
     EXPECT(gcflip_beside_ask(&collector) == GCFLIP_DONE);
     EXPECT(gcflip_beside_take(&collector) == GCFLIP_NOT_YET);
+    EXPECT(gcflip_beside_place_roots(&collector) == GCFLIP_NOT_YET);
     EXPECT(gcflip_beside_flip(&collector) == GCFLIP_NOT_YET);
     EXPECT(gcflip_beside_finish(&collector) == GCFLIP_NOT_YET);
     expect_one();
@@ -242,7 +350,13 @@ static void flips(void)
     EXPECT(gcflip_beside_set_nil(&mutator, 3) == GCFLIP_DONE);
     EXPECT(gcflip_beside_room(&mutator) == WORDS - 1 - 4 - 12);
     take();
+    /* the object in root 0 has no replica, and no step gives it one */
     EXPECT(gcflip_beside_flip(&collector) == GCFLIP_NOT_READY);
+    EXPECT(gcflip_beside_work(&collector, 1) == GCFLIP_CLEAN);
+    EXPECT(gcflip_beside_flip(&collector) == GCFLIP_NOT_READY);
+    fail_allocation(1);
+    EXPECT(gcflip_beside_place_roots(&collector) == GCFLIP_DONE && gcflip_beside_place_roots(&collector) == GCFLIP_DONE && !has_failed());
+    fail_allocation(0);
     while ((answer = gcflip_beside_flip(&collector)) == GCFLIP_NOT_READY) {
         EXPECT(gcflip_beside_work(&collector, 1) == GCFLIP_DONE && steps++ < WORDS);
     }
@@ -254,6 +368,28 @@ static void flips(void)
     expect_one();
     collect();
     expect_one();
+    close_both();
+}
+
+/* The fields of a raw object that a root refers to are copied with it, so that one step is left, which goes over them. */
+static void raw_roots(void)
+{
+    open_both(WORDS);
+    for (uint32_t d = 0; d < 3; d++) {
+        EXPECT(gcflip_beside_new_raw(&mutator, d, 1, 3) == GCFLIP_MADE);
+        EXPECT(gcflip_beside_set_number(&mutator, 9, 70 + d) == GCFLIP_DONE);
+        EXPECT(gcflip_beside_put(&mutator, d, 2, 9) == GCFLIP_DONE);
+    }
+    take();
+    EXPECT(gcflip_beside_place_roots(&collector) == GCFLIP_DONE);
+    EXPECT(gcflip_beside_work(&collector, 3) == GCFLIP_DONE);
+    EXPECT(gcflip_beside_work(&collector, 1) == GCFLIP_CLEAN);
+    EXPECT(gcflip_beside_flip(&collector) == GCFLIP_FLIPPED);
+    EXPECT(gcflip_beside_resume(&mutator) == GCFLIP_DONE);
+    for (uint32_t d = 0; d < 3; d++) {
+        EXPECT(gcflip_beside_get(&mutator, 9, d, 0, &number) == GCFLIP_NUMBER && number == 0);
+        EXPECT(gcflip_beside_get(&mutator, 9, d, 2, &number) == GCFLIP_NUMBER && number == 70 + d);
+    }
     close_both();
 }
 
@@ -280,7 +416,7 @@ static void copies_beside(void)
     close_both();
 }
 
-/* Leads both ends to a stage: 0 beside each other, 1 asked, 2 stopped, 3 held, 4 let go. */
+/* Leads both ends to a stage: 0 beside each other, 1 asked, 2 stopped, 3 held, 4 held with the object in root 0 copied, 5 let go. */
 static void lead_to(int stage)
 {
     open_both(WORDS);
@@ -292,13 +428,15 @@ static void lead_to(int stage)
     if (stage >= 3)
         EXPECT(gcflip_beside_take(&collector) == GCFLIP_DONE);
     if (stage >= 4)
+        EXPECT(gcflip_beside_place_roots(&collector) == GCFLIP_DONE);
+    if (stage >= 5)
         EXPECT(gcflip_beside_finish(&collector) == GCFLIP_FLIPPED);
 }
 
 /* A close in each order at each stage. After the collector's, the mutator has its objects and is never asked again. */
 static void closes(void)
 {
-    for (int stage = 0; stage <= 4; stage++) {
+    for (int stage = 0; stage <= 5; stage++) {
         lead_to(stage);
         close_both();
         lead_to(stage);
@@ -325,12 +463,13 @@ static void refused_open(void)
 {
     for (long n = 1;; n++) {
         fail_allocation(n);
-        if (gcflip_beside_open(&mutator, &collector, WORDS) == GCFLIP_DONE) {
+        if (gcflip_beside_open(&mutator, &collector, WORDS, 5) == GCFLIP_DONE) {
             EXPECT(!has_failed() && n > 4);
             break;
         }
         EXPECT(has_failed() && !mutator.at && !collector.at && blocks_in_use() == 0);
     }
+    expect_nil_roots(37);
     close_both();
 }
 
@@ -379,17 +518,21 @@ static void refused_put(void)
     close_both();
 }
 
+/* Where memory runs out for a flip, the mutator keeps all its roots. The last extra one, whose place is 36, refers to the object too. */
 static void refused_flip(uint32_t (*call)(gcflip_collector *))
 {
-    open_both(WORDS);
+    open_with(WORDS, 5);
     make_one();
+    EXPECT(gcflip_beside_copy(&mutator, 36, 0) == GCFLIP_DONE);
     take();
     for (long n = 1;; n++) {
         uint32_t answer;
 
         fail_allocation(n);
-        while ((answer = call(&collector)) == GCFLIP_NOT_READY)
+        while ((answer = call(&collector)) == GCFLIP_NOT_READY) {
+            EXPECT(gcflip_beside_place_roots(&collector) == GCFLIP_DONE);
             EXPECT(gcflip_beside_work(&collector, MANY) == GCFLIP_CLEAN);
+        }
         if (answer == GCFLIP_FLIPPED) {
             EXPECT(!has_failed() && n > 4);
             break;
@@ -402,11 +545,13 @@ static void refused_flip(uint32_t (*call)(gcflip_collector *))
             EXPECT(gcflip_beside_go(&collector) == GCFLIP_DONE);
             EXPECT(gcflip_beside_resume(&mutator) == GCFLIP_DONE);
             expect_one();
+            EXPECT(gcflip_beside_same(&mutator, 36, 0) == GCFLIP_SAME);
             take();
         }
     }
     EXPECT(gcflip_beside_resume(&mutator) == GCFLIP_DONE);
     expect_one();
+    EXPECT(gcflip_beside_roots(&mutator) == 37 && gcflip_beside_same(&mutator, 36, 0) == GCFLIP_SAME);
     close_both();
 }
 
@@ -415,8 +560,11 @@ int main(void)
     closed_handles();
     opening();
     commands();
+    extra_roots();
+    many_extra_roots();
     handshakes();
     flips();
+    raw_roots();
     copies_beside();
     closes();
     refused_open();

@@ -5,7 +5,7 @@
 #include <gcflip_allocator.h>
 #include <stdbool.h>
 
-enum { WORDS = 4096 };
+enum { WORDS = 4096, EXTRA = 100, LAST = GCFLIP_BESIDE_ROOTS + EXTRA - 1 };
 
 static _Atomic bool refuses;
 static _Atomic long blocks;
@@ -43,16 +43,23 @@ static void expect_object(void)
     gcflip_mutator *mutator = gcflip_thread_mutator(thread);
     uint64_t number = 0;
 
-    EXPECT(gcflip_beside_get(mutator, 2, 0, 1, &number) == GCFLIP_NUMBER && number == 7);
+    EXPECT(gcflip_beside_get(mutator, 2, LAST, 1, &number) == GCFLIP_NUMBER && number == 7);
 }
 
 static void opening(void)
 {
     gcflip_thread *opened = thread;
+    gcflip_pace pace = gcflip_pace_default();
 
-    EXPECT(gcflip_thread_open(&opened, 0, 1) == GCFLIP_OUT_OF_RANGE && opened == NULL);
+    EXPECT(gcflip_thread_open(&opened, 0, 0, &pace) == GCFLIP_OUT_OF_RANGE && opened == NULL);
+    EXPECT(gcflip_thread_open(&opened, WORDS, 1048577, &pace) == GCFLIP_OUT_OF_RANGE && opened == NULL);
+    pace.factor = 99;
+    EXPECT(gcflip_thread_open(&opened, WORDS, 0, &pace) == GCFLIP_OUT_OF_RANGE && opened == NULL);
+    pace.factor = 10001;
+    EXPECT(gcflip_thread_open(&opened, WORDS, 0, &pace) == GCFLIP_OUT_OF_RANGE && opened == NULL);
+    pace.factor = 100;
     refuses = true;
-    EXPECT(gcflip_thread_open(&opened, WORDS, 1) == GCFLIP_NO_MEMORY && opened == NULL);
+    EXPECT(gcflip_thread_open(&opened, WORDS, EXTRA, &pace) == GCFLIP_NO_MEMORY && opened == NULL);
     refuses = false;
     EXPECT(blocks == 0);
 }
@@ -61,13 +68,14 @@ int main(void)
 {
     gcflip_thread_counts counts;
     gcflip_mutator *mutator;
+    gcflip_pace pace = gcflip_pace_default();
 
     opening();
-    EXPECT(gcflip_thread_open(&thread, WORDS, WORDS) == GCFLIP_DONE);
+    EXPECT(gcflip_thread_open(&thread, WORDS, EXTRA, &pace) == GCFLIP_DONE);
     mutator = gcflip_thread_mutator(thread);
-    EXPECT(gcflip_beside_new(mutator, 0, 1, 2) == GCFLIP_MADE);
+    EXPECT(gcflip_beside_new(mutator, LAST, 1, 2) == GCFLIP_MADE);
     EXPECT(gcflip_beside_set_number(mutator, 1, 7) == GCFLIP_DONE);
-    EXPECT(gcflip_beside_put(mutator, 0, 1, 1) == GCFLIP_DONE);
+    EXPECT(gcflip_beside_put(mutator, LAST, 1, 1) == GCFLIP_DONE);
     EXPECT(gcflip_beside_new(mutator, 3, 1, 100) == GCFLIP_MADE);
     EXPECT(gcflip_beside_set_nil(mutator, 3) == GCFLIP_DONE);
     for (uint64_t k = 1; k <= 3; k++) {

@@ -11,7 +11,7 @@
 #include <string.h>
 #include <time.h>
 
-enum { WORDS = 1 << 13, ROOTS = GCFLIP_BESIDE_ROOTS, MOST_FIELDS = 6 };
+enum { WORDS = 1 << 13, EXTRA = 40, ROOTS = GCFLIP_BESIDE_ROOTS + EXTRA, MOST_FIELDS = 6 };
 
 static uint64_t state;
 
@@ -117,7 +117,7 @@ static uint32_t plain_same(uint32_t s, uint32_t t)
 struct schedule {
     const char *name;
     bool by_source;
-    uint32_t words;       /* for the source: a collection is due after so many words */
+    uint32_t factor;       /* for the source: its pace */
     uint32_t sleep_beside; /* for the loop: nanoseconds that it sleeps after its steps, */
     uint32_t sleep_held;   /* while it holds the mutator, */
     uint32_t sleep_let_go; /* and after it has let it go */
@@ -125,8 +125,8 @@ struct schedule {
 };
 
 static const struct schedule schedules[] = {
-    {"the source, a collection for each quarter of the heap", true, WORDS / 4, 0, 0, 0, false},
-    {"the source, always due", true, 0, 0, 0, 0, false},
+    {"the source", true, 200, 0, 0, 0, false},
+    {"the source, always due", true, 100, 0, 0, 0, false},
     {"a loop", false, 0, 0, 0, 0, false},
     {"a loop that sleeps beside", false, 0, 200000, 0, 0, false},
     {"a loop that sleeps while it holds", false, 0, 0, 100000, 0, false},
@@ -199,8 +199,11 @@ static void held(void)
     sleeps(schedule->sleep_held);
     if (schedule->finishes)
         answer = gcflip_beside_finish(&collector);
-    else if (gcflip_beside_work(&collector, 512) == GCFLIP_CLEAN)
-        answer = gcflip_beside_flip(&collector);
+    else {
+        EXPECT(gcflip_beside_place_roots(&collector) == GCFLIP_DONE);
+        if (gcflip_beside_work(&collector, 512) == GCFLIP_CLEAN)
+            answer = gcflip_beside_flip(&collector);
+    }
     EXPECT(answer == GCFLIP_NOT_READY || answer == GCFLIP_FLIPPED);
     if (answer == GCFLIP_NOT_READY)
         EXPECT(gcflip_beside_go(&collector) == GCFLIP_DONE);
@@ -326,11 +329,15 @@ static uint64_t runs(uint64_t commands)
     made = 0;
     memset(roots, 0, sizeof roots);
     if (schedule->by_source) {
-        EXPECT(gcflip_thread_open(&thread, WORDS, schedule->words) == GCFLIP_DONE);
+        gcflip_pace pace = gcflip_pace_default();
+
+        pace.factor = schedule->factor;
+        pace.least = 0;
+        EXPECT(gcflip_thread_open(&thread, WORDS, EXTRA, &pace) == GCFLIP_DONE);
     } else {
         is_over = false;
         loop_flips = 0;
-        EXPECT(gcflip_beside_open(&own, &collector, WORDS) == GCFLIP_DONE);
+        EXPECT(gcflip_beside_open(&own, &collector, WORDS, EXTRA) == GCFLIP_DONE);
         EXPECT(pthread_create(&other, NULL, loop, NULL) == 0);
     }
     for (uint64_t k = 0; k < commands; k++) {

@@ -1,7 +1,7 @@
 """Tests of the library for C whose collector works in another thread: programs of tests/c that call it, and the example.
 
 It tests libgcflip_beside.a, built and installed by bindings/c, with its two headers: each answer, each close and each refused allocation, in one
-thread and in two, also by valgrind; random commands beside a collector's thread under six schedules, a million in all, compared with a machine that never collects; the source
+thread and in two, also by valgrind; the stops of a flip; the pace of the thread; random commands beside a collector's thread under six schedules, a million in all, compared with a machine that never collects; the source
 gcflip_thread.c with sanitizers, ThreadSanitizer among them; the headers by C99 and C++11; the exported symbols; a run of examples/beside. It reports
 what it skips for lack of a tool.
 """
@@ -37,7 +37,7 @@ def programs(_program, folder):
     for name, words, _cpp in compilers():
         if not usable(folder, name, words):
             continue
-        for source in ("beside.c", "beside_refused.c"):
+        for source in ("beside.c", "beside_refused.c", "beside_stops.c", "beside_pace.c"):
             path, why = built.build(words, source, built.archive())
             yield "%s by %s" % (source, name), why or difference(done([path]), Outcome())
         path, why = built.build(words, "beside_threads.c", built.archive())
@@ -52,8 +52,9 @@ def sanitized(_program, folder):
     source = os.path.join(BINDINGS, "gcflip_thread.c")
     for kind, words in [("sanitizers", SANITIZERS), ("ThreadSanitizer", ["-fsanitize=thread", "-g"])]:
         if usable(folder, "beside_threads.c with %s" % kind, ["gcc", *words]):
-            path, why = built.build(["gcc", *words], "beside_threads.c", [source, *built.archive()])
-            yield "beside_threads.c with %s" % kind, why or difference(done([path, "5000", "2"]), Outcome())
+            for name, arguments in [("beside_threads.c", ["5000", "2"]), ("beside_pace.c", [])]:
+                path, why = built.build(["gcc", *words], name, [source, *built.archive()])
+                yield "%s with %s" % (name, kind), why or difference(done([path, *arguments]), Outcome())
     if has_valgrind("beside.c"):
         for name, words in [("beside.c", []), ("beside_refused.c", []), ("beside_threads.c", ["2000", "3"])]:
             path, why = built.build(["gcc"], name, built.archive())

@@ -16,6 +16,7 @@ pub mod Memory
 pub mod InHand
 pub mod Nearing
 pub mod Turn
+pub mod Rooting
 pub mod Handshaking
 pub mod Passing
 pub mod Running

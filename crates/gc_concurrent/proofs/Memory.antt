@@ -33,7 +33,7 @@ use Rattle.gc_concurrent.specs.Internal.Codes.{replica_coded}
 use Rattle.gc_concurrent.specs.Ends.{its}
 use Rattle.gc_concurrent.specs.Internal.Rule.{Loose, lacks, after_read, wants, brought, read_as, placed_one, blank_replica}
 use Rattle.gc_concurrent.specs.Internal.Flip.{Holds}
-use Rattle.gc_concurrent.specs.Internal.Copiers.{Claims, moved_by}
+use Rattle.gc_concurrent.specs.Internal.Copiers.{Claims, KeepsClaims, moved_by}
 use Rattle.gc_concurrent.proofs.CatchUp.{catches_up}
 
 le_prop : (a b : ℕ) → IsProp (a ≤ b)
@@ -275,6 +275,15 @@ claims_placed row t name o c missing low = record { long = length-set row name (
     told a l = dite (ℕ_discrete name a)
         (λ e. subst (λ n. get_or (set row name (new_end (its t))) n 0 ≡ new_end (its t)) e (get_or-set_same row name (new_end (its t)) 0 (let n = c.long in omega arith)) ∙ sym (here a e))
         (λ ne. get_or-set_other row name a (new_end (its t)) 0 (λ e. ne (sym e)) ∙ (c.told a l ∙ sym (other a ne)))
+
+-- a claim more
+pub claim_grown : (row : List ℕ) (name place : ℕ) → name < length row → slice_index (slice_set row name place) name ≡ place
+claim_grown row name place low = get_or-set_same row name place 0 low
+
+pub claims_grown : (row : List ℕ) (name place : ℕ) → place ≢ 0 → name < length row → KeepsClaims row (slice_set row name place)
+claims_grown row name place some low a there = dite (ℕ_discrete name a)
+    (λ e. λ z. some (sym (subst (λ n. slice_index (slice_set row name place) n ≡ place) e (claim_grown row name place low)) ∙ z))
+    (λ ne. λ z. there (sym (get_or-set_other row name a place 0 (λ e. ne (sym e))) ∙ z))
 
 -- ---- the end
 

@@ -65,15 +65,19 @@ value_in [] k v l e = absurd (omega arith)
 value_in (w ∷ ws) zero v l e = inl e
 value_in (w ∷ ws) (suc k) v l e = inr (value_in ws k v (omega arith) e)
 
--- nor where the target of a root has no claim
-pub root_missing : (m : Mine) (t : Theirs) (row roots : List ℕ) → Claims row t → ∥ Loose t ∥₁ → (k a : ℕ) → k < length roots → value_of (slice_index roots k) ≡ Ref a → a < t.old → slice_index row a ≡ 0
-    → is_ready (its t) (graph_in (heap_of m roots)) ≡ false
-root_missing m t row roots claims loose k a l is low none =
-    let rooted : Bool = roots_done (its t) (roots_alone roots) in
-    let lacking : rooted ≡ true → ⊥ = λ done.
+-- where each root's target has a replica, it has a claim
+pub root_claimed : (t : Theirs) (row roots : List ℕ) → Claims row t → ∥ Loose t ∥₁ → (k a : ℕ) → k < length roots → value_of (slice_index roots k) ≡ Ref a → a < t.old
+    → roots_done (its t) (roots_alone roots) ≡ true → slice_index row a ≢ 0
+root_claimed t row roots claims loose k a l is low done none =
     let r = roots_replicated (its t) (roots_alone roots) done (Ref a) (value_in roots k (Ref a) l is) in
     let there : old_links (its t) a ≡ (r.0).place = ap (λ (o : Opt Replica). option_map_or (λ (q : Replica). q.place) o 0) r.1 in
     let some = some_place t loose r.0 (replica_in (its t) a r.0 r.1).0 in
     let told = claims.told a low in
-    omega arith in
-    ap (λ b. list_all is_empty (its t).logs && scan_done (its t) && b) (⊎_elim (λ done. absurd (lacking done)) (λ e. e) (cases_Bool rooted)) ∙ and_false (list_all is_empty (its t).logs && scan_done (its t))
+    omega arith
+
+-- the collection is not ready where a target has none
+pub root_missing : (m : Mine) (t : Theirs) (row roots : List ℕ) → Claims row t → ∥ Loose t ∥₁ → (k a : ℕ) → k < length roots → value_of (slice_index roots k) ≡ Ref a → a < t.old → slice_index row a ≡ 0
+    → is_ready (its t) (graph_in (heap_of m roots)) ≡ false
+root_missing m t row roots claims loose k a l is low none =
+    let rooted : Bool = roots_done (its t) (roots_alone roots) in
+    ap (λ b. list_all is_empty (its t).logs && scan_done (its t) && b) (⊎_elim (λ done. absurd (root_claimed t row roots claims loose k a l is low done none)) (λ e. e) (cases_Bool rooted)) ∙ and_false (list_all is_empty (its t).logs && scan_done (its t))

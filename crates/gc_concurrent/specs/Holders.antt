@@ -1,7 +1,7 @@
 -- What the types of the mutator's and the collector's side hold: a heap, and what the collector knows of it.
-use Rattle.std.specs.Prelude.{Bool}
+use Rattle.std.specs.Prelude.{◌≡◌, ◌⊎◌, Bool}
 use Rattle.gc_heap.specs.Heap.{HeapWords, graph_in}
-use Rattle.gc_plan.specs.Steps.{is_ready}
+use Rattle.gc_plan.specs.Steps.{is_ready, roots_done}
 use Rattle.atomic_table.specs.Seated.{TableId}
 use Rattle.gc_concurrent.specs.declared.commands.Commander.{Commander}
 use Rattle.gc_concurrent.specs.declared.copier.Copier.{Copier}
@@ -38,6 +38,14 @@ heap_held h = heap_of h.copier.seat.me.0.mine h.roots.items
 -- Fewer steps are ahead of a collector that holds the mutator.
 abbrev pub IsNearer : Held → Held → Type 0
 IsNearer old new = ComesNearer (end_of (heap_held old).space) (known_to old.copier) (known_to new.copier)
+
+-- The collector knows the same, or fewer steps are ahead of it.
+abbrev pub StaysOrIsNearer : Held → Held → Type 0
+StaysOrIsNearer old new = (known_to new.copier ≡ known_to old.copier) ⊎ IsNearer old new
+
+-- Each root's target has a replica.
+abbrev pub roots_placed : Held → Bool
+roots_placed h = roots_done (its (known_to h.copier)) (graph_in (heap_held h))
 
 -- Nothing is due, every replica is scanned, and each root's target has a replica.
 abbrev pub may_flip : Held → Bool

@@ -6,4 +6,5 @@ pub mod Rule
 pub mod Flip
 pub mod Copiers
 pub mod Props
+pub mod Settled
 pub mod Handshakes

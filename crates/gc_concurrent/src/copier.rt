@@ -15,7 +15,7 @@ ghost use Rattle.gc_concurrent.specs.Internal.Flip.{HasNothingLeft, Flips};
 ghost use Rattle.gc_concurrent.specs.Ends.{its};
 ghost use Rattle.gc_concurrent.specs.Unreachable.{MayBeCopied};
 ghost use Rattle.gc_concurrent.specs.Internal.Rule.{entries_of_fields, read_as, wants, Loose};
-ghost use Rattle.gc_concurrent.specs.Internal.Copiers.{Claims, KeepsSeat, Nears, logging, moved_by};
+ghost use Rattle.gc_concurrent.specs.Internal.Copiers.{Claims, KeepsClaims, KeepsSeat, Nears, StaysOrNears, logging, moved_by};
 ghost use Rattle.gc_concurrent.specs.Works.{WhereDone, WhereNoRoom};
 ghost use Rattle.gc_concurrent.specs.Internal.Props.{replicas_prop, claims_prop, space_prop};
 
@@ -126,6 +126,7 @@ fn oldest_of(
     ensures some { IfSome result (λ o. entries_of_fields fill fill_next fill_left ++ drop next due.now ≡ (o.name, o.field) ∷ (entries_of_fields fill o.fill_next o.fill_left ++ drop o.next due.now)) }
     ensures filled { IfNone result (fill_left ≡ 0) }
     ensures fills { IfSome result (λ o. (o.fill_left ≤ fill_left) × (fill_left ≢ 0 → o.name ≡ fill)) }
+    ensures taken { IfSome result (λ o. fill_left ≢ 0 → o.fill_left + 1 ≡ fill_left) }
     ensures bounds { IfSome result (λ o. (o.next ≤ length due.now) × (o.fill_next + o.fill_left < 2 ^ 16)) }
 {
     if fill_left > 0 {
@@ -172,6 +173,7 @@ impl Copier {
         requires clear { self.old.has_wanted ≡ false }
         requires filled { self.old.fill_left ≡ 0 }
         ensures nears { Nears self.old.seat.me self.new.seat.me }
+        ensures claims { self.new.claims.items ≡ self.old.claims.items }
         ensures seat { KeepsSeat self.old.seat.me self.new.seat.me }
         ensures row { (self.new.seat.table_id ≡ self.old.seat.table_id) × (self.new.size ≡ self.old.size) }
     {
@@ -208,6 +210,8 @@ impl Copier {
         ensures seat { KeepsSeat self.old.seat.me self.new.seat.me }
         ensures row { (self.new.seat.table_id ≡ self.old.seat.table_id) × (self.new.size ≡ self.old.size) }
         ensures none { result ≡ false → self.new.seat.me.0.theirs.due ≡ [] }
+        ensures claims { self.new.claims.items ≡ self.old.claims.items }
+        ensures filled { self.old.fill_left ≢ 0 → (self.new.has_wanted ≡ false) × (self.new.fill_left + 1 ≡ self.old.fill_left) }
     {
         let Some(oldest) = oldest_of(
             self.fill,
@@ -252,6 +256,9 @@ impl Copier {
     fn place_wanted(&mut self) -> bool
         requires wanted { self.old.has_wanted ≡ true }
         ensures nears { IsTrue result → Nears self.old.seat.me self.new.seat.me }
+        ensures clear { IsTrue result → self.new.has_wanted ≡ false }
+        ensures claims { KeepsClaims self.old.claims.items self.new.claims.items }
+        ensures placed { IsTrue result → slice_index self.new.claims.items self.old.wanted ≢ 0 }
         ensures seat { KeepsSeat self.old.seat.me self.new.seat.me }
         ensures room { IsFalse result → self.new.seat.me.0.theirs.size < self.new.seat.me.0.theirs.old }
         ensures row { (self.new.seat.table_id ≡ self.old.seat.table_id) × (self.new.size ≡ self.old.size) }
@@ -281,6 +288,7 @@ impl Copier {
         ensures room { WhereNoRoom result (self.new.seat.me.0.theirs) }
         ensures nears { result ≡ Work.Step → Nears self.old.seat.me self.new.seat.me }
         ensures still { result ≡ Work.Done → self.new.seat.me ≡ self.old.seat.me }
+        ensures claims { KeepsClaims self.old.claims.items self.new.claims.items }
     {
         if self.has_wanted {
             return if self.place_wanted() {
@@ -297,6 +305,38 @@ impl Copier {
         }
         self.scan_one();
         Work::Step
+    }
+
+    // Fills the raw replica that was placed last.
+    fn fill_up(&mut self)
+        requires clear { self.old.has_wanted ≡ false }
+        ensures settled { (self.new.has_wanted ≡ false) × (self.new.fill_left ≡ 0) }
+        ensures claims { self.new.claims.items ≡ self.old.claims.items }
+        ensures nears { StaysOrNears self.old.seat.me self.new.seat.me }
+        ensures seat { KeepsSeat self.old.seat.me self.new.seat.me }
+        ensures row { (self.new.seat.table_id ≡ self.old.seat.table_id) × (self.new.size ≡ self.old.size) }
+    {
+        let left = self.fill_left;
+        for k in 0..left {
+            self.apply_one();
+        }
+    }
+
+    /// Places the object that is wanted, if there is one, and fills the raw replica that was placed last. Returns false if there is no room.
+    pub(crate) fn settle(&mut self) -> bool
+        ensures settled { IsTrue result → (self.new.has_wanted ≡ false) × (self.new.fill_left ≡ 0) }
+        ensures placed { IsTrue result → self.old.has_wanted ≡ true → slice_index self.new.claims.items self.old.wanted ≢ 0 }
+        ensures claims { KeepsClaims self.old.claims.items self.new.claims.items }
+        ensures nears { IsTrue result → StaysOrNears self.old.seat.me self.new.seat.me }
+        ensures seat { KeepsSeat self.old.seat.me self.new.seat.me }
+        ensures room { IsFalse result → self.new.seat.me.0.theirs.size < self.new.seat.me.0.theirs.old }
+        ensures row { (self.new.seat.table_id ≡ self.old.seat.table_id) × (self.new.size ≡ self.old.size) }
+    {
+        if self.has_wanted && !self.place_wanted() {
+            return false;
+        }
+        self.fill_up();
+        true
     }
 
     /// Returns whether nothing is due and every replica is scanned.
@@ -323,6 +363,7 @@ impl Copier {
         requires filled { self.old.fill_left ≡ 0 }
         requires root { (w : ℕ) × IsRootWord self.old.seat.me.0.mine.space.words w × (value_of w ≡ Ref at.0) }
         ensures wants { self.new.seat.me.0.theirs ≡ wants at.0 self.old.seat.me.0.theirs }
+        ensures wanted { (self.new.has_wanted ≡ true) × (self.new.wanted ≡ at.0) × (self.new.claims.items ≡ self.old.claims.items) }
         ensures seat { KeepsSeat (logging self.old.seat.me) self.new.seat.me }
         ensures row { (self.new.seat.table_id ≡ self.old.seat.table_id) × (self.new.size ≡ self.old.size) }
     {

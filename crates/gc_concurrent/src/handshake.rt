@@ -289,9 +289,7 @@ impl Asking {
             held,
         })
     }
-}
 
-impl Asking {
     /// Asks no longer. A mutator that has stopped may go on in the same space. The collection goes on as it stands.
     pub fn withdraw(self) -> Collector
         ensures { result.copier ≡ self.copier }
@@ -304,14 +302,9 @@ impl Asking {
         let found = handshake
             .shared
             .compare_exchange::<Withdraw>(&mut seat, 0, 1, 0);
-        if found == 1 {
-            return Collector {
-                handshake,
-                seat,
-                copier,
-            };
+        if found != 1 {
+            handshake.shared.store::<Go>(&mut seat, 0, 3);
         }
-        handshake.shared.store::<Go>(&mut seat, 0, 3);
         Collector {
             handshake,
             seat,
@@ -328,9 +321,21 @@ pub struct Unflipped {
 }
 
 impl Holding {
-    ghost use Rattle.std.specs.Prelude.{IfErr, OnOk};
+    ghost use Rattle.std.specs.Prelude.{IfErr, IsFalse, IsTrue, OnOk};
     ghost use Rattle.gc_concurrent.specs.Works.{KeepsBeginning, WhereDone, WhereNoRoom};
-    ghost use Rattle.gc_concurrent.specs.Holders.{heap_held, may_flip, IsNearer};
+    ghost use Rattle.gc_concurrent.specs.Holders.{heap_held, may_flip, roots_placed, IsNearer, StaysOrIsNearer};
+
+    /// Gives the target of each root a replica, while the mutator waits. Does not allocate. Returns false if one found no room. The time grows with the number
+    /// of roots, and with the fields of raw objects to which they refer.
+    pub fn place_roots(&mut self) -> bool
+        ensures placed { IsTrue result → roots_placed self.new.held ≡ true }
+        ensures room { IsFalse result → (known_to self.new.held.copier).size < (known_to self.new.held.copier).old }
+        ensures nearer { IsTrue result → StaysOrIsNearer self.old.held self.new.held }
+        ensures begun { KeepsBeginning (known_to self.old.held.copier) (known_to self.new.held.copier) }
+        ensures heap { heap_held self.new.held ≡ heap_held self.old.held }
+    {
+        self.held.place_roots()
+    }
 
     /// Performs one step, while the mutator waits.
     pub fn work(&mut self) -> Work
@@ -338,6 +343,7 @@ impl Holding {
         ensures room { WhereNoRoom result (known_to self.new.held.copier) }
         ensures nearer { result ≡ Work.Step → IsNearer self.old.held self.new.held }
         ensures still { result ≡ Work.Done → known_to self.new.held.copier ≡ known_to self.old.held.copier }
+        ensures rooted { roots_placed self.old.held ≡ true → roots_placed self.new.held ≡ true }
         ensures begun { KeepsBeginning (known_to self.old.held.copier) (known_to self.new.held.copier) }
         ensures heap { heap_held self.new.held ≡ heap_held self.old.held }
     {
@@ -365,7 +371,7 @@ impl Holding {
     }
 
     /// Lets the mutator go on in the new space, and begins the next collection, if the checker says yes. It checks both spaces whole, so the time grows
-    /// with the heap. Fails if something is left to do, if the checker refuses, or if an allocation fails. The mutator's heap is then unchanged.
+    /// with the heap. Fails if something is left to do, if the checker refuses, or if an allocation fails. Nothing has changed then.
     ///
     /// A ready collection is proved to pass. It is checked all the same, so that a flip rests on the checker's theorem alone, which knows nothing of
     /// the collector.
@@ -379,9 +385,8 @@ impl Holding {
         ensures graph { IfOk result (λ collector. graph_in (known_to collector.copier).base ≡ new_graph (its (known_to self.held.copier)) (map value_of self.held.roots.items)) }
         ensures carried { OnOk result (CopiesNothingUnreachable (known_to self.held.copier)) }
         ensures heap { IfErr result (λ refused. heap_held refused.holding.held ≡ heap_held self.held) }
-        ensures nearer { IfErr result (λ refused. refused.why ≡ NoFlip.NotReady → WhereDone Work.Done (known_to self.held.copier) → IsNearer self.held refused.holding.held) }
+        ensures known { IfErr result (λ refused. known_to refused.holding.held.copier ≡ known_to self.held.copier) }
         ensures not_ready { IfErr result (λ refused. refused.why ≡ NoFlip.NotReady → may_flip self.held ≡ false) }
-        ensures begun { IfErr result (λ refused. KeepsBeginning (known_to self.held.copier) (known_to refused.holding.held.copier)) }
     {
         let Holding {
             handshake,
@@ -411,7 +416,7 @@ impl Holding {
         })
     }
 
-    /// Performs steps until the collection is ready, and flips if the checker says yes. Fails if the checker refuses, if an allocation fails, or if the
+    /// Gives each root's target a replica, performs the steps that are left, and flips if the checker says yes. Fails if the checker refuses, if an allocation fails, or if the
     /// new space is smaller than the mutator's.
     pub fn finish<C: Checks>(self, alloc: Global, checker: &C) -> Result<Collector, Unflipped>
         requires { C.can_check checker.now }
@@ -423,6 +428,12 @@ impl Holding {
         ensures begun { IfErr result (λ refused. KeepsBeginning (known_to self.held.copier) (known_to refused.holding.held.copier)) }
     {
         let mut holding = self;
+        if !holding.place_roots() {
+            return Err(Unflipped {
+                holding,
+                why: NoFlip::NotReady,
+            });
+        }
         loop {
             match holding.work() {
                 Work::Step => {}
@@ -432,13 +443,7 @@ impl Holding {
                         why: NoFlip::NotReady,
                     });
                 }
-                Work::Done => match holding.flip(alloc, checker) {
-                    Ok(collector) => return Ok(collector),
-                    Err(refused) => match refused.why {
-                        NoFlip::NotReady => holding = refused.holding,
-                        NoFlip::Refused | NoFlip::NoMemory => return Err(refused),
-                    },
-                },
+                Work::Done => return holding.flip(alloc, checker),
             }
         }
     }

@@ -1,5 +1,5 @@
 //! Both ends of a heap in one hand: the log changes hands, roots get replicas, and the mutator goes on in the new space.
-ghost use Rattle.std.specs.Prelude.{◌≡◌, ◌≢◌, ℕ, ◌<◌, ◌≤◌, true, false, List, [], ◌∷◌, length, map, slice_index, IfOk, IfErr, IfSome, IfNone, IsTrue};
+ghost use Rattle.std.specs.Prelude.{◌≡◌, ◌≢◌, ℕ, ◌<◌, ◌≤◌, true, false, List, [], ◌∷◌, length, map, slice_index, IfOk, IfErr, IfSome, IfNone, IsTrue, OnOk};
 ghost use Rattle.std.specs.Arc.{arc_value};
 ghost use Rattle.std.specs.List.{All};
 ghost use Rattle.gc_graph.specs.Graph.{Ref};
@@ -19,7 +19,7 @@ ghost use Rattle.gc_concurrent.specs.Internal.Props.{heap_prop, leads_prop};
 ghost use Rattle.gc_concurrent.specs.Ends.{its, opening_theirs};
 ghost use Rattle.gc_concurrent.specs.Internal.Rule.{entries_of_fields};
 ghost use Rattle.gc_concurrent.specs.Internal.Flip.{HasNothingLeft, Flips};
-ghost use Rattle.gc_concurrent.specs.Internal.Copiers.{KeepsSeat, moved_by, IsTargetIn};
+ghost use Rattle.gc_concurrent.specs.Internal.Copiers.{AreClaimed, KeepsClaims, LacksOne, moved_by};
 ghost use Rattle.gc_concurrent.specs.Heaps.{CorrespondsTo};
 ghost use Rattle.gc_concurrent.specs.Checking.{CertifiesFlip, flip_shown};
 
@@ -31,7 +31,7 @@ use crate::mutator::Mutator;
 use crate::plays::{Flipped, Roles, Rooted, Took};
 use gc_check::Checks;
 use gc_graph::NoMemory;
-use gc_words::{Addr, Space};
+use gc_words::Space;
 use std::alloc::{AllocError, AllocFailed, Global};
 use std::sync::Arc;
 
@@ -120,21 +120,15 @@ pub(crate) fn hold(commander: Commander, copier: Copier) -> Held
     }
 }
 
-/// Why roots were not moved.
-#[derive(Clone, Copy)]
-enum Missing {
-    NoMemory,
-    Target(Addr),
-}
-
-// The root words as they refer to replicas, or the target of one that has none.
-fn moved_roots(alloc: Global, claims: &[u32], roots: &[u64]) -> Result<Vec<u64>, Missing>
+// The root words as they refer to replicas. Fails if the target of one has none.
+fn moved_roots(alloc: Global, claims: &[u32], roots: &[u64]) -> Result<Vec<u64>, NoFlip>
     requires values { (k : ℕ) → k < length roots.now → IsTrue (is_value (slice_index roots.now k)) }
     requires inside { (k a : ℕ) → k < length roots.now → value_of (slice_index roots.now k) ≡ Ref a → a < length claims.now }
     requires places { (a : ℕ) → slice_index claims.now a < 4294967295 }
     ensures moved { IfOk result (λ v. v.items ≡ map (λ w. word_of (moved_by claims.now (value_of w))) roots.now) }
-    ensures placed { IfOk result (λ v. (k a : ℕ) → k < length roots.now → value_of (slice_index roots.now k) ≡ Ref a → slice_index claims.now a ≢ 0) }
-    ensures target { IfErr result (λ e. IsTargetIn e claims.now roots.now) }
+    ensures placed { OnOk result (AreClaimed claims.now roots.now) }
+    ensures lacking { IfErr result (λ why. why ≡ NoFlip.NotReady → LacksOne claims.now roots.now) }
+    ensures never_refused { IfErr result (λ why. why ≢ NoFlip.Refused) }
 {
     let mut moved = Vec::new(alloc);
     for k in 0..roots.len() {
@@ -142,10 +136,10 @@ fn moved_roots(alloc: Global, claims: &[u32], roots: &[u64]) -> Result<Vec<u64>,
             Ok(word) => {
                 match moved.push(word) {
                     Ok(()) => {}
-                    Err(AllocFailed { .. }) => return Err(Missing::NoMemory),
+                    Err(AllocFailed { .. }) => return Err(NoFlip::NoMemory),
                 }
             }
-            Err(at) => return Err(Missing::Target(at)),
+            Err(_) => return Err(NoFlip::NotReady),
         }
     }
     Ok(moved)
@@ -173,9 +167,10 @@ impl From<NoMemory> for NoFlip {
 }
 
 impl Held {
-    ghost use Rattle.std.specs.Prelude.{OnOk};
+    ghost use Rattle.std.specs.Prelude.{IsFalse};
     ghost use Rattle.gc_concurrent.specs.Works.{KeepsBeginning, WhereDone, WhereNoRoom};
-    ghost use Rattle.gc_concurrent.specs.Holders.{heap_in, heap_held, known_to, logs_writes, may_flip, IsNearer};
+    ghost use Rattle.gc_concurrent.specs.Holders.{heap_in, heap_held, known_to, logs_writes, may_flip, roots_placed, IsNearer, StaysOrIsNearer};
+    ghost use Rattle.gc_concurrent.specs.Internal.Settled.{IsSettled};
 
     /// Performs one step of the collector, while the mutator waits.
     pub(crate) fn work(&mut self) -> Work
@@ -184,6 +179,7 @@ impl Held {
         ensures room { WhereNoRoom result (known_to self.new.copier) }
         ensures nearer { result ≡ Work.Step → IsNearer self.old self.new }
         ensures still { result ≡ Work.Done → known_to self.new.copier ≡ known_to self.old.copier }
+        ensures rooted { roots_placed self.old ≡ true → roots_placed self.new ≡ true }
         ensures begun { KeepsBeginning (known_to self.old.copier) (known_to self.new.copier) }
         ensures row { self.new.copier.seat.table_id ≡ self.old.copier.seat.table_id }
     {
@@ -252,8 +248,54 @@ impl Held {
         )
     }
 
+    // Gives the target of a root a replica.
+    fn place_root(&mut self, k: usize) -> bool
+        requires root { k < length self.old.roots.items }
+        requires settled { IsSettled self.old.copier }
+        ensures settled { IsTrue result → IsSettled self.new.copier }
+        ensures placed { IsTrue result → (a : ℕ) → value_of (slice_index self.old.roots.items k) ≡ Ref a → slice_index self.new.copier.claims.items a ≢ 0 }
+        ensures claims { KeepsClaims self.old.copier.claims.items self.new.copier.claims.items }
+        ensures roots { self.new.roots.items ≡ self.old.roots.items }
+        ensures heap { heap_held self.new ≡ heap_held self.old }
+        ensures nearer { IsTrue result → StaysOrIsNearer self.old self.new }
+        ensures room { IsFalse result → (known_to self.new.copier).size < (known_to self.new.copier).old }
+        ensures begun { KeepsBeginning (known_to self.old.copier) (known_to self.new.copier) }
+        ensures row { self.new.copier.seat.table_id ≡ self.old.copier.seat.table_id }
+    {
+        let word = self.roots[k];
+        let moved = moved_word(self.copier.claims.as_slice(), word);
+        match moved {
+            Ok(_) => true,
+            Err(at) => {
+                self.copier.want(at);
+                self.logs = true;
+                self.copier.settle()
+            }
+        }
+    }
+
+    /// Gives the target of each root a replica, while the mutator waits. Returns false if one found no room.
+    pub(crate) fn place_roots(&mut self) -> bool
+        ensures placed { IsTrue result → roots_placed self.new ≡ true }
+        ensures heap { heap_held self.new ≡ heap_held self.old }
+        ensures nearer { IsTrue result → StaysOrIsNearer self.old self.new }
+        ensures room { IsFalse result → (known_to self.new.copier).size < (known_to self.new.copier).old }
+        ensures begun { KeepsBeginning (known_to self.old.copier) (known_to self.new.copier) }
+        ensures row { self.new.copier.seat.table_id ≡ self.old.copier.seat.table_id }
+    {
+        if !self.copier.settle() {
+            return false;
+        }
+        for k in 0..self.roots.len() {
+            if !self.place_root(k) {
+                return false;
+            }
+        }
+        true
+    }
+
     /// The mutator goes on in the new space, and the next collection begins, unless something is left to do, the checker refuses, or an allocation
-    /// fails. If a root's target has no replica, it is then wanted.
+    /// fails.
     pub(crate) fn flip<C: Checks>(
         mut self,
         alloc: Global,
@@ -272,10 +314,9 @@ impl Held {
         ensures never_refused { IfErr result (λ r. r.1 ≢ NoFlip.Refused) }
         ensures row { IfOk result (λ r. r.0.mutator.seat.table_id ≡ r.1.seat.table_id) }
         ensures heap { IfErr result (λ r. heap_held r.0 ≡ heap_held self) }
-        ensures nearer { IfErr result (λ r. r.1 ≡ NoFlip.NotReady → WhereDone Work.Done (known_to self.copier) → IsNearer self r.0) }
+        ensures known { IfErr result (λ r. known_to r.0.copier ≡ known_to self.copier) }
         ensures not_ready { IfErr result (λ r. r.1 ≡ NoFlip.NotReady → may_flip self ≡ false) }
         ensures same { IfErr result (λ r. r.0.copier.seat.table_id ≡ self.copier.seat.table_id) }
-        ensures begun { IfErr result (λ r. KeepsBeginning (known_to self.copier) (known_to r.0.copier)) }
     {
         if !self.copier.is_idle() {
             return Err((self, NoFlip::NotReady));
@@ -283,14 +324,7 @@ impl Held {
         let moved = moved_roots(alloc, self.copier.claims.as_slice(), self.roots.as_slice());
         let roots = match moved {
             Ok(roots) => roots,
-            Err(missing) => match missing {
-                Missing::NoMemory => return Err((self, NoFlip::NoMemory)),
-                Missing::Target(at) => {
-                    self.copier.want(at);
-                    self.logs = true;
-                    return Err((self, NoFlip::NotReady));
-                }
-            },
+            Err(why) => return Err((self, why)),
         };
         if let Err(why) = self.check(alloc, checker, roots.as_slice()) {
             return Err((self, why));

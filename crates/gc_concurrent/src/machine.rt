@@ -1,7 +1,8 @@
-//! The mutator's commands, as gc_graph's machine performs them.
+//! Any command of gc_graph's machine, and what the commands on roots by their places stand on.
 ghost use Rattle.std.specs.Prelude.{◌≡◌, ℕ, List, true, ◌<◌, ◌≤◌, ◌+◌, ◌*◌, ◌^◌, length, slice_set, IfOk, OnErr, if◌then◌else◌};
 ghost use Rattle.gc_graph.specs.Graph.{object_of, field_of, root};
 ghost use Rattle.gc_graph.specs.Machine.{get_field, view_of, same as same_in};
+ghost use Rattle.gc_graph.specs.Slots.{place as slot_place, roots_of};
 ghost use Rattle.gc_words.specs.Word.{value_of, field_value};
 ghost use Rattle.gc_words.specs.Image.{objects_of};
 ghost use Rattle.gc_words.specs.Closed.{IsRootWord, IsFieldWord};
@@ -14,7 +15,7 @@ ghost use Rattle.gc_concurrent.specs.Holders.{cells_of, heap_in, logs_writes};
 ghost use Rattle.gc_concurrent.specs.Machines.{Does};
 
 use crate::commands::Commander;
-use gc_graph::{NoMemory, Number, Op, Reply, Slot, View};
+use gc_graph::{NoMemory, Op, Reply, Slot, View};
 use gc_words::{Header, Value, encode, target_of, value_in};
 
 // The root word of the same value as this field word of an object with this header.
@@ -30,6 +31,14 @@ fn root_word(header: Header, field: u64) -> u64
     }
 }
 
+// The place of the one mutator's slot in the list of roots.
+fn place_of(slot: Slot) -> u32
+    ensures place { result ≡ slot_place slot 0 }
+    ensures slot { result < roots_of 1 }
+{
+    slot.place(0) as u32
+}
+
 impl Commander {
     /// Writes a word into a root.
     pub(crate) fn set_at(&mut self, place: usize, word: u64) -> Reply
@@ -42,46 +51,6 @@ impl Commander {
     {
         self.roots[place] = word;
         Reply::Done
-    }
-
-    /// Sets `d` to the number: `Done`.
-    pub fn num(&mut self, d: Slot, n: Number) -> Reply
-        ensures step { Does (heap_in self.old) (Op.Num d n) result (heap_in self.new) }
-        ensures cells { cells_of self.new ≡ cells_of self.old }
-    {
-        self.num_root(d.place(0) as u32, n)
-    }
-
-    /// Sets `d` to nil: `Done`.
-    pub fn nil(&mut self, d: Slot) -> Reply
-        ensures step { Does (heap_in self.old) (Op.Nil d) result (heap_in self.new) }
-        ensures cells { cells_of self.new ≡ cells_of self.old }
-    {
-        self.nil_root(d.place(0) as u32)
-    }
-
-    /// Sets `d` to the value of `s`: `Done`.
-    pub fn move_slot(&mut self, d: Slot, s: Slot) -> Reply
-        ensures step { Does (heap_in self.old) (Op.Move d s) result (heap_in self.new) }
-        ensures cells { cells_of self.new ≡ cells_of self.old }
-    {
-        self.copy_root(d.place(0) as u32, s.place(0) as u32)
-    }
-
-    /// Makes a new object: `Made` or `Full`.
-    pub fn new_object(&mut self, d: Slot, kind: u8, len: u16) -> Reply
-        ensures step { Does (heap_in self.old) (Op.New d kind len) result (heap_in self.new) }
-        ensures cells { cells_of self.new ≡ cells_of self.old }
-    {
-        self.new_root(d.place(0) as u32, kind, len)
-    }
-
-    /// Makes a new raw object: `Made` or `Full`.
-    pub fn new_raw(&mut self, d: Slot, kind: u8, len: u16) -> Reply
-        ensures step { Does (heap_in self.old) (Op.NewRaw d kind len) result (heap_in self.new) }
-        ensures cells { cells_of self.new ≡ cells_of self.old }
-    {
-        self.new_raw_root(d.place(0) as u32, kind, len)
     }
 
     /// Returns what mutators see of the value of a word.
@@ -108,14 +77,6 @@ impl Commander {
         }
     }
 
-    /// Returns what mutators see of the value of `s`: `Saw`.
-    pub fn look(&mut self, s: Slot) -> Reply
-        ensures step { Does (heap_in self.old) (Op.Look s) result (heap_in self.new) }
-        ensures cells { cells_of self.new ≡ cells_of self.old }
-    {
-        self.look_root(s.place(0) as u32)
-    }
-
     // Whether two roots hold the same value. Equal values have equal words.
     #[tactic(auto, using(gc_heap::proofs::Public::read_root, gc_heap::proofs::Public::root_word, gc_heap::proofs::Public::same_words, gc_heap::proofs::Public::at_root, gc_heap::proofs::Public::other_words))]
     pub(crate) fn same_at(&self, s: usize, t: usize) -> Reply
@@ -128,13 +89,6 @@ impl Commander {
         } else {
             Reply::No
         }
-    }
-
-    /// Compares the values of `s` and `t`: `Yes` or `No`.
-    pub fn same(&self, s: Slot, t: Slot) -> Reply
-        ensures { Does (heap_in self.now) (Op.Same s t) result (heap_in self.now) }
-    {
-        self.same_root(s.place(0) as u32, t.place(0) as u32)
     }
 
     // Sets root `d` to field `i` of the object that root `s` refers to.
@@ -161,24 +115,6 @@ impl Commander {
         Reply::Saw(seen)
     }
 
-    /// Sets `d` to field `i` of the object that `s` refers to: `Saw`, `NoObject` or `NoField`.
-    pub fn get(&mut self, d: Slot, s: Slot, i: u16) -> Reply
-        ensures step { Does (heap_in self.old) (Op.Get d s i) result (heap_in self.new) }
-        ensures cells { cells_of self.new ≡ cells_of self.old }
-    {
-        self.get_root(d.place(0) as u32, s.place(0) as u32, i)
-    }
-
-    /// Writes the value of `t` to field `i` of the object that `s` refers to: `Done`, `NoObject`, `NoField` or `NoNumber`.
-    pub fn put_field(&mut self, s: Slot, i: u16, t: Slot) -> Result<Reply, NoMemory>
-        ensures step { IfOk result (λ reply. Does (heap_in self.old) (Op.Put s i t) reply (heap_in self.new)) }
-        ensures err { OnErr result (heap_in self.new ≡ heap_in self.old) }
-        ensures logs { OnErr result (logs_writes self.old ≡ true) }
-        ensures cells { cells_of self.new ≡ cells_of self.old }
-    {
-        self.put_root(s.place(0) as u32, i, t.place(0) as u32)
-    }
-
     /// Performs a command. Only a `Put` can fail, if the collector has begun to copy and the log cannot grow. Nothing has changed then.
     pub fn apply(&mut self, op: &Op) -> Result<Reply, NoMemory>
         ensures step { IfOk result (λ reply. Does (heap_in self.old) op.now reply (heap_in self.new)) }
@@ -188,15 +124,15 @@ impl Commander {
         ensures cells { cells_of self.new ≡ cells_of self.old }
     {
         match *op {
-            Op::New { d, kind, len } => Ok(self.new_object(d, kind, len)),
-            Op::NewRaw { d, kind, len } => Ok(self.new_raw(d, kind, len)),
-            Op::Num { d, n } => Ok(self.num(d, n)),
-            Op::Nil { d } => Ok(self.nil(d)),
-            Op::Move { d, s } => Ok(self.move_slot(d, s)),
-            Op::Get { d, s, i } => Ok(self.get(d, s, i)),
-            Op::Put { s, i, t } => self.put_field(s, i, t),
-            Op::Same { s, t } => Ok(self.same(s, t)),
-            Op::Look { s } => Ok(self.look(s)),
+            Op::New { d, kind, len } => Ok(self.new_root(place_of(d), kind, len)),
+            Op::NewRaw { d, kind, len } => Ok(self.new_raw_root(place_of(d), kind, len)),
+            Op::Num { d, n } => Ok(self.num_root(place_of(d), n)),
+            Op::Nil { d } => Ok(self.nil_root(place_of(d))),
+            Op::Move { d, s } => Ok(self.copy_root(place_of(d), place_of(s))),
+            Op::Get { d, s, i } => Ok(self.get_root(place_of(d), place_of(s), i)),
+            Op::Put { s, i, t } => self.put_root(place_of(s), i, place_of(t)),
+            Op::Same { s, t } => Ok(self.same_root(place_of(s), place_of(t))),
+            Op::Look { s } => Ok(self.look_root(place_of(s))),
         }
     }
 }

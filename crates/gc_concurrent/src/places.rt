@@ -1,4 +1,4 @@
-//! The mutator's commands on roots by their places, slots and extra roots alike.
+//! The mutator's commands, as gc_graph's machine performs them. They name roots by their places, slots and extra roots alike.
 ghost use Rattle.std.specs.Prelude.{◌≡◌, true, ◌<◌, length, IfOk, OnErr};
 ghost use Rattle.gc_graph.specs.declared.command.Op.{Op};
 ghost use Rattle.gc_heap.specs.Places.{root_at};
@@ -12,10 +12,10 @@ use gc_words::{Value, encode};
 /// Each takes places of roots, which have to be below `count_roots`: 0 to 31 are the slots, and the extra roots follow.
 impl Commander {
     /// Returns the number of roots.
-    pub fn count_roots(&self) -> usize
+    pub fn count_roots(&self) -> u32
         ensures { result ≡ length self.now.roots.items }
     {
-        self.roots.len()
+        self.roots.len() as u32
     }
 
     /// Sets root `d` to the number: `Done`.

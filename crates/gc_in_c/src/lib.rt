@@ -10,4 +10,4 @@ pub use answer::{
     OUT_OF_RANGE,
 };
 pub use parts::Parts;
-pub use reply::{GcflipView, of_look, of_reply, of_result};
+pub use reply::{GcflipView, of_fetched, of_got, of_look, of_reply, of_result};

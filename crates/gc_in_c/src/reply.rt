@@ -3,10 +3,12 @@
 ghost use Rattle.std.specs.Prelude.{◌≡◌, IfOk, OnErr};
 ghost use Rattle.gc_check.specs.InC.{IsRefusal, no_memory};
 ghost use Rattle.gc_graph.specs.declared.reply.Reply.{Reply};
-ghost use Rattle.gc_in_c.specs.Replies.{seen_in_c, reply_in_c, view_in_c, view_after};
+ghost use Rattle.gc_heap.specs.Commands.{fetched_of};
+ghost use Rattle.gc_in_c.specs.Replies.{seen_in_c, reply_in_c, got_in_c, number_after, view_in_c, view_after};
 
 use crate::answer::{DONE, NIL, NO_FIELD, NO_MEMORY, NO_OBJECT, NUMBER, OBJECT};
 use gc_graph::{NoMemory, Reply, View};
+use gc_heap::Fetched;
 
 /// What a `look` saw, as C sees it. Members that do not apply are 0.
 #[repr(C)]
@@ -59,6 +61,47 @@ pub fn of_result(made: Result<Reply, NoMemory>) -> u32
         Ok(reply) => of_reply(&reply),
         Err(NoMemory) => NO_MEMORY,
     }
+}
+
+/// Returns C's number for what a `get` saw. If it saw a number, writes that to `number`.
+#[inline(always)]
+pub fn of_fetched(fetched: Fetched, number: &mut u64) -> u32
+    ensures value { (reply : Reply) → fetched ≡ fetched_of reply → result ≡ got_in_c reply }
+    ensures number { (reply : Reply) → fetched ≡ fetched_of reply → number.new ≡ number_after number.old reply }
+    ensures made { ¬ IsRefusal result }
+{
+    match fetched {
+        Fetched::NoObject => NO_OBJECT,
+        Fetched::NoField => NO_FIELD,
+        Fetched::Nil => NIL,
+        Fetched::Num(n) => {
+            *number = n.get();
+            NUMBER
+        }
+        Fetched::Object => OBJECT,
+    }
+}
+
+// What a `get` saw, given its reply.
+fn fetched_in(reply: &Reply) -> Fetched
+    ensures { result ≡ fetched_of reply.now }
+{
+    match reply {
+        Reply::NoField => Fetched::NoField,
+        Reply::Saw(View::Nil) => Fetched::Nil,
+        Reply::Saw(View::Num(n)) => Fetched::Num(*n),
+        Reply::Saw(_) => Fetched::Object,
+        _ => Fetched::NoObject,
+    }
+}
+
+/// Does the same for the reply to a `get`.
+pub fn of_got(reply: &Reply, number: &mut u64) -> u32
+    ensures value { result ≡ got_in_c reply.now }
+    ensures number { number.new ≡ number_after number.old reply.now }
+    ensures made { ¬ IsRefusal result }
+{
+    of_fetched(fetched_in(reply), number)
 }
 
 fn view_of(view: &View) -> GcflipView

@@ -1,4 +1,3 @@
--- Lemmas about the box that a handle owns, about steps in a row, and about what commands return.
-pub mod Calls
+-- Lemmas about the box that a handle owns, and about steps in a row.
 pub mod EndBox
 pub mod Stepping

@@ -1,6 +1,7 @@
 -- What a command returns, and where its handle stands then.
-use Rattle.std.specs.Prelude.{◌≡◌, ◌⊎◌, ◌↔◌, ℕ}
+use Rattle.std.specs.Prelude.{◌≡◌, ◌⊎◌, ◌↔◌, ℕ, ◌-◌, length, nat_lt, if◌then◌else◌}
 use Rattle.gc_check.specs.InC.{no_memory, IsRefusal}
+use Rattle.gc_graph.specs.Limits.{lengths}
 use Rattle.gc_graph.specs.declared.command.Op.{Op}
 use Rattle.gc_graph.specs.declared.reply.Reply.{Reply}
 use Rattle.gc_heap.specs.Heap.{HeapWords, roomy_in}
@@ -15,14 +16,19 @@ abbrev pub RunsOn : (HeapWords → HeapWords → Type 0) → Standing → Standi
 RunsOn did (runs heap) (runs later) = did heap later
 RunsOn did old new = ⊥
 
--- Where a handle stands before and after a command, and its answer. `takes` holds if the arguments are in range. `did` relates the heaps before and
--- after a command that is performed.
-pub record IsBesideCall (takes : Type 0) (did : HeapWords → HeapWords → Type 0) (old new : Standing) (answer : ℕ) : Type 0 where
+-- the number of roots of a mutator that runs
+abbrev pub roots_in : Standing → ℕ
+roots_in (runs heap) = length heap.roots
+roots_in s = 0
+
+-- Where a handle stands before and after a command, and its answer. `takes` says of a number of roots whether the arguments are in range. `did` relates the
+-- heaps before and after a command that is performed.
+pub record IsBesideCall (takes : ℕ → Type 0) (did : HeapWords → HeapWords → Type 0) (old new : Standing) (answer : ℕ) : Type 0 where
   pub done : ¬ IsRefusal answer → RunsOn did old new
   -- a refused call changes nothing
   pub refused : IsRefusal answer → new ≡ old
   pub answers : IsRefusal answer → (answer ≡ no_memory) ⊎ (answer ≡ out_of_range) ⊎ (answer ≡ closed_handle) ⊎ (answer ≡ parked_mutator)
-  pub outside : (answer ≡ out_of_range) ↔ (IsRunning old × (¬ takes))
+  pub outside : (answer ≡ out_of_range) ↔ (IsRunning old × (¬ takes (roots_in old)))
   pub stopped : (answer ≡ parked_mutator) ↔ IsParked old
   pub closed : (answer ≡ closed_handle) ↔ ((¬ IsRunning old) × (¬ IsParked old))
 
@@ -31,10 +37,14 @@ abbrev pub GetsReply : Op → (Reply → Type 0) → HeapWords → HeapWords →
 GetsReply op shown old new = (reply : Reply) × Does old op reply new × shown reply
 
 -- a call that performs the command, and returns the number of its reply
-abbrev pub IsBesideCommand : Type 0 → Op → Standing → Standing → ℕ → Type 0
+abbrev pub IsBesideCommand : (ℕ → Type 0) → Op → Standing → Standing → ℕ → Type 0
 IsBesideCommand takes op old new answer = IsBesideCall takes (GetsReply op (λ reply. answer ≡ reply_in_c reply)) old new answer
 
 -- the free words of a mutator that runs
 abbrev pub room_in : Standing → ℕ
 room_in (runs heap) = (roomy_in heap).free
 room_in s = 0
+
+-- the field with this number. No object has so many fields that its last number has one, which stands for all that follow.
+abbrev pub field_numbered : ℕ → ℕ
+field_numbered i = if nat_lt i lengths then i else lengths - 1

@@ -3,6 +3,5 @@ pub mod Commands
 pub mod Handle
 pub mod Internal
 pub mod Opening
-pub mod Roots
 pub mod Stages
 pub mod Standing

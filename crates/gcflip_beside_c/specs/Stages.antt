@@ -7,7 +7,7 @@ use Rattle.gc_words.specs.Space.{end_of}
 use Rattle.gc_words.specs.Word.{value_of}
 use Rattle.gc_heap.specs.Heap.{HeapWords, graph_in}
 use Rattle.gc_plan.specs.State.{new_graph}
-use Rattle.gc_plan.specs.Steps.{is_ready}
+use Rattle.gc_plan.specs.Steps.{is_ready, roots_done}
 use Rattle.gc_concurrent.specs.Ends.{Theirs, its, opening_theirs}
 use Rattle.gc_concurrent.specs.Unreachable.{CopiesNothingUnreachable}
 use Rattle.gc_concurrent.specs.Heaps.{GoesOnIn}
@@ -55,6 +55,11 @@ abbrev pub IsHolding : Standing → Type 0
 IsHolding (holds t heap) = ⊤
 IsHolding s = ⊥
 
+-- the collector holds a mutator, and the target of each of its roots has a replica
+abbrev pub HasRootsPlaced : Standing → Type 0
+HasRootsPlaced (holds t heap) = roots_done (its t) (graph_in heap) ≡ true
+HasRootsPlaced s = ⊥
+
 -- nothing is due, every replica is scanned, and no object is wanted
 abbrev pub IsIdle : Standing → Type 0
 IsIdle (works t) = WhereDone work.Done t
@@ -73,6 +78,7 @@ LacksRoom s = ⊥
 pub record HasWorked (most : ℕ) (old new : Standing) (answer : ℕ) : Type 0 where
   pub kept : outline new ≡ outline old
   pub nearer : IsHolding old → answer ≡ done → ahead new + most ≤ ahead old
+  pub rooted : HasRootsPlaced old → HasRootsPlaced new
   pub idle : answer ≡ clean → IsIdle new
   pub room : answer ≡ no_room → LacksRoom new
   pub answers : (answer ≡ done) ⊎ (answer ≡ clean) ⊎ (answer ≡ no_room)
@@ -131,20 +137,26 @@ abbrev pub HoldsOn : (Theirs → Type 0) → HeapWords → Standing → Type 0
 HoldsOn P heap (holds u later) = (later ≡ heap) × P u
 HoldsOn P heap new = ⊥
 
--- Something was left to do. After `clean` fewer steps are ahead now, since a root's target is wanted.
-pub record IsUnready (t : Theirs) (heap : HeapWords) (u : Theirs) : Type 0 where
-  pub unready : is_ready (its t) (graph_in heap) ≡ false
-  pub nearer : WhereDone work.Done t → steps_ahead (end_of heap.space) u < steps_ahead (end_of heap.space) t
+-- The target of each root has a replica now. Nothing has changed, or fewer steps are ahead.
+pub record IsRooted (t : Theirs) (heap : HeapWords) (u : Theirs) : Type 0 where
+  pub rooted : roots_done (its u) (graph_in heap) ≡ true
+  pub nearer : (u ≡ t) ⊎ (steps_ahead (end_of heap.space) u < steps_ahead (end_of heap.space) t)
   pub begun : KeepsBeginning t u
+
+abbrev pub PlacesRoots : Standing → Standing → ℕ → Type 0
+PlacesRoots (works t) new answer = (answer ≡ not_yet) × (new ≡ works t)
+PlacesRoots (asks t) new answer = (answer ≡ not_yet) × (new ≡ asks t)
+PlacesRoots (holds t heap) new answer = ((answer ≡ done) × HoldsOn (IsRooted t heap) heap new) ⊎ ((answer ≡ no_room) × (t.size < t.old) × HoldsOn (KeepsBeginning t) heap new)
+PlacesRoots old new answer = (answer ≡ closed_handle) × (new ≡ old)
 
 abbrev pub FlipsHeld : (CertifiedPair → Type 0) → Standing → Standing → ℕ → Type 0
 FlipsHeld says (works t) new answer = (answer ≡ not_yet) × (new ≡ works t)
 FlipsHeld says (asks t) new answer = (answer ≡ not_yet) × (new ≡ asks t)
 FlipsHeld says (holds t heap) new answer =
-    ((answer ≡ flip_made) × WorksAfter (IsFlip says t heap) new) ⊎ ((answer ≡ not_ready) × HoldsOn (IsUnready t heap) heap new) ⊎ ((answer ≡ no_memory) × HoldsOn (KeepsBeginning t) heap new)
+    ((answer ≡ flip_made) × WorksAfter (IsFlip says t heap) new) ⊎ ((answer ≡ not_ready) × (is_ready (its t) (graph_in heap) ≡ false) × (new ≡ holds t heap)) ⊎ ((answer ≡ no_memory) × (new ≡ holds t heap))
 FlipsHeld says old new answer = (answer ≡ closed_handle) × (new ≡ old)
 
--- The steps that were left led to such a flip. It is refused only for lack of memory, or if the new space is smaller than the mutator's.
+-- Roots' targets got replicas, and the steps that were left led to such a flip. It is refused only for lack of memory, or if the new space is smaller than the mutator's.
 abbrev pub FinishesHeld : (CertifiedPair → Type 0) → Standing → Standing → ℕ → Type 0
 FinishesHeld says (works t) new answer = (answer ≡ not_yet) × (new ≡ works t)
 FinishesHeld says (asks t) new answer = (answer ≡ not_yet) × (new ≡ asks t)

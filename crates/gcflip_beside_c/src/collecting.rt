@@ -2,7 +2,7 @@
 
 ghost use Rattle.std.specs.Prelude.{◌≡◌, ◌≢◌};
 ghost use Rattle.gcflip_beside_c.specs.Internal.Stepping.{StepsOn, why_in_c};
-ghost use Rattle.gcflip_beside_c.specs.Stages.{Asks, TakesMutator, Goes, FlipsHeld, FinishesHeld, IsCertifiedPair, HasWorked, IsBesideWork};
+ghost use Rattle.gcflip_beside_c.specs.Stages.{Asks, TakesMutator, Goes, PlacesRoots, FlipsHeld, FinishesHeld, IsCertifiedPair, HasWorked, IsBesideWork};
 ghost use Rattle.gcflip_beside_c.specs.Standing.{standing, standing_of, IsCollector};
 
 use crate::answer::{
@@ -101,7 +101,7 @@ fn taken(end: End) -> (End, u32)
     }
 }
 
-/// TakesMutator the mutator with its log, if it has stopped and no step is left. Returns 0 if the collector holds it, 13 if not yet, and 3 if the handle has no
+/// Takes the mutator with its log, if it has stopped and no step is left. Returns 0 if the collector holds it, 13 if not yet, and 3 if the handle has no
 /// collector.
 #[unsafe(no_mangle)]
 pub extern "C" fn gcflip_beside_take(collector: &mut GcflipEnd) -> u32
@@ -147,6 +147,26 @@ fn why(refused: NoFlip) -> u32
     }
 }
 
+// Gives the roots of a mutator that is held replicas of their targets.
+fn rooted(end: &mut End) -> u32
+    ensures { PlacesRoots (standing_of end.old) (standing_of end.new) result }
+{
+    match end {
+        End::Working(_) | End::Asking(_) => NOT_YET,
+        End::Holding(holding) => { if holding.place_roots() { DONE } else { NO_ROOM } }
+        _ => CLOSED,
+    }
+}
+
+/// Copies the object of each root that has no replica, while the mutator waits. Does not allocate. Returns 0 if each root's object has a replica, 13 if the
+/// collector does not hold the mutator, and 3 if the handle has no collector.
+#[unsafe(no_mangle)]
+pub extern "C" fn gcflip_beside_place_roots(collector: &mut GcflipEnd) -> u32
+    ensures { PlacesRoots (standing collector.old.end) (standing collector.new.end) result }
+{
+    rooted(lent!(collector))
+}
+
 fn flipped<C: Checks>(alloc: Global, checker: &C, end: End) -> (End, u32)
     requires { C.can_check checker.now }
     ensures { FlipsHeld (C.says_yes checker.now) (standing_of end) (standing_of result.0) result.1 }
@@ -162,10 +182,9 @@ fn flipped<C: Checks>(alloc: Global, checker: &C, end: End) -> (End, u32)
     }
 }
 
-/// FlipsHeld if the collection is ready: the mutator that the collector holds may go on in the new space, and the next collection begins. The flip is made only
-/// if the checker accepts both spaces whole. Returns 43 if it flipped, and 41 if something is left to do; a root's target without a replica is then wanted.
-/// Returns 13 if the collector does not hold the mutator, 3 if the handle has no collector, and 1 if an allocation fails. If it does not flip, the
-/// mutator's heap is unchanged, and the collector still holds it.
+/// Flips if the collection is ready: the mutator that the collector holds may go on in the new space, and the next collection begins. The flip is made only
+/// if the checker accepts both spaces whole. Returns 43 if it flipped, and 41 if something is left to do or a root's object has no replica. Returns 13 if the
+/// collector does not hold the mutator, 3 if the handle has no collector, and 1 if an allocation fails. If it does not flip, nothing has changed.
 #[unsafe(no_mangle)]
 pub extern "C" fn gcflip_beside_flip(alloc: Global, collector: &mut GcflipEnd) -> u32
     ensures { FlipsHeld IsCertifiedPair (standing collector.old.end) (standing collector.new.end) result }
@@ -191,7 +210,7 @@ fn finished<C: Checks>(alloc: Global, checker: &C, end: End) -> (End, u32)
     }
 }
 
-/// Performs all steps that are left, and flips. Returns 43 if it flipped, 13 if the collector does not hold the mutator, and 3 if the handle has no
+/// Copies the objects of roots, performs all steps that are left, and flips. Returns 43 if it flipped, 13 if the collector does not hold the mutator, and 3 if the handle has no
 /// collector. Returns 1 if an allocation fails. The mutator's heap is then unchanged, and the collector still holds it.
 #[unsafe(no_mangle)]
 pub extern "C" fn gcflip_beside_finish(alloc: Global, collector: &mut GcflipEnd) -> u32

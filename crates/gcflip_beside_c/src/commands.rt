@@ -1,60 +1,44 @@
-//! The exports that perform commands. They name a root by its place: first the shared slots, then the mutator's own.
+//! The exports that perform commands. They name a root by its place: first the 32 slots, then the extra roots.
 
-ghost use Rattle.std.specs.Prelude.{◌≡◌, ◌≢◌, ◌<◌, ◌^◌, IfOk, OnErr};
+ghost use Rattle.std.specs.Prelude.{◌≡◌, ◌≢◌, ◌<◌, ◌^◌};
 ghost use Rattle.gc_check.specs.InC.{no_memory, IsRefusal};
 ghost use Rattle.gc_graph.specs.Limits.{kinds, lengths};
 ghost use Rattle.gc_graph.specs.declared.command.Op.{Op};
-ghost use Rattle.gc_plan.specs.Steps.{WritesField};
-ghost use Rattle.gc_concurrent.specs.Machines.{Does};
+ghost use Rattle.gc_heap.specs.Places.{root_at};
+ghost use Rattle.gc_concurrent.specs.Holders.{heap_in};
 ghost use Rattle.gc_in_c.specs.Replies.{reply_in_c, got_in_c, number_after, view_after};
-ghost use Rattle.gcflip_beside_c.specs.Commands.{IsBesideCall, IsBesideCommand, GetsReply, RunsOn, room_in};
-ghost use Rattle.gcflip_beside_c.specs.Roots.{roots, root_placed, field_named};
-ghost use Rattle.gcflip_beside_c.specs.Standing.{standing, standing_of, cells_at, cells_of_end, IsRunning};
+ghost use Rattle.gcflip_beside_c.specs.Commands.{IsBesideCall, IsBesideCommand, GetsReply, field_numbered, room_in, roots_in};
+ghost use Rattle.gcflip_beside_c.specs.Standing.{standing, runs, cells_at};
 
-use crate::answer::{NO_MEMORY, OUT_OF_RANGE};
+use crate::answer::{CLOSED, OUT_OF_RANGE, PARKED};
 use crate::end::End;
-use crate::guards::{root_at, running};
+use crate::guards::{in_range, running};
 use crate::handle::GcflipEnd;
-use crate::reply::of_got;
-use crate::roots::field;
-use gc_graph::{NoMemory, Number, Op, Reply};
-use gc_in_c::{GcflipView, of_look, of_result};
+use gc_concurrent::Commander;
+use gc_graph::Number;
+use gc_in_c::{GcflipView, of_got, of_look, of_reply, of_result};
 
-// Performs a command of the mutator that runs at this end.
-fn performed(end: &mut End, op: &Op) -> Result<Reply, NoMemory>
-    requires { IsRunning (standing_of end.old) }
-    ensures step { IfOk result (λ reply. RunsOn (λ heap later. Does heap op.now reply later) (standing_of end.old) (standing_of end.new)) }
-    ensures err { OnErr result (standing_of end.new ≡ standing_of end.old) }
-    ensures memory { OnErr result (WritesField op.now) }
-    ensures cells { cells_of_end end.new ≡ cells_of_end end.old }
+// The field with this number. No object has field 65535, which stands for all that follow.
+fn field(i: u32) -> u16
+    ensures { result ≡ field_numbered i }
 {
-    match end {
-        End::Running(runner) => runner.commander.apply(op),
-        _ => unreachable!(),
-    }
+    if i < 65536 { i as u16 } else { 65535 }
 }
 
 /// Makes an object of this kind with `count` fields, all nil, and puts a reference to it into root `d`.
 #[unsafe(no_mangle)]
 pub extern "C" fn gcflip_beside_new(mutator: &mut GcflipEnd, d: u32, kind: u32, count: u32) -> u32
-    ensures call { IsBesideCommand ((d < roots) × (kind < kinds) × (count < lengths)) (Op.New (root_placed d) kind count)
+    ensures call { IsBesideCommand (λ roots. (d < roots) × (kind < kinds) × (count < lengths)) (Op.New (root_at d) kind count)
         (standing mutator.old.end) (standing mutator.new.end) result }
     ensures memory { result ≢ no_memory }
     ensures cells { cells_at mutator.new.end ≡ cells_at mutator.old.end }
 {
-    let end = running!(mutator);
-    let d = root_at!(d);
+    let runner = running!(mutator);
+    in_range!(runner.commander, d);
     if kind > 255 || count > 65535 {
         return OUT_OF_RANGE;
     }
-    of_result(performed(
-        end,
-        &Op::New {
-            d,
-            kind: kind as u8,
-            len: count as u16,
-        },
-    ))
+    of_reply(&runner.commander.new_root(d, kind as u8, count as u16))
 }
 
 /// Makes a raw object of this kind with `count` fields that are numbers, all 0, and puts a reference to it into root `d`.
@@ -65,65 +49,58 @@ pub extern "C" fn gcflip_beside_new_raw(
     kind: u32,
     count: u32,
 ) -> u32
-    ensures call { IsBesideCommand ((d < roots) × (kind < kinds) × (count < lengths)) (Op.NewRaw (root_placed d) kind count)
+    ensures call { IsBesideCommand (λ roots. (d < roots) × (kind < kinds) × (count < lengths)) (Op.NewRaw (root_at d) kind count)
         (standing mutator.old.end) (standing mutator.new.end) result }
     ensures memory { result ≢ no_memory }
     ensures cells { cells_at mutator.new.end ≡ cells_at mutator.old.end }
 {
-    let end = running!(mutator);
-    let d = root_at!(d);
+    let runner = running!(mutator);
+    in_range!(runner.commander, d);
     if kind > 255 || count > 65535 {
         return OUT_OF_RANGE;
     }
-    of_result(performed(
-        end,
-        &Op::NewRaw {
-            d,
-            kind: kind as u8,
-            len: count as u16,
-        },
-    ))
+    of_reply(&runner.commander.new_raw_root(d, kind as u8, count as u16))
 }
 
 /// Puts the number `n`, which must be below 2^63, into root `d`.
 #[unsafe(no_mangle)]
 pub extern "C" fn gcflip_beside_set_number(mutator: &mut GcflipEnd, d: u32, n: u64) -> u32
-    ensures call { IsBesideCommand ((d < roots) × (n < 2 ^ 63)) (Op.Num (root_placed d) n) (standing mutator.old.end) (standing mutator.new.end) result }
+    ensures call { IsBesideCommand (λ roots. (d < roots) × (n < 2 ^ 63)) (Op.Num (root_at d) n) (standing mutator.old.end) (standing mutator.new.end) result }
     ensures memory { result ≢ no_memory }
     ensures cells { cells_at mutator.new.end ≡ cells_at mutator.old.end }
 {
-    let end = running!(mutator);
-    let d = root_at!(d);
+    let runner = running!(mutator);
+    in_range!(runner.commander, d);
     let Some(number) = Number::new(n) else {
         return OUT_OF_RANGE;
     };
-    of_result(performed(end, &Op::Num { d, n: number }))
+    of_reply(&runner.commander.num_root(d, number))
 }
 
 /// Puts nil into root `d`.
 #[unsafe(no_mangle)]
 pub extern "C" fn gcflip_beside_set_nil(mutator: &mut GcflipEnd, d: u32) -> u32
-    ensures call { IsBesideCommand (d < roots) (Op.Nil (root_placed d)) (standing mutator.old.end) (standing mutator.new.end) result }
+    ensures call { IsBesideCommand (λ roots. d < roots) (Op.Nil (root_at d)) (standing mutator.old.end) (standing mutator.new.end) result }
     ensures memory { result ≢ no_memory }
     ensures cells { cells_at mutator.new.end ≡ cells_at mutator.old.end }
 {
-    let end = running!(mutator);
-    let d = root_at!(d);
-    of_result(performed(end, &Op::Nil { d }))
+    let runner = running!(mutator);
+    in_range!(runner.commander, d);
+    of_reply(&runner.commander.nil_root(d))
 }
 
 /// Copies the value of root `s` into root `d`.
 #[unsafe(no_mangle)]
 pub extern "C" fn gcflip_beside_copy(mutator: &mut GcflipEnd, d: u32, s: u32) -> u32
-    ensures call { IsBesideCommand ((d < roots) × (s < roots)) (Op.Move (root_placed d) (root_placed s))
+    ensures call { IsBesideCommand (λ roots. (d < roots) × (s < roots)) (Op.Move (root_at d) (root_at s))
         (standing mutator.old.end) (standing mutator.new.end) result }
     ensures memory { result ≢ no_memory }
     ensures cells { cells_at mutator.new.end ≡ cells_at mutator.old.end }
 {
-    let end = running!(mutator);
-    let d = root_at!(d);
-    let s = root_at!(s);
-    of_result(performed(end, &Op::Move { d, s }))
+    let runner = running!(mutator);
+    in_range!(runner.commander, d);
+    in_range!(runner.commander, s);
+    of_reply(&runner.commander.copy_root(d, s))
 }
 
 /// Reads field `i` of the object that root `s` refers to into root `d`. If the value is a number, also writes it to `number`. If it is a reference, the
@@ -136,63 +113,87 @@ pub extern "C" fn gcflip_beside_get(
     i: u32,
     number: &mut u64,
 ) -> u32
-    ensures call { IsBesideCall ((d < roots) × (s < roots)) (GetsReply (Op.Get (root_placed d) (root_placed s) (field_named i))
+    ensures call { IsBesideCall (λ roots. (d < roots) × (s < roots)) (GetsReply (Op.Get (root_at d) (root_at s) (field_numbered i))
         (λ reply. (result ≡ got_in_c reply) × (number.new ≡ number_after number.old reply))) (standing mutator.old.end) (standing mutator.new.end) result }
     ensures silent { IsRefusal result → number.new ≡ number.old }
     ensures memory { result ≢ no_memory }
     ensures cells { cells_at mutator.new.end ≡ cells_at mutator.old.end }
 {
-    let end = running!(mutator);
-    let d = root_at!(d);
-    let s = root_at!(s);
-    match performed(end, &Op::Get { d, s, i: field(i) }) {
-        Ok(reply) => of_got(&reply, number),
-        Err(NoMemory) => NO_MEMORY,
-    }
+    let runner = running!(mutator);
+    in_range!(runner.commander, d);
+    in_range!(runner.commander, s);
+    of_got(&runner.commander.get_root(d, s, field(i)), number)
 }
 
 /// Writes the value of root `t` to field `i` of the object that root `s` refers to, and logs the field once the collector has begun to copy. Only this command
 /// allocates.
 #[unsafe(no_mangle)]
 pub extern "C" fn gcflip_beside_put(mutator: &mut GcflipEnd, s: u32, i: u32, t: u32) -> u32
-    ensures call { IsBesideCommand ((s < roots) × (t < roots)) (Op.Put (root_placed s) (field_named i) (root_placed t))
+    ensures call { IsBesideCommand (λ roots. (s < roots) × (t < roots)) (Op.Put (root_at s) (field_numbered i) (root_at t))
         (standing mutator.old.end) (standing mutator.new.end) result }
     ensures cells { cells_at mutator.new.end ≡ cells_at mutator.old.end }
 {
-    let end = running!(mutator);
-    let s = root_at!(s);
-    let t = root_at!(t);
-    of_result(performed(end, &Op::Put { s, i: field(i), t }))
+    let runner = running!(mutator);
+    in_range!(runner.commander, s);
+    in_range!(runner.commander, t);
+    of_result(runner.commander.put_root(s, field(i), t))
+}
+
+// Compares the values of two roots, which this command leaves as they are.
+fn compared(commander: &Commander, s: u32, t: u32) -> u32
+    ensures call { IsBesideCommand (λ roots. (s < roots) × (t < roots)) (Op.Same (root_at s) (root_at t))
+        (runs (heap_in commander.now)) (runs (heap_in commander.now)) result }
+    ensures memory { result ≢ no_memory }
+{
+    in_range!(commander, s);
+    in_range!(commander, t);
+    of_reply(&commander.same_root(s, t))
 }
 
 /// Compares the values of two roots.
 #[unsafe(no_mangle)]
 pub extern "C" fn gcflip_beside_same(mutator: &mut GcflipEnd, s: u32, t: u32) -> u32
-    ensures call { IsBesideCommand ((s < roots) × (t < roots)) (Op.Same (root_placed s) (root_placed t))
+    ensures call { IsBesideCommand (λ roots. (s < roots) × (t < roots)) (Op.Same (root_at s) (root_at t))
         (standing mutator.old.end) (standing mutator.new.end) result }
     ensures memory { result ≢ no_memory }
     ensures cells { cells_at mutator.new.end ≡ cells_at mutator.old.end }
 {
-    let end = running!(mutator);
-    let s = root_at!(s);
-    let t = root_at!(t);
-    of_result(performed(end, &Op::Same { s, t }))
+    if mutator.is_empty() {
+        return CLOSED;
+    }
+    match mutator.end_mut() {
+        End::Running(runner) => compared(&runner.commander, s, t),
+        End::Parked(_) => PARKED,
+        _ => CLOSED,
+    }
 }
 
 /// Looks at the value of root `s`, and writes what it saw to `view`.
 #[unsafe(no_mangle)]
 pub extern "C" fn gcflip_beside_look(mutator: &mut GcflipEnd, s: u32, view: &mut GcflipView) -> u32
-    ensures call { IsBesideCall (s < roots) (GetsReply (Op.Look (root_placed s))
+    ensures call { IsBesideCall (λ roots. s < roots) (GetsReply (Op.Look (root_at s))
         (λ reply. (result ≡ reply_in_c reply) × (view.new ≡ view_after view.old reply))) (standing mutator.old.end) (standing mutator.new.end) result }
     ensures silent { IsRefusal result → view.new ≡ view.old }
     ensures memory { result ≢ no_memory }
     ensures cells { cells_at mutator.new.end ≡ cells_at mutator.old.end }
 {
-    let end = running!(mutator);
-    let s = root_at!(s);
-    match performed(end, &Op::Look { s }) {
-        Ok(reply) => of_look(&reply, view),
-        Err(NoMemory) => NO_MEMORY,
+    let runner = running!(mutator);
+    in_range!(runner.commander, s);
+    of_look(&runner.commander.look_root(s), view)
+}
+
+/// Returns the number of roots of a mutator that runs, otherwise 0.
+#[unsafe(no_mangle)]
+pub extern "C" fn gcflip_beside_roots(mutator: &mut GcflipEnd) -> u32
+    ensures count { result ≡ roots_in (standing mutator.old.end) }
+    ensures end { mutator.new.end ≡ mutator.old.end }
+{
+    if mutator.is_empty() {
+        return 0;
+    }
+    match mutator.end_mut() {
+        End::Running(runner) => runner.commander.count_roots(),
+        _ => 0,
     }
 }
 

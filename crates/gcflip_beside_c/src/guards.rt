@@ -13,27 +13,23 @@ macro_rules! lent {
 /// Lends the mutator of a handle, which runs. An export also returns `PARKED` if the mutator has stopped, and `CLOSED` if there is none.
 macro_rules! running {
     ($handle:ident) => {{
-        let end = $crate::guards::lent!($handle);
-        if end.is_parked() {
-            return $crate::answer::PARKED;
+        match $crate::guards::lent!($handle) {
+            $crate::end::End::Running(runner) => runner,
+            $crate::end::End::Parked(_) => return $crate::answer::PARKED,
+            _ => return $crate::answer::CLOSED,
         }
-        if !end.is_running() {
-            return $crate::answer::CLOSED;
-        }
-        end
     }};
 }
 
-/// Gives the slot at this place. An export returns `OUT_OF_RANGE` if no root has it.
-macro_rules! root_at {
-    ($place:ident) => {{
-        let Some(slot) = $crate::roots::root($place) else {
+/// An export returns `OUT_OF_RANGE` if the mutator has no root at this place.
+macro_rules! in_range {
+    ($commander:expr, $place:ident) => {{
+        if $place >= $commander.count_roots() {
             return $crate::answer::OUT_OF_RANGE;
-        };
-        slot
+        }
     }};
 }
 
+pub(crate) use in_range;
 pub(crate) use lent;
-pub(crate) use root_at;
 pub(crate) use running;

@@ -60,7 +60,7 @@ impl GcflipEnd {
         GcflipEnd::of_parts(Parts::of(end))
     }
 
-    /// TakesMutator the end out of the handle, if it has one.
+    /// Takes the end out of the handle, if it has one.
     pub(crate) fn take(&mut self, alloc: Global) -> Option<Box<End>>
         ensures end { MatchOption result (self.old.end ≡ None) (λ end. self.old.end ≡ Some end.value) }
         ensures empty { self.new.end ≡ None }

@@ -8,18 +8,16 @@ mod end;
 mod guards;
 mod handle;
 mod opening;
-mod reply;
-mod roots;
 mod stops;
 
 pub use collecting::{
     gcflip_beside_ask, gcflip_beside_finish, gcflip_beside_flip, gcflip_beside_go,
-    gcflip_beside_take, gcflip_beside_work,
+    gcflip_beside_place_roots, gcflip_beside_take, gcflip_beside_work,
 };
 pub use commands::{
     gcflip_beside_copy, gcflip_beside_get, gcflip_beside_look, gcflip_beside_new,
-    gcflip_beside_new_raw, gcflip_beside_put, gcflip_beside_room, gcflip_beside_same,
-    gcflip_beside_set_nil, gcflip_beside_set_number,
+    gcflip_beside_new_raw, gcflip_beside_put, gcflip_beside_room, gcflip_beside_roots,
+    gcflip_beside_same, gcflip_beside_set_nil, gcflip_beside_set_number,
 };
 pub use handle::GcflipEnd;
 pub use opening::{gcflip_beside_close_collector, gcflip_beside_close_mutator, gcflip_beside_open};

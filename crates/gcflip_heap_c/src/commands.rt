@@ -17,10 +17,9 @@ use crate::rare::{
     MOST_IN_LINE, new_long, new_long_raw, new_pair_while_open, put_number_while_open,
     put_while_open,
 };
-use crate::reply::of_fetched;
 use crate::slots::{NumberedSlots, SLOT_NUMBERS, are_slots, numbered_slot};
 use gc_graph::Number;
-use gc_in_c::{GcflipView, of_look, of_reply, of_result};
+use gc_in_c::{GcflipView, of_fetched, of_look, of_reply, of_result};
 
 /// Makes an object of this kind with `count` fields, all nil, and puts a reference to it into slot `d`.
 #[unsafe(no_mangle)]

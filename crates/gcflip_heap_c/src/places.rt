@@ -17,10 +17,9 @@ ghost use Rattle.gc_in_c.specs.Replies.{reply_in_c, got_in_c, number_after, view
 use crate::answer::OUT_OF_RANGE;
 use crate::guards::lent;
 use crate::handle::GcflipHeap;
-use crate::reply::of_fetched;
 use gc_collected::Plain;
 use gc_graph::Number;
-use gc_in_c::{GcflipView, of_look, of_reply, of_result};
+use gc_in_c::{GcflipView, of_fetched, of_look, of_reply, of_result};
 
 /// Makes an object of this kind with `count` fields, all nil, and puts a reference to it into root `d`.
 #[unsafe(no_mangle)]

@@ -1,33 +1,11 @@
-//! What a get saw, and replies to steps, as C sees them.
+//! Replies to steps, as C sees them.
 
 ghost use Rattle.std.specs.Prelude.{◌≡◌};
 ghost use Rattle.gc_check.specs.InC.{IsRefusal};
-ghost use Rattle.gc_graph.specs.declared.reply.Reply.{Reply};
-ghost use Rattle.gc_heap.specs.Commands.{fetched_of};
-ghost use Rattle.gc_in_c.specs.Replies.{got_in_c, number_after};
 ghost use Rattle.gcflip_heap_c.specs.Replies.{step_reply_in_c, pairs_after};
 
-use crate::answer::{FLIPPED, NIL, NO_FIELD, NO_OBJECT, NO_ROOM, NUMBER, OBJECT};
+use crate::answer::{FLIPPED, NO_ROOM};
 use gc_copy::StepReply;
-use gc_heap::Fetched;
-
-/// Returns C's number for what a `get` saw. If it saw a number, writes that to `number`.
-pub(crate) fn of_fetched(fetched: Fetched, number: &mut u64) -> u32
-    ensures value { (reply : Reply) → fetched ≡ fetched_of reply → result ≡ got_in_c reply }
-    ensures number { (reply : Reply) → fetched ≡ fetched_of reply → number.new ≡ number_after number.old reply }
-    ensures made { ¬ IsRefusal result }
-{
-    match fetched {
-        Fetched::NoObject => NO_OBJECT,
-        Fetched::NoField => NO_FIELD,
-        Fetched::Nil => NIL,
-        Fetched::Num(n) => {
-            *number = n.get();
-            NUMBER
-        }
-        Fetched::Object => OBJECT,
-    }
-}
 
 /// Returns C's number for the collector's reply.
 pub(crate) fn of_step(reply: StepReply) -> u32

@@ -1,10 +1,8 @@
 -- The collector's memory.
-use Rattle.std.specs.Prelude.{◌≡◌, ℕ, ◌<◌, true, List, length, slice_index}
+use Rattle.std.specs.Prelude.{◌≡◌, ◌≢◌, ◌⊎◌, ℕ, ◌<◌, true, List, length, slice_index}
 use Rattle.gc_graph.specs.Graph.{Value, Nil, Num, Ref}
 use Rattle.gc_plan.specs.Linked.{old_links}
 use Rattle.gc_words.specs.Word.{value_of}
-use Rattle.gc_concurrent.specs.declared.held.Missing.{Missing}
-use Rattle.gc_concurrent.specs.declared.held.Missing.TheVariants.{NoMemory, Target}
 use Rattle.gc_concurrent.specs.Ends.{Theirs, its}
 use Rattle.gc_concurrent.specs.Works.{KeepsBeginning}
 use Rattle.gc_concurrent.specs.Nearing.{ComesNearer}
@@ -37,7 +35,22 @@ logging me = (record me.0 { mine = record me.0.mine { logs = true } }, me.1)
 abbrev pub Nears : Sat → Sat → Type 0
 Nears a b = a.0.writes ≡ true → ComesNearer (end_of a.0.mine.space) a.0.theirs b.0.theirs
 
--- the target is that of one of these root words, and has no replica
-abbrev pub IsTargetIn : Missing → List ℕ → List ℕ → Type 0
-IsTargetIn NoMemory row roots = Unit {0}
-IsTargetIn (Target at) row roots = (k : ℕ) × (k < length roots) × (value_of (slice_index roots k) ≡ Ref at.0) × (slice_index row at.0 ≡ 0)
+-- the seat is the same, or one with fewer steps ahead
+abbrev pub StaysOrNears : Sat → Sat → Type 0
+StaysOrNears a b = (b ≡ a) ⊎ Nears a b
+
+-- no object loses its replica
+abbrev pub KeepsClaims : List ℕ → List ℕ → Type 0
+KeepsClaims old new = (a : ℕ) → slice_index old a ≢ 0 → slice_index new a ≢ 0
+
+-- each target of these root words has a replica
+abbrev pub AreClaimed : List ℕ → List ℕ → Type 0
+AreClaimed row roots = (k a : ℕ) → k < length roots → value_of (slice_index roots k) ≡ Ref a → slice_index row a ≢ 0
+
+-- the target of one of these root words has none
+pub record LacksOne (row roots : List ℕ) : Type 0 where
+  pub place : ℕ
+  pub target : ℕ
+  pub within : place < length roots
+  pub refers : value_of (slice_index roots place) ≡ Ref target
+  pub none : slice_index row target ≡ 0

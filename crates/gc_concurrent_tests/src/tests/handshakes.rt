@@ -45,23 +45,19 @@ fn taken(runner: Runner, mut collector: Collector) -> Result<(Waiting, Holding),
     Ok((waiting, holding))
 }
 
+/// Gives the roots' targets replicas, and performs the steps that are left.
+fn ready(holding: &mut Holding) -> Result<(), Fail> {
+    if holding.place_roots() && ends_held(holding) {
+        return Ok(());
+    }
+    Err(Fail::from("it has room, and ends"))
+}
+
 /// Flips, after as many steps as are wanted.
 fn flipped(alloc: Global, mut holding: Holding) -> Result<Collector, Fail> {
-    for _ in 0..MOST_STEPS {
-        if !ends_held(&mut holding) {
-            break;
-        }
-        match holding.flip(alloc, &Sequential) {
-            Ok(collector) => return Ok(collector),
-            Err(refused) => {
-                if refused.why != NoFlip::NotReady {
-                    break;
-                }
-                holding = refused.holding;
-            }
-        }
-    }
-    Err(Fail::from("it flips"))
+    ready(&mut holding)?;
+    let flipped = holding.flip(alloc, &Sequential);
+    Ok(flipped.ok().ok_or("it flips")?)
 }
 
 /// A checker that never has enough memory.
@@ -85,18 +81,13 @@ impl Checks for WithoutMemory {
 
 /// Asks this checker for a flip, after as many steps as are wanted. Returns the collector that still holds the mutator.
 fn refused_for_memory(alloc: Global, mut holding: Holding) -> Result<Holding, Fail> {
-    for _ in 0..MOST_STEPS {
-        if !ends_held(&mut holding) {
-            break;
-        }
-        let refused = holding
-            .flip(alloc, &WithoutMemory)
-            .err()
-            .ok_or("its checker has no memory")?;
-        holding = refused.holding;
-        if refused.why == NoFlip::NoMemory {
-            return Ok(holding);
-        }
+    ready(&mut holding)?;
+    let refused = holding
+        .flip(alloc, &WithoutMemory)
+        .err()
+        .ok_or("its checker has no memory")?;
+    if refused.why == NoFlip::NoMemory {
+        return Ok(refused.holding);
     }
     Err(Fail::from("its checker is asked"))
 }
@@ -178,7 +169,7 @@ fn a_write_beside_the_collector_is_in_the_new_space(rt: HostRuntime) -> Result<(
         .ok_or("the root has no replica")?;
     assert!(rt; refused.why == NoFlip::NotReady);
     holding = refused.holding;
-    assert!(rt; ends_held(&mut holding));
+    ready(&mut holding)?;
     let collector = holding.go();
     let collector = collector.ask().err().ok_or("it has not gone on")?;
     let mut runner = waiting.resume().ok().ok_or("it may go on")?;

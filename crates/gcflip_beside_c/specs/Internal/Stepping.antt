@@ -6,7 +6,7 @@ use Rattle.gc_concurrent.specs.declared.held.NoFlip.TheVariants as reasons
 use Rattle.gc_concurrent.specs.declared.copier.Work.{Work}
 use Rattle.gc_concurrent.specs.declared.copier.Work.TheVariants as work
 use Rattle.gcflip_beside_c.specs.Answers.{not_ready}
-use Rattle.gcflip_beside_c.specs.Stages.{IsHolding, IsIdle, LacksRoom, ahead, outline}
+use Rattle.gcflip_beside_c.specs.Stages.{HasRootsPlaced, IsHolding, IsIdle, LacksRoom, ahead, outline}
 use Rattle.gcflip_beside_c.specs.Standing.{Standing}
 
 -- one step of a collector
@@ -14,6 +14,7 @@ pub record StepsOn (step : Work) (old new : Standing) : Type 0 where
   pub kept : outline new ≡ outline old
   -- while the mutator is held, each step lowers the number of steps ahead
   pub nearer : IsHolding old → step ≡ work.Step → ahead new + 1 ≤ ahead old
+  pub rooted : HasRootsPlaced old → HasRootsPlaced new
   pub idle : step ≡ work.Done → IsIdle new
   pub room : step ≡ work.NoRoom → LacksRoom new
 

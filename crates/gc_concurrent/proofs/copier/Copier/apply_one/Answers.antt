@@ -324,3 +324,9 @@ returns-in-Err-clause-nears c _ =
     let x : ℕ = c.in-Err.target.0 in
     nears_by (a l).seat.me c.load-word.new.seat.me (wants x (t l)) (wanting l x (one_lacks l c.as_slice-2.result.now c.is_raw.result x c.as_slice-2.ensures.value c.is_raw.ensures c.in-Err.ensures.wanted.0 c.in-Err.ensures.wanted.1))
     (wants_nears _ x (t l) ((a l).wants ∙ ap (λ b. if b then (a l).wanted ∷ [] else []) c.requires.clear))
+
+-- no field of a raw object wants a target
+pub returns-in-Err-clause-filled : goal.returns-in-Err-clause-filled
+returns-in-Err-clause-filled c left =
+    let l = (goal.at.returns-in-Err-clause-filled c).After-load-word in
+    absurd (left (only_values (a l) c.in-Some.oldest.name c.in-Some.ensures.fills.1 (q l) (r l).0.there (r l).1 c.is_raw.result (raw_is l c.is_raw.result c.is_raw.ensures) c.load-word.result c.in-Err.target.0 c.in-Err.ensures.wanted.0))

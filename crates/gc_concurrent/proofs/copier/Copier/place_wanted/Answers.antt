@@ -20,7 +20,7 @@ use Rattle.gc_concurrent.specs.Ends.{its}
 use Rattle.gc_concurrent.specs.Internal.Copiers.{Claims}
 use Rattle.gc_concurrent.proofs.TiedCells.{tied, tied_words}
 use Rattle.gc_concurrent.proofs.Placing.{places}
-use Rattle.gc_concurrent.proofs.Memory.{wanted_near, unclaimed, has_room, no_room, placed_same, claims_placed, end_is}
+use Rattle.gc_concurrent.proofs.Memory.{wanted_near, unclaimed, has_room, no_room, placed_same, claims_placed, claim_grown, claims_grown, end_is}
 use Rattle.gc_concurrent.proofs.InHand.{mem, keeps_seat, theirs_is}
 use Rattle.gc_concurrent.proofs.Nearing.{nears_by, placed_nears}
 use Rattle.gc_concurrent.proofs.copier.Copier.place_wanted.Goals as goal
@@ -177,3 +177,17 @@ returns-clause-nears c _ =
     let l = (goal.at.returns-clause-nears c).After-load-word in
     let went = placed l c.of_word-header.result c.of_word-header.ensures (let f = c.has_room.ensures.0 c.if-not-has_room.false in let n = c.len.ensures in omega arith) in
     λ writes. nears_by (a l).seat.me c.load-word.new.seat.me (placed_one (a l).wanted (told l).0 (t l)) went (placed_nears _ (t l) (a l).wanted (told l).0 ((told l).4 writes)) writes
+
+-- the place of the replica is no 0
+pub returns-clause-claims : goal.returns-clause-claims
+returns-clause-claims c =
+    let a = c.args.self.now in
+    let l = low a c.requires.wanted in
+    claims_grown a.claims.items a.wanted c.place-at.result.0 (λ z. let e = c.place-at.ensures.at in let s = a.shaped.end_low in omega arith) (let n = a.claimed.long in omega arith)
+
+pub returns-clause-placed : goal.returns-clause-placed
+returns-clause-placed c _ =
+    let a = c.args.self.now in
+    let l = low a c.requires.wanted in
+    let at = claim_grown a.claims.items a.wanted c.place-at.result.0 (let n = a.claimed.long in omega arith) in
+    λ z. let e = c.place-at.ensures.at in let s = a.shaped.end_low in omega arith

@@ -1,14 +1,13 @@
 -- Where nothing is due and each root has its replica, the new space is the mutator's next one.
-use Rattle.std.proofs.Common.{◌≡◌, ◌≢◌, ℕ, ◌+◌, ◌<◌, ◌≤◌, true, List, [], length, slice_index, map, refl, ap, sym, ◌∙◌, subst, arith}
+use Rattle.std.proofs.Common.{◌≡◌, ℕ, ◌<◌, true, List, [], length, slice_index, map, ap, sym, ◌∙◌, subst, arith}
 use Rattle.gc_graph.specs.Graph.{Ref}
 use Rattle.gc_graph.specs.Correspond.{Corresponding}
 use Rattle.gc_words.specs.Word.{value_of, word_of}
 use Rattle.gc_words.specs.Space.{SpaceWords, end_of}
-use Rattle.gc_words.specs.declared.value.Addr.{Addr}
 use Rattle.gc_heap.specs.Heap.{HeapWords, IsHeap, graph_in}
 use Rattle.gc_plan.specs.Carried.{LeadsOnlyTo}
 use Rattle.gc_concurrent.specs.Unreachable.{MayBeCopied}
-use Rattle.gc_concurrent.proofs.Keeping.{begins_kept, target_leads}
+use Rattle.gc_concurrent.proofs.Keeping.{begins_kept}
 use Rattle.gc_plan.specs.State.{pairs_of}
 use Rattle.gc_plan.specs.Steps.{scan_done}
 use Rattle.gc_concurrent.specs.declared.held.Held.{Held}
@@ -16,21 +15,15 @@ use Rattle.gc_concurrent.specs.Ends.{Mine, one_heap, opening_mine}
 use Rattle.gc_concurrent.specs.Heaps.{heap_of}
 use Rattle.gc_concurrent.specs.Internal.Rule.{Sat}
 use Rattle.gc_concurrent.specs.Ends.{its}
-use Rattle.gc_concurrent.specs.declared.held.Missing.{Missing}
-use Rattle.gc_concurrent.specs.declared.held.Missing.TheVariants.{Target}
-use Rattle.gc_concurrent.specs.Internal.Copiers.{moved_by, IsTargetIn}
+use Rattle.gc_concurrent.specs.Internal.Copiers.{AreClaimed, LacksOne, moved_by}
 use Rattle.gc_concurrent.specs.Internal.Flip.{HasNothingLeft, new_heap_of, moved_words}
 use Rattle.gc_concurrent.proofs.TiedCells.{tied, tied_words}
 use Rattle.gc_concurrent.proofs.Opening.{splits_rule}
 use Rattle.gc_concurrent.proofs.Memory.{claim_low}
 use Rattle.gc_concurrent.proofs.InHand.{mem}
-use Rattle.gc_concurrent.proofs.Turn.{root_near, roots_placed, roots_moved, ready_in, root_missing, value_in}
-use Rattle.gc_concurrent.specs.Nearing.{ComesNearer}
-use Rattle.gc_concurrent.proofs.Nearing.{wants_nears}
+use Rattle.gc_concurrent.proofs.Rooting.{near}
+use Rattle.gc_concurrent.proofs.Turn.{roots_placed, roots_moved, ready_in, root_missing}
 use Rattle.gc_concurrent.proofs.held.Held.flip.Goals as goal
-
-near : (h : Held) (k a : ℕ) → k < length h.roots.items → value_of (slice_index h.roots.items k) ≡ Ref a → a + 2 ≤ h.copier.seat.me.0.theirs.old
-near h k a l is = let n = root_near h.copier.seat.me.0.mine h.roots.items h.sound k a l is in let e = h.ended.1 in let s = h.copier.sized.0 in omega arith
 
 pub moved_roots-moved-requires-clause-inside : goal.moved_roots-moved-requires-clause-inside
 moved_roots-moved-requires-clause-inside g c k a l is =
@@ -45,61 +38,35 @@ moved_roots-moved-requires-clause-places g c =
     subst (λ (row : List ℕ). (x : ℕ) → slice_index row x < 4294967295) (sym c.as_slice.ensures.value) (claim_low a.claims.items a.seat.me.0.theirs a.loose a.claimed)
 
 -- a root whose target has no replica
-missing_at : (h : Held) (row roots : List ℕ) (at : Addr) (e : Missing) → row ≡ h.copier.claims.items → roots ≡ h.roots.items → e ≡ Target at → IsTargetIn e row roots → IsTargetIn (Target at) h.copier.claims.items h.roots.items
-missing_at h row roots at e row_is roots_is is t = subst (λ (z : Missing × (List ℕ × List ℕ)). IsTargetIn z.0 z.1.0 z.1.1) (λ i. (is i, (row_is i, roots_is i))) t
-
-pub want-requires-clause-low : goal.want-requires-clause-low
-want-requires-clause-low g c =
+pub returns-in-Err-clause-not_ready : goal.returns-in-Err-clause-not_ready
+returns-in-Err-clause-not_ready g c why =
     let h = c.args.self in
-    let t = missing_at h c.as_slice.result.now c.as_slice-2.result.now c.in-Target.at _ c.as_slice.ensures.value c.as_slice-2.ensures.value c.in-Target.is c.in-Err.ensures.target in
-    let n = near h t.0 c.in-Target.at.0 t.1 t.2 in
-    let s = h.copier.sized.0 in omega arith
-
-pub want-requires-clause-kept : goal.want-requires-clause-kept
-want-requires-clause-kept g c =
-    let h = c.args.self in
-    let t = missing_at h c.as_slice.result.now c.as_slice-2.result.now c.in-Target.at _ c.as_slice.ensures.value c.as_slice-2.ensures.value c.in-Target.is c.in-Err.ensures.target in
-    subst (λ (b : HeapWords). MayBeCopied b c.in-Target.at.0) (sym h.begun)
-    (target_leads (MayBeCopied h.copier.seat.me.0.mine.base) (Ref c.in-Target.at.0) c.in-Target.at.0 (h.kept.roots (Ref c.in-Target.at.0) (value_in h.roots.items t.0 (Ref c.in-Target.at.0) t.1 t.2)) refl)
-
-pub want-requires-clause-clear : goal.want-requires-clause-clear
-want-requires-clause-clear g c =
-    let t = missing_at c.args.self c.as_slice.result.now c.as_slice-2.result.now c.in-Target.at _ c.as_slice.ensures.value c.as_slice-2.ensures.value c.in-Target.is c.in-Err.ensures.target in t.3
-
-pub returns-in-Target-clause-nearer : goal.returns-in-Target-clause-nearer
-returns-in-Target-clause-nearer g c _ done =
-    let h = c.args.self in
-    subst (ComesNearer (end_of h.copier.seat.me.0.mine.space) h.copier.seat.me.0.theirs) (sym c.want.ensures.wants) (wants_nears (end_of h.copier.seat.me.0.mine.space) c.in-Target.at.0 h.copier.seat.me.0.theirs done.2)
-
-pub returns-in-Target-clause-not_ready : goal.returns-in-Target-clause-not_ready
-returns-in-Target-clause-not_ready g c _ =
-    let h = c.args.self in
-    let t = missing_at h c.as_slice.result.now c.as_slice-2.result.now c.in-Target.at _ c.as_slice.ensures.value c.as_slice-2.ensures.value c.in-Target.is c.in-Err.ensures.target in
-    root_missing h.copier.seat.me.0.mine h.copier.seat.me.0.theirs h.copier.claims.items h.roots.items h.copier.claimed h.copier.loose t.0 c.in-Target.at.0 t.1 t.2
-    (let n = near h t.0 c.in-Target.at.0 t.1 t.2 in omega arith) t.3
+    let lacking = subst (λ (z : List ℕ × List ℕ). LacksOne z.0 z.1) (λ i. (c.as_slice.ensures.value i, c.as_slice-2.ensures.value i)) (c.in-Err.ensures.lacking why) in
+    root_missing h.copier.seat.me.0.mine h.copier.seat.me.0.theirs h.copier.claims.items h.roots.items h.copier.claimed h.copier.loose lacking.place lacking.target lacking.within lacking.refers
+    (let n = near h lacking.place lacking.target lacking.within lacking.refers in omega arith) lacking.none
 
 -- nothing is left to do
 done : (h : Held) (row roots : List ℕ) → row ≡ h.copier.claims.items → roots ≡ h.roots.items → (h.copier.seat.me.0.theirs.due ≡ []) × (scan_done (its h.copier.seat.me.0.theirs) ≡ true)
-    → ((k a : ℕ) → k < length roots → value_of (slice_index roots k) ≡ Ref a → slice_index row a ≢ 0) → HasNothingLeft h.roots.items h.copier.seat.me.0
+    → AreClaimed row roots → HasNothingLeft h.roots.items h.copier.seat.me.0
 done h row roots e f idle placed = record {
   logged = h.empty.1;
   applied = idle.0;
   scanned = idle.1;
   rooted = roots_placed h.copier.claims.items h.copier.seat.me.0.theirs h.roots.items h.copier.claimed (near h)
-      (subst (λ (z : List ℕ × List ℕ). (k a : ℕ) → k < length z.1 → value_of (slice_index z.1 k) ≡ Ref a → slice_index z.0 a ≢ 0) (λ i. (e i, f i)) placed);
+      (subst (λ (z : List ℕ × List ℕ). AreClaimed z.0 z.1) (λ i. (e i, f i)) placed);
 }
 
 -- the moved roots
 moves : (h : Held) (row roots : List ℕ) → row ≡ h.copier.claims.items → roots ≡ h.roots.items
-    → ((k a : ℕ) → k < length roots → value_of (slice_index roots k) ≡ Ref a → slice_index row a ≢ 0) → map (λ w. word_of (moved_by row (value_of w))) roots ≡ moved_words h.copier.seat.me.0.theirs h.roots.items
+    → AreClaimed row roots → map (λ w. word_of (moved_by row (value_of w))) roots ≡ moved_words h.copier.seat.me.0.theirs h.roots.items
 moves h row roots e f placed =
     (λ i. map (λ w. word_of (moved_by (e i) (value_of w))) (f i))
     ∙ roots_moved h.copier.claims.items h.copier.seat.me.0.theirs h.roots.items h.copier.claimed (near h)
-    (subst (λ (z : List ℕ × List ℕ). (k a : ℕ) → k < length z.1 → value_of (slice_index z.1 k) ≡ Ref a → slice_index z.0 a ≢ 0) (λ i. (e i, f i)) placed)
+    (subst (λ (z : List ℕ × List ℕ). AreClaimed z.0 z.1) (λ i. (e i, f i)) placed)
 
 -- the new heap: the new space, with the moved roots
 new_is : (h : Held) (mine : Mine) (row roots moved : List ℕ) → (base : List ℕ) → mine ≡ opening_mine (one_heap h.copier.space base) → moved ≡ map (λ w. word_of (moved_by row (value_of w))) roots
-    → row ≡ h.copier.claims.items → roots ≡ h.roots.items → ((k a : ℕ) → k < length roots → value_of (slice_index roots k) ≡ Ref a → slice_index row a ≢ 0)
+    → row ≡ h.copier.claims.items → roots ≡ h.roots.items → AreClaimed row roots
     → heap_of mine moved ≡ new_heap_of h.copier.space h.roots.items h.copier.seat.me.0.theirs
 new_is h mine row roots moved base is moved_is e f placed = λ i. heap_of (is i) ((moved_is ∙ moves h row roots e f placed) i)
 
