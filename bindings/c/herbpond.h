@@ -275,7 +275,8 @@ static inline uint32_t hp_wait(hp *h, uint32_t words)
 
 /* Makes room for `words` words. Performs the steps that are due. If fewer words are free then, it waits for whole collections, and for one that takes
  * a larger space if the heap may grow. Returns GCFLIP_DONE if so many words are free. Otherwise it returns GCFLIP_FULL if a collection that began in
- * this call flipped, GCFLIP_NO_MEMORY if the system refused the memory for one, or GCFLIP_NO_ROOM if the space of the open one is too small. */
+ * this call flipped. It returns GCFLIP_NO_MEMORY if the system refused the memory for one, and GCFLIP_NO_ROOM if the space of the open one is too
+ * small. */
 static inline uint32_t hp_make_room(hp *h, uint32_t words)
 {
     gcflip_work work = {0, 0, 0, 0, 0};
