@@ -19,7 +19,7 @@ static inline void hp_array_new(hp *h, hp_root d, uint32_t kind, uint32_t length
     uint32_t k, parts = length <= HP_PART ? 0 : (length - 1) / HP_PART + 1;
 
     hp_operand(h, d, "hp_array_new");
-    if (kind > 255 || length > HP_MOST_ELEMENTS)
+    if (length > HP_MOST_ELEMENTS)
         hp_answered(h, GCFLIP_OUT_OF_RANGE, "hp_array_new");
     hp_reserve(h, HP_ARRAY_FIELDS + 2 + (parts > 0 ? parts : length) + 2 + parts * (HP_PART + 2));
     hp_make(h, HP_NEW, kind, HP_ARRAY_FIELDS, "hp_array_new");
@@ -80,7 +80,7 @@ static inline void hp_array_put(hp *h, hp_root s, uint32_t i, hp_root t)
     hp_array_write(h, s, i, hp_operand(h, t, "hp_array_put"), hp_array_length(h, s), "hp_array_put");
 }
 
-/* Gives the array in s an object with more fields for its elements or parts, which are `count` now, and leaves it in HP_NEW. Room for it is reserved. */
+/* Gives the array in s an object with more fields for its elements or parts, which are `count` now, and leaves it in HP_NEW. */
 static inline void hp_array_lengthen(hp *h, hp_root s, uint32_t kind, uint32_t count, uint32_t fields)
 {
     uint32_t answer;
@@ -128,7 +128,6 @@ static inline void hp_array_push(hp *h, hp_root s, hp_root t)
     if (length < HP_PART && length == fields) {
         uint32_t wanted = length < HP_FIRST_ROOM / 2 ? (uint32_t)HP_FIRST_ROOM : 2 * length;
 
-        hp_reserve(h, wanted + 2);
         hp_array_lengthen(h, s, HP_KIND_PART, length, wanted < HP_PART ? wanted : (uint32_t)HP_PART);
         hp_forget(h);
     } else if (length >= HP_PART && length % HP_PART == 0)

@@ -462,6 +462,8 @@ static void walks(void)
     EXPECT(strcmp(hp_kind_name(&h, 0), "") == 0);
     hp_name_kinds(&h, names, 2);
     EXPECT(strcmp(hp_kind_name(&h, 0), "pair") == 0 && strcmp(hp_kind_name(&h, 1), "text") == 0 && strcmp(hp_kind_name(&h, 2), "") == 0);
+    EXPECT(strcmp(hp_kind_name(&h, 253), "spine") == 0 && strcmp(hp_kind_name(&h, 254), "part") == 0 && strcmp(hp_kind_name(&h, 255), "box") == 0);
+    EXPECT(strcmp(hp_kind_name(&h, 252), "") == 0 && strcmp(hp_kind_name(&h, 256), "") == 0);
     hp_close(&h);
 }
 

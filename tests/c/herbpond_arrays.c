@@ -72,6 +72,10 @@ static void lengths(void)
     hp_open(&h, 2000000, 4, hook);
     for (size_t i = 0; i < COUNT(all); i++)
         new_array(all[i]);
+    /* no part is longer than others */
+    hp_array_new(&h, ARRAY, KIND, 3000);
+    hp_array_push(&h, ARRAY, VALUE);
+    EXPECT(hp_counts(&h).end == 1 + words_of(3000) + PART + 2);
     hp_close(&h);
 }
 
@@ -206,7 +210,7 @@ static void full_heap(uint32_t words, uint32_t length)
 /* No array is longer than 65,535 parts. This one has one part alone, which is the last but one, and its length says that the others are there. */
 static void longest(void)
 {
-    hp_open(&h, 200000, 4, hook);
+    hp_open(&h, 300000, 4, hook);
     hp_new(&h, ARRAY, KIND, 2);
     hp_new(&h, OTHER, 253, 65535);
     hp_put(&h, ARRAY, 1, OTHER);
@@ -216,6 +220,12 @@ static void longest(void)
     hp_put_int(&h, ARRAY, 0, 65535 * 4096);
     FAILS(push_int(2), GCFLIP_FULL, "hp_array_push");
     EXPECT(hp_array_length(&h, ARRAY) == 65535 * 4096);
+    /* twice as many parts as these are too many for an object */
+    hp_new(&h, OTHER, 253, 40000);
+    hp_put(&h, ARRAY, 1, OTHER);
+    hp_put_int(&h, ARRAY, 0, 40000 * 4096);
+    push_int(3);
+    EXPECT(hp_array_length(&h, ARRAY) == 40000 * 4096 + 1 && int_at(40000 * 4096) == 3 && hp_field(&h, ARRAY, 1).count == 65535);
     hp_close(&h);
 }
 

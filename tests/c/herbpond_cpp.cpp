@@ -98,6 +98,11 @@ void numbers()
     EXPECT(objects_in(heap) == 4);
     record[Record::real] = 1.0;
     EXPECT(objects_in(heap) == 3);
+    record[Record::real] = 1e300;
+    EXPECT(record[Record::real].get() == 1e300);
+    hp_put_int(heap.layer(), record.place(), 1, 5);
+    EXPECT(objects_in(heap) == 3);
+    expect_thrown<herbpond::Mismatch>(GCFLIP_NO_NUMBER, "hp_double", [&] { record[Record::real].get(); });
 }
 
 void references()

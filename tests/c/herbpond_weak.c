@@ -156,6 +156,7 @@ static void follows_twice(void)
     hp_weak kept, lost;
     uint64_t flips, token;
     hp_open(&h, 1000, 4, hook);
+    h.pace.words = 1; /* so that no paced work ends the collection */
     make_numbered(0, 11);
     hp_new_raw(&h, 1, 1, 300);
     make_numbered(2, 12);
@@ -268,7 +269,8 @@ static void uses_end(void)
     hp_open(&h, 1000, 4, hook);
     make_numbered(0, 1);
     hp_weak_free(&h, hp_weak_new(&h, 0, 0));
-    h.weak.entries[0].uses = (1 << 29) - 2;
+    h.weak.entries[0].uses = (1 << 29) - 3;
+    hp_weak_free(&h, hp_weak_new(&h, 0, 0));
     last = hp_weak_new(&h, 0, 0);
     EXPECT(last == ((uint64_t)((1 << 29) - 1) << 32) && last <= (uint64_t)HP_MOST_INT && number_of(last) == 1);
     hp_weak_free(&h, last);
@@ -312,6 +314,7 @@ static hp_weak flipped_by_others(bool is_followed, bool is_begun, bool is_twice)
     hp_open(&h, 1000, 4, hook);
     make_numbered(0, 1);
     make_numbered(1, 2);
+    make_numbered(2, 3); /* the first flip moves it to where the one before it was */
     weak = hp_weak_new(&h, 1, 0);
     hp_set_nil(&h, 0);
     EXPECT(gcflip_collect(&h.heap, &work) == GCFLIP_DONE);
