@@ -1,6 +1,6 @@
 /* The heap of one interpreter. NOT PROVED: this header is a thin layer in C over the proved calls of gcflip_heap.h, and tests/c/herbpond.c tests it.
  *
- * An operand is a root. 0 to 30 are registers, and HP_STACK(k) is place k of the stack, below its top. The program holds no pointers and no
+ * An operand is a root. 0 to 28 are registers, and HP_STACK(k) is place k of the stack, below its top. The program holds no pointers and no
  * addresses, so a collection may go on in each call that makes an object.
  *
  * No answer is left unchecked. A call of this layer returns what it read. If it cannot do its work, it calls the program's hook. The hook does not
@@ -9,6 +9,7 @@
 #ifndef HERBPOND_H
 #define HERBPOND_H
 
+#include "gcflip_allocator.h"
 #include "gcflip_heap.h"
 
 #include <math.h>
@@ -21,11 +22,15 @@
 typedef uint32_t hp_root;
 
 enum {
-    HP_SCRATCH = 31,      /* the layer's own register, which holds nil between calls */
-    HP_SCRATCH_SLOT = 15, /* its slot */
-    HP_REGISTERS = 32,    /* the place of the stack's first root */
-    HP_KIND_BOX = 255,    /* the kind of a raw object that holds a double; a program uses kinds 0 to 254 */
-    HP_BLOCK = 512        /* the words that objects may take between two calls of the collector, if so many are free */
+    HP_OLD = 29,         /* the first of the layer's own registers, which hold nil between calls */
+    HP_NEW = 30,
+    HP_SCRATCH = 31,
+    HP_OWN_SLOT = 16,    /* the place of slot 0, so that slot s has place HP_OWN_SLOT + s */
+    HP_REGISTERS = 32,   /* the place of the stack's first root */
+    HP_KIND_SPINE = 253, /* a program uses kinds 0 to 252. Of this kind is an object that refers to the parts of a long array */
+    HP_KIND_PART = 254,  /* an object with elements of an array */
+    HP_KIND_BOX = 255,   /* a raw object that holds a double */
+    HP_BLOCK = 512       /* the words that objects may take between two calls of the collector, if so many are free */
 };
 
 #define HP_STACK(k) ((hp_root)HP_REGISTERS + (hp_root)(k))
@@ -42,6 +47,25 @@ typedef struct hp_stats {
     uint64_t waits;   /* the allocations that waited for a whole collection */
 } hp_stats;
 
+/* What the layer knows of a weak handle, whose object is alive, died, or died before the handle was freed. An unused entry has no handle. */
+enum hp_weak_state { HP_WEAK_UNUSED, HP_WEAK_ALIVE, HP_WEAK_DEAD, HP_WEAK_FREED };
+
+typedef struct hp_weak_entry {
+    uint64_t token;
+    uint32_t state;   /* an hp_weak_state */
+    uint32_t address; /* of the object, if it is alive */
+    uint32_t uses;    /* the number of handles that have had this entry */
+    uint32_t next;    /* one more than the number of the next entry of the list, or 0 at its end */
+} hp_weak_entry;
+
+typedef struct hp_weak_table {
+    hp_weak_entry *entries;
+    uint32_t count, room;
+    uint32_t alive;  /* the entries whose objects are alive */
+    uint32_t dead;   /* the list of dead and freed entries */
+    uint32_t unused; /* the list of unused entries */
+} hp_weak_table;
+
 typedef struct hp hp;
 
 /* The program's hook. It gets the answer, and the name of the call that failed. It does not return. */
@@ -57,12 +81,23 @@ struct hp {
     uint32_t most;   /* the words up to which the heap grows; 0 if it does not */
     uint32_t credit; /* the words that objects may take before the collector works again; so many are free */
     hp_stats stats;
+    hp_weak_table weak;
 };
+
+/* Clears the layer's own registers. */
+static inline void hp_forget(hp *h)
+{
+    hp_root own;
+
+    for (own = HP_OLD; own < HP_REGISTERS; own++)
+        (void)gcflip_set_nil(&h->heap, own);
+}
 
 /* Calls the hook if the class of the answer is not GCFLIP_OK. Returns the answer otherwise. */
 static inline uint32_t hp_answered(hp *h, uint32_t answer, const char *call)
 {
     if (gcflip_class_of(answer) != GCFLIP_OK) {
+        hp_forget(h);
         h->failed(h, answer, call);
         fprintf(stderr, "herbpond: the hook returned: %s: %s\n", call, gcflip_answer_text(answer));
         abort();
@@ -84,10 +119,13 @@ static inline void hp_open(hp *h, uint32_t words, uint32_t places, hp_hook *fail
     hp_answered(h, gcflip_heap_open(&h->heap, &options), "hp_open");
 }
 
-/* Frees the heap. */
+/* Frees the heap, and all weak handles. */
 static inline void hp_close(hp *h)
 {
     hp_answered(h, gcflip_heap_close(&h->heap), "hp_close");
+    if (h->weak.entries != NULL)
+        rattle_dealloc(h->weak.entries);
+    memset(&h->weak, 0, sizeof h->weak);
 }
 
 /* Lets the heap grow up to `most` words. A collection takes a larger space if there is too little room. It also does so if more than half of
@@ -137,22 +175,55 @@ static inline void hp_trim(hp *h)
 /* Returns an operand: a register, or a root below the top of the stack. */
 static inline hp_root hp_operand(hp *h, hp_root root, const char *call)
 {
-    if (root == HP_SCRATCH || root >= HP_STACK(h->stack.top))
+    if ((root >= HP_OLD && root < HP_REGISTERS) || root >= HP_STACK(h->stack.top))
         hp_answered(h, GCFLIP_OUT_OF_RANGE, call);
     return root;
 }
 
 /* ---- Room */
 
-/* Counts the steps that the collector performed, and its flips. */
-static inline void hp_worked(hp *h, const gcflip_work *work)
+/* Writes to each weak handle where the last flip moved its object, or adds it to the list of the dead. */
+static inline void hp_move_weak(hp *h)
+{
+    uint32_t i;
+
+    for (i = 0; i < h->weak.count; i++) {
+        hp_weak_entry *entry = &h->weak.entries[i];
+        uint32_t answer = entry->state == HP_WEAK_ALIVE ? gcflip_moved(&h->heap, entry->address, &entry->address) : (uint32_t)GCFLIP_DONE;
+
+        if (answer == GCFLIP_NO_OBJECT) {
+            h->weak.alive--;
+            entry->state = HP_WEAK_DEAD;
+            entry->next = h->weak.dead;
+            h->weak.dead = i + 1;
+        } else
+            hp_answered(h, answer, "hp_follow");
+    }
+}
+
+/* Counts the flips, and follows the objects of weak handles over a new one. It is out of range if two flips passed, or if the next collection began:
+ * the layer then cannot know where the objects are. */
+static inline void hp_follow(hp *h)
 {
     gcflip_flip_checks checks = {0, 0};
+    uint64_t flips;
 
-    hp_answered(h, gcflip_heap_flip_checks(&h->heap, &checks), "hp_worked");
+    hp_answered(h, gcflip_heap_flip_checks(&h->heap, &checks), "hp_follow");
+    flips = checks.along + checks.whole;
+    if (flips != h->stats.flips && h->weak.alive > 0) {
+        if (flips != h->stats.flips + 1)
+            hp_answered(h, GCFLIP_OUT_OF_RANGE, "hp_follow");
+        hp_move_weak(h);
+    }
+    h->stats.flips = flips;
+}
+
+/* Counts what a call of the collector did, which flipped once at most. */
+static inline void hp_worked(hp *h, const gcflip_work *work)
+{
     h->stats.steps += work->steps;
     h->stats.copied += work->copied;
-    h->stats.flips = checks.along + checks.whole;
+    hp_follow(h);
 }
 
 /* Ends the open collection by its flip, or performs a whole one if none is open: GCFLIP_DONE, GCFLIP_NO_MEMORY or GCFLIP_NO_ROOM. */
@@ -187,22 +258,25 @@ static inline void hp_grow(hp *h, uint32_t words, bool now)
     }
 }
 
-/* Makes room by whole collections, where too little is free: GCFLIP_DONE, GCFLIP_FULL or GCFLIP_STARVED. */
+/* Makes room by whole collections, where too little is free: GCFLIP_DONE, GCFLIP_FULL, or what hp_flip returns. gcflip_reserve may flip more than
+ * once in a call, and weak handles have to follow each flip. */
 static inline uint32_t hp_wait(hp *h, uint32_t words)
 {
-    gcflip_work work = {0, 0, 0, 0, 0};
-    uint32_t answer;
+    uint32_t answer = GCFLIP_DONE;
 
     hp_grow(h, words, true);
-    answer = gcflip_reserve(&h->heap, &h->pace, words, &work);
-    if (!GCFLIP_IS_REFUSED(answer))
-        hp_worked(h, &work);
-    return answer;
+    if (hp_counts(h).is_open)
+        answer = hp_flip(h);
+    if (answer != GCFLIP_DONE || gcflip_room(&h->heap) >= words)
+        return answer;
+    answer = hp_flip(h);
+    return answer != GCFLIP_DONE || gcflip_room(&h->heap) >= words ? answer : (uint32_t)GCFLIP_FULL;
 }
 
 /* Makes room for `words` words. Performs the steps that are due. If fewer words are free then, it waits for whole collections, and for one that takes
  * a larger space if the heap may grow. Returns GCFLIP_DONE if so many words are free. Otherwise it returns GCFLIP_FULL if a collection that began in
- * this call flipped, or GCFLIP_NO_MEMORY if the system refused the memory for one. */
+ * this call flipped. It returns GCFLIP_NO_MEMORY if the system refused the memory for one, and GCFLIP_NO_ROOM if the space of the open one is too
+ * small. */
 static inline uint32_t hp_make_room(hp *h, uint32_t words)
 {
     gcflip_work work = {0, 0, 0, 0, 0};
@@ -221,7 +295,7 @@ static inline uint32_t hp_make_room(hp *h, uint32_t words)
     answer = hp_wait(h, words);
     if (answer == GCFLIP_FULL && hp_counts(h).size < h->most)
         answer = hp_wait(h, words);
-    return answer == GCFLIP_STARVED ? (uint32_t)GCFLIP_NO_MEMORY : answer;
+    return answer;
 }
 
 /* Makes room for objects of `words` words together. The collector does not work again before they are made. */
@@ -415,12 +489,18 @@ static inline bool hp_same(hp *h, hp_root s, hp_root t)
     return hp_answered(h, gcflip_same(&h->heap, hp_operand(h, s, "hp_same"), hp_operand(h, t, "hp_same")), "hp_same") == GCFLIP_SAME;
 }
 
-/* Copies field i of s into d. */
-static inline void hp_get(hp *h, hp_root d, hp_root s, uint32_t i)
+/* Copies field i of s into d. Both may be the layer's own registers. */
+static inline void hp_load(hp *h, hp_root d, hp_root s, uint32_t i, const char *call)
 {
     uint64_t number = 0;
 
-    hp_answered(h, gcflip_get(&h->heap, hp_operand(h, d, "hp_get"), hp_operand(h, s, "hp_get"), i, &number), "hp_get");
+    hp_answered(h, gcflip_get(&h->heap, d, s, i, &number), call);
+}
+
+/* Copies field i of s into d. */
+static inline void hp_get(hp *h, hp_root d, hp_root s, uint32_t i)
+{
+    hp_load(h, hp_operand(h, d, "hp_get"), hp_operand(h, s, "hp_get"), i, "hp_get");
 }
 
 /* Returns the value in field i of s, which is not raw. No root takes it. */
@@ -442,15 +522,21 @@ static inline bool hp_gave_up(hp *h, uint32_t answer)
     return true;
 }
 
-/* Writes the value of t into field i of s. Does not fail for lack of memory. */
-static inline void hp_put(hp *h, hp_root s, uint32_t i, hp_root t)
+/* Writes the value of t into field i of s. Both may be the layer's own registers. */
+static inline void hp_store(hp *h, hp_root s, uint32_t i, hp_root t, const char *call)
 {
     uint32_t answer;
 
     do
-        answer = gcflip_put(&h->heap, 0, hp_operand(h, s, "hp_put"), i, hp_operand(h, t, "hp_put"));
+        answer = gcflip_put(&h->heap, 0, s, i, t);
     while (hp_gave_up(h, answer));
-    hp_answered(h, answer, "hp_put");
+    hp_answered(h, answer, call);
+}
+
+/* Writes the value of t into field i of s. Does not fail for lack of memory. */
+static inline void hp_put(hp *h, hp_root s, uint32_t i, hp_root t)
+{
+    hp_store(h, hp_operand(h, s, "hp_put"), i, hp_operand(h, t, "hp_put"), "hp_put");
 }
 
 /* Writes a plain number below 2^63 into field i of s, which may be raw. Does not fail for lack of memory. */
@@ -493,12 +579,17 @@ static inline void hp_pay(hp *h, uint32_t kind, uint32_t count, const char *call
     h->stats.words += count + 2;
 }
 
+/* Makes an object with `count` fields, all nil, and puts a reference to it into d, which may be one of the layer's own registers. */
+static inline void hp_make(hp *h, hp_root d, uint32_t kind, uint32_t count, const char *call)
+{
+    hp_pay(h, kind, count, call);
+    hp_answered(h, gcflip_new(&h->heap, d, kind, count), call);
+}
+
 /* Makes an object with `count` fields, at most 65535, all nil, and puts a reference to it into d. */
 static inline void hp_new(hp *h, hp_root d, uint32_t kind, uint32_t count)
 {
-    hp_operand(h, d, "hp_new");
-    hp_pay(h, kind, count, "hp_new");
-    hp_answered(h, gcflip_new(&h->heap, d, kind, count), "hp_new");
+    hp_make(h, hp_operand(h, d, "hp_new"), kind, count, "hp_new");
 }
 
 /* Makes a raw object with `count` fields, at most 65535, all 0, and puts a reference to it into d. */
@@ -506,9 +597,7 @@ static inline void hp_new_raw(hp *h, hp_root d, uint32_t kind, uint32_t count)
 {
     hp_operand(h, d, "hp_new_raw");
     hp_pay(h, kind, count, "hp_new_raw");
-    hp_answered(h, gcflip_heap_new_raw(&h->heap, 0, HP_SCRATCH_SLOT, (uint8_t)kind, (uint16_t)count), "hp_new_raw");
-    hp_answered(h, gcflip_copy(&h->heap, d, HP_SCRATCH), "hp_new_raw");
-    hp_answered(h, gcflip_set_nil(&h->heap, HP_SCRATCH), "hp_new_raw");
+    hp_answered(h, gcflip_new_raw(&h->heap, d, kind, count), "hp_new_raw");
 }
 
 /* Puts a double into d: a number, or a reference to a box of its low and its high half. */
@@ -542,6 +631,142 @@ static inline double hp_double(hp *h, hp_root s)
     return real;
 }
 
+/* ---- Weak handles, and tokens for finalizers
+ *
+ * A weak handle does not keep its object alive. Once the object died, the handle gives nothing, and the layer tells the program the handle's token. So
+ * a finalizer gets what the program needs to clean up, and never the object. Handles follow their objects over each flip that a call of this layer
+ * makes. A program that has handles and flips by other calls calls hp_follow after each flip, before the next collection begins. */
+
+/* A weak handle: a number from 1 to HP_MOST_INT, so that a field can hold it as an integer. No two handles of a heap are the same. */
+typedef uint64_t hp_weak;
+
+enum { HP_WEAK_ROOM = 16 };
+#define HP_MOST_USES (((uint32_t)1 << 29) - 1)
+#define HP_MOST_WEAK ((uint32_t)1 << 31)
+
+/* Makes room for more handles. */
+static inline void hp_weak_grow(hp *h)
+{
+    hp_weak_table *table = &h->weak;
+    size_t room = table->room == 0 ? (size_t)HP_WEAK_ROOM : 2 * (size_t)table->room, bytes = room * sizeof(hp_weak_entry);
+    struct gcflip_memory memory = {false, NULL};
+
+    if (table->room == 0)
+        memory = rattle_alloc(bytes, sizeof(uint64_t));
+    else if (table->room < HP_MOST_WEAK)
+        memory = rattle_realloc(table->entries, table->count * sizeof(hp_weak_entry), bytes, sizeof(uint64_t));
+    if (!memory.ok)
+        hp_answered(h, GCFLIP_NO_MEMORY, "hp_weak_new");
+    table->entries = (hp_weak_entry *)memory.at;
+    table->room = (uint32_t)room;
+}
+
+/* Puts an entry into the list of unused ones, unless it had as many handles as it can have. */
+static inline void hp_weak_recycle(hp *h, hp_weak_entry *entry)
+{
+    entry->state = HP_WEAK_UNUSED;
+    if (entry->uses < HP_MOST_USES) {
+        entry->next = h->weak.unused;
+        h->weak.unused = (uint32_t)(entry - h->weak.entries) + 1;
+    }
+}
+
+/* Takes an unused entry, or one more. */
+static inline hp_weak_entry *hp_weak_take(hp *h)
+{
+    hp_weak_table *table = &h->weak;
+    hp_weak_entry *entry;
+
+    if (table->unused != 0) {
+        entry = &table->entries[table->unused - 1];
+        table->unused = entry->next;
+        return entry;
+    }
+    if (table->count == table->room)
+        hp_weak_grow(h);
+    entry = &table->entries[table->count++];
+    entry->uses = 0;
+    return entry;
+}
+
+/* Returns a weak handle of the object in s, with a token of the program's choice. It allocates if the table of handles is full. */
+static inline hp_weak hp_weak_new(hp *h, hp_root s, uint64_t token)
+{
+    hp_weak_entry *entry;
+    uint32_t address = 0;
+
+    hp_follow(h);
+    hp_answered(h, gcflip_address(&h->heap, hp_operand(h, s, "hp_weak_new"), &address), "hp_weak_new");
+    entry = hp_weak_take(h);
+    entry->state = HP_WEAK_ALIVE;
+    entry->token = token;
+    entry->address = address;
+    entry->uses++;
+    h->weak.alive++;
+    return (hp_weak)entry->uses << 32 | (hp_weak)(entry - h->weak.entries);
+}
+
+/* Returns the entry of a handle, or NULL if the handle was freed. A number that is no handle is out of range. */
+static inline hp_weak_entry *hp_weak_find(hp *h, hp_weak weak, const char *call)
+{
+    uint32_t i = (uint32_t)weak;
+    uint64_t use = weak >> 32;
+    hp_weak_entry *entry;
+
+    if (i >= h->weak.count || use == 0 || use > h->weak.entries[i].uses)
+        hp_answered(h, GCFLIP_OUT_OF_RANGE, call);
+    entry = &h->weak.entries[i];
+    return use == entry->uses && (entry->state == HP_WEAK_ALIVE || entry->state == HP_WEAK_DEAD) ? entry : NULL;
+}
+
+/* Puts a reference to the object of a handle into d, and returns true. Returns false if the object died or the handle was freed; d then keeps its value.
+ * The object of a handle lives until a flip finds that no root reaches it; d is a root. A program that makes this call gives up two claims, as one
+ * that calls gcflip_refer: docs/TRUST.md says which. */
+static inline bool hp_weak_get(hp *h, hp_root d, hp_weak weak)
+{
+    hp_weak_entry *entry;
+
+    hp_operand(h, d, "hp_weak_get");
+    hp_follow(h);
+    entry = hp_weak_find(h, weak, "hp_weak_get");
+    if (entry == NULL || entry->state == HP_WEAK_DEAD)
+        return false;
+    hp_answered(h, gcflip_refer(&h->heap, d, entry->address), "hp_weak_get");
+    return true;
+}
+
+/* Frees a handle, whose token is not told any more. Does nothing if it was freed before. */
+static inline void hp_weak_free(hp *h, hp_weak weak)
+{
+    hp_weak_entry *entry = hp_weak_find(h, weak, "hp_weak_free");
+
+    if (entry == NULL)
+        return;
+    if (entry->state == HP_WEAK_ALIVE) {
+        h->weak.alive--;
+        hp_weak_recycle(h, entry);
+    } else
+        entry->state = HP_WEAK_FREED;
+}
+
+/* Writes the token of a handle whose object died, frees the handle, and returns true. Returns false if there is none. */
+static inline bool hp_weak_next_dead(hp *h, uint64_t *token)
+{
+    hp_follow(h);
+    while (h->weak.dead != 0) {
+        hp_weak_entry *entry = &h->weak.entries[h->weak.dead - 1];
+        bool is_told = entry->state == HP_WEAK_DEAD;
+
+        h->weak.dead = entry->next;
+        hp_weak_recycle(h, entry);
+        if (is_told) {
+            *token = entry->token;
+            return true;
+        }
+    }
+    return false;
+}
+
 /* ---- Kinds, and a walk over the heap */
 
 /* Names kinds 0 to count - 1. The names stay the program's. */
@@ -551,10 +776,14 @@ static inline void hp_name_kinds(hp *h, const char *const *names, uint32_t count
     h->name_count = count;
 }
 
-/* Returns the name of a kind, or "" if it has none. */
+/* Returns the name of a kind, or "" if it has none. The layer's own kinds are "spine", "part" and "box". */
 static inline const char *hp_kind_name(const hp *h, uint32_t kind)
 {
-    return kind < h->name_count ? h->names[kind] : "";
+    static const char *const own[] = {"spine", "part", "box"};
+
+    if (kind < h->name_count)
+        return h->names[kind];
+    return kind >= HP_KIND_SPINE && kind <= HP_KIND_BOX ? own[kind - HP_KIND_SPINE] : "";
 }
 
 typedef struct hp_object {

@@ -19,22 +19,24 @@
 #define CALLS(X)                                                                                                                               \
     X(heap_new_object) X(heap_new_raw) X(heap_set_number) X(heap_set_nil) X(heap_move) X(heap_root_load) X(heap_root_store) X(heap_get) X(heap_put) \
     X(heap_put_number) X(heap_put_nil) X(heap_new_pair) X(heap_same) X(heap_look) X(new) X(new_raw) X(new_pair) X(gather) X(spread) \
-    X(set_number) X(copy) X(get) X(put) X(same) X(look)
+    X(set_number) X(set_nil) X(copy) X(get) X(peek) X(put) X(put_number) X(put_nil) X(same) X(look)
 
 #define POINTER(name) __typeof__(gcflip_##name) *name;
 static struct {
     CALLS(POINTER)
 } calls;
 
-/* ---- The functions of Python, by their names */
+/* ---- The methods of Python, by their classes and names */
 
-#define FUNCTIONS(X)                                                                                                                                  \
-    X(new) X(raw) X(num) X(nil) X(move) X(load) X(store) X(get) X(put) X(put_number) X(put_nil) X(cons) X(same) X(look) X(new_root) X(new_raw_root) \
-    X(new_pair_root) X(gather) X(spread) X(set_number) X(copy_root) X(get_root) X(put_root) X(is_same) X(look_root)
+#define FUNCTIONS(X)                                                                                                                                 \
+    X(Mutator, new) X(Mutator, new_raw) X(Mutator, set_number) X(Mutator, set_nil) X(Mutator, copy) X(Mutator, load) X(Mutator, store) X(Mutator, get) \
+    X(Mutator, put) X(Mutator, put_number) X(Mutator, put_nil) X(Mutator, new_pair) X(Mutator, is_same) X(Mutator, look) X(Heap, new) X(Heap, new_raw) \
+    X(Heap, new_pair) X(Heap, gather) X(Heap, spread) X(Heap, set_number) X(Heap, set_nil) X(Heap, copy) X(Heap, get) X(Heap, peek) X(Heap, put) \
+    X(Heap, put_number) X(Heap, put_nil) X(Heap, is_same) X(Heap, look)
 
-#define NUMBERED(name) AT_##name,
+#define NUMBERED(of, name) AT_##of##_##name,
 enum { FUNCTIONS(NUMBERED) FUNCTION_COUNT };
-#define NAMED(name) #name,
+#define NAMED(of, name) #of "." #name,
 static const char *const function_names[] = {FUNCTIONS(NAMED)};
 static PyObject *functions[FUNCTION_COUNT];
 /* The class of what a look at a reference returns. */
@@ -148,8 +150,8 @@ static int are_read(PyObject *const *given, Py_ssize_t count, PyObject *names, c
 #define LONG UINT64_MAX
 
 /* Begins a method whose call takes numbers up to these. In `made`, c is the caller and n has the numbers. */
-#define METHOD(name, made, ...)                                                                \
-    static PyObject *name##_of(ARGUMENTS)                                                      \
+#define METHOD(of, name, made, ...)                                                            \
+    static PyObject *of##_##name(ARGUMENTS)                                                    \
     {                                                                                          \
         static const uint64_t most[] = {__VA_ARGS__};                                          \
         Caller *const c = (Caller *)self;                                                      \
@@ -157,7 +159,7 @@ static int are_read(PyObject *const *given, Py_ssize_t count, PyObject *names, c
         if (is_free(c) && are_read(given, count, names, most, COUNT(most), n)) {               \
             made                                                                               \
         }                                                                                      \
-        return by_python(AT_##name, self, given, count, names);                                \
+        return by_python(AT_##of##_##name, self, given, count, names);                         \
     }
 
 /* Returns None after this reply. */
@@ -198,39 +200,45 @@ static PyObject *value_of(uint32_t reply, const gcflip_view *view)
     return object_of(view, reply == GCFLIP_RAW_OBJECT ? Py_True : Py_False);
 }
 
-METHOD(new, NONE_AFTER(GCFLIP_MADE, calls.heap_new_object(c->heap, c->mutator, n[0], n[1], n[2])), BYTE, BYTE, HALF)
-METHOD(raw, NONE_AFTER(GCFLIP_MADE, calls.heap_new_raw(c->heap, c->mutator, n[0], n[1], n[2])), BYTE, BYTE, HALF)
-METHOD(num, NONE_AFTER(GCFLIP_DONE, calls.heap_set_number(c->heap, c->mutator, n[0], n[1])), BYTE, LONG)
-METHOD(nil, NONE_AFTER(GCFLIP_DONE, calls.heap_set_nil(c->heap, c->mutator, n[0])), BYTE)
-METHOD(move, NONE_AFTER(GCFLIP_DONE, calls.heap_move(c->heap, c->mutator, n[0], n[1])), BYTE, BYTE)
-METHOD(load, NONE_AFTER(GCFLIP_DONE, calls.heap_root_load(c->heap, c->mutator, n[0], n[1])), BYTE, WORD)
-METHOD(store, NONE_AFTER(GCFLIP_DONE, calls.heap_root_store(c->heap, c->mutator, n[0], n[1])), WORD, BYTE)
-METHOD(get, VALUE_OF(calls.heap_get(c->heap, c->mutator, n[0], n[1], n[2], &view.number), calls.heap_look(c->heap, c->mutator, n[0], &view)), BYTE, BYTE, HALF)
-METHOD(put, NONE_AFTER(GCFLIP_DONE, calls.heap_put(c->heap, c->mutator, n[0], n[1], n[2])), BYTE, HALF, BYTE)
-METHOD(put_number, NONE_AFTER(GCFLIP_DONE, calls.heap_put_number(c->heap, c->mutator, n[0], n[1], n[2], n[3])), BYTE, HALF, BYTE, LONG)
-METHOD(put_nil, NONE_AFTER(GCFLIP_DONE, calls.heap_put_nil(c->heap, c->mutator, n[0], n[1], n[2])), BYTE, HALF, BYTE)
-METHOD(cons, NONE_AFTER(GCFLIP_MADE, calls.heap_new_pair(c->heap, c->mutator, n[0], n[1], n[2], n[3])), BYTE, BYTE, BYTE, BYTE)
-METHOD(same, TRUTH_OF(calls.heap_same(c->heap, c->mutator, n[0], n[1])), BYTE, BYTE)
-METHOD(look, VALUE_OF(calls.heap_look(c->heap, c->mutator, n[0], &view), GCFLIP_OBJECT), BYTE)
-METHOD(new_root, NONE_AFTER(GCFLIP_MADE, calls.new(c->heap, n[0], n[1], n[2])), WORD, WORD, WORD)
-METHOD(new_raw_root, NONE_AFTER(GCFLIP_MADE, calls.new_raw(c->heap, n[0], n[1], n[2])), WORD, WORD, WORD)
-METHOD(new_pair_root, NONE_AFTER(GCFLIP_MADE, calls.new_pair(c->heap, n[0], n[1], n[2], n[3], n[4])), WORD, WORD, WORD, WORD, WORD)
-METHOD(gather, NONE_AFTER(GCFLIP_MADE, calls.gather(c->heap, n[0], n[1], n[2], n[3], n[4])), WORD, WORD, WORD, WORD, WORD)
-METHOD(spread, NONE_AFTER(GCFLIP_DONE, calls.spread(c->heap, n[0], n[1], n[2])), WORD, WORD, WORD)
-METHOD(set_number, NONE_AFTER(GCFLIP_DONE, calls.set_number(c->heap, n[0], n[1])), WORD, LONG)
-METHOD(copy_root, NONE_AFTER(GCFLIP_DONE, calls.copy(c->heap, n[0], n[1])), WORD, WORD)
-METHOD(get_root, VALUE_OF(calls.get(c->heap, n[0], n[1], n[2], &view.number), calls.look(c->heap, n[0], &view)), WORD, WORD, WORD)
-METHOD(put_root, NONE_AFTER(GCFLIP_DONE, calls.put(c->heap, n[0], n[1], n[2], n[3])), WORD, WORD, WORD, WORD)
-METHOD(is_same, TRUTH_OF(calls.same(c->heap, n[0], n[1])), WORD, WORD)
-METHOD(look_root, VALUE_OF(calls.look(c->heap, n[0], &view), GCFLIP_OBJECT), WORD)
+METHOD(Mutator, new, NONE_AFTER(GCFLIP_MADE, calls.heap_new_object(c->heap, c->mutator, n[0], n[1], n[2])), BYTE, BYTE, HALF)
+METHOD(Mutator, new_raw, NONE_AFTER(GCFLIP_MADE, calls.heap_new_raw(c->heap, c->mutator, n[0], n[1], n[2])), BYTE, BYTE, HALF)
+METHOD(Mutator, set_number, NONE_AFTER(GCFLIP_DONE, calls.heap_set_number(c->heap, c->mutator, n[0], n[1])), BYTE, LONG)
+METHOD(Mutator, set_nil, NONE_AFTER(GCFLIP_DONE, calls.heap_set_nil(c->heap, c->mutator, n[0])), BYTE)
+METHOD(Mutator, copy, NONE_AFTER(GCFLIP_DONE, calls.heap_move(c->heap, c->mutator, n[0], n[1])), BYTE, BYTE)
+METHOD(Mutator, load, NONE_AFTER(GCFLIP_DONE, calls.heap_root_load(c->heap, c->mutator, n[0], n[1])), BYTE, WORD)
+METHOD(Mutator, store, NONE_AFTER(GCFLIP_DONE, calls.heap_root_store(c->heap, c->mutator, n[0], n[1])), WORD, BYTE)
+METHOD(Mutator, get, VALUE_OF(calls.heap_get(c->heap, c->mutator, n[0], n[1], n[2], &view.number), calls.heap_look(c->heap, c->mutator, n[0], &view)), BYTE, BYTE, HALF)
+METHOD(Mutator, put, NONE_AFTER(GCFLIP_DONE, calls.heap_put(c->heap, c->mutator, n[0], n[1], n[2])), BYTE, HALF, BYTE)
+METHOD(Mutator, put_number, NONE_AFTER(GCFLIP_DONE, calls.heap_put_number(c->heap, c->mutator, n[0], n[1], n[2], n[3])), BYTE, HALF, BYTE, LONG)
+METHOD(Mutator, put_nil, NONE_AFTER(GCFLIP_DONE, calls.heap_put_nil(c->heap, c->mutator, n[0], n[1], n[2])), BYTE, HALF, BYTE)
+METHOD(Mutator, new_pair, NONE_AFTER(GCFLIP_MADE, calls.heap_new_pair(c->heap, c->mutator, n[0], n[1], n[2], n[3])), BYTE, BYTE, BYTE, BYTE)
+METHOD(Mutator, is_same, TRUTH_OF(calls.heap_same(c->heap, c->mutator, n[0], n[1])), BYTE, BYTE)
+METHOD(Mutator, look, VALUE_OF(calls.heap_look(c->heap, c->mutator, n[0], &view), GCFLIP_OBJECT), BYTE)
+METHOD(Heap, new, NONE_AFTER(GCFLIP_MADE, calls.new(c->heap, n[0], n[1], n[2])), WORD, WORD, WORD)
+METHOD(Heap, new_raw, NONE_AFTER(GCFLIP_MADE, calls.new_raw(c->heap, n[0], n[1], n[2])), WORD, WORD, WORD)
+METHOD(Heap, new_pair, NONE_AFTER(GCFLIP_MADE, calls.new_pair(c->heap, n[0], n[1], n[2], n[3], n[4])), WORD, WORD, WORD, WORD, WORD)
+METHOD(Heap, gather, NONE_AFTER(GCFLIP_MADE, calls.gather(c->heap, n[0], n[1], n[2], n[3], n[4])), WORD, WORD, WORD, WORD, WORD)
+METHOD(Heap, spread, NONE_AFTER(GCFLIP_DONE, calls.spread(c->heap, n[0], n[1], n[2])), WORD, WORD, WORD)
+METHOD(Heap, set_number, NONE_AFTER(GCFLIP_DONE, calls.set_number(c->heap, n[0], n[1])), WORD, LONG)
+METHOD(Heap, set_nil, NONE_AFTER(GCFLIP_DONE, calls.set_nil(c->heap, n[0])), WORD)
+METHOD(Heap, copy, NONE_AFTER(GCFLIP_DONE, calls.copy(c->heap, n[0], n[1])), WORD, WORD)
+METHOD(Heap, get, VALUE_OF(calls.get(c->heap, n[0], n[1], n[2], &view.number), calls.look(c->heap, n[0], &view)), WORD, WORD, WORD)
+METHOD(Heap, peek, VALUE_OF(calls.peek(c->heap, n[0], n[1], &view), GCFLIP_OBJECT), WORD, WORD)
+METHOD(Heap, put, NONE_AFTER(GCFLIP_DONE, calls.put(c->heap, n[0], n[1], n[2], n[3])), WORD, WORD, WORD, WORD)
+METHOD(Heap, put_number, NONE_AFTER(GCFLIP_DONE, calls.put_number(c->heap, n[0], n[1], n[2], n[3])), WORD, WORD, WORD, LONG)
+METHOD(Heap, put_nil, NONE_AFTER(GCFLIP_DONE, calls.put_nil(c->heap, n[0], n[1], n[2])), WORD, WORD, WORD)
+METHOD(Heap, is_same, TRUTH_OF(calls.same(c->heap, n[0], n[1])), WORD, WORD)
+METHOD(Heap, look, VALUE_OF(calls.look(c->heap, n[0], &view), GCFLIP_OBJECT), WORD)
 
-#define DEFINED(name) {#name, (PyCFunction)(void (*)(void))name##_of, METH_FASTCALL | METH_KEYWORDS, "The same as the function of Python, which has the documents."}
+#define DEFINED(of, name) {#name, (PyCFunction)(void (*)(void))of##_##name, METH_FASTCALL | METH_KEYWORDS, "The same as the method of Python, which has the documents."}
 #define LAST {NULL, NULL, 0, NULL}
 
-static PyMethodDef of_mutators[] = {DEFINED(new), DEFINED(raw), DEFINED(num), DEFINED(nil), DEFINED(move), DEFINED(load), DEFINED(store), DEFINED(get), DEFINED(put),
-                                    DEFINED(put_number), DEFINED(put_nil), DEFINED(cons), DEFINED(same), DEFINED(look), LAST};
-static PyMethodDef of_heaps[] = {DEFINED(new_root), DEFINED(new_raw_root), DEFINED(new_pair_root), DEFINED(gather), DEFINED(spread), DEFINED(set_number), DEFINED(copy_root),
-                                 DEFINED(get_root), DEFINED(put_root), DEFINED(is_same), DEFINED(look_root), LAST};
+static PyMethodDef of_mutators[] = {DEFINED(Mutator, new), DEFINED(Mutator, new_raw), DEFINED(Mutator, set_number), DEFINED(Mutator, set_nil), DEFINED(Mutator, copy),
+                                    DEFINED(Mutator, load), DEFINED(Mutator, store), DEFINED(Mutator, get), DEFINED(Mutator, put), DEFINED(Mutator, put_number),
+                                    DEFINED(Mutator, put_nil), DEFINED(Mutator, new_pair), DEFINED(Mutator, is_same), DEFINED(Mutator, look), LAST};
+static PyMethodDef of_heaps[] = {DEFINED(Heap, new), DEFINED(Heap, new_raw), DEFINED(Heap, new_pair), DEFINED(Heap, gather), DEFINED(Heap, spread), DEFINED(Heap, set_number),
+                                 DEFINED(Heap, set_nil), DEFINED(Heap, copy), DEFINED(Heap, get), DEFINED(Heap, peek), DEFINED(Heap, put), DEFINED(Heap, put_number),
+                                 DEFINED(Heap, put_nil), DEFINED(Heap, is_same), DEFINED(Heap, look), LAST};
 static PyMethodDef of_callers[] = {{"_bind", bind, METH_VARARGS, "_bind(owner, address, flag, mutator): names the handle, and what says that it is in use."}, LAST};
 
 /* ---- The module */
@@ -254,7 +262,7 @@ static PyObject *begin(PyObject *module, PyObject *addresses)
     Py_RETURN_NONE;
 }
 
-/* Takes the functions of Python by their names, and the class of objects. */
+/* Takes the methods of Python by their classes and names, and the class of objects. */
 static PyObject *defer(PyObject *module, PyObject *given)
 {
     PyObject *by_name, *class_of_objects;

@@ -80,8 +80,8 @@ static uint32_t index_in(hp_root array, hp_root s)
     int64_t index = integer_in(s, "[]");
     if (!hp_is(&vm, array, ARRAY))
         fail("[]: %s has no elements", name_of(array));
-    if (index < 0 || index >= array_length(array))
-        fail("[]: index %" PRId64 " of an array of %" PRIu32, index, array_length(array));
+    if (index < 0 || index >= hp_array_length(&vm, array))
+        fail("[]: index %" PRId64 " of an array of %" PRIu32, index, hp_array_length(&vm, array));
     return (uint32_t)index;
 }
 
@@ -142,7 +142,7 @@ static void get_element(void)
     if (hp_is(&vm, top(1), TABLE))
         table_get(top(1), top(1), top(0));
     else
-        array_get(top(1), top(1), index_in(top(1), top(0)));
+        hp_array_get(&vm, top(1), top(1), index_in(top(1), top(0)));
     hp_drop(&vm, 1);
 }
 
@@ -151,7 +151,7 @@ static void set_element(void)
     if (hp_is(&vm, top(2), TABLE))
         table_set(top(2), top(1), top(0));
     else
-        array_put(top(2), index_in(top(2), top(1)), top(0));
+        hp_array_put(&vm, top(2), index_in(top(2), top(1)), top(0));
     hp_drop(&vm, 3);
 }
 
@@ -159,7 +159,7 @@ static void push_element(void)
 {
     if (!hp_is(&vm, top(1), ARRAY))
         fail("push: %s is no array", name_of(top(1)));
-    array_push(top(1), top(0));
+    hp_array_push(&vm, top(1), top(0));
     hp_drop(&vm, 1);
 }
 
@@ -284,7 +284,7 @@ static void execute(int32_t at)
             at = functions[codes[at]].start;
             break;
         case RETURN: at = leave(); break;
-        case NEW_ARRAY: array_new(hp_push(&vm), 0); break;
+        case NEW_ARRAY: hp_array_new(&vm, hp_push(&vm), ARRAY, 0); break;
         case NEW_TABLE: table_new(hp_push(&vm)); break;
         case INDEX: get_element(); break;
         case SET_INDEX: set_element(); break;

@@ -55,7 +55,7 @@ static const char *text_of(const char *path)
 /* Prints what the layer counted, and how many objects of each kind are reachable. */
 static void print_stats(void)
 {
-    uint32_t found[KINDS] = {0};
+    uint32_t found[256] = {0};
     hp_object object = {0, {HP_NIL, 0, 0, 0, 0, 0}};
     for (hp_root r = 0; r < WORK_REGISTERS; r++)
         hp_set_nil(&vm, r);
@@ -70,7 +70,7 @@ static void print_stats(void)
 
 int main(int count, char **words)
 {
-    static const char *const names[KINDS] = {"a text", "an array", "a part", "a table"};
+    static const char *const names[KINDS] = {"a text", "an array", "a table"};
     uint32_t size = 1000000, most = 0;
     bool stats = false;
     int i = 1;

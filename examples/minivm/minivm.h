@@ -2,17 +2,17 @@
 #ifndef MINIVM_H
 #define MINIVM_H
 
-#include "herbpond.h"
+#include "herbpond_arrays.h"
 
 /* ---- The heap */
 
 extern hp vm;
 
-/* A text is raw: seven bytes in a word. An array is [length, part], and a table [count, keys, values] with two arrays. */
-enum kind { TEXT, ARRAY, PART, TABLE, KINDS };
+/* A text is raw: seven bytes in a word. A table is [count, keys, values] with two arrays. */
+enum kind { TEXT, ARRAY, TABLE, KINDS };
 
 /* The registers that the files use while they work on an object. Only NO_MEMORY_TEXT keeps a value from one instruction to the next. */
-enum registers { ARRAY_PART, ARRAY_ELEMENT, LARGER_PART, KEYS, VALUES, KEY, OLD_KEYS, OLD_VALUES, WORK_REGISTERS, NO_MEMORY_TEXT = WORK_REGISTERS };
+enum registers { KEYS, VALUES, KEY, OLD_KEYS, OLD_VALUES, WORK_REGISTERS, NO_MEMORY_TEXT = WORK_REGISTERS };
 
 /* What the specials stand for. */
 enum truth { FALSE_VALUE, TRUE_VALUE };
@@ -35,15 +35,6 @@ size_t text_length(hp_root s);
 bool text_same(hp_root s, hp_root t);
 uint64_t text_hash(hp_root s);
 void text_print(hp_root s);
-
-/* ---- Arrays (array.c). An index is below the length */
-
-/* Makes an array of `length` nils. */
-void array_new(hp_root d, uint32_t length);
-uint32_t array_length(hp_root s);
-void array_get(hp_root d, hp_root s, uint32_t index);
-void array_put(hp_root s, uint32_t index, hp_root t);
-void array_push(hp_root s, hp_root t);
 
 /* ---- Values and tables (table.c) */
 

@@ -22,9 +22,9 @@ static uint64_t hash_of(hp_root key)
 /* Gives the table, whose count stays, arrays of so many places. */
 static void new_places(hp_root s, uint32_t places)
 {
-    array_new(KEYS, places);
+    hp_array_new(&vm, KEYS, ARRAY, places);
     hp_put(&vm, s, KEYS_FIELD, KEYS);
-    array_new(VALUES, places);
+    hp_array_new(&vm, VALUES, ARRAY, places);
     hp_put(&vm, s, VALUES_FIELD, VALUES);
 }
 
@@ -38,9 +38,9 @@ void table_new(hp_root d)
 /* Finds the place of a key in array KEYS, or the free place for it. Returns whether the key is there. */
 static bool find(hp_root key, uint32_t *place)
 {
-    uint32_t places = array_length(KEYS);
+    uint32_t places = hp_array_length(&vm, KEYS);
     for (*place = (uint32_t)(hash_of(key) & (places - 1));; *place = (*place + 1) & (places - 1)) {
-        array_get(KEY, KEYS, *place);
+        hp_array_get(&vm, KEY, KEYS, *place);
         if (hp_look(&vm, KEY).type == HP_NIL)
             return false;
         if (values_equal(KEY, key))
@@ -57,21 +57,21 @@ static void load(hp_root s)
 /* Doubles the places of a table whose arrays are loaded. */
 static void enlarge(hp_root s)
 {
-    uint32_t places = array_length(KEYS), place;
+    uint32_t places = hp_array_length(&vm, KEYS), place;
     hp_root element = hp_push(&vm);
-    if (places > 65535 / 2)
+    if (places > HP_MOST_ELEMENTS / 2)
         fail("a table has too many keys");
     hp_copy(&vm, OLD_KEYS, KEYS);
     hp_copy(&vm, OLD_VALUES, VALUES);
     new_places(s, 2 * places);
     for (uint32_t i = 0; i < places; i++) {
-        array_get(element, OLD_KEYS, i);
+        hp_array_get(&vm, element, OLD_KEYS, i);
         if (hp_look(&vm, element).type == HP_NIL)
             continue;
         find(element, &place);
-        array_put(KEYS, place, element);
-        array_get(element, OLD_VALUES, i);
-        array_put(VALUES, place, element);
+        hp_array_put(&vm, KEYS, place, element);
+        hp_array_get(&vm, element, OLD_VALUES, i);
+        hp_array_put(&vm, VALUES, place, element);
     }
     hp_drop(&vm, 1);
 }
@@ -81,13 +81,13 @@ void table_set(hp_root s, hp_root key, hp_root value)
     int64_t count = hp_field(&vm, s, COUNT_FIELD).integer;
     uint32_t place;
     load(s);
-    if (4 * (count + 1) > 3 * (int64_t)array_length(KEYS))
+    if (4 * (count + 1) > 3 * (int64_t)hp_array_length(&vm, KEYS))
         enlarge(s);
     if (!find(key, &place)) {
-        array_put(KEYS, place, key);
+        hp_array_put(&vm, KEYS, place, key);
         hp_put_int(&vm, s, COUNT_FIELD, count + 1);
     }
-    array_put(VALUES, place, value);
+    hp_array_put(&vm, VALUES, place, value);
 }
 
 void table_get(hp_root d, hp_root s, hp_root key)
@@ -95,7 +95,7 @@ void table_get(hp_root d, hp_root s, hp_root key)
     uint32_t place;
     load(s);
     if (find(key, &place))
-        array_get(d, VALUES, place);
+        hp_array_get(&vm, d, VALUES, place);
     else
         hp_set_nil(&vm, d);
 }

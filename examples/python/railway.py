@@ -18,8 +18,8 @@ STATION_SLOT, NAME_SLOT, NUMBER_SLOT, REST = own(0), own(1), own(2), own(3)
 
 def make_station(mutator, name):
     """Puts a new station into STATION_SLOT."""
-    mutator.raw(NAME_SLOT, TEXT, length=1)
-    mutator.num(NUMBER_SLOT, int.from_bytes(name.encode(), "little"))
+    mutator.new_raw(NAME_SLOT, TEXT, length=1)
+    mutator.set_number(NUMBER_SLOT, int.from_bytes(name.encode(), "little"))
     mutator.put(NAME_SLOT, 0, NUMBER_SLOT)
     mutator.new(STATION_SLOT, STATION, length=2)
     mutator.put(STATION_SLOT, NAME, NAME_SLOT)
@@ -28,13 +28,13 @@ def make_station(mutator, name):
 def forget(mutator):
     """Clears the mutator's own slots, so that only the line itself is reachable."""
     for slot in (STATION_SLOT, NAME_SLOT, NUMBER_SLOT, REST):
-        mutator.nil(slot)
+        mutator.set_nil(slot)
 
 
 def stations(mutator):
     """Reads the names on the line, from the first station to the last."""
     names = []
-    mutator.move(STATION_SLOT, LINE)
+    mutator.copy(STATION_SLOT, LINE)
     while mutator.look(STATION_SLOT) is not None:
         mutator.get(NAME_SLOT, STATION_SLOT, NAME)
         number = mutator.get(NUMBER_SLOT, NAME_SLOT, 0)
@@ -58,7 +58,7 @@ def build(mutator):
     for name in ("Ulm", "Bonn", "Kiel"):
         make_station(mutator, name)
         mutator.put(STATION_SLOT, NEXT, LINE)
-        mutator.move(LINE, STATION_SLOT)
+        mutator.copy(LINE, STATION_SLOT)
     forget(mutator)
 
 

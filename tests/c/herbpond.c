@@ -1,54 +1,10 @@
 /* Tests herbpond.h: the numbers of values, the stack, room and growth, what the hook gets, refused allocations, and the walk. */
 #include "own_allocator.h"
 #include "expect.h"
-#include "herbpond.h"
-#include <setjmp.h>
+#include "one_interpreter.h"
 #include <signal.h>
 #include <sys/wait.h>
 #include <unistd.h>
-
-static hp h;
-
-/* ---- The hook: a call that is expected to fail comes back by it, with the answer and the name of the call */
-
-static jmp_buf back;
-static bool expected, returned;
-static uint32_t got;
-static char from[32];
-
-static void hook(hp *failed_heap, uint32_t answer, const char *call)
-{
-    if (!expected || failed_heap != &h) {
-        fprintf(stderr, "%s failed: %s\n", call, gcflip_answer_text(answer));
-        exit(1);
-    }
-    got = answer;
-    snprintf(from, sizeof from, "%s", call);
-    longjmp(back, 1);
-}
-
-#define FAILS(call, answer, name)                            \
-    do {                                                     \
-        expected = true;                                     \
-        returned = false;                                    \
-        if (setjmp(back) == 0) {                             \
-            call;                                            \
-            returned = true;                                 \
-        }                                                    \
-        expected = false;                                    \
-        EXPECT(!returned && got == (answer));                \
-        EXPECT(strcmp(from, name) == 0);                     \
-    } while (0)
-
-static uint64_t random_state = 88172645463325252u;
-
-static uint64_t random_bits(void)
-{
-    random_state ^= random_state << 13;
-    random_state ^= random_state >> 7;
-    random_state ^= random_state << 17;
-    return random_state;
-}
 
 /* Returns how many objects the heap has, and in `words` how many words they take. */
 static uint32_t walked(uint32_t *words)
@@ -211,7 +167,9 @@ static void stack(void)
     FAILS(hp_set_nil(&h, HP_STACK(1)), GCFLIP_OUT_OF_RANGE, "hp_set_nil");
     FAILS(hp_copy(&h, 0, HP_STACK(1)), GCFLIP_OUT_OF_RANGE, "hp_copy");
     FAILS(hp_copy(&h, HP_STACK(1), 0), GCFLIP_OUT_OF_RANGE, "hp_copy");
-    FAILS(hp_set_int(&h, HP_SCRATCH, 1), GCFLIP_OUT_OF_RANGE, "hp_set_int");
+    FAILS(hp_set_int(&h, 29, 1), GCFLIP_OUT_OF_RANGE, "hp_set_int");
+    FAILS(hp_set_int(&h, 30, 1), GCFLIP_OUT_OF_RANGE, "hp_set_int");
+    FAILS(hp_set_int(&h, 31, 1), GCFLIP_OUT_OF_RANGE, "hp_set_int");
     FAILS(hp_new(&h, HP_STACK(1), 0, 0), GCFLIP_OUT_OF_RANGE, "hp_new");
     expect_objects(1);
     EXPECT(hp_is(&h, HP_STACK(0), 0) && !hp_is(&h, HP_STACK(0), 1) && !hp_is(&h, 0, 0));
@@ -225,10 +183,10 @@ static void stack(void)
     hp_drop(&h, 1);
     expect_objects(0);
     /* all registers but the layer's own */
-    for (hp_root r = 0; r < HP_SCRATCH; r++)
+    for (hp_root r = 0; r < 29; r++)
         hp_new_raw(&h, r, r, 0);
-    expect_objects(31);
-    for (hp_root r = 0; r < HP_SCRATCH; r++) {
+    expect_objects(29);
+    for (hp_root r = 0; r < 29; r++) {
         EXPECT(hp_is(&h, r, r));
         hp_set_nil(&h, r);
     }
@@ -504,6 +462,8 @@ static void walks(void)
     EXPECT(strcmp(hp_kind_name(&h, 0), "") == 0);
     hp_name_kinds(&h, names, 2);
     EXPECT(strcmp(hp_kind_name(&h, 0), "pair") == 0 && strcmp(hp_kind_name(&h, 1), "text") == 0 && strcmp(hp_kind_name(&h, 2), "") == 0);
+    EXPECT(strcmp(hp_kind_name(&h, 253), "spine") == 0 && strcmp(hp_kind_name(&h, 254), "part") == 0 && strcmp(hp_kind_name(&h, 255), "box") == 0);
+    EXPECT(strcmp(hp_kind_name(&h, 252), "") == 0 && strcmp(hp_kind_name(&h, 256), "") == 0);
     hp_close(&h);
 }
 

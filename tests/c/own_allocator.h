@@ -73,7 +73,7 @@ static struct gcflip_memory memory_behind(union header *header, size_t size)
 
 struct gcflip_memory rattle_alloc(size_t size, size_t alignment)
 {
-    union header *header = fails() ? NULL : malloc(sizeof *header + size);
+    union header *header = fails() ? NULL : (union header *)malloc(sizeof *header + size);
     (void)alignment;
     blocks += header != NULL;
     return memory_behind(header, size);
@@ -85,7 +85,7 @@ struct gcflip_memory rattle_realloc(void *old, size_t used, size_t size, size_t 
     size_t old_size = header->size;
     (void)used;
     (void)alignment;
-    header = fails() ? NULL : realloc(header, sizeof *header + size);
+    header = fails() ? NULL : (union header *)realloc(header, sizeof *header + size);
     bytes -= header ? old_size : 0;
     return memory_behind(header, size);
 }

@@ -79,7 +79,8 @@ class Library:
     def build(self, compiler, source, linked):
         """Returns the path of the program, and why it was not built, or None."""
         program = os.path.join(self.folder, "program")
-        standard = "-std=c++11" if source.endswith(".cpp") else "-std=gnu11"
+        # herbpond.hpp is for C++17, and the other headers for C++11 too.
+        standard = "-std=gnu11" if source.endswith(".c") else "-std=c++17" if "herbpond" in source else "-std=c++11"
         words = [*compiler, standard, "-O2", "-pthread", *WARNINGS, "-I" + os.path.join(self.prefix, "include")]
         built = done([*words, "-o", program, os.path.join(SOURCES, source), *linked])
         return program, None if built.status == 0 else "not built: %s" % built.stderr.decode()

@@ -27,7 +27,8 @@ from .traces import PLAYED, trace_and_replies
 
 # Programs that end with status 0 and print nothing.
 PROGRAMS = ["answers.c", "check.c", "refused_check.c", "check_cpp.cpp", "heap.c", "extra_roots.c", "looks.c", "places.c", "rows.c", "pace.c", "reserve.c", "refused_heap.c", "checking.c", "damaged.c", "rooms.c", "heap_cpp.cpp", "churn.c", "threads.c",
-            "images.c", "explanations.c", "flipped_bits.c", "adapters.c", "nursery.c", "self_tests.c", "herbpond.c"]
+            "images.c", "explanations.c", "flipped_bits.c", "adapters.c", "nursery.c", "self_tests.c", "herbpond.c",
+            "herbpond_weak.c", "herbpond_arrays.c", "herbpond_cpp.cpp"]
 
 
 def programs(_program, folder):
@@ -327,7 +328,7 @@ EXAMPLE_OUTPUT = {"extra_roots.c": b"pushed 1000\nflipped 1001\nthe last one pop
                                  b"  before 0x#2 (pair, 2 fields)\n  after  0x#2: no object starts there\n"
                                  b"  that is still the old address; the replica of the object before is 0x#3 (pair, 2 fields)\n  reached by global 0\n",
                   "shared_heap.c": b"".join(b"mutator %d kept 2000 1999 1998\n" % m for m in range(3)),
-                  "weak_table.c": b"object 0 lives\nobject 1 died\n"}
+                  "weak_handles.c": b"file 4 is closed\nfile 3 is open\n"}
 
 
 def printed(words):

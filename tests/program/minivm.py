@@ -1,15 +1,14 @@
 """Tests of examples/minivm, a virtual machine on herbpond.h: programs, errors, small and growing heaps, and little address space.
 
 It tests examples/minivm by gcc and with sanitizers: what its programs print, what they leave in the heap, wrong texts and options, and a heap of 2 million
-words in little address space. It also compiles herbpond.h by C11 and C++17.
+words in little address space.
 """
 import glob
 import os
 import re
-import shutil
 
 from .c_builds import SANITIZERS, TOP, WARNINGS, done, library, usable
-from .harness import Outcome, difference, file_of, skip
+from .harness import Outcome, difference, file_of
 
 FOLDER = os.path.join(TOP, "examples", "minivm")
 SOURCES = sorted(glob.glob(os.path.join(FOLDER, "*.c")))
@@ -20,6 +19,7 @@ PRINTED = {
     "fib": b"0\n55\n6765\n",
     "lists": b"2020000\n55\nan array of 2\n",
     "texts": b"\nabcdefg\nabcdefgh\nabcdefghijklmno\n15\ntrue\nfalse\nfalse\n5000\n12345/-7\n",
+    "arrays": b"100000\n173725\n4999880005\n",
     "tables": b"3000\n0\n2247001\n1499\nnil\nnil\na table of 3000\n1122751000\n",
     "grows": b"50005000\n50005000\n2\n/: division by 0\n",
     "errors": b"/: division by 0\n+: a text is no integer\n[]: index 2 of an array of 2\n*: the result has more than 62 bits\n2305843009213693951\n"
@@ -29,10 +29,10 @@ PRINTED = {
 # The last line of errors.mini pushes to a number.
 ENDS_BY = {"errors": b"error: push: an integer is no array\n"}
 # The texts among the constants of a program, with that of the error for a full heap. Nothing else is reachable at the end.
-CONSTANTS = {"fib": 1, "lists": 2, "texts": 22, "tables": 3, "grows": 1, "errors": 3}
+CONSTANTS = {"fib": 1, "lists": 2, "texts": 22, "arrays": 1, "tables": 3, "grows": 1, "errors": 3}
 FULL_HEAP = b"out of memory\nout of memory\n2\n/: division by 0\n"
 STATS = re.compile(rb"made (\d+) objects of (\d+) words; (\d+) flips, (\d+) waits; the heap has (\d+) words\n"
-                   rb"reachable: (\d+) of a text\nreachable: (\d+) of an array\nreachable: (\d+) of a part\nreachable: (\d+) of a table\n$")
+                   rb"reachable: (\d+) of a text\nreachable: (\d+) of an array\nreachable: (\d+) of a table\n$")
 WRONG_TEXTS = {
     b"print(1": b"minivm: line 1, at '': a ) is missing\n",
     b"\n\nlet = 2": b"minivm: line 3, at '2': a = is missing\n",
@@ -71,7 +71,7 @@ def outcome_of(name):
 def stats_of(found):
     """Returns the numbers that --stats prints, or zeros if it printed none."""
     stats = STATS.search(found.stderr)
-    return [int(number) for number in stats.groups()] if stats else [0] * 9
+    return [int(number) for number in stats.groups()] if stats else [0] * 8
 
 
 def programs(_program, folder):
@@ -84,7 +84,7 @@ def programs(_program, folder):
             for heap in (200000, 1000000):
                 yield "%s in %d words, %s" % (name, heap, way), difference(done([path, "--heap", str(heap), path_of(name)]), outcome_of(name))
             reachable = stats_of(done([path, "--stats", path_of(name)]))[5:]
-            yield "what %s leaves, %s" % (name, way), None if reachable == [CONSTANTS[name], 0, 0, 0] else "reachable are %s" % reachable
+            yield "what %s leaves, %s" % (name, way), None if reachable == [CONSTANTS[name], 0, 0] else "reachable are %s" % reachable
 
 
 def heaps(_program, folder):
@@ -95,8 +95,8 @@ def heaps(_program, folder):
             continue
         found = done([path, "--heap", "5000", "--stats", path_of("lists")])
         objects, words, flips, _, size = stats_of(found)[:5]
-        # 40,000 pairs twice, and one of 10, each of an array and two parts, of 4, 2 and 10 words; and two texts, of 6 and 4 words.
-        wanted = 3 * 80010 + 2, 16 * 80010 + 10
+        # 40,000 pairs twice, and one of 10, each of an array and a part, of 4 and 10 words; and two texts, of 6 and 4 words.
+        wanted = 2 * 80010 + 2, 14 * 80010 + 10
         yield "a collected heap, %s" % way, None if found.stdout == PRINTED["lists"] and (objects, words) == wanted and flips > 200 and size == 5000 else found.stderr.decode()
         full = done([path, "--heap", "20000", path_of("grows")])
         yield "a full heap, %s" % way, difference(full, Outcome(FULL_HEAP))
@@ -128,15 +128,4 @@ def little_address_space(_program, folder):
         yield "a collection is refused memory", None if refused.startswith(b"minivm: hp_collect: The system refused memory") else refused.decode()
 
 
-def layers(_program, folder):
-    """Compiles herbpond.h alone, by C11 and by C++17."""
-    text = file_of(folder, "alone", b'#include "herbpond.h"\n')
-    for standard, words in [("C11", ["gcc", "-x", "c", "-std=c11"]), ("C++17", ["g++", "-x", "c++", "-std=c++17"])]:
-        if not shutil.which(words[0]):
-            skip("minivm.layers in %s" % standard, "no %s" % words[0])
-            continue
-        made = done([*words, "-fsyntax-only", *WARNINGS, "-I" + os.path.join(TOP, "bindings", "c"), text])
-        yield "herbpond.h in %s" % standard, None if made.status == 0 else made.stderr.decode()
-
-
-GROUPS = [programs, heaps, mistakes, little_address_space, layers]
+GROUPS = [programs, heaps, mistakes, little_address_space]

@@ -8,10 +8,11 @@ REPLIES = {gcflip.Full: "full", gcflip.NoObject: "no object", gcflip.NoField: "n
            gcflip.Idle: "idle", gcflip.NotReady: "not ready", gcflip.OutOfRange: "out of range", gcflip.Closed: "closed",
            gcflip.OutOfMemory: "no memory", gcflip.FrameFull: "frame full", gcflip.FrameEmpty: "frame empty"}
 # What the binding calls some of the calls.
-NAMES = {"root_load": "load", "root_store": "store"}
-PLACED = {"place_new": "new_root", "place_raw": "new_raw_root", "place_pair": "new_pair_root", "place_new_from": "new_from_root", "place_gather": "gather", "place_spread": "spread", "place_refer": "refer_root", "place_address": "address_root",
-          "place_num": "set_number", "place_nil": "set_nil", "place_copy": "copy_root", "place_get": "get_root", "place_peek": "peek",
-          "place_put": "put_root", "place_put_number": "put_number_root", "place_put_nil": "put_nil_root", "place_same": "is_same", "place_look": "look_root"}
+NAMES = {"root_load": "load", "root_store": "store", "raw": "new_raw", "num": "set_number", "nil": "set_nil", "move": "copy", "cons": "new_pair",
+         "drop": "give_up"}
+PLACED = {"place_new": "new", "place_raw": "new_raw", "place_pair": "new_pair", "place_new_from": "new_from", "place_gather": "gather", "place_spread": "spread", "place_refer": "refer", "place_address": "address",
+          "place_num": "set_number", "place_nil": "set_nil", "place_copy": "copy", "place_get": "get", "place_peek": "peek",
+          "place_put": "put", "place_put_number": "put_number", "place_put_nil": "put_nil", "place_same": "is_same", "place_look": "look"}
 DONE = {"new": "made", "raw": "made", "cons": "made", "num": "done", "nil": "done", "move": "done", "put": "done", "put_number": "done",
         "put_nil": "done", "copy_fields": "done", "root_load": "done", "root_store": "done", "refer": "done"}
 
@@ -37,7 +38,7 @@ def of_mutator(heap, name, numbers):
     if name in ("get", "look"):
         return seen(getattr(mutator, name)(*numbers[1:]))
     if name == "same":
-        return "yes" if mutator.same(*numbers[1:]) else "no"
+        return "yes" if mutator.is_same(*numbers[1:]) else "no"
     if name == "new_from":
         mutator.new_from(*numbers[1:3], numbers[4:])
         return "made"
@@ -157,7 +158,7 @@ def performed(heap, name, numbers):
     if name in ("begin", "begin_sized"):
         return heap.begin(*numbers).value
     if name in ("roots", "scan", "apply", "drop"):
-        return getattr(heap, name)(*numbers).value
+        return getattr(heap, NAMES.get(name, name))(*numbers).value
     return of_mutator(heap, name, numbers)
 
 

@@ -24,7 +24,7 @@ class WrittenWhileScanning(unittest.TestCase):
         with Heap(32) as heap:
             mutator = heap.mutator(0)
             mutator.new(own(0), 1, 1)
-            mutator.num(own(1), 9)
+            mutator.set_number(own(1), 9)
             self.assertEqual(heap.begin(), Step.BEGUN)
             self.assertEqual(heap.roots(), Step.COPIED)
             self.assertEqual(heap.scan(), Step.SCANNED)
@@ -81,18 +81,18 @@ class Commands(unittest.TestCase):
 
     def test_values(self):
         self.mutator.new(own(0), 7, 2)
-        self.mutator.raw(own(1), 255, 1)
-        self.mutator.num(own(2), (1 << 63) - 1)
+        self.mutator.new_raw(own(1), 255, 1)
+        self.mutator.set_number(own(2), (1 << 63) - 1)
         self.assertEqual(self.mutator.look(own(0)), Object(7, 2))
         self.assertEqual(self.mutator.look(own(1)), Object(255, 1, raw=True))
         self.assertEqual(self.mutator.look(own(2)), (1 << 63) - 1)
-        self.mutator.nil(own(2))
+        self.mutator.set_nil(own(2))
         self.assertIsNone(self.mutator.look(own(2)))
         self.assertEqual(self.mutator.get(own(2), own(1), 0), 0)
 
     def test_put_number(self):
         self.mutator.new(own(0), 7, 2)
-        self.mutator.raw(own(1), 255, 1)
+        self.mutator.new_raw(own(1), 255, 1)
         self.mutator.put(own(0), 0, own(1))
         self.mutator.put_number(own(0), 1, own(2), 5)
         self.assertEqual(self.mutator.look(own(2)), 5)
@@ -104,14 +104,14 @@ class Commands(unittest.TestCase):
             self.mutator.put_number(own(0), 0, own(2), 1 << 63)
 
     def test_put_nil(self):
-        self.mutator.cons(own(0), 7, own(0), own(0))
-        self.mutator.raw(own(1), 255, 1)
-        self.mutator.num(own(2), 5)
+        self.mutator.new_pair(own(0), 7, own(0), own(0))
+        self.mutator.new_raw(own(1), 255, 1)
+        self.mutator.set_number(own(2), 5)
         self.mutator.put_nil(own(0), 1, own(2))
         self.assertIsNone(self.mutator.look(own(2)))
         self.assertIsNone(self.mutator.get(own(3), own(0), 1))
         self.assertEqual(self.mutator.get(own(3), own(0), 0), Object(7, 2))
-        self.mutator.num(own(2), 5)
+        self.mutator.set_number(own(2), 5)
         with self.assertRaises(gcflip.NoNumber):
             self.mutator.put_nil(own(1), 0, own(2))
         self.assertIsNone(self.mutator.look(own(2)))
@@ -123,21 +123,21 @@ class Commands(unittest.TestCase):
             self.mutator.put_nil(own(0), 0, 32)
 
     def test_cons(self):
-        self.mutator.num(own(1), 5)
-        self.mutator.cons(own(0), 7, own(1), own(0))
+        self.mutator.set_number(own(1), 5)
+        self.mutator.new_pair(own(0), 7, own(1), own(0))
         self.assertEqual(self.mutator.look(own(0)), Object(7, 2))
         self.assertEqual(self.mutator.get(own(2), own(0), 0), 5)
         self.mutator.get(own(2), own(0), 1)
-        self.assertTrue(self.mutator.same(own(2), own(0)))
+        self.assertTrue(self.mutator.is_same(own(2), own(0)))
 
     def test_new_from(self):
-        self.mutator.num(own(1), 5)
+        self.mutator.set_number(own(1), 5)
         self.mutator.new_from(own(0), 7, [own(1), own(0), own(2)])
         self.assertEqual(self.mutator.look(own(0)), Object(7, 3))
         self.assertEqual(self.mutator.get(own(2), own(0), 0), 5)
         self.assertIsNone(self.mutator.get(own(2), own(0), 2))
         self.mutator.get(own(2), own(0), 1)
-        self.assertTrue(self.mutator.same(own(2), own(0)))
+        self.assertTrue(self.mutator.is_same(own(2), own(0)))
         self.mutator.new_from(own(0), 7, [])
         self.assertEqual(self.mutator.look(own(0)), Object(7, 0))
         for fields in ([32], [own(1)] * 65536, [256]):
@@ -145,23 +145,23 @@ class Commands(unittest.TestCase):
                 self.mutator.new_from(own(0), 7, fields)
 
     def test_slots(self):
-        self.mutator.num(shared(15), 5)
-        self.mutator.num(own(15), 6)
+        self.mutator.set_number(shared(15), 5)
+        self.mutator.set_number(own(15), 6)
         other = self.heap.mutator(1)
         self.assertEqual(other.look(shared(15)), 5)
         self.assertIsNone(other.look(own(15)))
-        other.move(own(15), shared(15))
-        self.assertTrue(other.same(own(15), shared(15)))
-        self.assertFalse(self.mutator.same(own(15), shared(15)))
+        other.copy(own(15), shared(15))
+        self.assertTrue(other.is_same(own(15), shared(15)))
+        self.assertFalse(self.mutator.is_same(own(15), shared(15)))
 
     def test_refused_commands(self):
         refused = [
             (gcflip.NoObject, "no object", lambda: self.mutator.get(own(1), own(0), 0)),
             (gcflip.NoObject, "no object", lambda: self.mutator.put(own(0), 0, own(1))),
             (gcflip.Full, "full", lambda: self.mutator.new(own(0), 1, 14)),
-            (gcflip.Full, "full", lambda: self.mutator.raw(own(0), 1, 14)),
+            (gcflip.Full, "full", lambda: self.mutator.new_raw(own(0), 1, 14)),
         ]
-        self.mutator.raw(shared(0), 1, 1)
+        self.mutator.new_raw(shared(0), 1, 1)
         refused += [
             (gcflip.NoField, "no field", lambda: self.mutator.get(own(1), shared(0), 1)),
             (gcflip.NoNumber, "no number", lambda: self.mutator.put(shared(0), 0, shared(0))),
@@ -178,8 +178,8 @@ class Commands(unittest.TestCase):
             first, second = heap.mutator(0), heap.mutator(1)
             first.new(own(0), 7, 0)
             first.store(2, own(0))
-            first.nil(own(0))
-            first.num(own(1), 5)
+            first.set_nil(own(0))
+            first.set_number(own(1), 5)
             first.store(0, own(1))
             self.assertEqual(heap.work(100).pairs, 1)
             second.load(own(3), 2)
@@ -225,7 +225,7 @@ class Commands(unittest.TestCase):
                 mutator.new(own(0), kind, 0)
                 mutator.push(frame, own(0))
             self.assertRaises(gcflip.FrameFull, mutator.push, frame, own(0))
-            mutator.nil(own(0))
+            mutator.set_nil(own(0))
             frame.truncate(8)
             self.assertEqual((len(frame), frame.roots, frame.dropped_roots), (7, range(1, 8), range(8, 8)))
             frame.truncate(2)
@@ -250,8 +250,8 @@ class Commands(unittest.TestCase):
             lambda: own(16), lambda: own(-1), lambda: shared(16), lambda: shared(-1),
             lambda: self.heap.mutator(2), lambda: self.heap.mutator(-1),
             lambda: self.mutator.new(32, 0, 0), lambda: self.mutator.new(256, 0, 0), lambda: self.mutator.new(0, 256, 0),
-            lambda: self.mutator.new(0, 0, 65536), lambda: self.mutator.num(0, 1 << 63), lambda: self.mutator.num(0, 1 << 64),
-            lambda: self.mutator.num(0, -1), lambda: self.mutator.get(0, 0, 65536), lambda: self.heap.begin(0),
+            lambda: self.mutator.new(0, 0, 65536), lambda: self.mutator.set_number(0, 1 << 63), lambda: self.mutator.set_number(0, 1 << 64),
+            lambda: self.mutator.set_number(0, -1), lambda: self.mutator.get(0, 0, 65536), lambda: self.heap.begin(0),
             lambda: self.heap.begin(1 << 32), lambda: self.heap.apply(2), lambda: self.heap.work(0), lambda: self.heap.work(0, size=8),
             lambda: self.heap.work_within(0, 8), lambda: self.heap.work(1, size=0), lambda: self.heap.log_length(2),
             lambda: self.heap.log_entry(0, 0), lambda: self.heap.new_words(), lambda: self.mutator.raw_read(32, 0, 0),
@@ -265,7 +265,7 @@ class Commands(unittest.TestCase):
 class Steps(unittest.TestCase):
     def test_refused_steps(self):
         with Heap(16) as heap:
-            for step in (heap.roots, heap.scan, heap.flip, heap.drop, lambda: heap.apply(0)):
+            for step in (heap.roots, heap.scan, heap.flip, heap.give_up, lambda: heap.apply(0)):
                 with self.assertRaises(gcflip.Idle):
                     step()
             heap.mutator(0).new(own(0), 1, 1)
@@ -274,7 +274,7 @@ class Steps(unittest.TestCase):
                 heap.begin()
             with self.assertRaises(gcflip.NotReady):
                 heap.flip()
-            self.assertEqual(heap.drop(), Step.DROPPED)
+            self.assertEqual(heap.give_up(), Step.DROPPED)
 
     def test_steps_without_room(self):
         """The new space has room for the first object alone. The second one is the target of a root, of a field, and of a written field."""
@@ -291,7 +291,7 @@ class Steps(unittest.TestCase):
             self.assertEqual(heap.apply(0), Step.NO_ROOM)
             self.assertEqual(heap.log_length(0), 1)
             self.assertEqual(heap.work(5), (1, 0, Step.NO_ROOM, 0, 0))
-            self.assertEqual(heap.drop(), Step.DROPPED)
+            self.assertEqual(heap.give_up(), Step.DROPPED)
 
     def test_work(self):
         """Performs five steps: begin, the root, the field, past the object, the flip. The replica has three words."""
@@ -336,7 +336,7 @@ class Readings(unittest.TestCase):
     def test_numbers_of_raw_objects(self):
         with Heap(32, 2) as heap:
             mutator = heap.mutator(1)
-            mutator.raw(own(3), 9, 4)
+            mutator.new_raw(own(3), 9, 4)
             for field in range(4):
                 mutator.put_number(own(3), field, own(0), 10 + field)
             self.assertEqual(list(mutator.raw_read(own(3), 0, 4)), [10, 11, 12, 13])
@@ -353,7 +353,7 @@ class Readings(unittest.TestCase):
     def test_numbers_are_written_at_once(self):
         with Heap(32, 2) as heap:
             mutator = heap.mutator(1)
-            mutator.raw(own(3), 9, 4)
+            mutator.new_raw(own(3), 9, 4)
             for numbers in ([1, 2, (1 << 63) - 1], array.array("Q", [4, 5, 6]), memoryview(array.array("Q", [7, 8, 9])), iter([10, 11, 12])):
                 with self.subTest(numbers):
                     mutator.raw_write(own(3), 1, own(0), numbers)
@@ -403,7 +403,7 @@ class Readings(unittest.TestCase):
         with Heap(64, 2) as heap:
             mutator = heap.mutator(1)
             mutator.new(own(3), 9, 3)
-            mutator.raw(own(4), 9, 4)
+            mutator.new_raw(own(4), 9, 4)
             mutator.raw_write(own(4), 0, own(0), [10, 11, 12, 13])
             mutator.copy_fields(own(3), 1, own(4), 2, own(0), 2)
             self.assertEqual([mutator.get(own(5), own(3), field) for field in range(3)], [None, 12, 13])
@@ -432,7 +432,7 @@ class Readings(unittest.TestCase):
             mutator.new(own(0), 1, 3)
             mutator.new(own(1), 1, 0)
             self.assertEqual((mutator.address(own(0)), mutator.address(own(1))), (1, 6))
-            mutator.nil(own(0))
+            mutator.set_nil(own(0))
             with self.assertRaises(gcflip.NoObject):
                 mutator.address(own(0))
             while heap.work(1).last != gcflip.Step.FLIPPED:
@@ -444,7 +444,7 @@ class Readings(unittest.TestCase):
             mutator = heap.mutator(0)
             mutator.new(own(0), 1, 3)
             mutator.new(own(1), 1, 0)
-            mutator.nil(own(0))
+            mutator.set_nil(own(0))
             while True:
                 with self.assertRaises(gcflip.OutOfRange):
                     heap.moved(6)
@@ -463,7 +463,7 @@ class Readings(unittest.TestCase):
                 mutator = heap.mutator(0)
                 mutator.new(own(0), 7, 3)
                 mutator.new(own(1), 1, 0)
-                mutator.nil(own(0))
+                mutator.set_nil(own(0))
                 for address in (0, 2, 5, 7, 8, 2**32 - 1):
                     with self.assertRaises(gcflip.NoObject):
                         mutator.refer(own(2), address)
@@ -472,13 +472,13 @@ class Readings(unittest.TestCase):
                 self.assertIsNone(mutator.look(own(2)))
                 mutator.refer(own(2), 1)
                 self.assertEqual(mutator.look(own(2)).kind, 7)
-                mutator.nil(own(2))
+                mutator.set_nil(own(2))
                 while heap.work(1).last != gcflip.Step.FLIPPED:
                     pass
                 with self.assertRaises(gcflip.NoObject):
                     heap.moved(1)
                 mutator.refer(own(2), heap.moved(6))
-                self.assertTrue(mutator.same(own(1), own(2)))
+                self.assertTrue(mutator.is_same(own(1), own(2)))
 
     def test_touched_heaps_stay_as_they_are(self):
         with Heap(64, extra_roots=2) as heap:
@@ -520,9 +520,9 @@ class Readings(unittest.TestCase):
         with Heap(1 << 20) as heap:
             mutator, end = heap.mutator(0), 1 + 15 * (65537 + 4)
             for _ in range(15):
-                mutator.raw(own(0), 1, 65535)
-                mutator.cons(own(2), 1, own(0), own(1))
-                mutator.move(own(1), own(2))
+                mutator.new_raw(own(0), 1, 65535)
+                mutator.new_pair(own(2), 1, own(0), own(1))
+                mutator.copy(own(1), own(2))
             heap.begin()
             while heap.counts().new_end < end:
                 heap.work(1)
@@ -555,7 +555,7 @@ class Large(unittest.TestCase):
         with Heap(2097152) as heap:
             mutator = heap.mutator(0)
             for _ in range(17):
-                mutator.raw(own(1), 1, 65535)
+                mutator.new_raw(own(1), 1, 65535)
             mutator.new(own(0), 1, 1)
             mutator.put(own(0), 0, own(1))
             self.assertEqual(heap.counts().end, 1 + 17 * 65537 + 3)
@@ -616,7 +616,7 @@ class Lives(unittest.TestCase):
         with Heap(64, 2) as heap:
             mutator, done = heap.mutator(0), threading.Event()
             mutator.new(own(1), 7, 2)
-            mutator.cons(own(0), 1, own(1), own(1))
+            mutator.new_pair(own(0), 1, own(1), own(1))
             thread = threading.Thread(target=disturb, args=(heap.mutator(1), done))
             thread.start()
             try:
@@ -649,7 +649,7 @@ def allocate(heap, done):
 def disturb(mutator, done):
     """Puts numbers into the first shared slot until it is told to stop."""
     while not done.is_set():
-        mutator.num(shared(0), 5)
+        mutator.set_number(shared(0), 5)
 
 
 def starts(words):
@@ -660,7 +660,7 @@ def starts(words):
 def count(mutator):
     mutator.new(own(0), 1, 1)
     for number in range(1, 2001):
-        mutator.num(own(1), number)
+        mutator.set_number(own(1), number)
         mutator.put(own(0), 0, own(1))
         assert mutator.get(own(2), own(0), 0) == number
 
@@ -683,16 +683,16 @@ class Turns(unittest.TestCase):
         with Heap(32, extra_roots=2) as heap:
             mutator = heap.mutator(Number(heap, 0))
             mutator.new(Number(heap, own(0)), Number(heap, 1), Number(heap, 2))
-            mutator.num(own(1), Number(heap, 7))
+            mutator.set_number(own(1), Number(heap, 7))
             mutator.new_from(own(2), 3, [Number(heap, own(0)), own(1)])
             self.assertEqual(mutator.get(own(3), own(2), Number(heap, 1)), 7)
             heap.work(Number(heap, 100), size=Number(heap, 40))
             self.assertEqual(heap.counts().size, 40)
-            for call in (lambda: mutator.num(own(1), 1.0), lambda: mutator.num(own(1), "1"), lambda: mutator.get(own(1), None, 0)):
+            for call in (lambda: mutator.set_number(own(1), 1.0), lambda: mutator.set_number(own(1), "1"), lambda: mutator.get(own(1), None, 0)):
                 with self.assertRaises(TypeError):
                     call()
             with self.assertRaises(gcflip.OutOfRange):
-                mutator.num(own(1), Number(heap, 1 << 64))
+                mutator.set_number(own(1), Number(heap, 1 << 64))
 
     def test_a_call_within_a_call(self):
         with Heap(32) as heap:
@@ -717,7 +717,7 @@ class Turns(unittest.TestCase):
             try:
                 end = time.monotonic() + 1
                 while time.monotonic() < end:
-                    mutator.num(own(0), 5)
+                    mutator.set_number(own(0), 5)
             finally:
                 signal.setitimer(signal.ITIMER_REAL, 0)
                 signal.signal(signal.SIGALRM, before)

@@ -23,46 +23,46 @@ class CommandsByPlaces(unittest.TestCase):
     def test_commands(self):
         heap, second = self.heap, self.heap.mutator(1)
         root, number, last = place(shared(0)), place(own(0), 1), extra_place(2, 2)
-        heap.new_root(root, 7, 2)
+        heap.new(root, 7, 2)
         heap.set_number(number, 2 ** 63 - 1)
-        heap.put_root(1, root, 1, number)
-        heap.copy_root(last, root)
+        heap.put(1, root, 1, number)
+        heap.copy(last, root)
         self.assertEqual((heap.is_same(root, last), heap.is_same(root, number)), (True, False))
-        self.assertEqual((heap.get_root(root, last, 1), heap.get_root(number, last, 0)), (2 ** 63 - 1, None))
-        self.assertEqual((heap.look_root(root), heap.look_root(number)), (2 ** 63 - 1, None))
-        heap.put_root(0, last, 0, last)
-        self.assertEqual(heap.get_root(number, last, 0), Object(7, 2))
+        self.assertEqual((heap.get(root, last, 1), heap.get(number, last, 0)), (2 ** 63 - 1, None))
+        self.assertEqual((heap.look(root), heap.look(number)), (2 ** 63 - 1, None))
+        heap.put(0, last, 0, last)
+        self.assertEqual(heap.get(number, last, 0), Object(7, 2))
         self.assertEqual((second.look(shared(0)), second.look(own(0))), (2 ** 63 - 1, Object(7, 2)))
-        second.raw(own(1), 255, 1)
-        self.assertEqual(heap.look_root(place(own(1), 1)), Object(255, 1, True))
-        self.assertRaises(gcflip.NoNumber, heap.put_root, 0, place(own(1), 1), 0, last)
-        self.assertRaises(gcflip.Full, heap.new_root, root, 7, 7)
+        second.new_raw(own(1), 255, 1)
+        self.assertEqual(heap.look(place(own(1), 1)), Object(255, 1, True))
+        self.assertRaises(gcflip.NoNumber, heap.put, 0, place(own(1), 1), 0, last)
+        self.assertRaises(gcflip.Full, heap.new, root, 7, 7)
         heap.begin()
-        heap.put_root(1, last, 1, root)
+        heap.put(1, last, 1, root)
         self.assertEqual((heap.log_length(0), heap.log_length(1)), (0, 1))
 
     def test_values_without_roots(self):
         heap, raw, root = self.heap, place(own(1), 1), extra_place(2, 2)
         self.assertEqual(heap.room(), 15)
-        heap.new_root(root, 7, 2)
-        heap.mutator(1).raw(own(1), 255, 1)
+        heap.new(root, 7, 2)
+        heap.mutator(1).new_raw(own(1), 255, 1)
         self.assertEqual((heap.room(), heap.counts().free), (8, 8))
         self.assertEqual((heap.peek(root, 0), heap.peek(raw, 0)), (None, 0))
         self.assertEqual([heap.object_at(at) for at in (1, 5, 8, 0, 2 ** 32 - 1)], [Object(7, 2), Object(255, 1, True), None, None, None])
         self.assertRaises(gcflip.OutOfRange, heap.object_at, 2 ** 32)
-        heap.put_root(0, root, 0, raw)
-        heap.put_number_root(0, root, 1, 2 ** 63 - 1)
-        heap.put_number_root(1, raw, 0, 6)
+        heap.put(0, root, 0, raw)
+        heap.put_number(0, root, 1, 2 ** 63 - 1)
+        heap.put_number(1, raw, 0, 6)
         self.assertEqual((heap.peek(root, 0), heap.peek(root, 1), heap.peek(raw, 0)), (Object(255, 1, True), 2 ** 63 - 1, 6))
-        self.assertRaises(gcflip.NoNumber, heap.put_nil_root, 0, raw, 0)
+        self.assertRaises(gcflip.NoNumber, heap.put_nil, 0, raw, 0)
         before = heap.image().roots
         heap.begin()
-        heap.put_nil_root(1, root, 1)
-        heap.put_number_root(0, root, 0, 5)
+        heap.put_nil(1, root, 1)
+        heap.put_number(0, root, 0, 5)
         self.assertEqual((heap.peek(root, 0), heap.peek(root, 1), heap.log_length(0), heap.log_length(1)), (5, None, 1, 1))
         self.assertEqual(heap.image().roots, before)
         heap.set_nil(root)
-        self.assertEqual(heap.look_root(root), None)
+        self.assertEqual(heap.look(root), None)
         heap.close()
         self.assertEqual(heap.room(), 0)
         self.assertRaises(gcflip.Closed, heap.object_at, 1)
@@ -72,33 +72,33 @@ class CommandsByPlaces(unittest.TestCase):
         self.addCleanup(heap.close)
         for root in range(54):
             heap.set_number(root, 100 + root)
-        heap.new_pair_root(0, 0, 7, 17, 53)
-        heap.new_from_root(1, 33, 8, [33, 2, 2])
+        heap.new_pair(0, 0, 7, 17, 53)
+        heap.new_from(1, 33, 8, [33, 2, 2])
         heap.gather(0, 1, 9, 47, 3)
-        heap.new_raw_root(3, 255, 2)
-        self.assertEqual([heap.look_root(root) for root in (0, 33, 1, 3)], [Object(7, 2), Object(8, 3), Object(9, 3), Object(255, 2, True)])
+        heap.new_raw(3, 255, 2)
+        self.assertEqual([heap.look(root) for root in (0, 33, 1, 3)], [Object(7, 2), Object(8, 3), Object(9, 3), Object(255, 2, True)])
         self.assertEqual([heap.peek(0, i) for i in range(2)], [117, 153])
         self.assertEqual([heap.peek(33, i) for i in range(3)], [Object(8, 3), 102, 102])
         self.assertEqual([heap.peek(1, i) for i in range(3)], [147, 148, 149])
         heap.spread(51, 1, 3)
         heap.spread(4, 3, 2)
-        self.assertEqual([heap.look_root(root) for root in (50, 51, 52, 53, 4, 5, 6)], [150, 147, 148, 149, 0, 0, 106])
+        self.assertEqual([heap.look(root) for root in (50, 51, 52, 53, 4, 5, 6)], [150, 147, 148, 149, 0, 0, 106])
         self.assertRaises(gcflip.NoField, heap.spread, 10, 1, 4)
         self.assertRaises(gcflip.NoObject, heap.spread, 10, 9, 1)
         for call in (lambda: heap.spread(51, 1, 4), lambda: heap.spread(1, 1, 1), lambda: heap.spread(0, 54, 1), lambda: heap.spread(0, 1, 2 ** 32), lambda: heap.gather(0, 54, 7, 0, 1),
-                     lambda: heap.gather(0, 0, 7, 53, 2), lambda: heap.gather(2, 0, 7, 0, 1), lambda: heap.gather(0, 0, 256, 0, 1), lambda: heap.new_pair_root(0, 0, 7, 0, 54),
-                     lambda: heap.new_pair_root(256, 0, 7, 0, 0), lambda: heap.new_from_root(0, 0, 7, [0, 54]), lambda: heap.new_from_root(0, 0, 7, [-1]),
-                     lambda: heap.new_from_root(0, 0, 7, [0] * 65536), lambda: heap.new_raw_root(0, 7, 65536), lambda: heap.new_raw_root(54, 7, 1)):
+                     lambda: heap.gather(0, 0, 7, 53, 2), lambda: heap.gather(2, 0, 7, 0, 1), lambda: heap.gather(0, 0, 256, 0, 1), lambda: heap.new_pair(0, 0, 7, 0, 54),
+                     lambda: heap.new_pair(256, 0, 7, 0, 0), lambda: heap.new_from(0, 0, 7, [0, 54]), lambda: heap.new_from(0, 0, 7, [-1]),
+                     lambda: heap.new_from(0, 0, 7, [0] * 65536), lambda: heap.new_raw(0, 7, 65536), lambda: heap.new_raw(54, 7, 1)):
             self.assertRaises(gcflip.OutOfRange, call)
-        for call in (lambda: heap.new_raw_root(0, 7, 20), lambda: heap.gather(0, 0, 7, 0, 20), lambda: heap.new_from_root(0, 0, 7, [0] * 20)):
+        for call in (lambda: heap.new_raw(0, 7, 20), lambda: heap.gather(0, 0, 7, 0, 20), lambda: heap.new_from(0, 0, 7, [0] * 20)):
             self.assertRaises(gcflip.Full, call)
         heap.begin()
-        heap.new_pair_root(1, 0, 7, 17, 53)
-        heap.new_from_root(0, 0, 7, [])
+        heap.new_pair(1, 0, 7, 17, 53)
+        heap.new_from(0, 0, 7, [])
         heap.gather(1, 0, 7, 0, 1)
         self.assertEqual((heap.log_length(0), heap.log_length(1)), (0, 3))
         heap.close()
-        for call in (lambda: heap.new_raw_root(0, 7, 1), lambda: heap.new_pair_root(0, 0, 7, 0, 0), lambda: heap.new_from_root(0, 0, 7, []), lambda: heap.gather(0, 0, 7, 0, 1),
+        for call in (lambda: heap.new_raw(0, 7, 1), lambda: heap.new_pair(0, 0, 7, 0, 0), lambda: heap.new_from(0, 0, 7, []), lambda: heap.gather(0, 0, 7, 0, 1),
                      lambda: heap.spread(1, 0, 1)):
             self.assertRaises(gcflip.Closed, call)
 
@@ -106,12 +106,12 @@ class CommandsByPlaces(unittest.TestCase):
         heap, pace = Heap(64), gcflip.Pace()
         self.addCleanup(heap.close)
         self.assertEqual((heap.reserve(pace, 10), heap.room()), (None, 63))
-        heap.new_root(0, 7, 40)
+        heap.new(0, 7, 40)
         self.assertRaises(gcflip.Full, heap.reserve, pace, 22)
         self.assertEqual(heap.room(), 21)
         heap.set_nil(0)
         self.assertEqual((heap.reserve(pace, 22).last, heap.room()), (gcflip.Step.FLIPPED, 63))
-        heap.new_root(0, 7, 40)
+        heap.new(0, 7, 40)
         heap.begin(8)
         self.assertRaises(gcflip.OutOfMemory, heap.reserve, pace, 22)
         self.assertEqual(heap.room(), 21)
@@ -119,31 +119,31 @@ class CommandsByPlaces(unittest.TestCase):
 
     def test_refusals(self):
         heap = self.heap
-        heap.new_root(0, 7, 1)
+        heap.new(0, 7, 1)
         for wrong in (51, 256, 65536, 2 ** 32 - 1, 2 ** 32, -1):
-            for call in (lambda: heap.new_root(wrong, 7, 1), lambda: heap.set_number(wrong, 1), lambda: heap.copy_root(wrong, 0), lambda: heap.copy_root(1, wrong),
-                         lambda: heap.get_root(wrong, 0, 0), lambda: heap.get_root(1, wrong, 0), lambda: heap.put_root(0, wrong, 0, 1), lambda: heap.put_root(0, 0, 0, wrong),
-                         lambda: heap.is_same(wrong, 0), lambda: heap.is_same(0, wrong), lambda: heap.look_root(wrong), lambda: heap.set_nil(wrong), lambda: heap.peek(wrong, 0),
-                         lambda: heap.put_number_root(0, wrong, 0, 1), lambda: heap.put_nil_root(0, wrong, 0)):
+            for call in (lambda: heap.new(wrong, 7, 1), lambda: heap.set_number(wrong, 1), lambda: heap.copy(wrong, 0), lambda: heap.copy(1, wrong),
+                         lambda: heap.get(wrong, 0, 0), lambda: heap.get(1, wrong, 0), lambda: heap.put(0, wrong, 0, 1), lambda: heap.put(0, 0, 0, wrong),
+                         lambda: heap.is_same(wrong, 0), lambda: heap.is_same(0, wrong), lambda: heap.look(wrong), lambda: heap.set_nil(wrong), lambda: heap.peek(wrong, 0),
+                         lambda: heap.put_number(0, wrong, 0, 1), lambda: heap.put_nil(0, wrong, 0)):
                 self.assertRaises(gcflip.OutOfRange, call)
         for kind, length in ((256, 1), (2 ** 32 - 1, 1), (7, 65536), (7, 2 ** 32 - 1)):
-            self.assertRaises(gcflip.OutOfRange, heap.new_root, 0, kind, length)
-        for call in (lambda: heap.put_root(2, 0, 0, 1), lambda: heap.put_root(256, 0, 0, 1), lambda: heap.set_number(0, 2 ** 63), lambda: heap.set_number(0, 2 ** 64),
-                     lambda: heap.put_number_root(2, 0, 0, 1), lambda: heap.put_number_root(0, 0, 0, 2 ** 63), lambda: heap.put_nil_root(256, 0, 0)):
+            self.assertRaises(gcflip.OutOfRange, heap.new, 0, kind, length)
+        for call in (lambda: heap.put(2, 0, 0, 1), lambda: heap.put(256, 0, 0, 1), lambda: heap.set_number(0, 2 ** 63), lambda: heap.set_number(0, 2 ** 64),
+                     lambda: heap.put_number(2, 0, 0, 1), lambda: heap.put_number(0, 0, 0, 2 ** 63), lambda: heap.put_nil(256, 0, 0)):
             self.assertRaises(gcflip.OutOfRange, call)
         for field in (1, 65535, 65536, 2 ** 32 - 1):
-            self.assertRaises(gcflip.NoField, heap.get_root, 1, 0, field)
-            self.assertRaises(gcflip.NoField, heap.put_root, 0, 0, field, 1)
-            self.assertRaises(gcflip.NoField, heap.put_number_root, 0, 0, field, 1)
+            self.assertRaises(gcflip.NoField, heap.get, 1, 0, field)
+            self.assertRaises(gcflip.NoField, heap.put, 0, 0, field, 1)
+            self.assertRaises(gcflip.NoField, heap.put_number, 0, 0, field, 1)
             self.assertRaises(gcflip.NoField, heap.peek, 0, field)
-            self.assertRaises(gcflip.NoObject, heap.put_nil_root, 0, 1, field)
+            self.assertRaises(gcflip.NoObject, heap.put_nil, 0, 1, field)
             self.assertRaises(gcflip.NoObject, heap.peek, 1, field)
-            self.assertRaises(gcflip.NoObject, heap.get_root, 1, 1, field)
-            self.assertRaises(gcflip.NoObject, heap.put_root, 0, 1, field, 1)
-        self.assertEqual((heap.look_root(0), heap.look_root(1), heap.look_root(50)), (Object(7, 1), None, None))
+            self.assertRaises(gcflip.NoObject, heap.get, 1, 1, field)
+            self.assertRaises(gcflip.NoObject, heap.put, 0, 1, field, 1)
+        self.assertEqual((heap.look(0), heap.look(1), heap.look(50)), (Object(7, 1), None, None))
         heap.close()
-        self.assertRaises(gcflip.Closed, heap.look_root, 0)
-        self.assertRaises(gcflip.Closed, heap.get_root, 0, 0, 0)
+        self.assertRaises(gcflip.Closed, heap.look, 0)
+        self.assertRaises(gcflip.Closed, heap.get, 0, 0, 0)
 
     def test_a_get_returns_what_it_read(self):
         """Reads a field into an extra root, to which another thread writes numbers. The field always refers to an object."""
@@ -151,13 +151,13 @@ class CommandsByPlaces(unittest.TestCase):
         sys.setswitchinterval(1e-6)
         self.addCleanup(sys.setswitchinterval, before)
         heap, root, done = self.heap, extra_place(2, 0), threading.Event()
-        heap.new_root(1, 7, 2)
-        heap.new_root(0, 1, 1)
-        heap.put_root(0, 0, 0, 1)
+        heap.new(1, 7, 2)
+        heap.new(0, 1, 1)
+        heap.put(0, 0, 0, 1)
         thread = threading.Thread(target=disturb, args=(heap, root, done))
         thread.start()
         try:
-            self.assertEqual({heap.get_root(root, 0, 0) for _ in range(20000)}, {Object(7, 2)})
+            self.assertEqual({heap.get(root, 0, 0) for _ in range(20000)}, {Object(7, 2)})
         finally:
             done.set()
             thread.join()

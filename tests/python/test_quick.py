@@ -23,23 +23,26 @@ class Index:
 
 # Arguments that a call may refuse.
 ODD = [32, 51, 255, 256, 65535, 65536, (1 << 32) - 1, 1 << 32, 1 << 63, (1 << 64) - 1, 1 << 64, -1, True, Index(), 1.0, "1", None]
-# The arguments of each function: names, with ordinary values.
+# The arguments of each method: names, with ordinary values.
 OF_MUTATORS = {
-    "new": {"slot": SLOTS, "kind": KINDS, "length": FIELDS}, "raw": {"slot": SLOTS, "kind": KINDS, "length": FIELDS}, "num": {"slot": SLOTS, "number": NUMBERS}, "nil": {"slot": SLOTS},
-    "move": {"slot": SLOTS, "source": SLOTS}, "load": {"slot": SLOTS, "root": FIELDS}, "store": {"root": FIELDS, "source": SLOTS}, "get": {"slot": SLOTS, "source": SLOTS, "field": FIELDS},
-    "put": {"slot": SLOTS, "field": FIELDS, "source": SLOTS}, "put_number": {"slot": SLOTS, "field": FIELDS, "source": SLOTS, "number": NUMBERS},
-    "put_nil": {"slot": SLOTS, "field": FIELDS, "source": SLOTS}, "cons": {"slot": SLOTS, "kind": KINDS, "first": SLOTS, "second": SLOTS}, "same": {"first": SLOTS, "second": SLOTS},
-    "look": {"slot": SLOTS},
+    "new": {"slot": SLOTS, "kind": KINDS, "length": FIELDS}, "new_raw": {"slot": SLOTS, "kind": KINDS, "length": FIELDS}, "set_number": {"slot": SLOTS, "number": NUMBERS},
+    "set_nil": {"slot": SLOTS}, "copy": {"slot": SLOTS, "source": SLOTS}, "load": {"slot": SLOTS, "root": FIELDS}, "store": {"root": FIELDS, "source": SLOTS},
+    "get": {"slot": SLOTS, "source": SLOTS, "field": FIELDS}, "put": {"slot": SLOTS, "field": FIELDS, "source": SLOTS},
+    "put_number": {"slot": SLOTS, "field": FIELDS, "source": SLOTS, "number": NUMBERS}, "put_nil": {"slot": SLOTS, "field": FIELDS, "source": SLOTS},
+    "new_pair": {"slot": SLOTS, "kind": KINDS, "first": SLOTS, "second": SLOTS}, "is_same": {"first": SLOTS, "second": SLOTS}, "look": {"slot": SLOTS},
 }
 OF_HEAPS = {
-    "new_root": {"root": PLACES, "kind": KINDS, "length": FIELDS}, "set_number": {"root": PLACES, "number": NUMBERS}, "copy_root": {"root": PLACES, "source": PLACES},
-    "new_raw_root": {"root": PLACES, "kind": KINDS, "length": FIELDS}, "new_pair_root": {"mutator": [0, 1], "root": PLACES, "kind": KINDS, "first": PLACES, "second": PLACES},
+    "new": {"root": PLACES, "kind": KINDS, "length": FIELDS}, "new_raw": {"root": PLACES, "kind": KINDS, "length": FIELDS},
+    "new_pair": {"mutator": [0, 1], "root": PLACES, "kind": KINDS, "first": PLACES, "second": PLACES},
     "gather": {"mutator": [0, 1], "root": PLACES, "kind": KINDS, "first": PLACES, "count": [0, 1, 2]}, "spread": {"first": [0, 5, 16, 30, 48], "source": PLACES, "count": [0, 1, 2]},
-    "get_root": {"root": PLACES, "source": PLACES, "field": FIELDS}, "put_root": {"mutator": [0, 1], "root": PLACES, "field": FIELDS, "source": PLACES},
-    "is_same": {"first": PLACES, "second": PLACES}, "look_root": {"root": PLACES},
+    "set_number": {"root": PLACES, "number": NUMBERS}, "set_nil": {"root": PLACES}, "copy": {"root": PLACES, "source": PLACES},
+    "get": {"root": PLACES, "source": PLACES, "field": FIELDS}, "peek": {"root": PLACES, "field": FIELDS}, "put": {"mutator": [0, 1], "root": PLACES, "field": FIELDS, "source": PLACES},
+    "put_number": {"mutator": [0, 1], "root": PLACES, "field": FIELDS, "number": NUMBERS}, "put_nil": {"mutator": [0, 1], "root": PLACES, "field": FIELDS},
+    "is_same": {"first": PLACES, "second": PLACES}, "look": {"root": PLACES},
 }
+METHODS = {"%s.%s" % (of, name): arguments for of, methods in (("Mutator", OF_MUTATORS), ("Heap", OF_HEAPS)) for name, arguments in methods.items()}
 # Arguments with which each call does what it is for, if `prepare` came before it.
-RIGHT = {name: [values[min(at, len(values) - 1)] for at, values in enumerate(arguments.values())] for name, arguments in {**OF_MUTATORS, **OF_HEAPS}.items()}
+RIGHT = {name: [values[min(at, len(values) - 1)] for at, values in enumerate(arguments.values())] for name, arguments in METHODS.items()}
 
 
 def prepare(heap):
@@ -65,14 +68,14 @@ def outcome(call, given, named):
 
 
 def calls_of(heap, number=0):
-    """Returns the calls of a heap and of one of its mutators by their names."""
-    mutator = heap.mutator(number)
-    return {**{name: getattr(mutator, name) for name in OF_MUTATORS}, **{name: getattr(heap, name) for name in OF_HEAPS}}
+    """Returns the calls of a heap and of one of its mutators by their classes and names."""
+    callers = {"Heap": heap, "Mutator": heap.mutator(number)}
+    return {name: getattr(callers[name.partition(".")[0]], name.partition(".")[2]) for name in METHODS}
 
 
 class Quick(unittest.TestCase):
     def test_the_extension_makes_the_calls(self):
-        self.assertEqual((quick.HAS_EXTENSION, {*OF_MUTATORS, *OF_HEAPS}), (True, set(quick._quick.FUNCTIONS)))
+        self.assertEqual((quick.HAS_EXTENSION, set(METHODS)), (True, set(quick._quick.FUNCTIONS)))
         with Heap(64) as heap:
             for name, call in calls_of(heap).items():
                 self.assertEqual(type(call).__name__, "builtin_function_or_method", name)
@@ -96,9 +99,9 @@ class Quick(unittest.TestCase):
                 self.assertEqual((heap.image(), heap.counts()), (other.image(), other.counts()))
 
     def compare(self, draw, heap, other, mutators):
-        name = draw.choice([*OF_MUTATORS, *OF_HEAPS])
-        quicker, slower = draw.choice(mutators) if name in OF_MUTATORS else (heap, other)
-        values = {**OF_MUTATORS, **OF_HEAPS}[name]
+        of, _, name = draw.choice(list(METHODS)).partition(".")
+        quicker, slower = draw.choice(mutators) if of == "Mutator" else (heap, other)
+        values = METHODS["%s.%s" % (of, name)]
         given = [draw.choice(ODD if draw.random() < 0.03 else values[argument]) for argument in values]
         named = {}
         if draw.random() < 0.1:
@@ -186,7 +189,7 @@ class Quick(unittest.TestCase):
             with self.assertRaises(TypeError):
                 object.__new__(type(heap))._bind(heap._handle, 0, object(), 0)
             with self.assertRaises(AttributeError):
-                object.__new__(type(heap)).look_root(0)
+                object.__new__(type(heap)).look(0)
 
 
 if __name__ == "__main__":

@@ -8,7 +8,7 @@ import threading
 import unittest
 
 import gcflip
-from gcflip import Heap, Ref, own, place
+from gcflip import Heap, Ref
 
 
 def collect(heap):
@@ -33,22 +33,33 @@ class Fields(unittest.TestCase):
         first[2] = first
         collect(self.heap)
         self.assertEqual(first[0], (1 << 63) - 1)
-        self.assertTrue(first[1].same(second) and first[2].same(first) and not first.same(second))
+        self.assertTrue(first[1].is_same(second) and first[2].is_same(first) and not first.is_same(second))
         first[0] = first[1] = None
         self.assertEqual(list(first)[:2], [None, None])
         self.assertEqual([type(value) for value in first], [type(None), type(None), Ref])
 
     def test_raw_objects(self):
-        first = self.heap.make(1, 1)
-        self.heap.mutator(0).raw(own(3), 9, 2)
-        self.heap.put_root(0, first.place, 0, place(own(3)))
-        raw = first[0]
-        raw[1] = 5
-        self.assertEqual((raw.kind, raw.raw, list(raw)), (9, True, [0, 5]))
-        for wrong in (None, first):
-            with self.assertRaises(gcflip.NoNumber):
+        first, raw = self.heap.make(1, 1), self.heap.make_raw(9, 3)
+        self.assertEqual((raw.kind, raw.raw, len(raw), list(raw)), (9, True, 3, [0, 0, 0]))
+        raw[1], raw[2] = 5, (1 << 63) - 1
+        self.assertEqual(([raw[0], raw[1], raw[2]], list(raw)), ([0, 5, (1 << 63) - 1],) * 2)
+        for wrong, error in ((None, gcflip.NoNumber), (first, gcflip.NoNumber), (1 << 63, gcflip.OutOfRange), (-1, gcflip.OutOfRange), ("5", TypeError)):
+            with self.assertRaises(error):
                 raw[1] = wrong
-        self.assertEqual(list(raw), [0, 5])
+        for act in (lambda: raw[3], lambda: raw.__setitem__(3, 1)):
+            with self.assertRaises(gcflip.NoField):
+                act()
+        self.assertEqual(list(raw), [0, 5, (1 << 63) - 1])
+        first[0] = raw
+        del raw
+        collect(self.heap)
+        self.assertEqual((first[0].raw, sum(first[0])), (True, 5 + (1 << 63) - 1))
+        self.assertEqual((self.heap.make_raw(0, 0).raw, list(self.heap.make_raw(255, 0))), (True, []))
+        for kind, length in ((256, 0), (0, 65536), (0, -1)):
+            with self.assertRaises(gcflip.OutOfRange):
+                self.heap.make_raw(kind, length)
+        with self.assertRaises(gcflip.Full):
+            self.heap.make_raw(1, 100)
 
     def test_refused(self):
         first, other = self.heap.make(1, 2), Heap(64, extra_roots=8)
@@ -61,7 +72,7 @@ class Fields(unittest.TestCase):
                            (lambda: pickle.dumps(first), TypeError), (lambda: copy.deepcopy(first), TypeError)):
             with self.assertRaises(error):
                 act()
-        self.assertEqual((list(first), first.same(stranger)), ([4, None], False))
+        self.assertEqual((list(first), first.is_same(stranger)), ([4, None], False))
         # None of these calls has lost a root: of eight, one holds nil and one is that of `first`.
         self.assertEqual(len([self.heap.make(1, 0) for _ in range(6)]), 6)
 
@@ -94,7 +105,7 @@ class Roots(unittest.TestCase):
             del first
             self.assertEqual(collect(heap), 1)
             third = copy.copy(second)
-            self.assertTrue(third.same(second))
+            self.assertTrue(third.is_same(second))
             del second
             self.assertEqual((collect(heap), third.kind), (1, 2))
             third = None
@@ -111,13 +122,15 @@ class Roots(unittest.TestCase):
     def test_no_root_is_left(self):
         with Heap(64, extra_roots=3) as heap:
             first, second = heap.make(1, 1), heap.make(2, 1)
+            first[0], second[0] = second, 7
+            self.assertEqual(second[0], 7)
             before = heap.counts()
-            for act in (lambda: heap.make(3, 0), lambda: first[0], lambda: copy.copy(first)):
+            for act in (lambda: heap.make(3, 0), lambda: heap.make_raw(3, 0), lambda: first[0], lambda: copy.copy(first)):
                 with self.assertRaises(gcflip.FrameFull):
                     act()
             self.assertEqual((heap.counts(), first.kind), (before, 1))
             del second
-            self.assertEqual((heap.make(3, 0).kind, first[0]), (3, None))
+            self.assertEqual((heap.make(3, 0).kind, first[0].kind), (3, 2))
         for count in (0, 1):
             with Heap(64, extra_roots=count) as heap, self.assertRaises(gcflip.FrameFull):
                 heap.make(1, 0)
@@ -224,7 +237,7 @@ class Random(unittest.TestCase):
                 field = draw.choice(inner)
                 ref, model = ref[field], model[field]
             for known, of_known in held:
-                self.assertEqual(known.same(ref), of_known is model)
+                self.assertEqual(known.is_same(ref), of_known is model)
 
 
 class Threads(unittest.TestCase):

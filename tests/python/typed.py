@@ -13,7 +13,7 @@ def collected(heap: Heap) -> int:
     if isinstance(value, Object):
         return value.length
     root: int = place(own(0)) if heap.is_same(place(own(1)), 0) else extra_place(1, 0)
-    seen: Value = heap.get_root(root, 0, 0)
+    seen: Value = heap.get(root, 0, 0)
     begun: Step = heap.begin()
     work: Work = heap.work(100)
     paced: Work | None = heap.work_paced(Pace(), 4)
@@ -25,9 +25,11 @@ def collected(heap: Heap) -> int:
 def held(heap: Heap) -> int:
     first: Ref = heap.make(kind=1, length=2)
     first[0], first[1] = 42, heap.make(2, 0)
+    raw: Ref = heap.make_raw(kind=3, length=1)
+    raw[0] = len(raw)
     content: Content = first[1]
     numbers: list[int] = [value for value in first if isinstance(value, int)]
-    return numbers[0] if isinstance(content, Ref) and content.same(first) else first.kind + len(first)
+    return numbers[0] if isinstance(content, Ref) and content.is_same(first) else first.kind + len(first)
 
 
 def checked(words: memoryview, roots: array.array[int]) -> int:
@@ -45,6 +47,9 @@ def refused_by_mypy(heap: Heap) -> None:
     length: int = heap.mutator(0).get(own(1), own(0), 0)  # wrong
     heap.mutators  # wrong
     heap.make(1, 2)["first"]  # wrong
+    heap.new_root("1", 1, 2)  # wrong
+    heap.mutator(0).num(0, None)  # wrong
+    heap.make_raw(1)  # wrong
     heap.make(1, 2)[0] = "text"  # wrong
     number: int = heap.make(1, 2)[0]  # wrong
     check(Image([0], []), Image([0], []), [(1, 2, 3)])  # wrong

@@ -19,7 +19,8 @@ PYTHON, RUST, PAGE = "bindings/python/README.md", "bindings/rust/README.md", "do
 DOCUMENTS = ["README.md", "CHANGELOG.md", TRUST, "docs/FORMATS.md", "docs/TUTORIAL.md", "docs/EMBEDDING.md", "docs/CALLS.md", "docs/FAQ.md", "docs/CERTIFY.md", "docs/GLOSSARY.md", PAGE, "docs/RATTLE.md", "docs/RELATED.md"]
 COMPLETIONS = {"share/bash-completion/completions/gcflip": "gcflip.bash", "share/zsh/site-functions/_gcflip": "_gcflip",
                "share/fish/vendor_completions.d/gcflip.fish": "gcflip.fish"}
-HEADERS = ["gcflip_answers.h", "gcflip.h", "gcflip_heap.h", "gcflip_images.h", "gcflip_record.h", "gcflip_allocator.h", "herbpond.h"]
+HEADERS = ["gcflip_answers.h", "gcflip.h", "gcflip_heap.h", "gcflip_images.h", "gcflip_record.h", "gcflip_allocator.h", "herbpond.h", "herbpond_arrays.h",
+           "herbpond.hpp"]
 # The headers that the tests of the crate compare it with, and where the crate has the archive.
 COMPARED = HEADERS[:3]
 ARCHIVE_OF_CRATE = "lib/x86_64-unknown-linux-gnu/libgcflip.a"

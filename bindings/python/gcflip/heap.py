@@ -15,6 +15,7 @@ from .checker import Block, Image, Row, _pairs_of
 from .errors import (Busy, Closed, Damaged, FlipRefused, FrameEmpty, FrameFull, Full, GcflipError, HeapRefused, Idle, NoField, NoNumber, NoObject, NotReady,
                      OutOfMemory, OutOfRange)
 from .library import COUNTS, HEAP, LIBRARY, MUTATOR, ROOTS, SLOT, Answer, CheckingNumber, StepName, in_range
+from .renamed import renamed
 
 SLOTS = 16
 NOTHING_DONE: dict[int, type[GcflipError]] = {
@@ -111,7 +112,7 @@ class Step(enum.Enum):
     DROPPED = "dropped"
     """The collection was given up."""
     NO_ROOM = "no room"
-    """The new space has no room for a replica, so nothing changed. The collection stays open; `drop` ends it. This never happens if the new space
+    """The new space has no room for a replica, so nothing changed. The collection stays open; `give_up` ends it. This never happens if the new space
     is at least as large as the heap."""
 
 
@@ -290,7 +291,11 @@ class Heap(quick.Quickened):
         performs the steps of the collector that are due, and whole collections if there is still no room. A heap that was opened with n + 1 extra roots
         has room for n references; the program does not use these roots in another way. Raises FrameFull if no root is left, Full if there is no room
         after whole collections, and OutOfMemory if there is none and a collection gets no memory."""
-        return refs.made(self, self._pool, kind, length)
+        return refs.made(self, self._pool, self.new, kind, length)
+
+    def make_raw(self, kind: int, length: int) -> refs.Ref:
+        """Makes a raw object of a kind, whose fields are plain numbers, all 0, and returns a reference to it. Otherwise like `make`."""
+        return refs.made(self, self._pool, self.new_raw, kind, length)
 
     def _collect(self, pace: Pace) -> None:
         """Performs a whole collection, after the open one if there is one, and lets the pace remember it."""
@@ -300,7 +305,7 @@ class Heap(quick.Quickened):
                 if last is Step.FLIPPED:
                     break
                 if last is Step.NO_ROOM:
-                    self.drop()
+                    self.give_up()
         self.remember(pace)
 
     def clear_roots(self, first: int, end: int) -> None:
@@ -339,7 +344,7 @@ class Heap(quick.Quickened):
         self._call("step_flip", pairs)
         return pairs.value
 
-    def drop(self) -> Step:
+    def give_up(self) -> Step:
         """Ends the collection without a flip: DROPPED. Keeps the new space for the next one. Raises Idle."""
         return self._step("give_up")
 
@@ -411,7 +416,7 @@ class Heap(quick.Quickened):
     def collect(self) -> Work:
         """Performs a whole collection that begins now, so that what is garbage now is gone, and reports all steps. First ends the open collection, if there is
         one. Raises OutOfMemory if memory was refused, or a new space was too small. In the second case
-        the collection is still open, and `drop` gives it up."""
+        the collection is still open, and `give_up` gives it up."""
         work = library.Work()
         if self._call_roots("collect", work) != Answer.DONE:
             raise OutOfMemory("collect")
@@ -436,22 +441,22 @@ class Heap(quick.Quickened):
         by another call."""
         self._call("pace", pace._raw)
 
-    # ---- Commands on roots by their places. A mutator's call on its slots has the word without `_root`.
+    # ---- Commands on roots by their places. Those on a mutator's slots have the same names.
 
-    def new_root(self, root: int, kind: int, length: int) -> None:
+    def new(self, root: int, kind: int, length: int) -> None:
         """Makes an object of a kind, 0 to 255, with `length` fields, at most 65535, all nil, and puts a reference to it into the root at this place,
         as `place` or `extra_place` tells it. Raises Full. Like each of these calls, it raises OutOfRange if there is no such root."""
         self._call_roots("new", root, kind, length)
 
-    def new_raw_root(self, root: int, kind: int, length: int) -> None:
+    def new_raw(self, root: int, kind: int, length: int) -> None:
         """Makes a raw object of a kind with `length` fields, all 0, and puts a reference to it into the root. Raises Full."""
         self._call_roots("new_raw", root, kind, length)
 
-    def new_pair_root(self, mutator: int, root: int, kind: int, first: int, second: int) -> None:
-        """Makes an object of a kind with two fields, which take the values of roots `first` and `second`. This is `new_from_root` with these two roots."""
+    def new_pair(self, mutator: int, root: int, kind: int, first: int, second: int) -> None:
+        """Makes an object of a kind with two fields, which take the values of roots `first` and `second`. This is `new_from` with these two roots."""
         self._call_roots("new_pair", mutator, root, kind, first, second)
 
-    def new_from_root(self, mutator: int, root: int, kind: int, sources: Sequence[int]) -> None:
+    def new_from(self, mutator: int, root: int, kind: int, sources: Sequence[int]) -> None:
         """Makes an object of a kind with a field for each source, at most 65535, which takes that root's value, and puts a reference to it into the root. The
         root is set first, so a field that takes its value refers to the object itself. While a collection is open, this mutator's log takes the fields.
         Raises Full, and OutOfMemory while a collection is open."""
@@ -461,7 +466,7 @@ class Heap(quick.Quickened):
         self._turn.take(lambda: self._made_roots("new_from", mutator, root, kind, numbers, len(places)))
 
     def gather(self, mutator: int, root: int, kind: int, first: int, count: int) -> None:
-        """Makes an object of a kind with `count` fields, which take the values of the roots from `first` on. This is `new_from_root` with these roots."""
+        """Makes an object of a kind with `count` fields, which take the values of the roots from `first` on. This is `new_from` with these roots."""
         self._call_roots("gather", mutator, root, kind, first, count)
 
     def spread(self, first: int, source: int, count: int) -> None:
@@ -477,11 +482,11 @@ class Heap(quick.Quickened):
         """Puts nil into the root."""
         self._call_roots("set_nil", root)
 
-    def copy_root(self, root: int, source: int) -> None:
+    def copy(self, root: int, source: int) -> None:
         """Copies the value of root `source` into the root."""
         self._call_roots("copy", root, source)
 
-    def get_root(self, root: int, source: int, field: int) -> Value:
+    def get(self, root: int, source: int, field: int) -> Value:
         """Reads a field of the object that root `source` refers to into the root, and returns its value. Raises NoObject and NoField."""
         numbers = in_range((root, source, field), ROOTS["get"])
 
@@ -498,18 +503,18 @@ class Heap(quick.Quickened):
         view = library.View()
         return _seen(self._call_roots("peek", root, field, view), view)
 
-    def put_root(self, mutator: int, root: int, field: int, source: int) -> None:
+    def put(self, mutator: int, root: int, field: int, source: int) -> None:
         """Writes the value of root `source` into a field of the object that the root refers to. While a collection is open, this mutator's log takes the
         field, whoever's the roots are. Raises NoObject, NoField, NoNumber, and OutOfMemory while a collection is open."""
         self._call_roots("put", mutator, root, field, source)
 
-    def put_number_root(self, mutator: int, root: int, field: int, number: int) -> None:
-        """Writes a number below 2^63 into a field of the object that the root refers to, as `put_root` writes a value. No root changes. Raises NoObject,
+    def put_number(self, mutator: int, root: int, field: int, number: int) -> None:
+        """Writes a number below 2^63 into a field of the object that the root refers to, as `put` writes a value. No root changes. Raises NoObject,
         NoField, and OutOfMemory while a collection is open."""
         self._call_roots("put_number", mutator, root, field, number)
 
-    def put_nil_root(self, mutator: int, root: int, field: int) -> None:
-        """Writes nil into a field of the object that the root refers to, as `put_root` writes a value. No root changes. Raises NoObject, NoField, NoNumber if
+    def put_nil(self, mutator: int, root: int, field: int) -> None:
+        """Writes nil into a field of the object that the root refers to, as `put` writes a value. No root changes. Raises NoObject, NoField, NoNumber if
         the object is raw, and OutOfMemory while a collection is open."""
         self._call_roots("put_nil", mutator, root, field)
 
@@ -517,21 +522,37 @@ class Heap(quick.Quickened):
         """Returns whether both roots hold nil, equal numbers, or references to one object."""
         return self._call_roots("same", first, second) == Answer.SAME
 
-    def look_root(self, root: int) -> Value:
+    def look(self, root: int) -> Value:
         """Returns the root's value."""
         view = library.View()
         return _seen(self._call_roots("look", root, view), view)
 
-    def address_root(self, root: int) -> int:
+    def address(self, root: int) -> int:
         """Returns the address of the object that the root refers to. The next flip gives objects other addresses. Raises NoObject if it refers to none."""
         address = ctypes.c_uint32()
         self._call_roots("address", root, address)
         return address.value
 
-    def refer_root(self, root: int, address: int) -> None:
+    def refer(self, root: int, address: int) -> None:
         """Puts a reference to the object that starts at this address into the root, as `Mutator.refer` does. Raises NoObject if no object starts there; the root
         then keeps its value."""
         self._call_roots("refer", root, address)
+
+    # ---- Old names
+
+    new_root = renamed("new_root", new)
+    new_raw_root = renamed("new_raw_root", new_raw)
+    new_pair_root = renamed("new_pair_root", new_pair)
+    new_from_root = renamed("new_from_root", new_from)
+    copy_root = renamed("copy_root", copy)
+    get_root = renamed("get_root", get)
+    put_root = renamed("put_root", put)
+    put_number_root = renamed("put_number_root", put_number)
+    put_nil_root = renamed("put_nil_root", put_nil)
+    look_root = renamed("look_root", look)
+    address_root = renamed("address_root", address)
+    refer_root = renamed("refer_root", refer)
+    drop = renamed("drop", give_up)
 
     # ---- Reading
 
@@ -713,19 +734,19 @@ class Mutator(quick.Quickened):
         slot. The object takes length + 2 words. Raises Full."""
         self._call("new_object", slot, kind, length)
 
-    def raw(self, slot: int, kind: int, length: int) -> None:
+    def new_raw(self, slot: int, kind: int, length: int) -> None:
         """Makes a raw object, whose fields are plain numbers, all 0. Otherwise like `new`."""
         self._call("new_raw", slot, kind, length)
 
-    def num(self, slot: int, number: int) -> None:
+    def set_number(self, slot: int, number: int) -> None:
         """Puts a number below 2^63 into the slot."""
         self._call("set_number", slot, number)
 
-    def nil(self, slot: int) -> None:
+    def set_nil(self, slot: int) -> None:
         """Puts nil into the slot."""
         self._call("set_nil", slot)
 
-    def move(self, slot: int, source: int) -> None:
+    def copy(self, slot: int, source: int) -> None:
         """Copies the value of slot `source` into the slot."""
         self._call("move", slot, source)
 
@@ -757,7 +778,7 @@ class Mutator(quick.Quickened):
         return self.heap._raw_read(self.number, slot, first, count)
 
     def raw_write(self, slot: int, first: int, source: int, numbers: Row) -> None:
-        """Writes numbers to the raw object that the slot refers to, into field `first` and the fields after it. For each number this is a `num`
+        """Writes numbers to the raw object that the slot refers to, into field `first` and the fields after it. For each number this is a `set_number`
         of slot `source` and a `put` of it, in one call, so `source` keeps the last number. A buffer of 64-bit words is read in place. All
         numbers are written or none. Raises NoObject if the slot refers to no raw object, NoField if the object has fewer fields, NoNumber for
         a number of 2^63 or more, OutOfRange if `slot` and `source` are one, OverflowError for a number that has no 64 bits, and OutOfMemory
@@ -801,14 +822,14 @@ class Mutator(quick.Quickened):
         collection is open."""
         self._call("copy_fields", slot, field, source, first, through, count)
 
-    def cons(self, slot: int, kind: int, first: int, second: int) -> None:
+    def new_pair(self, slot: int, kind: int, first: int, second: int) -> None:
         """Makes an object with two fields, which take the values of two slots, and puts a reference to it into the slot: a `new` and two
         `put`. If `first` or `second` is the slot itself, that field refers to the new object. Raises Full, and OutOfMemory while a
         collection is open; then nothing changed."""
         self._call("new_pair", slot, kind, first, second)
 
     def new_from(self, slot: int, kind: int, sources: Sequence[int]) -> None:
-        """Makes an object with a field for each of these slots, at most 65535, as `cons` does for two. Each field takes its slot's value."""
+        """Makes an object with a field for each of these slots, at most 65535, as `new_pair` does for two. Each field takes its slot's value."""
         self.heap._new_from(self.number, slot, kind, sources)
 
     def new_with(self, slot: int, kind: int, through: int, fields: Iterable[FieldSource]) -> None:
@@ -818,7 +839,7 @@ class Mutator(quick.Quickened):
         OutOfRange if the two slots are one, and OutOfMemory while a collection is open; then nothing changed."""
         self.heap._new_with(self.number, slot, kind, through, fields)
 
-    def same(self, first: int, second: int) -> bool:
+    def is_same(self, first: int, second: int) -> bool:
         """Returns whether both slots hold nil, equal numbers, or references to one object."""
         return self._call("same", first, second) == Answer.SAME
 
@@ -826,6 +847,13 @@ class Mutator(quick.Quickened):
         """Returns the slot's value."""
         view = library.View()
         return _seen(self._call("look", slot, view), view)
+
+    raw = renamed("raw", new_raw)
+    num = renamed("num", set_number)
+    nil = renamed("nil", set_nil)
+    move = renamed("move", copy)
+    cons = renamed("cons", new_pair)
+    same = renamed("same", is_same)
 
     def _call(self, name: str, *arguments: Any) -> Answer:
         return self.heap._call(name, self.number, *arguments)

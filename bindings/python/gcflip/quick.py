@@ -39,7 +39,11 @@ class Quickened:
 def quicken(heap: type, mutator: type, object_class: type) -> None:
     """Puts the extension's methods before those of the two classes. Where a call is not an ordinary one, they call the methods of the classes."""
     if HAS_EXTENSION:
-        functions: dict[str, Callable[..., Any]] = {name: getattr(mutator, name, None) or getattr(heap, name) for name in _quick.FUNCTIONS}
+        classes = {cls.__name__: cls for cls in (heap, mutator)}
+        functions: dict[str, Callable[..., Any]] = {}
+        for name in _quick.FUNCTIONS:
+            of, _, method = name.partition(".")
+            functions[name] = getattr(classes[of], method)
         _quick.defer(functions, object_class)
         for cls, methods in ((heap, _quick.Roots), (mutator, _quick.Slots)):
             _below[cls] = type(cls.__name__, (methods, cls), {"__doc__": cls.__doc__, "__module__": cls.__module__})

@@ -1,11 +1,12 @@
-"""References that own a root: objects of a heap as objects of Python. `Heap.make` makes them."""
+"""References that own a root: objects of a heap as objects of Python. `Heap.make` and `Heap.make_raw` make them."""
 from __future__ import annotations
 
 import contextlib
 import itertools
-from typing import TYPE_CHECKING, Iterator, Union
+from typing import TYPE_CHECKING, Callable, Iterator, Union
 
 from .errors import Closed, FrameFull, Full, OutOfMemory, OutOfRange
+from .renamed import renamed
 
 if TYPE_CHECKING:
     from .heap import Heap, Pace
@@ -21,7 +22,7 @@ BLOCK = 512
 
 
 class RootPool:
-    """The extra roots of a heap, for its references. The first one always holds nil. One that no reference owns holds nil or a number."""
+    """The extra roots of a heap, for its references. No reference owns the first one. One that no reference owns holds nil or a number."""
 
     def __init__(self, first_place: int, count: int, pace: Pace) -> None:
         self.first_place = first_place
@@ -58,17 +59,17 @@ class RootPool:
         if heap._turn.busy:
             self.uncleared.append(root)
         else:
-            heap.copy_root(self.first_place + root, self.first_place)
+            heap.set_nil(self.first_place + root)
             self.unused.append(root)
 
 
 class Ref:
-    """A reference to an object of a heap, which keeps the object alive: it owns an extra root, and gives it back when Python deletes it. `Heap.make`
-    makes an object and returns a reference to it.
+    """A reference to an object of a heap, which keeps the object alive: it owns an extra root, and gives it back when Python deletes it. `Heap.make` and
+    `Heap.make_raw` make an object and return a reference to it.
 
     Fields are read and written by their numbers, and `for` goes through them in order. A field holds None, a number below 2^63, or another reference. A
-    number that is no field's raises NoField, which is an IndexError. All of this raises Closed after the heap was closed. Each use needs one root that no
-    reference owns, and raises FrameFull if there is none.
+    field of a raw object holds a number, and another value raises NoNumber. A number that is no field's raises NoField, which is an IndexError. All of this
+    raises Closed after the heap was closed. To read a reference needs one root that no reference owns, and raises FrameFull if there is none.
     """
 
     __slots__ = ("heap", "_pool", "_root", "__weakref__")
@@ -101,8 +102,12 @@ class Ref:
         return map(self.__getitem__, range(len(self)))
 
     def __getitem__(self, field: int) -> Content:
+        value = self.heap.peek(self.place, field)
+        if not isinstance(value, tuple):
+            return value
         found = Ref(self.heap, self._pool)
-        value = self.heap.get_root(found.place, self.place, field)
+        # Another thread may have written the field meanwhile.
+        value = self.heap.get(found.place, self.place, field)
         if isinstance(value, tuple):
             return found
         found._free()
@@ -112,26 +117,26 @@ class Ref:
         if isinstance(content, Ref):
             if content._pool is not self._pool:
                 raise OutOfRange("the reference is one of another heap")
-            self.heap.put_root(MUTATOR, self.place, field, content.place)
+            self.heap.put(MUTATOR, self.place, field, content.place)
         elif content is None:
-            self.heap.put_root(MUTATOR, self.place, field, self._pool.first_place)
+            self.heap.put_nil(MUTATOR, self.place, field)
         else:
-            passing = Ref(self.heap, self._pool)
-            self.heap.set_number(passing.place, content)
-            self.heap.put_root(MUTATOR, self.place, field, passing.place)
-            passing._free()
+            self.heap.put_number(MUTATOR, self.place, field, content)
 
-    def same(self, other: Ref) -> bool:
+    def is_same(self, other: Ref) -> bool:
         """Returns whether both refer to one object. Objects of two heaps are never one."""
         return self._pool is other._pool and self.heap.is_same(self.place, other.place)
 
+    same = renamed("same", is_same)
+
     def __copy__(self) -> Ref:
         copy = Ref(self.heap, self._pool)
-        self.heap.copy_root(copy.place, self.place)
+        self.heap.copy(copy.place, self.place)
         return copy
 
     def __del__(self) -> None:
-        if self._root:
+        # What pickle and deepcopy begin to copy has no root.
+        if getattr(self, "_root", 0):
             with contextlib.suppress(Closed):
                 self._pool.give_back(self.heap, self._root)
 
@@ -141,13 +146,13 @@ class Ref:
         self._pool.unused.append(root)
 
     def _seen(self) -> tuple[int, int, bool]:
-        seen = self.heap.look_root(self.place)
+        seen = self.heap.look(self.place)
         assert isinstance(seen, tuple)
         return seen
 
 
-def made(heap: Heap, pool: RootPool, kind: int, length: int) -> Ref:
-    """Makes an object and returns a reference to it, as `Heap.make` says."""
+def made(heap: Heap, pool: RootPool, new: Callable[[int, int, int], None], kind: int, length: int) -> Ref:
+    """Makes an object by `new` or `new_raw` of the heap, and returns a reference to it, as `Heap.make` says."""
     ref = Ref(heap, pool)
     words = length + WORDS_OF_HEADER
     if words > pool.credit:
@@ -157,8 +162,8 @@ def made(heap: Heap, pool: RootPool, kind: int, length: int) -> Ref:
             heap.work_paced(pool.pace, pool.credit)
     pool.credit -= words
     try:
-        heap.new_root(ref.place, kind, length)
+        new(ref.place, kind, length)
     except Full:
         heap._collect(pool.pace)
-        heap.new_root(ref.place, kind, length)
+        new(ref.place, kind, length)
     return ref
