@@ -8,6 +8,8 @@ mod Counts
 mod FirstLog
 mod Flips
 mod Followed
+mod Given
+mod GivenFields
 mod KeptPair
 pub mod LegalRuns
 mod Marks
@@ -29,4 +31,5 @@ mod SourcesPut
 mod Starts
 mod Stepped
 mod Together
+mod Unwritten
 mod ValuesPut

@@ -4,6 +4,7 @@ pub mod CollectedHeap
 pub mod Copying
 pub mod ExtraRoots
 pub mod Flip
+pub mod Giving
 pub mod Internal
 pub mod Mixed
 pub mod Performing

@@ -1,9 +1,10 @@
 //! Commands on roots by their places in the list of roots: first the shared slots, then each mutator's own, then the extra roots. Each is a command of
 //! the machine, for which the root at a place has the name `root_at`.
 
-ghost use Rattle.std.specs.Prelude.{◌≡◌, ◌<◌, ◌≤◌, ◌^◌, IfOk, OnErr, IsSome, length};
+ghost use Rattle.std.specs.Prelude.{◌≡◌, ◌≢◌, ◌<◌, ◌≤◌, ◌^◌, IfOk, OnErr, IsFalse, IsSome, IsTrue, length};
 ghost use Rattle.gc_graph.specs.Slots.{roots_of};
 ghost use Rattle.gc_graph.specs.declared.command.Op.{Op};
+ghost use Rattle.gc_graph.specs.declared.reply.Reply.{Reply};
 ghost use Rattle.gc_heap.specs.Places.{root_at};
 ghost use Rattle.gc_plan.specs.Steps.{mutate};
 ghost use Rattle.gc_roots.specs.Twins.{AsksForLook};
@@ -169,6 +170,18 @@ impl CollectedHeap {
         // Here the prover learns that the heap is sound.
         let _ = self.heap.space();
         self.heap.look_root(s)
+    }
+}
+
+/// Returns whether a `New` with this reply made an object.
+#[inline(always)]
+pub(crate) fn has_made(reply: &Reply) -> bool
+    ensures made { IsTrue result → reply.now ≢ Reply.Full }
+    ensures full { IsFalse result → reply.now ≡ Reply.Full }
+{
+    match reply {
+        Reply::Full => false,
+        _ => true,
     }
 }
 
