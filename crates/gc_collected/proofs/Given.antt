@@ -45,7 +45,7 @@ root_value_is s m p i q within = put_at s s.heap.graph.roots m p q i (root s.hea
 one_entry : (w : Value) (i a : ℕ) → w ≡ Ref a → entries w i Done ≡ (a, i) ∷ []
 one_entry w i a is = ap (λ v. map (λ (name : ℕ). (name, i)) (names_of v)) is
 
-one_state : (h new : HeapWords) (o : Option Collection) (m p i a : ℕ) (v : Value) → PutsValue h p i v new → root (graph_in h) p ≡ Ref a → p < length (graph_in h).roots → put_value_step (state_of h o) m p i v ≡ (Done, state_of new (logged o m ((a, i) ∷ [])))
+pub one_state : (h new : HeapWords) (o : Option Collection) (m p i a : ℕ) (v : Value) → PutsValue h p i v new → root (graph_in h) p ≡ Ref a → p < length (graph_in h).roots → put_value_step (state_of h o) m p i v ≡ (Done, state_of new (logged o m ((a, i) ∷ [])))
 one_state h new o m p i a v puts target within =
     value_is (state_of h o) m p i v within
     ∙ (ap (λ (x : Reply × Graph). (x.0, record (state_of h o) { heap = record { graph = record x.1 { roots = (graph_in h).roots }; free = free_in h.space }; collection = logged o m (entries (root (graph_in h) p) i x.0) })) (sym puts.graph)
@@ -155,10 +155,10 @@ one_ran s s' m p i a v said target within = subst (λ (x : State). Ran s x Its) 
 
 -- ---- one after the other
 
-target_kept : (h new : HeapWords) (p a : ℕ) → new.roots ≡ h.roots → root (graph_in h) p ≡ Ref a → root (graph_in new) p ≡ Ref a
+pub target_kept : (h new : HeapWords) (p a : ℕ) → new.roots ≡ h.roots → root (graph_in h) p ≡ Ref a → root (graph_in new) p ≡ Ref a
 target_kept h new p a same target = ap (λ (rs : List ℕ). unwrap_or (slice_get (map value_of rs) p) Nil) same ∙ target
 
-within_kept : (h new : HeapWords) (p : ℕ) → new.roots ≡ h.roots → p < length (graph_in h).roots → p < length (graph_in new).roots
+pub within_kept : (h new : HeapWords) (p : ℕ) → new.roots ≡ h.roots → p < length (graph_in h).roots → p < length (graph_in new).roots
 within_kept h new p same within = subst (λ (rs : List ℕ). p < length (map value_of rs)) (sym same) within
 
 puts_state : (es : List (ℕ × Value)) (h new : HeapWords) (o : Option Collection) (m p a : ℕ) → PutsAll h p es new → root (graph_in h) p ≡ Ref a → p < length (graph_in h).roots → puts_step (state_of h o) m p es ≡ state_of new (logged o m (fields_put a es))

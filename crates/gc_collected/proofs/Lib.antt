@@ -25,6 +25,7 @@ mod Referred
 mod Reserved
 mod Rooted
 mod Shown
+mod Runs
 mod RunsKnow
 mod Sources
 mod SourcesPut

@@ -12,6 +12,7 @@ pub mod Readings
 pub mod Referring
 pub mod Replies
 pub mod Spreading
+pub mod Surely
 pub mod Values
 pub mod Viewing
 pub mod Writing

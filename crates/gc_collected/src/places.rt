@@ -1,7 +1,7 @@
 //! Commands on roots by their places in the list of roots: first the shared slots, then each mutator's own, then the extra roots. Each is a command of
 //! the machine, for which the root at a place has the name `root_at`.
 
-ghost use Rattle.std.specs.Prelude.{◌≡◌, ◌≢◌, ◌<◌, ◌≤◌, ◌^◌, IfOk, OnErr, IsFalse, IsSome, IsTrue, length};
+ghost use Rattle.std.specs.Prelude.{◌≡◌, ◌≢◌, ◌<◌, ◌≤◌, ◌^◌, IfOk, OnErr, IsFalse, IsSome, IsTrue, None, length};
 ghost use Rattle.gc_graph.specs.Slots.{roots_of};
 ghost use Rattle.gc_graph.specs.declared.command.Op.{Op};
 ghost use Rattle.gc_graph.specs.declared.reply.Reply.{Reply};
@@ -9,6 +9,7 @@ ghost use Rattle.gc_heap.specs.Places.{root_at};
 ghost use Rattle.gc_plan.specs.Steps.{mutate};
 ghost use Rattle.gc_roots.specs.Twins.{AsksForLook};
 ghost use Rattle.gc_collected.specs.CollectedHeap.{Fetches};
+ghost use Rattle.gc_collected.specs.Surely.{PutsSurely};
 
 use crate::barrier::{new_root_in, put_root};
 use crate::collected_heap::CollectedHeap;
@@ -147,6 +148,36 @@ impl CollectedHeap {
         };
         collection.reserve(m)?;
         Ok(put_root(collection, &mut self.heap, &mut self.watch, m, s, i, t))
+    }
+
+    /// Does what `put_root` does, and cannot fail: where the log cannot grow, first gives the open collection up.
+    pub fn put_surely(&mut self, m: u8, s: u32, i: u32, t: u32) -> Reply
+        requires mutator { m < self.old.core.mutators }
+        requires target { s < length self.old.core.heap.graph.roots }
+        requires giver { t < length self.old.core.heap.graph.roots }
+        ensures put { PutsSurely m (Op.Put (root_at s) i (root_at t)) result self.old self.new }
+        ensures mutators { self.new.core.mutators ≡ self.old.core.mutators }
+    {
+        match self.put_root(m, s, i, t) {
+            Ok(reply) => reply,
+            Err(NoMemory) => {
+                let _dropped = self.give_up();
+                self.put_idle(m, s, i, t)
+            }
+        }
+    }
+
+    // Performs a `Put` while no collection is open.
+    fn put_idle(&mut self, m: u8, s: u32, i: u32, t: u32) -> Reply
+        requires idle { self.old.core.collection ≡ None }
+        requires mutator { m < self.old.core.mutators }
+        requires target { s < length self.old.core.heap.graph.roots }
+        requires giver { t < length self.old.core.heap.graph.roots }
+        ensures step { mutate self.old.core m (Op.Put (root_at s) i (root_at t)) ≡ (result, self.new.core) }
+        ensures mutators { self.new.core.mutators ≡ self.old.core.mutators }
+        ensures beside { self.new.beside ≡ self.old.beside }
+    {
+        self.put_root(m, s, i, t).unwrap()
     }
 
     /// Compares what two roots hold. Returns `Yes` or `No`.

@@ -1,10 +1,11 @@
 -- Values that fields of one object take one after the other, in the mutators' heap alone.
-use Rattle.std.specs.Prelude.{◌≡◌, ℕ, suc, List, [], ◌∷◌, ◌++◌, map, slice_get}
+use Rattle.std.specs.Prelude.{◌≡◌, ℕ, zero, suc, List, [], ◌∷◌, ◌++◌, map, slice_get}
 use Rattle.std.specs.Option.{unwrap_or}
 use Rattle.gc_graph.specs.Graph.{Value, Nil, Num}
 use Rattle.gc_heap.specs.Filling.{PutsValue}
-use Rattle.gc_heap.specs.Heap.{HeapWords}
+use Rattle.gc_heap.specs.Heap.{HeapWords, graph_in}
 use Rattle.gc_plan.specs.State.{State}
+use Rattle.gc_collected.specs.Copying.{value_in}
 use Rattle.gc_collected.specs.Values.{put_value_step}
 use Rattle.gc_collected.specs.declared.giving.FieldValue.{FieldValue}
 use Rattle.gc_collected.specs.declared.giving.FieldValue.TheVariants as values
@@ -18,6 +19,16 @@ PutsAll old p (e ∷ rest) new = (next : HeapWords) × PutsValue old p e.0 e.1 n
 abbrev pub puts_step : State → ℕ → ℕ → List (ℕ × Value) → State
 puts_step s m p [] = s
 puts_step s m p (e ∷ rest) = puts_step (put_value_step s m p e.0 e.1).1 m p rest
+
+-- so many fields, from field i on, and the same value for each
+abbrev pub same_from : ℕ → ℕ → Value → List (ℕ × Value)
+same_from i zero v = []
+same_from i (suc n) v = (i, v) ∷ same_from (suc i) n v
+
+-- so many fields of the object in root p, from field i on, take in order what those of the object in root q have then, from field j on
+abbrev pub CopiesAll : HeapWords → ℕ → ℕ → ℕ → ℕ → ℕ → HeapWords → Type 0
+CopiesAll old p i q j zero new = old ≡ new
+CopiesAll old p i q j (suc n) new = (next : HeapWords) × PutsValue old p i (value_in (graph_in old) q j) next × CopiesAll next p (suc i) q (suc j) n new
 
 -- these fields of the object at a
 abbrev pub fields_put : ℕ → List (ℕ × Value) → List (ℕ × ℕ)
