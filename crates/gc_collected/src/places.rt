@@ -1,14 +1,14 @@
 //! Commands on roots by their places in the list of roots: first the shared slots, then each mutator's own, then the extra roots. Each is a command of
 //! the machine, for which the root at a place has the name `root_at`.
 
-ghost use Rattle.std.specs.Prelude.{◌≡◌, ◌≢◌, ◌<◌, ◌≤◌, ◌^◌, IfOk, OnErr, IsFalse, IsSome, IsTrue, None, length};
+ghost use Rattle.std.specs.Prelude.{◌≡◌, ◌≢◌, ◌<◌, ◌≤◌, ◌^◌, IfOk, OnErr, IsFalse, IsSome, IsTrue, length};
 ghost use Rattle.gc_graph.specs.Slots.{roots_of};
 ghost use Rattle.gc_graph.specs.declared.command.Op.{Op};
 ghost use Rattle.gc_graph.specs.declared.reply.Reply.{Reply};
 ghost use Rattle.gc_heap.specs.Places.{root_at};
 ghost use Rattle.gc_plan.specs.Steps.{mutate};
 ghost use Rattle.gc_roots.specs.Twins.{AsksForLook};
-ghost use Rattle.gc_collected.specs.CollectedHeap.{Fetches};
+ghost use Rattle.gc_collected.specs.CollectedHeap.{Fetches, HasMissed};
 ghost use Rattle.gc_collected.specs.Surely.{PutsSurely};
 
 use crate::barrier::{new_root_in, put_root};
@@ -39,18 +39,21 @@ impl CollectedHeap {
         ensures mutators { self.new.core.mutators ≡ self.old.core.mutators }
         ensures beside { self.new.beside ≡ self.old.beside }
         ensures looks { AsksForLook d self.old.roots_left self.new.roots_left }
+        ensures full { result ≡ Reply.Full → self.new.roots_left ≡ self.old.roots_left }
     {
         // Here the prover learns that the heap is sound.
         let _ = self.heap.space();
-        self.known.took(d, root_count(self.heap.mutators()));
-        new_root_in(
+        let made = new_root_in(
             &self.collection,
             &mut self.heap,
             &mut self.watch,
             d,
             kind,
             len,
-        )
+        );
+        self.known
+            .took_if(has_made(&made), d, root_count(self.heap.mutators()));
+        made
     }
 
     /// Makes a raw object, as `new_at_root` makes an object. Its fields are plain numbers, all 0. Does not allocate.
@@ -61,15 +64,17 @@ impl CollectedHeap {
         ensures mutators { self.new.core.mutators ≡ self.old.core.mutators }
         ensures beside { self.new.beside ≡ self.old.beside }
         ensures looks { AsksForLook d self.old.roots_left self.new.roots_left }
+        ensures full { result ≡ Reply.Full → self.new.roots_left ≡ self.old.roots_left }
     {
         self.is_sound();
         // Here the prover learns that the heap is sound.
         let _ = self.heap.space();
         heaps_have_addresses_as_names();
-        self.known.took(d, root_count(self.heap.mutators()));
-        let reply = self.heap.new_raw_at_root(d, kind, len);
+        let made = self.heap.new_raw_at_root(d, kind, len);
+        self.known
+            .took_if(has_made(&made), d, root_count(self.heap.mutators()));
         self.watch.made(self.heap.space().words());
-        reply
+        made
     }
 
     /// Sets root `d` to the number. Returns `Done`. Does not allocate.
@@ -115,12 +120,15 @@ impl CollectedHeap {
         ensures mutators { self.new.core.mutators ≡ self.old.core.mutators }
         ensures beside { self.new.beside ≡ self.old.beside }
         ensures looks { AsksForLook d self.old.roots_left self.new.roots_left }
+        ensures missed { HasMissed result → self.new.roots_left ≡ self.old.roots_left }
     {
         self.is_sound();
         // Here the prover learns that the heap is sound.
         let _ = self.heap.space();
-        self.known.took(d, root_count(self.heap.mutators()));
-        self.heap.fetch_root(d, s, field_number(i))
+        let fetched = self.heap.fetch_root(d, s, field_number(i));
+        self.known
+            .took_if(has_fetched(&fetched), d, root_count(self.heap.mutators()));
+        fetched
     }
 
     /// Writes what root `t` holds to field `i` of the object that root `s` refers to, as mutator `m`'s `Put`. Returns `Done`, or else `NoObject`, `NoField`
@@ -158,26 +166,14 @@ impl CollectedHeap {
         ensures put { PutsSurely m (Op.Put (root_at s) i (root_at t)) result self.old self.new }
         ensures mutators { self.new.core.mutators ≡ self.old.core.mutators }
     {
+        if let Ok(reply) = self.put_root(m, s, i, t) {
+            return reply;
+        }
+        let _dropped = self.give_up();
         match self.put_root(m, s, i, t) {
             Ok(reply) => reply,
-            Err(NoMemory) => {
-                let _dropped = self.give_up();
-                self.put_idle(m, s, i, t)
-            }
+            Err(NoMemory) => unreachable!(),
         }
-    }
-
-    // Performs a `Put` while no collection is open.
-    fn put_idle(&mut self, m: u8, s: u32, i: u32, t: u32) -> Reply
-        requires idle { self.old.core.collection ≡ None }
-        requires mutator { m < self.old.core.mutators }
-        requires target { s < length self.old.core.heap.graph.roots }
-        requires giver { t < length self.old.core.heap.graph.roots }
-        ensures step { mutate self.old.core m (Op.Put (root_at s) i (root_at t)) ≡ (result, self.new.core) }
-        ensures mutators { self.new.core.mutators ≡ self.old.core.mutators }
-        ensures beside { self.new.beside ≡ self.old.beside }
-    {
-        self.put_root(m, s, i, t).unwrap()
     }
 
     /// Compares what two roots hold. Returns `Yes` or `No`.
@@ -212,6 +208,18 @@ pub(crate) fn has_made(reply: &Reply) -> bool
 {
     match reply {
         Reply::Full => false,
+        _ => true,
+    }
+}
+
+// Returns whether a `Get` with this outcome found a value.
+#[inline(always)]
+fn has_fetched(fetched: &Fetched) -> bool
+    ensures found { IsTrue result → ¬ HasMissed fetched.now }
+    ensures missed { IsFalse result → HasMissed fetched.now }
+{
+    match fetched {
+        Fetched::NoObject | Fetched::NoField => false,
         _ => true,
     }
 }
