@@ -1,8 +1,6 @@
 -- Runs of fields that take values through no root: one value for all, or those of another object.
-use Rattle.std.proofs.lemmas.Grind.{common_steps}
-use Rattle.std.proofs.Common.{◌≡◌, inl, inr, ℕ, zero, suc, ◌+◌, ◌-◌, ◌<◌, ◌≤◌, List, [], ◌∷◌, length, is_some, Option, Some, None, refl, ap, sym, ◌∙◌, subst, arith}
+use Rattle.std.proofs.Common.{◌≡◌, ℕ, zero, suc, ◌+◌, ◌-◌, ◌<◌, ◌≤◌, List, [], ◌∷◌, length, is_some, Option, None, refl, ap, sym, ◌∙◌, subst, arith}
 use Rattle.gc_graph.specs.Graph.{Value, Ref, root}
-use Rattle.gc_graph.specs.Machine.{is_number}
 use Rattle.gc_graph.specs.declared.command.Op.TheVariants.{Put}
 use Rattle.gc_graph.specs.declared.reply.Reply.{Reply}
 use Rattle.gc_heap.specs.Filling.{PutsValue}

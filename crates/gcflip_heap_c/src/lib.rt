@@ -44,7 +44,8 @@ pub use opening::{GcflipOptions, gcflip_heap_close, gcflip_heap_open};
 pub use pace::{gcflip_heap_pace, gcflip_heap_work_paced, gcflip_pace_due};
 pub use places::{
     gcflip_copy, gcflip_get, gcflip_look, gcflip_new, gcflip_new_raw, gcflip_peek, gcflip_put,
-    gcflip_put_nil, gcflip_put_number, gcflip_put_sure, gcflip_same, gcflip_set_nil, gcflip_set_number,
+    gcflip_put_nil, gcflip_put_number, gcflip_put_sure, gcflip_same, gcflip_set_nil,
+    gcflip_set_number,
 };
 pub use raws::{gcflip_address, gcflip_heap_address, gcflip_heap_raw_read, gcflip_heap_raw_write};
 pub use reading::{

@@ -1,11 +1,11 @@
 -- A turn copies one field more.
-use Rattle.std.proofs.Common.{◌≡◌, ◌+◌, ◌-◌, ℕ, List, suc, map, ap, refl, sym, ◌∙◌, subst, arith}
+use Rattle.std.proofs.Common.{◌≡◌, ◌+◌, ◌-◌, ℕ, List, suc, map, ap, refl, ◌∙◌, subst, arith}
 use Rattle.std.specs.Prelude.{slice_get}
 use Rattle.std.specs.Option.{unwrap_or}
 use Rattle.gc_graph.specs.Graph.{Nil, Ref, root}
 use Rattle.gc_graph.specs.declared.reply.Reply.TheVariants.{Done}
 use Rattle.gc_words.specs.Word.{value_of}
-use Rattle.gc_heap.specs.Heap.{HeapWords, graph_in}
+use Rattle.gc_heap.specs.Heap.{graph_in}
 use Rattle.gc_heap.specs.Places.{root_at}
 use Rattle.gc_collected.specs.Copying.{copy_reply, object_in}
 use Rattle.gc_collected.proofs.CopiesDone.{number_taken, value_goes_on}

@@ -1,11 +1,11 @@
 -- The heap copies alone; the fields are logged together, and then the monitor is told of all of them.
-use Rattle.std.proofs.Common.{◌≡◌, ◌<◌, ℕ, List, Some, None, length, ap, subst, sym, ◌∙◌, arith}
+use Rattle.std.proofs.Common.{◌≡◌, ℕ, List, Some, None, ap, subst, sym, ◌∙◌, arith}
 use Rattle.std.specs.Prelude.{IfSome, IsFalse, Option}
 use Rattle.std.specs.Option.{option_map}
 use Rattle.std.proofs.lemmas.List.{length-map}
 use Rattle.gc_graph.specs.Graph.{Ref, Value, root}
-use Rattle.gc_words.specs.Word.{field_value, value_of}
-use Rattle.gc_heap.specs.Heap.{HeapWords, graph_in}
+use Rattle.gc_words.specs.Word.{value_of}
+use Rattle.gc_heap.specs.Heap.{graph_in}
 use Rattle.gc_plan.specs.Belonging.{IsOpened}
 use Rattle.gc_copy.specs.Words.{CollectionWords, BelongsTo, collection_in, open_state}
 use Rattle.gc_along.specs.Claims.{CanWriteRow}
@@ -14,7 +14,6 @@ use Rattle.gc_collected.specs.Copying.{values_step}
 use Rattle.gc_collected.specs.Internal.Beside.{AreOld}
 use Rattle.gc_collected.specs.Internal.CollectedHeap.{BelongsIfOpen, Fits, state_in}
 use Rattle.gc_collected.specs.Internal.Follows.{Follows}
-use Rattle.gc_collected.specs.Internal.Given.{same_from}
 use Rattle.gc_collected.specs.Internal.Together.{LogsIfOpen, fields_from}
 use Rattle.gc_collected.proofs.CopiesDone.{row_told}
 use Rattle.gc_collected.proofs.Runs.{Row, copied_fields, copied_puts, copied_values, values_are, row_fits, row_follows, row_mutators, row_ran, row_state}

@@ -1,5 +1,5 @@
 -- A turn fills one field more.
-use Rattle.std.proofs.Common.{◌≡◌, ℕ, List, map, ap, refl, ◌∙◌, arith}
+use Rattle.std.proofs.Common.{ℕ, List, map, ap, refl, ◌∙◌, arith}
 use Rattle.std.specs.Prelude.{slice_get}
 use Rattle.std.specs.Option.{unwrap_or}
 use Rattle.gc_graph.specs.Graph.{Nil}

@@ -1,14 +1,13 @@
 -- The heap fills alone; the fields are logged together, and then the monitor is told of all of them.
-use Rattle.std.proofs.Common.{◌≡◌, ◌<◌, ℕ, List, Some, None, length, ap, subst, sym, ◌∙◌, arith}
+use Rattle.std.proofs.Common.{◌≡◌, ℕ, List, Some, None, ap, subst, sym, ◌∙◌, arith}
 use Rattle.std.specs.Prelude.{IfSome, IsFalse, Option, slice_index_or}
-use Rattle.std.specs.Option.{option_map}
 use Rattle.std.proofs.lemmas.List.{length-map}
 use Rattle.gc_graph.specs.Graph.{Ref, Value, root}
 use Rattle.gc_words.specs.Word.{field_value, value_of}
 use Rattle.gc_heap.specs.Heap.{HeapWords, graph_in}
 use Rattle.gc_heap.proofs.Public.{at_root}
 use Rattle.gc_plan.specs.Belonging.{IsOpened}
-use Rattle.gc_copy.specs.Words.{CollectionWords, BelongsTo, collection_in, open_state}
+use Rattle.gc_copy.specs.Words.{CollectionWords, BelongsTo, open_state}
 use Rattle.gc_along.specs.Claims.{CanWriteRow}
 use Rattle.gc_along.specs.Events.{WroteRow}
 use Rattle.gc_collected.specs.Copying.{fills_step}

@@ -1,10 +1,9 @@
 -- What is read at the object's address is the value of the graph's field.
-use Rattle.std.proofs.Common.{◌≡◌, ℕ, true, Some, None, ap, sym, ◌∙◌, subst, arith, is_some}
-use Rattle.std.specs.Prelude.{IsTrue}
+use Rattle.std.proofs.Common.{◌≡◌, true, Some, None, ap, sym, ◌∙◌, subst, arith, is_some}
 use Rattle.std.specs.Option.{option_map}
-use Rattle.gc_graph.specs.Graph.{Value, field_of, lookup}
+use Rattle.gc_graph.specs.Graph.{Value}
 use Rattle.gc_words.specs.Closed.{IsFieldWord}
-use Rattle.gc_words.specs.Image.{Block, block_at, field_at, header_at, header_of, is_start, objects_of}
+use Rattle.gc_words.specs.Image.{field_at, header_at}
 use Rattle.gc_words.specs.Word.{field_value}
 use Rattle.gc_words.specs.declared.header.Header.{Header}
 use Rattle.gc_words.proofs.Public.{block_of_header, field_found, field_past, field_within}
