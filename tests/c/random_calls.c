@@ -361,6 +361,18 @@ static void object_at(uint32_t address)
     print_look(answer, view);
 }
 
+/* Prints also the address of an object that was seen. */
+static void field_at(uint32_t address, uint32_t i)
+{
+    gcflip_view view = {KEPT_32, KEPT_32, KEPT};
+    uint32_t answer = gcflip_field_at(&heap, address, i, &view);
+    if (answer == GCFLIP_OBJECT || answer == GCFLIP_RAW_OBJECT) {
+        printf("at %u, ", (unsigned)view.number);
+        view.number = 0;
+    }
+    print_look(answer, view);
+}
+
 static void place_address(uint32_t s)
 {
     uint32_t found = 77;
@@ -394,6 +406,15 @@ static uint32_t place_new_from(size_t read)
     return gcflip_new_from(&heap, (uint32_t)a[0], (uint32_t)a[1], (uint32_t)a[2], fields, read - 3);
 }
 
+/* Makes an object of what the numbers from the fourth on say, two for each field. */
+static uint32_t place_new_with(size_t read)
+{
+    static gcflip_field fields[MOST];
+    for (size_t k = 3; k + 1 < read; k += 2)
+        fields[(k - 3) / 2] = (gcflip_field){(uint32_t)a[k], a[k + 1]};
+    return gcflip_new_with(&heap, (uint32_t)a[0], (uint32_t)a[1], (uint32_t)a[2], fields, (read - 3) / 2);
+}
+
 /* Performs a command on roots by their places that writes nothing. The numbers are not cut. */
 static uint32_t by_places(const char *name, size_t read)
 {
@@ -402,6 +423,10 @@ static uint32_t by_places(const char *name, size_t read)
     if (IS("place_raw")) return gcflip_new_raw(&heap, d, s, i);
     if (IS("place_pair")) return gcflip_new_pair(&heap, d, s, i, (uint32_t)a[3], (uint32_t)a[4]);
     if (IS("place_new_from")) return place_new_from(read);
+    if (IS("place_new_with")) return place_new_with(read);
+    if (IS("place_put_sure")) return gcflip_put_sure(&heap, d, s, i, (uint32_t)a[3]);
+    if (IS("place_fill")) return gcflip_fill(&heap, d, s, i, (uint32_t)a[3], (uint32_t)a[4]);
+    if (IS("place_copy_fields")) return gcflip_copy_fields(&heap, d, s, i, (uint32_t)a[3], (uint32_t)a[4], (uint32_t)a[5]);
     if (IS("place_gather")) return gcflip_gather(&heap, d, s, i, (uint32_t)a[3], (uint32_t)a[4]);
     if (IS("place_spread")) return gcflip_spread(&heap, d, s, i);
     if (IS("place_num")) return gcflip_set_number(&heap, d, a[1]);
@@ -483,6 +508,7 @@ static void perform(const char *name, size_t read)
 #ifndef BASIC
     else if (IS("moved")) moved((uint32_t)a[0]);
     else if (IS("object_at")) object_at((uint32_t)a[0]);
+    else if (IS("field_at")) field_at((uint32_t)a[0], (uint32_t)a[1]);
     else if (IS("reserve")) reserve((uint32_t)a[0]);
     else if (IS("collect")) collect();
     else if (IS("release")) printf("%s\n", reply(gcflip_release(&heap)));

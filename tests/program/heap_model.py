@@ -213,22 +213,27 @@ class Model:
 
     # ---- the same commands on roots by their places
 
-    def aimed_at(self, place):
-        """Notes that a command has this root to write. An extra root then counts as written, also if the command finds no object, no field or no room."""
-        if place >= self.extra(0):
+    def written(self, place, reply):
+        """Notes that a command with this reply wrote the root, unless it found no object, no field or no room. Returns the reply."""
+        if place >= self.extra(0) and reply not in ("no object", "no field", "full"):
             self.looks.written(place - self.extra(0))
+        return reply
 
     def place_new(self, d, kind, length):
-        self.aimed_at(d)
-        return self.make(0, False, Place(d), kind, length)
+        return self.written(d, self.make(0, False, Place(d), kind, length))
 
     def place_raw(self, d, kind, length):
-        self.aimed_at(d)
-        return self.make(0, True, Place(d), kind, length)
+        return self.written(d, self.make(0, True, Place(d), kind, length))
+
+    def place_new_with(self, m, d, kind, *numbers):
+        """`numbers` are two for each field: what it holds, and the number or the place."""
+        reply = self.written(d, self.make(m, False, Place(d), kind, len(numbers) // 2))
+        for i, (holds, value) in enumerate(zip(numbers[::2], numbers[1::2]) if reply == "made" else ()):
+            assert holds == 0 or self.write(m, Place(d), i, 2 * value + 1 if holds == 1 else self.roots[value]) == "done"
+        return reply
 
     def place_new_from(self, m, d, kind, *places):
-        self.aimed_at(d)
-        reply = self.make(m, False, Place(d), kind, len(places))
+        reply = self.written(d, self.make(m, False, Place(d), kind, len(places)))
         for i, p in enumerate(places if reply == "made" else ()):
             assert self.put(m, Place(d), i, Place(p)) == "done"
         return reply
@@ -250,8 +255,7 @@ class Model:
         return "done"
 
     def place_num(self, d, n):
-        self.aimed_at(d)
-        return self.num(0, Place(d), n)
+        return self.written(d, self.num(0, Place(d), n))
 
     def place_nil(self, d):
         if d >= self.extra(0):
@@ -259,12 +263,10 @@ class Model:
         return self.nil(0, Place(d))
 
     def place_copy(self, d, s):
-        self.aimed_at(d)
-        return self.move(0, Place(d), Place(s))
+        return self.written(d, self.move(0, Place(d), Place(s)))
 
     def place_get(self, d, s, i):
-        self.aimed_at(d)
-        return self.get(0, Place(d), Place(s), i)
+        return self.written(d, self.get(0, Place(d), Place(s), i))
 
     def place_peek(self, s, i):
         at = self.target(0, Place(s))
@@ -278,6 +280,44 @@ class Model:
     def place_put(self, m, s, i, t):
         return self.put(m, Place(s), i, Place(t))
 
+    def place_put_sure(self, m, s, i, t):
+        return self.place_put(m, s, i, t)
+
+    def place_fill(self, m, s, first, end, t):
+        at, word = self.target(0, Place(s)), self.roots[t]
+        if at is None:
+            return "no object"
+        if end > self.space.length(at):
+            return "no field"
+        if self.space.is_raw(at) and word % 2 == 0:
+            return "no number"
+        for i in range(first, end):
+            assert self.write(m, Place(s), i, word) == "done"
+        return "done"
+
+    def place_copy_fields(self, m, d, to, s, first, count):
+        target, source = self.target(0, Place(d)), self.target(0, Place(s))
+        if not target or not source:
+            return "no object"
+        if to + count > self.space.length(target) or first + count > self.space.length(source):
+            return "no field"
+        is_raw, words = self.space.is_raw(source), self.space.fields(source)[first:first + count]
+        if self.space.is_raw(target) and not is_raw and any(word % 2 == 0 for word in words):
+            return "no number"
+        for k in range(count):
+            word = self.space.words[source + 2 + first + k]
+            assert self.write(m, Place(d), to + k, 2 * word + 1 if is_raw else word) == "done"
+        return "done"
+
+    def field_at(self, at, i):
+        if at not in self.space.starts():
+            return "saw nil"
+        if i >= self.space.length(at):
+            return "no field"
+        word = self.space.words[at + 2 + i]
+        word = 2 * word + 1 if self.space.is_raw(at) else word
+        return ("at %d, " % (word // 2) if word and word % 2 == 0 else "") + "saw " + self.seen(word)
+
     def place_put_number(self, m, s, i, n):
         return self.write(m, Place(s), i, 2 * n + 1)
 
@@ -285,9 +325,7 @@ class Model:
         return self.write(m, Place(s), i, 0)
 
     def place_refer(self, d, at):
-        if at in self.space.starts():
-            self.aimed_at(d)
-        return self.refer(0, Place(d), at)
+        return self.written(d, self.refer(0, Place(d), at))
 
     def place_address(self, s):
         at = self.target(0, Place(s))

@@ -18,9 +18,10 @@ PACED = {"work_sized": 2, "work_within": 3, "pace": 0.7, "work_paced": 6}
 RESERVES = {"reserve": 3, "collect": 0.7, "release": 1}
 LOOSE = {"root_load": 5, "root_store": 6, "root_clear": 1}
 FRAMES = {"frame_push": 6, "frame_pop": 3, "frame_trim": 4}
-PLACES = {"place_new": 4, "place_raw": 2, "place_pair": 3, "place_new_from": 3, "place_gather": 3, "place_spread": 4, "place_num": 3, "place_nil": 2, "place_copy": 5, "place_get": 6, "place_peek": 4, "place_put": 9, "place_put_number": 5, "place_put_nil": 3,
+PLACES = {"place_new": 4, "place_raw": 2, "place_pair": 3, "place_new_from": 3, "place_new_with": 4, "place_gather": 3, "place_spread": 4, "place_num": 3, "place_nil": 2, "place_copy": 5, "place_get": 6, "place_peek": 4, "place_put": 9, "place_put_number": 5, "place_put_nil": 3,
+          "place_put_sure": 3, "place_fill": 4, "place_copy_fields": 4,
           "place_same": 3, "place_look": 4, "room": 2}
-MOVES = {"moved": 4, "refer": 4, "place_refer": 4, "place_address": 2, "object_at": 3}
+MOVES = {"moved": 4, "refer": 4, "place_refer": 4, "place_address": 2, "object_at": 3, "field_at": 4}
 # Not a call: a heap to which looks at extra roots are free, as they are to the one in plain C. A step takes as many as it needs, and none is told.
 FREE_LOOKS = {"free_looks": 0}
 COMMANDS = ("new", "raw", "num", "nil", "move", "get", "put", "same", "look")
@@ -227,6 +228,12 @@ class Calls:
     def add_object_at(self):
         at = self.any_address()
         self.call(["object_at", at], self.model.object_at(at))
+
+    def add_field_at(self):
+        at = self.any_address()
+        length = self.model.space.length(at) if at in self.model.space.starts() else 1
+        i = self.chance.choice([0, max(0, length - 1), length, self.chance.randrange(length + 1), 65536, (1 << 32) - 1])
+        self.call(["field_at", at, i], self.model.field_at(at, i))
 
     def add_raw_write(self):
         m = self.mutator()
@@ -534,6 +541,38 @@ class Calls:
         d, fields = self.place(), [self.place() for _ in range(self.chance.choice([0, 1, 2, 3, 7, 30]))]
         self.add_by_places("place_new_from", [d, *fields], self.mutator(), d, self.chance.randrange(256), *fields)
 
+    def add_place_new_with(self):
+        d, fields, places = self.place(), [], []
+        for _ in range(self.chance.choice([0, 1, 2, 3, 7, 30])):
+            holds = self.chance.randrange(3)
+            fields += [holds, self.place() if holds == 2 else self.number()]
+            places += fields[-1:] if holds == 2 else []
+        self.add_by_places("place_new_with", [d, *places], self.mutator(), d, self.chance.randrange(256), *fields)
+
+    def range_of_fields(self, s, first):
+        """Returns how many fields the object of the root at this place has from this one on, mostly, or fewer, or more."""
+        at = self.model.target(0, Place(s)) if s < len(self.model.roots) else None
+        room = max(0, self.model.space.length(at) - first) if at and first < 65535 else 2
+        return self.chance.choice([0, 1, room, room, room + 1, self.chance.randrange(room + 1)])
+
+    def add_place_fill(self):
+        s, t = self.filled_place(), self.place()
+        first = self.place_field(s)
+        end = first + self.range_of_fields(s, first)
+        self.add_by_places("place_fill", [s, t] if end < 1 << 32 else [1 << 32], self.mutator(), s, first, min(end, (1 << 32) - 1), t)
+
+    def add_place_copy_fields(self):
+        d, s = self.filled_place(), self.filled_place()
+        if self.chance.random() < 0.3:
+            s = d
+        to, first = self.place_field(d), self.place_field(s)
+        count = min(self.range_of_fields(d, to), self.range_of_fields(s, first)) if self.chance.random() < 0.8 else self.range_of_fields(d, to)
+        self.add_by_places("place_copy_fields", [d, s], self.mutator(), d, to, s, first, count)
+
+    def add_place_put_sure(self):
+        s, t = self.filled_place(), self.place()
+        self.add_by_places("place_put_sure", [s, t], self.mutator(), s, self.place_field(s), t)
+
     def range_of_roots(self):
         """Returns a place and how many roots there are from there on: as many as the heap has, mostly, or more."""
         first = self.place()
@@ -658,7 +697,10 @@ class Calls:
                       ["place_put_number", 0, 0, 0, (1 << 64) - 1], ["place_put_nil", beyond, 0, 0], ["place_put_nil", wide, 0, 0],
                       ["place_raw", 0, wide, 1], ["place_raw", 0, 1, 65536 * (1 + wide % 3)], ["place_pair", beyond, 0, 0, 0, 0], ["place_pair", 0, 0, wide, 0, 0],
                       ["place_new_from", beyond, 0, 0, 0], ["place_new_from", 0, 0, wide, 0], ["place_gather", beyond, 0, 0, 0, 1], ["place_gather", 0, 0, wide, 0, 1],
-                      ["place_gather", 0, 0, 0, 0, 65536], ["place_spread", 0, 0, 1], ["place_spread", 1, 0, (1 << 32) - 1]]
+                      ["place_gather", 0, 0, 0, 0, 65536], ["place_spread", 0, 0, 1], ["place_spread", 1, 0, (1 << 32) - 1],
+                      ["place_new_with", beyond, 0, 0], ["place_new_with", 0, 0, wide], ["place_new_with", 0, 0, 0, 1, 1 << 63], ["place_new_with", 0, 0, 0, 2, 1 << 32],
+                      ["place_new_with", 0, 0, 0, self.chance.choice([3, 255, 1 << 31]), 0], ["place_put_sure", beyond, 0, 0, 0], ["place_fill", beyond, 0, 0, 0, 0],
+                      ["place_fill", 0, 0, 1, 0, 0], ["place_copy_fields", beyond, 0, 0, 0, 0, 0], ["place_copy_fields", wide, 0, 0, 0, 0, 0]]
         if "root_load" not in self.weights or self.model.extra_roots == 0:
             return sized
         return sized + [["root_load", beyond, 0, 0], ["root_load", 0, slot, 0], ["root_store", beyond, 0, 0], ["root_store", 0, 0, slot]]

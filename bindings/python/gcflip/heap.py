@@ -83,13 +83,13 @@ Value = Union[None, int, Object]
 
 
 class Held(NamedTuple):
-    """The value of a slot, for a field of a new object: `Mutator.new_with`."""
+    """The value of a slot, for a field of a new object: `Mutator.new_with`. Or of the root at a place: `Heap.new_with`."""
 
     slot: int
 
 
 FieldSource = Union[None, int, Held]
-"""What a field of a new object takes: None for nil, a number, or the value of a slot."""
+"""What a field of a new object takes: None for nil, a number, or the value of a slot or a root."""
 
 
 class Step(enum.Enum):
@@ -465,6 +465,15 @@ class Heap(quick.Quickened):
         numbers = (ctypes.c_uint32 * max(1, len(places)))(*places)
         self._turn.take(lambda: self._made_roots("new_from", mutator, root, kind, numbers, len(places)))
 
+    def new_with(self, mutator: int, root: int, kind: int, fields: Iterable[FieldSource]) -> None:
+        """Makes an object of a kind with a field for each of these: None, a number below 2^63, or the value of the root at a place, as `Held(place)`. This is a
+        `new`, and in order a `put_number` for each number and a `put` for each root. No other root changes. A field that takes the root itself
+        refers to the new object. Raises Full, and OutOfMemory while a collection is open."""
+        mutator, root, kind = in_range((mutator, root, kind), ROOTS["new_with"][:3])
+        records = [_record(field, library.PLACE) for field in fields]
+        row = (library.Field * max(1, len(records)))(*records)
+        self._turn.take(lambda: self._made_roots("new_with", mutator, root, kind, row, len(records)))
+
     def gather(self, mutator: int, root: int, kind: int, first: int, count: int) -> None:
         """Makes an object of a kind with `count` fields, which take the values of the roots from `first` on. This is `new_from` with these roots."""
         self._call_roots("gather", mutator, root, kind, first, count)
@@ -508,6 +517,11 @@ class Heap(quick.Quickened):
         field, whoever's the roots are. Raises NoObject, NoField, NoNumber, and OutOfMemory while a collection is open."""
         self._call_roots("put", mutator, root, field, source)
 
+    def put_sure(self, mutator: int, root: int, field: int, source: int) -> None:
+        """Does what `put` does, but never runs out of memory: where the log cannot grow, it first gives the open collection up. Raises NoObject, NoField,
+        NoNumber."""
+        self._call_roots("put_sure", mutator, root, field, source)
+
     def put_number(self, mutator: int, root: int, field: int, number: int) -> None:
         """Writes a number below 2^63 into a field of the object that the root refers to, as `put` writes a value. No root changes. Raises NoObject,
         NoField, and OutOfMemory while a collection is open."""
@@ -517,6 +531,17 @@ class Heap(quick.Quickened):
         """Writes nil into a field of the object that the root refers to, as `put` writes a value. No root changes. Raises NoObject, NoField, NoNumber if
         the object is raw, and OutOfMemory while a collection is open."""
         self._call_roots("put_nil", mutator, root, field)
+
+    def fill(self, mutator: int, root: int, first: int, end: int, source: int) -> None:
+        """Writes the value of root `source` into the fields from `first` to `end - 1` of the object that the root refers to, as `put` writes it into one. All
+        are written or none. Raises NoObject, NoField, NoNumber, OutOfRange also if `end` is below `first`, and OutOfMemory while a collection is open."""
+        self._call_roots("fill", mutator, root, first, end, source)
+
+    def copy_fields(self, mutator: int, root: int, field: int, source: int, first: int, count: int) -> None:
+        """Copies `count` fields: from field `first` on, of the object that root `source` refers to, to field `field` and on of the object that the root refers
+        to. Each takes, in rising order, the value that the other field has then. No root changes. All are copied or none. Raises NoObject, NoField, NoNumber,
+        and OutOfMemory while a collection is open."""
+        self._call_roots("copy_fields", mutator, root, field, source, first, count)
 
     def is_same(self, first: int, second: int) -> bool:
         """Returns whether both roots hold nil, equal numbers, or references to one object."""
@@ -613,6 +638,13 @@ class Heap(quick.Quickened):
         found = _seen(self._call_roots("object_at", address, view), view)
         return found if isinstance(found, Object) else None
 
+    def field_at(self, address: int, field: int) -> tuple[Value, int | None]:
+        """Returns the value of a field of the object that starts at this address, and the address of the object that the value refers to. Returns None for both
+        if no object starts at the address. Raises NoField if the object has no such field."""
+        view = library.View()
+        value = _seen(self._call_roots("field_at", address, field, view), view)
+        return value, int(view.number) if isinstance(value, Object) else None
+
     def _room(self) -> int:
         return int(LIBRARY.gcflip_room(self._handle))
 
@@ -705,11 +737,12 @@ def _answered(name: str, number: int) -> Answer:
     return answer
 
 
-def _record(field: FieldSource) -> library.Field:
+def _record(field: FieldSource, kind: Any = SLOT) -> library.Field:
+    """Returns C's record. `kind` is the type of the number of what holds a value."""
     if field is None:
         return library.Field(0, 0)
     if isinstance(field, Held):
-        return library.Field(2, *in_range((field.slot,), (SLOT,)))
+        return library.Field(2, *in_range((field.slot,), (kind,)))
     return library.Field(1, *in_range((field,), (ctypes.c_uint64,)))
 
 

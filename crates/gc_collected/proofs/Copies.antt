@@ -1,14 +1,14 @@
 -- The reply to a call that copies fields; and the copies keep what is known of the roots.
 use Rattle.std.proofs.lemmas.Grind.{common_steps}
-use Rattle.std.proofs.Common.{◌≡◌, ◌<◌, ◌≤◌, ◌+◌, ℕ, zero, suc, List, [], ◌∷◌, length, map, take, drop, Some, None, Option, true, refl, sym, ap, ◌∙◌, arith}
+use Rattle.std.proofs.Common.{◌≡◌, ◌<◌, ◌≤◌, ◌+◌, ℕ, zero, suc, List, [], ◌∷◌, length, map, take, drop, Some, None, Option, is_none, is_some, true, false, refl, sym, ap, ◌∙◌, subst, arith}
 use Rattle.std.specs.Prelude.{slice_range, not, ◌||◌, Bool, cond, ◌&&◌}
 use Rattle.std.specs.List.{list_all}
 use Rattle.std.proofs.lemmas.Bool.{le-leb}
 use Rattle.std.proofs.lemmas.List.{take-map, drop-map, length-map}
 use Rattle.std.proofs.lemmas.List.Folds.{list_all-map}
 use Rattle.std.proofs.lemmas.Slice.{between_is}
-use Rattle.std.specs.Option.{option_map, option_and_then}
-use Rattle.gc_graph.specs.Graph.{Num, Object, Graph, lookup, root, name_of}
+use Rattle.std.specs.Option.{option_map, option_and_then, unwrap_or}
+use Rattle.gc_graph.specs.Graph.{Nil, Num, Ref, Object, Graph, field_of, lookup, object_of, root, name_of}
 use Rattle.gc_graph.specs.declared.command.Op.TheVariants.{Get, Put}
 use Rattle.gc_graph.specs.declared.reply.Reply.{Reply}
 use Rattle.gc_graph.specs.declared.reply.Reply.TheVariants.{Done, NoNumber}
@@ -16,14 +16,15 @@ use Rattle.gc_graph.specs.Machine.{is_number}
 use Rattle.gc_graph.specs.Slots.{SlotName, place, roots_of}
 use Rattle.gc_words.specs.declared.header.Header.{Header}
 use Rattle.gc_words.specs.Word.{value_of, field_value}
-use Rattle.gc_words.specs.Image.{Block, block_at, header_at, header_of, object_of_block}
-use Rattle.gc_words.proofs.Public.{object_found, fields_counted}
+use Rattle.gc_words.specs.Closed.{IsFieldWord}
+use Rattle.gc_words.specs.Image.{Block, block_at, field_at, header_at, header_of, object_of_block}
+use Rattle.gc_words.proofs.Public.{block_of_header, closed_field_read, field_found, fields_counted, object_found}
 use Rattle.gc_heap.specs.Heap.{HeapWords, IsHeap, graph_in}
 use Rattle.gc_plan.specs.State.{State}
 use Rattle.gc_plan.specs.Steps.{mutate}
 use Rattle.gc_collected.specs.Internal.KnownRoots.{KnowsRoots}
 use Rattle.gc_collected.specs.declared.known.KnownRoots.{KnownRoots}
-use Rattle.gc_collected.specs.Copying.{object_in, copy_reply, copy_step}
+use Rattle.gc_collected.specs.Copying.{object_in, copy_reply, copy_step, value_in}
 use Rattle.gc_collected.proofs.Marks.{WritesBelow, forgetting, slot_below, one_below, slot_command, put_knows}
 use Rattle.gc_collected.proofs.NumbersPut.{forgotten}
 
@@ -48,6 +49,27 @@ fields_there h a header fields heap met are = go (block_at h.space.words a) refl
     go (Some b) is =
         let same : b.header ≡ header = (let both : Some b.header ≡ Some header = sym (ap header_of is) ∙ met in cc) in
         ap length (are b is) ∙ sym (length-map b.fields (field_value b.header)) ∙ fields_counted h.space.words a b heap.space.walked is ∙ ap (λ (h : Header). h.len) same
+
+-- what a field word says is the value of the field
+pub value_read : (h : HeapWords) (q a j f : ℕ) (k : Header) → root (graph_in h) q ≡ Ref a → header_at h.space.words a ≡ Some k → field_at h.space.words a j ≡ Some f → value_in (graph_in h) q j ≡ field_value k f
+value_read h q a j f k target met read =
+    let block = block_of_header h.space.words a k met in
+    ap (λ v. unwrap_or (field_of (object_of (graph_in h).objects v) j) Nil) target
+    ∙ (ap (λ o. unwrap_or o Nil) (field_found h.space.words a j block.0 block.1 ∙ ap (option_map (field_value block.0.header)) read)
+    ∙ ap (λ x. field_value x f) block.2)
+
+-- and it is a word of the object
+pub word_read : (h : HeapWords) (a j f : ℕ) (k : Header) → IsHeap h → header_at h.space.words a ≡ Some k → field_at h.space.words a j ≡ Some f → IsFieldWord h.space.words k f
+word_read h a j f k heap met read =
+    let block = block_of_header h.space.words a k met in
+    subst (λ x. IsFieldWord h.space.words x f) block.2 (closed_field_read h.space.words h.roots a j f block.0 heap.closed block.1 read)
+
+-- an object of numbers takes a number
+pub word_taken : (o : Option ℕ) (raw number : Bool) → is_none o ≡ (raw && not number) → (raw ≡ true → number ≡ true) → is_some o ≡ true
+word_taken (Some w) raw number refused takes = refl
+word_taken None true true refused takes = absurd (let bad : true ≡ false = refused in cc)
+word_taken None true false refused takes = absurd (let bad : false ≡ true = takes refl in cc)
+word_taken None false number refused takes = absurd (let bad : true ≡ false = refused in cc)
 
 -- ---- the reply
 

@@ -3,23 +3,28 @@ use Rattle.std.proofs.lemmas.Grind.{common_steps}
 use Rattle.std.proofs.Common.{◌≡◌, ◌≢◌, ◌<◌, ◌≤◌, ◌+◌, ◌-◌, ℕ, zero, suc, List, [], ◌∷◌, ◌++◌, length, map, take, drop, Some, None, Option, Bool, true, false, refl, sym, ap, ◌∙◌, subst, cond, arith}
 use Rattle.std.specs.Prelude.{◌==◌, get_or, slice_get, slice_set, not, ◌||◌, ◌&&◌}
 use Rattle.std.specs.List.{list_all}
-use Rattle.std.specs.Option.{unwrap_or}
+use Rattle.std.specs.Option.{option_map, unwrap_or}
 use Rattle.std.proofs.lemmas.List.{length-map, length-set}
 use Rattle.std.proofs.lemmas.Option.{slice_get-get_or}
-use Rattle.gc_graph.specs.Graph.{Value, Nil, Num, Ref, Object, Graph, lookup, object_of, names_of, root, set_field, set_root, with_field}
+use Rattle.gc_graph.specs.Graph.{Value, Nil, Num, Ref, Object, Graph, field_of, lookup, object_of, names_of, root, set_field, set_root, with_field}
 use Rattle.gc_graph.specs.Slots.{SlotName, place}
 use Rattle.gc_graph.specs.declared.command.Op.{Op}
 use Rattle.gc_graph.specs.declared.command.Op.TheVariants.{Get, Put}
 use Rattle.gc_graph.specs.declared.reply.Reply.{Reply}
 use Rattle.gc_plan.proofs.Public.{get_set_other, get_set_same, in_right, lookup_written}
-use Rattle.gc_graph.specs.Machine.{Roomy, is_number, roomy_step, step, words_taken}
+use Rattle.gc_graph.specs.Machine.{Roomy, is_number, put_field, roomy_step, step, words_taken}
 use Rattle.gc_graph.specs.declared.reply.Reply.TheVariants.{Done, NoObject}
 use Rattle.std.proofs.lemmas.Bool.{cases_Bool, cases_eq, le-leb, leb-true}
 use Rattle.std.proofs.Common.{eq-eqb, eqb-true, inl, inr, ⊎_elim}
+use Rattle.gc_words.specs.Image.{Block, block_at, header_at, header_of, object_of_block}
 use Rattle.gc_words.specs.Space.{end_of, free_in}
+use Rattle.gc_words.specs.declared.header.Header.{Header}
+use Rattle.gc_words.proofs.Public.{object_found}
 use Rattle.gc_words.specs.Word.{value_of}
 use Rattle.gc_heap.specs.Commands.{Performs}
+use Rattle.gc_heap.specs.Filling.{PutsValue}
 use Rattle.gc_heap.specs.Heap.{HeapWords, IsHeap, graph_in, roomy_in}
+use Rattle.gc_heap.specs.Places.{root_at}
 use Rattle.gc_plan.specs.Belonging.{IsLogged, IsOpened, IsSpaceGraph}
 use Rattle.gc_plan.specs.Members.{In}
 use Rattle.gc_plan.specs.State.{Collection, State}
@@ -31,10 +36,11 @@ use Rattle.gc_along.specs.Tables.{Tables}
 use Rattle.gc_collected.specs.Internal.Beside.{AreOld}
 use Rattle.gc_collected.specs.Internal.CollectedHeap.{state_in}
 use Rattle.gc_collected.specs.Internal.Follows.{Follows}
-use Rattle.gc_collected.specs.Copying.{copy_reply, copy_step, object_in, values_in}
+use Rattle.gc_collected.specs.Copying.{copy_reply, copy_step, object_in, value_in, values_in}
 use Rattle.gc_collected.specs.Internal.Together.{Logs, LogsIfOpen, PerformsAll, copies, fields_from, mutate_all}
 use Rattle.gc_collected.proofs.Marks.{slot_below}
 use Rattle.gc_collected.proofs.Together.{MakeNothing, together_ran, together_state}
+use Rattle.gc_collected.proofs.Monitor.Ran.{Ran}
 use Rattle.gc_collected.proofs.Monitor.Follows.{IsAmong, follows_closed, follows_written}
 
 -- ---- an object after a write
@@ -325,12 +331,12 @@ copies_follow heap new m a i j count d s t w is all f =
     follows_closed (state_in heap None) (state_in new None) w (λ b k. In {X = ℕ × ℕ} (b, k) (fields_from a i count)) refl (together_ran heap new None None m (copies d i s j t count) (fields_from a i count) is (copies_make_nothing count i j d s t) all tt) f
 
 -- else it is told of all fields
-pub copies_told : (heap new : HeapWords) (c next : CollectionWords) (m a i j count : ℕ) (d s t : SlotName) (old : List ℕ) (w after : Tables) → IsHeap heap → BelongsTo heap c → m < heap.mutators
-    → PerformsAll heap m (copies d i s j t count) (fields_from a i count) new → Logs c m (fields_from a i count) next → IsOpened (open_state heap c) (collection_in c) → IsOpened (open_state new next) (collection_in next) → IsSpaceGraph new.space.size (free_in new.space) (graph_in new)
+pub row_told : (heap new : HeapWords) (c next : CollectionWords) (m a i count : ℕ) (old : List ℕ) (w after : Tables) → BelongsTo heap c → m < heap.mutators
+    → Ran (open_state heap c) (open_state new next) (λ b k. In {X = ℕ × ℕ} (b, k) (fields_from a i count)) → Logs c m (fields_from a i count) next → IsOpened (open_state heap c) (collection_in c) → IsOpened (open_state new next) (collection_in next) → IsSpaceGraph new.space.size (free_in new.space) (graph_in new)
     → AreOld (open_state new next) old → (w.lost ≡ false → CanWriteRow old a i count w → after.lost ≡ false) → (after.lost ≡ false → WroteRow a i count w after) → Follows (open_state heap c) w → Follows (open_state new next) after
-copies_told heap new c next m a i j count d s t old w after is belongs less all logs opened_then opened_now graph olds stays wrote f =
+row_told heap new c next m a i count old w after belongs less ran logs opened_then opened_now graph olds stays wrote f =
     follows_written (open_state heap c) (open_state new next) a i count (λ b k. In {X = ℕ × ℕ} (b, k) (fields_from a i count)) old w after opened_then opened_now graph
-    (together_ran heap new (Some c) (Some next) m (copies d i s j t count) (fields_from a i count) is (copies_make_nothing count i j d s t) all logs) (λ x k. among_fields a i count x k)
+    ran (λ x k. among_fields a i count x k)
     (λ e. cc)
     (λ e there k low high. (let same : collection_in next ≡ e = cc there in subst (λ (e : Collection). IsLogged e a k) same (logged k low high)))
     olds stays wrote f
@@ -343,3 +349,94 @@ copies_told heap new c next m a i j count d s t old w after is belongs less all 
 
     logged : (k : ℕ) → i ≤ k → k < i + count → IsLogged (collection_in next) a k
     logged k low high = (m, subst (λ (es : List (ℕ × ℕ)). In (a, k) es) (sym log) (in_right {X = ℕ × ℕ} (a, k) (log_at (collection_in c) m) (fields_from a i count) (in_fields a i count k low high)))
+
+pub copies_told : (heap new : HeapWords) (c next : CollectionWords) (m a i j count : ℕ) (d s t : SlotName) (old : List ℕ) (w after : Tables) → IsHeap heap → BelongsTo heap c → m < heap.mutators
+    → PerformsAll heap m (copies d i s j t count) (fields_from a i count) new → Logs c m (fields_from a i count) next → IsOpened (open_state heap c) (collection_in c) → IsOpened (open_state new next) (collection_in next) → IsSpaceGraph new.space.size (free_in new.space) (graph_in new)
+    → AreOld (open_state new next) old → (w.lost ≡ false → CanWriteRow old a i count w → after.lost ≡ false) → (after.lost ≡ false → WroteRow a i count w after) → Follows (open_state heap c) w → Follows (open_state new next) after
+copies_told heap new c next m a i j count d s t old w after is belongs less all logs = row_told heap new c next m a i count old w after belongs less (together_ran heap new (Some c) (Some next) m (copies d i s j t count) (fields_from a i count) is (copies_make_nothing count i j d s t) all logs) logs
+
+-- ---- a field that is copied through no root
+
+module _ (h next : HeapWords) (p q a i j n : ℕ) (target : root (graph_in h) p ≡ Ref a) (done : copy_reply i j (suc n) (object_in (graph_in h) (root_at p) 0) (object_in (graph_in h) (root_at q) 0) ≡ Done) where
+  abbrev g : Graph
+  g = graph_in h
+
+  abbrev both : (o : Object) × (r : Object) × (object_in g (root_at p) 0 ≡ Some o) × (object_in g (root_at q) 0 ≡ Some r)
+  both = both_found (object_in g (root_at p) 0) (object_in g (root_at q) 0) i j (suc n) done
+
+  abbrev takes : Object
+  takes = both.0
+
+  abbrev gives : Object
+  gives = both.1
+
+  fitting : CanCopy takes gives i j (suc n)
+  fitting = can_copy takes gives i j (suc n) (sym (ap (λ o. copy_reply i j (suc n) o (Some gives)) both.2 ∙ refl) ∙ sym (ap (λ r. copy_reply i j (suc n) (object_in g (root_at p) 0) r) both.3) ∙ done)
+
+  abbrev first : Value
+  first = first_value gives j
+
+  is_first : value_in g q j ≡ first
+  is_first = ap (λ o. unwrap_or (field_of o j) Nil) both.3 ∙ ap (λ o. unwrap_or o Nil) (first_there takes gives i j n fitting)
+
+  taker_there : lookup g.objects a ≡ Some takes
+  taker_there = ap (object_of g.objects) (sym target) ∙ both.2
+
+  giver_there : (b : ℕ) × (root g q ≡ Ref b) × (lookup g.objects b ≡ Some gives)
+  giver_there = referred g.objects (root g q) gives both.3
+
+  field_before : slice_get takes.fields i ≡ Some (first_value takes i)
+  field_before = slice_get-get_or takes.fields i Nil (let wide = fitting.wide in omega arith)
+
+  number_first : takes.raw ≡ true → is_number (value_in g q j) ≡ true
+  number_first raw = ap is_number is_first ∙ of_all takes.raw (is_number first) (list_all is_number (take n (drop (suc j) gives.fields))) raw (first_taken takes gives i j n fitting)
+    where
+      of_all : (r number rest : Bool) → r ≡ true → (not r || (number && rest)) ≡ true → number ≡ true
+      of_all true true rest is all = refl
+      of_all true false rest is all = absurd (let no : false ≡ true = all in cc)
+      of_all false number rest is all = absurd (let no : false ≡ true = is in cc)
+
+  -- a raw object takes a number
+  pub number_taken : (header : Header) → header_at h.space.words a ≡ Some header → header.raw ≡ true → is_number (value_in g q j) ≡ true
+  number_taken header met raw = go (block_at h.space.words a) refl
+    where
+      go : (o : Option Block) → block_at h.space.words a ≡ o → is_number (value_in g q j) ≡ true
+      go None none = absurd (let no : None ≡ Some header = sym (ap header_of none) ∙ met in cc)
+      go (Some b) is =
+          let same : b.header ≡ header = (let one : Some b.header ≡ Some header = sym (ap header_of is) ∙ met in cc) in
+          let object : takes ≡ object_of_block b = (let one : Some takes ≡ Some (object_of_block b) = sym taker_there ∙ (object_found h.space.words a ∙ ap (option_map object_of_block) is) in cc) in
+          number_first (ap (λ (o : Object). o.raw) object ∙ (ap (λ (k : Header). k.raw) same ∙ raw))
+
+  after_put : PutsValue h p i (value_in g q j) next → graph_in next ≡ record g { objects = set_field g.objects a i first }
+  after_put puts = ap (λ (x : Reply × Graph). x.1) (puts.graph ∙ (ap (λ v. let o = object_of g.objects (root g p) in put_field g (root g p) o (field_of o i) i v) is_first ∙ computed))
+    where
+      computed : (let o = object_of g.objects (root g p) in put_field g (root g p) o (field_of o i) i first) ≡ (Done, record g { objects = set_field g.objects a i first })
+      computed = grind (arith, common_steps, taker_there, target, field_before, accepted takes.raw (is_number first) (list_all is_number (take n (drop (suc j) gives.fields))) (first_taken takes gives i j n fitting))
+
+  abbrev later : Graph
+  later = record g { objects = set_field g.objects a i first }
+
+  now_taker : object_in later (root_at p) 0 ≡ Some (with_field takes i first)
+  now_taker = ap (object_of later.objects) target ∙ written_itself g.objects a i first takes taker_there
+
+  now_giver : object_in later (root_at q) 0 ≡ lookup later.objects giver_there.0
+  now_giver = ap (object_of later.objects) giver_there.1
+
+  on : copy_reply (suc i) (suc j) n (object_in later (root_at p) 0) (object_in later (root_at q) 0) ≡ Done
+  on = ⊎_elim one_object two_objects (cases_Bool (giver_there.0 == a))
+    where
+      with_giver : (r : Object) → object_in later (root_at q) 0 ≡ Some r → CanCopy (with_field takes i first) r (suc i) (suc j) n → copy_reply (suc i) (suc j) n (object_in later (root_at p) 0) (object_in later (root_at q) 0) ≡ Done
+      with_giver r is can = ap (λ o. copy_reply (suc i) (suc j) n o (object_in later (root_at q) 0)) now_taker ∙ ap (copy_reply (suc i) (suc j) n (Some (with_field takes i first))) is ∙ copy_done (with_field takes i first) r (suc i) (suc j) n can
+
+      two_objects : (giver_there.0 == a) ≡ false → copy_reply (suc i) (suc j) n (object_in later (root_at p) 0) (object_in later (root_at q) 0) ≡ Done
+      two_objects other = with_giver gives (now_giver ∙ written_beside g.objects a i first giver_there.0 gives other giver_there.2) (can_go_on takes gives i j n first fitting)
+
+      one_object : (giver_there.0 == a) ≡ true → copy_reply (suc i) (suc j) n (object_in later (root_at p) 0) (object_in later (root_at q) 0) ≡ Done
+      one_object same =
+          let e : giver_there.0 ≡ a = eqb-true giver_there.0 a same in
+          let one : gives ≡ takes = (let two : Some gives ≡ Some takes = sym giver_there.2 ∙ ap (lookup g.objects) e ∙ taker_there in cc) in
+          with_giver (with_field takes i first) (now_giver ∙ ap (lookup later.objects) e ∙ written_itself g.objects a i first takes taker_there)
+          (subst (λ o. CanCopy (with_field takes i (first_value o j)) (with_field takes i (first_value o j)) (suc i) (suc j) n) (sym one) (can_go_on_within takes i j n (subst (λ o. CanCopy takes o i j (suc n)) one fitting)))
+
+  pub value_goes_on : PutsValue h p i (value_in g q j) next → copy_reply (suc i) (suc j) n (object_in (graph_in next) (root_at p) 0) (object_in (graph_in next) (root_at q) 0) ≡ Done
+  value_goes_on puts = subst (λ (x : Graph). copy_reply (suc i) (suc j) n (object_in x (root_at p) 0) (object_in x (root_at q) 0) ≡ Done) (sym (after_put puts)) on

@@ -8,6 +8,8 @@ mod Counts
 mod FirstLog
 mod Flips
 mod Followed
+mod Given
+mod GivenFields
 mod KeptPair
 pub mod LegalRuns
 mod Marks
@@ -23,10 +25,12 @@ mod Referred
 mod Reserved
 mod Rooted
 mod Shown
+mod Runs
 mod RunsKnow
 mod Sources
 mod SourcesPut
 mod Starts
 mod Stepped
 mod Together
+mod Unwritten
 mod ValuesPut

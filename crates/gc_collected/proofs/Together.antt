@@ -61,11 +61,11 @@ appended_twice c m e f = ap (λ logs. record c { logs = logs }) (log_twice c.log
 appended_none : (c : Collection) (m : ℕ) → appended c m [] ≡ c
 appended_none c m = ap (λ logs. record c { logs = logs }) (log_same c.logs m)
 
-logged_twice : (o : Option Collection) (m : ℕ) (e f : List (ℕ × ℕ)) → logged (logged o m e) m f ≡ logged o m (e ++ f)
+pub logged_twice : (o : Option Collection) (m : ℕ) (e f : List (ℕ × ℕ)) → logged (logged o m e) m f ≡ logged o m (e ++ f)
 logged_twice None m e f = refl
 logged_twice (Some c) m e f = ap (λ (d : Collection). Some d) (appended_twice c m e f)
 
-logged_none : (o : Option Collection) (m : ℕ) → logged o m [] ≡ o
+pub logged_none : (o : Option Collection) (m : ℕ) → logged o m [] ≡ o
 logged_none None m = refl
 logged_none (Some c) m = ap (λ (d : Collection). Some d) (appended_none c m)
 
@@ -107,10 +107,10 @@ performed_all heap new o m (op ∷ ops) fields is (next, reply, rest, p, sound, 
 -- ---- the collection belongs to the heap
 
 -- the words of a collection with these fields appended to a log
-abbrev noted : CollectionWords → ℕ → List (ℕ × ℕ) → CollectionWords
+abbrev pub noted : CollectionWords → ℕ → List (ℕ × ℕ) → CollectionWords
 noted c m fields = record c { logs = slice_set c.logs m (record { entries = log_at (collection_in c) m ++ fields; spare = 0 }) }
 
-noted_in : (c : CollectionWords) (m : ℕ) (fields : List (ℕ × ℕ)) → collection_in (noted c m fields) ≡ appended (collection_in c) m fields
+pub noted_in : (c : CollectionWords) (m : ℕ) (fields : List (ℕ × ℕ)) → collection_in (noted c m fields) ≡ appended (collection_in c) m fields
 noted_in c m fields = ap (λ logs. record (collection_in c) { logs = logs }) (map-set entries_of c.logs m (record { entries = log_at (collection_in c) m ++ fields; spare = 0 }))
 
 one_belongs : (heap new : HeapWords) (c : CollectionWords) (m : ℕ) (op : Op) (reply : Reply) → BelongsTo heap c → m < heap.mutators → Performs heap m op reply new → BelongsTo new (noted c m (written (graph_in heap) m op reply))
@@ -130,7 +130,7 @@ one_belongs heap new c m op reply k less p = record {
     there a i = subst (λ (x : Reply × Roomy). In {X = ℕ × ℕ} (a, i) (written (graph_in heap) m op x.0) → HasField x.1.graph.objects a i) p.step (field_there (roomy_in heap) m op (end_of heap.space) a i)
 
 -- what contracts see of a collection decides whether it belongs to a heap
-belongs_alike : (heap : HeapWords) (c d : CollectionWords) → collection_in d ≡ collection_in c → d.epoch ≡ c.epoch → BelongsTo heap c → BelongsTo heap d
+pub belongs_alike : (heap : HeapWords) (c d : CollectionWords) → collection_in d ≡ collection_in c → d.epoch ≡ c.epoch → BelongsTo heap c → BelongsTo heap d
 belongs_alike heap c d same epoch k = record {
   belongs = subst (Belongs (graph_in heap).objects) (sym same) k.belongs;
   links = subst (λ e. LinksReplicas e heap (collection_in d)) (sym epoch) (subst (LinksReplicas c.epoch heap) (sym same) k.links);
@@ -159,7 +159,7 @@ together_fits epoch heap new (Some c) (Some d) m ops fields less all l fits =
 
 -- ---- with the log
 
-logged_is : (o o' : Option CollectionWords) (m : ℕ) (fields : List (ℕ × ℕ)) → LogsIfOpen o m fields o' → logged (option_map collection_in o) m fields ≡ option_map collection_in o'
+pub logged_is : (o o' : Option CollectionWords) (m : ℕ) (fields : List (ℕ × ℕ)) → LogsIfOpen o m fields o' → logged (option_map collection_in o) m fields ≡ option_map collection_in o'
 logged_is None None m fields l = refl
 logged_is None (Some d) m fields l = absurd l
 logged_is (Some c) None m fields l = absurd l
@@ -206,11 +206,11 @@ ends_through s mid s' Written sound more ran = ⊎_elim
     inr (x.now, (lookup_in s'.heap.graph.objects (heap_end s) x.now x.found, omega (arith, x.len, end, ran.end)))))
     more
 
-pub made_follows : (heap made new : HeapWords) (o o' : Option CollectionWords) (m kind len : ℕ) (d : SlotName) (reply : Reply) (ops : List Op) (fields : List (ℕ × ℕ)) (t after : Tables)
-    → IsHeap heap → IsHeap made → Performs heap m (New d kind len) reply made → MakeNothing ops → PerformsAll made m ops fields new → LogsIfOpen o m fields o' → ((b i : ℕ) → In {X = ℕ × ℕ} (b, i) fields → b ≡ end_of heap.space) → BelongsIfOpen heap o → IfSome (option_map collection_in o) (IsOpened (state_in heap o))
+pub filled_follows : (heap made new : HeapWords) (o o' : Option CollectionWords) (m kind len : ℕ) (d : SlotName) (reply : Reply) (fields : List (ℕ × ℕ)) (t after : Tables)
+    → IsHeap heap → IsHeap made → Performs heap m (New d kind len) reply made → Ran (state_in made o) (state_in new o') (λ b i. In {X = ℕ × ℕ} (b, i) fields) → ((b i : ℕ) → In {X = ℕ × ℕ} (b, i) fields → b ≡ end_of heap.space) → BelongsIfOpen heap o → IfSome (option_map collection_in o) (IsOpened (state_in heap o))
     → ((heap : HeapWords) → IsHeap heap → IsSpaceGraph heap.space.size (free_in heap.space) (graph_in heap)) → IsSpaceGraph new.space.size (free_in new.space) (graph_in new) → image_of new ≡ linked_image (link_at new.space.words) new.space.size (graph_in new)
     → (t.lost ≡ false → CanMake new.space.words t → after.lost ≡ false) → (after.lost ≡ false → Made new.space.words t after) → Follows (state_in heap o) t → Follows (state_in new o') after
-made_follows heap made new o o' m kind len d reply ops fields t after is is' p nothing all l only belongs is_open graph later shows stays told f =
+filled_follows heap made new o o' m kind len d reply fields t after is is' p ran only belongs is_open graph later shows stays told f =
     follows_made (state_in heap o) (state_in new o') (λ b i. In {X = ℕ × ℕ} (b, i) fields) (link_at new.space.words) new.space.words t after is_open (graph heap is) later (ap (λ (image : Image). image.words) shows)
     (ends_through (state_in heap o) (state_in made o) (state_in new o') (λ b i. In {X = ℕ × ℕ} (b, i) fields) (graph made is') (ends_more (state_in heap o) (state_in made o) m (New d kind len) reply false d kind len refl (graph heap is) one) ran)
     (continues_on (state_in heap o) (state_in made o) (state_in new o') (λ a. a ≡ heap_end (state_in heap o)) NoName (λ a. a ≡ heap_end (state_in heap o)) (λ a n. n) (λ a n. absurd n) named ran.on)
@@ -220,9 +220,6 @@ made_follows heap made new o o' m kind len d reply ops fields t after is is' p n
     one : mutate (state_in heap o) m (New d kind len) ≡ (reply, state_in made o)
     one = performed heap made o m (New d kind len) reply is (λ none. none) p belongs
 
-    ran : Ran (state_in made o) (state_in new o') (λ b i. In {X = ℕ × ℕ} (b, i) fields)
-    ran = together_ran made new o o' m ops fields is' nothing all l
-
     end : heap_end (state_in heap o) ≡ end_of heap.space
     end = grind (arith, common_steps)
 
@@ -230,6 +227,12 @@ made_follows heap made new o o' m kind len d reply ops fields t after is is' p n
     named =
         let on = continues_one (state_in heap o) (state_in made o) m (New d kind len) reply one in
         record { mutators = on.mutators; size = on.size; collection = on.collection; names = λ a n. ⊎_elim (λ l. inl l) (λ new. inr new.1) (on.names a n); kept = on.kept }
+
+pub made_follows : (heap made new : HeapWords) (o o' : Option CollectionWords) (m kind len : ℕ) (d : SlotName) (reply : Reply) (ops : List Op) (fields : List (ℕ × ℕ)) (t after : Tables)
+    → IsHeap heap → IsHeap made → Performs heap m (New d kind len) reply made → MakeNothing ops → PerformsAll made m ops fields new → LogsIfOpen o m fields o' → ((b i : ℕ) → In {X = ℕ × ℕ} (b, i) fields → b ≡ end_of heap.space) → BelongsIfOpen heap o → IfSome (option_map collection_in o) (IsOpened (state_in heap o))
+    → ((heap : HeapWords) → IsHeap heap → IsSpaceGraph heap.space.size (free_in heap.space) (graph_in heap)) → IsSpaceGraph new.space.size (free_in new.space) (graph_in new) → image_of new ≡ linked_image (link_at new.space.words) new.space.size (graph_in new)
+    → (t.lost ≡ false → CanMake new.space.words t → after.lost ≡ false) → (after.lost ≡ false → Made new.space.words t after) → Follows (state_in heap o) t → Follows (state_in new o') after
+made_follows heap made new o o' m kind len d reply ops fields t after is is' p nothing all l = filled_follows heap made new o o' m kind len d reply fields t after is is' p (together_ran made new o o' m ops fields is' nothing all l)
 
 -- ---- new objects whose fields take the values of slots
 

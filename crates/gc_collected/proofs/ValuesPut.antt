@@ -36,11 +36,11 @@ use Rattle.gc_collected.proofs.Referred.{start_named}
 -- ---- a put reads two roots and writes none
 
 -- what a put of a value leaves of a graph, given the value of the root with the object
-abbrev given : Graph → Value → ℕ → Value → Reply × Graph
+abbrev pub given : Graph → Value → ℕ → Value → Reply × Graph
 given g w i v = let o = object_of g.objects w in put_field g w o (field_of o i) i v
 
 -- the field that it writes
-abbrev entries : Value → ℕ → Reply → List (ℕ × ℕ)
+abbrev pub entries : Value → ℕ → Reply → List (ℕ × ℕ)
 entries w i replies.Done = map (λ name. (name, i)) (names_of w)
 entries w i reply = []
 
@@ -67,7 +67,7 @@ wrote g m p i q w replies.Yes is = refl
 wrote g m p i q w replies.No is = refl
 
 -- the state after a put into the object of a root with the value w
-abbrev after : State → List Value → ℕ → Value → ℕ → Value → Reply × State
+abbrev pub after : State → List Value → ℕ → Value → ℕ → Value → Reply × State
 after s rs m w i v =
     let next = given s.heap.graph w i v in
     (next.0, record s { heap = record { graph = record next.1 { roots = rs }; free = s.heap.free }; collection = logged s.collection m (entries w i next.0) })
@@ -76,7 +76,7 @@ after s rs m w i v =
 abbrev taking : State → ℕ → List (ℕ × ℕ) → Reply × Graph → Reply × State
 taking s m fields x = (x.0, record s { heap = record { graph = x.1; free = s.heap.free }; collection = logged s.collection m fields })
 
-put_at : (s : State) (rs : List Value) (m p q i : ℕ) (w v : Value) → root (record s.heap.graph { roots = rs }) p ≡ w → root (record s.heap.graph { roots = rs }) q ≡ v
+pub put_at : (s : State) (rs : List Value) (m p q i : ℕ) (w v : Value) → root (record s.heap.graph { roots = rs }) p ≡ w → root (record s.heap.graph { roots = rs }) q ≡ v
     → mutate (with_roots s rs) m (Put (root_at p) i (root_at q)) ≡ after s rs m w i v
 put_at s rs m p q i w v one other =
     let g : Graph = record s.heap.graph { roots = rs } in
@@ -100,12 +100,12 @@ root_set [] q v less = absurd (omega (arith, less))
 root_set (x ∷ vs) zero v less = refl
 root_set (x ∷ vs) (suc q) v less = root_set vs q v (omega (arith, less))
 
-root_before : (vs : List Value) (p : ℕ) (v : Value) → p < length vs → unwrap_or (slice_get (vs ++ v ∷ []) p) Nil ≡ unwrap_or (slice_get vs p) Nil
+pub root_before : (vs : List Value) (p : ℕ) (v : Value) → p < length vs → unwrap_or (slice_get (vs ++ v ∷ []) p) Nil ≡ unwrap_or (slice_get vs p) Nil
 root_before [] p v less = absurd (omega (arith, less))
 root_before (x ∷ vs) zero v less = refl
 root_before (x ∷ vs) (suc p) v less = root_before vs p v (omega (arith, less))
 
-root_last : (vs : List Value) (v : Value) → unwrap_or (slice_get (vs ++ v ∷ []) (length vs)) Nil ≡ v
+pub root_last : (vs : List Value) (v : Value) → unwrap_or (slice_get (vs ++ v ∷ []) (length vs)) Nil ≡ v
 root_last [] v = refl
 root_last (x ∷ vs) v = root_last vs v
 

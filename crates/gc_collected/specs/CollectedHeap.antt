@@ -1,5 +1,5 @@
 -- The steps that allocate, the outcome of `fetch`, and commands that make an object and fill its fields.
-use Rattle.std.specs.Prelude.{◌≡◌, ℕ, zero, suc, List, [], ◌∷◌, length, None, IsSomeAnd, IsTrue}
+use Rattle.std.specs.Prelude.{◌≡◌, ℕ, zero, suc, List, [], ◌∷◌, length, None, IsSomeAnd, IsTrue, ⊤}
 use Rattle.gc_graph.specs.Slots.{SlotName}
 use Rattle.gc_graph.specs.declared.command.Op.TheVariants.{New, Get, Put}
 use Rattle.gc_graph.specs.declared.reply.Reply.{Reply}
@@ -7,6 +7,7 @@ use Rattle.gc_graph.specs.declared.reply.Reply.TheVariants.{Full}
 use Rattle.gc_heap.specs.Commands.{fetched_of}
 use Rattle.gc_heap.specs.Places.{root_at}
 use Rattle.gc_heap.specs.declared.taken.Fetched.{Fetched}
+use Rattle.gc_heap.specs.declared.taken.Fetched.TheVariants.{NoObject, NoField}
 use Rattle.gc_plan.specs.State.{State}
 use Rattle.gc_plan.specs.Steps.{mutate, is_ready}
 use Rattle.gc_plan.specs.declared.step.Step.{Step}
@@ -23,6 +24,12 @@ Allocates s step = ⊥
 -- object's kind and length
 abbrev pub Fetches : State → ℕ → SlotName → SlotName → ℕ → Fetched → State → Type 0
 Fetches old m d s i fetched new = (reply : Reply) × (mutate old m (Get d s i) ≡ (reply, new)) × (fetched ≡ fetched_of reply)
+
+-- a `Get` with this outcome found no value
+abbrev pub HasMissed : Fetched → Type 0
+HasMissed NoObject = ⊤
+HasMissed NoField = ⊤
+HasMissed fetched = ⊥
 
 -- the fields from i on take the values of these slots: one `Put` for each slot, in order
 abbrev pub fill_step : State → ℕ → SlotName → ℕ → List SlotName → State

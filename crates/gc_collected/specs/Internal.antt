@@ -4,6 +4,7 @@ pub mod CollectedHeap
 pub mod Flip
 pub mod Found
 pub mod Follows
+pub mod Given
 pub mod KnownRoots
 pub mod Knows
 pub mod Rooms

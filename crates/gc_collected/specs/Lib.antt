@@ -4,6 +4,7 @@ pub mod CollectedHeap
 pub mod Copying
 pub mod ExtraRoots
 pub mod Flip
+pub mod Giving
 pub mod Internal
 pub mod Mixed
 pub mod Performing
@@ -11,6 +12,7 @@ pub mod Readings
 pub mod Referring
 pub mod Replies
 pub mod Spreading
+pub mod Surely
 pub mod Values
 pub mod Viewing
 pub mod Writing

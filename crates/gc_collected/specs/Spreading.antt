@@ -1,5 +1,5 @@
 -- Roots that take the fields of an object.
-use Rattle.std.specs.Prelude.{ℕ, zero, suc, nat_le, if◌then◌else◌}
+use Rattle.std.specs.Prelude.{ℕ, zero, suc, ◌+◌, ◌≤◌, max, nat_le, if◌then◌else◌}
 use Rattle.gc_graph.specs.declared.command.Op.TheVariants.{Get, Look}
 use Rattle.gc_graph.specs.declared.reply.Reply.{Reply}
 use Rattle.gc_graph.specs.declared.reply.Reply.TheVariants.{Done, NoObject, NoField, Saw}
@@ -25,3 +25,7 @@ abbrev pub spread_step : State → ℕ → ℕ → ℕ → Reply × State
 spread_step old p q count =
     let reply = spread_reply count (mutate old 0 (Look (root_at q))).0 in
     (reply, after_reply reply old (gets_step old p q 0 count))
+
+-- so many roots from this one on that take values ask for one look each at most, unless no root from the first of them on was in use
+abbrev pub AskForRow : ℕ → ℕ → ℕ → ℕ → Type 0
+AskForRow first count was now = (was ≤ now) × (now ≤ max (was + count) (first + count))

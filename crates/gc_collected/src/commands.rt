@@ -24,6 +24,7 @@ impl CollectedHeap {
         ensures put { OnErr result (WritesField op.now) }
         ensures mutators { self.new.core.mutators ≡ self.old.core.mutators }
         ensures beside { self.new.beside ≡ self.old.beside }
+        ensures looks { self.new.roots_left ≡ self.old.roots_left }
     {
         match *op {
             Op::New { d, kind, len } => Ok(self.new_object(m, d, kind, len)),
@@ -46,6 +47,7 @@ impl CollectedHeap {
         ensures step { mutate self.old.core m (Op.New d kind len) ≡ (result, self.new.core) }
         ensures mutators { self.new.core.mutators ≡ self.old.core.mutators }
         ensures beside { self.new.beside ≡ self.old.beside }
+        ensures looks { self.new.roots_left ≡ self.old.roots_left }
     {
         // Here the prover learns that the heap is sound, and the slot in range.
         let _ = self.heap.space();
@@ -69,6 +71,7 @@ impl CollectedHeap {
         ensures step { mutate self.old.core m (Op.NewRaw d kind len) ≡ (result, self.new.core) }
         ensures mutators { self.new.core.mutators ≡ self.old.core.mutators }
         ensures beside { self.new.beside ≡ self.old.beside }
+        ensures looks { self.new.roots_left ≡ self.old.roots_left }
     {
         self.is_sound();
         // Here the prover learns that the heap is sound, and the slot in range.
@@ -88,6 +91,7 @@ impl CollectedHeap {
         ensures step { mutate self.old.core m (Op.Num d n) ≡ (result, self.new.core) }
         ensures mutators { self.new.core.mutators ≡ self.old.core.mutators }
         ensures beside { self.new.beside ≡ self.old.beside }
+        ensures looks { self.new.roots_left ≡ self.old.roots_left }
     {
         self.is_sound();
         // Here the prover learns that the heap is sound, and the slot in range.
@@ -103,6 +107,7 @@ impl CollectedHeap {
         ensures step { mutate self.old.core m (Op.Nil d) ≡ (result, self.new.core) }
         ensures mutators { self.new.core.mutators ≡ self.old.core.mutators }
         ensures beside { self.new.beside ≡ self.old.beside }
+        ensures looks { self.new.roots_left ≡ self.old.roots_left }
     {
         self.is_sound();
         // Here the prover learns that the heap is sound, and the slot in range.
@@ -118,6 +123,7 @@ impl CollectedHeap {
         ensures step { mutate self.old.core m (Op.Move d s) ≡ (result, self.new.core) }
         ensures mutators { self.new.core.mutators ≡ self.old.core.mutators }
         ensures beside { self.new.beside ≡ self.old.beside }
+        ensures looks { self.new.roots_left ≡ self.old.roots_left }
     {
         self.is_sound();
         // Here the prover learns that the heap is sound, and the slot in range.
@@ -135,6 +141,7 @@ impl CollectedHeap {
         ensures step { mutate self.old.core m (Op.Get d s i) ≡ (result, self.new.core) }
         ensures mutators { self.new.core.mutators ≡ self.old.core.mutators }
         ensures beside { self.new.beside ≡ self.old.beside }
+        ensures looks { self.new.roots_left ≡ self.old.roots_left }
     {
         self.is_sound();
         // Here the prover learns that the heap is sound, and the slot in range.
@@ -152,6 +159,7 @@ impl CollectedHeap {
         ensures fetches { Fetches self.old.core m d s i result self.new.core }
         ensures mutators { self.new.core.mutators ≡ self.old.core.mutators }
         ensures beside { self.new.beside ≡ self.old.beside }
+        ensures looks { self.new.roots_left ≡ self.old.roots_left }
     {
         self.is_sound();
         // Here the prover learns that the heap is sound, and the slot in range.
@@ -172,6 +180,7 @@ impl CollectedHeap {
         ensures open { OnErr result (IsSome self.old.core.collection) }
         ensures mutators { self.new.core.mutators ≡ self.old.core.mutators }
         ensures beside { self.new.beside ≡ self.old.beside }
+        ensures looks { self.new.roots_left ≡ self.old.roots_left }
     {
         commands_leave_collections();
         // Here the prover learns that the heap is sound.
@@ -201,6 +210,7 @@ impl CollectedHeap {
         ensures open { OnErr result (IsSome self.old.core.collection) }
         ensures mutators { self.new.core.mutators ≡ self.old.core.mutators }
         ensures beside { self.new.beside ≡ self.old.beside }
+        ensures looks { self.new.roots_left ≡ self.old.roots_left }
     {
         self.is_sound();
         // Here the prover learns that the heap is sound, and the slot in range.
@@ -231,6 +241,7 @@ impl CollectedHeap {
         ensures open { OnErr result (IsSome self.old.core.collection) }
         ensures mutators { self.new.core.mutators ≡ self.old.core.mutators }
         ensures beside { self.new.beside ≡ self.old.beside }
+        ensures looks { self.new.roots_left ≡ self.old.roots_left }
     {
         self.is_sound();
         // Here the prover learns that the heap is sound, and the slot in range.

@@ -2,7 +2,9 @@
 
 ghost use Rattle.std.specs.Prelude.{ℕ, ◌≡◌, ◌<◌, ◌≤◌, ◌+◌, ◌^◌, ◌∷◌, [], List, length, get_or, is_some, IfOk, OnErr, IsSome};
 ghost use Rattle.gc_graph.specs.Slots.{SlotName, place};
+ghost use Rattle.gc_graph.specs.declared.reply.Reply.{Reply};
 ghost use Rattle.gc_heap.specs.Filling.{TakesFields};
+ghost use Rattle.gc_roots.specs.Twins.{AsksForLook};
 ghost use Rattle.gc_heap.specs.Places.{root_at};
 ghost use Rattle.gc_collected.specs.CollectedHeap.{new_from_step, roots_from};
 ghost use Rattle.gc_collected.specs.Internal.CollectedHeap.{BelongsIfOpen, Fits, HasSpare, state_in};
@@ -11,6 +13,7 @@ ghost use Rattle.gc_collected.specs.Internal.Together.{PerformsAll, fields_from,
 
 use crate::barrier::{are_sound_in, note_in, reserve_in};
 use crate::collected_heap::CollectedHeap;
+use crate::places::has_made;
 use gc_along::Standing;
 use gc_copy::{Collection, heaps_have_addresses_as_names};
 use gc_graph::{NoMemory, Reply, Slot, root_count};
@@ -103,6 +106,8 @@ impl CollectedHeap {
         ensures open { OnErr result (IsSome self.old.core.collection) }
         ensures mutators { self.new.core.mutators ≡ self.old.core.mutators }
         ensures beside { self.new.beside ≡ self.old.beside }
+        ensures looks { IfOk result (λ _. AsksForLook d self.old.roots_left self.new.roots_left) }
+        ensures full { IfOk result (λ reply. reply ≡ Reply.Full → self.new.roots_left ≡ self.old.roots_left) }
     {
         let pair = Pair {
             first: s,
@@ -131,6 +136,8 @@ impl CollectedHeap {
         ensures open { OnErr result (IsSome self.old.core.collection) }
         ensures mutators { self.new.core.mutators ≡ self.old.core.mutators }
         ensures beside { self.new.beside ≡ self.old.beside }
+        ensures looks { IfOk result (λ _. AsksForLook d self.old.roots_left self.new.roots_left) }
+        ensures full { IfOk result (λ reply. reply ≡ Reply.Full → self.new.roots_left ≡ self.old.roots_left) }
     {
         // Here the prover learns how many roots there may be.
         let _ = self.root_places();
@@ -159,13 +166,14 @@ impl CollectedHeap {
         ensures open { OnErr result (IsSome self.old.core.collection) }
         ensures mutators { self.new.core.mutators ≡ self.old.core.mutators }
         ensures beside { self.new.beside ≡ self.old.beside }
+        ensures looks { IfOk result (λ _. AsksForLook d self.old.roots_left self.new.roots_left) }
+        ensures full { IfOk result (λ reply. reply ≡ Reply.Full → self.new.roots_left ≡ self.old.roots_left) }
     {
         // Here the prover learns that the heap is sound.
         let _ = self.heap.space();
         let is_open = self.collection.is_some();
         reserve_in(&mut self.collection, m, usize::from(fields.count()))?;
-        self.known.took(d, root_count(self.heap.mutators()));
-        Ok(make_filled(
+        let made = make_filled(
             &mut self.collection,
             &mut self.heap,
             &mut self.watch,
@@ -174,7 +182,10 @@ impl CollectedHeap {
             d,
             kind,
             fields,
-        ))
+        );
+        self.known
+            .took_if(has_made(&made), d, root_count(self.heap.mutators()));
+        Ok(made)
     }
 }
 

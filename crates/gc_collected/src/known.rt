@@ -1,6 +1,6 @@
 //! What a collected heap knows of its roots, and how far the search for roots whose targets have no replicas has come.
 
-ghost use Rattle.std.specs.Prelude.{◌≡◌, ◌<◌, ◌≤◌, ◌+◌, ◌-◌, IfOk, IfSome, IsTrue, None, length, max, replicate};
+ghost use Rattle.std.specs.Prelude.{◌≡◌, ◌<◌, ◌≤◌, ◌+◌, ◌-◌, IfOk, IfSome, IsFalse, IsTrue, None, length, max, replicate};
 ghost use Rattle.std.specs.Option.{option_map};
 ghost use Rattle.gc_graph.specs.Slots.{roots_of};
 ghost use Rattle.gc_heap.specs.Heap.{graph_in};
@@ -72,6 +72,18 @@ impl KnownRoots {
             self.slots = 0;
         } else {
             self.wrote(place - slots as u32);
+        }
+    }
+
+    /// The same, if it was written.
+    #[inline(always)]
+    pub(crate) fn took_if(&mut self, is_written: bool, place: u32, slots: usize)
+        requires within { (slots ≤ place) → place - slots < length self.old.twins.twins }
+        ensures written { IsTrue is_written → HasStored self.old self.new 0 (max self.old.twins.used (place - slots + 1)) slots place }
+        ensures none { IsFalse is_written → self.new ≡ self.old }
+    {
+        if is_written {
+            self.took(place, slots);
         }
     }
 

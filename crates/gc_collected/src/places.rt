@@ -1,13 +1,15 @@
 //! Commands on roots by their places in the list of roots: first the shared slots, then each mutator's own, then the extra roots. Each is a command of
 //! the machine, for which the root at a place has the name `root_at`.
 
-ghost use Rattle.std.specs.Prelude.{◌≡◌, ◌<◌, ◌≤◌, ◌^◌, IfOk, OnErr, IsSome, length};
+ghost use Rattle.std.specs.Prelude.{◌≡◌, ◌≢◌, ◌<◌, ◌≤◌, ◌^◌, IfOk, OnErr, IsFalse, IsSome, IsTrue, length};
 ghost use Rattle.gc_graph.specs.Slots.{roots_of};
 ghost use Rattle.gc_graph.specs.declared.command.Op.{Op};
+ghost use Rattle.gc_graph.specs.declared.reply.Reply.{Reply};
 ghost use Rattle.gc_heap.specs.Places.{root_at};
 ghost use Rattle.gc_plan.specs.Steps.{mutate};
 ghost use Rattle.gc_roots.specs.Twins.{AsksForLook};
-ghost use Rattle.gc_collected.specs.CollectedHeap.{Fetches};
+ghost use Rattle.gc_collected.specs.CollectedHeap.{Fetches, HasMissed};
+ghost use Rattle.gc_collected.specs.Surely.{PutsSurely};
 
 use crate::barrier::{new_root_in, put_root};
 use crate::collected_heap::CollectedHeap;
@@ -37,18 +39,21 @@ impl CollectedHeap {
         ensures mutators { self.new.core.mutators ≡ self.old.core.mutators }
         ensures beside { self.new.beside ≡ self.old.beside }
         ensures looks { AsksForLook d self.old.roots_left self.new.roots_left }
+        ensures full { result ≡ Reply.Full → self.new.roots_left ≡ self.old.roots_left }
     {
         // Here the prover learns that the heap is sound.
         let _ = self.heap.space();
-        self.known.took(d, root_count(self.heap.mutators()));
-        new_root_in(
+        let made = new_root_in(
             &self.collection,
             &mut self.heap,
             &mut self.watch,
             d,
             kind,
             len,
-        )
+        );
+        self.known
+            .took_if(has_made(&made), d, root_count(self.heap.mutators()));
+        made
     }
 
     /// Makes a raw object, as `new_at_root` makes an object. Its fields are plain numbers, all 0. Does not allocate.
@@ -59,15 +64,17 @@ impl CollectedHeap {
         ensures mutators { self.new.core.mutators ≡ self.old.core.mutators }
         ensures beside { self.new.beside ≡ self.old.beside }
         ensures looks { AsksForLook d self.old.roots_left self.new.roots_left }
+        ensures full { result ≡ Reply.Full → self.new.roots_left ≡ self.old.roots_left }
     {
         self.is_sound();
         // Here the prover learns that the heap is sound.
         let _ = self.heap.space();
         heaps_have_addresses_as_names();
-        self.known.took(d, root_count(self.heap.mutators()));
-        let reply = self.heap.new_raw_at_root(d, kind, len);
+        let made = self.heap.new_raw_at_root(d, kind, len);
+        self.known
+            .took_if(has_made(&made), d, root_count(self.heap.mutators()));
         self.watch.made(self.heap.space().words());
-        reply
+        made
     }
 
     /// Sets root `d` to the number. Returns `Done`. Does not allocate.
@@ -113,12 +120,15 @@ impl CollectedHeap {
         ensures mutators { self.new.core.mutators ≡ self.old.core.mutators }
         ensures beside { self.new.beside ≡ self.old.beside }
         ensures looks { AsksForLook d self.old.roots_left self.new.roots_left }
+        ensures missed { HasMissed result → self.new.roots_left ≡ self.old.roots_left }
     {
         self.is_sound();
         // Here the prover learns that the heap is sound.
         let _ = self.heap.space();
-        self.known.took(d, root_count(self.heap.mutators()));
-        self.heap.fetch_root(d, s, field_number(i))
+        let fetched = self.heap.fetch_root(d, s, field_number(i));
+        self.known
+            .took_if(has_fetched(&fetched), d, root_count(self.heap.mutators()));
+        fetched
     }
 
     /// Writes what root `t` holds to field `i` of the object that root `s` refers to, as mutator `m`'s `Put`. Returns `Done`, or else `NoObject`, `NoField`
@@ -148,6 +158,24 @@ impl CollectedHeap {
         Ok(put_root(collection, &mut self.heap, &mut self.watch, m, s, i, t))
     }
 
+    /// Does what `put_root` does, and cannot fail: where the log cannot grow, first gives the open collection up.
+    pub fn put_surely(&mut self, m: u8, s: u32, i: u32, t: u32) -> Reply
+        requires mutator { m < self.old.core.mutators }
+        requires target { s < length self.old.core.heap.graph.roots }
+        requires giver { t < length self.old.core.heap.graph.roots }
+        ensures put { PutsSurely m (Op.Put (root_at s) i (root_at t)) result self.old self.new }
+        ensures mutators { self.new.core.mutators ≡ self.old.core.mutators }
+    {
+        if let Ok(reply) = self.put_root(m, s, i, t) {
+            return reply;
+        }
+        let _dropped = self.give_up();
+        match self.put_root(m, s, i, t) {
+            Ok(reply) => reply,
+            Err(NoMemory) => unreachable!(),
+        }
+    }
+
     /// Compares what two roots hold. Returns `Yes` or `No`.
     #[inline(always)]
     pub fn same_root(&self, s: u32, t: u32) -> Reply
@@ -169,6 +197,30 @@ impl CollectedHeap {
         // Here the prover learns that the heap is sound.
         let _ = self.heap.space();
         self.heap.look_root(s)
+    }
+}
+
+/// Returns whether a `New` with this reply made an object.
+#[inline(always)]
+pub(crate) fn has_made(reply: &Reply) -> bool
+    ensures made { IsTrue result → reply.now ≢ Reply.Full }
+    ensures full { IsFalse result → reply.now ≡ Reply.Full }
+{
+    match reply {
+        Reply::Full => false,
+        _ => true,
+    }
+}
+
+// Returns whether a `Get` with this outcome found a value.
+#[inline(always)]
+fn has_fetched(fetched: &Fetched) -> bool
+    ensures found { IsTrue result → ¬ HasMissed fetched.now }
+    ensures missed { IsFalse result → HasMissed fetched.now }
+{
+    match fetched {
+        Fetched::NoObject | Fetched::NoField => false,
+        _ => true,
     }
 }
 

@@ -4,6 +4,8 @@
 ghost use Rattle.std.specs.Prelude.{◌≡◌, ◌<◌, is_some, length};
 ghost use Rattle.gc_graph.specs.Graph.{lookup};
 ghost use Rattle.gc_heap.specs.Places.{root_at};
+ghost use Rattle.gc_graph.specs.declared.reply.Reply.{Reply};
+ghost use Rattle.gc_roots.specs.Twins.{AsksForLook};
 ghost use Rattle.gc_collected.specs.Referring.{refer_step};
 
 use crate::collected_heap::CollectedHeap;
@@ -43,6 +45,8 @@ impl CollectedHeap {
         ensures step { refer_step self.old.core 0 (root_at d) a.0 ≡ (result, self.new.core) }
         ensures mutators { self.new.core.mutators ≡ self.old.core.mutators }
         ensures beside { self.new.beside ≡ self.old.beside }
+        ensures looks { AsksForLook d self.old.roots_left self.new.roots_left }
+        ensures missed { result ≡ Reply.NoObject → self.new.roots_left ≡ self.old.roots_left }
     {
         if !self.has_object(a) {
             return Reply::NoObject;

@@ -1,7 +1,8 @@
 //! Roots that take the fields of an object.
 
-ghost use Rattle.std.specs.Prelude.{◌≡◌, ◌<◌, ◌≤◌, ◌+◌, ◌^◌, length};
-ghost use Rattle.gc_collected.specs.Spreading.{gets_step, spread_reply as reply_in, spread_step};
+ghost use Rattle.std.specs.Prelude.{◌≡◌, ◌≢◌, ◌<◌, ◌≤◌, ◌+◌, ◌^◌, length};
+ghost use Rattle.gc_graph.specs.declared.reply.Reply.{Reply};
+ghost use Rattle.gc_collected.specs.Spreading.{AskForRow, gets_step, spread_reply as reply_in, spread_step};
 
 use crate::collected_heap::CollectedHeap;
 use gc_graph::{Reply, View};
@@ -16,6 +17,8 @@ impl CollectedHeap {
         ensures step { spread_step self.old.core first s count ≡ (result, self.new.core) }
         ensures mutators { self.new.core.mutators ≡ self.old.core.mutators }
         ensures beside { self.new.beside ≡ self.old.beside }
+        ensures looks { AskForRow first count self.old.roots_left self.new.roots_left }
+        ensures refused { result ≢ Reply.Done → self.new ≡ self.old }
     {
         let _ = self.root_places();
         let reply = spread_reply(&self.look_root(s), count);
@@ -33,6 +36,7 @@ impl CollectedHeap {
         ensures step { gets_step self.old.core first s 0 count ≡ self.new.core }
         ensures mutators { self.new.core.mutators ≡ self.old.core.mutators }
         ensures beside { self.new.beside ≡ self.old.beside }
+        ensures looks { AskForRow first count self.old.roots_left self.new.roots_left }
     {
         for k in 0..count {
             let _got = self.fetch_root(first + k, s, k);

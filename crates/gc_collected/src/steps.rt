@@ -88,7 +88,6 @@ impl CollectedHeap {
         ensures mutators { self.new.core.mutators ≡ self.old.core.mutators }
         // But for a flip and a collection that is given up, a step leaves no more looks than there were. Only `Roots` looks.
         ensures looks { step ≢ Step.Flip → step ≢ Step.Drop → self.new.roots_left ≤ self.old.roots_left }
-        ensures no_looks { step ≢ Step.Flip → step ≢ Step.Drop → step ≢ Step.Roots → self.new.roots_left ≡ self.old.roots_left }
         ensures looked { OnErr result (self.new.roots_left ≤ self.old.roots_left) }
     {
         match step {
@@ -298,16 +297,9 @@ impl CollectedHeap {
         ensures beside { self.new.beside ≡ self.old.beside }
         ensures looks { self.new.roots_left ≤ self.old.roots_left }
     {
-        let Some(collection) = &self.collection else {
-            return Step::Begin;
-        };
-        if all_known(collection, &self.heap, &self.known) {
-            return step_after_roots(collection);
-        }
-        if search(collection, &self.heap, &self.watch, &mut self.known).is_some() {
-            return Step::Roots;
-        }
-        step_after_roots(collection)
+        // No more looks are left than the search may take.
+        let most = self.roots_left();
+        self.choose_step(most).step.unwrap()
     }
 
     /// Returns the useful step, as `next_useful_step` does, or `None` if it takes more than `most` looks at extra roots to find it.

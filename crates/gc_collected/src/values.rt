@@ -56,6 +56,7 @@ impl CollectedHeap {
         ensures open { OnErr result (IsSome self.old.core.collection) }
         ensures mutators { self.new.core.mutators ≡ self.old.core.mutators }
         ensures beside { self.new.beside ≡ self.old.beside }
+        ensures looks { IfOk result (λ _. self.new.roots_left ≡ self.old.roots_left) }
     {
         self.is_sound();
         // Here the prover learns that the heap is sound.

@@ -118,7 +118,7 @@ no_replica heap c a k none = from (replica_of (collection_in c) a) refl
         absent : (o : Option Block) → is_some o ≡ false → o ≡ None
         absent o e = grind (arith, common_steps)
 
-links_kept : (heap new : HeapWords) (c : CollectionWords) → BelongsTo heap c → KeepsLinks heap.space.words new.space.words → LinksReplicas c.epoch new (collection_in c)
+pub links_kept : (heap new : HeapWords) (c : CollectionWords) → BelongsTo heap c → KeepsLinks heap.space.words new.space.words → LinksReplicas c.epoch new (collection_in c)
 links_kept heap new c k kept a there = ⊎_elim
     (λ old. subst (Leads c.epoch (option_map (λ (r : Replica). r.place) (replica_of (collection_in c) a))) (sym (kept.kept a old)) (k.links a old))
     (λ young.

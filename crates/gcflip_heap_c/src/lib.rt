@@ -31,27 +31,28 @@ pub use commands::{
     gcflip_heap_put_nil, gcflip_heap_put_number, gcflip_heap_same, gcflip_heap_set_nil,
     gcflip_heap_set_number,
 };
-pub use copying::gcflip_heap_copy_fields;
+pub use copying::{gcflip_copy_fields, gcflip_fill, gcflip_heap_copy_fields};
 pub use frame::{
     gcflip_heap_frame_pop, gcflip_heap_frame_push, gcflip_heap_frame_trim, gcflip_heap_root_clear,
     gcflip_heap_root_load, gcflip_heap_root_store,
 };
 pub use gc_in_c::GcflipView;
 pub use handle::GcflipHeap;
-pub use mixed::{GcflipField, gcflip_heap_new_with};
+pub use mixed::{GcflipField, gcflip_heap_new_with, gcflip_new_with};
 pub use moved::{gcflip_heap_moved, gcflip_moved};
 pub use opening::{GcflipOptions, gcflip_heap_close, gcflip_heap_open};
 pub use pace::{gcflip_heap_pace, gcflip_heap_work_paced, gcflip_pace_due};
 pub use places::{
     gcflip_copy, gcflip_get, gcflip_look, gcflip_new, gcflip_new_raw, gcflip_peek, gcflip_put,
-    gcflip_put_nil, gcflip_put_number, gcflip_same, gcflip_set_nil, gcflip_set_number,
+    gcflip_put_nil, gcflip_put_number, gcflip_put_sure, gcflip_same, gcflip_set_nil,
+    gcflip_set_number,
 };
 pub use raws::{gcflip_address, gcflip_heap_address, gcflip_heap_raw_read, gcflip_heap_raw_write};
 pub use reading::{
     GcflipLogEntry, gcflip_heap_counts, gcflip_heap_image, gcflip_heap_log_entry,
     gcflip_heap_log_length, gcflip_heap_new_words,
 };
-pub use referring::{gcflip_heap_refer, gcflip_object_at, gcflip_refer};
+pub use referring::{gcflip_field_at, gcflip_heap_refer, gcflip_object_at, gcflip_refer};
 pub use room::{gcflip_collect, gcflip_release, gcflip_reserve, gcflip_room};
 pub use rows::{gcflip_gather, gcflip_new_from, gcflip_new_pair, gcflip_spread};
 pub use stepping::{

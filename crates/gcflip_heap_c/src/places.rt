@@ -6,11 +6,13 @@ ghost use Rattle.gc_check.specs.InC.{no_memory, IsRefusal};
 ghost use Rattle.gc_graph.specs.Graph.{Nil, Num};
 ghost use Rattle.gc_graph.specs.Limits.{kinds, lengths};
 ghost use Rattle.gc_graph.specs.declared.command.Op.{Op};
+ghost use Rattle.gc_graph.specs.declared.reply.Reply.{Reply};
 ghost use Rattle.gc_heap.specs.Places.{root_at};
 ghost use Rattle.gc_plan.specs.Steps.{mutate};
+ghost use Rattle.gc_collected.specs.Surely.{PutsSurely};
 ghost use Rattle.gc_collected.specs.Values.{put_value_step};
 ghost use Rattle.gc_collected.specs.Viewing.{get_reply};
-ghost use Rattle.gcflip_heap_c.specs.Commands.{IsCall, IsCommandCall, Replies};
+ghost use Rattle.gcflip_heap_c.specs.Commands.{IsCall, IsCommandCall, Replies, heap_behind};
 ghost use Rattle.gcflip_heap_c.specs.Places.{HasRoots};
 ghost use Rattle.gc_in_c.specs.Replies.{reply_in_c, got_in_c, number_after, view_after};
 
@@ -133,6 +135,22 @@ pub extern "C" fn gcflip_put(heap: &mut GcflipHeap, m: u32, s: u32, i: u32, t: u
         return OUT_OF_RANGE;
     }
     of_result(heap.put_root(m as u8, s, i, t))
+}
+
+/// Does what `gcflip_put` does, but never lacks memory: where the log cannot grow, first gives the open collection up.
+#[unsafe(no_mangle)]
+pub extern "C" fn gcflip_put_sure(heap: &mut GcflipHeap, m: u32, s: u32, i: u32, t: u32) -> u32
+    ensures call { IsCall (λ state. (m < state.mutators) × HasRoots (s ∷ t ∷ []) state) (λ before after. (reply : Reply)
+        × PutsSurely m (Op.Put (root_at s) i (root_at t)) reply (heap_behind heap.old before) (heap_behind heap.new after) × (result ≡ reply_in_c reply)) heap.old.state heap.new.state result }
+    ensures memory { result ≢ no_memory }
+    ensures kept { IsRefusal result → heap.new.beside ≡ heap.old.beside }
+{
+    let heap = lent!(heap);
+    let roots = heap.root_places();
+    if m >= u32::from(heap.mutators()) || s as usize >= roots || t as usize >= roots {
+        return OUT_OF_RANGE;
+    }
+    of_reply(&heap.put_surely(m as u8, s, i, t))
 }
 
 /// Writes the number `n`, which must be below 2^63, to field `i` of the object that root `s` refers to. No root changes. While a collection is open, the

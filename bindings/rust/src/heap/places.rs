@@ -1,7 +1,8 @@
 //! Commands on roots by their places.
 
 use super::{found, replied, value_of, Heap, Result, Value, SLOTS};
-use crate::sys;
+use crate::sys::{self, Field};
+use std::ops::Range;
 
 /// The place of a root in the list of a heap's roots, for calls that take any root: first the shared slots, then those of each mutator, then the extra
 /// roots. So places are not numbers of slots, of which a mutator's own come first.
@@ -80,6 +81,17 @@ impl Heap {
     /// collection is open, `NoMemory`.
     pub fn new_from_root(&self, mutator: u8, root: Place, kind: u8, sources: &[Place]) -> Result<()> {
         replied(self.handle.new_from_roots(mutator.into(), root.0, kind.into(), sources)).map(drop)
+    }
+
+    /// Makes an object with a field for each of these, and puts a reference to it into the root: a `new_root`, and then, in order, a `put_number_root` for
+    /// each number and a `put_root` for each root. No other root changes. A field that takes the root itself refers to the new object.
+    ///
+    /// # Errors
+    ///
+    /// Returns `OutOfRange` if there is no such root or mutator, a number is 2^63 or more, or there are more than 65535 fields, `Full`, or, while a collection
+    /// is open, `NoMemory`. Then nothing changed.
+    pub fn new_with_root(&self, mutator: u8, root: Place, kind: u8, fields: &[Field]) -> Result<()> {
+        replied(self.handle.new_with_root(mutator.into(), root.0, kind.into(), fields)).map(drop)
     }
 
     /// Makes an object of this kind with `count` fields, which take the values of the roots from `first` on. This is `new_from_root` with these roots.
@@ -162,6 +174,15 @@ impl Heap {
         replied(self.handle.put_root(mutator.into(), root.0, field, source.0)).map(drop)
     }
 
+    /// Does what `put_root` does, but never runs out of memory: where the log cannot grow, it first gives the open collection up.
+    ///
+    /// # Errors
+    ///
+    /// Returns `NoObject`, `NoField`, `NoNumber`, or `OutOfRange` if there is no such root or mutator.
+    pub fn put_sure(&self, mutator: u8, root: Place, field: u32, source: Place) -> Result<()> {
+        replied(self.handle.put_sure(mutator.into(), root.0, field, source.0)).map(drop)
+    }
+
     /// Writes a number below 2^63 into a field of the object that the root refers to, as `put_root` writes a value. No root changes.
     ///
     /// # Errors
@@ -180,6 +201,27 @@ impl Heap {
     /// `NoMemory`.
     pub fn put_nil_root(&self, mutator: u8, root: Place, field: u32) -> Result<()> {
         replied(self.handle.put_nil_root(mutator.into(), root.0, field)).map(drop)
+    }
+
+    /// Writes the value of root `source` into these fields of the object that the root refers to, as `put_root` writes it into one. All are written or none.
+    ///
+    /// # Errors
+    ///
+    /// Returns `NoObject`, `NoField`, `NoNumber`, or `OutOfRange` if there is no such root or mutator, or if the range ends before it starts; or, while a
+    /// collection is open, `NoMemory`.
+    pub fn fill(&self, mutator: u8, root: Place, fields: Range<u32>, source: Place) -> Result<()> {
+        replied(self.handle.fill(mutator.into(), root.0, fields.start, fields.end, source.0)).map(drop)
+    }
+
+    /// Copies `count` fields: from field `from` on, of the object that root `source` refers to, to field `to` and on of the object that the root refers to.
+    /// Each takes, in rising order, the value that the other field has then. No root changes. All are copied or none.
+    ///
+    /// # Errors
+    ///
+    /// Returns `NoObject`, `NoField`, `NoNumber` if the object takes only numbers and a value is none, or `OutOfRange` if there is no such root or mutator;
+    /// or, while a collection is open, `NoMemory`.
+    pub fn copy_fields_root(&self, mutator: u8, root: Place, to: u32, source: Place, from: u32, count: u32) -> Result<()> {
+        replied(self.handle.copy_root_fields(mutator.into(), root.0, to, source.0, from, count)).map(drop)
     }
 
     /// Returns whether both roots hold nil, equal numbers, or references to one object.

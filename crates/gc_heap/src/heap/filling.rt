@@ -1,19 +1,23 @@
-//! Fills the fields of a new object, and those of a raw one.
+//! Fills the fields of a new object, and those of a raw one, and writes a field of an object whose header is known.
 
-ghost use Rattle.std.specs.Prelude.{◌≡◌, ◌≢◌, ◌<◌, ◌≤◌, ◌+◌, ◌^◌, ℕ, length};
+ghost use Rattle.std.specs.Prelude.{◌≡◌, ◌≢◌, ◌<◌, ◌≤◌, ◌+◌, ◌^◌, ℕ, length, Some};
 ghost use Rattle.std.specs.List.{All};
-ghost use Rattle.gc_graph.specs.Graph.{object_of, field_of, root};
+ghost use Rattle.gc_graph.specs.Graph.{Ref, object_of, field_of, root};
 ghost use Rattle.gc_graph.specs.Machine.{put_field};
 ghost use Rattle.gc_graph.specs.Slots.{place};
 ghost use Rattle.gc_graph.specs.declared.command.Op.{Op};
 ghost use Rattle.gc_heap.specs.Heap.{IsHeap, KeepsLinks, graph_in};
 ghost use Rattle.gc_heap.specs.Commands.{Performs};
-ghost use Rattle.gc_heap.specs.Filling.{TakesFields, TakesNumbers, WritesNumbers};
+ghost use Rattle.gc_words.specs.Closed.{IsFieldWord};
+ghost use Rattle.gc_words.specs.Image.{header_at};
+ghost use Rattle.gc_words.specs.Word.{field_value};
+ghost use Rattle.gc_words.specs.declared.header.Header.{Header};
+ghost use Rattle.gc_heap.specs.Filling.{PutsValue, TakesFields, TakesNumbers, WritesNumbers};
 ghost use Rattle.gc_heap.specs.Places.{root_at};
 
 use super::Heap;
 use gc_graph::{Reply, Slot};
-use gc_words::{Addr, OldAddr};
+use gc_words::{Addr, Header, OldAddr};
 
 impl Heap {
     /// Performs a `Put` of `t` into field `i` of the object that `d` refers to. The object is known to take it, so neither `d` nor
@@ -65,6 +69,24 @@ impl Heap {
     {
         self.space.set_field(Addr(object.0), i, self.roots[t]);
         Reply::Done
+    }
+
+    /// Writes this word to field `i` of the object that root `p` refers to and that has this header, and reads neither. This is a `Put` of a root with the
+    /// same value, whose reply is `Done`, but no root has to hold the value.
+    #[inline(always)]
+    pub fn put_word(&mut self, p: u32, object: OldAddr, header: Header, i: u16, word: u64)
+        requires target { root (graph_in self.old) p ≡ Ref object.0 }
+        requires header { header_at self.old.space.words object.0 ≡ Some header }
+        requires field { i < header.len }
+        requires word { IsFieldWord self.old.space.words header word }
+        ensures puts { PutsValue self.old p i (field_value header word) self.new }
+        ensures headers { (a : ℕ) (h : Header) → header_at self.old.space.words a ≡ Some h → header_at self.new.space.words a ≡ Some h }
+        ensures words { (h : Header) (w : ℕ) → IsFieldWord self.old.space.words h w → IsFieldWord self.new.space.words h w }
+        ensures sound { IsHeap self.new }
+    {
+        // Here the prover learns that the heap is sound.
+        let _ = &self.roots;
+        self.space.set_field(Addr(object.0), i, word);
     }
 
     /// Writes these numbers to the fields of the raw object that `s` refers to, from field `first` on, as a `Num` of `t` and a `Put` of

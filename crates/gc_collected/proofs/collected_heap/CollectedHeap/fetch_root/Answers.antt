@@ -1,18 +1,21 @@
 -- A `fetch_root` changes what a `Get` changes: one root.
-use Rattle.std.proofs.Common.{◌+◌, ◌-◌, ◌<◌, length, ap, refl, sym, ◌∙◌, subst}
-use Rattle.std.specs.Prelude.{max}
+use Rattle.std.proofs.Common.{◌≡◌, ◌<◌, false, length, ap, refl, sym, ◌∙◌, subst}
 use Rattle.std.specs.Option.{option_map}
 use Rattle.gc_graph.specs.Slots.{roots_of}
 use Rattle.gc_graph.specs.declared.command.Op.TheVariants.{Get}
+use Rattle.gc_graph.specs.declared.reply.Reply.{Reply}
+use Rattle.gc_heap.specs.Commands.{fetched_of}
 use Rattle.gc_heap.specs.Places.{root_at}
 use Rattle.gc_plan.specs.State.{State}
+use Rattle.gc_plan.specs.Steps.{mutate}
 use Rattle.gc_copy.specs.Words.{collection_in, state_of}
-use Rattle.gc_collected.specs.Internal.KnownRoots.{HasStored, roots_left_in}
+use Rattle.gc_collected.specs.Internal.KnownRoots.{roots_left_in}
 use Rattle.gc_roots.specs.Twins.{AsksForLook}
-use Rattle.gc_collected.proofs.ByPlace.{get_numbered, root_known, root_followed}
+use Rattle.gc_collected.proofs.ByPlace.{get_numbered, root_followed}
 use Rattle.gc_collected.proofs.Core.{core_is, left_is}
-use Rattle.gc_collected.proofs.Marks.{stored_asks}
-use Rattle.gc_collected.proofs.OtherCommands.{said}
+use Rattle.gc_collected.proofs.OtherCommands.{mutated, said}
+use Rattle.gc_collected.specs.CollectedHeap.{HasMissed}
+use Rattle.gc_collected.proofs.Unwritten.{StoredIf, asks_if, known_if, missed_same, not_made, same_if}
 use Rattle.gc_collected.proofs.collected_heap.CollectedHeap.fetch_root.Goals as goal
 
 pub invariant_of-self : goal.invariant_of-self
@@ -20,21 +23,33 @@ invariant_of-self c =
     let heap = c.self.inside.heap in
     let s = state_of heap (option_map collection_in c.self.inside.collection) in
     let within = subst (λ (s : State). c.args.d < length s.heap.graph.roots) (sym (core_is c.self.view_is)) c.requires.taker in
-    let taken = subst (λ n. HasStored c.self.inside.known c.took.new.self 0 (max c.self.inside.known.twins.used (c.args.d - n + 1)) n c.args.d) (c.root_count.ensures ∙ ap roots_of c.mutators.ensures.value) c.took.ensures in
-    root_followed c.args.self.now.core c.self.inside.epoch c.self.inside.known c.took.new.self heap c.fetch_root.new.self c.self.inside.collection 0 (Get (root_at c.args.d) (root_at c.args.s) c.field_number.result) (c.fetch_root.ensures.fetches 0).0 c.self.inside.watch c.self.inside.along (core_is c.self.view_is) c.is_sound.ensures.open c.space.ensures.sound ((c.fetch_root.ensures.fetches 0).1)
-    (λ none. none) refl (root_known c.self.inside.known c.took.new.self s 0 c.args.d (Get (root_at c.args.d) (root_at c.args.s) c.field_number.result) refl within taken) c.self.invariant
+    let was = c.self.inside.known in
+    let now = c.took_if.new.self in
+    let gets = (c.fetch_root-fetched.ensures.fetches 0) in
+    let op = Get (root_at c.args.d) (root_at c.args.s) c.field_number.result in
+    let is = mutated c.self.inside.epoch heap c.fetch_root-fetched.new.self c.self.inside.collection 0 op gets.0 c.space.ensures.sound (λ none. none) gets.1 c.self.invariant.0.0 in
+    let slots = c.root_count.ensures ∙ ap roots_of (c.mutators.ensures.value ∙ gets.1.mutators) in
+    let stored : StoredIf c.has_fetched.result was now (roots_of heap.mutators) c.args.d = subst (λ n. StoredIf c.has_fetched.result was now n c.args.d) slots (record { written = c.took_if.ensures.written; none = c.took_if.ensures.none }) in
+    let same : c.has_fetched.result ≡ false → (mutate s 0 op).1 ≡ s = λ none. missed_same s 0 c.field_number.result (root_at c.args.d) (root_at c.args.s) (subst HasMissed (gets.2 ∙ ap (λ (x : Reply × State). fetched_of x.0) (sym is)) (c.has_fetched.ensures.missed none)) in
+    root_followed c.args.self.now.core c.self.inside.epoch was now heap c.fetch_root-fetched.new.self c.self.inside.collection 0 (Get (root_at c.args.d) (root_at c.args.s) c.field_number.result) (c.fetch_root-fetched.ensures.fetches 0).0 c.self.inside.watch c.self.inside.along (core_is c.self.view_is) c.is_sound.ensures.open c.space.ensures.sound ((c.fetch_root-fetched.ensures.fetches 0).1)
+    (λ none. none) refl (known_if c.has_fetched.result was now s 0 c.args.d op refl within stored same) c.self.invariant
 
 pub returns-clause-mutators : goal.returns-clause-mutators
-returns-clause-mutators c = (((c.fetch_root.ensures.fetches 0).1)).mutators ∙ ap (λ (s : State). s.mutators) (core_is c.self.view_is)
+returns-clause-mutators c = (((c.fetch_root-fetched.ensures.fetches 0).1)).mutators ∙ ap (λ (s : State). s.mutators) (core_is c.self.view_is)
 
 pub returns-clause-fetches : goal.returns-clause-fetches
 returns-clause-fetches c = (
-  (c.fetch_root.ensures.fetches 0).0,
+  (c.fetch_root-fetched.ensures.fetches 0).0,
   sym (get_numbered c.args.self.now.core 0 c.args.i c.field_number.result (root_at c.args.d) (root_at c.args.s) c.is_sound.ensures.heap c.field_number.ensures.small c.field_number.ensures.large)
-      ∙ said c.args.self.now.core c.self.inside.epoch c.self.inside.heap c.fetch_root.new.self c.self.inside.collection 0 (Get (root_at c.args.d) (root_at c.args.s) c.field_number.result) (c.fetch_root.ensures.fetches 0).0 (core_is c.self.view_is) c.self.invariant.0.0 c.space.ensures.sound (λ none. none) ((c.fetch_root.ensures.fetches 0).1),
-  (c.fetch_root.ensures.fetches 0).2,
+      ∙ said c.args.self.now.core c.self.inside.epoch c.self.inside.heap c.fetch_root-fetched.new.self c.self.inside.collection 0 (Get (root_at c.args.d) (root_at c.args.s) c.field_number.result) (c.fetch_root-fetched.ensures.fetches 0).0 (core_is c.self.view_is) c.self.invariant.0.0 c.space.ensures.sound (λ none. none) ((c.fetch_root-fetched.ensures.fetches 0).1),
+  (c.fetch_root-fetched.ensures.fetches 0).2,
 )
 
 pub returns-clause-looks : goal.returns-clause-looks
-returns-clause-looks c = subst (λ n. AsksForLook c.args.d n (roots_left_in c.self.inside.collection c.took.new.self.twins)) (left_is c.self.view_is)
-    (stored_asks c.self.inside.collection c.self.inside.known c.took.new.self 0 c.root_count.result c.args.d c.took.ensures)
+returns-clause-looks c = subst (λ n. AsksForLook c.args.d n (roots_left_in c.self.inside.collection c.took_if.new.self.twins)) (left_is c.self.view_is)
+    (asks_if c.has_fetched.result c.self.inside.collection c.self.inside.known c.took_if.new.self c.root_count.result c.args.d (record { written = c.took_if.ensures.written; none = c.took_if.ensures.none }))
+
+pub returns-clause-missed : goal.returns-clause-missed
+returns-clause-missed c = λ missed.
+    same_if c.has_fetched.result c.self.inside.collection c.self.inside.known c.took_if.new.self c.root_count.result c.args.d (record { written = c.took_if.ensures.written; none = c.took_if.ensures.none }) (not_made c.has_fetched.result (λ found. c.has_fetched.ensures.found found missed))
+    ∙ left_is c.self.view_is

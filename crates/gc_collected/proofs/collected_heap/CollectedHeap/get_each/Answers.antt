@@ -27,4 +27,15 @@ loop-k-preserved c =
       roots = sym (ap (λ (x : Reply × State). length x.1.heap.graph.roots) step) ∙ roots_counted before 0 (Get (root_at p) (root_at c.args.s) k) ∙ c.loop-k.invariant.roots;
       mutators = c.fetch_root-got.ensures.mutators ∙ c.loop-k.invariant.mutators;
       beside = c.fetch_root-got.ensures.beside ∙ c.loop-k.invariant.beside;
+      looks = (
+        omega (arith, c.fetch_root-got.ensures.looks.0, c.loop-k.invariant.looks.0),
+        omega (arith, c.fetch_root-got.ensures.looks.1, c.loop-k.invariant.looks.1),
+      );
+      within = omega (arith, c.loop-k-test.true);
     }
+
+pub returns-clause-looks : goal.returns-clause-looks
+returns-clause-looks c = (
+  c.loop-k.invariant.looks.0,
+  omega (arith, c.loop-k.invariant.looks.1, c.loop-k.invariant.within, c.loop-k-test.false),
+)

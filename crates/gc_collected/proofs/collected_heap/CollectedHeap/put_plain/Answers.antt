@@ -1,13 +1,14 @@
 -- Room in the log changes no state, and no root changes, so all that is known of the roots is still true.
-use Rattle.std.proofs.Common.{◌≡◌, ap, ◌∙◌, sym, subst}
+use Rattle.std.proofs.Common.{◌≡◌, is_some, ap, ◌∙◌, sym, subst}
 use Rattle.gc_graph.specs.declared.reply.Reply.{Reply}
 use Rattle.gc_plan.specs.State.{State}
 use Rattle.gc_collected.specs.Values.{value_of_plain, put_value_step}
 use Rattle.gc_collected.specs.Internal.CollectedHeap.{state_in}
 use Rattle.gc_collected.specs.Internal.KnownRoots.{KnowsRoots}
-use Rattle.gc_collected.proofs.Core.{core_is}
+use Rattle.gc_collected.proofs.Core.{core_is, left_is}
 use Rattle.gc_collected.proofs.OtherCommands.{it_belongs}
 use Rattle.gc_collected.proofs.Parts.{same_state, still_known}
+use Rattle.gc_collected.proofs.Unwritten.{left_open, logged_open}
 use Rattle.gc_collected.proofs.ValuesPut.{value_known, value_numbered}
 use Rattle.gc_collected.proofs.collected_heap.CollectedHeap.put_plain.Goals as goal
 
@@ -36,3 +37,11 @@ returns-clause-step c =
     let number = c.field_number in
     sym (value_numbered c.args.self.now.core c.args.m c.args.s c.args.i number.result (value_of_plain c.args.value) c.is_sound.ensures.heap number.ensures.small number.ensures.large)
     ∙ subst (λ (s : State). put_value_step s c.args.m c.args.s number.result (value_of_plain c.args.value) ≡ (c.put_plain_in.result, state_in c.put_plain_in.new.heap c.put_plain_in.new.collection)) view c.put_plain_in.ensures.step
+
+pub returns-clause-looks : goal.returns-clause-looks
+returns-clause-looks c =
+    let put = c.put_plain_in in
+    let s = state_in c.self.inside.heap c.reserve_in.new.collection in
+    left_open c.self.inside.collection put.new.collection c.self.inside.known.twins
+    (ap (λ (x : Reply × State). is_some x.1.collection) (sym put.ensures.step) ∙ (logged_open s.collection c.args.m _ ∙ ap is_some c.reserve_in.ensures.same))
+    ∙ left_is c.self.view_is

@@ -8,8 +8,10 @@ use Rattle.gc_graph.specs.Slots.{roots_of}
 use Rattle.gc_plan.specs.State.{State}
 use Rattle.gc_plan.specs.Belonging.{IsOpened}
 use Rattle.gc_copy.specs.Words.{collection_in, state_of}
-use Rattle.gc_collected.specs.Internal.KnownRoots.{HasStored, KnowsRoots}
-use Rattle.gc_collected.proofs.Core.{core_is}
+use Rattle.gc_roots.specs.Twins.{AsksForLook}
+use Rattle.gc_collected.specs.Internal.KnownRoots.{HasStored, KnowsRoots, roots_left_in}
+use Rattle.gc_collected.proofs.Core.{core_is, left_is}
+use Rattle.gc_collected.proofs.Marks.{stored_asks}
 use Rattle.gc_collected.proofs.Referred.{refers, start_named, still_fits, valued, valued_known}
 use Rattle.gc_collected.proofs.Rooted.{follows_valued}
 use Rattle.gc_collected.proofs.collected_heap.CollectedHeap.refer_root.Goals as goal
@@ -40,3 +42,7 @@ invariant_of-self c =
 
 pub returns-clause-step : goal.returns-clause-step
 returns-clause-step = grind (arith, common_steps, is_some, refers, valued)
+
+pub returns-clause-looks : goal.returns-clause-looks
+returns-clause-looks c = subst (λ n. AsksForLook c.args.d n (roots_left_in c.self.inside.collection c.took.new.self.twins)) (left_is c.self.view_is)
+    (stored_asks c.self.inside.collection c.self.inside.known c.took.new.self 0 c.root_count.result c.args.d c.took.ensures)
