@@ -40,7 +40,10 @@ class Side:
 
     def __init__(self, space, is_old, top, blocks, scale):
         self.space, self.is_old, self.top, self.blocks, self.scale = space, is_old, top, blocks, scale
-        self.sorts = self.sorts_of_blocks()
+        kept = (blocks, scale)
+        if kept not in space.block_sorts:
+            space.block_sorts[kept] = self.sorts_of_blocks()
+        self.sorts = space.block_sorts[kept]
         self.rows = -(-len(self.sorts) // blocks.columns)
 
     def sorts_of_blocks(self):
@@ -108,12 +111,29 @@ def heading(space):
         space.name, counted(space.size, "word"), space.size - len(space.words), objects_of(space), counted(roots, "root"), "is" if roots == 1 else "are")
 
 
+class Joined:
+    """How many pairs lead from each block of the old space to each of the new one. It remembers what it counted last."""
+
+    def __init__(self):
+        self.pairs, self.asked, self.found = None, None, None
+
+    def counts(self, pairs, ends, scales):
+        """Returns the counts for pairs with words at both addresses. Nobody may change the pairs."""
+        if self.pairs is not pairs or self.asked != (ends, scales):
+            self.found = Counter((first // scales[0], second // scales[1]) for first, second in pairs if first < ends[0] and second < ends[1])
+            self.pairs, self.asked = pairs, (ends, scales)
+        return Counter(self.found)
+
+
+JOINED = Joined()
+
+
 def lines_between(old, new, joined, step):
     """Returns the lines between objects at whose addresses there are words: one in `step` by itself, and one for all others from the same block to the
     same block."""
     ends, scales = (len(old.space.words), len(new.space.words)), (old.scale, new.scale)
     drawn = [(first, second) for first, second in joined[::step] if first < ends[0] and second < ends[1]]
-    counts = Counter((first // scales[0], second // scales[1]) for first, second in joined if first < ends[0] and second < ends[1])
+    counts = JOINED.counts(joined, ends, scales)
     counts.subtract((first // scales[0], second // scales[1]) for first, second in drawn)
     return [Line(old.place(first), new.place(second)) for first, second in drawn] + [
         Line(old.middle(first), new.middle(second), is_drawn=False, count=count) for (first, second), count in counts.items() if count > 0]

@@ -98,13 +98,18 @@ def references(thing, limit=REFERENCES):
 
 def reachable(objects, roots):
     """Returns the starts of the objects that the roots reach."""
-    headers, words = objects.headers, objects.words
-    most = 2 * len(words)
-    found, waiting = set(), [word >> 1 for word in roots if 0 < word < most and not word & 1]
-    while waiting:
+    return reach(objects, roots, set())
+
+
+def reach(objects, words, found, until=None):
+    """Adds to a set of starts those of the objects to which these words lead, by way of objects that are not in it yet. Ends once it has `until`. Returns the set."""
+    headers, of_space = objects.headers, objects.words
+    most = 2 * len(of_space)
+    waiting = [word >> 1 for word in words if 0 < word < most and not word & 1]
+    while waiting and until not in found:
         at = waiting.pop()
         if at not in found and at in headers:
             found.add(at)
             if headers[at] < RAW:
-                waiting += [word >> 1 for word in words[at + 2:at + 2 + length_of(headers[at])] if 0 < word < most and not word & 1]
+                waiting += [word >> 1 for word in of_space[at + 2:at + 2 + length_of(headers[at])] if 0 < word < most and not word & 1]
     return found

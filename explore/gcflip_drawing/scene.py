@@ -1,8 +1,9 @@
 """A scene, which a picture of a heap shows: one or two spaces, which objects belong together, and marks."""
+import copy
 import functools
 from typing import NamedTuple
 
-from .heap import beyond, reachable, walk
+from .heap import Objects, beyond, reach, reachable, target, walk
 
 
 class Space:
@@ -18,6 +19,26 @@ class Space:
         self.reserved, self.said = 1, None
         # What follows the address in the tip of an object.
         self.tail = ""
+        # The sort of each block, for each way to draw the space in blocks.
+        self.block_sorts = {}
+
+    def with_image(self, image):
+        """Returns the space with another image, whose headers are the same. All that was found of this space is kept."""
+        other = copy.copy(self)
+        other.words, other.roots = image.words, image.roots
+        other.objects = Objects(image.words, self.objects.headers)
+        return other
+
+    def lead_on(self, before, after):
+        """Finds the reachable objects anew, where a root or a field of a reachable object has another word than before."""
+        lost, gained = target(before, self.beyond), target(after, self.beyond)
+        live = self.live if gained not in self.objects or gained in self.live else reach(self.objects, [after], set(self.live))
+        if lost in self.objects:
+            found = reach(self.objects, self.roots, set(), lost)
+            live = live if lost in found else found
+        if live is not self.live:
+            self.live, self.block_sorts = live, {}
+            self.__dict__.pop("unreachable", None)
 
     def sort(self, thing):
         return "garbage" if thing.start not in self.live else "raw" if thing.raw else "object"

@@ -11,7 +11,7 @@ from gcflip import BadText, Refused, check_text, compare, explained
 from gcflip.inference import root_name
 from gcflip_drawing.blocks_picture import blocks_of
 from gcflip_drawing.excerpt import MOST_OBJECTS, excerpt_of, starts_between
-from gcflip_drawing.heap import Object, beyond, header_of, shown, target, walk
+from gcflip_drawing.heap import Object, beyond, header_of, shown
 from gcflip_drawing.images_text import read_images
 from gcflip_drawing.pair_picture import scene_of
 from gcflip_drawing.pair_text import Image, PairText, Unreadable, read_accepted
@@ -225,27 +225,30 @@ def row_of(pair: PairText, heap: str, row: str) -> list[int]:
     return getattr(image, row)
 
 
-def name_of(pair: PairText, place: Place) -> str:
+def space_of(scene: Scene, place: Place) -> Space:
+    return scene.old if place.heap == "old" else scene.new
+
+
+def name_of(scene: Scene, place: Place) -> str:
     """Says what a word is: a root, or a part of an object."""
     if place.row == "roots":
-        return "%s of the %s heap" % (root_name(place.at, len(row_of(pair, place.heap, "roots"))), place.heap)
+        return "%s of the %s heap" % (root_name(place.at, len(space_of(scene, place).roots)), place.heap)
     if place.at == 0:
         return "the reserved word 0 of the %s heap" % place.heap
-    thing = object_around(pair, place)
+    thing = object_around(scene, place)
     if thing is not None:
         part = {0: "the header", 1: "the link"}.get(place.at - thing.start, "field %d" % (place.at - thing.start - 2))
         return "%s of the object at %d of the %s heap" % (part, thing.start, place.heap)
     return "word %d of the %s heap" % (place.at, place.heap)
 
 
-def object_around(pair: PairText, place: Place) -> Object | None:
+def object_around(scene: Scene, place: Place) -> Object | None:
     """Returns the object that has a word, or None if the word belongs to none, or is a root."""
     if place.row == "roots":
         return None
-    objects = walk(row_of(pair, place.heap, "words"), pair.raws)
-    starts = list(objects)
-    at = bisect.bisect_right(starts, place.at) - 1
-    thing = objects[starts[at]] if at >= 0 else None
+    space = space_of(scene, place)
+    at = bisect.bisect_right(space.starts, place.at) - 1
+    thing = space.objects[space.starts[at]] if at >= 0 else None
     return thing if thing is not None and place.at < thing.start + thing.size() else None
 
 
@@ -255,12 +258,12 @@ def other_words(word: int, chosen: random.Random) -> list[int]:
     return [other for other in found if other != word and other < 1 << 64]
 
 
-def why_accepted(pair: PairText, place: Place) -> str:
+def why_accepted(scene: Scene, place: Place) -> str:
     """Explains why the checker says yes although a word changed."""
-    thing = object_around(pair, place)
+    thing = object_around(scene, place)
     if thing is not None and place.at == thing.start + 1:
         return "It is a link word, and no check reads links."
-    paired = {places[0 if place.heap == "old" else 1] for places in pair.pairs}
+    paired = {places[0 if place.heap == "old" else 1] for places in scene.joined}
     if thing is not None and thing.start not in paired:
         return "It belongs to an object that is in no pair, and that no reachable object refers to: garbage, which need not be copied."
     return "The pair still meets all conditions."
@@ -285,16 +288,16 @@ def with_word(pair: PairText, place: Place, word: int) -> PairText:
     return PairText(pair.raws, changed["old"], changed["new"], pair.pairs)
 
 
-def keeps_references(pair: PairText, place: Place, *words: int) -> bool:
-    """Returns whether a word can be exchanged for another without a change of the objects, and of the references from one to another or from a root."""
-    thing = object_around(pair, place)
-    is_part = place.row == "roots" or thing is not None and place.at > thing.start
-    return is_part and not any(target(word, beyond(row_of(pair, place.heap, "words"))) for word in words)
-
-
-def with_image(space: Space, image: Image, raws: bool, keeps: bool) -> Space:
-    """Returns a space with another image, which has the same reachable objects if it keeps the references."""
-    return Space(space.name, image, raws, space.live if keeps else None)
+def with_image(scene: Scene, image: Image, raws: bool, place: Place, before: int, after: int) -> Space:
+    """Returns the space of a place with another image, in which only the word there differs."""
+    space, thing = space_of(scene, place), object_around(scene, place)
+    if place.row == "words" and (thing is None or place.at == thing.start):
+        return Space(space.name, image, raws)
+    other = space.with_image(image)
+    # A link leads nowhere.
+    if thing is None or thing.start in space.live and not thing.raw and place.at > thing.start + 1:
+        other.lead_on(before, after)
+    return other
 
 
 # So many bytes of a text are searched at once.
@@ -328,12 +331,12 @@ def spoiled(text: bytes, width: int, chosen: random.Random) -> dict[str, Any]:
     image: Image = getattr(pair, place.heap)
     at = line_start(text, first_line(pair, place.heap) + 1 + place.at + (1 + len(image.words) if place.row == "roots" else 0))
     new_text = b"%s%d%s" % (text[:at], after, text[at + len(str(before)):])
-    # The pair is known, so that the new text is checked, and not read. Nor is a heap searched again whose references stay.
+    # The pair is known, so that the new text is checked, and not read. Nor is all of a space searched again.
     spaces = {"old": found.scene.old, "new": found.scene.new}
-    spaces[place.heap] = with_image(spaces[place.heap], getattr(other, place.heap), pair.raws, keeps_references(pair, place, before, after))
+    spaces[place.heap] = with_image(found.scene, getattr(other, place.heap), pair.raws, place, before, after)
     new = keep(new_text, found_for(new_text, other, refusal_of(new_text), **spaces))
-    said = "Changed %s from %d to %d." % (name_of(pair, place), before, after)
+    said = "Changed %s from %d to %d." % (name_of(found.scene, place), before, after)
     shown = drawn(new, width, place)
     if not shown["refused"]:
-        said += " The checker still says yes. " + why_accepted(other, place)
+        said += " The checker still says yes. " + why_accepted(new.scene, place)
     return {**shown, "text": new_text, "change": {"at": at, "from": str(before), "to": str(after)}, "said": said}

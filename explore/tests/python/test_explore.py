@@ -9,7 +9,8 @@ import gcflip
 from gcflip_explore import checking, checkpoints, playing, record, requests, stage, state
 from gcflip_drawing import timeline
 from gcflip_drawing.heap import walk
-from gcflip_drawing.pair_text import read_accepted, read_pair, written
+from gcflip_drawing.pair_text import Image, read_accepted, read_pair, written
+from gcflip_drawing.scene import Scene, Space
 from gcflip_drawing.trace_text import event_of, heading, read_trace
 
 TRACES = [example for example in requests.examples() if example["kind"] == "trace"]
@@ -373,7 +374,7 @@ class Certificates(unittest.TestCase):
             promised = state.Certificate(words).new
             if player.play(event_of("c flip")).startswith("flipped"):
                 image = player.heap.image()
-                links = {start + 1 for start in checking.walk(list(image.words), True)}
+                links = {start + 1 for start in walk(list(image.words), True)}
                 self.assertEqual([word for at, word in enumerate(image.words) if at not in links],
                                  [word for at, word in enumerate(promised.words) if at not in links])
                 self.assertEqual(list(image.roots), list(promised.roots))
@@ -431,19 +432,35 @@ class Checking(unittest.TestCase):
 
     def test_the_spoiled_word_is_named(self):
         good = next(example["text"] for example in PAIRS if example["name"] == "garbage_left_behind").encode()
-        pair = read_pair(good.decode())
+        scene = checking.opened(good).scene
         names = {("old", "words", 0): "the reserved word 0 of the old heap", ("new", "roots", 16): "r0 of mutator 0 (place 16) of the new heap",
                  ("old", "words", 5): "the header of the object at 5 of the old heap",
                  ("new", "words", 2): "the link of the object at 1 of the new heap",
                  ("old", "words", 8): "field 1 of the object at 5 of the old heap"}
         for place, name in names.items():
-            self.assertEqual(checking.name_of(pair, checking.Place(*place)), name)
+            self.assertEqual(checking.name_of(scene, checking.Place(*place)), name)
 
     def test_why_a_change_is_accepted(self):
         good = next(example["text"] for example in PAIRS if example["name"] == "garbage_left_behind").encode()
-        pair = read_pair(good.decode())
-        self.assertIn("link", checking.why_accepted(pair, checking.Place("old", "words", 6)))
-        self.assertIn("garbage", checking.why_accepted(pair, checking.Place("old", "words", 3)))
+        scene = checking.opened(good).scene
+        self.assertIn("link", checking.why_accepted(scene, checking.Place("old", "words", 6)))
+        self.assertIn("garbage", checking.why_accepted(scene, checking.Place("old", "words", 3)))
+
+    def test_a_changed_reference_changes_what_is_reachable(self):
+        """Changes each word of a heap with a shared object, a cycle and garbage to each reference, nil and a number. What is reachable then is what a search of the
+        whole heap finds."""
+        header = 16777218
+        words, roots = [0, header, 0, 10, 18, header, 0, 18, 2, header, 0, 18, 0, header, 0, 50397185, 2], [2, 0]
+        for place in [checking.Place("old", "roots", at) for at in range(2)] + [checking.Place("old", "words", at) for at in range(1, len(words))]:
+            for after in (0, 7, 2, 10, 18, 26, 28, 4000):
+                scene = Scene("", Space("old space", Image(20, words, roots)))
+                self.assertEqual(sorted(scene.old.live), [1, 5, 9])
+                row = words if place.row == "words" else roots
+                image = Image(20, list(words), list(roots))
+                (image.words if place.row == "words" else image.roots)[place.at] = after
+                found = checking.with_image(scene, image, True, place, row[place.at], after)
+                wanted = Space("old space", image)
+                self.assertEqual((found.live, found.unreachable, dict(found.objects.headers)), (wanted.live, wanted.unreachable, dict(wanted.objects.headers)), (place, after))
 
     def test_a_refusal_says_where(self):
         bad = next(example["text"] for example in PAIRS if example["name"] == "replica_out_of_date").encode()
