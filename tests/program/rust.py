@@ -3,6 +3,7 @@ import os
 import re
 import shutil
 
+from .beside import Beside
 from .c_builds import TOP, done, library
 from .c_library import texts_and_lines, traces_and_replies
 from .examples import names_of
@@ -15,6 +16,9 @@ SECONDS = 600
 # The output of the example programs, as their comments derive it.
 EXAMPLE_OUTPUT = {"first_check": b"flip: 1 pairs\n", "first_heap": b"Number(42)\n", "two_threads": b"50005000\n", "typed_roots": b"45\n",
                   "extra_roots": b"pushed 1000\nflipped 1001\nthe last one popped is Object { kind: 0, fields: 0 }\n"}
+
+# The output of the example of the feature `beside`, as its comment derives it.
+BESIDE_OUTPUT = b"994995000\n"
 
 
 class Cargo:
@@ -82,6 +86,27 @@ def examples(_program, folder):
         yield name, difference(done([cargo.example(name)]), Outcome(wanted))
     yield from texts(cargo, folder)
     yield from plays(cargo, folder)
+
+
+def collectors_thread(_program, folder):
+    """Checks the feature `beside`, with both libraries in one folder: its tests, those of its documents, its lints, and its example."""
+    cargo = prepared(folder)
+    built = library(folder, Beside)
+    if cargo is None or built is None:
+        return
+    yield "the library of the collector's thread is installed", failed(built.made)
+    words = ["--features", "beside"]
+    tested = cargo.run("test", *words, "--lib", "--test", "beside")
+    yield "cargo test --features beside", failed(tested)
+    yield "tests of the library and of the feature ran", None if len([count for count in counted_tests(tested) if count > 0]) == 2 else tested.stdout.decode()
+    yield "tests of its documents", failed(cargo.run("test", *words, "--doc"))
+    if done(["cargo", "clippy", "--version"]).status == 0:
+        yield "cargo clippy --features beside", failed(cargo.run("clippy", "--all-targets", *words, "--", "-D", "warnings"))
+    else:
+        skip("cargo clippy --features beside", "it is missing")
+    yield "cargo doc --features beside", failed(cargo.run("doc", *words))
+    yield "beside is built", failed(cargo.run("build", *words, "--example", "beside"))
+    yield "beside", difference(done([cargo.example("beside")]), Outcome(BESIDE_OUTPUT))
 
 
 def texts(cargo, folder):
@@ -198,4 +223,4 @@ def refused_code(_program, folder):
         yield "%s: %s" % (what, error), None if found == wanted and (checked.status == 0) == (not wanted) else checked.stderr.decode()
 
 
-GROUPS = [suites, examples, linking, packaged, refused_code]
+GROUPS = [suites, examples, collectors_thread, linking, packaged, refused_code]
