@@ -92,7 +92,8 @@ void numbers()
     EXPECT(bytes[Bytes::first].get() == 0 && bytes[Bytes::second].get() == 0);
     bytes[Bytes::second] = 77;
     record[Record::bytes] = bytes;
-    EXPECT(record[Record::bytes].get()[Bytes::second].get() == 77);
+    record[Record::pair] = pair;
+    EXPECT(record[Record::bytes].get()[Bytes::second].get() == 77 && record[Record::pair].get() == pair);
     // a boxed double is garbage once another one takes its place, and no register keeps it
     record[Record::real] = 1e300;
     EXPECT(objects_in(heap) == 4);

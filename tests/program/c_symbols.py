@@ -68,15 +68,17 @@ def symbols(_program, folder):
 
 
 # The ways in which a program may compile the headers, all together. In C99 a type has one typedef.
-WAYS = [("C99", ["gcc", "-x", "c", "-std=c99"]), ("C11", ["gcc", "-x", "c", "-std=c11"]), ("C++11", ["g++", "-x", "c++", "-std=c++11"])]
+WAYS = [("C99", ["gcc", "-x", "c", "-std=c99"]), ("C11", ["gcc", "-x", "c", "-std=c11"]), ("C++11", ["g++", "-x", "c++", "-std=c++11"]),
+        ("C++17", ["g++", "-x", "c++", "-std=c++17"])]
 WRONG_TYPE = "uint32_t gcflip_heap_set_nil(gcflip_heap *heap, uint8_t m, uint16_t d);"
 # A call of an adapter with a pointer to another type.
 CALL_WITH = "uint64_t call(%s *given);\nuint64_t call(%s *given) { return gcflip_snapshot_constant(given, 0); }"
 
 
-def installed_headers():
-    """Returns the headers that bindings/c installs."""
-    return re.search(r"(?m)^HEADERS := \$\(addprefix \$\(HERE\),(.*)\)$", read("bindings", "c", "Makefile")).group(1).split()
+def installed_headers(way):
+    """Returns the headers that bindings/c installs, for this way to compile them. One that ends in `.hpp` is for C++17."""
+    found = re.search(r"(?m)^HEADERS := \$\(addprefix \$\(HERE\),(.*)\)$", read("bindings", "c", "Makefile")).group(1).split()
+    return [header for header in found if header.endswith(".h") or way == "C++17"]
 
 
 def why_not_compiled(words, folder, headers, lines):
@@ -94,7 +96,7 @@ def types(_program, folder):
             skip("c_symbols.types in %s" % name, "no %s" % words[0])
             continue
         yield "types of the list in %s" % name, why_not_compiled(words, folder, HEADERS, [line + ";" for line in listed()])
-        yield "all headers together in %s" % name, why_not_compiled(words, folder, installed_headers(), ["extern FILE *gcflip_trace;"])
+        yield "all headers together in %s" % name, why_not_compiled(words, folder, installed_headers(name), ["extern FILE *gcflip_trace;"])
         yield "a snapshot is one in %s" % name, why_not_compiled(words, folder, HEADERS, [CALL_WITH.replace("%s", "gcflip_snapshot")])
         for what, line in [("another type", WRONG_TYPE), ("what a look writes, for a snapshot,", CALL_WITH.replace("%s", "gcflip_view"))]:
             yield "%s is refused in %s" % (what, name), None if why_not_compiled(words, folder, HEADERS, [line]) else "it is not"

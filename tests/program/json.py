@@ -67,6 +67,7 @@ REFUSED = [
     (b'"\\u-123"', 1, 2, UNIT), (b'"\\ud800"', 1, 2, SURROGATE), (b'"\\udc00"', 1, 2, SURROGATE), (b'"\\ud800\\u0041"', 1, 2, SURROGATE), (b'"\\ud800\\ud800"', 1, 2, SURROGATE),
     (b'"\xff"', 1, 2, UTF8), (b'"\x80"', 1, 2, UTF8), (b'"\xc0\x80"', 1, 2, UTF8), (b'"\xc1\xbf"', 1, 2, UTF8), (b'"\xe0\x9f\xbf"', 1, 2, UTF8), (b'"\xed\xa0\x80"', 1, 2, UTF8),
     (b'"\xf0\x8f\xbf\xbf"', 1, 2, UTF8), (b'"\xf4\x90\x80\x80"', 1, 2, UTF8), (b'"\xe2\x82"', 1, 2, UTF8), (b'"\xe2\x82', 1, 2, UTF8), (b'"\xf8\x88\x80\x80\x80"', 1, 2, UTF8),
+    (b'"\xf8\x90\x80\x80"', 1, 2, UTF8), (b'"\x82\x80"', 1, 2, UTF8), (b'"\\ud800\\ue000"', 1, 2, SURROGATE), (b'"\\udc00\\udc00"', 1, 2, SURROGATE),
     (b"[1,\n 2,\n x]", 3, 2, VALUE), (b"[1,\r\n 2 3]", 2, 4, IN_ARRAY), ('["\u00e9", x]'.encode(), 1, 7, VALUE), ('["\U0001f600\u20ac" "'.encode(), 1, 7, IN_ARRAY),
 ]
 WRONG_OPTIONS = [["--indent"], ["--indent", "-1"], ["--indent", "101"], ["--indent", "x"], ["--heap", "0"], ["--most", "4294967296"], ["--sorted"], ["document.json"]]
@@ -162,6 +163,8 @@ def large(_program, folder):
         for length in (LONG - 1, LONG, LONG + 1, 2 * LONG, 2 * LONG + 1, 3000000):
             text = json.dumps(["x" * (length - 1) + "y", {"z" * length: 1, "z" * (length - 1): 2}], separators=(",", ":"))
             yield "strings of %d bytes, %s" % (length, way), difference(printed(path, text), Outcome(text.encode() + b"\n"))
+        for length in (4095, 4096, 4097):  # the document's block has 4,096 bytes at first
+            yield "%d bytes, %s" % (length, way), difference(printed(path, " " * (length - 2) + "12"), Outcome(b"12\n"))
         members = ["\"%d\":%d" % (i * 7919 % 30000, i) for i in range(60000)]
         wanted = json.dumps(json.loads("{%s}" % ",".join(members)), separators=(",", ":"))
         yield "many members, %s" % way, difference(printed(path, "{%s}" % ",".join(members)), Outcome(wanted.encode() + b"\n"))
