@@ -57,8 +57,8 @@ enum gcflip_beside_answer {
 
 /* ---- Opening and closing */
 
-/* Opens an empty heap of `size` words, at least 1, with at most 1048576 extra roots, and begins a collection: GCFLIP_DONE, or GCFLIP_OPEN if a handle
- * has an end already. All roots hold nil. GCFLIP_NO_MEMORY if an allocation fails. The new space of each collection has as many words as the heap. */
+/* Opens an empty heap of `size` words, at least 1, with at most 1048576 extra roots: GCFLIP_DONE. GCFLIP_OPEN if a handle has an end already. A
+ * collection begins. All roots hold nil. GCFLIP_NO_MEMORY if an allocation fails. The new space of each collection has as many words as the heap. */
 uint32_t gcflip_beside_open(gcflip_mutator *mutator, gcflip_collector *collector, uint32_t size, uint32_t extra_roots);
 
 /* Drops the mutator with its objects: GCFLIP_DONE. The collector's handle can still be used and closed. The last of both closes frees the heap. */
@@ -122,8 +122,8 @@ uint32_t gcflip_beside_resume(gcflip_mutator *mutator);
  *
  * The next collection begins at each flip. It rests until the collector takes the mutator, and copies the objects of its roots. Until then nothing is
  * copied, and no write is logged. Its steps copy what these reach, and bring replicas up to date with the originals, beside the mutator or while
- * the collector holds it. To flip, the collector takes the mutator again, copies the objects of roots that were written meanwhile, performs the
- * steps that are left, and lets the mutator go on in the new space. */
+ * the collector holds it. To flip, the collector takes the mutator again. It copies the objects of roots that were written meanwhile, and performs
+ * the steps that are left. The mutator then goes on in the new space. */
 
 /* Performs `most` steps, at least 1: GCFLIP_DONE, or GCFLIP_CLEAN once nothing is left to do. GCFLIP_NO_ROOM never comes, because the new space is as
  * large as the heap. */
@@ -140,8 +140,8 @@ uint32_t gcflip_beside_take(gcflip_collector *collector);
 /* Asks no longer, and lets a mutator that has stopped go on in the same space: GCFLIP_DONE. The collection stays open, and no work is lost. */
 uint32_t gcflip_beside_go(gcflip_collector *collector);
 
-/* Copies the object of each root that has no replica, while the mutator waits: GCFLIP_DONE. Its fields are left to steps, also beside the mutator, but
- * those of raw objects are copied too. GCFLIP_NOT_YET if the collector does not hold the mutator. The call does not allocate. Its time grows with
+/* Copies the objects of all roots, those that have no replica yet, while the mutator waits: GCFLIP_DONE. Their fields are left to steps, also beside the
+ * mutator, but those of raw objects are copied too. GCFLIP_NOT_YET if the collector does not hold the mutator. The call does not allocate. Its time grows with
  * the number of roots, and with the fields of raw objects to which they refer. */
 uint32_t gcflip_beside_place_roots(gcflip_collector *collector);
 

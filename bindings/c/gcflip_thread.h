@@ -5,8 +5,9 @@
  * gcflip_thread_safepoint. A program that makes none is never stopped, and then no collection ends.
  *
  * A collection begins by the policy of gcflip_pace in gcflip_heap.h, whose members `factor` and `least` count here. If the mutator then allocates
- * faster than the collector copies, its safepoints wait for the collector. So the heap is found full only if live objects leave too little room, or
- * if the program allocates much between two safepoints: more than an eighth of the words that were free when the collection began. */
+ * faster than the collector copies, its safepoints wait for the collector. Between two of them the program can allocate an eighth of the
+ * words that were free when the collection began. So it finds the heap full only if it allocates more there, or if live objects leave too little
+ * room. */
 #ifndef GCFLIP_THREAD_H
 #define GCFLIP_THREAD_H
 
@@ -24,17 +25,17 @@ typedef struct gcflip_thread gcflip_thread;
 typedef struct gcflip_thread_counts {
     uint64_t flips;        /* the flips that were made */
     uint64_t failed;       /* the flips for which memory ran out */
-    uint64_t stops;        /* the safepoints at which the mutator stopped */
+    uint64_t stops;        /* how often the mutator stopped for the collector */
     uint64_t most_stops;   /* the stops of the flip that took most */
-    uint64_t throttled;    /* the safepoints that waited until the collector had caught up, or had flipped */
+    uint64_t throttled;    /* the safepoints that waited until the collector had caught up or flipped */
     uint64_t waited;       /* the time that the mutator waited at safepoints, together */
     uint64_t longest_wait; /* the longest wait of a safepoint */
 } gcflip_thread_counts;
 
 /* Opens a heap of `size` words, at least 1, with at most 1048576 extra roots, and starts its collector's thread: GCFLIP_DONE. Of the pace, `factor` and
- * `least` count: a collection begins where the words in use are at least `factor` hundredths of those that the last flip left, and at least `least`,
- * or where half of the room that the last flip left is used up. gcflip_pace_default fits most programs. A factor below 100 or above 10000 is out of
- * range. If an allocation or the start of the thread fails, it returns GCFLIP_NO_MEMORY. It writes NULL if it does not return GCFLIP_DONE. */
+ * `least` count. A collection begins where the words in use are at least `factor` hundredths of those that the last flip left, and at least `least`.
+ * It also begins where half of the room that the last flip left is used up. gcflip_pace_default fits most programs. A factor below 100 or above 10000
+ * is out of range. If an allocation or the start of the thread fails, it returns GCFLIP_NO_MEMORY. It writes NULL if it does not return GCFLIP_DONE. */
 uint32_t gcflip_thread_open(gcflip_thread **thread, uint32_t size, uint32_t extra_roots, const gcflip_pace *pace);
 
 /* Returns the handle for commands. Safepoints are made by gcflip_thread_safepoint alone. */

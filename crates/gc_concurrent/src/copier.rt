@@ -307,7 +307,7 @@ impl Copier {
         Work::Step
     }
 
-    // Fills the raw replica that was placed last.
+    // Fills the raw replica that was placed last. The collector remembers no more than one.
     fn fill_up(&mut self)
         requires clear { self.old.has_wanted ≡ false }
         ensures settled { (self.new.has_wanted ≡ false) × (self.new.fill_left ≡ 0) }

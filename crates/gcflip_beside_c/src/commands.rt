@@ -12,7 +12,7 @@ ghost use Rattle.gcflip_beside_c.specs.Standing.{standing, runs, cells_at};
 
 use crate::answer::{CLOSED, OUT_OF_RANGE, PARKED};
 use crate::end::End;
-use crate::guards::{in_range, running};
+use crate::guards::{in_range, lent};
 use crate::handle::GcflipEnd;
 use gc_concurrent::Commander;
 use gc_graph::Number;
@@ -33,7 +33,11 @@ pub extern "C" fn gcflip_beside_new(mutator: &mut GcflipEnd, d: u32, kind: u32, 
     ensures memory { result ≢ no_memory }
     ensures cells { cells_at mutator.new.end ≡ cells_at mutator.old.end }
 {
-    let runner = running!(mutator);
+    let runner = match lent!(mutator) {
+        End::Running(runner) => runner,
+        End::Parked(_) => return PARKED,
+        _ => return CLOSED,
+    };
     in_range!(runner.commander, d);
     if kind > 255 || count > 65535 {
         return OUT_OF_RANGE;
@@ -54,7 +58,11 @@ pub extern "C" fn gcflip_beside_new_raw(
     ensures memory { result ≢ no_memory }
     ensures cells { cells_at mutator.new.end ≡ cells_at mutator.old.end }
 {
-    let runner = running!(mutator);
+    let runner = match lent!(mutator) {
+        End::Running(runner) => runner,
+        End::Parked(_) => return PARKED,
+        _ => return CLOSED,
+    };
     in_range!(runner.commander, d);
     if kind > 255 || count > 65535 {
         return OUT_OF_RANGE;
@@ -69,7 +77,11 @@ pub extern "C" fn gcflip_beside_set_number(mutator: &mut GcflipEnd, d: u32, n: u
     ensures memory { result ≢ no_memory }
     ensures cells { cells_at mutator.new.end ≡ cells_at mutator.old.end }
 {
-    let runner = running!(mutator);
+    let runner = match lent!(mutator) {
+        End::Running(runner) => runner,
+        End::Parked(_) => return PARKED,
+        _ => return CLOSED,
+    };
     in_range!(runner.commander, d);
     let Some(number) = Number::new(n) else {
         return OUT_OF_RANGE;
@@ -84,7 +96,11 @@ pub extern "C" fn gcflip_beside_set_nil(mutator: &mut GcflipEnd, d: u32) -> u32
     ensures memory { result ≢ no_memory }
     ensures cells { cells_at mutator.new.end ≡ cells_at mutator.old.end }
 {
-    let runner = running!(mutator);
+    let runner = match lent!(mutator) {
+        End::Running(runner) => runner,
+        End::Parked(_) => return PARKED,
+        _ => return CLOSED,
+    };
     in_range!(runner.commander, d);
     of_reply(&runner.commander.nil_root(d))
 }
@@ -97,7 +113,11 @@ pub extern "C" fn gcflip_beside_copy(mutator: &mut GcflipEnd, d: u32, s: u32) ->
     ensures memory { result ≢ no_memory }
     ensures cells { cells_at mutator.new.end ≡ cells_at mutator.old.end }
 {
-    let runner = running!(mutator);
+    let runner = match lent!(mutator) {
+        End::Running(runner) => runner,
+        End::Parked(_) => return PARKED,
+        _ => return CLOSED,
+    };
     in_range!(runner.commander, d);
     in_range!(runner.commander, s);
     of_reply(&runner.commander.copy_root(d, s))
@@ -119,7 +139,11 @@ pub extern "C" fn gcflip_beside_get(
     ensures memory { result ≢ no_memory }
     ensures cells { cells_at mutator.new.end ≡ cells_at mutator.old.end }
 {
-    let runner = running!(mutator);
+    let runner = match lent!(mutator) {
+        End::Running(runner) => runner,
+        End::Parked(_) => return PARKED,
+        _ => return CLOSED,
+    };
     in_range!(runner.commander, d);
     in_range!(runner.commander, s);
     of_got(&runner.commander.get_root(d, s, field(i)), number)
@@ -133,7 +157,11 @@ pub extern "C" fn gcflip_beside_put(mutator: &mut GcflipEnd, s: u32, i: u32, t: 
         (standing mutator.old.end) (standing mutator.new.end) result }
     ensures cells { cells_at mutator.new.end ≡ cells_at mutator.old.end }
 {
-    let runner = running!(mutator);
+    let runner = match lent!(mutator) {
+        End::Running(runner) => runner,
+        End::Parked(_) => return PARKED,
+        _ => return CLOSED,
+    };
     in_range!(runner.commander, s);
     in_range!(runner.commander, t);
     of_result(runner.commander.put_root(s, field(i), t))
@@ -177,7 +205,11 @@ pub extern "C" fn gcflip_beside_look(mutator: &mut GcflipEnd, s: u32, view: &mut
     ensures memory { result ≢ no_memory }
     ensures cells { cells_at mutator.new.end ≡ cells_at mutator.old.end }
 {
-    let runner = running!(mutator);
+    let runner = match lent!(mutator) {
+        End::Running(runner) => runner,
+        End::Parked(_) => return PARKED,
+        _ => return CLOSED,
+    };
     in_range!(runner.commander, s);
     of_look(&runner.commander.look_root(s), view)
 }

@@ -1,7 +1,7 @@
 //! One end of a heap, at each of its stages.
 
 ghost use Rattle.std.specs.Prelude.{MatchBool};
-ghost use Rattle.gcflip_beside_c.specs.Standing.{standing_of, IsRunning, IsParked, IsMutator, IsCollector};
+ghost use Rattle.gcflip_beside_c.specs.Standing.{standing_of, IsMutator, IsCollector};
 
 use gc_concurrent::{Asking, Collector, Holding, Runner, Waiting};
 
@@ -17,20 +17,6 @@ pub enum End {
 }
 
 impl End {
-    /// Returns whether this is a mutator that runs.
-    pub(crate) fn is_running(&self) -> bool
-        ensures { MatchBool result (IsRunning (standing_of self.now)) (¬ IsRunning (standing_of self.now)) }
-    {
-        matches!(self, End::Running(_))
-    }
-
-    /// Returns whether this is a mutator that has stopped.
-    pub(crate) fn is_parked(&self) -> bool
-        ensures { MatchBool result (IsParked (standing_of self.now)) (¬ IsParked (standing_of self.now)) }
-    {
-        matches!(self, End::Parked(_))
-    }
-
     /// Returns whether this is a mutator.
     pub(crate) fn is_mutator(&self) -> bool
         ensures { MatchBool result (IsMutator (standing_of self.now)) (¬ IsMutator (standing_of self.now)) }

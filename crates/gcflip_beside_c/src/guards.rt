@@ -10,17 +10,6 @@ macro_rules! lent {
     }};
 }
 
-/// Lends the mutator of a handle, which runs. An export also returns `PARKED` if the mutator has stopped, and `CLOSED` if there is none.
-macro_rules! running {
-    ($handle:ident) => {{
-        match $crate::guards::lent!($handle) {
-            $crate::end::End::Running(runner) => runner,
-            $crate::end::End::Parked(_) => return $crate::answer::PARKED,
-            _ => return $crate::answer::CLOSED,
-        }
-    }};
-}
-
 /// An export returns `OUT_OF_RANGE` if the mutator has no root at this place.
 macro_rules! in_range {
     ($commander:expr, $place:ident) => {{
@@ -32,4 +21,3 @@ macro_rules! in_range {
 
 pub(crate) use in_range;
 pub(crate) use lent;
-pub(crate) use running;
