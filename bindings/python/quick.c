@@ -19,7 +19,7 @@
 #define CALLS(X)                                                                                                                               \
     X(heap_new_object) X(heap_new_raw) X(heap_set_number) X(heap_set_nil) X(heap_move) X(heap_root_load) X(heap_root_store) X(heap_get) X(heap_put) \
     X(heap_put_number) X(heap_put_nil) X(heap_new_pair) X(heap_same) X(heap_look) X(new) X(new_raw) X(new_pair) X(gather) X(spread) \
-    X(set_number) X(copy) X(get) X(put) X(same) X(look)
+    X(set_number) X(copy) X(get) X(put) X(put_sure) X(fill) X(copy_fields) X(same) X(look)
 
 #define POINTER(name) __typeof__(gcflip_##name) *name;
 static struct {
@@ -30,7 +30,7 @@ static struct {
 
 #define FUNCTIONS(X)                                                                                                                                  \
     X(new) X(raw) X(num) X(nil) X(move) X(load) X(store) X(get) X(put) X(put_number) X(put_nil) X(cons) X(same) X(look) X(new_root) X(new_raw_root) \
-    X(new_pair_root) X(gather) X(spread) X(set_number) X(copy_root) X(get_root) X(put_root) X(is_same) X(look_root)
+    X(new_pair_root) X(gather) X(spread) X(set_number) X(copy_root) X(get_root) X(put_root) X(put_sure) X(fill) X(copy_fields_root) X(is_same) X(look_root)
 
 #define NUMBERED(name) AT_##name,
 enum { FUNCTIONS(NUMBERED) FUNCTION_COUNT };
@@ -221,6 +221,9 @@ METHOD(set_number, NONE_AFTER(GCFLIP_DONE, calls.set_number(c->heap, n[0], n[1])
 METHOD(copy_root, NONE_AFTER(GCFLIP_DONE, calls.copy(c->heap, n[0], n[1])), WORD, WORD)
 METHOD(get_root, VALUE_OF(calls.get(c->heap, n[0], n[1], n[2], &view.number), calls.look(c->heap, n[0], &view)), WORD, WORD, WORD)
 METHOD(put_root, NONE_AFTER(GCFLIP_DONE, calls.put(c->heap, n[0], n[1], n[2], n[3])), WORD, WORD, WORD, WORD)
+METHOD(put_sure, NONE_AFTER(GCFLIP_DONE, calls.put_sure(c->heap, n[0], n[1], n[2], n[3])), WORD, WORD, WORD, WORD)
+METHOD(fill, NONE_AFTER(GCFLIP_DONE, calls.fill(c->heap, n[0], n[1], n[2], n[3], n[4])), WORD, WORD, WORD, WORD, WORD)
+METHOD(copy_fields_root, NONE_AFTER(GCFLIP_DONE, calls.copy_fields(c->heap, n[0], n[1], n[2], n[3], n[4], n[5])), WORD, WORD, WORD, WORD, WORD, WORD)
 METHOD(is_same, TRUTH_OF(calls.same(c->heap, n[0], n[1])), WORD, WORD)
 METHOD(look_root, VALUE_OF(calls.look(c->heap, n[0], &view), GCFLIP_OBJECT), WORD)
 
@@ -230,7 +233,7 @@ METHOD(look_root, VALUE_OF(calls.look(c->heap, n[0], &view), GCFLIP_OBJECT), WOR
 static PyMethodDef of_mutators[] = {DEFINED(new), DEFINED(raw), DEFINED(num), DEFINED(nil), DEFINED(move), DEFINED(load), DEFINED(store), DEFINED(get), DEFINED(put),
                                     DEFINED(put_number), DEFINED(put_nil), DEFINED(cons), DEFINED(same), DEFINED(look), LAST};
 static PyMethodDef of_heaps[] = {DEFINED(new_root), DEFINED(new_raw_root), DEFINED(new_pair_root), DEFINED(gather), DEFINED(spread), DEFINED(set_number), DEFINED(copy_root),
-                                 DEFINED(get_root), DEFINED(put_root), DEFINED(is_same), DEFINED(look_root), LAST};
+                                 DEFINED(get_root), DEFINED(put_root), DEFINED(put_sure), DEFINED(fill), DEFINED(copy_fields_root), DEFINED(is_same), DEFINED(look_root), LAST};
 static PyMethodDef of_callers[] = {{"_bind", bind, METH_VARARGS, "_bind(owner, address, flag, mutator): names the handle, and what says that it is in use."}, LAST};
 
 /* ---- The module */
