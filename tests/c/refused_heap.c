@@ -307,7 +307,7 @@ static void read_all(void)
     EXPECT(gcflip_heap_raw_read(&heap, 0, 2, 0, numbers, COUNT(numbers)) == GCFLIP_DONE);
     EXPECT(gcflip_heap_address(&heap, 0, 2, &address) == GCFLIP_DONE);
     EXPECT(gcflip_address(&heap, 18, &address) == GCFLIP_DONE);
-    EXPECT(gcflip_object_at(&heap, address, &view) == GCFLIP_RAW_OBJECT);
+    EXPECT(gcflip_object_at(&heap, address, &view) == GCFLIP_RAW_OBJECT && gcflip_field_at(&heap, address, 0, &view) == GCFLIP_NUMBER);
     EXPECT(gcflip_heap_moved(&heap, address, &address) == GCFLIP_OUT_OF_RANGE && gcflip_moved(&heap, address, &address) == GCFLIP_OUT_OF_RANGE);
     EXPECT(gcflip_release(&heap) == GCFLIP_BUSY && gcflip_refer(&heap, 18, address) == GCFLIP_DONE);
     EXPECT(gcflip_heap_pace(&heap, &pace) == GCFLIP_DONE);
