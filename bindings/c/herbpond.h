@@ -432,6 +432,12 @@ static inline hp_value hp_field(hp *h, hp_root s, uint32_t i)
     return hp_seen(answer, &view);
 }
 
+/* Writes the value of t into field i of s. Does not fail for lack of memory. */
+static inline void hp_put(hp *h, hp_root s, uint32_t i, hp_root t)
+{
+    hp_answered(h, gcflip_put_sure(&h->heap, 0, hp_operand(h, s, "hp_put"), i, hp_operand(h, t, "hp_put")), "hp_put");
+}
+
 /* Gives the open collection up if a write was answered by GCFLIP_NO_MEMORY, because its log could not grow. Returns whether it did so: the write
  * then needs no memory. */
 static inline bool hp_gave_up(hp *h, uint32_t answer)
@@ -440,17 +446,6 @@ static inline bool hp_gave_up(hp *h, uint32_t answer)
         return false;
     hp_answered(h, gcflip_heap_step_give_up(&h->heap), "hp_gave_up");
     return true;
-}
-
-/* Writes the value of t into field i of s. Does not fail for lack of memory. */
-static inline void hp_put(hp *h, hp_root s, uint32_t i, hp_root t)
-{
-    uint32_t answer;
-
-    do
-        answer = gcflip_put(&h->heap, 0, hp_operand(h, s, "hp_put"), i, hp_operand(h, t, "hp_put"));
-    while (hp_gave_up(h, answer));
-    hp_answered(h, answer, "hp_put");
 }
 
 /* Writes a plain number below 2^63 into field i of s, which may be raw. Does not fail for lack of memory. */
