@@ -522,15 +522,10 @@ static inline bool hp_gave_up(hp *h, uint32_t answer)
     return true;
 }
 
-/* Writes the value of t into field i of s. Both may be the layer's own registers. */
+/* Writes the value of t into field i of s. Both may be the layer's own registers. Does not fail for lack of memory. */
 static inline void hp_store(hp *h, hp_root s, uint32_t i, hp_root t, const char *call)
 {
-    uint32_t answer;
-
-    do
-        answer = gcflip_put(&h->heap, 0, s, i, t);
-    while (hp_gave_up(h, answer));
-    hp_answered(h, answer, call);
+    hp_answered(h, gcflip_put_sure(&h->heap, 0, s, i, t), call);
 }
 
 /* Writes the value of t into field i of s. Does not fail for lack of memory. */

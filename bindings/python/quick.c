@@ -19,7 +19,7 @@
 #define CALLS(X)                                                                                                                               \
     X(heap_new_object) X(heap_new_raw) X(heap_set_number) X(heap_set_nil) X(heap_move) X(heap_root_load) X(heap_root_store) X(heap_get) X(heap_put) \
     X(heap_put_number) X(heap_put_nil) X(heap_new_pair) X(heap_same) X(heap_look) X(new) X(new_raw) X(new_pair) X(gather) X(spread) \
-    X(set_number) X(set_nil) X(copy) X(get) X(peek) X(put) X(put_number) X(put_nil) X(same) X(look)
+    X(set_number) X(set_nil) X(copy) X(get) X(peek) X(put) X(put_sure) X(fill) X(copy_fields) X(put_number) X(put_nil) X(same) X(look)
 
 #define POINTER(name) __typeof__(gcflip_##name) *name;
 static struct {
@@ -32,7 +32,7 @@ static struct {
     X(Mutator, new) X(Mutator, new_raw) X(Mutator, set_number) X(Mutator, set_nil) X(Mutator, copy) X(Mutator, load) X(Mutator, store) X(Mutator, get) \
     X(Mutator, put) X(Mutator, put_number) X(Mutator, put_nil) X(Mutator, new_pair) X(Mutator, is_same) X(Mutator, look) X(Heap, new) X(Heap, new_raw) \
     X(Heap, new_pair) X(Heap, gather) X(Heap, spread) X(Heap, set_number) X(Heap, set_nil) X(Heap, copy) X(Heap, get) X(Heap, peek) X(Heap, put) \
-    X(Heap, put_number) X(Heap, put_nil) X(Heap, is_same) X(Heap, look)
+    X(Heap, put_sure) X(Heap, fill) X(Heap, copy_fields) X(Heap, put_number) X(Heap, put_nil) X(Heap, is_same) X(Heap, look)
 
 #define NUMBERED(of, name) AT_##of##_##name,
 enum { FUNCTIONS(NUMBERED) FUNCTION_COUNT };
@@ -225,6 +225,9 @@ METHOD(Heap, copy, NONE_AFTER(GCFLIP_DONE, calls.copy(c->heap, n[0], n[1])), WOR
 METHOD(Heap, get, VALUE_OF(calls.get(c->heap, n[0], n[1], n[2], &view.number), calls.look(c->heap, n[0], &view)), WORD, WORD, WORD)
 METHOD(Heap, peek, VALUE_OF(calls.peek(c->heap, n[0], n[1], &view), GCFLIP_OBJECT), WORD, WORD)
 METHOD(Heap, put, NONE_AFTER(GCFLIP_DONE, calls.put(c->heap, n[0], n[1], n[2], n[3])), WORD, WORD, WORD, WORD)
+METHOD(Heap, put_sure, NONE_AFTER(GCFLIP_DONE, calls.put_sure(c->heap, n[0], n[1], n[2], n[3])), WORD, WORD, WORD, WORD)
+METHOD(Heap, fill, NONE_AFTER(GCFLIP_DONE, calls.fill(c->heap, n[0], n[1], n[2], n[3], n[4])), WORD, WORD, WORD, WORD, WORD)
+METHOD(Heap, copy_fields, NONE_AFTER(GCFLIP_DONE, calls.copy_fields(c->heap, n[0], n[1], n[2], n[3], n[4], n[5])), WORD, WORD, WORD, WORD, WORD, WORD)
 METHOD(Heap, put_number, NONE_AFTER(GCFLIP_DONE, calls.put_number(c->heap, n[0], n[1], n[2], n[3])), WORD, WORD, WORD, LONG)
 METHOD(Heap, put_nil, NONE_AFTER(GCFLIP_DONE, calls.put_nil(c->heap, n[0], n[1], n[2])), WORD, WORD, WORD)
 METHOD(Heap, is_same, TRUTH_OF(calls.same(c->heap, n[0], n[1])), WORD, WORD)
@@ -237,7 +240,7 @@ static PyMethodDef of_mutators[] = {DEFINED(Mutator, new), DEFINED(Mutator, new_
                                     DEFINED(Mutator, load), DEFINED(Mutator, store), DEFINED(Mutator, get), DEFINED(Mutator, put), DEFINED(Mutator, put_number),
                                     DEFINED(Mutator, put_nil), DEFINED(Mutator, new_pair), DEFINED(Mutator, is_same), DEFINED(Mutator, look), LAST};
 static PyMethodDef of_heaps[] = {DEFINED(Heap, new), DEFINED(Heap, new_raw), DEFINED(Heap, new_pair), DEFINED(Heap, gather), DEFINED(Heap, spread), DEFINED(Heap, set_number),
-                                 DEFINED(Heap, set_nil), DEFINED(Heap, copy), DEFINED(Heap, get), DEFINED(Heap, peek), DEFINED(Heap, put), DEFINED(Heap, put_number),
+                                 DEFINED(Heap, set_nil), DEFINED(Heap, copy), DEFINED(Heap, get), DEFINED(Heap, peek), DEFINED(Heap, put), DEFINED(Heap, put_sure), DEFINED(Heap, fill), DEFINED(Heap, copy_fields), DEFINED(Heap, put_number),
                                  DEFINED(Heap, put_nil), DEFINED(Heap, is_same), DEFINED(Heap, look), LAST};
 static PyMethodDef of_callers[] = {{"_bind", bind, METH_VARARGS, "_bind(owner, address, flag, mutator): names the handle, and what says that it is in use."}, LAST};
 

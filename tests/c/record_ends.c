@@ -48,6 +48,7 @@ static void open_heaps(void)
 static void command_by_places(int call)
 {
     static const uint32_t places[] = {16, 18};
+    static const gcflip_field sources[] = {{GCFLIP_FIELD_ROOT, 16}, {GCFLIP_FIELD_NUMBER, 7}};
     uint64_t number = 77;
     gcflip_view view = {77, 77, 77};
     if (call == 0)
@@ -82,9 +83,17 @@ static void command_by_places(int call)
         EXPECT(gcflip_gather(&heap, 0, 0, 1, 16, 3) == GCFLIP_MADE);
     if (call == 15)
         EXPECT(gcflip_spread(&heap, 0, 18, 0) == GCFLIP_DONE);
+    if (call == 16)
+        EXPECT(gcflip_new_with(&heap, 0, 0, 1, sources, 2) == GCFLIP_MADE);
+    if (call == 17)
+        EXPECT(gcflip_put_sure(&heap, 0, 18, 0, 16) == GCFLIP_NO_FIELD);
+    if (call == 18)
+        EXPECT(gcflip_fill(&heap, 0, 18, 0, 0, 16) == GCFLIP_DONE);
+    if (call == 19)
+        EXPECT(gcflip_copy_fields(&heap, 0, 18, 0, 16, 0, 0) == GCFLIP_NO_OBJECT);
 }
 
-enum { NAMING_ROOTS = 6, WITHOUT_LINES = 7, BY_PLACES = 16 };
+enum { NAMING_ROOTS = 6, WITHOUT_LINES = 7, BY_PLACES = 20 };
 
 /* Opens a heap with extra roots, and names one by each call in turn. Then it makes a reference of an address, and last it names roots by their
  * places. */
@@ -205,6 +214,7 @@ static void make_steps(bool is_recorded)
 /* Makes the calls that name an extra root or a root by its place, and a reference by address. None of them has a line. */
 static void make_calls_without_lines(void)
 {
+    static const gcflip_field mixed[] = {{GCFLIP_FIELD_ROOT, 34}, {GCFLIP_FIELD_NUMBER, 5}};
     static const uint32_t places[] = {33, 34};
     gcflip_pace pace = gcflip_pace_default();
     uint64_t number = 0;
@@ -232,6 +242,10 @@ static void make_calls_without_lines(void)
     REPLIES(gcflip_new_raw(&heap, 35, 1, 1), GCFLIP_MADE, false);
     REPLIES(gcflip_new_pair(&heap, 0, 35, 1, 33, 34), GCFLIP_MADE, false);
     REPLIES(gcflip_new_from(&heap, 0, 35, 1, places, COUNT(places)), GCFLIP_MADE, false);
+    REPLIES(gcflip_new_with(&heap, 0, 35, 1, mixed, COUNT(mixed)), GCFLIP_MADE, false);
+    REPLIES(gcflip_put_sure(&heap, 0, 35, 0, 34), GCFLIP_DONE, false);
+    REPLIES(gcflip_copy_fields(&heap, 0, 35, 1, 35, 0, 1), GCFLIP_DONE, false);
+    REPLIES(gcflip_fill(&heap, 0, 35, 0, 2, 33), GCFLIP_DONE, false);
     REPLIES(gcflip_gather(&heap, 0, 35, 1, 32, 3), GCFLIP_MADE, false);
     REPLIES(gcflip_spread(&heap, 32, 35, 3), GCFLIP_DONE, false);
     REPLIES(gcflip_refer(&heap, 33, 1), GCFLIP_DONE, false);

@@ -69,6 +69,18 @@ static void set_up_raw_open(void)
     EXPECT(gcflip_heap_step_begin(&heap) == GCFLIP_BEGUN);
 }
 
+static void set_up_fill(void)
+{
+    set_up_raw();
+    EXPECT(gcflip_set_number(&heap, 17, 5) == GCFLIP_DONE);
+}
+
+static void set_up_fill_open(void)
+{
+    set_up_fill();
+    EXPECT(gcflip_heap_step_begin(&heap) == GCFLIP_BEGUN);
+}
+
 /* A log whose segment is full, so that the next entry takes another segment, and a row of segments. */
 static void set_up_full_log(void)
 {
@@ -91,6 +103,13 @@ static uint32_t put(void) { return gcflip_heap_put(&heap, 0, 0, 0, 0); }
 static uint32_t put_at(void) { return gcflip_put(&heap, 0, 16, 0, 16); }
 static uint32_t put_number_at(void) { return gcflip_put_number(&heap, 0, 16, 0, 5); }
 static uint32_t put_nil_at(void) { return gcflip_put_nil(&heap, 0, 16, 0); }
+static uint32_t new_with_at(void)
+{
+    static const gcflip_field fields[40] = {{GCFLIP_FIELD_NUMBER, 5}, {GCFLIP_FIELD_ROOT, 16}};
+    return gcflip_new_with(&heap, 0, 17, 1, fields, 40);
+}
+static uint32_t fill(void) { return gcflip_fill(&heap, 0, 18, 0, 40, 17); }
+static uint32_t copy_fields_at(void) { return gcflip_copy_fields(&heap, 0, 18, 0, 18, 20, 20); }
 static uint32_t pair_at(void) { return gcflip_new_pair(&heap, 0, 17, 1, 16, 16); }
 static uint32_t gather(void) { return gcflip_gather(&heap, 0, 17, 1, 0, 30); }
 static uint32_t new_from_at(void)
@@ -205,6 +224,24 @@ static void work_before_a_failure(void)
     free_all();
 }
 
+/* Checks that a put that cannot lack memory gives the collection up where the log cannot grow, and only there, and that it writes the field. */
+static void sure_puts(void)
+{
+    gcflip_view view = {77, 77, 77};
+    gcflip_counts counts;
+    for (int n = 0; n < 2; n++) {
+        set_up_open();
+        EXPECT(gcflip_peek(&heap, 16, 0, &view) == GCFLIP_NIL);
+        fail_allocation(n);
+        EXPECT(gcflip_put_sure(&heap, 0, 16, 0, 16) == GCFLIP_DONE && has_failed() == (n == 1));
+        fail_allocation(0);
+        EXPECT(gcflip_heap_counts(&heap, &counts) == GCFLIP_DONE && counts.is_open == (n == 0) && counts.logged == (n == 0));
+        EXPECT(gcflip_peek(&heap, 16, 0, &view) == GCFLIP_OBJECT);
+        EXPECT(gcflip_heap_work(&heap, 1000, &work) == GCFLIP_DONE && work.last == GCFLIP_FLIPPED && work.pairs == 1);
+        free_all();
+    }
+}
+
 /* Checks that paced work owes no step because of a failure, and that a call whose first step fails leaves what the pace owes. */
 static void paced_work_before_a_failure(void)
 {
@@ -270,7 +307,7 @@ static void read_all(void)
     EXPECT(gcflip_heap_raw_read(&heap, 0, 2, 0, numbers, COUNT(numbers)) == GCFLIP_DONE);
     EXPECT(gcflip_heap_address(&heap, 0, 2, &address) == GCFLIP_DONE);
     EXPECT(gcflip_address(&heap, 18, &address) == GCFLIP_DONE);
-    EXPECT(gcflip_object_at(&heap, address, &view) == GCFLIP_RAW_OBJECT);
+    EXPECT(gcflip_object_at(&heap, address, &view) == GCFLIP_RAW_OBJECT && gcflip_field_at(&heap, address, 0, &view) == GCFLIP_NUMBER);
     EXPECT(gcflip_heap_moved(&heap, address, &address) == GCFLIP_OUT_OF_RANGE && gcflip_moved(&heap, address, &address) == GCFLIP_OUT_OF_RANGE);
     EXPECT(gcflip_release(&heap) == GCFLIP_BUSY && gcflip_refer(&heap, 18, address) == GCFLIP_DONE);
     EXPECT(gcflip_heap_pace(&heap, &pace) == GCFLIP_DONE);
@@ -417,6 +454,13 @@ static void allocations(int tables, int flipping)
     EXPECT(failures(set_up_full_log, pair_at) == 2);
     EXPECT(failures(set_up, new_from_at) == 0);
     EXPECT(failures(set_up_open, new_from_at) == 1);
+    EXPECT(failures(set_up, new_with_at) == 0);
+    EXPECT(failures(set_up_open, new_with_at) == 1);
+    EXPECT(failures(set_up_fill, fill) == 0);
+    EXPECT(failures(set_up_fill_open, fill) == 1);
+    EXPECT(failures(set_up_raw, copy_fields_at) == 0);
+    EXPECT(failures(set_up_raw_open, copy_fields_at) == 1);
+    sure_puts();
     EXPECT(failures(set_up, gather) == 0);
     EXPECT(failures(set_up_open, gather) == 1);
     EXPECT(failures(set_up, cons) == 0);

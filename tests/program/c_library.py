@@ -26,7 +26,7 @@ from .harness import Outcome, addresses_numbered, difference, file_of, run, skip
 from .traces import PLAYED, trace_and_replies
 
 # Programs that end with status 0 and print nothing.
-PROGRAMS = ["answers.c", "check.c", "refused_check.c", "check_cpp.cpp", "heap.c", "extra_roots.c", "looks.c", "places.c", "rows.c", "pace.c", "reserve.c", "refused_heap.c", "checking.c", "damaged.c", "rooms.c", "heap_cpp.cpp", "churn.c", "threads.c",
+PROGRAMS = ["answers.c", "check.c", "refused_check.c", "check_cpp.cpp", "heap.c", "extra_roots.c", "looks.c", "places.c", "rows.c", "fields.c", "pace.c", "reserve.c", "refused_heap.c", "checking.c", "damaged.c", "rooms.c", "heap_cpp.cpp", "churn.c", "threads.c",
             "images.c", "explanations.c", "flipped_bits.c", "adapters.c", "nursery.c", "self_tests.c", "herbpond.c",
             "herbpond_weak.c", "herbpond_arrays.c", "herbpond_cpp.cpp"]
 

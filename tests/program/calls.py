@@ -59,7 +59,7 @@ def refused_in(text):
     functions = {name: calls_in(body)[0] for name, body in re.findall(r"(?ms)^static uint32_t (\w+)\(void\)\s*\{(.*?)\}$", text)}
     tried = re.findall(r"failures\((\w+), (\w+)\) == ([\w +]+)\)", text)
     only_open = {functions[name] for _, name, count in tried if count == "0"}
-    rest = "".join(re.findall(r"(?ms)^static void (?:draw|move_roots|command_by_places|read_all|calls_that_do_not_allocate|starved|free_all)\(.*?^\}$", text))
+    rest = "".join(re.findall(r"(?ms)^static void (?:draw|move_roots|command_by_places|read_all|calls_that_do_not_allocate|sure_puts|starved|free_all)\(.*?^\}$", text))
     always = {functions[name] for _, name, _ in tried} | {"gcflip_heap_open"}
     return always - only_open, only_open, set(calls_in(rest)) - always
 

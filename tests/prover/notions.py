@@ -41,13 +41,13 @@ call of a product reaches.
 PRODUCTS = ["the checker for C", "the heap for C", "the world", "the program"]
 # Calls for one purpose, with their product.
 PURPOSES = [("pairs inferred from two images, and paths", "gcflip_c", ["gcflip_infer", "gcflip_path"]),
-            ("fields copied at once", "gcflip_heap_c", ["gcflip_heap_copy_fields"]),
+            ("fields copied or filled at once", "gcflip_heap_c", ["gcflip_heap_copy_fields", "gcflip_copy_fields", "gcflip_fill"]),
             ("objects made and filled at once", "gcflip_heap_c", ["gcflip_heap_new_pair", "gcflip_heap_new_from", "gcflip_heap_put_number", "gcflip_heap_put_nil"]),
-            ("objects filled with numbers and slots mixed", "gcflip_heap_c", ["gcflip_heap_new_with"]),
+            ("objects filled with numbers and slots mixed", "gcflip_heap_c", ["gcflip_heap_new_with", "gcflip_new_with"]),
             ("several numbers of raw objects", "gcflip_heap_c", ["gcflip_heap_raw_read", "gcflip_heap_raw_write"]),
-            ("addresses, where objects went, and references by address", "gcflip_heap_c", ["gcflip_heap_address", "gcflip_heap_moved", "gcflip_heap_refer", "gcflip_address", "gcflip_moved", "gcflip_refer", "gcflip_object_at"]),
+            ("addresses, where objects went, and references by address", "gcflip_heap_c", ["gcflip_heap_address", "gcflip_heap_moved", "gcflip_heap_refer", "gcflip_address", "gcflip_moved", "gcflip_refer", "gcflip_object_at", "gcflip_field_at"]),
             ("extra roots and frames", "gcflip_heap_c", ["gcflip_heap_root_load", "gcflip_heap_root_store", "gcflip_heap_root_clear", "gcflip_heap_frame_push", "gcflip_heap_frame_pop", "gcflip_heap_frame_trim"]),
-            ("commands on roots by their places", "gcflip_heap_c", ["gcflip_new", "gcflip_set_number", "gcflip_set_nil", "gcflip_copy", "gcflip_get", "gcflip_peek", "gcflip_put", "gcflip_put_number", "gcflip_put_nil", "gcflip_same", "gcflip_look"]),
+            ("commands on roots by their places", "gcflip_heap_c", ["gcflip_new", "gcflip_set_number", "gcflip_set_nil", "gcflip_copy", "gcflip_get", "gcflip_peek", "gcflip_put", "gcflip_put_sure", "gcflip_put_number", "gcflip_put_nil", "gcflip_same", "gcflip_look"]),
             ("objects of several roots, and roots that take several fields", "gcflip_heap_c", ["gcflip_new_raw", "gcflip_new_pair", "gcflip_new_from", "gcflip_gather", "gcflip_spread"]),
             ("the pace", "gcflip_heap_c", ["gcflip_pace_due", "gcflip_heap_pace", "gcflip_heap_work_paced", "gcflip_reserve"]),
             ("whole collections, and memory that is given back", "gcflip_heap_c", ["gcflip_collect", "gcflip_release"]),

@@ -10,7 +10,8 @@ REPLIES = {gcflip.Full: "full", gcflip.NoObject: "no object", gcflip.NoField: "n
 # What the binding calls some of the calls.
 NAMES = {"root_load": "load", "root_store": "store", "raw": "new_raw", "num": "set_number", "nil": "set_nil", "move": "copy", "cons": "new_pair",
          "drop": "give_up"}
-PLACED = {"place_new": "new", "place_raw": "new_raw", "place_pair": "new_pair", "place_new_from": "new_from", "place_gather": "gather", "place_spread": "spread", "place_refer": "refer", "place_address": "address",
+PLACED = {"place_new": "new", "place_raw": "new_raw", "place_pair": "new_pair", "place_new_from": "new_from", "place_new_with": "new_with", "place_put_sure": "put_sure",
+          "place_fill": "fill", "place_copy_fields": "copy_fields", "place_gather": "gather", "place_spread": "spread", "place_refer": "refer", "place_address": "address",
           "place_num": "set_number", "place_nil": "set_nil", "place_copy": "copy", "place_get": "get", "place_peek": "peek",
           "place_put": "put", "place_put_number": "put_number", "place_put_nil": "put_nil", "place_same": "is_same", "place_look": "look"}
 DONE = {"new": "made", "raw": "made", "cons": "made", "num": "done", "nil": "done", "move": "done", "put": "done", "put_number": "done",
@@ -32,6 +33,11 @@ def worked(work):
     return "worked %d %d %d %s%s" % (work.steps, work.copied, work.looks, work.last.value if work.last else "done", flipped)
 
 
+def field_sources(numbers):
+    """Returns what two numbers for each field say. A record that says nothing known becomes a number that is too large."""
+    return [(None, value, Held(value))[holds] if holds < 3 else 1 << 63 for holds, value in zip(numbers[::2], numbers[1::2])]
+
+
 def of_mutator(heap, name, numbers):
     """Makes a mutator's call."""
     mutator = Mutator(heap, numbers[0])
@@ -43,8 +49,7 @@ def of_mutator(heap, name, numbers):
         mutator.new_from(*numbers[1:3], numbers[4:])
         return "made"
     if name == "new_with":
-        fields = [(None, value, Held(value))[holds] if holds < 3 else 1 << 63 for holds, value in zip(numbers[5::2], numbers[6::2])]
-        mutator.new_with(*numbers[1:4], fields)
+        mutator.new_with(*numbers[1:4], field_sources(numbers[5:]))
         return "made"
     if name == "raw_read":
         return " ".join(["read", *map(str, mutator.raw_read(*numbers[1:]))])
@@ -68,8 +73,10 @@ def by_places(heap, name, numbers):
         return "address %d" % call(*numbers)
     if name == "place_new_from":
         numbers[3:] = [numbers[3:]]
+    if name == "place_new_with":
+        numbers[3:] = [field_sources(numbers[3:])]
     assert call(*numbers) is None
-    return "made" if name in ("place_new", "place_raw", "place_pair", "place_new_from", "place_gather") else "done"
+    return "made" if name in ("place_new", "place_raw", "place_pair", "place_new_from", "place_new_with", "place_gather") else "done"
 
 
 def on_frame(heap, name, numbers):
@@ -135,6 +142,9 @@ def performed(heap, name, numbers):
         return on_frame(heap, name, numbers)
     if name == "object_at":
         return seen(heap.object_at(*numbers))
+    if name == "field_at":
+        value, at = heap.field_at(*numbers)
+        return ("at %d, " % at if at is not None else "") + seen(value)
     if name == "room":
         return "room %d" % heap.room()
     if name == "root_clear":

@@ -5,6 +5,7 @@ import unittest
 
 import gcflip
 from gcflip import Heap, Object, extra_place, own, place, shared
+from gcflip.heap import Held
 
 
 class CommandsByPlaces(unittest.TestCase):
@@ -100,6 +101,47 @@ class CommandsByPlaces(unittest.TestCase):
         heap.close()
         for call in (lambda: heap.new_raw(0, 7, 1), lambda: heap.new_pair(0, 0, 7, 0, 0), lambda: heap.new_from(0, 0, 7, []), lambda: heap.gather(0, 0, 7, 0, 1),
                      lambda: heap.spread(1, 0, 1)):
+            self.assertRaises(gcflip.Closed, call)
+
+    def test_fields_by_places(self):
+        heap = Heap(60, mutators=2, extra_roots=3)
+        self.addCleanup(heap.close)
+        first, other, last = 0, 32, 50
+        heap.set_number(last, 2 ** 63 - 1)
+        heap.new_with(1, first, 7, iter([Held(first), 5, None, Held(last)]))
+        self.assertEqual([heap.peek(first, i) for i in range(4)], [Object(7, 4), 5, None, 2 ** 63 - 1])
+        self.assertEqual(heap.look(last), 2 ** 63 - 1)
+        heap.new_with(0, other, 8, [1, 2, 3, 4])
+        heap.copy_fields(0, other, 1, other, 0, 2)
+        self.assertEqual([heap.peek(other, i) for i in range(4)], [1, 1, 1, 4])
+        heap.fill(0, other, 1, 3, last)
+        heap.put_sure(0, other, 0, first)
+        self.assertEqual([heap.peek(other, i) for i in range(4)], [Object(7, 4), 2 ** 63 - 1, 2 ** 63 - 1, 4])
+        found = [heap.field_at(at, i) for at, i in ((1, 0), (1, 1), (1, 2), (7, 0), (7, 3), (2, 0), (2 ** 32 - 1, 2 ** 32 - 1))]
+        self.assertEqual(found, [(Object(7, 4), 1), (5, None), (None, None), (Object(7, 4), 1), (4, None), (None, None), (None, None)])
+        self.assertRaises(gcflip.NoField, heap.field_at, 1, 4)
+        heap.new_raw(last, 9, 2)
+        for call in (lambda: heap.fill(0, last, 0, 1, first), lambda: heap.copy_fields(0, last, 0, first, 0, 2), lambda: heap.put_sure(0, last, 0, first)):
+            self.assertRaises(gcflip.NoNumber, call)
+        for call in (lambda: heap.fill(0, other, 0, 5, last), lambda: heap.copy_fields(0, other, 1, first, 1, 4), lambda: heap.put_sure(0, other, 4, last)):
+            self.assertRaises(gcflip.NoField, call)
+        for call in (lambda: heap.fill(0, 1, 0, 0, last), lambda: heap.copy_fields(0, 1, 0, first, 0, 0), lambda: heap.put_sure(0, 1, 0, last)):
+            self.assertRaises(gcflip.NoObject, call)
+        for call in (lambda: heap.new_with(0, 51, 7, []), lambda: heap.new_with(0, 1, 7, [Held(51)]), lambda: heap.new_with(0, 1, 7, [2 ** 63]),
+                     lambda: heap.new_with(2, 1, 7, []), lambda: heap.new_with(0, 1, 256, []), lambda: heap.new_with(0, 1, 7, [None] * 65536),
+                     lambda: heap.fill(0, 51, 0, 0, 0), lambda: heap.fill(0, first, 1, 0, 0), lambda: heap.fill(0, first, 0, 2 ** 32, 0), lambda: heap.fill(2, first, 0, 0, 0),
+                     lambda: heap.copy_fields(0, 51, 0, first, 0, 0), lambda: heap.copy_fields(2, first, 0, first, 0, 0), lambda: heap.put_sure(0, first, 0, 51),
+                     lambda: heap.put_sure(2, first, 0, first), lambda: heap.field_at(2 ** 32, 0)):
+            self.assertRaises(gcflip.OutOfRange, call)
+        self.assertRaises(gcflip.Full, heap.new_with, 0, 1, 7, [None] * 60)
+        heap.begin()
+        heap.fill(1, first, 0, 3, last)
+        heap.copy_fields(0, other, 0, first, 0, 2)
+        heap.put_sure(1, first, 0, last)
+        self.assertEqual((heap.log_length(0), heap.log_length(1)), (2, 4))
+        heap.close()
+        for call in (lambda: heap.new_with(0, 0, 7, []), lambda: heap.fill(0, 0, 0, 0, 0), lambda: heap.copy_fields(0, 0, 0, 0, 0, 0), lambda: heap.put_sure(0, 0, 0, 0),
+                     lambda: heap.field_at(1, 0)):
             self.assertRaises(gcflip.Closed, call)
 
     def test_room_is_reserved(self):

@@ -47,7 +47,7 @@ def refused_by_mypy(heap: Heap) -> None:
     length: int = heap.mutator(0).get(own(1), own(0), 0)  # wrong
     heap.mutators  # wrong
     heap.make(1, 2)["first"]  # wrong
-    heap.new_root("1", 1, 2)  # wrong
+    heap.new("1", 1, 2)  # wrong
     heap.mutator(0).num(0, None)  # wrong
     heap.make_raw(1)  # wrong
     heap.make(1, 2)[0] = "text"  # wrong

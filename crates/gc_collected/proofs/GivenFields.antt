@@ -1,20 +1,23 @@
 -- Fields that take numbers and the values of roots, in order: what is given, and what it leaves.
 use Rattle.std.proofs.lemmas.Grind.{common_steps}
-use Rattle.std.proofs.Common.{◌≡◌, inl, inr, ℕ, suc, ◌+◌, ◌<◌, ◌≤◌, List, [], ◌∷◌, ◌++◌, length, get_or, drop, is_some, Some, refl, ap, sym, ◌∙◌, subst, arith}
+use Rattle.std.proofs.Common.{◌≡◌, inl, inr, ℕ, suc, ◌+◌, ◌<◌, ◌≤◌, List, [], ◌∷◌, ◌++◌, length, get_or, drop, is_some, Option, Some, refl, ap, sym, ◌∙◌, subst, arith}
 use Rattle.std.specs.Prelude.{IsFalse}
-use Rattle.std.proofs.lemmas.List.{drop_all, drop_more}
+use Rattle.std.proofs.lemmas.List.{drop_all, drop_more, length-map}
 use Rattle.gc_graph.specs.Graph.{Value, Num, root}
 use Rattle.gc_graph.specs.declared.command.Op.TheVariants.{New, Put}
 use Rattle.gc_graph.specs.declared.reply.Reply.{Reply}
 use Rattle.gc_graph.specs.declared.reply.Reply.TheVariants as replies
 use Rattle.gc_words.specs.Image.{Block, header_at, header_of}
+use Rattle.gc_words.specs.Space.{end_of}
+use Rattle.gc_words.specs.Word.{value_of}
 use Rattle.gc_words.specs.declared.header.Header.{Header}
 use Rattle.gc_heap.specs.Filling.{TakesFields}
-use Rattle.gc_heap.specs.Heap.{HeapWords, IsHeap}
+use Rattle.gc_heap.specs.Heap.{HeapWords, IsHeap, graph_in}
 use Rattle.gc_heap.specs.Places.{root_at}
 use Rattle.gc_plan.specs.Members.{In}
 use Rattle.gc_plan.specs.State.{State}
 use Rattle.gc_plan.specs.Steps.{mutate}
+use Rattle.gc_plan.proofs.Public.{roots_counted}
 use Rattle.gc_copy.specs.Words.{CollectionWords}
 use Rattle.gc_collected.specs.Giving.{give_step, given, gives_step, new_given_step}
 use Rattle.gc_collected.specs.Values.{put_value_step}
@@ -22,6 +25,7 @@ use Rattle.gc_collected.specs.declared.giving.FieldValue.{FieldValue}
 use Rattle.gc_collected.specs.declared.giving.FieldValue.TheVariants as values
 use Rattle.gc_collected.specs.declared.known.KnownRoots.{KnownRoots}
 use Rattle.gc_collected.specs.Internal.Given.{PutsAll, field_given, fields_given, fields_put, given_at, given_from, puts_step}
+use Rattle.gc_collected.specs.Internal.CollectedHeap.{state_in}
 use Rattle.gc_collected.specs.Internal.KnownRoots.{KnowsRoots}
 use Rattle.gc_collected.specs.Internal.Together.{Logs}
 use Rattle.gc_collected.proofs.Copies.{fields_there}
@@ -65,6 +69,20 @@ new_header h d a len k heap takes met = (
   where
     same : takes.block.header ≡ k
     same = (let both : Some takes.block.header ≡ Some k = sym (ap header_of takes.found) ∙ met in cc)
+
+-- the new object is in its root, and its fields took these values
+pub record HasGiven (made last : HeapWords) (d a count : ℕ) (es : List (ℕ × Value)) : Type 0 where
+  pub puts : PutsAll made d es last
+  pub takes : TakesFields made d a count
+  pub within : d < length (graph_in made).roots
+
+pub has_given : (heap made last : HeapWords) (o : Option CollectionWords) (m d a kind count : ℕ) (reply : Reply) (es : List (ℕ × Value)) → mutate (state_in heap o) m (New (root_at d) kind count) ≡ (reply, state_in made o) → d < length heap.roots
+    → TakesFields made d (end_of heap.space) count → a ≡ end_of heap.space → PutsAll made d es last → HasGiven made last d a count es
+has_given heap made last o m d a kind count reply es said within takes at puts = record {
+  puts = puts;
+  takes = subst (λ x. TakesFields made d x count) (sym at) takes;
+  within = let n = length-map heap.roots value_of in let same = sym (ap (λ (x : Reply × State). length x.1.heap.graph.roots) said) ∙ roots_counted (state_in heap o) m (New (root_at d) kind count) in omega (arith, n, same, within);
+}
 
 -- ---- the fields that are written
 

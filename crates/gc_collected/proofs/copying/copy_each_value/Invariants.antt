@@ -1,4 +1,4 @@
--- The fields so far are copied, and copying the rest copies all.
+-- The fields so far have the other object's values, and copying the rest copies all.
 use Rattle.std.proofs.Common.{◌≡◌, Some, ◌+◌, ◌-◌}
 use Rattle.gc_graph.specs.declared.reply.Reply.TheVariants.{Done}
 use Rattle.gc_words.specs.Image.{header_at}

@@ -1,4 +1,4 @@
--- The heap copies alone; the fields are logged together, and then the monitor is told of all of them.
+-- The heap copies alone and through no root; the fields are logged together, and then the monitor is told of all of them.
 use Rattle.std.proofs.Common.{◌≡◌, ℕ, List, Some, None, ap, subst, sym, ◌∙◌, arith}
 use Rattle.std.specs.Prelude.{IfSome, IsFalse, Option}
 use Rattle.std.specs.Option.{option_map}

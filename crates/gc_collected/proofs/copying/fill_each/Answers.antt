@@ -1,4 +1,4 @@
--- A turn fills one field more.
+-- A turn writes the value to one field more.
 use Rattle.std.proofs.Common.{ℕ, List, map, ap, refl, ◌∙◌, arith}
 use Rattle.std.specs.Prelude.{slice_get}
 use Rattle.std.specs.Option.{unwrap_or}

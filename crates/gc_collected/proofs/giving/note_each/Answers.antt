@@ -1,4 +1,4 @@
--- A turn logs one field, or none.
+-- A turn logs one field, or none if it takes nothing.
 use Rattle.std.proofs.Common.{◌<◌, length, sym, ◌∙◌, subst, drop, ◌+◌, arith}
 use Rattle.gc_collected.specs.Internal.Given.{field_given, fields_given}
 use Rattle.gc_collected.specs.Internal.Together.{Logs}

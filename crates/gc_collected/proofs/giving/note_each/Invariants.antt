@@ -1,4 +1,4 @@
--- The fields so far are logged, unless they stay nil, and the log has room for the rest.
+-- The fields so far are logged, unless they take nothing, and the log has room for the rest.
 use Rattle.std.proofs.Common.{◌≡◌, ◌≤◌, ◌+◌, length, drop}
 use Rattle.gc_copy.specs.Words.{CollectionWords, spare_of}
 use Rattle.gc_collected.specs.Internal.Given.{fields_given}

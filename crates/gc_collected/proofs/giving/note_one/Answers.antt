@@ -1,4 +1,4 @@
--- A field that stays nil is not logged.
+-- A field that takes nothing is not logged.
 use Rattle.std.proofs.Common.{sym, subst}
 use Rattle.gc_collected.specs.Internal.Given.{field_given}
 use Rattle.gc_collected.specs.Internal.Together.{Logs}

@@ -1,4 +1,4 @@
--- An object starts at the address exactly if the graph has one with that name.
+-- The field is that of the object that starts at the address, which the graph has.
 use Rattle.std.proofs.lemmas.Grind.{common_steps}
 use Rattle.std.proofs.Common.{is_some, arith}
 use Rattle.gc_collected.proofs.Referred.{start_named}

@@ -1,4 +1,4 @@
--- The object and its fields leave what is known of the roots true, but for the root that takes the object.
+-- The object, its numbers and its roots' values leave what is known of the roots true, but for the root that takes the object.
 use Rattle.std.proofs.Common.{◌≡◌, ℕ, ◌<◌, List, length, Option, is_some, ap, refl, sym, ◌∙◌, subst}
 use Rattle.std.specs.Option.{option_map}
 use Rattle.std.proofs.lemmas.List.{length-map}
