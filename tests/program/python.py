@@ -9,6 +9,7 @@ import re
 import shutil
 import sys
 
+from .beside import Beside
 from .c_builds import TOP, done, library
 from .c_library import texts_and_lines, traces_and_replies
 from .examples import names_of
@@ -127,6 +128,15 @@ def suites(_program, folder):
         yield "the package %s" % what, difference(found, Outcome(wanted + b" None\n"))
 
 
+def collectors_thread(_program, folder):
+    """Runs the tests of the heap whose collector has a thread of its own, with the library that they need."""
+    python, built = prepared(folder), library(folder, Beside)
+    if python is None or built is None:
+        return
+    python.environment["GCFLIP_BESIDE_LIBRARY"] = os.path.join(built.lib, "libgcflip_beside.so")
+    yield from tested(python, ["test_beside.py"], "")
+
+
 def documents(_program, folder):
     """Runs the sessions of the package's README."""
     python = prepared(folder)
@@ -235,4 +245,4 @@ def types(_program, folder):
     yield "types of a program", None if refused == wrong and wrong else "refused %s, wanted %s: %s" % (refused, wrong, found.stdout.decode())
 
 
-GROUPS = [suites, documents, texts, plays, tour, not_found, types]
+GROUPS = [suites, collectors_thread, documents, texts, plays, tour, not_found, types]
