@@ -86,17 +86,17 @@ static void expect_flip(uint64_t flips)
     EXPECT(false);
 }
 
-/* In a heap of 1,000 words half of the room is used up at word 500, which comes before `least`. Word 0 is always in use. */
+/* In a heap of 1,000 words half of the room is used up at word 500, which comes before `least`. Word 0 is always in use, and an object takes 2 words or more. */
 static void begins_halfway(void)
 {
     open_with(1000, 200, 65536);
     make_garbage(62, 8);
-    EXPECT(1000 - gcflip_beside_room(mutator) == 497);
+    make_garbage(1, 2);
+    EXPECT(1000 - gcflip_beside_room(mutator) == 499);
     expect_rest(0);
-    EXPECT(gcflip_beside_new(mutator, NEWEST, 1, 1) == GCFLIP_MADE);
-    EXPECT(1000 - gcflip_beside_room(mutator) == 500);
+    make_garbage(1, 2);
     expect_flip(1);
-    EXPECT(1000 - gcflip_beside_room(mutator) == 4);
+    EXPECT(1000 - gcflip_beside_room(mutator) == 3);
     gcflip_thread_close(thread);
 }
 
@@ -111,7 +111,7 @@ static void begins_by_factor(void)
     make_garbage(200, 4);
     EXPECT((1 << 16) - gcflip_beside_room(mutator) == 1201);
     expect_rest(1);
-    make_garbage(1, 4);
+    make_garbage(1, 2);
     expect_flip(2);
     gcflip_thread_close(thread);
 }
