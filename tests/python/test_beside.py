@@ -26,9 +26,10 @@ class Commands(unittest.TestCase):
         for arguments in ((0,), (64, 1048577), (-1,), (2 ** 32,), (64, 0, gcflip.Pace(99)), (64, 0, gcflip.Pace(10001))):
             self.assertRaises(gcflip.OutOfRange, beside.Mutator, *arguments)
         with beside.Mutator(64) as mutator:
-            for call in (lambda: mutator.new(A, 256, 0), lambda: mutator.new(A, 0, 65536), lambda: mutator.set_number(A, 2 ** 63), lambda: mutator.set_number(A, -1),
-                         lambda: mutator.new(-1, 0, 0), lambda: mutator.new(2 ** 32, 0, 0)):
-                self.assertRaises(gcflip.OutOfRange, call)
+            for arguments in ((A, 256, 0), (A, 0, 65536), (-1, 0, 0), (2 ** 32, 0, 0)):
+                self.assertRaises(gcflip.OutOfRange, mutator.new, *arguments)
+            for number in (2 ** 63, -1):
+                self.assertRaises(gcflip.OutOfRange, mutator.set_number, A, number)
             self.assertRaises(TypeError, mutator.set_number, A, "1")
             self.assertEqual((mutator.look(A), mutator.room()), (None, 63))
 

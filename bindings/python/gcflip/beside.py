@@ -124,8 +124,8 @@ def _close(of: Calls, thread: int, turn: Turn, process: int) -> None:
 
 
 class Mutator:
-    """A heap of `size` words, at least 1, with one mutator and so many extra roots, at most 1048576, whose collector has a thread of its own. All roots hold nil. Of the
-    pace, `factor` and `least` count. Raises OutOfRange, and OutOfMemory also if the thread cannot be started.
+    """A heap of `size` words, at least 1, with one mutator and so many extra roots, at most 1048576, whose collector has a thread of its own. All roots hold
+    nil. Of the pace, `factor` and `least` count. Raises OutOfRange, and OutOfMemory also if the thread cannot be started.
 
     A root is named by its place: `place(shared(0))`, `place(own(0))`, `extra_place(1, 0)`. Threads may use a mutator in turn; a call waits for that of another
     thread. It is a context manager, and closed at the latest when nothing refers to it.
@@ -135,9 +135,10 @@ class Mutator:
         numbers = in_range((size, extra_roots), (c_uint32, c_uint32))
         self._turn, self._calls, thread = Turn(), calls(), c_void_p()
         _answered("open", self._calls.thread_open(ctypes.byref(thread), *numbers, ctypes.byref((Pace() if pace is None else pace)._raw)))
-        self._thread: int | None = thread.value
-        self._end = self._calls.thread_mutator(thread)
-        self._close = weakref.finalize(self, _close, self._calls, thread.value, self._turn, os.getpid())
+        opened = int(thread.value or 0)
+        self._thread: int | None = opened
+        self._end = self._calls.thread_mutator(opened)
+        self._close = weakref.finalize(self, _close, self._calls, opened, self._turn, os.getpid())
 
     def __enter__(self) -> Mutator:
         return self
@@ -159,13 +160,13 @@ class Mutator:
     # ---- Safepoints
 
     def safepoint(self) -> None:
-        """A safepoint. If the collector asks for it, the mutator stops and waits here until it may go on, after a flip or before. If the mutator has allocated faster
-        than the collector copies, it waits until the collector has caught up, or has flipped."""
-        self._turn.take(lambda: self._calls.thread_safepoint(self._opened()))
+        """A safepoint. If the collector asks for it, the mutator stops and waits here until it may go on, after a flip or before. If the mutator has allocated
+        faster than the collector copies, it waits until the collector has caught up, or has flipped."""
+        self._turn.take(lambda: _answered("safepoint", self._calls.thread_safepoint(self._opened())))
 
     def collect(self) -> None:
-        """Waits for the flip of the collection that is under way, or else of one that begins now. A program calls it where an allocation raises Full. Raises OutOfMemory if
-        memory ran out for the flip; the heap is then as it was."""
+        """Waits for the flip of the collection that is under way, or else of one that begins now. A program calls it where an allocation raises Full. Raises
+        OutOfMemory if memory ran out for the flip; the heap is then as it was."""
         self._turn.take(lambda: _answered("collect", self._calls.thread_collect(self._opened())))
 
     # ---- Commands on roots by their places
@@ -203,8 +204,8 @@ class Mutator:
         return self._turn.take(found)
 
     def put(self, root: int, field: int, source: int) -> None:
-        """Writes the value of root `source` into a field of the object that the root refers to. It is logged once the collector copies. Raises NoObject, NoField,
-        NoNumber, and OutOfMemory if the log cannot grow."""
+        """Writes the value of root `source` into a field of the object that the root refers to. It is logged once the collector copies. Raises NoObject,
+        NoField, NoNumber, and OutOfMemory if the log cannot grow."""
         self._call("put", root, field, source)
 
     def is_same(self, first: int, second: int) -> bool:
@@ -229,7 +230,11 @@ class Mutator:
     def counts(self) -> Counts:
         """Returns what has happened since the heap was opened."""
         found = RawCounts()
-        self._turn.take(lambda: self._calls.thread_read(self._opened(), ctypes.byref(found)))
+
+        def read() -> None:
+            self._calls.thread_read(self._opened(), ctypes.byref(found))
+
+        self._turn.take(read)
         return Counts(*(int(getattr(found, name)) for name in Counts._fields))
 
     def _opened(self) -> int:
