@@ -86,7 +86,7 @@ static void expect_flip(uint64_t flips)
     EXPECT(false);
 }
 
-/* In a heap of 1,000 words half of the room is used up at word 500, which comes before `least`. Word 0 is always in use, and an object takes 2 words or more. */
+/* In a heap of 1,000 words half of the room is used up at word 500, which comes before `least`. Word 0 is always in use. An object takes 2 words at least. */
 static void begins_halfway(void)
 {
     open_with(1000, 200, 65536);
