@@ -558,8 +558,8 @@ class Calls:
     def add_place_fill(self):
         s, t = self.filled_place(), self.place()
         first = self.place_field(s)
-        end = first + self.range_of_fields(s, first)
-        self.add_by_places("place_fill", [s, t] if end < 1 << 32 else [1 << 32], self.mutator(), s, first, min(end, (1 << 32) - 1), t)
+        end = min(first + self.range_of_fields(s, first), (1 << 32) - 1)
+        self.add_by_places("place_fill", [s, t], self.mutator(), s, first, end, t)
 
     def add_place_copy_fields(self):
         d, s = self.filled_place(), self.filled_place()
