@@ -30,7 +30,7 @@ BY_FROM, BY_ARM, BY_HAND = "From", "arm", "by hand"
 # Numbers that calls of the libraries for C return if they did nothing.
 NAMED_ANSWERS = ("NO_MEMORY", "OUT_OF_RANGE", "CLOSED", "OPEN", "TOO_LARGE", "BAD_LINE", "ENDS_EARLY")
 # Functions of these libraries whose contract says which number they return. None of them returns that of a fault.
-EXACT = ("of_reply", "of_step", "seen", "gcflip_room", "gcflip_beside_room", "gcflip_beside_roots")
+EXACT = ("of_reply", "of_step", "seen", "tell_value", "gcflip_room", "gcflip_beside_room", "gcflip_beside_roots")
 # Those that pass on the number that a function of their own file made beside the next stage. What that writes is looked at as elsewhere.
 PASSED_ON = ("gcflip_beside_safepoint", "gcflip_beside_resume", "gcflip_beside_ask", "gcflip_beside_take", "gcflip_beside_go", "gcflip_beside_flip", "gcflip_beside_finish")
 # Crates of tests alone.
