@@ -14,7 +14,7 @@ from .harness import Outcome, difference, file_of
 
 PAGE = "docs/TUTORIAL.md"
 FOLDER = os.path.join(TOP, "examples", "tutorial")
-MOST_WORDS, MOST_LINES = 1200, 260
+MOST_WORDS, MOST_LINES = 1400, 260
 # The most lines of a step that are not in the next one, and how each step ends. No sanitizer finds a heap that stays open, since a variable has it.
 MOST_LOST, END = 12, "    hp_close(&vm);\n    return 0;\n}\n"
 SECTION = re.compile(r"(?m)^## Step (\d+): .*\n")
@@ -68,6 +68,11 @@ def asked():
         6: (None, Outcome(b"error: not an integer\nerror: out of memory\nherbpond\nerror: stack overflow\n")),
         7: ("MOST_WORDS = 1000000", Outcome(PRINTED[7].replace("error: out of memory\nthe heap has 1", "2\nthe heap has 5").encode())),
     }
+
+
+# What the page answers at its end, in part.
+ANSWERS = {1: [answer_text("NO_FIELD")], 2: [answer_text("OUT_OF_RANGE").partition(":")[0]], 3: [str(fib(20)), "hp_reserve", "full"], 4: ["herbpondpond", "%d words" % words_of(4, 4, 8, 4, 12)],
+           5: ["Two"], 6: ["stack overflow"], 7: ["5,000,000 words"]}
 
 
 # Codes that double a value, and programs for the last step at the edges of what values may be, each with what it prints. An integer is at least -2^61
@@ -137,6 +142,16 @@ def page(_program, _folder):
     for number in range(1, len(found)):
         lost = lost_lines(found[number], found[number + 1])
         yield "step %d goes on in the next one" % number, None if len(lost) <= MOST_LOST else "it loses %s" % lost
+
+
+def answers(_program, _folder):
+    """Checks that the page answers each question, by words of its outcome."""
+    section = text_of(PAGE).partition("\n## Answers\n")[2].partition("\n## ")[0]
+    found = dict(re.findall(r"(?m)^(\d+)\. (.*)$", section))
+    yield "questions that are answered", None if sorted(map(int, found)) == sorted(asked()) == sorted(ANSWERS) else "they are %s" % sorted(found)
+    for number, words in ANSWERS.items():
+        missing = [word for word in words if word not in found.get(str(number), "")]
+        yield "the page's answer of step %d" % number, None if not missing else "it lacks %s" % missing
 
 
 def controls(_program, _folder):
@@ -221,4 +236,4 @@ def programs(_program, folder):
     yield "the line of %s" % PAGE, difference(line(built, folder), Outcome(PRINTED[1].encode()))
 
 
-GROUPS = [page, controls, programs]
+GROUPS = [page, answers, controls, programs]
