@@ -308,6 +308,7 @@ def versions(_program, _folder):
 # Links of docs/ONE.md, and what a package makes of them that has this page at doc/ONE.md, docs/TWO.md at doc/TWO.md, and a header at include/a.h.
 PLACES = {"docs/ONE.md": "doc/ONE.md", "docs/TWO.md": "doc/TWO.md", "a.h": "include/a.h"}
 LINKS = [("[two](TWO.md#part) and [one](#part)", "[two](TWO.md#part) and [one](#part)"), ("[it](../a.h)", "[it](../include/a.h)"), ("[it](../b.h)", "it"),
+         ("x ([it](../b.h#c)). y", "x. y"), ("x ([it](../a.h)). y", "x ([it](../include/a.h)). y"), ("x ([it](../b.h), z)", "x (it, z)"), ("x ([it](http://b))", "x ([it](http://b))"),
          ("![a picture](a.svg)", "a picture"), ("[page](https://a.org/b)", "[page](https://a.org/b)"), ("```c\nf[i](x)\n```", "```c\nf[i](x)\n```")]
 
 
