@@ -18,7 +18,7 @@ FIGURES = {"edits": "edits refused", "tests": "tests proved", "random": "calls",
 # The folders whose trees in git a log names, so that it says of which code it tells when its commit was merged under another name.
 FOLDERS = ("crates", "bindings", "explore")
 # The parts that have no log as yet. CI says so aloud.
-WITHOUT_LOG = ("beside",)
+WITHOUT_LOG = ()
 DAY = 24 * 60 * 60
 
 
