@@ -266,6 +266,8 @@ def deb(program, folder):
     if why or shutil.which("dpkg") is None or os.geteuid() != 0:
         yield "the Debian package", why or Skipped("there is no dpkg, or this is not the superuser")
         return
+    told = done(["dpkg-deb", "-I", only(out, ".deb"), "shlibs"]).stdout
+    yield "the package tells of its shared libraries", None if told == b"libgcflip 1 herbpond\nlibgcflip_beside 1 herbpond\n" else "it says %r" % told
     root = os.path.join(folder, "root")
     for name in ("info", "updates"):
         os.makedirs(os.path.join(root, "var", "lib", "dpkg", name))
