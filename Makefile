@@ -28,7 +28,7 @@ checker: ## proves the checker for C without the collector, and builds bindings/
 	@tools/build gcflip_c
 	@$(MAKE) --no-print-directory -C bindings/c checker
 
-dist: ## proves the program and the libraries, and packs a release into dist/
+dist: ## proves the program and the libraries, that of 'make beside' too, and packs a release into dist/
 	@tools/dist --build
 
 explore: ## shows a collection, or the text of FILE=.., in a web page; builds the libraries first if bindings/c/out has none

@@ -31,6 +31,36 @@ SECONDS = 10
 # The most bytes of a file that a tried program, and its compiler, may write.
 MOST_OUTPUT = 1 << 28
 FIRST_HEAP = b"mutators go on\nmutators go on\nflipped 1\nsaw 42\n"
+# The sum of the trees of examples/beside, as tests/program/beside.py has it, and that of its twin in Rust, whose comment derives it.
+BESIDE_IN_C, BESIDE_IN_RUST = b"trees: 2000, sum of the last ones: 16117760\n", b"994995000\n"
+# A list of 1,000 cells of a number and the next cell is made anew 50 times. A list takes 4,000 words, and the heap has 8,192, so it fills up. The sum is that
+# of 0 to 999.
+BESIDE_IN_PYTHON = """
+from gcflip import Full
+from gcflip.beside import Mutator
+
+def make():
+    while True:
+        try:
+            return mutator.new(1, 1, 2)
+        except Full:
+            mutator.collect()
+
+mutator, total = Mutator(8192), 0
+for turn in range(50):
+    mutator.set_nil(0)
+    for number in range(1000):
+        make()
+        mutator.set_number(2, number)
+        mutator.put(1, 0, 2)
+        mutator.put(1, 1, 0)
+        mutator.copy(0, 1)
+        mutator.safepoint()
+while mutator.look(0) is not None:
+    total += mutator.get(2, 0, 0)
+    mutator.get(0, 0, 1)
+print(total, mutator.counts().flips > 0)
+"""
 CMAKE = """cmake_minimum_required(VERSION 3.10)
 project(first C)
 find_package(gcflip 0.2 REQUIRED)
@@ -38,6 +68,10 @@ add_executable(first first_heap.c)
 target_link_libraries(first gcflip::gcflip)
 add_executable(first_static first_heap.c)
 target_link_libraries(first_static gcflip::archive)
+add_executable(beside main.c)
+target_link_libraries(beside gcflip::beside)
+add_executable(beside_static main.c)
+target_link_libraries(beside_static gcflip::beside_archive)
 """
 
 
@@ -46,6 +80,9 @@ def packed(program, folder, name="dist"):
     built = library(folder)
     if built is None:
         return None, Skipped("there is no library")
+    made = built.install(built.prefix, "install-beside")
+    if made.status != 0:
+        return None, made.stderr.decode()
     out = os.path.join(folder, name)
     ran = done([sys.executable, TOOL, "-o", out, "--program", program, "--libraries", built.lib])
     return out, None if ran.status == 0 else ran.stderr.decode()
@@ -78,6 +115,12 @@ def printed(words, wanted, **more):
         out.seek(0)
         found = out.read(1000)
     return None if ran.returncode == 0 and found == wanted else "status %d, printed %r, %r" % (ran.returncode, found[:300], ran.stderr[-600:])
+
+
+def beside_in_c(documents, folder, environment):
+    """Builds and runs examples/beside of a package by pkg-config, and returns why it does not print its sum first, or None."""
+    line = "set -o pipefail; cc -std=c99 %s/examples/beside/main.c $(pkg-config --cflags --libs gcflip_beside) -o %s/beside && %s/beside 2000 | sed -n 1p"
+    return printed(["bash", "-c", line % (documents, folder, folder)], BESIDE_IN_C, env=environment)
 
 
 def files_below(folder):
@@ -128,16 +171,24 @@ def archive(program, folder):
     began, environment = time.monotonic(), dict(os.environ, PKG_CONFIG_PATH=os.path.join(prefix, "lib", "pkgconfig"), LD_LIBRARY_PATH=os.path.join(prefix, "lib"))
     line = "cc -std=c11 %s/first_heap.c $(pkg-config --cflags --libs gcflip) -o %s/first && %s/first" % (examples, folder, folder)
     yield "C by pkg-config", within(SECONDS, began, printed(["bash", "-c", line], FIRST_HEAP, env=environment))
+    began = time.monotonic()
+    yield "a collector's thread in C by pkg-config", within(SECONDS, began, beside_in_c(os.path.dirname(examples), folder, environment))
+    thread = os.path.join(os.path.dirname(examples), trees.THREAD_SOURCE)
+    made = done(["cc", "-std=c99", "-pthread", "-c", "-I" + os.path.join(prefix, "include"), "-o", os.path.join(folder, "thread.o"), thread])
+    yield "the source of the thread is compiled", None if made.status == 0 else made.stderr.decode()
     if shutil.which("cmake") is None:
         yield "C by CMake", Skipped("there is no cmake on the path")
         return
     began, source = time.monotonic(), os.path.join(folder, "cmake")
     os.makedirs(source)
-    shutil.copy(os.path.join(examples, "first_heap.c"), source)
+    for name in ("first_heap.c", os.path.join("beside", "main.c")):
+        shutil.copy(os.path.join(examples, name), source)
     with open(os.path.join(source, "CMakeLists.txt"), "w", encoding="ascii") as file:
         file.write(CMAKE)
     line = "cmake -B build -DCMAKE_PREFIX_PATH=%s > log && cmake --build build > log && build/first && build/first_static" % prefix
     yield "C by CMake", within(SECONDS, began, printed(["bash", "-c", line], 2 * FIRST_HEAP, cwd=source))
+    line = "set -o pipefail; for name in beside beside_static; do build/$name 2000 | sed -n 1p; done"
+    yield "a collector's thread in C by CMake", printed(["bash", "-c", line], 2 * BESIDE_IN_C, cwd=source)
     found = printed(["bash", "-c", "cmake -B other -DCMAKE_PREFIX_PATH=%s 2>&1 | grep -c 'version: 0.2.0'" % prefix], b"1\n",
                     cwd=with_version(source, "0.3"))
     yield "CMake refuses another version", found
@@ -172,7 +223,8 @@ def wheel(program, folder):
     before = files_below(site)
     python = os.path.join(site, "bin", "python")
     pip = [python, "-m", "pip", "--disable-pip-version-check", "--quiet"]
-    environment = {name: value for name, value in os.environ.items() if name not in ("GCFLIP_LIBRARY", "LD_LIBRARY_PATH", "PYTHONPATH")}
+    named = ("GCFLIP_LIBRARY", "GCFLIP_BESIDE_LIBRARY", "LD_LIBRARY_PATH", "PYTHONPATH")
+    environment = {name: value for name, value in os.environ.items() if name not in named}
     environment.update(PYTHONDONTWRITEBYTECODE="1")
     began = time.monotonic()
     install, own, page = [*pip, "install", "--no-index", "--no-compile"], only(out, "linux_x86_64.whl"), only(out, "any.whl")
@@ -182,6 +234,9 @@ def wheel(program, folder):
     code = "import gcflip; print(gcflip.library_version()); heap = gcflip.Heap(4096); heap.mutator(0).new(0, 1, 2); print(heap.work(100).pairs)"
     began = time.monotonic()
     yield "Python from the wheel", within(SECONDS, began, printed([python, "-c", code], b"0.2.0\n1\n", env=environment, cwd=folder))
+    began = time.monotonic()
+    why = printed([python, "-c", BESIDE_IN_PYTHON], b"499500 True\n", env=environment, cwd=folder)
+    yield "a collector's thread from the wheel", within(SECONDS, began, why)
     code = "import sys, gcflip.quick; print(gcflip.quick.HAS_EXTENSION == (sys.version_info >= (3, 10)))"
     yield "the extension of the wheel", printed([python, "-c", code], b"True\n", env=environment, cwd=folder)
     without = done([python, "-m", "gcflip.explore", "--no-browser"], env=environment, cwd=folder)
@@ -211,6 +266,8 @@ def deb(program, folder):
     if why or shutil.which("dpkg") is None or os.geteuid() != 0:
         yield "the Debian package", why or Skipped("there is no dpkg, or this is not the superuser")
         return
+    told = done(["dpkg-deb", "-I", only(out, ".deb"), "shlibs"]).stdout
+    yield "the package tells of its shared libraries", None if told == b"libgcflip 1 herbpond\nlibgcflip_beside 1 herbpond\n" else "it says %r" % told
     root = os.path.join(folder, "root")
     for name in ("info", "updates"):
         os.makedirs(os.path.join(root, "var", "lib", "dpkg", name))
@@ -225,6 +282,8 @@ def deb(program, folder):
     environment = dict(os.environ, PKG_CONFIG_PATH=os.path.join(usr, "lib", "x86_64-linux-gnu", "pkgconfig"), LD_LIBRARY_PATH=os.path.join(usr, "lib", "x86_64-linux-gnu"))
     line = "cc -std=c11 %s/first_heap.c $(pkg-config --cflags --libs gcflip) -o %s/first && %s/first" % (os.path.dirname(pair), folder, folder)
     yield "C with the package", printed(["bash", "-c", line], FIRST_HEAP, env=environment)
+    documents = os.path.dirname(os.path.dirname(pair))
+    yield "a collector's thread in C with the package", beside_in_c(documents, folder, environment)
     again = done([*words, "-i", only(out, ".deb")])
     yield "an upgrade of the package", None if again.status == 0 else again.stderr.decode()
     removed = done([*words, "-P", "herbpond"])
@@ -247,6 +306,8 @@ def crate(program, folder):
     run = ["cargo", "run", "--quiet", "--offline", "--locked", "--example", "first_heap"]
     began = time.monotonic()
     yield "Rust's example", within(3 * SECONDS, began, printed(run, b"Number(42)\n", cwd=source, env=environment))
+    began, beside = time.monotonic(), ["cargo", "run", "--quiet", "--offline", "--locked", "--features", "beside", "--example", "beside"]
+    yield "Rust's example of a collector's thread", within(3 * SECONDS, began, printed(beside, BESIDE_IN_RUST, cwd=source, env=environment))
     tested = done(["cargo", "test", "--offline", "--locked"], timeout=600, cwd=source, env=environment)
     ran = re.findall(r"(?m)^test result: ok\. (\d+) passed; 0 failed; (\d+) ignored", tested.stdout.decode())
     yield "the crate's own tests", None if tested.status == 0 and len([1 for passed, _ in ran if passed != "0"]) >= 6 else tested.stderr.decode()[-1000:]

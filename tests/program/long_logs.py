@@ -10,11 +10,11 @@ from prover.edits import edits_of, sum_of
 
 LOGS = os.path.join(TOP, "tests", "long", "logs")
 # The parts of tests/long/run.
-PARTS = ("edits", "tests", "random", "churn", "second_compiler", "large", "soak", "runtimes", "releases", "pages")
+PARTS = ("edits", "tests", "random", "churn", "second_compiler", "large", "soak", "beside", "runtimes", "releases", "pages")
 # What each log has to say, and the figure of a part that tells how much it did.
 LINES = ("date", "commit", "minutes", "failed")
 FIGURES = {"edits": "edits refused", "tests": "tests proved", "random": "calls", "churn": "operations", "second_compiler": "cases passed", "large": "collections", "soak": "commands",
-           "runtimes": "collections", "releases": "files", "pages": "texts"}
+           "beside": "commands", "runtimes": "collections", "releases": "files", "pages": "texts"}
 # The folders whose trees in git a log names, so that it says of which code it tells when its commit was merged under another name.
 FOLDERS = ("crates", "bindings", "explore")
 # The parts that have no log as yet. CI says so aloud.

@@ -7,7 +7,7 @@ from .crates import CRATES
 # What each product is: a crate with a program, or a static library.
 PRODUCTS = {"gcflip_c": "the checker for C", "gcflip_heap_c": "the collected heap for C", "gcflip_beside_c": "the heap with a collector's thread for C", "gcflip": "the program"}
 # Those that a release has.
-PACKED = ("gcflip_c", "gcflip_heap_c", "gcflip")
+PACKED = ("gcflip_c", "gcflip_heap_c", "gcflip_beside_c", "gcflip")
 AXIOMS = re.compile(r"axioms (\w+): .*?(?:\((\d+) of the \d+ declared\)|(none) reached of the \d+ declared)")
 VERDICT = re.compile(r"logic=(\S+) functions=\d+ (?:.*? )?axioms=(\d+) ")
 

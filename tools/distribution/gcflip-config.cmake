@@ -1,15 +1,15 @@
-# Finds libgcflip beside this file: target gcflip::gcflip is the shared library, and gcflip::archive the static one.
+# Finds the libraries beside this file: targets gcflip::gcflip and gcflip::beside are the shared ones, gcflip::archive and gcflip::beside_archive the static
+# ones.
 get_filename_component(GCFLIP_LIBRARIES_FOLDER "${CMAKE_CURRENT_LIST_DIR}/../.." ABSOLUTE)
 find_path(GCFLIP_HEADERS gcflip.h PATHS "${GCFLIP_LIBRARIES_FOLDER}/../include" "${GCFLIP_LIBRARIES_FOLDER}/../../include" REQUIRED NO_DEFAULT_PATH)
-foreach(name gcflip archive)
+function(gcflip_add name kind file)
   if(NOT TARGET gcflip::${name})
-    if(name STREQUAL "gcflip")
-      add_library(gcflip::gcflip SHARED IMPORTED)
-      set_target_properties(gcflip::gcflip PROPERTIES IMPORTED_LOCATION "${GCFLIP_LIBRARIES_FOLDER}/libgcflip.so.1")
-    else()
-      add_library(gcflip::archive STATIC IMPORTED)
-      set_target_properties(gcflip::archive PROPERTIES IMPORTED_LOCATION "${GCFLIP_LIBRARIES_FOLDER}/libgcflip.a")
-    endif()
-    set_target_properties(gcflip::${name} PROPERTIES INTERFACE_INCLUDE_DIRECTORIES "${GCFLIP_HEADERS}")
+    add_library(gcflip::${name} ${kind} IMPORTED)
+    set_target_properties(gcflip::${name} PROPERTIES IMPORTED_LOCATION "${GCFLIP_LIBRARIES_FOLDER}/${file}"
+                          INTERFACE_INCLUDE_DIRECTORIES "${GCFLIP_HEADERS}" INTERFACE_LINK_LIBRARIES "${ARGN}")
   endif()
-endforeach()
+endfunction()
+gcflip_add(gcflip SHARED libgcflip.so.1)
+gcflip_add(archive STATIC libgcflip.a)
+gcflip_add(beside SHARED libgcflip_beside.so.1 -pthread)
+gcflip_add(beside_archive STATIC libgcflip_beside.a -pthread)

@@ -12,18 +12,21 @@ from .links import linked
 
 TOP = os.path.normpath(os.path.join(os.path.dirname(os.path.abspath(__file__)), "..", ".."))
 HERE = os.path.dirname(os.path.abspath(__file__))
-SHARED = "libgcflip.so.1"
+SHARED, SHARED_BESIDE = "libgcflip.so.1", "libgcflip_beside.so.1"
 TRUST = "docs/TRUST.md"
-TUTORIAL = "examples/tutorial"
+TUTORIAL, BESIDE = "examples/tutorial", "examples/beside"
 PYTHON, RUST, PAGE = "bindings/python/README.md", "bindings/rust/README.md", "docs/EXPLORE.md"
 DOCUMENTS = ["README.md", "CHANGELOG.md", TRUST, "docs/FORMATS.md", "docs/TUTORIAL.md", "docs/EMBEDDING.md", "docs/CALLS.md", "docs/FAQ.md", "docs/CERTIFY.md", "docs/GLOSSARY.md", PAGE, "docs/RATTLE.md", "docs/RELATED.md"]
 COMPLETIONS = {"share/bash-completion/completions/gcflip": "gcflip.bash", "share/zsh/site-functions/_gcflip": "_gcflip",
                "share/fish/vendor_completions.d/gcflip.fish": "gcflip.fish"}
 HEADERS = ["gcflip_answers.h", "gcflip.h", "gcflip_heap.h", "gcflip_images.h", "gcflip_record.h", "gcflip_allocator.h", "herbpond.h", "herbpond_arrays.h",
            "herbpond.hpp"]
-# The headers that the tests of the crate compare it with, and where the crate has the archive.
+# The headers of the heap with a collector's thread, and the source of the thread, which is not proved.
+BESIDE_HEADERS, THREAD_SOURCE = ["gcflip_beside.h", "gcflip_thread.h"], "gcflip_thread.c"
+ARCHIVES = ("libgcflip.a", "libgcflip_beside.a")
+# The headers that the tests of the crate compare it with, and where the crate has the archives.
 COMPARED = HEADERS[:3]
-ARCHIVE_OF_CRATE = "lib/x86_64-unknown-linux-gnu/libgcflip.a"
+FOLDER_OF_CRATE = "lib/x86_64-unknown-linux-gnu"
 
 
 class Leaf(NamedTuple):
@@ -85,9 +88,10 @@ def places(documents):
     """Returns the places of documents, pictures, examples and headers in the archive and in the Debian package, by their paths in the repository."""
     found = {path: "%s/%s" % (documents, os.path.basename(path)) for path in DOCUMENTS}
     found.update({path: "%s/pictures/%s" % (documents, os.path.basename(path)) for path in below("docs/pictures")})
-    found.update({path: "%s/%s" % (documents, path) for folder in ("examples/pictures", TUTORIAL) for path in below(folder)})
+    found.update({path: "%s/%s" % (documents, path) for folder in ("examples/pictures", TUTORIAL, BESIDE) for path in below(folder)})
     found.update({path: "%s/examples/%s" % (documents, os.path.basename(path)) for path in examples()})
-    found.update({"bindings/c/" + name: "include/" + name for name in HEADERS})
+    found.update({"bindings/c/" + name: "include/" + name for name in HEADERS + BESIDE_HEADERS})
+    found["bindings/c/" + THREAD_SOURCE] = "%s/%s" % (documents, THREAD_SOURCE)
     return found
 
 
@@ -95,7 +99,7 @@ def described(documents):
     """Returns the documents, pictures, examples and headers of the archive and of the Debian package, as a tree."""
     placed = places(documents)
     # A document may link to all examples, and to the steps of the tutorial, by their folder.
-    targets = dict(placed, **{folder: "%s/%s" % (documents, folder) for folder in ("examples", TUTORIAL)})
+    targets = dict(placed, **{folder: "%s/%s" % (documents, folder) for folder in ("examples", TUTORIAL, BESIDE)})
     found = {place: Leaf(read_linked(path, targets) if path.endswith(".md") else read(path)) for path, place in placed.items()}
     found[placed[TRUST]] = Leaf(found[placed[TRUST]].data + verdicts())
     return found
@@ -120,13 +124,13 @@ def stripped(path):
 
 
 def tree(program, libraries, libdir="lib"):
-    """Returns the files of the archive and of the Debian package, below their prefix. `libraries` is the folder with both libraries."""
+    """Returns the files of the archive and of the Debian package, below their prefix. `libraries` is the folder with the libraries for C."""
     found = {
         "bin/gcflip": Leaf(stripped(program), 0o755),
-        libdir + "/libgcflip.a": Leaf(outside(libraries, "libgcflip.a")),
-        libdir + "/" + SHARED: Leaf(stripped(os.path.join(libraries, SHARED)), 0o644),
-        libdir + "/libgcflip.so": Leaf(target=SHARED),
-        libdir + "/pkgconfig/gcflip.pc": Leaf(package_file(libdir)),
+        **{"%s/%s" % (libdir, name): Leaf(outside(libraries, name)) for name in ARCHIVES},
+        **{"%s/%s" % (libdir, name): Leaf(stripped(os.path.join(libraries, name)), 0o644) for name in (SHARED, SHARED_BESIDE)},
+        **{"%s/%s" % (libdir, name.rpartition(".")[0]): Leaf(target=name) for name in (SHARED, SHARED_BESIDE)},
+        **{"%s/pkgconfig/%s.pc" % (libdir, name): Leaf(package_file(name, libdir)) for name in ("gcflip", "gcflip_beside")},
         libdir + "/cmake/gcflip/gcflip-config.cmake": Leaf(filled("gcflip-config.cmake", libdir)),
         libdir + "/cmake/gcflip/gcflip-config-version.cmake": Leaf(filled("gcflip-config-version.cmake", libdir)),
         "share/man/man1/gcflip.1": Leaf(filled("gcflip.1", libdir)),
@@ -136,10 +140,10 @@ def tree(program, libraries, libdir="lib"):
     return found
 
 
-def package_file(libdir):
-    """Returns the file for pkg-config. It finds its prefix by its own place, so that the folder may be moved."""
+def package_file(name, libdir):
+    """Returns the file of a library for pkg-config. It finds its prefix by its own place, so that the folder may be moved."""
     up = "/".join([".."] * (libdir.count("/") + 2))
-    text = read("bindings", "c", "gcflip.pc.in").decode().replace("@PREFIX@", "${pcfiledir}/" + up).replace("@VERSION@", version())
+    text = read("bindings", "c", name + ".pc.in").decode().replace("@PREFIX@", "${pcfiledir}/" + up).replace("@VERSION@", version())
     return text.replace("libdir=${prefix}/lib", "libdir=${prefix}/" + libdir).encode()
 
 
@@ -150,7 +154,8 @@ def packages(folder, *names):
 
 def wheel_tree(libraries):
     """Returns the files of the wheel of gcflip, without its own descriptions."""
-    found = {"gcflip/libgcflip.so": Leaf(stripped(os.path.join(libraries, SHARED)), 0o755), "gcflip/" + NAME: Leaf(built_extension(), 0o755)}
+    found = {"gcflip/" + name.rpartition(".")[0]: Leaf(stripped(os.path.join(libraries, name)), 0o755) for name in (SHARED, SHARED_BESIDE)}
+    found["gcflip/" + NAME] = Leaf(built_extension(), 0o755)
     return {**found, **packages("bindings/python", "gcflip")}
 
 
@@ -163,11 +168,11 @@ def page_tree():
 
 
 def crate_sources():
-    """Returns the files of the crate without the archive. Its tests compare it with the headers in `c`."""
+    """Returns the files of the crate without the archives. Its tests compare it with the headers in `c`."""
     found = {os.path.relpath(path, "bindings/rust"): Leaf(readme(path) if path == RUST else read(path)) for path in below("bindings/rust")}
     return {**found, **{"c/" + name: Leaf(read("bindings", "c", name)) for name in COMPARED}}
 
 
 def crate_tree(libraries):
-    """Returns the files of the crate, which links the archive that it brings where no other library is named."""
-    return {**crate_sources(), ARCHIVE_OF_CRATE: Leaf(outside(libraries, "libgcflip.a"))}
+    """Returns the files of the crate, which links the archives that it brings where no other library is named."""
+    return {**crate_sources(), **{"%s/%s" % (FOLDER_OF_CRATE, name): Leaf(outside(libraries, name)) for name in ARCHIVES}}
