@@ -37,6 +37,9 @@ OF_HEAPS = {
     "gather": {"mutator": [0, 1], "root": PLACES, "kind": KINDS, "first": PLACES, "count": [0, 1, 2]}, "spread": {"first": [0, 5, 16, 30, 48], "source": PLACES, "count": [0, 1, 2]},
     "set_number": {"root": PLACES, "number": NUMBERS}, "set_nil": {"root": PLACES}, "copy": {"root": PLACES, "source": PLACES},
     "get": {"root": PLACES, "source": PLACES, "field": FIELDS}, "peek": {"root": PLACES, "field": FIELDS}, "put": {"mutator": [0, 1], "root": PLACES, "field": FIELDS, "source": PLACES},
+    "put_sure": {"mutator": [0, 1], "root": PLACES, "field": FIELDS, "source": PLACES},
+    "fill": {"mutator": [0, 1], "root": PLACES, "first": FIELDS, "end": [0, 1, 2, 3], "source": PLACES},
+    "copy_fields": {"mutator": [0, 1], "root": PLACES, "field": FIELDS, "source": PLACES[:2], "first": [0, 1], "count": [0, 1]},
     "put_number": {"mutator": [0, 1], "root": PLACES, "field": FIELDS, "number": NUMBERS}, "put_nil": {"mutator": [0, 1], "root": PLACES, "field": FIELDS},
     "is_same": {"first": PLACES, "second": PLACES}, "look": {"root": PLACES},
 }
