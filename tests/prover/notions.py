@@ -3,6 +3,7 @@ import glob
 import os
 
 from . import definition_counts as counts
+from .exports import PRODUCTS
 from .crates import CRATES, crates_listed
 from .made_pages import differences, path_of
 
@@ -37,8 +38,8 @@ A reader who does not use these calls has that much less to trust. `tools/defini
 call of a product reaches.
 
 """
-# The products, as readers know them.
-PRODUCTS = ["the checker for C", "the heap for C", "the world", "the program"]
+# What readers call the products.
+NAMES = {"gcflip_c": "the checker for C", "gcflip_heap_c": "the heap for C", "gcflip_beside_c": "the heap with a collector's thread", "gc_world": "the world", "gcflip": "the program"}
 # Calls for one purpose, with their product.
 PURPOSES = [("pairs inferred from two images, and paths", "gcflip_c", ["gcflip_infer", "gcflip_path"]),
             ("fields copied or filled at once", "gcflip_heap_c", ["gcflip_heap_copy_fields", "gcflip_copy_fields", "gcflip_fill"]),
@@ -91,7 +92,7 @@ def document():
     by_crate = [[crate, public, internal] for crate, (public, internal, _) in counts.by_crate().items()]
     by_product = [[crate, *lines] for crate, lines in counts.by_product().items()]
     by_call = [[what, ", ".join("`%s`" % call for call in calls), counts.added_by(product, calls)] for what, product, calls in PURPOSES]
-    return "".join([HEAD, table(), BY_CRATE, table_of(["crate", "public", "internal"], by_crate), BY_PRODUCT, table_of(["crate", *PRODUCTS], by_product),
+    return "".join([HEAD, table(), BY_CRATE, table_of(["crate", "public", "internal"], by_crate), BY_PRODUCT, table_of(["crate", *(NAMES[product] for product in PRODUCTS)], by_product),
                     BY_CALL, table_of(["what", "calls of C", "lines"], by_call)])
 
 
