@@ -3,8 +3,8 @@ import glob
 import os
 
 from . import definition_counts as counts
-from .exports import PRODUCTS
 from .crates import CRATES, crates_listed
+from .exports import PRODUCTS
 from .made_pages import differences, path_of
 
 DOCUMENT = path_of("DEFINITIONS.md")
