@@ -45,10 +45,10 @@ static void check_reply(bool is_right, const char *call)
 }
 
 /* Makes a call on the heap, and checks its answer. */
-#define CALL_HEAP(reply, name, ...)          \
-    do {                                     \
-        (reply) = calls->name(__VA_ARGS__);  \
-        check_answer((reply), #name);        \
+#define CALL_HEAP(reply, name, ...)         \
+    do {                                    \
+        (reply) = calls->name(__VA_ARGS__); \
+        check_answer((reply), #name);       \
     } while (0)
 
 /* The same for a call that must return this reply. */

@@ -11,7 +11,7 @@
 #include <stdint.h>
 #include <stdio.h>
 
-/* The calls of one heap. A function with an answer returns a number of gcflip_answers.h. */
+/* The calls of one heap. They return numbers of gcflip_answers.h, except where something else is said. */
 struct heap_calls {
     /* Opens a heap with this many extra roots. Writes a trace of all that happens on it, unless `trace` is NULL. */
     uint32_t (*open)(uint32_t words, uint32_t extra_roots, FILE *trace);
@@ -42,10 +42,10 @@ struct heap_calls {
     uint32_t (*moved)(uint32_t address, uint32_t *now);
     uint32_t (*refer)(enum slot to, uint32_t address);
 
-    /* Lets the collector go on, before an allocation of this many words that leaves `room` free. A want of memory is no error here. */
+    /* Lets the collector go on, before an allocation of this many words that leaves `room` words free. If the system has no memory, this is no error. */
     void (*pay)(uint32_t words, uint32_t room);
 
-    /* Lets the collector stop the program. NULL if it never needs to. */
+    /* Lets the collector stop the program: GCFLIP_DONE. NULL if it never needs to. */
     uint32_t (*safepoint)(void);
 
     /* Finishes the collection that is open, or performs a whole one: GCFLIP_FLIPPED or GCFLIP_NO_MEMORY. */
@@ -54,7 +54,7 @@ struct heap_calls {
     /* Returns the number of free words. */
     uint32_t (*free_words)(void);
 
-    /* Prints what the collector did. */
+    /* Prints what the collector did, in a few lines. */
     void (*print_collections)(FILE *file);
 };
 

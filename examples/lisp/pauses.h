@@ -26,12 +26,12 @@ void begin_pause(void);
 void end_pause(struct call_times *times, uint32_t flipped);
 
 /* Makes a call on the heap, and measures its time. */
-#define TIME_CALL(answer, call, ...)                            \
-    do {                                                        \
+#define TIME_CALL(answer, call, ...)                             \
+    do {                                                         \
         static struct call_times times = {#call, 0, 0, 0, NULL}; \
-        begin_pause();                                          \
-        (answer) = call(__VA_ARGS__);                           \
-        end_pause(&times, 0);                                   \
+        begin_pause();                                           \
+        (answer) = call(__VA_ARGS__);                            \
+        end_pause(&times, 0);                                    \
     } while (0)
 
 void print_pauses(FILE *file);

@@ -280,6 +280,8 @@ def collector_threads(_program, _folder):
         wanted = allocations + 2 * 100
         found = calls["gcflip_thread_safepoint"]
         yield "safepoints of 100 numbers, %s" % way, None if found == wanted and allocations >= 100 else "%d with %d allocations" % (found, allocations)
+        raw = calls_of(lisp.run("\"four\" \"texts\" \"of\" \"words\"", "--pauses")).get("gcflip_beside_new_raw")
+        yield "strings are raw objects, %s" % way, None if raw == 4 else "%s, wanted 4" % raw
         for text in FUNCTIONS_WITH_ADDRESSES:
             error = "error: input, line 1, column 1: %s\n" % (NO_ADDRESSES % text[1:-1].split()[0])
             yield "%s, %s" % (text, way), difference(lisp.run(text + "\n(+ 1 2)\n"), Outcome(b"3\n", error.encode()))
@@ -475,6 +477,9 @@ def full_heaps(_program, _folder):
         # 209715 waiting calls take five values each, which leaves one; the next frame is that of (- n 1).
         full = b"error: input, line 1, column 43: the stack is full: it has 1048576 values (--heap WORDS makes it larger)\n"
         yield "a full stack, %s" % way, difference(overflow, Outcome(b"100\n", full))
+        # 209714 waiting calls take five values each, which leaves six for the two frames of the last one.
+        fitting = "(define x '(7)) (define (deep n) (if (= n 0) (or (or (car x) 2) 3) (+ 1 (deep (- n 1))))) (deep 209714)"
+        yield "a stack that just fits, %s" % way, difference(lisp.run(fitting, "--heap", "8000000"), Outcome(b"209721\n"))
 
 
 # Each key is told by its own number, whatever the collector moves meanwhile. 16384 * 16383 / 2 = 134209536.
