@@ -467,6 +467,7 @@ void evaluate(void)
     while (next != FINISHED) {
         if (is_interrupted && next == EVALUATE)
             fail("interrupted");
+        safepoint();
         next = next == EVALUATE ? start_expression() : next == APPLY ? apply() : resume();
     }
 }

@@ -1,10 +1,10 @@
-/* The layer over gcflip_heap.
+/* The layer over the heap: gcflip_heap, or gcflip_beside with a collector's thread (heap_calls.h).
  *
  * The Lisp's values are in slots and in fields of objects, and nowhere else. Functions take slots, and no C variable ever holds
  * a reference. So the collector may move all objects at any time.
  *
- * Each allocation first pays for itself with collector steps; README.md derives the pace. A call that runs out of memory ends
- * in an error of the Lisp (errors.h). */
+ * Each allocation first pays for itself with collector steps; README.md derives the pace. If the collector has a thread, each allocation is a
+ * safepoint instead. A call that runs out of memory ends in an error of the Lisp (errors.h). */
 #ifndef HEAP_H
 #define HEAP_H
 
@@ -22,8 +22,8 @@ enum { LEAST_HEAP = 1, MOST_FIELDS = 65535, MOST_RECORDED_HEAP = 1048576 };
 #define MOST_HEAP UINT32_MAX
 
 /* Opens the heap. Writes a trace of all that happens on it, unless `trace` is NULL; the heap has then at most MOST_RECORDED_HEAP words.
- * Returns whether there is memory for it. */
-bool open_heap(uint32_t words, FILE *trace);
+ * If `is_beside`, a thread of its own collects; then there is no trace. Returns whether there is memory for the heap. */
+bool open_heap(uint32_t words, FILE *trace, bool is_beside);
 
 void close_heap(void);
 
@@ -81,6 +81,9 @@ void copy_all_fields(enum slot to, enum slot from);
 
 /* ---- Addresses: the identity of an object, until the next flip */
 
+/* Returns whether the heap has addresses, as these functions and copy_all_fields need: it has none if its collector has a thread. */
+bool has_addresses(void);
+
 uint32_t address_of(enum slot object);
 
 /* Puts the address to which the last flip moved the object that was at this one. Returns false if it died. Call it in a function for
@@ -94,6 +97,11 @@ void refer(enum slot to, uint32_t address);
 /* Adds a function that is called after each flip. It may change no slot, and make no object. */
 void after_each_flip(void (*function)(void));
 
+/* ---- Collecting */
+
+/* Lets the collector's thread stop the program here, if there is such a thread and it asks. Each allocation is a safepoint too. */
+void safepoint(void);
+
 /* ---- Room */
 
 /* Sets aside room for the REPL: from now on, allocations leave it free. Returns whether there is that much room. */
@@ -103,15 +111,7 @@ bool reserve_room(void);
  * it again. Call it between expressions. */
 void restore_room(void);
 
-struct heap_totals {
-    uint64_t allocated;   /* words */
-    uint64_t collections; /* flips */
-    uint64_t waits;       /* whole collections that an allocation waited for */
-    uint64_t pairs;       /* copied objects of all flips */
-    uint64_t along;       /* flips that the standing checker accepted */
-    uint64_t whole;       /* flips that were accepted by both spaces whole */
-};
-
-struct heap_totals totals_of_heap(void);
+/* Prints what was allocated and collected. */
+void print_heap_totals(FILE *file);
 
 #endif

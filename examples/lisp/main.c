@@ -1,4 +1,4 @@
-/* lisp [--heap WORDS] [--record FILE] [--pauses] [FILE ...]
+/* lisp [--heap WORDS] [--beside | --record FILE] [--pauses] [FILE ...]
  *
  * Runs the files one after the other. Without files, reads expressions from standard input and prints their values. The status is 0,
  * 1 after an error of a program, and 2 if the options are wrong or the Lisp cannot start. */
@@ -16,7 +16,6 @@
 #include "syntax.h"
 #include "weak_pairs.h"
 #include <errno.h>
-#include <inttypes.h>
 #include <signal.h>
 #include <stdlib.h>
 #include <string.h>
@@ -29,6 +28,7 @@ enum outcome { GOES_ON, ENDED, FAILED, LEFT };
 struct options {
     uint32_t words;
     const char *trace;
+    bool is_beside;
     bool measures;
     char **files; /* ends with NULL */
 };
@@ -52,19 +52,23 @@ static uint32_t read_words(const char *word)
 
 static struct options read_options(char **words)
 {
-    struct options options = {WORDS_BY_DEFAULT, NULL, false, NULL};
+    struct options options = {WORDS_BY_DEFAULT, NULL, false, false, NULL};
     for (; *words != NULL && strncmp(*words, "--", 2) == 0; words++) {
         if (strcmp(*words, "--pauses") == 0)
             options.measures = true;
+        else if (strcmp(*words, "--beside") == 0)
+            options.is_beside = true;
         else if (strcmp(*words, "--heap") == 0)
             options.words = read_words(*++words);
         else if (strcmp(*words, "--record") == 0 && words[1] != NULL)
             options.trace = *++words;
         else
-            end("lisp [--heap WORDS] [--record FILE] [--pauses] [FILE ...], and not ", *words);
+            end("lisp [--heap WORDS] [--beside | --record FILE] [--pauses] [FILE ...], and not ", *words);
     }
     if (options.trace != NULL && options.words > MOST_RECORDED_HEAP)
         end("--record takes a heap of at most 1048576 words", "");
+    if (options.trace != NULL && options.is_beside)
+        end("--record does not go with --beside: a trace has no collector's thread", "");
     options.files = words;
     return options;
 }
@@ -152,20 +156,12 @@ static bool make_lisp(void)
     make_constants();
     make_keywords();
     make_primitives();
-    make_finalizers();
-    follow_weak_pairs();
+    if (has_addresses()) {
+        make_finalizers();
+        follow_weak_pairs();
+    }
     struct source source = source_of_string(prelude, "prelude");
     return run(&source) == ENDED && reserve_room();
-}
-
-static void print_totals(const struct options *options)
-{
-    struct heap_totals totals = totals_of_heap();
-    print_pauses(stderr);
-    fprintf(stderr, "%" PRIu64 " flips were checked along, and %" PRIu64 " whole\n", totals.along, totals.whole);
-    fprintf(stderr, "%" PRIu64 " words were allocated, %.1f times the heap\n", totals.allocated, (double)totals.allocated / options->words);
-    fprintf(stderr, "%" PRIu64 " collections copied %" PRIu64 " objects\n", totals.collections, totals.pairs);
-    fprintf(stderr, "%" PRIu64 " whole collections held up an allocation\n", totals.waits);
 }
 
 /* Returns whether everything written to the stream was delivered. */
@@ -184,7 +180,7 @@ int main(int count, char **words)
     FILE *trace = options.trace == NULL ? NULL : fopen(options.trace, "w");
     if (options.trace != NULL && trace == NULL)
         end("cannot write ", options.trace);
-    if (!open_heap(options.words, trace))
+    if (!open_heap(options.words, trace, options.is_beside))
         end("out of memory: the system has none for the heap", "");
     if (!make_lisp())
         end("the heap is too small for the Lisp itself", "");
@@ -192,8 +188,10 @@ int main(int count, char **words)
         measure_pauses();
     enum outcome outcome = run_all(options.files);
     bool are_written = is_written(stdout, "the output") && (trace == NULL || is_written(trace, options.trace));
-    if (options.measures)
-        print_totals(&options);
+    if (options.measures) {
+        print_pauses(stderr);
+        print_heap_totals(stderr);
+    }
     close_heap();
     if (trace != NULL)
         fclose(trace);

@@ -139,7 +139,6 @@ static void print_longest(FILE *file, const struct call_times *times)
     fprintf(file, "%.3f us: %s", microseconds(times->longest), times->name);
     if (times->flipped > 0)
         fprintf(file, ", with a flip of %" PRIu32 " pairs", times->flipped);
-    fputc('\n', file);
 }
 
 void print_pauses(FILE *file)
@@ -150,11 +149,13 @@ void print_pauses(FILE *file)
     for (const struct call_times *times = called; times != NULL; times = times->next) {
         fputs("  ", file);
         print_longest(file, times);
+        fprintf(file, "; %" PRIu64 " calls\n", times->calls);
         longest = times->longest > longest->longest ? times : longest;
     }
     if (longest != NULL) {
         fputs("the longest call took ", file);
         print_longest(file, longest);
+        fputc('\n', file);
     }
     fprintf(file, "minimum mutator utilisation: %.3f at 1 ms, %.3f at 10 ms\n", utilisation(&windows[0]), utilisation(&windows[1]));
 }

@@ -4,6 +4,7 @@
 #define PAUSES_H
 
 #include <stdbool.h>
+#include <stddef.h>
 #include <stdint.h>
 #include <stdio.h>
 
@@ -23,6 +24,15 @@ void begin_pause(void);
 
 /* Counts a call, which made a flip of this many pairs, or none. */
 void end_pause(struct call_times *times, uint32_t flipped);
+
+/* Makes a call on the heap, and measures its time. */
+#define TIME_CALL(answer, call, ...)                             \
+    do {                                                         \
+        static struct call_times times = {#call, 0, 0, 0, NULL}; \
+        begin_pause();                                           \
+        (answer) = call(__VA_ARGS__);                            \
+        end_pause(&times, 0);                                    \
+    } while (0)
 
 void print_pauses(FILE *file);
 

@@ -1,9 +1,11 @@
 """Tests of examples/lisp, a Lisp in C on the collected heap: programs, errors, small heaps, full heaps, out of memory, and traces.
 
 It tests examples/lisp, by gcc, with sanitizers and by valgrind: its programs, values and errors, the pace, heaps that are too small or full, each
-allocation of the library refused in turn, recorded runs played and reported, how its flips were checked and the time that they left.
+allocation of the library refused in turn, recorded runs played and reported, how its flips were checked and the time that they left. Programs, values,
+errors, interrupts and full heaps are tested on the heap with a collector's thread too.
 """
 import atexit
+import copy
 import functools
 import glob
 import os
@@ -15,7 +17,7 @@ import subprocess
 import tempfile
 import time
 
-from .c_builds import SANITIZERS, SOURCES as C_SOURCES, TOP, VALGRIND, WARNINGS, done, has_valgrind, library, usable
+from .c_builds import SANITIZERS, SOURCES as C_SOURCES, TOP, VALGRIND, WARNINGS, Library, done, has_valgrind, library, usable
 from .documents import blocks
 from .harness import Outcome, difference, file_of, run
 
@@ -35,6 +37,12 @@ HEAPS = {
     "tak": [5000, 262144],
     "weak": [24000, 262144],
 }
+
+# The switch for the heap with a collector's thread, and what a program that needs addresses is told there: the position, and the function.
+BESIDE = "--beside"
+NO_ADDRESSES = "%s is not there with --beside: that heap has no addresses"
+PROGRAMS_WITH_ADDRESSES = {"identity": ("line 14, column 79", "make-eq-hashtable"), "weak": ("line 9, column 16", "weak-cons")}
+FUNCTIONS_WITH_ADDRESSES = ["(make-eq-hashtable)", "(make-weak-eq-hashtable)", "(weak-cons 1 2)", "(finalize! car car)", "(next-finalizer)"]
 
 # The input, and the printed values, with | or spaces between them.
 EVALUATED = {
@@ -146,13 +154,27 @@ WRONG = [
 ]
 
 # Wrong options.
-WRONG_OPTIONS = [["--heap"], ["--heap", "0"], ["--heap", "4294967296"], ["--heap", "1048577", "--record", "/dev/null"], ["--heap", "12x"], ["--heap", "-1"], ["--heep", "5"], ["--record"],
+WRONG_OPTIONS = [[BESIDE, "--record", "/dev/null"], ["--record", "/dev/null", BESIDE], [BESIDE, "--heap"], ["--besides"], ["--heap"], ["--heap", "0"], ["--heap", "4294967296"], ["--heap", "1048577", "--record", "/dev/null"], ["--heap", "12x"], ["--heap", "-1"], ["--heep", "5"], ["--record"],
                  ["--record", "/"]]
 
-TOTALS = re.compile(rb"(\d+) words were allocated, [\d.]+ times the heap\n(\d+) collections copied (\d+) objects\n"
+TOTALS = re.compile(rb"(\d+) collections copied (\d+) objects\n(\d+) words were allocated, [\d.]+ times the heap\n"
                     rb"(\d+) whole collections held up an allocation\n$")
+THREAD_TOTALS = re.compile(rb"(\d+) collections in a thread stopped the program (\d+) times\n(\d+) safepoints waited until the collector had caught up\n"
+                           rb"the longest wait of a safepoint took ([\d.]+) us\n(\d+) words were allocated, [\d.]+ times the heap\n"
+                           rb"(\d+) whole collections held up an allocation\n$")
 FULL = re.compile(rb"error: input, line \d+, column \d+: the heap is full: (\d+) of its (\d+) words are in use, and \d+ more are needed"
                   rb" \(--heap WORDS makes it larger\)\n")
+
+
+class Both(Library):
+    """Both libraries on whose heaps the Lisp runs."""
+
+    def install(self, prefix, target="install"):
+        made = super().install(prefix, target)
+        return made if made.status != 0 else super().install(prefix, "install-beside")
+
+    def archive(self):
+        return [*super().archive(), os.path.join(self.lib, "libgcflip_beside.a")]
 
 
 class Lisp:
@@ -160,15 +182,25 @@ class Lisp:
 
     def __init__(self, built, name, compiler, more=()):
         self.path = os.path.join(built.folder, "lisp by %s" % name)
-        words = [*compiler, "-std=c11", "-O2", *WARNINGS, "-I" + os.path.join(built.prefix, "include"), "-I" + FOLDER, "-o", self.path]
+        self.options = []
+        words = [*compiler, "-std=c11", "-O2", "-pthread", *WARNINGS, "-I" + os.path.join(built.prefix, "include"), "-I" + FOLDER, "-o", self.path]
         made = done([*words, *SOURCES, *more, *built.archive()])
         self.why = None if made.status == 0 else "not built: %s" % made.stderr.decode()
 
+    def beside(self):
+        """Returns the Lisp on the heap with a collector's thread."""
+        other = copy.copy(self)
+        other.options = [BESIDE]
+        return other
+
+    def has_addresses(self):
+        return self.options == []
+
     def run(self, text, *words, **more):
-        return done([self.path, *words], input=text.encode(), **more)
+        return done([self.path, *self.options, *words], input=text.encode(), **more)
 
     def run_program(self, name, *words):
-        return done([self.path, *words, os.path.join(PROGRAMS, name + ".lisp")])
+        return done([self.path, *self.options, *words, os.path.join(PROGRAMS, name + ".lisp")])
 
 
 WAYS = [("gcc", ["gcc"]), ("gcc with sanitizers", ["gcc", *SANITIZERS])]
@@ -179,8 +211,18 @@ def built_lisps():
     """Returns the name of each way of building, with the Lisp. Builds once for all groups, in a folder that lives as long as the run."""
     folder = tempfile.mkdtemp()
     atexit.register(shutil.rmtree, folder)
-    built = library(folder)
+    built = library(folder, Both)
     return [(name, Lisp(built, name, compiler)) for name, compiler in WAYS if built and usable(folder, name, compiler)]
+
+
+def lisps_on_both_heaps():
+    """Returns the name of each way of building, with the Lisp on each of its heaps."""
+    return [(name + on, on_heap) for name, lisp in built_lisps() for on, on_heap in [("", lisp), (" " + BESIDE, lisp.beside())]]
+
+
+def needs_addresses(text):
+    """Returns whether a text calls one of the functions that a heap with a collector's thread does not have."""
+    return re.search(r"\((make-(weak-)?eq-hashtable|weak-cons|finalize!|next-finalizer)[ )]", text) is not None
 
 
 def content(name):
@@ -190,19 +232,59 @@ def content(name):
 
 def totals(outcome):
     """Returns the words, the collections, the copied objects and the waits that --pauses prints."""
-    return [int(number) for number in TOTALS.search(outcome.stderr).groups()]
+    collections, copied, words, waits = [int(number) for number in TOTALS.search(outcome.stderr).groups()]
+    return words, collections, copied, waits
+
+
+def calls_of(outcome):
+    """Returns how often --pauses says that each call on the heap was made, by its name."""
+    return {name.decode(): int(number) for name, number in re.findall(rb"\n  [\d.]+ us: (gcflip_\w+)[^;\n]*; (\d+) calls", outcome.stderr)}
 
 
 def programs(_program, _folder):
-    """Checks that each program prints what its comments derive."""
+    """Checks that each program prints what its comments derive, or is told at once which function its heap lacks."""
     known = sorted(name[:-len(".lisp")] for name in os.listdir(PROGRAMS) if name.endswith(".lisp"))
     yield "each program has a heap", None if known == sorted(HEAPS) else "there are %s" % known
-    for way, lisp in built_lisps():
+    for way, lisp in lisps_on_both_heaps():
         yield "examples/lisp by %s" % way, lisp.why
         for name, heaps in HEAPS.items() if lisp.why is None else []:
             for heap in heaps:
                 found = lisp.run_program(name, "--heap", str(heap))
-                yield "%s in %d words, %s" % (name, heap, way), difference(found, Outcome(content(name + ".output")))
+                yield "%s in %d words, %s" % (name, heap, way), difference(found, printed_by(lisp, name))
+
+
+def printed_by(lisp, name):
+    """Returns the outcome of a program: its output, or the error of the first function that the heap lacks."""
+    if lisp.has_addresses() or name not in PROGRAMS_WITH_ADDRESSES:
+        return Outcome(content(name + ".output"))
+    place, function = PROGRAMS_WITH_ADDRESSES[name]
+    error = "error: %s, %s: %s\n" % (os.path.join(PROGRAMS, name + ".lisp"), place, NO_ADDRESSES % function)
+    return Outcome(b"", error.encode(), 1)
+
+
+def collector_threads(_program, _folder):
+    """Checks that the collector's thread has flipped, and that the functions that its heap lacks say so."""
+    for way, lisp in lisps_on_both_heaps():
+        if lisp.has_addresses() or lisp.why is not None:
+            continue
+        found = lisp.run_program("churn", "--heap", "20000", "--pauses")
+        flips, stops, _, longest, words, waits = [float(number) for number in THREAD_TOTALS.search(found.stderr).groups()]
+        # A flip frees at most the whole heap, which is empty at the beginning. Safepoints keep the collector ahead of allocations.
+        is_right = flips >= words / 20000 - 1 >= 100 and stops >= flips and longest > 0 and waits == 0
+        yield "flips of churn, %s" % way, None if is_right else found.stderr[-300:]
+        foreign = [name for name in calls_of(found) if not name.startswith(("gcflip_beside_", "gcflip_thread_"))]
+        yield "calls of churn, %s" % way, "there are %s" % foreign if foreign else None
+        calls = calls_of(lisp.run("1 " * 100, "--pauses"))
+        allocations = calls["gcflip_beside_new"] + calls.get("gcflip_beside_new_raw", 0)
+        # Each allocation is a safepoint, and so is each of the evaluator's steps. A number takes two: its value is found, and no frame is left.
+        wanted = allocations + 2 * 100
+        found = calls["gcflip_thread_safepoint"]
+        yield "safepoints of 100 numbers, %s" % way, None if found == wanted and allocations >= 100 else "%d with %d allocations" % (found, allocations)
+        raw = calls_of(lisp.run("\"four\" \"texts\" \"of\" \"words\"", "--pauses")).get("gcflip_beside_new_raw")
+        yield "strings are raw objects, %s" % way, None if raw == 4 else "%s, wanted 4" % raw
+        for text in FUNCTIONS_WITH_ADDRESSES:
+            error = "error: input, line 1, column 1: %s\n" % (NO_ADDRESSES % text[1:-1].split()[0])
+            yield "%s, %s" % (text, way), difference(lisp.run(text + "\n(+ 1 2)\n"), Outcome(b"3\n", error.encode()))
 
 
 def by_valgrind(_program, _folder):
@@ -216,16 +298,25 @@ def by_valgrind(_program, _folder):
     for name, (text, printed) in texts.items() if lisp.why is None else []:
         found = done([*VALGRIND, lisp.path, "--heap", "20000"], input=(text + "\n").encode())
         yield "%s, by valgrind" % name, difference(found, Outcome(printed.encode()))
+    for name in ("lists", "strings", "a loop") if lisp.why is None else []:
+        text, printed = texts[name]
+        found = done([*VALGRIND, lisp.path, BESIDE, "--heap", "20000"], input=(text + "\n").encode())
+        yield "%s, %s by valgrind" % (name, BESIDE), difference(found, Outcome(printed.encode()))
 
 
 def evaluating(_program, _folder):
     """Checks values, errors with their places, and that the REPL continues after each error."""
-    for way, lisp in built_lisps():
+    for way, lisp in lisps_on_both_heaps():
+        known = lisp.has_addresses()
         for name, (text, values) in EVALUATED.items() if lisp.why is None else []:
+            if needs_addresses(text) and not known:
+                continue
             lines = values.split("|" if "|" in values else " ")
             wanted = Outcome("".join(line + "\n" for line in lines).encode())
             yield "%s, %s" % (name, way), difference(lisp.run(text + "\n"), wanted)
         for text, error in WRONG:
+            if needs_addresses(text) and not known:
+                continue
             wanted = Outcome(b"", ("error: %s\n" % error).encode())
             yield "error of %s, %s" % (text[:40], way), difference(lisp.run(text), wanted)
             goes_on = lisp.run(text + "\n3\n").stdout if "text ends" not in error else b"3\n"
@@ -252,10 +343,10 @@ def command_line(_program, folder):
         yield "a full disk, %s" % way, None if status == 1 else "status %s, wanted 1" % status
 
 
-def interrupted(path, endless):
+def interrupted(lisp, endless):
     """Runs an endless expression and interrupts it. Returns the output. Sends signals until the run ends, since a signal before the
     expression has no effect."""
-    ran = subprocess.Popen([path], stdin=subprocess.PIPE, stdout=subprocess.PIPE, stderr=subprocess.PIPE)
+    ran = subprocess.Popen([lisp.path, *lisp.options], stdin=subprocess.PIPE, stdout=subprocess.PIPE, stderr=subprocess.PIPE)
     ran.stdin.write(("(car 1)\n%s\n(+ 1 2)\n" % endless).encode())
     ran.stdin.close()
     first = ran.stderr.readline()
@@ -272,9 +363,9 @@ ENDLESS = ["((lambda (f) (f f)) (lambda (f) (f f)))",
 
 def interrupting(_program, _folder):
     """Checks that Ctrl-C ends an endless expression, and that the REPL continues."""
-    for way, lisp in built_lisps():
+    for way, lisp in lisps_on_both_heaps():
         for endless in ENDLESS:
-            found = interrupted(lisp.path, endless)
+            found = interrupted(lisp, endless)
             errors = re.fullmatch(rb"error: .*column 1: car expects.*\nerror: input, line 2, column \d+: interrupted\n", found.stderr)
             yield "%s, %s" % (endless, way), None if errors and found.stdout == b"3\n" and found.status == 0 else found.stderr
 
@@ -333,7 +424,7 @@ DEEP = "(define (deep n) (if (= n 0) 0 (+ 1 (begin (iota 4) (deep (- n 1)))))) (
 
 
 def limits(_program, _folder):
-    """Tests heaps that are too small or full, and deep data and calls."""
+    """Tests heaps that are too small, and deep data and calls."""
     for way, lisp in built_lisps():
         for heap in [1, 2, 10, 100, 1000, 2500]:
             found = lisp.run("(+ 1 2)", "--heap", str(heap))
@@ -343,21 +434,12 @@ def limits(_program, _folder):
             found = lisp.run("(+ 1 2)", "--heap", str(heap))
             works = found.status == 0 and found.stdout == b"3\n" or found.status == 2 or FULL.fullmatch(found.stderr)
             yield "%d words, %s" % (heap, way), None if works else "status %d, %r" % (found.status, found.stderr)
-        for heap in (6000, 65536, 1048576):
-            found = lisp.run(FILLING, "--heap", str(heap))
-            errors = FULL.findall(found.stderr)
-            yield "full heaps of %d, %s" % (heap, way), None if len(errors) == 2 and found.status == 0 else found.stderr
-            yield "behind full heaps of %d, %s" % (heap, way), None if found.stdout == b"100\n" else "printed %r" % found.stdout
         deep = "(define (deep n) (if (= n 0) 0 (+ 1 (deep (- n 1))))) (deep 30000)"
         yield "30000 calls deep, %s" % way, difference(lisp.run(deep, "--heap", "1048576"), Outcome(b"30000\n"))
         found = lisp.run(DEEP, "--heap", "2000000", "--pauses")
         _, collections, copied, waits = totals(found)
         yield "100000 calls deep, %s" % way, difference(found, Outcome(b"100000\n", found.stderr))
         yield "collections meanwhile, %s" % way, None if collections > 5 and copied > 100000 * collections // 4 and waits == 0 else found.stderr[-200:]
-        overflow = lisp.run("(define (deep n) (if (= n 0) 0 (+ 1 (deep (- n 1))))) (deep 300000) (deep 100)", "--heap", "8000000")
-        # 209715 waiting calls take five values each, which leaves one; the next frame is that of (- n 1).
-        full = b"error: input, line 1, column 43: the stack is full: it has 1048576 values (--heap WORDS makes it larger)\n"
-        yield "a full stack, %s" % way, difference(overflow, Outcome(b"100\n", full))
         for made in ("make-eq-hashtable", "make-weak-eq-hashtable"):
             found = lisp.run(LARGE_TABLE % made, "--heap", "1000000", "--pauses")
             # One entry too many, and then an entry whose key the table has.
@@ -370,6 +452,34 @@ def limits(_program, _folder):
         yield "10000 lists deep are equal, %s" % way, difference(lisp.run(equal), Outcome(b"#t\n"))
         circle = lisp.run("(define x (list 1)) (set-cdr! x x) x (car x)\n").stdout
         yield "a circle is printed, %s" % way, None if circle.startswith(b"(1 1 1") and circle.endswith(b" ...\n1\n") else circle[-40:]
+
+
+# 500 calls wait for each other, and each keeps a list of 80 words: 40000 words, which are garbage when all have returned, or after an error in the last one.
+# The list after them takes 36000. The heap has not room for both.
+LEFT = """(define (deep n garbage) (if (= n 0) %s (+ 1 (deep (- n 1) (iota 20)))))
+(deep 500 '())
+(length (iota 9000))
+"""
+
+
+def full_heaps(_program, _folder):
+    """Checks that a full heap and a full stack are errors, that the next expressions have room, and that calls keep nothing alive behind them."""
+    for way, lisp in lisps_on_both_heaps():
+        for heap in (6000, 65536, 1048576):
+            found = lisp.run(FILLING, "--heap", str(heap))
+            errors = FULL.findall(found.stderr)
+            yield "full heaps of %d, %s" % (heap, way), None if len(errors) == 2 and found.status == 0 else found.stderr
+            yield "behind full heaps of %d, %s" % (heap, way), None if found.stdout == b"100\n" else "printed %r" % found.stdout
+        yield "calls that returned, %s" % way, difference(lisp.run(LEFT % "0", "--heap", "65536"), Outcome(b"500\n9000\n"))
+        wrong = b"error: input, line 1, column 38: car expects a pair, but found 0\n"
+        yield "calls that an error left, %s" % way, difference(lisp.run(LEFT % "(car 0)", "--heap", "65536"), Outcome(b"9000\n", wrong))
+        overflow = lisp.run("(define (deep n) (if (= n 0) 0 (+ 1 (deep (- n 1))))) (deep 300000) (deep 100)", "--heap", "8000000")
+        # 209715 waiting calls take five values each, which leaves one; the next frame is that of (- n 1).
+        full = b"error: input, line 1, column 43: the stack is full: it has 1048576 values (--heap WORDS makes it larger)\n"
+        yield "a full stack, %s" % way, difference(overflow, Outcome(b"100\n", full))
+        # 209714 waiting calls take five values each, which leaves six for the two frames of the last one.
+        fitting = "(define x '(7)) (define (deep n) (if (= n 0) (or (or (car x) 2) 3) (+ 1 (deep (- n 1))))) (deep 209714)"
+        yield "a stack that just fits, %s" % way, difference(lisp.run(fitting, "--heap", "8000000"), Outcome(b"209721\n"))
 
 
 # Each key is told by its own number, whatever the collector moves meanwhile. 16384 * 16383 / 2 = 134209536.
@@ -408,7 +518,7 @@ def wrong_refusal(found):
 
 def refused_allocations(_program, folder):
     """Makes each allocation of the library fail in turn. There is at most an error, and the REPL continues."""
-    built = library(folder)
+    built = library(folder, Both)
     if built is None or not usable(folder, *WAYS[1]):
         return
     lisp = Lisp(built, "gcc that refuses", WAYS[1][1], [os.path.join(C_SOURCES, "refused_lisp.c"), "-I" + C_SOURCES])
@@ -518,4 +628,4 @@ def sessions(_program, _folder):
             yield "session %d of %s" % (number, DOCUMENT), None if is_shown else "printed %s" % printed
 
 
-GROUPS = [programs, by_valgrind, evaluating, command_line, interrupting, pace, limits, refused_allocations, no_collector, traces, traces_that_end, histogram, flips_and_pauses, sessions]
+GROUPS = [programs, collector_threads, by_valgrind, evaluating, command_line, interrupting, pace, limits, full_heaps, refused_allocations, no_collector, traces, traces_that_end, histogram, flips_and_pauses, sessions]
