@@ -171,6 +171,11 @@ def archive(program, folder):
     began, environment = time.monotonic(), dict(os.environ, PKG_CONFIG_PATH=os.path.join(prefix, "lib", "pkgconfig"), LD_LIBRARY_PATH=os.path.join(prefix, "lib"))
     line = "cc -std=c11 %s/first_heap.c $(pkg-config --cflags --libs gcflip) -o %s/first && %s/first" % (examples, folder, folder)
     yield "C by pkg-config", within(SECONDS, began, printed(["bash", "-c", line], FIRST_HEAP, env=environment))
+    found = re.search(r"(?m)^    (gcc \S+ step1\.c \S+ \S+libgcflip\.a -o /tmp/step && /tmp/step)$", trees.read("docs/TUTORIAL.md").decode())
+    yield "the tutorial's line for a release", printed(["bash", "-c", found.group(1).replace("/tmp", folder)], b"42\n", cwd=os.path.join(examples, "tutorial")) if found else "there is none"
+    with open(os.path.join(os.path.dirname(examples), "README.md"), encoding="utf-8") as file:
+        shown = file.read()
+    yield "where README has the program", None if "$ bin/gcflip play" in shown and "crates/gcflip" not in shown else "it is elsewhere"
     began = time.monotonic()
     yield "a collector's thread in C by pkg-config", within(SECONDS, began, beside_in_c(os.path.dirname(examples), folder, environment))
     thread = os.path.join(os.path.dirname(examples), trees.THREAD_SOURCE)

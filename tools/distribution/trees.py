@@ -15,6 +15,8 @@ HERE = os.path.dirname(os.path.abspath(__file__))
 SHARED, SHARED_BESIDE = "libgcflip.so.1", "libgcflip_beside.so.1"
 TRUST = "docs/TRUST.md"
 TUTORIAL, BESIDE = "examples/tutorial", "examples/beside"
+# Where the program is built, as documents say it, and where it is in an unpacked archive.
+BUILT, PACKED_PROGRAM = "crates/gcflip/out/gcflip", "bin/gcflip"
 PYTHON, RUST, PAGE = "bindings/python/README.md", "bindings/rust/README.md", "docs/EXPLORE.md"
 DOCUMENTS = ["README.md", "CHANGELOG.md", TRUST, "docs/FORMATS.md", "docs/TUTORIAL.md", "docs/EMBEDDING.md", "docs/CALLS.md", "docs/FAQ.md", "docs/CERTIFY.md", "docs/GLOSSARY.md", PAGE, "docs/RATTLE.md", "docs/RELATED.md"]
 COMPLETIONS = {"share/bash-completion/completions/gcflip": "gcflip.bash", "share/zsh/site-functions/_gcflip": "_gcflip",
@@ -106,8 +108,8 @@ def described(documents):
 
 
 def read_linked(path, targets):
-    """Returns a document of the repository with the links that it has in a package."""
-    return linked(read(path).decode(), path, targets).encode()
+    """Returns a document of the repository with the links that it has in a package, and with the program where a package has it."""
+    return linked(read(path).decode().replace(BUILT, PACKED_PROGRAM), path, targets).encode()
 
 
 def readme(path):
