@@ -3,6 +3,7 @@ from __future__ import annotations
 
 import bisect
 import copy
+import gc
 import random
 from typing import Any, NamedTuple
 
@@ -60,7 +61,12 @@ def keep(text: bytes, found: Opened) -> Opened:
 
 def opened(text: bytes) -> Opened:
     """Reads and checks a pair text, or an image text, whose pairs are inferred, unless that was done already. Raises BadText or Unreadable."""
-    return keep(text, KEPT.get(text) or found_for(text, *(compared(text) if text.startswith(HEADING) else read_and_checked(text))))
+    found = KEPT.get(text)
+    if found is None:
+        found = found_for(text, *(compared(text) if text.startswith(HEADING) else read_and_checked(text)))
+        # Python looks for garbage now, so that the next answer does not wait until it has looked at all these pairs.
+        gc.collect()
+    return keep(text, found)
 
 
 def found_for(text: bytes, pair: PairText, refused: Refused | None, **known: Space) -> Opened:
@@ -293,7 +299,7 @@ def with_image(scene: Scene, image: Image, raws: bool, place: Place, before: int
     space, thing = space_of(scene, place), object_around(scene, place)
     if place.row == "words" and (thing is None or place.at == thing.start):
         return Space(space.name, image, raws)
-    other = space.with_image(image)
+    other: Space = space.with_image(image)
     # A link leads nowhere.
     if thing is None or thing.start in space.live and not thing.raw and place.at > thing.start + 1:
         other.lead_on(before, after)
