@@ -153,6 +153,13 @@ static void sleeps_while_idle(void)
     gcflip_thread_close(thread);
 }
 
+/* By ThreadSanitizer the program is slower than the collector, whose archive has no such checks, so that it need not wait for it. */
+#ifdef __SANITIZE_THREAD__
+enum { IS_SLOW = 1 };
+#else
+enum { IS_SLOW = 0 };
+#endif
+
 /* Allocates as fast as it can. So many of the heap's 64ths are live, in a list. */
 static void never_full(uint32_t live)
 {
@@ -168,7 +175,7 @@ static void never_full(uint32_t live)
     expect_list(objects);
     gcflip_thread_read(thread, &counts);
     EXPECT(counts.flips > 3 && counts.failed == 0);
-    EXPECT(live < 48 || counts.throttled > 0);
+    EXPECT(live < 48 || IS_SLOW || counts.throttled > 0);
     EXPECT(counts.longest_wait > 0 && counts.longest_wait <= counts.waited);
     gcflip_thread_close(thread);
 }
