@@ -122,6 +122,18 @@ def usable(folder, name, compiler):
     return False
 
 
+def built_examples(folder, name, sources):
+    """Yields each way of building an example over the library, by gcc and with sanitizers: the path of its program, and why it was not built, or None."""
+    built = library(folder)
+    if built is None:
+        return
+    for way, compiler in [("gcc", ["gcc"]), ("gcc with sanitizers", ["gcc", *SANITIZERS])]:
+        if usable(folder, "%s by %s" % (name, way), compiler):
+            path = os.path.join(folder, "%s by %s" % (name, way))
+            made = done([*compiler, "-std=c11", "-O2", *WARNINGS, "-I" + os.path.join(built.prefix, "include"), "-o", path, *sources, *built.archive()])
+            yield way, path, None if made.status == 0 else "not built: %s" % made.stderr.decode()
+
+
 def has_valgrind(what):
     """Returns whether valgrind is there. If not, a line says so."""
     if shutil.which("valgrind") is None:

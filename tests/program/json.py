@@ -9,7 +9,7 @@ import json
 import os
 import random
 
-from .c_builds import SANITIZERS, TOP, WARNINGS, done, library, usable
+from .c_builds import TOP, built_examples, done
 from .harness import Outcome, difference
 
 SOURCES = sorted(glob.glob(os.path.join(TOP, "examples", "json", "*.c")))
@@ -73,18 +73,6 @@ REFUSED = [
 WRONG_OPTIONS = [["--indent"], ["--indent", "-1"], ["--indent", "101"], ["--indent", "x"], ["--heap", "0"], ["--most", "4294967296"], ["--sorted"], ["document.json"]]
 
 
-def built_programs(folder):
-    """Yields each way of building json, the path of the program, and why it was not built, or None."""
-    built = library(folder)
-    if built is None:
-        return
-    for name, compiler in [("gcc", ["gcc"]), ("gcc with sanitizers", ["gcc", *SANITIZERS])]:
-        if usable(folder, "json by %s" % name, compiler):
-            path = os.path.join(folder, "json by %s" % name)
-            made = done([*compiler, "-std=c11", "-O2", *WARNINGS, "-I" + os.path.join(built.prefix, "include"), "-o", path, *SOURCES, *built.archive()])
-            yield name, path, None if made.status == 0 else "not built: %s" % made.stderr.decode()
-
-
 def printed(path, document, *options):
     """Returns what the program does with a document."""
     return done([path, *options], input=document if isinstance(document, bytes) else document.encode())
@@ -122,7 +110,7 @@ def some_document(length):
 
 def by_hand(_program, folder):
     """Checks what documents print, and which are refused, and where."""
-    for way, path, why in built_programs(folder):
+    for way, path, why in built_examples(folder, "json", SOURCES):
         yield "json by %s" % way, why
         for options, rows in [([], PRINTED), (["--sort"], SORTED)]:
             for document, text in rows.items() if why is None else []:
@@ -136,7 +124,7 @@ def by_hand(_program, folder):
 
 def compared(_program, folder):
     """Compares random documents with Python's json, printed in each way: one of 5 MB, and with sanitizers a smaller one."""
-    for way, path, why in built_programs(folder):
+    for way, path, why in built_examples(folder, "json", SOURCES):
         if why:
             yield "json by %s" % way, why
             continue
@@ -150,7 +138,7 @@ def compared(_program, folder):
 
 def large(_program, folder):
     """Checks documents that are nested deeply, long strings, many members, and a heap or an output without room."""
-    for way, path, why in built_programs(folder):
+    for way, path, why in built_examples(folder, "json", SOURCES):
         if why:
             yield "json by %s" % way, why
             continue

@@ -7,7 +7,7 @@ import glob
 import os
 import re
 
-from .c_builds import SANITIZERS, TOP, WARNINGS, done, library, usable
+from .c_builds import TOP, built_examples, done
 from .harness import Outcome, difference, file_of
 
 FOLDER = os.path.join(TOP, "examples", "minivm")
@@ -52,18 +52,6 @@ def path_of(name):
     return os.path.join(PROGRAMS, name + ".mini")
 
 
-def built_machines(folder):
-    """Yields each way of building minivm, the path of the program, and why it was not built, or None."""
-    built = library(folder)
-    if built is None:
-        return
-    for name, compiler in [("gcc", ["gcc"]), ("gcc with sanitizers", ["gcc", *SANITIZERS])]:
-        if usable(folder, "minivm by %s" % name, compiler):
-            path = os.path.join(folder, "minivm by %s" % name)
-            made = done([*compiler, "-std=c11", "-O2", *WARNINGS, "-I" + os.path.join(built.prefix, "include"), "-o", path, *SOURCES, *built.archive()])
-            yield name, path, None if made.status == 0 else "not built: %s" % made.stderr.decode()
-
-
 def outcome_of(name):
     return Outcome(PRINTED[name], ENDS_BY.get(name, b""), 1 if name in ENDS_BY else 0)
 
@@ -78,7 +66,7 @@ def programs(_program, folder):
     """Checks what each program prints in heaps of several sizes, and that it leaves its constants alone in the heap."""
     names = sorted(name[:-len(".mini")] for name in os.listdir(PROGRAMS))
     yield "each program has an outcome", None if names == sorted(PRINTED) else "there are %s" % names
-    for way, path, why in built_machines(folder):
+    for way, path, why in built_examples(folder, "minivm", SOURCES):
         yield "minivm by %s" % way, why
         for name in names if why is None else []:
             for heap in (200000, 1000000):
@@ -89,7 +77,7 @@ def programs(_program, folder):
 
 def heaps(_program, folder):
     """Checks heaps that are collected, full, and that grow."""
-    for way, path, why in built_machines(folder):
+    for way, path, why in built_examples(folder, "minivm", SOURCES):
         if why:
             yield "minivm by %s" % way, why
             continue
@@ -108,7 +96,7 @@ def heaps(_program, folder):
 
 def mistakes(_program, folder):
     """Checks what minivm says of wrong texts and options."""
-    for way, path, why in built_machines(folder):
+    for way, path, why in built_examples(folder, "minivm", SOURCES):
         for text, said in WRONG_TEXTS.items() if why is None else []:
             yield "%s, %s" % (text.decode(), way), difference(done([path, file_of(folder, "wrong.mini", text)]), Outcome(b"", said, 2))
         for words in WRONG_OPTIONS if why is None else []:
@@ -118,7 +106,7 @@ def mistakes(_program, folder):
 
 def little_address_space(_program, folder):
     """Checks that programs end as usual in a heap of 2,000,000 words while the system refuses the memory of each collection."""
-    for way, path, why in built_machines(folder):
+    for way, path, why in built_examples(folder, "minivm", SOURCES):
         if way != "gcc" or why:
             continue
         for name in sorted(PRINTED):
