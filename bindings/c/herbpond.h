@@ -25,7 +25,6 @@ enum {
     HP_OLD = 29,         /* the first of the layer's own registers, which hold nil between calls */
     HP_NEW = 30,
     HP_SCRATCH = 31,
-    HP_OWN_SLOT = 16,    /* the place of slot 0, so that slot s has place HP_OWN_SLOT + s */
     HP_REGISTERS = 32,   /* the place of the stack's first root */
     HP_KIND_SPINE = 253, /* a program uses kinds 0 to 252. Of this kind is an object that refers to the parts of a long array */
     HP_KIND_PART = 254,  /* an object with elements of an array */

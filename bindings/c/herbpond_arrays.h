@@ -88,8 +88,7 @@ static inline void hp_array_lengthen(hp *h, hp_root s, uint32_t kind, uint32_t c
     hp_load(h, HP_OLD, s, HP_ELEMENTS, "hp_array_push");
     hp_make(h, HP_NEW, kind, fields, "hp_array_push");
     do
-        answer = count == 0 ? (uint32_t)GCFLIP_DONE
-                            : gcflip_heap_copy_fields(&h->heap, 0, HP_NEW - HP_OWN_SLOT, 0, HP_OLD - HP_OWN_SLOT, 0, HP_SCRATCH - HP_OWN_SLOT, (uint16_t)count);
+        answer = count == 0 ? (uint32_t)GCFLIP_DONE : gcflip_copy_fields(&h->heap, 0, HP_NEW, 0, HP_OLD, 0, count);
     while (hp_gave_up(h, answer));
     hp_answered(h, answer, "hp_array_push");
     hp_store(h, s, HP_ELEMENTS, HP_NEW, "hp_array_push");
