@@ -43,7 +43,9 @@ typedef struct hp_stats {
     uint64_t flips;
     uint64_t steps;   /* the steps of the collector */
     uint64_t copied;  /* the words that replicas took */
+    uint64_t longest; /* the most steps in one call */
     uint64_t waits;   /* the allocations that waited for a whole collection */
+    uint64_t full;    /* the allocations for which there was no room even then */
 } hp_stats;
 
 /* What the layer knows of a weak handle, whose object is alive, died, or died before the handle was freed. An unused entry has no handle. */
@@ -221,6 +223,8 @@ static inline void hp_follow(hp *h)
 static inline void hp_worked(hp *h, const gcflip_work *work)
 {
     h->stats.steps += work->steps;
+    if (work->steps > h->stats.longest)
+        h->stats.longest = work->steps;
     h->stats.copied += work->copied;
     hp_follow(h);
 }
@@ -294,6 +298,7 @@ static inline uint32_t hp_make_room(hp *h, uint32_t words)
     answer = hp_wait(h, words);
     if (answer == GCFLIP_FULL && hp_counts(h).size < h->most)
         answer = hp_wait(h, words);
+    h->stats.full += answer == GCFLIP_FULL;
     return answer;
 }
 

@@ -306,7 +306,7 @@ static void reserves(void)
     }
     waits = h.stats.waits;
     FAILS(hp_reserve(&h, 2960), GCFLIP_FULL, "hp_reserve");
-    EXPECT(h.stats.waits == waits + 1);
+    EXPECT(h.stats.waits == waits + 1 && h.stats.full == 1);
     EXPECT(gcflip_heap_flip_checks(&h.heap, &checks) == GCFLIP_DONE && h.stats.flips == checks.along + checks.whole && h.stats.flips >= 50);
     EXPECT(h.stats.objects == 110 && h.stats.words == 40 + 50 * 2959);
     expect_list(10);
@@ -342,6 +342,7 @@ static void collects(void)
     make_list(10);
     hp_collect(&h);
     EXPECT(h.stats.flips == 1 && h.stats.copied == 40 && h.stats.steps == 1 + 1 + 10 * 3 + 1);
+    EXPECT(h.stats.longest == h.stats.steps && h.stats.full == 0);
     EXPECT(gcflip_heap_work(&h.heap, 20, &work) == GCFLIP_DONE && hp_counts(&h).is_open);
     hp_set_nil(&h, 0);
     expect_objects(0);

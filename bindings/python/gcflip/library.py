@@ -44,8 +44,6 @@ class Answer(enum.IntEnum):
     OUT_OF_RANGE = 2
     CLOSED = 3
     OPEN = 4
-    FRAME_FULL = 5
-    FRAME_EMPTY = 6
     TOO_MANY = 7
     TOO_LARGE = 8
     FAULTY = 9
@@ -62,6 +60,8 @@ class Answer(enum.IntEnum):
     NUMBER = 25
     OBJECT = 26
     RAW_OBJECT = 27
+    FRAME_FULL = 28
+    FRAME_EMPTY = 29
     BUSY = 32
     BEGUN = 33
     IDLE = 34

@@ -11,7 +11,7 @@ use crate::inference::NoMemory;
 ///
 /// # fn main() -> gcflip::Result<()> {
 /// let heap = Heap::open(64, 1)?;
-/// let error = heap.mutator(0)?.make(Slot::own(0), 1, 1000).unwrap_err();
+/// let error = heap.mutator(0)?.new_object(Slot::own(0), 1, 1000).unwrap_err();
 /// assert_eq!(error.class(), Class::Lack); // a program collects, and tries again
 /// # Ok(())
 /// # }

@@ -112,7 +112,7 @@ impl Rooted {
     pub fn make<K: Kind>(&self) -> Result<Root<'_, K>> {
         let made = self.root()?;
         self.reserve(u32::from(K::FIELDS) + 2)?;
-        self.heap.new_root(made.place(), K::KIND, K::FIELDS)?;
+        self.heap.new_object(made.place(), K::KIND, K::FIELDS)?;
         Ok(made)
     }
 
@@ -201,7 +201,7 @@ impl<'h, K: Kind> Root<'h, K> {
     /// Returns `FrameFull` if no root is left.
     pub fn try_clone(&self) -> Result<Root<'h, K>> {
         let copy = self.owner.root()?;
-        self.owner.heap.copy_root(copy.place(), self.place())?;
+        self.owner.heap.copy(copy.place(), self.place())?;
         Ok(copy)
     }
 
@@ -211,11 +211,11 @@ impl<'h, K: Kind> Root<'h, K> {
     ///
     /// Returns `NoNumber` if the field has a reference, because two types have one kind.
     pub fn get_number(&self, field: FieldOf<K, u64>) -> Result<Option<u64>> {
-        match self.owner.heap.get_root(PASSING, self.place(), field.0.into())? {
+        match self.owner.heap.get(PASSING, self.place(), field.0.into())? {
             Value::Number(number) => Ok(Some(number)),
             Value::Nil => Ok(None),
             Value::Object { .. } | Value::RawObject { .. } => {
-                self.owner.heap.copy_root(PASSING, NIL)?;
+                self.owner.heap.copy(PASSING, NIL)?;
                 Err(Error::NoNumber)
             }
         }
@@ -228,7 +228,7 @@ impl<'h, K: Kind> Root<'h, K> {
     /// Returns `OutOfRange` if the number is larger, or, while a collection is open, `NoMemory`. Then nothing has changed.
     pub fn put_number(&self, field: FieldOf<K, u64>, number: u64) -> Result<()> {
         self.owner.heap.set_number(PASSING, number)?;
-        self.owner.heap.put_root(MUTATOR, self.place(), field.0.into(), PASSING)
+        self.owner.heap.put(MUTATOR, self.place(), field.0.into(), PASSING)
     }
 
     /// Returns a reference to the object that a field refers to, or `None` if the field is nil.
@@ -239,7 +239,7 @@ impl<'h, K: Kind> Root<'h, K> {
     /// kind.
     pub fn get_root<T: Kind>(&self, field: FieldOf<K, T>) -> Result<Option<Root<'h, T>>> {
         let found = self.owner.root()?;
-        match self.owner.heap.get_root(found.place(), self.place(), field.0.into())? {
+        match self.owner.heap.get(found.place(), self.place(), field.0.into())? {
             Value::Object { kind, fields } if (kind, fields) == (T::KIND, T::FIELDS) => Ok(Some(found)),
             Value::Nil => Ok(None),
             _ => Err(Error::NoObject),
@@ -255,7 +255,7 @@ impl<'h, K: Kind> Root<'h, K> {
         if !std::ptr::eq(self.owner, other.owner) {
             return Err(Error::OutOfRange);
         }
-        self.owner.heap.put_root(MUTATOR, self.place(), field.0.into(), other.place())
+        self.owner.heap.put(MUTATOR, self.place(), field.0.into(), other.place())
     }
 
     /// Puts nil into a field.
@@ -264,6 +264,6 @@ impl<'h, K: Kind> Root<'h, K> {
     ///
     /// Returns `NoMemory` only while a collection is open. Then nothing has changed.
     pub fn put_nil<T>(&self, field: FieldOf<K, T>) -> Result<()> {
-        self.owner.heap.put_root(MUTATOR, self.place(), field.0.into(), NIL)
+        self.owner.heap.put(MUTATOR, self.place(), field.0.into(), NIL)
     }
 }

@@ -1,7 +1,7 @@
 -- A root that a command writes only if it is not refused: what is known of the roots, and how many looks are left.
 use Rattle.std.proofs.lemmas.Grind.{common_steps}
 use Rattle.std.proofs.lemmas.Bool.{cases_Bool}
-use Rattle.std.proofs.Common.{◌≡◌, inl, inr, ℕ, suc, ◌+◌, ◌-◌, ◌<◌, Bool, true, false, List, [], ◌∷◌, length, Option, Some, None, is_some, refl, ap, sym, ◌∙◌, subst, arith}
+use Rattle.std.proofs.Common.{◌≡◌, ◌⊎◌, inl, inr, ℕ, suc, ◌+◌, ◌-◌, ◌<◌, Bool, true, false, List, [], ◌∷◌, length, Option, Some, None, is_some, refl, ap, sym, ◌∙◌, subst, arith}
 use Rattle.std.specs.Prelude.{max}
 use Rattle.std.specs.Option.{option_map}
 use Rattle.gc_graph.specs.Graph.{Graph, Object, Value}
@@ -21,31 +21,43 @@ use Rattle.gc_plan.specs.Steps.{logged, mutate}
 use Rattle.gc_copy.specs.Words.{CollectionWords, collection_in}
 use Rattle.gc_roots.specs.Twins.{AsksForLook, RootRow}
 use Rattle.gc_collected.specs.CollectedHeap.{HasMissed, fill_step, filled, new_from_step}
-use Rattle.gc_collected.specs.Internal.KnownRoots.{HasStored, roots_left_in}
+use Rattle.gc_collected.specs.Internal.KnownRoots.{HasStored, roots_left_in, without_slots}
 use Rattle.gc_collected.specs.declared.known.KnownRoots.{KnownRoots}
 use Rattle.gc_collected.proofs.ByPlace.{Known, root_known}
 use Rattle.gc_collected.proofs.Marks.{stored_asks}
 use Rattle.gc_collected.proofs.Together.{logged_none}
 
--- the root at place p was written, or nothing was
+-- The root at place p was written, or nothing was; then the slots may be known no longer.
 pub record StoredIf (is_written : Bool) (was now : KnownRoots) (slots p : ℕ) : Type 0 where
   pub written : is_written ≡ true → HasStored was now 0 (max was.twins.used (p - slots + 1)) slots p
-  pub none : is_written ≡ false → now ≡ was
+  pub none : is_written ≡ false → (now ≡ was) ⊎ (now ≡ without_slots was)
+
+-- what is known stays known without the slots
+known_less : (was : KnownRoots) (s : State) → Known was s → Known (without_slots was) s
+known_less was s k = (record { slots_high = omega arith; slots = λ p low. absurd (omega arith); keeps = (k.0).keeps }, k.1)
+
+known_still : (was now : KnownRoots) (s : State) → (now ≡ was) ⊎ (now ≡ without_slots was) → Known was s → Known now s
+known_still was now s (inl same) k = subst (λ (n : KnownRoots). Known n s) (sym same) k
+known_still was now s (inr less) k = subst (λ (n : KnownRoots). Known n s) (sym less) (known_less was s k)
+
+twins_still : (was now : KnownRoots) → (now ≡ was) ⊎ (now ≡ without_slots was) → now.twins ≡ was.twins
+twins_still was now (inl same) = ap (λ (x : KnownRoots). x.twins) same
+twins_still was now (inr less) = ap (λ (x : KnownRoots). x.twins) less
 
 pub known_if : (written : Bool) (was now : KnownRoots) (s : State) (m p : ℕ) (op : Op) → root_written m op ≡ Some p → p < length s.heap.graph.roots → StoredIf written was now (roots_of s.mutators) p → (written ≡ false → (mutate s m op).1 ≡ s) → Known was s → Known now (mutate s m op).1
 known_if written was now s m p op at within stored same k = elim (cases_Bool written) [
   | inl done ↦ root_known was now s m p op at within (stored.written done) k
-  | inr skipped ↦ subst (λ (t : State). Known now t) (sym (same skipped)) (subst (λ (n : KnownRoots). Known n s) (sym (stored.none skipped)) k)
+  | inr skipped ↦ subst (λ (t : State). Known now t) (sym (same skipped)) (known_still was now s (stored.none skipped) k)
 ]
 
 pub asks_if : (written : Bool) (o : Option CollectionWords) (was now : KnownRoots) (slots p : ℕ) → StoredIf written was now slots p → AsksForLook p (roots_left_in o was.twins) (roots_left_in o now.twins)
 asks_if written o was now slots p stored = elim (cases_Bool written) [
   | inl done ↦ stored_asks o was now 0 slots p (stored.written done)
-  | inr skipped ↦ (let same = ap (λ (x : KnownRoots). roots_left_in o x.twins) (stored.none skipped) in (omega (arith, same), omega (arith, same)))
+  | inr skipped ↦ (let same = ap (λ (x : RootRow). roots_left_in o x) (twins_still was now (stored.none skipped)) in (omega (arith, same), omega (arith, same)))
 ]
 
 pub same_if : (written : Bool) (o : Option CollectionWords) (was now : KnownRoots) (slots p : ℕ) → StoredIf written was now slots p → written ≡ false → roots_left_in o now.twins ≡ roots_left_in o was.twins
-same_if written o was now slots p stored skipped = ap (λ (x : KnownRoots). roots_left_in o x.twins) (stored.none skipped)
+same_if written o was now slots p stored skipped = ap (λ (x : RootRow). roots_left_in o x) (twins_still was now (stored.none skipped))
 
 -- ---- whether a collection is open
 

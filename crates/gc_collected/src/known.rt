@@ -1,6 +1,6 @@
 //! What a collected heap knows of its roots, and how far the search for roots whose targets have no replicas has come.
 
-ghost use Rattle.std.specs.Prelude.{◌≡◌, ◌<◌, ◌≤◌, ◌+◌, ◌-◌, IfOk, IfSome, IsFalse, IsTrue, None, length, max, replicate};
+ghost use Rattle.std.specs.Prelude.{◌≡◌, ◌⊎◌, ◌<◌, ◌≤◌, ◌+◌, ◌-◌, IfOk, IfSome, IsFalse, IsTrue, None, length, max, replicate};
 ghost use Rattle.std.specs.Option.{option_map};
 ghost use Rattle.gc_graph.specs.Slots.{roots_of};
 ghost use Rattle.gc_heap.specs.Heap.{graph_in};
@@ -9,7 +9,7 @@ ghost use Rattle.gc_plan.specs.Staying.{IsMissing};
 ghost use Rattle.gc_plan.specs.Steps.{root_target};
 ghost use Rattle.gc_copy.specs.Words.{collection_in, open_state, BelongsTo};
 ghost use Rattle.gc_roots.specs.Twins.{IsDone, begun, looks_left};
-ghost use Rattle.gc_collected.specs.Internal.KnownRoots.{ComparesTwins, HasStored, HasWritten, KnowsRoots};
+ghost use Rattle.gc_collected.specs.Internal.KnownRoots.{ComparesTwins, HasStored, HasWritten, KnowsRoots, without_slots};
 ghost use Rattle.gc_collected.specs.Internal.Found.{IsAtStart, FindsFirst, IsMissingExtra};
 ghost use Rattle.gc_collected.specs.Collected.{HasLookedOn};
 ghost use Rattle.gc_collected.specs.declared.known.Found.{Found};
@@ -75,15 +75,17 @@ impl KnownRoots {
         }
     }
 
-    /// The same, if it was written.
+    /// The same, if it was written. Of a slot nothing is known afterwards, written or not: no look is asked for at slots.
     #[inline(always)]
     pub(crate) fn took_if(&mut self, is_written: bool, place: u32, slots: usize)
         requires within { (slots ≤ place) → place - slots < length self.old.twins.twins }
         ensures written { IsTrue is_written → HasStored self.old self.new 0 (max self.old.twins.used (place - slots + 1)) slots place }
-        ensures none { IsFalse is_written → self.new ≡ self.old }
+        ensures none { IsFalse is_written → (self.new ≡ self.old) ⊎ (self.new ≡ without_slots self.old) }
     {
-        if is_written {
-            self.took(place, slots);
+        if (place as usize) < slots {
+            self.slots = 0;
+        } else if is_written {
+            self.wrote(place - slots as u32);
         }
     }
 

@@ -1,14 +1,14 @@
--- The numbers with which only the heap's calls are refused. Replies have the numbers of `Replies`.
+-- Numbers that only the heap's calls return. Replies to commands have the numbers of `Replies`.
 use Rattle.std.specs.Prelude.{ℕ}
 
--- the frame has no place left
+-- a reply: the frame has no place left
 abbrev pub frame_full : ℕ
-frame_full = 5
+frame_full = 28
 
--- the frame holds no value
+-- a reply: the frame holds no value
 abbrev pub frame_empty : ℕ
-frame_empty = 6
+frame_empty = 29
 
--- the words of a space are not shaped, since other code wrote over them
+-- a refusal: the words of a space are not shaped, since other code wrote over them
 abbrev pub damaged : ℕ
 damaged = 11

@@ -9,18 +9,14 @@ use Rattle.gc_in_c.specs.Replies.{reply_in_c}
 use Rattle.gcflip_heap_c.specs.declared.handle.GcflipHeap.{GcflipHeap}
 
 -- What a call returns, and the state after it. `takes` holds of the states in which its arguments are in range. `did` relates the states
--- before and after a call that is not refused. `other` is the number of a refusal for a reason of its own.
-pub record IsCallOr (other : ℕ) (takes : State → Type 0) (did : State → State → Type 0) (old new : Option State) (answer : ℕ) : Type 0 where
+-- before and after a call that is not refused.
+pub record IsCall (takes : State → Type 0) (did : State → State → Type 0) (old new : Option State) (answer : ℕ) : Type 0 where
   pub done : ¬ IsRefusal answer → IsSomeAnd old (λ s. IsSomeAnd new (did s))
   -- a refused call changes nothing
   pub refused : IsRefusal answer → new ≡ old
-  pub answers : IsRefusal answer → (answer ≡ other) ⊎ (answer ≡ out_of_range) ⊎ (answer ≡ closed_handle)
+  pub answers : IsRefusal answer → (answer ≡ no_memory) ⊎ (answer ≡ out_of_range) ⊎ (answer ≡ closed_handle)
   pub outside : (answer ≡ out_of_range) ↔ IsSomeAnd old (λ s. ¬ takes s)
   pub closed : (answer ≡ closed_handle) ↔ (old ≡ None)
-
--- a call that is refused for no other reason than these and a failed allocation
-abbrev pub IsCall : (State → Type 0) → (State → State → Type 0) → Option State → Option State → ℕ → Type 0
-IsCall takes did old new answer = IsCallOr no_memory takes did old new answer
 
 -- in the state `old` the step gets a reply for which `shown` holds, and leads to the state `new`
 abbrev pub Replies : {R : Type 0} → (State → R × State) → (R → Type 0) → State → State → Type 0

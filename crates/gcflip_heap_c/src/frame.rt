@@ -1,6 +1,6 @@
 //! The exports on extra roots, and on frames, which are stacks of them.
 
-ghost use Rattle.std.specs.Prelude.{◌≡◌, ◌≢◌, ◌<◌, ◌≤◌, ◌-◌, ◌↔◌, ◌∷◌, []};
+ghost use Rattle.std.specs.Prelude.{◌≡◌, ◌≢◌, ◌⊎◌, ◌<◌, ◌≤◌, ◌-◌, ◌↔◌, ◌∷◌, []};
 ghost use Rattle.gc_check.specs.InC.{done, no_memory, IsRefusal};
 ghost use Rattle.gc_plan.specs.State.{extra_roots_of};
 ghost use Rattle.gc_collected.specs.ExtraRoots.{clear_step};
@@ -64,8 +64,8 @@ pub extern "C" fn gcflip_heap_root_clear(heap: &mut GcflipHeap, from: u32, to: u
     DONE
 }
 
-/// Copies the value of slot `s` to the top of the frame, and moves the top up, and `high` with it unless that is above. Returns 5 if
-/// the frame is full.
+/// Copies the value of slot `s` to the top of the frame, and moves the top up, and `high` with it unless that is above. Returns 28 if
+/// the frame is full; nothing has changed then.
 #[unsafe(no_mangle)]
 pub extern "C" fn gcflip_heap_frame_push(
     heap: &mut GcflipHeap,
@@ -75,8 +75,9 @@ pub extern "C" fn gcflip_heap_frame_push(
 ) -> u32
     ensures call { IsFrameCall (NamesFrame m s frame.old) (frame.old.top ≡ frame.old.end) frame_full
         (λ state. store_step state m frame.old.top (numbered_slot s)) heap.old.state heap.new.state result }
-    ensures frame { ¬ IsRefusal result → frame.new ≡ pushed frame.old }
-    ensures silent { IsRefusal result → frame.new ≡ frame.old }
+    ensures frame { ¬ IsRefusal result → result ≢ frame_full → frame.new ≡ pushed frame.old }
+    ensures silent { IsRefusal result ⊎ (result ≡ frame_full) → frame.new ≡ frame.old }
+    ensures memory { result ≢ no_memory }
     ensures beside { heap.new.beside ≡ heap.old.beside }
 {
     let heap = lent_to!(heap, m);
@@ -91,7 +92,7 @@ pub extern "C" fn gcflip_heap_frame_push(
 }
 
 /// Moves the top of the frame down, copies the value there into slot `d`, and sets that root to nil. Moves `high` down too, unless it
-/// was above the top. Returns 6 if the frame is empty.
+/// was above the top. Returns 29 if the frame is empty; nothing has changed then.
 #[unsafe(no_mangle)]
 pub extern "C" fn gcflip_heap_frame_pop(
     heap: &mut GcflipHeap,
@@ -101,8 +102,9 @@ pub extern "C" fn gcflip_heap_frame_pop(
 ) -> u32
     ensures call { IsFrameCall (NamesFrame m d frame.old) (frame.old.top ≡ frame.old.first) frame_empty
         (λ state. pop_step state m (numbered_slot d) (frame.old.top - 1)) heap.old.state heap.new.state result }
-    ensures frame { ¬ IsRefusal result → frame.new ≡ popped frame.old }
-    ensures silent { IsRefusal result → frame.new ≡ frame.old }
+    ensures frame { ¬ IsRefusal result → result ≢ frame_empty → frame.new ≡ popped frame.old }
+    ensures silent { IsRefusal result ⊎ (result ≡ frame_empty) → frame.new ≡ frame.old }
+    ensures memory { result ≢ no_memory }
     ensures beside { heap.new.beside ≡ heap.old.beside }
 {
     let heap = lent_to!(heap, m);

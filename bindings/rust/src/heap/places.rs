@@ -42,15 +42,14 @@ impl Place {
     }
 }
 
-/// Commands on any roots, also extra ones and those of several mutators. Where a mutator's call on its slots has the same word, the command has the
-/// suffix `_root`.
+/// Commands on any roots, also extra ones and those of several mutators.
 impl Heap {
     /// Makes an object of this kind with this number of fields, all nil, and puts a reference to it into the root.
     ///
     /// # Errors
     ///
     /// Returns `OutOfRange`, or `Full` if the heap has no room for it.
-    pub fn new_root(&self, root: Place, kind: u8, fields: u16) -> Result<()> {
+    pub fn new_object(&self, root: Place, kind: u8, fields: u16) -> Result<()> {
         replied(self.handle.new_root(root.0, kind.into(), fields.into())).map(drop)
     }
 
@@ -59,16 +58,16 @@ impl Heap {
     /// # Errors
     ///
     /// Returns `OutOfRange`, or `Full` if the heap has no room for it.
-    pub fn new_raw_root(&self, root: Place, kind: u8, fields: u16) -> Result<()> {
+    pub fn new_raw(&self, root: Place, kind: u8, fields: u16) -> Result<()> {
         replied(self.handle.new_raw_root(root.0, kind.into(), fields.into())).map(drop)
     }
 
-    /// Makes an object of this kind with two fields, which take the values of roots `first` and `second`. This is `new_from_root` with these two roots.
+    /// Makes an object of this kind with two fields, which take the values of roots `first` and `second`. This is `new_from` with these two roots.
     ///
     /// # Errors
     ///
-    /// Returns the errors of `new_from_root`.
-    pub fn new_pair_root(&self, mutator: u8, root: Place, kind: u8, first: Place, second: Place) -> Result<()> {
+    /// Returns the errors of `new_from`.
+    pub fn new_pair(&self, mutator: u8, root: Place, kind: u8, first: Place, second: Place) -> Result<()> {
         replied(self.handle.new_pair_root(mutator.into(), root.0, kind.into(), first.0, second.0)).map(drop)
     }
 
@@ -79,26 +78,26 @@ impl Heap {
     ///
     /// Returns `Full` if the heap has no room for it, or `OutOfRange` if there is no such root or mutator, or more than 65,535 sources; or, while a
     /// collection is open, `NoMemory`.
-    pub fn new_from_root(&self, mutator: u8, root: Place, kind: u8, sources: &[Place]) -> Result<()> {
+    pub fn new_from(&self, mutator: u8, root: Place, kind: u8, sources: &[Place]) -> Result<()> {
         replied(self.handle.new_from_roots(mutator.into(), root.0, kind.into(), sources)).map(drop)
     }
 
-    /// Makes an object with a field for each of these, and puts a reference to it into the root: a `new_root`, and then, in order, a `put_number_root` for
-    /// each number and a `put_root` for each root. No other root changes. A field that takes the root itself refers to the new object.
+    /// Makes an object with a field for each of these, and puts a reference to it into the root: a `new_object`, and then, in order, a `put_number` for
+    /// each number and a `put` for each root. No other root changes. A field that takes the root itself refers to the new object.
     ///
     /// # Errors
     ///
     /// Returns `OutOfRange` if there is no such root or mutator, a number is 2^63 or more, or there are more than 65535 fields, `Full`, or, while a collection
     /// is open, `NoMemory`. Then nothing changed.
-    pub fn new_with_root(&self, mutator: u8, root: Place, kind: u8, fields: &[Field]) -> Result<()> {
+    pub fn new_with(&self, mutator: u8, root: Place, kind: u8, fields: &[Field]) -> Result<()> {
         replied(self.handle.new_with_root(mutator.into(), root.0, kind.into(), fields)).map(drop)
     }
 
-    /// Makes an object of this kind with `count` fields, which take the values of the roots from `first` on. This is `new_from_root` with these roots.
+    /// Makes an object of this kind with `count` fields, which take the values of the roots from `first` on. This is `new_from` with these roots.
     ///
     /// # Errors
     ///
-    /// Returns the errors of `new_from_root`.
+    /// Returns the errors of `new_from`.
     pub fn gather(&self, mutator: u8, root: Place, kind: u8, first: Place, count: u32) -> Result<()> {
         replied(self.handle.gather(mutator.into(), root.0, kind.into(), first.0, count)).map(drop)
     }
@@ -135,7 +134,7 @@ impl Heap {
     /// # Errors
     ///
     /// Returns `OutOfRange` if there is no such root.
-    pub fn copy_root(&self, root: Place, source: Place) -> Result<()> {
+    pub fn copy(&self, root: Place, source: Place) -> Result<()> {
         replied(self.handle.copy_root(root.0, source.0)).map(drop)
     }
 
@@ -144,13 +143,13 @@ impl Heap {
     /// # Errors
     ///
     /// Returns `NoObject`, `NoField`, or `OutOfRange` if there is no such root.
-    pub fn get_root(&self, root: Place, source: Place, field: u32) -> Result<Value> {
+    pub fn get(&self, root: Place, source: Place, field: u32) -> Result<Value> {
         let (answer, number) = self.handle.get_root(root.0, source.0, field);
         match replied(answer)? {
             sys::GCFLIP_NIL => Ok(Value::Nil),
             sys::GCFLIP_NUMBER => Ok(Value::Number(number)),
             // The library's `get` does not read the object that it finds.
-            _ => self.look_root(root),
+            _ => self.look(root),
         }
     }
 
@@ -170,11 +169,11 @@ impl Heap {
     /// # Errors
     ///
     /// Returns `NoObject`, `NoField`, `NoNumber`, or `OutOfRange` if there is no such root or mutator; or, while a collection is open, `NoMemory`.
-    pub fn put_root(&self, mutator: u8, root: Place, field: u32, source: Place) -> Result<()> {
+    pub fn put(&self, mutator: u8, root: Place, field: u32, source: Place) -> Result<()> {
         replied(self.handle.put_root(mutator.into(), root.0, field, source.0)).map(drop)
     }
 
-    /// Does what `put_root` does, but never runs out of memory: where the log cannot grow, it first gives the open collection up.
+    /// Does what `put` does, but never runs out of memory: where the log cannot grow, it first gives the open collection up.
     ///
     /// # Errors
     ///
@@ -183,27 +182,27 @@ impl Heap {
         replied(self.handle.put_sure(mutator.into(), root.0, field, source.0)).map(drop)
     }
 
-    /// Writes a number below 2^63 into a field of the object that the root refers to, as `put_root` writes a value. No root changes.
+    /// Writes a number below 2^63 into a field of the object that the root refers to, as `put` writes a value. No root changes.
     ///
     /// # Errors
     ///
     /// Returns `NoObject`, `NoField`, or `OutOfRange` if the number is larger, or if there is no such root or mutator; or, while a collection is open,
     /// `NoMemory`.
-    pub fn put_number_root(&self, mutator: u8, root: Place, field: u32, number: u64) -> Result<()> {
+    pub fn put_number(&self, mutator: u8, root: Place, field: u32, number: u64) -> Result<()> {
         replied(self.handle.put_number_root(mutator.into(), root.0, field, number)).map(drop)
     }
 
-    /// Writes nil into a field of the object that the root refers to, as `put_root` writes a value. No root changes.
+    /// Writes nil into a field of the object that the root refers to, as `put` writes a value. No root changes.
     ///
     /// # Errors
     ///
     /// Returns `NoObject`, `NoField`, `NoNumber` if the object is raw, or `OutOfRange` if there is no such root or mutator; or, while a collection is open,
     /// `NoMemory`.
-    pub fn put_nil_root(&self, mutator: u8, root: Place, field: u32) -> Result<()> {
+    pub fn put_nil(&self, mutator: u8, root: Place, field: u32) -> Result<()> {
         replied(self.handle.put_nil_root(mutator.into(), root.0, field)).map(drop)
     }
 
-    /// Writes the value of root `source` into these fields of the object that the root refers to, as `put_root` writes it into one. All are written or none.
+    /// Writes the value of root `source` into these fields of the object that the root refers to, as `put` writes it into one. All are written or none.
     ///
     /// # Errors
     ///
@@ -220,7 +219,7 @@ impl Heap {
     ///
     /// Returns `NoObject`, `NoField`, `NoNumber` if the object takes only numbers and a value is none, or `OutOfRange` if there is no such root or mutator;
     /// or, while a collection is open, `NoMemory`.
-    pub fn copy_fields_root(&self, mutator: u8, root: Place, to: u32, source: Place, from: u32, count: u32) -> Result<()> {
+    pub fn copy_fields(&self, mutator: u8, root: Place, to: u32, source: Place, from: u32, count: u32) -> Result<()> {
         replied(self.handle.copy_root_fields(mutator.into(), root.0, to, source.0, from, count)).map(drop)
     }
 
@@ -238,7 +237,7 @@ impl Heap {
     /// # Errors
     ///
     /// Returns `OutOfRange` if there is no such root.
-    pub fn look_root(&self, root: Place) -> Result<Value> {
+    pub fn look(&self, root: Place) -> Result<Value> {
         let (answer, view) = self.handle.look_root(root.0);
         Ok(value_of(replied(answer)?, &view))
     }
@@ -248,7 +247,7 @@ impl Heap {
     /// # Errors
     ///
     /// Returns `OutOfRange` if there is no such root.
-    pub fn address_root(&self, root: Place) -> Result<Option<u32>> {
+    pub fn address(&self, root: Place) -> Result<Option<u32>> {
         let (answer, address) = self.handle.address_root(root.0);
         found(answer, address)
     }
@@ -258,7 +257,7 @@ impl Heap {
     /// # Errors
     ///
     /// Returns `NoObject` if no object starts there, or `OutOfRange` if there is no such root. The root then keeps its value.
-    pub fn refer_root(&self, root: Place, address: u32) -> Result<()> {
+    pub fn refer(&self, root: Place, address: u32) -> Result<()> {
         replied(self.handle.refer_root(root.0, address)).map(drop)
     }
 }

@@ -23,6 +23,10 @@ roots_left_in (Some c) row = looks_left row
 abbrev pub ComparesTwins : KnownRoots → Type 0
 ComparesTwins known = ComparesKnown known.twins known.looks
 
+-- nothing is known of the slots
+abbrev pub without_slots : KnownRoots → KnownRoots
+without_slots known = record { slots = 0; twins = known.twins; looks = known.looks }
+
 -- extra root k was written
 pub record HasWritten (was now : KnownRoots) (k : ℕ) : Type 0 where
   pub slots : now.slots ≡ was.slots
