@@ -68,11 +68,7 @@ impl KnownRoots {
         requires within { (slots ≤ place) → place - slots < length self.old.twins.twins }
         ensures { HasStored self.old self.new 0 (max self.old.twins.used (place - slots + 1)) slots place }
     {
-        if (place as usize) < slots {
-            self.slots = 0;
-        } else {
-            self.wrote(place - slots as u32);
-        }
+        self.took_if(true, place, slots);
     }
 
     /// The same, if it was written. Of a slot nothing is known afterwards, written or not: no look is asked for at slots.
