@@ -1,7 +1,7 @@
 -- A root that a command writes only if it is not refused: what is known of the roots, and how many looks are left.
 use Rattle.std.proofs.lemmas.Grind.{common_steps}
 use Rattle.std.proofs.lemmas.Bool.{cases_Bool}
-use Rattle.std.proofs.Common.{◌≡◌, ◌⊎◌, inl, inr, ℕ, suc, ◌+◌, ◌-◌, ◌<◌, Bool, true, false, List, [], ◌∷◌, length, Option, Some, None, is_some, refl, ap, sym, ◌∙◌, subst, arith}
+use Rattle.std.proofs.Common.{◌≡◌, ◌⊎◌, inl, inr, ℕ, suc, ◌+◌, ◌-◌, ◌<◌, Bool, true, false, true≢false, List, [], ◌∷◌, length, Option, Some, None, is_some, refl, ap, sym, ◌∙◌, subst, arith}
 use Rattle.std.specs.Prelude.{max}
 use Rattle.std.specs.Option.{option_map}
 use Rattle.gc_graph.specs.Graph.{Graph, Object, Value}
@@ -31,6 +31,13 @@ use Rattle.gc_collected.proofs.Together.{logged_none}
 pub record StoredIf (is_written : Bool) (was now : KnownRoots) (slots p : ℕ) : Type 0 where
   pub written : is_written ≡ true → HasStored was now 0 (max was.twins.used (p - slots + 1)) slots p
   pub none : is_written ≡ false → (now ≡ was) ⊎ (now ≡ without_slots was)
+
+-- a slot that a command may write is not known from then on
+pub slot_taken : (was : KnownRoots) (slots d : ℕ) → d < slots → StoredIf true was (without_slots was) slots d
+slot_taken was slots d low = record {
+  written = λ _. record { slot = λ _. refl; extra = λ high. absurd (omega arith); used = λ high. absurd (omega arith) };
+  none = λ e. absurd (true≢false e);
+}
 
 -- what is known stays known without the slots
 known_less : (was : KnownRoots) (s : State) → Known was s → Known (without_slots was) s

@@ -43,6 +43,19 @@ impl CollectedHeap {
     {
         // Here the prover learns that the heap is sound.
         let _ = self.heap.space();
+        let slots = root_count(self.heap.mutators());
+        // A slot asks for no look, so it needs no test of the reply.
+        if (d as usize) < slots {
+            self.known.slots = 0;
+            return new_root_in(
+                &self.collection,
+                &mut self.heap,
+                &mut self.watch,
+                d,
+                kind,
+                len,
+            );
+        }
         let made = new_root_in(
             &self.collection,
             &mut self.heap,
@@ -51,8 +64,7 @@ impl CollectedHeap {
             kind,
             len,
         );
-        self.known
-            .took_if(has_made(&made), d, root_count(self.heap.mutators()));
+        self.known.took_if(has_made(&made), d, slots);
         made
     }
 
@@ -125,9 +137,15 @@ impl CollectedHeap {
         self.is_sound();
         // Here the prover learns that the heap is sound.
         let _ = self.heap.space();
-        let fetched = self.heap.fetch_root(d, s, field_number(i));
-        self.known
-            .took_if(has_fetched(&fetched), d, root_count(self.heap.mutators()));
+        let slots = root_count(self.heap.mutators());
+        let field = field_number(i);
+        // A slot asks for no look, so it needs no test of what is found.
+        if (d as usize) < slots {
+            self.known.slots = 0;
+            return self.heap.fetch_root(d, s, field);
+        }
+        let fetched = self.heap.fetch_root(d, s, field);
+        self.known.took_if(has_fetched(&fetched), d, slots);
         fetched
     }
 

@@ -1,5 +1,5 @@
 -- A `New` writes one root and no field of an older object, so an open collection stays.
-use Rattle.std.proofs.Common.{◌<◌, length, ap, refl, sym, ◌∙◌, subst}
+use Rattle.std.proofs.Common.{◌<◌, true, true≢false, length, ap, refl, sym, ◌∙◌, subst, arith}
 use Rattle.gc_graph.specs.Slots.{roots_of}
 use Rattle.gc_graph.specs.declared.command.Op.TheVariants.{New}
 use Rattle.gc_graph.specs.declared.reply.Reply.{Reply}
@@ -7,20 +7,32 @@ use Rattle.gc_heap.specs.Places.{root_at}
 use Rattle.gc_plan.specs.State.{State}
 use Rattle.gc_plan.specs.Steps.{mutate}
 use Rattle.gc_collected.specs.Internal.CollectedHeap.{state_in}
-use Rattle.gc_collected.specs.Internal.KnownRoots.{roots_left_in}
+use Rattle.gc_collected.specs.Internal.KnownRoots.{roots_left_in, without_slots}
 use Rattle.gc_roots.specs.Twins.{AsksForLook}
 use Rattle.gc_collected.proofs.ByPlace.{Known}
 use Rattle.gc_collected.proofs.Core.{core_is, left_is}
-use Rattle.gc_collected.proofs.OtherCommands.{it_belongs}
 use Rattle.gc_collected.proofs.Together.{full_same}
-use Rattle.gc_collected.proofs.Unwritten.{StoredIf, asks_if, known_if, not_made, same_if}
+use Rattle.gc_collected.proofs.Unwritten.{StoredIf, asks_if, known_if, slot_taken}
 use Rattle.gc_collected.proofs.collected_heap.CollectedHeap.new_at_root.Goals as goal
-
-pub new_root_in-made-requires-clause-belongs : goal.new_root_in-made-requires-clause-belongs
-new_root_in-made-requires-clause-belongs c = it_belongs c.self.inside.epoch c.self.inside.heap c.self.inside.collection c.self.invariant.0.0
 
 pub invariant_of-self : goal.invariant_of-self
 invariant_of-self c =
+    let heap = c.self.inside.heap in
+    let was = c.self.inside.known in
+    let made = c.new_root_in in
+    let s = state_in heap c.self.inside.collection in
+    let op = New (root_at c.args.d) c.args.kind c.args.len in
+    let within = subst (λ (s : State). c.args.d < length s.heap.graph.roots) (sym (core_is c.self.view_is)) c.requires in
+    let slots = c.root_count-slots.ensures ∙ ap roots_of c.mutators.ensures.value in
+    let low : c.args.d < roots_of heap.mutators = let below = c.if-d-slots.true in omega (arith, below, slots) in
+    let knows = subst (Known (without_slots was)) (ap (λ (x : Reply × State). x.1) made.ensures.step)
+    (known_if true was (without_slots was) s 0 c.args.d op refl within (slot_taken was (roots_of heap.mutators) c.args.d low) (λ e. absurd (true≢false e)) (c.self.invariant.0.1, c.self.invariant.0.2)) in (
+      (made.ensures.fits c.self.inside.epoch c.self.invariant.0.0, knows.0, knows.1),
+      λ on. made.ensures.follows (c.self.invariant.1 on),
+    )
+
+pub invariant_of-self-2 : goal.invariant_of-self-2
+invariant_of-self-2 c =
     let heap = c.self.inside.heap in
     let was = c.self.inside.known in
     let now = c.took_if.new.self in
@@ -28,7 +40,7 @@ invariant_of-self c =
     let s = state_in heap c.self.inside.collection in
     let op = New (root_at c.args.d) c.args.kind c.args.len in
     let within = subst (λ (s : State). c.args.d < length s.heap.graph.roots) (sym (core_is c.self.view_is)) c.requires in
-    let slots = c.root_count.ensures ∙ ap roots_of (c.mutators.ensures.value ∙ made.ensures.mutators) in
+    let slots = c.root_count-slots.ensures ∙ ap roots_of c.mutators.ensures.value in
     let stored : StoredIf c.has_made.result was now (roots_of heap.mutators) c.args.d = subst (λ n. StoredIf c.has_made.result was now n c.args.d) slots (record { written = c.took_if.ensures.written; none = c.took_if.ensures.none }) in
     let knows = subst (Known now) (ap (λ (x : Reply × State). x.1) made.ensures.step)
     (known_if c.has_made.result was now s 0 c.args.d op refl within stored
@@ -39,9 +51,4 @@ invariant_of-self c =
 
 pub returns-clause-looks : goal.returns-clause-looks
 returns-clause-looks c = subst (λ n. AsksForLook c.args.d n (roots_left_in c.self.inside.collection c.took_if.new.self.twins)) (left_is c.self.view_is)
-    (asks_if c.has_made.result c.self.inside.collection c.self.inside.known c.took_if.new.self c.root_count.result c.args.d (record { written = c.took_if.ensures.written; none = c.took_if.ensures.none }))
-
-pub returns-clause-full : goal.returns-clause-full
-returns-clause-full c = λ full.
-    same_if c.has_made.result c.self.inside.collection c.self.inside.known c.took_if.new.self c.root_count.result c.args.d (record { written = c.took_if.ensures.written; none = c.took_if.ensures.none }) (not_made c.has_made.result (λ made. c.has_made.ensures.made made full))
-    ∙ left_is c.self.view_is
+    (asks_if c.has_made.result c.self.inside.collection c.self.inside.known c.took_if.new.self c.root_count-slots.result c.args.d (record { written = c.took_if.ensures.written; none = c.took_if.ensures.none }))
