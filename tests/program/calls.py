@@ -15,7 +15,7 @@ CALL = re.compile(r"\b(gcflip_\w+)\(")
 CHANGED_PAGES = [("a call that is said never to run out of memory", "| while a collection is open |", "| never |"),
                  ("a cost of its own", "| 35 |", "| 27 |"),
                  ("an answer that is left out", "`DONE`, `OUT_OF_RANGE`, `CLOSED`, `NO_OBJECT`", "`DONE`, `OUT_OF_RANGE`, `CLOSED`"),
-                 ("a name of another call", "| `cons` |", "| `new_pair` |"),
+                 ("a name of another call", "| `new_pair` | `new_pair` |", "| `new_from` | `new_pair` |"),
                  ("another sentence", "Puts nil into slot d.", "Puts 0 into slot d."),
                  ("a note with another formula", "(pace->left + size) / 2", "(pace->left + size) / 3"),
                  ("a row that is left out", re.compile(r"(?m)^\| `gcflip_heap_refer`.*\n"), ""),
