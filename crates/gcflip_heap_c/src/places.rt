@@ -19,6 +19,7 @@ ghost use Rattle.gc_in_c.specs.Replies.{reply_in_c, got_in_c, number_after, view
 use crate::answer::OUT_OF_RANGE;
 use crate::guards::lent;
 use crate::handle::GcflipHeap;
+use crate::rare::put_at_roots_while_open;
 use gc_collected::Plain;
 use gc_graph::Number;
 use gc_in_c::{GcflipView, of_fetched, of_look, of_reply, of_result};
@@ -133,6 +134,9 @@ pub extern "C" fn gcflip_put(heap: &mut GcflipHeap, m: u32, s: u32, i: u32, t: u
     let roots = heap.root_places();
     if m >= u32::from(heap.mutators()) || s as usize >= roots || t as usize >= roots {
         return OUT_OF_RANGE;
+    }
+    if heap.is_open() {
+        return put_at_roots_while_open(heap, m as u8, s, i, t);
     }
     of_result(heap.put_root(m as u8, s, i, t))
 }

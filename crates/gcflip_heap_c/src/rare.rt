@@ -1,12 +1,14 @@
 //! Commands in the rarer cases: long objects, and writes while a collection is open. They are functions of their own, which an export calls
 //! last. So the common case of the export calls at most what makes the standing checker's rows longer, and saves fewer registers.
 
-ghost use Rattle.std.specs.Prelude.{◌≡◌, ◌≢◌, ◌<◌, ◌∷◌, [], Some, IsSome};
+ghost use Rattle.std.specs.Prelude.{◌≡◌, ◌≢◌, ◌<◌, ◌∷◌, [], Some, IsSome, length};
+ghost use Rattle.gc_heap.specs.Places.{root_at};
 ghost use Rattle.gc_check.specs.InC.{no_memory};
 ghost use Rattle.gc_graph.specs.declared.command.Op.{Op};
 ghost use Rattle.gc_plan.specs.Steps.{mutate};
 ghost use Rattle.gc_collected.specs.CollectedHeap.{new_from_step};
 ghost use Rattle.gcflip_heap_c.specs.Commands.{IsCommandCall};
+ghost use Rattle.gcflip_heap_c.specs.Places.{HasRoots};
 ghost use Rattle.gcflip_heap_c.specs.Slots.{NamesSlots, numbered_slot};
 
 use crate::answer::OUT_OF_RANGE;
@@ -59,6 +61,26 @@ pub(crate) fn put_while_open(heap: &mut CollectedHeap, m: u8, s: u8, i: u16, t: 
     }
     let (s, t) = (numbered_slot(s), numbered_slot(t));
     of_result(heap.put(m, s, i, t))
+}
+
+/// Performs `gcflip_put` while a collection is open.
+#[inline(never)]
+pub(crate) fn put_at_roots_while_open(
+    heap: &mut CollectedHeap,
+    m: u8,
+    s: u32,
+    i: u32,
+    t: u32,
+) -> u32
+    requires mutator { m < heap.old.core.mutators }
+    requires target { s < length heap.old.core.heap.graph.roots }
+    requires giver { t < length heap.old.core.heap.graph.roots }
+    ensures call { IsCommandCall (λ state. (m < state.mutators) × HasRoots (s ∷ t ∷ []) state)
+        (λ state. mutate state m (Op.Put (root_at s) i (root_at t))) (Some heap.old.core) (Some heap.new.core) result }
+    ensures beside { heap.new.beside ≡ heap.old.beside }
+    ensures memory { result ≡ no_memory → IsSome heap.old.core.collection }
+{
+    of_result(heap.put_root(m, s, i, t))
 }
 
 /// Performs `gcflip_heap_put_number` while a collection is open.
