@@ -147,6 +147,23 @@ class Roots(unittest.TestCase):
             del held[4], ref
             self.assertEqual((heap.make(9, 1).kind, [ref[0] for ref in held]), (9, [*range(4), *range(5, 21)]))
 
+    def test_what_was_done_is_counted(self):
+        with Heap(100000, extra_roots=8) as heap:
+            self.assertEqual(heap.stats(), gcflip.Stats(0, 0, 0, 0, 0, 0, 0))
+            held = [heap.make(1, 2), heap.make_raw(1, 3)]
+            self.assertEqual(heap.stats()[:4], (2, 9, 0, 0))
+            while heap.stats().flips == 0:
+                heap.make(1, 2)
+            stats, checks = heap.stats(), heap.flip_checks()
+            self.assertEqual((stats.flips, stats.words), (checks.along + checks.whole, 9 + 4 * (stats.objects - 2)))
+            self.assertTrue(0 < stats.longest <= stats.steps and stats.copied >= 9 and stats.full == 0)
+            del held
+        with Heap(64, extra_roots=100) as heap:
+            held = [heap.make(1, 1) for _ in range(21)]
+            for _ in range(2):
+                self.assertRaises(gcflip.Full, heap.make, 1, 1)
+            self.assertEqual((heap.stats().objects, heap.stats().full), (21, 2))
+
     def test_a_whole_collection_begins_after_the_open_one(self):
         """Fills a heap, lets a collection copy all of it, and then drops it: only another collection finds room."""
         with Heap(64, extra_roots=100) as heap:

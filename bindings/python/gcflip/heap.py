@@ -142,6 +142,25 @@ class Work(NamedTuple):
     """The number of looks at extra roots that found nothing to copy."""
 
 
+class Stats(NamedTuple):
+    """What a heap did for `make` and `make_raw` since it was opened."""
+
+    objects: int
+    """The objects that they made."""
+    words: int
+    """The words that these took."""
+    flips: int
+    """All flips of the heap."""
+    steps: int
+    """The steps of the collector in their calls."""
+    copied: int
+    """The words that replicas took in these steps."""
+    longest: int
+    """The most steps in one call of the collector."""
+    full: int
+    """The objects for which there was no room after whole collections."""
+
+
 def _work_of(work: library.Work) -> Work:
     return Work(work.steps, work.copied, _step_of(work.last) if work.steps else None, work.pairs, work.looks)
 
@@ -297,16 +316,22 @@ class Heap(quick.Quickened):
         """Makes a raw object of a kind, whose fields are plain numbers, all 0, and returns a reference to it. Otherwise like `make`."""
         return refs.made(self, self._pool, self.new_raw, kind, length)
 
-    def _collect(self, pace: Pace) -> None:
+    def stats(self) -> Stats:
+        """Returns what the heap did for `make` and `make_raw` since it was opened."""
+        checks, counted = self.flip_checks(), self._pool.counted
+        return Stats(counted.objects, counted.words, checks.along + checks.whole, counted.steps, counted.copied, counted.longest, counted.full)
+
+    def _collect(self, pool: refs.RootPool) -> None:
         """Performs a whole collection, after the open one if there is one, and lets the pace remember it."""
         for _ in range(1 + self.counts().is_open):
             while True:
-                last = self.work((1 << 32) - 1).last
-                if last is Step.FLIPPED:
+                work = self.work((1 << 32) - 1)
+                pool.counted.worked(work)
+                if work.last is Step.FLIPPED:
                     break
-                if last is Step.NO_ROOM:
+                if work.last is Step.NO_ROOM:
                     self.give_up()
-        self.remember(pace)
+        self.remember(pool.pace)
 
     def clear_roots(self, first: int, end: int) -> None:
         """Puts nil into the extra roots from `first` on, and below `end`. Raises OutOfRange if the heap does not have all of them, or if `first` is

@@ -9,7 +9,7 @@ from .errors import Closed, FrameFull, Full, OutOfMemory, OutOfRange
 from .renamed import renamed
 
 if TYPE_CHECKING:
-    from .heap import Heap, Pace
+    from .heap import Heap, Pace, Work
 
 Content = Union[None, int, "Ref"]
 """What a field holds: None for nil, a number, or a reference."""
@@ -21,6 +21,25 @@ WORDS_OF_HEADER = 2
 BLOCK = 512
 
 
+class Counted:
+    """What was done for the objects that `Heap.make` and `Heap.make_raw` made."""
+
+    def __init__(self) -> None:
+        self.objects = self.words = self.steps = self.copied = self.longest = self.full = 0
+
+    def worked(self, work: Work | None) -> None:
+        """Counts what a call of the collector did."""
+        if work is not None:
+            self.steps += work.steps
+            self.copied += work.copied
+            self.longest = max(self.longest, work.steps)
+
+    def made(self, words: int) -> None:
+        """Counts an object."""
+        self.objects += 1
+        self.words += words
+
+
 class RootPool:
     """The extra roots of a heap, for its references. No reference owns the first one. One that no reference owns holds nil or a number."""
 
@@ -28,6 +47,7 @@ class RootPool:
         self.first_place = first_place
         self.count = count
         self.pace = pace
+        self.counted = Counted()
         # The words that objects may take before the collector has to work again.
         self.credit = 0
         # Roots that were given back. They are taken before those that were never used, so that few roots are in use.
@@ -159,11 +179,16 @@ def made(heap: Heap, pool: RootPool, new: Callable[[int, int, int], None], kind:
         pool.credit = words + BLOCK
         # An object that has room does not wait for the memory of a collection.
         with contextlib.suppress(OutOfMemory):
-            heap.work_paced(pool.pace, pool.credit)
+            pool.counted.worked(heap.work_paced(pool.pace, pool.credit))
     pool.credit -= words
     try:
         new(ref.place, kind, length)
     except Full:
-        heap._collect(pool.pace)
-        new(ref.place, kind, length)
+        heap._collect(pool)
+        try:
+            new(ref.place, kind, length)
+        except Full:
+            pool.counted.full += 1
+            raise
+    pool.counted.made(words)
     return ref

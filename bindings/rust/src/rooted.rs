@@ -33,7 +33,7 @@
 
 use crate::heap::{Counts, Error, Heap, Options, Place, Result, Value};
 use crate::sys::Pace;
-use std::cell::RefCell;
+use std::cell::{Cell, RefCell};
 use std::fmt;
 use std::marker::PhantomData;
 
@@ -81,11 +81,32 @@ impl<K: Kind, T> FieldOf<K, T> {
     }
 }
 
+/// What a [`Rooted`] heap did since it was opened.
+#[derive(Clone, Copy, Debug, Default, PartialEq, Eq)]
+pub struct Stats {
+    /// The objects that were made.
+    pub objects: u64,
+    /// The words that they took.
+    pub words: u64,
+    /// The flips.
+    pub flips: u64,
+    /// The steps of the collector.
+    pub steps: u64,
+    /// The words that replicas took.
+    pub copied: u64,
+    /// The most steps in one call.
+    pub longest: u32,
+    /// The objects for which there was no room after whole collections.
+    pub full: u64,
+}
+
 /// A heap whose objects are held by values of type [`Root`]. The collector works before each allocation, as [`Pace::default`] says.
 #[derive(Debug)]
 pub struct Rooted {
     heap: Heap,
     pace: RefCell<Pace>,
+    /// But for the flips, which the heap counts.
+    stats: Cell<Stats>,
     /// The extra roots that no `Root` has. It has room for all of them, so that the drop of a `Root` does not allocate.
     unused: RefCell<Vec<u32>>,
     roots: u32,
@@ -99,7 +120,7 @@ impl Rooted {
     /// Returns `OutOfRange` if `size` is 0 or `roots` is above 1,048,576, or `NoMemory`.
     pub fn open(size: u32, roots: u32) -> Result<Rooted> {
         let heap = Heap::open_with(Options::new(size, MUTATORS).extra_roots(roots))?;
-        Ok(Rooted { heap, pace: RefCell::default(), unused: RefCell::new((0..roots).rev().collect()), roots })
+        Ok(Rooted { heap, pace: RefCell::default(), stats: Cell::default(), unused: RefCell::new((0..roots).rev().collect()), roots })
     }
 
     /// Makes an object of kind `K` whose fields are nil. Before that it performs the steps of the collector that are due, and whole collections if
@@ -111,8 +132,13 @@ impl Rooted {
     /// a collection gets no memory. The program then has the same objects as before.
     pub fn make<K: Kind>(&self) -> Result<Root<'_, K>> {
         let made = self.root()?;
-        self.reserve(u32::from(K::FIELDS) + 2)?;
+        let words = u32::from(K::FIELDS) + 2;
+        self.reserve(words)?;
         self.heap.new_object(made.place(), K::KIND, K::FIELDS)?;
+        self.count(|stats| {
+            stats.objects += 1;
+            stats.words += u64::from(words);
+        });
         Ok(made)
     }
 
@@ -122,9 +148,16 @@ impl Rooted {
     ///
     /// Returns `NoMemory`. The steps before the failure stay done.
     pub fn collect(&self) -> Result<u32> {
-        let pairs = self.heap.collect()?;
+        let work = self.heap.collect_whole()?;
         self.heap.remember(&mut self.pace.borrow_mut())?;
-        Ok(pairs)
+        self.worked(work.steps, work.copied);
+        Ok(work.pairs)
+    }
+
+    /// Returns what the heap did since it was opened.
+    pub fn stats(&self) -> Stats {
+        let checks = self.heap.flip_checks();
+        Stats { flips: checks.along + checks.whole, ..self.stats.get() }
     }
 
     /// Reads how full the heap is, and how far an open collection has come.
@@ -146,17 +179,34 @@ impl Rooted {
     /// Makes room for so many words.
     fn reserve(&self, words: u32) -> Result<()> {
         match self.heap.work_paced(&mut self.pace.borrow_mut(), words) {
+            Ok(work) => work.into_iter().for_each(|work| self.worked(work.steps, work.copied)),
             // An allocation that has room does not wait for the memory of a collection.
-            Ok(_) | Err(Error::NoMemory) => {}
+            Err(Error::NoMemory) => {}
             Err(error) => return Err(error),
         }
-        if self.counts().free < words {
+        if self.heap.room() < words {
             self.collect()?;
         }
-        if self.counts().free < words {
+        if self.heap.room() < words {
+            self.count(|stats| stats.full += 1);
             return Err(Error::Full);
         }
         Ok(())
+    }
+
+    /// Counts what a call of the collector did.
+    fn worked(&self, steps: u32, copied: u32) {
+        self.count(|stats| {
+            stats.steps += u64::from(steps);
+            stats.copied += u64::from(copied);
+            stats.longest = stats.longest.max(steps);
+        });
+    }
+
+    fn count(&self, note: impl FnOnce(&mut Stats)) {
+        let mut stats = self.stats.get();
+        note(&mut stats);
+        self.stats.set(stats);
     }
 }
 

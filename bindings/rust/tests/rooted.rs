@@ -1,6 +1,6 @@
 //! Tests of references that own a root: of what they keep alive, of all errors, and by random calls against a model.
 
-use gcflip::rooted::{FieldOf, Kind, Root, Rooted};
+use gcflip::rooted::{FieldOf, Kind, Root, Rooted, Stats};
 use gcflip::{Class, Error, Result};
 
 struct Pair;
@@ -51,6 +51,24 @@ fn fields_begin_nil_and_take_values() -> Result<()> {
     first.put_nil(NEXT)?;
     assert_eq!((first.get_number(NUMBER)?, first.get_root(NEXT)?.is_none()), (None, true));
     assert_eq!(heap.roots_in_use(), 2);
+    Ok(())
+}
+
+/// A collection of two pairs takes a begin, a copy of each, two scans and a pass of each, and a flip.
+#[test]
+fn what_the_heap_did_is_counted() -> Result<()> {
+    let heap = Rooted::open(16, 4)?;
+    assert_eq!(heap.stats(), Stats::default());
+    let pairs = (heap.make::<Pair>()?, heap.make::<Pair>()?);
+    heap.collect()?;
+    let counted = Stats { objects: 2, words: 8, flips: 1, steps: 1 + 2 * (1 + 2 + 1) + 1, copied: 8, longest: 10, full: 0 };
+    assert_eq!(heap.stats(), counted);
+    let third = heap.make::<Pair>()?;
+    assert_eq!(heap.make::<Pair>().unwrap_err(), Error::Full);
+    let stats = heap.stats();
+    assert_eq!((stats.objects, stats.words, stats.full), (3, 12, 1));
+    assert!(stats.flips > counted.flips && stats.copied == 8 + 12 * (stats.flips - 1));
+    assert!(!pairs.0.is_same(&pairs.1) && !third.is_same(&pairs.0));
     Ok(())
 }
 
