@@ -1,11 +1,12 @@
--- A value that is put through a root, which then holds again what it held, is put by itself.
+-- A put of a value that no root has to hold: its reply, and what is known of the roots after it.
 use Rattle.std.proofs.lemmas.Grind.{common_steps}
+use Rattle.std.proofs.lemmas.Option.{slice_get-get_or, slice_get_past}
 use Rattle.std.proofs.lemmas.Bool.{cases_Bool, cases_lt}
-use Rattle.std.proofs.Common.{◌≡◌, inl, inr, ◌≢◌, ℕ, zero, suc, ◌<◌, ◌≤◌, List, [], ◌∷◌, ◌++◌, length, map, Option, Some, None, is_some, refl, sym, ap, ◌∙◌, arith}
-use Rattle.std.specs.Prelude.{IfSome, IsTrue, slice_get, slice_set}
+use Rattle.std.proofs.Common.{◌≡◌, inl, inr, ◌≢◌, ℕ, zero, suc, ◌<◌, ◌≤◌, Bool, true, false, List, [], ◌∷◌, ◌++◌, length, get_or, map, Option, Some, None, is_some, refl, sym, ap, ◌∙◌, arith}
+use Rattle.std.specs.Prelude.{IfSome, IsTrue, ◌&&◌, not, if◌then◌else◌, slice_get, slice_set}
 use Rattle.std.specs.Option.{unwrap_or}
 use Rattle.gc_graph.specs.Graph.{Value, Nil, Num, Ref, Object, Graph, field_of, lookup, names_of, object_of, root, set_field}
-use Rattle.gc_graph.specs.Machine.{put_field, words_taken}
+use Rattle.gc_graph.specs.Machine.{is_number, put_field, words_taken}
 use Rattle.gc_graph.specs.Slots.{SlotName, place}
 use Rattle.gc_graph.specs.declared.command.Op.TheVariants.{Put}
 use Rattle.gc_graph.specs.declared.reply.Reply.{Reply}
@@ -24,14 +25,15 @@ use Rattle.gc_plan.specs.Steps.{WritesField, logged, mutate, written}
 use Rattle.gc_copy.specs.Twins.{IsTwin}
 use Rattle.gc_copy.specs.Words.{state_of}
 use Rattle.gc_roots.specs.Twins.{twin_at}
+use Rattle.gc_collected.specs.Copying.{object_in}
 use Rattle.gc_collected.specs.Values.{value_of_plain, put_value_step, with_roots}
 use Rattle.gc_collected.specs.declared.values.Plain.{Plain}
 use Rattle.gc_collected.specs.declared.values.Plain.TheVariants as plains
 use Rattle.gc_collected.specs.declared.known.KnownRoots.{KnownRoots}
 use Rattle.gc_collected.specs.Internal.KnownRoots.{KnowsRoots}
-use Rattle.gc_collected.specs.Internal.Values.{sets, with_value}
 use Rattle.gc_collected.proofs.ByPlace.{absent, same_put}
 use Rattle.gc_collected.proofs.Referred.{start_named}
+use Rattle.gc_collected.proofs.Together.{logged_none}
 
 -- ---- a put reads two roots and writes none
 
@@ -88,18 +90,6 @@ put_at s rs m p q i w v one other =
 
 -- ---- roots of a list
 
-root_apart : (vs : List Value) (p q : ℕ) (v : Value) → q ≢ p → unwrap_or (slice_get (slice_set vs q v) p) Nil ≡ unwrap_or (slice_get vs p) Nil
-root_apart [] p q v other = refl
-root_apart (x ∷ vs) zero zero v other = absurd (other refl)
-root_apart (x ∷ vs) (suc p) zero v other = refl
-root_apart (x ∷ vs) zero (suc q) v other = refl
-root_apart (x ∷ vs) (suc p) (suc q) v other = root_apart vs p q v (λ e. other (ap suc e))
-
-root_set : (vs : List Value) (q : ℕ) (v : Value) → q < length vs → unwrap_or (slice_get (slice_set vs q v) q) Nil ≡ v
-root_set [] q v less = absurd (omega (arith, less))
-root_set (x ∷ vs) zero v less = refl
-root_set (x ∷ vs) (suc q) v less = root_set vs q v (omega (arith, less))
-
 pub root_before : (vs : List Value) (p : ℕ) (v : Value) → p < length vs → unwrap_or (slice_get (vs ++ v ∷ []) p) Nil ≡ unwrap_or (slice_get vs p) Nil
 root_before [] p v less = absurd (omega (arith, less))
 root_before (x ∷ vs) zero v less = refl
@@ -109,22 +99,54 @@ pub root_last : (vs : List Value) (v : Value) → unwrap_or (slice_get (vs ++ v 
 root_last [] v = refl
 root_last (x ∷ vs) v = root_last vs v
 
-root_back : (vs : List Value) (q : ℕ) (v : Value) → slice_set (slice_set vs q v) q (unwrap_or (slice_get vs q) Nil) ≡ vs
-root_back [] q v = refl
-root_back (x ∷ vs) zero v = refl
-root_back (x ∷ vs) (suc q) v = ap (λ (rest : List Value). x ∷ rest) (root_back vs q v)
+-- ---- what the put replies
 
--- ---- the value goes through a root
-
-pub put_through : (s one two three : State) (m p t i : ℕ) (v : Value) (reply : Reply) → t ≢ p → p < length s.heap.graph.roots → t < length s.heap.graph.roots → one ≡ with_value s t v
-    → mutate one m (Put (root_at p) i (root_at t)) ≡ (reply, two) → three ≡ with_value two t (root s.heap.graph t) → put_value_step s m p i v ≡ (reply, three)
-put_through s one two three m p t i v reply other within there sets puts back =
+value_after : (s : State) (m p i : ℕ) (v : Value) → p < length s.heap.graph.roots → put_value_step s m p i v ≡ after s s.heap.graph.roots m (root s.heap.graph p) i v
+value_after s m p i v within =
     let rs = s.heap.graph.roots in
-    let w = root s.heap.graph p in
-    let through : (reply, two) ≡ after s (slice_set rs t v) m w i v = sym puts ∙ (ap (λ (x : State). mutate x m (Put (root_at p) i (root_at t))) sets ∙ put_at s (slice_set rs t v) m p t i w v (root_apart rs p t v other) (root_set rs t v there)) in
-    ap (λ (x : Reply × State). (x.0, with_roots x.1 rs)) (put_at s (rs ++ v ∷ []) m p (length rs) i w v (root_before rs p v within) (root_last rs v))
-    ∙ ((λ k. (sym (ap (λ (x : Reply × State). x.0) through) k, with_roots (after s rs m w i v).1 rs))
-    ∙ ap (λ (x : State). (reply, x)) (ap (λ vs. (after s vs m w i v).1) (sym (root_back rs t v)) ∙ (sym (ap (λ (x : Reply × State). with_value x.1 t (root s.heap.graph t)) through) ∙ sym back)))
+    ap (λ (x : Reply × State). (x.0, with_roots x.1 rs)) (put_at s (rs ++ v ∷ []) m p (length rs) i (root s.heap.graph p) v (root_before rs p v within) (root_last rs v))
+
+-- a reply by which nothing is written
+still : (s : State) (m p i : ℕ) (v : Value) (reply : Reply) → p < length s.heap.graph.roots → given s.heap.graph (root s.heap.graph p) i v ≡ (reply, s.heap.graph) → entries (root s.heap.graph p) i reply ≡ []
+    → put_value_step s m p i v ≡ (reply, s)
+still s m p i v reply within is none =
+    let g = s.heap.graph in
+    let w = root g p in
+    value_after s m p i v within
+    ∙ ((λ k. ((is k).0, record s { heap = record { graph = record (is k).1 { roots = g.roots }; free = s.heap.free }; collection = logged s.collection m (entries w i (is k).0) }))
+    ∙ ap (λ (o : Option Collection). (reply, record s { collection = o })) (ap (logged s.collection m) none ∙ logged_none s.collection m))
+
+given_none : (g : Graph) (w : Value) (i : ℕ) (v : Value) → None ≡ object_of g.objects w → given g w i v ≡ (replies.NoObject, g)
+given_none g Nil i v is = refl
+given_none g (Num n) i v is = refl
+given_none g (Ref a) i v is = λ k. let o = sym is k in put_field g (Ref a) o (field_of o i) i v
+
+-- of an object that is there
+given_some : (g : Graph) (w : Value) (o : Object) (found : Option Value) (i : ℕ) (v : Value) → Some o ≡ object_of g.objects w → slice_get o.fields i ≡ found → (a : ℕ) × (given g w i v ≡ put_field g (Ref a) (Some o) found i v)
+given_some g Nil o found i v is at = absurd (let no : Some o ≡ None = is in cc)
+given_some g (Num n) o found i v is at = absurd (let no : Some o ≡ None = is in cc)
+given_some g (Ref a) o found i v is at = (a, (λ k. let x = sym is k in put_field g (Ref a) x (field_of x i) i v) ∙ ap (λ f. put_field g (Ref a) (Some o) f i v) at)
+
+pub no_object : (s : State) (m p i : ℕ) (v : Value) → p < length s.heap.graph.roots → None ≡ object_in s.heap.graph (root_at p) 0 → put_value_step s m p i v ≡ (replies.NoObject, s)
+no_object s m p i v within is = still s m p i v replies.NoObject within (given_none s.heap.graph (root s.heap.graph p) i v is) refl
+
+pub no_field : (s : State) (m p i : ℕ) (v : Value) (o : Object) → p < length s.heap.graph.roots → Some o ≡ object_in s.heap.graph (root_at p) 0 → length o.fields ≤ i → put_value_step s m p i v ≡ (replies.NoField, s)
+no_field s m p i v o within is short = still s m p i v replies.NoField within (given_some s.heap.graph (root s.heap.graph p) o None i v is (slice_get_past o.fields i short)).1 refl
+
+pub no_number : (s : State) (m p i : ℕ) (v : Value) (o : Object) → p < length s.heap.graph.roots → Some o ≡ object_in s.heap.graph (root_at p) 0 → i < length o.fields → o.raw && not (is_number v) ≡ true
+    → put_value_step s m p i v ≡ (replies.NoNumber, s)
+no_number s m p i v o within is less refused =
+    let g = s.heap.graph in
+    let found = given_some g (root g p) o (Some (get_or o.fields i Nil)) i v is (slice_get-get_or o.fields i Nil less) in
+    still s m p i v replies.NoNumber within (found.1 ∙ ap (λ (b : Bool). if b then (replies.NoNumber, g) else (replies.Done, record g { objects = set_field g.objects found.0 i v })) refused) refl
+
+pub put_done : (s : State) (m p i : ℕ) (v : Value) (o : Object) → p < length s.heap.graph.roots → Some o ≡ object_in s.heap.graph (root_at p) 0 → i < length o.fields → o.raw && not (is_number v) ≡ false
+    → (put_value_step s m p i v).0 ≡ replies.Done
+put_done s m p i v o within is less taken =
+    let g = s.heap.graph in
+    let found = given_some g (root g p) o (Some (get_or o.fields i Nil)) i v is (slice_get-get_or o.fields i Nil less) in
+    ap (λ (x : Reply × State). x.0) (value_after s m p i v within)
+    ∙ (ap (λ (x : Reply × Graph). x.0) found.1 ∙ ap (λ (b : Bool). let r : Reply × Graph = if b then (replies.NoNumber, g) else (replies.Done, record g { objects = set_field g.objects found.0 i v }) in r.0) taken)
 
 -- ---- what is known of the roots
 
@@ -158,53 +180,6 @@ value_known known s m p i v k =
         right = λ q less none. still_twin s.collection m fields (root s.heap.graph _) (twin_at s known.twins q) (k.keeps.right q less none);
       };
     }
-
--- ---- a slot takes nil or a number
-
-pub plain_taken : (h new : HeapWords) (o : Option Collection) (m : ℕ) (d : SlotName) (plain : Plain) (reply : Reply) → Performs h m (sets d plain) reply new → state_of new o ≡ with_value (state_of h o) (place d m) (value_of_plain plain)
-plain_taken h new o m d plains.Nil reply p = grind (arith, common_steps, in_place)
-plain_taken h new o m d (plains.Number n) reply p = grind (arith, common_steps, in_place)
-
--- ---- objects stay where they are
-
-set_keeps : (os : List (ℕ × Object)) (n i : ℕ) (v : Value) (a : ℕ) → is_some (lookup (set_field os n i v) a) ≡ is_some (lookup os a)
-set_keeps [] n i v a = refl
-set_keeps (entry ∷ os) n i v a = grind (arith, common_steps, cases_Bool, set_keeps os n i v a)
-
-put_keeps : (g : Graph) (w : Value) (o : Option Object) (before : Option Value) (i : ℕ) (v : Value) (a : ℕ) → is_some (lookup (put_field g w o before i v).1.objects a) ≡ is_some (lookup g.objects a)
-put_keeps g Nil o before i v a = refl
-put_keeps g (Num n) o before i v a = refl
-put_keeps g (Ref b) None before i v a = refl
-put_keeps g (Ref b) (Some object) None i v a = refl
-put_keeps g (Ref b) (Some object) (Some f) i v a = grind (arith, common_steps, cases_Bool, set_keeps)
-
-pub put_keeps_start : (h new : HeapWords) (o p : Option Collection) (m q t i a : ℕ) (reply : Reply) → mutate (state_of h o) m (Put (root_at q) i (root_at t)) ≡ (reply, state_of new p) → IsTrue (is_start h.space.words a) → IsTrue (is_start new.space.words a)
-put_keeps_start h new o p m q t i a reply puts start =
-    let g = graph_in h in
-    let is = ap (λ (x : Reply × State). is_some (lookup x.1.heap.graph.objects a)) (sym puts ∙ put_at (state_of h o) g.roots m q t i (root g q) (root g t) refl refl) in
-    sym (start_named new.space.words a) ∙ (is ∙ (put_keeps g (root g q) _ _ i (root g t) a ∙ (start_named h.space.words a ∙ start)))
-
-word_kept : (h new : HeapWords) (w : ℕ) → ((a : ℕ) → IsTrue (is_start h.space.words a) → IsTrue (is_start new.space.words a)) → (v : Value) → RefersToStart h.space.words v → RefersToStart new.space.words v
-word_kept h new w kept Nil start = tt
-word_kept h new w kept (Num n) start = tt
-word_kept h new w kept (Ref a) start = kept a start
-
-pub root_word_kept : (h new : HeapWords) (w : ℕ) → ((a : ℕ) → IsTrue (is_start h.space.words a) → IsTrue (is_start new.space.words a)) → IsRootWord h.space.words w → IsRootWord new.space.words w
-root_word_kept h new w kept is = record { value = is.value; start = word_kept h new w kept (value_of w) is.start }
-
-pub set_keeps_start : (h new : HeapWords) (m a : ℕ) (d : SlotName) (plain : Plain) (reply : Reply) → Performs h m (sets d plain) reply new → IsTrue (is_start h.space.words a) → IsTrue (is_start new.space.words a)
-set_keeps_start h new m a d plain reply p start =
-    sym (start_named new.space.words a) ∙ (ap (λ (s : State). is_some (lookup s.heap.graph.objects a)) (plain_taken h new None m d plain reply p) ∙ (start_named h.space.words a ∙ start))
-
--- ---- such a command
-
-pub sets_no_field : (d : SlotName) (plain : Plain) → ¬ WritesField (sets d plain)
-sets_no_field d plains.Nil = λ none. none
-sets_no_field d (plains.Number n) = λ none. none
-
-pub sets_no_words : (d : SlotName) (plain : Plain) → words_taken (sets d plain) ≡ 0
-sets_no_words d plains.Nil = refl
-sets_no_words d (plains.Number n) = refl
 
 -- ---- a field that no object has
 

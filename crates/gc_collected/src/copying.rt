@@ -14,7 +14,7 @@ ghost use Rattle.gc_graph.specs.declared.reply.Reply.{Reply};
 ghost use Rattle.gc_heap.specs.Filling.{PutsValue};
 ghost use Rattle.gc_heap.specs.Heap.{graph_in};
 ghost use Rattle.gc_heap.specs.Places.{root_at};
-ghost use Rattle.gc_collected.specs.Internal.Given.{CopiesAll, PutsAll, same_from};
+ghost use Rattle.gc_collected.specs.Internal.Given.{CopiesAll, PutsAll, puts_step, same_from};
 ghost use Rattle.gc_collected.specs.Internal.Follows.{Follows};
 ghost use Rattle.gc_collected.specs.Internal.Together.{PerformsAll, copies, fields_from};
 ghost use Rattle.gc_collected.specs.Internal.CollectedHeap.{BelongsIfOpen, Fits, HasSpare, state_in};
@@ -171,10 +171,11 @@ impl CollectedHeap {
 }
 
 // An object that is found: its address, its header and its field words.
-type Found<'a> = (OldAddr, Header, &'a [u64]);
+pub(crate) type Found<'a> = (OldAddr, Header, &'a [u64]);
 
 // The object that a root refers to.
-fn object(heap: &Heap, p: u32) -> Option<Found<'_>>
+#[inline(always)]
+pub(crate) fn object(heap: &Heap, p: u32) -> Option<Found<'_>>
     requires { p < length heap.now.roots }
     ensures is { option_map (λ found. object_of_block (record { header = found.1; fields = found.2.now })) result ≡ object_in (graph_in heap.now) (root_at p) 0 }
     ensures target { IfSome result (λ found. root (graph_in heap.now) p ≡ Ref found.0.0) }
@@ -346,11 +347,46 @@ fn fill_values(
     ensures mutators { heap.new.mutators ≡ heap.old.mutators }
     ensures follows { Follows (state_in heap.old collection.old) watch.old → Follows (state_in heap.new collection.new) watch.new }
 {
-    are_sound_in(collection, heap);
     // Here the prover learns that the heap is sound.
     let _ = heap.space();
     let (object, header, _) = object(heap, s).unwrap();
     let word = field_word(heap.space(), header, heap.roots()[t as usize]).unwrap();
+    put_words(
+        collection, heap, watch, m, s, object, header, from, count, word,
+    );
+}
+
+// Writes this word to so many fields of the object in root `s`, which has this header. If a collection is open, logs them, and tells the monitor of all
+// of them at once. Then the log needs room for each of them.
+#[inline(always)]
+pub(crate) fn put_words(
+    collection: &mut Option<Collection>,
+    heap: &mut Heap,
+    watch: &mut Standing,
+    m: u8,
+    s: u32,
+    object: OldAddr,
+    header: Header,
+    from: u16,
+    count: u16,
+    word: u64,
+)
+    requires belongs { BelongsIfOpen heap.old collection.old }
+    requires mutator { m < heap.old.mutators }
+    requires place { s < length heap.old.roots }
+    requires target { root (graph_in heap.old) s ≡ Ref object.0 }
+    requires header { header_at heap.old.space.words object.0 ≡ Some header }
+    requires fields { from + count ≤ header.len }
+    requires word { IsFieldWord heap.old.space.words header word }
+    requires room { HasSpare collection.old m count }
+    ensures step { puts_step (state_in heap.old collection.old) m s (same_from from count (field_value header word)) ≡ state_in heap.new collection.new }
+    ensures fits { (epoch : ℕ) → Fits epoch heap.old collection.old → Fits epoch heap.new collection.new }
+    ensures mutators { heap.new.mutators ≡ heap.old.mutators }
+    ensures follows { Follows (state_in heap.old collection.old) watch.old → Follows (state_in heap.new collection.new) watch.new }
+{
+    are_sound_in(collection, heap);
+    // Here the prover learns that the heap is sound.
+    let _ = heap.space();
     fill_each(heap, s, object, header, from, count, word);
     let Some(collection) = collection else {
         return;

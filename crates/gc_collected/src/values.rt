@@ -1,24 +1,25 @@
 //! Commands by places that set a root or a field to nil or to a number. No other root takes the value.
 
-ghost use Rattle.std.specs.Prelude.{ℕ, ◌≡◌, ◌≢◌, ◌<◌, length, is_some, IfOk, OnErr, IsSome};
+ghost use Rattle.std.specs.Prelude.{ℕ, List, ◌≡◌, ◌<◌, length, IfOk, OnErr, IsSome};
 ghost use Rattle.gc_graph.specs.declared.command.Op.{Op};
-ghost use Rattle.gc_heap.specs.Commands.{Performs};
-ghost use Rattle.gc_heap.specs.Heap.{IsHeap};
+ghost use Rattle.gc_words.specs.Closed.{IsRootWord};
+ghost use Rattle.gc_words.specs.Word.{value_of};
 ghost use Rattle.gc_heap.specs.Places.{root_at};
 ghost use Rattle.gc_plan.specs.Steps.{mutate};
 ghost use Rattle.gc_roots.specs.Twins.{AskForLooks};
 ghost use Rattle.gc_collected.specs.Values.{value_of_plain, put_value_step};
 ghost use Rattle.gc_collected.specs.Internal.CollectedHeap.{BelongsIfOpen, Fits, HasSpare, state_in};
 ghost use Rattle.gc_collected.specs.Internal.Follows.{Follows};
-ghost use Rattle.gc_collected.specs.Internal.Values.{sets};
 
-use crate::barrier::{are_sound_in, put_root_in, reserve_in};
+use crate::barrier::reserve_in;
 use crate::collected_heap::CollectedHeap;
+use crate::copying::{object, put_words};
 use crate::places::field_number;
 use gc_along::Standing;
 use gc_copy::Collection;
 use gc_graph::{NoMemory, Number, Reply, root_count};
-use gc_heap::Heap;
+use gc_heap::{Heap, field_word};
+use gc_words::{Value, encode};
 
 /// A value that refers to no object.
 #[derive(Clone, Copy, Debug, Drop)]
@@ -61,13 +62,11 @@ impl CollectedHeap {
         self.is_sound();
         // Here the prover learns that the heap is sound.
         let _ = self.heap.space();
-        let is_open = self.collection.is_some();
         reserve_in(&mut self.collection, m, 1)?;
         Ok(put_plain_in(
             &mut self.collection,
             &mut self.heap,
             &mut self.watch,
-            is_open,
             m,
             s,
             field_number(i),
@@ -76,30 +75,18 @@ impl CollectedHeap {
     }
 }
 
-// Returns the place of a root beside root `s`.
-#[inline(always)]
-fn root_beside(s: u32) -> u32
-    ensures low { result < 2 }
-    ensures apart { result ≢ s }
-{
-    if s == 0 { 1 } else { 0 }
-}
-
-// Performs a `Put` of the value by mutator `m`, as `put_plain` does. If a collection is open, which `is_open` says, the log needs room. A root beside root
-// `s` holds the value for the `Put`, and then what it held before.
+// Performs a `Put` of the value by mutator `m`, as `put_plain` does. If a collection is open, the log needs room.
 #[inline(always)]
 fn put_plain_in(
     collection: &mut Option<Collection>,
     heap: &mut Heap,
     watch: &mut Standing,
-    is_open: bool,
     m: u8,
     s: u32,
     i: u16,
     value: Plain,
 ) -> Reply
     requires belongs { BelongsIfOpen heap.old collection.old }
-    requires open { is_open ≡ is_some collection.old }
     requires mutator { m < heap.old.mutators }
     requires target { s < length heap.old.roots }
     requires room { HasSpare collection.old m 1 }
@@ -108,27 +95,29 @@ fn put_plain_in(
     ensures mutators { heap.new.mutators ≡ heap.old.mutators }
     ensures follows { Follows (state_in heap.old collection.old) watch.old → Follows (state_in heap.new collection.new) watch.new }
 {
-    are_sound_in(collection, heap);
     // Here the prover learns that the heap is sound.
     let _ = heap.space();
-    let t = root_beside(s);
-    let held = heap.roots()[t as usize];
-    let _set = set_plain(heap, t, value);
-    let reply = put_root_in(collection, heap, watch, is_open, m, s, i, t);
-    are_sound_in(collection, heap);
-    heap.set_root(t, held);
-    reply
+    let Some((object, header, _)) = object(heap, s) else {
+        return Reply::NoObject;
+    };
+    if i >= header.len() {
+        return Reply::NoField;
+    }
+    let Some(word) = field_word(heap.space(), header, plain_word(value)) else {
+        return Reply::NoNumber;
+    };
+    put_words(collection, heap, watch, m, s, object, header, i, 1, word);
+    Reply::Done
 }
 
-// Performs a `Num` or a `Nil` of root `d`.
+// The word of a root that holds the value.
 #[inline(always)]
-fn set_plain(heap: &mut Heap, d: u32, value: Plain) -> Reply
-    requires { d < length heap.old.roots }
-    ensures performs { (m : ℕ) → Performs heap.old m (sets (root_at d) value) result heap.new }
-    ensures sound { IsHeap heap.new }
+fn plain_word(value: Plain) -> u64
+    ensures root { (words : List ℕ) → IsRootWord words result }
+    ensures value { value_of result ≡ value_of_plain value }
 {
     match value {
-        Plain::Nil => heap.nil_root(d),
-        Plain::Number(n) => heap.num_root(d, n),
+        Plain::Nil => encode(Value::Nil),
+        Plain::Number(n) => encode(Value::Num(n)),
     }
 }

@@ -58,6 +58,7 @@ pub extern "C" fn gcflip_copy_fields(
         (λ state. copy_values_step state m d to s from count) heap.old.state heap.new.state result }
     ensures memory { result ≡ no_memory → IsSomeAnd heap.old.state (λ s. IsSome s.collection) }
     ensures beside { heap.new.beside ≡ heap.old.beside }
+    ensures looks { heap.new.roots_left ≡ heap.old.roots_left }
 {
     let heap = lent!(heap);
     let roots = heap.root_places();
@@ -82,6 +83,7 @@ pub extern "C" fn gcflip_fill(
         (λ state. fill_fields_step state m s from to t) heap.old.state heap.new.state result }
     ensures memory { result ≡ no_memory → IsSomeAnd heap.old.state (λ s. IsSome s.collection) }
     ensures beside { heap.new.beside ≡ heap.old.beside }
+    ensures looks { heap.new.roots_left ≡ heap.old.roots_left }
 {
     let heap = lent!(heap);
     let roots = heap.root_places();

@@ -6,6 +6,7 @@ ghost use Rattle.gc_check.specs.InC.{no_memory};
 ghost use Rattle.gc_graph.specs.Limits.{kinds};
 ghost use Rattle.gc_collected.specs.Giving.{IsGiven, new_given_step};
 ghost use Rattle.gc_collected.specs.Mixed.{new_with_step};
+ghost use Rattle.gc_collected.specs.Spreading.{AskForRow};
 ghost use Rattle.gcflip_heap_c.specs.Commands.{IsCommandCall};
 ghost use Rattle.gcflip_heap_c.specs.Mixed.{is_field, source_of as source_in, value_of_field, AreFields, AreSources, GivesFields};
 ghost use Rattle.gcflip_heap_c.specs.Places.{HasRoots};
@@ -137,6 +138,7 @@ pub extern "C" fn gcflip_new_with(
         (λ state. new_given_step state m d kind (map value_of_field fields.now)) heap.old.state heap.new.state result }
     ensures memory { result ≡ no_memory → IsSomeAnd heap.old.state (λ s. IsSome s.collection) }
     ensures beside { heap.new.beside ≡ heap.old.beside }
+    ensures looks { AskForRow d 1 heap.old.roots_left heap.new.roots_left }
 {
     let heap = lent!(heap);
     let roots = heap.root_places();

@@ -1,7 +1,7 @@
 //! The exports that perform commands on any root, which they name by its place in the list of roots: first the shared slots, then each mutator's own, then
 //! the extra roots.
 
-ghost use Rattle.std.specs.Prelude.{◌≡◌, ◌≢◌, ◌<◌, ◌^◌, ◌∷◌, [], IsSomeAnd, IsSome};
+ghost use Rattle.std.specs.Prelude.{◌≡◌, ◌≢◌, ◌<◌, ◌≤◌, ◌+◌, ◌^◌, ◌∷◌, [], IsSomeAnd, IsSome};
 ghost use Rattle.gc_check.specs.InC.{no_memory, IsRefusal};
 ghost use Rattle.gc_graph.specs.Graph.{Nil, Num};
 ghost use Rattle.gc_graph.specs.Limits.{kinds, lengths};
@@ -12,6 +12,7 @@ ghost use Rattle.gc_plan.specs.Steps.{mutate};
 ghost use Rattle.gc_collected.specs.Surely.{PutsSurely};
 ghost use Rattle.gc_collected.specs.Values.{put_value_step};
 ghost use Rattle.gc_collected.specs.Viewing.{get_reply};
+ghost use Rattle.gc_collected.specs.Spreading.{AskForRow};
 ghost use Rattle.gcflip_heap_c.specs.Commands.{IsCall, IsCommandCall, Replies, heap_behind};
 ghost use Rattle.gcflip_heap_c.specs.Places.{HasRoots};
 ghost use Rattle.gc_in_c.specs.Replies.{reply_in_c, got_in_c, number_after, view_after};
@@ -31,6 +32,7 @@ pub extern "C" fn gcflip_new(heap: &mut GcflipHeap, d: u32, kind: u32, count: u3
         (λ state. mutate state 0 (Op.New (root_at d) kind count)) heap.old.state heap.new.state result }
     ensures memory { result ≢ no_memory }
     ensures beside { heap.new.beside ≡ heap.old.beside }
+    ensures looks { AskForRow d 1 heap.old.roots_left heap.new.roots_left }
 {
     let heap = lent!(heap);
     if d as usize >= heap.root_places() || kind > 255 || count > 65535 {
@@ -46,6 +48,7 @@ pub extern "C" fn gcflip_new_raw(heap: &mut GcflipHeap, d: u32, kind: u32, count
         (λ state. mutate state 0 (Op.NewRaw (root_at d) kind count)) heap.old.state heap.new.state result }
     ensures memory { result ≢ no_memory }
     ensures beside { heap.new.beside ≡ heap.old.beside }
+    ensures looks { AskForRow d 1 heap.old.roots_left heap.new.roots_left }
 {
     let heap = lent!(heap);
     if d as usize >= heap.root_places() || kind > 255 || count > 65535 {
@@ -61,6 +64,7 @@ pub extern "C" fn gcflip_set_number(heap: &mut GcflipHeap, d: u32, n: u64) -> u3
         (λ state. mutate state 0 (Op.Num (root_at d) n)) heap.old.state heap.new.state result }
     ensures memory { result ≢ no_memory }
     ensures beside { heap.new.beside ≡ heap.old.beside }
+    ensures looks { AskForRow d 1 heap.old.roots_left heap.new.roots_left }
 {
     let heap = lent!(heap);
     if d as usize >= heap.root_places() {
@@ -79,6 +83,7 @@ pub extern "C" fn gcflip_set_nil(heap: &mut GcflipHeap, d: u32) -> u32
         (λ state. mutate state 0 (Op.Nil (root_at d))) heap.old.state heap.new.state result }
     ensures memory { result ≢ no_memory }
     ensures beside { heap.new.beside ≡ heap.old.beside }
+    ensures looks { (heap.old.roots_left ≤ heap.new.roots_left) × (heap.new.roots_left ≤ heap.old.roots_left + 1) }
 {
     let heap = lent!(heap);
     if d as usize >= heap.root_places() {
@@ -94,6 +99,7 @@ pub extern "C" fn gcflip_copy(heap: &mut GcflipHeap, d: u32, s: u32) -> u32
         (λ state. mutate state 0 (Op.Move (root_at d) (root_at s))) heap.old.state heap.new.state result }
     ensures memory { result ≢ no_memory }
     ensures beside { heap.new.beside ≡ heap.old.beside }
+    ensures looks { AskForRow d 1 heap.old.roots_left heap.new.roots_left }
 {
     let heap = lent!(heap);
     let roots = heap.root_places();
@@ -112,6 +118,7 @@ pub extern "C" fn gcflip_get(heap: &mut GcflipHeap, d: u32, s: u32, i: u32, numb
     ensures silent { IsRefusal result → number.new ≡ number.old }
     ensures memory { result ≢ no_memory }
     ensures beside { heap.new.beside ≡ heap.old.beside }
+    ensures looks { AskForRow d 1 heap.old.roots_left heap.new.roots_left }
 {
     let heap = lent!(heap);
     let roots = heap.root_places();
@@ -129,6 +136,7 @@ pub extern "C" fn gcflip_put(heap: &mut GcflipHeap, m: u32, s: u32, i: u32, t: u
         (λ state. mutate state m (Op.Put (root_at s) i (root_at t))) heap.old.state heap.new.state result }
     ensures memory { result ≡ no_memory → IsSomeAnd heap.old.state (λ s. IsSome s.collection) }
     ensures beside { heap.new.beside ≡ heap.old.beside }
+    ensures looks { heap.new.roots_left ≡ heap.old.roots_left }
 {
     let heap = lent!(heap);
     let roots = heap.root_places();
@@ -165,6 +173,7 @@ pub extern "C" fn gcflip_put_number(heap: &mut GcflipHeap, m: u32, s: u32, i: u3
         (λ state. put_value_step state m s i (Num n)) heap.old.state heap.new.state result }
     ensures memory { result ≡ no_memory → IsSomeAnd heap.old.state (λ s. IsSome s.collection) }
     ensures beside { heap.new.beside ≡ heap.old.beside }
+    ensures looks { heap.new.roots_left ≡ heap.old.roots_left }
 {
     let heap = lent!(heap);
     if m >= u32::from(heap.mutators()) || s as usize >= heap.root_places() {
@@ -183,6 +192,7 @@ pub extern "C" fn gcflip_put_nil(heap: &mut GcflipHeap, m: u32, s: u32, i: u32) 
         (λ state. put_value_step state m s i Nil) heap.old.state heap.new.state result }
     ensures memory { result ≡ no_memory → IsSomeAnd heap.old.state (λ s. IsSome s.collection) }
     ensures beside { heap.new.beside ≡ heap.old.beside }
+    ensures looks { heap.new.roots_left ≡ heap.old.roots_left }
 {
     let heap = lent!(heap);
     if m >= u32::from(heap.mutators()) || s as usize >= heap.root_places() {

@@ -79,6 +79,7 @@ pub(crate) fn put_at_roots_while_open(
         (λ state. mutate state m (Op.Put (root_at s) i (root_at t))) (Some heap.old.core) (Some heap.new.core) result }
     ensures beside { heap.new.beside ≡ heap.old.beside }
     ensures memory { result ≡ no_memory → IsSome heap.old.core.collection }
+    ensures looks { heap.new.roots_left ≡ heap.old.roots_left }
 {
     of_result(heap.put_root(m, s, i, t))
 }

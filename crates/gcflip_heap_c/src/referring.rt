@@ -9,6 +9,7 @@ ghost use Rattle.gc_words.specs.Views.{graph_value};
 ghost use Rattle.gc_heap.specs.Places.{root_at};
 ghost use Rattle.gc_collected.specs.Referring.{refer_step};
 ghost use Rattle.gc_collected.specs.Viewing.{view_at};
+ghost use Rattle.gc_collected.specs.Spreading.{AskForRow};
 ghost use Rattle.gcflip_heap_c.specs.Commands.{IsCall, IsCommandCall};
 ghost use Rattle.gcflip_heap_c.specs.Places.{HasRoots};
 ghost use Rattle.gcflip_heap_c.specs.Raws.{TellsField, value_in_c};
@@ -44,6 +45,7 @@ pub extern "C" fn gcflip_refer(heap: &mut GcflipHeap, d: u32, address: u32) -> u
         (λ state. refer_step state 0 (root_at d) address) heap.old.state heap.new.state result }
     ensures memory { result ≢ no_memory }
     ensures beside { heap.new.beside ≡ heap.old.beside }
+    ensures looks { AskForRow d 1 heap.old.roots_left heap.new.roots_left }
 {
     let heap = lent!(heap);
     if d as usize >= heap.root_places() {

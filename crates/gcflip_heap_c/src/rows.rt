@@ -7,6 +7,7 @@ ghost use Rattle.gc_graph.specs.Limits.{kinds, lengths};
 ghost use Rattle.gc_heap.specs.Places.{root_at};
 ghost use Rattle.gc_collected.specs.CollectedHeap.{new_from_step, roots_from};
 ghost use Rattle.gc_collected.specs.Spreading.{spread_step};
+ghost use Rattle.gc_collected.specs.Spreading.{AskForRow};
 ghost use Rattle.gcflip_heap_c.specs.Commands.{IsCommandCall};
 ghost use Rattle.gcflip_heap_c.specs.Places.{HasRootRange, HasRoots};
 
@@ -73,6 +74,7 @@ pub extern "C" fn gcflip_new_pair(
         (λ state. new_from_step state m (root_at d) kind (root_at s ∷ root_at t ∷ [])) heap.old.state heap.new.state result }
     ensures memory { result ≡ no_memory → IsSomeAnd heap.old.state (λ s. IsSome s.collection) }
     ensures beside { heap.new.beside ≡ heap.old.beside }
+    ensures looks { AskForRow d 1 heap.old.roots_left heap.new.roots_left }
 {
     let heap = lent!(heap);
     let roots = heap.root_places();
@@ -100,6 +102,7 @@ pub extern "C" fn gcflip_new_from(
         (λ state. new_from_step state m (root_at d) kind (map root_at fields.now)) heap.old.state heap.new.state result }
     ensures memory { result ≡ no_memory → IsSomeAnd heap.old.state (λ s. IsSome s.collection) }
     ensures beside { heap.new.beside ≡ heap.old.beside }
+    ensures looks { AskForRow d 1 heap.old.roots_left heap.new.roots_left }
 {
     let heap = lent!(heap);
     let roots = heap.root_places();
@@ -128,6 +131,7 @@ pub extern "C" fn gcflip_gather(
         (λ state. new_from_step state m (root_at d) kind (roots_from first count)) heap.old.state heap.new.state result }
     ensures memory { result ≡ no_memory → IsSomeAnd heap.old.state (λ s. IsSome s.collection) }
     ensures beside { heap.new.beside ≡ heap.old.beside }
+    ensures looks { AskForRow d 1 heap.old.roots_left heap.new.roots_left }
 {
     let heap = lent!(heap);
     if m >= u32::from(heap.mutators()) || d as usize >= heap.root_places() || kind > 255 {
@@ -147,6 +151,7 @@ pub extern "C" fn gcflip_spread(heap: &mut GcflipHeap, first: u32, s: u32, count
         (λ state. spread_step state first s count) heap.old.state heap.new.state result }
     ensures memory { result ≢ no_memory }
     ensures beside { heap.new.beside ≡ heap.old.beside }
+    ensures looks { AskForRow first count heap.old.roots_left heap.new.roots_left }
 {
     let heap = lent!(heap);
     if s as usize >= heap.root_places() || !has_range(heap, first, count) {

@@ -1,112 +1,24 @@
--- The heap fills alone; the fields are logged together, and then the monitor is told of all of them.
-use Rattle.std.proofs.Common.{◌≡◌, ℕ, List, Some, None, ap, subst, sym, ◌∙◌, arith}
-use Rattle.std.specs.Prelude.{IfSome, IsFalse, Option, slice_index_or}
+-- Each field takes the word that stands for what root t holds.
+use Rattle.std.proofs.Common.{◌≡◌, ℕ, ap, subst, sym, ◌∙◌, arith}
+use Rattle.std.specs.Prelude.{IfSome, Option, slice_index_or}
 use Rattle.std.proofs.lemmas.List.{length-map}
-use Rattle.gc_graph.specs.Graph.{Ref, Value, root}
+use Rattle.gc_graph.specs.Graph.{root}
 use Rattle.gc_words.specs.Word.{field_value, value_of}
 use Rattle.gc_heap.specs.Heap.{HeapWords, graph_in}
 use Rattle.gc_heap.proofs.Public.{at_root}
-use Rattle.gc_plan.specs.Belonging.{IsOpened}
-use Rattle.gc_copy.specs.Words.{CollectionWords, BelongsTo, open_state}
-use Rattle.gc_along.specs.Claims.{CanWriteRow}
-use Rattle.gc_along.specs.Events.{WroteRow}
-use Rattle.gc_collected.specs.Copying.{fills_step}
-use Rattle.gc_collected.specs.Internal.Beside.{AreOld}
-use Rattle.gc_collected.specs.Internal.CollectedHeap.{BelongsIfOpen, Fits, state_in}
-use Rattle.gc_collected.specs.Internal.Follows.{Follows}
-use Rattle.gc_collected.specs.Internal.Given.{PutsAll, same_from}
-use Rattle.gc_collected.specs.Internal.Together.{LogsIfOpen, fields_from}
-use Rattle.gc_collected.proofs.CopiesDone.{row_told}
-use Rattle.gc_collected.proofs.Runs.{Row, fills_are, same_fields, row_fits, row_follows, row_mutators, row_ran, row_state}
+use Rattle.gc_collected.specs.Internal.CollectedHeap.{state_in}
+use Rattle.gc_collected.specs.Internal.Given.{puts_step, same_from}
+use Rattle.gc_collected.proofs.Runs.{fills_are}
 use Rattle.gc_collected.proofs.copying.fill_values.Goals as goal
-use Rattle.gc_collected.proofs.copying.fill_values.Goals.{After-fill_each, After-note_row}
-
--- the word says what root t holds
-value : (c : After-fill_each) → field_value c.unwrap.result.1 c.unwrap-word.result ≡ root (graph_in c.args.heap.now) c.args.t
-value c =
-    let h : HeapWords = c.args.heap.now in
-    let word : ℕ = slice_index_or c.roots.result.now c.args.t 0 in
-    subst (λ (o : Option ℕ). IfSome o (λ w. field_value c.unwrap.result.1 w ≡ value_of word)) c.unwrap-word.ensures c.field_word.ensures.value
-    ∙ sym (at_root h c.args.t word (λ k. slice_index_or (c.roots.ensures.value k) c.args.t 0))
-
--- the fields and what they took
-abbrev entries : (c : After-fill_each) → List (ℕ × Value)
-entries c = same_from c.args.from c.args.count (root (graph_in c.args.heap.now) c.args.t)
-
-row : (c : After-fill_each) → Row c.args.heap.now c.fill_each.new.heap c.args.s c.unwrap.result.0.0 c.args.from c.args.count (entries c)
-row c = record {
-  puts = subst (λ v. PutsAll c.args.heap.now c.args.s (same_from c.args.from c.args.count v) c.fill_each.new.heap) (value c) c.fill_each.ensures.puts;
-  fields = same_fields c.args.count c.unwrap.result.0.0 c.args.from (root (graph_in c.args.heap.now) c.args.t);
-  target = subst (λ o. IfSome o (λ found. root (graph_in c.args.heap.now) c.args.s ≡ Ref found.0.0)) c.unwrap.ensures c.object.ensures.target;
-  within = let n = length-map c.args.heap.now.roots value_of in omega (arith, n, c.requires.target);
-}
-
-stepped : (c : After-fill_each) (o o' : Option CollectionWords) → LogsIfOpen o c.args.m (fields_from c.unwrap.result.0.0 c.args.from c.args.count) o' → fills_step (state_in c.args.heap.now o) c.args.m c.args.s c.args.from c.args.count c.args.t ≡ state_in c.fill_each.new.heap o'
-stepped c o o' logs =
-    fills_are c.args.count (state_in c.args.heap.now o) c.args.m c.args.s c.args.from c.args.t (row c).within
-    ∙ row_state c.args.heap.now c.fill_each.new.heap c.args.s c.unwrap.result.0.0 c.args.from c.args.count (entries c) (row c) o o' c.args.m logs
-
--- ---- while no collection is open
-
-pub returns-in_default-clause-step : goal.returns-in_default-clause-step
-returns-in_default-clause-step c =
-    let one = (goal.at.returns-in_default-clause-step c).After-fill_each in
-    subst (λ (o : Option CollectionWords). fills_step (state_in c.args.heap.now o) c.args.m c.args.s c.args.from c.args.count c.args.t ≡ state_in c.fill_each.new.heap o) (sym c.in_default.is) (stepped one None None tt)
-
-pub returns-in_default-clause-fits : goal.returns-in_default-clause-fits
-returns-in_default-clause-fits c =
-    let one = (goal.at.returns-in_default-clause-fits c).After-fill_each in
-    subst (λ (o : Option CollectionWords). (epoch : ℕ) → Fits epoch c.args.heap.now o → Fits epoch c.fill_each.new.heap o) (sym c.in_default.is)
-    (λ epoch fits. row_fits c.args.heap.now c.fill_each.new.heap c.args.s c.unwrap.result.0.0 c.args.from c.args.count (entries one) (row one) epoch None None c.args.m c.requires.mutator tt fits)
-
-pub returns-in_default-clause-mutators : goal.returns-in_default-clause-mutators
-returns-in_default-clause-mutators c =
-    let one = (goal.at.returns-in_default-clause-mutators c).After-fill_each in
-    row_mutators c.args.heap.now c.fill_each.new.heap c.args.s c.unwrap.result.0.0 c.args.from c.args.count (entries one) (row one)
-
-pub returns-in_default-clause-follows : goal.returns-in_default-clause-follows
-returns-in_default-clause-follows c =
-    let one = (goal.at.returns-in_default-clause-follows c).After-fill_each in
-    subst (λ (o : Option CollectionWords). Follows (state_in c.args.heap.now o) c.args.watch.now → Follows (state_in c.fill_each.new.heap o) c.args.watch.now) (sym c.in_default.is)
-    (row_follows c.args.heap.now c.fill_each.new.heap c.args.s c.unwrap.result.0.0 c.args.from c.args.count (entries one) (row one) c.args.m c.args.watch.now)
-
--- ---- while one is open
-
-belonged : (c : After-note_row) → BelongsTo c.args.heap.now c.in-Some.collection
-belonged c = subst (BelongsIfOpen c.args.heap.now) c.in-Some.is c.requires.belongs
-
-belongs_now : (c : After-note_row) → BelongsTo c.fill_each.new.heap c.note_row.new.collection
-belongs_now c =
-    let one = (goal.at.are_shown-requires c).After-fill_each in
-    row_fits c.args.heap.now c.fill_each.new.heap c.args.s c.unwrap.result.0.0 c.args.from c.args.count (entries one) (row one) 0 (Some c.in-Some.collection) (Some c.note_row.new.collection) c.args.m c.requires.mutator c.note_row.ensures (belonged c)
-
-pub are_shown-requires : goal.are_shown-requires
-are_shown-requires c = belongs_now (goal.at.are_shown-requires c).After-note_row
 
 pub returns-clause-step : goal.returns-clause-step
 returns-clause-step c =
-    subst (λ (o : Option CollectionWords). fills_step (state_in c.args.heap.now o) c.args.m c.args.s c.args.from c.args.count c.args.t ≡ state_in c.fill_each.new.heap (Some c.note_row.new.collection)) (sym c.in-Some.is)
-    (stepped (goal.at.returns-clause-step c).After-fill_each (Some c.in-Some.collection) (Some c.note_row.new.collection) c.note_row.ensures)
-
-pub returns-clause-fits : goal.returns-clause-fits
-returns-clause-fits c = λ epoch fits. belongs_now (goal.at.returns-clause-fits c).After-note_row
-
-pub returns-clause-mutators : goal.returns-clause-mutators
-returns-clause-mutators c =
-    let one = (goal.at.returns-clause-mutators c).After-fill_each in
-    row_mutators c.args.heap.now c.fill_each.new.heap c.args.s c.unwrap.result.0.0 c.args.from c.args.count (entries one) (row one)
-
-pub returns-clause-follows : goal.returns-clause-follows
-returns-clause-follows c =
-    let one = (goal.at.returns-clause-follows c).After-fill_each in
-    let a = c.unwrap.result.0.0 in
-    let words = c.words.ensures.value ∙ ap (λ x. x.words) c.space-3.ensures.value in
-    let told = c.written_row.ensures in
-    let count = c.from.ensures in
-    subst (λ (o : Option CollectionWords). Follows (state_in c.args.heap.now o) c.args.watch.now → Follows (state_in c.fill_each.new.heap (Some c.note_row.new.collection)) c.written_row.new.self) (sym c.in-Some.is)
-    (row_told c.args.heap.now c.fill_each.new.heap c.in-Some.collection c.note_row.new.collection c.args.m a c.args.from c.args.count c.words.result.now c.args.watch.now c.written_row.new.self (belonged (goal.at.returns-clause-follows c).After-note_row)
-    c.requires.mutator (row_ran c.args.heap.now c.fill_each.new.heap c.args.s a c.args.from c.args.count (entries one) (row one) (Some c.in-Some.collection) (Some c.note_row.new.collection) c.args.m c.note_row.ensures) c.note_row.ensures
-    (subst (λ (o : Option CollectionWords). IfSome (state_in c.args.heap.now o).collection (IsOpened (state_in c.args.heap.now o))) c.in-Some.is c.are_sound_in.ensures) c.are_shown.ensures.opened c.are_shown.ensures.heap
-    (subst (AreOld (open_state c.fill_each.new.heap c.note_row.new.collection)) (sym words) c.are_shown.ensures.old)
-    (subst (λ n. IsFalse c.args.watch.now.lost → CanWriteRow c.words.result.now a c.args.from n c.args.watch.now → IsFalse c.written_row.new.self.lost) count told.stays)
-    (subst (λ n. IsFalse c.written_row.new.self.lost → WroteRow a c.args.from n c.args.watch.now c.written_row.new.self) count told.wrote))
+    let h : HeapWords = c.args.heap.now in
+    let word : ℕ = slice_index_or c.roots.result.now c.args.t 0 in
+    let n = length-map h.roots value_of in
+    let value : field_value c.unwrap.result.1 c.unwrap-word.result ≡ root (graph_in h) c.args.t =
+    subst (λ (o : Option ℕ). IfSome o (λ w. field_value c.unwrap.result.1 w ≡ value_of word)) c.unwrap-word.ensures c.field_word.ensures.value
+    ∙ sym (at_root h c.args.t word (λ k. slice_index_or (c.roots.ensures.value k) c.args.t 0)) in
+    let s = state_in h c.args.collection.now in
+    fills_are c.args.count s c.args.m c.args.s c.args.from c.args.t (omega (arith, n, c.requires.target))
+    ∙ (ap (λ v. puts_step s c.args.m c.args.s (same_from c.args.from c.args.count v)) (sym value) ∙ c.put_words.ensures.step)

@@ -24,7 +24,7 @@ invariant_of-self c =
     let low : c.args.d < roots_of heap.mutators = let below = c.if-d-slots.true in omega (arith, below, slots) in
     let knows = subst (Known (without_slots was)) (ap (λ (x : Reply × State). x.1) made.ensures.step)
     (known_if true was (without_slots was) (state_in heap c.self.inside.collection) 0 c.args.d (New (root_at c.args.d) c.args.kind c.args.len) refl
-        (subst (λ (s : State). c.args.d < length s.heap.graph.roots) (sym (core_is c.self.view_is)) c.requires) (slot_taken was (roots_of heap.mutators) c.args.d low) (λ e. absurd (true≢false e)) (c.self.invariant.0.1, c.self.invariant.0.2)) in (
+    (subst (λ (s : State). c.args.d < length s.heap.graph.roots) (sym (core_is c.self.view_is)) c.requires) (slot_taken was (roots_of heap.mutators) c.args.d low) (λ e. absurd (true≢false e)) (c.self.invariant.0.1, c.self.invariant.0.2)) in (
       (made.ensures.fits c.self.inside.epoch c.self.invariant.0.0, knows.0, knows.1),
       λ on. made.ensures.follows (c.self.invariant.1 on),
     )
