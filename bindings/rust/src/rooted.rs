@@ -148,10 +148,10 @@ impl Rooted {
     ///
     /// Returns `NoMemory`. The steps before the failure stay done.
     pub fn collect(&self) -> Result<u32> {
-        let work = self.heap.collect_whole()?;
+        let work = self.heap.collect()?;
         self.heap.remember(&mut self.pace.borrow_mut())?;
         self.worked(work.steps, work.copied);
-        Ok(work.pairs)
+        Ok(work.pairs())
     }
 
     /// Returns what the heap did since it was opened.
