@@ -3,10 +3,11 @@ use Rattle.std.proofs.lemmas.Grind.{common_steps}
 use Rattle.std.proofs.Common.{◌≡◌, ◌≢◌, inl, inr, ⊎_elim, ℕ, zero, suc, ◌+◌, ◌-◌, ◌<◌, ◌≤◌, ◌==◌, Bool, true, false, not, List, [], ◌∷◌, ◌++◌, length, set, get_or, take, drop, replicate, Option, Some, is_some, All, AllPairs, refl, sym, ◌∙◌, ap, subst, arith, length-append, length-set, length-take, set-set, rules}
 use Rattle.std.specs.Prelude.{slice_set, slice_index, IsSome}
 use Rattle.std.proofs.lemmas.Bool.{cases_eq, cases_lt, eq-eqb}
-use Rattle.std.proofs.lemmas.List.{take-append-le, drop-take, take-take, get_or-take, get_or_default, get_or-set_same, length-map}
+use Rattle.std.proofs.lemmas.List.{take-append-le, take-set-le, drop-take, take-take, get_or-take, get_or_default, get_or-set_other, get_or-set_same, length-map}
 use Rattle.std.proofs.lemmas.Option.{slice_get-get_or}
 use Rattle.gc_words.specs.Word.{read_header, field_words_correspond}
-use Rattle.gc_words.specs.Image.{Image, Block, header_of, header_at, is_start, field_in, field_at}
+use Rattle.gc_words.specs.Image.{Image, Block, block_at, header_of, header_at, is_start, field_in, field_at}
+use Rattle.gc_words.specs.Space.{IsSpace}
 use Rattle.gc_words.proofs.Public.{StandsIn, block_from, stands_in, field_read, space_of, some_of}
 use Rattle.gc_words.specs.Certificate.{Certified}
 use Rattle.gc_words.specs.Layout.{field_place, link_place}
@@ -16,7 +17,7 @@ use Rattle.gc_along.specs.Internal.Watch.{OldIsDue, mark, pair_at, looked}
 use Rattle.gc_along.specs.Origins.{pairs_in, pairs_from}
 use Rattle.gc_along.specs.Outline.{outline_of}
 use Rattle.gc_along.specs.Tables.{Tables, IsKept, watch_of, due_in}
-use Rattle.gc_along.specs.Claims.{Accepts}
+use Rattle.gc_along.specs.Claims.{Accepts, HasField}
 use Rattle.gc_along.proofs.Seen.{certified}
 use Rattle.gc_along.specs.Telling.{MarksAreStarts, Tells}
 use Rattle.gc_along.specs.Events.{code_of, object_codes, with_news, with_due, old_added, replica_added, IsClaim, IsCopy, Made, Placed, IsFieldOf, Looked, IsReplicaAt, HasNoReplica, Wrote, Applied, Freed, opening_tables, flipped_tables}
@@ -26,6 +27,7 @@ use Rattle.gc_along.proofs.Origins.{placed as pairs_placed}
 use Rattle.gc_along.proofs.Looks.{taken_for_due, compared}
 use Rattle.gc_along.proofs.Walked.{begun, old_goes_on, paired_next, replicated, replicated_next, kept}
 use Rattle.gc_along.proofs.Written.{old_field, new_field, old_link, new_link}
+use Rattle.gc_along.proofs.Fronts.{field_where}
 use Rattle.gc_along.proofs.Marks.{no_zero, marks_more, marks_set, marks_taken, marks_written, marks_linked}
 
 -- ---- the pairs of a row of originals
@@ -269,6 +271,10 @@ pub applied_tells : (old new : List ℕ) (t after : Tables) (a i : ℕ) → Tell
 applied_tells old new t after a i tells (inl h) = subst (Tells old new) (sym h.1) tells
 applied_tells old new t after a i tells (inr (b, at, look)) = looked_tells old new t after b i tells look
 
+pub wrote_tells : (old new : List ℕ) (t after : Tables) (a i : ℕ) → Tells old new t → Wrote a i t after → Tells old new after
+wrote_tells old new t after a i tells (inl h) = subst (Tells old new) (sym h.1) tells
+wrote_tells old new t after a i tells (inr (b, at, within, is)) = subst (Tells old new) (sym is) (due_told old new t (field_place b i) tells)
+
 -- ---- words written
 
 due_here : (t : Tables) (b i : ℕ) → field_place b i < length t.news → is_due (watch_of (with_due t (field_place b i) true)) b i ≡ true
@@ -279,47 +285,47 @@ due_here t b i within =
 pub due_tells_written : (old new : List ℕ) (t : Tables) (b i x : ℕ) → Tells old new t → IsSome (field_at (take (length t.news) new) b i) → NewIsDue (watch_of t) b i → Tells old (slice_set new (field_place b i) x) t
 due_tells_written old new t b i x tells some due = search (rules, kept, new_field, marks_written)
 
+-- the field of a replica that is due is written, and then looked at
+module _ (old new : List ℕ) (t after : Tables) (b i x : ℕ) (told : Tells old new (with_due t (field_place b i) true)) (is : Looked old (slice_set new (field_place b i) x) b i t after) where
+  abbrev place : ℕ
+  place = field_place b i
+
+  abbrev written : List ℕ
+  written = slice_set new place x
+
+  abbrev marked : Tables
+  marked = with_due t place true
+
+  abbrev due : Bool
+  due = not (field_words_correspond is.0 (pairs_in t.origins) (slice_index old (field_place is.1 i)) (slice_index written place))
+
+  rows : length marked.news ≡ length t.news
+  rows = length-set t.news place 3
+
+  twice : with_due marked place due ≡ with_due t place due
+  twice = ap (with_news t) (set-set t.news place 3 (code_of due))
+
+  same_word : slice_index new b ≡ slice_index written b
+  same_word = sym (get_or-set_other new place b x 0 (λ e. let f : b ≡ field_place b i = e in omega arith))
+
+  blocks : Blocks old new marked is.1 b told is.2.low is.2.origin
+  blocks = its_blocks old new marked is.1 b told is.2.low is.2.origin
+
+  due_header : blocks.other.header ≡ is.0
+  due_header = let s : Some blocks.other.header ≡ Some is.0 = sym (header_word (length marked.news) new b i blocks.other told.watches.new_seen blocks.other_at) ∙ ap read_header same_word ∙ is.2.header in cc
+
+  some : IsSome (field_at (take (length marked.news) new) b i)
+  some = has_field (length marked.news) new b i blocks.other told.watches.new_seen blocks.other_at (subst (λ (g : Header). i < g.len) (sym due_header) is.2.has_field)
+
+  brought_due : Tells old written after
+  brought_due =
+      subst (Tells old written) (sym is.5)
+      (subst (Tells old written) twice
+      (looked_tells old written marked (with_due marked place due) b i (due_tells_written old new marked b i x told some (λ k d l e. due_here t b i is.2.within))
+      (is.0, is.1, record { header = is.2.header; has_field = is.2.has_field; origin = is.2.origin; low = is.2.low; within = omega (arith, is.2.within, rows) }, is.3, is.4, refl)))
+
 pub brought_tells : (old new : List ℕ) (t after : Tables) (b i x : ℕ) → Tells old new t → Looked old (slice_set new (field_place b i) x) b i t after → Tells old (slice_set new (field_place b i) x) after
-brought_tells old new t after b i x tells is =
-    subst (Tells old written) (sym is.5)
-    (subst (Tells old written) twice
-    (looked_tells old written marked (with_due marked place due) b i told
-    (is.0, is.1, record { header = is.2.header; has_field = is.2.has_field; origin = is.2.origin; low = is.2.low; within = omega (arith, is.2.within, rows) }, is.3, is.4, refl)))
-  where
-    place : ℕ
-    place = field_place b i
-
-    written : List ℕ
-    written = slice_set new place x
-
-    due : Bool
-    due = not (field_words_correspond is.0 (pairs_in t.origins) (slice_index old (field_place is.1 i)) (slice_index written place))
-
-    marked : Tables
-    marked = with_due t place true
-
-    rows : length marked.news ≡ length t.news
-    rows = length-set t.news place 3
-
-    twice : with_due marked place due ≡ with_due t place due
-    twice = ap (with_news t) (set-set t.news place 3 (code_of due))
-
-    same_word : slice_index new b ≡ slice_index written b
-    same_word = sym (Rattle.std.proofs.lemmas.List.get_or-set_other new place b x 0 (λ e. let f : b ≡ field_place b i = e in omega arith))
-
-    blocks : Blocks old new t is.1 b tells is.2.low is.2.origin
-    blocks = its_blocks old new t is.1 b tells is.2.low is.2.origin
-
-    its_header : blocks.other.header ≡ is.0
-    its_header = let s : Some blocks.other.header ≡ Some is.0 = sym (header_word (length t.news) new b i blocks.other tells.watches.new_seen blocks.other_at) ∙ ap read_header same_word ∙ is.2.header in cc
-
-    some : IsSome (field_at (take (length t.news) new) b i)
-    some = has_field (length t.news) new b i blocks.other tells.watches.new_seen blocks.other_at (subst (λ (g : Header). i < g.len) (sym its_header) is.2.has_field)
-
-    told : Tells old written marked
-    told = due_tells_written old new marked b i x (due_told old new t place tells)
-        (subst (λ n. IsSome (field_at (take n new) b i)) (sym rows) some)
-        (λ k d l e. due_here t b i is.2.within)
+brought_tells old new t after b i x tells is = brought_due old new t after b i x (due_told old new t (field_place b i) tells) is
 
 same_once : (pairs : List (ℕ × ℕ)) → AllPairs (λ p q. p.0 ≢ q.0) pairs → (k l : ℕ) (d : ℕ × ℕ) → k < length pairs → l < length pairs → (get_or pairs k d).0 ≡ (get_or pairs l d).0 → k ≡ l
 same_once pairs once k l d m n same = grind (arith, common_steps, cases_eq, cases_lt)
@@ -366,3 +372,66 @@ pub new_more_tells : (old new more : List ℕ) (t : Tables) → Tells old new t 
 new_more_tells old new more t tells = grind (arith, common_steps, kept, seen_more, same_seen, take-append-le)
 
 -- ---- a walk over the old space anew
+
+-- the walk does not look at words behind it
+behind_tells : (old words new : List ℕ) (t : Tables) → take (length t.olds) old ≡ take (length t.olds) words → length words ≡ length old → Tells old new t → Tells words new t
+behind_tells old words new t same long tells = record {
+  kept = tells.kept;
+  watches = record {
+    old_seen = record { within = omega (arith, tells.watches.old_seen.within, long); space = subst (λ ws. IsSpace (record { size = 4294967295; words = ws })) same tells.watches.old_seen.space };
+    new_seen = tells.watches.new_seen;
+    pairs = λ k d l. subst (λ ws. IsWatched (watch_of t) (get_or (pairs_in t.origins) k d).1 (block_at ws (get_or (pairs_in t.origins) k d).0) (seen_at (length t.news) new (get_or (pairs_in t.origins) k d).1)) same (tells.watches.pairs k d l);
+    row = tells.watches.row;
+    rising = tells.watches.rising;
+    once = tells.watches.once;
+  };
+  old_starts = λ a m. subst (λ ws. is_start ws a ≡ true) same (tells.old_starts a m);
+  new_starts = tells.new_starts;
+}
+
+-- a field written anywhere in the old space
+pub anywhere_tells : (old new : List ℕ) (t after : Tables) (a i x : ℕ) → Tells old new t → IsSeen (length old) old → IsSome (field_at old a i) → Wrote a i t after → Tells (slice_set old (field_place a i) x) new after
+anywhere_tells old new t after a i x tells whole some wrote = ⊎_elim
+    (λ here. written_tells old new a i x t after tells here wrote)
+    (λ there. behind_tells old (slice_set old (field_place a i) x) new after
+    (sym (take-set-le (length after.olds) old (field_place a i) x (omega (arith, there, same_walk wrote))))
+    (length-set old (field_place a i) x) (wrote_tells old new t after a i tells wrote))
+    (field_where (length t.olds) old tells.watches.old_seen whole a i some)
+  where
+    same_walk : Wrote a i t after → length after.olds ≡ length t.olds
+    same_walk (inl h) = ap (λ (t : Tables). length t.olds) h.1
+    same_walk (inr (b, at, within, is)) = ap (λ (t : Tables). length t.olds) is
+
+-- a replica has its original's fields
+module _ (old new : List ℕ) (t : Tables) (tells : Tells old new t) (b i : ℕ) (has : HasField (slice_index new b) t b i) where
+  abbrev its_origin : ℕ
+  its_origin = get_or t.origins b 0
+
+  abbrev its_field : IsFieldOf new t has.header its_origin b i
+  its_field = record { header = has.is; has_field = has.has_field; origin = refl; low = has.origin; within = has.within }
+
+  abbrev its_words : Blocks old new t its_origin b tells has.origin refl
+  its_words = its old new t has.header its_origin b i tells its_field
+
+  same_as : its_words.one.header ≡ has.header
+  same_as = one_header old new t has.header its_origin b i tells its_field
+
+  pub original_field : IsSome (field_at (take (length t.olds) old) (get_or t.origins b 0) i)
+  original_field = has_field (length t.olds) old its_origin i its_words.one tells.watches.old_seen its_words.one_at (subst (λ (g : Header). i < g.len) (sym same_as) has.has_field)
+
+-- both fields written, and then looked at
+pub both_tells : (old new : List ℕ) (t after : Tables) (a b i x y : ℕ) → Tells old new t → get_or t.origins b 0 ≡ a → Looked (slice_set old (field_place a i) x) (slice_set new (field_place b i) y) b i t after
+    → Tells (slice_set old (field_place a i) x) (slice_set new (field_place b i) y) after
+both_tells old new t after a b i x y tells origin is =
+    brought_due (slice_set old (field_place a i) x) new t after b i y
+    (written_tells old new a i x t (with_due t (field_place b i) true) tells
+    (subst (λ a. IsSome (field_at (take (length t.olds) old) a i)) origin
+    (original_field old new t tells b i (record { header = is.0; is = ap read_header same_word ∙ is.2.header; has_field = is.2.has_field; origin = low; within = is.2.within })))
+    (inr (b, record { low = subst (λ a. 1 ≤ a) origin low; taken = ap (λ a. get_or t.olds a 0) (sym origin) ∙ tells.kept.taken b low; origin = origin }, is.2.within, refl)))
+    is
+  where
+    low : 1 ≤ get_or t.origins b 0
+    low = subst (λ a. 1 ≤ a) (sym is.2.origin) is.2.low
+
+    same_word : slice_index new b ≡ slice_index (slice_set new (field_place b i) y) b
+    same_word = sym (get_or-set_other new (field_place b i) b y 0 (λ e. let f : b ≡ field_place b i = e in omega arith))

@@ -1,7 +1,7 @@
 //! Laws: the tables of a standing checker tell the truth of the words, whoever the collector is, as long as the words are written as these
 //! laws say.
 
-ghost use Rattle.std.specs.Prelude.{◌≡◌, ◌≤◌, ◌∷◌, ◌++◌, [], ℕ, List, length, take, slice_index, slice_set, IsTrue, IsSome};
+ghost use Rattle.std.specs.Prelude.{◌≡◌, ◌≤◌, ◌∷◌, ◌++◌, [], ℕ, List, length, take, slice_index, slice_index_or, slice_set, IsTrue, IsSome};
 ghost use Rattle.gc_words.specs.Certificate.{Certified};
 ghost use Rattle.gc_words.specs.Image.{Image, field_at, is_start};
 ghost use Rattle.gc_words.specs.Layout.{field_place, link_place};
@@ -11,7 +11,7 @@ ghost use Rattle.gc_along.specs.Outline.{outline_of};
 ghost use Rattle.gc_along.specs.Claims.{Accepts};
 ghost use Rattle.gc_along.specs.Tables.{IsKept, Tables, watch_of};
 ghost use Rattle.gc_along.specs.Telling.{Tells};
-ghost use Rattle.gc_along.specs.Watch.{NewIsDue, Watches};
+ghost use Rattle.gc_along.specs.Watch.{IsSeen, NewIsDue, Watches};
 
 /// A yes of tables that tell the truth is sound. Nothing is assumed of the collector.
 pub fn a_yes_is_sound()
@@ -34,6 +34,8 @@ pub fn events_keep_telling()
         → Tells old new t → Looked old new b i t after → Tells old new after }
     ensures applied { (old new : List ℕ) (t after : Tables) (a i : ℕ)
         → Tells old new t → Applied old new a i t after → Tells old new after }
+    ensures wrote { (old new : List ℕ) (t after : Tables) (a i : ℕ)
+        → Tells old new t → Wrote a i t after → Tells old new after }
     ensures flipped { (old new : List ℕ) (t : Tables)
         → Tells old new t → Tells new (0 ∷ []) (flipped_tables t) }
     ensures dropped { (old new : List ℕ) (t after : Tables)
@@ -46,9 +48,18 @@ pub fn writes_keep_telling()
     ensures written { (old new : List ℕ) (t after : Tables) (a i x : ℕ)
         → Tells old new t → IsSome (field_at (take (length t.olds) old) a i) → Wrote a i t after
         → Tells (slice_set old (field_place a i) x) new after }
+    // Where all words are objects, the field may also be one behind the walk.
+    ensures anywhere { (old new : List ℕ) (t after : Tables) (a i x : ℕ)
+        → Tells old new t → IsSeen (length old) old → IsSome (field_at old a i) → Wrote a i t after
+        → Tells (slice_set old (field_place a i) x) new after }
     ensures brought { (old new : List ℕ) (t after : Tables) (b i x : ℕ)
         → Tells old new t → Looked old (slice_set new (field_place b i) x) b i t after
         → Tells old (slice_set new (field_place b i) x) after }
+    // The field of an original is written untold, and that of its replica too, and then they are looked at.
+    ensures both { (old new : List ℕ) (t after : Tables) (a b i x y : ℕ)
+        → Tells old new t → slice_index_or t.origins b 0 ≡ a
+        → Looked (slice_set old (field_place a i) x) (slice_set new (field_place b i) y) b i t after
+        → Tells (slice_set old (field_place a i) x) (slice_set new (field_place b i) y) after }
     ensures due { (old new : List ℕ) (t : Tables) (b i x : ℕ)
         → Tells old new t → IsSome (field_at (take (length t.news) new) b i) → NewIsDue (watch_of t) b i
         → Tells old (slice_set new (field_place b i) x) t }

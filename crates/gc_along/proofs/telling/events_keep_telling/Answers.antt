@@ -1,5 +1,5 @@
 -- Each event, from an opening to a flip or a drop, changes the tables so that they tell the truth of the same words.
-use Rattle.gc_along.proofs.ToldTruth.{opening_tells, made_tells, placed_tells, looked_tells, applied_tells, flipped_tells, dropped_tells}
+use Rattle.gc_along.proofs.ToldTruth.{opening_tells, made_tells, placed_tells, looked_tells, applied_tells, wrote_tells, flipped_tells, dropped_tells}
 use Rattle.gc_along.proofs.telling.events_keep_telling.Goals as goal
 
 pub returns : goal.returns
@@ -9,6 +9,7 @@ returns c = record {
   placed = placed_tells;
   looked = looked_tells;
   applied = applied_tells;
+  wrote = wrote_tells;
   flipped = flipped_tells;
   dropped = dropped_tells;
 }
