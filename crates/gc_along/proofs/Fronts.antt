@@ -4,15 +4,15 @@ use Rattle.std.proofs.Common.{◌≡◌, ◌⊎◌, inl, inr, ⊎_elim, ℕ, zer
 use Rattle.std.specs.Prelude.{slice_index, IsOk, IsSome}
 use Rattle.std.specs.Result.{result_unwrap_or}
 use Rattle.std.specs.List.{AllByRecursion}
-use Rattle.std.proofs.lemmas.Bool.{cases_eq, cases_lt, ne_eqb, leb-true, le-leb}
+use Rattle.std.proofs.lemmas.Bool.{cases_eq, cases_lt, eq-eqb, ne_eqb, leb-true, le-leb}
 use Rattle.std.proofs.lemmas.List.{drop-take, take-take, get_or-take}
 use Rattle.gc_words.specs.Word.{read_header}
-use Rattle.gc_words.specs.Image.{Block, walk_words, blocks, block_in, block_at, field_in, field_at}
+use Rattle.gc_words.specs.Image.{Block, walk_words, blocks, block_in, block_at, header_of, header_at, field_in, field_at}
 use Rattle.gc_words.specs.Layout.{field_place}
 use Rattle.gc_words.specs.Walking.{next_after, next_of}
 use Rattle.gc_words.specs.declared.header.Header.{Header}
-use Rattle.gc_words.proofs.Public.{Behind, at_end, behind, block_from, has_next, ok_is, some_of, starts_above, step, walk_from}
-use Rattle.gc_along.specs.Watch.{IsSeen, IsNext}
+use Rattle.gc_words.proofs.Public.{Behind, at_end, behind, block_from, has_next, none_at_end, ok_is, some_of, starts_above, walk_from}
+use Rattle.gc_along.specs.Watch.{IsSeen, IsNext, front}
 use Rattle.gc_along.proofs.Seen.{all_of}
 
 -- the objects of a walk from this place on
@@ -84,6 +84,13 @@ in_either (x ∷ bs) cs a = elim (x.0 == a) as (λ t. (cond t (Some x.1) (block_
   | false ↦ in_either bs cs a
 ]
 
+in_other : (bs cs : List (ℕ × Block)) (a : ℕ) → block_in bs a ≡ None → block_in (bs ++ cs) a ≡ block_in cs a
+in_other [] cs a e = refl
+in_other (x ∷ bs) cs a e = elim (x.0 == a) as (λ t. cond t (Some x.1) (block_in bs a) ≡ None → cond t (Some x.1) (block_in (bs ++ cs) a) ≡ block_in cs a) [
+  | true ↦ λ g. absurd (let no : Some x.1 ≡ None = g in cc)
+  | false ↦ λ g. in_other bs cs a g
+] e
+
 above : (bs : List (ℕ × Block)) (low a : ℕ) (b : Block) → AllByRecursion (λ x. low ≤ x.0) bs → block_in bs a ≡ Some b → low ≤ a
 above [] low a b all e = absurd (let no : None ≡ Some b = e in cc)
 above (x ∷ bs) low a b all e = ⊎_elim
@@ -118,9 +125,17 @@ module _ (n : ℕ) (words : List ℕ) (seen : IsSeen n words) (whole : IsSeen (l
       from None e s = absurd (let no : false ≡ true = s in cc)
       from (Some b) e s = ⊎_elim (λ here. inl (ap (λ o. is_some (field_in o i)) here ∙ s)) (λ there. inr (omega (arith, there))) (found_where a b e)
 
-  -- behind the front the walk goes on
-  pub next_there : n < length words → (h : Header) × IsNext n words h
-  next_there less =
+  -- where it goes on, an object starts
+  pub start_there : n < length words → (h : Header) × IsNext n words h × (header_at words n ≡ Some h)
+  start_there less =
       let there = some_of (next_of words n) (has_next words n less goes_behind.0) in
-      let s = step true words n there.0 less there.1 in
-      (s.header, record { header = s.word; within = omega (arith, s.within, s.place); bound = (let top : length (take (length words) words) ≤ 4294967295 = whole.space.end_high in omega (arith, s.within, s.place, top, length-take (length words) words)) })
+      let b : Behind words n there.0 = behind words n there.0 less goes_behind.0 there.1 in
+      let count : length (take n words) ≡ n = omega (arith, length-take n words, seen.within) in
+      let none : block_at (take n words) n ≡ None = subst (λ m. block_at (take n words) m ≡ None) count (none_at_end (front n words) seen.space) in
+      (
+        b.step.header,
+        record { header = b.step.word; within = omega (arith, b.step.within, b.step.place); bound = (let top : length (take (length words) words) ≤ 4294967295 = whole.space.end_high in omega (arith, b.step.within, b.step.place, top, length-take (length words) words)) },
+        ap (λ bs. header_of (block_in bs n)) (goes_behind.1 ∙ ap (λ bs. blocks (take n words) ++ bs) b.objects)
+            ∙ ap header_of (in_other (blocks (take n words)) ((n, block_from words n b.step.header) ∷ objects_from words there.0) n none)
+            ∙ ap (λ t. header_of (cond t (Some (block_from words n b.step.header)) (block_in (objects_from words there.0) n))) (eq-eqb n n refl),
+      )

@@ -419,6 +419,13 @@ module _ (old new : List ℕ) (t : Tables) (tells : Tells old new t) (b i : ℕ)
   pub original_field : IsSome (field_at (take (length t.olds) old) (get_or t.origins b 0) i)
   original_field = has_field (length t.olds) old its_origin i its_words.one tells.watches.old_seen its_words.one_at (subst (λ (g : Header). i < g.len) (sym same_as) has.has_field)
 
+-- a space without objects has no replicas
+pub none_replicated : (old new : List ℕ) (t : Tables) → Tells old new t → length new ≤ 1 → (a : ℕ) → HasNoReplica t a
+none_replicated old new t tells short a b low is =
+    let its : Blocks old new t (get_or t.origins b 0) b tells low refl = its_blocks old new t (get_or t.origins b 0) b tells low refl in
+    let stands = stands_at (length t.news) new b 0 its.other tells.watches.new_seen its.other_at in
+    omega (arith, stands.low, stands.fits, tells.watches.new_seen.within, short, length-take (length t.news) new)
+
 -- both fields written, and then looked at
 pub both_tells : (old new : List ℕ) (t after : Tables) (a b i x y : ℕ) → Tells old new t → get_or t.origins b 0 ≡ a → Looked (slice_set old (field_place a i) x) (slice_set new (field_place b i) y) b i t after
     → Tells (slice_set old (field_place a i) x) (slice_set new (field_place b i) y) after

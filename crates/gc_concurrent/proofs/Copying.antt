@@ -30,6 +30,7 @@ use Rattle.gc_concurrent.specs.Internal.Carrying.{KeepsUnreachableOut}
 use Rattle.gc_concurrent.specs.Internal.Rule.{IsAtRest, IsConcurrent, brought, scanned, applied, wants, after_read, lacks, read_as, Sat, tells_scan_of, tells_apply_of, tells_scan, tells_apply}
 use Rattle.gc_concurrent.specs.Ends.{its}
 use Rattle.gc_concurrent.proofs.Hands.{St, seats_theirs}
+use Rattle.gc_concurrent.proofs.Shown.{shown_set}
 use Rattle.gc_concurrent.proofs.Fitting.{end_brought}
 use Rattle.gc_concurrent.proofs.Keeping.{kept_brought, kept_wants, kept_target}
 use Rattle.gc_concurrent.proofs.Loosely.{Leaves, loosely, block_is}
@@ -45,6 +46,7 @@ theirs_keep size s r k id v c t' here copies old wanted opened carries fits rest
     subst (λ (ws : List ℕ). IsConcurrent size (record { words = ws; homes = s.homes; views = set s.views id (record v { theirs = t' }) })) (sym (set-get_or s.words k 0)) (record {
       mine = r.mine;
       theirs = t';
+      seen = r.seen;
       writer = r.writer;
       copier = r.copier;
       wide = r.wide;
@@ -60,6 +62,8 @@ theirs_keep size s r k id v c t' here copies old wanted opened carries fits rest
       fits = fits;
       rests = rests;
       seats = seats_theirs r.writer r.copier id r.mine r.theirs t' s.views v here copies r.seats;
+      told = r.told;
+      shown = shown_set r.seen s.views id (record v { theirs = t' }) (r.shown id v here) r.shown;
     })
 
 -- ---- what is at rest has no replicas

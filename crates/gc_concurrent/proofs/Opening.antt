@@ -18,6 +18,8 @@ use Rattle.gc_concurrent.proofs.Keeping.{begins_kept}
 use Rattle.gc_concurrent.specs.Ends.{Known, Mine, Theirs, opening_mine, opening_theirs, opening_view}
 use Rattle.gc_concurrent.specs.Internal.Rule.{IsConcurrent, Loose, only_writes, only_copies, both_ends, spent_view}
 use Rattle.gc_concurrent.proofs.Hands.{seat_set}
+use Rattle.gc_concurrent.proofs.Shown.{shown_set}
+use Rattle.gc_concurrent.proofs.Told.{caught_up}
 use Rattle.gc_concurrent.proofs.Loosely.{loose_of}
 
 snoc_cases : (l : List Known) (a b : Known) (j : ℕ) → get_elem? (l ++ a ∷ []) j ≡ some b → (get_elem? l j ≡ some b) ⊎ ((j ≡ length l) × (a ≡ b))
@@ -37,6 +39,7 @@ splits_rule size id v writes copies s r here =
     record {
       mine = r.mine;
       theirs = r.theirs;
+      seen = r.seen;
       writer = length vs;
       copier = r.copier;
       wide = r.wide;
@@ -55,6 +58,11 @@ splits_rule size id v writes copies s r here =
           (λ (x : get_elem? vs j ≡ some u). ((λ p. absurd ((old j u x).1 p)), (old j u x).0))
           (λ (x : (j ≡ length vs) × (q ≡ u)). ((λ p. (x.0, ap (λ (z : Known). z.mine) (sym x.1) ∙ (own.0 writes).1)), λ p. absurd (true≢false (sym (ap (λ (z : Known). z.copies) x.1 ∙ p)))))
           (snoc_cases vs q u j e);
+      told = r.told;
+      shown = λ j u e p. ⊎_elim
+          (λ (x : get_elem? vs j ≡ some u). shown_set r.seen s.views id l (r.shown id v here) r.shown j u x p)
+          (λ (x : (j ≡ length vs) × (q ≡ u)). absurd (true≢false (sym (ap (λ (z : Known). z.copies) x.1 ∙ p))))
+          (snoc_cases vs q u j e);
     }
 
 -- two seats become one
@@ -67,6 +75,7 @@ joins_rule size id other v w copies writes s r here apart there =
     record {
       mine = r.mine;
       theirs = r.theirs;
+      seen = r.seen;
       writer = id;
       copier = id;
       wide = r.wide;
@@ -88,6 +97,8 @@ joins_rule size id other v w copies writes s r here apart there =
           (λ (y : (j ≢ id) × (get_elem? s.views j ≡ some u)). ((λ p. absurd (x.0 (((r.seats j u y.1).0 p).0 ∙ sym there'.0))), λ p. absurd (y.0 (((r.seats j u y.1).1 p).0 ∙ sym here'.0))))
           (at_set s.views id j both u x.1))
           (at_set vs other j spent_view u e);
+      told = r.told;
+      shown = shown_set r.seen vs other spent_view (λ p. absurd (true≢false (sym p))) (shown_set r.seen s.views id both (λ _. r.shown id v here copies) r.shown);
     }
 
 -- The words of the table: those of the heap, and zeros up to its size.
@@ -109,6 +120,7 @@ opens_rule heap new_size words b =
     record {
       mine = m;
       theirs = t;
+      seen = heap.space.words;
       writer = 0;
       copier = 0;
       wide = b.wide;
@@ -126,6 +138,11 @@ opens_rule heap new_size words b =
       seats = λ j u e. ⊎_elim
           (λ (x : get_elem? [] j ≡ some u). absurd (some-ne-none u (sym x)))
           (λ (x : (j ≡ 0) × (v ≡ u)). ((λ _. (x.0, ap (λ (z : Known). z.mine) (sym x.1))), λ _. (x.0, ap (λ (z : Known). z.theirs) (sym x.1))))
+          (snoc_cases [] v u j e);
+      told = caught_up m (b.sound).space refl;
+      shown = λ j u e _. ⊎_elim
+          (λ (x : get_elem? [] j ≡ some u). absurd (some-ne-none u (sym x)))
+          (λ (x : (j ≡ 0) × (v ≡ u)). ap (λ (z : Known). z.seen) (sym x.1))
           (snoc_cases [] v u j e);
     }
 

@@ -28,6 +28,8 @@ use Rattle.gc_concurrent.specs.Internal.Rule.{IsAtRest, IsConcurrent, wrote, mad
 use Rattle.gc_concurrent.specs.Unreachable.{MayBeCopied}
 use Rattle.gc_concurrent.specs.Internal.Carrying.{FieldsLeadTo}
 use Rattle.gc_concurrent.proofs.Hands.{St, seats_mine, same}
+use Rattle.gc_concurrent.proofs.Shown.{shown_set}
+use Rattle.gc_concurrent.proofs.Told.{put_told, made_told}
 use Rattle.gc_concurrent.proofs.Keeping.{kept_mine, set_leads, push_leads}
 
 -- ---- a word is read
@@ -163,6 +165,7 @@ put_keeps size s r id v c a i w b here writes found has is kept =
     record {
       mine = m';
       theirs = r.theirs;
+      seen = r.seen;
       writer = r.writer;
       copier = r.copier;
       wide = length-set s.words k w ∙ wide;
@@ -182,6 +185,8 @@ put_keeps size s r id v c a i w b here writes found has is kept =
       fits = (let l = length-set sp.words k w in let f = r.fits in omega arith);
       rests = rests_wrote r.mine r.theirs a i w r.rests;
       seats = seats_mine r.writer r.copier id r.mine m' r.theirs s.views v here writes r.seats;
+      told = put_told r.seen r.mine a i w has r.told;
+      shown = shown_set r.seen s.views id (record v { mine = m' }) (r.shown id v here) r.shown;
     }
 
 apart : (j n : ℕ) → j ≢ n → (j < n) ⊎ (n < j)
@@ -273,6 +278,7 @@ new_keeps size s r id v c h here writes can =
     record {
       mine = m';
       theirs = r.theirs;
+      seen = r.seen;
       writer = r.writer;
       copier = r.copier;
       wide = length-set s.words k w ∙ wide;
@@ -294,6 +300,8 @@ new_keeps size s r id v c h here writes can =
       fits = (let f = r.fits in omega arith);
       rests = λ e. let k = r.rests e in record { logged = k.logged; copied = k.copied; due = k.due; wanted = k.wanted };
       seats = seats_mine r.writer r.copier id r.mine m' r.theirs s.views v here writes r.seats;
+      told = made_told r.seen r.mine h can r.told;
+      shown = shown_set r.seen s.views id (record v { mine = m' }) (r.shown id v here) r.shown;
     }
 
 same_header : (g h : Header) → IsHeader g → IsHeader h → header_word g ≡ header_word h → h ≡ g

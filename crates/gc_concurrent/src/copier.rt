@@ -357,6 +357,7 @@ impl Copier {
     /// With both ends at hand: the target of one of the mutator's roots is to get a replica. The mutator has to log its writes from now on.
     pub(crate) fn want(&mut self, at: Addr)
         requires both { self.old.seat.me.0.writes ≡ true }
+        requires taken { self.old.seat.me.0.mine.log ≡ [] }
         requires low { at.0 < self.old.size }
         requires kept { MayBeCopied self.old.seat.me.0.theirs.base at.0 }
         requires clear { slice_index self.old.claims.items at.0 ≡ 0 }

@@ -14,6 +14,7 @@ mod mutator;
 mod places;
 mod plays;
 mod runs;
+mod watching;
 
 pub use beside::beside_collector;
 pub use commands::Commander;

@@ -92,6 +92,30 @@ impl Play<u64, CellsView> for Flipped {
     ghost then = { tells_flip };
 }
 
+pub(crate) struct Looked;
+
+impl Play<u64, CellsView> for Looked {
+    ghost use Rattle.gc_concurrent.specs.Internal.Rule.{tells_look};
+
+    ghost then = { tells_look };
+}
+
+pub(crate) struct Headed;
+
+impl Play<u64, CellsView> for Headed {
+    ghost use Rattle.gc_concurrent.specs.Internal.Rule.{tells_header};
+
+    ghost then = { tells_header };
+}
+
+pub(crate) struct Saw;
+
+impl Play<u64, CellsView> for Saw {
+    ghost use Rattle.gc_concurrent.specs.Internal.Rule.{tells_see};
+
+    ghost then = { tells_see };
+}
+
 pub(crate) struct Roles;
 
 impl Split<CellsView> for Roles {

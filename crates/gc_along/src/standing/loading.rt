@@ -9,6 +9,13 @@ impl Standing {
     ghost use Rattle.gc_along.specs.Claims.{CanPlaceBy, CanSee, CanWriteAt, HasField, ShowsClaim, ShowsField};
     ghost use Rattle.gc_words.specs.Word.{read_header};
 
+    /// Returns whether something was not as it was told. No flip passes then.
+    pub fn is_lost(&self) -> bool
+        ensures { result ≡ self.now.lost }
+    {
+        self.lost
+    }
+
     /// Returns the number of words of the old space over which the walk has come.
     pub fn seen(&self) -> usize
         ensures { result ≡ length self.now.olds }

@@ -1,6 +1,6 @@
 -- The rule of a space of objects that a collector's thread copies while a mutator reads and writes it, and what each step tells.
 -- The words of the table are those of the space. One table serves from one flip to the next.
-use Rattle.std.specs.Prelude.{[], ◌≡◌, ◌⊎◌, ℕ, zero, suc, ◌+◌, ◌<◌, ◌≤◌, Bool, true, false, List, ◌∷◌, ◌++◌, length, slice_index, drop, map, Some, None, IsSome, is_some, nat_lt, if◌then◌else◌}
+use Rattle.std.specs.Prelude.{[], ◌≡◌, ◌≢◌, ◌⊎◌, ℕ, zero, suc, ◌+◌, ◌<◌, ◌≤◌, Bool, true, false, List, ◌∷◌, ◌++◌, length, slice_index, slice_set, drop, map, Some, None, IsSome, is_some, nat_lt, if◌then◌else◌}
 use Rattle.std.specs.declared.option.Option.{Option as Opt}
 use mathlib.Core.Option.{some}
 use lib.ListN.{get_elem?}
@@ -9,7 +9,7 @@ use Rattle.gc_graph.specs.Graph.{Value, Num, Ref, Object, lookup, new_object}
 use Rattle.gc_graph.specs.Machine.{object_words}
 use Rattle.gc_words.specs.Word.{IsHeader, read_header, value_of, is_value, header_word}
 use Rattle.gc_words.specs.Layout.{field_place, next_place}
-use Rattle.gc_words.specs.Image.{objects_of, field_at}
+use Rattle.gc_words.specs.Image.{objects_of, header_at, field_at}
 use Rattle.gc_words.specs.Space.{IsSpace, end_of, with_object, with_field_at}
 use Rattle.gc_words.specs.Closed.{IsClosed}
 use Rattle.gc_words.specs.declared.header.Header.{Header}
@@ -21,6 +21,8 @@ use Rattle.gc_heap.specs.Heap.{HeapWords}
 use Rattle.gc_concurrent.specs.Ends.{Mine, Theirs, its, one_heap, opening_mine, opening_theirs}
 use Rattle.gc_concurrent.specs.Internal.Carrying.{KeepsUnreachableOut}
 use Rattle.gc_concurrent.specs.Internal.Plans.{collection_of, plan}
+use Rattle.gc_concurrent.specs.Internal.Told.{IsTold}
+use Rattle.gc_along.specs.Watch.{IsNext, IsSeen}
 use Rattle.gc_concurrent.specs.Ends.{Known as View}
 
 -- one seat is the mutator's, and one the collector's
@@ -29,6 +31,10 @@ Seated writer copier mine theirs j v = (v.writes ≡ true → (j ≡ writer) × 
 
 abbrev pub AreSeated : ℕ → ℕ → Mine → Theirs → List View → Type 0
 AreSeated writer copier mine theirs views = (j : ℕ) (v : View) → get_elem? views j ≡ some v → Seated writer copier mine theirs j v
+
+-- each seat that copies knows what was seen
+abbrev pub AreShown : List ℕ → List View → Type 0
+AreShown seen views = (j : ℕ) (v : View) → get_elem? views j ≡ some v → v.copies ≡ true → v.seen ≡ seen
 
 -- Nothing was logged, and nothing is copied, due or wanted.
 pub record IsAtRest (m : Mine) (t : Theirs) : Type 0 where
@@ -40,9 +46,11 @@ pub record IsAtRest (m : Mine) (t : Theirs) : Type 0 where
 -- The mutator's words are those of the table, and the words behind them are 0. They are a closed space, and the collection is open in
 -- gc_plan's sense: a field of a replica is up to date unless it is not yet scanned, or in one of the two logs. Nothing that was unreachable when
 -- the collection began is copied. The replicas take no more words than the objects. While writes are not logged, the collection is at rest.
+-- The words come from those that the standing checker has seen by the writes in the log, and by objects made.
 pub record IsConcurrent (size : ℕ) (s : State ℕ View) : Type 0 where
   pub mine : Mine
   pub theirs : Theirs
+  pub seen : List ℕ
   pub writer : ℕ
   pub copier : ℕ
   pub wide : length s.words ≡ size
@@ -58,6 +66,8 @@ pub record IsConcurrent (size : ℕ) (s : State ℕ View) : Type 0 where
   pub fits : new_end (its theirs) ≤ end_of mine.space
   pub rests : mine.logs ≡ false → IsAtRest mine theirs
   pub seats : AreSeated writer copier mine theirs s.views
+  pub told : IsTold seen mine
+  pub shown : AreShown seen s.views
 
 -- the word of a field was written, and logged unless the collection is at rest
 abbrev pub wrote : ℕ → ℕ → ℕ → Mine → Mine
@@ -81,9 +91,9 @@ applied name i v t = record (brought name i v t) { due = drop 1 t.due }
 abbrev pub wants : ℕ → Theirs → Theirs
 wants a t = record t { wanted = a ∷ [] }
 
--- the mutator's entries become the collector's
+-- the mutator's entries become the collector's, and its words are those that are seen
 abbrev pub logs_taken : View → View
-logs_taken v = record v { mine = record v.mine { log = [] }; theirs = record v.theirs { due = v.theirs.due ++ v.mine.log } }
+logs_taken v = record v { mine = record v.mine { log = [] }; theirs = record v.theirs { due = v.theirs.due ++ v.mine.log }; seen = v.mine.space.words }
 
 -- the value of a field word of an object that is raw or not
 abbrev pub read_as : Bool → ℕ → Value
@@ -141,10 +151,10 @@ no_heap = one_heap (record { size = 0; words = [] }) []
 
 -- two seats become one
 abbrev pub both_ends : View → View → View
-both_ends v w = record { writes = true; copies = true; mine = w.mine; theirs = v.theirs }
+both_ends v w = record { writes = true; copies = true; mine = w.mine; theirs = v.theirs; seen = v.seen }
 
 abbrev pub spent_view : View
-spent_view = record { writes = false; copies = false; mine = opening_mine no_heap; theirs = opening_theirs no_heap 0 0 }
+spent_view = record { writes = false; copies = false; mine = opening_mine no_heap; theirs = opening_theirs no_heap 0 0; seen = [] }
 
 abbrev pub Sat : Type 0
 Sat = Me ℕ View
@@ -203,14 +213,46 @@ tells_leave_of t st me found me' = ((entry : ℕ × ℕ) (rest : List (ℕ × �
 abbrev pub tells_leave : Step ℕ → Sat → ℕ → Sat → Type 0
 tells_leave st me found me' = tells_leave_of me.0.theirs st me found me' × KnowsBelonging me'
 
+-- How the words of a seat that is both ends come from those that were seen. While writes are not logged, there are no replicas.
+pub record CatchesUp (v : View) : Type 0 where
+  pub told : IsTold v.seen v.mine
+  pub rests : v.mine.logs ≡ false → v.theirs.replicas ≡ []
+
 -- The mutator's log becomes the collector's. Both ends know the same heap with which the collection began.
 abbrev pub tells_take : Step ℕ → Sat → ℕ → Sat → Type 0
-tells_take st me found me' = ((me' ≡ (logs_taken me.0, me.1)) × (me.0.theirs.base ≡ me.0.mine.base)) × KnowsBelonging me'
+tells_take st me found me' = ((me' ≡ (logs_taken me.0, me.1)) × (me.0.theirs.base ≡ me.0.mine.base) × CatchesUp me.0) × KnowsBelonging me'
 
 -- The target of one of the mutator's roots is wanted. From now on writes are logged.
 abbrev pub root_wanted : ℕ → View → View
-root_wanted a v = record v { mine = record v.mine { logs = true }; theirs = wants a v.theirs }
+root_wanted a v = record v { mine = record v.mine { logs = true }; theirs = wants a v.theirs; seen = v.mine.space.words }
 
 -- The header of such a target was read.
 abbrev pub tells_root : Step ℕ → Sat → ℕ → Sat → Type 0
-tells_root st me found me' = (me' ≡ (root_wanted st.word me.0, me.1)) × KnowsBelonging me'
+tells_root st me found me' = ((me' ≡ (root_wanted st.word me.0, me.1)) × CatchesUp me.0) × KnowsBelonging me'
+
+-- ---- loads of the standing checker
+
+-- with these words as what is seen
+abbrev pub seeing : List ℕ → Sat → Sat
+seeing seen me = (record me.0 { seen = seen }, me.1)
+
+-- A field was read, and is seen as it is now.
+abbrev pub tells_look : Step ℕ → Sat → ℕ → Sat → Type 0
+tells_look st me found me' = (a i : ℕ) → IsSome (field_at me.0.seen a i) → st.word ≡ field_place a i → me' ≡ seeing (slice_set me.0.seen st.word found) me
+
+-- The header of an object that was seen was read. It is the same as then.
+abbrev pub tells_header : Step ℕ → Sat → ℕ → Sat → Type 0
+tells_header st me found me' = (me' ≡ me) × ((h : Header) → header_at me.0.seen st.word ≡ Some h → read_header found ≡ Some h)
+
+-- An object starts behind the words up to n: it was seen, or it is now.
+pub record SeesNext (n found : ℕ) (me me' : Sat) : Type 0 where
+  pub header : Header
+  pub more : List ℕ
+  pub same : me' ≡ seeing (me.0.seen ++ more) me
+  pub read : read_header found ≡ Some header
+  pub next : IsNext n (me.0.seen ++ more) header
+  pub whole : IsSeen (length (me.0.seen ++ more)) (me.0.seen ++ more)
+
+-- The word behind those up to which the checker has walked was read.
+abbrev pub tells_see : Step ℕ → Sat → ℕ → Sat → Type 0
+tells_see st me found me' = IsSeen st.word me.0.seen → (found ≡ 0 → me' ≡ me) × (found ≢ 0 → SeesNext st.word found me me')
