@@ -20,7 +20,7 @@ use Rattle.gc_along.specs.Tables.{Tables, IsKept, watch_of, due_in}
 use Rattle.gc_along.specs.Claims.{Accepts, HasField}
 use Rattle.gc_along.proofs.Seen.{certified}
 use Rattle.gc_along.specs.Telling.{MarksAreStarts, Tells}
-use Rattle.gc_along.specs.Events.{code_of, object_codes, with_news, with_due, old_added, replica_added, IsClaim, IsCopy, Made, Placed, IsFieldOf, Looked, IsReplicaAt, HasNoReplica, Wrote, Applied, Freed, opening_tables, flipped_tables}
+use Rattle.gc_along.specs.Events.{code_of, object_codes, with_news, with_due, old_added, replica_added, IsCopy, Made, Saw, Placed, PlacedBy, IsFieldOf, Looked, IsReplicaAt, HasNoReplica, Wrote, Applied, Freed, opening_tables, flipped_tables}
 use Rattle.gc_along.proofs.Codes.{code_set}
 use Rattle.gc_along.proofs.Kept.{kept_due, kept_old, kept_replica, map_append, codes_length, code_is}
 use Rattle.gc_along.proofs.Origins.{placed as pairs_placed}
@@ -109,6 +109,14 @@ made_tells old new t after tells made = ⊎_elim
           new_starts = tells.new_starts;
         }
 
+pub saw_tells : (old new : List ℕ) (t after : Tables) (word : ℕ) → Tells old new t → Saw word t after → slice_index old (length t.olds) ≡ word → length after.olds ≤ length old → Tells old new after
+saw_tells old new t after word tells saw is long =
+    let more : length after.olds ≡ length t.olds + (saw.0.len + 2) = ap (λ (t : Tables). length t.olds) saw.3 ∙ omega (arith, length-append t.olds (object_codes saw.0.len 0), codes_length saw.0.len 0) in
+    made_tells old new t after tells (record {
+      at_end = λ past. absurd (omega (arith, past, more, long));
+      more = λ _. (saw.0, record { header = ap read_header is ∙ saw.1; within = omega (arith, more, long); bound = saw.2 }, saw.3);
+    })
+
 -- ---- a replica more
 
 codes_due : (n : ℕ) (due : Bool) → due_in (replicate n (code_of due)) ≡ replicate n due
@@ -133,9 +141,9 @@ module _ (old new : List ℕ) (w : Watch) (a : ℕ) (h : Header) (is : Watches o
   copied_next : Watches old new (replicated w a h false)
   copied_next = replicated_next old new w a h false is once next (the_copy (seen_at w.old_seen old a) refl found)
 
-module _ (old new : List ℕ) (t : Tables) (h : Header) (a : ℕ) (tells : Tells old new t) (claim : IsClaim old new t h a) where
+module _ (old new : List ℕ) (t : Tables) (h : Header) (a : ℕ) (tells : Tells old new t) (next : IsNext (length t.news) new h) (rows : length t.origins ≡ length t.news) (low : 1 ≤ a) (start : get_or t.olds a 0 ≡ 1) (header : slice_index old a ≡ slice_index new (length t.news)) where
   start_at : is_start (take (length t.olds) old) a ≡ true
-  start_at = tells.old_starts a (inl claim.start)
+  start_at = tells.old_starts a (inl start)
 
   the_block : (b : Block) × (seen_at (length t.olds) old a ≡ Some b)
   the_block = some_of (seen_at (length t.olds) old a) start_at
@@ -156,19 +164,19 @@ module _ (old new : List ℕ) (t : Tables) (h : Header) (a : ℕ) (tells : Tells
   not_paired k d l e = grind (arith, common_steps, origin_of, kept)
 
   bound : length t.news + (h.len + 2) ≤ 4294967295
-  bound = claim.next.bound
+  bound = next.bound
 
   its_kept : (due : Bool) → IsKept (replica_added t h a due)
-  its_kept due = kept_replica t h a due bound claim.start tells.kept
+  its_kept due = kept_replica t h a due bound start tells.kept
 
   added_tells : (due : Bool) → Watches old new (replicated (watch_of t) a h due) → Tells old new (replica_added t h a due)
   added_tells due watches = search (rules, kept, its_kept, watch_added, marks_taken, start_at, marks_more, no_zero)
 
   due_tells : Tells old new (replica_added t h a true)
-  due_tells = added_tells true (paired_next old new (watch_of t) a h tells.watches found_header not_paired claim.next)
+  due_tells = added_tells true (paired_next old new (watch_of t) a h tells.watches found_header not_paired next)
 
   copy_tells : IsCopy old new h a (length t.news) → Tells old new (replica_added t h a false)
-  copy_tells copy = added_tells false (copied_next old new (watch_of t) a h tells.watches found_header not_paired claim.next copy.raw (λ c at.
+  copy_tells copy = added_tells false (copied_next old new (watch_of t) a h tells.watches found_header not_paired next copy.raw (λ c at.
       let one : the_block.0 ≡ c = (let s : Some the_block.0 ≡ Some c = sym the_block.1 ∙ at in cc) in
       let len : the_block.0.header.len ≡ h.len = ap (λ (h : Header). h.len) its_header in
       let rest : a + 2 + (length t.olds - (a + 2)) ≡ length t.olds = omega (arith, fits) in
@@ -183,11 +191,19 @@ module _ (old new : List ℕ) (t : Tables) (h : Header) (a : ℕ) (tells : Tells
 pub placed_tells : (old new : List ℕ) (t after : Tables) → Tells old new t → Placed old new t after → Tells old new after
 placed_tells old new t after tells is = ⊎_elim
     (λ less. (let m = is.more less in ⊎_elim
-    (λ e. subst (Tells old new) (sym e) (due_tells old new t m.0 m.1 tells m.2))
-    (λ e. subst (Tells old new) (sym e.1) (copy_tells old new t m.0 m.1 tells m.2 e.0))
+    (λ e. subst (Tells old new) (sym e) (due_tells old new t m.0 m.1 tells m.2.next m.2.rows m.2.low m.2.start m.2.header))
+    (λ e. subst (Tells old new) (sym e.1) (copy_tells old new t m.0 m.1 tells m.2.next m.2.rows m.2.low m.2.start m.2.header e.0))
     m.3))
     (λ past. subst (Tells old new) (sym (is.at_end (omega arith))) tells)
     (cases_lt (length t.news) (length new))
+
+pub placed_by_tells : (old new : List ℕ) (t after : Tables) (word a : ℕ) → Tells old new t → PlacedBy word a t after → slice_index old a ≡ word → slice_index new (length t.news) ≡ word → length after.news ≤ length new
+    → Tells old new after
+placed_by_tells old new t after word a tells by original is long =
+    let h : Header = by.header in
+    let more : length after.news ≡ length t.news + (h.len + 2) = ap (λ (t : Tables). length t.news) by.added ∙ omega (arith, length-append t.news (object_codes h.len 3), codes_length h.len 3) in
+    subst (Tells old new) (sym by.added)
+    (due_tells old new t h a tells (record { header = ap read_header is ∙ by.is; within = omega (arith, more, long); bound = by.bound }) by.rows by.low by.start (original ∙ sym is))
 
 -- ---- a field due or not
 

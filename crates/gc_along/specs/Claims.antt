@@ -96,10 +96,3 @@ pub record ShowsField (old new : List ℕ) (t : Tables) (b i word v u : ℕ) : T
   pub old_word : slice_index old (field_place (slice_index_or t.origins b 0) i) ≡ v
   pub new_within : field_place b i < length new
   pub new_word : slice_index new (field_place b i) ≡ u
-
--- The next object of the new space has this header word, and its link claims the object at a, which has that header word.
-pub record ShowsClaim (old new : List ℕ) (t : Tables) (word a other : ℕ) : Type 0 where
-  pub header : slice_index new (length t.news) ≡ word
-  pub link : slice_index new (link_place (length t.news)) ≡ a
-  pub within : a < length old
-  pub original : slice_index old a ≡ other

@@ -5,7 +5,7 @@ ghost use Rattle.std.specs.Prelude.{◌≡◌, ◌≤◌, ◌∷◌, ◌++◌, [
 ghost use Rattle.gc_words.specs.Certificate.{Certified};
 ghost use Rattle.gc_words.specs.Image.{Image, field_at, is_start};
 ghost use Rattle.gc_words.specs.Layout.{field_place, link_place};
-ghost use Rattle.gc_along.specs.Events.{Applied, Freed, Looked, Made, Placed, Wrote, flipped_tables, opening_tables};
+ghost use Rattle.gc_along.specs.Events.{Applied, Freed, Looked, Made, Placed, PlacedBy, Saw, Wrote, flipped_tables, opening_tables};
 ghost use Rattle.gc_along.specs.Origins.{pairs_in};
 ghost use Rattle.gc_along.specs.Outline.{outline_of};
 ghost use Rattle.gc_along.specs.Claims.{Accepts};
@@ -28,8 +28,13 @@ pub fn events_keep_telling()
         → Tells old (0 ∷ []) (opening_tables room) }
     ensures made { (old new : List ℕ) (t after : Tables)
         → Tells old new t → Made old t after → Tells old new after }
+    ensures saw { (old new : List ℕ) (t after : Tables) (word : ℕ)
+        → Tells old new t → Saw word t after → slice_index old (length t.olds) ≡ word → length after.olds ≤ length old → Tells old new after }
     ensures placed { (old new : List ℕ) (t after : Tables)
         → Tells old new t → Placed old new t after → Tells old new after }
+    ensures placed_by { (old new : List ℕ) (t after : Tables) (word a : ℕ)
+        → Tells old new t → PlacedBy word a t after → slice_index old a ≡ word → slice_index new (length t.news) ≡ word → length after.news ≤ length new
+        → Tells old new after }
     ensures looked { (old new : List ℕ) (t after : Tables) (b i : ℕ)
         → Tells old new t → Looked old new b i t after → Tells old new after }
     ensures applied { (old new : List ℕ) (t after : Tables) (a i : ℕ)

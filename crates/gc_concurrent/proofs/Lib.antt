@@ -12,6 +12,7 @@ pub mod Copying
 pub mod Placing
 pub mod Joined
 pub mod Seeing
+pub mod Following
 pub mod Flip
 pub mod Opening
 pub mod CatchUp

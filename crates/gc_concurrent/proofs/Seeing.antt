@@ -1,7 +1,8 @@
 -- Loads of the standing checker keep the rule.
-use Rattle.std.proofs.Common.{◌≡◌, ◌≢◌, ◌⊎◌, ℕ, ◌+◌, ◌<◌, ◌≤◌, true, List, [], ◌∷◌, ◌++◌, length, get_or, set, Option, Some, None, is_some, refl, ap, sym, ◌∙◌, subst, inl, inr, ⊎_elim, arith, length-take, append_nil}
+use Rattle.std.proofs.Common.{◌≡◌, ◌≢◌, ◌⊎◌, ℕ, ◌+◌, ◌<◌, ◌≤◌, true, List, [], ◌∷◌, ◌++◌, length, get_or, set, Option, Some, None, is_some, refl, ap, sym, ◌∙◌, subst, inl, inr, ⊎_elim, arith, length-take}
 use Rattle.std.specs.Prelude.{slice_set, slice_index, IsOk, IsSome, take}
 use Rattle.std.proofs.lemmas.Bool.{cases_eq, cases_lt}
+use Rattle.std.proofs.lemmas.List.{append-nil}
 use lib.ListN.{get_elem?}
 use lib.Seq.{set-get_or}
 use mathlib.Core.Option.{some, none}
@@ -34,7 +35,7 @@ some_header : (words : List ℕ) (a : ℕ) (h : Header) → header_at words a �
 some_header words a h e = from (block_at words a) refl e
   where
     from : (o : Option Block) → block_at words a ≡ o → header_of o ≡ Some h → is_some (block_at words a) ≡ true
-    from None is no = absurd (let f : None ≡ Some h = no in cc)
+    from None is wrong = absurd (let f : None ≡ Some h = wrong in cc)
     from (Some b) is _ = ap is_some is
 
 -- an object that starts behind a walk is the next one
@@ -86,13 +87,13 @@ module _ (size : ℕ) (s : St) (r : IsConcurrent size s) (seen : List ℕ) (told
       (subst (λ (z : SpaceWords). header_at z.words a ≡ Some h) (sym told_of.now) (header_stays (seen_space seen r.mine) told_of.events a h told_of.could has))
     where
       from : (o : Option Block) → block_at r.mine.space.words a ≡ o → header_of o ≡ Some h → read_header (get_or s.words a 0) ≡ Some h
-      from None e no = absurd (let f : None ≡ Some h = no in cc)
+      from None e wrong = absurd (let f : None ≡ Some h = wrong in cc)
       from (Some b) e is = let st = stands_in r.mine.space.words a b (r.space).walked e in ap read_header (r.now a (omega (arith, st.fits))) ∙ st.header ∙ is
 
 header_now : (size : ℕ) (s : St) (r : IsConcurrent size s) (seen : List ℕ) → r.seen ≡ seen → (a : ℕ) (h : Header) → header_at seen a ≡ Some h → read_header (get_or s.words a 0) ≡ Some h
 header_now size s r seen is = now_header size s r seen (subst (λ ws. IsTold ws r.mine) is r.told)
 
-pub looks_rule : (slots size id : ℕ) (me : Sat) (a i : ℕ) → me.0.copies ≡ true → IsSome (field_at me.0.seen a i)
+looks_rule : (slots size id : ℕ) (me : Sat) (a i : ℕ) → me.0.copies ≡ true → IsSome (field_at me.0.seen a i)
     → Allows (IsConcurrent size) slots id me (field_place a i) (λ x. x) (tells_look (step slots (field_place a i) 0 0 none) me)
 looks_rule slots size id me a i copies has s r _ seat _ =
     let seen : r.seen ≡ me.0.seen = sym (r.shown id me.0 seat copies) in
@@ -106,6 +107,11 @@ looks_rule slots size id me a i copies has s r _ seat _ =
           (subst (λ z. IsTold (slice_set me.0.seen k z) r.mine) (field_now size s r me.0.seen told a i has) (look_told me.0.seen r.mine a i told has)),
       λ b j _ _. refl,
     )
+
+-- the same for callers, who have the place by an equation
+pub looks_at : (slots size id : ℕ) (me : Sat) (a i k : ℕ) → k ≡ field_place a i → me.0.copies ≡ true → IsSome (field_at me.0.seen a i)
+    → Allows (IsConcurrent size) slots id me k (λ x. x) (tells_look (step slots k 0 0 none) me)
+looks_at slots size id me a i k is copies has = subst (λ (z : ℕ). Allows (IsConcurrent size) slots id me z (λ x. x) (tells_look (step slots z 0 0 none) me)) (sym is) (looks_rule slots size id me a i copies has)
 
 pub headers_rule : (slots size k id : ℕ) (me : Sat) → me.0.copies ≡ true → Allows (IsConcurrent size) slots id me k (λ x. x) (tells_header (step slots k 0 0 none) me)
 headers_rule slots size k id me copies s r _ seat _ =
@@ -142,10 +148,10 @@ module _ (size : ℕ) (s : St) (r : IsConcurrent size s) (k id : ℕ) (me : Sat)
           λ _. record {
             header = h.0;
             more = [];
-            same = ap (λ ws. seeing ws me) (sym (append_nil me.0.seen));
+            same = ap (λ ws. seeing ws me) (sym (append-nil me.0.seen));
             read = read;
-            next = subst (λ ws. IsNext k ws h.0) (sym (append_nil me.0.seen)) h.1;
-            whole = subst (λ ws. IsSeen (length ws) ws) (sym (append_nil me.0.seen)) whole_here;
+            next = subst (λ ws. IsNext k ws h.0) (sym (append-nil me.0.seen)) h.1;
+            whole = subst (λ ws. IsSeen (length ws) ws) (sym (append-nil me.0.seen)) whole_here;
           },
         ),
   )

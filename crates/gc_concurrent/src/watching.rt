@@ -1,7 +1,7 @@
 //! The standing checker goes along with the collector. It loads each word by itself, and believes no word of the collector's.
 ghost use Rattle.std.specs.Prelude.{◌≡◌, ◌<◌, ◌≤◌, ◌+◌, ◌++◌, ℕ, List, true, false, Some, IsTrue, IsFalse, length, slice_index, slice_set};
 ghost use Rattle.gc_words.specs.Word.{read_header};
-ghost use Rattle.gc_words.specs.Layout.{field_place, link_place};
+ghost use Rattle.gc_words.specs.Layout.{field_place};
 ghost use Rattle.gc_words.specs.declared.header.Header.{Header};
 ghost use Rattle.gc_concurrent.specs.Internal.Rule.{seeing};
 ghost use Rattle.gc_concurrent.specs.Internal.Following.{Follows, WroteEach};
@@ -15,8 +15,9 @@ use gc_words::{Addr, field_index};
 pub(crate) fn walk(cells: &Cells, seat: &mut CellsEnd, standing: &mut Standing, end: u32)
     requires cells { seat.old.table_id ≡ cells.now.shared.table_id }
     requires wide { end ≤ cells.now.shared.table_id.words }
+    requires sized { cells.now.shared.key.size ≡ cells.now.shared.table_id.words }
     requires copies { seat.old.me.0.copies ≡ true }
-    requires along { ∥ (new : List ℕ) × Follows standing.old seat.old.me.0.seen new ∥₁ }
+    requires along { ∥ ((new : List ℕ) × Follows standing.old seat.old.me.0.seen new) ∥₁ }
     ensures seen { seat.new.me ≡ seeing seat.new.me.0.seen seat.old.me }
     ensures row { seat.new.table_id ≡ seat.old.table_id }
     ensures along { (new : List ℕ) → ∥ Follows standing.old seat.old.me.0.seen new ∥₁ → ∥ Follows standing.new seat.new.me.0.seen new ∥₁ }
@@ -45,7 +46,7 @@ pub(crate) fn compare(
     requires cells { seat.old.table_id ≡ cells.now.shared.table_id }
     requires wide { cells.now.shared.table_id.words ≡ size }
     requires copies { seat.old.me.0.copies ≡ true }
-    requires along { ∥ (new : List ℕ) × (slice_index new at ≡ header) × Follows standing.old seat.old.me.0.seen new ∥₁ }
+    requires along { ∥ ((new : List ℕ) × (slice_index new at ≡ header) × Follows standing.old seat.old.me.0.seen new) ∥₁ }
     ensures seen { seat.new.me ≡ seeing seat.new.me.0.seen seat.old.me }
     ensures row { seat.new.table_id ≡ seat.old.table_id }
     ensures along { (new : List ℕ) → slice_index new at ≡ header → field_place at i < length new → ∥ Follows standing.old seat.old.me.0.seen new ∥₁
@@ -73,17 +74,20 @@ pub(crate) fn place(
     cells: &Cells,
     seat: &mut CellsEnd,
     standing: &mut Standing,
+    size: u32,
     name: u32,
     header: u64,
 )
     requires cells { seat.old.table_id ≡ cells.now.shared.table_id }
-    requires low { name < cells.now.shared.table_id.words }
+    requires wide { cells.now.shared.table_id.words ≡ size }
+    requires low { name < size }
+    requires sized { cells.now.shared.key.size ≡ cells.now.shared.table_id.words }
     requires copies { seat.old.me.0.copies ≡ true }
-    requires along { ∥ (new : List ℕ) × Follows standing.old seat.old.me.0.seen new ∥₁ }
+    requires along { ∥ ((new : List ℕ) × Follows standing.old seat.old.me.0.seen new) ∥₁ }
     ensures seen { seat.new.me ≡ seeing seat.new.me.0.seen seat.old.me }
     ensures row { seat.new.table_id ≡ seat.old.table_id }
     ensures along { (new more : List ℕ) (h : Header) → read_header header ≡ Some h → length more ≡ h.len + 2 → slice_index (new ++ more) (length new) ≡ header
-        → slice_index (new ++ more) (link_place (length new)) ≡ name → ∥ Follows standing.old seat.old.me.0.seen new ∥₁
+        → ∥ Follows standing.old seat.old.me.0.seen new ∥₁
         → ∥ Follows standing.new seat.new.me.0.seen (new ++ more) ∥₁ }
 {
     walk(cells, seat, standing, name + 1);

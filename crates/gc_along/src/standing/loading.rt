@@ -5,8 +5,8 @@ use gc_words::{Addr, Header, field_index};
 
 impl Standing {
     ghost use Rattle.std.specs.Prelude.{◌≡◌, ◌<◌, ◌≤◌, ◌+◌, ℕ, List, Some, IsTrue, IsFalse, IfNone, IfSome, length, slice_index, slice_index_or};
-    ghost use Rattle.gc_along.specs.Events.{Made, Placed, Wrote, Looked};
-    ghost use Rattle.gc_along.specs.Claims.{CanPlaceBy, CanSee, CanWriteAt, HasField, ShowsClaim, ShowsField};
+    ghost use Rattle.gc_along.specs.Events.{Saw, PlacedBy, Wrote, Looked};
+    ghost use Rattle.gc_along.specs.Claims.{CanPlaceBy, CanSee, CanWriteAt, HasField, ShowsField};
     ghost use Rattle.gc_words.specs.Word.{read_header};
 
     /// Returns whether something was not as it was told. No flip passes then.
@@ -26,8 +26,7 @@ impl Standing {
     /// The walk over the old space goes on by an object with this header word.
     pub fn saw(&mut self, word: u64)
         ensures lost { IsTrue self.old.lost → IsTrue self.new.lost }
-        ensures made { IsFalse self.new.lost → (old : List ℕ) → slice_index old (length self.old.olds) ≡ word → length self.new.olds ≤ length old → Made old self.old self.new }
-        ensures longer { IsFalse self.new.lost → length self.old.olds < length self.new.olds }
+        ensures saw { IsFalse self.new.lost → Saw word self.old self.new }
         ensures stays { IsFalse self.old.lost → CanSee word self.old → IsFalse self.new.lost }
     {
         if self.lost {
@@ -45,12 +44,11 @@ impl Standing {
         self.see(header.len(), at + (usize::from(header.len()) + 2));
     }
 
-    /// The walk over the new space goes on by a replica with this header word, whose link claims the object at `claim`. The header word of that
-    /// object is `original`. The fields of the replica are due, also if it is raw.
+    /// The walk over the new space goes on by a replica with this header word, which is said to be that of the object at `claim`. The header word of
+    /// that object is `original`. The fields of the replica are due, also if it is raw.
     pub fn placed_by(&mut self, word: u64, claim: u32, original: u64)
         ensures lost { IsTrue self.old.lost → IsTrue self.new.lost }
-        ensures placed { IsFalse self.new.lost → (old new : List ℕ) → ShowsClaim old new self.old word claim original → length self.new.news ≤ length new
-            → Placed old new self.old self.new }
+        ensures placed { IsFalse self.new.lost → (word ≡ original) × PlacedBy word claim self.old self.new }
         ensures stays { IsFalse self.old.lost → word ≡ original → CanPlaceBy word claim self.old → IsFalse self.new.lost }
     {
         if self.lost {
