@@ -1,5 +1,5 @@
 -- The standing checker goes on telling the truth of the words that it has seen and of the new space.
-use Rattle.std.proofs.Common.{◌≡◌, ◌≢◌, ℕ, ◌+◌, ◌<◌, ◌≤◌, true, false, List, [], ◌∷◌, ◌++◌, length, get_or, set, take, not, Option, Some, None, is_some, refl, ap, sym, ◌∙◌, subst, inl, inr, ⊎_elim, arith, length-append, length-set}
+use Rattle.std.proofs.Common.{◌≡◌, ◌≢◌, ℕ, zero, suc, ◌+◌, ◌<◌, ◌≤◌, true, false, List, [], ◌∷◌, ◌++◌, length, get_or, set, take, not, Option, Some, None, is_some, refl, ap, sym, ◌∙◌, subst, inl, inr, ⊎_elim, arith, length-append, length-set}
 use Rattle.std.specs.Prelude.{slice_index, slice_index_or, slice_set, IsFalse, IsOk, IsSome}
 use Rattle.std.proofs.lemmas.Bool.{cases_Bool}
 use Rattle.std.proofs.lemmas.List.{get_or-set_other, get_or-set_same}
@@ -138,6 +138,22 @@ placed_follows t after seen new more word name original h lost is long at told p
 told_apart : (xs : List (ℕ × ℕ)) (e : ℕ × ℕ) (t after : Tables) → WroteEach (xs ++ e ∷ []) t after → (mid : Tables) × WroteEach xs t mid × Wrote e.0 e.1 mid after
 told_apart [] e t after w = (t, refl, subst (Wrote e.0 e.1 t) (sym w.2) w.1)
 told_apart (x ∷ xs) e t after w = let r = told_apart xs e w.0 after w.2 in (r.0, (w.0, w.1, r.1), r.2)
+
+told_on : (xs : List (ℕ × ℕ)) (e : ℕ × ℕ) (t mid after : Tables) → WroteEach xs t mid → Wrote e.0 e.1 mid after → WroteEach (xs ++ e ∷ []) t after
+told_on [] e t mid after w last = (after, subst (λ z. Wrote e.0 e.1 z after) w last, refl)
+told_on (x ∷ xs) e t mid after w last = (w.0, w.1, told_on xs e w.0 mid after w.2 last)
+
+take_one : (xs : List (ℕ × ℕ)) (k : ℕ) → k < length xs → take (suc k) xs ≡ take k xs ++ get_or xs k (0, 0) ∷ []
+take_one [] k l = absurd (omega arith)
+take_one (x ∷ xs) zero l = refl
+take_one (x ∷ xs) (suc k) l = ap (λ ys. x ∷ ys) (take_one xs k (omega arith))
+
+-- entries up to k were told, and then the next one
+pub one_more : (xs : List (ℕ × ℕ)) (k : ℕ) (t mid after : Tables) → k < length xs → (mid.lost ≡ true → after.lost ≡ true) → after.lost ≡ false → (mid.lost ≡ false → WroteEach (take k xs) t mid)
+    → Wrote (get_or xs k (0, 0)).0 (get_or xs k (0, 0)).1 mid after → WroteEach (take (k + 1) xs) t after
+one_more xs k t mid after less lost found told last =
+    let fine : mid.lost ≡ false = ⊎_elim (λ (e : mid.lost ≡ true). absurd (let wrong : true ≡ false = sym (lost e) ∙ found in cc)) (λ (e : mid.lost ≡ false). e) (cases_Bool mid.lost) in
+    subst (λ ys. WroteEach ys t after) (sym (ap (λ n. take n xs) (let e : k + 1 ≡ suc k = omega arith in e) ∙ take_one xs k less)) (told_on (take k xs) (get_or xs k (0, 0)) t mid after (told fine) last)
 
 -- the tables tell the truth of the words as they are after all events
 pub replays : (s : SpaceWords) (new : List ℕ) (es : List Event) (t after : Tables) → CouldHappen s es → WroteEach (written_by es) t after → Tells s.words new t → Tells (after_all s es).words new after
