@@ -6,5 +6,6 @@ pub mod Rule
 pub mod Flip
 pub mod Copiers
 pub mod Props
+pub mod Spares
 pub mod Settled
 pub mod Handshakes
