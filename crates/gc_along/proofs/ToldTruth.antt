@@ -27,7 +27,7 @@ use Rattle.gc_along.proofs.Origins.{placed as pairs_placed}
 use Rattle.gc_along.proofs.Looks.{taken_for_due, compared}
 use Rattle.gc_along.proofs.Walked.{begun, old_goes_on, paired_next, replicated, replicated_next, kept}
 use Rattle.gc_along.proofs.Written.{old_field, new_field, old_link, new_link}
-use Rattle.gc_along.proofs.Fronts.{field_where}
+use Rattle.gc_along.proofs.Fronts.{field_where, found_where}
 use Rattle.gc_along.proofs.Marks.{no_zero, marks_more, marks_set, marks_taken, marks_written, marks_linked}
 
 -- ---- the pairs of a row of originals
@@ -417,6 +417,16 @@ anywhere_tells old new t after a i x tells whole some wrote = ⊎_elim
     same_walk : Wrote a i t after → length after.olds ≡ length t.olds
     same_walk (inl h) = ap (λ (t : Tables). length t.olds) h.1
     same_walk (inr (b, at, within, is)) = ap (λ (t : Tables). length t.olds) is
+
+-- and a link
+pub link_anywhere_tells : (old new : List ℕ) (t : Tables) (a x : ℕ) → Tells old new t → IsSeen (length old) old → is_start old a ≡ true → Tells (slice_set old (link_place a) x) new t
+link_anywhere_tells old new t a x tells whole start = ⊎_elim
+    (λ here. old_link_tells old new t a x tells (ap is_some here))
+    (λ there. behind_tells old (slice_set old (link_place a) x) new t (sym (take-set-le (length t.olds) old (link_place a) x (omega (arith, there)))) (length-set old (link_place a) x) tells)
+    (found_where (length t.olds) old tells.watches.old_seen whole a b.0 b.1)
+  where
+    b : (b : Block) × (block_at old a ≡ Some b)
+    b = some_of (block_at old a) start
 
 -- a replica has its original's fields
 module _ (old new : List ℕ) (t : Tables) (tells : Tells old new t) (b i : ℕ) (has : HasField (slice_index new b) t b i) where

@@ -53,10 +53,12 @@ pub fn writes_keep_telling()
     ensures written { (old new : List ℕ) (t after : Tables) (a i x : ℕ)
         → Tells old new t → IsSome (field_at (take (length t.olds) old) a i) → Wrote a i t after
         → Tells (slice_set old (field_place a i) x) new after }
-    // Where all words are objects, the field may also be one behind the walk.
+    // Where all words are objects, the field or the link may also be one behind the walk.
     ensures anywhere { (old new : List ℕ) (t after : Tables) (a i x : ℕ)
         → Tells old new t → IsSeen (length old) old → IsSome (field_at old a i) → Wrote a i t after
         → Tells (slice_set old (field_place a i) x) new after }
+    ensures link_anywhere { (old new : List ℕ) (t : Tables) (a x : ℕ)
+        → Tells old new t → IsSeen (length old) old → IsTrue (is_start old a) → Tells (slice_set old (link_place a) x) new t }
     ensures brought { (old new : List ℕ) (t after : Tables) (b i x : ℕ)
         → Tells old new t → Looked old (slice_set new (field_place b i) x) b i t after
         → Tells old (slice_set new (field_place b i) x) after }

@@ -17,7 +17,7 @@ use Rattle.gc_words.proofs.Public.{field_read, some_of, stands_in}
 use Rattle.gc_along.specs.Watch.{IsSeen, IsNext}
 use Rattle.gc_along.proofs.Public.{all_of, start_there}
 use Rattle.gc_concurrent.specs.Ends.{Known, Mine, Theirs}
-use Rattle.gc_concurrent.specs.Internal.Rule.{IsConcurrent, Sat, Seated, SeesNext, seeing, tells_look, tells_header, tells_see}
+use Rattle.gc_concurrent.specs.Internal.Rule.{RootWords, IsConcurrent, Sat, Seated, SeesNext, seeing, tells_look, tells_header, tells_see}
 use Rattle.gc_concurrent.specs.Internal.Told.{IsTold, after_all, seen_space}
 use Rattle.gc_concurrent.proofs.Hands.{St, seat_set, same}
 use Rattle.gc_concurrent.proofs.Shown.{shown_anew}
@@ -48,7 +48,7 @@ next_of_start words a h whole ok e =
     subst (IsNext a words) same (record { header = st.header; within = st.fits; bound = omega (arith, st.fits, bound, length-take (length words) words) })
 
 -- a step that changes what is seen alone
-seen_keeps : (size : ℕ) (s : St) (r : IsConcurrent size s) (k id : ℕ) (v : Known) (c : List (ℕ × ℕ)) (seen : List ℕ) → get_elem? s.views id ≡ some v → v.copies ≡ true
+seen_keeps : (size : ℕ) (s : St) (r : IsConcurrent size s) (k id : ℕ) (v : Known) (c : List (ℕ × RootWords)) (seen : List ℕ) → get_elem? s.views id ≡ some v → v.copies ≡ true
     → IsTold seen r.mine → IsConcurrent size (stepped s k (get_or s.words k 0) id c (record v { seen = seen }) keeps)
 seen_keeps size s r k id v c seen here copies told =
     subst (λ (ws : List ℕ). IsConcurrent size (record { words = ws; homes = s.homes; views = set s.views id (record v { seen = seen }) })) (sym (set-get_or s.words k 0)) (record {

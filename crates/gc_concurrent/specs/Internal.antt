@@ -8,5 +8,6 @@ pub mod Following
 pub mod Flip
 pub mod Copiers
 pub mod Props
+pub mod Spares
 pub mod Settled
 pub mod Handshakes

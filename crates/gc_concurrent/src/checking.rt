@@ -13,8 +13,8 @@ use gc_graph::NoMemory;
 use gc_words::{ImageRef, no_fault_where_certified};
 use std::alloc::Global;
 
-// Loads the words of the mutator's space, one by one. Allocates once.
-fn loaded(alloc: Global, cells: &Cells, seat: &mut CellsEnd, end: u32) -> Result<Vec<u64>, NoMemory>
+/// Loads the words of a space up to its end, one by one. Allocates once.
+pub(crate) fn loaded(alloc: Global, cells: &Cells, seat: &mut CellsEnd, end: u32) -> Result<Vec<u64>, NoMemory>
     requires cells { seat.old.table_id ≡ cells.now.shared.table_id }
     requires wide { end ≤ cells.now.shared.table_id.words }
     requires writes { seat.old.me.0.writes ≡ true }
@@ -45,6 +45,16 @@ impl Copier {
         let cells = &*self.cells;
         loaded(alloc, cells, &mut self.seat, end)
     }
+
+    /// Loads the words of the new space. Allocates once.
+    fn new_words(&mut self, alloc: Global) -> Result<Vec<u64>, NoMemory>
+        ensures words { IfOk result (λ words. words.items ≡ self.old.space.words) }
+        ensures same { self.new.seat.me ≡ self.old.seat.me }
+        ensures row { (self.new.seat.table_id ≡ self.old.seat.table_id) × (self.new.size ≡ self.old.size) }
+        ensures space { self.new.space ≡ self.old.space }
+    {
+        self.space.words(alloc)
+    }
 }
 
 impl Held {
@@ -73,9 +83,10 @@ impl Held {
         self.copier.look();
         let end = self.end;
         let words = self.copier.old_words(alloc, end)?;
+        let placed = self.copier.new_words(alloc)?;
         // Each object takes two words or more.
-        let most = self.copier.space.end() / 2;
-        let pairs = linked_pairs(alloc, &self.copier.space, most)?;
+        let new_end = self.copier.space.end();
+        let pairs = linked_pairs(alloc, placed.as_slice(), new_end / 2)?;
         let old = ImageRef {
             size: self.copier.size,
             end,
@@ -83,7 +94,13 @@ impl Held {
             roots: self.roots.as_slice(),
             raws: true,
         };
-        let new = self.copier.space.image(moved);
+        let new = ImageRef {
+            size: self.copier.space.size(),
+            end: new_end,
+            words: placed.as_slice(),
+            roots: moved,
+            raws: true,
+        };
         no_fault_where_certified();
         match checker.check(alloc, old, new, pairs.as_slice()) {
             Ok(_) => Ok(()),

@@ -214,6 +214,7 @@ pub struct Holding {
 }
 
 impl Collector {
+    ghost use Rattle.std.specs.Prelude.{MatchBool, OnErr, OnOk};
     ghost use Rattle.gc_concurrent.specs.Works.{KeepsBeginning, WhereDone, WhereNoRoom};
 
     /// Performs one step, beside the mutator.
@@ -223,6 +224,26 @@ impl Collector {
         ensures begun { KeepsBeginning (known_to self.old.copier) (known_to self.new.copier) }
     {
         self.copier.work()
+    }
+
+    /// Returns whether an object has a replica.
+    pub fn has_copied(&self) -> bool
+        ensures { MatchBool result ((known_to self.now.copier).replicas ≢ []) ((known_to self.now.copier).replicas ≡ []) }
+    {
+        self.copier.has_copied()
+    }
+
+    /// Makes the memory of a new space of `size` words, at least 1, and of the collection that follows the flip, with nothing copied yet. After a flip the new
+    /// space has one word until this is called. First frees the memory of the heap before the last flip. The time grows with `size`. If an allocation fails,
+    /// the collection stays as it is.
+    pub fn prepare(&mut self, alloc: Global, size: u32) -> Result<(), NoMemory>
+        requires low { 1 ≤ size }
+        requires clear { (known_to self.old.copier).replicas ≡ [] }
+        ensures ok { OnOk result (known_to self.new.copier ≡ record (known_to self.old.copier) { size = size }) }
+        ensures err { OnErr result (known_to self.new.copier ≡ known_to self.old.copier) }
+        ensures cells { cells_read_by self.new.copier ≡ cells_read_by self.old.copier }
+    {
+        self.copier.prepare(alloc, size)
     }
 
     /// Asks the mutator to stop at its next safepoint. Fails while the mutator has not gone on since the last time.
@@ -381,7 +402,7 @@ impl Holding {
         ensures asked { OnOk result (C.says_yes checker.now (flip_shown (heap_held self.held) (known_to self.held.copier))) }
         ensures certified { OnOk result (CertifiesFlip (heap_held self.held) (known_to self.held.copier)) }
         ensures never_refused { IfErr result (λ refused. refused.why ≢ NoFlip.Refused) }
-        ensures fresh { IfOk result (λ collector. known_to collector.copier ≡ opening_theirs (known_to collector.copier).base (known_to self.held.copier).size (known_to self.held.copier).size) }
+        ensures fresh { IfOk result (λ collector. known_to collector.copier ≡ opening_theirs (known_to collector.copier).base (known_to self.held.copier).size 1) }
         ensures graph { IfOk result (λ collector. graph_in (known_to collector.copier).base ≡ new_graph (its (known_to self.held.copier)) (map value_of self.held.roots.items)) }
         ensures carried { OnOk result (CopiesNothingUnreachable (known_to self.held.copier)) }
         ensures heap { IfErr result (λ refused. heap_held refused.holding.held ≡ heap_held self.held) }
@@ -422,7 +443,7 @@ impl Holding {
         requires { C.can_check checker.now }
         ensures asked { IfOk result (λ collector. FlippedBy (C.says_yes checker.now) (heap_held self.held) (known_to collector.copier).base) }
         ensures never_refused { IfErr result (λ refused. refused.why ≢ NoFlip.Refused) }
-        ensures fresh { IfOk result (λ collector. known_to collector.copier ≡ opening_theirs (known_to collector.copier).base (known_to self.held.copier).size (known_to self.held.copier).size) }
+        ensures fresh { IfOk result (λ collector. known_to collector.copier ≡ opening_theirs (known_to collector.copier).base (known_to self.held.copier).size 1) }
         ensures why { IfErr result (λ refused. refused.why ≡ NoFlip.NotReady → (known_to self.held.copier).size < (known_to self.held.copier).old) }
         ensures heap { IfErr result (λ refused. heap_held refused.holding.held ≡ heap_held self.held) }
         ensures begun { IfErr result (λ refused. KeepsBeginning (known_to self.held.copier) (known_to refused.holding.held.copier)) }

@@ -4,7 +4,7 @@ use Rattle.std.specs.Prelude.{IsSome, if◌then◌else◌}
 use Rattle.std.proofs.lemmas.Bool.{cond_both}
 use Rattle.atomic_table.specs.Seated.{TableId}
 use Rattle.gc_graph.specs.Graph.{Value, Ref}
-use Rattle.gc_words.specs.Word.{is_value}
+use Rattle.gc_words.specs.Closed.{IsWordOfField}
 use Rattle.gc_words.specs.Layout.{field_place}
 use Rattle.gc_words.specs.Image.{field_at}
 use Rattle.gc_words.specs.Space.{SpaceWords, with_field_at}
@@ -17,14 +17,14 @@ use Rattle.gc_plan.proofs.Public.{in_map_from, with_written_pair}
 use Rattle.gc_copy.specs.Words.{replicas_in}
 use Rattle.gc_concurrent.specs.declared.copier.Copier.{Copier}
 use Rattle.gc_concurrent.specs.Ends.{Theirs}
-use Rattle.gc_concurrent.specs.Internal.Rule.{Loose, applied, brought, wants, after_read, lacks, read_as, entry_dropped, entries_of_fields}
+use Rattle.gc_concurrent.specs.Internal.Rule.{Loose, IsWordAs, applied, brought, wants, after_read, lacks, read_as, entry_dropped, entries_of_fields}
 use Rattle.gc_concurrent.specs.Ends.{its}
 use Rattle.gc_concurrent.specs.Internal.Copiers.{Claims, moved_by}
 use Rattle.gc_concurrent.proofs.TiedCells.{tied, tied_words}
 use Rattle.gc_concurrent.proofs.Copying.{applies_at}
 use Rattle.gc_concurrent.proofs.Placing.{leaves}
-use Rattle.gc_concurrent.proofs.Memory.{Stands, near, at_place, entry_low, entry_field, unclaimed, target_bound, lacks_not, lacks_so, moves_so, claims_kept, claims_as, claim_low, written_same}
-use Rattle.gc_concurrent.proofs.InHand.{mem, claim_stands, header_there, keeps_seat, theirs_is, copies_is}
+use Rattle.gc_concurrent.proofs.Memory.{Stands, field_word_moved, near, at_place, entry_low, entry_field, unclaimed, target_bound, lacks_not, lacks_so, moves_so, claims_kept, claims_as, claim_low, written_same}
+use Rattle.gc_concurrent.proofs.InHand.{mem, still_shaped, still_sized, still_same, still_spared, word_fits, claim_stands, header_there, keeps_seat, theirs_is, copies_is}
 use Rattle.gc_concurrent.proofs.Nearing.{nears_by, left_nears, applied_nears, wants_nears}
 use Rattle.gc_concurrent.proofs.copier.Copier.apply_one.Goals as goal
 use Rattle.gc_concurrent.proofs.copier.Copier.apply_one.Goals.{After-load-word}
@@ -91,6 +91,7 @@ invariant_of-self-then-place-eq0 c =
       fills = λ q k e n. a.fills q (subst (In q) (ap (λ (x : Theirs). x.replicas) is) k) e (λ z. n (let f = c.in-Some.ensures.fills.0 in omega arith));
       claimed = subst (Claims a.claims.items) (sym is) (claims_as a.claims.items t u refl refl a.claimed);
       loose = c.load.ensures.2.1 copies;
+      spared = a.spared;
     }
 
 pub returns-then-place-eq0-clause-seat : goal.returns-then-place-eq0-clause-seat
@@ -154,7 +155,7 @@ module _ (c : After-load-word) where
   abbrev v : Value
   v = read_as (its_replica c.args.self.now c.as_slice.result.now c.in-Some.oldest.name c.in-Some.oldest.field c.index-place.result.now (entries_of_fields c.args.self.now.fill c.in-Some.oldest.fill_next c.in-Some.oldest.fill_left ++ drop c.in-Some.oldest.next c.as_slice.result.now) c.as_slice.ensures.value c.in-Some.ensures.some c.index-place.ensures c.if-place-eq0.false).0.replica.object.raw c.load-word.result
 
-  told : (q.object.raw ≡ false → is_value c.load-word.result ≡ true) × (c.load-word.new.seat.me ≡ (record a.seat.me.0 { theirs = after_read (applied q.original i v) (lacks (its t) v) t }, a.seat.me.1))
+  told : IsWordAs q.object.raw c.load-word.result × (c.load-word.new.seat.me ≡ (record a.seat.me.0 { theirs = after_read (applied q.original i v) (lacks (its t) v) t }, a.seat.me.1))
   told = c.load-word.ensures.2.0 q i rest r.0.there r.2 (c.field_index.ensures ∙ ap (λ n. field_place n i) (sym r.1))
 
   loose : ∥ Loose c.load-word.new.seat.me.0.theirs ∥₁
@@ -165,7 +166,7 @@ module _ (c : After-load-word) where
       (subst (λ (y : Theirs). ∥ Loose y ∥₁) (theirs_is a.seat.me c.load-word.new.seat.me (after_read (applied q.original i v) (lacks (its t) v) t) told.1) loose) x is
 
   same_header : r.0.block.header ≡ c.header-header.result
-  same_header = header_there a.space.words place r.0.block c.header-header.result r.0.found c.header-header.ensures
+  same_header = header_there a.space.words place r.0.block c.header-header.result r.0.found c.header-header.ensures.value
 
   raw_is : (b : Bool) → b ≡ c.header-header.result.raw → q.object.raw ≡ b
   raw_is b e = r.0.raw ∙ (ap (λ (x : Header). x.raw) same_header ∙ sym e)
@@ -174,7 +175,7 @@ module _ (c : After-load-word) where
   within = let e = ap (λ (x : Header). x.len) same_header in let m = r.0.many in let f = r.3 in omega arith
 
 pub moved_field-requires-clause-value : goal.moved_field-requires-clause-value
-moved_field-requires-clause-value c plain = let l = (goal.at.moved_field-requires-clause-value c).After-load-word in (told l).0 (raw_is l c.is_raw.result c.is_raw.ensures ∙ plain)
+moved_field-requires-clause-value c plain = let l = (goal.at.moved_field-requires-clause-value c).After-load-word in subst (λ b. IsWordAs b c.load-word.result) (raw_is l c.is_raw.result c.is_raw.ensures ∙ plain) (told l).0
 
 pub moved_field-requires-clause-inside : goal.moved_field-requires-clause-inside
 moved_field-requires-clause-inside c x is =
@@ -185,11 +186,25 @@ moved_field-requires-clause-inside c x is =
 pub moved_field-requires-clause-places : goal.moved_field-requires-clause-places
 moved_field-requires-clause-places c = subst (λ (row : List ℕ). (a : ℕ) → slice_index row a < 4294967295) (sym c.as_slice-2.ensures.value) (claim_low c.args.self.now.claims.items c.args.self.now.seat.me.0.theirs c.args.self.now.loose c.args.self.now.claimed)
 
-pub set_field-requires : goal.set_field-requires
-set_field-requires c =
-    let l = (goal.at.set_field-requires c).After-load-word in
+pub set_field-requires-clause-there : goal.set_field-requires-clause-there
+set_field-requires-clause-there c =
+    let l = (goal.at.set_field-requires-clause-there c).After-load-word in
     let a = c.args.self.now in
-    field_within a.space.words c.index-place.result.now c.in-Some.oldest.field c.header-header.result a.shaped.walked c.header-header.ensures (within l)
+    subst (λ (x : SpaceWords). IsSome (field_at x.words c.index-place.result.now c.in-Some.oldest.field)) (sym c.header-header.ensures.same)
+    (field_within a.space.words c.index-place.result.now c.in-Some.oldest.field c.header-header.result a.shaped.walked c.header-header.ensures.value (within l))
+
+-- what was written is a number, or refers to replicas
+pub set_field-requires-clause-fits : goal.set_field-requires-clause-fits
+set_field-requires-clause-fits c =
+    let l = (goal.at.set_field-requires-clause-fits c).After-load-word in
+    let raw : (q l).object.raw ≡ c.is_raw.result = raw_is l c.is_raw.result c.is_raw.ensures in
+    let to : (x : ℕ) → read_as c.is_raw.result c.load-word.result ≡ Ref x → v l ≡ Ref x = λ x is. ap (λ b. read_as b c.load-word.result) raw ∙ is in
+    let word : IsWordOfField c.is_raw.result (a l).space.words c.in-Ok.moved = field_word_moved c.is_raw.result (a l).claims.items (t l) (a l).space c.load-word.result c.in-Ok.moved (mem (a l)) (a l).claimed
+    (subst (λ b. IsWordAs b c.load-word.result) raw (told l).0)
+    (c.in-Ok.ensures.moved ∙ ap (λ (r : List ℕ). moved_by r (read_as c.is_raw.result c.load-word.result)) c.as_slice-2.ensures.value) c.in-Ok.ensures.value (λ x is. bound l x (to x is))
+    (subst (λ (r : List ℕ). (x : ℕ) → read_as c.is_raw.result c.load-word.result ≡ Ref x → slice_index r x ≢ 0) c.as_slice-2.ensures.value c.in-Ok.ensures.placed) in
+    word_fits (a l).space.words (place l) c.in-Ok.moved c.header-header.result c.header-header.ensures.value (subst (λ b. IsWordOfField b (a l).space.words c.in-Ok.moved) c.is_raw.ensures word)
+    c.header-header.new.self (ap (λ (x : SpaceWords). x.words) c.header-header.ensures.same)
 
 -- the view after the read, where the target has a replica or there is none
 follows : (c : After-load-word) → lacks (its (t c)) (v c) ≡ None → c.load-word.new.seat.me ≡ (record (a c).seat.me.0 { theirs = applied (q c).original (i c) (v c) (t c) }, (a c).seat.me.1)
@@ -245,9 +260,9 @@ invariant_of-self-in-Ok c =
     let copies : c.load-word.new.seat.me.0.copies ≡ true = copies_is (a l).seat.me c.load-word.new.seat.me u went (a l).copies in
     let means : read_as (q l).object.raw c.in-Ok.moved ≡ moved (its (t l)) (v l) = ap (λ b. read_as b c.in-Ok.moved) (raw_is l c.is_raw.result c.is_raw.ensures) ∙ (c.in-Ok.ensures.moved ∙ sym n.1) in
     let there = subst (λ (x : ℕ). IsSome (field_at (a l).space.words x (i l))) (sym s.place_is)
-    (field_within (a l).space.words (place l) (i l) c.header-header.result (a l).shaped.walked c.header-header.ensures (within l)) in
+    (field_within (a l).space.words (place l) (i l) c.header-header.result (a l).shaped.walked c.header-header.ensures.value (within l)) in
     let wrote : u.replicas ≡ replicas_in (with_field_at (a l).space (q l).place (i l) c.in-Ok.moved).words = written_same (t l) (a l).space (q l) (i l) c.in-Ok.moved (v l) (mem (a l)) (a l).loose s.there there means in
-    let space : c.set_field.new.self ≡ with_field_at (a l).space (q l).place (i l) c.in-Ok.moved = c.set_field.ensures.words ∙ (λ j. with_field_at (a l).space (sym s.place_is j) (i l) c.in-Ok.moved) in
+    let space : c.set_field.new.self ≡ with_field_at (a l).space (q l).place (i l) c.in-Ok.moved = c.set_field.ensures.words ∙ (λ j. with_field_at (c.header-header.ensures.same j) (sym s.place_is j) (i l) c.in-Ok.moved) in
     record {
       row = ((a l).row.0 ∙ sym c.load-word.ensures.0, ap (λ (i : TableId). i.words) c.load-word.ensures.0 ∙ (a l).row.1, (a l).row.2);
       copies = copies;
@@ -265,6 +280,7 @@ invariant_of-self-in-Ok c =
       fills = λ p k e n. fills_on (a l) (q l).original (i l) (moved (its (t l)) (v l)) p (subst (In p) (ap (λ (x : Theirs). x.replicas) is) k) e (λ z. n (let f = c.in-Some.ensures.fills.0 in omega arith));
       claimed = subst (Claims (a l).claims.items) (sym is) (claims_as (a l).claims.items (brought (q l).original (i l) (v l) (t l)) u refl refl (claims_kept (a l).claims.items (t l) (q l).original (i l) (v l) (a l).claimed));
       loose = loose l;
+      spared = still_spared (a l) c.set_field.new.self.size (ap (λ (x : SpaceWords). x.size) space);
     }
 
 pub invariant_of-self-in-Err : goal.invariant_of-self-in-Err
@@ -278,9 +294,9 @@ invariant_of-self-in-Err c =
     record {
       row = ((a l).row.0 ∙ sym c.load-word.ensures.0, ap (λ (i : TableId). i.words) c.load-word.ensures.0 ∙ (a l).row.1, (a l).row.2);
       copies = copies;
-      shaped = (a l).shaped;
-      sized = (ap (λ (y : Theirs). y.old) is ∙ (a l).sized.0, (a l).sized.1 ∙ sym (ap (λ (y : Theirs). y.size) is));
-      same = ap (λ (y : Theirs). y.replicas) is ∙ (a l).same;
+      shaped = still_shaped (a l) c.header-header.new.self c.header-header.ensures.same;
+      sized = (ap (λ (y : Theirs). y.old) is ∙ (a l).sized.0, still_sized (a l) c.header-header.new.self c.header-header.ensures.same ∙ sym (ap (λ (y : Theirs). y.size) is));
+      same = ap (λ (y : Theirs). y.replicas) is ∙ still_same (a l) c.header-header.new.self c.header-header.ensures.same;
       scans = (ap (λ (y : Theirs). y.scan_place) is ∙ (a l).scans.0, ap (λ (y : Theirs). y.scan_field) is ∙ (a l).scans.1);
       dues = (ap (λ (y : Theirs). y.due) is ∙ (a l).dues.0, (a l).dues.1, (a l).dues.2);
       wants = ap (λ (y : Theirs). y.wanted) is;
@@ -291,6 +307,7 @@ invariant_of-self-in-Err c =
       fills = λ p k e n. (a l).fills p (subst (In p) (ap (λ (y : Theirs). y.replicas) is) k) e n;
       claimed = subst (Claims (a l).claims.items) (sym is) (claims_as (a l).claims.items (t l) u refl refl (a l).claimed);
       loose = loose l;
+      spared = still_spared (a l) c.header-header.new.self.size (ap (λ (x : SpaceWords). x.size) c.header-header.ensures.same);
     }
 
 pub returns-in-Ok-clause-seat : goal.returns-in-Ok-clause-seat

@@ -21,7 +21,7 @@ use Rattle.gc_concurrent.specs.Internal.Copiers.{Claims}
 use Rattle.gc_concurrent.proofs.TiedCells.{tied, tied_words}
 use Rattle.gc_concurrent.proofs.Placing.{places}
 use Rattle.gc_concurrent.proofs.Memory.{wanted_near, unclaimed, has_room, no_room, placed_same, claims_placed, claim_grown, claims_grown, end_is}
-use Rattle.gc_concurrent.proofs.InHand.{mem, keeps_seat, theirs_is}
+use Rattle.gc_concurrent.proofs.InHand.{mem, still_spared, keeps_seat, theirs_is}
 use Rattle.gc_concurrent.proofs.Nearing.{nears_by, placed_nears}
 use Rattle.gc_concurrent.proofs.copier.Copier.place_wanted.Goals as goal
 use Rattle.gc_concurrent.proofs.copier.Copier.place_wanted.Goals.{After-load-word}
@@ -110,6 +110,7 @@ invariant_of-self c =
       fills = λ q k e n. absurd (n ((a l).aimed c.requires.wanted).0);
       claimed = subst (Claims (a l).claims.items) (sym is) (a l).claimed;
       loose = loose l;
+      spared = (a l).spared;
     }
 
 pub returns-then-not-has_room-clause-seat : goal.returns-then-not-has_room-clause-seat
@@ -165,6 +166,7 @@ invariant_of-self-2 c =
           (in_push q (blank_replica (a l).wanted (new_end (its (t l))) o) (t l).replicas (subst (In q) (ap (λ (y : Theirs). y.replicas) is) k));
       claimed = subst (λ (z : ℕ × Theirs). Claims (slice_set (a l).claims.items (a l).wanted z.0) z.1) (λ i. (place i, sym is i)) (claims_placed (a l).claims.items (t l) (a l).wanted o (a l).claimed (none l) (let w = low (a l) c.requires.wanted in omega arith));
       loose = loose l;
+      spared = still_spared (a l) c.set_link.new.self.size (ap (λ (x : SpaceWords). x.size) space);
     }
 
 pub returns-clause-seat : goal.returns-clause-seat

@@ -11,7 +11,7 @@ use Rattle.gc_concurrent.proofs.Keeping.{begins_kept}
 use Rattle.gc_plan.specs.State.{pairs_of}
 use Rattle.gc_plan.specs.Steps.{scan_done}
 use Rattle.gc_concurrent.specs.declared.held.Held.{Held}
-use Rattle.gc_concurrent.specs.Ends.{Mine, one_heap, opening_mine}
+use Rattle.gc_concurrent.specs.Ends.{one_heap}
 use Rattle.gc_concurrent.specs.Heaps.{heap_of}
 use Rattle.gc_concurrent.specs.Internal.Rule.{Sat}
 use Rattle.gc_concurrent.specs.Ends.{its}
@@ -64,12 +64,6 @@ moves h row roots e f placed =
     ∙ roots_moved h.copier.claims.items h.copier.seat.me.0.theirs h.roots.items h.copier.claimed (near h)
     (subst (λ (z : List ℕ × List ℕ). AreClaimed z.0 z.1) (λ i. (e i, f i)) placed)
 
--- the new heap: the new space, with the moved roots
-new_is : (h : Held) (mine : Mine) (row roots moved : List ℕ) → (base : List ℕ) → mine ≡ opening_mine (one_heap h.copier.space base) → moved ≡ map (λ w. word_of (moved_by row (value_of w))) roots
-    → row ≡ h.copier.claims.items → roots ≡ h.roots.items → AreClaimed row roots
-    → heap_of mine moved ≡ new_heap_of h.copier.space h.roots.items h.copier.seat.me.0.theirs
-new_is h mine row roots moved base is moved_is e f placed = λ i. heap_of (is i) ((moved_is ∙ moves h row roots e f placed) i)
-
 pub check-requires-clause-left : goal.check-requires-clause-left
 check-requires-clause-left g c =
     done c.args.self c.as_slice.result.now c.as_slice-2.result.now c.as_slice.ensures.value c.as_slice-2.ensures.value (c.is_idle.ensures.idle c.if-not-is_idle.false) c.in-Ok.ensures.placed
@@ -79,46 +73,17 @@ check-requires-clause-moved g c =
     c.as_slice-3.ensures.value
     ∙ (c.in-Ok.ensures.moved ∙ moves c.args.self c.as_slice.result.now c.as_slice-2.result.now c.as_slice.ensures.value c.as_slice-2.ensures.value c.in-Ok.ensures.placed)
 
-pub open_cells-requires-clause-sound : goal.open_cells-requires-clause-sound
-open_cells-requires-clause-sound g c =
+pub begin-requires-clause-sound : goal.begin-requires-clause-sound
+begin-requires-clause-sound g c =
     let a = c.args.self.copier in
-    let told = c.check.ensures.told in
-    let moved = c.as_slice-4.ensures.value ∙ (c.in-Ok.ensures.moved ∙ moves c.args.self c.as_slice.result.now c.as_slice-2.result.now c.as_slice.ensures.value c.as_slice-2.ensures.value c.in-Ok.ensures.placed) in
-    subst (λ (z : SpaceWords × List ℕ). IsHeap (one_heap z.0 z.1)) (λ i. (sym c.check.ensures.space i, sym moved i)) (told.heap a.space (mem a))
-
-pub split_seat-seat-requires : goal.split_seat-seat-requires
-split_seat-seat-requires g c =
-    let a = c.args.self.copier in
-    let o = c.in-Ok-open_cells.opened in
-    let view = c.in-Ok-open_cells.ensures.view in (
-      tied _ _ _ c.deref.ensures o.row.0,
-      (let w = tied_words _ _ _ _ c.deref.ensures o.row.0 o.row.1 in let s = c.in-Ok-open_cells.ensures.size in let e = ap (λ (x : SpaceWords). x.size) c.check.ensures.space in let l = a.shaped.size_low in omega arith),
-      splits_rule _ _ _ (ap (λ (m : Sat). m.0.writes) view) (ap (λ (m : Sat). m.0.copies) view),
-    )
-
-pub invariant_of-result-2 : goal.invariant_of-result-2
-invariant_of-result-2 g c =
-    let a = c.args.self.copier in
-    let told = c.check.ensures.told in
-    let base : List ℕ = c.as_slice-4.result.now in
-    let mine : c.split_seat-seat.result.me.0.mine ≡ opening_mine (one_heap a.space base) = ap (λ (m : Sat). m.0.mine) c.split_seat-seat.ensures.4 ∙ (ap (λ (m : Sat). m.0.mine) c.in-Ok-open_cells.ensures.view ∙ (λ i. opening_mine (one_heap (c.check.ensures.space i) base))) in
-    let moved = c.as_slice-4.ensures.value ∙ (c.in-Ok.ensures.moved ∙ moves c.args.self c.as_slice.result.now c.as_slice-2.result.now c.as_slice.ensures.value c.as_slice-2.ensures.value c.in-Ok.ensures.placed) in
-    let heap = new_is c.args.self _ c.as_slice.result.now c.as_slice-2.result.now _ base mine c.in-Ok.ensures.moved c.as_slice.ensures.value c.as_slice-2.ensures.value c.in-Ok.ensures.placed in
-    let sound = told.heap a.space (mem a) in
-    record {
-      ended = ap (λ (m : Mine). length m.space.words) mine ∙ sym (c.end-end.ensures.value ∙ ap (λ (s : SpaceWords). length s.words) c.check.ensures.space);
-      sound = subst IsHeap (sym heap) sound;
-      behind = (let e = ap (λ (m : Mine). end_of m.base.space) mine in let l = c.end-end.ensures.value in let s = ap (λ (s : SpaceWords). end_of s) c.check.ensures.space in omega arith);
-      kept = subst (λ (z : HeapWords × HeapWords). LeadsOnlyTo (MayBeCopied z.0) (graph_in z.1)) (λ i. (sym (ap (λ (m : Mine). m.base) mine ∙ (λ j. one_heap a.space (moved j))) i, sym heap i))
-          (begins_kept (new_heap_of a.space c.args.self.roots.items a.seat.me.0.theirs) sound);
-    }
+    let moved = c.in-Ok.ensures.moved ∙ moves c.args.self c.as_slice.result.now c.as_slice-2.result.now c.as_slice.ensures.value c.as_slice-2.ensures.value c.in-Ok.ensures.placed in
+    subst (λ (z : SpaceWords × List ℕ). IsHeap (one_heap z.0 z.1)) (λ i. (sym (c.take_spare.ensures.space ∙ c.check.ensures.space) i, sym moved i)) (c.check.ensures.told.heap a.space (mem a))
 
 pub returns-clause-replicas : goal.returns-clause-replicas
 returns-clause-replicas g c =
     let a = c.args.self.copier in
-    let told = c.check.ensures.told in
-    ap graph_in (new_is c.args.self _ c.as_slice.result.now c.as_slice-2.result.now _ c.as_slice-4.result.now (ap (λ (m : Sat). m.0.mine) c.split_seat-seat.ensures.4 ∙ (ap (λ (m : Sat). m.0.mine) c.in-Ok-open_cells.ensures.view ∙ (λ i. opening_mine (one_heap (c.check.ensures.space i) c.as_slice-4.result.now))))
-    c.in-Ok.ensures.moved c.as_slice.ensures.value c.as_slice-2.ensures.value c.in-Ok.ensures.placed) ∙ told.graph a.space (mem a)
+    let moved = c.in-Ok.ensures.moved ∙ moves c.args.self c.as_slice.result.now c.as_slice-2.result.now c.as_slice.ensures.value c.as_slice-2.ensures.value c.in-Ok.ensures.placed in
+    ap graph_in (c.begin.ensures.heap ∙ (λ i. one_heap ((c.take_spare.ensures.space ∙ c.check.ensures.space) i) (moved i))) ∙ c.check.ensures.told.graph a.space (mem a)
 
 pub returns-clause-carried : goal.returns-clause-carried
 returns-clause-carried g c =
