@@ -31,6 +31,7 @@ use Rattle.gc_concurrent.specs.Unreachable.{CopiesNothingUnreachable}
 use Rattle.gc_concurrent.specs.Internal.Rule.{IsConcurrent, Sat}
 use Rattle.gc_concurrent.specs.Ends.{its}
 use Rattle.gc_concurrent.specs.Internal.Flip.{Flips, Holds, roots_alone, moved_words, new_heap_of, tells_flip}
+use Rattle.gc_concurrent.proofs.Joined.{catches_up}
 use Rattle.gc_concurrent.proofs.Hands.{same}
 use Rattle.gc_concurrent.proofs.Copying.{moved_same}
 use Rattle.gc_concurrent.proofs.Logs.{to_two}

@@ -18,6 +18,7 @@ pub mod Opening
 pub mod CatchUp
 pub mod Memory
 pub mod InHand
+pub mod Comparing
 pub mod Nearing
 pub mod Turn
 pub mod Rooting

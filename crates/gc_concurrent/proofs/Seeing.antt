@@ -31,7 +31,7 @@ whole_seen s is = record {
       (record { size_low = omega arith; size_high = omega arith; end_low = is.end_low; end_high = omega (arith, is.end_high, is.size_high); count = is.count; reserved = is.reserved; walked = is.walked });
 }
 
-some_header : (words : List ℕ) (a : ℕ) (h : Header) → header_at words a ≡ Some h → is_start words a ≡ true
+pub some_header : (words : List ℕ) (a : ℕ) (h : Header) → header_at words a ≡ Some h → is_start words a ≡ true
 some_header words a h e = from (block_at words a) refl e
   where
     from : (o : Option Block) → block_at words a ≡ o → header_of o ≡ Some h → is_some (block_at words a) ≡ true

@@ -51,7 +51,7 @@ module _ (s : SpaceWords) (c j x : ℕ) (space : IsSpace s) (has : IsSome (field
       (λ other. ap header_of (field_beside s c j x a space has other))
       (cases_eq c a)
 
-  put_field : (a i : ℕ) → IsSome (field_at s.words a i) → IsSome (field_at (with_field_at s c j x).words a i)
+  pub put_field : (a i : ℕ) → IsSome (field_at s.words a i) → IsSome (field_at (with_field_at s c j x).words a i)
   put_field a i some = ⊎_elim
       (λ same. let b = its_block in
           subst (λ a. IsSome (field_at (with_field_at s c j x).words a i)) same

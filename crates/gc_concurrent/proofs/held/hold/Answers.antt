@@ -58,3 +58,6 @@ invariant_of-result-2 c =
       kept = subst (λ (x : Mine). LeadsOnlyTo (MayBeCopied x.base) (graph_in (heap_of x c.args.commander.roots.items))) (sym mine) c.args.commander.kept;
       sound = subst (λ (x : Mine). IsHeap (heap_of x c.args.commander.roots.items)) (sym mine) c.args.commander.sound;
     }
+
+pub invariant_of-result-clause-along : goal.invariant_of-result-clause-along
+invariant_of-result-clause-along c = ?

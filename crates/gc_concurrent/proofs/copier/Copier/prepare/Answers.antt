@@ -12,3 +12,9 @@ compare_exchange-requires c =
       (let w = tied_words _ _ _ _ c.deref-cells.ensures a.row.0 a.row.1 in let l = old_low a.seat.me.0.theirs a.loose in let s = a.sized.0 in omega arith),
       sizes_at _ _ _ _ c.args.size _ _ c.from.ensures c.from-2.ensures a.copies c.requires.clear c.requires.low (omega arith),
     )
+
+pub invariant_of-self-in-Break-branch-3-clause-along : goal.invariant_of-self-in-Break-branch-3-clause-along
+invariant_of-self-in-Break-branch-3-clause-along c = ?
+
+pub invariant_of-self-2-clause-along : goal.invariant_of-self-2-clause-along
+invariant_of-self-2-clause-along c = ?
