@@ -1,8 +1,9 @@
 -- The collector writes a field or places a replica, and its standing checker goes along.
-use Rattle.std.proofs.Common.{◌≡◌, ℕ, ◌+◌, ◌<◌, true, false, suc, map, List, [], ◌∷◌, replicate, ◌++◌, length, Some, is_some, refl, ap, sym, ◌∙◌, subst, arith, length-append}
+use Rattle.std.proofs.Common.{◌≡◌, ℕ, ◌+◌, ◌<◌, true, false, suc, map, List, [], ◌∷◌, replicate, ◌++◌, length, Some, is_some, refl, ap, sym, ◌∙◌, subst, ⊎_elim, arith, length-append}
 use Rattle.std.specs.Prelude.{slice_index, slice_set, IsOk, IsSome}
 use Rattle.std.proofs.Math.Logic.{∥∥₁_elim}
 use Rattle.std.proofs.Props.{props}
+use Rattle.std.proofs.lemmas.Bool.{cases_Bool}
 use Rattle.std.proofs.lemmas.List.{get_or-set_same, length-replicate}
 use Rattle.gc_words.specs.Word.{IsHeader, header_word, read_header}
 use Rattle.gc_words.specs.Image.{header_at, field_at, walk_words}
@@ -20,8 +21,12 @@ use Rattle.gc_concurrent.specs.Internal.Copiers.{KeepsSeat, Nears}
 use Rattle.gc_concurrent.specs.Internal.Following.{Follows, WroteEach}
 use Rattle.gc_concurrent.specs.Internal.Rule.{CatchesUp, Loose, Sat, seeing}
 use Rattle.gc_concurrent.proofs.Told.{put_field}
-use Rattle.gc_concurrent.proofs.Seeing.{some_header}
+use Rattle.gc_concurrent.proofs.Seeing.{some_header, whole_seen}
 use Rattle.gc_concurrent.proofs.Following.{through, catches_up_follows}
+use Rattle.gc_along.specs.Telling.{Tells}
+use Rattle.gc_along.specs.Watch.{IsSeen}
+use Rattle.gc_along.specs.Events.{flipped_tables, opening_tables}
+use Rattle.gc_along.proofs.Public.{flipped_tells, opening_tells}
 use Rattle.gc_concurrent.proofs.Memory.{end_is}
 use Rattle.gc_concurrent.proofs.InHand.{mem}
 
@@ -105,14 +110,25 @@ along_placed t after seen after_seen space made h w name is word read told f =
 
 -- ---- both ends at hand
 
-pub along_caught : (a : Copier) (v : Known) (after : Tables) → v.seen ≡ a.seat.me.0.seen → v.theirs ≡ a.seat.me.0.theirs → CatchesUp v → (v.mine.logs ≡ false → after ≡ a.standing) → (a.standing.lost ≡ true → after.lost ≡ true)
+pub along_caught : (a : Copier) (v : Known) (after : Tables) → v.seen ≡ a.seat.me.0.seen → v.theirs ≡ a.seat.me.0.theirs → CatchesUp v → (a.standing.lost ≡ true → after.lost ≡ true)
     → (after.lost ≡ false → WroteEach v.mine.log a.standing after) → ∥ Follows after v.mine.space.words a.space.words ∥₁
-along_caught a v after seen theirs is rest lost told =
+along_caught a v after seen theirs is lost told =
     through a.standing after v.seen v.mine.space.words a.space.words a.space.words
     (catches_up_follows v a.standing after a.space.words is
     (λ none. let e : new_end (its a.seat.me.0.theirs) ≡ 1 = ap (λ rs. objects_end 1 (map placed rs)) (ap (λ (t : Theirs). t.replicas) (sym theirs) ∙ none) in omega (arith, e, end_is a.seat.me.0.theirs a.space (mem a)))
-    rest lost told)
+    lost told)
     (subst (λ ws. ∥ Follows a.standing ws a.space.words ∥₁) (sym seen) a.along)
+
+-- the new space is the mutator's from now on, and the next one is empty
+pub flipped_follows : (t after : Tables) (seen : List ℕ) (space : SpaceWords) → IsSpace space → (t.lost ≡ true → after.lost ≡ true) → (after.lost ≡ false → after ≡ flipped_tables t) → ∥ Follows t seen space.words ∥₁
+    → ∥ Follows after space.words (0 ∷ []) ∥₁
+flipped_follows t after seen space is lost flipped f = through t after seen space.words space.words (0 ∷ []) (λ follows ok.
+    let x = follows (⊎_elim (λ (e : t.lost ≡ true). absurd (let wrong : true ≡ false = sym (lost e) ∙ ok in cc)) (λ (e : t.lost ≡ false). e) (cases_Bool t.lost)) in
+    subst (λ z. Tells space.words (0 ∷ []) z × IsSeen (length space.words) space.words × (length z.news ≡ 1)) (sym (flipped ok)) (flipped_tells seen space.words t x.0, whole_seen space is, refl)) f
+
+-- the first collection begins
+pub opening_follows : (space : SpaceWords) (room : ℕ) (t : Tables) → IsSpace space → t ≡ opening_tables room → ∥ Follows t space.words (0 ∷ []) ∥₁
+opening_follows space room t is opening = subst (λ z. ∥ Follows z space.words (0 ∷ []) ∥₁) (sym opening) ∣ (λ _. (opening_tells space.words room is.end_low is.reserved, whole_seen space is, refl)) ∣₁
 
 -- the tables have room for more
 pub roomy_follows : (t : Tables) (room : ℕ) (seen new : List ℕ) → Follows t seen new → Follows (record t { room = room }) seen new

@@ -179,15 +179,15 @@ told_rows (x ∷ xs) t after w = told_rows xs w.0 after w.2 ∙ one w.1
     one (inr (b, at, within, is)) = ap (λ (t : Tables). length t.news) is ∙ length-set t.news (field_place b x.1) 3
 
 -- a seat that is both ends sees all words as they are, once its log was told
-pub catches_up_follows : (v : Known) (t after : Tables) (new : List ℕ) → CatchesUp v → (v.theirs.replicas ≡ [] → length new ≤ 1) → (v.mine.logs ≡ false → after ≡ t) → (t.lost ≡ true → after.lost ≡ true)
+pub catches_up_follows : (v : Known) (t after : Tables) (new : List ℕ) → CatchesUp v → (v.theirs.replicas ≡ [] → length new ≤ 1) → (t.lost ≡ true → after.lost ≡ true)
     → (after.lost ≡ false → WroteEach v.mine.log t after) → Follows t v.seen new → Follows after v.mine.space.words new
-catches_up_follows v t after new is short rest lost told follows ok =
+catches_up_follows v t after new is short lost told follows ok =
     let fine : t.lost ≡ false = ⊎_elim (λ (e : t.lost ≡ true). absurd (let wrong : true ≡ false = sym (lost e) ∙ ok in cc)) (λ (e : t.lost ≡ false). e) (cases_Bool t.lost) in
     let f = follows fine in
     let s : SpaceWords = seen_space v.seen v.mine in
     let each : WroteEach (written_by is.told.events) t after = ⊎_elim
         (λ (e : v.mine.logs ≡ true). subst (λ xs. WroteEach xs t after) (sym (is.told.logged e)) (told ok))
-        (λ (e : v.mine.logs ≡ false). subst (WroteEach (written_by is.told.events) t) (sym (rest e)) (unwritten (written_by is.told.events) t (none_replicated v.seen new t f.0 (short (is.rests e)))))
+        (λ (e : v.mine.logs ≡ false). subst (WroteEach (written_by is.told.events) t) (sym (subst (λ xs. WroteEach xs t after) (is.rests e).1 (told ok))) (unwritten (written_by is.told.events) t (none_replicated v.seen new t f.0 (short (is.rests e).0))))
         (cases_Bool v.mine.logs) in (
       subst (λ (z : SpaceWords). Tells z.words new after) (sym is.told.now) (replays s new is.told.events t after is.told.could each f.0),
       whole_seen v.mine.space (subst IsSpace (sym is.told.now) (space_after s is.told.events is.told.could)),

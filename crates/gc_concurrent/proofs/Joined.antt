@@ -60,7 +60,7 @@ catches_up size s r id v seat writes copies =
     let seen : v.seen ≡ r.seen = r.shown id v seat copies in
     record {
       told = subst (λ (z : List ℕ × Mine). IsTold z.0 z.1) (λ j. (sym seen j, sym mine j)) r.told;
-      rests = λ e. ap (λ (t : Theirs). t.replicas) theirs ∙ (r.rests (ap (λ (m : Mine). m.logs) (sym mine) ∙ e)).copied;
+      rests = λ e. let k = r.rests (ap (λ (m : Mine). m.logs) (sym mine) ∙ e) in (ap (λ (t : Theirs). t.replicas) theirs ∙ k.copied, ap (λ (m : Mine). m.log) mine ∙ k.logged);
     }
 
 take_at : (slots size : ℕ) (s : St) (r : IsConcurrent size s) (k id : ℕ) (me : Sat) → get_elem? s.views id ≡ some me.0 → me.0.writes ≡ true → me.0.copies ≡ true

@@ -14,7 +14,7 @@ ghost use Rattle.gc_concurrent.specs.Heaps.{heap_of};
 ghost use Rattle.gc_concurrent.specs.Internal.Flip.{HasNothingLeft, Flips};
 ghost use Rattle.gc_concurrent.specs.Ends.{its};
 ghost use Rattle.gc_concurrent.specs.Unreachable.{MayBeCopied};
-ghost use Rattle.gc_concurrent.specs.Internal.Rule.{entries_of_fields, read_as, wants, Loose};
+ghost use Rattle.gc_concurrent.specs.Internal.Rule.{entries_of_fields, read_as, seeing, wants, Loose};
 ghost use Rattle.gc_concurrent.specs.Internal.Copiers.{Claims, KeepsClaims, KeepsSeat, Nears, StaysOrNears, logging, moved_by};
 ghost use Rattle.gc_concurrent.specs.Internal.Following.{Follows};
 ghost use Rattle.gc_concurrent.specs.Works.{WhereDone, WhereNoRoom};
@@ -25,7 +25,7 @@ use crate::cells::{Cells, CellsEnd};
 use crate::next::NextSpace;
 use crate::plays::{Applied, Flipped, Left, Passed, Placed, Resized, Rooted, Scanned};
 use crate::spare::{Former, Spare};
-use crate::watching::{compare, place};
+use crate::watching::{compare, place, walk};
 use gc_along::Standing;
 use gc_graph::{NoMemory, object_words};
 use gc_words::{Addr, Header, Value, encode, field_index, target_of};
@@ -439,7 +439,10 @@ impl Copier {
         self.former = None;
         let space = NextSpace::new(alloc, size)?;
         let spare = Spare::new(alloc, size)?;
-        self.standing.reserve(size)?;
+        let reserved = self.standing.reserve(size);
+        if reserved.is_err() {
+            return Err(NoMemory);
+        }
         let cells = &*self.cells;
         cells
             .shared
@@ -462,6 +465,17 @@ impl Copier {
         }
     }
 
+    /// The standing checker walks on up to this end of the mutator's space.
+    pub(crate) fn see(&mut self, end: u32)
+        requires { end ≤ self.old.size }
+        ensures seen { self.new.seat.me ≡ seeing self.new.seat.me.0.seen self.old.seat.me }
+        ensures row { (self.new.seat.table_id ≡ self.old.seat.table_id) × (self.new.size ≡ self.old.size) }
+        ensures space { self.new.space ≡ self.old.space }
+    {
+        let cells = &*self.cells;
+        walk(cells, &mut self.seat, &mut self.standing, end);
+    }
+
     /// With both ends at hand: what holds where nothing is left to do.
     pub(crate) fn look(&mut self)
         requires both { self.old.seat.me.0.writes ≡ true }
@@ -469,6 +483,7 @@ impl Copier {
         ensures same { self.new.seat.me ≡ self.old.seat.me }
         ensures row { (self.new.seat.table_id ≡ self.old.seat.table_id) × (self.new.size ≡ self.old.size) }
         ensures space { self.new.space ≡ self.old.space }
+        ensures along { self.old.seat.me.0.mine.log ≡ [] → ∥ Follows self.new.standing self.old.seat.me.0.mine.space.words self.old.space.words ∥₁ }
         ensures told { (roots : List ℕ) → IsHeap (heap_of self.old.seat.me.0.mine roots) → HasNothingLeft roots self.old.seat.me.0 → Flips roots self.old.seat.me.0.mine self.old.seat.me.0.theirs }
     {
         let cells = &*self.cells;

@@ -1,5 +1,5 @@
 //! The handshake through which a mutator goes to its collector and back. No call here waits but `poll` and `wait`.
-ghost use Rattle.std.specs.Prelude.{◌≡◌, ◌≢◌, ℕ, ◌<◌, ◌≤◌, true, false, [], ◌∷◌, map, replicate, IfOk, MatchResult};
+ghost use Rattle.std.specs.Prelude.{◌≡◌, ◌⊎◌, ◌≢◌, ℕ, ◌<◌, ◌≤◌, true, false, [], ◌∷◌, map, replicate, IfOk, MatchResult};
 ghost use Rattle.std.specs.Arc.{arc_value};
 ghost use Rattle.gc_concurrent.specs.Holders.{cells_read_by, heap_in, known_to, logs_writes};
 ghost use Rattle.gc_concurrent.specs.Heaps.{GoesOnIn};
@@ -12,7 +12,7 @@ ghost use Rattle.gc_heap.specs.ExtraRoots.{most_extra_roots};
 ghost use Rattle.gc_heap.specs.Heap.{empty_heap, graph_in};
 ghost use Rattle.gc_concurrent.specs.Ends.{its, opening_theirs};
 ghost use Rattle.gc_concurrent.specs.Unreachable.{CopiesNothingUnreachable};
-ghost use Rattle.gc_concurrent.specs.Checking.{CertifiesFlip, FlippedBy, flip_shown};
+ghost use Rattle.gc_concurrent.specs.Checking.{CertifiesFlip, FlippedBy, IsVouchedFor, flip_shown};
 ghost use Rattle.gc_plan.specs.State.{new_graph};
 ghost use Rattle.gc_words.specs.Word.{value_of};
 
@@ -399,7 +399,7 @@ impl Holding {
     pub fn flip<C: Checks>(self, alloc: Global, checker: &C) -> Result<Collector, Unflipped>
         requires { C.can_check checker.now }
         ensures ready { OnOk result (may_flip self.held ≡ true) }
-        ensures asked { OnOk result (C.says_yes checker.now (flip_shown (heap_held self.held) (known_to self.held.copier))) }
+        ensures asked { IfOk result (λ collector. IsVouchedFor (heap_held self.held) (known_to collector.copier).base ⊎ C.says_yes checker.now (flip_shown (heap_held self.held) (known_to self.held.copier))) }
         ensures certified { OnOk result (CertifiesFlip (heap_held self.held) (known_to self.held.copier)) }
         ensures never_refused { IfErr result (λ refused. refused.why ≢ NoFlip.Refused) }
         ensures fresh { IfOk result (λ collector. known_to collector.copier ≡ opening_theirs (known_to collector.copier).base (known_to self.held.copier).size 1) }

@@ -235,10 +235,10 @@ tells_leave_of t st me found me' = ((entry : ℕ × ℕ) (rest : List (ℕ × �
 abbrev pub tells_leave : OneStep → Sat → ℕ → Sat → Type 0
 tells_leave st me found me' = tells_leave_of me.0.theirs st me found me' × KnowsBelonging me'
 
--- How the words of a seat that is both ends come from those that were seen. While writes are not logged, there are no replicas.
+-- How the words of a seat that is both ends come from those that were seen. While writes are not logged, there are no replicas, and the log is empty.
 pub record CatchesUp (v : View) : Type 0 where
   pub told : IsTold v.seen v.mine
-  pub rests : v.mine.logs ≡ false → v.theirs.replicas ≡ []
+  pub rests : v.mine.logs ≡ false → (v.theirs.replicas ≡ []) × (v.mine.log ≡ [])
 
 -- The mutator's log becomes the collector's. Both ends know the same heap with which the collection began.
 abbrev pub tells_take : OneStep → Sat → ℕ → Sat → Type 0

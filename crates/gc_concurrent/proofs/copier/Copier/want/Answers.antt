@@ -20,4 +20,4 @@ pub invariant_of-self-clause-along : goal.invariant_of-self-clause-along
 invariant_of-self-clause-along c =
     let a = c.args.self.now in
     subst (λ ws. ∥ Follows a.standing ws a.space.words ∥₁) (sym (ap (λ (m : Sat). m.0.seen) c.load.ensures.2.0.0))
-    (along_caught a a.seat.me.0 a.standing refl refl c.load.ensures.2.0.1 (λ _. refl) (λ l. l) (λ _. subst (λ xs. WroteEach xs a.standing a.standing) (sym c.requires.taken) refl))
+    (along_caught a a.seat.me.0 a.standing refl refl c.load.ensures.2.0.1 (λ l. l) (λ _. subst (λ xs. WroteEach xs a.standing a.standing) (sym c.requires.taken) refl))

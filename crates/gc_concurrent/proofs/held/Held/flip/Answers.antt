@@ -64,12 +64,12 @@ moves h row roots e f placed =
     ∙ roots_moved h.copier.claims.items h.copier.seat.me.0.theirs h.roots.items h.copier.claimed (near h)
     (subst (λ (z : List ℕ × List ℕ). AreClaimed z.0 z.1) (λ i. (e i, f i)) placed)
 
-pub check-requires-clause-left : goal.check-requires-clause-left
-check-requires-clause-left g c =
+pub certify-requires-clause-left : goal.certify-requires-clause-left
+certify-requires-clause-left g c =
     done c.args.self c.as_slice.result.now c.as_slice-2.result.now c.as_slice.ensures.value c.as_slice-2.ensures.value (c.is_idle.ensures.idle c.if-not-is_idle.false) c.in-Ok.ensures.placed
 
-pub check-requires-clause-moved : goal.check-requires-clause-moved
-check-requires-clause-moved g c =
+pub certify-requires-clause-moved : goal.certify-requires-clause-moved
+certify-requires-clause-moved g c =
     c.as_slice-3.ensures.value
     ∙ (c.in-Ok.ensures.moved ∙ moves c.args.self c.as_slice.result.now c.as_slice-2.result.now c.as_slice.ensures.value c.as_slice-2.ensures.value c.in-Ok.ensures.placed)
 
@@ -77,17 +77,17 @@ pub begin-requires-clause-sound : goal.begin-requires-clause-sound
 begin-requires-clause-sound g c =
     let a = c.args.self.copier in
     let moved = c.in-Ok.ensures.moved ∙ moves c.args.self c.as_slice.result.now c.as_slice-2.result.now c.as_slice.ensures.value c.as_slice-2.ensures.value c.in-Ok.ensures.placed in
-    subst (λ (z : SpaceWords × List ℕ). IsHeap (one_heap z.0 z.1)) (λ i. (sym (c.take_spare.ensures.space ∙ c.check.ensures.space) i, sym moved i)) (c.check.ensures.told.heap a.space (mem a))
+    subst (λ (z : SpaceWords × List ℕ). IsHeap (one_heap z.0 z.1)) (λ i. (sym (c.take_spare.ensures.space ∙ c.certify.ensures.space) i, sym moved i)) (c.certify.ensures.told.heap a.space (mem a))
 
 pub returns-clause-replicas : goal.returns-clause-replicas
 returns-clause-replicas g c =
     let a = c.args.self.copier in
     let moved = c.in-Ok.ensures.moved ∙ moves c.args.self c.as_slice.result.now c.as_slice-2.result.now c.as_slice.ensures.value c.as_slice-2.ensures.value c.in-Ok.ensures.placed in
-    ap graph_in (c.begin.ensures.heap ∙ (λ i. one_heap ((c.take_spare.ensures.space ∙ c.check.ensures.space) i) (moved i))) ∙ c.check.ensures.told.graph a.space (mem a)
+    ap graph_in (c.begin.ensures.heap ∙ (λ i. one_heap ((c.take_spare.ensures.space ∙ c.certify.ensures.space) i) (moved i))) ∙ c.certify.ensures.told.graph a.space (mem a)
 
 pub returns-clause-carried : goal.returns-clause-carried
 returns-clause-carried g c =
-    (c.check.ensures.told).kept
+    (c.certify.ensures.told).kept
 
 pub returns-clause-ready : goal.returns-clause-ready
 returns-clause-ready g c =
@@ -98,7 +98,10 @@ returns-clause-ready g c =
 pub returns-clause-ok : goal.returns-clause-ok
 returns-clause-ok g c =
     let a = c.args.self.copier in
-    let told = c.check.ensures.told in (
+    let told = c.certify.ensures.told in (
       pairs_of (its a.seat.me.0.theirs),
       subst (Corresponding (pairs_of (its a.seat.me.0.theirs)) (graph_in (heap_of a.seat.me.0.mine c.args.self.roots.items))) (sym (returns-clause-replicas g c)) told.corresponding,
     )
+
+pub begin-requires-clause-along : goal.begin-requires-clause-along
+begin-requires-clause-along g c = ?
