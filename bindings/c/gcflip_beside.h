@@ -128,9 +128,9 @@ uint32_t gcflip_beside_resume(gcflip_mutator *mutator);
  * A flip copies the roots alone. It puts the memory of the old heap aside, and leaves a new space of one word. So after a flip the program calls
  * gcflip_beside_prepare, before the collector takes the mutator again. */
 
-/* Makes the memory of the next flip, with a new space of `size` words, at least 1: GCFLIP_DONE. Frees that of the heap before the last flip. After the next
- * flip the heap has `size` words, more than before or fewer. GCFLIP_NOT_YET if an object is copied, or if the collector has asked the mutator to stop or
- * holds it. After GCFLIP_NO_MEMORY the collection is unchanged. The time grows with `size`. */
+/* Begins the collection anew, in a new space of `size` words, at least 1, with the memory that its flip takes: GCFLIP_DONE. What was copied is forgotten. Frees the
+ * memory of the heap before the last flip. After the next flip the heap has `size` words, more than before or fewer. GCFLIP_NOT_YET if the collector has
+ * asked the mutator to stop or holds it. After GCFLIP_NO_MEMORY the collection goes on as it stands. The time grows with the sizes of both spaces. */
 uint32_t gcflip_beside_prepare(gcflip_collector *collector, uint32_t size);
 
 /* Performs `most` steps, at least 1: GCFLIP_DONE, or GCFLIP_CLEAN once nothing is left to do. GCFLIP_NO_ROOM if the new space is smaller than the heap, and

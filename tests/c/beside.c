@@ -649,12 +649,33 @@ static void sizes(void)
     EXPECT(gcflip_beside_go(&collector) == GCFLIP_DONE);
     EXPECT(gcflip_beside_prepare(&collector, WORDS) == GCFLIP_DONE);
     EXPECT(gcflip_beside_resume(&mutator) == GCFLIP_DONE);
-    begin_to_copy();
-    EXPECT(gcflip_beside_prepare(&collector, WORDS) == GCFLIP_NOT_YET);
     EXPECT(gcflip_beside_ask(&collector) == GCFLIP_DONE);
     EXPECT(gcflip_beside_prepare(&collector, WORDS) == GCFLIP_NOT_YET);
     EXPECT(gcflip_beside_go(&collector) == GCFLIP_DONE);
     collect();
+    expect_one();
+    close_both();
+}
+
+/* A collection that has copied an object, and has a field to bring up to date, begins anew. It copies the object again, and has the field. */
+static void begins_anew(void)
+{
+    open_both(WORDS);
+    make_one();
+    begin_to_copy();
+    EXPECT(gcflip_beside_set_number(&mutator, 1, 8) == GCFLIP_DONE);
+    EXPECT(gcflip_beside_put(&mutator, 0, 0, 1) == GCFLIP_DONE);
+    take();
+    EXPECT(gcflip_beside_go(&collector) == GCFLIP_DONE);
+    EXPECT(gcflip_beside_resume(&mutator) == GCFLIP_DONE);
+    EXPECT(gcflip_beside_prepare(&collector, 2 * WORDS) == GCFLIP_DONE);
+    EXPECT(gcflip_beside_work(&collector, 1) == GCFLIP_CLEAN);
+    take();
+    EXPECT(gcflip_beside_flip(&collector) == GCFLIP_NOT_READY);
+    EXPECT(gcflip_beside_finish(&collector) == GCFLIP_FLIPPED);
+    go_on();
+    EXPECT(gcflip_beside_room(&mutator) == 2 * WORDS - 1 - 4);
+    EXPECT(gcflip_beside_get(&mutator, 2, 0, 0, &number) == GCFLIP_NUMBER && number == 8);
     expect_one();
     close_both();
 }
@@ -678,6 +699,7 @@ int main(void)
     refused_prepare();
     memory_of_flips();
     sizes();
+    begins_anew();
     closed_handles();
     EXPECT(blocks_in_use() == 0 && bytes_in_use() == 0);
     return 0;

@@ -135,7 +135,7 @@ fn prepared<R: Wait>(
 {
     let mut collector = collector;
     for _ in rt.forever() {
-        if collector.has_copied() || stop.load(Ordering::SeqCst) != 0 {
+        if stop.load(Ordering::SeqCst) != 0 {
             return Some(collector);
         }
         if collector.prepare(alloc, size).is_ok() {

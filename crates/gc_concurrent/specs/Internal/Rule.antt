@@ -237,9 +237,12 @@ root_wanted a v = record v { mine = record v.mine { logs = true }; theirs = want
 abbrev pub tells_root : OneStep → Sat → ℕ → Sat → Type 0
 tells_root st me found me' = (me' ≡ (root_wanted st.word me.0, me.1)) × KnowsBelonging me'
 
--- The new space, in which nothing is copied, gets this size.
-abbrev pub tells_size : OneStep → Sat → ℕ → Sat → Type 0
-tells_size st me found me' = (me' ≡ (record me.0 { theirs = record me.0.theirs { size = st.first } }, me.1)) × KnowsBelonging me'
+-- the same collection before its first step, in a new space of this size
+abbrev pub begun_anew : ℕ → Theirs → Theirs
+begun_anew size t = opening_theirs t.base t.old size
+
+abbrev pub tells_renew : OneStep → Sat → ℕ → Sat → Type 0
+tells_renew st me found me' = (me' ≡ (record me.0 { theirs = begun_anew st.first me.0.theirs }, me.1)) × KnowsBelonging me'
 
 -- A collection of the space with these roots begins. Its new space has one word.
 abbrev pub tells_begin : OneStep → Sat → ℕ → Sat → Type 0
