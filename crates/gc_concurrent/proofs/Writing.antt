@@ -12,7 +12,7 @@ use Rattle.gc_words.specs.Word.{IsHeader, read_header, field_value, header_word}
 use Rattle.gc_words.proofs.Public.{read_back, field_written, link_written, graph_link, closed_objects, some_of, stands_in, graph_field, graph_placed, closed_field, closed_placed, placed, object_found, field_read, fields_counted, laid_out_words, objects_apart}
 use Rattle.gc_words.specs.Layout.{field_place, link_place}
 use Rattle.gc_words.specs.Image.{Block, blocks, block_at, field_at, is_start, objects_of, object_of_block}
-use Rattle.gc_words.specs.Space.{SpaceWords, IsSpace, CanPlace, end_of, with_field_at, with_link}
+use Rattle.gc_words.specs.Space.{SpaceWords, IsSpace, CanPlace, end_of, with_field_at}
 use Rattle.gc_words.specs.Closed.{IsFieldWord}
 use Rattle.gc_words.specs.declared.header.Header.{Header}
 use Rattle.std.proofs.lemmas.List.{length-replicate}

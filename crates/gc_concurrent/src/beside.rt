@@ -32,13 +32,7 @@ fn mutate_and_stop<R: Wait>(
     }
 }
 
-fn collect<R: Wait>(
-    rt: &R,
-    alloc: Global,
-    collector: Collector,
-    size: u32,
-    stop: &AtomicU64,
-) -> u64
+fn collect<R: Wait>(rt: &R, alloc: Global, collector: Collector, size: u32, stop: &AtomicU64) -> u64
     requires { 1 ≤ size }
 {
     let mut collector = collector;

@@ -81,11 +81,7 @@ fn prepared(alloc: Global, end: &mut End, size: u32) -> u32
 /// 0, or 13 if the collector has asked its mutator to stop or holds it. Returns 3 if the handle has no collector, and 2 if `size` is 0. Returns 1 if an
 /// allocation fails: the collection then goes on as it stands.
 #[unsafe(no_mangle)]
-pub extern "C" fn gcflip_beside_prepare(
-    alloc: Global,
-    collector: &mut GcflipEnd,
-    size: u32,
-) -> u32
+pub extern "C" fn gcflip_beside_prepare(alloc: Global, collector: &mut GcflipEnd, size: u32) -> u32
     ensures { IsBesidePrepare size (standing collector.old.end) (standing collector.new.end) result }
 {
     let end = lent!(collector);

@@ -12,7 +12,7 @@ use Rattle.gc_graph.specs.Machine.{object_words}
 use Rattle.gc_words.specs.Word.{IsHeader, read_header, value_of, is_value, header_word}
 use Rattle.gc_words.specs.Layout.{field_place, link_place, next_place}
 use Rattle.gc_words.specs.Image.{objects_of, field_at, is_start}
-use Rattle.gc_words.specs.Space.{IsSpace, empty_space, end_of, with_object, with_field_at, with_link}
+use Rattle.gc_words.specs.Space.{IsSpace, end_of, with_object, with_field_at, with_link}
 use Rattle.gc_words.specs.Closed.{IsClosed}
 use Rattle.gc_words.specs.declared.header.Header.{Header}
 use Rattle.gc_plan.specs.State.{Replica, Collection, replica_of, moved, new_end, new_free}
