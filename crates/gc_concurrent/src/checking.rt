@@ -89,8 +89,8 @@ impl Held {
         let end = self.end;
         let words = self.copier.old_words(alloc, end)?;
         let placed = self.copier.new_words(alloc)?;
-        // Each object takes two words or more.
         let new_end = self.copier.space.end();
+        // Each object takes two words or more.
         let pairs = linked_pairs(alloc, placed.as_slice(), new_end / 2)?;
         let old = ImageRef {
             size: self.copier.size,
