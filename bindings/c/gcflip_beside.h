@@ -128,13 +128,14 @@ uint32_t gcflip_beside_resume(gcflip_mutator *mutator);
  * A flip copies the roots alone. It puts the memory of the old heap aside, and leaves a new space of one word. So after a flip the program calls
  * gcflip_beside_prepare, before the collector takes the mutator again. */
 
-/* Makes the memory of the next flip, with a new space of `size` words, at least 1: GCFLIP_DONE. Frees that of the heap before the last flip. After the next
- * flip the heap has `size` words, more than before or fewer. GCFLIP_NOT_YET if an object is copied, or if the collector has asked the mutator to stop or
- * holds it. After GCFLIP_NO_MEMORY the collection is unchanged. The time grows with `size`. */
+/* Begins the collection anew, in a new space of `size` words, at least 1, with the memory that its flip takes: GCFLIP_DONE. What was copied is
+ * forgotten. Frees the memory of the heap before the last flip. After the next flip the heap has `size` words, more than before or fewer. GCFLIP_NOT_YET
+ * if the collector has asked the mutator to stop or holds it. After GCFLIP_NO_MEMORY the collection goes on as it stands. The time grows with the sizes
+ * of both spaces. */
 uint32_t gcflip_beside_prepare(gcflip_collector *collector, uint32_t size);
 
-/* Performs `most` steps, at least 1: GCFLIP_DONE, or GCFLIP_CLEAN once nothing is left to do. GCFLIP_NO_ROOM if the new space is smaller than the heap, and
- * has no room for a copy. */
+/* Performs `most` steps, at least 1: GCFLIP_DONE, or GCFLIP_CLEAN once nothing is left to do. GCFLIP_NO_ROOM if the new space is smaller than the heap,
+ * and has no room for a copy. */
 uint32_t gcflip_beside_work(gcflip_collector *collector, uint32_t most);
 
 /* Asks the mutator to stop at its next safepoint: GCFLIP_DONE, also if it is asked or held already. GCFLIP_NOT_YET if it has not gone on since it was
@@ -149,9 +150,9 @@ uint32_t gcflip_beside_take(gcflip_collector *collector);
 uint32_t gcflip_beside_go(gcflip_collector *collector);
 
 /* Copies the objects of all roots, those that have no replica yet, while the mutator waits: GCFLIP_DONE. Their fields are left to steps, also beside the
- * mutator, but those of raw objects are copied too. GCFLIP_NO_ROOM if the new space is smaller than the heap, and has no room for one. GCFLIP_NOT_YET if the
- * collector does not hold the mutator. The call does not allocate. Its time grows with the number of roots, and with the fields of raw objects to which
- * they refer. */
+ * mutator, but those of raw objects are copied too. GCFLIP_NO_ROOM if the new space is smaller than the heap, and has no room for one. GCFLIP_NOT_YET if
+ * the collector does not hold the mutator. The call does not allocate. Its time grows with the number of roots, and with the fields of raw objects to
+ * which they refer. */
 uint32_t gcflip_beside_place_roots(gcflip_collector *collector);
 
 /* Flips if the collection is ready: GCFLIP_FLIPPED. The mutator may then go on in the new space. GCFLIP_NOT_READY if steps are left, or if a root's
@@ -159,9 +160,9 @@ uint32_t gcflip_beside_place_roots(gcflip_collector *collector);
  * waits. After GCFLIP_NOT_READY and GCFLIP_NO_MEMORY nothing has changed. */
 uint32_t gcflip_beside_flip(gcflip_collector *collector);
 
-/* Copies the objects of roots, performs all steps that are left, and flips, while the mutator waits: GCFLIP_FLIPPED. GCFLIP_NOT_READY if the new space is
- * smaller than the heap, and has no room for a copy. GCFLIP_NOT_YET if the collector does not hold the mutator. After GCFLIP_NO_MEMORY some steps may have been performed. The collector still holds the mutator, whose heap is
- * unchanged. */
+/* Copies the objects of roots, performs all steps that are left, and flips, while the mutator waits: GCFLIP_FLIPPED. GCFLIP_NOT_READY if the new space
+ * is smaller than the heap, and has no room for a copy. GCFLIP_NOT_YET if the collector does not hold the mutator. After GCFLIP_NO_MEMORY some steps may
+ * have been performed. The collector still holds the mutator, whose heap is unchanged. */
 uint32_t gcflip_beside_finish(gcflip_collector *collector);
 
 #ifdef __cplusplus

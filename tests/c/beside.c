@@ -588,13 +588,8 @@ static void refused_prepare(void)
             break;
         }
         EXPECT(answer == GCFLIP_NO_MEMORY && has_failed());
-        fail_allocation(0);
+        EXPECT(gcflip_beside_work(&collector, 1) == GCFLIP_CLEAN);
         expect_one();
-        /* the new space still has one word, so that the object has no room */
-        take();
-        EXPECT(gcflip_beside_place_roots(&collector) == GCFLIP_NO_ROOM);
-        EXPECT(gcflip_beside_go(&collector) == GCFLIP_DONE);
-        EXPECT(gcflip_beside_resume(&mutator) == GCFLIP_DONE);
     }
     fail_allocation(0);
     take();
@@ -602,6 +597,33 @@ static void refused_prepare(void)
     EXPECT(gcflip_beside_resume(&mutator) == GCFLIP_DONE);
     EXPECT(gcflip_beside_room(&mutator) == 2 * WORDS - 1 - 4);
     expect_one();
+    close_both();
+}
+
+/* A flip puts the memory of the old heap aside, and the prepare behind it frees that. So after each prepare the heap has as many bytes as before. */
+static void memory_of_flips(void)
+{
+    size_t first = 0;
+
+    open_both(1 << 16);
+    make_one();
+    for (int flip = 0; flip < 10; flip++) {
+        size_t before, after;
+
+        take();
+        EXPECT(gcflip_beside_place_roots(&collector) == GCFLIP_DONE && gcflip_beside_work(&collector, MANY) == GCFLIP_CLEAN);
+        before = bytes_in_use();
+        EXPECT(gcflip_beside_flip(&collector) == GCFLIP_FLIPPED);
+        /* the moved roots may take other bytes than the old ones */
+        after = bytes_in_use();
+        EXPECT(after + 1024 > before && before + 1024 > after);
+        go_on();
+        if (flip == 0)
+            first = bytes_in_use();
+        EXPECT(flip == 0 || bytes_in_use() == first);
+    }
+    /* two spaces of cells and claims for both, and less than 8 KiB of other blocks */
+    EXPECT(first < 2 * (8 + 4) * (1 << 16) + 8192);
     close_both();
 }
 
@@ -627,12 +649,33 @@ static void sizes(void)
     EXPECT(gcflip_beside_go(&collector) == GCFLIP_DONE);
     EXPECT(gcflip_beside_prepare(&collector, WORDS) == GCFLIP_DONE);
     EXPECT(gcflip_beside_resume(&mutator) == GCFLIP_DONE);
-    begin_to_copy();
-    EXPECT(gcflip_beside_prepare(&collector, WORDS) == GCFLIP_NOT_YET);
     EXPECT(gcflip_beside_ask(&collector) == GCFLIP_DONE);
     EXPECT(gcflip_beside_prepare(&collector, WORDS) == GCFLIP_NOT_YET);
     EXPECT(gcflip_beside_go(&collector) == GCFLIP_DONE);
     collect();
+    expect_one();
+    close_both();
+}
+
+/* A collection that has copied an object, and has a field to bring up to date, begins anew. It copies the object again, and has the field. */
+static void begins_anew(void)
+{
+    open_both(WORDS);
+    make_one();
+    begin_to_copy();
+    EXPECT(gcflip_beside_set_number(&mutator, 1, 8) == GCFLIP_DONE);
+    EXPECT(gcflip_beside_put(&mutator, 0, 0, 1) == GCFLIP_DONE);
+    take();
+    EXPECT(gcflip_beside_go(&collector) == GCFLIP_DONE);
+    EXPECT(gcflip_beside_resume(&mutator) == GCFLIP_DONE);
+    EXPECT(gcflip_beside_prepare(&collector, 2 * WORDS) == GCFLIP_DONE);
+    EXPECT(gcflip_beside_work(&collector, 1) == GCFLIP_CLEAN);
+    take();
+    EXPECT(gcflip_beside_flip(&collector) == GCFLIP_NOT_READY);
+    EXPECT(gcflip_beside_finish(&collector) == GCFLIP_FLIPPED);
+    go_on();
+    EXPECT(gcflip_beside_room(&mutator) == 2 * WORDS - 1 - 4);
+    EXPECT(gcflip_beside_get(&mutator, 2, 0, 0, &number) == GCFLIP_NUMBER && number == 8);
     expect_one();
     close_both();
 }
@@ -654,7 +697,9 @@ int main(void)
     refused_flip(gcflip_beside_flip);
     refused_flip(gcflip_beside_finish);
     refused_prepare();
+    memory_of_flips();
     sizes();
+    begins_anew();
     closed_handles();
     EXPECT(blocks_in_use() == 0 && bytes_in_use() == 0);
     return 0;

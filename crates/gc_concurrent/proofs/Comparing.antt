@@ -25,8 +25,8 @@ use Rattle.gc_concurrent.proofs.Seeing.{some_header, whole_seen}
 use Rattle.gc_concurrent.proofs.Following.{through, catches_up_follows}
 use Rattle.gc_along.specs.Telling.{Tells}
 use Rattle.gc_along.specs.Watch.{IsSeen}
-use Rattle.gc_along.specs.Events.{flipped_tables, opening_tables}
-use Rattle.gc_along.proofs.Public.{flipped_tells, opening_tells}
+use Rattle.gc_along.specs.Events.{Freed, flipped_tables, opening_tables}
+use Rattle.gc_along.proofs.Public.{dropped_tells, flipped_tells, opening_tells}
 use Rattle.gc_concurrent.proofs.Memory.{end_is}
 use Rattle.gc_concurrent.proofs.InHand.{mem}
 
@@ -126,6 +126,12 @@ flipped_follows t after seen space is lost flipped f = through t after seen spac
     let x = follows (⊎_elim (λ (e : t.lost ≡ true). absurd (let wrong : true ≡ false = sym (lost e) ∙ ok in cc)) (λ (e : t.lost ≡ false). e) (cases_Bool t.lost)) in
     subst (λ z. Tells space.words (0 ∷ []) z × IsSeen (length space.words) space.words × (length z.news ≡ 1)) (sym (flipped ok)) (flipped_tells seen space.words t x.0, whole_seen space is, refl)) f
 
+-- the collection begins anew
+pub dropped_follows : (t after : Tables) (seen new : List ℕ) → (t.lost ≡ true → after.lost ≡ true) → (after.lost ≡ false → Freed t after) → ∥ Follows t seen new ∥₁ → ∥ Follows after seen (0 ∷ []) ∥₁
+dropped_follows t after seen new lost freed f = through t after seen seen new (0 ∷ []) (λ follows ok.
+    let x = follows (⊎_elim (λ (e : t.lost ≡ true). absurd (let wrong : true ≡ false = sym (lost e) ∙ ok in cc)) (λ (e : t.lost ≡ false). e) (cases_Bool t.lost)) in
+    (dropped_tells seen new t after x.0 (freed ok), x.1, ap (λ (t : Tables). length t.news) (freed ok).rest)) f
+
 -- the first collection begins
 pub opening_follows : (space : SpaceWords) (room : ℕ) (t : Tables) → IsSpace space → t ≡ opening_tables room → ∥ Follows t space.words (0 ∷ []) ∥₁
 opening_follows space room t is opening = subst (λ z. ∥ Follows z space.words (0 ∷ []) ∥₁) (sym opening) ∣ (λ _. (opening_tells space.words room is.end_low is.reserved, whole_seen space is, refl)) ∣₁
@@ -143,14 +149,3 @@ roomy_follows t room seen new follows fine =
       f.1,
       f.2,
     )
-
-one_word : (ws : List ℕ) → length ws ≡ 1 → slice_index ws 0 ≡ 0 → ws ≡ 0 ∷ []
-one_word [] one zero = absurd (omega arith)
-one_word (w ∷ []) one zero = ap (λ x. x ∷ []) zero
-one_word (w ∷ v ∷ ws) one zero = absurd (omega arith)
-
--- a new space without replicas
-pub empty_words : (a : Copier) → a.seat.me.0.theirs.replicas ≡ [] → a.space.words ≡ 0 ∷ []
-empty_words a none =
-    let e : new_end (its a.seat.me.0.theirs) ≡ 1 = ap (λ rs. objects_end 1 (map placed rs)) none in
-    one_word a.space.words (sym (end_is a.seat.me.0.theirs a.space (mem a)) ∙ e) a.shaped.reserved

@@ -1,5 +1,5 @@
 -- The rule holds at first, where the one seat is cut in two, and where two seats become one.
-use Rattle.std.proofs.Common.{◌≡◌, ◌≢◌, ◌⊎◌, ℕ, zero, suc, eqb, ◌-◌, ◌<◌, ◌≤◌, true, true≢false, List, [], ◌∷◌, ◌++◌, length, map, get_or, set, refl, ap, sym, ◌∙◌, subst, inl, inr, ⊎_elim, arith, length-append}
+use Rattle.std.proofs.Common.{◌≡◌, ◌≢◌, ◌⊎◌, ℕ, zero, suc, eqb, ◌<◌, ◌≤◌, true, true≢false, List, [], ◌∷◌, ◌++◌, length, get_or, set, refl, ap, sym, ◌∙◌, subst, inl, inr, ⊎_elim, arith}
 use Rattle.std.proofs.lemmas.Grind.{common_steps}
 use Rattle.std.proofs.lemmas.Bool.{eqb-true, cases_Bool}
 use prog.Atomic.{either}
@@ -11,18 +11,16 @@ use Rattle.atomic_table.proofs.Lists.{at_set, set_else}
 use Rattle.gc_words.specs.Space.{IsSpace, empty_space}
 use Rattle.gc_words.proofs.Public.{closed_empty, space_of}
 use Rattle.gc_words.specs.Image.{objects_of}
-use Rattle.gc_plan.specs.State.{Replica, new_end, objects_end}
-use Rattle.gc_plan.specs.Members.{In}
-use Rattle.gc_plan.specs.Belonging.{IsOpened}
-use Rattle.gc_plan.proofs.Public.{begun_belongs, placed}
+use Rattle.gc_plan.specs.Belonging.{HasField, IsLogged, IsOpened}
+use Rattle.gc_plan.proofs.Public.{begun_belongs}
 use Rattle.gc_copy.proofs.Public.{words_numbers}
 use Rattle.gc_heap.specs.Heap.{HeapWords, IsHeap}
-use Rattle.gc_concurrent.proofs.Keeping.{begins_kept, kept_still}
-use Rattle.gc_concurrent.specs.Ends.{Known, Mine, Theirs, its, one_heap, opening_mine, opening_theirs, opening_view}
+use Rattle.gc_concurrent.proofs.Keeping.{begins_kept}
+use Rattle.gc_concurrent.specs.Ends.{Known, Mine, Theirs, one_heap, opening_mine, opening_theirs, opening_view}
 use Rattle.gc_concurrent.specs.Unreachable.{MayBeCopied}
 use Rattle.gc_concurrent.specs.Internal.Plans.{collection_of, plan}
 use Rattle.gc_concurrent.specs.Internal.Carrying.{FieldsLeadTo, KeepsUnreachableOut}
-use Rattle.gc_concurrent.specs.Internal.Rule.{RootWords, Sat, Seated, IsAtRest, IsConcurrent, only_writes, only_copies, both_ends, spent_view, tells_begin, tells_size}
+use Rattle.gc_concurrent.specs.Internal.Rule.{RootWords, Sat, Seated, IsAtRest, IsConcurrent, only_writes, only_copies, both_ends, spent_view, begun_anew, tells_begin, tells_renew}
 use Rattle.gc_concurrent.proofs.Hands.{St, seat_set}
 use Rattle.gc_concurrent.proofs.Shown.{shown_anew, shown_set}
 use Rattle.gc_concurrent.proofs.Told.{caught_up}
@@ -216,46 +214,53 @@ begins_rule slots size id me roots writes copies sound s r _ here _ =
     let whole = loosely size s 0 id me (BeginsAs roots me) here began in
     (whole.0, whole.1, whole.2, subst (λ (n : ℕ). IsConcurrent size (stepped s 0 n id me.1 whole.0 whole.1)) (sym (same_word 0 (get_or s.words 0 0))) whole.3, whole.4)
 
--- ---- the new space gets another size
+-- ---- a collection begins anew
 
-sized_opened : (m : Mine) (t : Theirs) (n : ℕ) → t.replicas ≡ [] → 1 ≤ n → n ≤ 4294967295 → IsOpened (plan m t) (collection_of m t) → IsOpened (plan m t) (collection_of m (record t { size = n }))
-sized_opened m t n empty low high h =
-    let k = h.belongs in record {
+anew_opened : (m : Mine) (t : Theirs) (n : ℕ) → 1 ≤ n → n ≤ 4294967295 → IsOpened (plan m t) (collection_of m t) → IsOpened (plan m t) (collection_of m (begun_anew n t))
+anew_opened m t n low high h =
+    let fresh = begun_belongs (objects_of m.space.words) 2 n (words_numbers m.space.words) low in record {
       belongs = record {
-        laid = k.laid;
-        room = (let e : new_end (its t) ≡ 1 = ap (λ (rs : List Replica). objects_end 1 (map placed rs)) empty in omega arith);
-        once = k.once;
-        replicas = λ r l. absurd (subst (In r) empty l);
-        scan = k.scan;
-        entries = k.entries;
-        numbers = k.numbers;
+        laid = fresh.laid;
+        room = fresh.room;
+        once = fresh.once;
+        replicas = λ r l. absurd l;
+        scan = fresh.scan;
+        entries = logged;
+        numbers = fresh.numbers;
       };
       size = high;
-      logs = h.logs;
+      logs = refl;
     }
+  where
+    logged : (a i : ℕ) → IsLogged (collection_of m (begun_anew n t)) a i → HasField (objects_of m.space.words) a i
+    logged a i (zero, k) = (h.belongs).entries a i (0, k)
+    logged a i (suc zero, k) = absurd k
+    logged a i (suc (suc j), k) = absurd k
 
-abbrev SizedAs : ℕ → Sat → ℕ → Sat → Type 0
-SizedAs n me found me' = me' ≡ (record me.0 { theirs = record me.0.theirs { size = n } }, me.1)
+anew_carries : (m : Mine) (t : Theirs) (n : ℕ) → KeepsUnreachableOut m t → KeepsUnreachableOut m (begun_anew n t)
+anew_carries m t n k = record { begun = k.begun; behind = k.behind; fields = k.fields; copied = λ r l. absurd l; wanted = λ a l. absurd l }
 
-sizes_rule : (slots size id : ℕ) (me : Sat) (n : ℕ) → me.0.copies ≡ true → me.0.theirs.replicas ≡ [] → 1 ≤ n → n ≤ 4294967295
-    → Allows (IsConcurrent size) slots id me 0 (λ found. either (eqb found n) n found) (tells_size (step slots 0 n n none) me)
-sizes_rule slots size id me n copies still low high s r _ here _ =
+abbrev RenewsAs : ℕ → Sat → ℕ → Sat → Type 0
+RenewsAs n me found me' = me' ≡ (record me.0 { theirs = begun_anew n me.0.theirs }, me.1)
+
+renews_rule : (slots size id : ℕ) (me : Sat) (n : ℕ) → me.0.copies ≡ true → 1 ≤ n → n ≤ 4294967295
+    → Allows (IsConcurrent size) slots id me 0 (λ found. either (eqb found n) n found) (tells_renew (step slots 0 n n none) me)
+renews_rule slots size id me n copies low high s r _ here _ =
     let to : me.0.theirs ≡ r.theirs = ((r.seats id me.0 here).1 copies).1 in
-    let t' : Theirs = record r.theirs { size = n } in
-    let empty : r.theirs.replicas ≡ [] = sym (ap (λ (t : Theirs). t.replicas) to) ∙ still in
-    let done : Leaves size s 0 id me (SizedAs n me) = (
+    let t' : Theirs = begun_anew n r.theirs in
+    let done : Leaves size s 0 id me (RenewsAs n me) = (
       record me.0 { theirs = t' },
       keeps,
       tt,
-      theirs_keep size s r 0 id me.0 me.1 t' here copies refl r.wanted (sized_opened r.mine r.theirs n empty low high r.opened) (kept_still r.mine r.theirs r.carries t' refl refl refl) r.fits
-          (λ e. let k = r.rests e in record { logged = k.logged; copied = k.copied; due = k.due; wanted = k.wanted }),
-      λ k. (record me.0 { theirs = record (sym to k) { size = n } }, me.1),
+      theirs_keep size s r 0 id me.0 me.1 t' here copies refl (λ a l. absurd l) (anew_opened r.mine r.theirs n low high r.opened) (anew_carries r.mine r.theirs n r.carries) (r.space).end_low
+          (λ e. record { logged = (r.rests e).logged; copied = refl; due = refl; wanted = refl }),
+      λ k. (record me.0 { theirs = begun_anew n (sym to k) }, me.1),
     ) in
-    let whole = loosely size s 0 id me (SizedAs n me) here done in
+    let whole = loosely size s 0 id me (RenewsAs n me) here done in
     (whole.0, whole.1, whole.2, subst (λ (x : ℕ). IsConcurrent size (stepped s 0 x id me.1 whole.0 whole.1)) (sym (same_word n (get_or s.words 0 0))) whole.3, whole.4)
 
 -- the same for callers, who have the size by equations
-pub sizes_at : (slots size id : ℕ) (me : Sat) (n x y : ℕ) → x ≡ n → y ≡ n → me.0.copies ≡ true → me.0.theirs.replicas ≡ [] → 1 ≤ n → n ≤ 4294967295
-    → Allows (IsConcurrent size) slots id me 0 (λ found. either (eqb found x) y found) (tells_size (step slots 0 x y none) me)
-sizes_at slots size id me n x y first second copies still low high =
-    subst (λ (z : ℕ × ℕ). Allows (IsConcurrent size) slots id me 0 (λ found. either (eqb found z.0) z.1 found) (tells_size (step slots 0 z.0 z.1 none) me)) (λ i. (sym first i, sym second i)) (sizes_rule slots size id me n copies still low high)
+pub renews_at : (slots size id : ℕ) (me : Sat) (n x y : ℕ) → x ≡ n → y ≡ n → me.0.copies ≡ true → 1 ≤ n → n ≤ 4294967295
+    → Allows (IsConcurrent size) slots id me 0 (λ found. either (eqb found x) y found) (tells_renew (step slots 0 x y none) me)
+renews_at slots size id me n x y first second copies low high =
+    subst (λ (z : ℕ × ℕ). Allows (IsConcurrent size) slots id me 0 (λ found. either (eqb found z.0) z.1 found) (tells_renew (step slots 0 z.0 z.1 none) me)) (λ i. (sym first i, sym second i)) (renews_rule slots size id me n copies low high)

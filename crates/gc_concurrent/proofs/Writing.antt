@@ -12,7 +12,7 @@ use Rattle.gc_words.specs.Word.{IsHeader, read_header, field_value, header_word}
 use Rattle.gc_words.proofs.Public.{read_back, field_written, link_written, graph_link, closed_objects, some_of, stands_in, graph_field, graph_placed, closed_field, closed_placed, placed, object_found, field_read, fields_counted, laid_out_words, objects_apart}
 use Rattle.gc_words.specs.Layout.{field_place, link_place}
 use Rattle.gc_words.specs.Image.{Block, blocks, block_at, field_at, is_start, objects_of, object_of_block}
-use Rattle.gc_words.specs.Space.{SpaceWords, IsSpace, CanPlace, end_of, with_field_at, with_link}
+use Rattle.gc_words.specs.Space.{SpaceWords, IsSpace, CanPlace, end_of, with_field_at}
 use Rattle.gc_words.specs.Closed.{IsFieldWord}
 use Rattle.gc_words.specs.declared.header.Header.{Header}
 use Rattle.std.proofs.lemmas.List.{length-replicate}
@@ -244,7 +244,7 @@ zero_at (suc n) zero = refl
 zero_at (suc n) (suc i) = zero_at n i
 
 -- a word before, at and behind the end
-pub at_left : (xs ys : List ℕ) (k : ℕ) → k < length xs → get_or (xs ++ ys) k 0 ≡ get_or xs k 0
+at_left : (xs ys : List ℕ) (k : ℕ) → k < length xs → get_or (xs ++ ys) k 0 ≡ get_or xs k 0
 at_left [] ys k h = absurd (omega arith)
 at_left (x ∷ xs) ys zero h = refl
 at_left (x ∷ xs) ys (suc k) h = at_left xs ys k (omega arith)
@@ -262,7 +262,7 @@ zeros_behind [] y n (suc (suc k)) h = zero_at n k
 zeros_behind (x ∷ xs) y n zero h = absurd (omega arith)
 zeros_behind (x ∷ xs) y n (suc k) h = zeros_behind xs y n k (omega arith)
 
-pub longer : (xs : List ℕ) (y n : ℕ) → length (xs ++ y ∷ 0 ∷ replicate n 0) ≡ length xs + (n + 2)
+longer : (xs : List ℕ) (y n : ℕ) → length (xs ++ y ∷ 0 ∷ replicate n 0) ≡ length xs + (n + 2)
 longer xs y n = let e : length (zeros n) ≡ n = length-replicate n 0 in omega (arith, length-append xs (y ∷ 0 ∷ zeros n), e)
 
 new_keeps : (size : ℕ) (s : St) (r : IsConcurrent size s) (id : ℕ) (v : Known) (c : List (ℕ × RootWords)) (h : Header) → get_elem? s.views id ≡ some v → v.writes ≡ true

@@ -32,13 +32,7 @@ fn mutate_and_stop<R: Wait>(
     }
 }
 
-fn collect<R: Wait>(
-    rt: &R,
-    alloc: Global,
-    collector: Collector,
-    size: u32,
-    stop: &AtomicU64,
-) -> u64
+fn collect<R: Wait>(rt: &R, alloc: Global, collector: Collector, size: u32, stop: &AtomicU64) -> u64
     requires { 1 ≤ size }
 {
     let mut collector = collector;
@@ -135,7 +129,7 @@ fn prepared<R: Wait>(
 {
     let mut collector = collector;
     for _ in rt.forever() {
-        if collector.has_copied() || stop.load(Ordering::SeqCst) != 0 {
+        if stop.load(Ordering::SeqCst) != 0 {
             return Some(collector);
         }
         if collector.prepare(alloc, size).is_ok() {

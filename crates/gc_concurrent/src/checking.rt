@@ -17,7 +17,12 @@ use gc_words::{ImageRef, no_fault_where_certified};
 use std::alloc::Global;
 
 /// Loads the words of a space up to its end, one by one. Allocates once.
-pub(crate) fn loaded(alloc: Global, cells: &Cells, seat: &mut CellsEnd, end: u32) -> Result<Vec<u64>, NoMemory>
+pub(crate) fn loaded(
+    alloc: Global,
+    cells: &Cells,
+    seat: &mut CellsEnd,
+    end: u32,
+) -> Result<Vec<u64>, NoMemory>
     requires cells { seat.old.table_id ≡ cells.now.shared.table_id }
     requires wide { end ≤ cells.now.shared.table_id.words }
     requires writes { seat.old.me.0.writes ≡ true }
@@ -148,8 +153,8 @@ impl Held {
         let end = self.end;
         let words = self.copier.old_words(alloc, end)?;
         let placed = self.copier.new_words(alloc)?;
-        // Each object takes two words or more.
         let new_end = self.copier.space.end();
+        // Each object takes two words or more.
         let pairs = linked_pairs(alloc, placed.as_slice(), new_end / 2)?;
         let old = ImageRef {
             size: self.copier.size,

@@ -1,5 +1,5 @@
 //! The collector's thread: it makes replicas in the space of the next heap.
-ghost use Rattle.std.specs.Prelude.{◌≡◌, ◌≢◌, ℕ, ◌+◌, ◌-◌, ◌*◌, ◌^◌, ◌<◌, ◌≤◌, true, false, List, [], ◌∷◌, ◌++◌, drop, length, slice_index, IfOk, IfErr, IfSome, IfNone, IsTrue, IsFalse, ◌⊎◌, ◌&&◌, if◌then◌else◌, OnErr, OnOk, MatchBool};
+ghost use Rattle.std.specs.Prelude.{◌≡◌, ◌≢◌, ℕ, ◌+◌, ◌-◌, ◌*◌, ◌^◌, ◌<◌, ◌≤◌, true, false, List, [], ◌∷◌, ◌++◌, drop, length, slice_index, IfOk, IfErr, IfSome, IfNone, IsTrue, IsFalse, ◌⊎◌, ◌&&◌, if◌then◌else◌, OnErr, OnOk};
 ghost use Rattle.std.specs.Arc.{arc_value};
 ghost use Rattle.gc_graph.specs.Graph.{Ref};
 ghost use Rattle.gc_words.specs.Word.{is_value, value_of};
@@ -14,7 +14,7 @@ ghost use Rattle.gc_concurrent.specs.Heaps.{heap_of};
 ghost use Rattle.gc_concurrent.specs.Internal.Flip.{HasNothingLeft, Flips};
 ghost use Rattle.gc_concurrent.specs.Ends.{its};
 ghost use Rattle.gc_concurrent.specs.Unreachable.{MayBeCopied};
-ghost use Rattle.gc_concurrent.specs.Internal.Rule.{entries_of_fields, read_as, seeing, wants, Loose};
+ghost use Rattle.gc_concurrent.specs.Internal.Rule.{begun_anew, entries_of_fields, read_as, seeing, wants, Loose};
 ghost use Rattle.gc_concurrent.specs.Internal.Copiers.{Claims, KeepsClaims, KeepsSeat, Nears, StaysOrNears, logging, moved_by};
 ghost use Rattle.gc_concurrent.specs.Internal.Following.{Follows};
 ghost use Rattle.gc_concurrent.specs.Works.{WhereDone, WhereNoRoom};
@@ -23,7 +23,7 @@ ghost use Rattle.gc_concurrent.specs.Internal.Spares.{claims_spared};
 
 use crate::cells::{Cells, CellsEnd};
 use crate::next::NextSpace;
-use crate::plays::{Applied, Flipped, Left, Passed, Placed, Resized, Rooted, Scanned};
+use crate::plays::{Applied, Flipped, Left, Passed, Placed, Renewed, Rooted, Scanned};
 use crate::spare::{Former, Spare};
 use crate::watching::{compare, place, walk};
 use gc_along::Standing;
@@ -420,19 +420,11 @@ impl Copier {
         self.wanted = at.0;
     }
 
-    /// Returns whether an object has a replica.
-    pub(crate) fn has_copied(&self) -> bool
-        ensures { MatchBool result (self.now.seat.me.0.theirs.replicas ≢ []) (self.now.seat.me.0.theirs.replicas ≡ []) }
-    {
-        self.space.end() != 1
-    }
-
-    /// With nothing copied: frees the memory of the heap before the last flip, and makes a new space of `size` words and the memory that the next flip
-    /// takes. Nothing else has changed if an allocation fails.
+    /// Frees the memory of the heap before the last flip, and begins the collection anew: in a new space of `size` words, with the memory that its flip
+    /// takes. The collection goes on as it stands if an allocation fails.
     pub(crate) fn prepare(&mut self, alloc: Global, size: u32) -> Result<(), NoMemory>
         requires low { 1 ≤ size }
-        requires clear { self.old.seat.me.0.theirs.replicas ≡ [] }
-        ensures ok { OnOk result (self.new.seat.me ≡ (record self.old.seat.me.0 { theirs = record self.old.seat.me.0.theirs { size = size } }, self.old.seat.me.1)) }
+        ensures ok { OnOk result (self.new.seat.me ≡ (record self.old.seat.me.0 { theirs = begun_anew size self.old.seat.me.0.theirs }, self.old.seat.me.1)) }
         ensures err { OnErr result (self.new.seat.me ≡ self.old.seat.me) }
         ensures row { (self.new.seat.table_id ≡ self.old.seat.table_id) × (self.new.size ≡ self.old.size) }
     {
@@ -446,7 +438,16 @@ impl Copier {
         let cells = &*self.cells;
         cells
             .shared
-            .compare_exchange::<Resized>(&mut self.seat, 0, u64::from(size), u64::from(size));
+            .compare_exchange::<Renewed>(&mut self.seat, 0, u64::from(size), u64::from(size));
+        self.claims.fill(0);
+        self.due.clear();
+        self.next = 0;
+        self.fill_next = 0;
+        self.fill_left = 0;
+        self.scan_place = 1;
+        self.scan_field = 0;
+        self.has_wanted = false;
+        self.standing.dropped();
         self.space = space;
         self.spare = Some(spare);
         Ok(())

@@ -214,7 +214,7 @@ pub struct Holding {
 }
 
 impl Collector {
-    ghost use Rattle.std.specs.Prelude.{MatchBool, OnErr, OnOk};
+    ghost use Rattle.std.specs.Prelude.{OnErr, OnOk};
     ghost use Rattle.gc_concurrent.specs.Works.{KeepsBeginning, WhereDone, WhereNoRoom};
 
     /// Performs one step, beside the mutator.
@@ -226,20 +226,12 @@ impl Collector {
         self.copier.work()
     }
 
-    /// Returns whether an object has a replica.
-    pub fn has_copied(&self) -> bool
-        ensures { MatchBool result ((known_to self.now.copier).replicas ≢ []) ((known_to self.now.copier).replicas ≡ []) }
-    {
-        self.copier.has_copied()
-    }
-
-    /// Makes the memory of a new space of `size` words, at least 1, and of the collection that follows the flip, with nothing copied yet. After a flip the new
-    /// space has one word until this is called. First frees the memory of the heap before the last flip. The time grows with `size`. If an allocation fails,
-    /// the collection stays as it is.
+    /// Begins the collection anew, in a new space of `size` words, at least 1, and makes the memory that its flip takes. After a flip the new space has one
+    /// word until this is called. What was copied is forgotten. First frees the memory of the heap before the last flip. The time grows with both sizes. If an
+    /// allocation fails, the collection stays as it is.
     pub fn prepare(&mut self, alloc: Global, size: u32) -> Result<(), NoMemory>
-        requires low { 1 ≤ size }
-        requires clear { (known_to self.old.copier).replicas ≡ [] }
-        ensures ok { OnOk result (known_to self.new.copier ≡ record (known_to self.old.copier) { size = size }) }
+        requires { 1 ≤ size }
+        ensures ok { OnOk result (known_to self.new.copier ≡ opening_theirs (known_to self.old.copier).base (known_to self.old.copier).old size) }
         ensures err { OnErr result (known_to self.new.copier ≡ known_to self.old.copier) }
         ensures cells { cells_read_by self.new.copier ≡ cells_read_by self.old.copier }
     {

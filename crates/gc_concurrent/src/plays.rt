@@ -36,12 +36,12 @@ impl Play<Vec<u64>, CellsView> for Linked {
     ghost then = { tells_link };
 }
 
-pub(crate) struct Resized;
+pub(crate) struct Renewed;
 
-impl Play<Vec<u64>, CellsView> for Resized {
-    ghost use Rattle.gc_concurrent.specs.Internal.Rule.{tells_size};
+impl Play<Vec<u64>, CellsView> for Renewed {
+    ghost use Rattle.gc_concurrent.specs.Internal.Rule.{tells_renew};
 
-    ghost then = { tells_size };
+    ghost then = { tells_renew };
 }
 
 pub(crate) struct Began;

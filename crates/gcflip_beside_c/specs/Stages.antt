@@ -1,5 +1,5 @@
 -- What the calls that lead from one stage to another return, and where the handle stands then.
-use Rattle.std.specs.Prelude.{[], ◌≡◌, ◌≢◌, ◌⊎◌, ℕ, ◌+◌, ◌<◌, ◌≤◌, true, false, map, ⊤}
+use Rattle.std.specs.Prelude.{◌≡◌, ◌⊎◌, ℕ, ◌+◌, ◌<◌, ◌≤◌, true, false, map, ⊤}
 use Rattle.gc_check.specs.InC.{done, no_memory}
 use Rattle.gc_cert.specs.Grammar.{CertifiedPair}
 use Rattle.gc_words.specs.Certificate.{Certified}
@@ -89,10 +89,9 @@ pub record IsBesideWork (most : ℕ) (old new : Standing) (answer : ℕ) : Type 
   pub closed : ¬ IsCollector old → (answer ≡ closed_handle) × (new ≡ old)
   pub outside : IsCollector old → most ≡ 0 → (answer ≡ out_of_range) × (new ≡ old)
 
--- The new space has this size, unless an object has a replica, or an allocation failed.
+-- The collection begins anew, in a new space of this size, unless an allocation failed.
 abbrev pub PreparesSpace : ℕ → Standing → Standing → ℕ → Type 0
-PreparesSpace size (works t) new answer =
-    ((answer ≡ done) × (t.replicas ≡ []) × (new ≡ works (record t { size = size }))) ⊎ ((answer ≡ not_yet) × (t.replicas ≢ []) × (new ≡ works t)) ⊎ ((answer ≡ no_memory) × (t.replicas ≡ []) × (new ≡ works t))
+PreparesSpace size (works t) new answer = ((answer ≡ done) × (new ≡ works (opening_theirs t.base t.old size))) ⊎ ((answer ≡ no_memory) × (new ≡ works t))
 PreparesSpace size (asks t) new answer = (answer ≡ not_yet) × (new ≡ asks t)
 PreparesSpace size (holds t heap) new answer = (answer ≡ not_yet) × (new ≡ holds t heap)
 PreparesSpace size old new answer = (answer ≡ closed_handle) × (new ≡ old)

@@ -62,35 +62,26 @@ pub extern "C" fn gcflip_beside_work(collector: &mut GcflipEnd, most: u32) -> u3
     steps(end, most)
 }
 
-// Makes the new space, if nothing is copied.
+// Begins the collection anew, in a new space of this size.
 fn prepared(alloc: Global, end: &mut End, size: u32) -> u32
     requires { 1 ≤ size }
     ensures { PreparesSpace size (standing_of end.old) (standing_of end.new) result }
 {
     match end {
-        End::Working(collector) => {
-            if collector.has_copied() {
-                return NOT_YET;
-            }
-            match collector.prepare(alloc, size) {
-                Ok(()) => DONE,
-                Err(NoMemory) => NO_MEMORY,
-            }
-        }
+        End::Working(collector) => match collector.prepare(alloc, size) {
+            Ok(()) => DONE,
+            Err(NoMemory) => NO_MEMORY,
+        },
         End::Asking(_) | End::Holding(_) => NOT_YET,
         _ => CLOSED,
     }
 }
 
-/// Makes the memory of the next flip, with a new space of `size` words, and frees that of the heap before the last flip. Returns 0, or 13 if an object has a
-/// replica, or if the collector has asked its mutator to stop or holds it. Returns 3 if the handle has no collector, and 2 if `size` is 0. Returns 1 if an
-/// allocation fails: the collection is then unchanged.
+/// Begins the collection anew, in a new space of `size` words, with the memory that its flip takes. Frees the memory of the heap before the last flip. Returns
+/// 0, or 13 if the collector has asked its mutator to stop or holds it. Returns 3 if the handle has no collector, and 2 if `size` is 0. Returns 1 if an
+/// allocation fails: the collection then goes on as it stands.
 #[unsafe(no_mangle)]
-pub extern "C" fn gcflip_beside_prepare(
-    alloc: Global,
-    collector: &mut GcflipEnd,
-    size: u32,
-) -> u32
+pub extern "C" fn gcflip_beside_prepare(alloc: Global, collector: &mut GcflipEnd, size: u32) -> u32
     ensures { IsBesidePrepare size (standing collector.old.end) (standing collector.new.end) result }
 {
     let end = lent!(collector);

@@ -12,7 +12,7 @@ use Rattle.gc_graph.specs.Machine.{object_words}
 use Rattle.gc_words.specs.Word.{IsHeader, read_header, value_of, is_value, header_word}
 use Rattle.gc_words.specs.Layout.{field_place, link_place, next_place}
 use Rattle.gc_words.specs.Image.{objects_of, header_at, field_at, is_start}
-use Rattle.gc_words.specs.Space.{IsSpace, empty_space, end_of, with_object, with_field_at, with_link}
+use Rattle.gc_words.specs.Space.{IsSpace, end_of, with_object, with_field_at, with_link}
 use Rattle.gc_words.specs.Closed.{IsClosed}
 use Rattle.gc_words.specs.declared.header.Header.{Header}
 use Rattle.gc_plan.specs.State.{Replica, Collection, replica_of, moved, new_end, new_free}
@@ -252,9 +252,12 @@ root_wanted a v = record v { mine = record v.mine { logs = true }; theirs = want
 abbrev pub tells_root : OneStep → Sat → ℕ → Sat → Type 0
 tells_root st me found me' = ((me' ≡ (root_wanted st.word me.0, me.1)) × CatchesUp me.0) × KnowsBelonging me'
 
--- The new space, in which nothing is copied, gets this size.
-abbrev pub tells_size : OneStep → Sat → ℕ → Sat → Type 0
-tells_size st me found me' = (me' ≡ (record me.0 { theirs = record me.0.theirs { size = st.first } }, me.1)) × KnowsBelonging me'
+-- the same collection before its first step, in a new space of this size
+abbrev pub begun_anew : ℕ → Theirs → Theirs
+begun_anew size t = opening_theirs t.base t.old size
+
+abbrev pub tells_renew : OneStep → Sat → ℕ → Sat → Type 0
+tells_renew st me found me' = (me' ≡ (record me.0 { theirs = begun_anew st.first me.0.theirs }, me.1)) × KnowsBelonging me'
 
 -- A collection of the space with these roots begins. Its new space has one word.
 abbrev pub tells_begin : OneStep → Sat → ℕ → Sat → Type 0

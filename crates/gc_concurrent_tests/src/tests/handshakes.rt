@@ -55,6 +55,14 @@ fn ready(holding: &mut Holding) -> Result<(), Fail> {
     Err(Fail::from("it has room, and ends"))
 }
 
+/// Begins the collection anew, in a new space of `size` words.
+fn prepared(alloc: Global, mut collector: Collector, size: u32) -> Result<Collector, Fail>
+    requires { 1 ≤ size }
+{
+    collector.prepare(alloc, size)?;
+    Ok(collector)
+}
+
 /// Flips, after as many steps as are wanted, and makes the memory of the next flip, whose new space has `size` words.
 fn flipped(alloc: Global, mut holding: Holding, size: u32) -> Result<Collector, Fail>
     requires { 1 ≤ size }
@@ -62,16 +70,6 @@ fn flipped(alloc: Global, mut holding: Holding, size: u32) -> Result<Collector, 
     ready(&mut holding)?;
     let flipped = holding.flip(alloc, &Sequential);
     prepared(alloc, flipped.ok().ok_or("it flips")?, size)
-}
-
-fn prepared(alloc: Global, mut collector: Collector, size: u32) -> Result<Collector, Fail>
-    requires { 1 ≤ size }
-{
-    if collector.has_copied() {
-        return Err(Fail::from("nothing is copied"));
-    }
-    collector.prepare(alloc, size)?;
-    Ok(collector)
 }
 
 /// A checker that never has enough memory.
@@ -260,9 +258,7 @@ fn a_heap_changes_its_size_at_a_flip(rt: HostRuntime) -> Result<(), Fail> {
     }
     let (waiting, mut holding) = taken(runner, collector)?;
     assert!(rt; !holding.place_roots());
-    collector = holding.go();
-    assert!(rt; !collector.has_copied());
-    collector = prepared(alloc, collector, 64)?;
+    collector = prepared(alloc, holding.go(), 64)?;
     runner = waiting.resume().ok().ok_or("it may go on")?;
     let (waiting, holding) = taken(runner, collector)?;
     let _collector = flipped(alloc, holding, 64)?;

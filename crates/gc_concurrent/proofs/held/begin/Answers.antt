@@ -1,5 +1,5 @@
 -- One seat becomes two, and the heap with which the collection begins is the mutator's.
-use Rattle.std.proofs.Common.{◌≡◌, ℕ, length, ap, sym, ◌∙◌, subst, arith}
+use Rattle.std.proofs.Common.{◌≡◌, length, ap, sym, ◌∙◌, subst, arith}
 use Rattle.gc_words.specs.Space.{end_of}
 use Rattle.gc_heap.specs.Heap.{HeapWords, IsHeap, graph_in}
 use Rattle.gc_plan.specs.Carried.{LeadsOnlyTo}
@@ -10,6 +10,7 @@ use Rattle.gc_concurrent.specs.Internal.Rule.{Sat}
 use Rattle.gc_concurrent.proofs.Keeping.{begins_kept}
 use Rattle.gc_concurrent.proofs.TiedCells.{tied, tied_words}
 use Rattle.gc_concurrent.proofs.Opening.{splits_rule}
+use Rattle.gc_concurrent.specs.Internal.Following.{Follows}
 use Rattle.gc_concurrent.proofs.held.begin.Goals as goal
 
 pub split_seat-seat-requires : goal.split_seat-seat-requires
@@ -31,3 +32,8 @@ invariant_of-result-2 c =
       behind = (let e = ap (λ (m : Mine). end_of m.base.space) mine in let l = c.begin-one.ensures.end in omega arith);
       kept = subst (λ (m : Mine). LeadsOnlyTo (MayBeCopied m.base) (graph_in (heap_of m c.args.roots.items))) (sym mine) (begins_kept heap c.requires.sound);
     }
+
+pub invariant_of-result-3-clause-along : goal.invariant_of-result-3-clause-along
+invariant_of-result-3-clause-along c =
+    subst (λ (z : List ℕ × List ℕ). ∥ Follows c.args.standing z.0 z.1 ∥₁)
+    (λ i. (sym (ap (λ (m : Sat). m.0.seen) c.split_seat-seat.ensures.3 ∙ ap (λ (m : Sat). m.0.seen) c.begin-one.ensures.view) i, sym c.args.spare.small.1 i)) c.requires.along

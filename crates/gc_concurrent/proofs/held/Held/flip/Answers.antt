@@ -3,22 +3,16 @@ use Rattle.std.proofs.Common.{◌≡◌, ℕ, ◌<◌, true, List, [], length, s
 use Rattle.gc_graph.specs.Graph.{Ref}
 use Rattle.gc_graph.specs.Correspond.{Corresponding}
 use Rattle.gc_words.specs.Word.{value_of, word_of}
-use Rattle.gc_words.specs.Space.{SpaceWords, end_of}
-use Rattle.gc_heap.specs.Heap.{HeapWords, IsHeap, graph_in}
-use Rattle.gc_plan.specs.Carried.{LeadsOnlyTo}
-use Rattle.gc_concurrent.specs.Unreachable.{MayBeCopied}
-use Rattle.gc_concurrent.proofs.Keeping.{begins_kept}
+use Rattle.gc_words.specs.Space.{SpaceWords}
+use Rattle.gc_heap.specs.Heap.{IsHeap, graph_in}
 use Rattle.gc_plan.specs.State.{pairs_of}
 use Rattle.gc_plan.specs.Steps.{scan_done}
 use Rattle.gc_concurrent.specs.declared.held.Held.{Held}
 use Rattle.gc_concurrent.specs.Ends.{one_heap}
 use Rattle.gc_concurrent.specs.Heaps.{heap_of}
-use Rattle.gc_concurrent.specs.Internal.Rule.{Sat}
 use Rattle.gc_concurrent.specs.Ends.{its}
 use Rattle.gc_concurrent.specs.Internal.Copiers.{AreClaimed, LacksOne, moved_by}
-use Rattle.gc_concurrent.specs.Internal.Flip.{HasNothingLeft, new_heap_of, moved_words}
-use Rattle.gc_concurrent.proofs.TiedCells.{tied, tied_words}
-use Rattle.gc_concurrent.proofs.Opening.{splits_rule}
+use Rattle.gc_concurrent.specs.Internal.Flip.{HasNothingLeft, moved_words}
 use Rattle.gc_concurrent.proofs.Memory.{claim_low}
 use Rattle.gc_concurrent.proofs.InHand.{mem}
 use Rattle.gc_concurrent.proofs.Rooting.{near}

@@ -1,5 +1,5 @@
 -- Both ends are in one seat, so the collection may begin.
-use Rattle.std.proofs.Common.{◌≡◌, ◌∷◌, [], refl, ap, sym, ◌∙◌, subst, arith}
+use Rattle.std.proofs.Common.{refl, ap, sym, ◌∙◌, subst, arith}
 use Rattle.gc_words.specs.Space.{SpaceWords}
 use Rattle.gc_heap.specs.Heap.{IsHeap}
 use Rattle.gc_concurrent.specs.Ends.{one_heap, opening_view}
