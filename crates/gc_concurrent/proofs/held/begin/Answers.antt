@@ -1,5 +1,5 @@
 -- One seat becomes two, and the heap with which the collection begins is the mutator's.
-use Rattle.std.proofs.Common.{◌≡◌, length, ap, sym, ◌∙◌, subst, arith}
+use Rattle.std.proofs.Common.{◌≡◌, ℕ, List, length, ap, sym, ◌∙◌, subst, arith}
 use Rattle.gc_words.specs.Space.{end_of}
 use Rattle.gc_heap.specs.Heap.{HeapWords, IsHeap, graph_in}
 use Rattle.gc_plan.specs.Carried.{LeadsOnlyTo}
@@ -36,4 +36,4 @@ invariant_of-result-2 c =
 pub invariant_of-result-3-clause-along : goal.invariant_of-result-3-clause-along
 invariant_of-result-3-clause-along c =
     subst (λ (z : List ℕ × List ℕ). ∥ Follows c.args.standing z.0 z.1 ∥₁)
-    (λ i. (sym (ap (λ (m : Sat). m.0.seen) c.split_seat-seat.ensures.3 ∙ ap (λ (m : Sat). m.0.seen) c.begin-one.ensures.view) i, sym c.args.spare.small.1 i)) c.requires.along
+    (λ i. (sym (ap (λ (m : Sat). m.0.seen) c.split_seat-seat.ensures.2 ∙ ap (λ (m : Sat). m.0.seen) c.begin-one.ensures.view) i, sym c.args.spare.small.1 i)) c.requires.along

@@ -1,5 +1,5 @@
 -- Where nothing is due and each root has its replica, the new space is the mutator's next one.
-use Rattle.std.proofs.Common.{◌≡◌, ℕ, ◌<◌, true, List, [], length, slice_index, map, ap, sym, ◌∙◌, subst, arith}
+use Rattle.std.proofs.Common.{◌≡◌, ℕ, ◌<◌, true, List, [], length, slice_index, map, ap, sym, ◌∙◌, subst, inl, inr, ⊎_elim, arith}
 use Rattle.gc_graph.specs.Graph.{Ref}
 use Rattle.gc_graph.specs.Correspond.{Corresponding}
 use Rattle.gc_words.specs.Word.{value_of, word_of}
@@ -15,8 +15,11 @@ use Rattle.gc_concurrent.specs.Internal.Copiers.{AreClaimed, LacksOne, moved_by}
 use Rattle.gc_concurrent.specs.Internal.Flip.{HasNothingLeft, moved_words}
 use Rattle.gc_concurrent.proofs.Memory.{claim_low}
 use Rattle.gc_concurrent.proofs.InHand.{mem}
+use Rattle.gc_concurrent.proofs.Comparing.{flipped_follows}
 use Rattle.gc_concurrent.proofs.Rooting.{near}
 use Rattle.gc_concurrent.proofs.Turn.{roots_placed, roots_moved, ready_in, root_missing}
+use Rattle.gc_concurrent.specs.Checking.{IsVouchedFor}
+use Rattle.gc_concurrent.specs.Holders.{heap_held}
 use Rattle.gc_concurrent.proofs.held.Held.flip.Goals as goal
 
 pub moved_roots-moved-requires-clause-inside : goal.moved_roots-moved-requires-clause-inside
@@ -98,4 +101,11 @@ returns-clause-ok g c =
     )
 
 pub begin-requires-clause-along : goal.begin-requires-clause-along
-begin-requires-clause-along g c = ?
+begin-requires-clause-along g c =
+    let b = c.take_spare.new.self in
+    flipped_follows b.standing c.flipped.new.self b.seat.me.0.seen b.space b.shaped c.flipped.ensures.lost c.flipped.ensures.flipped b.along
+
+pub returns-clause-asked : goal.returns-clause-asked
+returns-clause-asked g c =
+    let heap = (λ i. one_heap (sym (c.take_spare.ensures.space ∙ c.certify.ensures.space) i) (c.as_slice-3.ensures.value i)) ∙ sym c.begin.ensures.heap in
+    ⊎_elim (λ v. inl (subst (IsVouchedFor (heap_held c.args.self)) heap v)) (λ s. inr s) c.in_default.ensures.asked
