@@ -13,7 +13,7 @@ use Rattle.gc_concurrent.specs.Unreachable.{CopiesNothingUnreachable}
 use Rattle.gc_concurrent.specs.Heaps.{GoesOnIn}
 use Rattle.gc_concurrent.specs.Nearing.{steps_ahead}
 use Rattle.gc_concurrent.specs.Works.{KeepsBeginning, TakesLog, WhereDone}
-use Rattle.gc_concurrent.specs.Checking.{FlippedBy, CertifiesFlip, flip_shown}
+use Rattle.gc_concurrent.specs.Checking.{FlippedBy, CertifiesFlip, IsVouchedFor, flip_shown}
 use Rattle.gc_concurrent.specs.declared.copier.Work.TheVariants as work
 use Rattle.gc_in_c.specs.Answers.{closed_handle, out_of_range}
 use Rattle.gcflip_beside_c.specs.Answers.{parked_mutator, not_yet, not_ready, clean, no_room, flip_made}
@@ -131,10 +131,10 @@ abbrev pub IsCertifiedPair : CertifiedPair → Type 0
 IsCertifiedPair pair = Certified pair.old pair.new pair.pairs
 
 -- A flip of this heap, after which the next collection has begun: of a heap as large as the new space, with the graph of the replicas, in a new space of one
--- word. A checker said this of it.
+-- word. A standing checker vouched for it, or a checker said this of it.
 pub record IsFlip (says : CertifiedPair → Type 0) (t : Theirs) (heap : HeapWords) (u : Theirs) : Type 0 where
   pub ready : is_ready (its t) (graph_in heap) ≡ true
-  pub asked : says (flip_shown heap t)
+  pub asked : IsVouchedFor heap u.base ⊎ says (flip_shown heap t)
   pub certified : CertifiesFlip heap t
   pub carried : CopiesNothingUnreachable t
   pub fresh : u ≡ opening_theirs u.base t.size 1
