@@ -1,18 +1,18 @@
 -- The collector writes a field or places a replica, and its standing checker goes along.
-use Rattle.std.proofs.Common.{◌≡◌, ℕ, ◌+◌, ◌<◌, true, false, suc, map, List, [], ◌∷◌, replicate, ◌++◌, length, Some, is_some, refl, ap, sym, ◌∙◌, subst, ⊎_elim, arith, length-append}
+use Rattle.std.proofs.Common.{◌≡◌, ℕ, ◌+◌, ◌<◌, true, false, suc, map, List, [], ◌∷◌, replicate, ◌++◌, length, Some, is_some, refl, ap, sym, ◌∙◌, subst, ⊎_elim, arith}
 use Rattle.std.specs.Prelude.{slice_index, slice_set, IsOk, IsSome}
 use Rattle.std.proofs.Math.Logic.{∥∥₁_elim}
 use Rattle.std.proofs.Props.{props}
 use Rattle.std.proofs.lemmas.Bool.{cases_Bool}
 use Rattle.std.proofs.lemmas.List.{get_or-set_same, length-replicate}
-use Rattle.gc_words.specs.Word.{IsHeader, header_word, read_header}
+use Rattle.gc_words.specs.Word.{header_word, read_header}
 use Rattle.gc_words.specs.Image.{header_at, field_at, walk_words}
 use Rattle.gc_words.specs.Layout.{field_place, link_place}
 use Rattle.gc_words.specs.Space.{SpaceWords, IsSpace, end_of, with_field_at, with_link, with_object}
 use Rattle.gc_words.specs.declared.header.Header.{Header}
 use Rattle.gc_words.proofs.Public.{field_read, field_written, header_read, written_back}
 use Rattle.gc_along.specs.Tables.{Tables}
-use Rattle.gc_plan.specs.State.{Replica, new_end, objects_end}
+use Rattle.gc_plan.specs.State.{new_end, objects_end}
 use Rattle.gc_plan.proofs.Public.{placed}
 use Rattle.gc_concurrent.specs.declared.copier.Copier.{Copier}
 use Rattle.gc_concurrent.specs.Ends.{Known, Theirs, its}

@@ -1,13 +1,13 @@
 -- The standing checker goes on telling the truth of the words that it has seen and of the new space.
-use Rattle.std.proofs.Common.{◌≡◌, ◌≢◌, ℕ, zero, suc, ◌+◌, ◌<◌, ◌≤◌, true, false, List, [], ◌∷◌, ◌++◌, length, get_or, set, take, not, Option, Some, None, is_some, refl, ap, sym, ◌∙◌, subst, inl, inr, ⊎_elim, arith, length-append, length-set}
-use Rattle.std.specs.Prelude.{slice_index, slice_index_or, slice_set, IsFalse, IsOk, IsSome}
+use Rattle.std.proofs.Common.{◌≡◌, ℕ, zero, suc, ◌+◌, ◌<◌, ◌≤◌, true, false, List, [], ◌∷◌, ◌++◌, length, get_or, take, not, Option, Some, None, is_some, refl, ap, sym, ◌∙◌, subst, inl, inr, ⊎_elim, arith, length-append, length-set}
+use Rattle.std.specs.Prelude.{slice_index, slice_index_or, slice_set, IsOk, IsSome}
 use Rattle.std.proofs.lemmas.Bool.{cases_Bool}
 use Rattle.std.proofs.lemmas.List.{get_or-set_other, get_or-set_same}
 use Rattle.std.proofs.Math.Logic.{∥∥₁_elim}
 use Rattle.std.proofs.Props.{props}
 use Rattle.gc_words.specs.Word.{read_header, field_words_correspond}
 use Rattle.gc_words.specs.Image.{Block, block_at, header_of, header_at, field_in, field_at, fresh_block, walk_words}
-use Rattle.gc_words.specs.Layout.{field_place, link_place}
+use Rattle.gc_words.specs.Layout.{field_place}
 use Rattle.gc_words.specs.Space.{SpaceWords, IsSpace}
 use Rattle.gc_words.specs.Spelling.{block_words}
 use Rattle.gc_words.specs.declared.header.Header.{Header}
@@ -18,7 +18,7 @@ use Rattle.gc_along.specs.Watch.{IsSeen, front}
 use Rattle.gc_along.specs.Events.{Saw, PlacedBy, Looked, Wrote, HasNoReplica, code_of, object_codes}
 use Rattle.gc_along.specs.Origins.{pairs_in}
 use Rattle.gc_along.specs.Claims.{HasField, ShowsField}
-use Rattle.gc_along.proofs.Public.{all_of, codes_length, found_in_all, anywhere_tells, link_anywhere_tells, both_tells, none_replicated, old_more_tells, original_field, placed_by_tells, saw_tells, new_more_tells, wrote_tells}
+use Rattle.gc_along.proofs.Public.{all_of, codes_length, found_in_all, anywhere_tells, link_anywhere_tells, both_tells, none_replicated, old_more_tells, original_field, placed_by_tells, saw_tells, new_more_tells}
 use Rattle.gc_concurrent.specs.Ends.{Known}
 use Rattle.gc_concurrent.specs.Internal.Told.{Event, Put, Link, Make, after_all, CouldHappen, written_by, seen_space}
 use Rattle.gc_concurrent.specs.Internal.Rule.{CatchesUp, Sat, SeesNext, seeing}

@@ -1,5 +1,5 @@
 -- Loads of the standing checker keep the rule.
-use Rattle.std.proofs.Common.{◌≡◌, ◌≢◌, ◌⊎◌, ℕ, ◌+◌, ◌<◌, ◌≤◌, true, List, [], ◌∷◌, ◌++◌, length, get_or, set, Option, Some, None, is_some, refl, ap, sym, ◌∙◌, subst, inl, inr, ⊎_elim, arith, length-take}
+use Rattle.std.proofs.Common.{◌≡◌, ◌≢◌, ℕ, ◌<◌, ◌≤◌, true, List, [], ◌++◌, length, get_or, set, Option, Some, None, is_some, refl, ap, sym, ◌∙◌, subst, ⊎_elim, arith, length-take}
 use Rattle.std.specs.Prelude.{slice_set, slice_index, IsOk, IsSome, take}
 use Rattle.std.proofs.lemmas.Bool.{cases_eq, cases_lt}
 use Rattle.std.proofs.lemmas.List.{append-nil}
@@ -16,12 +16,12 @@ use Rattle.gc_words.specs.declared.header.Header.{Header}
 use Rattle.gc_words.proofs.Public.{field_read, some_of, stands_in}
 use Rattle.gc_along.specs.Watch.{IsSeen, IsNext}
 use Rattle.gc_along.proofs.Public.{all_of, start_there}
-use Rattle.gc_concurrent.specs.Ends.{Known, Mine, Theirs}
+use Rattle.gc_concurrent.specs.Ends.{Known}
 use Rattle.gc_concurrent.specs.Internal.Rule.{RootWords, IsConcurrent, Sat, Seated, SeesNext, seeing, tells_look, tells_header, tells_see}
-use Rattle.gc_concurrent.specs.Internal.Told.{IsTold, after_all, seen_space}
+use Rattle.gc_concurrent.specs.Internal.Told.{IsTold, seen_space}
 use Rattle.gc_concurrent.proofs.Hands.{St, seat_set, same}
 use Rattle.gc_concurrent.proofs.Shown.{shown_anew}
-use Rattle.gc_concurrent.proofs.Told.{field_stays, header_stays, long_after, look_told, see_told, seen_is_space, space_after}
+use Rattle.gc_concurrent.proofs.Told.{field_stays, header_stays, look_told, see_told, seen_is_space}
 
 -- a space is seen whole
 pub whole_seen : (s : SpaceWords) → IsSpace s → IsSeen (length s.words) s.words

@@ -1,5 +1,5 @@
 -- Which seats know what was seen, after a step.
-use Rattle.std.proofs.Common.{◌≡◌, ◌≢◌, ℕ, true, List, set, sym, ◌∙◌}
+use Rattle.std.proofs.Common.{◌≡◌, ℕ, true, List, set, sym, ◌∙◌}
 use mathlib.Core.Option.{some}
 use lib.ListN.{get_elem?}
 use Rattle.gc_concurrent.specs.Ends.{Known, Mine, Theirs}

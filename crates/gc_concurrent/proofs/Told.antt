@@ -1,6 +1,5 @@
 -- What happens to the mutator's space since its words were seen.
-use Rattle.std.proofs.lemmas.Grind.{common_steps}
-use Rattle.std.proofs.Common.{◌≡◌, ◌≢◌, ◌⊎◌, inl, inr, ⊎_elim, ℕ, zero, suc, ◌+◌, ◌-◌, ◌<◌, ◌≤◌, true, false, List, [], ◌∷◌, ◌++◌, length, set, get_or, Option, Some, None, is_some, refl, sym, ◌∙◌, ap, subst, arith, length-append, length-set, set-set}
+use Rattle.std.proofs.Common.{◌≡◌, ◌≢◌, ◌⊎◌, inl, inr, ⊎_elim, ℕ, zero, suc, ◌<◌, ◌≤◌, true, false, List, [], ◌∷◌, ◌++◌, length, set, Option, Some, None, is_some, refl, sym, ◌∙◌, ap, subst, arith, length-append, length-set, set-set}
 use Rattle.std.specs.Prelude.{slice_get, slice_set, slice_index, IsSome}
 use Rattle.std.proofs.lemmas.Bool.{cases_eq, cases_lt, cond-true}
 use lib.Seq.{set-get_or}
@@ -9,7 +8,7 @@ use Rattle.gc_words.specs.Layout.{field_place, link_place}
 use Rattle.gc_words.specs.Space.{SpaceWords, IsSpace, CanPlace, end_of, with_object, with_field_at, with_link}
 use Rattle.gc_words.specs.Spelling.{block_words}
 use Rattle.gc_words.specs.declared.header.Header.{Header}
-use Rattle.gc_words.proofs.Public.{field_read, field_written, field_block, field_beside, header_read, link_written, none_at_end, placed, placed_beside, placed_block, some_of}
+use Rattle.gc_words.proofs.Public.{field_read, field_written, field_block, field_beside, header_read, link_written, none_at_end, placed, placed_beside, placed_block}
 use Rattle.gc_concurrent.specs.Ends.{Mine}
 use Rattle.gc_concurrent.specs.Internal.Rule.{wrote, made, linked_to}
 use Rattle.gc_concurrent.specs.Internal.Told.{Event, Put, Link, Make, after_all, CouldHappen, written_by, seen_space, IsTold}

@@ -1,5 +1,5 @@
 -- A standing checker that goes along with the collector.
-use Rattle.std.specs.Prelude.{◌≡◌, ℕ, List, [], ◌∷◌, false, IsFalse, length}
+use Rattle.std.specs.Prelude.{◌≡◌, ℕ, List, [], ◌∷◌, IsFalse, length}
 use Rattle.gc_along.specs.Tables.{Tables}
 use Rattle.gc_along.specs.Telling.{Tells}
 use Rattle.gc_along.specs.Watch.{IsSeen}

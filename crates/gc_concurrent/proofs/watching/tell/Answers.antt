@@ -1,7 +1,4 @@
 -- One entry more.
-use Rattle.std.proofs.Common.{◌≡◌, ℕ, List, ap, sym, subst, true, false, ◌∙◌}
-use Rattle.std.proofs.lemmas.Bool.{cases_Bool}
-use Rattle.gc_concurrent.specs.Internal.Following.{WroteEach}
 use Rattle.gc_concurrent.proofs.Following.{one_more}
 use Rattle.gc_concurrent.proofs.watching.tell.Goals as goal
 

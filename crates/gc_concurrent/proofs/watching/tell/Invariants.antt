@@ -1,5 +1,5 @@
 -- The entries before this one were told.
-use Rattle.std.proofs.Common.{ℕ, IsFalse, IsTrue}
+use Rattle.std.proofs.Common.{IsFalse, IsTrue}
 use Rattle.std.specs.Prelude.{take}
 use Rattle.gc_concurrent.specs.Internal.Following.{WroteEach}
 use Rattle.gc_concurrent.proofs.watching.tell.Given as goal

@@ -1,5 +1,5 @@
 -- Each object that is found is the next one of the words that are seen.
-use Rattle.std.proofs.Common.{◌≡◌, ◌<◌, ℕ, List, length, true, false, ◌++◌, ap, sym, ◌∙◌, subst, arith}
+use Rattle.std.proofs.Common.{◌≡◌, false, ◌++◌, ap, sym, ◌∙◌, subst, arith}
 use Rattle.std.proofs.Math.Logic.{∥∥₁_elim}
 use Rattle.gc_along.specs.Watch.{IsSeen}
 use Rattle.gc_concurrent.specs.Internal.Props.{seen_prop}

@@ -23,7 +23,6 @@ use Rattle.gc_concurrent.proofs.Placing.{places}
 use Rattle.gc_concurrent.proofs.Memory.{wanted_near, unclaimed, has_room, no_room, placed_same, claims_placed, claim_grown, claims_grown, end_is}
 use Rattle.gc_concurrent.proofs.InHand.{mem, still_spared, keeps_seat, theirs_is}
 use Rattle.gc_concurrent.proofs.Nearing.{nears_by, placed_nears}
-use Rattle.gc_concurrent.specs.Internal.Following.{Follows}
 use Rattle.gc_concurrent.proofs.Comparing.{theirs_seen, copies_seen, keeps_seen, nears_seen, loose_seen, along_placed, along_still, can_place}
 use Rattle.gc_concurrent.proofs.copier.Copier.place_wanted.Goals as goal
 use Rattle.gc_concurrent.proofs.copier.Copier.place_wanted.Goals.{After-load-word}

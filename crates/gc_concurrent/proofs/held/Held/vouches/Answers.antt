@@ -1,5 +1,5 @@
 -- The tables tell the truth of both spaces, so their yes is sound.
-use Rattle.std.proofs.Common.{◌≡◌, ℕ, List, ◌++◌, length, true, refl, ap, sym, ◌∙◌, subst}
+use Rattle.std.proofs.Common.{◌≡◌, ℕ, List, length, true, refl, ap, sym, ◌∙◌, subst}
 use Rattle.std.proofs.lemmas.List.{append-nil}
 use Rattle.std.proofs.Math.Logic.{∥∥₁_elim}
 use Rattle.std.proofs.Props.{props}
