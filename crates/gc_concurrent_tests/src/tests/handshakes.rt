@@ -94,10 +94,11 @@ impl Checks for WithoutMemory {
 /// Flips a heap that the standing checker vouches for.
 fn vouched_for(alloc: Global, mut holding: Holding) -> Result<Collector, Fail> {
     ready(&mut holding)?;
-    holding
+    let collector = holding
         .flip(alloc, &WithoutMemory)
         .ok()
-        .ok_or(Fail::from("the standing checker vouches for it"))
+        .ok_or("the standing checker vouches for it")?;
+    Ok(collector)
 }
 
 /// Performs a command, and returns its reply.
@@ -208,7 +209,7 @@ fn no_flip_asks_another_checker(rt: HostRuntime) -> Result<(), Fail> {
     assert!(rt; told(&mut runner, put(own(0), 0, own(3))) == Some(Reply::Done));
     assert!(rt; told(&mut runner, put(own(3), 0, own(0))) == Some(Reply::Done));
     assert!(rt; collector.work() == Work::Step);
-    assert!(rt; told(&mut runner, Op::NewRaw(own(4), 5, 3)) == Some(Reply::Made));
+    assert!(rt; told(&mut runner, Op::NewRaw { d: own(4), kind: 5, len: 3 }) == Some(Reply::Made));
     assert!(rt; told(&mut runner, put(own(4), 2, own(1))) == Some(Reply::Done));
     assert!(rt; told(&mut runner, num(own(1), 5)) == Some(Reply::Done));
     assert!(rt; told(&mut runner, put(own(0), 1, own(1))) == Some(Reply::Done));
@@ -219,7 +220,7 @@ fn no_flip_asks_another_checker(rt: HostRuntime) -> Result<(), Fail> {
     assert!(rt; told(&mut runner, get(own(2), own(4), 2)) == Some(saw(9)));
     assert!(rt; told(&mut runner, get(own(2), own(0), 0)) == Some(Reply::Saw(View::Obj { kind: 4, len: 1 })));
     for k in 0..5 {
-        assert!(rt; told(&mut runner, Op::Nil(own(k))) == Some(Reply::Done));
+        assert!(rt; told(&mut runner, Op::Nil { d: own(k) }) == Some(Reply::Done));
     }
     let collector = prepared(alloc, collector, 64)?;
     let (waiting, holding) = taken(runner, collector)?;
