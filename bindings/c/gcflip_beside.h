@@ -58,7 +58,7 @@ enum gcflip_beside_answer {
 /* ---- Opening and closing */
 
 /* Opens an empty heap of `size` words, at least 1, with at most 1048576 extra roots: GCFLIP_DONE. GCFLIP_OPEN if a handle has an end already. A
- * collection begins. All roots hold nil. GCFLIP_NO_MEMORY if an allocation fails. The new space of each collection has as many words as the heap. */
+ * collection begins, whose new space has as many words as the heap. All roots hold nil. GCFLIP_NO_MEMORY if an allocation fails. */
 uint32_t gcflip_beside_open(gcflip_mutator *mutator, gcflip_collector *collector, uint32_t size, uint32_t extra_roots);
 
 /* Drops the mutator with its objects: GCFLIP_DONE. The collector's handle can still be used and closed. The last of both closes frees the heap. */
@@ -123,10 +123,19 @@ uint32_t gcflip_beside_resume(gcflip_mutator *mutator);
  * The next collection begins at each flip. It rests until the collector takes the mutator, and copies the objects of its roots. Until then nothing is
  * copied, and no write is logged. Its steps copy what these reach, and bring replicas up to date with the originals, beside the mutator or while
  * the collector holds it. To flip, the collector takes the mutator again. It copies the objects of roots that were written meanwhile, and performs
- * the steps that are left. The mutator then goes on in the new space. */
+ * the steps that are left. The mutator then goes on in the new space.
+ *
+ * A flip copies the roots alone. It puts the memory of the old heap aside, and leaves a new space of one word. So after a flip the program calls
+ * gcflip_beside_prepare, before the collector takes the mutator again. */
 
-/* Performs `most` steps, at least 1: GCFLIP_DONE, or GCFLIP_CLEAN once nothing is left to do. GCFLIP_NO_ROOM never comes, because the new space is as
- * large as the heap. */
+/* Begins the collection anew, in a new space of `size` words, at least 1, with the memory that its flip takes: GCFLIP_DONE. What was copied is
+ * forgotten. Frees the memory of the heap before the last flip. After the next flip the heap has `size` words, more than before or fewer. GCFLIP_NOT_YET
+ * if the collector has asked the mutator to stop or holds it. After GCFLIP_NO_MEMORY the collection goes on as it stands. The time grows with the sizes
+ * of both spaces. */
+uint32_t gcflip_beside_prepare(gcflip_collector *collector, uint32_t size);
+
+/* Performs `most` steps, at least 1: GCFLIP_DONE, or GCFLIP_CLEAN once nothing is left to do. GCFLIP_NO_ROOM if the new space is smaller than the heap,
+ * and has no room for a copy. */
 uint32_t gcflip_beside_work(gcflip_collector *collector, uint32_t most);
 
 /* Asks the mutator to stop at its next safepoint: GCFLIP_DONE, also if it is asked or held already. GCFLIP_NOT_YET if it has not gone on since it was
@@ -141,8 +150,9 @@ uint32_t gcflip_beside_take(gcflip_collector *collector);
 uint32_t gcflip_beside_go(gcflip_collector *collector);
 
 /* Copies the objects of all roots, those that have no replica yet, while the mutator waits: GCFLIP_DONE. Their fields are left to steps, also beside the
- * mutator, but those of raw objects are copied too. GCFLIP_NOT_YET if the collector does not hold the mutator. The call does not allocate. Its time grows with
- * the number of roots, and with the fields of raw objects to which they refer. */
+ * mutator, but those of raw objects are copied too. GCFLIP_NO_ROOM if the new space is smaller than the heap, and has no room for one. GCFLIP_NOT_YET if
+ * the collector does not hold the mutator. The call does not allocate. Its time grows with the number of roots, and with the fields of raw objects to
+ * which they refer. */
 uint32_t gcflip_beside_place_roots(gcflip_collector *collector);
 
 /* Flips if the collection is ready: GCFLIP_FLIPPED. The mutator may then go on in the new space. GCFLIP_NOT_READY if steps are left, or if a root's
@@ -150,9 +160,9 @@ uint32_t gcflip_beside_place_roots(gcflip_collector *collector);
  * waits. After GCFLIP_NOT_READY and GCFLIP_NO_MEMORY nothing has changed. */
 uint32_t gcflip_beside_flip(gcflip_collector *collector);
 
-/* Copies the objects of roots, performs all steps that are left, and flips, while the mutator waits: GCFLIP_FLIPPED. GCFLIP_NOT_YET if the collector
- * does not hold the mutator. After GCFLIP_NO_MEMORY some steps may have been performed. The collector still holds the mutator, whose heap is
- * unchanged. */
+/* Copies the objects of roots, performs all steps that are left, and flips, while the mutator waits: GCFLIP_FLIPPED. GCFLIP_NOT_READY if the new space
+ * is smaller than the heap, and has no room for a copy. GCFLIP_NOT_YET if the collector does not hold the mutator. After GCFLIP_NO_MEMORY some steps may
+ * have been performed. The collector still holds the mutator, whose heap is unchanged. */
 uint32_t gcflip_beside_finish(gcflip_collector *collector);
 
 #ifdef __cplusplus

@@ -34,6 +34,7 @@ struct gcflip_thread {
 
     /* the collector's thread alone */
     gcflip_collector collector;
+    bool is_prepared; /* the memory of the next flip is made */
 
     pthread_t thread;
     pthread_mutex_t lock;
@@ -129,11 +130,24 @@ static void lets_go(gcflip_thread *thread, uint32_t answer, uint32_t stops)
     pthread_mutex_unlock(&thread->lock);
 }
 
+/* Makes the memory of the next flip, beside the mutator. Returns false if there is none. */
+static bool prepares(gcflip_thread *thread)
+{
+    if (!thread->is_prepared) {
+        thread->is_prepared = gcflip_beside_prepare(&thread->collector, thread->size) == GCFLIP_DONE;
+    }
+    return thread->is_prepared;
+}
+
 /* One collection, until it flips or memory runs out. */
 static void collects(gcflip_thread *thread)
 {
     uint32_t answer = GCFLIP_NOT_READY;
 
+    if (!prepares(thread)) {
+        lets_go(thread, GCFLIP_NO_MEMORY, 0);
+        return;
+    }
     for (uint32_t k = 1; answer == GCFLIP_NOT_READY; k++) {
         if (!works_beside(thread) || !stops(thread)) {
             return;
@@ -147,6 +161,8 @@ static void collects(gcflip_thread *thread)
         }
         lets_go(thread, answer, k);
     }
+    thread->is_prepared = answer != GCFLIP_FLIPPED;
+    prepares(thread);
 }
 
 static void *run(void *argument)
@@ -407,6 +423,7 @@ uint32_t gcflip_thread_open(gcflip_thread **opened, uint32_t size, uint32_t extr
         thread->size = size;
         thread->factor = pace->factor;
         thread->least = pace->least;
+        thread->is_prepared = true;
         rests(thread);
         if (makes_lock(thread)) {
             if (pthread_create(&thread->thread, NULL, run, thread) == 0) {

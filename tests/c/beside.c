@@ -14,9 +14,11 @@ static gcflip_mutator mutator = GCFLIP_NO_END;
 static gcflip_collector collector = GCFLIP_NO_END;
 static uint64_t number;
 static gcflip_view view;
+static uint32_t heap_words; /* the size with which the heap was opened */
 
 static void open_with(uint32_t words, uint32_t extra_roots)
 {
+    heap_words = words;
     fail_allocation(0);
     EXPECT(gcflip_beside_open(&mutator, &collector, words, extra_roots) == GCFLIP_DONE);
 }
@@ -56,12 +58,19 @@ static void take(void)
     EXPECT(gcflip_beside_take(&collector) == GCFLIP_DONE);
 }
 
+/* Lets the mutator go on after a flip, and makes the memory of the next one. */
+static void go_on(void)
+{
+    EXPECT(gcflip_beside_resume(&mutator) == GCFLIP_DONE);
+    EXPECT(gcflip_beside_prepare(&collector, heap_words) == GCFLIP_DONE);
+}
+
 /* Ends the collection while the mutator waits, which then goes on. */
 static void collect(void)
 {
     take();
     EXPECT(gcflip_beside_finish(&collector) == GCFLIP_FLIPPED);
-    EXPECT(gcflip_beside_resume(&mutator) == GCFLIP_DONE);
+    go_on();
 }
 
 /* The collector copies the objects of the roots, and lets the mutator go on. No write was logged before, so nothing was due. */
@@ -103,6 +112,8 @@ static void closed_handles(void)
     EXPECT(gcflip_beside_close_mutator(&mutator) == GCFLIP_CLOSED);
     EXPECT(gcflip_beside_work(&collector, 1) == GCFLIP_CLOSED);
     EXPECT(gcflip_beside_work(&collector, 0) == GCFLIP_CLOSED);
+    EXPECT(gcflip_beside_prepare(&collector, WORDS) == GCFLIP_CLOSED);
+    EXPECT(gcflip_beside_prepare(&collector, 0) == GCFLIP_CLOSED);
     EXPECT(gcflip_beside_ask(&collector) == GCFLIP_CLOSED);
     EXPECT(gcflip_beside_take(&collector) == GCFLIP_CLOSED);
     EXPECT(gcflip_beside_go(&collector) == GCFLIP_CLOSED);
@@ -181,6 +192,7 @@ static void out_of_range(uint32_t none)
     EXPECT(gcflip_beside_look(&mutator, none, &view) == GCFLIP_OUT_OF_RANGE);
     EXPECT(number == KEPT && view.kind == KEPT_32 && view.count == KEPT_32 && view.number == KEPT);
     EXPECT(gcflip_beside_work(&collector, 0) == GCFLIP_OUT_OF_RANGE);
+    EXPECT(gcflip_beside_prepare(&collector, 0) == GCFLIP_OUT_OF_RANGE);
 }
 
 /* The replies of the commands, at the edges of their operands. The values are worked by hand: an object takes its fields and two words. */
@@ -363,7 +375,7 @@ static void flips(void)
     EXPECT(answer == GCFLIP_FLIPPED);
     EXPECT(gcflip_beside_flip(&collector) == GCFLIP_NOT_YET);
     expect_refused(GCFLIP_PARKED);
-    EXPECT(gcflip_beside_resume(&mutator) == GCFLIP_DONE);
+    go_on();
     EXPECT(gcflip_beside_room(&mutator) == WORDS - 1 - 4);
     expect_one();
     collect();
@@ -452,6 +464,8 @@ static void closes(void)
         EXPECT(gcflip_beside_go(&collector) == GCFLIP_DONE);
         EXPECT(gcflip_beside_resume(&mutator) == GCFLIP_DONE);
         expect_one();
+        if (stage >= 5)
+            EXPECT(gcflip_beside_prepare(&collector, WORDS) == GCFLIP_DONE);
         collect();
         expect_one();
         close_both();
@@ -534,6 +548,7 @@ static void refused_flip(uint32_t (*call)(gcflip_collector *))
             EXPECT(gcflip_beside_work(&collector, MANY) == GCFLIP_CLEAN);
         }
         if (answer == GCFLIP_FLIPPED) {
+            /* the moved roots, the words of both spaces and the pairs */
             EXPECT(!has_failed() && n > 4);
             break;
         }
@@ -555,6 +570,116 @@ static void refused_flip(uint32_t (*call)(gcflip_collector *))
     close_both();
 }
 
+/* Each allocation of a prepare refused in turn: the collection is unchanged, and the call then succeeds. */
+static void refused_prepare(void)
+{
+    open_both(WORDS);
+    make_one();
+    take();
+    EXPECT(gcflip_beside_finish(&collector) == GCFLIP_FLIPPED);
+    EXPECT(gcflip_beside_resume(&mutator) == GCFLIP_DONE);
+    for (long n = 1;; n++) {
+        uint32_t answer;
+
+        fail_allocation(n);
+        answer = gcflip_beside_prepare(&collector, 2 * WORDS);
+        if (answer == GCFLIP_DONE) {
+            EXPECT(!has_failed() && n > 4);
+            break;
+        }
+        EXPECT(answer == GCFLIP_NO_MEMORY && has_failed());
+        EXPECT(gcflip_beside_work(&collector, 1) == GCFLIP_CLEAN);
+        expect_one();
+    }
+    fail_allocation(0);
+    take();
+    EXPECT(gcflip_beside_finish(&collector) == GCFLIP_FLIPPED);
+    EXPECT(gcflip_beside_resume(&mutator) == GCFLIP_DONE);
+    EXPECT(gcflip_beside_room(&mutator) == 2 * WORDS - 1 - 4);
+    expect_one();
+    close_both();
+}
+
+/* A flip puts the memory of the old heap aside, and the prepare behind it frees that. So after each prepare the heap has as many bytes as before. */
+static void memory_of_flips(void)
+{
+    size_t first = 0;
+
+    open_both(1 << 16);
+    make_one();
+    for (int flip = 0; flip < 10; flip++) {
+        size_t before, after;
+
+        take();
+        EXPECT(gcflip_beside_place_roots(&collector) == GCFLIP_DONE && gcflip_beside_work(&collector, MANY) == GCFLIP_CLEAN);
+        before = bytes_in_use();
+        EXPECT(gcflip_beside_flip(&collector) == GCFLIP_FLIPPED);
+        /* the moved roots may take other bytes than the old ones */
+        after = bytes_in_use();
+        EXPECT(after + 1024 > before && before + 1024 > after);
+        go_on();
+        if (flip == 0)
+            first = bytes_in_use();
+        EXPECT(flip == 0 || bytes_in_use() == first);
+    }
+    /* two spaces of cells and claims for both, and less than 8 KiB of other blocks */
+    EXPECT(first < 2 * (8 + 4) * (1 << 16) + 8192);
+    close_both();
+}
+
+/* A heap whose objects take 4 words gets more words at a flip, and then fewer, down to the 5 that it needs. With 4 there is no room. */
+static void sizes(void)
+{
+    static const uint32_t words[] = {2 * WORDS, 1 << 16, 100, 5, WORDS};
+
+    open_both(WORDS);
+    make_one();
+    for (size_t k = 0; k < sizeof words / sizeof words[0]; k++) {
+        EXPECT(gcflip_beside_prepare(&collector, words[k]) == GCFLIP_DONE);
+        take();
+        EXPECT(gcflip_beside_finish(&collector) == GCFLIP_FLIPPED);
+        EXPECT(gcflip_beside_resume(&mutator) == GCFLIP_DONE);
+        EXPECT(gcflip_beside_room(&mutator) == words[k] - 1 - 4);
+        expect_one();
+    }
+    EXPECT(gcflip_beside_prepare(&collector, 4) == GCFLIP_DONE);
+    take();
+    EXPECT(gcflip_beside_finish(&collector) == GCFLIP_NOT_READY);
+    EXPECT(gcflip_beside_prepare(&collector, WORDS) == GCFLIP_NOT_YET);
+    EXPECT(gcflip_beside_go(&collector) == GCFLIP_DONE);
+    EXPECT(gcflip_beside_prepare(&collector, WORDS) == GCFLIP_DONE);
+    EXPECT(gcflip_beside_resume(&mutator) == GCFLIP_DONE);
+    EXPECT(gcflip_beside_ask(&collector) == GCFLIP_DONE);
+    EXPECT(gcflip_beside_prepare(&collector, WORDS) == GCFLIP_NOT_YET);
+    EXPECT(gcflip_beside_go(&collector) == GCFLIP_DONE);
+    collect();
+    expect_one();
+    close_both();
+}
+
+/* A collection that has copied an object, and has a field to bring up to date, begins anew. It copies the object again, and has the field. */
+static void begins_anew(void)
+{
+    open_both(WORDS);
+    make_one();
+    begin_to_copy();
+    EXPECT(gcflip_beside_set_number(&mutator, 1, 8) == GCFLIP_DONE);
+    EXPECT(gcflip_beside_put(&mutator, 0, 0, 1) == GCFLIP_DONE);
+    take();
+    EXPECT(gcflip_beside_go(&collector) == GCFLIP_DONE);
+    EXPECT(gcflip_beside_resume(&mutator) == GCFLIP_DONE);
+    EXPECT(gcflip_beside_prepare(&collector, 2 * WORDS) == GCFLIP_DONE);
+    EXPECT(gcflip_beside_work(&collector, 1) == GCFLIP_CLEAN);
+    take();
+    EXPECT(gcflip_beside_flip(&collector) == GCFLIP_NOT_READY);
+    EXPECT(gcflip_beside_finish(&collector) == GCFLIP_FLIPPED);
+    go_on();
+    EXPECT(gcflip_beside_room(&mutator) == 2 * WORDS - 1 - 4);
+    EXPECT(gcflip_beside_get(&mutator, 2, 0, 0, &number) == GCFLIP_NUMBER && number == 8);
+    expect_one();
+    close_both();
+}
+
 int main(void)
 {
     closed_handles();
@@ -571,6 +696,10 @@ int main(void)
     refused_put();
     refused_flip(gcflip_beside_flip);
     refused_flip(gcflip_beside_finish);
+    refused_prepare();
+    memory_of_flips();
+    sizes();
+    begins_anew();
     closed_handles();
     EXPECT(blocks_in_use() == 0 && bytes_in_use() == 0);
     return 0;

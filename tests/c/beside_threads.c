@@ -207,8 +207,10 @@ static void held(void)
     EXPECT(answer == GCFLIP_NOT_READY || answer == GCFLIP_FLIPPED);
     if (answer == GCFLIP_NOT_READY)
         EXPECT(gcflip_beside_go(&collector) == GCFLIP_DONE);
-    else
+    else {
         count_flip();
+        EXPECT(gcflip_beside_prepare(&collector, WORDS) == GCFLIP_DONE);
+    }
     sleeps(schedule->sleep_let_go);
 }
 

@@ -10,6 +10,7 @@ pub mod Codes
 pub mod Digits
 pub mod Packed
 pub mod Freed
+pub mod Fronts
 pub mod Halves
 pub mod Kept
 pub mod Marks

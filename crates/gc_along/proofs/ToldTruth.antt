@@ -3,10 +3,11 @@ use Rattle.std.proofs.lemmas.Grind.{common_steps}
 use Rattle.std.proofs.Common.{◌≡◌, ◌≢◌, inl, inr, ⊎_elim, ℕ, zero, suc, ◌+◌, ◌-◌, ◌<◌, ◌≤◌, ◌==◌, Bool, true, false, not, List, [], ◌∷◌, ◌++◌, length, set, get_or, take, drop, replicate, Option, Some, is_some, All, AllPairs, refl, sym, ◌∙◌, ap, subst, arith, length-append, length-set, length-take, set-set, rules}
 use Rattle.std.specs.Prelude.{slice_set, slice_index, IsSome}
 use Rattle.std.proofs.lemmas.Bool.{cases_eq, cases_lt, eq-eqb}
-use Rattle.std.proofs.lemmas.List.{take-append-le, drop-take, take-take, get_or-take, get_or_default, get_or-set_same, length-map}
+use Rattle.std.proofs.lemmas.List.{take-append-le, take-set-le, drop-take, take-take, get_or-take, get_or_default, get_or-set_other, get_or-set_same, length-map}
 use Rattle.std.proofs.lemmas.Option.{slice_get-get_or}
 use Rattle.gc_words.specs.Word.{read_header, field_words_correspond}
-use Rattle.gc_words.specs.Image.{Image, Block, header_of, header_at, is_start, field_in, field_at}
+use Rattle.gc_words.specs.Image.{Image, Block, block_at, header_of, header_at, is_start, field_in, field_at}
+use Rattle.gc_words.specs.Space.{IsSpace}
 use Rattle.gc_words.proofs.Public.{StandsIn, block_from, stands_in, field_read, space_of, some_of}
 use Rattle.gc_words.specs.Certificate.{Certified}
 use Rattle.gc_words.specs.Layout.{field_place, link_place}
@@ -16,16 +17,17 @@ use Rattle.gc_along.specs.Internal.Watch.{OldIsDue, mark, pair_at, looked}
 use Rattle.gc_along.specs.Origins.{pairs_in, pairs_from}
 use Rattle.gc_along.specs.Outline.{outline_of}
 use Rattle.gc_along.specs.Tables.{Tables, IsKept, watch_of, due_in}
-use Rattle.gc_along.specs.Claims.{Accepts}
+use Rattle.gc_along.specs.Claims.{Accepts, HasField}
 use Rattle.gc_along.proofs.Seen.{certified}
 use Rattle.gc_along.specs.Telling.{MarksAreStarts, Tells}
-use Rattle.gc_along.specs.Events.{code_of, object_codes, with_news, with_due, old_added, replica_added, IsClaim, IsCopy, Made, Placed, IsFieldOf, Looked, IsReplicaAt, HasNoReplica, Wrote, Applied, Freed, opening_tables, flipped_tables}
+use Rattle.gc_along.specs.Events.{code_of, object_codes, with_news, with_due, old_added, replica_added, IsCopy, Made, Saw, Placed, PlacedBy, IsFieldOf, Looked, IsReplicaAt, HasNoReplica, Wrote, Applied, Freed, opening_tables, flipped_tables}
 use Rattle.gc_along.proofs.Codes.{code_set}
 use Rattle.gc_along.proofs.Kept.{kept_due, kept_old, kept_replica, map_append, codes_length, code_is}
 use Rattle.gc_along.proofs.Origins.{placed as pairs_placed}
 use Rattle.gc_along.proofs.Looks.{taken_for_due, compared}
 use Rattle.gc_along.proofs.Walked.{begun, old_goes_on, paired_next, replicated, replicated_next, kept}
 use Rattle.gc_along.proofs.Written.{old_field, new_field, old_link, new_link}
+use Rattle.gc_along.proofs.Fronts.{field_where, found_where}
 use Rattle.gc_along.proofs.Marks.{no_zero, marks_more, marks_set, marks_taken, marks_written, marks_linked}
 
 -- ---- the pairs of a row of originals
@@ -107,6 +109,14 @@ made_tells old new t after tells made = ⊎_elim
           new_starts = tells.new_starts;
         }
 
+pub saw_tells : (old new : List ℕ) (t after : Tables) (word : ℕ) → Tells old new t → Saw word t after → slice_index old (length t.olds) ≡ word → length after.olds ≤ length old → Tells old new after
+saw_tells old new t after word tells saw is long =
+    let more : length after.olds ≡ length t.olds + (saw.0.len + 2) = ap (λ (t : Tables). length t.olds) saw.3 ∙ omega (arith, length-append t.olds (object_codes saw.0.len 0), codes_length saw.0.len 0) in
+    made_tells old new t after tells (record {
+      at_end = λ past. absurd (omega (arith, past, more, long));
+      more = λ _. (saw.0, record { header = ap read_header is ∙ saw.1; within = omega (arith, more, long); bound = saw.2 }, saw.3);
+    })
+
 -- ---- a replica more
 
 codes_due : (n : ℕ) (due : Bool) → due_in (replicate n (code_of due)) ≡ replicate n due
@@ -131,9 +141,9 @@ module _ (old new : List ℕ) (w : Watch) (a : ℕ) (h : Header) (is : Watches o
   copied_next : Watches old new (replicated w a h false)
   copied_next = replicated_next old new w a h false is once next (the_copy (seen_at w.old_seen old a) refl found)
 
-module _ (old new : List ℕ) (t : Tables) (h : Header) (a : ℕ) (tells : Tells old new t) (claim : IsClaim old new t h a) where
+module _ (old new : List ℕ) (t : Tables) (h : Header) (a : ℕ) (tells : Tells old new t) (next : IsNext (length t.news) new h) (rows : length t.origins ≡ length t.news) (low : 1 ≤ a) (start : get_or t.olds a 0 ≡ 1) (header : slice_index old a ≡ slice_index new (length t.news)) where
   start_at : is_start (take (length t.olds) old) a ≡ true
-  start_at = tells.old_starts a (inl claim.start)
+  start_at = tells.old_starts a (inl start)
 
   the_block : (b : Block) × (seen_at (length t.olds) old a ≡ Some b)
   the_block = some_of (seen_at (length t.olds) old a) start_at
@@ -154,19 +164,19 @@ module _ (old new : List ℕ) (t : Tables) (h : Header) (a : ℕ) (tells : Tells
   not_paired k d l e = grind (arith, common_steps, origin_of, kept)
 
   bound : length t.news + (h.len + 2) ≤ 4294967295
-  bound = claim.next.bound
+  bound = next.bound
 
   its_kept : (due : Bool) → IsKept (replica_added t h a due)
-  its_kept due = kept_replica t h a due bound claim.start tells.kept
+  its_kept due = kept_replica t h a due bound start tells.kept
 
   added_tells : (due : Bool) → Watches old new (replicated (watch_of t) a h due) → Tells old new (replica_added t h a due)
   added_tells due watches = search (rules, kept, its_kept, watch_added, marks_taken, start_at, marks_more, no_zero)
 
   due_tells : Tells old new (replica_added t h a true)
-  due_tells = added_tells true (paired_next old new (watch_of t) a h tells.watches found_header not_paired claim.next)
+  due_tells = added_tells true (paired_next old new (watch_of t) a h tells.watches found_header not_paired next)
 
   copy_tells : IsCopy old new h a (length t.news) → Tells old new (replica_added t h a false)
-  copy_tells copy = added_tells false (copied_next old new (watch_of t) a h tells.watches found_header not_paired claim.next copy.raw (λ c at.
+  copy_tells copy = added_tells false (copied_next old new (watch_of t) a h tells.watches found_header not_paired next copy.raw (λ c at.
       let one : the_block.0 ≡ c = (let s : Some the_block.0 ≡ Some c = sym the_block.1 ∙ at in cc) in
       let len : the_block.0.header.len ≡ h.len = ap (λ (h : Header). h.len) its_header in
       let rest : a + 2 + (length t.olds - (a + 2)) ≡ length t.olds = omega (arith, fits) in
@@ -181,11 +191,19 @@ module _ (old new : List ℕ) (t : Tables) (h : Header) (a : ℕ) (tells : Tells
 pub placed_tells : (old new : List ℕ) (t after : Tables) → Tells old new t → Placed old new t after → Tells old new after
 placed_tells old new t after tells is = ⊎_elim
     (λ less. (let m = is.more less in ⊎_elim
-    (λ e. subst (Tells old new) (sym e) (due_tells old new t m.0 m.1 tells m.2))
-    (λ e. subst (Tells old new) (sym e.1) (copy_tells old new t m.0 m.1 tells m.2 e.0))
+    (λ e. subst (Tells old new) (sym e) (due_tells old new t m.0 m.1 tells m.2.next m.2.rows m.2.low m.2.start m.2.header))
+    (λ e. subst (Tells old new) (sym e.1) (copy_tells old new t m.0 m.1 tells m.2.next m.2.rows m.2.low m.2.start m.2.header e.0))
     m.3))
     (λ past. subst (Tells old new) (sym (is.at_end (omega arith))) tells)
     (cases_lt (length t.news) (length new))
+
+pub placed_by_tells : (old new : List ℕ) (t after : Tables) (word a : ℕ) → Tells old new t → PlacedBy word a t after → slice_index old a ≡ word → slice_index new (length t.news) ≡ word → length after.news ≤ length new
+    → Tells old new after
+placed_by_tells old new t after word a tells by original is long =
+    let h : Header = by.header in
+    let more : length after.news ≡ length t.news + (h.len + 2) = ap (λ (t : Tables). length t.news) by.added ∙ omega (arith, length-append t.news (object_codes h.len 3), codes_length h.len 3) in
+    subst (Tells old new) (sym by.added)
+    (due_tells old new t h a tells (record { header = ap read_header is ∙ by.is; within = omega (arith, more, long); bound = by.bound }) by.rows by.low by.start (original ∙ sym is))
 
 -- ---- a field due or not
 
@@ -269,6 +287,10 @@ pub applied_tells : (old new : List ℕ) (t after : Tables) (a i : ℕ) → Tell
 applied_tells old new t after a i tells (inl h) = subst (Tells old new) (sym h.1) tells
 applied_tells old new t after a i tells (inr (b, at, look)) = looked_tells old new t after b i tells look
 
+pub wrote_tells : (old new : List ℕ) (t after : Tables) (a i : ℕ) → Tells old new t → Wrote a i t after → Tells old new after
+wrote_tells old new t after a i tells (inl h) = subst (Tells old new) (sym h.1) tells
+wrote_tells old new t after a i tells (inr (b, at, within, is)) = subst (Tells old new) (sym is) (due_told old new t (field_place b i) tells)
+
 -- ---- words written
 
 due_here : (t : Tables) (b i : ℕ) → field_place b i < length t.news → is_due (watch_of (with_due t (field_place b i) true)) b i ≡ true
@@ -279,47 +301,47 @@ due_here t b i within =
 pub due_tells_written : (old new : List ℕ) (t : Tables) (b i x : ℕ) → Tells old new t → IsSome (field_at (take (length t.news) new) b i) → NewIsDue (watch_of t) b i → Tells old (slice_set new (field_place b i) x) t
 due_tells_written old new t b i x tells some due = search (rules, kept, new_field, marks_written)
 
+-- the field of a replica that is due is written, and then looked at
+module _ (old new : List ℕ) (t after : Tables) (b i x : ℕ) (told : Tells old new (with_due t (field_place b i) true)) (is : Looked old (slice_set new (field_place b i) x) b i t after) where
+  abbrev place : ℕ
+  place = field_place b i
+
+  abbrev written : List ℕ
+  written = slice_set new place x
+
+  abbrev marked : Tables
+  marked = with_due t place true
+
+  abbrev due : Bool
+  due = not (field_words_correspond is.0 (pairs_in t.origins) (slice_index old (field_place is.1 i)) (slice_index written place))
+
+  rows : length marked.news ≡ length t.news
+  rows = length-set t.news place 3
+
+  twice : with_due marked place due ≡ with_due t place due
+  twice = ap (with_news t) (set-set t.news place 3 (code_of due))
+
+  same_word : slice_index new b ≡ slice_index written b
+  same_word = sym (get_or-set_other new place b x 0 (λ e. let f : b ≡ field_place b i = e in omega arith))
+
+  blocks : Blocks old new marked is.1 b told is.2.low is.2.origin
+  blocks = its_blocks old new marked is.1 b told is.2.low is.2.origin
+
+  due_header : blocks.other.header ≡ is.0
+  due_header = let s : Some blocks.other.header ≡ Some is.0 = sym (header_word (length marked.news) new b i blocks.other told.watches.new_seen blocks.other_at) ∙ ap read_header same_word ∙ is.2.header in cc
+
+  some : IsSome (field_at (take (length marked.news) new) b i)
+  some = has_field (length marked.news) new b i blocks.other told.watches.new_seen blocks.other_at (subst (λ (g : Header). i < g.len) (sym due_header) is.2.has_field)
+
+  brought_due : Tells old written after
+  brought_due =
+      subst (Tells old written) (sym is.5)
+      (subst (Tells old written) twice
+      (looked_tells old written marked (with_due marked place due) b i (due_tells_written old new marked b i x told some (λ k d l e. due_here t b i is.2.within))
+      (is.0, is.1, record { header = is.2.header; has_field = is.2.has_field; origin = is.2.origin; low = is.2.low; within = omega (arith, is.2.within, rows) }, is.3, is.4, refl)))
+
 pub brought_tells : (old new : List ℕ) (t after : Tables) (b i x : ℕ) → Tells old new t → Looked old (slice_set new (field_place b i) x) b i t after → Tells old (slice_set new (field_place b i) x) after
-brought_tells old new t after b i x tells is =
-    subst (Tells old written) (sym is.5)
-    (subst (Tells old written) twice
-    (looked_tells old written marked (with_due marked place due) b i told
-    (is.0, is.1, record { header = is.2.header; has_field = is.2.has_field; origin = is.2.origin; low = is.2.low; within = omega (arith, is.2.within, rows) }, is.3, is.4, refl)))
-  where
-    place : ℕ
-    place = field_place b i
-
-    written : List ℕ
-    written = slice_set new place x
-
-    due : Bool
-    due = not (field_words_correspond is.0 (pairs_in t.origins) (slice_index old (field_place is.1 i)) (slice_index written place))
-
-    marked : Tables
-    marked = with_due t place true
-
-    rows : length marked.news ≡ length t.news
-    rows = length-set t.news place 3
-
-    twice : with_due marked place due ≡ with_due t place due
-    twice = ap (with_news t) (set-set t.news place 3 (code_of due))
-
-    same_word : slice_index new b ≡ slice_index written b
-    same_word = sym (Rattle.std.proofs.lemmas.List.get_or-set_other new place b x 0 (λ e. let f : b ≡ field_place b i = e in omega arith))
-
-    blocks : Blocks old new t is.1 b tells is.2.low is.2.origin
-    blocks = its_blocks old new t is.1 b tells is.2.low is.2.origin
-
-    its_header : blocks.other.header ≡ is.0
-    its_header = let s : Some blocks.other.header ≡ Some is.0 = sym (header_word (length t.news) new b i blocks.other tells.watches.new_seen blocks.other_at) ∙ ap read_header same_word ∙ is.2.header in cc
-
-    some : IsSome (field_at (take (length t.news) new) b i)
-    some = has_field (length t.news) new b i blocks.other tells.watches.new_seen blocks.other_at (subst (λ (g : Header). i < g.len) (sym its_header) is.2.has_field)
-
-    told : Tells old written marked
-    told = due_tells_written old new marked b i x (due_told old new t place tells)
-        (subst (λ n. IsSome (field_at (take n new) b i)) (sym rows) some)
-        (λ k d l e. due_here t b i is.2.within)
+brought_tells old new t after b i x tells is = brought_due old new t after b i x (due_told old new t (field_place b i) tells) is
 
 same_once : (pairs : List (ℕ × ℕ)) → AllPairs (λ p q. p.0 ≢ q.0) pairs → (k l : ℕ) (d : ℕ × ℕ) → k < length pairs → l < length pairs → (get_or pairs k d).0 ≡ (get_or pairs l d).0 → k ≡ l
 same_once pairs once k l d m n same = grind (arith, common_steps, cases_eq, cases_lt)
@@ -366,3 +388,83 @@ pub new_more_tells : (old new more : List ℕ) (t : Tables) → Tells old new t 
 new_more_tells old new more t tells = grind (arith, common_steps, kept, seen_more, same_seen, take-append-le)
 
 -- ---- a walk over the old space anew
+
+-- the walk does not look at words behind it
+behind_tells : (old words new : List ℕ) (t : Tables) → take (length t.olds) old ≡ take (length t.olds) words → length words ≡ length old → Tells old new t → Tells words new t
+behind_tells old words new t same long tells = record {
+  kept = tells.kept;
+  watches = record {
+    old_seen = record { within = omega (arith, tells.watches.old_seen.within, long); space = subst (λ ws. IsSpace (record { size = 4294967295; words = ws })) same tells.watches.old_seen.space };
+    new_seen = tells.watches.new_seen;
+    pairs = λ k d l. subst (λ ws. IsWatched (watch_of t) (get_or (pairs_in t.origins) k d).1 (block_at ws (get_or (pairs_in t.origins) k d).0) (seen_at (length t.news) new (get_or (pairs_in t.origins) k d).1)) same (tells.watches.pairs k d l);
+    row = tells.watches.row;
+    rising = tells.watches.rising;
+    once = tells.watches.once;
+  };
+  old_starts = λ a m. subst (λ ws. is_start ws a ≡ true) same (tells.old_starts a m);
+  new_starts = tells.new_starts;
+}
+
+-- a field written anywhere in the old space
+pub anywhere_tells : (old new : List ℕ) (t after : Tables) (a i x : ℕ) → Tells old new t → IsSeen (length old) old → IsSome (field_at old a i) → Wrote a i t after → Tells (slice_set old (field_place a i) x) new after
+anywhere_tells old new t after a i x tells whole some wrote = ⊎_elim
+    (λ here. written_tells old new a i x t after tells here wrote)
+    (λ there. behind_tells old (slice_set old (field_place a i) x) new after
+    (sym (take-set-le (length after.olds) old (field_place a i) x (omega (arith, there, same_walk wrote))))
+    (length-set old (field_place a i) x) (wrote_tells old new t after a i tells wrote))
+    (field_where (length t.olds) old tells.watches.old_seen whole a i some)
+  where
+    same_walk : Wrote a i t after → length after.olds ≡ length t.olds
+    same_walk (inl h) = ap (λ (t : Tables). length t.olds) h.1
+    same_walk (inr (b, at, within, is)) = ap (λ (t : Tables). length t.olds) is
+
+-- and a link
+pub link_anywhere_tells : (old new : List ℕ) (t : Tables) (a x : ℕ) → Tells old new t → IsSeen (length old) old → is_start old a ≡ true → Tells (slice_set old (link_place a) x) new t
+link_anywhere_tells old new t a x tells whole start = ⊎_elim
+    (λ here. old_link_tells old new t a x tells (ap is_some here))
+    (λ there. behind_tells old (slice_set old (link_place a) x) new t (sym (take-set-le (length t.olds) old (link_place a) x (omega (arith, there)))) (length-set old (link_place a) x) tells)
+    (found_where (length t.olds) old tells.watches.old_seen whole a b.0 b.1)
+  where
+    b : (b : Block) × (block_at old a ≡ Some b)
+    b = some_of (block_at old a) start
+
+-- a replica has its original's fields
+module _ (old new : List ℕ) (t : Tables) (tells : Tells old new t) (b i : ℕ) (has : HasField (slice_index new b) t b i) where
+  abbrev its_origin : ℕ
+  its_origin = get_or t.origins b 0
+
+  abbrev its_field : IsFieldOf new t has.header its_origin b i
+  its_field = record { header = has.is; has_field = has.has_field; origin = refl; low = has.origin; within = has.within }
+
+  abbrev its_words : Blocks old new t its_origin b tells has.origin refl
+  its_words = its old new t has.header its_origin b i tells its_field
+
+  same_as : its_words.one.header ≡ has.header
+  same_as = one_header old new t has.header its_origin b i tells its_field
+
+  pub original_field : IsSome (field_at (take (length t.olds) old) (get_or t.origins b 0) i)
+  original_field = has_field (length t.olds) old its_origin i its_words.one tells.watches.old_seen its_words.one_at (subst (λ (g : Header). i < g.len) (sym same_as) has.has_field)
+
+-- a space without objects has no replicas
+pub none_replicated : (old new : List ℕ) (t : Tables) → Tells old new t → length new ≤ 1 → (a : ℕ) → HasNoReplica t a
+none_replicated old new t tells short a b low is =
+    let its : Blocks old new t (get_or t.origins b 0) b tells low refl = its_blocks old new t (get_or t.origins b 0) b tells low refl in
+    let stands = stands_at (length t.news) new b 0 its.other tells.watches.new_seen its.other_at in
+    omega (arith, stands.low, stands.fits, tells.watches.new_seen.within, short, length-take (length t.news) new)
+
+-- both fields written, and then looked at
+pub both_tells : (old new : List ℕ) (t after : Tables) (a b i x y : ℕ) → Tells old new t → get_or t.origins b 0 ≡ a → Looked (slice_set old (field_place a i) x) (slice_set new (field_place b i) y) b i t after
+    → Tells (slice_set old (field_place a i) x) (slice_set new (field_place b i) y) after
+both_tells old new t after a b i x y tells origin is =
+    brought_due (slice_set old (field_place a i) x) new t after b i y
+    (written_tells old new a i x t (with_due t (field_place b i) true) tells
+    (subst (λ a. IsSome (field_at (take (length t.olds) old) a i)) origin
+    (original_field old new t tells b i (record { header = is.0; is = ap read_header same_word ∙ is.2.header; has_field = is.2.has_field; origin = low; within = is.2.within })))
+    (inr (b, record { low = subst (λ a. 1 ≤ a) origin low; taken = ap (λ a. get_or t.olds a 0) (sym origin) ∙ tells.kept.taken b low; origin = origin }, is.2.within, refl)))
+    is
+  where
+    low : 1 ≤ get_or t.origins b 0
+    low = subst (λ a. 1 ≤ a) (sym is.2.origin) is.2.low
+
+    same_word : slice_index new b ≡ slice_index (slice_set new (field_place b i) y) b
+    same_word = sym (get_or-set_other new (field_place b i) b y 0 (λ e. let f : b ≡ field_place b i = e in omega arith))

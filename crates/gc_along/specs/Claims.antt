@@ -1,5 +1,6 @@
 -- What has to be true of what a checker is told, so that it does not become lost.
-use Rattle.std.specs.Prelude.{◌≡◌, ◌≤◌, ◌<◌, ◌+◌, ◌%◌, ◌^◌, ℕ, IsFalse, false, List, length, slice_index, slice_index_or}
+use Rattle.std.specs.Prelude.{◌≡◌, ◌≤◌, ◌<◌, ◌+◌, ◌%◌, ◌^◌, ℕ, IsFalse, Some, false, List, length, slice_index, slice_index_or}
+use Rattle.gc_words.specs.Word.{read_header}
 use Rattle.gc_graph.specs.Limits.{largest_space}
 use Rattle.gc_words.specs.Layout.{field_place, fields_place, link_place}
 use Rattle.gc_words.specs.declared.header.Header.{Header}
@@ -26,6 +27,14 @@ OwesNone old new t after = (h : Header) (a : ℕ) → IsClaim old new t h a → 
 -- both spaces have field i of the replica at b and of its original
 abbrev pub CanLook : List ℕ → List ℕ → ℕ → ℕ → Tables → Type 0
 CanLook old new b i t = (h : Header) × (a : ℕ) × IsFieldOf new t h a b i × (field_place a i < length old) × (field_place b i < length new)
+
+-- A replica starts at b. An object with this header word has field i, and the walk over the new space has passed it.
+pub record HasField (word : ℕ) (t : Tables) (b i : ℕ) : Type 0 where
+  pub header : Header
+  pub is : read_header word ≡ Some header
+  pub has_field : i < header.len
+  pub origin : 1 ≤ slice_index_or t.origins b 0
+  pub within : field_place b i < length t.news
 
 -- the low 32 bits of the link of the object at a lead to its replica at b
 pub record IsLinked (old : List ℕ) (t : Tables) (a b : ℕ) : Type 0 where
@@ -60,3 +69,30 @@ pub record HasSeenBoth (t : Tables) (old new : ImageOutline) : Type 0 where
 pub record Accepts (t : Tables) (old new : ImageOutline) : Type 0 where
   pub seen : HasSeenBoth t old new
   pub roots : RootsCorrespond (pairs_in t.origins) old.roots new.roots
+
+-- ---- words that come one by one
+
+-- an object with this header word would fit behind the walk over the old space
+abbrev pub CanSee : ℕ → Tables → Type 0
+CanSee word t = (h : Header) × (read_header word ≡ Some h) × (length t.olds + (h.len + 2) ≤ t.room)
+
+-- a replica with this header word would fit behind the walk over the new space, and the object at a was seen and has none
+pub record CanPlaceBy (word a : ℕ) (t : Tables) : Type 0 where
+  pub header : Header
+  pub is : read_header word ≡ Some header
+  pub low : 1 ≤ a
+  pub high : a < largest_space
+  pub start : slice_index_or t.olds a 0 ≡ 1
+  pub room : length t.news + (header.len + 2) ≤ t.room
+
+-- if the object at a has a replica, it is the one at b, whose field i was seen
+abbrev pub CanWriteAt : ℕ → ℕ → ℕ → Tables → Type 0
+CanWriteAt a i b t = slice_index_or t.olds a 0 ≡ 2 → (1 ≤ a) × (slice_index_or t.origins b 0 ≡ a) × (field_place b i < length t.news)
+
+-- Both spaces have field i of the replica at b and of its original. The replica has this header word, and these are the words of the fields.
+pub record ShowsField (old new : List ℕ) (t : Tables) (b i word v u : ℕ) : Type 0 where
+  pub header : slice_index new b ≡ word
+  pub old_within : field_place (slice_index_or t.origins b 0) i < length old
+  pub old_word : slice_index old (field_place (slice_index_or t.origins b 0) i) ≡ v
+  pub new_within : field_place b i < length new
+  pub new_word : slice_index new (field_place b i) ≡ u

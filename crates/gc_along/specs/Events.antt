@@ -1,5 +1,6 @@
 -- What the events do to the tables of a standing checker that is not lost.
-use Rattle.std.specs.Prelude.{◌≡◌, ◌⊎◌, ◌≢◌, ◌≤◌, ◌<◌, ℕ, zero, suc, Some, Bool, true, false, not, if◌then◌else◌, List, [], ◌∷◌, ◌++◌, length, take, drop, replicate, slice_index, slice_index_or, slice_set}
+use Rattle.std.specs.Prelude.{◌≡◌, ◌⊎◌, ◌≢◌, ◌≤◌, ◌<◌, ◌+◌, ℕ, zero, suc, Some, Bool, true, false, not, if◌then◌else◌, List, [], ◌∷◌, ◌++◌, length, take, drop, replicate, slice_index, slice_index_or, slice_set}
+use Rattle.gc_graph.specs.Limits.{largest_space}
 use Rattle.gc_words.specs.Word.{read_header, field_words_correspond}
 use Rattle.gc_words.specs.Layout.{field_place, fields_place, link_place}
 use Rattle.gc_words.specs.declared.header.Header.{Header}
@@ -32,6 +33,10 @@ pub record Made (old : List ℕ) (t after : Tables) : Type 0 where
   pub at_end : length old ≤ length t.olds → after ≡ t
   pub more : length t.olds < length old → (h : Header) × IsNext (length t.olds) old h × (after ≡ old_added t h)
 
+-- the same for an object with this header word
+abbrev pub Saw : ℕ → Tables → Tables → Type 0
+Saw word t after = (h : Header) × (read_header word ≡ Some h) × (length t.olds + (h.len + 2) ≤ largest_space) × (after ≡ old_added t h)
+
 -- ---- a replica more
 
 -- the next new object claims this original: an object that was seen, and has no replica yet, with the same header
@@ -60,6 +65,16 @@ pub record Placed (old new : List ℕ) (t after : Tables) : Type 0 where
   pub at_end : length new ≤ length t.news → after ≡ t
   pub more : length t.news < length new → (h : Header) × (a : ℕ) × IsClaim old new t h a
       × ((after ≡ replica_added t h a true) ⊎ (IsCopy old new h a (length t.news) × (after ≡ replica_added t h a false)))
+
+-- The same for a replica with this header word, of an object at a that was seen and has no replica yet. Its fields are due, also if it is raw.
+pub record PlacedBy (word a : ℕ) (t after : Tables) : Type 0 where
+  pub header : Header
+  pub is : read_header word ≡ Some header
+  pub rows : length t.origins ≡ length t.news
+  pub low : 1 ≤ a
+  pub start : slice_index_or t.olds a 0 ≡ 1
+  pub bound : length t.news + (header.len + 2) ≤ largest_space
+  pub added : after ≡ replica_added t header a true
 
 -- ---- a field compared, or written
 

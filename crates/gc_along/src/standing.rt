@@ -1,3 +1,4 @@
+mod loading;
 mod looking;
 
 use crate::code_row::CodeRow;
@@ -66,7 +67,7 @@ impl Standing {
     ghost use Rattle.gc_along.specs.Watch.{RootsCorrespond};
     ghost use Rattle.gc_along.specs.Tables.{IsKept};
     ghost use Rattle.gc_along.specs.Telling.{IsMark};
-    ghost use Rattle.gc_along.specs.Events.{Made, Placed, Wrote, WroteRow, Applied, Freed, HasNoReplica, object_codes, absent_tables, opening_tables, flipped_tables, with_due};
+    ghost use Rattle.gc_along.specs.Events.{Made, Placed, Wrote, WroteRow, Applied, Freed, HasNoReplica, object_codes, absent_tables, opening_tables, flipped_tables, replica_added, with_due};
     ghost use Rattle.gc_along.specs.Internal.Rows.{with_due_row};
     ghost use Rattle.gc_along.specs.Runs.{PlacedAll, CanPlaceAll};
     ghost use Rattle.gc_graph.specs.Graph.{Ref};
@@ -149,15 +150,26 @@ impl Standing {
             self.lost = true;
             return;
         };
-        let end = at + (usize::from(header.len()) + 2);
-        if !self.olds.covers(end) {
-            self.made_behind(header.len(), end);
-            return;
-        }
-        self.olds.add(usize::from(header.len()) + 1);
+        self.see(header.len(), at + (usize::from(header.len()) + 2));
     }
 
-    // The walk over the old space goes on by an object that ends here, if there is room for its codes. They may need further words.
+    // The walk over the old space goes on by an object with so many fields, which ends here, if there is room for its codes.
+    #[inline(always)]
+    fn see(&mut self, len: u16, end: usize)
+        requires found { IsFalse self.old.lost }
+        requires end { end ≡ length self.old.olds + (len + 2) }
+        ensures made { IsFalse self.new.lost → (end ≤ 4294967295) × (self.new ≡ record self.old { olds = self.old.olds ++ object_codes len 0 }) }
+        ensures stays { end ≤ self.old.room → IsFalse self.new.lost }
+    {
+        if !self.olds.covers(end) {
+            self.made_behind(len, end);
+            return;
+        }
+        let fields = usize::from(len);
+        self.olds.add(fields + 1);
+    }
+
+    // The same where the codes may need further words.
     #[cold]
     #[inline(never)]
     fn made_behind(&mut self, len: u16, end: usize)
@@ -226,6 +238,18 @@ impl Standing {
             return;
         };
         let due = !is_copy(header, old, new, original, at);
+        self.add_replica(header, original, due);
+    }
+
+    // The tables have a replica with this header more, whose fields are due or not.
+    #[inline(always)]
+    fn add_replica(&mut self, header: Header, original: u32, due: bool)
+        requires found { IsFalse self.old.lost }
+        requires original { slice_index_or self.old.olds original 0 ≡ 1 }
+        requires low { 1 ≤ original }
+        requires room { length self.old.news + (header.len + 2) ≤ self.old.room }
+        ensures { self.new ≡ replica_added self.old header original due }
+    {
         self.olds.take(original as usize);
         self.origins.add(header.len(), original);
         add_codes(&mut self.news, header.len(), due);
@@ -366,10 +390,18 @@ impl Standing {
             return None;
         }
         let at = (old[link] % PLACES) as u32;
-        if self.origin_at(at) != a {
+        if !self.is_replica(a, at) {
             return None;
         }
         Some(at)
+    }
+
+    // Whether the replica at `at` is that of the object at `a`.
+    #[inline(always)]
+    pub(super) fn is_replica(&self, a: u32, at: u32) -> bool
+        ensures { IsTrue result ↔ (1 ≤ a) × (slice_index_or self.now.origins at 0 ≡ a) }
+    {
+        a != 0 && self.origin_at(at) == a
     }
 
     /// Something is not as it was told: no flip passes from now on.

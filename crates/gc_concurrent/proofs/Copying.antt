@@ -27,9 +27,10 @@ use Rattle.gc_concurrent.specs.Ends.{Known, Mine, Theirs}
 use Rattle.gc_concurrent.specs.Unreachable.{MayBeCopied}
 use Rattle.gc_concurrent.specs.Internal.Plans.{collection_of, plan}
 use Rattle.gc_concurrent.specs.Internal.Carrying.{KeepsUnreachableOut}
-use Rattle.gc_concurrent.specs.Internal.Rule.{IsAtRest, IsConcurrent, brought, scanned, applied, wants, after_read, lacks, read_as, Sat, tells_scan_of, tells_apply_of, tells_scan, tells_apply}
+use Rattle.gc_concurrent.specs.Internal.Rule.{RootWords, IsAtRest, IsConcurrent, IsWordAs, brought, scanned, applied, wants, after_read, lacks, read_as, Sat, tells_scan_of, tells_apply_of, tells_scan, tells_apply}
 use Rattle.gc_concurrent.specs.Ends.{its}
 use Rattle.gc_concurrent.proofs.Hands.{St, seats_theirs}
+use Rattle.gc_concurrent.proofs.Shown.{shown_set}
 use Rattle.gc_concurrent.proofs.Fitting.{end_brought}
 use Rattle.gc_concurrent.proofs.Keeping.{kept_brought, kept_wants, kept_target}
 use Rattle.gc_concurrent.proofs.Loosely.{Leaves, loosely, block_is}
@@ -37,7 +38,7 @@ use lib.Seq.{set-get_or}
 
 -- ---- a step that changes the collection alone
 
-pub theirs_keep : (size : ℕ) (s : St) (r : IsConcurrent size s) (k id : ℕ) (v : Known) (c : List (ℕ × ℕ)) (t' : Theirs) → get_elem? s.views id ≡ some v → v.copies ≡ true → t'.old ≡ r.theirs.old
+pub theirs_keep : (size : ℕ) (s : St) (r : IsConcurrent size s) (k id : ℕ) (v : Known) (c : List (ℕ × RootWords)) (t' : Theirs) → get_elem? s.views id ≡ some v → v.copies ≡ true → t'.old ≡ r.theirs.old
     → ((a : ℕ) → In a t'.wanted → (o : Object) × (lookup (objects_of r.mine.space.words) a ≡ Some o))
     → IsOpened (plan r.mine r.theirs) (collection_of r.mine t') → KeepsUnreachableOut r.mine t' → new_end (its t') ≤ end_of r.mine.space → (r.mine.logs ≡ false → IsAtRest r.mine t')
     → IsConcurrent size (stepped s k (get_or s.words k 0) id c (record v { theirs = t' }) keeps)
@@ -45,6 +46,7 @@ theirs_keep size s r k id v c t' here copies old wanted opened carries fits rest
     subst (λ (ws : List ℕ). IsConcurrent size (record { words = ws; homes = s.homes; views = set s.views id (record v { theirs = t' }) })) (sym (set-get_or s.words k 0)) (record {
       mine = r.mine;
       theirs = t';
+      seen = r.seen;
       writer = r.writer;
       copier = r.copier;
       wide = r.wide;
@@ -60,6 +62,8 @@ theirs_keep size s r k id v c t' here copies old wanted opened carries fits rest
       fits = fits;
       rests = rests;
       seats = seats_theirs r.writer r.copier id r.mine r.theirs t' s.views v here copies r.seats;
+      told = r.told;
+      shown = shown_set r.seen s.views id (record v { theirs = t' }) (r.shown id v here) r.shown;
     })
 
 -- ---- what is at rest has no replicas
@@ -164,6 +168,14 @@ value_of_field words false w plain is = is.value
 
 found_value : (size : ℕ) (s : St) (r : IsConcurrent size s) (q : Replica) (i : ℕ) → (f : Reads size s r q i) → f.block.header.raw ≡ false → is_value (get_or s.words (field_place q.original i) 0) ≡ true
 found_value size s r q i f plain = value_of_field r.mine.space.words f.block.header.raw (get_or s.words (field_place q.original i) 0) plain
+    (closed_field_read r.mine.space.words [] q.original i (get_or s.words (field_place q.original i) 0) f.block r.closed f.found f.read)
+
+word_as : (words : List ℕ) (raw : Bool) (w : ℕ) → IsWordOfField raw words w → IsWordAs raw w
+word_as words true w is = is
+word_as words false w is = is.value
+
+found_as : (size : ℕ) (s : St) (r : IsConcurrent size s) (q : Replica) (i : ℕ) → (f : Reads size s r q i) → IsWordAs f.block.header.raw (get_or s.words (field_place q.original i) 0)
+found_as size s r q i f = word_as r.mine.space.words f.block.header.raw (get_or s.words (field_place q.original i) 0)
     (closed_field_read r.mine.space.words [] q.original i (get_or s.words (field_place q.original i) 0) f.block r.closed f.found f.read)
 
 -- the target of the value read, where it lacks a replica
@@ -333,7 +345,7 @@ apply_at slots size s r id me q i rest seat copies here due = go (lacks (its t) 
           (open_keeps S c (steps.Apply 1) refl r.opened (λ e. cc e))))
           (kept_brought r.mine t r.carries q.original i (moved (its t) v) (applied q.original i v t) refl refl refl)
           (brought_fits size s r q.original i v) (λ e. absurd (replica_works r.mine t q r.rests here e)),
-      λ p j more l e' _. let w = one p j more l e' in ((λ plain. found_value size s r q i f (sym f.raw ∙ (ap (λ (x : Replica). x.object.raw) w.0 ∙ plain))), tell None e p j w),
+      λ p j more l e' _. let w = one p j more l e' in (subst (λ (b : Bool). IsWordAs b (get_or s.words k 0)) (sym f.raw ∙ ap (λ (x : Replica). x.object.raw) w.0) (found_as size s r q i f), tell None e p j w),
     )
     go (Some name) e = let lack = lacking (its t) v name e in (
       record me.0 { theirs = wants name t },
@@ -341,7 +353,7 @@ apply_at slots size s r id me q i rest seat copies here due = go (lacks (its t) 
       tt,
       want size s r k id me name seat copies (found_start size s r q i name f (ap (λ (b : Bool). read_as b (get_or s.words k 0)) (sym f.raw) ∙ lack.0))
           (kept_target r.mine t r.carries q i v name here is lack.0) (replica_works r.mine t q r.rests here),
-      λ p j more l e' _. let w = one p j more l e' in ((λ plain. found_value size s r q i f (sym f.raw ∙ (ap (λ (x : Replica). x.object.raw) w.0 ∙ plain))), tell (Some name) e p j w),
+      λ p j more l e' _. let w = one p j more l e' in (subst (λ (b : Bool). IsWordAs b (get_or s.words k 0)) (sym f.raw ∙ ap (λ (x : Replica). x.object.raw) w.0) (found_as size s r q i f), tell (Some name) e p j w),
     )
 
 applies : (slots size id : ℕ) (me : Sat) (q : Replica) (i : ℕ) (rest : List (ℕ × ℕ)) → me.0.copies ≡ true

@@ -31,6 +31,7 @@ use Rattle.gc_concurrent.specs.Unreachable.{CopiesNothingUnreachable}
 use Rattle.gc_concurrent.specs.Internal.Rule.{IsConcurrent, Sat}
 use Rattle.gc_concurrent.specs.Ends.{its}
 use Rattle.gc_concurrent.specs.Internal.Flip.{Flips, Holds, roots_alone, moved_words, new_heap_of, tells_flip}
+use Rattle.gc_concurrent.proofs.Joined.{catches_up}
 use Rattle.gc_concurrent.proofs.Hands.{same}
 use Rattle.gc_concurrent.proofs.Copying.{moved_same}
 use Rattle.gc_concurrent.proofs.Logs.{to_two}
@@ -199,6 +200,7 @@ flips_rule slots size k id me writes copies s r _ seat _ =
       same size s k id me.1 me.0 seat r,
       (
         refl,
+        catches_up size s r id me.0 seat writes copies,
         λ roots fine done. subst (λ (x : Mine × Theirs). Flips roots x.0 x.1) (λ i. (sym mine i, sym theirs i))
             (flips_there r.mine r.theirs roots (subst (λ (m : Mine). IsHeap (heap_of m roots)) mine fine) r.opened
             (ap (λ (m : Mine). m.log) (sym mine) ∙ done.logged) (ap (λ (t : Theirs). t.due) (sym theirs) ∙ done.applied)

@@ -6,10 +6,10 @@ use lib.Seq.{set-get_or}
 use Rattle.atomic_table.specs.Table.{State, stepped, keeps}
 use Rattle.atomic_table.proofs.Lists.{at_set, set_again}
 use Rattle.gc_concurrent.specs.Ends.{Known, Mine, Theirs}
-use Rattle.gc_concurrent.specs.Internal.Rule.{Seated, AreSeated, IsConcurrent}
+use Rattle.gc_concurrent.specs.Internal.Rule.{RootWords, Seated, AreSeated, IsConcurrent}
 
 abbrev pub St : Type 0
-St = State ℕ Known
+St = State RootWords Known
 
 pub seat_set : (F : ℕ → Known → Type 0) (views : List Known) (id : ℕ) (w : Known) → F id w → ((j : ℕ) (u : Known) → j ≢ id → get_elem? views j ≡ some u → F j u)
     → (j : ℕ) (u : Known) → get_elem? (set views id w) j ≡ some u → F j u
@@ -29,5 +29,5 @@ seats_theirs writer copier id mine theirs theirs' views v here copies h = let ow
     (λ j u other e. ((h j u e).0, λ p. absurd (other (((h j u e).1 p).0 ∙ sym own.0))))
 
 -- a step that changes nothing
-pub same : (size : ℕ) (s : St) (k id : ℕ) (c : List (ℕ × ℕ)) (v : Known) → get_elem? s.views id ≡ some v → IsConcurrent size s → IsConcurrent size (stepped s k (get_or s.words k 0) id c v keeps)
+pub same : (size : ℕ) (s : St) (k id : ℕ) (c : List (ℕ × RootWords)) (v : Known) → get_elem? s.views id ≡ some v → IsConcurrent size s → IsConcurrent size (stepped s k (get_or s.words k 0) id c v keeps)
 same size s k id c v here r = subst (λ (x : List ℕ × List Known). IsConcurrent size (record { words = x.0; homes = s.homes; views = x.1 })) (λ i. (sym (set-get_or s.words k 0) i, sym (set_again s.views id v here) i)) r

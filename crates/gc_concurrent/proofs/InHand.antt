@@ -1,11 +1,14 @@
 -- What a collector's fields say of its memory.
 use Rattle.std.proofs.Common.{◌≡◌, ◌≢◌, ◌⊎◌, ◌&&◌, ℕ, zero, suc, ◌<◌, ◌≤◌, Bool, true, false, List, [], ◌∷◌, ◌++◌, length, Some, refl, ap, sym, ◌∙◌, subst, inl, inr, ⊎_elim, arith}
 use Rattle.gc_words.specs.Image.{Block, is_start, block_at, header_at, header_of}
-use Rattle.gc_words.specs.Space.{end_of}
+use Rattle.gc_words.specs.Space.{SpaceWords, IsSpace, end_of}
+use Rattle.gc_words.specs.Closed.{IsWordOfField, IsFieldWord}
+use Rattle.gc_copy.specs.Words.{replicas_in}
 use Rattle.gc_words.specs.declared.header.Header.{Header}
 use Rattle.gc_plan.specs.State.{Replica}
 use Rattle.gc_plan.specs.Steps.{is_empty}
 use Rattle.gc_concurrent.specs.declared.copier.Copier.{Copier}
+use Rattle.gc_concurrent.specs.Internal.Spares.{claims_spared}
 use Rattle.gc_concurrent.specs.Ends.{Theirs}
 use Rattle.std.specs.Prelude.{slice_index, drop}
 use Rattle.std.proofs.Math.Logic.{∥∥₁_elim}
@@ -18,6 +21,20 @@ use Rattle.gc_concurrent.proofs.Memory.{Stands, stands_at, stands_for, one_there
 pub mem : (a : Copier) → Holds a.space a.seat.me.0.theirs
 mem a = record { shaped = a.shaped; sized = a.sized.1; same = a.same }
 
+-- ---- the space after loads, which leave it as it was
+
+pub still_shaped : (a : Copier) (space : SpaceWords) → space ≡ a.space → IsSpace space
+still_shaped a space e = subst IsSpace (sym e) a.shaped
+
+pub still_sized : (a : Copier) (space : SpaceWords) → space ≡ a.space → space.size ≡ a.seat.me.0.theirs.size
+still_sized a space e = ap (λ (s : SpaceWords). s.size) e ∙ a.sized.1
+
+pub still_same : (a : Copier) (space : SpaceWords) → space ≡ a.space → a.seat.me.0.theirs.replicas ≡ replicas_in space.words
+still_same a space e = a.same ∙ ap (λ (s : SpaceWords). replicas_in s.words) (sym e)
+
+pub still_spared : (a : Copier) (size : ℕ) → size ≡ a.space.size → claims_spared a.spare size ≡ size
+still_spared a size e = subst (λ n. claims_spared a.spare n ≡ n) (sym e) a.spared
+
 pub at_scan : (a : Copier) → a.scan_place < end_of a.space → Stands a.seat.me.0.theirs a.space a.scan_place
 at_scan a less = stands_at a.seat.me.0.theirs a.space a.scan_place (mem a)
     (subst (λ p. is_start a.space.words p ≡ true) a.scans.0 (scan_start a.seat.me.0.theirs a.space (mem a) a.loose (let e = a.scans.0 in omega arith)))
@@ -25,6 +42,14 @@ at_scan a less = stands_at a.seat.me.0.theirs a.space a.scan_place (mem a)
 -- the header that was read is that of the object that stands there
 pub header_there : (words : List ℕ) (place : ℕ) (b : Block) (h : Header) → block_at words place ≡ Some b → header_at words place ≡ Some h → b.header ≡ h
 header_there words place b h found read = let e : Some b.header ≡ Some h = sym (ap header_of found) ∙ read in cc
+
+-- a word that may be in a field of the object that stands here
+pub word_fits : (words : List ℕ) (place w : ℕ) (h : Header) → header_at words place ≡ Some h → IsWordOfField h.raw words w → (space : SpaceWords) → space.words ≡ words
+    → (b : Block) → block_at space.words place ≡ Some b → IsFieldWord space.words b.header w
+word_fits words place w h read is space e b found =
+    let found' : block_at words place ≡ Some b = subst (λ ws. block_at ws place ≡ Some b) e found in
+    let same = header_there words place b h found' read in
+    subst (λ (z : Header × List ℕ). IsWordOfField z.0.raw z.1 w) (λ i. (sym same i, sym e i)) is
 
 -- the seat after a step that changes the collector's view alone
 pub keeps_seat : (a b : Sat) (t : Theirs) → b ≡ (record a.0 { theirs = t }, a.1) → t.old ≡ a.0.theirs.old → t.base ≡ a.0.theirs.base → t.size ≡ a.0.theirs.size → KeepsSeat a b

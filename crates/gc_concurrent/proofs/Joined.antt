@@ -1,5 +1,5 @@
 -- Steps with both ends at hand: the log changes hands, and the targets of the mutator's roots are wanted.
-use Rattle.std.proofs.Common.{◌≡◌, ℕ, true, true≢false, List, [], ◌∷◌, ◌++◌, set, refl, sym, ◌∙◌, subst, inl, inr, ⊎_elim, arith}
+use Rattle.std.proofs.Common.{◌≡◌, ℕ, ap, true, true≢false, List, [], ◌∷◌, ◌++◌, set, refl, sym, ◌∙◌, subst, inl, inr, ⊎_elim, arith}
 use Rattle.std.specs.Prelude.{is_some, Some}
 use mathlib.Core.Option.{none, some}
 use lib.ListN.{get_elem?}
@@ -15,8 +15,11 @@ use Rattle.gc_plan.proofs.Public.{its_replicas, belongs_from, replicas_due, in_l
 use Rattle.gc_concurrent.specs.Ends.{Known, Mine, Theirs}
 use Rattle.gc_concurrent.specs.Unreachable.{MayBeCopied}
 use Rattle.gc_concurrent.specs.Internal.Plans.{collection_of, plan}
-use Rattle.gc_concurrent.specs.Internal.Rule.{AreSeated, IsConcurrent, Seated, Sat, logs_taken, root_wanted, wants, tells_take, tells_root}
+use Rattle.gc_concurrent.specs.Internal.Rule.{AreSeated, CatchesUp, IsConcurrent, Seated, Sat, logs_taken, root_wanted, wants, tells_take, tells_root}
+use Rattle.gc_concurrent.specs.Internal.Told.{IsTold}
 use Rattle.gc_concurrent.proofs.Hands.{St, seat_set}
+use Rattle.gc_concurrent.proofs.Shown.{shown_anew}
+use Rattle.gc_concurrent.proofs.Told.{caught_up}
 use Rattle.gc_concurrent.proofs.Logs.{of_two, to_two, in_either}
 use Rattle.gc_concurrent.proofs.Keeping.{kept_still, kept_mine, kept_wants}
 use Rattle.gc_concurrent.proofs.Loosely.{Leaves, loosely}
@@ -49,21 +52,33 @@ taken_opened m t h =
       logs = refl;
     }
 
+-- what a seat that is both ends is told of the words that were seen
+pub catches_up : (size : ℕ) (s : St) (r : IsConcurrent size s) (id : ℕ) (v : Known) → get_elem? s.views id ≡ some v → v.writes ≡ true → v.copies ≡ true → CatchesUp v
+catches_up size s r id v seat writes copies =
+    let mine : v.mine ≡ r.mine = ((r.seats id v seat).0 writes).1 in
+    let theirs : v.theirs ≡ r.theirs = ((r.seats id v seat).1 copies).1 in
+    let seen : v.seen ≡ r.seen = r.shown id v seat copies in
+    record {
+      told = subst (λ (z : List ℕ × Mine). IsTold z.0 z.1) (λ j. (sym seen j, sym mine j)) r.told;
+      rests = λ e. let k = r.rests (ap (λ (m : Mine). m.logs) (sym mine) ∙ e) in (ap (λ (t : Theirs). t.replicas) theirs ∙ k.copied, ap (λ (m : Mine). m.log) mine ∙ k.logged);
+    }
+
 take_at : (slots size : ℕ) (s : St) (r : IsConcurrent size s) (k id : ℕ) (me : Sat) → get_elem? s.views id ≡ some me.0 → me.0.writes ≡ true → me.0.copies ≡ true
-    → Leaves size s k id me (λ n m. (m ≡ (logs_taken me.0, me.1)) × (me.0.theirs.base ≡ me.0.mine.base))
+    → Leaves size s k id me (λ n m. (m ≡ (logs_taken me.0, me.1)) × (me.0.theirs.base ≡ me.0.mine.base) × CatchesUp me.0)
 take_at slots size s r k id me seat writes copies =
     let own = r.seats id me.0 seat in
     let mine : me.0.mine ≡ r.mine = ((own.0) writes).1 in
     let theirs : me.0.theirs ≡ r.theirs = ((own.1) copies).1 in
     let m' : Mine = record r.mine { log = [] } in
     let t' : Theirs = record r.theirs { due = r.theirs.due ++ r.mine.log } in
-    let w : Known = record me.0 { mine = m'; theirs = t' } in (
+    let w : Known = record me.0 { mine = m'; theirs = t'; seen = r.mine.space.words } in (
       w,
       keeps,
       tt,
       subst (λ (ws : List ℕ). IsConcurrent size (record { words = ws; homes = s.homes; views = set s.views id w })) (sym (set-get_or s.words k 0)) (record {
         mine = m';
         theirs = t';
+        seen = r.mine.space.words;
         writer = r.writer;
         copier = r.copier;
         wide = r.wide;
@@ -79,33 +94,41 @@ take_at slots size s r k id me seat writes copies =
         fits = r.fits;
         rests = λ e. let k = r.rests e in record { logged = refl; copied = k.copied; due = (λ j. k.due j ++ k.logged j); wanted = k.wanted };
         seats = both_seats r.writer r.copier id r.mine m' r.theirs t' s.views me.0 w seat writes copies refl refl r.seats;
+        told = caught_up m' r.space refl;
+        shown = shown_anew r.mine.space.words r.writer r.copier id r.mine r.theirs s.views me.0 w seat copies refl r.seats;
       }),
-      ((λ j. (record me.0 { mine = record (sym mine j) { log = [] }; theirs = record (sym theirs j) { due = (sym theirs j).due ++ (sym mine j).log } }, me.1)), subst (λ (z : Mine × Theirs). z.1.base ≡ z.0.base) (λ j. (sym mine j, sym theirs j)) r.carries.begun),
+      (
+        (λ j. (record me.0 { mine = record (sym mine j) { log = [] }; theirs = record (sym theirs j) { due = (sym theirs j).due ++ (sym mine j).log }; seen = (sym mine j).space.words }, me.1)),
+        subst (λ (z : Mine × Theirs). z.1.base ≡ z.0.base) (λ j. (sym mine j, sym theirs j)) r.carries.begun,
+        catches_up size s r id me.0 seat writes copies,
+      ),
     )
 
 pub takes_rule : (slots size k id : ℕ) (me : Sat) → me.0.writes ≡ true → me.0.copies ≡ true
     → Allows (IsConcurrent size) slots id me k (λ x. x) (tells_take (step slots k 0 0 none) me)
-takes_rule slots size k id me writes copies s r _ seat _ = loosely size s k id me (λ n m. (m ≡ (logs_taken me.0, me.1)) × (me.0.theirs.base ≡ me.0.mine.base)) seat (take_at slots size s r k id me seat writes copies)
+takes_rule slots size k id me writes copies s r _ seat _ = loosely size s k id me (λ n m. (m ≡ (logs_taken me.0, me.1)) × (me.0.theirs.base ≡ me.0.mine.base) × CatchesUp me.0) seat (take_at slots size s r k id me seat writes copies)
 
 -- ---- roots
 
-pub roots_rule : (slots size id : ℕ) (me : Sat) (w name : ℕ) → me.0.writes ≡ true → me.0.copies ≡ true → IsRootWord me.0.mine.space.words w → value_of w ≡ Ref name → MayBeCopied me.0.theirs.base name
+pub roots_rule : (slots size id : ℕ) (me : Sat) (w name : ℕ) → me.0.writes ≡ true → me.0.copies ≡ true → me.0.mine.log ≡ [] → IsRootWord me.0.mine.space.words w → value_of w ≡ Ref name → MayBeCopied me.0.theirs.base name
     → Allows (IsConcurrent size) slots id me name (λ x. x) (tells_root (step slots name 0 0 none) me)
-roots_rule slots size id me w name writes copies fine is kept s r _ seat _ =
+roots_rule slots size id me w name writes copies empty fine is kept s r _ seat _ =
     let mine : me.0.mine ≡ r.mine = ((r.seats id me.0 seat).0 writes).1 in
     let theirs : me.0.theirs ≡ r.theirs = ((r.seats id me.0 seat).1 copies).1 in
     let fine' : IsRootWord r.mine.space.words w = subst (λ (m : Mine). IsRootWord m.space.words w) mine fine in
     let start : is_some (block_at r.mine.space.words name) ≡ true = subst (RefersToStart r.mine.space.words) is fine'.start in
     let m' : Mine = record r.mine { logs = true } in
     let t' : Theirs = wants name r.theirs in
-    let w : Known = record me.0 { mine = m'; theirs = t' } in
-    loosely size s name id me (λ n m. m ≡ (root_wanted name me.0, me.1)) seat (
+    let w : Known = record me.0 { mine = m'; theirs = t'; seen = r.mine.space.words } in
+    let none : r.mine.log ≡ [] = ap (λ (m : Mine). m.log) (sym mine) ∙ empty in
+    loosely size s name id me (λ n m. (m ≡ (root_wanted name me.0, me.1)) × CatchesUp me.0) seat (
       w,
       keeps,
       tt,
       subst (λ (ws : List ℕ). IsConcurrent size (record { words = ws; homes = s.homes; views = set s.views id w })) (sym (set-get_or s.words name 0)) (record {
         mine = m';
         theirs = t';
+        seen = r.mine.space.words;
         writer = r.writer;
         copier = r.copier;
         wide = r.wide;
@@ -121,6 +144,8 @@ roots_rule slots size id me w name writes copies fine is kept s r _ seat _ =
         fits = r.fits;
         rests = λ e. absurd (true≢false e);
         seats = both_seats r.writer r.copier id r.mine m' r.theirs t' s.views me.0 w seat writes copies refl refl r.seats;
+        told = caught_up m' r.space none;
+        shown = shown_anew r.mine.space.words r.writer r.copier id r.mine r.theirs s.views me.0 w seat copies refl r.seats;
       }),
-      λ j. (record me.0 { mine = record (sym mine j) { logs = true }; theirs = wants name (sym theirs j) }, me.1),
+      ((λ j. (record me.0 { mine = record (sym mine j) { logs = true }; theirs = wants name (sym theirs j); seen = (sym mine j).space.words }, me.1)), catches_up size s r id me.0 seat writes copies),
     )

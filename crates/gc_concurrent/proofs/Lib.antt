@@ -1,6 +1,8 @@
 -- Lemmas, from the cells up to whole runs.
 pub mod TiedCells
 pub mod Hands
+pub mod Told
+pub mod Shown
 pub mod Keeping
 pub mod Writing
 pub mod Logs
@@ -9,11 +11,14 @@ pub mod Fitting
 pub mod Copying
 pub mod Placing
 pub mod Joined
+pub mod Seeing
+pub mod Following
 pub mod Flip
 pub mod Opening
 pub mod CatchUp
 pub mod Memory
 pub mod InHand
+pub mod Comparing
 pub mod Nearing
 pub mod Turn
 pub mod Rooting

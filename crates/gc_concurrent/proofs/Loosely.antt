@@ -11,13 +11,13 @@ use Rattle.gc_words.proofs.Public.{object_found, fields_counted, stands_in}
 use Rattle.gc_plan.specs.Belonging.{IsLogged}
 use Rattle.gc_concurrent.specs.Ends.{Known, Mine, Theirs}
 use Rattle.gc_concurrent.specs.Internal.Plans.{collection_of}
-use Rattle.gc_concurrent.specs.Internal.Rule.{IsConcurrent, Loose, KnowsBelonging, Sat}
+use Rattle.gc_concurrent.specs.Internal.Rule.{RootWords, IsConcurrent, Loose, KnowsBelonging, Sat}
 use Rattle.gc_concurrent.specs.Ends.{its}
 use Rattle.gc_concurrent.proofs.Hands.{St}
 
 -- what a load of the word k by this seat leaves
 abbrev pub Leaves : (size : ℕ) (s : St) (k id : ℕ) (me : Sat) → (ℕ → Sat → Type 0) → Type 0
-Leaves size s k id me tells = (w : Known) × (a : Act ℕ) × Valid s.homes me.1 a × IsConcurrent size (stepped s k (get_or s.words k 0) id me.1 w a) × tells (get_or s.words k 0) (w, carried_after me.1 a)
+Leaves size s k id me tells = (w : Known) × (a : Act RootWords) × Valid s.homes me.1 a × IsConcurrent size (stepped s k (get_or s.words k 0) id me.1 w a) × tells (get_or s.words k 0) (w, carried_after me.1 a)
 
 pub block_is : (o : Opt Block) (q : Object) → option_map object_of_block o ≡ Some q → (b : Block) × (o ≡ Some b) × (object_of_block b ≡ q)
 block_is None q e = absurd cc
@@ -27,7 +27,7 @@ entries_its : (m : Mine) (t : Theirs) (a i : ℕ) → IsLogged (its t) a i → I
 entries_its m t a i (zero, h) = (1, h)
 entries_its m t a i (suc k, h) = absurd h
 
-pub loose_of : (size : ℕ) (s : St) (r : IsConcurrent size s) → Loose r.theirs
+loose_of : (size : ℕ) (s : St) (r : IsConcurrent size s) → Loose r.theirs
 loose_of size s r =
     let words : List ℕ = r.mine.space.words in
     let b = (r.opened).belongs in record {
@@ -52,6 +52,7 @@ loose_of size s r =
           omega arith;
       wanted = r.wanted;
       high = (r.opened).size;
+      old_low = let low = (r.space).size_low in let sized = r.sized in let older = r.older in omega arith;
       old_high = let high = (r.space).size_high in let sized = r.sized in let older = r.older in omega arith;
     }
 

@@ -1,7 +1,7 @@
 -- The collector's memory holds the replicas of its view.
 use Rattle.std.proofs.lemmas.Grind.{common_steps}
 use Rattle.std.proofs.Common.{◌≡◌, ◌≢◌, ◌⊎◌, ℕ, zero, suc, ◌+◌, ◌-◌, ◌<◌, ◌≤◌, ◌==◌, Bool, true, false, List, [], ◌∷◌, ◌++◌, length, get_or, set, map, Some, None, is_some, refl, ap, sym, ◌∙◌, subst, inl, inr, ⊎_elim, arith, length-set, get_or-set_same, get_or-set_other, lt_of_not-le}
-use Rattle.std.specs.Prelude.{slice_index, slice_set, nat_lt, IsSome, if◌then◌else◌}
+use Rattle.std.specs.Prelude.{slice_index, slice_set, nat_lt, IsSome, IsTrue, if◌then◌else◌}
 use Rattle.std.specs.Option.{option_map, option_map_or, option_or, unwrap_or}
 use Rattle.std.specs.List.{find}
 use Rattle.std.specs.declared.option.Option.{Option as Opt}
@@ -18,6 +18,8 @@ use Rattle.gc_graph.specs.Graph.{Value, Nil, Num, Ref, Object, new_object}
 use Rattle.gc_graph.specs.Machine.{object_words}
 use Rattle.gc_words.specs.Image.{Block, blocks, block_in, block_at, is_start, field_at, object_of_block, fresh_block}
 use Rattle.gc_words.specs.Spelling.{link_at}
+use Rattle.gc_words.specs.Word.{is_value, value_of}
+use Rattle.gc_words.specs.Closed.{IsWordOfField, RefersToStart}
 use Rattle.gc_words.specs.Space.{SpaceWords, CanPlace, end_of, free_in, with_field_at, with_object, with_link}
 use Rattle.gc_words.specs.declared.header.Header.{Header}
 use Rattle.gc_words.proofs.Public.{fields_counted, some_of, fresh_object, can_place_fresh}
@@ -31,7 +33,7 @@ use Rattle.gc_copy.proofs.Public.{new_end_is, in_start, replica_start, space_pla
 use Rattle.gc_concurrent.specs.Ends.{Theirs}
 use Rattle.gc_concurrent.specs.Internal.Codes.{replica_coded}
 use Rattle.gc_concurrent.specs.Ends.{its}
-use Rattle.gc_concurrent.specs.Internal.Rule.{Loose, lacks, after_read, wants, brought, read_as, placed_one, blank_replica}
+use Rattle.gc_concurrent.specs.Internal.Rule.{Loose, IsWordAs, lacks, after_read, wants, brought, read_as, placed_one, blank_replica}
 use Rattle.gc_concurrent.specs.Internal.Flip.{Holds}
 use Rattle.gc_concurrent.specs.Internal.Copiers.{Claims, KeepsClaims, moved_by}
 use Rattle.gc_concurrent.proofs.CatchUp.{catches_up}
@@ -56,6 +58,9 @@ wanted_near t l a k = ∥∥₁_elim l (le_prop _ _) (λ (x : Loose t). let o = 
 
 pub old_high : (t : Theirs) → ∥ Loose t ∥₁ → t.old ≤ 4294967295
 old_high t l = ∥∥₁_elim l (le_prop _ _) (λ (x : Loose t). x.old_high)
+
+pub old_low : (t : Theirs) → ∥ Loose t ∥₁ → 1 ≤ t.old
+old_low t l = ∥∥₁_elim l (le_prop _ _) (λ (x : Loose t). x.old_low)
 
 pub end_is : (t : Theirs) (space : SpaceWords) → Holds space t → new_end (its t) ≡ end_of space
 end_is t space h = ap (λ (rs : List Replica). objects_end 1 (map placed rs)) h.same ∙ new_end_is (record { space = space; logs = []; scan_place = 1; scan_field = 0; epoch = 0 }) h.shaped
@@ -168,6 +173,20 @@ pub lacks_so : (row : List ℕ) (t : Theirs) (v : Value) (a : ℕ) → ∥ Loose
 lacks_so row t v a loose c l is e = ap (lacks (its t)) is ∙ ap (λ (o : Opt Replica). if is_some o then None else Some a) (unclaimed row t a loose c l e)
 
 -- ---- a field is written
+
+-- a value that refers to replicas refers to objects of the space
+moved_refers : (row : List ℕ) (t : Theirs) (space : SpaceWords) (v : Value) → Holds space t → Claims row t → ((a : ℕ) → v ≡ Ref a → a + 2 ≤ t.old) → ((a : ℕ) → v ≡ Ref a → slice_index row a ≢ 0) → RefersToStart space.words (moved_by row v)
+moved_refers row t space Nil h c low ne = tt
+moved_refers row t space (Num n) h c low ne = tt
+moved_refers row t space (Ref a) h c low ne =
+    let q = claimed row t a c (let l = low a refl in omega arith) (ne a refl) in
+    subst (λ p. is_start space.words p ≡ true) q.4 (stands_for t space q.0 h q.2)
+
+-- a field word that follows may be in a field of the replica
+pub field_word_moved : (raw : Bool) (row : List ℕ) (t : Theirs) (space : SpaceWords) (word w : ℕ) → Holds space t → Claims row t → IsWordAs raw word → read_as raw w ≡ moved_by row (read_as raw word) → (raw ≡ false → IsTrue (is_value w))
+    → ((a : ℕ) → read_as raw word ≡ Ref a → a + 2 ≤ t.old) → ((a : ℕ) → read_as raw word ≡ Ref a → slice_index row a ≢ 0) → IsWordOfField raw space.words w
+field_word_moved true row t space word w h c is moved value low ne = let e : Num w ≡ Num word = moved in let same : w ≡ word = cc e in omega arith
+field_word_moved false row t space word w h c is moved value low ne = record { value = value refl; start = subst (RefersToStart space.words) (sym moved) (moved_refers row t space (value_of word) h c low ne) }
 
 pub written_same : (t : Theirs) (space : SpaceWords) (q : Replica) (i w : ℕ) (v : Value) → Holds space t → ∥ Loose t ∥₁ → In q t.replicas → IsSome (field_at space.words q.place i) → read_as q.object.raw w ≡ moved (its t) v
     → (brought q.original i v t).replicas ≡ replicas_in (with_field_at space q.place i w).words

@@ -1,24 +1,31 @@
 -- The rule holds at first, where the one seat is cut in two, and where two seats become one.
-use Rattle.std.proofs.Common.{◌≡◌, ◌≢◌, ◌⊎◌, ℕ, zero, suc, ◌-◌, ◌<◌, ◌≤◌, true, true≢false, List, [], ◌∷◌, ◌++◌, length, get_or, set, refl, ap, sym, ◌∙◌, subst, inl, inr, ⊎_elim, arith, length-append}
-use Rattle.std.proofs.lemmas.List.{length-replicate}
-use Rattle.gc_concurrent.specs.Internal.Plans.{padded_to}
-use Rattle.gc_concurrent.proofs.Writing.{at_left, zero_at, zeros}
+use Rattle.std.proofs.Common.{◌≡◌, ◌≢◌, ◌⊎◌, ℕ, zero, suc, eqb, ◌<◌, ◌≤◌, true, true≢false, List, [], ◌∷◌, ◌++◌, length, get_or, set, refl, ap, sym, ◌∙◌, subst, inl, inr, ⊎_elim, arith}
+use Rattle.std.proofs.lemmas.Grind.{common_steps}
+use Rattle.std.proofs.lemmas.Bool.{eqb-true, cases_Bool}
+use prog.Atomic.{either}
+use lib.Seq.{set-get_or}
 use lib.ListN.{get_elem?}
-use mathlib.Core.Option.{some, some-injective, some-ne-none}
-use Rattle.atomic_table.specs.Table.{Splits, Joins, opening}
+use mathlib.Core.Option.{some, none, some-injective, some-ne-none}
+use Rattle.atomic_table.specs.Table.{Splits, Joins, Allows, step, stepped, keeps, opening}
 use Rattle.atomic_table.proofs.Lists.{at_set, set_else}
-use Rattle.gc_words.specs.Space.{SpaceWords, IsSpace}
+use Rattle.gc_words.specs.Space.{IsSpace, empty_space}
+use Rattle.gc_words.proofs.Public.{closed_empty, space_of}
 use Rattle.gc_words.specs.Image.{objects_of}
+use Rattle.gc_plan.specs.Belonging.{HasField, IsLogged, IsOpened}
 use Rattle.gc_plan.proofs.Public.{begun_belongs}
 use Rattle.gc_copy.proofs.Public.{words_numbers}
-use Rattle.gc_words.specs.Closed.{IsRootWord}
 use Rattle.gc_heap.specs.Heap.{HeapWords, IsHeap}
-use Rattle.std.proofs.lemmas.List.Elements.{All-nil}
 use Rattle.gc_concurrent.proofs.Keeping.{begins_kept}
-use Rattle.gc_concurrent.specs.Ends.{Known, Mine, Theirs, opening_mine, opening_theirs, opening_view}
-use Rattle.gc_concurrent.specs.Internal.Rule.{IsConcurrent, Loose, only_writes, only_copies, both_ends, spent_view}
-use Rattle.gc_concurrent.proofs.Hands.{seat_set}
-use Rattle.gc_concurrent.proofs.Loosely.{loose_of}
+use Rattle.gc_concurrent.specs.Ends.{Known, Mine, Theirs, one_heap, opening_mine, opening_theirs, opening_view}
+use Rattle.gc_concurrent.specs.Unreachable.{MayBeCopied}
+use Rattle.gc_concurrent.specs.Internal.Plans.{collection_of, plan}
+use Rattle.gc_concurrent.specs.Internal.Carrying.{FieldsLeadTo, KeepsUnreachableOut}
+use Rattle.gc_concurrent.specs.Internal.Rule.{RootWords, Sat, Seated, IsAtRest, IsConcurrent, only_writes, only_copies, both_ends, spent_view, begun_anew, tells_begin, tells_renew}
+use Rattle.gc_concurrent.proofs.Hands.{St, seat_set}
+use Rattle.gc_concurrent.proofs.Shown.{shown_anew, shown_set}
+use Rattle.gc_concurrent.proofs.Told.{caught_up}
+use Rattle.gc_concurrent.proofs.Loosely.{Leaves, loosely}
+use Rattle.gc_concurrent.proofs.Copying.{theirs_keep}
 
 snoc_cases : (l : List Known) (a b : Known) (j : ℕ) → get_elem? (l ++ a ∷ []) j ≡ some b → (get_elem? l j ≡ some b) ⊎ ((j ≡ length l) × (a ≡ b))
 snoc_cases [] a b zero e = inr (refl, some-injective a b e)
@@ -37,6 +44,7 @@ splits_rule size id v writes copies s r here =
     record {
       mine = r.mine;
       theirs = r.theirs;
+      seen = r.seen;
       writer = length vs;
       copier = r.copier;
       wide = r.wide;
@@ -55,6 +63,11 @@ splits_rule size id v writes copies s r here =
           (λ (x : get_elem? vs j ≡ some u). ((λ p. absurd ((old j u x).1 p)), (old j u x).0))
           (λ (x : (j ≡ length vs) × (q ≡ u)). ((λ p. (x.0, ap (λ (z : Known). z.mine) (sym x.1) ∙ (own.0 writes).1)), λ p. absurd (true≢false (sym (ap (λ (z : Known). z.copies) x.1 ∙ p)))))
           (snoc_cases vs q u j e);
+      told = r.told;
+      shown = λ j u e p. ⊎_elim
+          (λ (x : get_elem? vs j ≡ some u). shown_set r.seen s.views id l (r.shown id v here) r.shown j u x p)
+          (λ (x : (j ≡ length vs) × (q ≡ u)). absurd (true≢false (sym (ap (λ (z : Known). z.copies) x.1 ∙ p))))
+          (snoc_cases vs q u j e);
     }
 
 -- two seats become one
@@ -67,6 +80,7 @@ joins_rule size id other v w copies writes s r here apart there =
     record {
       mine = r.mine;
       theirs = r.theirs;
+      seen = r.seen;
       writer = id;
       copier = id;
       wide = r.wide;
@@ -88,68 +102,165 @@ joins_rule size id other v w copies writes s r here apart there =
           (λ (y : (j ≢ id) × (get_elem? s.views j ≡ some u)). ((λ p. absurd (x.0 (((r.seats j u y.1).0 p).0 ∙ sym there'.0))), λ p. absurd (y.0 (((r.seats j u y.1).1 p).0 ∙ sym here'.0))))
           (at_set s.views id j both u x.1))
           (at_set vs other j spent_view u e);
+      told = r.told;
+      shown = shown_set r.seen vs other spent_view (λ p. absurd (true≢false (sym p))) (shown_set r.seen s.views id both (λ _. r.shown id v here copies) r.shown);
     }
 
--- The words of the table: those of the heap, and zeros up to its size.
-pub record Begins (heap : HeapWords) (new_size : ℕ) (words : List ℕ) : Type 0 where
-  pub wide : length words ≡ heap.space.size
-  pub now : (k : ℕ) → k < length heap.space.words → get_or words k 0 ≡ get_or heap.space.words k 0
-  pub free : (k : ℕ) → length heap.space.words ≤ k → k < heap.space.size → get_or words k 0 ≡ 0
-  pub sound : IsHeap heap
-  pub low : 1 ≤ new_size
-  pub high : new_size ≤ 4294967295
+-- ---- empty cells
 
-pub opens_rule : (heap : HeapWords) (new_size : ℕ) (words : List ℕ) → Begins heap new_size words
-    → IsConcurrent heap.space.size (opening words [] (opening_view heap new_size))
-opens_rule heap new_size words b =
-    let m : Mine = opening_mine heap in
-    let t : Theirs = opening_theirs heap heap.space.size new_size in
-    let v : Known = opening_view heap new_size in
-    let low = b.low in
-    record {
-      mine = m;
-      theirs = t;
-      writer = 0;
-      copier = 0;
-      wide = b.wide;
-      sized = refl;
-      older = refl;
-      now = b.now;
-      free = b.free;
-      space = (b.sound).space;
-      closed = record { fields = (b.sound).closed.fields; roots = All-nil (IsRootWord heap.space.words) };
-      wanted = λ a h. absurd h;
-      opened = record { belongs = begun_belongs (objects_of heap.space.words) 2 new_size (words_numbers heap.space.words) low; size = b.high; logs = refl };
-      carries = record { begun = refl; behind = omega arith; fields = (begins_kept heap b.sound).fields; copied = λ r l. absurd l; wanted = λ a l. absurd l };
-      fits = (let e = (b.sound).space.end_low in omega arith);
-      rests = λ _. record { logged = refl; copied = refl; due = refl; wanted = refl };
-      seats = λ j u e. ⊎_elim
-          (λ (x : get_elem? [] j ≡ some u). absurd (some-ne-none u (sym x)))
-          (λ (x : (j ≡ 0) × (v ≡ u)). ((λ _. (x.0, ap (λ (z : Known). z.mine) (sym x.1))), λ _. (x.0, ap (λ (z : Known). z.theirs) (sym x.1))))
-          (snoc_cases [] v u j e);
-    }
+opening_seats : (v : Known) (j : ℕ) (u : Known) → get_elem? (v ∷ []) j ≡ some u → (j ≡ 0) × (v ≡ u)
+opening_seats v zero u e = (refl, some-injective v u e)
+opening_seats v (suc j) u e = absurd (some-ne-none u (sym e))
 
-behind : (xs ys : List ℕ) (k : ℕ) → length xs ≤ k → get_or (xs ++ ys) k 0 ≡ get_or ys (k - length xs) 0
-behind [] ys k h = ap (λ n. get_or ys n 0) (omega arith)
-behind (x ∷ xs) ys zero h = absurd (omega arith)
-behind (x ∷ xs) ys (suc k) h = behind xs ys k (omega arith) ∙ ap (λ n. get_or ys n 0) (omega arith)
+-- where a collection of a heap begins, in a new space of one word
+fresh_opened : (heap : HeapWords) → IsOpened (plan (opening_mine heap) (opening_theirs heap heap.space.size 1)) (collection_of (opening_mine heap) (opening_theirs heap heap.space.size 1))
+fresh_opened heap = record { belongs = begun_belongs (objects_of heap.space.words) 2 1 (words_numbers heap.space.words) (omega arith); size = omega arith; logs = refl }
 
-pub padded_length : (space : SpaceWords) → IsSpace space → length (padded_to space.size space.words) ≡ space.size
-padded_length space is = let n : length (zeros (space.size - length space.words)) ≡ space.size - length space.words = length-replicate (space.size - length space.words) 0 in let end = is.end_high in omega (arith, length-append space.words (zeros (space.size - length space.words)), n)
+at_rest : (heap : HeapWords) → IsAtRest (opening_mine heap) (opening_theirs heap heap.space.size 1)
+at_rest heap = record { logged = refl; copied = refl; due = refl; wanted = refl }
 
--- a heap whose words are padded with zeros
-pub begins_padded : (heap : HeapWords) (new_size : ℕ) → IsHeap heap → 1 ≤ new_size → new_size ≤ 4294967295 → Begins heap new_size (padded_to heap.space.size heap.space.words)
-begins_padded heap new_size is low high = record {
-  wide = padded_length heap.space is.space;
-  now = λ k l. at_left heap.space.words (zeros (heap.space.size - length heap.space.words)) k l;
-  free = λ k l h. behind heap.space.words (zeros (heap.space.size - length heap.space.words)) k l ∙ zero_at (heap.space.size - length heap.space.words) (k - length heap.space.words);
-  sound = is;
-  low = low;
-  high = high;
+-- a heap whose fields lead only to what may be copied
+fresh_carries : (heap : HeapWords) → FieldsLeadTo (MayBeCopied heap) (objects_of heap.space.words) → KeepsUnreachableOut (opening_mine heap) (opening_theirs heap heap.space.size 1)
+fresh_carries heap fields = record { begun = refl; behind = omega arith; fields = fields; copied = λ r l. absurd l; wanted = λ a l. absurd l }
+
+pub empty_shaped : (size : ℕ) → 1 ≤ size → size ≤ 4294967295 → IsSpace (empty_space size)
+empty_shaped size low high = (space_of size (0 ∷ []) [] (omega arith) low high refl refl).0
+
+-- the heap with which cells begin
+abbrev pub empty_heap_of : ℕ → HeapWords
+empty_heap_of size = one_heap (empty_space size) []
+
+-- cells of zeros
+pub opens_rule : (size : ℕ) (words : List ℕ) → IsSpace (empty_space size) → length words ≡ size → ((k : ℕ) → get_or words k 0 ≡ 0)
+    → IsConcurrent size (opening words [] (opening_view (empty_heap_of size) 1))
+opens_rule size words space wide blank = record {
+  mine = opening_mine (empty_heap_of size);
+  theirs = opening_theirs (empty_heap_of size) size 1;
+  seen = 0 ∷ [];
+  writer = 0;
+  copier = 0;
+  wide = wide;
+  sized = refl;
+  older = refl;
+  now = λ k l. blank k ∙ sym (first k l);
+  free = λ k l h. blank k;
+  space = space;
+  closed = closed_empty size 0;
+  wanted = λ a h. absurd h;
+  opened = fresh_opened (empty_heap_of size);
+  carries = fresh_carries (empty_heap_of size) (λ a o k. absurd k);
+  fits = omega arith;
+  rests = λ _. at_rest (empty_heap_of size);
+  seats = λ j u e. let x = opening_seats (opening_view (empty_heap_of size) 1) j u e in
+      ((λ _. (x.0, ap (λ (z : Known). z.mine) (sym x.1))), λ _. (x.0, ap (λ (z : Known). z.theirs) (sym x.1)));
+  told = caught_up (opening_mine (empty_heap_of size)) space refl;
+  shown = λ j u e _. ap (λ (z : Known). z.seen) (sym (opening_seats (opening_view (empty_heap_of size) 1) j u e).1);
 }
+  where
+    first : (k : ℕ) → k < 1 → get_or {A = ℕ} (0 ∷ []) k 0 ≡ 0
+    first zero l = refl
+    first (suc k) l = absurd (omega arith)
 
--- what the collector knows as an epoch begins
-pub opening_loose : (heap : HeapWords) (new_size : ℕ) (words : List ℕ) → Begins heap new_size words → ∥ Loose (opening_theirs heap heap.space.size new_size) ∥₁
-opening_loose heap new_size words b =
-    let r = opens_rule heap new_size words b in
-    ∣ subst Loose (sym ((r.seats 0 (opening_view heap new_size) refl).1 refl).1) (loose_of heap.space.size (opening words [] (opening_view heap new_size)) r) ∣₁
+-- ---- a collection begins in cells that have a heap
+
+begin_keeps : (size : ℕ) (s : St) (r : IsConcurrent size s) (id : ℕ) (v : Known) (c : List (ℕ × RootWords)) (roots : List ℕ) → get_elem? s.views id ≡ some v → v.writes ≡ true → v.copies ≡ true
+    → IsHeap (one_heap r.mine.space roots) → IsConcurrent size (stepped s 0 (get_or s.words 0 0) id c (opening_view (one_heap r.mine.space roots) 1) keeps)
+begin_keeps size s r id v c roots here writes copies sound =
+    let heap : HeapWords = one_heap r.mine.space roots in
+    let wrote = (r.seats id v here).0 writes in
+    let copied = (r.seats id v here).1 copies in
+    subst (λ (ws : List ℕ). IsConcurrent size (record { words = ws; homes = s.homes; views = set s.views id (opening_view heap 1) })) (sym (set-get_or s.words 0 0)) (record {
+      mine = opening_mine heap;
+      theirs = opening_theirs heap heap.space.size 1;
+      seen = heap.space.words;
+      writer = id;
+      copier = id;
+      wide = r.wide;
+      sized = r.sized;
+      older = r.sized;
+      now = r.now;
+      free = r.free;
+      space = r.space;
+      closed = r.closed;
+      wanted = λ a h. absurd h;
+      opened = fresh_opened heap;
+      carries = fresh_carries heap (begins_kept heap sound).fields;
+      fits = (r.space).end_low;
+      rests = λ _. at_rest heap;
+      seats = seat_set (Seated id id (opening_mine heap) (opening_theirs heap heap.space.size 1)) s.views id (opening_view heap 1) ((λ _. (refl, refl)), λ _. (refl, refl))
+          (λ j u other e. ((λ p. absurd (other (((r.seats j u e).0 p).0 ∙ sym wrote.0))), λ p. absurd (other (((r.seats j u e).1 p).0 ∙ sym copied.0))));
+      told = caught_up (opening_mine heap) r.space refl;
+      shown = shown_anew heap.space.words r.writer r.copier id r.mine r.theirs s.views v (opening_view heap 1) here copies refl r.seats;
+    })
+
+-- a word that is exchanged for itself
+same_word : (a n : ℕ) → either (eqb n a) a n ≡ n
+same_word a n = grind (arith, common_steps, eqb-true, cases_Bool)
+
+abbrev BeginsAs : RootWords → Sat → ℕ → Sat → Type 0
+BeginsAs roots me found me' = (given : RootWords) → some roots ≡ some given → me' ≡ (opening_view (one_heap me.0.mine.space given.items) 1, me.1)
+
+pub begins_rule : (slots size id : ℕ) (me : Sat) (roots : RootWords) → me.0.writes ≡ true → me.0.copies ≡ true → IsHeap (one_heap me.0.mine.space roots.items)
+    → Allows (IsConcurrent size) slots id me 0 (λ n. either (eqb n 0) 0 n) (tells_begin (step slots 0 0 0 (some roots)) me)
+begins_rule slots size id me roots writes copies sound s r _ here _ =
+    let to : me.0.mine ≡ r.mine = ((r.seats id me.0 here).0 writes).1 in
+    let began : Leaves size s 0 id me (BeginsAs roots me) = (
+      opening_view (one_heap r.mine.space roots.items) 1,
+      keeps,
+      tt,
+      begin_keeps size s r id me.0 me.1 roots.items here writes copies (subst (λ (m : Mine). IsHeap (one_heap m.space roots.items)) to sound),
+      λ given e. let one : roots ≡ given = some-injective roots given e in λ k. (opening_view (one_heap (sym to k).space (one k).items) 1, me.1),
+    ) in
+    let whole = loosely size s 0 id me (BeginsAs roots me) here began in
+    (whole.0, whole.1, whole.2, subst (λ (n : ℕ). IsConcurrent size (stepped s 0 n id me.1 whole.0 whole.1)) (sym (same_word 0 (get_or s.words 0 0))) whole.3, whole.4)
+
+-- ---- a collection begins anew
+
+anew_opened : (m : Mine) (t : Theirs) (n : ℕ) → 1 ≤ n → n ≤ 4294967295 → IsOpened (plan m t) (collection_of m t) → IsOpened (plan m t) (collection_of m (begun_anew n t))
+anew_opened m t n low high h =
+    let fresh = begun_belongs (objects_of m.space.words) 2 n (words_numbers m.space.words) low in record {
+      belongs = record {
+        laid = fresh.laid;
+        room = fresh.room;
+        once = fresh.once;
+        replicas = λ r l. absurd l;
+        scan = fresh.scan;
+        entries = logged;
+        numbers = fresh.numbers;
+      };
+      size = high;
+      logs = refl;
+    }
+  where
+    logged : (a i : ℕ) → IsLogged (collection_of m (begun_anew n t)) a i → HasField (objects_of m.space.words) a i
+    logged a i (zero, k) = (h.belongs).entries a i (0, k)
+    logged a i (suc zero, k) = absurd k
+    logged a i (suc (suc j), k) = absurd k
+
+anew_carries : (m : Mine) (t : Theirs) (n : ℕ) → KeepsUnreachableOut m t → KeepsUnreachableOut m (begun_anew n t)
+anew_carries m t n k = record { begun = k.begun; behind = k.behind; fields = k.fields; copied = λ r l. absurd l; wanted = λ a l. absurd l }
+
+abbrev RenewsAs : ℕ → Sat → ℕ → Sat → Type 0
+RenewsAs n me found me' = me' ≡ (record me.0 { theirs = begun_anew n me.0.theirs }, me.1)
+
+renews_rule : (slots size id : ℕ) (me : Sat) (n : ℕ) → me.0.copies ≡ true → 1 ≤ n → n ≤ 4294967295
+    → Allows (IsConcurrent size) slots id me 0 (λ found. either (eqb found n) n found) (tells_renew (step slots 0 n n none) me)
+renews_rule slots size id me n copies low high s r _ here _ =
+    let to : me.0.theirs ≡ r.theirs = ((r.seats id me.0 here).1 copies).1 in
+    let t' : Theirs = begun_anew n r.theirs in
+    let done : Leaves size s 0 id me (RenewsAs n me) = (
+      record me.0 { theirs = t' },
+      keeps,
+      tt,
+      theirs_keep size s r 0 id me.0 me.1 t' here copies refl (λ a l. absurd l) (anew_opened r.mine r.theirs n low high r.opened) (anew_carries r.mine r.theirs n r.carries) (r.space).end_low
+          (λ e. record { logged = (r.rests e).logged; copied = refl; due = refl; wanted = refl }),
+      λ k. (record me.0 { theirs = begun_anew n (sym to k) }, me.1),
+    ) in
+    let whole = loosely size s 0 id me (RenewsAs n me) here done in
+    (whole.0, whole.1, whole.2, subst (λ (x : ℕ). IsConcurrent size (stepped s 0 x id me.1 whole.0 whole.1)) (sym (same_word n (get_or s.words 0 0))) whole.3, whole.4)
+
+-- the same for callers, who have the size by equations
+pub renews_at : (slots size id : ℕ) (me : Sat) (n x y : ℕ) → x ≡ n → y ≡ n → me.0.copies ≡ true → 1 ≤ n → n ≤ 4294967295
+    → Allows (IsConcurrent size) slots id me 0 (λ found. either (eqb found x) y found) (tells_renew (step slots 0 x y none) me)
+renews_at slots size id me n x y first second copies low high =
+    subst (λ (z : ℕ × ℕ). Allows (IsConcurrent size) slots id me 0 (λ found. either (eqb found z.0) z.1 found) (tells_renew (step slots 0 z.0 z.1 none) me)) (λ i. (sym first i, sym second i)) (renews_rule slots size id me n copies low high)

@@ -6,9 +6,10 @@ use Rattle.atomic_table.specs.declared.owned.Table.{Table}
 use Rattle.gc_concurrent.specs.declared.cells.CellsKey.{CellsKey}
 use Rattle.gc_concurrent.specs.declared.cells.CellsRule.{CellsRule}
 use Rattle.gc_concurrent.specs.Ends.{Known}
+use Rattle.gc_concurrent.specs.Internal.Rule.{RootWords}
 
 abbrev pub Cells : Type 0
-Cells = Table ℕ Known CellsKey CellsRule Global
+Cells = Table RootWords Known CellsKey CellsRule Global
 
 pub tied : (x y : Cells) (tid : TableId) → x ≡ y → y.shared.table_id ≡ tid → tid ≡ x.shared.table_id
 tied x y tid e r = sym (ap (λ (s : Cells). s.shared.table_id) e ∙ r)

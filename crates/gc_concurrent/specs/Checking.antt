@@ -1,5 +1,5 @@
 -- What a flip shows its checker: the mutator's heap, the new space with the moved roots, and each original with its replica.
-use Rattle.std.specs.Prelude.{◌≡◌, map}
+use Rattle.std.specs.Prelude.{◌≡◌, ◌⊎◌, ℕ, List, map}
 use Rattle.gc_words.specs.Word.{value_of}
 use Rattle.gc_words.specs.Certificate.{Certified}
 use Rattle.gc_heap.specs.Heap.{HeapWords, image_of, graph_in}
@@ -16,6 +16,11 @@ flip_shown heap t = record { old = image_of heap; new = linked_image (new_links 
 abbrev pub CertifiesFlip : HeapWords → Theirs → Type 0
 CertifiesFlip heap t = Certified (flip_shown heap t).old (flip_shown heap t).new (flip_shown heap t).pairs
 
--- A checker said this of a flip of the old heap, whose certificate holds, and the new heap has the graph to which that flip leads.
+-- The certificate of some pairs holds of both heaps. A standing checker that compared each field by loads of its own has said yes.
+abbrev pub IsVouchedFor : HeapWords → HeapWords → Type 0
+IsVouchedFor old new = ∥ ((pairs : List (ℕ × ℕ)) × Certified (image_of old) (image_of new) pairs) ∥₁
+
+-- A checker said this of a flip of the old heap, or a standing checker vouched for the new one. The certificate of the flip holds, and the new heap has
+-- the graph to which that flip leads.
 abbrev pub FlippedBy : (CertifiedPair → Type 0) → HeapWords → HeapWords → Type 0
-FlippedBy says old new = (t : Theirs) × says (flip_shown old t) × CertifiesFlip old t × (graph_in new ≡ new_graph (its t) (map value_of old.roots))
+FlippedBy says old new = (t : Theirs) × (IsVouchedFor old new ⊎ says (flip_shown old t)) × CertifiesFlip old t × (graph_in new ≡ new_graph (its t) (map value_of old.roots))

@@ -32,11 +32,13 @@ pub record Theirs : Type 0 where
 abbrev pub its : Theirs → Collection
 its t = record { size = t.size; replicas = t.replicas; logs = t.due ∷ []; scan_place = t.scan_place; scan_field = t.scan_field }
 
+-- which ends it has, what it knows as each of them, and the words of the mutator's space as its standing checker has seen them
 pub record Known : Type 0 where
   pub writes : Bool
   pub copies : Bool
   pub mine : Mine
   pub theirs : Theirs
+  pub seen : List ℕ
 
 abbrev pub opening_mine : HeapWords → Mine
 opening_mine heap = record { space = heap.space; logs = false; log = []; base = heap }
@@ -46,4 +48,4 @@ abbrev pub opening_theirs : HeapWords → ℕ → ℕ → Theirs
 opening_theirs heap old size = record { old = old; size = size; replicas = []; scan_place = 1; scan_field = 0; due = []; wanted = []; base = heap }
 
 abbrev pub opening_view : HeapWords → ℕ → Known
-opening_view heap new_size = record { writes = true; copies = true; mine = opening_mine heap; theirs = opening_theirs heap heap.space.size new_size }
+opening_view heap new_size = record { writes = true; copies = true; mine = opening_mine heap; theirs = opening_theirs heap heap.space.size new_size; seen = heap.space.words }

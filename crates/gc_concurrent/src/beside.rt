@@ -32,14 +32,16 @@ fn mutate_and_stop<R: Wait>(
     }
 }
 
-fn collect<R: Wait>(rt: &R, alloc: Global, collector: Collector, stop: &AtomicU64) -> u64 {
+fn collect<R: Wait>(rt: &R, alloc: Global, collector: Collector, size: u32, stop: &AtomicU64) -> u64
+    requires { 1 ≤ size }
+{
     let mut collector = collector;
     let mut flips = 0u64;
     for _ in rt.forever() {
         if stop.load(Ordering::SeqCst) != 0 {
             break;
         }
-        match cycle(rt, alloc, collector, stop) {
+        match cycle(rt, alloc, collector, size, stop) {
             Some(next) => collector = next,
             None => break,
         }
@@ -52,8 +54,11 @@ fn cycle<R: Wait>(
     rt: &R,
     alloc: Global,
     collector: Collector,
+    size: u32,
     stop: &AtomicU64,
-) -> Option<Collector> {
+) -> Option<Collector>
+    requires { 1 ≤ size }
+{
     let mut collector = collector;
     for _ in 0..u64::MAX {
         if collector.work() != Work::Step {
@@ -62,7 +67,8 @@ fn cycle<R: Wait>(
     }
     let asking = asked(rt, collector, stop)?;
     let holding = taken(rt, asking, stop)?;
-    flipped(rt, alloc, holding, stop)
+    let flipped = flipped(rt, alloc, holding, stop)?;
+    prepared(rt, alloc, flipped, size, stop)
 }
 
 fn asked<R: Wait>(rt: &R, collector: Collector, stop: &AtomicU64) -> Option<Asking> {
@@ -111,6 +117,29 @@ fn flipped<R: Wait>(
     unreachable!()
 }
 
+// Makes the memory of the next flip, and retries while an allocation fails.
+fn prepared<R: Wait>(
+    rt: &R,
+    alloc: Global,
+    collector: Collector,
+    size: u32,
+    stop: &AtomicU64,
+) -> Option<Collector>
+    requires { 1 ≤ size }
+{
+    let mut collector = collector;
+    for _ in rt.forever() {
+        if stop.load(Ordering::SeqCst) != 0 {
+            return Some(collector);
+        }
+        if collector.prepare(alloc, size).is_ok() {
+            return Some(collector);
+        }
+        thread::yield_now();
+    }
+    unreachable!()
+}
+
 /// Opens a heap of `size` words, and performs all commands in it, while a collector's thread collects and flips without a pause. Each flip
 /// asks `Sequential`. Returns the replies.
 pub fn beside_collector<R: Threads + Wait + Sync>(
@@ -129,7 +158,7 @@ pub fn beside_collector<R: Threads + Wait + Sync>(
     let (replies, _flips) = join(
         rt,
         move || mutate_and_stop(rt, alloc, runner, ops, stop),
-        move || collect(rt, alloc, collector, stop),
+        move || collect(rt, alloc, collector, size, stop),
     );
     replies
 }

@@ -1,4 +1,5 @@
-//! The words of a space as cells, each of which changes in one atomic step. They serve from one flip to the next.
+//! The words of a space as cells, each of which changes in one atomic step. The collector makes the next space in them, and they then serve the
+//! mutator from one flip to the next.
 use atomic_table::{Seat, Table, TableRule};
 use std::alloc::Global;
 use std::marker::Model;
@@ -20,29 +21,28 @@ impl Model for CellsView {
     ghost view = { λ _. opening_view no_heap 0 };
 }
 
-/// What cells begin with: the size of the space, its words up to the end, the roots, and the size of the new space.
+/// What cells begin with: the size of the space, which is empty.
 #[derive(Drop)]
 pub struct CellsKey {
     pub size: u32,
-    pub words: Vec<u64>,
-    pub roots: Vec<u64>,
-    pub new_size: u32,
 }
 
 /// The rule of the cells, which holds between any two steps on them.
 pub struct CellsRule;
 
-impl TableRule<u64, CellsView, CellsKey> for CellsRule {
+impl TableRule<Vec<u64>, CellsView, CellsKey> for CellsRule {
+    ghost use Rattle.gc_words.specs.Space.{empty_space};
+    ghost use Rattle.std.specs.Prelude.{[]};
     ghost use Rattle.gc_concurrent.specs.Ends.{one_heap, opening_view};
     ghost use Rattle.gc_concurrent.specs.Internal.Rule.{IsConcurrent};
 
     ghost holds = { λ k. IsConcurrent k.size };
 
-    ghost first = { λ k. opening_view (one_heap (record { size = k.size; words = k.words.items }) k.roots.items) k.new_size };
+    ghost first = { λ k. opening_view (one_heap (empty_space k.size) []) 1 };
 }
 
-/// The cells with their memory. Both ends own them.
-pub type Cells = Table<u64, CellsView, CellsKey, CellsRule, Global>;
+/// The cells with their memory. Both ends own them. They have no slots: a step names roots to its `Play` by the type of what a slot would hold.
+pub type Cells = Table<Vec<u64>, CellsView, CellsKey, CellsRule, Global>;
 
 /// One end of a heap: the right to step on its cells, and what its owner knows.
-pub type CellsEnd = Seat<u64, CellsView>;
+pub type CellsEnd = Seat<Vec<u64>, CellsView>;

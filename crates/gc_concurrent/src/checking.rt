@@ -1,20 +1,28 @@
 //! A flip asks its checker. Both ends are in hand, so the words of both spaces stay as they are meanwhile.
-ghost use Rattle.std.specs.Prelude.{◌≡◌, ◌≤◌, IfErr, IfOk, OnOk, length, true};
-ghost use Rattle.gc_concurrent.specs.Checking.{CertifiesFlip, flip_shown};
+ghost use Rattle.std.specs.Prelude.{◌≡◌, ◌≤◌, ◌⊎◌, IfErr, IfOk, IsTrue, OnOk, length, true};
+ghost use Rattle.gc_concurrent.specs.Checking.{CertifiesFlip, IsVouchedFor, flip_shown};
+ghost use Rattle.gc_concurrent.specs.Ends.{one_heap};
+ghost use Rattle.gc_concurrent.specs.Internal.Rule.{seeing};
 ghost use Rattle.gc_concurrent.specs.Internal.Flip.{Flips, HasNothingLeft, moved_words};
 
 use crate::cells::{Cells, CellsEnd};
 use crate::copier::Copier;
 use crate::held::{Held, NoFlip};
 use crate::plays::Got;
+use gc_along::{Outline, a_yes_is_sound};
 use gc_check::{CheckFault, Checks};
 use gc_copy::linked_pairs;
 use gc_graph::NoMemory;
 use gc_words::{ImageRef, no_fault_where_certified};
 use std::alloc::Global;
 
-// Loads the words of the mutator's space, one by one. Allocates once.
-fn loaded(alloc: Global, cells: &Cells, seat: &mut CellsEnd, end: u32) -> Result<Vec<u64>, NoMemory>
+/// Loads the words of a space up to its end, one by one. Allocates once.
+pub(crate) fn loaded(
+    alloc: Global,
+    cells: &Cells,
+    seat: &mut CellsEnd,
+    end: u32,
+) -> Result<Vec<u64>, NoMemory>
     requires cells { seat.old.table_id ≡ cells.now.shared.table_id }
     requires wide { end ≤ cells.now.shared.table_id.words }
     requires writes { seat.old.me.0.writes ≡ true }
@@ -45,14 +53,85 @@ impl Copier {
         let cells = &*self.cells;
         loaded(alloc, cells, &mut self.seat, end)
     }
+
+    /// Loads the words of the new space. Allocates once.
+    fn new_words(&mut self, alloc: Global) -> Result<Vec<u64>, NoMemory>
+        ensures words { IfOk result (λ words. words.items ≡ self.old.space.words) }
+        ensures same { self.new.seat.me ≡ self.old.seat.me }
+        ensures row { (self.new.seat.table_id ≡ self.old.seat.table_id) × (self.new.size ≡ self.old.size) }
+        ensures space { self.new.space ≡ self.old.space }
+    {
+        self.space.words(alloc)
+    }
 }
 
 impl Held {
     ghost use Rattle.gc_concurrent.specs.Holders.{heap_held, known_to};
 
+    /// Asks the standing checker whether the mutator may go on in the new space with these roots. The checker first walks on to the end of the
+    /// mutator's space, by a load for each object that it has not seen. Allocates nothing.
+    fn vouches(&mut self, moved: &[u64]) -> bool
+        ensures yes { IsTrue result → IsVouchedFor (heap_held self.old) (one_heap self.old.copier.space moved.now) }
+        ensures told { HasNothingLeft self.old.roots.items self.old.copier.seat.me.0 → Flips self.old.roots.items self.old.copier.seat.me.0.mine self.old.copier.seat.me.0.theirs }
+        ensures seen { self.new.copier.seat.me ≡ seeing self.new.copier.seat.me.0.seen self.old.copier.seat.me }
+        ensures row { self.new.copier.seat.table_id ≡ self.old.copier.seat.table_id }
+        ensures space { self.new.copier.space ≡ self.old.copier.space }
+        ensures roots { self.new.roots ≡ self.old.roots }
+    {
+        a_yes_is_sound();
+        let end = self.end;
+        self.copier.see(end);
+        self.copier.look();
+        let new_end = self.copier.space.end();
+        let old = Outline {
+            size: self.copier.size,
+            end,
+            count: end as usize,
+            roots: self.roots.as_slice(),
+            nils: 0,
+            raws: true,
+        };
+        let new = Outline {
+            size: self.copier.space.size(),
+            end: new_end,
+            count: new_end as usize,
+            roots: moved,
+            nils: 0,
+            raws: true,
+        };
+        self.copier.standing.says_yes(old, new)
+    }
+
+    /// Asks the standing checker, if nothing is left to do, and this one where that says no. Fails if this one refuses, which is proved never to occur,
+    /// or if an allocation fails.
+    pub(crate) fn certify<C: Checks>(
+        &mut self,
+        alloc: Global,
+        checker: &C,
+        moved: &[u64],
+    ) -> Result<(), NoFlip>
+        requires can { C.can_check checker.now }
+        requires left { HasNothingLeft self.old.roots.items self.old.copier.seat.me.0 }
+        requires moved { moved.now ≡ moved_words (known_to self.old.copier) self.old.roots.items }
+        ensures asked { OnOk result (IsVouchedFor (heap_held self.old) (one_heap self.old.copier.space moved.now)
+            ⊎ C.says_yes checker.now (flip_shown (heap_held self.old) (known_to self.old.copier))) }
+        ensures certified { OnOk result (CertifiesFlip (heap_held self.old) (known_to self.old.copier)) }
+        ensures memory { IfErr result (λ why. why ≡ NoFlip.NoMemory) }
+        ensures told { Flips self.old.roots.items self.old.copier.seat.me.0.mine self.old.copier.seat.me.0.theirs }
+        ensures seen { self.new.copier.seat.me ≡ seeing self.new.copier.seat.me.0.seen self.old.copier.seat.me }
+        ensures row { self.new.copier.seat.table_id ≡ self.old.copier.seat.table_id }
+        ensures space { self.new.copier.space ≡ self.old.copier.space }
+        ensures roots { self.new.roots ≡ self.old.roots }
+    {
+        if self.vouches(moved) {
+            return Ok(());
+        }
+        self.check(alloc, checker, moved)
+    }
+
     /// Asks the checker whether the mutator may go on in the new space with these roots, if nothing is left to do. Fails if the checker refuses,
     /// which is proved never to occur, or if an allocation fails.
-    pub(crate) fn check<C: Checks>(
+    fn check<C: Checks>(
         &mut self,
         alloc: Global,
         checker: &C,
@@ -73,9 +152,10 @@ impl Held {
         self.copier.look();
         let end = self.end;
         let words = self.copier.old_words(alloc, end)?;
+        let placed = self.copier.new_words(alloc)?;
+        let new_end = self.copier.space.end();
         // Each object takes two words or more.
-        let most = self.copier.space.end() / 2;
-        let pairs = linked_pairs(alloc, &self.copier.space, most)?;
+        let pairs = linked_pairs(alloc, placed.as_slice(), new_end / 2)?;
         let old = ImageRef {
             size: self.copier.size,
             end,
@@ -83,7 +163,13 @@ impl Held {
             roots: self.roots.as_slice(),
             raws: true,
         };
-        let new = self.copier.space.image(moved);
+        let new = ImageRef {
+            size: self.copier.space.size(),
+            end: new_end,
+            words: placed.as_slice(),
+            roots: moved,
+            raws: true,
+        };
         no_fault_where_certified();
         match checker.check(alloc, old, new, pairs.as_slice()) {
             Ok(_) => Ok(()),

@@ -1,5 +1,5 @@
-//! The collector's thread: it makes replicas in a space of its own.
-ghost use Rattle.std.specs.Prelude.{◌≡◌, ◌≢◌, ℕ, ◌+◌, ◌-◌, ◌*◌, ◌^◌, ◌<◌, ◌≤◌, true, false, List, [], ◌∷◌, ◌++◌, drop, length, slice_index, IfOk, IfErr, IfSome, IfNone, IsTrue, IsFalse, ◌⊎◌, ◌&&◌, if◌then◌else◌};
+//! The collector's thread: it makes replicas in the space of the next heap.
+ghost use Rattle.std.specs.Prelude.{◌≡◌, ◌≢◌, ℕ, ◌+◌, ◌-◌, ◌*◌, ◌^◌, ◌<◌, ◌≤◌, true, false, List, [], ◌∷◌, ◌++◌, drop, length, slice_index, IfOk, IfErr, IfSome, IfNone, IsTrue, IsFalse, ◌⊎◌, ◌&&◌, if◌then◌else◌, OnErr, OnOk};
 ghost use Rattle.std.specs.Arc.{arc_value};
 ghost use Rattle.gc_graph.specs.Graph.{Ref};
 ghost use Rattle.gc_words.specs.Word.{is_value, value_of};
@@ -14,14 +14,21 @@ ghost use Rattle.gc_concurrent.specs.Heaps.{heap_of};
 ghost use Rattle.gc_concurrent.specs.Internal.Flip.{HasNothingLeft, Flips};
 ghost use Rattle.gc_concurrent.specs.Ends.{its};
 ghost use Rattle.gc_concurrent.specs.Unreachable.{MayBeCopied};
-ghost use Rattle.gc_concurrent.specs.Internal.Rule.{entries_of_fields, read_as, wants, Loose};
+ghost use Rattle.gc_concurrent.specs.Internal.Rule.{begun_anew, entries_of_fields, read_as, seeing, wants, Loose};
 ghost use Rattle.gc_concurrent.specs.Internal.Copiers.{Claims, KeepsClaims, KeepsSeat, Nears, StaysOrNears, logging, moved_by};
+ghost use Rattle.gc_concurrent.specs.Internal.Following.{Follows};
 ghost use Rattle.gc_concurrent.specs.Works.{WhereDone, WhereNoRoom};
 ghost use Rattle.gc_concurrent.specs.Internal.Props.{replicas_prop, claims_prop, space_prop};
+ghost use Rattle.gc_concurrent.specs.Internal.Spares.{claims_spared};
 
 use crate::cells::{Cells, CellsEnd};
-use crate::plays::{Applied, Flipped, Left, Passed, Placed, Rooted, Scanned};
-use gc_words::{Addr, Header, Space, Value, encode, field_index, target_of};
+use crate::next::NextSpace;
+use crate::plays::{Applied, Flipped, Left, Passed, Placed, Renewed, Rooted, Scanned};
+use crate::spare::{Former, Spare};
+use crate::watching::{compare, place, walk};
+use gc_along::Standing;
+use gc_graph::{NoMemory, object_words};
+use gc_words::{Addr, Header, Value, encode, field_index, target_of};
 use std::alloc::Global;
 use std::sync::Arc;
 
@@ -38,7 +45,7 @@ pub enum Work {
 pub struct Copier {
     pub(crate) cells: Arc<Cells, Global>,
     pub seat: CellsEnd,
-    pub(crate) space: Space,
+    pub(crate) space: NextSpace,
     // The place of each object's replica, or 0.
     pub(crate) claims: Vec<u32>,
     // The entries taken of the mutator, of which the first `next` are done.
@@ -53,6 +60,11 @@ pub struct Copier {
     // An object that is to get a replica.
     pub(crate) has_wanted: bool,
     pub(crate) wanted: u32,
+    // What the next flip takes, unless nothing was prepared, and what the last one left.
+    pub(crate) spare: Option<Spare>,
+    pub(crate) former: Option<Former>,
+    // It goes along, and knows at the flip which fields it has yet to compare.
+    pub(crate) standing: Standing,
     pub size: u32,
     ghost row: { ((arc_value cells).shared.table_id ≡ seat.table_id) × (seat.table_id.words ≡ size) × ((arc_value cells).shared.key.size ≡ size) },
     ghost copies: { seat.me.0.copies ≡ true },
@@ -66,6 +78,8 @@ pub struct Copier {
     ghost fills: { (q : Replica) → In q seat.me.0.theirs.replicas → q.original ≡ fill → fill_left ≢ 0 → q.object.raw ≡ true },
     ghost claimed: { Claims claims.items seat.me.0.theirs } by { claims_prop _ _ },
     ghost loose: { ∥ Loose seat.me.0.theirs ∥₁ },
+    ghost along: { ∥ Follows standing seat.me.0.seen space.words ∥₁ },
+    ghost spared: { claims_spared spare space.size ≡ space.size },
 }
 
 // The word as it refers to replicas, or its target, if that has none.
@@ -75,6 +89,7 @@ pub(crate) fn moved_word(claims: &[u32], word: u64) -> Result<u64, Addr>
     requires places { (a : ℕ) → slice_index claims.now a < 4294967295 }
     ensures moved { IfOk result (λ w. value_of w ≡ moved_by claims.now (value_of word)) }
     ensures placed { IfOk result (λ w. (a : ℕ) → value_of word ≡ Ref a → slice_index claims.now a ≢ 0) }
+    ensures value { IfOk result (λ w. IsTrue (is_value w)) }
     ensures wanted { IfErr result (λ a. (value_of word ≡ Ref a.0) × (slice_index claims.now a.0 ≡ 0)) }
 {
     let Some(at) = target_of(word) else {
@@ -94,6 +109,7 @@ fn moved_field(raw: bool, claims: &[u32], word: u64) -> Result<u64, Addr>
     requires places { (a : ℕ) → slice_index claims.now a < 4294967295 }
     ensures moved { IfOk result (λ w. read_as raw w ≡ moved_by claims.now (read_as raw word)) }
     ensures placed { IfOk result (λ w. (a : ℕ) → read_as raw word ≡ Ref a → slice_index claims.now a ≢ 0) }
+    ensures value { IfOk result (λ w. raw ≡ false → IsTrue (is_value w)) }
     ensures wanted { IfErr result (λ a. (read_as raw word ≡ Ref a.0) × (slice_index claims.now a.0 ≡ 0)) }
 {
     if raw {
@@ -182,7 +198,7 @@ impl Copier {
         let cells = &*self.cells;
         if is_scanned(header, self.scan_field) {
             cells.shared.load::<Passed>(&mut self.seat, 0);
-            self.scan_place = self.space.next_start(at).0;
+            self.scan_place += object_words(header.len());
             self.scan_field = 0;
             return;
         }
@@ -193,6 +209,17 @@ impl Copier {
         match moved_word(self.claims.as_slice(), word) {
             Ok(moved) => {
                 self.space.set_field(at, self.scan_field, moved);
+                let written = self.space.field(at, self.scan_field);
+                compare(
+                    cells,
+                    &mut self.seat,
+                    &mut self.standing,
+                    self.size,
+                    at.0,
+                    self.scan_field,
+                    header.word(),
+                    written,
+                );
                 self.scan_field += 1;
             }
             Err(target) => {
@@ -240,6 +267,17 @@ impl Copier {
         match moved_field(header.is_raw(), self.claims.as_slice(), word) {
             Ok(moved) => {
                 self.space.set_field(at, oldest.field, moved);
+                let written = self.space.field(at, oldest.field);
+                compare(
+                    cells,
+                    &mut self.seat,
+                    &mut self.standing,
+                    self.size,
+                    at.0,
+                    oldest.field,
+                    header.word(),
+                    written,
+                );
                 self.fill_next = oldest.fill_next;
                 self.fill_left = oldest.fill_left;
                 self.next = oldest.next;
@@ -272,6 +310,14 @@ impl Copier {
         }
         let at = self.space.place(header);
         self.space.set_link(at, u64::from(name));
+        place(
+            cells,
+            &mut self.seat,
+            &mut self.standing,
+            self.size,
+            name,
+            header.word(),
+        );
         self.claims[name as usize] = at.0;
         self.has_wanted = false;
         self.fill = name;
@@ -357,6 +403,7 @@ impl Copier {
     /// With both ends at hand: the target of one of the mutator's roots is to get a replica. The mutator has to log its writes from now on.
     pub(crate) fn want(&mut self, at: Addr)
         requires both { self.old.seat.me.0.writes ≡ true }
+        requires taken { self.old.seat.me.0.mine.log ≡ [] }
         requires low { at.0 < self.old.size }
         requires kept { MayBeCopied self.old.seat.me.0.theirs.base at.0 }
         requires clear { slice_index self.old.claims.items at.0 ≡ 0 }
@@ -373,6 +420,63 @@ impl Copier {
         self.wanted = at.0;
     }
 
+    /// Frees the memory of the heap before the last flip, and begins the collection anew: in a new space of `size` words, with the memory that its flip
+    /// takes. The collection goes on as it stands if an allocation fails.
+    pub(crate) fn prepare(&mut self, alloc: Global, size: u32) -> Result<(), NoMemory>
+        requires low { 1 ≤ size }
+        ensures ok { OnOk result (self.new.seat.me ≡ (record self.old.seat.me.0 { theirs = begun_anew size self.old.seat.me.0.theirs }, self.old.seat.me.1)) }
+        ensures err { OnErr result (self.new.seat.me ≡ self.old.seat.me) }
+        ensures row { (self.new.seat.table_id ≡ self.old.seat.table_id) × (self.new.size ≡ self.old.size) }
+    {
+        self.former = None;
+        let space = NextSpace::new(alloc, size)?;
+        let spare = Spare::new(alloc, size)?;
+        let reserved = self.standing.reserve(size);
+        if reserved.is_err() {
+            return Err(NoMemory);
+        }
+        let cells = &*self.cells;
+        cells
+            .shared
+            .compare_exchange::<Renewed>(&mut self.seat, 0, u64::from(size), u64::from(size));
+        self.claims.fill(0);
+        self.due.clear();
+        self.next = 0;
+        self.fill_next = 0;
+        self.fill_left = 0;
+        self.scan_place = 1;
+        self.scan_field = 0;
+        self.has_wanted = false;
+        self.standing.dropped();
+        self.space = space;
+        self.spare = Some(spare);
+        Ok(())
+    }
+
+    /// Takes the memory that a flip needs. Makes it if none was prepared: the new space then has one word.
+    pub(crate) fn take_spare(&mut self, alloc: Global) -> Result<Spare, NoMemory>
+        ensures long { IfOk result (λ spare. length spare.claims.items ≡ self.old.space.size) }
+        ensures same { self.new.seat.me ≡ self.old.seat.me }
+        ensures space { self.new.space ≡ self.old.space }
+        ensures row { (self.new.seat.table_id ≡ self.old.seat.table_id) × (self.new.size ≡ self.old.size) }
+    {
+        match self.spare.take() {
+            Some(spare) => Ok(spare),
+            None => Spare::new(alloc, self.space.size()),
+        }
+    }
+
+    /// The standing checker walks on up to this end of the mutator's space.
+    pub(crate) fn see(&mut self, end: u32)
+        requires { end ≤ self.old.size }
+        ensures seen { self.new.seat.me ≡ seeing self.new.seat.me.0.seen self.old.seat.me }
+        ensures row { (self.new.seat.table_id ≡ self.old.seat.table_id) × (self.new.size ≡ self.old.size) }
+        ensures space { self.new.space ≡ self.old.space }
+    {
+        let cells = &*self.cells;
+        walk(cells, &mut self.seat, &mut self.standing, end);
+    }
+
     /// With both ends at hand: what holds where nothing is left to do.
     pub(crate) fn look(&mut self)
         requires both { self.old.seat.me.0.writes ≡ true }
@@ -380,6 +484,7 @@ impl Copier {
         ensures same { self.new.seat.me ≡ self.old.seat.me }
         ensures row { (self.new.seat.table_id ≡ self.old.seat.table_id) × (self.new.size ≡ self.old.size) }
         ensures space { self.new.space ≡ self.old.space }
+        ensures along { self.old.seat.me.0.mine.log ≡ [] → ∥ Follows self.new.standing self.old.seat.me.0.mine.space.words self.old.space.words ∥₁ }
         ensures told { (roots : List ℕ) → IsHeap (heap_of self.old.seat.me.0.mine roots) → HasNothingLeft roots self.old.seat.me.0 → Flips roots self.old.seat.me.0.mine self.old.seat.me.0.theirs }
     {
         let cells = &*self.cells;

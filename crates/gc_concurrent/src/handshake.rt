@@ -1,5 +1,5 @@
 //! The handshake through which a mutator goes to its collector and back. No call here waits but `poll` and `wait`.
-ghost use Rattle.std.specs.Prelude.{◌≡◌, ◌≢◌, ℕ, ◌<◌, ◌≤◌, true, false, [], ◌∷◌, map, replicate, IfOk, MatchResult};
+ghost use Rattle.std.specs.Prelude.{◌≡◌, ◌⊎◌, ◌≢◌, ℕ, ◌<◌, ◌≤◌, true, false, [], ◌∷◌, map, replicate, IfOk, MatchResult};
 ghost use Rattle.std.specs.Arc.{arc_value};
 ghost use Rattle.gc_concurrent.specs.Holders.{cells_read_by, heap_in, known_to, logs_writes};
 ghost use Rattle.gc_concurrent.specs.Heaps.{GoesOnIn};
@@ -12,7 +12,7 @@ ghost use Rattle.gc_heap.specs.ExtraRoots.{most_extra_roots};
 ghost use Rattle.gc_heap.specs.Heap.{empty_heap, graph_in};
 ghost use Rattle.gc_concurrent.specs.Ends.{its, opening_theirs};
 ghost use Rattle.gc_concurrent.specs.Unreachable.{CopiesNothingUnreachable};
-ghost use Rattle.gc_concurrent.specs.Checking.{CertifiesFlip, FlippedBy, flip_shown};
+ghost use Rattle.gc_concurrent.specs.Checking.{CertifiesFlip, FlippedBy, IsVouchedFor, flip_shown};
 ghost use Rattle.gc_plan.specs.State.{new_graph};
 ghost use Rattle.gc_words.specs.Word.{value_of};
 
@@ -214,6 +214,7 @@ pub struct Holding {
 }
 
 impl Collector {
+    ghost use Rattle.std.specs.Prelude.{OnErr, OnOk};
     ghost use Rattle.gc_concurrent.specs.Works.{KeepsBeginning, WhereDone, WhereNoRoom};
 
     /// Performs one step, beside the mutator.
@@ -223,6 +224,18 @@ impl Collector {
         ensures begun { KeepsBeginning (known_to self.old.copier) (known_to self.new.copier) }
     {
         self.copier.work()
+    }
+
+    /// Begins the collection anew, in a new space of `size` words, at least 1, and makes the memory that its flip takes. After a flip the new space has one
+    /// word until this is called. What was copied is forgotten. First frees the memory of the heap before the last flip. The time grows with both sizes. If an
+    /// allocation fails, the collection stays as it is.
+    pub fn prepare(&mut self, alloc: Global, size: u32) -> Result<(), NoMemory>
+        requires { 1 ≤ size }
+        ensures ok { OnOk result (known_to self.new.copier ≡ opening_theirs (known_to self.old.copier).base (known_to self.old.copier).old size) }
+        ensures err { OnErr result (known_to self.new.copier ≡ known_to self.old.copier) }
+        ensures cells { cells_read_by self.new.copier ≡ cells_read_by self.old.copier }
+    {
+        self.copier.prepare(alloc, size)
     }
 
     /// Asks the mutator to stop at its next safepoint. Fails while the mutator has not gone on since the last time.
@@ -378,10 +391,10 @@ impl Holding {
     pub fn flip<C: Checks>(self, alloc: Global, checker: &C) -> Result<Collector, Unflipped>
         requires { C.can_check checker.now }
         ensures ready { OnOk result (may_flip self.held ≡ true) }
-        ensures asked { OnOk result (C.says_yes checker.now (flip_shown (heap_held self.held) (known_to self.held.copier))) }
+        ensures asked { IfOk result (λ collector. IsVouchedFor (heap_held self.held) (known_to collector.copier).base ⊎ C.says_yes checker.now (flip_shown (heap_held self.held) (known_to self.held.copier))) }
         ensures certified { OnOk result (CertifiesFlip (heap_held self.held) (known_to self.held.copier)) }
         ensures never_refused { IfErr result (λ refused. refused.why ≢ NoFlip.Refused) }
-        ensures fresh { IfOk result (λ collector. known_to collector.copier ≡ opening_theirs (known_to collector.copier).base (known_to self.held.copier).size (known_to self.held.copier).size) }
+        ensures fresh { IfOk result (λ collector. known_to collector.copier ≡ opening_theirs (known_to collector.copier).base (known_to self.held.copier).size 1) }
         ensures graph { IfOk result (λ collector. graph_in (known_to collector.copier).base ≡ new_graph (its (known_to self.held.copier)) (map value_of self.held.roots.items)) }
         ensures carried { OnOk result (CopiesNothingUnreachable (known_to self.held.copier)) }
         ensures heap { IfErr result (λ refused. heap_held refused.holding.held ≡ heap_held self.held) }
@@ -422,7 +435,7 @@ impl Holding {
         requires { C.can_check checker.now }
         ensures asked { IfOk result (λ collector. FlippedBy (C.says_yes checker.now) (heap_held self.held) (known_to collector.copier).base) }
         ensures never_refused { IfErr result (λ refused. refused.why ≢ NoFlip.Refused) }
-        ensures fresh { IfOk result (λ collector. known_to collector.copier ≡ opening_theirs (known_to collector.copier).base (known_to self.held.copier).size (known_to self.held.copier).size) }
+        ensures fresh { IfOk result (λ collector. known_to collector.copier ≡ opening_theirs (known_to collector.copier).base (known_to self.held.copier).size 1) }
         ensures why { IfErr result (λ refused. refused.why ≡ NoFlip.NotReady → (known_to self.held.copier).size < (known_to self.held.copier).old) }
         ensures heap { IfErr result (λ refused. heap_held refused.holding.held ≡ heap_held self.held) }
         ensures begun { IfErr result (λ refused. KeepsBeginning (known_to self.held.copier) (known_to refused.holding.held.copier)) }

@@ -1,5 +1,5 @@
 //! Both ends of a heap in one hand: the log changes hands, roots get replicas, and the mutator goes on in the new space.
-ghost use Rattle.std.specs.Prelude.{◌≡◌, ◌≢◌, ℕ, ◌<◌, ◌≤◌, true, false, List, [], ◌∷◌, length, map, slice_index, IfOk, IfErr, IfSome, IfNone, IsTrue, OnOk};
+ghost use Rattle.std.specs.Prelude.{◌≡◌, ◌≢◌, ◌⊎◌, ℕ, ◌<◌, ◌≤◌, true, false, List, [], ◌∷◌, length, map, slice_index, IfOk, IfErr, IfSome, IfNone, IsTrue, OnErr, OnOk};
 ghost use Rattle.std.specs.Arc.{arc_value};
 ghost use Rattle.std.specs.List.{All};
 ghost use Rattle.gc_graph.specs.Graph.{Ref};
@@ -16,22 +16,25 @@ ghost use Rattle.gc_concurrent.specs.Heaps.{heap_of};
 ghost use Rattle.gc_plan.specs.Carried.{LeadsOnlyTo};
 ghost use Rattle.gc_concurrent.specs.Unreachable.{MayBeCopied, CopiesNothingUnreachable};
 ghost use Rattle.gc_concurrent.specs.Internal.Props.{heap_prop, leads_prop};
-ghost use Rattle.gc_concurrent.specs.Ends.{its, opening_theirs};
+ghost use Rattle.gc_concurrent.specs.Ends.{its, one_heap, opening_theirs};
 ghost use Rattle.gc_concurrent.specs.Internal.Rule.{entries_of_fields};
 ghost use Rattle.gc_concurrent.specs.Internal.Flip.{HasNothingLeft, Flips};
 ghost use Rattle.gc_concurrent.specs.Internal.Copiers.{AreClaimed, KeepsClaims, LacksOne, moved_by};
 ghost use Rattle.gc_concurrent.specs.Heaps.{CorrespondsTo};
-ghost use Rattle.gc_concurrent.specs.Checking.{CertifiesFlip, flip_shown};
+ghost use Rattle.gc_concurrent.specs.Internal.Following.{Follows};
+ghost use Rattle.gc_concurrent.specs.Checking.{CertifiesFlip, IsVouchedFor, flip_shown};
 
 use crate::cells::Cells;
 use crate::commands::Commander;
 use crate::copier::{Copier, Work, moved_word};
-use crate::ends::{Opened, open_cells};
 use crate::mutator::Mutator;
-use crate::plays::{Flipped, Roles, Rooted, Took};
+use crate::next::{NextSpace, Opened};
+use crate::plays::{Roles, Took};
+use crate::spare::{Former, Spare};
+use crate::watching::tell;
+use gc_along::Standing;
 use gc_check::Checks;
 use gc_graph::NoMemory;
-use gc_words::Space;
 use std::alloc::{AllocError, AllocFailed, Global};
 use std::sync::Arc;
 
@@ -89,12 +92,16 @@ pub(crate) fn hold(commander: Commander, copier: Copier) -> Held
         scan_field,
         has_wanted,
         wanted,
+        spare,
+        former,
+        mut standing,
         size,
     } = copier;
     cells.shared.join_seat::<Roles>(&mut own, seat);
+    tell(&mut standing, claims.as_slice(), log.as_slice());
     cells.shared.load::<Took>(&mut own, 0);
-    let mut spare = due;
-    spare.clear();
+    let mut empty = due;
+    empty.clear();
     Held {
         copier: Copier {
             cells,
@@ -110,11 +117,14 @@ pub(crate) fn hold(commander: Commander, copier: Copier) -> Held
             scan_field,
             has_wanted,
             wanted,
+            spare,
+            former,
+            standing,
             size,
         },
         other,
         logs,
-        log: spare,
+        log: empty,
         roots,
         end,
     }
@@ -214,6 +224,9 @@ impl Held {
             scan_field,
             has_wanted,
             wanted,
+            spare,
+            former,
+            standing,
             size,
         } = copier;
         let seat = cells.shared.split_seat::<Roles>(&mut own);
@@ -243,6 +256,9 @@ impl Held {
                 scan_field,
                 has_wanted,
                 wanted,
+                spare,
+                former,
+                standing,
                 size,
             },
         )
@@ -295,7 +311,7 @@ impl Held {
     }
 
     /// The mutator goes on in the new space, and the next collection begins, unless something is left to do, the checker refuses, or an allocation
-    /// fails.
+    /// fails. Copies the roots alone. Keeps the memory of the old heap, so that no large block is freed meanwhile.
     pub(crate) fn flip<C: Checks>(
         mut self,
         alloc: Global,
@@ -305,11 +321,11 @@ impl Held {
         ensures ok { IfOk result (λ r. CorrespondsTo (heap_held self) (heap_in r.0)) }
         ensures replicas { IfOk result (λ r. graph_in (heap_in r.0) ≡ new_graph (its (known_to self.copier)) (map value_of self.roots.items)) }
         ensures space { IfOk result (λ r. r.0.mutator.size ≡ (known_to self.copier).size) }
-        ensures fresh { IfOk result (λ r. known_to r.1 ≡ opening_theirs (heap_in r.0) (known_to self.copier).size (known_to self.copier).size) }
+        ensures fresh { IfOk result (λ r. known_to r.1 ≡ opening_theirs (heap_in r.0) (known_to self.copier).size 1) }
         ensures rests { IfOk result (λ r. logs_writes r.0 ≡ false) }
         ensures carried { OnOk result (CopiesNothingUnreachable (known_to self.copier)) }
         ensures ready { OnOk result (may_flip self ≡ true) }
-        ensures asked { OnOk result (C.says_yes checker.now (flip_shown (heap_held self) (known_to self.copier))) }
+        ensures asked { IfOk result (λ r. IsVouchedFor (heap_held self) (heap_in r.0) ⊎ C.says_yes checker.now (flip_shown (heap_held self) (known_to self.copier))) }
         ensures certified { OnOk result (CertifiesFlip (heap_held self) (known_to self.copier)) }
         ensures never_refused { IfErr result (λ r. r.1 ≢ NoFlip.Refused) }
         ensures row { IfOk result (λ r. r.0.mutator.seat.table_id ≡ r.1.seat.table_id) }
@@ -326,16 +342,11 @@ impl Held {
             Ok(roots) => roots,
             Err(why) => return Err((self, why)),
         };
-        if let Err(why) = self.check(alloc, checker, roots.as_slice()) {
+        if let Err(why) = self.certify(alloc, checker, roots.as_slice()) {
             return Err((self, why));
         }
-        let size = self.copier.space.size();
-        let claims = match Vec::from_elem(alloc, 0u32, size as usize) {
-            Ok(claims) => claims,
-            Err(AllocError) => return Err((self, NoFlip::NoMemory)),
-        };
-        let opened = match open_cells(alloc, &self.copier.space, roots.as_slice(), size) {
-            Ok(opened) => opened,
+        let spare = match self.copier.take_spare(alloc) {
+            Ok(spare) => spare,
             Err(NoMemory) => return Err((self, NoFlip::NoMemory)),
         };
         let Held {
@@ -347,10 +358,10 @@ impl Held {
             end: _,
         } = self;
         let Copier {
-            cells: _,
+            cells,
             seat: _,
             space,
-            claims: _,
+            claims,
             due,
             next: _,
             fill: _,
@@ -360,48 +371,80 @@ impl Held {
             scan_field: _,
             has_wanted: _,
             wanted: _,
+            spare: _,
+            former: _,
+            mut standing,
             size: _,
         } = copier;
-        let Opened {
-            one,
-            two,
-            seat: mut own,
-            size,
-        } = opened;
-        let seat = one.shared.split_seat::<Roles>(&mut own);
-        let end = space.end();
-        let mut spare = due;
-        spare.clear();
-        Ok((
-            Commander {
-                mutator: Mutator {
-                    cells: two,
-                    seat,
-                    logs: false,
-                    log,
-                    size,
-                },
-                roots,
-                end,
-            },
-            Copier {
-                cells: one,
-                seat: own,
-                space: space.emptied(),
-                claims,
-                due: spare,
-                next: 0,
-                fill: 0,
-                fill_next: 0,
-                fill_left: 0,
-                scan_place: 1,
-                scan_field: 0,
-                has_wanted: false,
-                wanted: 0,
+        standing.flipped();
+        let mut empty = due;
+        empty.clear();
+        let former = Some(Former { cells, claims });
+        Ok(begin(space, roots, spare, former, log, empty, standing))
+    }
+}
+
+// The space becomes a mutator's heap with these roots, and a collection of it begins. Allocates nothing.
+fn begin(
+    space: NextSpace,
+    roots: Vec<u64>,
+    spare: Spare,
+    former: Option<Former>,
+    log: Vec<(u32, u16)>,
+    due: Vec<(u32, u16)>,
+    standing: Standing,
+) -> (Commander, Copier)
+    requires sound { IsHeap (one_heap space roots.items) }
+    requires spare { length spare.claims.items ≡ space.size }
+    requires empty { (log.items ≡ []) × (due.items ≡ []) }
+    requires along { ∥ Follows standing space.words (0 ∷ []) ∥₁ }
+    ensures heap { heap_of result.0.mutator.seat.me.0.mine result.0.roots.items ≡ one_heap space roots.items }
+    ensures fresh { result.1.seat.me.0.theirs ≡ opening_theirs (one_heap space roots.items) space.size 1 }
+    ensures rests { result.0.mutator.seat.me.0.mine.logs ≡ false }
+    ensures row { result.0.mutator.seat.table_id ≡ result.1.seat.table_id }
+    ensures size { result.0.mutator.size ≡ space.size }
+{
+    let Opened {
+        one,
+        two,
+        seat: mut own,
+        size,
+        end,
+    } = space.begin(&roots);
+    let seat = one.shared.split_seat::<Roles>(&mut own);
+    let Spare { claims, space } = spare;
+    (
+        Commander {
+            mutator: Mutator {
+                cells: two,
+                seat,
+                logs: false,
+                log,
                 size,
             },
-        ))
-    }
+            roots,
+            end,
+        },
+        Copier {
+            cells: one,
+            seat: own,
+            space,
+            claims,
+            due,
+            next: 0,
+            fill: 0,
+            fill_next: 0,
+            fill_left: 0,
+            scan_place: 1,
+            scan_field: 0,
+            has_wanted: false,
+            wanted: 0,
+            spare: None,
+            former,
+            standing,
+            size,
+        },
+    )
 }
 
 /// Opens an empty heap of this many words, with 32 slots and so many extra roots.
@@ -417,44 +460,19 @@ pub(crate) fn open_ends(
     ensures room { IfOk result (λ r. r.1.seat.me.0.theirs ≡ opening_theirs (heap_of r.0.mutator.seat.me.0.mine r.0.roots.items) size size) }
     ensures rests { IfOk result (λ r. r.0.mutator.seat.me.0.mine.logs ≡ false) }
 {
-    let space = Space::new(alloc, size)?;
+    let space = NextSpace::new(alloc, size)?;
     let roots = Vec::from_elem(alloc, 0u64, 32 + extra as usize)?;
-    let claims = Vec::from_elem(alloc, 0u32, size as usize)?;
-    let opened = open_cells(alloc, &space, roots.as_slice(), size)?;
-    let Opened {
-        one,
-        two,
-        seat: mut own,
-        size,
-    } = opened;
-    let seat = one.shared.split_seat::<Roles>(&mut own);
-    Ok((
-        Commander {
-            mutator: Mutator {
-                cells: two,
-                seat,
-                logs: false,
-                log: Vec::new(alloc),
-                size,
-            },
-            roots,
-            end: 1,
-        },
-        Copier {
-            cells: one,
-            seat: own,
-            space: space.emptied(),
-            claims,
-            due: Vec::new(alloc),
-            next: 0,
-            fill: 0,
-            fill_next: 0,
-            fill_left: 0,
-            scan_place: 1,
-            scan_field: 0,
-            has_wanted: false,
-            wanted: 0,
-            size,
-        },
-    ))
+    let spare = Spare::new(alloc, size)?;
+    let standing = Standing::new(alloc, size)?;
+    let (commander, mut copier) = begin(
+        space,
+        roots,
+        spare,
+        None,
+        Vec::new(alloc),
+        Vec::new(alloc),
+        standing,
+    );
+    copier.prepare(alloc, size)?;
+    Ok((commander, copier))
 }

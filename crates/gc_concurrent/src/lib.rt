@@ -6,14 +6,16 @@ mod cells;
 mod checking;
 mod commands;
 mod copier;
-mod ends;
 mod handshake;
 mod held;
 mod machine;
 mod mutator;
+mod next;
 mod places;
 mod plays;
 mod runs;
+mod spare;
+mod watching;
 
 pub use beside::beside_collector;
 pub use commands::Commander;

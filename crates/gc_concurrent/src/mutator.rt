@@ -3,7 +3,8 @@ ghost use Rattle.std.specs.Prelude.{◌≡◌, ◌+◌, ◌-◌, ◌*◌, ◌^�
 ghost use Rattle.std.specs.Arc.{arc_value};
 
 use crate::cells::{Cells, CellsEnd};
-use crate::plays::{Got, Made, Put};
+use crate::checking::loaded;
+use crate::plays::{Got, Linked, Made, Put};
 use gc_graph::NoMemory;
 use gc_words::{Addr, Header, field_index};
 use std::alloc::Global;
@@ -26,10 +27,22 @@ pub struct Mutator {
     ghost sized: { seat.me.0.mine.space.size ≡ size },
 }
 
+ghost use Rattle.gc_words.specs.Layout.{link_place};
+
+// The place of the link word of the object that starts here.
+fn link_index(at: Addr) -> usize
+    ensures { result ≡ link_place at.0 }
+{
+    at.0 as usize + 1
+}
+
 impl Mutator {
     ghost use Rattle.std.specs.Prelude.{Some, IsSome, IsTrue, OnOk, OnErr};
-    ghost use Rattle.gc_words.specs.Image.{Block, block_at, field_at, header_at, is_start};
-    ghost use Rattle.gc_words.specs.Space.{IsSpace, CanPlace, end_of, with_object, with_field_at};
+    ghost use Rattle.gc_words.specs.Image.{Block, block_at, field_at, fresh_block, header_at, is_start};
+    ghost use Rattle.gc_words.specs.Space.{IsSpace, CanPlace, end_of, with_object, with_field_at, with_link};
+    ghost use Rattle.gc_words.specs.Spelling.{link_at};
+    ghost use Rattle.std.specs.Prelude.{IfOk};
+    ghost use Rattle.gc_graph.specs.Machine.{object_words};
     ghost use Rattle.gc_words.specs.Word.{field_value};
     ghost use Rattle.gc_words.specs.Closed.{IsFieldWord};
     ghost use Rattle.gc_plan.specs.Belonging.{RefersTo};
@@ -44,6 +57,7 @@ impl Mutator {
         ensures same { self.new.seat.me ≡ self.old.seat.me }
         ensures row { self.new.seat.table_id ≡ self.old.seat.table_id }
         ensures size { self.new.size ≡ self.old.size }
+        ensures logging { self.new.logs ≡ self.old.logs }
     {
         let cells = &*self.cells;
         let word = cells.shared.load::<Got>(&mut self.seat, at.0 as usize);
@@ -70,7 +84,11 @@ impl Mutator {
         requires fits { (b : Block) → block_at self.old.seat.me.0.mine.space.words at.0 ≡ Some b → IsFieldWord self.old.seat.me.0.mine.space.words b.header word }
         requires kept { (b : Block) → block_at self.old.seat.me.0.mine.space.words at.0 ≡ Some b → RefersTo (MayBeCopied self.old.seat.me.0.mine.base) (field_value b.header word) }
         ensures ok { OnOk result (self.new.seat.me.0.mine.space ≡ with_field_at self.old.seat.me.0.mine.space at.0 i word) }
+        ensures shaped { IsSpace self.new.seat.me.0.mine.space }
+        ensures end { end_of self.new.seat.me.0.mine.space ≡ end_of self.old.seat.me.0.mine.space }
         ensures base { self.new.seat.me.0.mine.base ≡ self.old.seat.me.0.mine.base }
+        ensures copies { self.new.seat.me.0.copies ≡ self.old.seat.me.0.copies }
+        ensures logging { self.new.logs ≡ self.old.logs }
         ensures err { OnErr result (self.new.seat.me ≡ self.old.seat.me) }
         ensures logs { OnErr result (self.old.seat.me.0.mine.logs ≡ true) }
         ensures row { self.new.seat.table_id ≡ self.old.seat.table_id }
@@ -95,7 +113,12 @@ impl Mutator {
         requires room { CanPlace self.old.seat.me.0.mine.space header }
         ensures at { result.0 ≡ end_of self.old.seat.me.0.mine.space }
         ensures words { self.new.seat.me.0.mine.space ≡ with_object self.old.seat.me.0.mine.space header }
+        ensures object { block_at self.new.seat.me.0.mine.space.words end ≡ Some (fresh_block header) }
+        ensures shaped { IsSpace self.new.seat.me.0.mine.space }
+        ensures longer { end_of self.new.seat.me.0.mine.space ≡ end + object_words header.len }
         ensures base { self.new.seat.me.0.mine.base ≡ self.old.seat.me.0.mine.base }
+        ensures copies { self.new.seat.me.0.copies ≡ self.old.seat.me.0.copies }
+        ensures logging { self.new.logs ≡ self.old.logs }
         ensures row { self.new.seat.table_id ≡ self.old.seat.table_id }
         ensures size { self.new.size ≡ self.old.size }
     {
@@ -104,5 +127,52 @@ impl Mutator {
             .shared
             .store::<Made>(&mut self.seat, end as usize, header.word());
         Addr(end)
+    }
+
+    /// Reads the link word of the object that starts here.
+    pub(crate) fn link(&mut self, at: Addr) -> u64
+        requires shaped { IsSpace self.old.seat.me.0.mine.space }
+        requires start { IsTrue (is_start self.old.seat.me.0.mine.space.words at.0) }
+        ensures value { result ≡ link_at self.old.seat.me.0.mine.space.words at.0 }
+        ensures same { self.new.seat.me ≡ self.old.seat.me }
+        ensures row { self.new.seat.table_id ≡ self.old.seat.table_id }
+        ensures size { self.new.size ≡ self.old.size }
+        ensures logging { self.new.logs ≡ self.old.logs }
+    {
+        let cells = &*self.cells;
+        cells.shared.load::<Got>(&mut self.seat, link_index(at))
+    }
+
+    /// Writes the link word of the object that starts here. No command reads it, and it is not logged.
+    pub(crate) fn set_link(&mut self, at: Addr, word: u64)
+        requires shaped { IsSpace self.old.seat.me.0.mine.space }
+        requires start { IsTrue (is_start self.old.seat.me.0.mine.space.words at.0) }
+        ensures words { self.new.seat.me.0.mine.space ≡ with_link self.old.seat.me.0.mine.space at.0 word }
+        ensures shaped { IsSpace self.new.seat.me.0.mine.space }
+        ensures end { end_of self.new.seat.me.0.mine.space ≡ end_of self.old.seat.me.0.mine.space }
+        ensures base { self.new.seat.me.0.mine.base ≡ self.old.seat.me.0.mine.base }
+        ensures copies { self.new.seat.me.0.copies ≡ self.old.seat.me.0.copies }
+        ensures logging { self.new.logs ≡ self.old.logs }
+        ensures row { self.new.seat.table_id ≡ self.old.seat.table_id }
+        ensures size { self.new.size ≡ self.old.size }
+    {
+        let cells = &*self.cells;
+        cells
+            .shared
+            .store::<Linked>(&mut self.seat, link_index(at), word);
+    }
+
+    /// Loads the words up to the end, one by one. Allocates once.
+    pub(crate) fn words(&mut self, alloc: Global, end: u32) -> Result<Vec<u64>, NoMemory>
+        requires shaped { IsSpace self.old.seat.me.0.mine.space }
+        requires end { length self.old.seat.me.0.mine.space.words ≡ end }
+        ensures words { IfOk result (λ words. words.items ≡ self.old.seat.me.0.mine.space.words) }
+        ensures same { self.new.seat.me ≡ self.old.seat.me }
+        ensures row { self.new.seat.table_id ≡ self.old.seat.table_id }
+        ensures size { self.new.size ≡ self.old.size }
+        ensures logging { self.new.logs ≡ self.old.logs }
+    {
+        let cells = &*self.cells;
+        loaded(alloc, cells, &mut self.seat, end)
     }
 }

@@ -6,7 +6,7 @@ use atomic_table::{Join, Play, Split};
 
 pub(crate) struct Got;
 
-impl Play<u64, CellsView> for Got {
+impl Play<Vec<u64>, CellsView> for Got {
     ghost use Rattle.gc_concurrent.specs.Internal.Rule.{tells_get};
 
     ghost then = { tells_get };
@@ -14,7 +14,7 @@ impl Play<u64, CellsView> for Got {
 
 pub(crate) struct Put;
 
-impl Play<u64, CellsView> for Put {
+impl Play<Vec<u64>, CellsView> for Put {
     ghost use Rattle.gc_concurrent.specs.Internal.Rule.{tells_put};
 
     ghost then = { tells_put };
@@ -22,15 +22,39 @@ impl Play<u64, CellsView> for Put {
 
 pub(crate) struct Made;
 
-impl Play<u64, CellsView> for Made {
+impl Play<Vec<u64>, CellsView> for Made {
     ghost use Rattle.gc_concurrent.specs.Internal.Rule.{tells_new};
 
     ghost then = { tells_new };
 }
 
+pub(crate) struct Linked;
+
+impl Play<Vec<u64>, CellsView> for Linked {
+    ghost use Rattle.gc_concurrent.specs.Internal.Rule.{tells_link};
+
+    ghost then = { tells_link };
+}
+
+pub(crate) struct Renewed;
+
+impl Play<Vec<u64>, CellsView> for Renewed {
+    ghost use Rattle.gc_concurrent.specs.Internal.Rule.{tells_renew};
+
+    ghost then = { tells_renew };
+}
+
+pub(crate) struct Began;
+
+impl Play<Vec<u64>, CellsView> for Began {
+    ghost use Rattle.gc_concurrent.specs.Internal.Rule.{tells_begin};
+
+    ghost then = { tells_begin };
+}
+
 pub(crate) struct Took;
 
-impl Play<u64, CellsView> for Took {
+impl Play<Vec<u64>, CellsView> for Took {
     ghost use Rattle.gc_concurrent.specs.Internal.Rule.{tells_take};
 
     ghost then = { tells_take };
@@ -38,7 +62,7 @@ impl Play<u64, CellsView> for Took {
 
 pub(crate) struct Rooted;
 
-impl Play<u64, CellsView> for Rooted {
+impl Play<Vec<u64>, CellsView> for Rooted {
     ghost use Rattle.gc_concurrent.specs.Internal.Rule.{tells_root};
 
     ghost then = { tells_root };
@@ -46,7 +70,7 @@ impl Play<u64, CellsView> for Rooted {
 
 pub(crate) struct Scanned;
 
-impl Play<u64, CellsView> for Scanned {
+impl Play<Vec<u64>, CellsView> for Scanned {
     ghost use Rattle.gc_concurrent.specs.Internal.Rule.{tells_scan};
 
     ghost then = { tells_scan };
@@ -54,7 +78,7 @@ impl Play<u64, CellsView> for Scanned {
 
 pub(crate) struct Applied;
 
-impl Play<u64, CellsView> for Applied {
+impl Play<Vec<u64>, CellsView> for Applied {
     ghost use Rattle.gc_concurrent.specs.Internal.Rule.{tells_apply};
 
     ghost then = { tells_apply };
@@ -62,7 +86,7 @@ impl Play<u64, CellsView> for Applied {
 
 pub(crate) struct Placed;
 
-impl Play<u64, CellsView> for Placed {
+impl Play<Vec<u64>, CellsView> for Placed {
     ghost use Rattle.gc_concurrent.specs.Internal.Rule.{tells_place};
 
     ghost then = { tells_place };
@@ -70,7 +94,7 @@ impl Play<u64, CellsView> for Placed {
 
 pub(crate) struct Passed;
 
-impl Play<u64, CellsView> for Passed {
+impl Play<Vec<u64>, CellsView> for Passed {
     ghost use Rattle.gc_concurrent.specs.Internal.Rule.{tells_pass};
 
     ghost then = { tells_pass };
@@ -78,7 +102,7 @@ impl Play<u64, CellsView> for Passed {
 
 pub(crate) struct Left;
 
-impl Play<u64, CellsView> for Left {
+impl Play<Vec<u64>, CellsView> for Left {
     ghost use Rattle.gc_concurrent.specs.Internal.Rule.{tells_leave};
 
     ghost then = { tells_leave };
@@ -86,10 +110,34 @@ impl Play<u64, CellsView> for Left {
 
 pub(crate) struct Flipped;
 
-impl Play<u64, CellsView> for Flipped {
+impl Play<Vec<u64>, CellsView> for Flipped {
     ghost use Rattle.gc_concurrent.specs.Internal.Flip.{tells_flip};
 
     ghost then = { tells_flip };
+}
+
+pub(crate) struct Looked;
+
+impl Play<Vec<u64>, CellsView> for Looked {
+    ghost use Rattle.gc_concurrent.specs.Internal.Rule.{tells_look};
+
+    ghost then = { tells_look };
+}
+
+pub(crate) struct Headed;
+
+impl Play<Vec<u64>, CellsView> for Headed {
+    ghost use Rattle.gc_concurrent.specs.Internal.Rule.{tells_header};
+
+    ghost then = { tells_header };
+}
+
+pub(crate) struct Saw;
+
+impl Play<Vec<u64>, CellsView> for Saw {
+    ghost use Rattle.gc_concurrent.specs.Internal.Rule.{tells_see};
+
+    ghost then = { tells_see };
 }
 
 pub(crate) struct Roles;

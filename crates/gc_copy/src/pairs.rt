@@ -8,26 +8,30 @@ ghost use Rattle.gc_plan.specs.Members.{In};
 ghost use Rattle.gc_copy.specs.Words.{replicas_in};
 
 use gc_graph::NoMemory;
-use gc_words::{Addr, NewAddr, OldAddr, Pair, Space};
+use gc_words::{NewAddr, OldAddr, Pair, next_in};
 use std::alloc::Global;
 
-/// Returns a pair for each object of a space, its link and its own address, in the order of addresses. Allocates once, if there are `count` objects at most.
-pub fn linked_pairs(alloc: Global, space: &Space, count: u32) -> Result<Vec<Pair>, NoMemory>
-    requires shaped { IsSpace space.now }
-    requires links { (r : Replica) → In r (replicas_in space.now.words) → r.original < 2 ^ 32 }
+/// Returns a pair for each object of a space with these words, its link and its own address, in the order of addresses. Allocates once, if there are `count`
+/// objects at most.
+pub fn linked_pairs(alloc: Global, words: &[u64], count: u32) -> Result<Vec<Pair>, NoMemory>
+    requires shaped { IsSpace (record { size = length words.now; words = words.now }) }
+    requires links { (r : Replica) → In r (replicas_in words.now) → r.original < 2 ^ 32 }
     ensures few { IfOk result (λ pairs. length pairs.items < 2 ^ 32) }
     ensures pairs { IfOk result (λ pairs. map addresses pairs.items
-        ≡ map (λ r. (r.original, r.place)) (replicas_in space.now.words)) }
+        ≡ map (λ r. (r.original, r.place)) (replicas_in words.now)) }
 {
     let mut pairs = Vec::with_capacity(alloc, count as usize)?;
-    let mut at = Addr(1);
-    while at.0 < space.end() {
+    let mut at = 1;
+    while at < words.len() {
         let pair = Pair {
-            old: OldAddr(space.link(at) as u32),
-            new: NewAddr(at.0),
+            old: OldAddr(words[at + 1] as u32),
+            new: NewAddr(at as u32),
         };
         pairs.push(pair)?;
-        at = space.next_start(at);
+        let Some(next) = next_in(words, at, true) else {
+            unreachable!()
+        };
+        at = next;
     }
     Ok(pairs)
 }

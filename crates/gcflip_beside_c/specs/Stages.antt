@@ -13,7 +13,7 @@ use Rattle.gc_concurrent.specs.Unreachable.{CopiesNothingUnreachable}
 use Rattle.gc_concurrent.specs.Heaps.{GoesOnIn}
 use Rattle.gc_concurrent.specs.Nearing.{steps_ahead}
 use Rattle.gc_concurrent.specs.Works.{KeepsBeginning, TakesLog, WhereDone}
-use Rattle.gc_concurrent.specs.Checking.{FlippedBy, CertifiesFlip, flip_shown}
+use Rattle.gc_concurrent.specs.Checking.{FlippedBy, CertifiesFlip, IsVouchedFor, flip_shown}
 use Rattle.gc_concurrent.specs.declared.copier.Work.TheVariants as work
 use Rattle.gc_in_c.specs.Answers.{closed_handle, out_of_range}
 use Rattle.gcflip_beside_c.specs.Answers.{parked_mutator, not_yet, not_ready, clean, no_room, flip_made}
@@ -89,6 +89,19 @@ pub record IsBesideWork (most : ℕ) (old new : Standing) (answer : ℕ) : Type 
   pub closed : ¬ IsCollector old → (answer ≡ closed_handle) × (new ≡ old)
   pub outside : IsCollector old → most ≡ 0 → (answer ≡ out_of_range) × (new ≡ old)
 
+-- The collection begins anew, in a new space of this size, unless an allocation failed.
+abbrev pub PreparesSpace : ℕ → Standing → Standing → ℕ → Type 0
+PreparesSpace size (works t) new answer = ((answer ≡ done) × (new ≡ works (opening_theirs t.base t.old size))) ⊎ ((answer ≡ no_memory) × (new ≡ works t))
+PreparesSpace size (asks t) new answer = (answer ≡ not_yet) × (new ≡ asks t)
+PreparesSpace size (holds t heap) new answer = (answer ≡ not_yet) × (new ≡ holds t heap)
+PreparesSpace size old new answer = (answer ≡ closed_handle) × (new ≡ old)
+
+-- a call of prepare, whose argument is at least 1
+pub record IsBesidePrepare (size : ℕ) (old new : Standing) (answer : ℕ) : Type 0 where
+  pub prepared : IsCollector old → 1 ≤ size → PreparesSpace size old new answer
+  pub closed : ¬ IsCollector old → (answer ≡ closed_handle) × (new ≡ old)
+  pub outside : IsCollector old → size ≡ 0 → (answer ≡ out_of_range) × (new ≡ old)
+
 abbrev pub Asks : Standing → Standing → ℕ → Type 0
 Asks (works t) new answer = ((answer ≡ done) × (new ≡ asks t)) ⊎ ((answer ≡ not_yet) × (new ≡ works t))
 Asks (asks t) new answer = (answer ≡ done) × (new ≡ asks t)
@@ -117,14 +130,14 @@ Goes old new answer = (answer ≡ closed_handle) × (new ≡ old)
 abbrev pub IsCertifiedPair : CertifiedPair → Type 0
 IsCertifiedPair pair = Certified pair.old pair.new pair.pairs
 
--- A flip of this heap, after which the next collection has begun, in an empty space as large as the new one, with the graph of the replicas. A checker
--- said this of it.
+-- A flip of this heap, after which the next collection has begun: of a heap as large as the new space, with the graph of the replicas, in a new space of one
+-- word. A standing checker vouched for it, or a checker said this of it.
 pub record IsFlip (says : CertifiedPair → Type 0) (t : Theirs) (heap : HeapWords) (u : Theirs) : Type 0 where
   pub ready : is_ready (its t) (graph_in heap) ≡ true
-  pub asked : says (flip_shown heap t)
+  pub asked : IsVouchedFor heap u.base ⊎ says (flip_shown heap t)
   pub certified : CertifiesFlip heap t
   pub carried : CopiesNothingUnreachable t
-  pub fresh : u ≡ opening_theirs u.base t.size t.size
+  pub fresh : u ≡ opening_theirs u.base t.size 1
   pub graph : graph_in u.base ≡ new_graph (its t) (map value_of heap.roots)
 
 -- the mutator is not held any more, and the collector knows what is so related
@@ -161,6 +174,6 @@ abbrev pub FinishesHeld : (CertifiedPair → Type 0) → Standing → Standing �
 FinishesHeld says (works t) new answer = (answer ≡ not_yet) × (new ≡ works t)
 FinishesHeld says (asks t) new answer = (answer ≡ not_yet) × (new ≡ asks t)
 FinishesHeld says (holds t heap) new answer =
-    ((answer ≡ flip_made) × WorksAfter (λ u. FlippedBy says heap u.base × (u ≡ opening_theirs u.base t.size t.size)) new)
+    ((answer ≡ flip_made) × WorksAfter (λ u. FlippedBy says heap u.base × (u ≡ opening_theirs u.base t.size 1)) new)
     ⊎ ((answer ≡ not_ready) × (t.size < t.old) × HoldsOn (KeepsBeginning t) heap new) ⊎ ((answer ≡ no_memory) × HoldsOn (KeepsBeginning t) heap new)
 FinishesHeld says old new answer = (answer ≡ closed_handle) × (new ≡ old)

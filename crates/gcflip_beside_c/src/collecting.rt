@@ -1,8 +1,8 @@
 //! The exports of the collector's end. None of them waits.
 
-ghost use Rattle.std.specs.Prelude.{◌≡◌, ◌≢◌};
+ghost use Rattle.std.specs.Prelude.{◌≡◌, ◌≢◌, ◌≤◌};
 ghost use Rattle.gcflip_beside_c.specs.Internal.Stepping.{StepsOn, why_in_c};
-ghost use Rattle.gcflip_beside_c.specs.Stages.{Asks, TakesMutator, Goes, PlacesRoots, FlipsHeld, FinishesHeld, IsCertifiedPair, HasWorked, IsBesideWork};
+ghost use Rattle.gcflip_beside_c.specs.Stages.{Asks, IsBesidePrepare, PreparesSpace, TakesMutator, Goes, PlacesRoots, FlipsHeld, FinishesHeld, IsCertifiedPair, HasWorked, IsBesideWork};
 ghost use Rattle.gcflip_beside_c.specs.Standing.{standing, standing_of, IsCollector};
 
 use crate::answer::{
@@ -13,6 +13,7 @@ use crate::guards::lent;
 use crate::handle::GcflipEnd;
 use gc_check::{Checks, Sequential};
 use gc_concurrent::{NoFlip, Work};
+use gc_graph::NoMemory;
 use std::alloc::Global;
 use std::mem::replace;
 
@@ -59,6 +60,38 @@ pub extern "C" fn gcflip_beside_work(collector: &mut GcflipEnd, most: u32) -> u3
         return OUT_OF_RANGE;
     }
     steps(end, most)
+}
+
+// Begins the collection anew, in a new space of this size.
+fn prepared(alloc: Global, end: &mut End, size: u32) -> u32
+    requires { 1 ≤ size }
+    ensures { PreparesSpace size (standing_of end.old) (standing_of end.new) result }
+{
+    match end {
+        End::Working(collector) => match collector.prepare(alloc, size) {
+            Ok(()) => DONE,
+            Err(NoMemory) => NO_MEMORY,
+        },
+        End::Asking(_) | End::Holding(_) => NOT_YET,
+        _ => CLOSED,
+    }
+}
+
+/// Begins the collection anew, in a new space of `size` words, with the memory that its flip takes. Frees the memory of the heap before the last flip. Returns
+/// 0, or 13 if the collector has asked its mutator to stop or holds it. Returns 3 if the handle has no collector, and 2 if `size` is 0. Returns 1 if an
+/// allocation fails: the collection then goes on as it stands.
+#[unsafe(no_mangle)]
+pub extern "C" fn gcflip_beside_prepare(alloc: Global, collector: &mut GcflipEnd, size: u32) -> u32
+    ensures { IsBesidePrepare size (standing collector.old.end) (standing collector.new.end) result }
+{
+    let end = lent!(collector);
+    if !end.is_collector() {
+        return CLOSED;
+    }
+    if size == 0 {
+        return OUT_OF_RANGE;
+    }
+    prepared(alloc, end, size)
 }
 
 fn asked(end: End) -> (End, u32)

@@ -12,7 +12,7 @@ mod stops;
 
 pub use collecting::{
     gcflip_beside_ask, gcflip_beside_finish, gcflip_beside_flip, gcflip_beside_go,
-    gcflip_beside_place_roots, gcflip_beside_take, gcflip_beside_work,
+    gcflip_beside_place_roots, gcflip_beside_prepare, gcflip_beside_take, gcflip_beside_work,
 };
 pub use commands::{
     gcflip_beside_copy, gcflip_beside_get, gcflip_beside_look, gcflip_beside_new,

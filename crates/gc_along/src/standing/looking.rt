@@ -3,8 +3,16 @@ use super::Standing;
 use crate::walking::header_at;
 use gc_words::{Addr, Header, field_index};
 
+/// A field of a replica: the header and the original of the replica, and the place of the field in the new space.
+#[derive(Clone, Copy)]
+pub(super) struct Field {
+    pub(super) header: Header,
+    pub(super) original: u32,
+    pub(super) place: usize,
+}
+
 impl Standing {
-    ghost use Rattle.std.specs.Prelude.{◌≡◌, ◌<◌, ◌≤◌, ◌+◌, ◌-◌, Some, ℕ, false, IsTrue, IsFalse, MatchOption, length, slice_index};
+    ghost use Rattle.std.specs.Prelude.{◌≡◌, ◌<◌, ◌≤◌, ◌+◌, ◌-◌, Some, ℕ, false, IsTrue, IsFalse, IfNone, IfSome, MatchOption, length, slice_index, slice_index_or};
     ghost use Rattle.gc_words.specs.Word.{field_words_correspond, read_header};
     ghost use Rattle.gc_words.specs.declared.header.Header.{Header};
     ghost use Rattle.gc_words.specs.Layout.{field_place};
@@ -14,7 +22,7 @@ impl Standing {
     ghost use Rattle.gc_along.specs.Runs.{LookedAll, CanLookAll};
     ghost use Rattle.gc_along.specs.Internal.Runs.{LooksTo};
     ghost use Rattle.gc_along.specs.Tables.{Tables};
-    ghost use Rattle.gc_along.specs.Claims.{CanLook};
+    ghost use Rattle.gc_along.specs.Claims.{CanLook, HasField};
 
     /// Compares field `i` of the replica at `at` as it is now.
     #[inline(always)]
@@ -40,14 +48,32 @@ impl Standing {
             × (alike ≡ field_words_correspond h (pairs_in self.now.origins) (slice_index old.now (field_place a i)) (slice_index new.now (field_place at i)))) }
     {
         let start = at as usize;
-        let original = self.origins.get(start);
-        if original == 0 {
-            return None;
-        }
         if start >= new.len() {
             return None;
         }
-        let header = Header::read(new[start])?;
+        let field = self.field_of(new[start], at, i)?;
+        if field.place >= new.len() {
+            return None;
+        }
+        let from = field_index(Addr(field.original), i);
+        if from >= old.len() {
+            return None;
+        }
+        Some(self.is_alike(field.header, old[from], new[field.place]))
+    }
+
+    // Field `i` of the replica at `at`, whose header word this is, if there is such a field.
+    #[inline(always)]
+    pub(super) fn field_of(&self, word: u64, at: u32, i: u16) -> Option<Field>
+        ensures some { IfSome result (λ f. (read_header word ≡ Some f.header) × (i < f.header.len) × (slice_index_or self.now.origins at 0 ≡ f.original) × (1 ≤ f.original)
+            × (f.place ≡ field_place at i) × (f.place < length self.now.news)) }
+        ensures none { IfNone result (HasField word self.now at i → ⊥) }
+    {
+        let original = self.origins.get(at as usize);
+        if original == 0 {
+            return None;
+        }
+        let header = Header::read(word)?;
         if i >= header.len() {
             return None;
         }
@@ -55,14 +81,11 @@ impl Standing {
         if place >= self.news.len() {
             return None;
         }
-        if place >= new.len() {
-            return None;
-        }
-        let from = field_index(Addr(original), i);
-        if from >= old.len() {
-            return None;
-        }
-        Some(self.is_alike(header, old[from], new[place]))
+        Some(Field {
+            header,
+            original,
+            place,
+        })
     }
 
     /// Compares the fields from field `i` of the replica at `at` on, up to field `end` of the replica at `to`, as they are now.

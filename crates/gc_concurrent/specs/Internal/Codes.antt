@@ -52,5 +52,5 @@ theirs_coded = code_by (ℕ × (ℕ × (List Replica × (ℕ × (ℕ × (List (�
     (λ p. record { old = p.0; size = p.1.0; replicas = p.1.1.0; scan_place = p.1.1.1.0; scan_field = p.1.1.1.1.0; due = p.1.1.1.1.1.0; wanted = p.1.1.1.1.1.1.0; base = p.1.1.1.1.1.1.1 }) (λ _. refl)
 
 abbrev pub known_coded : Coded Known
-known_coded = code_by (Bool × (Bool × (Mine × Theirs))) (coded× coded_bool (coded× coded_bool (coded× mine_coded theirs_coded)))
-    (λ v. (v.writes, (v.copies, (v.mine, v.theirs)))) (λ p. record { writes = p.0; copies = p.1.0; mine = p.1.1.0; theirs = p.1.1.1 }) (λ _. refl)
+known_coded = code_by (Bool × (Bool × (Mine × (Theirs × List ℕ)))) (coded× coded_bool (coded× coded_bool (coded× mine_coded (coded× theirs_coded (coded_list coded_ℕ)))))
+    (λ v. (v.writes, (v.copies, (v.mine, (v.theirs, v.seen))))) (λ p. record { writes = p.0; copies = p.1.0; mine = p.1.1.0; theirs = p.1.1.1.0; seen = p.1.1.1.1 }) (λ _. refl)

@@ -11,9 +11,8 @@ use Rattle.gc_plan.specs.Linked.{linked_image, new_links}
 use Rattle.gc_plan.specs.Members.{In}
 use Rattle.gc_plan.specs.Steps.{scan_done, roots_done}
 use Rattle.gc_copy.specs.Words.{replicas_in}
-use Rattle.atomic_table.specs.Table.{Step}
 use Rattle.gc_concurrent.specs.Ends.{Mine, Theirs, Known, its, one_heap}
-use Rattle.gc_concurrent.specs.Internal.Rule.{Sat}
+use Rattle.gc_concurrent.specs.Internal.Rule.{CatchesUp, OneStep, Sat}
 use Rattle.gc_concurrent.specs.Heaps.{heap_of}
 use Rattle.gc_concurrent.specs.Unreachable.{CopiesNothingUnreachable}
 
@@ -62,5 +61,5 @@ pub record Flips (roots : List ℕ) (m : Mine) (t : Theirs) : Type 0 where
   pub kept : CopiesNothingUnreachable t
 
 -- A load with both ends at hand shows that the mutator may go on in the new space.
-abbrev pub tells_flip : Step ℕ → Sat → ℕ → Sat → Type 0
-tells_flip st me found me' = (me' ≡ me) × ((roots : List ℕ) → IsHeap (heap_of me.0.mine roots) → HasNothingLeft roots me.0 → Flips roots me.0.mine me.0.theirs)
+abbrev pub tells_flip : OneStep → Sat → ℕ → Sat → Type 0
+tells_flip st me found me' = (me' ≡ me) × CatchesUp me.0 × ((roots : List ℕ) → IsHeap (heap_of me.0.mine roots) → HasNothingLeft roots me.0 → Flips roots me.0.mine me.0.theirs)

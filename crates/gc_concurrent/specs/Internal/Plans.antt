@@ -1,5 +1,5 @@
 -- What the two ends know together, as a state of gc_plan.
-use Rattle.std.specs.Prelude.{[], ℕ, List, ◌∷◌, Some, ◌-◌, ◌++◌, length, replicate}
+use Rattle.std.specs.Prelude.{[], ◌∷◌, Some}
 use Rattle.gc_words.specs.Space.{image_with}
 use Rattle.gc_words.specs.Image.{roomy_of}
 use Rattle.gc_plan.specs.State.{Collection, State}
@@ -10,7 +10,3 @@ collection_of mine t = record { size = t.size; replicas = t.replicas; logs = min
 
 abbrev pub plan : Mine → Theirs → State
 plan mine t = record { mutators = 2; size = mine.space.size; heap = roomy_of (image_with mine.space []); collection = Some (collection_of mine t) }
-
--- these words, and zeros behind them
-abbrev pub padded_to : ℕ → List ℕ → List ℕ
-padded_to size words = words ++ replicate (size - length words) 0

@@ -13,6 +13,7 @@ use Rattle.gc_plan.specs.State.{Replica}
 use Rattle.gc_plan.specs.Belonging.{RefersTo}
 use Rattle.gc_plan.specs.Carried.{LeadsOnlyTo}
 use Rattle.gc_concurrent.specs.Unreachable.{MayBeCopied}
+use Rattle.gc_along.specs.Watch.{IsSeen}
 use Rattle.gc_concurrent.specs.Ends.{Theirs}
 use Rattle.gc_concurrent.specs.Internal.Codes.{replica_coded}
 use Rattle.gc_concurrent.specs.Internal.Copiers.{Claims}
@@ -54,3 +55,6 @@ claims_prop row t = claims_prop_told row t
 
 pub space_prop : (s : SpaceWords) → IsProp (IsSpace s)
 space_prop s = hlevel props
+
+pub seen_prop : (n : ℕ) (words : List ℕ) → IsProp (IsSeen n words)
+seen_prop n words = hlevel props

@@ -1,6 +1,8 @@
 -- The rule of a space of objects that a collector's thread copies while a mutator reads and writes it, and what each step tells.
 -- The words of the table are those of the space. One table serves from one flip to the next.
-use Rattle.std.specs.Prelude.{[], ◌≡◌, ◌⊎◌, ℕ, zero, suc, ◌+◌, ◌<◌, ◌≤◌, Bool, true, false, List, ◌∷◌, ◌++◌, length, slice_index, drop, map, Some, None, IsSome, is_some, nat_lt, if◌then◌else◌}
+use Rattle.std.specs.Prelude.{[], ◌≡◌, ◌≢◌, ◌⊎◌, ℕ, zero, suc, ◌+◌, ◌<◌, ◌≤◌, ◌^◌, Bool, true, false, List, ◌∷◌, ◌++◌, length, slice_index, slice_set, drop, map, Some, None, IsSome, IsTrue, is_some, nat_lt, if◌then◌else◌}
+use Rattle.std.specs.declared.vec.Vec.{Vec}
+use Rattle.std.specs.declared.alloc.Global.{Global}
 use Rattle.std.specs.declared.option.Option.{Option as Opt}
 use mathlib.Core.Option.{some}
 use lib.ListN.{get_elem?}
@@ -8,9 +10,9 @@ use Rattle.atomic_table.specs.Table.{State, Me, Step}
 use Rattle.gc_graph.specs.Graph.{Value, Num, Ref, Object, lookup, new_object}
 use Rattle.gc_graph.specs.Machine.{object_words}
 use Rattle.gc_words.specs.Word.{IsHeader, read_header, value_of, is_value, header_word}
-use Rattle.gc_words.specs.Layout.{field_place, next_place}
-use Rattle.gc_words.specs.Image.{objects_of, field_at}
-use Rattle.gc_words.specs.Space.{IsSpace, end_of, with_object, with_field_at}
+use Rattle.gc_words.specs.Layout.{field_place, link_place, next_place}
+use Rattle.gc_words.specs.Image.{objects_of, header_at, field_at, is_start}
+use Rattle.gc_words.specs.Space.{IsSpace, end_of, with_object, with_field_at, with_link}
 use Rattle.gc_words.specs.Closed.{IsClosed}
 use Rattle.gc_words.specs.declared.header.Header.{Header}
 use Rattle.gc_plan.specs.State.{Replica, Collection, replica_of, moved, new_end, new_free}
@@ -18,10 +20,16 @@ use Rattle.gc_plan.specs.Steps.{with_written}
 use Rattle.gc_plan.specs.Members.{In}
 use Rattle.gc_plan.specs.Belonging.{IsOpened, BelongsBy}
 use Rattle.gc_heap.specs.Heap.{HeapWords}
-use Rattle.gc_concurrent.specs.Ends.{Mine, Theirs, its, one_heap, opening_mine, opening_theirs}
+use Rattle.gc_concurrent.specs.Ends.{Mine, Theirs, its, one_heap, opening_mine, opening_theirs, opening_view}
 use Rattle.gc_concurrent.specs.Internal.Carrying.{KeepsUnreachableOut}
 use Rattle.gc_concurrent.specs.Internal.Plans.{collection_of, plan}
+use Rattle.gc_concurrent.specs.Internal.Told.{IsTold}
+use Rattle.gc_along.specs.Watch.{IsNext, IsSeen}
 use Rattle.gc_concurrent.specs.Ends.{Known as View}
+
+-- The roots that a step names to its `Play`. The cells have no slots, so the type of what a slot holds serves for that alone.
+abbrev pub RootWords : Type 0
+RootWords = Vec ℕ Global
 
 -- one seat is the mutator's, and one the collector's
 abbrev pub Seated : ℕ → ℕ → Mine → Theirs → ℕ → View → Type 0
@@ -29,6 +37,10 @@ Seated writer copier mine theirs j v = (v.writes ≡ true → (j ≡ writer) × 
 
 abbrev pub AreSeated : ℕ → ℕ → Mine → Theirs → List View → Type 0
 AreSeated writer copier mine theirs views = (j : ℕ) (v : View) → get_elem? views j ≡ some v → Seated writer copier mine theirs j v
+
+-- each seat that copies knows what was seen
+abbrev pub AreShown : List ℕ → List View → Type 0
+AreShown seen views = (j : ℕ) (v : View) → get_elem? views j ≡ some v → v.copies ≡ true → v.seen ≡ seen
 
 -- Nothing was logged, and nothing is copied, due or wanted.
 pub record IsAtRest (m : Mine) (t : Theirs) : Type 0 where
@@ -40,9 +52,11 @@ pub record IsAtRest (m : Mine) (t : Theirs) : Type 0 where
 -- The mutator's words are those of the table, and the words behind them are 0. They are a closed space, and the collection is open in
 -- gc_plan's sense: a field of a replica is up to date unless it is not yet scanned, or in one of the two logs. Nothing that was unreachable when
 -- the collection began is copied. The replicas take no more words than the objects. While writes are not logged, the collection is at rest.
-pub record IsConcurrent (size : ℕ) (s : State ℕ View) : Type 0 where
+-- The words come from those that the standing checker has seen by the writes in the log, and by objects made.
+pub record IsConcurrent (size : ℕ) (s : State RootWords View) : Type 0 where
   pub mine : Mine
   pub theirs : Theirs
+  pub seen : List ℕ
   pub writer : ℕ
   pub copier : ℕ
   pub wide : length s.words ≡ size
@@ -58,6 +72,8 @@ pub record IsConcurrent (size : ℕ) (s : State ℕ View) : Type 0 where
   pub fits : new_end (its theirs) ≤ end_of mine.space
   pub rests : mine.logs ≡ false → IsAtRest mine theirs
   pub seats : AreSeated writer copier mine theirs s.views
+  pub told : IsTold seen mine
+  pub shown : AreShown seen s.views
 
 -- the word of a field was written, and logged unless the collection is at rest
 abbrev pub wrote : ℕ → ℕ → ℕ → Mine → Mine
@@ -66,6 +82,10 @@ wrote a i w m = record m { space = with_field_at m.space a i w; log = if m.logs 
 -- an object was made at the end
 abbrev pub made : Header → Mine → Mine
 made h m = record m { space = with_object m.space h }
+
+-- the word of a link was written
+abbrev pub linked_to : ℕ → ℕ → Mine → Mine
+linked_to a w m = record m { space = with_link m.space a w }
 
 -- field i of the replica of `name` becomes what this value of its original moves to
 abbrev pub brought : ℕ → ℕ → Value → Theirs → Theirs
@@ -81,13 +101,18 @@ applied name i v t = record (brought name i v t) { due = drop 1 t.due }
 abbrev pub wants : ℕ → Theirs → Theirs
 wants a t = record t { wanted = a ∷ [] }
 
--- the mutator's entries become the collector's
+-- the mutator's entries become the collector's, and its words are those that are seen
 abbrev pub logs_taken : View → View
-logs_taken v = record v { mine = record v.mine { log = [] }; theirs = record v.theirs { due = v.theirs.due ++ v.mine.log } }
+logs_taken v = record v { mine = record v.mine { log = [] }; theirs = record v.theirs { due = v.theirs.due ++ v.mine.log }; seen = v.mine.space.words }
 
 -- the value of a field word of an object that is raw or not
 abbrev pub read_as : Bool → ℕ → Value
 read_as raw w = if raw then Num w else value_of w
+
+-- the word is one of a field of an object that is raw or not: a number below 2 ^ 63, or a value
+abbrev pub IsWordAs : Bool → ℕ → Type 0
+IsWordAs true w = w < 2 ^ 63
+IsWordAs false w = IsTrue (is_value w)
 
 -- the value's target, if it has no replica
 abbrev pub lacks : Collection → Value → Opt ℕ
@@ -127,6 +152,7 @@ pub record Loose (t : Theirs) : Type 0 where
   pub within : (a : ℕ) (o : Object) → lookup objects a ≡ Some o → a + (length o.fields + 2) ≤ t.old
   pub wanted : (a : ℕ) → In a t.wanted → (o : Object) × (lookup objects a ≡ Some o)
   pub high : t.size ≤ 4294967295
+  pub old_low : 1 ≤ t.old
   pub old_high : t.old ≤ 4294967295
 
 abbrev pub only_writes : View → View
@@ -141,76 +167,125 @@ no_heap = one_heap (record { size = 0; words = [] }) []
 
 -- two seats become one
 abbrev pub both_ends : View → View → View
-both_ends v w = record { writes = true; copies = true; mine = w.mine; theirs = v.theirs }
+both_ends v w = record { writes = true; copies = true; mine = w.mine; theirs = v.theirs; seen = v.seen }
 
 abbrev pub spent_view : View
-spent_view = record { writes = false; copies = false; mine = opening_mine no_heap; theirs = opening_theirs no_heap 0 0 }
+spent_view = record { writes = false; copies = false; mine = opening_mine no_heap; theirs = opening_theirs no_heap 0 0; seen = [] }
 
 abbrev pub Sat : Type 0
-Sat = Me ℕ View
+Sat = Me RootWords View
+
+abbrev pub OneStep : Type 0
+OneStep = Step RootWords
 
 -- the collector knows after a step that its collection belongs to some heap
 abbrev pub KnowsBelonging : Sat → Type 0
 KnowsBelonging me = me.0.copies ≡ true → ∥ Loose me.0.theirs ∥₁
 
 -- a word of the space was read
-abbrev pub tells_get : Step ℕ → Sat → ℕ → Sat → Type 0
+abbrev pub tells_get : OneStep → Sat → ℕ → Sat → Type 0
 tells_get st me found me' = (me' ≡ me) × (st.word < length me.0.mine.space.words → found ≡ slice_index me.0.mine.space.words st.word)
 
-abbrev pub tells_put : Step ℕ → Sat → ℕ → Sat → Type 0
+abbrev pub tells_put : OneStep → Sat → ℕ → Sat → Type 0
 tells_put st me found me' = (a i : ℕ) → st.word ≡ field_place a i → IsSome (field_at me.0.mine.space.words a i) → (me' ≡ (record me.0 { mine = wrote a i st.first me.0.mine }, me.1))
 
-abbrev pub tells_new : Step ℕ → Sat → ℕ → Sat → Type 0
+abbrev pub tells_new : OneStep → Sat → ℕ → Sat → Type 0
 tells_new st me found me' = (h : Header) → IsHeader h → header_word h ≡ st.first → me' ≡ (record me.0 { mine = made h me.0.mine }, me.1)
 
+abbrev pub tells_link : OneStep → Sat → ℕ → Sat → Type 0
+tells_link st me found me' = (a : ℕ) → st.word ≡ link_place a → IsTrue (is_start me.0.mine.space.words a) → me' ≡ (record me.0 { mine = linked_to a st.first me.0.mine }, me.1)
+
 -- The field at the scan pointer was read. Its replica is up to date from this moment on.
-abbrev pub tells_scan_of : Theirs → Step ℕ → Sat → ℕ → Sat → Type 0
+abbrev pub tells_scan_of : Theirs → OneStep → Sat → ℕ → Sat → Type 0
 tells_scan_of t st me found me' = ((q : Replica) → In q t.replicas → q.place ≡ t.scan_place → q.object.raw ≡ false → t.scan_field < length q.object.fields → st.word ≡ field_place q.original t.scan_field
     → (is_value found ≡ true) × (me' ≡ (record me.0 { theirs = after_read (scanned q.original t.scan_field (value_of found)) (lacks (its t) (value_of found)) t }, me.1)))
 
-abbrev pub tells_scan : Step ℕ → Sat → ℕ → Sat → Type 0
+abbrev pub tells_scan : OneStep → Sat → ℕ → Sat → Type 0
 tells_scan st me found me' = tells_scan_of me.0.theirs st me found me' × KnowsBelonging me'
 
 -- The field of the oldest entry was read.
-abbrev pub tells_apply_of : Theirs → Step ℕ → Sat → ℕ → Sat → Type 0
+abbrev pub tells_apply_of : Theirs → OneStep → Sat → ℕ → Sat → Type 0
 tells_apply_of t st me found me' = ((q : Replica) (i : ℕ) (rest : List (ℕ × ℕ)) → In q t.replicas → t.due ≡ (q.original, i) ∷ rest → st.word ≡ field_place q.original i
-    → (q.object.raw ≡ false → is_value found ≡ true) × (let v = read_as q.object.raw found in me' ≡ (record me.0 { theirs = after_read (applied q.original i v) (lacks (its t) v) t }, me.1)))
+    → IsWordAs q.object.raw found × (let v = read_as q.object.raw found in me' ≡ (record me.0 { theirs = after_read (applied q.original i v) (lacks (its t) v) t }, me.1)))
 
-abbrev pub tells_apply : Step ℕ → Sat → ℕ → Sat → Type 0
+abbrev pub tells_apply : OneStep → Sat → ℕ → Sat → Type 0
 tells_apply st me found me' = tells_apply_of me.0.theirs st me found me' × KnowsBelonging me'
 
 -- The header of an object that is wanted was read: it has a replica from this moment on, if there is room. The fields of a raw one are still to be brought.
 -- There is room if the new space is as large as the old one, and the replicas then take no more words than the objects.
-abbrev pub tells_place_of : Theirs → Step ℕ → Sat → ℕ → Sat → Type 0
+abbrev pub tells_place_of : Theirs → OneStep → Sat → ℕ → Sat → Type 0
 tells_place_of t st me found me' = (In st.word t.wanted → replica_of (its t) st.word ≡ None → (o : Object) × (read_header found ≡ Some (record { raw = o.raw; kind = o.kind; len = length o.fields }))
     × (me' ≡ (record me.0 { theirs = if nat_lt (new_free (its t)) (object_words (length o.fields)) then t else placed_one st.word o t }, me.1))
     × (t.old ≤ t.size → nat_lt (new_free (its t)) (object_words (length o.fields)) ≡ false) × (me.0.writes ≡ true → new_end (its t) + object_words (length o.fields) ≤ end_of me.0.mine.space))
 
-abbrev pub tells_place : Step ℕ → Sat → ℕ → Sat → Type 0
+abbrev pub tells_place : OneStep → Sat → ℕ → Sat → Type 0
 tells_place st me found me' = tells_place_of me.0.theirs st me found me' × KnowsBelonging me'
 
 -- The handshake was read, and the collector goes on behind a replica that is scanned.
-abbrev pub tells_pass_of : Theirs → Step ℕ → Sat → ℕ → Sat → Type 0
+abbrev pub tells_pass_of : Theirs → OneStep → Sat → ℕ → Sat → Type 0
 tells_pass_of t st me found me' = ((q : Replica) → In q t.replicas → q.place ≡ t.scan_place → (q.object.raw ≡ true) ⊎ (t.scan_field ≡ length q.object.fields) → me' ≡ (record me.0 { theirs = passed q t }, me.1))
 
-abbrev pub tells_pass : Step ℕ → Sat → ℕ → Sat → Type 0
+abbrev pub tells_pass : OneStep → Sat → ℕ → Sat → Type 0
 tells_pass st me found me' = tells_pass_of me.0.theirs st me found me' × KnowsBelonging me'
 
 -- The handshake was read, and an entry whose object has no replica is left out.
-abbrev pub tells_leave_of : Theirs → Step ℕ → Sat → ℕ → Sat → Type 0
+abbrev pub tells_leave_of : Theirs → OneStep → Sat → ℕ → Sat → Type 0
 tells_leave_of t st me found me' = ((entry : ℕ × ℕ) (rest : List (ℕ × ℕ)) → t.due ≡ entry ∷ rest → replica_of (its t) entry.0 ≡ None → me' ≡ (record me.0 { theirs = entry_dropped t }, me.1))
 
-abbrev pub tells_leave : Step ℕ → Sat → ℕ → Sat → Type 0
+abbrev pub tells_leave : OneStep → Sat → ℕ → Sat → Type 0
 tells_leave st me found me' = tells_leave_of me.0.theirs st me found me' × KnowsBelonging me'
 
+-- How the words of a seat that is both ends come from those that were seen. While writes are not logged, there are no replicas, and the log is empty.
+pub record CatchesUp (v : View) : Type 0 where
+  pub told : IsTold v.seen v.mine
+  pub rests : v.mine.logs ≡ false → (v.theirs.replicas ≡ []) × (v.mine.log ≡ [])
+
 -- The mutator's log becomes the collector's. Both ends know the same heap with which the collection began.
-abbrev pub tells_take : Step ℕ → Sat → ℕ → Sat → Type 0
-tells_take st me found me' = ((me' ≡ (logs_taken me.0, me.1)) × (me.0.theirs.base ≡ me.0.mine.base)) × KnowsBelonging me'
+abbrev pub tells_take : OneStep → Sat → ℕ → Sat → Type 0
+tells_take st me found me' = ((me' ≡ (logs_taken me.0, me.1)) × (me.0.theirs.base ≡ me.0.mine.base) × CatchesUp me.0) × KnowsBelonging me'
 
 -- The target of one of the mutator's roots is wanted. From now on writes are logged.
 abbrev pub root_wanted : ℕ → View → View
-root_wanted a v = record v { mine = record v.mine { logs = true }; theirs = wants a v.theirs }
+root_wanted a v = record v { mine = record v.mine { logs = true }; theirs = wants a v.theirs; seen = v.mine.space.words }
 
 -- The header of such a target was read.
-abbrev pub tells_root : Step ℕ → Sat → ℕ → Sat → Type 0
-tells_root st me found me' = (me' ≡ (root_wanted st.word me.0, me.1)) × KnowsBelonging me'
+abbrev pub tells_root : OneStep → Sat → ℕ → Sat → Type 0
+tells_root st me found me' = ((me' ≡ (root_wanted st.word me.0, me.1)) × CatchesUp me.0) × KnowsBelonging me'
+
+-- the same collection before its first step, in a new space of this size
+abbrev pub begun_anew : ℕ → Theirs → Theirs
+begun_anew size t = opening_theirs t.base t.old size
+
+abbrev pub tells_renew : OneStep → Sat → ℕ → Sat → Type 0
+tells_renew st me found me' = (me' ≡ (record me.0 { theirs = begun_anew st.first me.0.theirs }, me.1)) × KnowsBelonging me'
+
+-- A collection of the space with these roots begins. Its new space has one word.
+abbrev pub tells_begin : OneStep → Sat → ℕ → Sat → Type 0
+tells_begin st me found me' = ((roots : RootWords) → st.said ≡ some roots → me' ≡ (opening_view (one_heap me.0.mine.space roots.items) 1, me.1)) × KnowsBelonging me'
+
+-- ---- loads of the standing checker
+
+-- with these words as what is seen
+abbrev pub seeing : List ℕ → Sat → Sat
+seeing seen me = (record me.0 { seen = seen }, me.1)
+
+-- A field was read, and is seen as it is now.
+abbrev pub tells_look : OneStep → Sat → ℕ → Sat → Type 0
+tells_look st me found me' = (a i : ℕ) → IsSome (field_at me.0.seen a i) → st.word ≡ field_place a i → me' ≡ seeing (slice_set me.0.seen st.word found) me
+
+-- The header of an object that was seen was read. It is the same as then.
+abbrev pub tells_header : OneStep → Sat → ℕ → Sat → Type 0
+tells_header st me found me' = (me' ≡ me) × ((h : Header) → header_at me.0.seen st.word ≡ Some h → read_header found ≡ Some h)
+
+-- An object starts behind the words up to n: it was seen, or it is now.
+pub record SeesNext (n found : ℕ) (me me' : Sat) : Type 0 where
+  pub header : Header
+  pub more : List ℕ
+  pub same : me' ≡ seeing (me.0.seen ++ more) me
+  pub read : read_header found ≡ Some header
+  pub next : IsNext n (me.0.seen ++ more) header
+  pub whole : IsSeen (length (me.0.seen ++ more)) (me.0.seen ++ more)
+
+-- The word behind those up to which the checker has walked was read.
+abbrev pub tells_see : OneStep → Sat → ℕ → Sat → Type 0
+tells_see st me found me' = IsSeen st.word me.0.seen → (found ≡ 0 → me' ≡ me) × (found ≢ 0 → SeesNext st.word found me me')

@@ -1,4 +1,6 @@
 //! What each call of the handshake does, in one thread.
+ghost use Rattle.std.specs.Prelude.{◌≤◌};
+
 use gc_check::{CheckFault, Checks, Sequential, Yes};
 use gc_concurrent::{Collector, Holding, NoFlip, Runner, Waiting, Work, open, open_with};
 use gc_graph::{Number, Op, Reply, View};
@@ -53,14 +55,24 @@ fn ready(holding: &mut Holding) -> Result<(), Fail> {
     Err(Fail::from("it has room, and ends"))
 }
 
-/// Flips, after as many steps as are wanted.
-fn flipped(alloc: Global, mut holding: Holding) -> Result<Collector, Fail> {
-    ready(&mut holding)?;
-    let flipped = holding.flip(alloc, &Sequential);
-    Ok(flipped.ok().ok_or("it flips")?)
+/// Begins the collection anew, in a new space of `size` words.
+fn prepared(alloc: Global, mut collector: Collector, size: u32) -> Result<Collector, Fail>
+    requires { 1 ≤ size }
+{
+    collector.prepare(alloc, size)?;
+    Ok(collector)
 }
 
-/// A checker that never has enough memory.
+/// Flips, after as many steps as are wanted, and makes the memory of the next flip, whose new space has `size` words.
+fn flipped(alloc: Global, mut holding: Holding, size: u32) -> Result<Collector, Fail>
+    requires { 1 ≤ size }
+{
+    ready(&mut holding)?;
+    let flipped = holding.flip(alloc, &Sequential);
+    prepared(alloc, flipped.ok().ok_or("it flips")?, size)
+}
+
+/// A checker that never has enough memory. A flip that passes has not asked it.
 struct WithoutMemory;
 
 impl Checks for WithoutMemory {
@@ -79,17 +91,14 @@ impl Checks for WithoutMemory {
     }
 }
 
-/// Asks this checker for a flip, after as many steps as are wanted. Returns the collector that still holds the mutator.
-fn refused_for_memory(alloc: Global, mut holding: Holding) -> Result<Holding, Fail> {
+/// Flips a heap that the standing checker vouches for.
+fn vouched_for(alloc: Global, mut holding: Holding) -> Result<Collector, Fail> {
     ready(&mut holding)?;
-    let refused = holding
+    let collector = holding
         .flip(alloc, &WithoutMemory)
-        .err()
-        .ok_or("its checker has no memory")?;
-    if refused.why == NoFlip::NoMemory {
-        return Ok(refused.holding);
-    }
-    Err(Fail::from("its checker is asked"))
+        .ok()
+        .ok_or("the standing checker vouches for it")?;
+    Ok(collector)
 }
 
 /// Performs a command, and returns its reply.
@@ -108,7 +117,7 @@ fn a_flip_keeps_what_the_roots_reach(rt: HostRuntime) -> Result<(), Fail> {
     assert!(rt; told(&mut runner, put(own(0), 1, own(1))) == Some(Reply::Done));
     let (waiting, holding) = taken(runner, collector)?;
     let waiting = waiting.resume().err().ok_or("the collector holds it")?;
-    let collector = flipped(alloc, holding)?;
+    let collector = flipped(alloc, holding, 64)?;
     let mut runner = waiting.resume().ok().ok_or("it may go on")?;
     assert!(rt; told(&mut runner, get(own(2), own(0), 1)) == Some(saw(9)));
     // The mutator has gone on, so it can be asked again.
@@ -138,7 +147,7 @@ fn a_flip_moves_extra_roots(rt: HostRuntime) -> Result<(), Fail> {
     assert!(rt; heap.put_root(33, 0, 36) == Ok(Reply::NoNumber));
     assert!(rt; heap.nil_root(35) == Reply::Done);
     let (waiting, holding) = taken(runner, collector)?;
-    let _collector = flipped(alloc, holding)?;
+    let _collector = flipped(alloc, holding, 64)?;
     let mut runner = waiting.resume().ok().ok_or("it may go on")?;
     let heap = &mut runner.commander;
     assert!(rt; heap.look_root(36) == Reply::Saw(View::Obj { kind: 3, len: 2 }));
@@ -176,34 +185,49 @@ fn a_write_beside_the_collector_is_in_the_new_space(rt: HostRuntime) -> Result<(
     assert!(rt; told(&mut runner, num(own(1), 5)) == Some(Reply::Done));
     assert!(rt; told(&mut runner, put(own(0), 0, own(1))) == Some(Reply::Done));
     let (waiting, holding) = taken(runner, collector)?;
-    let _collector = flipped(alloc, holding)?;
+    let _collector = flipped(alloc, holding, 64)?;
     let mut runner = waiting.resume().ok().ok_or("it may go on")?;
     assert!(rt; told(&mut runner, get(own(2), own(0), 0)) == Some(saw(5)));
     Ok(())
 }
 
-// After a flip that its checker prevents, the mutator has its objects, and the collection goes on: it sees a later write, and flips.
+// The standing checker vouches for each flip, so that both spaces are never checked whole: with writes beside the collector, raw objects, objects that
+// are made after the last stop, cycles, and a heap whose objects are all garbage.
 #[test]
-fn a_flip_without_a_yes_changes_nothing(rt: HostRuntime) -> Result<(), Fail> {
+fn no_flip_asks_another_checker(rt: HostRuntime) -> Result<(), Fail> {
     let _named = View::Nil;
     let alloc = rt.alloc();
     let (mut runner, collector) = open(alloc, 64)?;
     assert!(rt; told(&mut runner, new(own(0), 3, 2)) == Some(Reply::Made));
     assert!(rt; told(&mut runner, num(own(1), 9)) == Some(Reply::Done));
     assert!(rt; told(&mut runner, put(own(0), 1, own(1))) == Some(Reply::Done));
-    let (waiting, holding) = taken(runner, collector)?;
-    let holding = refused_for_memory(alloc, holding)?;
-    let waiting = waiting.resume().err().ok_or("the collector holds it")?;
-    let collector = holding.go();
+    let (waiting, mut holding) = taken(runner, collector)?;
+    assert!(rt; holding.place_roots());
+    let mut collector = holding.go();
     let mut runner = waiting.resume().ok().ok_or("it may go on")?;
-    assert!(rt; told(&mut runner, get(own(2), own(0), 1)) == Some(saw(9)));
+    assert!(rt; told(&mut runner, new(own(3), 4, 1)) == Some(Reply::Made));
+    assert!(rt; told(&mut runner, put(own(0), 0, own(3))) == Some(Reply::Done));
+    assert!(rt; told(&mut runner, put(own(3), 0, own(0))) == Some(Reply::Done));
+    assert!(rt; collector.work() == Work::Step);
+    assert!(rt; told(&mut runner, Op::NewRaw { d: own(4), kind: 5, len: 3 }) == Some(Reply::Made));
+    assert!(rt; told(&mut runner, put(own(4), 2, own(1))) == Some(Reply::Done));
     assert!(rt; told(&mut runner, num(own(1), 5)) == Some(Reply::Done));
-    assert!(rt; told(&mut runner, put(own(0), 0, own(1))) == Some(Reply::Done));
+    assert!(rt; told(&mut runner, put(own(0), 1, own(1))) == Some(Reply::Done));
     let (waiting, holding) = taken(runner, collector)?;
-    let _collector = flipped(alloc, holding)?;
+    let collector = vouched_for(alloc, holding)?;
     let mut runner = waiting.resume().ok().ok_or("it may go on")?;
-    assert!(rt; told(&mut runner, get(own(2), own(0), 1)) == Some(saw(9)));
-    assert!(rt; told(&mut runner, get(own(2), own(0), 0)) == Some(saw(5)));
+    assert!(rt; told(&mut runner, get(own(2), own(0), 1)) == Some(saw(5)));
+    assert!(rt; told(&mut runner, get(own(2), own(4), 2)) == Some(saw(9)));
+    assert!(rt; told(&mut runner, get(own(2), own(0), 0)) == Some(Reply::Saw(View::Obj { kind: 4, len: 1 })));
+    for k in 0..5 {
+        assert!(rt; told(&mut runner, Op::Nil { d: own(k) }) == Some(Reply::Done));
+    }
+    let collector = prepared(alloc, collector, 64)?;
+    let (waiting, holding) = taken(runner, collector)?;
+    let _collector = vouched_for(alloc, holding)?;
+    let mut runner = waiting.resume().ok().ok_or("it may go on")?;
+    assert!(rt; runner.commander.room() == 63);
+    assert!(rt; told(&mut runner, new(own(0), 3, 2)) == Some(Reply::Made));
     Ok(())
 }
 
@@ -218,13 +242,66 @@ fn unreachable_objects_make_room(rt: HostRuntime) -> Result<(), Fail> {
         assert!(rt; told(&mut runner, new(own(0), 3, 4)) == Some(Reply::Made));
         assert!(rt; told(&mut runner, new(own(0), 3, 4)) == Some(Reply::Full));
         let (waiting, holding) = taken(runner, collector)?;
-        collector = flipped(alloc, holding)?;
+        collector = flipped(alloc, holding, 16)?;
         runner = waiting.resume().ok().ok_or("it may go on")?;
         assert!(rt; told(&mut runner, Op::Nil { d: own(0) }) == Some(Reply::Done));
         let (waiting, holding) = taken(runner, collector)?;
-        collector = flipped(alloc, holding)?;
+        collector = flipped(alloc, holding, 16)?;
         runner = waiting.resume().ok().ok_or("it may go on")?;
     }
+    Ok(())
+}
+
+// An object of four words lives in a heap of 16 words, then of 1000, and then of the five that it needs. In a new space of four words it has no room.
+#[test]
+fn a_heap_changes_its_size_at_a_flip(rt: HostRuntime) -> Result<(), Fail> {
+    let _named = View::Nil;
+    let alloc = rt.alloc();
+    let (mut runner, mut collector) = open(alloc, 16)?;
+    assert!(rt; told(&mut runner, new(own(0), 3, 2)) == Some(Reply::Made));
+    let sizes = [1000, 5, 4];
+    let mut before = 16;
+    for size in sizes {
+        let (waiting, holding) = taken(runner, collector)?;
+        collector = flipped(alloc, holding, size)?;
+        runner = waiting.resume().ok().ok_or("it may go on")?;
+        assert!(rt; runner.commander.room() == before - 5);
+        before = size;
+    }
+    let (waiting, mut holding) = taken(runner, collector)?;
+    assert!(rt; !holding.place_roots());
+    collector = prepared(alloc, holding.go(), 64)?;
+    runner = waiting.resume().ok().ok_or("it may go on")?;
+    let (waiting, holding) = taken(runner, collector)?;
+    let _collector = flipped(alloc, holding, 64)?;
+    runner = waiting.resume().ok().ok_or("it may go on")?;
+    assert!(rt; runner.commander.room() == 59);
+    assert!(rt; told(&mut runner, get(own(2), own(0), 1)) == Some(Reply::Saw(View::Nil)));
+    Ok(())
+}
+
+// Until the memory of the next flip is made, the new space has no room for an object.
+#[test]
+fn nothing_is_copied_unprepared(rt: HostRuntime) -> Result<(), Fail> {
+    let _named = View::Nil;
+    let alloc = rt.alloc();
+    let (mut runner, collector) = open(alloc, 16)?;
+    assert!(rt; told(&mut runner, new(own(0), 3, 2)) == Some(Reply::Made));
+    let (waiting, holding) = taken(runner, collector)?;
+    let collector = holding.finish(alloc, &Sequential).ok().ok_or("it flips")?;
+    let runner = waiting.resume().ok().ok_or("it may go on")?;
+    let (waiting, holding) = taken(runner, collector)?;
+    let refused = holding
+        .finish(alloc, &Sequential)
+        .err()
+        .ok_or("there is no room")?;
+    assert!(rt; refused.why == NoFlip::NotReady);
+    let collector = prepared(alloc, refused.holding.go(), 16)?;
+    let runner = waiting.resume().ok().ok_or("it may go on")?;
+    let (waiting, holding) = taken(runner, collector)?;
+    assert!(rt; holding.finish(alloc, &Sequential).is_ok());
+    let mut runner = waiting.resume().ok().ok_or("it may go on")?;
+    assert!(rt; told(&mut runner, get(own(2), own(0), 1)) == Some(Reply::Saw(View::Nil)));
     Ok(())
 }
 

@@ -38,7 +38,7 @@ impl Collection {
         ensures few { IfOk result (λ pairs. length pairs.items < 2 ^ 32) }
         ensures pairs { IfOk result (λ pairs. map addresses pairs.items ≡ pairs_of (collection_in self.now)) }
     {
-        linked_pairs(alloc, &self.space, self.replicas)
+        linked_pairs(alloc, self.space.words(), self.replicas)
     }
 
     /// Returns the image of the new space with these roots, including links.

@@ -11,6 +11,8 @@ use Rattle.gc_concurrent.specs.Internal.Rule.{Sat}
 use Rattle.gc_concurrent.proofs.TiedCells.{tied, tied_words}
 use Rattle.gc_concurrent.proofs.Opening.{joins_rule}
 use Rattle.gc_concurrent.proofs.Joined.{takes_rule}
+use Rattle.gc_concurrent.specs.Internal.Following.{Follows, WroteEach}
+use Rattle.gc_concurrent.proofs.Comparing.{along_caught}
 use Rattle.gc_concurrent.proofs.held.hold.Goals as goal
 
 pub join_seat-requires : goal.join_seat-requires
@@ -58,3 +60,14 @@ invariant_of-result-2 c =
       kept = subst (λ (x : Mine). LeadsOnlyTo (MayBeCopied x.base) (graph_in (heap_of x c.args.commander.roots.items))) (sym mine) c.args.commander.kept;
       sound = subst (λ (x : Mine). IsHeap (heap_of x c.args.commander.roots.items)) (sym mine) c.args.commander.sound;
     }
+
+pub invariant_of-result-clause-along : goal.invariant_of-result-clause-along
+invariant_of-result-clause-along c =
+    let a = c.args.copier in
+    let m = c.args.commander.mutator in
+    let joined = c.join_seat.ensures.2 in
+    let log : c.as_slice-2.result.now ≡ c.join_seat.new.seat.me.0.mine.log = c.as_slice-2.ensures.value ∙ sym m.logged ∙ sym (ap (λ (x : Sat). x.0.mine.log) joined) in
+    subst (λ ws. ∥ Follows c.tell.new.standing ws a.space.words ∥₁) (sym (ap (λ (x : Sat). x.0.seen) c.load.ensures.2.0.0))
+    (along_caught a c.join_seat.new.seat.me.0 c.tell.new.standing (ap (λ (x : Sat). x.0.seen) joined) (ap (λ (x : Sat). x.0.theirs) joined) c.load.ensures.2.0.2
+    c.tell.ensures.lost
+    (λ found. subst (λ xs. WroteEach xs a.standing c.tell.new.standing) log (c.tell.ensures.told found)))

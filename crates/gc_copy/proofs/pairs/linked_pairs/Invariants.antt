@@ -5,7 +5,7 @@ use Rattle.gc_copy.proofs.pairs.linked_pairs.Given as goal
 
 -- the objects before the place are listed
 abbrev pub invariant-loop-at : goal.invariant-loop-at
-invariant-loop-at l = Lists l.space.words l.at.0 l.pairs.items
+invariant-loop-at l = Lists l.words l.at l.pairs.items
 
 abbrev pub decreases-loop-at : goal.decreases-loop-at
-decreases-loop-at l = length l.space.words - l.at.0
+decreases-loop-at l = length l.words - l.at

@@ -1,13 +1,13 @@
 -- An entry is left out, or its field is read and written.
 use Rattle.std.proofs.Common.{rules, ◌≡◌, ◌≢◌, ◌⊎◌, ℕ, zero, suc, ◌+◌, ◌<◌, ◌≤◌, ◌==◌, Bool, true, false, true≢false, List, [], ◌∷◌, ◌++◌, drop, length, map, slice_index, Some, None, is_some, refl, ap, sym, ◌∙◌, subst, inl, inr, ⊎_elim, arith}
-use Rattle.std.specs.Prelude.{IsSome, if◌then◌else◌}
+use Rattle.std.specs.Prelude.{slice_set, IsSome, if◌then◌else◌}
 use Rattle.std.proofs.lemmas.Bool.{cond_both}
 use Rattle.atomic_table.specs.Seated.{TableId}
 use Rattle.gc_graph.specs.Graph.{Value, Ref}
-use Rattle.gc_words.specs.Word.{is_value}
+use Rattle.gc_words.specs.Closed.{IsWordOfField}
 use Rattle.gc_words.specs.Layout.{field_place}
 use Rattle.gc_words.specs.Image.{field_at}
-use Rattle.gc_words.specs.Space.{SpaceWords, with_field_at}
+use Rattle.gc_words.specs.Space.{SpaceWords, IsSpace, with_field_at}
 use Rattle.gc_words.specs.declared.header.Header.{Header}
 use Rattle.gc_words.proofs.Public.{field_within}
 use Rattle.gc_plan.specs.State.{Replica, replica_of, moved}
@@ -17,15 +17,17 @@ use Rattle.gc_plan.proofs.Public.{in_map_from, with_written_pair}
 use Rattle.gc_copy.specs.Words.{replicas_in}
 use Rattle.gc_concurrent.specs.declared.copier.Copier.{Copier}
 use Rattle.gc_concurrent.specs.Ends.{Theirs}
-use Rattle.gc_concurrent.specs.Internal.Rule.{Loose, applied, brought, wants, after_read, lacks, read_as, entry_dropped, entries_of_fields}
+use Rattle.gc_concurrent.specs.Internal.Rule.{Sat, Loose, IsWordAs, applied, brought, wants, after_read, lacks, read_as, entry_dropped, entries_of_fields}
 use Rattle.gc_concurrent.specs.Ends.{its}
 use Rattle.gc_concurrent.specs.Internal.Copiers.{Claims, moved_by}
 use Rattle.gc_concurrent.proofs.TiedCells.{tied, tied_words}
 use Rattle.gc_concurrent.proofs.Copying.{applies_at}
 use Rattle.gc_concurrent.proofs.Placing.{leaves}
-use Rattle.gc_concurrent.proofs.Memory.{Stands, near, at_place, entry_low, entry_field, unclaimed, target_bound, lacks_not, lacks_so, moves_so, claims_kept, claims_as, claim_low, written_same}
-use Rattle.gc_concurrent.proofs.InHand.{mem, claim_stands, header_there, keeps_seat, theirs_is, copies_is}
+use Rattle.gc_concurrent.proofs.Memory.{Stands, field_word_moved, near, at_place, entry_low, entry_field, unclaimed, target_bound, lacks_not, lacks_so, moves_so, claims_kept, claims_as, claim_low, written_same}
+use Rattle.gc_concurrent.proofs.InHand.{mem, still_shaped, still_sized, still_same, still_spared, word_fits, claim_stands, header_there, keeps_seat, theirs_is, copies_is}
 use Rattle.gc_concurrent.proofs.Nearing.{nears_by, left_nears, applied_nears, wants_nears}
+use Rattle.gc_concurrent.specs.Internal.Following.{Follows}
+use Rattle.gc_concurrent.proofs.Comparing.{theirs_seen, copies_seen, keeps_seen, nears_seen, loose_seen, along_still, along_written, can_compare, field_again, word_there}
 use Rattle.gc_concurrent.proofs.copier.Copier.apply_one.Goals as goal
 use Rattle.gc_concurrent.proofs.copier.Copier.apply_one.Goals.{After-load-word}
 
@@ -91,6 +93,8 @@ invariant_of-self-then-place-eq0 c =
       fills = λ q k e n. a.fills q (subst (In q) (ap (λ (x : Theirs). x.replicas) is) k) e (λ z. n (let f = c.in-Some.ensures.fills.0 in omega arith));
       claimed = subst (Claims a.claims.items) (sym is) (claims_as a.claims.items t u refl refl a.claimed);
       loose = c.load.ensures.2.1 copies;
+      along = along_still a.standing a.seat.me c.load.new.seat.me a.space a.space (ap (λ (m : Sat). m.0.seen) went) refl a.along;
+      spared = a.spared;
     }
 
 pub returns-then-place-eq0-clause-seat : goal.returns-then-place-eq0-clause-seat
@@ -154,7 +158,7 @@ module _ (c : After-load-word) where
   abbrev v : Value
   v = read_as (its_replica c.args.self.now c.as_slice.result.now c.in-Some.oldest.name c.in-Some.oldest.field c.index-place.result.now (entries_of_fields c.args.self.now.fill c.in-Some.oldest.fill_next c.in-Some.oldest.fill_left ++ drop c.in-Some.oldest.next c.as_slice.result.now) c.as_slice.ensures.value c.in-Some.ensures.some c.index-place.ensures c.if-place-eq0.false).0.replica.object.raw c.load-word.result
 
-  told : (q.object.raw ≡ false → is_value c.load-word.result ≡ true) × (c.load-word.new.seat.me ≡ (record a.seat.me.0 { theirs = after_read (applied q.original i v) (lacks (its t) v) t }, a.seat.me.1))
+  told : IsWordAs q.object.raw c.load-word.result × (c.load-word.new.seat.me ≡ (record a.seat.me.0 { theirs = after_read (applied q.original i v) (lacks (its t) v) t }, a.seat.me.1))
   told = c.load-word.ensures.2.0 q i rest r.0.there r.2 (c.field_index.ensures ∙ ap (λ n. field_place n i) (sym r.1))
 
   loose : ∥ Loose c.load-word.new.seat.me.0.theirs ∥₁
@@ -165,7 +169,7 @@ module _ (c : After-load-word) where
       (subst (λ (y : Theirs). ∥ Loose y ∥₁) (theirs_is a.seat.me c.load-word.new.seat.me (after_read (applied q.original i v) (lacks (its t) v) t) told.1) loose) x is
 
   same_header : r.0.block.header ≡ c.header-header.result
-  same_header = header_there a.space.words place r.0.block c.header-header.result r.0.found c.header-header.ensures
+  same_header = header_there a.space.words place r.0.block c.header-header.result r.0.found c.header-header.ensures.value
 
   raw_is : (b : Bool) → b ≡ c.header-header.result.raw → q.object.raw ≡ b
   raw_is b e = r.0.raw ∙ (ap (λ (x : Header). x.raw) same_header ∙ sym e)
@@ -174,7 +178,7 @@ module _ (c : After-load-word) where
   within = let e = ap (λ (x : Header). x.len) same_header in let m = r.0.many in let f = r.3 in omega arith
 
 pub moved_field-requires-clause-value : goal.moved_field-requires-clause-value
-moved_field-requires-clause-value c plain = let l = (goal.at.moved_field-requires-clause-value c).After-load-word in (told l).0 (raw_is l c.is_raw.result c.is_raw.ensures ∙ plain)
+moved_field-requires-clause-value c plain = let l = (goal.at.moved_field-requires-clause-value c).After-load-word in subst (λ b. IsWordAs b c.load-word.result) (raw_is l c.is_raw.result c.is_raw.ensures ∙ plain) (told l).0
 
 pub moved_field-requires-clause-inside : goal.moved_field-requires-clause-inside
 moved_field-requires-clause-inside c x is =
@@ -185,11 +189,25 @@ moved_field-requires-clause-inside c x is =
 pub moved_field-requires-clause-places : goal.moved_field-requires-clause-places
 moved_field-requires-clause-places c = subst (λ (row : List ℕ). (a : ℕ) → slice_index row a < 4294967295) (sym c.as_slice-2.ensures.value) (claim_low c.args.self.now.claims.items c.args.self.now.seat.me.0.theirs c.args.self.now.loose c.args.self.now.claimed)
 
-pub set_field-requires : goal.set_field-requires
-set_field-requires c =
-    let l = (goal.at.set_field-requires c).After-load-word in
+pub set_field-requires-clause-there : goal.set_field-requires-clause-there
+set_field-requires-clause-there c =
+    let l = (goal.at.set_field-requires-clause-there c).After-load-word in
     let a = c.args.self.now in
-    field_within a.space.words c.index-place.result.now c.in-Some.oldest.field c.header-header.result a.shaped.walked c.header-header.ensures (within l)
+    subst (λ (x : SpaceWords). IsSome (field_at x.words c.index-place.result.now c.in-Some.oldest.field)) (sym c.header-header.ensures.same)
+    (field_within a.space.words c.index-place.result.now c.in-Some.oldest.field c.header-header.result a.shaped.walked c.header-header.ensures.value (within l))
+
+-- what was written is a number, or refers to replicas
+pub set_field-requires-clause-fits : goal.set_field-requires-clause-fits
+set_field-requires-clause-fits c =
+    let l = (goal.at.set_field-requires-clause-fits c).After-load-word in
+    let raw : (q l).object.raw ≡ c.is_raw.result = raw_is l c.is_raw.result c.is_raw.ensures in
+    let to : (x : ℕ) → read_as c.is_raw.result c.load-word.result ≡ Ref x → v l ≡ Ref x = λ x is. ap (λ b. read_as b c.load-word.result) raw ∙ is in
+    let word : IsWordOfField c.is_raw.result (a l).space.words c.in-Ok.moved = field_word_moved c.is_raw.result (a l).claims.items (t l) (a l).space c.load-word.result c.in-Ok.moved (mem (a l)) (a l).claimed
+    (subst (λ b. IsWordAs b c.load-word.result) raw (told l).0)
+    (c.in-Ok.ensures.moved ∙ ap (λ (r : List ℕ). moved_by r (read_as c.is_raw.result c.load-word.result)) c.as_slice-2.ensures.value) c.in-Ok.ensures.value (λ x is. bound l x (to x is))
+    (subst (λ (r : List ℕ). (x : ℕ) → read_as c.is_raw.result c.load-word.result ≡ Ref x → slice_index r x ≢ 0) c.as_slice-2.ensures.value c.in-Ok.ensures.placed) in
+    word_fits (a l).space.words (place l) c.in-Ok.moved c.header-header.result c.header-header.ensures.value (subst (λ b. IsWordOfField b (a l).space.words c.in-Ok.moved) c.is_raw.ensures word)
+    c.header-header.new.self (ap (λ (x : SpaceWords). x.words) c.header-header.ensures.same)
 
 -- the view after the read, where the target has a replica or there is none
 follows : (c : After-load-word) → lacks (its (t c)) (v c) ≡ None → c.load-word.new.seat.me ≡ (record (a c).seat.me.0 { theirs = applied (q c).original (i c) (v c) (t c) }, (a c).seat.me.1)
@@ -234,6 +252,25 @@ only_values a name first q k e b raw w x is = go a.fill_left refl
     go zero z = z
     go (suc n) z = absurd (refers b (sym raw ∙ a.fills q k (e ∙ first (λ y. absurd (omega arith))) (λ y. absurd (omega arith))) is)
 
+pub field-written-requires : goal.field-written-requires
+field-written-requires c =
+    let l = (goal.at.field-written-requires c).After-load-word in
+    field_again (a l).space c.set_field.new.self (place l) (i l) c.in-Ok.moved (a l).shaped
+    (field_within (a l).space.words (place l) (i l) c.header-header.result (a l).shaped.walked c.header-header.ensures.value (within l))
+    (c.set_field.ensures.words ∙ ap (λ (s : SpaceWords). with_field_at s (place l) (i l) c.in-Ok.moved) c.header-header.ensures.same)
+
+pub compare-requires-clause-copies : goal.compare-requires-clause-copies
+compare-requires-clause-copies c =
+    let l = (goal.at.compare-requires-clause-copies c).After-load-word in
+    copies_is (a l).seat.me c.load-word.new.seat.me (after_read (applied (q l).original (i l) (v l)) (lacks (its (t l)) (v l)) (t l)) (told l).1 (a l).copies
+
+pub compare-requires-clause-along : goal.compare-requires-clause-along
+compare-requires-clause-along c =
+    let l = (goal.at.compare-requires-clause-along c).After-load-word in
+    can_compare (a l).standing c.load-word.new.seat.me.0.seen (a l).space.words (place l) c.word.result
+    (word_there (a l).space.words (place l) c.word.result c.header-header.result (a l).shaped.walked c.header-header.ensures.value c.word.ensures.word)
+    (along_still (a l).standing (a l).seat.me c.load-word.new.seat.me (a l).space (a l).space (ap (λ (m : Sat). m.0.seen) (told l).1) refl (a l).along)
+
 pub invariant_of-self-in-Ok : goal.invariant_of-self-in-Ok
 invariant_of-self-in-Ok c =
     let l = (goal.at.invariant_of-self-in-Ok c).After-load-word in
@@ -241,17 +278,18 @@ invariant_of-self-in-Ok c =
     let n = none_lacks l c.as_slice-2.result.now c.is_raw.result c.as_slice-2.ensures.value c.is_raw.ensures c.in-Ok.ensures.placed in
     let u : Theirs = applied (q l).original (i l) (v l) (t l) in
     let went = follows l n.0 in
-    let is : c.load-word.new.seat.me.0.theirs ≡ u = theirs_is (a l).seat.me c.load-word.new.seat.me u went in
-    let copies : c.load-word.new.seat.me.0.copies ≡ true = copies_is (a l).seat.me c.load-word.new.seat.me u went (a l).copies in
+    let is : c.compare.new.seat.me.0.theirs ≡ u = theirs_seen c.load-word.new.seat.me c.compare.new.seat.me _ c.compare.ensures.seen ∙ theirs_is (a l).seat.me c.load-word.new.seat.me u went in
+    let copies : c.compare.new.seat.me.0.copies ≡ true = copies_seen c.load-word.new.seat.me c.compare.new.seat.me _ c.compare.ensures.seen (copies_is (a l).seat.me c.load-word.new.seat.me u went (a l).copies) in
     let means : read_as (q l).object.raw c.in-Ok.moved ≡ moved (its (t l)) (v l) = ap (λ b. read_as b c.in-Ok.moved) (raw_is l c.is_raw.result c.is_raw.ensures) ∙ (c.in-Ok.ensures.moved ∙ sym n.1) in
     let there = subst (λ (x : ℕ). IsSome (field_at (a l).space.words x (i l))) (sym s.place_is)
-    (field_within (a l).space.words (place l) (i l) c.header-header.result (a l).shaped.walked c.header-header.ensures (within l)) in
+    (field_within (a l).space.words (place l) (i l) c.header-header.result (a l).shaped.walked c.header-header.ensures.value (within l)) in
+    let there_field : IsSome (field_at (a l).space.words (place l) (i l)) = field_within (a l).space.words (place l) (i l) c.header-header.result (a l).shaped.walked c.header-header.ensures.value (within l) in
     let wrote : u.replicas ≡ replicas_in (with_field_at (a l).space (q l).place (i l) c.in-Ok.moved).words = written_same (t l) (a l).space (q l) (i l) c.in-Ok.moved (v l) (mem (a l)) (a l).loose s.there there means in
-    let space : c.set_field.new.self ≡ with_field_at (a l).space (q l).place (i l) c.in-Ok.moved = c.set_field.ensures.words ∙ (λ j. with_field_at (a l).space (sym s.place_is j) (i l) c.in-Ok.moved) in
+    let space : c.field-written.new.self ≡ with_field_at (a l).space (q l).place (i l) c.in-Ok.moved = c.field-written.ensures.same ∙ c.set_field.ensures.words ∙ (λ j. with_field_at (c.header-header.ensures.same j) (sym s.place_is j) (i l) c.in-Ok.moved) in
     record {
-      row = ((a l).row.0 ∙ sym c.load-word.ensures.0, ap (λ (i : TableId). i.words) c.load-word.ensures.0 ∙ (a l).row.1, (a l).row.2);
+      row = ((a l).row.0 ∙ sym (c.compare.ensures.row ∙ c.load-word.ensures.0), ap (λ (i : TableId). i.words) (c.compare.ensures.row ∙ c.load-word.ensures.0) ∙ (a l).row.1, (a l).row.2);
       copies = copies;
-      shaped = c.set_field.ensures.shaped;
+      shaped = subst IsSpace (sym c.field-written.ensures.same) c.set_field.ensures.shaped;
       sized = (ap (λ (x : Theirs). x.old) is ∙ (a l).sized.0, ap (λ (x : SpaceWords). x.size) space ∙ ((a l).sized.1 ∙ sym (ap (λ (x : Theirs). x.size) is)));
       same = ap (λ (x : Theirs). x.replicas) is ∙ (wrote ∙ ap (λ (x : SpaceWords). replicas_in x.words) (sym space));
       scans = (ap (λ (x : Theirs). x.scan_place) is ∙ (a l).scans.0, ap (λ (x : Theirs). x.scan_field) is ∙ (a l).scans.1);
@@ -264,7 +302,12 @@ invariant_of-self-in-Ok c =
       aimed = λ w. absurd (true≢false (sym w ∙ c.requires.clear));
       fills = λ p k e n. fills_on (a l) (q l).original (i l) (moved (its (t l)) (v l)) p (subst (In p) (ap (λ (x : Theirs). x.replicas) is) k) e (λ z. n (let f = c.in-Some.ensures.fills.0 in omega arith));
       claimed = subst (Claims (a l).claims.items) (sym is) (claims_as (a l).claims.items (brought (q l).original (i l) (v l) (t l)) u refl refl (claims_kept (a l).claims.items (t l) (q l).original (i l) (v l) (a l).claimed));
-      loose = loose l;
+      loose = loose_seen c.load-word.new.seat.me c.compare.new.seat.me _ c.compare.ensures.seen (loose l);
+      along = along_written (a l).standing c.compare.new.standing (a l).seat.me.0.seen c.compare.new.seat.me.0.seen (a l).space c.set_field.new.self c.field-written.new.self
+          (place l) (i l) c.word.result c.in-Ok.moved c.field-written.result (a l).shaped there_field (c.set_field.ensures.words ∙ ap (λ (s : SpaceWords). with_field_at s (place l) (i l) c.in-Ok.moved) c.header-header.ensures.same) c.field-written.ensures.same
+          c.field-written.ensures.value (word_there (a l).space.words (place l) c.word.result c.header-header.result (a l).shaped.walked c.header-header.ensures.value c.word.ensures.word)
+          (λ ws. subst (λ z. slice_index ws (place l) ≡ c.word.result → field_place (place l) (i l) < length ws → ∥ Follows (a l).standing z ws ∥₁ → ∥ Follows c.compare.new.standing c.compare.new.seat.me.0.seen (slice_set ws (field_place (place l) (i l)) c.field-written.result) ∥₁) (ap (λ (m : Sat). m.0.seen) went) (c.compare.ensures.along ws)) (a l).along;
+      spared = still_spared (a l) c.field-written.new.self.size (ap (λ (x : SpaceWords). x.size) space);
     }
 
 pub invariant_of-self-in-Err : goal.invariant_of-self-in-Err
@@ -278,9 +321,9 @@ invariant_of-self-in-Err c =
     record {
       row = ((a l).row.0 ∙ sym c.load-word.ensures.0, ap (λ (i : TableId). i.words) c.load-word.ensures.0 ∙ (a l).row.1, (a l).row.2);
       copies = copies;
-      shaped = (a l).shaped;
-      sized = (ap (λ (y : Theirs). y.old) is ∙ (a l).sized.0, (a l).sized.1 ∙ sym (ap (λ (y : Theirs). y.size) is));
-      same = ap (λ (y : Theirs). y.replicas) is ∙ (a l).same;
+      shaped = still_shaped (a l) c.header-header.new.self c.header-header.ensures.same;
+      sized = (ap (λ (y : Theirs). y.old) is ∙ (a l).sized.0, still_sized (a l) c.header-header.new.self c.header-header.ensures.same ∙ sym (ap (λ (y : Theirs). y.size) is));
+      same = ap (λ (y : Theirs). y.replicas) is ∙ still_same (a l) c.header-header.new.self c.header-header.ensures.same;
       scans = (ap (λ (y : Theirs). y.scan_place) is ∙ (a l).scans.0, ap (λ (y : Theirs). y.scan_field) is ∙ (a l).scans.1);
       dues = (ap (λ (y : Theirs). y.due) is ∙ (a l).dues.0, (a l).dues.1, (a l).dues.2);
       wants = ap (λ (y : Theirs). y.wanted) is;
@@ -291,12 +334,14 @@ invariant_of-self-in-Err c =
       fills = λ p k e n. (a l).fills p (subst (In p) (ap (λ (y : Theirs). y.replicas) is) k) e n;
       claimed = subst (Claims (a l).claims.items) (sym is) (claims_as (a l).claims.items (t l) u refl refl (a l).claimed);
       loose = loose l;
+      along = along_still (a l).standing (a l).seat.me c.load-word.new.seat.me (a l).space c.header-header.new.self (ap (λ (m : Sat). m.0.seen) went) c.header-header.ensures.same (a l).along;
+      spared = still_spared (a l) c.header-header.new.self.size (ap (λ (x : SpaceWords). x.size) c.header-header.ensures.same);
     }
 
 pub returns-in-Ok-clause-seat : goal.returns-in-Ok-clause-seat
 returns-in-Ok-clause-seat c =
     let l = (goal.at.returns-in-Ok-clause-seat c).After-load-word in
-    keeps_seat (a l).seat.me c.load-word.new.seat.me (applied (q l).original (i l) (v l) (t l)) (follows l (none_lacks l c.as_slice-2.result.now c.is_raw.result c.as_slice-2.ensures.value c.is_raw.ensures c.in-Ok.ensures.placed).0) refl refl refl
+    keeps_seen (a l).seat.me c.load-word.new.seat.me c.compare.new.seat.me _ c.compare.ensures.seen (keeps_seat (a l).seat.me c.load-word.new.seat.me (applied (q l).original (i l) (v l) (t l)) (follows l (none_lacks l c.as_slice-2.result.now c.is_raw.result c.as_slice-2.ensures.value c.is_raw.ensures c.in-Ok.ensures.placed).0) refl refl refl)
 
 pub returns-in-Err-clause-seat : goal.returns-in-Err-clause-seat
 returns-in-Err-clause-seat c =
@@ -315,8 +360,8 @@ returns-then-place-eq0-clause-nears c _ =
 pub returns-in-Ok-clause-nears : goal.returns-in-Ok-clause-nears
 returns-in-Ok-clause-nears c _ =
     let l = (goal.at.returns-in-Ok-clause-nears c).After-load-word in
-    nears_by (a l).seat.me c.load-word.new.seat.me (applied (q l).original (i l) (v l) (t l)) (follows l (none_lacks l c.as_slice-2.result.now c.is_raw.result c.as_slice-2.ensures.value c.is_raw.ensures c.in-Ok.ensures.placed).0)
-    (applied_nears _ (t l) (q l).original (i l) (v l) _ _ (r l).2)
+    nears_seen (a l).seat.me c.load-word.new.seat.me c.compare.new.seat.me _ c.compare.ensures.seen (nears_by (a l).seat.me c.load-word.new.seat.me (applied (q l).original (i l) (v l) (t l)) (follows l (none_lacks l c.as_slice-2.result.now c.is_raw.result c.as_slice-2.ensures.value c.is_raw.ensures c.in-Ok.ensures.placed).0)
+    (applied_nears _ (t l) (q l).original (i l) (v l) _ _ (r l).2))
 
 pub returns-in-Err-clause-nears : goal.returns-in-Err-clause-nears
 returns-in-Err-clause-nears c _ =

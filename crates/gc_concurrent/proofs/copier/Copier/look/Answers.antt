@@ -1,7 +1,9 @@
 -- Any load tells it.
-use Rattle.std.proofs.Common.{ap, subst, arith}
+use Rattle.std.proofs.Common.{refl, ap, sym, subst, arith}
 use Rattle.gc_plan.specs.Members.{In}
 use Rattle.gc_concurrent.specs.Internal.Rule.{Sat}
+use Rattle.gc_concurrent.specs.Internal.Following.{Follows, WroteEach}
+use Rattle.gc_concurrent.proofs.Comparing.{along_caught}
 use Rattle.gc_concurrent.proofs.TiedCells.{tied, tied_words}
 use Rattle.gc_concurrent.proofs.Flip.{flips_rule}
 use Rattle.gc_concurrent.proofs.copier.Copier.look.Goals as goal
@@ -16,3 +18,13 @@ load-requires c =
 
 pub invariant_of-self-clause-fills : goal.invariant_of-self-clause-fills
 invariant_of-self-clause-fills c q k e n = c.args.self.now.fills q (subst (In q) (ap (λ (m : Sat). m.0.theirs.replicas) c.load.ensures.2.0) k) e n
+
+pub invariant_of-self-clause-along : goal.invariant_of-self-clause-along
+invariant_of-self-clause-along c =
+    let a = c.args.self.now in
+    subst (λ (m : Sat). ∥ Follows a.standing m.0.seen a.space.words ∥₁) (sym c.load.ensures.2.0) a.along
+
+pub returns-clause-along : goal.returns-clause-along
+returns-clause-along c empty =
+    let a = c.args.self.now in
+    along_caught a a.seat.me.0 a.standing refl refl c.load.ensures.2.1 (λ l. l) (λ _. subst (λ xs. WroteEach xs a.standing a.standing) (sym empty) refl)

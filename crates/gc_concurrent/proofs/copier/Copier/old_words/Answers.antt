@@ -1,7 +1,8 @@
 -- The cells are those of the seat, which knows what it knew.
-use Rattle.std.proofs.Common.{ap, subst, arith}
+use Rattle.std.proofs.Common.{ap, sym, subst, arith}
 use Rattle.gc_plan.specs.Members.{In}
 use Rattle.gc_concurrent.specs.Internal.Rule.{Sat}
+use Rattle.gc_concurrent.specs.Internal.Following.{Follows}
 use Rattle.gc_concurrent.proofs.TiedCells.{tied, tied_words}
 use Rattle.gc_concurrent.proofs.copier.Copier.old_words.Goals as goal
 
@@ -13,3 +14,8 @@ loaded-requires-clause-wide c = let w = tied_words _ _ _ _ c.deref-cells.ensures
 
 pub invariant_of-self-clause-fills : goal.invariant_of-self-clause-fills
 invariant_of-self-clause-fills c q k e n = c.args.self.now.fills q (subst (In q) (ap (λ (m : Sat). m.0.theirs.replicas) c.loaded.ensures.same) k) e n
+
+pub invariant_of-self-clause-along : goal.invariant_of-self-clause-along
+invariant_of-self-clause-along c =
+    let a = c.args.self.now in
+    subst (λ (m : Sat). ∥ Follows a.standing m.0.seen a.space.words ∥₁) (sym c.loaded.ensures.same) a.along

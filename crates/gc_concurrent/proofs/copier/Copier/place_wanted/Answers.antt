@@ -21,8 +21,9 @@ use Rattle.gc_concurrent.specs.Internal.Copiers.{Claims}
 use Rattle.gc_concurrent.proofs.TiedCells.{tied, tied_words}
 use Rattle.gc_concurrent.proofs.Placing.{places}
 use Rattle.gc_concurrent.proofs.Memory.{wanted_near, unclaimed, has_room, no_room, placed_same, claims_placed, claim_grown, claims_grown, end_is}
-use Rattle.gc_concurrent.proofs.InHand.{mem, keeps_seat, theirs_is}
+use Rattle.gc_concurrent.proofs.InHand.{mem, still_spared, keeps_seat, theirs_is}
 use Rattle.gc_concurrent.proofs.Nearing.{nears_by, placed_nears}
+use Rattle.gc_concurrent.proofs.Comparing.{theirs_seen, copies_seen, keeps_seen, nears_seen, loose_seen, along_placed, along_still, can_place}
 use Rattle.gc_concurrent.proofs.copier.Copier.place_wanted.Goals as goal
 use Rattle.gc_concurrent.proofs.copier.Copier.place_wanted.Goals.{After-load-word}
 
@@ -110,6 +111,8 @@ invariant_of-self c =
       fills = λ q k e n. absurd (n ((a l).aimed c.requires.wanted).0);
       claimed = subst (Claims (a l).claims.items) (sym is) (a l).claimed;
       loose = loose l;
+      along = along_still (a l).standing (a l).seat.me c.load-word.new.seat.me (a l).space (a l).space (ap (λ (m : Sat). m.0.seen) went) refl (a l).along;
+      spared = (a l).spared;
     }
 
 pub returns-then-not-has_room-clause-seat : goal.returns-then-not-has_room-clause-seat
@@ -124,6 +127,17 @@ returns-then-not-has_room-clause-room c _ =
     let is = theirs_is (a l).seat.me c.load-word.new.seat.me (t l) (stayed l c.of_word-header.result c.of_word-header.ensures (λ f. true≢false (sym (c.has_room.ensures.1 (let n = c.len.ensures in omega arith)) ∙ c.if-not-has_room.true))) in
     let smaller : (t l).size < (t l).old = lt_of_not-le (λ large. true≢false (sym full ∙ (told l).3 large)) in
     let e = ap (λ (y : Theirs). y.size) is in let f = ap (λ (y : Theirs). y.old) is in omega arith
+
+pub place-requires-clause-low : goal.place-requires-clause-low
+place-requires-clause-low c = let l = low c.args.self.now c.requires.wanted in let o = c.args.self.now.sized.0 in omega arith
+
+pub place-requires-clause-copies : goal.place-requires-clause-copies
+place-requires-clause-copies c = copies (goal.at.place-requires-clause-copies c).After-load-word
+
+pub place-requires-clause-along : goal.place-requires-clause-along
+place-requires-clause-along c =
+    let l = (goal.at.place-requires-clause-along c).After-load-word in
+    can_place (a l).standing c.load-word.new.seat.me.0.seen (a l).space.words (along_still (a l).standing (a l).seat.me c.load-word.new.seat.me (a l).space (a l).space (ap (λ (m : Sat). m.0.seen) (told l).2) refl (a l).along)
 
 pub index_mut-requires : goal.index_mut-requires
 index_mut-requires c = let l = low c.args.self.now c.requires.wanted in let n = c.args.self.now.claimed.long in omega arith
@@ -142,7 +156,7 @@ invariant_of-self-2 c =
     let fits : object_words h.len ≤ free_in (a l).space = (let f = c.has_room.ensures.0 c.if-not-has_room.false in let n = c.len.ensures in omega arith) in
     let can : CanPlace (a l).space h = record { shaped = (a l).shaped; header = (written_back c.load-word.result h c.of_word-header.ensures).0; room = fits } in
     let went = placed l h c.of_word-header.ensures fits in
-    let is : c.load-word.new.seat.me.0.theirs ≡ u = theirs_is (a l).seat.me c.load-word.new.seat.me u went in
+    let is : c.place.new.seat.me.0.theirs ≡ u = theirs_seen c.load-word.new.seat.me c.place.new.seat.me _ c.place.ensures.seen ∙ theirs_is (a l).seat.me c.load-word.new.seat.me u went in
     let at : c.place-at.result.0 ≡ end_of (a l).space = c.place-at.ensures.at in
     let space : c.set_link.new.self ≡ with_link (with_object (a l).space h) (end_of (a l).space) (a l).wanted = c.set_link.ensures.words ∙ (λ i. with_link (c.place-at.ensures.words i) (c.place-at.ensures.at i) (c.from.ensures i)) in
     let place : new_end (its (t l)) ≡ c.place-at.result.0 = end_is (t l) (a l).space (mem (a l)) ∙ sym at in
@@ -150,8 +164,8 @@ invariant_of-self-2 c =
     let header : h ≡ record { raw = o.raw; kind = o.kind; len = length o.fields } = same_header l h c.of_word-header.ensures in
     let tf : to_fill o ≡ c.to_fill-self.result = sym (c.to_fill-self.ensures ∙ (λ i. if (header i).raw then (header i).len else 0)) in
     record {
-      row = ((a l).row.0 ∙ sym c.load-word.ensures.0, ap (λ (i : TableId). i.words) c.load-word.ensures.0 ∙ (a l).row.1, (a l).row.2);
-      copies = copies l;
+      row = ((a l).row.0 ∙ sym (c.place.ensures.row ∙ c.load-word.ensures.0), ap (λ (i : TableId). i.words) (c.place.ensures.row ∙ c.load-word.ensures.0) ∙ (a l).row.1, (a l).row.2);
+      copies = copies_seen c.load-word.new.seat.me c.place.new.seat.me _ c.place.ensures.seen (copies l);
       shaped = c.set_link.ensures.shaped;
       sized = (ap (λ (y : Theirs). y.old) is ∙ (a l).sized.0, ap (λ (x : SpaceWords). x.size) space ∙ ((a l).sized.1 ∙ sym (ap (λ (y : Theirs). y.size) is)));
       same = ap (λ (y : Theirs). y.replicas) is ∙ (placed_same (t l) (a l).space (a l).wanted h o (mem (a l)) header can ∙ ap (λ (x : SpaceWords). replicas_in x.words) (sym space));
@@ -164,19 +178,22 @@ invariant_of-self-2 c =
           (λ blank. sym (ap (λ (r : Replica). r.object.raw) blank) ∙ fills_raw o.raw (length o.fields) (λ z. n (sym tf ∙ z)))
           (in_push q (blank_replica (a l).wanted (new_end (its (t l))) o) (t l).replicas (subst (In q) (ap (λ (y : Theirs). y.replicas) is) k));
       claimed = subst (λ (z : ℕ × Theirs). Claims (slice_set (a l).claims.items (a l).wanted z.0) z.1) (λ i. (place i, sym is i)) (claims_placed (a l).claims.items (t l) (a l).wanted o (a l).claimed (none l) (let w = low (a l) c.requires.wanted in omega arith));
-      loose = loose l;
+      loose = loose_seen c.load-word.new.seat.me c.place.new.seat.me _ c.place.ensures.seen (loose l);
+      along = along_placed (a l).standing c.place.new.standing c.load-word.new.seat.me.0.seen c.place.new.seat.me.0.seen (a l).space c.set_link.new.self h c.word.result (a l).wanted space c.word.ensures.word c.word.ensures.read_back c.place.ensures.along
+          (along_still (a l).standing (a l).seat.me c.load-word.new.seat.me (a l).space (a l).space (ap (λ (m : Sat). m.0.seen) went) refl (a l).along);
+      spared = still_spared (a l) c.set_link.new.self.size (ap (λ (x : SpaceWords). x.size) space);
     }
 
 pub returns-clause-seat : goal.returns-clause-seat
 returns-clause-seat c =
     let l = (goal.at.returns-clause-seat c).After-load-word in
-    keeps_seat (a l).seat.me c.load-word.new.seat.me (placed_one (a l).wanted (told l).0 (t l)) (placed l c.of_word-header.result c.of_word-header.ensures (let f = c.has_room.ensures.0 c.if-not-has_room.false in let n = c.len.ensures in omega arith)) refl refl refl
+    keeps_seen (a l).seat.me c.load-word.new.seat.me c.place.new.seat.me _ c.place.ensures.seen (keeps_seat (a l).seat.me c.load-word.new.seat.me (placed_one (a l).wanted (told l).0 (t l)) (placed l c.of_word-header.result c.of_word-header.ensures (let f = c.has_room.ensures.0 c.if-not-has_room.false in let n = c.len.ensures in omega arith)) refl refl refl)
 
 pub returns-clause-nears : goal.returns-clause-nears
 returns-clause-nears c _ =
     let l = (goal.at.returns-clause-nears c).After-load-word in
     let went = placed l c.of_word-header.result c.of_word-header.ensures (let f = c.has_room.ensures.0 c.if-not-has_room.false in let n = c.len.ensures in omega arith) in
-    λ writes. nears_by (a l).seat.me c.load-word.new.seat.me (placed_one (a l).wanted (told l).0 (t l)) went (placed_nears _ (t l) (a l).wanted (told l).0 ((told l).4 writes)) writes
+    nears_seen (a l).seat.me c.load-word.new.seat.me c.place.new.seat.me _ c.place.ensures.seen (λ writes. nears_by (a l).seat.me c.load-word.new.seat.me (placed_one (a l).wanted (told l).0 (t l)) went (placed_nears _ (t l) (a l).wanted (told l).0 ((told l).4 writes)) writes)
 
 -- the place of the replica is no 0
 pub returns-clause-claims : goal.returns-clause-claims

@@ -1,8 +1,11 @@
 -- The mutator that is put back has a heap whose graph corresponds to the one that was taken.
-use Rattle.std.proofs.Common.{◌∙◌, inr, subst}
+use Rattle.std.proofs.Common.{◌∙◌, inr, subst, ap, sym, inl, ⊎_elim}
 use Rattle.gc_concurrent.specs.Heaps.{CorrespondsTo}
 use Rattle.gc_concurrent.specs.Holders.{heap_in}
 use Rattle.gc_concurrent.proofs.Passing.{handshake_tied, handshake_word, filled, one_hand, goes_at, in_hand}
+use Rattle.gc_concurrent.specs.Checking.{IsVouchedFor}
+use Rattle.gc_concurrent.specs.Ends.{Theirs}
+use Rattle.gc_concurrent.specs.Holders.{heap_held}
 use Rattle.gc_concurrent.proofs.handshake.Holding.flip.Goals as goal
 
 pub store-requires : goal.store-requires
@@ -15,3 +18,7 @@ store-requires g c =
 
 pub exchange-spare-requires : goal.exchange-spare-requires
 exchange-spare-requires g c = let a = c.args.self in let o = one_hand a.seat.me.1 _ a.holds in (handshake_tied _ _ _ c.deref.ensures a.row.0, in_hand _ _ _ o.1)
+
+pub returns-clause-asked : goal.returns-clause-asked
+returns-clause-asked g c =
+    ⊎_elim (λ v. inl (subst (IsVouchedFor (heap_held c.args.self.held)) (sym (ap (λ (t : Theirs). t.base) c.in-Ok.ensures.fresh)) v)) (λ s. inr s) c.in-Ok.ensures.asked

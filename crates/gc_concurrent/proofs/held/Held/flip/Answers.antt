@@ -1,28 +1,25 @@
 -- Where nothing is due and each root has its replica, the new space is the mutator's next one.
-use Rattle.std.proofs.Common.{◌≡◌, ℕ, ◌<◌, true, List, [], length, slice_index, map, ap, sym, ◌∙◌, subst, arith}
+use Rattle.std.proofs.Common.{◌≡◌, ℕ, ◌<◌, true, List, [], length, slice_index, map, ap, sym, ◌∙◌, subst, inl, inr, ⊎_elim, arith}
 use Rattle.gc_graph.specs.Graph.{Ref}
 use Rattle.gc_graph.specs.Correspond.{Corresponding}
 use Rattle.gc_words.specs.Word.{value_of, word_of}
-use Rattle.gc_words.specs.Space.{SpaceWords, end_of}
-use Rattle.gc_heap.specs.Heap.{HeapWords, IsHeap, graph_in}
-use Rattle.gc_plan.specs.Carried.{LeadsOnlyTo}
-use Rattle.gc_concurrent.specs.Unreachable.{MayBeCopied}
-use Rattle.gc_concurrent.proofs.Keeping.{begins_kept}
+use Rattle.gc_words.specs.Space.{SpaceWords}
+use Rattle.gc_heap.specs.Heap.{IsHeap, graph_in}
 use Rattle.gc_plan.specs.State.{pairs_of}
 use Rattle.gc_plan.specs.Steps.{scan_done}
 use Rattle.gc_concurrent.specs.declared.held.Held.{Held}
-use Rattle.gc_concurrent.specs.Ends.{Mine, one_heap, opening_mine}
+use Rattle.gc_concurrent.specs.Ends.{one_heap}
 use Rattle.gc_concurrent.specs.Heaps.{heap_of}
-use Rattle.gc_concurrent.specs.Internal.Rule.{Sat}
 use Rattle.gc_concurrent.specs.Ends.{its}
 use Rattle.gc_concurrent.specs.Internal.Copiers.{AreClaimed, LacksOne, moved_by}
-use Rattle.gc_concurrent.specs.Internal.Flip.{HasNothingLeft, new_heap_of, moved_words}
-use Rattle.gc_concurrent.proofs.TiedCells.{tied, tied_words}
-use Rattle.gc_concurrent.proofs.Opening.{splits_rule}
+use Rattle.gc_concurrent.specs.Internal.Flip.{HasNothingLeft, moved_words}
 use Rattle.gc_concurrent.proofs.Memory.{claim_low}
 use Rattle.gc_concurrent.proofs.InHand.{mem}
+use Rattle.gc_concurrent.proofs.Comparing.{flipped_follows}
 use Rattle.gc_concurrent.proofs.Rooting.{near}
 use Rattle.gc_concurrent.proofs.Turn.{roots_placed, roots_moved, ready_in, root_missing}
+use Rattle.gc_concurrent.specs.Checking.{IsVouchedFor}
+use Rattle.gc_concurrent.specs.Holders.{heap_held}
 use Rattle.gc_concurrent.proofs.held.Held.flip.Goals as goal
 
 pub moved_roots-moved-requires-clause-inside : goal.moved_roots-moved-requires-clause-inside
@@ -64,65 +61,30 @@ moves h row roots e f placed =
     ∙ roots_moved h.copier.claims.items h.copier.seat.me.0.theirs h.roots.items h.copier.claimed (near h)
     (subst (λ (z : List ℕ × List ℕ). AreClaimed z.0 z.1) (λ i. (e i, f i)) placed)
 
--- the new heap: the new space, with the moved roots
-new_is : (h : Held) (mine : Mine) (row roots moved : List ℕ) → (base : List ℕ) → mine ≡ opening_mine (one_heap h.copier.space base) → moved ≡ map (λ w. word_of (moved_by row (value_of w))) roots
-    → row ≡ h.copier.claims.items → roots ≡ h.roots.items → AreClaimed row roots
-    → heap_of mine moved ≡ new_heap_of h.copier.space h.roots.items h.copier.seat.me.0.theirs
-new_is h mine row roots moved base is moved_is e f placed = λ i. heap_of (is i) ((moved_is ∙ moves h row roots e f placed) i)
-
-pub check-requires-clause-left : goal.check-requires-clause-left
-check-requires-clause-left g c =
+pub certify-requires-clause-left : goal.certify-requires-clause-left
+certify-requires-clause-left g c =
     done c.args.self c.as_slice.result.now c.as_slice-2.result.now c.as_slice.ensures.value c.as_slice-2.ensures.value (c.is_idle.ensures.idle c.if-not-is_idle.false) c.in-Ok.ensures.placed
 
-pub check-requires-clause-moved : goal.check-requires-clause-moved
-check-requires-clause-moved g c =
+pub certify-requires-clause-moved : goal.certify-requires-clause-moved
+certify-requires-clause-moved g c =
     c.as_slice-3.ensures.value
     ∙ (c.in-Ok.ensures.moved ∙ moves c.args.self c.as_slice.result.now c.as_slice-2.result.now c.as_slice.ensures.value c.as_slice-2.ensures.value c.in-Ok.ensures.placed)
 
-pub open_cells-requires-clause-sound : goal.open_cells-requires-clause-sound
-open_cells-requires-clause-sound g c =
+pub begin-requires-clause-sound : goal.begin-requires-clause-sound
+begin-requires-clause-sound g c =
     let a = c.args.self.copier in
-    let told = c.check.ensures.told in
-    let moved = c.as_slice-4.ensures.value ∙ (c.in-Ok.ensures.moved ∙ moves c.args.self c.as_slice.result.now c.as_slice-2.result.now c.as_slice.ensures.value c.as_slice-2.ensures.value c.in-Ok.ensures.placed) in
-    subst (λ (z : SpaceWords × List ℕ). IsHeap (one_heap z.0 z.1)) (λ i. (sym c.check.ensures.space i, sym moved i)) (told.heap a.space (mem a))
-
-pub split_seat-seat-requires : goal.split_seat-seat-requires
-split_seat-seat-requires g c =
-    let a = c.args.self.copier in
-    let o = c.in-Ok-open_cells.opened in
-    let view = c.in-Ok-open_cells.ensures.view in (
-      tied _ _ _ c.deref.ensures o.row.0,
-      (let w = tied_words _ _ _ _ c.deref.ensures o.row.0 o.row.1 in let s = c.in-Ok-open_cells.ensures.size in let e = ap (λ (x : SpaceWords). x.size) c.check.ensures.space in let l = a.shaped.size_low in omega arith),
-      splits_rule _ _ _ (ap (λ (m : Sat). m.0.writes) view) (ap (λ (m : Sat). m.0.copies) view),
-    )
-
-pub invariant_of-result-2 : goal.invariant_of-result-2
-invariant_of-result-2 g c =
-    let a = c.args.self.copier in
-    let told = c.check.ensures.told in
-    let base : List ℕ = c.as_slice-4.result.now in
-    let mine : c.split_seat-seat.result.me.0.mine ≡ opening_mine (one_heap a.space base) = ap (λ (m : Sat). m.0.mine) c.split_seat-seat.ensures.4 ∙ (ap (λ (m : Sat). m.0.mine) c.in-Ok-open_cells.ensures.view ∙ (λ i. opening_mine (one_heap (c.check.ensures.space i) base))) in
-    let moved = c.as_slice-4.ensures.value ∙ (c.in-Ok.ensures.moved ∙ moves c.args.self c.as_slice.result.now c.as_slice-2.result.now c.as_slice.ensures.value c.as_slice-2.ensures.value c.in-Ok.ensures.placed) in
-    let heap = new_is c.args.self _ c.as_slice.result.now c.as_slice-2.result.now _ base mine c.in-Ok.ensures.moved c.as_slice.ensures.value c.as_slice-2.ensures.value c.in-Ok.ensures.placed in
-    let sound = told.heap a.space (mem a) in
-    record {
-      ended = ap (λ (m : Mine). length m.space.words) mine ∙ sym (c.end-end.ensures.value ∙ ap (λ (s : SpaceWords). length s.words) c.check.ensures.space);
-      sound = subst IsHeap (sym heap) sound;
-      behind = (let e = ap (λ (m : Mine). end_of m.base.space) mine in let l = c.end-end.ensures.value in let s = ap (λ (s : SpaceWords). end_of s) c.check.ensures.space in omega arith);
-      kept = subst (λ (z : HeapWords × HeapWords). LeadsOnlyTo (MayBeCopied z.0) (graph_in z.1)) (λ i. (sym (ap (λ (m : Mine). m.base) mine ∙ (λ j. one_heap a.space (moved j))) i, sym heap i))
-          (begins_kept (new_heap_of a.space c.args.self.roots.items a.seat.me.0.theirs) sound);
-    }
+    let moved = c.in-Ok.ensures.moved ∙ moves c.args.self c.as_slice.result.now c.as_slice-2.result.now c.as_slice.ensures.value c.as_slice-2.ensures.value c.in-Ok.ensures.placed in
+    subst (λ (z : SpaceWords × List ℕ). IsHeap (one_heap z.0 z.1)) (λ i. (sym (c.take_spare.ensures.space ∙ c.certify.ensures.space) i, sym moved i)) (c.certify.ensures.told.heap a.space (mem a))
 
 pub returns-clause-replicas : goal.returns-clause-replicas
 returns-clause-replicas g c =
     let a = c.args.self.copier in
-    let told = c.check.ensures.told in
-    ap graph_in (new_is c.args.self _ c.as_slice.result.now c.as_slice-2.result.now _ c.as_slice-4.result.now (ap (λ (m : Sat). m.0.mine) c.split_seat-seat.ensures.4 ∙ (ap (λ (m : Sat). m.0.mine) c.in-Ok-open_cells.ensures.view ∙ (λ i. opening_mine (one_heap (c.check.ensures.space i) c.as_slice-4.result.now))))
-    c.in-Ok.ensures.moved c.as_slice.ensures.value c.as_slice-2.ensures.value c.in-Ok.ensures.placed) ∙ told.graph a.space (mem a)
+    let moved = c.in-Ok.ensures.moved ∙ moves c.args.self c.as_slice.result.now c.as_slice-2.result.now c.as_slice.ensures.value c.as_slice-2.ensures.value c.in-Ok.ensures.placed in
+    ap graph_in (c.begin.ensures.heap ∙ (λ i. one_heap ((c.take_spare.ensures.space ∙ c.certify.ensures.space) i) (moved i))) ∙ c.certify.ensures.told.graph a.space (mem a)
 
 pub returns-clause-carried : goal.returns-clause-carried
 returns-clause-carried g c =
-    (c.check.ensures.told).kept
+    (c.certify.ensures.told).kept
 
 pub returns-clause-ready : goal.returns-clause-ready
 returns-clause-ready g c =
@@ -133,7 +95,17 @@ returns-clause-ready g c =
 pub returns-clause-ok : goal.returns-clause-ok
 returns-clause-ok g c =
     let a = c.args.self.copier in
-    let told = c.check.ensures.told in (
+    let told = c.certify.ensures.told in (
       pairs_of (its a.seat.me.0.theirs),
       subst (Corresponding (pairs_of (its a.seat.me.0.theirs)) (graph_in (heap_of a.seat.me.0.mine c.args.self.roots.items))) (sym (returns-clause-replicas g c)) told.corresponding,
     )
+
+pub begin-requires-clause-along : goal.begin-requires-clause-along
+begin-requires-clause-along g c =
+    let b = c.take_spare.new.self in
+    flipped_follows b.standing c.flipped.new.self b.seat.me.0.seen b.space b.shaped c.flipped.ensures.lost c.flipped.ensures.flipped b.along
+
+pub returns-clause-asked : goal.returns-clause-asked
+returns-clause-asked g c =
+    let heap = (λ i. one_heap (sym (c.take_spare.ensures.space ∙ c.certify.ensures.space) i) (c.as_slice-3.ensures.value i)) ∙ sym c.begin.ensures.heap in
+    ⊎_elim (λ v. inl (subst (IsVouchedFor (heap_held c.args.self)) heap v)) (λ s. inr s) c.in_default.ensures.asked

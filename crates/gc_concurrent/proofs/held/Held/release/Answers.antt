@@ -1,7 +1,8 @@
 -- One seat becomes two.
-use Rattle.std.proofs.Common.{ap, subst, arith}
+use Rattle.std.proofs.Common.{ap, sym, subst, arith}
 use Rattle.gc_plan.specs.Members.{In}
 use Rattle.gc_concurrent.specs.Internal.Rule.{Sat}
+use Rattle.gc_concurrent.specs.Internal.Following.{Follows}
 use Rattle.gc_concurrent.proofs.TiedCells.{tied, tied_words}
 use Rattle.gc_concurrent.proofs.Opening.{splits_rule}
 use Rattle.gc_concurrent.proofs.held.Held.release.Goals as goal
@@ -16,3 +17,8 @@ split_seat-seat-requires c =
 
 pub invariant_of-result-3-clause-fills : goal.invariant_of-result-3-clause-fills
 invariant_of-result-3-clause-fills c q k e n = c.args.self.copier.fills q (subst (In q) (ap (λ (m : Sat). m.0.theirs.replicas) c.split_seat-seat.ensures.2) k) e n
+
+pub invariant_of-result-3-clause-along : goal.invariant_of-result-3-clause-along
+invariant_of-result-3-clause-along c =
+    let a = c.args.self.copier in
+    subst (λ ws. ∥ Follows a.standing ws a.space.words ∥₁) (sym (ap (λ (m : Sat). m.0.seen) c.split_seat-seat.ensures.2)) a.along

@@ -1,0 +1,39 @@
+-- One seat becomes two, and the heap with which the collection begins is the mutator's.
+use Rattle.std.proofs.Common.{◌≡◌, ℕ, List, length, ap, sym, ◌∙◌, subst, arith}
+use Rattle.gc_words.specs.Space.{end_of}
+use Rattle.gc_heap.specs.Heap.{HeapWords, IsHeap, graph_in}
+use Rattle.gc_plan.specs.Carried.{LeadsOnlyTo}
+use Rattle.gc_concurrent.specs.Ends.{Mine, one_heap, opening_mine}
+use Rattle.gc_concurrent.specs.Heaps.{heap_of}
+use Rattle.gc_concurrent.specs.Unreachable.{MayBeCopied}
+use Rattle.gc_concurrent.specs.Internal.Rule.{Sat}
+use Rattle.gc_concurrent.proofs.Keeping.{begins_kept}
+use Rattle.gc_concurrent.proofs.TiedCells.{tied, tied_words}
+use Rattle.gc_concurrent.proofs.Opening.{splits_rule}
+use Rattle.gc_concurrent.specs.Internal.Following.{Follows}
+use Rattle.gc_concurrent.proofs.held.begin.Goals as goal
+
+pub split_seat-seat-requires : goal.split_seat-seat-requires
+split_seat-seat-requires c =
+    let o = c.begin-one.result in
+    let view = c.begin-one.ensures.view in (
+      tied _ _ _ c.deref.ensures o.row.0,
+      (let w = tied_words _ _ _ _ c.deref.ensures o.row.0 o.row.2 in let s = c.begin-one.ensures.size in let l = c.requires.sound.space.size_low in omega arith),
+      splits_rule _ _ _ (ap (λ (m : Sat). m.0.writes) view) (ap (λ (m : Sat). m.0.copies) view),
+    )
+
+pub invariant_of-result-2 : goal.invariant_of-result-2
+invariant_of-result-2 c =
+    let heap : HeapWords = one_heap c.args.space c.args.roots.items in
+    let mine : c.split_seat-seat.result.me.0.mine ≡ opening_mine heap = ap (λ (m : Sat). m.0.mine) c.split_seat-seat.ensures.4 ∙ ap (λ (m : Sat). m.0.mine) c.begin-one.ensures.view in
+    record {
+      ended = ap (λ (m : Mine). length m.space.words) mine ∙ sym c.begin-one.ensures.end;
+      sound = subst (λ (m : Mine). IsHeap (heap_of m c.args.roots.items)) (sym mine) c.requires.sound;
+      behind = (let e = ap (λ (m : Mine). end_of m.base.space) mine in let l = c.begin-one.ensures.end in omega arith);
+      kept = subst (λ (m : Mine). LeadsOnlyTo (MayBeCopied m.base) (graph_in (heap_of m c.args.roots.items))) (sym mine) (begins_kept heap c.requires.sound);
+    }
+
+pub invariant_of-result-3-clause-along : goal.invariant_of-result-3-clause-along
+invariant_of-result-3-clause-along c =
+    subst (λ (z : List ℕ × List ℕ). ∥ Follows c.args.standing z.0 z.1 ∥₁)
+    (λ i. (sym (ap (λ (m : Sat). m.0.seen) c.split_seat-seat.ensures.2 ∙ ap (λ (m : Sat). m.0.seen) c.begin-one.ensures.view) i, sym c.args.spare.small.1 i)) c.requires.along

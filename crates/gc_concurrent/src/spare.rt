@@ -1,0 +1,36 @@
+//! Memory that a flip takes and leaves, so that it allocates and frees no large block while the mutator waits.
+ghost use Rattle.std.specs.Prelude.{◌≡◌, ◌∷◌, [], IfOk, length, replicate};
+ghost use Rattle.std.specs.Arc.{arc_value};
+
+use crate::cells::Cells;
+use crate::next::NextSpace;
+use gc_graph::NoMemory;
+use std::alloc::Global;
+use std::sync::Arc;
+
+/// The memory of the collection that a flip begins: a claim for each word of its heap, and a new space of one word. Nothing is copied.
+#[derive(Drop)]
+pub struct Spare {
+    pub(crate) claims: Vec<u32>,
+    pub(crate) space: NextSpace,
+    ghost clear: { claims.items ≡ replicate (length claims.items) 0 },
+    ghost small: { (space.size ≡ 1) × (space.words ≡ 0 ∷ []) },
+}
+
+/// The memory of the heap before the last flip. No end knows its cells any more.
+#[derive(Drop)]
+pub struct Former {
+    pub(crate) cells: Arc<Cells, Global>,
+    pub(crate) claims: Vec<u32>,
+}
+
+impl Spare {
+    /// Makes the memory of a collection of a heap of `size` words.
+    pub(crate) fn new(alloc: Global, size: u32) -> Result<Spare, NoMemory>
+        ensures { IfOk result (λ spare. length spare.claims.items ≡ size) }
+    {
+        let claims = Vec::from_elem(alloc, 0u32, size as usize)?;
+        let space = NextSpace::new(alloc, 1)?;
+        Ok(Spare { claims, space })
+    }
+}
