@@ -1,0 +1,3 @@
+-- Lemmas about digits, words and texts.
+mod Digits
+mod Spelled
