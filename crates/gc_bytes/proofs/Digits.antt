@@ -3,7 +3,7 @@ use Rattle.std.proofs.Common.{◌≡◌, ℕ, zero, suc, ◌+◌, ◌-◌, ◌*�
 use Rattle.std.specs.Int.{to_le_bytes, w64}
 use Rattle.std.proofs.Math.Nat.{pow-le-pow_right, pow-suc}
 use Rattle.std.proofs.lemmas.List.{append-nil, append_assoc, drop-append-le, drop_more, length-append, length-set, take-append-le, take_all, take_more_set}
-use Rattle.std.proofs.lemmas.Nat.{shr-shr}
+use Rattle.std.proofs.lemmas.Nat.{mod-pow-add, pow-add, shr-shr}
 use Rattle.gc_bytes.specs.Text.{AreBytes, number_of, digits, bytes_of}
 
 -- ---- numbers
@@ -206,3 +206,63 @@ seven_lowest w =
     let q5 : w / 1099511627776 ≡ w / 256 / 256 / 256 / 256 / 256 = sym (shr-shr w 32 8) ∙ ap (λ x. x / 256) q4 in
     let q6 : w / 281474976710656 ≡ w / 256 / 256 / 256 / 256 / 256 / 256 = sym (shr-shr w 40 8) ∙ ap (λ x. x / 256) q5 in
     cc
+
+-- ---- numbers of some bytes
+
+-- the digits of a word are what is left of it below so many digits
+pub number_of_digits : (n w : ℕ) → number_of (digits n w) ≡ w % 2 ^ (8 * n)
+unfolding number_of digits
+number_of_digits zero w = let e : 0 ≡ w % 1 = omega arith in e
+number_of_digits (suc n) w =
+    ap (λ x. w % 256 + 256 * x) (number_of_digits n (w / 256))
+    ∙ (let e : w % 256 + 256 * (w / 256 % 2 ^ (8 * n)) ≡ w / 256 % 2 ^ (8 * n) * 256 + w % 256 = omega arith in e)
+    ∙ sym (mod-pow-add w (8 * n) 8)
+    ∙ ap (λ k. w % 2 ^ k) (let e : 8 * n + 8 ≡ 8 * suc n = omega arith in e)
+
+pub number-append : (xs ys : List ℕ) → number_of (xs ++ ys) ≡ number_of xs + 2 ^ (8 * length xs) * number_of ys
+unfolding number_of
+number-append [] ys = let e : number_of ys ≡ 0 + 1 * number_of ys = omega arith in e
+number-append (x ∷ xs) ys =
+    let p = 2 ^ (8 * length xs) in
+    ap (λ n. x + 256 * n) (number-append xs ys)
+    ∙ (let e : x + 256 * (number_of xs + p * number_of ys) ≡ x + 256 * number_of xs + p * 256 * number_of ys = omega arith in e)
+    ∙ ap (λ q. x + 256 * number_of xs + q * number_of ys) (sym (pow-add 2 (8 * length xs) 8) ∙ ap (λ k. 2 ^ k) (let e : 8 * length xs + 8 ≡ 8 * suc (length xs) = omega arith in e))
+
+-- ---- the number of n bytes from one place on
+
+-- which one word has
+pub number_in_one : (words : List ℕ) (at n : ℕ) → n ≤ 7 - at % 7 → at / 7 < length words → get_or words (at / 7) 0 / 2 ^ (8 * (at % 7)) % 2 ^ (8 * n) ≡ number_of (take n (drop at (bytes_of words)))
+number_in_one words at n few less = sym (number_of_digits n (get_or words (at / 7) 0 / 2 ^ (8 * (at % 7)))) ∙ ap number_of (read_front words at n few less)
+
+-- which two words have
+pub number_in_two : (words : List ℕ) (at n : ℕ) → 7 - at % 7 ≤ n → n ≤ 7 → at / 7 + 1 < length words
+    → get_or words (at / 7) 0 / 2 ^ (8 * (at % 7)) % 2 ^ (8 * (7 - at % 7)) + get_or words (at / 7 + 1) 0 % 2 ^ (8 * (n - (7 - at % 7))) * 2 ^ (8 * (7 - at % 7)) ≡ number_of (take n (drop at (bytes_of words)))
+number_in_two words at n many few less =
+    let front = 7 - at % 7 in
+    let low = get_or words (at / 7) 0 / 2 ^ (8 * (at % 7)) in
+    let next = at / 7 + 1 in
+    let rest = n - front in
+    let high = get_or words next 0 in
+    let p = 2 ^ (8 * front) in
+    let back : take rest (bytes_of (drop (suc (at / 7)) words)) ≡ digits rest high =
+        ap (λ k. take rest (bytes_of (drop k words))) (let e : suc (at / 7) ≡ next = omega arith in e)
+        ∙ ap (take rest) (sym (bytes_of_rest words next))
+        ∙ ap (λ k. take rest (drop k (bytes_of words))) (let e : 7 * next ≡ 7 * next + 0 = omega arith in e)
+        ∙ ap (take rest) (bytes_from words next 0 (omega arith) less)
+        ∙ take-append-le rest (digits (7 - 0) (high / 2 ^ (8 * 0))) (bytes_of (drop (suc next) words)) (let l = length-digits (7 - 0) (high / 2 ^ (8 * 0)) in omega arith)
+        ∙ ap (λ h. take rest (digits 7 h)) (let e : high / 1 ≡ high = omega arith in e)
+        ∙ ap (λ k. take rest (digits k high)) (let e : 7 ≡ rest + (7 - rest) = omega arith in e)
+        ∙ take-digits rest (7 - rest) high in
+    let whole : number_of (take n (drop at (bytes_of words))) ≡ number_of (digits front low) + p * number_of (digits rest high) =
+        ap number_of (sym (read_parts words at n many (omega arith)))
+        ∙ ap (λ bs. number_of (digits front low ++ bs)) back
+        ∙ number-append (digits front low) (digits rest high)
+        ∙ ap (λ k. number_of (digits front low) + 2 ^ (8 * k) * number_of (digits rest high)) (length-digits front low) in
+    let one = number_of_digits front low in
+    let two = number_of_digits rest high in
+    sym (
+      whole
+      ∙ ap (λ x. x + p * number_of (digits rest high)) one
+      ∙ ap (λ x. low % p + p * x) two
+      ∙ (let e : low % p + p * (high % 2 ^ (8 * rest)) ≡ low % p + high % 2 ^ (8 * rest) * p = omega arith in e)
+    )

@@ -16,6 +16,7 @@ mod Marks
 mod Monitor
 mod NewFrom
 mod Noted
+mod Numbered
 mod NumbersPut
 mod OtherCommands
 mod Parts

@@ -7,6 +7,7 @@ pub mod Flip
 pub mod Giving
 pub mod Internal
 pub mod Mixed
+pub mod Numbers
 pub mod Performing
 pub mod Readings
 pub mod Referring

@@ -171,10 +171,10 @@ impl CollectedHeap {
 }
 
 // An object that is found: its address, its header and its field words.
-type Found<'a> = (OldAddr, Header, &'a [u64]);
+pub(crate) type Found<'a> = (OldAddr, Header, &'a [u64]);
 
 // The object that a root refers to.
-fn object(heap: &Heap, p: u32) -> Option<Found<'_>>
+pub(crate) fn object(heap: &Heap, p: u32) -> Option<Found<'_>>
     requires { p < length heap.now.roots }
     ensures is { option_map (λ found. object_of_block (record { header = found.1; fields = found.2.now })) result ≡ object_in (graph_in heap.now) (root_at p) 0 }
     ensures target { IfSome result (λ found. root (graph_in heap.now) p ≡ Ref found.0.0) }
