@@ -116,7 +116,7 @@ pub take_on : (xs ys : List ℕ) (m : ℕ) → take (length xs + m) (xs ++ ys) �
 take_on [] ys m = ap (λ k. take k ys) (let e : 0 + m ≡ m = omega arith in e)
 take_on (x ∷ xs) ys m = ap (λ k. take k (x ∷ xs ++ ys)) (let e : suc (length xs) + m ≡ suc (length xs + m) = omega arith in e) ∙ ap (λ zs. x ∷ zs) (take_on xs ys m)
 
-drop_on : (xs ys : List ℕ) (m : ℕ) → drop (length xs + m) (xs ++ ys) ≡ drop m ys
+pub drop_on : (xs ys : List ℕ) (m : ℕ) → drop (length xs + m) (xs ++ ys) ≡ drop m ys
 drop_on [] ys m = ap (λ k. drop k ys) (let e : 0 + m ≡ m = omega arith in e)
 drop_on (x ∷ xs) ys m = ap (λ k. drop k (x ∷ xs ++ ys)) (let e : suc (length xs) + m ≡ suc (length xs + m) = omega arith in e) ∙ drop_on xs ys m
 
@@ -245,24 +245,24 @@ number_in_two words at n many few less =
     let high = get_or words next 0 in
     let p = 2 ^ (8 * front) in
     let back : take rest (bytes_of (drop (suc (at / 7)) words)) ≡ digits rest high =
-        ap (λ k. take rest (bytes_of (drop k words))) (let e : suc (at / 7) ≡ next = omega arith in e)
-        ∙ ap (take rest) (sym (bytes_of_rest words next))
-        ∙ ap (λ k. take rest (drop k (bytes_of words))) (let e : 7 * next ≡ 7 * next + 0 = omega arith in e)
-        ∙ ap (take rest) (bytes_from words next 0 (omega arith) less)
-        ∙ take-append-le rest (digits (7 - 0) (high / 2 ^ (8 * 0))) (bytes_of (drop (suc next) words)) (let l = length-digits (7 - 0) (high / 2 ^ (8 * 0)) in omega arith)
-        ∙ ap (λ h. take rest (digits 7 h)) (let e : high / 1 ≡ high = omega arith in e)
-        ∙ ap (λ k. take rest (digits k high)) (let e : 7 ≡ rest + (7 - rest) = omega arith in e)
-        ∙ take-digits rest (7 - rest) high in
+    ap (λ k. take rest (bytes_of (drop k words))) (let e : suc (at / 7) ≡ next = omega arith in e)
+    ∙ ap (take rest) (sym (bytes_of_rest words next))
+    ∙ ap (λ k. take rest (drop k (bytes_of words))) (let e : 7 * next ≡ 7 * next + 0 = omega arith in e)
+    ∙ ap (take rest) (bytes_from words next 0 (omega arith) less)
+    ∙ take-append-le rest (digits (7 - 0) (high / 2 ^ (8 * 0))) (bytes_of (drop (suc next) words)) (let l = length-digits (7 - 0) (high / 2 ^ (8 * 0)) in omega arith)
+    ∙ ap (λ h. take rest (digits 7 h)) (let e : high / 1 ≡ high = omega arith in e)
+    ∙ ap (λ k. take rest (digits k high)) (let e : 7 ≡ rest + (7 - rest) = omega arith in e)
+    ∙ take-digits rest (7 - rest) high in
     let whole : number_of (take n (drop at (bytes_of words))) ≡ number_of (digits front low) + p * number_of (digits rest high) =
-        ap number_of (sym (read_parts words at n many (omega arith)))
-        ∙ ap (λ bs. number_of (digits front low ++ bs)) back
-        ∙ number-append (digits front low) (digits rest high)
-        ∙ ap (λ k. number_of (digits front low) + 2 ^ (8 * k) * number_of (digits rest high)) (length-digits front low) in
+    ap number_of (sym (read_parts words at n many (omega arith)))
+    ∙ ap (λ bs. number_of (digits front low ++ bs)) back
+    ∙ number-append (digits front low) (digits rest high)
+    ∙ ap (λ k. number_of (digits front low) + 2 ^ (8 * k) * number_of (digits rest high)) (length-digits front low) in
     let one = number_of_digits front low in
     let two = number_of_digits rest high in
     sym (
-      whole
-      ∙ ap (λ x. x + p * number_of (digits rest high)) one
-      ∙ ap (λ x. low % p + p * x) two
-      ∙ (let e : low % p + p * (high % 2 ^ (8 * rest)) ≡ low % p + high % 2 ^ (8 * rest) * p = omega arith in e)
+    whole
+    ∙ ap (λ x. x + p * number_of (digits rest high)) one
+    ∙ ap (λ x. low % p + p * x) two
+    ∙ (let e : low % p + p * (high % 2 ^ (8 * rest)) ≡ low % p + high % 2 ^ (8 * rest) * p = omega arith in e)
     )

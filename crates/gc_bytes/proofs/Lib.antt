@@ -1,3 +1,4 @@
 -- Lemmas about digits, words and texts.
 mod Digits
+mod Joined
 mod Spelled

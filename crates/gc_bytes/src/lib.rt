@@ -2,9 +2,11 @@
 #![tactic(auto)]
 
 mod laws;
+mod parts;
 mod reading;
 mod spelling;
+mod text;
 
 pub use laws::texts_are_read_again;
-pub use reading::{read_bytes, text_length};
 pub use spelling::{fields_for, spelled_word};
+pub use text::Text;

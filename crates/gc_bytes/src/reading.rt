@@ -1,13 +1,14 @@
 //! From words to bytes.
 
-ghost use Rattle.std.specs.Prelude.{◌≡◌, ◌<◌, ◌≤◌, ◌+◌, ◌*◌, ◌^◌, drop, length, take};
+ghost use Rattle.std.specs.Prelude.{◌≡◌, ◌<◌, ◌≤◌, ◌+◌, ◌*◌, ◌^◌, IfSome, drop, length, take};
 ghost use Rattle.gc_bytes.specs.Text.{bytes_of, digits, text_length as length_in};
 
 /// Returns the number of bytes in the text that these words are, or `None` if they are none. Reads the last word alone.
 #[inline(always)]
-pub fn text_length(words: &[u64]) -> Option<usize>
+pub(crate) fn text_length(words: &[u64]) -> Option<usize>
     requires { length words.now < 2 ^ 60 }
-    ensures { result ≡ length_in words.now }
+    ensures length { result ≡ length_in words.now }
+    ensures within { IfSome result (λ n. n ≤ 7 * length words.now) }
 {
     let count = words.len();
     if count == 0 {
@@ -21,7 +22,7 @@ pub fn text_length(words: &[u64]) -> Option<usize>
 }
 
 /// Copies bytes of these words, seven of each, from byte `at` on: as many as `out` takes.
-pub fn read_bytes(words: &[u64], at: usize, out: &mut [u8])
+pub(crate) fn read_bytes(words: &[u64], at: usize, out: &mut [u8])
     requires few { length words.now < 2 ^ 60 }
     requires inside { at + length out.old ≤ 7 * length words.now }
     ensures { out.new ≡ take (length out.old) (drop at (bytes_of words.now)) }

@@ -45,7 +45,18 @@ fn last_word(bytes: &[u8]) -> u64
     ensures word { result ≡ last_of bytes.now }
     ensures small { result < 2 ^ 59 }
 {
-    number_of(bytes) + ((bytes.len() as u64) << 56)
+    counted(number_of(bytes), bytes.len())
+}
+
+/// Returns the last word of a text that has this number of `n` bytes there.
+#[inline(always)]
+pub(crate) fn counted(number: u64, n: usize) -> u64
+    requires few { n ≤ 7 }
+    requires number { number < 2 ^ 56 }
+    ensures word { result ≡ number + 2 ^ 56 * n }
+    ensures small { result < 2 ^ 59 }
+{
+    number + ((n as u64) << 56)
 }
 
 // Returns the number with these digits to the base 256, the lowest first.

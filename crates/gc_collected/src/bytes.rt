@@ -4,16 +4,25 @@ ghost use Rattle.std.specs.Prelude.{ℕ, ◌≡◌, ◌≢◌, ◌<◌, ◌≤�
 ghost use Rattle.gc_bytes.specs.Text.{fields_for as fields_in, spelled};
 ghost use Rattle.gc_graph.specs.declared.reply.Reply.{Reply};
 ghost use Rattle.gc_roots.specs.Twins.{AsksForLook};
-ghost use Rattle.gc_collected.specs.Numbers.{new_numbers_step};
+ghost use Rattle.gc_collected.specs.Numbers.{new_numbers_step, text_in};
 ghost use Rattle.gc_collected.specs.Internal.Numbered.{Sources};
 
 use crate::collected_heap::CollectedHeap;
 use crate::numbers::NumberRow;
-use gc_bytes::{fields_for, spelled_word, texts_are_read_again};
+use gc_bytes::{Text, fields_for, spelled_word, texts_are_read_again};
 use gc_graph::{NoMemory, Reply};
 use gc_heap::Heap;
 
 impl CollectedHeap {
+    /// Returns the text that root `s` refers to, or `None` if it refers to no raw object, or to one whose words are no text.
+    #[inline(always)]
+    pub fn text_root(&self, s: u32) -> Option<Text<'_>>
+        requires { s < length self.now.core.heap.graph.roots }
+        ensures { result ≡ text_in self.now.core.heap.graph s }
+    {
+        Text::of(self.raw_numbers_root(s)?)
+    }
+
     /// Makes a raw object of this kind, whose fields are a text with these bytes, and sets root `d` to a reference to it. This is a `new_raw_at_root`
     /// followed, in rising order, by mutator `m`'s `put_plain` for each word of the text, in one call. Returns `Made`, or `Full` if there is no room; then
     /// nothing has changed. Returns `NoMemory` only while a collection is open; the heap is then unchanged.
