@@ -3,7 +3,7 @@ use Rattle.std.proofs.Common.{◌≡◌, ℕ, zero, suc, ◌+◌, ◌-◌, ◌*�
 use Rattle.std.specs.Int.{to_le_bytes, w64}
 use Rattle.std.proofs.Math.Nat.{pow-le-pow_right, pow-suc}
 use Rattle.std.proofs.lemmas.List.{append-nil, append_assoc, drop-append-le, drop_more, length-append, length-set, take-append-le, take_all, take_more_set}
-use Rattle.std.proofs.lemmas.Nat.{mod-pow-add, pow-add, shr-shr}
+use Rattle.std.proofs.lemmas.Nat.{field_of, mod-pow-add, pow-add, shr-shr}
 use Rattle.gc_bytes.specs.Text.{AreBytes, number_of, digits, bytes_of}
 
 -- ---- numbers
@@ -266,3 +266,14 @@ number_in_two words at n many few less =
     ∙ ap (λ x. low % p + p * x) two
     ∙ (let e : low % p + p * (high % 2 ^ (8 * rest)) ≡ low % p + high % 2 ^ (8 * rest) * p = omega arith in e)
     )
+
+-- a word has the digits of what is left of it below so many
+pub digits_below : (n w : ℕ) → digits n w ≡ digits n (w % 2 ^ (8 * n))
+unfolding digits
+digits_below zero w = refl
+digits_below (suc n) w =
+    let whole : w % 2 ^ (8 * suc n) ≡ w % 2 ^ (8 * n + 8) = ap (λ k. w % 2 ^ k) (let e : 8 * suc n ≡ 8 * n + 8 = omega arith in e) in
+    let parts = mod-pow-add w (8 * n) 8 in
+    let first : w % 2 ^ (8 * suc n) % 256 ≡ w % 256 = ap (λ x. x % 256) (whole ∙ parts) ∙ (let e : (w / 256 % 2 ^ (8 * n) * 256 + w % 256) % 256 ≡ w % 256 = omega arith in e) in
+    let rest : w % 2 ^ (8 * suc n) / 256 ≡ w / 256 % 2 ^ (8 * n) = ap (λ x. x / 256) whole ∙ field_of w (8 * n) 8 in
+    ap (λ d. d ∷ digits n (w / 256)) (sym first) ∙ ap (λ ds. w % 2 ^ (8 * suc n) % 256 ∷ ds) (digits_below n (w / 256) ∙ ap (digits n) (sym rest))

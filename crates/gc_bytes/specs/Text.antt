@@ -23,6 +23,10 @@ digits (suc n) w = w % 256 ∷ digits n (w / 256)
 abbrev pub fields_for : ℕ → ℕ
 fields_for n = (n + 6) / 7
 
+-- the number of bytes that 65,535 fields have
+abbrev pub most_bytes : ℕ
+most_bytes = 458745
+
 -- the last word says in bits 56 to 58 how many bytes it has
 abbrev pub last_word : List ℕ → ℕ
 last_word bytes = number_of bytes + 2 ^ 56 * length bytes

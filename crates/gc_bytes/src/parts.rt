@@ -83,9 +83,9 @@ fn bytes_at(words: &[u64], at: usize, n: usize) -> u64
     }
 }
 
-// Returns what the word has in its n lowest bytes.
+/// Returns what the word has in its n lowest bytes.
 #[inline(always)]
-fn low(word: u64, n: usize) -> u64
+pub(crate) fn low(word: u64, n: usize) -> u64
     requires { n ≤ 7 }
     ensures value { result ≡ word % 2 ^ (8 * n) }
     ensures small { result < 2 ^ (8 * n) }

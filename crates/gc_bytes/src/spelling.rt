@@ -3,6 +3,9 @@
 ghost use Rattle.std.specs.Prelude.{◌≡◌, ◌<◌, ◌≤◌, ◌+◌, ◌*◌, ◌^◌, get_or, length, take};
 ghost use Rattle.gc_bytes.specs.Text.{fields_for as fields_in, last_word as last_of, number_of as number_in, spelled};
 
+/// The number of bytes in the longest text: those that 65,535 fields have.
+pub const MOST_BYTES: usize = 458_745;
+
 /// Returns the number of fields that so many bytes take.
 #[inline(always)]
 pub fn fields_for(bytes: usize) -> usize

@@ -1,11 +1,10 @@
 //! Texts of bytes in raw objects, by places and through no root.
 
 ghost use Rattle.std.specs.Prelude.{ℕ, ◌≡◌, ◌≢◌, ◌<◌, ◌≤◌, IfOk, IsSome, OnErr, length};
-ghost use Rattle.gc_bytes.specs.Text.{fields_for as fields_in, spelled};
+ghost use Rattle.gc_bytes.specs.Text.{most_bytes, spelled};
 ghost use Rattle.gc_graph.specs.declared.reply.Reply.{Reply};
 ghost use Rattle.gc_roots.specs.Twins.{AsksForLook};
 ghost use Rattle.gc_collected.specs.Numbers.{new_numbers_step, text_in};
-ghost use Rattle.gc_collected.specs.Internal.Numbered.{Sources};
 
 use crate::collected_heap::CollectedHeap;
 use crate::numbers::NumberRow;
@@ -29,7 +28,7 @@ impl CollectedHeap {
     pub fn new_bytes(&mut self, m: u8, d: u32, kind: u8, bytes: &[u8]) -> Result<Reply, NoMemory>
         requires mutator { m < self.old.core.mutators }
         requires object { d < length self.old.core.heap.graph.roots }
-        requires few { length bytes.now ≤ 458745 }
+        requires few { length bytes.now ≤ most_bytes }
         ensures step { IfOk result (λ reply. new_numbers_step self.old.core m d kind (spelled bytes.now) ≡ (reply, self.new.core)) }
         ensures refused { OnErr result (self.new ≡ self.old) }
         ensures open { OnErr result (IsSome self.old.core.collection) }
@@ -53,7 +52,7 @@ struct Bytes<'a> {
 impl NumberRow for Bytes<'_> {
     ghost names = { λ row. (0, 0) };
 
-    ghost is_row = { λ row sources. length row.bytes.now ≤ 458745 };
+    ghost is_row = { λ row sources. length row.bytes.now ≤ most_bytes };
 
     ghost numbers = { λ row sources. spelled row.bytes.now };
 

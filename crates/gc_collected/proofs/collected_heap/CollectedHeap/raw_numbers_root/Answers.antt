@@ -20,7 +20,7 @@ pub returns-then-is_raw-clause-numbers : goal.returns-then-is_raw-clause-numbers
 returns-then-is_raw-clause-numbers c =
     let header = c.in_ok-header.header in
     let words = c.in_ok-header.words.now in
-    let raw : header.raw ≡ true = c.if-is_raw.true in
+    let raw : header.raw ≡ true = sym c.is_raw.ensures ∙ c.if-is_raw.true in
     sym (
       ap (λ (s : State). raw_numbers s.heap.graph (root_at c.args.s) 0) (sym (core_is c.self.view_is))
       ∙ ap numbers_in (sym c.in_ok-header.ensures.is)
