@@ -2,13 +2,13 @@
 use Rattle.std.proofs.lemmas.Grind.{common_steps}
 use Rattle.std.proofs.lemmas.Bool.Decides.{nat_tests}
 use Rattle.std.proofs.lemmas.Bool.{cases_lt}
-use Rattle.std.proofs.Common.{◌≡◌, ℕ, zero, suc, ◌+◌, ◌-◌, ◌*◌, ◌/◌, ◌^◌, ◌<◌, ◌≤◌, List, [], ◌∷◌, ◌++◌, length, get_or, take, drop, ◌⊎◌, Some, None, inl, inr, refl, ap, sym, ◌∙◌, arith}
+use Rattle.std.proofs.Common.{Option, ◌≡◌, ℕ, zero, suc, ◌+◌, ◌-◌, ◌*◌, ◌/◌, ◌^◌, ◌<◌, ◌≤◌, List, [], ◌∷◌, ◌++◌, length, get_or, take, drop, ◌⊎◌, Some, None, inl, inr, refl, ap, sym, ◌∙◌, arith}
 use Rattle.std.specs.List.{All}
 use Rattle.std.specs.Option.{option_map}
 use Rattle.std.proofs.lemmas.List.{append-nil, drop-drop, get_or_default, length-drop, length-take-le, take-append-drop}
 use Rattle.std.proofs.lemmas.Nat.{pow-add}
 use Rattle.gc_bytes.specs.Text.{AreBytes, bytes_of, counted, digits, fields_for, last_word, number_of, spelled, spelled_in, text_length, text_of}
-use Rattle.gc_bytes.proofs.Digits.{digits_of, number_below, take-digits, take_on}
+use Rattle.gc_bytes.proofs.Digits.{digits_of, length-bytes_of, number_below, take-digits, take_on}
 
 -- ---- lists
 
@@ -167,3 +167,26 @@ all_numbers bs all k d less =
     let below : get_or (spelled bs) k 0 < 2 ^ 63 = word_below bs all k (omega arith) in
     let same = get_or_default (spelled bs) k d 0 less in
     omega arith
+
+-- ---- lengths
+
+counted_within : (n k m : ℕ) → counted n k ≡ Some m → m ≤ 7 * suc n
+counted_within n k m is = grind (arith, common_steps, nat_tests)
+
+pub length_within : (ws : List ℕ) (n : ℕ) → text_length ws ≡ Some n → n ≤ 7 * length ws
+unfolding text_length
+length_within [] n is = (let e : 0 ≡ n = cc in omega arith)
+length_within (w ∷ rest) n is = counted_within (length rest) (get_or (w ∷ rest) (length rest) 0 / 2 ^ 56) n is
+
+-- a text with so many bytes says that it has them
+pub told_length : (ws : List ℕ) (count : ℕ) → option_map length (text_of ws) ≡ Some count → text_length ws ≡ Some count
+told_length ws count is = go (text_length ws) refl is
+  where
+    go : (o : Option ℕ) → text_length ws ≡ o → option_map length (option_map (λ n. take n (bytes_of ws)) o) ≡ Some count → o ≡ Some count
+    go None told said = absurd (let no : None ≡ Some count = said in cc)
+    go (Some n) told said =
+        let all = length-bytes_of ws in
+        let within = length_within ws n told in
+        let long : length (take n (bytes_of ws)) ≡ n = length-take-le n (bytes_of ws) (omega arith) in
+        let same : length (take n (bytes_of ws)) ≡ count = cc in
+        ap Some (sym long ∙ same)

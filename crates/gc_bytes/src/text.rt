@@ -1,10 +1,15 @@
 //! A text of bytes, as the words of a raw object have it.
 
-ghost use Rattle.std.specs.Prelude.{◌≡◌, ◌<◌, ◌≤◌, ◌+◌, ◌*◌, ◌^◌, ◌++◌, ℕ, List, get_or, length, slice_range, take};
+ghost use Rattle.std.specs.Prelude.{◌≡◌, ◌≢◌, ◌<◌, ◌≤◌, ◌+◌, ◌*◌, ◌^◌, ◌++◌, ℕ, List, IsFalse, IsTrue, Some, get_or, length, slice_range, take};
+ghost use Rattle.std.specs.Option.{option_map};
+ghost use Rattle.std.specs.Cmp.Lexicographic.{slice_cmp};
+ghost use Rattle.std.specs.Ordering.{nat_cmp};
 ghost use Rattle.gc_bytes.specs.Text.{bytes_of, fields_for as fields_in, spelled, text_of};
 
+use crate::comparing::compare_bytes;
 use crate::parts::{joined_word, part_word};
 use crate::reading::{read_bytes, text_length};
+use std::cmp::Ordering;
 use std::marker::Model;
 
 /// A text of bytes that the words of a raw object are. Contracts see the list of its bytes.
@@ -32,6 +37,16 @@ impl<'a> Text<'a> {
         let count = text_length(words)?;
         Some(Text { words, count })
     }
+
+    /// Returns the text that these words are, which is known to have `count` bytes. Reads no word.
+    #[inline(always)]
+    pub fn with_length(words: &'a [u64], count: usize) -> Text<'a>
+        requires few { length words.now < 2 ^ 59 }
+        requires counted { option_map length (text_of words.now) ≡ Some count }
+        ensures { Some result ≡ text_of words.now }
+    {
+        Text { words, count }
+    }
 }
 
 impl Text<'_> {
@@ -49,6 +64,24 @@ impl Text<'_> {
         ensures { out.new ≡ slice_range self.now at (at + length out.old) }
     {
         read_bytes(self.words, at, out);
+    }
+
+    /// Returns the order of both texts: that of unsigned bytes, in which a shorter beginning comes first.
+    pub fn compare(&self, other: &Text<'_>) -> Ordering
+        ensures { result ≡ slice_cmp nat_cmp self.now other.now }
+    {
+        compare_bytes(self.words, self.count, other.words, other.count)
+    }
+
+    /// Returns whether both texts have the same bytes.
+    pub fn is_same(&self, other: &Text<'_>) -> bool
+        ensures same { IsTrue result → self.now ≡ other.now }
+        ensures other { IsFalse result → self.now ≢ other.now }
+    {
+        if self.len() != other.len() {
+            return false;
+        }
+        matches!(self.compare(other), Ordering::Equal)
     }
 
     /// Returns word `i` of the text that has `count` of these bytes, from byte `at` on.

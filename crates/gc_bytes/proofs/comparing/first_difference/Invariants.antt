@@ -5,5 +5,5 @@ use Rattle.std.specs.Ordering.{nat_cmp}
 use Rattle.gc_bytes.specs.Text.{digits}
 use Rattle.gc_bytes.proofs.comparing.first_difference.Given as goal
 
-abbrev pub invariant-loop-_i : goal.invariant-loop-_i
-invariant-loop-_i l = slice_cmp nat_cmp (digits (l.k - l._i) l.x) (digits (l.k - l._i) l.y) ≡ slice_cmp nat_cmp (digits l.k l.a) (digits l.k l.b)
+abbrev pub invariant-loop-i : goal.invariant-loop-i
+invariant-loop-i l = slice_cmp nat_cmp (digits (l.k - l.i) l.x) (digits (l.k - l.i) l.y) ≡ slice_cmp nat_cmp (digits l.k l.a) (digits l.k l.b)
