@@ -91,9 +91,11 @@ static void command_by_places(int call)
         EXPECT(gcflip_fill(&heap, 0, 18, 0, 0, 16) == GCFLIP_DONE);
     if (call == 19)
         EXPECT(gcflip_copy_fields(&heap, 0, 18, 0, 16, 0, 0) == GCFLIP_NO_OBJECT);
+    if (call == 20)
+        EXPECT(gcflip_new_bytes(&heap, 0, 0, 1, (const uint8_t *)"text", 4) == GCFLIP_MADE);
 }
 
-enum { NAMING_ROOTS = 6, WITHOUT_LINES = 7, BY_PLACES = 20 };
+enum { NAMING_ROOTS = 6, WITHOUT_LINES = 7, BY_PLACES = 21 };
 
 /* Opens a heap with extra roots, and names one by each call in turn. Then it makes a reference of an address, and last it names roots by their
  * places. */
@@ -246,6 +248,7 @@ static void make_calls_without_lines(void)
     REPLIES(gcflip_put_sure(&heap, 0, 35, 0, 34), GCFLIP_DONE, false);
     REPLIES(gcflip_copy_fields(&heap, 0, 35, 1, 35, 0, 1), GCFLIP_DONE, false);
     REPLIES(gcflip_fill(&heap, 0, 35, 0, 2, 33), GCFLIP_DONE, false);
+    REPLIES(gcflip_new_bytes(&heap, 0, 34, 1, (const uint8_t *)"text", 4), GCFLIP_MADE, false);
     REPLIES(gcflip_gather(&heap, 0, 35, 1, 32, 3), GCFLIP_MADE, false);
     REPLIES(gcflip_spread(&heap, 32, 35, 3), GCFLIP_DONE, false);
     REPLIES(gcflip_refer(&heap, 33, 1), GCFLIP_DONE, false);

@@ -5,7 +5,7 @@ import ctypes
 import enum
 import operator
 import os
-from ctypes import POINTER, c_bool, c_size_t, c_uint8, c_uint16, c_uint32, c_uint64, c_void_p
+from ctypes import POINTER, c_bool, c_char_p, c_int32, c_size_t, c_uint8, c_uint16, c_uint32, c_uint64, c_void_p
 from typing import Any, Dict, List, Sequence
 
 from .errors import OutOfRange

@@ -5,7 +5,7 @@ use Rattle.std.proofs.lemmas.Bool.{cases_lt}
 use Rattle.std.proofs.Common.{Option, ◌≡◌, ℕ, zero, suc, ◌+◌, ◌-◌, ◌*◌, ◌/◌, ◌^◌, ◌<◌, ◌≤◌, List, [], ◌∷◌, ◌++◌, length, get_or, take, drop, ◌⊎◌, Some, None, inl, inr, refl, ap, sym, ◌∙◌, arith}
 use Rattle.std.specs.List.{All}
 use Rattle.std.specs.Option.{option_map}
-use Rattle.std.proofs.lemmas.List.{append-nil, drop-drop, get_or_default, length-drop, length-take-le, take-append-drop}
+use Rattle.std.proofs.lemmas.List.{append-nil, drop-drop, get_or_default, length-drop, length-take, length-take-le, take-append-drop}
 use Rattle.std.proofs.lemmas.Nat.{pow-add}
 use Rattle.gc_bytes.specs.Text.{AreBytes, bytes_of, counted, digits, fields_for, last_word, number_of, spelled, spelled_in, text_length, text_of}
 use Rattle.gc_bytes.proofs.Digits.{digits_of, length-bytes_of, number_below, take-digits, take_on}
@@ -190,3 +190,15 @@ told_length ws count is = go (text_length ws) refl is
         let long : length (take n (bytes_of ws)) ≡ n = length-take-le n (bytes_of ws) (omega arith) in
         let same : length (take n (bytes_of ws)) ≡ count = cc in
         ap Some (sym long ∙ same)
+
+pub text_short : (ws bs : List ℕ) → text_of ws ≡ Some bs → length bs ≤ 7 * length ws
+text_short ws bs is = go (text_length ws) is
+  where
+    go : (o : Option ℕ) → option_map (λ n. take n (bytes_of ws)) o ≡ Some bs → length bs ≤ 7 * length ws
+    go None said = absurd (let no : None ≡ Some bs = said in cc)
+    go (Some n) said =
+        let same : take n (bytes_of ws) ≡ bs = cc in
+        let all = length-bytes_of ws in
+        let few = length-take n (bytes_of ws) in
+        let e = ap length same in
+        omega arith

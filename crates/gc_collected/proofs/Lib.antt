@@ -32,6 +32,7 @@ mod Sources
 mod SourcesPut
 mod Starts
 mod Stepped
+mod Texts
 mod Together
 mod Unwritten
 mod ValuesPut

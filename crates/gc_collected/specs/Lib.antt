@@ -1,3 +1,4 @@
+pub mod Bytes
 pub mod Checking
 pub mod Collected
 pub mod CollectedHeap

@@ -1,12 +1,8 @@
--- Raw objects whose fields take numbers in one call, through no root, and texts of bytes in raw objects.
-use Rattle.std.specs.Prelude.{ℕ, List, length, map, Option}
-use Rattle.std.specs.Option.{option_and_then}
-use Rattle.gc_bytes.specs.Text.{text_of}
-use Rattle.gc_graph.specs.Graph.{Graph}
+-- Raw objects whose fields take numbers in one call, through no root.
+use Rattle.std.specs.Prelude.{ℕ, List, length, map}
 use Rattle.gc_graph.specs.declared.command.Op.TheVariants.{NewRaw}
 use Rattle.gc_graph.specs.declared.reply.Reply.{Reply}
 use Rattle.gc_heap.specs.Places.{root_at}
-use Rattle.gc_heap.specs.Raws.{raw_numbers}
 use Rattle.gc_plan.specs.State.{State}
 use Rattle.gc_plan.specs.Steps.{mutate}
 use Rattle.gc_collected.specs.Giving.{given, gives_step}
@@ -21,7 +17,3 @@ abbrev pub new_numbers_step : State → ℕ → ℕ → ℕ → List ℕ → Rep
 new_numbers_step old m d kind numbers =
     let made = mutate old m (NewRaw (root_at d) kind (length numbers)) in
     (made.0, given made.0 made.1 m d (map Number numbers))
-
--- the bytes of the text that root p refers to, if it refers to one
-abbrev pub text_in : Graph → ℕ → Option (List ℕ)
-text_in g p = option_and_then text_of (raw_numbers g (root_at p) 0)

@@ -10,11 +10,8 @@ use Rattle.gc_heap.specs.Places.{root_at}
 use Rattle.gc_heap.specs.Raws.{numbers_in, raw_numbers}
 use Rattle.gc_plan.specs.State.{State}
 use Rattle.gc_collected.proofs.Core.{core_is}
+use Rattle.gc_collected.proofs.Texts.{same_numbers}
 use Rattle.gc_collected.proofs.collected_heap.CollectedHeap.raw_numbers_root.Goals as goal
-
-same_numbers : (words : List ℕ) (h : Header) → h.raw ≡ true → map number_of (map (field_value h) words) ≡ words
-same_numbers [] h raw = refl
-same_numbers (w ∷ rest) h raw = ap (λ (b : Bool). number_of (if b then Num w else value_of w) ∷ map number_of (map (field_value h) rest)) raw ∙ ap (λ ws. w ∷ ws) (same_numbers rest h raw)
 
 pub returns-then-is_raw-clause-numbers : goal.returns-then-is_raw-clause-numbers
 returns-then-is_raw-clause-numbers c =
