@@ -51,7 +51,7 @@ static void spelled(uint32_t count)
         uint64_t wanted = i + 1 == fields ? (uint64_t)(count - 7 * i) << 56 : 0;
         for (uint32_t k = 7 * i; k < count && k < 7 * i + 7; k++)
             wanted += (uint64_t)bytes[k] << 8 * (k - 7 * i);
-        EXPECT(gcflip_peek(&heap, 16, i, &view) == GCFLIP_NUMBER && view.number == wanted);
+        EXPECT(gcflip_get(&heap, 15, 16, i, &number) == GCFLIP_NUMBER && number == wanted);
     }
     has_bytes(16, bytes, count);
     for (uint32_t at = 0; at <= count; at++)
@@ -112,6 +112,45 @@ static void orders(void)
         }
 }
 
+/* Each two lengths joined, and each part of a text: the result in a root of its own, or in that of a source. */
+static void joins_and_parts(void)
+{
+    for (uint32_t n = 0; n <= 24; n++)
+        for (uint32_t m = 0; m <= 24; m++)
+            for (uint32_t d = 0; d < 3; d++) {
+                open_heap(64, GCFLIP_ALONG);
+                EXPECT(gcflip_new_bytes(&heap, 0, 0, 1, bytes, n) == GCFLIP_MADE && gcflip_new_bytes(&heap, 0, 1, 2, bytes + n, m) == GCFLIP_MADE);
+                EXPECT(gcflip_bytes_join(&heap, 1, d, KIND, 0, 1) == GCFLIP_MADE);
+                has_bytes(d, bytes, n + m);
+                EXPECT(gcflip_look(&heap, d, &view) == GCFLIP_RAW_OBJECT && view.kind == KIND && view.count == (n + m + 6) / 7);
+                if (d != 0)
+                    has_bytes(0, bytes, n);
+                if (d != 1)
+                    has_bytes(1, bytes + n, m);
+                close_heap();
+            }
+    for (uint32_t at = 0; at <= 24; at++)
+        for (uint32_t n = 0; n <= 24 - at; n++)
+            for (uint32_t d = 0; d < 2; d++) {
+                open_heap(64, GCFLIP_ALONG);
+                EXPECT(gcflip_new_bytes(&heap, 0, 0, 1, bytes, 24) == GCFLIP_MADE && gcflip_bytes_part(&heap, 1, d, KIND, 0, at, n) == GCFLIP_MADE);
+                has_bytes(d, bytes + at, n);
+                if (d != 0)
+                    has_bytes(0, bytes, 24);
+                close_heap();
+            }
+    open_heap(64, GCFLIP_ALONG);
+    EXPECT(gcflip_new_bytes(&heap, 0, 0, 1, bytes, 20) == GCFLIP_MADE && gcflip_bytes_join(&heap, 0, 0, KIND, 0, 0) == GCFLIP_MADE);
+    EXPECT(gcflip_bytes_part(&heap, 0, 1, KIND, 0, 20, 20) == GCFLIP_MADE);
+    has_bytes(1, bytes, 20);
+    close_heap();
+    open_heap(70000, GCFLIP_ALONG);
+    EXPECT(gcflip_new_bytes(&heap, 0, 0, 1, bytes, GCFLIP_MOST_BYTES - 8) == GCFLIP_MADE && gcflip_new_bytes(&heap, 0, 1, 1, bytes, 8) == GCFLIP_MADE);
+    EXPECT(gcflip_bytes_join(&heap, 0, 2, KIND, 0, 1) == GCFLIP_FULL && gcflip_look(&heap, 2, &view) == GCFLIP_NIL);
+    EXPECT(gcflip_new_bytes(&heap, 0, 1, 1, bytes, 9) == GCFLIP_MADE && gcflip_bytes_join(&heap, 0, 2, KIND, 0, 1) == GCFLIP_OUT_OF_RANGE);
+    close_heap();
+}
+
 /* Raw objects that were made otherwise: only the last field tells whether one is a text, and no other bit above the bytes counts. */
 static void made_otherwise(void)
 {
@@ -142,6 +181,10 @@ static void refused_places(uint32_t p)
     EXPECT(gcflip_bytes_length(&heap, p, &length) == GCFLIP_OUT_OF_RANGE && gcflip_bytes_read(&heap, p, 0, found, 1) == GCFLIP_OUT_OF_RANGE);
     EXPECT(gcflip_bytes_same(&heap, p, 16) == GCFLIP_OUT_OF_RANGE && gcflip_bytes_same(&heap, 16, p) == GCFLIP_OUT_OF_RANGE);
     EXPECT(gcflip_bytes_compare(&heap, p, 16, &order) == GCFLIP_OUT_OF_RANGE && gcflip_bytes_compare(&heap, 16, p, &order) == GCFLIP_OUT_OF_RANGE);
+    EXPECT(gcflip_bytes_join(&heap, 0, p, KIND, 16, 16) == GCFLIP_OUT_OF_RANGE && gcflip_bytes_join(&heap, p, 0, KIND, 16, 16) == GCFLIP_OUT_OF_RANGE);
+    EXPECT(gcflip_bytes_join(&heap, 0, 0, KIND, p, 16) == GCFLIP_OUT_OF_RANGE && gcflip_bytes_join(&heap, 0, 0, KIND, 16, p) == GCFLIP_OUT_OF_RANGE);
+    EXPECT(gcflip_bytes_part(&heap, 0, p, KIND, 16, 0, 1) == GCFLIP_OUT_OF_RANGE && gcflip_bytes_part(&heap, p, 0, KIND, 16, 0, 1) == GCFLIP_OUT_OF_RANGE);
+    EXPECT(gcflip_bytes_part(&heap, 0, 0, KIND, p, 0, 1) == GCFLIP_OUT_OF_RANGE);
     EXPECT(length == 77 && order == 77 && found[0] == 77);
 }
 
@@ -158,7 +201,13 @@ static void refused_numbers(void)
         EXPECT(gcflip_bytes_length(&heap, p, &length) == GCFLIP_NO_OBJECT && gcflip_bytes_read(&heap, p, 0, found, 0) == GCFLIP_NO_OBJECT);
         EXPECT(gcflip_bytes_same(&heap, p, 16) == GCFLIP_NO_OBJECT && gcflip_bytes_same(&heap, 16, p) == GCFLIP_NO_OBJECT);
         EXPECT(gcflip_bytes_compare(&heap, p, 16, &order) == GCFLIP_NO_OBJECT && gcflip_bytes_compare(&heap, 16, p, &order) == GCFLIP_NO_OBJECT);
+        EXPECT(gcflip_bytes_join(&heap, 0, 0, KIND, p, 16) == GCFLIP_NO_OBJECT && gcflip_bytes_join(&heap, 0, 0, KIND, 16, p) == GCFLIP_NO_OBJECT);
+        EXPECT(gcflip_bytes_part(&heap, 0, 0, KIND, p, 0, 0) == GCFLIP_NO_OBJECT);
     }
+    EXPECT(gcflip_bytes_part(&heap, 0, 0, KIND, 16, 0, 31) == GCFLIP_NO_FIELD && gcflip_bytes_part(&heap, 0, 0, KIND, 16, 31, 0) == GCFLIP_NO_FIELD);
+    EXPECT(gcflip_bytes_part(&heap, 0, 0, KIND, 16, 1, UINT32_MAX) == GCFLIP_NO_FIELD && gcflip_bytes_part(&heap, 0, 0, KIND, 16, UINT32_MAX, 1) == GCFLIP_NO_FIELD);
+    EXPECT(gcflip_bytes_join(&heap, 0, 0, 256, 16, 16) == GCFLIP_OUT_OF_RANGE && gcflip_bytes_join(&heap, MUTATORS, 0, KIND, 16, 16) == GCFLIP_OUT_OF_RANGE);
+    EXPECT(gcflip_bytes_part(&heap, 0, 0, 256, 16, 0, 1) == GCFLIP_OUT_OF_RANGE && gcflip_bytes_part(&heap, MUTATORS, 0, KIND, 16, 0, 1) == GCFLIP_OUT_OF_RANGE);
     EXPECT(gcflip_bytes_read(&heap, 16, 0, found, 31) == GCFLIP_NO_FIELD && gcflip_bytes_read(&heap, 16, 1, found, 30) == GCFLIP_NO_FIELD);
     EXPECT(gcflip_bytes_read(&heap, 16, 31, found, 0) == GCFLIP_NO_FIELD && gcflip_bytes_read(&heap, 16, UINT32_MAX, found, 1) == GCFLIP_NO_FIELD);
     EXPECT(length == 77 && order == 77 && found[0] == 77 && found[30] == 77);
@@ -179,7 +228,7 @@ static void while_open(uint8_t checking, uint32_t steps)
 {
     gcflip_log_entry entry;
     size_t logged = 77;
-    open_heap(120, checking);
+    open_heap(160, checking);
     EXPECT(gcflip_new_bytes(&heap, 0, 16, KIND, bytes, 50) == GCFLIP_MADE); /* at 1 */
     EXPECT(gcflip_heap_step_begin(&heap) == GCFLIP_BEGUN);
     if (steps > 0)
@@ -188,11 +237,14 @@ static void while_open(uint8_t checking, uint32_t steps)
     EXPECT(gcflip_heap_log_length(&heap, 1, &logged) == GCFLIP_DONE && logged == 3);
     for (size_t k = 0; k < 3; k++)
         EXPECT(gcflip_heap_log_entry(&heap, 1, k, &entry) == GCFLIP_DONE && entry.object == 11 && entry.field == k);
+    EXPECT(gcflip_bytes_join(&heap, 0, 0, KIND, 16, SLOTS) == GCFLIP_MADE && gcflip_bytes_part(&heap, 0, 1, KIND, 0, 45, 20) == GCFLIP_MADE);
     has_bytes(16, bytes, 50);
     has_bytes(SLOTS, bytes + 7, 20);
-    EXPECT(gcflip_heap_work(&heap, 1000, &work) == GCFLIP_DONE && work.last == GCFLIP_FLIPPED && work.pairs == 2);
+    EXPECT(gcflip_heap_work(&heap, 1000, &work) == GCFLIP_DONE && work.last == GCFLIP_FLIPPED && work.pairs == 4);
     has_bytes(16, bytes, 50);
     has_bytes(SLOTS, bytes + 7, 20);
+    EXPECT(gcflip_bytes_read(&heap, 0, 50, found, 20) == GCFLIP_DONE && memcmp(found, bytes + 7, 20) == 0);
+    EXPECT(gcflip_bytes_read(&heap, 1, 0, found, 20) == GCFLIP_DONE && memcmp(found, bytes + 45, 5) == 0 && memcmp(found + 5, bytes + 7, 15) == 0);
     close_heap();
 }
 
@@ -206,7 +258,8 @@ static void closed(void)
         const uint32_t p = beyond[k];
         EXPECT(gcflip_new_bytes(&heap, p, p, p, bytes, 1) == GCFLIP_CLOSED && gcflip_bytes_length(&heap, p, &length) == GCFLIP_CLOSED);
         EXPECT(gcflip_bytes_read(&heap, p, p, found, 1) == GCFLIP_CLOSED && gcflip_bytes_same(&heap, p, p) == GCFLIP_CLOSED);
-        EXPECT(gcflip_bytes_compare(&heap, p, p, &order) == GCFLIP_CLOSED);
+        EXPECT(gcflip_bytes_compare(&heap, p, p, &order) == GCFLIP_CLOSED && gcflip_bytes_join(&heap, p, p, p, p, p) == GCFLIP_CLOSED);
+        EXPECT(gcflip_bytes_part(&heap, p, p, p, p, p, p) == GCFLIP_CLOSED);
     }
     EXPECT(heap.at == NULL && length == 77 && order == 77 && found[0] == 77);
 }
@@ -219,6 +272,7 @@ int main(void)
         spelled(count);
     longest();
     orders();
+    joins_and_parts();
     made_otherwise();
     refusals();
     for (uint8_t checking = GCFLIP_ALONG; checking <= GCFLIP_AT_FLIP; checking++)

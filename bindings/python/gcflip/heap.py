@@ -549,6 +549,16 @@ class Heap(quick.Quickened):
         data = bytes(data)
         self._call_roots("new_bytes", mutator, root, kind, data, len(data))
 
+    def bytes_join(self, mutator: int, root: int, kind: int, first: int, second: int) -> None:
+        """Makes a text with the bytes of the texts of roots `first` and `second`, one behind the other, and puts a reference to it into the root, which may be one
+        of both. No byte leaves the heap. Raises NoObject if one of both refers to no text, and what `new_bytes` raises."""
+        self._call_roots("bytes_join", mutator, root, kind, first, second)
+
+    def bytes_part(self, mutator: int, root: int, kind: int, source: int, at: int, count: int) -> None:
+        """Makes a text with `count` bytes of the text of root `source`, from byte `at` on, and puts a reference to it into the root, which may be `source`. No byte
+        leaves the heap. Raises NoObject if it refers to no text, NoField if the text has fewer bytes, and what `new_bytes` raises."""
+        self._call_roots("bytes_part", mutator, root, kind, source, at, count)
+
     def bytes_length(self, root: int) -> int:
         """Returns the number of bytes of the text that the root refers to. Raises NoObject if it refers to none."""
         count = ctypes.c_uint32()

@@ -226,6 +226,8 @@ ROOTS: Dict[str, List[Any]] = {
     "same": [PLACE, PLACE],
     "look": [PLACE, POINTER(View)],
     "new_bytes": [c_uint32, PLACE, c_uint32, c_char_p, c_size_t],
+    "bytes_join": [c_uint32, PLACE, c_uint32, PLACE, PLACE],
+    "bytes_part": [c_uint32, PLACE, c_uint32, PLACE, c_uint32, c_uint32],
     "bytes_length": [PLACE, POINTER(c_uint32)],
     "bytes_read": [PLACE, c_uint32, c_void_p, c_size_t],
     "bytes_same": [PLACE, PLACE],

@@ -3,8 +3,7 @@ use Rattle.std.proofs.Common.{◌≡◌, ℕ, ◌+◌, ◌*◌, ◌<◌, ◌≤�
 use Rattle.std.specs.Prelude.{Bool, IsTrue, if◌then◌else◌}
 use Rattle.std.specs.Bool.{then_some}
 use Rattle.std.specs.Option.{option_and_then, option_map}
-use Rattle.std.proofs.lemmas.List.{length-map}
-use Rattle.gc_bytes.specs.Text.{most_bytes, text_of}
+use Rattle.gc_bytes.specs.Text.{text_of}
 use Rattle.gc_graph.specs.Graph.{Graph, Num, Object, Ref, lookup, number_of, root}
 use Rattle.gc_words.specs.Image.{Block, block_at, is_start, object_of_block, objects_of}
 use Rattle.gc_words.specs.Word.{field_value, value_of}
@@ -48,7 +47,7 @@ text_words words fields a n is are = ap text_of_object (object_found words a) �
     go None at = absurd (let no : None ≡ Some n = said None at in cc)
     go (Some b) at = of_block b b.header.raw refl at
 
--- ---- where it lies, and how long it is
+-- ---- where it lies
 
 found_in : (o : Option Object) (text : List ℕ) → text_of_object o ≡ Some text → (object : Object) × (o ≡ Some object)
 found_in None text is = absurd (let no : None ≡ Some text = is in cc)
@@ -60,23 +59,3 @@ text_below s a text sound is at =
     let o = found_in (lookup s.heap.graph.objects a) text is in
     let range = laid_range 1 s.heap.graph.objects (heap_end s) (a, o.0) sound.laid (lookup_in s.heap.graph.objects a o.0 o.1) in
     omega (arith, range.1, at)
-
--- no longer than an object can be
-pub text_few : (s : State) (a : ℕ) (text : List ℕ) → IsSpaceGraph s.size s.heap.free s.heap.graph → text_of_object (lookup s.heap.graph.objects a) ≡ Some text
-    → ((words bytes : List ℕ) → text_of words ≡ Some bytes → length bytes ≤ 7 * length words) → length text ≤ most_bytes
-text_few s a text sound is short =
-    let o = found_in (lookup s.heap.graph.objects a) text is in
-    let object = o.0 in
-    let len = (sound.objects a object (lookup_in s.heap.graph.objects a object o.1)).len in
-    bounded object len (sym (ap text_of_object o.1) ∙ is)
-  where
-    bounded : (object : Object) → length object.fields < 65536 → text_of_object (Some object) ≡ Some text → length text ≤ most_bytes
-    bounded object len said = by_raw object.raw refl
-      where
-        by_raw : (raw : Bool) → object.raw ≡ raw → length text ≤ most_bytes
-        by_raw false raw = absurd (let no : None ≡ Some text = sym (ap (λ r. option_and_then text_of (then_some r (map number_of object.fields))) raw) ∙ said in cc)
-        by_raw true raw =
-            let whole : text_of (map number_of object.fields) ≡ Some text = sym (ap (λ r. option_and_then text_of (then_some r (map number_of object.fields))) raw) ∙ said in
-            let few = short (map number_of object.fields) text whole in
-            let same = length-map object.fields number_of in
-            omega arith

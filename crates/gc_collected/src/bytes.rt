@@ -24,8 +24,10 @@ impl CollectedHeap {
     #[inline(always)]
     pub fn text_root(&self, s: u32) -> Option<Text<'_>>
         requires { s < length self.now.core.heap.graph.roots }
-        ensures { result ≡ text_in self.now.core.heap.graph s }
+        ensures text { result ≡ text_in self.now.core.heap.graph s }
+        ensures few { IfSome result (λ text. length text ≤ most_bytes) }
     {
+        texts_are_read_again();
         Text::of(self.raw_numbers_root(s)?)
     }
 
@@ -125,7 +127,6 @@ impl CollectedHeap {
         ensures apart { IfSome result (λ t. t.object.0 ≢ heap_end self.now.core) }
         ensures few { IfSome result (λ t. t.count ≤ most_bytes) }
     {
-        texts_are_read_again();
         self.is_sound();
         let text = self.text_root(s)?;
         let object = self.address_root(s)?;

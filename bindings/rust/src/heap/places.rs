@@ -1,6 +1,6 @@
 //! Commands on roots by their places.
 
-use super::{found, replied, value_of, Heap, Result, Value, SLOTS};
+use super::{found, replied, value_of, Error, Heap, Result, Value, SLOTS};
 use crate::sys::{self, Field};
 use std::cmp::Ordering;
 use std::ops::Range;
@@ -234,6 +234,27 @@ impl Heap {
     /// `NoMemory`. Then nothing changed.
     pub fn new_bytes(&self, mutator: u8, root: Place, kind: u8, bytes: &[u8]) -> Result<()> {
         replied(self.handle.new_bytes(mutator.into(), root.0, kind.into(), bytes)).map(drop)
+    }
+
+    /// Makes a text with the bytes of the texts of roots `one` and `other`, one behind the other, and puts a reference to it into the root, which may be one of
+    /// both. No other root changes, and no byte leaves the heap.
+    ///
+    /// # Errors
+    ///
+    /// Returns `NoObject` if one of both refers to no text, or the errors of `new_bytes`.
+    pub fn bytes_join(&self, mutator: u8, root: Place, kind: u8, one: Place, other: Place) -> Result<()> {
+        replied(self.handle.bytes_join(mutator.into(), root.0, kind.into(), one.0, other.0)).map(drop)
+    }
+
+    /// Makes a text with these bytes of the text of root `source`, and puts a reference to it into the root, which may be `source`. No other root changes, and no
+    /// byte leaves the heap.
+    ///
+    /// # Errors
+    ///
+    /// Returns `NoObject` if `source` refers to no text, `NoField` if the text has fewer bytes or the range ends before it starts, or the errors of `new_bytes`.
+    pub fn bytes_part(&self, mutator: u8, root: Place, kind: u8, source: Place, part: Range<u32>) -> Result<()> {
+        let count = part.end.checked_sub(part.start).ok_or(Error::NoField)?;
+        replied(self.handle.bytes_part(mutator.into(), root.0, kind.into(), source.0, part.start, count)).map(drop)
     }
 
     /// Returns the number of bytes of the text that the root refers to.
