@@ -572,7 +572,8 @@ class Calls:
 
     def add_place_new_bytes(self):
         d, count = self.place(), self.chance.choice([0, 1, 6, 7, 8, 14, 15, self.chance.randrange(60)])
-        self.add_by_places("place_new_bytes", [d], self.mutator(), d, self.chance.randrange(256), *(self.chance.choice([0, 1, 127, 128, 255]) for _ in range(count)))
+        text = [self.chance.choice([0, 1, 127, 128, 255]) for _ in range(count)]
+        self.add_by_places("place_new_bytes", [d], self.mutator(), d, self.chance.randrange(256), *text)
 
     def text_place(self):
         """Returns a place, mostly of a root with a text."""
@@ -588,7 +589,8 @@ class Calls:
         length = len((self.model.text(s) if s < len(self.model.roots) else None) or b"")
         at = self.chance.choice([0, length, self.chance.randrange(length + 1), self.chance.randrange(length + 1), (1 << 32) - 1])
         left = max(0, length - at)
-        self.add_by_places("place_part", [d, s], self.mutator(), d, self.chance.randrange(256), s, at, self.chance.choice([0, left, left + 1, self.chance.randrange(left + 1), (1 << 32) - 1]))
+        count = self.chance.choice([0, left, left + 1, self.chance.randrange(left + 1), (1 << 32) - 1])
+        self.add_by_places("place_part", [d, s], self.mutator(), d, self.chance.randrange(256), s, at, count)
 
     def add_place_text(self):
         s = self.text_place()
@@ -732,7 +734,8 @@ class Calls:
                       ["place_fill", 0, 0, 1, 0, 0], ["place_copy_fields", beyond, 0, 0, 0, 0, 0], ["place_copy_fields", wide, 0, 0, 0, 0, 0]]
         if "place_join" in self.weights:
             wide = self.chance.choice([256, 1 << 31, (1 << 32) - 1])
-            sized += [["place_new_bytes", beyond, 0, 0], ["place_new_bytes", 0, 0, wide, 5], ["place_join", beyond, 0, 0, 0, 0], ["place_join", 0, 0, wide, 0, 0],
+            sized += [["place_new_bytes", beyond, 0, 0], ["place_new_bytes", 0, 0, wide, 5],
+                      ["place_join", beyond, 0, 0, 0, 0], ["place_join", 0, 0, wide, 0, 0],
                       ["place_part", beyond, 0, 0, 0, 0, 0], ["place_part", 0, 0, wide, 0, 0, 0]]
         if "root_load" not in self.weights or self.model.extra_roots == 0:
             return sized

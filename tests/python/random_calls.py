@@ -83,7 +83,8 @@ def by_places(heap, name, numbers):
     if name == "place_new_with":
         numbers[3:] = [field_sources(numbers[3:])]
     assert call(*numbers) is None
-    return "made" if name in ("place_new", "place_raw", "place_pair", "place_new_from", "place_new_with", "place_gather", "place_new_bytes", "place_join", "place_part") else "done"
+    makes = ("place_new", "place_raw", "place_pair", "place_new_from", "place_new_with", "place_gather", "place_new_bytes", "place_join", "place_part")
+    return "made" if name in makes else "done"
 
 
 def on_frame(heap, name, numbers):

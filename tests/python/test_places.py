@@ -155,17 +155,19 @@ class CommandsByPlaces(unittest.TestCase):
         heap.bytes_part(0, other, 8, one, 54, 6)
         heap.bytes_join(0, last, 9, other, one)
         self.assertEqual((heap.bytes_read(other), heap.bytes_read(last)), (text[54:], text[54:] + text))
-        self.assertEqual([heap.bytes_read(last, at, count) for at, count in ((5, 3), (60, None), (66, 0), (66, None))], [text[59:] + text[:2], text[54:], b"", b""])
+        parts = [heap.bytes_read(last, at, count) for at, count in ((5, 3), (60, None), (66, 0), (66, None))]
+        self.assertEqual(parts, [text[59:] + text[:2], text[54:], b"", b""])
         self.assertEqual([heap.bytes_same(*pair) for pair in ((one, other), (one, one))], [False, True])
         self.assertEqual([heap.bytes_compare(*pair) for pair in ((one, other), (other, one), (last, last))], [-1, 1, 0])
         for call in (lambda: heap.bytes_read(one, 1, 60), lambda: heap.bytes_read(one, 61), lambda: heap.bytes_part(0, other, 8, one, 1, 60)):
             self.assertRaises(gcflip.NoField, call)
-        for call in (lambda: heap.bytes_length(nil), lambda: heap.bytes_read(nil), lambda: heap.bytes_part(0, other, 8, nil, 0, 0), lambda: heap.bytes_join(0, other, 8, nil, one),
-                     lambda: heap.bytes_join(0, other, 8, one, nil), lambda: heap.bytes_same(nil, one), lambda: heap.bytes_compare(one, nil)):
+        for call in (lambda: heap.bytes_length(nil), lambda: heap.bytes_read(nil), lambda: heap.bytes_part(0, other, 8, nil, 0, 0),
+                     lambda: heap.bytes_join(0, other, 8, nil, one), lambda: heap.bytes_join(0, other, 8, one, nil),
+                     lambda: heap.bytes_same(nil, one), lambda: heap.bytes_compare(one, nil)):
             self.assertRaises(gcflip.NoObject, call)
-        for call in (lambda: heap.new_bytes(0, 51, 7, b""), lambda: heap.new_bytes(2, one, 7, b""), lambda: heap.new_bytes(0, one, 256, b""), lambda: heap.bytes_read(one, -1),
-                     lambda: heap.new_bytes(0, one, 7, bytes(458746)), lambda: heap.bytes_length(51), lambda: heap.bytes_join(0, one, 7, 51, one), lambda: heap.bytes_compare(one, 51),
-                     lambda: heap.bytes_part(0, one, 7, one, 0, 2 ** 32)):
+        for call in (lambda: heap.new_bytes(0, 51, 7, b""), lambda: heap.new_bytes(2, one, 7, b""), lambda: heap.new_bytes(0, one, 256, b""),
+                     lambda: heap.bytes_read(one, -1), lambda: heap.new_bytes(0, one, 7, bytes(458746)), lambda: heap.bytes_length(51),
+                     lambda: heap.bytes_join(0, one, 7, 51, one), lambda: heap.bytes_compare(one, 51), lambda: heap.bytes_part(0, one, 7, one, 0, 2 ** 32)):
             self.assertRaises(gcflip.OutOfRange, call)
         self.assertRaises(gcflip.Full, heap.new_bytes, 0, one, 7, bytes(458745))
         self.assertEqual((heap.bytes_read(one), heap.bytes_read(other)), (text, text[54:]))

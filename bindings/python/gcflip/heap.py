@@ -544,19 +544,19 @@ class Heap(quick.Quickened):
         self._call_roots("copy_fields", mutator, root, field, source, first, count)
 
     def new_bytes(self, mutator: int, root: int, kind: int, data: bytes) -> None:
-        """Makes a text of these bytes, which is a raw object of a kind with a field for each seven of them, and puts a reference to it into the root. No other
-        root changes. Raises Full, OutOfRange also for more than 458,745 bytes, and OutOfMemory while a collection is open."""
+        """Makes a text of these bytes, a raw object of a kind with a field for each seven of them, and puts a reference to it into the root. No other root
+        changes. Raises Full, OutOfRange also for more than 458,745 bytes, and OutOfMemory while a collection is open."""
         data = bytes(data)
         self._call_roots("new_bytes", mutator, root, kind, data, len(data))
 
     def bytes_join(self, mutator: int, root: int, kind: int, first: int, second: int) -> None:
-        """Makes a text with the bytes of the texts of roots `first` and `second`, one behind the other, and puts a reference to it into the root, which may be one
-        of both. No byte leaves the heap. Raises NoObject if one of both refers to no text, and what `new_bytes` raises."""
+        """Makes a text with the bytes of the texts of roots `first` and `second`, one behind the other, and puts a reference to it into the root, which may be
+        one of both. No byte leaves the heap. Raises NoObject if one of both refers to no text, and what `new_bytes` raises."""
         self._call_roots("bytes_join", mutator, root, kind, first, second)
 
     def bytes_part(self, mutator: int, root: int, kind: int, source: int, at: int, count: int) -> None:
-        """Makes a text with `count` bytes of the text of root `source`, from byte `at` on, and puts a reference to it into the root, which may be `source`. No byte
-        leaves the heap. Raises NoObject if it refers to no text, NoField if the text has fewer bytes, and what `new_bytes` raises."""
+        """Makes a text with `count` bytes of the text of root `source`, from byte `at` on, and puts a reference to it into the root, which may be `source`. No
+        byte leaves the heap. Raises NoObject if it refers to no text, NoField if the text has fewer bytes, and what `new_bytes` raises."""
         self._call_roots("bytes_part", mutator, root, kind, source, at, count)
 
     def bytes_length(self, root: int) -> int:
@@ -566,8 +566,8 @@ class Heap(quick.Quickened):
         return count.value
 
     def bytes_read(self, root: int, at: int = 0, count: Optional[int] = None) -> bytes:
-        """Returns `count` bytes of the text that the root refers to, from byte `at` on, or all of them. Raises NoObject if it refers to none, and NoField if the
-        text has fewer bytes."""
+        """Returns `count` bytes of the text that the root refers to, from byte `at` on, or all that follow. Raises NoObject if it refers to none, and NoField
+        if the text has fewer bytes."""
         root, at = in_range((root, at), ROOTS["bytes_read"][:2])
         if count is not None:
             count, = in_range((count,), [ctypes.c_uint32])

@@ -30,16 +30,17 @@ pub fn spelled_word(bytes: &[u8], i: usize) -> u64
     }
 }
 
-// Returns the word with the first seven of these bytes.
+// Returns the word with the first seven of these bytes. Reads eight at once.
 #[inline(always)]
 fn whole_word(bytes: &[u8]) -> u64
-    requires { 7 ≤ length bytes.now }
+    requires { 8 ≤ length bytes.now }
     ensures word { result ≡ number_in (take 7 bytes.now) }
     ensures small { result < 2 ^ 56 }
 {
-    u64::from_le_bytes([
-        bytes[0], bytes[1], bytes[2], bytes[3], bytes[4], bytes[5], bytes[6], 0,
-    ])
+    let eight = u64::from_le_bytes([
+        bytes[0], bytes[1], bytes[2], bytes[3], bytes[4], bytes[5], bytes[6], bytes[7],
+    ]);
+    eight % (1 << 56)
 }
 
 // Returns the last word of a text, which has these bytes and says how many they are.

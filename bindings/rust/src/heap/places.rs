@@ -225,8 +225,8 @@ impl Heap {
         replied(self.handle.copy_root_fields(mutator.into(), root.0, to, source.0, from, count)).map(drop)
     }
 
-    /// Makes a text of these bytes, which is a raw object of this kind with a field for each seven of them, and puts a reference to it into the root. No other
-    /// root changes.
+    /// Makes a text of these bytes, a raw object of this kind with a field for each seven of them, and puts a reference to it into the root. No other root
+    /// changes.
     ///
     /// # Errors
     ///
@@ -236,8 +236,8 @@ impl Heap {
         replied(self.handle.new_bytes(mutator.into(), root.0, kind.into(), bytes)).map(drop)
     }
 
-    /// Makes a text with the bytes of the texts of roots `one` and `other`, one behind the other, and puts a reference to it into the root, which may be one of
-    /// both. No other root changes, and no byte leaves the heap.
+    /// Makes a text with the bytes of the texts of roots `one` and `other`, one behind the other, and puts a reference to it into the root, which may be
+    /// one of both. No other root changes, and no byte leaves the heap.
     ///
     /// # Errors
     ///
@@ -246,12 +246,13 @@ impl Heap {
         replied(self.handle.bytes_join(mutator.into(), root.0, kind.into(), one.0, other.0)).map(drop)
     }
 
-    /// Makes a text with these bytes of the text of root `source`, and puts a reference to it into the root, which may be `source`. No other root changes, and no
-    /// byte leaves the heap.
+    /// Makes a text with these bytes of the text of root `source`, and puts a reference to it into the root, which may be `source`. No other root changes,
+    /// and no byte leaves the heap.
     ///
     /// # Errors
     ///
-    /// Returns `NoObject` if `source` refers to no text, `NoField` if the text has fewer bytes or the range ends before it starts, or the errors of `new_bytes`.
+    /// Returns `NoObject` if `source` refers to no text, `NoField` if the text has fewer bytes or the range ends before it starts, or the errors of
+    /// `new_bytes`.
     pub fn bytes_part(&self, mutator: u8, root: Place, kind: u8, source: Place, part: Range<u32>) -> Result<()> {
         let count = part.end.checked_sub(part.start).ok_or(Error::NoField)?;
         replied(self.handle.bytes_part(mutator.into(), root.0, kind.into(), source.0, part.start, count)).map(drop)
