@@ -380,6 +380,45 @@ static void place_address(uint32_t s)
     print_address("address", answer, found);
 }
 
+/* Makes a text of the numbers from the fourth on. */
+static uint32_t place_new_bytes(size_t read)
+{
+    static uint8_t bytes[MOST];
+    for (size_t k = 3; k < read; k++)
+        bytes[k - 3] = (uint8_t)a[k];
+    return gcflip_new_bytes(&heap, (uint32_t)a[0], (uint32_t)a[1], (uint32_t)a[2], bytes, read - 3);
+}
+
+static void place_text(uint32_t s)
+{
+    static uint8_t bytes[GCFLIP_MOST_BYTES];
+    uint32_t count = 77;
+    const uint32_t answer = gcflip_bytes_length(&heap, s, &count);
+    EXPECT(answer == GCFLIP_DONE || count == 77);
+    EXPECT(gcflip_bytes_read(&heap, s, 0, bytes, answer == GCFLIP_DONE ? count : 0) == answer);
+    if (answer != GCFLIP_DONE) {
+        printf("%s\n", reply(answer));
+        return;
+    }
+    printf("text");
+    for (uint32_t k = 0; k < count; k++)
+        printf(" %u", bytes[k]);
+    printf("\n");
+}
+
+/* The order, and the answer whether the texts are the same. */
+static void place_order(uint32_t s, uint32_t t)
+{
+    int32_t order = 77;
+    const uint32_t answer = gcflip_bytes_compare(&heap, s, t, &order);
+    EXPECT(gcflip_bytes_same(&heap, s, t) == (answer != GCFLIP_DONE ? answer : order == 0 ? GCFLIP_SAME : GCFLIP_NOT_SAME));
+    EXPECT(answer == GCFLIP_DONE || order == 77);
+    if (answer == GCFLIP_DONE)
+        printf("order %d\n", order);
+    else
+        printf("%s\n", reply(answer));
+}
+
 /* The call has two names. */
 static void moved(uint32_t old)
 {
@@ -437,6 +476,9 @@ static uint32_t by_places(const char *name, size_t read)
     if (IS("place_put_nil")) return gcflip_put_nil(&heap, d, s, i);
 #ifndef BASIC
     if (IS("place_refer")) return gcflip_refer(&heap, d, s);
+    if (IS("place_new_bytes")) return place_new_bytes(read);
+    if (IS("place_join")) return gcflip_bytes_join(&heap, d, s, i, (uint32_t)a[3], (uint32_t)a[4]);
+    if (IS("place_part")) return gcflip_bytes_part(&heap, d, s, i, (uint32_t)a[3], (uint32_t)a[4], (uint32_t)a[5]);
 #endif
     EXPECT(IS("place_same"));
     return gcflip_same(&heap, d, s);
@@ -486,6 +528,8 @@ static void perform(const char *name, size_t read)
     else if (IS("place_get")) place_get((uint32_t)a[0], (uint32_t)a[1], (uint32_t)a[2]);
 #ifndef BASIC
     else if (IS("place_address")) place_address((uint32_t)a[0]);
+    else if (IS("place_text")) place_text((uint32_t)a[0]);
+    else if (IS("place_order")) place_order((uint32_t)a[0], (uint32_t)a[1]);
 #endif
     else if (strncmp(name, "frame_", 6) == 0) frame(name);
     else if (strncmp(name, "place_", 6) == 0) printf("%s\n", reply(by_places(name, read)));

@@ -91,9 +91,15 @@ static void command_by_places(int call)
         EXPECT(gcflip_fill(&heap, 0, 18, 0, 0, 16) == GCFLIP_DONE);
     if (call == 19)
         EXPECT(gcflip_copy_fields(&heap, 0, 18, 0, 16, 0, 0) == GCFLIP_NO_OBJECT);
+    if (call == 20)
+        EXPECT(gcflip_new_bytes(&heap, 0, 0, 1, (const uint8_t *)"text", 4) == GCFLIP_MADE);
+    if (call == 21)
+        EXPECT(gcflip_bytes_join(&heap, 0, 0, 1, 16, 16) == GCFLIP_NO_OBJECT);
+    if (call == 22)
+        EXPECT(gcflip_bytes_part(&heap, 0, 0, 1, 16, 0, 0) == GCFLIP_NO_OBJECT);
 }
 
-enum { NAMING_ROOTS = 6, WITHOUT_LINES = 7, BY_PLACES = 20 };
+enum { NAMING_ROOTS = 6, WITHOUT_LINES = 7, BY_PLACES = 23 };
 
 /* Opens a heap with extra roots, and names one by each call in turn. Then it makes a reference of an address, and last it names roots by their
  * places. */
@@ -246,6 +252,9 @@ static void make_calls_without_lines(void)
     REPLIES(gcflip_put_sure(&heap, 0, 35, 0, 34), GCFLIP_DONE, false);
     REPLIES(gcflip_copy_fields(&heap, 0, 35, 1, 35, 0, 1), GCFLIP_DONE, false);
     REPLIES(gcflip_fill(&heap, 0, 35, 0, 2, 33), GCFLIP_DONE, false);
+    REPLIES(gcflip_new_bytes(&heap, 0, 34, 1, (const uint8_t *)"text", 4), GCFLIP_MADE, false);
+    REPLIES(gcflip_bytes_join(&heap, 0, 34, 1, 34, 34), GCFLIP_MADE, false);
+    REPLIES(gcflip_bytes_part(&heap, 0, 34, 1, 34, 1, 2), GCFLIP_MADE, false);
     REPLIES(gcflip_gather(&heap, 0, 35, 1, 32, 3), GCFLIP_MADE, false);
     REPLIES(gcflip_spread(&heap, 32, 35, 3), GCFLIP_DONE, false);
     REPLIES(gcflip_refer(&heap, 33, 1), GCFLIP_DONE, false);

@@ -69,6 +69,18 @@ static void set_up_raw_open(void)
     EXPECT(gcflip_heap_step_begin(&heap) == GCFLIP_BEGUN);
 }
 
+static void set_up_text(void)
+{
+    set_up();
+    EXPECT(gcflip_new_bytes(&heap, 0, 19, 1, (const uint8_t *)"text of more than seven bytes", 29) == GCFLIP_MADE);
+}
+
+static void set_up_text_open(void)
+{
+    set_up_text();
+    EXPECT(gcflip_heap_step_begin(&heap) == GCFLIP_BEGUN);
+}
+
 static void set_up_fill(void)
 {
     set_up_raw();
@@ -108,6 +120,9 @@ static uint32_t new_with_at(void)
     static const gcflip_field fields[40] = {{GCFLIP_FIELD_NUMBER, 5}, {GCFLIP_FIELD_ROOT, 16}};
     return gcflip_new_with(&heap, 0, 17, 1, fields, 40);
 }
+static uint32_t new_bytes(void) { return gcflip_new_bytes(&heap, 0, 17, 1, (const uint8_t *)"a text of more than seven bytes", 30); }
+static uint32_t join(void) { return gcflip_bytes_join(&heap, 0, 17, 1, 19, 19); }
+static uint32_t part(void) { return gcflip_bytes_part(&heap, 0, 17, 1, 19, 1, 8); }
 static uint32_t fill(void) { return gcflip_fill(&heap, 0, 18, 0, 40, 17); }
 static uint32_t copy_fields_at(void) { return gcflip_copy_fields(&heap, 0, 18, 0, 18, 20, 20); }
 static uint32_t pair_at(void) { return gcflip_new_pair(&heap, 0, 17, 1, 16, 16); }
@@ -456,6 +471,10 @@ static void allocations(int tables, int flipping)
     EXPECT(failures(set_up_open, new_from_at) == 1);
     EXPECT(failures(set_up, new_with_at) == 0);
     EXPECT(failures(set_up_open, new_with_at) == 1);
+    EXPECT(failures(set_up, new_bytes) == 0);
+    EXPECT(failures(set_up_open, new_bytes) == 1);
+    EXPECT(failures(set_up_text, join) == 0 && failures(set_up_text, part) == 0);
+    EXPECT(failures(set_up_text_open, join) == 1 && failures(set_up_text_open, part) == 1);
     EXPECT(failures(set_up_fill, fill) == 0);
     EXPECT(failures(set_up_fill_open, fill) == 1);
     EXPECT(failures(set_up_raw, copy_fields_at) == 0);

@@ -309,6 +309,45 @@ class Model:
             assert self.write(m, Place(d), to + k, 2 * word + 1 if is_raw else word) == "done"
         return "done"
 
+    def text(self, s):
+        """Returns the bytes of the text of the root at this place, or None if it refers to none."""
+        at = self.target(0, Place(s))
+        if at is None or not self.space.is_raw(at):
+            return None
+        words = self.space.fields(at)
+        if words and not 1 <= words[-1] >> 56 <= 7:
+            return None
+        return b"".join((word % (1 << 56)).to_bytes(7, "little") for word in words)[:7 * (len(words) - 1) + (words[-1] >> 56)] if words else b""
+
+    def new_text(self, m, d, kind, text):
+        parts = [text[at:at + 7] for at in range(0, len(text), 7)]
+        words = [int.from_bytes(part, "little") + (len(part) << 56 if part is parts[-1] else 0) for part in parts]
+        reply = self.written(d, self.make(m, True, Place(d), kind, len(words)))
+        for i, word in enumerate(words if reply == "made" else ()):
+            assert self.write(m, Place(d), i, 2 * word + 1) == "done"
+        return reply
+
+    def place_new_bytes(self, m, d, kind, *text):
+        return self.new_text(m, d, kind, bytes(text))
+
+    def place_join(self, m, d, kind, s, t):
+        one, other = self.text(s), self.text(t)
+        return "no object" if one is None or other is None else self.new_text(m, d, kind, one + other)
+
+    def place_part(self, m, d, kind, s, at, count):
+        text = self.text(s)
+        if text is None or at + count > len(text):
+            return "no object" if text is None else "no field"
+        return self.new_text(m, d, kind, text[at:at + count])
+
+    def place_text(self, s):
+        text = self.text(s)
+        return "no object" if text is None else " ".join(["text", *map(str, text)])
+
+    def place_order(self, s, t):
+        one, other = self.text(s), self.text(t)
+        return "no object" if one is None or other is None else "order %d" % ((one > other) - (one < other))
+
     def field_at(self, at, i):
         if at not in self.space.starts():
             return "saw nil"

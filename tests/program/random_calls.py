@@ -21,6 +21,7 @@ FRAMES = {"frame_push": 6, "frame_pop": 3, "frame_trim": 4}
 PLACES = {"place_new": 4, "place_raw": 2, "place_pair": 3, "place_new_from": 3, "place_new_with": 4, "place_gather": 3, "place_spread": 4, "place_num": 3, "place_nil": 2, "place_copy": 5, "place_get": 6, "place_peek": 4, "place_put": 9, "place_put_number": 5, "place_put_nil": 3,
           "place_put_sure": 3, "place_fill": 4, "place_copy_fields": 4,
           "place_same": 3, "place_look": 4, "room": 2}
+TEXTS = {"place_new_bytes": 4, "place_join": 4, "place_part": 4, "place_text": 4, "place_order": 3}
 MOVES = {"moved": 4, "refer": 4, "place_refer": 4, "place_address": 2, "object_at": 3, "field_at": 4}
 # Not a call: a heap to which looks at extra roots are free, as they are to the one in plain C. A step takes as many as it needs, and none is told.
 FREE_LOOKS = {"free_looks": 0}
@@ -569,6 +570,36 @@ class Calls:
         count = min(self.range_of_fields(d, to), self.range_of_fields(s, first)) if self.chance.random() < 0.8 else self.range_of_fields(d, to)
         self.add_by_places("place_copy_fields", [d, s], self.mutator(), d, to, s, first, count)
 
+    def add_place_new_bytes(self):
+        d, count = self.place(), self.chance.choice([0, 1, 6, 7, 8, 14, 15, self.chance.randrange(60)])
+        text = [self.chance.choice([0, 1, 127, 128, 255]) for _ in range(count)]
+        self.add_by_places("place_new_bytes", [d], self.mutator(), d, self.chance.randrange(256), *text)
+
+    def text_place(self):
+        """Returns a place, mostly of a root with a text."""
+        texts = [p for p in range(len(self.model.roots)) if self.model.text(p) is not None]
+        return self.chance.choice(texts) if texts and self.chance.random() < 0.9 else self.place()
+
+    def add_place_join(self):
+        d, s, t = self.place(), self.text_place(), self.text_place()
+        self.add_by_places("place_join", [d, s, t], self.mutator(), d, self.chance.randrange(256), s, t)
+
+    def add_place_part(self):
+        d, s = self.place(), self.text_place()
+        length = len((self.model.text(s) if s < len(self.model.roots) else None) or b"")
+        at = self.chance.choice([0, length, self.chance.randrange(length + 1), self.chance.randrange(length + 1), (1 << 32) - 1])
+        left = max(0, length - at)
+        count = self.chance.choice([0, left, left + 1, self.chance.randrange(left + 1), (1 << 32) - 1])
+        self.add_by_places("place_part", [d, s], self.mutator(), d, self.chance.randrange(256), s, at, count)
+
+    def add_place_text(self):
+        s = self.text_place()
+        self.add_by_places("place_text", [s], s)
+
+    def add_place_order(self):
+        s, t = self.text_place(), self.text_place()
+        self.add_by_places("place_order", [s, t], s, t)
+
     def add_place_put_sure(self):
         s, t = self.filled_place(), self.place()
         self.add_by_places("place_put_sure", [s, t], self.mutator(), s, self.place_field(s), t)
@@ -701,6 +732,11 @@ class Calls:
                       ["place_new_with", beyond, 0, 0], ["place_new_with", 0, 0, wide], ["place_new_with", 0, 0, 0, 1, 1 << 63], ["place_new_with", 0, 0, 0, 2, 1 << 32],
                       ["place_new_with", 0, 0, 0, self.chance.choice([3, 255, 1 << 31]), 0], ["place_put_sure", beyond, 0, 0, 0], ["place_fill", beyond, 0, 0, 0, 0],
                       ["place_fill", 0, 0, 1, 0, 0], ["place_copy_fields", beyond, 0, 0, 0, 0, 0], ["place_copy_fields", wide, 0, 0, 0, 0, 0]]
+        if "place_join" in self.weights:
+            wide = self.chance.choice([256, 1 << 31, (1 << 32) - 1])
+            sized += [["place_new_bytes", beyond, 0, 0], ["place_new_bytes", 0, 0, wide, 5],
+                      ["place_join", beyond, 0, 0, 0, 0], ["place_join", 0, 0, wide, 0, 0],
+                      ["place_part", beyond, 0, 0, 0, 0, 0], ["place_part", 0, 0, wide, 0, 0, 0]]
         if "root_load" not in self.weights or self.model.extra_roots == 0:
             return sized
         return sized + [["root_load", beyond, 0, 0], ["root_load", 0, slot, 0], ["root_store", beyond, 0, 0], ["root_store", 0, 0, slot]]

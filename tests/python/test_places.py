@@ -1,4 +1,5 @@
 """Tests of the commands on roots by their places."""
+import random
 import sys
 import threading
 import unittest
@@ -143,6 +144,75 @@ class CommandsByPlaces(unittest.TestCase):
         for call in (lambda: heap.new_with(0, 0, 7, []), lambda: heap.fill(0, 0, 0, 0, 0), lambda: heap.copy_fields(0, 0, 0, 0, 0, 0), lambda: heap.put_sure(0, 0, 0, 0),
                      lambda: heap.field_at(1, 0)):
             self.assertRaises(gcflip.Closed, call)
+
+    def test_texts_of_bytes(self):
+        heap = Heap(120, mutators=2, extra_roots=3)
+        self.addCleanup(heap.close)
+        one, other, last, nil = 0, 32, 50, 5
+        text = bytes([*range(200, 256), 0, 1, 2, 3])
+        heap.new_bytes(1, one, 7, bytearray(text))
+        self.assertEqual((heap.look(one), heap.bytes_length(one), heap.bytes_read(one)), (Object(7, 9, True), 60, text))
+        heap.bytes_part(0, other, 8, one, 54, 6)
+        heap.bytes_join(0, last, 9, other, one)
+        self.assertEqual((heap.bytes_read(other), heap.bytes_read(last)), (text[54:], text[54:] + text))
+        parts = [heap.bytes_read(last, at, count) for at, count in ((5, 3), (60, None), (66, 0), (66, None))]
+        self.assertEqual(parts, [text[59:] + text[:2], text[54:], b"", b""])
+        self.assertEqual([heap.bytes_same(*pair) for pair in ((one, other), (one, one))], [False, True])
+        self.assertEqual([heap.bytes_compare(*pair) for pair in ((one, other), (other, one), (last, last))], [-1, 1, 0])
+        for call in (lambda: heap.bytes_read(one, 1, 60), lambda: heap.bytes_read(one, 61), lambda: heap.bytes_part(0, other, 8, one, 1, 60)):
+            self.assertRaises(gcflip.NoField, call)
+        for call in (lambda: heap.bytes_length(nil), lambda: heap.bytes_read(nil), lambda: heap.bytes_part(0, other, 8, nil, 0, 0),
+                     lambda: heap.bytes_join(0, other, 8, nil, one), lambda: heap.bytes_join(0, other, 8, one, nil),
+                     lambda: heap.bytes_same(nil, one), lambda: heap.bytes_compare(one, nil)):
+            self.assertRaises(gcflip.NoObject, call)
+        for call in (lambda: heap.new_bytes(0, 51, 7, b""), lambda: heap.new_bytes(2, one, 7, b""), lambda: heap.new_bytes(0, one, 256, b""),
+                     lambda: heap.bytes_read(one, -1), lambda: heap.new_bytes(0, one, 7, bytes(458746)), lambda: heap.bytes_length(51),
+                     lambda: heap.bytes_join(0, one, 7, 51, one), lambda: heap.bytes_compare(one, 51), lambda: heap.bytes_part(0, one, 7, one, 0, 2 ** 32)):
+            self.assertRaises(gcflip.OutOfRange, call)
+        self.assertRaises(gcflip.Full, heap.new_bytes, 0, one, 7, bytes(458745))
+        self.assertEqual((heap.bytes_read(one), heap.bytes_read(other)), (text, text[54:]))
+        heap.begin()
+        heap.new_bytes(1, 1, 7, b"eight..8")
+        heap.bytes_part(0, 2, 7, one, 0, 7)
+        self.assertEqual((heap.log_length(0), heap.log_length(1)), (1, 2))
+        heap.close()
+        for call in (lambda: heap.new_bytes(0, 0, 7, b""), lambda: heap.bytes_length(0), lambda: heap.bytes_read(0), lambda: heap.bytes_same(0, 0)):
+            self.assertRaises(gcflip.Closed, call)
+
+    def test_texts_are_those_of_python(self):
+        """Random texts, joined, parted and compared, also while collections are open, against Python's bytes."""
+        chance = random.Random(7)
+        heap = Heap(600, mutators=1)
+        self.addCleanup(heap.close)
+        texts = [b""] * 6
+        for root in range(6):
+            heap.new_bytes(0, root, 7, b"")
+        for turn in range(3000):
+            root, one, other = chance.randrange(6), chance.randrange(6), chance.randrange(6)
+            choice = chance.randrange(5)
+            if choice == 0:
+                texts[root] = bytes(chance.choice((0, 1, 127, 128, 255)) for _ in range(chance.randrange(40)))
+                made = lambda: heap.new_bytes(0, root, 7, texts[root])
+            elif choice == 1 and len(texts[one]) + len(texts[other]) <= 80:
+                texts[root] = texts[one] + texts[other]
+                made = lambda: heap.bytes_join(0, root, 7, one, other)
+            elif choice == 2:
+                at = chance.randrange(len(texts[one]) + 1)
+                count = chance.randrange(len(texts[one]) - at + 1)
+                texts[root] = texts[one][at:at + count]
+                made = lambda: heap.bytes_part(0, root, 7, one, at, count)
+            else:
+                self.assertEqual(heap.bytes_same(one, other), texts[one] == texts[other])
+                self.assertEqual(heap.bytes_compare(one, other), (texts[one] > texts[other]) - (texts[one] < texts[other]))
+                self.assertEqual(heap.bytes_read(one), texts[one])
+                heap.work(1 + chance.randrange(20))
+                continue
+            try:
+                made()
+            except gcflip.Full:
+                heap.collect()
+                made()
+            self.assertEqual(heap.bytes_read(root), texts[root])
 
     def test_room_is_reserved(self):
         heap, pace = Heap(64), gcflip.Pace()

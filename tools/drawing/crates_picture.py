@@ -15,7 +15,7 @@ HEADING, EDGE, BAND_GAP = 15, 4, 5
 # The groups of crates, by the role of their boxes: a heading, and the crates. Each group uses itself and those before it.
 GROUPS = {
     "crate-language": ("the language", ["gc_graph", "gc_text"]),
-    "crate-words": ("words", ["gc_words", "gc_heap"]),
+    "crate-words": ("words", ["gc_words", "gc_bytes", "gc_heap"]),
     "crate-plan": ("the plan", ["gc_plan"]),
     "crate-mechanism": ("the mechanism", ["gc_copy"]),
     "crate-checkers": ("checkers", ["gc_cert", "gc_check", "gc_par", "gc_along", "gc_generations"]),

@@ -8,7 +8,7 @@ import functools
 import operator
 import os
 import weakref
-from typing import Any, Callable, Iterable, NamedTuple, NoReturn, Sequence, Union
+from typing import Any, Callable, Iterable, NamedTuple, NoReturn, Optional, Sequence, Union
 
 from . import library, quick, refs, turns
 from .checker import Block, Image, Row, _pairs_of
@@ -567,6 +567,56 @@ class Heap(quick.Quickened):
         to. Each takes, in rising order, the value that the other field has then. No root changes. All are copied or none. Raises NoObject, NoField, NoNumber,
         and OutOfMemory while a collection is open."""
         self._call_roots("copy_fields", mutator, root, field, source, first, count)
+
+    def new_bytes(self, mutator: int, root: int, kind: int, data: bytes) -> None:
+        """Makes a text of these bytes, a raw object of a kind with a field for each seven of them, and puts a reference to it into the root. No other root
+        changes. Raises Full, OutOfRange also for more than 458,745 bytes, and OutOfMemory while a collection is open."""
+        data = bytes(data)
+        self._call_roots("new_bytes", mutator, root, kind, data, len(data))
+
+    def bytes_join(self, mutator: int, root: int, kind: int, first: int, second: int) -> None:
+        """Makes a text with the bytes of the texts of roots `first` and `second`, one behind the other, and puts a reference to it into the root, which may be
+        one of both. No byte leaves the heap. Raises NoObject if one of both refers to no text, and what `new_bytes` raises."""
+        self._call_roots("bytes_join", mutator, root, kind, first, second)
+
+    def bytes_part(self, mutator: int, root: int, kind: int, source: int, at: int, count: int) -> None:
+        """Makes a text with `count` bytes of the text of root `source`, from byte `at` on, and puts a reference to it into the root, which may be `source`. No
+        byte leaves the heap. Raises NoObject if it refers to no text, NoField if the text has fewer bytes, and what `new_bytes` raises."""
+        self._call_roots("bytes_part", mutator, root, kind, source, at, count)
+
+    def bytes_length(self, root: int) -> int:
+        """Returns the number of bytes of the text that the root refers to. Raises NoObject if it refers to none."""
+        count = ctypes.c_uint32()
+        self._call_roots("bytes_length", root, count)
+        return count.value
+
+    def bytes_read(self, root: int, at: int = 0, count: Optional[int] = None) -> bytes:
+        """Returns `count` bytes of the text that the root refers to, from byte `at` on, or all that follow. Raises NoObject if it refers to none, and NoField
+        if the text has fewer bytes."""
+        root, at = in_range((root, at), ROOTS["bytes_read"][:2])
+        if count is not None:
+            count, = in_range((count,), [ctypes.c_uint32])
+
+        def read() -> bytes:
+            length = ctypes.c_uint32()
+            self._made_roots("bytes_length", root, length)
+            wanted = max(0, length.value - at) if count is None else count
+            found = ctypes.create_string_buffer(wanted)
+            self._made_roots("bytes_read", root, at, found, wanted)
+            return found.raw
+
+        return self._turn.take(read)
+
+    def bytes_same(self, first: int, second: int) -> bool:
+        """Returns whether both roots refer to texts with the same bytes. Raises NoObject if one of both refers to no text."""
+        return self._call_roots("bytes_same", first, second) == Answer.SAME
+
+    def bytes_compare(self, first: int, second: int) -> int:
+        """Returns the order of both roots' texts: -1, 0 or 1, by unsigned bytes, and a shorter beginning comes first. Raises NoObject if one of both refers to
+        no text."""
+        order = ctypes.c_int32()
+        self._call_roots("bytes_compare", first, second, order)
+        return order.value
 
     def is_same(self, first: int, second: int) -> bool:
         """Returns whether both roots hold nil, equal numbers, or references to one object."""

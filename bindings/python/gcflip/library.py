@@ -5,7 +5,7 @@ import ctypes
 import enum
 import operator
 import os
-from ctypes import POINTER, c_bool, c_size_t, c_uint8, c_uint16, c_uint32, c_uint64, c_void_p
+from ctypes import POINTER, c_bool, c_char_p, c_int32, c_size_t, c_uint8, c_uint16, c_uint32, c_uint64, c_void_p
 from typing import Any, Dict, List, Sequence
 
 from .errors import OutOfRange
@@ -225,6 +225,13 @@ ROOTS: Dict[str, List[Any]] = {
     "copy_fields": [c_uint32, PLACE, c_uint32, PLACE, c_uint32, c_uint32],
     "same": [PLACE, PLACE],
     "look": [PLACE, POINTER(View)],
+    "new_bytes": [c_uint32, PLACE, c_uint32, c_char_p, c_size_t],
+    "bytes_join": [c_uint32, PLACE, c_uint32, PLACE, PLACE],
+    "bytes_part": [c_uint32, PLACE, c_uint32, PLACE, c_uint32, c_uint32],
+    "bytes_length": [PLACE, POINTER(c_uint32)],
+    "bytes_read": [PLACE, c_uint32, c_void_p, c_size_t],
+    "bytes_same": [PLACE, PLACE],
+    "bytes_compare": [PLACE, PLACE, POINTER(c_int32)],
     "address": [PLACE, POINTER(c_uint32)],
     "moved": [c_uint32, POINTER(c_uint32)],
     "refer": [PLACE, c_uint32],

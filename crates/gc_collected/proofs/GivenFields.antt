@@ -126,7 +126,7 @@ gives_known : (fields : List FieldValue) (known : KnownRoots) (s : State) (m d i
 gives_known [] known s m d i k = k
 gives_known (value ∷ rest) known s m d i k = gives_known rest known (give_step s m d i value) m d (suc i) (one_known known s m d i value k)
 
-given_known : (known : KnownRoots) (reply : Reply) (made : State) (m d : ℕ) (fields : List FieldValue) → KnowsRoots known made → KnowsRoots known (given reply made m d fields)
+pub given_known : (known : KnownRoots) (reply : Reply) (made : State) (m d : ℕ) (fields : List FieldValue) → KnowsRoots known made → KnowsRoots known (given reply made m d fields)
 given_known known replies.Full made m d fields k = k
 given_known known replies.Made made m d fields k = gives_known fields known made m d 0 k
 given_known known replies.Done made m d fields k = gives_known fields known made m d 0 k
@@ -150,7 +150,7 @@ gives_open (values.Nil ∷ rest) s m d i = gives_open rest s m d (suc i)
 gives_open (values.Number n ∷ rest) s m d i = gives_open rest (put_value_step s m d i (Num n)).1 m d (suc i) ∙ logged_open s.collection m _
 gives_open (values.Root p ∷ rest) s m d i = gives_open rest (mutate s m (Put (root_at d) i (root_at p))).1 m d (suc i) ∙ logged_open s.collection m _
 
-given_open : (reply : Reply) (made : State) (m d : ℕ) (fields : List FieldValue) → is_some (given reply made m d fields).collection ≡ is_some made.collection
+pub given_open : (reply : Reply) (made : State) (m d : ℕ) (fields : List FieldValue) → is_some (given reply made m d fields).collection ≡ is_some made.collection
 given_open replies.Full made m d fields = refl
 given_open replies.Made made m d fields = gives_open fields made m d 0
 given_open replies.Done made m d fields = gives_open fields made m d 0

@@ -16,6 +16,7 @@ mod Marks
 mod Monitor
 mod NewFrom
 mod Noted
+mod Numbered
 mod NumbersPut
 mod OtherCommands
 mod Parts
@@ -31,6 +32,7 @@ mod Sources
 mod SourcesPut
 mod Starts
 mod Stepped
+mod Texts
 mod Together
 mod Unwritten
 mod ValuesPut

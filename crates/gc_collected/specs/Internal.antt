@@ -7,6 +7,7 @@ pub mod Follows
 pub mod Given
 pub mod KnownRoots
 pub mod Knows
+pub mod Numbered
 pub mod Rooms
 pub mod Sources
 pub mod Stays

@@ -1,3 +1,4 @@
+pub mod Bytes
 pub mod Checking
 pub mod Collected
 pub mod CollectedHeap
@@ -7,6 +8,7 @@ pub mod Flip
 pub mod Giving
 pub mod Internal
 pub mod Mixed
+pub mod Numbers
 pub mod Performing
 pub mod Readings
 pub mod Referring

@@ -2,6 +2,7 @@
 #![tactic(auto)]
 
 mod barrier;
+mod bytes;
 mod checking;
 mod checks;
 mod collected_heap;
@@ -15,6 +16,7 @@ mod giving;
 mod known;
 mod laws;
 mod mixed;
+mod numbers;
 mod performing;
 mod places;
 mod reading;

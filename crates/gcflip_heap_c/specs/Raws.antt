@@ -10,8 +10,8 @@ use Rattle.gc_plan.specs.State.{State}
 use Rattle.gc_in_c.specs.Replies.{reply_in_c, seen_in_c, view_in_c}
 use Rattle.gc_in_c.specs.declared.reply.GcflipView.{GcflipView}
 
--- C's array takes as many numbers of a raw object as it is long, from field `first` on. It stays as it was where there is no raw object, or the
--- object has fewer fields, and the answer says so.
+-- C's array takes as many numbers of a raw object, or bytes of a text, as it is long, from field or byte `first` on. It stays as it was where
+-- there is no raw object or text, or it has fewer, and the answer says so.
 abbrev pub Reads : ℕ → Option (List ℕ) → List ℕ → List ℕ → ℕ → Type 0
 Reads first None before after answer = (answer ≡ reply_in_c NoObject) × (after ≡ before)
 Reads first (Some numbers) before after answer =
@@ -22,9 +22,9 @@ Reads first (Some numbers) before after answer =
 abbrev pub address_in : State → SlotName → ℕ → Option ℕ
 address_in state slot m = name_of (root state.heap.graph (place slot m))
 
--- C's variable takes the address; if there is none, it stays as it was, and the answer says so
-abbrev pub TellsAddress : Option ℕ → ℕ → ℕ → ℕ → Type 0
-TellsAddress address before after answer = (answer ≡ option_map_or (λ _. done) address (reply_in_c NoObject)) × (after ≡ unwrap_or address before)
+-- C's variable takes the number, which may be an address; if there is none, it stays as it was, and the answer says so
+abbrev pub TellsNumber : Option ℕ → ℕ → ℕ → ℕ → Type 0
+TellsNumber found before after answer = (answer ≡ option_map_or (λ _. done) found (reply_in_c NoObject)) × (after ≡ unwrap_or found before)
 
 -- C's view of a value, which has the address of its object as a number
 abbrev pub value_in_c : List (ℕ × Object) → Value → GcflipView

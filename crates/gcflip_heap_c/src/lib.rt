@@ -2,6 +2,7 @@
 #![tactic(auto)]
 
 mod answer;
+mod bytes;
 mod checking;
 mod commands;
 mod copying;
@@ -24,6 +25,10 @@ mod slots;
 mod stepping;
 mod work;
 
+pub use bytes::{
+    gcflip_bytes_compare, gcflip_bytes_join, gcflip_bytes_length, gcflip_bytes_part,
+    gcflip_bytes_read, gcflip_bytes_same, gcflip_new_bytes,
+};
 pub use checking::{GcflipFlipChecks, gcflip_heap_check, gcflip_heap_flip_checks};
 pub use commands::{
     gcflip_heap_get, gcflip_heap_look, gcflip_heap_move, gcflip_heap_new_from,

@@ -4,7 +4,7 @@ ghost use Rattle.std.specs.Prelude.{◌≡◌, ◌≢◌, IsSome, IsSomeAnd};
 ghost use Rattle.gc_check.specs.InC.{no_memory, IsRefusal};
 ghost use Rattle.gc_copy.specs.Words.{moved_in};
 ghost use Rattle.gcflip_heap_c.specs.Commands.{IsCall};
-ghost use Rattle.gcflip_heap_c.specs.Raws.{TellsAddress};
+ghost use Rattle.gcflip_heap_c.specs.Raws.{TellsNumber};
 
 use crate::answer::{DONE, NO_OBJECT, OUT_OF_RANGE};
 use crate::guards::lent;
@@ -15,7 +15,7 @@ use gc_words::OldAddr;
 /// Writes the address to which the last flip moved the object that was at the address `old` before it, if it did not die.
 /// Returns 0, or 18 if the object died.
 fn read_moved(former: &Room, old: u32, address: &mut u32) -> u32
-    ensures { TellsAddress (moved_in former.now old) address.old address.new result }
+    ensures { TellsNumber (moved_in former.now old) address.old address.new result }
 {
     match former.moved(OldAddr(old)) {
         None => NO_OBJECT,
@@ -31,7 +31,7 @@ fn read_moved(former: &Room, old: u32, address: &mut u32) -> u32
 /// nothing back, and takes constant time.
 #[unsafe(no_mangle)]
 pub extern "C" fn gcflip_moved(heap: &mut GcflipHeap, old: u32, address: &mut u32) -> u32
-    ensures call { IsCall (λ _. IsSome heap.old.beside.former) (λ _ _. IsSomeAnd heap.old.beside.former (λ room. TellsAddress (moved_in room old) address.old address.new result))
+    ensures call { IsCall (λ _. IsSome heap.old.beside.former) (λ _ _. IsSomeAnd heap.old.beside.former (λ room. TellsNumber (moved_in room old) address.old address.new result))
         heap.old.state heap.new.state result }
     ensures heap { heap.new.state ≡ heap.old.state }
     ensures silent { IsRefusal result → address.new ≡ address.old }
@@ -47,7 +47,7 @@ pub extern "C" fn gcflip_moved(heap: &mut GcflipHeap, old: u32, address: &mut u3
 /// Does what `gcflip_moved` does. It has this name beside the calls on slots.
 #[unsafe(no_mangle)]
 pub extern "C" fn gcflip_heap_moved(heap: &mut GcflipHeap, old: u32, address: &mut u32) -> u32
-    ensures call { IsCall (λ _. IsSome heap.old.beside.former) (λ _ _. IsSomeAnd heap.old.beside.former (λ room. TellsAddress (moved_in room old) address.old address.new result))
+    ensures call { IsCall (λ _. IsSome heap.old.beside.former) (λ _ _. IsSomeAnd heap.old.beside.former (λ room. TellsNumber (moved_in room old) address.old address.new result))
         heap.old.state heap.new.state result }
     ensures heap { heap.new.state ≡ heap.old.state }
     ensures silent { IsRefusal result → address.new ≡ address.old }

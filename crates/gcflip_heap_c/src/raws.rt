@@ -8,7 +8,7 @@ ghost use Rattle.gc_heap.specs.Raws.{raw_numbers};
 ghost use Rattle.gc_collected.specs.Writing.{put_numbers_step};
 ghost use Rattle.gcflip_heap_c.specs.Commands.{IsCall, IsCommandCall};
 ghost use Rattle.gcflip_heap_c.specs.Places.{HasRoots};
-ghost use Rattle.gcflip_heap_c.specs.Raws.{Reads, address_in, TellsAddress};
+ghost use Rattle.gcflip_heap_c.specs.Raws.{Reads, address_in, TellsNumber};
 ghost use Rattle.gcflip_heap_c.specs.Slots.{NamesSlots, numbered_slot};
 
 use crate::answer::{DONE, NO_FIELD, NO_OBJECT, OUT_OF_RANGE};
@@ -85,7 +85,7 @@ pub extern "C" fn gcflip_heap_raw_write(
 
 /// Writes this address, if there is one.
 fn tell_address(found: Option<OldAddr>, address: &mut u32) -> u32
-    ensures { TellsAddress (option_map (λ a. a.0) found) address.old address.new result }
+    ensures { TellsNumber (option_map (λ a. a.0) found) address.old address.new result }
 {
     match found {
         None => NO_OBJECT,
@@ -99,7 +99,7 @@ fn tell_address(found: Option<OldAddr>, address: &mut u32) -> u32
 /// Writes the address of the object that slot `s` refers to to `address`, if there is one. A flip gives objects other addresses.
 #[unsafe(no_mangle)]
 pub extern "C" fn gcflip_heap_address(heap: &mut GcflipHeap, m: u8, s: u8, address: &mut u32) -> u32
-    ensures call { IsCall (NamesSlots m (s ∷ [])) (λ state _. TellsAddress (address_in state (numbered_slot s) m) address.old address.new result)
+    ensures call { IsCall (NamesSlots m (s ∷ [])) (λ state _. TellsNumber (address_in state (numbered_slot s) m) address.old address.new result)
         heap.old.state heap.new.state result }
     ensures heap { heap.new.state ≡ heap.old.state }
     ensures silent { IsRefusal result → address.new ≡ address.old }
@@ -114,7 +114,7 @@ pub extern "C" fn gcflip_heap_address(heap: &mut GcflipHeap, m: u8, s: u8, addre
 /// Writes the address of the object that root `s` refers to to `address`, as `gcflip_heap_address` does.
 #[unsafe(no_mangle)]
 pub extern "C" fn gcflip_address(heap: &mut GcflipHeap, s: u32, address: &mut u32) -> u32
-    ensures call { IsCall (HasRoots (s ∷ [])) (λ state _. TellsAddress (address_in state (root_at s) 0) address.old address.new result)
+    ensures call { IsCall (HasRoots (s ∷ [])) (λ state _. TellsNumber (address_in state (root_at s) 0) address.old address.new result)
         heap.old.state heap.new.state result }
     ensures heap { heap.new.state ≡ heap.old.state }
     ensures silent { IsRefusal result → address.new ≡ address.old }

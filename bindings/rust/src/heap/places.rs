@@ -1,7 +1,8 @@
 //! Commands on roots by their places.
 
-use super::{found, replied, value_of, Heap, Result, Value, SLOTS};
+use super::{found, replied, value_of, Error, Heap, Result, Value, SLOTS};
 use crate::sys::{self, Field};
+use std::cmp::Ordering;
 use std::ops::Range;
 
 /// The place of a root in the list of a heap's roots, for calls that take any root: first the shared slots, then those of each mutator, then the extra
@@ -221,6 +222,77 @@ impl Heap {
     /// or, while a collection is open, `NoMemory`.
     pub fn copy_fields(&self, mutator: u8, root: Place, to: u32, source: Place, from: u32, count: u32) -> Result<()> {
         replied(self.handle.copy_root_fields(mutator.into(), root.0, to, source.0, from, count)).map(drop)
+    }
+
+    /// Makes a text of these bytes, a raw object of this kind with a field for each seven of them, and puts a reference to it into the root. No other root
+    /// changes.
+    ///
+    /// # Errors
+    ///
+    /// Returns `Full`, or `OutOfRange` if there is no such root or mutator, or if there are more than 458,745 bytes; or, while a collection is open,
+    /// `NoMemory`. Then nothing changed.
+    pub fn new_bytes(&self, mutator: u8, root: Place, kind: u8, bytes: &[u8]) -> Result<()> {
+        replied(self.handle.new_bytes(mutator.into(), root.0, kind.into(), bytes)).map(drop)
+    }
+
+    /// Makes a text with the bytes of the texts of roots `one` and `other`, one behind the other, and puts a reference to it into the root, which may be
+    /// one of both. No other root changes, and no byte leaves the heap.
+    ///
+    /// # Errors
+    ///
+    /// Returns `NoObject` if one of both refers to no text, or the errors of `new_bytes`.
+    pub fn bytes_join(&self, mutator: u8, root: Place, kind: u8, one: Place, other: Place) -> Result<()> {
+        replied(self.handle.bytes_join(mutator.into(), root.0, kind.into(), one.0, other.0)).map(drop)
+    }
+
+    /// Makes a text with these bytes of the text of root `source`, and puts a reference to it into the root, which may be `source`. No other root changes,
+    /// and no byte leaves the heap.
+    ///
+    /// # Errors
+    ///
+    /// Returns `NoObject` if `source` refers to no text, `NoField` if the text has fewer bytes or the range ends before it starts, or the errors of
+    /// `new_bytes`.
+    pub fn bytes_part(&self, mutator: u8, root: Place, kind: u8, source: Place, part: Range<u32>) -> Result<()> {
+        let count = part.end.checked_sub(part.start).ok_or(Error::NoField)?;
+        replied(self.handle.bytes_part(mutator.into(), root.0, kind.into(), source.0, part.start, count)).map(drop)
+    }
+
+    /// Returns the number of bytes of the text that the root refers to.
+    ///
+    /// # Errors
+    ///
+    /// Returns `NoObject` if it refers to no text, or `OutOfRange` if there is no such root.
+    pub fn bytes_length(&self, root: Place) -> Result<u32> {
+        let (answer, count) = self.handle.bytes_length(root.0);
+        replied(answer).map(|_| count)
+    }
+
+    /// Copies bytes of the text that the root refers to, from byte `at` on: as many as `bytes` takes.
+    ///
+    /// # Errors
+    ///
+    /// Returns `NoObject` if it refers to no text, `NoField` if the text has fewer bytes, or `OutOfRange` if there is no such root. Then nothing was written.
+    pub fn bytes_read(&self, root: Place, at: u32, bytes: &mut [u8]) -> Result<()> {
+        replied(self.handle.bytes_read(root.0, at, bytes)).map(drop)
+    }
+
+    /// Returns whether both roots refer to texts with the same bytes.
+    ///
+    /// # Errors
+    ///
+    /// Returns `NoObject` if one of both refers to no text, or `OutOfRange` if there is no such root.
+    pub fn bytes_same(&self, one: Place, other: Place) -> Result<bool> {
+        Ok(replied(self.handle.bytes_same(one.0, other.0))? == sys::GCFLIP_SAME)
+    }
+
+    /// Returns the order of both roots' texts: that of unsigned bytes, in which a shorter beginning comes first.
+    ///
+    /// # Errors
+    ///
+    /// Returns `NoObject` if one of both refers to no text, or `OutOfRange` if there is no such root.
+    pub fn bytes_compare(&self, one: Place, other: Place) -> Result<Ordering> {
+        let (answer, order) = self.handle.bytes_compare(one.0, other.0);
+        replied(answer).map(|_| order.cmp(&0))
     }
 
     /// Returns whether both roots hold nil, equal numbers, or references to one object.

@@ -1,0 +1,5 @@
+-- Lemmas about digits, words and texts.
+mod Digits
+mod Joined
+mod Orders
+mod Spelled
