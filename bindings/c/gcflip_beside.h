@@ -156,8 +156,8 @@ uint32_t gcflip_beside_go(gcflip_collector *collector);
 uint32_t gcflip_beside_place_roots(gcflip_collector *collector);
 
 /* Flips if the collection is ready: GCFLIP_FLIPPED. The mutator may then go on in the new space. GCFLIP_NOT_READY if steps are left, or if a root's
- * object has no replica. GCFLIP_NOT_YET if the collector does not hold the mutator. The checker goes through both spaces whole, while the mutator
- * waits. After GCFLIP_NOT_READY and GCFLIP_NO_MEMORY nothing has changed. */
+ * object has no replica. GCFLIP_NOT_YET if the collector does not hold the mutator. A standing checker has compared each field beside the mutator. While
+ * the mutator waits, it looks at the roots and at the objects made since the last stop. After GCFLIP_NOT_READY and GCFLIP_NO_MEMORY nothing has changed. */
 uint32_t gcflip_beside_flip(gcflip_collector *collector);
 
 /* Copies the objects of roots, performs all steps that are left, and flips, while the mutator waits: GCFLIP_FLIPPED. GCFLIP_NOT_READY if the new space

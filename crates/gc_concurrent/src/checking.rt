@@ -1,6 +1,6 @@
 //! A flip asks its checker. Both ends are in hand, so the words of both spaces stay as they are meanwhile.
 ghost use Rattle.std.specs.Prelude.{◌≡◌, ◌≤◌, ◌⊎◌, IfErr, IfOk, IsTrue, OnOk, length, true};
-ghost use Rattle.gc_concurrent.specs.Checking.{CertifiesFlip, IsVouchedFor, flip_shown};
+ghost use Rattle.gc_concurrent.specs.Checking.{CertifiesFlip, IsVouchedBy, flip_shown};
 ghost use Rattle.gc_concurrent.specs.Ends.{one_heap};
 ghost use Rattle.gc_concurrent.specs.Internal.Rule.{seeing};
 ghost use Rattle.gc_concurrent.specs.Internal.Flip.{Flips, HasNothingLeft, moved_words};
@@ -71,7 +71,7 @@ impl Held {
     /// Asks the standing checker whether the mutator may go on in the new space with these roots. The checker first walks on to the end of the
     /// mutator's space, by a load for each object that it has not seen. Allocates nothing.
     fn vouches(&mut self, moved: &[u64]) -> bool
-        ensures yes { IsTrue result → IsVouchedFor (heap_held self.old) (one_heap self.old.copier.space moved.now) }
+        ensures yes { IsTrue result → IsVouchedBy self.old.copier.standing (heap_held self.old) (one_heap self.old.copier.space moved.now) }
         ensures told { HasNothingLeft self.old.roots.items self.old.copier.seat.me.0 → Flips self.old.roots.items self.old.copier.seat.me.0.mine self.old.copier.seat.me.0.theirs }
         ensures seen { self.new.copier.seat.me ≡ seeing self.new.copier.seat.me.0.seen self.old.copier.seat.me }
         ensures row { self.new.copier.seat.table_id ≡ self.old.copier.seat.table_id }
@@ -113,7 +113,7 @@ impl Held {
         requires can { C.can_check checker.now }
         requires left { HasNothingLeft self.old.roots.items self.old.copier.seat.me.0 }
         requires moved { moved.now ≡ moved_words (known_to self.old.copier) self.old.roots.items }
-        ensures asked { OnOk result (IsVouchedFor (heap_held self.old) (one_heap self.old.copier.space moved.now)
+        ensures asked { OnOk result (IsVouchedBy self.old.copier.standing (heap_held self.old) (one_heap self.old.copier.space moved.now)
             ⊎ C.says_yes checker.now (flip_shown (heap_held self.old) (known_to self.old.copier))) }
         ensures certified { OnOk result (CertifiesFlip (heap_held self.old) (known_to self.old.copier)) }
         ensures memory { IfErr result (λ why. why ≡ NoFlip.NoMemory) }

@@ -469,6 +469,7 @@ impl Copier {
     /// The standing checker walks on up to this end of the mutator's space.
     pub(crate) fn see(&mut self, end: u32)
         requires { end ≤ self.old.size }
+        ensures same { IsFalse self.new.standing.lost → record self.new.standing { olds = self.old.standing.olds } ≡ self.old.standing }
         ensures seen { self.new.seat.me ≡ seeing self.new.seat.me.0.seen self.old.seat.me }
         ensures row { (self.new.seat.table_id ≡ self.old.seat.table_id) × (self.new.size ≡ self.old.size) }
         ensures space { self.new.space ≡ self.old.space }
@@ -484,6 +485,7 @@ impl Copier {
         ensures same { self.new.seat.me ≡ self.old.seat.me }
         ensures row { (self.new.seat.table_id ≡ self.old.seat.table_id) × (self.new.size ≡ self.old.size) }
         ensures space { self.new.space ≡ self.old.space }
+        ensures standing { self.new.standing ≡ self.old.standing }
         ensures along { self.old.seat.me.0.mine.log ≡ [] → ∥ Follows self.new.standing self.old.seat.me.0.mine.space.words self.old.space.words ∥₁ }
         ensures told { (roots : List ℕ) → IsHeap (heap_of self.old.seat.me.0.mine roots) → HasNothingLeft roots self.old.seat.me.0 → Flips roots self.old.seat.me.0.mine self.old.seat.me.0.theirs }
     {

@@ -12,7 +12,7 @@ ghost use Rattle.gc_heap.specs.ExtraRoots.{most_extra_roots};
 ghost use Rattle.gc_heap.specs.Heap.{empty_heap, graph_in};
 ghost use Rattle.gc_concurrent.specs.Ends.{its, opening_theirs};
 ghost use Rattle.gc_concurrent.specs.Unreachable.{CopiesNothingUnreachable};
-ghost use Rattle.gc_concurrent.specs.Checking.{CertifiesFlip, FlippedBy, IsVouchedFor, flip_shown};
+ghost use Rattle.gc_concurrent.specs.Checking.{CertifiesFlip, FlippedBy, IsVouchedBy, flip_shown};
 ghost use Rattle.gc_plan.specs.State.{new_graph};
 ghost use Rattle.gc_words.specs.Word.{value_of};
 
@@ -383,15 +383,17 @@ impl Holding {
         }
     }
 
-    /// Lets the mutator go on in the new space, and begins the next collection, if the checker says yes. It checks both spaces whole, so the time grows
-    /// with the heap. Fails if something is left to do, if the checker refuses, or if an allocation fails. Nothing has changed then.
+    /// Lets the mutator go on in the new space, and begins the next collection, if the standing checker vouches for it, or this checker says yes. The
+    /// standing checker looks at the roots and at the objects made since the mutator last stopped. This checker is asked only where that one says no;
+    /// it checks both spaces whole, so the time then grows with the heap. Fails if something is left to do, if the checker refuses, or if an allocation
+    /// fails. Nothing has changed then.
     ///
-    /// A ready collection is proved to pass. It is checked all the same, so that a flip rests on the checker's theorem alone, which knows nothing of
-    /// the collector.
+    /// A ready collection is proved to pass. It is checked all the same, so that a flip rests on a checker's theorem alone, which knows nothing of the
+    /// collector.
     pub fn flip<C: Checks>(self, alloc: Global, checker: &C) -> Result<Collector, Unflipped>
         requires { C.can_check checker.now }
         ensures ready { OnOk result (may_flip self.held ≡ true) }
-        ensures asked { IfOk result (λ collector. IsVouchedFor (heap_held self.held) (known_to collector.copier).base ⊎ C.says_yes checker.now (flip_shown (heap_held self.held) (known_to self.held.copier))) }
+        ensures asked { IfOk result (λ collector. IsVouchedBy self.held.copier.standing (heap_held self.held) (known_to collector.copier).base ⊎ C.says_yes checker.now (flip_shown (heap_held self.held) (known_to self.held.copier))) }
         ensures certified { OnOk result (CertifiesFlip (heap_held self.held) (known_to self.held.copier)) }
         ensures never_refused { IfErr result (λ refused. refused.why ≢ NoFlip.Refused) }
         ensures fresh { IfOk result (λ collector. known_to collector.copier ≡ opening_theirs (known_to collector.copier).base (known_to self.held.copier).size 1) }

@@ -22,7 +22,7 @@ ghost use Rattle.gc_concurrent.specs.Internal.Flip.{HasNothingLeft, Flips};
 ghost use Rattle.gc_concurrent.specs.Internal.Copiers.{AreClaimed, KeepsClaims, LacksOne, moved_by};
 ghost use Rattle.gc_concurrent.specs.Heaps.{CorrespondsTo};
 ghost use Rattle.gc_concurrent.specs.Internal.Following.{Follows};
-ghost use Rattle.gc_concurrent.specs.Checking.{CertifiesFlip, IsVouchedFor, flip_shown};
+ghost use Rattle.gc_concurrent.specs.Checking.{CertifiesFlip, IsVouchedBy, flip_shown};
 
 use crate::cells::Cells;
 use crate::commands::Commander;
@@ -325,7 +325,7 @@ impl Held {
         ensures rests { IfOk result (λ r. logs_writes r.0 ≡ false) }
         ensures carried { OnOk result (CopiesNothingUnreachable (known_to self.copier)) }
         ensures ready { OnOk result (may_flip self ≡ true) }
-        ensures asked { IfOk result (λ r. IsVouchedFor (heap_held self) (heap_in r.0) ⊎ C.says_yes checker.now (flip_shown (heap_held self) (known_to self.copier))) }
+        ensures asked { IfOk result (λ r. IsVouchedBy self.copier.standing (heap_held self) (heap_in r.0) ⊎ C.says_yes checker.now (flip_shown (heap_held self) (known_to self.copier))) }
         ensures certified { OnOk result (CertifiesFlip (heap_held self) (known_to self.copier)) }
         ensures never_refused { IfErr result (λ r. r.1 ≢ NoFlip.Refused) }
         ensures row { IfOk result (λ r. r.0.mutator.seat.table_id ≡ r.1.seat.table_id) }

@@ -21,6 +21,7 @@ pub(crate) fn walk(cells: &Cells, seat: &mut CellsEnd, standing: &mut Standing, 
     ensures seen { seat.new.me ≡ seeing seat.new.me.0.seen seat.old.me }
     ensures row { seat.new.table_id ≡ seat.old.table_id }
     ensures along { (new : List ℕ) → ∥ Follows standing.old seat.old.me.0.seen new ∥₁ → ∥ Follows standing.new seat.new.me.0.seen new ∥₁ }
+    ensures same { IsFalse standing.new.lost → record standing.new { olds = standing.old.olds } ≡ standing.old }
 {
     while !standing.is_lost() && standing.seen() < end as usize {
         let word = cells.shared.load::<Saw>(seat, standing.seen());

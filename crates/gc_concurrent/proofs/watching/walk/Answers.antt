@@ -1,6 +1,7 @@
 -- Each object that is found is the next one of the words that are seen.
 use Rattle.std.proofs.Common.{◌≡◌, false, ◌++◌, ap, sym, ◌∙◌, subst, arith}
 use Rattle.std.proofs.Math.Logic.{∥∥₁_elim}
+use Rattle.gc_along.specs.Tables.{Tables}
 use Rattle.gc_along.specs.Watch.{IsSeen}
 use Rattle.gc_concurrent.specs.Internal.Props.{seen_prop}
 use Rattle.gc_concurrent.specs.Internal.Rule.{Sat, SeesNext}
@@ -44,4 +45,5 @@ loop-standing-preserved c =
           (saw_follows c.loop-standing.standing c.saw.new.self new c.load-word.result c.loop-standing.seat.me c.load-word.new.seat.me (fine l) c.saw.ensures.saw
           (subst (λ n. SeesNext n c.load-word.result c.loop-standing.seat.me c.load-word.new.seat.me) c.seen-in-loop-standing.ensures sees))
           (c.loop-standing.invariant.2 new h),
+      λ ok. ap (λ (t : Tables). record t { olds = c.args.standing.now.olds }) (c.saw.ensures.saw ok).3 ∙ c.loop-standing.invariant.3 (fine l),
     )

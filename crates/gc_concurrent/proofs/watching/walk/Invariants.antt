@@ -1,5 +1,5 @@
 -- The checker goes along with the words that it has seen so far, and no other knowledge of the seat changes.
-use Rattle.std.proofs.Common.{◌≡◌, ◌+◌, ◌-◌, ℕ, List, length}
+use Rattle.std.proofs.Common.{◌≡◌, false, ◌+◌, ◌-◌, ℕ, List, length}
 use Rattle.std.specs.Prelude.{if◌then◌else◌}
 use Rattle.gc_concurrent.specs.Internal.Rule.{seeing}
 use Rattle.gc_concurrent.specs.Internal.Following.{Follows}
@@ -9,6 +9,7 @@ abbrev pub invariant-loop-standing : goal.invariant-loop-standing
 invariant-loop-standing l =
     (l.seat.table_id ≡ l.fn.seat.table_id) × (l.seat.me ≡ seeing l.seat.me.0.seen l.fn.seat.me)
     × ((new : List ℕ) → ∥ Follows l.fn.standing l.fn.seat.me.0.seen new ∥₁ → ∥ Follows l.standing l.seat.me.0.seen new ∥₁)
+    × (l.standing.lost ≡ false → record l.standing { olds = l.fn.standing.olds } ≡ l.fn.standing)
 
 abbrev pub decreases-loop-standing : goal.decreases-loop-standing
 decreases-loop-standing l = if l.standing.lost then 0 else 1 + (l.end - length l.standing.olds)

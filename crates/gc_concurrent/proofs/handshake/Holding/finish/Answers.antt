@@ -1,5 +1,5 @@
 -- A collection with nothing left to do, whose roots have replicas, is ready: its flip fails only for lack of memory.
-use Rattle.std.proofs.Common.{◌≡◌, ◌<◌, Result, Ok, Err, true, true≢false, sym, ◌∙◌, ◌⊎◌, map, subst}
+use Rattle.std.proofs.Common.{◌≡◌, ◌<◌, Result, Ok, Err, true, true≢false, sym, ◌∙◌, ◌⊎◌, map, subst, inl, inr, ⊎_elim}
 use Rattle.std.specs.Prelude.{IfErr}
 use Rattle.gc_concurrent.specs.declared.handshake.Unflipped.{Unflipped}
 use Rattle.gc_concurrent.specs.declared.held.Held.{Held}
@@ -12,7 +12,7 @@ use Rattle.gc_words.specs.Word.{value_of}
 use Rattle.gc_heap.specs.Heap.{HeapWords, graph_in}
 use Rattle.gc_plan.specs.State.{new_graph}
 use Rattle.gc_concurrent.specs.declared.handshake.Collector.{Collector}
-use Rattle.gc_concurrent.specs.Checking.{CertifiesFlip, FlippedBy, IsVouchedFor, flip_shown}
+use Rattle.gc_concurrent.specs.Checking.{CertifiesFlip, FlippedBy, IsVouchedBy, flip_shown}
 use Rattle.gc_concurrent.specs.Ends.{its}
 use Rattle.gc_concurrent.proofs.handshake.Holding.finish.Goals as goal
 
@@ -29,9 +29,9 @@ returns-in-Done-clause-why g c =
     (ready_in h.copier.seat.me.0.mine h.copier.seat.me.0.theirs h.roots.items done.0 done.1 (c.in-Done.ensures.rooted c.loop-holding.invariant.rooted)) c.flip.ensures.not_ready
 
 -- a flip that was vouched for or asked about, of a heap that stayed the same
-flipped_by : (r : Result Collector Unflipped) (says : CertifiedPair → Type 0) (h : Held) (old : HeapWords) → heap_held h ≡ old → IfOk r (λ c. IsVouchedFor (heap_held h) (known_to c.copier).base ⊎ says (flip_shown (heap_held h) (known_to h.copier)))
+flipped_by : (r : Result Collector Unflipped) (says : CertifiedPair → Type 0) (h : Held) (old : HeapWords) → heap_held h ≡ old → IfOk r (λ c. IsVouchedBy h.copier.standing (heap_held h) (known_to c.copier).base ⊎ says (flip_shown (heap_held h) (known_to h.copier)))
     → OnOk r (CertifiesFlip (heap_held h) (known_to h.copier)) → IfOk r (λ c. graph_in (known_to c.copier).base ≡ new_graph (its (known_to h.copier)) (map value_of h.roots.items)) → IfOk r (λ c. FlippedBy says old (known_to c.copier).base)
-flipped_by (Ok c) says h old same asked certified graph = subst (λ z. FlippedBy says z (known_to c.copier).base) same (known_to h.copier, asked, certified, graph)
+flipped_by (Ok c) says h old same asked certified graph = subst (λ z. FlippedBy says z (known_to c.copier).base) same (known_to h.copier, ⊎_elim (λ v. inl (h.copier.standing, v)) (λ s. inr s) asked, certified, graph)
 flipped_by (Err e) says h old same asked certified graph = tt
 
 pub returns-in-Done-clause-asked : goal.returns-in-Done-clause-asked

@@ -3,7 +3,7 @@ use Rattle.std.proofs.Common.{◌∙◌, inr, subst, ap, sym, inl, ⊎_elim}
 use Rattle.gc_concurrent.specs.Heaps.{CorrespondsTo}
 use Rattle.gc_concurrent.specs.Holders.{heap_in}
 use Rattle.gc_concurrent.proofs.Passing.{handshake_tied, handshake_word, filled, one_hand, goes_at, in_hand}
-use Rattle.gc_concurrent.specs.Checking.{IsVouchedFor}
+use Rattle.gc_concurrent.specs.Checking.{IsVouchedBy}
 use Rattle.gc_concurrent.specs.Ends.{Theirs}
 use Rattle.gc_concurrent.specs.Holders.{heap_held}
 use Rattle.gc_concurrent.proofs.handshake.Holding.flip.Goals as goal
@@ -21,4 +21,4 @@ exchange-spare-requires g c = let a = c.args.self in let o = one_hand a.seat.me.
 
 pub returns-clause-asked : goal.returns-clause-asked
 returns-clause-asked g c =
-    ⊎_elim (λ v. inl (subst (IsVouchedFor (heap_held c.args.self.held)) (sym (ap (λ (t : Theirs). t.base) c.in-Ok.ensures.fresh)) v)) (λ s. inr s) c.in-Ok.ensures.asked
+    ⊎_elim (λ v. inl (subst (IsVouchedBy c.args.self.held.copier.standing (heap_held c.args.self.held)) (sym (ap (λ (t : Theirs). t.base) c.in-Ok.ensures.fresh)) v)) (λ s. inr s) c.in-Ok.ensures.asked

@@ -18,7 +18,7 @@ use Rattle.gc_concurrent.proofs.InHand.{mem}
 use Rattle.gc_concurrent.proofs.Comparing.{flipped_follows}
 use Rattle.gc_concurrent.proofs.Rooting.{near}
 use Rattle.gc_concurrent.proofs.Turn.{roots_placed, roots_moved, ready_in, root_missing}
-use Rattle.gc_concurrent.specs.Checking.{IsVouchedFor}
+use Rattle.gc_concurrent.specs.Checking.{IsVouchedBy}
 use Rattle.gc_concurrent.specs.Holders.{heap_held}
 use Rattle.gc_concurrent.proofs.held.Held.flip.Goals as goal
 
@@ -108,4 +108,4 @@ begin-requires-clause-along g c =
 pub returns-clause-asked : goal.returns-clause-asked
 returns-clause-asked g c =
     let heap = (λ i. one_heap (sym (c.take_spare.ensures.space ∙ c.certify.ensures.space) i) (c.as_slice-3.ensures.value i)) ∙ sym c.begin.ensures.heap in
-    ⊎_elim (λ v. inl (subst (IsVouchedFor (heap_held c.args.self)) heap v)) (λ s. inr s) c.in_default.ensures.asked
+    ⊎_elim (λ v. inl (subst (IsVouchedBy c.args.self.copier.standing (heap_held c.args.self)) heap v)) (λ s. inr s) c.in_default.ensures.asked

@@ -5,6 +5,7 @@ use Rattle.std.proofs.Math.Logic.{∥∥₁_elim}
 use Rattle.std.proofs.Props.{props}
 use Rattle.gc_words.specs.Image.{Image}
 use Rattle.gc_words.specs.Space.{SpaceWords, image_with}
+use Rattle.gc_words.specs.Certificate.{Certified}
 use Rattle.gc_heap.specs.Heap.{image_of}
 use Rattle.gc_along.specs.Tables.{Tables}
 use Rattle.gc_along.specs.Claims.{Accepts}
@@ -36,4 +37,11 @@ returns-clause-yes c said =
       outline_is new c.size.result c.end-new_end.result _ (c.size.ensures.value ∙ ap (λ (s : SpaceWords). s.size) space) (c.end-new_end.ensures.value ∙ ap (λ (s : SpaceWords). length s.words) space)
           (c.end-new_end.ensures.value ∙ ap (λ (s : SpaceWords). length s.words) space) (append-nil c.args.moved.now) refl i,
     )) (c.says_yes.ensures.exact.0 said) in
-    ∥∥₁_elim f (hlevel props) (λ x. ∣ (pairs_in t.origins, c.a_yes_is_sound.ensures.told old new t (x accepts.seen.found).0 accepts) ∣₁)
+    let kept : t ≡ c.see.new.self.standing = c.look.ensures.standing in
+    let same : record t { olds = h.copier.standing.olds } ≡ h.copier.standing = ap (λ (t : Tables). record t { olds = h.copier.standing.olds }) kept ∙ c.see.ensures.same (ap (λ (t : Tables). t.lost) (sym kept) ∙ accepts.seen.found) in
+    record {
+      walked = t;
+      same = same;
+      accepts = accepts;
+      certified = subst (λ (z : Tables). ∥ Certified old new (pairs_in z.origins) ∥₁) same (∥∥₁_elim f (hlevel props) (λ x. ∣ c.a_yes_is_sound.ensures.told old new t (x accepts.seen.found).0 accepts ∣₁));
+    }
