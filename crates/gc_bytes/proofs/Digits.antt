@@ -27,7 +27,7 @@ digits_of (b ∷ rest) r (less, all) =
     let one = one_digit b n (256 ^ length rest) r x less (ap (λ p. b + 256 * n + p * r) (pow-suc 256 (length rest))) in
     ap (λ d. d ∷ digits (length rest) (x / 256)) one.0 ∙ ap (λ y. b ∷ digits (length rest) y) one.1 ∙ ap (λ ds. b ∷ ds) (digits_of rest r all)
 
-pub number_small : (bs : List ℕ) → AreBytes bs → number_of bs < 256 ^ length bs
+number_small : (bs : List ℕ) → AreBytes bs → number_of bs < 256 ^ length bs
 unfolding number_of
 number_small [] all = lit< tt
 number_small (b ∷ rest) (less, all) =
@@ -97,7 +97,7 @@ unfolding digits
 take-digits zero k w = refl
 take-digits (suc m) k w = subst (λ (j : ℕ). take (suc m) (digits j w) ≡ digits (suc m) w) (let e : suc (m + k) ≡ suc m + k = omega arith in e) (ap (λ ds. w % 256 ∷ ds) (take-digits m k (w / 256)))
 
-pub drop-digits : (m k w : ℕ) → drop m (digits (m + k) w) ≡ digits k (w / 2 ^ (8 * m))
+drop-digits : (m k w : ℕ) → drop m (digits (m + k) w) ≡ digits k (w / 2 ^ (8 * m))
 unfolding digits
 drop-digits zero k w = ap (λ j. digits j w) (let e : 0 + k ≡ k = omega arith in e) ∙ ap (digits k) (let e : w ≡ w / 1 = omega arith in e)
 drop-digits (suc m) k w =
@@ -137,7 +137,7 @@ bytes_more (x ∷ rest) (suc w) r few less =
     ∙ ap (λ bs. bs ++ digits r (get_or rest w 0)) (sym (take_on (digits 7 x) (bytes_of rest) (7 * w)) ∙ ap (λ n. take n (digits 7 x ++ bytes_of rest)) (let e : length (digits 7 x) + 7 * w ≡ 7 * suc w = omega arith in e))
 
 -- the bytes from the middle of a word on
-pub bytes_from : (words : List ℕ) (w s : ℕ) → s ≤ 7 → w < length words → drop (7 * w + s) (bytes_of words) ≡ digits (7 - s) (get_or words w 0 / 2 ^ (8 * s)) ++ bytes_of (drop (suc w) words)
+bytes_from : (words : List ℕ) (w s : ℕ) → s ≤ 7 → w < length words → drop (7 * w + s) (bytes_of words) ≡ digits (7 - s) (get_or words w 0 / 2 ^ (8 * s)) ++ bytes_of (drop (suc w) words)
 bytes_from [] w s few less = absurd (omega arith)
 bytes_from (x ∷ rest) zero s few less =
     ap (λ n. drop n (digits 7 x ++ bytes_of rest)) (let e : 7 * 0 + s ≡ s = omega arith in e)
@@ -151,7 +151,7 @@ bytes_from (x ∷ rest) (suc w) s few less =
     ∙ bytes_from rest w s few (omega arith)
 
 -- the bytes from a word on
-pub bytes_of_rest : (words : List ℕ) (w : ℕ) → drop (7 * w) (bytes_of words) ≡ bytes_of (drop w words)
+bytes_of_rest : (words : List ℕ) (w : ℕ) → drop (7 * w) (bytes_of words) ≡ bytes_of (drop w words)
 bytes_of_rest words zero = ap (λ n. drop n (bytes_of words)) (let e : 7 * 0 ≡ 0 = omega arith in e)
 bytes_of_rest [] (suc w) = ap (λ n. drop {A = ℕ} n []) (let e : 7 * suc w ≡ suc (6 + 7 * w) = omega arith in e)
 bytes_of_rest (x ∷ rest) (suc w) =
@@ -210,7 +210,7 @@ seven_lowest w =
 -- ---- numbers of some bytes
 
 -- the digits of a word are what is left of it below so many digits
-pub number_of_digits : (n w : ℕ) → number_of (digits n w) ≡ w % 2 ^ (8 * n)
+number_of_digits : (n w : ℕ) → number_of (digits n w) ≡ w % 2 ^ (8 * n)
 unfolding number_of digits
 number_of_digits zero w = let e : 0 ≡ w % 1 = omega arith in e
 number_of_digits (suc n) w =

@@ -51,14 +51,14 @@ number_bounded n at bs all few =
 -- ---- the beginning of a list
 
 -- a part of the beginning is that part
-pub part_of : (n at total : ℕ) (bs : List ℕ) → at + n ≤ total → take n (drop at (take total bs)) ≡ take n (drop at bs)
+part_of : (n at total : ℕ) (bs : List ℕ) → at + n ≤ total → take n (drop at (take total bs)) ≡ take n (drop at bs)
 part_of n at total bs within =
     ap (λ k. take n (drop at (take k bs))) (let e : total ≡ at + (total - at) = omega arith in e)
     ∙ ap (take n) (drop-take at (total - at) bs)
     ∙ take-take n (total - at) (drop at bs) (omega arith)
 
 -- its end
-pub end_of : (at total : ℕ) (bs : List ℕ) → at ≤ total → drop at (take total bs) ≡ take (total - at) (drop at bs)
+end_of : (at total : ℕ) (bs : List ℕ) → at ≤ total → drop at (take total bs) ≡ take (total - at) (drop at bs)
 end_of at total bs within = ap (λ k. drop at (take k bs)) (let e : total ≡ at + (total - at) = omega arith in e) ∙ drop-take at (total - at) bs
 
 -- ---- one list behind another

@@ -27,14 +27,14 @@ then_then Equal b c = refl
 then_then Greater b c = refl
 
 -- the beginnings decide, unless they are the same
-pub order_append : (xs ys ps qs : List ℕ) → length xs ≡ length ys → order (xs ++ ps) (ys ++ qs) ≡ ordering_then (order xs ys) (order ps qs)
+order_append : (xs ys ps qs : List ℕ) → length xs ≡ length ys → order (xs ++ ps) (ys ++ qs) ≡ ordering_then (order xs ys) (order ps qs)
 order_append [] [] ps qs same = refl
 order_append [] (y ∷ ys) ps qs same = absurd (omega arith)
 order_append (x ∷ xs) [] ps qs same = absurd (omega arith)
 order_append (x ∷ xs) (y ∷ ys) ps qs same = ap (ordering_then (nat_cmp x y)) (order_append xs ys ps qs (omega arith)) ∙ then_then (nat_cmp x y) (order xs ys) (order ps qs)
 
 -- the digits of a word are followed by the bytes behind them
-pub word_split : (words : List ℕ) (n w r : ℕ) → r ≤ 7 → n ≤ 7 * length words → 7 * w + r ≤ n → w < length words → drop (7 * w) (take n (bytes_of words)) ≡ digits r (get_or words w 0) ++ drop (7 * w + r) (take n (bytes_of words))
+word_split : (words : List ℕ) (n w r : ℕ) → r ≤ 7 → n ≤ 7 * length words → 7 * w + r ≤ n → w < length words → drop (7 * w) (take n (bytes_of words)) ≡ digits r (get_or words w 0) ++ drop (7 * w + r) (take n (bytes_of words))
 word_split words n w r few within inside less =
     let bs = bytes_of words in
     let all = length-bytes_of words in

@@ -20,10 +20,10 @@ bytes_parted (suc n) (b ∷ bs) (less, all) = let rec = bytes_parted n bs all in
 -- ---- single words
 
 -- at most seven bytes are a number below 2^56
-pub seven_small : (bs : List ℕ) → AreBytes bs → length bs ≤ 7 → number_of bs < 2 ^ 56
+seven_small : (bs : List ℕ) → AreBytes bs → length bs ≤ 7 → number_of bs < 2 ^ 56
 seven_small bs all few = number_below bs 7 all few
 
-pub count_in_last : (bs : List ℕ) → AreBytes bs → length bs ≤ 7 → last_word bs / 2 ^ 56 ≡ length bs
+count_in_last : (bs : List ℕ) → AreBytes bs → length bs ≤ 7 → last_word bs / 2 ^ 56 ≡ length bs
 count_in_last bs all few = let small : number_of bs < 2 ^ 56 = seven_small bs all few in omega arith
 
 -- the last word has its bytes
@@ -47,18 +47,18 @@ seven_bytes bs all seven =
 
 -- ---- all words
 
-pub length-spelled_in : (n : ℕ) (bs : List ℕ) → length (spelled_in n bs) ≡ n
+length-spelled_in : (n : ℕ) (bs : List ℕ) → length (spelled_in n bs) ≡ n
 unfolding spelled_in
 length-spelled_in zero bs = refl
 length-spelled_in (suc zero) bs = refl
 length-spelled_in (suc (suc n)) bs = ap suc (length-spelled_in (suc n) (drop 7 bs))
 
-pub last_at : (n : ℕ) (bs : List ℕ) → get_or (spelled_in (suc n) bs) n 0 ≡ last_word (drop (7 * n) bs)
+last_at : (n : ℕ) (bs : List ℕ) → get_or (spelled_in (suc n) bs) n 0 ≡ last_word (drop (7 * n) bs)
 unfolding spelled_in
 last_at zero bs = refl
 last_at (suc n) bs = last_at n (drop 7 bs) ∙ ap last_word (drop-drop (7 * n) 7 bs ∙ ap (λ k. drop k bs) (let e : 7 + 7 * n ≡ 7 * suc n = omega arith in e))
 
-pub inner_at : (n i : ℕ) (bs : List ℕ) → suc i < n → get_or (spelled_in n bs) i 0 ≡ number_of (take 7 (drop (7 * i) bs))
+inner_at : (n i : ℕ) (bs : List ℕ) → suc i < n → get_or (spelled_in n bs) i 0 ≡ number_of (take 7 (drop (7 * i) bs))
 unfolding spelled_in
 inner_at zero i bs less = absurd (omega arith)
 inner_at (suc zero) i bs less = absurd (omega arith)

@@ -18,9 +18,7 @@ use Rattle.gc_plan.specs.Members.{In}
 use Rattle.gc_plan.specs.State.{State}
 use Rattle.gc_plan.specs.Steps.{mutate}
 use Rattle.gc_plan.proofs.Public.{get_set_same, lookup_laid}
-use Rattle.gc_collected.specs.Giving.{given, gives_step}
 use Rattle.gc_collected.specs.Numbers.{new_numbers_step, numbers_given}
-use Rattle.gc_collected.specs.declared.giving.FieldValue.{FieldValue}
 use Rattle.gc_collected.specs.declared.giving.FieldValue.TheVariants.{Number}
 use Rattle.gc_collected.specs.declared.known.KnownRoots.{KnownRoots}
 use Rattle.gc_collected.specs.Internal.Given.{PutsAll, fields_put, given_from, puts_step}
@@ -117,9 +115,6 @@ sources_made old new d kind len at names made apart = λ k. (made.others names.0
 pub numbers_made : (old made new : State) (m kind count d : ℕ) (ns : List ℕ) (reply : Reply) → count ≡ length ns → mutate old m (NewRaw (root_at d) kind count) ≡ (reply, made) → (reply ≡ Full → ⊥) → numbers_given made m d 0 ns ≡ new
     → new_numbers_step old m d kind ns ≡ (reply, new)
 numbers_made old made new m kind count d ns reply same first other fill = grind (arith, common_steps)
-
-pub numbers_full : (old made : State) (m kind count d : ℕ) (ns : List ℕ) (reply : Reply) → count ≡ length ns → mutate old m (NewRaw (root_at d) kind count) ≡ (reply, made) → reply ≡ Full → new_numbers_step old m d kind ns ≡ (reply, made)
-numbers_full old made m kind count d ns reply same first full = grind (arith, common_steps)
 
 -- what is known of the roots stays known
 pub numbers_known : (known : KnownRoots) (s new : State) (m kind d : ℕ) (ns : List ℕ) (reply : Reply) → new_numbers_step s m d kind ns ≡ (reply, new) → KnowsRoots known (mutate s m (NewRaw (root_at d) kind (length ns))).1 → KnowsRoots known new

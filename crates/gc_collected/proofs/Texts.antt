@@ -1,15 +1,14 @@
 -- Texts of bytes where they lie in the heap.
-use Rattle.std.proofs.Common.{◌≡◌, ℕ, ◌+◌, ◌*◌, ◌<◌, ◌≤◌, true, false, List, [], ◌∷◌, length, map, Option, Some, None, is_some, refl, ap, sym, ◌∙◌, subst, arith}
+use Rattle.std.proofs.Common.{◌≡◌, ℕ, true, false, List, [], ◌∷◌, length, map, Option, Some, None, is_some, refl, ap, sym, ◌∙◌, arith}
 use Rattle.std.specs.Prelude.{Bool, IsTrue, if◌then◌else◌}
 use Rattle.std.specs.Bool.{then_some}
 use Rattle.std.specs.Option.{option_and_then, option_map}
 use Rattle.gc_bytes.specs.Text.{text_of}
-use Rattle.gc_graph.specs.Graph.{Graph, Num, Object, Ref, lookup, number_of, root}
+use Rattle.gc_graph.specs.Graph.{Num, Object, lookup, number_of}
 use Rattle.gc_words.specs.Image.{Block, block_at, is_start, object_of_block, objects_of}
 use Rattle.gc_words.specs.Word.{field_value, value_of}
 use Rattle.gc_words.specs.declared.header.Header.{Header}
 use Rattle.gc_words.proofs.Public.{object_found}
-use Rattle.gc_heap.specs.Raws.{numbers_in}
 use Rattle.gc_plan.specs.Belonging.{IsSpaceGraph}
 use Rattle.gc_plan.specs.State.{State, heap_end}
 use Rattle.gc_plan.proofs.Public.{laid_range, lookup_in}

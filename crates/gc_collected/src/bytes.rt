@@ -1,10 +1,9 @@
 //! Texts of bytes in raw objects, by places and through no root.
 
-ghost use Rattle.std.specs.Prelude.{ℕ, ◌≡◌, ◌≢◌, ◌<◌, ◌≤◌, ◌+◌, ◌++◌, List, [], None, Some, IfOk, IfSome, IsSome, OnErr, length, slice_range};
+ghost use Rattle.std.specs.Prelude.{ℕ, ◌≡◌, ◌≢◌, ◌<◌, ◌≤◌, ◌+◌, ◌++◌, [], Some, IfOk, IfSome, IsSome, OnErr, length, slice_range};
 ghost use Rattle.std.specs.Option.{option_map, unwrap_or};
 ghost use Rattle.gc_bytes.specs.Text.{most_bytes, spelled};
-ghost use Rattle.gc_graph.specs.Graph.{Object, lookup, object_of, root};
-ghost use Rattle.gc_graph.specs.Graph.{Ref};
+ghost use Rattle.gc_graph.specs.Graph.{Ref, lookup, root};
 ghost use Rattle.gc_graph.specs.declared.reply.Reply.{Reply};
 ghost use Rattle.gc_heap.specs.Heap.{graph_in};
 ghost use Rattle.gc_plan.specs.State.{heap_end};
@@ -51,16 +50,9 @@ impl CollectedHeap {
         self.new_numbers(m, d, kind, &text)
     }
 
-    /// Makes a raw object of this kind, whose fields are a text with the bytes of both roots' texts, one behind the other, and sets root `d` to a reference to it.
-    /// Returns what `new_bytes` does, or `NoObject`, and then nothing has changed, if one of both roots refers to no text.
-    pub fn join_bytes(
-        &mut self,
-        m: u8,
-        d: u32,
-        kind: u8,
-        s: u32,
-        t: u32,
-    ) -> Result<Reply, NoMemory>
+    /// Makes a raw object of this kind, whose fields are a text with the bytes of both roots' texts, one behind the other, and sets root `d` to a reference to
+    /// it. Returns what `new_bytes` does, or `NoObject`, and then nothing has changed, if one of both roots refers to no text.
+    pub fn join_bytes(&mut self, m: u8, d: u32, kind: u8, s: u32, t: u32) -> Result<Reply, NoMemory>
         requires mutator { m < self.old.core.mutators }
         requires object { d < length self.old.core.heap.graph.roots }
         requires one { s < length self.old.core.heap.graph.roots }
@@ -192,8 +184,8 @@ struct Joined {
 impl NumberRow for Joined {
     ghost names = { λ row. (row.one.object.0, row.other.object.0) };
 
-    ghost is_row = { λ row sources. (option_map length (text_of_object sources.0) ≡ Some row.one.count) × (option_map length (text_of_object sources.1) ≡ Some row.other.count)
-        × (row.one.count + row.other.count ≤ most_bytes) };
+    ghost is_row = { λ row sources. (option_map length (text_of_object sources.0) ≡ Some row.one.count)
+        × (option_map length (text_of_object sources.1) ≡ Some row.other.count) × (row.one.count + row.other.count ≤ most_bytes) };
 
     ghost numbers = { λ row sources. spelled (unwrap_or (text_of_object sources.0) [] ++ unwrap_or (text_of_object sources.1) []) };
 
@@ -221,7 +213,8 @@ struct Part {
 impl NumberRow for Part {
     ghost names = { λ row. (row.text.object.0, row.text.object.0) };
 
-    ghost is_row = { λ row sources. (option_map length (text_of_object sources.0) ≡ Some row.text.count) × (row.at + row.count ≤ row.text.count) × (row.text.count ≤ most_bytes) };
+    ghost is_row = { λ row sources. (option_map length (text_of_object sources.0) ≡ Some row.text.count)
+        × (row.at + row.count ≤ row.text.count) × (row.text.count ≤ most_bytes) };
 
     ghost numbers = { λ row sources. spelled (slice_range (unwrap_or (text_of_object sources.0) []) row.at (row.at + row.count)) };
 

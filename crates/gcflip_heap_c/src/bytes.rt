@@ -47,8 +47,8 @@ pub extern "C" fn gcflip_new_bytes(
     of_result(heap.new_bytes(m as u8, d, kind as u8, bytes))
 }
 
-/// Makes a raw object of this kind, whose fields are a text with the bytes of both roots' texts, one behind the other, and puts a reference to it into root `d`,
-/// which may be one of both. No other root changes. While a collection is open, the fields are logged in mutator `m`'s log. Allocates only then.
+/// Makes a raw object of this kind, whose fields are a text with the bytes of both roots' texts, one behind the other, and puts a reference to it into root
+/// `d`, which may be one of both. No other root changes. While a collection is open, the fields are logged in mutator `m`'s log. Allocates only then.
 #[unsafe(no_mangle)]
 pub extern "C" fn gcflip_bytes_join(
     heap: &mut GcflipHeap,
@@ -59,7 +59,7 @@ pub extern "C" fn gcflip_bytes_join(
     t: u32,
 ) -> u32
     ensures call { IsCommandCall (λ state. (m < state.mutators) × HasRoots (d ∷ s ∷ t ∷ []) state × (kind < kinds)
-            × (length (bytes_in state.heap.graph s) + length (bytes_in state.heap.graph t) ≤ most_bytes))
+        × (length (bytes_in state.heap.graph s) + length (bytes_in state.heap.graph t) ≤ most_bytes))
         (λ state. join_step state m d kind s t) heap.old.state heap.new.state result }
     ensures memory { result ≡ no_memory → IsSomeAnd heap.old.state (λ s. IsSome s.collection) }
     ensures beside { heap.new.beside ≡ heap.old.beside }
@@ -90,8 +90,8 @@ fn count_bytes(heap: &CollectedHeap, s: u32) -> usize
     }
 }
 
-/// Makes a raw object of this kind, whose fields are a text with `count` bytes of the text that root `s` refers to, from byte `at` on, and puts a reference to it
-/// into root `d`, which may be `s`. No other root changes. While a collection is open, the fields are logged in mutator `m`'s log. Allocates only then.
+/// Makes a raw object of this kind, whose fields are a text with `count` bytes of the text that root `s` refers to, from byte `at` on, and puts a reference to
+/// it into root `d`, which may be `s`. No other root changes. While a collection is open, the fields are logged in mutator `m`'s log. Allocates only then.
 #[unsafe(no_mangle)]
 pub extern "C" fn gcflip_bytes_part(
     heap: &mut GcflipHeap,
@@ -162,13 +162,9 @@ fn read_bytes(heap: &CollectedHeap, s: u32, at: u32, bytes: &mut [u8]) -> u32
 
 /// Copies bytes of the text that root `s` refers to, from byte `at` on: as many as `bytes` takes. No root changes.
 #[unsafe(no_mangle)]
-pub extern "C" fn gcflip_bytes_read(
-    heap: &mut GcflipHeap,
-    s: u32,
-    at: u32,
-    bytes: &mut [u8],
-) -> u32
-    ensures call { IsCall (HasRoots (s ∷ [])) (λ state _. Reads at (text_in state.heap.graph s) bytes.old bytes.new result) heap.old.state heap.new.state result }
+pub extern "C" fn gcflip_bytes_read(heap: &mut GcflipHeap, s: u32, at: u32, bytes: &mut [u8]) -> u32
+    ensures call { IsCall (HasRoots (s ∷ [])) (λ state _. Reads at (text_in state.heap.graph s) bytes.old bytes.new result)
+        heap.old.state heap.new.state result }
     ensures heap { heap.new.state ≡ heap.old.state }
     ensures silent { IsRefusal result → bytes.new ≡ bytes.old }
     ensures memory { result ≢ no_memory }

@@ -1,10 +1,8 @@
 -- The object's field words are the words of the text.
-use Rattle.std.proofs.Common.{◌≡◌, ◌<◌, ◌^◌, Some, length, ap, sym, subst, ◌∙◌, arith}
+use Rattle.std.proofs.Common.{◌≡◌, Some, length, ap, sym, subst, ◌∙◌, arith}
 use Rattle.std.specs.Prelude.{IsTrue}
 use Rattle.std.specs.Option.{option_map}
-use Rattle.gc_bytes.specs.Text.{text_of}
 use Rattle.gc_words.specs.Image.{Block, block_at, header_at, is_start}
-use Rattle.gc_collected.specs.Bytes.{text_of_object}
 use Rattle.gc_collected.proofs.Copies.{fields_there}
 use Rattle.gc_collected.proofs.Texts.{text_starts, text_words}
 use Rattle.gc_collected.proofs.bytes.text_at.Goals as goal

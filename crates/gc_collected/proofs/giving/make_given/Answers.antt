@@ -1,5 +1,5 @@
 -- The new object's fields take their values, those that take one are logged together, and then the monitor is told of the object.
-use Rattle.std.proofs.Common.{◌≡◌, ◌<◌, Some, false, length, ap, subst, sym, ◌∙◌, arith}
+use Rattle.std.proofs.Common.{◌≡◌, Some, false, length, ap, subst, sym, ◌∙◌, arith}
 use Rattle.std.proofs.lemmas.List.{length-map}
 use Rattle.gc_graph.specs.declared.command.Op.TheVariants.{New}
 use Rattle.gc_graph.specs.declared.reply.Reply.{Reply}

@@ -1,11 +1,10 @@
 -- A turn writes one number more.
-use Rattle.std.proofs.Common.{◌≡◌, ◌<◌, ◌+◌, ℕ, true, List, map, length, get_or, ap, refl, sym, ◌∙◌, subst, arith}
+use Rattle.std.proofs.Common.{◌≡◌, ◌<◌, ◌+◌, ℕ, List, map, length, get_or, ap, refl, sym, ◌∙◌, subst, arith}
 use Rattle.std.specs.Prelude.{Bool, if◌then◌else◌, slice_get}
 use Rattle.std.specs.Option.{unwrap_or}
-use Rattle.gc_graph.specs.Graph.{Nil, Num, Ref, Value, root}
-use Rattle.gc_words.specs.Closed.{IsFieldWord, IsWordOfField}
+use Rattle.gc_graph.specs.Graph.{Nil, Num, Ref, root}
+use Rattle.gc_words.specs.Closed.{IsWordOfField}
 use Rattle.gc_words.specs.Word.{field_value, value_of}
-use Rattle.gc_words.specs.declared.header.Header.{Header}
 use Rattle.gc_heap.specs.Filling.{PutsValue}
 use Rattle.gc_heap.specs.Heap.{graph_in}
 use Rattle.gc_collected.specs.Internal.Numbered.{Sources, sources_at}

@@ -1,5 +1,5 @@
 -- The heap writes alone; the fields are logged together, and then the monitor is told of all of them.
-use Rattle.std.proofs.Common.{◌≡◌, ◌<◌, ℕ, List, Some, None, length, ap, subst, sym, ◌∙◌, arith}
+use Rattle.std.proofs.Common.{◌≡◌, ℕ, List, Some, None, length, ap, subst, sym, ◌∙◌, arith}
 use Rattle.std.specs.Prelude.{IfSome, IsFalse, Option}
 use Rattle.std.proofs.lemmas.List.{length-map}
 use Rattle.gc_words.specs.Word.{value_of}

@@ -1,11 +1,8 @@
 -- The field words of a raw object are its numbers.
-use Rattle.std.proofs.Common.{◌≡◌, ℕ, true, List, [], ◌∷◌, map, Option, Some, None, refl, ap, sym, ◌∙◌, subst}
-use Rattle.std.specs.Prelude.{Bool, if◌then◌else◌}
+use Rattle.std.proofs.Common.{◌≡◌, true, map, Some, ap, sym, ◌∙◌}
 use Rattle.std.specs.Bool.{then_some}
-use Rattle.gc_graph.specs.Graph.{Num, Object, number_of}
-use Rattle.gc_words.specs.Word.{field_value, value_of}
-use Rattle.gc_words.specs.declared.header.Header.{Header}
-use Rattle.gc_heap.specs.Heap.{graph_in}
+use Rattle.gc_graph.specs.Graph.{number_of}
+use Rattle.gc_words.specs.Word.{field_value}
 use Rattle.gc_heap.specs.Places.{root_at}
 use Rattle.gc_heap.specs.Raws.{numbers_in, raw_numbers}
 use Rattle.gc_plan.specs.State.{State}
@@ -19,8 +16,8 @@ returns-then-is_raw-clause-numbers c =
     let words = c.in_ok-header.words.now in
     let raw : header.raw ≡ true = sym c.is_raw.ensures ∙ c.if-is_raw.true in
     sym (
-      ap (λ (s : State). raw_numbers s.heap.graph (root_at c.args.s) 0) (sym (core_is c.self.view_is))
-      ∙ ap numbers_in (sym c.in_ok-header.ensures.is)
-      ∙ ap (λ b. then_some b (map number_of (map (field_value header) words))) raw
-      ∙ ap Some (same_numbers words header raw)
+    ap (λ (s : State). raw_numbers s.heap.graph (root_at c.args.s) 0) (sym (core_is c.self.view_is))
+    ∙ ap numbers_in (sym c.in_ok-header.ensures.is)
+    ∙ ap (λ b. then_some b (map number_of (map (field_value header) words))) raw
+    ∙ ap Some (same_numbers words header raw)
     )
