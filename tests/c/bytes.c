@@ -147,6 +147,8 @@ static void joins_and_parts(void)
     open_heap(70000, GCFLIP_ALONG);
     EXPECT(gcflip_new_bytes(&heap, 0, 0, 1, bytes, GCFLIP_MOST_BYTES - 8) == GCFLIP_MADE && gcflip_new_bytes(&heap, 0, 1, 1, bytes, 8) == GCFLIP_MADE);
     EXPECT(gcflip_bytes_join(&heap, 0, 2, KIND, 0, 1) == GCFLIP_FULL && gcflip_look(&heap, 2, &view) == GCFLIP_NIL);
+    EXPECT(gcflip_bytes_part(&heap, 0, 2, KIND, 0, 0, GCFLIP_MOST_BYTES - 8) == GCFLIP_FULL && gcflip_look(&heap, 2, &view) == GCFLIP_NIL);
+    EXPECT(gcflip_bytes_same(&heap, 0, 1) == GCFLIP_NOT_SAME);
     EXPECT(gcflip_new_bytes(&heap, 0, 1, 1, bytes, 9) == GCFLIP_MADE && gcflip_bytes_join(&heap, 0, 2, KIND, 0, 1) == GCFLIP_OUT_OF_RANGE);
     close_heap();
 }

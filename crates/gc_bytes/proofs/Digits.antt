@@ -4,7 +4,7 @@ use Rattle.std.specs.Int.{to_le_bytes, w64}
 use Rattle.std.proofs.Math.Nat.{pow-le-pow_right, pow-suc}
 use Rattle.std.proofs.lemmas.List.{append-nil, append_assoc, drop-append-le, drop_more, length-append, length-set, take-append-le, take_all, take_more_set}
 use Rattle.std.proofs.lemmas.Nat.{field_of, mod-pow-add, pow-add, shr-shr}
-use Rattle.gc_bytes.specs.Text.{AreBytes, number_of, digits, bytes_of}
+use Rattle.gc_bytes.specs.Text.{AreBytes, bytes_number, digits, bytes_of}
 
 -- ---- numbers
 
@@ -18,42 +18,42 @@ one_digit b n p r x less is =
     (omega (arith, e), omega (arith, e))
 
 -- the digits of a number, with whatever comes above them
-pub digits_of : (bs : List ℕ) (r : ℕ) → AreBytes bs → digits (length bs) (number_of bs + 256 ^ length bs * r) ≡ bs
-unfolding number_of digits
+pub digits_of : (bs : List ℕ) (r : ℕ) → AreBytes bs → digits (length bs) (bytes_number bs + 256 ^ length bs * r) ≡ bs
+unfolding bytes_number digits
 digits_of [] r all = refl
 digits_of (b ∷ rest) r (less, all) =
-    let n = number_of rest in
+    let n = bytes_number rest in
     let x = b + 256 * n + 256 ^ suc (length rest) * r in
     let one = one_digit b n (256 ^ length rest) r x less (ap (λ p. b + 256 * n + p * r) (pow-suc 256 (length rest))) in
     ap (λ d. d ∷ digits (length rest) (x / 256)) one.0 ∙ ap (λ y. b ∷ digits (length rest) y) one.1 ∙ ap (λ ds. b ∷ ds) (digits_of rest r all)
 
-number_small : (bs : List ℕ) → AreBytes bs → number_of bs < 256 ^ length bs
-unfolding number_of
+number_small : (bs : List ℕ) → AreBytes bs → bytes_number bs < 256 ^ length bs
+unfolding bytes_number
 number_small [] all = lit< tt
 number_small (b ∷ rest) (less, all) =
-    let rec : number_of rest < 256 ^ length rest = number_small rest all in
+    let rec : bytes_number rest < 256 ^ length rest = number_small rest all in
     let e : 256 ^ suc (length rest) ≡ 256 ^ length rest * 256 = pow-suc 256 (length rest) in
     omega arith
 
 -- fewer digits are a smaller number
-pub number_below : (bs : List ℕ) (n : ℕ) → AreBytes bs → length bs ≤ n → number_of bs < 256 ^ n
+pub number_below : (bs : List ℕ) (n : ℕ) → AreBytes bs → length bs ≤ n → bytes_number bs < 256 ^ n
 number_below bs n all few =
-    let small : number_of bs < 256 ^ length bs = number_small bs all in
+    let small : bytes_number bs < 256 ^ length bs = number_small bs all in
     let below : 256 ^ length bs ≤ 256 ^ n = pow-le-pow_right (lit< tt) few in
     omega arith
 
 -- one digit more
-pub number_more : (ds : List ℕ) (k : ℕ) → 0 < k → k ≤ length ds → number_of (drop k ds) * 256 + get_or ds (k - 1) 0 ≡ number_of (drop (k - 1) ds)
-unfolding number_of
+pub number_more : (ds : List ℕ) (k : ℕ) → 0 < k → k ≤ length ds → bytes_number (drop k ds) * 256 + get_or ds (k - 1) 0 ≡ bytes_number (drop (k - 1) ds)
+unfolding bytes_number
 number_more ds k some within =
     let next : k - 1 + 1 ≡ k = omega arith in
     let is : drop (k - 1) ds ≡ get_or ds (k - 1) 0 ∷ drop k ds = drop_more ds (k - 1) 0 (omega arith) ∙ ap (λ j. get_or ds (k - 1) 0 ∷ drop j ds) next in
-    (let e : number_of (drop k ds) * 256 + get_or ds (k - 1) 0 ≡ get_or ds (k - 1) 0 + 256 * number_of (drop k ds) = omega arith in e) ∙ ap number_of (sym is)
+    (let e : bytes_number (drop k ds) * 256 + get_or ds (k - 1) 0 ≡ get_or ds (k - 1) 0 + 256 * bytes_number (drop k ds) = omega arith in e) ∙ ap bytes_number (sym is)
 
 -- the number of seven digits
 pub number_seven : (bs : List ℕ) → 7 ≤ length bs
-    → number_of (take 7 bs) ≡ get_or bs 0 0 + 256 * (get_or bs 1 0 + 256 * (get_or bs 2 0 + 256 * (get_or bs 3 0 + 256 * (get_or bs 4 0 + 256 * (get_or bs 5 0 + 256 * (get_or bs 6 0 + 256 * 0))))))
-unfolding number_of
+    → bytes_number (take 7 bs) ≡ get_or bs 0 0 + 256 * (get_or bs 1 0 + 256 * (get_or bs 2 0 + 256 * (get_or bs 3 0 + 256 * (get_or bs 4 0 + 256 * (get_or bs 5 0 + 256 * (get_or bs 6 0 + 256 * 0))))))
+unfolding bytes_number
 number_seven [] long = absurd (omega arith)
 number_seven (a ∷ []) long = absurd (omega arith)
 number_seven (a ∷ b ∷ []) long = absurd (omega arith)
@@ -210,8 +210,8 @@ seven_lowest w =
 -- ---- numbers of some bytes
 
 -- the digits of a word are what is left of it below so many digits
-number_of_digits : (n w : ℕ) → number_of (digits n w) ≡ w % 2 ^ (8 * n)
-unfolding number_of digits
+number_of_digits : (n w : ℕ) → bytes_number (digits n w) ≡ w % 2 ^ (8 * n)
+unfolding bytes_number digits
 number_of_digits zero w = let e : 0 ≡ w % 1 = omega arith in e
 number_of_digits (suc n) w =
     ap (λ x. w % 256 + 256 * x) (number_of_digits n (w / 256))
@@ -219,24 +219,24 @@ number_of_digits (suc n) w =
     ∙ sym (mod-pow-add w (8 * n) 8)
     ∙ ap (λ k. w % 2 ^ k) (let e : 8 * n + 8 ≡ 8 * suc n = omega arith in e)
 
-pub number-append : (xs ys : List ℕ) → number_of (xs ++ ys) ≡ number_of xs + 2 ^ (8 * length xs) * number_of ys
-unfolding number_of
-number-append [] ys = let e : number_of ys ≡ 0 + 1 * number_of ys = omega arith in e
+pub number-append : (xs ys : List ℕ) → bytes_number (xs ++ ys) ≡ bytes_number xs + 2 ^ (8 * length xs) * bytes_number ys
+unfolding bytes_number
+number-append [] ys = let e : bytes_number ys ≡ 0 + 1 * bytes_number ys = omega arith in e
 number-append (x ∷ xs) ys =
     let p = 2 ^ (8 * length xs) in
     ap (λ n. x + 256 * n) (number-append xs ys)
-    ∙ (let e : x + 256 * (number_of xs + p * number_of ys) ≡ x + 256 * number_of xs + p * 256 * number_of ys = omega arith in e)
-    ∙ ap (λ q. x + 256 * number_of xs + q * number_of ys) (sym (pow-add 2 (8 * length xs) 8) ∙ ap (λ k. 2 ^ k) (let e : 8 * length xs + 8 ≡ 8 * suc (length xs) = omega arith in e))
+    ∙ (let e : x + 256 * (bytes_number xs + p * bytes_number ys) ≡ x + 256 * bytes_number xs + p * 256 * bytes_number ys = omega arith in e)
+    ∙ ap (λ q. x + 256 * bytes_number xs + q * bytes_number ys) (sym (pow-add 2 (8 * length xs) 8) ∙ ap (λ k. 2 ^ k) (let e : 8 * length xs + 8 ≡ 8 * suc (length xs) = omega arith in e))
 
 -- ---- the number of n bytes from one place on
 
 -- which one word has
-pub number_in_one : (words : List ℕ) (at n : ℕ) → n ≤ 7 - at % 7 → at / 7 < length words → get_or words (at / 7) 0 / 2 ^ (8 * (at % 7)) % 2 ^ (8 * n) ≡ number_of (take n (drop at (bytes_of words)))
-number_in_one words at n few less = sym (number_of_digits n (get_or words (at / 7) 0 / 2 ^ (8 * (at % 7)))) ∙ ap number_of (read_front words at n few less)
+pub number_in_one : (words : List ℕ) (at n : ℕ) → n ≤ 7 - at % 7 → at / 7 < length words → get_or words (at / 7) 0 / 2 ^ (8 * (at % 7)) % 2 ^ (8 * n) ≡ bytes_number (take n (drop at (bytes_of words)))
+number_in_one words at n few less = sym (number_of_digits n (get_or words (at / 7) 0 / 2 ^ (8 * (at % 7)))) ∙ ap bytes_number (read_front words at n few less)
 
 -- which two words have
 pub number_in_two : (words : List ℕ) (at n : ℕ) → 7 - at % 7 ≤ n → n ≤ 7 → at / 7 + 1 < length words
-    → get_or words (at / 7) 0 / 2 ^ (8 * (at % 7)) % 2 ^ (8 * (7 - at % 7)) + get_or words (at / 7 + 1) 0 % 2 ^ (8 * (n - (7 - at % 7))) * 2 ^ (8 * (7 - at % 7)) ≡ number_of (take n (drop at (bytes_of words)))
+    → get_or words (at / 7) 0 / 2 ^ (8 * (at % 7)) % 2 ^ (8 * (7 - at % 7)) + get_or words (at / 7 + 1) 0 % 2 ^ (8 * (n - (7 - at % 7))) * 2 ^ (8 * (7 - at % 7)) ≡ bytes_number (take n (drop at (bytes_of words)))
 number_in_two words at n many few less =
     let front = 7 - at % 7 in
     let low = get_or words (at / 7) 0 / 2 ^ (8 * (at % 7)) in
@@ -253,16 +253,16 @@ number_in_two words at n many few less =
     ∙ ap (λ h. take rest (digits 7 h)) (let e : high / 1 ≡ high = omega arith in e)
     ∙ ap (λ k. take rest (digits k high)) (let e : 7 ≡ rest + (7 - rest) = omega arith in e)
     ∙ take-digits rest (7 - rest) high in
-    let whole : number_of (take n (drop at (bytes_of words))) ≡ number_of (digits front low) + p * number_of (digits rest high) =
-    ap number_of (sym (read_parts words at n many (omega arith)))
-    ∙ ap (λ bs. number_of (digits front low ++ bs)) back
+    let whole : bytes_number (take n (drop at (bytes_of words))) ≡ bytes_number (digits front low) + p * bytes_number (digits rest high) =
+    ap bytes_number (sym (read_parts words at n many (omega arith)))
+    ∙ ap (λ bs. bytes_number (digits front low ++ bs)) back
     ∙ number-append (digits front low) (digits rest high)
-    ∙ ap (λ k. number_of (digits front low) + 2 ^ (8 * k) * number_of (digits rest high)) (length-digits front low) in
+    ∙ ap (λ k. bytes_number (digits front low) + 2 ^ (8 * k) * bytes_number (digits rest high)) (length-digits front low) in
     let one = number_of_digits front low in
     let two = number_of_digits rest high in
     sym (
     whole
-    ∙ ap (λ x. x + p * number_of (digits rest high)) one
+    ∙ ap (λ x. x + p * bytes_number (digits rest high)) one
     ∙ ap (λ x. low % p + p * x) two
     ∙ (let e : low % p + p * (high % 2 ^ (8 * rest)) ≡ low % p + high % 2 ^ (8 * rest) * p = omega arith in e)
     )

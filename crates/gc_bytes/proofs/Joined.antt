@@ -3,7 +3,7 @@ use Rattle.std.proofs.Common.{◌≡◌, ℕ, zero, suc, ◌+◌, ◌-◌, ◌*�
 use Rattle.std.proofs.lemmas.List.{drop-append-le, drop-take, length-drop, length-take-le, take-append-le, take-take}
 use Rattle.std.proofs.lemmas.Nat.{pow-add}
 use Rattle.std.proofs.Math.Nat.{pow-le-pow_right, pow-suc}
-use Rattle.gc_bytes.specs.Text.{AreBytes, bytes_of, digits, fields_for, number_of, spelled}
+use Rattle.gc_bytes.specs.Text.{AreBytes, bytes_of, digits, fields_for, bytes_number, spelled}
 use Rattle.gc_bytes.proofs.Digits.{drop_on, number-append, number_below, take_on}
 use Rattle.gc_bytes.proofs.Spelled.{bytes_parted, final_word, inner_word}
 
@@ -31,10 +31,10 @@ pow_bytes (suc n) =
     ∙ ap (λ k. 2 ^ k) (let e : 8 * n + 8 ≡ 8 * suc n = omega arith in e)
 
 -- n bytes are a number below 256^n
-pub number_bound : (n at : ℕ) (bs : List ℕ) → AreBytes bs → number_of (take n (drop at bs)) < 2 ^ (8 * n)
+pub number_bound : (n at : ℕ) (bs : List ℕ) → AreBytes bs → bytes_number (take n (drop at bs)) < 2 ^ (8 * n)
 number_bound n at bs all =
     let few : length (take n (drop at bs)) ≤ n = take_few n (drop at bs) in
-    subst (λ p. number_of (take n (drop at bs)) < p) (pow_bytes n) (number_below (take n (drop at bs)) n (bytes_parted n (drop at bs) (bytes_parted at bs all).1).0 few)
+    subst (λ p. bytes_number (take n (drop at bs)) < p) (pow_bytes n) (number_below (take n (drop at bs)) n (bytes_parted n (drop at bs) (bytes_parted at bs all).1).0 few)
   where
     take_few : (n : ℕ) (xs : List ℕ) → length (take n xs) ≤ n
     take_few zero xs = omega arith
@@ -42,7 +42,7 @@ number_bound n at bs all =
     take_few (suc n) (x ∷ xs) = let rec = take_few n xs in omega arith
 
 -- at most seven are below 2^56
-pub number_bounded : (n at : ℕ) (bs : List ℕ) → AreBytes bs → n ≤ 7 → number_of (take n (drop at bs)) < 2 ^ 56
+pub number_bounded : (n at : ℕ) (bs : List ℕ) → AreBytes bs → n ≤ 7 → bytes_number (take n (drop at bs)) < 2 ^ 56
 number_bounded n at bs all few =
     let below = number_bound n at bs all in
     let high : 2 ^ (8 * n) ≤ 2 ^ 56 = (let le : 8 * n ≤ 56 = omega arith in pow-le-pow_right (lit< tt) le) in
@@ -85,17 +85,17 @@ module _ (count : ℕ) (one other : List ℕ) (within : count ≤ length one) wh
       let l = long in
       ap (take n) (sym (drop_on front other (at - count)) ∙ ap (λ k. drop k (front ++ other)) (let e : length front + (at - count) ≡ at = omega arith in e))
 
-  pub across_both : (n at : ℕ) → at ≤ count → count ≤ at + n → number_of (take (count - at) (drop at one)) + number_of (take (n - (count - at)) (drop 0 other)) * 2 ^ (8 * (count - at)) ≡ number_of (take n (drop at (front ++ other)))
+  pub across_both : (n at : ℕ) → at ≤ count → count ≤ at + n → bytes_number (take (count - at) (drop at one)) + bytes_number (take (n - (count - at)) (drop 0 other)) * 2 ^ (8 * (count - at)) ≡ bytes_number (take n (drop at (front ++ other)))
   across_both n at less more =
       let k = count - at in
       let l = long in
       let d = length-drop at front in
       let part : take k (drop at one) ≡ drop at front = sym (end_of at count one less) in
       let counted : length (take k (drop at one)) ≡ k = ap length part ∙ (let e : length (drop at front) ≡ k = omega arith in e) in
-      let low = number_of (take k (drop at one)) in
-      let high = number_of (take (n - k) other) in
+      let low = bytes_number (take k (drop at one)) in
+      let high = bytes_number (take (n - k) other) in
       sym (
-      ap number_of (
+      ap bytes_number (
       ap (take n) (drop-append-le at front other (omega arith) ∙ ap (λ xs. xs ++ other) (sym part))
       ∙ ap (λ j. take j (take k (drop at one) ++ other)) (let e : n ≡ length (take k (drop at one)) + (n - k) = omega arith in e)
       ∙ take_on (take k (drop at one)) other (n - k)
@@ -110,17 +110,17 @@ module _ (count : ℕ) (one other : List ℕ) (within : count ≤ length one) wh
 
 -- ---- words of the beginning of a list
 
-pub inner_part : (total i : ℕ) (bs : List ℕ) → total ≤ length bs → 7 < total - 7 * i → get_or (spelled (take total bs)) i 0 ≡ number_of (take 7 (drop (7 * i) bs))
+pub inner_part : (total i : ℕ) (bs : List ℕ) → total ≤ length bs → 7 < total - 7 * i → get_or (spelled (take total bs)) i 0 ≡ bytes_number (take 7 (drop (7 * i) bs))
 inner_part total i bs within more =
     let l = length-take-le total bs within in
     let d = length-drop (7 * i) (take total bs) in
-    inner_word (take total bs) i (omega arith) ∙ ap number_of (part_of 7 (7 * i) total bs (omega arith))
+    inner_word (take total bs) i (omega arith) ∙ ap bytes_number (part_of 7 (7 * i) total bs (omega arith))
 
-pub final_part : (total i : ℕ) (bs : List ℕ) → total ≤ length bs → i < fields_for total → total - 7 * i ≤ 7 → get_or (spelled (take total bs)) i 0 ≡ number_of (take (total - 7 * i) (drop (7 * i) bs)) + 2 ^ 56 * (total - 7 * i)
+pub final_part : (total i : ℕ) (bs : List ℕ) → total ≤ length bs → i < fields_for total → total - 7 * i ≤ 7 → get_or (spelled (take total bs)) i 0 ≡ bytes_number (take (total - 7 * i) (drop (7 * i) bs)) + 2 ^ 56 * (total - 7 * i)
 final_part total i bs within less few =
     let l = length-take-le total bs within in
     let d = length-drop (7 * i) (take total bs) in
     let left : length (drop (7 * i) (take total bs)) ≡ total - 7 * i = omega arith in
     final_word (take total bs) i (omega arith) (omega arith)
-    ∙ ap (λ n. number_of (drop (7 * i) (take total bs)) + 2 ^ 56 * n) left
-    ∙ ap (λ xs. number_of xs + 2 ^ 56 * (total - 7 * i)) (end_of (7 * i) total bs (omega arith))
+    ∙ ap (λ n. bytes_number (drop (7 * i) (take total bs)) + 2 ^ 56 * n) left
+    ∙ ap (λ xs. bytes_number xs + 2 ^ 56 * (total - 7 * i)) (end_of (7 * i) total bs (omega arith))

@@ -7,7 +7,7 @@ use Rattle.std.specs.List.{All}
 use Rattle.std.specs.Option.{option_map}
 use Rattle.std.proofs.lemmas.List.{append-nil, drop-drop, get_or_default, length-drop, length-take, length-take-le, take-append-drop}
 use Rattle.std.proofs.lemmas.Nat.{pow-add}
-use Rattle.gc_bytes.specs.Text.{AreBytes, bytes_of, counted, digits, fields_for, last_word, number_of, spelled, spelled_in, text_length, text_of}
+use Rattle.gc_bytes.specs.Text.{AreBytes, bytes_of, length_told, digits, fields_for, last_word, bytes_number, spelled, spelled_in, text_length, text_of}
 use Rattle.gc_bytes.proofs.Digits.{digits_of, length-bytes_of, number_below, take-digits, take_on}
 
 -- ---- lists
@@ -20,11 +20,11 @@ bytes_parted (suc n) (b ∷ bs) (less, all) = let rec = bytes_parted n bs all in
 -- ---- single words
 
 -- at most seven bytes are a number below 2^56
-seven_small : (bs : List ℕ) → AreBytes bs → length bs ≤ 7 → number_of bs < 2 ^ 56
+seven_small : (bs : List ℕ) → AreBytes bs → length bs ≤ 7 → bytes_number bs < 2 ^ 56
 seven_small bs all few = number_below bs 7 all few
 
 count_in_last : (bs : List ℕ) → AreBytes bs → length bs ≤ 7 → last_word bs / 2 ^ 56 ≡ length bs
-count_in_last bs all few = let small : number_of bs < 2 ^ 56 = seven_small bs all few in omega arith
+count_in_last bs all few = let small : bytes_number bs < 2 ^ 56 = seven_small bs all few in omega arith
 
 -- the last word has its bytes
 last_bytes : (bs : List ℕ) → AreBytes bs → length bs ≤ 7 → take (length bs) (digits 7 (last_word bs)) ≡ bs
@@ -35,14 +35,14 @@ last_bytes bs all few =
     let high : 2 ^ 56 * length bs ≡ 256 ^ length bs * (256 ^ k * length bs) = ap (λ p. p * length bs) power ∙ (let e : 256 ^ length bs * 256 ^ k * length bs ≡ 256 ^ length bs * (256 ^ k * length bs) = omega arith in e) in
     ap (λ n. take (length bs) (digits n (last_word bs))) (sym seven)
     ∙ take-digits (length bs) k (last_word bs)
-    ∙ ap (λ h. digits (length bs) (number_of bs + h)) high
+    ∙ ap (λ h. digits (length bs) (bytes_number bs + h)) high
     ∙ digits_of bs (256 ^ k * length bs) all
 
 -- another word has seven
-seven_bytes : (bs : List ℕ) → AreBytes bs → length bs ≡ 7 → digits 7 (number_of bs) ≡ bs
+seven_bytes : (bs : List ℕ) → AreBytes bs → length bs ≡ 7 → digits 7 (bytes_number bs) ≡ bs
 seven_bytes bs all seven =
-    ap (λ n. digits n (number_of bs)) (sym seven)
-    ∙ ap (digits (length bs)) (let e : number_of bs ≡ number_of bs + 256 ^ length bs * 0 = omega arith in e)
+    ap (λ n. digits n (bytes_number bs)) (sym seven)
+    ∙ ap (digits (length bs)) (let e : bytes_number bs ≡ bytes_number bs + 256 ^ length bs * 0 = omega arith in e)
     ∙ digits_of bs 0 all
 
 -- ---- all words
@@ -58,12 +58,12 @@ unfolding spelled_in
 last_at zero bs = refl
 last_at (suc n) bs = last_at n (drop 7 bs) ∙ ap last_word (drop-drop (7 * n) 7 bs ∙ ap (λ k. drop k bs) (let e : 7 + 7 * n ≡ 7 * suc n = omega arith in e))
 
-inner_at : (n i : ℕ) (bs : List ℕ) → suc i < n → get_or (spelled_in n bs) i 0 ≡ number_of (take 7 (drop (7 * i) bs))
+inner_at : (n i : ℕ) (bs : List ℕ) → suc i < n → get_or (spelled_in n bs) i 0 ≡ bytes_number (take 7 (drop (7 * i) bs))
 unfolding spelled_in
 inner_at zero i bs less = absurd (omega arith)
 inner_at (suc zero) i bs less = absurd (omega arith)
-inner_at (suc (suc n)) zero bs less = ap (λ k. number_of (take 7 (drop k bs))) (let e : 0 ≡ 7 * 0 = omega arith in e)
-inner_at (suc (suc n)) (suc i) bs less = inner_at (suc n) i (drop 7 bs) (omega arith) ∙ ap (λ r. number_of (take 7 r)) (drop-drop (7 * i) 7 bs ∙ ap (λ k. drop k bs) (let e : 7 + 7 * i ≡ 7 * suc i = omega arith in e))
+inner_at (suc (suc n)) zero bs less = ap (λ k. bytes_number (take 7 (drop k bs))) (let e : 0 ≡ 7 * 0 = omega arith in e)
+inner_at (suc (suc n)) (suc i) bs less = inner_at (suc n) i (drop 7 bs) (omega arith) ∙ ap (λ r. bytes_number (take 7 r)) (drop-drop (7 * i) 7 bs ∙ ap (λ k. drop k bs) (let e : 7 + 7 * i ≡ 7 * suc i = omega arith in e))
 
 -- the bytes
 spelled_bytes : (n : ℕ) (bs : List ℕ) → AreBytes bs → fields_for (length bs) ≡ n → take (length bs) (bytes_of (spelled_in n bs)) ≡ bs
@@ -84,10 +84,10 @@ spelled_bytes (suc (suc n)) bs all is =
     ∙ take-append-drop 7 bs
 
 -- the length
-pub counted_in : (ws : List ℕ) (n : ℕ) → length ws ≡ suc n → text_length ws ≡ counted n (get_or ws n 0 / 2 ^ 56)
+pub counted_in : (ws : List ℕ) (n : ℕ) → length ws ≡ suc n → text_length ws ≡ length_told n (get_or ws n 0 / 2 ^ 56)
 unfolding text_length
 counted_in [] n is = absurd (omega arith)
-counted_in (w ∷ rest) n is = let e : length rest ≡ n = omega arith in ap (λ k. counted k (get_or (w ∷ rest) k 0 / 2 ^ 56)) e
+counted_in (w ∷ rest) n is = let e : length rest ≡ n = omega arith in ap (λ k. length_told k (get_or (w ∷ rest) k 0 / 2 ^ 56)) e
 
 -- none if there is no word
 pub counted_nothing : (ws : List ℕ) → length ws ≡ 0 → text_length ws ≡ Some 0
@@ -95,11 +95,11 @@ unfolding text_length
 counted_nothing [] is = refl
 counted_nothing (w ∷ rest) is = absurd (omega arith)
 
-pub counted_none : (n k : ℕ) → (k ≡ 0) ⊎ (7 < k) → counted n k ≡ None
+pub counted_none : (n k : ℕ) → (k ≡ 0) ⊎ (7 < k) → length_told n k ≡ None
 counted_none n k (inl is) = grind (arith, common_steps, nat_tests)
 counted_none n k (inr more) = grind (arith, common_steps, nat_tests)
 
-pub counted_some : (n k m : ℕ) → 0 < k → k ≤ 7 → m ≡ 7 * n + k → counted n k ≡ Some m
+pub counted_some : (n k m : ℕ) → 0 < k → k ≤ 7 → m ≡ 7 * n + k → length_told n k ≡ Some m
 counted_some n k m low high is = grind (arith, common_steps, nat_tests)
 
 spelled_length : (n : ℕ) (bs : List ℕ) → AreBytes bs → fields_for (length bs) ≡ n → text_length (spelled_in n bs) ≡ Some (length bs)
@@ -111,14 +111,14 @@ spelled_length (suc n) bs all is =
     let left : length rest ≡ length bs - 7 * n = length-drop (7 * n) bs in
     let few : length rest ≤ 7 = omega arith in
     counted_in (spelled_in (suc n) bs) n (length-spelled_in (suc n) bs)
-    ∙ ap (λ w. counted n (w / 2 ^ 56)) (last_at n bs)
-    ∙ ap (counted n) (count_in_last rest (bytes_parted (7 * n) bs all).1 few)
+    ∙ ap (λ w. length_told n (w / 2 ^ 56)) (last_at n bs)
+    ∙ ap (length_told n) (count_in_last rest (bytes_parted (7 * n) bs all).1 few)
     ∙ counted_some n (length rest) (length bs) (omega arith) few (omega arith)
 
 -- ---- word i
 
 -- one that is not the last
-pub inner_word : (bs : List ℕ) (i : ℕ) → 7 < length (drop (7 * i) bs) → get_or (spelled bs) i 0 ≡ number_of (take 7 (drop (7 * i) bs))
+pub inner_word : (bs : List ℕ) (i : ℕ) → 7 < length (drop (7 * i) bs) → get_or (spelled bs) i 0 ≡ bytes_number (take 7 (drop (7 * i) bs))
 unfolding spelled
 inner_word bs i more = let left = length-drop (7 * i) bs in inner_at (fields_for (length bs)) i bs (omega arith)
 
@@ -131,7 +131,7 @@ final_word bs i less few =
     ap (λ n. get_or (spelled_in n bs) i 0) e ∙ last_at i bs
 
 last_small : (bs : List ℕ) → AreBytes bs → length bs ≤ 7 → last_word bs < 2 ^ 59
-last_small bs all few = let small : number_of bs < 2 ^ 56 = seven_small bs all few in omega arith
+last_small bs all few = let small : bytes_number bs < 2 ^ 56 = seven_small bs all few in omega arith
 
 word_below : (bs : List ℕ) → AreBytes bs → (i : ℕ) → i < fields_for (length bs) → get_or (spelled bs) i 0 < 2 ^ 63
 word_below bs all i less =
@@ -170,7 +170,7 @@ all_numbers bs all k d less =
 
 -- ---- lengths
 
-counted_within : (n k m : ℕ) → counted n k ≡ Some m → m ≤ 7 * suc n
+counted_within : (n k m : ℕ) → length_told n k ≡ Some m → m ≤ 7 * suc n
 counted_within n k m is = grind (arith, common_steps, nat_tests)
 
 pub length_within : (ws : List ℕ) (n : ℕ) → text_length ws ≡ Some n → n ≤ 7 * length ws

@@ -8,9 +8,9 @@ abbrev pub AreBytes : List ℕ → Type 0
 AreBytes bytes = AllByRecursion (λ b. b < 256) bytes
 
 -- the number with these digits to the base 256, the lowest first
-unfoldable pub number_of : List ℕ → ℕ
-number_of [] = 0
-number_of (b ∷ rest) = b + 256 * number_of rest
+unfoldable pub bytes_number : List ℕ → ℕ
+bytes_number [] = 0
+bytes_number (b ∷ rest) = b + 256 * bytes_number rest
 
 -- the n lowest digits of a word to the base 256, the lowest first
 unfoldable pub digits : ℕ → ℕ → List ℕ
@@ -29,13 +29,13 @@ most_bytes = 458745
 
 -- the last word says in bits 56 to 58 how many bytes it has
 abbrev pub last_word : List ℕ → ℕ
-last_word bytes = number_of bytes + 2 ^ 56 * length bytes
+last_word bytes = bytes_number bytes + 2 ^ 56 * length bytes
 
 -- so many words, which have these bytes
 unfoldable pub spelled_in : ℕ → List ℕ → List ℕ
 spelled_in zero bytes = []
 spelled_in (suc zero) bytes = last_word bytes ∷ []
-spelled_in (suc (suc n)) bytes = number_of (take 7 bytes) ∷ spelled_in (suc n) (drop 7 bytes)
+spelled_in (suc (suc n)) bytes = bytes_number (take 7 bytes) ∷ spelled_in (suc n) (drop 7 bytes)
 
 -- the words of a text with these bytes
 unfoldable pub spelled : List ℕ → List ℕ
@@ -48,13 +48,13 @@ abbrev pub bytes_of : List ℕ → List ℕ
 bytes_of words = flat_map (digits 7) words
 
 -- the number of bytes in a text whose last word says that it has `last` of them, after so many words; `last` is from 1 to 7
-abbrev pub counted : ℕ → ℕ → Option ℕ
-counted before last = if nat_lt 0 last && nat_le last 7 then Some (7 * before + last) else None
+abbrev pub length_told : ℕ → ℕ → Option ℕ
+length_told before last = if nat_lt 0 last && nat_le last 7 then Some (7 * before + last) else None
 
 -- the number of bytes in the text that these words are, if they are one
 unfoldable pub text_length : List ℕ → Option ℕ
 text_length [] = Some 0
-text_length (w ∷ rest) = counted (length rest) (get_or (w ∷ rest) (length rest) 0 / 2 ^ 56)
+text_length (w ∷ rest) = length_told (length rest) (get_or (w ∷ rest) (length rest) 0 / 2 ^ 56)
 
 -- the bytes of the text that these words are, if they are one
 abbrev pub text_of : List ℕ → Option (List ℕ)

@@ -1,7 +1,7 @@
 //! Words of texts that are parts of another text, or two texts joined. No byte is read by itself.
 
 ghost use Rattle.std.specs.Prelude.{◌≡◌, ◌<◌, ◌≤◌, ◌+◌, ◌*◌, ◌%◌, ◌^◌, ◌++◌, drop, get_or, length, take};
-ghost use Rattle.gc_bytes.specs.Text.{bytes_of, fields_for as fields_in, number_of, spelled};
+ghost use Rattle.gc_bytes.specs.Text.{bytes_of, fields_for as fields_in, bytes_number, spelled};
 
 use crate::spelling::counted;
 
@@ -47,7 +47,7 @@ fn bytes_across(one: &[u64], count: usize, other: &[u64], at: usize, n: usize) -
     requires within { n ≤ 7 }
     requires one { count ≤ 7 * length one.now }
     requires inside { at + n ≤ count + 7 * length other.now }
-    ensures value { result ≡ number_of (take n (drop at (take count (bytes_of one.now) ++ bytes_of other.now))) }
+    ensures value { result ≡ bytes_number (take n (drop at (take count (bytes_of one.now) ++ bytes_of other.now))) }
     ensures small { result < 2 ^ 56 }
 {
     if at + n <= count {
@@ -66,7 +66,7 @@ fn bytes_at(words: &[u64], at: usize, n: usize) -> u64
     requires few { length words.now < 2 ^ 59 }
     requires within { n ≤ 7 }
     requires inside { at + n ≤ 7 * length words.now }
-    ensures value { result ≡ number_of (take n (drop at (bytes_of words.now))) }
+    ensures value { result ≡ bytes_number (take n (drop at (bytes_of words.now))) }
     ensures small { result < 2 ^ (8 * n) }
 {
     if n == 0 {

@@ -1,7 +1,7 @@
 //! From bytes to words.
 
 ghost use Rattle.std.specs.Prelude.{◌≡◌, ◌<◌, ◌≤◌, ◌+◌, ◌*◌, ◌^◌, get_or, length, take};
-ghost use Rattle.gc_bytes.specs.Text.{fields_for as fields_in, last_word as last_of, number_of as number_in, spelled};
+ghost use Rattle.gc_bytes.specs.Text.{fields_for as fields_in, last_word as last_of, bytes_number, spelled};
 
 /// The number of bytes in the longest text: those that 65,535 fields have.
 pub const MOST_BYTES: usize = 458_745;
@@ -34,7 +34,7 @@ pub fn spelled_word(bytes: &[u8], i: usize) -> u64
 #[inline(always)]
 fn whole_word(bytes: &[u8]) -> u64
     requires { 8 ≤ length bytes.now }
-    ensures word { result ≡ number_in (take 7 bytes.now) }
+    ensures word { result ≡ bytes_number (take 7 bytes.now) }
     ensures small { result < 2 ^ 56 }
 {
     let eight = u64::from_le_bytes([
@@ -67,7 +67,7 @@ pub(crate) fn counted(number: u64, n: usize) -> u64
 #[inline(always)]
 fn number_of(digits: &[u8]) -> u64
     requires { length digits.now ≤ 7 }
-    ensures value { result ≡ number_in digits.now }
+    ensures value { result ≡ bytes_number digits.now }
     ensures small { result < 2 ^ 56 }
 {
     let mut number = 0;

@@ -18,12 +18,12 @@ use Rattle.gc_plan.specs.Members.{In}
 use Rattle.gc_plan.specs.State.{State}
 use Rattle.gc_plan.specs.Steps.{mutate}
 use Rattle.gc_plan.proofs.Public.{get_set_same, lookup_laid}
-use Rattle.gc_collected.specs.Numbers.{new_numbers_step, numbers_given}
+use Rattle.gc_collected.specs.Numbers.{new_numbers_step}
 use Rattle.gc_collected.specs.declared.giving.FieldValue.TheVariants.{Number}
 use Rattle.gc_collected.specs.declared.known.KnownRoots.{KnownRoots}
 use Rattle.gc_collected.specs.Internal.Given.{PutsAll, fields_put, given_from, puts_step}
 use Rattle.gc_collected.specs.Internal.KnownRoots.{KnowsRoots}
-use Rattle.gc_collected.specs.Internal.Numbered.{AreApart, IsNewRaw, numbered, sources_at}
+use Rattle.gc_collected.specs.Internal.Numbered.{AreApart, IsNewRaw, numbered, numbers_given, sources_at}
 use Rattle.gc_collected.specs.Internal.Together.{fields_from}
 use Rattle.gc_collected.proofs.GivenFields.{given_known, given_open, gives_are}
 use Rattle.gc_collected.proofs.Unwritten.{logged_open}

@@ -24,13 +24,13 @@ abbrev pub bytes_in : Graph → ℕ → List ℕ
 bytes_in g p = unwrap_or (text_in g p) []
 
 -- a new object with both texts, one behind the other
-abbrev pub joined : State → ℕ → ℕ → ℕ → Option (List ℕ) → Option (List ℕ) → Reply × State
-joined old m d kind (Some one) (Some other) = new_numbers_step old m d kind (spelled (one ++ other))
-joined old m d kind one other = (NoObject, old)
+abbrev pub joined_texts : State → ℕ → ℕ → ℕ → Option (List ℕ) → Option (List ℕ) → Reply × State
+joined_texts old m d kind (Some one) (Some other) = new_numbers_step old m d kind (spelled (one ++ other))
+joined_texts old m d kind one other = (NoObject, old)
 
 -- the reply and the next state where both roots' texts are joined in a new object
 abbrev pub join_step : State → ℕ → ℕ → ℕ → ℕ → ℕ → Reply × State
-join_step old m d kind s t = joined old m d kind (text_in old.heap.graph s) (text_in old.heap.graph t)
+join_step old m d kind s t = joined_texts old m d kind (text_in old.heap.graph s) (text_in old.heap.graph t)
 
 -- a new object with so many bytes of the text, from one of them on, if it has them
 abbrev pub part : State → ℕ → ℕ → ℕ → Option (List ℕ) → ℕ → ℕ → Reply × State

@@ -5,12 +5,8 @@ use Rattle.gc_graph.specs.declared.reply.Reply.{Reply}
 use Rattle.gc_heap.specs.Places.{root_at}
 use Rattle.gc_plan.specs.State.{State}
 use Rattle.gc_plan.specs.Steps.{mutate}
-use Rattle.gc_collected.specs.Giving.{given, gives_step}
+use Rattle.gc_collected.specs.Giving.{given}
 use Rattle.gc_collected.specs.declared.giving.FieldValue.TheVariants.{Number}
-
--- the fields, from field i on, of the object in root p take these numbers
-abbrev pub numbers_given : State → ℕ → ℕ → ℕ → List ℕ → State
-numbers_given s m p i numbers = gives_step s m p i (map Number numbers)
 
 -- a new raw object whose fields take these numbers: the reply to its `NewRaw`, and the state after all that
 abbrev pub new_numbers_step : State → ℕ → ℕ → ℕ → List ℕ → Reply × State

@@ -13,11 +13,11 @@ ghost use Rattle.gc_words.specs.Space.{end_of};
 ghost use Rattle.gc_plan.specs.State.{heap_end};
 ghost use Rattle.gc_plan.specs.Steps.{mutate};
 ghost use Rattle.gc_roots.specs.Twins.{AsksForLook};
-ghost use Rattle.gc_collected.specs.Numbers.{new_numbers_step, numbers_given};
+ghost use Rattle.gc_collected.specs.Numbers.{new_numbers_step};
 ghost use Rattle.gc_collected.specs.Internal.CollectedHeap.{BelongsIfOpen, Fits, HasSpare, state_in};
 ghost use Rattle.gc_collected.specs.Internal.Follows.{Follows};
 ghost use Rattle.gc_collected.specs.Internal.Given.{PutsAll};
-ghost use Rattle.gc_collected.specs.Internal.Numbered.{AreApart, IsNewRaw, Sources, numbered, sources_at};
+ghost use Rattle.gc_collected.specs.Internal.Numbered.{AreApart, IsNewRaw, Sources, numbered, numbers_given, sources_at};
 
 use crate::barrier::{are_shown, are_sound_in, note_row, reserve_in};
 use crate::collected_heap::CollectedHeap;

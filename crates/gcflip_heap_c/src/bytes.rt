@@ -10,7 +10,7 @@ ghost use Rattle.gc_collected.specs.Numbers.{new_numbers_step};
 ghost use Rattle.gcflip_heap_c.specs.Commands.{IsCall, IsCommandCall};
 ghost use Rattle.gcflip_heap_c.specs.Places.{HasRoots};
 ghost use Rattle.gcflip_heap_c.specs.Raws.{Reads, TellsNumber};
-ghost use Rattle.gcflip_heap_c.specs.Bytes.{TellsOrder, TellsSame};
+ghost use Rattle.gcflip_heap_c.specs.Bytes.{TellsOrder, TellsSame, order_in_c};
 
 use crate::answer::{DONE, NO_FIELD, NO_OBJECT, OUT_OF_RANGE};
 use crate::guards::lent;
@@ -219,12 +219,19 @@ fn compare_bytes(heap: &CollectedHeap, s: u32, t: u32, order: &mut i32) -> u32
     let (Some(one), Some(other)) = (heap.text_root(s), heap.text_root(t)) else {
         return NO_OBJECT;
     };
-    *order = match one.compare(&other) {
+    *order = order_number(one.compare(&other));
+    DONE
+}
+
+// Returns C's number for an order.
+fn order_number(order: Ordering) -> i32
+    ensures { result ≡ order_in_c order }
+{
+    match order {
         Ordering::Less => -1,
         Ordering::Equal => 0,
         Ordering::Greater => 1,
-    };
-    DONE
+    }
 }
 
 /// Writes the order of the texts that roots `s` and `t` refer to to `order`: -1, 0 or 1. It is that of unsigned bytes, in which a shorter beginning comes

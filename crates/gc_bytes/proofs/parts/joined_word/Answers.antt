@@ -9,8 +9,8 @@ use Rattle.gc_bytes.proofs.parts.joined_word.Goals as goal
 pub returns-then-left-gt7-clause-word : goal.returns-then-left-gt7-clause-word
 returns-then-left-gt7-clause-word c =
     let one = bytes_of c.args.one.now in
-    let other = bytes_of c.args.other.now in
     let l = length-bytes_of c.args.one.now in
+    let other = bytes_of c.args.other.now in
     let m = length-bytes_of c.args.other.now in
     let within : c.args.count ≤ length one = omega (arith, c.requires.one) in
     let t = length-take-le c.args.count one within in
@@ -24,9 +24,9 @@ returns-else-left-gt7-clause-word c =
     let other = bytes_of c.args.other.now in
     let left = c.args.count + c.args.more - 7 * c.args.i in
     let l = length-bytes_of c.args.one.now in
-    let m = length-bytes_of c.args.other.now in
     let within : c.args.count ≤ length one = omega (arith, c.requires.one) in
     let t = length-take-le c.args.count one within in
+    let m = length-bytes_of c.args.other.now in
     let a = length-append (take c.args.count one) other in
     c.counted.ensures.word
     ∙ ap (λ x. x + 2 ^ 56 * left) c.bytes_across-else-left-gt7.ensures.value

@@ -1,15 +1,15 @@
 -- A turn takes one digit more.
 use Rattle.std.proofs.Common.{◌+◌, ◌-◌, ◌*◌, ◌<◌, ◌^◌, drop, length, ap, sym, ◌∙◌, arith}
 use Rattle.std.proofs.lemmas.List.{drop_all, length-drop}
-use Rattle.gc_bytes.specs.Text.{AreBytes, number_of}
+use Rattle.gc_bytes.specs.Text.{AreBytes, bytes_number}
 use Rattle.gc_bytes.proofs.Digits.{bytes_from_index, number_below, number_more}
 use Rattle.gc_bytes.proofs.Spelled.{bytes_parted}
 use Rattle.gc_bytes.proofs.spelling.number_of.Goals as goal
 use Rattle.gc_bytes.proofs.spelling.number_of.Goals.{In-loop-k}
 
 pub loop-k-init : goal.loop-k-init
-unfolding number_of
-loop-k-init c = record { value = ap number_of (sym (drop_all (length c.args.digits.now) c.args.digits.now (omega arith))); within = omega arith }
+unfolding bytes_number
+loop-k-init c = record { value = ap bytes_number (sym (drop_all (length c.args.digits.now) c.args.digits.now (omega arith))); within = omega arith }
 
 -- at most six digits so far
 so_far : (c : In-loop-k) → c.loop-k.number < 256 ^ 6
@@ -27,7 +27,7 @@ overflow_add-number c = let small = so_far (goal.at.overflow_add-number c).In-lo
 
 pub loop-k-preserved : goal.loop-k-preserved
 loop-k-preserved c = record {
-  value = ap (λ n. n * 256 + c.from.result) c.loop-k.invariant.value ∙ ap (λ b. number_of (drop c.loop-k.k c.args.digits.now) * 256 + b) c.from.ensures ∙ number_more c.args.digits.now c.loop-k.k c.loop-k-test.true c.loop-k.invariant.within;
+  value = ap (λ n. n * 256 + c.from.result) c.loop-k.invariant.value ∙ ap (λ b. bytes_number (drop c.loop-k.k c.args.digits.now) * 256 + b) c.from.ensures ∙ number_more c.args.digits.now c.loop-k.k c.loop-k-test.true c.loop-k.invariant.within;
   within = omega (arith, c.loop-k.invariant.within);
 }
 

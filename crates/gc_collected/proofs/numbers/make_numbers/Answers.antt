@@ -2,9 +2,8 @@
 use Rattle.std.proofs.Common.{◌≡◌, ap, sym, ◌∙◌}
 use Rattle.gc_heap.specs.Heap.{graph_in}
 use Rattle.gc_words.specs.Space.{end_of}
-use Rattle.gc_collected.specs.Numbers.{numbers_given}
 use Rattle.gc_collected.specs.Internal.CollectedHeap.{state_in}
-use Rattle.gc_collected.specs.Internal.Numbered.{Sources, sources_at}
+use Rattle.gc_collected.specs.Internal.Numbered.{Sources, numbers_given, sources_at}
 use Rattle.gc_collected.proofs.Numbered.{numbers_made, sources_made}
 use Rattle.gc_collected.proofs.numbers.make_numbers.Goals as goal
 

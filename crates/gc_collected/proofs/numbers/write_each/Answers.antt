@@ -25,8 +25,7 @@ number-number-requires-clause-row g c = subst (g.R.NumberRow.is_row c.args.row.n
 
 pub number-number-requires-clause-inside : goal.number-number-requires-clause-inside
 number-number-requires-clause-inside g c =
-    let names = g.R.NumberRow.names c.args.row.now in
-    let sources = sources_at (graph_in c.args.heap.now) names in
+    let sources = sources_at (graph_in c.args.heap.now) (g.R.NumberRow.names c.args.row.now) in
     let count = c.count-k-end.ensures sources c.requires.row in
     subst (λ (s : Sources). c.loop-k.k < length (g.R.NumberRow.numbers c.args.row.now s)) (sym c.loop-k.invariant.sources) (omega (arith, c.loop-k-test.true, count))
 
@@ -65,7 +64,6 @@ loop-k-preserved g c =
 
 pub returns : goal.returns
 returns g c =
-    let names = g.R.NumberRow.names c.args.row.now in
-    let sources = sources_at (graph_in c.args.heap.now) names in
+    let sources = sources_at (graph_in c.args.heap.now) (g.R.NumberRow.names c.args.row.now) in
     let count = c.count-k-end.ensures sources c.requires.row in
     record { puts = c.loop-k.invariant.rest c.loop-k.heap (no_number c.loop-k.heap c.args.s c.args.first c.loop-k.k (g.R.NumberRow.numbers c.args.row.now sources) (omega (arith, c.loop-k-test.false, count))) }

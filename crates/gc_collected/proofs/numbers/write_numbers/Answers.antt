@@ -8,11 +8,10 @@ use Rattle.gc_plan.specs.Belonging.{IsOpened}
 use Rattle.gc_copy.specs.Words.{CollectionWords, BelongsTo, open_state}
 use Rattle.gc_along.specs.Claims.{CanWriteRow}
 use Rattle.gc_along.specs.Events.{WroteRow}
-use Rattle.gc_collected.specs.Numbers.{numbers_given}
 use Rattle.gc_collected.specs.Internal.Beside.{AreOld}
 use Rattle.gc_collected.specs.Internal.CollectedHeap.{BelongsIfOpen, Fits, state_in}
 use Rattle.gc_collected.specs.Internal.Follows.{Follows}
-use Rattle.gc_collected.specs.Internal.Numbered.{numbered, sources_at}
+use Rattle.gc_collected.specs.Internal.Numbered.{numbered, numbers_given, sources_at}
 use Rattle.gc_collected.specs.Internal.Together.{LogsIfOpen, fields_from}
 use Rattle.gc_collected.proofs.CopiesDone.{row_told}
 use Rattle.gc_collected.proofs.Numbered.{number_fields, numbers_are}

@@ -1,4 +1,4 @@
--- There are as many words as fields for them.
+-- The word that is asked for is one of those that the fields take.
 use Rattle.std.proofs.Common.{arith}
 use Rattle.gc_collected.proofs.bytes.BytesNumberRow.number.Goals as goal
 
