@@ -163,8 +163,7 @@ module _ (size : ℕ) (s : St) (r : IsConcurrent size s) (k id : ℕ) (me : Sat)
       let seen : List ℕ = me.0.seen ++ more in
       let space : IsSpace (seen_space seen r.mine) = seen_is_space (seen_space seen r.mine) f.1.events f.1.could in
       let whole : IsSeen (length seen) seen = whole_seen (seen_space seen r.mine) space in
-      let there : header_at seen k ≡ Some f.0 = ap (header_at seen) at ∙ f.2 in
-      (
+      let there : header_at seen k ≡ Some f.0 = ap (header_at seen) at ∙ f.2 in (
         record me.0 { seen = seen },
         seen_keeps size s r k id me.0 me.1 seen seat copies f.1,
         λ upto. (
@@ -194,9 +193,9 @@ module _ (size : ℕ) (s : St) (r : IsConcurrent size s) (k id : ℕ) (me : Sat)
   sees_at inside = ⊎_elim
       (λ less. known_object less)
       (λ past. ⊎_elim
-          (λ less. ⊎_elim (λ at. new_object at (omega (arith, at, less))) (λ other. behind_seen (omega (arith, past, other_than k (length me.0.seen) past other))) (cases_eq k (length me.0.seen)))
-          (λ end. nothing end inside)
-          (cases_lt k (length r.mine.space.words)))
+      (λ less. ⊎_elim (λ at. new_object at (omega (arith, at, less))) (λ other. behind_seen (omega (arith, past, other_than k (length me.0.seen) past other))) (cases_eq k (length me.0.seen)))
+      (λ end. nothing end inside)
+      (cases_lt k (length r.mine.space.words)))
       (cases_lt k (length me.0.seen))
     where
       other_than : (a b : ℕ) → b ≤ a → (a ≡ b → ⊥) → b < a
