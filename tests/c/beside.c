@@ -622,8 +622,8 @@ static void memory_of_flips(void)
             first = bytes_in_use();
         EXPECT(flip == 0 || bytes_in_use() == first);
     }
-    /* two spaces of cells and claims for both, and less than 8 KiB of other blocks */
-    EXPECT(first < 2 * (8 + 4) * (1 << 16) + 8192);
+    /* two spaces of cells and claims for both, less than 3 bytes a word for the checker's tables, and less than 8 KiB of other blocks */
+    EXPECT(first < (2 * (8 + 4) + 3) * (1 << 16) + 8192);
     close_both();
 }
 

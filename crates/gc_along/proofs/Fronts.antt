@@ -131,8 +131,7 @@ module _ (n : ℕ) (words : List ℕ) (seen : IsSeen n words) (whole : IsSeen (l
       let there = some_of (next_of words n) (has_next words n less goes_behind.0) in
       let b : Behind words n there.0 = behind words n there.0 less goes_behind.0 there.1 in
       let count : length (take n words) ≡ n = omega (arith, length-take n words, seen.within) in
-      let none : block_at (take n words) n ≡ None = subst (λ m. block_at (take n words) m ≡ None) count (none_at_end (front n words) seen.space) in
-      (
+      let none : block_at (take n words) n ≡ None = subst (λ m. block_at (take n words) m ≡ None) count (none_at_end (front n words) seen.space) in (
         b.step.header,
         record { header = b.step.word; within = omega (arith, b.step.within, b.step.place); bound = (let top : length (take (length words) words) ≤ 4294967295 = whole.space.end_high in omega (arith, b.step.within, b.step.place, top, length-take (length words) words)) },
         ap (λ bs. header_of (block_in bs n)) (goes_behind.1 ∙ ap (λ bs. blocks (take n words) ++ bs) b.objects)

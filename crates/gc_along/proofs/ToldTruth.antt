@@ -17,7 +17,7 @@ use Rattle.gc_along.specs.Internal.Watch.{OldIsDue, mark, pair_at, looked}
 use Rattle.gc_along.specs.Origins.{pairs_in, pairs_from}
 use Rattle.gc_along.specs.Outline.{outline_of}
 use Rattle.gc_along.specs.Tables.{Tables, IsKept, watch_of, due_in}
-use Rattle.gc_along.specs.Claims.{Accepts, HasField}
+use Rattle.gc_along.specs.Claims.{Accepts, IsPassedField}
 use Rattle.gc_along.proofs.Seen.{certified}
 use Rattle.gc_along.specs.Telling.{MarksAreStarts, Tells}
 use Rattle.gc_along.specs.Events.{code_of, object_codes, with_news, with_due, old_added, replica_added, IsCopy, Made, Saw, Placed, PlacedBy, IsFieldOf, Looked, IsReplicaAt, HasNoReplica, Wrote, Applied, Freed, opening_tables, flipped_tables}
@@ -429,7 +429,7 @@ link_anywhere_tells old new t a x tells whole start = ⊎_elim
     b = some_of (block_at old a) start
 
 -- a replica has its original's fields
-module _ (old new : List ℕ) (t : Tables) (tells : Tells old new t) (b i : ℕ) (has : HasField (slice_index new b) t b i) where
+module _ (old new : List ℕ) (t : Tables) (tells : Tells old new t) (b i : ℕ) (has : IsPassedField (slice_index new b) t b i) where
   abbrev its_origin : ℕ
   its_origin = get_or t.origins b 0
 

@@ -29,7 +29,7 @@ abbrev pub CanLook : List ℕ → List ℕ → ℕ → ℕ → Tables → Type 0
 CanLook old new b i t = (h : Header) × (a : ℕ) × IsFieldOf new t h a b i × (field_place a i < length old) × (field_place b i < length new)
 
 -- A replica starts at b. An object with this header word has field i, and the walk over the new space has passed it.
-pub record HasField (word : ℕ) (t : Tables) (b i : ℕ) : Type 0 where
+pub record IsPassedField (word : ℕ) (t : Tables) (b i : ℕ) : Type 0 where
   pub header : Header
   pub is : read_header word ≡ Some header
   pub has_field : i < header.len

@@ -17,7 +17,7 @@ use Rattle.gc_along.specs.Telling.{Tells}
 use Rattle.gc_along.specs.Watch.{IsSeen, front}
 use Rattle.gc_along.specs.Events.{Saw, PlacedBy, Looked, Wrote, HasNoReplica, code_of, object_codes}
 use Rattle.gc_along.specs.Origins.{pairs_in}
-use Rattle.gc_along.specs.Claims.{HasField, ShowsField}
+use Rattle.gc_along.specs.Claims.{IsPassedField, ShowsField}
 use Rattle.gc_along.proofs.Public.{all_of, codes_length, found_in_all, anywhere_tells, link_anywhere_tells, both_tells, none_replicated, old_more_tells, original_field, placed_by_tells, saw_tells, new_more_tells}
 use Rattle.gc_concurrent.specs.Ends.{Known}
 use Rattle.gc_concurrent.specs.Internal.Told.{Event, Put, Link, Make, after_all, CouldHappen, written_by, seen_space}
@@ -29,9 +29,6 @@ use Rattle.gc_concurrent.proofs.Seeing.{whole_seen}
 -- where the checker is not lost, its facts hold, and where it is, all follows
 pub through : (t after : Tables) (seen after_seen new after_new : List ℕ) → (Follows t seen new → Follows after after_seen after_new) → ∥ Follows t seen new ∥₁ → ∥ Follows after after_seen after_new ∥₁
 through t after seen after_seen new after_new f h = ∥∥₁_elim h (hlevel props) (λ x. ∣ f x ∣₁)
-
-pub lost_follows : (t : Tables) (seen new : List ℕ) → t.lost ≡ true → Follows t seen new
-lost_follows t seen new lost found = absurd (let no : true ≡ false = sym lost ∙ found in cc)
 
 -- steps that change nothing but what is seen, one after the other
 pub seeing_on : (a b c : Sat) (seen : List ℕ) → b ≡ seeing b.0.seen a → c ≡ seeing seen b → c ≡ seeing c.0.seen a
@@ -64,18 +61,18 @@ saw_follows t after new found me me' fine told sees follows ok =
 -- ---- a field compared
 
 -- a field of a replica is one of its original, as it was seen
-pub original_seen : (t : Tables) (seen new : List ℕ) (b i word : ℕ) → t.lost ≡ false → slice_index new b ≡ word → HasField word t b i → Follows t seen new → IsSome (field_at seen (slice_index_or t.origins b 0) i)
+pub original_seen : (t : Tables) (seen new : List ℕ) (b i word : ℕ) → t.lost ≡ false → slice_index new b ≡ word → IsPassedField word t b i → Follows t seen new → IsSome (field_at seen (slice_index_or t.origins b 0) i)
 original_seen t seen new b i word fine is has follows =
     let f = follows fine in
     let a = slice_index_or t.origins b 0 in
-    let front_has : IsSome (field_at (take (length t.olds) seen) a i) = original_field seen new t f.0 b i (subst (λ w. HasField w t b i) (sym is) has) in
+    let front_has : IsSome (field_at (take (length t.olds) seen) a i) = original_field seen new t f.0 b i (subst (λ w. IsPassedField w t b i) (sym is) has) in
     field_kept seen (length t.olds) f.0.watches.old_seen f.1 a i (block_at (take (length t.olds) seen) a) refl front_has
   where
     field_kept : (seen : List ℕ) (n : ℕ) → IsSeen n seen → IsSeen (length seen) seen → (a i : ℕ) (o : Option Block) → block_at (take n seen) a ≡ o → is_some (field_in o i) ≡ true → IsSome (field_at seen a i)
     field_kept seen n part whole a i None e some = absurd (let wrong : false ≡ true = some in cc)
     field_kept seen n part whole a i (Some b) e some = ap (λ o. is_some (field_in o i)) (found_in_all n seen part whole a b e) ∙ some
 
-pub looked_follows : (t after : Tables) (seen new : List ℕ) (b i word old x : ℕ) → t.lost ≡ false → slice_index new b ≡ word → field_place b i < length new → HasField word t b i
+pub looked_follows : (t after : Tables) (seen new : List ℕ) (b i word old x : ℕ) → t.lost ≡ false → slice_index new b ≡ word → field_place b i < length new → IsPassedField word t b i
     → (after.lost ≡ false → (olds news : List ℕ) → ShowsField olds news t b i word old x → Looked olds news b i t after)
     → Follows t seen new → Follows after (slice_set seen (field_place (slice_index_or t.origins b 0) i) old) (slice_set new (field_place b i) x)
 looked_follows t after seen new b i word old x fine is inside has looked follows ok =
@@ -122,8 +119,7 @@ placed_follows t after seen new more word name original h lost is long at told p
     let len : by.header.len ≡ h.len = ap (λ (h : Header). h.len) same in
     let news : length after.news ≡ length t.news + (by.header.len + 2) = ap (λ (t : Tables). length t.news) by.added ∙ omega (arith, length-append t.news (object_codes by.header.len 3), codes_length by.header.len 3) in
     let count = f.2 in
-    let all : length (new ++ more) ≡ length new + length more = length-append new more in
-    (
+    let all : length (new ++ more) ≡ length new + length more = length-append new more in (
       placed_by_tells seen (new ++ more) t after word name (new_more_tells seen new more t f.0) by
           (same_word (slice_index seen name) word by.header (start_seen t seen new name word original by.header f.0 f.1 by.start told p.0 by.is) by.is)
           (subst (λ n. slice_index (new ++ more) n ≡ word) (sym count) at)
@@ -156,7 +152,7 @@ one_more xs k t mid after less lost found told last =
     subst (λ ys. WroteEach ys t after) (sym (ap (λ n. take n xs) (let e : k + 1 ≡ suc k = omega arith in e) ∙ take_one xs k less)) (told_on (take k xs) (get_or xs k (0, 0)) t mid after (told fine) last)
 
 -- the tables tell the truth of the words as they are after all events
-pub replays : (s : SpaceWords) (new : List ℕ) (es : List Event) (t after : Tables) → CouldHappen s es → WroteEach (written_by es) t after → Tells s.words new t → Tells (after_all s es).words new after
+replays : (s : SpaceWords) (new : List ℕ) (es : List Event) (t after : Tables) → CouldHappen s es → WroteEach (written_by es) t after → Tells s.words new t → Tells (after_all s es).words new after
 replays s new [] t after could told tells = subst (Tells s.words new) (sym told) tells
 replays s new (Put a i w ∷ es) t after could told tells =
     let split = told_apart (written_by es) (a, i) t after told in
@@ -170,7 +166,7 @@ unwritten [] t none = refl
 unwritten (x ∷ xs) t none = (t, inl (none x.0, refl), unwritten xs t none)
 
 -- as many words as there were
-pub told_rows : (xs : List (ℕ × ℕ)) (t after : Tables) → WroteEach xs t after → length after.news ≡ length t.news
+told_rows : (xs : List (ℕ × ℕ)) (t after : Tables) → WroteEach xs t after → length after.news ≡ length t.news
 told_rows [] t after w = ap (λ (t : Tables). length t.news) w
 told_rows (x ∷ xs) t after w = told_rows xs w.0 after w.2 ∙ one w.1
   where
@@ -186,9 +182,9 @@ catches_up_follows v t after new is short lost told follows ok =
     let f = follows fine in
     let s : SpaceWords = seen_space v.seen v.mine in
     let each : WroteEach (written_by is.told.events) t after = ⊎_elim
-        (λ (e : v.mine.logs ≡ true). subst (λ xs. WroteEach xs t after) (sym (is.told.logged e)) (told ok))
-        (λ (e : v.mine.logs ≡ false). subst (WroteEach (written_by is.told.events) t) (sym (subst (λ xs. WroteEach xs t after) (is.rests e).1 (told ok))) (unwritten (written_by is.told.events) t (none_replicated v.seen new t f.0 (short (is.rests e).0))))
-        (cases_Bool v.mine.logs) in (
+    (λ (e : v.mine.logs ≡ true). subst (λ xs. WroteEach xs t after) (sym (is.told.logged e)) (told ok))
+    (λ (e : v.mine.logs ≡ false). subst (WroteEach (written_by is.told.events) t) (sym (subst (λ xs. WroteEach xs t after) (is.rests e).1 (told ok))) (unwritten (written_by is.told.events) t (none_replicated v.seen new t f.0 (short (is.rests e).0))))
+    (cases_Bool v.mine.logs) in (
       subst (λ (z : SpaceWords). Tells z.words new after) (sym is.told.now) (replays s new is.told.events t after is.told.could each f.0),
       whole_seen v.mine.space (subst IsSpace (sym is.told.now) (space_after s is.told.events is.told.could)),
       told_rows (written_by is.told.events) t after each ∙ f.2,

@@ -16,7 +16,7 @@ use Rattle.gc_concurrent.specs.Ends.{Known, Mine, Theirs}
 use Rattle.gc_concurrent.specs.Unreachable.{MayBeCopied}
 use Rattle.gc_concurrent.specs.Internal.Plans.{collection_of, plan}
 use Rattle.gc_concurrent.specs.Internal.Rule.{AreSeated, CatchesUp, IsConcurrent, Seated, Sat, logs_taken, root_wanted, wants, tells_take, tells_root}
-use Rattle.gc_concurrent.specs.Internal.Told.{IsTold}
+use Rattle.gc_concurrent.specs.Internal.Told.{ComesFromSeen}
 use Rattle.gc_concurrent.proofs.Hands.{St, seat_set}
 use Rattle.gc_concurrent.proofs.Shown.{shown_anew}
 use Rattle.gc_concurrent.proofs.Told.{caught_up}
@@ -59,7 +59,7 @@ catches_up size s r id v seat writes copies =
     let theirs : v.theirs ≡ r.theirs = ((r.seats id v seat).1 copies).1 in
     let seen : v.seen ≡ r.seen = r.shown id v seat copies in
     record {
-      told = subst (λ (z : List ℕ × Mine). IsTold z.0 z.1) (λ j. (sym seen j, sym mine j)) r.told;
+      told = subst (λ (z : List ℕ × Mine). ComesFromSeen z.0 z.1) (λ j. (sym seen j, sym mine j)) r.told;
       rests = λ e. let k = r.rests (ap (λ (m : Mine). m.logs) (sym mine) ∙ e) in (ap (λ (t : Theirs). t.replicas) theirs ∙ k.copied, ap (λ (m : Mine). m.log) mine ∙ k.logged);
     }
 

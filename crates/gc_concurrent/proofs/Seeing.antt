@@ -18,7 +18,7 @@ use Rattle.gc_along.specs.Watch.{IsSeen, IsNext}
 use Rattle.gc_along.proofs.Public.{all_of, start_there}
 use Rattle.gc_concurrent.specs.Ends.{Known}
 use Rattle.gc_concurrent.specs.Internal.Rule.{RootWords, IsConcurrent, Sat, Seated, SeesNext, seeing, tells_look, tells_header, tells_see}
-use Rattle.gc_concurrent.specs.Internal.Told.{IsTold, seen_space}
+use Rattle.gc_concurrent.specs.Internal.Told.{ComesFromSeen, seen_space}
 use Rattle.gc_concurrent.proofs.Hands.{St, seat_set, same}
 use Rattle.gc_concurrent.proofs.Shown.{shown_anew}
 use Rattle.gc_concurrent.proofs.Told.{field_stays, header_stays, look_told, see_told, seen_is_space}
@@ -49,7 +49,7 @@ next_of_start words a h whole ok e =
 
 -- a step that changes what is seen alone
 seen_keeps : (size : ℕ) (s : St) (r : IsConcurrent size s) (k id : ℕ) (v : Known) (c : List (ℕ × RootWords)) (seen : List ℕ) → get_elem? s.views id ≡ some v → v.copies ≡ true
-    → IsTold seen r.mine → IsConcurrent size (stepped s k (get_or s.words k 0) id c (record v { seen = seen }) keeps)
+    → ComesFromSeen seen r.mine → IsConcurrent size (stepped s k (get_or s.words k 0) id c (record v { seen = seen }) keeps)
 seen_keeps size s r k id v c seen here copies told =
     subst (λ (ws : List ℕ). IsConcurrent size (record { words = ws; homes = s.homes; views = set s.views id (record v { seen = seen }) })) (sym (set-get_or s.words k 0)) (record {
       mine = r.mine;
@@ -76,7 +76,7 @@ seen_keeps size s r k id v c seen here copies told =
 
 -- ---- a field
 
-module _ (size : ℕ) (s : St) (r : IsConcurrent size s) (seen : List ℕ) (told_of : IsTold seen r.mine) where
+module _ (size : ℕ) (s : St) (r : IsConcurrent size s) (seen : List ℕ) (told_of : ComesFromSeen seen r.mine) where
   field_now : (a i : ℕ) → IsSome (field_at seen a i) → slice_index r.mine.space.words (field_place a i) ≡ get_or s.words (field_place a i) 0
   field_now a i has =
       let there : IsSome (field_at r.mine.space.words a i) = subst (λ (z : SpaceWords). IsSome (field_at z.words a i)) (sym told_of.now) (field_stays (seen_space seen r.mine) told_of.events a i told_of.could has) in
@@ -91,7 +91,7 @@ module _ (size : ℕ) (s : St) (r : IsConcurrent size s) (seen : List ℕ) (told
       from (Some b) e is = let st = stands_in r.mine.space.words a b (r.space).walked e in ap read_header (r.now a (omega (arith, st.fits))) ∙ st.header ∙ is
 
 header_now : (size : ℕ) (s : St) (r : IsConcurrent size s) (seen : List ℕ) → r.seen ≡ seen → (a : ℕ) (h : Header) → header_at seen a ≡ Some h → read_header (get_or s.words a 0) ≡ Some h
-header_now size s r seen is = now_header size s r seen (subst (λ ws. IsTold ws r.mine) is r.told)
+header_now size s r seen is = now_header size s r seen (subst (λ ws. ComesFromSeen ws r.mine) is r.told)
 
 looks_rule : (slots size id : ℕ) (me : Sat) (a i : ℕ) → me.0.copies ≡ true → IsSome (field_at me.0.seen a i)
     → Allows (IsConcurrent size) slots id me (field_place a i) (λ x. x) (tells_look (step slots (field_place a i) 0 0 none) me)
@@ -99,12 +99,12 @@ looks_rule slots size id me a i copies has s r _ seat _ =
     let seen : r.seen ≡ me.0.seen = sym (r.shown id me.0 seat copies) in
     let k : ℕ = field_place a i in
     let y : ℕ = get_or s.words k 0 in
-    let told : IsTold me.0.seen r.mine = subst (λ ws. IsTold ws r.mine) seen r.told in (
+    let told : ComesFromSeen me.0.seen r.mine = subst (λ ws. ComesFromSeen ws r.mine) seen r.told in (
       record me.0 { seen = slice_set me.0.seen k y },
       keeps,
       tt,
       seen_keeps size s r k id me.0 me.1 (slice_set me.0.seen k y) seat copies
-          (subst (λ z. IsTold (slice_set me.0.seen k z) r.mine) (field_now size s r me.0.seen told a i has) (look_told me.0.seen r.mine a i told has)),
+          (subst (λ z. ComesFromSeen (slice_set me.0.seen k z) r.mine) (field_now size s r me.0.seen told a i has) (look_told me.0.seen r.mine a i told has)),
       λ b j _ _. refl,
     )
 
@@ -127,8 +127,8 @@ module _ (size : ℕ) (s : St) (r : IsConcurrent size s) (k id : ℕ) (me : Sat)
   is_seen : r.seen ≡ me.0.seen
   is_seen = sym (r.shown id me.0 seat copies)
 
-  told_here : IsTold me.0.seen r.mine
-  told_here = subst (λ ws. IsTold ws r.mine) is_seen r.told
+  told_here : ComesFromSeen me.0.seen r.mine
+  told_here = subst (λ ws. ComesFromSeen ws r.mine) is_seen r.told
 
   whole_here : IsSeen (length me.0.seen) me.0.seen
   whole_here = whole_seen (seen_space me.0.seen r.mine) (seen_is_space (seen_space me.0.seen r.mine) told_here.events told_here.could)
@@ -163,8 +163,7 @@ module _ (size : ℕ) (s : St) (r : IsConcurrent size s) (k id : ℕ) (me : Sat)
       let seen : List ℕ = me.0.seen ++ more in
       let space : IsSpace (seen_space seen r.mine) = seen_is_space (seen_space seen r.mine) f.1.events f.1.could in
       let whole : IsSeen (length seen) seen = whole_seen (seen_space seen r.mine) space in
-      let there : header_at seen k ≡ Some f.0 = ap (header_at seen) at ∙ f.2 in
-      (
+      let there : header_at seen k ≡ Some f.0 = ap (header_at seen) at ∙ f.2 in (
         record me.0 { seen = seen },
         seen_keeps size s r k id me.0 me.1 seen seat copies f.1,
         λ upto. (
@@ -194,9 +193,9 @@ module _ (size : ℕ) (s : St) (r : IsConcurrent size s) (k id : ℕ) (me : Sat)
   sees_at inside = ⊎_elim
       (λ less. known_object less)
       (λ past. ⊎_elim
-          (λ less. ⊎_elim (λ at. new_object at (omega (arith, at, less))) (λ other. behind_seen (omega (arith, past, other_than k (length me.0.seen) past other))) (cases_eq k (length me.0.seen)))
-          (λ end. nothing end inside)
-          (cases_lt k (length r.mine.space.words)))
+      (λ less. ⊎_elim (λ at. new_object at (omega (arith, at, less))) (λ other. behind_seen (omega (arith, past, other_than k (length me.0.seen) past other))) (cases_eq k (length me.0.seen)))
+      (λ end. nothing end inside)
+      (cases_lt k (length r.mine.space.words)))
       (cases_lt k (length me.0.seen))
     where
       other_than : (a b : ℕ) → b ≤ a → (a ≡ b → ⊥) → b < a

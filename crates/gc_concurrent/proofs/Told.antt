@@ -11,7 +11,7 @@ use Rattle.gc_words.specs.declared.header.Header.{Header}
 use Rattle.gc_words.proofs.Public.{field_read, field_written, field_block, field_beside, header_read, link_written, none_at_end, placed, placed_beside, placed_block}
 use Rattle.gc_concurrent.specs.Ends.{Mine}
 use Rattle.gc_concurrent.specs.Internal.Rule.{wrote, made, linked_to}
-use Rattle.gc_concurrent.specs.Internal.Told.{Event, Put, Link, Make, after_all, CouldHappen, written_by, seen_space, IsTold}
+use Rattle.gc_concurrent.specs.Internal.Told.{Event, Put, Link, Make, after_all, CouldHappen, written_by, seen_space, ComesFromSeen}
 
 -- ---- lists
 
@@ -43,19 +43,19 @@ module _ (s : SpaceWords) (c j x : ℕ) (space : IsSpace s) (has : IsSome (field
   put_header : (a : ℕ) → header_at (with_field_at s c j x).words a ≡ header_at s.words a
   put_header a = ⊎_elim
       (λ same. let b = its_block in
-          ap (header_at (with_field_at s c j x).words) (sym same)
-          ∙ ap header_of (field_block s c j x b.0 space has b.1)
-          ∙ ap header_of (sym b.1)
-          ∙ ap (header_at s.words) same)
+      ap (header_at (with_field_at s c j x).words) (sym same)
+      ∙ ap header_of (field_block s c j x b.0 space has b.1)
+      ∙ ap header_of (sym b.1)
+      ∙ ap (header_at s.words) same)
       (λ other. ap header_of (field_beside s c j x a space has other))
       (cases_eq c a)
 
   pub put_field : (a i : ℕ) → IsSome (field_at s.words a i) → IsSome (field_at (with_field_at s c j x).words a i)
   put_field a i some = ⊎_elim
       (λ same. let b = its_block in
-          subst (λ a. IsSome (field_at (with_field_at s c j x).words a i)) same
-          (ap (λ o. is_some (field_in o i)) (field_block s c j x b.0 space has b.1)
-          ∙ set_some b.0.fields j x i (ap (λ o. is_some (field_in o i)) (sym b.1) ∙ ap (λ a. is_some (field_at s.words a i)) same ∙ some)))
+      subst (λ a. IsSome (field_at (with_field_at s c j x).words a i)) same
+      (ap (λ o. is_some (field_in o i)) (field_block s c j x b.0 space has b.1)
+      ∙ set_some b.0.fields j x i (ap (λ o. is_some (field_in o i)) (sym b.1) ∙ ap (λ a. is_some (field_at s.words a i)) same ∙ some)))
       (λ other. ap (λ o. is_some (field_in o i)) (field_beside s c j x a space has other) ∙ some)
       (cases_eq c a)
 
@@ -106,13 +106,13 @@ space_after s (Put a i w ∷ es) could = (field_written (after_all s es) a i w (
 space_after s (Link a w ∷ es) could = (link_written (after_all s es) a w (space_after s es could.1) could.0).0
 space_after s (Make h ∷ es) could = (placed (after_all s es) h could.0).0
 
-pub size_after : (s : SpaceWords) (es : List Event) → (after_all s es).size ≡ s.size
+size_after : (s : SpaceWords) (es : List Event) → (after_all s es).size ≡ s.size
 size_after s [] = refl
 size_after s (Put a i w ∷ es) = size_after s es
 size_after s (Link a w ∷ es) = size_after s es
 size_after s (Make h ∷ es) = size_after s es
 
-pub long_after : (s : SpaceWords) (es : List Event) → length s.words ≤ length (after_all s es).words
+long_after : (s : SpaceWords) (es : List Event) → length s.words ≤ length (after_all s es).words
 long_after s [] = omega arith
 long_after s (Put a i w ∷ es) = omega (arith, long_after s es, length-set (after_all s es).words (field_place a i) w)
 long_after s (Link a w ∷ es) = omega (arith, long_after s es, length-set (after_all s es).words (link_place a) w)
@@ -144,9 +144,9 @@ replayed_put s a i y c j w es could has ih = ⊎_elim
       (subst (λ (z : SpaceWords). IsSome (field_at z.words c j)) (sym e) (put_field (after_all s es) a i y (space_after s es could.1) (field_stays s es a i could.1 has) c j could.0), ih.0),
       ⊎_elim
           (λ same. inl (ap (λ z. with_field_at z c j w) e
-              ∙ ap (λ ws. record (after_all s es) { words = ws }) (ap (λ p. set (set (after_all s es).words p y) (field_place c j) w) same ∙ set-set (after_all s es).words (field_place c j) y w)))
+          ∙ ap (λ ws. record (after_all s es) { words = ws }) (ap (λ p. set (set (after_all s es).words p y) (field_place c j) w) same ∙ set-set (after_all s es).words (field_place c j) y w)))
           (λ other. inr (ap (λ z. with_field_at z c j w) e
-              ∙ ap (λ ws. record (after_all s es) { words = ws }) (set_swap (after_all s es).words (field_place a i) (field_place c j) y w other)))
+          ∙ ap (λ ws. record (after_all s es) { words = ws }) (set_swap (after_all s es).words (field_place a i) (field_place c j) y w other)))
           (cases_eq (field_place a i) (field_place c j)),
     ))
     ih.1
@@ -158,9 +158,9 @@ replayed_link s a i y c w es could has ih = ⊎_elim
       (subst (λ (z : SpaceWords). is_start z.words c ≡ true) (sym e) (put_start (after_all s es) a i y (space_after s es could.1) (field_stays s es a i could.1 has) c could.0), ih.0),
       ⊎_elim
           (λ same. inl (ap (λ z. with_link z c w) e
-              ∙ ap (λ ws. record (after_all s es) { words = ws }) (ap (λ p. set (set (after_all s es).words p y) (link_place c) w) same ∙ set-set (after_all s es).words (link_place c) y w)))
+          ∙ ap (λ ws. record (after_all s es) { words = ws }) (ap (λ p. set (set (after_all s es).words p y) (link_place c) w) same ∙ set-set (after_all s es).words (link_place c) y w)))
           (λ other. inr (ap (λ z. with_link z c w) e
-              ∙ ap (λ ws. record (after_all s es) { words = ws }) (set_swap (after_all s es).words (field_place a i) (link_place c) y w other)))
+          ∙ ap (λ ws. record (after_all s es) { words = ws }) (set_swap (after_all s es).words (field_place a i) (link_place c) y w other)))
           (cases_eq (field_place a i) (link_place c)),
     ))
     ih.1
@@ -171,11 +171,14 @@ replayed_make s a i y h es could has ih =
     ⊎_elim
     (λ e. ((subst (λ z. CanPlace z h) (sym e) could.0, ih.0), inl (ap (λ z. with_object z h) e)))
     (λ e. (
-      (subst (λ z. CanPlace z h) (sym e) (record {
-        shaped = (field_written (after_all s es) a i y (space_after s es could.1) has').0;
-        header = could.0.header;
-        room = omega (arith, could.0.room, length-set (after_all s es).words (field_place a i) y);
-      }), ih.0),
+      (
+        subst (λ z. CanPlace z h) (sym e) (record {
+          shaped = (field_written (after_all s es) a i y (space_after s es could.1) has').0;
+          header = could.0.header;
+          room = omega (arith, could.0.room, length-set (after_all s es).words (field_place a i) y);
+        }),
+        ih.0,
+      ),
       inr (ap (λ z. with_object z h) e
           ∙ ap (λ ws. record (after_all s es) { words = ws }) (sym (set_front (after_all s es).words (block_words 0 (fresh_block h)) (field_place a i) y (field_read (after_all s es).words a i (space_after s es could.1).walked has').within))),
     ))
@@ -188,7 +191,7 @@ replayed s a i y (Link c w ∷ es) could has = replayed_link s a i y c w es coul
 replayed s a i y (Make h ∷ es) could has = replayed_make s a i y h es could has (replayed s a i y es could.1 has)
 
 -- a field of the words that were seen becomes what it is now
-pub look_told : (seen : List ℕ) (m : Mine) (a i : ℕ) → IsTold seen m → IsSome (field_at seen a i) → IsTold (slice_set seen (field_place a i) (slice_index m.space.words (field_place a i))) m
+pub look_told : (seen : List ℕ) (m : Mine) (a i : ℕ) → ComesFromSeen seen m → IsSome (field_at seen a i) → ComesFromSeen (slice_set seen (field_place a i) (slice_index m.space.words (field_place a i))) m
 look_told seen m a i is has =
     let s = seen_space seen m in
     let p = field_place a i in
@@ -200,7 +203,7 @@ look_told seen m a i is has =
       now = is.now ∙ sym (⊎_elim
           (λ e. e)
           (λ e. e ∙ ap (λ ws. record (after_all s is.events) { words = ws })
-              (ap (λ (w : SpaceWords). set (after_all s is.events).words p (slice_index w.words p)) is.now ∙ set-get_or (after_all s is.events).words p 0))
+          (ap (λ (w : SpaceWords). set (after_all s is.events).words p (slice_index w.words p)) is.now ∙ set-get_or (after_all s is.events).words p 0))
           r.1);
       logged = is.logged;
     }
@@ -230,14 +233,13 @@ puts_behind s h (Put c j w ∷ es) can could none =
       ap (λ z. with_field_at z c j w) ih.1
           ∙ ap (λ ws. record (after_all s es) { words = ws }) (set_front (after_all s es).words (block_words 0 (fresh_block h)) (field_place c j) w (field_read (after_all s es).words c j space.walked could.0).within),
     )
-
 puts_behind s h (Link c w ∷ es) can could none =
     let same : length (after_all s es).words ≡ length s.words = omega (arith, none, length-set (after_all s es).words (link_place c) w) in
-    let ih = puts_behind s h es can could.1 same in
+    let linked = puts_behind s h es can could.1 same in
     let space = space_after s es could.1 in
     let can' : CanPlace (after_all s es) h = record { shaped = space; header = can.header; room = omega (arith, can.room, size_after s es, same) } in (
-      (subst (λ (z : SpaceWords). is_start z.words c ≡ true) (sym ih.1) (make_start (after_all s es) h can' c could.0), ih.0),
-      ap (λ z. with_link z c w) ih.1
+      (subst (λ (z : SpaceWords). is_start z.words c ≡ true) (sym linked.1) (make_start (after_all s es) h can' c could.0), linked.0),
+      ap (λ z. with_link z c w) linked.1
           ∙ ap (λ ws. record (after_all s es) { words = ws }) (set_front (after_all s es).words (block_words 0 (fresh_block h)) (link_place c) w (link_in (after_all s es) c space could.0)),
     )
   where
@@ -268,25 +270,25 @@ made_first s (Link c w ∷ es) could less =
     }
 made_first s (Make g ∷ es) could less = ⊎_elim
     (λ more.
-        let ih = made_first s es could.1 more in
-        record {
-          header = ih.header;
-          can = ih.can;
-          rest = Make g ∷ ih.rest;
-          could = (subst (λ z. CanPlace z g) (sym ih.same) could.0, ih.could);
-          same = ap (λ z. with_object z g) ih.same;
-          written = ih.written;
-        })
+    let ih = made_first s es could.1 more in
+    record {
+      header = ih.header;
+      can = ih.can;
+      rest = Make g ∷ ih.rest;
+      could = (subst (λ z. CanPlace z g) (sym ih.same) could.0, ih.could);
+      same = ap (λ z. with_object z g) ih.same;
+      written = ih.written;
+    })
     (λ past.
-        let same : length (after_all s es).words ≡ length s.words = omega (arith, past, long_after s es) in
-        let can : CanPlace s g = record { shaped = seen_is_space s es could.1; header = could.0.header; room = omega (arith, could.0.room, size_after s es, same) } in
-        let b = puts_behind s g es can could.1 same in
-        record { header = g; can = can; rest = es; could = b.0; same = b.1; written = refl })
+    let same : length (after_all s es).words ≡ length s.words = omega (arith, past, long_after s es) in
+    let can : CanPlace s g = record { shaped = seen_is_space s es could.1; header = could.0.header; room = omega (arith, could.0.room, size_after s es, same) } in
+    let b = puts_behind s g es can could.1 same in
+    record { header = g; can = can; rest = es; could = b.0; same = b.1; written = refl })
     (cases_lt (length s.words) (length (after_all s es).words))
 
 -- where there are more words than were seen, the next object is seen as it was made
-pub see_told : (seen : List ℕ) (m : Mine) → IsTold seen m → length seen < length m.space.words
-    → (h : Header) × IsTold (seen ++ block_words 0 (fresh_block h)) m × (header_at (seen ++ block_words 0 (fresh_block h)) (length seen) ≡ Some h)
+pub see_told : (seen : List ℕ) (m : Mine) → ComesFromSeen seen m → length seen < length m.space.words
+    → (h : Header) × ComesFromSeen (seen ++ block_words 0 (fresh_block h)) m × (header_at (seen ++ block_words 0 (fresh_block h)) (length seen) ≡ Some h)
 see_told seen m is less =
     let s = seen_space seen m in
     let f = made_first s is.events is.could (subst (λ (w : SpaceWords). length seen < length w.words) is.now less) in (
@@ -297,7 +299,7 @@ see_told seen m is less =
 
 -- ---- a mutator's step
 
-pub put_told : (seen : List ℕ) (m : Mine) (a i w : ℕ) → IsSome (field_at m.space.words a i) → IsTold seen m → IsTold seen (wrote a i w m)
+pub put_told : (seen : List ℕ) (m : Mine) (a i w : ℕ) → IsSome (field_at m.space.words a i) → ComesFromSeen seen m → ComesFromSeen seen (wrote a i w m)
 put_told seen m a i w has is = record {
   events = Put a i w ∷ is.events;
   could = (subst (λ (z : SpaceWords). IsSome (field_at z.words a i)) is.now has, is.could);
@@ -305,7 +307,7 @@ put_told seen m a i w has is = record {
   logged = λ e. ap (λ xs. xs ++ (a, i) ∷ []) (is.logged e) ∙ sym (cond-true m.logs (m.log ++ (a, i) ∷ []) m.log e);
 }
 
-pub linked_told : (seen : List ℕ) (m : Mine) (a w : ℕ) → is_start m.space.words a ≡ true → IsTold seen m → IsTold seen (linked_to a w m)
+pub linked_told : (seen : List ℕ) (m : Mine) (a w : ℕ) → is_start m.space.words a ≡ true → ComesFromSeen seen m → ComesFromSeen seen (linked_to a w m)
 linked_told seen m a w start is = record {
   events = Link a w ∷ is.events;
   could = (subst (λ (z : SpaceWords). is_start z.words a ≡ true) is.now start, is.could);
@@ -313,7 +315,7 @@ linked_told seen m a w start is = record {
   logged = is.logged;
 }
 
-pub made_told : (seen : List ℕ) (m : Mine) (h : Header) → CanPlace m.space h → IsTold seen m → IsTold seen (made h m)
+pub made_told : (seen : List ℕ) (m : Mine) (h : Header) → CanPlace m.space h → ComesFromSeen seen m → ComesFromSeen seen (made h m)
 made_told seen m h can is = record {
   events = Make h ∷ is.events;
   could = (subst (λ z. CanPlace z h) is.now can, is.could);
@@ -322,5 +324,5 @@ made_told seen m h can is = record {
 }
 
 -- where both ends are at hand, all words can be seen as they are
-pub caught_up : (m : Mine) → IsSpace m.space → m.log ≡ [] → IsTold m.space.words m
+pub caught_up : (m : Mine) → IsSpace m.space → m.log ≡ [] → ComesFromSeen m.space.words m
 caught_up m space none = record { events = []; could = space; now = refl; logged = λ e. sym none }

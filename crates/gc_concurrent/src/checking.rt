@@ -131,12 +131,7 @@ impl Held {
 
     /// Asks the checker whether the mutator may go on in the new space with these roots, if nothing is left to do. Fails if the checker refuses,
     /// which is proved never to occur, or if an allocation fails.
-    fn check<C: Checks>(
-        &mut self,
-        alloc: Global,
-        checker: &C,
-        moved: &[u64],
-    ) -> Result<(), NoFlip>
+    fn check<C: Checks>(&mut self, alloc: Global, checker: &C, moved: &[u64]) -> Result<(), NoFlip>
         requires can { C.can_check checker.now }
         requires left { HasNothingLeft self.old.roots.items self.old.copier.seat.me.0 }
         requires moved { moved.now ≡ moved_words (known_to self.old.copier) self.old.roots.items }

@@ -217,13 +217,19 @@ impl Collector {
     ghost use Rattle.std.specs.Prelude.{OnErr, OnOk};
     ghost use Rattle.gc_concurrent.specs.Works.{KeepsBeginning, WhereDone, WhereNoRoom};
 
-    /// Performs one step, beside the mutator.
+    /// Performs one step, beside the mutator. If nothing is left to do, the standing checker walks on over the objects that the mutator has made, so that
+    /// fewer are left to a flip.
     pub fn work(&mut self) -> Work
         ensures done { WhereDone result (known_to self.new.copier) }
         ensures room { WhereNoRoom result (known_to self.new.copier) }
         ensures begun { KeepsBeginning (known_to self.old.copier) (known_to self.new.copier) }
     {
-        self.copier.work()
+        let work = self.copier.work();
+        if work == Work::Done {
+            let size = self.copier.size;
+            self.copier.see(size);
+        }
+        work
     }
 
     /// Begins the collection anew, in a new space of `size` words, at least 1, and makes the memory that its flip takes. After a flip the new space has one

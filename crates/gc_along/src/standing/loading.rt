@@ -6,7 +6,7 @@ use gc_words::{Addr, Header, field_index};
 impl Standing {
     ghost use Rattle.std.specs.Prelude.{◌≡◌, ◌<◌, ◌≤◌, ◌+◌, ℕ, List, Some, IsTrue, IsFalse, IfNone, IfSome, length, slice_index, slice_index_or};
     ghost use Rattle.gc_along.specs.Events.{Saw, PlacedBy, Wrote, Looked};
-    ghost use Rattle.gc_along.specs.Claims.{CanPlaceBy, CanSee, CanWriteAt, HasField, ShowsField};
+    ghost use Rattle.gc_along.specs.Claims.{CanPlaceBy, CanSee, CanWriteAt, IsPassedField, ShowsField};
     ghost use Rattle.gc_words.specs.Word.{read_header};
 
     /// Returns whether something was not as it was told. No flip passes then.
@@ -84,8 +84,8 @@ impl Standing {
     /// Returns the original of the replica at `at`, if there is one, and an object with this header word has field `i`. This field of the
     /// original, loaded by the caller, is what `looked` compares.
     pub fn original_of(&self, at: u32, i: u16, word: u64) -> Option<u32>
-        ensures some { IfSome result (λ a. HasField word self.now at i × (a ≡ slice_index_or self.now.origins at 0)) }
-        ensures none { IfNone result (HasField word self.now at i → ⊥) }
+        ensures some { IfSome result (λ a. IsPassedField word self.now at i × (a ≡ slice_index_or self.now.origins at 0)) }
+        ensures none { IfNone result (IsPassedField word self.now at i → ⊥) }
     {
         let field = self.field_of(word, at, i)?;
         Some(field.original)
@@ -95,7 +95,7 @@ impl Standing {
     pub fn looked(&mut self, at: u32, i: u16, word: u64, old: u64, new: u64)
         ensures lost { IsTrue self.old.lost → IsTrue self.new.lost }
         ensures looked { IsFalse self.new.lost → (olds news : List ℕ) → ShowsField olds news self.old at i word old new → Looked olds news at i self.old self.new }
-        ensures stays { IsFalse self.old.lost → HasField word self.old at i → IsFalse self.new.lost }
+        ensures stays { IsFalse self.old.lost → IsPassedField word self.old at i → IsFalse self.new.lost }
     {
         if self.lost {
             return;

@@ -22,7 +22,7 @@ impl Standing {
     ghost use Rattle.gc_along.specs.Runs.{LookedAll, CanLookAll};
     ghost use Rattle.gc_along.specs.Internal.Runs.{LooksTo};
     ghost use Rattle.gc_along.specs.Tables.{Tables};
-    ghost use Rattle.gc_along.specs.Claims.{CanLook, HasField};
+    ghost use Rattle.gc_along.specs.Claims.{CanLook, IsPassedField};
 
     /// Compares field `i` of the replica at `at` as it is now.
     #[inline(always)]
@@ -67,7 +67,7 @@ impl Standing {
     pub(super) fn field_of(&self, word: u64, at: u32, i: u16) -> Option<Field>
         ensures some { IfSome result (λ f. (read_header word ≡ Some f.header) × (i < f.header.len) × (slice_index_or self.now.origins at 0 ≡ f.original) × (1 ≤ f.original)
             × (f.place ≡ field_place at i) × (f.place < length self.now.news)) }
-        ensures none { IfNone result (HasField word self.now at i → ⊥) }
+        ensures none { IfNone result (IsPassedField word self.now at i → ⊥) }
     {
         let original = self.origins.get(at as usize);
         if original == 0 {

@@ -23,7 +23,7 @@ use Rattle.gc_heap.specs.Heap.{HeapWords}
 use Rattle.gc_concurrent.specs.Ends.{Mine, Theirs, its, one_heap, opening_mine, opening_theirs, opening_view}
 use Rattle.gc_concurrent.specs.Internal.Carrying.{KeepsUnreachableOut}
 use Rattle.gc_concurrent.specs.Internal.Plans.{collection_of, plan}
-use Rattle.gc_concurrent.specs.Internal.Told.{IsTold}
+use Rattle.gc_concurrent.specs.Internal.Told.{ComesFromSeen}
 use Rattle.gc_along.specs.Watch.{IsNext, IsSeen}
 use Rattle.gc_concurrent.specs.Ends.{Known as View}
 
@@ -72,7 +72,7 @@ pub record IsConcurrent (size : ℕ) (s : State RootWords View) : Type 0 where
   pub fits : new_end (its theirs) ≤ end_of mine.space
   pub rests : mine.logs ≡ false → IsAtRest mine theirs
   pub seats : AreSeated writer copier mine theirs s.views
-  pub told : IsTold seen mine
+  pub told : ComesFromSeen seen mine
   pub shown : AreShown seen s.views
 
 -- the word of a field was written, and logged unless the collection is at rest
@@ -237,7 +237,7 @@ tells_leave st me found me' = tells_leave_of me.0.theirs st me found me' × Know
 
 -- How the words of a seat that is both ends come from those that were seen. While writes are not logged, there are no replicas, and the log is empty.
 pub record CatchesUp (v : View) : Type 0 where
-  pub told : IsTold v.seen v.mine
+  pub told : ComesFromSeen v.seen v.mine
   pub rests : v.mine.logs ≡ false → (v.theirs.replicas ≡ []) × (v.mine.log ≡ [])
 
 -- The mutator's log becomes the collector's. Both ends know the same heap with which the collection began.

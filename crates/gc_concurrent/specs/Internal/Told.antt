@@ -44,7 +44,7 @@ abbrev pub seen_space : List ℕ → Mine → SpaceWords
 seen_space seen m = record m.space { words = seen }
 
 -- The present words come from those that were seen. Once writes are logged, the log has the fields that were written since.
-pub record IsTold (seen : List ℕ) (m : Mine) : Type 0 where
+pub record ComesFromSeen (seen : List ℕ) (m : Mine) : Type 0 where
   pub events : List Event
   pub could : CouldHappen (seen_space seen m) events
   pub now : m.space ≡ after_all (seen_space seen m) events

@@ -209,7 +209,16 @@ fn no_flip_asks_another_checker(rt: HostRuntime) -> Result<(), Fail> {
     assert!(rt; told(&mut runner, put(own(0), 0, own(3))) == Some(Reply::Done));
     assert!(rt; told(&mut runner, put(own(3), 0, own(0))) == Some(Reply::Done));
     assert!(rt; collector.work() == Work::Step);
-    assert!(rt; told(&mut runner, Op::NewRaw { d: own(4), kind: 5, len: 3 }) == Some(Reply::Made));
+    assert!(rt;
+        told(
+            &mut runner,
+            Op::NewRaw {
+                d: own(4),
+                kind: 5,
+                len: 3
+            }
+        ) == Some(Reply::Made)
+    );
     assert!(rt; told(&mut runner, put(own(4), 2, own(1))) == Some(Reply::Done));
     assert!(rt; told(&mut runner, num(own(1), 5)) == Some(Reply::Done));
     assert!(rt; told(&mut runner, put(own(0), 1, own(1))) == Some(Reply::Done));
@@ -218,7 +227,9 @@ fn no_flip_asks_another_checker(rt: HostRuntime) -> Result<(), Fail> {
     let mut runner = waiting.resume().ok().ok_or("it may go on")?;
     assert!(rt; told(&mut runner, get(own(2), own(0), 1)) == Some(saw(5)));
     assert!(rt; told(&mut runner, get(own(2), own(4), 2)) == Some(saw(9)));
-    assert!(rt; told(&mut runner, get(own(2), own(0), 0)) == Some(Reply::Saw(View::Obj { kind: 4, len: 1 })));
+    assert!(rt;
+        told(&mut runner, get(own(2), own(0), 0)) == Some(Reply::Saw(View::Obj { kind: 4, len: 1 }))
+    );
     for k in 0..5 {
         assert!(rt; told(&mut runner, Op::Nil { d: own(k) }) == Some(Reply::Done));
     }
