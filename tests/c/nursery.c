@@ -1,4 +1,4 @@
-/* Tests gcflip_images for a nursery: the words that it writes meet the premise of the law of crates/gc_generations, and its verdict on the young
+/* Tests gcflip_images for a nursery: the words that it writes meet the premise of the law of crates/gc_nursery, and its verdict on the young
    objects is that of gcflip_check on the whole heap, in which each old object is its own replica. */
 #include "expect.h"
 #include "gcflip_images.h"

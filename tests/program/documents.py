@@ -458,7 +458,7 @@ def counts(_program, _folder):
 
 
 # Crates with definitions that no contract of the checker for C reaches.
-BESIDE_THE_CHECKER = {"gc_along", "gc_bytes", "gc_collected", "gc_copy", "gc_heap", "gc_pace", "gc_plan", "gc_roots", "gc_trace", "gc_world", "gcflip_heap_c"}
+BESIDE_THE_CHECKER = {"gc_monitor", "gc_bytes", "gc_collected", "gc_copy", "gc_heap", "gc_pace", "gc_model", "gc_roots", "gc_trace", "gc_world", "gcflip_heap_c"}
 
 
 def lines_by_file(printed):

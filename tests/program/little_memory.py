@@ -1,7 +1,7 @@
 """Tests with a small stack, with less and less address space, and with a text that is larger than the address space: the outcome is the usual one or 'no
 memory', and never a signal."""
 from .collecting import PAIR_OF_COLLECT_WHEN_FULL, REPORT_OF_COLLECT_WHEN_FULL
-from .allocation_failures import NO_MEMORY
+from .test_memory import NO_MEMORY
 from .harness import Outcome, difference, file_of, run
 from .traces import PLAYED, trace_and_replies
 

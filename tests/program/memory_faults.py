@@ -34,7 +34,7 @@ EXACT = ("of_reply", "of_step", "seen", "tell_value", "gcflip_room", "gcflip_bes
 # Those that pass on the number that a function of their own file made beside the next stage. What that writes is looked at as elsewhere.
 PASSED_ON = ("gcflip_beside_safepoint", "gcflip_beside_resume", "gcflip_beside_ask", "gcflip_beside_take", "gcflip_beside_go", "gcflip_beside_flip", "gcflip_beside_finish")
 # Crates of tests alone.
-TESTS = ("gc_test_kit", "gc_tests", "gc_concurrent_tests", "gc_shared_tests", "gc_trace_tests", "allocation_failures")
+TESTS = ("test_kit", "test_libraries", "test_beside", "test_threads", "test_texts", "test_memory")
 
 # Each place where such a fault is written: the file, the function, how, and how often. Those by hand have their reasons in BY_HAND_REASONS.
 PLACES = {

@@ -1,6 +1,6 @@
 """Tests that refuse each allocation of a library's call in turn.
 
-Each test of crates/allocation_failures makes one call between two fences, which are requests for memory of a size that the refusing
+Each test of crates/test_memory makes one call between two fences, which are requests for memory of a size that the refusing
 allocator knows. The allocator refuses the n-th request between them, for n = 1, 2 and so on until a run meets no refusal. If
 the call returned NoMemory, the test retries it, signals that by a request of another such size, and compares the reply and
 the state.
@@ -12,11 +12,11 @@ whose pairs grow one by one makes more.
 import os
 import subprocess
 
-from .allocation_failures import MOST_REQUESTS, TOO_MANY, refusing_allocator
+from .test_memory import MOST_REQUESTS, TOO_MANY, refusing_allocator
 from .harness import SECONDS, limit_memory
 
-BUILT = os.path.join(os.path.dirname(os.path.abspath(__file__)), "..", "..", "crates", "allocation_failures", "out", "allocation_failures_tests")
-# The sizes that crates/allocation_failures/src/tests/marks.rt names.
+BUILT = os.path.join(os.path.dirname(os.path.abspath(__file__)), "..", "..", "crates", "test_memory", "out", "allocation_failures_tests")
+# The sizes that crates/test_memory/src/tests/marks.rt names.
 FENCE = 1000003
 RETRY = 1000033
 
@@ -121,7 +121,7 @@ def wrong_refusals(folder, name):
 
 def refused_calls(_program, folder):
     if not os.access(BUILT, os.X_OK):
-        yield "refused_calls", "no tests at %s: build them by 'rt test' in crates/allocation_failures" % BUILT
+        yield "refused_calls", "no tests at %s: build them by 'rt test' in crates/test_memory" % BUILT
         return
     refusing_allocator(folder)
     found = names()

@@ -51,8 +51,8 @@ def wrong_tests(tried, known):
 
 
 # Lines, and what is wrong with each.
-LINES = [("a mistake | test `graph::one_word_is_reserved` (gc_tests) | 2026-11-24", []),
-         ("a mistake | test `graph::one_word_is_gone` (gc_tests) | 2026-11-24", ["there is no test one_word_is_gone"]),
+LINES = [("a mistake | test `graph::one_word_is_reserved` (test_libraries) | 2026-11-24", []),
+         ("a mistake | test `graph::one_word_is_gone` (test_libraries) | 2026-11-24", ["there is no test one_word_is_gone"]),
          ("a mistake | `random.nothing` | 2026-11-24, with the model", ["there is no test random.nothing"]),
          ("a mistake | `heap.c` and `heaps.c` | 2026-11-24", ["there is no file heaps.c"]),
          ("a mistake | some test | 2026-11-24", ["no test is named by 'a mistake'"])]

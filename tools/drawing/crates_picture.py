@@ -1,5 +1,7 @@
 """Lays out the graph of the crates: each crate in a row above those that it uses, with an arrow to each of them, unless a path leads there too. The crates of
 a group lie in one band."""
+import re
+
 from gcflip_drawing.pair_text import Unreadable
 from gcflip_drawing.picture import Picture
 
@@ -12,31 +14,26 @@ HEAD = 5
 DOT = 5
 # The height of a band's heading, how far a band reaches beyond its boxes, and the distance of two bands.
 HEADING, EDGE, BAND_GAP = 15, 4, 5
-# The groups of crates, by the role of their boxes: a heading, and the crates. Each group uses itself and those before it.
-GROUPS = {
-    "crate-language": ("the language", ["gc_graph", "gc_text"]),
-    "crate-words": ("words", ["gc_words", "gc_bytes", "gc_heap"]),
-    "crate-plan": ("the plan", ["gc_plan"]),
-    "crate-mechanism": ("the mechanism", ["gc_copy"]),
-    "crate-checkers": ("checkers", ["gc_cert", "gc_check", "gc_par", "gc_along", "gc_generations"]),
-    "crate-heap": ("collected heaps", ["gc_roots", "gc_collected", "gc_pace", "gc_concurrent"]),
-    "crate-c": ("for C", ["gc_in_c", "gcflip_c", "gcflip_heap_c", "gcflip_beside_c"]),
-    "crate-recording": ("the recording", ["gc_world", "gc_shared"]),
-    "crate-program": ("traces and the program", ["gc_trace", "gcflip"]),
-    "crate-tests": ("only tests", ["gc_test_kit", "gc_tests", "gc_concurrent_tests", "gc_shared_tests", "gc_trace_tests", "allocation_failures"]),
-}
+# A line that begins a group of crates.
+GROUP = re.compile(r"# == (.+)")
 
 
 def read_crates(text):
-    """Returns the crates that each crate of the list uses, without the toolchain's."""
-    listed = {}
+    """Returns the crates that each crate of the list uses, without the toolchain's, and the groups: a heading, and the crates. Each group uses itself and
+    those before it."""
+    listed, groups = {}, {}
     for line in text.split("\n"):
+        heading = GROUP.fullmatch(line)
+        if heading:
+            groups[heading[1]] = []
         name, colon, uses = line.split("#")[0].partition(":")
         if colon:
             listed[name.split()[0]] = uses.split()
+            if groups:
+                groups[list(groups)[-1]].append(name.split()[0])
     if not listed:
         raise Unreadable("there is no crate in the list")
-    return {name: [use for use in uses if use in listed] for name, uses in listed.items()}
+    return {name: [use for use in uses if use in listed] for name, uses in listed.items()}, groups
 
 
 def levels_of(uses):
@@ -76,17 +73,17 @@ def length_of(order, arrows):
     return sum(rows[lower] - rows[upper] for upper, lower in arrows)
 
 
-def ordered(uses, arrows):
+def ordered(uses, arrows, groups):
     """Returns the crates from the top row to the bottom one, each above those that it uses, and those of a group next to each other. No crate can change its
     place with the one below of its group so that the arrows get shorter."""
-    levels, groups = levels_of(uses), {name: ["crate", *GROUPS].index(role_of(name)) for name in uses}
-    order = sorted(uses, key=lambda name: (-groups[name], -levels[name], name))
+    levels, ranks = levels_of(uses), {name: rank for rank, members in enumerate(groups.values(), 1) for name in members}
+    order = sorted(uses, key=lambda name: (-ranks.get(name, 0), -levels[name], name))
     is_better = True
     while is_better:
         is_better = False
         for row in range(len(order) - 1):
             swapped = [*order[:row], order[row + 1], order[row], *order[row + 2:]]
-            may_swap = groups[order[row]] == groups[order[row + 1]] and order[row + 1] not in uses[order[row]]
+            may_swap = ranks.get(order[row]) == ranks.get(order[row + 1]) and order[row + 1] not in uses[order[row]]
             if may_swap and length_of(swapped, arrows) < length_of(order, arrows):
                 order, is_better = swapped, True
     return order
@@ -110,17 +107,17 @@ def tracks_of(order, arrows):
     return found
 
 
-def placed(order):
-    """Returns the upper end of each crate's box, and of each band its role and its upper and lower end. Crates of no group have no band."""
+def placed(order, groups):
+    """Returns the upper end of each crate's box, and of each band its group and its upper and lower end. Crates of no group have no band."""
     tops, bands, y, last = {}, [], TOP, None
     for name in order:
-        role = role_of(name)
-        if role in GROUPS and role != last:
+        group = group_of(name, groups)
+        if group is not None and group != last:
             y += BAND_GAP if bands else 0
-            bands.append([role, y, y])
+            bands.append([group, y, y])
             y += HEADING
-        tops[name], last = y, role
-        if role in GROUPS:
+        tops[name], last = y, group
+        if group is not None:
             bands[-1][2] = y + BOX + EDGE
         y += BOX + GAP
     return tops, bands
@@ -133,12 +130,12 @@ def branches_of(name, arrows, tracks):
     return {use: HEAD + (BOX - HEAD) * at / (len(used) + 1) for at, use in enumerate(used, 1)}
 
 
-def draw_arrows(picture, order, arrows, tops):
+def draw_arrows(picture, order, arrows, tops, groups):
     """Draws for each crate that is used one line with a branch from each user, and with its head at the crate."""
     tracks, right = tracks_of(order, arrows), LEFT + BOX_WIDTH
     branches = {name: branches_of(name, arrows, tracks) for name in order}
     for name in sorted(tracks, key=lambda name: tops[name]):
-        x, y, role = right + FIRST_TRACK + tracks[name] * TRACK, tops[name] + HEAD, role_of(name).replace("crate", "uses")
+        x, y, role = right + FIRST_TRACK + tracks[name] * TRACK, tops[name] + HEAD, role_of("uses", group_of(name, groups))
         starts = [tops[user] + branches[user][name] for user in order if name in branches[user]]
         picture.line([(right, starts[0]), (x, starts[0]), (x, y)], role)
         for start in starts[1:]:
@@ -147,22 +144,28 @@ def draw_arrows(picture, order, arrows, tops):
         picture.arrow((x, y), ((x + right) / 2, y), (right, y), role)
 
 
-def role_of(name):
-    """Returns the role of a crate's box, by its group."""
-    return next((role for role, (_, members) in GROUPS.items() if name in members), "crate")
+def group_of(name, groups):
+    """Returns the heading of a crate's group, or None."""
+    return next((heading for heading, members in groups.items() if name in members), None)
 
 
-def drawn(uses, title):
-    """Returns the picture of the crates. `uses` has the crates that each crate uses."""
-    picture, arrows = Picture(title), arrows_of(uses)
-    order = ordered(uses, arrows)
-    tops, bands = placed(order)
+def role_of(kind, group):
+    """Returns the role of a box, a band or a line of a group: its kind, and the last word of the group's heading."""
+    return kind if group is None else "%s-%s" % (kind, group.split()[-1].lower())
+
+
+def drawn(crates, title):
+    """Returns the picture of the crates: those that each crate uses, and the groups, as `read_crates` returns them."""
+    (uses, groups), picture = crates, Picture(title)
+    arrows = arrows_of(uses)
+    order = ordered(uses, arrows, groups)
+    tops, bands = placed(order, groups)
     right = LEFT + BOX_WIDTH + FIRST_TRACK + max(tracks_of(order, arrows).values(), default=0) * TRACK + LEFT
-    for role, top, bottom in bands:
-        picture.box(LEFT - EDGE, top, right - 2 * (LEFT - EDGE), bottom - top, role.replace("crate", "band"))
-    draw_arrows(picture, order, arrows, tops)
-    for role, top, _ in bands:
-        picture.text(LEFT, top + HEADING - 4, GROUPS[role][0], "small")
+    for group, top, bottom in bands:
+        picture.box(LEFT - EDGE, top, right - 2 * (LEFT - EDGE), bottom - top, role_of("band", group))
+    draw_arrows(picture, order, arrows, tops, groups)
+    for group, top, _ in bands:
+        picture.text(LEFT, top + HEADING - 4, group, "small")
     for name in order:
-        picture.box(LEFT, tops[name], BOX_WIDTH, BOX, role_of(name), name)
+        picture.box(LEFT, tops[name], BOX_WIDTH, BOX, role_of("crate", group_of(name, groups)), name)
     return picture.sized(right, tops[order[-1]] + BOX + EDGE + TOP)

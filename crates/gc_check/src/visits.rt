@@ -92,7 +92,7 @@ fn visit_references(starts: &Starts, visits: &mut Visits, from: u32)
     requires from { from < length visits.old.list.items }
     requires near { AreWithin visits.old.list.items (suc (visit_at visits.old.list.items from).depth) }
     ensures held { HoldsWalk starts.now visits.new }
-    ensures kept { Continues visits.old.list.items visits.new.list.items }
+    ensures continues { Continues visits.old.list.items visits.new.list.items }
     ensures near { AreWithin visits.new.list.items (suc (visit_at visits.old.list.items from).depth) }
     ensures visited { (some : ℕ) → LeadsToVisits starts.now visits.new.list.items from some }
 {
@@ -110,7 +110,7 @@ fn visit_word(starts: &Starts, visits: &mut Visits, from: u32, words: &[u64], i:
     requires words { HasReferences (graph_of starts.now) (visit_at visits.old.list.items from).node words.now }
     requires within { i < length words.now }
     ensures held { HoldsWalk starts.now visits.new }
-    ensures kept { Continues visits.old.list.items visits.new.list.items }
+    ensures continues { Continues visits.old.list.items visits.new.list.items }
     ensures near { AreWithin visits.new.list.items (suc (visit_at visits.old.list.items from).depth) }
     ensures visited { (a : ℕ) → RefersAt (graph_of starts.now) (visit_at visits.old.list.items from).node i a
         → IsTrue (is_start starts.now.words a) → Visited visits.new.list.items a (suc (visit_at visits.old.list.items from).depth) }
@@ -136,7 +136,7 @@ fn visit_object(starts: &Starts, visits: &mut Visits, address: u32, found: Visit
     requires near { AreWithin visits.old.list.items found.depth }
     requires refers { RefersAt (graph_of starts.now) (visit_at visits.old.list.items found.from).node found.place address }
     ensures held { HoldsWalk starts.now visits.new }
-    ensures kept { Continues visits.old.list.items visits.new.list.items }
+    ensures continues { Continues visits.old.list.items visits.new.list.items }
     ensures near { AreWithin visits.new.list.items found.depth }
     ensures visited { IsTrue (is_start starts.now.words address) → Visited visits.new.list.items address found.depth }
 {

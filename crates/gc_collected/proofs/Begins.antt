@@ -1,11 +1,11 @@
 -- A monitor that has room for both spaces of a collection goes on following a heap in which that begins.
 use Rattle.std.proofs.Common.{◌≡◌, ◌⊎◌, ⊎_elim, ◌<◌, ◌≤◌, ℕ, false, Option, Some, None, ap, sym, ◌∙◌, subst, arith}
-use Rattle.gc_plan.specs.State.{Collection, State, heap_end}
-use Rattle.gc_plan.specs.Steps.{fresh_collection, with_collection}
-use Rattle.gc_plan.specs.Belonging.{IsSpaceGraph}
-use Rattle.gc_along.specs.Tables.{Tables, watch_of}
-use Rattle.gc_along.specs.Watch.{Watch}
-use Rattle.gc_along.proofs.Public.{opening_watch}
+use Rattle.gc_model.specs.State.{Collection, State, heap_end}
+use Rattle.gc_model.specs.Steps.{fresh_collection, with_collection}
+use Rattle.gc_model.specs.Belonging.{IsSpaceGraph}
+use Rattle.gc_monitor.specs.Tables.{Tables, watch_of}
+use Rattle.gc_monitor.specs.Watch.{Watch}
+use Rattle.gc_monitor.proofs.Public.{opening_watch}
 use Rattle.gc_collected.specs.Internal.Beside.{GoesBeside}
 use Rattle.gc_collected.specs.Internal.Follows.{Follows}
 use Rattle.gc_collected.specs.Internal.KnownRoots.{KnowsRoots}
@@ -40,7 +40,7 @@ module _ (s : State) (t after : Tables) (closed : s.collection ≡ None) (heap :
       subst (λ (x : State). Follows x after) (sym is) (record {
         found = found;
         goes = subst (λ (w : Watch). GoesAlong s.heap.graph.objects (heap_end s) (fresh_collection s.mutators size) w) (sym watched) (begun s.heap.graph.objects (heap_end s) s.mutators size);
-        knows = record { kept = k.kept; due = k.due; marks = k.marks; old_room = k.old_room; new_room = k.new_room };
+        knows = record { agree = k.agree; due = k.due; marks = k.marks; old_room = k.old_room; new_room = k.new_room };
       })
 
 -- no root is known to have a replica

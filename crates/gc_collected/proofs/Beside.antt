@@ -6,12 +6,12 @@ use Rattle.std.specs.Option.{option_map}
 use Rattle.gc_words.specs.Image.{Image, blocks}
 use Rattle.gc_words.specs.Space.{IsSpace, end_of}
 use Rattle.gc_heap.specs.Heap.{HeapWords, IsHeap}
-use Rattle.gc_plan.specs.State.{State, Collection, heap_end}
-use Rattle.gc_plan.specs.Linked.{old_links, old_image, new_image}
+use Rattle.gc_model.specs.State.{State, Collection, heap_end}
+use Rattle.gc_model.specs.Linked.{old_links, old_image, new_image}
 use Rattle.gc_copy.specs.Words.{CollectionWords, IsCollection, BelongsTo, collection_in, state_of, open_state}
 use Rattle.gc_copy.proofs.Public.{new_shown, other_links}
 use Rattle.gc_collected.specs.Internal.CollectedHeap.{Fits}
-use Rattle.gc_along.specs.Watch.{Watch, Watches}
+use Rattle.gc_monitor.specs.Watch.{Watch, Watches}
 use Rattle.gc_collected.specs.Internal.Stays.{GoesAlong}
 use Rattle.gc_collected.proofs.Monitor.Words.{watches}
 

@@ -8,7 +8,7 @@ use Rattle.std.proofs.lemmas.Option.{slice_get_past}
 use Rattle.gc_graph.specs.Graph.{Value, Nil, Num, Ref, Object, Graph, field_of, lookup, object_of, root}
 use Rattle.gc_graph.specs.declared.command.Op.TheVariants.{Get, Put}
 use Rattle.gc_graph.specs.declared.command.Op.TheVariants as ops
-use Rattle.gc_plan.proofs.Public.{lookup_in}
+use Rattle.gc_model.proofs.Public.{lookup_in}
 use Rattle.gc_graph.specs.Machine.{words_taken}
 use Rattle.gc_graph.specs.Slots.{SlotName, place, roots_of}
 use Rattle.gc_graph.specs.declared.command.Op.{Op}
@@ -16,12 +16,12 @@ use Rattle.gc_graph.specs.declared.reply.Reply.{Reply}
 use Rattle.gc_heap.specs.Commands.{Performs}
 use Rattle.gc_heap.specs.Heap.{HeapWords, IsHeap}
 use Rattle.gc_heap.specs.Places.{root_at}
-use Rattle.gc_plan.specs.State.{State}
-use Rattle.gc_plan.specs.Staying.{root_written}
-use Rattle.gc_plan.specs.Steps.{WritesField, mutate}
-use Rattle.gc_plan.specs.Belonging.{IsOpened, IsSpaceGraph}
+use Rattle.gc_model.specs.State.{State}
+use Rattle.gc_model.specs.Staying.{root_written}
+use Rattle.gc_model.specs.Steps.{WritesField, mutate}
+use Rattle.gc_model.specs.Belonging.{IsOpened, IsSpaceGraph}
 use Rattle.gc_copy.specs.Words.{CollectionWords, collection_in, state_of}
-use Rattle.gc_along.specs.Tables.{Tables}
+use Rattle.gc_monitor.specs.Tables.{Tables}
 use Rattle.gc_collected.specs.Internal.CollectedHeap.{Fits}
 use Rattle.gc_collected.specs.Internal.Follows.{Follows}
 use Rattle.gc_collected.specs.Internal.KnownRoots.{ComparesTwins, HasStored, HasWritten, KnowsRoots}

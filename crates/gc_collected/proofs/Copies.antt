@@ -20,8 +20,8 @@ use Rattle.gc_words.specs.Closed.{IsFieldWord}
 use Rattle.gc_words.specs.Image.{Block, block_at, field_at, header_at, header_of, object_of_block}
 use Rattle.gc_words.proofs.Public.{block_of_header, closed_field_read, field_found, fields_counted, object_found}
 use Rattle.gc_heap.specs.Heap.{HeapWords, IsHeap, graph_in}
-use Rattle.gc_plan.specs.State.{State}
-use Rattle.gc_plan.specs.Steps.{mutate}
+use Rattle.gc_model.specs.State.{State}
+use Rattle.gc_model.specs.Steps.{mutate}
 use Rattle.gc_collected.specs.Internal.KnownRoots.{KnowsRoots}
 use Rattle.gc_collected.specs.declared.known.KnownRoots.{KnownRoots}
 use Rattle.gc_collected.specs.Copying.{object_in, copy_reply, copy_step, value_in}

@@ -11,7 +11,7 @@ use Rattle.gc_graph.specs.Slots.{SlotName, place}
 use Rattle.gc_graph.specs.declared.command.Op.{Op}
 use Rattle.gc_graph.specs.declared.command.Op.TheVariants.{Get, Put}
 use Rattle.gc_graph.specs.declared.reply.Reply.{Reply}
-use Rattle.gc_plan.proofs.Public.{get_set_other, get_set_same, in_right, lookup_written}
+use Rattle.gc_model.proofs.Public.{get_set_other, get_set_same, in_right, lookup_written}
 use Rattle.gc_graph.specs.Machine.{Roomy, is_number, put_field, roomy_step, step, words_taken}
 use Rattle.gc_graph.specs.declared.reply.Reply.TheVariants.{Done, NoObject}
 use Rattle.std.proofs.lemmas.Bool.{cases_Bool, cases_eq, le-leb, leb-true}
@@ -25,14 +25,14 @@ use Rattle.gc_heap.specs.Commands.{Performs}
 use Rattle.gc_heap.specs.Filling.{PutsValue}
 use Rattle.gc_heap.specs.Heap.{HeapWords, IsHeap, graph_in, roomy_in}
 use Rattle.gc_heap.specs.Places.{root_at}
-use Rattle.gc_plan.specs.Belonging.{IsLogged, IsOpened, IsSpaceGraph}
-use Rattle.gc_plan.specs.Members.{In}
-use Rattle.gc_plan.specs.State.{Collection, State}
-use Rattle.gc_plan.specs.Steps.{log_at, mutate, written}
+use Rattle.gc_model.specs.Belonging.{IsLogged, IsOpened, IsSpaceGraph}
+use Rattle.gc_model.specs.Members.{In}
+use Rattle.gc_model.specs.State.{Collection, State}
+use Rattle.gc_model.specs.Steps.{log_at, mutate, written}
 use Rattle.gc_copy.specs.Words.{CollectionWords, BelongsTo, collection_in, entries_of, open_state}
-use Rattle.gc_along.specs.Claims.{CanWriteRow}
-use Rattle.gc_along.specs.Events.{WroteRow}
-use Rattle.gc_along.specs.Tables.{Tables}
+use Rattle.gc_monitor.specs.Claims.{CanWriteRow}
+use Rattle.gc_monitor.specs.Events.{WroteRow}
+use Rattle.gc_monitor.specs.Tables.{Tables}
 use Rattle.gc_collected.specs.Internal.Beside.{AreOld}
 use Rattle.gc_collected.specs.Internal.CollectedHeap.{state_in}
 use Rattle.gc_collected.specs.Internal.Follows.{Follows}

@@ -6,11 +6,11 @@ use Rattle.std.specs.Option.{option_map, option_map_or}
 use Rattle.std.proofs.lemmas.Bool.{cond_both}
 use Rattle.std.proofs.lemmas.List.{length-map}
 use Rattle.gc_heap.specs.Heap.{HeapWords}
-use Rattle.gc_plan.specs.State.{State}
-use Rattle.gc_plan.specs.Runs.{IsStep}
-use Rattle.gc_plan.specs.Steps.{scan_done, first_log}
-use Rattle.gc_plan.specs.declared.step.Step.{Step}
-use Rattle.gc_plan.specs.declared.step.Step.TheVariants.{Scan, Apply, Flip}
+use Rattle.gc_model.specs.State.{State}
+use Rattle.gc_model.specs.Runs.{IsStep}
+use Rattle.gc_model.specs.Steps.{scan_done, first_log}
+use Rattle.gc_model.specs.declared.step.Step.{Step}
+use Rattle.gc_model.specs.declared.step.Step.TheVariants.{Scan, Apply, Flip}
 use Rattle.gc_copy.specs.Words.{CollectionWords, collection_in, state_of, BelongsTo}
 use Rattle.gc_collected.specs.Internal.CollectedHeap.{Fits}
 

@@ -7,18 +7,18 @@ use Rattle.std.proofs.lemmas.Bool.{cases_Bool}
 use Rattle.gc_words.specs.Image.{Image}
 use Rattle.gc_words.specs.Certificate.{Certified}
 use Rattle.gc_heap.specs.Heap.{HeapWords, graph_in}
-use Rattle.gc_plan.specs.State.{State, Collection, heap_end, pairs_of}
-use Rattle.gc_plan.specs.Steps.{collect, flipped, is_ready, passes_check, step_idle, step_in}
-use Rattle.gc_plan.specs.Belonging.{IsSpaceGraph, IsOpened}
-use Rattle.gc_plan.specs.declared.step.Step.TheVariants as steps
-use Rattle.gc_plan.specs.declared.step.StepReply.{StepReply}
-use Rattle.gc_plan.specs.declared.step.StepReply.TheVariants.{NotReady, Refused, Flipped}
-use Rattle.gc_along.specs.Claims.{Accepts}
-use Rattle.gc_along.specs.Origins.{pairs_in}
-use Rattle.gc_along.specs.Outline.{ImageOutline, outline_of}
-use Rattle.gc_along.specs.Tables.{Tables, IsKept, watch_of}
-use Rattle.gc_along.specs.Events.{flipped_tables}
-use Rattle.gc_along.specs.Watch.{Watch, Watches}
+use Rattle.gc_model.specs.State.{State, Collection, heap_end, pairs_of}
+use Rattle.gc_model.specs.Steps.{collect, flipped, is_ready, passes_check, step_idle, step_in}
+use Rattle.gc_model.specs.Belonging.{IsSpaceGraph, IsOpened}
+use Rattle.gc_model.specs.declared.step.Step.TheVariants as steps
+use Rattle.gc_model.specs.declared.step.StepReply.{StepReply}
+use Rattle.gc_model.specs.declared.step.StepReply.TheVariants.{NotReady, Refused, Flipped}
+use Rattle.gc_monitor.specs.Claims.{Accepts}
+use Rattle.gc_monitor.specs.Origins.{pairs_in}
+use Rattle.gc_monitor.specs.Outline.{ImageOutline, outline_of}
+use Rattle.gc_monitor.specs.Tables.{Tables, RowsAgree, watch_of}
+use Rattle.gc_monitor.specs.Events.{flipped_tables}
+use Rattle.gc_monitor.specs.Watch.{Watch, Watches}
 use Rattle.gc_copy.specs.Words.{CollectionWords, collection_in, idle_state, open_state, state_of}
 use Rattle.gc_collected.specs.Collected.{Collected, Turns, checks_whole}
 use Rattle.gc_collected.specs.Flip.{flip_pair, HasAccepted, IsCertified, PassesIfReady}
@@ -34,7 +34,7 @@ use Rattle.gc_collected.proofs.Monitor.Ready.{accepts}
 
 -- what the standing checker says of two outlines
 abbrev pub Said : Tables → ImageOutline → ImageOutline → Type 0
-Said t o n = IsKept t × Accepts t o n
+Said t o n = RowsAgree t × Accepts t o n
 
 module _ (s : State) (c : Collection) (t : Tables) (first : s.collection ≡ Some c) (f : Follows s t) where
   goes : GoesAlong s.heap.graph.objects (heap_end s) c (watch_of t)
@@ -46,7 +46,7 @@ module _ (s : State) (c : Collection) (t : Tables) (first : s.collection ≡ Som
   sure : IsSpaceGraph s.size s.heap.free s.heap.graph → IsOpened s c → is_ready c s.heap.graph ≡ true → HasAccepted (Accepts t) (flip_pair s c)
   sure heap opened ready = accepts s c t heap opened ready f.found goes knows
 
-  certified : ((old new : Image) (t : Tables) → IsKept t → Watches old.words new.words (watch_of t) → Accepts t (outline_of old) (outline_of new) → Certified old new (pairs_in t.origins))
+  certified : ((old new : Image) (t : Tables) → RowsAgree t → Watches old.words new.words (watch_of t) → Accepts t (outline_of old) (outline_of new) → Certified old new (pairs_in t.origins))
       → ((w : Watch) → GoesAlong s.heap.graph.objects (heap_end s) c w → Watches (flip_pair s c).old.words (flip_pair s c).new.words w)
       → HasAccepted (Said t) (flip_pair s c) → IsCertified (flip_pair s c)
   certified law watched said = subst (λ pairs. Certified (flip_pair s c).old (flip_pair s c).new pairs) goes.fits.pairs (law (flip_pair s c).old (flip_pair s c).new t said.0 (watched (watch_of t) goes) said.1)
@@ -107,7 +107,7 @@ module _ (heap : HeapWords) (o : Option CollectionWords) (x : CollectionWords) (
   pub flip_along : (said : Type 0) → AsAsked whole said (HasAccepted (Said t) (flip_pair (open_state heap x) (collection_in x))) → whole ≡ false → IfSome s.collection (λ d. HasAccepted (Accepts t) (flip_pair s d))
   flip_along said asked none = pair_now (HasAccepted (Accepts t)) heap o x s is view (asked.1 none).1
 
-  pub flip_certified : (said : Type 0) → ((old new : Image) (t : Tables) → IsKept t → Watches old.words new.words (watch_of t) → Accepts t (outline_of old) (outline_of new) → Certified old new (pairs_in t.origins))
+  pub flip_certified : (said : Type 0) → ((old new : Image) (t : Tables) → RowsAgree t → Watches old.words new.words (watch_of t) → Accepts t (outline_of old) (outline_of new) → Certified old new (pairs_in t.origins))
       → ((c : Collection) (w : Watch) → s.collection ≡ Some c → GoesAlong s.heap.graph.objects (heap_end s) c w → Watches (flip_pair s c).old.words (flip_pair s c).new.words w)
       → (whole ≡ true → IsCertified (flip_pair (open_state heap x) (collection_in x))) → AsAsked whole said (HasAccepted (Said t) (flip_pair (open_state heap x) (collection_in x))) → IfSome s.collection (λ d. IsCertified (flip_pair s d))
   flip_certified said law watched by asked = ⊎_elim

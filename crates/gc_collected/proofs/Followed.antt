@@ -13,14 +13,14 @@ use Rattle.gc_words.specs.Spelling.{link_at}
 use Rattle.gc_words.specs.Space.{free_in}
 use Rattle.gc_heap.specs.Heap.{HeapWords, IsHeap, graph_in, image_of}
 use Rattle.gc_heap.specs.Commands.{Performs}
-use Rattle.gc_plan.specs.State.{State}
-use Rattle.gc_plan.specs.Linked.{linked_image}
-use Rattle.gc_plan.specs.Steps.{WritesField, mutate, written}
-use Rattle.gc_plan.specs.Members.{In}
-use Rattle.gc_plan.specs.Belonging.{IsOpened, IsSpaceGraph}
-use Rattle.gc_along.specs.Claims.{CanMake}
-use Rattle.gc_along.specs.Events.{Made}
-use Rattle.gc_along.specs.Tables.{Tables}
+use Rattle.gc_model.specs.State.{State}
+use Rattle.gc_model.specs.Linked.{linked_image}
+use Rattle.gc_model.specs.Steps.{WritesField, mutate, written}
+use Rattle.gc_model.specs.Members.{In}
+use Rattle.gc_model.specs.Belonging.{IsOpened, IsSpaceGraph}
+use Rattle.gc_monitor.specs.Claims.{CanMake}
+use Rattle.gc_monitor.specs.Events.{Made}
+use Rattle.gc_monitor.specs.Tables.{Tables}
 use Rattle.gc_copy.specs.Words.{CollectionWords, collection_in, state_of}
 use Rattle.gc_copy.proofs.Public.{idle_left}
 use Rattle.gc_collected.specs.Internal.Follows.{Follows}

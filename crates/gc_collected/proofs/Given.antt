@@ -14,11 +14,11 @@ use Rattle.gc_words.specs.Word.{value_of}
 use Rattle.gc_heap.specs.Filling.{PutsValue}
 use Rattle.gc_heap.specs.Heap.{HeapWords, graph_in}
 use Rattle.gc_heap.specs.Places.{root_at}
-use Rattle.gc_plan.specs.Belonging.{Belongs, BelongsBut, HasField}
-use Rattle.gc_plan.specs.Members.{In}
-use Rattle.gc_plan.specs.State.{Collection, State, heap_end}
-use Rattle.gc_plan.specs.Steps.{log_at, logged, mutate, written}
-use Rattle.gc_plan.proofs.Public.{WrittenBy, belongs_noted, command_kept, field_there}
+use Rattle.gc_model.specs.Belonging.{Belongs, BelongsBut, HasField}
+use Rattle.gc_model.specs.Members.{In}
+use Rattle.gc_model.specs.State.{Collection, State, heap_end}
+use Rattle.gc_model.specs.Steps.{log_at, logged, mutate, written}
+use Rattle.gc_model.proofs.Public.{WrittenBy, belongs_noted, command_kept, field_there}
 use Rattle.gc_copy.specs.Words.{CollectionWords, BelongsTo, LinksNothing, collection_in, entries_of, state_of}
 use Rattle.gc_copy.proofs.Public.{links_kept, nothing_linked}
 use Rattle.gc_collected.specs.Values.{put_value_step, with_roots}
@@ -147,7 +147,7 @@ one_ran s s' m p i a v said target within = subst (λ (x : State). Ran s x Its) 
     ran = let y = ran_one big next.1 m (command s.heap.graph p i) next.0 refl refl in record {
       leads = record { collection = y.leads.collection; evolves = y.leads.evolves };
       end = y.end;
-      on = record { mutators = y.on.mutators; size = y.on.size; collection = y.on.collection; names = y.on.names; kept = y.on.kept };
+      on = record { mutators = y.on.mutators; size = y.on.size; collection = y.on.collection; names = y.on.names; stays = y.on.stays };
     }
 
     only : (b j : ℕ) → Wrote b j → Its b j

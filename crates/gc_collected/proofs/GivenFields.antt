@@ -14,10 +14,10 @@ use Rattle.gc_words.specs.declared.header.Header.{Header}
 use Rattle.gc_heap.specs.Filling.{TakesFields}
 use Rattle.gc_heap.specs.Heap.{HeapWords, IsHeap, graph_in}
 use Rattle.gc_heap.specs.Places.{root_at}
-use Rattle.gc_plan.specs.Members.{In}
-use Rattle.gc_plan.specs.State.{State}
-use Rattle.gc_plan.specs.Steps.{mutate}
-use Rattle.gc_plan.proofs.Public.{roots_counted}
+use Rattle.gc_model.specs.Members.{In}
+use Rattle.gc_model.specs.State.{State}
+use Rattle.gc_model.specs.Steps.{mutate}
+use Rattle.gc_model.proofs.Public.{roots_counted}
 use Rattle.gc_copy.specs.Words.{CollectionWords}
 use Rattle.gc_collected.specs.Giving.{give_step, given, gives_step, new_given_step}
 use Rattle.gc_collected.specs.Values.{put_value_step}

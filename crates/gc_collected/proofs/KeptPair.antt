@@ -5,7 +5,7 @@ use Rattle.std.specs.Option.{option_map}
 use Rattle.gc_heap.specs.Heap.{HeapWords}
 use Rattle.gc_cert.specs.Grammar.{CertifiedPair}
 use Rattle.std.specs.Prelude.{IfSome}
-use Rattle.gc_plan.specs.State.{State}
+use Rattle.gc_model.specs.State.{State}
 use Rattle.gc_copy.specs.Words.{CollectionWords, collection_in, state_of, open_state}
 use Rattle.gc_collected.specs.Flip.{flip_pair}
 

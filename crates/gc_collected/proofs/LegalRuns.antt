@@ -12,19 +12,19 @@ use Rattle.gc_graph.specs.declared.command.Op.{Op}
 use Rattle.gc_graph.specs.declared.reply.Reply.{Reply}
 use Rattle.gc_graph.specs.declared.reply.Reply.TheVariants.{Full}
 use Rattle.gc_graph.proofs.Public.{Matched, AlikeAfter, step_alike, matched_of, own_pairs, matched_itself, fresh_unused, joined, composed}
-use Rattle.gc_plan.specs.State.{Collection, State, opening_state, heap_end, pairs_of, new_graph}
+use Rattle.gc_model.specs.State.{Collection, State, opening_state, heap_end, pairs_of, new_graph}
 use Rattle.gc_copy.specs.Opening.{opening_state_with}
-use Rattle.gc_plan.specs.Steps.{is_ready, passes_check, flip, collect, step_in, step_idle}
-use Rattle.gc_plan.specs.Belonging.{IsOpened, IsState}
+use Rattle.gc_model.specs.Steps.{is_ready, passes_check, flip, collect, step_in, step_idle}
+use Rattle.gc_model.specs.Belonging.{IsOpened, IsState}
 use Rattle.gc_heap.specs.ExtraRoots.{opening_with}
 use Rattle.gc_heap.specs.declared.options.HeapOptions.{HeapOptions}
-use Rattle.gc_plan.specs.Runs.{AreEvents, AreRootEvents, after}
-use Rattle.gc_plan.specs.declared.event.Event.{Event}
-use Rattle.gc_plan.specs.declared.event.Event.TheVariants.{Mutate, Collect}
-use Rattle.gc_plan.specs.declared.step.Step.{Step}
-use Rattle.gc_plan.specs.declared.step.Step.TheVariants as steps
-use Rattle.gc_plan.specs.declared.step.StepReply.{StepReply}
-use Rattle.gc_plan.proofs.Public.{steps_stay, ready_parts, corresponding_graphs, end_unused, Reached, opening_ok, root_events, root_event_keeps}
+use Rattle.gc_model.specs.Runs.{AreEvents, AreRootEvents, after}
+use Rattle.gc_model.specs.declared.event.Event.{Event}
+use Rattle.gc_model.specs.declared.event.Event.TheVariants.{Mutate, Collect}
+use Rattle.gc_model.specs.declared.step.Step.{Step}
+use Rattle.gc_model.specs.declared.step.Step.TheVariants as steps
+use Rattle.gc_model.specs.declared.step.StepReply.{StepReply}
+use Rattle.gc_model.proofs.Public.{steps_stay, ready_parts, corresponding_graphs, end_unused, Reached, opening_ok, root_events, root_event_keeps}
 use Rattle.gc_copy.proofs.Public.{opening_with_ok}
 use Rattle.gc_collected.specs.Replies.{told_in}
 

@@ -18,13 +18,13 @@ use Rattle.gc_graph.specs.declared.command.Op.{Op}
 use Rattle.gc_graph.specs.declared.command.Op.TheVariants as ops
 use Rattle.gc_graph.specs.declared.reply.Reply.{Reply}
 use Rattle.gc_graph.specs.declared.reply.Reply.TheVariants as replies
-use Rattle.gc_plan.specs.State.{Collection, State}
+use Rattle.gc_model.specs.State.{Collection, State}
 use Rattle.gc_copy.specs.Words.{CollectionWords, LinksNothing, collection_in, state_of, idle_state}
-use Rattle.gc_plan.specs.Staying.{HasReplicaOf, KnowsRoot, root_written}
-use Rattle.gc_plan.specs.Steps.{mutate, collect}
-use Rattle.gc_plan.specs.declared.step.Step.{Step}
-use Rattle.gc_plan.specs.declared.step.Step.TheVariants as steps
-use Rattle.gc_plan.proofs.Public.{all_replicated, first_missing, steps_stay, collect_stays, mutate_stays}
+use Rattle.gc_model.specs.Staying.{HasReplicaOf, KnowsRoot, root_written}
+use Rattle.gc_model.specs.Steps.{mutate, collect}
+use Rattle.gc_model.specs.declared.step.Step.{Step}
+use Rattle.gc_model.specs.declared.step.Step.TheVariants as steps
+use Rattle.gc_model.proofs.Public.{all_replicated, first_missing, steps_stay, collect_stays, mutate_stays}
 use Rattle.gc_collected.specs.CollectedHeap.{fill_step, filled, new_from_step}
 use Rattle.gc_collected.specs.Internal.CollectedHeap.{Fits}
 use Rattle.gc_collected.specs.Internal.KnownRoots.{HasStored, HasWritten, KnowsRoots, roots_left_in}

@@ -6,8 +6,8 @@ use Rattle.gc_graph.specs.declared.command.Op.TheVariants.{New, Put}
 use Rattle.gc_graph.specs.declared.reply.Reply.{Reply}
 use Rattle.gc_graph.specs.declared.reply.Reply.TheVariants as replies
 use Rattle.gc_heap.specs.Places.{root_at}
-use Rattle.gc_plan.specs.State.{State}
-use Rattle.gc_plan.specs.Steps.{mutate}
+use Rattle.gc_model.specs.State.{State}
+use Rattle.gc_model.specs.Steps.{mutate}
 use Rattle.gc_collected.specs.CollectedHeap.{fill_step, filled, new_from_step, roots_from}
 
 pub made_from : (old made new : State) (m kind : ℕ) (d : SlotName) (fields : List SlotName) (reply : Reply) → mutate old m (New d kind (length fields)) ≡ (reply, made) → (reply ≡ replies.Full → ⊥)

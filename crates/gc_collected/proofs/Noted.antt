@@ -10,10 +10,10 @@ use Rattle.gc_graph.specs.declared.reply.Reply.{Reply}
 use Rattle.gc_graph.specs.declared.reply.Reply.TheVariants.{Done}
 use Rattle.gc_heap.specs.Filling.{WritesNumbers}
 use Rattle.gc_heap.specs.Heap.{HeapWords, IsHeap, graph_in}
-use Rattle.gc_plan.specs.State.{Collection, State}
-use Rattle.gc_plan.specs.Steps.{log_at, mutate, with_log, written}
-use Rattle.gc_plan.specs.Belonging.{HasField, IsLogged}
-use Rattle.gc_plan.proofs.Public.{root_kept}
+use Rattle.gc_model.specs.State.{Collection, State}
+use Rattle.gc_model.specs.Steps.{log_at, mutate, with_log, written}
+use Rattle.gc_model.specs.Belonging.{HasField, IsLogged}
+use Rattle.gc_model.proofs.Public.{root_kept}
 use Rattle.gc_copy.specs.Words.{CollectionWords, BelongsTo, BelongsToBut, collection_in, open_state, spare_of}
 use Rattle.gc_copy.proofs.Public.{mutate_is, one_but, open_left}
 use Rattle.gc_collected.proofs.Monitor.Follows.{IsAmong}
@@ -71,7 +71,7 @@ module _ (start final : HeapWords) (first_of : CollectionWords) (m : ℕ) (s t :
       let chain : WritesNumbers before.heap m s t (i + k) (get_or numbers k 0 ∷ drop (k + 1) numbers) final = subst (λ ns. WritesNumbers before.heap m s t (i + k) ns final) opened before.left in
       let after : HeapWords = chain.0 in
       let w = chain.1 in
-      let wrote : written (graph_in w.between) m (Put s (i + k) t) Done ≡ (a, i + k) ∷ [] = ap (λ v. map (λ (name : ℕ). (name, i + k)) (names_of v)) (w.kept ∙ before.target) in
+      let wrote : written (graph_in w.between) m (Put s (i + k) t) Done ≡ (a, i + k) ∷ [] = ap (λ v. map (λ (name : ℕ). (name, i + k)) (names_of v)) (w.unchanged ∙ before.target) in
       let set = open_left before.heap w.between c m (Num t (get_or numbers k 0)) Done before.sound before.belongs (λ none. none) w.sets in
       let but = one_but w.between after c m (Put s (i + k) t) Done a (i + k) set.1 w.puts.links w.puts.mutators w.puts.step wrote in
       let did : mutate (mutate (open_state before.heap c) m (Num t (get_or numbers k 0))).1 m (Put s (i + k) t) ≡ (Done, open_state after next) =

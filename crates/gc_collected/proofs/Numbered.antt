@@ -13,11 +13,11 @@ use Rattle.gc_graph.specs.declared.reply.Reply.TheVariants.{Full}
 use Rattle.gc_heap.specs.Filling.{PutsValue}
 use Rattle.gc_heap.specs.Heap.{HeapWords, graph_in}
 use Rattle.gc_heap.specs.Places.{root_at}
-use Rattle.gc_plan.specs.Belonging.{Laid}
-use Rattle.gc_plan.specs.Members.{In}
-use Rattle.gc_plan.specs.State.{State}
-use Rattle.gc_plan.specs.Steps.{mutate}
-use Rattle.gc_plan.proofs.Public.{get_set_same, lookup_laid}
+use Rattle.gc_model.specs.Belonging.{Laid}
+use Rattle.gc_model.specs.Members.{In}
+use Rattle.gc_model.specs.State.{State}
+use Rattle.gc_model.specs.Steps.{mutate}
+use Rattle.gc_model.proofs.Public.{get_set_same, lookup_laid}
 use Rattle.gc_collected.specs.Numbers.{new_numbers_step}
 use Rattle.gc_collected.specs.declared.giving.FieldValue.TheVariants.{Number}
 use Rattle.gc_collected.specs.declared.known.KnownRoots.{KnownRoots}

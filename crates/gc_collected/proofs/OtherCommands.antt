@@ -8,11 +8,11 @@ use Rattle.gc_graph.specs.declared.command.Op.{Op}
 use Rattle.gc_graph.specs.declared.reply.Reply.{Reply}
 use Rattle.gc_heap.specs.Heap.{HeapWords, IsHeap, graph_in}
 use Rattle.gc_heap.specs.Commands.{Performs}
-use Rattle.gc_plan.specs.Steps.{WritesField, mutate}
+use Rattle.gc_model.specs.Steps.{WritesField, mutate}
 use Rattle.gc_copy.specs.Words.{CollectionWords, collection_in, state_of}
 use Rattle.gc_copy.proofs.Public.{open_left, idle_left, still_unlinked}
-use Rattle.gc_plan.specs.State.{State}
-use Rattle.gc_plan.specs.Staying.{root_written}
+use Rattle.gc_model.specs.State.{State}
+use Rattle.gc_model.specs.Staying.{root_written}
 use Rattle.gc_collected.specs.Internal.CollectedHeap.{BelongsIfOpen, Fits}
 use Rattle.gc_collected.specs.Internal.KnownRoots.{HasWritten, KnowsRoots}
 use Rattle.gc_collected.specs.declared.known.KnownRoots.{KnownRoots}

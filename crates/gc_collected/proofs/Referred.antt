@@ -12,8 +12,8 @@ use Rattle.gc_words.specs.Image.{Block, block_at, is_start, objects_of, object_o
 use Rattle.gc_words.proofs.Public.{object_found}
 use Rattle.gc_heap.specs.Heap.{HeapWords, graph_in}
 use Rattle.gc_words.specs.Marks.{is_marked}
-use Rattle.gc_plan.specs.State.{Collection, State}
-use Rattle.gc_plan.specs.Staying.{HasReplicaOf}
+use Rattle.gc_model.specs.State.{Collection, State}
+use Rattle.gc_model.specs.Staying.{HasReplicaOf}
 use Rattle.gc_copy.specs.Twins.{IsTwin}
 use Rattle.gc_roots.specs.Twins.{twin_at}
 use Rattle.gc_copy.specs.Words.{CollectionWords, state_of}

@@ -2,9 +2,9 @@
 use Rattle.std.proofs.Common.{◌≡◌, ℕ, Option, Some, None, refl, sym, ap, ◌∙◌, subst}
 use Rattle.std.specs.Option.{option_map}
 use Rattle.gc_heap.specs.Heap.{HeapWords}
-use Rattle.gc_plan.specs.State.{Collection, State}
+use Rattle.gc_model.specs.State.{Collection, State}
 use Rattle.gc_copy.specs.Words.{CollectionWords, BelongsTo, LinksNothing, collection_in, state_of, open_state, idle_state}
-use Rattle.gc_along.specs.Tables.{Tables}
+use Rattle.gc_monitor.specs.Tables.{Tables}
 use Rattle.gc_collected.specs.Internal.Follows.{Follows}
 use Rattle.gc_collected.specs.Internal.CollectedHeap.{Fits}
 use Rattle.gc_collected.specs.Internal.KnownRoots.{KnowsRoots}

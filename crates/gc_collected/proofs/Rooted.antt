@@ -5,11 +5,11 @@ use Rattle.gc_graph.specs.Graph.{Value}
 use Rattle.gc_graph.specs.declared.command.Op.TheVariants.{Nil}
 use Rattle.gc_graph.specs.declared.reply.Reply.{Reply}
 use Rattle.gc_heap.specs.ExtraRoots.{extra_slot}
-use Rattle.gc_plan.specs.State.{State}
-use Rattle.gc_plan.specs.Steps.{mutate}
-use Rattle.gc_plan.specs.Belonging.{IsOpened}
-use Rattle.gc_plan.proofs.Public.{WrittenBy}
-use Rattle.gc_along.specs.Tables.{Tables}
+use Rattle.gc_model.specs.State.{State}
+use Rattle.gc_model.specs.Steps.{mutate}
+use Rattle.gc_model.specs.Belonging.{IsOpened}
+use Rattle.gc_model.proofs.Public.{WrittenBy}
+use Rattle.gc_monitor.specs.Tables.{Tables}
 use Rattle.gc_collected.specs.ExtraRoots.{clear_step}
 use Rattle.gc_collected.specs.Internal.Follows.{Follows}
 use Rattle.gc_collected.specs.Internal.Values.{with_value}
@@ -38,7 +38,7 @@ valued_ran : (s : State) (p : ℕ) (v : Value) → Ran s (with_value s p v) Neve
 valued_ran s p v = let same = ran_none s Never in record {
   leads = record { collection = same.leads.collection; evolves = same.leads.evolves };
   end = refl;
-  on = record { mutators = refl; size = refl; collection = same.on.collection; names = λ b n. inl n; kept = λ b n. n };
+  on = record { mutators = refl; size = refl; collection = same.on.collection; names = λ b n. inl n; stays = λ b n. n };
 }
 
 pub follows_valued : (s s' : State) (p : ℕ) (v : Value) (t : Tables) → IfSome s.collection (IsOpened s) → s' ≡ with_value s p v → Follows s t → Follows s' t

@@ -6,11 +6,11 @@ use Rattle.gc_graph.specs.declared.reply.Reply.{Reply}
 use Rattle.gc_heap.specs.Filling.{PutsValue}
 use Rattle.gc_heap.specs.Heap.{HeapWords, graph_in}
 use Rattle.gc_heap.specs.Places.{root_at}
-use Rattle.gc_plan.specs.State.{Collection, State}
-use Rattle.gc_plan.specs.Steps.{logged, mutate}
+use Rattle.gc_model.specs.State.{Collection, State}
+use Rattle.gc_model.specs.Steps.{logged, mutate}
 use Rattle.gc_copy.specs.Words.{CollectionWords, state_of}
-use Rattle.gc_plan.specs.Members.{In}
-use Rattle.gc_along.specs.Tables.{Tables}
+use Rattle.gc_model.specs.Members.{In}
+use Rattle.gc_monitor.specs.Tables.{Tables}
 use Rattle.gc_collected.specs.Internal.CollectedHeap.{Fits, state_in}
 use Rattle.gc_collected.specs.Internal.Follows.{Follows}
 use Rattle.gc_graph.specs.declared.reply.Reply.TheVariants.{Done}

@@ -5,11 +5,11 @@ use Rattle.std.specs.Option.{option_map, option_map_or}
 use Rattle.gc_words.specs.Image.{Image, blocks}
 use Rattle.gc_words.specs.Spelling.{link_at, spelled, no_links}
 use Rattle.gc_heap.specs.Heap.{HeapWords, IsHeap, image_of, graph_in}
-use Rattle.gc_plan.specs.State.{State, replica_of}
-use Rattle.gc_plan.specs.Linked.{LeadsTo, linked_image, old_links}
+use Rattle.gc_model.specs.State.{State, replica_of}
+use Rattle.gc_model.specs.Linked.{LeadsTo, linked_image, old_links}
 use Rattle.gc_copy.specs.Words.{CollectionWords, BelongsTo, LinksNothing, collection_in, mark_of, state_of}
 use Rattle.gc_copy.proofs.Public.{link_above, lowered_words, other_links}
-use Rattle.gc_along.specs.Outline.{outline_of}
+use Rattle.gc_monitor.specs.Outline.{outline_of}
 use Rattle.gc_collected.specs.Readings.{ShowsHeap, heap_image}
 
 -- the heap has as many words as its image with the exact links

@@ -15,10 +15,10 @@ use Rattle.gc_words.proofs.Public.{object_found}
 use Rattle.gc_heap.specs.Commands.{Performs}
 use Rattle.gc_heap.specs.Filling.{TakesFields}
 use Rattle.gc_heap.specs.Heap.{HeapWords, IsHeap, graph_in}
-use Rattle.gc_plan.specs.Members.{In}
-use Rattle.gc_plan.specs.State.{State}
-use Rattle.gc_plan.specs.Steps.{mutate, written}
-use Rattle.gc_plan.proofs.Public.{root_kept}
+use Rattle.gc_model.specs.Members.{In}
+use Rattle.gc_model.specs.State.{State}
+use Rattle.gc_model.specs.Steps.{mutate, written}
+use Rattle.gc_model.proofs.Public.{root_kept}
 use Rattle.gc_copy.specs.Words.{CollectionWords, state_of}
 use Rattle.gc_collected.specs.Mixed.{sources_step}
 use Rattle.gc_collected.specs.declared.mixed.FieldSource.{FieldSource}

@@ -5,8 +5,8 @@ use Rattle.gc_graph.specs.Slots.{SlotName, place, roots_of}
 use Rattle.gc_graph.specs.declared.command.Op.TheVariants.{New, Num, Put}
 use Rattle.gc_graph.specs.declared.reply.Reply.{Reply}
 use Rattle.gc_graph.specs.declared.reply.Reply.TheVariants as replies
-use Rattle.gc_plan.specs.State.{State}
-use Rattle.gc_plan.specs.Steps.{mutate}
+use Rattle.gc_model.specs.State.{State}
+use Rattle.gc_model.specs.Steps.{mutate}
 use Rattle.gc_collected.specs.Mixed.{source_step, sources_step, mixed, new_with_step}
 use Rattle.gc_collected.specs.declared.mixed.FieldSource.{FieldSource}
 use Rattle.gc_collected.specs.declared.mixed.FieldSource.TheVariants as sources

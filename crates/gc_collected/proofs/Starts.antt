@@ -3,8 +3,8 @@ use Rattle.std.proofs.lemmas.Grind.{common_steps}
 use Rattle.std.proofs.Common.{◌≡◌, inl, inr, ℕ, Bool, true, false, List, [], ◌∷◌, is_some, Option, Some, None, refl, sym, arith}
 use Rattle.std.proofs.lemmas.Bool.{cond-true, cond-false, cases_Bool, eq-eqb}
 use Rattle.gc_graph.specs.Graph.{Object, lookup}
-use Rattle.gc_plan.specs.Belonging.{IsNamed}
-use Rattle.gc_plan.proofs.Public.{lookup_in}
+use Rattle.gc_model.specs.Belonging.{IsNamed}
+use Rattle.gc_model.proofs.Public.{lookup_in}
 
 named_some : (objects : List (ℕ × Object)) (a : ℕ) → IsNamed objects a → is_some (lookup objects a) ≡ true
 named_some [] a (o, l) = absurd l

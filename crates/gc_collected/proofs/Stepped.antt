@@ -5,14 +5,14 @@ use Rattle.std.specs.Prelude.{IfOk, ◌==◌, ◌||◌, length}
 use Rattle.std.specs.Option.{option_map, option_map_or}
 use Rattle.gc_graph.specs.Graph.{lookup}
 use Rattle.gc_cert.specs.Grammar.{CertifiedPair}
-use Rattle.gc_plan.specs.State.{Collection, State, Replica, replica_at}
-use Rattle.gc_plan.specs.Steps.{apply_entry, apply_log, bring_up_to_date, collect, copy_root, if_room, log_at, next_field, next_object, place_replica, root_target, scan, scan_done, scan_replica, step_idle, step_in, with_collection, with_log}
-use Rattle.gc_plan.specs.declared.step.Step.{Step}
-use Rattle.gc_plan.specs.declared.step.Step.TheVariants as steps
-use Rattle.gc_plan.specs.declared.step.StepReply.{StepReply}
-use Rattle.gc_plan.specs.declared.step.StepReply.TheVariants.{Applied, Begun, Busy, Clean, Copied, Flipped, Passed, Scanned}
-use Rattle.gc_along.specs.Events.{absent_tables}
-use Rattle.gc_along.specs.Tables.{Tables}
+use Rattle.gc_model.specs.State.{Collection, State, Replica, replica_at}
+use Rattle.gc_model.specs.Steps.{apply_entry, apply_log, bring_up_to_date, collect, copy_root, if_room, log_at, next_field, next_object, place_replica, root_target, scan, scan_done, scan_replica, step_idle, step_in, with_collection, with_log}
+use Rattle.gc_model.specs.declared.step.Step.{Step}
+use Rattle.gc_model.specs.declared.step.Step.TheVariants as steps
+use Rattle.gc_model.specs.declared.step.StepReply.{StepReply}
+use Rattle.gc_model.specs.declared.step.StepReply.TheVariants.{Applied, Begun, Busy, Clean, Copied, Flipped, Passed, Scanned}
+use Rattle.gc_monitor.specs.Events.{absent_tables}
+use Rattle.gc_monitor.specs.Tables.{Tables}
 use Rattle.gc_collected.specs.Flip.{FlipsOnly}
 
 -- it does not tell of a flip

@@ -9,9 +9,9 @@ use Rattle.gc_words.specs.Image.{Block, block_at, is_start, object_of_block, obj
 use Rattle.gc_words.specs.Word.{field_value, value_of}
 use Rattle.gc_words.specs.declared.header.Header.{Header}
 use Rattle.gc_words.proofs.Public.{object_found}
-use Rattle.gc_plan.specs.Belonging.{IsSpaceGraph}
-use Rattle.gc_plan.specs.State.{State, heap_end}
-use Rattle.gc_plan.proofs.Public.{laid_range, lookup_in}
+use Rattle.gc_model.specs.Belonging.{IsSpaceGraph}
+use Rattle.gc_model.specs.State.{State, heap_end}
+use Rattle.gc_model.proofs.Public.{laid_range, lookup_in}
 use Rattle.gc_collected.specs.Bytes.{text_of_object}
 use Rattle.gc_collected.proofs.Referred.{start_named}
 

@@ -16,17 +16,17 @@ use Rattle.gc_words.specs.Space.{end_of, free_in}
 use Rattle.gc_words.specs.Spelling.{link_at}
 use Rattle.gc_heap.specs.Commands.{Performs}
 use Rattle.gc_heap.specs.Heap.{HeapWords, IsHeap, graph_in, image_of, roomy_in}
-use Rattle.gc_plan.specs.State.{Collection, State, heap_end}
-use Rattle.gc_plan.specs.Steps.{log_at, logged, mutate, with_log, written}
-use Rattle.gc_plan.specs.Members.{In}
-use Rattle.gc_plan.specs.Belonging.{Belongs, HasField, IsOpened, IsSpaceGraph}
-use Rattle.gc_plan.proofs.Public.{WrittenBy, belongs_noted, field_there, in_left, in_right, lookup_in, lookup_laid}
+use Rattle.gc_model.specs.State.{Collection, State, heap_end}
+use Rattle.gc_model.specs.Steps.{log_at, logged, mutate, with_log, written}
+use Rattle.gc_model.specs.Members.{In}
+use Rattle.gc_model.specs.Belonging.{Belongs, HasField, IsOpened, IsSpaceGraph}
+use Rattle.gc_model.proofs.Public.{WrittenBy, belongs_noted, field_there, in_left, in_right, lookup_in, lookup_laid}
 use Rattle.gc_copy.specs.Words.{CollectionWords, BelongsTo, BelongsToBut, LinksNothing, LinksReplicas, collection_in, entries_of, state_of}
 use Rattle.gc_copy.proofs.Public.{command_leaves, still_unlinked}
-use Rattle.gc_plan.specs.Linked.{linked_image}
-use Rattle.gc_along.specs.Claims.{CanMake}
-use Rattle.gc_along.specs.Events.{Made}
-use Rattle.gc_along.specs.Tables.{Tables}
+use Rattle.gc_model.specs.Linked.{linked_image}
+use Rattle.gc_monitor.specs.Claims.{CanMake}
+use Rattle.gc_monitor.specs.Events.{Made}
+use Rattle.gc_monitor.specs.Tables.{Tables}
 use Rattle.gc_collected.specs.CollectedHeap.{fill_step}
 use Rattle.gc_collected.specs.Internal.CollectedHeap.{BelongsIfOpen, Fits, state_in}
 use Rattle.gc_collected.specs.Internal.Follows.{Follows}
@@ -226,7 +226,7 @@ filled_follows heap made new o o' m kind len d reply fields t after is is' p ran
     named : Continues (state_in heap o) (state_in made o) (λ a. a ≡ heap_end (state_in heap o))
     named =
         let on = continues_one (state_in heap o) (state_in made o) m (New d kind len) reply one in
-        record { mutators = on.mutators; size = on.size; collection = on.collection; names = λ a n. ⊎_elim (λ l. inl l) (λ new. inr new.1) (on.names a n); kept = on.kept }
+        record { mutators = on.mutators; size = on.size; collection = on.collection; names = λ a n. ⊎_elim (λ l. inl l) (λ new. inr new.1) (on.names a n); stays = on.stays }
 
 pub made_follows : (heap made new : HeapWords) (o o' : Option CollectionWords) (m kind len : ℕ) (d : SlotName) (reply : Reply) (ops : List Op) (fields : List (ℕ × ℕ)) (t after : Tables)
     → IsHeap heap → IsHeap made → Performs heap m (New d kind len) reply made → MakeNothing ops → PerformsAll made m ops fields new → LogsIfOpen o m fields o' → ((b i : ℕ) → In {X = ℕ × ℕ} (b, i) fields → b ≡ end_of heap.space) → BelongsIfOpen heap o → IfSome (option_map collection_in o) (IsOpened (state_in heap o))

@@ -15,9 +15,9 @@ use Rattle.gc_graph.specs.declared.reply.Reply.TheVariants as replies
 use Rattle.gc_graph.specs.declared.reply.View.{View}
 use Rattle.gc_graph.specs.declared.reply.View.TheVariants as views
 use Rattle.gc_heap.specs.Commands.{fetched_of}
-use Rattle.gc_plan.specs.State.{Collection, State}
-use Rattle.gc_plan.specs.Staying.{root_written}
-use Rattle.gc_plan.specs.Steps.{logged, mutate}
+use Rattle.gc_model.specs.State.{Collection, State}
+use Rattle.gc_model.specs.Staying.{root_written}
+use Rattle.gc_model.specs.Steps.{logged, mutate}
 use Rattle.gc_copy.specs.Words.{CollectionWords, collection_in}
 use Rattle.gc_roots.specs.Twins.{AsksForLook, RootRow}
 use Rattle.gc_collected.specs.CollectedHeap.{HasMissed, fill_step, filled, new_from_step}

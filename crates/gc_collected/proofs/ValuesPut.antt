@@ -18,10 +18,10 @@ use Rattle.gc_words.specs.Word.{value_of}
 use Rattle.gc_heap.specs.Commands.{Performs}
 use Rattle.gc_heap.specs.Heap.{HeapWords, graph_in}
 use Rattle.gc_heap.specs.Places.{root_at}
-use Rattle.gc_plan.specs.State.{Collection, State, heap_end}
-use Rattle.gc_plan.specs.Staying.{HasReplicaOf}
-use Rattle.gc_plan.specs.Belonging.{IsSpaceGraph}
-use Rattle.gc_plan.specs.Steps.{WritesField, logged, mutate, written}
+use Rattle.gc_model.specs.State.{Collection, State, heap_end}
+use Rattle.gc_model.specs.Staying.{HasReplicaOf}
+use Rattle.gc_model.specs.Belonging.{IsSpaceGraph}
+use Rattle.gc_model.specs.Steps.{WritesField, logged, mutate, written}
 use Rattle.gc_copy.specs.Twins.{IsTwin}
 use Rattle.gc_copy.specs.Words.{state_of}
 use Rattle.gc_roots.specs.Twins.{twin_at}

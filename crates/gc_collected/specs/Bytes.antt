@@ -7,7 +7,7 @@ use Rattle.gc_graph.specs.declared.reply.Reply.{Reply}
 use Rattle.gc_graph.specs.declared.reply.Reply.TheVariants.{NoField, NoObject}
 use Rattle.gc_heap.specs.Places.{root_at}
 use Rattle.gc_heap.specs.Raws.{numbers_in}
-use Rattle.gc_plan.specs.State.{State}
+use Rattle.gc_model.specs.State.{State}
 use Rattle.gc_collected.specs.Copying.{object_in}
 use Rattle.gc_collected.specs.Numbers.{new_numbers_step}
 

@@ -2,8 +2,8 @@
 use Rattle.std.specs.Prelude.{◌≡◌, ℕ, if◌then◌else◌, length, IfSome}
 use Rattle.std.specs.Option.{option_map_or}
 use Rattle.gc_cert.specs.Grammar.{CertifiedPair}
-use Rattle.gc_plan.specs.State.{State}
-use Rattle.gc_plan.specs.Steps.{is_ready}
+use Rattle.gc_model.specs.State.{State}
+use Rattle.gc_model.specs.Steps.{is_ready}
 use Rattle.gc_collected.specs.Flip.{flip_pair}
 use Rattle.gc_collected.specs.declared.checking.Finding.{Finding}
 use Rattle.gc_collected.specs.declared.checking.Finding.TheVariants.{Idle, NotReady, Holds}

@@ -3,11 +3,11 @@
 use Rattle.std.specs.Prelude.{Option, None, ◌≡◌, ◌≢◌, ◌⊎◌, ℕ, zero, suc, ◌+◌, ◌-◌, ◌*◌, ◌≤◌, ◌^◌, ◌==◌, ◌&&◌, ◌||◌, not, min, nat_le, nat_lt, Bool, true, false, if◌then◌else◌, is_some}
 use Rattle.gc_cert.specs.Grammar.{CertifiedPair}
 use Rattle.gc_copy.specs.Words.{RoomWords, held_in}
-use Rattle.gc_plan.specs.State.{State}
-use Rattle.gc_plan.specs.declared.step.Step.{Step}
-use Rattle.gc_plan.specs.declared.step.Step.TheVariants.{Begin, BeginSized, Flip, Drop}
-use Rattle.gc_plan.specs.declared.step.StepReply.{StepReply}
-use Rattle.gc_plan.specs.declared.step.StepReply.TheVariants.{Begun, Flipped}
+use Rattle.gc_model.specs.State.{State}
+use Rattle.gc_model.specs.declared.step.Step.{Step}
+use Rattle.gc_model.specs.declared.step.Step.TheVariants.{Begin, BeginSized, Flip, Drop}
+use Rattle.gc_model.specs.declared.step.StepReply.{StepReply}
+use Rattle.gc_model.specs.declared.step.StepReply.TheVariants.{Begun, Flipped}
 use Rattle.gc_collected.specs.Flip.{new_size}
 use Rattle.gc_collected.specs.declared.checks.Checking.{Checking}
 use Rattle.gc_collected.specs.declared.checks.Checking.TheVariants.{AtFlip, Along}

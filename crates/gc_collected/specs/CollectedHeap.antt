@@ -8,10 +8,10 @@ use Rattle.gc_heap.specs.Commands.{fetched_of}
 use Rattle.gc_heap.specs.Places.{root_at}
 use Rattle.gc_heap.specs.declared.taken.Fetched.{Fetched}
 use Rattle.gc_heap.specs.declared.taken.Fetched.TheVariants.{NoObject, NoField}
-use Rattle.gc_plan.specs.State.{State}
-use Rattle.gc_plan.specs.Steps.{mutate, is_ready}
-use Rattle.gc_plan.specs.declared.step.Step.{Step}
-use Rattle.gc_plan.specs.declared.step.Step.TheVariants.{Begin, BeginSized, Flip}
+use Rattle.gc_model.specs.State.{State}
+use Rattle.gc_model.specs.Steps.{mutate, is_ready}
+use Rattle.gc_model.specs.declared.step.Step.{Step}
+use Rattle.gc_model.specs.declared.step.Step.TheVariants.{Begin, BeginSized, Flip}
 
 -- in this state the step allocates: it opens a collection and none is open, or it flips a ready collection
 abbrev pub Allocates : State → Step → Type 0

@@ -2,8 +2,8 @@
 use Rattle.std.specs.Prelude.{ℕ, zero, suc}
 use Rattle.gc_graph.specs.declared.command.Op.TheVariants.{Nil}
 use Rattle.gc_heap.specs.ExtraRoots.{extra_slot}
-use Rattle.gc_plan.specs.State.{State}
-use Rattle.gc_plan.specs.Steps.{mutate}
+use Rattle.gc_model.specs.State.{State}
+use Rattle.gc_model.specs.Steps.{mutate}
 
 -- this many extra roots from k on become nil: one `Nil` for each, in order
 abbrev pub clear_step : State → ℕ → ℕ → State

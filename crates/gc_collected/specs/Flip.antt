@@ -2,14 +2,14 @@
 use Rattle.std.specs.Prelude.{◌≡◌, ◌≢◌, ◌≤◌, ℕ, length, Option, None, IfSome, IsSomeAnd, IsTrue}
 use Rattle.std.specs.Option.{option_map, option_map_or}
 use Rattle.gc_words.specs.Certificate.{Certified}
-use Rattle.gc_along.specs.Outline.{ImageOutline, outline_of}
+use Rattle.gc_monitor.specs.Outline.{ImageOutline, outline_of}
 use Rattle.gc_cert.specs.Grammar.{CertifiedPair}
-use Rattle.gc_plan.specs.State.{State, Collection, pairs_of}
-use Rattle.gc_plan.specs.Steps.{is_ready}
-use Rattle.gc_plan.specs.Linked.{old_image, new_image}
+use Rattle.gc_model.specs.State.{State, Collection, pairs_of}
+use Rattle.gc_model.specs.Steps.{is_ready}
+use Rattle.gc_model.specs.Linked.{old_image, new_image}
 use Rattle.gc_copy.specs.Words.{RoomWords, TellsMoves, held_in}
-use Rattle.gc_plan.specs.declared.step.StepReply.{StepReply}
-use Rattle.gc_plan.specs.declared.step.StepReply.TheVariants.{Begun, NoRoom, Flipped}
+use Rattle.gc_model.specs.declared.step.StepReply.{StepReply}
+use Rattle.gc_model.specs.declared.step.StepReply.TheVariants.{Begun, NoRoom, Flipped}
 use Rattle.gc_collected.specs.declared.flip.Keep.{Keep}
 use Rattle.gc_collected.specs.declared.flip.Keep.TheVariants.{Pair, Room}
 

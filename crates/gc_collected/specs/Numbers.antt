@@ -3,8 +3,8 @@ use Rattle.std.specs.Prelude.{ℕ, List, length, map}
 use Rattle.gc_graph.specs.declared.command.Op.TheVariants.{NewRaw}
 use Rattle.gc_graph.specs.declared.reply.Reply.{Reply}
 use Rattle.gc_heap.specs.Places.{root_at}
-use Rattle.gc_plan.specs.State.{State}
-use Rattle.gc_plan.specs.Steps.{mutate}
+use Rattle.gc_model.specs.State.{State}
+use Rattle.gc_model.specs.Steps.{mutate}
 use Rattle.gc_collected.specs.Giving.{given}
 use Rattle.gc_collected.specs.declared.giving.FieldValue.TheVariants.{Number}
 

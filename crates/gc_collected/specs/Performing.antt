@@ -1,10 +1,10 @@
 -- The pair that an event's flip keeps.
 use Rattle.std.specs.Prelude.{Option, None}
 use Rattle.gc_cert.specs.Grammar.{CertifiedPair}
-use Rattle.gc_plan.specs.State.{State}
-use Rattle.gc_plan.specs.Steps.{collect}
-use Rattle.gc_plan.specs.declared.event.Event.{Event}
-use Rattle.gc_plan.specs.declared.event.Event.TheVariants.{Mutate, Collect}
+use Rattle.gc_model.specs.State.{State}
+use Rattle.gc_model.specs.Steps.{collect}
+use Rattle.gc_model.specs.declared.event.Event.{Event}
+use Rattle.gc_model.specs.declared.event.Event.TheVariants.{Mutate, Collect}
 use Rattle.gc_collected.specs.Flip.{pair_after}
 use Rattle.gc_collected.specs.declared.flip.Keep.{Keep}
 use Rattle.gc_collected.specs.declared.flip.Keep.TheVariants.{Pair}

@@ -3,9 +3,9 @@ use Rattle.std.specs.Prelude.{◌≡◌, ℕ, List, [], Option}
 use Rattle.std.specs.Option.{option_map, option_map_or}
 use Rattle.gc_words.specs.Image.{Image}
 use Rattle.gc_words.specs.Spelling.{no_links}
-use Rattle.gc_plan.specs.State.{State, Collection, new_end}
-use Rattle.gc_plan.specs.Linked.{LeadsToOpen, linked_image, old_links, new_image}
-use Rattle.gc_plan.specs.Steps.{log_at}
+use Rattle.gc_model.specs.State.{State, Collection, new_end}
+use Rattle.gc_model.specs.Linked.{LeadsToOpen, linked_image, old_links, new_image}
+use Rattle.gc_model.specs.Steps.{log_at}
 use Rattle.gc_collected.specs.declared.reading.NewSpace.{NewSpace}
 
 -- an image of the mutators' space, with the links of the open collection's originals

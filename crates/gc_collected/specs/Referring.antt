@@ -4,7 +4,7 @@ use Rattle.gc_graph.specs.Slots.{SlotName, place}
 use Rattle.gc_graph.specs.Graph.{Ref, lookup, set_root}
 use Rattle.gc_graph.specs.declared.reply.Reply.{Reply}
 use Rattle.gc_graph.specs.declared.reply.Reply.TheVariants.{Done, NoObject}
-use Rattle.gc_plan.specs.State.{State}
+use Rattle.gc_model.specs.State.{State}
 
 -- the root at this place refers to the object with this name
 abbrev pub with_reference : State → ℕ → ℕ → State

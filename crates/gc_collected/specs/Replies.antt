@@ -1,10 +1,10 @@
 -- The replies that mutators get in a run.
 use Rattle.std.specs.Prelude.{List, [], ◌∷◌}
 use Rattle.gc_graph.specs.Legal.{Told}
-use Rattle.gc_plan.specs.State.{State}
-use Rattle.gc_plan.specs.Steps.{mutate, collect}
-use Rattle.gc_plan.specs.declared.event.Event.{Event}
-use Rattle.gc_plan.specs.declared.event.Event.TheVariants.{Mutate, Collect}
+use Rattle.gc_model.specs.State.{State}
+use Rattle.gc_model.specs.Steps.{mutate, collect}
+use Rattle.gc_model.specs.declared.event.Event.{Event}
+use Rattle.gc_model.specs.declared.event.Event.TheVariants.{Mutate, Collect}
 
 -- each command with its reply, in order; collector steps get no entry
 abbrev pub told_in : State → List Event → List Told

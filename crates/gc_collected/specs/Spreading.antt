@@ -5,8 +5,8 @@ use Rattle.gc_graph.specs.declared.reply.Reply.{Reply}
 use Rattle.gc_graph.specs.declared.reply.Reply.TheVariants.{Done, NoObject, NoField, Saw}
 use Rattle.gc_graph.specs.declared.reply.View.TheVariants.{Obj, RawObj}
 use Rattle.gc_heap.specs.Places.{root_at}
-use Rattle.gc_plan.specs.State.{State}
-use Rattle.gc_plan.specs.Steps.{mutate}
+use Rattle.gc_model.specs.State.{State}
+use Rattle.gc_model.specs.Steps.{mutate}
 use Rattle.gc_collected.specs.Writing.{after_reply}
 
 -- so many fields of the object in root q, from field i on, go into the roots from p on: one `Get` for each, in rising order

@@ -2,9 +2,9 @@
 use Rattle.std.specs.Prelude.{◌≡◌, ◌⊎◌, ℕ, IsSome}
 use Rattle.gc_graph.specs.declared.command.Op.{Op}
 use Rattle.gc_graph.specs.declared.reply.Reply.{Reply}
-use Rattle.gc_plan.specs.State.{State}
-use Rattle.gc_plan.specs.Steps.{collect, mutate}
-use Rattle.gc_plan.specs.declared.step.Step.TheVariants.{Drop}
+use Rattle.gc_model.specs.State.{State}
+use Rattle.gc_model.specs.Steps.{collect, mutate}
+use Rattle.gc_model.specs.declared.step.Step.TheVariants.{Drop}
 use Rattle.gc_collected.specs.Collected.{Beside, Collected, rooms_given_up}
 use Rattle.gc_collected.specs.Flip.{new_size}
 

@@ -5,8 +5,8 @@ use Rattle.gc_graph.specs.Graph as graphs
 use Rattle.gc_graph.specs.declared.command.Op.TheVariants.{Put}
 use Rattle.gc_graph.specs.declared.reply.Reply.{Reply}
 use Rattle.gc_heap.specs.Places.{root_at}
-use Rattle.gc_plan.specs.State.{State}
-use Rattle.gc_plan.specs.Steps.{mutate}
+use Rattle.gc_model.specs.State.{State}
+use Rattle.gc_model.specs.Steps.{mutate}
 use Rattle.gc_collected.specs.declared.values.Plain.{Plain}
 use Rattle.gc_collected.specs.declared.values.Plain.TheVariants.{Nil, Number}
 

@@ -6,8 +6,8 @@ use Rattle.gc_graph.specs.declared.command.Op.TheVariants.{Get}
 use Rattle.gc_graph.specs.declared.reply.Reply.{Reply}
 use Rattle.gc_graph.specs.declared.reply.View.{View}
 use Rattle.gc_heap.specs.Places.{root_at}
-use Rattle.gc_plan.specs.State.{State}
-use Rattle.gc_plan.specs.Steps.{mutate}
+use Rattle.gc_model.specs.State.{State}
+use Rattle.gc_model.specs.Steps.{mutate}
 
 -- The reply to a `Get` of field i of the object in the root at place p. It is the same whichever root takes the value.
 abbrev pub get_reply : State → ℕ → ℕ → Reply

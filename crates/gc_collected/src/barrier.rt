@@ -13,10 +13,10 @@ ghost use Rattle.gc_heap.specs.Places.{root_at};
 ghost use Rattle.gc_words.specs.Image.{is_start};
 ghost use Rattle.gc_words.specs.Space.{end_of};
 ghost use Rattle.gc_heap.specs.Heap.{HeapWords, IsHeap, graph_in};
-ghost use Rattle.gc_plan.specs.Steps.{collect, mutate, root_target};
-ghost use Rattle.gc_plan.specs.declared.step.Step.{Step};
-ghost use Rattle.gc_plan.specs.declared.step.StepReply.{StepReply};
-ghost use Rattle.gc_plan.specs.Belonging.{IsSpaceGraph, IsOpened};
+ghost use Rattle.gc_model.specs.Steps.{collect, mutate, root_target};
+ghost use Rattle.gc_model.specs.declared.step.Step.{Step};
+ghost use Rattle.gc_model.specs.declared.step.StepReply.{StepReply};
+ghost use Rattle.gc_model.specs.Belonging.{IsSpaceGraph, IsOpened};
 ghost use Rattle.gc_copy.specs.StepRuns.{IsScanRun, IsApplyRun};
 ghost use Rattle.gc_copy.specs.Words.{collection_in, open_state, spare_of, BelongsTo};
 ghost use Rattle.gc_collected.specs.Internal.Beside.{AreOld, replica_words};
@@ -25,7 +25,7 @@ ghost use Rattle.gc_collected.specs.Internal.Together.{Logs, LogsIfOpen, fields_
 ghost use Rattle.gc_collected.specs.Writing.{numbers_step};
 ghost use Rattle.gc_collected.specs.Internal.CollectedHeap.{BelongsIfOpen, Fits, HasSpare, state_in};
 
-use gc_along::Standing;
+use gc_monitor::Monitor;
 use gc_copy::{
     Collection, MissingRoot, StepReply, StepRun, heaps_have_addresses_as_names, images_show_links,
 };
@@ -56,7 +56,7 @@ pub(crate) fn are_shown(heap: &Heap, collection: &Collection)
 pub(crate) fn put(
     collection: &mut Collection,
     heap: &mut Heap,
-    watch: &mut Standing,
+    watch: &mut Monitor,
     m: u8,
     s: Slot,
     i: u16,
@@ -89,7 +89,7 @@ pub(crate) fn put(
 pub(crate) fn put_root(
     collection: &mut Collection,
     heap: &mut Heap,
-    watch: &mut Standing,
+    watch: &mut Monitor,
     m: u8,
     s: u32,
     i: u16,
@@ -120,7 +120,7 @@ pub(crate) fn put_root(
 pub(crate) fn fill_numbers(
     collection: &mut Collection,
     heap: &mut Heap,
-    watch: &mut Standing,
+    watch: &mut Monitor,
     m: u8,
     s: Slot,
     object: OldAddr,
@@ -155,7 +155,7 @@ pub(crate) fn fill_numbers(
 pub(crate) fn replicate_root(
     collection: &mut Collection,
     heap: &mut Heap,
-    watch: &mut Standing,
+    watch: &mut Monitor,
     first: Option<MissingRoot>,
 ) -> StepReply
     requires belongs { BelongsTo heap.old collection.old }
@@ -182,7 +182,7 @@ pub(crate) fn replicate_root(
 pub(crate) fn scan_run(
     collection: &mut Collection,
     heap: &mut Heap,
-    watch: &mut Standing,
+    watch: &mut Monitor,
     most: u32,
     until: u32,
 ) -> StepRun
@@ -209,7 +209,7 @@ pub(crate) fn scan_run(
 }
 
 /// Performs one scan, as `scan_run` does.
-pub(crate) fn scan(collection: &mut Collection, heap: &mut Heap, watch: &mut Standing) -> StepReply
+pub(crate) fn scan(collection: &mut Collection, heap: &mut Heap, watch: &mut Monitor) -> StepReply
     requires { BelongsTo heap.old collection.old }
     ensures step { collect (open_state heap.old collection.old) Step.Scan ≡ (result, open_state heap.new collection.new) }
     ensures room { heap.old.space.size ≤ collection.old.space.size → result ≢ StepReply.NoRoom }
@@ -228,7 +228,7 @@ pub(crate) fn apply_log(
     collection: &mut Collection,
     m: u8,
     heap: &mut Heap,
-    watch: &mut Standing,
+    watch: &mut Monitor,
 ) -> StepReply
     requires belongs { BelongsTo heap.old collection.old }
     requires mutator { m < heap.old.mutators }
@@ -258,7 +258,7 @@ pub(crate) fn apply_run(
     collection: &mut Collection,
     m: u8,
     heap: &mut Heap,
-    watch: &mut Standing,
+    watch: &mut Monitor,
     most: u32,
     until: u32,
 ) -> StepRun
@@ -306,7 +306,7 @@ pub(crate) fn reserve_in(
 pub(crate) fn new_in(
     collection: &Option<Collection>,
     heap: &mut Heap,
-    watch: &mut Standing,
+    watch: &mut Monitor,
     m: u8,
     d: Slot,
     kind: u8,
@@ -336,7 +336,7 @@ pub(crate) fn new_in(
 pub(crate) fn new_root_in(
     collection: &Option<Collection>,
     heap: &mut Heap,
-    watch: &mut Standing,
+    watch: &mut Monitor,
     d: u32,
     kind: u8,
     len: u16,
@@ -363,7 +363,7 @@ pub(crate) fn new_root_in(
 pub(crate) fn put_in(
     collection: &mut Option<Collection>,
     heap: &mut Heap,
-    watch: &mut Standing,
+    watch: &mut Monitor,
     is_open: bool,
     m: u8,
     s: Slot,
@@ -400,7 +400,7 @@ pub(crate) fn put_in(
 pub(crate) fn put_root_in(
     collection: &mut Option<Collection>,
     heap: &mut Heap,
-    watch: &mut Standing,
+    watch: &mut Monitor,
     is_open: bool,
     m: u8,
     s: u32,

@@ -6,7 +6,7 @@ ghost use Rattle.gc_bytes.specs.Text.{most_bytes, spelled};
 ghost use Rattle.gc_graph.specs.Graph.{Ref, lookup, root};
 ghost use Rattle.gc_graph.specs.declared.reply.Reply.{Reply};
 ghost use Rattle.gc_heap.specs.Heap.{graph_in};
-ghost use Rattle.gc_plan.specs.State.{heap_end};
+ghost use Rattle.gc_model.specs.State.{heap_end};
 ghost use Rattle.gc_roots.specs.Twins.{AsksForLook};
 ghost use Rattle.gc_collected.specs.Bytes.{bytes_in, join_step, part_step, text_in, text_of_object};
 ghost use Rattle.gc_collected.specs.Numbers.{new_numbers_step};

@@ -1,6 +1,6 @@
 ghost use Rattle.std.specs.Prelude.{◌≡◌, ◌<◌, ◌≤◌, ◌^◌, IfOk, IsTrue, OnErr, length};
 ghost use Rattle.gc_heap.specs.Heap.{graph_in};
-ghost use Rattle.gc_plan.specs.Steps.{is_ready};
+ghost use Rattle.gc_model.specs.Steps.{is_ready};
 ghost use Rattle.gc_copy.specs.Words.{BelongsTo, collection_in, open_state};
 ghost use Rattle.gc_collected.specs.Flip.{flip_pair, IsCertified};
 ghost use Rattle.gc_collected.specs.Internal.Flip.{IsDraft};
@@ -32,7 +32,7 @@ pub enum Finding {
 impl CollectedHeap {
     ghost use Rattle.gc_collected.specs.CollectedHeap.{Allocates};
     ghost use Rattle.gc_collected.specs.Checking.{finding, HoldsOnly};
-    ghost use Rattle.gc_plan.specs.declared.step.Step.{Step};
+    ghost use Rattle.gc_model.specs.declared.step.Step.{Step};
 
     /// Checks the certificate of the open collection, if that is ready, by both spaces whole. The heap stays as it is. Allocates what a
     /// checked flip does, and frees it before it returns. First it checks that the spaces of an open collection are shaped.

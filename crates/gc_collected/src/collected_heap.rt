@@ -1,6 +1,6 @@
 use crate::checks::{Checking, FlipChecks, Turn};
 use crate::known::KnownRoots;
-use gc_along::Standing;
+use gc_monitor::Monitor;
 use gc_cert::PairFile;
 use gc_copy::{Collection, Room, heaps_have_addresses_as_names};
 use gc_graph::NoMemory;
@@ -27,7 +27,7 @@ pub struct CollectedHeap {
     /// The epoch of the next collection's links. No object has a link above its mark.
     pub(crate) epoch: u32,
     /// The monitor.
-    pub(crate) watch: Standing,
+    pub(crate) watch: Monitor,
     /// Whether there is one.
     pub(crate) along: bool,
     pub(crate) checks: FlipChecks,
@@ -73,8 +73,8 @@ impl Model for CollectedHeap {
 impl CollectedHeap {
     ghost use Rattle.std.specs.Prelude.{◌≡◌, ◌≤◌, IfOk, IfSome, is_some};
     ghost use Rattle.gc_graph.specs.Limits.{most_mutators};
-    ghost use Rattle.gc_plan.specs.State.{opening_state};
-    ghost use Rattle.gc_plan.specs.Belonging.{IsSpaceGraph, IsOpened};
+    ghost use Rattle.gc_model.specs.State.{opening_state};
+    ghost use Rattle.gc_model.specs.Belonging.{IsSpaceGraph, IsOpened};
     ghost use Rattle.gc_copy.specs.Opening.{opening_state_with};
     ghost use Rattle.gc_heap.specs.ExtraRoots.{CanOpen};
     ghost use Rattle.gc_heap.specs.Heap.{roomy_in};
@@ -171,17 +171,17 @@ impl CollectedHeap {
 }
 
 ghost use Rattle.std.specs.Prelude.{◌≡◌, ◌≤◌, IfOk, IsTrue, IsFalse};
-ghost use Rattle.gc_along.specs.Events.{absent_tables, opening_tables};
+ghost use Rattle.gc_monitor.specs.Events.{absent_tables, opening_tables};
 
 // The monitor of a heap of this size, or an absent one, which asks for no memory.
-fn monitor(alloc: Global, size: u32, along: bool) -> Result<Standing, NoMemory>
+fn monitor(alloc: Global, size: u32, along: bool) -> Result<Monitor, NoMemory>
     requires { 1 ≤ size }
     ensures along { IsTrue along → IfOk result (λ standing. standing ≡ opening_tables size) }
     ensures absent { IsFalse along → IfOk result (λ standing. standing ≡ absent_tables) }
 {
     if along {
-        Standing::new(alloc, size)
+        Monitor::new(alloc, size)
     } else {
-        Ok(Standing::absent(alloc))
+        Ok(Monitor::absent(alloc))
     }
 }

@@ -10,7 +10,7 @@ use gc_heap::Fetched;
 
 impl CollectedHeap {
     ghost use Rattle.std.specs.Prelude.{◌≡◌, ◌<◌, IfOk, OnErr, IsSome};
-    ghost use Rattle.gc_plan.specs.Steps.{mutate, WritesField};
+    ghost use Rattle.gc_model.specs.Steps.{mutate, WritesField};
     ghost use Rattle.gc_graph.specs.declared.command.Op.{Op};
     ghost use Rattle.gc_collected.specs.CollectedHeap.{Fetches};
 

@@ -22,7 +22,7 @@ ghost use Rattle.gc_collected.specs.Copying.{object_in, copy_reply as reply_in, 
 
 use crate::barrier::{are_shown, are_sound_in, note_row, reserve_in};
 use crate::collected_heap::CollectedHeap;
-use gc_along::Standing;
+use gc_monitor::Monitor;
 use gc_copy::Collection;
 use gc_graph::{NoMemory, Reply, Slot};
 use gc_heap::{Heap, field_word, root_word};
@@ -267,7 +267,7 @@ fn copy_each(
 fn copy_all(
     collection: &mut Option<Collection>,
     heap: &mut Heap,
-    watch: &mut Standing,
+    watch: &mut Monitor,
     m: u8,
     d: Slot,
     to: u16,
@@ -328,7 +328,7 @@ fn fill_reply(heap: &Heap, s: u32, to: u32, t: u32) -> Reply
 fn fill_values(
     collection: &mut Option<Collection>,
     heap: &mut Heap,
-    watch: &mut Standing,
+    watch: &mut Monitor,
     m: u8,
     s: u32,
     from: u16,
@@ -362,7 +362,7 @@ fn fill_values(
 pub(crate) fn put_words(
     collection: &mut Option<Collection>,
     heap: &mut Heap,
-    watch: &mut Standing,
+    watch: &mut Monitor,
     m: u8,
     s: u32,
     object: OldAddr,
@@ -424,7 +424,7 @@ fn fill_each(
 fn copy_values(
     collection: &mut Option<Collection>,
     heap: &mut Heap,
-    watch: &mut Standing,
+    watch: &mut Monitor,
     m: u8,
     d: u32,
     to: u16,

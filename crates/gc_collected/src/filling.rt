@@ -14,7 +14,7 @@ ghost use Rattle.gc_collected.specs.Internal.Together.{PerformsAll, fields_from,
 use crate::barrier::{are_sound_in, note_in, reserve_in};
 use crate::collected_heap::CollectedHeap;
 use crate::places::has_made;
-use gc_along::Standing;
+use gc_monitor::Monitor;
 use gc_copy::{Collection, heaps_have_addresses_as_names};
 use gc_graph::{NoMemory, Reply, Slot, root_count};
 use gc_heap::Heap;
@@ -241,7 +241,7 @@ impl RootRow for Range {
 fn make_filled<R: RootRow>(
     collection: &mut Option<Collection>,
     heap: &mut Heap,
-    watch: &mut Standing,
+    watch: &mut Monitor,
     is_open: bool,
     m: u8,
     d: u32,

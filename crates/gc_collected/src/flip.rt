@@ -1,5 +1,5 @@
 ghost use Rattle.std.specs.Prelude.{◌≡◌, ◌<◌, ◌^◌, IfOk, IsTrue, length};
-ghost use Rattle.gc_plan.specs.Steps.{is_ready};
+ghost use Rattle.gc_model.specs.Steps.{is_ready};
 ghost use Rattle.gc_copy.specs.Words.{BelongsTo, IsCollection, collection_in};
 ghost use Rattle.gc_heap.specs.Heap.{graph_in};
 ghost use Rattle.gc_collected.specs.Internal.Flip.{IsDraft, IsNewImage};

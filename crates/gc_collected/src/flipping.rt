@@ -4,14 +4,14 @@ ghost use Rattle.std.specs.Prelude.{◌≡◌, ◌≢◌, ◌<◌, ◌≤◌, �
 ghost use Rattle.std.specs.Option.{option_map};
 ghost use Rattle.gc_cert.specs.Views.{pair_in};
 ghost use Rattle.gc_heap.specs.Heap.{graph_in};
-ghost use Rattle.gc_plan.specs.Steps.{collect, is_ready, root_target};
+ghost use Rattle.gc_model.specs.Steps.{collect, is_ready, root_target};
 ghost use Rattle.gc_copy.specs.Words.{AreMoved, BelongsTo, IsCollection, LinksNothing, collection_in, idle_state, new_root_words, open_state};
-ghost use Rattle.gc_plan.specs.declared.step.Step.{Step};
-ghost use Rattle.gc_plan.specs.declared.step.StepReply.{StepReply};
+ghost use Rattle.gc_model.specs.declared.step.Step.{Step};
+ghost use Rattle.gc_model.specs.declared.step.StepReply.{StepReply};
 ghost use Rattle.gc_collected.specs.Flip.{FormerAfter, HasAccepted, flip_pair, IsCertified, pair_after};
 ghost use Rattle.gc_collected.specs.Internal.Flip.{AsAsked, IsDraft, IsFlipOf, IsNewImage, IsNoFlip, keep_in};
-ghost use Rattle.gc_along.specs.Origins.{pairs_in};
-ghost use Rattle.gc_plan.specs.State.{pairs_of};
+ghost use Rattle.gc_monitor.specs.Origins.{pairs_in};
+ghost use Rattle.gc_model.specs.State.{pairs_of};
 ghost use Rattle.gc_roots.specs.Looks.{ComparesKnown, HasLooked};
 ghost use Rattle.gc_roots.specs.Twins.{RootRow, KeepsTwins, IsDone, SlotsAreTwins};
 ghost use Rattle.gc_collected.specs.declared.flip.Keep.{Keep};
@@ -22,7 +22,7 @@ use crate::collected_heap::CollectedHeap;
 use crate::flip::{Approved, Draft, Keep, new_image_copied};
 use crate::known::search;
 use crate::rooms::free_if;
-use gc_along::{Outline, Standing, Watcher, a_yes_is_sound};
+use gc_monitor::{Outline, Monitor, Watcher, a_yes_is_sound};
 use gc_cert::{Image, PairFile};
 use gc_check::Checks;
 use gc_copy::{
@@ -34,8 +34,8 @@ use gc_roots::{RootLooks, RootTwins, RootWatcher, twins_are_alike};
 use std::alloc::Global;
 
 impl CollectedHeap {
-    ghost use Rattle.gc_along.specs.Claims.{Accepts};
-    ghost use Rattle.gc_along.specs.Tables.{Tables};
+    ghost use Rattle.gc_monitor.specs.Claims.{Accepts};
+    ghost use Rattle.gc_monitor.specs.Tables.{Tables};
     ghost use Rattle.gc_collected.specs.Collected.{IsUnchangedButRooms, checks_whole, rooms_flipped, turns_after};
     ghost use Rattle.gc_collected.specs.CollectedHeap.{Allocates};
     ghost use Rattle.gc_collected.specs.Flip.{FlipsOnly, PassesIfReady};
@@ -141,7 +141,7 @@ impl CollectedHeap {
 
 // Returns the monitor with what it has compared of the roots. These are alike to the new roots.
 fn root_watcher<'a>(
-    standing: &'a Standing,
+    standing: &'a Monitor,
     looks: &'a RootLooks,
     twins: &RootTwins,
     heap: &Heap,

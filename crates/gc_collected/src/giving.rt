@@ -17,7 +17,7 @@ ghost use Rattle.gc_collected.specs.Internal.Together.{Logs, LogsIfOpen};
 use crate::barrier::{are_sound_in, reserve_in};
 use crate::collected_heap::CollectedHeap;
 use crate::places::has_made;
-use gc_along::Standing;
+use gc_monitor::Monitor;
 use gc_copy::{Collection, heaps_have_addresses_as_names};
 use gc_graph::{NoMemory, Number, Reply, root_count};
 use gc_heap::Heap;
@@ -103,7 +103,7 @@ impl CollectedHeap {
 fn make_given<R: ValueRow>(
     collection: &mut Option<Collection>,
     heap: &mut Heap,
-    watch: &mut Standing,
+    watch: &mut Monitor,
     is_open: bool,
     m: u8,
     d: u32,

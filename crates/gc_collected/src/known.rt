@@ -5,8 +5,8 @@ ghost use Rattle.std.specs.Option.{option_map};
 ghost use Rattle.gc_graph.specs.Slots.{roots_of};
 ghost use Rattle.gc_heap.specs.Heap.{graph_in};
 ghost use Rattle.gc_words.specs.Image.{is_start};
-ghost use Rattle.gc_plan.specs.Staying.{IsMissing};
-ghost use Rattle.gc_plan.specs.Steps.{root_target};
+ghost use Rattle.gc_model.specs.Staying.{IsMissing};
+ghost use Rattle.gc_model.specs.Steps.{root_target};
 ghost use Rattle.gc_copy.specs.Words.{collection_in, open_state, BelongsTo};
 ghost use Rattle.gc_roots.specs.Twins.{IsDone, begun, looks_left};
 ghost use Rattle.gc_collected.specs.Internal.KnownRoots.{ComparesTwins, HasStored, HasWritten, KnowsRoots, without_slots};
@@ -14,7 +14,7 @@ ghost use Rattle.gc_collected.specs.Internal.Found.{IsAtStart, FindsFirst, IsMis
 ghost use Rattle.gc_collected.specs.Collected.{HasLookedOn};
 ghost use Rattle.gc_collected.specs.declared.known.Found.{Found};
 
-use gc_along::Standing;
+use gc_monitor::Monitor;
 use gc_copy::{Collection, MissingRoot};
 use gc_graph::{NoMemory, root_count};
 use gc_heap::Heap;
@@ -178,7 +178,7 @@ pub(crate) struct Searched {
 pub(crate) fn search_within(
     collection: &Collection,
     heap: &Heap,
-    watch: &Standing,
+    watch: &Monitor,
     known: &mut KnownRoots,
     most: u32,
 ) -> Searched
@@ -209,7 +209,7 @@ pub(crate) fn search_within(
 fn search_extra(
     collection: &Collection,
     heap: &Heap,
-    watch: &Standing,
+    watch: &Monitor,
     known: &mut KnownRoots,
     most: u32,
 ) -> Searched
@@ -259,7 +259,7 @@ fn search_extra(
 pub(crate) fn search(
     collection: &Collection,
     heap: &Heap,
-    watch: &Standing,
+    watch: &Monitor,
     known: &mut KnownRoots,
 ) -> Option<MissingRoot>
     requires belongs { BelongsTo heap.now collection.now }

@@ -15,7 +15,7 @@ ghost use Rattle.gc_collected.specs.Internal.Together.{Logs, LogsIfOpen, Perform
 
 use crate::barrier::{are_sound_in, reserve_in};
 use crate::collected_heap::CollectedHeap;
-use gc_along::Standing;
+use gc_monitor::Monitor;
 use gc_copy::{Collection, heaps_have_addresses_as_names};
 use gc_graph::{NoMemory, Number, Reply, Slot};
 use gc_heap::Heap;
@@ -101,7 +101,7 @@ impl CollectedHeap {
 fn make_mixed<R: SourceRow>(
     collection: &mut Option<Collection>,
     heap: &mut Heap,
-    watch: &mut Standing,
+    watch: &mut Monitor,
     is_open: bool,
     m: u8,
     d: Slot,

@@ -10,8 +10,8 @@ ghost use Rattle.gc_heap.specs.Places.{root_at};
 ghost use Rattle.gc_heap.specs.Raws.{raw_numbers};
 ghost use Rattle.gc_words.specs.Image.{header_at};
 ghost use Rattle.gc_words.specs.Space.{end_of};
-ghost use Rattle.gc_plan.specs.State.{heap_end};
-ghost use Rattle.gc_plan.specs.Steps.{mutate};
+ghost use Rattle.gc_model.specs.State.{heap_end};
+ghost use Rattle.gc_model.specs.Steps.{mutate};
 ghost use Rattle.gc_roots.specs.Twins.{AsksForLook};
 ghost use Rattle.gc_collected.specs.Numbers.{new_numbers_step};
 ghost use Rattle.gc_collected.specs.Internal.CollectedHeap.{BelongsIfOpen, Fits, HasSpare, state_in};
@@ -23,7 +23,7 @@ use crate::barrier::{are_shown, are_sound_in, note_row, reserve_in};
 use crate::collected_heap::CollectedHeap;
 use crate::copying::object;
 use crate::places::has_made;
-use gc_along::Standing;
+use gc_monitor::Monitor;
 use gc_copy::{Collection, heaps_have_addresses_as_names};
 use gc_graph::{NoMemory, Reply, root_count};
 use gc_heap::Heap;
@@ -113,7 +113,7 @@ impl CollectedHeap {
 fn make_numbers<R: NumberRow>(
     collection: &mut Option<Collection>,
     heap: &mut Heap,
-    watch: &mut Standing,
+    watch: &mut Monitor,
     m: u8,
     d: u32,
     kind: u8,
@@ -145,7 +145,7 @@ fn make_numbers<R: NumberRow>(
 fn new_raw_in(
     collection: &Option<Collection>,
     heap: &mut Heap,
-    watch: &mut Standing,
+    watch: &mut Monitor,
     d: u32,
     kind: u8,
     len: u16,
@@ -175,7 +175,7 @@ fn new_raw_in(
 fn write_numbers<R: NumberRow>(
     collection: &mut Option<Collection>,
     heap: &mut Heap,
-    watch: &mut Standing,
+    watch: &mut Monitor,
     m: u8,
     s: u32,
     object: OldAddr,

@@ -5,13 +5,13 @@ use crate::flip::Keep;
 use gc_check::Checks;
 use gc_copy::StepReply;
 use gc_graph::{NoMemory, Op, Reply, View};
-use gc_plan::{Answer, Event};
+use gc_model::{Answer, Event};
 
 impl CollectedHeap {
     ghost use Rattle.std.specs.Prelude.{◌≡◌, IfOk, IsTrue, OnOk, OnErr};
-    ghost use Rattle.gc_plan.specs.Runs.{IsEvent, after, answer};
-    ghost use Rattle.gc_plan.specs.declared.event.Answer.{Answer};
-    ghost use Rattle.gc_plan.specs.declared.step.StepReply.{StepReply};
+    ghost use Rattle.gc_model.specs.Runs.{IsEvent, after, answer};
+    ghost use Rattle.gc_model.specs.declared.event.Answer.{Answer};
+    ghost use Rattle.gc_model.specs.declared.step.StepReply.{StepReply};
     ghost use Rattle.gc_collected.specs.Collected.{IsUnchangedButRooms, checks_whole};
     ghost use Rattle.gc_collected.specs.Flip.{FlipsOnly, IsCertified};
     ghost use Rattle.gc_collected.specs.Performing.{kept_with};

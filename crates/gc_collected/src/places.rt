@@ -6,7 +6,7 @@ ghost use Rattle.gc_graph.specs.Slots.{roots_of};
 ghost use Rattle.gc_graph.specs.declared.command.Op.{Op};
 ghost use Rattle.gc_graph.specs.declared.reply.Reply.{Reply};
 ghost use Rattle.gc_heap.specs.Places.{root_at};
-ghost use Rattle.gc_plan.specs.Steps.{mutate};
+ghost use Rattle.gc_model.specs.Steps.{mutate};
 ghost use Rattle.gc_roots.specs.Twins.{AsksForLook};
 ghost use Rattle.gc_collected.specs.CollectedHeap.{Fetches, HasMissed};
 ghost use Rattle.gc_collected.specs.Surely.{PutsSurely};

@@ -7,7 +7,7 @@ ghost use Rattle.gc_graph.specs.Slots.{place};
 ghost use Rattle.gc_heap.specs.Raws.{raw_numbers};
 ghost use Rattle.gc_words.specs.Views.{image_of};
 ghost use Rattle.gc_copy.specs.Entries.{entry_in};
-ghost use Rattle.gc_plan.specs.State.{heap_end};
+ghost use Rattle.gc_model.specs.State.{heap_end};
 ghost use Rattle.gc_collected.specs.Readings.{ShowsHeap, heap_image, new_words, new_space, log_of};
 
 use crate::collected_heap::CollectedHeap;

@@ -2,10 +2,10 @@
 
 ghost use Rattle.std.specs.Prelude.{◌≡◌, not, if◌then◌else◌, Some};
 ghost use Rattle.std.specs.Option.{option_map_or};
-ghost use Rattle.gc_plan.specs.Steps.{collect, scan_done, first_log};
+ghost use Rattle.gc_model.specs.Steps.{collect, scan_done, first_log};
 ghost use Rattle.gc_copy.specs.Words.{BelongsTo, LinksNothing, collection_in, idle_state, open_state};
-ghost use Rattle.gc_plan.specs.declared.step.Step.{Step};
-ghost use Rattle.gc_plan.specs.declared.step.StepReply.{StepReply};
+ghost use Rattle.gc_model.specs.declared.step.Step.{Step};
+ghost use Rattle.gc_model.specs.declared.step.StepReply.{StepReply};
 
 use crate::barrier;
 use crate::collected_heap::CollectedHeap;
@@ -16,7 +16,7 @@ use gc_check::Checks;
 use gc_copy::{Collection, Room, Step, StepReply, StepRun};
 use gc_graph::NoMemory;
 use gc_heap::Heap;
-use gc_plan::root_replicas_stay;
+use gc_model::root_replicas_stay;
 use std::cmp::max;
 
 /// The useful step, and the looks that it took to find it.
@@ -42,12 +42,12 @@ impl Choice {
 
 impl CollectedHeap {
     ghost use Rattle.std.specs.Prelude.{◌≡◌, ◌≢◌, ◌<◌, ◌≤◌, ◌⊎◌, None, IfOk, IfSome, IsTrue, IsFalse, OnErr};
-    ghost use Rattle.gc_plan.specs.Steps.{collect, useful_step};
-    ghost use Rattle.gc_plan.specs.Runs.{IsStep};
+    ghost use Rattle.gc_model.specs.Steps.{collect, useful_step};
+    ghost use Rattle.gc_model.specs.Runs.{IsStep};
     ghost use Rattle.gc_copy.specs.StepRuns.{IsApplyRun, IsScanRun};
-    ghost use Rattle.gc_plan.specs.declared.step.StepReply.{StepReply};
-    ghost use Rattle.gc_along.specs.Claims.{Accepts};
-    ghost use Rattle.gc_along.specs.Tables.{Tables};
+    ghost use Rattle.gc_model.specs.declared.step.StepReply.{StepReply};
+    ghost use Rattle.gc_monitor.specs.Claims.{Accepts};
+    ghost use Rattle.gc_monitor.specs.Tables.{Tables};
     ghost use Rattle.gc_collected.specs.Collected.{BeginsIn, HasLookedOn, HasStepped, IsUnchangedButRooms, WereRefused, checks_whole, rooms_flipped, rooms_given_up, turns_after};
     ghost use Rattle.gc_collected.specs.CollectedHeap.{Allocates};
     ghost use Rattle.gc_collected.specs.Flip.{FlipsOnly, FormerAfter, HasAccepted, HasRoomIfLarge, IsCertified, PassesIfReady, new_size, pair_after};

@@ -5,7 +5,7 @@ ghost use Rattle.gc_graph.specs.declared.command.Op.{Op};
 ghost use Rattle.gc_words.specs.Closed.{IsRootWord};
 ghost use Rattle.gc_words.specs.Word.{value_of};
 ghost use Rattle.gc_heap.specs.Places.{root_at};
-ghost use Rattle.gc_plan.specs.Steps.{mutate};
+ghost use Rattle.gc_model.specs.Steps.{mutate};
 ghost use Rattle.gc_roots.specs.Twins.{AskForLooks};
 ghost use Rattle.gc_collected.specs.Values.{value_of_plain, put_value_step};
 ghost use Rattle.gc_collected.specs.Internal.CollectedHeap.{BelongsIfOpen, Fits, HasSpare, state_in};
@@ -15,7 +15,7 @@ use crate::barrier::reserve_in;
 use crate::collected_heap::CollectedHeap;
 use crate::copying::{object, put_words};
 use crate::places::field_number;
-use gc_along::Standing;
+use gc_monitor::Monitor;
 use gc_copy::Collection;
 use gc_graph::{NoMemory, Number, Reply, root_count};
 use gc_heap::{Heap, field_word};
@@ -80,7 +80,7 @@ impl CollectedHeap {
 fn put_plain_in(
     collection: &mut Option<Collection>,
     heap: &mut Heap,
-    watch: &mut Standing,
+    watch: &mut Monitor,
     m: u8,
     s: u32,
     i: u16,

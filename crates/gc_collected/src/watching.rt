@@ -3,12 +3,12 @@
 ghost use Rattle.std.specs.Prelude.{◌≡◌, ◌↔◌, ℕ, Some, slice_index_or};
 ghost use Rattle.gc_words.specs.Space.{end_of};
 ghost use Rattle.gc_heap.specs.Heap.{HeapWords, IsHeap, graph_in};
-ghost use Rattle.gc_plan.specs.Belonging.{IsNamed};
-ghost use Rattle.gc_plan.specs.State.{Collection, State, heap_end};
+ghost use Rattle.gc_model.specs.Belonging.{IsNamed};
+ghost use Rattle.gc_model.specs.State.{Collection, State, heap_end};
 ghost use Rattle.gc_copy.specs.Words.{BelongsTo, CollectionWords, IsCollection, collection_in};
-ghost use Rattle.gc_along.specs.Tables.{Tables};
-ghost use Rattle.gc_along.specs.Telling.{IsMark};
-ghost use Rattle.gc_along.specs.Watch.{Watch, Watches};
+ghost use Rattle.gc_monitor.specs.Tables.{Tables};
+ghost use Rattle.gc_monitor.specs.Telling.{IsMark};
+ghost use Rattle.gc_monitor.specs.Watch.{Watch, Watches};
 ghost use Rattle.gc_collected.specs.Flip.{flip_pair};
 ghost use Rattle.gc_collected.specs.Internal.Knows.{KnowsAll};
 ghost use Rattle.gc_collected.specs.Internal.Stays.{GoesAlong};

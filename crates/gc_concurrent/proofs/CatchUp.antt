@@ -4,11 +4,11 @@ use Rattle.std.specs.Prelude.{IsSome}
 use Rattle.gc_graph.specs.Graph.{Value, Object}
 use Rattle.gc_words.specs.Image.{field_at}
 use Rattle.gc_words.specs.Space.{SpaceWords, IsSpace, with_field_at}
-use Rattle.gc_plan.specs.State.{Replica, Collection, replica_of, moved}
-use Rattle.gc_plan.specs.Steps.{with_written}
-use Rattle.gc_plan.specs.Members.{In}
-use Rattle.gc_plan.specs.Belonging.{BelongsBy}
-use Rattle.gc_plan.proofs.Public.{found_by_name}
+use Rattle.gc_model.specs.State.{Replica, Collection, replica_of, moved}
+use Rattle.gc_model.specs.Steps.{with_written}
+use Rattle.gc_model.specs.Members.{In}
+use Rattle.gc_model.specs.Belonging.{BelongsBy}
+use Rattle.gc_model.proofs.Public.{found_by_name}
 use Rattle.gc_copy.specs.Words.{CollectionWords, replicas_in}
 use Rattle.gc_copy.proofs.Public.{space_written}
 use Rattle.gc_concurrent.specs.Ends.{Theirs}

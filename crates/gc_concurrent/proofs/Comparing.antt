@@ -11,9 +11,9 @@ use Rattle.gc_words.specs.Layout.{field_place, link_place}
 use Rattle.gc_words.specs.Space.{SpaceWords, IsSpace, end_of, with_field_at, with_link, with_object}
 use Rattle.gc_words.specs.declared.header.Header.{Header}
 use Rattle.gc_words.proofs.Public.{field_read, field_written, header_read, written_back}
-use Rattle.gc_along.specs.Tables.{Tables}
-use Rattle.gc_plan.specs.State.{new_end, objects_end}
-use Rattle.gc_plan.proofs.Public.{placed}
+use Rattle.gc_monitor.specs.Tables.{Tables}
+use Rattle.gc_model.specs.State.{new_end, objects_end}
+use Rattle.gc_model.proofs.Public.{placed}
 use Rattle.gc_concurrent.specs.declared.copier.Copier.{Copier}
 use Rattle.gc_concurrent.specs.Ends.{Known, Theirs, its}
 use Rattle.gc_concurrent.specs.Nearing.{ComesNearer}
@@ -23,10 +23,10 @@ use Rattle.gc_concurrent.specs.Internal.Rule.{CatchesUp, Loose, Sat, seeing}
 use Rattle.gc_concurrent.proofs.Told.{put_field}
 use Rattle.gc_concurrent.proofs.Seeing.{some_header, whole_seen}
 use Rattle.gc_concurrent.proofs.Following.{through, catches_up_follows}
-use Rattle.gc_along.specs.Telling.{Tells}
-use Rattle.gc_along.specs.Watch.{IsSeen}
-use Rattle.gc_along.specs.Events.{Freed, flipped_tables, opening_tables}
-use Rattle.gc_along.proofs.Public.{dropped_tells, flipped_tells, opening_tells}
+use Rattle.gc_monitor.specs.Telling.{Tells}
+use Rattle.gc_monitor.specs.Watch.{IsSeen}
+use Rattle.gc_monitor.specs.Events.{Freed, flipped_tables, opening_tables}
+use Rattle.gc_monitor.proofs.Public.{dropped_tells, flipped_tells, opening_tells}
 use Rattle.gc_concurrent.proofs.Memory.{end_is}
 use Rattle.gc_concurrent.proofs.InHand.{mem}
 
@@ -141,7 +141,7 @@ pub roomy_follows : (t : Tables) (room : ℕ) (seen new : List ℕ) → Follows 
 roomy_follows t room seen new follows fine =
     let f = follows fine in (
       record {
-        kept = record { counted = f.0.kept.counted; few = f.0.kept.few; rows = f.0.kept.rows; taken = f.0.kept.taken };
+        agree = record { counted = f.0.agree.counted; few = f.0.agree.few; rows = f.0.agree.rows; taken = f.0.agree.taken };
         watches = f.0.watches;
         old_starts = f.0.old_starts;
         new_starts = f.0.new_starts;

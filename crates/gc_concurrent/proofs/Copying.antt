@@ -1,4 +1,4 @@
--- Each step of the collector keeps the rule: it is a step of gc_plan at the moment of a load.
+-- Each step of the collector keeps the rule: it is a step of gc_model at the moment of a load.
 use Rattle.std.proofs.Common.{◌≡◌, ℕ, suc, ◌≤◌, ◌<◌, ◌==◌, ◌||◌, Bool, true, false, List, [], ◌∷◌, length, get_or, set, map, Some, None, is_some, refl, ap, sym, ◌∙◌, subst, inl, ⊎_elim, arith}
 use Rattle.std.specs.Prelude.{IfSome, drop}
 use Rattle.std.specs.Option.{option_map}
@@ -15,14 +15,14 @@ use Rattle.gc_words.specs.Image.{Block, header_of, block_at, field_at, objects_o
 use Rattle.gc_words.specs.Space.{end_of}
 use Rattle.gc_words.specs.Closed.{IsWordOfField, RefersToStart}
 use Rattle.gc_words.proofs.Public.{object_found, field_found, field_read, fields_counted, field_within, some_of, closed_field_read}
-use Rattle.gc_plan.specs.State.{Replica, Collection, State, replica_of, replica_at, moved, new_end}
-use Rattle.gc_plan.specs.Steps.{with_written, with_replica, write_replica, bring_value, bring_up_to_date, next_field, scan, scan_done, scan_replica, with_collection, if_room, apply_log}
-use Rattle.gc_plan.specs.Members.{In}
-use Rattle.gc_plan.specs.Belonging.{IsOpened, IsDue, Belongs}
-use Rattle.gc_plan.specs.declared.step.Step.TheVariants as steps
-use Rattle.gc_plan.specs.declared.step.StepReply.{StepReply}
-use Rattle.gc_plan.specs.declared.step.StepReply.TheVariants.{Scanned, Applied}
-use Rattle.gc_plan.proofs.Public.{laid_range, in_map, same_place, same_original, placed, replicas_end, found_by_place, found_by_name, open_keeps}
+use Rattle.gc_model.specs.State.{Replica, Collection, State, replica_of, replica_at, moved, new_end}
+use Rattle.gc_model.specs.Steps.{with_written, with_replica, write_replica, bring_value, bring_up_to_date, next_field, scan, scan_done, scan_replica, with_collection, if_room, apply_log}
+use Rattle.gc_model.specs.Members.{In}
+use Rattle.gc_model.specs.Belonging.{IsOpened, IsDue, Belongs}
+use Rattle.gc_model.specs.declared.step.Step.TheVariants as steps
+use Rattle.gc_model.specs.declared.step.StepReply.{StepReply}
+use Rattle.gc_model.specs.declared.step.StepReply.TheVariants.{Scanned, Applied}
+use Rattle.gc_model.proofs.Public.{laid_range, in_map, same_place, same_original, placed, replicas_end, found_by_place, found_by_name, open_keeps}
 use Rattle.gc_concurrent.specs.Ends.{Known, Mine, Theirs}
 use Rattle.gc_concurrent.specs.Unreachable.{MayBeCopied}
 use Rattle.gc_concurrent.specs.Internal.Plans.{collection_of, plan}
@@ -156,10 +156,10 @@ brought_fits size s r name i v = let e = end_brought r.theirs name i v in let f 
 want : (size : ℕ) (s : St) (r : IsConcurrent size s) (k id : ℕ) (me : Sat) (name : ℕ) → get_elem? s.views id ≡ some me.0 → me.0.copies ≡ true
     → is_some (block_at r.mine.space.words name) ≡ true → MayBeCopied r.theirs.base name → (r.mine.logs ≡ false → ⊥)
     → IsConcurrent size (stepped s k (get_or s.words k 0) id me.1 (record me.0 { theirs = wants name r.theirs }) keeps)
-want size s r k id me name seat copies start kept works =
+want size s r k id me name seat copies start allowed works =
     theirs_keep size s r k id me.0 me.1 (wants name r.theirs) seat copies refl
     (λ a h. ⊎_elim (λ (e : name ≡ a). subst (λ x. (o : Object) × (lookup (objects_of r.mine.space.words) x ≡ Some o)) e (target_there r.mine.space.words name start)) (λ (e : ⊥). absurd e) h)
-    r.opened (kept_wants r.mine r.theirs r.carries name kept) r.fits (λ e. absurd (works e))
+    r.opened (kept_wants r.mine r.theirs r.carries name allowed) r.fits (λ e. absurd (works e))
 
 -- a field word of an object that is not raw is a value
 value_of_field : (words : List ℕ) (raw : Bool) (w : ℕ) → raw ≡ false → IsWordOfField raw words w → is_value w ≡ true

@@ -11,12 +11,12 @@ use Rattle.gc_words.specs.Image.{objects_of}
 use Rattle.gc_words.specs.Space.{IsSpace, free_in, end_of}
 use Rattle.gc_words.specs.Closed.{IsClosed, IsRootWord}
 use Rattle.gc_heap.specs.Heap.{IsHeap, graph_in}
-use Rattle.gc_plan.specs.State.{Replica, Collection, State, objects_end, new_end, new_free, replica_of}
-use Rattle.gc_plan.specs.Steps.{with_written, place_replica, if_room, copy_root, root_target}
-use Rattle.gc_plan.specs.Belonging.{IsNamed, RefersTo, IsSpaceGraph, IsOpened, Laid}
-use Rattle.gc_plan.specs.declared.step.Step.TheVariants as steps
-use Rattle.gc_plan.specs.declared.step.StepReply.TheVariants.{Copied}
-use Rattle.gc_plan.proofs.Public.{lookup_in, opened_has_room, placed, with_written_length, end_push}
+use Rattle.gc_model.specs.State.{Replica, Collection, State, objects_end, new_end, new_free, replica_of}
+use Rattle.gc_model.specs.Steps.{with_written, place_replica, if_room, copy_root, root_target}
+use Rattle.gc_model.specs.Belonging.{IsNamed, RefersTo, IsSpaceGraph, IsOpened, Laid}
+use Rattle.gc_model.specs.declared.step.Step.TheVariants as steps
+use Rattle.gc_model.specs.declared.step.StepReply.TheVariants.{Copied}
+use Rattle.gc_model.proofs.Public.{lookup_in, opened_has_room, placed, with_written_length, end_push}
 use Rattle.gc_copy.proofs.Public.{heap_graph}
 use Rattle.gc_concurrent.specs.Ends.{Mine, Theirs, its, one_heap}
 use Rattle.gc_concurrent.specs.Internal.Plans.{collection_of, plan}

@@ -1,4 +1,4 @@
--- With both ends at hand and nothing due, the state is ready in gc_plan's sense, and a space that holds the replicas is a heap.
+-- With both ends at hand and nothing due, the state is ready in gc_model's sense, and a space that holds the replicas is a heap.
 use Rattle.std.proofs.Common.{◌≡◌, ℕ, zero, suc, ◌<◌, ◌&&◌, true, List, [], ◌∷◌, map, Option, Some, None, is_some, refl, ap, sym, ◌∙◌, subst, inl, ⊎_elim, arith}
 use Rattle.std.specs.Prelude.{◌^◌, slice_get}
 use Rattle.std.specs.Option.{unwrap_or, option_map, option_map_or}
@@ -15,13 +15,13 @@ use Rattle.gc_words.specs.Spelling.{link_at, spelled}
 use Rattle.gc_words.specs.Certificate.{Certified}
 use Rattle.gc_words.proofs.Public.{relinked, link_spelled, laid_out_words, closed_objects, some_of}
 use Rattle.gc_heap.specs.Heap.{HeapWords, IsHeap, graph_in}
-use Rattle.gc_plan.specs.State.{Replica, Collection, State, new_graph, pairs_of, new_objects, new_end, moved, replica_of}
-use Rattle.gc_plan.specs.Linked.{linked_image, old_links, new_links}
-use Rattle.gc_plan.specs.Steps.{is_empty, is_ready, scan_done, roots_done}
-use Rattle.gc_plan.specs.Members.{In}
-use Rattle.gc_plan.specs.Belonging.{IsSpaceGraph, IsOpened, IsDue, IsLogged, Belongs}
-use Rattle.gc_plan.specs.declared.step.StepReply.{StepReply}
-use Rattle.gc_plan.proofs.Public.{IsReady, certified, corresponding_graphs, flips, lookup_in, in_map_from, named_address, belongs_from, its_replicas, replicas_due}
+use Rattle.gc_model.specs.State.{Replica, Collection, State, new_graph, pairs_of, new_objects, new_end, moved, replica_of}
+use Rattle.gc_model.specs.Linked.{linked_image, old_links, new_links}
+use Rattle.gc_model.specs.Steps.{is_empty, is_ready, scan_done, roots_done}
+use Rattle.gc_model.specs.Members.{In}
+use Rattle.gc_model.specs.Belonging.{IsSpaceGraph, IsOpened, IsDue, IsLogged, Belongs}
+use Rattle.gc_model.specs.declared.step.StepReply.{StepReply}
+use Rattle.gc_model.proofs.Public.{IsReady, certified, corresponding_graphs, flips, lookup_in, in_map_from, named_address, belongs_from, its_replicas, replicas_due}
 use Rattle.gc_copy.specs.Words.{CollectionWords, IsCollection, BelongsTo, LinksReplicas, Leads, collection_in, open_state, replicas_in}
 use Rattle.gc_copy.proofs.Public.{heap_graph, space_spelled, words_back, block_found_in, HasObjectsOf, flipped_sound, flip_is, new_shown, opened}
 use Rattle.gc_concurrent.specs.Ends.{Mine, Theirs}
@@ -73,7 +73,7 @@ still_belongs objects m t x y k =
     k.scan (λ a i e. absurd (never_logged t.size t.replicas t a i e)) k.numbers
 
 module _ (m : Mine) (t : Theirs) (roots : List ℕ) (heap_is : IsHeap (heap_of m roots)) (h : IsOpened (plan m t) (collection_of m t)) (logged : m.log ≡ []) (applied : t.due ≡ [])
-    (scanned : scan_done (its t) ≡ true) (rooted : roots_done (its t) (roots_alone roots) ≡ true) (kept : CopiesNothingUnreachable t) where
+    (scanned : scan_done (its t) ≡ true) (rooted : roots_done (its t) (roots_alone roots) ≡ true) (carried : CopiesNothingUnreachable t) where
   old : IsSpaceGraph m.space.size (free_in m.space) (graph_in (heap_of m roots))
   old = heap_graph (heap_of m roots) heap_is
 
@@ -184,7 +184,7 @@ module _ (m : Mine) (t : Theirs) (roots : List ℕ) (heap_is : IsHeap (heap_of m
     graph = graph_there;
     image = image_there;
     low = pair_low;
-    kept = kept;
+    carried = carried;
   }
 
 -- any load with both ends at hand

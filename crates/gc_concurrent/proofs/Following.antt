@@ -12,13 +12,13 @@ use Rattle.gc_words.specs.Space.{SpaceWords, IsSpace}
 use Rattle.gc_words.specs.Spelling.{block_words}
 use Rattle.gc_words.specs.declared.header.Header.{Header}
 use Rattle.gc_words.proofs.Public.{field_read, field_written, stands_in, written_back, some_of}
-use Rattle.gc_along.specs.Tables.{Tables}
-use Rattle.gc_along.specs.Telling.{Tells}
-use Rattle.gc_along.specs.Watch.{IsSeen, front}
-use Rattle.gc_along.specs.Events.{Saw, PlacedBy, Looked, Wrote, HasNoReplica, code_of, object_codes}
-use Rattle.gc_along.specs.Origins.{pairs_in}
-use Rattle.gc_along.specs.Claims.{IsPassedField, ShowsField}
-use Rattle.gc_along.proofs.Public.{all_of, codes_length, found_in_all, anywhere_tells, link_anywhere_tells, both_tells, none_replicated, old_more_tells, original_field, placed_by_tells, saw_tells, new_more_tells}
+use Rattle.gc_monitor.specs.Tables.{Tables}
+use Rattle.gc_monitor.specs.Telling.{Tells}
+use Rattle.gc_monitor.specs.Watch.{IsSeen, front}
+use Rattle.gc_monitor.specs.Events.{Saw, PlacedBy, Looked, Wrote, HasNoReplica, code_of, object_codes}
+use Rattle.gc_monitor.specs.Origins.{pairs_in}
+use Rattle.gc_monitor.specs.Claims.{IsPassedField, ShowsField}
+use Rattle.gc_monitor.proofs.Public.{all_of, codes_length, found_in_all, anywhere_tells, link_anywhere_tells, both_tells, none_replicated, old_more_tells, original_field, placed_by_tells, saw_tells, new_more_tells}
 use Rattle.gc_concurrent.specs.Ends.{Known}
 use Rattle.gc_concurrent.specs.Internal.Told.{Event, Put, Link, Make, after_all, CouldHappen, written_by, seen_space}
 use Rattle.gc_concurrent.specs.Internal.Rule.{CatchesUp, Sat, SeesNext, seeing}

@@ -46,9 +46,9 @@ keeps_set goes_at keeps_at id g k k' views v here mine h = let own = (h id v her
 same : (s : GSt) (id : ℕ) (c : List (ℕ × Option Commander)) (v : HandshakeKnown) → get_elem? s.views id ≡ some v → IsHandshake s → IsHandshake (stepped s 0 (get_or s.words 0 0) id c v keeps)
 same s id c v here r = subst (λ (x : List ℕ × Views). IsHandshake (record { words = x.0; homes = s.homes; views = x.1 })) (λ i. (sym (set-get_or s.words 0 0) i, sym (set_again s.views id v here) i)) r
 
-kept : (s : GSt) (r : IsHandshake s) (n : ℕ) (homes' : Slots) (views' : Views) (g' : Goer) (k' : Keeper) (stage' : Stage) → length homes' ≡ 1 → HandshakeStands stage' n g' k' homes' → AreGated r.goes_at r.keeps_at g' k' views'
+rule_stays : (s : GSt) (r : IsHandshake s) (n : ℕ) (homes' : Slots) (views' : Views) (g' : Goer) (k' : Keeper) (stage' : Stage) → length homes' ≡ 1 → HandshakeStands stage' n g' k' homes' → AreGated r.goes_at r.keeps_at g' k' views'
     → IsHandshake (record { words = set s.words 0 n; homes = homes'; views = views' })
-kept s r n homes' views' g' k' stage' one fits seats =
+rule_stays s r n homes' views' g' k' stage' one fits seats =
     let wide = r.wide in record {
       goer = g';
       keeper = k';
@@ -86,7 +86,7 @@ starts_rule slots id v goes mine phase s r _ here _ =
       in_phase 0 v,
       takes 0 None,
       home,
-      kept s r 0 (set s.homes 0 none) (set s.views id (in_phase 0 v)) r.goer (in_phase 0 v).keeper running (length-set s.homes 0 none ∙ room) (refl, waits, refl, ap (λ (k : Keeper). k.row) to ∙ rows)
+      rule_stays s r 0 (set s.homes 0 none) (set s.views id (in_phase 0 v)) r.goer (in_phase 0 v).keeper running (length-set s.homes 0 none ∙ room) (refl, waits, refl, ap (λ (k : Keeper). k.row) to ∙ rows)
           (keeps_set r.goes_at r.keeps_at id r.goer r.keeper (in_phase 0 v).keeper s.views v here mine r.seats),
       (e, refl),
     )))
@@ -115,7 +115,7 @@ parks_rule slots id v c goes row s r _ here _ =
       parked c v,
       gives,
       tt,
-      kept s r 2 (set s.homes 0 (some (Some c))) (set s.views id (parked c v)) (parked c v).goer r.keeper handed (length-set s.homes 0 (some (Some c)) ∙ room)
+      rule_stays s r 2 (set s.homes 0 (some (Some c))) (set s.views id (parked c v)) (parked c v).goer r.keeper handed (length-set s.homes 0 (some (Some c)) ∙ room)
           (refl, refl, phase, (c, set_here s.homes 0 (some (Some c)) (omega arith), (refl, sym row ∙ (ap (λ (g : Goer). g.row) to ∙ sym rows))))
           (goes_set r.goes_at r.keeps_at id r.goer (parked c v).goer r.keeper s.views v here goes r.seats),
       ((λ _ d more is. λ i. (parked (first d more is i) v, [])), λ ne. absurd (ne e)),
@@ -148,7 +148,7 @@ resumes_rule slots id v goes s r _ here _ =
       resumed c v,
       takes 0 (Some c),
       home,
-      kept s r 0 (set s.homes 0 none) (set s.views id (resumed c v)) (resumed c v).goer r.keeper running (length-set s.homes 0 none ∙ room) (refl, refl, phase, sym row)
+      rule_stays s r 0 (set s.homes 0 none) (set s.views id (resumed c v)) (resumed c v).goer r.keeper running (length-set s.homes 0 none ∙ room) (refl, refl, phase, sym row)
           (goes_set r.goes_at r.keeps_at id r.goer (resumed c v).goer r.keeper s.views v here goes r.seats),
       ((λ _. (c, subst (λ (g : Goer). GoesOnIn g.left (heap_in c)) (sym to) follows, refl)), λ ne. absurd (ne e)),
     )))
@@ -176,7 +176,7 @@ asks_rule slots id me keeps' s r _ here _ =
       in_phase 1 me.0,
       keeps,
       tt,
-      kept s r 1 s.homes (set s.views id (in_phase 1 me.0)) r.goer (in_phase 1 me.0).keeper asked r.room (refl, waits, refl, ap (λ (k : Keeper). k.row) to ∙ rows)
+      rule_stays s r 1 s.homes (set s.views id (in_phase 1 me.0)) r.goer (in_phase 1 me.0).keeper asked r.room (refl, waits, refl, ap (λ (k : Keeper). k.row) to ∙ rows)
           (keeps_set r.goes_at r.keeps_at id r.goer r.keeper (in_phase 1 me.0).keeper s.views me.0 here keeps' r.seats),
       ((λ _. refl), λ ne. absurd (ne e)),
     )))
@@ -206,7 +206,7 @@ takes_over_rule slots id v keeps' phase s r _ here _ =
       took_it c v,
       takes 0 (Some c),
       home,
-      kept s r handshake (set s.homes 0 none) (set s.views id (took_it c v)) r.goer (took_it c v).keeper taken (length-set s.homes 0 none ∙ room) (e, waits, refl, left)
+      rule_stays s r handshake (set s.homes 0 none) (set s.views id (took_it c v)) r.goer (took_it c v).keeper taken (length-set s.homes 0 none ∙ room) (e, waits, refl, left)
           (keeps_set r.goes_at r.keeps_at id r.goer r.keeper (took_it c v).keeper s.views v here keeps' r.seats),
       ((λ _. (c, row ∙ ap (λ (k : Keeper). k.row) (sym to), refl)), λ ne. absurd (ne e)),
     )))
@@ -238,7 +238,7 @@ withdraws_rule slots id v keeps' phase s r _ here _ =
       in_phase 0 v,
       keeps,
       tt,
-      kept s r 0 s.homes (set s.views id (in_phase 0 v)) r.goer (in_phase 0 v).keeper running r.room (refl, waits, refl, ap (λ (k : Keeper). k.row) to ∙ rows)
+      rule_stays s r 0 s.homes (set s.views id (in_phase 0 v)) r.goer (in_phase 0 v).keeper running r.room (refl, waits, refl, ap (λ (k : Keeper). k.row) to ∙ rows)
           (keeps_set r.goes_at r.keeps_at id r.goer r.keeper (in_phase 0 v).keeper s.views v here keeps' r.seats),
       ((λ _. refl), λ ne. absurd (ne e)),
     )))
@@ -247,7 +247,7 @@ withdraws_rule slots id v keeps' phase s r _ here _ =
       took_it c v,
       takes 0 (Some c),
       home,
-      kept s r handshake (set s.homes 0 none) (set s.views id (took_it c v)) r.goer (took_it c v).keeper taken (length-set s.homes 0 none ∙ r.room) (two, waits, refl, left)
+      rule_stays s r handshake (set s.homes 0 none) (set s.views id (took_it c v)) r.goer (took_it c v).keeper taken (length-set s.homes 0 none ∙ r.room) (two, waits, refl, left)
           (keeps_set r.goes_at r.keeps_at id r.goer r.keeper (took_it c v).keeper s.views v here keeps' r.seats),
       ((λ e. absurd (ne e)), λ _. (c, row ∙ ap (λ (k : Keeper). k.row) (sym to), refl)),
     )))
@@ -273,7 +273,7 @@ goes_rule slots id v c keeps' phase follows s r _ here _ =
       let_go c v,
       gives,
       tt,
-      kept s r 3 (set s.homes 0 (some (Some c))) (set s.views id (let_go c v)) r.goer (let_go c v).keeper finished (length-set s.homes 0 (some (Some c)) ∙ room)
+      rule_stays s r 3 (set s.homes 0 (some (Some c))) (set s.views id (let_go c v)) r.goer (let_go c v).keeper finished (length-set s.homes 0 (some (Some c)) ∙ room)
           (refl, waits, refl, (c, set_here s.homes 0 (some (Some c)) (omega arith), (subst (λ h. GoesOnIn h (heap_in c)) (ap (λ (k : Keeper). k.took) to ∙ took) follows, refl)))
           (keeps_set r.goes_at r.keeps_at id r.goer r.keeper (let_go c v).keeper s.views v here keeps' r.seats),
       λ d more is. λ i. (let_go (first d more is i) v, []),

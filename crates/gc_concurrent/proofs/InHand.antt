@@ -5,8 +5,8 @@ use Rattle.gc_words.specs.Space.{SpaceWords, IsSpace, end_of}
 use Rattle.gc_words.specs.Closed.{IsWordOfField, IsFieldWord}
 use Rattle.gc_copy.specs.Words.{replicas_in}
 use Rattle.gc_words.specs.declared.header.Header.{Header}
-use Rattle.gc_plan.specs.State.{Replica}
-use Rattle.gc_plan.specs.Steps.{is_empty}
+use Rattle.gc_model.specs.State.{Replica}
+use Rattle.gc_model.specs.Steps.{is_empty}
 use Rattle.gc_concurrent.specs.declared.copier.Copier.{Copier}
 use Rattle.gc_concurrent.specs.Internal.Spares.{claims_spared}
 use Rattle.gc_concurrent.specs.Ends.{Theirs}

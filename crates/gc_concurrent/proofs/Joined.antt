@@ -9,9 +9,9 @@ use Rattle.gc_graph.specs.Graph.{Object, Ref, lookup}
 use Rattle.gc_words.specs.Word.{value_of}
 use Rattle.gc_words.specs.Image.{block_at, objects_of}
 use Rattle.gc_words.specs.Closed.{IsRootWord, RefersToStart}
-use Rattle.gc_plan.specs.State.{Collection}
-use Rattle.gc_plan.specs.Belonging.{IsOpened, IsDue, IsLogged}
-use Rattle.gc_plan.proofs.Public.{its_replicas, belongs_from, replicas_due, in_left, in_right}
+use Rattle.gc_model.specs.State.{Collection}
+use Rattle.gc_model.specs.Belonging.{IsOpened, IsDue, IsLogged}
+use Rattle.gc_model.proofs.Public.{its_replicas, belongs_from, replicas_due, in_left, in_right}
 use Rattle.gc_concurrent.specs.Ends.{Known, Mine, Theirs}
 use Rattle.gc_concurrent.specs.Unreachable.{MayBeCopied}
 use Rattle.gc_concurrent.specs.Internal.Plans.{collection_of, plan}
@@ -112,7 +112,7 @@ takes_rule slots size k id me writes copies s r _ seat _ = loosely size s k id m
 
 pub roots_rule : (slots size id : ℕ) (me : Sat) (w name : ℕ) → me.0.writes ≡ true → me.0.copies ≡ true → me.0.mine.log ≡ [] → IsRootWord me.0.mine.space.words w → value_of w ≡ Ref name → MayBeCopied me.0.theirs.base name
     → Allows (IsConcurrent size) slots id me name (λ x. x) (tells_root (step slots name 0 0 none) me)
-roots_rule slots size id me w name writes copies empty fine is kept s r _ seat _ =
+roots_rule slots size id me w name writes copies empty fine is allowed s r _ seat _ =
     let mine : me.0.mine ≡ r.mine = ((r.seats id me.0 seat).0 writes).1 in
     let theirs : me.0.theirs ≡ r.theirs = ((r.seats id me.0 seat).1 copies).1 in
     let fine' : IsRootWord r.mine.space.words w = subst (λ (m : Mine). IsRootWord m.space.words w) mine fine in
@@ -140,7 +140,7 @@ roots_rule slots size id me w name writes copies empty fine is kept s r _ seat _
         closed = r.closed;
         wanted = λ a h. ⊎_elim (λ (e : name ≡ a). subst (λ x. (o : Object) × (lookup (objects_of r.mine.space.words) x ≡ Some o)) e (target_there r.mine.space.words name start)) (λ (e : ⊥). absurd e) h;
         opened = record { belongs = r.opened.belongs; size = r.opened.size; logs = r.opened.logs };
-        carries = kept_mine r.mine t' (kept_wants r.mine r.theirs r.carries name (subst (λ (t : Theirs). MayBeCopied t.base name) theirs kept)) m' refl (omega arith) r.carries.fields;
+        carries = kept_mine r.mine t' (kept_wants r.mine r.theirs r.carries name (subst (λ (t : Theirs). MayBeCopied t.base name) theirs allowed)) m' refl (omega arith) r.carries.fields;
         fits = r.fits;
         rests = λ e. absurd (true≢false e);
         seats = both_seats r.writer r.copier id r.mine m' r.theirs t' s.views me.0 w seat writes copies refl refl r.seats;

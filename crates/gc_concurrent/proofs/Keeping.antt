@@ -13,12 +13,12 @@ use Rattle.gc_words.proofs.Public.{field_found, graph_field, graph_placed}
 use Rattle.gc_heap.proofs.Public.{Points}
 use Rattle.gc_heap.specs.Heap.{HeapWords, IsHeap, graph_in}
 use Rattle.gc_words.specs.Image.{objects_of}
-use Rattle.gc_plan.specs.State.{Replica, new_end}
-use Rattle.gc_plan.specs.Steps.{with_written}
-use Rattle.gc_plan.specs.Members.{In}
-use Rattle.gc_plan.specs.Belonging.{RefersTo, IsSpaceGraph}
-use Rattle.gc_plan.specs.Carried.{LeadsOnlyTo}
-use Rattle.gc_plan.proofs.Public.{get_in, in_get, in_map_from, in_push, in_replicate, laid_range, lookup_in, lookup_laid, set_from, with_written_pair, written_entry}
+use Rattle.gc_model.specs.State.{Replica, new_end}
+use Rattle.gc_model.specs.Steps.{with_written}
+use Rattle.gc_model.specs.Members.{In}
+use Rattle.gc_model.specs.Belonging.{RefersTo, IsSpaceGraph}
+use Rattle.gc_model.specs.Carried.{LeadsOnlyTo}
+use Rattle.gc_model.proofs.Public.{get_in, in_get, in_map_from, in_push, in_replicate, laid_range, lookup_in, lookup_laid, set_from, with_written_pair, written_entry}
 use Rattle.gc_copy.proofs.Public.{heap_graph}
 use Rattle.gc_concurrent.specs.Unreachable.{MayBeCopied}
 use Rattle.gc_concurrent.specs.Internal.Carrying.{FieldsLeadTo, KeepsUnreachableOut}
@@ -48,15 +48,15 @@ begins_kept base h = record { roots = λ v k. let i = in_get v g.roots k in root
     root_kept i (Ref a) e = λ lost. lost.1 (i, [], ap (λ o. follow (graph_in base).objects o []) e)
 
     field_kept : (a : ℕ) (o : Object) → In (a, o) (graph_in base).objects → MayBeCopied base a → (i : ℕ) (v : Value) → slice_get o.fields i ≡ Some v → RefersTo (MayBeCopied base) v
-    field_kept a o k kept i Nil e = tt
-    field_kept a o k kept i (Num n) e = tt
-    field_kept a o k kept i (Ref b) e = λ lost.
+    field_kept a o k allowed i Nil e = tt
+    field_kept a o k allowed i (Num n) e = tt
+    field_kept a o k allowed i (Ref b) e = λ lost.
         let end = base.space.size - free_in base.space in
         let range = laid_range 1 (graph_in base).objects end (a, o) laid.laid k in
         let found = lookup_laid 1 (graph_in base).objects end a o laid.laid k in
         let high = (h.space).end_high in
         let low = range.1 in
-        kept (
+        allowed (
           (let x = low in omega arith),
           λ r. lost.1 (
             r.0,
@@ -190,7 +190,7 @@ module _ (m : Mine) (t : Theirs) (k : KeepsUnreachableOut m t) where
 
   -- an object that may be copied is wanted
   pub kept_wants : (name : ℕ) → MayBeCopied t.base name → KeepsUnreachableOut m (wants name t)
-  kept_wants name kept = record { begun = k.begun; behind = k.behind; fields = k.fields; copied = k.copied; wanted = λ a l. ⊎_elim (λ (e : name ≡ a). subst (MayBeCopied t.base) e kept) (λ (e : ⊥). absurd e) l }
+  kept_wants name allowed = record { begun = k.begun; behind = k.behind; fields = k.fields; copied = k.copied; wanted = λ a l. ⊎_elim (λ (e : name ≡ a). subst (MayBeCopied t.base) e allowed) (λ (e : ⊥). absurd e) l }
 
   -- an object that is wanted is copied
   pub kept_placed : (name : ℕ) (o : Object) → In name t.wanted → KeepsUnreachableOut m (placed_one name o t)

@@ -2,7 +2,7 @@
 use Rattle.std.proofs.Common.{◌≡◌, ◌⊎◌, ℕ, zero, suc, ◌+◌, ◌<◌, ◌≤◌, List, [], ◌∷◌, ◌++◌, refl, ap, sym, inl, inr, ⊎_elim, arith}
 use Rattle.std.specs.Prelude.{slice_get}
 use Rattle.std.specs.Option.{unwrap_or}
-use Rattle.gc_plan.specs.Members.{In}
+use Rattle.gc_model.specs.Members.{In}
 use Rattle.gc_concurrent.specs.Internal.Rule.{entries_of_fields}
 
 -- ---- two logs

@@ -8,7 +8,7 @@ use Rattle.atomic_table.specs.Table.{Act, Valid, carried_after, stepped}
 use Rattle.gc_graph.specs.Graph.{Object}
 use Rattle.gc_words.specs.Image.{Block, block_at, objects_of, object_of_block}
 use Rattle.gc_words.proofs.Public.{object_found, fields_counted, stands_in}
-use Rattle.gc_plan.specs.Belonging.{IsLogged}
+use Rattle.gc_model.specs.Belonging.{IsLogged}
 use Rattle.gc_concurrent.specs.Ends.{Known, Mine, Theirs}
 use Rattle.gc_concurrent.specs.Internal.Plans.{collection_of}
 use Rattle.gc_concurrent.specs.Internal.Rule.{RootWords, IsConcurrent, Loose, KnowsBelonging, Sat}

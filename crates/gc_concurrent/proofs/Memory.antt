@@ -23,11 +23,11 @@ use Rattle.gc_words.specs.Closed.{IsWordOfField, RefersToStart}
 use Rattle.gc_words.specs.Space.{SpaceWords, CanPlace, end_of, free_in, with_field_at, with_object, with_link}
 use Rattle.gc_words.specs.declared.header.Header.{Header}
 use Rattle.gc_words.proofs.Public.{fields_counted, some_of, fresh_object, can_place_fresh}
-use Rattle.gc_plan.specs.State.{Replica, new_end, new_free, replica_of, moved, objects_end}
-use Rattle.gc_plan.specs.Linked.{old_links}
-use Rattle.gc_plan.specs.Steps.{with_written, scan_done}
-use Rattle.gc_plan.specs.Members.{In}
-use Rattle.gc_plan.proofs.Public.{laid_range, in_map, same_place, placed, replicas_end, replica_in, place_written}
+use Rattle.gc_model.specs.State.{Replica, new_end, new_free, replica_of, moved, objects_end}
+use Rattle.gc_model.specs.Linked.{old_links}
+use Rattle.gc_model.specs.Steps.{with_written, scan_done}
+use Rattle.gc_model.specs.Members.{In}
+use Rattle.gc_model.proofs.Public.{laid_range, in_map, same_place, placed, replicas_end, replica_in, place_written}
 use Rattle.gc_copy.specs.Words.{replica_entry, replicas_in}
 use Rattle.gc_copy.proofs.Public.{new_end_is, in_start, replica_start, space_placed}
 use Rattle.gc_concurrent.specs.Ends.{Theirs}

@@ -6,10 +6,10 @@ use Rattle.std.proofs.Props.{props}
 use Rattle.gc_graph.specs.Graph.{Value, Object}
 use Rattle.gc_graph.specs.Machine.{object_words}
 use Rattle.gc_words.specs.Space.{end_of}
-use Rattle.gc_plan.specs.State.{Replica, new_end}
-use Rattle.gc_plan.specs.Steps.{is_empty}
-use Rattle.gc_plan.specs.Members.{In}
-use Rattle.gc_plan.proofs.Public.{laid_range, in_map, placed, replicas_end}
+use Rattle.gc_model.specs.State.{Replica, new_end}
+use Rattle.gc_model.specs.Steps.{is_empty}
+use Rattle.gc_model.specs.Members.{In}
+use Rattle.gc_model.proofs.Public.{laid_range, in_map, placed, replicas_end}
 use Rattle.gc_concurrent.specs.Ends.{Theirs, its}
 use Rattle.gc_concurrent.specs.Nearing.{work_ahead, ComesNearer}
 use Rattle.gc_concurrent.specs.Internal.Copiers.{Nears}

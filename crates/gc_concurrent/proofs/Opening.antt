@@ -11,8 +11,8 @@ use Rattle.atomic_table.proofs.Lists.{at_set, set_else}
 use Rattle.gc_words.specs.Space.{IsSpace, empty_space}
 use Rattle.gc_words.proofs.Public.{closed_empty, space_of}
 use Rattle.gc_words.specs.Image.{objects_of}
-use Rattle.gc_plan.specs.Belonging.{IsPassedField, IsLogged, IsOpened}
-use Rattle.gc_plan.proofs.Public.{begun_belongs}
+use Rattle.gc_model.specs.Belonging.{IsPassedField, IsLogged, IsOpened}
+use Rattle.gc_model.proofs.Public.{begun_belongs}
 use Rattle.gc_copy.proofs.Public.{words_numbers}
 use Rattle.gc_heap.specs.Heap.{HeapWords, IsHeap}
 use Rattle.gc_concurrent.proofs.Keeping.{begins_kept}

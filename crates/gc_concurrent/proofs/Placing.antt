@@ -12,14 +12,14 @@ use Rattle.gc_words.specs.Space.{end_of}
 use Rattle.gc_words.specs.Image.{block_at, object_of_block, objects_of}
 use Rattle.gc_words.specs.declared.header.Header.{Header}
 use Rattle.gc_words.proofs.Public.{object_found, fields_counted, stands_in}
-use Rattle.gc_plan.specs.State.{Replica, Collection, State, replica_of, replica_at, new_end, new_free}
-use Rattle.gc_plan.specs.Steps.{next_object, scan, scan_done, scan_replica, with_collection, if_room, apply_log}
-use Rattle.gc_plan.specs.Members.{In}
-use Rattle.gc_plan.specs.Belonging.{IsOpened, IsDue, IsLogged, Belongs}
-use Rattle.gc_plan.specs.declared.step.Step.TheVariants as steps
-use Rattle.gc_plan.specs.declared.step.StepReply.{StepReply}
-use Rattle.gc_plan.specs.declared.step.StepReply.TheVariants.{Passed, Applied}
-use Rattle.gc_plan.proofs.Public.{laid_push, laid_range, in_map, same_place, placed, replicas_end, found_by_place, open_keeps, AreReplicas, belongs_from, replicas_due, its_replicas, due_at_end, in_left, in_right, in_push, get_past, end_push, in_paired, paired_in, distinct_push, unnamed}
+use Rattle.gc_model.specs.State.{Replica, Collection, State, replica_of, replica_at, new_end, new_free}
+use Rattle.gc_model.specs.Steps.{next_object, scan, scan_done, scan_replica, with_collection, if_room, apply_log}
+use Rattle.gc_model.specs.Members.{In}
+use Rattle.gc_model.specs.Belonging.{IsOpened, IsDue, IsLogged, Belongs}
+use Rattle.gc_model.specs.declared.step.Step.TheVariants as steps
+use Rattle.gc_model.specs.declared.step.StepReply.{StepReply}
+use Rattle.gc_model.specs.declared.step.StepReply.TheVariants.{Passed, Applied}
+use Rattle.gc_model.proofs.Public.{laid_push, laid_range, in_map, same_place, placed, replicas_end, found_by_place, open_keeps, AreReplicas, belongs_from, replicas_due, its_replicas, due_at_end, in_left, in_right, in_push, get_past, end_push, in_paired, paired_in, distinct_push, unnamed}
 use Rattle.std.proofs.lemmas.List.{length-replicate, map-append}
 use Rattle.std.proofs.lemmas.Grind.{common_steps}
 use Rattle.std.proofs.lemmas.Bool.{ltb-false, le-ltb}

@@ -5,7 +5,7 @@ use Rattle.gc_graph.specs.Graph.{Ref}
 use Rattle.gc_words.specs.Space.{end_of}
 use Rattle.gc_words.specs.Word.{value_of}
 use Rattle.gc_heap.specs.Heap.{HeapWords}
-use Rattle.gc_plan.specs.Steps.{roots_done}
+use Rattle.gc_model.specs.Steps.{roots_done}
 use Rattle.gc_concurrent.specs.Nearing.{ComesNearer}
 use Rattle.gc_concurrent.specs.Unreachable.{MayBeCopied}
 use Rattle.gc_concurrent.specs.Ends.{Theirs, its}
@@ -25,7 +25,7 @@ near h k a l is = let n = root_near h.copier.seat.me.0.mine h.roots.items h.soun
 pub target_kept : (h : Held) (k a : ℕ) → k < length h.roots.items → value_of (slice_index h.roots.items k) ≡ Ref a → MayBeCopied h.copier.seat.me.0.theirs.base a
 target_kept h k a l is =
     subst (λ (b : HeapWords). MayBeCopied b a) (sym h.begun)
-    (target_leads (MayBeCopied h.copier.seat.me.0.mine.base) (Ref a) a (h.kept.roots (Ref a) (value_in h.roots.items k (Ref a) l is)) refl)
+    (target_leads (MayBeCopied h.copier.seat.me.0.mine.base) (Ref a) a (h.leads.roots (Ref a) (value_in h.roots.items k (Ref a) l is)) refl)
 
 -- each target has a replica where it has a claim, also of a collector that has worked on
 pub rooted_by : (h : Held) (b : Copier) → b.seat.me.0.theirs.old ≡ h.copier.seat.me.0.theirs.old → AreClaimed b.claims.items h.roots.items → roots_done (its b.seat.me.0.theirs) (roots_alone h.roots.items) ≡ true

@@ -18,9 +18,9 @@ use Rattle.gc_graph.specs.declared.reply.Reply.{Reply}
 use Rattle.gc_graph.specs.declared.reply.Reply.TheVariants.{Full, NoNumber, Done, Yes, No}
 use Rattle.gc_words.specs.Space.{end_of, free_in}
 use Rattle.gc_heap.specs.Heap.{HeapWords, IsHeap, graph_in, roomy_in}
-use Rattle.gc_plan.proofs.Public.{end_unused, lookup_in, lookup_laid}
-use Rattle.gc_plan.specs.Members.{In}
-use Rattle.gc_plan.specs.Belonging.{IsNamed, RefersTo, IsSpaceGraph}
+use Rattle.gc_model.proofs.Public.{end_unused, lookup_in, lookup_laid}
+use Rattle.gc_model.specs.Members.{In}
+use Rattle.gc_model.specs.Belonging.{IsNamed, RefersTo, IsSpaceGraph}
 use Rattle.gc_copy.proofs.Public.{heap_graph}
 use Rattle.gc_concurrent.specs.Machines.{Does}
 use Rattle.gc_concurrent.specs.Heaps.{GoesOnIn}

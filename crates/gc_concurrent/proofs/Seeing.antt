@@ -14,8 +14,8 @@ use Rattle.gc_words.specs.Space.{SpaceWords, IsSpace}
 use Rattle.gc_words.specs.Spelling.{block_words}
 use Rattle.gc_words.specs.declared.header.Header.{Header}
 use Rattle.gc_words.proofs.Public.{field_read, some_of, stands_in}
-use Rattle.gc_along.specs.Watch.{IsSeen, IsNext}
-use Rattle.gc_along.proofs.Public.{all_of, start_there}
+use Rattle.gc_monitor.specs.Watch.{IsSeen, IsNext}
+use Rattle.gc_monitor.proofs.Public.{all_of, start_there}
 use Rattle.gc_concurrent.specs.Ends.{Known}
 use Rattle.gc_concurrent.specs.Internal.Rule.{RootWords, IsConcurrent, Sat, Seated, SeesNext, seeing, tells_look, tells_header, tells_see}
 use Rattle.gc_concurrent.specs.Internal.Told.{ComesFromSeen, seen_space}

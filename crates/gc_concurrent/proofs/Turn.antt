@@ -11,11 +11,11 @@ use Rattle.gc_words.specs.Image.{is_start}
 use Rattle.gc_words.specs.Closed.{IsRootWord, RefersToStart}
 use Rattle.gc_words.proofs.Public.{header_read}
 use Rattle.gc_heap.specs.Heap.{IsHeap, graph_in}
-use Rattle.gc_plan.specs.State.{Replica, Collection, replica_of, moved}
-use Rattle.gc_plan.specs.Linked.{old_links}
-use Rattle.gc_plan.specs.Members.{In}
-use Rattle.gc_plan.specs.Steps.{is_empty, is_ready, roots_done, scan_done}
-use Rattle.gc_plan.proofs.Public.{replica_in, roots_replicated}
+use Rattle.gc_model.specs.State.{Replica, Collection, replica_of, moved}
+use Rattle.gc_model.specs.Linked.{old_links}
+use Rattle.gc_model.specs.Members.{In}
+use Rattle.gc_model.specs.Steps.{is_empty, is_ready, roots_done, scan_done}
+use Rattle.gc_model.proofs.Public.{replica_in, roots_replicated}
 use Rattle.gc_concurrent.specs.Ends.{Mine, Theirs}
 use Rattle.gc_concurrent.specs.Heaps.{heap_of}
 use Rattle.gc_concurrent.specs.Ends.{its}

@@ -17,10 +17,10 @@ use Rattle.gc_words.specs.Closed.{IsFieldWord}
 use Rattle.gc_words.specs.declared.header.Header.{Header}
 use Rattle.std.proofs.lemmas.List.{length-replicate}
 use Rattle.std.specs.Option.{option_map}
-use Rattle.gc_plan.specs.State.{Collection}
-use Rattle.gc_plan.specs.Members.{In}
-use Rattle.gc_plan.specs.Belonging.{IsPassedField, IsOpened, IsDue, BelongsBy, RefersTo}
-use Rattle.gc_plan.proofs.Public.{Evolves, field_stays, lookup_left, lookup_written, written_entry, written_raw, written_kind, written_length, written_get, belongs_but, belongs_noted, belongs_from, its_replicas, replicas_evolve}
+use Rattle.gc_model.specs.State.{Collection}
+use Rattle.gc_model.specs.Members.{In}
+use Rattle.gc_model.specs.Belonging.{IsPassedField, IsOpened, IsDue, BelongsBy, RefersTo}
+use Rattle.gc_model.proofs.Public.{Evolves, field_stays, lookup_left, lookup_written, written_entry, written_raw, written_kind, written_length, written_get, belongs_but, belongs_noted, belongs_from, its_replicas, replicas_evolve}
 use Rattle.gc_copy.proofs.Public.{words_numbers}
 use Rattle.gc_concurrent.specs.Ends.{Known, Mine, Theirs}
 use Rattle.gc_concurrent.specs.Internal.Plans.{collection_of, plan}
@@ -151,7 +151,7 @@ rests_wrote mine t a i w rests e =
 put_keeps : (size : ℕ) (s : St) (r : IsConcurrent size s) (id : ℕ) (v : Known) (c : List (ℕ × RootWords)) (a i w : ℕ) (b : Block) → get_elem? s.views id ≡ some v → v.writes ≡ true
     → block_at r.mine.space.words a ≡ Some b → IsSome (field_at r.mine.space.words a i) → IsFieldWord r.mine.space.words b.header w → RefersTo (MayBeCopied r.mine.base) (field_value b.header w)
     → IsConcurrent size (stepped s (field_place a i) w id c (record v { mine = wrote a i w r.mine }) keeps)
-put_keeps size s r id v c a i w b here writes found has is kept =
+put_keeps size s r id v c a i w b here writes found has is allowed =
     let wide = r.wide in let sized = r.sized in
     let sp : SpaceWords = r.mine.space in
     let k : ℕ = field_place a i in
@@ -181,7 +181,7 @@ put_keeps size s r id v c a i w b here writes found has is kept =
       opened = opened_wrote r.mine r.theirs a i w evolves
           (λ x j h. ⊎_elim (λ (e : (a, i) ≡ (x, j)). subst (λ (p : ℕ × ℕ). IsPassedField (objs m') p.0 p.1) e (field_stays (objs r.mine) (objs m') (λ x j. In {X = ℕ × ℕ} (x, j) ((a, i) ∷ [])) a i evolves was)) (λ (e : ⊥). absurd e) h) r.rests r.opened;
       carries = kept_mine r.mine r.theirs r.carries m' refl (let l = length-set sp.words k w in omega arith)
-          (subst (FieldsLeadTo (MayBeCopied r.mine.base)) (sym objects) (set_leads (MayBeCopied r.mine.base) (objs r.mine) a i (field_value b.header w) r.carries.fields kept));
+          (subst (FieldsLeadTo (MayBeCopied r.mine.base)) (sym objects) (set_leads (MayBeCopied r.mine.base) (objs r.mine) a i (field_value b.header w) r.carries.fields allowed));
       fits = (let l = length-set sp.words k w in let f = r.fits in omega arith);
       rests = rests_wrote r.mine r.theirs a i w r.rests;
       seats = seats_mine r.writer r.copier id r.mine m' r.theirs s.views v here writes r.seats;
@@ -212,16 +212,16 @@ one_field sp a i x j space has has' e =
 puts : (slots size id : ℕ) (me : Sat) (a i w : ℕ) (b : Block) → me.0.writes ≡ true
     → block_at me.0.mine.space.words a ≡ Some b → IsSome (field_at me.0.mine.space.words a i) → IsFieldWord me.0.mine.space.words b.header w → RefersTo (MayBeCopied me.0.mine.base) (field_value b.header w)
     → Allows (IsConcurrent size) slots id me (field_place a i) (λ _. w) (λ _. tells_put (step slots (field_place a i) w 0 none) me w)
-puts slots size id me a i w b writes found has is kept s r _ here _ =
+puts slots size id me a i w b writes found has is allowed s r _ here _ =
     let own = (r.seats id me.0 here).0 writes in
     let to : me.0.mine ≡ r.mine = own.1 in
     let has' : IsSome (field_at r.mine.space.words a i) = subst (λ (m : Mine). IsSome (field_at m.space.words a i)) to has in
-    let kept = put_keeps size s r id me.0 me.1 a i w b here writes (subst (λ (m : Mine). block_at m.space.words a ≡ Some b) to found) has'
-    (subst (λ (m : Mine). IsFieldWord m.space.words b.header w) to is) (subst (λ (m : Mine). RefersTo (MayBeCopied m.base) (field_value b.header w)) to kept) in (
+    let allowed = put_keeps size s r id me.0 me.1 a i w b here writes (subst (λ (m : Mine). block_at m.space.words a ≡ Some b) to found) has'
+    (subst (λ (m : Mine). IsFieldWord m.space.words b.header w) to is) (subst (λ (m : Mine). RefersTo (MayBeCopied m.base) (field_value b.header w)) to allowed) in (
       record me.0 { mine = wrote a i w r.mine },
       keeps,
       tt,
-      kept,
+      allowed,
       λ x j e h. let one = one_field r.mine.space a i x j r.space has' (subst (λ (m : Mine). IsSome (field_at m.space.words x j)) to h) e in
           λ k. (record me.0 { mine = wrote (one.0 k) (one.1 k) w (sym to k) }, me.1),
     )
@@ -316,12 +316,12 @@ news : (slots size id : ℕ) (me : Sat) (h : Header) → me.0.writes ≡ true �
 news slots size id me h writes can s r _ here _ =
     let own = (r.seats id me.0 here).0 writes in
     let to : me.0.mine ≡ r.mine = own.1 in
-    let kept = new_keeps size s r id me.0 me.1 h here writes (subst (λ (m : Mine). CanPlace m.space h) to can) in
+    let allowed = new_keeps size s r id me.0 me.1 h here writes (subst (λ (m : Mine). CanPlace m.space h) to can) in
     let w : Known = record me.0 { mine = made h r.mine } in (
       w,
       keeps,
       tt,
-      subst (λ (m : Mine). IsConcurrent size (stepped s (end_of m.space) (header_word h) id me.1 w keeps)) (sym to) kept,
+      subst (λ (m : Mine). IsConcurrent size (stepped s (end_of m.space) (header_word h) id me.1 w keeps)) (sym to) allowed,
       λ g hd e. λ k. (record me.0 { mine = made (same_header g h hd can.header e k) (sym to k) }, me.1),
     )
 
@@ -393,8 +393,8 @@ links_at slots size id me a k w is writes start =
 pub puts_at : (slots size id : ℕ) (me : Sat) (a i k w : ℕ) (b : Block) → k ≡ field_place a i → me.0.writes ≡ true
     → block_at me.0.mine.space.words a ≡ Some b → IsSome (field_at me.0.mine.space.words a i) → IsFieldWord me.0.mine.space.words b.header w → RefersTo (MayBeCopied me.0.mine.base) (field_value b.header w)
     → Allows (IsConcurrent size) slots id me k (λ _. w) (λ _. tells_put (step slots k w 0 none) me w)
-puts_at slots size id me a i k w b is writes found has fine kept =
-    subst (λ (z : ℕ). Allows (IsConcurrent size) slots id me z (λ _. w) (λ _. tells_put (step slots z w 0 none) me w)) (sym is) (puts slots size id me a i w b writes found has fine kept)
+puts_at slots size id me a i k w b is writes found has fine allowed =
+    subst (λ (z : ℕ). Allows (IsConcurrent size) slots id me z (λ _. w) (λ _. tells_put (step slots z w 0 none) me w)) (sym is) (puts slots size id me a i w b writes found has fine allowed)
 
 pub news_at : (slots size id : ℕ) (me : Sat) (k w : ℕ) (h : Header) → end_of me.0.mine.space ≡ k → w ≡ header_word h → me.0.writes ≡ true → CanPlace me.0.mine.space h
     → Allows (IsConcurrent size) slots id me k (λ _. w) (λ _. tells_new (step slots k w 0 none) me w)

@@ -4,12 +4,12 @@ use Rattle.gc_words.specs.Word.{value_of}
 use Rattle.gc_words.specs.Certificate.{Certified}
 use Rattle.gc_heap.specs.Heap.{HeapWords, image_of, graph_in}
 use Rattle.gc_cert.specs.Grammar.{CertifiedPair}
-use Rattle.gc_along.specs.Claims.{Accepts}
-use Rattle.gc_along.specs.Origins.{pairs_in}
-use Rattle.gc_along.specs.Outline.{outline_of}
-use Rattle.gc_along.specs.Tables.{Tables}
-use Rattle.gc_plan.specs.State.{new_graph, pairs_of}
-use Rattle.gc_plan.specs.Linked.{linked_image, new_links}
+use Rattle.gc_monitor.specs.Claims.{Accepts}
+use Rattle.gc_monitor.specs.Origins.{pairs_in}
+use Rattle.gc_monitor.specs.Outline.{outline_of}
+use Rattle.gc_monitor.specs.Tables.{Tables}
+use Rattle.gc_model.specs.State.{new_graph, pairs_of}
+use Rattle.gc_model.specs.Linked.{linked_image, new_links}
 use Rattle.gc_concurrent.specs.Ends.{Theirs, its}
 
 -- In the new image a replica's link is its original's address.

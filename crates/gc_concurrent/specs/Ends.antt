@@ -2,7 +2,7 @@
 use Rattle.std.specs.Prelude.{[], ℕ, Bool, true, false, List, ◌∷◌}
 use Rattle.gc_words.specs.Space.{SpaceWords}
 use Rattle.gc_heap.specs.Heap.{HeapWords}
-use Rattle.gc_plan.specs.State.{Replica, Collection}
+use Rattle.gc_model.specs.State.{Replica, Collection}
 
 -- the heap of one mutator: its space and its roots
 abbrev pub one_heap : SpaceWords → List ℕ → HeapWords
@@ -16,7 +16,7 @@ pub record Mine : Type 0 where
   pub log : List (ℕ × ℕ)
   pub base : HeapWords
 
--- The size of the mutator's space, the new space as gc_plan has it, the entries taken and not yet applied, addresses that were read and at
+-- The size of the mutator's space, the new space as gc_model has it, the entries taken and not yet applied, addresses that were read and at
 -- which objects start, and the heap with which the collection began.
 pub record Theirs : Type 0 where
   pub old : ℕ

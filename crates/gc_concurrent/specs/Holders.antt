@@ -1,7 +1,7 @@
 -- What the types of the mutator's and the collector's side hold: a heap, and what the collector knows of it.
 use Rattle.std.specs.Prelude.{◌≡◌, ◌⊎◌, Bool}
 use Rattle.gc_heap.specs.Heap.{HeapWords, graph_in}
-use Rattle.gc_plan.specs.Steps.{is_ready, roots_done}
+use Rattle.gc_model.specs.Steps.{is_ready, roots_done}
 use Rattle.atomic_table.specs.Seated.{TableId}
 use Rattle.gc_concurrent.specs.declared.commands.Commander.{Commander}
 use Rattle.gc_concurrent.specs.declared.copier.Copier.{Copier}

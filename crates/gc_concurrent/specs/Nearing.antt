@@ -1,7 +1,7 @@
 -- What a collection has left to do until its flip while the mutator waits, as a number of steps.
 use Rattle.std.specs.Prelude.{ℕ, ◌+◌, ◌-◌, ◌*◌, ◌<◌, length, if◌then◌else◌}
-use Rattle.gc_plan.specs.State.{new_end}
-use Rattle.gc_plan.specs.Steps.{is_empty}
+use Rattle.gc_model.specs.State.{new_end}
+use Rattle.gc_model.specs.Steps.{is_empty}
 use Rattle.gc_concurrent.specs.Ends.{Theirs, its}
 
 -- Words of objects without a replica count twice, words of replicas from the scan pointer on once, and so do entries. The first argument is the

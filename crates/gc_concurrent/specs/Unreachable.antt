@@ -3,8 +3,8 @@ use Rattle.std.specs.Prelude.{ℕ, ◌<◌}
 use Rattle.gc_words.specs.Space.{end_of}
 use Rattle.gc_graph.specs.Graph.{Reachable}
 use Rattle.gc_heap.specs.Heap.{HeapWords, graph_in}
-use Rattle.gc_plan.specs.State.{Replica}
-use Rattle.gc_plan.specs.Members.{In}
+use Rattle.gc_model.specs.State.{Replica}
+use Rattle.gc_model.specs.Members.{In}
 use Rattle.gc_concurrent.specs.Ends.{Theirs}
 
 -- The address lies among the objects of this heap, and no root of the heap reaches it.

@@ -1,6 +1,6 @@
 -- What the collector's calls say that they did.
 use Rattle.std.specs.Prelude.{◌≡◌, ◌<◌, true, []}
-use Rattle.gc_plan.specs.Steps.{scan_done}
+use Rattle.gc_model.specs.Steps.{scan_done}
 use Rattle.gc_concurrent.specs.declared.copier.Work.{Work}
 use Rattle.gc_concurrent.specs.declared.copier.Work.TheVariants.{Step, Done, NoRoom}
 use Rattle.gc_concurrent.specs.Ends.{Theirs, its}

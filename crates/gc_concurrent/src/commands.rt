@@ -2,7 +2,7 @@
 ghost use Rattle.std.specs.Prelude.{◌≡◌, ◌+◌, ◌-◌, ◌*◌, ◌^◌, ◌<◌, ◌≤◌, true, false, [], ◌∷◌, length, suc};
 ghost use Rattle.gc_words.specs.Space.{end_of};
 ghost use Rattle.gc_heap.specs.Heap.{IsHeap, graph_in};
-ghost use Rattle.gc_plan.specs.Carried.{LeadsOnlyTo};
+ghost use Rattle.gc_model.specs.Carried.{LeadsOnlyTo};
 ghost use Rattle.gc_concurrent.specs.Unreachable.{MayBeCopied};
 ghost use Rattle.gc_concurrent.specs.Heaps.{heap_of};
 ghost use Rattle.gc_concurrent.specs.Internal.Props.{heap_prop, leads_prop};
@@ -20,7 +20,7 @@ pub struct Commander {
     ghost ended: { length mutator.seat.me.0.mine.space.words ≡ end },
     ghost sound: { IsHeap (heap_of mutator.seat.me.0.mine roots.items) } by { heap_prop (heap_of mutator.seat.me.0.mine roots.items) },
     ghost behind: { end_of mutator.seat.me.0.mine.base.space ≤ end },
-    ghost kept: { LeadsOnlyTo (MayBeCopied mutator.seat.me.0.mine.base) (graph_in (heap_of mutator.seat.me.0.mine roots.items)) } by { leads_prop mutator.seat.me.0.mine.base _ },
+    ghost leads: { LeadsOnlyTo (MayBeCopied mutator.seat.me.0.mine.base) (graph_in (heap_of mutator.seat.me.0.mine roots.items)) } by { leads_prop mutator.seat.me.0.mine.base _ },
 }
 
 fn header_of(raw: bool, kind: u8, len: u16) -> Header

@@ -6,9 +6,9 @@ ghost use Rattle.gc_words.specs.Word.{is_value, value_of};
 ghost use Rattle.gc_words.specs.Space.{IsSpace, end_of};
 ghost use Rattle.gc_words.specs.Closed.{IsRootWord};
 ghost use Rattle.gc_heap.specs.Heap.{IsHeap};
-ghost use Rattle.gc_plan.specs.State.{Replica};
-ghost use Rattle.gc_plan.specs.Steps.{is_empty, scan_done};
-ghost use Rattle.gc_plan.specs.Members.{In};
+ghost use Rattle.gc_model.specs.State.{Replica};
+ghost use Rattle.gc_model.specs.Steps.{is_empty, scan_done};
+ghost use Rattle.gc_model.specs.Members.{In};
 ghost use Rattle.gc_copy.specs.Words.{replicas_in};
 ghost use Rattle.gc_concurrent.specs.Heaps.{heap_of};
 ghost use Rattle.gc_concurrent.specs.Internal.Flip.{HasNothingLeft, Flips};
@@ -26,7 +26,7 @@ use crate::next::NextSpace;
 use crate::plays::{Applied, Flipped, Left, Passed, Placed, Renewed, Rooted, Scanned};
 use crate::spare::{Former, Spare};
 use crate::watching::{compare, place, walk};
-use gc_along::Standing;
+use gc_monitor::Monitor;
 use gc_graph::{NoMemory, object_words};
 use gc_words::{Addr, Header, Value, encode, field_index, target_of};
 use std::alloc::Global;
@@ -64,7 +64,7 @@ pub struct Copier {
     pub(crate) spare: Option<Spare>,
     pub(crate) former: Option<Former>,
     // It goes along, and knows at the flip which fields it has yet to compare.
-    pub(crate) standing: Standing,
+    pub(crate) standing: Monitor,
     pub size: u32,
     ghost row: { ((arc_value cells).shared.table_id ≡ seat.table_id) × (seat.table_id.words ≡ size) × ((arc_value cells).shared.key.size ≡ size) },
     ghost copies: { seat.me.0.copies ≡ true },
@@ -405,7 +405,7 @@ impl Copier {
         requires both { self.old.seat.me.0.writes ≡ true }
         requires taken { self.old.seat.me.0.mine.log ≡ [] }
         requires low { at.0 < self.old.size }
-        requires kept { MayBeCopied self.old.seat.me.0.theirs.base at.0 }
+        requires allowed { MayBeCopied self.old.seat.me.0.theirs.base at.0 }
         requires clear { slice_index self.old.claims.items at.0 ≡ 0 }
         requires filled { self.old.fill_left ≡ 0 }
         requires root { (w : ℕ) × IsRootWord self.old.seat.me.0.mine.space.words w × (value_of w ≡ Ref at.0) }

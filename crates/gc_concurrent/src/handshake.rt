@@ -13,7 +13,7 @@ ghost use Rattle.gc_heap.specs.Heap.{empty_heap, graph_in};
 ghost use Rattle.gc_concurrent.specs.Ends.{its, opening_theirs};
 ghost use Rattle.gc_concurrent.specs.Unreachable.{CopiesNothingUnreachable};
 ghost use Rattle.gc_concurrent.specs.Checking.{CertifiesFlip, FlippedBy, IsVouchedBy, flip_shown};
-ghost use Rattle.gc_plan.specs.State.{new_graph};
+ghost use Rattle.gc_model.specs.State.{new_graph};
 ghost use Rattle.gc_words.specs.Word.{value_of};
 
 use crate::commands::Commander;

@@ -9,11 +9,11 @@ ghost use Rattle.gc_words.specs.Closed.{IsRootWord};
 ghost use Rattle.gc_words.specs.Space.{end_of};
 ghost use Rattle.gc_heap.specs.ExtraRoots.{most_extra_roots};
 ghost use Rattle.gc_heap.specs.Heap.{IsHeap, empty_heap, graph_in};
-ghost use Rattle.gc_plan.specs.State.{new_graph, pairs_of};
-ghost use Rattle.gc_plan.specs.Steps.{scan_done};
-ghost use Rattle.gc_plan.specs.Members.{In};
+ghost use Rattle.gc_model.specs.State.{new_graph, pairs_of};
+ghost use Rattle.gc_model.specs.Steps.{scan_done};
+ghost use Rattle.gc_model.specs.Members.{In};
 ghost use Rattle.gc_concurrent.specs.Heaps.{heap_of};
-ghost use Rattle.gc_plan.specs.Carried.{LeadsOnlyTo};
+ghost use Rattle.gc_model.specs.Carried.{LeadsOnlyTo};
 ghost use Rattle.gc_concurrent.specs.Unreachable.{MayBeCopied, CopiesNothingUnreachable};
 ghost use Rattle.gc_concurrent.specs.Internal.Props.{heap_prop, leads_prop};
 ghost use Rattle.gc_concurrent.specs.Ends.{its, one_heap, opening_theirs};
@@ -32,7 +32,7 @@ use crate::next::{NextSpace, Opened};
 use crate::plays::{Roles, Took};
 use crate::spare::{Former, Spare};
 use crate::watching::tell;
-use gc_along::Standing;
+use gc_monitor::Monitor;
 use gc_check::Checks;
 use gc_graph::NoMemory;
 use std::alloc::{AllocError, AllocFailed, Global};
@@ -55,7 +55,7 @@ pub struct Held {
     ghost sound: { IsHeap (heap_of copier.seat.me.0.mine roots.items) } by { heap_prop (heap_of copier.seat.me.0.mine roots.items) },
     ghost behind: { end_of copier.seat.me.0.mine.base.space ≤ end },
     ghost begun: { copier.seat.me.0.theirs.base ≡ copier.seat.me.0.mine.base },
-    ghost kept: { LeadsOnlyTo (MayBeCopied copier.seat.me.0.mine.base) (graph_in (heap_of copier.seat.me.0.mine roots.items)) } by { leads_prop copier.seat.me.0.mine.base _ },
+    ghost leads: { LeadsOnlyTo (MayBeCopied copier.seat.me.0.mine.base) (graph_in (heap_of copier.seat.me.0.mine roots.items)) } by { leads_prop copier.seat.me.0.mine.base _ },
 }
 
 /// Takes both ends in one hand, and the mutator's log. Nothing of an earlier log is due.
@@ -392,7 +392,7 @@ fn begin(
     former: Option<Former>,
     log: Vec<(u32, u16)>,
     due: Vec<(u32, u16)>,
-    standing: Standing,
+    standing: Monitor,
 ) -> (Commander, Copier)
     requires sound { IsHeap (one_heap space roots.items) }
     requires spare { length spare.claims.items ≡ space.size }
@@ -463,7 +463,7 @@ pub(crate) fn open_ends(
     let space = NextSpace::new(alloc, size)?;
     let roots = Vec::from_elem(alloc, 0u64, 32 + extra as usize)?;
     let spare = Spare::new(alloc, size)?;
-    let standing = Standing::new(alloc, size)?;
+    let standing = Monitor::new(alloc, size)?;
     let (commander, mut copier) = begin(
         space,
         roots,

@@ -8,8 +8,8 @@ ghost use Rattle.gc_words.specs.Image.{objects_of};
 ghost use Rattle.gc_words.specs.Closed.{IsRootWord, IsFieldWord};
 ghost use Rattle.gc_words.specs.declared.header.Header.{Header};
 ghost use Rattle.gc_heap.specs.Heap.{graph_in};
-ghost use Rattle.gc_plan.specs.Steps.{WritesField};
-ghost use Rattle.gc_plan.specs.Belonging.{RefersTo};
+ghost use Rattle.gc_model.specs.Steps.{WritesField};
+ghost use Rattle.gc_model.specs.Belonging.{RefersTo};
 ghost use Rattle.gc_concurrent.specs.Unreachable.{MayBeCopied};
 ghost use Rattle.gc_concurrent.specs.Holders.{cells_of, heap_in, logs_writes};
 ghost use Rattle.gc_concurrent.specs.Machines.{Does};
@@ -44,7 +44,7 @@ impl Commander {
     pub(crate) fn set_at(&mut self, place: usize, word: u64) -> Reply
         requires root { place < length self.old.roots.items }
         requires word { IsRootWord self.old.mutator.seat.me.0.mine.space.words word }
-        requires kept { RefersTo (MayBeCopied self.old.mutator.seat.me.0.mine.base) (value_of word) }
+        requires allowed { RefersTo (MayBeCopied self.old.mutator.seat.me.0.mine.base) (value_of word) }
         ensures done { result ≡ Reply.Done }
         ensures heap { heap_in self.new ≡ record (heap_in self.old) { roots = slice_set self.old.roots.items place word } }
         ensures cells { cells_of self.new ≡ cells_of self.old }

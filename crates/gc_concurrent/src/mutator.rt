@@ -45,7 +45,7 @@ impl Mutator {
     ghost use Rattle.gc_graph.specs.Machine.{object_words};
     ghost use Rattle.gc_words.specs.Word.{field_value};
     ghost use Rattle.gc_words.specs.Closed.{IsFieldWord};
-    ghost use Rattle.gc_plan.specs.Belonging.{RefersTo};
+    ghost use Rattle.gc_model.specs.Belonging.{RefersTo};
     ghost use Rattle.gc_concurrent.specs.Ends.{Mine};
     ghost use Rattle.gc_concurrent.specs.Unreachable.{MayBeCopied};
 
@@ -82,7 +82,7 @@ impl Mutator {
         requires shaped { IsSpace self.old.seat.me.0.mine.space }
         requires there { IsSome (field_at self.old.seat.me.0.mine.space.words at.0 i) }
         requires fits { (b : Block) → block_at self.old.seat.me.0.mine.space.words at.0 ≡ Some b → IsFieldWord self.old.seat.me.0.mine.space.words b.header word }
-        requires kept { (b : Block) → block_at self.old.seat.me.0.mine.space.words at.0 ≡ Some b → RefersTo (MayBeCopied self.old.seat.me.0.mine.base) (field_value b.header word) }
+        requires allowed { (b : Block) → block_at self.old.seat.me.0.mine.space.words at.0 ≡ Some b → RefersTo (MayBeCopied self.old.seat.me.0.mine.base) (field_value b.header word) }
         ensures ok { OnOk result (self.new.seat.me.0.mine.space ≡ with_field_at self.old.seat.me.0.mine.space at.0 i word) }
         ensures shaped { IsSpace self.new.seat.me.0.mine.space }
         ensures end { end_of self.new.seat.me.0.mine.space ≡ end_of self.old.seat.me.0.mine.space }

@@ -8,11 +8,11 @@ ghost use Rattle.gc_concurrent.specs.Internal.Following.{Follows, WroteEach};
 
 use crate::cells::{Cells, CellsEnd};
 use crate::plays::{Headed, Looked, Saw};
-use gc_along::Standing;
+use gc_monitor::Monitor;
 use gc_words::{Addr, field_index};
 
 /// The walk over the mutator's space goes on up to this end, by a load for each object.
-pub(crate) fn walk(cells: &Cells, seat: &mut CellsEnd, standing: &mut Standing, end: u32)
+pub(crate) fn walk(cells: &Cells, seat: &mut CellsEnd, standing: &mut Monitor, end: u32)
     requires cells { seat.old.table_id ≡ cells.now.shared.table_id }
     requires wide { end ≤ cells.now.shared.table_id.words }
     requires sized { cells.now.shared.key.size ≡ cells.now.shared.table_id.words }
@@ -37,7 +37,7 @@ pub(crate) fn walk(cells: &Cells, seat: &mut CellsEnd, standing: &mut Standing, 
 pub(crate) fn compare(
     cells: &Cells,
     seat: &mut CellsEnd,
-    standing: &mut Standing,
+    standing: &mut Monitor,
     size: u32,
     at: u32,
     i: u16,
@@ -74,7 +74,7 @@ pub(crate) fn compare(
 pub(crate) fn place(
     cells: &Cells,
     seat: &mut CellsEnd,
-    standing: &mut Standing,
+    standing: &mut Monitor,
     size: u32,
     name: u32,
     header: u64,
@@ -97,7 +97,7 @@ pub(crate) fn place(
 }
 
 /// Tells of each entry of a log that is taken. `claims` has the place of each object's replica, or 0.
-pub(crate) fn tell(standing: &mut Standing, claims: &[u32], log: &[(u32, u16)])
+pub(crate) fn tell(standing: &mut Monitor, claims: &[u32], log: &[(u32, u16)])
     ensures lost { IsTrue standing.old.lost → IsTrue standing.new.lost }
     ensures told { IsFalse standing.new.lost → WroteEach log.now standing.old standing.new }
 {

@@ -7,12 +7,12 @@ use Rattle.std.specs.Option.{option_map, unwrap_or}
 use Rattle.gc_graph.specs.Graph.{Value, Graph}
 use Rattle.gc_words.specs.Image.{field_at}
 use Rattle.gc_heap.specs.Heap.{HeapWords, graph_in}
-use Rattle.gc_plan.specs.State.{Collection, moved}
-use Rattle.gc_plan.specs.Steps.{log_at, with_log, is_empty, first_log, with_replica, apply_entry, apply_log, if_room, scan_done, roots_done, is_ready, write_replica}
+use Rattle.gc_model.specs.State.{Collection, moved}
+use Rattle.gc_model.specs.Steps.{log_at, with_log, is_empty, first_log, with_replica, apply_entry, apply_log, if_room, scan_done, roots_done, is_ready, write_replica}
 use Rattle.gc_copy.specs.Words.{Log, CollectionWords, IsCollection, collection_in, open_state, BelongsTo}
 use Rattle.gc_copy.specs.Internal.Words.{KeepsGraph, KeepsRest}
-use Rattle.gc_plan.specs.declared.step.Step.TheVariants as steps
-use Rattle.gc_plan.specs.declared.step.StepReply.TheVariants.{Applied, NoRoom}
+use Rattle.gc_model.specs.declared.step.Step.TheVariants as steps
+use Rattle.gc_model.specs.declared.step.StepReply.TheVariants.{Applied, NoRoom}
 use Rattle.gc_copy.proofs.Logs.{entries_at, entry_dropped}
 use Rattle.gc_copy.proofs.OpenCollection.{after_step, field_present}
 
@@ -44,7 +44,7 @@ module _ (heap : HeapWords) (x : CollectionWords) (m : ℕ) (log : Log) (there :
     -- the entry names a field of the heap
     pub field_there : BelongsTo heap x → IsSome (field_at heap.space.words entry.0 entry.1)
     field_there k =
-        let f = (k.belongs).entries entry.0 entry.1 (m, subst (Rattle.gc_plan.specs.Members.In entry) (sym entries_split) (inl refl)) in
+        let f = (k.belongs).entries entry.0 entry.1 (m, subst (Rattle.gc_model.specs.Members.In entry) (sym entries_split) (inl refl)) in
         field_present heap.space.words entry.0 entry.1 f.0 f.1 f.2
 
     steps_are : apply_log (open_state heap x) (collection_in x) m (log_at (collection_in x) m) ≡ if_room (open_state heap x) Applied (relogged m (drop 1 log.entries) (apply_entry (collection_in x) (graph_in heap) entry))

@@ -5,11 +5,11 @@ use Rattle.std.proofs.lemmas.List.{length-map, length-replicate}
 use Rattle.gc_words.specs.Spelling.{link_at}
 use Rattle.gc_words.specs.Space.{SpaceWords, empty_space}
 use Rattle.gc_heap.specs.Heap.{HeapWords, graph_in}
-use Rattle.gc_plan.specs.State.{Replica, Collection, replica_of}
-use Rattle.gc_plan.specs.Steps.{fresh_collection}
-use Rattle.gc_plan.specs.Belonging.{Belongs}
+use Rattle.gc_model.specs.State.{Replica, Collection, replica_of}
+use Rattle.gc_model.specs.Steps.{fresh_collection}
+use Rattle.gc_model.specs.Belonging.{Belongs}
 use Rattle.gc_copy.specs.Words.{Log, replicas_in, entries_of, collection_in, Leads, LinksNothing, BelongsTo}
-use Rattle.gc_plan.proofs.Public.{begun_belongs}
+use Rattle.gc_model.proofs.Public.{begun_belongs}
 use Rattle.gc_copy.proofs.Words.{words_numbers}
 
 pub begun : (heap : HeapWords) (space : SpaceWords) (logs : List Log) (size : ℕ) (epoch : ℕ) → LinksNothing epoch heap → 1 ≤ size → space ≡ empty_space size → map entries_of logs ≡ replicate heap.mutators []

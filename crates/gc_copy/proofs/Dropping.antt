@@ -13,11 +13,11 @@ use Rattle.gc_words.specs.Space.{IsSpace, with_word, without_links}
 use Rattle.gc_words.specs.Walking.{next_of}
 use Rattle.gc_words.proofs.Public.{walk_from, Behind, behind, at_end, has_next, some_of, link_written_there, link_written_beside, object_found, spelled_words}
 use Rattle.gc_heap.specs.Heap.{HeapWords, IsHeap}
-use Rattle.gc_plan.specs.State.{Replica, replica_of}
-use Rattle.gc_plan.specs.Members.{In}
+use Rattle.gc_model.specs.State.{Replica, replica_of}
+use Rattle.gc_model.specs.Members.{In}
 use Rattle.gc_copy.specs.Words.{CollectionWords, IsCollection, replica_entry, replicas_in, collection_in, idle_state, mark_of, Leads, LinksNothing, BelongsTo}
 use Rattle.gc_copy.specs.Internal.Words.{KeepsGraph}
-use Rattle.gc_plan.proofs.Public.{in_map, in_map_from, replica_in}
+use Rattle.gc_model.proofs.Public.{in_map, in_map_from, replica_in}
 use Rattle.gc_copy.proofs.Spaces.{in_start}
 use Rattle.gc_copy.proofs.ObjectWalks.{Met, met_none, Passing, passing}
 use Rattle.gc_copy.proofs.OpenCollection.{linked_heap, same_graph, start_kept}

@@ -1,6 +1,6 @@
--- The code of a flip does the plan's flip, and keeps all objects of the space.
+-- The code of a flip does the model's flip, and keeps all objects of the space.
 use Rattle.std.proofs.lemmas.Grind.{common_steps}
-use Rattle.gc_plan.proofs.Public.{small_corresponding, placed, in_get, in_map, in_map_from, all_from_in, replica_field, IsReady, ready_parts, new_heap, named_address, flips}
+use Rattle.gc_model.proofs.Public.{small_corresponding, placed, in_get, in_map, in_map_from, all_from_in, replica_field, IsReady, ready_parts, new_heap, named_address, flips}
 use Rattle.std.specs.Prelude.{◌^◌}
 use Rattle.std.specs.Option.{option_map}
 use Rattle.gc_words.specs.declared.header.Header.{Header}
@@ -15,12 +15,12 @@ use Rattle.gc_words.specs.Space.{SpaceWords, IsSpace, end_of, free_in, without_l
 use Rattle.gc_words.specs.Closed.{IsWordOfField, RefersToStart, IsRootWord, IsFieldWord, HasFieldWords}
 use Rattle.gc_words.proofs.Public.{object_found, meaning_back, cleared, end_cleared, closed_field_read, closed_objects}
 use Rattle.gc_heap.specs.Heap.{HeapWords, IsHeap, graph_in}
-use Rattle.gc_plan.specs.State.{new_objects, new_free, new_graph, pairs_of}
-use Rattle.gc_plan.specs.Steps.{is_ready, flip, flipped}
-use Rattle.gc_plan.specs.Members.{In}
-use Rattle.gc_plan.specs.Belonging.{IsSmall, IsNamed, RefersTo, IsSpaceGraph}
+use Rattle.gc_model.specs.State.{new_objects, new_free, new_graph, pairs_of}
+use Rattle.gc_model.specs.Steps.{is_ready, flip, flipped}
+use Rattle.gc_model.specs.Members.{In}
+use Rattle.gc_model.specs.Belonging.{IsSmall, IsNamed, RefersTo, IsSpaceGraph}
 use Rattle.gc_copy.specs.Words.{CollectionWords, IsCollection, collection_in, idle_state, open_state, mark_of, replica_entry, BelongsTo, new_root_words}
-use Rattle.gc_plan.specs.declared.step.StepReply.TheVariants.{Flipped}
+use Rattle.gc_model.specs.declared.step.StepReply.TheVariants.{Flipped}
 use Rattle.gc_copy.proofs.Words.{heap_graph, block_found_in}
 use Rattle.gc_copy.proofs.Spaces.{in_start, new_objects_are, new_end_is}
 use Rattle.gc_copy.proofs.OpenCollection.{opened}

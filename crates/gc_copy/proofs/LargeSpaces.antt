@@ -2,11 +2,11 @@
 use Rattle.std.proofs.Common.{◌≢◌, ◌≤◌, refl, ◌∙◌}
 use Rattle.std.proofs.lemmas.List.{length-map}
 use Rattle.gc_heap.specs.Heap.{HeapWords, IsHeap}
-use Rattle.gc_plan.specs.Steps.{collect}
-use Rattle.gc_plan.specs.declared.step.Step.{Step}
-use Rattle.gc_plan.specs.declared.step.StepReply.TheVariants.{NoRoom}
+use Rattle.gc_model.specs.Steps.{collect}
+use Rattle.gc_model.specs.declared.step.Step.{Step}
+use Rattle.gc_model.specs.declared.step.StepReply.TheVariants.{NoRoom}
 use Rattle.gc_copy.specs.Words.{CollectionWords, IsCollection, BelongsTo, collection_in, entries_of, open_state}
-use Rattle.gc_plan.proofs.Public.{opened_has_room}
+use Rattle.gc_model.proofs.Public.{opened_has_room}
 use Rattle.gc_copy.proofs.Words.{heap_graph}
 
 pub words_have_room : (heap : HeapWords) (c : CollectionWords) (step : Step) → IsHeap heap → IsCollection c → BelongsTo heap c → heap.space.size ≤ c.space.size → (collect (open_state heap c) step).0 ≢ NoRoom

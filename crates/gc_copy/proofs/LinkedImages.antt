@@ -13,13 +13,13 @@ use Rattle.gc_words.specs.Space.{SpaceWords, IsSpace, end_of, free_in, image_wit
 use Rattle.gc_words.specs.Certificate.{Certified}
 use Rattle.gc_words.proofs.Public.{length_relinked, object_found, relinked}
 use Rattle.gc_heap.specs.Heap.{HeapWords, IsHeap, KeepsLinks, image_of, graph_in, roomy_in}
-use Rattle.gc_plan.specs.State.{Replica, Collection, pairs_of, replica_of}
-use Rattle.gc_plan.specs.Linked.{image_of_graph, linked_image, block_entry, old_links, new_links, old_image, new_image, LeadsTo}
-use Rattle.gc_plan.specs.Steps.{written, is_ready}
-use Rattle.gc_plan.specs.Members.{In}
-use Rattle.gc_plan.specs.Belonging.{IsDue, Belongs, BelongsBut}
+use Rattle.gc_model.specs.State.{Replica, Collection, pairs_of, replica_of}
+use Rattle.gc_model.specs.Linked.{image_of_graph, linked_image, block_entry, old_links, new_links, old_image, new_image, LeadsTo}
+use Rattle.gc_model.specs.Steps.{written, is_ready}
+use Rattle.gc_model.specs.Members.{In}
+use Rattle.gc_model.specs.Belonging.{IsDue, Belongs, BelongsBut}
 use Rattle.gc_copy.specs.Words.{CollectionWords, IsCollection, replica_entry, collection_in, open_state, mark_of, Leads, LinksNothing, LinksReplicas, BelongsTo, BelongsToBut, HasNoLinks, new_root_words}
-use Rattle.gc_plan.proofs.Public.{in_map, replica_in, replicas_due, its_replicas, belongs_from, ready_parts, found_by_place, command_kept, certified}
+use Rattle.gc_model.proofs.Public.{in_map, replica_in, replicas_due, its_replicas, belongs_from, ready_parts, found_by_place, command_kept, certified}
 use Rattle.gc_copy.proofs.Words.{heap_graph, heap_image, space_blocks, space_spelled, words_back}
 use Rattle.gc_copy.proofs.Spaces.{in_start, new_objects_are}
 use Rattle.gc_copy.proofs.OpenCollection.{link_above, replica_address}
@@ -120,7 +120,7 @@ no_replica heap c a k none = from (replica_of (collection_in c) a) refl
 
 pub links_kept : (heap new : HeapWords) (c : CollectionWords) → BelongsTo heap c → KeepsLinks heap.space.words new.space.words → LinksReplicas c.epoch new (collection_in c)
 links_kept heap new c k kept a there = ⊎_elim
-    (λ old. subst (Leads c.epoch (option_map (λ (r : Replica). r.place) (replica_of (collection_in c) a))) (sym (kept.kept a old)) (k.links a old))
+    (λ old. subst (Leads c.epoch (option_map (λ (r : Replica). r.place) (replica_of (collection_in c) a))) (sym (kept.stays a old)) (k.links a old))
     (λ young.
     let zero : link_at new.space.words a ≡ 0 = kept.fresh a young there in
     let low : link_at new.space.words a ≤ mark_of c.epoch = omega (arith, zero) in
@@ -146,7 +146,7 @@ nothing_left heap c k = record { belongs = same; links = k.links; logs = k.logs 
 
 -- a command sets no link
 pub no_links_kept : (heap new : HeapWords) → HasNoLinks heap → KeepsLinks heap.space.words new.space.words → HasNoLinks new
-no_links_kept heap new none kept a there = ⊎_elim (λ t. kept.kept a t ∙ none a t) (λ f. kept.fresh a f there) (cases_Bool (is_start heap.space.words a))
+no_links_kept heap new none kept a there = ⊎_elim (λ t. kept.stays a t ∙ none a t) (λ f. kept.fresh a f there) (cases_Bool (is_start heap.space.words a))
 
 pub nothing_linked : (heap new : HeapWords) (epoch : ℕ) → LinksNothing epoch heap → KeepsLinks heap.space.words new.space.words → LinksNothing epoch new
 nothing_linked heap new epoch none kept a there = grind (arith, common_steps)

@@ -8,12 +8,12 @@ use Rattle.std.specs.Option.{option_map}
 use Rattle.std.proofs.lemmas.Bool.{cond-false, cases_eq}
 use Rattle.std.proofs.lemmas.List.{length-map, map-set, drop_more}
 use Rattle.gc_heap.specs.Heap.{HeapWords, graph_in}
-use Rattle.gc_plan.specs.Steps.{log_at, with_log, is_empty, first_log}
-use Rattle.gc_plan.specs.Belonging.{HasField, Belongs}
+use Rattle.gc_model.specs.Steps.{log_at, with_log, is_empty, first_log}
+use Rattle.gc_model.specs.Belonging.{HasField, Belongs}
 use Rattle.gc_copy.specs.Words.{Log, CollectionWords, entries_of, collection_in, spare_in, spare_of, LinksReplicas, BelongsTo, BelongsToBut}
 use Rattle.gc_graph.specs.Graph.{Object}
-use Rattle.gc_plan.specs.Members.{In}
-use Rattle.gc_plan.proofs.Public.{belongs_noted, get_set_same, get_set_other, get_past}
+use Rattle.gc_model.specs.Members.{In}
+use Rattle.gc_model.proofs.Public.{belongs_noted, get_set_same, get_set_other, get_past}
 
 entries_set : (logs : List Log) (m : ℕ) (log : Log) → map entries_of (slice_set logs m log) ≡ slice_set (map entries_of logs) m log.entries
 entries_set logs m log = map-set entries_of logs m log

@@ -11,7 +11,7 @@ use Rattle.gc_words.specs.Space.{with_word}
 use Rattle.gc_words.specs.Walking.{next_of}
 use Rattle.gc_words.proofs.Public.{walk_from, Behind, behind, link_written, link_written_there, link_written_beside}
 use Rattle.gc_heap.specs.Heap.{HeapWords, IsHeap}
-use Rattle.gc_plan.specs.Members.{In}
+use Rattle.gc_model.specs.Members.{In}
 use Rattle.gc_copy.specs.Internal.Words.{KeepsGraph}
 use Rattle.gc_copy.proofs.Words.{block_found_in}
 use Rattle.gc_copy.proofs.ObjectWalks.{Met, met_none, Passing, passing, start_met}

@@ -11,10 +11,10 @@ use Rattle.gc_words.specs.Image.{is_start, objects_of}
 use Rattle.gc_words.specs.Spelling.{link_at}
 use Rattle.gc_words.proofs.Public.{object_found}
 use Rattle.gc_heap.specs.Heap.{HeapWords, graph_in}
-use Rattle.gc_plan.specs.State.{Replica, replica_of, pairs_of}
-use Rattle.gc_plan.specs.Members.{In}
-use Rattle.gc_plan.specs.Belonging.{IsDue}
-use Rattle.gc_plan.proofs.Public.{found_by_name, in_map, in_map_from, pair, replica_exists, replica_in}
+use Rattle.gc_model.specs.State.{Replica, replica_of, pairs_of}
+use Rattle.gc_model.specs.Members.{In}
+use Rattle.gc_model.specs.Belonging.{IsDue}
+use Rattle.gc_model.proofs.Public.{found_by_name, in_map, in_map_from, pair, replica_exists, replica_in}
 use Rattle.gc_copy.specs.Words.{CollectionWords, RoomWords, IsCollection, BelongsTo, TellsMoves, collection_in, mark_of, moved_in, place_told}
 use Rattle.gc_copy.specs.Internal.Words.{moves_of}
 use Rattle.gc_copy.proofs.OpenCollection.{link_tells}

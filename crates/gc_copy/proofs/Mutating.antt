@@ -1,4 +1,4 @@
--- The code of a command with its write barrier does the plan's command.
+-- The code of a command with its write barrier does the model's command.
 use Rattle.std.proofs.lemmas.Grind.{common_steps}
 use Rattle.std.proofs.Common.{◌≡◌, ◌≢◌, inl, ℕ, zero, suc, List, [], ◌∷◌, ◌++◌, Option, refl, sym, subst, arith, append-nil}
 use Rattle.std.specs.Prelude.{slice_get, slice_set}
@@ -11,13 +11,13 @@ use Rattle.gc_graph.specs.declared.reply.Reply.TheVariants as replies
 use Rattle.gc_words.specs.Space.{end_of}
 use Rattle.gc_heap.specs.Heap.{HeapWords, IsHeap, KeepsLinks, graph_in, roomy_in}
 use Rattle.gc_heap.specs.Commands.{Performs}
-use Rattle.gc_plan.specs.State.{Collection}
-use Rattle.gc_plan.specs.Steps.{log_at, with_log, WritesField, written, mutate}
+use Rattle.gc_model.specs.State.{Collection}
+use Rattle.gc_model.specs.Steps.{log_at, with_log, WritesField, written, mutate}
 use Rattle.gc_copy.specs.Internal.Entries.{if_done}
-use Rattle.gc_plan.specs.Members.{In}
-use Rattle.gc_plan.specs.Belonging.{HasField}
+use Rattle.gc_model.specs.Members.{In}
+use Rattle.gc_model.specs.Belonging.{HasField}
 use Rattle.gc_copy.specs.Words.{CollectionWords, collection_in, idle_state, open_state, LinksNothing, BelongsTo, BelongsToBut}
-use Rattle.gc_plan.proofs.Public.{field_there}
+use Rattle.gc_model.proofs.Public.{field_there}
 use Rattle.gc_copy.proofs.LinkedImages.{command_leaves, nothing_left, nothing_linked}
 
 -- appending nothing does not change a log

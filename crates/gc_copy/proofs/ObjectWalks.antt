@@ -11,10 +11,10 @@ use Rattle.gc_words.specs.Views.{addresses}
 use Rattle.gc_words.specs.Walking.{next_of}
 use Rattle.gc_words.proofs.Public.{walk_from, block_from, Behind, behind, has_next, some_of}
 use Rattle.gc_words.specs.declared.image.Pair.{Pair}
-use Rattle.gc_plan.specs.State.{Replica}
-use Rattle.gc_plan.specs.Members.{In}
+use Rattle.gc_model.specs.State.{Replica}
+use Rattle.gc_model.specs.Members.{In}
 use Rattle.gc_copy.specs.Words.{replica_entry, replicas_in}
-use Rattle.gc_plan.proofs.Public.{in_right, in_map}
+use Rattle.gc_model.proofs.Public.{in_right, in_map}
 use Rattle.gc_copy.proofs.Spaces.{in_start}
 
 -- ---- the walk so far

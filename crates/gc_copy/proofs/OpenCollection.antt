@@ -20,17 +20,17 @@ use Rattle.gc_words.specs.Closed.{IsRootWord, IsWordOfField}
 use Rattle.gc_words.specs.declared.header.Header.{Header}
 use Rattle.gc_graph.specs.Graph.{name_of}
 use Rattle.gc_heap.specs.Heap.{HeapWords, IsHeap, graph_in}
-use Rattle.gc_plan.specs.State.{Replica, Collection, State, new_objects, new_end, new_free, replica_of, moved}
-use Rattle.gc_plan.specs.Steps.{fresh_replica, place_replica, with_replica, with_written, write_replica, bring_value, bring_up_to_date, collect}
-use Rattle.gc_plan.specs.Members.{In}
-use Rattle.gc_plan.proofs.Public.{in_push, in_right, in_map, in_map_from, find_exists, get_within, get_past, laid_range, lookup_laid, placed, place_written, with_written_pair, replica_in, open_keeps, placing_keeps, bringing_keeps}
-use Rattle.gc_plan.specs.Belonging.{IsDue, Belongs, IsOpened}
+use Rattle.gc_model.specs.State.{Replica, Collection, State, new_objects, new_end, new_free, replica_of, moved}
+use Rattle.gc_model.specs.Steps.{fresh_replica, place_replica, with_replica, with_written, write_replica, bring_value, bring_up_to_date, collect}
+use Rattle.gc_model.specs.Members.{In}
+use Rattle.gc_model.proofs.Public.{in_push, in_right, in_map, in_map_from, find_exists, get_within, get_past, laid_range, lookup_laid, placed, place_written, with_written_pair, replica_in, open_keeps, placing_keeps, bringing_keeps}
+use Rattle.gc_model.specs.Belonging.{IsDue, Belongs, IsOpened}
 use Rattle.gc_copy.specs.Words.{CollectionWords, IsCollection, entries_of, replicas_in, collection_in, open_state, mark_of, Leads, LinksReplicas, BelongsTo}
-use Rattle.gc_plan.specs.Staying.{HasReplicaOf}
+use Rattle.gc_model.specs.Staying.{HasReplicaOf}
 use Rattle.gc_copy.specs.Internal.Words.{replica_block, KeepsGraph, KeepsRest, KeepsStarts}
-use Rattle.gc_plan.specs.declared.step.Step.{Step}
-use Rattle.gc_plan.specs.declared.step.Step.TheVariants as steps
-use Rattle.gc_plan.specs.declared.step.StepReply.{StepReply}
+use Rattle.gc_model.specs.declared.step.Step.{Step}
+use Rattle.gc_model.specs.declared.step.Step.TheVariants as steps
+use Rattle.gc_model.specs.declared.step.StepReply.{StepReply}
 use Rattle.gc_copy.proofs.Starts.{starts_on, starts_placed, starts_written}
 use Rattle.gc_copy.proofs.Spaces.{count_placed, replica_at_end, replica_block_object, space_placed, space_written, new_objects_are, new_end_is}
 

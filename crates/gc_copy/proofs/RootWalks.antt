@@ -9,13 +9,13 @@ use Rattle.std.specs.Option.{option_map, unwrap_or}
 use Rattle.gc_graph.specs.Graph.{Value, Nil, Graph, root}
 use Rattle.gc_words.specs.Word.{value_of, word_of}
 use Rattle.gc_heap.specs.Heap.{HeapWords, graph_in}
-use Rattle.gc_plan.specs.State.{Collection, moved}
-use Rattle.gc_plan.specs.Steps.{root_target, roots_done}
-use Rattle.gc_plan.specs.Members.{In}
-use Rattle.gc_plan.proofs.Public.{HasReplica, in_map, roots_replicated, all_replicated, first_missing, get_in}
+use Rattle.gc_model.specs.State.{Collection, moved}
+use Rattle.gc_model.specs.Steps.{root_target, roots_done}
+use Rattle.gc_model.specs.Members.{In}
+use Rattle.gc_model.proofs.Public.{HasReplica, in_map, roots_replicated, all_replicated, first_missing, get_in}
 use Rattle.gc_copy.specs.Words.{AreMoved, new_root_words}
 use Rattle.gc_copy.specs.declared.collection.roots.MissingRoot.{MissingRoot}
-use Rattle.gc_plan.specs.Staying.{HasReplicaOf, IsMissing}
+use Rattle.gc_model.specs.Staying.{HasReplicaOf, IsMissing}
 
 -- the value of a root, read from its word
 pub value_at : (words : List ℕ) (i : ℕ) → i < length words → unwrap_or (slice_get (map value_of words) i) Nil ≡ value_of (get_or words i 0)

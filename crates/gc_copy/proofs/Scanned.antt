@@ -2,13 +2,13 @@
 use Rattle.std.proofs.Common.{◌≡◌, ◌⊎◌, inl, inr, ℕ, zero, suc, ◌==◌, Bool, true, false, cond, ◌||◌, length, Option, Some, None, refl, ap, sym, ◌∙◌, subst}
 use Rattle.std.specs.Prelude.{IfSome}
 use Rattle.std.specs.Option.{option_map, unwrap_or}
-use Rattle.gc_plan.specs.State.{Replica, Collection, State, replica_at}
-use Rattle.gc_plan.specs.Steps.{scan, scan_replica, scan_done, bring_up_to_date, next_field, next_object, if_room, with_collection, collect}
-use Rattle.gc_plan.specs.Belonging.{IsOpened}
-use Rattle.gc_plan.specs.declared.step.StepReply.{StepReply}
-use Rattle.gc_plan.specs.declared.step.StepReply.TheVariants.{Clean, Passed, Scanned}
-use Rattle.gc_plan.specs.declared.step.Step.TheVariants as steps
-use Rattle.gc_plan.proofs.Public.{open_keeps}
+use Rattle.gc_model.specs.State.{Replica, Collection, State, replica_at}
+use Rattle.gc_model.specs.Steps.{scan, scan_replica, scan_done, bring_up_to_date, next_field, next_object, if_room, with_collection, collect}
+use Rattle.gc_model.specs.Belonging.{IsOpened}
+use Rattle.gc_model.specs.declared.step.StepReply.{StepReply}
+use Rattle.gc_model.specs.declared.step.StepReply.TheVariants.{Clean, Passed, Scanned}
+use Rattle.gc_model.specs.declared.step.Step.TheVariants as steps
+use Rattle.gc_model.proofs.Public.{open_keeps}
 use Rattle.gc_copy.specs.StepRuns.{repeated}
 
 -- the state with this collection

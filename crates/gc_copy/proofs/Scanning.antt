@@ -1,4 +1,4 @@
--- The code of the scan does the plan's scan.
+-- The code of the scan does the model's scan.
 use Rattle.std.proofs.lemmas.Grind.{common_steps}
 use Rattle.gc_words.proofs.Public.{stands_in, some_of, none_at_end, block_of_header, fields_counted, object_found}
 use Rattle.std.proofs.Common.{◌≡◌, ⊎_elim, ℕ, ◌+◌, ◌<◌, ◌≤◌, ◌||◌, ◌⊎◌, ◌==◌, Bool, true, false, length, Some, None, is_some, refl, ap, sym, ◌∙◌, subst, arith}
@@ -11,15 +11,15 @@ use Rattle.gc_words.specs.Image.{Block, block_at, is_start, header_of, header_at
 use Rattle.gc_words.specs.Spelling.{link_at}
 use Rattle.gc_words.specs.declared.header.Header.{Header}
 use Rattle.gc_heap.specs.Heap.{HeapWords, graph_in}
-use Rattle.gc_plan.specs.State.{Replica, new_end, replica_of, replica_at}
-use Rattle.gc_plan.specs.Steps.{scan_done, scan, next_object, if_room, bring_up_to_date, with_collection, next_field}
-use Rattle.gc_plan.specs.Members.{In}
-use Rattle.gc_plan.specs.Belonging.{IsDue}
+use Rattle.gc_model.specs.State.{Replica, new_end, replica_of, replica_at}
+use Rattle.gc_model.specs.Steps.{scan_done, scan, next_object, if_room, bring_up_to_date, with_collection, next_field}
+use Rattle.gc_model.specs.Members.{In}
+use Rattle.gc_model.specs.Belonging.{IsDue}
 use Rattle.gc_copy.specs.Words.{CollectionWords, IsCollection, replicas_in, collection_in, open_state, BelongsTo}
 use Rattle.gc_copy.specs.Internal.Words.{KeepsGraph, KeepsRest}
-use Rattle.gc_plan.specs.declared.step.Step.TheVariants as steps
-use Rattle.gc_plan.specs.declared.step.StepReply.TheVariants.{Passed, Scanned, NoRoom}
-use Rattle.gc_plan.proofs.Public.{found_by_name, found_by_place}
+use Rattle.gc_model.specs.declared.step.Step.TheVariants as steps
+use Rattle.gc_model.specs.declared.step.StepReply.TheVariants.{Passed, Scanned, NoRoom}
+use Rattle.gc_model.proofs.Public.{found_by_name, found_by_place}
 use Rattle.gc_copy.proofs.Spaces.{in_start, new_end_is, replica_start}
 use Rattle.gc_copy.proofs.OpenCollection.{same_graph, after_step, block_of_object, field_present, replica_object}
 

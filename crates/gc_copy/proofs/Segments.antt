@@ -9,7 +9,7 @@ use Rattle.std.proofs.lemmas.Bool.{ne_eqb}
 use Rattle.std.proofs.lemmas.Option.{slice_get-map, slice_get_within, slice_get_past, slice_get_read}
 use Rattle.std.specs.Option.{option_map, option_copied, MatchOption, IfSome}
 use Rattle.std.specs.List.{HoldsAt}
-use Rattle.gc_plan.specs.Steps.{is_empty}
+use Rattle.gc_model.specs.Steps.{is_empty}
 use Rattle.gc_copy.specs.declared.log.LogEntry.{LogEntry}
 use Rattle.gc_copy.specs.Entries.{entry_in}
 use Rattle.gc_copy.specs.Internal.Segments.{segment, joined, AreSegments, IsLog}

@@ -11,14 +11,14 @@ use Rattle.gc_words.specs.Spelling.{spelled_from, link_at}
 use Rattle.gc_words.proofs.Public.{IsBlock, spelled_words, objects_set, CanPlaceBlock, block_placed, field_written, link_written, none_at_end, block_there, link_placed_beside, link_beside_field, link_written_there, link_written_beside, object_found, fresh_object as new_block_object}
 use Rattle.gc_words.specs.Layout.{link_place, field_place}
 use Rattle.gc_words.specs.Space.{SpaceWords, IsSpace, end_of, free_in, with_block, with_word}
-use Rattle.gc_plan.specs.State.{Replica, new_objects, new_end, replica_of, fresh_object}
-use Rattle.gc_plan.specs.Steps.{write_replica}
+use Rattle.gc_model.specs.State.{Replica, new_objects, new_end, replica_of, fresh_object}
+use Rattle.gc_model.specs.Steps.{write_replica}
 use Rattle.gc_copy.specs.Words.{CollectionWords, replica_entry, replicas_in, collection_in}
 use Rattle.gc_copy.specs.Internal.Words.{replica_block}
 use Rattle.std.specs.Option.{option_map}
-use Rattle.gc_plan.specs.Members.{In}
-use Rattle.gc_plan.specs.Belonging.{BelongsBy}
-use Rattle.gc_plan.proofs.Public.{map_same, in_map, in_map_from, laid_end_is, lookup_laid, placed, with_written_pair, replica_in, write_is_set}
+use Rattle.gc_model.specs.Members.{In}
+use Rattle.gc_model.specs.Belonging.{BelongsBy}
+use Rattle.gc_model.proofs.Public.{map_same, in_map, in_map_from, laid_end_is, lookup_laid, placed, with_written_pair, replica_in, write_is_set}
 use Rattle.gc_copy.proofs.Words.{objects_laid}
 
 -- ---- lists
@@ -58,7 +58,7 @@ new_objects_are c = placed_at c.space.words (blocks c.space.words)
 
 pub new_end_is : (c : CollectionWords) → IsSpace c.space → new_end (collection_in c) ≡ end_of c.space
 new_end_is c is =
-    let ends = ap (λ os. Rattle.gc_plan.specs.State.objects_end 1 os) (new_objects_are c) ∙ laid_end_is 1 (objects_of c.space.words) (c.space.size - free_in c.space) (objects_laid c.space is) in
+    let ends = ap (λ os. Rattle.gc_model.specs.State.objects_end 1 os) (new_objects_are c) ∙ laid_end_is 1 (objects_of c.space.words) (c.space.size - free_in c.space) (objects_laid c.space is) in
     omega (arith, ends, is.end_high)
 
 in_block : (bs : List (ℕ × Block)) (e : ℕ × Block) → In e bs → is_some (block_in bs e.0) ≡ true

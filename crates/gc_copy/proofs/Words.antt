@@ -13,10 +13,10 @@ use Rattle.gc_words.specs.Space.{SpaceWords, IsSpace, free_in}
 use Rattle.gc_words.specs.Closed.{RefersToStart, IsRootWord, IsFieldWord, HasFieldWords}
 use Rattle.gc_words.specs.declared.header.Header.{Header}
 use Rattle.gc_heap.specs.Heap.{HeapWords, IsHeap, image_of, graph_in}
-use Rattle.gc_plan.specs.Linked.{field_word, block_entry, linked_image}
-use Rattle.gc_plan.specs.Members.{In}
-use Rattle.gc_plan.specs.Belonging.{Laid, IsNamed, RefersTo, IsObject, HasRawNumbers, IsSpaceGraph}
-use Rattle.gc_plan.proofs.Public.{in_map, in_map_from, in_get, get_past}
+use Rattle.gc_model.specs.Linked.{field_word, block_entry, linked_image}
+use Rattle.gc_model.specs.Members.{In}
+use Rattle.gc_model.specs.Belonging.{Laid, IsNamed, RefersTo, IsObject, HasRawNumbers, IsSpaceGraph}
+use Rattle.gc_model.proofs.Public.{in_map, in_map_from, in_get, get_past}
 
 -- what holds of all elements holds of each
 in_all : {X : Type 0} (P : X → Type 0) (xs : List X) (x : X) → All P xs → In x xs → P x

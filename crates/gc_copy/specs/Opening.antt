@@ -2,7 +2,7 @@
 use Rattle.std.specs.Prelude.{None}
 use Rattle.gc_heap.specs.ExtraRoots.{opening_with}
 use Rattle.gc_heap.specs.declared.options.HeapOptions.{HeapOptions}
-use Rattle.gc_plan.specs.State.{State}
+use Rattle.gc_model.specs.State.{State}
 
 -- the state without objects, with the extra roots that the options ask for
 abbrev pub opening_state_with : HeapOptions → State

@@ -1,11 +1,11 @@
 -- One step of the collector, performed several times in order by one call.
 use Rattle.std.specs.Prelude.{◌≡◌, ◌≢◌, ℕ, zero, suc, ◌-◌, ◌<◌, ◌≤◌, true, false, IfSome}
-use Rattle.gc_plan.specs.State.{State, new_end}
-use Rattle.gc_plan.specs.Steps.{collect, is_empty, log_at, scan_done}
-use Rattle.gc_plan.specs.declared.step.Step.{Step}
-use Rattle.gc_plan.specs.declared.step.Step.TheVariants.{Scan, Apply}
-use Rattle.gc_plan.specs.declared.step.StepReply.{StepReply}
-use Rattle.gc_plan.specs.declared.step.StepReply.TheVariants.{NoRoom}
+use Rattle.gc_model.specs.State.{State, new_end}
+use Rattle.gc_model.specs.Steps.{collect, is_empty, log_at, scan_done}
+use Rattle.gc_model.specs.declared.step.Step.{Step}
+use Rattle.gc_model.specs.declared.step.Step.TheVariants.{Scan, Apply}
+use Rattle.gc_model.specs.declared.step.StepReply.{StepReply}
+use Rattle.gc_model.specs.declared.step.StepReply.TheVariants.{NoRoom}
 
 -- the state that n of this step lead to
 abbrev pub repeated : Step → ℕ → State → State

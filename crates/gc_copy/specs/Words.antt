@@ -8,9 +8,9 @@ use Rattle.gc_words.specs.Image.{Block, blocks, is_start, object_of_block}
 use Rattle.gc_words.specs.Spelling.{link_at}
 use Rattle.gc_words.specs.Space.{SpaceWords, IsSpace}
 use Rattle.gc_heap.specs.Heap.{HeapWords, graph_in, roomy_in}
-use Rattle.gc_plan.specs.State.{Replica, Collection, State, new_graph, replica_of}
-use Rattle.gc_plan.specs.Members.{In}
-use Rattle.gc_plan.specs.Belonging.{Belongs, BelongsBut}
+use Rattle.gc_model.specs.State.{Replica, Collection, State, new_graph, replica_of}
+use Rattle.gc_model.specs.Members.{In}
+use Rattle.gc_model.specs.Belonging.{Belongs, BelongsBut}
 
 -- the fields that a mutator wrote, oldest first, and the number of further entries that need no allocation
 pub record Log : Type 0 where

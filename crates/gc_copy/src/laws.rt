@@ -13,16 +13,16 @@ ghost use Rattle.gc_heap.specs.Commands.{Performs};
 ghost use Rattle.gc_heap.specs.declared.options.HeapOptions.{HeapOptions};
 ghost use Rattle.gc_copy.specs.Words.{CollectionWords, IsCollection, BelongsTo, BelongsToBut, HasNoLinks, LinksNothing, collection_in, idle_state, open_state, new_root_words};
 ghost use Rattle.gc_graph.specs.declared.reply.Reply.{Reply};
-ghost use Rattle.gc_plan.specs.State.{pairs_of};
+ghost use Rattle.gc_model.specs.State.{pairs_of};
 ghost use Rattle.gc_copy.specs.Opening.{opening_state_with};
-ghost use Rattle.gc_plan.specs.Linked.{image_of_graph, linked_image, old_image, new_image, LeadsTo};
-ghost use Rattle.gc_plan.specs.Steps.{written, WritesField, mutate, collect, is_ready};
-ghost use Rattle.gc_plan.specs.Belonging.{IsSpaceGraph, IsState};
-ghost use Rattle.gc_plan.specs.Carried.{CarriesOnlyKeptFrom};
-ghost use Rattle.gc_plan.specs.Runs.{AreRootEvents, state_after};
-ghost use Rattle.gc_plan.specs.declared.event.Event.{Event};
-ghost use Rattle.gc_plan.specs.declared.step.Step.{Step};
-ghost use Rattle.gc_plan.specs.declared.step.StepReply.TheVariants.{NoRoom};
+ghost use Rattle.gc_model.specs.Linked.{image_of_graph, linked_image, old_image, new_image, LeadsTo};
+ghost use Rattle.gc_model.specs.Steps.{written, WritesField, mutate, collect, is_ready};
+ghost use Rattle.gc_model.specs.Belonging.{IsSpaceGraph, IsState};
+ghost use Rattle.gc_model.specs.Carried.{CarriesOnlyLiveFrom};
+ghost use Rattle.gc_model.specs.Runs.{AreRootEvents, state_after};
+ghost use Rattle.gc_model.specs.declared.event.Event.{Event};
+ghost use Rattle.gc_model.specs.declared.step.Step.{Step};
+ghost use Rattle.gc_model.specs.declared.step.StepReply.TheVariants.{NoRoom};
 
 /// The names in the graph of a heap of words are addresses, and the heap's image is the image of this graph with the heap's
 /// links. No object has the heap's end as its name.
@@ -86,7 +86,7 @@ pub fn commands_leave_collections()
 {}
 
 /// A heap that was opened with extra roots is well formed, and so is every state that a run leads it to. A command may name an extra root.
-pub fn extra_roots_are_kept()
+pub fn extra_roots_stay()
     ensures opening { (options : HeapOptions)
         → 1 ≤ options.size → options.size ≤ largest_space → IsState (opening_state_with options) }
     ensures runs { (options : HeapOptions) (events : List Event)
@@ -94,7 +94,7 @@ pub fn extra_roots_are_kept()
         → IsState (state_after (opening_state_with options) events) }
     // Each original of an open collection was reachable when the collection began, or was made later.
     ensures carried { (options : HeapOptions)
-        → 1 ≤ options.size → options.size ≤ largest_space → CarriesOnlyKeptFrom (opening_state_with options) }
+        → 1 ≤ options.size → options.size ≤ largest_space → CarriesOnlyLiveFrom (opening_state_with options) }
 {}
 
 /// If a new space of words is at least as large as the old one, no step lacks room.

@@ -52,7 +52,7 @@ impl Model for MutationLog {
 impl MutationLog {
     ghost use Rattle.std.specs.Prelude.{◌≡◌, ◌≤◌, ◌+◌, ◌-◌, ◌++◌, ◌∷◌, [], drop, length, slice_get, OnOk};
     ghost use Rattle.std.specs.Option.{option_map};
-    ghost use Rattle.gc_plan.specs.Steps.{is_empty};
+    ghost use Rattle.gc_model.specs.Steps.{is_empty};
     ghost use Rattle.gc_copy.specs.Entries.{entry_in};
 
     /// Returns a log without entries. Does not allocate.
@@ -98,7 +98,7 @@ impl MutationLog {
     pub(crate) fn reserve(&mut self, more: usize) -> Result<(), NoMemory>
         ensures entries { self.new.entries ≡ self.old.entries }
         ensures room { OnOk result (more ≤ self.new.spare) }
-        ensures kept { self.old.spare ≤ self.new.spare }
+        ensures spare { self.old.spare ≤ self.new.spare }
     {
         if more <= self.last.capacity() - self.last.len() {
             return Ok(());
@@ -112,7 +112,7 @@ impl MutationLog {
     fn add_segments(&mut self, more: usize) -> Result<(), NoMemory>
         ensures entries { self.new.entries ≡ self.old.entries }
         ensures room { OnOk result (more ≤ self.new.spare) }
-        ensures kept { self.old.spare ≤ self.new.spare }
+        ensures spare { self.old.spare ≤ self.new.spare }
     {
         while self.spare() < more {
             self.add_segment()?;
@@ -124,7 +124,7 @@ impl MutationLog {
     fn add_segment(&mut self) -> Result<(), NoMemory>
         ensures entries { self.new.entries ≡ self.old.entries }
         ensures room { OnOk result (self.new.spare ≡ self.old.spare + SEGMENT) }
-        ensures kept { self.old.spare ≤ self.new.spare }
+        ensures spare { self.old.spare ≤ self.new.spare }
     {
         let segment = Vec::with_capacity(*self.last.allocator(), SEGMENT)?;
         if self.last.capacity() == 0 {

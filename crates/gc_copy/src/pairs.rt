@@ -3,8 +3,8 @@
 ghost use Rattle.std.specs.Prelude.{◌≡◌, ◌<◌, ◌^◌, IfOk, length, map};
 ghost use Rattle.gc_words.specs.Space.{IsSpace};
 ghost use Rattle.gc_words.specs.Views.{addresses};
-ghost use Rattle.gc_plan.specs.State.{Replica};
-ghost use Rattle.gc_plan.specs.Members.{In};
+ghost use Rattle.gc_model.specs.State.{Replica};
+ghost use Rattle.gc_model.specs.Members.{In};
 ghost use Rattle.gc_copy.specs.Words.{replicas_in};
 
 use gc_graph::NoMemory;

@@ -21,7 +21,7 @@ links_kept words = grind (arith, common_steps)
 
 pub links_placed : (s : SpaceWords) (h : Header) → CanPlace s h → KeepsLinks s.words (with_object s h).words
 links_placed s h can = record {
-  kept = λ start there. link_placed_beside s (fresh_block h) start can.shaped there;
+  stays = λ start there. link_placed_beside s (fresh_block h) start can.shaped there;
   fresh = λ start old new. elim (cases_Bool (end_of s == start)) [
     | inl last ↦ subst (λ x. link_at (with_object s h).words x ≡ 0) (eqb-true (end_of s) start last) (link_placed s (fresh_block h))
     | inr other ↦ absurd (differs s.words (with_object s h).words start (placed_beside s h start can (eqb-false (end_of s) start other)) old new)

@@ -119,7 +119,7 @@ numbers_filled (n ∷ rest) h m s t a i len heap takes apart inside room small =
     let further = numbers_filled rest (with_number set a i n) m s t a (suc i) len one.heap one.takes apart (subst (λ k. place t m < k) (sym (length-set h.roots (place t m) (word_of (Num n)))) inside) (omega (arith, room))
     (All-tail (λ n. n < 2 ^ 63) n rest small) in
     record {
-      writes = (with_number set a i n, record { between = set; sets = number_set h m t n; puts = one.performs; kept = beside.target ∙ sym takes.target; sound = (number_heap h (place t m) n heap, one.heap) }, further.writes);
+      writes = (with_number set a i n, record { between = set; sets = number_set h m t n; puts = one.performs; unchanged = beside.target ∙ sym takes.target; sound = (number_heap h (place t m) n heap, one.heap) }, further.writes);
       heap = further.heap;
       takes = further.takes;
     }

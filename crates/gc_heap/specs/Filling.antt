@@ -32,7 +32,7 @@ pub record WritesNumber (old : HeapWords) (m : ℕ) (s t : SlotName) (i n : ℕ)
   pub sets : Performs old m (Num t n) Done between
   pub puts : Performs between m (Put s i t) Done new
   -- slot s keeps the object
-  pub kept : root (graph_in between) (place s m) ≡ root (graph_in old) (place s m)
+  pub unchanged : root (graph_in between) (place s m) ≡ root (graph_in old) (place s m)
   pub sound : IsHeap between × IsHeap new
 
 -- and so on with the next number and the next field, from field i on

@@ -44,5 +44,5 @@ pub record IsHeap (heap : HeapWords) : Type 0 where
 
 -- existing objects keep their links; the links of new objects are 0
 pub record KeepsLinks (old new : List ℕ) : Type 0 where
-  pub kept : (start : ℕ) → IsTrue (is_start old start) → link_at new start ≡ link_at old start
+  pub stays : (start : ℕ) → IsTrue (is_start old start) → link_at new start ≡ link_at old start
   pub fresh : (start : ℕ) → IsFalse (is_start old start) → IsTrue (is_start new start) → link_at new start ≡ 0

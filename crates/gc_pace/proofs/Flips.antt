@@ -1,7 +1,7 @@
 -- How flips are checked after steps and after work: only a flip counts.
 use Rattle.std.proofs.lemmas.Grind.{common_steps}
 use Rattle.std.proofs.Common.{◌≡◌, true, Some, arith}
-use Rattle.gc_plan.specs.declared.step.StepReply.{StepReply}
+use Rattle.gc_model.specs.declared.step.StepReply.{StepReply}
 use Rattle.gc_collected.specs.Collected.{Turns, turns_after}
 use Rattle.gc_collected.specs.declared.flip.Keep.TheVariants.{Room}
 use Rattle.gc_pace.specs.Beside.{turns_after_work}

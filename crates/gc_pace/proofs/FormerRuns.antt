@@ -1,8 +1,8 @@
 -- What useful steps leave of the old space of the last flip.
 use Rattle.std.proofs.Common.{◌≡◌, ℕ, Option, refl, sym, ap, subst}
-use Rattle.gc_plan.specs.State.{State}
-use Rattle.gc_plan.specs.Steps.{collect}
-use Rattle.gc_plan.specs.declared.step.StepReply.{StepReply}
+use Rattle.gc_model.specs.State.{State}
+use Rattle.gc_model.specs.Steps.{collect}
+use Rattle.gc_model.specs.declared.step.StepReply.{StepReply}
 use Rattle.gc_copy.specs.Words.{RoomWords}
 use Rattle.gc_collected.specs.Flip.{FormerAfter}
 use Rattle.gc_collected.specs.declared.flip.Keep.TheVariants.{Room}

@@ -2,9 +2,9 @@
 use Rattle.std.proofs.Common.{◌≡◌, ⊎_elim, ℕ, zero, suc, ◌+◌, ◌-◌, ◌<◌, true, false, Option, is_some, refl, sym, ap, ◌∙◌, subst, arith}
 use Rattle.std.specs.Prelude.{IsSome}
 use Rattle.std.proofs.lemmas.Bool.{cases_lt}
-use Rattle.gc_plan.specs.State.{State}
-use Rattle.gc_plan.specs.Steps.{collect}
-use Rattle.gc_plan.specs.declared.step.StepReply.{StepReply}
+use Rattle.gc_model.specs.State.{State}
+use Rattle.gc_model.specs.Steps.{collect}
+use Rattle.gc_model.specs.declared.step.StepReply.{StepReply}
 use Rattle.gc_copy.specs.Words.{RoomWords}
 use Rattle.gc_collected.specs.Flip.{FormerAfter}
 use Rattle.gc_collected.specs.declared.flip.Keep.TheVariants.{Room}

@@ -8,15 +8,15 @@ use Rattle.std.specs.Prelude.{◌≢◌, cond}
 use Rattle.std.specs.Option.{option_map_or}
 use Rattle.gc_graph.specs.Machine.{Roomy}
 use Rattle.gc_graph.specs.declared.command.Op.{Op}
-use Rattle.gc_plan.specs.State.{Collection, State, heap_end}
-use Rattle.gc_plan.specs.Belonging.{IsState}
-use Rattle.gc_plan.specs.Steps.{collect, flipped, is_ready, mutate, passes_check, step_in, step_idle}
-use Rattle.gc_plan.specs.Progress.{entries_left}
-use Rattle.gc_plan.specs.declared.step.Step.{Step}
-use Rattle.gc_plan.specs.declared.step.Step.TheVariants as steps
-use Rattle.gc_plan.specs.declared.step.StepReply.{StepReply}
-use Rattle.gc_plan.specs.declared.step.StepReply.TheVariants.{Flipped, NotReady, Refused}
-use Rattle.gc_plan.proofs.Public.{left_bounded, steps_stay}
+use Rattle.gc_model.specs.State.{Collection, State, heap_end}
+use Rattle.gc_model.specs.Belonging.{IsState}
+use Rattle.gc_model.specs.Steps.{collect, flipped, is_ready, mutate, passes_check, step_in, step_idle}
+use Rattle.gc_model.specs.Progress.{entries_left}
+use Rattle.gc_model.specs.declared.step.Step.{Step}
+use Rattle.gc_model.specs.declared.step.Step.TheVariants as steps
+use Rattle.gc_model.specs.declared.step.StepReply.{StepReply}
+use Rattle.gc_model.specs.declared.step.StepReply.TheVariants.{Flipped, NotReady, Refused}
+use Rattle.gc_model.proofs.Public.{left_bounded, steps_stay}
 use Rattle.gc_collected.specs.Collected.{Collected}
 use Rattle.gc_pace.specs.Counts.{counts_of, counts_in}
 use Rattle.gc_pace.specs.Work.{IsRun, after_useful, goes_on, sized_step, units, useful_reply}

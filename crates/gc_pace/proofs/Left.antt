@@ -5,13 +5,13 @@ use Rattle.std.proofs.Common.{◌≡◌, ◌≢◌, ◌⊎◌, ℕ, ◌+◌, ◌
 use Rattle.std.specs.Prelude.{IfOk}
 use Rattle.std.specs.Option.{option_map_or}
 use Rattle.std.proofs.lemmas.Bool.{cond_both}
-use Rattle.gc_plan.specs.State.{Collection, State, heap_end}
-use Rattle.gc_plan.specs.Progress.{entries_in, work_left, entries_left, ChangesLower, Advances}
-use Rattle.gc_plan.specs.Steps.{useful_with, collect, is_change, step_in, step_idle}
-use Rattle.gc_plan.specs.declared.step.Step.{Step}
-use Rattle.gc_plan.specs.declared.step.Step.TheVariants as steps
-use Rattle.gc_plan.specs.declared.step.StepReply.{StepReply}
-use Rattle.gc_plan.specs.declared.step.StepReply.TheVariants.{NoRoom, Flipped}
+use Rattle.gc_model.specs.State.{Collection, State, heap_end}
+use Rattle.gc_model.specs.Progress.{entries_in, work_left, entries_left, ChangesLower, Advances}
+use Rattle.gc_model.specs.Steps.{useful_with, collect, is_change, step_in, step_idle}
+use Rattle.gc_model.specs.declared.step.Step.{Step}
+use Rattle.gc_model.specs.declared.step.Step.TheVariants as steps
+use Rattle.gc_model.specs.declared.step.StepReply.{StepReply}
+use Rattle.gc_model.specs.declared.step.StepReply.TheVariants.{NoRoom, Flipped}
 use Rattle.gc_pace.specs.Internal.Leaving.{LeavesLess}
 use Rattle.gc_pace.specs.Work.{with_size, sized_step, goes_on}
 use Rattle.gc_collected.specs.Collected.{Collected}

@@ -4,10 +4,10 @@ use Rattle.std.proofs.Common.{◌≡◌, ℕ, zero, suc, ◌+◌, List, [], ◌�
 use Rattle.std.specs.Prelude.{IfSome}
 use Rattle.std.proofs.lemmas.List.Sums.{sum_by-cons}
 use Rattle.std.specs.Option.{option_map_or, unwrap_or}
-use Rattle.gc_plan.specs.Belonging.{IsOpened}
-use Rattle.gc_plan.specs.Progress.{entries_in}
-use Rattle.gc_plan.specs.State.{Collection, State}
-use Rattle.gc_plan.specs.Steps.{log_at}
+use Rattle.gc_model.specs.Belonging.{IsOpened}
+use Rattle.gc_model.specs.Progress.{entries_in}
+use Rattle.gc_model.specs.State.{Collection, State}
+use Rattle.gc_model.specs.Steps.{log_at}
 use Rattle.gc_collected.specs.Readings.{log_of}
 
 -- the entries in the logs of this mutator and of those after it

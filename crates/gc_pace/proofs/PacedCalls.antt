@@ -3,14 +3,14 @@ use Rattle.std.proofs.lemmas.Grind.{common_steps}
 use Rattle.std.proofs.Common.{◌≡◌, ◌⊎◌, inl, inr, ℕ, ◌+◌, ◌-◌, ◌/◌, ◌≤◌, true, false, Some, None, sym, ap, ◌∙◌, subst, arith}
 use Rattle.std.specs.Prelude.{min, IsTrue, IfSome}
 use Rattle.std.proofs.lemmas.Bool.{le-leb, cases_lt}
-use Rattle.gc_plan.specs.State.{State}
-use Rattle.gc_plan.specs.Belonging.{IsSpaceGraph, IsOpened}
-use Rattle.gc_plan.specs.Progress.{entries_left, work_left}
-use Rattle.gc_plan.specs.Steps.{useful_step}
+use Rattle.gc_model.specs.State.{State}
+use Rattle.gc_model.specs.Belonging.{IsSpaceGraph, IsOpened}
+use Rattle.gc_model.specs.Progress.{entries_left, work_left}
+use Rattle.gc_model.specs.Steps.{useful_step}
 use Rattle.gc_collected.specs.Collected.{Collected}
 use Rattle.gc_collected.specs.CollectedHeap.{Allocates}
-use Rattle.gc_plan.specs.declared.step.StepReply.{StepReply}
-use Rattle.gc_plan.proofs.Public.{left_bounded}
+use Rattle.gc_model.specs.declared.step.StepReply.{StepReply}
+use Rattle.gc_model.proofs.Public.{left_bounded}
 use Rattle.gc_pace.specs.Counts.{counts_in}
 use Rattle.gc_pace.specs.Beside.{HaveFallen}
 use Rattle.gc_pace.specs.Work.{IsRun, IsEnd, IsSpent, IsWork, after_useful, goes_on, has_flipped, is_over, no_work, sized_step, units}

@@ -2,15 +2,15 @@
 use Rattle.std.proofs.lemmas.Grind.{common_steps}
 use Rattle.std.proofs.Common.{◌≡◌, ◌⊎◌, ℕ, zero, suc, ◌-◌, ◌<◌, ◌≤◌, true, false, length, Option, refl, sym, ap, ◌∙◌, subst, arith}
 use Rattle.std.specs.Prelude.{◌≢◌, IfSome, Some, IsTrue}
-use Rattle.gc_plan.specs.State.{Collection, State, new_end}
-use Rattle.gc_plan.specs.Steps.{collect, is_ready, useful_step}
-use Rattle.gc_plan.specs.Belonging.{IsSpaceGraph, IsOpened}
-use Rattle.gc_plan.specs.Progress.{entries_left, ChangesLower, Advances}
-use Rattle.gc_plan.specs.declared.step.Step.{Step}
-use Rattle.gc_plan.specs.declared.step.Step.TheVariants as steps
-use Rattle.gc_plan.specs.declared.step.StepReply.{StepReply}
-use Rattle.gc_plan.specs.declared.step.StepReply.TheVariants.{Clean, NoRoom, Passed, Scanned, Applied, Refused, Flipped}
-use Rattle.gc_plan.proofs.Public.{opened_has_room}
+use Rattle.gc_model.specs.State.{Collection, State, new_end}
+use Rattle.gc_model.specs.Steps.{collect, is_ready, useful_step}
+use Rattle.gc_model.specs.Belonging.{IsSpaceGraph, IsOpened}
+use Rattle.gc_model.specs.Progress.{entries_left, ChangesLower, Advances}
+use Rattle.gc_model.specs.declared.step.Step.{Step}
+use Rattle.gc_model.specs.declared.step.Step.TheVariants as steps
+use Rattle.gc_model.specs.declared.step.StepReply.{StepReply}
+use Rattle.gc_model.specs.declared.step.StepReply.TheVariants.{Clean, NoRoom, Passed, Scanned, Applied, Refused, Flipped}
+use Rattle.gc_model.proofs.Public.{opened_has_room}
 use Rattle.gc_copy.specs.Words.{RoomWords}
 use Rattle.gc_copy.specs.StepRuns.{repeated, repeat_reply, IsStepRun}
 use Rattle.gc_collected.specs.Flip.{FormerAfter}

@@ -3,13 +3,13 @@ use Rattle.std.proofs.lemmas.Grind.{common_steps}
 use Rattle.std.proofs.Common.{◌≡◌, ℕ, suc, ◌-◌, ◌<◌, ◌≤◌, Bool, Option, true, false, refl, sym, ap, ◌∙◌, subst, ⊎_elim, arith}
 use Rattle.std.specs.Prelude.{◌≢◌}
 use Rattle.std.proofs.lemmas.Bool.{cases_lt}
-use Rattle.gc_plan.specs.State.{State}
-use Rattle.gc_plan.specs.Steps.{collect}
-use Rattle.gc_plan.specs.declared.step.StepReply.{StepReply}
-use Rattle.gc_plan.specs.declared.step.StepReply.TheVariants.{NoRoom}
+use Rattle.gc_model.specs.State.{State}
+use Rattle.gc_model.specs.Steps.{collect}
+use Rattle.gc_model.specs.declared.step.StepReply.{StepReply}
+use Rattle.gc_model.specs.declared.step.StepReply.TheVariants.{NoRoom}
 use Rattle.gc_pace.specs.Internal.Leaving.{LeavesLess}
 use Rattle.gc_pace.specs.Work.{sized_step, after_useful, useful_reply, goes_on, IsSoundReply, IsLarge, IsRun}
-use Rattle.gc_plan.specs.Progress.{work_left}
+use Rattle.gc_model.specs.Progress.{work_left}
 use Rattle.gc_pace.proofs.Left.{some_left}
 use Rattle.gc_pace.proofs.Useful.{large_run, finds_room}
 

@@ -5,15 +5,15 @@ use Rattle.std.specs.Prelude.{◌≢◌, IfSome, is_none, slice_get, slice_set}
 use Rattle.std.specs.Option.{option_map, option_map_or, unwrap_or}
 use Rattle.std.proofs.lemmas.Bool.{cond_both, cases_Bool}
 use Rattle.gc_graph.specs.Graph.{Value, Nil, Graph, Object, root}
-use Rattle.gc_plan.specs.State.{Collection, Replica, State, replica_at, new_end}
-use Rattle.gc_plan.specs.Steps.{scan, scan_done, scan_replica, roots_done, root_target, collect, if_room, bring_up_to_date, bring_value, place_replica, next_field, next_object, with_collection, with_log, log_at, apply_log, apply_entry, is_empty, first_log, step_in, step_idle}
-use Rattle.gc_plan.specs.Belonging.{IsSpaceGraph, IsOpened}
-use Rattle.gc_plan.specs.Staying.{HasReplicaOf, KnowsRoot}
-use Rattle.gc_plan.specs.declared.step.Step.{Step}
-use Rattle.gc_plan.specs.declared.step.Step.TheVariants as steps
-use Rattle.gc_plan.specs.declared.step.StepReply.{StepReply}
-use Rattle.gc_plan.specs.declared.step.StepReply.TheVariants.{Scanned, Applied}
-use Rattle.gc_plan.proofs.Public.{all_replicated, collect_stays, get_in, open_keeps, roots_replicated, HasReplica}
+use Rattle.gc_model.specs.State.{Collection, Replica, State, replica_at, new_end}
+use Rattle.gc_model.specs.Steps.{scan, scan_done, scan_replica, roots_done, root_target, collect, if_room, bring_up_to_date, bring_value, place_replica, next_field, next_object, with_collection, with_log, log_at, apply_log, apply_entry, is_empty, first_log, step_in, step_idle}
+use Rattle.gc_model.specs.Belonging.{IsSpaceGraph, IsOpened}
+use Rattle.gc_model.specs.Staying.{HasReplicaOf, KnowsRoot}
+use Rattle.gc_model.specs.declared.step.Step.{Step}
+use Rattle.gc_model.specs.declared.step.Step.TheVariants as steps
+use Rattle.gc_model.specs.declared.step.StepReply.{StepReply}
+use Rattle.gc_model.specs.declared.step.StepReply.TheVariants.{Scanned, Applied}
+use Rattle.gc_model.proofs.Public.{all_replicated, collect_stays, get_in, open_keeps, roots_replicated, HasReplica}
 use Rattle.gc_copy.specs.StepRuns.{ScansOn, AppliesOn}
 use Rattle.gc_pace.specs.Work.{sized_step}
 use Rattle.gc_pace.proofs.Repeats.{IsQuiet, StaysUseful}

@@ -6,12 +6,12 @@ use Rattle.std.proofs.lemmas.Bool.{cond_both, and_parts, leb-true}
 use Rattle.std.proofs.lemmas.List.{length-append}
 use Rattle.std.proofs.lemmas.List.Sums.{sum_by-cons}
 use Rattle.gc_graph.specs.declared.command.Op.{Op}
-use Rattle.gc_plan.specs.State.{Collection, State, heap_end}
-use Rattle.gc_plan.specs.Belonging.{IsState}
-use Rattle.gc_plan.specs.Steps.{logged, written, mutate, collect, useful_step}
-use Rattle.gc_plan.specs.Progress.{entries_in, work_left, entries_left}
-use Rattle.gc_plan.specs.declared.step.Step.{Step}
-use Rattle.gc_plan.proofs.Public.{collect_keeps, mutate_keeps, useful_ranges, command_raises}
+use Rattle.gc_model.specs.State.{Collection, State, heap_end}
+use Rattle.gc_model.specs.Belonging.{IsState}
+use Rattle.gc_model.specs.Steps.{logged, written, mutate, collect, useful_step}
+use Rattle.gc_model.specs.Progress.{entries_in, work_left, entries_left}
+use Rattle.gc_model.specs.declared.step.Step.{Step}
+use Rattle.gc_model.proofs.Public.{collect_keeps, mutate_keeps, useful_ranges, command_raises}
 use Rattle.gc_collected.specs.Collected.{Collected}
 use Rattle.gc_pace.specs.Counts.{counts_in}
 use Rattle.gc_pace.specs.Work.{with_size, after_useful}

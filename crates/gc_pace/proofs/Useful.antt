@@ -6,12 +6,12 @@ use Rattle.std.specs.Option.{option_map}
 use Rattle.std.specs.List.{list_all}
 use Rattle.std.proofs.lemmas.Bool.{and_parts}
 use Rattle.gc_graph.specs.Graph.{Value, Object, Graph}
-use Rattle.gc_plan.specs.State.{Collection, State, replica_at}
-use Rattle.gc_plan.specs.Steps.{is_empty, first_log, scan_done, root_target, is_ready, passes_check, useful_step, place_replica, bring_value, log_at, if_room, copy_root, scan_replica, apply_log, flipped, step_in, collect, next_field}
-use Rattle.gc_plan.specs.declared.step.Step.{Step}
-use Rattle.gc_plan.specs.declared.step.Step.TheVariants as steps
-use Rattle.gc_plan.specs.declared.step.StepReply.{StepReply}
-use Rattle.gc_plan.specs.declared.step.StepReply.TheVariants.{Clean, NoRoom, NotReady, Refused, Flipped}
+use Rattle.gc_model.specs.State.{Collection, State, replica_at}
+use Rattle.gc_model.specs.Steps.{is_empty, first_log, scan_done, root_target, is_ready, passes_check, useful_step, place_replica, bring_value, log_at, if_room, copy_root, scan_replica, apply_log, flipped, step_in, collect, next_field}
+use Rattle.gc_model.specs.declared.step.Step.{Step}
+use Rattle.gc_model.specs.declared.step.Step.TheVariants as steps
+use Rattle.gc_model.specs.declared.step.StepReply.{StepReply}
+use Rattle.gc_model.specs.declared.step.StepReply.TheVariants.{Clean, NoRoom, NotReady, Refused, Flipped}
 use Rattle.gc_collected.specs.Flip.{FlipsOnly, IsCertified, PassesIfReady, HasRoomIfLarge}
 use Rattle.gc_pace.specs.Work.{IsSoundReply, IsLarge, with_size, sized_step, after_useful, useful_reply, goes_on}
 

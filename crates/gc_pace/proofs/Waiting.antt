@@ -4,12 +4,12 @@ use Rattle.std.proofs.Common.{◌≡◌, ⊎_elim, inl, inr, ℕ, zero, suc, ◌
 use Rattle.std.specs.Prelude.{◌≢◌, IfOk, IfSome, OnErr, IsTrue, ⊤}
 use Rattle.std.specs.Option.{option_map_or, unwrap_or}
 use Rattle.std.proofs.lemmas.Bool.{cond_both}
-use Rattle.gc_plan.specs.State.{Collection, State, replica_at}
-use Rattle.gc_plan.specs.Steps.{scan_done, root_target, is_ready, passes_check, useful_with, log_at, if_room, copy_root, scan_replica, apply_log, flipped, step_in, step_idle, collect}
-use Rattle.gc_plan.specs.declared.step.Step.{Step}
-use Rattle.gc_plan.specs.declared.step.Step.TheVariants as steps
-use Rattle.gc_plan.specs.declared.step.StepReply.{StepReply}
-use Rattle.gc_plan.specs.declared.step.StepReply.TheVariants.{Begun, Clean, NotReady, Refused, Flipped}
+use Rattle.gc_model.specs.State.{Collection, State, replica_at}
+use Rattle.gc_model.specs.Steps.{scan_done, root_target, is_ready, passes_check, useful_with, log_at, if_room, copy_root, scan_replica, apply_log, flipped, step_in, step_idle, collect}
+use Rattle.gc_model.specs.declared.step.Step.{Step}
+use Rattle.gc_model.specs.declared.step.Step.TheVariants as steps
+use Rattle.gc_model.specs.declared.step.StepReply.{StepReply}
+use Rattle.gc_model.specs.declared.step.StepReply.TheVariants.{Begun, Clean, NotReady, Refused, Flipped}
 use Rattle.gc_collected.specs.CollectedHeap.{Allocates}
 use Rattle.gc_collected.specs.Collected.{Collected, Beside, Rooms, Turns, BeginsIn, HasStepped, checks_whole, rooms_flipped, rooms_given_back, with_rooms}
 use Rattle.gc_collected.specs.declared.flip.Keep.TheVariants.{Room}

@@ -3,8 +3,8 @@ use Rattle.std.proofs.lemmas.Bool.{cases_lt}
 use Rattle.std.proofs.lemmas.Nat.{mul-le}
 use Rattle.std.proofs.Common.{◌≡◌, ◌⊎◌, inl, inr, ℕ, ◌+◌, ◌*◌, ◌<◌, ◌≤◌, List, ap, sym, ◌∙◌, subst, arith}
 use Rattle.gc_graph.specs.declared.command.Op.{Op}
-use Rattle.gc_plan.specs.State.{State}
-use Rattle.gc_plan.specs.Belonging.{IsState}
+use Rattle.gc_model.specs.State.{State}
+use Rattle.gc_model.specs.Belonging.{IsState}
 use Rattle.gc_collected.specs.Collected.{Collected}
 use Rattle.gc_pace.specs.Counts.{counts_in}
 use Rattle.gc_pace.specs.Work.{units}

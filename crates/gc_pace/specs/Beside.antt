@@ -1,8 +1,8 @@
 -- What useful steps leave beside the heap's state: the old space of the last flip, how flips are checked, and the memory that waits.
 use Rattle.std.specs.Prelude.{◌≡◌, ◌⊎◌, ℕ, zero, suc, ◌+◌, ◌≤◌, Bool, false, if◌then◌else◌, Option, None, IsSome, IsTrue}
 use Rattle.std.specs.Option.{unwrap_or}
-use Rattle.gc_plan.specs.State.{State}
-use Rattle.gc_plan.specs.declared.step.Step.TheVariants.{Flip}
+use Rattle.gc_model.specs.State.{State}
+use Rattle.gc_model.specs.declared.step.Step.TheVariants.{Flip}
 use Rattle.gc_copy.specs.Words.{RoomWords}
 use Rattle.gc_collected.specs.CollectedHeap.{Allocates}
 use Rattle.gc_collected.specs.Flip.{FormerAfter}

@@ -1,8 +1,8 @@
 -- What can be counted of a heap, for decisions on when to collect and how fast.
 use Rattle.std.specs.Prelude.{ℕ, min}
 use Rattle.std.specs.Option.{option_map_or}
-use Rattle.gc_plan.specs.State.{State, Collection, new_end, heap_end, extra_roots_of}
-use Rattle.gc_plan.specs.Progress.{entries_left}
+use Rattle.gc_model.specs.State.{State, Collection, new_end, heap_end, extra_roots_of}
+use Rattle.gc_model.specs.Progress.{entries_left}
 use Rattle.gc_collected.specs.Collected.{Collected}
 use Rattle.gc_pace.specs.declared.counts.Counts.{Counts}
 

@@ -4,8 +4,8 @@ use Rattle.gc_graph.specs.Slots.{SlotName}
 use Rattle.gc_graph.specs.declared.command.Op.TheVariants.{Move}
 use Rattle.gc_graph.specs.declared.reply.Reply.{Reply}
 use Rattle.gc_heap.specs.ExtraRoots.{extra_slot}
-use Rattle.gc_plan.specs.State.{State, extra_roots_of}
-use Rattle.gc_plan.specs.Steps.{mutate}
+use Rattle.gc_model.specs.State.{State, extra_roots_of}
+use Rattle.gc_model.specs.Steps.{mutate}
 use Rattle.gc_collected.specs.ExtraRoots.{clear_step}
 use Rattle.gc_pace.specs.declared.frame.Frame.{Frame}
 

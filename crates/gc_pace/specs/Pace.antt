@@ -1,8 +1,8 @@
 -- The steps that are due at a call of paced work: a function of the heap's counts and of a pace, which remembers counts of the call before.
 use Rattle.std.specs.Prelude.{◌≡◌, ◌⊎◌, ℕ, ◌+◌, ◌-◌, ◌*◌, ◌/◌, ◌<◌, ◌≤◌, ◌==◌, ◌&&◌, ◌||◌, nat_lt, nat_le, min, max, if◌then◌else◌, IsTrue, Bool, false, Some, None}
-use Rattle.gc_plan.specs.State.{State}
-use Rattle.gc_plan.specs.Steps.{useful_step}
-use Rattle.gc_plan.specs.Progress.{work_left}
+use Rattle.gc_model.specs.State.{State}
+use Rattle.gc_model.specs.Steps.{useful_step}
+use Rattle.gc_model.specs.Progress.{work_left}
 use Rattle.gc_collected.specs.Collected.{Collected}
 use Rattle.gc_collected.specs.CollectedHeap.{Allocates}
 use Rattle.gc_pace.specs.Counts.{counts_in}

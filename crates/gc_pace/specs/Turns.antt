@@ -2,10 +2,10 @@
 use Rattle.std.specs.Prelude.{◌≡◌, ℕ, ◌+◌, ◌-◌, ◌<◌, ◌≤◌, List, [], ◌∷◌, ⊤}
 use Rattle.std.specs.List.{AllByRecursion}
 use Rattle.gc_graph.specs.declared.command.Op.{Op}
-use Rattle.gc_plan.specs.State.{State}
-use Rattle.gc_plan.specs.Steps.{mutate}
-use Rattle.gc_plan.specs.Runs.{HasRange}
-use Rattle.gc_plan.specs.Progress.{entries_left}
+use Rattle.gc_model.specs.State.{State}
+use Rattle.gc_model.specs.Steps.{mutate}
+use Rattle.gc_model.specs.Runs.{HasRange}
+use Rattle.gc_model.specs.Progress.{entries_left}
 use Rattle.gc_collected.specs.Collected.{Collected}
 use Rattle.gc_pace.specs.Pace.{WorkGoesOn, IsPacedWork, steps_left, units_left}
 use Rattle.gc_pace.specs.Counts.{counts_in}

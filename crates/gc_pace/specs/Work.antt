@@ -1,13 +1,13 @@
 -- Useful steps, performed in order by one call, and what is reported of them.
 use Rattle.std.specs.Prelude.{◌≡◌, ◌≢◌, ◌⊎◌, ℕ, zero, suc, ◌+◌, ◌-◌, ◌*◌, ◌/◌, ◌<◌, ◌≤◌, ⊤, Bool, true, false, not, Option, Some, None, IfSome, IsSomeAnd}
 use Rattle.std.specs.Option.{option_map, option_map_or, option_or}
-use Rattle.gc_plan.specs.State.{State, new_end, heap_end}
-use Rattle.gc_plan.specs.Steps.{collect, useful_step}
-use Rattle.gc_plan.specs.Progress.{work_left, entries_left}
-use Rattle.gc_plan.specs.declared.step.Step.{Step}
-use Rattle.gc_plan.specs.declared.step.Step.TheVariants.{Begin, BeginSized}
-use Rattle.gc_plan.specs.declared.step.StepReply.{StepReply}
-use Rattle.gc_plan.specs.declared.step.StepReply.TheVariants.{NoRoom, Refused, Flipped}
+use Rattle.gc_model.specs.State.{State, new_end, heap_end}
+use Rattle.gc_model.specs.Steps.{collect, useful_step}
+use Rattle.gc_model.specs.Progress.{work_left, entries_left}
+use Rattle.gc_model.specs.declared.step.Step.{Step}
+use Rattle.gc_model.specs.declared.step.Step.TheVariants.{Begin, BeginSized}
+use Rattle.gc_model.specs.declared.step.StepReply.{StepReply}
+use Rattle.gc_model.specs.declared.step.StepReply.TheVariants.{NoRoom, Refused, Flipped}
 use Rattle.gc_collected.specs.CollectedHeap.{Allocates}
 use Rattle.gc_collected.specs.Flip.{FlipsOnly, IsCertified, PassesIfReady, HasRoomIfLarge}
 use Rattle.gc_pace.specs.declared.work.Looks.{Looks}

@@ -2,7 +2,7 @@
 
 ghost use Rattle.std.specs.Prelude.{◌≡◌, ◌⊎◌, ◌<◌, ◌≤◌, ◌+◌, ◌*◌, ℕ, List};
 ghost use Rattle.gc_graph.specs.declared.command.Op.{Op};
-ghost use Rattle.gc_plan.specs.Belonging.{IsState};
+ghost use Rattle.gc_model.specs.Belonging.{IsState};
 ghost use Rattle.gc_collected.specs.Collected.{Collected};
 ghost use Rattle.gc_pace.specs.Counts.{counts_in};
 ghost use Rattle.gc_pace.specs.Pace.{CountsAll, HasEnded, IsPacedWork, steps_left, units_left, units_of};

@@ -1,12 +1,12 @@
 //! Many useful steps in one call.
 
 ghost use Rattle.std.specs.Prelude.{◌≡◌, ◌⊎◌, ◌<◌, ◌≤◌, ◌+◌, ◌*◌, ◌-◌, ◌^◌, ℕ, suc, true, false, ⊤, Option, Some, None, IfSome, IsSome, IsTrue, IfOk, OnErr};
-ghost use Rattle.gc_plan.specs.State.{State};
-ghost use Rattle.gc_plan.specs.Steps.{collect, useful_step};
-ghost use Rattle.gc_plan.specs.Runs.{IsStep};
-ghost use Rattle.gc_plan.specs.Progress.{work_left};
-ghost use Rattle.gc_plan.specs.declared.step.Step.{Step};
-ghost use Rattle.gc_plan.specs.declared.step.StepReply.{StepReply};
+ghost use Rattle.gc_model.specs.State.{State};
+ghost use Rattle.gc_model.specs.Steps.{collect, useful_step};
+ghost use Rattle.gc_model.specs.Runs.{IsStep};
+ghost use Rattle.gc_model.specs.Progress.{work_left};
+ghost use Rattle.gc_model.specs.declared.step.Step.{Step};
+ghost use Rattle.gc_model.specs.declared.step.StepReply.{StepReply};
 ghost use Rattle.gc_collected.specs.CollectedHeap.{Allocates};
 ghost use Rattle.gc_collected.specs.Flip.{FormerAfter};
 ghost use Rattle.gc_collected.specs.Collected.{IsUnchangedButRooms, WereRefused, turns_after};
@@ -22,7 +22,7 @@ use gc_check::Sequential;
 use gc_collected::{Choice, CollectedHeap, Keep};
 use gc_copy::{Step, StepReply, StepRun};
 use gc_graph::NoMemory;
-use gc_plan::useful_steps_end;
+use gc_model::useful_steps_end;
 
 /// What a call of work did.
 #[derive(Clone, Copy, Debug, Drop, PartialEq, Eq)]

@@ -13,10 +13,10 @@ use Rattle.gc_words.specs.Word.{is_value, value_of, word_of, read_value, read_co
 use Rattle.gc_words.specs.Closed.{IsRootWord}
 use Rattle.gc_words.specs.Marks.{is_marked}
 use Rattle.gc_words.proofs.Public.{value_read_back}
-use Rattle.gc_plan.specs.State.{Replica, Collection, State, new_graph, new_objects, pairs_of, replica_of, moved, new_end}
-use Rattle.gc_plan.specs.Belonging.{Belongs}
-use Rattle.gc_plan.specs.Staying.{HasReplicaOf}
-use Rattle.gc_plan.proofs.Public.{HasReplica, laid_range, in_map, replica_in, moved_corresponds}
+use Rattle.gc_model.specs.State.{Replica, Collection, State, new_graph, new_objects, pairs_of, replica_of, moved, new_end}
+use Rattle.gc_model.specs.Belonging.{Belongs}
+use Rattle.gc_model.specs.Staying.{HasReplicaOf}
+use Rattle.gc_model.proofs.Public.{HasReplica, laid_range, in_map, replica_in, moved_corresponds}
 use Rattle.gc_heap.specs.Heap.{HeapWords, IsHeap, graph_in}
 use Rattle.gc_copy.specs.Twins.{IsTwin}
 use Rattle.gc_copy.proofs.Public.{value_at}

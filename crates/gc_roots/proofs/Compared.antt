@@ -7,8 +7,8 @@ use Rattle.std.proofs.lemmas.Grind.{common_steps}
 use Rattle.gc_graph.specs.Correspond.{paired}
 use Rattle.gc_words.specs.Marks.{is_marked}
 use Rattle.gc_words.specs.Word.{words_correspond}
-use Rattle.gc_along.specs.Watch.{RootsCorrespond}
-use Rattle.gc_along.proofs.Public.{all_alike}
+use Rattle.gc_monitor.specs.Watch.{RootsCorrespond}
+use Rattle.gc_monitor.proofs.Public.{all_alike}
 use Rattle.gc_roots.specs.Internal.Rows.{HasLookedAtAll}
 use Rattle.gc_roots.specs.Looks.{LookRow, HasLooked}
 

@@ -7,10 +7,10 @@ use Rattle.std.proofs.lemmas.Bool.{cases_eq}
 use Rattle.std.proofs.lemmas.List.{length-set}
 use Rattle.gc_graph.specs.Slots.{roots_of}
 use Rattle.gc_graph.specs.Graph.{Value, Nil, Ref, Graph, root}
-use Rattle.gc_plan.specs.State.{Collection, State, replica_of}
-use Rattle.gc_plan.specs.Staying.{IsMissing, HasReplicaOf}
-use Rattle.gc_plan.specs.Steps.{root_target}
-use Rattle.gc_plan.proofs.Public.{HasReplica, roots_replicated, get_in}
+use Rattle.gc_model.specs.State.{Collection, State, replica_of}
+use Rattle.gc_model.specs.Staying.{IsMissing, HasReplicaOf}
+use Rattle.gc_model.specs.Steps.{root_target}
+use Rattle.gc_model.proofs.Public.{HasReplica, roots_replicated, get_in}
 use Rattle.gc_copy.specs.Twins.{IsTwin}
 use Rattle.gc_words.specs.Marks.{is_marked}
 use Rattle.gc_roots.specs.Looks.{LookRow, ComparesKnown, ComparesOnly}

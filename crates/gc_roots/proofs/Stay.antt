@@ -8,13 +8,13 @@ use Rattle.std.proofs.lemmas.Bool.{cond_both}
 use Rattle.gc_graph.specs.Graph.{Value, Nil, Num, Ref, Graph, lookup, field_of, root}
 use Rattle.gc_graph.specs.declared.command.Op.{Op}
 use Rattle.gc_words.specs.Word.{word_of}
-use Rattle.gc_plan.specs.State.{Replica, Collection, State, replica_of}
-use Rattle.gc_plan.specs.Steps.{mutate, with_log, write_replica, bring_value, if_room, apply_entry, apply_log, is_ready, passes_check, flip, collect, logged, log_at}
-use Rattle.gc_plan.specs.Staying.{root_written}
-use Rattle.gc_plan.specs.declared.step.Step.{Step}
-use Rattle.gc_plan.specs.declared.step.StepReply.{StepReply}
-use Rattle.gc_plan.specs.declared.step.StepReply.TheVariants.{Applied}
-use Rattle.gc_plan.proofs.Public.{place_written, root_kept}
+use Rattle.gc_model.specs.State.{Replica, Collection, State, replica_of}
+use Rattle.gc_model.specs.Steps.{mutate, with_log, write_replica, bring_value, if_room, apply_entry, apply_log, is_ready, passes_check, flip, collect, logged, log_at}
+use Rattle.gc_model.specs.Staying.{root_written}
+use Rattle.gc_model.specs.declared.step.Step.{Step}
+use Rattle.gc_model.specs.declared.step.StepReply.{StepReply}
+use Rattle.gc_model.specs.declared.step.StepReply.TheVariants.{Applied}
+use Rattle.gc_model.proofs.Public.{place_written, root_kept}
 use Rattle.gc_copy.specs.Twins.{IsTwin}
 use Rattle.gc_roots.specs.Twins.{KnowsTwin}
 

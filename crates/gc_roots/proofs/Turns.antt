@@ -8,12 +8,12 @@ use Rattle.std.proofs.lemmas.List.{length-map, length-replicate, drop_all, take-
 use Rattle.gc_graph.specs.Slots.{roots_of}
 use Rattle.gc_graph.specs.Graph.{Value, Nil, root}
 use Rattle.gc_words.specs.Word.{value_of, word_of}
-use Rattle.gc_plan.specs.State.{Collection, State, moved, new_graph}
-use Rattle.gc_plan.specs.Steps.{collect, root_target}
-use Rattle.gc_plan.specs.Staying.{HasReplicaOf}
-use Rattle.gc_plan.specs.declared.step.Step.TheVariants as steps
-use Rattle.gc_plan.specs.declared.step.StepReply.{StepReply}
-use Rattle.gc_plan.proofs.Public.{flip_nil, flip_count, all_replicated}
+use Rattle.gc_model.specs.State.{Collection, State, moved, new_graph}
+use Rattle.gc_model.specs.Steps.{collect, root_target}
+use Rattle.gc_model.specs.Staying.{HasReplicaOf}
+use Rattle.gc_model.specs.declared.step.Step.TheVariants as steps
+use Rattle.gc_model.specs.declared.step.StepReply.{StepReply}
+use Rattle.gc_model.proofs.Public.{flip_nil, flip_count, all_replicated}
 use Rattle.gc_heap.specs.Heap.{HeapWords}
 use Rattle.gc_copy.specs.Words.{CollectionWords, AreMoved, collection_in, open_state, new_root_words}
 use Rattle.gc_copy.proofs.Public.{moved_to, moved_first, all_moved}

@@ -7,12 +7,12 @@ use Rattle.gc_graph.specs.Slots.{roots_of}
 use Rattle.gc_graph.specs.Graph.{Nil, root}
 use Rattle.gc_graph.specs.declared.command.Op.{Op}
 use Rattle.gc_words.specs.Marks.{is_marked}
-use Rattle.gc_plan.specs.State.{Collection, State}
-use Rattle.gc_plan.specs.Steps.{mutate, collect, with_collection}
-use Rattle.gc_plan.specs.Staying.{root_written}
-use Rattle.gc_plan.specs.declared.step.Step.{Step}
-use Rattle.gc_plan.specs.declared.step.Step.TheVariants as steps
-use Rattle.gc_plan.proofs.Public.{root_kept, roots_counted, steps_stay}
+use Rattle.gc_model.specs.State.{Collection, State}
+use Rattle.gc_model.specs.Steps.{mutate, collect, with_collection}
+use Rattle.gc_model.specs.Staying.{root_written}
+use Rattle.gc_model.specs.declared.step.Step.{Step}
+use Rattle.gc_model.specs.declared.step.Step.TheVariants as steps
+use Rattle.gc_model.proofs.Public.{root_kept, roots_counted, steps_stay}
 use Rattle.gc_copy.specs.Twins.{IsTwin}
 use Rattle.gc_roots.specs.Twins.{RootRow, KnowsTwin, KeepsTwins, IsWritten, IsLooked, twin_at, begun}
 use Rattle.gc_roots.proofs.Stay.{mutate_stays, collect_stays}

@@ -3,7 +3,7 @@ use Rattle.std.specs.Prelude.{◌≡◌, ◌≢◌, ◌||◌, ℕ, zero, suc, na
 use Rattle.gc_graph.specs.Slots.{roots_of}
 use Rattle.gc_graph.specs.Graph.{Nil, root}
 use Rattle.gc_words.specs.Marks.{is_marked}
-use Rattle.gc_plan.specs.State.{Collection, State}
+use Rattle.gc_model.specs.State.{Collection, State}
 use Rattle.gc_copy.specs.Twins.{IsTwin}
 
 -- A word for each root; marks of extra roots whose words may be out of date; the extra roots from `front` on were not looked at; those from

@@ -8,12 +8,12 @@ ghost use Rattle.gc_graph.specs.Graph.{Object};
 ghost use Rattle.gc_graph.specs.Limits.{largest_space};
 ghost use Rattle.gc_words.specs.Word.{is_value, value_of, word_of, words_correspond};
 ghost use Rattle.gc_heap.specs.Heap.{HeapWords, IsHeap, graph_in};
-ghost use Rattle.gc_plan.specs.Belonging.{Belongs, IsOpened};
+ghost use Rattle.gc_model.specs.Belonging.{Belongs, IsOpened};
 ghost use Rattle.gc_copy.specs.Twins.{IsTwin};
-ghost use Rattle.gc_plan.specs.State.{Collection, State, new_graph, pairs_of};
-ghost use Rattle.gc_plan.specs.Staying.{root_written};
-ghost use Rattle.gc_plan.specs.Steps.{mutate, collect, with_collection, root_target};
-ghost use Rattle.gc_plan.specs.declared.step.Step.{Step};
+ghost use Rattle.gc_model.specs.State.{Collection, State, new_graph, pairs_of};
+ghost use Rattle.gc_model.specs.Staying.{root_written};
+ghost use Rattle.gc_model.specs.Steps.{mutate, collect, with_collection, root_target};
+ghost use Rattle.gc_model.specs.declared.step.Step.{Step};
 ghost use Rattle.gc_roots.specs.Twins.{RootRow, AskForLooks, AsksForLook, KeepsTwins, IsWritten, IsDone, SlotsAreTwins, begun, looks_left};
 ghost use Rattle.gc_roots.specs.Looks.{LookRow, ComparesKnown, HasLooked};
 

@@ -3,15 +3,15 @@
 ghost use Rattle.std.specs.Prelude.{◌≡◌, ◌≢◌, ◌↔◌, ◌<◌, ◌≤◌, ◌*◌, ◌+◌, ◌++◌, ◌-◌, ℕ, List, length, max, replicate, slice_index, slice_set, true, false, IsTrue, IsFalse, IfOk};
 ghost use Rattle.gc_words.specs.Marks.{is_marked};
 ghost use Rattle.gc_words.specs.Word.{words_correspond};
-ghost use Rattle.gc_along.specs.Claims.{Accepts};
-ghost use Rattle.gc_along.specs.Origins.{pairs_in};
-ghost use Rattle.gc_along.specs.Outline.{outline_in};
-ghost use Rattle.gc_along.specs.Tables.{IsKept};
+ghost use Rattle.gc_monitor.specs.Claims.{Accepts};
+ghost use Rattle.gc_monitor.specs.Origins.{pairs_in};
+ghost use Rattle.gc_monitor.specs.Outline.{outline_in};
+ghost use Rattle.gc_monitor.specs.Tables.{RowsAgree};
 ghost use Rattle.gc_roots.specs.Looks.{LookRow, HasLooked, IsCompared, IsTold, ComparesOnly};
 ghost use Rattle.gc_roots.specs.Internal.Rows.{HasLookedAtAll};
 
 use crate::due::DueRow;
-use gc_along::{Outline, Standing, Watcher};
+use gc_monitor::{Outline, Monitor, Watcher};
 use gc_graph::NoMemory;
 use std::alloc::Global;
 use std::marker::Model;
@@ -70,7 +70,7 @@ impl RootLooks {
     }
 
     /// Compares extra root `k`, which holds this word, with its twin, whoever has written that.
-    pub fn look(&mut self, standing: &Standing, k: u32, word: u64, twin: u64)
+    pub fn look(&mut self, standing: &Monitor, k: u32, word: u64, twin: u64)
         ensures looked { (slots : ℕ) (olds news : List ℕ) → slots + k < length news → slice_index olds (slots + k) ≡ word
             → HasLooked (pairs_in standing.now.origins) slots olds news self.old
             → HasLooked (pairs_in standing.now.origins) slots olds (slice_set news (slots + k) twin) self.new }
@@ -106,10 +106,10 @@ impl RootLooks {
 
     /// Returns whether the checker accepts these outlines by what it has compared of the extra roots. Reads the slots, of which there are so many,
     /// and no other root.
-    fn says_yes(&self, standing: &Standing, old: Outline, new: Outline, slots: usize) -> bool
+    fn says_yes(&self, standing: &Monitor, old: Outline, new: Outline, slots: usize) -> bool
         ensures yes { IsTrue result → HasLooked (pairs_in standing.now.origins) slots (outline_in old.entry).roots (outline_in new.entry).roots self.now
             → Accepts standing.now (outline_in old.entry) (outline_in new.entry) }
-        ensures kept { IsTrue result → IsKept standing.now }
+        ensures agree { IsTrue result → RowsAgree standing.now }
     {
         if !standing.has_seen_all(old, new) {
             return false;
@@ -133,20 +133,20 @@ impl RootLooks {
 /// A standing checker with its row of the extra roots, beside a heap with so many slots.
 #[derive(Clone, Copy, Debug)]
 pub struct RootWatcher<'a> {
-    pub standing: &'a Standing,
+    pub standing: &'a Monitor,
     pub looks: &'a RootLooks,
     pub slots: usize,
 }
 
 impl Watcher for RootWatcher<'_> {
-    ghost use Rattle.gc_along.specs.Claims.{Accepts};
-    ghost use Rattle.gc_along.specs.Origins.{pairs_in};
-    ghost use Rattle.gc_along.specs.Tables.{IsKept};
+    ghost use Rattle.gc_monitor.specs.Claims.{Accepts};
+    ghost use Rattle.gc_monitor.specs.Origins.{pairs_in};
+    ghost use Rattle.gc_monitor.specs.Tables.{RowsAgree};
     ghost use Rattle.gc_roots.specs.Looks.{HasLooked};
 
     // It was told of each extra root that was written since it looked at it.
     ghost accepted = { λ w old new. HasLooked (pairs_in w.standing.now.origins) w.slots old.roots new.roots w.looks.now
-        → IsKept w.standing.now × Accepts w.standing.now old new };
+        → RowsAgree w.standing.now × Accepts w.standing.now old new };
 
     ghost sure = { λ w. Accepts w.standing.now };
 
@@ -157,7 +157,7 @@ impl Watcher for RootWatcher<'_> {
 }
 
 /// Returns whether the first words of both rows stand for each other.
-fn slots_are_alike(standing: &Standing, old: &[u64], new: &[u64], slots: usize) -> bool
+fn slots_are_alike(standing: &Monitor, old: &[u64], new: &[u64], slots: usize) -> bool
     requires old { slots ≤ length old.now }
     requires new { slots ≤ length new.now }
     ensures all { IsTrue result → (p : ℕ) → p < slots → words_correspond (pairs_in standing.now.origins) (slice_index old.now p) (slice_index new.now p) ≡ true }

@@ -4,11 +4,11 @@ ghost use Rattle.std.specs.Prelude.{◌≡◌, ◌≢◌, ◌⊎◌, ◌<◌, �
 ghost use Rattle.gc_graph.specs.Slots.{roots_of};
 ghost use Rattle.gc_words.specs.Image.{is_start};
 ghost use Rattle.gc_heap.specs.Heap.{HeapWords, IsHeap, graph_in};
-ghost use Rattle.gc_plan.specs.State.{State, pairs_of};
-ghost use Rattle.gc_plan.specs.Staying.{IsMissing};
-ghost use Rattle.gc_plan.specs.Steps.{collect, is_ready, root_target};
-ghost use Rattle.gc_plan.specs.declared.step.Step.{Step};
-ghost use Rattle.gc_plan.specs.declared.step.StepReply.{StepReply};
+ghost use Rattle.gc_model.specs.State.{State, pairs_of};
+ghost use Rattle.gc_model.specs.Staying.{IsMissing};
+ghost use Rattle.gc_model.specs.Steps.{collect, is_ready, root_target};
+ghost use Rattle.gc_model.specs.declared.step.Step.{Step};
+ghost use Rattle.gc_model.specs.declared.step.StepReply.{StepReply};
 ghost use Rattle.gc_copy.specs.Words.{AreMoved, BelongsTo, LinksNothing, TellsMoves, collection_in, idle_state, open_state, new_root_words};
 ghost use Rattle.gc_roots.specs.Twins.{RootRow, KeepsTwins, IsWritten, IsLooked, IsDone, IsNextRoot, LooksOnce, SlotsAreTwins, begun, is_due_root, looks_left};
 

@@ -7,9 +7,9 @@ use Rattle.std.proofs.lemmas.List.{length-map}
 use Rattle.std.specs.declared.vec.Vec.{Vec}
 use Rattle.std.specs.declared.alloc.Global.{Global}
 use Rattle.gc_graph.specs.declared.command.Op.{Op}
-use Rattle.gc_plan.specs.declared.step.Step.{Step}
-use Rattle.gc_plan.specs.declared.event.Event.{Event}
-use Rattle.gc_plan.specs.declared.event.Event.TheVariants.{Mutate, Collect}
+use Rattle.gc_model.specs.declared.step.Step.{Step}
+use Rattle.gc_model.specs.declared.event.Event.{Event}
+use Rattle.gc_model.specs.declared.event.Event.TheVariants.{Mutate, Collect}
 use Rattle.gc_world.specs.declared.entry.Entry.{Entry}
 use Rattle.gc_world.specs.World.{Past}
 use Rattle.gc_shared.specs.declared.seat.Receipt.{Receipt}
@@ -18,7 +18,7 @@ use Rattle.gc_shared.specs.Closing.{receipts_of, IsWhole}
 use Rattle.gc_shared.specs.Internal.Marks.{AgreeByNumber}
 use Rattle.gc_shared.proofs.SeatNumbers.{agree_by_number}
 use Rattle.gc_shared.specs.Scripts.{HasRunScripts, IsUsefulStep, script_at, is_collect, steps_of}
-use Rattle.gc_plan.specs.Runs.{command_by, commands_of}
+use Rattle.gc_model.specs.Runs.{command_by, commands_of}
 use Rattle.gc_world.specs.History.{events_of}
 use Rattle.gc_shared.specs.Internal.Scripts.{HaveEnded}
 use Rattle.gc_shared.proofs.SeatEntries.{entry_on, selected, receipts_at, played_all, useful_all}

@@ -3,8 +3,8 @@ use Rattle.std.proofs.lemmas.Grind.{common_steps}
 use Rattle.std.proofs.Common.{◌≡◌, ℕ, ◌+◌, ◌<◌, List, length, take, map, get_or, arith}
 use Rattle.std.proofs.lemmas.List.{take_more, map-append}
 use Rattle.gc_graph.specs.declared.command.Op.{Op}
-use Rattle.gc_plan.specs.declared.event.Event.TheVariants.{Mutate}
-use Rattle.gc_plan.specs.declared.event.Answer.{Answer}
+use Rattle.gc_model.specs.declared.event.Event.TheVariants.{Mutate}
+use Rattle.gc_model.specs.declared.event.Answer.{Answer}
 use Rattle.gc_shared.specs.declared.seat.Receipt.{Receipt}
 use Rattle.gc_shared.specs.Seats.{SeatValue, AddsReceipt}
 use Rattle.gc_shared.specs.Internal.Scripts.{events_on}

@@ -4,17 +4,17 @@ use Rattle.gc_graph.specs.Slots.{SlotName, own_slot}
 use Rattle.gc_graph.specs.declared.command.Op.TheVariants.{Nil, Look}
 use Rattle.gc_graph.specs.declared.reply.Reply.TheVariants.{Done, Saw}
 use Rattle.gc_graph.specs.declared.reply.View.TheVariants as views
-use Rattle.gc_plan.specs.declared.step.Step.TheVariants.{Begin}
-use Rattle.gc_plan.specs.declared.step.StepReply.TheVariants.{Begun}
+use Rattle.gc_model.specs.declared.step.Step.TheVariants.{Begin}
+use Rattle.gc_model.specs.declared.step.StepReply.TheVariants.{Begun}
 use Rattle.gc_world.specs.declared.entry.Entry.{Entry}
-use Rattle.gc_plan.specs.declared.event.Event.TheVariants.{Mutate, Collect}
-use Rattle.gc_plan.specs.declared.event.Answer.TheVariants.{Mutator, Useful}
+use Rattle.gc_model.specs.declared.event.Event.TheVariants.{Mutate, Collect}
+use Rattle.gc_model.specs.declared.event.Answer.TheVariants.{Mutator, Useful}
 use Rattle.gc_world.specs.World.{entry_of}
 use Rattle.gc_shared.specs.declared.seat.Receipt.{Receipt}
 use Rattle.gc_shared.specs.Seats.{SeatValue, receipt}
 use Rattle.gc_shared.specs.Receipts.{ReceiptsAgree}
 use Rattle.gc_shared.specs.Closing.{IsTorn, IsExtra}
-use Rattle.gc_plan.specs.Runs.{commands_of}
+use Rattle.gc_model.specs.Runs.{commands_of}
 use Rattle.gc_world.specs.History.{events_of}
 use Rattle.gc_shared.specs.Scripts.{steps_of}
 

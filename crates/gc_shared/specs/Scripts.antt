@@ -4,11 +4,11 @@ use Rattle.std.specs.declared.vec.Vec.{Vec}
 use Rattle.std.specs.declared.alloc.Global.{Global}
 use Rattle.gc_graph.specs.declared.command.Op.{Op}
 use Rattle.gc_world.specs.declared.entry.Entry.{Entry}
-use Rattle.gc_plan.specs.declared.event.Event.{Event}
-use Rattle.gc_plan.specs.declared.event.Event.TheVariants.{Mutate, Collect}
-use Rattle.gc_plan.specs.declared.event.Answer.{Answer}
-use Rattle.gc_plan.specs.declared.event.Answer.TheVariants.{Useful}
-use Rattle.gc_plan.specs.Runs.{commands_of}
+use Rattle.gc_model.specs.declared.event.Event.{Event}
+use Rattle.gc_model.specs.declared.event.Event.TheVariants.{Mutate, Collect}
+use Rattle.gc_model.specs.declared.event.Answer.{Answer}
+use Rattle.gc_model.specs.declared.event.Answer.TheVariants.{Useful}
+use Rattle.gc_model.specs.Runs.{commands_of}
 use Rattle.gc_world.specs.History.{events_of}
 use Rattle.gc_world.specs.World.{Past}
 

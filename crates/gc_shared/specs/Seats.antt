@@ -1,10 +1,10 @@
 -- Openings, their seats, and the receipt that a call adds to a seat.
 use Rattle.std.specs.Prelude.{◌≡◌, ℕ, ◌+◌, ◌≤◌, Bool, nat_lt, List, [], ◌∷◌, ◌++◌, length, ⊤}
 use Rattle.gc_graph.specs.Limits.{most_words}
-use Rattle.gc_plan.specs.declared.step.Step.{Step}
-use Rattle.gc_plan.specs.declared.step.Step.TheVariants.{BeginSized, Apply}
-use Rattle.gc_plan.specs.declared.event.Event.{Event}
-use Rattle.gc_plan.specs.declared.event.Answer.{Answer}
+use Rattle.gc_model.specs.declared.step.Step.{Step}
+use Rattle.gc_model.specs.declared.step.Step.TheVariants.{BeginSized, Apply}
+use Rattle.gc_model.specs.declared.event.Event.{Event}
+use Rattle.gc_model.specs.declared.event.Answer.{Answer}
 use Rattle.gc_world.specs.declared.entry.Entry.{Entry}
 use Rattle.gc_world.specs.History.{IsHistory}
 use Rattle.gc_world.specs.World.{entry_of}

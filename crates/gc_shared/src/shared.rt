@@ -40,9 +40,9 @@ impl Shared {
     ghost use Rattle.std.specs.Prelude.{IfOk, IfErr, OnErr, Err};
     ghost use Rattle.std.specs.List.{range_with_len};
     ghost use Rattle.gc_graph.specs.Limits.{most_words, most_mutators};
-    ghost use Rattle.gc_plan.specs.Runs.{IsStepWithin};
-    ghost use Rattle.gc_plan.specs.declared.event.Event.{Event};
-    ghost use Rattle.gc_plan.specs.declared.event.Answer.{Answer};
+    ghost use Rattle.gc_model.specs.Runs.{IsStepWithin};
+    ghost use Rattle.gc_model.specs.declared.event.Event.{Event};
+    ghost use Rattle.gc_model.specs.declared.event.Answer.{Answer};
     ghost use Rattle.gc_shared.specs.Seats.{opened_with, fresh, IsPossible, IsPossibleIn, AddsReceipt, HasSize, IsApply};
     ghost use Rattle.gc_shared.specs.Closing.{IsWhole, IsFirstCloseFault};
 

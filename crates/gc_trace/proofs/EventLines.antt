@@ -10,11 +10,11 @@ use Rattle.gc_graph.specs.Slots.{SlotName}
 use Rattle.gc_graph.specs.Range.{IsSlot, IsCommand}
 use Rattle.gc_graph.specs.declared.command.Op.{Op}
 use Rattle.gc_graph.specs.Limits.{most_words}
-use Rattle.gc_plan.specs.Runs.{IsStepWithin}
+use Rattle.gc_model.specs.Runs.{IsStepWithin}
 use Rattle.gc_text.proofs.Public.{HasNo-name, HasNo-decimal, HasNo-lacks, lacks, AllHaveNo, HasNo-joined, tokens_of, tokens_of-joined}
-use Rattle.gc_plan.specs.declared.step.Step.{Step}
-use Rattle.gc_plan.specs.declared.event.Event.{Event}
-use Rattle.gc_plan.specs.declared.event.Event.TheVariants.{Mutate, Collect}
+use Rattle.gc_model.specs.declared.step.Step.{Step}
+use Rattle.gc_model.specs.declared.event.Event.{Event}
+use Rattle.gc_model.specs.declared.event.Event.TheVariants.{Mutate, Collect}
 use Rattle.gc_trace.specs.Grammar.{slot, op_tokens, step_tokens, event_tokens, event_line, HasLine}
 
 HasNo-slot : (c : ℕ) (s : SlotName) → c < 48 → IsSlot s → HasNo c (slot s)

@@ -9,16 +9,16 @@ use Rattle.gc_cert.specs.Grammar.{CertifiedPair}
 use Rattle.gc_cert.specs.Counts.{HasCounts}
 use Rattle.gc_cert.specs.Views.{pair_in}
 use Rattle.gc_cert.specs.declared.image.PairFile.{PairFile}
-use Rattle.gc_plan.specs.State.{State, Collection}
-use Rattle.gc_plan.specs.Runs.{HasSizesWithin, after, answer}
-use Rattle.gc_plan.specs.Belonging.{IsState}
-use Rattle.gc_plan.specs.Passing.{HasFewPairs}
-use Rattle.gc_plan.specs.declared.step.StepReply.{StepReply}
+use Rattle.gc_model.specs.State.{State, Collection}
+use Rattle.gc_model.specs.Runs.{HasSizesWithin, after, answer}
+use Rattle.gc_model.specs.Belonging.{IsState}
+use Rattle.gc_model.specs.Passing.{HasFewPairs}
+use Rattle.gc_model.specs.declared.step.StepReply.{StepReply}
 use Rattle.gc_collected.specs.Flip.{FlipsOnly, flip_pair, kept_after, IsCertified}
-use Rattle.gc_plan.specs.declared.event.Answer.TheVariants.{Collector}
-use Rattle.gc_plan.specs.declared.event.Event.{Event}
-use Rattle.gc_plan.specs.declared.event.Event.TheVariants.{Mutate, Collect}
-use Rattle.gc_plan.specs.Steps.{collect}
+use Rattle.gc_model.specs.declared.event.Answer.TheVariants.{Collector}
+use Rattle.gc_model.specs.declared.event.Event.{Event}
+use Rattle.gc_model.specs.declared.event.Event.TheVariants.{Mutate, Collect}
+use Rattle.gc_model.specs.Steps.{collect}
 use Rattle.gc_collected.specs.Performing.{flip_at}
 use Rattle.gc_trace.specs.Flips.{flips}
 

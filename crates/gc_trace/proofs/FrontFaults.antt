@@ -1,7 +1,7 @@
 -- Faults that a prefix of a text already shows.
 use Rattle.std.proofs.Common.{◌≡◌, ◌≢◌, ℕ, subst, List, ◌∷◌, ◌++◌, sym, ap, ◌∙◌}
 use Rattle.gc_text.specs.Lines.{newline, joined, HasNo}
-use Rattle.gc_plan.specs.declared.event.Event.{Event}
+use Rattle.gc_model.specs.declared.event.Event.{Event}
 use Rattle.gc_trace.specs.Grammar.{event_tokens, trace_heading, HasLine, IsHeading}
 use Rattle.gc_trace.specs.Faults.{HasNoHeading, BeginsWithNoEvent}
 use Rattle.gc_trace.proofs.Headings.{AreSmall, heading_injective, small_heading}

@@ -2,13 +2,13 @@
 use Rattle.std.proofs.lemmas.Grind.{common_steps}
 use Rattle.std.proofs.Common.{◌≡◌, ℕ, ◌≤◌, List, [], ◌∷◌, sym, ap, ◌∙◌, arith}
 use Rattle.std.specs.List.{AllByRecursion}
-use Rattle.gc_plan.specs.State.{State, opening_state}
+use Rattle.gc_model.specs.State.{State, opening_state}
 use Rattle.gc_graph.specs.Limits.{most_words}
-use Rattle.gc_plan.specs.Runs as runs
-use Rattle.gc_plan.specs.declared.step.Step.{Step}
+use Rattle.gc_model.specs.Runs as runs
+use Rattle.gc_model.specs.declared.step.Step.{Step}
 use Rattle.gc_world.specs.History.{events_of, answers_of, IsHistory}
 use Rattle.gc_world.specs.World.{Past, present}
-use Rattle.gc_plan.specs.declared.event.Event.{Event}
+use Rattle.gc_model.specs.declared.event.Event.{Event}
 use Rattle.gc_world.specs.declared.entry.Entry.{Entry}
 use Rattle.gc_trace.specs.Grammar.{Recording, least_version, least_trace, trace_text, HasLine, IsOf, IsTraceText}
 use Rattle.gc_trace.specs.Plays.{trace_opening, trace_answers, last_state}

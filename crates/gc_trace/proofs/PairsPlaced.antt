@@ -7,15 +7,15 @@ use Rattle.std.proofs.lemmas.Bool.{cond_both}
 use Rattle.std.proofs.lemmas.List.{length-map}
 use Rattle.std.proofs.lemmas.List.Sums.{sum_by-cons}
 use Rattle.gc_graph.specs.Graph.{Value, Object, Graph, lookup, field_of}
-use Rattle.gc_plan.specs.State.{Replica, Collection, State, replica_of, moved}
-use Rattle.gc_plan.specs.Steps.{logged, place_replica, with_replica, bring_value, bring_up_to_date, if_room, copy_root, scan, scan_replica, apply_entry, apply_log, flip, write_replica, step_in, step_idle, next_field}
-use Rattle.gc_plan.specs.Runs.{after, answer, answers}
-use Rattle.gc_plan.specs.declared.event.Event.{Event}
-use Rattle.gc_plan.specs.declared.event.Answer.{Answer}
-use Rattle.gc_plan.specs.declared.event.Answer.TheVariants.{Collector}
-use Rattle.gc_plan.specs.declared.step.Step.{Step}
-use Rattle.gc_plan.specs.declared.step.StepReply.{StepReply}
-use Rattle.gc_plan.specs.declared.step.StepReply.TheVariants.{Flipped}
+use Rattle.gc_model.specs.State.{Replica, Collection, State, replica_of, moved}
+use Rattle.gc_model.specs.Steps.{logged, place_replica, with_replica, bring_value, bring_up_to_date, if_room, copy_root, scan, scan_replica, apply_entry, apply_log, flip, write_replica, step_in, step_idle, next_field}
+use Rattle.gc_model.specs.Runs.{after, answer, answers}
+use Rattle.gc_model.specs.declared.event.Event.{Event}
+use Rattle.gc_model.specs.declared.event.Answer.{Answer}
+use Rattle.gc_model.specs.declared.event.Answer.TheVariants.{Collector}
+use Rattle.gc_model.specs.declared.step.Step.{Step}
+use Rattle.gc_model.specs.declared.step.StepReply.{StepReply}
+use Rattle.gc_model.specs.declared.step.StepReply.TheVariants.{Flipped}
 use Rattle.gc_world.specs.History.{IsHistory, answers_of}
 use Rattle.gc_world.specs.declared.entry.Entry.{Entry}
 

@@ -3,10 +3,10 @@ use Rattle.std.proofs.lemmas.Grind.{common_steps}
 use Rattle.std.proofs.Common.{◌≡◌, ℕ, ◌<◌, ◌^◌, List, [], ◌∷◌, ◌++◌, length, refl, sym, ap, ◌∙◌, subst, arith}
 use Rattle.std.proofs.lemmas.List.{append-nil}
 use Rattle.std.proofs.lemmas.List.Concat.{flat_map-append, flat_map-cons}
-use Rattle.gc_plan.specs.State.{State, opening_state, heap_end}
-use Rattle.gc_plan.specs.Runs.{after, answer, answers, state_after}
-use Rattle.gc_plan.specs.declared.event.Answer.{Answer}
-use Rattle.gc_plan.specs.declared.event.Event.{Event}
+use Rattle.gc_model.specs.State.{State, opening_state, heap_end}
+use Rattle.gc_model.specs.Runs.{after, answer, answers, state_after}
+use Rattle.gc_model.specs.declared.event.Answer.{Answer}
+use Rattle.gc_model.specs.declared.event.Event.{Event}
 use Rattle.gc_world.specs.History.{unmarked}
 use Rattle.gc_trace.specs.Replies.{reply_line, reply_text}
 use Rattle.gc_trace.specs.Report.{report_of}

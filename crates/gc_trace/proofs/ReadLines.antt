@@ -9,7 +9,7 @@ use Rattle.gc_text.specs.Reading.{Place, start, IsAt, HasTakenLine, NoneIsFirst}
 use Rattle.gc_text.specs.declared.read_fault.ReadFault.{ReadFault}
 use Rattle.gc_text.specs.declared.read_fault.ReadFault.TheVariants as reads
 use Rattle.gc_text.proofs.Public.{HasNo-name, HasNo-decimal, HasNo-joined, one_cut}
-use Rattle.gc_plan.specs.declared.event.Event.{Event}
+use Rattle.gc_model.specs.declared.event.Event.{Event}
 use Rattle.gc_trace.specs.Grammar.{Recording, trace_heading, event_tokens, event_line, IsHeading, HasLine, IsOf, IsRecording}
 use Rattle.gc_trace.specs.Internal.Headings.{first_line, second_line, IsVersion, AreWorldSizes}
 use Rattle.gc_trace.specs.Faults.{trace_limit, HasNoHeading, GoodBefore, HasStranger, HasBadLine, BeginsWithNoEvent, ReadingMayFail}

@@ -4,10 +4,10 @@ use Rattle.std.proofs.Common.{◌≡◌, ℕ, suc, ◌+◌, ◌<◌, ◌≤◌, 
 use Rattle.std.specs.List.{sum_by}
 use Rattle.std.proofs.lemmas.List.{length-append, length-map, map_more, take-map, length-take}
 use Rattle.std.proofs.lemmas.List.Sums.{sum_by-append, sum_by-cons, sum_by-take-le}
-use Rattle.gc_plan.specs.declared.event.Answer.{Answer}
-use Rattle.gc_plan.specs.State.{State, opening_state, heap_end}
-use Rattle.gc_plan.specs.Runs as runs
-use Rattle.gc_plan.specs.declared.event.Event.{Event}
+use Rattle.gc_model.specs.declared.event.Answer.{Answer}
+use Rattle.gc_model.specs.State.{State, opening_state, heap_end}
+use Rattle.gc_model.specs.Runs as runs
+use Rattle.gc_model.specs.declared.event.Event.{Event}
 use Rattle.gc_world.specs.History.{unmarked, answers_of, IsHistory}
 use Rattle.gc_world.specs.declared.entry.Entry.{Entry}
 use Rattle.gc_trace.specs.declared.report.Report.{Report}

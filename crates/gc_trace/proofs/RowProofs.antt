@@ -8,9 +8,9 @@ use Rattle.std.specs.Fmt.{digits}
 use Rattle.gc_text.specs.Lines.{newline, ended, joined}
 use Rattle.gc_graph.specs.Slots.{own_slot, shared_slot}
 use Rattle.gc_graph.specs.declared.command.Op.TheVariants as ops
-use Rattle.gc_plan.specs.declared.step.Step.TheVariants as steps
+use Rattle.gc_model.specs.declared.step.Step.TheVariants as steps
 use Rattle.gc_text.proofs.Public.{lacks, HasNo-lacks}
-use Rattle.gc_plan.specs.declared.event.Event.TheVariants.{Mutate, Collect}
+use Rattle.gc_model.specs.declared.event.Event.TheVariants.{Mutate, Collect}
 use Rattle.gc_trace.specs.Grammar.{Recording, slot, op_tokens, step_tokens, event_tokens, event_line, trace_heading, trace_text, IsHeading, HasLine, IsTraceText}
 use Rattle.gc_trace.specs.Faults.{trace_limit, HasNoHeading, BeginsWithNoEvent, IsTraceFaultOf}
 use Rattle.gc_trace.proofs.Headings.{AreSmall, heading_spelled, heading_injective, small_heading}

@@ -4,13 +4,13 @@ use Rattle.std.proofs.Common.{ℕ, ◌<◌, arith}
 use Rattle.gc_graph.specs.Limits.{most_words}
 use Rattle.gc_graph.specs.Range.{IsCommand}
 use Rattle.gc_graph.specs.declared.command.Op.{Op}
-use Rattle.gc_plan.specs.Belonging.{IsState}
-use Rattle.gc_plan.specs.State.{State}
-use Rattle.gc_plan.specs.Steps.{mutate, collect}
-use Rattle.gc_plan.specs.Runs.{IsEventWithin, IsStep, IsEvent, after}
-use Rattle.gc_plan.specs.declared.event.Event.{Event}
-use Rattle.gc_plan.specs.declared.step.Step.{Step}
-use Rattle.gc_plan.proofs.Public.{wider_step, wider_event}
+use Rattle.gc_model.specs.Belonging.{IsState}
+use Rattle.gc_model.specs.State.{State}
+use Rattle.gc_model.specs.Steps.{mutate, collect}
+use Rattle.gc_model.specs.Runs.{IsEventWithin, IsStep, IsEvent, after}
+use Rattle.gc_model.specs.declared.event.Event.{Event}
+use Rattle.gc_model.specs.declared.step.Step.{Step}
+use Rattle.gc_model.proofs.Public.{wider_step, wider_event}
 
 pub heap_event : (mutators : ℕ) (event : Event) → IsEventWithin most_words mutators event → IsEvent mutators event
 heap_event mutators event within = wider_event most_words mutators event (omega arith) within

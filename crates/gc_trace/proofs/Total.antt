@@ -13,13 +13,13 @@ use Rattle.gc_graph.specs.Limits.{most_words, most_mutators}
 use Rattle.gc_graph.specs.Range.{IsCommand}
 use Rattle.gc_graph.specs.declared.command.Op.{Op}
 use Rattle.gc_graph.specs.declared.command.Op.TheVariants as ops
-use Rattle.gc_plan.specs.Runs.{IsStepWithin}
+use Rattle.gc_model.specs.Runs.{IsStepWithin}
 use Rattle.gc_graph.proofs.Public.{all_push}
 use Rattle.gc_text.proofs.Public.{cut}
-use Rattle.gc_plan.specs.declared.step.Step.{Step}
-use Rattle.gc_plan.specs.declared.step.Step.TheVariants as steps
-use Rattle.gc_plan.specs.declared.event.Event.{Event}
-use Rattle.gc_plan.specs.declared.event.Event.TheVariants.{Mutate, Collect}
+use Rattle.gc_model.specs.declared.step.Step.{Step}
+use Rattle.gc_model.specs.declared.step.Step.TheVariants as steps
+use Rattle.gc_model.specs.declared.event.Event.{Event}
+use Rattle.gc_model.specs.declared.event.Event.TheVariants.{Mutate, Collect}
 use Rattle.gc_trace.specs.Grammar.{Recording, event_tokens, event_line, trace_heading, trace_text, newest, IsHeading, HasLine, IsOf, IsTraceText, version_of}
 use Rattle.gc_trace.specs.Faults.{trace_limit, GoodBefore, HasNoHeading, HasBadLine, HasStranger, IsTraceFaultOf, IsReadAsTrace}
 use Rattle.gc_trace.specs.declared.fault.TraceFault.{TraceFault}

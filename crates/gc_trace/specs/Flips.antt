@@ -1,10 +1,10 @@
 -- The flips of a trace's run, and the pairs that they keep.
 use Rattle.std.specs.Prelude.{ℕ, ◌-◌, List, [], ◌∷◌, ◌++◌, Option, option_to_list, slice_get}
 use Rattle.gc_cert.specs.Grammar.{CertifiedPair}
-use Rattle.gc_plan.specs.State.{State}
-use Rattle.gc_plan.specs.Runs.{after}
+use Rattle.gc_model.specs.State.{State}
+use Rattle.gc_model.specs.Runs.{after}
 use Rattle.gc_collected.specs.Performing.{flip_at}
-use Rattle.gc_plan.specs.declared.event.Event.{Event}
+use Rattle.gc_model.specs.declared.event.Event.{Event}
 use Rattle.gc_trace.specs.Grammar.{Recording}
 use Rattle.gc_trace.specs.Plays.{trace_opening}
 

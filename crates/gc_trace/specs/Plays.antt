@@ -1,8 +1,8 @@
 -- The trace that a player reads, its run and its report.
 use Rattle.std.specs.Prelude.{ℕ, List, Option, IfSome}
-use Rattle.gc_plan.specs.State.{State, opening_state}
-use Rattle.gc_plan.specs.Runs as runs
-use Rattle.gc_plan.specs.declared.event.Answer.{Answer}
+use Rattle.gc_model.specs.State.{State, opening_state}
+use Rattle.gc_model.specs.Runs as runs
+use Rattle.gc_model.specs.declared.event.Answer.{Answer}
 use Rattle.gc_trace.specs.Grammar.{Recording, IsRecording}
 use Rattle.gc_trace.specs.Faults.{IsReadAsTrace}
 use Rattle.gc_trace.specs.Report.{report_of}

@@ -4,10 +4,10 @@ use Rattle.std.specs.List.{flat_map, sum_by, zip}
 use Rattle.std.specs.Fmt.{decimal}
 use Rattle.gc_text.specs.Lines.{line}
 use Rattle.gc_graph.specs.declared.reply.Reply.TheVariants as replies
-use Rattle.gc_plan.specs.declared.event.Answer.{Answer}
-use Rattle.gc_plan.specs.declared.event.Answer.TheVariants.{Mutator, Collector}
-use Rattle.gc_plan.specs.State.{State, heap_end}
-use Rattle.gc_plan.specs.declared.step.StepReply.TheVariants as steps
+use Rattle.gc_model.specs.declared.event.Answer.{Answer}
+use Rattle.gc_model.specs.declared.event.Answer.TheVariants.{Mutator, Collector}
+use Rattle.gc_model.specs.State.{State, heap_end}
+use Rattle.gc_model.specs.declared.step.StepReply.TheVariants as steps
 use Rattle.gc_trace.specs.declared.report.Report.{Report}
 
 -- ---- the counts

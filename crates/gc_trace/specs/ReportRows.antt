@@ -2,11 +2,11 @@
 use Rattle.std.specs.Prelude.{◌≡◌, List, [], ◌∷◌, codes}
 use Rattle.gc_graph.specs.Slots.{own_slot}
 use Rattle.gc_graph.specs.declared.command.Op.TheVariants as ops
-use Rattle.gc_plan.specs.Runs.{answers, state_after}
-use Rattle.gc_plan.specs.declared.event.Event.{Event}
-use Rattle.gc_plan.specs.declared.event.Event.TheVariants.{Mutate, Collect}
-use Rattle.gc_plan.specs.State.{opening_state}
-use Rattle.gc_plan.specs.declared.step.Step.TheVariants as steps
+use Rattle.gc_model.specs.Runs.{answers, state_after}
+use Rattle.gc_model.specs.declared.event.Event.{Event}
+use Rattle.gc_model.specs.declared.event.Event.TheVariants.{Mutate, Collect}
+use Rattle.gc_model.specs.State.{opening_state}
+use Rattle.gc_model.specs.declared.step.Step.TheVariants as steps
 use Rattle.gc_trace.specs.Report.{report_of, report_text}
 
 -- one of two objects survives the collection, so that a third one fits

@@ -4,13 +4,13 @@ use Rattle.gc_graph.specs.Slots.{own_slot, shared_slot}
 use Rattle.gc_graph.specs.declared.command.Op.TheVariants as ops
 use Rattle.gc_graph.specs.declared.reply.Reply.TheVariants as replies
 use Rattle.gc_graph.specs.declared.reply.View.TheVariants as views
-use Rattle.gc_plan.specs.declared.event.Answer.TheVariants.{Mutator, Collector}
-use Rattle.gc_plan.specs.declared.step.Step.TheVariants as steps
-use Rattle.gc_plan.specs.declared.step.StepReply.TheVariants as step_replies
-use Rattle.gc_plan.specs.State.{opening_state}
-use Rattle.gc_plan.specs.Runs.{answers}
-use Rattle.gc_plan.specs.declared.event.Event.{Event}
-use Rattle.gc_plan.specs.declared.event.Event.TheVariants.{Mutate, Collect}
+use Rattle.gc_model.specs.declared.event.Answer.TheVariants.{Mutator, Collector}
+use Rattle.gc_model.specs.declared.step.Step.TheVariants as steps
+use Rattle.gc_model.specs.declared.step.StepReply.TheVariants as step_replies
+use Rattle.gc_model.specs.State.{opening_state}
+use Rattle.gc_model.specs.Runs.{answers}
+use Rattle.gc_model.specs.declared.event.Event.{Event}
+use Rattle.gc_model.specs.declared.event.Event.TheVariants.{Mutate, Collect}
 use Rattle.gc_trace.specs.Grammar.{Recording, trace_text, least_trace}
 use Rattle.gc_trace.specs.Faults.{IsReadAsTrace, IsTraceFaultOf}
 use Rattle.gc_trace.specs.Replies.{reply_text}

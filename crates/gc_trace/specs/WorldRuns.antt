@@ -1,11 +1,11 @@
 -- What the events of a trace do to a world.
 use Rattle.std.specs.Prelude.{◌≡◌, [], ◌∷◌, ◌++◌}
-use Rattle.gc_plan.specs.Runs.{after}
+use Rattle.gc_model.specs.Runs.{after}
 use Rattle.gc_collected.specs.Performing.{kept_with}
 use Rattle.gc_collected.specs.declared.flip.Keep.TheVariants.{Pair}
 use Rattle.gc_world.specs.History.{events_of}
 use Rattle.gc_world.specs.World.{Past, present}
-use Rattle.gc_plan.specs.declared.event.Event.{Event}
+use Rattle.gc_model.specs.declared.event.Event.{Event}
 use Rattle.gc_trace.specs.Grammar.{Recording}
 
 -- this event happened in the world, and nothing else did

@@ -4,7 +4,7 @@ ghost use Rattle.gc_trace.specs.Grammar.{HasLine, IsOf, newest};
 use crate::fault::TraceFault;
 use crate::line_kinds::{EventLine, FirstLine, SecondLine};
 use gc_graph::{MOST_WORDS, Source};
-use gc_plan::Event;
+use gc_model::Event;
 use gc_text::Lines;
 use std::alloc::Global;
 use std::io::Read;
@@ -37,7 +37,7 @@ pub struct EventReader {
 impl EventReader {
     ghost use Rattle.std.specs.Prelude.{◌≡◌, ◌≤◌, ◌+◌, ◌∷◌, ◌++◌, ◌↔◌, ℕ, List, [], true, false, drop, IfOk, IfSome, MatchOption, MatchResult, Err, Some};
     ghost use Rattle.gc_graph.specs.Streams.{bytes_left, source_failed};
-    ghost use Rattle.gc_plan.specs.declared.event.Event.{Event};
+    ghost use Rattle.gc_model.specs.declared.event.Event.{Event};
     ghost use Rattle.gc_trace.specs.Grammar.{HasLine, IsOf};
     ghost use Rattle.gc_trace.specs.Faults.{trace_limit, IsReadAsTrace, ReadingMayFail};
     ghost use Rattle.gc_trace.specs.Internal.Reading.{IsReadingTrace, HasRead, read_so_far};

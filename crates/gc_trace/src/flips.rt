@@ -3,8 +3,8 @@ ghost use Rattle.std.specs.Option.{option_map};
 ghost use Rattle.gc_graph.specs.Limits.{most_words, most_mutators};
 ghost use Rattle.gc_cert.specs.Counts.{HasCounts};
 ghost use Rattle.gc_cert.specs.Views.{pair_in};
-ghost use Rattle.gc_plan.specs.Belonging.{IsState};
-ghost use Rattle.gc_plan.specs.Runs.{IsEventWithin, HasSizesWithin, after};
+ghost use Rattle.gc_model.specs.Belonging.{IsState};
+ghost use Rattle.gc_model.specs.Runs.{IsEventWithin, HasSizesWithin, after};
 ghost use Rattle.gc_collected.specs.Performing.{flip_at};
 ghost use Rattle.gc_trace.specs.Flips.{nth_flip};
 ghost use Rattle.gc_trace.specs.Grammar.{IsRecording};
@@ -15,7 +15,7 @@ use gc_cert::PairFile;
 use gc_check::Sequential;
 use gc_collected::{CollectedHeap, Keep};
 use gc_graph::NoMemory;
-use gc_plan::{Event, scans_and_pairs_are_bounded, states_are_kept};
+use gc_model::{Event, scans_and_pairs_are_bounded, states_stay};
 use std::alloc::Global;
 
 /// Performs the event. If it flips, returns the pair of the flip.
@@ -34,7 +34,7 @@ fn flip_in(heap: &mut CollectedHeap, event: &Event) -> Result<Option<PairFile>, 
     ensures taken { OnOk result (heap.new.beside.pair ≡ None) }
     ensures mutators { heap.new.core.mutators ≡ heap.old.core.mutators }
 {
-    states_are_kept();
+    states_stay();
     scans_and_pairs_are_bounded();
     let Ok(_) = heap.perform(&Sequential, event, Keep::Pair) else {
         return Err(NoMemory);
@@ -49,7 +49,7 @@ pub fn nth_flip(alloc: Global, trace: &Trace, n: u32) -> Result<Option<PairFile>
     ensures flip { IfOk result (λ found. option_map pair_in found ≡ nth_flip n (recording trace.now)) }
     ensures counts { IfOk result (λ found. IfSome found (λ file. HasCounts (pair_in file))) }
 {
-    states_are_kept();
+    states_stay();
     let mut heap = CollectedHeap::open(alloc, trace.size, trace.mutators)?;
     let mut before = n - 1;
     for event in &trace.events {

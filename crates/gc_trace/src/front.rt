@@ -3,14 +3,14 @@ ghost use Rattle.gc_graph.specs.Limits.{most_words};
 ghost use Rattle.gc_text.specs.Lines.{space, newline, joined};
 ghost use Rattle.gc_text.specs.Reading.{NoneIsFirst};
 ghost use Rattle.gc_graph.specs.Range.{IsSlot, IsCommand};
-ghost use Rattle.gc_plan.specs.Runs.{IsStepWithin};
+ghost use Rattle.gc_model.specs.Runs.{IsStepWithin};
 ghost use Rattle.gc_trace.specs.Grammar.{slot, op_tokens, step_tokens, op_version, step_version, event_tokens, HasLine};
 ghost use Rattle.gc_trace.specs.Internal.Headings.{first_line, second_line, IsVersion, AreWorldSizes};
 ghost use Rattle.gc_trace.specs.Internal.Fronts.{spaced, FindsToken, FindsTokens};
 
 use crate::trace::{RAW, SIZED};
 use gc_graph::{MOST_MUTATORS, MOST_WORDS, Number, Op, Slot};
-use gc_plan::{Event, Step};
+use gc_model::{Event, Step};
 use gc_text::Front;
 
 /// The newest version of the text.

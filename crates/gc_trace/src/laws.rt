@@ -3,14 +3,14 @@ ghost use Rattle.std.specs.List.{AllByRecursion};
 ghost use Rattle.gc_graph.specs.Range.{IsCommand};
 ghost use Rattle.gc_world.specs.History.{IsHistory, answers_of, state_after, events_of};
 ghost use Rattle.gc_world.specs.declared.entry.Entry.{Entry};
-ghost use Rattle.gc_plan.specs.declared.event.Event.{Event};
+ghost use Rattle.gc_model.specs.declared.event.Event.{Event};
 ghost use Rattle.gc_trace.specs.Grammar.{Recording, IsTraceText, IsOf, trace_text, least_trace};
 ghost use Rattle.gc_trace.specs.Faults.{trace_limit, IsTraceFaultOf, IsReadAsTrace};
 ghost use Rattle.gc_trace.specs.Plays.{trace_answers};
 ghost use Rattle.gc_trace.specs.Rows.{TextRows, SizedRows, RawRows, LineRows};
 ghost use Rattle.gc_trace.specs.Report.{report_of};
 ghost use Rattle.gc_trace.specs.ReportRows.{ReportRows};
-ghost use Rattle.gc_plan.specs.Runs.{commands_of};
+ghost use Rattle.gc_model.specs.Runs.{commands_of};
 ghost use Rattle.gc_trace.specs.Scripts.{scripts};
 ghost use Rattle.gc_trace.specs.declared.fault.TraceFault.{TraceFault};
 

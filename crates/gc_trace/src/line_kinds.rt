@@ -4,7 +4,7 @@ ghost use Rattle.gc_trace.specs.Grammar.{event_tokens, HasLine};
 ghost use Rattle.gc_trace.specs.Internal.Headings.{first_line, second_line, IsVersion, AreWorldSizes};
 
 use crate::front::{line, sizes_line, version_line};
-use gc_plan::Event;
+use gc_model::Event;
 use gc_text::{Front, LineKind};
 
 /// The first line, with the version of the text.

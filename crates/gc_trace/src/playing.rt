@@ -1,10 +1,10 @@
 ghost use Rattle.std.specs.Prelude.{◌≡◌, ◌≤◌, ◌∷◌, ◌++◌, ◌↔◌, [], List, ℕ, true, false, IfSome, IfOk, IfErr, OnOk, Err};
 ghost use Rattle.gc_graph.specs.Limits.{most_words, most_mutators};
 ghost use Rattle.gc_graph.specs.Streams.{bytes_left, source_failed};
-ghost use Rattle.gc_plan.specs.State.{State, opening_state};
-ghost use Rattle.gc_plan.specs.Belonging.{IsState};
-ghost use Rattle.gc_plan.specs.Runs.{IsEventWithin, after, answer, answers, state_after};
-ghost use Rattle.gc_plan.specs.declared.event.Event.{Event};
+ghost use Rattle.gc_model.specs.State.{State, opening_state};
+ghost use Rattle.gc_model.specs.Belonging.{IsState};
+ghost use Rattle.gc_model.specs.Runs.{IsEventWithin, after, answer, answers, state_after};
+ghost use Rattle.gc_model.specs.declared.event.Event.{Event};
 ghost use Rattle.gc_trace.specs.Faults.{ReadingMayFail};
 ghost use Rattle.gc_trace.specs.Internal.Playing.{HasPlayed, HasPlayedRest, HasResults};
 ghost use Rattle.gc_trace.specs.Internal.Reading.{IsReadingTrace, HasRead, read_so_far};
@@ -21,7 +21,7 @@ use gc_check::Sequential;
 use gc_collected::{CollectedHeap, Keep};
 use gc_copy::heaps_have_addresses_as_names;
 use gc_graph::{NoMemory, Source};
-use gc_plan::{Event, states_are_kept};
+use gc_model::{Event, states_stay};
 use gc_text::Printer;
 use std::alloc::Global;
 use std::io::Read;
@@ -68,7 +68,7 @@ impl Player {
         ensures mutators { IfOk result (λ player. player.heap.core.mutators ≡ mutators) }
         ensures gather { IfOk result (λ player. player.gather ≡ gather) }
     {
-        states_are_kept();
+        states_stay();
         heaps_have_addresses_as_names();
         let heap = CollectedHeap::open(alloc, size, mutators)?;
         let report = Report::of_space(heap.heap().space());
@@ -93,7 +93,7 @@ impl Player {
         ensures mutators { self.new.heap.core.mutators ≡ self.old.heap.core.mutators }
         ensures gather { self.new.gather ≡ self.old.gather }
     {
-        states_are_kept();
+        states_stay();
         let Ok(answer) = self.heap.perform(&Sequential, event, Keep::Room) else {
             return Err(NoMemory);
         };

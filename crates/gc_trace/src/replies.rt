@@ -3,7 +3,7 @@ ghost use Rattle.gc_text.specs.Lines.{line};
 ghost use Rattle.gc_trace.specs.Replies.{reply_line, view_tokens, reply_tokens, step_reply_tokens};
 
 use gc_graph::{Reply, View};
-use gc_plan::StepReply;
+use gc_model::StepReply;
 use gc_text::Printer;
 use gc_world::Answer;
 use std::io::Write;

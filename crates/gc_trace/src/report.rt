@@ -1,7 +1,7 @@
 use gc_cert::WriteFault;
 use gc_copy::heaps_have_addresses_as_names;
 use gc_graph::{Reply, Sink};
-use gc_plan::StepReply;
+use gc_model::StepReply;
 use gc_text::Printer;
 use gc_words::Space;
 use gc_world::{Answer, World, runs_keep_states};
@@ -58,7 +58,7 @@ const NOTHING: Report = Report {
 impl Report {
     ghost use Rattle.std.specs.Prelude.{◌≡◌};
     ghost use Rattle.gc_words.specs.Space.{free_in, end_of};
-    ghost use Rattle.gc_plan.specs.declared.event.Answer.TheVariants.{Mutator, Collector};
+    ghost use Rattle.gc_model.specs.declared.event.Answer.TheVariants.{Mutator, Collector};
     ghost use Rattle.gc_world.specs.History.{unmarked};
     ghost use Rattle.gc_trace.specs.Internal.Report.{FitsU64, with_count, with_answer};
 

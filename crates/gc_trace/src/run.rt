@@ -1,6 +1,6 @@
 ghost use Rattle.std.specs.Prelude.{◌≡◌, IfOk, OnOk, OnErr};
 ghost use Rattle.gc_graph.specs.Limits.{most_words};
-ghost use Rattle.gc_plan.specs.Runs.{IsEventWithin};
+ghost use Rattle.gc_model.specs.Runs.{IsEventWithin};
 ghost use Rattle.gc_world.specs.History.{answers_of};
 ghost use Rattle.gc_world.specs.World.{present};
 ghost use Rattle.gc_trace.specs.Grammar.{IsInRange};
@@ -10,7 +10,7 @@ ghost use Rattle.gc_trace.specs.Views.{recording};
 
 use crate::trace::Trace;
 use gc_graph::NoMemory;
-use gc_plan::Event;
+use gc_model::Event;
 use gc_world::{World, histories_grow};
 use std::alloc::Global;
 

@@ -1,10 +1,10 @@
 ghost use Rattle.std.specs.Prelude.{◌≡◌, map, IfOk};
-ghost use Rattle.gc_plan.specs.Runs.{commands_of};
+ghost use Rattle.gc_model.specs.Runs.{commands_of};
 ghost use Rattle.gc_trace.specs.Scripts.{scripts};
 
 use crate::trace::Trace;
 use gc_graph::{NoMemory, Op};
-use gc_plan::Event;
+use gc_model::Event;
 use std::alloc::Global;
 
 /// Returns a script for each mutator: its commands in the trace, in order, without the collector's steps.

@@ -1,4 +1,4 @@
-use gc_plan::Event;
+use gc_model::Event;
 
 /// The first version in which `begin` can give the size of the new space.
 pub(crate) const SIZED: u8 = 2;

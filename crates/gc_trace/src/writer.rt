@@ -4,12 +4,12 @@ ghost use Rattle.gc_graph.specs.Streams.{bytes_written, sink_failed, SendsFront}
 ghost use Rattle.gc_text.specs.Lines.{space};
 ghost use Rattle.gc_trace.specs.Grammar.{slot, event_line, trace_heading, trace_text, version_of, least_version, least_trace};
 ghost use Rattle.gc_world.specs.History.{events_of};
-ghost use Rattle.gc_plan.specs.declared.event.Event.TheVariants.{Mutate, Collect};
+ghost use Rattle.gc_model.specs.declared.event.Event.TheVariants.{Mutate, Collect};
 
 use crate::trace::{RAW, SIZED};
 use gc_cert::WriteFault;
 use gc_graph::{Op, Sink, Slot};
-use gc_plan::{Event, Step};
+use gc_model::{Event, Step};
 use gc_text::Printer;
 use gc_world::Entry;
 use std::io::Write;

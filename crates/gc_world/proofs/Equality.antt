@@ -4,8 +4,8 @@ use Rattle.std.proofs.Common.{◌≡◌, ◌↔◌, ◌&&◌, true, false, rules
 use Rattle.std.proofs.lemmas.Bool.{and_parts, false≢true, eqb-true}
 use Rattle.gc_graph.specs.Slots.{SlotName}
 use Rattle.gc_graph.specs.declared.command.Op.{Op}
-use Rattle.gc_plan.specs.declared.step.Step.{Step}
-use Rattle.gc_plan.specs.declared.step.StepReply.{StepReply}
+use Rattle.gc_model.specs.declared.step.Step.{Step}
+use Rattle.gc_model.specs.declared.step.StepReply.{StepReply}
 use Rattle.gc_world.specs.declared.bare.BareOp.{BareOp}
 use Rattle.gc_world.specs.declared.bare.BareReply.{BareReply}
 use Rattle.gc_world.specs.declared.entry.Form.{Form}
@@ -15,8 +15,8 @@ use Rattle.gc_world.specs.Forms.{meaning}
 use Rattle.gc_world.specs.Internal.Forms.{form_of, forms_come_back}
 use Rattle.gc_graph.specs.contracts.slot.SlotPartialEq.TheImpl as of_slots
 use Rattle.gc_graph.specs.contracts.command.OpPartialEq.TheImpl as of_ops
-use Rattle.gc_plan.specs.contracts.step.StepPartialEq.TheImpl as of_steps
-use Rattle.gc_plan.specs.contracts.step.StepReplyPartialEq.TheImpl as of_step_replies
+use Rattle.gc_model.specs.contracts.step.StepPartialEq.TheImpl as of_steps
+use Rattle.gc_model.specs.contracts.step.StepReplyPartialEq.TheImpl as of_step_replies
 use Rattle.gc_world.specs.contracts.bare.BareOpPartialEq.TheImpl as of_bare_ops
 use Rattle.gc_world.specs.contracts.bare.BareReplyPartialEq.TheImpl as of_bare_replies
 use Rattle.gc_world.specs.contracts.entry.FormPartialEq.TheImpl as of_forms

@@ -1,9 +1,9 @@
 -- A history with one more entry is a history, and leads to the state after it.
 use Rattle.std.proofs.Common.{◌≡◌, ℕ, ◌≤◌, List, [], ◌∷◌, ◌++◌, refl, ap}
 use Rattle.gc_graph.specs.Limits.{most_words}
-use Rattle.gc_plan.specs.State.{State, opening_state}
-use Rattle.gc_plan.specs.Runs.{IsEventWithin, AreEventsWithin, after, answer, answers}
-use Rattle.gc_plan.specs.Runs as runs
+use Rattle.gc_model.specs.State.{State, opening_state}
+use Rattle.gc_model.specs.Runs.{IsEventWithin, AreEventsWithin, after, answer, answers}
+use Rattle.gc_model.specs.Runs as runs
 use Rattle.gc_world.specs.History.{unmarked, events_of, answers_of, state_after, IsUseful, UsefulFrom, IsHistory}
 use Rattle.gc_world.specs.declared.entry.Entry.{Entry}
 

@@ -4,14 +4,14 @@ use Rattle.std.proofs.Common.{◌≡◌, ◌≢◌, ℕ, List, [], ◌∷◌, re
 use Rattle.std.specs.List.{All}
 use Rattle.std.proofs.lemmas.List.Elements.{All-nil, All-cons}
 use Rattle.gc_graph.specs.Limits.{most_words}
-use Rattle.gc_plan.specs.State.{State, opening_state}
-use Rattle.gc_plan.specs.Belonging.{IsState}
-use Rattle.gc_plan.specs.Runs.{AreEvents, HasSizesWithin, after, answer, answers}
-use Rattle.gc_plan.specs.declared.event.Event.{Event}
-use Rattle.gc_plan.specs.declared.event.Answer.TheVariants.{Collector}
-use Rattle.gc_plan.specs.Carried.{OnlyKeptIsPaired, base_of_run}
-use Rattle.gc_plan.specs.declared.step.StepReply.TheVariants.{Refused}
-use Rattle.gc_plan.proofs.Public.{Reached, opening_ok, event_keeps, run_keeps, run_within, wider_events, never_refused, carries_only_kept}
+use Rattle.gc_model.specs.State.{State, opening_state}
+use Rattle.gc_model.specs.Belonging.{IsState}
+use Rattle.gc_model.specs.Runs.{AreEvents, HasSizesWithin, after, answer, answers}
+use Rattle.gc_model.specs.declared.event.Event.{Event}
+use Rattle.gc_model.specs.declared.event.Answer.TheVariants.{Collector}
+use Rattle.gc_model.specs.Carried.{OnlyLiveIsPaired, base_of_run}
+use Rattle.gc_model.specs.declared.step.StepReply.TheVariants.{Refused}
+use Rattle.gc_model.proofs.Public.{Reached, opening_ok, event_keeps, run_keeps, run_within, wider_events, never_refused, carries_only_live}
 use Rattle.gc_world.specs.History.{unmarked, events_of, answers_of, state_after, IsHistory}
 use Rattle.gc_world.specs.declared.entry.Entry.{Entry}
 
@@ -49,5 +49,5 @@ none_refused size mutators entries h = none_from mutators entries (opening_state
 -- ---- only what was reachable or made later is copied
 
 pub only_kept : (size mutators : ℕ) (entries : List Entry) → IsHistory size mutators entries
-    → (let opening = opening_state size mutators in OnlyKeptIsPaired (base_of_run opening opening (events_of entries)) (state_after size mutators entries).collection)
-only_kept size mutators entries h = grind (arith, common_steps, carries_only_kept, are_events)
+    → (let opening = opening_state size mutators in OnlyLiveIsPaired (base_of_run opening opening (events_of entries)) (state_after size mutators entries).collection)
+only_kept size mutators entries h = grind (arith, common_steps, carries_only_live, are_events)

@@ -4,15 +4,15 @@ use Rattle.std.proofs.Common.{◌≡◌, ℕ, List, [], ◌∷◌, ◌++◌, ref
 use Rattle.gc_graph.specs.Legal.{IsLegal}
 use Rattle.gc_graph.specs.declared.command.Op.{Op}
 use Rattle.gc_graph.specs.declared.reply.Reply.{Reply}
-use Rattle.gc_plan.specs.State.{State, opening_state}
-use Rattle.gc_plan.specs.Runs.{after, answer, answers}
-use Rattle.gc_plan.specs.declared.event.Event.{Event}
-use Rattle.gc_plan.specs.declared.event.Event.TheVariants.{Mutate}
-use Rattle.gc_plan.specs.declared.event.Answer as answered
-use Rattle.gc_plan.specs.declared.event.Answer.TheVariants.{Mutator}
+use Rattle.gc_model.specs.State.{State, opening_state}
+use Rattle.gc_model.specs.Runs.{after, answer, answers}
+use Rattle.gc_model.specs.declared.event.Event.{Event}
+use Rattle.gc_model.specs.declared.event.Event.TheVariants.{Mutate}
+use Rattle.gc_model.specs.declared.event.Answer as answered
+use Rattle.gc_model.specs.declared.event.Answer.TheVariants.{Mutator}
 use Rattle.gc_collected.specs.Replies.{told_in}
 use Rattle.gc_collected.proofs.Public.{run_is_legal}
-use Rattle.gc_plan.proofs.Public.{wider_events}
+use Rattle.gc_model.proofs.Public.{wider_events}
 use Rattle.gc_world.specs.History.{unmarked, events_of, answers_of, told_by, told_of, IsHistory}
 use Rattle.gc_world.specs.declared.entry.Entry.{Entry}
 

@@ -5,12 +5,12 @@ use Rattle.std.specs.Prelude.{IfOk, IfSome, OnOk}
 use Rattle.std.specs.Option.{option_map}
 use Rattle.gc_graph.specs.Limits.{most_words}
 use Rattle.gc_cert.specs.Grammar.{CertifiedPair}
-use Rattle.gc_plan.specs.State.{Collection, State}
-use Rattle.gc_plan.specs.Runs.{IsStepWithin, IsStep, HasSizesWithin}
-use Rattle.gc_plan.specs.declared.step.Step.{Step}
-use Rattle.gc_plan.proofs.Public.{wider_step}
-use Rattle.gc_plan.specs.declared.step.StepReply.{StepReply}
-use Rattle.gc_plan.specs.declared.step.StepReply.TheVariants.{Flipped}
+use Rattle.gc_model.specs.State.{Collection, State}
+use Rattle.gc_model.specs.Runs.{IsStepWithin, IsStep, HasSizesWithin}
+use Rattle.gc_model.specs.declared.step.Step.{Step}
+use Rattle.gc_model.proofs.Public.{wider_step}
+use Rattle.gc_model.specs.declared.step.StepReply.{StepReply}
+use Rattle.gc_model.specs.declared.step.StepReply.TheVariants.{Flipped}
 use Rattle.gc_collected.specs.Flip.{FlipsOnly, IsCertified, kept_after, flip_pair}
 use Rattle.gc_world.specs.World.{Past}
 use Rattle.gc_world.specs.Internal.World.{IsKeptPair, IsWorld}

@@ -4,17 +4,17 @@ use Rattle.std.proofs.Common.{◌≡◌, ℕ, ◌<◌, Bool, if◌then◌else◌
 use Rattle.gc_graph.specs.Limits.{most_words}
 use Rattle.gc_graph.specs.declared.command.Op.{Op}
 use Rattle.gc_graph.specs.declared.reply.Reply.{Reply}
-use Rattle.gc_plan.specs.State.{State}
-use Rattle.gc_plan.specs.Steps.{mutate, collect, useful_step}
-use Rattle.gc_plan.specs.Runs.{IsEventWithin, IsStepWithin, after, answer}
-use Rattle.gc_plan.specs.declared.event.Answer.TheVariants.{Mutator, Collector, Useful}
-use Rattle.gc_plan.specs.declared.step.Step.{Step}
-use Rattle.gc_plan.specs.declared.step.StepReply.{StepReply}
+use Rattle.gc_model.specs.State.{State}
+use Rattle.gc_model.specs.Steps.{mutate, collect, useful_step}
+use Rattle.gc_model.specs.Runs.{IsEventWithin, IsStepWithin, after, answer}
+use Rattle.gc_model.specs.declared.event.Answer.TheVariants.{Mutator, Collector, Useful}
+use Rattle.gc_model.specs.declared.step.Step.{Step}
+use Rattle.gc_model.specs.declared.step.StepReply.{StepReply}
 use Rattle.gc_graph.specs.Range.{IsCommand}
 use Rattle.gc_world.specs.History.{IsUseful, unmarked}
 use Rattle.gc_world.specs.World.{Past, present, entry_of}
 use Rattle.gc_world.specs.Internal.World.{IsKeptPair, IsWorld}
-use Rattle.gc_plan.specs.declared.event.Event.TheVariants.{Mutate, Collect}
+use Rattle.gc_model.specs.declared.event.Event.TheVariants.{Mutate, Collect}
 use Rattle.gc_world.specs.declared.entry.Entry.{Entry}
 use Rattle.gc_world.proofs.Growing.{history_more, state_more}
 

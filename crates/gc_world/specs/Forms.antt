@@ -5,8 +5,8 @@ use Rattle.gc_graph.specs.declared.command.Op.TheVariants as ops
 use Rattle.gc_graph.specs.declared.reply.Reply.{Reply}
 use Rattle.gc_graph.specs.declared.reply.Reply.TheVariants as replies
 use Rattle.gc_graph.specs.declared.reply.View.TheVariants as views
-use Rattle.gc_plan.specs.declared.event.Event.TheVariants.{Mutate, Collect}
-use Rattle.gc_plan.specs.declared.event.Answer.TheVariants.{Mutator, Collector, Useful}
+use Rattle.gc_model.specs.declared.event.Event.TheVariants.{Mutate, Collect}
+use Rattle.gc_model.specs.declared.event.Answer.TheVariants.{Mutator, Collector, Useful}
 use Rattle.gc_world.specs.Entries.{EntryValue}
 use Rattle.gc_world.specs.declared.bare.BareOp.{BareOp}
 use Rattle.gc_world.specs.declared.bare.BareOp.TheVariants as bare_ops

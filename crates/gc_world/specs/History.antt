@@ -3,13 +3,13 @@ use Rattle.std.specs.Prelude.{◌≡◌, ℕ, ◌≤◌, List, [], ◌∷◌, ma
 use Rattle.std.specs.List.{flat_map}
 use Rattle.gc_graph.specs.Limits.{most_words, most_mutators}
 use Rattle.gc_graph.specs.Legal.{Told}
-use Rattle.gc_plan.specs.State.{State, opening_state}
-use Rattle.gc_plan.specs.Steps.{useful_step}
-use Rattle.gc_plan.specs.Runs as runs
-use Rattle.gc_plan.specs.declared.event.Event.{Event}
-use Rattle.gc_plan.specs.declared.event.Event.TheVariants.{Mutate, Collect}
-use Rattle.gc_plan.specs.declared.event.Answer.{Answer}
-use Rattle.gc_plan.specs.declared.event.Answer.TheVariants.{Mutator, Collector, Useful}
+use Rattle.gc_model.specs.State.{State, opening_state}
+use Rattle.gc_model.specs.Steps.{useful_step}
+use Rattle.gc_model.specs.Runs as runs
+use Rattle.gc_model.specs.declared.event.Event.{Event}
+use Rattle.gc_model.specs.declared.event.Event.TheVariants.{Mutate, Collect}
+use Rattle.gc_model.specs.declared.event.Answer.{Answer}
+use Rattle.gc_model.specs.declared.event.Answer.TheVariants.{Mutator, Collector, Useful}
 use Rattle.gc_world.specs.declared.entry.Entry.{Entry}
 
 -- ---- events and answers

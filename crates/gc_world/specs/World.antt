@@ -1,15 +1,15 @@
 -- A world as contracts see it: its opening size and number of mutators, its history, and the kept pair of a flip.
 use Rattle.std.specs.Prelude.{◌≡◌, ◌≢◌, ℕ, List, [], ◌∷◌, ◌++◌, Option}
 use Rattle.gc_cert.specs.Grammar.{CertifiedPair}
-use Rattle.gc_plan.specs.State.{State}
-use Rattle.gc_plan.specs.Steps.{collect}
-use Rattle.gc_plan.specs.declared.event.Answer.{Answer}
-use Rattle.gc_plan.specs.declared.event.Event.{Event}
-use Rattle.gc_plan.specs.declared.event.Event.TheVariants.{Collect}
-use Rattle.gc_plan.specs.declared.step.Step.{Step}
-use Rattle.gc_plan.specs.declared.step.Step.TheVariants.{Flip}
-use Rattle.gc_plan.specs.declared.step.StepReply.{StepReply}
-use Rattle.gc_plan.specs.declared.step.StepReply.TheVariants.{Refused}
+use Rattle.gc_model.specs.State.{State}
+use Rattle.gc_model.specs.Steps.{collect}
+use Rattle.gc_model.specs.declared.event.Answer.{Answer}
+use Rattle.gc_model.specs.declared.event.Event.{Event}
+use Rattle.gc_model.specs.declared.event.Event.TheVariants.{Collect}
+use Rattle.gc_model.specs.declared.step.Step.{Step}
+use Rattle.gc_model.specs.declared.step.Step.TheVariants.{Flip}
+use Rattle.gc_model.specs.declared.step.StepReply.{StepReply}
+use Rattle.gc_model.specs.declared.step.StepReply.TheVariants.{Refused}
 use Rattle.gc_collected.specs.Flip.{kept_after, PassesIfReady, HasRoomIfLarge}
 use Rattle.gc_world.specs.History.{state_after}
 use Rattle.gc_world.specs.declared.entry.Entry.{Entry}

@@ -1,7 +1,7 @@
 use crate::bare::{BareOp, BareReply};
 use gc_copy::{Step, StepReply};
 use gc_graph::{Number, Op, Reply, Slot, View};
-use gc_plan::{Answer, Event};
+use gc_model::{Answer, Event};
 use std::marker::Model;
 
 /// An event of a history, with its answer. It takes 24 bytes; an `Event` and an `Answer` would take 56.
@@ -58,8 +58,8 @@ impl Model for Entry {
 impl Entry {
     ghost use Rattle.std.specs.Prelude.{◌≡◌, ◌↔◌, if◌then◌else◌, IsTrue};
     ghost use Rattle.gc_world.specs.World.{entry_of};
-    ghost use Rattle.gc_plan.specs.declared.event.Event.{Event};
-    ghost use Rattle.gc_plan.specs.declared.event.Answer.{Answer};
+    ghost use Rattle.gc_model.specs.declared.event.Event.{Event};
+    ghost use Rattle.gc_model.specs.declared.event.Answer.{Answer};
 
     /// Returns the entry of mutator `m`'s command and its reply.
     pub fn command(m: u8, op: &Op, reply: &Reply) -> Entry
@@ -141,8 +141,8 @@ impl Entry {
 }
 
 ghost use Rattle.std.specs.Prelude.{◌≡◌};
-ghost use Rattle.gc_plan.specs.declared.event.Event.{Event};
-ghost use Rattle.gc_plan.specs.declared.event.Answer.{Answer};
+ghost use Rattle.gc_model.specs.declared.event.Event.{Event};
+ghost use Rattle.gc_model.specs.declared.event.Answer.{Answer};
 ghost use Rattle.gc_graph.specs.declared.reply.Reply.TheVariants as replies;
 ghost use Rattle.gc_graph.specs.declared.reply.View.TheVariants as views;
 ghost use Rattle.gc_world.specs.World.{entry_of};

@@ -4,13 +4,13 @@ ghost use Rattle.std.specs.Prelude.{◌≡◌, ◌≢◌, ◌++◌, ◌∷◌, [
 ghost use Rattle.std.specs.List.{All};
 ghost use Rattle.gc_graph.specs.Legal.{IsLegal};
 ghost use Rattle.gc_graph.specs.Limits.{most_words, most_mutators};
-ghost use Rattle.gc_plan.specs.State.{opening_state};
-ghost use Rattle.gc_plan.specs.Runs.{IsEventWithin, after, answer, HasSizesWithin};
-ghost use Rattle.gc_plan.specs.declared.event.Answer.TheVariants.{Collector};
-ghost use Rattle.gc_plan.specs.Belonging.{IsState};
-ghost use Rattle.gc_plan.specs.Passing.{PassesWhereReady, AlwaysHasRoom};
-ghost use Rattle.gc_plan.specs.Carried.{OnlyKeptIsPaired, base_of_run};
-ghost use Rattle.gc_plan.specs.declared.step.StepReply.TheVariants.{Refused};
+ghost use Rattle.gc_model.specs.State.{opening_state};
+ghost use Rattle.gc_model.specs.Runs.{IsEventWithin, after, answer, HasSizesWithin};
+ghost use Rattle.gc_model.specs.declared.event.Answer.TheVariants.{Collector};
+ghost use Rattle.gc_model.specs.Belonging.{IsState};
+ghost use Rattle.gc_model.specs.Passing.{PassesWhereReady, AlwaysHasRoom};
+ghost use Rattle.gc_model.specs.Carried.{OnlyLiveIsPaired, base_of_run};
+ghost use Rattle.gc_model.specs.declared.step.StepReply.TheVariants.{Refused};
 ghost use Rattle.gc_world.specs.History.{unmarked, events_of, state_after, told_of};
 ghost use Rattle.gc_world.specs.History.{IsUseful, IsHistory};
 ghost use Rattle.gc_world.specs.declared.entry.Entry.{Entry};
@@ -58,7 +58,7 @@ pub fn runs_keep_states()
     ensures kept { (size mutators : ℕ) (entries : List Entry)
         → IsHistory size mutators entries
         → (let opening = opening_state size mutators in
-        OnlyKeptIsPaired (base_of_run opening opening (events_of entries))
+        OnlyLiveIsPaired (base_of_run opening opening (events_of entries))
         (state_after size mutators entries).collection) }
     ensures small { (size mutators : ℕ) (entries : List Entry)
         → IsHistory size mutators entries → HasSizesWithin most_words (state_after size mutators entries) }

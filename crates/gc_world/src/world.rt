@@ -48,13 +48,13 @@ impl World {
     ghost use Rattle.gc_graph.specs.Limits.{most_words, most_mutators};
     ghost use Rattle.gc_heap.specs.Heap.{roomy_in};
     ghost use Rattle.gc_cert.specs.Views.{pair_in};
-    ghost use Rattle.gc_plan.specs.Steps.{mutate, useful_step};
-    ghost use Rattle.gc_plan.specs.Runs.{IsStepWithin};
+    ghost use Rattle.gc_model.specs.Steps.{mutate, useful_step};
+    ghost use Rattle.gc_model.specs.Runs.{IsStepWithin};
     ghost use Rattle.gc_collected.specs.Flip.{IsCertified};
     ghost use Rattle.gc_world.specs.History.{IsHistory};
     ghost use Rattle.gc_world.specs.World.{present, entry_of, IsCollected};
-    ghost use Rattle.gc_plan.specs.declared.event.Event.{Event};
-    ghost use Rattle.gc_plan.specs.declared.event.Answer.{Answer};
+    ghost use Rattle.gc_model.specs.declared.event.Event.{Event};
+    ghost use Rattle.gc_model.specs.declared.event.Answer.{Answer};
 
     /// Returns a world with an empty heap of `size` words, 1 to 1048576, for 1 to 16 mutators, and an empty history.
     pub fn open(alloc: Global, size: u32, mutators: u8) -> Result<World, NoMemory>
@@ -221,15 +221,15 @@ impl World {
 ghost use Rattle.std.specs.Prelude.{◌≡◌, ◌≢◌, ◌<◌, ◌++◌, ◌∷◌, [], IfOk, OnOk, OnErr, vec_len, vec_capacity};
 ghost use Rattle.gc_graph.specs.Limits.{most_words};
 ghost use Rattle.gc_graph.specs.Range.{IsCommand};
-ghost use Rattle.gc_plan.specs.Steps.{collect};
-ghost use Rattle.gc_plan.specs.Runs.{IsStepWithin, HasSizesWithin};
+ghost use Rattle.gc_model.specs.Steps.{collect};
+ghost use Rattle.gc_model.specs.Runs.{IsStepWithin, HasSizesWithin};
 ghost use Rattle.gc_collected.specs.Flip.{kept_after, PassesIfReady, HasRoomIfLarge};
-ghost use Rattle.gc_plan.specs.declared.step.Step.{Step};
-ghost use Rattle.gc_plan.specs.declared.step.StepReply.{StepReply};
+ghost use Rattle.gc_model.specs.declared.step.Step.{Step};
+ghost use Rattle.gc_model.specs.declared.step.StepReply.{StepReply};
 ghost use Rattle.gc_world.specs.World.{entry_of};
 ghost use Rattle.gc_world.specs.Internal.World.{IsKeptPair};
-ghost use Rattle.gc_plan.specs.declared.event.Event.{Event};
-ghost use Rattle.gc_plan.specs.declared.event.Answer.{Answer};
+ghost use Rattle.gc_model.specs.declared.event.Event.{Event};
+ghost use Rattle.gc_model.specs.declared.event.Answer.{Answer};
 
 // Makes room for one more entry.
 fn make_room(history: &mut Vec<Entry>) -> Result<(), NoMemory>

@@ -8,7 +8,7 @@ use Rattle.std.specs.Prelude.{slice_index_or}
 use Rattle.gc_graph.specs.declared.command.Op.{Op}
 use Rattle.gc_shared.specs.Scripts.{HasRunScripts}
 use Rattle.gc_trace.specs.Grammar.{Recording}
-use Rattle.gc_plan.specs.Runs.{commands_of}
+use Rattle.gc_model.specs.Runs.{commands_of}
 use Rattle.gc_trace.specs.Scripts.{scripts}
 use Rattle.gc_world.specs.History.{IsHistory}
 use Rattle.gc_world.specs.World.{Past}

@@ -2,7 +2,7 @@
 use Rattle.std.specs.Prelude.{◌≡◌, ℕ, ◌<◌, List, length, All}
 use Rattle.gc_shared.specs.Scripts.{IsUsefulStep, steps_of}
 use Rattle.gc_trace.specs.Grammar.{Recording, trace_text, least_trace}
-use Rattle.gc_plan.specs.Runs.{commands_of}
+use Rattle.gc_model.specs.Runs.{commands_of}
 use Rattle.gc_world.specs.History.{events_of, IsHistory}
 use Rattle.gc_world.specs.declared.entry.Entry.{Entry}
 

@@ -9,21 +9,21 @@ use Rattle.gc_concurrent.specs.Machines.{Does}
 use Rattle.gc_in_c.specs.Answers.{out_of_range, closed_handle}
 use Rattle.gc_in_c.specs.Replies.{reply_in_c}
 use Rattle.gcflip_beside_c.specs.Answers.{parked_mutator}
-use Rattle.gcflip_beside_c.specs.Standing.{Standing, runs, IsRunning, IsParked}
+use Rattle.gcflip_beside_c.specs.HandleStage.{HandleStage, runs, IsRunning, IsParked}
 
 -- a mutator runs before and after, and its heaps are so related
-abbrev pub RunsOn : (HeapWords → HeapWords → Type 0) → Standing → Standing → Type 0
+abbrev pub RunsOn : (HeapWords → HeapWords → Type 0) → HandleStage → HandleStage → Type 0
 RunsOn did (runs heap) (runs later) = did heap later
 RunsOn did old new = ⊥
 
 -- the number of roots of a mutator that runs
-abbrev pub roots_in : Standing → ℕ
+abbrev pub roots_in : HandleStage → ℕ
 roots_in (runs heap) = length heap.roots
 roots_in s = 0
 
 -- Where a handle stands before and after a command, and its answer. `takes` says of a number of roots whether the arguments are in range. `did` relates the
 -- heaps before and after a command that is performed.
-pub record IsBesideCall (takes : ℕ → Type 0) (did : HeapWords → HeapWords → Type 0) (old new : Standing) (answer : ℕ) : Type 0 where
+pub record IsBesideCall (takes : ℕ → Type 0) (did : HeapWords → HeapWords → Type 0) (old new : HandleStage) (answer : ℕ) : Type 0 where
   pub done : ¬ IsRefusal answer → RunsOn did old new
   -- a refused call changes nothing
   pub refused : IsRefusal answer → new ≡ old
@@ -37,11 +37,11 @@ abbrev pub GetsReply : Op → (Reply → Type 0) → HeapWords → HeapWords →
 GetsReply op shown old new = (reply : Reply) × Does old op reply new × shown reply
 
 -- a call that performs the command, and returns the number of its reply
-abbrev pub IsBesideCommand : (ℕ → Type 0) → Op → Standing → Standing → ℕ → Type 0
+abbrev pub IsBesideCommand : (ℕ → Type 0) → Op → HandleStage → HandleStage → ℕ → Type 0
 IsBesideCommand takes op old new answer = IsBesideCall takes (GetsReply op (λ reply. answer ≡ reply_in_c reply)) old new answer
 
 -- the free words of a mutator that runs
-abbrev pub room_in : Standing → ℕ
+abbrev pub room_in : HandleStage → ℕ
 room_in (runs heap) = (roomy_in heap).free
 room_in s = 0
 

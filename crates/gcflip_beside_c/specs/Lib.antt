@@ -4,4 +4,4 @@ pub mod Handle
 pub mod Internal
 pub mod Opening
 pub mod Stages
-pub mod Standing
+pub mod HandleStage

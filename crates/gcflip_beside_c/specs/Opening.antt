@@ -4,7 +4,7 @@ use Rattle.gc_heap.specs.ExtraRoots.{most_extra_roots}
 use Rattle.gc_heap.specs.Heap.{HeapWords, empty_heap}
 use Rattle.gc_concurrent.specs.Ends.{opening_theirs}
 use Rattle.gcflip_beside_c.specs.declared.end.End.{End}
-use Rattle.gcflip_beside_c.specs.Standing.{standing, runs, works, cells_at}
+use Rattle.gcflip_beside_c.specs.HandleStage.{stage, runs, works, cells_at}
 
 -- a heap can have so many words and extra roots
 abbrev pub CanOpenBeside : ℕ → ℕ → Type 0
@@ -16,6 +16,6 @@ empty_beside size extra = empty_heap (record { size = size; mutators = 1; extra_
 
 -- A mutator runs in the empty heap. Its collector has just begun, in a new space of the same size, and reads the same cells.
 pub record AreOpened (size extra : ℕ) (one other : Option End) : Type 0 where
-  pub mutator : standing one ≡ runs (empty_beside size extra)
-  pub collector : standing other ≡ works (opening_theirs (empty_beside size extra) size size)
+  pub mutator : stage one ≡ runs (empty_beside size extra)
+  pub collector : stage other ≡ works (opening_theirs (empty_beside size extra) size size)
   pub cells : cells_at one ≡ cells_at other

@@ -3,7 +3,7 @@
 ghost use Rattle.std.specs.Prelude.{◌≡◌, ◌≢◌, ◌≤◌};
 ghost use Rattle.gcflip_beside_c.specs.Internal.Stepping.{StepsOn, why_in_c};
 ghost use Rattle.gcflip_beside_c.specs.Stages.{Asks, IsBesidePrepare, PreparesSpace, TakesMutator, Goes, PlacesRoots, FlipsHeld, FinishesHeld, IsCertifiedPair, HasWorked, IsBesideWork};
-ghost use Rattle.gcflip_beside_c.specs.Standing.{standing, standing_of, IsCollector};
+ghost use Rattle.gcflip_beside_c.specs.HandleStage.{stage, stage_of, IsCollector};
 
 use crate::answer::{
     CLEAN, CLOSED, DONE, FLIPPED, NO_MEMORY, NO_ROOM, NOT_READY, NOT_YET, OUT_OF_RANGE,
@@ -19,8 +19,8 @@ use std::mem::replace;
 
 // Performs one step.
 fn step(end: &mut End) -> Work
-    requires { IsCollector (standing_of end.old) }
-    ensures { StepsOn result (standing_of end.old) (standing_of end.new) }
+    requires { IsCollector (stage_of end.old) }
+    ensures { StepsOn result (stage_of end.old) (stage_of end.new) }
 {
     match end {
         End::Working(collector) => collector.work(),
@@ -33,8 +33,8 @@ fn step(end: &mut End) -> Work
 // Performs at most so many steps.
 #[tactic(auto, using(crate::proofs::Stepping::collector_still, crate::proofs::Stepping::holding_still))]
 fn steps(end: &mut End, most: u32) -> u32
-    requires { IsCollector (standing_of end.old) }
-    ensures { HasWorked most (standing_of end.old) (standing_of end.new) result }
+    requires { IsCollector (stage_of end.old) }
+    ensures { HasWorked most (stage_of end.old) (stage_of end.new) result }
 {
     for k in 0..most {
         match step(end) {
@@ -50,7 +50,7 @@ fn steps(end: &mut End, most: u32) -> u32
 /// no collector, and 2 if `most` is 0.
 #[unsafe(no_mangle)]
 pub extern "C" fn gcflip_beside_work(collector: &mut GcflipEnd, most: u32) -> u32
-    ensures { IsBesideWork most (standing collector.old.end) (standing collector.new.end) result }
+    ensures { IsBesideWork most (stage collector.old.end) (stage collector.new.end) result }
 {
     let end = lent!(collector);
     if !end.is_collector() {
@@ -65,7 +65,7 @@ pub extern "C" fn gcflip_beside_work(collector: &mut GcflipEnd, most: u32) -> u3
 // Begins the collection anew, in a new space of this size.
 fn prepared(alloc: Global, end: &mut End, size: u32) -> u32
     requires { 1 ≤ size }
-    ensures { PreparesSpace size (standing_of end.old) (standing_of end.new) result }
+    ensures { PreparesSpace size (stage_of end.old) (stage_of end.new) result }
 {
     match end {
         End::Working(collector) => match collector.prepare(alloc, size) {
@@ -82,7 +82,7 @@ fn prepared(alloc: Global, end: &mut End, size: u32) -> u32
 /// allocation fails: the collection then goes on as it stands.
 #[unsafe(no_mangle)]
 pub extern "C" fn gcflip_beside_prepare(alloc: Global, collector: &mut GcflipEnd, size: u32) -> u32
-    ensures { IsBesidePrepare size (standing collector.old.end) (standing collector.new.end) result }
+    ensures { IsBesidePrepare size (stage collector.old.end) (stage collector.new.end) result }
 {
     let end = lent!(collector);
     if !end.is_collector() {
@@ -95,7 +95,7 @@ pub extern "C" fn gcflip_beside_prepare(alloc: Global, collector: &mut GcflipEnd
 }
 
 fn asked(end: End) -> (End, u32)
-    ensures { Asks (standing_of end) (standing_of result.0) result.1 }
+    ensures { Asks (stage_of end) (stage_of result.0) result.1 }
 {
     match end {
         End::Working(collector) => match collector.ask() {
@@ -112,7 +112,7 @@ fn asked(end: End) -> (End, u32)
 /// handle has no collector.
 #[unsafe(no_mangle)]
 pub extern "C" fn gcflip_beside_ask(collector: &mut GcflipEnd) -> u32
-    ensures { Asks (standing collector.old.end) (standing collector.new.end) result }
+    ensures { Asks (stage collector.old.end) (stage collector.new.end) result }
 {
     let end = lent!(collector);
     let (next, answer) = asked(replace(end, End::Nothing));
@@ -121,7 +121,7 @@ pub extern "C" fn gcflip_beside_ask(collector: &mut GcflipEnd) -> u32
 }
 
 fn taken(end: End) -> (End, u32)
-    ensures { TakesMutator (standing_of end) (standing_of result.0) result.1 }
+    ensures { TakesMutator (stage_of end) (stage_of result.0) result.1 }
 {
     match end {
         End::Working(collector) => (End::Working(collector), NOT_YET),
@@ -138,7 +138,7 @@ fn taken(end: End) -> (End, u32)
 /// collector.
 #[unsafe(no_mangle)]
 pub extern "C" fn gcflip_beside_take(collector: &mut GcflipEnd) -> u32
-    ensures { TakesMutator (standing collector.old.end) (standing collector.new.end) result }
+    ensures { TakesMutator (stage collector.old.end) (stage collector.new.end) result }
 {
     let end = lent!(collector);
     let (next, answer) = taken(replace(end, End::Nothing));
@@ -147,7 +147,7 @@ pub extern "C" fn gcflip_beside_take(collector: &mut GcflipEnd) -> u32
 }
 
 fn gone(end: End) -> (End, u32)
-    ensures { Goes (standing_of end) (standing_of result.0) result.1 }
+    ensures { Goes (stage_of end) (stage_of result.0) result.1 }
 {
     match end {
         End::Working(collector) => (End::Working(collector), DONE),
@@ -160,7 +160,7 @@ fn gone(end: End) -> (End, u32)
 /// Asks no longer, and lets a mutator that has stopped go on in the same space. The collection stays open. Returns 0, or 3 if the handle has no collector.
 #[unsafe(no_mangle)]
 pub extern "C" fn gcflip_beside_go(collector: &mut GcflipEnd) -> u32
-    ensures { Goes (standing collector.old.end) (standing collector.new.end) result }
+    ensures { Goes (stage collector.old.end) (stage collector.new.end) result }
 {
     let end = lent!(collector);
     let (next, answer) = gone(replace(end, End::Nothing));
@@ -182,7 +182,7 @@ fn why(refused: NoFlip) -> u32
 
 // Gives the roots of a mutator that is held replicas of their targets.
 fn rooted(end: &mut End) -> u32
-    ensures { PlacesRoots (standing_of end.old) (standing_of end.new) result }
+    ensures { PlacesRoots (stage_of end.old) (stage_of end.new) result }
 {
     match end {
         End::Working(_) | End::Asking(_) => NOT_YET,
@@ -195,14 +195,14 @@ fn rooted(end: &mut End) -> u32
 /// collector does not hold the mutator, and 3 if the handle has no collector.
 #[unsafe(no_mangle)]
 pub extern "C" fn gcflip_beside_place_roots(collector: &mut GcflipEnd) -> u32
-    ensures { PlacesRoots (standing collector.old.end) (standing collector.new.end) result }
+    ensures { PlacesRoots (stage collector.old.end) (stage collector.new.end) result }
 {
     rooted(lent!(collector))
 }
 
 fn flipped<C: Checks>(alloc: Global, checker: &C, end: End) -> (End, u32)
     requires { C.can_check checker.now }
-    ensures { FlipsHeld (C.says_yes checker.now) (standing_of end) (standing_of result.0) result.1 }
+    ensures { FlipsHeld (C.says_yes checker.now) (stage_of end) (stage_of result.0) result.1 }
 {
     match end {
         End::Working(collector) => (End::Working(collector), NOT_YET),
@@ -220,7 +220,7 @@ fn flipped<C: Checks>(alloc: Global, checker: &C, end: End) -> (End, u32)
 /// collector does not hold the mutator, 3 if the handle has no collector, and 1 if an allocation fails. If it does not flip, nothing has changed.
 #[unsafe(no_mangle)]
 pub extern "C" fn gcflip_beside_flip(alloc: Global, collector: &mut GcflipEnd) -> u32
-    ensures { FlipsHeld IsCertifiedPair (standing collector.old.end) (standing collector.new.end) result }
+    ensures { FlipsHeld IsCertifiedPair (stage collector.old.end) (stage collector.new.end) result }
 {
     let end = lent!(collector);
     let (next, answer) = flipped(alloc, &Sequential, replace(end, End::Nothing));
@@ -230,7 +230,7 @@ pub extern "C" fn gcflip_beside_flip(alloc: Global, collector: &mut GcflipEnd) -
 
 fn finished<C: Checks>(alloc: Global, checker: &C, end: End) -> (End, u32)
     requires { C.can_check checker.now }
-    ensures { FinishesHeld (C.says_yes checker.now) (standing_of end) (standing_of result.0) result.1 }
+    ensures { FinishesHeld (C.says_yes checker.now) (stage_of end) (stage_of result.0) result.1 }
 {
     match end {
         End::Working(collector) => (End::Working(collector), NOT_YET),
@@ -247,7 +247,7 @@ fn finished<C: Checks>(alloc: Global, checker: &C, end: End) -> (End, u32)
 /// collector. Returns 1 if an allocation fails. The mutator's heap is then unchanged, and the collector still holds it.
 #[unsafe(no_mangle)]
 pub extern "C" fn gcflip_beside_finish(alloc: Global, collector: &mut GcflipEnd) -> u32
-    ensures { FinishesHeld IsCertifiedPair (standing collector.old.end) (standing collector.new.end) result }
+    ensures { FinishesHeld IsCertifiedPair (stage collector.old.end) (stage collector.new.end) result }
 {
     let end = lent!(collector);
     let (next, answer) = finished(alloc, &Sequential, replace(end, End::Nothing));

@@ -8,7 +8,7 @@ ghost use Rattle.gc_heap.specs.Places.{root_at};
 ghost use Rattle.gc_concurrent.specs.Holders.{heap_in};
 ghost use Rattle.gc_in_c.specs.Replies.{reply_in_c, got_in_c, number_after, view_after};
 ghost use Rattle.gcflip_beside_c.specs.Commands.{IsBesideCall, IsBesideCommand, GetsReply, field_numbered, room_in, roots_in};
-ghost use Rattle.gcflip_beside_c.specs.Standing.{standing, runs, cells_at};
+ghost use Rattle.gcflip_beside_c.specs.HandleStage.{stage, runs, cells_at};
 
 use crate::answer::{CLOSED, OUT_OF_RANGE, PARKED};
 use crate::end::End;
@@ -29,7 +29,7 @@ fn field(i: u32) -> u16
 #[unsafe(no_mangle)]
 pub extern "C" fn gcflip_beside_new(mutator: &mut GcflipEnd, d: u32, kind: u32, count: u32) -> u32
     ensures call { IsBesideCommand (λ roots. (d < roots) × (kind < kinds) × (count < lengths)) (Op.New (root_at d) kind count)
-        (standing mutator.old.end) (standing mutator.new.end) result }
+        (stage mutator.old.end) (stage mutator.new.end) result }
     ensures memory { result ≢ no_memory }
     ensures cells { cells_at mutator.new.end ≡ cells_at mutator.old.end }
 {
@@ -54,7 +54,7 @@ pub extern "C" fn gcflip_beside_new_raw(
     count: u32,
 ) -> u32
     ensures call { IsBesideCommand (λ roots. (d < roots) × (kind < kinds) × (count < lengths)) (Op.NewRaw (root_at d) kind count)
-        (standing mutator.old.end) (standing mutator.new.end) result }
+        (stage mutator.old.end) (stage mutator.new.end) result }
     ensures memory { result ≢ no_memory }
     ensures cells { cells_at mutator.new.end ≡ cells_at mutator.old.end }
 {
@@ -73,7 +73,7 @@ pub extern "C" fn gcflip_beside_new_raw(
 /// Puts the number `n`, which must be below 2^63, into root `d`.
 #[unsafe(no_mangle)]
 pub extern "C" fn gcflip_beside_set_number(mutator: &mut GcflipEnd, d: u32, n: u64) -> u32
-    ensures call { IsBesideCommand (λ roots. (d < roots) × (n < 2 ^ 63)) (Op.Num (root_at d) n) (standing mutator.old.end) (standing mutator.new.end) result }
+    ensures call { IsBesideCommand (λ roots. (d < roots) × (n < 2 ^ 63)) (Op.Num (root_at d) n) (stage mutator.old.end) (stage mutator.new.end) result }
     ensures memory { result ≢ no_memory }
     ensures cells { cells_at mutator.new.end ≡ cells_at mutator.old.end }
 {
@@ -92,7 +92,7 @@ pub extern "C" fn gcflip_beside_set_number(mutator: &mut GcflipEnd, d: u32, n: u
 /// Puts nil into root `d`.
 #[unsafe(no_mangle)]
 pub extern "C" fn gcflip_beside_set_nil(mutator: &mut GcflipEnd, d: u32) -> u32
-    ensures call { IsBesideCommand (λ roots. d < roots) (Op.Nil (root_at d)) (standing mutator.old.end) (standing mutator.new.end) result }
+    ensures call { IsBesideCommand (λ roots. d < roots) (Op.Nil (root_at d)) (stage mutator.old.end) (stage mutator.new.end) result }
     ensures memory { result ≢ no_memory }
     ensures cells { cells_at mutator.new.end ≡ cells_at mutator.old.end }
 {
@@ -109,7 +109,7 @@ pub extern "C" fn gcflip_beside_set_nil(mutator: &mut GcflipEnd, d: u32) -> u32
 #[unsafe(no_mangle)]
 pub extern "C" fn gcflip_beside_copy(mutator: &mut GcflipEnd, d: u32, s: u32) -> u32
     ensures call { IsBesideCommand (λ roots. (d < roots) × (s < roots)) (Op.Move (root_at d) (root_at s))
-        (standing mutator.old.end) (standing mutator.new.end) result }
+        (stage mutator.old.end) (stage mutator.new.end) result }
     ensures memory { result ≢ no_memory }
     ensures cells { cells_at mutator.new.end ≡ cells_at mutator.old.end }
 {
@@ -134,7 +134,7 @@ pub extern "C" fn gcflip_beside_get(
     number: &mut u64,
 ) -> u32
     ensures call { IsBesideCall (λ roots. (d < roots) × (s < roots)) (GetsReply (Op.Get (root_at d) (root_at s) (field_numbered i))
-        (λ reply. (result ≡ got_in_c reply) × (number.new ≡ number_after number.old reply))) (standing mutator.old.end) (standing mutator.new.end) result }
+        (λ reply. (result ≡ got_in_c reply) × (number.new ≡ number_after number.old reply))) (stage mutator.old.end) (stage mutator.new.end) result }
     ensures silent { IsRefusal result → number.new ≡ number.old }
     ensures memory { result ≢ no_memory }
     ensures cells { cells_at mutator.new.end ≡ cells_at mutator.old.end }
@@ -154,7 +154,7 @@ pub extern "C" fn gcflip_beside_get(
 #[unsafe(no_mangle)]
 pub extern "C" fn gcflip_beside_put(mutator: &mut GcflipEnd, s: u32, i: u32, t: u32) -> u32
     ensures call { IsBesideCommand (λ roots. (s < roots) × (t < roots)) (Op.Put (root_at s) (field_numbered i) (root_at t))
-        (standing mutator.old.end) (standing mutator.new.end) result }
+        (stage mutator.old.end) (stage mutator.new.end) result }
     ensures cells { cells_at mutator.new.end ≡ cells_at mutator.old.end }
 {
     let runner = match lent!(mutator) {
@@ -182,7 +182,7 @@ fn compared(commander: &Commander, s: u32, t: u32) -> u32
 #[unsafe(no_mangle)]
 pub extern "C" fn gcflip_beside_same(mutator: &mut GcflipEnd, s: u32, t: u32) -> u32
     ensures call { IsBesideCommand (λ roots. (s < roots) × (t < roots)) (Op.Same (root_at s) (root_at t))
-        (standing mutator.old.end) (standing mutator.new.end) result }
+        (stage mutator.old.end) (stage mutator.new.end) result }
     ensures memory { result ≢ no_memory }
     ensures cells { cells_at mutator.new.end ≡ cells_at mutator.old.end }
 {
@@ -200,7 +200,7 @@ pub extern "C" fn gcflip_beside_same(mutator: &mut GcflipEnd, s: u32, t: u32) ->
 #[unsafe(no_mangle)]
 pub extern "C" fn gcflip_beside_look(mutator: &mut GcflipEnd, s: u32, view: &mut GcflipView) -> u32
     ensures call { IsBesideCall (λ roots. s < roots) (GetsReply (Op.Look (root_at s))
-        (λ reply. (result ≡ reply_in_c reply) × (view.new ≡ view_after view.old reply))) (standing mutator.old.end) (standing mutator.new.end) result }
+        (λ reply. (result ≡ reply_in_c reply) × (view.new ≡ view_after view.old reply))) (stage mutator.old.end) (stage mutator.new.end) result }
     ensures silent { IsRefusal result → view.new ≡ view.old }
     ensures memory { result ≢ no_memory }
     ensures cells { cells_at mutator.new.end ≡ cells_at mutator.old.end }
@@ -217,7 +217,7 @@ pub extern "C" fn gcflip_beside_look(mutator: &mut GcflipEnd, s: u32, view: &mut
 /// Returns the number of roots of a mutator that runs, otherwise 0.
 #[unsafe(no_mangle)]
 pub extern "C" fn gcflip_beside_roots(mutator: &mut GcflipEnd) -> u32
-    ensures count { result ≡ roots_in (standing mutator.old.end) }
+    ensures count { result ≡ roots_in (stage mutator.old.end) }
     ensures end { mutator.new.end ≡ mutator.old.end }
 {
     if mutator.is_empty() {
@@ -232,7 +232,7 @@ pub extern "C" fn gcflip_beside_roots(mutator: &mut GcflipEnd) -> u32
 /// Returns the number of free words of a mutator that runs, otherwise 0.
 #[unsafe(no_mangle)]
 pub extern "C" fn gcflip_beside_room(mutator: &mut GcflipEnd) -> u32
-    ensures words { result ≡ room_in (standing mutator.old.end) }
+    ensures words { result ≡ room_in (stage mutator.old.end) }
     ensures end { mutator.new.end ≡ mutator.old.end }
 {
     if mutator.is_empty() {

@@ -1,7 +1,7 @@
 //! One end of a heap, at each of its stages.
 
 ghost use Rattle.std.specs.Prelude.{MatchBool};
-ghost use Rattle.gcflip_beside_c.specs.Standing.{standing_of, IsMutator, IsCollector};
+ghost use Rattle.gcflip_beside_c.specs.HandleStage.{stage_of, IsMutator, IsCollector};
 
 use gc_concurrent::{Asking, Collector, Holding, Runner, Waiting};
 
@@ -19,14 +19,14 @@ pub enum End {
 impl End {
     /// Returns whether this is a mutator.
     pub(crate) fn is_mutator(&self) -> bool
-        ensures { MatchBool result (IsMutator (standing_of self.now)) (¬ IsMutator (standing_of self.now)) }
+        ensures { MatchBool result (IsMutator (stage_of self.now)) (¬ IsMutator (stage_of self.now)) }
     {
         matches!(self, End::Running(_) | End::Parked(_))
     }
 
     /// Returns whether this is a collector.
     pub(crate) fn is_collector(&self) -> bool
-        ensures { MatchBool result (IsCollector (standing_of self.now)) (¬ IsCollector (standing_of self.now)) }
+        ensures { MatchBool result (IsCollector (stage_of self.now)) (¬ IsCollector (stage_of self.now)) }
     {
         matches!(self, End::Working(_) | End::Asking(_) | End::Holding(_))
     }

@@ -5,7 +5,7 @@ ghost use Rattle.gc_check.specs.InC.{done, no_memory};
 ghost use Rattle.gc_heap.specs.ExtraRoots.{most_extra_roots};
 ghost use Rattle.gc_in_c.specs.Answers.{out_of_range, closed_handle, open_handle};
 ghost use Rattle.gcflip_beside_c.specs.Opening.{AreOpened, CanOpenBeside};
-ghost use Rattle.gcflip_beside_c.specs.Standing.{standing, standing_of, cells_at, IsCollector, IsMutator};
+ghost use Rattle.gcflip_beside_c.specs.HandleStage.{stage, stage_of, cells_at, IsCollector, IsMutator};
 
 use crate::answer::{CLOSED, DONE, NO_MEMORY, OPEN, OUT_OF_RANGE};
 use crate::end::End;
@@ -68,8 +68,8 @@ pub extern "C" fn gcflip_beside_open(
 pub extern "C" fn gcflip_beside_close_mutator(alloc: Global, mutator: &mut GcflipEnd) -> u32
     ensures answers { (result ≡ done) ⊎ (result ≡ closed_handle) }
     ensures none { result ≡ done → mutator.new.end ≡ None }
-    ensures kept { result ≡ closed_handle → mutator.new.end ≡ mutator.old.end }
-    ensures closed { (result ≡ done) ↔ IsMutator (standing mutator.old.end) }
+    ensures unchanged { result ≡ closed_handle → mutator.new.end ≡ mutator.old.end }
+    ensures closed { (result ≡ done) ↔ IsMutator (stage mutator.old.end) }
 {
     if !lent!(mutator).is_mutator() {
         return CLOSED;
@@ -92,8 +92,8 @@ fn let_go(end: End) {
 pub extern "C" fn gcflip_beside_close_collector(alloc: Global, collector: &mut GcflipEnd) -> u32
     ensures answers { (result ≡ done) ⊎ (result ≡ closed_handle) }
     ensures none { result ≡ done → collector.new.end ≡ None }
-    ensures kept { result ≡ closed_handle → collector.new.end ≡ collector.old.end }
-    ensures closed { (result ≡ done) ↔ IsCollector (standing collector.old.end) }
+    ensures unchanged { result ≡ closed_handle → collector.new.end ≡ collector.old.end }
+    ensures closed { (result ≡ done) ↔ IsCollector (stage collector.old.end) }
 {
     let end = lent!(collector);
     if !end.is_collector() {

@@ -1,7 +1,7 @@
 //! The exports by which a mutator stops at a safepoint and goes on. None of them waits.
 
 ghost use Rattle.gcflip_beside_c.specs.Stages.{Stops, Resumes};
-ghost use Rattle.gcflip_beside_c.specs.Standing.{standing, standing_of};
+ghost use Rattle.gcflip_beside_c.specs.HandleStage.{stage, stage_of};
 
 use crate::answer::{CLOSED, DONE, NOT_YET, PARKED};
 use crate::end::End;
@@ -11,7 +11,7 @@ use std::mem::replace;
 
 // Stops the mutator if its collector asks for it.
 fn stopped(end: End) -> (End, u32)
-    ensures { Stops (standing_of end) (standing_of result.0) result.1 }
+    ensures { Stops (stage_of end) (stage_of result.0) result.1 }
 {
     match end {
         End::Running(runner) => {
@@ -31,7 +31,7 @@ fn stopped(end: End) -> (End, u32)
 /// A safepoint: if the collector asks for it, the mutator stops. Returns 0 if it runs on, 12 if it has stopped, and 3 if the handle has no mutator.
 #[unsafe(no_mangle)]
 pub extern "C" fn gcflip_beside_safepoint(mutator: &mut GcflipEnd) -> u32
-    ensures { Stops (standing mutator.old.end) (standing mutator.new.end) result }
+    ensures { Stops (stage mutator.old.end) (stage mutator.new.end) result }
 {
     let end = lent!(mutator);
     let (next, answer) = stopped(replace(end, End::Nothing));
@@ -41,7 +41,7 @@ pub extern "C" fn gcflip_beside_safepoint(mutator: &mut GcflipEnd) -> u32
 
 // Lets the mutator go on if its collector allows it.
 fn resumed(end: End) -> (End, u32)
-    ensures { Resumes (standing_of end) (standing_of result.0) result.1 }
+    ensures { Resumes (stage_of end) (stage_of result.0) result.1 }
 {
     match end {
         End::Running(runner) => (End::Running(runner), DONE),
@@ -56,7 +56,7 @@ fn resumed(end: End) -> (End, u32)
 /// Lets a mutator that has stopped go on, if its collector allows it. Returns 0 if it runs, 13 if it has to wait longer, and 3 if the handle has no mutator.
 #[unsafe(no_mangle)]
 pub extern "C" fn gcflip_beside_resume(mutator: &mut GcflipEnd) -> u32
-    ensures { Resumes (standing mutator.old.end) (standing mutator.new.end) result }
+    ensures { Resumes (stage mutator.old.end) (stage mutator.new.end) result }
 {
     let end = lent!(mutator);
     let (next, answer) = resumed(replace(end, End::Nothing));

@@ -4,7 +4,7 @@ use Rattle.std.proofs.Common.{◌≡◌, inl, inr, ℕ, Option, Some, Result, Ok
 use Rattle.std.specs.Prelude.{IfOk, OnErr}
 use Rattle.gc_graph.specs.declared.reply.Reply.{Reply}
 use Rattle.gc_check.specs.InC.{done, no_memory, IsRefusal}
-use Rattle.gc_plan.specs.State.{State}
+use Rattle.gc_model.specs.State.{State}
 use Rattle.gc_collected.specs.Collected.{Collected}
 use Rattle.gc_pace.specs.Beside.{LeavesBeside, WasRefused}
 use Rattle.gc_pace.specs.declared.work.Work.{Work}

@@ -3,8 +3,8 @@ use Rattle.std.specs.Prelude.{◌≡◌, ℕ, IsSomeAnd}
 use Rattle.gc_check.specs.InC.{IsReported}
 use Rattle.gc_check.specs.declared.in_c.GcflipVerdict.{GcflipVerdict}
 use Rattle.gc_check.specs.declared.verdict.Verdict.TheVariants as verdict
-use Rattle.gc_plan.specs.State.{State}
-use Rattle.gc_plan.specs.declared.step.StepReply.TheVariants as steps
+use Rattle.gc_model.specs.State.{State}
+use Rattle.gc_model.specs.declared.step.StepReply.TheVariants as steps
 use Rattle.gc_collected.specs.Flip.{flip_pair, IsCertified}
 use Rattle.gc_collected.specs.declared.checking.Finding.{Finding}
 use Rattle.gc_collected.specs.declared.checking.Finding.TheVariants.{Idle, NotReady, Holds, Refused}

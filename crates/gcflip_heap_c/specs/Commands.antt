@@ -2,7 +2,7 @@
 use Rattle.std.specs.Prelude.{◌≡◌, ◌⊎◌, ℕ, ◌↔◌, Option, None, IsSomeAnd}
 use Rattle.gc_graph.specs.declared.reply.Reply.{Reply}
 use Rattle.gc_check.specs.InC.{no_memory, IsRefusal}
-use Rattle.gc_plan.specs.State.{State}
+use Rattle.gc_model.specs.State.{State}
 use Rattle.gc_collected.specs.Collected.{Collected}
 use Rattle.gc_in_c.specs.Answers.{out_of_range, closed_handle}
 use Rattle.gc_in_c.specs.Replies.{reply_in_c}

@@ -1,7 +1,7 @@
 -- What calls on frames return, which are stacks of extra roots.
 use Rattle.std.specs.Prelude.{◌≡◌, ◌⊎◌, ℕ, ◌∷◌, [], Option}
 use Rattle.gc_graph.specs.declared.reply.Reply.{Reply}
-use Rattle.gc_plan.specs.State.{State}
+use Rattle.gc_model.specs.State.{State}
 use Rattle.gc_pace.specs.Frames.{HasFrame}
 use Rattle.gc_pace.specs.declared.frame.Frame.{Frame}
 use Rattle.gcflip_heap_c.specs.Commands.{IsCall, Replies}

@@ -7,7 +7,7 @@ use Rattle.std.specs.Coded.{code_by, coded_option}
 use Rattle.std.specs.Box.Ownership.{box_owns}
 use Rattle.std.specs.declared.alloc.Global.{Global}
 use Rattle.std.specs.contracts.impls.GlobalAllocator.TheImpl.{ghosts}
-use Rattle.gc_plan.specs.State.{State, opening_state}
+use Rattle.gc_model.specs.State.{State, opening_state}
 use Rattle.gc_collected.specs.Collected.{Beside, Collected, opening_beside}
 use Rattle.gc_collected.specs.contracts.collected_heap.CollectedHeap.{the_row}
 use Rattle.gc_collected.specs.declared.checks.Checking.TheVariants.{AtFlip}

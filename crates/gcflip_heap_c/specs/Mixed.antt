@@ -6,7 +6,7 @@ use Rattle.gc_collected.specs.declared.mixed.FieldSource.{FieldSource}
 use Rattle.gc_collected.specs.declared.mixed.FieldSource.TheVariants.{Nil, Number, Slot}
 use Rattle.gc_collected.specs.declared.giving.FieldValue.{FieldValue}
 use Rattle.gc_collected.specs.declared.giving.FieldValue.TheVariants as values
-use Rattle.gc_plan.specs.State.{State}
+use Rattle.gc_model.specs.State.{State}
 use Rattle.gcflip_heap_c.specs.declared.mixed.GcflipField.{GcflipField}
 use Rattle.gcflip_heap_c.specs.Slots.{slot_numbers, numbered_slot}
 

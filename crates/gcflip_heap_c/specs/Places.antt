@@ -1,7 +1,7 @@
 -- Roots by the numbers that C gives them, which are their places.
 use Rattle.std.specs.Prelude.{ℕ, ◌+◌, ◌<◌, ◌≤◌, length, List}
 use Rattle.std.specs.List.{AllByRecursion}
-use Rattle.gc_plan.specs.State.{State}
+use Rattle.gc_model.specs.State.{State}
 
 -- the state has a root at each of these places
 abbrev pub HasRoots : List ℕ → State → Type 0

@@ -6,7 +6,7 @@ use Rattle.gc_graph.specs.Machine.{view_of}
 use Rattle.gc_graph.specs.Slots.{SlotName, place}
 use Rattle.gc_check.specs.InC.{done}
 use Rattle.gc_graph.specs.declared.reply.Reply.TheVariants.{NoObject, NoField}
-use Rattle.gc_plan.specs.State.{State}
+use Rattle.gc_model.specs.State.{State}
 use Rattle.gc_in_c.specs.Replies.{reply_in_c, seen_in_c, view_in_c}
 use Rattle.gc_in_c.specs.declared.reply.GcflipView.{GcflipView}
 

@@ -1,7 +1,7 @@
 -- Replies to steps as C sees them: the number that a call returns, and what it writes. Replies to commands have the numbers of gc_in_c.
 use Rattle.std.specs.Prelude.{ℕ}
-use Rattle.gc_plan.specs.declared.step.StepReply.{StepReply}
-use Rattle.gc_plan.specs.declared.step.StepReply.TheVariants as steps
+use Rattle.gc_model.specs.declared.step.StepReply.{StepReply}
+use Rattle.gc_model.specs.declared.step.StepReply.TheVariants as steps
 
 abbrev pub step_reply_in_c : StepReply → ℕ
 step_reply_in_c steps.Busy = 32

@@ -3,7 +3,7 @@ use Rattle.std.specs.Prelude.{◌≡◌, ◌⊎◌, ℕ, ◌+◌, ◌<◌, ◌�
 use Rattle.std.specs.Option.{option_map_or}
 use Rattle.gc_check.specs.InC.{done}
 use Rattle.gc_graph.specs.declared.reply.Reply.TheVariants.{Full}
-use Rattle.gc_plan.specs.State.{State}
+use Rattle.gc_model.specs.State.{State}
 use Rattle.gc_collected.specs.Collected.{Collected}
 use Rattle.gc_pace.specs.Beside.{LeavesBeside, WasRefused}
 use Rattle.gc_pace.specs.Counts.{counts_in}
@@ -12,8 +12,8 @@ use Rattle.gc_pace.specs.Work.{IsWork, has_flipped, no_work}
 use Rattle.gc_pace.specs.declared.pace.Pace.{Pace}
 use Rattle.gc_pace.specs.declared.work.Looks.TheVariants.{Count}
 use Rattle.gc_pace.specs.declared.work.Work.{Work}
-use Rattle.gc_plan.specs.declared.step.StepReply.{StepReply}
-use Rattle.gc_plan.specs.declared.step.StepReply.TheVariants.{Busy, NoRoom}
+use Rattle.gc_model.specs.declared.step.StepReply.{StepReply}
+use Rattle.gc_model.specs.declared.step.StepReply.TheVariants.{Busy, NoRoom}
 use Rattle.gc_in_c.specs.Replies.{reply_in_c}
 use Rattle.gcflip_heap_c.specs.Replies.{step_reply_in_c}
 use Rattle.gcflip_heap_c.specs.Work.{work_in_c}

@@ -2,7 +2,7 @@
 use Rattle.std.specs.Prelude.{ℕ, ◌-◌, ◌<◌, nat_lt, if◌then◌else◌, List}
 use Rattle.std.specs.List.{AllByRecursion}
 use Rattle.gc_graph.specs.Slots.{SlotName, own_slot, shared_slot}
-use Rattle.gc_plan.specs.State.{State}
+use Rattle.gc_model.specs.State.{State}
 
 abbrev pub slot_numbers : ℕ
 slot_numbers = 32

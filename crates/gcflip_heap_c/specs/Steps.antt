@@ -1,10 +1,10 @@
 -- What a call of a collector step returns, and the state after it.
 use Rattle.std.specs.Prelude.{◌≡◌, ℕ, Option}
-use Rattle.gc_plan.specs.State.{State}
-use Rattle.gc_plan.specs.Steps.{collect}
-use Rattle.gc_plan.specs.declared.step.Step.{Step}
-use Rattle.gc_plan.specs.declared.step.Step.TheVariants as steps
-use Rattle.gc_plan.specs.declared.step.StepReply.{StepReply}
+use Rattle.gc_model.specs.State.{State}
+use Rattle.gc_model.specs.Steps.{collect}
+use Rattle.gc_model.specs.declared.step.Step.{Step}
+use Rattle.gc_model.specs.declared.step.Step.TheVariants as steps
+use Rattle.gc_model.specs.declared.step.StepReply.{StepReply}
 use Rattle.gcflip_heap_c.specs.Commands.{IsCall, Replies}
 use Rattle.gcflip_heap_c.specs.Replies.{step_reply_in_c}
 use Rattle.gcflip_heap_c.specs.declared.stepping.GcflipStep.{GcflipStep}

@@ -2,7 +2,7 @@
 
 ghost use Rattle.std.specs.Prelude.{◌≡◌, ◌⊎◌, ◌↔◌, None, IsSomeAnd};
 ghost use Rattle.gc_check.specs.InC.{done, no_memory, IsRefusal};
-ghost use Rattle.gc_plan.specs.declared.step.Step.{Step};
+ghost use Rattle.gc_model.specs.declared.step.Step.{Step};
 ghost use Rattle.gc_collected.specs.Checking.{finding};
 ghost use Rattle.gc_collected.specs.CollectedHeap.{Allocates};
 ghost use Rattle.gc_in_c.specs.Answers.{closed_handle};

@@ -4,7 +4,7 @@ ghost use Rattle.std.specs.Prelude.{◌≡◌, ◌≢◌, ◌<◌, ◌^◌, ◌�
 ghost use Rattle.gc_check.specs.InC.{no_memory, IsRefusal};
 ghost use Rattle.gc_graph.specs.Limits.{lengths};
 ghost use Rattle.gc_graph.specs.declared.command.Op.{Op};
-ghost use Rattle.gc_plan.specs.Steps.{mutate};
+ghost use Rattle.gc_model.specs.Steps.{mutate};
 ghost use Rattle.gc_collected.specs.CollectedHeap.{new_from_step};
 ghost use Rattle.gcflip_heap_c.specs.Commands.{IsCall, IsCommandCall, Replies};
 ghost use Rattle.gc_in_c.specs.Replies.{reply_in_c, got_in_c, number_after, view_after};

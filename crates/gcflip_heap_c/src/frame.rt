@@ -2,7 +2,7 @@
 
 ghost use Rattle.std.specs.Prelude.{◌≡◌, ◌≢◌, ◌⊎◌, ◌<◌, ◌≤◌, ◌-◌, ◌↔◌, ◌∷◌, []};
 ghost use Rattle.gc_check.specs.InC.{done, no_memory, IsRefusal};
-ghost use Rattle.gc_plan.specs.State.{extra_roots_of};
+ghost use Rattle.gc_model.specs.State.{extra_roots_of};
 ghost use Rattle.gc_collected.specs.ExtraRoots.{clear_step};
 ghost use Rattle.gcflip_heap_c.specs.Answers.{frame_full, frame_empty};
 ghost use Rattle.gcflip_heap_c.specs.Commands.{IsCall, IsCommandCall};

@@ -2,7 +2,7 @@
 
 ghost use Rattle.std.specs.Prelude.{◌≡◌, ℕ, Option, Some, None, IsSome, MatchBool, MatchOption};
 ghost use Rattle.std.specs.Borrow.{sem};
-ghost use Rattle.gc_plan.specs.State.{State};
+ghost use Rattle.gc_model.specs.State.{State};
 ghost use Rattle.gc_collected.specs.Collected.{Beside};
 ghost use Rattle.gcflip_heap_c.specs.Handle.{owns_heap, coded_state, coded_beside, coded_roots_left};
 

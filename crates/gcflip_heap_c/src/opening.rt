@@ -92,7 +92,7 @@ pub extern "C" fn gcflip_heap_touch(heap: &mut GcflipHeap) -> u32
     // Then there is room for a collection as large as the heap, unless one is open. Nothing else has changed.
     ensures rooms { result ≡ done → IsSomeAnd heap.old.state (λ s.
         heap.new.beside ≡ record heap.old.beside { rooms = rooms_touched (heap_behind heap.old s) }) }
-    ensures kept { 1 ≤ result → heap.new.beside ≡ heap.old.beside }
+    ensures unchanged { 1 ≤ result → heap.new.beside ≡ heap.old.beside }
     ensures closed { (result ≡ closed_handle) ↔ (heap.old.state ≡ None) }
 {
     match lent!(heap).touch() {

@@ -2,7 +2,7 @@
 
 ghost use Rattle.std.specs.Prelude.{◌≡◌, ◌⊎◌, ◌≤◌, ◌↔◌, None, IsSomeAnd};
 ghost use Rattle.gc_check.specs.InC.{done, no_memory};
-ghost use Rattle.gc_plan.specs.Steps.{useful_step};
+ghost use Rattle.gc_model.specs.Steps.{useful_step};
 ghost use Rattle.gc_collected.specs.CollectedHeap.{Allocates};
 ghost use Rattle.gc_pace.specs.Counts.{counts_in};
 ghost use Rattle.gc_pace.specs.Pace.{IsPace, IsPacedWork, Pays, pace_from, steps_due};
@@ -59,7 +59,7 @@ pub extern "C" fn gcflip_heap_work_paced(
     ensures silent { 1 ≤ result → (pace.new ≡ pace.old) × (work.new ≡ work.old) }
     ensures memory { result ≡ no_memory → IsSomeAnd heap.old.state (λ s. Allocates s (useful_step s)) }
     // A refused call changes nothing but the memory that waits.
-    ensures kept { 1 ≤ result → heap.new.beside ≡ record heap.old.beside { rooms = heap.new.beside.rooms } }
+    ensures unchanged { 1 ≤ result → heap.new.beside ≡ record heap.old.beside { rooms = heap.new.beside.rooms } }
     ensures freed { 1 ≤ result → RefusedRooms result heap.old.beside.rooms heap.new.beside.rooms }
 {
     let heap = lent!(heap);

@@ -8,7 +8,7 @@ ghost use Rattle.gc_graph.specs.Limits.{kinds, lengths};
 ghost use Rattle.gc_graph.specs.declared.command.Op.{Op};
 ghost use Rattle.gc_graph.specs.declared.reply.Reply.{Reply};
 ghost use Rattle.gc_heap.specs.Places.{root_at};
-ghost use Rattle.gc_plan.specs.Steps.{mutate};
+ghost use Rattle.gc_model.specs.Steps.{mutate};
 ghost use Rattle.gc_collected.specs.Surely.{PutsSurely};
 ghost use Rattle.gc_collected.specs.Values.{put_value_step};
 ghost use Rattle.gc_collected.specs.Viewing.{get_reply};
@@ -155,7 +155,7 @@ pub extern "C" fn gcflip_put_sure(heap: &mut GcflipHeap, m: u32, s: u32, i: u32,
     ensures call { IsCall (λ state. (m < state.mutators) × HasRoots (s ∷ t ∷ []) state) (λ before after. (reply : Reply)
         × PutsSurely m (Op.Put (root_at s) i (root_at t)) reply (heap_behind heap.old before) (heap_behind heap.new after) × (result ≡ reply_in_c reply)) heap.old.state heap.new.state result }
     ensures memory { result ≢ no_memory }
-    ensures kept { IsRefusal result → heap.new.beside ≡ heap.old.beside }
+    ensures unchanged { IsRefusal result → heap.new.beside ≡ heap.old.beside }
 {
     let heap = lent!(heap);
     let roots = heap.root_places();

@@ -5,7 +5,7 @@ ghost use Rattle.std.specs.Prelude.{◌≡◌, ◌≢◌, ◌<◌, ◌∷◌, []
 ghost use Rattle.gc_heap.specs.Places.{root_at};
 ghost use Rattle.gc_check.specs.InC.{no_memory};
 ghost use Rattle.gc_graph.specs.declared.command.Op.{Op};
-ghost use Rattle.gc_plan.specs.Steps.{mutate};
+ghost use Rattle.gc_model.specs.Steps.{mutate};
 ghost use Rattle.gc_collected.specs.CollectedHeap.{new_from_step};
 ghost use Rattle.gcflip_heap_c.specs.Commands.{IsCommandCall};
 ghost use Rattle.gcflip_heap_c.specs.Places.{HasRoots};

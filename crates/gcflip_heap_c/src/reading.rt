@@ -100,7 +100,7 @@ pub extern "C" fn gcflip_heap_log_entry(
 fn copy_image(heap: &CollectedHeap, words: &mut [u64], roots: &mut [u64]) -> bool
     ensures fits { IsTrue result ↔ FitsImage words.old roots.old heap.now.core }
     ensures copied { IsTrue result → (words.new ≡ (heap_image heap.now.core).words) × (roots.new ≡ (heap_image heap.now.core).roots) }
-    ensures kept { IsFalse result → (words.new ≡ words.old) × (roots.new ≡ roots.old) }
+    ensures unchanged { IsFalse result → (words.new ≡ words.old) × (roots.new ≡ roots.old) }
 {
     let image = heap.image();
     if words.len() != image.words.len() || roots.len() != image.roots.len() {
@@ -146,7 +146,7 @@ pub extern "C" fn gcflip_heap_image(
 fn copy_new_words(heap: &CollectedHeap, words: &mut [u64]) -> bool
     ensures fits { IsTrue result ↔ IsSomeAnd (new_words heap.now.core) (λ new. length words.old ≡ length new) }
     ensures copied { IsTrue result → new_words heap.now.core ≡ Some words.new }
-    ensures kept { IsFalse result → words.new ≡ words.old }
+    ensures unchanged { IsFalse result → words.new ≡ words.old }
 {
     let Some(source) = heap.new_words() else {
         return false;

@@ -54,7 +54,7 @@ pub extern "C" fn gcflip_reserve(
         (heap_behind heap.old s) (heap_behind heap.new t) work.new result) heap.old.state heap.new.state result }
     ensures silent { IsRefusal result → (pace.new ≡ pace.old) × (work.new ≡ work.old) }
     ensures memory { result ≢ no_memory }
-    ensures kept { IsRefusal result → heap.new.beside ≡ heap.old.beside }
+    ensures unchanged { IsRefusal result → heap.new.beside ≡ heap.old.beside }
 {
     let heap = lent!(heap);
     if !pace.is_fit() {
@@ -71,7 +71,7 @@ pub extern "C" fn gcflip_collect(heap: &mut GcflipHeap, work: &mut GcflipWork) -
         heap.old.state heap.new.state result }
     ensures silent { IsRefusal result → work.new ≡ work.old }
     ensures memory { result ≢ no_memory }
-    ensures kept { IsRefusal result → heap.new.beside ≡ heap.old.beside }
+    ensures unchanged { IsRefusal result → heap.new.beside ≡ heap.old.beside }
 {
     let heap = lent!(heap);
     let made = collect_anew(heap);
@@ -86,7 +86,7 @@ pub extern "C" fn gcflip_release(heap: &mut GcflipHeap) -> u32
     ensures answers { (result ≡ done) ⊎ (result ≡ busy) ⊎ (result ≡ closed_handle) }
     ensures heap { heap.new.state ≡ heap.old.state }
     ensures freed { result ≡ done → heap.new.beside ≡ released heap.old.beside }
-    ensures kept { result ≢ done → heap.new.beside ≡ heap.old.beside }
+    ensures unchanged { result ≢ done → heap.new.beside ≡ heap.old.beside }
     ensures open { (result ≡ busy) ↔ IsSomeAnd heap.old.state (λ s. IsSome s.collection) }
     ensures closed { (result ≡ closed_handle) ↔ (heap.old.state ≡ None) }
 {

@@ -2,10 +2,10 @@
 
 ghost use Rattle.std.specs.Prelude.{◌≡◌, ◌≢◌, ◌⊎◌, ◌↔◌, ◌<◌, ◌≤◌, None, IfSome, IsSome, IsSomeAnd, IsTrue, MatchOption, ⊤};
 ghost use Rattle.gc_check.specs.InC.{done, no_memory, IsRefusal};
-ghost use Rattle.gc_plan.specs.declared.step.Step.{Step};
-ghost use Rattle.gc_plan.specs.Steps.{collect, useful_step};
+ghost use Rattle.gc_model.specs.declared.step.Step.{Step};
+ghost use Rattle.gc_model.specs.Steps.{collect, useful_step};
 ghost use Rattle.gc_collected.specs.CollectedHeap.{Allocates};
-ghost use Rattle.gc_plan.specs.declared.step.StepReply.{StepReply};
+ghost use Rattle.gc_model.specs.declared.step.StepReply.{StepReply};
 ghost use Rattle.gc_collected.specs.Flip.{FormerAfter, HasRoomIfLarge, new_size};
 ghost use Rattle.gc_collected.specs.Collected.{BeginsIn, checks_whole, rooms_flipped, rooms_given_up, turns_after};
 ghost use Rattle.gc_collected.specs.declared.flip.Keep.{Keep};
@@ -76,7 +76,7 @@ pub extern "C" fn gcflip_heap_step_begin(heap: &mut GcflipHeap) -> u32
     ensures rooms { result ≡ step_reply_in_c StepReply.Begun → IsSomeAnd heap.old.state (λ s. BeginsIn s.size heap.old.beside heap.new.beside.rooms) }
     ensures freed { result ≢ step_reply_in_c StepReply.Begun → RefusedRooms result heap.old.beside.rooms heap.new.beside.rooms }
     ensures pair { heap.new.beside.pair ≡ heap.old.beside.pair }
-    ensures kept { IsRefusal result → heap.new.beside.former ≡ heap.old.beside.former }
+    ensures unchanged { IsRefusal result → heap.new.beside.former ≡ heap.old.beside.former }
 {
     match lent!(heap).begin() {
         Ok(begun) => of_step(begun),
@@ -95,7 +95,7 @@ pub extern "C" fn gcflip_heap_step_begin_sized(heap: &mut GcflipHeap, size: u32)
     ensures rooms { result ≡ step_reply_in_c StepReply.Begun → IsSomeAnd heap.old.state (λ s. BeginsIn size heap.old.beside heap.new.beside.rooms) }
     ensures freed { result ≢ step_reply_in_c StepReply.Begun → RefusedRooms result heap.old.beside.rooms heap.new.beside.rooms }
     ensures pair { heap.new.beside.pair ≡ heap.old.beside.pair }
-    ensures kept { IsRefusal result → heap.new.beside.former ≡ heap.old.beside.former }
+    ensures unchanged { IsRefusal result → heap.new.beside.former ≡ heap.old.beside.former }
 {
     let heap = lent!(heap);
     if size < 1 {
@@ -160,7 +160,7 @@ pub extern "C" fn gcflip_heap_step_flip(heap: &mut GcflipHeap, pairs: &mut u32) 
     ensures due { result ≡ no_memory → IsTrue (checks_whole Keep.Room heap.old.beside.turns) }
     ensures pair { heap.new.beside.pair ≡ heap.old.beside.pair }
     // A refused call changes nothing but the memory that waits.
-    ensures kept { IsRefusal result → heap.new.beside ≡ record heap.old.beside { rooms = heap.new.beside.rooms } }
+    ensures unchanged { IsRefusal result → heap.new.beside ≡ record heap.old.beside { rooms = heap.new.beside.rooms } }
     ensures silent { IsRefusal result → pairs.new ≡ pairs.old }
 {
     match lent!(heap).flip(&Sequential, Keep::Room) {

@@ -2,7 +2,7 @@
 
 ghost use Rattle.std.specs.Prelude.{◌≡◌, ◌≤◌, ◌↔◌, Some, None, IfSome, IsSomeAnd, IsTrue, IfOk, OnErr};
 ghost use Rattle.gc_check.specs.InC.{done, no_memory};
-ghost use Rattle.gc_plan.specs.Steps.{useful_step};
+ghost use Rattle.gc_model.specs.Steps.{useful_step};
 ghost use Rattle.gc_collected.specs.CollectedHeap.{Allocates};
 ghost use Rattle.gc_pace.specs.Work.{IsWork, sized_step};
 ghost use Rattle.gc_pace.specs.declared.work.Looks.{Looks};
@@ -76,7 +76,7 @@ fn work_sized(heap: &mut GcflipHeap, size: Option<u32>, most: u32, work: &mut Gc
     ensures silent { 1 ≤ result → work.new ≡ work.old }
     ensures memory { result ≡ no_memory → IsSomeAnd heap.old.state (λ s. Allocates s (sized_step size s)) }
     // A refused call changes nothing but the memory that waits.
-    ensures kept { 1 ≤ result → heap.new.beside ≡ record heap.old.beside { rooms = heap.new.beside.rooms } }
+    ensures unchanged { 1 ≤ result → heap.new.beside ≡ record heap.old.beside { rooms = heap.new.beside.rooms } }
     ensures freed { 1 ≤ result → RefusedRooms result heap.old.beside.rooms heap.new.beside.rooms }
 {
     let heap = lent!(heap);
@@ -95,7 +95,7 @@ pub extern "C" fn gcflip_heap_work(heap: &mut GcflipHeap, most: u32, work: &mut 
     ensures silent { 1 ≤ result → work.new ≡ work.old }
     ensures memory { result ≡ no_memory → IsSomeAnd heap.old.state (λ s. Allocates s (useful_step s)) }
     // A refused call changes nothing but the memory that waits.
-    ensures kept { 1 ≤ result → heap.new.beside ≡ record heap.old.beside { rooms = heap.new.beside.rooms } }
+    ensures unchanged { 1 ≤ result → heap.new.beside ≡ record heap.old.beside { rooms = heap.new.beside.rooms } }
     ensures freed { 1 ≤ result → RefusedRooms result heap.old.beside.rooms heap.new.beside.rooms }
 {
     work_sized(heap, None, most, work)
@@ -113,7 +113,7 @@ pub extern "C" fn gcflip_heap_work_sized(
     ensures silent { 1 ≤ result → work.new ≡ work.old }
     ensures memory { result ≡ no_memory → IsSomeAnd heap.old.state (λ s. Allocates s (sized_step (Some size) s)) }
     // A refused call changes nothing but the memory that waits.
-    ensures kept { 1 ≤ result → heap.new.beside ≡ record heap.old.beside { rooms = heap.new.beside.rooms } }
+    ensures unchanged { 1 ≤ result → heap.new.beside ≡ record heap.old.beside { rooms = heap.new.beside.rooms } }
     ensures freed { 1 ≤ result → RefusedRooms result heap.old.beside.rooms heap.new.beside.rooms }
 {
     work_sized(heap, Some(size), most, work)
@@ -131,7 +131,7 @@ pub extern "C" fn gcflip_heap_work_within(
     ensures silent { 1 ≤ result → work.new ≡ work.old }
     ensures memory { result ≡ no_memory → IsSomeAnd heap.old.state (λ s. Allocates s (useful_step s)) }
     // A refused call changes nothing but the memory that waits.
-    ensures kept { 1 ≤ result → heap.new.beside ≡ record heap.old.beside { rooms = heap.new.beside.rooms } }
+    ensures unchanged { 1 ≤ result → heap.new.beside ≡ record heap.old.beside { rooms = heap.new.beside.rooms } }
     ensures freed { 1 ≤ result → RefusedRooms result heap.old.beside.rooms heap.new.beside.rooms }
 {
     let heap = lent!(heap);

@@ -1,4 +1,5 @@
 -- The words of a field that is up to date agree, as a standing checker compares them.
+-- For the theorem that what the monitor accepts is certified.
 use Rattle.std.proofs.Common.{◌≡◌, ℕ, ◌<◌, true, List, map, length, get_or, drop, Some, ap, sym, ◌∙◌, arith, ◌+◌, ◌≤◌}
 use Rattle.std.specs.Prelude.{slice_get, slice_index}
 use Rattle.std.proofs.lemmas.List.{get_or-take, get_or-drop}
@@ -8,11 +9,11 @@ use Rattle.gc_graph.specs.Graph.{Value, Object}
 use Rattle.gc_graph.specs.Correspond.{correspond}
 use Rattle.gc_words.specs.Word.{field_words_correspond}
 use Rattle.gc_words.specs.Layout.{field_place, fields_place}
-use Rattle.gc_plan.specs.State.{Replica, Collection, State, heap_end, new_end, pairs_of}
-use Rattle.gc_plan.specs.Linked.{object_header, field_word}
-use Rattle.gc_plan.specs.Members.{In}
-use Rattle.gc_plan.specs.Belonging.{IsSpaceGraph, IsOpened, IsNamed, RefersTo}
-use Rattle.gc_plan.proofs.Public.{field_words_of_corresponding, refers_map, laid_range, lookup_in, IsAddress, named_address, get_in, get_past, in_map, in_map_from, IsPlace, pair, placed, refers_corresponding}
+use Rattle.gc_model.specs.State.{Replica, Collection, State, heap_end, new_end, pairs_of}
+use Rattle.gc_model.specs.Linked.{object_header, field_word}
+use Rattle.gc_model.specs.Members.{In}
+use Rattle.gc_model.specs.Belonging.{IsSpaceGraph, IsOpened, IsNamed, RefersTo}
+use Rattle.gc_model.proofs.Public.{field_words_of_corresponding, refers_map, laid_range, lookup_in, IsAddress, named_address, get_in, get_past, in_map, in_map_from, IsPlace, pair, placed, refers_corresponding}
 use Rattle.gc_collected.specs.Internal.Beside.{heap_words, replica_words}
 use Rattle.gc_collected.proofs.Monitor.Shown.{AreSized, Shows, shown_at}
 use Rattle.gc_collected.proofs.Monitor.Told.{ShowsReplicas, shows_replicas}

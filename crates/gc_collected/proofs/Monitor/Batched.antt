@@ -1,4 +1,5 @@
 -- A run of scans, of which a standing checker is told afterwards: of all its replicas first, and then of the scanned fields.
+-- For the theorem that the monitor is never lost.
 use Rattle.std.proofs.lemmas.Grind.{common_steps}
 use Rattle.std.proofs.Common.{◌≡◌, ◌⊎◌, inl, inr, ⊎_elim, ℕ, zero, suc, ◌+◌, ◌<◌, ◌≤◌, ◌==◌, nat_lt, Bool, true, false, cond, List, [], ◌∷◌, ◌++◌, map, length, take, drop, Option, Some, None, is_some, refl, ap, sym, ◌∙◌, subst, arith}
 use Rattle.std.specs.Prelude.{slice_index}
@@ -8,18 +9,18 @@ use Rattle.gc_graph.specs.Graph.{Value, Nil, Num, Ref, Object, Graph, lookup, fi
 use Rattle.gc_words.specs.Word.{read_header, header_word}
 use Rattle.gc_words.specs.Layout.{fields_place, link_place}
 use Rattle.gc_words.specs.declared.header.Header.{Header}
-use Rattle.gc_plan.specs.State.{Replica, Collection, State, new_end, new_free, replica_of, moved}
-use Rattle.gc_plan.specs.Steps.{scan, fresh_replica, place_replica, with_replica, with_written, write_replica, bring_value, bring_up_to_date}
-use Rattle.gc_plan.specs.Linked.{object_header, field_word}
-use Rattle.gc_plan.specs.Members.{In}
-use Rattle.gc_plan.specs.Belonging.{IsOpened, IsSpaceGraph}
-use Rattle.gc_plan.specs.declared.step.StepReply.TheVariants.{Scanned}
-use Rattle.gc_plan.proofs.Public.{find_some, in_left, in_map, pair, same_original, with_written_pair, with_written_length}
+use Rattle.gc_model.specs.State.{Replica, Collection, State, new_end, new_free, replica_of, moved}
+use Rattle.gc_model.specs.Steps.{scan, fresh_replica, place_replica, with_replica, with_written, write_replica, bring_value, bring_up_to_date}
+use Rattle.gc_model.specs.Linked.{object_header, field_word}
+use Rattle.gc_model.specs.Members.{In}
+use Rattle.gc_model.specs.Belonging.{IsOpened, IsSpaceGraph}
+use Rattle.gc_model.specs.declared.step.StepReply.TheVariants.{Scanned}
+use Rattle.gc_model.proofs.Public.{find_some, in_left, in_map, pair, same_original, with_written_pair, with_written_length}
 use Rattle.gc_copy.proofs.Public.{all_opened, does, having, opened_once, scanned_on, scanned_once, Moves}
-use Rattle.gc_along.specs.Claims.{CanPlaceNext, OwesNone}
-use Rattle.gc_along.specs.Events.{IsClaim, IsCopy, Placed}
-use Rattle.gc_along.specs.Runs.{PlacedRun, PlacedAll, CanPlaceAll}
-use Rattle.gc_along.specs.Tables.{Tables}
+use Rattle.gc_monitor.specs.Claims.{CanPlaceNext, OwesNone}
+use Rattle.gc_monitor.specs.Events.{IsClaim, IsCopy, Placed}
+use Rattle.gc_monitor.specs.Runs.{PlacedRun, PlacedAll, CanPlaceAll}
+use Rattle.gc_monitor.specs.Tables.{Tables}
 use Rattle.gc_collected.specs.Internal.Beside.{heap_words, replica_words}
 use Rattle.gc_collected.proofs.Monitor.Agree.{replicas_shown}
 use Rattle.gc_collected.proofs.Monitor.Behind.{IsBehind, still_true, still_behind, passes}
@@ -195,7 +196,7 @@ restated s c x p f t b = record {
   earlier = b.earlier;
   fits = b.fits;
   each = b.each;
-  knows = record { kept = b.knows.kept; due = b.knows.due; marks = b.knows.marks; old_room = b.knows.old_room; new_room = b.knows.new_room };
+  knows = record { agree = b.knows.agree; due = b.knows.due; marks = b.knows.marks; old_room = b.knows.old_room; new_room = b.knows.new_room };
 }
 
 as_before : (s : State) (c x : Collection) (p f : ℕ) (t : Tables) → IsBehind (having s c) x p f t → IsBehind s x p f t
@@ -204,7 +205,7 @@ as_before s c x p f t b = record {
   earlier = b.earlier;
   fits = b.fits;
   each = b.each;
-  knows = record { kept = b.knows.kept; due = b.knows.due; marks = b.knows.marks; old_room = b.knows.old_room; new_room = b.knows.new_room };
+  knows = record { agree = b.knows.agree; due = b.knows.due; marks = b.knows.marks; old_room = b.knows.old_room; new_room = b.knows.new_room };
 }
 
 at_end_same : (old W : List ℕ) (m : ℕ) (t mid : Tables) → length W ≤ length t.news → PlacedRun old W m t mid → mid ≡ t

@@ -1,4 +1,5 @@
 -- A standing checker whose looks are behind: it was told of all replicas, and looks at the scanned fields afterwards.
+-- For the theorem that the monitor is never lost.
 use Rattle.std.proofs.lemmas.Grind.{common_steps}
 use Rattle.std.proofs.Common.{◌≡◌, ◌≢◌, ◌⊎◌, inl, inr, ⊎_elim, ℕ, suc, ◌+◌, ◌<◌, ◌≤◌, ◌==◌, Bool, true, false, ◌||◌, map, length, get_or, Some, refl, ap, sym, ◌∙◌, subst, arith}
 use Rattle.std.specs.Prelude.{IsTrue, IfSome}
@@ -6,18 +7,18 @@ use Rattle.std.proofs.lemmas.Bool.{cases_eq, cases_Bool, eqb-true, or_cases, con
 use Rattle.std.proofs.lemmas.List.{get_or-set_other}
 use Rattle.gc_graph.specs.Graph.{Object}
 use Rattle.gc_words.specs.Layout.{field_place}
-use Rattle.gc_plan.specs.State.{Replica, Collection, State, heap_end, new_end}
-use Rattle.gc_plan.specs.Steps.{scan, scan_replica, with_collection}
-use Rattle.gc_plan.specs.Members.{In}
-use Rattle.gc_plan.specs.Belonging.{IsDue, IsUnscanned, IsScanPlace, IsSpaceGraph, IsOpened}
-use Rattle.gc_plan.specs.declared.step.StepReply.{StepReply}
-use Rattle.gc_plan.specs.declared.step.StepReply.TheVariants.{Passed, Scanned}
-use Rattle.gc_plan.specs.declared.step.Step.TheVariants as steps
-use Rattle.gc_plan.proofs.Public.{found_by_place, open_keeps, AreReplicas, Grown, bringing, replicas_due, replicas_end, its_replicas, belongs_from, laid_apart, laid_range, find_some, in_map, placed, same_place}
-use Rattle.gc_along.specs.Claims.{CanPlaceNext, CanLook, OwesNone}
-use Rattle.gc_along.specs.Events.{Placed, Looked, with_due}
-use Rattle.gc_along.specs.Tables.{Tables, watch_of, due_in}
-use Rattle.gc_along.specs.Watch.{Watch, is_due}
+use Rattle.gc_model.specs.State.{Replica, Collection, State, heap_end, new_end}
+use Rattle.gc_model.specs.Steps.{scan, scan_replica, with_collection}
+use Rattle.gc_model.specs.Members.{In}
+use Rattle.gc_model.specs.Belonging.{IsDue, IsUnscanned, IsScanPlace, IsSpaceGraph, IsOpened}
+use Rattle.gc_model.specs.declared.step.StepReply.{StepReply}
+use Rattle.gc_model.specs.declared.step.StepReply.TheVariants.{Passed, Scanned}
+use Rattle.gc_model.specs.declared.step.Step.TheVariants as steps
+use Rattle.gc_model.proofs.Public.{found_by_place, open_keeps, AreReplicas, Grown, bringing, replicas_due, replicas_end, its_replicas, belongs_from, laid_apart, laid_range, find_some, in_map, placed, same_place}
+use Rattle.gc_monitor.specs.Claims.{CanPlaceNext, CanLook, OwesNone}
+use Rattle.gc_monitor.specs.Events.{Placed, Looked, with_due}
+use Rattle.gc_monitor.specs.Tables.{Tables, watch_of, due_in}
+use Rattle.gc_monitor.specs.Watch.{Watch, is_due}
 use Rattle.gc_collected.specs.Internal.Beside.{heap_words, replica_words}
 use Rattle.gc_collected.specs.Internal.Knows.{Knows}
 use Rattle.gc_collected.specs.Internal.Stays.{WatchFits}
@@ -335,7 +336,7 @@ module _ (s : State) (c : Collection) (q : Replica) (f : ℕ) (t : Tables) (link
     fits = fits_marked (heap_end s) c t (field_place q.place f) false b.fits;
     each = each_then;
     knows = knows_from (λ raw p a j. IsDue (lagging c q.place f) raw p a j × ((p ≡ q.place) × (j ≡ f) → ⊥)) s (lagging c q.place (suc f)) (with_due t (field_place q.place f) false)
-        (record { kept = known.kept; due = known.due; marks = known.marks }) (b.knows.old_room, b.knows.new_room)
+        (record { agree = known.agree; due = known.due; marks = known.marks }) (b.knows.old_room, b.knows.new_room)
         (λ r k j m d. ⊎_elim
         (λ u. inl (u.0, ⊎_elim (λ far. inl far) (λ here. inr (here.0, (let le : f ≤ j = here.1 in let differ : j ≢ f = (λ e. d.1 (sym here.0, e)) in omega arith))) u.1))
         (λ g. inr g)
@@ -349,7 +350,7 @@ module _ (s : State) (c : Collection) (q : Replica) (f : ℕ) (t : Tables) (link
       found = looked_is (IsDue (lagging c q.place f)) s (lagging c q.place f) links heap (lag_opened s c q.place f t opened b) t lag_fits after q q.place f l refl low goes_then (origin_is (heap_end s) c t q b.fits l low) looked
 
       known : KnowsBy (λ raw p a j. IsDue (lagging c q.place f) raw p a j × ((p ≡ q.place) × (j ≡ f) → ⊥)) s (lagging c q.place f) (with_due t (field_place q.place f) false)
-      known = looked_known (IsDue (lagging c q.place f)) s (lagging c q.place f) links heap (lag_opened s c q.place f t opened b) t lag_fits q f l small (record { kept = b.knows.kept; due = b.knows.due; marks = b.knows.marks })
+      known = looked_known (IsDue (lagging c q.place f)) s (lagging c q.place f) links heap (lag_opened s c q.place f t opened b) t lag_fits q f l small (record { agree = b.knows.agree; due = b.knows.due; marks = b.knows.marks })
 
 -- ---- the looks go on to the next replica
 
@@ -404,6 +405,6 @@ module _ (s : State) (c : Collection) (q : Replica) (f : ℕ) (t : Tables) (open
     fits = b.fits;
     each = replicas_due s.heap.graph.objects c.size (Lags q.place f c (watch_of t)) (Lags (q.place + (length q.object.fields + 2)) 0 c (watch_of t)) c.replicas b.each
         (λ r k i small d. (d.0, λ n u. d.1 n (inl (⊎_elim (λ far. omega arith) (λ here. (let e : q.place + (length q.object.fields + 2) ≡ r.place = here.0 in omega arith)) u))));
-    knows = knows_from (IsDue (lagging c q.place f)) s (lagging c (q.place + (length q.object.fields + 2)) 0) t (record { kept = b.knows.kept; due = b.knows.due; marks = b.knows.marks }) (b.knows.old_room, b.knows.new_room)
+    knows = knows_from (IsDue (lagging c q.place f)) s (lagging c (q.place + (length q.object.fields + 2)) 0) t (record { agree = b.knows.agree; due = b.knows.due; marks = b.knows.marks }) (b.knows.old_room, b.knows.new_room)
         (λ r k i small d. ⊎_elim (λ u. inl (u.0, unscanned_on s (lagging c q.place f) (lagging c (q.place + (length q.object.fields + 2)) 0) (lag_opened s c q.place f t opened b) passing r k u.0 i small u.1)) (λ g. inr g) d);
   }

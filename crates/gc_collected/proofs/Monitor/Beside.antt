@@ -1,15 +1,16 @@
 -- The tables of a standing checker beside a heap's state, through the collector's steps.
+-- For the theorem that the monitor follows its heap.
 use Rattle.std.proofs.lemmas.Grind.{common_steps}
 use Rattle.std.proofs.Common.{◌≡◌, inl, inr, ⊎_elim, ℕ, Bool, true, false, cond, List, ◌∷◌, map, Option, Some, None, is_some, refl, ap, sym, subst, arith}
-use Rattle.gc_plan.specs.State.{Replica, Collection, State, heap_end, new_end, replica_of}
-use Rattle.gc_plan.specs.Steps.{with_log, place_replica, bring_up_to_date, if_room, root_target, copy_root, apply_entry, apply_log}
-use Rattle.gc_plan.specs.Members.{In}
-use Rattle.gc_plan.specs.Belonging.{IsOpened, IsSpaceGraph}
-use Rattle.gc_plan.specs.declared.step.StepReply.{StepReply}
-use Rattle.gc_plan.specs.declared.step.StepReply.TheVariants.{Clean, NoRoom, Copied, Applied}
-use Rattle.gc_plan.proofs.Public.{in_map, in_map_from, in_left, pair}
-use Rattle.gc_along.specs.Tables.{Tables, watch_of}
-use Rattle.gc_along.specs.Events.{Placed, Applied as AppliedTo}
+use Rattle.gc_model.specs.State.{Replica, Collection, State, heap_end, new_end, replica_of}
+use Rattle.gc_model.specs.Steps.{with_log, place_replica, bring_up_to_date, if_room, root_target, copy_root, apply_entry, apply_log}
+use Rattle.gc_model.specs.Members.{In}
+use Rattle.gc_model.specs.Belonging.{IsOpened, IsSpaceGraph}
+use Rattle.gc_model.specs.declared.step.StepReply.{StepReply}
+use Rattle.gc_model.specs.declared.step.StepReply.TheVariants.{Clean, NoRoom, Copied, Applied}
+use Rattle.gc_model.proofs.Public.{in_map, in_map_from, in_left, pair}
+use Rattle.gc_monitor.specs.Tables.{Tables, watch_of}
+use Rattle.gc_monitor.specs.Events.{Placed, Applied as AppliedTo}
 use Rattle.gc_collected.specs.Internal.Beside.{replica_words}
 use Rattle.gc_collected.proofs.Monitor.Events.{Goes, roots_copied, entry_applied}
 use Rattle.gc_collected.proofs.Monitor.Growth.{IsAdded, HasSame, Adds, adds_none, adds_placed, adds_brought}

@@ -1,4 +1,5 @@
 -- What a standing checker is told at a collector's step is true, so that it is not lost.
+-- For the theorem that the monitor is never lost.
 use Rattle.std.proofs.lemmas.Grind.{common_steps}
 use Rattle.std.proofs.Common.{◌≡◌, inl, inr, ⊎_elim, ℕ, ◌+◌, ◌%◌, ◌<◌, ◌≤◌, true, map, length, get_or, Some, ap, sym, ◌∙◌, subst, arith, rules}
 use Rattle.std.specs.Prelude.{slice_index}
@@ -6,16 +7,16 @@ use Rattle.std.proofs.lemmas.Bool.{eqb-true}
 use Rattle.gc_graph.specs.Graph.{Object, lookup}
 use Rattle.gc_words.specs.Word.{header_word, read_header}
 use Rattle.gc_words.specs.Layout.{link_place}
-use Rattle.gc_plan.specs.State.{Replica, Collection, State, heap_end, new_end}
-use Rattle.gc_plan.specs.Linked.{LeadsTo, object_header}
-use Rattle.gc_plan.specs.Members.{In}
-use Rattle.gc_plan.specs.Belonging.{IsDue, IsSpaceGraph, IsOpened}
-use Rattle.gc_plan.proofs.Public.{laid_range, lookup_in, end_is, found_by_name, in_map, pair, placed, in_paired, same_original}
-use Rattle.gc_along.specs.Claims.{CanPlaceNext, CanLook, CanApply, IsLinked}
-use Rattle.gc_along.specs.Events.{IsClaim, IsCopy}
-use Rattle.gc_along.specs.Origins.{pairs_in}
-use Rattle.gc_along.specs.Tables.{Tables, watch_of}
-use Rattle.gc_along.proofs.Public.{told}
+use Rattle.gc_model.specs.State.{Replica, Collection, State, heap_end, new_end}
+use Rattle.gc_model.specs.Linked.{LeadsTo, object_header}
+use Rattle.gc_model.specs.Members.{In}
+use Rattle.gc_model.specs.Belonging.{IsDue, IsSpaceGraph, IsOpened}
+use Rattle.gc_model.proofs.Public.{laid_range, lookup_in, end_is, found_by_name, in_map, pair, placed, in_paired, same_original}
+use Rattle.gc_monitor.specs.Claims.{CanPlaceNext, CanLook, CanApply, IsLinked}
+use Rattle.gc_monitor.specs.Events.{IsClaim, IsCopy}
+use Rattle.gc_monitor.specs.Origins.{pairs_in}
+use Rattle.gc_monitor.specs.Tables.{Tables, watch_of}
+use Rattle.gc_monitor.proofs.Public.{told}
 use Rattle.gc_collected.specs.Internal.Beside.{heap_words, replica_words}
 use Rattle.gc_collected.specs.Internal.Knows.{Knows, Marks}
 use Rattle.gc_collected.specs.Internal.Stays.{WatchFits}
@@ -119,7 +120,7 @@ module _ (s : State) (c next : Collection) (t : Tables) (links : ℕ → ℕ) (h
           within = omega arith;
           bound = omega arith;
         };
-        rows = knows.kept.rows;
+        rows = knows.agree.rows;
         link = ap (λ n. slice_index (replica_words next) (link_place n)) place ∙ shows.link_is;
         low = at.low;
         within = omega arith;

@@ -1,4 +1,5 @@
 -- The tables of a standing checker know the heap through the mutators' commands, and it is not lost at any.
+-- For the theorem that the monitor is never lost.
 use Rattle.std.proofs.lemmas.Grind.{common_steps}
 use Rattle.std.proofs.Common.{◌≡◌, ◌≢◌, ◌⊎◌, inl, inr, ⊎_elim, ℕ, zero, suc, ◌+◌, ◌-◌, ◌<◌, ◌≤◌, ◌==◌, ◌&&◌, not, nat_lt, Bool, true, false, List, [], ◌∷◌, ◌++◌, map, length, get_or, set, Option, Some, None, refl, ap, sym, ◌∙◌, subst, arith}
 use Rattle.std.specs.Prelude.{slice_get, slice_set, slice_index}
@@ -14,17 +15,17 @@ use Rattle.gc_graph.specs.declared.reply.Reply.{Reply}
 use Rattle.gc_words.specs.Word.{read_header}
 use Rattle.gc_words.specs.Layout.{field_place}
 use Rattle.gc_words.specs.declared.header.Header.{Header}
-use Rattle.gc_plan.specs.State.{Replica, Collection, State, heap_end, new_end}
-use Rattle.gc_plan.specs.Steps.{logged, mutate, fresh_collection}
-use Rattle.gc_plan.specs.Linked.{LeadsTo, object_header}
-use Rattle.gc_plan.specs.Members.{In}
-use Rattle.gc_plan.specs.Belonging.{IsDue, IsLogged, IsNamed, IsSpaceGraph, IsOpened}
-use Rattle.gc_plan.proofs.Public.{set_from, laid_range, laid_apart, end_is, in_left, in_push, in_map, placed}
-use Rattle.gc_along.specs.Claims.{CanMake, CanWrite, IsLinked}
-use Rattle.gc_along.specs.Events.{Made, Wrote, object_codes, old_added}
-use Rattle.gc_along.specs.Tables.{Tables, watch_of, due_in}
-use Rattle.gc_along.specs.Telling.{IsMark}
-use Rattle.gc_along.proofs.Public.{kept_old, kept_due, in_front}
+use Rattle.gc_model.specs.State.{Replica, Collection, State, heap_end, new_end}
+use Rattle.gc_model.specs.Steps.{logged, mutate, fresh_collection}
+use Rattle.gc_model.specs.Linked.{LeadsTo, object_header}
+use Rattle.gc_model.specs.Members.{In}
+use Rattle.gc_model.specs.Belonging.{IsDue, IsLogged, IsNamed, IsSpaceGraph, IsOpened}
+use Rattle.gc_model.proofs.Public.{set_from, laid_range, laid_apart, end_is, in_left, in_push, in_map, placed}
+use Rattle.gc_monitor.specs.Claims.{CanMake, CanWrite, IsLinked}
+use Rattle.gc_monitor.specs.Events.{Made, Wrote, object_codes, old_added}
+use Rattle.gc_monitor.specs.Tables.{Tables, watch_of, due_in}
+use Rattle.gc_monitor.specs.Telling.{IsMark}
+use Rattle.gc_monitor.proofs.Public.{agree_old, agree_due, in_front}
 use Rattle.gc_collected.specs.Internal.Beside.{heap_words}
 use Rattle.gc_collected.specs.Internal.Knows.{Knows, KnowsAll, open_or_fresh}
 use Rattle.gc_collected.specs.Internal.Stays.{WatchFits}
@@ -129,13 +130,13 @@ pub record Continues (s s' : State) (New : ℕ → Type 0) : Type 0 where
   pub size : s'.size ≡ s.size
   pub collection : SameOpen s.collection s'.collection
   pub names : (a : ℕ) → IsNamed s'.heap.graph.objects a → IsNamed s.heap.graph.objects a ⊎ New a
-  pub kept : (a : ℕ) → IsNamed s.heap.graph.objects a → IsNamed s'.heap.graph.objects a
+  pub stays : (a : ℕ) → IsNamed s.heap.graph.objects a → IsNamed s'.heap.graph.objects a
 
 same_open : (o : Option Collection) → SameOpen o o
 same_open o = grind (arith, common_steps, same_but)
 
 pub continues_same : (s : State) (New : ℕ → Type 0) → Continues s s New
-continues_same s New = record { mutators = refl; size = refl; collection = same_open s.collection; names = λ a n. inl n; kept = λ a n. n }
+continues_same s New = record { mutators = refl; size = refl; collection = same_open s.collection; names = λ a n. inl n; stays = λ a n. n }
 
 open_trans : (o p q : Option Collection) → SameOpen o p → SameOpen p q → SameOpen o q
 open_trans None None None h k = tt
@@ -151,7 +152,7 @@ continues_on s mid s' One Two All f g h k = record {
   size = k.size ∙ h.size;
   collection = open_trans s.collection mid.collection s'.collection h.collection k.collection;
   names = λ a n. ⊎_elim (λ m. ⊎_elim (λ l. inl l) (λ l. inr (f a l)) (h.names a m)) (λ m. inr (g a m)) (k.names a n);
-  kept = λ a n. k.kept a (h.kept a n);
+  stays = λ a n. k.stays a (h.stays a n);
 }
 
 -- entries behind those of a log
@@ -174,7 +175,7 @@ continues_one s s' m op reply said = subst (λ (x : Reply × State). Continues s
   names = λ a. cond_both (nat_lt s.heap.free (words_taken op)) _ _ (λ (next : Reply × Roomy). IsNamed next.1.graph.objects a → IsNamed s.heap.graph.objects a ⊎ NewName s op a)
       (λ full n. inl n)
       (λ fits n. names_step s.heap.graph m op (heap_end s) a n);
-  kept = λ a n. cond_both (nat_lt s.heap.free (words_taken op)) _ _ (λ (next : Reply × Roomy). IsNamed next.1.graph.objects a)
+  stays = λ a n. cond_both (nat_lt s.heap.free (words_taken op)) _ _ (λ (next : Reply × Roomy). IsNamed next.1.graph.objects a)
       (λ full. n)
       (λ fits. kept_step s.heap.graph m op (heap_end s) a n);
 })
@@ -196,7 +197,7 @@ known_on s s' c d t same size marked stays k = grind (arith, common_steps, due_o
 
 pub quiet_known : (s s' : State) (t : Tables) (New : ℕ → Type 0) → Continues s s' New → ((a : ℕ) → New a → ⊥) → KnowsAll s t → KnowsAll s' t
 quiet_known s s' t New on none k = known_on s s' (open_or_fresh s s.collection) (open_or_fresh s' s'.collection) t (open_same s s' s.collection s'.collection on.mutators on.collection) on.size
-    (λ a n. ⊎_elim (λ l. k.marks.olds a l) (λ l. absurd (none a l)) (on.names a n)) on.kept k
+    (λ a n. ⊎_elim (λ l. k.marks.olds a l) (λ l. absurd (none a l)) (on.names a n)) on.stays k
 
 -- ---- an object made
 
@@ -240,7 +241,7 @@ module _ (s s' : State) (t : Tables) (links : ℕ → ℕ) (later : IsSpaceGraph
     | inl y ↦ (let m = is.more (ltb-true (length t.olds) (length (heap_words links s')) y) in subst (KnowsAll s') (sym m.2) (one_more (ltb-true (length t.olds) (length (heap_words links s')) y) m.0))
     | inr n ↦ (let past : length (heap_words links s') ≤ length t.olds = ltb-false (length t.olds) (length (heap_words links s')) n in
         subst (KnowsAll s') (sym (is.at_end past)) (known_on s s' (open_or_fresh s s.collection) (open_or_fresh s' s'.collection) t same on.size
-        (λ a l. ⊎_elim (λ old. k.marks.olds a old) (λ new. absurd (none_behind a l (omega (arith, count)))) (on.names a l)) on.kept k))
+        (λ a l. ⊎_elim (λ old. k.marks.olds a old) (λ new. absurd (none_behind a l (omega (arith, count)))) (on.names a l)) on.stays k))
   ]
     where
       same : SameBut (open_or_fresh s s.collection) (open_or_fresh s' s'.collection)
@@ -255,7 +256,7 @@ module _ (s s' : State) (t : Tables) (links : ℕ → ℕ) (later : IsSpaceGraph
 
       one_more : length t.olds < length (heap_words links s') → (h : Header) → KnowsAll s' (old_added t h)
       one_more less h = record {
-        kept = kept_old t h k.kept;
+        agree = agree_old t h k.agree;
         due = λ place x. (let f = k.due place x in (f.0, subst (In f.0) (sym same.replicas) f.1, f.2, f.3, f.4, due_on (open_or_fresh s s.collection) (open_or_fresh s' s'.collection) same f.0.object.raw f.0.place f.0.original f.2 f.5));
         marks = record {
           olds = λ a l. ⊎_elim
@@ -263,7 +264,7 @@ module _ (s s' : State) (t : Tables) (links : ℕ → ℕ) (later : IsSpaceGraph
               (λ new. inl (get_or-append_right t.olds (object_codes h.len 0) (length t.olds) a 0 refl (omega arith) ∙ ap (λ n. get_or (object_codes h.len 0) n 0) (let z : a - length t.olds ≡ 0 = omega arith in z)))
               (on.names a l);
           starts = λ a mark. elim (cases_Bool (nat_lt a (length t.olds))) [
-            | inl y ↦ on.kept a (k.marks.starts a (subst IsMark (get_or_append_left t.olds (object_codes h.len 0) 0 a (ltb-true a (length t.olds) y)) mark))
+            | inl y ↦ on.stays a (k.marks.starts a (subst IsMark (get_or_append_left t.olds (object_codes h.len 0) 0 a (ltb-true a (length t.olds) y)) mark))
             | inr n ↦ (let past : length t.olds ≤ a = ltb-false a (length t.olds) n in
                 let first : a - length t.olds ≡ 0 = only_first h.len (a - length t.olds) (subst IsMark (get_or-append_right t.olds (object_codes h.len 0) (length t.olds) a 0 refl past) mark) in
                 let here : length t.olds ≡ a = omega arith in
@@ -310,7 +311,7 @@ module _ (s : State) (d : Collection) (links : ℕ → ℕ) (heap : IsSpaceGraph
       let place : q.0.place ≡ b = ap (λ (p : ℕ × ℕ). p.1) q.2 in
       subst (λ (x : Tables). Knows s d x × WatchFits (heap_end s) d (watch_of x)) (sym is) (
         record {
-          kept = kept_due t (field_place b i) true k.kept;
+          agree = agree_due t (field_place b i) true k.agree;
           due = λ p x. elim (cases_eq p (field_place b i)) [
             | inl here ↦ (q.0, q.1, i, field_is q.0 q.1 name, here ∙ ap (λ n. field_place n i) (sym place), inr (subst (λ n. IsLogged d n i) (sym name) noted))
             | inr other ↦ k.due p (sym (get_or-set_other (due_in t.news) (field_place b i) p true false other) ∙ (sym (ap (λ bs. get_or bs p false) (marked_at t (field_place b i) true)) ∙ x))

@@ -1,15 +1,16 @@
 -- The tables of a standing checker know the heap where a collection begins, is given up, or ends in a flip.
+-- For the theorem that the monitor is never lost.
 use Rattle.std.proofs.lemmas.Grind.{common_steps}
 use Rattle.std.proofs.Common.{◌≡◌, ◌≢◌, inl, inr, ⊎_elim, ℕ, suc, ◌≤◌, [], ◌∷◌, map, get_or, None, refl, ap, sym, ◌∙◌, subst, arith}
 use Rattle.gc_graph.specs.Graph.{Object}
-use Rattle.gc_plan.specs.State.{Collection, State, heap_end}
-use Rattle.gc_plan.specs.Steps.{flipped, fresh_collection}
-use Rattle.gc_plan.specs.Members.{In}
-use Rattle.gc_plan.specs.Belonging.{IsNamed, IsOpened, IsSpaceGraph}
-use Rattle.gc_plan.proofs.Public.{laid_range, lookup_in, in_map, in_map_from, placed}
-use Rattle.gc_along.specs.Events.{Freed, flipped_tables, opening_tables}
-use Rattle.gc_along.specs.Tables.{Tables, watch_of}
-use Rattle.gc_along.specs.Telling.{IsMark}
+use Rattle.gc_model.specs.State.{Collection, State, heap_end}
+use Rattle.gc_model.specs.Steps.{flipped, fresh_collection}
+use Rattle.gc_model.specs.Members.{In}
+use Rattle.gc_model.specs.Belonging.{IsNamed, IsOpened, IsSpaceGraph}
+use Rattle.gc_model.proofs.Public.{laid_range, lookup_in, in_map, in_map_from, placed}
+use Rattle.gc_monitor.specs.Events.{Freed, flipped_tables, opening_tables}
+use Rattle.gc_monitor.specs.Tables.{Tables, watch_of}
+use Rattle.gc_monitor.specs.Telling.{IsMark}
 use Rattle.gc_collected.specs.Internal.Knows.{Knows, KnowsAll}
 use Rattle.gc_collected.proofs.Monitor.Claimed.{origin_is}
 use Rattle.gc_collected.proofs.Monitor.Events.{Goes}

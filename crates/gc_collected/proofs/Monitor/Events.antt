@@ -1,4 +1,5 @@
 -- The core's steps and commands, with what the watch may lose and has to mark at each.
+-- For the theorem that the monitor follows its heap.
 use Rattle.std.proofs.lemmas.Grind.{common_steps}
 use Rattle.std.proofs.Common.{◌≡◌, inr, ⊎_elim, ℕ, nat_lt, Bool, true, false, cond, List, ◌∷◌, flat_map, Option, Some, None, is_some, refl, ap, sym, ◌∙◌, subst, arith}
 use Rattle.std.proofs.lemmas.Bool.{cond_both}
@@ -6,15 +7,15 @@ use Rattle.gc_graph.specs.Graph.{lookup, names_of}
 use Rattle.gc_graph.specs.Machine.{Roomy, words_taken, roomy_step}
 use Rattle.gc_graph.specs.declared.command.Op.{Op}
 use Rattle.gc_graph.specs.declared.reply.Reply.{Reply}
-use Rattle.gc_plan.specs.State.{Collection, State, heap_end, new_end, replica_of}
-use Rattle.gc_plan.specs.Steps.{with_log, place_replica, bring_up_to_date, with_collection, if_room, root_target, copy_root, apply_entry, apply_log}
-use Rattle.gc_plan.specs.Members.{In}
-use Rattle.gc_plan.specs.Belonging.{IsOpened}
-use Rattle.gc_plan.specs.declared.step.StepReply.{StepReply}
-use Rattle.gc_plan.specs.declared.step.StepReply.TheVariants.{Clean, NoRoom, Copied, Applied}
-use Rattle.gc_plan.proofs.Public.{Evolves, WrittenBy, unchanged, step_evolves, replicas_due, unreplicated_some, no_replica, AreReplicas}
+use Rattle.gc_model.specs.State.{Collection, State, heap_end, new_end, replica_of}
+use Rattle.gc_model.specs.Steps.{with_log, place_replica, bring_up_to_date, with_collection, if_room, root_target, copy_root, apply_entry, apply_log}
+use Rattle.gc_model.specs.Members.{In}
+use Rattle.gc_model.specs.Belonging.{IsOpened}
+use Rattle.gc_model.specs.declared.step.StepReply.{StepReply}
+use Rattle.gc_model.specs.declared.step.StepReply.TheVariants.{Clean, NoRoom, Copied, Applied}
+use Rattle.gc_model.proofs.Public.{Evolves, WrittenBy, unchanged, step_evolves, replicas_due, unreplicated_some, no_replica, AreReplicas}
 use Rattle.gc_words.proofs.Public.{none_of}
-use Rattle.gc_along.specs.Watch.{Watch}
+use Rattle.gc_monitor.specs.Watch.{Watch}
 use Rattle.gc_collected.specs.Internal.Stays.{DueFor, WatchFits, GoesAlong, LosesOnly, LosesNone}
 use Rattle.gc_collected.proofs.Monitor.Stays.{Sound, sound, watched, brought, placed_next, moved_on}
 

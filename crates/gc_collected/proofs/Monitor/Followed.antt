@@ -1,20 +1,21 @@
 -- The looks of a standing checker that was told of all replicas of a run of scans: they come to the scan pointer, and then it goes along.
+-- For the theorem that the monitor is never lost.
 use Rattle.std.proofs.Common.{◌≡◌, ◌≢◌, ◌⊎◌, inl, inr, ⊎_elim, ℕ, zero, suc, ◌+◌, ◌<◌, ◌≤◌, ◌==◌, Bool, true, false, ◌||◌, map, length, Some, refl, ap, sym, ◌∙◌, subst, arith}
 use Rattle.std.specs.Prelude.{slice_index}
 use Rattle.std.proofs.lemmas.Bool.{eqb-true, eq-eqb, or_left, or_right}
 use Rattle.gc_graph.specs.Graph.{Object}
 use Rattle.gc_words.specs.Word.{read_header}
 use Rattle.gc_words.specs.declared.header.Header.{Header}
-use Rattle.gc_plan.specs.State.{Replica, Collection, State, new_end}
-use Rattle.gc_plan.specs.Steps.{scan}
-use Rattle.gc_plan.specs.Linked.{object_header}
-use Rattle.gc_plan.specs.Members.{In}
-use Rattle.gc_plan.specs.Belonging.{IsOpened, IsSpaceGraph, IsScanPlace, IsUnscanned}
-use Rattle.gc_plan.proofs.Public.{find_some, in_map, laid_apart, laid_range, placed, same_place}
-use Rattle.gc_along.specs.Claims.{CanLook}
-use Rattle.gc_along.specs.Events.{Looked}
-use Rattle.gc_along.specs.Runs.{PlacedAll, CanPlaceAll, IsBefore, LooksAt, LooksPast, LooksOn, LookRun, LookedAll, CanGoOn, CanLookAll}
-use Rattle.gc_along.specs.Tables.{Tables, watch_of}
+use Rattle.gc_model.specs.State.{Replica, Collection, State, new_end}
+use Rattle.gc_model.specs.Steps.{scan}
+use Rattle.gc_model.specs.Linked.{object_header}
+use Rattle.gc_model.specs.Members.{In}
+use Rattle.gc_model.specs.Belonging.{IsOpened, IsSpaceGraph, IsScanPlace, IsUnscanned}
+use Rattle.gc_model.proofs.Public.{find_some, in_map, laid_apart, laid_range, placed, same_place}
+use Rattle.gc_monitor.specs.Claims.{CanLook}
+use Rattle.gc_monitor.specs.Events.{Looked}
+use Rattle.gc_monitor.specs.Runs.{PlacedAll, CanPlaceAll, IsBefore, LooksAt, LooksPast, LooksOn, LookRun, LookedAll, CanGoOn, CanLookAll}
+use Rattle.gc_monitor.specs.Tables.{Tables, watch_of}
 use Rattle.gc_collected.specs.Internal.Beside.{heap_words, replica_words}
 use Rattle.gc_collected.specs.Internal.Knows.{Knows}
 use Rattle.gc_collected.proofs.Monitor.Agree.{replicas_shown}

@@ -1,4 +1,5 @@
 -- A monitor goes on following a heap: the mutators' commands.
+-- For the theorem that the monitor follows its heap.
 use Rattle.std.proofs.lemmas.Grind.{common_steps}
 use Rattle.std.proofs.Common.{◌≡◌, ◌⊎◌, inl, inr, ⊎_elim, ℕ, zero, suc, ◌+◌, ◌<◌, ◌≤◌, Bool, true, false, List, [], ◌∷◌, length, Option, Some, None, refl, ap, sym, ◌∙◌, subst, arith}
 use Rattle.std.specs.Prelude.{IfSome}
@@ -8,17 +9,17 @@ use Rattle.gc_graph.specs.Slots.{SlotName}
 use Rattle.gc_graph.specs.declared.command.Op.{Op}
 use Rattle.gc_graph.specs.declared.reply.Reply.{Reply}
 use Rattle.gc_words.specs.Layout.{field_place}
-use Rattle.gc_plan.specs.State.{Collection, State, heap_end}
-use Rattle.gc_plan.specs.Steps.{mutate, written}
-use Rattle.gc_plan.specs.Members.{In}
-use Rattle.gc_plan.specs.Linked.{LeadsTo, LeadsToOpen}
-use Rattle.gc_plan.specs.Belonging.{IsLogged, IsOpened, IsSpaceGraph}
-use Rattle.gc_plan.proofs.Public.{WrittenBy, laid_range, lookup_in, pair, replicas_end}
-use Rattle.gc_along.specs.Watch.{Watch}
-use Rattle.gc_along.proofs.Public.{opening_watch}
-use Rattle.gc_along.specs.Tables.{Tables, watch_of}
-use Rattle.gc_along.specs.Claims.{CanMake, CanWrite, CanWriteRow, IsLinked}
-use Rattle.gc_along.specs.Events.{Made, Wrote, WroteRow, opening_tables}
+use Rattle.gc_model.specs.State.{Collection, State, heap_end}
+use Rattle.gc_model.specs.Steps.{mutate, written}
+use Rattle.gc_model.specs.Members.{In}
+use Rattle.gc_model.specs.Linked.{LeadsTo, LeadsToOpen}
+use Rattle.gc_model.specs.Belonging.{IsLogged, IsOpened, IsSpaceGraph}
+use Rattle.gc_model.proofs.Public.{WrittenBy, laid_range, lookup_in, pair, replicas_end}
+use Rattle.gc_monitor.specs.Watch.{Watch}
+use Rattle.gc_monitor.proofs.Public.{opening_watch}
+use Rattle.gc_monitor.specs.Tables.{Tables, watch_of}
+use Rattle.gc_monitor.specs.Claims.{CanMake, CanWrite, CanWriteRow, IsLinked}
+use Rattle.gc_monitor.specs.Events.{Made, Wrote, WroteRow, opening_tables}
 use Rattle.gc_collected.specs.Internal.Beside.{AreOld, GoesBeside, heap_words}
 use Rattle.gc_collected.specs.Internal.Knows.{Knows, KnowsAll, open_or_fresh}
 use Rattle.gc_collected.specs.Internal.Stays.{WatchFits, MarksWritten}
@@ -227,7 +228,7 @@ pub follows_new : (s s' : State) (m : ℕ) (op : Op) (reply : Reply) (raw : Bool
     → mutate s m op ≡ (reply, s') → old ≡ heap_words links s' → (t.lost ≡ false → CanMake old t → after.lost ≡ false) → (after.lost ≡ false → Made old t after) → Follows s t → Follows s' after
 follows_new s s' m op reply raw d kind len links old t after is is_open before later said words =
     follows_made s s' (WrittenBy s.heap.graph m op reply) links old t after is_open before later words (ends_more s s' m op reply raw d kind len is before said)
-    (let on = continues_one s s' m op reply said in record { mutators = on.mutators; size = on.size; collection = on.collection; names = λ a n. ⊎_elim (λ l. inl l) (λ new. inr new.1) (on.names a n); kept = on.kept })
+    (let on = continues_one s s' m op reply said in record { mutators = on.mutators; size = on.size; collection = on.collection; names = λ a n. ⊎_elim (λ l. inl l) (λ new. inr new.1) (on.names a n); stays = on.stays })
     (leads_one s s' m op reply said) (λ x j w. absurd (none raw is x j w))
   where
     none : (raw : Bool) → op ≡ new_op raw d kind len → (x j : ℕ) → WrittenBy s.heap.graph m op reply x j → ⊥

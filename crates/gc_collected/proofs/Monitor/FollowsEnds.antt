@@ -1,18 +1,19 @@
 -- A monitor goes on following a heap: a collection is given up, or ends in a flip.
+-- For the theorem that the monitor follows its heap.
 use Rattle.std.proofs.lemmas.Grind.{common_steps}
 use Rattle.std.proofs.Common.{◌≡◌, ◌<◌, ◌≤◌, false, length, Option, Some, None, refl, ap, sym, ◌∙◌, subst, arith}
 use Rattle.std.specs.Prelude.{IfSome}
 use Rattle.std.specs.Option.{option_map_or}
 use Rattle.std.proofs.lemmas.List.{length-map, length-replicate}
-use Rattle.gc_plan.specs.State.{Collection, State, heap_end}
-use Rattle.gc_plan.specs.Steps.{collect, flipped, fresh_collection, step_idle, step_in, with_collection}
-use Rattle.gc_plan.specs.Belonging.{IsSpaceGraph, IsOpened}
-use Rattle.gc_plan.specs.declared.step.Step.TheVariants as steps
-use Rattle.gc_plan.specs.declared.step.StepReply.{StepReply}
-use Rattle.gc_plan.proofs.Public.{begun_belongs}
-use Rattle.gc_along.specs.Events.{Freed, flipped_tables}
-use Rattle.gc_along.specs.Tables.{Tables, watch_of}
-use Rattle.gc_along.proofs.Public.{opening_watch}
+use Rattle.gc_model.specs.State.{Collection, State, heap_end}
+use Rattle.gc_model.specs.Steps.{collect, flipped, fresh_collection, step_idle, step_in, with_collection}
+use Rattle.gc_model.specs.Belonging.{IsSpaceGraph, IsOpened}
+use Rattle.gc_model.specs.declared.step.Step.TheVariants as steps
+use Rattle.gc_model.specs.declared.step.StepReply.{StepReply}
+use Rattle.gc_model.proofs.Public.{begun_belongs}
+use Rattle.gc_monitor.specs.Events.{Freed, flipped_tables}
+use Rattle.gc_monitor.specs.Tables.{Tables, watch_of}
+use Rattle.gc_monitor.proofs.Public.{opening_watch}
 use Rattle.gc_collected.specs.Internal.Beside.{GoesBeside}
 use Rattle.gc_collected.specs.Internal.Knows.{Knows, KnowsAll, open_or_fresh}
 use Rattle.gc_collected.specs.Internal.Follows.{Follows}
@@ -38,7 +39,7 @@ follows_dropped s s' reply t after heap is_open said stays freed f = go s.collec
         ap watch_of free.rest ∙ (λ i. record (opening_watch (heap_end s)) { old_seen = olds i })
 
     is_fresh : s' ≡ with_collection s None → Knows s (fresh_collection s.mutators 1) after → Follows s' after
-    is_fresh is k = subst (λ (x : State). Follows x after) (sym is) (record { found = found; goes = goes; knows = record { kept = k.kept; due = k.due; marks = k.marks; old_room = k.old_room; new_room = k.new_room } })
+    is_fresh is k = subst (λ (x : State). Follows x after) (sym is) (record { found = found; goes = goes; knows = record { agree = k.agree; due = k.due; marks = k.marks; old_room = k.old_room; new_room = k.new_room } })
 
     go : (o : Option Collection) → s.collection ≡ o → option_map_or (λ (c : Collection). step_in s c steps.Drop) o (step_idle s steps.Drop) ≡ (reply, s') → Follows s' after
     go None e u = is_fresh (sym (ap (λ (x : StepReply × State). x.1) u) ∙ ap (with_collection s) e) (nothing_freed e)

@@ -1,13 +1,14 @@
 -- A monitor goes on following a heap: runs of scans.
+-- For the theorem that the monitor follows its heap.
 use Rattle.std.proofs.Common.{◌≡◌, ℕ, false, List, Option, Some, ap, sym, ◌∙◌, subst}
 use Rattle.std.specs.Prelude.{IfSome}
-use Rattle.gc_plan.specs.State.{Collection, State}
-use Rattle.gc_plan.specs.Belonging.{IsSpaceGraph, IsOpened}
-use Rattle.gc_plan.specs.declared.step.Step.TheVariants as steps
-use Rattle.gc_plan.specs.declared.step.StepReply.{StepReply}
+use Rattle.gc_model.specs.State.{Collection, State}
+use Rattle.gc_model.specs.Belonging.{IsSpaceGraph, IsOpened}
+use Rattle.gc_model.specs.declared.step.Step.TheVariants as steps
+use Rattle.gc_model.specs.declared.step.StepReply.{StepReply}
 use Rattle.gc_copy.specs.StepRuns.{repeated, IsScanRun}
-use Rattle.gc_along.specs.Runs.{PlacedAll, CanPlaceAll, LookedAll, CanLookAll}
-use Rattle.gc_along.specs.Tables.{Tables, watch_of}
+use Rattle.gc_monitor.specs.Runs.{PlacedAll, CanPlaceAll, LookedAll, CanLookAll}
+use Rattle.gc_monitor.specs.Tables.{Tables, watch_of}
 use Rattle.gc_collected.specs.Internal.Beside.{AreOld, GoesBeside, heap_words, replica_words}
 use Rattle.gc_collected.specs.Internal.Follows.{Follows}
 use Rattle.gc_collected.specs.Internal.Knows.{Knows, open_or_fresh}

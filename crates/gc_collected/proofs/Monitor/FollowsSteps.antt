@@ -1,19 +1,20 @@
 -- A monitor goes on following a heap: the collector's steps.
+-- For the theorem that the monitor follows its heap.
 use Rattle.std.proofs.lemmas.Grind.{common_steps}
 use Rattle.std.proofs.Common.{◌≡◌, ℕ, false, List, ◌∷◌, Some, ap, sym, ◌∙◌, subst, arith}
 use Rattle.std.specs.Prelude.{IfSome}
-use Rattle.gc_plan.specs.State.{Collection, State}
-use Rattle.gc_plan.specs.Linked.{LeadsToOpen}
-use Rattle.gc_plan.specs.Steps.{log_at, apply_log, collect, step_in, with_collection}
-use Rattle.gc_plan.specs.Belonging.{IsSpaceGraph, IsOpened}
-use Rattle.gc_plan.specs.declared.step.Step.{Step}
-use Rattle.gc_plan.specs.declared.step.Step.TheVariants as steps
-use Rattle.gc_plan.specs.declared.step.StepReply.{StepReply}
-use Rattle.gc_plan.specs.declared.step.StepReply.TheVariants.{Copied, Applied}
-use Rattle.gc_plan.proofs.Public.{steps_stay}
-use Rattle.gc_along.specs.Claims.{CanPlaceNext, CanApply, OwesNone}
-use Rattle.gc_along.specs.Events.{Placed, Applied as AppliedTo}
-use Rattle.gc_along.specs.Tables.{Tables, watch_of}
+use Rattle.gc_model.specs.State.{Collection, State}
+use Rattle.gc_model.specs.Linked.{LeadsToOpen}
+use Rattle.gc_model.specs.Steps.{log_at, apply_log, collect, step_in, with_collection}
+use Rattle.gc_model.specs.Belonging.{IsSpaceGraph, IsOpened}
+use Rattle.gc_model.specs.declared.step.Step.{Step}
+use Rattle.gc_model.specs.declared.step.Step.TheVariants as steps
+use Rattle.gc_model.specs.declared.step.StepReply.{StepReply}
+use Rattle.gc_model.specs.declared.step.StepReply.TheVariants.{Copied, Applied}
+use Rattle.gc_model.proofs.Public.{steps_stay}
+use Rattle.gc_monitor.specs.Claims.{CanPlaceNext, CanApply, OwesNone}
+use Rattle.gc_monitor.specs.Events.{Placed, Applied as AppliedTo}
+use Rattle.gc_monitor.specs.Tables.{Tables, watch_of}
 use Rattle.gc_collected.specs.Internal.Beside.{GoesBeside, heap_words, replica_words}
 use Rattle.gc_collected.specs.Internal.Knows.{Knows, open_or_fresh}
 use Rattle.gc_collected.specs.Internal.Follows.{Follows}
@@ -41,7 +42,7 @@ pub on_with : (s s' : State) (next : Collection) (after : Tables) → s' ≡ wit
 on_with s s' next after is found goes knows = subst (λ (x : State). Follows x after) (sym is) (record {
   found = found;
   goes = goes;
-  knows = record { kept = knows.kept; due = knows.due; marks = knows.marks; old_room = knows.old_room; new_room = knows.new_room };
+  knows = record { agree = knows.agree; due = knows.due; marks = knows.marks; old_room = knows.old_room; new_room = knows.new_room };
 })
 
 -- a step that leads from one open collection to another, and the words after it

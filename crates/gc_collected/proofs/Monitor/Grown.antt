@@ -1,4 +1,5 @@
 -- A monitor is told of an object that a command made at the end of the heap.
+-- For the theorem that the monitor is never lost.
 use Rattle.std.proofs.lemmas.Grind.{common_steps}
 use Rattle.std.proofs.Common.{◌≡◌, ◌⊎◌, inl, inr, ⊎_elim, ℕ, ◌+◌, ◌-◌, ◌<◌, ◌≤◌, nat_lt, Bool, true, false, [], ◌∷◌, ◌++◌, length, Some, refl, ap, sym, ◌∙◌, subst, arith, length-append}
 use Rattle.std.specs.Prelude.{slice_index}
@@ -11,16 +12,16 @@ use Rattle.gc_graph.specs.declared.command.Op.TheVariants as ops
 use Rattle.gc_graph.specs.declared.reply.Reply.{Reply}
 use Rattle.gc_words.specs.Word.{read_header}
 use Rattle.gc_words.specs.declared.header.Header.{Header}
-use Rattle.gc_plan.specs.State.{State, heap_end}
-use Rattle.gc_plan.specs.Linked.{object_header}
-use Rattle.gc_plan.specs.Steps.{mutate}
-use Rattle.gc_plan.specs.Members.{In}
-use Rattle.gc_plan.specs.Belonging.{IsSpaceGraph}
-use Rattle.gc_plan.proofs.Public.{end_is, in_right}
-use Rattle.gc_along.specs.Tables.{Tables}
-use Rattle.gc_along.specs.Events.{Made, object_codes}
+use Rattle.gc_model.specs.State.{State, heap_end}
+use Rattle.gc_model.specs.Linked.{object_header}
+use Rattle.gc_model.specs.Steps.{mutate}
+use Rattle.gc_model.specs.Members.{In}
+use Rattle.gc_model.specs.Belonging.{IsSpaceGraph}
+use Rattle.gc_model.proofs.Public.{end_is, in_right}
+use Rattle.gc_monitor.specs.Tables.{Tables}
+use Rattle.gc_monitor.specs.Events.{Made, object_codes}
 use Rattle.gc_collected.specs.Internal.Beside.{heap_words}
-use Rattle.gc_along.proofs.Public.{codes_length}
+use Rattle.gc_monitor.proofs.Public.{codes_length}
 use Rattle.gc_collected.proofs.Monitor.Shown.{AreSized, shown_at}
 
 abbrev pub new_op : Bool → Rattle.gc_graph.specs.Slots.SlotName → ℕ → ℕ → Op

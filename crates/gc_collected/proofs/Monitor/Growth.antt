@@ -1,12 +1,13 @@
 -- What a step adds to the replicas: none, or one at the end.
+-- For the theorem that the monitor follows its heap.
 use Rattle.std.proofs.lemmas.Grind.{common_steps}
 use Rattle.std.proofs.Common.{◌≡◌, ◌⊎◌, inl, ℕ, ◌+◌, nat_lt, Bool, true, false, cond, List, [], ◌∷◌, ◌++◌, map, length, Option, Some, None, refl, ap, ◌∙◌, subst, arith}
 use Rattle.std.proofs.lemmas.List.{map-append}
 use Rattle.gc_graph.specs.Graph.{Value, Object, Graph}
-use Rattle.gc_plan.specs.State.{Replica, Collection, new_end, new_free}
-use Rattle.gc_plan.specs.Steps.{fresh_replica, place_replica, with_written, bring_up_to_date}
-use Rattle.gc_plan.specs.Members.{In}
-use Rattle.gc_plan.proofs.Public.{in_right, in_map, end_push, pair, placed, replicas_end, with_written_pair, with_written_length, pairs_written}
+use Rattle.gc_model.specs.State.{Replica, Collection, new_end, new_free}
+use Rattle.gc_model.specs.Steps.{fresh_replica, place_replica, with_written, bring_up_to_date}
+use Rattle.gc_model.specs.Members.{In}
+use Rattle.gc_model.proofs.Public.{in_right, in_map, end_push, pair, placed, replicas_end, with_written_pair, with_written_length, pairs_written}
 
 -- the new replica and where it is
 pub record IsAdded (c next : Collection) (r : Replica) : Type 0 where
@@ -46,11 +47,11 @@ adds_placed c next name (Some o) k = go (nat_lt (new_free c) (length o.fields + 
             there = in_right new_one c.replicas (new_one ∷ []) (inl refl);
             place = refl;
             pairs = map-append pair c.replicas (new_one ∷ []);
-            end = ap (Rattle.gc_plan.specs.State.objects_end 1) (map-append placed c.replicas (new_one ∷ [])) ∙ end_push 1 (map placed c.replicas) (placed new_one);
+            end = ap (Rattle.gc_model.specs.State.objects_end 1) (map-append placed c.replicas (new_one ∷ [])) ∙ end_push 1 (map placed c.replicas) (placed new_one);
           },
         )
 
-ends_written : (at name i : ℕ) (w : Value) (rs : List Replica) → Rattle.gc_plan.specs.State.objects_end at (map placed (map (with_written name i w) rs)) ≡ Rattle.gc_plan.specs.State.objects_end at (map placed rs)
+ends_written : (at name i : ℕ) (w : Value) (rs : List Replica) → Rattle.gc_model.specs.State.objects_end at (map placed (map (with_written name i w) rs)) ≡ Rattle.gc_model.specs.State.objects_end at (map placed rs)
 ends_written at name i w [] = refl
 ends_written at name i w (r ∷ rs) = grind (arith, common_steps, placed, with_written_length, ends_written (at + (length (with_written name i w r).object.fields + 2)) name i w rs)
 

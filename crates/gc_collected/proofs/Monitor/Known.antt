@@ -1,4 +1,5 @@
 -- The tables of a standing checker know the collection after a step: a replica more, and a field compared.
+-- For the theorem that the monitor is never lost.
 use Rattle.std.proofs.lemmas.Grind.{common_steps}
 use Rattle.std.proofs.Common.{◌≡◌, ◌≢◌, ◌⊎◌, inl, inr, ⊎_elim, ℕ, suc, ◌+◌, ◌-◌, ◌<◌, ◌≤◌, ◌==◌, Bool, true, false, List, ◌++◌, map, length, get_or, set, replicate, Some, refl, ap, sym, ◌∙◌, subst, arith}
 use Rattle.std.specs.Prelude.{slice_get, slice_index}
@@ -9,17 +10,17 @@ use Rattle.gc_graph.specs.Graph.{Object, lookup}
 use Rattle.gc_words.specs.Word.{field_words_correspond}
 use Rattle.gc_words.specs.Layout.{field_place}
 use Rattle.gc_words.specs.declared.header.Header.{Header}
-use Rattle.gc_plan.specs.State.{Replica, Collection, State, heap_end, new_end, pairs_of}
-use Rattle.gc_plan.specs.Linked.{object_header}
-use Rattle.gc_plan.specs.Members.{In}
-use Rattle.gc_plan.specs.Belonging.{IsDue, IsSpaceGraph, IsOpened}
-use Rattle.gc_plan.proofs.Public.{laid_apart, in_map, in_map_from, in_push, get_within, pair, placed, due_at_end}
-use Rattle.gc_along.specs.Claims.{OwesNone}
-use Rattle.gc_along.specs.Events.{code_of, object_codes, with_due, replica_added, Placed, Looked}
-use Rattle.gc_along.specs.Tables.{Tables, IsKept, watch_of, due_in}
-use Rattle.gc_along.specs.Telling.{IsMark}
-use Rattle.gc_along.specs.Watch.{is_due, is_due_at}
-use Rattle.gc_along.proofs.Public.{kept_replica, kept_due, due_at, in_front, within_row}
+use Rattle.gc_model.specs.State.{Replica, Collection, State, heap_end, new_end, pairs_of}
+use Rattle.gc_model.specs.Linked.{object_header}
+use Rattle.gc_model.specs.Members.{In}
+use Rattle.gc_model.specs.Belonging.{IsDue, IsSpaceGraph, IsOpened}
+use Rattle.gc_model.proofs.Public.{laid_apart, in_map, in_map_from, in_push, get_within, pair, placed, due_at_end}
+use Rattle.gc_monitor.specs.Claims.{OwesNone}
+use Rattle.gc_monitor.specs.Events.{code_of, object_codes, with_due, replica_added, Placed, Looked}
+use Rattle.gc_monitor.specs.Tables.{Tables, RowsAgree, watch_of, due_in}
+use Rattle.gc_monitor.specs.Telling.{IsMark}
+use Rattle.gc_monitor.specs.Watch.{is_due, is_due_at}
+use Rattle.gc_monitor.proofs.Public.{agree_replica, agree_due, due_at, in_front, within_row}
 use Rattle.gc_collected.specs.Internal.Beside.{heap_words, replica_words}
 use Rattle.gc_collected.specs.Internal.Knows.{IsDueField, Knows, Marks}
 use Rattle.gc_collected.specs.Internal.Stays.{WatchFits}
@@ -50,7 +51,7 @@ one_first n due k e = grind (arith, common_steps, repeated)
 
 -- what tables know of a collection, where fields are due in another sense
 pub record KnowsBy (Due : Bool → ℕ → ℕ → ℕ → Type 0) (s : State) (c : Collection) (t : Tables) : Type 0 where
-  pub kept : IsKept t
+  pub agree : RowsAgree t
   pub due : (place : ℕ) → is_due_at (watch_of t) place ≡ true → IsDueField Due c.replicas place
   pub marks : Marks s.heap.graph.objects c.replicas t
 
@@ -91,7 +92,7 @@ module _ (s : State) (c next : Collection) (t : Tables) (links : ℕ → ℕ) (h
 
   none_more : HasSame c next → KnowsBy (IsDue c) s next t
   none_more h = record {
-    kept = knows.kept;
+    agree = knows.agree;
     due = λ place d. old_field place (knows.due place d);
     marks = record {
       olds = knows.marks.olds;
@@ -123,7 +124,7 @@ module _ (s : State) (c next : Collection) (t : Tables) (links : ℕ → ℕ) (h
 
     one_more : KnowsBy (IsDue c) s next (replica_added t h q.original due)
     one_more = record {
-      kept = kept_replica t h q.original due (true_claim s c next t links heap before opened goes knows q added).next.bound start knows.kept;
+      agree = agree_replica t h q.original due (true_claim s c next t links heap before opened goes knows q added).next.bound start knows.agree;
       due = λ place d.
           let three : get_or (t.news ++ codes) place 0 ≡ 3 = eqb-true (get_or (t.news ++ codes) place 0) 3 (sym (due_at (t.news ++ codes) place) ∙ d) in
           elim (cases_Bool (Rattle.std.proofs.Common.nat_lt place (length t.news))) [
@@ -237,7 +238,7 @@ module _ (Due : Bool → ℕ → ℕ → ℕ → Type 0) (s : State) (next : Col
   pub looked_known : (q : Replica) (i : ℕ) → In q next.replicas → i < length q.object.fields → KnowsBy Due s next mid
       → KnowsBy (λ raw p a j. Due raw p a j × ((p ≡ q.place) × (j ≡ i) → ⊥)) s next (with_due mid (field_place q.place i) false)
   looked_known q i l small knows = record {
-    kept = kept_due mid (field_place q.place i) false knows.kept;
+    agree = agree_due mid (field_place q.place i) false knows.agree;
     due = λ place d.
         let here : is_due_at (watch_of (with_due mid (field_place q.place i) false)) place ≡ get_or (set (due_in mid.news) (field_place q.place i) false) place false = ap (λ bs. get_or bs place false) (marked_at mid (field_place q.place i) false) in
         elim (cases_eq place (field_place q.place i)) [

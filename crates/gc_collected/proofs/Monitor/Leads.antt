@@ -1,13 +1,14 @@
 -- Commands that led from one state to another, and made no object.
+-- For the theorem that the monitor follows its heap.
 use Rattle.std.proofs.lemmas.Grind.{common_steps}
 use Rattle.std.proofs.Common.{◌≡◌, inl, inr, ⊎_elim, ℕ, arith, Option, Some, None, ◌∙◌}
 use Rattle.std.proofs.lemmas.Bool.{cond_both}
 use Rattle.gc_graph.specs.Machine.{words_taken}
 use Rattle.gc_graph.specs.declared.command.Op.{Op}
 use Rattle.gc_graph.specs.declared.reply.Reply.{Reply}
-use Rattle.gc_plan.specs.State.{Collection, State, heap_end}
-use Rattle.gc_plan.specs.Steps.{mutate}
-use Rattle.gc_plan.proofs.Public.{Evolves, WrittenBy}
+use Rattle.gc_model.specs.State.{Collection, State, heap_end}
+use Rattle.gc_model.specs.Steps.{mutate}
+use Rattle.gc_model.proofs.Public.{Evolves, WrittenBy}
 use Rattle.gc_collected.proofs.Monitor.Events.{command_evolves}
 
 -- the open collections before and after commands have the same replicas

@@ -1,4 +1,5 @@
 -- Commands in a row that made no object, and what they wrote and logged.
+-- For the theorem that the monitor follows its heap.
 use Rattle.std.proofs.lemmas.Grind.{common_steps}
 use Rattle.std.proofs.Common.{◌≡◌, inl, ⊎_elim, ℕ, zero, suc, ◌<◌, ◌≤◌, List, [], ◌∷◌, ◌++◌, length, map, Option, Some, None, refl, ap, sym, ◌∙◌, subst, arith}
 use Rattle.std.specs.Prelude.{IfSome, slice_get, slice_set}
@@ -10,11 +11,11 @@ use Rattle.gc_graph.specs.declared.reply.Reply.TheVariants as replies
 use Rattle.gc_graph.specs.Machine.{roomy_step, words_taken}
 use Rattle.gc_graph.specs.declared.command.Op.{Op}
 use Rattle.gc_graph.specs.declared.reply.Reply.{Reply}
-use Rattle.gc_plan.specs.State.{Collection, State, heap_end}
-use Rattle.gc_plan.specs.Steps.{log_at, logged, mutate, with_log, written}
-use Rattle.gc_plan.specs.Members.{In}
-use Rattle.gc_plan.specs.Belonging.{IsLogged, IsOpened}
-use Rattle.gc_plan.proofs.Public.{WrittenBy, in_right, root_kept, unchanged}
+use Rattle.gc_model.specs.State.{Collection, State, heap_end}
+use Rattle.gc_model.specs.Steps.{log_at, logged, mutate, with_log, written}
+use Rattle.gc_model.specs.Members.{In}
+use Rattle.gc_model.specs.Belonging.{IsLogged, IsOpened}
+use Rattle.gc_model.proofs.Public.{WrittenBy, in_right, root_kept, unchanged}
 use Rattle.gc_collected.proofs.Monitor.CommandsKnown.{Continues, continues_on, continues_one, continues_same}
 use Rattle.gc_collected.proofs.Monitor.Leads.{Leads, end_by, leads_on, leads_one, same_itself}
 
@@ -39,7 +40,7 @@ ran_one s s' m op reply said none = let on = continues_one s s' m op reply said 
     size = on.size;
     collection = on.collection;
     names = λ a n. ⊎_elim (λ l. inl l) (λ new. absurd (let some : 1 ≤ words_taken op = new.0 in omega arith)) (on.names a n);
-    kept = on.kept;
+    stays = on.stays;
   };
 }
 

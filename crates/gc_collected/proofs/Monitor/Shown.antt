@@ -1,4 +1,5 @@
 -- The words of objects that lie back to back: headers and links at their places.
+-- For the theorem that what the monitor accepts is certified.
 use Rattle.std.proofs.Common.{◌≡◌, ℕ, ◌+◌, ◌<◌, ◌≤◌, List, map, length, take, drop, Some, Ok, is_ok, ap, sym, ◌∙◌, arith, []}
 use Rattle.std.specs.Prelude.{slice_index}
 use Rattle.std.specs.Result.{result_unwrap_or}
@@ -8,10 +9,10 @@ use Rattle.gc_words.specs.Image.{walk_words, block_in, block_at}
 use Rattle.gc_words.specs.Layout.{fields_place, link_place}
 use Rattle.gc_words.specs.Spelling.{spelled}
 use Rattle.gc_words.proofs.Public.{walk_spelled, link_spelled, stands_in, written_back}
-use Rattle.gc_plan.specs.Linked.{object_header, field_word, object_block, block_entry}
-use Rattle.gc_plan.specs.Members.{In}
-use Rattle.gc_plan.specs.Belonging.{Laid}
-use Rattle.gc_plan.proofs.Public.{lookup_laid, laid_out, words_laid, block_found}
+use Rattle.gc_model.specs.Linked.{object_header, field_word, object_block, block_entry}
+use Rattle.gc_model.specs.Members.{In}
+use Rattle.gc_model.specs.Belonging.{Laid}
+use Rattle.gc_model.proofs.Public.{lookup_laid, laid_out, words_laid, block_found}
 
 -- what the words of a space with these objects are at the object's place
 pub record Shows (words : List ℕ) (link : ℕ) (a : ℕ) (o : Object) : Type 0 where

@@ -1,16 +1,17 @@
 -- A watch beside a collection, through the collector's steps and the mutators' commands.
+-- For the theorem that the monitor follows its heap.
 use Rattle.std.proofs.lemmas.Grind.{common_steps}
 use Rattle.std.proofs.Common.{◌≡◌, ◌⊎◌, inl, inr, ⊎_elim, ℕ, ◌≤◌, Bool, false, List, map, Some, None, refl, arith}
 use Rattle.std.specs.Prelude.{IsTrue}
 use Rattle.std.proofs.lemmas.Bool.{cases_eq}
 use Rattle.gc_graph.specs.Graph.{Object, Graph, lookup}
-use Rattle.gc_plan.specs.State.{Collection, new_objects, new_end, replica_of}
-use Rattle.gc_plan.specs.Steps.{place_replica, bring_up_to_date, fresh_collection}
-use Rattle.gc_plan.specs.Members.{Distinct}
-use Rattle.gc_plan.specs.Belonging.{Laid, HasRawNumbers, Belongs}
-use Rattle.gc_plan.proofs.Public.{Evolves, Grown, placing, bringing, pair, replicas_end, AreReplicas, replicas_due, replicas_evolve}
-use Rattle.gc_along.specs.Watch.{Watch, is_due}
-use Rattle.gc_along.proofs.Public.{opening_watch}
+use Rattle.gc_model.specs.State.{Collection, new_objects, new_end, replica_of}
+use Rattle.gc_model.specs.Steps.{place_replica, bring_up_to_date, fresh_collection}
+use Rattle.gc_model.specs.Members.{Distinct}
+use Rattle.gc_model.specs.Belonging.{Laid, HasRawNumbers, Belongs}
+use Rattle.gc_model.proofs.Public.{Evolves, Grown, placing, bringing, pair, replicas_end, AreReplicas, replicas_due, replicas_evolve}
+use Rattle.gc_monitor.specs.Watch.{Watch, is_due}
+use Rattle.gc_monitor.proofs.Public.{opening_watch}
 use Rattle.gc_collected.specs.Internal.Stays.{DueFor, WatchFits, GoesAlong, LosesOnly, LosesNone, MarksWritten}
 
 -- what the steps need of a collection, whatever its logs and its scan pointer

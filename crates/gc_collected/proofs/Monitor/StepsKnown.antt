@@ -1,4 +1,5 @@
 -- The tables of a standing checker know the collection through the collector's steps, and it is not lost at any.
+-- For the theorem that the monitor is never lost.
 use Rattle.std.proofs.lemmas.Grind.{common_steps}
 use Rattle.std.proofs.Common.{◌≡◌, ◌⊎◌, inl, inr, ⊎_elim, ℕ, ◌<◌, ◌≤◌, Bool, false, List, ◌∷◌, length, get_or, Some, None, refl, ap, sym, ◌∙◌, subst, arith, []}
 use Rattle.std.specs.Prelude.{slice_get, slice_set}
@@ -6,16 +7,16 @@ use Rattle.std.specs.Option.{unwrap_or}
 use Rattle.std.proofs.lemmas.Bool.{cases_eq}
 use Rattle.gc_graph.specs.Graph.{Object, lookup}
 use Rattle.gc_words.specs.Layout.{field_place}
-use Rattle.gc_plan.specs.State.{Replica, Collection, State, heap_end, new_end}
-use Rattle.gc_plan.specs.Linked.{LeadsTo}
-use Rattle.gc_plan.specs.Steps.{log_at, with_log, root_target, copy_root, scan, apply_log}
-use Rattle.gc_plan.specs.Members.{In}
-use Rattle.gc_plan.specs.Belonging.{IsDue, IsLogged, IsUnscanned, IsSpaceGraph, IsOpened}
-use Rattle.gc_plan.specs.declared.step.StepReply.TheVariants.{Copied, Applied}
-use Rattle.gc_plan.proofs.Public.{get_past, get_set_same, get_set_other, same_original}
-use Rattle.gc_along.specs.Claims.{CanPlaceNext, CanApply, OwesNone}
-use Rattle.gc_along.specs.Events.{Placed, Looked, Applied as AppliedTo, with_due}
-use Rattle.gc_along.specs.Tables.{Tables, watch_of}
+use Rattle.gc_model.specs.State.{Replica, Collection, State, heap_end, new_end}
+use Rattle.gc_model.specs.Linked.{LeadsTo}
+use Rattle.gc_model.specs.Steps.{log_at, with_log, root_target, copy_root, scan, apply_log}
+use Rattle.gc_model.specs.Members.{In}
+use Rattle.gc_model.specs.Belonging.{IsDue, IsLogged, IsUnscanned, IsSpaceGraph, IsOpened}
+use Rattle.gc_model.specs.declared.step.StepReply.TheVariants.{Copied, Applied}
+use Rattle.gc_model.proofs.Public.{get_past, get_set_same, get_set_other, same_original}
+use Rattle.gc_monitor.specs.Claims.{CanPlaceNext, CanApply, OwesNone}
+use Rattle.gc_monitor.specs.Events.{Placed, Looked, Applied as AppliedTo, with_due}
+use Rattle.gc_monitor.specs.Tables.{Tables, watch_of}
 use Rattle.gc_collected.specs.Internal.Beside.{heap_words, replica_words}
 use Rattle.gc_collected.specs.Internal.Knows.{Knows}
 use Rattle.gc_collected.specs.Internal.Stays.{LosesOnly, WatchFits}
@@ -116,7 +117,7 @@ module _ (s : State) (c next : Collection) (t : Tables) (links : ℕ → ℕ) (h
           fresh = λ q l e. (let f = b.fresh q l e in record { free = f.free; same = f.same });
         }
 
-        go : ((r : Replica) × In r c.replicas × (r.original ≡ entry.0) × (Rattle.gc_plan.specs.Steps.bring_up_to_date (with_log c m rest) s.heap.graph entry.0 entry.1 ≡ Some next)) ⊎ ((Rattle.gc_plan.specs.State.replica_of c entry.0 ≡ None) × (with_log c m rest ≡ next)) → DidApply
+        go : ((r : Replica) × In r c.replicas × (r.original ≡ entry.0) × (Rattle.gc_model.specs.Steps.bring_up_to_date (with_log c m rest) s.heap.graph entry.0 entry.1 ≡ Some next)) ⊎ ((Rattle.gc_model.specs.State.replica_of c entry.0 ≡ None) × (with_log c m rest ≡ next)) → DidApply
         go (inl (r, l, name, brought)) = by (adds_brought c' next s.heap.graph entry.0 entry.1 brought) (brings s.heap.graph.objects c' before.belongs.laid s.heap.graph next entry.0 entry.1 refl (r, l, name) brought)
         go (inr (none, same)) = by (subst (Adds c') same (adds_none c')) (subst (Brings s.heap.graph.objects c') same (brings_none s.heap.graph.objects c' before.belongs.laid))
 

@@ -1,4 +1,5 @@
 -- What the events of a standing checker say of a watch beside a collection.
+-- For the theorem that the monitor follows its heap.
 use Rattle.std.proofs.lemmas.Grind.{common_steps}
 use Rattle.std.proofs.Common.{◌≡◌, inl, inr, ⊎_elim, ℕ, zero, suc, ◌+◌, ◌<◌, ◌≤◌, ◌==◌, Bool, true, false, List, [], ◌∷◌, ◌++◌, map, length, get_or, set, replicate, Some, refl, ap, sym, ◌∙◌, subst, arith, length-append, length-set, Option}
 use Rattle.std.specs.Prelude.{slice_index}
@@ -9,17 +10,17 @@ use Rattle.gc_graph.specs.Graph.{Object}
 use Rattle.gc_words.specs.Word.{read_header}
 use Rattle.gc_words.specs.Layout.{field_place, link_place}
 use Rattle.gc_words.specs.declared.header.Header.{Header}
-use Rattle.gc_plan.specs.Linked.{object_header, linked_space, new_links}
-use Rattle.gc_plan.specs.State.{Replica, Collection, State, new_end, new_objects, pairs_of}
-use Rattle.gc_plan.specs.Members.{In, Distinct}
-use Rattle.gc_plan.specs.Belonging.{Laid, IsOpened, IsSpaceGraph}
-use Rattle.gc_plan.proofs.Public.{laid_range, laid_apart, lookup_in, found_by_place, in_map, in_map_from, pair, placed, paired_in, in_paired, same_original, same_place}
-use Rattle.gc_along.specs.Watch.{Watch, is_due}
+use Rattle.gc_model.specs.Linked.{object_header, linked_space, new_links}
+use Rattle.gc_model.specs.State.{Replica, Collection, State, new_end, new_objects, pairs_of}
+use Rattle.gc_model.specs.Members.{In, Distinct}
+use Rattle.gc_model.specs.Belonging.{Laid, IsOpened, IsSpaceGraph}
+use Rattle.gc_model.proofs.Public.{laid_range, laid_apart, lookup_in, found_by_place, in_map, in_map_from, pair, placed, paired_in, in_paired, same_original, same_place}
+use Rattle.gc_monitor.specs.Watch.{Watch, is_due}
 use Rattle.gc_collected.specs.Internal.Stays.{WatchFits, LosesOnly, LosesNone, MarksWritten}
-use Rattle.gc_along.specs.Origins.{pairs_in}
-use Rattle.gc_along.specs.Tables.{Tables, watch_of, due_in}
-use Rattle.gc_along.specs.Events.{code_of, object_codes, IsClaim, Placed, replica_added, with_due, Looked, Wrote, Applied, IsReplicaAt}
-use Rattle.gc_along.proofs.Public.{placed as pairs_placed, told, code_set, set_true, true_stays, map_append, codes_length, code_is}
+use Rattle.gc_monitor.specs.Origins.{pairs_in}
+use Rattle.gc_monitor.specs.Tables.{Tables, watch_of, due_in}
+use Rattle.gc_monitor.specs.Events.{code_of, object_codes, IsClaim, Placed, replica_added, with_due, Looked, Wrote, Applied, IsReplicaAt}
+use Rattle.gc_monitor.proofs.Public.{placed as pairs_placed, told, code_set, set_true, true_stays, map_append, codes_length, code_is}
 use Rattle.gc_collected.proofs.Monitor.Shown.{Shows, AreSized, shown_at, shown_length}
 use Rattle.gc_collected.proofs.Monitor.Growth.{IsAdded, Adds}
 
@@ -30,7 +31,7 @@ pub record ShowsReplicas (c : Collection) (words : List ℕ) : Type 0 where
   pub each : (r : Replica) → In r c.replicas → Shows words r.original r.place r.object
 
 link_of : (s : State) (c : Collection) (r : Replica) → IsOpened s c → In r c.replicas → new_links c r.place ≡ r.original
-link_of s c r k there = ap (λ (o : Option Replica). option_map_or (λ (r : Replica). r.original) o 0) (found_by_place (Rattle.gc_plan.specs.Belonging.IsDue c) s.heap.graph.objects c k.belongs r there)
+link_of s c r k there = ap (λ (o : Option Replica). option_map_or (λ (r : Replica). r.original) o 0) (found_by_place (Rattle.gc_model.specs.Belonging.IsDue c) s.heap.graph.objects c k.belongs r there)
 
 pub shows_replicas : (s : State) (c : Collection) → IsSpaceGraph s.size s.heap.free s.heap.graph → IsOpened s c → ShowsReplicas c (linked_space (new_links c) c.size (new_objects c)).words
 shows_replicas s c h k = record {

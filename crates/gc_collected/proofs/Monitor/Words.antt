@@ -1,4 +1,5 @@
 -- A watch that goes along watches the words of both spaces.
+-- For the theorem that what the monitor accepts is certified.
 use Rattle.std.proofs.lemmas.Grind.{common_steps}
 use Rattle.std.proofs.Common.{◌≡◌, ◌≢◌, inl, inr, ⊎_elim, ℕ, ◌/◌, ◌%◌, ◌<◌, ◌==◌, nat_lt, Bool, true, false, cond, List, length, Option, Some, None, refl, ap, sym, ◌∙◌, subst, arith}
 use Rattle.std.specs.Prelude.{slice_get}
@@ -14,14 +15,14 @@ use Rattle.gc_words.specs.declared.header.Header.{Header}
 use Rattle.gc_words.proofs.Public.{object_found, fields_counted, stands_in}
 use Rattle.std.proofs.lemmas.Option.{slice_get-map}
 use Rattle.gc_heap.specs.Heap.{HeapWords, IsHeap, graph_in}
-use Rattle.gc_plan.specs.State.{Replica, pairs_of}
-use Rattle.gc_plan.specs.Members.{In}
+use Rattle.gc_model.specs.State.{Replica, pairs_of}
+use Rattle.gc_model.specs.Members.{In}
 use Rattle.gc_copy.specs.Words.{CollectionWords, IsCollection, collection_in, BelongsTo}
-use Rattle.gc_plan.proofs.Public.{pairs_rise, pairs_once, in_map_from, all_from_in, pair, replicas_end, paired_in}
+use Rattle.gc_model.proofs.Public.{pairs_rise, pairs_once, in_map_from, all_from_in, pair, replicas_end, paired_in}
 use Rattle.gc_copy.proofs.Public.{replica_object, new_end_is}
-use Rattle.gc_along.specs.Watch.{Watch, IsSeen, IsWatched, Watches, seen_at}
+use Rattle.gc_monitor.specs.Watch.{Watch, IsSeen, IsWatched, Watches, seen_at}
 use Rattle.gc_collected.specs.Internal.Stays.{GoesAlong}
-use Rattle.gc_along.proofs.Public.{all_of}
+use Rattle.gc_monitor.proofs.Public.{all_of}
 
 -- ---- a whole space is seen
 

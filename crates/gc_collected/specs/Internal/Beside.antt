@@ -1,9 +1,9 @@
 -- A monitor beside a collected heap: what it has seen, and the words that it is shown.
 use Rattle.std.specs.Prelude.{◌≡◌, ℕ, List, Option, Some, None}
-use Rattle.gc_plan.specs.State.{Collection, State, heap_end, new_objects}
-use Rattle.gc_plan.specs.Linked.{LeadsToOpen, linked_space, new_links}
-use Rattle.gc_along.specs.Watch.{Watch}
-use Rattle.gc_along.proofs.Public.{opening_watch}
+use Rattle.gc_model.specs.State.{Collection, State, heap_end, new_objects}
+use Rattle.gc_model.specs.Linked.{LeadsToOpen, linked_space, new_links}
+use Rattle.gc_monitor.specs.Watch.{Watch}
+use Rattle.gc_monitor.proofs.Public.{opening_watch}
 use Rattle.gc_collected.specs.Internal.Stays.{GoesAlong}
 
 -- the watch has seen the heap, and goes along with the open collection, if there is one

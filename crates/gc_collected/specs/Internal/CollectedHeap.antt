@@ -2,7 +2,7 @@
 use Rattle.std.specs.Prelude.{ℕ, ◌≤◌, IfSome, Option, Some, None}
 use Rattle.std.specs.Option.{option_map}
 use Rattle.gc_heap.specs.Heap.{HeapWords}
-use Rattle.gc_plan.specs.State.{State}
+use Rattle.gc_model.specs.State.{State}
 use Rattle.gc_copy.specs.Words.{CollectionWords, LinksNothing, BelongsTo, collection_in, spare_of, state_of}
 
 -- the collection belongs to the heap; if none is open, no object has a link above the mark of this epoch

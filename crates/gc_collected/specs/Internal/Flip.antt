@@ -5,7 +5,7 @@ use Rattle.gc_words.specs.Views.{addresses}
 use Rattle.gc_cert.specs.Views.{image_in}
 use Rattle.gc_cert.specs.declared.image.Image.{Image}
 use Rattle.gc_heap.specs.Heap.{HeapWords}
-use Rattle.gc_plan.specs.State.{pairs_of}
+use Rattle.gc_model.specs.State.{pairs_of}
 use Rattle.gc_copy.specs.Words.{CollectionWords, collection_in, new_root_words, open_state}
 use Rattle.gc_roots.specs.Twins.{RootRow, SlotsAreTwins}
 use Rattle.gc_collected.specs.declared.flip.Draft.{Draft}
@@ -13,8 +13,8 @@ use Rattle.gc_collected.specs.declared.flip.Approved.{Approved}
 use Rattle.gc_collected.specs.declared.flip.Approved.TheVariants.{Along, Whole, Pair}
 use Rattle.gc_collected.specs.declared.flip.Keep.{Keep}
 use Rattle.gc_collected.specs.declared.flip.Keep.TheVariants as keeps
-use Rattle.gc_plan.specs.declared.step.StepReply.{StepReply}
-use Rattle.gc_plan.specs.declared.step.StepReply.TheVariants.{NotReady, Refused}
+use Rattle.gc_model.specs.declared.step.StepReply.{StepReply}
+use Rattle.gc_model.specs.declared.step.StepReply.TheVariants.{NotReady, Refused}
 
 -- the collection's pairs, and the moved roots
 pub record IsDraft (heap : HeapWords) (c : CollectionWords) (draft : Draft) : Type 0 where

@@ -1,7 +1,7 @@
 -- The one invariant of a heap that a monitor follows: the monitor is not lost, it goes along, and its tables know the heap.
 use Rattle.std.specs.Prelude.{IsFalse}
-use Rattle.gc_plan.specs.State.{State}
-use Rattle.gc_along.specs.Tables.{Tables, watch_of}
+use Rattle.gc_model.specs.State.{State}
+use Rattle.gc_monitor.specs.Tables.{Tables, watch_of}
 use Rattle.gc_collected.specs.Internal.Beside.{GoesBeside}
 use Rattle.gc_collected.specs.Internal.Knows.{KnowsAll}
 

@@ -2,9 +2,9 @@
 use Rattle.std.specs.Prelude.{◌≡◌, ℕ, List, length, Some, None, IsTrue, ⊤}
 use Rattle.gc_graph.specs.Graph.{Graph}
 use Rattle.gc_words.specs.Image.{is_start}
-use Rattle.gc_plan.specs.State.{Collection}
-use Rattle.gc_plan.specs.Staying.{IsMissing}
-use Rattle.gc_plan.specs.Steps.{root_target}
+use Rattle.gc_model.specs.State.{Collection}
+use Rattle.gc_model.specs.Staying.{IsMissing}
+use Rattle.gc_model.specs.Steps.{root_target}
 use Rattle.gc_collected.specs.declared.known.Found.{Found}
 use Rattle.gc_collected.specs.declared.known.Found.TheVariants.{Missing, AllKnown, Unfinished}
 

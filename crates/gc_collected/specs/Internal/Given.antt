@@ -4,7 +4,7 @@ use Rattle.std.specs.Option.{unwrap_or}
 use Rattle.gc_graph.specs.Graph.{Value, Nil, Num}
 use Rattle.gc_heap.specs.Filling.{PutsValue}
 use Rattle.gc_heap.specs.Heap.{HeapWords, graph_in}
-use Rattle.gc_plan.specs.State.{State}
+use Rattle.gc_model.specs.State.{State}
 use Rattle.gc_collected.specs.Copying.{value_in}
 use Rattle.gc_collected.specs.Values.{put_value_step}
 use Rattle.gc_collected.specs.declared.giving.FieldValue.{FieldValue}

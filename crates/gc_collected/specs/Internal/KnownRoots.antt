@@ -1,8 +1,8 @@
 -- What a collected heap knows of its roots.
 use Rattle.std.specs.Prelude.{◌≡◌, ℕ, ◌<◌, ◌≤◌, ◌-◌, Option, Some, None}
 use Rattle.gc_graph.specs.Slots.{roots_of}
-use Rattle.gc_plan.specs.State.{State}
-use Rattle.gc_plan.specs.Staying.{KnowsRoot}
+use Rattle.gc_model.specs.State.{State}
+use Rattle.gc_model.specs.Staying.{KnowsRoot}
 use Rattle.gc_roots.specs.Looks.{ComparesKnown}
 use Rattle.gc_copy.specs.Words.{CollectionWords}
 use Rattle.gc_roots.specs.Twins.{RootRow, IsWritten, KeepsTwins, begun, looks_left}

@@ -2,13 +2,13 @@
 use Rattle.std.specs.Prelude.{◌≡◌, ◌≢◌, ◌≤◌, ◌<◌, ℕ, Bool, List, length, Option, unwrap_or, slice_index_or, IsTrue}
 use Rattle.gc_graph.specs.Graph.{Object}
 use Rattle.gc_words.specs.Layout.{field_place}
-use Rattle.gc_plan.specs.State.{Replica, Collection, State}
-use Rattle.gc_plan.specs.Steps.{fresh_collection}
-use Rattle.gc_plan.specs.Members.{In}
-use Rattle.gc_plan.specs.Belonging.{IsNamed, IsDue}
-use Rattle.gc_along.specs.Watch.{Watch, is_due_at}
-use Rattle.gc_along.specs.Tables.{Tables, IsKept, watch_of}
-use Rattle.gc_along.specs.Telling.{IsMark}
+use Rattle.gc_model.specs.State.{Replica, Collection, State}
+use Rattle.gc_model.specs.Steps.{fresh_collection}
+use Rattle.gc_model.specs.Members.{In}
+use Rattle.gc_model.specs.Belonging.{IsNamed, IsDue}
+use Rattle.gc_monitor.specs.Watch.{Watch, is_due_at}
+use Rattle.gc_monitor.specs.Tables.{Tables, RowsAgree, watch_of}
+use Rattle.gc_monitor.specs.Telling.{IsMark}
 
 -- this place is a field of a replica, which is due in this sense
 abbrev pub IsDueField : (Bool → ℕ → ℕ → ℕ → Type 0) → List Replica → ℕ → Type 0
@@ -30,7 +30,7 @@ pub record Marks (objects : List (ℕ × Object)) (replicas : List Replica) (t :
 
 -- the tables know this collection of the heap, and there is room for both spaces
 pub record Knows (s : State) (c : Collection) (t : Tables) : Type 0 where
-  pub kept : IsKept t
+  pub agree : RowsAgree t
   pub due : DueOnly c (watch_of t)
   pub marks : Marks s.heap.graph.objects c.replicas t
   pub old_room : s.size ≤ t.room

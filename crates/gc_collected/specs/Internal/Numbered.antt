@@ -1,7 +1,7 @@
 -- Numbers that the fields of a raw object take, which may be read from two other objects meanwhile.
 use Rattle.std.specs.Prelude.{◌≡◌, ◌≢◌, ℕ, suc, true, List, [], ◌∷◌, length, map, Option, Some}
 use Rattle.gc_graph.specs.Graph.{Graph, Object, Value, Num, Ref, lookup, new_object, object_of, root}
-use Rattle.gc_plan.specs.State.{State}
+use Rattle.gc_model.specs.State.{State}
 use Rattle.gc_collected.specs.Giving.{gives_step}
 use Rattle.gc_collected.specs.declared.giving.FieldValue.TheVariants.{Number}
 

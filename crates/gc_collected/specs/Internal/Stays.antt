@@ -1,10 +1,10 @@
 -- A watch beside an open collection: what both know of the replicas.
 use Rattle.std.specs.Prelude.{◌≡◌, ◌⊎◌, ◌≤◌, ℕ, ◌<◌, Bool, false, List, length, IsTrue}
 use Rattle.gc_graph.specs.Graph.{Object}
-use Rattle.gc_plan.specs.State.{Replica, Collection, pairs_of, new_end}
-use Rattle.gc_plan.specs.Members.{In}
-use Rattle.gc_plan.specs.Belonging.{IsReplica}
-use Rattle.gc_along.specs.Watch.{Watch, is_due}
+use Rattle.gc_model.specs.State.{Replica, Collection, pairs_of, new_end}
+use Rattle.gc_model.specs.Members.{In}
+use Rattle.gc_model.specs.Belonging.{IsReplica}
+use Rattle.gc_monitor.specs.Watch.{Watch, is_due}
 
 -- field i of the replica at place p is due for the watch
 abbrev pub DueFor : Watch → Bool → ℕ → ℕ → ℕ → Type 0

@@ -6,8 +6,8 @@ use Rattle.gc_graph.specs.declared.command.Op.TheVariants.{Get, Put}
 use Rattle.gc_graph.specs.declared.reply.Reply.{Reply}
 use Rattle.gc_heap.specs.Commands.{Performs}
 use Rattle.gc_heap.specs.Heap.{HeapWords, IsHeap, graph_in}
-use Rattle.gc_plan.specs.State.{State}
-use Rattle.gc_plan.specs.Steps.{log_at, mutate, with_log, written}
+use Rattle.gc_model.specs.State.{State}
+use Rattle.gc_model.specs.Steps.{log_at, mutate, with_log, written}
 use Rattle.gc_copy.specs.Words.{CollectionWords, collection_in}
 
 -- the state after these commands of mutator m

@@ -3,8 +3,8 @@ use Rattle.std.specs.Prelude.{◌≡◌, ◌≤◌, ℕ, List}
 use Rattle.gc_graph.specs.Graph.{Value, Object}
 use Rattle.gc_words.specs.Image.{objects_of}
 use Rattle.gc_words.specs.Space.{end_of}
-use Rattle.gc_plan.specs.Members.{In}
-use Rattle.gc_plan.specs.Belonging.{RefersTo}
+use Rattle.gc_model.specs.Members.{In}
+use Rattle.gc_model.specs.Belonging.{RefersTo}
 use Rattle.gc_concurrent.specs.Ends.{Mine, Theirs}
 use Rattle.gc_concurrent.specs.Unreachable.{MayBeCopied, CopiesNothingUnreachable}
 

@@ -5,7 +5,7 @@ use Rattle.std.specs.Coded.{Coded, code_by, coded×, coded⊎, coded_ℕ, coded_
 use Rattle.gc_graph.specs.Graph.{Value, Nil, Num, Ref, Object}
 use Rattle.gc_words.specs.Space.{SpaceWords}
 use Rattle.gc_heap.specs.Heap.{HeapWords}
-use Rattle.gc_plan.specs.State.{Replica}
+use Rattle.gc_model.specs.State.{Replica}
 use Rattle.gc_concurrent.specs.Ends.{Mine, Theirs, Known}
 
 abbrev pub split : Value → ℕ ⊎ (ℕ ⊎ ℕ)

@@ -1,7 +1,7 @@
 -- The collector's memory.
 use Rattle.std.specs.Prelude.{◌≡◌, ◌≢◌, ◌⊎◌, ℕ, ◌<◌, true, List, length, slice_index}
 use Rattle.gc_graph.specs.Graph.{Value, Nil, Num, Ref}
-use Rattle.gc_plan.specs.Linked.{old_links}
+use Rattle.gc_model.specs.Linked.{old_links}
 use Rattle.gc_words.specs.Word.{value_of}
 use Rattle.gc_concurrent.specs.Ends.{Theirs, its}
 use Rattle.gc_concurrent.specs.Works.{KeepsBeginning}

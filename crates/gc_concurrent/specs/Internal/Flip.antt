@@ -6,10 +6,10 @@ use Rattle.gc_words.specs.Word.{value_of, word_of}
 use Rattle.gc_words.specs.Space.{SpaceWords, IsSpace, image_with}
 use Rattle.gc_words.specs.Certificate.{Certified}
 use Rattle.gc_heap.specs.Heap.{HeapWords, IsHeap, graph_in}
-use Rattle.gc_plan.specs.State.{Replica, new_graph, pairs_of, moved}
-use Rattle.gc_plan.specs.Linked.{linked_image, new_links}
-use Rattle.gc_plan.specs.Members.{In}
-use Rattle.gc_plan.specs.Steps.{scan_done, roots_done}
+use Rattle.gc_model.specs.State.{Replica, new_graph, pairs_of, moved}
+use Rattle.gc_model.specs.Linked.{linked_image, new_links}
+use Rattle.gc_model.specs.Members.{In}
+use Rattle.gc_model.specs.Steps.{scan_done, roots_done}
 use Rattle.gc_copy.specs.Words.{replicas_in}
 use Rattle.gc_concurrent.specs.Ends.{Mine, Theirs, Known, its, one_heap}
 use Rattle.gc_concurrent.specs.Internal.Rule.{CatchesUp, OneStep, Sat}
@@ -58,7 +58,7 @@ pub record Flips (roots : List ℕ) (m : Mine) (t : Theirs) : Type 0 where
   pub graph : (space : SpaceWords) → Holds space t → graph_in (new_heap_of space roots t) ≡ new_graph (its t) (map value_of roots)
   pub image : (space : SpaceWords) → Holds space t → image_with space (moved_words t roots) ≡ linked_image (new_links (its t)) t.size (new_graph (its t) (map value_of roots))
   pub low : (p : ℕ × ℕ) → In p (pairs_of (its t)) → p.0 < 2 ^ 32
-  pub kept : CopiesNothingUnreachable t
+  pub carried : CopiesNothingUnreachable t
 
 -- A load with both ends at hand shows that the mutator may go on in the new space.
 abbrev pub tells_flip : OneStep → Sat → ℕ → Sat → Type 0

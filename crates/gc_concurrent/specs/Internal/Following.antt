@@ -1,9 +1,9 @@
 -- A standing checker that goes along with the collector.
 use Rattle.std.specs.Prelude.{◌≡◌, ℕ, List, [], ◌∷◌, IsFalse, length}
-use Rattle.gc_along.specs.Tables.{Tables}
-use Rattle.gc_along.specs.Telling.{Tells}
-use Rattle.gc_along.specs.Watch.{IsSeen}
-use Rattle.gc_along.specs.Events.{Wrote}
+use Rattle.gc_monitor.specs.Tables.{Tables}
+use Rattle.gc_monitor.specs.Telling.{Tells}
+use Rattle.gc_monitor.specs.Watch.{IsSeen}
+use Rattle.gc_monitor.specs.Events.{Wrote}
 
 -- Unless it is lost, its tables tell the truth of the words that it has seen, and of all words of the new space.
 abbrev pub Follows : Tables → List ℕ → List ℕ → Type 0

@@ -1,8 +1,8 @@
--- What the two ends know together, as a state of gc_plan.
+-- What the two ends know together, as a state of gc_model.
 use Rattle.std.specs.Prelude.{[], ◌∷◌, Some}
 use Rattle.gc_words.specs.Space.{image_with}
 use Rattle.gc_words.specs.Image.{roomy_of}
-use Rattle.gc_plan.specs.State.{Collection, State}
+use Rattle.gc_model.specs.State.{Collection, State}
 use Rattle.gc_concurrent.specs.Ends.{Mine, Theirs}
 
 abbrev pub collection_of : Mine → Theirs → Collection

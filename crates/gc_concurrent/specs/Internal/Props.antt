@@ -9,11 +9,11 @@ use Rattle.gc_words.specs.Space.{SpaceWords, IsSpace}
 use base.Stored.{Coded-set}
 use Rattle.std.specs.Coded.{coded_list}
 use Rattle.gc_graph.specs.Graph.{Graph}
-use Rattle.gc_plan.specs.State.{Replica}
-use Rattle.gc_plan.specs.Belonging.{RefersTo}
-use Rattle.gc_plan.specs.Carried.{LeadsOnlyTo}
+use Rattle.gc_model.specs.State.{Replica}
+use Rattle.gc_model.specs.Belonging.{RefersTo}
+use Rattle.gc_model.specs.Carried.{LeadsOnlyTo}
 use Rattle.gc_concurrent.specs.Unreachable.{MayBeCopied}
-use Rattle.gc_along.specs.Watch.{IsSeen}
+use Rattle.gc_monitor.specs.Watch.{IsSeen}
 use Rattle.gc_concurrent.specs.Ends.{Theirs}
 use Rattle.gc_concurrent.specs.Internal.Codes.{replica_coded}
 use Rattle.gc_concurrent.specs.Internal.Copiers.{Claims}

@@ -15,16 +15,16 @@ use Rattle.gc_words.specs.Image.{objects_of, header_at, field_at, is_start}
 use Rattle.gc_words.specs.Space.{IsSpace, end_of, with_object, with_field_at, with_link}
 use Rattle.gc_words.specs.Closed.{IsClosed}
 use Rattle.gc_words.specs.declared.header.Header.{Header}
-use Rattle.gc_plan.specs.State.{Replica, Collection, replica_of, moved, new_end, new_free}
-use Rattle.gc_plan.specs.Steps.{with_written}
-use Rattle.gc_plan.specs.Members.{In}
-use Rattle.gc_plan.specs.Belonging.{IsOpened, BelongsBy}
+use Rattle.gc_model.specs.State.{Replica, Collection, replica_of, moved, new_end, new_free}
+use Rattle.gc_model.specs.Steps.{with_written}
+use Rattle.gc_model.specs.Members.{In}
+use Rattle.gc_model.specs.Belonging.{IsOpened, BelongsBy}
 use Rattle.gc_heap.specs.Heap.{HeapWords}
 use Rattle.gc_concurrent.specs.Ends.{Mine, Theirs, its, one_heap, opening_mine, opening_theirs, opening_view}
 use Rattle.gc_concurrent.specs.Internal.Carrying.{KeepsUnreachableOut}
 use Rattle.gc_concurrent.specs.Internal.Plans.{collection_of, plan}
 use Rattle.gc_concurrent.specs.Internal.Told.{ComesFromSeen}
-use Rattle.gc_along.specs.Watch.{IsNext, IsSeen}
+use Rattle.gc_monitor.specs.Watch.{IsNext, IsSeen}
 use Rattle.gc_concurrent.specs.Ends.{Known as View}
 
 -- The roots that a step names to its `Play`. The cells have no slots, so the type of what a slot holds serves for that alone.
@@ -50,7 +50,7 @@ pub record IsAtRest (m : Mine) (t : Theirs) : Type 0 where
   pub wanted : t.wanted ≡ []
 
 -- The mutator's words are those of the table, and the words behind them are 0. They are a closed space, and the collection is open in
--- gc_plan's sense: a field of a replica is up to date unless it is not yet scanned, or in one of the two logs. Nothing that was unreachable when
+-- gc_model's sense: a field of a replica is up to date unless it is not yet scanned, or in one of the two logs. Nothing that was unreachable when
 -- the collection began is copied. The replicas take no more words than the objects. While writes are not logged, the collection is at rest.
 -- The words come from those that the standing checker has seen by the writes in the log, and by objects made.
 pub record IsConcurrent (size : ℕ) (s : State RootWords View) : Type 0 where

@@ -5,8 +5,8 @@ use Rattle.gc_words.specs.Image.{Block, fresh_block, blocks, header_at, is_start
 use Rattle.gc_words.specs.Spelling.{link_at}
 use Rattle.gc_words.specs.Space.{SpaceWords, IsSpace}
 use Rattle.gc_heap.specs.Heap.{HeapWords, roomy_in}
-use Rattle.gc_plan.specs.State.{Collection}
-use Rattle.gc_plan.specs.Staying.{HasReplicaOf}
+use Rattle.gc_model.specs.State.{Collection}
+use Rattle.gc_model.specs.Staying.{HasReplicaOf}
 use Rattle.gc_copy.specs.Words.{Log, CollectionWords, entries_of, mark_of}
 
 abbrev pub HasReplicaWord : Collection → ℕ → Type 0

@@ -1,8 +1,8 @@
 ghost use Rattle.std.specs.Prelude.{◌≡◌, ◌≤◌, IfOk};
-ghost use Rattle.gc_plan.specs.Steps.{collect};
+ghost use Rattle.gc_model.specs.Steps.{collect};
 ghost use Rattle.gc_copy.specs.Words.{idle_state, open_state, HasNoLinks, LinksNothing, BelongsTo};
-ghost use Rattle.gc_plan.specs.declared.step.Step.{Step};
-ghost use Rattle.gc_plan.specs.declared.step.StepReply.{StepReply};
+ghost use Rattle.gc_model.specs.declared.step.Step.{Step};
+ghost use Rattle.gc_model.specs.declared.step.StepReply.{StepReply};
 
 use super::Collection;
 use super::room::Room;

@@ -4,13 +4,13 @@ ghost use Rattle.gc_words.specs.Spelling.{link_at};
 ghost use Rattle.gc_words.specs.Space.{image_with, without_links};
 ghost use Rattle.gc_words.specs.Views.{image_of, addresses};
 ghost use Rattle.gc_heap.specs.Heap.{IsHeap, graph_in};
-ghost use Rattle.gc_plan.specs.Members.{In};
-ghost use Rattle.gc_plan.specs.State.{Replica, pairs_of};
-ghost use Rattle.gc_plan.specs.Steps.{collect, is_ready};
+ghost use Rattle.gc_model.specs.Members.{In};
+ghost use Rattle.gc_model.specs.State.{Replica, pairs_of};
+ghost use Rattle.gc_model.specs.Steps.{collect, is_ready};
 ghost use Rattle.gc_copy.specs.Words.{IsCollection, collection_in, idle_state, open_state, BelongsTo, HasNoLinks, LinksNothing, TellsMoves, entries_of, new_root_words};
 ghost use Rattle.gc_copy.specs.Internal.Words.{KeepsGraph};
-ghost use Rattle.gc_plan.specs.declared.step.Step.{Step};
-ghost use Rattle.gc_plan.specs.declared.step.StepReply.{StepReply};
+ghost use Rattle.gc_model.specs.declared.step.Step.{Step};
+ghost use Rattle.gc_model.specs.declared.step.StepReply.{StepReply};
 
 use super::Collection;
 use super::copying::link_mark;

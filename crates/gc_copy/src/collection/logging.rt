@@ -1,7 +1,7 @@
 ghost use Rattle.std.specs.Prelude.{◌≡◌, ◌<◌, ◌≤◌, ◌+◌, ◌++◌, ◌∷◌, [], ℕ, length, OnOk};
 ghost use Rattle.gc_heap.specs.Heap.{HeapWords, graph_in};
-ghost use Rattle.gc_plan.specs.Steps.{log_at, with_log, first_log};
-ghost use Rattle.gc_plan.specs.Belonging.{HasField};
+ghost use Rattle.gc_model.specs.Steps.{log_at, with_log, first_log};
+ghost use Rattle.gc_model.specs.Belonging.{HasField};
 ghost use Rattle.gc_copy.specs.Words.{collection_in, BelongsTo, BelongsToBut, spare_of};
 
 use super::Collection;
@@ -14,7 +14,7 @@ impl Collection {
     pub fn reserve(&mut self, m: u8) -> Result<(), NoMemory>
         requires { m < length self.old.logs }
         ensures room { OnOk result (1 ≤ spare_of self.new m) }
-        ensures kept { (k : ℕ) → spare_of self.old k ≤ spare_of self.new k }
+        ensures spare { (k : ℕ) → spare_of self.old k ≤ spare_of self.new k }
         ensures collection { collection_in self.new ≡ collection_in self.old }
         ensures space { self.new.space ≡ self.old.space }
         ensures epoch { self.new.epoch ≡ self.old.epoch }
@@ -28,7 +28,7 @@ impl Collection {
     pub fn reserve_more(&mut self, m: u8, more: usize) -> Result<(), NoMemory>
         requires { m < length self.old.logs }
         ensures room { OnOk result (more ≤ spare_of self.new m) }
-        ensures kept { (k : ℕ) → spare_of self.old k ≤ spare_of self.new k }
+        ensures spare { (k : ℕ) → spare_of self.old k ≤ spare_of self.new k }
         ensures collection { collection_in self.new ≡ collection_in self.old }
         ensures space { self.new.space ≡ self.old.space }
         ensures epoch { self.new.epoch ≡ self.old.epoch }

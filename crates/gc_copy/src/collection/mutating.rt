@@ -2,7 +2,7 @@ ghost use Rattle.std.specs.Prelude.{◌≡◌, ◌≢◌, ◌<◌, ◌≤◌, �
 ghost use Rattle.std.specs.Option.{option_map, option_to_list};
 ghost use Rattle.gc_heap.specs.Heap.{graph_in};
 ghost use Rattle.gc_heap.specs.Places.{root_at};
-ghost use Rattle.gc_plan.specs.Steps.{mutate, written};
+ghost use Rattle.gc_model.specs.Steps.{mutate, written};
 ghost use Rattle.gc_copy.specs.Entries.{entry_in};
 ghost use Rattle.gc_copy.specs.Internal.Entries.{if_done};
 ghost use Rattle.gc_copy.specs.Words.{open_state, spare_of, BelongsTo};

@@ -3,8 +3,8 @@
 ghost use Rattle.std.specs.Prelude.{◌≡◌, ◌<◌, length, slice_get};
 ghost use Rattle.std.specs.Option.{option_map};
 ghost use Rattle.gc_copy.specs.Entries.{entry_in};
-ghost use Rattle.gc_plan.specs.State.{new_end};
-ghost use Rattle.gc_plan.specs.Steps.{log_at};
+ghost use Rattle.gc_model.specs.State.{new_end};
+ghost use Rattle.gc_model.specs.Steps.{log_at};
 ghost use Rattle.gc_copy.specs.Words.{collection_in};
 
 use super::Collection;

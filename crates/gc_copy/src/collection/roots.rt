@@ -1,5 +1,5 @@
 ghost use Rattle.std.specs.Prelude.{IfSome, ◌≡◌, ◌≤◌, ◌<◌, ℕ, IfOk, IsTrue, length, None, is_none, MatchResult, ⊤};
-ghost use Rattle.gc_plan.specs.State.{replica_of};
+ghost use Rattle.gc_model.specs.State.{replica_of};
 ghost use Rattle.std.specs.List.{find};
 ghost use Rattle.std.specs.Option.{option_map};
 ghost use Rattle.gc_words.specs.Word.{value_of};
@@ -7,8 +7,8 @@ ghost use Rattle.gc_graph.specs.Graph.{Ref, names_of, root};
 ghost use Rattle.gc_words.specs.Image.{is_start};
 ghost use Rattle.gc_words.specs.Closed.{IsRootWord};
 ghost use Rattle.gc_heap.specs.Heap.{graph_in};
-ghost use Rattle.gc_plan.specs.Staying.{HasReplicaOf, IsMissing};
-ghost use Rattle.gc_plan.specs.Steps.{root_target, roots_done as roots_done_in};
+ghost use Rattle.gc_model.specs.Staying.{HasReplicaOf, IsMissing};
+ghost use Rattle.gc_model.specs.Steps.{root_target, roots_done as roots_done_in};
 ghost use Rattle.gc_copy.specs.Words.{collection_in, BelongsTo, new_root_words};
 ghost use Rattle.gc_copy.specs.Twins.{IsTwin};
 

@@ -6,14 +6,14 @@ ghost use Rattle.std.specs.Prelude.{IsTrue, IfSome, OnOk, OnErr, Some, None, tru
 ghost use Rattle.gc_words.specs.Space.{image_with};
 ghost use Rattle.gc_words.specs.Certificate.{Certified};
 ghost use Rattle.gc_heap.specs.Heap.{HeapWords, image_of, graph_in};
-ghost use Rattle.gc_plan.specs.State.{pairs_of, new_end};
+ghost use Rattle.gc_model.specs.State.{pairs_of, new_end};
 ghost use Rattle.gc_copy.specs.Entries.{entry_in};
-ghost use Rattle.gc_plan.specs.Steps.{collect, is_empty, log_at, root_target, roots_done as roots_done_in, scan_done as scan_done_in, is_ready};
+ghost use Rattle.gc_model.specs.Steps.{collect, is_empty, log_at, root_target, roots_done as roots_done_in, scan_done as scan_done_in, is_ready};
 ghost use Rattle.gc_copy.specs.StepRuns.{IsScanRun};
 ghost use Rattle.gc_copy.specs.Words.{collection_in, open_state, BelongsTo, new_root_words};
 ghost use Rattle.gc_copy.specs.Internal.Words.{KeepsStarts};
-ghost use Rattle.gc_plan.specs.declared.step.Step.{Step};
-ghost use Rattle.gc_plan.specs.declared.step.StepReply.{StepReply};
+ghost use Rattle.gc_model.specs.declared.step.Step.{Step};
+ghost use Rattle.gc_model.specs.declared.step.StepReply.{StepReply};
 
 use super::Collection;
 use super::copying::NoRoom;
@@ -22,7 +22,7 @@ use crate::laws::{images_show_links, new_spaces_have_room};
 use crate::log::LogEntry;
 use gc_graph::object_words;
 use gc_heap::Heap;
-use gc_plan::StepReply;
+use gc_model::StepReply;
 use gc_words::{Addr, Header, NewAddr, OldAddr};
 
 impl Collection {

@@ -1,8 +1,8 @@
 -- What a useful step leaves of the work.
 use Rattle.std.specs.Prelude.{◌≡◌, ◌<◌, ℕ, suc, Option, true}
-use Rattle.gc_plan.specs.State.{State}
-use Rattle.gc_plan.specs.Progress.{work_left, entries_left}
-use Rattle.gc_plan.specs.declared.step.StepReply.{StepReply}
+use Rattle.gc_model.specs.State.{State}
+use Rattle.gc_model.specs.Progress.{work_left, entries_left}
+use Rattle.gc_model.specs.declared.step.StepReply.{StepReply}
 use Rattle.gc_pace.specs.Work.{goes_on, after_useful, useful_reply, end_after}
 
 -- The step with this reply, which leads from s to t, lowers the work that is left, unless it ends the work. The entries that remain are

@@ -1,8 +1,8 @@
 -- The useful steps that a call has performed so far, if there were any, and the looks that it took to find them.
 use Rattle.std.specs.Prelude.{◌≡◌, ℕ, suc, ◌+◌, ◌-◌, ◌/◌, ◌<◌, ◌≤◌, min, false, Option, Some, None}
 use Rattle.std.specs.Option.{option_map_or}
-use Rattle.gc_plan.specs.State.{State}
-use Rattle.gc_plan.specs.declared.step.StepReply.{StepReply}
+use Rattle.gc_model.specs.State.{State}
+use Rattle.gc_model.specs.declared.step.StepReply.{StepReply}
 use Rattle.gc_copy.specs.declared.collection.stepping.StepRun.{StepRun}
 use Rattle.gc_collected.specs.Collected.{Collected, turns_after}
 use Rattle.gc_collected.specs.declared.flip.Keep.TheVariants.{Room}

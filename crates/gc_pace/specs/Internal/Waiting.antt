@@ -1,7 +1,7 @@
 -- The memory that waits after useful steps.
 use Rattle.std.specs.Prelude.{◌≡◌, ◌⊎◌, ℕ, Bool, true, Option, IfSome, IsTrue}
-use Rattle.gc_plan.specs.State.{State}
-use Rattle.gc_plan.specs.declared.step.Step.TheVariants.{Flip}
+use Rattle.gc_model.specs.State.{State}
+use Rattle.gc_model.specs.declared.step.Step.TheVariants.{Flip}
 use Rattle.gc_collected.specs.Collected.{Collected, Rooms, Beside, checks_whole}
 use Rattle.gc_collected.specs.CollectedHeap.{Allocates}
 use Rattle.gc_collected.specs.declared.flip.Keep.TheVariants.{Room}

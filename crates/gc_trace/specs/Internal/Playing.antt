@@ -1,8 +1,8 @@
 -- The contents of a player, and its results.
 use Rattle.std.specs.Prelude.{◌≡◌, ◌++◌, ℕ, List, [], Option}
-use Rattle.gc_plan.specs.State.{State}
-use Rattle.gc_plan.specs.Runs.{answers, state_after}
-use Rattle.gc_plan.specs.declared.event.Event.{Event}
+use Rattle.gc_model.specs.State.{State}
+use Rattle.gc_model.specs.Runs.{answers, state_after}
+use Rattle.gc_model.specs.declared.event.Event.{Event}
 use Rattle.gc_trace.specs.Faults.{IsReadAsTrace}
 use Rattle.gc_trace.specs.Grammar.{IsRecording}
 use Rattle.gc_trace.specs.Internal.Reading.{HasRead, read_so_far}

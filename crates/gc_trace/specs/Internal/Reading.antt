@@ -1,7 +1,7 @@
 -- The contents of an event reader.
 use Rattle.std.specs.Prelude.{◌≡◌, ◌+◌, ◌≤◌, ℕ, List, Option}
 use Rattle.gc_text.specs.Reading.{Place, IsAt}
-use Rattle.gc_plan.specs.declared.event.Event.{Event}
+use Rattle.gc_model.specs.declared.event.Event.{Event}
 use Rattle.gc_trace.specs.Faults.{trace_limit, GoodBefore}
 use Rattle.gc_trace.specs.Grammar.{Recording, IsHeading}
 use Rattle.gc_trace.specs.declared.event_reader.EventReader.{EventReader}

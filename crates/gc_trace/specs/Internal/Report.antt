@@ -2,7 +2,7 @@
 use Rattle.std.specs.Prelude.{◌+◌, ◌<◌, ◌^◌}
 use Rattle.std.specs.List.{AllByRecursion}
 use Rattle.gc_trace.specs.declared.report.Report.{Report}
-use Rattle.gc_plan.specs.declared.event.Answer.{Answer}
+use Rattle.gc_model.specs.declared.event.Answer.{Answer}
 use Rattle.gc_trace.specs.Report.{counts_as, report_counts}
 
 -- each count fits in a `u64`

@@ -3,12 +3,12 @@ use Rattle.std.specs.Prelude.{◌≡◌, true, false, refl}
 use Rattle.gc_graph.specs.declared.command.Op.TheVariants as ops
 use Rattle.gc_graph.specs.declared.reply.Reply.TheVariants as replies
 use Rattle.gc_graph.specs.declared.reply.View.TheVariants as views
-use Rattle.gc_plan.specs.declared.step.Step.TheVariants.{Begin}
-use Rattle.gc_plan.specs.declared.step.StepReply.TheVariants.{Busy}
-use Rattle.gc_plan.specs.declared.event.Event.{Event}
-use Rattle.gc_plan.specs.declared.event.Event.TheVariants.{Mutate, Collect}
-use Rattle.gc_plan.specs.declared.event.Answer.{Answer}
-use Rattle.gc_plan.specs.declared.event.Answer.TheVariants.{Mutator, Collector, Useful}
+use Rattle.gc_model.specs.declared.step.Step.TheVariants.{Begin}
+use Rattle.gc_model.specs.declared.step.StepReply.TheVariants.{Busy}
+use Rattle.gc_model.specs.declared.event.Event.{Event}
+use Rattle.gc_model.specs.declared.event.Event.TheVariants.{Mutate, Collect}
+use Rattle.gc_model.specs.declared.event.Answer.{Answer}
+use Rattle.gc_model.specs.declared.event.Answer.TheVariants.{Mutator, Collector, Useful}
 use Rattle.gc_world.specs.declared.bare.BareOp.TheVariants as bare_ops
 use Rattle.gc_world.specs.declared.bare.BareReply.TheVariants as bare_replies
 use Rattle.gc_world.specs.declared.entry.Form.{Form}

@@ -7,11 +7,11 @@ use Rattle.gc_concurrent.specs.declared.copier.Work.{Work}
 use Rattle.gc_concurrent.specs.declared.copier.Work.TheVariants as work
 use Rattle.gcflip_beside_c.specs.Answers.{not_ready}
 use Rattle.gcflip_beside_c.specs.Stages.{HasRootsPlaced, IsHolding, IsIdle, LacksRoom, ahead, outline}
-use Rattle.gcflip_beside_c.specs.Standing.{Standing}
+use Rattle.gcflip_beside_c.specs.HandleStage.{HandleStage}
 
 -- one step of a collector
-pub record StepsOn (step : Work) (old new : Standing) : Type 0 where
-  pub kept : outline new ≡ outline old
+pub record StepsOn (step : Work) (old new : HandleStage) : Type 0 where
+  pub stays : outline new ≡ outline old
   -- while the mutator is held, each step lowers the number of steps ahead
   pub nearer : IsHolding old → step ≡ work.Step → ahead new + 1 ≤ ahead old
   pub rooted : HasRootsPlaced old → HasRootsPlaced new

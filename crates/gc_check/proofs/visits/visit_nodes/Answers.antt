@@ -19,8 +19,8 @@ loop-done-preserved c =
     let inside : c.loop-done.done < length before = search rules in
     record {
       held = c.visit_references.ensures.held;
-      near = near_next image before after c.loop-done.done inside c.visit_references.ensures.held.list c.visit_references.ensures.kept c.visit_references.ensures.near;
-      visited = one_more_visit image before after c.loop-done.done inside c.visit_references.ensures.kept c.loop-done.invariant.visited c.visit_references.ensures.visited;
+      near = near_next image before after c.loop-done.done inside c.visit_references.ensures.held.list c.visit_references.ensures.continues c.visit_references.ensures.near;
+      visited = one_more_visit image before after c.loop-done.done inside c.visit_references.ensures.continues c.loop-done.invariant.visited c.visit_references.ensures.visited;
     }
 
 pub returns-clause-all : goal.returns-clause-all

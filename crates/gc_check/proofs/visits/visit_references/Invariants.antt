@@ -7,7 +7,7 @@ use Rattle.gc_check.proofs.visits.visit_references.Given as goal
 abbrev pub invariant-loop-i : goal.invariant-loop-i
 invariant-loop-i l = record {
   held : HoldsWalk l.starts l.visits;
-  kept : Continues l.initial.visits.list.items l.visits.list.items;
+  continues : Continues l.initial.visits.list.items l.visits.list.items;
   near : AreWithin l.visits.list.items (suc (visit_at l.initial.visits.list.items l.from).depth);
   visited : LeadsToVisits l.starts l.visits.list.items l.from l.i;
 }

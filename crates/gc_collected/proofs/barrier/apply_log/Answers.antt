@@ -2,9 +2,9 @@
 use Rattle.std.proofs.Common.{◌≡◌, ℕ, List, [], ◌∷◌, Option, Some, None, refl, ap, sym, subst, ◌∙◌}
 use Rattle.std.specs.Prelude.{IfSome, slice_get}
 use Rattle.gc_words.specs.Image.{Image}
-use Rattle.gc_plan.specs.declared.step.StepReply.{StepReply}
-use Rattle.gc_plan.specs.declared.step.StepReply.TheVariants.{Applied}
-use Rattle.gc_plan.specs.Steps.{log_at}
+use Rattle.gc_model.specs.declared.step.StepReply.{StepReply}
+use Rattle.gc_model.specs.declared.step.StepReply.TheVariants.{Applied}
+use Rattle.gc_model.specs.Steps.{log_at}
 use Rattle.gc_copy.specs.Entries.{entry_in}
 use Rattle.gc_copy.specs.Words.{collection_in, open_state}
 use Rattle.gc_copy.specs.declared.log.LogEntry.{LogEntry}

@@ -1,6 +1,6 @@
 -- A turn applies one entry more.
 use Rattle.std.proofs.Common.{◌≡◌, suc, ◌+◌, ◌∙◌, subst, arith}
-use Rattle.gc_plan.specs.declared.step.Step.TheVariants.{Apply}
+use Rattle.gc_model.specs.declared.step.Step.TheVariants.{Apply}
 use Rattle.gc_copy.specs.StepRuns.{AppliesOn, IsApplyRun}
 use Rattle.gc_copy.specs.Words.{open_state}
 use Rattle.gc_copy.proofs.Public.{repeats_last, run_goes_on}

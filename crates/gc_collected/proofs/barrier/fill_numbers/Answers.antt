@@ -1,7 +1,7 @@
 -- The numbers are written at once, and their fields are logged one by one; then the monitor is told of all of them.
 use Rattle.std.proofs.Common.{◌≡◌, length, sym, ◌∙◌, ap, subst, arith}
-use Rattle.gc_plan.specs.State.{Collection}
-use Rattle.gc_plan.specs.Belonging.{IsLogged}
+use Rattle.gc_model.specs.State.{Collection}
+use Rattle.gc_model.specs.Belonging.{IsLogged}
 use Rattle.gc_copy.specs.Words.{collection_in, open_state}
 use Rattle.gc_collected.proofs.Monitor.Follows.{follows_written, IsAmong}
 use Rattle.gc_collected.specs.Internal.Beside.{AreOld}

@@ -1,8 +1,8 @@
 -- A `New` writes no field of an older object, so an open collection stays, and the monitor is told of the new object.
 use Rattle.std.proofs.Common.{◌≡◌, false, refl, ap, subst, ◌∙◌}
 use Rattle.gc_graph.specs.declared.command.Op.TheVariants.{New}
-use Rattle.gc_along.specs.Claims.{CanMake}
-use Rattle.gc_along.specs.Events.{Made}
+use Rattle.gc_monitor.specs.Claims.{CanMake}
+use Rattle.gc_monitor.specs.Events.{Made}
 use Rattle.gc_collected.specs.Internal.CollectedHeap.{state_in}
 use Rattle.gc_collected.proofs.Followed.{newly}
 use Rattle.gc_collected.proofs.OtherCommands.{performed, still_belongs, still_fits}

@@ -2,8 +2,8 @@
 use Rattle.std.proofs.Common.{◌≡◌, false, refl, ap, subst, ◌∙◌}
 use Rattle.gc_graph.specs.declared.command.Op.TheVariants.{New}
 use Rattle.gc_heap.specs.Places.{root_at}
-use Rattle.gc_along.specs.Claims.{CanMake}
-use Rattle.gc_along.specs.Events.{Made}
+use Rattle.gc_monitor.specs.Claims.{CanMake}
+use Rattle.gc_monitor.specs.Events.{Made}
 use Rattle.gc_collected.specs.Internal.CollectedHeap.{state_in}
 use Rattle.gc_collected.proofs.Followed.{newly}
 use Rattle.gc_collected.proofs.OtherCommands.{performed, still_belongs, still_fits}

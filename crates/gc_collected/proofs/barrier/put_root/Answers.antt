@@ -4,8 +4,8 @@ use Rattle.std.specs.Option.{option_map, option_to_list}
 use Rattle.gc_graph.specs.declared.command.Op.TheVariants.{Put}
 use Rattle.gc_heap.specs.Heap.{graph_in}
 use Rattle.gc_heap.specs.Places.{root_at}
-use Rattle.gc_plan.specs.Members.{In}
-use Rattle.gc_plan.specs.Steps.{written}
+use Rattle.gc_model.specs.Members.{In}
+use Rattle.gc_model.specs.Steps.{written}
 use Rattle.gc_copy.specs.Entries.{entry_in}
 use Rattle.gc_copy.specs.Words.{open_state}
 use Rattle.gc_copy.specs.declared.log.LogEntry.{LogEntry}

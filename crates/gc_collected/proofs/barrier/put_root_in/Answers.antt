@@ -4,7 +4,7 @@ use Rattle.std.proofs.Common.{◌≡◌, None, refl, subst, sym, arith}
 use Rattle.std.specs.Option.{option_map}
 use Rattle.gc_graph.specs.declared.command.Op.TheVariants.{Put}
 use Rattle.gc_heap.specs.Places.{root_at}
-use Rattle.gc_plan.specs.Steps.{mutate}
+use Rattle.gc_model.specs.Steps.{mutate}
 use Rattle.gc_copy.specs.Words.{collection_in, state_of}
 use Rattle.gc_copy.proofs.Public.{idle_left, still_unlinked}
 use Rattle.gc_collected.specs.Internal.CollectedHeap.{Fits}

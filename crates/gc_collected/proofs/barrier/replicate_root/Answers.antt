@@ -1,7 +1,7 @@
 -- The monitor is told of the replica that the step placed; any other reply changes nothing.
 use Rattle.std.proofs.Common.{refl, ap, sym, subst, ◌∙◌}
 use Rattle.gc_words.specs.Image.{Image}
-use Rattle.gc_plan.specs.declared.step.StepReply.{StepReply}
+use Rattle.gc_model.specs.declared.step.StepReply.{StepReply}
 use Rattle.gc_copy.specs.Words.{collection_in, open_state}
 use Rattle.gc_collected.proofs.Monitor.Follows.{follows_same}
 use Rattle.gc_collected.proofs.Monitor.FollowsSteps.{follows_roots}

@@ -1,9 +1,9 @@
--- A run of one scan is the plan's scan.
+-- A run of one scan is the model's scan.
 use Rattle.std.proofs.Common.{refl, ap, ◌∙◌}
-use Rattle.gc_plan.specs.State.{State}
-use Rattle.gc_plan.specs.declared.step.Step.TheVariants as steps
-use Rattle.gc_plan.specs.declared.step.StepReply.{StepReply}
-use Rattle.gc_plan.proofs.Public.{opened_has_room}
+use Rattle.gc_model.specs.State.{State}
+use Rattle.gc_model.specs.declared.step.Step.TheVariants as steps
+use Rattle.gc_model.specs.declared.step.StepReply.{StepReply}
+use Rattle.gc_model.proofs.Public.{opened_has_room}
 use Rattle.gc_copy.specs.Words.{collection_in, open_state}
 use Rattle.gc_copy.proofs.Public.{one_step}
 use Rattle.gc_collected.proofs.barrier.scan.Goals as goal

@@ -1,7 +1,7 @@
 -- The monitor is told of all replicas of the run, and then looks at the scanned fields.
 use Rattle.std.proofs.Common.{◌≡◌, ℕ, refl, ap, sym, subst, ◌∙◌}
 use Rattle.gc_words.specs.Image.{Image}
-use Rattle.gc_along.specs.Runs.{CanLookAll, LookedAll}
+use Rattle.gc_monitor.specs.Runs.{CanLookAll, LookedAll}
 use Rattle.gc_copy.specs.Words.{collection_in, open_state}
 use Rattle.gc_collected.specs.Internal.Beside.{AreOld}
 use Rattle.gc_collected.proofs.Monitor.FollowsRuns.{follows_run}

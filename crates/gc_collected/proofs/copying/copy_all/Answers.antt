@@ -1,10 +1,10 @@
 -- The heap copies alone; the fields are logged together, and then the monitor is told of all of them.
 use Rattle.std.proofs.Common.{◌≡◌, Some, None, ℕ, ap, subst, sym, ◌∙◌}
 use Rattle.std.specs.Prelude.{IfSome, IsFalse, Option}
-use Rattle.gc_plan.specs.Belonging.{IsOpened}
+use Rattle.gc_model.specs.Belonging.{IsOpened}
 use Rattle.gc_copy.specs.Words.{CollectionWords, BelongsTo, open_state}
-use Rattle.gc_along.specs.Claims.{CanWriteRow}
-use Rattle.gc_along.specs.Events.{WroteRow}
+use Rattle.gc_monitor.specs.Claims.{CanWriteRow}
+use Rattle.gc_monitor.specs.Events.{WroteRow}
 use Rattle.gc_collected.specs.Copying.{copy_step}
 use Rattle.gc_collected.specs.Internal.Beside.{AreOld}
 use Rattle.gc_collected.specs.Internal.CollectedHeap.{BelongsIfOpen, Fits, state_in}

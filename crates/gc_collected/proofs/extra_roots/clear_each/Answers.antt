@@ -6,9 +6,9 @@ use Rattle.gc_graph.specs.declared.command.Op.TheVariants.{Nil}
 use Rattle.gc_graph.specs.declared.reply.Reply.{Reply}
 use Rattle.gc_words.specs.Word.{value_of}
 use Rattle.gc_heap.specs.ExtraRoots.{extra_slot}
-use Rattle.gc_plan.specs.State.{State}
+use Rattle.gc_model.specs.State.{State}
 use Rattle.gc_copy.specs.Words.{collection_in, state_of}
-use Rattle.gc_plan.proofs.Public.{roots_counted}
+use Rattle.gc_model.proofs.Public.{roots_counted}
 use Rattle.gc_collected.specs.ExtraRoots.{clear_step}
 use Rattle.gc_collected.specs.Internal.KnownRoots.{KnowsRoots}
 use Rattle.gc_collected.proofs.Marks.{clear_next, clears_knows, nilled_asks}

@@ -7,10 +7,10 @@ use Rattle.gc_graph.specs.declared.reply.Reply.{Reply}
 use Rattle.gc_words.specs.Space.{end_of}
 use Rattle.gc_words.specs.Word.{value_of}
 use Rattle.gc_heap.specs.Filling.{TakesFields}
-use Rattle.gc_plan.specs.State.{State}
-use Rattle.gc_plan.proofs.Public.{roots_counted}
-use Rattle.gc_along.specs.Claims.{CanMake}
-use Rattle.gc_along.specs.Events.{Made}
+use Rattle.gc_model.specs.State.{State}
+use Rattle.gc_model.proofs.Public.{roots_counted}
+use Rattle.gc_monitor.specs.Claims.{CanMake}
+use Rattle.gc_monitor.specs.Events.{Made}
 use Rattle.gc_collected.specs.Internal.CollectedHeap.{state_in}
 use Rattle.gc_collected.specs.Internal.Together.{LogsIfOpen, fields_from}
 use Rattle.gc_collected.proofs.NewFrom.{counted, full_from, made_from}

@@ -1,6 +1,6 @@
 -- A flip by other roots leaves a row whose words are no twins.
 use Rattle.std.proofs.Common.{refl, sym, subst}
-use Rattle.gc_plan.specs.declared.step.StepReply.TheVariants.{Flipped}
+use Rattle.gc_model.specs.declared.step.StepReply.TheVariants.{Flipped}
 use Rattle.gc_copy.specs.Words.{collection_in, idle_state, open_state}
 use Rattle.gc_roots.specs.Twins.{RootRow, KeepsTwins}
 use Rattle.gc_roots.proofs.Public.{expired_keeps}

@@ -1,13 +1,13 @@
--- The images of the words have the outlines of the plan's images, because an outline does not depend on links.
+-- The images of the words have the outlines of the model's images, because an outline does not depend on links.
 use Rattle.std.proofs.Common.{◌≡◌, ◌++◌, ◌-◌, ℕ, List, take, replicate, length, sym, ◌∙◌, ap, subst}
 use Rattle.std.proofs.lemmas.List.{take-append-drop}
 use Rattle.gc_words.specs.Image.{Image}
 use Rattle.gc_words.specs.Space.{SpaceWords, image_with}
 use Rattle.gc_heap.specs.Heap.{HeapWords}
-use Rattle.gc_plan.specs.State.{Collection}
-use Rattle.gc_plan.specs.Linked.{old_links, old_image, new_image}
+use Rattle.gc_model.specs.State.{Collection}
+use Rattle.gc_model.specs.Linked.{old_links, old_image, new_image}
 use Rattle.gc_copy.specs.Words.{AreMoved, collection_in, open_state}
-use Rattle.gc_along.specs.Outline.{ImageOutline, outline_of, outline_in}
+use Rattle.gc_monitor.specs.Outline.{ImageOutline, outline_of, outline_in}
 use Rattle.gc_collected.proofs.Shown.{same_outline}
 use Rattle.gc_collected.proofs.flipping.is_accepted.Given as given
 use Rattle.gc_collected.proofs.flipping.is_accepted.Goals as goal

@@ -1,9 +1,9 @@
--- The images of the words have the roots of the plan's images.
+-- The images of the words have the roots of the model's images.
 use Rattle.std.proofs.Common.{◌≡◌, ◌+◌, ◌∙◌, ℕ, true, List, [], ◌∷◌, map, refl, sym, ap, subst}
 use Rattle.std.specs.Prelude.{slice_index}
 use Rattle.gc_graph.specs.Slots.{roots_of}
 use Rattle.gc_words.specs.Word.{value_of, word_of, words_correspond}
-use Rattle.gc_plan.specs.State.{pairs_of}
+use Rattle.gc_model.specs.State.{pairs_of}
 use Rattle.gc_copy.specs.Words.{collection_in, new_root_words, open_state}
 use Rattle.gc_copy.proofs.Public.{word_back}
 use Rattle.gc_collected.proofs.flipping.root_watcher.Goals as goal

@@ -4,7 +4,7 @@ use Rattle.std.proofs.Common.{◌≡◌, refl, ◌∙◌, ap, arith}
 use Rattle.gc_graph.specs.Slots.{roots_of}
 use Rattle.gc_heap.specs.Heap.{graph_in}
 use Rattle.gc_copy.specs.Words.{collection_in, open_state}
-use Rattle.gc_plan.proofs.Public.{all_replicated}
+use Rattle.gc_model.proofs.Public.{all_replicated}
 use Rattle.gc_collected.proofs.Marks.{slots_have, all_have}
 use Rattle.gc_collected.proofs.known.all_known.Goals as goal
 

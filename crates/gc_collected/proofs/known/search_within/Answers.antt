@@ -3,9 +3,9 @@ use Rattle.std.proofs.Common.{◌≡◌, ℕ, ◌<◌, suc, refl, ◌∙◌, ap,
 use Rattle.gc_graph.specs.Slots.{roots_of}
 use Rattle.gc_graph.specs.Graph.{root}
 use Rattle.gc_heap.specs.Heap.{graph_in}
-use Rattle.gc_plan.specs.Staying.{HasReplicaOf}
+use Rattle.gc_model.specs.Staying.{HasReplicaOf}
 use Rattle.gc_copy.specs.Words.{collection_in, open_state}
-use Rattle.gc_plan.proofs.Public.{first_missing}
+use Rattle.gc_model.proofs.Public.{first_missing}
 use Rattle.gc_collected.proofs.Marks.{all_have, rest_found, slots_have}
 use Rattle.gc_collected.proofs.known.search_within.Goals as goal
 

@@ -2,8 +2,8 @@
 use Rattle.std.proofs.Common.{◌≡◌, false, ap, subst, ◌∙◌, arith}
 use Rattle.gc_graph.specs.declared.command.Op.TheVariants.{New}
 use Rattle.gc_words.specs.Space.{end_of}
-use Rattle.gc_along.specs.Claims.{CanMake}
-use Rattle.gc_along.specs.Events.{Made}
+use Rattle.gc_monitor.specs.Claims.{CanMake}
+use Rattle.gc_monitor.specs.Events.{Made}
 use Rattle.gc_collected.specs.Internal.CollectedHeap.{state_in}
 use Rattle.gc_collected.proofs.SourcesPut.{full_with, made_with}
 use Rattle.gc_collected.proofs.OtherCommands.{performed, still_fits}

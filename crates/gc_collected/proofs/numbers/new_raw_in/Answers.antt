@@ -7,10 +7,10 @@ use Rattle.gc_words.specs.Word.{value_of}
 use Rattle.gc_heap.specs.Places.{root_at}
 use Rattle.gc_heap.specs.Heap.{graph_in, roomy_in}
 use Rattle.gc_words.specs.Space.{end_of}
-use Rattle.gc_plan.specs.State.{State}
-use Rattle.gc_plan.proofs.Public.{roots_counted}
-use Rattle.gc_along.specs.Claims.{CanMake}
-use Rattle.gc_along.specs.Events.{Made}
+use Rattle.gc_model.specs.State.{State}
+use Rattle.gc_model.proofs.Public.{roots_counted}
+use Rattle.gc_monitor.specs.Claims.{CanMake}
+use Rattle.gc_monitor.specs.Events.{Made}
 use Rattle.gc_collected.specs.Internal.CollectedHeap.{state_in}
 use Rattle.gc_collected.proofs.Followed.{newly}
 use Rattle.gc_collected.proofs.Numbered.{new_raw_is}

@@ -4,10 +4,10 @@ use Rattle.std.specs.Prelude.{IfSome, IsFalse, Option}
 use Rattle.std.proofs.lemmas.List.{length-map}
 use Rattle.gc_words.specs.Word.{value_of}
 use Rattle.gc_heap.specs.Heap.{graph_in}
-use Rattle.gc_plan.specs.Belonging.{IsOpened}
+use Rattle.gc_model.specs.Belonging.{IsOpened}
 use Rattle.gc_copy.specs.Words.{CollectionWords, BelongsTo, open_state}
-use Rattle.gc_along.specs.Claims.{CanWriteRow}
-use Rattle.gc_along.specs.Events.{WroteRow}
+use Rattle.gc_monitor.specs.Claims.{CanWriteRow}
+use Rattle.gc_monitor.specs.Events.{WroteRow}
 use Rattle.gc_collected.specs.Internal.Beside.{AreOld}
 use Rattle.gc_collected.specs.Internal.CollectedHeap.{BelongsIfOpen, Fits, state_in}
 use Rattle.gc_collected.specs.Internal.Follows.{Follows}

@@ -2,7 +2,7 @@
 use Rattle.std.proofs.Common.{◌≡◌, ℕ, List, length, ap, sym, ◌∙◌, subst, arith}
 use Rattle.gc_words.specs.Space.{end_of}
 use Rattle.gc_heap.specs.Heap.{HeapWords, IsHeap, graph_in}
-use Rattle.gc_plan.specs.Carried.{LeadsOnlyTo}
+use Rattle.gc_model.specs.Carried.{LeadsOnlyTo}
 use Rattle.gc_concurrent.specs.Ends.{Mine, one_heap, opening_mine}
 use Rattle.gc_concurrent.specs.Heaps.{heap_of}
 use Rattle.gc_concurrent.specs.Unreachable.{MayBeCopied}
@@ -30,7 +30,7 @@ invariant_of-result-2 c =
       ended = ap (λ (m : Mine). length m.space.words) mine ∙ sym c.begin-one.ensures.end;
       sound = subst (λ (m : Mine). IsHeap (heap_of m c.args.roots.items)) (sym mine) c.requires.sound;
       behind = (let e = ap (λ (m : Mine). end_of m.base.space) mine in let l = c.begin-one.ensures.end in omega arith);
-      kept = subst (λ (m : Mine). LeadsOnlyTo (MayBeCopied m.base) (graph_in (heap_of m c.args.roots.items))) (sym mine) (begins_kept heap c.requires.sound);
+      leads = subst (λ (m : Mine). LeadsOnlyTo (MayBeCopied m.base) (graph_in (heap_of m c.args.roots.items))) (sym mine) (begins_kept heap c.requires.sound);
     }
 
 pub invariant_of-result-3-clause-along : goal.invariant_of-result-3-clause-along

@@ -3,7 +3,7 @@ use Rattle.std.proofs.Common.{◌≡◌, [], length, ap, sym, ◌∙◌, subst, 
 use Rattle.atomic_table.specs.Seated.{TableId}
 use Rattle.gc_heap.specs.Heap.{IsHeap, graph_in}
 use Rattle.gc_words.specs.Space.{end_of}
-use Rattle.gc_plan.specs.Carried.{LeadsOnlyTo}
+use Rattle.gc_model.specs.Carried.{LeadsOnlyTo}
 use Rattle.gc_concurrent.specs.Unreachable.{MayBeCopied}
 use Rattle.gc_concurrent.specs.Ends.{Mine}
 use Rattle.gc_concurrent.specs.Heaps.{heap_of}
@@ -57,7 +57,7 @@ invariant_of-result-2 c =
       ended = (ap (λ (x : Mine). length x.space.words) mine ∙ c.args.commander.ended, ap (λ (x : Mine). x.space.size) mine ∙ (m.sized ∙ size));
       behind = (let e = ap (λ (x : Mine). end_of x.base.space) mine in let b = c.args.commander.behind in omega arith);
       begun = ap (λ (x : Sat). x.0.theirs.base) took ∙ (c.load.ensures.2.0.1 ∙ sym (ap (λ (x : Sat). x.0.mine.base) took));
-      kept = subst (λ (x : Mine). LeadsOnlyTo (MayBeCopied x.base) (graph_in (heap_of x c.args.commander.roots.items))) (sym mine) c.args.commander.kept;
+      leads = subst (λ (x : Mine). LeadsOnlyTo (MayBeCopied x.base) (graph_in (heap_of x c.args.commander.roots.items))) (sym mine) c.args.commander.leads;
       sound = subst (λ (x : Mine). IsHeap (heap_of x c.args.commander.roots.items)) (sym mine) c.args.commander.sound;
     }
 

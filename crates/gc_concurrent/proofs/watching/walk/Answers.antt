@@ -1,8 +1,8 @@
 -- Each object that is found is the next one of the words that are seen.
 use Rattle.std.proofs.Common.{◌≡◌, false, ◌++◌, ap, sym, ◌∙◌, subst, arith}
 use Rattle.std.proofs.Math.Logic.{∥∥₁_elim}
-use Rattle.gc_along.specs.Tables.{Tables}
-use Rattle.gc_along.specs.Watch.{IsSeen}
+use Rattle.gc_monitor.specs.Tables.{Tables}
+use Rattle.gc_monitor.specs.Watch.{IsSeen}
 use Rattle.gc_concurrent.specs.Internal.Props.{seen_prop}
 use Rattle.gc_concurrent.specs.Internal.Rule.{Sat, SeesNext}
 use Rattle.gc_concurrent.specs.Internal.Following.{Follows}

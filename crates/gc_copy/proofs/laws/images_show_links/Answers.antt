@@ -1,4 +1,4 @@
--- The images of the words are the plan's images with the same links, so the plan's certificate of a ready collection holds of them.
+-- The images of the words are the model's images with the same links, so the model's certificate of a ready collection holds of them.
 use Rattle.gc_copy.proofs.LinkedImages.{idle_shown, old_shown, linked, new_shown, shown_certified}
 use Rattle.gc_copy.proofs.laws.images_show_links.Goals as goal
 

@@ -1,4 +1,4 @@
--- The heap's graph fits its space, so the plan's law about room applies to words.
+-- The heap's graph fits its space, so the model's law about room applies to words.
 use Rattle.gc_copy.proofs.LargeSpaces.{words_have_room}
 use Rattle.gc_copy.proofs.laws.new_spaces_have_room.Goals as goal
 

@@ -1,6 +1,6 @@
 -- The sum so far is that of the logs before this one, and fits, because each has fewer than 2^64 entries.
 use Rattle.std.proofs.Common.{◌≡◌, ◌≤◌, ◌+◌, ◌*◌, ◌^◌}
-use Rattle.gc_plan.specs.Progress.{entries_left}
+use Rattle.gc_model.specs.Progress.{entries_left}
 use Rattle.gc_pace.proofs.Logged.{entries_from}
 use Rattle.gc_pace.proofs.counts.logged_in.Given as goal
 

@@ -1,9 +1,9 @@
 -- The useful step, with the size if it is a begin, gets a sound reply and leaves less to do, unless work ends with it.
 use Rattle.std.proofs.Common.{ℕ, ◌≤◌, Result, Ok, Err, refl}
 use Rattle.std.specs.Prelude.{◌≢◌, IfOk}
-use Rattle.gc_plan.specs.declared.step.Step.{Step}
-use Rattle.gc_plan.specs.declared.step.Step.TheVariants as steps
-use Rattle.gc_plan.specs.declared.step.StepReply.{StepReply}
+use Rattle.gc_model.specs.declared.step.Step.{Step}
+use Rattle.gc_model.specs.declared.step.Step.TheVariants as steps
+use Rattle.gc_model.specs.declared.step.StepReply.{StepReply}
 use Rattle.gc_pace.proofs.Left.{leaves_reply}
 use Rattle.gc_pace.proofs.Useful.{sound_reply}
 use Rattle.gc_pace.proofs.Waiting.{rooms_reply, lacks_reply, quiet_reply}

@@ -1,6 +1,6 @@
 -- The entries that are applied are useful steps.
 use Rattle.std.proofs.Common.{Option, is_some, ap, subst, sym}
-use Rattle.gc_plan.specs.declared.step.Step.TheVariants as steps
+use Rattle.gc_model.specs.declared.step.Step.TheVariants as steps
 use Rattle.gc_copy.specs.StepRuns.{AppliesOn}
 use Rattle.gc_copy.specs.Words.{RoomWords}
 use Rattle.gc_collected.specs.Collected.{Beside}

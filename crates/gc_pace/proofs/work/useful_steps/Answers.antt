@@ -1,6 +1,6 @@
 -- A turn makes the run longer, after steps that were not enough, or takes looks in place of a step.
 use Rattle.std.proofs.Common.{◌≡◌, inl, inr, ◌+◌, ◌≤◌, true, sym, ap, ◌∙◌, subst, arith}
-use Rattle.gc_plan.specs.declared.step.StepReply.{StepReply}
+use Rattle.gc_model.specs.declared.step.StepReply.{StepReply}
 use Rattle.gc_copy.specs.declared.collection.stepping.StepRun.{StepRun}
 use Rattle.gc_collected.specs.Collected.{Beside, Collected}
 use Rattle.gc_pace.specs.Beside.{HaveRooms}

@@ -1,7 +1,7 @@
 -- A run of useful steps is reported, and work gives a slice back.
 use Rattle.std.proofs.Common.{◌≡◌, ◌⊎◌, ⊎_elim, inl, inr, ◌≤◌, ℕ, Option, Some, None, false, sym, ap, subst}
 use Rattle.std.specs.Prelude.{IfSome, ⊤}
-use Rattle.gc_plan.specs.State.{State}
+use Rattle.gc_model.specs.State.{State}
 use Rattle.gc_copy.specs.declared.collection.stepping.StepRun.{StepRun}
 use Rattle.gc_collected.specs.CollectedHeap.{Allocates}
 use Rattle.gc_collected.specs.Collected.{Collected}

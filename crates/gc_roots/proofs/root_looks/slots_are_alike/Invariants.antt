@@ -1,7 +1,7 @@
 -- Each slot so far is alike to its twin.
 use Rattle.std.proofs.Common.{◌≡◌, ◌<◌, ℕ, true, get_or}
 use Rattle.gc_words.specs.Word.{words_correspond}
-use Rattle.gc_along.specs.Origins.{pairs_in}
+use Rattle.gc_monitor.specs.Origins.{pairs_in}
 use Rattle.gc_roots.proofs.root_looks.slots_are_alike.Given as goal
 
 -- the slots so far are alike

@@ -1,6 +1,6 @@
 -- The seat's receipts are of the script's commands so far, in order, and its number has not changed.
 use Rattle.std.proofs.Common.{◌≡◌, map, take}
-use Rattle.gc_plan.specs.declared.event.Event.TheVariants.{Mutate}
+use Rattle.gc_model.specs.declared.event.Event.TheVariants.{Mutate}
 use Rattle.gc_shared.specs.Internal.Scripts.{events_on}
 use Rattle.gc_shared.proofs.script.play.Given as goal
 

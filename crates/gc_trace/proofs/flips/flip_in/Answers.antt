@@ -5,8 +5,8 @@ use Rattle.std.specs.Option.{option_map}
 use Rattle.gc_graph.specs.Limits.{most_words}
 use Rattle.gc_cert.specs.Grammar.{CertifiedPair}
 use Rattle.gc_cert.specs.Views.{pair_in}
-use Rattle.gc_plan.specs.Runs.{HasSizesWithin}
-use Rattle.gc_plan.proofs.Public.{event_within}
+use Rattle.gc_model.specs.Runs.{HasSizesWithin}
+use Rattle.gc_model.proofs.Public.{event_within}
 use Rattle.gc_collected.specs.Collected.{Collected}
 use Rattle.gc_collected.specs.Performing.{flip_at, kept_with}
 use Rattle.gc_collected.specs.declared.flip.Keep.TheVariants.{Pair}

@@ -1,11 +1,11 @@
 -- An event that flips leaves one flip less to skip, and any other event leaves as many.
 use Rattle.std.proofs.Common.{◌∙◌, ◌-◌, sym, ap, subst, arith, inl, inr, rules}
 use Rattle.std.specs.Prelude.{slice_get}
-use Rattle.gc_plan.specs.State.{State}
+use Rattle.gc_model.specs.State.{State}
 use Rattle.gc_graph.specs.Limits.{most_words}
-use Rattle.gc_plan.specs.Belonging.{IsState}
-use Rattle.gc_plan.specs.Runs.{HasSizesWithin}
-use Rattle.gc_plan.proofs.Public.{opening_within}
+use Rattle.gc_model.specs.Belonging.{IsState}
+use Rattle.gc_model.specs.Runs.{HasSizesWithin}
+use Rattle.gc_model.proofs.Public.{opening_within}
 use Rattle.std.specs.Option.{option_map}
 use Rattle.gc_cert.specs.Views.{pair_in}
 use Rattle.gc_collected.specs.Collected.{Beside}
@@ -28,7 +28,7 @@ loop-event-init c =
     let opened = c.in_ok-heap.ensures.core in
     record {
       mutators = ap (λ (s : State). s.mutators) opened;
-      sound = subst IsState (sym opened) (c.states_are_kept.ensures.opening t.size t.mutators (search rules) (search rules));
+      sound = subst IsState (sym opened) (c.states_stay.ensures.opening t.size t.mutators (search rules) (search rules));
       small = subst (HasSizesWithin most_words) (sym opened) (opening_within most_words t.size t.mutators (search rules));
       taken = ap (λ (b : Beside). b.pair) c.in_ok-heap.ensures.beside;
       flips = ap (λ (s : State). slice_get (flips s t.events.items) (c.args.n - 1)) opened;

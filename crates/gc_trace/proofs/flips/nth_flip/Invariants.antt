@@ -1,8 +1,8 @@
 -- The flip that is asked for is the one that comes in the rest of the events, after those that are still to skip.
 use Rattle.std.proofs.Common.{◌≡◌, None}
 use Rattle.gc_graph.specs.Limits.{most_words}
-use Rattle.gc_plan.specs.Belonging.{IsState}
-use Rattle.gc_plan.specs.Runs.{HasSizesWithin}
+use Rattle.gc_model.specs.Belonging.{IsState}
+use Rattle.gc_model.specs.Runs.{HasSizesWithin}
 use Rattle.gc_trace.specs.Flips.{nth_flip}
 use Rattle.gc_trace.specs.Views.{recording}
 use Rattle.gc_trace.proofs.FlipPairs.{flips_from}

@@ -5,10 +5,10 @@ use Rattle.std.proofs.lemmas.Bool.{cond_both}
 use Rattle.std.proofs.lemmas.List.FromFn.{length-map-range_with_len}
 use Rattle.gc_graph.specs.Range.{IsCommand}
 use Rattle.gc_graph.specs.declared.command.Op.{Op}
-use Rattle.gc_plan.specs.declared.event.Event.{Event}
-use Rattle.gc_plan.specs.declared.event.Event.TheVariants.{Mutate, Collect}
+use Rattle.gc_model.specs.declared.event.Event.{Event}
+use Rattle.gc_model.specs.declared.event.Event.TheVariants.{Mutate, Collect}
 use Rattle.gc_trace.specs.Grammar.{IsOf}
-use Rattle.gc_plan.specs.Runs.{command_by, commands_of}
+use Rattle.gc_model.specs.Runs.{command_by, commands_of}
 use Rattle.gc_trace.proofs.laws.scripts_are_commands.Goals as goal
 
 more : (xs ys : List Op) → AllByRecursion IsCommand xs → AllByRecursion IsCommand ys → AllByRecursion IsCommand (xs ++ ys)

@@ -1,6 +1,6 @@
 -- A turn counts one more answer of the history, and the counts of a part of a history fit their type as those of all do.
 use Rattle.std.proofs.Common.{◌≡◌, ◌+◌, ◌<◌, ◌^◌, List, length, sym, ap, ◌∙◌, subst, arith, rules}
-use Rattle.gc_plan.specs.State.{heap_end}
+use Rattle.gc_model.specs.State.{heap_end}
 use Rattle.gc_words.specs.Space.{free_in, end_of}
 use Rattle.gc_graph.specs.Machine.{Roomy}
 use Rattle.gc_world.specs.World.{present}

@@ -3,8 +3,8 @@ use Rattle.std.proofs.Common.{◌≡◌, ℕ, ◌+◌, List, [], ◌∷◌, ◌+
 use Rattle.std.proofs.lemmas.List.{map-append}
 use Rattle.std.proofs.lemmas.List.FromFn.{map-range_with_len_more}
 use Rattle.gc_graph.specs.declared.command.Op.{Op}
-use Rattle.gc_plan.specs.declared.event.Event.{Event}
-use Rattle.gc_plan.specs.Runs.{commands_of}
+use Rattle.gc_model.specs.declared.event.Event.{Event}
+use Rattle.gc_model.specs.Runs.{commands_of}
 use Rattle.gc_trace.specs.Scripts.{scripts}
 use Rattle.gc_trace.proofs.scripts.scripts_of.Goals as goal
 

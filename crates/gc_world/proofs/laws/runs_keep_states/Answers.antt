@@ -1,5 +1,5 @@
 -- The state of a history is one that a run of the core reaches, so what holds in every run holds of it.
-use Rattle.gc_plan.proofs.Public.{passes_where_ready, has_room}
+use Rattle.gc_model.proofs.Public.{passes_where_ready, has_room}
 use Rattle.gc_world.specs.History.{state_after}
 use Rattle.gc_world.proofs.HistoryStates.{reached, sizes_within, none_refused, only_kept}
 use Rattle.gc_world.proofs.laws.runs_keep_states.Goals as goal

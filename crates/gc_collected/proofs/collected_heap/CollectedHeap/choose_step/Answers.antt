@@ -1,8 +1,8 @@
 -- A chosen `Apply` names a mutator of the heap, because the heap has a log for each.
 use Rattle.std.proofs.Common.{Option, sym, subst}
 use Rattle.std.specs.Prelude.{IfSome}
-use Rattle.gc_plan.specs.Runs.{IsStep}
-use Rattle.gc_plan.specs.declared.step.Step.{Step}
+use Rattle.gc_model.specs.Runs.{IsStep}
+use Rattle.gc_model.specs.declared.step.Step.{Step}
 use Rattle.gc_collected.proofs.Core.{core_is}
 use Rattle.gc_collected.proofs.FirstLog.{step_is_one}
 use Rattle.gc_collected.proofs.collected_heap.CollectedHeap.choose_step.Goals as goal

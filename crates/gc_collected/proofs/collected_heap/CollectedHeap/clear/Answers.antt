@@ -2,8 +2,8 @@
 use Rattle.std.proofs.Common.{◌-◌, sym, subst}
 use Rattle.std.specs.Prelude.{IfSome}
 use Rattle.std.specs.Option.{option_map}
-use Rattle.gc_plan.specs.State.{State}
-use Rattle.gc_plan.specs.Belonging.{IsOpened}
+use Rattle.gc_model.specs.State.{State}
+use Rattle.gc_model.specs.Belonging.{IsOpened}
 use Rattle.gc_copy.specs.Words.{collection_in, state_of}
 use Rattle.gc_roots.specs.Twins.{AskForLooks}
 use Rattle.gc_collected.specs.Internal.KnownRoots.{roots_left_in}

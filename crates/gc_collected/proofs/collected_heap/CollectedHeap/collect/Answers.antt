@@ -1,5 +1,5 @@
 -- A step that is not a flip has another reply, so no checker had to accept anything.
-use Rattle.gc_along.specs.Claims.{Accepts}
+use Rattle.gc_monitor.specs.Claims.{Accepts}
 use Rattle.gc_collected.specs.Flip.{HasAccepted}
 use Rattle.gc_collected.proofs.Stepped.{apply_plain, begun_flips, drop_plain, plain_flips, roots_plain, scan_plain}
 use Rattle.gc_collected.proofs.collected_heap.CollectedHeap.collect.Goals as goal

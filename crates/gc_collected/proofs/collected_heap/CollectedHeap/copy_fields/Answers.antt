@@ -1,6 +1,6 @@
 -- The copies write fields and one slot, so what is known of extra roots is still true; room in a log changes no state.
 use Rattle.std.proofs.Common.{◌<◌, sym, subst, arith}
-use Rattle.gc_plan.specs.State.{State}
+use Rattle.gc_model.specs.State.{State}
 use Rattle.gc_collected.specs.Internal.CollectedHeap.{state_in}
 use Rattle.gc_collected.specs.Internal.KnownRoots.{KnowsRoots}
 use Rattle.gc_collected.proofs.Copies.{copies_know}

@@ -5,7 +5,7 @@ use Rattle.std.specs.Option.{option_map}
 use Rattle.gc_graph.specs.Slots.{roots_of}
 use Rattle.gc_graph.specs.declared.command.Op.TheVariants.{Move}
 use Rattle.gc_heap.specs.Places.{root_at}
-use Rattle.gc_plan.specs.State.{State}
+use Rattle.gc_model.specs.State.{State}
 use Rattle.gc_copy.specs.Words.{collection_in, state_of}
 use Rattle.gc_collected.specs.Internal.KnownRoots.{HasStored, roots_left_in}
 use Rattle.gc_roots.specs.Twins.{AsksForLook}

@@ -6,8 +6,8 @@ use Rattle.gc_graph.specs.declared.command.Op.TheVariants.{Get}
 use Rattle.gc_graph.specs.declared.reply.Reply.{Reply}
 use Rattle.gc_heap.specs.Commands.{fetched_of}
 use Rattle.gc_heap.specs.Places.{root_at}
-use Rattle.gc_plan.specs.State.{State}
-use Rattle.gc_plan.specs.Steps.{mutate}
+use Rattle.gc_model.specs.State.{State}
+use Rattle.gc_model.specs.Steps.{mutate}
 use Rattle.gc_copy.specs.Words.{collection_in, state_of}
 use Rattle.gc_collected.specs.Internal.KnownRoots.{roots_left_in, without_slots}
 use Rattle.gc_roots.specs.Twins.{AsksForLook}

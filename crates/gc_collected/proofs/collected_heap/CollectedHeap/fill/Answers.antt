@@ -1,6 +1,6 @@
 -- One value for many fields changes no root, so all that is known of the roots is still true; room in a log changes no state.
 use Rattle.std.proofs.Common.{◌-◌, is_some, ap, sym, subst, ◌∙◌}
-use Rattle.gc_plan.specs.State.{State}
+use Rattle.gc_model.specs.State.{State}
 use Rattle.gc_collected.specs.Internal.CollectedHeap.{state_in}
 use Rattle.gc_collected.specs.Internal.KnownRoots.{KnowsRoots}
 use Rattle.gc_collected.proofs.Core.{left_is}

@@ -2,14 +2,14 @@
 use Rattle.std.proofs.Common.{◌≡◌, ◌∙◌, ◌≤◌, arith, Option, Some, None, Ok, Err, Result, sym, ap, subst}
 use Rattle.std.specs.Prelude.{MatchResult, IfOk, IsFalse}
 use Rattle.std.specs.Option.{option_map}
-use Rattle.gc_along.specs.Claims.{Accepts}
-use Rattle.gc_along.specs.Origins.{pairs_in}
-use Rattle.gc_along.specs.Tables.{Tables}
+use Rattle.gc_monitor.specs.Claims.{Accepts}
+use Rattle.gc_monitor.specs.Origins.{pairs_in}
+use Rattle.gc_monitor.specs.Tables.{Tables}
 use Rattle.gc_heap.specs.Heap.{graph_in}
-use Rattle.gc_plan.specs.State.{State, pairs_of}
-use Rattle.gc_plan.specs.Steps.{collect, is_ready}
-use Rattle.gc_plan.specs.declared.step.Step.TheVariants as steps
-use Rattle.gc_plan.specs.declared.step.StepReply.TheVariants.{NotReady, Flipped}
+use Rattle.gc_model.specs.State.{State, pairs_of}
+use Rattle.gc_model.specs.Steps.{collect, is_ready}
+use Rattle.gc_model.specs.declared.step.Step.TheVariants as steps
+use Rattle.gc_model.specs.declared.step.StepReply.TheVariants.{NotReady, Flipped}
 use Rattle.gc_copy.specs.Words.{CollectionWords, collection_in, open_state, state_of}
 use Rattle.gc_graph.specs.Slots.{roots_of}
 use Rattle.gc_roots.specs.Looks.{LookRow}

@@ -3,9 +3,9 @@ use Rattle.std.proofs.Common.{◌≡◌, ℕ, suc, ◌+◌, ◌-◌, length, sym
 use Rattle.gc_graph.specs.declared.command.Op.TheVariants.{Get}
 use Rattle.gc_graph.specs.declared.reply.Reply.{Reply}
 use Rattle.gc_heap.specs.Places.{root_at}
-use Rattle.gc_plan.specs.State.{State}
-use Rattle.gc_plan.specs.Steps.{mutate}
-use Rattle.gc_plan.proofs.Public.{roots_counted}
+use Rattle.gc_model.specs.State.{State}
+use Rattle.gc_model.specs.Steps.{mutate}
+use Rattle.gc_model.proofs.Public.{roots_counted}
 use Rattle.gc_collected.specs.Spreading.{gets_step}
 use Rattle.gc_collected.proofs.collected_heap.CollectedHeap.get_each.Goals as goal
 

@@ -3,8 +3,8 @@ use Rattle.std.proofs.lemmas.Grind.{common_steps}
 use Rattle.std.proofs.Common.{◌≡◌, is_some, slice_index_or, subst, arith}
 use Rattle.std.specs.Option.{option_map}
 use Rattle.gc_graph.specs.Graph.{lookup}
-use Rattle.gc_plan.specs.State.{State}
-use Rattle.gc_along.specs.Telling.{IsMark}
+use Rattle.gc_model.specs.State.{State}
+use Rattle.gc_monitor.specs.Telling.{IsMark}
 use Rattle.gc_copy.specs.Words.{collection_in, state_of}
 use Rattle.gc_collected.proofs.Core.{core_is}
 use Rattle.gc_collected.proofs.Referred.{start_named}

@@ -2,7 +2,7 @@
 use Rattle.std.proofs.Common.{length, sym, ◌∙◌, ap, subst}
 use Rattle.std.specs.Option.{option_map}
 use Rattle.gc_words.specs.Image.{Image}
-use Rattle.gc_plan.specs.State.{State}
+use Rattle.gc_model.specs.State.{State}
 use Rattle.gc_copy.specs.Words.{collection_in, state_of}
 use Rattle.gc_collected.specs.Internal.CollectedHeap.{Fits}
 use Rattle.gc_collected.specs.Readings.{heap_image}

@@ -3,8 +3,8 @@ use Rattle.std.proofs.Common.{◌≡◌, subst, arith, refl}
 use Rattle.std.specs.Option.{option_map}
 use Rattle.gc_graph.specs.declared.command.Op.TheVariants.{Move}
 use Rattle.gc_heap.specs.ExtraRoots.{extra_slot}
-use Rattle.gc_plan.specs.State.{State}
-use Rattle.gc_plan.specs.Steps.{mutate}
+use Rattle.gc_model.specs.State.{State}
+use Rattle.gc_model.specs.Steps.{mutate}
 use Rattle.gc_copy.specs.Words.{collection_in, state_of}
 use Rattle.gc_collected.proofs.Core.{core_is}
 use Rattle.gc_collected.proofs.Followed.{slot_followed}

@@ -8,12 +8,12 @@ use Rattle.gc_graph.specs.declared.command.Op.TheVariants.{New}
 use Rattle.gc_words.specs.Word.{value_of}
 use Rattle.gc_heap.specs.Heap.{HeapWords}
 use Rattle.gc_heap.specs.Places.{root_at}
-use Rattle.gc_plan.specs.Steps.{mutate}
+use Rattle.gc_model.specs.Steps.{mutate}
 use Rattle.gc_copy.specs.Words.{CollectionWords, collection_in}
 use Rattle.gc_roots.specs.Twins.{AsksForLook, RootRow}
 use Rattle.gc_collected.specs.CollectedHeap.{new_from_step}
 use Rattle.gc_collected.specs.Internal.KnownRoots.{roots_left_in}
-use Rattle.gc_plan.specs.State.{State}
+use Rattle.gc_model.specs.State.{State}
 use Rattle.gc_collected.specs.Internal.CollectedHeap.{state_in}
 use Rattle.gc_collected.proofs.Core.{core_is, left_is}
 use Rattle.gc_collected.proofs.Marks.{from_knows}

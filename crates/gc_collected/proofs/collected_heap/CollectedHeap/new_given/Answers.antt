@@ -13,8 +13,8 @@ use Rattle.gc_collected.specs.Giving.{new_given_step}
 use Rattle.gc_collected.specs.declared.giving.FieldValue.{FieldValue}
 use Rattle.gc_collected.specs.Internal.KnownRoots.{roots_left_in}
 use Rattle.gc_graph.specs.declared.reply.Reply.{Reply}
-use Rattle.gc_plan.specs.State.{State}
-use Rattle.gc_plan.specs.Steps.{mutate}
+use Rattle.gc_model.specs.State.{State}
+use Rattle.gc_model.specs.Steps.{mutate}
 use Rattle.gc_collected.specs.Internal.CollectedHeap.{state_in}
 use Rattle.gc_collected.proofs.Core.{core_is, left_is}
 use Rattle.gc_collected.proofs.GivenFields.{new_known, new_open}

@@ -1,7 +1,7 @@
 -- A `New` writes one slot and no field of an older object, so an open collection stays.
 use Rattle.std.proofs.Common.{◌<◌, sym, subst, arith}
 use Rattle.gc_graph.specs.declared.command.Op.TheVariants.{New}
-use Rattle.gc_plan.specs.State.{State}
+use Rattle.gc_model.specs.State.{State}
 use Rattle.gc_collected.specs.Internal.CollectedHeap.{state_in}
 use Rattle.gc_collected.proofs.Core.{core_is}
 use Rattle.gc_collected.proofs.OtherCommands.{it_belongs, slot_known}

@@ -1,8 +1,8 @@
 -- A `NewRaw` writes one slot and no field of an older object, so an open collection stays, and the monitor is told of the new object.
 use Rattle.std.proofs.Common.{◌≡◌, true, false, refl, ap, subst, ◌∙◌, arith}
 use Rattle.gc_graph.specs.declared.command.Op.TheVariants.{NewRaw}
-use Rattle.gc_along.specs.Claims.{CanMake}
-use Rattle.gc_along.specs.Events.{Made}
+use Rattle.gc_monitor.specs.Claims.{CanMake}
+use Rattle.gc_monitor.specs.Events.{Made}
 use Rattle.gc_collected.proofs.Core.{core_is}
 use Rattle.gc_collected.proofs.Followed.{newly}
 use Rattle.gc_collected.proofs.OtherCommands.{it_belongs, slot_set, said}

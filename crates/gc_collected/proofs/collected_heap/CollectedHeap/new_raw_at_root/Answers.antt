@@ -4,10 +4,10 @@ use Rattle.gc_graph.specs.Slots.{roots_of}
 use Rattle.gc_graph.specs.declared.command.Op.TheVariants.{NewRaw}
 use Rattle.gc_graph.specs.declared.reply.Reply.{Reply}
 use Rattle.gc_heap.specs.Places.{root_at}
-use Rattle.gc_plan.specs.State.{State}
-use Rattle.gc_plan.specs.Steps.{mutate}
-use Rattle.gc_along.specs.Claims.{CanMake}
-use Rattle.gc_along.specs.Events.{Made}
+use Rattle.gc_model.specs.State.{State}
+use Rattle.gc_model.specs.Steps.{mutate}
+use Rattle.gc_monitor.specs.Claims.{CanMake}
+use Rattle.gc_monitor.specs.Events.{Made}
 use Rattle.gc_collected.specs.Internal.CollectedHeap.{state_in}
 use Rattle.gc_collected.specs.Internal.KnownRoots.{roots_left_in}
 use Rattle.gc_roots.specs.Twins.{AsksForLook}

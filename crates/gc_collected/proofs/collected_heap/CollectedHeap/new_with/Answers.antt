@@ -1,6 +1,6 @@
 -- The object and its numbers and slots' values leave what is known of extra roots true.
 use Rattle.std.proofs.Common.{◌<◌, sym, subst, arith}
-use Rattle.gc_plan.specs.State.{State}
+use Rattle.gc_model.specs.State.{State}
 use Rattle.gc_collected.specs.Internal.CollectedHeap.{state_in}
 use Rattle.gc_collected.proofs.Core.{core_is}
 use Rattle.gc_collected.proofs.OtherCommands.{it_belongs}

@@ -4,8 +4,8 @@ use Rattle.gc_heap.specs.Heap.{HeapWords, roomy_in}
 use Rattle.gc_heap.specs.ExtraRoots.{CanOpen, opening_with}
 use Rattle.gc_heap.specs.declared.options.HeapOptions.{HeapOptions}
 use Rattle.gc_graph.specs.Machine.{Roomy}
-use Rattle.gc_along.specs.Tables.{Tables}
-use Rattle.gc_along.specs.Events.{opening_tables}
+use Rattle.gc_monitor.specs.Tables.{Tables}
+use Rattle.gc_monitor.specs.Events.{opening_tables}
 use Rattle.gc_copy.specs.Words.{idle_state}
 use Rattle.gc_collected.specs.Internal.Follows.{Follows}
 use Rattle.gc_collected.proofs.Monitor.Follows.{follows_opening}

@@ -1,7 +1,7 @@
 -- If the object has the fields and all words are numbers, the call is a `Num` and a `Put` for each of them.
 use Rattle.std.proofs.Common.{◌≡◌, ◌<◌, ◌≤◌, ◌+◌, length, ap, ◌∙◌, sym, subst, arith}
 use Rattle.std.specs.Option.{option_map}
-use Rattle.gc_plan.specs.State.{State}
+use Rattle.gc_model.specs.State.{State}
 use Rattle.gc_copy.specs.Words.{BelongsTo, LinksNothing, collection_in, state_of, open_state, idle_state}
 use Rattle.gc_graph.specs.declared.reply.Reply.TheVariants.{Done}
 use Rattle.gc_collected.specs.Writing.{numbers_step, put_numbers_step}

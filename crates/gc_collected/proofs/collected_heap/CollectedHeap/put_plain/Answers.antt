@@ -1,7 +1,7 @@
 -- Room in the log changes no state, and no root changes, so all that is known of the roots is still true.
 use Rattle.std.proofs.Common.{◌≡◌, is_some, ap, ◌∙◌, sym, subst}
 use Rattle.gc_graph.specs.declared.reply.Reply.{Reply}
-use Rattle.gc_plan.specs.State.{State}
+use Rattle.gc_model.specs.State.{State}
 use Rattle.gc_collected.specs.Values.{value_of_plain, put_value_step}
 use Rattle.gc_collected.specs.Internal.CollectedHeap.{state_in}
 use Rattle.gc_collected.specs.Internal.KnownRoots.{KnowsRoots}

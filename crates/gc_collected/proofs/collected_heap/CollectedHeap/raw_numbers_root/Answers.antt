@@ -5,7 +5,7 @@ use Rattle.gc_graph.specs.Graph.{number_of}
 use Rattle.gc_words.specs.Word.{field_value}
 use Rattle.gc_heap.specs.Places.{root_at}
 use Rattle.gc_heap.specs.Raws.{numbers_in, raw_numbers}
-use Rattle.gc_plan.specs.State.{State}
+use Rattle.gc_model.specs.State.{State}
 use Rattle.gc_collected.proofs.Core.{core_is}
 use Rattle.gc_collected.proofs.Texts.{same_numbers}
 use Rattle.gc_collected.proofs.collected_heap.CollectedHeap.raw_numbers_root.Goals as goal

@@ -5,8 +5,8 @@ use Rattle.std.specs.Prelude.{IfSome, max}
 use Rattle.std.specs.Option.{option_map}
 use Rattle.gc_graph.specs.Graph.{Ref}
 use Rattle.gc_graph.specs.Slots.{roots_of}
-use Rattle.gc_plan.specs.State.{State}
-use Rattle.gc_plan.specs.Belonging.{IsOpened}
+use Rattle.gc_model.specs.State.{State}
+use Rattle.gc_model.specs.Belonging.{IsOpened}
 use Rattle.gc_copy.specs.Words.{collection_in, state_of}
 use Rattle.gc_roots.specs.Twins.{AsksForLook}
 use Rattle.gc_collected.specs.Internal.KnownRoots.{HasStored, KnowsRoots, roots_left_in}

@@ -1,7 +1,7 @@
 -- A `Same` compares two slots and changes nothing, and its reply is the machine's.
 use Rattle.std.proofs.Common.{◌≡◌, subst}
 use Rattle.gc_graph.specs.declared.command.Op.TheVariants.{Same}
-use Rattle.gc_plan.specs.Steps.{mutate}
+use Rattle.gc_model.specs.Steps.{mutate}
 use Rattle.gc_collected.proofs.Core.{core_is}
 use Rattle.gc_collected.proofs.OtherCommands.{mutated}
 use Rattle.gc_collected.proofs.collected_heap.CollectedHeap.same.Goals as goal

@@ -1,7 +1,7 @@
 -- What is known of the roots lasts through a run of scans, and the monitor follows it.
 use Rattle.std.proofs.Common.{refl, subst}
 use Rattle.std.specs.Option.{option_map}
-use Rattle.gc_plan.specs.declared.step.Step.TheVariants as steps
+use Rattle.gc_model.specs.declared.step.Step.TheVariants as steps
 use Rattle.gc_copy.specs.StepRuns.{ScansOn}
 use Rattle.gc_copy.specs.Words.{collection_in, open_state, state_of}
 use Rattle.gc_collected.specs.Internal.Follows.{Follows}

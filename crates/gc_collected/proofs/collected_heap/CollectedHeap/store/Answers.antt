@@ -5,8 +5,8 @@ use Rattle.gc_graph.specs.Slots.{roots_of}
 use Rattle.gc_graph.specs.declared.command.Op.TheVariants.{Move}
 use Rattle.gc_heap.specs.ExtraRoots.{extra_slot}
 use Rattle.gc_heap.specs.Heap.{graph_in}
-use Rattle.gc_plan.specs.State.{State, extra_roots_of}
-use Rattle.gc_plan.specs.Steps.{mutate}
+use Rattle.gc_model.specs.State.{State, extra_roots_of}
+use Rattle.gc_model.specs.Steps.{mutate}
 use Rattle.gc_copy.specs.Words.{collection_in, state_of}
 use Rattle.gc_roots.specs.Twins.{AsksForLook}
 use Rattle.gc_heap.proofs.Public.{extra_place}

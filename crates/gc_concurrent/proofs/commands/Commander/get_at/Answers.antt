@@ -11,8 +11,8 @@ use Rattle.gc_words.specs.Closed.{IsFieldWord, IsWordOfField, IsRootWord}
 use Rattle.gc_words.proofs.Public.{closed_field_read, field_within, field_past}
 use Rattle.gc_heap.specs.Heap.{HeapWords, IsHeap, graph_in}
 use Rattle.gc_heap.proofs.Public.{Points, points, header_is, got_no_field, got, taken_heap}
-use Rattle.gc_plan.specs.Belonging.{RefersTo}
-use Rattle.gc_plan.specs.Carried.{LeadsOnlyTo}
+use Rattle.gc_model.specs.Belonging.{RefersTo}
+use Rattle.gc_model.specs.Carried.{LeadsOnlyTo}
 use Rattle.gc_concurrent.specs.Unreachable.{MayBeCopied}
 use Rattle.gc_concurrent.proofs.Keeping.{rooted_leads, read_leads}
 use Rattle.gc_concurrent.specs.Ends.{Mine}
@@ -81,9 +81,9 @@ invariant_of-self-3 c =
       sound = subst (λ (x : HeapWords). IsHeap (record x { roots = slice_set x.roots c.args.d c.root_word-word.result })) (sym same)
           (taken_heap h c.args.d c.root_word-word.result c.args.self.now.sound (c.root_word-word.ensures.word h.space.words f));
       behind = c.view-seen.new.self.behind;
-      kept = subst (λ (x : HeapWords × HeapWords). LeadsOnlyTo (MayBeCopied x.0) (graph_in (record x.1 { roots = slice_set x.1.roots c.args.d c.root_word-word.result }))) (λ i. (sym base i, sym same i))
-          (rooted_leads (MayBeCopied began) h.space h.roots c.args.d c.root_word-word.result c.args.self.now.kept
-          (subst (RefersTo (MayBeCopied began)) (sym means) (read_leads (MayBeCopied began) h c.args.s c.in-Some.at.0 c.args.i c.field-field.result (giver e) r c.args.self.now.kept)));
+      leads = subst (λ (x : HeapWords × HeapWords). LeadsOnlyTo (MayBeCopied x.0) (graph_in (record x.1 { roots = slice_set x.1.roots c.args.d c.root_word-word.result }))) (λ i. (sym base i, sym same i))
+          (rooted_leads (MayBeCopied began) h.space h.roots c.args.d c.root_word-word.result c.args.self.now.leads
+          (subst (RefersTo (MayBeCopied began)) (sym means) (read_leads (MayBeCopied began) h c.args.s c.in-Some.at.0 c.args.i c.field-field.result (giver e) r c.args.self.now.leads)));
     }
 
 pub returns-clause-graph : goal.returns-clause-graph

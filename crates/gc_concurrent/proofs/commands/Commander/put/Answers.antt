@@ -17,8 +17,8 @@ use Rattle.std.specs.Prelude.{OnOk, OnErr, Result, Ok, Err}
 use Rattle.gc_concurrent.specs.Internal.Rule.{Sat}
 use Rattle.gc_words.specs.Image.{block_at}
 use Rattle.gc_words.specs.declared.header.Header.{Header}
-use Rattle.gc_plan.specs.Belonging.{RefersTo}
-use Rattle.gc_plan.specs.Carried.{LeadsOnlyTo}
+use Rattle.gc_model.specs.Belonging.{RefersTo}
+use Rattle.gc_model.specs.Carried.{LeadsOnlyTo}
 use Rattle.gc_concurrent.specs.Unreachable.{MayBeCopied}
 use Rattle.gc_concurrent.proofs.Keeping.{root_refers_to, wrote_leads}
 use Rattle.gc_concurrent.specs.Ends.{Mine}
@@ -119,19 +119,19 @@ returns-clause-graph c =
 -- the value of the word that is written may be referred to
 leads : (c : After-field_word) (h : Header) (w : ℕ) → (heap_header : (target_header : Header) × (target_header ≡ h)) → field_value h w ≡ value_of c.index-value.result.now → RefersTo (MayBeCopied c.args.self.now.mutator.seat.me.0.mine.base) (field_value heap_header.0 w)
 leads c h w same means = let began : HeapWords = c.args.self.now.mutator.seat.me.0.mine.base in
-    subst (RefersTo (MayBeCopied began)) (value c ∙ (sym means ∙ ap (λ g. field_value g w) (sym same.1))) (root_refers_to (MayBeCopied began) (graph_in (old c)) c.args.t c.args.self.now.kept)
+    subst (RefersTo (MayBeCopied began)) (value c ∙ (sym means ∙ ap (λ g. field_value g w) (sym same.1))) (root_refers_to (MayBeCopied began) (graph_in (old c)) c.args.t c.args.self.now.leads)
 
-pub set_field-requires-clause-kept : goal.set_field-requires-clause-kept
-set_field-requires-clause-kept c b found =
-    let at = goal.at.set_field-requires-clause-kept c in
+pub set_field-requires-clause-allowed : goal.set_field-requires-clause-allowed
+set_field-requires-clause-allowed c b found =
+    let at = goal.at.set_field-requires-clause-allowed c in
     let e = at.After-header-header in
     let block : (target e).block ≡ b = some_same (sym (target e).found ∙ (λ i. block_at (still e i).space.words c.in-Some.at.0) ∙ found) in
     subst (λ (m : Mine). RefersTo (MayBeCopied m.base) (field_value b.header c.in-Some-field_word.word)) (still e)
     (leads at.After-field_word c.header-header.result c.in-Some-field_word.word (b.header, (λ i. (sym block i).header) ∙ header e) c.in-Some-field_word.ensures.value)
 
-pub invariant_of-self-2-clause-kept : goal.invariant_of-self-2-clause-kept
-invariant_of-self-2-clause-kept c =
-    let at = goal.at.invariant_of-self-2-clause-kept c in
+pub invariant_of-self-2-clause-leads : goal.invariant_of-self-2-clause-leads
+invariant_of-self-2-clause-leads c =
+    let at = goal.at.invariant_of-self-2-clause-leads c in
     let e = at.After-header-header in
     let h : HeapWords = heap e in
     let began : HeapWords = c.args.self.now.mutator.seat.me.0.mine.base in
@@ -143,6 +143,6 @@ invariant_of-self-2-clause-kept c =
     (LeadsOnlyTo (MayBeCopied began) (graph_in (heap_of c.set_field.new.self.seat.me.0.mine c.args.self.now.roots.items)))
     c.set_field.ensures.ok c.set_field.ensures.err
     (λ ok. subst (λ s. LeadsOnlyTo (MayBeCopied began) (graph_in (record h { space = s }))) (sym (after at.After-set_field c.args.self.now.mutator.seat.me.0.mine (still e) ok))
-    (wrote_leads (MayBeCopied began) h.space h.roots c.in-Some.at.0 c.args.i _ (target e).block c.args.self.now.sound.space (has e (omega (arith, c.if-i-len.false, c.len.ensures))) (target e).found c.args.self.now.kept
+    (wrote_leads (MayBeCopied began) h.space h.roots c.in-Some.at.0 c.args.i _ (target e).block c.args.self.now.sound.space (has e (omega (arith, c.if-i-len.false, c.len.ensures))) (target e).found c.args.self.now.leads
     (leads at.After-field_word c.header-header.result c.in-Some-field_word.word ((target e).block.header, header e) c.in-Some-field_word.ensures.value)))
-    (λ err. subst (λ m. LeadsOnlyTo (MayBeCopied began) (graph_in (heap_of m c.args.self.now.roots.items))) (still e ∙ ap (λ (m : Sat). m.0.mine) (sym err)) c.args.self.now.kept))
+    (λ err. subst (λ m. LeadsOnlyTo (MayBeCopied began) (graph_in (heap_of m c.args.self.now.roots.items))) (still e ∙ ap (λ (m : Sat). m.0.mine) (sym err)) c.args.self.now.leads))

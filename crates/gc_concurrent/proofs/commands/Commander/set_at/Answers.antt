@@ -5,10 +5,10 @@ use Rattle.gc_concurrent.specs.Unreachable.{MayBeCopied}
 use Rattle.gc_concurrent.proofs.Keeping.{rooted_leads}
 use Rattle.gc_concurrent.proofs.commands.Commander.set_at.Goals as goal
 
-pub invariant_of-self-clause-kept : goal.invariant_of-self-clause-kept
-invariant_of-self-clause-kept c =
+pub invariant_of-self-clause-leads : goal.invariant_of-self-clause-leads
+invariant_of-self-clause-leads c =
     let m = c.args.self.now.mutator.seat.me.0.mine in
-    rooted_leads (MayBeCopied m.base) m.space c.args.self.now.roots.items c.args.place c.args.word c.args.self.now.kept c.requires.kept
+    rooted_leads (MayBeCopied m.base) m.space c.args.self.now.roots.items c.args.place c.args.word c.args.self.now.leads c.requires.allowed
 
 pub invariant_of-self-clause-sound : goal.invariant_of-self-clause-sound
 invariant_of-self-clause-sound c =

@@ -10,10 +10,10 @@ use Rattle.gc_words.specs.Image.{field_at}
 use Rattle.gc_words.specs.Space.{SpaceWords, IsSpace, with_field_at}
 use Rattle.gc_words.specs.declared.header.Header.{Header}
 use Rattle.gc_words.proofs.Public.{field_within}
-use Rattle.gc_plan.specs.State.{Replica, replica_of, moved}
-use Rattle.gc_plan.specs.Steps.{with_written}
-use Rattle.gc_plan.specs.Members.{In}
-use Rattle.gc_plan.proofs.Public.{in_map_from, with_written_pair}
+use Rattle.gc_model.specs.State.{Replica, replica_of, moved}
+use Rattle.gc_model.specs.Steps.{with_written}
+use Rattle.gc_model.specs.Members.{In}
+use Rattle.gc_model.proofs.Public.{in_map_from, with_written_pair}
 use Rattle.gc_copy.specs.Words.{replicas_in}
 use Rattle.gc_concurrent.specs.declared.copier.Copier.{Copier}
 use Rattle.gc_concurrent.specs.Ends.{Theirs}

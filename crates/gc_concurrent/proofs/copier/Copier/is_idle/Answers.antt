@@ -2,8 +2,8 @@
 use Rattle.std.proofs.Common.{◌≡◌, ◌&&◌, ◌<◌, ◌≤◌, false, ap, ◌∙◌, arith}
 use Rattle.std.proofs.lemmas.Bool.{leb-true, leb-false, ne_eqb}
 use Rattle.gc_words.specs.Space.{end_of}
-use Rattle.gc_plan.specs.State.{new_end}
-use Rattle.gc_plan.specs.Steps.{is_empty, scan_done}
+use Rattle.gc_model.specs.State.{new_end}
+use Rattle.gc_model.specs.Steps.{is_empty, scan_done}
 use Rattle.gc_concurrent.specs.Ends.{its}
 use Rattle.gc_concurrent.proofs.Memory.{end_is, scan_end}
 use Rattle.gc_concurrent.proofs.InHand.{mem, none_left, some_left, and_false}

@@ -1,6 +1,6 @@
 -- Any load tells it.
 use Rattle.std.proofs.Common.{refl, ap, sym, subst, arith}
-use Rattle.gc_plan.specs.Members.{In}
+use Rattle.gc_model.specs.Members.{In}
 use Rattle.gc_concurrent.specs.Internal.Rule.{Sat}
 use Rattle.gc_concurrent.specs.Internal.Following.{Follows, WroteEach}
 use Rattle.gc_concurrent.proofs.Comparing.{along_caught}

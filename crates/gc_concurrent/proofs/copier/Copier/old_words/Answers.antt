@@ -1,6 +1,6 @@
 -- The cells are those of the seat, which knows what it knew.
 use Rattle.std.proofs.Common.{ap, sym, subst, arith}
-use Rattle.gc_plan.specs.Members.{In}
+use Rattle.gc_model.specs.Members.{In}
 use Rattle.gc_concurrent.specs.Internal.Rule.{Sat}
 use Rattle.gc_concurrent.specs.Internal.Following.{Follows}
 use Rattle.gc_concurrent.proofs.TiedCells.{tied, tied_words}

@@ -9,9 +9,9 @@ use Rattle.gc_words.specs.Word.{read_header}
 use Rattle.gc_words.specs.Space.{SpaceWords, CanPlace, end_of, free_in, with_object, with_link}
 use Rattle.gc_words.specs.declared.header.Header.{Header}
 use Rattle.gc_words.proofs.Public.{written_back}
-use Rattle.gc_plan.specs.State.{Replica, replica_of, new_free, new_end}
-use Rattle.gc_plan.specs.Members.{In}
-use Rattle.gc_plan.proofs.Public.{in_map, in_push, unnamed}
+use Rattle.gc_model.specs.State.{Replica, replica_of, new_free, new_end}
+use Rattle.gc_model.specs.Members.{In}
+use Rattle.gc_model.proofs.Public.{in_map, in_push, unnamed}
 use Rattle.gc_copy.specs.Words.{replicas_in}
 use Rattle.gc_concurrent.specs.declared.copier.Copier.{Copier}
 use Rattle.gc_concurrent.specs.Ends.{Theirs}

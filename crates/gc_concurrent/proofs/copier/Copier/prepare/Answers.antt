@@ -1,7 +1,7 @@
 -- Each claim is 0, as no object has a replica, and the standing checker has seen nothing of the new space.
 use Rattle.std.proofs.Common.{ap, sym, subst, arith}
 use Rattle.gc_words.specs.Space.{empty_space}
-use Rattle.gc_along.specs.Tables.{Tables}
+use Rattle.gc_monitor.specs.Tables.{Tables}
 use Rattle.gc_concurrent.specs.Internal.Rule.{Sat}
 use Rattle.gc_concurrent.specs.Internal.Following.{Follows}
 use Rattle.gc_concurrent.proofs.TiedCells.{tied, tied_words}

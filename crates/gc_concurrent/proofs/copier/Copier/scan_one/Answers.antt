@@ -11,7 +11,7 @@ use Rattle.gc_words.specs.Closed.{IsWordOfField}
 use Rattle.gc_words.specs.Space.{SpaceWords, IsSpace, with_field_at}
 use Rattle.gc_words.specs.declared.header.Header.{Header}
 use Rattle.gc_words.proofs.Public.{field_within}
-use Rattle.gc_plan.specs.State.{Replica, moved}
+use Rattle.gc_model.specs.State.{Replica, moved}
 use Rattle.gc_copy.specs.Words.{replicas_in}
 use Rattle.gc_concurrent.specs.declared.copier.Copier.{Copier}
 use Rattle.gc_concurrent.specs.Ends.{Theirs}

@@ -1,6 +1,6 @@
 -- The walk changes what is seen alone.
 use Rattle.std.proofs.Common.{ap, subst}
-use Rattle.gc_plan.specs.Members.{In}
+use Rattle.gc_model.specs.Members.{In}
 use Rattle.gc_concurrent.specs.Internal.Rule.{Sat}
 use Rattle.gc_concurrent.proofs.Comparing.{can_place, loose_seen}
 use Rattle.gc_concurrent.proofs.copier.Copier.see.Goals as goal

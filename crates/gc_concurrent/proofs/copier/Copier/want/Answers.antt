@@ -13,7 +13,7 @@ load-requires c =
     let r = c.requires.root in (
       tied _ _ _ c.deref-cells.ensures a.row.0,
       (let w = tied_words _ _ _ _ c.deref-cells.ensures a.row.0 a.row.1 in let l = c.requires.low in omega arith),
-      roots_rule _ _ _ _ r.0 _ c.requires.both a.copies c.requires.taken r.1 r.2 c.requires.kept,
+      roots_rule _ _ _ _ r.0 _ c.requires.both a.copies c.requires.taken r.1 r.2 c.requires.allowed,
     )
 
 pub invariant_of-self-clause-along : goal.invariant_of-self-clause-along

@@ -10,7 +10,7 @@ use Rattle.std.specs.Prelude.{IfOk, OnOk}
 use Rattle.gc_cert.specs.Grammar.{CertifiedPair}
 use Rattle.gc_words.specs.Word.{value_of}
 use Rattle.gc_heap.specs.Heap.{HeapWords, graph_in}
-use Rattle.gc_plan.specs.State.{new_graph}
+use Rattle.gc_model.specs.State.{new_graph}
 use Rattle.gc_concurrent.specs.declared.handshake.Collector.{Collector}
 use Rattle.gc_concurrent.specs.Checking.{CertifiesFlip, FlippedBy, IsVouchedBy, flip_shown}
 use Rattle.gc_concurrent.specs.Ends.{its}

@@ -11,11 +11,11 @@ use Rattle.gc_check.specs.Verdict.{IsRefusalOf}
 use Rattle.gc_check.specs.declared.verdict.CheckFault.{CheckFault}
 use Rattle.gc_check.specs.declared.verdict.CheckFault.TheVariants.{Refused}
 use Rattle.gc_cert.specs.Grammar.{CertifiedPair}
-use Rattle.gc_plan.specs.Linked.{new_links}
+use Rattle.gc_model.specs.Linked.{new_links}
 use Rattle.gc_copy.specs.Words.{replicas_in}
-use Rattle.gc_plan.specs.Members.{In}
-use Rattle.gc_plan.proofs.Public.{in_map}
-use Rattle.gc_plan.specs.State.{pairs_of}
+use Rattle.gc_model.specs.Members.{In}
+use Rattle.gc_model.proofs.Public.{in_map}
+use Rattle.gc_model.specs.State.{pairs_of}
 use Rattle.gc_concurrent.specs.Checking.{flip_shown}
 use Rattle.gc_concurrent.specs.Ends.{its}
 use Rattle.gc_concurrent.specs.Holders.{heap_held, known_to}

@@ -5,8 +5,8 @@ use Rattle.gc_graph.specs.Correspond.{Corresponding}
 use Rattle.gc_words.specs.Word.{value_of, word_of}
 use Rattle.gc_words.specs.Space.{SpaceWords}
 use Rattle.gc_heap.specs.Heap.{IsHeap, graph_in}
-use Rattle.gc_plan.specs.State.{pairs_of}
-use Rattle.gc_plan.specs.Steps.{scan_done}
+use Rattle.gc_model.specs.State.{pairs_of}
+use Rattle.gc_model.specs.Steps.{scan_done}
 use Rattle.gc_concurrent.specs.declared.held.Held.{Held}
 use Rattle.gc_concurrent.specs.Ends.{one_heap}
 use Rattle.gc_concurrent.specs.Heaps.{heap_of}
@@ -84,7 +84,7 @@ returns-clause-replicas g c =
 
 pub returns-clause-carried : goal.returns-clause-carried
 returns-clause-carried g c =
-    (c.certify.ensures.told).kept
+    (c.certify.ensures.told).carried
 
 pub returns-clause-ready : goal.returns-clause-ready
 returns-clause-ready g c =

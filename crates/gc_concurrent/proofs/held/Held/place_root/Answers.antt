@@ -35,7 +35,7 @@ want-requires-clause-low c =
     let n = near h c.args.k c.in-Err.at.0 c.requires.root (refers e c.in-Err.at.0 c.in-Err.ensures.wanted.0) in
     let s = h.copier.sized.0 in omega arith
 
-pub want-requires-clause-kept : goal.want-requires-clause-kept
-want-requires-clause-kept c =
-    let e = (goal.at.want-requires-clause-kept c).After-as_slice in
+pub want-requires-clause-allowed : goal.want-requires-clause-allowed
+want-requires-clause-allowed c =
+    let e = (goal.at.want-requires-clause-allowed c).After-as_slice in
     target_kept c.args.self.now c.args.k c.in-Err.at.0 c.requires.root (refers e c.in-Err.at.0 c.in-Err.ensures.wanted.0)

@@ -7,10 +7,10 @@ use Rattle.gc_words.specs.Image.{Image}
 use Rattle.gc_words.specs.Space.{SpaceWords, image_with}
 use Rattle.gc_words.specs.Certificate.{Certified}
 use Rattle.gc_heap.specs.Heap.{image_of}
-use Rattle.gc_along.specs.Tables.{Tables}
-use Rattle.gc_along.specs.Claims.{Accepts}
-use Rattle.gc_along.specs.Origins.{pairs_in}
-use Rattle.gc_along.specs.Outline.{ImageOutline, outline_of}
+use Rattle.gc_monitor.specs.Tables.{Tables}
+use Rattle.gc_monitor.specs.Claims.{Accepts}
+use Rattle.gc_monitor.specs.Origins.{pairs_in}
+use Rattle.gc_monitor.specs.Outline.{ImageOutline, outline_of}
 use Rattle.gc_concurrent.specs.Holders.{heap_held}
 use Rattle.gc_concurrent.specs.Internal.Rule.{Sat}
 use Rattle.gc_concurrent.specs.Internal.Following.{Follows}

@@ -12,7 +12,7 @@ store-requires c =
     let f = field_read c.args.self.now.seat.me.0.mine.space.words c.args.at.0 c.args.i c.requires.shaped.walked c.requires.there in (
       tied _ _ _ c.deref-cells.ensures c.args.self.now.row.0,
       omega (arith, c.field_index.ensures, f.within, c.requires.shaped.end_high, tied_words _ _ _ _ c.deref-cells.ensures c.args.self.now.row.0 c.args.self.now.row.1, c.args.self.now.sized),
-      puts_at _ _ _ _ c.args.at.0 c.args.i _ _ f.block c.field_index.ensures c.args.self.now.writes f.found c.requires.there (c.requires.fits f.block f.found) (c.requires.kept f.block f.found),
+      puts_at _ _ _ _ c.args.at.0 c.args.i _ _ f.block c.field_index.ensures c.args.self.now.writes f.found c.requires.there (c.requires.fits f.block f.found) (c.requires.allowed f.block f.found),
     )
 
 pub returns-then-self-2-clause-shaped : goal.returns-then-self-2-clause-shaped

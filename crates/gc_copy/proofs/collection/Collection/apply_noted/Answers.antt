@@ -1,16 +1,16 @@
--- The plan applies the oldest entry: its field is brought up to date and the entry goes, or nothing changes if there is no room.
+-- The model applies the oldest entry: its field is brought up to date and the entry goes, or nothing changes if there is no room.
 use Rattle.std.proofs.lemmas.Grind.{common_steps}
 use Rattle.std.proofs.Common.{◌≡◌, length, Some, ap, sym, subst, arith}
 use Rattle.std.specs.Prelude.{slice_get, slice_set}
 use Rattle.gc_heap.specs.Heap.{graph_in}
-use Rattle.gc_plan.specs.State.{State}
-use Rattle.gc_plan.specs.Steps.{log_at, apply_entry, apply_log}
+use Rattle.gc_model.specs.State.{State}
+use Rattle.gc_model.specs.Steps.{log_at, apply_entry, apply_log}
 use Rattle.gc_copy.specs.contracts.collection.Collection.{the_view}
 use Rattle.gc_copy.specs.Words.{IsCollection, collection_in, open_state, BelongsTo}
 use Rattle.gc_copy.specs.Internal.Words.{KeepsRest}
-use Rattle.gc_plan.specs.declared.step.Step.TheVariants as steps
-use Rattle.gc_plan.specs.declared.step.StepReply.{StepReply}
-use Rattle.gc_plan.specs.declared.step.StepReply.TheVariants.{Applied}
+use Rattle.gc_model.specs.declared.step.Step.TheVariants as steps
+use Rattle.gc_model.specs.declared.step.StepReply.{StepReply}
+use Rattle.gc_model.specs.declared.step.StepReply.TheVariants.{Applied}
 use Rattle.gc_copy.proofs.Logs.{there_in}
 use Rattle.gc_copy.proofs.Applying.{field_there, stays, applied, applied_belongs}
 use Rattle.gc_copy.proofs.collection.Collection.apply_noted.Goals as goal

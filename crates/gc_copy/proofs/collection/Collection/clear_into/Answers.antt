@@ -4,7 +4,7 @@ use Rattle.std.proofs.Common.{◌≡◌, arith, rules, ◌<◌, ℕ, List, sym, 
 use Rattle.std.specs.Prelude.{◌^◌}
 use Rattle.gc_words.specs.Image.{is_start}
 use Rattle.gc_heap.specs.Heap.{HeapWords}
-use Rattle.gc_plan.specs.Members.{In}
+use Rattle.gc_model.specs.Members.{In}
 use Rattle.gc_copy.specs.Words.{CollectionWords, replicas_in}
 use Rattle.gc_copy.proofs.ObjectWalks.{start_met}
 use Rattle.gc_copy.proofs.Dropping.{Clears, clears_none, original_here, clears_more, none_above, none_left, dropped_state, all_cleared}

@@ -1,4 +1,4 @@
--- The replicas fill the new space up to its end, so the end of the space is the end in the plan.
+-- The replicas fill the new space up to its end, so the end of the space is the end in the model.
 use Rattle.std.proofs.lemmas.Grind.{common_steps}
 use Rattle.std.proofs.Common.{arith}
 use Rattle.gc_copy.proofs.Spaces.{new_end_is}

@@ -1,4 +1,4 @@
--- A search from the first root to the last finds the target that the plan's step would replicate.
+-- A search from the first root to the last finds the target that the model's step would replicate.
 use Rattle.std.proofs.Common.{length, ◌∙◌, sym, ap}
 use Rattle.std.proofs.lemmas.List.{length-map}
 use Rattle.gc_words.specs.Word.{value_of}

@@ -1,11 +1,11 @@
--- The new space without its links and the moved roots are a sound heap, which is the heap after the plan's flip.
+-- The new space without its links and the moved roots are a sound heap, which is the heap after the model's flip.
 use Rattle.gc_words.proofs.Public.{link_cleared, cleared}
 use Rattle.std.proofs.lemmas.Grind.{common_steps}
 use Rattle.std.proofs.Common.{◌≡◌, ℕ, List, sym, ap, ◌∙◌, subst, arith}
 use Rattle.std.specs.Prelude.{IsTrue}
 use Rattle.gc_words.specs.Space.{SpaceWords, without_links}
 use Rattle.gc_heap.specs.Heap.{HeapWords, IsHeap, graph_in}
-use Rattle.gc_plan.specs.Steps.{is_ready}
+use Rattle.gc_model.specs.Steps.{is_ready}
 use Rattle.gc_copy.specs.Words.{CollectionWords, IsCollection, BelongsTo, collection_in, new_root_words}
 use Rattle.gc_copy.proofs.Flipping.{flipped_sound, flip_is, without_its_links}
 use Rattle.gc_copy.proofs.collection.Collection.flip_into.Goals as goal

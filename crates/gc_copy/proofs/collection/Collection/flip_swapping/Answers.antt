@@ -7,9 +7,9 @@ use Rattle.std.proofs.lemmas.Bool.{and_parts}
 use Rattle.std.specs.Prelude.{IsTrue}
 use Rattle.gc_words.specs.Space.{SpaceWords}
 use Rattle.gc_heap.specs.Heap.{HeapWords, IsHeap, graph_in}
-use Rattle.gc_plan.specs.Steps.{is_ready, is_empty}
+use Rattle.gc_model.specs.Steps.{is_ready, is_empty}
 use Rattle.gc_copy.specs.Words.{Log, CollectionWords, IsCollection, entries_of, BelongsTo, collection_in, new_root_words}
-use Rattle.gc_plan.proofs.Public.{ready_parts}
+use Rattle.gc_model.proofs.Public.{ready_parts}
 use Rattle.gc_copy.proofs.Flipping.{flipped_sound, flip_is, below_the_mark}
 use Rattle.gc_copy.specs.Internal.Words.{moves_of}
 use Rattle.gc_copy.proofs.Moves.{moves_told}

@@ -3,7 +3,7 @@ use Rattle.gc_copy.proofs.RootWalks.{value_at}
 use Rattle.std.proofs.lemmas.Grind.{common_steps}
 use Rattle.std.proofs.Common.{⊎_elim, arith}
 use Rattle.std.proofs.lemmas.Bool.{cases_eq}
-use Rattle.gc_plan.proofs.Public.{is_missing, is_replicated}
+use Rattle.gc_model.proofs.Public.{is_missing, is_replicated}
 use Rattle.gc_copy.proofs.collection.Collection.missing_root.Goals as goal
 
 pub loop-place-preserved : goal.loop-place-preserved

@@ -2,7 +2,7 @@
 use Rattle.std.proofs.Common.{◌≤◌, ◌<◌, ℕ}
 use Rattle.gc_graph.specs.Graph.{root}
 use Rattle.gc_heap.specs.Heap.{graph_in}
-use Rattle.gc_plan.specs.Staying.{HasReplicaOf}
+use Rattle.gc_model.specs.Staying.{HasReplicaOf}
 use Rattle.gc_copy.specs.Words.{collection_in}
 use Rattle.gc_copy.proofs.collection.Collection.missing_root.Given as goal
 

@@ -1,4 +1,4 @@
--- Either the field's target has a replica and the moved word brings the field up to date, or the plan has no room for one either.
+-- Either the field's target has a replica and the moved word brings the field up to date, or the model has no room for one either.
 use Rattle.std.proofs.lemmas.Grind.{common_steps}
 use Rattle.std.proofs.Common.{ap, arith}
 use Rattle.gc_words.specs.Image.{blocks}

@@ -2,7 +2,7 @@
 use Rattle.std.proofs.lemmas.List.{drop_all}
 use Rattle.std.proofs.lemmas.Grind.{common_steps}
 use Rattle.std.proofs.Common.{ap, arith}
-use Rattle.gc_plan.specs.Steps.{first_log}
+use Rattle.gc_model.specs.Steps.{first_log}
 use Rattle.gc_copy.specs.Words.{CollectionWords, collection_in}
 use Rattle.gc_copy.proofs.Logs.{there_in, first_here, first_later}
 use Rattle.gc_copy.proofs.collection.Collection.next_log.Goals as goal

@@ -1,6 +1,6 @@
 -- The first log with an entry, from this log on, is the first of all logs with one.
 use Rattle.std.proofs.Common.{◌≡◌}
-use Rattle.gc_plan.specs.Steps.{first_log}
+use Rattle.gc_model.specs.Steps.{first_log}
 use Rattle.gc_copy.specs.Words.{collection_in}
 use Rattle.gc_copy.proofs.Logs.{first_from}
 use Rattle.gc_copy.proofs.collection.Collection.next_log.Given as goal

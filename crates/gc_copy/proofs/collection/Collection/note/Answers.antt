@@ -2,7 +2,7 @@
 use Rattle.std.proofs.lemmas.Grind.{common_steps}
 use Rattle.std.proofs.Common.{◌≡◌, ◌∷◌, [], ◌++◌, length, ap, ◌∙◌, length-set, arith}
 use Rattle.std.specs.Prelude.{slice_set}
-use Rattle.gc_plan.specs.Steps.{with_log, log_at}
+use Rattle.gc_model.specs.Steps.{with_log, log_at}
 use Rattle.gc_copy.specs.contracts.collection.Collection.{the_view}
 use Rattle.gc_copy.specs.Words.{CollectionWords, collection_in}
 use Rattle.gc_copy.proofs.Logs.{there_in, entry_noted, noted_belongs}

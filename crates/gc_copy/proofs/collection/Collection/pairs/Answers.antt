@@ -1,6 +1,6 @@
 -- The links of a collection's new space lead to addresses.
 use Rattle.std.proofs.Common.{ℕ, List, subst}
-use Rattle.gc_plan.specs.Members.{In}
+use Rattle.gc_model.specs.Members.{In}
 use Rattle.gc_copy.specs.Words.{replicas_in}
 use Rattle.gc_copy.proofs.collection.Collection.pairs.Goals as goal
 

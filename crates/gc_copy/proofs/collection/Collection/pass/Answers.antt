@@ -1,11 +1,11 @@
--- Moving the scan pointer behind a replica that is raw or scanned is the plan's scan.
+-- Moving the scan pointer behind a replica that is raw or scanned is the model's scan.
 use Rattle.std.proofs.Common.{rules, ◌≡◌, ◌+◌, ◌<◌, true, false, is_some, ap, sym, ◌∙◌, subst, arith}
 use Rattle.std.specs.Prelude.{◌^◌}
 use Rattle.gc_words.specs.Image.{is_start}
 use Rattle.gc_words.proofs.Public.{block_of_header, stands_in}
 use Rattle.gc_heap.specs.Heap.{HeapWords}
-use Rattle.gc_plan.specs.Steps.{scan_done}
-use Rattle.gc_plan.specs.declared.step.StepReply.TheVariants.{Passed}
+use Rattle.gc_model.specs.Steps.{scan_done}
+use Rattle.gc_model.specs.declared.step.StepReply.TheVariants.{Passed}
 use Rattle.gc_copy.specs.Words.{CollectionWords, IsCollection, BelongsTo, collection_in, open_state}
 use Rattle.gc_copy.proofs.Scanning.{left_at_start, passed, passed_belongs}
 use Rattle.gc_copy.proofs.collection.Collection.pass.Goals as goal

@@ -1,12 +1,12 @@
--- The copy at the new end, with links both ways, is the plan's new replica; if it lacks room, the plan places none either.
+-- The copy at the new end, with links both ways, is the model's new replica; if it lacks room, the model places none either.
 use Rattle.std.proofs.lemmas.Grind.{common_steps}
 use Rattle.std.proofs.Common.{◌≡◌, ◌+◌, arith, Some, None, ap, sym, subst}
 use Rattle.gc_graph.specs.Graph.{lookup}
 use Rattle.gc_words.specs.Image.{header_at}
 use Rattle.gc_words.specs.Space.{HasRoomFor}
 use Rattle.gc_heap.specs.Heap.{graph_in}
-use Rattle.gc_plan.specs.State.{replica_of}
-use Rattle.gc_plan.specs.Steps.{place_replica}
+use Rattle.gc_model.specs.State.{replica_of}
+use Rattle.gc_model.specs.Steps.{place_replica}
 use Rattle.gc_copy.specs.contracts.collection.Collection.{the_view}
 use Rattle.gc_copy.specs.Words.{CollectionWords, collection_in, BelongsTo}
 use Rattle.gc_copy.specs.Internal.Words.{KeepsStarts}

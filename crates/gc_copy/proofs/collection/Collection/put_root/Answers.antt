@@ -4,7 +4,7 @@ use Rattle.std.specs.Option.{option_map}
 use Rattle.gc_graph.specs.declared.command.Op.TheVariants.{Put}
 use Rattle.gc_heap.specs.Heap.{graph_in}
 use Rattle.gc_heap.specs.Places.{root_at}
-use Rattle.gc_plan.specs.Steps.{written}
+use Rattle.gc_model.specs.Steps.{written}
 use Rattle.gc_copy.specs.Entries.{entry_in}
 use Rattle.gc_copy.specs.Words.{collection_in}
 use Rattle.gc_copy.proofs.Mutating.{nothing_noted, mutate_is, wrote, nothing_belongs, one_but}

@@ -1,14 +1,14 @@
--- The target of the found root has no replica yet, and if there is no room to place one, the plan's step lacks room too.
+-- The target of the found root has no replica yet, and if there is no room to place one, the model's step lacks room too.
 use Rattle.std.proofs.Common.{flat_map, sym, ◌∙◌, rules, ap, subst}
 use Rattle.std.specs.Option.{option_map}
 use Rattle.gc_copy.specs.declared.collection.roots.MissingRoot.{MissingRoot}
 use Rattle.gc_graph.specs.Graph.{names_of}
 use Rattle.gc_heap.specs.Heap.{graph_in}
-use Rattle.gc_plan.specs.State.{State}
+use Rattle.gc_model.specs.State.{State}
 use Rattle.gc_copy.specs.Words.{IsCollection, collection_in}
-use Rattle.gc_plan.specs.declared.step.Step.TheVariants as steps
-use Rattle.gc_plan.specs.declared.step.StepReply.{StepReply}
-use Rattle.gc_plan.proofs.Public.{unreplicated_some}
+use Rattle.gc_model.specs.declared.step.Step.TheVariants as steps
+use Rattle.gc_model.specs.declared.step.StepReply.{StepReply}
+use Rattle.gc_model.proofs.Public.{unreplicated_some}
 use Rattle.gc_copy.proofs.collection.Collection.replicate_root.Goals as goal
 
 pub place_replica-requires-clause-missing : goal.place_replica-requires-clause-missing

@@ -6,7 +6,7 @@ use Rattle.gc_words.specs.Word.{value_of, word_of}
 use Rattle.gc_graph.specs.Graph.{name_of}
 use Rattle.gc_graph.specs.Limits.{largest_space}
 use Rattle.gc_copy.specs.Words.{CollectionWords, IsCollection, collection_in}
-use Rattle.gc_plan.specs.State.{replica_of}
+use Rattle.gc_model.specs.State.{replica_of}
 use Rattle.gc_copy.proofs.OpenCollection.{has_placed, placed_address, placed_word}
 use Rattle.gc_copy.proofs.Spaces.{new_end_is}
 use Rattle.gc_copy.proofs.collection.Collection.replicated_word.Goals as goal

@@ -10,8 +10,8 @@ use Rattle.gc_copy.proofs.collection.Collection.reserve_more.Goals as goal
 made : (c : goal.After-self-1) → collection_in (record (the_view c.self.inside) { logs = slice_set c.self.inside.logs.items c.args.m c.reserve.new.self }) ≡ collection_in c.args.self.now
 made c = grind (arith, common_steps, room_made, there_in)
 
-pub returns-clause-kept : goal.returns-clause-kept
-returns-clause-kept c = λ k. grind (arith, common_steps, room_kept, there_in)
+pub returns-clause-spare : goal.returns-clause-spare
+returns-clause-spare c = λ k. grind (arith, common_steps, room_kept, there_in)
 
 pub returns-clause-collection : goal.returns-clause-collection
 returns-clause-collection c = made c

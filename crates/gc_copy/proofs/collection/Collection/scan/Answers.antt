@@ -1,8 +1,8 @@
--- A run of one scan is the plan's scan.
+-- A run of one scan is the model's scan.
 use Rattle.std.proofs.Common.{ap, ◌∙◌, subst}
-use Rattle.gc_plan.specs.State.{State}
-use Rattle.gc_plan.specs.declared.step.StepReply.{StepReply}
-use Rattle.gc_plan.specs.declared.step.Step.TheVariants as steps
+use Rattle.gc_model.specs.State.{State}
+use Rattle.gc_model.specs.declared.step.StepReply.{StepReply}
+use Rattle.gc_model.specs.declared.step.Step.TheVariants as steps
 use Rattle.gc_copy.specs.Words.{IsCollection, open_state}
 use Rattle.gc_copy.proofs.StepRuns.{one_step}
 use Rattle.gc_copy.proofs.collection.Collection.scan.Goals as goal

@@ -1,4 +1,4 @@
--- Where a replica that is not raw has a field at the scan pointer, bringing it up to date is the plan's scan.
+-- Where a replica that is not raw has a field at the scan pointer, bringing it up to date is the model's scan.
 use Rattle.std.proofs.Common.{rules, ◌≡◌, ◌+◌, ◌<◌, false, Some, None, ap, sym, ◌∙◌, subst}
 use Rattle.std.specs.Prelude.{◌^◌, IsSome}
 use Rattle.std.specs.Option.{option_map}
@@ -6,9 +6,9 @@ use Rattle.gc_words.specs.Image.{field_at, header_at}
 use Rattle.gc_words.specs.Spelling.{link_at}
 use Rattle.gc_words.specs.declared.header.Header.{Header}
 use Rattle.gc_heap.specs.Heap.{graph_in}
-use Rattle.gc_plan.specs.State.{Replica, replica_of}
-use Rattle.gc_plan.specs.Steps.{scan_done, bring_up_to_date}
-use Rattle.gc_plan.specs.declared.step.StepReply.TheVariants.{Scanned, NoRoom}
+use Rattle.gc_model.specs.State.{Replica, replica_of}
+use Rattle.gc_model.specs.Steps.{scan_done, bring_up_to_date}
+use Rattle.gc_model.specs.declared.step.StepReply.TheVariants.{Scanned, NoRoom}
 use Rattle.gc_copy.specs.contracts.collection.Collection.{the_view}
 use Rattle.gc_copy.specs.Words.{CollectionWords, IsCollection, BelongsTo, collection_in, open_state}
 use Rattle.gc_copy.specs.Internal.Words.{KeepsStarts}

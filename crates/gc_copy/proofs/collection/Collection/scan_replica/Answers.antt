@@ -5,10 +5,10 @@ use Rattle.gc_words.specs.Image.{header_at, is_start}
 use Rattle.gc_words.specs.Space.{end_of}
 use Rattle.gc_words.specs.Spelling.{link_at}
 use Rattle.gc_words.proofs.Public.{block_of_header}
-use Rattle.gc_plan.specs.State.{new_end}
-use Rattle.gc_plan.specs.Steps.{scan_done}
-use Rattle.gc_plan.specs.declared.step.Step.TheVariants.{Scan}
-use Rattle.gc_plan.specs.declared.step.StepReply.TheVariants.{Scanned, NoRoom}
+use Rattle.gc_model.specs.State.{new_end}
+use Rattle.gc_model.specs.Steps.{scan_done}
+use Rattle.gc_model.specs.declared.step.Step.TheVariants.{Scan}
+use Rattle.gc_model.specs.declared.step.StepReply.TheVariants.{Scanned, NoRoom}
 use Rattle.gc_copy.specs.StepRuns.{IsScanRun, ScansOn}
 use Rattle.gc_copy.specs.contracts.collection.Collection.{the_view}
 use Rattle.gc_copy.specs.Words.{CollectionWords, IsCollection, BelongsTo, collection_in, open_state}

@@ -3,7 +3,7 @@ use Rattle.std.proofs.Common.{◌≡◌, ◌<◌, ◌-◌, Some}
 use Rattle.gc_words.specs.Image.{header_at}
 use Rattle.gc_words.specs.Spelling.{link_at}
 use Rattle.gc_copy.specs.Words.{open_state, BelongsTo}
-use Rattle.gc_plan.specs.declared.step.Step.TheVariants.{Scan}
+use Rattle.gc_model.specs.declared.step.Step.TheVariants.{Scan}
 use Rattle.gc_copy.specs.StepRuns.{ScansOn}
 use Rattle.gc_copy.proofs.StepRuns.{IsRepeating}
 use Rattle.gc_copy.proofs.collection.Collection.scan_replica.Given as goal

@@ -1,7 +1,7 @@
 -- A turn puts the scans of one replica more behind those before.
 use Rattle.std.proofs.Common.{◌∙◌, arith}
 use Rattle.gc_copy.specs.Words.{open_state}
-use Rattle.gc_plan.specs.declared.step.Step.TheVariants.{Scan}
+use Rattle.gc_model.specs.declared.step.Step.TheVariants.{Scan}
 use Rattle.gc_copy.specs.StepRuns.{ScansOn}
 use Rattle.gc_copy.proofs.StepRuns.{run_goes_on, runs_join}
 use Rattle.gc_copy.proofs.collection.Collection.scan_run.Goals as goal

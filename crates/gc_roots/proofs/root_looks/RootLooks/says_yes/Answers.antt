@@ -1,5 +1,5 @@
 -- All extra roots were looked at, the slots are alike, and the rest are nil in both.
-use Rattle.gc_along.specs.Origins.{pairs_in}
+use Rattle.gc_monitor.specs.Origins.{pairs_in}
 use Rattle.gc_roots.proofs.Compared.{all_correspond}
 use Rattle.gc_roots.proofs.root_looks.RootLooks.says_yes.Goals as goal
 

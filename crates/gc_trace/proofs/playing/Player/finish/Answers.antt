@@ -2,7 +2,7 @@
 use Rattle.std.proofs.Common.{◌≡◌, ◌∙◌, ap}
 use Rattle.gc_graph.specs.Machine.{Roomy}
 use Rattle.gc_words.specs.Space.{free_in, end_of}
-use Rattle.gc_plan.specs.State.{heap_end}
+use Rattle.gc_model.specs.State.{heap_end}
 use Rattle.gc_trace.proofs.PlayedEvents.{report_is}
 use Rattle.gc_trace.proofs.SpaceEnds.{same_end}
 use Rattle.gc_trace.proofs.playing.Player.finish.Goals as goal

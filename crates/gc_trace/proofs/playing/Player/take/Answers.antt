@@ -1,6 +1,6 @@
 -- After one more event the state, the counts and, if lines are gathered, the text are those of one more answer.
 use Rattle.std.proofs.Common.{sym, subst, rules}
-use Rattle.gc_plan.specs.Belonging.{IsState}
+use Rattle.gc_model.specs.Belonging.{IsState}
 use Rattle.gc_trace.proofs.PlayedEvents.{state_is, counts_are, lines_are}
 use Rattle.gc_trace.proofs.Sizes.{state_kept}
 use Rattle.gc_trace.proofs.playing.Player.take.Goals as goal
@@ -26,7 +26,7 @@ returns-clause-played c s events h =
     }
 
 pub returns-in_default-gather-clause-sound : goal.returns-in_default-gather-clause-sound
-returns-in_default-gather-clause-sound c = subst IsState (sym c.in-Ok.ensures.happened) (state_kept c.args.self.now.heap.core c.args.event.now c.states_are_kept.ensures.commands c.states_are_kept.ensures.steps c.requires.sound c.requires.event)
+returns-in_default-gather-clause-sound c = subst IsState (sym c.in-Ok.ensures.happened) (state_kept c.args.self.now.heap.core c.args.event.now c.states_stay.ensures.commands c.states_stay.ensures.steps c.requires.sound c.requires.event)
 
 pub returns-clause-sound : goal.returns-clause-sound
-returns-clause-sound c = subst IsState (sym c.in-Ok.ensures.happened) (state_kept c.args.self.now.heap.core c.args.event.now c.states_are_kept.ensures.commands c.states_are_kept.ensures.steps c.requires.sound c.requires.event)
+returns-clause-sound c = subst IsState (sym c.in-Ok.ensures.happened) (state_kept c.args.self.now.heap.core c.args.event.now c.states_stay.ensures.commands c.states_stay.ensures.steps c.requires.sound c.requires.event)

@@ -2,8 +2,8 @@
 use Rattle.std.proofs.Common.{◌≡◌, ◌+◌, ◌-◌, ℕ, List, [], length, false}
 use Rattle.gc_graph.specs.Streams.{bytes_left, source_failed}
 use Rattle.std.specs.List.{AllByRecursion}
-use Rattle.gc_plan.specs.Belonging.{IsState}
-use Rattle.gc_plan.specs.declared.event.Event.{Event}
+use Rattle.gc_model.specs.Belonging.{IsState}
+use Rattle.gc_model.specs.declared.event.Event.{Event}
 use Rattle.gc_trace.specs.Faults.{trace_limit}
 use Rattle.gc_trace.specs.Grammar.{HasLine, IsOf}
 use Rattle.gc_trace.specs.Internal.Playing.{HasPlayed}

@@ -10,7 +10,7 @@ use Rattle.std.specs.declared.alloc.Global.{Global}
 use Rattle.std.proofs.Crossing.{frees}
 use Rattle.std_alloc.proofs.SendSync.{quiet, lies}
 use Rattle.gcflip_heap_c.specs.Handle.{owns_heap}
-use Rattle.gc_plan.specs.State.{State}
+use Rattle.gc_model.specs.State.{State}
 use Rattle.gc_collected.specs.Collected.{Beside}
 use Rattle.gc_collected.specs.contracts.collected_heap.CollectedHeap as Row
 use Rattle.gc_collected.proofs.collected_heap.CollectedHeap.TheSendSync.{the_send as heap_send}

@@ -27,7 +27,7 @@ use Rattle.std.proofs.raw_atomic.Walks.{proved}
 use Rattle.std_alloc.proofs.BoxSteps.Form.{D, X, B, R, τ, word, handle}
 use Rattle.std_alloc.proofs.BoxSteps.Steps.{box_out, box_in}
 use Rattle.gcflip_heap_c.proofs.HeapBox.{heap_box, there}
-use Rattle.gc_plan.specs.State.{State}
+use Rattle.gc_model.specs.State.{State}
 use Rattle.gc_collected.specs.contracts.collected_heap.CollectedHeap as Heap
 use Rattle.gcflip_heap_c.specs.Internal.Lending.{with_heap}
 use Rattle.gcflip_heap_c.specs.contracts.handle.GcflipHeap.heap_mut as f

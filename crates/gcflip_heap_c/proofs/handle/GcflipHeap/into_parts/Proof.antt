@@ -14,7 +14,7 @@ use denote.Exit.{yes}
 use denote.Steps.{heard, nothing}
 use denote.Triple.Walked.{Stays, walk_of, says, stay_dropped, Goes-dropped, ends_at}
 use Rattle.std.proofs.raw_atomic.Walks.{proved_at}
-use Rattle.gc_plan.specs.State.{State}
+use Rattle.gc_model.specs.State.{State}
 use Rattle.std_alloc.proofs.BoxSteps.Form.{D, X, B, word, box_typed}
 use Rattle.std_alloc.proofs.BoxSteps.Steps.{box_out, box_in}
 use Rattle.gcflip_heap_c.proofs.HeapBox.{heap_box, its_handle, Held, there}

@@ -28,7 +28,7 @@ use Rattle.std.specs.contracts.impls.GlobalAllocator.TheImpl.{ghosts}
 use Rattle.std.proofs.GlobalToken.{dealloc_token-Testable}
 use Rattle.std.proofs.raw_atomic.Walks.{proved}
 use Rattle.gcflip_heap_c.specs.Handle.{owns_heap}
-use Rattle.gc_plan.specs.State.{State}
+use Rattle.gc_model.specs.State.{State}
 use Rattle.gc_collected.specs.Collected.{Beside}
 use Rattle.gc_collected.specs.contracts.collected_heap.CollectedHeap as Row
 use Rattle.gcflip_heap_c.specs.contracts.handle.GcflipHeap.is_empty as f

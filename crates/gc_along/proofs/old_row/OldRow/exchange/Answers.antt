@@ -1,8 +1,0 @@
--- The row that is taken has no epochs, so each of its codes stands for itself.
-use Rattle.std.proofs.Common.{◌∙◌, ap}
-use Rattle.gc_along.specs.Internal.InWords.{Codes, codes_now}
-use Rattle.gc_along.proofs.Freed.{now_first}
-use Rattle.gc_along.proofs.old_row.OldRow.exchange.Goals as goal
-
-pub returns-clause-codes : goal.returns-clause-codes
-returns-clause-codes c = ap (λ epochs. codes_now epochs 0 0 c.swap.new.x.codes) c.clear.ensures.items ∙ now_first 0 c.swap.new.x.codes ∙ ap (λ (t : Codes). t.codes) c.swap.ensures.x_after

@@ -1,6 +1,0 @@
--- The whole heap's certificate, restricted to young objects, roots and remembered fields, is the minor collection's.
-use Rattle.gc_generations.proofs.Back.{back}
-use Rattle.gc_generations.proofs.laws.minor_certificates_lose_nothing.Goals as goal
-
-pub returns : goal.returns
-returns c size front after young kept roots new_roots remembered pairs standing candidate certified = back size front after young kept roots new_roots remembered pairs standing candidate certified

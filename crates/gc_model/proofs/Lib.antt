@@ -1,0 +1,20 @@
+-- Lemmas about the model: heaps and commands, replicas and steps, images and flips, room, what is carried, and runs of events.
+pub mod Lists
+pub mod Heap
+pub mod Commands
+pub mod Numbers
+pub mod Replicas
+pub mod Steps
+pub mod Runs
+pub mod Images
+pub mod Flips
+pub mod Room
+pub mod Carried
+pub mod Links
+pub mod StateLaws
+pub mod Unused
+pub mod Changes
+pub mod RootsStay
+pub mod Sizes
+pub mod Progress
+pub mod Public

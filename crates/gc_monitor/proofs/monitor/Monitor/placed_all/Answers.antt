@@ -1,0 +1,16 @@
+-- A turn makes the walk one replica longer, or loses the checker.
+use Rattle.std.proofs.Common.{suc, IsFalse, ap, sym, ◌∙◌}
+use Rattle.gc_monitor.specs.Tables.{Tables}
+use Rattle.gc_monitor.proofs.Runs.{longer_placed}
+use Rattle.gc_monitor.proofs.monitor.Monitor.placed_all.Goals as goal
+
+pub loop-self-preserved : goal.loop-self-preserved
+loop-self-preserved c =
+    let found : IsFalse c.place_next.new.self.lost = sym (ap (λ (t : Tables). t.lost) c.self-in-loop-self-2.view_is) ∙ c.if-self-2.false in
+    let run = c.loop-self.invariant.1 in (
+      found,
+      (
+        suc run.0,
+        longer_placed c.args.old.now c.args.new.now run.0 c.args.self.now c.loop-self.self c.place_next.new.self run.1 (c.place_next.ensures.placed found) (c.place_next.ensures.copied found),
+      ),
+    )

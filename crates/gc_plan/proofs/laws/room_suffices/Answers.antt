@@ -1,8 +1,0 @@
--- In a well-formed state a new space that is large enough has room for all replicas, and a run only reaches such states.
-use Rattle.gc_plan.specs.Passing.{AlwaysHasRoom}
-use Rattle.gc_plan.proofs.Room.{has_room}
-use Rattle.gc_plan.proofs.StateLaws.{in_runs}
-use Rattle.gc_plan.proofs.laws.room_suffices.Goals as goal
-
-pub returns : goal.returns
-returns c = record { states = has_room; runs = in_runs AlwaysHasRoom has_room }

@@ -1,6 +1,0 @@
--- The rows so far have not changed the number of mutators.
-use Rattle.std.proofs.Common.{◌≡◌}
-use Rattle.gc_tests.proofs.tests.collected.rows.play.Given as goal
-
-abbrev pub invariant-loop-place : goal.invariant-loop-place
-invariant-loop-place g l = l.heap.mutators ≡ l.initial.heap.mutators
