@@ -19,7 +19,7 @@ set_at-requires-clause-allowed c =
     let h : HeapWords = heap_in c.args.self.now in
     let read : c.index-word.result.now ≡ slice_index h.roots c.args.s = read_root h h.roots c.args.s _ refl c.requires.giver c.index-word.ensures in
     let allowed = MayBeCopied c.args.self.now.mutator.seat.me.0.mine.base in
-    subst (RefersTo kept) (at_root h c.args.s c.index-word.result.now read) (root_refers_to kept (graph_in h) c.args.s c.args.self.now.leads)
+    subst (RefersTo allowed) (at_root h c.args.s c.index-word.result.now read) (root_refers_to allowed (graph_in h) c.args.s c.args.self.now.leads)
 
 pub returns-clause-step : goal.returns-clause-step
 returns-clause-step c =
