@@ -11,7 +11,7 @@ use Rattle.atomic_table.proofs.Lists.{at_set, set_else}
 use Rattle.gc_words.specs.Space.{IsSpace, empty_space}
 use Rattle.gc_words.proofs.Public.{closed_empty, space_of}
 use Rattle.gc_words.specs.Image.{objects_of}
-use Rattle.gc_plan.specs.Belonging.{IsPassedField, IsLogged, IsOpened}
+use Rattle.gc_plan.specs.Belonging.{HasField, IsLogged, IsOpened}
 use Rattle.gc_plan.proofs.Public.{begun_belongs}
 use Rattle.gc_copy.proofs.Public.{words_numbers}
 use Rattle.gc_heap.specs.Heap.{HeapWords, IsHeap}
@@ -232,7 +232,7 @@ anew_opened m t n low high h =
       logs = refl;
     }
   where
-    logged : (a i : ℕ) → IsLogged (collection_of m (begun_anew n t)) a i → IsPassedField (objects_of m.space.words) a i
+    logged : (a i : ℕ) → IsLogged (collection_of m (begun_anew n t)) a i → HasField (objects_of m.space.words) a i
     logged a i (zero, k) = (h.belongs).entries a i (0, k)
     logged a i (suc zero, k) = absurd k
     logged a i (suc (suc j), k) = absurd k

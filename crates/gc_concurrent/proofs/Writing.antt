@@ -19,7 +19,7 @@ use Rattle.std.proofs.lemmas.List.{length-replicate}
 use Rattle.std.specs.Option.{option_map}
 use Rattle.gc_plan.specs.State.{Collection}
 use Rattle.gc_plan.specs.Members.{In}
-use Rattle.gc_plan.specs.Belonging.{IsPassedField, IsOpened, IsDue, BelongsBy, RefersTo}
+use Rattle.gc_plan.specs.Belonging.{HasField, IsOpened, IsDue, BelongsBy, RefersTo}
 use Rattle.gc_plan.proofs.Public.{Evolves, field_stays, lookup_left, lookup_written, written_entry, written_raw, written_kind, written_length, written_get, belongs_but, belongs_noted, belongs_from, its_replicas, replicas_evolve}
 use Rattle.gc_copy.proofs.Public.{words_numbers}
 use Rattle.gc_concurrent.specs.Ends.{Known, Mine, Theirs}
@@ -54,7 +54,7 @@ abbrev objs : Mine → List (ℕ × Object)
 objs m = objects_of m.space.words
 
 opened_noted : (mine mine' : Mine) (t : Theirs) (entries : List (ℕ × ℕ)) → Evolves (objs mine) (objs mine') (λ a i. In {X = ℕ × ℕ} (a, i) entries) → mine'.log ≡ mine.log ++ entries
-    → ((a i : ℕ) → In {X = ℕ × ℕ} (a, i) entries → IsPassedField (objs mine') a i)
+    → ((a i : ℕ) → In {X = ℕ × ℕ} (a, i) entries → HasField (objs mine') a i)
     → IsOpened (plan mine t) (collection_of mine t) → IsOpened (plan mine' t) (collection_of mine' t)
 opened_noted mine mine' t entries evolves logged there h =
     let c : Collection = collection_of mine t in
@@ -124,7 +124,7 @@ written_objects : (s : SpaceWords) (a i w : ℕ) (b : Block) → IsSpace s → I
 written_objects s a i w b space has found = ap (λ (g : Graph). g.objects) (graph_field s a i w b [] space has found)
 
 -- the field that is written is there
-field_there : (s : SpaceWords) (a i : ℕ) (b : Block) → IsSpace s → IsSome (field_at s.words a i) → block_at s.words a ≡ Some b → IsPassedField (objects_of s.words) a i
+field_there : (s : SpaceWords) (a i : ℕ) (b : Block) → IsSpace s → IsSome (field_at s.words a i) → block_at s.words a ≡ Some b → HasField (objects_of s.words) a i
 field_there s a i b space has found =
     let f = field_read s.words a i space.walked has in
     let same : f.block ≡ b = cc (sym f.found ∙ found) in (
@@ -135,7 +135,7 @@ field_there s a i b space has found =
 
 -- the collection after a write, whether it is logged or at rest
 opened_wrote : (mine : Mine) (t : Theirs) (a i w : ℕ) → Evolves (objs mine) (objs (wrote a i w mine)) (λ x j. In {X = ℕ × ℕ} (x, j) ((a, i) ∷ []))
-    → ((x j : ℕ) → In {X = ℕ × ℕ} (x, j) ((a, i) ∷ []) → IsPassedField (objs (wrote a i w mine)) x j) → (mine.logs ≡ false → IsAtRest mine t)
+    → ((x j : ℕ) → In {X = ℕ × ℕ} (x, j) ((a, i) ∷ []) → HasField (objs (wrote a i w mine)) x j) → (mine.logs ≡ false → IsAtRest mine t)
     → IsOpened (plan mine t) (collection_of mine t) → IsOpened (plan (wrote a i w mine) t) (collection_of (wrote a i w mine) t)
 opened_wrote mine t a i w evolves there rests h = ⊎_elim
     (λ (e : mine.logs ≡ true). opened_noted mine (wrote a i w mine) t ((a, i) ∷ []) evolves (cond-true mine.logs (mine.log ++ (a, i) ∷ []) mine.log e) there h)
@@ -161,7 +161,7 @@ put_keeps size s r id v c a i w b here writes found has is kept =
     let m' : Mine = wrote a i w r.mine in
     let objects : objects_of m'.space.words ≡ set_field (objs r.mine) a i (field_value b.header w) = written_objects sp a i w b r.space has found in
     let evolves : Evolves (objs r.mine) (objs m') (λ x j. In {X = ℕ × ℕ} (x, j) ((a, i) ∷ [])) = subst (λ os. Evolves (objs r.mine) os (λ x j. In {X = ℕ × ℕ} (x, j) ((a, i) ∷ []))) (sym objects) (set_evolves (objs r.mine) (λ x j. In {X = ℕ × ℕ} (x, j) ((a, i) ∷ [])) a i (field_value b.header w) (inl refl)) in
-    let was : IsPassedField (objs r.mine) a i = field_there sp a i b r.space has found in
+    let was : HasField (objs r.mine) a i = field_there sp a i b r.space has found in
     record {
       mine = m';
       theirs = r.theirs;
@@ -179,7 +179,7 @@ put_keeps size s r id v c a i w b here writes found has is kept =
       closed = closed_field sp a i w b [] r.space has found is r.closed;
       wanted = λ x h. let o = r.wanted x h in let still = evolves x o.0 o.1 in (still.now, still.found);
       opened = opened_wrote r.mine r.theirs a i w evolves
-          (λ x j h. ⊎_elim (λ (e : (a, i) ≡ (x, j)). subst (λ (p : ℕ × ℕ). IsPassedField (objs m') p.0 p.1) e (field_stays (objs r.mine) (objs m') (λ x j. In {X = ℕ × ℕ} (x, j) ((a, i) ∷ [])) a i evolves was)) (λ (e : ⊥). absurd e) h) r.rests r.opened;
+          (λ x j h. ⊎_elim (λ (e : (a, i) ≡ (x, j)). subst (λ (p : ℕ × ℕ). HasField (objs m') p.0 p.1) e (field_stays (objs r.mine) (objs m') (λ x j. In {X = ℕ × ℕ} (x, j) ((a, i) ∷ [])) a i evolves was)) (λ (e : ⊥). absurd e) h) r.rests r.opened;
       carries = kept_mine r.mine r.theirs r.carries m' refl (let l = length-set sp.words k w in omega arith)
           (subst (FieldsLeadTo (MayBeCopied r.mine.base)) (sym objects) (set_leads (MayBeCopied r.mine.base) (objs r.mine) a i (field_value b.header w) r.carries.fields kept));
       fits = (let l = length-set sp.words k w in let f = r.fits in omega arith);
