@@ -66,6 +66,12 @@ fn flipped(alloc: Global, mut holding: Holding, size: u32) -> Result<Collector, 
     prepared(alloc, flipped.ok().ok_or("it flips")?, size)
 }
 
+/// Flips, and makes no memory for the next flip.
+fn finished(alloc: Global, holding: Holding) -> Result<Collector, Fail> {
+    let flipped = holding.finish(alloc, &Sequential);
+    Ok(flipped.ok().ok_or("it flips")?)
+}
+
 /// Fails to flip, since an object has no room, and lets the mutator go on in the same space.
 fn without_room(alloc: Global, holding: Holding) -> Result<Collector, Fail> {
     let refused = holding
@@ -267,6 +273,23 @@ fn a_heap_changes_its_size_at_a_flip(rt: HostRuntime) -> Result<(), Fail> {
     let _collector = flipped(alloc, holding, 64)?;
     runner = waiting.resume().ok().ok_or("it may go on")?;
     assert!(rt; runner.commander.room() == 59);
+    assert!(rt; told(&mut runner, get(own(2), own(0), 1)) == Some(Reply::Saw(View::Nil)));
+    Ok(())
+}
+
+// Until the memory of the next flip is made, the new space has no room for an object.
+#[test]
+fn nothing_is_copied_unprepared(rt: HostRuntime) -> Result<(), Fail> {
+    let _named = View::Nil;
+    let alloc = rt.alloc();
+    let (mut runner, collector) = open(alloc, 16)?;
+    assert!(rt; told(&mut runner, new(own(0), 3, 2)) == Some(Reply::Made));
+    let (waiting, holding) = taken(runner, collector)?;
+    let collector = finished(alloc, holding)?;
+    let runner = waiting.resume().ok().ok_or("it may go on")?;
+    let (waiting, holding) = taken(runner, collector)?;
+    let _collector = without_room(alloc, holding)?;
+    let mut runner = waiting.resume().ok().ok_or("it may go on")?;
     assert!(rt; told(&mut runner, get(own(2), own(0), 1)) == Some(Reply::Saw(View::Nil)));
     Ok(())
 }
