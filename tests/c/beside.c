@@ -578,6 +578,11 @@ static void refused_prepare(void)
     take();
     EXPECT(gcflip_beside_finish(&collector) == GCFLIP_FLIPPED);
     EXPECT(gcflip_beside_resume(&mutator) == GCFLIP_DONE);
+    /* the new space has one word, so that the object has no room */
+    take();
+    EXPECT(gcflip_beside_place_roots(&collector) == GCFLIP_NO_ROOM);
+    EXPECT(gcflip_beside_go(&collector) == GCFLIP_DONE);
+    EXPECT(gcflip_beside_resume(&mutator) == GCFLIP_DONE);
     for (long n = 1;; n++) {
         uint32_t answer;
 
@@ -588,7 +593,7 @@ static void refused_prepare(void)
             break;
         }
         EXPECT(answer == GCFLIP_NO_MEMORY && has_failed());
-        EXPECT(gcflip_beside_work(&collector, 1) == GCFLIP_CLEAN);
+        EXPECT(gcflip_beside_work(&collector, 1) == GCFLIP_NO_ROOM);
         expect_one();
     }
     fail_allocation(0);

@@ -1,6 +1,4 @@
 //! What each call of the handshake does, in one thread.
-ghost use Rattle.std.specs.Prelude.{◌≤◌};
-
 use gc_check::{CheckFault, Checks, Sequential, Yes};
 use gc_concurrent::{Collector, Holding, NoFlip, Runner, Waiting, Work, open, open_with};
 use gc_graph::{Number, Op, Reply, View};
@@ -56,20 +54,34 @@ fn ready(holding: &mut Holding) -> Result<(), Fail> {
 }
 
 /// Begins the collection anew, in a new space of `size` words.
-fn prepared(alloc: Global, mut collector: Collector, size: u32) -> Result<Collector, Fail>
-    requires { 1 ≤ size }
-{
-    collector.prepare(alloc, size)?;
+fn prepared(alloc: Global, mut collector: Collector, size: u32) -> Result<Collector, Fail> {
+    collector.prepare(alloc, size.max(1))?;
     Ok(collector)
 }
 
 /// Flips, after as many steps as are wanted, and makes the memory of the next flip, whose new space has `size` words.
-fn flipped(alloc: Global, mut holding: Holding, size: u32) -> Result<Collector, Fail>
-    requires { 1 ≤ size }
-{
+fn flipped(alloc: Global, mut holding: Holding, size: u32) -> Result<Collector, Fail> {
     ready(&mut holding)?;
     let flipped = holding.flip(alloc, &Sequential);
     prepared(alloc, flipped.ok().ok_or("it flips")?, size)
+}
+
+/// Flips, and makes no memory for the next flip.
+fn finished(alloc: Global, holding: Holding) -> Result<Collector, Fail> {
+    let flipped = holding.finish(alloc, &Sequential);
+    Ok(flipped.ok().ok_or("it flips")?)
+}
+
+/// Fails to flip, since an object has no room, and lets the mutator go on in the same space.
+fn without_room(alloc: Global, holding: Holding) -> Result<Collector, Fail> {
+    let refused = holding
+        .finish(alloc, &Sequential)
+        .err()
+        .ok_or("there is no room")?;
+    if refused.why == NoFlip::NotReady {
+        return Ok(refused.holding.go());
+    }
+    Err(Fail::from("it lacks room"))
 }
 
 /// A checker that never has enough memory. A flip that passes has not asked it.
@@ -270,18 +282,15 @@ fn a_heap_changes_its_size_at_a_flip(rt: HostRuntime) -> Result<(), Fail> {
     let alloc = rt.alloc();
     let (mut runner, mut collector) = open(alloc, 16)?;
     assert!(rt; told(&mut runner, new(own(0), 3, 2)) == Some(Reply::Made));
-    let sizes = [1000, 5, 4];
-    let mut before = 16;
-    for size in sizes {
+    // The size of the next new space, and the room after the flip into the last one.
+    for (size, room) in [(1000, 11), (5, 995), (4, 0)] {
         let (waiting, holding) = taken(runner, collector)?;
         collector = flipped(alloc, holding, size)?;
         runner = waiting.resume().ok().ok_or("it may go on")?;
-        assert!(rt; runner.commander.room() == before - 5);
-        before = size;
+        assert!(rt; runner.commander.room() == room);
     }
-    let (waiting, mut holding) = taken(runner, collector)?;
-    assert!(rt; !holding.place_roots());
-    collector = prepared(alloc, holding.go(), 64)?;
+    let (waiting, holding) = taken(runner, collector)?;
+    collector = prepared(alloc, without_room(alloc, holding)?, 64)?;
     runner = waiting.resume().ok().ok_or("it may go on")?;
     let (waiting, holding) = taken(runner, collector)?;
     let _collector = flipped(alloc, holding, 64)?;
@@ -299,18 +308,10 @@ fn nothing_is_copied_unprepared(rt: HostRuntime) -> Result<(), Fail> {
     let (mut runner, collector) = open(alloc, 16)?;
     assert!(rt; told(&mut runner, new(own(0), 3, 2)) == Some(Reply::Made));
     let (waiting, holding) = taken(runner, collector)?;
-    let collector = holding.finish(alloc, &Sequential).ok().ok_or("it flips")?;
+    let collector = finished(alloc, holding)?;
     let runner = waiting.resume().ok().ok_or("it may go on")?;
     let (waiting, holding) = taken(runner, collector)?;
-    let refused = holding
-        .finish(alloc, &Sequential)
-        .err()
-        .ok_or("there is no room")?;
-    assert!(rt; refused.why == NoFlip::NotReady);
-    let collector = prepared(alloc, refused.holding.go(), 16)?;
-    let runner = waiting.resume().ok().ok_or("it may go on")?;
-    let (waiting, holding) = taken(runner, collector)?;
-    assert!(rt; holding.finish(alloc, &Sequential).is_ok());
+    let _collector = without_room(alloc, holding)?;
     let mut runner = waiting.resume().ok().ok_or("it may go on")?;
     assert!(rt; told(&mut runner, get(own(2), own(0), 1)) == Some(Reply::Saw(View::Nil)));
     Ok(())
