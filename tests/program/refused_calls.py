@@ -15,7 +15,7 @@ import subprocess
 from .test_memory import MOST_REQUESTS, TOO_MANY, refusing_allocator
 from .harness import SECONDS, limit_memory
 
-BUILT = os.path.join(os.path.dirname(os.path.abspath(__file__)), "..", "..", "crates", "test_memory", "out", "allocation_failures_tests")
+BUILT = os.path.join(os.path.dirname(os.path.abspath(__file__)), "..", "..", "crates", "test_memory", "out", "test_memory_tests")
 # The sizes that crates/test_memory/src/tests/marks.rt names.
 FENCE = 1000003
 RETRY = 1000033
