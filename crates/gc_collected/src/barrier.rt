@@ -25,12 +25,12 @@ ghost use Rattle.gc_collected.specs.Internal.Together.{Logs, LogsIfOpen, fields_
 ghost use Rattle.gc_collected.specs.Writing.{numbers_step};
 ghost use Rattle.gc_collected.specs.Internal.CollectedHeap.{BelongsIfOpen, Fits, HasSpare, state_in};
 
-use gc_monitor::Monitor;
 use gc_copy::{
     Collection, MissingRoot, StepReply, StepRun, heaps_have_addresses_as_names, images_show_links,
 };
 use gc_graph::{NoMemory, Reply, Slot};
 use gc_heap::Heap;
+use gc_monitor::Monitor;
 use gc_words::OldAddr;
 
 /// Does nothing. A heap and the collection that belongs to it are sound, and their words show them.

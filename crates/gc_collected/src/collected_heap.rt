@@ -1,10 +1,10 @@
 use crate::checks::{Checking, FlipChecks, Turn};
 use crate::known::KnownRoots;
-use gc_monitor::Monitor;
 use gc_cert::PairFile;
 use gc_copy::{Collection, Room, heaps_have_addresses_as_names};
 use gc_graph::NoMemory;
 use gc_heap::{Heap, HeapOptions};
+use gc_monitor::Monitor;
 use std::alloc::Global;
 use std::marker::Model;
 

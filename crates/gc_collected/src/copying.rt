@@ -22,10 +22,10 @@ ghost use Rattle.gc_collected.specs.Copying.{object_in, copy_reply as reply_in, 
 
 use crate::barrier::{are_shown, are_sound_in, note_row, reserve_in};
 use crate::collected_heap::CollectedHeap;
-use gc_monitor::Monitor;
 use gc_copy::Collection;
 use gc_graph::{NoMemory, Reply, Slot};
 use gc_heap::{Heap, field_word, root_word};
+use gc_monitor::Monitor;
 use gc_words::{Addr, Header, OldAddr};
 
 impl CollectedHeap {

@@ -14,10 +14,10 @@ ghost use Rattle.gc_collected.specs.Internal.Together.{PerformsAll, fields_from,
 use crate::barrier::{are_sound_in, note_in, reserve_in};
 use crate::collected_heap::CollectedHeap;
 use crate::places::has_made;
-use gc_monitor::Monitor;
 use gc_copy::{Collection, heaps_have_addresses_as_names};
 use gc_graph::{NoMemory, Reply, Slot, root_count};
 use gc_heap::Heap;
+use gc_monitor::Monitor;
 use gc_words::OldAddr;
 
 /// Roots in a row, under whatever names their owner knows them.

@@ -22,7 +22,6 @@ use crate::collected_heap::CollectedHeap;
 use crate::flip::{Approved, Draft, Keep, new_image_copied};
 use crate::known::search;
 use crate::rooms::free_if;
-use gc_monitor::{Outline, Monitor, Watcher, a_yes_is_sound};
 use gc_cert::{Image, PairFile};
 use gc_check::Checks;
 use gc_copy::{
@@ -30,6 +29,7 @@ use gc_copy::{
 };
 use gc_graph::{NoMemory, root_count};
 use gc_heap::Heap;
+use gc_monitor::{Monitor, Outline, Watcher, a_yes_is_sound};
 use gc_roots::{RootLooks, RootTwins, RootWatcher, twins_are_alike};
 use std::alloc::Global;
 

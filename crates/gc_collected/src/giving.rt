@@ -17,10 +17,10 @@ ghost use Rattle.gc_collected.specs.Internal.Together.{Logs, LogsIfOpen};
 use crate::barrier::{are_sound_in, reserve_in};
 use crate::collected_heap::CollectedHeap;
 use crate::places::has_made;
-use gc_monitor::Monitor;
 use gc_copy::{Collection, heaps_have_addresses_as_names};
 use gc_graph::{NoMemory, Number, Reply, root_count};
 use gc_heap::Heap;
+use gc_monitor::Monitor;
 use gc_words::{Addr, Header, OldAddr, Value, encode};
 
 /// What a field of a new object takes.

@@ -14,10 +14,10 @@ ghost use Rattle.gc_collected.specs.Internal.Found.{IsAtStart, FindsFirst, IsMis
 ghost use Rattle.gc_collected.specs.Collected.{HasLookedOn};
 ghost use Rattle.gc_collected.specs.declared.known.Found.{Found};
 
-use gc_monitor::Monitor;
 use gc_copy::{Collection, MissingRoot};
 use gc_graph::{NoMemory, root_count};
 use gc_heap::Heap;
+use gc_monitor::Monitor;
 use gc_roots::{RootLooks, RootTwins};
 use std::alloc::Global;
 

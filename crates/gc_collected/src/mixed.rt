@@ -15,10 +15,10 @@ ghost use Rattle.gc_collected.specs.Internal.Together.{Logs, LogsIfOpen, Perform
 
 use crate::barrier::{are_sound_in, reserve_in};
 use crate::collected_heap::CollectedHeap;
-use gc_monitor::Monitor;
 use gc_copy::{Collection, heaps_have_addresses_as_names};
 use gc_graph::{NoMemory, Number, Reply, Slot};
 use gc_heap::Heap;
+use gc_monitor::Monitor;
 use gc_words::OldAddr;
 
 /// What a field of a new object takes.

@@ -23,10 +23,10 @@ use crate::barrier::{are_shown, are_sound_in, note_row, reserve_in};
 use crate::collected_heap::CollectedHeap;
 use crate::copying::object;
 use crate::places::has_made;
-use gc_monitor::Monitor;
 use gc_copy::{Collection, heaps_have_addresses_as_names};
 use gc_graph::{NoMemory, Reply, root_count};
 use gc_heap::Heap;
+use gc_monitor::Monitor;
 use gc_words::{Header, OldAddr};
 
 /// Numbers in a row, in whatever form their owner has it. They may be read from two objects of the heap.

@@ -15,10 +15,10 @@ use crate::barrier::reserve_in;
 use crate::collected_heap::CollectedHeap;
 use crate::copying::{object, put_words};
 use crate::places::field_number;
-use gc_monitor::Monitor;
 use gc_copy::Collection;
 use gc_graph::{NoMemory, Number, Reply, root_count};
 use gc_heap::{Heap, field_word};
+use gc_monitor::Monitor;
 use gc_words::{Value, encode};
 
 /// A value that refers to no object.

@@ -9,10 +9,10 @@ use crate::cells::{Cells, CellsEnd};
 use crate::copier::Copier;
 use crate::held::{Held, NoFlip};
 use crate::plays::Got;
-use gc_monitor::{Outline, a_yes_is_sound};
 use gc_check::{CheckFault, Checks};
 use gc_copy::linked_pairs;
 use gc_graph::NoMemory;
+use gc_monitor::{Outline, a_yes_is_sound};
 use gc_words::{ImageRef, no_fault_where_certified};
 use std::alloc::Global;
 

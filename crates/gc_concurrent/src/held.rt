@@ -32,9 +32,9 @@ use crate::next::{NextSpace, Opened};
 use crate::plays::{Roles, Took};
 use crate::spare::{Former, Spare};
 use crate::watching::tell;
-use gc_monitor::Monitor;
 use gc_check::Checks;
 use gc_graph::NoMemory;
+use gc_monitor::Monitor;
 use std::alloc::{AllocError, AllocFailed, Global};
 use std::sync::Arc;
 

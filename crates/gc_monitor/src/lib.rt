@@ -4,17 +4,17 @@
 
 mod code_row;
 mod laws;
+mod monitor;
 mod old_row;
 mod origin_row;
 mod outline;
-mod monitor;
 mod telling;
 mod walking;
 mod watcher;
 mod zeros;
 
 pub use laws::origins_tell_pairs;
-pub use outline::Outline;
 pub use monitor::Monitor;
+pub use outline::Outline;
 pub use telling::{a_yes_is_sound, events_keep_telling, writes_keep_telling};
 pub use watcher::Watcher;

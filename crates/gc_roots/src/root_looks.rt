@@ -11,8 +11,8 @@ ghost use Rattle.gc_roots.specs.Looks.{LookRow, HasLooked, IsCompared, IsTold, C
 ghost use Rattle.gc_roots.specs.Internal.Rows.{HasLookedAtAll};
 
 use crate::due::DueRow;
-use gc_monitor::{Outline, Monitor, Watcher};
 use gc_graph::NoMemory;
+use gc_monitor::{Monitor, Outline, Watcher};
 use std::alloc::Global;
 use std::marker::Model;
 

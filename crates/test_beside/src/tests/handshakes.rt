@@ -2,10 +2,10 @@
 use gc_check::{CheckFault, Checks, Sequential, Yes};
 use gc_concurrent::{Collector, Holding, NoFlip, Runner, Waiting, Work, open, open_with};
 use gc_graph::{Number, Op, Reply, View};
-use test_kit::commands::{get, new, num, own, put, saw};
 use gc_words::{ImageRef, Pair};
 use std::alloc::Global;
 use std::test::Fail;
+use test_kit::commands::{get, new, num, own, put, saw};
 
 /// The steps that a test lets a collector perform at most.
 const MOST_STEPS: u32 = 1_000_000;

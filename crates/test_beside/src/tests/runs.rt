@@ -3,9 +3,9 @@ ghost use Rattle.gc_graph.specs.Machine.{HasMutator};
 
 use gc_concurrent::{beside_collector, mutate, open};
 use gc_graph::{NoMemory, Number, Op, Plain, Reply, Slot, View};
-use test_kit::commands::{new, num, own};
 use std::alloc::{AllocError, Global};
 use std::test::Fail;
+use test_kit::commands::{new, num, own};
 
 /// A number that looks random.
 fn next(state: u64) -> u64 {

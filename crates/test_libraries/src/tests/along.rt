@@ -1,6 +1,6 @@
 //! Tests of the standing checker: collectors that are wrong, and what it says of them.
 
-use gc_monitor::{Outline, Monitor};
+use gc_monitor::{Monitor, Outline};
 use std::alloc::Global;
 use std::process::Abort;
 use std::test::Fail;

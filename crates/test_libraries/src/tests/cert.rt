@@ -1,11 +1,11 @@
 use gc_cert::{PairFault, WriteFault, pair_fits, read_pair, write_pair};
 use gc_graph::{Sink, Source};
-use test_kit::streams::{End, Narrow, Same, Slow};
 use gc_words::{ImageRef, NewAddr, OldAddr, Pair};
 use std::alloc::Global;
 use std::io::Read;
 use std::process::Abort;
 use std::test::Fail;
+use test_kit::streams::{End, Narrow, Same, Slow};
 
 /// Two images without objects.
 const LEAST: &[u8] = b"heappair 1\nold 1 1\n0\nroots 1\n0\nnew 1 1\n0\nroots 1\n0\npairs 0\nend\n";

@@ -7,12 +7,12 @@ use gc_check::Sequential;
 use gc_collected::{CollectedHeap, Keep, NewSpace};
 use gc_copy::{LogEntry, Step, StepReply};
 use gc_graph::{NoMemory, Reply, View};
-use test_kit::commands::{get, new, num, own, put, saw};
 use gc_words::{NewAddr, OldAddr, Pair};
 use rows::{Row, play};
 use std::alloc::Global;
 use std::process::Abort;
 use std::test::Fail;
+use test_kit::commands::{get, new, num, own, put, saw};
 
 /// Returns a heap with an open collection, in which a number was written into an object after its field was scanned.
 fn written_while_scanning(rt: &impl Abort, alloc: Global) -> Result<CollectedHeap, NoMemory>

@@ -7,12 +7,12 @@ ghost use Rattle.gc_copy.specs.Words.{BelongsTo, HasNoLinks};
 use gc_copy::{Collection, StepReply};
 use gc_graph::{NoMemory, Op, Reply, Slot, View};
 use gc_heap::Heap;
-use test_kit::commands::{get, new, num, own, put, saw};
 use gc_words::{NewAddr, OldAddr, Pair};
 use rows::{Row, play, play_idle};
 use std::alloc::Global;
 use std::process::Abort;
 use std::test::Fail;
+use test_kit::commands::{get, new, num, own, put, saw};
 
 /// Returns a heap without objects.
 fn empty(alloc: Global, size: u32, mutators: u8) -> Result<Heap, NoMemory>

@@ -6,9 +6,9 @@ use gc_collected::{Checking, CollectedHeap, Keep};
 use gc_copy::StepReply;
 use gc_graph::{Reply, Slot, View};
 use gc_heap::{Heap, HeapOptions};
-use test_kit::commands::own;
 use std::process::Abort;
 use std::test::Fail;
+use test_kit::commands::own;
 
 /// A heap of 64 words with two mutators and this many extra roots.
 fn with_extra_roots(extra_roots: u32) -> HeapOptions

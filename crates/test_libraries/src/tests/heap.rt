@@ -4,11 +4,11 @@ ghost use Rattle.gc_graph.specs.Machine.{HasMutator};
 
 use gc_graph::{NoMemory, Number, Op, Plain, Reply, Slot, View};
 use gc_heap::Heap;
-use test_kit::commands::new;
 use gc_words::{NewAddr, OldAddr, Space};
 use std::alloc::Global;
 use std::process::Abort;
 use std::test::Fail;
+use test_kit::commands::new;
 
 /// Performs a command of the first mutator and keeps its reply.
 fn keep_reply(heap: &mut Heap, op: &Op, replies: &mut Vec<Reply>) -> Result<(), NoMemory>

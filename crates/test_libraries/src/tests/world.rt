@@ -3,7 +3,6 @@ mod rows;
 
 use gc_copy::{Step, StepReply};
 use gc_graph::{Number, Op, Reply, Slot, View};
-use test_kit::commands::new;
 use gc_words::{NewAddr, OldAddr, Pair};
 use gc_world::World;
 use rows::{Row, play};
@@ -11,6 +10,7 @@ use std::alloc::Global;
 use std::process::Abort;
 use std::test::Fail;
 use std::thread::Threads;
+use test_kit::commands::new;
 
 /// Returns the rows of a run that collects a full heap and then allocates again.
 fn full_and_collected(r0: Slot, r1: Slot) -> [Row; 16] {

@@ -7,10 +7,10 @@ use gc_collected::{Checking, CollectedHeap, Keep};
 use gc_copy::{StepReply, StepRun};
 use gc_graph::{NoMemory, Op};
 use gc_heap::HeapOptions;
-use test_kit::commands::{new, num, own, put};
 use std::alloc::Global;
 use std::process::Abort;
 use std::test::Fail;
+use test_kit::commands::{new, num, own, put};
 
 /// Returns a heap whose flips the standing checker decides. Its first slot refers to a list of objects: pairs, raw objects, one without fields
 /// and one of 40 fields, each of which refers to the one before.
@@ -233,7 +233,12 @@ fn runs_apply_as_single_entries(rt: HostRuntime) -> Result<(), Fail> {
         for fresh_at in [0, 13, 29, 30] {
             let mut heap = apply_both(&rt, rt.alloc(), most, fresh_at)?;
             assert!(rt; heap.log_len(0) == 0);
-            assert!(rt; matches!(heap.flip(&Sequential, Keep::Room)?, StepReply::Flipped { .. }));
+            assert!(rt;
+                matches!(
+                    heap.flip(&Sequential, Keep::Room)?,
+                    StepReply::Flipped { .. }
+                )
+            );
             assert_eq!(rt;
                 (heap.flip_checks().along, heap.flip_checks().whole),
                 (1, 0)

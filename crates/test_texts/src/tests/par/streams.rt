@@ -4,8 +4,8 @@ use super::texts::{LEAST, TEXT_CHECKS, line};
 use gc_cert::PairFault;
 use gc_check::RunFault;
 use gc_graph::{Sink, Source};
-use test_kit::streams::{End, Narrow, Slow};
 use std::test::Fail;
+use test_kit::streams::{End, Narrow, Slow};
 
 #[test]
 fn a_reader_that_fails_is_named(rt: HostRuntime) -> Result<(), Fail> {

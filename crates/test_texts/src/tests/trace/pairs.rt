@@ -9,10 +9,10 @@ use crate::tests::trace::rows::{
 };
 use gc_check::{Verdict, check_text};
 use gc_graph::{Sink, Source};
-use test_kit::streams::{End, Narrow, Slow};
 use gc_trace::{PlayFault, TraceFault, play_pair};
 use std::alloc::Global;
 use std::test::Fail;
+use test_kit::streams::{End, Narrow, Slow};
 
 /// The pair of a collection in a full space: one of two objects is copied, and the other is garbage.
 pub const ONE_KEPT: &[u8] = b"\

@@ -4,9 +4,9 @@ use crate::tests::trace::rows::{NO_EVENTS, ONE_OBJECT_FILLS_THE_SPACE, ROWS};
 use crate::tests::trace::texts::{count_of, flips, played, played_to};
 use crate::tests::trace::worlds::run_of;
 use gc_graph::{Sink, Source};
-use test_kit::streams::{End, Narrow, Slow, Taking};
 use gc_trace::{PlayFault, Report, TraceFault, play};
 use std::test::Fail;
+use test_kit::streams::{End, Narrow, Slow, Taking};
 
 #[test]
 fn replies_are_those_of_the_worked_rows(rt: HostRuntime) -> Result<(), Fail> {

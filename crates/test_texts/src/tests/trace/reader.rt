@@ -2,10 +2,10 @@ use crate::tests::trace::rows::ONE_OBJECT_FILLS_THE_SPACE;
 use crate::tests::trace::texts::{count_of, flips};
 use gc_copy::Step;
 use gc_graph::{Op, Sink, Slot, Source};
-use test_kit::streams::{End, Giving, Same, Slow};
 use gc_trace::{PlayFault, TraceFault, play, read_trace};
 use gc_world::Event;
 use std::test::Fail;
+use test_kit::streams::{End, Giving, Same, Slow};
 
 /// Bad texts, with slashes for line feeds, and the first fault of each.
 const BAD_TEXTS: [(&str, TraceFault); 21] = [

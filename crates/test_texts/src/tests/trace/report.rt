@@ -4,10 +4,10 @@ use crate::tests::trace::worlds::run_of;
 use gc_cert::WriteFault;
 use gc_copy::StepReply;
 use gc_graph::{Sink, Source};
-use test_kit::streams::{End, Narrow, Slow};
 use gc_trace::{PlayFault, Report, TraceFault, play, play_report, report_of, write_report};
 use std::alloc::Global;
 use std::test::Fail;
+use test_kit::streams::{End, Narrow, Slow};
 
 /// A report whose numbers are all 0.
 pub const NOTHING: Report = Report {

@@ -1,11 +1,11 @@
 //! A long trace, and helpers that play or read a text.
 
 use gc_graph::{Sink, Source};
-use test_kit::streams::Narrow;
 use gc_trace::{PlayFault, Report, TraceFault, play, read_trace};
 use std::alloc::Global;
 use std::io::Read;
 use std::test::Fail;
+use test_kit::streams::Narrow;
 
 /// A trace of so many `flip` steps without a collection. It has 31 bytes, and 7 for each step.
 pub fn flips(alloc: Global, steps: usize) -> Result<Vec<u8>, Fail> {

@@ -5,13 +5,13 @@ use crate::tests::trace::worlds::run_of;
 use gc_cert::WriteFault;
 use gc_copy::{Step, StepReply};
 use gc_graph::{NoMemory, Number, Op, Reply, Sink, Slot, Source};
-use test_kit::streams::{End, Narrow, Taking};
 use gc_trace::{read_trace, run_trace, write_trace};
 use gc_world::{Entry, World};
 use std::alloc::Global;
 use std::process::Abort;
 use std::test::Fail;
 use std::thread::Threads;
+use test_kit::streams::{End, Narrow, Taking};
 
 /// Plays the text and returns the trace text of the run's history.
 fn written_back(alloc: Global, text: &[u8]) -> Result<Vec<u8>, Fail> {

@@ -2,10 +2,10 @@
 
 use gc_graph::{Op, Reply, View};
 use gc_shared::{Seat, Shared};
-use test_kit::commands::{get, new, num, own, put, saw};
 use std::process::Abort;
 use std::sync::Wait;
 use std::test::Fail;
+use test_kit::commands::{get, new, num, own, put, saw};
 
 /// Returns the nine commands with their replies. They use a mutator's own slots alone, so each mutator gets the same.
 fn commands(rt: &impl Abort) -> [(Op, Reply); 9] {

@@ -4,10 +4,10 @@ ghost use Rattle.std.specs.Prelude.{◌≡◌, IfOk, vec_len};
 
 use gc_graph::Op;
 use gc_shared::{Gate, run_threads};
-use test_kit::commands::own;
 use std::alloc::{AllocError, Global};
 use std::sync::atomic::{AtomicU64, Ordering};
 use std::test::Fail;
+use test_kit::commands::own;
 
 /// How many calls each seat makes.
 const CALLS: usize = 20;
