@@ -7,7 +7,7 @@ from gcflip_drawing.picture import Picture
 
 BOX_WIDTH, BOX, GAP, LEFT, TOP = 138, 24, 6, 8, 8
 # The distance of the first track from the boxes, and of a track from the next one.
-FIRST_TRACK, TRACK = 26, 26
+FIRST_TRACK, TRACK = 26, 20
 # Where the arrow to a crate ends at its box, below its upper side. Those to the crates that it uses begin below.
 HEAD = 5
 # The size of the dot where an arrow of a further user joins.

@@ -371,14 +371,14 @@ def crates(_program, _folder):
     found = sorted(crates_picture.arrows_of(uses))
     wanted = [("left", "low"), ("right", "low"), ("top", "left"), ("top", "right")]
     yield "a crate that is used through another one has no arrow", None if found == wanted else "arrows %s" % found
-    yield "drawing of four crates", wrong_drawing(crates_picture.drawn(uses, "four"))
+    yield "drawing of four crates", wrong_drawing(crates_picture.drawn((uses, {}), "four"))
     many = {"top": list("abcdef"), **{name: [] for name in "abcdef"}}
-    drawn = crates_picture.drawn(many, "many")
+    drawn = crates_picture.drawn((many, {}), "many")
     found = joined_crates(drawn, {shape["text"]: shape for shape in drawn.shapes if shape["kind"] == "box" and shape["text"]})
     yield "a crate that uses six others", wrong_drawing(drawn) or wrong(found, {("top", name) for name in "abcdef"})
     with open(os.path.join(TOP, "crates.txt"), encoding="utf-8") as file:
-        listed = crates_picture.read_crates(file.read())
-    drawn = crates_picture.drawn(listed, "crates.txt")
+        listed, groups = crates_picture.read_crates(file.read())
+    drawn = crates_picture.drawn((listed, groups), "crates.txt")
     boxes = {shape["text"]: shape for shape in drawn.shapes if shape["kind"] == "box" and shape["text"]}
     through = {name for points in lines_of(drawn, "uses") for start, end in zip(points, points[1:]) for part in range(65) for name, box in boxes.items()
                if strictly_within((start[0] + (end[0] - start[0]) * part / 64, start[1] + (end[1] - start[1]) * part / 64), box)}
@@ -388,16 +388,16 @@ def crates(_program, _folder):
     yield "the lines of crates.txt join what its arrows say", None if found == wanted else "too many: %s, missing: %s" % (found - wanted, wanted - found)
     upward = [(upper, lower) for upper, lower in wanted if boxes[upper]["y"] >= boxes[lower]["y"]]
     yield "each crate is above those that it uses", None if not upward else "not so: %s" % upward
-    grouped = [name for _, members in crates_picture.GROUPS.values() for name in members]
+    grouped = [name for members in groups.values() for name in members]
     yield "each crate is in one group", None if sorted(grouped) == sorted(listed) else "in groups: %s" % sorted(grouped)
-    yield "each band has its crates, and no other", wrong(bands_of(drawn, boxes), {name: set(members) for name, members in crates_picture.GROUPS.values()})
+    yield "each band has its crates, and no other", wrong(bands_of(drawn, boxes), {name: set(members) for name, members in groups.items()})
     with open(os.path.join(TOP, "docs", "ARCHITECTURE.md"), encoding="utf-8") as file:
         rows = re.findall(r"(?m)^\| (?:\*\*(.*?)\*\*: [^|]*)?\| (\w+) \| [^|]+ \|$", file.read())
     told, last = {}, ""
     for group, crate in rows:
         last = group or last
         told.setdefault(last, []).append(crate)
-    yield "docs/ARCHITECTURE.md has the same groups", wrong(list(told.items()), list(crates_picture.GROUPS.values()))
+    yield "docs/ARCHITECTURE.md has the same groups", wrong(list(told.items()), list(groups.items()))
 
 
 # ---- the tool
