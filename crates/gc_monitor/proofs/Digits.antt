@@ -248,3 +248,53 @@ freed_codes word k within =
     few j =
         let ones_one : code_in 6148914691236517205 j ≤ 1 = subst (λ n. n ≤ 1) (ap (λ n. digit n j) (sym all) ∙ digit_is 6148914691236517205 j) (ones_few 32 j) in
         subst (λ n. n ≤ 1) (sym (digit_is (twos word) j ∙ each j)) (let low = and_le_r (bit_and (code_in (word / 2) j) (bit_xor (code_in (word / 2) j) (code_in word j))) (code_in 6148914691236517205 j) in omega arith)
+
+-- ---- runs of a word, as the code tests them
+
+ones_code : (k : ℕ) → k < 32 → code_in 6148914691236517205 k ≡ 1
+unfolding ones
+ones_code k within = sym (digit_is 6148914691236517205 k) ∙ ap (λ n. digit n k) all ∙ ones_in 32 k within
+  where
+    all : 6148914691236517205 ≡ ones 32
+    all = refl
+
+-- threes at some places, as ones there
+pub ones_there : (run k : ℕ) → k < 32 → code_in run k ≡ 3 → code_in (bit_and run 6148914691236517205) k ≡ 1
+ones_there run k within three = code_and run 6148914691236517205 k ∙ (λ i. bit_and (three i) (ones_code k within i))
+
+pub ones_beside : (run k : ℕ) → code_in run k ≡ 0 → code_in (bit_and run 6148914691236517205) k ≡ 0
+ones_beside run k none = code_and run 6148914691236517205 k ∙ ap (λ n. bit_and n (code_in 6148914691236517205 k)) none
+
+and_three : (x : ℕ) → x < 4 → bit_and x 3 ≡ x
+and_three x few = grind (arith, common_steps)
+
+-- the code of a word where a run has threes
+pub within_run : (word run k : ℕ) → code_in run k ≡ 3 → code_in (bit_and word run) k ≡ code_in word k
+within_run word run k three = code_and word run k ∙ ap (bit_and (code_in word k)) three ∙ and_three (code_in word k) (omega arith)
+
+-- a word has no code 0 in a run if each code there has one of its bits
+pub no_zero_there : (word run k : ℕ) → k < 32 → code_in run k ≡ 3 → bit_and (bit_or word (word / 2)) (bit_and run 6148914691236517205) ≡ bit_and run 6148914691236517205 → code_in word k ≢ 0
+no_zero_there word run k within three same none =
+    let one : code_in (bit_and run 6148914691236517205) k ≡ 1 = ones_there run k within three in
+    let half : code_in (word / 2) k % 2 ≡ 0 = high_bit word k ∙ ap (λ n. n / 2) none in
+    let both : code_in (bit_or word (word / 2)) k ≡ code_in (word / 2) k = code_or word (word / 2) k ∙ ap (λ n. bit_or n (code_in (word / 2) k)) none in
+    let left : code_in (bit_and (bit_or word (word / 2)) (bit_and run 6148914691236517205)) k ≡ bit_and (code_in (word / 2) k) 1
+    = code_and (bit_or word (word / 2)) (bit_and run 6148914691236517205) k ∙ (λ i. bit_and (both i) (one i)) in
+    let no : bit_and (code_in (word / 2) k) 1 ≡ 1 = sym left ∙ ap (λ n. code_in n k) same ∙ one in
+    grind (arith, common_steps)
+
+-- ---- the codes of an object
+
+object_code : (j : ℕ) → digit 13 (suc (suc j)) ≡ 0
+unfolding digit
+object_code j = digit_zero j
+
+-- the codes of a word from a place on
+from_place : (word place j : ℕ) → code_in (word / 2 ^ (2 * place)) j ≡ code_in word (place + j)
+from_place word place j = ap (λ n. n % 4) (shr-shr word (2 * place) (2 * j) ∙ ap (λ n. word / 2 ^ n) (let e : 2 * place + 2 * j ≡ 2 * (place + j) = omega arith in e))
+
+pub object_there : (word place run j : ℕ) → code_in run j ≡ 3 → bit_and (word / 2 ^ (2 * place)) run ≡ 13 → code_in word (place + j) ≡ code_in 13 j
+object_there word place run j three is = sym (from_place word place j) ∙ sym (within_run (word / 2 ^ (2 * place)) run j three) ∙ ap (λ n. code_in n j) is
+
+pub object_fields : (j : ℕ) → code_in 13 (suc (suc j)) ≡ 0
+object_fields j = sym (digit_is 13 (suc (suc j))) ∙ object_code j

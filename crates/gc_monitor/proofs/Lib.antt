@@ -15,6 +15,7 @@ pub mod Halves
 pub mod RowsAgree
 pub mod Marks
 pub mod RowsDue
+pub mod News
 pub mod ToldTruth
 pub mod Plain
 pub mod Public

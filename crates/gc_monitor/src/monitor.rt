@@ -1,14 +1,12 @@
 mod loading;
 mod looking;
 
-use crate::code_row::CodeRow;
+use crate::new_row::NewRow;
 use crate::old_row::OldRow;
 use crate::origin_row::OriginRow;
 use crate::origins_tell_pairs;
 use crate::outline::Outline;
-use crate::walking::{
-    DUE, START, TAKEN, add_codes, claim_in, code_of, is_copy, next_header, next_within,
-};
+use crate::walking::{START, TAKEN, claim_in, is_copy, next_header, next_within};
 use crate::watcher::Watcher;
 use gc_graph::NoMemory;
 use gc_words::{Addr, Header, Value, decode_wide, field_index};
@@ -25,7 +23,7 @@ pub struct Monitor {
     /// By old place, as far as the old space is walked: 0, `START` or `TAKEN`.
     olds: OldRow,
     /// By new place, as far as the new space is walked: 0, `START` or `DUE`.
-    news: CodeRow,
+    news: NewRow,
     /// By new place: the original of the replica that starts here, or 0.
     origins: OriginRow,
     /// The number of places that are due.
@@ -81,7 +79,7 @@ impl Monitor {
         ensures { IfOk result (λ standing. standing ≡ opening_tables size) }
     {
         let olds = OldRow::new(alloc, size)?;
-        let news = CodeRow::new(alloc, size)?;
+        let news = NewRow::new(alloc, size)?;
         let origins = OriginRow::new(alloc, size)?;
         Ok(Monitor {
             olds,
@@ -99,7 +97,7 @@ impl Monitor {
     {
         Monitor {
             olds: OldRow::absent(alloc),
-            news: CodeRow::absent(alloc),
+            news: NewRow::absent(alloc),
             origins: OriginRow::absent(alloc),
             missing: 0,
             room: 0,
@@ -252,7 +250,7 @@ impl Monitor {
     {
         self.olds.take(original as usize);
         self.origins.add(header.len(), original);
-        add_codes(&mut self.news, header.len(), due);
+        self.news.add(header.len(), due, header.is_raw());
         self.missing += due_words(header.len(), due);
     }
 
@@ -335,7 +333,7 @@ impl Monitor {
             return;
         }
         let dues = self.news.count_from(place, count);
-        self.news.set_from(place, count, true);
+        self.news.set_from(place, count);
         self.missing += count - dues;
     }
 
@@ -417,7 +415,7 @@ impl Monitor {
         requires within { place < length self.old.news }
         ensures { self.new ≡ with_due self.old place due }
     {
-        let was = self.news.replace(place, code_of(due)) == DUE;
+        let was = self.news.set_due(place, due);
         self.missing = recounted(self.missing, was, due);
     }
 
@@ -568,6 +566,7 @@ impl Monitor {
         if self.lost {
             return;
         }
+        self.news.settle_rest(self.missing);
         self.olds.exchange(&mut self.news);
         self.news.restart();
         self.origins.restart();

@@ -1,0 +1,138 @@
+/* Measures the longest call of paced work of a program that has many extra roots in use: root_calls [ROOTS [ROUNDS]]
+ *
+ * A program makes short lists in a heap of 2^22 words, on the library's pace, with no extra root, with ROOTS of them in use (2^20 by default), and with
+ * as many while it stores nil, numbers and references to low ones at random, four for each list. It does the same in each of ROUNDS rounds, 7 by
+ * default. Prints the longest call of work: of each call the least time of all rounds, and of these the greatest; and the time that 99.9 % of the
+ * calls do not exceed. */
+#include <stdio.h>
+#include <stdlib.h>
+#include <time.h>
+
+#include "gcflip_heap.h"
+
+enum {
+    SIZE = 1 << 22, /* words */
+    OBJECTS = 1024, /* what the roots refer to */
+    LISTS = 200000,
+    PAIRS = 4,  /* of a list, of four words each */
+    STORES = 4, /* for each list */
+    LOW = 4096, /* of so many roots */
+    LIST = 16,  /* places: three slots of mutator 0, and the first extra root */
+    HEAD,
+    NUMBER,
+    ROOT = 32
+};
+
+/* What the program does with extra roots. */
+enum roots { NONE, IN_USE, STORED_TO };
+
+static gcflip_heap heap = GCFLIP_NO_HEAP;
+static gcflip_pace pace;
+static double least[LISTS]; /* of each call, in microseconds */
+static unsigned long collections;
+
+static void must(uint32_t answer, uint32_t wanted, const char *call)
+{
+    if (answer != wanted) {
+        fprintf(stderr, "root_calls: %s: %s\n", call, gcflip_answer_name(answer));
+        exit(1);
+    }
+}
+
+static double microseconds(void)
+{
+    struct timespec now;
+    clock_gettime(CLOCK_MONOTONIC, &now);
+    return now.tv_sec * 1e6 + now.tv_nsec / 1e3;
+}
+
+/* Opens a heap whose extra roots refer to the objects in turn. */
+static void open_heap(uint32_t roots)
+{
+    gcflip_options options = gcflip_options_default(SIZE, 1);
+    options.extra_roots = roots;
+    must(gcflip_heap_open(&heap, &options), GCFLIP_DONE, "open");
+    must(gcflip_heap_touch(&heap), GCFLIP_DONE, "touch");
+    pace = gcflip_pace_default();
+    must(gcflip_set_number(&heap, NUMBER, 7), GCFLIP_DONE, "set_number");
+    for (uint32_t k = 0; k < roots; k++)
+        if (k < OBJECTS)
+            must(gcflip_new(&heap, ROOT + k, 1, 2), GCFLIP_MADE, "new");
+        else
+            must(gcflip_copy(&heap, ROOT + k, ROOT + k % OBJECTS), GCFLIP_DONE, "copy");
+}
+
+/* Stores nil, a number or a reference to low roots. */
+static void store(uint32_t roots, uint64_t *random)
+{
+    for (int i = 0; i < STORES; i++) {
+        *random ^= *random << 13;
+        *random ^= *random >> 7;
+        *random ^= *random << 17;
+        uint32_t place = ROOT + (uint32_t)(*random >> 40) % LOW;
+        switch (*random % 3) {
+        case 0:
+            must(gcflip_set_nil(&heap, place), GCFLIP_DONE, "set_nil");
+            break;
+        case 1:
+            must(gcflip_set_number(&heap, place, *random >> 20), GCFLIP_DONE, "set_number");
+            break;
+        default:
+            must(gcflip_copy(&heap, place, ROOT + roots - 1 - (uint32_t)(*random >> 30) % OBJECTS), GCFLIP_DONE, "copy");
+        }
+    }
+}
+
+/* Makes a list, after the work that is due for it. Returns the microseconds of the call of work. */
+static double make_list(void)
+{
+    gcflip_work work = {0, 0, 0, 0, 0};
+    double began = microseconds();
+    must(gcflip_heap_work_paced(&heap, &pace, 4 * PAIRS, &work), GCFLIP_DONE, "work_paced");
+    double taken = microseconds() - began;
+    if (work.last == GCFLIP_NO_ROOM)
+        must(work.last, GCFLIP_FLIPPED, "work_paced");
+    collections += work.last == GCFLIP_FLIPPED;
+    must(gcflip_set_nil(&heap, LIST), GCFLIP_DONE, "set_nil");
+    for (int i = 0; i < PAIRS; i++)
+        must(gcflip_new_pair(&heap, LIST, 1, NUMBER, LIST), GCFLIP_MADE, "new_pair");
+    return taken;
+}
+
+static void run(uint32_t roots, enum roots kind, int round)
+{
+    uint64_t random = 88172645463325252u;
+    open_heap(kind == NONE ? 0 : roots);
+    collections = 0;
+    for (int k = 0; k < LISTS; k++) {
+        double taken = make_list();
+        if (kind == STORED_TO)
+            store(roots, &random);
+        least[k] = round == 0 || taken < least[k] ? taken : least[k];
+    }
+    must(gcflip_heap_close(&heap), GCFLIP_DONE, "close");
+}
+
+static int compare(const void *one, const void *other)
+{
+    double x = *(const double *)one, y = *(const double *)other;
+    return (x > y) - (x < y);
+}
+
+int main(int count, char **words)
+{
+    uint32_t roots = count > 1 ? (uint32_t)strtoul(words[1], NULL, 10) : 1 << 20;
+    int rounds = count > 2 ? atoi(words[2]) : 7;
+    static const char *const names[] = {[NONE] = "no extra roots", [IN_USE] = "roots in use", [STORED_TO] = "low roots stored to"};
+    if (roots < LOW || rounds < 1) {
+        fprintf(stderr, "root_calls [ROOTS [ROUNDS]]: at least %d roots, and one round\n", LOW);
+        return 2;
+    }
+    for (int kind = NONE; kind <= STORED_TO; kind++) {
+        for (int round = 0; round < rounds; round++)
+            run(roots, (enum roots)kind, round);
+        qsort(least, LISTS, sizeof *least, compare);
+        printf("%s: longest call of work %.1f us, 99.9 %% of the calls %.1f us, %lu collections\n", names[kind], least[LISTS - 1], least[LISTS - 1 - LISTS / 1000], collections);
+    }
+    return 0;
+}
