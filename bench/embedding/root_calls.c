@@ -95,7 +95,7 @@ static double make_list(void)
     collections += work.last == GCFLIP_FLIPPED;
     must(gcflip_set_nil(&heap, LIST), GCFLIP_DONE, "set_nil");
     for (int i = 0; i < PAIRS; i++)
-        must(gcflip_new_pair(&heap, LIST, 1, NUMBER, LIST), GCFLIP_MADE, "new_pair");
+        must(gcflip_new_pair(&heap, 0, LIST, 1, NUMBER, LIST), GCFLIP_MADE, "new_pair");
     return taken;
 }
 
