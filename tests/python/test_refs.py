@@ -114,6 +114,16 @@ class Texts(unittest.TestCase):
         self.assertEqual((len(empty), bytes(empty), bytes(empty[:]), bytes(empty + text), bytes(text + empty)), (0, b"", b"", data, data))
         self.assertEqual(text[0], int.from_bytes(data[:7], "little"))
 
+    def test_what_was_made_is_counted(self):
+        other = self.heap.make_bytes(1, bytes(11))
+        for count in range(30):
+            before = self.heap.stats()
+            text = self.heap.make_bytes(1, bytes(count))
+            stats = self.heap.stats()
+            self.assertEqual((stats.objects, stats.words), (before.objects + 1, before.words + len(text) + 2))
+            held = [text + other, other + text, text[count // 2:]]
+            self.assertEqual(self.heap.stats().words, stats.words + sum(len(ref) + 2 for ref in held))
+
     def test_each_part(self):
         data = bytes(range(16))
         text, bounds = self.heap.make_bytes(7, data), [None, *range(-18, 19)]
@@ -144,6 +154,7 @@ class Texts(unittest.TestCase):
         held = [self.heap.make_bytes(1, b"") for _ in range(10)]
         for act in (lambda: self.heap.make_bytes(1, b""), lambda: held[0] + held[1], lambda: held[0][:]):
             self.assertRaises(gcflip.FrameFull, act)
+        del act, held
         self.heap.close()
         for act in (lambda: bytes(text), lambda: text + text, lambda: text[1:], lambda: self.heap.make_bytes(1, b"")):
             self.assertRaises(gcflip.Closed, act)
@@ -154,15 +165,15 @@ class Texts(unittest.TestCase):
             draw = random.Random(seed)
             with Heap(300, extra_roots=14) as heap:
                 held = [(heap.make_bytes(1, b""), b"")]
-                for _ in range(1000):
+                for _ in range(400):
                     self.make_one(draw, heap, held)
-                    heap.work(draw.randrange(4))
+                    heap.work(draw.randrange(1, 5))
                     while len(held) > 8:
                         held.pop(draw.randrange(len(held)))
                     for ref, data in held:
                         self.assertEqual((bytes(ref), len(ref)), (data, (len(data) + 6) // 7))
                 stats, held = heap.stats(), None
-                self.assertGreater(stats.flips, 20)
+                self.assertGreater(stats.flips, 5)
 
     def make_one(self, draw, heap, held):
         (one, data), (other, more), act = draw.choice(held), draw.choice(held), draw.randrange(4)
