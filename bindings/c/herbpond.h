@@ -630,6 +630,101 @@ static inline double hp_double(hp *h, hp_root s)
     return real;
 }
 
+/* ---- Texts of bytes, which gcflip_heap.h describes: raw objects of a kind of the program's choice, with at most GCFLIP_MOST_BYTES bytes. A value that is
+ * no text is no object for these calls */
+
+/* Returns the number of bytes of the text in s, for the call of this name. */
+static inline uint32_t hp_count_bytes(hp *h, hp_root s, const char *call)
+{
+    uint32_t count = 0;
+
+    hp_answered(h, gcflip_bytes_length(&h->heap, hp_operand(h, s, call), &count), call);
+    return count;
+}
+
+/* Returns the number of bytes of the text in s. */
+static inline uint32_t hp_bytes_length(hp *h, hp_root s)
+{
+    return hp_count_bytes(h, s, "hp_bytes_length");
+}
+
+/* Copies `count` bytes of the text in s to `bytes`, from byte `at` on. The text has at least at + count bytes. `bytes` may be NULL if `count` is 0. */
+static inline void hp_bytes_read(hp *h, hp_root s, uint32_t at, void *bytes, size_t count)
+{
+    uint8_t none = 0, *to = count == 0 ? &none : (uint8_t *)bytes;
+
+    hp_answered(h, gcflip_bytes_read(&h->heap, hp_operand(h, s, "hp_bytes_read"), at, to, count), "hp_bytes_read");
+}
+
+/* Returns whether the texts in s and t have the same bytes. */
+static inline bool hp_bytes_same(hp *h, hp_root s, hp_root t)
+{
+    return hp_answered(h, gcflip_bytes_same(&h->heap, hp_operand(h, s, "hp_bytes_same"), hp_operand(h, t, "hp_bytes_same")), "hp_bytes_same") == GCFLIP_SAME;
+}
+
+/* Returns the order of the texts in s and t: -1, 0 or 1. The first byte in which they differ decides, as an unsigned number. If one text is the
+ * beginning of the other, the shorter one is first. */
+static inline int hp_bytes_compare(hp *h, hp_root s, hp_root t)
+{
+    int32_t order = 0;
+
+    hp_answered(h, gcflip_bytes_compare(&h->heap, hp_operand(h, s, "hp_bytes_compare"), hp_operand(h, t, "hp_bytes_compare"), &order), "hp_bytes_compare");
+    return order;
+}
+
+/* Makes room for a text of `count` bytes, and counts it. */
+static inline void hp_pay_bytes(hp *h, uint32_t kind, size_t count, const char *call)
+{
+    if (count > GCFLIP_MOST_BYTES)
+        hp_answered(h, GCFLIP_OUT_OF_RANGE, call);
+    hp_pay(h, kind, ((uint32_t)count + 6) / 7, call);
+}
+
+/* Makes a text of `count` bytes, and puts a reference to it into d. More than GCFLIP_MOST_BYTES bytes are out of range. `bytes` may be NULL if `count`
+ * is 0. */
+static inline void hp_new_bytes(hp *h, hp_root d, uint32_t kind, const void *bytes, size_t count)
+{
+    const uint8_t none = 0, *from = count == 0 ? &none : (const uint8_t *)bytes;
+    uint32_t answer;
+
+    hp_operand(h, d, "hp_new_bytes");
+    hp_pay_bytes(h, kind, count, "hp_new_bytes");
+    do
+        answer = gcflip_new_bytes(&h->heap, 0, d, kind, from, count);
+    while (hp_gave_up(h, answer));
+    hp_answered(h, answer, "hp_new_bytes");
+}
+
+/* Makes a text with the bytes of the texts in s and t, in this order, and puts a reference to it into d. Root d may be s or t. No byte leaves the heap.
+ * More than GCFLIP_MOST_BYTES bytes are out of range. */
+static inline void hp_bytes_join(hp *h, hp_root d, uint32_t kind, hp_root s, hp_root t)
+{
+    uint32_t count = hp_count_bytes(h, s, "hp_bytes_join") + hp_count_bytes(h, t, "hp_bytes_join"), answer;
+
+    hp_operand(h, d, "hp_bytes_join");
+    hp_pay_bytes(h, kind, count, "hp_bytes_join");
+    do
+        answer = gcflip_bytes_join(&h->heap, 0, d, kind, s, t);
+    while (hp_gave_up(h, answer));
+    hp_answered(h, answer, "hp_bytes_join");
+}
+
+/* Makes a text with `count` bytes of the text in s, from byte `at` on, and puts a reference to it into d. Root d may be s. No byte leaves the heap. The
+ * text in s has at least at + count bytes. */
+static inline void hp_bytes_part(hp *h, hp_root d, uint32_t kind, hp_root s, uint32_t at, uint32_t count)
+{
+    uint32_t length = hp_count_bytes(h, s, "hp_bytes_part"), answer;
+
+    hp_operand(h, d, "hp_bytes_part");
+    if (at > length || count > length - at)
+        hp_answered(h, GCFLIP_NO_FIELD, "hp_bytes_part");
+    hp_pay_bytes(h, kind, count, "hp_bytes_part");
+    do
+        answer = gcflip_bytes_part(&h->heap, 0, d, kind, s, at, count);
+    while (hp_gave_up(h, answer));
+    hp_answered(h, answer, "hp_bytes_part");
+}
+
 /* ---- Weak handles, and tokens for finalizers
  *
  * A weak handle does not keep its object alive. Once the object died, the handle gives nothing, and the layer tells the program the handle's token. So

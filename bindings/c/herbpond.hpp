@@ -19,6 +19,16 @@
 // - std::uint64_t below 2^63, a plain number. Fields of raw objects are of this type, and hold 0 at first;
 // - another such type, for a reference to an object of its kind.
 //
+// Objects of a type that has `static constexpr bool text = true`, and no fields, are texts of bytes:
+//
+//     struct Name {
+//         static constexpr std::uint32_t kind = 2;
+//         static constexpr bool text = true;
+//     };
+//
+//     herbpond::Root<Name> name = heap.join(heap.make_text<Name>("herb"), heap.make_text<Name>("pond"));
+//     std::string bytes = name.read();
+//
 // No Root and no Weak may outlive its Heap. One thread at a time uses a Heap and what belongs to it. The calls of herbpond.h can be made on
 // Heap::layer() too; its register 0 is this header's own.
 #ifndef HERBPOND_HPP
@@ -31,6 +41,7 @@
 #include <new>
 #include <stdexcept>
 #include <string>
+#include <string_view>
 #include <type_traits>
 #include <utility>
 
@@ -87,6 +98,19 @@ template <class K, class = void> struct IsRaw : std::false_type {
 };
 template <class K> struct IsRaw<K, std::enable_if_t<K::raw>> : std::true_type {
 };
+
+template <class K, class = void> struct IsText : std::false_type {
+};
+template <class K> struct IsText<K, std::enable_if_t<K::text>> : std::true_type {
+};
+
+// A kind of texts, which a call needs.
+template <class K> constexpr std::uint32_t text_kind()
+{
+    static_assert(IsText<K>::value, "the kind has no texts");
+    static_assert(K::kind < HP_KIND_SPINE, "a kind is below 253");
+    return K::kind;
+}
 
 // The register through which boxed doubles pass. It holds nil between two calls, also after one that throws.
 constexpr hp_root passing = 0;
@@ -167,12 +191,37 @@ public:
     // Makes an object of kind K. Performs the steps of the collector that are due, and whole collections if there is still no room.
     template <class K> Root<K> make()
     {
+        static_assert(!inside::IsText<K>::value, "make_text makes a text");
         static_assert(K::kind < HP_KIND_SPINE && K::fields <= 65535, "a kind is below 253, and an object has at most 65535 fields");
         Root<K> made(*this);
         if constexpr (inside::IsRaw<K>::value)
             hp_new_raw(&h, made.root, K::kind, K::fields);
         else
             hp_new(&h, made.root, K::kind, K::fields);
+        return made;
+    }
+
+    // Makes a text of these bytes, at most GCFLIP_MOST_BYTES.
+    template <class K> Root<K> make_text(std::string_view bytes)
+    {
+        Root<K> made(*this);
+        hp_new_bytes(&h, made.root, inside::text_kind<K>(), bytes.data(), bytes.size());
+        return made;
+    }
+
+    // Makes a text with the bytes of both texts, in this order.
+    template <class K> Root<K> join(const Root<K> &first, const Root<K> &second)
+    {
+        Root<K> made(*this);
+        hp_bytes_join(&h, made.root, inside::text_kind<K>(), own(first, "hp_bytes_join"), own(second, "hp_bytes_join"));
+        return made;
+    }
+
+    // Makes a text with `count` bytes of a text, from byte `at` on.
+    template <class K> Root<K> part(const Root<K> &source, std::uint32_t at, std::uint32_t count)
+    {
+        Root<K> made(*this);
+        hp_bytes_part(&h, made.root, inside::text_kind<K>(), own(source, "hp_bytes_part"), at, count);
         return made;
     }
 
@@ -196,6 +245,14 @@ public:
 
 private:
     template <class K> friend class Root;
+
+    // Returns the root of a reference to an object of this heap.
+    template <class K> hp_root own(const Root<K> &object, const char *call) const
+    {
+        if (&object.owner() != this)
+            throw Misuse({GCFLIP_OUT_OF_RANGE, call});
+        return object.root;
+    }
 
     // Returns a root that no Root owns.
     hp_root take()
@@ -264,6 +321,39 @@ public:
         static_assert(number < K::fields, "the kind has fewer fields");
         static_assert(!inside::IsRaw<K>::value || std::is_same_v<T, std::uint64_t>, "a field of a raw object holds a std::uint64_t");
         return Place<T>(owner(), root, number);
+    }
+
+    // Returns the number of bytes of the text.
+    std::uint32_t length() const
+    {
+        inside::text_kind<K>();
+        return hp_bytes_length(owner().layer(), root);
+    }
+
+    // Returns the bytes of the text, or `count` of them, from byte `at` on.
+    std::string read() const { return read(0, length()); }
+    std::string read(std::uint32_t at, std::uint32_t count) const
+    {
+        std::uint32_t all = length();
+        if (at > all || count > all - at)
+            throw Mismatch({GCFLIP_NO_FIELD, "hp_bytes_read"});
+        std::string bytes(count, 0);
+        hp_bytes_read(owner().layer(), root, at, &bytes[0], count);
+        return bytes;
+    }
+
+    // Returns the order of both texts by their bytes, as hp_bytes_compare: -1, 0 or 1.
+    int compare(const Root &other) const
+    {
+        inside::text_kind<K>();
+        return hp_bytes_compare(owner().layer(), root, owner().own(other, "hp_bytes_compare"));
+    }
+
+    // Returns whether both texts have the same bytes.
+    bool has_bytes_of(const Root &other) const
+    {
+        inside::text_kind<K>();
+        return hp_bytes_same(owner().layer(), root, owner().own(other, "hp_bytes_same"));
     }
 
     // Returns the place of the root, for the calls of herbpond.h.
@@ -393,10 +483,7 @@ private:
 
 template <class K> Weak<K> Heap::watch(const Root<K> &object, std::uint64_t token)
 {
-    object.owner();
-    if (object.heap != this)
-        throw Misuse({GCFLIP_OUT_OF_RANGE, "hp_weak_new"});
-    return Weak<K>(*this, hp_weak_new(&h, object.root, token));
+    return Weak<K>(*this, hp_weak_new(&h, own(object, "hp_weak_new"), token));
 }
 
 } // namespace herbpond

@@ -7,10 +7,9 @@
 extern hp heap;
 
 /* null is nil, true and false are specials, and numbers are integers or doubles. The members of an object of JSON lie in an array, in their order: each is
- * a name and the value behind it. A text above MOST_BYTES is an array of texts. */
+ * a name and the value behind it. A text above GCFLIP_MOST_BYTES is an array of texts. */
 enum kind { TEXT, LONG_TEXT, ARRAY, OBJECT, INDEX };
 enum truth { FALSE_VALUE, TRUE_VALUE };
-enum { BYTES_IN_WORD = 7, MOST_BYTES = 65535 * BYTES_IN_WORD };
 
 /* VALUE holds the value that was read, or that is to be printed. A function leaves nothing in the others for its caller, unless it says so. */
 enum registers { VALUE, NAME, OTHER_NAME, MEMBER, OTHER_MEMBER, PIECE };

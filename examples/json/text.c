@@ -1,50 +1,46 @@
-/* Texts as raw objects: seven bytes in a word, the first one lowest. Bits 56 to 58 of a word say how many bytes it has. */
+/* Texts of bytes by the calls of herbpond.h, in pieces if they are long. */
 #include "json.h"
+
+/* Makes room for more bytes, and one behind them. Ends the program if there is no memory. */
+static void make_room(block *to, size_t more)
+{
+    if (more < to->room - to->length)
+        return;
+    to->room = 2 * to->room + more + 4096;
+    to->bytes = realloc(to->bytes, to->room);
+    if (to->bytes == NULL) {
+        fprintf(stderr, "json: the system refused %zu bytes of memory\n", to->room);
+        exit(NO_ROOM);
+    }
+}
 
 void add_byte(block *to, uint32_t byte)
 {
-    if (to->length == to->room) {
-        to->room = 2 * to->room + 4096;
-        to->bytes = realloc(to->bytes, to->room);
-        if (to->bytes == NULL) {
-            fprintf(stderr, "json: the system refused %zu bytes of memory\n", to->room);
-            exit(NO_ROOM);
-        }
-    }
+    make_room(to, 1);
     to->bytes[to->length++] = (char)byte;
-}
-
-static void new_piece(hp_root d, const char *bytes, size_t length)
-{
-    uint32_t words = (uint32_t)((length + BYTES_IN_WORD - 1) / BYTES_IN_WORD);
-    hp_new_raw(&heap, d, TEXT, words);
-    for (uint32_t i = 0; i < words; i++, bytes += BYTES_IN_WORD, length -= BYTES_IN_WORD) {
-        size_t count = length < BYTES_IN_WORD ? length : BYTES_IN_WORD;
-        uint64_t word = (uint64_t)count << 56;
-        for (size_t k = 0; k < count; k++)
-            word |= (uint64_t)(unsigned char)bytes[k] << 8 * k;
-        hp_put_word(&heap, d, i, word);
-    }
 }
 
 void text_new(hp_root d, const block *from)
 {
-    if (from->length <= MOST_BYTES) {
-        new_piece(d, from->bytes, from->length);
+    if (from->length <= GCFLIP_MOST_BYTES) {
+        hp_new_bytes(&heap, d, TEXT, from->bytes, from->length);
         return;
     }
     hp_array_new(&heap, d, LONG_TEXT, 0);
-    for (size_t at = 0; at < from->length; at += MOST_BYTES) {
-        new_piece(PIECE, from->bytes + at, from->length - at < MOST_BYTES ? from->length - at : MOST_BYTES);
+    for (size_t at = 0, left; at < from->length; at += GCFLIP_MOST_BYTES) {
+        left = from->length - at;
+        hp_new_bytes(&heap, PIECE, TEXT, from->bytes + at, left < GCFLIP_MOST_BYTES ? left : GCFLIP_MOST_BYTES);
         hp_array_push(&heap, d, PIECE);
     }
 }
 
+/* Adds the bytes of a text in one piece. */
 static void read_piece(block *to, hp_root s)
 {
-    for (uint32_t i = 0, words = hp_look(&heap, s).count; i < words; i++)
-        for (uint64_t word = hp_word(&heap, s, i), left = word >> 56; left > 0; left--, word >>= 8)
-            add_byte(to, word & 255);
+    uint32_t length = hp_bytes_length(&heap, s);
+    make_room(to, length);
+    hp_bytes_read(&heap, s, 0, to->bytes + to->length, length);
+    to->length += length;
 }
 
 void text_read(block *to, hp_root s)
@@ -72,6 +68,8 @@ uint64_t text_hash(hp_root s)
 int text_order(hp_root s, hp_root t)
 {
     static block x, y;
+    if (hp_is(&heap, s, TEXT) && hp_is(&heap, t, TEXT))
+        return hp_bytes_compare(&heap, s, t);
     text_read(&x, s);
     text_read(&y, t);
     size_t length = x.length < y.length ? x.length : y.length;

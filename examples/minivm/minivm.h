@@ -8,7 +8,7 @@
 
 extern hp vm;
 
-/* A text is raw: seven bytes in a word. A table is [count, keys, values] with two arrays. */
+/* A text is one of bytes. A table is [count, keys, values] with two arrays. */
 enum kind { TEXT, ARRAY, TABLE, KINDS };
 
 /* The registers that the files use while they work on an object. Only NO_MEMORY_TEXT keeps a value from one instruction to the next. */
@@ -27,7 +27,7 @@ void heap_failed(hp *h, uint32_t answer, const char *call);
 
 /* ---- Texts (text.c) */
 
-/* Makes a text of these bytes. */
+/* Makes a text of these bytes, at most GCFLIP_MOST_BYTES. More are an error of the program, also in a text that is joined. */
 void text_new(hp_root d, const char *bytes, size_t length);
 /* Makes the text of s followed by that of t. d may be s or t. */
 void text_join(hp_root d, hp_root s, hp_root t);

@@ -1,87 +1,36 @@
-/* Texts as raw objects: seven bytes in a word, the first one lowest. Bits 56 to 58 of the last word say how many bytes it has. */
+/* Texts as raw objects, by the calls of herbpond.h. */
 #include "minivm.h"
 
-enum { IN_WORD = 7, MOST_BYTES = 65535 * IN_WORD };
-
-size_t text_length(hp_root s)
+/* Fails if a text of so many bytes cannot be made. */
+static void has_length(size_t length)
 {
-    uint32_t words = hp_look(&vm, s).count;
-    return words == 0 ? 0 : (size_t)IN_WORD * (words - 1) + (size_t)(hp_word(&vm, s, words - 1) >> 56);
-}
-
-/* Makes a text of `length` bytes, all 0. */
-static void new_zeros(hp_root d, size_t length)
-{
-    uint32_t words = (uint32_t)((length + IN_WORD - 1) / IN_WORD);
-    if (length > MOST_BYTES)
-        fail("a text has at most %d bytes", MOST_BYTES);
-    hp_new_raw(&vm, d, TEXT, words);
-    if (words > 0)
-        hp_put_word(&vm, d, words - 1, (uint64_t)(length - (size_t)IN_WORD * (words - 1)) << 56);
-}
-
-/* Adds a byte to word `at` / 7 of a text. A word is written when its last byte comes, or the last byte of the text. */
-typedef struct writer {
-    hp_root text;
-    size_t at, length;
-    uint64_t word;
-} writer;
-
-static void add_byte(writer *to, unsigned char byte)
-{
-    uint32_t place = (uint32_t)(to->at % IN_WORD);
-    to->word |= (uint64_t)byte << 8 * place;
-    to->at++;
-    if (place == IN_WORD - 1 || to->at == to->length) {
-        if (to->at == to->length)
-            to->word |= (uint64_t)(place + 1) << 56;
-        hp_put_word(&vm, to->text, (uint32_t)((to->at - 1) / IN_WORD), to->word);
-        to->word = 0;
-    }
-}
-
-/* Adds the bytes of s. */
-static void add_text(writer *to, hp_root s)
-{
-    size_t length = text_length(s);
-    uint64_t word = 0;
-    for (size_t i = 0; i < length; i++, word >>= 8) {
-        if (i % IN_WORD == 0)
-            word = hp_word(&vm, s, (uint32_t)(i / IN_WORD));
-        add_byte(to, (unsigned char)word);
-    }
+    if (length > GCFLIP_MOST_BYTES)
+        fail("a text has at most %d bytes", GCFLIP_MOST_BYTES);
 }
 
 void text_new(hp_root d, const char *bytes, size_t length)
 {
-    writer to = {d, 0, length, 0};
-    new_zeros(d, length);
-    for (size_t i = 0; i < length; i++)
-        add_byte(&to, (unsigned char)bytes[i]);
+    has_length(length);
+    hp_new_bytes(&vm, d, TEXT, bytes, length);
 }
 
 void text_join(hp_root d, hp_root s, hp_root t)
 {
-    size_t length = text_length(s) + text_length(t);
-    writer to = {hp_push(&vm), 0, length, 0};
-    new_zeros(to.text, length);
-    add_text(&to, s);
-    add_text(&to, t);
-    hp_copy(&vm, d, to.text);
-    hp_drop(&vm, 1);
+    has_length(text_length(s) + text_length(t));
+    hp_bytes_join(&vm, d, TEXT, s, t);
+}
+
+size_t text_length(hp_root s)
+{
+    return hp_bytes_length(&vm, s);
 }
 
 bool text_same(hp_root s, hp_root t)
 {
-    uint32_t words = hp_look(&vm, s).count;
-    if (words != hp_look(&vm, t).count)
-        return false;
-    for (uint32_t i = 0; i < words; i++)
-        if (hp_word(&vm, s, i) != hp_word(&vm, t, i))
-            return false;
-    return true;
+    return hp_bytes_same(&vm, s, t);
 }
 
+/* Texts with the same bytes have the same words. */
 uint64_t text_hash(hp_root s)
 {
     uint64_t hash = 1469598103934665603u;
@@ -93,11 +42,11 @@ uint64_t text_hash(hp_root s)
 
 void text_print(hp_root s)
 {
-    size_t length = text_length(s);
-    uint64_t word = 0;
-    for (size_t i = 0; i < length; i++, word >>= 8) {
-        if (i % IN_WORD == 0)
-            word = hp_word(&vm, s, (uint32_t)(i / IN_WORD));
-        putchar((int)(word & 255));
+    char bytes[4096];
+    size_t length = text_length(s), some;
+    for (size_t at = 0; at < length; at += some) {
+        some = length - at < sizeof bytes ? length - at : sizeof bytes;
+        hp_bytes_read(&vm, s, (uint32_t)at, bytes, some);
+        fwrite(bytes, 1, some, stdout);
     }
 }

@@ -1,25 +1,13 @@
 /* Tests texts of bytes in raw objects: each length and each place within a text, each answer, and texts that are made, joined and parted while a collection is
  * open. */
-#include "one_heap.h"
-#include <string.h>
 
-enum { KIND = 3, MUTATORS = 2, EXTRA = 4, SLOTS = 16 + 16 * MUTATORS, PLACES = SLOTS + EXTRA, STEPS = 3 };
+enum { KIND = 3, MUTATORS = 2, EXTRA = 4, STEPS = 3 };
 
-static const uint32_t beyond[] = {PLACES, PLACES + 1, 65536, 1u << 31, UINT32_MAX};
-
-#include "picture.h"
+#include "by_places.h"
 
 static uint8_t bytes[GCFLIP_MOST_BYTES + 1], found[GCFLIP_MOST_BYTES + 1];
 static uint32_t length;
 static int32_t order;
-
-static void open_heap(uint32_t size, uint8_t checking)
-{
-    gcflip_options options = gcflip_options_default(size, MUTATORS);
-    options.extra_roots = EXTRA;
-    options.checking = checking;
-    EXPECT(gcflip_heap_open(&heap, &options) == GCFLIP_DONE && heap.at != NULL);
-}
 
 /* Fills `bytes` with numbers of which those with the highest bit are as many as the others. */
 static void fill_bytes(void)

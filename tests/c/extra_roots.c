@@ -4,13 +4,6 @@
 
 enum { KIND = 3, FEW = 8, MANY = 65536 };
 
-static void open_heap(uint32_t size, uint8_t mutators, uint32_t extra)
-{
-    gcflip_options options = gcflip_options_default(size, mutators);
-    options.extra_roots = extra;
-    EXPECT(gcflip_heap_open(&heap, &options) == GCFLIP_DONE && heap.at != NULL);
-}
-
 /* Expects that slot s of mutator m holds this number. */
 static void holds(uint8_t m, uint8_t s, uint64_t wanted)
 {
@@ -62,7 +55,7 @@ static void options(void)
 /* An extra root is no slot of any mutator, and all mutators name the same one. */
 static void apart_from_slots(void)
 {
-    open_heap(64, 3, FEW);
+    open_heap_with(64, 3, FEW, GCFLIP_ALONG);
     for (uint8_t m = 0; m < 3; m++)
         for (uint8_t s = 0; s < 16; s++)
             EXPECT(gcflip_heap_set_number(&heap, m, s, 100 * m + s) == GCFLIP_DONE);
@@ -106,7 +99,7 @@ static void apart_from_slots(void)
 /* What extra roots refer to survives, also if it is stored while a collection is open; what they no longer refer to does not. */
 static void collections(void)
 {
-    open_heap(256, 1, FEW);
+    open_heap_with(256, 1, FEW, GCFLIP_ALONG);
     for (uint32_t k = 0; k < 4; k++) {
         EXPECT(gcflip_heap_new_object(&heap, 0, 0, KIND, 1) == GCFLIP_MADE);
         EXPECT(gcflip_heap_put_number(&heap, 0, 0, 0, 1, 40 + k) == GCFLIP_DONE);
@@ -161,7 +154,7 @@ static void store_number(uint32_t k, uint64_t wanted)
 /* A heap with many extra roots uses a few. One far behind them takes an object, survives a flip, and is cleared again. */
 static void few_in_use(void)
 {
-    open_heap(256, 1, MANY);
+    open_heap_with(256, 1, MANY, GCFLIP_ALONG);
     for (uint32_t k = 0; k < 4; k++)
         store_number(k, 40 + k);
     for (int round = 0; round < 3; round++) {
@@ -194,7 +187,7 @@ static void few_in_use(void)
 static void frames(void)
 {
     gcflip_frame frame = {2, 5, 2, 0}, other = {5, 8, 5, 5}, wrong = {2, 9, 2, 2};
-    open_heap(64, 2, FEW);
+    open_heap_with(64, 2, FEW, GCFLIP_ALONG);
     EXPECT(gcflip_heap_frame_pop(&heap, 0, 0, &frame) == GCFLIP_FRAME_EMPTY && frame.top == 2);
     for (uint32_t k = 0; k < 3; k++) {
         EXPECT(gcflip_heap_set_number(&heap, 0, 0, k) == GCFLIP_DONE);
@@ -258,7 +251,7 @@ static void is_not_trimmed(gcflip_frame frame)
 static void dropped_values(void)
 {
     gcflip_frame frame = {1, FEW, 1, 0};
-    open_heap(512, 1, FEW);
+    open_heap_with(512, 1, FEW, GCFLIP_ALONG);
     for (uint32_t k = 0; k < FEW - 1; k++) {
         store_number(0, 40 + k);
         EXPECT(gcflip_heap_root_load(&heap, 0, 0, 0) == GCFLIP_DONE);
@@ -291,7 +284,7 @@ static void dropped_values(void)
 static void pushes_over_dropped_values(void)
 {
     gcflip_frame frame = {0, FEW, 0, 0};
-    open_heap(64, 1, FEW);
+    open_heap_with(64, 1, FEW, GCFLIP_ALONG);
     for (uint32_t k = 0; k < 6; k++) {
         EXPECT(gcflip_heap_set_number(&heap, 0, 0, k) == GCFLIP_DONE);
         EXPECT(gcflip_heap_frame_push(&heap, 0, 0, &frame) == GCFLIP_DONE);
@@ -336,7 +329,7 @@ static void pushes_over_dropped_values(void)
 static void many(void)
 {
     gcflip_frame stack = {0, MANY, 0, 0};
-    open_heap(16 * MANY, 1, MANY);
+    open_heap_with(16 * MANY, 1, MANY, GCFLIP_ALONG);
     for (uint32_t k = 0; k < MANY; k++) {
         EXPECT(gcflip_heap_new_object(&heap, 0, 0, KIND, 1) == GCFLIP_MADE);
         EXPECT(gcflip_heap_put_number(&heap, 0, 0, 0, 1, k) == GCFLIP_DONE);

@@ -1,20 +1,9 @@
 /* Tests the calls by places that write several fields, or one without a root for its value, with each answer: objects whose fields take numbers and roots'
  * values, copies of fields, one value for many fields, a put that cannot lack memory; and a field that is read by its object's address. */
-#include "one_heap.h"
 
-enum { KIND = 3, MUTATORS = 2, EXTRA = 4, SLOTS = 16 + 16 * MUTATORS, PLACES = SLOTS + EXTRA };
+enum { KIND = 3, MUTATORS = 2, EXTRA = 4 };
 
-static const uint32_t beyond[] = {PLACES, PLACES + 1, 65536, 1u << 31, UINT32_MAX};
-
-#include "picture.h"
-
-static void open_heap(uint32_t size, uint8_t checking)
-{
-    gcflip_options options = gcflip_options_default(size, MUTATORS);
-    options.extra_roots = EXTRA;
-    options.checking = checking;
-    EXPECT(gcflip_heap_open(&heap, &options) == GCFLIP_DONE && heap.at != NULL);
-}
+#include "by_places.h"
 
 /* Expects that field i of the object in root s holds this number. */
 static void has(uint32_t s, uint32_t i, uint64_t wanted)

@@ -1,4 +1,4 @@
-/* Tests herbpond.h: the numbers of values, the stack, room and growth, what the hook gets, refused allocations, and the walk. */
+/* Tests herbpond.h: the numbers of values, the stack, room and growth, what the hook gets, texts of bytes, refused allocations, and the walk. */
 #include "own_allocator.h"
 #include "expect.h"
 #include "one_interpreter.h"
@@ -398,6 +398,254 @@ static void growth(void)
     hp_close(&h);
 }
 
+/* ---- Texts of bytes */
+
+enum { TEXT = 9, TEXTS = 12, LONGEST = 60 };
+
+static uint8_t source[GCFLIP_MOST_BYTES + 1], found[GCFLIP_MOST_BYTES + 1];
+
+/* Fills `source` with bytes, half of which have the highest bit. */
+static void fill_source(void)
+{
+    for (size_t i = 0; i < sizeof source; i++)
+        source[i] = (uint8_t)(random_bits() >> 32);
+}
+
+/* Expects that s refers to a text with these bytes. */
+static void expect_text(hp_root s, const uint8_t *wanted, uint32_t count)
+{
+    hp_value value = hp_look(&h, s);
+    EXPECT(value.type == HP_RAW && value.kind == TEXT && value.count == (count + 6) / 7 && hp_bytes_length(&h, s) == count);
+    memset(found, 77, count + 1);
+    hp_bytes_read(&h, s, 0, found, count);
+    EXPECT(memcmp(found, wanted, count) == 0 && found[count] == 77);
+}
+
+/* A text takes the words that are reserved for it, and no more: a heap with just these and word 0 has room for it, and one with a word less has none. */
+static void texts_take_their_words(void)
+{
+    for (uint32_t count = 0; count <= 30; count++) {
+        const uint32_t words = (count + 6) / 7 + 2;
+        hp_open(&h, 1 + words, 0, hook);
+        hp_new_bytes(&h, 0, TEXT, source, count);
+        expect_text(0, source, count);
+        EXPECT(gcflip_room(&h.heap) == 0 && h.stats.objects == 1 && h.stats.words == words && h.credit == 0 && h.stats.waits == 0);
+        FAILS(hp_new_bytes(&h, 1, TEXT, source, 0), GCFLIP_FULL, "hp_reserve");
+        hp_close(&h);
+        hp_open(&h, words, 0, hook);
+        FAILS(hp_new_bytes(&h, 0, TEXT, source, count), GCFLIP_FULL, "hp_reserve");
+        EXPECT(h.stats.objects == 0 && h.stats.words == 0 && hp_look(&h, 0).type == HP_NIL);
+        hp_close(&h);
+    }
+}
+
+/* What C has of the texts that the roots refer to. */
+static struct {
+    uint8_t bytes[LONGEST + 1];
+    uint32_t count;
+} texts[TEXTS];
+
+/* The roots are registers and places of the stack. */
+static hp_root root_of(uint32_t i)
+{
+    return i < TEXTS / 2 ? i : HP_STACK(i - TEXTS / 2);
+}
+
+/* Makes text d by a call that is drawn, in the heap and in C. Returns its length. */
+static uint32_t draw_text(uint32_t d, uint32_t s, uint32_t t)
+{
+    static uint8_t made[2 * LONGEST];
+    const uint32_t first = texts[s].count, second = texts[t].count;
+    uint32_t at = (uint32_t)(random_bits() % (first + 1)), count = (uint32_t)(random_bits() % (LONGEST + 1));
+    switch (random_bits() % 3) {
+    case 0:
+        memcpy(made, source + 100 * d, count);
+        hp_new_bytes(&h, root_of(d), TEXT, made, count);
+        break;
+    case 1:
+        if (first + second <= LONGEST) {
+            memcpy(made, texts[s].bytes, first);
+            memcpy(made + first, texts[t].bytes, second);
+            hp_bytes_join(&h, root_of(d), TEXT, root_of(s), root_of(t));
+            count = first + second;
+            break;
+        }
+        /* fall through */
+    default:
+        count %= first - at + 1;
+        memcpy(made, texts[s].bytes + at, count);
+        hp_bytes_part(&h, root_of(d), TEXT, root_of(s), at, count);
+    }
+    memcpy(texts[d].bytes, made, count);
+    texts[d].count = count;
+    return count;
+}
+
+static int sign(int n)
+{
+    return (n > 0) - (n < 0);
+}
+
+/* Compares two texts as the C library compares arrays, and reads a part of one. */
+static void compare_texts(uint32_t s, uint32_t t)
+{
+    const uint32_t first = texts[s].count, second = texts[t].count, at = (uint32_t)(random_bits() % (first + 1)), count = (uint32_t)(random_bits() % (first - at + 1));
+    const int order = memcmp(texts[s].bytes, texts[t].bytes, first < second ? first : second);
+    const int wanted = order != 0 ? sign(order) : sign((int)first - (int)second);
+    EXPECT(hp_bytes_compare(&h, root_of(s), root_of(t)) == wanted && hp_bytes_same(&h, root_of(s), root_of(t)) == (wanted == 0));
+    memset(found, 77, count + 1);
+    hp_bytes_read(&h, root_of(s), at, found, count);
+    EXPECT(memcmp(found, texts[s].bytes + at, count) == 0 && found[count] == 77);
+}
+
+/* Calls that are drawn, while collections run. Each is counted as an object of its words. */
+static void texts_while_collecting(void)
+{
+    uint64_t objects = TEXTS, words = 2 * TEXTS, open = 0;
+    hp_open(&h, 600, TEXTS / 2, hook);
+    h.pace.least = 0;
+    while (h.stack.top < TEXTS / 2)
+        hp_push(&h);
+    for (uint32_t i = 0; i < TEXTS; i++) {
+        texts[i].count = 0;
+        hp_new_bytes(&h, root_of(i), TEXT, NULL, 0);
+    }
+    for (int round = 0; round < 200000; round++) {
+        uint32_t d = (uint32_t)(random_bits() % TEXTS), s = (uint32_t)(random_bits() % TEXTS), t = (uint32_t)(random_bits() % TEXTS);
+        h.credit = 0; /* so that the collector works in this call */
+        open += hp_counts(&h).is_open;
+        words += (draw_text(d, s, t) + 6) / 7 + 2;
+        objects++;
+        expect_text(root_of(d), texts[d].bytes, texts[d].count);
+        compare_texts(s, t);
+        EXPECT(h.stats.objects == objects && h.stats.words == words);
+    }
+    hp_bytes_read(&h, 0, 0, NULL, 0);
+    EXPECT(h.stats.flips > 1000 && open > 1000);
+    hp_close(&h);
+}
+
+/* The longest text, and two that are too long together. */
+static void longest_texts(void)
+{
+    hp_open(&h, 200000, 0, hook);
+    hp_new_bytes(&h, 0, TEXT, source, GCFLIP_MOST_BYTES);
+    expect_text(0, source, GCFLIP_MOST_BYTES);
+    hp_bytes_part(&h, 1, TEXT, 0, 1, GCFLIP_MOST_BYTES - 1);
+    expect_text(1, source + 1, GCFLIP_MOST_BYTES - 1);
+    hp_new_bytes(&h, 2, TEXT, source, 1);
+    hp_bytes_join(&h, 1, TEXT, 2, 1);
+    expect_text(1, source, GCFLIP_MOST_BYTES);
+    FAILS(hp_bytes_join(&h, 3, TEXT, 1, 2), GCFLIP_OUT_OF_RANGE, "hp_bytes_join");
+    FAILS(hp_bytes_join(&h, 3, TEXT, 2, 0), GCFLIP_OUT_OF_RANGE, "hp_bytes_join");
+    FAILS(hp_bytes_join(&h, 3, TEXT, 0, 0), GCFLIP_OUT_OF_RANGE, "hp_bytes_join");
+    FAILS(hp_new_bytes(&h, 3, TEXT, source, GCFLIP_MOST_BYTES + 1), GCFLIP_OUT_OF_RANGE, "hp_new_bytes");
+    FAILS(hp_new_bytes(&h, 3, TEXT, source, (size_t)1 << 32), GCFLIP_OUT_OF_RANGE, "hp_new_bytes");
+    FAILS(hp_new_bytes(&h, 3, TEXT, source, SIZE_MAX), GCFLIP_OUT_OF_RANGE, "hp_new_bytes");
+    EXPECT(hp_look(&h, 3).type == HP_NIL && h.stats.objects == 4 && h.stats.words == 3 * 65537 + 3);
+    hp_close(&h);
+}
+
+/* A root that is out of range, of which register 29 is the layer's own and no place of the stack was pushed. */
+static void refused_root(hp_root p)
+{
+    FAILS(hp_new_bytes(&h, p, TEXT, source, 1), GCFLIP_OUT_OF_RANGE, "hp_new_bytes");
+    FAILS(hp_bytes_join(&h, p, TEXT, 0, 0), GCFLIP_OUT_OF_RANGE, "hp_bytes_join");
+    FAILS(hp_bytes_join(&h, 4, TEXT, p, 0), GCFLIP_OUT_OF_RANGE, "hp_bytes_join");
+    FAILS(hp_bytes_join(&h, 4, TEXT, 0, p), GCFLIP_OUT_OF_RANGE, "hp_bytes_join");
+    FAILS(hp_bytes_part(&h, p, TEXT, 0, 0, 1), GCFLIP_OUT_OF_RANGE, "hp_bytes_part");
+    FAILS(hp_bytes_part(&h, 4, TEXT, p, 0, 1), GCFLIP_OUT_OF_RANGE, "hp_bytes_part");
+    FAILS(hp_bytes_length(&h, p), GCFLIP_OUT_OF_RANGE, "hp_bytes_length");
+    FAILS(hp_bytes_read(&h, p, 0, found, 1), GCFLIP_OUT_OF_RANGE, "hp_bytes_read");
+    FAILS(hp_bytes_same(&h, p, 0), GCFLIP_OUT_OF_RANGE, "hp_bytes_same");
+    FAILS(hp_bytes_same(&h, 0, p), GCFLIP_OUT_OF_RANGE, "hp_bytes_same");
+    FAILS(hp_bytes_compare(&h, p, 0), GCFLIP_OUT_OF_RANGE, "hp_bytes_compare");
+    FAILS(hp_bytes_compare(&h, 0, p), GCFLIP_OUT_OF_RANGE, "hp_bytes_compare");
+}
+
+/* A root that refers to no text. */
+static void refused_value(hp_root p)
+{
+    FAILS(hp_bytes_join(&h, 4, TEXT, p, 0), GCFLIP_NO_OBJECT, "hp_bytes_join");
+    FAILS(hp_bytes_join(&h, 4, TEXT, 0, p), GCFLIP_NO_OBJECT, "hp_bytes_join");
+    FAILS(hp_bytes_part(&h, 4, TEXT, p, 0, 0), GCFLIP_NO_OBJECT, "hp_bytes_part");
+    FAILS(hp_bytes_length(&h, p), GCFLIP_NO_OBJECT, "hp_bytes_length");
+    FAILS(hp_bytes_read(&h, p, 0, found, 0), GCFLIP_NO_OBJECT, "hp_bytes_read");
+    FAILS(hp_bytes_same(&h, p, 0), GCFLIP_NO_OBJECT, "hp_bytes_same");
+    FAILS(hp_bytes_same(&h, 0, p), GCFLIP_NO_OBJECT, "hp_bytes_same");
+    FAILS(hp_bytes_compare(&h, p, 0), GCFLIP_NO_OBJECT, "hp_bytes_compare");
+    FAILS(hp_bytes_compare(&h, 0, p), GCFLIP_NO_OBJECT, "hp_bytes_compare");
+}
+
+/* Calls on a text of 20 bytes in register 0 and on what is no text, in a heap that they leave as it was. */
+static void refused_texts(void)
+{
+    uint32_t credit;
+    hp_open(&h, 100, 1, hook);
+    hp_new_bytes(&h, 0, TEXT, source, 20);
+    hp_set_int(&h, 1, 5);
+    hp_new(&h, 2, TEXT, 1);
+    hp_new_raw(&h, 3, TEXT, 2); /* its last field counts no bytes */
+    credit = h.credit;
+    memset(found, 77, 21);
+    refused_root(HP_OLD);
+    refused_root(HP_STACK(0));
+    for (hp_root p = 1; p < 5; p++)
+        refused_value(p);
+    FAILS(hp_new_bytes(&h, 4, 256, source, 1), GCFLIP_OUT_OF_RANGE, "hp_new_bytes");
+    FAILS(hp_bytes_join(&h, 4, 256, 0, 0), GCFLIP_OUT_OF_RANGE, "hp_bytes_join");
+    FAILS(hp_bytes_part(&h, 4, 256, 0, 0, 1), GCFLIP_OUT_OF_RANGE, "hp_bytes_part");
+    FAILS(hp_bytes_part(&h, 4, TEXT, 0, 0, 21), GCFLIP_NO_FIELD, "hp_bytes_part");
+    FAILS(hp_bytes_part(&h, 4, TEXT, 0, 21, 0), GCFLIP_NO_FIELD, "hp_bytes_part");
+    FAILS(hp_bytes_part(&h, 4, TEXT, 0, 1, UINT32_MAX), GCFLIP_NO_FIELD, "hp_bytes_part");
+    FAILS(hp_bytes_part(&h, 4, TEXT, 0, UINT32_MAX, 1), GCFLIP_NO_FIELD, "hp_bytes_part");
+    FAILS(hp_bytes_read(&h, 0, 0, found, 21), GCFLIP_NO_FIELD, "hp_bytes_read");
+    FAILS(hp_bytes_read(&h, 0, 21, found, 0), GCFLIP_NO_FIELD, "hp_bytes_read");
+    EXPECT(h.credit == credit);
+    FAILS(hp_new_bytes(&h, 4, TEXT, source, 700), GCFLIP_FULL, "hp_reserve");
+    EXPECT(found[0] == 77 && found[20] == 77 && hp_look(&h, 4).type == HP_NIL && h.stats.objects == 3 && h.stats.words == 12);
+    expect_text(0, source, 20);
+    hp_close(&h);
+}
+
+/* Makes a text in register 2: a new one, or one of those in registers 0 and 1. */
+static void make_text(int call)
+{
+    if (call == 0)
+        hp_new_bytes(&h, 2, TEXT, source, 100);
+    else if (call == 1)
+        hp_bytes_join(&h, 2, TEXT, 0, 1);
+    else
+        hp_bytes_part(&h, 2, TEXT, 0, 0, 100);
+}
+
+/* A text whose fields cannot be logged gives the collection up, and is made. Where no collection can begin, the lack of memory is the reason. */
+static void texts_without_memory(void)
+{
+    hp_open(&h, 10000, 0, hook);
+    hp_new_bytes(&h, 0, TEXT, source, 100);
+    hp_new_bytes(&h, 1, TEXT, source + 100, 0);
+    for (int call = 0; call < 3; call++) {
+        hp_reserve(&h, 1700); /* so that the collector does not work */
+        EXPECT(gcflip_heap_step_begin(&h.heap) == GCFLIP_BEGUN);
+        for (uint32_t i = 0; hp_counts(&h).is_open; i++) {
+            EXPECT(i < 100);
+            fail_allocation(1);
+            hp_set_nil(&h, 2);
+            make_text(call);
+            expect_text(2, source, 100);
+        }
+        EXPECT(has_failed() && h.stats.flips == 0);
+        fail_allocation(0);
+    }
+    fail_allocations();
+    FAILS(hp_new_bytes(&h, 2, TEXT, source, 70000), GCFLIP_NO_MEMORY, "hp_reserve");
+    fail_allocation(0);
+    expect_text(2, source, 100);
+    hp_close(&h);
+    EXPECT(blocks_in_use() == 0);
+}
+
 /* ---- Refused memory */
 
 static void refused(void)
@@ -482,6 +730,12 @@ int main(void)
     growth();
     early_growth(false);
     early_growth(true);
+    fill_source();
+    texts_take_their_words();
+    texts_while_collecting();
+    longest_texts();
+    refused_texts();
+    texts_without_memory();
     refused();
     walks();
     return 0;

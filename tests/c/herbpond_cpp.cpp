@@ -1,4 +1,4 @@
-// Tests herbpond.hpp: fields of each type at their edges, references that own a root, weak handles, growth, and what each exception tells.
+// Tests herbpond.hpp: fields of each type at their edges, references that own a root, texts, weak handles, growth, and what each exception tells.
 #include "own_allocator.h"
 #include "expect.h"
 #include "herbpond.hpp"
@@ -25,6 +25,16 @@ struct Pair {
     static constexpr std::uint32_t kind = 1, fields = 2;
     static constexpr Field<Pair, std::int64_t, 0> number{};
     static constexpr Field<Pair, Pair, 1> rest{};
+};
+
+struct Name {
+    static constexpr std::uint32_t kind = 4;
+    static constexpr bool text = true;
+};
+
+struct Named {
+    static constexpr std::uint32_t kind = 5, fields = 1;
+    static constexpr Field<Named, Name, 0> name{};
 };
 
 struct Record {
@@ -209,6 +219,45 @@ void lacks()
     EXPECT(growing.counts().size > 20000 && objects_in(growing) == 5000);
 }
 
+void texts()
+{
+    const std::string letters = "abcdefghijklmnopqrstuvwxyz", high("a\0\xff", 3);
+    Heap heap(4096, 8), other(64);
+    Root<Name> none, empty = heap.make_text<Name>(std::string_view()), first = heap.make_text<Name>(letters), second = heap.make_text<Name>(high);
+    EXPECT(empty.length() == 0 && empty.read().empty() && first.length() == 26 && first.read() == letters && second.read() == high);
+    EXPECT(hp_is(heap.layer(), first.place(), Name::kind) && hp_look(heap.layer(), first.place()).type == HP_RAW);
+    EXPECT(heap.join(first, second).read() == letters + high && heap.join(second, first).read() == high + letters);
+    EXPECT(heap.join(empty, first).read() == letters && heap.join(first, first).length() == 52);
+    for (std::uint32_t at = 0; at <= 26; at++)
+        for (std::uint32_t count = 0; count <= 26 - at; count++)
+            EXPECT(heap.part(first, at, count).read() == letters.substr(at, count) && first.read(at, count) == letters.substr(at, count));
+    for (const std::string &bytes : {std::string(), std::string("a"), std::string("a\0", 2), letters, letters + "a", std::string("b"), high}) {
+        Root<Name> made = heap.make_text<Name>(bytes);
+        int order = letters.compare(bytes);
+        EXPECT(first.compare(made) == (order > 0) - (order < 0) && first.has_bytes_of(made) == (order == 0));
+    }
+    EXPECT(second.compare(first) == -1 && heap.part(second, 2, 1).compare(first) == 1); // byte 255 comes behind the letters
+    Root<Named> named = heap.make<Named>();
+    named[Named::name] = first;
+    first = nullptr;
+    heap.collect();
+    EXPECT(named[Named::name].get().read() == letters);
+    expect_thrown<herbpond::Mismatch>(GCFLIP_NO_FIELD, "hp_bytes_part", [&] { heap.part(second, 1, 3); });
+    expect_thrown<herbpond::Mismatch>(GCFLIP_NO_FIELD, "hp_bytes_read", [&] { second.read(1, 3); });
+    expect_thrown<herbpond::Mismatch>(GCFLIP_NO_FIELD, "hp_bytes_read", [&] { second.read(4, 0); });
+    expect_thrown<herbpond::Mismatch>(GCFLIP_NO_FIELD, "hp_bytes_read", [&] { second.read(1, UINT32_MAX); });
+    expect_thrown<herbpond::Mismatch>(GCFLIP_NO_OBJECT, "herbpond::Root", [&] { none.length(); });
+    expect_thrown<herbpond::Mismatch>(GCFLIP_NO_OBJECT, "herbpond::Root", [&] { heap.join(second, none); });
+    expect_thrown<herbpond::Misuse>(GCFLIP_OUT_OF_RANGE, "hp_new_bytes", [&] { heap.make_text<Name>(std::string(GCFLIP_MOST_BYTES + 1, 'a')); });
+    expect_thrown<herbpond::Lack>(GCFLIP_FULL, "hp_reserve", [&] { heap.make_text<Name>(std::string(30000, 'a')); });
+    Root<Name> foreign = other.make_text<Name>("a");
+    expect_thrown<herbpond::Misuse>(GCFLIP_OUT_OF_RANGE, "hp_bytes_join", [&] { heap.join(second, foreign); });
+    expect_thrown<herbpond::Misuse>(GCFLIP_OUT_OF_RANGE, "hp_bytes_join", [&] { heap.join(foreign, second); });
+    expect_thrown<herbpond::Misuse>(GCFLIP_OUT_OF_RANGE, "hp_bytes_part", [&] { heap.part(foreign, 0, 1); });
+    expect_thrown<herbpond::Misuse>(GCFLIP_OUT_OF_RANGE, "hp_bytes_same", [&] { second.has_bytes_of(foreign); });
+    expect_thrown<herbpond::Misuse>(GCFLIP_OUT_OF_RANGE, "hp_bytes_compare", [&] { second.compare(foreign); });
+}
+
 void weak_handles()
 {
     Heap heap(4096, 10);
@@ -268,6 +317,7 @@ int main()
     references();
     mismatches();
     lacks();
+    texts();
     weak_handles();
     while (refused(n))
         n++;

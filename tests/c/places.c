@@ -1,20 +1,9 @@
 /* Tests the commands on roots by their places, with each answer but that of a failed allocation: which root a place is, which numbers are out of range or
  * name no field, whose log has an entry, and that a collection sees what they write. */
-#include "one_heap.h"
 
-enum { KIND = 3, MUTATORS = 3, EXTRA = 8, SLOTS = 16 + 16 * MUTATORS, PLACES = SLOTS + EXTRA };
+enum { KIND = 3, MUTATORS = 3, EXTRA = 8 };
 
-static const uint32_t beyond[] = {PLACES, PLACES + 1, 256, 65536, 1u << 31, UINT32_MAX};
-
-#include "picture.h"
-
-static void open_heap(uint32_t size, uint8_t mutators, uint32_t extra, uint8_t checking)
-{
-    gcflip_options options = gcflip_options_default(size, mutators);
-    options.extra_roots = extra;
-    options.checking = checking;
-    EXPECT(gcflip_heap_open(&heap, &options) == GCFLIP_DONE && heap.at != NULL);
-}
+#include "by_places.h"
 
 /* Expects that the root at place p holds this number. */
 static void holds(uint32_t p, uint64_t wanted)
@@ -37,7 +26,7 @@ static uint8_t mutator_of(uint32_t p)
 static void roots(void)
 {
     uint64_t words[1], image[PLACES];
-    open_heap(64, MUTATORS, EXTRA, GCFLIP_ALONG);
+    open_heap(64, GCFLIP_ALONG);
     EXPECT(gcflip_heap_root_count(MUTATORS) == SLOTS);
     for (uint32_t p = 0; p < PLACES; p++)
         EXPECT(gcflip_set_number(&heap, p, 1000 + p) == GCFLIP_DONE);
@@ -62,7 +51,7 @@ static void roots(void)
 /* No place is cut to 8 bits: with 16 mutators, 255 and 256 are slots of two of them. */
 static void many_slots(void)
 {
-    open_heap(8, 16, 0, GCFLIP_ALONG);
+    open_heap_with(8, 16, 0, GCFLIP_ALONG);
     EXPECT(gcflip_set_number(&heap, 255, 5) == GCFLIP_DONE && gcflip_set_number(&heap, 256, 6) == GCFLIP_DONE);
     EXPECT(gcflip_heap_look(&heap, 14, 15, &view) == GCFLIP_NUMBER && view.number == 5);
     EXPECT(gcflip_heap_look(&heap, 15, 0, &view) == GCFLIP_NUMBER && view.number == 6);
@@ -70,12 +59,12 @@ static void many_slots(void)
     EXPECT(gcflip_copy(&heap, 271, 256) == GCFLIP_DONE && gcflip_copy(&heap, 272, 256) == GCFLIP_OUT_OF_RANGE);
     holds(271, 6);
     close_heap();
-    open_heap(8, 1, 0, GCFLIP_ALONG);
+    open_heap_with(8, 1, 0, GCFLIP_ALONG);
     EXPECT(gcflip_set_number(&heap, 31, 7) == GCFLIP_DONE && gcflip_set_number(&heap, 32, 7) == GCFLIP_OUT_OF_RANGE);
     EXPECT(gcflip_heap_look(&heap, 0, 15, &view) == GCFLIP_NUMBER && view.number == 7);
     EXPECT(gcflip_look(&heap, 16, &view) == GCFLIP_NIL && gcflip_look(&heap, 15, &view) == GCFLIP_NIL);
     close_heap();
-    open_heap(8, 1, 1048576, GCFLIP_ALONG);
+    open_heap_with(8, 1, 1048576, GCFLIP_ALONG);
     EXPECT(gcflip_set_number(&heap, 1048607, 8) == GCFLIP_DONE && gcflip_set_number(&heap, 1048608, 8) == GCFLIP_OUT_OF_RANGE);
     EXPECT(gcflip_heap_root_load(&heap, 0, 0, 1048575) == GCFLIP_DONE);
     holds(16, 8);
@@ -93,7 +82,7 @@ static void sees(uint32_t s, uint32_t i, uint32_t answer, uint32_t kind, uint32_
 static void replies(void)
 {
     const uint32_t shared = 2, own = 16 + 16 + 3, extra = SLOTS + 4;
-    open_heap(20, MUTATORS, EXTRA, GCFLIP_ALONG);
+    open_heap(20, GCFLIP_ALONG);
     EXPECT(gcflip_new(&heap, extra, KIND, 2) == GCFLIP_MADE);
     EXPECT(gcflip_look(&heap, extra, &view) == GCFLIP_OBJECT && view.kind == KIND && view.count == 2 && view.number == 0);
     EXPECT(gcflip_look(&heap, own, &view) == GCFLIP_NIL && view.kind == 0 && view.count == 0 && view.number == 0);
@@ -175,7 +164,7 @@ static void refused_numbers(void)
 /* Refused calls change nothing, whether a collection is open or not. The root at place 0 refers to an object with two fields. */
 static void refusals(void)
 {
-    open_heap(64, MUTATORS, EXTRA, GCFLIP_ALONG);
+    open_heap(64, GCFLIP_ALONG);
     EXPECT(gcflip_new(&heap, 0, KIND, 2) == GCFLIP_MADE && gcflip_set_number(&heap, PLACES - 1, 6) == GCFLIP_DONE);
     EXPECT(gcflip_put(&heap, 0, 0, 1, PLACES - 1) == GCFLIP_DONE);
     expect_unchanged(refused_places, refused_numbers);
@@ -186,7 +175,7 @@ static void refusals(void)
 static void long_object(void)
 {
     static const uint32_t none[] = {65535, 65536, 65537, 131070, 1u << 31, UINT32_MAX};
-    open_heap(70000, 1, 1, GCFLIP_ALONG);
+    open_heap_with(70000, 1, 1, GCFLIP_ALONG);
     EXPECT(gcflip_new(&heap, 32, KIND, 65535) == GCFLIP_MADE);
     EXPECT(gcflip_look(&heap, 32, &view) == GCFLIP_OBJECT && view.count == 65535);
     EXPECT(gcflip_set_number(&heap, 0, 5) == GCFLIP_DONE && gcflip_set_number(&heap, 1, 6) == GCFLIP_DONE);
@@ -227,7 +216,7 @@ static void logged(uint8_t m, size_t length, uint32_t field)
 static void logs(void)
 {
     size_t length = 77;
-    open_heap(64, MUTATORS, EXTRA, GCFLIP_ALONG);
+    open_heap(64, GCFLIP_ALONG);
     EXPECT(gcflip_new(&heap, 16, KIND, 3) == GCFLIP_MADE); /* in a slot of mutator 0 */
     EXPECT(gcflip_copy(&heap, PLACES - 1, 16) == GCFLIP_DONE);
     EXPECT(gcflip_put(&heap, 1, 16, 0, 16) == GCFLIP_DONE);
@@ -251,7 +240,7 @@ static void values(uint8_t checking)
 {
     static const uint32_t objects[] = {0, 1, 15, 16, 33, SLOTS, PLACES - 1};
     static struct picture before, after;
-    open_heap(64, MUTATORS, EXTRA, checking);
+    open_heap(64, checking);
     EXPECT(gcflip_new(&heap, 2, KIND, 2) == GCFLIP_MADE); /* at 1, with the raw object at 5 */
     EXPECT(gcflip_heap_new_raw(&heap, 0, 0, KIND, 2) == GCFLIP_MADE);
     for (uint32_t p = 0; p < PLACES; p++)
@@ -283,7 +272,7 @@ static void values(uint8_t checking)
 static void walk(uint8_t checking)
 {
     uint32_t met = 0;
-    open_heap(64, 1, 0, checking);
+    open_heap_with(64, 1, 0, checking);
     EXPECT(gcflip_object_at(&heap, 1, &view) == GCFLIP_NIL && view.kind == 0 && view.count == 0 && view.number == 0);
     EXPECT(gcflip_new(&heap, 0, KIND, 3) == GCFLIP_MADE && gcflip_heap_new_raw(&heap, 0, 0, 255, 2) == GCFLIP_MADE);
     EXPECT(gcflip_new(&heap, 0, KIND + 1, 0) == GCFLIP_MADE); /* the first one is garbage now */
@@ -305,7 +294,7 @@ static void walk(uint8_t checking)
 /* The room is what no object takes, in a new heap all but one word. */
 static void room(void)
 {
-    open_heap(20, 1, 0, GCFLIP_ALONG);
+    open_heap_with(20, 1, 0, GCFLIP_ALONG);
     EXPECT(gcflip_room(&heap) == 19 && gcflip_new(&heap, 0, KIND, 3) == GCFLIP_MADE && gcflip_room(&heap) == 14);
     EXPECT(gcflip_heap_step_begin(&heap) == GCFLIP_BEGUN && gcflip_room(&heap) == 14);
     EXPECT(gcflip_new(&heap, 0, KIND, 13) == GCFLIP_FULL && gcflip_room(&heap) == 14);
@@ -330,7 +319,7 @@ static void make_ready(void)
 static void values_while_ready(uint32_t d, uint8_t checking)
 {
     uint32_t pairs = 77;
-    open_heap(128, MUTATORS, EXTRA, checking);
+    open_heap(128, checking);
     EXPECT(gcflip_new(&heap, d, KIND, 2) == GCFLIP_MADE && gcflip_copy(&heap, 1, d) == GCFLIP_DONE);
     EXPECT(gcflip_heap_step_begin(&heap) == GCFLIP_BEGUN);
     make_ready();
@@ -359,7 +348,7 @@ static void flip_with_one_more(void)
 /* A collection that is ready is not ready any more once a command writes a reference without a replica into root d, and the object survives. */
 static void written_while_ready(uint32_t d, uint8_t checking)
 {
-    open_heap(128, MUTATORS, EXTRA, checking);
+    open_heap(128, checking);
     EXPECT(gcflip_set_number(&heap, 1, 5) == GCFLIP_DONE);
     EXPECT(gcflip_heap_step_begin(&heap) == GCFLIP_BEGUN);
     make_ready();
@@ -386,7 +375,7 @@ static void written_while_ready(uint32_t d, uint8_t checking)
 /* A get of an object that has no replica yet writes its reference into root d. */
 static void got_while_open(uint32_t d, uint8_t checking)
 {
-    open_heap(128, MUTATORS, EXTRA, checking);
+    open_heap(128, checking);
     EXPECT(gcflip_new(&heap, 0, KIND, 1) == GCFLIP_MADE && gcflip_new(&heap, 1, KIND + 1, 0) == GCFLIP_MADE);
     EXPECT(gcflip_put(&heap, 0, 0, 0, 1) == GCFLIP_DONE && gcflip_set_number(&heap, 1, 0) == GCFLIP_DONE);
     EXPECT(gcflip_heap_step_begin(&heap) == GCFLIP_BEGUN);

@@ -1,20 +1,9 @@
 /* Tests the commands by places that make an object of several roots, or set several roots to the fields of one, and those on addresses: each answer, which roots
  * they read and write, and whose log has the fields. */
-#include "one_heap.h"
 
-enum { KIND = 3, MUTATORS = 2, EXTRA = 8, SLOTS = 16 + 16 * MUTATORS, PLACES = SLOTS + EXTRA };
+enum { KIND = 3, MUTATORS = 2, EXTRA = 8 };
 
-static const uint32_t beyond[] = {PLACES, PLACES + 1, 256, 65536, 1u << 31, UINT32_MAX};
-
-#include "picture.h"
-
-static void open_heap(uint32_t size, uint8_t checking)
-{
-    gcflip_options options = gcflip_options_default(size, MUTATORS);
-    options.extra_roots = EXTRA;
-    options.checking = checking;
-    EXPECT(gcflip_heap_open(&heap, &options) == GCFLIP_DONE && heap.at != NULL);
-}
+#include "by_places.h"
 
 /* Gives each root the number 100 + its place. */
 static void number_roots(void)

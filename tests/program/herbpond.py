@@ -35,10 +35,22 @@ struct Bytes {
 struct Reserved {
     static constexpr std::uint32_t kind = 254, fields = 1;
 };
+struct Name {
+    static constexpr std::uint32_t kind = 4;
+    static constexpr bool text = true;
+};
+struct Path {
+    static constexpr std::uint32_t kind = 5;
+    static constexpr bool text = true;
+};
+struct ReservedText {
+    static constexpr std::uint32_t kind = 253;
+    static constexpr bool text = true;
+};
 void take(Root<Pair> pair);
-void use(Heap &heap, Root<Pair> &pair, Root<Point> &point, Root<Bytes> &bytes, Weak<Pair> &weak)
+void use(Heap &heap, Root<Pair> &pair, Root<Point> &point, Root<Bytes> &bytes, Weak<Pair> &weak, Root<Name> &name, Root<Path> &path)
 {
-    (void)heap, (void)pair, (void)point, (void)bytes, (void)weak;
+    (void)heap, (void)pair, (void)point, (void)bytes, (void)weak, (void)name, (void)path;
     %s
 }
 """
@@ -61,6 +73,17 @@ RIGHT_AND_WRONG = [
     ("(void)(pair == pair);", "(void)(pair == point);", "operator=="),
     ("heap.make<Pair>();", "heap.make<Reserved>();", "a kind is below 253"),
     ("pair[Pair::number] = 1;", "pair[Pair::narrow] = 1;", "Value<int>"),
+    ('name = heap.make_text<Name>("a");', 'pair = heap.make_text<Pair>("a");', "the kind has no texts"),
+    ('name = heap.make_text<Name>("a");', 'heap.make_text<ReservedText>("a");', "a kind is below 253"),
+    ("heap.make<Pair>();", "heap.make<Name>();", "make_text makes a text"),
+    ("name = heap.join(name, name);", "name = heap.join(name, path);", "join"),
+    ("name = heap.join(name, name);", "pair = heap.join(pair, pair);", "the kind has no texts"),
+    ("name = heap.part(name, 0, 1);", "path = heap.part(name, 0, 1);", "operator="),
+    ("name = heap.part(name, 0, 1);", "bytes = heap.part(bytes, 0, 1);", "the kind has no texts"),
+    ("(void)name.length();", "(void)pair.length();", "the kind has no texts"),
+    ("(void)name.read();", "(void)bytes.read();", "the kind has no texts"),
+    ("(void)name.compare(name);", "(void)name.compare(path);", "compare"),
+    ("(void)name.has_bytes_of(name);", "(void)pair.has_bytes_of(pair);", "the kind has no texts"),
 ]
 
 

@@ -18,7 +18,7 @@ PROGRAMS = os.path.join(FOLDER, "programs")
 PRINTED = {
     "fib": b"0\n55\n6765\n",
     "lists": b"2020000\n55\nan array of 2\n",
-    "texts": b"\nabcdefg\nabcdefgh\nabcdefghijklmno\n15\ntrue\nfalse\nfalse\n5000\n12345/-7\n",
+    "texts": b"\nabcdefg\nabcdefgh\nabcdefghijklmno\n15\ntrue\nfalse\nfalse\n5000\n12345/-7\n" + b"0123456789" * 500 + b"\n458745\na text has at most 458745 bytes\n",
     "arrays": b"100000\n173725\n4999880005\n",
     "tables": b"3000\n0\n2247001\n1499\nnil\nnil\na table of 3000\n1122751000\n",
     "grows": b"50005000\n50005000\n2\n/: division by 0\n",
@@ -29,7 +29,7 @@ PRINTED = {
 # The last line of errors.mini pushes to a number.
 ENDS_BY = {"errors": b"error: push: an integer is no array\n"}
 # The texts among the constants of a program, with that of the error for a full heap. Nothing else is reachable at the end.
-CONSTANTS = {"fib": 1, "lists": 2, "texts": 22, "arrays": 1, "tables": 3, "grows": 1, "errors": 3}
+CONSTANTS = {"fib": 1, "lists": 2, "texts": 25, "arrays": 1, "tables": 3, "grows": 1, "errors": 3}
 FULL_HEAP = b"out of memory\nout of memory\n2\n/: division by 0\n"
 STATS = re.compile(rb"made (\d+) objects of (\d+) words; (\d+) flips, (\d+) waits; the heap has (\d+) words\n"
                    rb"reachable: (\d+) of a text\nreachable: (\d+) of an array\nreachable: (\d+) of a table\n$")

@@ -93,6 +93,100 @@ class Fields(unittest.TestCase):
         self.assertEqual(shown, [])
 
 
+class Texts(unittest.TestCase):
+    """Texts of bytes as sequences of Python."""
+
+    def setUp(self):
+        self.heap = Heap(200, extra_roots=12)
+        self.addCleanup(self.heap.close)
+
+    def test_values(self):
+        data = bytes([*range(250, 256), 0, 1, 2])
+        text = self.heap.make_bytes(7, data)
+        self.assertEqual((text.kind, text.raw, len(text), bytes(text)), (7, True, 2, data))
+        for same in (bytearray(data), memoryview(data)):
+            self.assertEqual(bytes(self.heap.make_bytes(1, same)), data)
+        joined = text + self.heap.make_bytes(8, b"!")
+        self.assertEqual((joined.kind, bytes(joined), bytes(text + text), bytes(text)), (7, data + b"!", data * 2, data))
+        part = text[2:]
+        self.assertEqual((part.kind, part.raw, bytes(part), bytes(text[::-1]), bytes(text[1:8:3])), (7, True, data[2:], data[::-1], data[1:8:3]))
+        empty = self.heap.make_bytes(255, b"")
+        self.assertEqual((len(empty), bytes(empty), bytes(empty[:]), bytes(empty + text), bytes(text + empty)), (0, b"", b"", data, data))
+        self.assertEqual(text[0], int.from_bytes(data[:7], "little"))
+
+    def test_what_was_made_is_counted(self):
+        other = self.heap.make_bytes(1, bytes(11))
+        for count in range(30):
+            before = self.heap.stats()
+            text = self.heap.make_bytes(1, bytes(count))
+            stats = self.heap.stats()
+            self.assertEqual((stats.objects, stats.words), (before.objects + 1, before.words + len(text) + 2))
+            held = [text + other, other + text, text[count // 2:]]
+            self.assertEqual(self.heap.stats().words, stats.words + sum(len(ref) + 2 for ref in held))
+
+    def test_each_part(self):
+        data = bytes(range(16))
+        text, bounds = self.heap.make_bytes(7, data), [None, *range(-18, 19)]
+        for first in bounds:
+            for end in bounds:
+                self.assertEqual(bytes(text[first:end]), data[first:end])
+
+    def test_what_is_no_text(self):
+        text, pair, raw = self.heap.make_bytes(1, b"abc"), self.heap.make(1, 2), self.heap.make_raw(1, 2)
+        before = self.heap.counts()
+        for ref in (pair, raw):
+            for act in (lambda: bytes(ref), lambda: ref + text, lambda: text + ref, lambda: ref + ref, lambda: ref[0:1], lambda: ref[:], lambda: ref[::2]):
+                self.assertRaises(TypeError, act)
+        for act in (lambda: text + b"abc", lambda: b"abc" + text, lambda: text + None, lambda: text + 1, lambda: text["0":], lambda: text[0:1.5],
+                    lambda: self.heap.make_bytes(1, "abc"), lambda: self.heap.make_bytes(1, 3), lambda: self.heap.make_bytes(1, [1, 2])):
+            self.assertRaises(TypeError, act)
+        self.assertRaises(ValueError, lambda: text[::0])
+        self.assertEqual((self.heap.counts(), bytes(text)), (before, b"abc"))
+
+    def test_refused(self):
+        text, stranger = self.heap.make_bytes(1, bytes(700)), Heap(64, extra_roots=4).make_bytes(1, b"abc")
+        for act, error in ((lambda: text + stranger, gcflip.OutOfRange), (lambda: self.heap.make_bytes(256, b""), gcflip.OutOfRange),
+                           (lambda: self.heap.make_bytes(1, bytes(458746)), gcflip.OutOfRange), (lambda: self.heap.make_bytes(1, bytes(1400)), gcflip.Full),
+                           (lambda: text + text, gcflip.Full), (lambda: text[:-1], gcflip.Full)):
+            self.assertRaises(error, act)
+        self.assertEqual(bytes(text), bytes(700))
+        # None of these calls has lost a root: of twelve, one holds nil and one is that of `text`.
+        held = [self.heap.make_bytes(1, b"") for _ in range(10)]
+        for act in (lambda: self.heap.make_bytes(1, b""), lambda: held[0] + held[1], lambda: held[0][:]):
+            self.assertRaises(gcflip.FrameFull, act)
+        del act, held
+        self.heap.close()
+        for act in (lambda: bytes(text), lambda: text + text, lambda: text[1:], lambda: self.heap.make_bytes(1, b"")):
+            self.assertRaises(gcflip.Closed, act)
+
+    def test_random_texts(self):
+        """Texts that look random, joined and parted while collections run, against Python's bytes."""
+        for seed in range(20):
+            draw = random.Random(seed)
+            with Heap(300, extra_roots=14) as heap:
+                held = [(heap.make_bytes(1, b""), b"")]
+                for _ in range(400):
+                    self.make_one(draw, heap, held)
+                    heap.work(draw.randrange(1, 5))
+                    while len(held) > 8:
+                        held.pop(draw.randrange(len(held)))
+                    for ref, data in held:
+                        self.assertEqual((bytes(ref), len(ref)), (data, (len(data) + 6) // 7))
+                stats, held = heap.stats(), None
+                self.assertGreater(stats.flips, 5)
+
+    def make_one(self, draw, heap, held):
+        (one, data), (other, more), act = draw.choice(held), draw.choice(held), draw.randrange(4)
+        if act == 0:
+            data = bytes(draw.choice((0, 1, 127, 128, 255)) for _ in range(draw.randrange(60)))
+            held.append((heap.make_bytes(draw.randrange(256), data), data))
+        elif act == 1 and len(data) + len(more) < 80:
+            held.append((one + other, data + more))
+        else:
+            chosen = slice(*[draw.choice((None, draw.randrange(-90, 90))) for _ in range(2)], draw.choice((None, None, None, 1, 2, -1)))
+            held.append((one[chosen], data[chosen]))
+
+
 class Roots(unittest.TestCase):
     """What keeps objects alive, and how many references there can be."""
 

@@ -27,9 +27,12 @@ def held(heap: Heap) -> int:
     first[0], first[1] = 42, heap.make(2, 0)
     raw: Ref = heap.make_raw(kind=3, length=1)
     raw[0] = len(raw)
+    text: Ref = heap.make_bytes(4, b"herb") + heap.make_bytes(kind=4, data=bytearray(b"pond"))
+    part: Ref = text[1:3]
+    data: bytes = bytes(part + text[4:])
     content: Content = first[1]
     numbers: list[int] = [value for value in first if isinstance(value, int)]
-    return numbers[0] if isinstance(content, Ref) and content.is_same(first) else first.kind + len(first)
+    return numbers[0] if isinstance(content, Ref) and content.is_same(first) else first.kind + len(first) + len(data)
 
 
 def checked(words: memoryview, roots: array.array[int]) -> int:
@@ -50,6 +53,9 @@ def refused_by_mypy(heap: Heap) -> None:
     heap.new("1", 1, 2)  # wrong
     heap.mutator(0).num(0, None)  # wrong
     heap.make_raw(1)  # wrong
+    heap.make_bytes(1, "text")  # wrong
+    heap.make_bytes(1, b"") + b""  # wrong
+    joined: bytes = heap.make_bytes(1, b"")[0:]  # wrong
     heap.make(1, 2)[0] = "text"  # wrong
     number: int = heap.make(1, 2)[0]  # wrong
     check(Image([0], []), Image([0], []), [(1, 2, 3)])  # wrong

@@ -143,7 +143,7 @@ class Work(NamedTuple):
 
 
 class Stats(NamedTuple):
-    """What a heap did for `make` and `make_raw` since it was opened."""
+    """What a heap did for references that own a root, `make` and the like, since it was opened."""
 
     objects: int
     """The objects that they made."""
@@ -316,8 +316,18 @@ class Heap(quick.Quickened):
         """Makes a raw object of a kind, whose fields are plain numbers, all 0, and returns a reference to it. Otherwise like `make`."""
         return refs.made(self, self._pool, self.new_raw, kind, length)
 
+    def make_bytes(self, kind: int, data: bytes | bytearray | memoryview) -> refs.Ref:
+        """Makes a text of these bytes, and returns a reference to it. Raises OutOfRange for more than 458,745 bytes, and OutOfMemory also if a collection is
+        open whose log gets no memory. Otherwise like `make`."""
+        data = memoryview(data).tobytes()
+
+        def new(root: int, kind: int, _length: int) -> None:
+            self.new_bytes(refs.MUTATOR, root, kind, data)
+
+        return refs.made(self, self._pool, new, kind, refs.fields_for(len(data)))
+
     def stats(self) -> Stats:
-        """Returns what the heap did for `make` and `make_raw` since it was opened."""
+        """Returns what the heap did for references that own a root, `make` and the like, since it was opened."""
         checks, counted = self.flip_checks(), self._pool.counted
         return Stats(counted.objects, counted.words, checks.along + checks.whole, counted.steps, counted.copied, counted.longest, counted.full)
 

@@ -1,11 +1,11 @@
-"""References that own a root: objects of a heap as objects of Python. `Heap.make` and `Heap.make_raw` make them."""
+"""References that own a root: objects of a heap as objects of Python. `Heap.make`, `Heap.make_raw` and `Heap.make_bytes` make them."""
 from __future__ import annotations
 
 import contextlib
 import itertools
-from typing import TYPE_CHECKING, Callable, Iterator, Union
+from typing import TYPE_CHECKING, Callable, Iterator, Union, overload
 
-from .errors import Closed, FrameFull, Full, OutOfMemory, OutOfRange
+from .errors import Closed, FrameFull, Full, NoObject, OutOfMemory, OutOfRange
 from .renamed import renamed
 
 if TYPE_CHECKING:
@@ -22,7 +22,7 @@ BLOCK = 512
 
 
 class Counted:
-    """What was done for the objects that `Heap.make` and `Heap.make_raw` made."""
+    """What was done for the objects that `made` made."""
 
     def __init__(self) -> None:
         self.objects = self.words = self.steps = self.copied = self.longest = self.full = 0
@@ -84,12 +84,16 @@ class RootPool:
 
 
 class Ref:
-    """A reference to an object of a heap, which keeps the object alive: it owns an extra root, and gives it back when Python deletes it. `Heap.make` and
-    `Heap.make_raw` make an object and return a reference to it.
+    """A reference to an object of a heap, which keeps the object alive: it owns an extra root, and gives it back when Python deletes it. `Heap.make`,
+    `Heap.make_raw` and `Heap.make_bytes` make an object and return a reference to it.
 
     Fields are read and written by their numbers, and `for` goes through them in order. A field holds None, a number below 2^63, or another reference. A
     field of a raw object holds a number, and another value raises NoNumber. A number that is no field's raises NoField, which is an IndexError. All of this
     raises Closed after the heap was closed. To read a reference needs one root that no reference owns, and raises FrameFull if there is none.
+
+    A text of bytes is also a sequence of them: `bytes(text)` copies them, `text + other` joins two texts, and a slice such as `text[2:5]` is a part. Both
+    results are new texts of the kind of the left one, and no byte leaves the heap, unless a slice has a step. They raise what `Heap.make_bytes` raises. An
+    object that is no text raises TypeError.
     """
 
     __slots__ = ("heap", "_pool", "_root", "__weakref__")
@@ -121,7 +125,15 @@ class Ref:
     def __iter__(self) -> Iterator[Content]:
         return map(self.__getitem__, range(len(self)))
 
-    def __getitem__(self, field: int) -> Content:
+    @overload
+    def __getitem__(self, field: int) -> Content: ...
+
+    @overload
+    def __getitem__(self, field: slice) -> Ref: ...
+
+    def __getitem__(self, field: int | slice) -> Content:
+        if isinstance(field, slice):
+            return self._part(field)
         value = self.heap.peek(self.place, field)
         if not isinstance(value, tuple):
             return value
@@ -142,6 +154,36 @@ class Ref:
             self.heap.put_nil(MUTATOR, self.place, field)
         else:
             self.heap.put_number(MUTATOR, self.place, field, content)
+
+    def __bytes__(self) -> bytes:
+        with texts_alone():
+            return self.heap.bytes_read(self.place)
+
+    def __add__(self, other: Ref) -> Ref:
+        if not isinstance(other, Ref):
+            return NotImplemented
+        if other._pool is not self._pool:
+            raise OutOfRange("the reference is one of another heap")
+        with texts_alone():
+            length = self.heap.bytes_length(self.place) + self.heap.bytes_length(other.place)
+
+        def join(place: int, kind: int, _length: int) -> None:
+            self.heap.bytes_join(MUTATOR, place, kind, self.place, other.place)
+
+        return made(self.heap, self._pool, join, self.kind, fields_for(length))
+
+    def _part(self, chosen: slice) -> Ref:
+        """Makes a text of these bytes of this one."""
+        with texts_alone():
+            first, end, step = chosen.indices(self.heap.bytes_length(self.place))
+        count = max(0, end - first)
+        if step != 1:
+            return self.heap.make_bytes(self.kind, bytes(self)[chosen])
+
+        def take(place: int, kind: int, _length: int) -> None:
+            self.heap.bytes_part(MUTATOR, place, kind, self.place, first, count)
+
+        return made(self.heap, self._pool, take, self.kind, fields_for(count))
 
     def is_same(self, other: Ref) -> bool:
         """Returns whether both refer to one object. Objects of two heaps are never one."""
@@ -171,8 +213,22 @@ class Ref:
         return seen
 
 
+@contextlib.contextmanager
+def texts_alone() -> Iterator[None]:
+    """Raises TypeError if a call finds an object that is no text of bytes."""
+    try:
+        yield
+    except NoObject:
+        raise TypeError("the object is no text of bytes") from None
+
+
+def fields_for(length: int) -> int:
+    """Returns the number of fields of a text with so many bytes."""
+    return (length + 6) // 7
+
+
 def made(heap: Heap, pool: RootPool, new: Callable[[int, int, int], None], kind: int, length: int) -> Ref:
-    """Makes an object by `new` or `new_raw` of the heap, and returns a reference to it, as `Heap.make` says."""
+    """Makes an object with `length` fields by `new`, which gets its root, its kind and this number, and returns a reference to it, as `Heap.make` says."""
     ref = Ref(heap, pool)
     words = length + WORDS_OF_HEADER
     if words > pool.credit:

@@ -1,10 +1,20 @@
-/* What a refused call on the heap of one_heap.h leaves alone. The program that includes this has defined PLACES, the number of the heap's roots, MUTATORS, and
- * `beyond`, numbers that are no places. */
-#ifndef PICTURE_H
-#define PICTURE_H
+/* A heap whose roots are named by their places, and what a refused call on it leaves alone. The program that includes this has defined MUTATORS and EXTRA: the
+ * numbers of the heap's mutators and of its extra roots. */
+#ifndef BY_PLACES_H
+#define BY_PLACES_H
 
 #include "one_heap.h"
 #include <string.h>
+
+enum { SLOTS = 16 + 16 * MUTATORS, PLACES = SLOTS + EXTRA };
+
+/* Numbers that are no places. */
+static const uint32_t beyond[] = {PLACES, PLACES + 1, 256, 65536, 1u << 31, UINT32_MAX};
+
+static void open_heap(uint32_t size, uint8_t checking)
+{
+    open_heap_with(size, MUTATORS, EXTRA, checking);
+}
 
 struct picture {
     uint64_t words[64], roots[PLACES];
