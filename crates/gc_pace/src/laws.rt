@@ -60,7 +60,8 @@ pub fn waits_are_short()
 /// Bounded calls find the room that they want, if their bound is large enough. Between two calls the program allocates at most `words` words, logs at
 /// most `entries` entries, and its stores to roots ask for at most `looks` looks more. No call wants more than `words` words, and each leaves at most
 /// `roots` looks. The steps follow from the counts, and the bound of a call is above `(4 * most + 2) * words + entries`, and above what the looks add. Then
-/// each call finds more room than it wants, or it ends the collection. Without extra roots `looks` and `roots` are 0.
+/// each call finds more room than it wants, or it ends the collection, unless an allocation fails. Without extra roots `looks` and `roots` are 0. The
+/// heap's words, times `2 * most + 1`, and twice the bound are below 2^32, so that all counts are exact.
 pub fn bounded_calls_find_room()
     // While a collection is open: at first no step was owed, and the work in units was at most `most` times the free words.
     ensures room { (heap : Collected) (pace : Pace) (turns : List Turn) (most words entries looks roots : ℕ)
