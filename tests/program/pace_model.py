@@ -2,6 +2,7 @@
 
 The collections on the recording were counted by the library, in runs of bench/embedding/programs.c. No number was taken from the model.
 """
+import math
 import os
 import sys
 
@@ -10,7 +11,7 @@ from .harness import file_of
 
 sys.path.insert(0, os.path.join(TOP, "tools"))
 
-from pacing.heap import Heap, Outcome, Run, Spent, least_utilisation  # noqa: E402
+from pacing.heap import BLOCK, Heap, Outcome, Run, Spent, TooSmall, least_utilisation  # noqa: E402
 from pacing.policies import Constant, Guarded, ShareOfTime, WorkOverRoom, grown, late, of_heap, of_room, policies  # noqa: E402
 from pacing.recording import Costs, Line, Program, costs_of, programs_of  # noqa: E402
 
@@ -142,6 +143,51 @@ def recorded(_program, _folder):
         yield "%s, with a guard" % name, None if found[0] > 0 and found[1] == 0 else "%d stalls without, and %d with it" % tuple(found)
 
 
+class Watched(Run):
+    """A run that keeps the most words that a flip left."""
+
+    most_left = 0
+
+    def call(self, *wanted):
+        super().call(*wanted)
+        self.most_left = max(self.most_left, self.heap.left)
+
+
+def light(program, most, bound, policy, costs):
+    """Returns the program on the smallest heap of a row of sizes of which the law speaks: what each flip left, and twice the words that a call wants, are
+    at most the part (most - 1) / (most + 1) of it."""
+    words, size = wanted_words(program), max(line.live for line in program.lines) * (most + 1) // (most - 1)
+    while True:
+        sized = program._replace(heap=size)
+        run = Watched(sized, policy, costs, most_steps=bound)
+        try:
+            run.outcome()
+        except TooSmall:
+            run.most_left = size
+        if (most + 1) * (run.most_left + 2 * words) + size <= most * size:
+            return sized
+        size += size // 16
+
+
+def wanted_words(program):
+    """Returns the most words that a call of the program wants, and that it allocates between two calls."""
+    return max(BLOCK, *(line.most for line in program.lines))
+
+
+def bounded(_program, _folder):
+    """With the bound of a call that the law bounded_calls_find_room of gc_pace names, no recorded program stalls. With fewer steps than words it does."""
+    costs, programs = costs_of(text_of(os.path.join(BENCH, "commands.txt"))), {program.name: program for program in programs_of(text_of(os.path.join(BENCH, "counts.txt")))}
+    policy = policies(costs.step)["default: factor 200, 2 + work over room"]
+    for name in ("trees", "queue", "vm_deep", "lisp_queue"):
+        program = programs[name]
+        words, entries = wanted_words(program), max(math.ceil(line.entries / line.words * BLOCK) for line in program.lines)
+        for most in (2, 3):
+            bound = (4 * most + 2) * words + entries + 1
+            sized = light(program, most, bound, policy, costs)
+            found = [Run(sized, policy, costs, most_steps=steps).outcome().stalls for steps in (bound, words // 4)]
+            yield "%s, bounded, %d" % (name, most), None if found[0] == 0 < found[1] else "%d stalls, and %d with few steps" % tuple(found)
+
+
 # In the model a call comes before each 64 words. This heap is the first one above, with 64 words in place of 10.
 RECORDING = b"# a program\nprogram hand heap 641\n640 64 0 0 0 640 0 128 128 0\n"
 TABLE = b"# command now goal\nget_object 1\nput 1\nmove 1\nnew_2 10000 - 9\nstep 100000\napply 1\n"
@@ -191,4 +237,4 @@ def recorder(_program, folder):
     yield "what a program asks for", why or (None if lines == RECORDED else "%s: %s" % (ran, lines))
 
 
-GROUPS = [by_hand, rules, recorded, tool, recorder]
+GROUPS = [by_hand, rules, recorded, bounded, tool, recorder]

@@ -6,7 +6,7 @@ copied. Between the beginnings of two lines of a recording, what is live changes
 """
 from typing import List, NamedTuple
 
-# The words for which a program asks at once, and the most steps that one call performs.
+# The words for which a program asks at once, and the most steps that one call performs by default.
 BLOCK, MOST_STEPS = 64, 1024
 # Parts of steps are rounded.
 TOLERANCE = 1e-6
@@ -86,9 +86,9 @@ def between(first, second, part):
 class Run:
     """A program on a heap that a policy paces."""
 
-    def __init__(self, program, policy, costs, block=BLOCK):
+    def __init__(self, program, policy, costs, block=BLOCK, most_steps=MOST_STEPS):
         self.heap = Heap(program.heap)
-        self.program, self.policy, self.costs, self.block = program, policy, costs, block
+        self.program, self.policy, self.costs, self.block, self.most_steps = program, policy, costs, block, most_steps
         self.own, self.took = [], []
         self.since = 0.0   # the program's own time since the last call that performed steps
         # The words, the entries and the program's own time since the last call.
@@ -115,7 +115,7 @@ class Run:
         heap, took = self.heap, 0.0
         if heap.is_open:
             due = min(heap.owed + self.policy.due(heap, Spent(self.words, self.logged, self.busy), max(heap.room() - wanted, 1)), heap.steps_left())
-            now = min(due, MOST_STEPS)
+            now = min(due, self.most_steps)
             took = self.perform(now)
             heap.owed = due - now if heap.is_open else 0.0
         elif heap.end >= self.policy.beginning(heap):

@@ -2,7 +2,7 @@
 use Rattle.std.proofs.lemmas.Grind.{common_steps}
 use Rattle.std.specs.Prelude.{IfSome}
 use Rattle.std.specs.Option.{option_map, option_map_or, unwrap_or}
-use Rattle.std.proofs.Common.{◌≡◌, ◌≢◌, inl, inr, ⊎_elim, ℕ, zero, suc, ◌+◌, ◌-◌, ◌<◌, ◌≤◌, nat_lt, true, false, List, [], ◌∷◌, ◌++◌, map, length, set, replicate, slice_get, flat_map, Option, Some, None, refl, ap, sym, ◌∙◌, subst, arith, rules}
+use Rattle.std.proofs.Common.{◌≡◌, ◌≢◌, inl, inr, ⊎_elim, ℕ, zero, suc, ◌+◌, ◌-◌, ◌<◌, ◌≤◌, nat_lt, true, false, ◌||◌, ◌==◌, List, [], ◌∷◌, ◌++◌, map, length, set, replicate, slice_get, flat_map, Option, Some, None, refl, ap, sym, ◌∙◌, subst, arith, rules}
 use Rattle.std.proofs.lemmas.Bool.{cond-true, cond-false, cond_both, lt-ltb, le-ltb, eqb-false, cases_lt}
 use Rattle.std.proofs.lemmas.List.{length-append, get_or_past}
 use Rattle.std.proofs.lemmas.List.Sums.{sum_by-cons, sum_by_push, sum_by-set}
@@ -11,7 +11,7 @@ use Rattle.std.proofs.lemmas.Option.{unwrap_or-slice_get}
 use Rattle.gc_graph.specs.Graph.{Value, Object, Graph, lookup, field_of, names_of}
 use Rattle.gc_graph.specs.declared.command.Op.{Op}
 use Rattle.gc_model.specs.State.{Replica, Collection, State, objects_end, new_end, heap_end, replica_at, moved}
-use Rattle.gc_model.specs.Steps.{log_at, with_log, mutate, place_replica, with_written, write_replica, bring_value, bring_up_to_date, with_collection, if_room, fresh_collection, root_target, copy_root, scan_done, scan_replica, scan, apply_entry, apply_log, step_in, collect, is_change, is_empty, first_log, useful_with, useful_step, step_idle, next_field}
+use Rattle.gc_model.specs.Steps.{log_at, with_log, mutate, place_replica, with_written, write_replica, bring_value, bring_up_to_date, with_collection, if_room, fresh_collection, root_target, copy_root, scan_done, scan_replica, scan, apply_entry, apply_log, is_ready, passes_check, flip, step_in, collect, is_change, is_empty, first_log, useful_with, useful_step, step_idle, next_field}
 use Rattle.gc_model.specs.Progress.{entries_in, scans_of, scans_from, work_of, work_left, entries_left, ChangesLower, Advances, Ends}
 use Rattle.gc_model.specs.Runs.{IsStep}
 use Rattle.gc_model.specs.Members.{In}
@@ -19,7 +19,7 @@ use Rattle.gc_model.specs.Belonging.{Laid, IsSpaceGraph, IsDue, IsOpened, IsStat
 use Rattle.gc_model.specs.declared.step.Step.{Step}
 use Rattle.gc_model.specs.declared.step.Step.TheVariants as steps
 use Rattle.gc_model.specs.declared.step.StepReply.{StepReply}
-use Rattle.gc_model.specs.declared.step.StepReply.TheVariants.{Copied, Applied}
+use Rattle.gc_model.specs.declared.step.StepReply.TheVariants.{Copied, Scanned, Applied}
 use Rattle.gc_model.proofs.Heap.{laid_range, laid_end}
 use Rattle.gc_model.proofs.Replicas.{placed, replicas_end, with_written_pair, with_written_length}
 use Rattle.gc_model.proofs.Steps.{its_replicas, same_place, unreplicated_some, placing_keeps, bringing_keeps, open_keeps, collect_keeps}
@@ -274,6 +274,66 @@ state_ends s h = ends (work_left s) s (omega arith) h
 
 pub left_bounded : (s : State) (c : Collection) → IsSpaceGraph s.size s.heap.free s.heap.graph → IfSome s.collection (IsOpened s) → s.collection ≡ Some c → work_left s ≤ (heap_end s - c.scan_place) + entries_in c.logs + 1
 left_bounded s c h k is = subst (λ o. option_map_or (work_of s) o (heap_end s + 1) ≤ (heap_end s - c.scan_place) + entries_in c.logs + 1) (sym is) (work_bounded s h c (subst (λ (o : Option Collection). IfSome o (IsOpened s)) is k))
+
+-- ---- the end of the new space
+
+pub ends_within : (s : State) (c : Collection) → IsState s → s.collection ≡ Some c → new_end c ≤ heap_end s
+ends_within s c h is = end_low s h.heap c (subst (λ (o : Option Collection). IfSome o (IsOpened s)) is h.collection)
+
+later_ends : (c next : Collection) → IsLater 0 c next → new_end c ≤ new_end next
+later_ends c next later = let scans = later.scans in let words = later.words in omega arith
+
+module _ (s : State) (c : Collection) (at : s.collection ≡ Some c) where
+  abbrev EndsBehind : State → Type 0
+  EndsBehind t = (next : Collection) → t.collection ≡ Some next → new_end c ≤ new_end next
+
+  same_ends : EndsBehind s
+  same_ends next is = grind (arith, common_steps)
+
+  room_ends : (reply : StepReply) (o : Option Collection) → ((d : Collection) → o ≡ Some d → new_end c ≤ new_end d) → EndsBehind (if_room s reply o).1
+  room_ends reply None f next is = same_ends next is
+  room_ends reply (Some d) f next is = grind (arith, common_steps, f d refl)
+
+  root_ends : (t : Option ℕ) → EndsBehind (copy_root s c t).1
+  root_ends None = same_ends
+  root_ends (Some name) = room_ends Copied (place_replica c name (lookup s.heap.graph.objects name))
+      (λ d is. later_ends c d (weaker_later c d (placed_later c name (lookup s.heap.graph.objects name) d is)))
+
+  field_ends : (o : Option Collection) → ((d : Collection) → o ≡ Some d → IsLater 0 c d) → (d : Collection) → option_map next_field o ≡ Some d → new_end c ≤ new_end d
+  field_ends None f d is = absurd cc
+  field_ends (Some e) f d is = (let later = later_ends c e (f e refl) in grind (arith, common_steps, later))
+
+  one_ends : (t : Option Replica) → EndsBehind (scan_replica s c t).1
+  one_ends None = same_ends
+  one_ends (Some r) = cond_both (r.object.raw || (c.scan_field == length r.object.fields)) _ _ (λ (next : StepReply × State). EndsBehind next.1)
+      (λ t next is. grind (arith, common_steps))
+      (λ t. room_ends Scanned (option_map next_field (bring_up_to_date c s.heap.graph r.original c.scan_field))
+      (field_ends (bring_up_to_date c s.heap.graph r.original c.scan_field) (λ d is. brought_later c s.heap.graph r.original c.scan_field d is)))
+
+  scan_ends : EndsBehind (scan s c).1
+  scan_ends = cond_both (scan_done c) _ _ (λ (next : StepReply × State). EndsBehind next.1) (λ t. same_ends) (λ t. one_ends (replica_at c c.scan_place))
+
+  log_ends : (m : ℕ) (entries : List (ℕ × ℕ)) → EndsBehind (apply_log s c m entries).1
+  log_ends m [] = same_ends
+  log_ends m (entry ∷ rest) = room_ends Applied (apply_entry (with_log c m rest) s.heap.graph entry) (λ d is. later_ends (with_log c m rest) d (entry_later (with_log c m rest) s.heap.graph entry d is))
+
+  flip_ends : EndsBehind (flip s c).1
+  flip_ends = cond_both (is_ready c s.heap.graph) _ _ (λ (next : StepReply × State). EndsBehind next.1)
+      (λ t. cond_both (passes_check s c) _ _ (λ (next : StepReply × State). EndsBehind next.1) (λ u next is. absurd cc) (λ u. same_ends))
+      (λ t. same_ends)
+
+  step_ends : (step : Step) → EndsBehind (step_in s c step).1
+  step_ends steps.Begin = same_ends
+  step_ends (steps.BeginSized size) = same_ends
+  step_ends steps.Roots = root_ends (root_target c s.heap.graph)
+  step_ends steps.Scan = scan_ends
+  step_ends (steps.Apply m) = log_ends m (log_at c m)
+  step_ends steps.Flip = flip_ends
+  step_ends steps.Drop = λ next is. absurd cc
+
+pub ends_grow : (s : State) (c next : Collection) (step : Step) → s.collection ≡ Some c → (collect s step).1.collection ≡ Some next → new_end c ≤ new_end next
+ends_grow s c next step at is =
+    step_ends s c at step next (subst (λ (o : Option Collection). (option_map_or (λ (d : Collection). step_in s d step) o (step_idle s step)).1.collection ≡ Some next) at is)
 
 -- ---- no step logs an entry
 

@@ -7,7 +7,7 @@ pub use Rattle.gc_model.proofs.Images.{IsAddress, block_found, end_is, laid_out,
 pub use Rattle.gc_model.proofs.Links.{found_by_name, found_by_place, same_original, write_is_set}
 pub use Rattle.gc_model.proofs.Lists.{all_from_in, distinct_push, find_exists, find_some, get_in, get_past, get_set_other, get_set_same, get_within, in_get, in_left, in_map, in_map_from, in_push, in_replicate, in_right, map_same}
 pub use Rattle.gc_model.proofs.Numbers.{small_corresponding}
-pub use Rattle.gc_model.proofs.Progress.{command_raises, left_bounded, useful_ranges}
+pub use Rattle.gc_model.proofs.Progress.{command_raises, ends_grow, ends_within, left_bounded, useful_ranges}
 pub use Rattle.gc_model.proofs.Replicas.{AreReplicas, HasReplica, IsPlace, fresh_raw, in_paired, moved_corresponds, pair, paired_in, pairs_written, place_written, placed, refers_corresponding, replica_exists, replica_in, replicas_due, replicas_end, replicas_evolve, with_written_length, with_written_pair}
 pub use Rattle.gc_model.proofs.Room.{has_room, opened_has_room}
 pub use Rattle.gc_model.proofs.RootsStay.{all_replicated, collect_stays, first_missing, flip_count, flip_nil, is_missing, is_replicated, mutate_stays, root_kept, roots_counted}

@@ -9,7 +9,7 @@ ghost use Rattle.gc_graph.specs.Range.{IsCommand};
 ghost use Rattle.gc_graph.specs.declared.command.Op.{Op};
 ghost use Rattle.gc_words.specs.Image.{IsShaped, graph_of, roomy_of};
 ghost use Rattle.gc_words.specs.Certificate.{Certified};
-ghost use Rattle.gc_model.specs.State.{Replica, Collection, State, opening_state, heap_end, new_objects, new_free, pairs_of, replica_of, replica_at, moved, new_graph};
+ghost use Rattle.gc_model.specs.State.{Replica, Collection, State, opening_state, heap_end, new_end, new_objects, new_free, pairs_of, replica_of, replica_at, moved, new_graph};
 ghost use Rattle.gc_model.specs.Linked.{linked_image, old_links, new_links};
 ghost use Rattle.gc_model.specs.Steps.{written, log_at, with_log, write_replica, fresh_collection, mutate, collect, is_change, is_ready, useful_step};
 ghost use Rattle.gc_model.specs.Members.{In};
@@ -134,10 +134,14 @@ pub fn only_live_is_carried()
     ensures extra_roots { (s : State) → IsState s → s.collection ≡ None → CarriesOnlyLiveFrom s }
 {}
 
-/// If the new space is at least as large as the old one, no step lacks room.
+/// If the new space is at least as large as the old one, no step lacks room, because all replicas together never take more words than are
+/// in use. Until the flip no step removes a replica, so the end of the new space only grows.
 pub fn room_suffices()
     ensures states { (s : State) → IsState s → AlwaysHasRoom s }
     ensures runs { InEveryRun AlwaysHasRoom }
+    ensures within { (s : State) (c : Collection) → IsState s → s.collection ≡ Some c → new_end c ≤ heap_end s }
+    ensures grows { (s : State) (c next : Collection) (step : Step)
+        → s.collection ≡ Some c → (collect s step).1.collection ≡ Some next → new_end c ≤ new_end next }
 {}
 
 /// `Scan` replies `Clean` exactly if the scan pointer is at the new end. Twice the pairs of a collection are fewer than the words of

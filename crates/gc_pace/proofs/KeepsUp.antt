@@ -19,7 +19,7 @@ use Rattle.gc_model.specs.declared.step.StepReply.TheVariants.{Flipped, NotReady
 use Rattle.gc_model.proofs.Public.{left_bounded, steps_stay}
 use Rattle.gc_collected.specs.Collected.{Collected}
 use Rattle.gc_pace.specs.Counts.{counts_of, counts_in}
-use Rattle.gc_pace.specs.Work.{IsRun, after_useful, goes_on, sized_step, units, useful_reply}
+use Rattle.gc_pace.specs.Work.{IsRun, after_useful, goes_on, is_over, sized_step, units, useful_reply}
 use Rattle.gc_pace.specs.Pace.{steps_left, units_left, spent, steps_due, took_its_words, CountsAll, HasEnded, IsPacedWork}
 use Rattle.gc_pace.specs.Turns.{Turn, AreFew, AreTurns, IsTurn, Remembers, after_commands, after_turns, unpaid}
 use Rattle.gc_pace.specs.declared.counts.Counts.{Counts}
@@ -27,7 +27,7 @@ use Rattle.gc_pace.specs.declared.pace.Pace.{Pace}
 use Rattle.gc_pace.specs.declared.work.Work.{Work}
 use Rattle.gc_pace.proofs.Left.{counts_bound, end_at, logged_all}
 use Rattle.gc_pace.proofs.Paid.{not_zero}
-use Rattle.gc_pace.proofs.PacedCalls.{call_work, on_of}
+use Rattle.gc_pace.proofs.PacedCalls.{call_done, on_of}
 use Rattle.gc_pace.proofs.Turns.{IsRaised, found_raised, turn_keeps, turn_remembers}
 
 -- ---- numbers
@@ -64,7 +64,7 @@ on_in_proportion l m n a b c less first then = elim (cases_lt 0 b) [
 
 -- ---- steps that go on leave the mutators' heap
 
-abbrev Same : State → State → Type 0
+abbrev pub Same : State → State → Type 0
 Same s t = (t.heap ≡ s.heap) × (t.size ≡ s.size)
 
 flip_same : (s : State) (c : Collection) (ready passes : Bool) → goes_on (cond {A = StepReply × State} ready (cond passes (Flipped (length c.replicas), flipped s c) (Refused, s)) (NotReady, s)).0 ≡ true
@@ -100,6 +100,13 @@ run_same n s t reply run on = subst (Same s) (sym run.state) (useful_same n s (�
   | inr late ↦ (let some = run.some in let last : n - 1 ≡ k = omega (arith, less, late) in subst (λ j. goes_on (useful_reply None j s) ≡ true) last (ap goes_on (sym run.reply_is) ∙ on))
 ]))
 
+-- a call that goes on leaves the mutators' heap
+pub call_same : (wanted : ℕ) (old new : Collected) (before after : Pace) (work : Work) → IsPacedWork wanted old new before after work → is_over work ≡ false → Same old.core new.core
+call_same wanted old new before after work paced going = (let done = call_done wanted old new before after work paced in elim (cases_lt work.steps 1) [
+  | inl none ↦ (let idle = done.none (omega (arith, none)) in (ap (λ (x : State). x.heap) idle, ap (λ (x : State). x.size) idle))
+  | inr steps ↦ (let p = done.some steps in run_same work.steps old.core new.core p.0 p.1 (on_of work p.0 p.2 going))
+])
+
 pub commands_size : (s : State) (commands : List (ℕ × Op)) → (after_commands s commands).size ≡ s.size
 commands_size s [] = refl
 commands_size s (command ∷ rest) = commands_size (mutate s command.0 command.1).1 rest
@@ -127,13 +134,7 @@ module _ (heap : Collected) (pace : Pace) (turn : Turn) (h : IsState heap.core) 
 
   -- the steps left the mutators' heap
   same : Same u.core turn.heap.core
-  same = elim (cases_lt (steps_due pace (counts_in u) turn.wanted) 1) [
-    | inl none ↦ (let idle = (k.work).none (omega (arith, none)) in (ap (λ (x : State). x.heap) idle.0, ap (λ (x : State). x.size) idle.0))
-    | inr some ↦ (let done = call_work turn.wanted u turn.heap pace turn.pace turn.work k.work some in elim (cases_lt turn.work.steps 1) [
-      | inl none ↦ (let idle = done.none (omega (arith, none)) in (ap (λ (x : State). x.heap) idle, ap (λ (x : State). x.size) idle))
-      | inr steps ↦ (let p = done.some steps in run_same turn.work.steps u.core turn.heap.core p.0 p.1 (on_of turn.work p.0 p.2 (k.goes_on).going))
-    ])
-  ]
+  same = call_same turn.wanted u turn.heap pace turn.pace turn.work k.work (k.goes_on).going
 
   bound : units_left u ≤ steps_left (counts_in u)
   bound = counts_bound u (λ c is. left_bounded u.core c now.state.heap now.state.collection is) (k.goes_on).counted
@@ -180,7 +181,7 @@ module _ (heap : Collected) (pace : Pace) (turn : Turn) (h : IsState heap.core) 
       let size : u.core.size ≡ heap.core.size = ap (λ (x : State). x.size) k.found ∙ commands_size heap.core turn.commands in
       omega (arith, free, now.end, size, h.heap.room, now.state.heap.room)
 
-  turn_keeps_up : (unpaid turn.heap turn.pace ≤ unpaid heap pace) × (unpaid turn.heap turn.pace * heap.core.heap.free ≤ unpaid heap pace * turn.heap.core.heap.free)
+  pub turn_keeps_up : (unpaid turn.heap turn.pace ≤ unpaid heap pace) × (unpaid turn.heap turn.pace * heap.core.heap.free ≤ unpaid heap pace * turn.heap.core.heap.free)
   turn_keeps_up = elim turn_falls [
     | inl none ↦ (omega (arith, none), (let flat : unpaid turn.heap turn.pace * heap.core.heap.free ≡ 0 * heap.core.heap.free = ap (λ n. n * heap.core.heap.free) none in omega (arith, flat)))
     | inr f ↦
@@ -217,7 +218,7 @@ turns_most heap pace turns most h remembers k few rate some low =
 
 -- ---- a call that finds no more room than it wants
 
-all_due : (pace : Pace) (counts : Counts) (wanted : ℕ) → counts.free ≤ wanted → steps_left counts ≤ 4294967295 → steps_left counts ≤ steps_due pace counts wanted
+pub all_due : (pace : Pace) (counts : Counts) (wanted : ℕ) → counts.free ≤ wanted → steps_left counts ≤ 4294967295 → steps_left counts ≤ steps_due pace counts wanted
 all_due pace counts wanted low few = grind (arith, common_steps, not_zero)
 
 took_none : (before : Pace) (work : Work) → before.words ≡ 0 → took_its_words before work ≡ false

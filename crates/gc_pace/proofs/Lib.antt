@@ -1,4 +1,6 @@
 -- Lemmas about the entries in logs, about useful steps, the work and the memory that they leave, and about work at a pace.
+mod Bounded
+mod Cycles
 mod Flips
 pub mod FormerRuns
 pub mod Joined

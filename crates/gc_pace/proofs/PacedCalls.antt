@@ -13,7 +13,7 @@ use Rattle.gc_model.specs.declared.step.StepReply.{StepReply}
 use Rattle.gc_model.proofs.Public.{left_bounded}
 use Rattle.gc_pace.specs.Counts.{counts_in}
 use Rattle.gc_pace.specs.Beside.{HaveFallen}
-use Rattle.gc_pace.specs.Work.{IsRun, IsEnd, IsSpent, IsWork, after_useful, goes_on, has_flipped, is_over, no_work, sized_step, units}
+use Rattle.gc_pace.specs.Work.{IsRun, IsEnd, IsSpent, IsWork, after_useful, goes_on, has_flipped, is_over, no_work, sized_step, units, words_copied}
 use Rattle.gc_pace.specs.declared.work.Looks.TheVariants.{CountUpTo, AreFree}
 use Rattle.gc_pace.specs.Pace.{steps_left, units_of, units_left, spent, steps_due, Pays, took_its_words, owed_after, pace_after, CountsAll, HasEnded, WorkGoesOn, IsPacedWork}
 use Rattle.gc_pace.specs.declared.pace.Pace.{Pace}
@@ -37,10 +37,12 @@ unsized_allocates t allocates = grind (arith, common_steps)
 
 -- ---- the work of one call
 
--- useful steps in order, or none, whether the pace bounds their words or not
+-- useful steps in order, or none, whether the pace bounds their words or not, and the words that their replicas took
 pub record IsDueWork (s t : State) (work : Work) : Type 0 where
   pub none : work.steps ≡ 0 → t ≡ s
   pub some : 1 ≤ work.steps → (reply : StepReply) × IsRun None work.steps s t reply × (work.last ≡ Some reply)
+  pub none_copied : work.steps ≡ 0 → work.copied ≡ 0
+  pub copied : 1 ≤ work.steps → (reply : StepReply) × (work.last ≡ Some reply) × (work.copied ≡ words_copied s t reply)
 
 module _ (before : Pace) (due : ℕ) (s t : State) (work : Work) (busy : 1 ≤ due)
     (whole : before.words ≡ 0 → IsWork AreFree None None due s t work) (within : 1 ≤ before.words → IsWork (CountUpTo before.words) None (Some before.words) (min due before.words) s t work) where
@@ -49,10 +51,14 @@ module _ (before : Pace) (due : ℕ) (s t : State) (work : Work) (busy : 1 ≤ d
     | inl none ↦ (let w = whole (omega (arith, none)) in record {
       none = λ zero. (w.none zero).state;
       some = λ some. let p = w.some some in (p.reply, p.run, p.last);
+      none_copied = λ zero. ap (λ (w : Work). w.copied) (w.none zero).told;
+      copied = λ some. let p = w.some some in (p.reply, p.last, p.copied);
     })
     | inr bounded ↦ (let w = within bounded in record {
       none = λ zero. (w.none zero).state;
       some = λ some. let p = w.some some in (p.reply, p.run, p.last);
+      none_copied = λ zero. ap (λ (w : Work). w.copied) (w.none zero).told;
+      copied = λ some. let p = w.some some in (p.reply, p.last, p.copied);
     })
   ]
 
@@ -143,7 +149,12 @@ module _ (wanted : ℕ) (old new : Collected) (before after : Pace) (work : Work
   -- useful steps in order, or none
   done : IsDueWork old.core new.core work
   done = elim (cases_lt due 1) [
-    | inl zero ↦ (let idle = none (omega (arith, zero)) in record { none = λ _. idle.0; some = λ steps. absurd (omega (arith, steps, ap (λ (w : Work). w.steps) idle.1)) })
+    | inl zero ↦ (let idle = none (omega (arith, zero)) in record {
+      none = λ _. idle.0;
+      some = λ steps. absurd (omega (arith, steps, ap (λ (w : Work). w.steps) idle.1));
+      none_copied = λ _. ap (λ (w : Work). w.copied) idle.1;
+      copied = λ steps. absurd (omega (arith, steps, ap (λ (w : Work). w.steps) idle.1));
+    })
     | inr busy ↦ due_work before due old.core new.core work busy (some busy) (within busy)
   ]
 
@@ -193,6 +204,7 @@ module _ (wanted : ℕ) (old new : Collected) (before after : Pace) (work : Work
     pace = pace;
     logs = logs;
     enough = enough;
+    looks = looks;
     few = few;
     falls = falls;
     begun = begun;
@@ -215,6 +227,18 @@ paced_call wanted due old new before after work counts later is pays looks none 
     (subst (λ (n : ℕ). 1 ≤ n → 1 ≤ before.words → IsWork (CountUpTo before.words) None (Some before.words) (min n before.words) old.core new.core work) same within)
     (subst (λ (n : ℕ). Pays before (counts_in old) n) same (subst (λ (n : Counts). Pays before n due) at pays))
     (pace ∙ (ap (λ (n : ℕ). pace_after before n work later) same ∙ ap (pace_after before (steps_due before (counts_in old) wanted) work) then))
+
+-- what a call performed, whether steps were due or not
+pub call_done : (wanted : ℕ) (old new : Collected) (before after : Pace) (work : Work) → IsPacedWork wanted old new before after work → IsDueWork old.core new.core work
+call_done wanted old new before after work paced = elim (cases_lt (steps_due before (counts_in old) wanted) 1) [
+  | inl zero ↦ (let idle = paced.none (omega (arith, zero)) in record {
+    none = λ _. idle.0;
+    some = λ steps. absurd (omega (arith, steps, ap (λ (w : Work). w.steps) idle.1));
+    none_copied = λ _. ap (λ (w : Work). w.copied) idle.1;
+    copied = λ steps. absurd (omega (arith, steps, ap (λ (w : Work). w.steps) idle.1));
+  })
+  | inr busy ↦ due_work before (steps_due before (counts_in old) wanted) old.core new.core work busy (paced.some busy) (paced.within busy)
+]
 
 -- what a call performed, if steps were due
 pub call_work : (wanted : ℕ) (old new : Collected) (before after : Pace) (work : Work) → IsPacedWork wanted old new before after work → 1 ≤ steps_due before (counts_in old) wanted → IsDueWork old.core new.core work

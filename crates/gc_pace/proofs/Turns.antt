@@ -78,7 +78,7 @@ useful_keep (suc n) s h =
     let now = useful_keep n s h in
     subst (λ (step : Step). IsState (collect before step).1) (unsized (useful_step before)) (collect_keeps before (useful_step before) now (useful_ranges before now.collection))
 
-call_keeps : (wanted : ℕ) (old new : Collected) (before after : Pace) (work : Work) → IsPacedWork wanted old new before after work → IsState old.core → IsState new.core
+pub call_keeps : (wanted : ℕ) (old new : Collected) (before after : Pace) (work : Work) → IsPacedWork wanted old new before after work → IsState old.core → IsState new.core
 call_keeps wanted old new before after work paced h = go (steps_due before (counts_in old) wanted) refl
   where
     go : (n : ℕ) → steps_due before (counts_in old) wanted ≡ n → IsState new.core
@@ -87,7 +87,7 @@ call_keeps wanted old new before after work paced h = go (steps_due before (coun
         let busy : 1 ≤ steps_due before (counts_in old) wanted = omega arith in
         subst IsState (sym (work_state old.core new.core work (call_work wanted old new before after work paced busy))) (useful_keep work.steps old.core h)
 
-call_remembers : (wanted : ℕ) (old new : Collected) (before after : Pace) (work : Work) → IsPacedWork wanted old new before after work → Remembers after new
+pub call_remembers : (wanted : ℕ) (old new : Collected) (before after : Pace) (work : Work) → IsPacedWork wanted old new before after work → Remembers after new
 call_remembers wanted old new before after work paced = grind (arith, common_steps)
 
 -- the state that a turn begins with stays one through its commands

@@ -25,7 +25,7 @@ use Rattle.gc_pace.specs.declared.work.Work.{Work}
 
 -- ---- a collection stays open through a step that does not end the work
 
-abbrev IsOpen : State → Type 0
+abbrev pub IsOpen : State → Type 0
 IsOpen s = is_some s.collection ≡ true
 
 -- the step does not give the collection up
@@ -66,7 +66,7 @@ module _ (s : State) (c : Collection) (is_open : IsOpen s) where
   step_open steps.Flip k on = flip_open (is_ready c s.heap.graph) (passes_check s c) on
   step_open steps.Drop k on = absurd k
 
-stays_open : (size : Option ℕ) (s : State) → goes_on (collect s (sized_step size s)).0 ≡ true → IsOpen (collect s (sized_step size s)).1
+pub stays_open : (size : Option ℕ) (s : State) → goes_on (collect s (sized_step size s)).0 ≡ true → IsOpen (collect s (sized_step size s)).1
 stays_open size s on = grind (arith, common_steps, step_open)
 
 -- ---- one step

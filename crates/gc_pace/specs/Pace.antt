@@ -5,6 +5,7 @@ use Rattle.gc_model.specs.Steps.{useful_step}
 use Rattle.gc_model.specs.Progress.{work_left}
 use Rattle.gc_collected.specs.Collected.{Collected}
 use Rattle.gc_collected.specs.CollectedHeap.{Allocates}
+use Rattle.gc_pace.specs.Beside.{HaveFallen}
 use Rattle.gc_pace.specs.Counts.{counts_in}
 use Rattle.gc_pace.specs.Work.{IsWork, has_flipped, is_over, no_work, units}
 use Rattle.gc_pace.specs.declared.counts.Counts.{Counts}
@@ -110,6 +111,8 @@ pub record IsPacedWork (wanted : ℕ) (old new : Collected) (before after : Pace
   pub logs : CountsAll (counts_in old) → (counts_in new).logged + work.steps + units_of (counts_in old).roots_left ≤ steps_left (counts_in old)
   -- as many steps as are left end the collection, unless the call took its words first
   pub enough : CountsAll (counts_in old) → steps_left (counts_in old) ≤ steps_due before (counts_in old) wanted → HasEnded new.core work ⊎ IsTrue (took_its_words before work)
+  -- it took no more looks than were left, and unless it flipped, each leaves one less
+  pub looks : HaveFallen old.roots_left new.roots_left work
   -- a call performs no more units than were left, and each lowers them by one, unless the call ended the collection
   pub few : units work ≤ units_left old
   pub falls : is_over work ≡ false → units_left new + units work ≤ units_left old

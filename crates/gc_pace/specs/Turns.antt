@@ -1,5 +1,5 @@
 -- Many calls of paced work, with commands of mutators between them.
-use Rattle.std.specs.Prelude.{◌≡◌, ℕ, ◌+◌, ◌-◌, ◌<◌, ◌≤◌, List, [], ◌∷◌, ⊤}
+use Rattle.std.specs.Prelude.{◌≡◌, ◌⊎◌, ℕ, ◌+◌, ◌-◌, ◌<◌, ◌≤◌, false, List, [], ◌∷◌, ⊤}
 use Rattle.std.specs.List.{AllByRecursion}
 use Rattle.gc_graph.specs.declared.command.Op.{Op}
 use Rattle.gc_model.specs.State.{State}
@@ -7,8 +7,9 @@ use Rattle.gc_model.specs.Steps.{mutate}
 use Rattle.gc_model.specs.Runs.{HasRange}
 use Rattle.gc_model.specs.Progress.{entries_left}
 use Rattle.gc_collected.specs.Collected.{Collected}
-use Rattle.gc_pace.specs.Pace.{WorkGoesOn, IsPacedWork, steps_left, units_left}
+use Rattle.gc_pace.specs.Pace.{WorkGoesOn, HasEnded, IsPacedWork, owed_after, steps_due, steps_left, units_left}
 use Rattle.gc_pace.specs.Counts.{counts_in}
+use Rattle.gc_pace.specs.Work.{is_over, units}
 use Rattle.gc_pace.specs.declared.pace.Pace.{Pace}
 use Rattle.gc_pace.specs.declared.work.Work.{Work}
 
@@ -71,3 +72,45 @@ pub record HaveTaken (words entries looks : ℕ) (old new : Collected) : Type 0 
   pub allocated : old.core.heap.free ≤ new.core.heap.free + words
   pub logged : entries_left new.core ≤ entries_left old.core + entries
   pub stored : new.roots_left ≤ old.roots_left + looks
+
+-- ---- calls that may be bounded
+
+-- A turn whose call neither flips nor lacks room. If no collection is open and steps are due, it begins one. If one is open, it performs the steps
+-- that are due, or looks take their place, or it owes them.
+pub record IsPacedCall (heap : Collected) (pace : Pace) (turn : Turn) : Type 0 where
+  pub commands : AreCommands heap.core.mutators turn.commands
+  pub found : turn.found.core ≡ after_commands heap.core turn.commands
+  pub work : IsPacedWork turn.wanted turn.found turn.heap pace turn.pace turn.work
+  pub going : is_over turn.work ≡ false
+  pub begins : (counts_in turn.found).is_open ≡ 0 → 1 ≤ steps_due pace (counts_in turn.found) turn.wanted → 1 ≤ turn.work.steps
+  pub performed : 1 ≤ (counts_in turn.found).is_open → (let due = steps_due pace (counts_in turn.found) turn.wanted in due ≤ units turn.work + owed_after pace due turn.work)
+
+abbrev pub ArePacedCalls : Collected → Pace → List Turn → Type 0
+ArePacedCalls heap pace [] = ⊤
+ArePacedCalls heap pace (turn ∷ turns) = IsPacedCall heap pace turn × ArePacedCalls turn.heap turn.pace turns
+
+-- In each turn the commands take at most so many words, entries and looks, its call wants no more words, and it leaves at most `roots` looks.
+abbrev pub TakeAtMost : ℕ → ℕ → ℕ → ℕ → Collected → List Turn → Type 0
+TakeAtMost words entries looks roots heap [] = ⊤
+TakeAtMost words entries looks roots heap (turn ∷ turns) =
+    HaveTaken words entries looks heap turn.found × (turn.wanted ≤ words) × (turn.heap.roots_left ≤ roots) × TakeAtMost words entries looks roots turn.heap turns
+
+-- Where the program takes no more than this, its next call finds more room than it wants, or it ends the collection.
+abbrev pub FindsRoom : ℕ → ℕ → ℕ → Collected → Pace → Type 0
+FindsRoom words entries looks heap pace =
+    (commands : List (ℕ × Op)) (wanted : ℕ) (found new : Collected) (after : Pace) (work : Work)
+    → AreCommands heap.core.mutators commands → found.core ≡ after_commands heap.core commands → HaveTaken words entries looks heap found → wanted ≤ words
+    → IsPacedWork wanted found new pace after work → (wanted < (counts_in found).free) ⊎ HasEnded new.core work
+
+-- The heap has just flipped: no collection is open, and the pace remembers what the flip left.
+pub record HasJustFlipped (heap : Collected) (pace : Pace) : Type 0 where
+  pub closed : (counts_in heap).is_open ≡ 0
+  pub left : pace.left ≡ (counts_in heap).end
+  pub remembers : Remembers pace heap
+
+-- the pace that C's programs begin with, whichever counts it remembers
+pub record IsDefault (pace : Pace) : Type 0 where
+  pub factor : pace.factor ≡ 200
+  pub rate : pace.rate ≡ 0
+  pub least : pace.least ≡ 65536
+  pub words : pace.words ≡ 1024

@@ -10,7 +10,9 @@ mod work;
 
 pub use counts::Counts;
 pub use frame::Frame;
-pub use laws::{paced_work_bounds_logs, paced_work_keeps_up, waits_are_short};
+pub use laws::{
+    bounded_calls_find_room, paced_work_bounds_logs, paced_work_keeps_up, waits_are_short,
+};
 pub use pace::Pace;
 pub use paced::work_at_pace;
 pub use work::{Looks, Work, work_on, work_within};
