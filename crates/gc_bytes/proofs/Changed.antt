@@ -1,11 +1,11 @@
 -- Words of a text that change where bytes are written over some of its own.
-use Rattle.std.proofs.lemmas.Bool.{cases_eq, cases_lt, eq-eqb, le-leb, lt-leb, ne_eqb}
-use Rattle.std.proofs.Common.{◌≡◌, ◌⊎◌, inl, inr, ℕ, zero, suc, ◌+◌, ◌-◌, ◌*◌, ◌/◌, ◌%◌, ◌^◌, ◌<◌, ◌≤◌, List, [], ◌∷◌, ◌++◌, length, min, get_or, take, drop, map, refl, ap, sym, ◌∙◌, subst, arith}
-use Rattle.std.proofs.lemmas.List.{append_assoc, drop-append-le, drop-drop, drop-take, append-nil, drop_all, ext_get_or, get_or-drop, get_or-take, length-append, length-drop, length-take, length-take-le, take-append-drop, take-append-le, take-take, take_all}
+use Rattle.std.proofs.lemmas.Bool.{cases_lt, eq-eqb, le-leb, lt-leb, ne_eqb}
+use Rattle.std.proofs.Common.{◌≡◌, inl, inr, ℕ, zero, suc, ◌+◌, ◌-◌, ◌*◌, ◌/◌, ◌%◌, ◌^◌, ◌<◌, ◌≤◌, List, [], ◌∷◌, ◌++◌, length, min, get_or, take, drop, refl, ap, sym, ◌∙◌, subst, arith}
+use Rattle.std.proofs.lemmas.List.{append_assoc, drop-append-le, drop-drop, drop-take, append-nil, ext_get_or, get_or-drop, get_or-take, length-append, length-drop, length-take, length-take-le, take-append-drop, take-take, take_all}
 use Rattle.std.proofs.lemmas.Nat.{mod_below, mod_low, mul-add-lt, pow-add, pow_pos, shr_below, shr_high, shr_split}
 use Rattle.gc_bytes.specs.Text.{AreBytes, bytes_number, changed_words, fields_for, overwritten, spelled}
 use Rattle.std.proofs.lemmas.List.FromFn.{get_or-map-range_with_len, length-map-range_with_len}
-use Rattle.std.specs.Prelude.{Bool, true, false, ◌==◌, nat_le, if◌then◌else◌, slice_range}
+use Rattle.std.specs.Prelude.{Bool, false, nat_le, if◌then◌else◌, slice_range}
 use Rattle.gc_bytes.specs.Changed.{changed_count, changed_in, changed_word, patched_word}
 use Rattle.gc_bytes.proofs.Digits.{drop_on, number-append, take_on}
 use Rattle.gc_bytes.proofs.Joined.{number_bound}
@@ -53,7 +53,7 @@ parts_of j c t all few within =
     (small, (let e : bytes_number c + 2 ^ 56 * t ≡ (high + q * t) * p + low = omega arith in e))
 
 -- a word with these bytes among its own
-pub patched_bytes : (j : ℕ) (c p : List ℕ) (t : ℕ) → AreBytes c → length c ≤ 7 → j + length p ≤ length c
+patched_bytes : (j : ℕ) (c p : List ℕ) (t : ℕ) → AreBytes c → length c ≤ 7 → j + length p ≤ length c
     → patched_word (bytes_number c + 2 ^ 56 * t) j p ≡ bytes_number (take j c ++ (p ++ drop (j + length p) c)) + 2 ^ 56 * t
 patched_bytes j c p t all few within =
     let m = length p in
@@ -306,3 +306,24 @@ changed_are text at bytes some within all =
     ∙ sym (get_or-take count (drop (at / 7) words) i 0 (omega arith) ∙ get_or-drop (at / 7) words i 0)
     )
     ∙ sym (some_change text at bytes some)
+
+-- ---- what word i of them is
+
+module _ (first last skip : ℕ) (bytes : List ℕ) (i : ℕ) where
+  abbrev rest_at : List ℕ
+  rest_at = drop (7 * i - skip) bytes
+
+  abbrev of_rest : Bool → ℕ
+  of_rest few = if few then patched_word last 0 rest_at else bytes_number (take 7 rest_at)
+
+  abbrev of_all : Bool → ℕ
+  of_all is_first = if is_first then patched_word first skip (take (7 - skip) bytes) else of_rest (nat_le (length rest_at) 7)
+
+  pub first_of_all : i ≡ 0 → changed_word first last skip bytes i ≡ patched_word first skip (take (7 - skip) bytes)
+  first_of_all is = ap of_all (eq-eqb i 0 is)
+
+  pub last_of_all : (i ≡ 0 → ⊥) → length rest_at ≤ 7 → changed_word first last skip bytes i ≡ patched_word last 0 rest_at
+  last_of_all later few = ap of_all (ne_eqb i 0 later) ∙ ap of_rest (le-leb (length rest_at) 7 few)
+
+  pub whole_of_all : (i ≡ 0 → ⊥) → 7 < length rest_at → changed_word first last skip bytes i ≡ bytes_number (take 7 rest_at)
+  whole_of_all later more = ap of_all (ne_eqb i 0 later) ∙ ap of_rest (lt-leb (length rest_at) 7 more)

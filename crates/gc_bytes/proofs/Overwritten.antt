@@ -1,9 +1,9 @@
 -- A text whose words change has other bytes there, and is the same elsewhere.
 use Rattle.std.proofs.lemmas.Bool.{cases_lt}
-use Rattle.std.proofs.lemmas.List.{ext_get_or, get_or-append_right, get_or-drop, get_or-take, get_or_append_left, get_or_past, length-append, length-drop, length-take, length-take-le, append-nil, take-append-drop}
-use Rattle.std.proofs.Common.{Option, ◌≡◌, ◌⊎◌, inl, inr, ℕ, zero, suc, ◌+◌, ◌-◌, ◌*◌, ◌/◌, ◌%◌, ◌^◌, ◌<◌, ◌≤◌, List, [], ◌∷◌, ◌++◌, length, get_or, take, drop, Some, None, refl, ap, sym, ◌∙◌, subst, arith}
+use Rattle.std.proofs.lemmas.List.{ext_get_or, get_or-append_right, get_or-drop, get_or-take, get_or_append_left, length-append, length-take-le, append-nil, take-append-drop}
+use Rattle.std.proofs.Common.{◌≡◌, inl, inr, ℕ, zero, suc, ◌+◌, ◌-◌, ◌*◌, ◌/◌, ◌%◌, ◌^◌, ◌<◌, ◌≤◌, List, [], ◌∷◌, ◌++◌, length, get_or, take, drop, Some, None, refl, ap, sym, ◌∙◌, subst, arith}
 use Rattle.std.specs.Option.{option_map}
-use Rattle.gc_bytes.specs.Text.{AreBytes, bytes_number, bytes_of, changed_words, digits, fields_for, last_word, length_told, overwritten, spelled, text_length, text_of}
+use Rattle.gc_bytes.specs.Text.{AreBytes, bytes_of, changed_words, digits, fields_for, length_told, overwritten, spelled, text_length, text_of}
 use Rattle.gc_bytes.specs.Changed.{changed_count}
 use Rattle.gc_bytes.proofs.Changed.{same_length, some_change, slice_length}
 use Rattle.gc_bytes.proofs.Digits.{length-bytes_of, length-digits}
@@ -33,10 +33,10 @@ byte_at (w ∷ rest) k =
 -- ---- lists with other elements
 
 module _ (list elements : List ℕ) (at : ℕ) (within : at + length elements ≤ length list) where
-  pub written_length : length (overwritten list at elements) ≡ length list
+  written_length : length (overwritten list at elements) ≡ length list
   written_length = same_length list elements at within
 
-  pub written_before : (k : ℕ) → k < at → get_or (overwritten list at elements) k 0 ≡ get_or list k 0
+  written_before : (k : ℕ) → k < at → get_or (overwritten list at elements) k 0 ≡ get_or list k 0
   written_before k less =
       let f = length-take-le at list (omega arith) in
       let a = length-append (take at list) elements in
@@ -44,14 +44,14 @@ module _ (list elements : List ℕ) (at : ℕ) (within : at + length elements �
       ∙ get_or_append_left (take at list) elements 0 k (omega arith)
       ∙ get_or-take at list k 0 less
 
-  pub written_there : (k : ℕ) → at ≤ k → k < at + length elements → get_or (overwritten list at elements) k 0 ≡ get_or elements (k - at) 0
+  written_there : (k : ℕ) → at ≤ k → k < at + length elements → get_or (overwritten list at elements) k 0 ≡ get_or elements (k - at) 0
   written_there k past less =
       let f = length-take-le at list (omega arith) in
       let a = length-append (take at list) elements in
       get_or_append_left (take at list ++ elements) (drop (at + length elements) list) 0 k (omega arith)
       ∙ get_or-append_right (take at list) elements at k 0 f past
 
-  pub written_behind : (k : ℕ) → at + length elements ≤ k → get_or (overwritten list at elements) k 0 ≡ get_or list k 0
+  written_behind : (k : ℕ) → at + length elements ≤ k → get_or (overwritten list at elements) k 0 ≡ get_or list k 0
   written_behind k past =
       let f = length-take-le at list (omega arith) in
       let a = length-append (take at list) elements in

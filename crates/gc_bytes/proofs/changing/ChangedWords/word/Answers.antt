@@ -1,11 +1,9 @@
 -- The word is the first one, the last one, or one between both that changes whole.
-use Rattle.std.proofs.Common.{◌≡◌, ◌+◌, ◌-◌, ◌*◌, ◌<◌, ◌≤◌, ℕ, List, true, false, length, get_or, min, take, drop, ap, subst, sym, ◌∙◌, arith}
-use Rattle.std.specs.Prelude.{Bool, if◌then◌else◌, nat_le}
-use Rattle.std.proofs.lemmas.Bool.{eq-eqb, le-leb, lt-leb, ne_eqb}
+use Rattle.std.proofs.Common.{◌≡◌, ◌-◌, ◌*◌, ◌<◌, ◌≤◌, ℕ, List, length, get_or, min, take, ap, subst, sym, ◌∙◌, arith}
 use Rattle.std.proofs.lemmas.List.{take_min, take_rest}
 use Rattle.gc_bytes.specs.Text.{bytes_number}
-use Rattle.gc_bytes.specs.Changed.{changed_count, changed_in, changed_word, patched_word}
-use Rattle.gc_bytes.proofs.Changed.{changed_length, changed_word_at}
+use Rattle.gc_bytes.specs.Changed.{changed_count, changed_word, patched_word}
+use Rattle.gc_bytes.proofs.Changed.{changed_length, changed_word_at, first_of_all, last_of_all, whole_of_all}
 use Rattle.gc_bytes.proofs.changing.ChangedWords.word.Goals as goal
 use Rattle.gc_bytes.proofs.changing.ChangedWords.word.Goals.{After-self}
 
@@ -15,25 +13,14 @@ inside c = let i = c.self.inside in let l = sym (changed_length i.first i.last i
 is : (c : After-self) → changed_word c.self.inside.first c.self.inside.last c.self.inside.skip c.self.inside.bytes.now c.args.i ≡ get_or c.args.self.now c.args.i 0
 is c = let x = c.self.inside in sym (changed_word_at x.first x.last x.skip x.bytes.now c.args.i (inside c)) ∙ ap (λ ws. get_or ws c.args.i 0) c.self.view_is
 
--- the first word
 pub returns-then-i-eq0-clause-word : goal.returns-then-i-eq0-clause-word
 returns-then-i-eq0-clause-word c =
     let x = c.self.inside in
-    let rest = drop (7 * c.args.i - x.skip) x.bytes.now in
-    let other = if nat_le (length rest) 7 then patched_word x.last 0 rest else bytes_number (take 7 rest) in
     let room : c.min-front.result ≡ min (7 - x.skip) (length x.bytes.now) = omega (arith, c.min-front.ensures) in
     c.patched_word.ensures.word
     ∙ ap (patched_word x.first x.skip) (ap (λ k. take k x.bytes.now) room ∙ take_min (7 - x.skip) x.bytes.now)
-    ∙ ap (λ (b : Bool). if b then patched_word x.first x.skip (take (7 - x.skip) x.bytes.now) else other) (sym (eq-eqb c.args.i 0 c.if-i-eq0.true))
+    ∙ sym (first_of_all x.first x.last x.skip x.bytes.now c.args.i c.if-i-eq0.true)
     ∙ is (goal.at.returns-then-i-eq0-clause-word c).After-self
-
--- another one
-other : (c : After-self) → (c.args.i ≡ 0 → ⊥) → (let x = c.self.inside in let rest = drop (7 * c.args.i - x.skip) x.bytes.now in (if nat_le (length rest) 7 then patched_word x.last 0 rest else bytes_number (take 7 rest)) ≡ get_or c.args.self.now c.args.i 0)
-other c later =
-    let x = c.self.inside in
-    let rest = drop (7 * c.args.i - x.skip) x.bytes.now in
-    let word = if nat_le (length rest) 7 then patched_word x.last 0 rest else bytes_number (take 7 rest) in
-    ap (λ (b : Bool). if b then patched_word x.first x.skip (take (7 - x.skip) x.bytes.now) else word) (sym (ne_eqb c.args.i 0 later)) ∙ is c
 
 pub overflow_mul-from : goal.overflow_mul-from
 overflow_mul-from c = let i = inside (goal.at.overflow_mul-from c).After-self in omega (arith, i, c.self.invariant, c.self.told)
@@ -50,23 +37,17 @@ slice_bounds-rest-start c = let i = inside (goal.at.slice_bounds-rest-start c).A
 pub returns-then-rest-gt7-clause-word : goal.returns-then-rest-gt7-clause-word
 returns-then-rest-gt7-clause-word c =
     let x = c.self.inside in
-    let from = 7 * c.args.i - x.skip in
-    let rest = drop from x.bytes.now in
-    let is = take_rest x.bytes.now from in
-    let long : 7 < length rest = subst (λ (xs : List ℕ). 7 < length xs) is c.if-rest-gt7.true in
+    let rest = take_rest x.bytes.now (7 * c.args.i - x.skip) in
     c.whole_word.ensures.word
-    ∙ ap (λ xs. bytes_number (take 7 xs)) is
-    ∙ ap (λ (b : Bool). if b then patched_word x.last 0 rest else bytes_number (take 7 rest)) (sym (lt-leb (length rest) 7 long))
-    ∙ other (goal.at.returns-then-rest-gt7-clause-word c).After-self c.if-i-eq0.false
+    ∙ ap (λ xs. bytes_number (take 7 xs)) rest
+    ∙ sym (whole_of_all x.first x.last x.skip x.bytes.now c.args.i c.if-i-eq0.false (subst (λ (xs : List ℕ). 7 < length xs) rest c.if-rest-gt7.true))
+    ∙ is (goal.at.returns-then-rest-gt7-clause-word c).After-self
 
 pub returns-else-rest-gt7-clause-word : goal.returns-else-rest-gt7-clause-word
 returns-else-rest-gt7-clause-word c =
     let x = c.self.inside in
     let from = 7 * c.args.i - x.skip in
-    let rest = drop from x.bytes.now in
-    let is = take_rest x.bytes.now from in
-    let few : length rest ≤ 7 = subst (λ (xs : List ℕ). length xs ≤ 7) is c.if-rest-gt7.false in
     c.patched_word-else-rest-gt7.ensures.word
-    ∙ ap (patched_word x.last 0) is
-    ∙ ap (λ (b : Bool). if b then patched_word x.last 0 rest else bytes_number (take 7 rest)) (sym (le-leb (length rest) 7 few))
-    ∙ other (goal.at.returns-else-rest-gt7-clause-word c).After-self c.if-i-eq0.false
+    ∙ ap (patched_word x.last 0) (take_rest x.bytes.now from)
+    ∙ sym (last_of_all x.first x.last x.skip x.bytes.now c.args.i c.if-i-eq0.false (subst (λ (xs : List ℕ). length xs ≤ 7) (take_rest x.bytes.now from) c.if-rest-gt7.false))
+    ∙ is (goal.at.returns-else-rest-gt7-clause-word c).After-self

@@ -1,7 +1,7 @@
 -- The first and the last of the words are taken from the text.
-use Rattle.std.proofs.Common.{◌+◌, ◌-◌, ◌/◌, ◌%◌, ◌*◌, ◌^◌, ◌<◌, ◌≤◌, ◌≡◌, List, ℕ, length, get_or, take, ap, subst, sym, ◌∙◌, arith}
+use Rattle.std.proofs.Common.{◌+◌, ◌-◌, ◌/◌, ◌%◌, ◌*◌, ◌^◌, ◌<◌, ◌≤◌, ◌≡◌, List, ℕ, length, get_or, take, ap, subst, ◌∙◌, arith}
 use Rattle.std.proofs.lemmas.List.{length-take-le}
-use Rattle.gc_bytes.specs.Text.{AreBytes, bytes_of, changed_words, spelled}
+use Rattle.gc_bytes.specs.Text.{AreBytes, bytes_of, spelled}
 use Rattle.gc_bytes.specs.Changed.{changed_in}
 use Rattle.gc_bytes.proofs.Changed.{changed_are}
 use Rattle.gc_bytes.proofs.Digits.{length-bytes_of}
