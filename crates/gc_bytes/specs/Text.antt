@@ -1,5 +1,5 @@
 -- Texts of bytes in the fields of a raw object: seven bytes to a word, the first one lowest. The last word also says how many it has.
-use Rattle.std.specs.Prelude.{ℕ, zero, suc, ◌+◌, ◌*◌, ◌/◌, ◌%◌, ◌^◌, ◌<◌, ◌&&◌, nat_lt, nat_le, if◌then◌else◌, List, [], ◌∷◌, length, get_or, take, drop, Option, Some, None}
+use Rattle.std.specs.Prelude.{ℕ, zero, suc, ◌+◌, ◌*◌, ◌/◌, ◌%◌, ◌^◌, ◌<◌, ◌&&◌, nat_lt, nat_le, if◌then◌else◌, List, [], ◌∷◌, ◌++◌, length, get_or, take, drop, Option, Some, None, slice_range}
 use Rattle.std.specs.List.{AllByRecursion, flat_map}
 use Rattle.std.specs.Option.{option_map}
 
@@ -59,3 +59,14 @@ text_length (w ∷ rest) = length_told (length rest) (get_or (w ∷ rest) (lengt
 -- the bytes of the text that these words are, if they are one
 abbrev pub text_of : List ℕ → Option (List ℕ)
 text_of words = option_map (λ n. take n (bytes_of words)) (text_length words)
+
+-- ---- bytes that are written over others
+
+-- the list with these elements in the places from `at` on
+abbrev pub overwritten : List ℕ → ℕ → List ℕ → List ℕ
+overwritten list at elements = take at list ++ elements ++ drop (at + length elements) list
+
+-- the words of a text that change where these bytes are written over its own, from byte `at` on: from the word of the first byte to that of the last
+abbrev pub changed_words : List ℕ → ℕ → List ℕ → List ℕ
+changed_words text at [] = []
+changed_words text at (b ∷ rest) = slice_range (spelled (overwritten text at (b ∷ rest))) (at / 7) (fields_for (at + length (b ∷ rest)))

@@ -1,6 +1,7 @@
 //! Texts of bytes in the fields of raw objects, seven bytes to a word.
 #![tactic(auto)]
 
+mod changing;
 mod comparing;
 mod laws;
 mod parts;
@@ -8,6 +9,7 @@ mod reading;
 mod spelling;
 mod text;
 
-pub use laws::texts_are_read_again;
+pub use changing::ChangedWords;
+pub use laws::{changed_texts_are_read_again, texts_are_read_again};
 pub use spelling::{MOST_BYTES, fields_for, spelled_word};
 pub use text::Text;

@@ -93,9 +93,9 @@ pub(crate) fn low(word: u64, n: usize) -> u64
     word % (1 << (8 * n))
 }
 
-// Returns the number of k bytes, raised by n bytes.
+/// Returns the number of k bytes, raised by n bytes.
 #[inline(always)]
-fn raised(number: u64, n: usize, k: usize) -> u64
+pub(crate) fn raised(number: u64, n: usize, k: usize) -> u64
     requires within { n + k ≤ 7 }
     requires number { number < 2 ^ (8 * k) }
     ensures { result ≡ number * 2 ^ (8 * n) }

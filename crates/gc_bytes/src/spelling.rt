@@ -30,9 +30,9 @@ pub fn spelled_word(bytes: &[u8], i: usize) -> u64
     }
 }
 
-// Returns the word with the first seven of these bytes. Reads eight at once.
+/// Returns the word with the first seven of these bytes. Reads eight at once.
 #[inline(always)]
-fn whole_word(bytes: &[u8]) -> u64
+pub(crate) fn whole_word(bytes: &[u8]) -> u64
     requires { 8 ≤ length bytes.now }
     ensures word { result ≡ bytes_number (take 7 bytes.now) }
     ensures small { result < 2 ^ 56 }
@@ -63,9 +63,9 @@ pub(crate) fn counted(number: u64, n: usize) -> u64
     number + ((n as u64) << 56)
 }
 
-// Returns the number with these digits to the base 256, the lowest first.
+/// Returns the number with these digits to the base 256, the lowest first.
 #[inline(always)]
-fn number_of(digits: &[u8]) -> u64
+pub(crate) fn number_of(digits: &[u8]) -> u64
     requires { length digits.now ≤ 7 }
     ensures value { result ≡ bytes_number digits.now }
     ensures small { result < 2 ^ 56 }

@@ -4,8 +4,9 @@ ghost use Rattle.std.specs.Prelude.{◌≡◌, ◌≢◌, ◌<◌, ◌≤◌, �
 ghost use Rattle.std.specs.Option.{option_map};
 ghost use Rattle.std.specs.Cmp.Lexicographic.{slice_cmp};
 ghost use Rattle.std.specs.Ordering.{nat_cmp};
-ghost use Rattle.gc_bytes.specs.Text.{bytes_of, fields_for as fields_in, spelled, text_of};
+ghost use Rattle.gc_bytes.specs.Text.{bytes_of, changed_words, fields_for as fields_in, spelled, text_of};
 
+use crate::changing::ChangedWords;
 use crate::comparing::compare_bytes;
 use crate::parts::{joined_word, part_word};
 use crate::reading::{read_bytes, text_length};
@@ -103,5 +104,22 @@ impl Text<'_> {
         ensures number { result < 2 ^ 63 }
     {
         joined_word(self.words, self.count, other.words, other.count, i)
+    }
+
+    /// Returns the words of this text that change where these bytes are written over its own, from byte `at` on.
+    #[inline(always)]
+    pub fn changed_by<'b>(&self, at: usize, bytes: &'b [u8]) -> ChangedWords<'b>
+        requires some { 0 < length bytes.now }
+        requires inside { at + length bytes.now ≤ length self.now }
+        ensures { result ≡ changed_words self.now at bytes.now }
+    {
+        let first = part_word(self.words, 0, self.count, at / 7);
+        let end = at + bytes.len() - 1;
+        ChangedWords {
+            first,
+            last: part_word(self.words, 0, self.count, end / 7),
+            skip: at % 7,
+            bytes,
+        }
     }
 }

@@ -45,7 +45,7 @@ use Rattle.gc_collected.proofs.Monitor.Follows.{IsAmong, follows_closed, follows
 
 -- ---- an object after a write
 
-written_itself : (objects : List (ℕ × Object)) (n i : ℕ) (v : Value) (o : Object) → lookup objects n ≡ Some o → lookup (set_field objects n i v) n ≡ Some (with_field o i v)
+pub written_itself : (objects : List (ℕ × Object)) (n i : ℕ) (v : Value) (o : Object) → lookup objects n ≡ Some o → lookup (set_field objects n i v) n ≡ Some (with_field o i v)
 written_itself objects n i v o there = lookup_written n i v objects n o there ∙ ap (λ b. Some (cond b (with_field o i v) o)) (eq-eqb n n refl)
 
 written_beside : (objects : List (ℕ × Object)) (n i : ℕ) (v : Value) (x : ℕ) (o : Object) → (x == n) ≡ false → lookup objects x ≡ Some o → lookup (set_field objects n i v) x ≡ Some o

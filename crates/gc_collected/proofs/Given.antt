@@ -32,7 +32,7 @@ use Rattle.gc_collected.proofs.ValuesPut.{after, entries, given, put_at, root_be
 -- ---- one value
 
 -- the value goes through no root
-value_is : (s : State) (m p i : ℕ) (v : Value) → p < length s.heap.graph.roots → put_value_step s m p i v ≡ after s s.heap.graph.roots m (root s.heap.graph p) i v
+pub value_is : (s : State) (m p i : ℕ) (v : Value) → p < length s.heap.graph.roots → put_value_step s m p i v ≡ after s s.heap.graph.roots m (root s.heap.graph p) i v
 value_is s m p i v within =
     let rs = s.heap.graph.roots in
     ap (λ (x : Reply × State). (x.0, with_roots x.1 rs)) (put_at s (rs ++ v ∷ []) m p (length rs) i (root s.heap.graph p) v (root_before rs p v within) (root_last rs v))

@@ -122,7 +122,7 @@ one_known known s m d i values.Nil k = k
 one_known known s m d i (values.Number n) k = value_known known s m d i (Num n) k
 one_known known s m d i (values.Root p) k = put_knows known s _ m i (root_at d) (root_at p) _ refl k
 
-gives_known : (fields : List FieldValue) (known : KnownRoots) (s : State) (m d i : ℕ) → KnowsRoots known s → KnowsRoots known (gives_step s m d i fields)
+pub gives_known : (fields : List FieldValue) (known : KnownRoots) (s : State) (m d i : ℕ) → KnowsRoots known s → KnowsRoots known (gives_step s m d i fields)
 gives_known [] known s m d i k = k
 gives_known (value ∷ rest) known s m d i k = gives_known rest known (give_step s m d i value) m d (suc i) (one_known known s m d i value k)
 
@@ -144,7 +144,7 @@ new_known known s new m kind d fields reply steps k =
 
 -- ---- an open collection stays open
 
-gives_open : (fields : List FieldValue) (s : State) (m d i : ℕ) → is_some (gives_step s m d i fields).collection ≡ is_some s.collection
+pub gives_open : (fields : List FieldValue) (s : State) (m d i : ℕ) → is_some (gives_step s m d i fields).collection ≡ is_some s.collection
 gives_open [] s m d i = refl
 gives_open (values.Nil ∷ rest) s m d i = gives_open rest s m d (suc i)
 gives_open (values.Number n ∷ rest) s m d i = gives_open rest (put_value_step s m d i (Num n)).1 m d (suc i) ∙ logged_open s.collection m _

@@ -36,3 +36,4 @@ mod Texts
 mod Together
 mod Unwritten
 mod ValuesPut
+mod WrittenTexts

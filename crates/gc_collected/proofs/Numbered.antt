@@ -56,7 +56,7 @@ numbers_are ns s m d i within = gives_are (map Number ns) s m d i within ∙ ap 
 
 -- ---- other objects stay
 
-set_keeps : (os : List (ℕ × Object)) (a i : ℕ) (v : Value) (b : ℕ) → (b ≡ a → ⊥) → lookup (set_field os a i v) b ≡ lookup os b
+pub set_keeps : (os : List (ℕ × Object)) (a i : ℕ) (v : Value) (b : ℕ) → (b ≡ a → ⊥) → lookup (set_field os a i v) b ≡ lookup os b
 set_keeps [] a i v b apart = refl
 set_keeps (e ∷ os) a i v b apart = grind (arith, common_steps, ne_eqb, eqb-true, set_keeps os a i v b apart)
 

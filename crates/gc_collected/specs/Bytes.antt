@@ -1,15 +1,18 @@
 -- Texts of bytes in raw objects.
-use Rattle.std.specs.Prelude.{ℕ, ◌+◌, nat_le, if◌then◌else◌, List, [], ◌++◌, length, Option, Some, None, slice_range}
+use Rattle.std.specs.Prelude.{◌≡◌, ℕ, ◌+◌, ◌/◌, nat_le, if◌then◌else◌, List, [], ◌++◌, length, map, Option, Some, None, slice_range}
 use Rattle.std.specs.Option.{option_and_then, unwrap_or}
-use Rattle.gc_bytes.specs.Text.{spelled, text_of}
-use Rattle.gc_graph.specs.Graph.{Graph, Object}
+use Rattle.gc_bytes.specs.Text.{changed_words, spelled, text_of}
+use Rattle.gc_graph.specs.Graph.{Graph, Object, Ref, lookup, root}
+use Rattle.gc_graph.specs.Machine.{Roomy, view_of}
 use Rattle.gc_graph.specs.declared.reply.Reply.{Reply}
-use Rattle.gc_graph.specs.declared.reply.Reply.TheVariants.{NoField, NoObject}
+use Rattle.gc_graph.specs.declared.reply.Reply.TheVariants.{Done, NoField, NoObject}
 use Rattle.gc_heap.specs.Places.{root_at}
 use Rattle.gc_heap.specs.Raws.{numbers_in}
 use Rattle.gc_model.specs.State.{State}
 use Rattle.gc_collected.specs.Copying.{object_in}
+use Rattle.gc_collected.specs.Giving.{gives_step}
 use Rattle.gc_collected.specs.Numbers.{new_numbers_step}
+use Rattle.gc_collected.specs.declared.giving.FieldValue.TheVariants.{Number}
 
 -- the bytes of the text that an object is, if it is one
 abbrev pub text_of_object : Option Object → Option (List ℕ)
@@ -41,3 +44,21 @@ part old m d kind (Some text) at count =
 -- the reply and the next state where a part of the root's text is copied to a new object
 abbrev pub part_step : State → ℕ → ℕ → ℕ → ℕ → ℕ → ℕ → Reply × State
 part_step old m d kind s at count = part old m d kind (text_in old.heap.graph s) at count
+
+-- these bytes are written over those of the text, from one of them on, if it has so many: each word that changes is put, in rising order
+abbrev pub write : State → ℕ → ℕ → Option (List ℕ) → ℕ → List ℕ → Reply × State
+write old m s None at bytes = (NoObject, old)
+write old m s (Some text) at bytes =
+    if nat_le (at + length bytes) (length text) then (Done, gives_step old m s (at / 7) (map Number (changed_words text at bytes))) else (NoField, old)
+
+-- the reply and the next state where bytes are written over those of the root's text
+abbrev pub write_step : State → ℕ → ℕ → ℕ → List ℕ → Reply × State
+write_step old m s at bytes = write old m s (text_in old.heap.graph s) at bytes
+
+-- Root p refers to this text, in an object that looks as before. All other objects and all roots are as before, and no room was taken.
+pub record OnlyText (old new : Roomy) (p : ℕ) (text : List ℕ) : Type 0 where
+  pub is : text_in new.graph p ≡ Some text
+  pub looks : view_of new.graph.objects (root new.graph p) ≡ view_of old.graph.objects (root old.graph p)
+  pub others : (a : ℕ) → (root old.graph p ≡ Ref a → ⊥) → lookup new.graph.objects a ≡ lookup old.graph.objects a
+  pub roots : new.graph.roots ≡ old.graph.roots
+  pub free : new.free ≡ old.free

@@ -1,22 +1,29 @@
 //! Texts of bytes in raw objects, by places and through no root.
 
-ghost use Rattle.std.specs.Prelude.{ℕ, ◌≡◌, ◌≢◌, ◌<◌, ◌≤◌, ◌+◌, ◌++◌, [], Some, IfOk, IfSome, IsSome, OnErr, length, slice_range};
+ghost use Rattle.std.specs.Prelude.{ℕ, ◌≡◌, ◌≢◌, ◌<◌, ◌≤◌, ◌+◌, ◌++◌, [], Some, IfOk, IfSome, IsSome, IsTrue, OnErr, length, slice_range};
 ghost use Rattle.std.specs.Option.{option_map, unwrap_or};
-ghost use Rattle.gc_bytes.specs.Text.{most_bytes, spelled};
+ghost use Rattle.gc_bytes.specs.Text.{fields_for as fields_in, most_bytes, spelled};
 ghost use Rattle.gc_graph.specs.Graph.{Ref, lookup, root};
 ghost use Rattle.gc_graph.specs.declared.reply.Reply.{Reply};
 ghost use Rattle.gc_heap.specs.Heap.{graph_in};
+ghost use Rattle.gc_words.specs.Image.{header_at};
 ghost use Rattle.gc_model.specs.State.{heap_end};
 ghost use Rattle.gc_roots.specs.Twins.{AsksForLook};
-ghost use Rattle.gc_collected.specs.Bytes.{bytes_in, join_step, part_step, text_in, text_of_object};
+ghost use Rattle.gc_collected.specs.Bytes.{bytes_in, join_step, part_step, text_in, text_of_object, write_step};
 ghost use Rattle.gc_collected.specs.Numbers.{new_numbers_step};
 
+use crate::barrier::reserve_in;
 use crate::collected_heap::CollectedHeap;
-use crate::numbers::NumberRow;
-use gc_bytes::{Text, fields_for, spelled_word, texts_are_read_again};
+use crate::copying::object;
+use crate::numbers::{NumberRow, write_numbers};
+use gc_bytes::{
+    ChangedWords, Text, changed_texts_are_read_again, fields_for, spelled_word,
+    texts_are_read_again,
+};
+use gc_copy::heaps_have_addresses_as_names;
 use gc_graph::{NoMemory, Reply};
 use gc_heap::Heap;
-use gc_words::{Addr, OldAddr};
+use gc_words::{Addr, Header, OldAddr};
 
 impl CollectedHeap {
     /// Returns the text that root `s` refers to, or `None` if it refers to no raw object, or to one whose words are no text.
@@ -111,6 +118,49 @@ impl CollectedHeap {
         self.new_numbers(m, d, kind, &part)
     }
 
+    /// Writes these bytes over those of the text that root `s` refers to, from byte `at` on. This is mutator `m`'s `put_plain` for each word of the text that
+    /// changes, in rising order: the words from that of the first byte to that of the last one. The text keeps its length. Returns `Done`. Or nothing is
+    /// changed, and the reply is `NoObject` where root `s` refers to no text, or `NoField` where the text has fewer bytes. While a collection is open, each
+    /// word is logged (the write barrier). Only then can the call return `NoMemory`, and the heap is unchanged.
+    pub fn write_bytes(&mut self, m: u8, s: u32, at: u32, bytes: &[u8]) -> Result<Reply, NoMemory>
+        requires mutator { m < self.old.core.mutators }
+        requires object { s < length self.old.core.heap.graph.roots }
+        ensures step { IfOk result (λ reply. write_step self.old.core m s at bytes.now ≡ (reply, self.new.core)) }
+        ensures refused { OnErr result (self.new ≡ self.old) }
+        ensures open { OnErr result (IsSome self.old.core.collection) }
+        ensures mutators { self.new.core.mutators ≡ self.old.core.mutators }
+        ensures beside { self.new.beside ≡ self.old.beside }
+        ensures looks { IfOk result (λ _. self.new.roots_left ≡ self.old.roots_left) }
+    {
+        // Here the prover learns that the heap is sound.
+        let _ = self.heap.space();
+        let Some((object, header, text)) = text_object(&self.heap, s) else {
+            return Ok(Reply::NoObject);
+        };
+        let at = at as usize;
+        if at > text.len() || bytes.len() > text.len() - at {
+            return Ok(Reply::NoField);
+        }
+        if bytes.is_empty() {
+            return Ok(Reply::Done);
+        }
+        changed_texts_are_read_again();
+        let words = text.changed_by(at, bytes);
+        reserve_in(&mut self.collection, m, words.count())?;
+        write_numbers(
+            &mut self.collection,
+            &mut self.heap,
+            &mut self.watch,
+            m,
+            s,
+            object,
+            header,
+            (at / 7) as u16,
+            &words,
+        );
+        Ok(Reply::Done)
+    }
+
     // Returns where the text lies that root `s` refers to, and how many bytes it has.
     fn placed_text(&self, s: u32) -> Option<PlacedText>
         requires { s < length self.now.core.heap.graph.roots }
@@ -153,6 +203,50 @@ impl NumberRow for Bytes<'_> {
         texts_are_read_again();
         spelled_word(self.bytes, usize::from(i))
     }
+}
+
+impl NumberRow for ChangedWords<'_> {
+    ghost names = { λ row. (0, 0) };
+
+    ghost is_row = { λ row sources. length row ≤ 65535 };
+
+    ghost numbers = { λ row sources. row };
+
+    #[inline(always)]
+    fn count(&self) -> u16 {
+        self.count() as u16
+    }
+
+    #[inline(always)]
+    fn number(&self, heap: &Heap, i: u16) -> u64 {
+        self.word(usize::from(i))
+    }
+}
+
+// A text that is found: the address of its object, its header, and its bytes.
+type FoundText<'a> = (OldAddr, Header, Text<'a>);
+
+// Returns the text that root `s` refers to, with its object.
+#[inline(always)]
+fn text_object(heap: &Heap, s: u32) -> Option<FoundText<'_>>
+    requires { s < length heap.now.roots }
+    ensures text { option_map (λ found. found.2) result ≡ text_in (graph_in heap.now) s }
+    ensures target { IfSome result (λ found. root (graph_in heap.now) s ≡ Ref found.0.0) }
+    ensures header { IfSome result (λ found. header_at heap.now.space.words found.0.0 ≡ Some found.1) }
+    ensures raw { IfSome result (λ found. IsTrue found.1.raw) }
+    ensures long { IfSome result (λ found. fields_in (length found.2) ≡ found.1.len) }
+    ensures apart { IfSome result (λ found. 0 ≢ found.0.0) }
+{
+    heaps_have_addresses_as_names();
+    changed_texts_are_read_again();
+    // Here the prover learns that the heap is sound.
+    let _ = heap.space();
+    let (object, header, words) = object(heap, s)?;
+    if header.is_raw() {
+        let text = Text::of(words)?;
+        return Some((object, header, text));
+    }
+    None
 }
 
 // Where a text lies, and how many bytes it has.

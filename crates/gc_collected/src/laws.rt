@@ -1,17 +1,22 @@
 //! Laws: consequences of the definitions. They need no history.
 
-ghost use Rattle.std.specs.Prelude.{◌≡◌, ℕ, List, ◌≤◌, ◌<◌, ◌-◌, ◌/◌, ◌^◌};
+ghost use Rattle.std.specs.Prelude.{◌≡◌, ℕ, List, ◌≤◌, ◌<◌, ◌-◌, ◌/◌, ◌^◌, Some, length};
+ghost use Rattle.gc_bytes.specs.Text.{AreBytes, overwritten};
 ghost use Rattle.gc_graph.specs.Legal.{IsLegal, IsLegalFrom};
 ghost use Rattle.gc_graph.specs.Limits.{largest_space};
 ghost use Rattle.gc_heap.specs.ExtraRoots.{opening_with};
 ghost use Rattle.gc_heap.specs.declared.options.HeapOptions.{HeapOptions};
-ghost use Rattle.gc_model.specs.State.{opening_state};
+ghost use Rattle.gc_graph.specs.declared.reply.Reply.{Reply};
+ghost use Rattle.gc_model.specs.State.{State, opening_state};
+ghost use Rattle.gc_collected.specs.Bytes.{OnlyText, text_in, write_step};
 ghost use Rattle.gc_copy.specs.Opening.{opening_state_with};
 ghost use Rattle.gc_model.specs.Runs.{AreEvents, AreRootEvents};
 ghost use Rattle.gc_model.specs.declared.event.Event.{Event};
 ghost use Rattle.gc_collected.specs.Replies.{told_in};
 ghost use Rattle.gc_collected.specs.Collected.{after_flips, opening_turns};
 ghost use Rattle.gc_collected.specs.declared.checks.Checking.{Checking};
+
+use gc_bytes::changed_texts_are_read_again;
 
 /// In every run, with commands and steps in any interleaving, mutators get replies that are possible without a
 /// collector. The one exception is that an allocation may find the heap full.
@@ -33,3 +38,11 @@ pub fn flips_are_counted()
     ensures each { (e n : ℕ) → 1 ≤ e → e < 2 ^ 32 → n < 2 ^ 64
         → (after_flips n (opening_turns (Checking.Along e))).checks ≡ record { along = n - n / e; whole = n / e } }
 {}
+
+/// Where bytes were written over those of a root's text, the root refers to the text with these bytes, and nothing else has changed.
+pub fn written_texts_are_read_again()
+    ensures { (old new : State) (m p at : ℕ) (bytes text : List ℕ) → AreBytes bytes → p < length old.heap.graph.roots → text_in old.heap.graph p ≡ Some text
+        → write_step old m p at bytes ≡ (Reply.Done, new) → OnlyText old.heap new.heap p (overwritten text at bytes) }
+{
+    changed_texts_are_read_again();
+}

@@ -169,10 +169,10 @@ fn new_raw_in(
     reply
 }
 
-// Writes the numbers to the fields, from field `first` on, of the raw object in root `s`, which has this address and this header. If a collection is open,
-// logs the fields, and tells the monitor of all of them at once. Then the log needs room for each of them.
+/// Writes the numbers to the fields, from field `first` on, of the raw object in root `s`, which has this address and this header. If a collection is open,
+/// logs the fields, and tells the monitor of all of them at once. Then the log needs room for each of them.
 #[inline(always)]
-fn write_numbers<R: NumberRow>(
+pub(crate) fn write_numbers<R: NumberRow>(
     collection: &mut Option<Collection>,
     heap: &mut Heap,
     watch: &mut Monitor,
