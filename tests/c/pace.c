@@ -434,6 +434,90 @@ static void long_objects(void (*perform)(uint32_t wanted), bool is_first)
     EXPECT(gcflip_heap_close(&heap) == GCFLIP_DONE);
 }
 
+/* ---- Calls with a bound that find the room that they want */
+
+enum { LONG = 500, STORES = 8, ROOTS = 200, TURNS = 60000 };
+
+/* What a program does between two calls, and the bound of a call beside the law's: `most` is the work over the room when a collection begins, at most. */
+struct load {
+    uint32_t size, words, entries, roots, most;
+};
+
+/* The least bound that the law bounded_calls_find_room names for this load. */
+static uint32_t bound_of(struct load load)
+{
+    const uint32_t stores = load.roots > 0 ? STORES : 0;
+    return (4 * load.most + 2) * load.words + load.entries + stores + (stores + 31) / 32 + load.roots + 1;
+}
+
+/* Returns whether the law speaks of a cycle that begins with what the last flip left. */
+static bool is_light(struct load load)
+{
+    const uint32_t units = load.roots > 0 ? (load.roots + 31) / 32 + (STORES + 31) / 32 : 0;
+    return (load.most + 1) * (pace.left + 2 * load.words) + 2 * units + load.size <= load.most * load.size;
+}
+
+/* Opens a heap of which half of the live words are long objects, and half are objects of as many words as the program allocates between two calls.
+ * Returns how many of the latter there are. */
+static uint16_t open_loaded(struct load load)
+{
+    const uint32_t live = (load.most - 1) * load.size / (load.most + 1) / 2;
+    const uint16_t longs = (uint16_t)(live / 2 / LONG), shorts = (uint16_t)(live / 2 / load.words);
+    gcflip_options options = gcflip_options_default(load.size, 1);
+    options.extra_roots = load.roots;
+    EXPECT(gcflip_heap_open(&heap, &options) == GCFLIP_DONE);
+    EXPECT(gcflip_heap_new_object(&heap, 0, 0, KIND, shorts) == GCFLIP_MADE);
+    EXPECT(gcflip_heap_new_object(&heap, 0, 1, KIND, longs) == GCFLIP_MADE);
+    for (uint16_t i = 0; i < longs; i++) {
+        EXPECT(gcflip_heap_new_object(&heap, 0, 2, KIND, LONG - 2) == GCFLIP_MADE);
+        EXPECT(gcflip_heap_put(&heap, 0, 1, i, 2) == GCFLIP_DONE);
+    }
+    for (uint32_t k = 0; k < load.roots; k++)
+        EXPECT(gcflip_heap_root_store(&heap, 0, k, 1) == GCFLIP_DONE);
+    EXPECT(gcflip_heap_set_nil(&heap, 0, 2) == GCFLIP_DONE);
+    return shorts;
+}
+
+/* Plays the program until a call finds no more room than it wants and does not end the collection, and returns the number of turns. A call that finds no
+ * room in a cycle of which the law does not speak ends the run as well. Each call leaves at most as many looks as there are extra roots. */
+static uint32_t turns_with_room(struct load load, gcflip_pace of)
+{
+    const uint16_t shorts = open_loaded(load);
+    uint32_t turn, free;
+    pace = of;
+    EXPECT(gcflip_heap_pace(&heap, &pace) == GCFLIP_DONE);
+    flips = 0;
+    for (turn = 0; turn < TURNS; turn++) {
+        EXPECT(is_light(load));
+        EXPECT(gcflip_heap_new_object(&heap, 0, 2, KIND, (uint16_t)(load.words - 2)) == GCFLIP_MADE);
+        EXPECT(gcflip_heap_put(&heap, 0, 0, (uint16_t)(turn % shorts), 2) == GCFLIP_DONE);
+        for (uint32_t i = 1; i < load.entries; i++)
+            EXPECT(gcflip_heap_put(&heap, 0, 0, (uint16_t)((turn + i) % shorts), 2) == GCFLIP_DONE);
+        for (uint32_t i = 0; load.roots > 0 && i < STORES; i++)
+            EXPECT(gcflip_heap_root_store(&heap, 0, (turn + i) % load.roots, i % 2 ? 1 : 2) == GCFLIP_DONE);
+        free = gcflip_room(&heap);
+        EXPECT(gcflip_heap_work_paced(&heap, &pace, load.words, &work) == GCFLIP_DONE && work.last != GCFLIP_NO_ROOM);
+        flips += work.last == GCFLIP_FLIPPED;
+        if (free <= load.words && work.last != GCFLIP_FLIPPED)
+            break;
+        read_counts();
+        EXPECT(counts.roots_left <= load.roots);
+    }
+    EXPECT(gcflip_heap_close(&heap) == GCFLIP_DONE);
+    return turn;
+}
+
+/* With the bound that the law names each call finds more room than it wants, or it ends the collection. With a bound of fewer units than the program
+ * allocates words, a call soon finds less. */
+static void calls_find_room(struct load load)
+{
+    gcflip_pace of = gcflip_pace_default();
+    of.words = bound_of(load);
+    EXPECT(turns_with_room(load, of) == TURNS && flips >= 10);
+    of.words = load.words / 2;
+    EXPECT(turns_with_room(load, of) < TURNS);
+}
+
 int main(void)
 {
     beginnings();
@@ -457,5 +541,13 @@ int main(void)
     long_objects(paced, true);
     EXPECT(flips >= 2);
     long_objects(paced_by_hand, false);
+    calls_find_room((struct load){40000, 20, 10, 0, 2});
+    calls_find_room((struct load){40000, 20, 10, 0, 3});
+    calls_find_room((struct load){40000, 20, 10, ROOTS, 2});
+    /* loads of which the law says that the default bound is enough */
+    EXPECT(bound_of((struct load){40000, 60, 400, 0, 2}) <= gcflip_pace_default().words);
+    EXPECT(turns_with_room((struct load){40000, 60, 400, 0, 2}, gcflip_pace_default()) == TURNS && flips >= 10);
+    EXPECT(bound_of((struct load){40000, 40, 300, ROOTS, 2}) <= gcflip_pace_default().words);
+    EXPECT(turns_with_room((struct load){40000, 40, 300, ROOTS, 2}, gcflip_pace_default()) == TURNS && flips >= 10);
     return 0;
 }
