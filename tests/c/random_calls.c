@@ -389,6 +389,15 @@ static uint32_t place_new_bytes(size_t read)
     return gcflip_new_bytes(&heap, (uint32_t)a[0], (uint32_t)a[1], (uint32_t)a[2], bytes, read - 3);
 }
 
+/* Writes the numbers from the fourth on over the bytes of a text. */
+static uint32_t place_write(size_t read)
+{
+    static uint8_t bytes[MOST];
+    for (size_t k = 3; k < read; k++)
+        bytes[k - 3] = (uint8_t)a[k];
+    return gcflip_bytes_write(&heap, (uint32_t)a[0], (uint32_t)a[1], (uint32_t)a[2], bytes, read - 3);
+}
+
 static void place_text(uint32_t s)
 {
     static uint8_t bytes[GCFLIP_MOST_BYTES];
@@ -478,6 +487,7 @@ static uint32_t by_places(const char *name, size_t read)
     if (IS("place_refer")) return gcflip_refer(&heap, d, s);
     if (IS("place_new_bytes")) return place_new_bytes(read);
     if (IS("place_join")) return gcflip_bytes_join(&heap, d, s, i, (uint32_t)a[3], (uint32_t)a[4]);
+    if (IS("place_write")) return place_write(read);
     if (IS("place_part")) return gcflip_bytes_part(&heap, d, s, i, (uint32_t)a[3], (uint32_t)a[4], (uint32_t)a[5]);
 #endif
     EXPECT(IS("place_same"));

@@ -123,6 +123,7 @@ static uint32_t new_with_at(void)
 static uint32_t new_bytes(void) { return gcflip_new_bytes(&heap, 0, 17, 1, (const uint8_t *)"a text of more than seven bytes", 30); }
 static uint32_t join(void) { return gcflip_bytes_join(&heap, 0, 17, 1, 19, 19); }
 static uint32_t part(void) { return gcflip_bytes_part(&heap, 0, 17, 1, 19, 1, 8); }
+static uint32_t write_bytes(void) { return gcflip_bytes_write(&heap, 0, 19, 3, (const uint8_t *)"bytes over others", 17); }
 static uint32_t fill(void) { return gcflip_fill(&heap, 0, 18, 0, 40, 17); }
 static uint32_t copy_fields_at(void) { return gcflip_copy_fields(&heap, 0, 18, 0, 18, 20, 20); }
 static uint32_t pair_at(void) { return gcflip_new_pair(&heap, 0, 17, 1, 16, 16); }
@@ -483,6 +484,8 @@ static void allocations(int tables, int flipping)
     EXPECT(failures(set_up_text_open, join) == 1);
     EXPECT(failures(set_up_text, part) == 0);
     EXPECT(failures(set_up_text_open, part) == 1);
+    EXPECT(failures(set_up_text, write_bytes) == 0);
+    EXPECT(failures(set_up_text_open, write_bytes) == 1);
     EXPECT(failures(set_up_fill, fill) == 0);
     EXPECT(failures(set_up_fill_open, fill) == 1);
     EXPECT(failures(set_up_raw, copy_fields_at) == 0);

@@ -246,7 +246,8 @@ def recording_that_ends(program, folder):
     said += b"gcflip_record.h: the recording ends here: a trace has no reference by the address 1\n"
     said += b"".join(b"gcflip_record.h: the recording ends here: a trace has no %s by places\n" % name for name in (b"new", b"set_number", b"copy", b"get", b"put", b"same", b"look", b"set_nil", b"peek", b"put_number",
                                                                                                                             b"put_nil", b"new_raw", b"new_pair", b"new_from", b"gather", b"spread", b"new_with", b"put_sure", b"fill",
-                                                                                                                            b"copy_fields", b"new_bytes", b"bytes_join", b"bytes_part"))
+                                                                                                                            b"copy_fields", b"new_bytes", b"bytes_join", b"bytes_part",
+                                                                                                                            b"bytes_write"))
     said += b"gcflip_record.h: the recording ends here: a trace has no extra root 3\n"
     yield "record_ends.c", why or difference(done([path, record]), Outcome(stderr=said))
     yield "a recording that ended is played", difference(run(program, ["play", record]), Outcome(b"made\nbegun\ndropped\n"))

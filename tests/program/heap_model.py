@@ -340,6 +340,17 @@ class Model:
             return "no object" if text is None else "no field"
         return self.new_text(m, d, kind, text[at:at + count])
 
+    def place_write(self, m, s, at, *written):
+        text = self.text(s)
+        if text is None or at + len(written) > len(text):
+            return "no object" if text is None else "no field"
+        bytes_after = text[:at] + bytes(written) + text[at + len(written):]
+        for i in sorted({k // 7 for k in range(at, at + len(written))}):
+            part = bytes_after[7 * i:7 * i + 7]
+            word = int.from_bytes(part, "little") + (len(part) << 56 if 7 * i + 7 >= len(text) else 0)
+            assert self.write(m, Place(s), i, 2 * word + 1) == "done"
+        return "done"
+
     def place_text(self, s):
         text = self.text(s)
         return "no object" if text is None else " ".join(["text", *map(str, text)])

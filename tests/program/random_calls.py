@@ -21,7 +21,7 @@ FRAMES = {"frame_push": 6, "frame_pop": 3, "frame_trim": 4}
 PLACES = {"place_new": 4, "place_raw": 2, "place_pair": 3, "place_new_from": 3, "place_new_with": 4, "place_gather": 3, "place_spread": 4, "place_num": 3, "place_nil": 2, "place_copy": 5, "place_get": 6, "place_peek": 4, "place_put": 9, "place_put_number": 5, "place_put_nil": 3,
           "place_put_sure": 3, "place_fill": 4, "place_copy_fields": 4,
           "place_same": 3, "place_look": 4, "room": 2}
-TEXTS = {"place_new_bytes": 4, "place_join": 4, "place_part": 4, "place_text": 4, "place_order": 3}
+TEXTS = {"place_new_bytes": 4, "place_join": 4, "place_part": 4, "place_write": 8, "place_text": 4, "place_order": 3}
 MOVES = {"moved": 4, "refer": 4, "place_refer": 4, "place_address": 2, "object_at": 3, "field_at": 4}
 # Not a call: a heap to which looks at extra roots are free, as they are to the one in plain C. A step takes as many as it needs, and none is told.
 FREE_LOOKS = {"free_looks": 0}
@@ -592,6 +592,14 @@ class Calls:
         count = self.chance.choice([0, left, left + 1, self.chance.randrange(left + 1), (1 << 32) - 1])
         self.add_by_places("place_part", [d, s], self.mutator(), d, self.chance.randrange(256), s, at, count)
 
+    def add_place_write(self):
+        s = self.text_place()
+        length = len((self.model.text(s) if s < len(self.model.roots) else None) or b"")
+        at = self.chance.choice([0, length, self.chance.randrange(length + 1), self.chance.randrange(length + 1), (1 << 32) - 1])
+        left = max(0, length - at)
+        count = self.chance.choice([0, left, left + 1, self.chance.randrange(left + 1), self.chance.randrange(left + 1)])
+        self.add_by_places("place_write", [s], self.mutator(), s, at, *(self.chance.choice([0, 1, 127, 128, 255]) for _ in range(count)))
+
     def add_place_text(self):
         s = self.text_place()
         self.add_by_places("place_text", [s], s)
@@ -736,7 +744,8 @@ class Calls:
             wide = self.chance.choice([256, 1 << 31, (1 << 32) - 1])
             sized += [["place_new_bytes", beyond, 0, 0], ["place_new_bytes", 0, 0, wide, 5],
                       ["place_join", beyond, 0, 0, 0, 0], ["place_join", 0, 0, wide, 0, 0],
-                      ["place_part", beyond, 0, 0, 0, 0, 0], ["place_part", 0, 0, wide, 0, 0, 0]]
+                      ["place_part", beyond, 0, 0, 0, 0, 0], ["place_part", 0, 0, wide, 0, 0, 0],
+                      ["place_write", beyond, 0, 0], ["place_write", wide, 0, 0, 5]]
         if "root_load" not in self.weights or self.model.extra_roots == 0:
             return sized
         return sized + [["root_load", beyond, 0, 0], ["root_load", 0, slot, 0], ["root_store", beyond, 0, 0], ["root_store", 0, 0, slot]]

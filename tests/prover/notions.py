@@ -43,7 +43,7 @@ NAMES = {"gcflip_c": "the checker for C", "gcflip_heap_c": "the heap for C", "gc
 # Calls for one purpose, with their product.
 PURPOSES = [("pairs inferred from two images, and paths", "gcflip_c", ["gcflip_infer", "gcflip_path"]),
             ("fields copied or filled at once", "gcflip_heap_c", ["gcflip_heap_copy_fields", "gcflip_copy_fields", "gcflip_fill"]),
-            ("texts of bytes", "gcflip_heap_c", ["gcflip_new_bytes", "gcflip_bytes_join", "gcflip_bytes_part", "gcflip_bytes_length", "gcflip_bytes_read",
+            ("texts of bytes", "gcflip_heap_c", ["gcflip_new_bytes", "gcflip_bytes_join", "gcflip_bytes_part", "gcflip_bytes_length", "gcflip_bytes_read", "gcflip_bytes_write",
                                                  "gcflip_bytes_same", "gcflip_bytes_compare"]),
             ("objects made and filled at once", "gcflip_heap_c", ["gcflip_heap_new_pair", "gcflip_heap_new_from", "gcflip_heap_put_number", "gcflip_heap_put_nil"]),
             ("objects filled with numbers and slots mixed", "gcflip_heap_c", ["gcflip_heap_new_with", "gcflip_new_with"]),

@@ -159,15 +159,23 @@ class CommandsByPlaces(unittest.TestCase):
         self.assertEqual(parts, [text[59:] + text[:2], text[54:], b"", b""])
         self.assertEqual([heap.bytes_same(*pair) for pair in ((one, other), (one, one))], [False, True])
         self.assertEqual([heap.bytes_compare(*pair) for pair in ((one, other), (other, one), (last, last))], [-1, 1, 0])
-        for call in (lambda: heap.bytes_read(one, 1, 60), lambda: heap.bytes_read(one, 61), lambda: heap.bytes_part(0, other, 8, one, 1, 60)):
+        heap.bytes_write(1, last, 3, bytearray([9] * 9))
+        heap.bytes_write(0, last, 66, b"")
+        self.assertEqual(heap.bytes_read(last), text[54:57] + bytes([9] * 9) + text[6:])
+        heap.bytes_write(0, last, 3, text[57:] + text[:6])
+        self.assertEqual(heap.bytes_read(last), text[54:] + text)
+        for call in (lambda: heap.bytes_read(one, 1, 60), lambda: heap.bytes_read(one, 61), lambda: heap.bytes_part(0, other, 8, one, 1, 60),
+                     lambda: heap.bytes_write(0, other, 0, bytes(7)), lambda: heap.bytes_write(0, other, 7, b""), lambda: heap.bytes_write(0, other, 2 ** 32 - 1, b"x")):
             self.assertRaises(gcflip.NoField, call)
         for call in (lambda: heap.bytes_length(nil), lambda: heap.bytes_read(nil), lambda: heap.bytes_part(0, other, 8, nil, 0, 0),
                      lambda: heap.bytes_join(0, other, 8, nil, one), lambda: heap.bytes_join(0, other, 8, one, nil),
-                     lambda: heap.bytes_same(nil, one), lambda: heap.bytes_compare(one, nil)):
+                     lambda: heap.bytes_same(nil, one), lambda: heap.bytes_compare(one, nil), lambda: heap.bytes_write(0, nil, 0, b"")):
             self.assertRaises(gcflip.NoObject, call)
         for call in (lambda: heap.new_bytes(0, 51, 7, b""), lambda: heap.new_bytes(2, one, 7, b""), lambda: heap.new_bytes(0, one, 256, b""),
                      lambda: heap.bytes_read(one, -1), lambda: heap.new_bytes(0, one, 7, bytes(458746)), lambda: heap.bytes_length(51),
-                     lambda: heap.bytes_join(0, one, 7, 51, one), lambda: heap.bytes_compare(one, 51), lambda: heap.bytes_part(0, one, 7, one, 0, 2 ** 32)):
+                     lambda: heap.bytes_join(0, one, 7, 51, one), lambda: heap.bytes_compare(one, 51), lambda: heap.bytes_part(0, one, 7, one, 0, 2 ** 32),
+                     lambda: heap.bytes_write(2, one, 0, b"x"), lambda: heap.bytes_write(0, 51, 0, b"x"), lambda: heap.bytes_write(0, one, -1, b"x"),
+                     lambda: heap.bytes_write(0, one, 2 ** 32, b"x"), lambda: heap.bytes_write(0, one, 0, bytes(458746))):
             self.assertRaises(gcflip.OutOfRange, call)
         self.assertRaises(gcflip.Full, heap.new_bytes, 0, one, 7, bytes(458745))
         self.assertEqual((heap.bytes_read(one), heap.bytes_read(other)), (text, text[54:]))
@@ -175,12 +183,14 @@ class CommandsByPlaces(unittest.TestCase):
         heap.new_bytes(1, 1, 7, b"eight..8")
         heap.bytes_part(0, 2, 7, one, 0, 7)
         self.assertEqual((heap.log_length(0), heap.log_length(1)), (1, 2))
+        heap.bytes_write(1, one, 6, b"in three fields")
+        self.assertEqual((heap.log_length(0), heap.log_length(1), heap.bytes_read(one, 6, 15)), (1, 5, b"in three fields"))
         heap.close()
-        for call in (lambda: heap.new_bytes(0, 0, 7, b""), lambda: heap.bytes_length(0), lambda: heap.bytes_read(0), lambda: heap.bytes_same(0, 0)):
+        for call in (lambda: heap.new_bytes(0, 0, 7, b""), lambda: heap.bytes_write(0, 0, 0, b""), lambda: heap.bytes_length(0), lambda: heap.bytes_read(0), lambda: heap.bytes_same(0, 0)):
             self.assertRaises(gcflip.Closed, call)
 
     def test_texts_are_those_of_python(self):
-        """Random texts, joined, parted and compared, also while collections are open, against Python's bytes."""
+        """Random texts, joined, parted, written and compared, also while collections are open, against Python's bytes."""
         chance = random.Random(7)
         heap = Heap(600, mutators=1)
         self.addCleanup(heap.close)
@@ -189,7 +199,7 @@ class CommandsByPlaces(unittest.TestCase):
             heap.new_bytes(0, root, 7, b"")
         for turn in range(3000):
             root, one, other = chance.randrange(6), chance.randrange(6), chance.randrange(6)
-            choice = chance.randrange(5)
+            choice = chance.randrange(6)
             if choice == 0:
                 texts[root] = bytes(chance.choice((0, 1, 127, 128, 255)) for _ in range(chance.randrange(40)))
                 made = lambda: heap.new_bytes(0, root, 7, texts[root])
@@ -201,6 +211,11 @@ class CommandsByPlaces(unittest.TestCase):
                 count = chance.randrange(len(texts[one]) - at + 1)
                 texts[root] = texts[one][at:at + count]
                 made = lambda: heap.bytes_part(0, root, 7, one, at, count)
+            elif choice == 3:
+                at = chance.randrange(len(texts[root]) + 1)
+                data = bytes(chance.choice((0, 1, 127, 128, 255)) for _ in range(chance.randrange(len(texts[root]) - at + 1)))
+                texts[root] = texts[root][:at] + data + texts[root][at + len(data):]
+                made = lambda: heap.bytes_write(0, root, at, data)
             else:
                 self.assertEqual(heap.bytes_same(one, other), texts[one] == texts[other])
                 self.assertEqual(heap.bytes_compare(one, other), (texts[one] > texts[other]) - (texts[one] < texts[other]))

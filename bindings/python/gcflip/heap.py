@@ -617,6 +617,13 @@ class Heap(quick.Quickened):
 
         return self._turn.take(read)
 
+    def bytes_write(self, mutator: int, root: int, at: int, data: bytes) -> None:
+        """Writes these bytes over those of the text that the root refers to, from byte `at` on. The text keeps its length, and no root changes. All are written
+        or none. While a collection is open, the mutator's log takes the fields that change. Raises NoObject if the root refers to no text, NoField if the text
+        has fewer bytes, OutOfRange also for more than 458,745 bytes, and OutOfMemory while a collection is open."""
+        data = bytes(data)
+        self._call_roots("bytes_write", mutator, root, at, data, len(data))
+
     def bytes_same(self, first: int, second: int) -> bool:
         """Returns whether both roots refer to texts with the same bytes. Raises NoObject if one of both refers to no text."""
         return self._call_roots("bytes_same", first, second) == Answer.SAME

@@ -230,6 +230,7 @@ ROOTS: Dict[str, List[Any]] = {
     "bytes_part": [c_uint32, PLACE, c_uint32, PLACE, c_uint32, c_uint32],
     "bytes_length": [PLACE, POINTER(c_uint32)],
     "bytes_read": [PLACE, c_uint32, c_void_p, c_size_t],
+    "bytes_write": [c_uint32, PLACE, c_uint32, c_char_p, c_size_t],
     "bytes_same": [PLACE, PLACE],
     "bytes_compare": [PLACE, PLACE, POINTER(c_int32)],
     "address": [PLACE, POINTER(c_uint32)],

@@ -5,7 +5,7 @@ ghost use Rattle.std.specs.Option.{option_map};
 ghost use Rattle.gc_bytes.specs.Text.{most_bytes, spelled};
 ghost use Rattle.gc_check.specs.InC.{no_memory, IsRefusal};
 ghost use Rattle.gc_graph.specs.Limits.{kinds};
-ghost use Rattle.gc_collected.specs.Bytes.{bytes_in, join_step, part_step, text_in};
+ghost use Rattle.gc_collected.specs.Bytes.{bytes_in, join_step, part_step, text_in, write_step};
 ghost use Rattle.gc_collected.specs.Numbers.{new_numbers_step};
 ghost use Rattle.gcflip_heap_c.specs.Commands.{IsCall, IsCommandCall};
 ghost use Rattle.gcflip_heap_c.specs.Places.{HasRoots};
@@ -175,6 +175,33 @@ pub extern "C" fn gcflip_bytes_read(heap: &mut GcflipHeap, s: u32, at: u32, byte
         return OUT_OF_RANGE;
     }
     read_bytes(heap, s, at, bytes)
+}
+
+/// Writes these bytes over those of the text that root `s` refers to, from byte `at` on. This is, in rising order, a `gcflip_put_number` for each word of the
+/// text that changes, in one call. The text keeps its length, and no root changes. While a collection is open, the fields are logged in mutator `m`'s log.
+/// Allocates only then.
+#[unsafe(no_mangle)]
+pub extern "C" fn gcflip_bytes_write(
+    heap: &mut GcflipHeap,
+    m: u32,
+    s: u32,
+    at: u32,
+    bytes: &[u8],
+) -> u32
+    ensures call { IsCommandCall (λ state. (m < state.mutators) × HasRoots (s ∷ []) state × (length bytes.now ≤ most_bytes))
+        (λ state. write_step state m s at bytes.now) heap.old.state heap.new.state result }
+    ensures memory { result ≡ no_memory → IsSomeAnd heap.old.state (λ s. IsSome s.collection) }
+    ensures beside { heap.new.beside ≡ heap.old.beside }
+    ensures looks { heap.new.roots_left ≡ heap.old.roots_left }
+{
+    let heap = lent!(heap);
+    if m >= u32::from(heap.mutators()) || s as usize >= heap.root_places() {
+        return OUT_OF_RANGE;
+    }
+    if bytes.len() > MOST_BYTES {
+        return OUT_OF_RANGE;
+    }
+    of_result(heap.write_bytes(m as u8, s, at, bytes))
 }
 
 // Returns whether the texts that both roots refer to have the same bytes.

@@ -27,7 +27,7 @@ mod work;
 
 pub use bytes::{
     gcflip_bytes_compare, gcflip_bytes_join, gcflip_bytes_length, gcflip_bytes_part,
-    gcflip_bytes_read, gcflip_bytes_same, gcflip_new_bytes,
+    gcflip_bytes_read, gcflip_bytes_same, gcflip_bytes_write, gcflip_new_bytes,
 };
 pub use checking::{GcflipFlipChecks, gcflip_heap_check, gcflip_heap_flip_checks};
 pub use commands::{

@@ -276,6 +276,17 @@ impl Heap {
         replied(self.handle.bytes_read(root.0, at, bytes)).map(drop)
     }
 
+    /// Writes these bytes over those of the text that the root refers to, from byte `at` on. The text keeps its length, and no root changes. All are written
+    /// or none. While a collection is open, the mutator's log takes the fields that change.
+    ///
+    /// # Errors
+    ///
+    /// Returns `NoObject` if it refers to no text, `NoField` if the text has fewer bytes, or `OutOfRange` if there is no such root or mutator, or if there are
+    /// more than 458,745 bytes; or, while a collection is open, `NoMemory`.
+    pub fn bytes_write(&self, mutator: u8, root: Place, at: u32, bytes: &[u8]) -> Result<()> {
+        replied(self.handle.bytes_write(mutator.into(), root.0, at, bytes)).map(drop)
+    }
+
     /// Returns whether both roots refer to texts with the same bytes.
     ///
     /// # Errors
