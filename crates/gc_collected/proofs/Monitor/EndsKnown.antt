@@ -63,10 +63,10 @@ pub flipped_known : (s : State) (c : Collection) (t : Tables) → IsOpened s c �
 flipped_known s c t opened knows low =
     knows_fresh (flipped s c) 1 (flipped_tables t) refl refl refl
     (λ a named. (let r = in_map_from placed (a, named.0) c.replicas named.1 in
-        inl (settled_start t.news a (ap (λ n. get_or t.news n 0) (sym (ap (λ (e : ℕ × Object). e.0) r.2)) ∙ knows.marks.news r.0 r.1))))
+    inl (settled_start t.news a (ap (λ n. get_or t.news n 0) (sym (ap (λ (e : ℕ × Object). e.0) r.2)) ∙ knows.marks.news r.0 r.1))))
     (λ a mark. ⊎_elim
     (λ e. (let r = knows.marks.places a (settled_back t.news a 1 (λ z. omega arith) e) in
-        (r.0.object, subst (λ n. In {X = ℕ × Object} (n, r.0.object) (map placed c.replicas)) r.2 (in_map placed r.0 c.replicas r.1))))
+    (r.0.object, subst (λ n. In {X = ℕ × Object} (n, r.0.object) (map placed c.replicas)) r.2 (in_map placed r.0 c.replicas r.1))))
     (λ e. absurd (knows.marks.free a (settled_back t.news a 2 (λ z. omega arith) e)))
     mark)
     (λ a e. knows.marks.free a (settled_back t.news a 2 (λ z. omega arith) e)) knows.new_room low
